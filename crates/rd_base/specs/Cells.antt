@@ -1,0 +1,58 @@
+-- Glyphs and cells, and the words that tell cells apart.
+use Rattle.std.specs.Prelude.{◌≡◌, ℕ, ◌+◌, ◌*◌, ◌%◌, ◌^◌, ◌<◌, ◌≤◌, Bool, if◌then◌else◌, List, [], ◌∷◌, length, All, replicate, slice_index}
+use Rattle.rd_base.specs.Faces.{Attributes}
+use Rattle.rd_base.specs.declared.cell.Glyph.{Glyph}
+use Rattle.rd_base.specs.declared.cell.Cell.{Cell}
+use Rattle.rd_base.specs.declared.cell.Cell.TheVariants.{Blank, First, Rest}
+
+-- a character without marks
+abbrev pub single : ℕ → ℕ → Glyph
+single base width = record { base = base; marks = replicate 6 0; count = 0; width = width }
+
+abbrev pub bit_of : Bool → ℕ
+bit_of b = if b then 1 else 0
+
+-- a face as a number below 2^11
+abbrev pub face_number : Attributes → ℕ
+face_number f = f.fg % 16 + 16 * (f.bg % 16 + 16 * (bit_of f.bold + 2 * (bit_of f.underline + 2 * bit_of f.inverse)))
+
+-- three codes as one number, 21 bits each
+abbrev pub packed : ℕ → ℕ → ℕ → ℕ
+packed a b c = a % 2097152 + 2097152 * (b % 2097152 + 2097152 * (c % 2097152))
+
+-- a glyph's numbers but its marks behind the first
+abbrev pub glyph_number : Glyph → ℕ
+glyph_number g = g.count % 8 + 8 * (g.width % 4 + 4 * packed g.base (slice_index g.marks 0) 0)
+
+-- the words of a cell
+abbrev pub words_of : Cell → List ℕ
+words_of Rest = 0 ∷ 0 ∷ 0 ∷ []
+words_of (Blank f) = (1 + 4 * face_number f) ∷ 0 ∷ 0 ∷ []
+words_of (First g f) =
+    (2 + 4 * (face_number f + 2048 * glyph_number g))
+    ∷ packed (slice_index g.marks 1) (slice_index g.marks 2) (slice_index g.marks 3)
+    ∷ packed (slice_index g.marks 4) (slice_index g.marks 5) 0
+    ∷ []
+
+-- a face's colours are in their range
+pub record HasColours (f : Attributes) : Type 0 where
+  pub fg : f.fg ≤ 8
+  pub bg : f.bg ≤ 8
+
+-- a glyph whose codes are below 2^21, with at most 6 marks and 3 columns
+pub record IsSmallGlyph (g : Glyph) : Type 0 where
+  pub base : g.base < 2097152
+  pub marks : All (λ mark. mark < 2097152) g.marks
+  pub places : length g.marks ≡ 6
+  pub count : g.count ≤ 6
+  pub width : g.width ≤ 3
+
+-- a cell of such a glyph
+abbrev pub IsSmall : Cell → Type 0
+IsSmall Rest = Unit {0}
+IsSmall (Blank f) = HasColours f
+IsSmall (First g f) = IsSmallGlyph g × HasColours f
+
+-- no other small cell has these words
+abbrev pub AreOnlyOf : Cell → List ℕ → Type 0
+AreOnlyOf cell words = (other : Cell) → IsSmall cell → IsSmall other → words_of other ≡ words → other ≡ cell

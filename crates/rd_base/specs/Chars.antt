@@ -1,0 +1,13 @@
+-- The codes of characters: scalar values of Unicode, and raw bytes behind them.
+use Rattle.std.specs.Prelude.{ℕ, ◌+◌, Bool, nat_lt, nat_le, ◌&&◌, ◌||◌, not}
+
+-- a scalar value: a code point below 110000 (hexadecimal) that is no surrogate
+abbrev pub is_scalar : ℕ → Bool
+is_scalar n = nat_lt n 1114112 && (nat_lt n 55296 || nat_le 57344 n)
+
+-- a raw byte of 128 to 255, counted from the first code that is no code point
+abbrev pub is_raw : ℕ → Bool
+is_raw n = nat_le 1114240 n && nat_lt n 1114368
+
+abbrev pub is_code : ℕ → Bool
+is_code n = is_scalar n || is_raw n

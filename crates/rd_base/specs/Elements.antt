@@ -1,0 +1,31 @@
+-- Elements of a line.
+use Rattle.std.specs.Prelude.{◌≡◌, ℕ, ◌≤◌, List, [], ◌∷◌, Option, None, Some, Result, Ok, Err, All}
+use Rattle.rd_base.specs.declared.element.Element.{Element}
+use Rattle.rd_base.specs.declared.element.Extent.{Extent}
+use Rattle.rd_base.specs.declared.element.Extent.TheVariants.{Fixed, Tab, Column}
+use Rattle.rd_base.specs.declared.element.Look.{Look}
+use Rattle.rd_base.specs.declared.element.Look.TheVariants.{Blank, Glyph, RowEnd, LineEnd}
+use Rattle.rd_base.specs.declared.memory.Memory.{Memory}
+
+-- an element with this look and this extent is sound: a glyph has its 1 to 3 columns, ends have none, stretches are blank
+abbrev pub IsSoundLook : Look → Extent → Type 0
+IsSoundLook (Glyph g) (Fixed n) = (n ≡ g.width) × (1 ≤ n) × (n ≤ 3)
+IsSoundLook (Glyph g) _ = ⊥
+IsSoundLook RowEnd (Fixed n) = n ≡ 0
+IsSoundLook RowEnd _ = ⊥
+IsSoundLook LineEnd (Fixed n) = n ≡ 0
+IsSoundLook LineEnd _ = ⊥
+IsSoundLook Blank (Tab t) = (1 ≤ t) × (t ≤ 32)
+IsSoundLook Blank _ = Unit {0}
+
+abbrev pub IsSound : Element → Type 0
+IsSound e = IsSoundLook e.look e.extent
+
+abbrev pub AreSound : List Element → Type 0
+AreSound es = All IsSound es
+
+-- what a call that takes the next element does to the elements that are left
+abbrev pub Takes : Result (Option Element) Memory → List Element → List Element → Type 0
+Takes (Ok (Some e)) old new = old ≡ e ∷ new
+Takes (Ok None) old new = (old ≡ []) × (new ≡ [])
+Takes (Err _) old new = Unit {0}

@@ -1,0 +1,7 @@
+pub mod Cells
+pub mod Chars
+pub mod Classes
+pub mod Elements
+pub mod Faces
+pub mod Lines
+pub mod Settings

@@ -1,0 +1,92 @@
+//! Glyphs and the cells of a screen.
+ghost use Rattle.std.specs.Prelude.{◌≡◌, ◌<◌};
+ghost use Rattle.rd_base.specs.Cells.{single, bit_of, face_number, packed, glyph_number, words_of, AreOnlyOf};
+
+use crate::face::Face;
+
+/// A character with the marks that join it: `count` of the `marks` count, and the others are 0. It takes `width` columns.
+#[derive(Clone, Copy, Debug, PartialEq, Eq)]
+pub struct Glyph {
+    pub base: u32,
+    pub marks: [u32; 6],
+    pub count: u8,
+    pub width: u8,
+}
+
+impl Glyph {
+    /// A character without marks.
+    pub fn single(base: u32, width: u8) -> Glyph
+        ensures { result ≡ single base width }
+    {
+        Glyph {
+            base,
+            marks: [0; 6],
+            count: 0,
+            width,
+        }
+    }
+}
+
+/// One column of a row: blank, the first column of a glyph, or a later column of the glyph on its left. A space without
+/// marks is always `Blank`.
+#[derive(Clone, Copy, Debug, PartialEq, Eq)]
+pub enum Cell {
+    Blank(Face),
+    First(Glyph, Face),
+    Rest,
+}
+
+impl Cell {
+    /// Three words that differ for different cells whose codes are below 2^21, with at most 6 marks and 3 columns.
+    pub fn words(&self) -> [u64; 3]
+        ensures words { result ≡ words_of self.now }
+        ensures differ { AreOnlyOf self.now result }
+    {
+        match self {
+            Cell::Blank(face) => [1 + 4 * number_of_face(*face), 0, 0],
+            Cell::First(glyph, face) => [
+                2 + 4 * (number_of_face(*face) + 2048 * number_of_glyph(glyph)),
+                pack(glyph.marks[1], glyph.marks[2], glyph.marks[3]),
+                pack(glyph.marks[4], glyph.marks[5], 0),
+            ],
+            Cell::Rest => [0, 0, 0],
+        }
+    }
+}
+
+/// A flag as a number.
+fn bit(flag: bool) -> u64
+    ensures { result ≡ bit_of flag }
+{
+    if flag { 1 } else { 0 }
+}
+
+/// A face in 11 bits.
+fn number_of_face(face: Face) -> u64
+    ensures value { result ≡ face_number face }
+    ensures bound { result < 2048 }
+{
+    let flags = bit(face.bold) + 2 * (bit(face.underline) + 2 * bit(face.inverse));
+    face.fg as u64 % 16 + 16 * (face.bg as u64 % 16 + 16 * flags)
+}
+
+/// Three codes in 21 bits each.
+fn pack(a: u32, b: u32, c: u32) -> u64
+    ensures value { result ≡ packed a b c }
+    ensures bound { result < 9223372036854775808 }
+    ensures two { c ≡ 0 → result < 4398046511104 }
+{
+    a as u64 % CODES + CODES * (b as u64 % CODES + CODES * (c as u64 % CODES))
+}
+
+/// One more than the greatest code that is told apart.
+const CODES: u64 = 2_097_152;
+
+/// A glyph's count, width, base and first mark.
+fn number_of_glyph(glyph: &Glyph) -> u64
+    ensures value { result ≡ glyph_number glyph.now }
+    ensures bound { result < 140737488355328 }
+{
+    let codes = pack(glyph.base, glyph.marks[0], 0);
+    glyph.count as u64 % 8 + 8 * (glyph.width as u64 % 4 + 4 * codes)
+}

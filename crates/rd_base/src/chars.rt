@@ -1,0 +1,55 @@
+//! Characters of a text: Unicode scalar values and raw bytes.
+ghost use Rattle.std.specs.Prelude.{◌≡◌, ◌+◌, ◌<◌, ◌≤◌, IfNone, IfSome, ◌↔◌, IsNone};
+
+use std::marker::Model;
+
+/// A Unicode scalar value or a raw byte of 128 to 255. Contracts see it as its code.
+#[derive(Clone, Copy, Debug, PartialEq, Eq)]
+pub struct Ch {
+    code: u32,
+}
+
+impl Model for Ch {
+    ghost use Rattle.std.specs.Prelude.{ℕ, IsTrue};
+    ghost use Rattle.rd_base.specs.Chars.{is_code};
+
+    ghost Value = { ℕ };
+
+    ghost view = { λ c. c.code };
+
+    ghost invariant = { λ c. IsTrue (is_code c.code) };
+
+    ghost inverse = { λ n. record { code = n } };
+}
+
+/// What is added to a raw byte to make its code: one past the last scalar value.
+const RAW: u32 = 1_114_112;
+
+impl Ch {
+    /// The character of a scalar value.
+    pub fn scalar(c: char) -> Ch
+        ensures { result ≡ c }
+    {
+        Ch { code: c as u32 }
+    }
+
+    /// A raw byte, and None exactly below 128.
+    pub fn raw(b: u8) -> Option<Ch>
+        ensures none { IsNone result ↔ (b < 128) }
+        ensures some { IfSome result (λ c. c ≡ 1114112 + b) }
+    {
+        if b < 128 {
+            return None;
+        }
+        Some(Ch {
+            code: RAW + b as u32,
+        })
+    }
+
+    /// The scalar's number, or 1,114,112 plus the byte.
+    pub fn code(self) -> u32
+        ensures { result ≡ self }
+    {
+        self.code
+    }
+}

@@ -1,0 +1,61 @@
+//! The bidirectional classes of UAX 9, table 4.
+
+ghost use Rattle.std.specs.Prelude.{◌≡◌};
+ghost use Rattle.rd_base.specs.Classes.{is_initiator, is_removed, direction_of};
+
+/// A bidirectional class.
+#[derive(Clone, Copy, Debug, PartialEq, Eq)]
+pub enum Class {
+    L,
+    R,
+    AL,
+    EN,
+    ES,
+    ET,
+    AN,
+    CS,
+    NSM,
+    BN,
+    B,
+    S,
+    WS,
+    ON,
+    LRE,
+    LRO,
+    RLE,
+    RLO,
+    PDF,
+    LRI,
+    RLI,
+    FSI,
+    PDI,
+}
+
+impl Class {
+    /// Whether this is an isolate initiator (BD8): LRI, RLI or FSI.
+    pub fn is_initiator(self) -> bool
+        ensures { result ≡ is_initiator self }
+    {
+        match self {
+            Class::LRI | Class::RLI | Class::FSI => true,
+            _ => false,
+        }
+    }
+
+    /// Whether rule X9 takes it out of the line: an embedding, an override, PDF or BN.
+    pub fn is_removed(self) -> bool
+        ensures { result ≡ is_removed self }
+    {
+        match self {
+            Class::LRE | Class::RLE | Class::LRO | Class::RLO | Class::PDF | Class::BN => true,
+            _ => false,
+        }
+    }
+
+    /// The direction of an embedding level: L where it is even, R where it is odd.
+    pub fn of_level(level: u8) -> Class
+        ensures { result ≡ direction_of level }
+    {
+        if level % 2 == 0 { Class::L } else { Class::R }
+    }
+}

@@ -1,0 +1,54 @@
+//! Faces: what a cell looks like besides its character.
+ghost use Rattle.std.specs.Prelude.{◌≡◌};
+ghost use Rattle.rd_base.specs.Faces.{plain, over};
+
+use std::marker::Model;
+
+/// Colours and flags of a cell. A colour is 0 to 7, and 8 is none.
+#[derive(Clone, Copy, Debug, PartialEq, Eq)]
+pub struct Face {
+    /// The colour of the character.
+    pub fg: u8,
+    /// The colour behind it.
+    pub bg: u8,
+    pub bold: bool,
+    pub underline: bool,
+    pub inverse: bool,
+}
+
+impl Model for Face {
+    ghost use Rattle.std.specs.Prelude.{ℕ, ◌≤◌};
+    ghost use Rattle.rd_base.specs.Faces.{Attributes};
+
+    ghost Value = { Attributes };
+
+    ghost view = { λ f. record { fg = f.fg; bg = f.bg; bold = f.bold; underline = f.underline; inverse = f.inverse } };
+
+    ghost invariant = { λ f. (f.fg ≤ 8) × (f.bg ≤ 8) };
+
+    ghost inverse = { λ s. record { fg = s.fg; bg = s.bg; bold = s.bold; underline = s.underline; inverse = s.inverse } };
+}
+
+impl Face {
+    /// No colour and no flag.
+    pub const PLAIN: Face = Face {
+        fg: 8,
+        bg: 8,
+        bold: false,
+        underline: false,
+        inverse: false,
+    };
+
+    /// This face laid over another: each colour of this one unless it is none, and each flag that either has.
+    pub fn over(self, under: Face) -> Face
+        ensures { result ≡ over self under }
+    {
+        Face {
+            fg: if self.fg == 8 { under.fg } else { self.fg },
+            bg: if self.bg == 8 { under.bg } else { self.bg },
+            bold: self.bold || under.bold,
+            underline: self.underline || under.underline,
+            inverse: self.inverse || under.inverse,
+        }
+    }
+}

@@ -1,0 +1,31 @@
+//! The words that every layer of the redisplay engine shares: characters, faces, glyphs, cells, elements of a line,
+//! lines of bidirectional classes, the settings of a buffer, and the counter of steps.
+#![tactic(auto)]
+
+mod cell;
+mod chars;
+mod class;
+mod element;
+mod face;
+mod line;
+mod list;
+mod memory;
+mod settings;
+mod steps;
+
+pub use cell::{Cell, Glyph};
+pub use chars::Ch;
+pub use class::Class;
+pub use element::{Element, Elements, Extent, Look, Origin};
+pub use face::Face;
+pub use line::{Line, Seq};
+pub use list::ListOf;
+pub use memory::Memory;
+pub use settings::{Anchor, Direction, Invisible, Settings, Wrap};
+pub use steps::Steps;
+
+/// A place in a buffer's text, counted from 1.
+pub type Pos = u32;
+
+#[cfg(test)]
+mod tests;

@@ -1,0 +1,146 @@
+//! A list that contracts see as the list of its elements.
+ghost use Rattle.std.specs.Prelude.{◌≡◌, ◌==◌, ◌<◌, ◌≤◌, ◌+◌, ◌-◌, [], ◌∷◌, ◌++◌, length, OnOk, OnErr, IfOk, slice_get, slice_set, take, replicate, Some, MatchOption};
+
+use crate::memory::Memory;
+use std::alloc::Global;
+use std::marker::Model;
+
+/// A list of values. Contracts see it as the list of its elements, whatever room it has.
+#[derive(Debug, Drop)]
+pub struct ListOf<T> {
+    items: Vec<T>,
+}
+
+impl<T> Model for ListOf<T> {
+    ghost use Rattle.std.specs.Prelude.{List};
+
+    ghost Value = { List T };
+
+    ghost view = { λ s. s.items.items };
+}
+
+impl<T> ListOf<T> {
+    /// A list of nothing, which takes no memory.
+    pub fn new(alloc: Global) -> ListOf<T>
+        ensures { result ≡ [] }
+    {
+        ListOf {
+            items: Vec::new(alloc),
+        }
+    }
+
+    /// A list of nothing with room for so many elements.
+    pub fn with_room(alloc: Global, room: usize) -> Result<ListOf<T>, Memory>
+        ensures { IfOk result (λ list. list ≡ []) }
+    {
+        Ok(ListOf {
+            items: Vec::with_capacity(alloc, room)?,
+        })
+    }
+
+    /// How many elements there are.
+    pub fn len(&self) -> usize
+        ensures { result ≡ length self.now }
+    {
+        self.items.len()
+    }
+
+    /// Whether there is no element.
+    pub fn is_empty(&self) -> bool
+        ensures { result ≡ (length self.now == 0) }
+    {
+        self.items.is_empty()
+    }
+
+    /// The elements as a slice.
+    pub fn as_slice(&self) -> &[T]
+        ensures { result.now ≡ self.now }
+    {
+        self.items.as_slice()
+    }
+
+    /// The element at a place, counted from 0.
+    pub fn get(&self, i: usize) -> &T
+        requires { i < length self.now }
+        ensures { slice_get self.now i ≡ Some result.now }
+    {
+        &self.items[i]
+    }
+}
+
+impl<T: Drop> ListOf<T> {
+    /// Adds an element at the end.
+    pub fn push(&mut self, value: T) -> Result<(), Memory>
+        ensures ok { OnOk result (self.new ≡ self.old ++ value ∷ []) }
+        ensures err { OnErr result (self.new ≡ self.old) }
+    {
+        self.items.push(value)?;
+        Ok(())
+    }
+
+    /// Takes the last element away, and None exactly where there is none.
+    pub fn pop(&mut self) -> Option<T>
+        ensures { MatchOption result ((self.old ≡ []) × (self.new ≡ [])) (λ last. self.old ≡ self.new ++ last ∷ []) }
+    {
+        self.items.pop()
+    }
+
+    /// Takes all elements away and keeps the room.
+    pub fn clear(&mut self)
+        ensures { self.new ≡ [] }
+    {
+        self.items.clear();
+    }
+
+    /// Keeps the first `n` elements.
+    pub fn truncate(&mut self, n: usize)
+        ensures { self.new ≡ take n self.old }
+    {
+        self.items.truncate(n);
+    }
+}
+
+impl<T: Copy> ListOf<T> {
+    /// A list of these elements.
+    pub fn from_slice(alloc: Global, items: &[T]) -> Result<ListOf<T>, Memory>
+        ensures { IfOk result (λ list. list ≡ items.now) }
+    {
+        Ok(ListOf {
+            items: Vec::from_slice(alloc, items)?,
+        })
+    }
+
+    /// The element at a place, counted from 0.
+    pub fn at(&self, i: usize) -> T
+        requires { i < length self.now }
+        ensures { slice_get self.now i ≡ Some result }
+    {
+        self.items[i]
+    }
+
+    /// Puts another element at a place, counted from 0.
+    pub fn set(&mut self, i: usize, value: T)
+        requires { i < length self.old }
+        ensures { self.new ≡ slice_set self.old i value }
+    {
+        self.items[i] = value;
+    }
+
+    /// Adds these elements at the end.
+    pub fn extend_from_slice(&mut self, more: &[T]) -> Result<(), Memory>
+        ensures ok { OnOk result (self.new ≡ self.old ++ more.now) }
+        ensures err { OnErr result (self.new ≡ self.old) }
+    {
+        self.items.extend_from_slice(more)?;
+        Ok(())
+    }
+
+    /// Cuts the list to `n` elements, or fills it up to `n` with copies of a value.
+    pub fn resize(&mut self, n: usize, value: T) -> Result<(), Memory>
+        ensures ok { OnOk result (self.new ≡ take n self.old ++ replicate (n - length self.old) value) }
+        ensures err { OnErr result (self.new ≡ self.old) }
+    {
+        self.items.resize(n, value)?;
+        Ok(())
+    }
+}

@@ -1,0 +1,20 @@
+//! Want of memory, the one answer that no clause ties to a cause.
+use std::alloc::{AllocError, AllocFailed};
+use thiserror::Error;
+
+/// The allocator had no room. It is the error of the calls that have no other.
+#[derive(Clone, Copy, Debug, PartialEq, Eq, Error)]
+#[error("no memory")]
+pub struct Memory;
+
+impl From<AllocError> for Memory {
+    fn from(_none: AllocError) -> Memory {
+        Memory
+    }
+}
+
+impl<T: Drop> From<AllocFailed<T>> for Memory {
+    fn from(_none: AllocFailed<T>) -> Memory {
+        Memory
+    }
+}
