@@ -1,0 +1,56 @@
+-- Edits that are in range leave a text with an accessible range in it.
+use Rattle.std.proofs.Common.{◌≡◌, ℕ, ◌+◌, ◌-◌, ◌≤◌, List, ◌++◌, length, take, drop, arith, length-append, length-drop}
+use Rattle.std.proofs.lemmas.List.{length-take}
+use Rattle.rd_text.specs.Texts.{TextValue, IsText, most_characters, IsAccessible, inserted, deleted, narrowed, widened}
+use Rattle.rd_text.specs.Answers.{IsAccessibleRange, IsRangeOfAll}
+
+-- the length of a list with others in place of a part
+length-replaced : (xs ys : List ℕ) (i j : ℕ) → i ≤ j → j ≤ length xs → length (take i xs ++ ys ++ drop j xs) + (j - i) ≡ length xs + length ys
+length-replaced xs ys i j p q =
+    let outer = length-append (take i xs ++ ys) (drop j xs) in
+    let inner = length-append (take i xs) ys in
+    let front = length-take i xs in
+    let back = length-drop j xs in
+    omega (arith, outer, inner, front, back)
+
+length-cut : (xs : List ℕ) (i j : ℕ) → i ≤ j → j ≤ length xs → length (take i xs ++ drop j xs) + (j - i) ≡ length xs
+length-cut xs i j p q =
+    let outer = length-append (take i xs) (drop j xs) in
+    let front = length-take i xs in
+    let back = length-drop j xs in
+    omega (arith, outer, front, back)
+
+pub inserted-is_text : (t : TextValue) (pos : ℕ) (new : List ℕ) → IsText t → IsAccessible t pos → length t.text + length new ≤ most_characters → IsText (inserted t pos new)
+inserted-is_text t pos new s a room =
+    let first = s.first in
+    let ordered = s.ordered in
+    let last = s.last in
+    let len = length-replaced t.text new (pos - 1) (pos - 1) (omega arith) (omega (arith, a.0, a.1)) in
+    record {
+      first = first;
+      ordered = omega arith;
+      last = omega (arith, len);
+      short = omega (arith, len);
+    }
+
+pub deleted-is_text : (t : TextValue) (from to : ℕ) → IsText t → IsAccessibleRange t from to → IsText (deleted t from to)
+deleted-is_text t from to s a =
+    let first = s.first in
+    let last = s.last in
+    let short = s.short in
+    let low = a.first in
+    let ordered = a.ordered in
+    let high = a.last in
+    let len = length-cut t.text (from - 1) (to - 1) (omega arith) (omega arith) in
+    record {
+      first = first;
+      ordered = omega arith;
+      last = omega (arith, len);
+      short = omega (arith, len);
+    }
+
+pub narrowed-is_text : (t : TextValue) (from to : ℕ) → IsText t → IsRangeOfAll t from to → IsText (narrowed t from to)
+narrowed-is_text t from to s a = record { first = a.first; ordered = a.ordered; last = a.last; short = s.short }
+
+pub widened-is_text : (t : TextValue) → IsText t → IsText (widened t)
+widened-is_text t s = record { first = omega arith; ordered = omega arith; last = omega arith; short = s.short }

@@ -1,0 +1,75 @@
+-- The text of a buffer with its accessible range, and how edits change it. Positions count from 1.
+use Rattle.std.specs.Prelude.{ℕ, ◌+◌, ◌-◌, ◌≤◌, nat_le, ◌==◌, Bool, not, if◌then◌else◌, Option, None, List, [], ◌++◌, length, take, drop, slice_get, slice_range}
+use Rattle.std.specs.List.{count_by, position_or_len, suffix_len}
+
+-- the characters by their codes, the first accessible position, and one past the last
+pub record TextValue : Type 0 where
+  pub text : List ℕ
+  pub begin : ℕ
+  pub end : ℕ
+
+-- how many characters a buffer can have
+abbrev pub most_characters : ℕ
+most_characters = 4194304
+
+-- the accessible range lies in the text, and the text is not too long
+pub record IsText (t : TextValue) : Type 0 where
+  pub first : 1 ≤ t.begin
+  pub ordered : t.begin ≤ t.end
+  pub last : t.end ≤ length t.text + 1
+  pub short : length t.text ≤ most_characters
+
+abbrev pub no_text : TextValue
+no_text = record { text = []; begin = 1; end = 1 }
+
+-- a position of the accessible range, its end included
+abbrev pub IsAccessible : TextValue → ℕ → Type 0
+IsAccessible t pos = (t.begin ≤ pos) × (pos ≤ t.end)
+
+-- the character at a position, where there is one
+abbrev pub char_at : TextValue → ℕ → Option ℕ
+char_at t pos = if nat_le 1 pos then slice_get t.text (pos - 1) else None
+
+-- the characters at the positions from one to another, that one not included
+abbrev pub between : TextValue → ℕ → ℕ → List ℕ
+between t from to = slice_range t.text (from - 1) (to - 1)
+
+-- characters put in at a position: the accessible range grows by them
+abbrev pub inserted : TextValue → ℕ → List ℕ → TextValue
+inserted t pos new = record {
+  text = take (pos - 1) t.text ++ new ++ drop (pos - 1) t.text;
+  begin = t.begin;
+  end = t.end + length new;
+}
+
+-- the characters at the positions from one to another, that one not included, taken out of the accessible range
+abbrev pub deleted : TextValue → ℕ → ℕ → TextValue
+deleted t from to = record {
+  text = take (from - 1) t.text ++ drop (to - 1) t.text;
+  begin = t.begin;
+  end = t.end - (to - from);
+}
+
+-- another accessible range
+abbrev pub narrowed : TextValue → ℕ → ℕ → TextValue
+narrowed t from to = record { text = t.text; begin = from; end = to }
+
+-- all of the text accessible
+abbrev pub widened : TextValue → TextValue
+widened t = record { text = t.text; begin = 1; end = length t.text + 1 }
+
+-- the character that ends a line
+abbrev pub is_newline : ℕ → Bool
+is_newline c = c == 10
+
+-- the first accessible newline at or after a position, and the end where there is none
+abbrev pub next_newline : TextValue → ℕ → ℕ
+next_newline t pos = pos + position_or_len is_newline (between t pos t.end)
+
+-- one past the last accessible newline before a position, and the beginning where there is none
+abbrev pub prev_newline : TextValue → ℕ → ℕ
+prev_newline t pos = pos - suffix_len (λ c. not (is_newline c)) (between t t.begin pos)
+
+-- the number of a position's line: one more than the accessible newlines before it
+abbrev pub line_of : TextValue → ℕ → ℕ
+line_of t pos = 1 + count_by is_newline (between t t.begin pos)
