@@ -1,0 +1,8 @@
+//! Runs of positions with one value.
+
+/// The positions from the end of the run before it up to `end`, which is not one of them, and their value.
+#[derive(Clone, Copy, Debug, PartialEq, Eq)]
+pub struct Run {
+    pub end: u64,
+    pub value: Option<u32>,
+}
