@@ -1,0 +1,4 @@
+mod Bounding
+mod Moving
+mod Ranking
+mod Skipping

@@ -1,0 +1,56 @@
+//! Bounds of the edges of some overlays.
+ghost use Rattle.std.specs.Prelude.{◌≡◌, Option, ◌≤◌};
+ghost use Rattle.rd_overlays.specs.declared.overlay.Overlay.{Overlay};
+ghost use Rattle.rd_overlays.specs.Bounds.{SlotHolds, bounds_grown, bounds_shrunk};
+
+use crate::overlay::{Overlay, after_deletion};
+use rd_base::Pos;
+
+/// The least and the greatest place where a start or an end of some overlays can stand.
+#[derive(Clone, Copy, Debug, PartialEq, Eq)]
+pub(crate) struct Bounds {
+    pub(crate) low: u32,
+    pub(crate) high: u32,
+}
+
+/// The bounds with one more overlay.
+pub(crate) fn widened(bounds: Bounds, slot: Option<Overlay>) -> Bounds
+    ensures new { SlotHolds result slot }
+    ensures kept { (other : Option Overlay) → SlotHolds bounds other → SlotHolds result other }
+{
+    match slot {
+        None => bounds,
+        Some(overlay) => Bounds {
+            low: bounds.low.min(overlay.from.min(overlay.to)),
+            high: bounds.high.max(overlay.from.max(overlay.to)),
+        },
+    }
+}
+
+/// The bounds after `n` characters were inserted at `pos`.
+pub(crate) fn bounds_grown(pos: Pos, n: u32, bounds: Bounds) -> Bounds
+    ensures { result ≡ bounds_grown pos n bounds }
+{
+    let low = if pos < bounds.low {
+        bounds.low.saturating_add(n)
+    } else {
+        bounds.low
+    };
+    let high = if bounds.high < pos {
+        bounds.high
+    } else {
+        bounds.high.saturating_add(n)
+    };
+    Bounds { low, high }
+}
+
+/// The bounds after the text from `from` to `to - 1` was deleted.
+pub(crate) fn bounds_shrunk(from: Pos, to: Pos, bounds: Bounds) -> Bounds
+    requires { from ≤ to }
+    ensures { result ≡ bounds_shrunk from to bounds }
+{
+    Bounds {
+        low: after_deletion(from, to, bounds.low),
+        high: after_deletion(from, to, bounds.high),
+    }
+}

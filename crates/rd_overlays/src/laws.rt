@@ -1,0 +1,27 @@
+//! Laws of the definitions, for the layers above.
+ghost use Rattle.std.specs.Prelude.{ℕ, ◌≡◌, ◌≤◌, true, false, ℤ, pos, ◌∷◌, [], List, Option, Some, None};
+ghost use Rattle.rd_overlays.specs.declared.overlay.Overlay.{Overlay};
+ghost use Rattle.rd_overlays.specs.Overlays.{new_overlay, grown, shrunk, covering, starting, ending, next_edge};
+
+/// Every edit leaves a start that isn't behind its end. The call does nothing.
+pub fn edits_keep_starts_before_ends()
+    ensures inserted { (place n : ℕ) (overlay : Overlay) → (grown place n overlay).from ≤ (grown place n overlay).to }
+    ensures deleted { (from to : ℕ) (overlay : Overlay) → from ≤ to → overlay.from ≤ overlay.to → (shrunk from to overlay).from ≤ (shrunk from to overlay).to }
+{}
+
+/// How an overlay moves with one character that is inserted. The call does nothing.
+pub fn insertions_at_edges()
+    ensures start_stays { grown 2 1 (new_overlay 2 3 (pos 0) false false) ≡ new_overlay 2 4 (pos 0) false false }
+    ensures start_moves { grown 2 1 (new_overlay 2 3 (pos 0) true false) ≡ new_overlay 3 4 (pos 0) true false }
+    ensures end_stays { grown 3 1 (new_overlay 2 3 (pos 0) false false) ≡ new_overlay 2 3 (pos 0) false false }
+    ensures end_moves { grown 3 1 (new_overlay 2 3 (pos 0) false true) ≡ new_overlay 2 4 (pos 0) false true }
+    ensures start_never_past_the_end { grown 2 1 (new_overlay 2 2 (pos 0) true false) ≡ new_overlay 2 2 (pos 0) true false }
+{}
+
+/// What stands at a position where five overlays meet, one of them empty. The call does nothing.
+pub fn overlays_that_meet()
+    ensures covering { covering 2 (Some (new_overlay 1 2 (pos 1) false false) ∷ Some (new_overlay 1 2 (pos 2) false false) ∷ Some (new_overlay 2 3 (pos 2) false false) ∷ Some (new_overlay 2 3 (pos 1) false false) ∷ Some (new_overlay 2 2 (pos 0) false false) ∷ []) ≡ 3 ∷ 2 ∷ [] }
+    ensures starting { starting 2 (Some (new_overlay 1 2 (pos 1) false false) ∷ None ∷ Some (new_overlay 2 3 (pos 1) false false) ∷ Some (new_overlay 2 3 (pos 1) false false) ∷ Some (new_overlay 2 2 (pos 0) false false) ∷ []) ≡ 4 ∷ 2 ∷ 3 ∷ [] }
+    ensures ending { ending 2 (Some (new_overlay 1 2 (pos 1) false false) ∷ Some (new_overlay 1 2 (pos 2) false false) ∷ Some (new_overlay 2 3 (pos 1) false false) ∷ Some (new_overlay 2 2 (pos 0) false false) ∷ []) ≡ 3 ∷ 0 ∷ 1 ∷ [] }
+    ensures next { next_edge 2 (Some (new_overlay 1 2 (pos 1) false false) ∷ None ∷ Some (new_overlay 2 7 (pos 1) false false) ∷ Some (new_overlay 5 9 (pos 1) false false) ∷ []) ≡ Some 5 }
+{}

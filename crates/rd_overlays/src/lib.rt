@@ -1,0 +1,19 @@
+//! The overlays of a buffer: ranges of its text that carry properties, and move with the text as it is edited.
+#![tactic(auto)]
+
+mod bounds;
+mod fault;
+mod laws;
+mod listing;
+mod moves;
+mod overlay;
+mod overlays;
+mod store;
+
+pub use fault::OverlayFault;
+pub use laws::{edits_keep_starts_before_ends, insertions_at_edges, overlays_that_meet};
+pub use overlay::{Kind, Overlay};
+pub use overlays::Overlays;
+
+#[cfg(test)]
+mod tests;

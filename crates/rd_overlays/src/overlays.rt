@@ -1,0 +1,248 @@
+//! All overlays of a buffer.
+ghost use Rattle.std.specs.Prelude.{◌≡◌, ◌≤◌, ◌<◌, OnSome, length};
+ghost use Rattle.rd_overlays.specs.Overlays.{overlay_at, live, lesser, beyond, next_edge, slot_edge};
+
+use crate::fault::OverlayFault;
+use crate::listing::listed;
+use crate::overlay::{Kind, Meeting, Overlay};
+use crate::store::Store;
+use rd_base::{ListOf, Memory, Pos};
+use std::alloc::Global;
+use std::marker::Model;
+
+/// The most overlays that are made.
+const MOST: usize = 65_536;
+
+/// All overlays of a buffer. A number counts from 0 in order of making and is never used again. A block is 256 overlays whose
+/// numbers follow one another, so that overlays made in the order of the text, and one that covers all, are in few blocks whose
+/// bounds hold a position; where they were made in another order, a look-up can pass over all.
+#[derive(Drop)]
+pub struct Overlays {
+    alloc: Global,
+    slots: Store,
+}
+
+impl Model for Overlays {
+    ghost use Rattle.std.specs.Prelude.{List, Option, ◌≤◌, length};
+    ghost use Rattle.rd_overlays.specs.declared.overlay.Overlay.{Overlay};
+
+    ghost Value = { List (Option Overlay) };
+
+    ghost view = { λ s. s.slots };
+
+    ghost invariant = { λ s. length s.slots ≤ 65536 };
+}
+
+impl Overlays {
+    ghost use Rattle.std.specs.Prelude.{◌≡◌, ◌≤◌, ◌++◌, ◌∷◌, [], length, map, Some, None, IfOk, MatchOption};
+    ghost use Rattle.rd_overlays.specs.Overlays.{overlay_at, new_overlay, make_fault, number_fault, move_fault, dropped, moved, given, Makes, Moves, Answers, covering, starting, ending, next_edge, AllFit, slot_grown, slot_shrunk};
+
+    /// No overlay.
+    pub fn new(alloc: Global) -> Result<Overlays, Memory>
+        ensures { IfOk result (λ overlays. overlays ≡ []) }
+    {
+        Ok(Overlays {
+            alloc,
+            slots: Store::new(alloc),
+        })
+    }
+
+    /// Makes an overlay without values from `from` to `to - 1`, and answers its number, which is the count of those made so far.
+    /// The first of these faults counts: the start stands behind the end, 65,536 overlays were made. Costs one step.
+    pub fn make(
+        &mut self,
+        from: Pos,
+        to: Pos,
+        priority: i32,
+        front: bool,
+        rear: bool,
+    ) -> Result<u32, OverlayFault>
+        ensures { Makes result (make_fault self.old from to) self.old self.new (new_overlay from to priority front rear) }
+    {
+        if to < from {
+            return Err(OverlayFault::OutOfRange);
+        }
+        if self.slots.len() >= MOST {
+            return Err(OverlayFault::TooMany);
+        }
+        let number = self.slots.len() as u32;
+        let values = [None; 7];
+        self.slots.push(Overlay {
+            from,
+            to,
+            priority,
+            front,
+            rear,
+            values,
+        })?;
+        Ok(number)
+    }
+
+    /// Moves an overlay to the range from `from` to `to - 1`. The first of these faults counts: no such overlay lives, the
+    /// start stands behind the end. Costs one step.
+    pub fn move_to(&mut self, number: u32, from: Pos, to: Pos) -> Result<(), OverlayFault>
+        ensures { Moves result (move_fault self.old number from to) self.old self.new (moved self.old number from to) }
+    {
+        match overlay_at(self.slots.as_slice(), number) {
+            None => Err(OverlayFault::NoOverlay),
+            Some(overlay) => {
+                if to < from {
+                    return Err(OverlayFault::OutOfRange);
+                }
+                let overlay = Overlay {
+                    from,
+                    to,
+                    ..overlay
+                };
+                self.slots.put(number as usize, Some(overlay));
+                Ok(())
+            }
+        }
+    }
+
+    /// Takes an overlay away; its number is never used again. The fault is that no such overlay lives. Costs one step.
+    pub fn drop_one(&mut self, number: u32) -> Result<(), OverlayFault>
+        ensures { Answers result (number_fault self.old number) self.old self.new (dropped self.old number) }
+    {
+        match overlay_at(self.slots.as_slice(), number) {
+            None => Err(OverlayFault::NoOverlay),
+            Some(_) => {
+                self.slots.put(number as usize, None);
+                Ok(())
+            }
+        }
+    }
+
+    /// Gives an overlay a value of a kind, or takes it away. The fault is that no such overlay lives. Costs one step.
+    pub fn set(&mut self, number: u32, kind: Kind, value: Option<u32>) -> Result<(), OverlayFault>
+        ensures { Answers result (number_fault self.old number) self.old self.new (given self.old number kind value) }
+    {
+        match overlay_at(self.slots.as_slice(), number) {
+            None => Err(OverlayFault::NoOverlay),
+            Some(mut overlay) => {
+                overlay.values[kind as usize] = value;
+                self.slots.put(number as usize, Some(overlay));
+                Ok(())
+            }
+        }
+    }
+
+    /// The overlay of a number, and None exactly where it does not live. Costs one step.
+    pub fn get(&self, number: u32) -> Option<&Overlay>
+        ensures { MatchOption result (overlay_at self.now number ≡ None) (λ overlay. overlay_at self.now number ≡ Some overlay.now) }
+    {
+        if (number as usize) < self.slots.len() {
+            self.slots.get(number as usize).as_ref()
+        } else {
+            None
+        }
+    }
+
+    /// The numbers of the overlays that cover a position, `from <= pos < to`, in increasing order of priority and number.
+    /// Costs a pass over the bounds of all blocks, over each block whose bounds hold the position, and for each that is listed
+    /// over those listed.
+    pub fn covering(&self, pos: Pos) -> Result<ListOf<u32>, Memory>
+        ensures { IfOk result (λ list. list ≡ covering pos self.now) }
+    {
+        listed(self.alloc, &self.slots, Meeting::Covers, pos)
+    }
+
+    /// The numbers of the overlays that start at a position, empty ones too, in increasing order of priority and number.
+    /// Costs a pass over the bounds of all blocks, over each block whose bounds hold the position, and for each that is listed
+    /// over those listed.
+    pub fn starting(&self, pos: Pos) -> Result<ListOf<u32>, Memory>
+        ensures { IfOk result (λ list. list ≡ starting pos self.now) }
+    {
+        listed(self.alloc, &self.slots, Meeting::Starts, pos)
+    }
+
+    /// The numbers of the overlays whose `to` is a position, empty ones too, in increasing order of priority and number.
+    /// Costs a pass over the bounds of all blocks, over each block whose bounds hold the position, and for each that is listed
+    /// over those listed.
+    pub fn ending(&self, pos: Pos) -> Result<ListOf<u32>, Memory>
+        ensures { IfOk result (λ list. list ≡ ending pos self.now) }
+    {
+        listed(self.alloc, &self.slots, Meeting::Ends, pos)
+    }
+
+    /// The least start or end after a position, and None where there is none. Costs a pass over all overlays.
+    pub fn next_edge(&self, pos: Pos) -> Option<Pos>
+        ensures { result ≡ next_edge pos self.now }
+    {
+        next_edge(self.slots.as_slice(), pos)
+    }
+
+    /// Moves the overlays with `n` characters that were inserted at a position. A start or an end behind the position moves; a
+    /// start at it moves where `front` is set, an end at it where `rear` is set; a start that would pass its end stands at
+    /// its end. Costs a pass over all overlays.
+    pub fn inserted(&mut self, pos: Pos, n: u32)
+        requires { AllFit pos n self.old }
+        ensures { self.new ≡ map (slot_grown pos n) self.old }
+    {
+        self.slots.grow(pos, n);
+    }
+
+    /// Moves the overlays with the deletion of the text from `from` to `to - 1`. What stands in the range goes to `from`, what
+    /// stands at `to` or later moves back. Costs a pass over all overlays.
+    pub fn deleted(&mut self, from: Pos, to: Pos)
+        requires { from ≤ to }
+        ensures { self.new ≡ map (slot_shrunk from to) self.old }
+    {
+        self.slots.shrink(from, to);
+    }
+}
+
+/// The overlay of a number where it lives.
+fn overlay_at(slots: &[Option<Overlay>], number: u32) -> Option<Overlay>
+    ensures value { result ≡ overlay_at slots.now number }
+    ensures bound { OnSome result (number < length slots.now) }
+{
+    if (number as usize) < slots.len() {
+        slots[number as usize]
+    } else {
+        None
+    }
+}
+
+/// The lesser of two positions that may be missing.
+fn lesser(a: Option<Pos>, b: Option<Pos>) -> Option<Pos>
+    ensures { result ≡ lesser a b }
+{
+    match a {
+        None => b,
+        Some(x) => match b {
+            None => Some(x),
+            Some(y) => Some(x.min(y)),
+        },
+    }
+}
+
+/// An edge where it stands after a position.
+fn beyond(pos: Pos, edge: Pos) -> Option<Pos>
+    ensures { result ≡ beyond pos edge }
+{
+    if pos < edge { Some(edge) } else { None }
+}
+
+/// The least edge of one overlay after a position.
+fn slot_edge(pos: Pos, slot: Option<Overlay>) -> Option<Pos>
+    ensures { result ≡ slot_edge pos slot }
+{
+    match slot {
+        None => None,
+        Some(overlay) => lesser(beyond(pos, overlay.from), beyond(pos, overlay.to)),
+    }
+}
+
+/// The least edge of all overlays after a position.
+fn next_edge(slots: &[Option<Overlay>], pos: Pos) -> Option<Pos>
+    ensures { result ≡ next_edge pos slots.now }
+{
+    let mut least = None;
+    let mut i = slots.len();
+    while 0 < i {
+        i -= 1;
+        least = lesser(slot_edge(pos, slots[i]), least);
+    }
+    least
+}
