@@ -1,0 +1,17 @@
+//! The numbered objects that properties name: faces, display specs, strings and display tables. An object never changes.
+#![tactic(auto)]
+
+mod fault;
+mod objects;
+mod run;
+mod table;
+mod text;
+
+pub use fault::ObjectFault;
+pub use objects::Objects;
+pub use run::{Run, RunKind, Slot, Spec};
+pub use table::Table;
+pub use text::Text;
+
+#[cfg(test)]
+mod tests;

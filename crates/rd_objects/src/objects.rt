@@ -1,0 +1,201 @@
+//! All objects of a session.
+ghost use Rattle.std.specs.Prelude.{◌≡◌, length};
+ghost use Rattle.std.specs.List.{list_all};
+ghost use Rattle.rd_objects.specs.Things.{is_numbered, is_inside};
+
+use crate::fault::ObjectFault;
+use crate::run::{Run, RunKind, Spec};
+use crate::table::Table;
+use crate::text::{LONGEST, Text};
+use rd_base::{Ch, Face, ListOf, Memory};
+use std::alloc::Global;
+use std::marker::Model;
+
+/// The most strings, and the most specs.
+const MOST: usize = 4_096;
+
+/// The most faces.
+const MOST_FACES: usize = 1_024;
+
+/// The most tables.
+const MOST_TABLES: usize = 64;
+
+/// All objects that were made, numbered from 0 in each sort. An object never changes.
+#[derive(Drop)]
+pub struct Objects {
+    alloc: Global,
+    strings: ListOf<Text>,
+    specs: ListOf<Spec>,
+    faces: ListOf<Face>,
+    tables: ListOf<Table>,
+}
+
+impl Model for Objects {
+    ghost use Rattle.rd_objects.specs.Things.{ObjectLists};
+
+    ghost Value = { ObjectLists };
+
+    ghost view = { λ o. record { strings = o.strings; specs = o.specs; faces = o.faces; tables = o.tables } };
+}
+
+impl Objects {
+    ghost use Rattle.std.specs.Prelude.{◌≡◌, ◌≤◌, ◌++◌, ◌∷◌, [], length, Some, None, IfOk, MatchOption, slice_get};
+    ghost use Rattle.rd_objects.specs.Texts.{text_of};
+    ghost use Rattle.rd_objects.specs.Things.{nothing_made, string_fault, spec_fault, full_fault, IsSmallSpec, Adds, KeepsObjects};
+
+    /// No object.
+    pub fn new(alloc: Global) -> Result<Objects, Memory>
+        ensures { IfOk result (λ objects. objects ≡ nothing_made) }
+    {
+        Ok(Objects {
+            alloc,
+            strings: ListOf::new(alloc),
+            specs: ListOf::new(alloc),
+            faces: ListOf::new(alloc),
+            tables: ListOf::new(alloc),
+        })
+    }
+
+    /// Makes a string of these characters and runs, and answers its number. The first of these faults counts: a run names a
+    /// face or a spec that was not made, a run doesn't lie in the string, the string has more than 4,096 characters, 4,096
+    /// strings were made.
+    pub fn add_string(&mut self, text: &[Ch], runs: &[Run]) -> Result<u32, ObjectFault>
+        ensures adds { Adds result (string_fault self.old text.now runs.now) (length self.old.strings) self.old self.new (record self.old { strings = self.old.strings ++ text_of text.now runs.now self.old.faces ∷ [] }) }
+        ensures keeps { KeepsObjects self.old self.new }
+    {
+        if !are_made(runs, self.faces.len(), self.specs.len()) {
+            return Err(ObjectFault::NoObject);
+        }
+        if !are_inside(runs, text.len()) {
+            return Err(ObjectFault::OutOfRange);
+        }
+        if text.len() > LONGEST {
+            return Err(ObjectFault::TooLong);
+        }
+        if self.strings.len() >= MOST {
+            return Err(ObjectFault::TooMany);
+        }
+        let number = self.strings.len() as u32;
+        let text = Text::new(self.alloc, text, runs, self.faces.as_slice())?;
+        self.strings.push(text)?;
+        Ok(number)
+    }
+
+    /// Makes a display spec, of at most 400 columns, and answers its number. The faults are that it names a string that was
+    /// not made, and that 4,096 specs were made.
+    pub fn add_spec(&mut self, spec: Spec) -> Result<u32, ObjectFault>
+        requires { IsSmallSpec spec }
+        ensures adds { Adds result (spec_fault self.old spec) (length self.old.specs) self.old self.new (record self.old { specs = self.old.specs ++ spec ∷ [] }) }
+        ensures keeps { KeepsObjects self.old self.new }
+    {
+        if let Spec::Text(string) = spec {
+            if string as usize >= self.strings.len() {
+                return Err(ObjectFault::NoObject);
+            }
+        }
+        if self.specs.len() >= MOST {
+            return Err(ObjectFault::TooMany);
+        }
+        let number = self.specs.len() as u32;
+        self.specs.push(spec)?;
+        Ok(number)
+    }
+
+    /// Makes a face, and answers its number. The fault is that 1,024 faces were made.
+    pub fn add_face(&mut self, face: Face) -> Result<u32, ObjectFault>
+        ensures adds { Adds result (full_fault 1024 (length self.old.faces)) (length self.old.faces) self.old self.new (record self.old { faces = self.old.faces ++ face ∷ [] }) }
+        ensures keeps { KeepsObjects self.old self.new }
+    {
+        if self.faces.len() >= MOST_FACES {
+            return Err(ObjectFault::TooMany);
+        }
+        let number = self.faces.len() as u32;
+        self.faces.push(face)?;
+        Ok(number)
+    }
+
+    /// Makes a display table, and answers its number. The fault is that 64 tables were made.
+    pub fn add_table(&mut self, table: Table) -> Result<u32, ObjectFault>
+        ensures adds { Adds result (full_fault 64 (length self.old.tables)) (length self.old.tables) self.old self.new (record self.old { tables = self.old.tables ++ table ∷ [] }) }
+        ensures keeps { KeepsObjects self.old self.new }
+    {
+        if self.tables.len() >= MOST_TABLES {
+            return Err(ObjectFault::TooMany);
+        }
+        let number = self.tables.len() as u32;
+        self.tables.push(table)?;
+        Ok(number)
+    }
+
+    /// The string of a number, and None exactly where it was not made.
+    pub fn string(&self, number: u32) -> Option<&Text>
+        ensures { MatchOption result (length self.now.strings ≤ number) (λ text. slice_get self.now.strings number ≡ Some text.now) }
+    {
+        if (number as usize) < self.strings.len() {
+            Some(self.strings.get(number as usize))
+        } else {
+            None
+        }
+    }
+
+    /// The spec of a number, and None exactly where it was not made.
+    pub fn spec(&self, number: u32) -> Option<Spec>
+        ensures { result ≡ slice_get self.now.specs number }
+    {
+        if (number as usize) < self.specs.len() {
+            Some(self.specs.at(number as usize))
+        } else {
+            None
+        }
+    }
+
+    /// The face of a number, and None exactly where it was not made.
+    pub fn face(&self, number: u32) -> Option<Face>
+        ensures { result ≡ slice_get self.now.faces number }
+    {
+        if (number as usize) < self.faces.len() {
+            Some(self.faces.at(number as usize))
+        } else {
+            None
+        }
+    }
+
+    /// The table of a number, and None exactly where it was not made.
+    pub fn table(&self, number: u32) -> Option<&Table>
+        ensures { MatchOption result (length self.now.tables ≤ number) (λ table. slice_get self.now.tables number ≡ Some table.now) }
+    {
+        if (number as usize) < self.tables.len() {
+            Some(self.tables.get(number as usize))
+        } else {
+            None
+        }
+    }
+}
+
+/// Whether each run names a face or a spec among so many.
+fn are_made(runs: &[Run], faces: usize, specs: usize) -> bool
+    ensures { result ≡ list_all (λ run. is_numbered run.kind faces specs run.value) runs.now }
+{
+    for run in runs {
+        let most = match run.kind {
+            RunKind::Face => faces,
+            RunKind::Display => specs,
+        };
+        if run.value as usize >= most {
+            return false;
+        }
+    }
+    true
+}
+
+/// Whether each run lies in a string of this length.
+fn are_inside(runs: &[Run], size: usize) -> bool
+    ensures { result ≡ list_all (is_inside size) runs.now }
+{
+    for run in runs {
+        if run.from > run.to || run.to as usize > size {
+            return false;
+        }
+    }
+    true
+}

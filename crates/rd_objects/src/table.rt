@@ -1,0 +1,159 @@
+//! Display tables: what a buffer shows in place of characters, and its marks.
+ghost use Rattle.std.specs.Prelude.{◌≡◌, None, Some, All, IsTrue, IfSome, MatchOption};
+ghost use Rattle.rd_objects.specs.Tables.{entry_in, is_glyph_text};
+
+use crate::run::Slot;
+use rd_base::{Glyph, ListOf, Memory};
+use std::alloc::Global;
+use std::marker::Model;
+
+/// What is shown in place of a code.
+#[derive(Drop)]
+pub struct Entry {
+    pub code: u32,
+    pub text: ListOf<Glyph>,
+}
+
+/// A display table: entries, and slots for marks and for the ellipsis.
+#[derive(Drop)]
+pub struct Table {
+    alloc: Global,
+    entries: ListOf<Entry>,
+    truncation: Option<Glyph>,
+    continuation: Option<Glyph>,
+    escape: Option<Glyph>,
+    control: Option<Glyph>,
+    border: Option<Glyph>,
+    ellipsis: Option<ListOf<Glyph>>,
+}
+
+impl Model for Table {
+    ghost use Rattle.rd_objects.specs.Tables.{TableValue, IsTable};
+
+    ghost Value = { TableValue };
+
+    ghost view = { λ t. record {
+      entries = t.entries;
+      truncation = t.truncation;
+      continuation = t.continuation;
+      escape = t.escape;
+      control = t.control;
+      border = t.border;
+      ellipsis = t.ellipsis;
+    } };
+
+    ghost invariant = { λ t. IsTable (record {
+      entries = t.entries;
+      truncation = t.truncation;
+      continuation = t.continuation;
+      escape = t.escape;
+      control = t.control;
+      border = t.border;
+      ellipsis = t.ellipsis;
+    }) };
+}
+
+impl Table {
+    ghost use Rattle.std.specs.Prelude.{◌≡◌, ◌≤◌, ◌++◌, ◌∷◌, [], Some, None, IsTrue, IfOk, OnOk, OnErr, MatchOption, IfSome};
+    ghost use Rattle.rd_objects.specs.Tables.{empty_table, entry_in, slot_of, with_slot, is_glyph_text, is_slot_glyph};
+
+    /// A table that holds nothing.
+    pub fn new(alloc: Global) -> Result<Table, Memory>
+        ensures { IfOk result (λ table. table ≡ empty_table) }
+    {
+        Ok(Table {
+            alloc,
+            entries: ListOf::new(alloc),
+            truncation: None,
+            continuation: None,
+            escape: None,
+            control: None,
+            border: None,
+            ellipsis: None,
+        })
+    }
+
+    /// Puts what a code shows: at most 16 glyph characters. A later entry of a code wins over an earlier one.
+    pub fn put_entry(&mut self, code: u32, text: &[Glyph]) -> Result<(), Memory>
+        requires code { code ≤ 1114111 }
+        requires text { IsTrue (is_glyph_text text.now) }
+        ensures ok { OnOk result (self.new ≡ record self.old { entries = self.old.entries ++ record { code = code; text = text.now } ∷ [] }) }
+        ensures err { OnErr result (self.new ≡ self.old) }
+    {
+        let text = ListOf::from_slice(self.alloc, text)?;
+        self.entries.push(Entry { code, text })
+    }
+
+    /// Puts the glyph of a slot, one of one column, or takes it away.
+    pub fn put_slot(&mut self, slot: Slot, glyph: Option<Glyph>)
+        requires { IfSome glyph (λ g. IsTrue (is_slot_glyph g)) }
+        ensures { self.new ≡ with_slot slot glyph self.old }
+    {
+        match slot {
+            Slot::Truncation => self.truncation = glyph,
+            Slot::Continuation => self.continuation = glyph,
+            Slot::Escape => self.escape = glyph,
+            Slot::Control => self.control = glyph,
+            Slot::Border => self.border = glyph,
+        }
+    }
+
+    /// Puts what stands for hidden text: at most 16 glyph characters.
+    pub fn put_ellipsis(&mut self, text: &[Glyph]) -> Result<(), Memory>
+        requires { IsTrue (is_glyph_text text.now) }
+        ensures ok { OnOk result (self.new ≡ record self.old { ellipsis = Some text.now }) }
+        ensures err { OnErr result (self.new ≡ self.old) }
+    {
+        self.ellipsis = Some(ListOf::from_slice(self.alloc, text)?);
+        Ok(())
+    }
+
+    /// What a code shows, and None exactly where nothing was put. It costs a look at each entry.
+    pub fn entry(&self, code: u32) -> Option<&[Glyph]>
+        ensures value { MatchOption result (entry_in self.now.entries code ≡ None) (λ text. entry_in self.now.entries code ≡ Some text.now) }
+        ensures text { IfSome result (λ text. IsTrue (is_glyph_text text.now)) }
+    {
+        last_entry(self.entries.as_slice(), code)
+    }
+
+    /// The glyph of a slot, and None exactly where none was put or None was put last.
+    pub fn slot(&self, slot: Slot) -> Option<Glyph>
+        ensures value { result ≡ slot_of slot self.now }
+        ensures glyph { IfSome result (λ g. IsTrue (is_slot_glyph g)) }
+    {
+        match slot {
+            Slot::Truncation => self.truncation,
+            Slot::Continuation => self.continuation,
+            Slot::Escape => self.escape,
+            Slot::Control => self.control,
+            Slot::Border => self.border,
+        }
+    }
+
+    /// What stands for hidden text, and None exactly where nothing was put.
+    pub fn ellipsis(&self) -> Option<&[Glyph]>
+        ensures value { MatchOption result (self.now.ellipsis ≡ None) (λ text. self.now.ellipsis ≡ Some text.now) }
+        ensures text { IfSome result (λ text. IsTrue (is_glyph_text text.now)) }
+    {
+        match &self.ellipsis {
+            Some(text) => Some(text.as_slice()),
+            None => None,
+        }
+    }
+}
+
+/// What the last entry of a code shows.
+fn last_entry(entries: &[Entry], code: u32) -> Option<&[Glyph]>
+    requires { All (λ e. IsTrue (is_glyph_text e.text)) entries.now }
+    ensures text { IfSome result (λ text. IsTrue (is_glyph_text text.now)) }
+    ensures value { MatchOption result (entry_in entries.now code ≡ None) (λ text. entry_in entries.now code ≡ Some text.now) }
+{
+    let mut end = entries.len();
+    while end > 0 {
+        end -= 1;
+        if entries[end].code == code {
+            return Some(entries[end].text.as_slice());
+        }
+    }
+    None
+}

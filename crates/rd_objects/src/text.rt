@@ -1,0 +1,167 @@
+//! Strings with faces and display specs.
+ghost use Rattle.std.specs.Prelude.{◌≡◌, IfOk, slice_index_or};
+ghost use Rattle.rd_base.specs.Faces.{plain};
+ghost use Rattle.rd_objects.specs.Texts.{face_runs, spec_runs, face_in, spec_in, covers};
+
+use crate::run::{FaceRun, Run, RunKind, SpecRun};
+use rd_base::{Ch, Face, ListOf, Memory};
+use std::alloc::Global;
+use std::marker::Model;
+
+/// The most characters of a string.
+pub const LONGEST: usize = 4_096;
+
+/// A string of at most 4,096 characters, and the runs over it.
+#[derive(Drop)]
+pub struct Text {
+    chars: ListOf<Ch>,
+    faces: ListOf<FaceRun>,
+    specs: ListOf<SpecRun>,
+}
+
+impl Model for Text {
+    ghost use Rattle.std.specs.Prelude.{◌≤◌, length};
+    ghost use Rattle.rd_objects.specs.Texts.{TextValue};
+
+    ghost Value = { TextValue };
+
+    ghost view = { λ text. record { chars = text.chars; faces = text.faces; specs = text.specs } };
+
+    ghost invariant = { λ text. length text.chars ≤ 4096 };
+}
+
+impl Text {
+    ghost use Rattle.std.specs.Prelude.{◌≡◌, ◌<◌, ◌≤◌, length, slice_get, Some, IfOk};
+    ghost use Rattle.rd_objects.specs.Texts.{text_of, face_of, spec_of};
+
+    /// A string of these characters, with the faces that its runs name.
+    pub fn new(alloc: Global, chars: &[Ch], runs: &[Run], faces: &[Face]) -> Result<Text, Memory>
+        requires { length chars.now ≤ 4096 }
+        ensures { IfOk result (λ text. text ≡ text_of chars.now runs.now faces.now) }
+    {
+        let chars = ListOf::from_slice(alloc, chars)?;
+        let faces = face_runs_of(alloc, runs, faces)?;
+        let specs = spec_runs_of(alloc, runs)?;
+        Ok(Text {
+            chars,
+            faces,
+            specs,
+        })
+    }
+
+    /// How many characters there are.
+    pub fn len(&self) -> u32
+        ensures { result ≡ length self.now.chars }
+    {
+        self.chars.len() as u32
+    }
+
+    /// The character at a place, counted from 0.
+    pub fn ch(&self, i: u32) -> Ch
+        requires { i < length self.now.chars }
+        ensures { slice_get self.now.chars i ≡ Some result }
+    {
+        self.chars.at(i as usize)
+    }
+
+    /// The face at a place, counted from 0: that of the last run of faces that covers it, and the plain face where there is
+    /// none. It costs a look at each run.
+    pub fn face(&self, i: u32) -> Face
+        requires { i < length self.now.chars }
+        ensures { result ≡ face_of self.now i }
+    {
+        match last_face(self.faces.as_slice(), i) {
+            Some(face) => face,
+            None => Face::PLAIN,
+        }
+    }
+
+    /// The number of the display spec at a place, counted from 0: that of the last run of specs that covers it, and None
+    /// exactly where there is none. It costs a look at each run.
+    pub fn spec(&self, i: u32) -> Option<u32>
+        requires { i < length self.now.chars }
+        ensures { result ≡ spec_of self.now i }
+    {
+        last_spec(self.specs.as_slice(), i)
+    }
+}
+
+/// The face of the last run that covers a place.
+fn last_face(runs: &[FaceRun], i: u32) -> Option<Face>
+    ensures { result ≡ face_in runs.now i }
+{
+    let mut last = None;
+    for run in runs {
+        if is_covered(run.from, run.to, i) {
+            last = Some(run.face);
+        }
+    }
+    last
+}
+
+/// The spec of the last run that covers a place.
+fn last_spec(runs: &[SpecRun], i: u32) -> Option<u32>
+    ensures { result ≡ spec_in runs.now i }
+{
+    let mut last = None;
+    for run in runs {
+        if is_covered(run.from, run.to, i) {
+            last = Some(run.spec);
+        }
+    }
+    last
+}
+
+/// Whether a run covers a place.
+fn is_covered(from: u32, to: u32, i: u32) -> bool
+    ensures { result ≡ covers from to i }
+{
+    from <= i && i < to
+}
+
+/// The runs of faces, with the faces that they name.
+fn face_runs_of(alloc: Global, runs: &[Run], faces: &[Face]) -> Result<ListOf<FaceRun>, Memory>
+    ensures { IfOk result (λ made. made ≡ face_runs faces.now runs.now) }
+{
+    let mut made = ListOf::new(alloc);
+    for run in runs {
+        match run.kind {
+            RunKind::Face => made.push(FaceRun {
+                from: run.from,
+                to: run.to,
+                face: face_named(faces, run.value),
+            })?,
+            RunKind::Display => {}
+        }
+    }
+    Ok(made)
+}
+
+/// The runs of display specs.
+fn spec_runs_of(alloc: Global, runs: &[Run]) -> Result<ListOf<SpecRun>, Memory>
+    ensures { IfOk result (λ made. made ≡ spec_runs runs.now) }
+{
+    let mut made = ListOf::new(alloc);
+    for run in runs {
+        match run.kind {
+            RunKind::Face => {}
+            RunKind::Display => made.push(SpecRun {
+                from: run.from,
+                to: run.to,
+                spec: run.value,
+            })?,
+        }
+    }
+    Ok(made)
+}
+
+/// The face of a number, and the plain face where there is none.
+fn face_named(faces: &[Face], number: u32) -> Face
+    ensures { result ≡ slice_index_or faces.now number plain }
+{
+    if (number as usize) < faces.len() {
+        faces[number as usize]
+    } else {
+        Face::PLAIN
+    }
+}
