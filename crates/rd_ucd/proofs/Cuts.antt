@@ -1,0 +1,152 @@
+-- Pieces of bytes, as the code finds them.
+use Rattle.std.proofs.Common.{◌≡◌, ◌≢◌, ◌==◌, ℕ, zero, suc, ◌+◌, ◌-◌, ◌<◌, ◌≤◌, ◌⊎◌, inl, inr, Bool, true, false, ◌&&◌, if◌then◌else◌, List, [], ◌∷◌, ◌++◌, length, get_or, take, drop, refl, sym, ap, subst, ◌∙◌, arith}
+use Rattle.std.proofs.lemmas.Bool.{cases_eq, cases_lt}
+use Rattle.std.proofs.lemmas.Bool.Decides.{nat_tests}
+use Rattle.std.specs.List.{slice_split, onto_first}
+use Rattle.std.proofs.lemmas.List.{drop-drop, length-drop, get_or-drop, drop_more, drop_all, take_more, length-append}
+use Rattle.std.proofs.lemmas.List.Splits.{slice_split-cons_yes, slice_split-cons_no}
+use Rattle.rd_ucd.specs.Pieces.{chomped, uncommented, is_blank, trimmed_front, trimmed_back}
+
+eq_yes : (a b : ℕ) → a ≡ b → (a == b) ≡ true
+eq_yes a b e = grind (arith, nat_tests)
+
+eq_no : (a b : ℕ) → a ≢ b → (a == b) ≡ false
+eq_no a b e = grind (arith, nat_tests)
+
+pub first_of_pieces : (piece : List ℕ) (more all : List (List ℕ)) → all ≡ piece ∷ more → all ≡ piece ∷ drop 1 all
+first_of_pieces piece more all e = e ∙ ap (λ (rest : List (List ℕ)). piece ∷ rest) (sym (ap (drop 1) e))
+
+-- without a separator there is one piece
+pub split_none : (c : ℕ) (bs : List ℕ) → ((k : ℕ) → k < length bs → get_or bs k 0 ≢ c) → slice_split (λ b. b == c) bs ≡ bs ∷ []
+split_none c [] none = refl
+split_none c (b ∷ bs) none =
+    slice_split-cons_no (λ x. x == c) b bs (eq_no b c (none 0 (omega arith)))
+    ∙ ap (onto_first b) (split_none c bs (λ k less. none (suc k) (omega arith)))
+
+-- the first piece ends at the first separator
+pub split_at_first : (c i : ℕ) (bs : List ℕ) → i < length bs → ((k : ℕ) → k < i → get_or bs k 0 ≢ c) → get_or bs i 0 ≡ c
+    → slice_split (λ b. b == c) bs ≡ take i bs ∷ slice_split (λ b. b == c) (drop 1 (drop i bs))
+split_at_first c i [] within none found = absurd (omega arith)
+split_at_first c zero (b ∷ bs) within none found = slice_split-cons_yes (λ x. x == c) b bs (eq_yes b c found)
+split_at_first c (suc i) (b ∷ bs) within none found =
+    slice_split-cons_no (λ x. x == c) b bs (eq_no b c (none 0 (omega arith)))
+    ∙ ap (onto_first b) (split_at_first c i bs (omega arith) (λ k less. none (suc k) (omega arith)) found)
+
+-- the last byte of a tail
+tail_last : (b x : ℕ) (bs : List ℕ) → get_or (x ∷ bs) (length (x ∷ bs) - 1) 0 ≡ get_or (b ∷ x ∷ bs) (length (b ∷ x ∷ bs) - 1) 0
+tail_last b x bs =
+    let e : suc (length (x ∷ bs) - 1) ≡ length (b ∷ x ∷ bs) - 1 = omega arith in
+    ap (λ (i : ℕ). get_or (b ∷ x ∷ bs) i 0) e
+
+-- a byte 13 at the end goes
+pub chomped-return : (bs : List ℕ) → 0 < length bs → get_or bs (length bs - 1) 0 ≡ 13 → chomped bs ≡ take (length bs - 1) bs
+chomped-return [] some last = absurd (omega arith)
+chomped-return (b ∷ []) some last =
+    let test : ((b == 13) && true) ≡ true = grind (arith, nat_tests) in
+    ap (λ (v : Bool). if v then [] else b ∷ []) test
+chomped-return (b ∷ x ∷ bs) some last =
+    let test : ((b == 13) && (suc (length bs) == 0)) ≡ false = grind (arith, nat_tests) in
+    ap (λ (v : Bool). if v then [] else b ∷ chomped (x ∷ bs)) test ∙ ap (λ (xs : List ℕ). b ∷ xs) (chomped-return (x ∷ bs) (omega arith) (tail_last b x bs ∙ last))
+    ∙ (let e : suc (length (x ∷ bs) - 1) ≡ length (b ∷ x ∷ bs) - 1 = omega arith in ap (λ (n : ℕ). take n (b ∷ x ∷ bs)) e)
+
+-- and nothing else
+pub chomped-same : (bs : List ℕ) → (0 < length bs → get_or bs (length bs - 1) 0 ≢ 13) → chomped bs ≡ bs
+chomped-same [] last = refl
+chomped-same (b ∷ []) last =
+    let no : b ≢ 13 = last (omega arith) in
+    let test : ((b == 13) && true) ≡ false = grind (arith, nat_tests) in
+    ap (λ (v : Bool). if v then [] else b ∷ []) test
+chomped-same (b ∷ x ∷ bs) last =
+    let test : ((b == 13) && (suc (length bs) == 0)) ≡ false = grind (arith, nat_tests) in
+    ap (λ (v : Bool). if v then [] else b ∷ chomped (x ∷ bs)) test ∙ ap (λ (xs : List ℕ). b ∷ xs) (chomped-same (x ∷ bs) (λ _ e. last (omega arith) (sym (tail_last b x bs) ∙ e)))
+
+-- the field behind those that were cut off
+pub field_next : (c i : ℕ) (line rest piece more : List ℕ) → slice_split (λ b. b == c) rest ≡ drop i (slice_split (λ b. b == c) line)
+    → slice_split (λ b. b == c) rest ≡ piece ∷ slice_split (λ b. b == c) more → slice_split (λ b. b == c) more ≡ drop (i + 1) (slice_split (λ b. b == c) line)
+field_next c i line rest piece more before cut =
+    let step : drop 1 (slice_split (λ b. b == c) rest) ≡ slice_split (λ b. b == c) more = ap (drop 1) cut in
+    sym step ∙ ap (drop 1) before ∙ drop-drop 1 i (slice_split (λ b. b == c) line)
+
+-- the last piece has nothing behind it
+pub field_last : (c i : ℕ) (line rest piece : List ℕ) → slice_split (λ b. b == c) rest ≡ drop i (slice_split (λ b. b == c) line)
+    → slice_split (λ b. b == c) rest ≡ piece ∷ [] → length (slice_split (λ b. b == c) line) ≡ i + 1
+field_last c i line rest piece before cut =
+    let size : length (drop i (slice_split (λ b. b == c) line)) ≡ 1 = ap length (sym before ∙ cut) in
+    let whole = length-drop i (slice_split (λ b. b == c) line) in
+    omega arith
+
+-- a piece stands at its index
+pub field_at : (c i : ℕ) (line rest piece : List ℕ) (more : List (List ℕ)) → slice_split (λ b. b == c) rest ≡ drop i (slice_split (λ b. b == c) line)
+    → slice_split (λ b. b == c) rest ≡ piece ∷ more
+    → (i < length (slice_split (λ b. b == c) line)) × (get_or (slice_split (λ b. b == c) line) i [] ≡ piece)
+field_at c i line rest piece more before cut =
+    let all = slice_split (λ b. b == c) line in
+    let here : drop i all ≡ piece ∷ more = sym before ∙ cut in
+    let size : length (drop i all) ≡ suc (length more) = ap length here in
+    let whole = length-drop i all in
+    let e : i + 0 ≡ i = omega arith in
+    let at = get_or-drop i all 0 [] in
+    (omega arith, ap (λ (j : ℕ). get_or all j []) (sym e) ∙ sym at ∙ ap (λ (xs : List (List ℕ)). get_or xs 0 []) here)
+
+pub nothing : (bs : List ℕ) → (length bs == 0) ≡ true → length bs ≡ 0
+nothing bs e = grind (arith, nat_tests)
+
+pub something : (bs : List ℕ) → (length bs == 0) ≡ false → 0 < length bs
+something bs e = grind (arith, nat_tests)
+
+-- a comment goes
+pub uncommented-at : (i : ℕ) (bs : List ℕ) → i ≤ length bs → ((k : ℕ) → k < i → get_or bs k 0 ≢ 35) → (i < length bs → get_or bs i 0 ≡ 35)
+    → uncommented bs ≡ take i bs
+uncommented-at zero [] within none found = refl
+uncommented-at (suc i) [] within none found = absurd (omega arith)
+uncommented-at zero (b ∷ bs) within none found = ap (λ (v : Bool). if v then [] else b ∷ uncommented bs) (eq_yes b 35 (found (omega arith)))
+uncommented-at (suc i) (b ∷ bs) within none found =
+    ap (λ (v : Bool). if v then [] else b ∷ uncommented bs) (eq_no b 35 (none 0 (omega arith)))
+    ∙ ap (λ (xs : List ℕ). b ∷ xs) (uncommented-at i bs (omega arith) (λ k less. none (suc k) (omega arith)) (λ less. found (omega arith)))
+
+-- blanks at the beginning go, one by one
+pub front_step : (i : ℕ) (bs : List ℕ) → i < length bs → is_blank (get_or bs i 0) ≡ true → trimmed_front (drop (i + 1) bs) ≡ trimmed_front (drop i bs)
+front_step i bs within blank =
+    sym (ap trimmed_front (drop_more bs i 0 within) ∙ ap (λ (v : Bool). if v then trimmed_front (drop (i + 1) bs) else get_or bs i 0 ∷ drop (i + 1) bs) blank)
+
+pub front_stop : (i : ℕ) (bs : List ℕ) → (i < length bs → is_blank (get_or bs i 0) ≡ false) → trimmed_front (drop i bs) ≡ drop i bs
+front_stop i bs other = elim (cases_lt i (length bs)) [
+  | inl within ↦
+      let here = drop_more bs i 0 within in
+      ap trimmed_front here ∙ ap (λ (v : Bool). if v then trimmed_front (drop (i + 1) bs) else get_or bs i 0 ∷ drop (i + 1) bs) (other within) ∙ sym here
+  | inr past ↦ let none = drop_all i bs past in ap trimmed_front none ∙ sym none
+]
+
+push_blank : (xs : List ℕ) (b : ℕ) → is_blank b ≡ true → trimmed_back (xs ++ (b ∷ [])) ≡ trimmed_back xs
+push_blank [] b blank = ap (λ (v : Bool). if v && true then [] else b ∷ []) blank
+push_blank (x ∷ xs) b blank = ap (λ (ys : List ℕ). if is_blank x && (length ys == 0) then [] else x ∷ ys) (push_blank xs b blank)
+
+and_false : (t : Bool) (x : ℕ) (ys : List ℕ) → (if t && false then [] else x ∷ ys) ≡ x ∷ ys
+and_false true x ys = refl
+and_false false x ys = refl
+
+push_other : (xs : List ℕ) (b : ℕ) → is_blank b ≡ false → trimmed_back (xs ++ (b ∷ [])) ≡ xs ++ (b ∷ [])
+push_other [] b other = ap (λ (v : Bool). if v && true then [] else b ∷ []) other
+push_other (x ∷ xs) b other =
+    let rest = push_other xs b other in
+    let size : length (xs ++ (b ∷ [])) ≡ suc (length xs) = length-append xs (b ∷ []) ∙ omega arith in
+    let some : (length (xs ++ (b ∷ [])) == 0) ≡ false = eq_no (length (xs ++ (b ∷ []))) 0 (λ e. absurd (omega arith)) in
+    ap (λ (ys : List ℕ). if is_blank x && (length ys == 0) then [] else x ∷ ys) rest
+    ∙ ap (λ (v : Bool). if is_blank x && v then [] else x ∷ (xs ++ (b ∷ []))) some
+    ∙ and_false (is_blank x) x (xs ++ (b ∷ []))
+
+-- blanks at the end go, one by one
+pub back_step : (end : ℕ) (bs : List ℕ) → 0 < end → end ≤ length bs → is_blank (get_or bs (end - 1) 0) ≡ true → trimmed_back (take (end - 1) bs) ≡ trimmed_back (take end bs)
+back_step end bs some within blank =
+    let e : (end - 1) + 1 ≡ end = omega arith in
+    let cut : take end bs ≡ take (end - 1) bs ++ (get_or bs (end - 1) 0 ∷ []) = ap (λ (n : ℕ). take n bs) (sym e) ∙ take_more bs (end - 1) 0 (omega arith) in
+    sym (ap trimmed_back cut ∙ push_blank (take (end - 1) bs) (get_or bs (end - 1) 0) blank)
+
+pub back_stop : (end : ℕ) (bs : List ℕ) → end ≤ length bs → (0 < end → is_blank (get_or bs (end - 1) 0) ≡ false) → trimmed_back (take end bs) ≡ take end bs
+back_stop zero bs within other = refl
+back_stop (suc n) bs within other =
+    let e : n + 1 ≡ suc n = omega arith in
+    let e' : suc n - 1 ≡ n = omega arith in
+    let cut : take (suc n) bs ≡ take n bs ++ (get_or bs n 0 ∷ []) = ap (λ (k : ℕ). take k bs) (sym e) ∙ take_more bs n 0 (omega arith) in
+    let last : is_blank (get_or bs n 0) ≡ false = ap (λ (k : ℕ). is_blank (get_or bs k 0)) (sym e') ∙ other (omega arith) in
+    ap trimmed_back cut ∙ push_other (take n bs) (get_or bs n 0) last ∙ sym cut

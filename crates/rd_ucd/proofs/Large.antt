@@ -1,0 +1,34 @@
+-- A number that is too large stays so.
+use Rattle.std.proofs.Common.{◌≡◌, ℕ, ◌+◌, ◌*◌, ◌<◌, ◌≤◌, ◌⊎◌, inl, inr, Bool, true, false, if◌then◌else◌, List, [], ◌∷◌, Option, None, Some, refl, sym, ap, ◌∙◌, length, get_or, drop, arith}
+use Rattle.std.proofs.lemmas.List.{drop_more}
+use Rattle.std.specs.Prelude.{nat_le}
+use Rattle.std.proofs.lemmas.Bool.Decides.{nat_tests}
+use Rattle.rd_ucd.specs.Codes.{is_between, is_hex, hex_value, number_from, in_range, code_of}
+
+pub too_large : (n : ℕ) (digits : List ℕ) → 1114111 < n → in_range (number_from n digits) ≡ None
+too_large n [] large = grind (arith, nat_tests)
+too_large n (b ∷ bs) large =
+    elim (is_hex b) as (λ v. in_range (if v then number_from (16 * n + hex_value b) bs else None) ≡ None) [
+      | true ↦ too_large (16 * n + hex_value b) bs (omega arith)
+      | false ↦ refl
+    ]
+
+-- the code of digits, when those read so far already make a number that is too large
+pub code_of-too_large : (digits : List ℕ) (n i d v : ℕ) → 4 ≤ length digits → length digits ≤ 6 → i < length digits → get_or digits i 0 ≡ d
+    → (is_hex d ≡ true) → hex_value d ≡ v → 1114111 < 16 * n + v → in_range (number_from n (drop i digits)) ≡ in_range (number_from 0 digits)
+    → code_of digits ≡ None
+code_of-too_large digits n i d v long short within at hex value large rest =
+    let four : is_between 4 6 (length digits) ≡ true = grind (arith, nat_tests) in
+    let whole : code_of digits ≡ in_range (number_from 0 digits) = ap (λ (t : Bool). if t then in_range (number_from 0 digits) else None) four in
+    let here : drop i digits ≡ d ∷ drop (i + 1) digits = drop_more digits i 0 within ∙ ap (λ (x : ℕ). x ∷ drop (i + 1) digits) at in
+    let step : number_from n (d ∷ drop (i + 1) digits) ≡ number_from (16 * n + hex_value d) (drop (i + 1) digits) =
+    ap (λ (t : Bool). if t then number_from (16 * n + hex_value d) (drop (i + 1) digits) else None) hex in
+    whole ∙ sym rest ∙ ap (λ (xs : List ℕ). in_range (number_from n xs)) here ∙ ap in_range step ∙ too_large (16 * n + hex_value d) (drop (i + 1) digits) (omega arith)
+
+by_test : (t : Bool) (v w : ℕ) → Some v ≡ (if t then Some w else None) → (t ≡ true) × (w ≡ v)
+by_test true v w e = (refl, cc)
+by_test false v w e = absurd (cc)
+
+-- what a digit that was read is
+pub hex_told : (b v : ℕ) → Some v ≡ (if is_hex b then Some (hex_value b) else None) → (is_hex b ≡ true) × (hex_value b ≡ v)
+hex_told b v e = by_test (is_hex b) v (hex_value b) e

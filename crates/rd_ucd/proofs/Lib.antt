@@ -1,0 +1,6 @@
+mod Among
+mod Answered
+mod Cuts
+mod Halves
+mod Large
+mod Ranges

@@ -1,0 +1,73 @@
+-- Looking a code up in ranges and pairs that ascend.
+use Rattle.std.proofs.Common.{◌≡◌, ℕ, zero, suc, ◌<◌, ◌≤◌, ◌⊎◌, inl, inr, Bool, true, false, ◌&&◌, if◌then◌else◌, List, [], ◌∷◌, length, get_or, Option, None, Some, refl, ap, ◌∙◌, arith}
+use Rattle.std.specs.Prelude.{nat_le, ◌==◌}
+use Rattle.std.proofs.lemmas.Bool.Decides.{nat_tests}
+use Rattle.std.proofs.lemmas.Bool.{cases_eq}
+use Rattle.std.proofs.lemmas.List.{get_or_default}
+use Rattle.rd_base.specs.declared.class.Class.{Class}
+use Rattle.rd_base.specs.declared.class.Class.TheVariants.{L}
+use Rattle.rd_ucd.specs.declared.spans.Span.{Span}
+use Rattle.rd_ucd.specs.declared.spans.Pair.{Pair}
+use Rattle.rd_ucd.specs.Lookup.{class_in, mirror_in}
+
+outside : (a b c : ℕ) → (b < c) ⊎ (c < a) → (nat_le a c && nat_le c b) ≡ false
+outside a b c (inl above) = grind (arith, nat_tests)
+outside a b c (inr below) = grind (arith, nat_tests)
+
+inside : (a b c : ℕ) → a ≤ c → c ≤ b → (nat_le a c && nat_le c b) ≡ true
+inside a b c from to = grind (arith, nat_tests)
+
+-- no range holds the code
+pub class_in-miss : (spans : List Span) (code : ℕ)
+    → ((i : ℕ) (d : Span) → i < length spans → ((get_or spans i d).last < code) ⊎ (code < (get_or spans i d).first)) → class_in spans code ≡ L
+class_in-miss [] code out = refl
+class_in-miss (s ∷ ss) code out =
+    ap (λ (t : Bool). if t then s.class else class_in ss code) (outside s.first s.last code (out 0 s (omega arith)))
+    ∙ class_in-miss ss code (λ i d within. out (suc i) d (omega arith))
+
+-- the first range that holds the code
+pub class_in-hit : (spans : List Span) (code i : ℕ) (d : Span) → i < length spans → (get_or spans i d).first ≤ code → code ≤ (get_or spans i d).last
+    → ((k : ℕ) (d : Span) → k < i → (get_or spans k d).last < code) → class_in spans code ≡ (get_or spans i d).class
+class_in-hit [] code i d within from to out = absurd (omega arith)
+class_in-hit (s ∷ ss) code zero d within from to out =
+    ap (λ (t : Bool). if t then s.class else class_in ss code) (inside s.first s.last code from to)
+class_in-hit (s ∷ ss) code (suc i) d within from to out =
+    ap (λ (t : Bool). if t then s.class else class_in ss code) (outside s.first s.last code (inl (out 0 s (omega arith))))
+    ∙ class_in-hit ss code i d (omega arith) from to (λ k e less. out (suc k) e (omega arith))
+
+eq_no : (a b : ℕ) → (a < b) ⊎ (b < a) → (a == b) ≡ false
+eq_no a b (inl less) = grind (arith, nat_tests)
+eq_no a b (inr less) = grind (arith, nat_tests)
+
+eq_yes : (a b : ℕ) → a ≡ b → (a == b) ≡ true
+eq_yes a b e = grind (arith, nat_tests)
+
+-- no pair has the code
+pub mirror_in-miss : (pairs : List Pair) (code : ℕ)
+    → ((i : ℕ) (d : Pair) → i < length pairs → ((get_or pairs i d).code < code) ⊎ (code < (get_or pairs i d).code)) → mirror_in pairs code ≡ None
+mirror_in-miss [] code out = refl
+mirror_in-miss (p ∷ ps) code out =
+    ap (λ (t : Bool). if t then Some p.mirror else mirror_in ps code) (eq_no p.code code (out 0 p (omega arith)))
+    ∙ mirror_in-miss ps code (λ i d within. out (suc i) d (omega arith))
+
+-- the first pair that has the code
+pub mirror_in-hit : (pairs : List Pair) (code i : ℕ) (d : Pair) → i < length pairs → (get_or pairs i d).code ≡ code
+    → ((k : ℕ) (d : Pair) → k < i → (get_or pairs k d).code < code) → mirror_in pairs code ≡ Some (get_or pairs i d).mirror
+mirror_in-hit [] code i d within is out = absurd (omega arith)
+mirror_in-hit (p ∷ ps) code zero d within is out =
+    ap (λ (t : Bool). if t then Some p.mirror else mirror_in ps code) (eq_yes p.code code is)
+mirror_in-hit (p ∷ ps) code (suc i) d within is out =
+    ap (λ (t : Bool). if t then Some p.mirror else mirror_in ps code) (eq_no p.code code (inl (out 0 p (omega arith))))
+    ∙ mirror_in-hit ps code i d (omega arith) is (λ k e less. out (suc k) e (omega arith))
+
+-- the last code of a range at another default
+pub default_last : (spans : List Span) (i j code : ℕ) (d e : Span) → i < length spans → i ≡ j → (get_or spans j e).last < code → (get_or spans i d).last < code
+default_last spans i j code d e within same less =
+    let here : (get_or spans i d).last ≡ (get_or spans j e).last = ap (λ (s : Span). s.last) (get_or_default spans i d e within ∙ ap (λ (k : ℕ). get_or spans k e) same) in
+    omega arith
+
+pub default_code : (pairs : List Pair) (i j : ℕ) (d e : Pair) → i < length pairs → i ≡ j → (get_or pairs i d).code ≡ (get_or pairs j e).code
+default_code pairs i j d e within same = ap (λ (p : Pair). p.code) (get_or_default pairs i d e within ∙ ap (λ (k : ℕ). get_or pairs k e) same)
+
+pub strictly : (a b code : ℕ) → a ≤ code → a ≡ b → (b ≡ code → ⊥) → a < code
+strictly a b code low same other = elim (cases_eq b code) [ inl e ↦ absurd (other e) | inr different ↦ omega arith ]

@@ -1,0 +1,85 @@
+-- The class file: lines in the form of `UnicodeData.txt`, and the ranges of codes that they stand for.
+use Rattle.std.specs.Prelude.{ℕ, suc, nat_eq, nat_lt, ◌==◌, Bool, true, false, not, ◌&&◌, if◌then◌else◌, List, [], ◌∷◌, length, slice_index_or, Option, None, Some, option_to_list, Result, Ok, Err, codes}
+use Rattle.std.specs.List.{slice_split, ends_with}
+use Rattle.rd_base.specs.declared.class.Class.{Class}
+use Rattle.rd_ucd.specs.declared.fault.UcdFault.{UcdFault}
+use Rattle.rd_ucd.specs.declared.fault.UcdFault.TheVariants.{BadLine, BadCode, BadClass, NotAscending, BadRange}
+use Rattle.rd_ucd.specs.declared.spans.Span.{Span}
+use Rattle.rd_ucd.specs.declared.entries.Mark.{Mark}
+use Rattle.rd_ucd.specs.declared.entries.Mark.TheVariants.{Alone, First, Last}
+use Rattle.rd_ucd.specs.declared.entries.Entry.{Entry}
+use Rattle.rd_ucd.specs.declared.entries.Opened.{Opened}
+use Rattle.rd_ucd.specs.Pieces.{chomped}
+use Rattle.rd_ucd.specs.Results.{behind}
+use Rattle.rd_ucd.specs.Codes.{code_of}
+use Rattle.rd_ucd.specs.Names.{named, same_class}
+
+-- what the name of an entry says of its place in a range
+abbrev pub mark_of : List ℕ → Mark
+mark_of name = if ends_with nat_eq name (codes ", First>") then First else (if ends_with nat_eq name (codes ", Last>") then Last else Alone)
+
+abbrev pub coded : ℕ → Option ℕ → Mark → Option Class → Result Entry UcdFault
+coded n None mark class = Err (BadCode n)
+coded n (Some code) mark None = Err (BadClass n)
+coded n (Some code) mark (Some class) = Ok (record { code = code; mark = mark; class = class })
+
+-- the entry of line n, by its fields: the code, the name and, behind two others, the class
+abbrev pub entry_of_fields : ℕ → List (List ℕ) → Result Entry UcdFault
+entry_of_fields n fields =
+    if nat_lt 4 (length fields)
+    then coded n (code_of (slice_index_or fields 0 [])) (mark_of (slice_index_or fields 1 [])) (named (slice_index_or fields 4 []))
+    else Err (BadLine n)
+
+abbrev pub entry_of : ℕ → List ℕ → Result Entry UcdFault
+entry_of n line = entry_of_fields n (slice_split (λ b. b == 59) line)
+
+-- the entries of lines from number n on, each with its number. An empty line is passed over
+abbrev pub entries_from : ℕ → List (List ℕ) → List (ℕ × Result Entry UcdFault)
+entries_from n [] = []
+entries_from n (line ∷ lines) =
+    if length (chomped line) == 0 then entries_from (suc n) lines else (n, entry_of n (chomped line)) ∷ entries_from (suc n) lines
+
+abbrev pub is_last : Mark → Bool
+is_last Last = true
+is_last mark = false
+
+-- behind a First stands a Last of the same class, and a Last stands nowhere else
+abbrev pub closes : Option Opened → Entry → Bool
+closes None e = not (is_last e.mark)
+closes (Some o) e = is_last e.mark && same_class o.class e.class
+
+-- the fault of an entry that was read, behind an entry whose code is below `least`, and maybe behind a First
+abbrev pub fault_of : ℕ → Option Opened → ℕ → Entry → Option UcdFault
+fault_of least opened n e =
+    if nat_lt e.code least then Some (NotAscending n) else (if closes opened e then None else Some (BadRange n))
+
+-- the range that an entry gives: its one code, or all codes from the First to this Last
+abbrev pub span_by : Mark → Option Opened → Entry → Option Span
+span_by Alone opened e = Some (record { first = e.code; last = e.code; class = e.class })
+span_by First opened e = None
+span_by Last None e = None
+span_by Last (Some o) e = Some (record { first = o.code; last = e.code; class = e.class })
+
+abbrev pub opened_by : Mark → ℕ → Entry → Option Opened
+opened_by First n e = Some (record { number = n; code = e.code; class = e.class })
+opened_by mark n e = None
+
+-- a First that is the last entry is a fault of its own line
+abbrev pub ended : Option Opened → Result (List Span) UcdFault
+ended None = Ok []
+ended (Some o) = Err (BadRange o.number)
+
+abbrev pub unless : Option UcdFault → Result (List Span) UcdFault → Result (List Span) UcdFault
+unless None result = result
+unless (Some fault) result = Err fault
+
+-- the ranges that entries stand for, or the first fault among them
+abbrev pub spans_from : ℕ → Option Opened → List (ℕ × Result Entry UcdFault) → Result (List Span) UcdFault
+spans_from least opened [] = ended opened
+spans_from least opened ((n, Err fault) ∷ entries) = Err fault
+spans_from least opened ((n, Ok e) ∷ entries) =
+    unless (fault_of least opened n e) (behind (option_to_list (span_by e.mark opened e)) (spans_from (suc e.code) (opened_by e.mark n e) entries))
+
+-- the ranges that a class file stands for, or its first fault
+abbrev pub classes_of : List ℕ → Result (List Span) UcdFault
+classes_of bytes = spans_from 0 None (entries_from 1 (slice_split (λ b. b == 10) bytes))

@@ -1,0 +1,15 @@
+-- What reading a file answers.
+use Rattle.std.specs.Prelude.{◌≡◌, List, ◌++◌, Result, Ok, Err}
+use Rattle.rd_ucd.specs.declared.fault.UcdFault.{UcdFault}
+use Rattle.rd_ucd.specs.declared.fault.UcdFault.TheVariants.{Memory}
+
+-- the same with other values in front, where it is no fault
+abbrev pub behind : {T : Type 0} → List T → Result (List T) UcdFault → Result (List T) UcdFault
+behind values (Ok more) = Ok (values ++ more)
+behind values (Err fault) = Err fault
+
+-- an answer is the right one, want of memory aside
+abbrev pub Answers : {T : Type 0} → Result T UcdFault → Result T UcdFault → Type 0
+Answers (Ok value) right = right ≡ Ok value
+Answers (Err Memory) right = Unit {0}
+Answers (Err fault) right = right ≡ Err fault

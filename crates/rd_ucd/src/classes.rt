@@ -1,0 +1,108 @@
+//! The bidirectional classes of all characters.
+ghost use Rattle.std.specs.Prelude.{◌≡◌};
+ghost use Rattle.rd_ucd.specs.Lookup.{IsAscending, class_in};
+ghost use Rattle.rd_ucd.specs.ClassFile.{ended};
+ghost use Rattle.rd_ucd.specs.Results.{behind, Answers};
+ghost use Rattle.rd_ucd.specs.Reading.{IsReading};
+
+use crate::fault::UcdFault;
+use crate::pieces::split_first;
+use crate::reader::Reader;
+use crate::search::count_up_to;
+use crate::spans::Span;
+use rd_base::{Ch, Class, ListOf};
+use std::alloc::Global;
+use std::marker::Model;
+
+/// The classes that a file gives. Contracts see them as ranges of codes with a class, in ascending order.
+#[derive(Drop)]
+pub struct Classes {
+    spans: ListOf<Span>,
+}
+
+impl Model for Classes {
+    ghost use Rattle.std.specs.Prelude.{List};
+    ghost use Rattle.rd_ucd.specs.declared.spans.Span.{Span};
+    ghost use Rattle.rd_ucd.specs.Lookup.{IsAscending};
+
+    ghost Value = { List Span };
+
+    ghost view = { λ classes. classes.spans };
+
+    ghost invariant = { λ classes. IsAscending classes.spans };
+}
+
+impl Classes {
+    ghost use Rattle.std.specs.Prelude.{◌≡◌};
+    ghost use Rattle.rd_ucd.specs.Lookup.{class_of};
+    ghost use Rattle.rd_ucd.specs.ClassFile.{classes_of};
+    ghost use Rattle.rd_ucd.specs.Results.{Answers};
+
+    /// Reads a file in the form of `UnicodeData.txt`. Lines end at byte 10, before which one byte 13 is dropped; the last may
+    /// lack it, and empty lines are passed over. A line has at least five fields cut by `;`: the first is a code, the fifth the
+    /// name of a class. Codes ascend. Where the second field ends in `, First>` the next entry is one of the same class whose
+    /// second field ends in `, Last>`, and the two stand for all codes between them. Each fault comes exactly at the first line
+    /// that has one, with its number from 1, and in a line in the order of `UcdFault`; a First that is the last entry is a fault
+    /// of its own line.
+    pub fn read(alloc: Global, bytes: &[u8]) -> Result<Classes, UcdFault>
+        ensures { Answers result (classes_of bytes.now) }
+    {
+        let mut reader = Reader::new(alloc);
+        let mut rest = bytes;
+        let mut number = 1;
+        'lines: loop {
+            let (line, more) = split_first(rest, b'\n');
+            match reader.read_line(number, line) {
+                Ok(()) => {}
+                Err(fault) => return Err(fault),
+            }
+            match more {
+                None => return finish(reader),
+                Some(more) => rest = more,
+            }
+            number += 1;
+        }
+    }
+
+    /// The class of a character: L for a code that the file doesn't list, and for a raw byte. It costs the logarithm of the
+    /// number of ranges.
+    pub fn class(&self, ch: Ch) -> Class
+        ensures { result ≡ class_of self.now ch }
+    {
+        let code = ch.code();
+        if code >= 1_114_112 {
+            return Class::L;
+        }
+        class_at(self.spans.as_slice(), code)
+    }
+}
+
+/// The class of a code in ascending ranges.
+fn class_at(spans: &[Span], code: u32) -> Class
+    requires { IsAscending spans.now }
+    ensures { result ≡ class_in spans.now code }
+{
+    let count = count_up_to(spans, code);
+    if count == 0 {
+        return Class::L;
+    }
+    let span = spans[count - 1];
+    if code <= span.last {
+        span.class
+    } else {
+        Class::L
+    }
+}
+
+/// The classes, where all lines were read.
+fn finish(reader: Reader) -> Result<Classes, UcdFault>
+    requires { IsReading reader }
+    ensures { Answers result (behind reader.spans (ended reader.opened)) }
+{
+    match reader.opened {
+        None => Ok(Classes {
+            spans: reader.spans,
+        }),
+        Some(first) => Err(UcdFault::BadRange(first.number)),
+    }
+}

@@ -1,0 +1,102 @@
+//! Cutting bytes into lines, and lines into fields.
+ghost use Rattle.std.specs.Prelude.{◌≡◌, ◌≢◌, ◌==◌, ℕ, slice_index, ◌<◌, ◌≤◌, [], ◌∷◌, length, drop, MatchOption, slice_index_or};
+ghost use Rattle.std.specs.List.{slice_split};
+ghost use Rattle.rd_ucd.specs.Pieces.{chomped, uncommented, trimmed, trimmed_front, trimmed_back, is_blank};
+
+/// The bytes before the first separator, and those behind it, if there is one.
+pub fn split_first(bytes: &[u8], separator: u8) -> (&[u8], Option<&[u8]>)
+    ensures first { slice_split (λ b. b == separator) bytes.now ≡ result.0.now ∷ drop 1 (slice_split (λ b. b == separator) bytes.now) }
+    ensures pieces { MatchOption result.1
+        (slice_split (λ b. b == separator) bytes.now ≡ result.0.now ∷ [])
+        (λ rest. (slice_split (λ b. b == separator) bytes.now ≡ result.0.now ∷ slice_split (λ b. b == separator) rest.now) × (length rest.now < length bytes.now)) }
+{
+    let place = length_before(bytes, separator);
+    if place == bytes.len() {
+        return (bytes, None);
+    }
+    let (front, back) = bytes.split_at(place);
+    (front, Some(back.split_at(1).1))
+}
+
+/// How many bytes stand before the first separator, or at all.
+fn length_before(bytes: &[u8], separator: u8) -> usize
+    ensures before { (k : ℕ) → k < result → slice_index bytes.now k ≢ separator }
+    ensures within { result ≤ length bytes.now }
+    ensures found { result < length bytes.now → slice_index bytes.now result ≡ separator }
+{
+    let mut place = 0;
+    while place < bytes.len() && bytes[place] != separator {
+        place += 1;
+    }
+    place
+}
+
+/// The field at an index, from 0, of a line that is cut at each `;`.
+pub fn field(line: &[u8], index: usize) -> Option<&[u8]>
+    ensures { MatchOption result
+        (length (slice_split (λ b. b == 59) line.now) ≤ index)
+        (λ field. (index < length (slice_split (λ b. b == 59) line.now)) × (slice_index_or (slice_split (λ b. b == 59) line.now) index [] ≡ field.now)) }
+{
+    let mut rest = line;
+    for _i in 0..index {
+        match split_first(rest, b';').1 {
+            None => return None,
+            Some(more) => rest = more,
+        }
+    }
+    Some(split_first(rest, b';').0)
+}
+
+/// A line without the byte 13 at its end.
+pub fn without_return(line: &[u8]) -> &[u8]
+    ensures { result.now ≡ chomped line.now }
+{
+    if line.is_empty() {
+        return line;
+    }
+    if line[line.len() - 1] != b'\r' {
+        return line;
+    }
+    line.split_at(line.len() - 1).0
+}
+
+/// What stands before the first `#`.
+pub fn before_comment(line: &[u8]) -> &[u8]
+    ensures { result.now ≡ uncommented line.now }
+{
+    line.split_at(length_before(line, b'#')).0
+}
+
+/// The bytes without spaces and tabs at both ends.
+pub fn trim(bytes: &[u8]) -> &[u8]
+    ensures { result.now ≡ trimmed bytes.now }
+{
+    trim_back(trim_front(bytes))
+}
+
+fn trim_front(bytes: &[u8]) -> &[u8]
+    ensures { result.now ≡ trimmed_front bytes.now }
+{
+    let mut start = 0;
+    while start < bytes.len() && is_space(bytes[start]) {
+        start += 1;
+    }
+    bytes.split_at(start).1
+}
+
+fn trim_back(bytes: &[u8]) -> &[u8]
+    ensures { result.now ≡ trimmed_back bytes.now }
+{
+    let mut end = bytes.len();
+    while end > 0 && is_space(bytes[end - 1]) {
+        end -= 1;
+    }
+    bytes.split_at(end).0
+}
+
+/// A space or a tab.
+fn is_space(byte: u8) -> bool
+    ensures { result ≡ is_blank byte }
+{
+    byte == b' ' || byte == b'\t'
+}

@@ -1,0 +1,136 @@
+//! Reading a class file, line by line.
+ghost use Rattle.std.specs.Prelude.{◌≡◌, ◌++◌, OnOk, OnErr, option_to_list};
+ghost use Rattle.rd_ucd.specs.ClassFile.{fault_of, span_by, opened_by, closes};
+
+use crate::entries::{Entry, Mark, Opened, read_entry};
+use crate::fault::UcdFault;
+use crate::names::is_same;
+use crate::pieces::without_return;
+use crate::spans::Span;
+use rd_base::{ListOf, Memory};
+use std::alloc::Global;
+
+/// What was read so far: the ranges, one more than the code of the last entry, and the First that waits for its Last.
+#[derive(Drop)]
+pub struct Reader {
+    pub spans: ListOf<Span>,
+    pub least: u32,
+    pub opened: Option<Opened>,
+}
+
+impl Reader {
+    ghost use Rattle.std.specs.Prelude.{◌≡◌, [], None, ◌≤◌};
+    ghost use Rattle.rd_ucd.specs.Reading.{IsReading, ReadsLine, TakesEntry};
+
+    /// Nothing was read.
+    pub fn new(alloc: Global) -> Reader
+        ensures reading { IsReading result }
+        ensures spans { result.spans ≡ [] }
+        ensures least { result.least ≡ 0 }
+        ensures opened { result.opened ≡ None }
+    {
+        Reader {
+            spans: ListOf::new(alloc),
+            least: 0,
+            opened: None,
+        }
+    }
+
+    /// Reads the line of a number.
+    pub fn read_line(&mut self, number: u64, line: &[u8]) -> Result<(), UcdFault>
+        requires { IsReading self.old }
+        ensures reading { IsReading self.new }
+        ensures line { ReadsLine result self.old self.new number line.now }
+    {
+        let line = without_return(line);
+        if line.len() == 0 {
+            return Ok(());
+        }
+        match read_entry(line, number) {
+            Ok(entry) => self.take(number, entry),
+            Err(fault) => Err(fault),
+        }
+    }
+
+    /// Takes the entry of a line.
+    fn take(&mut self, number: u64, entry: Entry) -> Result<(), UcdFault>
+        requires reading { IsReading self.old }
+        requires code { entry.code ≤ 1114111 }
+        ensures reading { IsReading self.new }
+        ensures entry { TakesEntry result self.old self.new number entry }
+    {
+        if let Some(fault) = fault(self.least, self.opened, number, entry) {
+            return Err(fault);
+        }
+        add(&mut self.spans, span(self.opened, entry))?;
+        self.opened = opened(number, entry);
+        self.least = entry.code + 1;
+        Ok(())
+    }
+}
+
+/// The fault of an entry among those before it.
+fn fault(least: u32, opened: Option<Opened>, number: u64, entry: Entry) -> Option<UcdFault>
+    ensures { result ≡ fault_of least opened number entry }
+{
+    if entry.code < least {
+        return Some(UcdFault::NotAscending(number));
+    }
+    if is_in_place(opened, entry) {
+        return None;
+    }
+    Some(UcdFault::BadRange(number))
+}
+
+/// Whether an entry stands behind a First exactly where it is a Last of the same class.
+fn is_in_place(opened: Option<Opened>, entry: Entry) -> bool
+    ensures { result ≡ closes opened entry }
+{
+    match (opened, entry.mark) {
+        (Some(first), Mark::Last) => is_same(first.class, entry.class),
+        (Some(_), _) => false,
+        (None, Mark::Last) => false,
+        (None, _) => true,
+    }
+}
+
+/// The range that an entry gives.
+fn span(opened: Option<Opened>, entry: Entry) -> Option<Span>
+    ensures { result ≡ span_by entry.mark opened entry }
+{
+    let first = match entry.mark {
+        Mark::Alone => entry.code,
+        Mark::First => return None,
+        Mark::Last => opened?.code,
+    };
+    Some(Span {
+        first,
+        last: entry.code,
+        class: entry.class,
+    })
+}
+
+/// What an entry leaves to be closed.
+fn opened(number: u64, entry: Entry) -> Option<Opened>
+    ensures { result ≡ opened_by entry.mark number entry }
+{
+    match entry.mark {
+        Mark::First => Some(Opened {
+            number,
+            code: entry.code,
+            class: entry.class,
+        }),
+        _ => None,
+    }
+}
+
+/// Adds a range, if there is one.
+fn add(spans: &mut ListOf<Span>, span: Option<Span>) -> Result<(), Memory>
+    ensures ok { OnOk result (spans.new ≡ spans.old ++ option_to_list span) }
+    ensures err { OnErr result (spans.new ≡ spans.old) }
+{
+    match span {
+        Some(span) => spans.push(span),
+        None => Ok(()),
+    }
+}
