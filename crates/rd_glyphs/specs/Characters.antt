@@ -1,0 +1,137 @@
+-- How a character is shown: its elements.
+use Rattle.std.specs.Prelude.{◌≡◌, ℕ, ◌+◌, ◌-◌, ◌/◌, ◌%◌, ◌≤◌, nat_le, nat_lt, ◌==◌, Bool, true, false, ◌||◌, ◌&&◌, if◌then◌else◌, List, [], ◌∷◌, map, replicate, All, Option, None, Some, unwrap_or}
+use Rattle.unicode_width.specs.Width.{char_width}
+use Rattle.rd_base.specs.Chars.{is_scalar}
+use Rattle.rd_base.specs.Faces.{Attributes}
+use Rattle.rd_base.specs.Settings.{SettingValues}
+use Rattle.rd_base.specs.Classes.{is_initiator, is_removed}
+use Rattle.rd_base.specs.Cells.{single}
+use Rattle.rd_base.specs.declared.class.Class.{Class}
+use Rattle.rd_base.specs.declared.class.Class.TheVariants.{PDI}
+use Rattle.rd_base.specs.declared.cell.Glyph.{Glyph}
+use Rattle.rd_base.specs.declared.element.Element.{Element}
+use Rattle.rd_base.specs.declared.element.Extent.TheVariants.{Fixed, Tab}
+use Rattle.rd_base.specs.declared.element.Look.{Look}
+use Rattle.rd_base.specs.declared.element.Look.TheVariants as look
+use Rattle.rd_base.specs.declared.element.Origin.{Origin}
+use Rattle.rd_ucd.specs.declared.spans.Span.{Span}
+use Rattle.rd_ucd.specs.declared.spans.Pair.{Pair}
+use Rattle.rd_ucd.specs.Lookup.{class_of, mirror_in}
+use Rattle.rd_objects.specs.declared.run.Slot.{Slot}
+use Rattle.rd_objects.specs.declared.run.Slot.TheVariants.{Escape, Control}
+use Rattle.rd_objects.specs.Tables.{TableValue, entry_in, slot_of}
+use Rattle.rd_glyphs.specs.declared.shown.Shown.{Shown}
+use Rattle.rd_glyphs.specs.declared.shown.Shown.TheVariants.{Caret, Octal, Space, Mark, Itself}
+
+-- what the elements of a character depend on
+pub record PartValues : Type 0 where
+  pub table : Option TableValue
+  pub settings : SettingValues
+  pub classes : List Span
+  pub mirrors : List Pair
+
+-- the columns of a scalar value in a terminal; 0 for a mark, and for a number that is no scalar value
+abbrev pub columns : ℕ → ℕ
+columns code = if is_scalar code then unwrap_or (char_width false code) 0 else 0
+
+-- a control character
+abbrev pub is_control : ℕ → Bool
+is_control code = nat_lt code 32 || (code == 127)
+
+abbrev pub is_pop : Class → Bool
+is_pop PDI = true
+is_pop c = false
+
+-- what only steers the order: BN, embeddings, overrides, isolates and their ends, and three marks that have a strong class
+abbrev pub is_formatting : Class → ℕ → Bool
+is_formatting class code = is_removed class || is_initiator class || is_pop class || (code == 1564) || (code == 8206) || (code == 8207)
+
+-- a control character's code with bit 64 turned, so that 1 shows as A and 127 as a question mark
+abbrev pub caret : ℕ → ℕ
+caret code = if code == 127 then 63 else code + 64
+
+-- how a character is shown that no table shows and that is no tab
+abbrev pub shown_as : Bool → Class → ℕ → Shown
+shown_as ctl_arrow class code =
+    if is_control code then (if ctl_arrow then Caret (caret code) else Octal code)
+    else if nat_le 1114112 code then Octal (code - 1114112)
+    else if nat_le 128 code && nat_le code 159 then Octal code
+    else if is_formatting class code then Space
+    else if columns code == 0 then Mark code
+    else Itself code (columns code)
+
+-- a listed mirror of the same width in place of the character
+abbrev pub turned : ℕ → ℕ → Option ℕ → ℕ
+turned code width None = code
+turned code width (Some other) = if columns other == width then other else code
+
+-- a character that is shown itself has its mirror at an odd level
+abbrev pub mirrored : List Pair → Bool → Shown → Shown
+mirrored pairs odd (Itself code width) = Itself (if odd then turned code width (mirror_in pairs code) else code) width
+mirrored pairs odd s = s
+
+-- a glyph of one column
+abbrev pub narrow : ℕ → Look
+narrow code = look.Glyph (single code 1)
+
+-- the lowest octal digit of a number
+abbrev pub digit : ℕ → Look
+digit n = narrow (48 + n % 8)
+
+-- a mark on a blank
+abbrev pub on_blank : ℕ → Glyph
+on_blank code = record { base = 32; marks = code ∷ replicate 5 0; count = 1; width = 1 }
+
+-- what is put for a character, with these glyphs for escapes and for controls
+abbrev pub looks_of : Glyph → Glyph → Shown → List Look
+looks_of escape control (Caret letter) = look.Glyph control ∷ narrow letter ∷ []
+looks_of escape control (Octal byte) = look.Glyph escape ∷ digit (byte / 64) ∷ digit (byte / 8) ∷ digit byte ∷ []
+looks_of escape control Space = look.Blank ∷ []
+looks_of escape control (Mark code) = look.Glyph (on_blank code) ∷ []
+looks_of escape control (Itself code width) = look.Glyph (single code width) ∷ []
+
+abbrev pub look_columns : Look → ℕ
+look_columns (look.Glyph g) = g.width
+look_columns look.Blank = 1
+look_columns other = 0
+
+abbrev pub element_of : Attributes → Origin → Look → Element
+element_of face origin l = record { extent = Fixed (look_columns l); look = l; face = face; origin = origin }
+
+abbrev pub tab_of : ℕ → Attributes → Origin → Element
+tab_of stop face origin = record { extent = Tab stop; look = look.Blank; face = face; origin = origin }
+
+-- the elements of a table's glyphs
+abbrev pub glyph_elements : Attributes → Origin → List Glyph → List Element
+glyph_elements face origin text = map (λ g. element_of face origin (look.Glyph g)) text
+
+-- what a table puts for a code
+abbrev pub entry_of : Option TableValue → ℕ → Option (List Glyph)
+entry_of None code = None
+entry_of (Some table) code = entry_in table.entries code
+
+-- the glyph of a slot, and a glyph of one column where there is none
+abbrev pub slot_or : Slot → Option TableValue → ℕ → Glyph
+slot_or slot None code = single code 1
+slot_or slot (Some table) code = unwrap_or (slot_of slot table) (single code 1)
+
+-- the looks of a character that no table shows and that is no tab: the slots are a backslash and a circumflex where the table
+-- has none
+abbrev pub own_looks : PartValues → ℕ → Bool → List Look
+own_looks parts ch odd =
+    looks_of (slot_or Escape parts.table 92) (slot_or Control parts.table 94)
+    (mirrored parts.mirrors odd (shown_as parts.settings.ctl_arrow (class_of parts.classes ch) ch))
+
+-- the elements of a character whose entry in the table is given
+abbrev pub elements_by : Option (List Glyph) → PartValues → ℕ → Bool → Attributes → Origin → List Element
+elements_by (Some text) parts ch odd face origin = glyph_elements face origin text
+elements_by None parts ch odd face origin =
+    if ch == 9 then tab_of parts.settings.tab_width face origin ∷ [] else map (element_of face origin) (own_looks parts ch odd)
+
+-- the elements of a character, at an odd level or not
+abbrev pub elements_of : PartValues → ℕ → Bool → Attributes → Origin → List Element
+elements_of parts ch odd face origin = elements_by (entry_of parts.table ch) parts ch odd face origin
+
+-- a look of 1 to 3 columns
+abbrev pub IsNarrow : Look → Type 0
+IsNarrow l = (1 ≤ look_columns l) × (look_columns l ≤ 3)

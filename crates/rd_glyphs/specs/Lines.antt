@@ -1,0 +1,80 @@
+-- A plain line of text, such as a mode line.
+use Rattle.std.specs.Prelude.{◌≡◌, ℕ, ◌+◌, ◌-◌, ◌≤◌, nat_le, nat_lt, ◌==◌, Bool, true, false, ◌&&◌, if◌then◌else◌, List, [], ◌∷◌, ◌++◌, length, replicate, slice_set, Option, None, Some}
+use Rattle.rd_base.specs.Faces.{Attributes}
+use Rattle.rd_base.specs.Cells.{single}
+use Rattle.rd_base.specs.declared.cell.Glyph.{Glyph}
+use Rattle.rd_base.specs.declared.cell.Cell.{Cell}
+use Rattle.rd_base.specs.declared.cell.Cell.TheVariants.{Blank, First, Rest}
+use Rattle.rd_base.specs.declared.element.Look.{Look}
+use Rattle.rd_base.specs.declared.element.Look.TheVariants as look
+use Rattle.rd_ucd.specs.declared.spans.Span.{Span}
+use Rattle.rd_ucd.specs.Lookup.{class_of}
+use Rattle.rd_glyphs.specs.declared.shown.Shown.{Shown}
+use Rattle.rd_glyphs.specs.declared.shown.Shown.TheVariants.{Caret, Octal, Space, Mark, Itself}
+use Rattle.rd_glyphs.specs.Characters.{shown_as, looks_of, look_columns, on_blank}
+
+-- a glyph with one more mark
+abbrev pub with_mark : Glyph → ℕ → Glyph
+with_mark g code = record g { marks = slice_set g.marks g.count code; count = g.count + 1 }
+
+-- the look of a glyph that is held
+abbrev pub held_looks : Option Glyph → List Look
+held_looks None = []
+held_looks (Some g) = look.Glyph g ∷ []
+
+-- whether a glyph is held that a mark may join: one that has fewer than six
+abbrev pub has_room : Option Glyph → Bool
+has_room None = false
+has_room (Some g) = nat_lt g.count 6
+
+-- what comes out when a character is read behind a glyph that is held for its marks: nothing where the character joins it
+abbrev pub given : Option Glyph → Shown → List Look
+given held (Mark code) = if has_room held then [] else held_looks held
+given held (Itself code width) = held_looks held
+given held s = held_looks held ++ looks_of (single 92 1) (single 94 1) s
+
+-- the glyph that takes a mark: the one that is held, or where that has six a blank
+abbrev pub joined_to : Glyph → ℕ → Glyph
+joined_to g code = if nat_lt g.count 6 then with_mark g code else on_blank code
+
+abbrev pub joined : Option Glyph → ℕ → Glyph
+joined None code = on_blank code
+joined (Some g) code = joined_to g code
+
+-- the glyph that is held then; behind a control, an escape or a blank of its own nothing is held
+abbrev pub held_after : Option Glyph → Shown → Option Glyph
+held_after held (Mark code) = Some (joined held code)
+held_after held (Itself code width) = Some (single code width)
+held_after held s = None
+
+-- what is put for a text, behind a glyph that is held
+abbrev pub looks_from : List Span → Option Glyph → List ℕ → List Look
+looks_from classes held [] = held_looks held
+looks_from classes held (c ∷ cs) =
+    let s = shown_as true (class_of classes c) c in
+    given held s ++ looks_from classes (held_after held s) cs
+
+-- a space without marks
+abbrev pub is_space : Glyph → Bool
+is_space g = (g.base == 32) && (g.count == 0)
+
+-- the cells of a glyph
+abbrev pub glyph_cells : Attributes → Glyph → List Cell
+glyph_cells face g = if is_space g then replicate g.width (Blank face) else First g face ∷ replicate (g.width - 1) Rest
+
+-- the cells of a look
+abbrev pub cells_of : Attributes → Look → List Cell
+cells_of face (look.Glyph g) = glyph_cells face g
+cells_of face other = replicate (look_columns other) (Blank face)
+
+-- looks in so many columns, while they fit, and blanks in the rest
+abbrev pub fitted : Attributes → ℕ → List Look → List Cell
+fitted face room [] = replicate room (Blank face)
+fitted face room (l ∷ ls) =
+    if nat_le (look_columns l) room
+    then cells_of face l ++ fitted face (room - look_columns l) ls
+    else replicate room (Blank face)
+
+-- the cells of a plain line
+abbrev pub plain_cells : List Span → Attributes → ℕ → List ℕ → List Cell
+plain_cells classes face width text = fitted face width (looks_from classes None text)

@@ -1,0 +1,163 @@
+//! The elements of a character.
+ghost use Rattle.std.specs.Prelude.{◌≡◌, ◌++◌, ◌∷◌, [], map, None, Some, IfOk, OnOk, MatchOption};
+ghost use Rattle.rd_glyphs.specs.Characters.{element_of, glyph_elements, tab_of, slot_or, own_looks, elements_of};
+
+use crate::looks::{Looks, look_columns, looks_of};
+use crate::shown::{mirrored, shown_as};
+use rd_base::{Ch, Element, Extent, Face, Glyph, ListOf, Look, Memory, Origin, Settings};
+use rd_objects::{Slot, Table};
+use rd_ucd::{Classes, Mirrors};
+use std::alloc::Global;
+use std::marker::Model;
+
+/// What the elements of a character depend on: the buffer's display table, where it has one, its settings, and the Unicode
+/// data.
+#[derive(Drop)]
+pub struct Parts<'a> {
+    pub table: Option<&'a Table>,
+    pub settings: &'a Settings,
+    pub classes: &'a Classes,
+    pub mirrors: &'a Mirrors,
+}
+
+impl<'a> Model for Parts<'a> {
+    ghost use Rattle.std.specs.Prelude.{option_map};
+    ghost use Rattle.rd_glyphs.specs.Characters.{PartValues};
+
+    ghost Value = { PartValues };
+
+    ghost view = { λ p. record {
+      table = option_map (λ table. table.now) p.table;
+      settings = p.settings.now;
+      classes = p.classes.now;
+      mirrors = p.mirrors.now;
+    } };
+}
+
+impl<'a> Parts<'a> {
+    ghost use Rattle.std.specs.Prelude.{◌≡◌, MatchOption, None, Some};
+    ghost use Rattle.rd_glyphs.specs.Characters.{entry_of, slot_or, own_looks};
+    ghost use Rattle.rd_objects.specs.Tables.{entry_in};
+
+    /// What the table puts for a code, and None where it puts nothing.
+    fn entry(&self, code: u32) -> Option<&[Glyph]>
+        ensures { MatchOption result (entry_of self.now.table code ≡ None) (λ text. entry_of self.now.table code ≡ Some text.now) }
+    {
+        match self.table {
+            Some(table) => table.entry(code),
+            None => None,
+        }
+    }
+
+    /// The glyph of a slot, and where the table has none this one of one column.
+    fn slot(&self, slot: Slot, default: u32) -> Glyph
+        ensures { result ≡ slot_or slot self.now.table default }
+    {
+        match self.table {
+            Some(table) => match table.slot(slot) {
+                Some(glyph) => glyph,
+                None => Glyph::single(default, 1),
+            },
+            None => Glyph::single(default, 1),
+        }
+    }
+
+    /// The looks of a character that no table shows and that is no tab.
+    fn own_looks(&self, ch: Ch, odd: bool) -> Looks
+        ensures { result ≡ own_looks self.now ch odd }
+    {
+        let class = self.classes.class(ch);
+        let settings = self.settings;
+        let upright = shown_as(settings.ctl_arrow, class, ch.code());
+        let shown = mirrored(self.mirrors, odd, upright);
+        looks_of(
+            self.slot(Slot::Escape, '\\' as u32),
+            self.slot(Slot::Control, '^' as u32),
+            shown,
+        )
+    }
+}
+
+/// The elements of a character, at an odd embedding level or not, in the order in which they stand from the reading edge. A
+/// table's entry for its code comes first, whose elements are its glyphs. Else a tab is blanks up to the next stop. A control
+/// character is the control slot and a letter where `ctl_arrow` is set, and else the escape slot and three octal digits, as
+/// raw bytes and the codes 128 to 159 are. A character that only steers the order is one blank column. One of no columns is a
+/// mark on a blank. Any other is itself in its columns, and at an odd level its mirror, where one of the same width is listed.
+/// It costs a look at each entry of the table and the logarithms of the lengths of the data.
+pub fn expand(
+    alloc: Global,
+    parts: &Parts,
+    ch: Ch,
+    odd: bool,
+    face: Face,
+    origin: Origin,
+) -> Result<ListOf<Element>, Memory>
+    ensures value { IfOk result (λ elements. elements ≡ elements_of parts.now ch odd face origin) }
+{
+    if let Some(text) = parts.entry(ch.code()) {
+        return of_glyphs(alloc, text, face, origin);
+    }
+    if ch.code() == 9 {
+        let settings = parts.settings;
+        return of_tab(alloc, settings.tab_width, face, origin);
+    }
+    let looks = parts.own_looks(ch, odd);
+    of_looks(alloc, looks.as_slice(), face, origin)
+}
+
+/// The element of a look.
+fn element_of(look: Look, face: Face, origin: Origin) -> Element
+    ensures { result ≡ element_of face origin look }
+{
+    Element {
+        extent: Extent::Fixed(look_columns(look) as u32),
+        look,
+        face,
+        origin,
+    }
+}
+
+/// The one element of a tab.
+fn of_tab(alloc: Global, stop: u8, face: Face, origin: Origin) -> Result<ListOf<Element>, Memory>
+    ensures { IfOk result (λ elements. elements ≡ tab_of stop face origin ∷ []) }
+{
+    let tab = Element {
+        extent: Extent::Tab(stop as u32),
+        look: Look::Blank,
+        face,
+        origin,
+    };
+    ListOf::from_slice(alloc, &[tab])
+}
+
+/// The elements of a table's glyphs.
+fn of_glyphs(
+    alloc: Global,
+    text: &[Glyph],
+    face: Face,
+    origin: Origin,
+) -> Result<ListOf<Element>, Memory>
+    ensures { IfOk result (λ elements. elements ≡ glyph_elements face origin text.now) }
+{
+    let mut elements = ListOf::with_room(alloc, text.len())?;
+    for glyph in text {
+        elements.push(element_of(Look::Glyph(*glyph), face, origin))?;
+    }
+    Ok(elements)
+}
+
+/// The elements of these looks.
+fn of_looks(
+    alloc: Global,
+    looks: &[Look],
+    face: Face,
+    origin: Origin,
+) -> Result<ListOf<Element>, Memory>
+    ensures { IfOk result (λ elements. elements ≡ map (element_of face origin) looks.now) }
+{
+    let mut elements = ListOf::with_room(alloc, looks.len())?;
+    for look in looks {
+        elements.push(element_of(*look, face, origin))?;
+    }
+    Ok(elements)
+}

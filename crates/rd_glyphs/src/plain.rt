@@ -1,0 +1,191 @@
+//! Plain lines of text, such as mode lines.
+ghost use Rattle.std.specs.Prelude.{◌≡◌, ◌≤◌, ◌<◌, ◌++◌, ◌∷◌, [], length, None, Some, IfOk, OnOk, OnErr, replicate};
+ghost use Rattle.rd_base.specs.Cells.{single};
+ghost use Rattle.rd_glyphs.specs.Characters.{looks_of};
+ghost use Rattle.rd_glyphs.specs.Lines.{has_room, joined, joined_to, glyph_cells, held_looks, given, held_after, looks_from, is_space, cells_of, fitted, plain_cells};
+
+use crate::looks::{look_columns, looks_of, on_blank};
+use crate::shown::{Shown, shown_as};
+use rd_base::{Cell, Ch, Face, Glyph, ListOf, Look, Memory};
+use rd_ucd::Classes;
+use std::alloc::Global;
+
+/// The cells of a plain line of text in so many columns, all in one face: no table, order or mirrors. A control character is a
+/// circumflex and a letter, a tab and a newline too; a raw byte and a code of 128 to 159 a backslash and three octal digits. A
+/// character that only steers the order is one blank column. A mark joins a character before it that is shown itself, and a
+/// mark on a blank, until there are six; where it joins none it stands on a blank. What doesn't fit whole ends the text, and
+/// blanks fill the rest.
+/// It costs the text's length times the logarithm of that of the data, and the width.
+pub fn plain_line(
+    alloc: Global,
+    text: &[Ch],
+    classes: &Classes,
+    face: Face,
+    width: u32,
+) -> Result<ListOf<Cell>, Memory>
+    ensures value { IfOk result (λ cells. cells ≡ plain_cells classes.now face width text.now) }
+{
+    let looks = looks_of_text(alloc, text, classes)?;
+    fit(alloc, looks.as_slice(), face, width)
+}
+
+/// What is put for a text, with marks joined.
+fn looks_of_text(alloc: Global, text: &[Ch], classes: &Classes) -> Result<ListOf<Look>, Memory>
+    ensures { IfOk result (λ looks. looks ≡ looks_from classes.now None text.now) }
+{
+    let mut looks = ListOf::new(alloc);
+    let mut held = None;
+    for ch in text {
+        let shown = shown_as(true, classes.class(*ch), ch.code());
+        give(&mut looks, held, shown)?;
+        held = held_after(held, shown);
+    }
+    put_held(&mut looks, held)?;
+    Ok(looks)
+}
+
+/// Adds a glyph that was held.
+fn put_held(looks: &mut ListOf<Look>, held: Option<Glyph>) -> Result<(), Memory>
+    ensures { OnOk result (looks.new ≡ looks.old ++ held_looks held) }
+{
+    match held {
+        Some(glyph) => looks.push(Look::Glyph(glyph)),
+        None => Ok(()),
+    }
+}
+
+/// Whether a glyph is held that a mark may join.
+fn has_room(held: Option<Glyph>) -> bool
+    ensures { result ≡ has_room held }
+{
+    match held {
+        Some(glyph) => glyph.count < 6,
+        None => false,
+    }
+}
+
+/// Adds what comes out when a character is read behind a glyph that is held.
+fn give(looks: &mut ListOf<Look>, held: Option<Glyph>, shown: Shown) -> Result<(), Memory>
+    ensures { OnOk result (looks.new ≡ looks.old ++ given held shown) }
+{
+    match shown {
+        Shown::Mark(_) => {
+            if has_room(held) {
+                Ok(())
+            } else {
+                put_held(looks, held)
+            }
+        }
+        Shown::Itself(_, _) => put_held(looks, held),
+        _ => {
+            put_held(looks, held)?;
+            put_looks(looks, shown)
+        }
+    }
+}
+
+/// Adds the looks of a character that is shown in the plain way.
+fn put_looks(list: &mut ListOf<Look>, shown: Shown) -> Result<(), Memory>
+    ensures { OnOk result (list.new ≡ list.old ++ looks_of (single 92 1) (single 94 1) shown) }
+{
+    let looks = looks_of(
+        Glyph::single('\\' as u32, 1),
+        Glyph::single('^' as u32, 1),
+        shown,
+    );
+    list.extend_from_slice(looks.as_slice())
+}
+
+/// The glyph that is held behind a character.
+fn held_after(held: Option<Glyph>, shown: Shown) -> Option<Glyph>
+    ensures { result ≡ held_after held shown }
+{
+    match shown {
+        Shown::Mark(code) => Some(joined(held, code)),
+        Shown::Itself(code, width) => Some(Glyph::single(code, width)),
+        _ => None,
+    }
+}
+
+/// The glyph with one more mark, where a mark may join one, and else the mark on a blank.
+fn joined(held: Option<Glyph>, code: u32) -> Glyph
+    ensures { result ≡ joined held code }
+{
+    match held {
+        Some(glyph) => with_mark(glyph, code),
+        None => on_blank(code),
+    }
+}
+
+/// The glyph with one more mark, and where it has six the mark on a blank.
+fn with_mark(glyph: Glyph, code: u32) -> Glyph
+    ensures { result ≡ joined_to glyph code }
+{
+    if glyph.count >= 6 {
+        return on_blank(code);
+    }
+    let mut marks = glyph.marks;
+    marks[glyph.count as usize] = code;
+    Glyph {
+        marks,
+        count: glyph.count + 1,
+        ..glyph
+    }
+}
+
+/// Looks in so many columns, while they fit, and blanks in the rest.
+fn fit(alloc: Global, looks: &[Look], face: Face, width: u32) -> Result<ListOf<Cell>, Memory>
+    ensures { IfOk result (λ cells. cells ≡ fitted face width looks.now) }
+{
+    let mut cells = ListOf::with_room(alloc, width as usize)?;
+    let mut room = width;
+    for look in looks {
+        let columns = look_columns(*look) as u32;
+        if columns > room {
+            put_copies(&mut cells, room, Cell::Blank(face))?;
+            return Ok(cells);
+        }
+        put_cells(&mut cells, *look, face)?;
+        room -= columns;
+    }
+    put_copies(&mut cells, room, Cell::Blank(face))?;
+    Ok(cells)
+}
+
+/// Adds so many copies of a value.
+fn put_copies<T: Copy>(list: &mut ListOf<T>, n: u32, value: T) -> Result<(), Memory>
+    ensures { OnOk result (list.new ≡ list.old ++ replicate n value) }
+{
+    for _k in 0..n {
+        list.push(value)?;
+    }
+    Ok(())
+}
+
+/// Adds the cells of a look.
+fn put_cells(cells: &mut ListOf<Cell>, look: Look, face: Face) -> Result<(), Memory>
+    ensures { OnOk result (cells.new ≡ cells.old ++ cells_of face look) }
+{
+    match look {
+        Look::Glyph(glyph) => put_glyph(cells, glyph, face),
+        _ => put_copies(cells, look_columns(look) as u32, Cell::Blank(face)),
+    }
+}
+
+/// Whether this is a space without marks.
+fn is_space(glyph: Glyph) -> bool
+    ensures { result ≡ is_space glyph }
+{
+    glyph.base == 32 && glyph.count == 0
+}
+
+/// Adds the cells of a glyph.
+fn put_glyph(cells: &mut ListOf<Cell>, glyph: Glyph, face: Face) -> Result<(), Memory>
+    ensures { OnOk result (cells.new ≡ cells.old ++ glyph_cells face glyph) }
+{
+    if is_space(glyph) {
+        return put_copies(cells, glyph.width as u32, Cell::Blank(face));
+    }
+    cells.push(Cell::First(glyph, face))?;
+    put_copies(cells, (glyph.width as u32).saturating_sub(1), Cell::Rest)
+}
