@@ -1,0 +1,336 @@
+-- The links from an index on, against the isolating run sequences of the items there.
+use Rattle.std.proofs.Common.{◌≡◌, ℕ, zero, suc, ◌+◌, ◌-◌, ◌<◌, ◌≤◌, ◌==◌, nat_lt, max, Bool, true, false, ◌&&◌, if◌then◌else◌, List, [], ◌∷◌, ◌++◌, length, map, drop, set, get_or, Option, None, Some, All, IfSome, is_none, refl, ap, ap₂, sym, ◌∙◌, inl, inr, arith}
+use Rattle.std.proofs.lemmas.List.{get_or-drop, drop-set-add, set-get_or, drop-drop, length-drop}
+use Rattle.std.proofs.lemmas.Bool.{cases_Bool, eq-eqb, ne_eqb, ltb-true}
+use Rattle.rd_base.specs.Classes.{direction_of, is_initiator, is_removed}
+use Rattle.rd_base.specs.declared.class.Class.{Class}
+use Rattle.rd_base.specs.declared.line.Seq.{Seq}
+use Rattle.rd_explicit.specs.declared.links.Link.{Link}
+use Rattle.rd_explicit.specs.declared.links.First.{First}
+use Rattle.rd_explicit.specs.Follow.{follower, side}
+use Rattle.rd_explicit.specs.Isolates.{matching, content}
+use Rattle.rd_explicit.specs.Links.{link_at, chain, chain_end, chained, gathered, sequences_from, first_of, beginning, without_beginning}
+use Rattle.rd_explicit.specs.Sequences.{Item, item_at, first_level, partner_of, matter, level_runs, begins, continued, others, joined, start_type, end_type, sequence}
+use Rattle.rd_explicit.proofs.Groups.{joined-step}
+
+abbrev pub starts : ℕ → List ℕ → Bool
+starts p [] = false
+starts p (y ∷ ys) = p == y
+
+abbrev pub begins_seq : Option ℕ → Seq → Bool
+begins_seq None s = false
+begins_seq (Some p) s = starts p s.indexes
+
+abbrev pub others_seq : Option ℕ → List Seq → List Seq
+others_seq p [] = []
+others_seq p (s ∷ ss) = if begins_seq p s then ss else s ∷ others_seq p ss
+
+abbrev pub rest_indexes : Option ℕ → List Seq → List ℕ
+rest_indexes p [] = []
+rest_indexes p (s ∷ ss) = if begins_seq p s then s.indexes else rest_indexes p ss
+
+abbrev pub rest_end : Class → Option ℕ → List Seq → Class
+rest_end e p [] = e
+rest_end e p (s ∷ ss) = if begins_seq p s then s.eos else rest_end e p ss
+
+begins-same : (p : Option ℕ) (g : List Item) → begins_seq p (sequence g) ≡ begins p g
+begins-same None g = refl
+begins-same (Some p) [] = refl
+begins-same (Some p) (y ∷ ys) = refl
+
+others-map : (p : Option ℕ) (gs : List (List Item)) → map sequence (others p gs) ≡ others_seq p (map sequence gs)
+others-map p [] = refl
+others-map p (g ∷ gs) = rw (begins-same p g)
+    (elim (begins p g) as (λ b. map sequence (if b then gs else g ∷ others p gs) ≡ (if b then map sequence gs else sequence g ∷ others_seq p (map sequence gs))) [
+      | true ↦ refl
+      | false ↦ ap (λ ss. sequence g ∷ ss) (others-map p gs)
+    ])
+
+continued-indexes : (p : Option ℕ) (gs : List (List Item)) → map (λ (x : Item). x.index) (continued p gs) ≡ rest_indexes p (map sequence gs)
+continued-indexes p [] = refl
+continued-indexes p (g ∷ gs) = rw (begins-same p g)
+    (elim (begins p g) as (λ b. map (λ (x : Item). x.index) (if b then g else continued p gs) ≡ (if b then map (λ (x : Item). x.index) g else rest_indexes p (map sequence gs))) [
+      | true ↦ refl
+      | false ↦ continued-indexes p gs
+    ])
+
+continued-end : (x : Item) (p : Option ℕ) (gs : List (List Item)) → end_type (x ∷ continued p gs) ≡ rest_end (end_type (x ∷ [])) p (map sequence gs)
+continued-end x p [] = refl
+continued-end x None (g ∷ gs) = continued-end x None gs
+continued-end x (Some p) ([] ∷ gs) = continued-end x (Some p) gs
+continued-end x (Some p) ((y ∷ ys) ∷ gs) =
+    elim (p == y.index) as (λ b. end_type (x ∷ (if b then y ∷ ys else continued (Some p) gs)) ≡ (if b then end_type (y ∷ ys) else rest_end (end_type (x ∷ [])) (Some p) (map sequence gs))) [
+      | true ↦ refl
+      | false ↦ continued-end x (Some p) gs
+    ]
+
+-- no sequence begins at an index
+record Absent (p : Option ℕ) (ss : List Seq) : Type 0 where
+  others : others_seq p ss ≡ ss
+  indexes : rest_indexes p ss ≡ []
+  ends : (e : Class) → rest_end e p ss ≡ e
+
+absent-cons : (p : Option ℕ) (s : Seq) (ss : List Seq) → begins_seq p s ≡ false → Absent p ss → Absent p (s ∷ ss)
+absent-cons p s ss e a = record {
+  others = rw e (ap (λ rest. s ∷ rest) a.others);
+  indexes = rw e a.indexes;
+  ends = λ t. rw e (a.ends t);
+}
+
+absent-none : (ss : List Seq) → Absent None ss
+absent-none [] = record { others = refl; indexes = refl; ends = λ e. refl }
+absent-none (s ∷ ss) = absent-cons None s ss refl (absent-none ss)
+
+absent-before : (cs : List Class) (ls : List ℕ) (ks : List Link) (bs : List Bool) (b i p : ℕ) → p < i
+    → Absent (Some p) (gathered b i cs ls ks bs)
+absent-before [] ls ks bs b i p h = record { others = refl; indexes = refl; ends = λ e. refl }
+absent-before (c ∷ cs) [] ks bs b i p h = record { others = refl; indexes = refl; ends = λ e. refl }
+absent-before (c ∷ cs) (l ∷ ls) [] bs b i p h = record { others = refl; indexes = refl; ends = λ e. refl }
+absent-before (c ∷ cs) (l ∷ ls) (k ∷ ks) [] b i p h = record { others = refl; indexes = refl; ends = λ e. refl }
+absent-before (c ∷ cs) (l ∷ ls) (k ∷ ks) (true ∷ bs) b i p h =
+    absent-cons (Some p) (chained b i l k ks) _ (ne_eqb p i (λ e. omega arith)) (absent-before cs ls ks bs (if is_removed c then b else l) (i + 1) p (omega arith))
+absent-before (c ∷ cs) (l ∷ ls) (k ∷ ks) (false ∷ bs) b i p h = absent-before cs ls ks bs (if is_removed c then b else l) (i + 1) p (omega arith)
+
+absent-at : (cs : List Class) (ls : List ℕ) (ks : List Link) (bs : List Bool) (b i j p : ℕ) → p ≡ i + j → get_or bs j false ≡ false
+    → Absent (Some p) (gathered b i cs ls ks bs)
+absent-at [] ls ks bs b i j p at h = record { others = refl; indexes = refl; ends = λ e. refl }
+absent-at (c ∷ cs) [] ks bs b i j p at h = record { others = refl; indexes = refl; ends = λ e. refl }
+absent-at (c ∷ cs) (l ∷ ls) [] bs b i j p at h = record { others = refl; indexes = refl; ends = λ e. refl }
+absent-at (c ∷ cs) (l ∷ ls) (k ∷ ks) [] b i j p at h = record { others = refl; indexes = refl; ends = λ e. refl }
+absent-at (c ∷ cs) (l ∷ ls) (k ∷ ks) (true ∷ bs) b i zero p at h = cc
+absent-at (c ∷ cs) (l ∷ ls) (k ∷ ks) (false ∷ bs) b i zero p at h = absent-before cs ls ks bs (if is_removed c then b else l) (i + 1) p (omega arith)
+absent-at (c ∷ cs) (l ∷ ls) (k ∷ ks) (true ∷ bs) b i (suc j) p at h =
+    absent-cons (Some p) (chained b i l k ks) _ (ne_eqb p i (λ e. omega arith)) (absent-at cs ls ks bs (if is_removed c then b else l) (i + 1) j p (omega arith) h)
+absent-at (c ∷ cs) (l ∷ ls) (k ∷ ks) (false ∷ bs) b i (suc j) p at h = absent-at cs ls ks bs (if is_removed c then b else l) (i + 1) j p (omega arith) h
+
+-- one sequence begins there, and from then on goes on from elsewhere
+record Present (b i p : ℕ) (cs : List Class) (ls : List ℕ) (ks : List Link) (bs after : List Bool) : Type 0 where
+  others : gathered b i cs ls ks after ≡ others_seq (Some p) (gathered b i cs ls ks bs)
+  indexes : rest_indexes (Some p) (gathered b i cs ls ks bs) ≡ chain i (Some p) ks
+  ends : (e : Class) → rest_end e (Some p) (gathered b i cs ls ks bs) ≡ chain_end e i (Some p) ks
+
+present : (cs : List Class) (ls : List ℕ) (ks : List Link) (bs : List Bool) (b i j p : ℕ) → p ≡ i + j
+    → length ls ≡ length cs → length ks ≡ length cs → j < length cs → get_or bs j false ≡ true
+    → Present b i p cs ls ks bs (set bs j false)
+present [] ls ks bs b i j p at same_ls same_ks within h = absurd (omega arith)
+present (c ∷ cs) [] ks bs b i j p at same_ls same_ks within h = absurd (omega arith)
+present (c ∷ cs) (l ∷ ls) [] bs b i j p at same_ls same_ks within h = absurd (omega arith)
+present (c ∷ cs) (l ∷ ls) (k ∷ ks) [] b i j p at same_ls same_ks within h = cc
+present (c ∷ cs) (l ∷ ls) (k ∷ ks) (false ∷ bs) b i zero p at same_ls same_ks within h = cc
+present (c ∷ cs) (l ∷ ls) (k ∷ ks) (true ∷ bs) b i zero p at same_ls same_ks within h =
+    let e : (p == i) ≡ true = eq-eqb p i (omega arith) in
+    record { others = rw e refl; indexes = rw e refl; ends = λ t. rw e refl }
+present (c ∷ cs) (l ∷ ls) (k ∷ ks) (true ∷ bs) b i (suc j) p at same_ls same_ks within h =
+    let e : (p == i) ≡ false = ne_eqb p i (λ q. omega arith) in
+    let r = present cs ls ks bs (if is_removed c then b else l) (i + 1) j p (omega arith) (omega arith) (omega arith) (omega arith) h in
+    record { others = rw e (ap (λ ss. chained b i l k ks ∷ ss) r.others); indexes = rw e r.indexes; ends = λ t. rw e (r.ends t) }
+present (c ∷ cs) (l ∷ ls) (k ∷ ks) (false ∷ bs) b i (suc j) p at same_ls same_ks within h =
+    let e : (p == i) ≡ false = ne_eqb p i (λ q. omega arith) in
+    let r = present cs ls ks bs (if is_removed c then b else l) (i + 1) j p (omega arith) (omega arith) (omega arith) (omega arith) h in
+    record { others = r.others; indexes = rw e r.indexes; ends = λ t. rw e (r.ends t) }
+
+-- what follows an item goes on from it
+record Goes (b i : ℕ) (f next : Option ℕ) (cs : List Class) (ls : List ℕ) (ks : List Link) (bs after : List Bool) : Type 0 where
+  others : gathered b i cs ls ks after ≡ others_seq f (gathered b i cs ls ks bs)
+  indexes : rest_indexes f (gathered b i cs ls ks bs) ≡ chain i next ks
+  ends : (e : Class) → rest_end e f (gathered b i cs ls ks bs) ≡ chain_end e i next ks
+
+abbrev pub Within : ℕ → ℕ → Option ℕ → Type 0
+Within i n None = Unit {0}
+Within i n (Some p) = (i ≤ p) × (p < i + n)
+
+goes : (cs : List Class) (ls : List ℕ) (ks : List Link) (all : List Bool) (b i : ℕ) (f : Option ℕ)
+    → length ls ≡ length cs → length ks ≡ length cs → Within i (length cs) f
+    → Goes b i f (beginning f all) cs ls ks (drop i all) (drop i (without_beginning f all))
+goes cs ls ks all b i None same_ls same_ks within =
+    let a = absent-none (gathered b i cs ls ks (drop i all)) in
+    record { others = sym a.others; indexes = a.indexes; ends = a.ends }
+goes cs ls ks all b i (Some p) same_ls same_ks within =
+    let j = p - i in
+    let at : p ≡ i + j = omega arith in
+    let read : get_or (drop i all) j false ≡ get_or all p false = get_or-drop i all j false ∙ ap (λ q. get_or all q false) (sym at) in
+    elim (cases_Bool (get_or all p false)) [
+      | inl t ↦
+          let after : drop i (set all p false) ≡ set (drop i all) j false = ap (λ q. drop i (set all q false)) at ∙ drop-set-add i all j false in
+          let r = present cs ls ks (drop i all) b i j p at same_ls same_ks (omega arith) (read ∙ t) in
+          record {
+            others = ap (gathered b i cs ls ks) after ∙ r.others;
+            indexes = rw t r.indexes;
+            ends = λ e. rw t (r.ends e);
+          }
+      | inr n ↦
+          let after : set all p false ≡ all = ap (set all p) (sym n) ∙ set-get_or all p false in
+          let a = absent-at cs ls ks (drop i all) b i j p at (read ∙ n) in
+          record {
+            others = ap (λ bs. gathered b i cs ls ks (drop i bs)) after ∙ sym a.others;
+            indexes = rw n a.indexes;
+            ends = λ e. rw n (a.ends e);
+          }
+    ]
+
+-- what follows an item lies behind it
+abbrev pub FirstWithin : ℕ → ℕ → Option First → Type 0
+FirstWithin i n None = Unit {0}
+FirstWithin i n (Some y) = (i ≤ y.index) × (y.index < i + n)
+
+one_more : (i n : ℕ) (o : Option First) → FirstWithin (i + 1) n o → FirstWithin i (suc n) o
+one_more i n None h = tt
+one_more i n (Some y) h = (omega arith, omega arith)
+
+first-within : (base : ℕ) (cs : List Class) (ls : List ℕ) (b i : ℕ) → FirstWithin i (length cs) (first_of (matter base b i cs ls))
+first-within base [] ls b i = tt
+first-within base (c ∷ cs) [] b i = tt
+first-within base (c ∷ cs) (l ∷ ls) b i =
+    elim (is_removed c) as (λ r. FirstWithin i (suc (length cs)) (first_of (if r then matter base b (i + 1) cs ls else item_at base b i c cs l (matter base l (i + 1) cs ls) ∷ matter base l (i + 1) cs ls))) [
+      | true ↦ one_more i (length cs) _ (first-within base cs ls b (i + 1))
+      | false ↦ (omega arith, omega arith)
+    ]
+
+matching-within : (i a n : ℕ) → Within i n (if nat_lt a n then Some (i + a) else None)
+matching-within i a n = elim (cases_Bool (nat_lt a n)) [
+  | inl t ↦ let less : a < n = ltb-true a n t in rw t (omega arith, omega arith)
+  | inr f ↦ rw f tt
+]
+
+partner-within : (i : ℕ) (c : Class) (cs : List Class) → Within (i + 1) (length cs) (partner_of i c cs)
+partner-within i c cs = elim (is_initiator c) as (λ b. Within (i + 1) (length cs) (if b then matching (i + 1) cs else None)) [
+  | true ↦ matching-within (i + 1) (length (content cs)) (length cs)
+  | false ↦ tt
+]
+
+follower-in : (i n l : ℕ) (o : Option First) (partner : Option ℕ) → FirstWithin i n o → Within i n partner → Within i n (follower o l partner)
+follower-in i n l None partner first within = within
+follower-in i n l (Some y) partner first within = elim (l == y.level) as (λ b. Within i n (if b then Some y.index else partner)) [
+  | true ↦ first
+  | false ↦ within
+]
+
+pub follower-within : (base : ℕ) (c : Class) (cs : List Class) (ls : List ℕ) (b i l : ℕ)
+    → Within (i + 1) (length cs) (follower (first_of (matter base b (i + 1) cs ls)) l (partner_of i c cs))
+follower-within base c cs ls b i l =
+    follower-in (i + 1) (length cs) l _ _ (first-within base cs ls b (i + 1)) (partner-within i c cs)
+
+side-is : (xs : List Item) (base : ℕ) (u : Bool) → side (first_of xs) base u ≡ (if u then base else first_level base xs)
+side-is [] base true = refl
+side-is [] base false = refl
+side-is (x ∷ xs) base u = refl
+
+same_seq : (is js : List ℕ) (sos e f : Class) → is ≡ js → e ≡ f
+    → (let a : Seq = record { indexes = is; sos = sos; eos = e } in let b : Seq = record { indexes = js; sos = sos; eos = f } in a ≡ b)
+same_seq is js sos e f p q = cc
+
+-- one class more, which stays in the line
+pub gathered-step : (base before i : ℕ) (c : Class) (cs : List Class) (l : ℕ) (ls : List ℕ) (k : Link) (ks : List Link) (all : List Bool) (f : Option ℕ)
+    → length ls ≡ length cs → length ks ≡ length cs
+    → gathered l (i + 1) cs ls ks (drop (i + 1) all) ≡ sequences_from base l (i + 1) cs ls
+    → is_removed c ≡ false
+    → f ≡ follower (first_of (matter base l (i + 1) cs ls)) l (partner_of i c cs)
+    → k.next ≡ beginning f all
+    → k.eos ≡ direction_of (max l (side (first_of (matter base l (i + 1) cs ls)) base (is_initiator c && is_none (partner_of i c cs))))
+    → gathered before i (c ∷ cs) (l ∷ ls) (k ∷ ks) (true ∷ drop (i + 1) (without_beginning f all)) ≡ sequences_from base before i (c ∷ cs) (l ∷ ls)
+gathered-step base before i c cs l ls k ks all f same_ls same_ks ih stays follows next eos =
+    let xs = matter base l (i + 1) cs ls in
+    let x = item_at base before i c cs l xs in
+    let G = joined (level_runs xs) in
+    let within : Within (i + 1) (length cs) f = rw follows (follower-within base c cs ls l i l) in
+    let g = goes cs ls ks all l (i + 1) f same_ls same_ks within in
+    let one : direction_of (max x.level x.after) ≡ k.eos = sym (eos ∙ ap (λ a. direction_of (max l a)) (side-is xs base (is_initiator c && is_none (partner_of i c cs)))) in
+    let indexes : map (λ (y : Item). y.index) (continued f G) ≡ chain (i + 1) k.next ks =
+    continued-indexes f G ∙ ap (rest_indexes f) (sym ih) ∙ g.indexes ∙ ap (λ n. chain (i + 1) n ks) (sym next) in
+    let ends : end_type (x ∷ continued f G) ≡ chain_end k.eos (i + 1) k.next ks =
+    continued-end x f G ∙ ap (rest_end (end_type (x ∷ [])) f) (sym ih) ∙ g.ends (end_type (x ∷ [])) ∙ ap (λ n. chain_end (end_type (x ∷ [])) (i + 1) n ks) (sym next)
+    ∙ ap (λ e. chain_end e (i + 1) k.next ks) one in
+    let head : sequence (x ∷ continued f G) ≡ chained before i l k ks = same_seq _ _ (direction_of (max l before)) _ _ (ap (λ is. i ∷ is) indexes) ends in
+    let tail : map sequence (others f G) ≡ gathered l (i + 1) cs ls ks (drop (i + 1) (without_beginning f all)) =
+    others-map f G ∙ ap (others_seq f) (sym ih) ∙ sym g.others in
+    let whole : map sequence (joined (level_runs (x ∷ xs))) ≡ chained before i l k ks ∷ gathered l (i + 1) cs ls ks (drop (i + 1) (without_beginning f all)) =
+    ap (map sequence) (joined-step x xs) ∙ ap (λ q. map sequence ((x ∷ continued q G) ∷ others q G)) (sym follows) ∙ ap₂ ◌∷◌ head tail in
+    rw stays (sym whole)
+
+-- links are followed past what lies between
+pub chain-jump : (d : ℕ) (ks : List Link) (i w : ℕ) → w ≡ i + d → d < length ks → chain i (Some w) ks ≡ w ∷ chain (w + 1) (link_at ks d).next (drop (suc d) ks)
+chain-jump zero [] i w at h = absurd (omega arith)
+chain-jump (suc d) [] i w at h = absurd (omega arith)
+chain-jump zero (k ∷ ks) i w at h =
+    let same : w ≡ i = omega arith in
+    rw (same, eq-eqb i i refl) refl
+chain-jump (suc d) (k ∷ ks) i w at h = rw (ne_eqb w i (λ e. omega arith)) (chain-jump d ks (i + 1) w (omega arith) (omega arith))
+
+pub end-jump : (d : ℕ) (ks : List Link) (e : Class) (i w : ℕ) → w ≡ i + d → d < length ks
+    → chain_end e i (Some w) ks ≡ chain_end (link_at ks d).eos (w + 1) (link_at ks d).next (drop (suc d) ks)
+end-jump zero [] e i w at h = absurd (omega arith)
+end-jump (suc d) [] e i w at h = absurd (omega arith)
+end-jump zero (k ∷ ks) e i w at h =
+    let same : w ≡ i = omega arith in
+    rw (same, eq-eqb i i refl) refl
+end-jump (suc d) (k ∷ ks) e i w at h = rw (ne_eqb w i (λ q. omega arith)) (end-jump d ks e (i + 1) w (omega arith) (omega arith))
+
+-- the same from an index of the whole list on
+module _ (ks : List Link) (i w : ℕ) (behind : i < w) (within : w < length ks) where
+  pub chain-on : chain (i + 1) (Some w) (drop (i + 1) ks) ≡ w ∷ chain (w + 1) (link_at ks w).next (drop (w + 1) ks)
+  chain-on =
+      let d = w - (i + 1) in
+      let read : link_at (drop (i + 1) ks) d ≡ link_at ks w = get_or-drop (i + 1) ks d _ ∙ ap (link_at ks) (omega arith) in
+      let left : drop (suc d) (drop (i + 1) ks) ≡ drop (w + 1) ks = drop-drop (suc d) (i + 1) ks ∙ ap (λ n. drop n ks) (omega arith) in
+      chain-jump d (drop (i + 1) ks) (i + 1) w (omega arith) (omega (arith, length-drop (i + 1) ks))
+      ∙ ap₂ (λ k rest. w ∷ chain (w + 1) k.next rest) read left
+
+  pub end-on : (e : Class) → chain_end e (i + 1) (Some w) (drop (i + 1) ks) ≡ chain_end (link_at ks w).eos (w + 1) (link_at ks w).next (drop (w + 1) ks)
+  end-on e =
+      let d = w - (i + 1) in
+      let read : link_at (drop (i + 1) ks) d ≡ link_at ks w = get_or-drop (i + 1) ks d _ ∙ ap (link_at ks) (omega arith) in
+      let left : drop (suc d) (drop (i + 1) ks) ≡ drop (w + 1) ks = drop-drop (suc d) (i + 1) ks ∙ ap (λ n. drop n ks) (omega arith) in
+      end-jump d (drop (i + 1) ks) e (i + 1) w (omega arith) (omega (arith, length-drop (i + 1) ks))
+      ∙ ap₂ (λ k rest. chain_end k.eos (w + 1) k.next rest) read left
+
+-- indexes that ascend from one on, below an end
+abbrev pub Ascends : ℕ → ℕ → List ℕ → Type 0
+Ascends i n [] = Unit {0}
+Ascends i n (x ∷ xs) = (i ≤ x) × (x < n) × Ascends (x + 1) n xs
+
+ascends_from : (i j n : ℕ) (xs : List ℕ) → i ≤ j → Ascends j n xs → Ascends i n xs
+ascends_from i j n [] h a = tt
+ascends_from i j n (x ∷ xs) h a = (omega arith, a.1, a.2)
+
+chain-ascends : (ks : List Link) (i n : ℕ) (next : Option ℕ) → i + length ks ≤ n → Ascends i n (chain i next ks)
+chain-ascends [] i n None h = tt
+chain-ascends [] i n (Some w) h = tt
+chain-ascends (k ∷ ks) i n None h = tt
+chain-ascends (k ∷ ks) i n (Some w) h =
+    elim (w == i) as (λ b. Ascends i n (if b then i ∷ chain (i + 1) k.next ks else chain (i + 1) (Some w) ks)) [
+      | true ↦ (omega arith, omega arith, chain-ascends ks (i + 1) n k.next (omega arith))
+      | false ↦ ascends_from i (i + 1) n _ (omega arith) (chain-ascends ks (i + 1) n (Some w) (omega arith))
+    ]
+
+pub gathered-ascends : (cs : List Class) (ls : List ℕ) (ks : List Link) (bs : List Bool) (b i n : ℕ) → i + length ks ≤ n
+    → (j : ℕ) (d : Seq) → j < length (gathered b i cs ls ks bs) → Ascends 0 n (get_or (gathered b i cs ls ks bs) j d).indexes
+gathered-ascends [] ls ks bs b i n h j d within = absurd (omega arith)
+gathered-ascends (c ∷ cs) [] ks bs b i n h j d within = absurd (omega arith)
+gathered-ascends (c ∷ cs) (l ∷ ls) [] bs b i n h j d within = absurd (omega arith)
+gathered-ascends (c ∷ cs) (l ∷ ls) (k ∷ ks) [] b i n h j d within = absurd (omega arith)
+gathered-ascends (c ∷ cs) (l ∷ ls) (k ∷ ks) (true ∷ bs) b i n h zero d within = (omega arith, omega arith, chain-ascends ks (i + 1) n k.next (omega arith))
+gathered-ascends (c ∷ cs) (l ∷ ls) (k ∷ ks) (true ∷ bs) b i n h (suc j) d within = gathered-ascends cs ls ks bs (if is_removed c then b else l) (i + 1) n (omega arith) j d (omega arith)
+gathered-ascends (c ∷ cs) (l ∷ ls) (k ∷ ks) (false ∷ bs) b i n h j d within = gathered-ascends cs ls ks bs (if is_removed c then b else l) (i + 1) n (omega arith) j d within
+
+-- the same by places
+pub ascends-below : (i n : ℕ) (xs : List ℕ) → Ascends i n xs → All (λ x. x < n) xs
+ascends-below i n [] a = λ k d h. absurd (omega arith)
+ascends-below i n (x ∷ xs) a = λ k d h. elim k as (λ k. k < suc (length xs) → get_or (x ∷ xs) k d < n) [
+  | zero ↦ λ _. a.1
+  | suc k ↦ λ h. ascends-below (x + 1) n xs a.2 k d (omega arith)
+] h
+
+above : (i n : ℕ) (xs : List ℕ) → Ascends i n xs → All (λ x. i ≤ x) xs
+above i n [] a = λ k d h. absurd (omega arith)
+above i n (x ∷ xs) a = λ k d h. elim k as (λ k. k < suc (length xs) → i ≤ get_or (x ∷ xs) k d) [
+  | zero ↦ λ _. a.0
+  | suc k ↦ λ h. let more : x + 1 ≤ get_or xs k d = above (x + 1) n xs a.2 k d (omega arith) in omega arith
+] h
+
+pub ascends-pairs : (i n : ℕ) (xs : List ℕ) → Ascends i n xs → (k j d : ℕ) → k < j → j < length xs → get_or xs k d < get_or xs j d
+ascends-pairs i n [] a k j d h within = absurd (omega arith)
+ascends-pairs i n (x ∷ xs) a zero zero d h within = absurd (omega arith)
+ascends-pairs i n (x ∷ xs) a (suc k) zero d h within = absurd (omega arith)
+ascends-pairs i n (x ∷ xs) a zero (suc j) d h within =
+    let more : x + 1 ≤ get_or xs j d = above (x + 1) n xs a.2 j d (omega arith) in omega arith
+ascends-pairs i n (x ∷ xs) a (suc k) (suc j) d h within = ascends-pairs (x + 1) n xs a.2 k j d (omega arith) (omega arith)

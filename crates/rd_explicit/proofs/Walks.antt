@@ -1,0 +1,18 @@
+-- One step of a walk over a line.
+use Rattle.std.proofs.Common.{◌≡◌, ℕ, ◌+◌, ◌<◌, ◌≤◌, Bool, false, List, [], ◌∷◌, ◌++◌, length, take, drop, set, slice_get, Some, refl, ap, sym, ◌∙◌, arith}
+use Rattle.std.proofs.lemmas.List.{drop_more, take_more_set, append_assoc, set-get_or}
+use Rattle.std.proofs.lemmas.Option.{get_or_from_slice_get}
+
+-- an element that was read heads what is left
+pub drop-read : {X : Type 0} (xs : List X) (i : ℕ) (x : X) → i < length xs → slice_get xs i ≡ Some x → drop i xs ≡ x ∷ drop (i + 1) xs
+drop-read xs i x within read = drop_more xs i x within ∙ ap (λ y. y ∷ drop (i + 1) xs) (get_or_from_slice_get xs i x x read)
+
+-- what is done and what is left, after one more write
+pub written : {X : Type 0} (xs : List X) (i : ℕ) (y : X) (rest all : List X) → i < length xs
+    → take i xs ++ y ∷ rest ≡ all → take (i + 1) (set xs i y) ++ rest ≡ all
+written xs i y rest all within same =
+    ap (λ front. front ++ rest) (take_more_set xs i y within) ∙ append_assoc (take i xs) (y ∷ []) rest ∙ same
+
+-- a place that is false already
+pub unset-same : (bs : List Bool) (i : ℕ) (b : Bool) → slice_get bs i ≡ Some b → b ≡ false → bs ≡ set bs i false
+unset-same bs i b read is = sym (ap (set bs i) (sym is ∙ sym (get_or_from_slice_get bs i b false read)) ∙ set-get_or bs i false)

@@ -1,0 +1,6 @@
+use Rattle.rd_explicit.proofs.Walks.{unset-same}
+use Rattle.rd_explicit.proofs.Chains.{starts}
+use Rattle.rd_explicit.proofs.links.Links.join.Goals as goal
+
+pub returns-else-at-clause-begins : goal.returns-else-at-clause-begins
+returns-else-at-clause-begins c = rw c.in-Some.is (unset-same c.args.self.now.begins c.in-Some.f c.at.result c.at.ensures c.if-at.false)

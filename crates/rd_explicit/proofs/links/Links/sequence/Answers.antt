@@ -1,0 +1,31 @@
+use Rattle.std.proofs.Common.{◌≡◌, ◌++◌, ◌+◌, ◌∷◌, [], Some, drop, ap, sym, ◌∙◌}
+use Rattle.rd_explicit.specs.Links.{chain, chain_end, link_at}
+use Rattle.rd_explicit.proofs.Joining.{link-leads, chain-step, end-step, chain-stop, end-stop}
+use Rattle.rd_explicit.specs.declared.links.Link.{Link}
+use Rattle.rd_explicit.proofs.links.Links.sequence.Goals as goal
+
+some_told : (a b : Link) → Some a ≡ Some b → a ≡ b
+some_told a b e = cc
+
+pub loop-at-preserved : goal.loop-at-preserved
+loop-at-preserved c =
+    let ks = c.args.self.now.links in
+    let next = c.in-Some.next in
+    let inv = c.loop-at.invariant in
+    record {
+      within = (link-leads ks c.loop-at.at c.at.result c.at.ensures c.requires.leads inv.within next c.in-Some.is).1;
+      indexes = rw c.in_ok-push-2.ensures.ok (chain-step ks c.loop-at.at c.at.result c.at.ensures c.requires.leads inv.within next c.loop-at.indexes _ c.in-Some.is inv.indexes);
+      eos = end-step ks c.loop-at.at c.at.result c.at.ensures c.requires.leads inv.within next _ c.in-Some.is inv.eos;
+    }
+
+pub returns-clause-indexes : goal.returns-clause-indexes
+returns-clause-indexes c =
+    let ks = c.args.self.now.links in
+    chain-stop ks c.loop-at.at c.at.result c.at.ensures c.requires.leads c.loop-at.invariant.within c.loop-at.indexes _ c.in_default.is c.loop-at.invariant.indexes
+
+pub returns-clause-eos : goal.returns-clause-eos
+returns-clause-eos c =
+    let ks = c.args.self.now.links in
+    let inv = c.loop-at.invariant in
+    let same : c.at.result ≡ c.at-2.result = some_told _ _ (sym c.at.ensures ∙ c.at-2.ensures) in
+    end-stop ks c.loop-at.at c.at-2.result c.at-2.ensures c.requires.leads inv.within _ (ap (λ (k : Link). k.next) (sym same) ∙ c.in_default.is) inv.eos

@@ -1,0 +1,22 @@
+-- The matching of isolates by nesting (UAX 9 BD9).
+use Rattle.std.specs.Prelude.{ℕ, zero, suc, ◌+◌, Bool, if◌then◌else◌, nat_lt, List, [], ◌∷◌, length, Option, None, Some}
+use Rattle.rd_base.specs.declared.class.Class.{Class}
+use Rattle.rd_base.specs.declared.class.Class.TheVariants.{LRI, RLI, FSI, PDI}
+
+-- the classes before the PDI that closes what is open, so many isolates inside it; all classes, where there is no such PDI
+abbrev pub inside : List Class → ℕ → List Class
+inside [] depth = []
+inside (PDI ∷ cs) zero = []
+inside (PDI ∷ cs) (suc depth) = PDI ∷ inside cs depth
+inside (LRI ∷ cs) depth = LRI ∷ inside cs (suc depth)
+inside (RLI ∷ cs) depth = RLI ∷ inside cs (suc depth)
+inside (FSI ∷ cs) depth = FSI ∷ inside cs (suc depth)
+inside (c ∷ cs) depth = c ∷ inside cs depth
+
+-- what an isolate initiator isolates, of the classes after it
+abbrev pub content : List Class → List Class
+content cs = inside cs zero
+
+-- the index of the PDI that matches an isolate initiator, where the class after the initiator has index i
+abbrev pub matching : ℕ → List Class → Option ℕ
+matching i cs = if nat_lt (length (content cs)) (length cs) then Some (i + length (content cs)) else None

@@ -1,0 +1,5 @@
+pub mod Explicit
+pub mod Follow
+pub mod Isolates
+pub mod Links
+pub mod Sequences

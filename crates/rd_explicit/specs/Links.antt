@@ -1,0 +1,99 @@
+-- How the walk from a line's end keeps the isolating run sequences: for each index whether a sequence begins there, and the next
+-- index of the sequence that it is in.
+use Rattle.std.specs.Prelude.{◌≡◌, ℕ, zero, suc, ◌+◌, ◌<◌, ◌==◌, max, Bool, true, false, if◌then◌else◌, List, [], ◌∷◌, length, map, drop, reverse, Option, None, Some, IfSome, slice_index_or, slice_set}
+use Rattle.rd_base.specs.Classes.{is_removed, direction_of}
+use Rattle.rd_base.specs.declared.class.Class.{Class}
+use Rattle.rd_base.specs.declared.class.Class.TheVariants.{L, LRI, RLI, FSI, PDI}
+use Rattle.rd_base.specs.declared.line.Seq.{Seq}
+use Rattle.rd_explicit.specs.Sequences.{Item, matter, level_runs, joined, sequence, partner_of}
+use Rattle.rd_explicit.specs.declared.links.Link.{Link}
+use Rattle.rd_explicit.specs.declared.links.First.{First}
+use Rattle.rd_explicit.specs.declared.links.Links.{Links}
+
+-- the indexes from one on, along the links of the indexes from i on
+abbrev pub chain : ℕ → Option ℕ → List Link → List ℕ
+chain i None ks = []
+chain i (Some w) [] = []
+chain i (Some w) (k ∷ ks) = if w == i then i ∷ chain (i + 1) k.next ks else chain (i + 1) (Some w) ks
+
+-- the type at the end of a sequence that goes on so, eos being the type if it doesn't go on
+abbrev pub chain_end : Class → ℕ → Option ℕ → List Link → Class
+chain_end eos i None ks = eos
+chain_end eos i (Some w) [] = eos
+chain_end eos i (Some w) (k ∷ ks) = if w == i then chain_end k.eos (i + 1) k.next ks else chain_end eos (i + 1) (Some w) ks
+
+-- the sequence that begins at index i
+abbrev pub chained : ℕ → ℕ → ℕ → Link → List Link → Seq
+chained before i l k ks = record {
+  indexes = i ∷ chain (i + 1) k.next ks;
+  sos = direction_of (max l before);
+  eos = chain_end k.eos (i + 1) k.next ks;
+}
+
+-- the sequences that begin from index i on
+abbrev pub gathered : ℕ → ℕ → List Class → List ℕ → List Link → List Bool → List Seq
+gathered before i [] ls ks bs = []
+gathered before i (c ∷ cs) [] ks bs = []
+gathered before i (c ∷ cs) (l ∷ ls) [] bs = []
+gathered before i (c ∷ cs) (l ∷ ls) (k ∷ ks) [] = []
+gathered before i (c ∷ cs) (l ∷ ls) (k ∷ ks) (b ∷ bs) =
+    if b then chained before i l k ks ∷ gathered (if is_removed c then before else l) (i + 1) cs ls ks bs
+    else gathered (if is_removed c then before else l) (i + 1) cs ls ks bs
+
+-- the sequences of the items from index i on
+abbrev pub sequences_from : ℕ → ℕ → ℕ → List Class → List ℕ → List Seq
+sequences_from base before i cs ls = map sequence (joined (level_runs (matter base before i cs ls)))
+
+-- the indexes of the PDIs that no initiator of these classes matches, the first one first
+abbrev pub tail_of : List ℕ → List ℕ
+tail_of [] = []
+tail_of (p ∷ ps) = ps
+
+abbrev pub unmatched : ℕ → List Class → List ℕ
+unmatched i [] = []
+unmatched i (PDI ∷ cs) = i ∷ unmatched (i + 1) cs
+unmatched i (LRI ∷ cs) = tail_of (unmatched (i + 1) cs)
+unmatched i (RLI ∷ cs) = tail_of (unmatched (i + 1) cs)
+unmatched i (FSI ∷ cs) = tail_of (unmatched (i + 1) cs)
+unmatched i (c ∷ cs) = unmatched (i + 1) cs
+
+abbrev pub first_of : List Item → Option First
+first_of [] = None
+first_of (x ∷ xs) = Some (record { index = x.index; level = x.level })
+
+-- each link leads on, and not beyond the line
+abbrev pub LeadsOn : ℕ → List Link → Type 0
+LeadsOn n ks = (i : ℕ) (d : Link) → i < length ks → IfSome (slice_index_or ks i d).next (λ w. (i < w) × (w < n))
+
+abbrev pub link_at : List Link → ℕ → Link
+link_at ks i = slice_index_or ks i (record { next = None; eos = L })
+
+-- the sequence that begins at index i, with a type at its start
+abbrev pub seq_at : List Link → ℕ → Class → Seq
+seq_at ks i sos = record {
+  indexes = i ∷ chain (i + 1) (link_at ks i).next (drop (i + 1) ks);
+  sos = sos;
+  eos = chain_end (link_at ks i).eos (i + 1) (link_at ks i).next (drop (i + 1) ks);
+}
+
+-- an index where a sequence begins there
+abbrev pub beginning : Option ℕ → List Bool → Option ℕ
+beginning None bs = None
+beginning (Some f) bs = if slice_index_or bs f false then Some f else None
+
+-- no sequence begins at an index any more
+abbrev pub without_beginning : Option ℕ → List Bool → List Bool
+without_beginning None bs = bs
+without_beginning (Some f) bs = slice_set bs f false
+
+-- all but the PDIs that wait is as it was
+pub record KeepsLinks (old new : Links) : Type 0 where
+  pub begins : new.begins ≡ old.begins
+  pub links : new.links ≡ old.links
+  pub first : new.first ≡ old.first
+
+-- what is kept once the classes from index i on are done
+pub record Joins (base i : ℕ) (cs : List Class) (ls : List ℕ) (s : Links) : Type 0 where
+  pub sequences : (before : ℕ) → gathered before i cs ls (drop i s.links) (drop i s.begins) ≡ sequences_from base before i cs ls
+  pub first : (before : ℕ) → first_of (matter base before i cs ls) ≡ s.first
+  pub pdis : s.pdis ≡ reverse (unmatched i cs)

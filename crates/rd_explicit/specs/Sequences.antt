@@ -1,0 +1,102 @@
+-- Isolating run sequences (UAX 9, BD7, BD13, X9, X10).
+use Rattle.std.specs.Prelude.{ℕ, ◌+◌, ◌==◌, max, Bool, true, false, ◌&&◌, if◌then◌else◌, List, [], ◌∷◌, ◌++◌, map, Option, None, Some, is_none}
+use Rattle.rd_base.specs.Classes.{is_removed, is_initiator, direction_of}
+use Rattle.rd_base.specs.declared.class.Class.{Class}
+use Rattle.rd_base.specs.declared.class.Class.TheVariants.{L}
+use Rattle.rd_base.specs.declared.line.Seq.{Seq}
+use Rattle.rd_explicit.specs.Isolates.{matching}
+
+-- An item of what X9 leaves of a line: its index and level; where its matching PDI is, if it is an isolate initiator that has one
+-- (BD9); and the levels that X10 looks at beside it. Before it that is the level of the item before it, or the base where there is
+-- none. After it that is the level of the item after it, or the base where there is none or it is an unmatched initiator.
+pub record Item : Type 0 where
+  pub index : ℕ
+  pub level : ℕ
+  pub partner : Option ℕ
+  pub before : ℕ
+  pub after : ℕ
+
+-- where the PDI is that matches a class at an index, the classes after it being cs
+abbrev pub partner_of : ℕ → Class → List Class → Option ℕ
+partner_of i c cs = if is_initiator c then matching (i + 1) cs else None
+
+-- the level of the first item, or the base
+abbrev pub first_level : ℕ → List Item → ℕ
+first_level base [] = base
+first_level base (x ∷ xs) = x.level
+
+abbrev pub item_at : ℕ → ℕ → ℕ → Class → List Class → ℕ → List Item → Item
+item_at base before i c cs level xs = record {
+  index = i;
+  level = level;
+  partner = partner_of i c cs;
+  before = before;
+  after = if is_initiator c && is_none (partner_of i c cs) then base else first_level base xs;
+}
+
+-- X9: the items of the classes and levels from index i on, the item before them having a level or there being none and the base
+-- in its place
+abbrev pub matter : ℕ → ℕ → ℕ → List Class → List ℕ → List Item
+matter base before i [] ls = []
+matter base before i (c ∷ cs) [] = []
+matter base before i (c ∷ cs) (l ∷ ls) =
+    if is_removed c then matter base before (i + 1) cs ls
+    else item_at base before i c cs l (matter base l (i + 1) cs ls) ∷ matter base l (i + 1) cs ls
+
+-- BD7: an item belongs to the run after it where that has its level
+abbrev pub has_level : ℕ → List Item → Bool
+has_level l [] = false
+has_level l (y ∷ ys) = l == y.level
+
+abbrev pub with_item : Item → List (List Item) → List (List Item)
+with_item x [] = (x ∷ []) ∷ []
+with_item x (r ∷ rs) = if has_level x.level r then (x ∷ r) ∷ rs else (x ∷ []) ∷ r ∷ rs
+
+abbrev pub level_runs : List Item → List (List Item)
+level_runs [] = []
+level_runs (x ∷ xs) = with_item x (level_runs xs)
+
+-- where the PDI is that matches the last item of a run
+abbrev pub last_partner : List Item → Option ℕ
+last_partner [] = None
+last_partner (x ∷ []) = x.partner
+last_partner (x ∷ y ∷ ys) = last_partner (y ∷ ys)
+
+-- whether a run or a sequence begins with the item at an index
+abbrev pub begins : Option ℕ → List Item → Bool
+begins None r = false
+begins (Some p) [] = false
+begins (Some p) (y ∷ ys) = p == y.index
+
+-- of these sequences the one that begins with the item at an index, and the others
+abbrev pub continued : Option ℕ → List (List Item) → List Item
+continued p [] = []
+continued p (s ∷ ss) = if begins p s then s else continued p ss
+
+abbrev pub others : Option ℕ → List (List Item) → List (List Item)
+others p [] = []
+others p (s ∷ ss) = if begins p s then ss else s ∷ others p ss
+
+-- BD13: a run whose last item is an isolate initiator goes before the run that begins with the matching PDI. The sequences are in
+-- the order of their first items.
+abbrev pub joined : List (List Item) → List (List Item)
+joined [] = []
+joined (run ∷ runs) = (run ++ continued (last_partner run) (joined runs)) ∷ others (last_partner run) (joined runs)
+
+-- X10: the type at the end of a sequence
+abbrev pub end_type : List Item → Class
+end_type [] = L
+end_type (x ∷ []) = direction_of (max x.level x.after)
+end_type (x ∷ y ∷ ys) = end_type (y ∷ ys)
+
+-- X10: the type at its start
+abbrev pub start_type : List Item → Class
+start_type [] = L
+start_type (x ∷ xs) = direction_of (max x.level x.before)
+
+abbrev pub sequence : List Item → Seq
+sequence xs = record { indexes = map (λ x. x.index) xs; sos = start_type xs; eos = end_type xs }
+
+-- the isolating run sequences of a line
+abbrev pub sequences_of : ℕ → List Class → List ℕ → List Seq
+sequences_of base cs ls = map sequence (joined (level_runs (matter base base 0 cs ls)))

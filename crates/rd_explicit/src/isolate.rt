@@ -1,0 +1,25 @@
+//! What an isolate isolates (UAX 9 BD9, X5c).
+ghost use Rattle.std.specs.Prelude.{◌≡◌, ◌<◌, ◌^◌, length};
+ghost use Rattle.rd_explicit.specs.Explicit.{starts_right};
+
+use rd_base::Class;
+
+/// Whether the first L, R or AL of what an FSI isolates, outside further isolates, is R or AL (X5c). `rest` are the classes after
+/// the FSI. It reads no further than that character or the matching PDI.
+pub fn starts_right(rest: &[Class]) -> bool
+    requires { length rest.now < 2 ^ 32 }
+    ensures { result ≡ starts_right rest.now }
+{
+    let mut depth = 0u32;
+    for class in rest {
+        match *class {
+            Class::L if depth == 0 => return false,
+            Class::R | Class::AL if depth == 0 => return true,
+            Class::LRI | Class::RLI | Class::FSI => depth += 1,
+            Class::PDI if depth == 0 => return false,
+            Class::PDI => depth -= 1,
+            _ => {}
+        }
+    }
+    false
+}

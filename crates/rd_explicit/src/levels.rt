@@ -1,0 +1,30 @@
+//! Rules X1 to X8 of UAX 9 over a line.
+ghost use Rattle.std.specs.Prelude.{◌≡◌, ◌≤◌, All};
+ghost use Rattle.rd_base.specs.Lines.{KeepsClasses};
+ghost use Rattle.rd_explicit.specs.Explicit.{explicit_of, levels_of, types_of};
+
+use crate::state::State;
+use rd_base::Line;
+
+/// Gives each character of a line its explicit level and type (UAX 9, rules X1 to X8). What rule X9 takes out keeps its class as
+/// type and has the base as level. No level is above 125.
+///
+/// One walk, with a stack of fixed room. Where nothing has overflowed, an FSI looks ahead up to the first strong character of what
+/// it isolates. Since at most 125 such isolates lie within each other, the cost is linear in the line.
+pub fn explicit(line: &mut Line)
+    requires { line.old.types ≡ line.old.classes }
+    ensures levels { line.new.levels ≡ levels_of (explicit_of line.old.base line.old.classes) }
+    ensures types { line.new.types ≡ types_of (explicit_of line.old.base line.old.classes) }
+    ensures rest { KeepsClasses line.old line.new }
+    ensures low { All (λ l. l ≤ 125) line.new.levels }
+{
+    let base = line.base;
+    let mut state = State::new(base);
+    for i in 0..line.len() {
+        let class = line.classes.at(i);
+        let (_, rest) = line.classes.as_slice().split_at(i + 1);
+        let given = state.step(base, class, rest);
+        line.set_level(i, given.level);
+        line.set_type(i, given.class);
+    }
+}

@@ -1,0 +1,98 @@
+//! The directional status stack of UAX 9, section 3.3.2.
+ghost use Rattle.std.specs.Prelude.{◌≡◌, ◌<◌, ◌≤◌, ◌+◌, ◌∷◌, [], length};
+ghost use Rattle.rd_explicit.specs.Explicit.{top, below_isolate, below_embedding};
+
+use rd_base::Class;
+use std::marker::Model;
+
+/// A level with the type that an override gives, where there is one, and whether an isolate made the entry.
+#[derive(Clone, Copy)]
+pub struct Entry {
+    pub level: u8,
+    pub direction: Option<Class>,
+    pub isolate: bool,
+}
+
+/// The stack, in the room of a fixed array. Contracts see the list of its entries, the last one first.
+#[derive(Drop)]
+pub struct Stack {
+    entries: [Entry; 127],
+    depth: usize,
+}
+
+impl Model for Stack {
+    ghost use Rattle.std.specs.Prelude.{◌≡◌, ◌<◌, ◌≤◌, List, length, take, reverse};
+    ghost use Rattle.rd_explicit.specs.declared.stack.Entry.{Entry};
+
+    ghost Value = { List Entry };
+
+    ghost view = { λ s. reverse (take s.depth s.entries) };
+
+    ghost invariant = { λ s. (0 < s.depth) × (s.depth ≤ 127) × (length s.entries ≡ 127) };
+}
+
+impl Stack {
+    /// A stack of one entry.
+    pub fn new(entry: Entry) -> Stack
+        ensures { result ≡ entry ∷ [] }
+    {
+        Stack {
+            entries: [entry; 127],
+            depth: 1,
+        }
+    }
+
+    /// How many entries there are, at least one.
+    pub fn len(&self) -> usize
+        ensures len { result ≡ length self.now }
+        ensures some { 0 < result }
+    {
+        self.depth
+    }
+
+    /// The last entry.
+    pub fn top(&self) -> Entry
+        ensures { result ≡ top self.now }
+    {
+        self.entries[self.depth - 1]
+    }
+
+    /// Adds an entry.
+    pub fn push(&mut self, entry: Entry)
+        requires { length self.old < 127 }
+        ensures { self.new ≡ entry ∷ self.old }
+    {
+        self.entries[self.depth] = entry;
+        self.depth += 1;
+    }
+
+    /// Takes the last entry away.
+    pub fn pop(&mut self) -> Entry
+        requires { 1 < length self.old }
+        ensures { self.old ≡ result ∷ self.new }
+    {
+        self.depth -= 1;
+        self.entries[self.depth]
+    }
+
+    /// Takes the entries above the topmost isolate and that isolate away. The first entry always stays.
+    pub fn close_isolate(&mut self)
+        ensures { self.new ≡ below_isolate self.old }
+    {
+        while self.len() > 1 {
+            let entry = self.pop();
+            if entry.isolate {
+                return;
+            }
+        }
+    }
+
+    /// Takes the last entry away, unless it is an isolate or the only one.
+    pub fn close_embedding(&mut self)
+        ensures { self.new ≡ below_embedding self.old }
+    {
+        if self.len() > 1 && !self.top().isolate {
+            self.pop();
+        }
+    }
+}
