@@ -1,0 +1,43 @@
+-- One step of a walk over a sequence of a line.
+use Rattle.std.proofs.Common.{◌≡◌, ◌≢◌, ℕ, zero, suc, ◌+◌, ◌<◌, ◌≤◌, List, [], ◌∷◌, ◌++◌, length, map, drop, set, get_or, slice_get, Some, All, AllPairs, refl, ap, ap₂, sym, ◌∙◌, arith}
+use Rattle.std.proofs.lemmas.List.{drop_more, drop_all, get_or-drop, get_or-set_other, length-drop}
+use Rattle.std.proofs.lemmas.Option.{get_or_from_slice_get}
+use Rattle.rd_base.specs.declared.class.Class.{Class}
+use Rattle.rd_base.specs.declared.class.Class.TheVariants.{L}
+use Rattle.rd_resolve.specs.Places.{types_at, levels_at, put_at}
+
+types_apart : (js : List ℕ) (ts : List Class) (i : ℕ) (v : Class) → ((m : ℕ) → m < length js → get_or js m 0 ≢ i) → types_at js (set ts i v) ≡ types_at js ts
+types_apart [] ts i v apart = refl
+types_apart (j ∷ js) ts i v apart =
+    ap₂ ◌∷◌ (get_or-set_other ts i j v L (apart 0 (omega arith))) (types_apart js ts i v (λ m h. apart (suc m) (omega arith)))
+
+module _ (is : List ℕ) (k i : ℕ) (within : k < length is) (read : slice_get is k ≡ Some i) where
+  at_place : drop k is ≡ i ∷ drop (k + 1) is
+  at_place = drop_more is k i within ∙ ap (λ j. j ∷ drop (k + 1) is) (get_or_from_slice_get is k i i read)
+
+  -- what is left begins with the type, and the level, that was read
+  pub types-read : (ts : List Class) (c : Class) → slice_get ts i ≡ Some c → types_at (drop k is) ts ≡ c ∷ types_at (drop (k + 1) is) ts
+  types-read ts c here = rw at_place (ap (λ t. t ∷ types_at (drop (k + 1) is) ts) (get_or_from_slice_get ts i c L here))
+
+  pub levels-read : (ls : List ℕ) (l : ℕ) → slice_get ls i ≡ Some l → levels_at (drop k is) ls ≡ l ∷ levels_at (drop (k + 1) is) ls
+  levels-read ls l here = rw at_place (ap (λ t. t ∷ levels_at (drop (k + 1) is) ls) (get_or_from_slice_get ls i l 0 here))
+
+  -- a write leaves the types behind it
+  pub types-kept : AllPairs (λ a b. a < b) is → (ts : List Class) (v : Class) → types_at (drop (k + 1) is) (set ts i v) ≡ types_at (drop (k + 1) is) ts
+  types-kept ascend ts v = types_apart (drop (k + 1) is) ts i v (λ m h e.
+      let here : get_or is k 0 ≡ i = get_or_from_slice_get is k i 0 read in
+      let there : get_or (drop (k + 1) is) m 0 ≡ get_or is (k + 1 + m) 0 = get_or-drop (k + 1) is m 0 in
+      let inside : k + 1 + m < length is = omega (arith, length-drop (k + 1) is) in
+      let below : get_or is k 0 < get_or is (k + 1 + m) 0 = ascend k (k + 1 + m) 0 (omega arith) inside in
+      omega arith)
+
+  pub put-step : (v : Class) (vs ts : List Class) → put_at (drop k is) (v ∷ vs) ts ≡ put_at (drop (k + 1) is) vs (set ts i v)
+  put-step v vs ts = rw at_place refl
+
+-- the indexes behind lie within the line too
+pub behind-within : (is : List ℕ) (k n : ℕ) → All (λ i. i < n) is → All (λ i. i < n) (drop k is)
+behind-within is k n within = λ m d h. rw (get_or-drop k is m d) (within (k + m) d (omega (arith, length-drop k is)))
+
+-- at the end nothing is left
+pub put-end : (is : List ℕ) (k : ℕ) (vs ts : List Class) → length is ≤ k → put_at (drop k is) vs ts ≡ ts
+put-end is k vs ts past = rw (drop_all k is past) refl

@@ -1,0 +1,71 @@
+-- Steps of the walks over a line's levels.
+use Rattle.std.proofs.Common.{◌≡◌, ℕ, ◌+◌, ◌<◌, ◌≤◌, Bool, true, false, ◌||◌, ◌&&◌, if◌then◌else◌, List, [], ◌∷◌, ◌++◌, length, take, drop, set, get_or, slice_get, Some, All, refl, ap, ap₂, sym, ◌∙◌, add-zero, arith}
+use Rattle.std.proofs.lemmas.List.{drop_more, drop-set, drop-set-lt, drop-drop, take_more_set, take-set, take-take, get_or-drop, get_or-take, append_assoc}
+use Rattle.std.proofs.lemmas.Option.{get_or_from_slice_get}
+use Rattle.rd_base.specs.Classes.{is_removed}
+use Rattle.rd_base.specs.declared.class.Class.{Class}
+use Rattle.rd_resolve.specs.Implicit.{raised, i1_i2, kept, is_separator, is_white, resets, l1}
+
+drop-read : {X : Type 0} (xs : List X) (i : ℕ) (x : X) → i < length xs → slice_get xs i ≡ Some x → drop i xs ≡ x ∷ drop (i + 1) xs
+drop-read xs i x within read = drop_more xs i x within ∙ ap (λ y. y ∷ drop (i + 1) xs) (get_or_from_slice_get xs i x x read)
+
+front : (xs : List ℕ) (i : ℕ) → get_or (drop i xs) 0 0 ≡ get_or xs i 0
+front xs i = get_or-drop i xs 0 0 ∙ ap (λ j. get_or xs j 0) (add-zero i)
+
+pub bounded : (xs ys : List ℕ) (i r : ℕ) → All (λ l. l ≤ 125) ys → drop i xs ≡ drop i ys → i < length ys → slice_get xs i ≡ Some r → r ≤ 125
+bounded xs ys i r all same within read =
+    let low : get_or ys i 0 ≤ 125 = all i 0 within in
+    let e : r ≡ get_or ys i 0 = sym (get_or_from_slice_get xs i r 0 read) ∙ sym (front xs i) ∙ ap (λ zs. get_or zs 0 0) same ∙ front ys i in
+    omega arith
+
+pub left-on : (xs ys : List ℕ) (i v : ℕ) → drop i xs ≡ drop i ys → drop (i + 1) (set xs i v) ≡ drop (i + 1) ys
+left-on xs ys i v same = drop-set-lt (i + 1) xs i v (omega arith) ∙ sym (drop-drop 1 i xs) ∙ ap (drop 1) same ∙ drop-drop 1 i ys
+
+kept-step : (before own : ℕ) (c : Class) (cs : List Class) (ls : List ℕ) (v : ℕ) → v ≡ (if is_removed c then before else own)
+    → kept before (c ∷ cs) (own ∷ ls) ≡ v ∷ kept v cs ls
+kept-step before own c cs ls v e = rw e (elim (is_removed c) as (λ b. (if b then before ∷ kept before cs ls else own ∷ kept own cs ls) ≡ (if b then before else own) ∷ kept (if b then before else own) cs ls) [
+  | true ↦ refl
+  | false ↦ refl
+])
+
+pub raise-step : (before v i : ℕ) (cs ts : List Class) (ls all : List ℕ) (c t : Class) (l : ℕ)
+    → i < length cs → length ts ≡ length cs → length ls ≡ length cs
+    → slice_get cs i ≡ Some c → slice_get ts i ≡ Some t → slice_get ls i ≡ Some l
+    → v ≡ (if is_removed c then before else raised l t)
+    → take i ls ++ kept before (drop i cs) (i1_i2 (drop i ts) (drop i ls)) ≡ all
+    → take (i + 1) (set ls i v) ++ kept v (drop (i + 1) cs) (i1_i2 (drop (i + 1) ts) (drop (i + 1) ls)) ≡ all
+raise-step before v i cs ts ls all c t l within same_ts same_ls read_c read_t read_l e h =
+    let at_cs = drop-read cs i c within read_c in
+    let at_ts = drop-read ts i t (omega arith) read_t in
+    let at_ls = drop-read ls i l (omega arith) read_l in
+    let whole : kept before (drop i cs) (i1_i2 (drop i ts) (drop i ls)) ≡ v ∷ kept v (drop (i + 1) cs) (i1_i2 (drop (i + 1) ts) (drop (i + 1) ls)) =
+    rw (at_cs, at_ts, at_ls) (kept-step before (raised l t) c (drop (i + 1) cs) _ v e) in
+    let fits : i < length ls = omega arith in
+    ap (λ f. f ++ kept v (drop (i + 1) cs) (i1_i2 (drop (i + 1) ts) (drop (i + 1) ls))) (take_more_set ls i v fits)
+    ∙ append_assoc (take i ls) (v ∷ []) _ ∙ ap (λ r. take i ls ++ r) (sym whole) ∙ h
+
+-- rule L1, one character nearer to the front
+module _ (base i j : ℕ) (cs : List Class) (ls old : List ℕ) (c : Class) (l v : ℕ) (white now : Bool)
+    (next : j + 1 ≡ i) (within : i ≤ length cs) (same_ls : length ls ≡ length cs) (same_old : length old ≡ length cs)
+    (read_c : slice_get cs j ≡ Some c) (read_l : slice_get ls j ≡ Some l)
+    (was : white ≡ resets (drop i cs)) (is : now ≡ (is_separator c || (is_white c && white))) (given : v ≡ (if now then base else l))
+    (done : drop i ls ≡ l1 base (drop i cs) (drop i old)) (left : take i ls ≡ take i old) where
+  at_cs : drop j cs ≡ c ∷ drop i cs
+  at_cs = drop-read cs j c (omega arith) read_c ∙ ap (λ n. c ∷ drop n cs) next
+
+  pub white-step : now ≡ resets (drop j cs)
+  white-step = rw at_cs (is ∙ ap (λ b. is_separator c || (is_white c && b)) was)
+
+  at_old : drop j old ≡ l ∷ drop i old
+  at_old =
+      let e : get_or old j 0 ≡ l = sym (get_or-take i old j 0 (omega arith)) ∙ ap (λ zs. get_or zs j 0) (sym left) ∙ get_or-take i ls j 0 (omega arith) ∙ get_or_from_slice_get ls j l 0 read_l in
+      drop_more old j 0 (omega arith) ∙ ap₂ (λ x n. x ∷ drop n old) e next
+
+  pub reset-step : drop j (set ls j v) ≡ l1 base (drop j cs) (drop j old)
+  reset-step =
+      let fits : j < length ls = omega arith in
+      let head : v ≡ (if resets (c ∷ drop i cs) then base else l) = given ∙ ap (λ (b : Bool). if b then base else l) (white-step ∙ ap resets at_cs) in
+      drop-set ls j v fits ∙ ap₂ (λ x n. x ∷ drop n ls) head next ∙ ap (λ r. (if resets (c ∷ drop i cs) then base else l) ∷ r) done ∙ sym (ap₂ (λ ds ms. l1 base ds ms) at_cs at_old)
+
+  pub front-step : take j (set ls j v) ≡ take j old
+  front-step = take-set ls j v ∙ sym (take-take j i ls (omega arith)) ∙ ap (take j) left ∙ take-take j i old (omega arith)

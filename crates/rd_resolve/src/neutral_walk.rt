@@ -1,0 +1,133 @@
+//! Rules N1 and N2 of UAX 9 in one walk over a sequence.
+ghost use Rattle.std.specs.Prelude.{◌≡◌, ◌<◌, ◌∷◌, length, All, AllPairs, IfSome, if◌then◌else◌};
+ghost use Rattle.rd_base.specs.Classes.{direction_of};
+ghost use Rattle.rd_base.specs.Lines.{KeepsClasses};
+ghost use Rattle.rd_resolve.specs.Neutral.{is_neutral, side, following, agreed, n1, n2, neutral_types};
+ghost use Rattle.rd_resolve.specs.Places.{types_at, levels_at, put_at};
+ghost use Rattle.rd_resolve.specs.Walks.{SideIs};
+
+use rd_base::{Class, Line, Seq};
+
+/// The direction before a character, and, within a run of neutrals, the one behind it.
+#[derive(Clone, Copy)]
+pub struct Sides {
+    pub before: Class,
+    pub run: Option<Class>,
+}
+
+/// Gives the neutrals of an isolating run sequence the types that rules N1 and N2 of UAX 9 make of theirs. The sequence's indexes
+/// ascend and lie within the line.
+///
+/// One walk; a run of neutrals is looked through once. The cost is linear in the sequence.
+pub fn neutral(line: &mut Line, seq: &Seq)
+    requires within { All (λ i. i < length line.old.classes) seq.now.indexes }
+    requires ascend { AllPairs (λ i j. i < j) seq.now.indexes }
+    ensures types { line.new.types ≡ put_at seq.now.indexes
+        (neutral_types seq.now.sos seq.now.eos (types_at seq.now.indexes line.old.types) (levels_at seq.now.indexes line.old.levels)) line.old.types }
+    ensures levels { line.new.levels ≡ line.old.levels }
+    ensures rest { KeepsClasses line.old line.new }
+{
+    let mut sides = Sides {
+        before: seq.sos,
+        run: None,
+    };
+    for k in 0..seq.indexes.len() {
+        let i = seq.indexes.at(k) as usize;
+        let class = line.types.at(i);
+        let level = line.levels.at(i);
+        let (_, rest) = seq.indexes.as_slice().split_at(k + 1);
+        let given = sides.step(seq.eos, class, level, line.types.as_slice(), rest);
+        line.set_type(i, given);
+    }
+}
+
+impl Sides {
+    /// The type that the rules give the next character, with these indexes behind it.
+    fn step(&mut self, eos: Class, class: Class, level: u8, types: &[Class], rest: &[u32]) -> Class
+        requires within { All (λ i. i < length types.now) rest.now }
+        requires run { SideIs self.old.run eos (class ∷ types_at rest.now types.now) }
+        ensures first { n1 self.old.before eos (class ∷ types_at rest.now types.now)
+            ≡ (if is_neutral class then agreed self.old.before (following eos (types_at rest.now types.now)) class else class) ∷ n1 self.new.before eos (types_at rest.now types.now) }
+        ensures second { result ≡ (let first = if is_neutral class then agreed self.old.before (following eos (types_at rest.now types.now)) class else class in
+            if is_neutral first then direction_of level else first) }
+        ensures run { SideIs self.new.run eos (types_at rest.now types.now) }
+    {
+        if !is_neutral(class) {
+            self.before = side(class);
+            self.run = None;
+            return class;
+        }
+        let after = self.after(eos, types, rest);
+        self.run = Some(after);
+        leveled(agreed(self.before, after, class), level)
+    }
+
+    /// The direction behind the run of neutrals that a character belongs to, which is looked through only where it begins.
+    fn after(&self, eos: Class, types: &[Class], rest: &[u32]) -> Class
+        requires within { All (λ i. i < length types.now) rest.now }
+        requires run { SideIs self.now.run eos (types_at rest.now types.now) }
+        ensures { result ≡ following eos (types_at rest.now types.now) }
+    {
+        match self.run {
+            Some(after) => after,
+            None => following(eos, types, rest),
+        }
+    }
+}
+
+/// The direction of the first character at these indexes that is not neutral, else that at the sequence's end.
+fn following(eos: Class, types: &[Class], rest: &[u32]) -> Class
+    requires { All (λ i. i < length types.now) rest.now }
+    ensures { result ≡ following eos (types_at rest.now types.now) }
+{
+    for i in rest {
+        let class = types[*i as usize];
+        if !is_neutral(class) {
+            return side(class);
+        }
+    }
+    eos
+}
+
+/// Whether a type is neutral or an isolate formatting character (NI).
+fn is_neutral(class: Class) -> bool
+    ensures { result ≡ is_neutral class }
+{
+    match class {
+        Class::B | Class::S | Class::WS | Class::ON => true,
+        Class::LRI | Class::RLI | Class::FSI | Class::PDI => true,
+        _ => false,
+    }
+}
+
+/// The direction of a type that is not neutral.
+fn side(class: Class) -> Class
+    ensures { result ≡ side class }
+{
+    match class {
+        Class::L => Class::L,
+        _ => Class::R,
+    }
+}
+
+/// N1, with the directions before and behind.
+fn agreed(before: Class, after: Class, class: Class) -> Class
+    ensures { result ≡ agreed before after class }
+{
+    match (before, after) {
+        (Class::L, Class::L) => Class::L,
+        (Class::R, Class::R) => Class::R,
+        _ => class,
+    }
+}
+
+/// N2.
+fn leveled(class: Class, level: u8) -> Class
+    ensures { result ≡ (if is_neutral class then direction_of level else class) }
+{
+    if is_neutral(class) {
+        Class::of_level(level)
+    } else {
+        class
+    }
+}
