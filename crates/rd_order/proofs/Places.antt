@@ -1,0 +1,153 @@
+-- Maximal runs, and which index comes to which place.
+use Rattle.std.proofs.Common.{◌≡◌, ℕ, zero, suc, ◌+◌, ◌-◌, ◌%◌, ◌<◌, ◌≤◌, ◌⊎◌, inl, inr, refl, sym, ap, subst, arith}
+use Rattle.std.proofs.lemmas.Bool.{cases_lt, cases_eq}
+use Rattle.rd_order.specs.Places.{AreHigh, BeginsLow, IsRun, Turns, Moves, Comes, IsNextTo}
+
+-- each place of level k or above lies in a maximal run
+start_of : (f : ℕ → ℕ) (k q : ℕ) → k ≤ f q → (a : ℕ) × (a ≤ q) × AreHigh f k a (suc q) × BeginsLow f k a
+start_of f k zero h =
+    let high : AreHigh f k 0 1 = λ p from to. let e : 0 ≡ p = omega arith in subst (λ (x : ℕ). k ≤ f x) e h in
+    (0, omega arith, high, λ p e. absurd (omega arith))
+start_of f k (suc q) h =
+    elim (cases_lt (f q) k) [
+      | inl low ↦
+          let high : AreHigh f k (suc q) (suc (suc q)) = λ p from to. let e : suc q ≡ p = omega arith in subst (λ (x : ℕ). k ≤ f x) e h in
+          let before : BeginsLow f k (suc q) = λ p e. let e' : q ≡ p = omega arith in subst (λ (x : ℕ). f x < k) e' low in
+          (suc q, omega arith, high, before)
+      | inr more ↦
+          let rest = start_of f k q more in
+          let high : AreHigh f k rest.0 (suc (suc q)) = λ p from to. elim (cases_lt p (suc q)) [
+            | inl less ↦ rest.2 p from less
+            | inr last ↦ let e : suc q ≡ p = omega arith in subst (λ (x : ℕ). k ≤ f x) e h
+          ] in
+          (rest.0, let le : rest.0 ≤ q = rest.1 in omega arith, high, rest.3)
+    ]
+
+end_of : (f : ℕ → ℕ) (n k q left : ℕ) → suc q + left ≡ n → k ≤ f q
+    → (b : ℕ) × (q < b) × (b ≤ n) × AreHigh f k q b × (b < n → f b < k)
+end_of f n k q zero e h =
+    let high : AreHigh f k q (suc q) = λ p from to. let e' : q ≡ p = omega arith in subst (λ (x : ℕ). k ≤ f x) e' h in
+    (suc q, omega arith, omega arith, high, λ less. absurd (omega arith))
+end_of f n k q (suc left) e h =
+    elim (cases_lt (f (suc q)) k) [
+      | inl low ↦
+          let high : AreHigh f k q (suc q) = λ p from to. let e' : q ≡ p = omega arith in subst (λ (x : ℕ). k ≤ f x) e' h in
+          (suc q, omega arith, omega arith, high, λ less. low)
+      | inr more ↦
+          let rest = end_of f n k (suc q) left (omega arith) more in
+          let over : suc q < rest.0 = rest.1 in
+          let high : AreHigh f k q rest.0 = λ p from to. elim (cases_eq q p) [
+            | inl same ↦ subst (λ (x : ℕ). k ≤ f x) same h
+            | inr other ↦ rest.3 p (omega arith) to
+          ] in
+          (rest.0, omega arith, rest.2, high, rest.4)
+    ]
+
+pub run_of : (f : ℕ → ℕ) (n k q : ℕ) → q < n → k ≤ f q → (a : ℕ) × (b : ℕ) × IsRun f n k a b × (a ≤ q) × (q < b)
+run_of f n k q within h =
+    let s = start_of f k q h in
+    let e = end_of f n k q (n - suc q) (omega arith) h in
+    let from : s.0 ≤ q = s.1 in
+    let to : q < e.0 = e.1 in
+    let high : AreHigh f k s.0 e.0 = λ p a b. elim (cases_lt p q) [
+      | inl less ↦ s.2 p a (omega arith)
+      | inr more ↦ e.3 p more b
+    ] in
+    let run : IsRun f n k s.0 e.0 = record { order = omega arith; within = e.2; high = high; before = s.3; after = e.4 } in
+    (s.0, e.0, run, from, to)
+
+-- two maximal runs around a place are one
+pub same_run : (f : ℕ → ℕ) (n k a b c d q : ℕ) → IsRun f n k a b → IsRun f n k c d → a ≤ q → q < b → c ≤ q → q < d → (a ≡ c) × (b ≡ d)
+same_run f n k a b c d q r s aq qb cq qd =
+    let starts : a ≡ c = elim (cases_lt a c) [
+      | inl less ↦
+          let e : suc (c - 1) ≡ c = omega arith in
+          let low = s.before (c - 1) e in
+          let high = r.high (c - 1) (omega arith) (omega arith) in
+          absurd (omega arith)
+      | inr more ↦ elim (cases_lt c a) [
+        | inl less ↦
+            let e : suc (a - 1) ≡ a = omega arith in
+            let low = r.before (a - 1) e in
+            let high = s.high (a - 1) (omega arith) (omega arith) in
+            absurd (omega arith)
+        | inr same ↦ omega arith
+      ]
+    ] in
+    let ends : b ≡ d = elim (cases_lt b d) [
+      | inl less ↦
+          let within = s.within in
+          let low = r.after (omega arith) in
+          let high = s.high b (omega arith) less in
+          absurd (omega arith)
+      | inr more ↦ elim (cases_lt d b) [
+        | inl less ↦
+            let within = r.within in
+            let low = s.after (omega arith) in
+            let high = r.high d (omega arith) less in
+            absurd (omega arith)
+        | inr same ↦ omega arith
+      ]
+    ] in
+    (starts, ends)
+
+-- each place is moved somewhere
+pub moves_of : (f : ℕ → ℕ) (n k q : ℕ) → q < n → (r : ℕ) × Moves f n k q r
+moves_of f n k q within = elim (cases_lt (f q) k) [
+  | inl low ↦ (q, inl (low, refl))
+  | inr high ↦
+      let found = run_of f n k q within high in
+      let to : q < found.1 = found.4 in
+      let t : Turns f n k q (found.0 + found.1 - suc q) = record { a = found.0; b = found.1; run = found.2; from = found.3; to = to; image = omega arith } in
+      (found.0 + found.1 - suc q, inr t)
+]
+
+pub Moves-within : (f : ℕ → ℕ) (n k q r : ℕ) → Moves f n k q r → q < n → r < n
+Moves-within f n k q r (inl low) within = omega arith
+Moves-within f n k q r (inr t) within =
+    let w = t.run.within in let i = t.image in let g = t.from in let h = t.to in omega arith
+
+pub Moves-source : (f : ℕ → ℕ) (n k q r : ℕ) → Moves f n k q r → r < n → q < n
+Moves-source f n k q r (inl low) within = omega arith
+Moves-source f n k q r (inr t) within =
+    let w = t.run.within in let h = t.to in omega arith
+
+pub Comes-within : (f : ℕ → ℕ) (n base m p q : ℕ) → Comes f n base m p q → p < n → q < n
+Comes-within f n base zero p q c within = omega arith
+Comes-within f n base (suc m) p q (r, c, moves) within = Moves-within f n (base + suc m) r q moves (Comes-within f n base m p r c within)
+
+pub Comes-source : (f : ℕ → ℕ) (n base m p q : ℕ) → Comes f n base m p q → q < n → p < n
+Comes-source f n base zero p q c within = omega arith
+Comes-source f n base (suc m) p q (r, c, moves) within = Comes-source f n base m p r c (Moves-source f n (base + suc m) r q moves within)
+
+pub comes_of : (f : ℕ → ℕ) (n base m p : ℕ) → p < n → (q : ℕ) × Comes f n base m p q
+comes_of f n base zero p within = (p, refl)
+comes_of f n base (suc m) p within =
+    let c = comes_of f n base m p within in
+    let moved = moves_of f n (base + suc m) c.0 (Comes-within f n base m p c.0 c.1 within) in
+    (moved.0, (c.0, c.1, moved.1))
+
+-- two ways to give levels that agree on what is high, up to a level
+abbrev pub Agree : (ℕ → ℕ) → (ℕ → ℕ) → ℕ → ℕ → Type 0
+Agree f g n most = (k p : ℕ) → k ≤ most → p < n → (k ≤ f p → k ≤ g p) × (f p < k → g p < k)
+
+pub IsRun-agree : (f g : ℕ → ℕ) (n most k a b : ℕ) → Agree f g n most → k ≤ most → IsRun f n k a b → IsRun g n k a b
+IsRun-agree f g n most k a b agree below run =
+    let order = run.order in
+    let within = run.within in
+    let high : AreHigh g k a b = λ q from to. (agree k q below (omega arith)).0 (run.high q from to) in
+    let before : BeginsLow g k a = λ q e. (agree k q below (omega arith)).1 (run.before q e) in
+    record { order = order; within = within; high = high; before = before; after = λ less. (agree k b below less).1 (run.after less) }
+
+pub Moves-agree : (f g : ℕ → ℕ) (n most k q r : ℕ) → Agree f g n most → k ≤ most → q < n → Moves f n k q r → Moves g n k q r
+Moves-agree f g n most k q r agree below within (inl low) = inl ((agree k q below within).1 low.0, low.1)
+Moves-agree f g n most k q r agree below within (inr t) =
+    inr (record { a = t.a; b = t.b; run = IsRun-agree f g n most k t.a t.b agree below t.run; from = t.from; to = t.to; image = t.image })
+
+pub Comes-agree : (f g : ℕ → ℕ) (n most base m p q : ℕ) → Agree f g n most → base + m ≤ most → p < n → Comes f n base m p q → Comes g n base m p q
+Comes-agree f g n most base zero p q agree below within c = c
+Comes-agree f g n most base (suc m) p q agree below within (r, c, moves) = (
+  r,
+  Comes-agree f g n most base m p r agree (omega arith) within c,
+  Moves-agree f g n most (base + suc m) r q agree below (Comes-within f n base m p r c within) moves,
+)

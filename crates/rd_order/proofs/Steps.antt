@@ -1,0 +1,239 @@
+-- One step of the walk.
+use Rattle.std.proofs.Common.{◌≡◌, ℕ, zero, suc, ◌+◌, ◌-◌, ◌%◌, ◌==◌, ◌<◌, ◌≤◌, ◌⊎◌, if◌then◌else◌, inl, inr, List, length, get_or, Option, Some, None, refl, sym, ap, subst, ◌∙◌, arith}
+use Rattle.std.specs.Prelude.{slice_get}
+use Rattle.std.proofs.lemmas.Bool.{cases_lt, cases_eq}
+use Rattle.std.proofs.lemmas.Bool.Decides.{nat_tests}
+use Rattle.std.proofs.lemmas.Option.{slice_get_within, slice_get-get_or, slice_get_past}
+use Rattle.rd_order.specs.Order.{highest, visual_order}
+use Rattle.rd_order.specs.Places.{AreHigh, BeginsLow, IsRun, Turns, Moves, Comes, IsNextTo, IsBeside}
+use Rattle.rd_order.proofs.Places.{same_run, comes_of, Comes-within, Comes-source}
+use Rattle.rd_order.proofs.Turned.{visual_order-length, visual_order-comes, highest-bounds}
+
+-- levels above a place's own leave it
+climb : (f : ℕ → ℕ) (n base m j p q : ℕ) → f q ≤ base + m → Comes f n base m p q → Comes f n base (j + m) p q
+climb f n base m zero p q low c = let C : ℕ → Type 0 = λ k. Comes f n base k p q in let e : m ≡ 0 + m = omega arith in subst C e c
+climb f n base m (suc j) p q low c =
+    let C : ℕ → Type 0 = λ k. Comes f n base k p q in
+    let e : suc (j + m) ≡ suc j + m = omega arith in
+    let next : Comes f n base (suc (j + m)) p q = (q, climb f n base m j p q low c, inl (let l : f q < base + suc (j + m) = omega arith in l, refl)) in
+    subst C e next
+
+unmoved : (f : ℕ → ℕ) (n base m p q : ℕ) → f q < base + suc m → Comes f n base (suc m) p q → Comes f n base m p q
+unmoved f n base m p q low (r, c, inl still) = let C : ℕ → Type 0 = λ i. Comes f n base m p i in subst C (sym still.1) c
+unmoved f n base m p q low (r, c, inr t) =
+    let from = t.from in let to = t.to in let image = t.image in
+    let high = t.run.high q (omega arith) (omega arith) in
+    absurd (omega arith)
+
+descend : (f : ℕ → ℕ) (n base m j p q : ℕ) → f q ≤ base + m → Comes f n base (j + m) p q → Comes f n base m p q
+descend f n base m zero p q low c = let C : ℕ → Type 0 = λ k. Comes f n base k p q in let e : 0 + m ≡ m = omega arith in subst C e c
+descend f n base m (suc j) p q low c =
+    let C : ℕ → Type 0 = λ k. Comes f n base k p q in
+    let e : suc j + m ≡ suc (j + m) = omega arith in
+    descend f n base m j p q low (let below = subst C e c in unmoved f n base (j + m) p q (omega arith) below)
+
+-- the order at a place that what stands at q comes to
+pub shows : (base m p q : ℕ) (levels : List ℕ) → (0 < m → base + m ≤ get_or levels q 0) → get_or levels q 0 ≤ base + m → q < length levels
+    → Comes (λ i. get_or levels i 0) (length levels) base m p q → slice_get (visual_order base levels) p ≡ Some q
+shows base m p q levels high low within c =
+    let f : ℕ → ℕ = λ i. get_or levels i 0 in
+    let most = highest-bounds levels q within in
+    let total = highest levels - base in
+    let e : (total - m) + m ≡ total = elim (cases_eq m 0) [
+      | inl none ↦ omega arith
+      | inr some ↦ let h = high (omega arith) in omega arith
+    ] in
+    let C : ℕ → Type 0 = λ k. Comes f (length levels) base k p q in
+    let whole = subst C e (climb f (length levels) base m (total - m) p q low c) in
+    let p_within = Comes-source f (length levels) base m p q c within in
+    let size = visual_order-length base levels in
+    slice_get-get_or (visual_order base levels) p 0 (omega arith) ∙ ap Some (visual_order-comes base levels p q p_within whole)
+
+-- what the order gives is an index of the line
+pub gives-within : (base p q : ℕ) (levels : List ℕ) → slice_get (visual_order base levels) p ≡ Some q → (p < length levels) × (q < length levels)
+gives-within base p q levels at =
+    let f : ℕ → ℕ = λ i. get_or levels i 0 in
+    let n = length levels in
+    let total = highest levels - base in
+    let size = visual_order-length base levels in
+    let inside = slice_get_within (visual_order base levels) p q at in
+    let p_within : p < n = omega arith in
+    let found = comes_of f n base total p p_within in
+    let there = visual_order-comes base levels p found.0 p_within found.1 in
+    let said = slice_get-get_or (visual_order base levels) p 0 inside in
+    let whole_at : Some q ≡ Some found.0 = sym at ∙ said ∙ ap Some there in
+    let same : found.0 ≡ q = cc in
+    let found_within = Comes-within f n base total p found.0 found.1 p_within in
+    (p_within, omega arith)
+
+-- where an index stands in the order, what stands there after the reversals above its own level
+pub known : (base p q : ℕ) (levels : List ℕ) (m : ℕ) → get_or levels q 0 ≤ base + m → (0 < m → base + m ≤ get_or levels q 0)
+    → slice_get (visual_order base levels) p ≡ Some q → Comes (λ i. get_or levels i 0) (length levels) base m p q
+known base p q levels m low high at =
+    let f : ℕ → ℕ = λ i. get_or levels i 0 in
+    let n = length levels in
+    let total = highest levels - base in
+    let size = visual_order-length base levels in
+    let inside = slice_get_within (visual_order base levels) p q at in
+    let p_within : p < n = omega arith in
+    let found = comes_of f n base total p p_within in
+    let there = visual_order-comes base levels p found.0 p_within found.1 in
+    let said = slice_get-get_or (visual_order base levels) p 0 inside in
+    let whole_at : Some q ≡ Some found.0 = sym at ∙ said ∙ ap Some there in
+    let same : found.0 ≡ q = cc in
+    let C : ℕ → Type 0 = λ i. Comes f n base total p i in
+    let whole : Comes f n base total p q = subst C same found.1 in
+    let q_within = Comes-within f n base total p q whole p_within in
+    let most = highest-bounds levels q q_within in
+    let e : total ≡ (total - m) + m = elim (cases_eq m 0) [
+      | inl none ↦ omega arith
+      | inr some ↦ let h = high (omega arith) in omega arith
+    ] in
+    let D : ℕ → Type 0 = λ k. Comes f n base k p q in
+    descend f n base m (total - m) p q low (subst D e whole)
+
+-- the neighbour in the same run stands at the next place
+pub beside : (f : ℕ → ℕ) (n base m p q r : ℕ) → IsNextTo m q r → q < n → r < n → (0 < m → base + m ≤ f q) → (0 < m → base + m ≤ f r)
+    → Comes f n base m p q → Comes f n base m (p + 1) r
+beside f n base zero p q r next q_in r_in q_high r_high c = let e : r ≡ suc q = next.forwards refl in omega arith
+beside f n base (suc m) p q r next q_in r_in q_high r_high (s, c, inl still) = let h = q_high (omega arith) in let l = still.0 in let e = ap f still.1 in absurd (omega arith)
+beside f n base (suc m) p q r next q_in r_in q_high r_high (s, c, inr t) =
+    let from = t.from in let to = t.to in let image = t.image in let within = t.run.within in
+    let forwards = next.forwards in let backwards = next.backwards in
+    let k = base + suc m in
+    let high_r : k ≤ f r = r_high (omega arith) in
+    let near : (q ≤ suc r) × (r ≤ suc q) = elim (cases_eq (suc m % 2) 0) [
+      | inl even ↦ let e = forwards even in (omega arith, omega arith)
+      | inr other ↦ let e = backwards (omega arith) in (omega arith, omega arith)
+    ] in
+    let near_low = near.0 in let near_high = near.1 in
+    let r_from : t.a ≤ r = elim (cases_lt r t.a) [
+      | inl less ↦ let low = t.run.before r (omega arith) in absurd (omega arith)
+      | inr more ↦ more
+    ] in
+    let r_to : r < t.b = elim (cases_lt r t.b) [
+      | inl less ↦ less
+      | inr more ↦
+          let e : t.b ≡ r = omega arith in
+          let low = subst (λ (x : ℕ). f x < k) e (t.run.after (omega arith)) in absurd (omega arith)
+    ] in
+    let s' = t.a + t.b - suc r in
+    let turned_next : IsNextTo m s s' = record { forwards = λ even. omega arith; backwards = λ odd. omega arith } in
+    let s_high = t.run.high s from to in
+    let s'_high = t.run.high s' (omega arith) (omega arith) in
+    let inner = beside f n base m p s s' turned_next (omega arith) (omega arith) (λ _. omega arith) (λ _. omega arith) c in
+    (s', inner, inr (record { a = t.a; b = t.b; run = t.run; from = omega arith; to = omega arith; image = omega arith }))
+
+-- a run that is one at each level above base + m up to base + m + j, and a place in it and its image where it is turned j times
+pub record IsTurnedBy (j a b q r : ℕ) : Type 0 where
+  pub even : j % 2 ≡ 0 → r ≡ q
+  pub odd : j % 2 ≡ 1 → suc (q + r) ≡ a + b
+
+abbrev pub AreRuns : (ℕ → ℕ) → ℕ → ℕ → ℕ → ℕ → ℕ → ℕ → Type 0
+AreRuns f n base m j a b = (i : ℕ) → m < i → i ≤ m + j → IsRun f n (base + i) a b
+
+-- entering the runs
+pub enter : (f : ℕ → ℕ) (n base m j p q r a b : ℕ) → AreRuns f n base m j a b → a ≤ q → q < b → IsTurnedBy j a b q r
+    → Comes f n base m p q → Comes f n base (j + m) p r
+enter f n base m zero p q r a b runs from to turn c =
+    let C : ℕ → ℕ → Type 0 = λ k i. Comes f n base k p i in
+    let e : m ≡ 0 + m = omega arith in
+    let e' : q ≡ r = sym (turn.even refl) in
+    subst (λ (k : ℕ). C k r) e (subst (λ (i : ℕ). C m i) e' c)
+enter f n base m (suc j) p q r a b runs from to turn c =
+    let even = turn.even in let odd = turn.odd in
+    let s = a + b - suc r in
+    let r_in : (a ≤ r) × (r < b) = elim (cases_eq (j % 2) 0) [ inl e ↦ (omega arith, omega arith) | inr o ↦ (omega arith, omega arith) ] in
+    let r_from = r_in.0 in let r_to = r_in.1 in
+    let before : IsTurnedBy j a b q s = record { even = λ e. omega arith; odd = λ e. omega arith } in
+    let below = enter f n base m j p q s a b (λ i more less. runs i more (omega arith)) from to before c in
+    let e : suc (j + m) ≡ suc j + m = omega arith in
+    let run : IsRun f n (base + suc (j + m)) a b = runs (suc (j + m)) (omega arith) (omega arith) in
+    let step : Comes f n base (suc (j + m)) p r = (s, below, inr (record { a = a; b = b; run = run; from = omega arith; to = omega arith; image = omega arith })) in
+    let C : ℕ → Type 0 = λ k. Comes f n base k p r in
+    subst C e step
+
+-- one turn back
+came : (f : ℕ → ℕ) (n k a b q : ℕ) → IsRun f n k a b → a ≤ q → q < b → (base m p : ℕ) → base + suc m ≡ k → Comes f n base (suc m) p q
+    → Comes f n base m p (a + b - suc q)
+came f n k a b q run from to base m p e (r, c, inl still) =
+    let high = run.high q from to in let low = still.0 in let e' = ap f still.1 in absurd (omega arith)
+came f n k a b q run from to base m p e (r, c, inr t) =
+    let t_from = t.from in let t_to = t.to in let image = t.image in
+    let t_run : IsRun f n k t.a t.b = subst (λ (l : ℕ). IsRun f n l t.a t.b) e t.run in
+    let one = same_run f n k a b t.a t.b q run t_run from to (omega arith) (omega arith) in
+    let e1 = one.0 in let e2 = one.1 in
+    let at : r ≡ a + b - suc q = omega arith in
+    let C : ℕ → Type 0 = λ i. Comes f n base m p i in
+    subst C at c
+
+-- leaving the runs
+pub leave : (f : ℕ → ℕ) (n base m j p q r a b : ℕ) → AreRuns f n base m j a b → a ≤ q → q < b → IsTurnedBy j a b q r
+    → Comes f n base (j + m) p q → Comes f n base m p r
+leave f n base m zero p q r a b runs from to turn c =
+    let C : ℕ → ℕ → Type 0 = λ k i. Comes f n base k p i in
+    let e : 0 + m ≡ m = omega arith in
+    let e' : q ≡ r = sym (turn.even refl) in
+    subst (λ (i : ℕ). C m i) e' (subst (λ (k : ℕ). C k q) e c)
+leave f n base m (suc j) p q r a b runs from to turn c =
+    let even = turn.even in let odd = turn.odd in
+    let e : suc j + m ≡ suc (j + m) = omega arith in
+    let C : ℕ → Type 0 = λ k. Comes f n base k p q in
+    let run : IsRun f n (base + suc (j + m)) a b = runs (suc (j + m)) (omega arith) (omega arith) in
+    let back = came f n (base + suc (j + m)) a b q run from to base (j + m) p refl (subst C e c) in
+    let before : IsTurnedBy j a b (a + b - suc q) r = record { even = λ e. omega arith; odd = λ e. omega arith } in
+    leave f n base m j p (a + b - suc q) r a b (λ i more less. runs i more (omega arith)) (omega arith) (omega arith) before back
+
+pub turned_by : (times a b q r : ℕ) → a ≤ q → q < b → r ≡ (if times % 2 == 0 then q else a + (b - 1 - q)) → IsTurnedBy times a b q r × (a ≤ r) × (r < b)
+turned_by times a b q r from to e = elim (cases_eq (times % 2) 0) [
+  | inl even ↦
+      let at : r ≡ q = e ∙ grind (arith, nat_tests) in
+      (record { even = λ _. at; odd = λ odd. absurd (omega arith) }, omega arith, omega arith)
+  | inr other ↦
+      let at : r ≡ a + (b - 1 - q) = e ∙ grind (arith, nat_tests) in
+      (record { even = λ even. absurd (other even); odd = λ _. omega arith }, omega arith, omega arith)
+]
+
+-- the runs that are entered at once: those from a level up to the lowest level in them
+pub entered : (f : ℕ → ℕ) (n base level lowest a b p q r : ℕ) → base ≤ level → level < lowest → IsRun f n (level + 1) a b → AreHigh f lowest a b
+    → a ≤ q → q < b → IsTurnedBy (lowest - level) a b q r → Comes f n base (level - base) p q → Comes f n base (lowest - base) p r
+entered f n base level lowest a b p q r up rise run high from to turn c =
+    let order = run.order in
+    let within = run.within in
+    let runs : AreRuns f n base (level - base) (lowest - level) a b = λ i more less.
+    let all : AreHigh f (base + i) a b = λ x x_from x_to. let h = high x x_from x_to in omega arith in
+    let before : BeginsLow f (base + i) a = λ x e. let l = run.before x e in omega arith in
+    record { order = order; within = within; high = all; before = before; after = λ less. let l = run.after less in omega arith } in
+    let e : (lowest - level) + (level - base) ≡ lowest - base = omega arith in
+    let C : ℕ → Type 0 = λ m. Comes f n base m p r in
+    subst C e (enter f n base (level - base) (lowest - level) p q r a b runs from to turn c)
+
+-- the runs that are left at once: those from a level down to the highest level beside them
+pub left_at : (f : ℕ → ℕ) (n base level outer a b p q r : ℕ) → base ≤ outer → outer < level → IsRun f n level a b → BeginsLow f (outer + 1) a
+    → (b < n → f b < outer + 1) → a ≤ q → q < b → IsTurnedBy (level - outer) a b q r → Comes f n base (level - base) p q → Comes f n base (outer - base) p r
+left_at f n base level outer a b p q r up fall run low_before low_after from to turn c =
+    let order = run.order in
+    let within = run.within in
+    let runs : AreRuns f n base (outer - base) (level - outer) a b = λ i more less.
+    let all : AreHigh f (base + i) a b = λ x x_from x_to. let h = run.high x x_from x_to in omega arith in
+    let before : BeginsLow f (base + i) a = λ x e. let l = low_before x e in omega arith in
+    record { order = order; within = within; high = all; before = before; after = λ less. let l = low_after less in omega arith } in
+    let e : level - base ≡ (level - outer) + (outer - base) = omega arith in
+    let C : ℕ → Type 0 = λ m. Comes f n base m p q in
+    leave f n base (outer - base) (level - outer) p q r a b runs from to turn (subst C e c)
+
+-- at the end of the line in the direction of the base nothing is left
+pub last : (base m p q : ℕ) (levels : List ℕ) → m ≡ 0 → Comes (λ i. get_or levels i 0) (length levels) base m p q
+    → IsBeside (λ i. get_or levels i 0) (length levels) base m q None → slice_get (visual_order base levels) (p + 1) ≡ None
+last base m p q levels e c none =
+    let size = visual_order-length base levels in
+    let C : ℕ → Type 0 = λ k. Comes (λ i. get_or levels i 0) (length levels) base k p q in
+    let at : q ≡ p = subst C e c in
+    let past : length levels ≤ suc q = elim (cases_lt (suc q) (length levels)) [
+      | inl less ↦
+          let even : m % 2 ≡ 0 = omega arith in
+          let next : IsNextTo m q (suc q) = record { forwards = λ _. refl; backwards = λ odd. absurd (omega arith) } in
+          let no = (none (suc q) next less).0 in absurd (omega arith)
+      | inr more ↦ more
+    ] in
+    slice_get_past (visual_order base levels) (p + 1) (omega arith)

@@ -1,0 +1,15 @@
+use Rattle.std.proofs.Common.{◌≡◌, ℕ, ◌+◌, ◌-◌, ◌<◌, ◌≤◌, length}
+use Rattle.std.specs.Prelude.{slice_index}
+use Rattle.rd_order.specs.Places.{AreHigh}
+use Rattle.rd_order.proofs.run.ahead.Given as goal
+
+abbrev pub invariant-loop-end : goal.invariant-loop-end
+invariant-loop-end l = record {
+  high : AreHigh (slice_index l.levels) l.lowest l.part.start l.end;
+  up : l.level ≤ l.lowest;
+  from : l.part.end ≤ l.end;
+  within : l.end ≤ length l.levels;
+}
+
+abbrev pub decreases-loop-end : goal.decreases-loop-end
+decreases-loop-end l = length l.levels - l.end

@@ -1,0 +1,14 @@
+use Rattle.std.proofs.Common.{◌≡◌, ℕ, suc, ◌+◌, ◌<◌, ◌≤◌, length}
+use Rattle.std.specs.Prelude.{slice_index}
+use Rattle.rd_order.specs.Places.{AreHigh}
+use Rattle.rd_order.proofs.run.back.Given as goal
+
+abbrev pub invariant-loop-start : goal.invariant-loop-start
+invariant-loop-start l = record {
+  high : AreHigh (slice_index l.levels) l.lowest l.start (l.place + 1);
+  up : l.level ≤ l.lowest;
+  from : l.start ≤ l.place;
+}
+
+abbrev pub decreases-loop-start : goal.decreases-loop-start
+decreases-loop-start l = l.start

@@ -1,0 +1,56 @@
+use Rattle.std.proofs.Common.{◌≡◌, ℕ, suc, ◌+◌, ◌-◌, ◌<◌, ◌≤◌, ◌⊎◌, inl, inr, length, slice_index, arith}
+use Rattle.rd_order.specs.Places.{BeginsLow}
+use Rattle.rd_order.proofs.Steps.{beside, known, last, left_at, turned_by}
+use Rattle.rd_order.proofs.visual.following.Goals as goal
+
+pub loop-beside-init : goal.loop-beside-init
+loop-beside-init c =
+    let level = c.max-level.ensures in
+    record {
+      base = omega arith;
+      place = omega arith;
+      high = λ more. omega arith;
+      comes = λ p at. known c.args.base p c.args.index c.args.levels.now (c.max-level.result - c.args.base) (omega arith) (λ more. omega arith) at;
+    }
+
+pub returns-in-Some : goal.returns-in-Some
+returns-in-Some c = λ p at.
+    let inv = c.loop-beside.invariant in
+    let base = inv.base in
+    let high = inv.high in
+    let found = c.in-Some.ensures in
+    c.settled.ensures (p + 1) (beside (slice_index c.args.levels.now) (length c.args.levels.now) c.args.base (c.loop-beside.level - c.args.base) p c.loop-beside.place
+    c.in-Some.beside found.0 inv.place found.1 (λ more. omega arith) found.2 (inv.comes p at))
+
+pub returns-then-level-base : goal.returns-then-level-base
+returns-then-level-base c = λ p at.
+    last c.args.base (c.loop-beside.level - c.args.base) p c.loop-beside.place c.args.levels.now (omega arith) (c.loop-beside.invariant.comes p at) c.in_default.ensures
+
+pub loop-beside-preserved : goal.loop-beside-preserved
+loop-beside-preserved c =
+    let inv = c.loop-beside.invariant in
+    let run = c.around-run.result in
+    let facts = c.around-run.ensures in
+    let outer = c.highest_beside-outer.result in
+    let beside_it = c.highest_beside-outer.ensures in
+    let turn = turned_by (c.loop-beside.level - outer) run.start run.end c.loop-beside.place c.turned-place.result facts.from facts.to c.turned-place.ensures in
+    let from = turn.1 in
+    let to = turn.2 in
+    let within = facts.run.within in
+    let base = inv.base in
+    let fall : outer < c.loop-beside.level = elim beside_it.known [
+      | inl same ↦ omega arith
+      | inr rest ↦ elim rest [
+        | inl before ↦ let low = facts.run.before before.0 before.1 in let e = before.2 in omega arith
+        | inr after ↦ let low = facts.run.after after.0 in let e = after.1 in omega arith
+      ]
+    ] in
+    let before : BeginsLow (slice_index c.args.levels.now) (outer + 1) run.start = λ q e. let h = beside_it.before q e in omega arith in
+    let up = beside_it.base in
+    record {
+      base = up;
+      place = omega arith;
+      high = λ _. let h = facts.run.high c.turned-place.result from to in omega arith;
+      comes = λ p at. left_at (slice_index c.args.levels.now) (length c.args.levels.now) c.args.base c.loop-beside.level outer run.start run.end p
+          c.loop-beside.place c.turned-place.result up fall facts.run before (λ less. let h = beside_it.after less in omega arith) facts.from facts.to turn.0 (inv.comes p at);
+    }

@@ -1,0 +1,29 @@
+use Rattle.std.proofs.Common.{ℕ, ◌-◌, ◌<◌, ◌≤◌, length, slice_index, arith}
+use Rattle.rd_order.proofs.Steps.{entered, shows, turned_by}
+use Rattle.rd_order.proofs.visual.settled.Goals as goal
+
+pub loop-level-preserved : goal.loop-level-preserved
+loop-level-preserved c =
+    let inv = c.loop-level.invariant in
+    let run = c.around-run.result in
+    let facts = c.around-run.ensures in
+    let turn = turned_by (run.lowest - c.loop-level.level) run.start run.end c.loop-level.place c.turned-place.result facts.from facts.to c.turned-place.ensures in
+    let from = turn.1 in
+    let to = turn.2 in
+    let within = facts.run.within in
+    let base = inv.base in
+    let up = facts.up in
+    record {
+      base = omega arith;
+      place = omega arith;
+      high = λ _. facts.lowest c.turned-place.result from to;
+      comes = λ p came. entered (slice_index c.args.levels.now) (length c.args.levels.now) c.args.base c.loop-level.level run.lowest run.start run.end p
+          c.loop-level.place c.turned-place.result base (omega arith) facts.run facts.lowest facts.from facts.to turn.0 (inv.comes p came);
+    }
+
+pub returns : goal.returns
+returns c = λ p came.
+    let inv = c.loop-level.invariant in
+    let base = inv.base in
+    let high = inv.high in
+    shows c.args.base (c.loop-level.level - c.args.base) p c.loop-level.place c.args.levels.now (λ more. omega arith) (omega arith) inv.place (inv.comes p came)

@@ -1,0 +1,89 @@
+//! Maximal runs of indexes at a level or above.
+ghost use Rattle.std.specs.Prelude.{◌≡◌, ◌+◌, ◌-◌, ◌<◌, ◌≤◌, ◌%◌, ◌==◌, if◌then◌else◌, length, slice_index};
+ghost use Rattle.rd_order.specs.Places.{IsRun, AreHigh, BeginsLow};
+
+/// The indexes from `start` to `end - 1`, none of which has a level below `lowest`.
+#[derive(Clone, Copy)]
+pub struct Run {
+    pub start: usize,
+    pub end: usize,
+    pub lowest: u8,
+}
+
+impl Run {
+    /// Where an index of the run comes to stand when the run is turned round so many times.
+    pub fn turned(&self, place: usize, times: u8) -> usize
+        requires from { self.now.start ≤ place }
+        requires to { place < self.now.end }
+        ensures { result ≡ (if times % 2 == 0 then place else self.now.start + (self.now.end - 1 - place)) }
+    {
+        if times % 2 == 0 {
+            place
+        } else {
+            self.start + (self.end - 1 - place)
+        }
+    }
+}
+
+/// The maximal run at `level` or above around an index of that level or above. It costs a look at each index of the run and
+/// at the two beside it.
+pub fn around(levels: &[u8], level: u8, place: usize) -> Run
+    requires place { place < length levels.now }
+    requires level { level ≤ slice_index levels.now place }
+    ensures run { IsRun (slice_index levels.now) (length levels.now) level result.start result.end }
+    ensures lowest { AreHigh (slice_index levels.now) result.lowest result.start result.end }
+    ensures up { level ≤ result.lowest }
+    ensures from { result.start ≤ place }
+    ensures to { place < result.end }
+{
+    ahead(levels, level, back(levels, level, place))
+}
+
+/// The part of the run around an index that ends with this index.
+fn back(levels: &[u8], level: u8, place: usize) -> Run
+    requires place { place < length levels.now }
+    requires level { level ≤ slice_index levels.now place }
+    ensures high { AreHigh (slice_index levels.now) result.lowest result.start result.end }
+    ensures before { BeginsLow (slice_index levels.now) level result.start }
+    ensures up { level ≤ result.lowest }
+    ensures from { result.start ≤ place }
+    ensures end { result.end ≡ place + 1 }
+{
+    let mut start = place;
+    let mut lowest = levels[place];
+    while start > 0 && levels[start - 1] >= level {
+        start -= 1;
+        lowest = lowest.min(levels[start]);
+    }
+    Run {
+        start,
+        end: place + 1,
+        lowest,
+    }
+}
+
+/// The whole run, from the part of it that ends somewhere inside.
+fn ahead(levels: &[u8], level: u8, part: Run) -> Run
+    requires high { AreHigh (slice_index levels.now) part.lowest part.start part.end }
+    requires before { BeginsLow (slice_index levels.now) level part.start }
+    requires up { level ≤ part.lowest }
+    requires order { part.start < part.end }
+    requires within { part.end ≤ length levels.now }
+    ensures run { IsRun (slice_index levels.now) (length levels.now) level result.start result.end }
+    ensures lowest { AreHigh (slice_index levels.now) result.lowest result.start result.end }
+    ensures up { level ≤ result.lowest }
+    ensures start { result.start ≡ part.start }
+    ensures end { part.end ≤ result.end }
+{
+    let mut end = part.end;
+    let mut lowest = part.lowest;
+    while end < levels.len() && levels[end] >= level {
+        lowest = lowest.min(levels[end]);
+        end += 1;
+    }
+    Run {
+        start: part.start,
+        end,
+        lowest,
+    }
+}
