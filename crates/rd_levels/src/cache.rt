@@ -1,0 +1,77 @@
+//! The levels of the last line that was filled.
+ghost use Rattle.std.specs.Prelude.{◌≡◌, ◌<◌, ◌≤◌, ◌^◌, [], length, slice_get, Some, IfOk, OnOk, OnErr};
+ghost use Rattle.rd_levels.specs.Levels.{line_levels};
+
+use crate::fill::fill_line;
+use rd_base::{Class, Line, Memory};
+use std::alloc::Global;
+use std::marker::Model;
+use std::mem;
+
+/// The embedding levels of one line. Contracts see the list of them.
+///
+/// It keeps the room of two lines: a line is filled beside the one that is shown, and takes its place when all its levels are
+/// known. So want of memory leaves the levels as they were, and a line that is no longer than two before it takes memory for its
+/// isolating run sequences alone.
+#[derive(Drop)]
+pub struct LevelCache {
+    alloc: Global,
+    shown: Line,
+    spare: Line,
+}
+
+impl Model for LevelCache {
+    ghost use Rattle.std.specs.Prelude.{List, ℕ};
+
+    ghost Value = { List ℕ };
+
+    ghost view = { λ s. s.shown.levels };
+}
+
+impl LevelCache {
+    /// The levels of a line of no character.
+    pub fn new(alloc: Global) -> Result<LevelCache, Memory>
+        ensures { IfOk result (λ cache. cache ≡ []) }
+    {
+        Ok(LevelCache {
+            alloc,
+            shown: Line::new(alloc),
+            spare: Line::new(alloc),
+        })
+    }
+
+    /// Becomes the levels of a line of these classes with a base level of 0 or 1, by rules X1 to L1 of UAX 9 without paired
+    /// brackets. An error leaves the levels as they were. The cost is linear in the line.
+    pub fn fill(&mut self, classes: &[Class], base: u8) -> Result<(), Memory>
+        requires short { length classes.now < 2 ^ 32 }
+        requires base { base ≤ 1 }
+        ensures ok { OnOk result (self.new ≡ line_levels base classes.now) }
+        ensures err { OnErr result (self.new ≡ self.old) }
+    {
+        fill_line(self.alloc, &mut self.spare, classes, base)?;
+        mem::swap(&mut self.shown, &mut self.spare);
+        Ok(())
+    }
+
+    /// The level of a character, counted from 0.
+    pub fn level(&self, i: usize) -> u8
+        requires { i < length self.now }
+        ensures { slice_get self.now i ≡ Some result }
+    {
+        self.shown.levels.at(i)
+    }
+
+    /// How many characters there are.
+    pub fn len(&self) -> usize
+        ensures { result ≡ length self.now }
+    {
+        self.shown.levels.len()
+    }
+
+    /// All levels.
+    pub fn levels(&self) -> &[u8]
+        ensures { result.now ≡ self.now }
+    {
+        self.shown.levels.as_slice()
+    }
+}
