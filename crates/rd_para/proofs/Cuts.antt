@@ -1,0 +1,128 @@
+-- Lines of a text, as the code finds them.
+use Rattle.std.proofs.Common.{◌≡◌, ℕ, zero, suc, ◌+◌, ◌-◌, ◌<◌, ◌≤◌, ◌⊎◌, inl, inr, Bool, true, false, ◌||◌, not, cond, if◌then◌else◌, List, [], ◌∷◌, ◌++◌, length, get_or, take, drop, replicate, Option, Some, None, refl, sym, ap, subst, ◌∙◌, arith}
+use Rattle.std.specs.Prelude.{unwrap_or}
+use Rattle.std.specs.List.{slice_split, onto_first, position_or_len}
+use Rattle.std.proofs.lemmas.List.Sums.{prefix_len-le-length}
+use Rattle.std.proofs.lemmas.Bool.{cases_lt}
+use Rattle.std.proofs.lemmas.List.{length-take-le, length-drop, length-replicate, get_or_append_left, get_or-append_right, get_or-replicate, take-take, drop-take, drop-drop, take_all}
+use Rattle.std.proofs.lemmas.List.Splits.{slice_split_first}
+use Rattle.rd_text.specs.Texts.{TextValue, IsText, between, is_newline, next_newline}
+use Rattle.rd_ucd.specs.declared.spans.Span.{Span}
+use Rattle.rd_para.specs.Paragraphs.{is_separator, line_level, first_of, decided, level_by, levels_of}
+
+-- what is known of the line that begins at a position
+pub record IsCut (t : TextValue) (from to : ℕ) : Type 0 where
+  pub order : from ≤ to
+  pub within : to ≤ t.end
+  pub last : to ≡ t.end → slice_split is_newline (between t from t.end) ≡ between t from to ∷ []
+  pub more : to < t.end → slice_split is_newline (between t from t.end) ≡ between t from to ∷ slice_split is_newline (between t (to + 1) t.end)
+
+-- a list without a separator is one piece
+whole_piece : (p : ℕ → Bool) (xs : List ℕ) → position_or_len p xs ≡ length xs → slice_split p xs ≡ xs ∷ []
+whole_piece p [] e = refl
+whole_piece p (x ∷ xs) e =
+    elim (p x) as (λ v. cond (not v) (1 + position_or_len p xs) 0 ≡ suc (length xs) → cond v ([] ∷ slice_split p xs) (onto_first x (slice_split p xs)) ≡ (x ∷ xs) ∷ []) [
+      | true ↦ λ f. absurd (omega arith)
+      | false ↦ λ f. ap (onto_first x) (whole_piece p xs (omega arith))
+    ] e
+
+pub line_cut : (t : TextValue) (from : ℕ) → IsText t → t.begin ≤ from → from ≤ t.end → IsCut t from (next_newline t from)
+line_cut t from right begin end =
+    let first = right.first in
+    let last_ok = right.last in
+    let n = t.end - 1 - (from - 1) in
+    let rest = drop (from - 1) t.text in
+    let all = between t from t.end in
+    let i = position_or_len is_newline all in
+    let size_rest : length rest ≡ length t.text - (from - 1) = length-drop (from - 1) t.text in
+    let size : length all ≡ n = length-take-le n rest (omega arith) in
+    let fits : i ≤ length all = prefix_len-le-length (λ c. not (is_newline c)) all in
+    let line : between t from (from + i) ≡ take i all =
+    (let e : from + i - 1 - (from - 1) ≡ i = omega arith in ap (λ (k : ℕ). take k rest) e) ∙ sym (take-take i n rest (omega arith)) in
+    record {
+      order = omega arith;
+      within = omega arith;
+      last = λ e.
+          let full : i ≡ length all = omega arith in
+          whole_piece is_newline all full ∙ ap (λ (xs : List ℕ). xs ∷ []) (sym (line ∙ ap (λ (k : ℕ). take k all) full ∙ take_all (length all) all (omega arith)));
+      more = λ less.
+          let inside : i < length all = omega arith in
+          let cut = slice_split_first is_newline all 0 inside in
+          let left : n ≡ (i + 1) + (n - (i + 1)) = omega arith in
+          let behind : drop (i + 1) all ≡ between t (from + i + 1) t.end =
+          ap (λ (k : ℕ). drop (i + 1) (take k rest)) left ∙ drop-take (i + 1) (n - (i + 1)) rest
+          ∙ ap (take (n - (i + 1))) (drop-drop (i + 1) (from - 1) t.text)
+          ∙ (let a : n - (i + 1) ≡ t.end - 1 - (from + i + 1 - 1) = omega arith in let b : from - 1 + (i + 1) ≡ from + i + 1 - 1 = omega arith in
+          ap (λ (k : ℕ). take k (drop (from - 1 + (i + 1)) t.text)) a ∙ ap (λ (k : ℕ). take (t.end - 1 - (from + i + 1 - 1)) (drop k t.text)) b) in
+          cut ∙ ap (λ (xs : List ℕ). xs ∷ slice_split is_newline (drop (i + 1) all)) (sym line) ∙ ap (λ (xs : List ℕ). between t from (from + i) ∷ slice_split is_newline xs) behind;
+    }
+
+-- how long the line is
+pub line_length : (t : TextValue) (from to : ℕ) → IsText t → t.begin ≤ from → from ≤ to → to ≤ t.end → length (between t from to) ≡ to - from
+line_length t from to right begin order within =
+    let first = right.first in
+    let last_ok = right.last in
+    let size_rest : length (drop (from - 1) t.text) ≡ length t.text - (from - 1) = length-drop (from - 1) t.text in
+    length-take-le (to - 1 - (from - 1)) (drop (from - 1) t.text) (omega arith) ∙ omega arith
+
+-- the level of a line is that at each of its places
+pub levels_here : (classes : List Span) (last : ℕ) (inside : Bool) (line : List ℕ) (lines pieces : List (List ℕ)) (n whole : ℕ) → pieces ≡ line ∷ lines
+    → n ≤ length line → get_or (levels_of classes last inside pieces) n 0 ≡ whole → level_by classes last inside line lines ≡ whole
+levels_here classes last inside line lines pieces n whole cut low is =
+    let b = level_by classes last inside line lines in
+    let more = levels_of classes b (not (is_separator line)) lines in
+    let size = length-replicate (length line + 1) b in
+    let here : get_or (levels_of classes last inside pieces) n 0 ≡ get_or (replicate (length line + 1) b ++ more) n 0
+    = ap (λ (p : List (List ℕ)). get_or (levels_of classes last inside p) n 0) cut in
+    sym (here ∙ get_or_append_left (replicate (length line + 1) b) more 0 n (omega arith) ∙ get_or-replicate (length line + 1) n b 0 (omega arith)) ∙ is
+
+-- and behind it come those of the next lines
+pub levels_next : (classes : List Span) (last : ℕ) (inside : Bool) (line : List ℕ) (lines pieces : List (List ℕ)) (n whole : ℕ) → pieces ≡ line ∷ lines
+    → length line < n → get_or (levels_of classes last inside pieces) n 0 ≡ whole
+    → get_or (levels_of classes (level_by classes last inside line lines) (not (is_separator line)) lines) (n - (length line + 1)) 0 ≡ whole
+levels_next classes last inside line lines pieces n whole cut high is =
+    let b = level_by classes last inside line lines in
+    let more = levels_of classes b (not (is_separator line)) lines in
+    let size = length-replicate (length line + 1) b in
+    let here : get_or (levels_of classes last inside pieces) n 0 ≡ get_or (replicate (length line + 1) b ++ more) n 0
+    = ap (λ (p : List (List ℕ)). get_or (levels_of classes last inside p) n 0) cut in
+    sym (here ∙ get_or-append_right (replicate (length line + 1) b) more (length line + 1) n 0 size (omega arith)) ∙ is
+
+-- the level of the next line, as the code finds it
+pub level_found : (classes : List Span) (last found : ℕ) (separates inside : Bool) (line : List ℕ) (lines pieces : List (List ℕ)) → pieces ≡ line ∷ lines
+    → separates ≡ is_separator line → found ≡ (if separates || inside then last else unwrap_or (decided classes pieces) 0)
+    → found ≡ level_by classes last inside line lines
+level_found classes last found separates inside line lines pieces cut is e =
+    e ∙ ap (λ (v : Bool). if v || inside then last else unwrap_or (decided classes pieces) 0) is
+    ∙ ap (λ (p : List (List ℕ)). if is_separator line || inside then last else unwrap_or (decided classes p) 0) cut
+
+-- a paragraph that ends, one that is decided, and one that goes on
+pub decided_ends : (classes : List Span) (line : List ℕ) (lines pieces : List (List ℕ)) (whole : ℕ) → pieces ≡ line ∷ lines → is_separator line ≡ true
+    → unwrap_or (decided classes pieces) 0 ≡ whole → 0 ≡ whole
+decided_ends classes line lines pieces whole cut blank is =
+    sym (ap (λ (p : List (List ℕ)). unwrap_or (decided classes p) 0) cut
+    ∙ ap (λ (v : Bool). unwrap_or (if v then None else first_of (line_level classes line) (decided classes lines)) 0) blank) ∙ is
+
+pub decided_here : (classes : List Span) (line : List ℕ) (lines pieces : List (List ℕ)) (level whole : ℕ) → pieces ≡ line ∷ lines → is_separator line ≡ false
+    → Some level ≡ line_level classes line → unwrap_or (decided classes pieces) 0 ≡ whole → level ≡ whole
+decided_here classes line lines pieces level whole cut text decides is =
+    sym (ap (λ (p : List (List ℕ)). unwrap_or (decided classes p) 0) cut
+    ∙ ap (λ (v : Bool). unwrap_or (if v then None else first_of (line_level classes line) (decided classes lines)) 0) text
+    ∙ ap (λ (o : Option ℕ). unwrap_or (first_of o (decided classes lines)) 0) (sym decides)) ∙ is
+
+pub decided_next : (classes : List Span) (line : List ℕ) (lines pieces : List (List ℕ)) (whole : ℕ) → pieces ≡ line ∷ lines → is_separator line ≡ false
+    → None ≡ line_level classes line → unwrap_or (decided classes pieces) 0 ≡ whole → unwrap_or (decided classes lines) 0 ≡ whole
+decided_next classes line lines pieces whole cut text undecided is =
+    sym (ap (λ (p : List (List ℕ)). unwrap_or (decided classes p) 0) cut
+    ∙ ap (λ (v : Bool). unwrap_or (if v then None else first_of (line_level classes line) (decided classes lines)) 0) text
+    ∙ ap (λ (o : Option ℕ). unwrap_or (first_of o (decided classes lines)) 0) (sym undecided)) ∙ is
+
+-- there is a first line
+pub some_line : (t : TextValue) (from to : ℕ) → IsCut t from to → (lines : List (List ℕ)) × (slice_split is_newline (between t from t.end) ≡ between t from to ∷ lines)
+some_line t from to cut = elim (cases_lt to t.end) [
+  | inl less ↦ (slice_split is_newline (between t (to + 1) t.end), cut.more less)
+  | inr past ↦ let within = cut.within in ([], cut.last (omega arith))
+]
+
+pub line_cut_at : (t : TextValue) (from to : ℕ) → IsText t → t.begin ≤ from → from ≤ t.end → to ≡ next_newline t from → IsCut t from to
+line_cut_at t from to right begin end e = let C : ℕ → Type 0 = λ k. IsCut t from k in subst C (sym e) (line_cut t from right begin end)

@@ -1,0 +1,30 @@
+use Rattle.std.proofs.Common.{◌≡◌, ◌+◌, ◌<◌, ◌≤◌, sym, ◌∙◌, arith}
+use Rattle.rd_para.specs.Paragraphs.{line_level}
+use Rattle.rd_text.specs.Texts.{between}
+use Rattle.rd_para.proofs.Chars.{level_stops, level_goes}
+use Rattle.rd_para.proofs.line.level_of_line.Goals as goal
+
+pub returns-in-Some : goal.returns-in-Some
+returns-in-Some c =
+    let from = c.loop-pos.invariant.from in
+    let first = c.requires.first in
+    level_stops c.args.classes.now c.args.text.now.text c.loop-pos.pos c.args.to c.char_at.result c.loop-pos.depth c.in-Some.level c.class-class.result
+    (line_level c.args.classes.now (between c.args.text.now c.args.from c.args.to)) (omega arith) c.loop-pos-test.true
+    c.requires.last c.char_at.ensures c.class-class.ensures c.in-Some.ensures c.loop-pos.invariant.rest
+
+pub loop-pos-preserved : goal.loop-pos-preserved
+loop-pos-preserved c =
+    let inv = c.loop-pos.invariant in
+    let from = inv.from in
+    let depth = inv.depth in
+    let deep = c.deeper-depth.ensures.bound in
+    let first = c.requires.first in
+    let less = c.loop-pos-test.true in
+    record {
+      from = omega arith;
+      to = omega arith;
+      depth = omega arith;
+      rest = level_goes c.args.classes.now c.args.text.now.text c.loop-pos.pos c.args.to c.char_at.result c.loop-pos.depth c.deeper-depth.result c.class-class.result
+          (line_level c.args.classes.now (between c.args.text.now c.args.from c.args.to)) (omega arith) c.loop-pos-test.true
+          c.requires.last c.char_at.ensures c.class-class.ensures c.in_default.ensures c.deeper-depth.ensures.value inv.rest;
+    }

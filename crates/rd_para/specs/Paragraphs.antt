@@ -1,0 +1,53 @@
+-- Paragraphs of a text and their base levels.
+use Rattle.std.specs.Prelude.{ℕ, ◌+◌, ◌-◌, ◌==◌, Bool, false, not, ◌||◌, if◌then◌else◌, List, [], ◌∷◌, ◌++◌, length, map, replicate, slice_index, Option, None, Some, unwrap_or}
+use Rattle.std.specs.List.{list_all, slice_split}
+use Rattle.rd_base.specs.Classes.{strong_level}
+use Rattle.rd_base.specs.declared.settings.Direction.{Direction}
+use Rattle.rd_base.specs.declared.settings.Direction.TheVariants.{Auto, Left, Right}
+use Rattle.rd_text.specs.Texts.{TextValue, between, is_newline}
+use Rattle.rd_ucd.specs.declared.spans.Span.{Span}
+use Rattle.rd_ucd.specs.Lookup.{class_of}
+
+-- a space, a tab or a form feed
+abbrev pub is_blank : ℕ → Bool
+is_blank c = (c == 32) || (c == 9) || (c == 12)
+
+-- a line of nothing else stands between paragraphs
+abbrev pub is_separator : List ℕ → Bool
+is_separator line = list_all is_blank line
+
+-- the level that rules P2 and P3 find in a line
+abbrev pub line_level : List Span → List ℕ → Option ℕ
+line_level classes line = strong_level 0 (map (class_of classes) line)
+
+abbrev pub first_of : Option ℕ → Option ℕ → Option ℕ
+first_of None later = later
+first_of (Some level) later = Some level
+
+-- the level that the first deciding line of a paragraph gives, from its first line on
+abbrev pub decided : List Span → List (List ℕ) → Option ℕ
+decided classes [] = None
+decided classes (line ∷ lines) = if is_separator line then None else first_of (line_level classes line) (decided classes lines)
+
+-- the base level of a line, by that of the line before, whether that is one of a paragraph, and the lines from here on: a
+-- separator and a later line of a paragraph have that of the line before, and the first line of a paragraph has the
+-- paragraph's, 0 where no line decides
+abbrev pub level_by : List Span → ℕ → Bool → List ℕ → List (List ℕ) → ℕ
+level_by classes last inside line lines =
+    if is_separator line || inside then last else unwrap_or (decided classes (line ∷ lines)) 0
+
+-- the base level at each place of lines, their ends included
+abbrev pub levels_of : List Span → ℕ → Bool → List (List ℕ) → List ℕ
+levels_of classes last inside [] = []
+levels_of classes last inside (line ∷ lines) =
+    replicate (length line + 1) (level_by classes last inside line lines)
+    ++ levels_of classes (level_by classes last inside line lines) (not (is_separator line)) lines
+
+-- the base level at a position, where the text decides: its accessible part is cut at its newlines
+abbrev pub text_level : List Span → TextValue → ℕ → ℕ
+text_level classes t pos = slice_index (levels_of classes 0 false (slice_split is_newline (between t t.begin t.end))) (pos - t.begin)
+
+abbrev pub base_at : List Span → TextValue → Direction → ℕ → ℕ
+base_at classes t Auto pos = text_level classes t pos
+base_at classes t Left pos = 0
+base_at classes t Right pos = 1
