@@ -1,0 +1,17 @@
+-- Rows and their copies.
+use Rattle.std.specs.Prelude.{ℕ, ◌+◌, min, false, []}
+use Rattle.rd_base.specs.Faces.{plain}
+use Rattle.rd_rows.specs.Rows.{RowMeaning, blanks}
+
+-- a row: what is seen of it, and how often it was copied since it was made
+pub record RowValues : Type 0 where
+  pub shown : RowMeaning
+  pub copies : ℕ
+
+-- one more copy, up to the last number
+abbrev pub copied : ℕ → ℕ
+copied n = min (n + 1) 4294967295
+
+-- a row in which nothing stands
+abbrev pub blank_row : ℕ → RowMeaning
+blank_row width = record { cells = blanks width plain; begins = []; reversed = false; ends_block = false }

@@ -1,0 +1,80 @@
+-- Lines that the worked examples speak of.
+use Rattle.std.specs.Prelude.{ℕ, ◌+◌, List, [], ◌∷◌, ◌++◌, map, length}
+use Rattle.rd_base.specs.Faces.{Attributes, plain}
+use Rattle.rd_base.specs.Cells.{single}
+use Rattle.rd_base.specs.declared.cell.Cell.{Cell}
+use Rattle.rd_base.specs.declared.cell.Cell.TheVariants.{Rest}
+use Rattle.rd_base.specs.declared.element.Element.{Element}
+use Rattle.rd_base.specs.declared.element.Extent.{Extent}
+use Rattle.rd_base.specs.declared.element.Extent.TheVariants.{Fixed, Tab, Column}
+use Rattle.rd_base.specs.declared.element.Look.{Look}
+use Rattle.rd_base.specs.declared.element.Look.TheVariants.{Blank, Glyph, RowEnd, LineEnd}
+use Rattle.rd_base.specs.declared.settings.Wrap.TheVariants.{Truncate, Continue}
+use Rattle.rd_rows.specs.declared.begin.Begin.{Begin}
+use Rattle.rd_rows.specs.Shapes.{ShapeValues}
+use Rattle.rd_rows.specs.Rows.{LaidRow, rows_of, glyph_cells, blanks}
+
+-- the element of one character: the item, which covers the position at its own number
+abbrev pub part : ℕ → Extent → Look → Element
+part item extent look = record {
+  extent = extent;
+  look = look;
+  face = plain;
+  origin = record { item = item; from = item; to = item + 1 };
+}
+
+abbrev pub letter : ℕ → ℕ → Element
+letter item code = part item (Fixed 1) (Glyph (single code 1))
+
+abbrev pub wide : ℕ → ℕ → ℕ → Element
+wide item code columns = part item (Fixed columns) (Glyph (single code columns))
+
+abbrev pub tab : ℕ → Element
+tab item = part item (Tab 8) Blank
+
+-- these letters from an item on
+abbrev pub letters : ℕ → List ℕ → List Element
+letters item [] = []
+letters item (c ∷ cs) = letter item c ∷ letters (item + 1) cs
+
+abbrev pub line_end : ℕ → List Element
+line_end item = part item (Fixed 0) LineEnd ∷ []
+
+abbrev pub row_end : ℕ → Element
+row_end item = part item (Fixed 0) RowEnd
+
+-- blanks up to a column
+abbrev pub stretch : ℕ → ℕ → Element
+stretch item column = part item (Column column) Blank
+
+abbrev pub narrow : ShapeValues
+narrow = record { width = 12; wrap = Continue; hscroll = 0 }
+
+abbrev pub cut : ShapeValues
+cut = record { width = 12; wrap = Truncate; hscroll = 0 }
+
+-- scrolled sideways, in a window of five columns
+abbrev pub cut_at : ℕ → ShapeValues
+cut_at columns = record { width = 5; wrap = Truncate; hscroll = columns }
+
+-- cut with the marks $ and \
+abbrev pub rows : ShapeValues → List Element → List LaidRow
+rows shape es = rows_of shape (single 36 1) (single 92 1) es
+
+-- the cells of plain characters of one column
+abbrev pub text : List ℕ → List Cell
+text [] = []
+text (c ∷ cs) = glyph_cells 1 (single c 1) plain ++ text cs
+
+abbrev pub cells : List LaidRow → List (List Cell)
+cells rs = map (λ r. r.row.cells) rs
+
+abbrev pub weights : List LaidRow → List ℕ
+weights rs = map (λ r. r.weight) rs
+
+abbrev pub begins : List LaidRow → List (List Begin)
+begins rs = map (λ r. r.row.begins) rs
+
+-- an item that covers one position
+abbrev pub at : ℕ → ℕ → Begin
+at from column = record { from = from; to = from + 1; column = column }

@@ -1,0 +1,30 @@
+-- What holds of the rows of every line.
+use Rattle.std.specs.Prelude.{ℕ, Bool, true, false, not, ◌&&◌, if◌then◌else◌, List, [], ◌∷◌, ◌++◌, map, Option, Some}
+use Rattle.rd_base.specs.declared.element.Element.{Element}
+use Rattle.rd_rows.specs.declared.begin.Begin.{Begin}
+use Rattle.rd_rows.specs.declared.cutting.Cutting.{Cutting}
+use Rattle.rd_rows.specs.Placing.{is_item, line_start}
+use Rattle.rd_rows.specs.Rows.{LaidRow, rows_from}
+
+-- whether the last row, and no other, ends the block
+abbrev pub ends_last : List LaidRow → Bool
+ends_last [] = false
+ends_last (r ∷ []) = r.row.ends_block
+ends_last (r ∷ s ∷ rs) = not r.row.ends_block && ends_last (s ∷ rs)
+
+abbrev pub range_of : Begin → ℕ × ℕ
+range_of b = (b.from, b.to)
+
+-- the ranges of the items that begin in a row
+abbrev pub ranges_in : LaidRow → List (ℕ × ℕ)
+ranges_in r = map range_of r.row.begins
+
+-- the ranges of the items whose first element is among these, behind an element of an item
+abbrev pub ranges_of : Option ℕ → List Element → List (ℕ × ℕ)
+ranges_of before [] = []
+ranges_of before (e ∷ es) =
+    (if is_item before e.origin.item then [] else (e.origin.from, e.origin.to) ∷ []) ++ ranges_of (Some e.origin.item) es
+
+-- the rows of a line
+abbrev pub rows_cut : Cutting → List Element → List LaidRow
+rows_cut c es = rows_from c line_start [] es

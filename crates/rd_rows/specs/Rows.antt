@@ -1,0 +1,122 @@
+-- The rows into which a line is cut, from all of its elements.
+use Rattle.std.specs.Prelude.{ℕ, ◌+◌, ◌-◌, ◌==◌, ◌&&◌, ◌||◌, min, max, nat_lt, nat_le, Bool, true, false, if◌then◌else◌, List, [], ◌∷◌, ◌++◌, length, replicate, flat_map, Option, None, Some}
+use Rattle.rd_base.specs.Faces.{Attributes, plain}
+use Rattle.rd_base.specs.declared.cell.Cell.{Cell}
+use Rattle.rd_base.specs.declared.cell.Cell.TheVariants.{Blank, First, Rest}
+use Rattle.rd_base.specs.declared.cell.Glyph.{Glyph}
+use Rattle.rd_base.specs.declared.element.Element.{Element}
+use Rattle.rd_rows.specs.declared.begin.Begin.{Begin}
+use Rattle.rd_rows.specs.declared.cutting.Cutting.{Cutting}
+use Rattle.rd_rows.specs.declared.spot.Placed.{Placed}
+use Rattle.rd_rows.specs.declared.spot.Spot.{Spot}
+use Rattle.rd_rows.specs.Shapes.{ShapeValues, room, truncates}
+use Rattle.rd_rows.specs.Placing.{glyph_in, ends_row, is_line_end, line_start, next_row, next_line, fits, placed_at, behind}
+
+-- what is seen of a row, whoever made it
+pub record RowMeaning : Type 0 where
+  pub cells : List Cell
+  pub begins : List Begin
+  pub reversed : Bool
+  pub ends_block : Bool
+
+-- a row of a line, and how many elements were placed in it
+pub record LaidRow : Type 0 where
+  pub row : RowMeaning
+  pub weight : ℕ
+
+-- a space without marks is shown as blank
+abbrev pub is_space : Glyph → Bool
+is_space g = (g.base == 32) && (g.count == 0)
+
+abbrev pub blanks : ℕ → Attributes → List Cell
+blanks n face = replicate n (Blank face)
+
+-- the cells of a glyph in so many columns
+abbrev pub glyph_cells : ℕ → Glyph → Attributes → List Cell
+glyph_cells columns g face =
+    if is_space g then blanks columns face else First g face ∷ replicate (columns - 1) Rest
+
+-- the cells of an element that is seen whole
+abbrev pub whole_cells : ℕ → Option Glyph → Attributes → List Cell
+whole_cells columns None face = blanks columns face
+whole_cells columns (Some g) face = glyph_cells columns g face
+
+-- what is seen of an element from one column up to another: all of it, or blanks of its face where only a part lies there
+abbrev pub seen : ℕ → ℕ → Placed → List Cell
+seen from to p =
+    if nat_le from p.start && nat_le (p.start + p.columns) to
+    then whole_cells p.columns (glyph_in p.element.look) p.element.face
+    else blanks (min to (p.start + p.columns) - max from p.start) p.element.face
+
+-- the cell of a mark, which stands in the plain face
+abbrev pub mark : Glyph → Cell
+mark g = if is_space g then Blank plain else First g plain
+
+-- the columns of the elements, and over the first of them the truncation mark where the row is scrolled sideways
+abbrev pub scrolled : Cutting → ℕ → List Placed → List Cell
+scrolled c used ps =
+    let shift = c.shape.hscroll in
+    if nat_lt 0 shift && nat_lt 0 used
+    then mark c.truncation ∷ flat_map (seen (shift + 1) (shift + room c.shape)) ps
+    else flat_map (seen shift (shift + room c.shape)) ps
+
+-- what no element fills is blank and plain
+abbrev pub filled : ℕ → List Cell → List Cell
+filled width cells = cells ++ blanks (width - length cells) plain
+
+-- the last column has the mark of a row whose line goes on
+abbrev pub last_cell : Cutting → ℕ → Bool → Cell
+last_cell c used continued =
+    if truncates c.shape
+    then if nat_lt (c.shape.hscroll + room c.shape) used then mark c.truncation else Blank plain
+    else if continued then mark c.continuation else Blank plain
+
+-- an item begins in the row that has its first element, in that element's column, held within the window
+abbrev pub begin_of : ShapeValues → Placed → List Begin
+begin_of shape p =
+    if p.first
+    then record {
+      from = p.element.origin.from;
+      to = p.element.origin.to;
+      column = min (p.start - shape.hscroll) (room shape);
+    } ∷ []
+    else []
+
+abbrev pub has_line_end : List Placed → Bool
+has_line_end [] = false
+has_line_end (p ∷ ps) = is_line_end p.element.look || has_line_end ps
+
+-- the row of these elements, which take so many columns; continued where the next element did not fit
+abbrev pub row_of : Cutting → ℕ → Bool → List Placed → RowMeaning
+row_of c used continued ps = record {
+  cells = filled (room c.shape) (scrolled c used ps) ++ last_cell c used continued ∷ [];
+  begins = flat_map (begin_of c.shape) ps;
+  reversed = false;
+  ends_block = has_line_end ps;
+}
+
+abbrev pub laid : Cutting → ℕ → Bool → List Placed → LaidRow
+laid c used continued ps = record { row = row_of c used continued ps; weight = length ps }
+
+-- the rows of the elements that are left, where some were placed already in a row that is not whole: each element that fits is
+-- placed in the row, which ends behind a row end or the line end; one that does not fit begins the next row
+abbrev pub rows_from : Cutting → Spot → List Placed → List Element → List LaidRow
+rows_from c spot ps [] = []
+rows_from c spot ps (e ∷ es) =
+    let p = placed_at c.shape spot e in
+    let q = placed_at c.shape (next_row spot) e in
+    if fits c.shape spot e
+    then if ends_row e.look
+    then laid c (spot.used + p.columns) false (ps ++ p ∷ []) ∷ rows_from c (next_line (behind spot p)) [] es
+    else rows_from c (behind spot p) (ps ++ p ∷ []) es
+    else laid c spot.used true ps ∷ rows_from c (behind (next_row spot) q) (q ∷ []) es
+
+-- the rows of a line, with the glyphs that mark a truncated and a continued row
+abbrev pub rows_of : ShapeValues → Glyph → Glyph → List Element → List LaidRow
+rows_of shape truncation continuation es =
+    rows_from (record { shape = shape; truncation = truncation; continuation = continuation }) line_start [] es
+
+-- how many elements were placed in these rows
+abbrev pub weight_of : List LaidRow → ℕ
+weight_of [] = 0
+weight_of (r ∷ rs) = r.weight + weight_of rs

@@ -1,0 +1,21 @@
+-- Shapes, as contracts see them.
+use Rattle.std.specs.Prelude.{ℕ, ◌-◌, ◌||◌, Bool, true, false, nat_lt}
+use Rattle.rd_base.specs.declared.settings.Wrap.{Wrap}
+use Rattle.rd_base.specs.declared.settings.Wrap.TheVariants.{Truncate, Continue}
+
+pub record ShapeValues : Type 0 where
+  pub width : ℕ
+  pub wrap : Wrap
+  pub hscroll : ℕ
+
+-- the columns before the last one, which is kept for a mark
+abbrev pub room : ShapeValues → ℕ
+room shape = shape.width - 1
+
+abbrev pub is_truncate : Wrap → Bool
+is_truncate Truncate = true
+is_truncate Continue = false
+
+-- a window that is scrolled sideways cuts its lines too
+abbrev pub truncates : ShapeValues → Bool
+truncates shape = is_truncate shape.wrap || nat_lt 0 shape.hscroll

@@ -1,0 +1,20 @@
+//! The rows into which a line of elements is cut.
+#![tactic(auto)]
+
+mod begin;
+mod cutting;
+mod draft;
+mod laws;
+mod maker;
+mod row;
+mod shape;
+mod spot;
+
+pub use begin::Begin;
+pub use laws::rows_of_every_line;
+pub use maker::RowMaker;
+pub use row::Row;
+pub use shape::Shape;
+
+#[cfg(test)]
+mod tests;

@@ -1,0 +1,26 @@
+//! The shape of a window's rows.
+
+use rd_base::Wrap;
+use std::marker::Model;
+
+/// How the rows of a window are cut: its width in columns, what becomes of a longer line, and by how many columns the text
+/// is scrolled sideways. The width is 10 to 400.
+#[derive(Clone, Copy, Debug, PartialEq, Eq)]
+pub struct Shape {
+    pub width: u32,
+    pub wrap: Wrap,
+    pub hscroll: u32,
+}
+
+impl Model for Shape {
+    ghost use Rattle.std.specs.Prelude.{ℕ, ◌≤◌};
+    ghost use Rattle.rd_rows.specs.Shapes.{ShapeValues};
+
+    ghost Value = { ShapeValues };
+
+    ghost view = { λ s. record { width = s.width; wrap = s.wrap; hscroll = s.hscroll } };
+
+    ghost invariant = { λ s. (10 ≤ s.width) × (s.width ≤ 400) };
+
+    ghost inverse = { λ v. record { width = v.width; wrap = v.wrap; hscroll = v.hscroll } };
+}

@@ -1,0 +1,178 @@
+//! The rows of worked lines.
+ghost use Rattle.std.specs.Prelude.{◌≡◌, ◌<◌, ◌∷◌, ◌++◌, [], true, false, map, replicate};
+ghost use Rattle.rd_base.specs.Faces.{plain};
+ghost use Rattle.rd_base.specs.Cells.{single};
+ghost use Rattle.rd_rows.specs.Rows.{glyph_cells, blanks};
+ghost use Rattle.rd_rows.specs.Examples.{letter, letters, wide, tab, line_end, row_end, stretch, narrow, cut, cut_at, rows, text, cells, weights, begins, at};
+
+use super::*;
+use rd_base::{Cell, Element, Elements, Extent, Face, Glyph, Look, Memory, Origin, Steps, Wrap};
+use std::alloc::Global;
+use std::marker::Brand;
+use std::sync::ledger::{Blank, Ledger};
+use std::test::Fail;
+
+/// Eleven letters fill the room without a mark; a twelfth goes to the next row. (The codes of `a` to `l` are 97 to 108.)
+
+fn letters_of_a_continued_line()
+    ensures eleven { cells (rows narrow (letters 0 (97 ∷ 98 ∷ 99 ∷ 100 ∷ 101 ∷ 102 ∷ 103 ∷ 104 ∷ 105 ∷ 106 ∷ 107 ∷ []) ++ line_end 11)) ≡ text (97 ∷ 98 ∷ 99 ∷ 100 ∷ 101 ∷ 102 ∷ 103 ∷ 104 ∷ 105 ∷ 106 ∷ 107 ∷ 32 ∷ []) ∷ [] }
+    ensures twelve { cells (rows narrow (letters 0 (97 ∷ 98 ∷ 99 ∷ 100 ∷ 101 ∷ 102 ∷ 103 ∷ 104 ∷ 105 ∷ 106 ∷ 107 ∷ 108 ∷ []) ++ line_end 12)) ≡ text (97 ∷ 98 ∷ 99 ∷ 100 ∷ 101 ∷ 102 ∷ 103 ∷ 104 ∷ 105 ∷ 106 ∷ 107 ∷ 92 ∷ []) ∷ (text (108 ∷ []) ++ blanks 11 plain) ∷ [] }
+    ensures weights { weights (rows narrow (letters 0 (97 ∷ 98 ∷ 99 ∷ 100 ∷ 101 ∷ 102 ∷ 103 ∷ 104 ∷ 105 ∷ 106 ∷ 107 ∷ 108 ∷ []) ++ line_end 12)) ≡ 11 ∷ 2 ∷ [] }
+    ensures begins { begins (rows narrow (letters 0 (97 ∷ 98 ∷ 99 ∷ 100 ∷ 101 ∷ 102 ∷ 103 ∷ 104 ∷ 105 ∷ 106 ∷ 107 ∷ 108 ∷ []) ++ line_end 12)) ≡ (at 0 0 ∷ at 1 1 ∷ at 2 2 ∷ at 3 3 ∷ at 4 4 ∷ at 5 5 ∷ at 6 6 ∷ at 7 7 ∷ at 8 8 ∷ at 9 9 ∷ at 10 10 ∷ []) ∷ (at 11 0 ∷ at 12 1 ∷ []) ∷ [] }
+{}
+
+/// A character of two columns that does not fit leaves a blank before the mark.
+
+fn a_wide_character_at_the_edge()
+    ensures two { cells (rows narrow (letters 0 (97 ∷ 98 ∷ 99 ∷ 100 ∷ 101 ∷ 102 ∷ 103 ∷ 104 ∷ 105 ∷ 106 ∷ []) ++ wide 10 20013 2 ∷ line_end 11)) ≡ text (97 ∷ 98 ∷ 99 ∷ 100 ∷ 101 ∷ 102 ∷ 103 ∷ 104 ∷ 105 ∷ 106 ∷ 32 ∷ 92 ∷ []) ∷ (glyph_cells 2 (single 20013 2) plain ++ blanks 10 plain) ∷ [] }
+    ensures three { cells (rows narrow (letters 0 (97 ∷ 98 ∷ 99 ∷ 100 ∷ 101 ∷ 102 ∷ 103 ∷ 104 ∷ 105 ∷ []) ++ wide 9 20013 3 ∷ line_end 10)) ≡ text (97 ∷ 98 ∷ 99 ∷ 100 ∷ 101 ∷ 102 ∷ 103 ∷ 104 ∷ 105 ∷ 32 ∷ 32 ∷ 92 ∷ []) ∷ (glyph_cells 3 (single 20013 3) plain ++ blanks 9 plain) ∷ [] }
+{}
+
+/// A tab reaches to its stop, or is cut at the room; behind a full row it begins the next.
+
+fn tabs_of_a_continued_line()
+    ensures stop { cells (rows narrow (letters 0 (97 ∷ 98 ∷ 99 ∷ 100 ∷ 101 ∷ 102 ∷ 103 ∷ []) ++ tab 7 ∷ letter 8 120 ∷ line_end 9)) ≡ text (97 ∷ 98 ∷ 99 ∷ 100 ∷ 101 ∷ 102 ∷ 103 ∷ 32 ∷ 120 ∷ 32 ∷ 32 ∷ 32 ∷ []) ∷ [] }
+    ensures cut { cells (rows narrow (letters 0 (97 ∷ 98 ∷ 99 ∷ 100 ∷ 101 ∷ 102 ∷ 103 ∷ 104 ∷ []) ++ tab 8 ∷ letter 9 120 ∷ line_end 10)) ≡ text (97 ∷ 98 ∷ 99 ∷ 100 ∷ 101 ∷ 102 ∷ 103 ∷ 104 ∷ 32 ∷ 32 ∷ 32 ∷ 92 ∷ []) ∷ text (120 ∷ 32 ∷ 32 ∷ 32 ∷ 32 ∷ 32 ∷ 32 ∷ 32 ∷ 32 ∷ 32 ∷ 32 ∷ 32 ∷ []) ∷ [] }
+    ensures last { cells (rows narrow (letters 0 (97 ∷ 98 ∷ 99 ∷ 100 ∷ 101 ∷ 102 ∷ 103 ∷ 104 ∷ 105 ∷ 106 ∷ []) ++ tab 10 ∷ line_end 11)) ≡ text (97 ∷ 98 ∷ 99 ∷ 100 ∷ 101 ∷ 102 ∷ 103 ∷ 104 ∷ 105 ∷ 106 ∷ 32 ∷ 32 ∷ []) ∷ [] }
+    ensures next { cells (rows narrow (letters 0 (97 ∷ 98 ∷ 99 ∷ 100 ∷ 101 ∷ 102 ∷ 103 ∷ 104 ∷ 105 ∷ 106 ∷ 107 ∷ []) ++ tab 11 ∷ letter 12 120 ∷ line_end 13)) ≡ text (97 ∷ 98 ∷ 99 ∷ 100 ∷ 101 ∷ 102 ∷ 103 ∷ 104 ∷ 105 ∷ 106 ∷ 107 ∷ 92 ∷ []) ∷ text (32 ∷ 32 ∷ 32 ∷ 32 ∷ 32 ∷ 120 ∷ 32 ∷ 32 ∷ 32 ∷ 32 ∷ 32 ∷ 32 ∷ []) ∷ [] }
+{}
+
+/// A truncated row ends with its mark, at a wide character with blanks before it, and places the elements that are not seen.
+
+fn a_truncated_line()
+    ensures mark { cells (rows cut (letters 0 (97 ∷ 98 ∷ 99 ∷ 100 ∷ 101 ∷ 102 ∷ 103 ∷ 104 ∷ 105 ∷ 106 ∷ 107 ∷ 108 ∷ []) ++ line_end 12)) ≡ text (97 ∷ 98 ∷ 99 ∷ 100 ∷ 101 ∷ 102 ∷ 103 ∷ 104 ∷ 105 ∷ 106 ∷ 107 ∷ 36 ∷ []) ∷ [] }
+    ensures weight { weights (rows cut (letters 0 (97 ∷ 98 ∷ 99 ∷ 100 ∷ 101 ∷ 102 ∷ 103 ∷ 104 ∷ 105 ∷ 106 ∷ 107 ∷ 108 ∷ []) ++ line_end 12)) ≡ 13 ∷ [] }
+    ensures wide { cells (rows cut (letters 0 (97 ∷ 98 ∷ 99 ∷ 100 ∷ 101 ∷ 102 ∷ 103 ∷ 104 ∷ 105 ∷ 106 ∷ []) ++ wide 10 20013 2 ∷ line_end 11)) ≡ text (97 ∷ 98 ∷ 99 ∷ 100 ∷ 101 ∷ 102 ∷ 103 ∷ 104 ∷ 105 ∷ 106 ∷ 32 ∷ 36 ∷ []) ∷ [] }
+    ensures scrolled { cells (rows (cut_at 1) (letters 0 (97 ∷ 98 ∷ 99 ∷ 100 ∷ 101 ∷ 102 ∷ []) ++ line_end 6)) ≡ text (36 ∷ 99 ∷ 100 ∷ 101 ∷ 36 ∷ []) ∷ [] }
+    ensures halves { cells (rows (cut_at 1) (wide 0 20013 3 ∷ wide 1 20014 3 ∷ line_end 2)) ≡ text (36 ∷ 32 ∷ 32 ∷ 32 ∷ 36 ∷ []) ∷ [] }
+{}
+
+/// A string that is cut: the row end ends a row without a mark, and the item begins in its first row alone.
+
+fn a_row_end_in_a_string()
+    ensures cells { cells (rows narrow (letter 0 97 ∷ row_end 0 ∷ letter 0 98 ∷ line_end 1)) ≡ (text (97 ∷ []) ++ blanks 11 plain) ∷ (text (98 ∷ []) ++ blanks 11 plain) ∷ [] }
+    ensures begins { begins (rows narrow (letter 0 97 ∷ row_end 0 ∷ letter 0 98 ∷ line_end 1)) ≡ (at 0 0 ∷ []) ∷ (at 1 1 ∷ []) ∷ [] }
+    ensures weights { weights (rows narrow (letter 0 97 ∷ row_end 0 ∷ letter 0 98 ∷ line_end 1)) ≡ 2 ∷ 2 ∷ [] }
+{}
+
+/// A stretch up to a column, and one that the line has passed.
+
+fn stretches_up_to_a_column()
+    ensures before { cells (rows narrow (letters 0 (97 ∷ 98 ∷ 99 ∷ []) ++ stretch 3 8 ∷ letter 4 100 ∷ line_end 5)) ≡ text (97 ∷ 98 ∷ 99 ∷ 32 ∷ 32 ∷ 32 ∷ 32 ∷ 32 ∷ 100 ∷ 32 ∷ 32 ∷ 32 ∷ []) ∷ [] }
+    ensures passed { cells (rows narrow (letters 0 (97 ∷ 98 ∷ 99 ∷ []) ++ stretch 3 2 ∷ letter 4 100 ∷ line_end 5)) ≡ text (97 ∷ 98 ∷ 99 ∷ 100 ∷ 32 ∷ 32 ∷ 32 ∷ 32 ∷ 32 ∷ 32 ∷ 32 ∷ 32 ∷ []) ∷ [] }
+{}
+
+/// What these functions promise is proved; they have no body.
+#[test]
+fn worked_lines() {
+    letters_of_a_continued_line();
+    a_wide_character_at_the_edge();
+    tabs_of_a_continued_line();
+    a_truncated_line();
+    a_row_end_in_a_string();
+    stretches_up_to_a_column();
+}
+
+/// A line given as a slice.
+#[derive(Drop)]
+struct Listed<'a> {
+    rest: &'a [Element],
+}
+
+impl Elements for Listed<'_> {
+    ghost left = { λ s. s.rest.now };
+
+    fn next(&mut self, _alloc: Global) -> Result<Option<Element>, Memory> {
+        match self.rest {
+            [] => Ok(None),
+            [first, rest @ ..] => {
+                let element = *first;
+                self.rest = rest;
+                Ok(Some(element))
+            }
+        }
+    }
+}
+
+macro_rules! glyph {
+    ($code:expr, $width:expr) => {
+        Glyph {
+            base: $code,
+            marks: [0, 0, 0, 0, 0, 0],
+            count: 0,
+            width: $width,
+        }
+    };
+}
+
+macro_rules! element {
+    ($item:expr, $columns:expr, $look:expr) => {
+        Element {
+            extent: Extent::Fixed($columns),
+            look: $look,
+            face: Face::PLAIN,
+            origin: Origin {
+                item: $item,
+                from: $item,
+                to: $item + 1,
+            },
+        }
+    };
+}
+
+/// The base of the glyph in the last column, and 0 where there is none.
+fn last_base(row: &Row) -> u32 {
+    match row.cells().last() {
+        Some(Cell::First(glyph, _)) => glyph.base,
+        _ => 0,
+    }
+}
+
+/// The mark of the first row of eight blanks, a wide character and the line end in ten columns.
+fn mark_of_first<L: Ledger>(alloc: Global, wrap: Wrap, blank: Blank) -> Result<u32, Memory>
+    requires name { blank.name ≡ L.name }
+    requires parts { blank.parts ≡ L.parts }
+    requires some { 0 < L.parts }
+{
+    let mut steps = Steps::<L>::new(blank);
+    let line = [
+        element!(0, 8, Look::Blank),
+        element!(1, 2, Look::Glyph(glyph!(20013, 2))),
+        element!(2, 0, Look::LineEnd),
+    ];
+    let shape = Shape {
+        width: 10,
+        wrap,
+        hscroll: 0,
+    };
+    let mut left = Listed { rest: &line };
+    let mut maker = RowMaker::new(alloc, shape, 0, &[], &[], glyph!(36, 1), glyph!(92, 1))?;
+    match maker.next_row(&mut left, &mut steps)? {
+        Some(row) => Ok(last_base(&row)),
+        None => Ok(0),
+    }
+}
+
+#[test]
+fn a_continued_row_is_made(rt: HostRuntime) -> Result<(), Fail> {
+    let mark = mark_of_first::<Brand>(rt.alloc(), Wrap::Continue, Blank::new(1))?;
+    assert_eq!(rt; mark, 92);
+    Ok(())
+}
+
+#[test]
+fn a_truncated_row_is_made(rt: HostRuntime) -> Result<(), Fail> {
+    let mark = mark_of_first::<Brand>(rt.alloc(), Wrap::Truncate, Blank::new(1))?;
+    assert_eq!(rt; mark, 36);
+    Ok(())
+}
+
+#[test]
+fn a_blank_row_is_copied(rt: HostRuntime) -> Result<(), Fail> {
+    let empty = Row::blank(rt.alloc(), 3)?;
+    let copy = empty.copy()?;
+    assert_eq!(rt; empty.copies(), 0);
+    assert_eq!(rt; copy.copies(), 1);
+    assert_eq!(rt; copy.cells().len(), 3);
+    Ok(())
+}
