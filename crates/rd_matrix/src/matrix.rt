@@ -1,0 +1,114 @@
+//! The rows of a window, from its top.
+ghost use Rattle.std.specs.Prelude.{◌≡◌};
+ghost use Rattle.rd_matrix.specs.Columns.{column_in, covers};
+
+use rd_base::{Memory, Pos};
+use rd_rows::{Begin, Row};
+use std::alloc::Global;
+use std::marker::Model;
+
+/// A row of a window: the first position of its block, its number in the block from 0, and the row itself.
+#[derive(Drop)]
+pub struct Entry {
+    pub start: Pos,
+    pub number: u32,
+    pub row: Row,
+}
+
+/// The rows of a window, from its top. Contracts see it as the list of its entries.
+#[derive(Drop)]
+pub struct Matrix {
+    entries: Vec<Entry>,
+}
+
+impl Model for Matrix {
+    ghost use Rattle.std.specs.Prelude.{List, ◌<◌, length};
+    ghost use Rattle.rd_matrix.specs.declared.matrix.Entry.{Entry};
+
+    ghost Value = { List Entry };
+
+    ghost view = { λ m. m.entries.items };
+
+    ghost invariant = { λ m. length m.entries.items < 4294967296 };
+}
+
+impl Matrix {
+    ghost use Rattle.std.specs.Prelude.{◌≡◌, ◌<◌, length, is_some, Some, OnOk, OnErr, IfOk, [], ◌∷◌, ◌++◌, slice_get};
+    ghost use Rattle.rd_matrix.specs.Cursors.{cursor_in};
+
+    /// A matrix of no row.
+    pub fn new(alloc: Global) -> Result<Matrix, Memory>
+        ensures { IfOk result (λ matrix. matrix ≡ []) }
+    {
+        Ok(Matrix {
+            entries: Vec::new(alloc),
+        })
+    }
+
+    /// Adds a row at the end, where there are fewer than 4,294,967,295.
+    pub fn push(&mut self, entry: Entry) -> Result<(), Memory>
+        requires { length self.old < 4294967295 }
+        ensures ok { OnOk result (self.new ≡ self.old ++ entry ∷ []) }
+        ensures err { OnErr result (self.new ≡ self.old) }
+    {
+        self.entries.push(entry)?;
+        Ok(())
+    }
+
+    /// How many rows there are.
+    pub fn len(&self) -> usize
+        ensures { result ≡ length self.now }
+    {
+        self.entries.len()
+    }
+
+    /// A row, counted from 0.
+    pub fn entry(&self, i: usize) -> &Entry
+        requires { i < length self.now }
+        ensures { slice_get self.now i ≡ Some result.now }
+    {
+        &self.entries[i]
+    }
+
+    /// The row and the column, from 0, in which the item that covers a position begins: the column of its first element, held
+    /// within the window. None exactly where no row holds its beginning. It costs
+    /// what the rows have of items.
+    pub fn cursor(&self, point: Pos) -> Option<(u32, u32)>
+        ensures { result ≡ cursor_in point self.now }
+    {
+        for row in 0..self.entries.len() {
+            let entry = &self.entries[row];
+            if let Some(column) = column_in(entry.row.begins(), entry.start, point) {
+                return Some((row as u32, column));
+            }
+        }
+        None
+    }
+
+    /// Whether a row holds the beginning of the item that covers a position.
+    pub fn shows(&self, point: Pos) -> bool
+        ensures { result ≡ is_some (cursor_in point self.now) }
+    {
+        self.cursor(point).is_some()
+    }
+}
+
+/// The column of the first item that covers a position among those that begin in a row of a block.
+fn column_in(begins: &[Begin], start: Pos, point: Pos) -> Option<u32>
+    ensures { result ≡ column_in start point begins.now }
+{
+    begins
+        .iter()
+        .find(|begin| covers(begin, start, point))
+        .map(|begin| begin.column)
+}
+
+/// Whether an item of a block covers a position.
+fn covers(begin: &Begin, start: Pos, point: Pos) -> bool
+    ensures { result ≡ covers start point begin.now }
+{
+    let place = point as u64;
+    let first = start as u64 + begin.from as u64;
+    let end = start as u64 + begin.to as u64;
+    first <= place && place < end
+}
