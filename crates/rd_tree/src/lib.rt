@@ -1,0 +1,6 @@
+//! The rectangles of windows.
+#![tactic(auto)]
+
+mod rect;
+
+pub use rect::Rect;
