@@ -1,0 +1,71 @@
+-- Counts and known bytes of sources, sinks and files.
+use Rattle.std.proofs.Common.{◌≡◌, ℕ, ◌+◌, ◌-◌, ◌^◌, ◌<◌, ◌≤◌, ◌⊎◌, inl, inr, List, [], ◌∷◌, ◌++◌, length, take, drop, Option, None, Some, refl, sym, ap, ◌∙◌, subst, append_assoc, append-nil, arith, length-append}
+use Rattle.std.specs.Io.KnownBytes.{Appends, Consumes, Keeps}
+use Rattle.std.proofs.KnownBytes.{Appends-trans, Consumes-trans, Consumes-nil, Appends-kept}
+use Rattle.std.specs.Prelude.{slice_range}
+use Rattle.std.proofs.lemmas.List.{drop-take, drop-drop, length-take}
+use Rattle.std.proofs.Common.{IfSome, Result, Ok, take-append-drop}
+use Rattle.std.proofs.Math.Seq.{take-append_seam, drop-append_seam}
+use Rattle.rd_io.specs.Devices.{Rose, AppendsFront, Fetches}
+use Rattle.rd_io.specs.Files.{IsFront}
+
+-- a call that failed after others did so for the whole
+pub rose-after : (a b c : ℕ) → a ≤ b → Rose b c → Rose a c
+rose-after a b c p (inl q) = inl (omega arith)
+rose-after a b c p (inr q) = inr q
+
+-- what is left of a range when its first n elements are used up
+pub range-skipped : (xs : List ℕ) (from to n : ℕ) (ys : List ℕ) → to ≤ length xs → slice_range xs from to ≡ ys → n ≤ length ys → slice_range xs (from + n) to ≡ drop n ys
+range-skipped xs from to n ys bound is p =
+    let size : length ys ≤ to - from = rw (← is) (omega (arith, length-take {A = ℕ})) in
+    let room : n + (to - (from + n)) ≡ to - from = omega arith in
+    let all : slice_range xs from to ≡ take (n + (to - (from + n))) (drop from xs) = rw room refl in
+    sym (ap (drop n) (sym is ∙ all) ∙ drop-take n (to - (from + n)) (drop from xs) ∙ ap (take (to - (from + n))) (drop-drop n from xs))
+
+-- a write that failed leaves a front
+pub front-stopped : (a b c : Option (List ℕ)) (bytes front rest : List ℕ) → bytes ≡ front ++ rest → Appends a b front → Keeps b c → AppendsFront a c bytes
+front-stopped a b c bytes front rest e p q =
+    let here : take (length front) bytes ≡ front = ap (take (length front)) e ∙ take-append_seam front rest in
+    (length front, omega (arith, ap length e, length-append front rest), subst (Appends a c) (sym here) (Appends-kept a b c front p q))
+
+-- a write adds to the front, and the rest gets shorter
+pub front-written : (a b c : Option (List ℕ)) (bytes front rest back : List ℕ) (n : ℕ) → bytes ≡ front ++ rest → back ≡ drop n rest → Appends a b front → Appends b c (take n rest)
+    → (more : List ℕ) × (bytes ≡ more ++ back) × Appends a c more
+front-written a b c bytes front rest back n e is p q =
+    let split : bytes ≡ (front ++ take n rest) ++ back =
+    e ∙ ap (λ l. front ++ l) (sym (take-append-drop n rest) ∙ ap (λ l. take n rest ++ l) (sym is)) ∙ sym (append_assoc front (take n rest) back) in
+    (front ++ take n rest, split, Appends-trans a b c front (take n rest) p q)
+
+-- a read of a front of what is left
+pub source-read : (xs buffer : List ℕ) (at n : ℕ) → take n buffer ≡ take n (drop at xs) → drop at xs ≡ take n buffer ++ drop (at + n) xs
+source-read xs buffer at n e =
+    sym (take-append-drop n (drop at xs)) ∙ ap (λ l. l ++ drop n (drop at xs)) (sym e) ∙ ap (λ l. take n buffer ++ l) (drop-drop n at xs)
+
+-- a front of a file grows by what is fetched behind it
+pub front-grows : (told : Option (List ℕ)) (bytes new buffer : List ℕ) (from n : ℕ) → from ≡ length bytes → IfSome told (λ file. take n buffer ≡ take n (drop from file))
+    → new ≡ bytes ++ take n buffer → IsFront bytes told → IsFront new told
+front-grows None bytes new buffer from n at fetched put front = tt
+front-grows (Some file) bytes new buffer from n at fetched put front =
+    let rest = front.0 in
+    let behind : drop from file ≡ rest = ap (λ k. drop k file) at ∙ ap (drop (length bytes)) front.1 ∙ drop-append_seam bytes rest in
+    let added : take n buffer ≡ take n rest = fetched ∙ ap (take n) behind in
+    let whole : bytes ++ rest ≡ new ++ drop n rest =
+    ap (λ l. bytes ++ l) (sym (take-append-drop n rest) ∙ ap (λ l. l ++ drop n rest) (sym added)) ∙ sym (append_assoc bytes (take n buffer) (drop n rest)) ∙ ap (λ l. l ++ drop n rest) (sym put) in
+    (drop n rest, front.1 ∙ whole)
+
+-- what a fetch from a told file gave
+pub fetched-told : (E : Type 0) (told : Option (List ℕ)) (from n : ℕ) (buffer : List ℕ) → Fetches {E = E} told from (Ok n) buffer → IfSome told (λ file. take n buffer ≡ take n (drop from file))
+fetched-told E None from n buffer h = tt
+fetched-told E (Some file) from n buffer h = h.0
+
+-- a list with more behind it is longer
+pub length-more : (xs ys zs : List ℕ) (n : ℕ) → zs ≡ xs ++ ys → length ys ≡ n → 0 < n → length xs < length zs
+length-more xs ys zs n e size some = omega (arith, ap length e, length-append xs ys)
+
+-- no byte is a front of each file
+pub front-begins : (told : Option (List ℕ)) (bytes : List ℕ) → bytes ≡ [] → IsFront bytes told
+front-begins None bytes e = tt
+front-begins (Some file) bytes e = (file, ap (λ l. l ++ file) (sym e))
+
+pub none-fits : (bytes : List ℕ) → bytes ≡ [] → length bytes ≤ 8388608
+none-fits bytes e = omega (arith, ap length e)

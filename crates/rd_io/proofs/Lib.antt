@@ -1,0 +1,4 @@
+pub mod Cuts
+pub mod Bytes
+pub mod Gathering
+pub mod Memory

@@ -1,0 +1,5 @@
+pub mod Devices
+pub mod Lines
+pub mod Pieces
+pub mod Files
+pub mod Memory

@@ -1,0 +1,88 @@
+-- The lines of a text, and what a reader of lines answers.
+use Rattle.std.specs.Prelude.{◌≡◌, ◌≢◌, ℕ, ◌+◌, ◌<◌, ◌≤◌, ◌⊎◌, ◌==◌, Bool, true, false, List, [], ◌∷◌, ◌++◌, length, take, if◌then◌else◌, Option, None, Some, Result, Ok, Err, flat_map}
+use Rattle.std.specs.List.{AllByRecursion}
+use Rattle.std.specs.Io.KnownBytes.{Consumes, IsAtEnd}
+use Rattle.rd_io.specs.declared.lines.LineFault.{LineFault}
+use Rattle.rd_io.specs.declared.lines.LineFault.TheVariants.{Failed, TooLong, TooMany, Memory}
+
+-- a byte in front of the first line
+abbrev pub in_front : ℕ → List (List ℕ) → List (List ℕ)
+in_front b [] = (b ∷ []) ∷ []
+in_front b (line ∷ lines) = (b ∷ line) ∷ lines
+
+-- the lines of a text: it is cut at each newline, byte 10, and what follows the last one is a line where it is not empty
+abbrev pub lines_of : List ℕ → List (List ℕ)
+lines_of [] = []
+lines_of (b ∷ bs) = if b == 10 then [] ∷ lines_of bs else in_front b (lines_of bs)
+
+-- no byte is a newline
+abbrev pub IsUnbroken : List ℕ → Type 0
+IsUnbroken bytes = AllByRecursion (λ b. b ≢ 10) bytes
+
+-- the line that a rest without a newline makes: none where it is empty
+abbrev pub last_of : List ℕ → List (List ℕ)
+last_of [] = []
+last_of (b ∷ bs) = (b ∷ bs) ∷ []
+
+-- lines, each with its newline
+abbrev pub joined : List (List ℕ) → List ℕ
+joined lines = flat_map (λ line. line ++ 10 ∷ []) lines
+
+-- The state of a reader of lines: the bytes that it took from the source and has not given in lines, the line that it lends,
+-- how many lines it gave, whether it has met the end of the source, and the fault that it answers from then on.
+pub record Reading : Type 0 where
+  pub held : List ℕ
+  pub line : List ℕ
+  pub given : ℕ
+  pub ended : Bool
+  pub fault : Option LineFault
+
+-- a reader that has read nothing
+abbrev pub unread : Reading
+unread = record { held = []; line = []; given = 0; ended = false; fault = None }
+
+-- a line may be given, and is: it has no newline and at most 1,048,576 bytes, and is not the 1,000,001st
+pub record Gives (old new : Reading) : Type 0 where
+  pub unbroken : IsUnbroken new.line
+  pub short : length new.line ≤ 1048576
+  pub few : old.given < 1000000
+  pub count : new.given ≡ old.given + 1
+  pub fault : new.fault ≡ None
+
+-- a line and its newline are the front of the bytes held and taken, and the rest is held
+pub record GivesWhole (old new : Reading) (bytes : List ℕ) : Type 0 where
+  pub line : Gives old new
+  pub split : old.held ++ bytes ≡ new.line ++ 10 ∷ new.held
+  pub goes_on : new.ended ≡ false
+
+-- the bytes held and taken are the last line, behind which the source has no byte and no newline
+pub record GivesLast (old new : Reading) (bytes : List ℕ) (left : Option (List ℕ)) : Type 0 where
+  pub line : Gives old new
+  pub split : old.held ++ bytes ≡ new.line
+  pub some : 0 < length new.line
+  pub held : new.held ≡ []
+  pub ended : new.ended ≡ true
+  pub end : IsAtEnd left
+
+-- no byte is held or taken, and the source has none, or had none when its end was met
+pub record GivesNone (old new : Reading) (bytes : List ℕ) (left : Option (List ℕ)) : Type 0 where
+  pub split : old.held ++ bytes ≡ []
+  pub held : new.held ≡ []
+  pub count : new.given ≡ old.given
+  pub ended : new.ended ≡ true
+  pub end : old.ended ≡ false → IsAtEnd left
+  pub fault : new.fault ≡ None
+
+-- When each fault comes: the source failed while the bytes held and taken had no newline, and neither limit was passed; more than
+-- 1,048,576 bytes have come without a newline; a byte has come that begins the 1,000,001st line; or memory was wanting.
+abbrev pub Cause : LineFault → ℕ → List ℕ → Type 0
+Cause Failed given come = IsUnbroken come × (length come ≤ 1048576) × ((given < 1000000) ⊎ (come ≡ []))
+Cause TooLong given come = (given < 1000000) × (1048576 < length come) × IsUnbroken (take 1048577 come)
+Cause TooMany given come = (1000000 ≤ given) × (0 < length come)
+Cause Memory given come = Unit {0}
+
+-- What the reader answers, where it took these bytes from the source, which then has this left.
+abbrev pub Answers : Result Bool LineFault → Reading → Reading → List ℕ → Option (List ℕ) → Type 0
+Answers (Ok true) old new bytes left = GivesWhole old new bytes ⊎ GivesLast old new bytes left
+Answers (Ok false) old new bytes left = GivesNone old new bytes left
+Answers (Err fault) old new bytes left = Cause fault old.given (old.held ++ bytes) × (new.given ≡ old.given) × (new.fault ≡ Some fault)

@@ -1,0 +1,29 @@
+//! The calls of a form in memory that are to fail.
+ghost use Rattle.std.specs.Prelude.{◌≡◌, ◌==◌, ◌+◌, ◌-◌, ◌^◌, min};
+ghost use Rattle.std.specs.List.{list_any};
+
+/// Calls by their numbers, counted from 1, and how many were made.
+#[derive(Drop)]
+pub struct Calls {
+    made: u64,
+    failing: Vec<u64>,
+}
+
+impl Calls {
+    /// None was made, and these are to fail.
+    pub fn new(failing: Vec<u64>) -> Calls
+        ensures { result ≡ record { made = 0; failing = failing } }
+    {
+        Calls { made: 0, failing }
+    }
+
+    /// Counts a call, and answers whether it is to fail.
+    pub fn next_fails(&mut self) -> bool
+        ensures made { self.new.made ≡ min (self.old.made + 1) (2 ^ 64 - 1) }
+        ensures failing { self.new.failing.items ≡ self.old.failing.items }
+        ensures listed { result ≡ list_any (λ call. call == self.new.made) self.old.failing.items }
+    {
+        self.made = self.made.saturating_add(1);
+        self.failing.contains(&self.made)
+    }
+}

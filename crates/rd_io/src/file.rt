@@ -1,0 +1,99 @@
+//! The reading of whole files.
+ghost use Rattle.std.specs.Prelude.{◌≡◌, ◌≤◌, ◌<◌, ℕ, List, IfOk, IfSome, IsErrOf, length};
+ghost use Rattle.rd_io.specs.Devices.{Rose};
+ghost use Rattle.rd_io.specs.Files.{FetchesMore, PutsBytes};
+
+use crate::traits::Files;
+use std::alloc::{AllocError, Global};
+use thiserror::Error;
+
+/// Why a file was not read.
+#[derive(Clone, Copy, Debug, PartialEq, Eq, Error)]
+pub enum FileFault {
+    /// The file failed, or there is none.
+    #[error("the file failed")]
+    Failed,
+    /// It has more than 8,388,608 bytes.
+    #[error("the file is too large")]
+    TooLarge,
+    #[error("no memory")]
+    Memory,
+}
+
+impl From<AllocError> for FileFault {
+    ghost use Rattle.std.specs.Prelude.{◌≡◌};
+    ghost use Rattle.rd_io.specs.declared.file.FileFault.TheVariants.{Memory};
+
+    ghost from_gives = { λ _ e. e ≡ Memory };
+
+    fn from(_none: AllocError) -> FileFault {
+        FileFault::Memory
+    }
+}
+
+/// The most bytes of a file.
+const LARGEST: usize = 8_388_608;
+
+/// How many bytes are fetched at a time.
+const ROOM: usize = 65_536;
+
+/// Reads a file whole.
+pub fn read_file<F: Files>(alloc: Global, files: &mut F, name: &str) -> Result<Vec<u8>, FileFault>
+    ensures whole { IfOk result (λ bytes. IfSome (F.contents files.old name.now) (λ file. bytes.items ≡ file)) }
+    ensures small { IfOk result (λ bytes. length bytes.items ≤ 8388608) }
+    ensures large { IsErrOf result FileFault.TooLarge → IfSome (F.contents files.old name.now) (λ file. 8388608 < length file) }
+    ensures contents { (file : List ℕ) → F.contents files.new file ≡ F.contents files.old file }
+    ensures never_falls { (file : List ℕ) → F.faults files.old file ≤ F.faults files.new file }
+    ensures failed { IsErrOf result FileFault.Failed → Rose (F.faults files.old name.now) (F.faults files.new name.now) }
+{
+    let mut room = room(alloc)?;
+    let mut bytes = Vec::new(alloc);
+    loop {
+        match fetch_more(files, name, &mut room, &mut bytes) {
+            Ok(true) => {}
+            Ok(false) => return Ok(bytes),
+            Err(fault) => return Err(fault),
+        }
+    }
+}
+
+/// Room for the bytes of one fetch.
+fn room(alloc: Global) -> Result<Vec<u8>, AllocError>
+    ensures { IfOk result (λ room. 0 < length room.items) }
+{
+    Vec::from_elem(alloc, 0, ROOM)
+}
+
+/// Fetches the bytes that follow those that were read, and answers whether there were any.
+fn fetch_more<F: Files>(
+    files: &mut F,
+    name: &str,
+    room: &mut [u8],
+    bytes: &mut Vec<u8>,
+) -> Result<bool, FileFault>
+    requires { 0 < length room.old }
+    ensures more { FetchesMore result (F.contents files.old name.now) bytes.old.items bytes.new.items }
+    ensures contents { (file : List ℕ) → F.contents files.new file ≡ F.contents files.old file }
+    ensures never_falls { (file : List ℕ) → F.faults files.old file ≤ F.faults files.new file }
+    ensures failed { IsErrOf result FileFault.Failed → Rose (F.faults files.old name.now) (F.faults files.new name.now) }
+{
+    let Ok(n) = files.fetch(name, bytes.len() as u64, room) else {
+        return Err(FileFault::Failed);
+    };
+    if n == 0 {
+        return Ok(false);
+    }
+    put(bytes, room.split_at(n).0)?;
+    Ok(true)
+}
+
+/// Adds bytes to those of a file, if it is not too large then.
+fn put(bytes: &mut Vec<u8>, piece: &[u8]) -> Result<(), FileFault>
+    ensures { PutsBytes result bytes.old.items bytes.new.items piece.now }
+{
+    if bytes.len() > LARGEST || piece.len() > LARGEST - bytes.len() {
+        return Err(FileFault::TooLarge);
+    }
+    bytes.extend_from_slice(piece)?;
+    Ok(())
+}

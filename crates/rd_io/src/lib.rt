@@ -1,0 +1,24 @@
+//! Sources, files and sinks of bytes, in memory and of the system, each with a count of its faults; and the lines of a source.
+#![tactic(auto)]
+
+mod calls;
+mod chunk;
+mod copy;
+mod file;
+mod host;
+mod lines;
+mod memory_files;
+mod memory_sink;
+mod memory_source;
+mod traits;
+
+pub use file::{FileFault, read_file};
+pub use host::{HostFiles, StdSink, StdSource};
+pub use lines::{LineFault, Lines, lines_are_cut_at_newlines};
+pub use memory_files::MemFiles;
+pub use memory_sink::MemSink;
+pub use memory_source::MemSource;
+pub use traits::{Failed, Files, Sink, Source, write_whole};
+
+#[cfg(test)]
+mod tests;

@@ -1,0 +1,73 @@
+//! A sink in memory.
+ghost use Rattle.std.specs.Prelude.{◌≡◌, ◌≤◌, [], Some, IfOk, length};
+
+use crate::calls::Calls;
+use crate::traits::{Failed, Sink};
+use rd_base::Memory;
+use std::alloc::Global;
+
+/// A sink with room for so many bytes, which fails where no room is left and at the calls that it is told to fail at.
+#[derive(Drop)]
+pub struct MemSink {
+    room: Vec<u8>,
+    taken: usize,
+    calls: Calls,
+    faults: u64,
+    pub ghost within: { taken ≤ length room.items },
+}
+
+impl MemSink {
+    /// A sink that takes its room now, so that a write takes no memory.
+    pub fn with_room(alloc: Global, bytes: u64) -> Result<MemSink, Memory>
+        ensures written { IfOk result (λ sink. ⟦<MemSink as Sink>⟧.written sink ≡ Some []) }
+        ensures room { IfOk result (λ sink. length sink.room.items ≡ bytes) }
+    {
+        Ok(MemSink {
+            room: Vec::from_elem(alloc, 0, bytes as usize)?,
+            taken: 0,
+            calls: Calls::new(Vec::new(alloc)),
+            faults: 0,
+        })
+    }
+
+    /// The same sink with the numbers of the calls that are to fail, counted from 1 and from here on.
+    pub fn failing(self, calls: Vec<u64>) -> MemSink
+        ensures written { ⟦<MemSink as Sink>⟧.written result ≡ ⟦<MemSink as Sink>⟧.written self }
+        ensures faults { ⟦<MemSink as Sink>⟧.faults result ≡ ⟦<MemSink as Sink>⟧.faults self }
+        ensures calls { result.calls ≡ record { made = 0; failing = calls } }
+    {
+        MemSink {
+            room: self.room,
+            taken: self.taken,
+            calls: Calls::new(calls),
+            faults: self.faults,
+        }
+    }
+
+    /// The bytes that were written.
+    pub fn bytes(&self) -> &[u8]
+        ensures { ⟦<MemSink as Sink>⟧.written self.now ≡ Some result.now }
+    {
+        &self.room[..self.taken]
+    }
+}
+
+impl Sink for MemSink {
+    ghost use Rattle.std.specs.Prelude.{Some, take};
+
+    ghost written = { λ s. Some (take s.taken s.room.items) };
+
+    ghost faults = { λ s. s.faults };
+
+    fn write(&mut self, piece: &[u8]) -> Result<usize, Failed> {
+        let left = self.room.len() - self.taken;
+        if self.calls.next_fails() || left == 0 && !piece.is_empty() {
+            self.faults = self.faults.saturating_add(1);
+            return Err(Failed);
+        }
+        let n = left.min(piece.len());
+        self.room[self.taken..self.taken + n].copy_from_slice(&piece[..n]);
+        self.taken += n;
+        Ok(n)
+    }
+}

@@ -1,0 +1,63 @@
+//! A source in memory.
+ghost use Rattle.std.specs.Prelude.{◌≡◌, ◌≤◌, Some, length};
+
+use crate::calls::Calls;
+use crate::copy::copy_front;
+use crate::traits::{Failed, Source};
+
+/// A source of given bytes, which fails at the calls that it is told to fail at.
+#[derive(Drop)]
+pub struct MemSource {
+    bytes: Vec<u8>,
+    at: usize,
+    calls: Calls,
+    faults: u64,
+    pub ghost within: { at ≤ length bytes.items },
+}
+
+impl MemSource {
+    /// A source of these bytes that never fails.
+    pub fn new(bytes: Vec<u8>) -> MemSource
+        ensures { ⟦<MemSource as Source>⟧.left result ≡ Some bytes.items }
+    {
+        let none = Vec::new(*bytes.allocator());
+        MemSource {
+            bytes,
+            at: 0,
+            calls: Calls::new(none),
+            faults: 0,
+        }
+    }
+
+    /// The same source with the numbers of the calls that are to fail, counted from 1 and from here on.
+    pub fn failing(self, calls: Vec<u64>) -> MemSource
+        ensures left { ⟦<MemSource as Source>⟧.left result ≡ ⟦<MemSource as Source>⟧.left self }
+        ensures faults { ⟦<MemSource as Source>⟧.faults result ≡ ⟦<MemSource as Source>⟧.faults self }
+        ensures calls { result.calls ≡ record { made = 0; failing = calls } }
+    {
+        MemSource {
+            bytes: self.bytes,
+            at: self.at,
+            calls: Calls::new(calls),
+            faults: self.faults,
+        }
+    }
+}
+
+impl Source for MemSource {
+    ghost use Rattle.std.specs.Prelude.{Some, drop};
+
+    ghost left = { λ s. Some (drop s.at s.bytes.items) };
+
+    ghost faults = { λ s. s.faults };
+
+    fn read(&mut self, buf: &mut [u8]) -> Result<usize, Failed> {
+        if self.calls.next_fails() {
+            self.faults = self.faults.saturating_add(1);
+            return Err(Failed);
+        }
+        let n = copy_front(buf, &self.bytes[self.at..]);
+        self.at += n;
+        Ok(n)
+    }
+}
