@@ -1,0 +1,3 @@
+pub mod Erasing
+pub mod Feeding
+pub mod Wholeness

@@ -1,0 +1,155 @@
+-- The terminal: a function from what it is and the bytes that it reads to what it then is.
+use Rattle.std.specs.Prelude.{◌≡◌, ℕ, zero, suc, ◌+◌, ◌-◌, ◌*◌, ◌<◌, ◌≤◌, ◌==◌, nat_lt, nat_le, min, Bool, true, false, if◌then◌else◌, ◌&&◌, not, List, [], ◌∷◌, ◌++◌, length, replicate, take, map, Option, None, Some, IfSome, slice_set}
+use Rattle.rd_base.specs.Cells.{single}
+use Rattle.rd_base.specs.Faces.{Attributes, plain}
+use Rattle.rd_base.specs.declared.cell.Cell.{Cell}
+use Rattle.rd_base.specs.declared.cell.Cell.TheVariants.{Blank, First}
+use Rattle.rd_term.specs.Parameters.{ParametersRead, no_parameters, with_digit, separated, numbers_of}
+use Rattle.rd_term.specs.Pictures.{Picture, blank, row_at, with_cell, width_of, IsGrid}
+use Rattle.rd_term.specs.declared.reading.Reading.{Reading}
+use Rattle.rd_term.specs.declared.reading.Reading.TheVariants.{Between, Escaped, Sequence}
+
+-- A cell that is not known is None, and so are a cursor and a pen. The cursor is a row and a column from 0. `wait` says that
+-- a character filled the cursor's row; while the cursor is not known it is false.
+pub record Tty : Type 0 where
+  pub rows : List (List (Option Cell))
+  pub cursor : Option (ℕ × ℕ)
+  pub wait : Bool
+  pub pen : Option Attributes
+  pub reading : Reading
+  pub confused : Bool
+
+-- a terminal of which nothing is known
+abbrev pub unknown : ℕ → ℕ → Tty
+unknown width height = record {
+  rows = replicate height (replicate width None);
+  cursor = None;
+  wait = false;
+  pen = None;
+  reading = Between;
+  confused = false;
+}
+
+-- it has read what it can't obey, and stays as it is
+abbrev pub confuse : Tty → Tty
+confuse t = record t { confused = true }
+
+abbrev pub is_plain : Attributes → Bool
+is_plain f = f.fg == 8 && f.bg == 8 && not f.bold && not f.underline && not f.inverse
+
+-- the pen is known to be plain
+abbrev pub writes_plain : Option Attributes → Bool
+writes_plain None = false
+writes_plain (Some face) = is_plain face
+
+-- `\e[r;cH`: the cursor goes to a row and a column, counted from 1, that are on the screen, and the wait ends
+abbrev pub on_screen : {A : Type 0} → List (List A) → ℕ → ℕ → Bool
+on_screen rows r c = nat_lt 0 r && nat_le r (length rows) && nat_lt 0 c && nat_le c (length (row_at rows (r - 1)))
+
+abbrev pub move_to : List ℕ → Tty → Tty
+move_to (r ∷ c ∷ []) t = if on_screen t.rows r c then record t { cursor = Some (r - 1, c - 1); wait = false } else confuse t
+move_to numbers t = confuse t
+
+-- `\e[2J`: all cells become blank and plain, by a plain pen
+abbrev pub erased_from : ℕ → List (Option Cell) → List (Option Cell)
+erased_from column row = take column row ++ replicate (length row - column) (Some blank)
+
+abbrev pub clear : List ℕ → Tty → Tty
+clear (n ∷ []) t = if n == 2 && writes_plain t.pen then record t { rows = map (erased_from 0) t.rows } else confuse t
+clear numbers t = confuse t
+
+-- `\e[K`: the cells from the cursor to its row's end become blank and plain, by a plain pen and while no wait stands
+abbrev pub erase_at : Option (ℕ × ℕ) → Tty → Tty
+erase_at None t = confuse t
+erase_at (Some place) t = record t { rows = slice_set t.rows place.0 (erased_from place.1 (row_at t.rows place.0)) }
+
+abbrev pub erase : List ℕ → Tty → Tty
+erase [] t = if writes_plain t.pen && not t.wait then erase_at t.cursor t else confuse t
+erase (n ∷ ns) t = confuse t
+
+-- `\e[0m`: the pen becomes plain
+abbrev pub dress : List ℕ → Tty → Tty
+dress (n ∷ []) t = if n == 0 then record t { pen = Some plain } else confuse t
+dress numbers t = confuse t
+
+-- a whole sequence, by its last byte and its numbers
+abbrev pub obey : ℕ → List ℕ → Tty → Tty
+obey byte numbers t =
+    if byte == 72 then move_to numbers t
+    else if byte == 74 then clear numbers t
+    else if byte == 75 then erase numbers t
+    else if byte == 109 then dress numbers t
+    else confuse t
+
+abbrev pub end_sequence : ℕ → Option (List ℕ) → Tty → Tty
+end_sequence byte None t = confuse t
+end_sequence byte (Some numbers) t = obey byte numbers t
+
+-- a character of one column, put where the cursor is: it goes on by one, and at the row's end it stays and the wait begins
+abbrev pub cell_of : ℕ → Attributes → Cell
+cell_of code face = if code == 32 then Blank face else First (single code 1) face
+
+abbrev pub put_at : ℕ → Attributes → ℕ → ℕ → Tty → Tty
+put_at code face row column t =
+    let full = nat_le (length (row_at t.rows row)) (column + 1) in
+    record t {
+      rows = with_cell t.rows row column (Some (cell_of code face));
+      cursor = Some (row, if full then column else column + 1);
+      wait = full;
+    }
+
+-- a character needs the cursor and the pen, and that no wait stands
+abbrev pub put : ℕ → Option Attributes → Option (ℕ × ℕ) → Tty → Tty
+put code (Some face) (Some place) t = if t.wait then confuse t else put_at code face place.0 place.1 t
+put code (Some face) None t = confuse t
+put code None place t = confuse t
+
+-- a digit may be too much
+abbrev pub go_on : Option ParametersRead → Tty → Tty
+go_on None t = confuse t
+go_on (Some parameters) t = record t { reading = Sequence parameters }
+
+abbrev pub is_printable : ℕ → Bool
+is_printable byte = nat_le 32 byte && nat_le byte 126
+
+abbrev pub is_digit : ℕ → Bool
+is_digit byte = nat_le 48 byte && nat_le byte 57
+
+-- the next byte, by what was read of a sequence before it
+abbrev pub read_byte : Reading → ℕ → Tty → Tty
+read_byte Between byte t =
+    if byte == 27 then record t { reading = Escaped }
+    else if is_printable byte then put byte t.pen t.cursor t
+    else confuse t
+read_byte Escaped byte t = if byte == 91 then record t { reading = Sequence no_parameters } else confuse t
+read_byte (Sequence parameters) byte t =
+    if is_digit byte then go_on (with_digit parameters (byte - 48)) t
+    else if byte == 59 then record t { reading = Sequence (separated parameters) }
+    else end_sequence byte (numbers_of parameters) t
+
+-- one byte; a confused terminal stays as it is
+abbrev pub feed_byte : Tty → ℕ → Tty
+feed_byte t byte = if t.confused then t else read_byte t.reading byte (record t { reading = Between })
+
+-- bytes, one after another
+abbrev pub feed_bytes : Tty → List ℕ → Tty
+feed_bytes t [] = t
+feed_bytes t (byte ∷ bytes) = feed_bytes (feed_byte t byte) bytes
+
+-- rows of which each cell is known
+abbrev pub known : List (List Cell) → List (List (Option Cell))
+known rows = map (map Some) rows
+
+-- it shows a picture: each cell is the picture's, and the cursor is the picture's
+pub record Shows (t : Tty) (picture : Picture) : Type 0 where
+  pub sure : t.confused ≡ false
+  pub cells : t.rows ≡ known picture.rows
+  pub cursor : t.cursor ≡ Some (picture.row, picture.column)
+
+-- what a terminal may be: 1 to 400 columns and 1 to 200 rows, with a known cursor on them
+pub record IsTerminal (rows : List (List (Option Cell))) (cursor : Option (ℕ × ℕ)) : Type 0 where
+  pub each : IsGrid (width_of rows) rows
+  pub some : 0 < width_of rows
+  pub wide : width_of rows ≤ 400
+  pub tall : length rows ≤ 200
+  pub place : IfSome cursor (λ place. (place.0 < length rows) × (place.1 < width_of rows))

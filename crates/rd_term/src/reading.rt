@@ -1,0 +1,13 @@
+//! What a terminal has read of a control sequence.
+use crate::parameters::Parameters;
+
+/// How far a control sequence was read.
+#[derive(Drop)]
+pub(crate) enum Reading {
+    /// None of it: the terminal stands between two sequences.
+    Between,
+    /// The escape byte.
+    Escaped,
+    /// The escape byte, a bracket, and these numbers.
+    Sequence(Parameters),
+}

@@ -1,0 +1,102 @@
+//! A screen of cells with a cursor.
+ghost use Rattle.std.specs.Prelude.{◌≡◌, ◌<◌, ◌≤◌, IfOk, length};
+ghost use Rattle.rd_term.specs.Pictures.{IsScreen, blank_picture, width_of, row_at, cell_at, with_cell};
+
+use crate::rows::filled;
+use rd_base::{Cell, Face, ListOf, Memory};
+use std::alloc::Global;
+use std::marker::Model;
+
+/// Up to 200 rows of one width, up to 400 columns, and a cursor on them. Rows and columns count from 0.
+#[derive(Drop)]
+pub struct Screen {
+    rows: Vec<ListOf<Cell>>,
+    row: u32,
+    column: u32,
+}
+
+impl Model for Screen {
+    ghost use Rattle.rd_term.specs.Pictures.{Picture, IsScreen};
+
+    ghost Value = { Picture };
+
+    ghost view = { λ s. record { rows = s.rows.items; row = s.row; column = s.column } };
+
+    ghost invariant = { λ s. IsScreen (record { rows = s.rows.items; row = s.row; column = s.column }) };
+}
+
+impl Screen {
+    /// A screen of plain blanks, with the cursor at its first cell.
+    pub fn blank(alloc: Global, width: u32, height: u32) -> Result<Screen, Memory>
+        requires some_columns { 1 ≤ width }
+        requires columns { width ≤ 400 }
+        requires some_rows { 1 ≤ height }
+        requires rows { height ≤ 200 }
+        ensures { IfOk result (λ screen. screen ≡ blank_picture width height) }
+    {
+        Ok(Screen {
+            rows: filled(alloc, width, height, Cell::Blank(Face::PLAIN))?,
+            row: 0,
+            column: 0,
+        })
+    }
+
+    /// How many columns each row has. This also tells what a screen may be.
+    pub fn width(&self) -> u32
+        ensures value { result ≡ width_of self.now.rows }
+        ensures screen { IsScreen self.now }
+    {
+        self.rows[0].len() as u32
+    }
+
+    /// How many rows there are.
+    pub fn height(&self) -> u32
+        ensures { result ≡ length self.now.rows }
+    {
+        self.rows.len() as u32
+    }
+
+    /// The cells of a row.
+    pub fn row(&self, row: u32) -> &[Cell]
+        requires { row < length self.now.rows }
+        ensures { result.now ≡ row_at self.now.rows row }
+    {
+        self.rows[row as usize].as_slice()
+    }
+
+    /// The cell at a place on the screen.
+    pub fn cell(&self, row: u32, column: u32) -> Cell
+        requires row { row < length self.now.rows }
+        requires column { column < width_of self.now.rows }
+        ensures { result ≡ cell_at self.now.rows row column }
+    {
+        self.rows[row as usize].at(column as usize)
+    }
+
+    /// Puts another cell at a place on the screen.
+    pub fn set(&mut self, row: u32, column: u32, cell: Cell)
+        requires row { row < length self.old.rows }
+        requires column { column < width_of self.old.rows }
+        ensures { self.new ≡ record self.old { rows = with_cell self.old.rows row column cell } }
+    {
+        let cells = &mut self.rows[row as usize];
+        cells.set(column as usize, cell);
+    }
+
+    /// The cursor's row and column.
+    pub fn cursor(&self) -> (u32, u32)
+        ensures { result ≡ (self.now.row, self.now.column) }
+    {
+        (self.row, self.column)
+    }
+
+    /// Puts the cursor at a place on the screen.
+    pub fn place(&mut self, row: u32, column: u32)
+        requires row { row < length self.old.rows }
+        requires column { column < width_of self.old.rows }
+        ensures { self.new ≡ record self.old { row = row; column = column } }
+    {
+        self.row = row;
+        self.column = column;
+    }
+}
