@@ -1,0 +1,167 @@
+-- The update law.
+use Rattle.std.proofs.Common.{◌≡◌, if◌then◌else◌, ℕ, zero, suc, ◌+◌, ◌-◌, ◌<◌, ◌≤◌, Bool, true, false, not, List, [], ◌∷◌, ◌++◌, length, get_or, take, map, replicate, Option, None, Some, refl, sym, ap, subst, ◌∙◌, arith, append_assoc, append-nil, All}
+use Rattle.std.specs.List.{AllByRecursion}
+use Rattle.std.proofs.lemmas.List.Elements.{recursion_from_All, All-from_recursion}
+use Rattle.std.proofs.lemmas.List.{length-map, get_or-map, length-replicate}
+use Rattle.rd_base.specs.Faces.{Attributes, plain}
+use Rattle.rd_base.specs.declared.cell.Cell.{Cell}
+use Rattle.rd_term.specs.Pictures.{Picture, blank, blank_row, IsPlainCell, IsOfSize, IsGrid}
+use Rattle.rd_term.specs.Terminals.{Tty, feed_bytes, known, erased_from}
+use Rattle.rd_term.specs.declared.reading.Reading.{Reading}
+use Rattle.rd_term.specs.declared.reading.Reading.TheVariants.{Between}
+use Rattle.rd_update.specs.Updates.{move, repaint, rows_bytes, rows_after, differs, allows, less_one, blank_like, start, opening, Update, update, is_done, differing}
+use Rattle.rd_update.specs.Laws.{IsCurrent, IsReady, IsUpdated}
+use Rattle.rd_update.proofs.Feeding.{Rows, standing, feed-append, move_fed, repaint_fed}
+use Rattle.rd_update.proofs.Rows.{Stands, rows_fed, map-replicate}
+
+-- ---- sizes
+
+after-chosen : (differ allow : Bool) (w : ℕ) (a b c : List (List Cell)) → AllByRecursion (λ row. length row ≡ w) a → AllByRecursion (λ row. length row ≡ w) b → AllByRecursion (λ row. length row ≡ w) c
+    → AllByRecursion (λ row. length row ≡ w) (if not differ then a else if allow then b else c)
+after-chosen false allow w a b c x y z = x
+after-chosen true true w a b c x y z = y
+after-chosen true false w a b c x y z = z
+
+after-wide : (limit : Option ℕ) (olds news : List (List Cell)) (w : ℕ) → length olds ≡ length news
+    → AllByRecursion (λ row. length row ≡ w) olds → AllByRecursion (λ row. length row ≡ w) news
+    → AllByRecursion (λ row. length row ≡ w) (rows_after limit olds news)
+after-wide limit [] [] w n o h = tt
+after-wide limit [] (x ∷ xs) w n o h = absurd (cc)
+after-wide limit (x ∷ xs) [] w n o h = absurd (cc)
+after-wide limit (x ∷ xs) (y ∷ ys) w n o h =
+    let less : length xs ≡ length ys = omega arith in
+    after-chosen (differs x y) (allows limit) w (y ∷ rows_after limit xs ys) (y ∷ rows_after (less_one limit) xs ys) (x ∷ xs)
+    (h.0, after-wide limit xs ys w less o.1 h.1) (h.0, after-wide (less_one limit) xs ys w less o.1 h.1) o
+
+length-chosen : (differ allow : Bool) (n : ℕ) (a b c : List (List Cell)) → length a ≡ n → length b ≡ n → length c ≡ n → length (if not differ then a else if allow then b else c) ≡ n
+length-chosen false allow n a b c x y z = x
+length-chosen true true n a b c x y z = y
+length-chosen true false n a b c x y z = z
+
+length-after : (limit : Option ℕ) (olds news : List (List Cell)) → length olds ≡ length news → length (rows_after limit olds news) ≡ length olds
+length-after limit [] [] n = refl
+length-after limit [] (x ∷ xs) n = absurd (cc)
+length-after limit (x ∷ xs) [] n = absurd (cc)
+length-after limit (x ∷ xs) (y ∷ ys) n =
+    let less : length xs ≡ length ys = omega arith in
+    length-chosen (differs x y) (allows limit) (suc (length xs)) (y ∷ rows_after limit xs ys) (y ∷ rows_after (less_one limit) xs ys) (x ∷ xs)
+    (ap suc (length-after limit xs ys less)) (ap suc (length-after (less_one limit) xs ys less)) refl
+
+-- ---- the screen that counts as current
+
+blank-wide : (rows : List (List Cell)) (w : ℕ) → AllByRecursion (λ row. length row ≡ w) rows → AllByRecursion (λ row. length row ≡ w) (blank_like rows)
+blank-wide [] w h = tt
+blank-wide (row ∷ rows) w h = (length-replicate (length row) blank ∙ h.0, blank-wide rows w h.1)
+
+-- after a clear each cell is known to be blank
+cleared : (rows : Rows) (like : List (List Cell)) (w : ℕ) → length rows ≡ length like
+    → AllByRecursion (λ row. length row ≡ w) rows → AllByRecursion (λ row. length row ≡ w) like
+    → map (erased_from 0) rows ≡ known (blank_like like)
+cleared [] [] w n h k = refl
+cleared [] (l ∷ like) w n h k = absurd (cc)
+cleared (row ∷ rows) [] w n h k = absurd (cc)
+cleared (row ∷ rows) (l ∷ like) w n h k =
+    let all : length row - 0 ≡ length l = omega (arith, h.0, k.0) in
+    let first : erased_from 0 row ≡ map Some (blank_row (length l)) = ap (λ j. replicate j (Some blank)) all ∙ sym (map-replicate (length l)) in
+    let rest = cleared rows like w (omega arith) h.1 k.1 in
+    cc
+
+-- what stands before the first row's bytes: the current screen, by a plain pen
+pub record Opens (old : List (List Cell)) (t : Tty) : Type 0 where
+  pub cursor : Option (ℕ × ℕ)
+  pub wait : Bool
+  pub is : t ≡ standing (known old) cursor wait (Some plain)
+
+tty-same : (rows : Rows) (cursor : Option (ℕ × ℕ)) (wait : Bool) (pen : Option Attributes) (reading : Reading) (confused : Bool) (rows' : Rows) (pen' : Option Attributes)
+    → rows ≡ rows' → pen ≡ pen' → reading ≡ Between → confused ≡ false
+    → let t : Tty = record { rows = rows; cursor = cursor; wait = wait; pen = pen; reading = reading; confused = confused } in t ≡ standing rows' cursor wait pen'
+tty-same rows cursor wait pen reading confused rows' pen' a b c d = cc
+
+opened : (width height : ℕ) (current : Option Picture) (target : Picture) (t : Tty) → IsReady width height current target t → Opens (start current target).rows (feed_bytes t (opening current))
+opened width height None target t h =
+    let is = tty-same t.rows t.cursor t.wait t.pen t.reading t.confused t.rows t.pen refl refl h.between h.sure in
+    let blanks = cleared t.rows target.rows width (h.rows ∙ sym h.size.rows) (recursion_from_All (λ row. length row ≡ width) t.rows h.each) (recursion_from_All (λ row. length row ≡ width) target.rows h.size.each) in
+    record {
+      cursor = t.cursor;
+      wait = t.wait;
+      is = ap (λ x. feed_bytes x repaint) is ∙ repaint_fed t.rows t.cursor t.wait t.pen ∙ ap (λ r. standing r t.cursor t.wait (Some plain)) blanks;
+    }
+opened width height (Some screen) target t h = record {
+  cursor = t.cursor;
+  wait = t.wait;
+  is = tty-same t.rows t.cursor t.wait t.pen t.reading t.confused (known screen.rows) (Some plain) h.now.1 h.now.2 h.between h.sure;
+}
+
+start-size : (width height : ℕ) (current : Option Picture) (target : Picture) (t : Tty) → IsReady width height current target t → IsOfSize width height (start current target)
+start-size width height None target t h =
+    let n : length (blank_like target.rows) ≡ length target.rows = length-map target.rows (λ row. blank_row (length row)) in
+    record {
+      rows = n ∙ h.size.rows;
+      each = All-from_recursion (λ row. length row ≡ width) (blank_like target.rows) (blank-wide target.rows width (recursion_from_All (λ row. length row ≡ width) target.rows h.size.each));
+      row = omega (arith, h.size.row);
+      column = omega (arith, h.size.column);
+    }
+start-size width height (Some screen) target t h = h.now.0
+
+-- ---- the end
+
+plain-rows : (rows : List (List Cell)) → AllByRecursion (λ row. All IsPlainCell row) rows → AllByRecursion (λ row. AllByRecursion IsPlainCell row) rows
+plain-rows [] h = tt
+plain-rows (row ∷ rows) h = (recursion_from_All IsPlainCell row h.0, plain-rows rows h.1)
+
+-- the terminal after the rows, and then after the cursor's move where all rows were sent
+pub record Ended (rows : List (List Cell)) (done : Bool) (row column : ℕ) (t : Tty) : Type 0 where
+  pub sure : t.confused ≡ false
+  pub between : t.reading ≡ Between
+  pub cells : t.rows ≡ known rows
+  pub pen : t.pen ≡ Some plain
+  pub cursor : done ≡ true → t.cursor ≡ Some (row, column)
+
+ended : (rows : List (List Cell)) (done : Bool) (row column : ℕ) (cursor : Option (ℕ × ℕ)) (wait : Bool) → row < length rows → column < length (get_or rows row []) → row < 65535 → column < 65535
+    → Ended rows done row column (feed_bytes (standing (known rows) cursor wait (Some plain)) (if done then move row column else []))
+ended rows false row column cursor wait r c few narrow = record { sure = refl; between = refl; cells = refl; pen = refl; cursor = λ e. absurd (cc) }
+ended rows true row column cursor wait r c few narrow =
+    let n : row < length (known rows) = omega (arith, length-map rows (map Some)) in
+    let at : get_or (known rows) row [] ≡ map Some (get_or rows row []) = get_or-map (map Some) rows row [] [] r in
+    let within : column < length (get_or (known rows) row []) = rw at (omega (arith, length-map (get_or rows row []) Some)) in
+    let is = move_fed (known rows) cursor wait (Some plain) row column n within few narrow in
+    rw is (record { sure = refl; between = refl; cells = refl; pen = refl; cursor = λ e. refl })
+
+either : (done : Bool) (a b n : ℕ) → a < n → b < n → (if done then a else b) < n
+either true a b n p q = p
+either false a b n p q = q
+
+pub updated : (width height : ℕ) (current : Option Picture) (target : Picture) (limit : Option ℕ) (t : Tty) → IsReady width height current target t
+    → IsUpdated width height (update current target limit) target (feed_bytes t (update current target limit).bytes)
+updated width height current target limit t h =
+    let old = start current target in
+    let size = start-size width height current target t h in
+    let begun = opened width height current target t h in
+    let old_wide = recursion_from_All (λ row. length row ≡ width) old.rows size.each in
+    let new_wide = recursion_from_All (λ row. length row ≡ width) target.rows h.size.each in
+    let plains = plain-rows target.rows (recursion_from_All (λ row. All IsPlainCell row) target.rows h.cells) in
+    let same : length old.rows ≡ length target.rows = size.rows ∙ sym h.size.rows in
+    let few : length {A = List (Option Cell)} [] + length old.rows ≤ 200 = omega (arith, h.tall, size.rows) in
+    let sent = rows_fed [] limit old.rows target.rows width begun.cursor begun.wait few h.wide same old_wide new_wide plains in
+    let after = rows_after limit old.rows target.rows in
+    let done = is_done limit (differing old.rows target.rows) in
+    let last = if done then move target.row target.column else [] in
+    let n : length after ≡ height = length-after limit old.rows target.rows same ∙ size.rows in
+    let each = All-from_recursion (λ row. length row ≡ width) after (after-wide limit old.rows target.rows width same old_wide new_wide) in
+    let row : target.row < length after = omega (arith, h.size.row) in
+    let column : target.column < length (get_or after target.row []) = omega (arith, h.size.column, each target.row [] row) in
+    let end = ended after done target.row target.column sent.cursor sent.wait row column (omega (arith, h.size.row, h.tall)) (omega (arith, h.size.column, h.wide)) in
+    let is : feed_bytes t (update current target limit).bytes ≡ feed_bytes (standing (known after) sent.cursor sent.wait (Some plain)) last =
+    feed-append t (opening current ++ rows_bytes 0 limit old.rows target.rows) last
+    ∙ ap (λ x. feed_bytes x last) (
+    feed-append t (opening current) (rows_bytes 0 limit old.rows target.rows)
+    ∙ ap (λ x. feed_bytes x (rows_bytes 0 limit old.rows target.rows)) begun.is
+    ∙ sent.is) in
+    rw is (record {
+      sure = end.sure;
+      between = end.between;
+      size = record { rows = n; each = each; row = either done target.row old.row height h.size.row size.row; column = either done target.column old.column width h.size.column size.column };
+      cells = end.cells;
+      pen = end.pen;
+      cursor = end.cursor;
+    })

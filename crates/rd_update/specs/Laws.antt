@@ -1,0 +1,39 @@
+-- What an update asks of the terminal that reads its bytes, and what it then shows.
+use Rattle.std.specs.Prelude.{◌≡◌, ℕ, ◌≤◌, true, false, List, length, Option, None, Some, map}
+use Rattle.rd_base.specs.Faces.{plain}
+use Rattle.rd_base.specs.declared.cell.Cell.{Cell}
+use Rattle.rd_term.specs.Pictures.{Picture, IsGrid, IsOfSize, ArePlain}
+use Rattle.rd_term.specs.Terminals.{Tty, known, cell_of}
+use Rattle.rd_term.specs.declared.reading.Reading.TheVariants.{Between}
+use Rattle.rd_update.specs.Updates.{Update}
+
+-- a known current screen is what the terminal shows, and the terminal's pen is plain
+abbrev pub IsCurrent : ℕ → ℕ → Option Picture → Tty → Type 0
+IsCurrent width height None t = Unit {0}
+IsCurrent width height (Some screen) t = IsOfSize width height screen × (t.rows ≡ known screen.rows) × (t.pen ≡ Some plain)
+
+-- a terminal that is not confused and stands between two sequences, and a plain target of its size; a wait may stand
+pub record IsReady (width height : ℕ) (current : Option Picture) (target : Picture) (t : Tty) : Type 0 where
+  pub sure : t.confused ≡ false
+  pub between : t.reading ≡ Between
+  pub rows : length t.rows ≡ height
+  pub each : IsGrid width t.rows
+  pub wide : width ≤ 400
+  pub tall : height ≤ 200
+  pub size : IsOfSize width height target
+  pub cells : ArePlain target.rows
+  pub now : IsCurrent width height current t
+
+-- the terminal's cells are then those of the new current screen, its pen is plain, and where the update is done its cursor is
+-- the target's
+pub record IsUpdated (width height : ℕ) (u : Update) (target : Picture) (t : Tty) : Type 0 where
+  pub sure : t.confused ≡ false
+  pub between : t.reading ≡ Between
+  pub size : IsOfSize width height u.screen
+  pub cells : t.rows ≡ known u.screen.rows
+  pub pen : t.pen ≡ Some plain
+  pub cursor : u.done ≡ true → t.cursor ≡ Some (target.row, target.column)
+
+-- a row that shows a text of ASCII in the plain face
+abbrev pub plain_row : List ℕ → List Cell
+plain_row text = map (λ code. cell_of code plain) text

@@ -1,0 +1,55 @@
+//! What an update does to the terminal that reads its bytes, and what it sends in worked cases.
+ghost use Rattle.std.specs.Prelude.{◌≡◌, ℕ, List, [], ◌∷◌, ◌++◌, codes, Option, None, Some, true, false};
+ghost use Rattle.rd_term.specs.Pictures.{Picture, blank_row};
+ghost use Rattle.rd_term.specs.Terminals.{Tty, feed_bytes};
+ghost use Rattle.rd_update.specs.Updates.{update};
+ghost use Rattle.rd_update.specs.Laws.{IsReady, IsUpdated, plain_row};
+
+/// The update law. Take a terminal that is not confused and stands between two sequences, a target of its size, and any limit
+/// of rows. Either the current screen is unknown, or the terminal's cells are its cells and the terminal's pen is plain. Then,
+/// after the bytes of the update, the terminal is not confused and stands between two sequences, its cells are those of the new
+/// current screen, its pen is plain, and where the update is done its cursor is the target's.
+pub fn update_law()
+    ensures { (width height : ℕ) (current : Option Picture) (target : Picture) (limit : Option ℕ) (t : Tty)
+        → IsReady width height current target t
+        → IsUpdated width height (update current target limit) target (feed_bytes t (update current target limit).bytes) }
+{}
+
+/// An unknown screen of 12 columns and 3 rows is repainted: a full row, a row of one character, a blank row.
+fn an_unknown_screen_is_repainted()
+    ensures { (update None (record { rows = plain_row (codes "abcdefghijk$") ∷ plain_row (codes "x           ") ∷ blank_row 12 ∷ []; row = 0; column = 0 }) None).bytes
+        ≡ 27 ∷ codes "[0m" ++ 27 ∷ codes "[2J" ++ 27 ∷ codes "[1;1Habcdefghijk$" ++ 27 ∷ codes "[2;1Hx" ++ 27 ∷ codes "[1;1H" }
+{}
+
+/// A row moves down by one: the first row is erased in one.
+fn a_row_moves_down()
+    ensures { update (Some (record { rows = plain_row (codes "abc         ") ∷ blank_row 12 ∷ blank_row 12 ∷ []; row = 0; column = 0 }))
+        (record { rows = blank_row 12 ∷ plain_row (codes "abc         ") ∷ blank_row 12 ∷ []; row = 0; column = 0 }) None
+        ≡ record {
+          bytes = 27 ∷ codes "[1;1H" ++ 27 ∷ codes "[K" ++ 27 ∷ codes "[2;1Habc" ++ 27 ∷ codes "[1;1H";
+          rows = 2;
+          done = true;
+          screen = record { rows = blank_row 12 ∷ plain_row (codes "abc         ") ∷ blank_row 12 ∷ []; row = 0; column = 0 };
+        } }
+{}
+
+/// Two rows of five are sent and the update stops; the next one starts from what then stands.
+fn an_update_stops_and_goes_on()
+    ensures stops { update None (record { rows = plain_row (codes "a  ") ∷ plain_row (codes "b  ") ∷ plain_row (codes "c  ") ∷ plain_row (codes "d  ") ∷ plain_row (codes "e  ") ∷ []; row = 0; column = 0 }) (Some 2)
+        ≡ record {
+          bytes = 27 ∷ codes "[0m" ++ 27 ∷ codes "[2J" ++ 27 ∷ codes "[1;1Ha" ++ 27 ∷ codes "[2;1Hb";
+          rows = 2;
+          done = false;
+          screen = record { rows = plain_row (codes "a  ") ∷ plain_row (codes "b  ") ∷ blank_row 3 ∷ blank_row 3 ∷ blank_row 3 ∷ []; row = 0; column = 0 };
+        } }
+    ensures goes_on { (update (Some (record { rows = plain_row (codes "a  ") ∷ plain_row (codes "b  ") ∷ blank_row 3 ∷ blank_row 3 ∷ blank_row 3 ∷ []; row = 0; column = 0 }))
+        (record { rows = plain_row (codes "Xa ") ∷ plain_row (codes "b  ") ∷ plain_row (codes "c  ") ∷ plain_row (codes "d  ") ∷ plain_row (codes "e  ") ∷ []; row = 0; column = 0 }) None).bytes
+        ≡ 27 ∷ codes "[1;1HXa" ++ 27 ∷ codes "[3;1Hc" ++ 27 ∷ codes "[4;1Hd" ++ 27 ∷ codes "[5;1He" ++ 27 ∷ codes "[1;1H" }
+{}
+
+/// The mark of a continued row and the next row are sent, from the first column at which each differs.
+fn a_row_is_continued()
+    ensures { (update (Some (record { rows = plain_row (codes "abcdefghijk ") ∷ blank_row 12 ∷ []; row = 0; column = 11 }))
+        (record { rows = plain_row (codes "abcdefghijk\\") ∷ plain_row (codes "l           ") ∷ []; row = 1; column = 1 }) None).bytes
+        ≡ 27 ∷ codes "[1;12H\\" ++ 27 ∷ codes "[2;1Hl" ++ 27 ∷ codes "[2;2H" }
+{}

@@ -1,0 +1,297 @@
+//! An update that is prepared before any of it is sent, so that sending takes no memory.
+ghost use Rattle.std.specs.Prelude.{◌≡◌, ℕ, ◌+◌, ◌<◌, ◌≤◌, ◌++◌, [], length, All, Option, IfOk, OnOk, OnErr, take, drop, slice_set, replicate, slice_index_or, ◌-◌};
+ghost use Rattle.rd_io.specs.Devices.{Writes, Rose};
+ghost use Rattle.rd_term.specs.Pictures.{Picture, IsScreen, ArePlain, IsPlainCell, blank_row, width_of, row_at};
+ghost use Rattle.rd_update.specs.Updates.{update, opening as opening_of, start, row_bytes, rows_bytes, blank_like, differs, end_of_differences as end_column};
+ghost use Rattle.rd_update.specs.Plans.{Prepared, planned, shown, HaveOneSize, sent_of, parts_from, old_row as old_row_of, IsRowOf, no_part, front_within, part_if, bytes_if};
+
+use crate::bytes::{push_move, push_row};
+use crate::span::end_of_differences;
+use rd_base::{Cell, Face, ListOf, Memory};
+use rd_io::{Sink, write_whole};
+use rd_term::Screen;
+use std::alloc::Global;
+use std::marker::Model;
+use thiserror::Error;
+
+/// The number of a row that differs, from 0, and how many bytes stand before it.
+#[derive(Clone, Copy)]
+pub(crate) struct Part {
+    row: u32,
+    start: usize,
+}
+
+/// How many rows were sent, and whether the target is reached: these are all the rows that differ, and the cursor's move too.
+#[derive(Clone, Copy, Debug, PartialEq, Eq)]
+pub struct Sent {
+    pub rows: u32,
+    pub done: bool,
+}
+
+/// The sink failed. A front of the bytes was written.
+#[derive(Clone, Copy, Debug, PartialEq, Eq, Error)]
+#[error("write fault")]
+pub struct WriteFault;
+
+/// The bytes of an update and where each row that differs begins in them.
+#[derive(Drop)]
+pub struct Plan {
+    bytes: ListOf<u8>,
+    parts: ListOf<Part>,
+}
+
+impl Model for Plan {
+    ghost use Rattle.std.specs.Prelude.{length, ◌≤◌};
+    ghost use Rattle.rd_update.specs.Plans.{Prepared, ArePartsOf};
+
+    ghost Value = { Prepared };
+
+    ghost view = { λ p. record { bytes = p.bytes; parts = p.parts } };
+
+    ghost invariant = { λ p. ArePartsOf p.bytes p.parts };
+}
+
+impl Plan {
+    /// Prepares the update from the current screen, or an unknown one, to the target. It looks at each cell of both a fixed
+    /// number of times.
+    pub fn prepare(alloc: Global, current: Option<&Screen>, target: &Screen) -> Result<Plan, Memory>
+        requires size { HaveOneSize (shown current) target.now }
+        requires plain { ArePlain target.now.rows }
+        ensures { IfOk result (λ plan. plan ≡ planned (shown current.entry) target.now) }
+    {
+        let blanks = [Cell::Blank(Face::PLAIN); 400];
+        let blank = first(&blanks, target.width());
+        let mut bytes = opening(alloc, current)?;
+        let mut parts = ListOf::new(alloc);
+        push_parts(&mut bytes, &mut parts, current, target, blank)?;
+        let (row, column) = target.cursor();
+        push_move(&mut bytes, row, column)?;
+        Ok(Plan { bytes, parts })
+    }
+
+    /// How many rows differ.
+    pub fn rows(&self) -> u32
+        ensures { (current : Option Picture) (target : Picture) → self.now ≡ planned current target → result ≡ (update current target None).rows }
+    {
+        self.parts.len() as u32
+    }
+
+    /// Sends the bytes of the rows that differ, from the top, at most so many of them, and then the move of the cursor where
+    /// these were all. It takes no memory. A fault comes only where the sink's count of faults rose, and a front of the bytes
+    /// was then written.
+    pub fn send<K: Sink>(&self, sink: &mut K, rows_at_most: Option<u32>) -> Result<Sent, WriteFault>
+        ensures bytes { (current : Option Picture) (target : Picture) → self.now ≡ planned current target
+            → Writes (K.written sink.old) (K.written sink.new) (update current target rows_at_most).bytes result }
+        ensures sent { (current : Option Picture) (target : Picture) → self.now ≡ planned current target
+            → IfOk result (λ sent. sent ≡ sent_of (update current target rows_at_most)) }
+        ensures never_falls { K.faults sink.old ≤ K.faults sink.new }
+        ensures failed { OnErr result (Rose (K.faults sink.old) (K.faults sink.new)) }
+    {
+        let (length, sent) = self.front(rows_at_most);
+        send_front(sink, &self.bytes.as_slice()[..length], sent)
+    }
+
+    /// The new current screen: the target's cells in the rows that were sent and the old cells elsewhere, and the target's cursor
+    /// where the update is done, else the old one.
+    pub fn after(self, current: Option<Screen>, target: Screen, sent: Sent) -> Screen
+        requires plan { self ≡ planned current target }
+        requires size { HaveOneSize current target }
+        requires sent { (limit : Option ℕ) × (sent ≡ sent_of (update current target limit)) }
+        ensures { (limit : Option ℕ) → sent ≡ sent_of (update current target limit) → result ≡ (update current target limit).screen }
+    {
+        if sent.done {
+            return target;
+        }
+        let from = self.row_of(sent.rows);
+        match current {
+            Some(screen) => with_rows_of(screen, target, from),
+            None => with_blanks(target, from),
+        }
+    }
+
+    /// The number of the row that differs after so many of them.
+    fn row_of(&self, rows: u32) -> u32
+        requires { rows < length self.now.parts }
+        ensures { result ≡ (slice_index_or self.now.parts rows no_part).row }
+    {
+        self.parts.at(rows as usize).row
+    }
+
+    /// How many bytes are sent under a limit of rows, and what is told then.
+    fn front(&self, rows_at_most: Option<u32>) -> (usize, Sent)
+        ensures value { result ≡ front_within self.now rows_at_most }
+        ensures within { result.0 ≤ length self.now.bytes }
+    {
+        if let Some(limit) = rows_at_most {
+            if (limit as usize) < self.parts.len() {
+                let sent = Sent {
+                    rows: limit,
+                    done: false,
+                };
+                return (self.parts.at(limit as usize).start, sent);
+            }
+        }
+        let sent = Sent {
+            rows: self.parts.len() as u32,
+            done: true,
+        };
+        (self.bytes.len(), sent)
+    }
+}
+
+/// The bytes before those of the rows: an unknown screen is made blank and plain.
+fn opening(alloc: Global, current: Option<&Screen>) -> Result<ListOf<u8>, Memory>
+    ensures { IfOk result (λ bytes. bytes ≡ opening_of (shown current.entry)) }
+{
+    match current {
+        None => ListOf::from_slice(alloc, b"\x1b[0m\x1b[2J"),
+        Some(_screen) => Ok(ListOf::new(alloc)),
+    }
+}
+
+/// So many of 400 blank cells.
+fn first(blanks: &[Cell], width: u32) -> &[Cell]
+    requires blanks { blanks.now ≡ blank_row 400 }
+    requires width { width ≤ 400 }
+    ensures { result.now ≡ blank_row width }
+{
+    &blanks[..width as usize]
+}
+
+/// The cells of a row.
+fn cells_of(screen: &Screen, row: u32) -> &[Cell]
+    requires { row < length screen.now.rows }
+    ensures cells { result.now ≡ row_at screen.now.rows row }
+    ensures width { length result.now ≡ width_of screen.now.rows }
+    ensures narrow { width_of screen.now.rows ≤ 400 }
+{
+    let width = screen.width() as usize;
+    &screen.row(row)[..width]
+}
+
+/// The row of the current screen, where an unknown one has this row everywhere.
+fn old_row<'a>(current: Option<&'a Screen>, blank: &'a [Cell], row: u32) -> &'a [Cell]
+    requires { IsRowOf (shown current) (length blank.now) row }
+    ensures cells { result.now ≡ old_row_of (shown current.entry) blank.now row }
+    ensures width { length result.now ≡ length blank.now }
+{
+    match current {
+        None => blank,
+        Some(screen) => cells_of(screen, row),
+    }
+}
+
+/// Adds the bytes of a row, if it differs, and where they begin. `blank` is a blank row of its width.
+fn push_part(
+    bytes: &mut ListOf<u8>,
+    parts: &mut ListOf<Part>,
+    row: u32,
+    old: &[Cell],
+    new: &[Cell],
+    blank: &[Cell],
+) -> Result<(), Memory>
+    requires row { row < 65535 }
+    requires width { length new.now < 65535 }
+    requires old { length old.now ≡ length new.now }
+    requires blank { blank.now ≡ blank_row (length new.now) }
+    requires plain { All IsPlainCell new.now }
+    ensures bytes { OnOk result (bytes.new ≡ bytes.old ++ bytes_if (differs old.now new.now) (row_bytes row old.now new.now)) }
+    ensures parts { OnOk result (parts.new ≡ parts.old ++ part_if (differs old.now new.now) row (length bytes.old)) }
+{
+    if end_of_differences(old, new) == 0 {
+        return Ok(());
+    }
+    parts.push(Part {
+        row,
+        start: bytes.len(),
+    })?;
+    push_row(bytes, row, old, new, blank)
+}
+
+/// Adds the bytes of each row that differs, and where they begin. `blank` is a blank row of the target's width.
+fn push_parts(
+    bytes: &mut ListOf<u8>,
+    parts: &mut ListOf<Part>,
+    current: Option<&Screen>,
+    target: &Screen,
+    blank: &[Cell],
+) -> Result<(), Memory>
+    requires size { HaveOneSize (shown current) target.now }
+    requires plain { ArePlain target.now.rows }
+    requires blank { blank.now ≡ blank_row (width_of target.now.rows) }
+    ensures bytes { OnOk result (bytes.new ≡ bytes.old ++ rows_bytes 0 None (start (shown current.entry) target.now).rows target.now.rows) }
+    ensures parts { OnOk result (parts.new ≡ parts.old ++ parts_from 0 (length bytes.old) (start (shown current.entry) target.now).rows target.now.rows) }
+    ensures few { length target.now.rows ≤ 200 }
+{
+    let _width = target.width();
+    for row in 0..target.height() {
+        let old = old_row(current, blank, row);
+        push_part(bytes, parts, row, old, cells_of(target, row), blank)?;
+    }
+    Ok(())
+}
+
+/// Sends these bytes, and then tells this.
+fn send_front<K: Sink>(sink: &mut K, bytes: &[u8], sent: Sent) -> Result<Sent, WriteFault>
+    ensures bytes { Writes (K.written sink.old) (K.written sink.new) bytes.now result }
+    ensures sent { IfOk result (λ told. told ≡ sent) }
+    ensures never_falls { K.faults sink.old ≤ K.faults sink.new }
+    ensures failed { OnErr result (Rose (K.faults sink.old) (K.faults sink.new)) }
+{
+    let Ok(()) = write_whole(sink, bytes) else {
+        return Err(WriteFault);
+    };
+    Ok(sent)
+}
+
+/// Puts these cells in place of a row's.
+fn fill_row(screen: &mut Screen, row: u32, cells: &[Cell])
+    requires row { row < length screen.old.rows }
+    requires width { length cells.now ≡ width_of screen.old.rows }
+    ensures screen { screen.new ≡ record screen.old { rows = slice_set screen.old.rows row cells.now } }
+    ensures width { width_of screen.new.rows ≡ width_of screen.old.rows }
+{
+    for column in 0..screen.width() {
+        screen.set(row, column, cells[column as usize]);
+    }
+}
+
+/// A screen with the target's rows before a row.
+fn with_rows_of(screen: Screen, target: Screen, from: u32) -> Screen
+    requires row { from ≤ length target.rows }
+    requires height { length screen.rows ≡ length target.rows }
+    requires width { width_of screen.rows ≡ width_of target.rows }
+    ensures { result ≡ record screen { rows = take from target.rows ++ drop from screen.rows } }
+{
+    let mut after = screen;
+    for row in 0..from {
+        fill_row(&mut after, row, cells_of(&target, row));
+    }
+    after
+}
+
+/// A target with blank rows from a row on and its cursor at its first cell.
+fn with_blanks(target: Screen, from: u32) -> Screen
+    requires { from ≤ length target.rows }
+    ensures { result ≡ record { rows = take from target.rows ++ drop from (blank_like target.rows); row = 0; column = 0 } }
+{
+    let blanks = [Cell::Blank(Face::PLAIN); 400];
+    let mut after = target;
+    let blank = first(&blanks, after.width());
+    fill_from(&mut after, from, blank);
+    after.place(0, 0);
+    after
+}
+
+/// Puts these cells in place of those of each row from a row on.
+fn fill_from(screen: &mut Screen, from: u32, cells: &[Cell])
+    requires row { from ≤ length screen.old.rows }
+    requires width { length cells.now ≡ width_of screen.old.rows }
+    ensures screen { screen.new ≡ record screen.old { rows = take from screen.old.rows ++ replicate (length screen.old.rows - from) cells.now } }
+    ensures picture { IsScreen screen.old }
+{
+    let _width = screen.width();
+    for row in from..screen.height() {
+        fill_row(screen, row, cells);
+    }
+}
