@@ -1,0 +1,5 @@
+pub mod InForm
+mod Json
+mod OnePass
+mod Texts
+mod Writing

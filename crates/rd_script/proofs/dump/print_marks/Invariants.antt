@@ -1,0 +1,7 @@
+use Rattle.std.proofs.Common.{drop}
+use Rattle.rd_script.specs.Dumps.{characters}
+use Rattle.rd_script.proofs.Writing.{Going}
+use Rattle.rd_script.proofs.dump.print_marks.Given as goal
+
+abbrev pub invariant-loop-mark : goal.invariant-loop-mark
+invariant-loop-mark g l = Going (g.K.Sink.written l.fn.sink) (g.K.Sink.written l.sink) (g.K.Sink.faults l.fn.sink) (g.K.Sink.faults l.sink) (characters l.fn.marks) (characters (drop l.mark-index l.fn.marks))

@@ -1,0 +1,98 @@
+-- Fields of an object: which keys are asked for, and what is read of their values.
+use Rattle.std.specs.Prelude.{ℕ, ◌≡◌, ◌&&◌, Bool, nat_le, bytes_eq, if◌then◌else◌, List, [], ◌∷◌, ◌++◌, Option, None, Some, option_and_then, option_map, is_some, Result, Ok, Err}
+use Rattle.std.specs.Str.{chars}
+use Rattle.serde_json.specs.Data.{Data, Members}
+use Rattle.serde_json.specs.Find.{get_member, as_null, as_number, as_u64, as_str}
+use Rattle.rd_script.specs.declared.fault.OpFault.{OpFault}
+use Rattle.rd_script.specs.declared.fault.OpFault.TheVariants.{Missing, BadField, Memory}
+use Rattle.rd_script.specs.Forms.{is_text, is_buffer_name}
+
+-- ---- kinds of values
+
+abbrev pub kept_if : {T : Type 0} → (T → Bool) → T → Option T
+kept_if test x = if test x then Some x else None
+
+-- a whole number of a range, both ends of which count
+abbrev pub within : ℕ → ℕ → Data → Option ℕ
+within least greatest d = option_and_then (kept_if (λ n. nat_le least n && nat_le n greatest)) (option_and_then as_u64 (as_number d))
+
+-- a whole number of 64 bits
+abbrev pub whole : Data → Option ℕ
+whole = within 0 18446744073709551615
+
+-- a text, as the list of its characters
+abbrev pub text : Data → Option (List ℕ)
+text d = option_and_then (kept_if is_text) (option_map chars (as_str d))
+
+-- a buffer's name
+abbrev pub buffer_name : Data → Option (List ℕ)
+buffer_name d = option_and_then (kept_if is_buffer_name) (text d)
+
+-- what stands beside a text in a list
+abbrev pub beside : {T : Type 0} → List (List ℕ × T) → List ℕ → Option T
+beside [] name = None
+beside (entry ∷ entries) name = if bytes_eq name entry.0 then Some entry.1 else beside entries name
+
+-- a word of a list, and what it stands for
+abbrev pub word : {T : Type 0} → List (List ℕ × T) → Data → Option T
+word words d = option_and_then (beside words) (as_str d)
+
+-- ---- fields
+
+-- keys, and what is read of the members of an object at these keys
+pub record Fields (T : Type 0) : Type 0 where
+  pub keys : List (List ℕ)
+  pub taken : Members → Result T OpFault
+
+abbrev pub or_bad : {T : Type 0} → List ℕ → Option T → Result T OpFault
+or_bad key None = Err (BadField (chars key))
+or_bad key (Some x) = Ok x
+
+abbrev pub required_of : {T : Type 0} → List ℕ → (Data → Option T) → Option Data → Result T OpFault
+required_of key kind None = Err (Missing (chars key))
+required_of key kind (Some d) = or_bad key (kind d)
+
+abbrev pub optional_of : {T : Type 0} → List ℕ → (Data → Option T) → Option Data → Result (Option T) OpFault
+optional_of key kind None = Ok None
+optional_of key kind (Some d) = if is_some (as_null d) then Ok None else or_bad key (option_map Some (kind d))
+
+-- a field that is asked for
+abbrev pub required : {T : Type 0} → List ℕ → (Data → Option T) → Fields T
+required key kind = record { keys = key ∷ []; taken = λ ms. required_of key kind (get_member key ms) }
+
+-- a field that may be absent or null
+abbrev pub optional : {T : Type 0} → List ℕ → (Data → Option T) → Fields (Option T)
+optional key kind = record { keys = key ∷ []; taken = λ ms. optional_of key kind (get_member key ms) }
+
+abbrev pub and_then : {A B : Type 0} → (A → Result B OpFault) → Result A OpFault → Result B OpFault
+and_then f (Ok a) = f a
+and_then f (Err e) = Err e
+
+-- fields and then others
+abbrev pub both : {A B : Type 0} → Fields A → Fields B → Fields (A × B)
+both first second = record {
+  keys = first.keys ++ second.keys;
+  taken = λ ms. and_then (λ a. and_then (λ b. Ok (a, b)) (second.taken ms)) (first.taken ms);
+}
+
+-- what is made of what was read
+abbrev pub made : {A B : Type 0} → (A → B) → Fields A → Fields B
+made f fields = record { keys = fields.keys; taken = λ ms. and_then (λ a. Ok (f a)) (fields.taken ms) }
+
+-- no key, and always this fault
+abbrev pub refused : {T : Type 0} → OpFault → Fields T
+refused fault = record { keys = []; taken = λ ms. Err fault }
+
+-- ---- answers
+
+-- an answer is what is said, or want of memory
+abbrev pub IsRead : {T : Type 0} → Result T OpFault → Result T OpFault → Type 0
+IsRead (Ok x) said = said ≡ Ok x
+IsRead (Err Memory) said = Unit {0}
+IsRead (Err fault) said = said ≡ Err fault
+
+-- the same where a value is seen as another
+abbrev pub IsReadAs : {A T : Type 0} → (A → T) → Result A OpFault → Result T OpFault → Type 0
+IsReadAs f (Ok x) said = said ≡ Ok (f x)
+IsReadAs f (Err Memory) said = Unit {0}
+IsReadAs f (Err fault) said = said ≡ Err fault

@@ -1,0 +1,59 @@
+-- What a line of a script says: an op, or the first fault.
+use Rattle.std.specs.Prelude.{ℕ, ◌||◌, Bool, false, bytes_eq, if◌then◌else◌, List, [], ◌∷◌, Option, None, Some, Result, Ok, Err, codes}
+use Rattle.std.specs.Str.{chars, is_utf8}
+use Rattle.serde_json.specs.Data.{Data, Members, no_members, member}
+use Rattle.serde_json.specs.Find.{get_member, as_object, as_str}
+use Rattle.serde_json.specs.Read.{read}
+use Rattle.rd_script.specs.declared.fault.OpFault.{OpFault}
+use Rattle.rd_script.specs.declared.fault.OpFault.TheVariants.{NotJson, NotObject, NoSuchOp, Extra, NotBuilt}
+use Rattle.rd_script.specs.declared.name.Name.{Name}
+use Rattle.rd_script.specs.declared.op.Op.{Op}
+use Rattle.rd_script.specs.declared.op.Op.TheVariants.{Redisplay}
+use Rattle.rd_script.specs.Fields.{Fields, and_then, required_of}
+use Rattle.rd_script.specs.Table.{name_of, row}
+
+abbrev pub or_fault : {T : Type 0} → OpFault → Option T → Result T OpFault
+or_fault fault None = Err fault
+or_fault fault (Some x) = Ok x
+
+-- the value that a line is in JSON, where its bytes are UTF-8
+abbrev pub json_of : List ℕ → Result Data OpFault
+json_of line = or_fault NotJson (if is_utf8 line then read line else None)
+
+-- which op an object says
+abbrev pub reading_name : Members → Result Name OpFault
+reading_name ms = and_then (λ text. or_fault NoSuchOp (name_of text)) (required_of (codes "op") as_str (get_member (codes "op") ms))
+
+abbrev pub is_among : List (List ℕ) → List ℕ → Bool
+is_among [] key = false
+is_among (k ∷ ks) key = bytes_eq key k || is_among ks key
+
+-- the first key that is not among these; members stand in the byte order of their keys
+abbrev pub extra_key : List (List ℕ) → Members → Option (List ℕ)
+extra_key keys no_members = None
+extra_key keys (member key d ms) = if is_among keys key then extra_key keys ms else Some key
+
+abbrev pub unless_extra : Option (List ℕ) → Op → Result Op OpFault
+unless_extra None op = Ok op
+unless_extra (Some key) op = Err (Extra (chars key))
+
+-- an op, unless its object has a key that is not among these
+abbrev pub closed : List (List ℕ) → Members → Op → Result Op OpFault
+closed keys ms op = unless_extra (extra_key keys ms) op
+
+-- an op in form, unless a part of it is not built
+abbrev pub built : Op → Result Op OpFault
+built (Redisplay (Some n)) = Err NotBuilt
+built op = Ok op
+
+-- an op by the fields of its row, beside which there is only the key `op`
+abbrev pub reading_fields : Members → Fields Op → Result Op OpFault
+reading_fields ms fields = and_then built (and_then (closed (codes "op" ∷ fields.keys) ms) (fields.taken ms))
+
+-- what an object says
+abbrev pub reading_members : Members → Result Op OpFault
+reading_members ms = and_then (λ name. reading_fields ms (row name)) (reading_name ms)
+
+-- what a line says
+unfoldable pub reading : List ℕ → Result Op OpFault
+reading line = and_then (λ d. and_then reading_members (or_fault NotObject (as_object d))) (json_of line)

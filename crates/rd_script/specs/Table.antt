@@ -1,0 +1,58 @@
+-- The table of ops: their names, and for each the fields in order.
+use Rattle.std.specs.Prelude.{ℕ, List, [], ◌∷◌, ◌++◌, map, Option, codes}
+use Rattle.rd_base.specs.declared.settings.Wrap.{Wrap}
+use Rattle.rd_base.specs.declared.settings.Wrap.TheVariants.{Truncate, Continue}
+use Rattle.rd_script.specs.declared.fault.OpFault.TheVariants.{NotBuilt}
+use Rattle.rd_script.specs.declared.name.Name as name
+use Rattle.rd_script.specs.declared.name.Name.TheVariants as names
+use Rattle.rd_script.specs.declared.op.Op as op
+use Rattle.rd_script.specs.declared.op.Op.TheVariants as ops
+use Rattle.rd_script.specs.Fields.{Fields, whole, within, text, buffer_name, beside, word, required, optional, both, made, refused}
+
+-- the ops that are built
+abbrev pub built_names : List (List ℕ × name.Name)
+built_names = (codes "frame", names.Frame)
+    ∷ (codes "buffer", names.Buffer)
+    ∷ (codes "insert", names.Insert)
+    ∷ (codes "type", names.TypeText)
+    ∷ (codes "delete", names.Delete)
+    ∷ (codes "narrow", names.Narrow)
+    ∷ (codes "widen", names.Widen)
+    ∷ (codes "show", names.Show)
+    ∷ (codes "point", names.Point)
+    ∷ (codes "wrap", names.Wrap)
+    ∷ (codes "redisplay", names.Redisplay)
+    ∷ []
+
+-- those that are not built
+abbrev pub unbuilt_names : List (List ℕ)
+unbuilt_names = codes "insert_raw" ∷ codes "put" ∷ codes "overlay" ∷ codes "overlay_move" ∷ codes "overlay_drop"
+    ∷ codes "overlay_put" ∷ codes "setting" ∷ codes "string" ∷ codes "spec" ∷ codes "face" ∷ codes "table" ∷ codes "split"
+    ∷ codes "remove" ∷ codes "select" ∷ codes "start" ∷ codes "scroll" ∷ codes "hscroll" ∷ codes "mode_line"
+    ∷ codes "scrolling" ∷ codes "echo" ∷ []
+
+-- the op that a text names
+abbrev pub name_of : List ℕ → Option name.Name
+name_of text = beside (built_names ++ map (λ text. (text, names.Unbuilt)) unbuilt_names) text
+
+-- what may become of lines that are longer than a row
+abbrev pub wrap_modes : List (List ℕ × Wrap)
+wrap_modes = (codes "truncate", Truncate) ∷ (codes "continue", Continue) ∷ []
+
+-- the fields of each op, in order, and the op that they say
+abbrev pub row : name.Name → Fields op.Op
+row names.Frame = made (λ f. ops.Frame f.0 f.1) (both (required (codes "width") (within 12 400)) (required (codes "height") (within 2 200)))
+row names.Buffer = made ops.Buffer (required (codes "name") buffer_name)
+row names.Insert = made (λ f. ops.Insert f.0 f.1.0 f.1.1)
+    (both (required (codes "buffer") buffer_name) (both (required (codes "pos") whole) (required (codes "text") text)))
+row names.TypeText = made ops.TypeText (required (codes "text") text)
+row names.Delete = made (λ f. ops.Delete f.0 f.1.0 f.1.1)
+    (both (required (codes "buffer") buffer_name) (both (required (codes "from") whole) (required (codes "to") whole)))
+row names.Narrow = made (λ f. ops.Narrow f.0 f.1.0 f.1.1)
+    (both (required (codes "buffer") buffer_name) (both (required (codes "from") whole) (required (codes "to") whole)))
+row names.Widen = made ops.Widen (required (codes "buffer") buffer_name)
+row names.Show = made (λ f. ops.Show f.0 f.1) (both (required (codes "window") whole) (required (codes "buffer") buffer_name))
+row names.Point = made (λ f. ops.Point f.0 f.1) (both (required (codes "window") whole) (required (codes "pos") whole))
+row names.Wrap = made (λ f. ops.Wrap f.0 f.1) (both (required (codes "window") whole) (required (codes "mode") (word wrap_modes)))
+row names.Redisplay = made ops.Redisplay (optional (codes "stop") (within 0 200))
+row names.Unbuilt = refused NotBuilt

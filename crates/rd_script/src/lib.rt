@@ -1,0 +1,20 @@
+//! The ops of a script, one line an op in JSON, and the dump of what is shown.
+#![tactic(auto)]
+
+mod dump;
+mod fault;
+mod field;
+mod name;
+mod op;
+mod print;
+mod read;
+mod row;
+mod runs;
+
+pub use dump::{WindowFacts, print_dump};
+pub use fault::OpFault;
+pub use op::Op;
+pub use read::read_op;
+
+#[cfg(test)]
+mod tests;

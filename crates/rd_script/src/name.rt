@@ -1,0 +1,62 @@
+//! The names of the ops.
+ghost use Rattle.std.specs.Prelude.{◌≡◌};
+ghost use Rattle.rd_script.specs.Table.{name_of};
+
+/// An op's name. Those of the ops that are not built are told by one variant.
+#[derive(Clone, Copy, Debug, PartialEq, Eq)]
+pub enum Name {
+    Frame,
+    Buffer,
+    Insert,
+    TypeText,
+    Delete,
+    Narrow,
+    Widen,
+    Show,
+    Point,
+    Wrap,
+    Redisplay,
+    Unbuilt,
+}
+
+impl Name {
+    /// The name that a text is, and None where no op has it.
+    pub fn of(text: &str) -> Option<Name>
+        ensures { result ≡ name_of text.now }
+    {
+        match text {
+            "frame" => Some(Name::Frame),
+            "buffer" => Some(Name::Buffer),
+            "insert" => Some(Name::Insert),
+            "type" => Some(Name::TypeText),
+            "delete" => Some(Name::Delete),
+            "narrow" => Some(Name::Narrow),
+            "widen" => Some(Name::Widen),
+            "show" => Some(Name::Show),
+            "point" => Some(Name::Point),
+            "wrap" => Some(Name::Wrap),
+            "redisplay" => Some(Name::Redisplay),
+            "insert_raw"
+            | "put"
+            | "overlay"
+            | "overlay_move"
+            | "overlay_drop"
+            | "overlay_put"
+            | "setting"
+            | "string"
+            | "spec"
+            | "face"
+            | "table"
+            | "split"
+            | "remove"
+            | "select"
+            | "start"
+            | "scroll"
+            | "hscroll"
+            | "mode_line"
+            | "scrolling"
+            | "echo" => Some(Name::Unbuilt),
+            _ => None,
+        }
+    }
+}

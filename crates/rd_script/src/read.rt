@@ -1,0 +1,78 @@
+//! From a line to an op.
+ghost use Rattle.std.specs.Prelude.{◌≡◌, ◌≢◌, ℕ, Ok, Err};
+ghost use Rattle.serde_json.specs.View.{view, members_view};
+ghost use Rattle.rd_script.specs.declared.fault.OpFault.TheVariants as faults;
+ghost use Rattle.rd_script.specs.declared.op.Op.{Op};
+ghost use Rattle.rd_script.specs.Fields.{IsRead, IsReadAs};
+ghost use Rattle.rd_script.specs.Forms.{IsInForm};
+ghost use Rattle.rd_script.specs.Reading.{reading, json_of, reading_name, reading_members, built};
+
+use crate::fault::OpFault;
+use crate::field::{Members, word};
+use crate::name::Name;
+use crate::op::Op;
+use crate::row::{read_fields, refuse_extra};
+use serde_json::Value;
+use std::alloc::Global;
+
+/// Reads a line of a script. The value is a JSON object (RFC 8259; of two members with one key the last counts) with the key
+/// `op`, the op's fields and no other key. The fault is the first in this order: no JSON, no object, `op` missing or no text,
+/// no op of that name, an op that is not built, each field in the order of its row missing or bad, the first other key in byte
+/// order, a stop of a redisplay, which is not built. It costs one reading of the line.
+#[tactic(auto, unfolding(crate::specs::Reading::reading))]
+pub fn read_op(alloc: Global, line: &[u8]) -> Result<Op, OpFault>
+    ensures read { IsRead result (reading line.now) }
+    ensures form { (op : Op) → reading line.now ≡ Ok op → IsInForm op }
+    ensures free { reading line.now ≢ Err faults.Memory }
+{
+    let value = read_json(alloc, line)?;
+    match value.as_object() {
+        Some(members) => read_members(alloc, members),
+        None => Err(OpFault::NotObject),
+    }
+}
+
+/// Reads a line as JSON.
+fn read_json(alloc: Global, line: &[u8]) -> Result<Value, OpFault>
+    ensures { IsReadAs view result (json_of line.now) }
+{
+    match Value::from_slice(alloc, line) {
+        Ok(value) => Ok(value),
+        Err(fault) => {
+            if fault.is_memory() {
+                Err(OpFault::Memory)
+            } else {
+                Err(OpFault::NotJson)
+            }
+        }
+    }
+}
+
+/// Reads an object.
+fn read_members(alloc: Global, members: &Members) -> Result<Op, OpFault>
+    ensures { IsRead result (reading_members (members_view members.now.entries)) }
+{
+    let name = read_name(alloc, members)?;
+    let op = read_fields(alloc, members, name)?;
+    only_built(refuse_extra(alloc, members, name, op)?)
+}
+
+/// Reads which op an object says.
+fn read_name(alloc: Global, members: &Members) -> Result<Name, OpFault>
+    ensures { IsRead result (reading_name (members_view members.now.entries)) }
+{
+    match Name::of(word(alloc, members, "op")?) {
+        Some(name) => Ok(name),
+        None => Err(OpFault::NoSuchOp),
+    }
+}
+
+/// An op, unless a part of it is not built.
+fn only_built(op: Op) -> Result<Op, OpFault>
+    ensures { IsRead result (built op) }
+{
+    match op {
+        Op::Redisplay { stop: Some(_) } => Err(OpFault::NotBuilt),
+        op => Ok(op),
+    }
+}
