@@ -1,0 +1,5 @@
+mod Changing
+mod Edits
+mod Finding
+mod Keeping
+mod Stepping

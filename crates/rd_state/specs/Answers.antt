@@ -1,0 +1,34 @@
+-- What the calls of a state answer, and what they leave.
+use Rattle.std.specs.Prelude.{◌≡◌, ◌≢◌, ℕ, Some, Result, Ok, Err, List, slice_get, slice_set}
+use Rattle.rd_script.specs.declared.op.Op.{Op}
+use Rattle.rd_script.specs.declared.op.Op.TheVariants.{Redisplay}
+use Rattle.rd_state.specs.declared.buffer.BufferState.{BufferState}
+use Rattle.rd_state.specs.declared.effect.Effect.{Effect}
+use Rattle.rd_state.specs.declared.refused.Refused.{Refused}
+use Rattle.rd_state.specs.declared.refused.Refused.TheVariants.{Memory}
+use Rattle.rd_state.specs.States.{BufferValue, StateValue}
+use Rattle.rd_state.specs.Steps.{step, effect_of}
+
+-- an op other than redisplay, which has a call of its own
+abbrev pub IsApplied : Op → Type 0
+IsApplied (Redisplay stop) = ⊥
+IsApplied op = Unit {0}
+
+-- what the call that applies an op answers: a refusal is that of the op's row or want of memory, and leaves the state as it was
+abbrev pub Applies : Result Effect Refused → Op → StateValue → StateValue → Type 0
+Applies (Ok effect) op old new = (step old op ≡ Ok new) × (effect ≡ effect_of old op)
+Applies (Err refused) op old new = (new ≡ old) × (refused ≢ Memory → step old op ≡ Err refused)
+
+-- the same of a call that changes one buffer
+abbrev pub Changes : Result Unit Refused → Result BufferValue Refused → BufferValue → BufferValue → Type 0
+Changes (Ok _) said old new = said ≡ Ok new
+Changes (Err refused) said old new = (new ≡ old) × (refused ≢ Memory → said ≡ Err refused)
+
+-- the same of a call that changes the buffer with a number
+abbrev pub ChangesAt : Result Unit Refused → (BufferValue → Result BufferValue Refused) → ℕ → List BufferValue → List BufferValue → Type 0
+ChangesAt (Ok _) f i old new = (b c : BufferValue) × (slice_get old i ≡ Some b) × (f b ≡ Ok c) × (new ≡ slice_set old i c)
+ChangesAt (Err refused) f i old new = (new ≡ old) × (refused ≢ Memory → (b : BufferValue) × (slice_get old i ≡ Some b) × (f b ≡ Err refused))
+
+-- what is lent of a buffer
+abbrev pub lent : BufferValue → BufferState
+lent b = record { text = b.text; settings = b.settings }

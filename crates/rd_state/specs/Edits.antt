@@ -1,0 +1,73 @@
+-- What an op does to one buffer, and where the positions in it move.
+use Rattle.std.specs.Prelude.{ℕ, ◌+◌, ◌-◌, nat_lt, nat_le, ◌==◌, ◌&&◌, ◌||◌, Bool, if◌then◌else◌, Result, Ok, Err, List, length, min, max}
+use Rattle.rd_base.specs.Settings.{SettingValues}
+use Rattle.rd_text.specs.Texts.{TextValue, most_characters, inserted, deleted, narrowed, widened}
+use Rattle.rd_script.specs.Forms.{each}
+use Rattle.rd_state.specs.declared.refused.Refused.{Refused}
+use Rattle.rd_state.specs.declared.refused.Refused.TheVariants.{OutOfRange, TextTooLarge}
+use Rattle.rd_state.specs.States.{BufferValue}
+
+-- ---- tests
+
+-- a position of the accessible range, its end included
+abbrev pub is_accessible : TextValue → ℕ → Bool
+is_accessible t pos = nat_le t.begin pos && nat_le pos t.end
+
+-- a range in the accessible one
+abbrev pub is_accessible_range : TextValue → ℕ → ℕ → Bool
+is_accessible_range t from to = nat_le t.begin from && nat_le from to && nat_le to t.end
+
+-- a range in the whole text
+abbrev pub is_range_of_all : TextValue → ℕ → ℕ → Bool
+is_range_of_all t from to = nat_le 1 from && nat_le from to && nat_le to (length t.text + 1)
+
+-- there is room for so many characters more
+abbrev pub has_room : TextValue → List ℕ → Bool
+has_room t new = nat_le (length t.text + length new) most_characters
+
+-- a character that is built: a newline, or one from space to tilde
+abbrev pub is_built_character : ℕ → Bool
+is_built_character c = (c == 10) || (nat_le 32 c && nat_le c 126)
+
+abbrev pub is_built : List ℕ → Bool
+is_built text = each is_built_character text
+
+-- ---- one buffer
+
+-- the settings after an edit, which sets `modified` where it changed anything
+abbrev pub marked : Bool → SettingValues → SettingValues
+marked changed s = record s { modified = changed || s.modified }
+
+abbrev pub insertion : BufferValue → ℕ → List ℕ → Result BufferValue Refused
+insertion b pos new = if is_accessible b.text pos
+    then (if has_room b.text new
+    then Ok (record { name = b.name; text = inserted b.text pos new; settings = marked (nat_lt 0 (length new)) b.settings })
+    else Err TextTooLarge)
+    else Err OutOfRange
+
+abbrev pub deletion : BufferValue → ℕ → ℕ → Result BufferValue Refused
+deletion b from to = if is_accessible_range b.text from to
+    then Ok (record { name = b.name; text = deleted b.text from to; settings = marked (nat_lt from to) b.settings })
+    else Err OutOfRange
+
+abbrev pub narrowing : BufferValue → ℕ → ℕ → Result BufferValue Refused
+narrowing b from to = if is_range_of_all b.text from to
+    then Ok (record { name = b.name; text = narrowed b.text from to; settings = b.settings })
+    else Err OutOfRange
+
+abbrev pub widening : BufferValue → Result BufferValue Refused
+widening b = Ok (record { name = b.name; text = widened b.text; settings = b.settings })
+
+-- ---- positions
+
+-- what stands past the place of an insertion moves by its length, and what stands at the place stays
+abbrev pub after_insertion : ℕ → ℕ → ℕ → ℕ
+after_insertion pos count p = if nat_lt pos p then p + count else p
+
+-- what stands in a range that is deleted goes to its beginning, and what stands behind it moves back by its length
+abbrev pub after_deletion : ℕ → ℕ → ℕ → ℕ
+after_deletion from to p = if nat_lt p from then p else (if nat_lt p to then from else p - (to - from))
+
+-- the nearest position of a range, its end included
+abbrev pub brought_into : ℕ → ℕ → ℕ → ℕ
+brought_into from to p = max from (min p to)

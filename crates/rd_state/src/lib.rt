@@ -1,0 +1,22 @@
+//! The state of a session: buffers, the window that shows one of them, and the frame's size; and what one op does to it.
+#![tactic(auto)]
+
+mod buffer;
+mod effect;
+mod laws;
+mod moves;
+mod named;
+mod refused;
+mod search;
+mod state;
+mod window;
+
+pub use buffer::BufferState;
+pub use effect::Effect;
+pub use laws::{settling_keeps_states, steps_keep_states};
+pub use refused::Refused;
+pub use state::State;
+pub use window::WindowState;
+
+#[cfg(test)]
+mod tests;

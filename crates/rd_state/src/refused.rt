@@ -1,0 +1,31 @@
+//! Why an op is refused.
+use thiserror::Error;
+
+/// Why an op is refused.
+#[derive(Clone, Copy, Debug, PartialEq, Eq, Error)]
+pub enum Refused {
+    /// No buffer has the name.
+    #[error("no such buffer")]
+    NoBuffer,
+    /// No window has the number.
+    #[error("no such window")]
+    NoWindow,
+    /// A position or a range is not where the op asks it to be.
+    #[error("out of range")]
+    OutOfRange,
+    /// A buffer has the name already.
+    #[error("name taken")]
+    NameTaken,
+    /// The text would have more than 4,194,304 characters.
+    #[error("text too large")]
+    TextTooLarge,
+    /// There are 64 buffers.
+    #[error("too many buffers")]
+    TooManyBuffers,
+    /// The text has a character that cannot be shown yet: another than a newline and those from space to tilde.
+    #[error("not built")]
+    NotBuilt,
+    /// There was no memory.
+    #[error("no memory")]
+    Memory,
+}

@@ -1,0 +1,376 @@
+//! A session's state.
+ghost use Rattle.std.specs.Prelude.{◌≡◌, ◌≤◌, ◌==◌, ◌++◌, ◌∷◌, [], nat_lt, if◌then◌else◌, IfOk, OnOk, OnErr, None, Some, length, slice_get, option_map, option_copied};
+ghost use Rattle.rd_script.specs.Forms.{IsInForm};
+ghost use Rattle.rd_text.specs.Texts.{IsAccessible};
+ghost use Rattle.rd_state.specs.States.{BufferValue, opening, IsValid, main_name, new_buffer, number_of};
+ghost use Rattle.rd_state.specs.Steps.{settled};
+ghost use Rattle.rd_state.specs.Answers.{IsApplied, Applies, lent};
+
+use crate::buffer::BufferState;
+use crate::effect::Effect;
+use crate::moves;
+use crate::named::{NamedBuffer, delete_at, insert_at, narrow_at, widen_at};
+use crate::refused::Refused;
+use crate::search::{is_built, number_of};
+use crate::window::WindowState;
+use rd_base::{Anchor, Ch, ListOf, Memory, Pos, Wrap};
+use rd_script::Op;
+use rd_text::Buffer;
+use std::alloc::Global;
+use std::marker::Model;
+
+/// The buffers in order of making, the window, and the frame's size.
+#[derive(Drop)]
+pub struct State {
+    buffers: Vec<NamedBuffer>,
+    window: WindowState,
+    width: u32,
+    height: u32,
+}
+
+impl Model for State {
+    ghost use Rattle.rd_state.specs.States.{StateValue, IsValid};
+
+    ghost Value = { StateValue };
+
+    ghost view = { λ s. record { buffers = s.buffers.items; window = s.window; width = s.width; height = s.height } };
+
+    ghost invariant = { λ s. IsValid (record { buffers = s.buffers.items; window = s.window; width = s.width; height = s.height }) };
+}
+
+/// How many buffers there can be.
+const MOST_BUFFERS: usize = 64;
+
+impl State {
+    /// The state in which a session begins: one empty buffer `main`, shown in window 0 of a frame of 80 columns and 24 rows.
+    pub fn new(alloc: Global) -> Result<State, Memory>
+        ensures { IfOk result (λ state. state ≡ opening) }
+    {
+        let name = main_name(alloc)?;
+        let mut buffers = Vec::new(alloc);
+        buffers.push(NamedBuffer::new(name, Buffer::new(alloc)?))?;
+        Ok(State {
+            buffers,
+            window: WindowState {
+                buffer: 0,
+                point: 1,
+                anchor: Anchor { pos: 1, row: 0 },
+                forced: false,
+                hscroll: 0,
+                wrap: Wrap::Truncate,
+            },
+            width: 80,
+            height: 24,
+        })
+    }
+
+    /// Applies one op other than redisplay. A refusal is the first that the op meets, and leaves the state as it was:
+    /// NotBuilt for a text of other characters than a newline and those from space to tilde, then NoWindow and NoBuffer, then
+    /// OutOfRange, TextTooLarge, NameTaken, TooManyBuffers. An edit moves the rest of the text once.
+    #[tactic(auto, unfolding(crate::specs::Steps::step, crate::specs::Steps::effect_of))]
+    pub fn apply(&mut self, op: Op) -> Result<Effect, Refused>
+        requires form { IsInForm op }
+        requires applied { IsApplied op }
+        ensures { Applies result op self.old self.new }
+    {
+        match op {
+            Op::Frame { width, height } => self.resize(width, height),
+            Op::Buffer { name } => self.make(name),
+            Op::Insert { buffer, pos, text } => self.insert(
+                buffer.as_slice(),
+                pos,
+                text.as_slice(),
+            ),
+            Op::TypeText { text } => self.type_text(text.as_slice()),
+            Op::Delete { buffer, from, to } => self.delete(buffer.as_slice(), from, to),
+            Op::Narrow { buffer, from, to } => self.narrow(buffer.as_slice(), from, to),
+            Op::Widen { buffer } => self.widen(buffer.as_slice()),
+            Op::Show { window, buffer } => self.show(window, buffer.as_slice()),
+            Op::Point { window, pos } => self.point(window, pos),
+            Op::Wrap { window, mode } => self.wrap(window, mode),
+            Op::Redisplay { stop: _stop } => Ok(Effect::Nothing),
+        }
+    }
+
+    /// Sets the beginning of the window's view and its point, as a layout found them, and forced off.
+    pub fn settle(&mut self, w: u32, anchor: Anchor, point: Pos)
+        requires live { w ≡ 0 }
+        requires anchor { (b : BufferValue) → slice_get self.old.buffers self.old.window.buffer ≡ Some b → IsAccessible b.text anchor.pos }
+        requires point { (b : BufferValue) → slice_get self.old.buffers self.old.window.buffer ≡ Some b → IsAccessible b.text point }
+        ensures { self.new ≡ settled self.old anchor point }
+    {
+        self.window.anchor = anchor;
+        self.window.point = point;
+        self.window.forced = false;
+    }
+
+    /// The buffer with a number, from 0 in order of making; None exactly where none was made.
+    pub fn buffer(&self, i: u32) -> Option<&BufferState>
+        ensures { option_copied result ≡ option_map lent (slice_get self.now.buffers i) }
+    {
+        match self.buffers.get(i as usize) {
+            Some(buffer) => Some(&buffer.state),
+            None => None,
+        }
+    }
+
+    /// The name of the buffer with a number; None exactly where none was made.
+    pub fn name(&self, i: u32) -> Option<&[Ch]>
+        ensures { option_copied result ≡ option_map (λ b. b.name) (slice_get self.now.buffers i) }
+    {
+        match self.buffers.get(i as usize) {
+            Some(buffer) => Some(buffer.name.as_slice()),
+            None => None,
+        }
+    }
+
+    /// The number of the buffer with a name; None exactly where no buffer has it.
+    pub fn number_of(&self, name: &[Ch]) -> Option<u32>
+        ensures { result ≡ (if nat_lt (number_of name.now self.now.buffers) (length self.now.buffers) then Some (number_of name.now self.now.buffers) else None) }
+    {
+        let i = number_of(name, self.buffers.as_slice());
+        if i < self.buffers.len() {
+            Some(i as u32)
+        } else {
+            None
+        }
+    }
+
+    /// The window with a number; None exactly where no such window lives.
+    pub fn window(&self, w: u32) -> Option<&WindowState>
+        ensures { option_copied result ≡ (if w == 0 then Some self.now.window else None) }
+    {
+        if w == 0 { Some(&self.window) } else { None }
+    }
+
+    /// The number of the selected window.
+    pub fn selected(&self) -> u32
+        ensures { result ≡ 0 }
+    {
+        0
+    }
+
+    /// The frame's columns and rows.
+    pub fn frame(&self) -> (u32, u32)
+        ensures width { result.0 ≡ self.now.width }
+        ensures height { result.1 ≡ self.now.height }
+        ensures valid { IsValid self.now }
+    {
+        (self.width, self.height)
+    }
+}
+
+impl State {
+    ghost use Rattle.std.specs.Prelude.{◌≡◌, ◌≤◌};
+    ghost use Rattle.rd_script.specs.declared.op.Op.TheVariants.{Frame, Buffer as MakeBuffer, Insert, TypeText, Delete, Narrow, Widen, Show, Point, Wrap as SetWrap};
+    ghost use Rattle.rd_script.specs.Forms.{IsInForm};
+    ghost use Rattle.rd_state.specs.Answers.{Applies};
+
+    /// Resizes the frame.
+    #[tactic(auto, unfolding(crate::specs::Steps::step, crate::specs::Steps::effect_of))]
+    fn resize(&mut self, width: u32, height: u32) -> Result<Effect, Refused>
+        requires { IsInForm (Frame width height) }
+        ensures { Applies result (Frame width height) self.old self.new }
+    {
+        self.width = width;
+        self.height = height;
+        Ok(Effect::Nothing)
+    }
+
+    /// Makes an empty buffer.
+    #[tactic(auto, unfolding(crate::specs::Steps::step, crate::specs::Steps::effect_of))]
+    fn make(&mut self, name: ListOf<Ch>) -> Result<Effect, Refused>
+        ensures { Applies result (MakeBuffer name) self.old self.new }
+    {
+        let taken = number_of(name.as_slice(), self.buffers.as_slice());
+        if taken < self.buffers.len() {
+            return Err(Refused::NameTaken);
+        }
+        if MOST_BUFFERS <= self.buffers.len() {
+            return Err(Refused::TooManyBuffers);
+        }
+        match add(&mut self.buffers, name) {
+            Err(Memory) => Err(Refused::Memory),
+            Ok(()) => Ok(Effect::Nothing),
+        }
+    }
+
+    /// Puts a text in.
+    #[tactic(auto, unfolding(crate::specs::Steps::step, crate::specs::Steps::effect_of))]
+    fn insert(&mut self, name: &[Ch], pos: u64, text: &[Ch]) -> Result<Effect, Refused>
+        ensures { Applies result (Insert name.now pos text.now) self.old self.new }
+    {
+        if !is_built(text) {
+            return Err(Refused::NotBuilt);
+        }
+        let i = number_of(name, self.buffers.as_slice());
+        if i == self.buffers.len() {
+            return Err(Refused::NoBuffer);
+        }
+        match insert_at(&mut self.buffers, i, pos, text) {
+            Err(refused) => Err(refused),
+            Ok(()) => {
+                let (buffer, from, added) = (i as u32, pos as u32, text.len() as u32);
+                self.window = moves::inserted(self.window, buffer, from, added);
+                Ok(Effect::Edit {
+                    buffer,
+                    from,
+                    removed: 0,
+                    added,
+                })
+            }
+        }
+    }
+
+    /// Puts a text in at the window's point, which moves behind it.
+    #[tactic(auto, unfolding(crate::specs::Steps::step, crate::specs::Steps::effect_of))]
+    fn type_text(&mut self, text: &[Ch]) -> Result<Effect, Refused>
+        ensures { Applies result (TypeText text.now) self.old self.new }
+    {
+        if !is_built(text) {
+            return Err(Refused::NotBuilt);
+        }
+        let (buffer, from) = (self.window.buffer, self.window.point);
+        match insert_at(&mut self.buffers, buffer as usize, from as u64, text) {
+            Err(refused) => Err(refused),
+            Ok(()) => {
+                let added = text.len() as u32;
+                self.window = moves::inserted(self.window, buffer, from, added);
+                self.window.point = from + added;
+                Ok(Effect::Edit {
+                    buffer,
+                    from,
+                    removed: 0,
+                    added,
+                })
+            }
+        }
+    }
+
+    /// Takes a range away.
+    #[tactic(auto, unfolding(crate::specs::Steps::step, crate::specs::Steps::effect_of))]
+    fn delete(&mut self, name: &[Ch], from: u64, to: u64) -> Result<Effect, Refused>
+        ensures { Applies result (Delete name.now from to) self.old self.new }
+    {
+        let i = number_of(name, self.buffers.as_slice());
+        if i == self.buffers.len() {
+            return Err(Refused::NoBuffer);
+        }
+        match delete_at(&mut self.buffers, i, from, to) {
+            Err(refused) => Err(refused),
+            Ok(()) => {
+                let (buffer, from, to) = (i as u32, from as u32, to as u32);
+                self.window = moves::deleted(self.window, buffer, from, to);
+                Ok(Effect::Edit {
+                    buffer,
+                    from,
+                    removed: to - from,
+                    added: 0,
+                })
+            }
+        }
+    }
+
+    /// Makes a range the accessible one.
+    #[tactic(auto, unfolding(crate::specs::Steps::step, crate::specs::Steps::effect_of))]
+    fn narrow(&mut self, name: &[Ch], from: u64, to: u64) -> Result<Effect, Refused>
+        ensures { Applies result (Narrow name.now from to) self.old self.new }
+    {
+        let i = number_of(name, self.buffers.as_slice());
+        if i == self.buffers.len() {
+            return Err(Refused::NoBuffer);
+        }
+        match narrow_at(&mut self.buffers, i, from, to) {
+            Err(refused) => Err(refused),
+            Ok(()) => {
+                let buffer = i as u32;
+                self.window = moves::narrowed(self.window, buffer, from as u32, to as u32);
+                Ok(Effect::All { buffer })
+            }
+        }
+    }
+
+    /// Makes the whole text accessible.
+    #[tactic(auto, unfolding(crate::specs::Steps::step, crate::specs::Steps::effect_of))]
+    fn widen(&mut self, name: &[Ch]) -> Result<Effect, Refused>
+        ensures { Applies result (Widen name.now) self.old self.new }
+    {
+        let i = number_of(name, self.buffers.as_slice());
+        if i == self.buffers.len() {
+            return Err(Refused::NoBuffer);
+        }
+        widen_at(&mut self.buffers, i);
+        Ok(Effect::All { buffer: i as u32 })
+    }
+
+    /// Shows a buffer from its accessible beginning.
+    #[tactic(auto, unfolding(crate::specs::Steps::step, crate::specs::Steps::effect_of))]
+    fn show(&mut self, window: u64, name: &[Ch]) -> Result<Effect, Refused>
+        ensures { Applies result (Show window name.now) self.old self.new }
+    {
+        if window != 0 {
+            return Err(Refused::NoWindow);
+        }
+        let i = number_of(name, self.buffers.as_slice());
+        if i == self.buffers.len() {
+            return Err(Refused::NoBuffer);
+        }
+        let begin = self.buffers[i].state.text.begin();
+        self.window.buffer = i as u32;
+        self.window.point = begin;
+        self.window.anchor = Anchor { pos: begin, row: 0 };
+        self.window.forced = false;
+        Ok(Effect::Window(0))
+    }
+
+    /// Moves the window's point.
+    #[tactic(auto, unfolding(crate::specs::Steps::step, crate::specs::Steps::effect_of))]
+    fn point(&mut self, window: u64, pos: u64) -> Result<Effect, Refused>
+        ensures { Applies result (Point window pos) self.old self.new }
+    {
+        if window != 0 {
+            return Err(Refused::NoWindow);
+        }
+        let text = &self.buffers[self.window.buffer as usize].state.text;
+        if pos < text.begin() as u64 || (text.end() as u64) < pos {
+            return Err(Refused::OutOfRange);
+        }
+        self.window.point = pos as u32;
+        Ok(Effect::Nothing)
+    }
+
+    /// Says what becomes of long lines.
+    #[tactic(auto, unfolding(crate::specs::Steps::step, crate::specs::Steps::effect_of))]
+    fn wrap(&mut self, window: u64, mode: Wrap) -> Result<Effect, Refused>
+        ensures { Applies result (SetWrap window mode) self.old self.new }
+    {
+        if window != 0 {
+            return Err(Refused::NoWindow);
+        }
+        self.window.wrap = mode;
+        Ok(Effect::Nothing)
+    }
+}
+
+/// Adds an empty buffer.
+fn add(buffers: &mut Vec<NamedBuffer>, name: ListOf<Ch>) -> Result<(), Memory>
+    ensures ok { OnOk result (buffers.new.items ≡ buffers.old.items ++ new_buffer name ∷ []) }
+    ensures err { OnErr result (buffers.new.items ≡ buffers.old.items) }
+{
+    let text = Buffer::new(*buffers.allocator())?;
+    buffers.push(NamedBuffer::new(name, text))?;
+    Ok(())
+}
+
+/// The name of the first buffer.
+pub(crate) fn main_name(alloc: Global) -> Result<ListOf<Ch>, Memory>
+    ensures { IfOk result (λ name. name ≡ main_name) }
+{
+    let name = [
+        Ch::scalar('m'),
+        Ch::scalar('a'),
+        Ch::scalar('i'),
+        Ch::scalar('n'),
+    ];
+    ListOf::from_slice(alloc, name.as_slice())
+}
