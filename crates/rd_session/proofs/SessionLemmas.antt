@@ -1,0 +1,113 @@
+-- What a session keeps: a built state, and a known screen of the frame's size.
+use Rattle.std.proofs.Common.{◌≡◌, ℕ, suc, ◌-◌, ◌≤◌, Option, None, Some, List, [], ◌∷◌, length, refl, sym, ◌∙◌, ap, subst, arith}
+use Rattle.std.specs.Prelude.{slice_get}
+use Rattle.std.specs.List.{AllByRecursion}
+use Rattle.std.proofs.lemmas.List.Elements.{recursion_from_All}
+use Rattle.rd_base.specs.declared.cell.Cell.{Cell}
+use Rattle.rd_base.specs.declared.settings.Anchor.{Anchor}
+use Rattle.rd_matrix.specs.declared.matrix.Entry.{Entry}
+use Rattle.rd_state.specs.States.{BufferValue, StateValue}
+use Rattle.rd_state.specs.Steps.{settled}
+use Rattle.rd_state.specs.declared.window.WindowState.{WindowState}
+use Rattle.rd_term.specs.Pictures.{Picture, IsOfSize, width_of}
+use Rattle.rd_text.specs.Texts.{TextValue, IsAccessible}
+use Rattle.rd_update.specs.Plans.{HaveOneSize, sent_of}
+use Rattle.rd_update.specs.Updates.{blank_like, Update, start, update}
+use Rattle.rd_update.specs.declared.plan.Sent.{Sent}
+use Rattle.rd_update.proofs.Parts.{done-rows}
+use Rattle.rd_rows.specs.Shapes.{ShapeValues}
+use Rattle.rd_session.specs.Blocks.{blocks_of}
+use Rattle.rd_session.specs.Layout.{view_of}
+use Rattle.rd_session.specs.Plain.{AreShowable}
+use Rattle.rd_session.specs.Redisplay.{anchor_of, laid_out, painted, shown_text, text_in}
+use Rattle.rd_session.specs.Sessions.{SessionValue, IsBuilt, FitsFrame}
+use Rattle.rd_session.proofs.LaidLemmas.{anchor-accessible, shown-showable}
+
+pub fits-kept : (screen : Option Picture) (s t : StateValue) → (t.width ≡ s.width) × (t.height ≡ s.height) → FitsFrame screen s → FitsFrame screen t
+fits-kept None s t same fits = tt
+fits-kept (Some screen) s t same fits = (fits.0 ∙ sym same.1, fits.1 ∙ sym same.0)
+
+-- the buffer that the window shows has the shown text
+shown-is : (s : StateValue) (b : BufferValue) → slice_get s.buffers s.window.buffer ≡ Some b → shown_text s ≡ b.text
+shown-is s b here = ap text_in here
+
+pub anchor-settles : (s : StateValue) → IsBuilt s → (b : BufferValue) → slice_get s.buffers s.window.buffer ≡ Some b → IsAccessible b.text (anchor_of s.window.anchor (laid_out s).view).pos
+unfolding laid_out
+anchor-settles s built b here = subst (λ t. IsAccessible t (anchor_of s.window.anchor (laid_out s).view).pos) (shown-is s b here) (anchor-accessible s built)
+
+wide-of : (width height : ℕ) (rows : List (List Cell)) → 1 ≤ height → length rows ≡ height → AllByRecursion (λ row. length row ≡ width) rows → width_of rows ≡ width
+wide-of width height [] some long each = absurd (omega arith)
+wide-of width height (row ∷ rows) some long each = each.0
+
+pub wide : (width height : ℕ) (p : Picture) → 1 ≤ height → IsOfSize width height p → width_of p.rows ≡ width
+wide width height p some size = wide-of width height p.rows some size.rows (recursion_from_All (λ row. length row ≡ width) p.rows size.each)
+
+pub one-size : (current : Option Picture) (s : StateValue) (target : Picture) → 1 ≤ s.height → FitsFrame current s → IsOfSize s.width s.height target → HaveOneSize current target
+one-size None s target some fits size = tt
+one-size (Some screen) s target some fits size = (fits.0 ∙ sym size.rows, fits.1 ∙ sym (wide s.width s.height target some size))
+
+length-blank : (rows : List (List Cell)) → length (blank_like rows) ≡ length rows
+length-blank [] = refl
+length-blank (row ∷ rows) = ap suc (length-blank rows)
+
+length-start : (current : Option Picture) (target : Picture) → HaveOneSize current target → length (start current target).rows ≡ length target.rows
+length-start None target same = length-blank target.rows
+length-start (Some screen) target same = same.0
+
+-- an update without a limit leaves the target's rows
+pub update-rows : (current : Option Picture) (target : Picture) → HaveOneSize current target → (update current target None).screen.rows ≡ target.rows
+update-rows current target same = done-rows None (start current target).rows target.rows (length-start current target same) refl
+
+pub update-fits : (current : Option Picture) (s t : StateValue) (target : Picture) → 1 ≤ s.height → FitsFrame current s → IsOfSize s.width s.height target
+    → (t.width ≡ s.width) × (t.height ≡ s.height) → FitsFrame (Some (update current target None).screen) t
+update-fits current s t target some fits size same =
+    let rows = update-rows current target (one-size current s target some fits size) in
+    (ap length rows ∙ (size.rows ∙ sym same.1), ap width_of rows ∙ (wide s.width s.height target some size ∙ sym same.0))
+
+-- the state that is settled as a layout found it
+pub settled-laid : (s t : StateValue) (w : WindowState) (a : Anchor) (view : List Entry) → w ≡ s.window → view ≡ (laid_out s).view → a ≡ anchor_of w.anchor view
+    → t ≡ settled s a w.point → t ≡ (laid_out s).state
+unfolding laid_out
+settled-laid s t w a view window same anchor is =
+    is ∙ (ap (λ x. settled s x w.point) anchor
+    ∙ (ap (λ x. settled s (anchor_of w.anchor x) w.point) same ∙ ap (λ (x : WindowState). settled s (anchor_of x.anchor (laid_out s).view) x.point) window))
+
+pub anchor-found : (s : StateValue) (w : WindowState) (a : Anchor) (view : List Entry) → w ≡ s.window → view ≡ (laid_out s).view → a ≡ anchor_of w.anchor view
+    → a ≡ anchor_of s.window.anchor (laid_out s).view
+anchor-found s w a view window same anchor = anchor ∙ (ap (λ x. anchor_of w.anchor x) same ∙ ap (λ (x : WindowState). anchor_of x.anchor (laid_out s).view) window)
+
+pub same-session : (s t : StateValue) (p q : Option Picture) (xs ys : List Entry) → s ≡ t → p ≡ q → xs ≡ ys
+    → let v : SessionValue = record { state = s; current = p; matrix = xs } in let w : SessionValue = record { state = t; current = q; matrix = ys } in v ≡ w
+same-session s t p q xs ys a b c = cc (a, b, c)
+
+-- what the screen shows after an update, where the screen and the target are named in other words
+pub screen-after : (taken current old : Option Picture) (given target laid : Picture) (sent : Sent) (screen : Picture) → taken ≡ current → current ≡ old → given ≡ target → given ≡ laid
+    → sent ≡ sent_of (update old laid None) → (sent ≡ sent_of (update taken given None) → screen ≡ (update taken given None).screen) → screen ≡ (update current target None).screen
+screen-after taken current old given target laid sent screen a b c d e f =
+    let told : update old laid None ≡ update taken given None = cc (a, b, d) in
+    let is : update taken given None ≡ update current target None = cc (a, c) in
+    f (e ∙ ap sent_of told) ∙ ap (λ (u : Update). u.screen) is
+
+-- the rows that were laid out are those of the state
+pub laid-view : (s : StateValue) (t : TextValue) (w : WindowState) (width height : ℕ) (view : List Entry) → t ≡ shown_text s → w ≡ s.window → width ≡ s.width → height ≡ s.height
+    → view ≡ view_of (record { width = width; wrap = w.wrap; hscroll = 0 }) (height - 1) w.anchor w.point (blocks_of t) → view ≡ (laid_out s).view
+unfolding laid_out
+laid-view s t w width height view text window wide high is =
+    let shape : ShapeValues = record { width = width; wrap = w.wrap; hscroll = 0 } in
+    is ∙ (ap (λ x. view_of shape (height - 1) w.anchor w.point (blocks_of x)) text
+    ∙ (ap (λ (x : WindowState). let y : ShapeValues = record { width = width; wrap = x.wrap; hscroll = 0 } in view_of y (height - 1) x.anchor x.point (blocks_of (shown_text s))) window
+    ∙ (ap (λ x. let y : ShapeValues = record { width = x; wrap = s.window.wrap; hscroll = 0 } in view_of y (height - 1) s.window.anchor s.window.point (blocks_of (shown_text s))) wide
+    ∙ ap (λ x. let y : ShapeValues = record { width = s.width; wrap = s.window.wrap; hscroll = 0 } in view_of y (x - 1) s.window.anchor s.window.point (blocks_of (shown_text s))) high)))
+
+pub laid-showable : (s : StateValue) → IsBuilt s → AreShowable s.width (shown_text s).begin (shown_text s).end (laid_out s).view
+unfolding laid_out
+laid-showable s built = shown-showable s built
+
+-- the target that was painted is that of the state
+pub laid-picture : (s : StateValue) (w : WindowState) (width height : ℕ) (view : List Entry) (target : Picture) → w ≡ s.window → width ≡ s.width → height ≡ s.height → view ≡ (laid_out s).view
+    → target ≡ painted width (height - 1) w.point view → target ≡ (laid_out s).picture
+unfolding laid_out
+laid-picture s w width height view target window wide high same is =
+    is ∙ (ap (λ (x : WindowState). painted width (height - 1) x.point view) window
+    ∙ (ap (λ x. painted x (height - 1) s.window.point view) wide
+    ∙ (ap (λ x. painted s.width (x - 1) s.window.point view) high ∙ ap (λ x. painted s.width (s.height - 1) s.window.point x) same)))

@@ -1,0 +1,9 @@
+pub mod Adding
+pub mod Blocks
+pub mod Cuts
+pub mod Facts
+pub mod Layout
+pub mod Places
+pub mod Plain
+pub mod Redisplay
+pub mod Sessions

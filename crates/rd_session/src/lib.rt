@@ -1,0 +1,19 @@
+//! The session: the state of the editor with its layout, and the redisplay.
+#![tactic(auto)]
+
+mod block;
+mod elements;
+mod laws;
+mod outcome;
+mod paint;
+mod rows;
+mod session;
+mod view;
+
+pub use block::{Block, block_after, block_before, block_of};
+pub use elements::LineElements;
+pub use laws::{layouts_stay_built, states_stay_built};
+pub use outcome::Outcome;
+pub use rows::{Wanted, add_block};
+pub use session::Session;
+pub use view::lay_out;
