@@ -1,0 +1,145 @@
+-- What a reader has read: the lines that it gave, and the bytes that it took for them.
+use Rattle.std.proofs.Common.{◌≡◌, ℕ, ◌+◌, ◌<◌, ◌≤◌, inl, inr, Bool, true, false, List, [], ◌∷◌, ◌++◌, length, Option, None, Result, Ok, Err, refl, sym, ap, ◌∙◌, subst, append_assoc, append-nil, arith, length-append}
+use Rattle.std.specs.List.{AllByRecursion}
+use Rattle.std.specs.Io.KnownBytes.{Consumes, IsAtEnd}
+use Rattle.std.proofs.KnownBytes.{Consumes-nil, Consumes-trans}
+use Rattle.rd_io.specs.Lines.{Reading, Answers, GivesWhole, GivesLast, GivesNone, IsUnbroken, lines_of, joined, last_of, unread}
+use Rattle.rd_io.specs.declared.lines.LineFault.{LineFault}
+use Rattle.rd_io.proofs.Cuts.{lines-joined}
+use Rattle.rd_play.specs.Ends.{AreFirst}
+
+pub record HasRead (lines : List (List ℕ)) (bytes : List ℕ) (l0 l1 : Option (List ℕ)) (r : Reading) : Type 0 where
+  pub taken : Consumes l0 l1 bytes
+  pub unbroken : AllByRecursion IsUnbroken lines
+  pub split : r.ended ≡ false → bytes ≡ joined lines ++ r.held
+  pub over : r.ended ≡ true → (lines_of bytes ≡ lines) × IsAtEnd l1
+  pub count : r.given ≡ length lines
+  pub few : r.given ≤ 1000000
+  pub clear : r.fault ≡ None
+
+-- a reader that has read nothing
+pub read-nothing : (l : Option (List ℕ)) (r : Reading) → r ≡ unread → HasRead [] [] l l r
+read-nothing l r e =
+    let at : HasRead [] [] l l unread = record { taken = Consumes-nil l; unbroken = tt; split = λ p. refl; over = λ p. absurd (let q : false ≡ true = p in cc); count = refl; few = omega arith; clear = refl } in
+    subst (HasRead [] [] l l) (sym e) at
+
+-- ---- one more line
+
+all-push : (P : List ℕ → Type 0) (xs : List (List ℕ)) (x : List ℕ) → AllByRecursion P xs → P x → AllByRecursion P (xs ++ x ∷ [])
+all-push P [] x p q = (q, tt)
+all-push P (y ∷ ys) x p q = (p.0, all-push P ys x p.1 q)
+
+joined-push : (lines : List (List ℕ)) (line rest : List ℕ) → joined (lines ++ line ∷ []) ++ rest ≡ joined lines ++ (line ++ 10 ∷ rest)
+joined-push [] line rest = simp append_assoc
+joined-push (l ∷ ls) line rest =
+    append_assoc (l ++ 10 ∷ []) (joined (ls ++ line ∷ [])) rest ∙ ap (λ x. (l ++ 10 ∷ []) ++ x) (joined-push ls line rest) ∙ sym (append_assoc (l ++ 10 ∷ []) (joined ls) (line ++ 10 ∷ rest))
+
+last-some : (line : List ℕ) → 0 < length line → last_of line ≡ line ∷ []
+last-some [] p = absurd (omega arith)
+last-some (b ∷ bs) p = refl
+
+length-push : (xs : List (List ℕ)) (x : List ℕ) → length (xs ++ x ∷ []) ≡ length xs + 1
+length-push xs x = omega (arith, length-append xs (x ∷ []))
+
+-- what an end or its want says
+pub not-over : (b : Bool) → b ≡ false → b ≡ true → ⊥
+not-over b p q = cc
+
+-- the bytes that came behind the lines so far
+pub come : (lines : List (List ℕ)) (bytes held more : List ℕ) → bytes ≡ joined lines ++ held → bytes ++ more ≡ joined lines ++ (held ++ more)
+come lines bytes held more e = ap (λ l. l ++ more) e ∙ append_assoc (joined lines) held more
+
+read-whole : (lines : List (List ℕ)) (bytes more : List ℕ) (l0 l1 l2 : Option (List ℕ)) (old new : Reading) → HasRead lines bytes l0 l1 old → Consumes l1 l2 more → old.ended ≡ false
+    → GivesWhole old new more → HasRead (lines ++ new.line ∷ []) (bytes ++ more) l0 l2 new
+read-whole lines bytes more l0 l1 l2 old new h p off g = record {
+  taken = Consumes-trans l0 l1 l2 bytes more h.taken p;
+  unbroken = all-push IsUnbroken lines new.line h.unbroken g.line.unbroken;
+  split = λ q. come lines bytes old.held more (h.split off) ∙ ap (λ l. joined lines ++ l) g.split ∙ sym (joined-push lines new.line new.held);
+  over = λ q. absurd (not-over new.ended g.goes_on q);
+  count = let a = h.count in let b = g.line.count in omega (arith, length-push lines new.line);
+  few = let a = g.line.few in let b = g.line.count in omega arith;
+  clear = g.line.fault;
+}
+
+read-last : (lines : List (List ℕ)) (bytes more : List ℕ) (l0 l1 l2 : Option (List ℕ)) (old new : Reading) → HasRead lines bytes l0 l1 old → Consumes l1 l2 more → old.ended ≡ false
+    → GivesLast old new more l2 → HasRead (lines ++ new.line ∷ []) (bytes ++ more) l0 l2 new
+read-last lines bytes more l0 l1 l2 old new h p off g = record {
+  taken = Consumes-trans l0 l1 l2 bytes more h.taken p;
+  unbroken = all-push IsUnbroken lines new.line h.unbroken g.line.unbroken;
+  split = λ q. absurd (not-over new.ended q g.ended);
+  over = λ q. (
+    ap lines_of (come lines bytes old.held more (h.split off) ∙ ap (λ l. joined lines ++ l) g.split) ∙ lines-joined lines new.line h.unbroken g.line.unbroken
+        ∙ ap (λ l. lines ++ l) (last-some new.line g.some),
+    g.end,
+  );
+  count = let a = h.count in let b = g.line.count in omega (arith, length-push lines new.line);
+  few = let a = g.line.few in let b = g.line.count in omega arith;
+  clear = g.line.fault;
+}
+
+pub read-line : (lines : List (List ℕ)) (bytes more : List ℕ) (l0 l1 l2 : Option (List ℕ)) (old new : Reading) → HasRead lines bytes l0 l1 old → Consumes l1 l2 more → old.ended ≡ false
+    → Answers (Ok true) old new more l2 → HasRead (lines ++ new.line ∷ []) (bytes ++ more) l0 l2 new
+read-line lines bytes more l0 l1 l2 old new h p off (inl g) = read-whole lines bytes more l0 l1 l2 old new h p off g
+read-line lines bytes more l0 l1 l2 old new h p off (inr g) = read-last lines bytes more l0 l1 l2 old new h p off g
+
+pub line-given : (old new : Reading) (more : List ℕ) (l2 : Option (List ℕ)) → Answers (Ok true) old new more l2 → (new.given ≡ old.given + 1) × (old.given < 1000000)
+line-given old new more l2 (inl g) = (g.line.count, g.line.few)
+line-given old new more l2 (inr g) = (g.line.count, g.line.few)
+
+-- the lines given are the first ones of the bytes taken
+first-if : (b : Bool) (lines : List (List ℕ)) (bytes : List ℕ) (l0 l1 : Option (List ℕ)) (r : Reading) → r.ended ≡ b → HasRead lines bytes l0 l1 r → AreFirst lines bytes l1
+first-if false lines bytes l0 l1 r e h = inl (r.held, (h.unbroken, h.split e))
+first-if true lines bytes l0 l1 r e h = inr (h.over e)
+
+pub are-first : (lines : List (List ℕ)) (bytes : List ℕ) (l0 l1 : Option (List ℕ)) (r : Reading) → HasRead lines bytes l0 l1 r → AreFirst lines bytes l1
+are-first lines bytes l0 l1 r h = first-if r.ended lines bytes l0 l1 r refl h
+
+-- ---- the end
+
+nothing : (held more : List ℕ) → held ++ more ≡ [] → held ≡ []
+nothing [] more e = refl
+nothing (b ∷ bs) more e = cc
+
+pub read-over-open : (lines : List (List ℕ)) (bytes more : List ℕ) (l0 l1 l2 : Option (List ℕ)) (old new : Reading) → HasRead lines bytes l0 l1 old → Consumes l1 l2 more → old.ended ≡ false
+    → GivesNone old new more l2 → Consumes l0 l2 (bytes ++ more) × (lines_of (bytes ++ more) ≡ lines) × IsAtEnd l2
+read-over-open lines bytes more l0 l1 l2 old new h p off g = (
+  Consumes-trans l0 l1 l2 bytes more h.taken p,
+  ap lines_of (come lines bytes old.held more (h.split off) ∙ ap (λ l. joined lines ++ l) g.split) ∙ lines-joined lines [] h.unbroken tt ∙ append-nil lines,
+  g.end off,
+)
+
+nothing-more : (held more : List ℕ) → held ++ more ≡ [] → more ≡ []
+nothing-more [] more e = e
+nothing-more (b ∷ bs) more e = absurd (let q : b ∷ (bs ++ more) ≡ [] = e in cc)
+
+read-over-closed : (lines : List (List ℕ)) (bytes more : List ℕ) (l0 l1 l2 : Option (List ℕ)) (old new : Reading) → HasRead lines bytes l0 l1 old → Consumes l1 l2 more → old.ended ≡ true → l2 ≡ l1
+    → GivesNone old new more l2 → Consumes l0 l2 (bytes ++ more) × (lines_of (bytes ++ more) ≡ lines) × IsAtEnd l2
+read-over-closed lines bytes more l0 l1 l2 old new h p on same g = (
+  Consumes-trans l0 l1 l2 bytes more h.taken p,
+  ap lines_of (ap (λ l. bytes ++ l) (nothing-more old.held more g.split) ∙ append-nil bytes) ∙ (h.over on).0,
+  subst IsAtEnd (sym same) (h.over on).1,
+)
+
+read-over-if : (b : Bool) (lines : List (List ℕ)) (bytes more : List ℕ) (l0 l1 l2 : Option (List ℕ)) (old new : Reading) → old.ended ≡ b → HasRead lines bytes l0 l1 old → Consumes l1 l2 more → (old.ended ≡ true → l2 ≡ l1)
+    → GivesNone old new more l2 → Consumes l0 l2 (bytes ++ more) × (lines_of (bytes ++ more) ≡ lines) × IsAtEnd l2
+read-over-if false lines bytes more l0 l1 l2 old new e h p same g = read-over-open lines bytes more l0 l1 l2 old new h p e g
+read-over-if true lines bytes more l0 l1 l2 old new e h p same g = read-over-closed lines bytes more l0 l1 l2 old new h p e (same e) g
+
+-- the reader answers that no line is left
+pub read-over : (lines : List (List ℕ)) (bytes more : List ℕ) (l0 l1 l2 : Option (List ℕ)) (old new : Reading) → HasRead lines bytes l0 l1 old → Consumes l1 l2 more → (old.ended ≡ true → l2 ≡ l1)
+    → Answers (Ok false) old new more l2 → Consumes l0 l2 (bytes ++ more) × (lines_of (bytes ++ more) ≡ lines) × IsAtEnd l2
+read-over lines bytes more l0 l1 l2 old new h p same g = read-over-if old.ended lines bytes more l0 l1 l2 old new refl h p same g
+
+-- an answer other than the end comes while the end has not been met
+open-if : (b : Bool) (result : Result Bool LineFault) → (b ≡ true → result ≡ Ok false) → (result ≡ Ok false → ⊥) → b ≡ false
+open-if false result p q = refl
+open-if true result p q = absurd (q (p refl))
+
+pub is-open : (r : Reading) (result : Result Bool LineFault) → (r.ended ≡ true → result ≡ Ok false) → (result ≡ Ok false → ⊥) → r.ended ≡ false
+is-open r result p q = open-if r.ended result p q
+
+pub not-err : (r : Result Bool LineFault) (fault : LineFault) → r ≡ Err fault → r ≡ Ok false → ⊥
+not-err r fault p q = cc
+
+pub not-true : (r : Result Bool LineFault) (b : Bool) → r ≡ Ok b → b ≡ true → r ≡ Ok false → ⊥
+not-true r b p t q = cc

@@ -1,0 +1,19 @@
+use Rattle.rd_play.proofs.Headline.{headline}
+use Rattle.rd_play.proofs.law.each_redisplay_is_shown.Goals as goal
+
+pub returns : goal.returns
+returns c =
+    let states = c.states_stay_built.ensures in
+    let layouts = c.layouts_stay_built.ensures in
+    headline (record {
+      begins = states.opening;
+      stepped = states.step;
+      sized = states.frame;
+      laid = λ s h. record {
+        built = layouts.built s h;
+        width = (layouts.frame s).0;
+        height = (layouts.frame s).1;
+        size = (layouts.size s h).0;
+        cells = (layouts.size s h).1;
+      };
+    })

@@ -1,0 +1,6 @@
+pub mod Acts
+pub mod Ends
+pub mod Reports
+pub mod Runs
+pub mod Statuses
+pub mod Words
