@@ -1,5 +1,5 @@
 -- The codes of characters: scalar values of Unicode, and raw bytes behind them.
-use Rattle.std.specs.Prelude.{ℕ, ◌+◌, Bool, nat_lt, nat_le, ◌&&◌, ◌||◌, not}
+use Rattle.std.specs.Prelude.{ℕ, Bool, nat_lt, nat_le, ◌&&◌, ◌||◌}
 
 -- a scalar value: a code point below 110000 (hexadecimal) that is no surrogate
 abbrev pub is_scalar : ℕ → Bool

@@ -1,8 +1,8 @@
 -- Elements of a line.
-use Rattle.std.specs.Prelude.{◌≡◌, ℕ, ◌≤◌, List, [], ◌∷◌, Option, None, Some, Result, Ok, Err, All}
+use Rattle.std.specs.Prelude.{◌≡◌, ◌≤◌, List, [], ◌∷◌, Option, None, Some, Result, Ok, Err, All}
 use Rattle.rd_base.specs.declared.element.Element.{Element}
 use Rattle.rd_base.specs.declared.element.Extent.{Extent}
-use Rattle.rd_base.specs.declared.element.Extent.TheVariants.{Fixed, Tab, Column}
+use Rattle.rd_base.specs.declared.element.Extent.TheVariants.{Fixed, Tab}
 use Rattle.rd_base.specs.declared.element.Look.{Look}
 use Rattle.rd_base.specs.declared.element.Look.TheVariants.{Blank, Glyph, RowEnd, LineEnd}
 use Rattle.rd_base.specs.declared.memory.Memory.{Memory}

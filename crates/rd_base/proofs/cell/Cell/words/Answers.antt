@@ -1,5 +1,4 @@
 use Rattle.std.proofs.Common.{◌∙◌}
-use Rattle.rd_base.specs.Cells.{words_of}
 use Rattle.rd_base.proofs.Words.{words_of-told}
 use Rattle.rd_base.proofs.cell.Cell.words.Goals as goal
 
