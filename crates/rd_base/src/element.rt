@@ -41,6 +41,22 @@ pub struct Element {
     pub origin: Origin,
 }
 
+/// A blank of no columns in the plain face, of the first item.
+impl Default for Element {
+    fn default() -> Element {
+        Element {
+            extent: Extent::Fixed(0),
+            look: Look::Blank,
+            face: Face::PLAIN,
+            origin: Origin {
+                item: 0,
+                from: 0,
+                to: 0,
+            },
+        }
+    }
+}
+
 /// Elements that are given one at a time.
 pub trait Elements {
     ghost use Rattle.std.specs.Prelude.{List};
