@@ -47,6 +47,10 @@ row_end item = part item (Fixed 0) RowEnd
 abbrev pub stretch : ℕ → ℕ → Element
 stretch item column = part item (Column column) Blank
 
+-- so many blanks
+abbrev pub spaces : ℕ → ℕ → Element
+spaces item columns = part item (Fixed columns) Blank
+
 abbrev pub narrow : ShapeValues
 narrow = record { width = 12; wrap = Continue; hscroll = 0 }
 

@@ -3,7 +3,7 @@ ghost use Rattle.std.specs.Prelude.{◌≡◌, ◌<◌, ◌∷◌, ◌++◌, [],
 ghost use Rattle.rd_base.specs.Faces.{plain};
 ghost use Rattle.rd_base.specs.Cells.{single};
 ghost use Rattle.rd_rows.specs.Rows.{glyph_cells, blanks};
-ghost use Rattle.rd_rows.specs.Examples.{letter, letters, wide, tab, line_end, row_end, stretch, narrow, cut, cut_at, rows, text, cells, weights, begins, at};
+ghost use Rattle.rd_rows.specs.Examples.{letter, letters, wide, tab, line_end, row_end, stretch, spaces, narrow, cut, cut_at, rows, text, cells, weights, begins, at};
 
 use super::*;
 use rd_base::{Cell, Element, Elements, Extent, Face, Glyph, Look, Memory, Origin, Steps, Wrap};
@@ -62,6 +62,14 @@ fn stretches_up_to_a_column()
     ensures passed { cells (rows narrow (letters 0 (97 ∷ 98 ∷ 99 ∷ []) ++ stretch 3 2 ∷ letter 4 100 ∷ line_end 5)) ≡ text (97 ∷ 98 ∷ 99 ∷ 100 ∷ 32 ∷ 32 ∷ 32 ∷ 32 ∷ 32 ∷ 32 ∷ 32 ∷ 32 ∷ []) ∷ [] }
 {}
 
+/// A stretch of set columns fits whole, is cut at the room, or begins the next row.
+
+fn stretches_of_set_columns()
+    ensures whole { cells (rows narrow (letters 0 (97 ∷ 98 ∷ 99 ∷ 100 ∷ 101 ∷ 102 ∷ 103 ∷ 104 ∷ 105 ∷ []) ++ spaces 9 2 ∷ line_end 10)) ≡ text (97 ∷ 98 ∷ 99 ∷ 100 ∷ 101 ∷ 102 ∷ 103 ∷ 104 ∷ 105 ∷ 32 ∷ 32 ∷ 32 ∷ []) ∷ [] }
+    ensures cut { cells (rows narrow (letters 0 (97 ∷ 98 ∷ 99 ∷ 100 ∷ 101 ∷ 102 ∷ 103 ∷ 104 ∷ 105 ∷ []) ++ spaces 9 3 ∷ letter 10 120 ∷ line_end 11)) ≡ text (97 ∷ 98 ∷ 99 ∷ 100 ∷ 101 ∷ 102 ∷ 103 ∷ 104 ∷ 105 ∷ 32 ∷ 32 ∷ 92 ∷ []) ∷ (text (120 ∷ []) ++ blanks 11 plain) ∷ [] }
+    ensures next { cells (rows narrow (letters 0 (97 ∷ 98 ∷ 99 ∷ 100 ∷ 101 ∷ 102 ∷ 103 ∷ 104 ∷ 105 ∷ 106 ∷ 107 ∷ []) ++ spaces 11 1 ∷ line_end 12)) ≡ text (97 ∷ 98 ∷ 99 ∷ 100 ∷ 101 ∷ 102 ∷ 103 ∷ 104 ∷ 105 ∷ 106 ∷ 107 ∷ 92 ∷ []) ∷ blanks 12 plain ∷ [] }
+{}
+
 /// What these functions promise is proved; they have no body.
 #[test]
 fn worked_lines() {
@@ -71,6 +79,7 @@ fn worked_lines() {
     a_truncated_line();
     a_row_end_in_a_string();
     stretches_up_to_a_column();
+    stretches_of_set_columns();
 }
 
 /// A line given as a slice.
