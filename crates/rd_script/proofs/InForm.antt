@@ -65,7 +65,7 @@ text-finds : Finds text (λ t. IsTrue (is_text t))
 text-finds = record { found = λ d t e. (kept_if-found is_text (option_map chars (as_str d)) t e) }
 
 buffer_name-finds : Finds buffer_name (λ t. IsTrue (is_buffer_name t))
-buffer_name-finds = record { found = λ d t e. (kept_if-found is_buffer_name (text d) t e) }
+buffer_name-finds = record { found = λ d t e. (kept_if-found is_buffer_name (as_str d) t e) }
 
 -- ---- fields
 
@@ -148,6 +148,7 @@ row-gives names.TypeText = made-gives _ _ _ (text_field (codes "text")) (λ x h.
 row-gives names.Delete = range_of_name ops.Delete (codes "from") (codes "to") (λ b m n hb hm hn. (hb, hm, hn))
 row-gives names.Narrow = range_of_name ops.Narrow (codes "from") (codes "to") (λ b m n hb hm hn. (hb, hm, hn))
 row-gives names.Widen = made-gives _ _ _ (name_field (codes "buffer")) (λ x h. h)
+row-gives names.Remove = made-gives _ _ _ (whole_field (codes "window")) (λ x h. h)
 row-gives names.Show = made-gives _ _ _ (both-gives _ _ _ _ (whole_field (codes "window")) (name_field (codes "buffer"))) (λ x h. h)
 row-gives names.Point = made-gives _ _ _ (both-gives _ _ _ _ (whole_field (codes "window")) (whole_field (codes "pos"))) (λ x h. h)
 row-gives names.Wrap = made-gives _ _ _ (both-gives _ _ _ _ (whole_field (codes "window")) (required-gives (codes "mode") (word wrap_modes) _ (any-finds (word wrap_modes)))) (λ x h. h.0)
@@ -166,6 +167,7 @@ built-same (ops.TypeText t) x e = ok-same _ x e
 built-same (ops.Delete b m n) x e = ok-same _ x e
 built-same (ops.Narrow b m n) x e = ok-same _ x e
 built-same (ops.Widen b) x e = ok-same _ x e
+built-same (ops.Remove w) x e = ok-same _ x e
 built-same (ops.Show w b) x e = ok-same _ x e
 built-same (ops.Point w p) x e = ok-same _ x e
 built-same (ops.Wrap w m) x e = ok-same _ x e

@@ -24,9 +24,9 @@ whole = within 0 18446744073709551615
 abbrev pub text : Data → Option (List ℕ)
 text d = option_and_then (kept_if is_text) (option_map chars (as_str d))
 
--- a buffer's name
+-- a buffer's name, as its bytes in UTF-8
 abbrev pub buffer_name : Data → Option (List ℕ)
-buffer_name d = option_and_then (kept_if is_buffer_name) (text d)
+buffer_name d = option_and_then (kept_if is_buffer_name) (as_str d)
 
 -- what stands beside a text in a list
 abbrev pub beside : {T : Type 0} → List (List ℕ × T) → List ℕ → Option T

@@ -18,6 +18,7 @@ built_names = (codes "frame", names.Frame)
     ∷ (codes "delete", names.Delete)
     ∷ (codes "narrow", names.Narrow)
     ∷ (codes "widen", names.Widen)
+    ∷ (codes "remove", names.Remove)
     ∷ (codes "show", names.Show)
     ∷ (codes "point", names.Point)
     ∷ (codes "wrap", names.Wrap)
@@ -28,7 +29,7 @@ built_names = (codes "frame", names.Frame)
 abbrev pub unbuilt_names : List (List ℕ)
 unbuilt_names = codes "insert_raw" ∷ codes "put" ∷ codes "overlay" ∷ codes "overlay_move" ∷ codes "overlay_drop"
     ∷ codes "overlay_put" ∷ codes "setting" ∷ codes "string" ∷ codes "spec" ∷ codes "face" ∷ codes "table" ∷ codes "split"
-    ∷ codes "remove" ∷ codes "select" ∷ codes "start" ∷ codes "scroll" ∷ codes "hscroll" ∷ codes "mode_line"
+    ∷ codes "select" ∷ codes "start" ∷ codes "scroll" ∷ codes "hscroll" ∷ codes "mode_line"
     ∷ codes "scrolling" ∷ codes "echo" ∷ []
 
 -- the op that a text names
@@ -51,6 +52,7 @@ row names.Delete = made (λ f. ops.Delete f.0 f.1.0 f.1.1)
 row names.Narrow = made (λ f. ops.Narrow f.0 f.1.0 f.1.1)
     (both (required (codes "buffer") buffer_name) (both (required (codes "from") whole) (required (codes "to") whole)))
 row names.Widen = made ops.Widen (required (codes "buffer") buffer_name)
+row names.Remove = made ops.Remove (required (codes "window") whole)
 row names.Show = made (λ f. ops.Show f.0 f.1) (both (required (codes "window") whole) (required (codes "buffer") buffer_name))
 row names.Point = made (λ f. ops.Point f.0 f.1) (both (required (codes "window") whole) (required (codes "pos") whole))
 row names.Wrap = made (λ f. ops.Wrap f.0 f.1) (both (required (codes "window") whole) (required (codes "mode") (word wrap_modes)))

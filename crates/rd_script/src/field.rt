@@ -1,13 +1,15 @@
 //! The fields of an object.
-ghost use Rattle.std.specs.Prelude.{◌≡◌, IfOk, None, Some, Ok, Err, option_map, true};
+ghost use Rattle.std.specs.Prelude.{◌≡◌, IfOk, None, Some, Ok, Err, option_map, length, true};
+ghost use Rattle.std.specs.List.{list_all};
 ghost use Rattle.std.specs.Str.{chars};
 ghost use Rattle.serde_json.specs.Find.{get_member, as_str};
 ghost use Rattle.serde_json.specs.View.{view, members_view};
 ghost use Rattle.rd_script.specs.declared.fault.OpFault.TheVariants as faults;
 ghost use Rattle.rd_script.specs.Fields.{whole, within, text, buffer_name, word, required, required_of, optional, optional_of, or_bad, IsRead, IsReadAs};
-ghost use Rattle.rd_script.specs.Forms.{each, is_text, is_name_character, is_buffer_name};
+ghost use Rattle.rd_script.specs.Forms.{is_text, is_name_character, is_name_length, is_buffer_name};
 ghost use Rattle.rd_script.specs.Table.{wrap_modes};
 
+use crate::buffer_name::BufferName;
 use crate::fault::OpFault;
 use rd_base::{Ch, ListOf, Memory, Wrap};
 use serde_json::{Map, Value};
@@ -95,12 +97,12 @@ pub fn text(alloc: Global, members: &Members, key: &str) -> Result<ListOf<Ch>, O
 }
 
 /// A buffer's name.
-pub fn buffer_name(alloc: Global, members: &Members, key: &str) -> Result<ListOf<Ch>, OpFault>
+pub fn buffer_name(alloc: Global, members: &Members, key: &str) -> Result<BufferName, OpFault>
     ensures { IsRead result ((required key.now buffer_name).taken (members_view members.now.entries)) }
 {
-    let name = text(alloc, members, key)?;
-    if is_buffer_name(name.as_slice()) {
-        Ok(name)
+    let name = word(alloc, members, key)?;
+    if is_buffer_name(name) {
+        Ok(BufferName::from_str(alloc, name)?)
     } else {
         bad(alloc, key)
     }
@@ -171,28 +173,37 @@ fn number_within(value: &Value, least: u32, greatest: u32) -> Option<u32>
 }
 
 /// Whether a text may be a buffer's name: 1 to 64 characters, none below 32, none from 127 to 159.
-fn is_buffer_name(name: &[Ch]) -> bool
+fn is_buffer_name(name: &str) -> bool
     ensures { result ≡ is_buffer_name name.now }
 {
-    !name.is_empty() && name.len() <= 64 && has_name_characters(name)
+    is_name_length(character_count(name)) && has_name_characters(name)
 }
 
-/// Whether a buffer's name may have each of these characters.
-fn has_name_characters(name: &[Ch]) -> bool
-    ensures { result ≡ each is_name_character name.now }
+/// How many characters a text has.
+fn character_count(text: &str) -> usize
+    ensures { result ≡ length (chars text.now) }
 {
-    for c in name {
-        if !is_name_character(*c) {
-            return false;
-        }
-    }
-    true
+    text.chars().count()
+}
+
+/// Whether a buffer's name may have so many characters.
+fn is_name_length(count: usize) -> bool
+    ensures { result ≡ is_name_length count }
+{
+    1 <= count && count <= 64
+}
+
+/// Whether a buffer's name may have each character of a text.
+fn has_name_characters(text: &str) -> bool
+    ensures { result ≡ list_all is_name_character (chars text.now) }
+{
+    text.chars().all(|c| is_name_character(c))
 }
 
 /// Whether a buffer's name may have a character.
-fn is_name_character(c: Ch) -> bool
+fn is_name_character(c: char) -> bool
     ensures { result ≡ is_name_character c }
 {
-    let code = c.code();
-    code < 1_114_112 && 32 <= code && (code < 127 || 160 <= code)
+    let code = c as u32;
+    32 <= code && (code < 127 || 160 <= code)
 }

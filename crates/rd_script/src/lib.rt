@@ -1,6 +1,7 @@
 //! The ops of a script, one line an op in JSON, and the dump of what is shown.
 #![tactic(auto)]
 
+mod buffer_name;
 mod dump;
 mod fault;
 mod field;
@@ -11,6 +12,7 @@ mod read;
 mod row;
 mod runs;
 
+pub use buffer_name::BufferName;
 pub use dump::{WindowFacts, print_dump};
 pub use fault::OpFault;
 pub use op::Op;

@@ -12,6 +12,7 @@ pub enum Name {
     Delete,
     Narrow,
     Widen,
+    Remove,
     Show,
     Point,
     Wrap,
@@ -32,6 +33,7 @@ impl Name {
             "delete" => Some(Name::Delete),
             "narrow" => Some(Name::Narrow),
             "widen" => Some(Name::Widen),
+            "remove" => Some(Name::Remove),
             "show" => Some(Name::Show),
             "point" => Some(Name::Point),
             "wrap" => Some(Name::Wrap),
@@ -48,7 +50,6 @@ impl Name {
             | "face"
             | "table"
             | "split"
-            | "remove"
             | "select"
             | "start"
             | "scroll"

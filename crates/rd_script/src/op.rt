@@ -1,4 +1,5 @@
 //! The ops that a line may say.
+use crate::buffer_name::BufferName;
 use rd_base::{Ch, ListOf, Wrap};
 
 /// One op. Buffers are told by name and windows by number; positions count from 1, and `to` is one past the last position.
@@ -11,11 +12,11 @@ pub enum Op {
     },
     /// Makes an empty buffer.
     Buffer {
-        name: ListOf<Ch>,
+        name: BufferName,
     },
     /// Puts a text in before a position.
     Insert {
-        buffer: ListOf<Ch>,
+        buffer: BufferName,
         pos: u64,
         text: ListOf<Ch>,
     },
@@ -25,24 +26,28 @@ pub enum Op {
     },
     /// Takes a range away.
     Delete {
-        buffer: ListOf<Ch>,
+        buffer: BufferName,
         from: u64,
         to: u64,
     },
     /// Makes a range the accessible part.
     Narrow {
-        buffer: ListOf<Ch>,
+        buffer: BufferName,
         from: u64,
         to: u64,
     },
     /// Makes the whole text accessible.
     Widen {
-        buffer: ListOf<Ch>,
+        buffer: BufferName,
+    },
+    /// Takes a window away.
+    Remove {
+        window: u64,
     },
     /// Shows a buffer in a window.
     Show {
         window: u64,
-        buffer: ListOf<Ch>,
+        buffer: BufferName,
     },
     /// Moves a window's point.
     Point {

@@ -46,6 +46,9 @@ pub fn read_fields(alloc: Global, members: &Members, name: Name) -> Result<Op, O
         Name::Widen => Ok(Op::Widen {
             buffer: buffer_name(alloc, members, "buffer")?,
         }),
+        Name::Remove => Ok(Op::Remove {
+            window: whole(alloc, members, "window")?,
+        }),
         Name::Show => Ok(Op::Show {
             window: whole(alloc, members, "window")?,
             buffer: buffer_name(alloc, members, "buffer")?,
@@ -99,6 +102,7 @@ fn has_key(name: Name, key: &str) -> bool
         Name::TypeText => matches!(key, "op" | "text"),
         Name::Delete | Name::Narrow => matches!(key, "op" | "buffer" | "from" | "to"),
         Name::Widen => matches!(key, "op" | "buffer"),
+        Name::Remove => matches!(key, "op" | "window"),
         Name::Show => matches!(key, "op" | "window" | "buffer"),
         Name::Point => matches!(key, "op" | "window" | "pos"),
         Name::Wrap => matches!(key, "op" | "window" | "mode"),
