@@ -1,18 +1,10 @@
 -- A change of one buffer, as a change of the list of buffers and of the state.
-use Rattle.std.proofs.Common.{◌≡◌, ℕ, ◌<◌, Some, Result, Ok, Err, List, length, get_or, set, sym, ap, refl, ◌∙◌}
-use Rattle.std.proofs.lemmas.List.{set-get_or}
-use Rattle.std.proofs.lemmas.Option.{slice_get-get_or}
+use Rattle.std.proofs.Common.{◌≡◌, ℕ, Some, Ok, Err, List, Result, sym, ap, refl, ◌∙◌}
 use Rattle.std.specs.Prelude.{slice_get}
 use Rattle.rd_state.specs.declared.refused.Refused.{Refused}
 use Rattle.rd_state.specs.States.{BufferValue, StateValue, number_of}
 use Rattle.rd_state.specs.Steps.{changed, with, in_buffer, moved_in}
-use Rattle.rd_state.specs.Answers.{Changes, ChangesAt}
-
-pub changes-at : (r : Result Unit Refused) (f : BufferValue → Result BufferValue Refused) (i : ℕ) (old : List BufferValue) (b c : BufferValue)
-    → i < length old → b ≡ get_or old i b → Changes r (f b) b c → ChangesAt r f i old (set old i c)
-changes-at (Ok u) f i old b c p at h = (b, c, slice_get-get_or old i b p ∙ ap Some (sym at), h, refl)
-changes-at (Err e) f i old b c p at h =
-    (ap (set old i) (h.0 ∙ at) ∙ set-get_or old i b, λ ne. (b, slice_get-get_or old i b p ∙ ap Some (sym at), h.1 ne))
+use Rattle.rd_state.specs.Answers.{ChangesAt}
 
 pub in_buffer-ok : (s : StateValue) (name : List ℕ) (f : ℕ → ℕ) (g : BufferValue → Result BufferValue Refused) (bs : List BufferValue)
     → ChangesAt (Ok tt) g (number_of name s.buffers) s.buffers bs

@@ -1,4 +1,4 @@
--- Where a search by name stops, and what a loop over a text's characters finds.
+-- What a loop over a text's characters finds.
 use Rattle.std.proofs.Common.{◌≡◌, ℕ, ◌<◌, ◌≤◌, true, false, List, [], ◌∷◌, length, get_or, sym, ap, refl, ◌∙◌, arith}
 use Rattle.std.proofs.lemmas.List.{get_or_default}
 use Rattle.std.proofs.lemmas.List.Sums.{position_or_len_is}
@@ -7,28 +7,11 @@ use Rattle.std.specs.Str.{bytes_eq}
 use Rattle.rd_state.specs.States.{BufferValue, number_of}
 use Rattle.rd_state.specs.Edits.{is_built_character, is_built}
 
-pub number_of-is : (name : List ℕ) (buffers : List BufferValue) (i : ℕ) (d : BufferValue) → i ≤ length buffers
-    → ((k : ℕ) (d : BufferValue) → k < i → bytes_eq name (get_or buffers k d).name ≡ false)
-    → (i < length buffers → bytes_eq name (get_or buffers i d).name ≡ true) → i ≡ number_of name buffers
-number_of-is name buffers i d bound before here =
-    sym (position_or_len_is (λ b. bytes_eq name b.name) buffers i d bound (λ k p. before k d p) here)
-
-pub number_of-none : (name : List ℕ) (buffers : List BufferValue) (i : ℕ) → i ≤ length buffers → length buffers ≤ i
-    → ((k : ℕ) (d : BufferValue) → k < i → bytes_eq name (get_or buffers k d).name ≡ false) → i ≡ number_of name buffers
-number_of-none name [] i p q before = omega arith
-number_of-none name (b ∷ bs) i p q before = number_of-is name (b ∷ bs) i b p before (λ l. absurd (omega arith))
-
 pub is_built-all : (text : List ℕ) → ((k : ℕ) → k < length text → is_built_character (get_or text k 0) ≡ true) → is_built text ≡ true
 is_built-all text h = and_from_places is_built is_built_character refl (λ _ _. refl) text 0 h
 
 pub is_built-fails : (text : List ℕ) (i : ℕ) → i < length text → is_built_character (get_or text i 0) ≡ false → is_built text ≡ false
 is_built-fails text i p h = and_fails_at is_built is_built_character refl (λ _ _. refl) text i 0 p h
-
-pub number_of-here : (name : List ℕ) (buffers : List BufferValue) (i : ℕ) (x : BufferValue) → i < length buffers
-    → ((k : ℕ) (d : BufferValue) → k < i → bytes_eq name (get_or buffers k d).name ≡ false)
-    → x ≡ get_or buffers i x → bytes_eq name x.name ≡ true → i ≡ number_of name buffers
-number_of-here name buffers i x p before at here =
-    number_of-is name buffers i x (omega arith) before (λ _. sym (ap (λ b. bytes_eq name b.name) at) ∙ here)
 
 pub is_built-not : (text : List ℕ) (i x : ℕ) → i < length text → x ≡ get_or text i x → is_built_character x ≡ false → false ≡ is_built text
 is_built-not text i x p at h =

@@ -1,5 +1,6 @@
+mod ByName
 mod Changing
-mod Edits
+pub mod Edits
 mod Finding
-mod Keeping
+pub mod Keeping
 mod Stepping

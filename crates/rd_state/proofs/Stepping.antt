@@ -12,7 +12,7 @@ use Rattle.rd_script.specs.declared.op.Op.{Op}
 use Rattle.rd_script.specs.declared.op.Op.TheVariants as ops
 use Rattle.rd_script.specs.Forms.{IsInForm}
 use Rattle.rd_state.specs.declared.refused.Refused.{Refused}
-use Rattle.rd_state.specs.declared.refused.Refused.TheVariants.{NoWindow, NameTaken, TooManyBuffers, NotBuilt, OutOfRange}
+use Rattle.rd_state.specs.declared.refused.Refused.TheVariants.{NoWindow, NameTaken, TooManyBuffers, LastWindow, NotBuilt, OutOfRange}
 use Rattle.rd_state.specs.declared.window.WindowState.{WindowState}
 use Rattle.rd_state.specs.States.{BufferValue, StateValue, new_buffer, most_buffers, number_of, AreToldByName, AreTexts, IsShowing, IsValid}
 use Rattle.rd_state.specs.Edits.{is_accessible, is_built, insertion, after_insertion, after_deletion, brought_into, deletion, narrowing, widening}
@@ -200,6 +200,9 @@ step-valid s t (ops.Delete name from to) v form h =
 step-valid s t (ops.Narrow name from to) v form h =
     in_buffer-valid s t name (brought_into from to) (λ b. narrowing b from to) v (narrowing-keeps from to) h
 step-valid s t (ops.Widen name) v form h = in_buffer-valid s t name (λ p. p) widening v widening-keeps h
+step-valid s t (ops.Remove window) v form h =
+    let parts = if-ok (window == 0) (Err LastWindow) NoWindow t h in
+    absurd (cc (parts.1))
 step-valid s t (ops.Show window name) v form h =
     showing-valid s t name v (if-ok (window == 0) (in_buffer s name (showing s)) NoWindow t h).1
 step-valid s t (ops.Point window pos) v form h = pointing-valid s t pos v (if-ok (window == 0) (pointing s pos) NoWindow t h).1

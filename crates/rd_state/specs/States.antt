@@ -1,13 +1,15 @@
 -- A state, as contracts see it: the buffers in order of making, the window, and the frame's size.
-use Rattle.std.specs.Prelude.{◌≡◌, ℕ, ◌<◌, ◌≤◌, false, Some, List, [], ◌∷◌, length, slice_get, codes}
+use Rattle.std.specs.Prelude.{◌≡◌, ℕ, ◌<◌, ◌≤◌, false, Some, List, [], ◌∷◌, length, map, slice_get, codes, String, string_bytes}
 use Rattle.std.specs.List.{position_or_len}
 use Rattle.std.specs.Str.{bytes_eq}
+use Rattle.std.specs.declared.alloc.Global.{Global}
 use Rattle.rd_base.specs.Settings as settings
 use Rattle.rd_base.specs.declared.settings.Wrap.TheVariants.{Truncate}
 use Rattle.rd_text.specs.Texts.{TextValue, no_text, IsText, IsAccessible}
+use Rattle.rd_state.specs.declared.buffer.BufferState.{BufferState}
 use Rattle.rd_state.specs.declared.window.WindowState.{WindowState}
 
--- a buffer: its name, its text with the accessible range, and its settings
+-- a buffer: its name as bytes in UTF-8, its text with the accessible range, and its settings
 pub record BufferValue : Type 0 where
   pub name : List ℕ
   pub text : TextValue
@@ -19,6 +21,14 @@ pub record StateValue : Type 0 where
   pub window : WindowState
   pub width : ℕ
   pub height : ℕ
+
+-- a buffer under a name
+abbrev pub named : List ℕ → BufferState → BufferValue
+named name b = record { name = name; text = b.text; settings = b.settings }
+
+-- the buffers that a map by name holds
+abbrev pub buffers_of : List (String Global × BufferState) → List BufferValue
+buffers_of entries = map (λ e. named (string_bytes e.0) e.1) entries
 
 -- how many buffers there can be
 abbrev pub most_buffers : ℕ

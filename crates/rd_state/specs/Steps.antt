@@ -2,11 +2,11 @@
 use Rattle.std.specs.Prelude.{ℕ, ◌+◌, ◌-◌, nat_lt, nat_le, ◌==◌, false, if◌then◌else◌, Option, None, Some, Result, Ok, Err, List, [], ◌∷◌, ◌++◌, length, slice_get, slice_set}
 use Rattle.rd_base.specs.declared.settings.Anchor.{Anchor}
 use Rattle.rd_script.specs.declared.op.Op.{Op}
-use Rattle.rd_script.specs.declared.op.Op.TheVariants.{Frame, Buffer, Insert, TypeText, Delete, Narrow, Widen, Show, Point, Wrap, Redisplay}
+use Rattle.rd_script.specs.declared.op.Op.TheVariants.{Frame, Buffer, Insert, TypeText, Delete, Narrow, Widen, Remove, Show, Point, Wrap, Redisplay}
 use Rattle.rd_state.specs.declared.effect.Effect.{Effect}
 use Rattle.rd_state.specs.declared.effect.Effect.TheVariants.{Nothing, Edit, All, Window}
 use Rattle.rd_state.specs.declared.refused.Refused.{Refused}
-use Rattle.rd_state.specs.declared.refused.Refused.TheVariants.{NoBuffer, NoWindow, OutOfRange, NameTaken, TooManyBuffers, NotBuilt}
+use Rattle.rd_state.specs.declared.refused.Refused.TheVariants.{NoBuffer, NoWindow, OutOfRange, NameTaken, TooManyBuffers, LastWindow, NotBuilt}
 use Rattle.rd_state.specs.declared.window.WindowState.{WindowState}
 use Rattle.rd_state.specs.States.{BufferValue, StateValue, most_buffers, new_buffer, number_of}
 use Rattle.rd_state.specs.Edits.{is_accessible, is_built, insertion, deletion, narrowing, widening, after_insertion, after_deletion, brought_into}
@@ -74,6 +74,7 @@ step s (TypeText text) = if is_built text then typing s text else Err NotBuilt
 step s (Delete name from to) = in_buffer s name (λ i b. changed s i (after_deletion from to) (deletion b from to))
 step s (Narrow name from to) = in_buffer s name (λ i b. changed s i (brought_into from to) (narrowing b from to))
 step s (Widen name) = in_buffer s name (λ i b. changed s i (λ p. p) (widening b))
+step s (Remove window) = in_window window (Err LastWindow)
 step s (Show window name) = in_window window (in_buffer s name (showing s))
 step s (Point window pos) = in_window window (pointing s pos)
 step s (Wrap window mode) = in_window window (Ok (record s { window = record s.window { wrap = mode } }))

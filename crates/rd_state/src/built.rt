@@ -1,25 +1,8 @@
-//! The buffer with a name, and what is built of a text.
-ghost use Rattle.std.specs.Prelude.{◌≡◌, ◌≤◌, length};
-ghost use Rattle.rd_state.specs.States.{number_of};
+//! What is built of a text.
+ghost use Rattle.std.specs.Prelude.{◌≡◌};
 ghost use Rattle.rd_state.specs.Edits.{is_built, is_built_character};
 
-use crate::named::NamedBuffer;
 use rd_base::Ch;
-
-/// The number of the buffer with a name, and the count of buffers where none has it.
-pub(crate) fn number_of(name: &[Ch], buffers: &[NamedBuffer]) -> usize
-    ensures value { result ≡ number_of name.now buffers.now }
-    ensures bound { result ≤ length buffers.now }
-{
-    let mut i = 0;
-    while i < buffers.len() {
-        if buffers[i].has_name(name) {
-            return i;
-        }
-        i += 1;
-    }
-    i
-}
 
 /// Whether all characters of a text are built.
 pub(crate) fn is_built(text: &[Ch]) -> bool

@@ -2,12 +2,12 @@
 #![tactic(auto)]
 
 mod buffer;
+mod buffers;
+mod built;
 mod effect;
 mod laws;
 mod moves;
-mod named;
 mod refused;
-mod search;
 mod state;
 mod window;
 

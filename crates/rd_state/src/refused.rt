@@ -22,6 +22,9 @@ pub enum Refused {
     /// There are 64 buffers.
     #[error("too many buffers")]
     TooManyBuffers,
+    /// The window is the only one.
+    #[error("last window")]
+    LastWindow,
     /// The text has a character that cannot be shown yet: another than a newline and those from space to tilde.
     #[error("not built")]
     NotBuilt,

@@ -9,33 +9,33 @@ ghost use Rattle.rd_state.specs.Answers.{IsApplied, Applies, lent};
 use crate::buffer::BufferState;
 use crate::effect::Effect;
 use crate::moves;
-use crate::named::{NamedBuffer, delete_at, insert_at, narrow_at, widen_at};
+use crate::buffers::{Buffers, add, delete_at, insert_at, narrow_at, number_of, text_at, widen_at};
+use crate::built::is_built;
 use crate::refused::Refused;
-use crate::search::{is_built, number_of};
 use crate::window::WindowState;
-use rd_base::{Anchor, Ch, ListOf, Memory, Pos, Wrap};
-use rd_script::Op;
-use rd_text::Buffer;
+use indexmap::IndexMap;
+use rd_base::{Anchor, Ch, Memory, Pos, Wrap};
+use rd_script::{BufferName, Op};
 use std::alloc::Global;
 use std::marker::Model;
 
 /// The buffers in order of making, the window, and the frame's size.
 #[derive(Drop)]
 pub struct State {
-    buffers: Vec<NamedBuffer>,
+    buffers: Buffers,
     window: WindowState,
     width: u32,
     height: u32,
 }
 
 impl Model for State {
-    ghost use Rattle.rd_state.specs.States.{StateValue, IsValid};
+    ghost use Rattle.rd_state.specs.States.{StateValue, IsValid, buffers_of};
 
     ghost Value = { StateValue };
 
-    ghost view = { λ s. record { buffers = s.buffers.items; window = s.window; width = s.width; height = s.height } };
+    ghost view = { λ s. record { buffers = buffers_of s.buffers.entries; window = s.window; width = s.width; height = s.height } };
 
-    ghost invariant = { λ s. IsValid (record { buffers = s.buffers.items; window = s.window; width = s.width; height = s.height }) };
+    ghost invariant = { λ s. IsValid (record { buffers = buffers_of s.buffers.entries; window = s.window; width = s.width; height = s.height }) };
 }
 
 /// How many buffers there can be.
@@ -46,9 +46,8 @@ impl State {
     pub fn new(alloc: Global) -> Result<State, Memory>
         ensures { IfOk result (λ state. state ≡ opening) }
     {
-        let name = main_name(alloc)?;
-        let mut buffers = Vec::new(alloc);
-        buffers.push(NamedBuffer::new(name, Buffer::new(alloc)?))?;
+        let mut buffers = IndexMap::new(alloc);
+        add(&mut buffers, BufferName::from_str(alloc, "main")?)?;
         Ok(State {
             buffers,
             window: WindowState {
@@ -66,7 +65,7 @@ impl State {
 
     /// Applies one op other than redisplay. A refusal is the first that the op meets, and leaves the state as it was:
     /// NotBuilt for a text of other characters than a newline and those from space to tilde, then NoWindow and NoBuffer, then
-    /// OutOfRange, TextTooLarge, NameTaken, TooManyBuffers. An edit moves the rest of the text once.
+    /// OutOfRange, TextTooLarge, NameTaken, TooManyBuffers, LastWindow. An edit moves the rest of the text once.
     #[tactic(auto, unfolding(crate::specs::Steps::step, crate::specs::Steps::effect_of))]
     pub fn apply(&mut self, op: Op) -> Result<Effect, Refused>
         requires form { IsInForm op }
@@ -76,16 +75,13 @@ impl State {
         match op {
             Op::Frame { width, height } => self.resize(width, height),
             Op::Buffer { name } => self.make(name),
-            Op::Insert { buffer, pos, text } => self.insert(
-                buffer.as_slice(),
-                pos,
-                text.as_slice(),
-            ),
+            Op::Insert { buffer, pos, text } => self.insert(buffer.as_str(), pos, text.as_slice()),
             Op::TypeText { text } => self.type_text(text.as_slice()),
-            Op::Delete { buffer, from, to } => self.delete(buffer.as_slice(), from, to),
-            Op::Narrow { buffer, from, to } => self.narrow(buffer.as_slice(), from, to),
-            Op::Widen { buffer } => self.widen(buffer.as_slice()),
-            Op::Show { window, buffer } => self.show(window, buffer.as_slice()),
+            Op::Delete { buffer, from, to } => self.delete(buffer.as_str(), from, to),
+            Op::Narrow { buffer, from, to } => self.narrow(buffer.as_str(), from, to),
+            Op::Widen { buffer } => self.widen(buffer.as_str()),
+            Op::Remove { window } => self.remove(window),
+            Op::Show { window, buffer } => self.show(window, buffer.as_str()),
             Op::Point { window, pos } => self.point(window, pos),
             Op::Wrap { window, mode } => self.wrap(window, mode),
             Op::Redisplay { stop: _stop } => Ok(Effect::Nothing),
@@ -108,27 +104,23 @@ impl State {
     pub fn buffer(&self, i: u32) -> Option<&BufferState>
         ensures { option_copied result ≡ option_map lent (slice_get self.now.buffers i) }
     {
-        match self.buffers.get(i as usize) {
-            Some(buffer) => Some(&buffer.state),
-            None => None,
-        }
+        let (_name, buffer) = self.buffers.get_index(i as usize)?;
+        Some(buffer)
     }
 
     /// The name of the buffer with a number; None exactly where none was made.
-    pub fn name(&self, i: u32) -> Option<&[Ch]>
-        ensures { option_copied result ≡ option_map (λ b. b.name) (slice_get self.now.buffers i) }
+    pub fn name(&self, i: u32) -> Option<&str>
+        ensures { option_map (λ name. name.now) result ≡ option_map (λ b. b.name) (slice_get self.now.buffers i) }
     {
-        match self.buffers.get(i as usize) {
-            Some(buffer) => Some(buffer.name.as_slice()),
-            None => None,
-        }
+        let (name, _buffer) = self.buffers.get_index(i as usize)?;
+        Some(name.as_str())
     }
 
     /// The number of the buffer with a name; None exactly where no buffer has it.
-    pub fn number_of(&self, name: &[Ch]) -> Option<u32>
+    pub fn number_of(&self, name: &str) -> Option<u32>
         ensures { result ≡ (if nat_lt (number_of name.now self.now.buffers) (length self.now.buffers) then Some (number_of name.now self.now.buffers) else None) }
     {
-        let i = number_of(name, self.buffers.as_slice());
+        let i = number_of(name, &self.buffers);
         if i < self.buffers.len() {
             Some(i as u32)
         } else {
@@ -162,7 +154,7 @@ impl State {
 
 impl State {
     ghost use Rattle.std.specs.Prelude.{◌≡◌, ◌≤◌};
-    ghost use Rattle.rd_script.specs.declared.op.Op.TheVariants.{Frame, Buffer as MakeBuffer, Insert, TypeText, Delete, Narrow, Widen, Show, Point, Wrap as SetWrap};
+    ghost use Rattle.rd_script.specs.declared.op.Op.TheVariants.{Frame, Buffer as MakeBuffer, Insert, TypeText, Delete, Narrow, Widen, Remove, Show, Point, Wrap as SetWrap};
     ghost use Rattle.rd_script.specs.Forms.{IsInForm};
     ghost use Rattle.rd_state.specs.Answers.{Applies};
 
@@ -179,10 +171,10 @@ impl State {
 
     /// Makes an empty buffer.
     #[tactic(auto, unfolding(crate::specs::Steps::step, crate::specs::Steps::effect_of))]
-    fn make(&mut self, name: ListOf<Ch>) -> Result<Effect, Refused>
+    fn make(&mut self, name: BufferName) -> Result<Effect, Refused>
         ensures { Applies result (MakeBuffer name) self.old self.new }
     {
-        let taken = number_of(name.as_slice(), self.buffers.as_slice());
+        let taken = number_of(name.as_str(), &self.buffers);
         if taken < self.buffers.len() {
             return Err(Refused::NameTaken);
         }
@@ -197,13 +189,13 @@ impl State {
 
     /// Puts a text in.
     #[tactic(auto, unfolding(crate::specs::Steps::step, crate::specs::Steps::effect_of))]
-    fn insert(&mut self, name: &[Ch], pos: u64, text: &[Ch]) -> Result<Effect, Refused>
+    fn insert(&mut self, name: &str, pos: u64, text: &[Ch]) -> Result<Effect, Refused>
         ensures { Applies result (Insert name.now pos text.now) self.old self.new }
     {
         if !is_built(text) {
             return Err(Refused::NotBuilt);
         }
-        let i = number_of(name, self.buffers.as_slice());
+        let i = number_of(name, &self.buffers);
         if i == self.buffers.len() {
             return Err(Refused::NoBuffer);
         }
@@ -249,10 +241,10 @@ impl State {
 
     /// Takes a range away.
     #[tactic(auto, unfolding(crate::specs::Steps::step, crate::specs::Steps::effect_of))]
-    fn delete(&mut self, name: &[Ch], from: u64, to: u64) -> Result<Effect, Refused>
+    fn delete(&mut self, name: &str, from: u64, to: u64) -> Result<Effect, Refused>
         ensures { Applies result (Delete name.now from to) self.old self.new }
     {
-        let i = number_of(name, self.buffers.as_slice());
+        let i = number_of(name, &self.buffers);
         if i == self.buffers.len() {
             return Err(Refused::NoBuffer);
         }
@@ -273,10 +265,10 @@ impl State {
 
     /// Makes a range the accessible one.
     #[tactic(auto, unfolding(crate::specs::Steps::step, crate::specs::Steps::effect_of))]
-    fn narrow(&mut self, name: &[Ch], from: u64, to: u64) -> Result<Effect, Refused>
+    fn narrow(&mut self, name: &str, from: u64, to: u64) -> Result<Effect, Refused>
         ensures { Applies result (Narrow name.now from to) self.old self.new }
     {
-        let i = number_of(name, self.buffers.as_slice());
+        let i = number_of(name, &self.buffers);
         if i == self.buffers.len() {
             return Err(Refused::NoBuffer);
         }
@@ -292,10 +284,10 @@ impl State {
 
     /// Makes the whole text accessible.
     #[tactic(auto, unfolding(crate::specs::Steps::step, crate::specs::Steps::effect_of))]
-    fn widen(&mut self, name: &[Ch]) -> Result<Effect, Refused>
+    fn widen(&mut self, name: &str) -> Result<Effect, Refused>
         ensures { Applies result (Widen name.now) self.old self.new }
     {
-        let i = number_of(name, self.buffers.as_slice());
+        let i = number_of(name, &self.buffers);
         if i == self.buffers.len() {
             return Err(Refused::NoBuffer);
         }
@@ -303,19 +295,30 @@ impl State {
         Ok(Effect::All { buffer: i as u32 })
     }
 
+    /// Takes the window away, which is refused: there is no other one.
+    #[tactic(auto, unfolding(crate::specs::Steps::step, crate::specs::Steps::effect_of))]
+    fn remove(&mut self, window: u64) -> Result<Effect, Refused>
+        ensures { Applies result (Remove window) self.old self.new }
+    {
+        if window != 0 {
+            return Err(Refused::NoWindow);
+        }
+        Err(Refused::LastWindow)
+    }
+
     /// Shows a buffer from its accessible beginning.
     #[tactic(auto, unfolding(crate::specs::Steps::step, crate::specs::Steps::effect_of))]
-    fn show(&mut self, window: u64, name: &[Ch]) -> Result<Effect, Refused>
+    fn show(&mut self, window: u64, name: &str) -> Result<Effect, Refused>
         ensures { Applies result (Show window name.now) self.old self.new }
     {
         if window != 0 {
             return Err(Refused::NoWindow);
         }
-        let i = number_of(name, self.buffers.as_slice());
+        let i = number_of(name, &self.buffers);
         if i == self.buffers.len() {
             return Err(Refused::NoBuffer);
         }
-        let begin = self.buffers[i].state.text.begin();
+        let begin = text_at(&self.buffers, i).begin();
         self.window.buffer = i as u32;
         self.window.point = begin;
         self.window.anchor = Anchor { pos: begin, row: 0 };
@@ -331,7 +334,7 @@ impl State {
         if window != 0 {
             return Err(Refused::NoWindow);
         }
-        let text = &self.buffers[self.window.buffer as usize].state.text;
+        let text = text_at(&self.buffers, self.window.buffer as usize);
         if pos < text.begin() as u64 || (text.end() as u64) < pos {
             return Err(Refused::OutOfRange);
         }
@@ -350,27 +353,4 @@ impl State {
         self.window.wrap = mode;
         Ok(Effect::Nothing)
     }
-}
-
-/// Adds an empty buffer.
-fn add(buffers: &mut Vec<NamedBuffer>, name: ListOf<Ch>) -> Result<(), Memory>
-    ensures ok { OnOk result (buffers.new.items ≡ buffers.old.items ++ new_buffer name ∷ []) }
-    ensures err { OnErr result (buffers.new.items ≡ buffers.old.items) }
-{
-    let text = Buffer::new(*buffers.allocator())?;
-    buffers.push(NamedBuffer::new(name, text))?;
-    Ok(())
-}
-
-/// The name of the first buffer.
-pub(crate) fn main_name(alloc: Global) -> Result<ListOf<Ch>, Memory>
-    ensures { IfOk result (λ name. name ≡ main_name) }
-{
-    let name = [
-        Ch::scalar('m'),
-        Ch::scalar('a'),
-        Ch::scalar('i'),
-        Ch::scalar('n'),
-    ];
-    ListOf::from_slice(alloc, name.as_slice())
 }

@@ -1,169 +1,155 @@
 //! States on plain cases.
-ghost use Rattle.std.specs.Prelude.{◌<◌, ◌^◌, IsTrue, IfOk};
-ghost use Rattle.rd_script.specs.Forms.{is_text, is_buffer_name, IsInForm};
-ghost use Rattle.rd_state.specs.Answers.{IsApplied};
-
 use super::*;
-use crate::state::main_name;
-use rd_base::{Ch, ListOf, Memory, Wrap};
-use rd_script::Op;
+use rd_base::{Anchor, Wrap};
+use rd_script::{Op, read_op};
 use std::alloc::Global;
 use std::test::Fail;
 
-/// The op that puts a text into `main`.
-fn insert(alloc: Global, pos: u64, text: &[Ch]) -> Result<Op, Memory>
-    requires { IsTrue (is_text text.now) }
-    ensures form { IfOk result IsInForm }
-    ensures applied { IfOk result IsApplied }
-{
-    let buffer = main_name(alloc)?;
-    let text = ListOf::from_slice(alloc, text)?;
-    Ok(Op::Insert { buffer, pos, text })
+/// What a state answers to a line of a script; None where the line is no op, or a redisplay.
+fn answer(state: &mut State, alloc: Global, line: &[u8]) -> Option<Result<Effect, Refused>> {
+    match read_op(alloc, line) {
+        Ok(Op::Redisplay { .. }) => None,
+        Ok(op) => Some(state.apply(op)),
+        Err(_fault) => None,
+    }
 }
 
-/// The op that takes a range of `main` away.
-fn delete(alloc: Global, from: u64, to: u64) -> Result<Op, Memory>
-    ensures form { IfOk result IsInForm }
-    ensures applied { IfOk result IsApplied }
-{
-    let buffer = main_name(alloc)?;
-    Ok(Op::Delete { buffer, from, to })
+/// Whether a state accepts a line, and then has changed this.
+fn accepts(state: &mut State, alloc: Global, line: &str, effect: Effect) -> bool {
+    answer(state, alloc, line.as_bytes()) == Some(Ok(effect))
 }
 
-/// The name of a second buffer.
-fn other_name(alloc: Global) -> Result<ListOf<Ch>, Memory>
-    ensures { IfOk result (λ name. IsTrue (is_buffer_name name)) }
-{
-    let name = [Ch::scalar('x')];
-    ListOf::from_slice(alloc, name.as_slice())
+/// Whether a state refuses a line for this cause.
+fn refuses(state: &mut State, alloc: Global, line: &str, refused: Refused) -> bool {
+    answer(state, alloc, line.as_bytes()) == Some(Err(refused))
 }
 
-#[test]
-fn edits_move_the_point(rt: HostRuntime) -> Result<(), Fail> {
-    let mut state = State::new(rt.alloc())?;
-    let lines = [
-        Ch::scalar('a'),
-        Ch::scalar('b'),
-        Ch::scalar('\n'),
-        Ch::scalar('c'),
-        Ch::scalar('d'),
-    ];
-    let inserted = Effect::Edit {
+/// The edit of buffer `main` at a position.
+fn edit(from: u32, removed: u32, added: u32) -> Effect {
+    Effect::Edit {
         buffer: 0,
-        from: 1,
-        removed: 0,
-        added: 5,
-    };
-    assert_eq!(rt;
-        state.apply(insert(rt.alloc(), 1, lines.as_slice())?),
-        Ok(inserted)
-    );
-    assert_eq!(rt; state.window(0).map(|w| w.point), Some(1));
-    let narrow = Op::Narrow {
-        buffer: main_name(rt.alloc())?,
-        from: 2,
-        to: 5,
-    };
-    assert_eq!(rt; state.apply(narrow), Ok(Effect::All { buffer: 0 }));
-    assert_eq!(rt;
-        state.window(0).map(|w| (w.point, w.anchor.pos)),
-        Some((2, 2))
-    );
-    let widen = Op::Widen {
-        buffer: main_name(rt.alloc())?,
-    };
-    assert_eq!(rt; state.apply(widen), Ok(Effect::All { buffer: 0 }));
-    let deleted = Effect::Edit {
-        buffer: 0,
-        from: 1,
-        removed: 3,
-        added: 0,
-    };
-    assert_eq!(rt; state.apply(delete(rt.alloc(), 1, 4)?), Ok(deleted));
-    assert_eq!(rt; state.window(0).map(|w| w.point), Some(1));
-    assert_eq!(rt;
-        state
-            .buffer(0)
-            .map(|b| (b.text.length(), b.settings.modified)),
-        Some((2, true))
-    );
-    Ok(())
+        from,
+        removed,
+        added,
+    }
 }
 
 #[test]
-fn refusals_come_in_order(rt: HostRuntime) -> Result<(), Fail> {
+fn ops_are_applied(rt: HostRuntime) -> Result<(), Fail> {
     let mut state = State::new(rt.alloc())?;
-    let accent = [Ch::scalar('é')];
-    assert_eq!(rt;
-        state.apply(insert(rt.alloc(), 9, accent.as_slice())?),
-        Err(Refused::NotBuilt)
-    );
-    let letter = [Ch::scalar('a')];
-    assert_eq!(rt;
-        state.apply(insert(rt.alloc(), 2, letter.as_slice())?),
-        Err(Refused::OutOfRange)
-    );
-    assert_eq!(rt;
-        state.apply(delete(rt.alloc(), 1, 2)?),
-        Err(Refused::OutOfRange)
-    );
-    assert_eq!(rt;
-        state.apply(delete(rt.alloc(), 1, 18446744073709551615)?),
-        Err(Refused::OutOfRange)
-    );
-    let taken = Op::Buffer {
-        name: main_name(rt.alloc())?,
-    };
-    assert_eq!(rt; state.apply(taken), Err(Refused::NameTaken));
-    let absent = Op::Show {
-        window: 0,
-        buffer: other_name(rt.alloc())?,
-    };
-    assert_eq!(rt; state.apply(absent), Err(Refused::NoBuffer));
-    assert_eq!(rt;
-        state.apply(Op::Point { window: 1, pos: 1 }),
-        Err(Refused::NoWindow)
-    );
-    let wrap = Op::Wrap {
-        window: 1,
-        mode: Wrap::Continue,
-    };
-    assert_eq!(rt; state.apply(wrap), Err(Refused::NoWindow));
-    Ok(())
-}
-
-#[test]
-fn buffers_and_the_window(rt: HostRuntime) -> Result<(), Fail> {
-    let mut state = State::new(rt.alloc())?;
-    let frame = Op::Frame {
-        width: 12,
-        height: 3,
-    };
-    assert_eq!(rt; state.apply(frame), Ok(Effect::Nothing));
+    for (line, effect) in [
+        (r#"{"op":"frame","width":12,"height":3}"#, Effect::Nothing),
+        (r#"{"op":"insert","buffer":"main","pos":1,"text":"ab\ncd"}"#, edit(1, 0, 5)),
+        (r#"{"op":"narrow","buffer":"main","from":2,"to":5}"#, Effect::All { buffer: 0 }),
+        (r#"{"op":"type","text":"x"}"#, edit(2, 0, 1)),
+        (r#"{"op":"widen","buffer":"main"}"#, Effect::All { buffer: 0 }),
+        (r#"{"op":"delete","buffer":"main","from":1,"to":3}"#, edit(1, 2, 0)),
+        (r#"{"op":"buffer","name":"é"}"#, Effect::Nothing),
+        (r#"{"op":"point","window":0,"pos":2}"#, Effect::Nothing),
+        (r#"{"op":"wrap","window":0,"mode":"continue"}"#, Effect::Nothing),
+    ] {
+        assert!(rt; accepts(&mut state, rt.alloc(), line, effect), "{line}");
+    }
     assert_eq!(rt; state.frame(), (12, 3));
-    let text = [Ch::scalar('a'), Ch::scalar('b')];
-    let typed = Op::TypeText {
-        text: ListOf::from_slice(rt.alloc(), text.as_slice())?,
+    let window = WindowState {
+        buffer: 0,
+        point: 2,
+        anchor: Anchor { pos: 1, row: 0 },
+        forced: false,
+        hscroll: 0,
+        wrap: Wrap::Continue,
     };
-    assert!(rt; state.apply(typed).is_ok());
-    assert_eq!(rt;
-        state.window(0).map(|w| (w.point, w.anchor.pos)),
-        Some((3, 1))
-    );
-    let other = Op::Buffer {
-        name: other_name(rt.alloc())?,
-    };
-    assert_eq!(rt; state.apply(other), Ok(Effect::Nothing));
-    let shown = Op::Show {
-        window: 0,
-        buffer: other_name(rt.alloc())?,
-    };
-    assert_eq!(rt; state.apply(shown), Ok(Effect::Window(0)));
+    assert!(rt; state.window(0) == Some(&window));
+    let show = r#"{"op":"show","window":0,"buffer":"é"}"#;
+    assert!(rt; accepts(&mut state, rt.alloc(), show, Effect::Window(0)));
     assert_eq!(rt; state.window(0).map(|w| (w.buffer, w.point)), Some((1, 1)));
-    assert_eq!(rt;
-        state.number_of(other_name(rt.alloc())?.as_slice()),
-        Some(1)
-    );
-    assert!(rt; state.buffer(2).is_none());
+    Ok(())
+}
+
+#[test]
+fn buffers_are_told_by_name(rt: HostRuntime) -> Result<(), Fail> {
+    let mut state = State::new(rt.alloc())?;
+    let line = r#"{"op":"buffer","name":"é"}"#;
+    assert!(rt; accepts(&mut state, rt.alloc(), line, Effect::Nothing));
+    assert_eq!(rt; state.name(0), Some("main"));
+    assert_eq!(rt; state.name(1), Some("é"));
+    assert_eq!(rt; state.name(2), None);
+    assert_eq!(rt; state.number_of("é"), Some(1));
+    assert_eq!(rt; state.number_of("e"), None);
+    assert_eq!(rt; state.buffer(1).map(|b| b.text.length()), Some(0));
+    Ok(())
+}
+
+#[test]
+fn ops_are_refused(rt: HostRuntime) -> Result<(), Fail> {
+    let mut state = State::new(rt.alloc())?;
+    for (line, refused) in [
+        (r#"{"op":"buffer","name":"main"}"#, Refused::NameTaken),
+        (r#"{"op":"insert","buffer":"x","pos":9,"text":"é"}"#, Refused::NotBuilt),
+        (r#"{"op":"insert","buffer":"x","pos":1,"text":""}"#, Refused::NoBuffer),
+        (r#"{"op":"insert","buffer":"main","pos":0,"text":""}"#, Refused::OutOfRange),
+        (r#"{"op":"insert","buffer":"main","pos":2,"text":"a"}"#, Refused::OutOfRange),
+        (r#"{"op":"type","text":"\t"}"#, Refused::NotBuilt),
+        (r#"{"op":"delete","buffer":"x","from":1,"to":1}"#, Refused::NoBuffer),
+        (r#"{"op":"delete","buffer":"main","from":0,"to":1}"#, Refused::OutOfRange),
+        (r#"{"op":"delete","buffer":"main","from":1,"to":18446744073709551615}"#, Refused::OutOfRange),
+        (r#"{"op":"narrow","buffer":"Main","from":1,"to":1}"#, Refused::NoBuffer),
+        (r#"{"op":"narrow","buffer":"main","from":1,"to":0}"#, Refused::OutOfRange),
+        (r#"{"op":"narrow","buffer":"main","from":1,"to":2}"#, Refused::OutOfRange),
+        (r#"{"op":"widen","buffer":"mai"}"#, Refused::NoBuffer),
+        (r#"{"op":"remove","window":0}"#, Refused::LastWindow),
+        (r#"{"op":"remove","window":4294967296}"#, Refused::NoWindow),
+        (r#"{"op":"show","window":1,"buffer":"x"}"#, Refused::NoWindow),
+        (r#"{"op":"show","window":0,"buffer":"x"}"#, Refused::NoBuffer),
+        (r#"{"op":"point","window":1,"pos":9}"#, Refused::NoWindow),
+        (r#"{"op":"point","window":0,"pos":4294967297}"#, Refused::OutOfRange),
+        (r#"{"op":"wrap","window":1,"mode":"continue"}"#, Refused::NoWindow),
+    ] {
+        assert!(rt; refuses(&mut state, rt.alloc(), line, refused), "{line}");
+    }
+    Ok(())
+}
+
+/// A line with so many characters `a` between its two parts.
+fn filled(alloc: Global, front: &str, count: usize, back: &str) -> Result<String, Fail> {
+    let mut line = String::from_str(alloc, front)?;
+    for _i in 0..count {
+        line.push('a')?;
+    }
+    line.push_str(back)?;
+    Ok(line)
+}
+
+#[test]
+fn there_are_64_buffers(rt: HostRuntime) -> Result<(), Fail> {
+    let mut state = State::new(rt.alloc())?;
+    for count in 1..64 {
+        let line = filled(rt.alloc(), r#"{"op":"buffer","name":""#, count, r#""}"#)?;
+        assert!(rt; accepts(&mut state, rt.alloc(), line.as_str(), Effect::Nothing));
+    }
+    let taken = r#"{"op":"buffer","name":"aa"}"#;
+    assert!(rt; refuses(&mut state, rt.alloc(), taken, Refused::NameTaken));
+    let more = r#"{"op":"buffer","name":"b"}"#;
+    assert!(rt; refuses(&mut state, rt.alloc(), more, Refused::TooManyBuffers));
+    Ok(())
+}
+
+#[test]
+fn texts_have_4_194_304_characters(rt: HostRuntime) -> Result<(), Fail> {
+    let mut state = State::new(rt.alloc())?;
+    let line = filled(rt.alloc(), r#"{"op":"type","text":""#, 1_048_000, r#""}"#)?;
+    for i in 0..4 {
+        let effect = edit(1 + i * 1_048_000, 0, 1_048_000);
+        assert!(rt; accepts(&mut state, rt.alloc(), line.as_str(), effect));
+    }
+    let rest = filled(rt.alloc(), r#"{"op":"type","text":""#, 2_304, r#""}"#)?;
+    assert!(rt; accepts(&mut state, rt.alloc(), rest.as_str(), edit(4_192_001, 0, 2_304)));
+    for (line, refused) in [
+        (r#"{"op":"type","text":"a"}"#, Refused::TextTooLarge),
+        (r#"{"op":"insert","buffer":"main","pos":1,"text":"a"}"#, Refused::TextTooLarge),
+        (r#"{"op":"insert","buffer":"main","pos":0,"text":"a"}"#, Refused::OutOfRange),
+    ] {
+        assert!(rt; refuses(&mut state, rt.alloc(), line, refused), "{line}");
+    }
     Ok(())
 }

@@ -1,6 +1,6 @@
 use Rattle.std.proofs.Common.{arith, sym}
 use Rattle.rd_state.proofs.Finding.{is_built-all, is_built-not}
-use Rattle.rd_state.proofs.search.is_built.Goals as goal
+use Rattle.rd_state.proofs.built.is_built.Goals as goal
 
 pub returns-then-not-is_built_code : goal.returns-then-not-is_built_code
 returns-then-not-is_built_code c = grind (arith, is_built-not)

@@ -1,6 +1,6 @@
 use Rattle.std.proofs.Common.{◌≡◌, ℕ, ◌<◌, true, get_or}
 use Rattle.rd_state.specs.Edits.{is_built_character}
-use Rattle.rd_state.proofs.search.is_built.Given as goal
+use Rattle.rd_state.proofs.built.is_built.Given as goal
 
 -- all characters so far are built
 abbrev pub invariant-loop-i : goal.invariant-loop-i

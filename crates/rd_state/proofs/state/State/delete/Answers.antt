@@ -1,4 +1,4 @@
-use Rattle.rd_state.specs.States.{StateValue}
+use Rattle.rd_state.specs.States.{StateValue, buffers_of}
 use Rattle.rd_state.specs.Edits.{deletion, after_deletion}
 use Rattle.rd_state.proofs.Edits.{deletion-keeps}
 use Rattle.rd_state.proofs.Stepping.{at-valid}
@@ -6,7 +6,7 @@ use Rattle.rd_state.proofs.state.State.delete.Goals as goal
 
 pub invariant_of-self-in-Ok : goal.invariant_of-self-in-Ok
 invariant_of-self-in-Ok c =
-    let old : StateValue = record { buffers = c.self.inside.buffers.items; window = c.self.inside.window; width = c.self.inside.width; height = c.self.inside.height } in
+    let old : StateValue = record { buffers = buffers_of c.self.inside.buffers.entries; window = c.self.inside.window; width = c.self.inside.width; height = c.self.inside.height } in
     at-valid old c.number_of-i.result (after_deletion c.args.from c.args.to) (λ b. deletion b c.args.from c.args.to)
-    c.delete_at.new.buffers.items c.deleted-self-inside.result c.self.invariant
+    (buffers_of c.delete_at.new.buffers.entries) c.deleted-self-inside.result c.self.invariant
     (deletion-keeps c.args.from c.args.to) c.in-Ok.ensures c.deleted-self-inside.ensures

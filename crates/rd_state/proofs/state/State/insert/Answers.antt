@@ -1,5 +1,5 @@
 use Rattle.std.proofs.Common.{length}
-use Rattle.rd_state.specs.States.{StateValue}
+use Rattle.rd_state.specs.States.{StateValue, buffers_of}
 use Rattle.rd_state.specs.Edits.{insertion, after_insertion}
 use Rattle.rd_state.proofs.Edits.{insertion-keeps}
 use Rattle.rd_state.proofs.Stepping.{at-valid}
@@ -7,7 +7,7 @@ use Rattle.rd_state.proofs.state.State.insert.Goals as goal
 
 pub invariant_of-self-in-Ok : goal.invariant_of-self-in-Ok
 invariant_of-self-in-Ok c =
-    let old : StateValue = record { buffers = c.self.inside.buffers.items; window = c.self.inside.window; width = c.self.inside.width; height = c.self.inside.height } in
+    let old : StateValue = record { buffers = buffers_of c.self.inside.buffers.entries; window = c.self.inside.window; width = c.self.inside.width; height = c.self.inside.height } in
     at-valid old c.number_of-i.result (after_insertion c.args.pos (length c.args.text.now)) (λ b. insertion b c.args.pos c.args.text.now)
-    c.insert_at.new.buffers.items c.inserted-self-inside.result c.self.invariant
+    (buffers_of c.insert_at.new.buffers.entries) c.inserted-self-inside.result c.self.invariant
     (insertion-keeps c.args.pos c.args.text.now) c.in-Ok.ensures c.inserted-self-inside.ensures

@@ -1,0 +1,92 @@
+//! The buffers by name, in order of making, and the ops on the buffer with a number.
+ghost use Rattle.std.specs.Prelude.{◌≡◌, ◌<◌, ◌≤◌, ◌++◌, ◌∷◌, [], Ok, Some, OnOk, OnErr, length, slice_get};
+ghost use Rattle.rd_state.specs.States.{BufferValue, buffers_of, new_buffer, number_of};
+ghost use Rattle.rd_state.specs.Edits.{insertion, deletion, narrowing, widening};
+ghost use Rattle.rd_state.specs.Answers.{ChangesAt};
+
+use crate::buffer::BufferState;
+use crate::refused::Refused;
+use indexmap::IndexMap;
+use rd_base::{Ch, Memory};
+use rd_script::BufferName;
+use rd_text::Buffer;
+
+/// The buffers by name, in order of making.
+pub(crate) type Buffers = IndexMap<String, BufferState>;
+
+/// The number of the buffer with a name, and the count of buffers where none has it.
+pub(crate) fn number_of(name: &str, buffers: &Buffers) -> usize
+    ensures value { result ≡ number_of name.now (buffers_of buffers.now.entries) }
+    ensures bound { result ≤ length (buffers_of buffers.now.entries) }
+{
+    match buffers.get_index_of(name) {
+        Some(i) => i,
+        None => buffers.len(),
+    }
+}
+
+/// The text of the buffer with a number.
+pub(crate) fn text_at(buffers: &Buffers, i: usize) -> &Buffer
+    requires { i < length (buffers_of buffers.now.entries) }
+    ensures { (b : BufferValue) × (slice_get (buffers_of buffers.now.entries) i ≡ Some b) × (result.now ≡ b.text) }
+{
+    &buffers[i].text
+}
+
+/// Adds an empty buffer under a name that no buffer has.
+pub(crate) fn add(buffers: &mut Buffers, name: BufferName) -> Result<(), Memory>
+    requires { number_of name (buffers_of buffers.old.entries) ≡ length (buffers_of buffers.old.entries) }
+    ensures ok { OnOk result (buffers_of buffers.new.entries ≡ buffers_of buffers.old.entries ++ new_buffer name ∷ []) }
+    ensures err { OnErr result (buffers_of buffers.new.entries ≡ buffers_of buffers.old.entries) }
+{
+    let buffer = BufferState::new(*buffers.allocator())?;
+    buffers.insert(name.into_string(), buffer)?;
+    Ok(())
+}
+
+/// Puts a text in before a position of the buffer with a number.
+pub(crate) fn insert_at(
+    buffers: &mut Buffers,
+    i: usize,
+    pos: u64,
+    new: &[Ch],
+) -> Result<(), Refused>
+    requires { i < length (buffers_of buffers.old.entries) }
+    ensures { ChangesAt result (λ b. insertion b pos new.now) i (buffers_of buffers.old.entries) (buffers_of buffers.new.entries) }
+{
+    buffers[i].insert(pos, new)
+}
+
+/// Takes a range of the buffer with a number away.
+pub(crate) fn delete_at(
+    buffers: &mut Buffers,
+    i: usize,
+    from: u64,
+    to: u64,
+) -> Result<(), Refused>
+    requires { i < length (buffers_of buffers.old.entries) }
+    ensures { ChangesAt result (λ b. deletion b from to) i (buffers_of buffers.old.entries) (buffers_of buffers.new.entries) }
+{
+    buffers[i].delete(from, to)
+}
+
+/// Makes a range of the buffer with a number the accessible one.
+pub(crate) fn narrow_at(
+    buffers: &mut Buffers,
+    i: usize,
+    from: u64,
+    to: u64,
+) -> Result<(), Refused>
+    requires { i < length (buffers_of buffers.old.entries) }
+    ensures { ChangesAt result (λ b. narrowing b from to) i (buffers_of buffers.old.entries) (buffers_of buffers.new.entries) }
+{
+    buffers[i].narrow(from, to)
+}
+
+/// Makes the whole text of the buffer with a number accessible.
+pub(crate) fn widen_at(buffers: &mut Buffers, i: usize)
+    requires { i < length (buffers_of buffers.old.entries) }
+    ensures { ChangesAt (Ok tt) widening i (buffers_of buffers.old.entries) (buffers_of buffers.new.entries) }
+{
+    buffers[i].widen();
+}
