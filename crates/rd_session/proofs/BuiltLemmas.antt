@@ -7,24 +7,14 @@ use Rattle.rd_script.specs.declared.op.Op.{Op}
 use Rattle.rd_script.specs.declared.op.Op.TheVariants as ops
 use Rattle.rd_script.specs.Forms.{each}
 use Rattle.rd_state.specs.declared.refused.Refused.{Refused}
-use Rattle.rd_state.specs.declared.refused.Refused.TheVariants.{NoWindow, NameTaken, TooManyBuffers, NotBuilt, OutOfRange, TextTooLarge}
+use Rattle.rd_state.specs.declared.refused.Refused.TheVariants.{NoWindow, NameTaken, TooManyBuffers, LastWindow, NotBuilt, OutOfRange, TextTooLarge}
 use Rattle.rd_state.specs.declared.window.WindowState.{WindowState}
 use Rattle.rd_state.specs.States.{BufferValue, StateValue, IsValid, new_buffer, main_name, most_buffers, number_of, opening}
 use Rattle.rd_state.specs.Edits.{is_accessible, is_built_character, is_built, is_accessible_range, is_range_of_all, has_room, marked, insertion, deletion, narrowing, widening, after_insertion, after_deletion, brought_into}
 use Rattle.rd_state.specs.Steps.{moved_in, changed, with, in_buffer, with_point, making, typing, showing, pointing, step}
+use Rattle.rd_state.proofs.Edits.{if-ok, if-not}
+use Rattle.rd_state.proofs.Keeping.{get-set}
 use Rattle.rd_session.specs.Sessions.{IsBuilt, is_frame}
-
--- ---- tests
-
--- a test that refuses what fails
-if-ok : {A E : Type 0} (t : Bool) (r : Result A E) (e : E) (x : A) → (if t then r else Err e) ≡ Ok x → (t ≡ true) × (r ≡ Ok x)
-if-ok true r e x h = (refl, h)
-if-ok false r e x h = absurd (cc)
-
--- a test that refuses what passes
-if-not : {A E : Type 0} (t : Bool) (r : Result A E) (e : E) (x : A) → (if t then Err e else r) ≡ Ok x → r ≡ Ok x
-if-not true r e x h = absurd (cc)
-if-not false r e x h = h
 
 -- ---- texts
 
@@ -101,18 +91,10 @@ record Stays (s t : StateValue) : Type 0 where
   pub high : t.height ≡ s.height
   pub texts : AreBuilt s.buffers → AreBuilt t.buffers
 
--- what stands at a place of a list after a write
-get-set : {X : Type 0} (xs : List X) (i k : ℕ) (c b : X) → slice_get (set xs i c) k ≡ Some b → (b ≡ c) ⊎ (slice_get xs k ≡ Some b)
-get-set [] i k c b h = absurd (cc)
-get-set (x ∷ xs) zero zero c b h = inl (cc)
-get-set (x ∷ xs) zero (suc k) c b h = inr h
-get-set (x ∷ xs) (suc i) zero c b h = inr h
-get-set (x ∷ xs) (suc i) (suc k) c b h = get-set xs i k c b h
-
 set-built : (bs : List BufferValue) (i : ℕ) (c : BufferValue) → AreBuilt bs → HasBuilt c → AreBuilt (set bs i c)
 set-built bs i c old new k x h = elim (get-set bs i k c x h) [
-  | inl p ↦ subst HasBuilt (sym p) new
-  | inr p ↦ old k x p
+  | inl p ↦ subst HasBuilt (sym p.1) new
+  | inr p ↦ old k x p.1
 ]
 
 append-built : (bs : List BufferValue) (y : BufferValue) → AreBuilt bs → HasBuilt y → AreBuilt (bs ++ y ∷ [])
@@ -167,8 +149,8 @@ making-stays s t name h =
     let made : StateValue = record s { buffers = s.buffers ++ new_buffer name ∷ [] } in
     let full = nat_le most_buffers (length s.buffers) in
     let outer = if-not (nat_lt (number_of name s.buffers) (length s.buffers)) (if full then Err TooManyBuffers else Ok made) NameTaken t h in
-    let inner = if-not full (Ok made) TooManyBuffers t outer in
-    let same : made ≡ t = cc (inner) in
+    let inner = if-not full (Ok made) TooManyBuffers t outer.1 in
+    let same : made ≡ t = cc (inner.1) in
     subst (Stays s) same (record { wide = refl; high = refl; texts = λ old. append-built s.buffers (new_buffer name) old refl })
 
 windowed-stays : (s t : StateValue) (w : WindowState) → record s { window = w } ≡ t → Stays s t
@@ -207,6 +189,9 @@ step-stays s t (ops.Delete name from to) h other =
 step-stays s t (ops.Narrow name from to) h other =
     edited-named s t name (brought_into from to) (λ b. narrowing b from to) (narrowing-built from to) h
 step-stays s t (ops.Widen name) h other = edited-named s t name (λ p. p) widening widening-built h
+step-stays s t (ops.Remove window) h other =
+    let parts = if-ok (window == 0) (Err LastWindow) NoWindow t h in
+    absurd (cc (parts.1))
 step-stays s t (ops.Show window name) h other =
     let parts = if-ok (window == 0) (in_buffer s name (showing s)) NoWindow t h in
     shown-found s t (number_of name s.buffers) (slice_get s.buffers (number_of name s.buffers)) parts.1
@@ -239,6 +224,7 @@ step-texts s t (ops.TypeText text) h old = (step-stays s t (ops.TypeText text) h
 step-texts s t (ops.Delete name from to) h old = (step-stays s t (ops.Delete name from to) h refl).texts old
 step-texts s t (ops.Narrow name from to) h old = (step-stays s t (ops.Narrow name from to) h refl).texts old
 step-texts s t (ops.Widen name) h old = (step-stays s t (ops.Widen name) h refl).texts old
+step-texts s t (ops.Remove window) h old = (step-stays s t (ops.Remove window) h refl).texts old
 step-texts s t (ops.Show window name) h old = (step-stays s t (ops.Show window name) h refl).texts old
 step-texts s t (ops.Point window pos) h old = (step-stays s t (ops.Point window pos) h refl).texts old
 step-texts s t (ops.Wrap window mode) h old = (step-stays s t (ops.Wrap window mode) h refl).texts old

@@ -14,7 +14,7 @@ use crate::laws::{layouts_stay_built, states_stay_built};
 use crate::outcome::Outcome;
 use crate::paint::paint;
 use crate::view::lay_out;
-use rd_base::{Anchor, Ch, Memory, Pos, Steps};
+use rd_base::{Anchor, Memory, Pos, Steps};
 use rd_io::Sink;
 use rd_matrix::Matrix;
 use rd_rows::Shape;
@@ -258,7 +258,7 @@ impl Session {
     }
 
     /// How many characters the buffer with a name has; None exactly where no buffer has it.
-    pub fn length(&self, buffer: &[Ch]) -> Option<u32>
+    pub fn length(&self, buffer: &str) -> Option<u32>
         ensures { result ≡ length_of buffer.now self.now.state.buffers }
     {
         let i = self.state.number_of(buffer)?;
