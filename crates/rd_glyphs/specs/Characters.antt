@@ -1,5 +1,5 @@
 -- How a character is shown: its elements.
-use Rattle.std.specs.Prelude.{◌≡◌, ℕ, ◌+◌, ◌-◌, ◌/◌, ◌%◌, ◌≤◌, nat_le, nat_lt, ◌==◌, Bool, true, false, ◌||◌, ◌&&◌, if◌then◌else◌, List, [], ◌∷◌, map, replicate, All, Option, None, Some, unwrap_or}
+use Rattle.std.specs.Prelude.{ℕ, ◌+◌, ◌-◌, ◌/◌, ◌%◌, ◌≤◌, nat_le, nat_lt, ◌==◌, Bool, true, false, ◌||◌, ◌&&◌, if◌then◌else◌, List, [], ◌∷◌, map, replicate, Option, None, Some, unwrap_or}
 use Rattle.unicode_width.specs.Width.{char_width}
 use Rattle.rd_base.specs.Chars.{is_scalar}
 use Rattle.rd_base.specs.Faces.{Attributes}
@@ -10,7 +10,9 @@ use Rattle.rd_base.specs.declared.class.Class.{Class}
 use Rattle.rd_base.specs.declared.class.Class.TheVariants.{PDI}
 use Rattle.rd_base.specs.declared.cell.Glyph.{Glyph}
 use Rattle.rd_base.specs.declared.element.Element.{Element}
-use Rattle.rd_base.specs.declared.element.Extent.TheVariants.{Fixed, Tab}
+use Rattle.rd_base.specs.declared.element.Extent.{Extent}
+use Rattle.rd_base.specs.declared.element.Extent.TheVariants.{Fixed, Tab, Column}
+use Rattle.rd_base.specs.Elements.{IsSound}
 use Rattle.rd_base.specs.declared.element.Look.{Look}
 use Rattle.rd_base.specs.declared.element.Look.TheVariants as look
 use Rattle.rd_base.specs.declared.element.Origin.{Origin}
@@ -133,5 +135,20 @@ abbrev pub elements_of : PartValues → ℕ → Bool → Attributes → Origin �
 elements_of parts ch odd face origin = elements_by (entry_of parts.table ch) parts ch odd face origin
 
 -- a look of 1 to 3 columns
-abbrev pub IsNarrow : Look → Type 0
-IsNarrow l = (1 ≤ look_columns l) × (look_columns l ≤ 3)
+abbrev pub TakesColumns : Look → Type 0
+TakesColumns l = (1 ≤ look_columns l) × (look_columns l ≤ 3)
+
+-- a character that is shown itself takes 1 to 3 columns
+abbrev pub ShowsColumns : Shown → Type 0
+ShowsColumns (Itself code width) = (1 ≤ width) × (width ≤ 3)
+ShowsColumns s = Unit {0}
+
+-- an extent of 1 to 3 columns, or that of a tab
+abbrev pub IsShort : Extent → Type 0
+IsShort (Fixed n) = (1 ≤ n) × (n ≤ 3)
+IsShort (Tab t) = (1 ≤ t) × (t ≤ 32)
+IsShort (Column n) = ⊥
+
+-- what an element of a character always is
+abbrev pub IsShortElement : Element → Type 0
+IsShortElement e = IsSound e × IsShort e.extent

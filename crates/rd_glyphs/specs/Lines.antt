@@ -1,5 +1,5 @@
 -- A plain line of text, such as a mode line.
-use Rattle.std.specs.Prelude.{◌≡◌, ℕ, ◌+◌, ◌-◌, ◌≤◌, nat_le, nat_lt, ◌==◌, Bool, true, false, ◌&&◌, if◌then◌else◌, List, [], ◌∷◌, ◌++◌, length, replicate, slice_set, Option, None, Some}
+use Rattle.std.specs.Prelude.{ℕ, ◌+◌, ◌-◌, ◌≤◌, nat_le, nat_lt, ◌==◌, Bool, true, false, ◌&&◌, if◌then◌else◌, List, [], ◌∷◌, ◌++◌, replicate, slice_set, Option, None, Some}
 use Rattle.rd_base.specs.Faces.{Attributes}
 use Rattle.rd_base.specs.Cells.{single}
 use Rattle.rd_base.specs.declared.cell.Glyph.{Glyph}
@@ -10,7 +10,7 @@ use Rattle.rd_base.specs.declared.element.Look.TheVariants as look
 use Rattle.rd_ucd.specs.declared.spans.Span.{Span}
 use Rattle.rd_ucd.specs.Lookup.{class_of}
 use Rattle.rd_glyphs.specs.declared.shown.Shown.{Shown}
-use Rattle.rd_glyphs.specs.declared.shown.Shown.TheVariants.{Caret, Octal, Space, Mark, Itself}
+use Rattle.rd_glyphs.specs.declared.shown.Shown.TheVariants.{Mark, Itself}
 use Rattle.rd_glyphs.specs.Characters.{shown_as, looks_of, look_columns, on_blank}
 
 -- a glyph with one more mark
@@ -26,6 +26,11 @@ held_looks (Some g) = look.Glyph g ∷ []
 abbrev pub has_room : Option Glyph → Bool
 has_room None = false
 has_room (Some g) = nat_lt g.count 6
+
+-- a glyph that is held takes 1 to 3 columns
+abbrev pub HoldsColumns : Option Glyph → Type 0
+HoldsColumns None = Unit {0}
+HoldsColumns (Some g) = (1 ≤ g.width) × (g.width ≤ 3)
 
 -- what comes out when a character is read behind a glyph that is held for its marks: nothing where the character joins it
 abbrev pub given : Option Glyph → Shown → List Look

@@ -1,7 +1,7 @@
 //! What is put for one character: at most four looks.
-ghost use Rattle.std.specs.Prelude.{◌≡◌, ◌≤◌, ◌<◌};
+ghost use Rattle.std.specs.Prelude.{◌≡◌, ◌≤◌, All, length};
 ghost use Rattle.rd_base.specs.Cells.{single};
-ghost use Rattle.rd_glyphs.specs.Characters.{narrow, digit, on_blank, looks_of, look_columns};
+ghost use Rattle.rd_glyphs.specs.Characters.{narrow, digit, on_blank, looks_of, look_columns, TakesColumns, ShowsColumns};
 
 use crate::shown::Shown;
 use rd_base::{Glyph, Look};
@@ -94,7 +94,9 @@ pub fn on_blank(code: u32) -> Glyph
 
 /// What is put for a character, with these glyphs for escapes and for controls.
 pub fn looks_of(escape: Glyph, control: Glyph, shown: Shown) -> Looks
-    ensures { result ≡ looks_of escape control shown }
+    ensures value { result ≡ looks_of escape control shown }
+    ensures columns { escape.width ≡ 1 → control.width ≡ 1 → ShowsColumns shown → All TakesColumns result }
+    ensures count { length result ≤ 4 }
 {
     match shown {
         Shown::Caret(letter) => Looks::two(Look::Glyph(control), narrow(letter)),

@@ -1,12 +1,15 @@
 //! The elements of a character.
-ghost use Rattle.std.specs.Prelude.{◌≡◌, ◌++◌, ◌∷◌, [], map, None, Some, IfOk, OnOk, MatchOption};
-ghost use Rattle.rd_glyphs.specs.Characters.{element_of, glyph_elements, tab_of, slot_or, own_looks, elements_of};
+ghost use Rattle.std.specs.Prelude.{◌≡◌, ◌≤◌, ◌∷◌, [], map, length, All, None, IsTrue, IsOk, IfOk};
+ghost use Rattle.rd_base.specs.Elements.{AreSound};
+ghost use Rattle.rd_objects.specs.Tables.{is_glyph_text};
+ghost use Rattle.rd_glyphs.specs.Characters.{element_of, glyph_elements, tab_of, entry_of, elements_of, TakesColumns, IsShort, IsShortElement};
 
 use crate::looks::{Looks, look_columns, looks_of};
 use crate::shown::{mirrored, shown_as};
-use rd_base::{Ch, Element, Extent, Face, Glyph, ListOf, Look, Memory, Origin, Settings};
+use rd_base::{Ch, Element, Extent, Face, Glyph, Look, Memory, Origin, Settings};
 use rd_objects::{Slot, Table};
 use rd_ucd::{Classes, Mirrors};
+use smallvec::SmallVec;
 use std::alloc::Global;
 use std::marker::Model;
 
@@ -35,13 +38,14 @@ impl<'a> Model for Parts<'a> {
 }
 
 impl<'a> Parts<'a> {
-    ghost use Rattle.std.specs.Prelude.{◌≡◌, MatchOption, None, Some};
-    ghost use Rattle.rd_glyphs.specs.Characters.{entry_of, slot_or, own_looks};
-    ghost use Rattle.rd_objects.specs.Tables.{entry_in};
+    ghost use Rattle.std.specs.Prelude.{◌≡◌, ◌≤◌, length, All, MatchOption, IfSome, IsTrue, None, Some};
+    ghost use Rattle.rd_glyphs.specs.Characters.{entry_of, slot_or, own_looks, TakesColumns};
+    ghost use Rattle.rd_objects.specs.Tables.{is_glyph_text};
 
     /// What the table puts for a code, and None where it puts nothing.
     fn entry(&self, code: u32) -> Option<&[Glyph]>
-        ensures { MatchOption result (entry_of self.now.table code ≡ None) (λ text. entry_of self.now.table code ≡ Some text.now) }
+        ensures value { MatchOption result (entry_of self.now.table code ≡ None) (λ text. entry_of self.now.table code ≡ Some text.now) }
+        ensures text { IfSome result (λ text. IsTrue (is_glyph_text text.now)) }
     {
         match self.table {
             Some(table) => table.entry(code),
@@ -51,7 +55,8 @@ impl<'a> Parts<'a> {
 
     /// The glyph of a slot, and where the table has none this one of one column.
     fn slot(&self, slot: Slot, default: u32) -> Glyph
-        ensures { result ≡ slot_or slot self.now.table default }
+        ensures value { result ≡ slot_or slot self.now.table default }
+        ensures columns { result.width ≡ 1 }
     {
         match self.table {
             Some(table) => match table.slot(slot) {
@@ -64,7 +69,9 @@ impl<'a> Parts<'a> {
 
     /// The looks of a character that no table shows and that is no tab.
     fn own_looks(&self, ch: Ch, odd: bool) -> Looks
-        ensures { result ≡ own_looks self.now ch odd }
+        ensures value { result ≡ own_looks self.now ch odd }
+        ensures columns { All TakesColumns result }
+        ensures count { length result ≤ 4 }
     {
         let class = self.classes.class(ch);
         let settings = self.settings;
@@ -83,6 +90,9 @@ impl<'a> Parts<'a> {
 /// character is the control slot and a letter where `ctl_arrow` is set, and else the escape slot and three octal digits, as
 /// raw bytes and the codes 128 to 159 are. A character that only steers the order is one blank column. One of no columns is a
 /// mark on a blank. Any other is itself in its columns, and at an odd level its mirror, where one of the same width is listed.
+///
+/// Each element is sound, and takes 1 to 3 columns or up to the next stop. There are at most 16, and without an entry at most
+/// four, for which no memory is taken.
 /// It costs a look at each entry of the table and the logarithms of the lengths of the data.
 pub fn expand(
     alloc: Global,
@@ -91,8 +101,13 @@ pub fn expand(
     odd: bool,
     face: Face,
     origin: Origin,
-) -> Result<ListOf<Element>, Memory>
-    ensures value { IfOk result (λ elements. elements ≡ elements_of parts.now ch odd face origin) }
+) -> Result<SmallVec<Element, 4>, Memory>
+    ensures value { IfOk result (λ elements. elements.items ≡ elements_of parts.now ch odd face origin) }
+    ensures sound { IfOk result (λ elements. AreSound elements.items) }
+    ensures columns { IfOk result (λ elements. All (λ e. IsShort e.extent) elements.items) }
+    ensures count { IfOk result (λ elements. length elements.items ≤ 16) }
+    ensures few { entry_of parts.now.table ch ≡ None → IfOk result (λ elements. length elements.items ≤ 4) }
+    ensures inline { entry_of parts.now.table ch ≡ None → IsOk result }
 {
     if let Some(text) = parts.entry(ch.code()) {
         return of_glyphs(alloc, text, face, origin);
@@ -118,8 +133,16 @@ fn element_of(look: Look, face: Face, origin: Origin) -> Element
 }
 
 /// The one element of a tab.
-fn of_tab(alloc: Global, stop: u8, face: Face, origin: Origin) -> Result<ListOf<Element>, Memory>
-    ensures { IfOk result (λ elements. elements ≡ tab_of stop face origin ∷ []) }
+fn of_tab(
+    alloc: Global,
+    stop: u8,
+    face: Face,
+    origin: Origin,
+) -> Result<SmallVec<Element, 4>, Memory>
+    requires { (1 ≤ stop) × (stop ≤ 32) }
+    ensures value { IfOk result (λ elements. elements.items ≡ tab_of stop face origin ∷ []) }
+    ensures shape { IfOk result (λ elements. All IsShortElement elements.items) }
+    ensures inline { IsOk result }
 {
     let tab = Element {
         extent: Extent::Tab(stop as u32),
@@ -127,7 +150,7 @@ fn of_tab(alloc: Global, stop: u8, face: Face, origin: Origin) -> Result<ListOf<
         face,
         origin,
     };
-    ListOf::from_slice(alloc, &[tab])
+    Ok(SmallVec::from_slice(alloc, &[tab])?)
 }
 
 /// The elements of a table's glyphs.
@@ -136,26 +159,33 @@ fn of_glyphs(
     text: &[Glyph],
     face: Face,
     origin: Origin,
-) -> Result<ListOf<Element>, Memory>
-    ensures { IfOk result (λ elements. elements ≡ glyph_elements face origin text.now) }
+) -> Result<SmallVec<Element, 4>, Memory>
+    requires { IsTrue (is_glyph_text text.now) }
+    ensures value { IfOk result (λ elements. elements.items ≡ glyph_elements face origin text.now) }
+    ensures shape { IfOk result (λ elements. All IsShortElement elements.items) }
+    ensures count { IfOk result (λ elements. length elements.items ≤ 16) }
 {
-    let mut elements = ListOf::with_room(alloc, text.len())?;
+    let mut elements = SmallVec::new(alloc);
     for glyph in text {
         elements.push(element_of(Look::Glyph(*glyph), face, origin))?;
     }
     Ok(elements)
 }
 
-/// The elements of these looks.
+/// The elements of at most four looks.
 fn of_looks(
     alloc: Global,
     looks: &[Look],
     face: Face,
     origin: Origin,
-) -> Result<ListOf<Element>, Memory>
-    ensures { IfOk result (λ elements. elements ≡ map (element_of face origin) looks.now) }
+) -> Result<SmallVec<Element, 4>, Memory>
+    requires columns { All TakesColumns looks.now }
+    requires count { length looks.now ≤ 4 }
+    ensures value { IfOk result (λ elements. elements.items ≡ map (element_of face origin) looks.now) }
+    ensures shape { IfOk result (λ elements. All IsShortElement elements.items) }
+    ensures inline { IsOk result }
 {
-    let mut elements = ListOf::with_room(alloc, looks.len())?;
+    let mut elements = SmallVec::new(alloc);
     for look in looks {
         elements.push(element_of(*look, face, origin))?;
     }

@@ -1,8 +1,8 @@
 //! Plain lines of text, such as mode lines.
-ghost use Rattle.std.specs.Prelude.{◌≡◌, ◌≤◌, ◌<◌, ◌++◌, ◌∷◌, [], length, None, Some, IfOk, OnOk, OnErr, replicate};
+ghost use Rattle.std.specs.Prelude.{◌≡◌, ◌≤◌, ◌<◌, ◌+◌, ◌++◌, ◌∷◌, [], length, All, None, IfOk, OnOk, replicate};
 ghost use Rattle.rd_base.specs.Cells.{single};
-ghost use Rattle.rd_glyphs.specs.Characters.{looks_of};
-ghost use Rattle.rd_glyphs.specs.Lines.{has_room, joined, joined_to, glyph_cells, held_looks, given, held_after, looks_from, is_space, cells_of, fitted, plain_cells};
+ghost use Rattle.rd_glyphs.specs.Characters.{looks_of, look_columns, TakesColumns, ShowsColumns};
+ghost use Rattle.rd_glyphs.specs.Lines.{HoldsColumns, has_room, joined, joined_to, glyph_cells, held_looks, given, held_after, looks_from, is_space, cells_of, fitted, plain_cells};
 
 use crate::looks::{look_columns, looks_of, on_blank};
 use crate::shown::{Shown, shown_as};
@@ -14,7 +14,7 @@ use std::alloc::Global;
 /// circumflex and a letter, a tab and a newline too; a raw byte and a code of 128 to 159 a backslash and three octal digits. A
 /// character that only steers the order is one blank column. A mark joins a character before it that is shown itself, and a
 /// mark on a blank, until there are six; where it joins none it stands on a blank. What doesn't fit whole ends the text, and
-/// blanks fill the rest.
+/// blanks fill the rest: there are exactly `width` cells.
 /// It costs the text's length times the logarithm of that of the data, and the width.
 pub fn plain_line(
     alloc: Global,
@@ -24,6 +24,7 @@ pub fn plain_line(
     width: u32,
 ) -> Result<ListOf<Cell>, Memory>
     ensures value { IfOk result (λ cells. cells ≡ plain_cells classes.now face width text.now) }
+    ensures columns { IfOk result (λ cells. length cells ≡ width) }
 {
     let looks = looks_of_text(alloc, text, classes)?;
     fit(alloc, looks.as_slice(), face, width)
@@ -31,7 +32,8 @@ pub fn plain_line(
 
 /// What is put for a text, with marks joined.
 fn looks_of_text(alloc: Global, text: &[Ch], classes: &Classes) -> Result<ListOf<Look>, Memory>
-    ensures { IfOk result (λ looks. looks ≡ looks_from classes.now None text.now) }
+    ensures value { IfOk result (λ looks. looks ≡ looks_from classes.now None text.now) }
+    ensures columns { IfOk result (λ looks. All TakesColumns looks) }
 {
     let mut looks = ListOf::new(alloc);
     let mut held = None;
@@ -46,7 +48,8 @@ fn looks_of_text(alloc: Global, text: &[Ch], classes: &Classes) -> Result<ListOf
 
 /// Adds a glyph that was held.
 fn put_held(looks: &mut ListOf<Look>, held: Option<Glyph>) -> Result<(), Memory>
-    ensures { OnOk result (looks.new ≡ looks.old ++ held_looks held) }
+    ensures value { OnOk result (looks.new ≡ looks.old ++ held_looks held) }
+    ensures columns { All TakesColumns looks.old → HoldsColumns held → OnOk result (All TakesColumns looks.new) }
 {
     match held {
         Some(glyph) => looks.push(Look::Glyph(glyph)),
@@ -66,7 +69,9 @@ fn has_room(held: Option<Glyph>) -> bool
 
 /// Adds what comes out when a character is read behind a glyph that is held.
 fn give(looks: &mut ListOf<Look>, held: Option<Glyph>, shown: Shown) -> Result<(), Memory>
-    ensures { OnOk result (looks.new ≡ looks.old ++ given held shown) }
+    requires { ShowsColumns shown }
+    ensures value { OnOk result (looks.new ≡ looks.old ++ given held shown) }
+    ensures columns { All TakesColumns looks.old → HoldsColumns held → OnOk result (All TakesColumns looks.new) }
 {
     match shown {
         Shown::Mark(_) => {
@@ -86,7 +91,8 @@ fn give(looks: &mut ListOf<Look>, held: Option<Glyph>, shown: Shown) -> Result<(
 
 /// Adds the looks of a character that is shown in the plain way.
 fn put_looks(list: &mut ListOf<Look>, shown: Shown) -> Result<(), Memory>
-    ensures { OnOk result (list.new ≡ list.old ++ looks_of (single 92 1) (single 94 1) shown) }
+    ensures value { OnOk result (list.new ≡ list.old ++ looks_of (single 92 1) (single 94 1) shown) }
+    ensures columns { All TakesColumns list.old → ShowsColumns shown → OnOk result (All TakesColumns list.new) }
 {
     let looks = looks_of(
         Glyph::single('\\' as u32, 1),
@@ -98,7 +104,9 @@ fn put_looks(list: &mut ListOf<Look>, shown: Shown) -> Result<(), Memory>
 
 /// The glyph that is held behind a character.
 fn held_after(held: Option<Glyph>, shown: Shown) -> Option<Glyph>
-    ensures { result ≡ held_after held shown }
+    requires { ShowsColumns shown }
+    ensures value { result ≡ held_after held shown }
+    ensures columns { HoldsColumns held → HoldsColumns result }
 {
     match shown {
         Shown::Mark(code) => Some(joined(held, code)),
@@ -109,7 +117,8 @@ fn held_after(held: Option<Glyph>, shown: Shown) -> Option<Glyph>
 
 /// The glyph with one more mark, where a mark may join one, and else the mark on a blank.
 fn joined(held: Option<Glyph>, code: u32) -> Glyph
-    ensures { result ≡ joined held code }
+    ensures value { result ≡ joined held code }
+    ensures columns { HoldsColumns held → (1 ≤ result.width) × (result.width ≤ 3) }
 {
     match held {
         Some(glyph) => with_mark(glyph, code),
@@ -119,7 +128,8 @@ fn joined(held: Option<Glyph>, code: u32) -> Glyph
 
 /// The glyph with one more mark, and where it has six the mark on a blank.
 fn with_mark(glyph: Glyph, code: u32) -> Glyph
-    ensures { result ≡ joined_to glyph code }
+    ensures value { result ≡ joined_to glyph code }
+    ensures columns { 1 ≤ glyph.width → glyph.width ≤ 3 → (1 ≤ result.width) × (result.width ≤ 3) }
 {
     if glyph.count >= 6 {
         return on_blank(code);
@@ -135,7 +145,9 @@ fn with_mark(glyph: Glyph, code: u32) -> Glyph
 
 /// Looks in so many columns, while they fit, and blanks in the rest.
 fn fit(alloc: Global, looks: &[Look], face: Face, width: u32) -> Result<ListOf<Cell>, Memory>
-    ensures { IfOk result (λ cells. cells ≡ fitted face width looks.now) }
+    requires { All TakesColumns looks.now }
+    ensures value { IfOk result (λ cells. cells ≡ fitted face width looks.now) }
+    ensures columns { IfOk result (λ cells. length cells ≡ width) }
 {
     let mut cells = ListOf::with_room(alloc, width as usize)?;
     let mut room = width;
@@ -163,8 +175,11 @@ fn put_copies<T: Copy>(list: &mut ListOf<T>, n: u32, value: T) -> Result<(), Mem
 }
 
 /// Adds the cells of a look.
+#[tactic(auto, using(crate::proofs::Columns::cell_count))]
 fn put_cells(cells: &mut ListOf<Cell>, look: Look, face: Face) -> Result<(), Memory>
-    ensures { OnOk result (cells.new ≡ cells.old ++ cells_of face look) }
+    requires { TakesColumns look }
+    ensures value { OnOk result (cells.new ≡ cells.old ++ cells_of face look) }
+    ensures count { OnOk result (length cells.new ≡ length cells.old + look_columns look) }
 {
     match look {
         Look::Glyph(glyph) => put_glyph(cells, glyph, face),

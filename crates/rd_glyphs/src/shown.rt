@@ -1,6 +1,6 @@
 //! How one character is shown.
 ghost use Rattle.std.specs.Prelude.{◌≡◌, ◌≤◌, ◌==◌, if◌then◌else◌, IsTrue};
-ghost use Rattle.rd_glyphs.specs.Characters.{columns, is_control, caret, is_pop, is_formatting, shown_as, turned, mirrored};
+ghost use Rattle.rd_glyphs.specs.Characters.{columns, is_control, caret, is_pop, is_formatting, shown_as, turned, mirrored, ShowsColumns};
 ghost use Rattle.rd_ucd.specs.Lookup.{mirror_in};
 
 use rd_base::Class;
@@ -75,7 +75,8 @@ fn is_formatting(class: Class, code: u32) -> bool
 
 /// How a character of this class is shown. Its code is a scalar value, or that of a raw byte.
 pub fn shown_as(ctl_arrow: bool, class: Class, code: u32) -> Shown
-    ensures { result ≡ shown_as ctl_arrow class code }
+    ensures value { result ≡ shown_as ctl_arrow class code }
+    ensures columns { ShowsColumns result }
 {
     if is_control(code) {
         return if ctl_arrow {
@@ -102,7 +103,8 @@ pub fn shown_as(ctl_arrow: bool, class: Class, code: u32) -> Shown
 
 /// A character that is shown itself has its mirror at an odd level, where one of the same width is listed.
 pub fn mirrored(mirrors: &Mirrors, odd: bool, shown: Shown) -> Shown
-    ensures { result ≡ mirrored mirrors.now odd shown }
+    ensures value { result ≡ mirrored mirrors.now odd shown }
+    ensures columns { ShowsColumns shown → ShowsColumns result }
 {
     match shown {
         Shown::Itself(code, width) => Shown::Itself(

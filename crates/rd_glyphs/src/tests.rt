@@ -1,7 +1,9 @@
-//! Plain lines.
+//! Each rule of a character's elements, and plain lines.
 use super::*;
-use rd_base::{Cell, Ch, Face, Glyph};
-use rd_ucd::Classes;
+use rd_base::{Cell, Ch, Element, Extent, Face, Glyph, Look, Origin, Settings};
+use rd_objects::{Slot, Table};
+use rd_ucd::{Classes, Mirrors};
+use std::alloc::Global;
 use std::test::Fail;
 
 /// A face with a colour.
@@ -10,34 +12,295 @@ const RED: Face = Face {
     ..Face::PLAIN
 };
 
-/// The cell of a character of one column.
-fn cell(code: u32) -> Cell {
-    Cell::First(Glyph::single(code, 1), RED)
+/// The third item of a block, at one place of it.
+const ORIGIN: Origin = Origin {
+    item: 2,
+    from: 3,
+    to: 4,
+};
+
+/// An element of a look in so many columns.
+fn element(extent: Extent, look: Look) -> Element {
+    Element {
+        extent,
+        look,
+        face: RED,
+        origin: ORIGIN,
+    }
+}
+
+/// The element of a character in its columns.
+fn shown(code: u32, width: u8) -> Element {
+    element(
+        Extent::Fixed(width as u32),
+        Look::Glyph(Glyph::single(code, width)),
+    )
+}
+
+/// The element of a character of one column.
+fn narrow(c: char) -> Element {
+    shown(c as u32, 1)
+}
+
+/// One blank column.
+fn blank() -> Element {
+    element(Extent::Fixed(1), Look::Blank)
+}
+
+/// A mark on a blank.
+fn marked(code: u32) -> Glyph {
+    Glyph {
+        marks: [code, 0, 0, 0, 0, 0],
+        count: 1,
+        ..Glyph::single(32, 1)
+    }
+}
+
+/// The character of a raw byte.
+fn raw(byte: u8) -> Ch {
+    match Ch::raw(byte) {
+        Some(ch) => ch,
+        None => Ch::scalar('?'),
+    }
+}
+
+/// Whether a character has these elements.
+fn gives(alloc: Global, parts: &Parts, ch: Ch, odd: bool, wanted: &[Element]) -> bool {
+    match expand(alloc, parts, ch, odd, RED, ORIGIN) {
+        Ok(elements) => elements.as_slice() == wanted,
+        Err(_) => false,
+    }
+}
+
+/// Classes with one character that no column shows and one embedding.
+fn classes(alloc: Global) -> Result<Classes, Fail> {
+    Ok(Classes::read(
+        alloc,
+        b"00AD;SOFT HYPHEN;Cf;0;BN\n202B;RIGHT-TO-LEFT EMBEDDING;Cf;0;RLE",
+    )?)
+}
+
+/// Mirrors of which one has another width, and one is no scalar value.
+fn mirrors(alloc: Global) -> Result<Mirrors, Fail> {
+    Ok(Mirrors::read(alloc, b"0028; 0029\n003C; FF1E\n005B; D800")?)
+}
+
+#[test]
+fn characters_by_the_rules(rt: HostRuntime) -> Result<(), Fail> {
+    let parts = Parts {
+        table: None,
+        settings: &Settings::new(),
+        classes: &classes(rt.alloc())?,
+        mirrors: &mirrors(rt.alloc())?,
+    };
+    let on_blank = element(Extent::Fixed(1), Look::Glyph(marked(0x301)));
+    let rows: [(Ch, &[Element]); 12] = [
+        (Ch::scalar('\t'), &[element(Extent::Tab(8), Look::Blank)]),
+        (Ch::scalar('\u{0}'), &[narrow('^'), narrow('@')]),
+        (Ch::scalar('\u{7F}'), &[narrow('^'), narrow('?')]),
+        (
+            raw(200),
+            &[narrow('\\'), narrow('3'), narrow('1'), narrow('0')],
+        ),
+        (
+            Ch::scalar('\u{9F}'),
+            &[narrow('\\'), narrow('2'), narrow('3'), narrow('7')],
+        ),
+        (Ch::scalar('\u{AD}'), &[blank()]),
+        (Ch::scalar('\u{202B}'), &[blank()]),
+        (Ch::scalar('\u{61C}'), &[blank()]),
+        (Ch::scalar('\u{200E}'), &[blank()]),
+        (Ch::scalar('\u{301}'), &[on_blank]),
+        (Ch::scalar('\u{4E2D}'), &[shown(0x4E2D, 2)]),
+        (Ch::scalar('('), &[narrow('(')]),
+    ];
+    for (ch, wanted) in rows {
+        assert!(rt; gives(rt.alloc(), &parts, ch, false, wanted));
+    }
+    Ok(())
+}
+
+#[test]
+fn mirrors_at_an_odd_level(rt: HostRuntime) -> Result<(), Fail> {
+    let parts = Parts {
+        table: None,
+        settings: &Settings::new(),
+        classes: &classes(rt.alloc())?,
+        mirrors: &mirrors(rt.alloc())?,
+    };
+    for (ch, other) in [('(', ')'), ('<', '<'), ('[', '['), ('a', 'a')] {
+        assert!(rt; gives(rt.alloc(), &parts, Ch::scalar(ch), true, &[narrow(other)]));
+    }
+    Ok(())
+}
+
+#[test]
+fn controls_without_arrows(rt: HostRuntime) -> Result<(), Fail> {
+    let mut settings = Settings::new();
+    settings.ctl_arrow = false;
+    let mut table = Table::new(rt.alloc())?;
+    table.put_slot(Slot::Escape, Some(Glyph::single('!' as u32, 1)));
+    let parts = Parts {
+        table: Some(&table),
+        settings: &settings,
+        classes: &classes(rt.alloc())?,
+        mirrors: &mirrors(rt.alloc())?,
+    };
+    for (ch, digits) in [
+        (Ch::scalar('\u{7F}'), ['1', '7', '7']),
+        (Ch::scalar('\n'), ['0', '1', '2']),
+        (raw(128), ['2', '0', '0']),
+    ] {
+        let [first, second, third] = digits;
+        let wanted = [narrow('!'), narrow(first), narrow(second), narrow(third)];
+        assert!(rt; gives(rt.alloc(), &parts, ch, false, &wanted));
+    }
+    Ok(())
+}
+
+#[test]
+fn entries_come_first(rt: HostRuntime) -> Result<(), Fail> {
+    let mut table = Table::new(rt.alloc())?;
+    let text = [Glyph::single('b' as u32, 1), Glyph::single('c' as u32, 1)];
+    for code in [0, 9, 97] {
+        table.put_entry(code, &text)?;
+    }
+    table.put_entry(40, &[Glyph::single(' ' as u32, 1); 16])?;
+    table.put_slot(Slot::Control, Some(Glyph::single('!' as u32, 1)));
+    let parts = Parts {
+        table: Some(&table),
+        settings: &Settings::new(),
+        classes: &classes(rt.alloc())?,
+        mirrors: &mirrors(rt.alloc())?,
+    };
+    for ch in ['\u{0}', '\t', 'a'] {
+        assert!(rt;
+            gives(
+                rt.alloc(),
+                &parts,
+                Ch::scalar(ch),
+                true,
+                &[narrow('b'), narrow('c')]
+            )
+        );
+    }
+    assert!(rt;
+        gives(
+            rt.alloc(),
+            &parts,
+            Ch::scalar('('),
+            true,
+            &[narrow(' '); 16]
+        )
+    );
+    assert!(rt;
+        gives(
+            rt.alloc(),
+            &parts,
+            Ch::scalar('\u{1}'),
+            false,
+            &[narrow('!'), narrow('A')]
+        )
+    );
+    Ok(())
+}
+
+/// A cell of a character of one column.
+fn cell(c: char) -> Cell {
+    Cell::First(Glyph::single(c as u32, 1), RED)
 }
 
 /// A blank cell.
-fn blank() -> Cell {
+fn gap() -> Cell {
     Cell::Blank(RED)
 }
 
 /// The first cell of a wide character.
-fn middle() -> Cell {
+fn wide() -> Cell {
     Cell::First(Glyph::single(0x4E2D, 2), RED)
+}
+
+/// A letter with six marks.
+fn heavy() -> Cell {
+    Cell::First(
+        Glyph {
+            marks: [0x301; 6],
+            count: 6,
+            ..Glyph::single('e' as u32, 1)
+        },
+        RED,
+    )
+}
+
+/// The mark of that letter.
+fn acute() -> Ch {
+    Ch::scalar('\u{301}')
+}
+
+/// That mark on a blank.
+fn alone() -> Cell {
+    Cell::First(marked(0x301), RED)
+}
+
+/// Whether a text is this plain line in so many columns.
+fn lines_up(alloc: Global, text: &[Ch], classes: &Classes, width: u32, wanted: &[Cell]) -> bool {
+    match plain_line(alloc, text, classes, RED, width) {
+        Ok(cells) => cells.as_slice() == wanted,
+        Err(_) => false,
+    }
 }
 
 #[test]
 fn plain_lines(rt: HostRuntime) -> Result<(), Fail> {
-    let classes = Classes::read(rt.alloc(), b"")?;
-    let text = [Ch::scalar('h'), Ch::scalar(' '), Ch::scalar('\t')];
-    let line = plain_line(rt.alloc(), &text, &classes, RED, 6)?;
-    let cells = [cell(104), blank(), cell(94), cell(73), blank(), blank()];
-    assert_eq!(rt; line.as_slice(), cells.as_slice());
-    let wide = [Ch::scalar('a'), Ch::scalar('\u{4E2D}'), Ch::scalar('b')];
-    let line = plain_line(rt.alloc(), &wide, &classes, RED, 4)?;
-    let wanted = [cell(97), middle(), Cell::Rest, cell(98)];
-    assert_eq!(rt; line.as_slice(), wanted.as_slice());
-    let line = plain_line(rt.alloc(), &wide, &classes, RED, 2)?;
-    let wanted = [cell(97), blank()];
-    assert_eq!(rt; line.as_slice(), wanted.as_slice());
+    let classes = classes(rt.alloc())?;
+    let rows: [(&[Ch], u32, &[Cell]); 6] = [
+        (&[], 2, &[gap(), gap()]),
+        (
+            &[Ch::scalar('h'), Ch::scalar(' '), Ch::scalar('\t')],
+            5,
+            &[cell('h'), gap(), cell('^'), cell('I'), gap()],
+        ),
+        (&[Ch::scalar('\n')], 2, &[cell('^'), cell('J')]),
+        (
+            &[Ch::scalar('a'), Ch::scalar('\u{4E2D}'), Ch::scalar('b')],
+            4,
+            &[cell('a'), wide(), Cell::Rest, cell('b')],
+        ),
+        (
+            &[Ch::scalar('a'), Ch::scalar('\u{4E2D}'), Ch::scalar('b')],
+            2,
+            &[cell('a'), gap()],
+        ),
+        (&[Ch::scalar('a')], 0, &[]),
+    ];
+    for (text, width, wanted) in rows {
+        assert!(rt; lines_up(rt.alloc(), text, &classes, width, wanted));
+    }
+    Ok(())
+}
+
+#[test]
+fn marks_in_plain_lines(rt: HostRuntime) -> Result<(), Fail> {
+    let classes = classes(rt.alloc())?;
+    let mut many = [acute(); 9];
+    many[0] = Ch::scalar('e');
+    let two = Glyph {
+        marks: [0x301, 0x301, 0, 0, 0, 0],
+        count: 2,
+        ..Glyph::single(32, 1)
+    };
+    let rows: [(&[Ch], u32, &[Cell]); 4] = [
+        (&many, 3, &[heavy(), Cell::First(two, RED), gap()]),
+        (&[acute()], 2, &[alone(), gap()]),
+        (
+            &[raw(200), acute()],
+            6,
+            &[cell('\\'), cell('3'), cell('1'), cell('0'), alone(), gap()],
+        ),
+        (&[Ch::scalar('\u{AD}'), acute()], 2, &[gap(), alone()]),
+    ];
+    for (text, width, wanted) in rows {
+        assert!(rt; lines_up(rt.alloc(), text, &classes, width, wanted));
+    }
     Ok(())
 }
