@@ -29,6 +29,7 @@ refused_kind refusals.OutOfRange = codes "OutOfRange"
 refused_kind refusals.NameTaken = codes "NameTaken"
 refused_kind refusals.TextTooLarge = codes "TextTooLarge"
 refused_kind refusals.TooManyBuffers = codes "TooManyBuffers"
+refused_kind refusals.LastWindow = codes "LastWindow"
 refused_kind refusals.NotBuilt = codes "NotBuilt"
 refused_kind refusals.Memory = codes "Memory"
 

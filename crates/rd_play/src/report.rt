@@ -87,6 +87,7 @@ fn refused_kind(refused: Refused) -> &'static [u8]
         Refused::NameTaken => b"NameTaken",
         Refused::TextTooLarge => b"TextTooLarge",
         Refused::TooManyBuffers => b"TooManyBuffers",
+        Refused::LastWindow => b"LastWindow",
         Refused::NotBuilt => b"NotBuilt",
         Refused::Memory => b"Memory",
     }

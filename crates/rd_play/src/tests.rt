@@ -69,7 +69,7 @@ const CASES: [Case; 8] = [
 ];
 
 /// Scripts that are refused before they show anything, and the report.
-const REFUSED: [(&'static [u8], &'static [u8]); 11] = [
+const REFUSED: [(&'static [u8], &'static [u8]); 12] = [
     (
         b"{\"op\":\"insert\",\"buffer\":\"main\",\"pos\":2,\"text\":\"a\"}",
         b"script:1: OutOfRange\n",
@@ -111,6 +111,10 @@ const REFUSED: [(&'static [u8], &'static [u8]); 11] = [
         b"script:1: Extra x\n",
     ),
     (b"[]", b"script:1: NotObject\n"),
+    (
+        b"{\"op\":\"remove\",\"window\":0}",
+        b"script:1: LastWindow\n",
+    ),
 ];
 
 /// The calls that are to fail, and what is then sent, reported and answered, for the first script.
