@@ -2,7 +2,7 @@
 use Rattle.std.proofs.Common.{◌≡◌, ℕ, zero, suc, ◌+◌, ◌≤◌, Bool, true, false, cond, not, if◌then◌else◌, Option, None, Some, Result, Ok, Err, List, [], ◌∷◌, ◌++◌, length, set, sym, ap, refl, ◌∙◌, arith}
 use Rattle.std.proofs.lemmas.Bool.{ltb-false}
 use Rattle.std.proofs.lemmas.List.Sums.{prefix_len-le-length}
-use Rattle.std.specs.Prelude.{slice_get, nat_lt, position, String, string_bytes}
+use Rattle.std.specs.Prelude.{slice_get, nat_lt, position, String, string_bytes, is_ok, OnErr}
 use Rattle.std.specs.String.{string_eq}
 use Rattle.std.specs.declared.alloc.Global.{Global}
 use Rattle.std.specs.List.{position_or_len}
@@ -53,6 +53,11 @@ number_of-missed name es h =
     let n = position_or_len (has_name name) (keys_of es) in
     let past = ltb-false n (length (keys_of es)) (missed (nat_lt n (length (keys_of es))) n h) in
     omega (arith, past, number_of-keys name es, length-keys_of es, length-buffers_of es, number_of-bound name es)
+
+-- what is said of a failure, where there was one
+pub if-err : {T E P : Type 0} (r : Result T E) → false ≡ is_ok r → OnErr r P → P
+if-err (Ok x) e h = absurd (cc)
+if-err (Err x) e h = h
 
 -- ---- adding
 

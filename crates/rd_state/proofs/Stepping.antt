@@ -243,11 +243,6 @@ pub moved-nowhere : (t : Bool) (w : WindowState) → w ≡ (if t then moved (λ 
 moved-nowhere true w = refl
 moved-nowhere false w = refl
 
--- the list after a buffer was added, or where there was no memory for it
-pub added-valid : (r : Result Unit Memory) (s : StateValue) (name : List ℕ) (bs : List BufferValue) → IsValid s
-    → length s.buffers < most_buffers → length s.buffers ≤ number_of name s.buffers
-    → OnOk r (bs ≡ s.buffers ++ new_buffer name ∷ []) → OnErr r (bs ≡ s.buffers)
-    → IsValid (record { buffers = bs; window = s.window; width = s.width; height = s.height })
-added-valid (Ok u) s name bs v room free ok err =
-    subst (λ xs. IsValid (record s { buffers = xs })) (sym ok) (appended-valid s name v room free)
-added-valid (Err e) s name bs v room free ok err = subst (λ xs. IsValid (record s { buffers = xs })) (sym err) v
+-- the list as it was, after a call that changed none of it
+pub unchanged-valid : (s : StateValue) (bs : List BufferValue) → IsValid s → bs ≡ s.buffers → IsValid (record { buffers = bs; window = s.window; width = s.width; height = s.height })
+unchanged-valid s bs v e = subst (λ xs. IsValid (record s { buffers = xs })) (sym e) v

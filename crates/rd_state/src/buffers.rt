@@ -1,5 +1,6 @@
 //! The buffers by name, in order of making, and the ops on the buffer with a number.
-ghost use Rattle.std.specs.Prelude.{◌≡◌, ◌<◌, ◌≤◌, ◌++◌, ◌∷◌, [], Ok, Some, OnOk, OnErr, length, slice_get};
+ghost use Rattle.std.specs.Prelude.{◌≡◌, ◌<◌, ◌++◌, ◌∷◌, [], Ok, Some, IfOk, IfErr, OnOk, OnErr, length, slice_get};
+ghost use Rattle.rd_state.specs.declared.refused.Refused.TheVariants.{NoBuffer};
 ghost use Rattle.rd_state.specs.States.{BufferValue, buffers_of, new_buffer, number_of};
 ghost use Rattle.rd_state.specs.Edits.{insertion, deletion, narrowing, widening};
 ghost use Rattle.rd_state.specs.Answers.{ChangesAt};
@@ -14,14 +15,16 @@ use rd_text::Buffer;
 /// The buffers by name, in order of making.
 pub(crate) type Buffers = IndexMap<String, BufferState>;
 
-/// The number of the buffer with a name, and the count of buffers where none has it.
-pub(crate) fn number_of(name: &str, buffers: &Buffers) -> usize
-    ensures value { result ≡ number_of name.now (buffers_of buffers.now.entries) }
-    ensures bound { result ≤ length (buffers_of buffers.now.entries) }
+/// The number of the buffer with a name, which is refused where no buffer has it.
+pub(crate) fn find(buffers: &Buffers, name: &str) -> Result<usize, Refused>
+    ensures found { IfOk result (λ i. i ≡ number_of name.now (buffers_of buffers.now.entries)) }
+    ensures within { IfOk result (λ i. i < length (buffers_of buffers.now.entries)) }
+    ensures absent { OnErr result (number_of name.now (buffers_of buffers.now.entries) ≡ length (buffers_of buffers.now.entries)) }
+    ensures refused { IfErr result (λ e. e ≡ NoBuffer) }
 {
     match buffers.get_index_of(name) {
-        Some(i) => i,
-        None => buffers.len(),
+        Some(i) => Ok(i),
+        None => Err(Refused::NoBuffer),
     }
 }
 

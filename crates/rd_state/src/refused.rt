@@ -1,4 +1,5 @@
 //! Why an op is refused.
+use rd_base::Memory;
 use thiserror::Error;
 
 /// Why an op is refused.
@@ -31,4 +32,15 @@ pub enum Refused {
     /// There was no memory.
     #[error("no memory")]
     Memory,
+}
+
+impl From<Memory> for Refused {
+    ghost use Rattle.std.specs.Prelude.{◌≡◌};
+    ghost use Rattle.rd_state.specs.declared.refused.Refused.TheVariants as refusals;
+
+    ghost from_gives = { λ _ e. e ≡ refusals.Memory };
+
+    fn from(_none: Memory) -> Refused {
+        Refused::Memory
+    }
 }

@@ -9,7 +9,7 @@ ghost use Rattle.rd_state.specs.Answers.{IsApplied, Applies, lent};
 use crate::buffer::BufferState;
 use crate::effect::Effect;
 use crate::moves;
-use crate::buffers::{Buffers, add, delete_at, insert_at, narrow_at, number_of, text_at, widen_at};
+use crate::buffers::{Buffers, add, delete_at, find, insert_at, narrow_at, text_at, widen_at};
 use crate::built::is_built;
 use crate::refused::Refused;
 use crate::window::WindowState;
@@ -120,11 +120,9 @@ impl State {
     pub fn number_of(&self, name: &str) -> Option<u32>
         ensures { result ≡ (if nat_lt (number_of name.now self.now.buffers) (length self.now.buffers) then Some (number_of name.now self.now.buffers) else None) }
     {
-        let i = number_of(name, &self.buffers);
-        if i < self.buffers.len() {
-            Some(i as u32)
-        } else {
-            None
+        match find(&self.buffers, name) {
+            Ok(i) => Some(i as u32),
+            Err(_absent) => None,
         }
     }
 
@@ -174,17 +172,14 @@ impl State {
     fn make(&mut self, name: BufferName) -> Result<Effect, Refused>
         ensures { Applies result (MakeBuffer name) self.old self.new }
     {
-        let taken = number_of(name.as_str(), &self.buffers);
-        if taken < self.buffers.len() {
+        if find(&self.buffers, name.as_str()).is_ok() {
             return Err(Refused::NameTaken);
         }
         if MOST_BUFFERS <= self.buffers.len() {
             return Err(Refused::TooManyBuffers);
         }
-        match add(&mut self.buffers, name) {
-            Err(Memory) => Err(Refused::Memory),
-            Ok(()) => Ok(Effect::Nothing),
-        }
+        add(&mut self.buffers, name)?;
+        Ok(Effect::Nothing)
     }
 
     /// Puts a text in.
@@ -195,23 +190,16 @@ impl State {
         if !is_built(text) {
             return Err(Refused::NotBuilt);
         }
-        let i = number_of(name, &self.buffers);
-        if i == self.buffers.len() {
-            return Err(Refused::NoBuffer);
-        }
-        match insert_at(&mut self.buffers, i, pos, text) {
-            Err(refused) => Err(refused),
-            Ok(()) => {
-                let (buffer, from, added) = (i as u32, pos as u32, text.len() as u32);
-                self.window = moves::inserted(self.window, buffer, from, added);
-                Ok(Effect::Edit {
-                    buffer,
-                    from,
-                    removed: 0,
-                    added,
-                })
-            }
-        }
+        let i = find(&self.buffers, name)?;
+        insert_at(&mut self.buffers, i, pos, text)?;
+        let (buffer, from, added) = (i as u32, pos as u32, text.len() as u32);
+        self.window = moves::inserted(self.window, buffer, from, added);
+        Ok(Effect::Edit {
+            buffer,
+            from,
+            removed: 0,
+            added,
+        })
     }
 
     /// Puts a text in at the window's point, which moves behind it.
@@ -223,20 +211,16 @@ impl State {
             return Err(Refused::NotBuilt);
         }
         let (buffer, from) = (self.window.buffer, self.window.point);
-        match insert_at(&mut self.buffers, buffer as usize, from as u64, text) {
-            Err(refused) => Err(refused),
-            Ok(()) => {
-                let added = text.len() as u32;
-                self.window = moves::inserted(self.window, buffer, from, added);
-                self.window.point = from + added;
-                Ok(Effect::Edit {
-                    buffer,
-                    from,
-                    removed: 0,
-                    added,
-                })
-            }
-        }
+        insert_at(&mut self.buffers, buffer as usize, from as u64, text)?;
+        let added = text.len() as u32;
+        self.window = moves::inserted(self.window, buffer, from, added);
+        self.window.point = from + added;
+        Ok(Effect::Edit {
+            buffer,
+            from,
+            removed: 0,
+            added,
+        })
     }
 
     /// Takes a range away.
@@ -244,23 +228,16 @@ impl State {
     fn delete(&mut self, name: &str, from: u64, to: u64) -> Result<Effect, Refused>
         ensures { Applies result (Delete name.now from to) self.old self.new }
     {
-        let i = number_of(name, &self.buffers);
-        if i == self.buffers.len() {
-            return Err(Refused::NoBuffer);
-        }
-        match delete_at(&mut self.buffers, i, from, to) {
-            Err(refused) => Err(refused),
-            Ok(()) => {
-                let (buffer, from, to) = (i as u32, from as u32, to as u32);
-                self.window = moves::deleted(self.window, buffer, from, to);
-                Ok(Effect::Edit {
-                    buffer,
-                    from,
-                    removed: to - from,
-                    added: 0,
-                })
-            }
-        }
+        let i = find(&self.buffers, name)?;
+        delete_at(&mut self.buffers, i, from, to)?;
+        let (buffer, from, to) = (i as u32, from as u32, to as u32);
+        self.window = moves::deleted(self.window, buffer, from, to);
+        Ok(Effect::Edit {
+            buffer,
+            from,
+            removed: to - from,
+            added: 0,
+        })
     }
 
     /// Makes a range the accessible one.
@@ -268,18 +245,11 @@ impl State {
     fn narrow(&mut self, name: &str, from: u64, to: u64) -> Result<Effect, Refused>
         ensures { Applies result (Narrow name.now from to) self.old self.new }
     {
-        let i = number_of(name, &self.buffers);
-        if i == self.buffers.len() {
-            return Err(Refused::NoBuffer);
-        }
-        match narrow_at(&mut self.buffers, i, from, to) {
-            Err(refused) => Err(refused),
-            Ok(()) => {
-                let buffer = i as u32;
-                self.window = moves::narrowed(self.window, buffer, from as u32, to as u32);
-                Ok(Effect::All { buffer })
-            }
-        }
+        let i = find(&self.buffers, name)?;
+        narrow_at(&mut self.buffers, i, from, to)?;
+        let buffer = i as u32;
+        self.window = moves::narrowed(self.window, buffer, from as u32, to as u32);
+        Ok(Effect::All { buffer })
     }
 
     /// Makes the whole text accessible.
@@ -287,10 +257,7 @@ impl State {
     fn widen(&mut self, name: &str) -> Result<Effect, Refused>
         ensures { Applies result (Widen name.now) self.old self.new }
     {
-        let i = number_of(name, &self.buffers);
-        if i == self.buffers.len() {
-            return Err(Refused::NoBuffer);
-        }
+        let i = find(&self.buffers, name)?;
         widen_at(&mut self.buffers, i);
         Ok(Effect::All { buffer: i as u32 })
     }
@@ -314,10 +281,7 @@ impl State {
         if window != 0 {
             return Err(Refused::NoWindow);
         }
-        let i = number_of(name, &self.buffers);
-        if i == self.buffers.len() {
-            return Err(Refused::NoBuffer);
-        }
+        let i = find(&self.buffers, name)?;
         let begin = text_at(&self.buffers, i).begin();
         self.window.buffer = i as u32;
         self.window.point = begin;

@@ -2,12 +2,17 @@ use Rattle.std.proofs.Common.{length}
 use Rattle.rd_state.specs.States.{StateValue, buffers_of}
 use Rattle.rd_state.specs.Edits.{insertion, after_insertion}
 use Rattle.rd_state.proofs.Edits.{insertion-keeps}
-use Rattle.rd_state.proofs.Stepping.{at-valid}
+use Rattle.rd_state.proofs.Stepping.{at-valid, unchanged-valid}
 use Rattle.rd_state.proofs.state.State.insert.Goals as goal
 
-pub invariant_of-self-in-Ok : goal.invariant_of-self-in-Ok
-invariant_of-self-in-Ok c =
+pub invariant_of-self : goal.invariant_of-self
+invariant_of-self c =
     let old : StateValue = record { buffers = buffers_of c.self.inside.buffers.entries; window = c.self.inside.window; width = c.self.inside.width; height = c.self.inside.height } in
-    at-valid old c.number_of-i.result (after_insertion c.args.pos (length c.args.text.now)) (λ b. insertion b c.args.pos c.args.text.now)
+    unchanged-valid old (buffers_of c.insert_at.new.buffers.entries) c.self.invariant c.in_err-insert_at.ensures.0
+
+pub invariant_of-self-2 : goal.invariant_of-self-2
+invariant_of-self-2 c =
+    let old : StateValue = record { buffers = buffers_of c.self.inside.buffers.entries; window = c.self.inside.window; width = c.self.inside.width; height = c.self.inside.height } in
+    at-valid old c.in_ok-i.i (after_insertion c.args.pos (length c.args.text.now)) (λ b. insertion b c.args.pos c.args.text.now)
     (buffers_of c.insert_at.new.buffers.entries) c.inserted-self-inside.result c.self.invariant
-    (insertion-keeps c.args.pos c.args.text.now) c.in-Ok.ensures c.inserted-self-inside.ensures
+    (insertion-keeps c.args.pos c.args.text.now) c.in_ok-insert_at.ensures c.inserted-self-inside.ensures

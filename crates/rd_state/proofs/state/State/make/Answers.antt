@@ -1,18 +1,22 @@
-use Rattle.std.proofs.Common.{◌≡◌, ap, ◌∙◌, arith}
-use Rattle.rd_state.specs.States.{StateValue, buffers_of, number_of}
-use Rattle.rd_state.proofs.ByName.{length-buffers_of}
-use Rattle.rd_state.proofs.Stepping.{added-valid}
+use Rattle.std.proofs.Common.{◌≡◌, ap, subst, sym, ◌∙◌, length, arith}
+use Rattle.rd_state.specs.States.{StateValue, IsValid, buffers_of, number_of}
+use Rattle.rd_state.proofs.ByName.{length-buffers_of, if-err}
+use Rattle.rd_state.proofs.Stepping.{appended-valid, unchanged-valid}
 use Rattle.rd_state.proofs.state.State.make.Goals as goal
 
 pub invariant_of-self : goal.invariant_of-self
 invariant_of-self c =
+    let old : StateValue = record { buffers = buffers_of c.self.inside.buffers.entries; window = c.self.inside.window; width = c.self.inside.width; height = c.self.inside.height } in
+    unchanged-valid old (buffers_of c.add.new.buffers.entries) c.self.invariant c.in_err-add.ensures.err
+
+pub invariant_of-self-2 : goal.invariant_of-self-2
+invariant_of-self-2 c =
     let buffers = buffers_of c.self.inside.buffers.entries in
     let old : StateValue = record { buffers = buffers; window = c.self.inside.window; width = c.self.inside.width; height = c.self.inside.height } in
-    let number : c.number_of-taken.result ≡ number_of c.args.name buffers = c.number_of-taken.ensures.value ∙ ap (λ n. number_of n buffers) c.as_str.ensures in
+    let absent = if-err c.find.result c.if-is_ok.ensures.value c.find.ensures.absent in
+    let number : number_of c.args.name buffers ≡ length buffers = ap (λ n. number_of n buffers) (sym c.as_str.ensures) ∙ absent in
     let count = length-buffers_of c.self.inside.buffers.entries in
-    let first = c.len.ensures.len in
-    let second = c.len-2.ensures.len in
+    let len = c.len.ensures.len in
     let room = c.if-len-ge-MOST_BUFFERS.false in
-    let free = c.if-taken-len.false in
-    added-valid c.add.result old c.args.name (buffers_of c.add.new.buffers.entries) c.self.invariant
-    (omega (arith, count, second, room)) (omega (arith, number, count, first, free)) c.add.ensures.ok c.add.ensures.err
+    let valid = appended-valid old c.args.name c.self.invariant (omega (arith, count, len, room)) (omega (arith, number)) in
+    subst (λ xs. IsValid (record old { buffers = xs })) (sym c.in_ok-add.ensures.ok) valid
