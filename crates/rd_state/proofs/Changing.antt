@@ -1,5 +1,5 @@
 -- A change of one buffer, as a change of the list of buffers and of the state.
-use Rattle.std.proofs.Common.{◌≡◌, ℕ, Some, Ok, Err, List, Result, sym, ap, refl, ◌∙◌}
+use Rattle.std.proofs.Common.{◌≡◌, ℕ, Some, Ok, Err, List, Result, sym, ap, ◌∙◌}
 use Rattle.std.specs.Prelude.{slice_get}
 use Rattle.rd_state.specs.declared.refused.Refused.{Refused}
 use Rattle.rd_state.specs.States.{BufferValue, StateValue, number_of}

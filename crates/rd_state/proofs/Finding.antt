@@ -1,10 +1,7 @@
 -- What a loop over a text's characters finds.
-use Rattle.std.proofs.Common.{◌≡◌, ℕ, ◌<◌, ◌≤◌, true, false, List, [], ◌∷◌, length, get_or, sym, ap, refl, ◌∙◌, arith}
+use Rattle.std.proofs.Common.{◌≡◌, ℕ, ◌<◌, true, false, List, length, get_or, sym, ap, refl, ◌∙◌}
 use Rattle.std.proofs.lemmas.List.{get_or_default}
-use Rattle.std.proofs.lemmas.List.Sums.{position_or_len_is}
 use Rattle.std.proofs.lemmas.List.Recursion.{and_from_places, and_fails_at}
-use Rattle.std.specs.Str.{bytes_eq}
-use Rattle.rd_state.specs.States.{BufferValue, number_of}
 use Rattle.rd_state.specs.Edits.{is_built_character, is_built}
 
 pub is_built-all : (text : List ℕ) → ((k : ℕ) → k < length text → is_built_character (get_or text k 0) ≡ true) → is_built text ≡ true

@@ -5,8 +5,7 @@ use Rattle.std.proofs.lemmas.List.Sums.{fails_before_first}
 use Rattle.std.proofs.lemmas.Option.{slice_get_within, get_or_from_slice_get}
 use Rattle.std.proofs.lemmas.Slice.Eq.{bytes_eq-Decides}
 use Rattle.std.specs.Str.{bytes_eq}
-use Rattle.std.specs.Prelude.{slice_get, slice_set, nat_lt, nat_le, OnOk, OnErr}
-use Rattle.rd_base.specs.declared.memory.Memory.{Memory}
+use Rattle.std.specs.Prelude.{slice_get, slice_set, nat_lt, nat_le}
 use Rattle.rd_text.specs.Texts.{IsText, IsAccessible, no_text}
 use Rattle.rd_script.specs.declared.op.Op.{Op}
 use Rattle.rd_script.specs.declared.op.Op.TheVariants as ops

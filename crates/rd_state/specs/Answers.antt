@@ -1,11 +1,13 @@
 -- What the calls of a state answer, and what they leave.
 use Rattle.std.specs.Prelude.{◌≡◌, ◌≢◌, ℕ, Some, Result, Ok, Err, List, slice_get, slice_set}
+use Rattle.rd_text.specs.declared.fault.TextFault.{TextFault}
+use Rattle.rd_text.specs.declared.fault.TextFault.TheVariants as faults
 use Rattle.rd_script.specs.declared.op.Op.{Op}
 use Rattle.rd_script.specs.declared.op.Op.TheVariants.{Redisplay}
 use Rattle.rd_state.specs.declared.buffer.BufferState.{BufferState}
 use Rattle.rd_state.specs.declared.effect.Effect.{Effect}
 use Rattle.rd_state.specs.declared.refused.Refused.{Refused}
-use Rattle.rd_state.specs.declared.refused.Refused.TheVariants.{Memory}
+use Rattle.rd_state.specs.declared.refused.Refused.TheVariants.{OutOfRange, TextTooLarge, Memory}
 use Rattle.rd_state.specs.States.{BufferValue, StateValue}
 use Rattle.rd_state.specs.Steps.{step, effect_of}
 
@@ -13,6 +15,12 @@ use Rattle.rd_state.specs.Steps.{step, effect_of}
 abbrev pub IsApplied : Op → Type 0
 IsApplied (Redisplay stop) = ⊥
 IsApplied op = Unit {0}
+
+-- what a fault of an edit of a text is for the op
+abbrev pub refused_by : TextFault → Refused
+refused_by faults.OutOfRange = OutOfRange
+refused_by faults.TooLarge = TextTooLarge
+refused_by faults.Memory = Memory
 
 -- what the call that applies an op answers: a refusal is that of the op's row or want of memory, and leaves the state as it was
 abbrev pub Applies : Result Effect Refused → Op → StateValue → StateValue → Type 0

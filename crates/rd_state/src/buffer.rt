@@ -8,7 +8,7 @@ ghost use Rattle.rd_state.specs.Answers.{Changes};
 
 use crate::refused::Refused;
 use rd_base::{Ch, Memory, Settings};
-use rd_text::{Buffer, TextFault};
+use rd_text::Buffer;
 use std::alloc::Global;
 
 /// A buffer's text and its settings.
@@ -37,17 +37,11 @@ impl BufferState {
         if pos < text.begin() as u64 || (text.end() as u64) < pos {
             return Err(Refused::OutOfRange);
         }
-        match text.insert(pos as u32, new) {
-            Err(TextFault::OutOfRange) => Err(Refused::OutOfRange),
-            Err(TextFault::TooLarge) => Err(Refused::TextTooLarge),
-            Err(TextFault::Memory) => Err(Refused::Memory),
-            Ok(()) => {
-                if !new.is_empty() {
-                    self.settings.modified = true;
-                }
-                Ok(())
-            }
+        text.insert(pos as u32, new)?;
+        if !new.is_empty() {
+            self.settings.modified = true;
         }
+        Ok(())
     }
 
     /// Takes a range away.
@@ -58,15 +52,11 @@ impl BufferState {
         if from < text.begin() as u64 || to < from || (text.end() as u64) < to {
             return Err(Refused::OutOfRange);
         }
-        match text.delete(from as u32, to as u32) {
-            Err(_) => Err(Refused::OutOfRange),
-            Ok(()) => {
-                if from < to {
-                    self.settings.modified = true;
-                }
-                Ok(())
-            }
+        text.delete(from as u32, to as u32)?;
+        if from < to {
+            self.settings.modified = true;
         }
+        Ok(())
     }
 
     /// Makes a range the accessible one.
@@ -77,10 +67,8 @@ impl BufferState {
         if from < 1 || to < from || text.length() as u64 + 1 < to {
             return Err(Refused::OutOfRange);
         }
-        match text.narrow(from as u32, to as u32) {
-            Err(_) => Err(Refused::OutOfRange),
-            Ok(()) => Ok(()),
-        }
+        text.narrow(from as u32, to as u32)?;
+        Ok(())
     }
 
     /// Makes the whole text accessible.

@@ -61,12 +61,7 @@ pub(crate) fn insert_at(
 }
 
 /// Takes a range of the buffer with a number away.
-pub(crate) fn delete_at(
-    buffers: &mut Buffers,
-    i: usize,
-    from: u64,
-    to: u64,
-) -> Result<(), Refused>
+pub(crate) fn delete_at(buffers: &mut Buffers, i: usize, from: u64, to: u64) -> Result<(), Refused>
     requires { i < length (buffers_of buffers.old.entries) }
     ensures { ChangesAt result (λ b. deletion b from to) i (buffers_of buffers.old.entries) (buffers_of buffers.new.entries) }
 {
@@ -74,12 +69,7 @@ pub(crate) fn delete_at(
 }
 
 /// Makes a range of the buffer with a number the accessible one.
-pub(crate) fn narrow_at(
-    buffers: &mut Buffers,
-    i: usize,
-    from: u64,
-    to: u64,
-) -> Result<(), Refused>
+pub(crate) fn narrow_at(buffers: &mut Buffers, i: usize, from: u64, to: u64) -> Result<(), Refused>
     requires { i < length (buffers_of buffers.old.entries) }
     ensures { ChangesAt result (λ b. narrowing b from to) i (buffers_of buffers.old.entries) (buffers_of buffers.new.entries) }
 {

@@ -1,5 +1,6 @@
 //! Why an op is refused.
 use rd_base::Memory;
+use rd_text::TextFault;
 use thiserror::Error;
 
 /// Why an op is refused.
@@ -42,5 +43,20 @@ impl From<Memory> for Refused {
 
     fn from(_none: Memory) -> Refused {
         Refused::Memory
+    }
+}
+
+impl From<TextFault> for Refused {
+    ghost use Rattle.std.specs.Prelude.{◌≡◌};
+    ghost use Rattle.rd_state.specs.Answers.{refused_by};
+
+    ghost from_gives = { λ fault e. e ≡ refused_by fault };
+
+    fn from(fault: TextFault) -> Refused {
+        match fault {
+            TextFault::OutOfRange => Refused::OutOfRange,
+            TextFault::TooLarge => Refused::TextTooLarge,
+            TextFault::Memory => Refused::Memory,
+        }
     }
 }

@@ -7,10 +7,10 @@ ghost use Rattle.rd_state.specs.Steps.{settled};
 ghost use Rattle.rd_state.specs.Answers.{IsApplied, Applies, lent};
 
 use crate::buffer::BufferState;
-use crate::effect::Effect;
-use crate::moves;
 use crate::buffers::{Buffers, add, delete_at, find, insert_at, narrow_at, text_at, widen_at};
 use crate::built::is_built;
+use crate::effect::Effect;
+use crate::moves;
 use crate::refused::Refused;
 use crate::window::WindowState;
 use indexmap::IndexMap;
@@ -65,7 +65,8 @@ impl State {
 
     /// Applies one op other than redisplay. A refusal is the first that the op meets, and leaves the state as it was:
     /// NotBuilt for a text of other characters than a newline and those from space to tilde, then NoWindow and NoBuffer, then
-    /// OutOfRange, TextTooLarge, NameTaken, TooManyBuffers, LastWindow. An edit moves the rest of the text once.
+    /// OutOfRange, TextTooLarge, NameTaken, TooManyBuffers, LastWindow. A buffer is found by one look-up of its name, and an
+    /// edit moves the rest of the text once. Only `buffer`, `insert` and `type` take memory.
     #[tactic(auto, unfolding(crate::specs::Steps::step, crate::specs::Steps::effect_of))]
     pub fn apply(&mut self, op: Op) -> Result<Effect, Refused>
         requires form { IsInForm op }
@@ -108,7 +109,7 @@ impl State {
         Some(buffer)
     }
 
-    /// The name of the buffer with a number; None exactly where none was made.
+    /// The name of the buffer with a number, from 0 in order of making; None exactly where none was made.
     pub fn name(&self, i: u32) -> Option<&str>
         ensures { option_map (λ name. name.now) result ≡ option_map (λ b. b.name) (slice_get self.now.buffers i) }
     {
@@ -116,7 +117,7 @@ impl State {
         Some(name.as_str())
     }
 
-    /// The number of the buffer with a name; None exactly where no buffer has it.
+    /// The number of the buffer with a name, from 0 in order of making; None exactly where no buffer has it. It takes no memory.
     pub fn number_of(&self, name: &str) -> Option<u32>
         ensures { result ≡ (if nat_lt (number_of name.now self.now.buffers) (length self.now.buffers) then Some (number_of name.now self.now.buffers) else None) }
     {

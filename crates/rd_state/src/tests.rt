@@ -39,14 +39,29 @@ fn ops_are_applied(rt: HostRuntime) -> Result<(), Fail> {
     let mut state = State::new(rt.alloc())?;
     for (line, effect) in [
         (r#"{"op":"frame","width":12,"height":3}"#, Effect::Nothing),
-        (r#"{"op":"insert","buffer":"main","pos":1,"text":"ab\ncd"}"#, edit(1, 0, 5)),
-        (r#"{"op":"narrow","buffer":"main","from":2,"to":5}"#, Effect::All { buffer: 0 }),
+        (
+            r#"{"op":"insert","buffer":"main","pos":1,"text":"ab\ncd"}"#,
+            edit(1, 0, 5),
+        ),
+        (
+            r#"{"op":"narrow","buffer":"main","from":2,"to":5}"#,
+            Effect::All { buffer: 0 },
+        ),
         (r#"{"op":"type","text":"x"}"#, edit(2, 0, 1)),
-        (r#"{"op":"widen","buffer":"main"}"#, Effect::All { buffer: 0 }),
-        (r#"{"op":"delete","buffer":"main","from":1,"to":3}"#, edit(1, 2, 0)),
+        (
+            r#"{"op":"widen","buffer":"main"}"#,
+            Effect::All { buffer: 0 },
+        ),
+        (
+            r#"{"op":"delete","buffer":"main","from":1,"to":3}"#,
+            edit(1, 2, 0),
+        ),
         (r#"{"op":"buffer","name":"é"}"#, Effect::Nothing),
         (r#"{"op":"point","window":0,"pos":2}"#, Effect::Nothing),
-        (r#"{"op":"wrap","window":0,"mode":"continue"}"#, Effect::Nothing),
+        (
+            r#"{"op":"wrap","window":0,"mode":"continue"}"#,
+            Effect::Nothing,
+        ),
     ] {
         assert!(rt; accepts(&mut state, rt.alloc(), line, effect), "{line}");
     }
@@ -85,25 +100,67 @@ fn ops_are_refused(rt: HostRuntime) -> Result<(), Fail> {
     let mut state = State::new(rt.alloc())?;
     for (line, refused) in [
         (r#"{"op":"buffer","name":"main"}"#, Refused::NameTaken),
-        (r#"{"op":"insert","buffer":"x","pos":9,"text":"é"}"#, Refused::NotBuilt),
-        (r#"{"op":"insert","buffer":"x","pos":1,"text":""}"#, Refused::NoBuffer),
-        (r#"{"op":"insert","buffer":"main","pos":0,"text":""}"#, Refused::OutOfRange),
-        (r#"{"op":"insert","buffer":"main","pos":2,"text":"a"}"#, Refused::OutOfRange),
+        (
+            r#"{"op":"insert","buffer":"x","pos":9,"text":"é"}"#,
+            Refused::NotBuilt,
+        ),
+        (
+            r#"{"op":"insert","buffer":"x","pos":1,"text":""}"#,
+            Refused::NoBuffer,
+        ),
+        (
+            r#"{"op":"insert","buffer":"main","pos":0,"text":""}"#,
+            Refused::OutOfRange,
+        ),
+        (
+            r#"{"op":"insert","buffer":"main","pos":2,"text":"a"}"#,
+            Refused::OutOfRange,
+        ),
         (r#"{"op":"type","text":"\t"}"#, Refused::NotBuilt),
-        (r#"{"op":"delete","buffer":"x","from":1,"to":1}"#, Refused::NoBuffer),
-        (r#"{"op":"delete","buffer":"main","from":0,"to":1}"#, Refused::OutOfRange),
-        (r#"{"op":"delete","buffer":"main","from":1,"to":18446744073709551615}"#, Refused::OutOfRange),
-        (r#"{"op":"narrow","buffer":"Main","from":1,"to":1}"#, Refused::NoBuffer),
-        (r#"{"op":"narrow","buffer":"main","from":1,"to":0}"#, Refused::OutOfRange),
-        (r#"{"op":"narrow","buffer":"main","from":1,"to":2}"#, Refused::OutOfRange),
+        (
+            r#"{"op":"delete","buffer":"x","from":1,"to":1}"#,
+            Refused::NoBuffer,
+        ),
+        (
+            r#"{"op":"delete","buffer":"main","from":0,"to":1}"#,
+            Refused::OutOfRange,
+        ),
+        (
+            r#"{"op":"delete","buffer":"main","from":1,"to":18446744073709551615}"#,
+            Refused::OutOfRange,
+        ),
+        (
+            r#"{"op":"narrow","buffer":"Main","from":1,"to":1}"#,
+            Refused::NoBuffer,
+        ),
+        (
+            r#"{"op":"narrow","buffer":"main","from":1,"to":0}"#,
+            Refused::OutOfRange,
+        ),
+        (
+            r#"{"op":"narrow","buffer":"main","from":1,"to":2}"#,
+            Refused::OutOfRange,
+        ),
         (r#"{"op":"widen","buffer":"mai"}"#, Refused::NoBuffer),
         (r#"{"op":"remove","window":0}"#, Refused::LastWindow),
         (r#"{"op":"remove","window":4294967296}"#, Refused::NoWindow),
-        (r#"{"op":"show","window":1,"buffer":"x"}"#, Refused::NoWindow),
-        (r#"{"op":"show","window":0,"buffer":"x"}"#, Refused::NoBuffer),
+        (
+            r#"{"op":"show","window":1,"buffer":"x"}"#,
+            Refused::NoWindow,
+        ),
+        (
+            r#"{"op":"show","window":0,"buffer":"x"}"#,
+            Refused::NoBuffer,
+        ),
         (r#"{"op":"point","window":1,"pos":9}"#, Refused::NoWindow),
-        (r#"{"op":"point","window":0,"pos":4294967297}"#, Refused::OutOfRange),
-        (r#"{"op":"wrap","window":1,"mode":"continue"}"#, Refused::NoWindow),
+        (
+            r#"{"op":"point","window":0,"pos":4294967297}"#,
+            Refused::OutOfRange,
+        ),
+        (
+            r#"{"op":"wrap","window":1,"mode":"continue"}"#,
+            Refused::NoWindow,
+        ),
     ] {
         assert!(rt; refuses(&mut state, rt.alloc(), line, refused), "{line}");
     }
@@ -143,11 +200,24 @@ fn texts_have_4_194_304_characters(rt: HostRuntime) -> Result<(), Fail> {
         assert!(rt; accepts(&mut state, rt.alloc(), line.as_str(), effect));
     }
     let rest = filled(rt.alloc(), r#"{"op":"type","text":""#, 2_304, r#""}"#)?;
-    assert!(rt; accepts(&mut state, rt.alloc(), rest.as_str(), edit(4_192_001, 0, 2_304)));
+    assert!(rt;
+        accepts(
+            &mut state,
+            rt.alloc(),
+            rest.as_str(),
+            edit(4_192_001, 0, 2_304)
+        )
+    );
     for (line, refused) in [
         (r#"{"op":"type","text":"a"}"#, Refused::TextTooLarge),
-        (r#"{"op":"insert","buffer":"main","pos":1,"text":"a"}"#, Refused::TextTooLarge),
-        (r#"{"op":"insert","buffer":"main","pos":0,"text":"a"}"#, Refused::OutOfRange),
+        (
+            r#"{"op":"insert","buffer":"main","pos":1,"text":"a"}"#,
+            Refused::TextTooLarge,
+        ),
+        (
+            r#"{"op":"insert","buffer":"main","pos":0,"text":"a"}"#,
+            Refused::OutOfRange,
+        ),
     ] {
         assert!(rt; refuses(&mut state, rt.alloc(), line, refused), "{line}");
     }
