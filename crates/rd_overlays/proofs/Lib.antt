@@ -1,4 +1,6 @@
 mod Bounding
+mod Exact
+mod Listed
 mod Moving
-mod Ranking
 mod Skipping
+mod Sorting

@@ -1,6 +1,6 @@
 -- The overlays of a buffer as a list: each stands at its number, and nothing stands where one was dropped.
-use Rattle.std.specs.Prelude.{◌≡◌, ℕ, suc, ◌+◌, ◌-◌, ◌<◌, ◌≤◌, min, ℤ, int_le, nat_le, nat_lt, ◌==◌, Bool, ◌&&◌, ◌||◌, if◌then◌else◌, is_some, List, [], ◌∷◌, ◌++◌, length, map, replicate, slice_get, slice_set, Option, None, Some, Result, Ok, Err, ⊤}
-use Rattle.std.specs.List.{insert, position_or_len}
+use Rattle.std.specs.Prelude.{◌≡◌, ℕ, suc, ◌+◌, ◌-◌, ◌<◌, ◌≤◌, min, ℤ, nat_le, nat_lt, ◌==◌, Bool, ◌&&◌, ◌||◌, if◌then◌else◌, is_some, List, [], ◌∷◌, ◌++◌, length, map, replicate, slice_get, slice_set, Option, None, Some, Result, Ok, Err, ⊤}
+use Rattle.std.specs.Ordering.{is_lt, ordering_then, int_cmp, nat_cmp}
 use Rattle.rd_overlays.specs.declared.fault.OverlayFault.{OverlayFault}
 use Rattle.rd_overlays.specs.declared.fault.OverlayFault.TheVariants.{NoOverlay, OutOfRange, TooMany, Memory}
 use Rattle.rd_overlays.specs.declared.overlay.Overlay.{Overlay}
@@ -92,15 +92,20 @@ meets Covers pos overlay = covers pos overlay
 meets Starts pos overlay = starts pos overlay
 meets Ends pos overlay = ends pos overlay
 
--- how many overlays have a lesser priority, in a list by increasing priority
-abbrev pub place : ℤ → List Rank → ℕ
-place priority ranks = position_or_len (λ rank. int_le priority rank.priority) ranks
+-- whether an overlay comes before another in each listing: by its priority, and where these are equal by its number
+abbrev pub precedes : Rank → Rank → Bool
+precedes a b = is_lt (ordering_then (int_cmp a.priority b.priority) (nat_cmp a.number b.number))
 
--- a list by increasing priority and number with one more overlay, whose number is less than all in the list
+-- a list in that order with one more overlay
+abbrev pub placed : Rank → List Rank → List Rank
+placed rank [] = rank ∷ []
+placed rank (r ∷ rs) = if precedes r rank then r ∷ placed rank rs else rank ∷ r ∷ rs
+
+-- the same where an overlay stands at a number and passes a test
 abbrev pub with_slot : (Overlay → Bool) → ℕ → Option Overlay → List Rank → List Rank
 with_slot test number None ranks = ranks
 with_slot test number (Some overlay) ranks =
-    if test overlay then insert ranks (place overlay.priority ranks) (record { priority = overlay.priority; number = number }) else ranks
+    if test overlay then placed (record { priority = overlay.priority; number = number }) ranks else ranks
 
 -- the overlays that pass a test, with numbers from the given one on, by increasing priority and number
 abbrev pub ranked_from : (Overlay → Bool) → ℕ → List (Option Overlay) → List Rank

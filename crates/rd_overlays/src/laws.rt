@@ -1,7 +1,8 @@
 //! Laws of the definitions, for the layers above.
-ghost use Rattle.std.specs.Prelude.{ℕ, ◌≡◌, ◌≤◌, true, false, ℤ, pos, ◌∷◌, [], List, Option, Some, None};
+ghost use Rattle.std.specs.Prelude.{ℕ, ◌≡◌, ◌≤◌, Bool, true, false, ℤ, pos, ◌∷◌, [], List, Option, Some, None};
 ghost use Rattle.rd_overlays.specs.declared.overlay.Overlay.{Overlay};
-ghost use Rattle.rd_overlays.specs.Overlays.{new_overlay, grown, shrunk, covering, starting, ending, next_edge};
+ghost use Rattle.rd_overlays.specs.Overlays.{new_overlay, grown, shrunk, numbers_of, covering, starting, ending, next_edge};
+ghost use Rattle.rd_overlays.specs.Listings.{HoldsExactly, Ascends};
 
 /// Every edit leaves a start that isn't behind its end. The call does nothing.
 pub fn edits_keep_starts_before_ends()
@@ -24,4 +25,12 @@ pub fn overlays_that_meet()
     ensures starting { starting 2 (Some (new_overlay 1 2 (pos 1) false false) ∷ None ∷ Some (new_overlay 2 3 (pos 1) false false) ∷ Some (new_overlay 2 3 (pos 1) false false) ∷ Some (new_overlay 2 2 (pos 0) false false) ∷ []) ≡ 4 ∷ 2 ∷ 3 ∷ [] }
     ensures ending { ending 2 (Some (new_overlay 1 2 (pos 1) false false) ∷ Some (new_overlay 1 2 (pos 2) false false) ∷ Some (new_overlay 2 3 (pos 1) false false) ∷ Some (new_overlay 2 2 (pos 0) false false) ∷ []) ≡ 3 ∷ 0 ∷ 1 ∷ [] }
     ensures next { next_edge 2 (Some (new_overlay 1 2 (pos 1) false false) ∷ None ∷ Some (new_overlay 2 7 (pos 1) false false) ∷ Some (new_overlay 5 9 (pos 1) false false) ∷ []) ≡ Some 5 }
+{}
+
+/// A listing of the overlays that pass a test, as those that cover a position, start there or end there, holds exactly the
+/// numbers of such overlays that live. Each comes before those behind it, by its priority and where these are equal by its
+/// number, so that none stands in it twice. The call does nothing.
+pub fn listings_are_exact()
+    ensures holds { (test : Overlay → Bool) (slots : List (Option Overlay)) → HoldsExactly test slots (numbers_of test slots) }
+    ensures ascends { (test : Overlay → Bool) (slots : List (Option Overlay)) → Ascends slots (numbers_of test slots) }
 {}

@@ -11,7 +11,9 @@ mod overlays;
 mod store;
 
 pub use fault::OverlayFault;
-pub use laws::{edits_keep_starts_before_ends, insertions_at_edges, overlays_that_meet};
+pub use laws::{
+    edits_keep_starts_before_ends, insertions_at_edges, listings_are_exact, overlays_that_meet,
+};
 pub use overlay::{Kind, Overlay};
 pub use overlays::Overlays;
 

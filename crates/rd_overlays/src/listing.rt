@@ -1,6 +1,7 @@
 //! The numbers of some overlays, in increasing order of priority and number.
-ghost use Rattle.std.specs.Prelude.{◌≡◌, ◌≤◌, length, map, int_le, OnOk, IfOk};
-ghost use Rattle.rd_overlays.specs.Overlays.{meets, place, with_slot, ranked_from, number_of_rank};
+ghost use Rattle.std.specs.Prelude.{◌≡◌, ◌≤◌, ◌++◌, length, map, OnOk, IfOk};
+ghost use Rattle.rd_overlays.specs.Overlays.{meets, ranked_from, number_of_rank};
+ghost use Rattle.rd_overlays.specs.Listings.{rank_at, found_from};
 
 use crate::overlay::{Meeting, Overlay, meets};
 use crate::store::Store;
@@ -8,35 +9,13 @@ use rd_base::{ListOf, Memory, Pos};
 use std::alloc::Global;
 
 /// An overlay's number, with the priority that decides first.
-#[derive(Clone, Copy, Debug, PartialEq, Eq)]
+#[derive(Clone, Copy, Debug, PartialEq, Eq, PartialOrd, Ord)]
 pub(crate) struct Rank {
     pub(crate) priority: i32,
     pub(crate) number: u32,
 }
 
-/// Whether one stands before another where all numbers so far are less.
-fn precedes(rank: Rank, other: Rank) -> bool
-    ensures { result ≡ int_le rank.priority other.priority }
-{
-    rank.priority <= other.priority
-}
-
-/// How many stand before the first whose priority is as great as this one's or greater.
-fn place(ranks: &[Rank], rank: Rank) -> usize
-    ensures value { result ≡ place rank.priority ranks.now }
-    ensures bound { result ≤ length ranks.now }
-{
-    let mut i = 0;
-    while i < ranks.len() {
-        if precedes(rank, ranks[i]) {
-            return i;
-        }
-        i += 1;
-    }
-    i
-}
-
-/// Takes an overlay in where it stands so to a position, before all greater numbers of its priority.
+/// Adds an overlay where it stands so to a position.
 fn take_in(
     ranks: &mut Vec<Rank>,
     slot: Option<Overlay>,
@@ -44,23 +23,21 @@ fn take_in(
     meeting: Meeting,
     pos: Pos,
 ) -> Result<(), Memory>
-    ensures { OnOk result (ranks.new.items ≡ with_slot (meets meeting pos) number slot ranks.old.items) }
+    ensures { OnOk result (ranks.new.items ≡ ranks.old.items ++ rank_at (meets meeting pos) number slot) }
 {
     if let Some(overlay) = slot {
         if meets(meeting, pos, overlay) {
             let priority = overlay.priority;
-            let rank = Rank { priority, number };
-            let place = place(ranks.as_slice(), rank);
-            ranks.insert(place, rank)?;
+            ranks.push(Rank { priority, number })?;
         }
     }
     Ok(())
 }
 
-/// The overlays that stand so to a position, in increasing order.
-fn ranked(alloc: Global, store: &Store, meeting: Meeting, pos: Pos) -> Result<Vec<Rank>, Memory>
+/// The overlays that stand so to a position, from the last number to the first.
+fn found(alloc: Global, store: &Store, meeting: Meeting, pos: Pos) -> Result<Vec<Rank>, Memory>
     requires { length store.now ≤ 65536 }
-    ensures { IfOk result (λ ranks. ranks.items ≡ ranked_from (meets meeting pos) 0 store.now) }
+    ensures { IfOk result (λ ranks. ranks.items ≡ found_from (meets meeting pos) 0 store.now) }
 {
     let mut ranks = Vec::new(alloc);
     let mut number = store.len();
@@ -73,6 +50,16 @@ fn ranked(alloc: Global, store: &Store, meeting: Meeting, pos: Pos) -> Result<Ve
             take_in(&mut ranks, *store.get(number), number as u32, meeting, pos)?;
         }
     }
+    Ok(ranks)
+}
+
+/// The overlays that stand so to a position, in increasing order.
+fn ranked(alloc: Global, store: &Store, meeting: Meeting, pos: Pos) -> Result<Vec<Rank>, Memory>
+    requires { length store.now ≤ 65536 }
+    ensures { IfOk result (λ ranks. ranks.items ≡ ranked_from (meets meeting pos) 0 store.now) }
+{
+    let mut ranks = found(alloc, store, meeting, pos)?;
+    ranks.sort()?;
     Ok(ranks)
 }
 

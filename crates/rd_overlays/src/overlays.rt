@@ -139,8 +139,8 @@ impl Overlays {
     }
 
     /// The numbers of the overlays that cover a position, `from <= pos < to`, in increasing order of priority and number.
-    /// Costs a pass over the bounds of all blocks, over each block whose bounds hold the position, and for each that is listed
-    /// over those listed.
+    /// Costs a pass over the bounds of all blocks and over each block whose bounds hold the position, and for those listed their
+    /// number times its logarithm, for which it takes memory.
     pub fn covering(&self, pos: Pos) -> Result<ListOf<u32>, Memory>
         ensures { IfOk result (λ list. list ≡ covering pos self.now) }
     {
@@ -148,8 +148,8 @@ impl Overlays {
     }
 
     /// The numbers of the overlays that start at a position, empty ones too, in increasing order of priority and number.
-    /// Costs a pass over the bounds of all blocks, over each block whose bounds hold the position, and for each that is listed
-    /// over those listed.
+    /// Costs a pass over the bounds of all blocks and over each block whose bounds hold the position, and for those listed their
+    /// number times its logarithm, for which it takes memory.
     pub fn starting(&self, pos: Pos) -> Result<ListOf<u32>, Memory>
         ensures { IfOk result (λ list. list ≡ starting pos self.now) }
     {
@@ -157,8 +157,8 @@ impl Overlays {
     }
 
     /// The numbers of the overlays whose `to` is a position, empty ones too, in increasing order of priority and number.
-    /// Costs a pass over the bounds of all blocks, over each block whose bounds hold the position, and for each that is listed
-    /// over those listed.
+    /// Costs a pass over the bounds of all blocks and over each block whose bounds hold the position, and for those listed their
+    /// number times its logarithm, for which it takes memory.
     pub fn ending(&self, pos: Pos) -> Result<ListOf<u32>, Memory>
         ensures { IfOk result (λ list. list ≡ ending pos self.now) }
     {

@@ -1,23 +1,12 @@
-use Rattle.std.proofs.Common.{◌-◌, arith, ◌∙◌}
-use Rattle.rd_overlays.proofs.Skipping.{taken, skipped}
+use Rattle.std.proofs.Common.{List, ap, ◌∙◌}
+use Rattle.std.specs.List.{filter}
+use Rattle.std.specs.List.Sorted.{ties}
+use Rattle.rd_overlays.specs.declared.listing.Rank.{Rank}
+use Rattle.rd_overlays.specs.Overlays.{meets, precedes}
+use Rattle.rd_overlays.proofs.Listed.{sorted-is}
 use Rattle.rd_overlays.proofs.listing.ranked.Goals as goal
 
-pub loop-number-preserved-then-next-number : goal.loop-number-preserved-then-next-number
-loop-number-preserved-then-next-number c =
-    let within = c.loop-number.invariant.within in
-    let bound = c.skip_to-next.ensures.bound in
-    record {
-      within = omega (arith, within, bound);
-      ranked = c.loop-number.invariant.ranked
-          ∙ skipped c.args.meeting c.args.pos c.args.store.now c.skip_to-next.result c.loop-number.number bound within c.skip_to-next.ensures.away;
-    }
-
-pub loop-number-preserved : goal.loop-number-preserved
-loop-number-preserved c =
-    let within = c.loop-number.invariant.within in
-    let more = c.loop-number-test.true in
-    record {
-      within = omega (arith, within);
-      ranked = taken c.args.meeting c.args.pos c.loop-number.number (c.loop-number.number - 1) c.args.store.now c.get.result.now
-          c.loop-number.ranks.items c.take_in.new.ranks.items (omega (arith, more)) c.get.ensures c.loop-number.invariant.ranked c.in_ok-take_in.ensures;
-    }
+pub returns : goal.returns
+returns c =
+    sorted-is (meets c.args.meeting c.args.pos) c.args.store.now c.sort.new.self.items c.in_ok-sort.ensures.sorted
+    (λ x. c.in_ok-sort.ensures.stable x ∙ ap (λ (ranks : List Rank). filter (ties precedes x) ranks) c.in_ok-ranks.ensures)

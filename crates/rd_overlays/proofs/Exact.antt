@@ -1,0 +1,212 @@
+-- What a listing holds, and in which order.
+use Rattle.std.proofs.Common.{◌≡◌, ℕ, zero, suc, ◌+◌, ◌-◌, ◌<◌, ◌≤◌, Bool, true, false, if◌then◌else◌, List, [], ◌∷◌, length, slice_index_or, Option, None, Some, refl, sym, ap, subst, ◌∙◌, arith, true≢false}
+use Rattle.std.specs.Prelude.{slice_index, ⊤, pos}
+use Rattle.std.specs.List.{Contains}
+use Rattle.std.specs.Option.{unwrap_or, is_none}
+use Rattle.std.proofs.lemmas.List.{get_or-map, length-map}
+use Rattle.rd_overlays.specs.declared.overlay.Overlay.{Overlay}
+use Rattle.rd_overlays.specs.declared.listing.Rank.{Rank}
+use Rattle.rd_overlays.specs.Overlays.{overlay_at, precedes, placed, with_slot, ranked_from, number_of_rank, numbers_of}
+use Rattle.rd_overlays.specs.Listings.{Passes, HoldsExactly, Ascends, rank_of}
+use Rattle.rd_overlays.proofs.Sorting.{AllAfter, Rises}
+use Rattle.rd_overlays.proofs.Listed.{weak, ranked-rises}
+
+abbrev Each : (Rank → Type 0) → List Rank → Type 0
+Each P [] = ⊤
+Each P (r ∷ rs) = P r × Each P rs
+
+each-weaken : (P Q : Rank → Type 0) (rs : List Rank) → ((r : Rank) → P r → Q r) → Each P rs → Each Q rs
+each-weaken P Q [] f h = tt
+each-weaken P Q (r ∷ rs) f h = (f r h.0, each-weaken P Q rs f h.1)
+
+each-by : (P : Rank → Type 0) (r s : Rank) (ss more : List Rank) (b : Bool) → P r → Each P (s ∷ ss) → Each P more → Each P (if b then s ∷ more else r ∷ s ∷ ss)
+each-by P r s ss more true p h rest = (h.0, rest)
+each-by P r s ss more false p h rest = (p, h)
+
+each-placed : (P : Rank → Type 0) (r : Rank) (rs : List Rank) → P r → Each P rs → Each P (placed r rs)
+each-placed P r [] p h = (p, tt)
+each-placed P r (s ∷ ss) p h = each-by P r s ss (placed r ss) (precedes s r) p h (each-placed P r ss p h.1)
+
+-- the overlay of a rank stands at its number, counted from the given one, passes the test and has its priority
+record Stands (test : Overlay → Bool) (n : ℕ) (slots : List (Option Overlay)) (r : Rank) : Type 0 where
+  overlay : Overlay
+  from : n ≤ r.number
+  at : overlay_at slots (r.number - n) ≡ Some overlay
+  passes : test overlay ≡ true
+  priority : r.priority ≡ overlay.priority
+
+later : (test : Overlay → Bool) (n : ℕ) (slot : Option Overlay) (slots : List (Option Overlay)) (r : Rank) → Stands test (suc n) slots r → Stands test n (slot ∷ slots) r
+later test n slot slots r s =
+    let from = s.from in
+    let e : r.number - n ≡ suc (r.number - suc n) = omega arith in
+    record {
+      overlay = s.overlay;
+      from = omega arith;
+      at = ap (overlay_at (slot ∷ slots)) e ∙ s.at;
+      passes = s.passes;
+      priority = s.priority;
+    }
+
+here : (test : Overlay → Bool) (n : ℕ) (o : Overlay) (slots : List (Option Overlay)) → test o ≡ true → Stands test n (Some o ∷ slots) (rank_of n o)
+here test n o slots p =
+    let e : n - n ≡ 0 = omega arith in
+    record {
+      overlay = o;
+      from = omega arith;
+      at = ap (overlay_at (Some o ∷ slots)) e;
+      passes = p;
+      priority = refl;
+    }
+
+slot-each : (P : Rank → Type 0) (r : Rank) (rs : List Rank) (b : Bool) → (b ≡ true → P r) → Each P rs → Each P (if b then placed r rs else rs)
+slot-each P r rs true p h = each-placed P r rs (p refl) h
+slot-each P r rs false p h = h
+
+ranked-stand : (test : Overlay → Bool) (n : ℕ) (slots : List (Option Overlay)) → Each (Stands test n slots) (ranked_from test n slots)
+ranked-stand test n [] = tt
+ranked-stand test n (None ∷ slots) =
+    each-weaken (Stands test (suc n) slots) (Stands test n (None ∷ slots)) (ranked_from test (suc n) slots) (later test n None slots) (ranked-stand test (suc n) slots)
+ranked-stand test n (Some o ∷ slots) =
+    slot-each (Stands test n (Some o ∷ slots)) (rank_of n o) (ranked_from test (suc n) slots) (test o) (here test n o slots)
+    (each-weaken (Stands test (suc n) slots) (Stands test n (Some o ∷ slots)) (ranked_from test (suc n) slots) (later test n (Some o) slots) (ranked-stand test (suc n) slots))
+
+-- some element
+abbrev Some_one : (Rank → Type 0) → List Rank → Type 0
+Some_one P rs = (i : ℕ) × (i < length rs) × ((d : Rank) → P (slice_index_or rs i d))
+
+one-behind : (P : Rank → Type 0) (r : Rank) (rs : List Rank) → Some_one P rs → Some_one P (r ∷ rs)
+one-behind P r rs (i, inside, p) = (suc i, omega (arith, inside), p)
+
+one-by : (P : Rank → Type 0) (r s : Rank) (ss more : List Rank) (b : Bool) → P r → Some_one P more → Some_one P (if b then s ∷ more else r ∷ s ∷ ss)
+one-by P r s ss more true p rest = one-behind P s more rest
+one-by P r s ss more false p rest = (0, omega arith, λ d. p)
+
+placed-one : (P : Rank → Type 0) (r : Rank) (rs : List Rank) → P r → Some_one P (placed r rs)
+placed-one P r [] p = (0, omega arith, λ d. p)
+placed-one P r (s ∷ ss) p = one-by P r s ss (placed r ss) (precedes s r) p (placed-one P r ss p)
+
+keep-first : (P : Rank → Type 0) (r s : Rank) (ss more : List Rank) (b : Bool) → P s → Some_one P (if b then s ∷ more else r ∷ s ∷ ss)
+keep-first P r s ss more true p = (0, omega arith, λ d. p)
+keep-first P r s ss more false p = (1, omega arith, λ d. p)
+
+keep-later : (P : Rank → Type 0) (r s : Rank) (ss more : List Rank) (b : Bool) → Some_one P ss → Some_one P more → Some_one P (if b then s ∷ more else r ∷ s ∷ ss)
+keep-later P r s ss more true old rest = one-behind P s more rest
+keep-later P r s ss more false old rest = one-behind P r (s ∷ ss) (one-behind P s ss old)
+
+placed-keeps : (P : Rank → Type 0) (r : Rank) (rs : List Rank) (i : ℕ) → i < length rs → ((d : Rank) → P (slice_index_or rs i d)) → Some_one P (placed r rs)
+placed-keeps P r [] i inside p = absurd (omega (arith, inside))
+placed-keeps P r (s ∷ ss) zero inside p = keep-first P r s ss (placed r ss) (precedes s r) (p s)
+placed-keeps P r (s ∷ ss) (suc i) inside p =
+    keep-later P r s ss (placed r ss) (precedes s r) (i, omega (arith, inside), p) (placed-keeps P r ss i (omega (arith, inside)) p)
+
+slot-keeps : (P : Rank → Type 0) (r : Rank) (rs : List Rank) (b : Bool) → Some_one P rs → Some_one P (if b then placed r rs else rs)
+slot-keeps P r rs true (i, inside, p) = placed-keeps P r rs i inside p
+slot-keeps P r rs false one = one
+
+one-weaken : (P Q : Rank → Type 0) (rs : List Rank) → ((r : Rank) → P r → Q r) → Some_one P rs → Some_one Q rs
+one-weaken P Q rs f (i, inside, p) = (i, inside, λ d. f (slice_index_or rs i d) (p d))
+
+abbrev IsNumbered : ℕ → Rank → Type 0
+IsNumbered n r = r.number ≡ n
+
+none_not_some : {Y : Type 0} (o : Overlay) → None ≡ Some o → Y
+none_not_some {Y} o e = absurd (true≢false (ap is_none e))
+
+value : (a b : Overlay) → Some a ≡ Some b → a ≡ b
+value a b e = ap (λ (slot : Option Overlay). unwrap_or slot a) e
+
+behind : (test : Overlay → Bool) (n : ℕ) (slot : Option Overlay) (rs : List Rank) (k : ℕ) → Some_one (IsNumbered k) rs
+    → Some_one (IsNumbered k) (with_slot test n slot rs)
+behind test n None rs k one = one
+behind test n (Some o) rs k one = slot-keeps (IsNumbered k) (rank_of n o) rs (test o) one
+
+complete : (test : Overlay → Bool) (n j : ℕ) (slots : List (Option Overlay)) (o : Overlay) → overlay_at slots j ≡ Some o → test o ≡ true
+    → Some_one (IsNumbered (n + j)) (ranked_from test n slots)
+complete test n j [] o at passes = none_not_some o at
+complete test n zero (None ∷ slots) o at passes = none_not_some o at
+complete test n zero (Some other ∷ slots) o at passes =
+    let e : test other ≡ true = ap test (value other o at) ∙ passes in
+    let P = IsNumbered (n + 0) in
+    let rs = ranked_from test (suc n) slots in
+    let same : n ≡ n + 0 = omega arith in
+    subst (λ (b : Bool). Some_one P (if b then placed (rank_of n other) rs else rs)) (sym e) (placed-one P (rank_of n other) rs same)
+complete test n (suc j) (slot ∷ slots) o at passes =
+    let rs = ranked_from test (suc n) slots in
+    let same : suc n + j ≡ n + suc j = omega arith in
+    behind test n slot rs (n + suc j) (one-weaken (IsNumbered (suc n + j)) (IsNumbered (n + suc j)) rs (λ r e. e ∙ same) (complete test (suc n) j slots o at passes))
+
+each-at : (P : Rank → Type 0) (rs : List Rank) (i : ℕ) (d : Rank) → i < length rs → Each P rs → P (slice_index_or rs i d)
+each-at P [] i d inside h = absurd (omega (arith, inside))
+each-at P (r ∷ rs) zero d inside h = h.0
+each-at P (r ∷ rs) (suc i) d inside h = each-at P rs i d (omega (arith, inside)) h.1
+
+stands-passes : (test : Overlay → Bool) (slots : List (Option Overlay)) (r : Rank) (number : ℕ) → r.number ≡ number → Stands test 0 slots r
+    → Passes test (overlay_at slots number)
+stands-passes test slots r number e s =
+    let same : r.number - 0 ≡ number = omega (arith, e) in
+    subst (Passes test) (sym (ap (overlay_at slots) (sym same) ∙ s.at)) s.passes
+
+from-listing : (test : Overlay → Bool) (slots : List (Option Overlay)) (number : ℕ) → Contains (numbers_of test slots) number → Passes test (overlay_at slots number)
+from-listing test slots number (i, inside, at) =
+    let rs = ranked_from test 0 slots in
+    let d : Rank = record { priority = pos 0; number = number } in
+    let size = length-map rs number_of_rank in
+    let within : i < length rs = omega (arith, inside, size) in
+    stands-passes test slots (slice_index_or rs i d) number (sym (get_or-map number_of_rank rs i d number within) ∙ at)
+    (each-at (Stands test 0 slots) rs i d within (ranked-stand test 0 slots))
+
+listed : (test : Overlay → Bool) (slots : List (Option Overlay)) (number : ℕ) → Some_one (IsNumbered (0 + number)) (ranked_from test 0 slots)
+    → Contains (numbers_of test slots) number
+listed test slots number (i, inside, is) =
+    let rs = ranked_from test 0 slots in
+    let d : Rank = record { priority = pos 0; number = number } in
+    let size = length-map rs number_of_rank in
+    let same : 0 + number ≡ number = omega arith in
+    (i, omega (arith, inside, size), get_or-map number_of_rank rs i d number inside ∙ (is d ∙ same))
+
+to-listing : (test : Overlay → Bool) (slots : List (Option Overlay)) (number : ℕ) (slot : Option Overlay) → overlay_at slots number ≡ slot → Passes test slot
+    → Contains (numbers_of test slots) number
+to-listing test slots number None at passes = absurd passes
+to-listing test slots number (Some o) at passes = listed test slots number (complete test 0 number slots o at passes)
+
+pub exact : (test : Overlay → Bool) (slots : List (Option Overlay)) → HoldsExactly test slots (numbers_of test slots)
+exact test slots = λ number. (from-listing test slots number, to-listing test slots number (overlay_at slots number) refl)
+
+after-at : (r : Rank) (rs : List Rank) (j : ℕ) (d : Rank) → j < length rs → AllAfter precedes weak r rs → precedes r (slice_index_or rs j d) ≡ true
+after-at r [] j d inside h = absurd (omega (arith, inside))
+after-at r (s ∷ ss) zero d inside h = h.0
+after-at r (s ∷ ss) (suc j) d inside h = after-at r ss j d (omega (arith, inside)) h.1
+
+rises-at : (rs : List Rank) (i j : ℕ) (d : Rank) → i < j → j < length rs → Rises precedes weak rs → precedes (slice_index_or rs i d) (slice_index_or rs j d) ≡ true
+rises-at [] i j d p inside h = absurd (omega (arith, inside))
+rises-at (r ∷ rs) i zero d p inside h = absurd (omega (arith, p))
+rises-at (r ∷ rs) zero (suc j) d p inside h = after-at r rs j d (omega (arith, inside)) h.0
+rises-at (r ∷ rs) (suc i) (suc j) d p inside h = rises-at rs i j d (omega (arith, p)) (omega (arith, inside)) h.1
+
+same_rank : (r : Rank) (n : ℕ) (o : Overlay) → n ≡ r.number → r.priority ≡ o.priority → rank_of n o ≡ r
+same_rank r n o e p = (λ i. record { priority = sym p i; number = e i })
+
+rank-at : (test : Overlay → Bool) (slots : List (Option Overlay)) (i : ℕ) (d : Rank) (o : Overlay) → i < length (ranked_from test 0 slots)
+    → overlay_at slots (slice_index (numbers_of test slots) i) ≡ Some o
+    → rank_of (slice_index (numbers_of test slots) i) o ≡ slice_index_or (ranked_from test 0 slots) i d
+rank-at test slots i d o inside at =
+    let rs = ranked_from test 0 slots in
+    let r = slice_index_or rs i d in
+    let number : slice_index (numbers_of test slots) i ≡ r.number = get_or-map number_of_rank rs i d 0 inside in
+    let stands = each-at (Stands test 0 slots) rs i d inside (ranked-stand test 0 slots) in
+    let same : r.number - 0 ≡ r.number = omega arith in
+    let found : Some stands.overlay ≡ Some o = sym stands.at ∙ (ap (overlay_at slots) (same ∙ sym number) ∙ at) in
+    same_rank r (slice_index (numbers_of test slots) i) o number (stands.priority ∙ ap (λ (x : Overlay). x.priority) (value stands.overlay o found))
+
+pub ascends : (test : Overlay → Bool) (slots : List (Option Overlay)) → Ascends slots (numbers_of test slots)
+ascends test slots = λ i j a b p inside at_i at_j.
+    let rs = ranked_from test 0 slots in
+    let d : Rank = record { priority = pos 0; number = 0 } in
+    let size = length-map rs number_of_rank in
+    let within : j < length rs = omega (arith, inside, size) in
+    let first : i < length rs = omega (arith, p, within) in
+    let up = rises-at rs i j d p within (ranked-rises test 0 slots) in
+    let left = rank-at test slots i d a first at_i in
+    let right = rank-at test slots j d b within at_j in
+    ap (λ (r : Rank). precedes r (rank_of (slice_index (numbers_of test slots) j) b)) left
+    ∙ (ap (λ (r : Rank). precedes (slice_index_or rs i d) r) right ∙ up)

@@ -1,0 +1,196 @@
+-- What was found, once it is sorted, is the listing; and what a listing holds.
+use Rattle.std.proofs.Common.{◌≡◌, ℕ, suc, ◌<◌, ◌≤◌, Bool, true, false, not, ◌&&◌, if◌then◌else◌, List, [], ◌∷◌, ◌++◌, length, Option, None, Some, refl, sym, ap, ◌∙◌, arith, append-nil, true≢false}
+use Rattle.std.specs.Prelude.{⊤}
+use Rattle.std.specs.List.{filter}
+use Rattle.std.specs.List.Sorted.{ties, IsSortedBy}
+use Rattle.std.specs.Ordering.{is_lt, ordering_then, ordering_reverse, int_cmp, nat_cmp}
+use Rattle.std.specs.declared.cmp.Ordering.{Ordering}
+use Rattle.std.specs.declared.cmp.Ordering.TheVariants.{Less, Equal, Greater}
+use Rattle.std.specs.Cmp.{IsStrictWeakOrder, IsTotalOrder}
+use Rattle.std.proofs.lemmas.Cmp.{int_cmp_total, nat_cmp_total, then_total}
+use Rattle.std.specs.Cmp.{on_total}
+use Rattle.std.proofs.lemmas.Bool.Decides.{nat_tests}
+use Rattle.std.proofs.lemmas.List.Elements.{filter-append}
+use Rattle.std.proofs.lemmas.List.Sorted.{ranks_by}
+use Rattle.rd_overlays.specs.declared.overlay.Overlay.{Overlay}
+use Rattle.rd_overlays.specs.declared.listing.Rank.{Rank}
+use Rattle.rd_overlays.specs.Overlays.{precedes, placed, ranked_from}
+use Rattle.rd_overlays.specs.Listings.{rank_of, found_from}
+use Rattle.rd_overlays.proofs.Sorting.{AllAfter, Rises, rises-never_falls, sorted-never_falls, unique}
+
+order : IsTotalOrder (λ (a b : Rank). ordering_then (int_cmp a.priority b.priority) (nat_cmp a.number b.number))
+order = then_total (on_total (λ (r : Rank). r.priority) int_cmp_total) (on_total (λ (r : Rank). r.number) nat_cmp_total)
+
+pub weak : IsStrictWeakOrder precedes
+weak = ranks_by order (λ (r : Rank). r)
+
+by_number : (c : Ordering) (n m : ℕ) → n < m → is_lt (ordering_then c (nat_cmp m n)) ≡ false → is_lt (ordering_then (ordering_reverse c) (nat_cmp n m)) ≡ true
+by_number Less n m p e = absurd (true≢false e)
+by_number Equal n m p e = grind (arith, nat_tests)
+by_number Greater n m p e = refl
+
+apart : (r s : Rank) → r.number < s.number → precedes s r ≡ false → precedes r s ≡ true
+apart r s p e =
+    ap (λ (c : Ordering). is_lt (ordering_then c (nat_cmp r.number s.number))) (int_cmp_total.antisymm r.priority s.priority)
+    ∙ by_number (int_cmp s.priority r.priority) r.number s.number p e
+
+-- each number is as great as this one or greater
+abbrev NumbersFrom : ℕ → List Rank → Type 0
+NumbersFrom n [] = ⊤
+NumbersFrom n (r ∷ rs) = (n ≤ r.number) × NumbersFrom n rs
+
+numbers-weaken : (n m : ℕ) (rs : List Rank) → n ≤ m → NumbersFrom m rs → NumbersFrom n rs
+numbers-weaken n m [] p h = tt
+numbers-weaken n m (r ∷ rs) p h = (omega (arith, p, h.0), numbers-weaken n m rs p h.1)
+
+numbers-by : (n : ℕ) (r s : Rank) (ss more : List Rank) (b : Bool) → n ≤ r.number → NumbersFrom n (s ∷ ss) → NumbersFrom n more
+    → NumbersFrom n (if b then s ∷ more else r ∷ s ∷ ss)
+numbers-by n r s ss more true p h rest = (h.0, rest)
+numbers-by n r s ss more false p h rest = (p, h)
+
+placed-numbers : (n : ℕ) (r : Rank) (rs : List Rank) → n ≤ r.number → NumbersFrom n rs → NumbersFrom n (placed r rs)
+placed-numbers n r [] p h = (p, tt)
+placed-numbers n r (s ∷ ss) p h = numbers-by n r s ss (placed r ss) (precedes s r) p h (placed-numbers n r ss p h.1)
+
+slot-numbers : (test : Overlay → Bool) (n : ℕ) (o : Overlay) (rs : List Rank) (b : Bool) → NumbersFrom (suc n) rs
+    → NumbersFrom n (if b then placed (rank_of n o) rs else rs)
+slot-numbers test n o rs true h = placed-numbers n (rank_of n o) rs (omega arith) (numbers-weaken n (suc n) rs (omega arith) h)
+slot-numbers test n o rs false h = numbers-weaken n (suc n) rs (omega arith) h
+
+ranked-numbers : (test : Overlay → Bool) (n : ℕ) (slots : List (Option Overlay)) → NumbersFrom n (ranked_from test n slots)
+ranked-numbers test n [] = tt
+ranked-numbers test n (None ∷ slots) = numbers-weaken n (suc n) (ranked_from test (suc n) slots) (omega arith) (ranked-numbers test (suc n) slots)
+ranked-numbers test n (Some o ∷ slots) = slot-numbers test n o (ranked_from test (suc n) slots) (test o) (ranked-numbers test (suc n) slots)
+
+-- the order is kept when one more is placed
+after-by : (s r t : Rank) (ts more : List Rank) (b : Bool) → precedes s r ≡ true → AllAfter precedes weak s (t ∷ ts) → AllAfter precedes weak s more
+    → AllAfter precedes weak s (if b then t ∷ more else r ∷ t ∷ ts)
+after-by s r t ts more true p h rest = (h.0, rest)
+after-by s r t ts more false p h rest = (p, h)
+
+placed-after : (s r : Rank) (rs : List Rank) → precedes s r ≡ true → AllAfter precedes weak s rs → AllAfter precedes weak s (placed r rs)
+placed-after s r [] p h = (p, tt)
+placed-after s r (t ∷ ts) p h = after-by s r t ts (placed r ts) (precedes t r) p h (placed-after s r ts p h.1)
+
+chain-by : (r s t : Rank) (b : Bool) → precedes r t ≡ b → precedes r s ≡ true → precedes s t ≡ true → precedes r t ≡ true
+chain-by r s t true e p q = e
+chain-by r s t false e p q = absurd (true≢false (sym p ∙ weak.chain r t s e (weak.one_way s t q)))
+
+after-all : (r s : Rank) (ts : List Rank) → precedes r s ≡ true → AllAfter precedes weak s ts → AllAfter precedes weak r ts
+after-all r s [] p h = tt
+after-all r s (t ∷ ts) p h = (chain-by r s t (precedes r t) refl p h.0, after-all r s ts p h.1)
+
+rises-by : (r s : Rank) (ss : List Rank) (b : Bool) → precedes s r ≡ b → NumbersFrom (suc r.number) (s ∷ ss) → Rises precedes weak (s ∷ ss)
+    → Rises precedes weak (placed r ss) → Rises precedes weak (if b then s ∷ placed r ss else r ∷ s ∷ ss)
+rises-by r s ss true e h up rest = (placed-after s r ss e up.0, rest)
+rises-by r s ss false e h up rest =
+    let first : precedes r s ≡ true = apart r s (omega (arith, h.0)) e in
+    ((first, after-all r s ss first up.0), up)
+
+placed-rises : (r : Rank) (rs : List Rank) → NumbersFrom (suc r.number) rs → Rises precedes weak rs → Rises precedes weak (placed r rs)
+placed-rises r [] h up = (tt, tt)
+placed-rises r (s ∷ ss) h up = rises-by r s ss (precedes s r) refl h up (placed-rises r ss h.1 up.1)
+
+slot-rises : (test : Overlay → Bool) (n : ℕ) (o : Overlay) (rs : List Rank) (b : Bool) → NumbersFrom (suc n) rs → Rises precedes weak rs
+    → Rises precedes weak (if b then placed (rank_of n o) rs else rs)
+slot-rises test n o rs true h up = placed-rises (rank_of n o) rs h up
+slot-rises test n o rs false h up = up
+
+pub ranked-rises : (test : Overlay → Bool) (n : ℕ) (slots : List (Option Overlay)) → Rises precedes weak (ranked_from test n slots)
+ranked-rises test n [] = tt
+ranked-rises test n (None ∷ slots) = ranked-rises test (suc n) slots
+ranked-rises test n (Some o ∷ slots) =
+    slot-rises test n o (ranked_from test (suc n) slots) (test o) (ranked-numbers test (suc n) slots) (ranked-rises test (suc n) slots)
+
+-- what was found and the listing have the same elements
+tie-left : (a b : Bool) → (not a && not b) ≡ true → a ≡ false
+tie-left true b e = sym e
+tie-left false b e = refl
+
+tie-right : (a b : Bool) → (not a && not b) ≡ true → b ≡ false
+tie-right true b e = absurd (true≢false (sym e))
+tie-right false true e = sym e
+tie-right false false e = refl
+
+never_both : (x r s : Rank) (b : Bool) → r.number < s.number → ties precedes x r ≡ true → ties precedes x s ≡ b → b ≡ false
+never_both x r s false p t u = refl
+never_both x r s true p t u =
+    let xr = tie-left (precedes x r) (precedes r x) t in
+    let rx = tie-right (precedes x r) (precedes r x) t in
+    let xs = tie-left (precedes x s) (precedes s x) u in
+    let sx = tie-right (precedes x s) (precedes s x) u in
+    sym (apart r s p (weak.chain s x r sx xr)) ∙ weak.chain r x s rx xs
+
+no_other : (x r : Rank) (rs : List Rank) → NumbersFrom (suc r.number) rs → ties precedes x r ≡ true → filter (ties precedes x) rs ≡ []
+no_other x r [] h t = refl
+no_other x r (s ∷ ss) h t =
+    ap (λ (b : Bool). if b then s ∷ filter (ties precedes x) ss else filter (ties precedes x) ss)
+    (never_both x r s (ties precedes x s) (omega (arith, h.0)) t refl)
+    ∙ no_other x r ss h.1 t
+
+-- a filter that doesn't keep the one placed
+not_kept-by : (t : Rank → Bool) (r s : Rank) (ss more : List Rank) (b : Bool) → t r ≡ false → filter t more ≡ filter t ss
+    → filter t (if b then s ∷ more else r ∷ s ∷ ss) ≡ filter t (s ∷ ss)
+not_kept-by t r s ss more true e same = ap (λ (rest : List Rank). if t s then s ∷ rest else rest) same
+not_kept-by t r s ss more false e same = ap (λ (b : Bool). if b then r ∷ filter t (s ∷ ss) else filter t (s ∷ ss)) e
+
+not_kept : (t : Rank → Bool) (r : Rank) (rs : List Rank) → t r ≡ false → filter t (placed r rs) ≡ filter t rs
+not_kept t r [] e = ap (λ (b : Bool). if b then r ∷ [] else []) e
+not_kept t r (s ∷ ss) e = not_kept-by t r s ss (placed r ss) (precedes s r) e (not_kept t r ss e)
+
+-- a filter that keeps it alone
+alone-by : (t : Rank → Bool) (r s : Rank) (ss more : List Rank) (b : Bool) → t s ≡ false → t r ≡ true → filter t (s ∷ ss) ≡ []
+    → filter t more ≡ r ∷ [] → filter t (if b then s ∷ more else r ∷ s ∷ ss) ≡ r ∷ []
+alone-by t r s ss more true at e none rest = ap (λ (b : Bool). if b then s ∷ filter t more else filter t more) at ∙ rest
+alone-by t r s ss more false at e none rest =
+    ap (λ (b : Bool). if b then r ∷ filter t (s ∷ ss) else filter t (s ∷ ss)) e ∙ ap (λ (kept : List Rank). r ∷ kept) none
+
+none_kept : (t : Rank → Bool) (s : Rank) (ss : List Rank) (b : Bool) → t s ≡ b → filter t (s ∷ ss) ≡ [] → t s ≡ false
+none_kept t s ss true at none =
+    let kept : s ∷ filter t ss ≡ [] = sym (ap (λ (b : Bool). if b then s ∷ filter t ss else filter t ss) at) ∙ none in
+    absurd (omega (arith, ap length kept))
+none_kept t s ss false at none = at
+
+alone : (t : Rank → Bool) (r : Rank) (rs : List Rank) → t r ≡ true → filter t rs ≡ [] → filter t (placed r rs) ≡ r ∷ []
+alone t r [] e none = ap (λ (b : Bool). if b then r ∷ [] else []) e
+alone t r (s ∷ ss) e none =
+    let at = none_kept t s ss (t s) refl none in
+    let rest : filter t ss ≡ [] = sym (ap (λ (b : Bool). if b then s ∷ filter t ss else filter t ss) at) ∙ none in
+    alone-by t r s ss (placed r ss) (precedes s r) at e none (alone t r ss e rest)
+
+one_more : (x r : Rank) (rs found : List Rank) (b : Bool) → NumbersFrom (suc r.number) rs → filter (ties precedes x) rs ≡ filter (ties precedes x) found
+    → ties precedes x r ≡ b → filter (ties precedes x) (placed r rs) ≡ filter (ties precedes x) (found ++ r ∷ [])
+one_more x r rs found true h same e =
+    let t = ties precedes x in
+    let none = no_other x r rs h e in
+    alone t r rs e none
+    ∙ (sym (ap (λ (c : Bool). if c then r ∷ [] else []) e)
+    ∙ (ap (λ (front : List Rank). front ++ filter t (r ∷ [])) (sym (sym same ∙ none)) ∙ sym (filter-append t found (r ∷ []))))
+one_more x r rs found false h same e =
+    let t = ties precedes x in
+    not_kept t r rs e
+    ∙ (same
+    ∙ (sym (append-nil (filter t found))
+    ∙ (ap (λ (back : List Rank). filter t found ++ back) (sym (ap (λ (c : Bool). if c then r ∷ [] else []) e)) ∙ sym (filter-append t found (r ∷ [])))))
+
+slot_ties : (x : Rank) (n : ℕ) (o : Overlay) (rs found : List Rank) (b : Bool) → NumbersFrom (suc n) rs
+    → filter (ties precedes x) rs ≡ filter (ties precedes x) found
+    → filter (ties precedes x) (if b then placed (rank_of n o) rs else rs) ≡ filter (ties precedes x) (found ++ (if b then rank_of n o ∷ [] else []))
+slot_ties x n o rs found true h same = one_more x (rank_of n o) rs found (ties precedes x (rank_of n o)) h same refl
+slot_ties x n o rs found false h same = same ∙ ap (filter (ties precedes x)) (sym (append-nil found))
+
+ranked-ties : (test : Overlay → Bool) (n : ℕ) (slots : List (Option Overlay)) (x : Rank)
+    → filter (ties precedes x) (ranked_from test n slots) ≡ filter (ties precedes x) (found_from test n slots)
+ranked-ties test n [] x = refl
+ranked-ties test n (None ∷ slots) x =
+    ranked-ties test (suc n) slots x ∙ ap (filter (ties precedes x)) (sym (append-nil (found_from test (suc n) slots)))
+ranked-ties test n (Some o ∷ slots) x =
+    slot_ties x n o (ranked_from test (suc n) slots) (found_from test (suc n) slots) (test o) (ranked-numbers test (suc n) slots) (ranked-ties test (suc n) slots x)
+
+-- what was found is the listing once it is sorted
+pub sorted-is : (test : Overlay → Bool) (slots : List (Option Overlay)) (sorted : List Rank) → IsSortedBy precedes sorted
+    → ((x : Rank) → filter (ties precedes x) sorted ≡ filter (ties precedes x) (found_from test 0 slots)) → sorted ≡ ranked_from test 0 slots
+sorted-is test slots sorted rising stable =
+    unique precedes weak sorted (ranked_from test 0 slots) (sorted-never_falls precedes weak sorted rising)
+    (rises-never_falls precedes weak (ranked_from test 0 slots) (ranked-rises test 0 slots))
+    (λ x. stable x ∙ sym (ranked-ties test 0 slots x))

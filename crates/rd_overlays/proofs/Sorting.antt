@@ -1,0 +1,112 @@
+-- Two lists in one order, with the same elements, are equal.
+use Rattle.std.proofs.Common.{◌≡◌, ℕ, suc, ◌+◌, Bool, true, false, not, ◌&&◌, if◌then◌else◌, List, [], ◌∷◌, length, slice_index_or, drop, refl, sym, ap, ◌∙◌, arith, true≢false, subst}
+use Rattle.std.specs.Prelude.{⊤}
+use Rattle.std.specs.List.{filter}
+use Rattle.std.specs.List.Sorted.{ties, IsSortedBy}
+use Rattle.std.specs.Cmp.{IsStrictWeakOrder}
+
+module _ {X : Type 0} (lt : X → X → Bool) (o : IsStrictWeakOrder lt) where
+  -- x comes before each element
+  abbrev pub AllAfter : X → List X → Type 0
+  AllAfter x [] = ⊤
+  AllAfter x (y ∷ ys) = (lt x y ≡ true) × AllAfter x ys
+
+  abbrev pub Rises : List X → Type 0
+  Rises [] = ⊤
+  Rises (x ∷ xs) = AllAfter x xs × Rises xs
+
+  -- no element comes before x
+  abbrev pub NoneBefore : X → List X → Type 0
+  NoneBefore x [] = ⊤
+  NoneBefore x (y ∷ ys) = (lt y x ≡ false) × NoneBefore x ys
+
+  abbrev pub NeverFalls : List X → Type 0
+  NeverFalls [] = ⊤
+  NeverFalls (x ∷ xs) = NoneBefore x xs × NeverFalls xs
+
+  before-all : (x : X) (ys : List X) → AllAfter x ys → NoneBefore x ys
+  before-all x [] a = tt
+  before-all x (y ∷ ys) a = (o.one_way x y a.0, before-all x ys a.1)
+
+  pub rises-never_falls : (xs : List X) → Rises xs → NeverFalls xs
+  rises-never_falls [] r = tt
+  rises-never_falls (x ∷ xs) r = (before-all x xs r.0, rises-never_falls xs r.1)
+
+  on-before : (x y : X) (zs : List X) → lt y x ≡ false → NoneBefore y zs → NoneBefore x zs
+  on-before x y [] p n = tt
+  on-before x y (z ∷ zs) p n = (o.chain z y x n.0 p, on-before x y zs p n.1)
+
+  none-before : (x : X) (xs : List X) → IsSortedBy lt (x ∷ xs) → NeverFalls xs → NoneBefore x xs
+  none-before x [] s f = tt
+  none-before x (y ∷ ys) s f =
+      let first : lt y x ≡ false = s 0 x (omega arith) (omega arith) in
+      (first, on-before x y ys first f.0)
+
+  tail-sorted : (x : X) (xs : List X) → IsSortedBy lt (x ∷ xs) → IsSortedBy lt xs
+  tail-sorted x xs s k d low high =
+      let e : suc k + 1 ≡ suc (k + 1) = omega arith in
+      subst (λ (n : ℕ). lt (slice_index_or (x ∷ xs) n d) (slice_index_or xs k d) ≡ false) e (s (suc k) d (omega arith) (omega arith))
+
+  pub sorted-never_falls : (xs : List X) → IsSortedBy lt xs → NeverFalls xs
+  sorted-never_falls [] s = tt
+  sorted-never_falls (x ∷ xs) s =
+      let rest = sorted-never_falls xs (tail-sorted x xs s) in
+      (none-before x xs s rest, rest)
+
+  ties-cases : (a b : Bool) → a ≡ false → b ≡ false → (not a && not b) ≡ true
+  ties-cases a b p q = ap (λ (t : Bool). not t && not b) p ∙ ap (λ (t : Bool). not false && not t) q
+
+  self : (x : X) (a : Bool) → lt x x ≡ a → lt x x ≡ false
+  self x true e = o.one_way x x e
+  self x false e = e
+
+  ties-self : (x : X) → ties lt x x ≡ true
+  ties-self x = let e = self x (lt x x) refl in ties-cases (lt x x) (lt x x) e e
+
+  keep : (x : X) (xs : List X) (t : X → Bool) → t x ≡ true → filter t (x ∷ xs) ≡ x ∷ filter t xs
+  keep x xs t e = ap (λ (b : Bool). if b then x ∷ filter t xs else filter t xs) e
+
+  leave : (x : X) (xs : List X) (t : X → Bool) → t x ≡ false → filter t (x ∷ xs) ≡ filter t xs
+  leave x xs t e = ap (λ (b : Bool). if b then x ∷ filter t xs else filter t xs) e
+
+  -- what comes before the first ties with none
+  no_tie : (x y z : X) (a : Bool) → lt x y ≡ true → lt z y ≡ false → lt x z ≡ a → ties lt x z ≡ false
+  no_tie x y z true p q e = ap (λ (t : Bool). not t && not (lt z x)) e
+  no_tie x y z false p q e = absurd (true≢false (sym p ∙ o.chain x z y e q))
+
+  none_tie : (x y : X) (zs : List X) → lt x y ≡ true → NoneBefore y zs → filter (ties lt x) zs ≡ []
+  none_tie x y [] p n = refl
+  none_tie x y (z ∷ zs) p n = leave z zs (ties lt x) (no_tie x y z (lt x z) p n.0 refl) ∙ none_tie x y zs p n.1
+
+  none_of_all : (x y : X) (ys : List X) → lt x y ≡ true → NoneBefore y ys → filter (ties lt x) (y ∷ ys) ≡ []
+  none_of_all x y ys p n = leave y ys (ties lt x) (no_tie x y y (lt x y) p (self y (lt y y) refl) refl) ∙ none_tie x y ys p n
+
+  rest-ties : (x : X) (xs ys : List X) (z : X) (a : Bool) → ties lt z x ≡ a → filter (ties lt z) (x ∷ xs) ≡ filter (ties lt z) (x ∷ ys)
+      → filter (ties lt z) xs ≡ filter (ties lt z) ys
+  rest-ties x xs ys z true e h = ap (drop 1) (sym (keep x xs (ties lt z) e) ∙ (h ∙ keep x ys (ties lt z) e))
+  rest-ties x xs ys z false e h = sym (leave x xs (ties lt z) e) ∙ (h ∙ leave x ys (ties lt z) e)
+
+  empty_not_cons : {Y : Type 0} (y : X) (ys : List X) → y ∷ ys ≡ [] → Y
+  empty_not_cons {Y} y ys e = absurd (omega (arith, ap length e))
+
+  first_same : (x y : X) (xs ys : List X) → ties lt x y ≡ true → filter (ties lt x) (x ∷ xs) ≡ filter (ties lt x) (y ∷ ys) → x ≡ y
+  first_same x y xs ys e h =
+      ap (λ (zs : List X). slice_index_or zs 0 x) (sym (keep x xs (ties lt x) (ties-self x)) ∙ (h ∙ keep y ys (ties lt x) e))
+
+  both : (x y : X) (xs ys : List X) (a b : Bool) → NeverFalls (x ∷ xs) → NeverFalls (y ∷ ys)
+      → ((z : X) → filter (ties lt z) (x ∷ xs) ≡ filter (ties lt z) (y ∷ ys)) → lt x y ≡ a → lt y x ≡ b → x ≡ y
+  both x y xs ys true b f g h p q =
+      empty_not_cons x (filter (ties lt x) xs) (sym (keep x xs (ties lt x) (ties-self x)) ∙ (h x ∙ none_of_all x y ys p g.0))
+  both x y xs ys false true f g h p q =
+      empty_not_cons y (filter (ties lt y) ys) (sym (keep y ys (ties lt y) (ties-self y)) ∙ (sym (h y) ∙ none_of_all y x xs q f.0))
+  both x y xs ys false false f g h p q = first_same x y xs ys (ties-cases (lt x y) (lt y x) p q) (h x)
+
+  pub unique : (xs ys : List X) → NeverFalls xs → NeverFalls ys → ((z : X) → filter (ties lt z) xs ≡ filter (ties lt z) ys) → xs ≡ ys
+  unique [] [] f g h = refl
+  unique [] (y ∷ ys) f g h = empty_not_cons y (filter (ties lt y) ys) (sym (h y ∙ keep y ys (ties lt y) (ties-self y)))
+  unique (x ∷ xs) [] f g h = empty_not_cons x (filter (ties lt x) xs) (sym (keep x xs (ties lt x) (ties-self x)) ∙ h x)
+  unique (x ∷ xs) (y ∷ ys) f g h =
+      let same = both x y xs ys (lt x y) (lt y x) f g h refl refl in
+      let tails : (z : X) → filter (ties lt z) xs ≡ filter (ties lt z) ys
+      = λ z. rest-ties x xs ys z (ties lt z x) refl (h z ∙ ap (λ (w : X). filter (ties lt z) (w ∷ ys)) (sym same)) in
+      ap (λ (zs : List X). x ∷ zs) (unique xs ys f.1 g.1 tails) ∙ ap (λ (w : X). w ∷ ys) same

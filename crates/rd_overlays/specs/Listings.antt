@@ -1,0 +1,34 @@
+-- What a listing of overlays holds, and in which order.
+use Rattle.std.specs.Prelude.{◌≡◌, ℕ, suc, ◌<◌, ◌↔◌, Bool, true, if◌then◌else◌, List, [], ◌∷◌, ◌++◌, length, slice_index, Option, None, Some}
+use Rattle.std.specs.List.{Contains}
+use Rattle.rd_overlays.specs.declared.overlay.Overlay.{Overlay}
+use Rattle.rd_overlays.specs.declared.listing.Rank.{Rank}
+use Rattle.rd_overlays.specs.Overlays.{overlay_at, precedes}
+
+abbrev pub Passes : (Overlay → Bool) → Option Overlay → Type 0
+Passes test None = ⊥
+Passes test (Some overlay) = test overlay ≡ true
+
+-- a listing holds exactly the numbers of the overlays that live and pass a test
+abbrev pub HoldsExactly : (Overlay → Bool) → List (Option Overlay) → List ℕ → Type 0
+HoldsExactly test slots numbers = (number : ℕ) → Contains numbers number ↔ Passes test (overlay_at slots number)
+
+abbrev pub rank_of : ℕ → Overlay → Rank
+rank_of number overlay = record { priority = overlay.priority; number = number }
+
+-- each overlay of a listing comes before those behind it, so none stands in it twice
+abbrev pub Ascends : List (Option Overlay) → List ℕ → Type 0
+Ascends slots numbers =
+    (i j : ℕ) (a b : Overlay) → i < j → j < length numbers
+    → overlay_at slots (slice_index numbers i) ≡ Some a → overlay_at slots (slice_index numbers j) ≡ Some b
+    → precedes (rank_of (slice_index numbers i) a) (rank_of (slice_index numbers j) b) ≡ true
+
+-- an overlay that stands at a number and passes a test, alone
+abbrev pub rank_at : (Overlay → Bool) → ℕ → Option Overlay → List Rank
+rank_at test number None = []
+rank_at test number (Some overlay) = if test overlay then rank_of number overlay ∷ [] else []
+
+-- the overlays that pass a test, from the last number down to the given one
+abbrev pub found_from : (Overlay → Bool) → ℕ → List (Option Overlay) → List Rank
+found_from test number [] = []
+found_from test number (slot ∷ slots) = found_from test (suc number) slots ++ rank_at test number slot
