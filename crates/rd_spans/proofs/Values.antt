@@ -1,10 +1,10 @@
 -- What lists of runs say of a position.
-use Rattle.std.proofs.Common.{◌≡◌, ℕ, zero, suc, ◌+◌, ◌-◌, ◌<◌, ◌≤◌, min, max, add-one, nat_lt, nat_le, nat_eq, not, ◌&&◌, Bool, true, false, if◌then◌else◌, IsTrue, List, [], ◌∷◌, ◌++◌, take, drop, map, length, Option, None, Some, slice_index_or, slice_get, refl, drop-cons, ap, sym, ◌∙◌, subst, inl, inr, ◌⊎◌, arith}
+use Rattle.std.proofs.Common.{◌≡◌, ℕ, zero, suc, ◌+◌, ◌-◌, ◌<◌, ◌≤◌, min, max, add-one, nat_lt, nat_le, nat_eq, not, ◌&&◌, Bool, true, false, if◌then◌else◌, List, [], ◌∷◌, ◌++◌, take, drop, map, length, Option, None, Some, slice_index_or, refl, drop-cons, ap, sym, ◌∙◌, subst, inl, inr, arith}
 use Rattle.std.specs.List.{AllByRecursion}
-use Rattle.std.proofs.lemmas.Bool.{eqb-true, eq-eqb, lt-ltb, le-ltb, ltb-true, ltb-false, leb-true, leb-false, le-leb, lt-leb, cases_lt}
+use Rattle.std.proofs.lemmas.Bool.{eqb-true, eq-eqb, lt-ltb, le-ltb, leb-true, le-leb, lt-leb, cases_lt}
 use Rattle.std.proofs.lemmas.List.{take-append-drop, append_assoc}
 use Rattle.rd_spans.specs.declared.run.Run.{Run}
-use Rattle.rd_spans.specs.Runs.{value_at, ascends, put_at, opened_at, closed_at, CanMove, IsNextChange, same_value, edge, moved, closed, closed_run, position_of, differs}
+use Rattle.rd_spans.specs.Runs.{value_at, ascends, put_at, opened_at, closed_at, CanMove, IsNextChange, same_value, first_value, edge, joint, moved, closed, closed_run, position_of, differs}
 
 -- tests
 
@@ -208,16 +208,60 @@ ascends-drop k (r ∷ rs) (suc j) b h above =
     let parts = and-true (nat_le k r.end && nat_le r.end 4294967296) (ascends r.end rs) h in
     ascends-drop r.end rs j b parts.1 above
 
-ascends-edge : (a : ℕ) (u : Option ℕ) (run : Run) (back : List Run) (b : Bool) → same_value u run.value ≡ b → a ≤ run.end → run.end ≤ 4294967296 → ascends run.end back ≡ true → ascends a (edge a u run ++ back) ≡ true
-ascends-edge a u run back true s h k rest = rw s (rw (le-leb a run.end h, le-leb run.end 4294967296 k, rest) refl)
-ascends-edge a u run back false s h k rest =
-    rw s (rw (le-leb a a (omega arith), le-leb a 4294967296 (omega (arith, h, k)), le-leb a run.end h, le-leb run.end 4294967296 k, rest) refl)
+-- a run whose value stands behind it anyhow
+
+value-suffix : (f xs ys : List Run) (p : ℕ) → value_at xs p ≡ value_at ys p → value_at (f ++ xs) p ≡ value_at (f ++ ys) p
+value-suffix [] xs ys p e = e
+value-suffix (r ∷ rs) xs ys p e = ap (λ (v : Option ℕ). if nat_lt p r.end then r.value else v) (value-suffix rs xs ys p e)
+
+needless : (run : Run) (back : List Run) (p : ℕ) → first_value back ≡ run.value → ascends run.end back ≡ true → value_at back p ≡ value_at (run ∷ back) p
+needless run [] p e h =
+    elim (cases_lt p run.end) as (λ x. value_at [] p ≡ value_at (run ∷ []) p) [
+      | inl k ↦ rw (lt-ltb p run.end k) e
+      | inr k ↦ rw (le-ltb p run.end k) refl
+    ]
+needless run (r ∷ rs) p e h =
+    let parts = and-true (nat_le run.end r.end && nat_le r.end 4294967296) (ascends r.end rs) h in
+    let low = leb-true run.end r.end (and-true (nat_le run.end r.end) (nat_le r.end 4294967296) parts.0).0 in
+    elim (cases_lt p run.end) as (λ x. value_at (r ∷ rs) p ≡ value_at (run ∷ r ∷ rs) p) [
+      | inl k ↦ rw (lt-ltb p run.end k, lt-ltb p r.end (omega (arith, k, low))) e
+      | inr k ↦ rw (le-ltb p run.end k) refl
+    ]
+
+joint-by : (f : List Run) (first run : Run) (back : List Run) (p : ℕ) (b c : Bool) → (c ≡ true → value_at back p ≡ value_at (run ∷ back) p)
+    → value_at ((f ++ ((if b then [] else first ∷ []) ++ (if c then [] else run ∷ []))) ++ back) p
+    ≡ value_at ((f ++ (if b then run ∷ [] else first ∷ run ∷ [])) ++ back) p
+joint-by f first run back p true true h =
+    ap (λ (rs : List Run). value_at rs p) (append_assoc f [] back)
+    ∙ (value-suffix f back (run ∷ back) p (h refl) ∙ ap (λ (rs : List Run). value_at rs p) (sym (append_assoc f (run ∷ []) back)))
+joint-by f first run back p true false h = refl
+joint-by f first run back p false true h =
+    ap (λ (rs : List Run). value_at rs p) (append_assoc f (first ∷ []) back)
+    ∙ (value-suffix f (first ∷ back) (first ∷ run ∷ back) p (ap (λ (v : Option ℕ). if nat_lt p first.end then first.value else v) (h refl))
+    ∙ ap (λ (rs : List Run). value_at rs p) (sym (append_assoc f (first ∷ run ∷ []) back)))
+joint-by f first run back p false false h = refl
+
+pub joint-values : (f : List Run) (a : ℕ) (u : Option ℕ) (run : Run) (back : List Run) (p : ℕ) → ascends run.end back ≡ true
+    → value_at ((f ++ joint a u run (first_value back)) ++ back) p ≡ value_at ((f ++ edge a u run) ++ back) p
+joint-values f a u run back p h =
+    joint-by f (record { end = a; value = u }) run back p (same_value u run.value) (same_value (first_value back) run.value)
+    (λ s. needless run back p (same_value-true (first_value back) run.value s) h)
+
+ascends-joint : (a : ℕ) (first run : Run) (back : List Run) (b c : Bool) → first.end ≡ a → a ≤ run.end → run.end ≤ 4294967296 → ascends run.end back ≡ true
+    → ascends a (((if b then [] else first ∷ []) ++ (if c then [] else run ∷ [])) ++ back) ≡ true
+ascends-joint a first run back true true e h k rest = ascends-lower a run.end back h rest
+ascends-joint a first run back true false e h k rest = rw (le-leb a run.end h, le-leb run.end 4294967296 k, rest) refl
+ascends-joint a first run back false true e h k rest =
+    rw (e, le-leb a a (omega arith), le-leb a 4294967296 (omega (arith, h, k)), ascends-lower a run.end back h rest) refl
+ascends-joint a first run back false false e h k rest =
+    rw (e, le-leb a a (omega arith), le-leb a 4294967296 (omega (arith, h, k)), le-leb a run.end h, le-leb run.end 4294967296 k, rest) refl
 
 pub joined-ascends : (es : List Run) (i a : ℕ) (u : Option ℕ) (run : Run) (back : List Run) → ascends 0 es ≡ true → AllByRecursion (λ r. r.end < a) (take i es) → a ≤ run.end → run.end ≤ 4294967296 → ascends run.end back ≡ true
-    → ascends 0 ((take i es ++ edge a u run) ++ back) ≡ true
+    → ascends 0 ((take i es ++ joint a u run (first_value back)) ++ back) ≡ true
 joined-ascends es i a u run back h below low high rest =
-    ap (ascends 0) (append_assoc (take i es) (edge a u run) back)
-    ∙ ascends-join 0 es i a (edge a u run ++ back) h below (omega arith) (ascends-edge a u run back (same_value u run.value) refl low high rest)
+    ap (ascends 0) (append_assoc (take i es) (joint a u run (first_value back)) back)
+    ∙ ascends-join 0 es i a (joint a u run (first_value back) ++ back) h below (omega arith)
+    (ascends-joint a (record { end = a; value = u }) run back (same_value u run.value) (same_value (first_value back) run.value) refl low high rest)
 
 -- positions that are opened
 
@@ -258,7 +302,7 @@ opened-values es i j pos n u p small can below above e under =
       ]
     ]
 
-ascends-moved : (k n : ℕ) (zs : List Run) → ascends k zs ≡ true → ascends (min (k + n) 4294967296) (map (moved n) zs) ≡ true
+pub ascends-moved : (k n : ℕ) (zs : List Run) → ascends k zs ≡ true → ascends (min (k + n) 4294967296) (map (moved n) zs) ≡ true
 ascends-moved k n [] h = refl
 ascends-moved k n (r ∷ zs) h =
     let parts = and-true (nat_le k r.end && nat_le r.end 4294967296) (ascends r.end zs) h in
@@ -268,7 +312,7 @@ ascends-moved k n (r ∷ zs) h =
 
 pub opened-ascends : (es : List Run) (i j pos n : ℕ) (u : Option ℕ) → pos < 4294967296 → ascends 0 es ≡ true
     → AllByRecursion (λ r. r.end < pos) (take i es) → AllByRecursion (λ r. pos + 1 ≤ r.end) (drop j es)
-    → let run : Run = record { end = min (pos + n) 4294967296; value = None } in ascends 0 ((take i es ++ edge pos u run) ++ map (moved n) (drop j es)) ≡ true
+    → let run : Run = record { end = min (pos + n) 4294967296; value = None } in ascends 0 ((take i es ++ joint pos u run (first_value (map (moved n) (drop j es)))) ++ map (moved n) (drop j es)) ≡ true
 opened-ascends es i j pos n u small order below over =
     let run : Run = record { end = min (pos + n) 4294967296; value = None } in
     joined-ascends es i pos u run (map (moved n) (drop j es)) order below (omega (arith, small)) (omega arith) (ascends-moved pos n (drop j es) (ascends-drop 0 es j pos order over))
@@ -388,9 +432,11 @@ pub found-none : (es : List Run) (i p : ℕ) → ((k : ℕ) (d : Run) → k < i 
 found-none es i p below h =
     sym (sym (value-behind es i (p + 1) p (omega arith) (front-below es i (p + 1) below)) ∙ ap (λ (xs : List Run). value_at xs p) (drop-past es i h))
 
-pub same-parts : (f g m b d : List Run) → f ≡ g → b ≡ d → (f ++ m) ++ b ≡ (g ++ m) ++ d
-same-parts f g m b d h k = rw (h, k) refl
+pub same-parts : (f g : List Run) (a : ℕ) (u : Option ℕ) (run : Run) (b d : List Run) → f ≡ g → b ≡ d
+    → (f ++ joint a u run (first_value b)) ++ b ≡ (g ++ joint a u run (first_value d)) ++ d
+same-parts f g a u run b d h k = rw (h, k) refl
 
 pub opened-parts : (f g : List Run) (a : ℕ) (u : Option ℕ) (end stop : ℕ) (b d : List Run) → f ≡ g → end ≡ stop → b ≡ d
-    → let run : Run = record { end = end; value = None } in let last : Run = record { end = stop; value = None } in (f ++ edge a u run) ++ b ≡ (g ++ edge a u last) ++ d
+    → let run : Run = record { end = end; value = None } in let last : Run = record { end = stop; value = None } in
+    (f ++ joint a u run (first_value b)) ++ b ≡ (g ++ joint a u last (first_value d)) ++ d
 opened-parts f g a u end stop b d h i k = rw (h, i, k) refl

@@ -1,5 +1,5 @@
 -- Values of positions, as runs: a position has the value of the first run that ends behind it.
-use Rattle.std.specs.Prelude.{◌≡◌, ℕ, ◌+◌, ◌-◌, ◌<◌, ◌≤◌, min, max, nat_lt, nat_le, nat_eq, not, ◌&&◌, Bool, true, false, if◌then◌else◌, IsTrue, List, [], ◌∷◌, ◌++◌, map, Option, None, Some}
+use Rattle.std.specs.Prelude.{◌≡◌, ℕ, ◌+◌, ◌-◌, ◌<◌, min, max, nat_lt, nat_le, nat_eq, not, ◌&&◌, Bool, true, false, if◌then◌else◌, List, [], ◌∷◌, ◌++◌, Option, None, Some}
 use Rattle.rd_spans.specs.declared.run.Run.{Run}
 
 -- the value of a position, and None where it has none
@@ -45,6 +45,17 @@ same_value a b = false
 abbrev pub edge : ℕ → Option ℕ → Run → List Run
 edge from before run =
     if same_value before run.value then run ∷ [] else record { end = from; value = before } ∷ run ∷ []
+
+-- the value at which runs begin, None where there is none
+abbrev pub first_value : List Run → Option ℕ
+first_value [] = None
+first_value (r ∷ rs) = r.value
+
+-- the same where runs with this value follow: where it is the run's own they reach forward to its place
+abbrev pub joint : ℕ → Option ℕ → Run → Option ℕ → List Run
+joint from before run behind =
+    (if same_value before run.value then [] else record { end = from; value = before } ∷ [])
+    ++ (if same_value behind run.value then [] else run ∷ [])
 
 -- a run's end after so many positions were opened before it
 abbrev pub moved : ℕ → Run → Run

@@ -1,7 +1,7 @@
 //! Sorted runs: a search, and the lists that edits make of them.
-ghost use Rattle.std.specs.Prelude.{◌≡◌, ℕ, ◌+◌, ◌-◌, ◌<◌, ◌≤◌, ◌++◌, ◌∷◌, [], length, take, drop, map, IsTrue, IfOk, OnOk, slice_index_or, min};
+ghost use Rattle.std.specs.Prelude.{◌≡◌, ℕ, ◌+◌, ◌-◌, ◌<◌, ◌≤◌, ◌++◌, ◌∷◌, [], length, take, drop, map, IsTrue, IfOk, OnOk, slice_index_or, min, if◌then◌else◌};
 ghost use Rattle.rd_spans.specs.declared.run.Run.{Run};
-ghost use Rattle.rd_spans.specs.Runs.{value_at, ascends, same_value, edge, moved, closed, closed_run, put_at, opened_at, closed_at, CanMove, IsNextChange, position_of, differs};
+ghost use Rattle.rd_spans.specs.Runs.{value_at, ascends, same_value, first_value, joint, moved, closed, closed_run, put_at, opened_at, closed_at, CanMove, IsNextChange, position_of, differs};
 
 use crate::run::Run;
 use rd_base::Memory;
@@ -43,20 +43,43 @@ fn same_value(a: Option<u32>, b: Option<u32>) -> bool
     }
 }
 
-/// Adds a run, and before it the end of the value that stands before a position, where that is another.
-fn add_edge(runs: &mut Vec<Run>, from: u64, before: Option<u32>, run: Run) -> Result<(), Memory>
-    ensures { OnOk result (runs.new.items ≡ runs.old.items ++ edge from before run) }
+/// The value at which runs begin, and None where there is no run.
+fn first_value(runs: &[Run]) -> Option<u32>
+    ensures { result ≡ first_value runs.now }
 {
-    if same_value(before, run.value) {
-        runs.push(run)?;
-        return Ok(());
+    match runs.first() {
+        Some(run) => run.value,
+        None => None,
     }
-    runs.push(Run {
+}
+
+/// Adds a run unless its value stands there anyhow.
+fn add_unless(runs: &mut Vec<Run>, stands: bool, run: Run) -> Result<(), Memory>
+    ensures { OnOk result (runs.new.items ≡ runs.old.items ++ (if stands then [] else run ∷ [])) }
+{
+    if !stands {
+        runs.push(run)?;
+    }
+    Ok(())
+}
+
+/// Adds a run between the values that stand before and behind it, and first the end of the one before. Where one of them is
+/// its own no end stands between.
+fn add_joint(
+    runs: &mut Vec<Run>,
+    from: u64,
+    before: Option<u32>,
+    run: Run,
+    behind: Option<u32>,
+) -> Result<(), Memory>
+    ensures { OnOk result (runs.new.items ≡ runs.old.items ++ joint from before run behind) }
+{
+    let edge = Run {
         end: from,
         value: before,
-    })?;
-    runs.push(run)?;
-    Ok(())
+    };
+    add_unless(runs, same_value(before, run.value), edge)?;
+    add_unless(runs, same_value(behind, run.value), run)
 }
 
 /// The first runs.
@@ -84,10 +107,10 @@ fn joined(
     run: Run,
     back: &[Run],
 ) -> Result<Vec<Run>, Memory>
-    ensures { IfOk result (λ runs. runs.items ≡ (front.now ++ edge from before run) ++ back.now) }
+    ensures { IfOk result (λ runs. runs.items ≡ (front.now ++ joint from before run (first_value back.now)) ++ back.now) }
 {
     let mut runs = Vec::from_slice(alloc, front)?;
-    add_edge(&mut runs, from, before, run)?;
+    add_joint(&mut runs, from, before, run, first_value(back))?;
     runs.extend_from_slice(back)?;
     Ok(runs)
 }

@@ -10,7 +10,8 @@ fn values_are_put(rt: HostRuntime) -> Result<(), Fail> {
     assert_eq!(rt; spans.at(1), None);
     assert_eq!(rt; spans.at(4), Some(7));
     assert_eq!(rt; spans.next_change(1), Some(2));
-    assert_eq!(rt; spans.next_change(2), Some(5));
+    spans.put(1, 2, Some(7))?;
+    assert_eq!(rt; spans.next_change(1), Some(5));
     Ok(())
 }
 
@@ -18,8 +19,11 @@ fn values_are_put(rt: HostRuntime) -> Result<(), Fail> {
 fn positions_are_opened(rt: HostRuntime) -> Result<(), Fail> {
     let mut spans = Spans::new(rt.alloc())?;
     spans.inserted(1, 2)?;
-    assert_eq!(rt; spans.at(1), None);
     assert_eq!(rt; spans.next_change(1), None);
+    spans.put(2, 4, Some(7))?;
+    spans.inserted(3, 2)?;
+    assert_eq!(rt; spans.at(4), None);
+    assert_eq!(rt; spans.at(5), Some(7));
     Ok(())
 }
 

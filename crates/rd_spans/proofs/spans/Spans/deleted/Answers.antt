@@ -1,4 +1,4 @@
-use Rattle.std.proofs.Common.{◌≡◌, List, map, ap, sym, ◌∙◌}
+use Rattle.std.proofs.Common.{List, map, ap, ◌∙◌}
 use Rattle.rd_spans.specs.declared.run.Run.{Run}
 use Rattle.rd_spans.specs.Runs.{value_at, ascends, closed_run}
 use Rattle.rd_spans.proofs.Values.{closed-values, closed-ascends}
