@@ -1,6 +1,7 @@
 //! Bounds of the edges of some overlays.
-ghost use Rattle.std.specs.Prelude.{◌≡◌, Option, ◌≤◌};
+ghost use Rattle.std.specs.Prelude.{◌≡◌, Option, ◌≤◌, IsTrue};
 ghost use Rattle.rd_overlays.specs.declared.overlay.Overlay.{Overlay};
+ghost use Rattle.rd_overlays.specs.Overlays.{lesser, slot_edge};
 ghost use Rattle.rd_overlays.specs.Bounds.{SlotHolds, bounds_grown, bounds_shrunk};
 
 use crate::overlay::{Overlay, after_deletion};
@@ -52,5 +53,18 @@ pub(crate) fn bounds_shrunk(from: Pos, to: Pos, bounds: Bounds) -> Bounds
     Bounds {
         low: after_deletion(from, to, bounds.low),
         high: after_deletion(from, to, bounds.high),
+    }
+}
+
+/// Whether none of the overlays within the bounds has an edge that stands behind a position and before the least so far.
+pub(crate) fn has_no_lesser_edge(bounds: Bounds, pos: Pos, least: Option<Pos>) -> bool
+    ensures { IsTrue result → (slot : Option Overlay) → SlotHolds bounds slot → lesser least (slot_edge pos slot) ≡ least }
+{
+    if bounds.high <= pos {
+        return true;
+    }
+    match least {
+        None => false,
+        Some(edge) => edge <= bounds.low,
     }
 }

@@ -2,6 +2,7 @@
 #![tactic(auto)]
 
 mod bounds;
+mod edges;
 mod fault;
 mod laws;
 mod listing;

@@ -1,7 +1,8 @@
 //! All overlays of a buffer.
 ghost use Rattle.std.specs.Prelude.{◌≡◌, ◌≤◌, ◌<◌, OnSome, length};
-ghost use Rattle.rd_overlays.specs.Overlays.{overlay_at, live, lesser, beyond, next_edge, slot_edge};
+ghost use Rattle.rd_overlays.specs.Overlays.{overlay_at};
 
+use crate::edges::next_edge;
 use crate::fault::OverlayFault;
 use crate::listing::listed;
 use crate::overlay::{Kind, Meeting, Overlay};
@@ -165,11 +166,12 @@ impl Overlays {
         listed(self.alloc, &self.slots, Meeting::Ends, pos)
     }
 
-    /// The least start or end after a position, and None where there is none. Costs a pass over all overlays.
+    /// The least start or end after a position, and None where there is none. Costs a pass over the bounds of all blocks, and
+    /// over each block in which a start or an end may stand behind the position and before the least of the blocks so far.
     pub fn next_edge(&self, pos: Pos) -> Option<Pos>
         ensures { result ≡ next_edge pos self.now }
     {
-        next_edge(self.slots.as_slice(), pos)
+        next_edge(&self.slots, pos)
     }
 
     /// Moves the overlays with `n` characters that were inserted at a position. A start or an end behind the position moves; a
@@ -202,47 +204,4 @@ fn overlay_at(slots: &[Option<Overlay>], number: u32) -> Option<Overlay>
     } else {
         None
     }
-}
-
-/// The lesser of two positions that may be missing.
-fn lesser(a: Option<Pos>, b: Option<Pos>) -> Option<Pos>
-    ensures { result ≡ lesser a b }
-{
-    match a {
-        None => b,
-        Some(x) => match b {
-            None => Some(x),
-            Some(y) => Some(x.min(y)),
-        },
-    }
-}
-
-/// An edge where it stands after a position.
-fn beyond(pos: Pos, edge: Pos) -> Option<Pos>
-    ensures { result ≡ beyond pos edge }
-{
-    if pos < edge { Some(edge) } else { None }
-}
-
-/// The least edge of one overlay after a position.
-fn slot_edge(pos: Pos, slot: Option<Overlay>) -> Option<Pos>
-    ensures { result ≡ slot_edge pos slot }
-{
-    match slot {
-        None => None,
-        Some(overlay) => lesser(beyond(pos, overlay.from), beyond(pos, overlay.to)),
-    }
-}
-
-/// The least edge of all overlays after a position.
-fn next_edge(slots: &[Option<Overlay>], pos: Pos) -> Option<Pos>
-    ensures { result ≡ next_edge pos slots.now }
-{
-    let mut least = None;
-    let mut i = slots.len();
-    while 0 < i {
-        i -= 1;
-        least = lesser(slot_edge(pos, slots[i]), least);
-    }
-    least
 }

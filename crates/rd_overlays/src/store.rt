@@ -3,7 +3,7 @@ ghost use Rattle.std.specs.Prelude.{◌≡◌, ◌<◌, ◌≤◌, ◌*◌, ◌+
 ghost use Rattle.rd_overlays.specs.declared.overlay.Overlay.{Overlay};
 ghost use Rattle.rd_overlays.specs.Bounds.{IsBounded};
 
-use crate::bounds::{Bounds, widened};
+use crate::bounds::{Bounds, has_no_lesser_edge, widened};
 use crate::moves::{grow_bounds, grow_slots, shrink_bounds, shrink_slots};
 use crate::overlay::Overlay;
 use rd_base::{ListOf, Memory, Pos};
@@ -35,7 +35,7 @@ impl Model for Store {
 impl Store {
     ghost use Rattle.std.specs.Prelude.{◌≡◌, ℕ, ◌≤◌, ◌<◌, ◌++◌, ◌∷◌, [], length, map, Option, Some, None, OnOk, OnErr, slice_set, slice_get};
     ghost use Rattle.rd_overlays.specs.declared.overlay.Overlay.{Overlay};
-    ghost use Rattle.rd_overlays.specs.Overlays.{AllFit, slot_grown, slot_shrunk};
+    ghost use Rattle.rd_overlays.specs.Overlays.{AllFit, lesser, slot_edge, slot_grown, slot_shrunk};
     ghost use Rattle.rd_overlays.specs.Bounds.{IsAway, IsBounded};
 
     pub(crate) fn new(alloc: Global) -> Store
@@ -115,6 +115,20 @@ impl Store {
         }
         if bounds.high < pos {
             return block * BLOCK;
+        }
+        number
+    }
+
+    /// The number up to which a search for an edge behind a position, before the least so far, can go at once.
+    pub(crate) fn skip_edges(&self, number: usize, pos: Pos, least: Option<Pos>) -> usize
+        requires { number < length self.now }
+        ensures low { number ≤ result }
+        ensures high { result ≤ length self.now }
+        ensures idle { (k : ℕ) (slot : Option Overlay) → number ≤ k → k < result → slice_get self.now k ≡ Some slot → lesser least (slot_edge pos slot) ≡ least }
+    {
+        let block = number / BLOCK;
+        if has_no_lesser_edge(self.bounds.at(block), pos, least) {
+            return self.slots.len().min((block * BLOCK).saturating_add(BLOCK));
         }
         number
     }
