@@ -16,6 +16,7 @@ pub enum FileFault {
     /// It has more than 8,388,608 bytes.
     #[error("the file is too large")]
     TooLarge,
+    /// Memory was wanting.
     #[error("no memory")]
     Memory,
 }
@@ -37,7 +38,12 @@ const LARGEST: usize = 8_388_608;
 /// How many bytes are fetched at a time.
 const ROOM: usize = 65_536;
 
-/// Reads a file whole.
+/// Reads the file of a name whole, piece after piece until a fetch answers that there is no more. What `files` tells of
+/// contents stays the same.
+///
+/// `Failed` comes only where a fetch of this name failed, as for a file that is not there, and its count of faults rose in the
+/// call. `TooLarge` comes exactly where the file has more than 8,388,608 bytes; it is then read no further. The cost is linear in
+/// the bytes that are read, and so is the memory.
 pub fn read_file<F: Files>(alloc: Global, files: &mut F, name: &str) -> Result<Vec<u8>, FileFault>
     ensures whole { IfOk result (λ bytes. IfSome (F.contents files.old name.now) (λ file. bytes.items ≡ file)) }
     ensures small { IfOk result (λ bytes. length bytes.items ≤ 8388608) }

@@ -29,7 +29,7 @@ impl Model for LevelCache {
 }
 
 impl LevelCache {
-    /// The levels of a line of no character.
+    /// The levels of a line of no character. It takes no room before the first line is filled.
     pub fn new(alloc: Global) -> Result<LevelCache, Memory>
         ensures { IfOk result (λ cache. cache ≡ []) }
     {
@@ -41,7 +41,7 @@ impl LevelCache {
     }
 
     /// Becomes the levels of a line of these classes with a base level of 0 or 1, by rules X1 to L1 of UAX 9 without paired
-    /// brackets. An error leaves the levels as they were. The cost is linear in the line.
+    /// brackets. Its one error is want of memory, which leaves the levels as they were. The cost is linear in the line.
     pub fn fill(&mut self, classes: &[Class], base: u8) -> Result<(), Memory>
         requires short { length classes.now < 2 ^ 32 }
         requires base { base ≤ 1 }
@@ -53,7 +53,7 @@ impl LevelCache {
         Ok(())
     }
 
-    /// The level of a character, counted from 0.
+    /// The level of the character at an index, counted from 0. The cost is constant, as is that of `len` and `levels`.
     pub fn level(&self, i: usize) -> u8
         requires { i < length self.now }
         ensures { slice_get self.now i ≡ Some result }
@@ -68,7 +68,7 @@ impl LevelCache {
         self.shown.levels.len()
     }
 
-    /// All levels.
+    /// The level of each character, in the order of the line.
     pub fn levels(&self) -> &[u8]
         ensures { result.now ≡ self.now }
     {

@@ -1,10 +1,126 @@
-//! Levels that were worked out by hand.
-ghost use Rattle.std.specs.Prelude.{◌≡◌, ◌+◌, ◌<◌, ◌^◌, length, IfOk};
+//! Levels and visual orders against those that were worked out apart from this program.
+ghost use Rattle.std.specs.Prelude.{◌≡◌, ◌+◌, ◌<◌, ◌≤◌, ◌^◌, length, IfOk};
+
+mod table;
 
 use super::*;
 use rd_base::{Class, ListOf, Memory};
+use rd_order::Visual;
 use std::alloc::Global;
 use std::test::Fail;
+
+#[test]
+fn lines_of_the_table(rt: HostRuntime) -> Result<(), Fail> {
+    let mut cache = LevelCache::new(rt.alloc())?;
+    for row in table::LINES.lines() {
+        assert!(rt; agrees(rt.alloc(), &mut cache, row)?, "{row}");
+    }
+    Ok(())
+}
+
+/// Whether the cache and a walk give the levels and the order that a row of the table tells.
+fn agrees(alloc: Global, cache: &mut LevelCache, row: &str) -> Result<bool, Memory> {
+    let Some((base, classes, levels, order)) = fields(row) else {
+        return Ok(false);
+    };
+    let base = if base == "0" { 0 } else { 1 };
+    let classes = classes_of(alloc, classes)?;
+    if classes.len() > 1000 {
+        return Ok(false);
+    }
+    cache.fill(classes.as_slice(), base)?;
+    Ok(are_levels(cache.levels(), levels) && is_order(cache.levels(), base, order))
+}
+
+/// The four fields of a row: the base, the classes, the levels and the order.
+fn fields(row: &str) -> Option<(&str, &str, &str, &str)> {
+    let (base, row) = row.split_once(" | ")?;
+    let (classes, row) = row.split_once(" | ")?;
+    let (levels, order) = row.split_once(" | ")?;
+    Some((base, classes, levels, order))
+}
+
+/// Whether these are the levels that a text lists.
+fn are_levels(levels: &[u8], text: &str) -> bool {
+    let mut rest = levels;
+    for word in text.split_whitespace() {
+        match rest.split_first() {
+            Some((level, more)) if word.parse() == Ok(*level) => rest = more,
+            _ => return false,
+        }
+    }
+    rest.is_empty()
+}
+
+/// Whether a walk through these levels gives the indexes that a text lists, and no other.
+fn is_order(levels: &[u8], base: u8, text: &str) -> bool
+    requires { base ≤ 1 }
+{
+    let mut walk = Visual::start(levels, base);
+    for word in text.split_whitespace() {
+        let Ok(index) = word.parse::<usize>() else {
+            return false;
+        };
+        if walk.next(levels) != Some(index) {
+            return false;
+        }
+    }
+    walk.next(levels).is_none()
+}
+
+/// The classes that a text lists by their names, up to the first word that is none.
+fn classes_of(alloc: Global, text: &str) -> Result<ListOf<Class>, Memory> {
+    let mut classes = ListOf::new(alloc);
+    for word in text.split_whitespace() {
+        match class_named(word) {
+            Some(class) => classes.push(class)?,
+            None => return Ok(classes),
+        }
+    }
+    Ok(classes)
+}
+
+/// The class of a name.
+fn class_named(name: &str) -> Option<Class> {
+    match name {
+        "L" => Some(Class::L),
+        "R" => Some(Class::R),
+        "AL" => Some(Class::AL),
+        "EN" => Some(Class::EN),
+        "ES" => Some(Class::ES),
+        "ET" => Some(Class::ET),
+        "AN" => Some(Class::AN),
+        "CS" => Some(Class::CS),
+        "NSM" => Some(Class::NSM),
+        "BN" => Some(Class::BN),
+        "B" => Some(Class::B),
+        "S" => Some(Class::S),
+        "WS" => Some(Class::WS),
+        "ON" => Some(Class::ON),
+        "LRE" => Some(Class::LRE),
+        "LRO" => Some(Class::LRO),
+        "RLE" => Some(Class::RLE),
+        "RLO" => Some(Class::RLO),
+        "PDF" => Some(Class::PDF),
+        "LRI" => Some(Class::LRI),
+        "RLI" => Some(Class::RLI),
+        "FSI" => Some(Class::FSI),
+        "PDI" => Some(Class::PDI),
+        _ => None,
+    }
+}
+
+#[test]
+fn a_line_takes_the_place_of_another(rt: HostRuntime) -> Result<(), Fail> {
+    let mut cache = LevelCache::new(rt.alloc())?;
+    cache.fill(&[Class::R, Class::EN], 0)?;
+    assert!(rt; cache.len() == 2);
+    assert_eq!(rt; cache.level(1), 2);
+    cache.fill(&[], 0)?;
+    assert!(rt; cache.len() == 0);
+    assert!(rt; is_order(cache.levels(), 0, ""));
+    Ok(())
+}
 
 #[test]
 fn nesting_ends_at_level_125(rt: HostRuntime) -> Result<(), Fail> {

@@ -19,7 +19,7 @@ impl Visual {
     ghost use Rattle.rd_order.specs.Walks.{left, IsWalkOf};
 
     /// A walk through a line of these embedding levels, from the reading edge: the left edge at base 0, the right edge at
-    /// base 1.
+    /// base 1. It looks at the runs around the line's first index, once for each level that occurs there.
     pub fn start(levels: &[u8], base: u8) -> Visual
         requires { base ≤ 1 }
         ensures walk { IsWalkOf result levels.now }
@@ -32,7 +32,7 @@ impl Visual {
         }
     }
 
-    /// The next index, and None exactly after all. It asks for the levels that the walk was started with. It looks at the
+    /// The next index, counted from 0, and None exactly after all. It asks for the levels that the walk was started with. It looks at the
     /// neighbour where the level stays, and where it changes at the run that is entered or left, once for each level that
     /// occurs in between: a whole line costs at most about twice its length times the number of its levels.
     pub fn next(&mut self, levels: &[u8]) -> Option<usize>

@@ -12,8 +12,10 @@ use rd_ucd::Classes;
 /// The base level at an accessible position or the accessible end, with reordering on: 0 where the direction is to the right
 /// from the left edge, 1 where it is the other way, and where the text decides by the paragraph of the position's line. A
 /// line of only spaces, tabs and form feeds separates paragraphs and has the level of the line before, else 0. The first line
-/// of a paragraph in which UAX 9 P2 finds a strong character gives its level (P3), else it is 0. It reads the lines from the
-/// accessible beginning on, of each no more than is needed.
+/// of a paragraph in which UAX 9 P2 finds a strong character gives its level (P3), else it is 0.
+///
+/// Where the text decides, the cost is linear in the text from the accessible beginning to the end of the position's paragraph;
+/// else it is constant. It takes no memory.
 pub fn base_level(text: &Buffer, classes: &Classes, direction: Direction, pos: Pos) -> u8
     requires { IsAccessible text.now pos }
     ensures { result ≡ base_at classes.now text.now direction pos }

@@ -43,7 +43,7 @@ impl Classes {
     /// name of a class. Codes ascend. Where the second field ends in `, First>` the next entry is one of the same class whose
     /// second field ends in `, Last>`, and the two stand for all codes between them. Each fault comes exactly at the first line
     /// that has one, with its number from 1, and in a line in the order of `UcdFault`; a First that is the last entry is a fault
-    /// of its own line.
+    /// of its own line. Want of memory may come at any line. The cost is linear in the file, and so is the memory.
     pub fn read(alloc: Global, bytes: &[u8]) -> Result<Classes, UcdFault>
         ensures { Answers result (classes_of bytes.now) }
     {

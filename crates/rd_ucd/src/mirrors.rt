@@ -39,7 +39,8 @@ impl Mirrors {
     /// Reads a file in the form of `BidiMirroring.txt`. Lines end at byte 10, before which one byte 13 is dropped; the last may
     /// lack it. From `#` on a line is a comment, and a line of nothing but spaces and tabs before that is passed over. Else it
     /// has two fields cut by `;`, with spaces and tabs round them dropped, each a code. The first codes ascend. Each fault
-    /// comes exactly at the first line that has one, with its number from 1, and in a line in the order of `UcdFault`.
+    /// comes exactly at the first line that has one, with its number from 1, and in a line in the order of `UcdFault`. Want of
+    /// memory may come at any line. The cost is linear in the file, and so is the memory.
     pub fn read(alloc: Global, bytes: &[u8]) -> Result<Mirrors, UcdFault>
         ensures { Answers result (mirrors_of bytes.now) }
     {

@@ -22,7 +22,7 @@ fn mirror_fault(alloc: Global, bytes: &[u8]) -> Option<UcdFault> {
 
 #[test]
 fn faults_of_class_files(rt: HostRuntime) {
-    let table: [(&[u8], Option<UcdFault>); 10] = [
+    let table: [(&[u8], Option<UcdFault>); 11] = [
         (b"", None),
         (b"0041;A;Lu;0", Some(UcdFault::BadLine(1))),
         (b"41;A;Lu;0;L", Some(UcdFault::BadCode(1))),
@@ -36,6 +36,10 @@ fn faults_of_class_files(rt: HostRuntime) {
             b"\r\n\n0041;<A, First>;Lu;0;L\n0042;<A, Last>;Lu;0;R",
             Some(UcdFault::BadRange(4)),
         ),
+        (
+            b"0041;<A, First>;Lu;0;L\n0042;B;Lu;0;L",
+            Some(UcdFault::BadRange(2)),
+        ),
         (b"0041;<A, Last>;Lu;0;L", Some(UcdFault::BadRange(1))),
         (b"0041;<A, First>;Lu;0;L\n\nx", Some(UcdFault::BadLine(3))),
         (b"110000;A;Lu;0;L", Some(UcdFault::BadCode(1))),
@@ -47,10 +51,12 @@ fn faults_of_class_files(rt: HostRuntime) {
 
 #[test]
 fn faults_of_mirror_files(rt: HostRuntime) {
-    let table: [(&[u8], Option<UcdFault>); 5] = [
+    let table: [(&[u8], Option<UcdFault>); 7] = [
+        (b"", None),
         (b"# nothing\n \t\n\r\n", None),
         (b"0028; 0029 # LEFT\n0029;0028\r\n", None),
         (b"0028", Some(UcdFault::BadLine(1))),
+        (b"0028; 0029; 002A", Some(UcdFault::BadLine(1))),
         (b"0028; 29", Some(UcdFault::BadCode(1))),
         (
             b"0028; 0029\n#\n0028; 0029",
