@@ -41,7 +41,7 @@ isolated level s =
     if is_valid level s then record s { stack = record { level = level; direction = None; isolate = true } ∷ s.stack; valid_isolates = s.valid_isolates + 1 }
     else record s { overflow_isolates = s.overflow_isolates + 1 }
 
--- whether a level was found, and is 1
+-- whether P2 and P3 found a level, and it is 1
 abbrev pub is_level_one : Option ℕ → Bool
 is_level_one None = false
 is_level_one (Some level) = level == 1
@@ -74,7 +74,8 @@ after_pdf s =
     else if nat_lt 0 s.overflow_embeddings then record s { overflow_embeddings = s.overflow_embeddings - 1 }
     else record s { stack = below_embedding s.stack }
 
--- the state after a class; the classes after it serve X5c alone
+-- The state after a class: X2 to X5 in turn, X5a, X5b and X5c, X6a, X7. The classes after it serve X5c alone. Every other class
+-- leaves the state as it was (X6), also B: that B inside a line ends neither embeddings nor isolates is a choice of this project.
 abbrev pub after : State → Class → List Class → State
 after s RLE cs = embedded (odd_above (top s.stack).level) None s
 after s LRE cs = embedded (even_above (top s.stack).level) None s

@@ -77,8 +77,9 @@ abbrev pub others : Option ℕ → List (List Item) → List (List Item)
 others p [] = []
 others p (s ∷ ss) = if begins p s then ss else s ∷ others p ss
 
--- BD13: a run whose last item is an isolate initiator goes before the run that begins with the matching PDI. The sequences are in
--- the order of their first items.
+-- BD13: a run whose last item is an isolate initiator goes before the run that begins with the matching PDI, if there is one. For an
+-- initiator that has a match and ends its run there always is one, unless a B, which has the base level, stands inside the isolate.
+-- The sequences are in the order of their first items.
 abbrev pub joined : List (List Item) → List (List Item)
 joined [] = []
 joined (run ∷ runs) = (run ++ continued (last_partner run) (joined runs)) ∷ others (last_partner run) (joined runs)

@@ -18,7 +18,8 @@ abbrev pub highest : List ℕ → ℕ
 highest [] = 0
 highest (level ∷ levels) = max level (highest levels)
 
--- the indexes of a line in visual order from the reading edge: from the highest level down to the base's next, each maximal run
--- at that level or above is turned round
+-- L2: the indexes of a line in visual order from the reading edge. From the highest level down to the base's next, each maximal run
+-- at that level or above is turned round. Two choices of this project: the whole line is ordered, before it is cut into rows; and at
+-- base 1 the reading edge is the right one, so the reversal of the whole line at level 1 is left out.
 abbrev pub visual_order : ℕ → List ℕ → List ℕ
 visual_order base levels = turned_down levels base (highest levels - base) (range_with_len 0 (length levels))

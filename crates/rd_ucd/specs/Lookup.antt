@@ -5,7 +5,7 @@ use Rattle.rd_base.specs.declared.class.Class.TheVariants.{L}
 use Rattle.rd_ucd.specs.declared.spans.Span.{Span}
 use Rattle.rd_ucd.specs.declared.spans.Pair.{Pair}
 
--- the class of a code: that of the first range that holds it, L where none does
+-- the class of a code: that of the first range that holds it, L where none does, which is a choice of this project
 abbrev pub class_in : List Span → ℕ → Class
 class_in [] code = L
 class_in (s ∷ ss) code = if nat_le s.first code && nat_le code s.last then s.class else class_in ss code
