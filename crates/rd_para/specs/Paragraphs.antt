@@ -1,4 +1,5 @@
--- Paragraphs of a text and their base levels.
+-- Paragraphs of a text and their base levels. P2 and P3 of UAX 9 find the level of a line. What a paragraph is, P1 leaves open; that
+-- it has several lines, and what separates it from the next, are choices of this project.
 use Rattle.std.specs.Prelude.{ℕ, ◌+◌, ◌-◌, ◌==◌, Bool, false, not, ◌||◌, if◌then◌else◌, List, [], ◌∷◌, ◌++◌, length, map, replicate, slice_index, Option, None, Some, unwrap_or}
 use Rattle.std.specs.List.{list_all, slice_split}
 use Rattle.rd_base.specs.Classes.{strong_level}
