@@ -1,7 +1,7 @@
 //! Lines of bidirectional classes without paired brackets, with their embedding levels and their visual order.
 
 /// A row for each line: the base level, the classes, the level of each index, and the indexes in visual order from the reading edge.
-/// The first eight were worked out by hand. The others were computed from the rules of UAX 9 by whole passes, apart from this program.
+/// The first nine were worked out by hand. The others were computed from the rules of UAX 9 by whole passes, apart from this program.
 pub const LINES: &str = "\
 1 | EN ET ES EN | 2 2 1 2 | 1 0 2 3
 0 | R WS R WS | 1 1 1 0 | 2 1 0 3
@@ -11,6 +11,7 @@ pub const LINES: &str = "\
 1 | R R WS EN EN | 1 1 1 2 2 | 0 1 2 4 3
 0 | L ON R ON WS R | 0 0 1 1 1 1 | 0 1 5 4 3 2
 0 | R RLO WS PDF | 1 0 0 0 | 0 1 2 3
+0 | R LRI L B PDI R | 1 0 2 0 0 1 | 0 1 2 3 4 5
 0 | L NSM R NSM | 0 0 1 1 | 0 1 3 2
 1 | L NSM R NSM | 2 2 1 1 | 1 0 2 3
 0 | AL NSM EN | 1 1 2 | 2 1 0
