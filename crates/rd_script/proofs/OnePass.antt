@@ -1,5 +1,5 @@
 -- The runs of faces, found in one pass.
-use Rattle.std.proofs.Common.{◌≡◌, ℕ, suc, ◌+◌, ◌-◌, ◌<◌, ◌||◌, length, drop, get_or, Option, Result, is_some, codes, decimal, ◌==◌, ◌&&◌, Bool, true, false, not, if◌then◌else◌, List, [], ◌∷◌, ◌++◌, refl, sym, ap, ◌∙◌, subst, arith, append_assoc, append-nil, true≢false}
+use Rattle.std.proofs.Common.{◌≡◌, ℕ, suc, ◌+◌, ◌-◌, ◌<◌, ◌||◌, length, drop, get_or, Option, Result, is_some, codes, decimal, ◌==◌, ◌&&◌, Bool, true, false, if◌then◌else◌, List, [], ◌∷◌, ◌++◌, refl, sym, ap, ◌∙◌, subst, arith, append-nil, true≢false}
 use Rattle.std.proofs.lemmas.Bool.Decides.{nat_tests}
 use Rattle.rd_base.specs.Faces.{Attributes, plain}
 use Rattle.rd_script.specs.Dumps.{same_flag, same_face, joined, runs_of, run_text, runs_text, ended_text, faces_of, face_after, pieces, numbers_text, number_text, numbers_behind, rows_text, row_line}

@@ -1,5 +1,5 @@
 -- Texts that are written piece by piece.
-use Rattle.std.proofs.Common.{◌≡◌, ℕ, suc, ◌+◌, ◌≤◌, ◌<◌, ◌⊎◌, inl, inr, List, [], ◌∷◌, ◌++◌, length, take, Option, Result, Ok, Err, true, false, true≢false, refl, sym, ap, ◌∙◌, subst, append_assoc, append-nil, arith, length-append, drop, get_or}
+use Rattle.std.proofs.Common.{◌≡◌, ℕ, suc, ◌+◌, ◌≤◌, ◌<◌, inl, inr, List, [], ◌++◌, length, take, Option, Result, Ok, Err, true≢false, refl, sym, ap, ◌∙◌, subst, append_assoc, append-nil, arith, length-append, drop, get_or}
 use Rattle.std.specs.Result.{IsErr}
 use Rattle.std.specs.Io.KnownBytes.{Appends}
 use Rattle.std.proofs.KnownBytes.{Appends-nil, Appends-trans}

@@ -85,7 +85,10 @@ fn each_field_is_asked_for(rt: HostRuntime) {
         (r#"{"op":"wrap","mode":"continue"}"#, "window"),
         (r#"{"op":"wrap","window":0}"#, "mode"),
     ] {
-        assert!(rt; faults(rt.alloc(), line.as_bytes(), "Missing", key), "{line}");
+        assert!(rt;
+            faults(rt.alloc(), line.as_bytes(), "Missing", key),
+            "{line}"
+        );
     }
 }
 
@@ -119,8 +122,14 @@ fn each_field_has_its_form(rt: HostRuntime) {
         (r#"{"op":"show","window":false,"buffer":"main"}"#, "window"),
         (r#"{"op":"show","window":0,"buffer":["main"]}"#, "buffer"),
         (r#"{"op":"point","window":0.0,"pos":1}"#, "window"),
-        (r#"{"op":"point","window":0,"pos":18446744073709551616}"#, "pos"),
-        (r#"{"op":"point","window":0,"pos":99999999999999999999999}"#, "pos"),
+        (
+            r#"{"op":"point","window":0,"pos":18446744073709551616}"#,
+            "pos",
+        ),
+        (
+            r#"{"op":"point","window":0,"pos":99999999999999999999999}"#,
+            "pos",
+        ),
         (r#"{"op":"point","window":0,"pos":1E0}"#, "pos"),
         (r#"{"op":"point","window":0,"pos":1,"pos":-1}"#, "pos"),
         (r#"{"op":"wrap","window":{},"mode":"truncate"}"#, "window"),
@@ -128,7 +137,10 @@ fn each_field_has_its_form(rt: HostRuntime) {
         (r#"{"op":"redisplay","stop":201}"#, "stop"),
         (r#"{"op":"redisplay","stop":"0"}"#, "stop"),
     ] {
-        assert!(rt; faults(rt.alloc(), line.as_bytes(), "BadField", key), "{line}");
+        assert!(rt;
+            faults(rt.alloc(), line.as_bytes(), "BadField", key),
+            "{line}"
+        );
     }
 }
 
@@ -137,10 +149,19 @@ fn no_other_key_is_taken(rt: HostRuntime) {
     for (line, key) in [
         (r#"{"op":"frame","width":12,"height":2,"x":1}"#, "x"),
         (r#"{"op":"buffer","name":"a","buffer":"a"}"#, "buffer"),
-        (r#"{"op":"insert","buffer":"a","pos":1,"text":"","to":1}"#, "to"),
+        (
+            r#"{"op":"insert","buffer":"a","pos":1,"text":"","to":1}"#,
+            "to",
+        ),
         (r#"{"op":"type","text":"","pos":1}"#, "pos"),
-        (r#"{"op":"delete","buffer":"a","from":1,"to":1,"pos":1}"#, "pos"),
-        (r#"{"op":"narrow","buffer":"a","from":1,"to":1,"text":""}"#, "text"),
+        (
+            r#"{"op":"delete","buffer":"a","from":1,"to":1,"pos":1}"#,
+            "pos",
+        ),
+        (
+            r#"{"op":"narrow","buffer":"a","from":1,"to":1,"text":""}"#,
+            "text",
+        ),
         (r#"{"op":"widen","y":1,"buffer":"a","x":1}"#, "x"),
         (r#"{"op":"widen","b":1,"buffer":"a","é":1,"a":null}"#, "a"),
         (r#"{"op":"widen","buffer":"a","é":1}"#, "é"),
@@ -148,7 +169,10 @@ fn no_other_key_is_taken(rt: HostRuntime) {
         (r#"{"op":"remove","window":0,"buffer":"a"}"#, "buffer"),
         (r#"{"op":"show","window":0,"buffer":"a","pos":1}"#, "pos"),
         (r#"{"op":"point","window":0,"pos":1,"row":0}"#, "row"),
-        (r#"{"op":"wrap","window":0,"mode":"continue","Mode":1}"#, "Mode"),
+        (
+            r#"{"op":"wrap","window":0,"mode":"continue","Mode":1}"#,
+            "Mode",
+        ),
         (r#"{"op":"redisplay","stop":0,"x":1}"#, "x"),
     ] {
         assert!(rt; faults(rt.alloc(), line.as_bytes(), "Extra", key), "{line}");
@@ -172,10 +196,18 @@ fn the_first_fault_is_told(rt: HostRuntime) {
         (r#"{"op":"echo","text":1,"x":1}"#, "NotBuilt", ""),
         (r#"{"op":"insert","buffer":1,"x":1}"#, "BadField", "buffer"),
         (r#"{"op":"insert","buffer":"a","text":1}"#, "Missing", "pos"),
-        (r#"{"op":"insert","buffer":"a","pos":-1}"#, "BadField", "pos"),
+        (
+            r#"{"op":"insert","buffer":"a","pos":-1}"#,
+            "BadField",
+            "pos",
+        ),
         (r#"{"op":"delete","to":-1,"from":-1}"#, "Missing", "buffer"),
         (r#"{"op":"remove","x":1}"#, "Missing", "window"),
-        (r#"{"op":"wrap","window":0,"mode":1,"a":1}"#, "BadField", "mode"),
+        (
+            r#"{"op":"wrap","window":0,"mode":1,"a":1}"#,
+            "BadField",
+            "mode",
+        ),
         (r#"{"op":"redisplay","stop":200}"#, "NotBuilt", ""),
         (r#"{"op":"redisplay","stop":200,"x":1}"#, "Extra", "x"),
     ] {
@@ -269,9 +301,15 @@ fn each_op_is_read(rt: HostRuntime) {
     for (line, number) in [
         (r#"{"op":"frame","width":12,"height":200}"#, 0),
         (" {\"name\" : \"b c\" ,\t\"op\":\"buffer\"}\r", 1),
-        (r#"{"op":"insert","buffer":"main","pos":3,"text":"x\ny\ud83d\ude00"}"#, 2),
+        (
+            r#"{"op":"insert","buffer":"main","pos":3,"text":"x\ny\ud83d\ude00"}"#,
+            2,
+        ),
         (r#"{"op":"type","text":""}"#, 3),
-        (r#"{"op":"delete","buffer":"main","from":1,"to":18446744073709551615}"#, 4),
+        (
+            r#"{"op":"delete","buffer":"main","from":1,"to":18446744073709551615}"#,
+            4,
+        ),
         (r#"{"op":"narrow","buffer":"a","from":2,"to":5}"#, 5),
         (r#"{"op":"widen","buffer":"é"}"#, 6),
         (r#"{"op":"show","window":1,"buffer":"a"}"#, 7),

@@ -1,4 +1,4 @@
-use Rattle.std.proofs.Common.{◌<◌, length, take, rules}
+use Rattle.std.proofs.Common.{◌<◌, length, rules}
 use Rattle.rd_script.specs.Dumps.{cell_text}
 use Rattle.rd_script.proofs.Writing.{going-item, failed-item}
 use Rattle.rd_script.proofs.dump.print_cells.Goals as goal

@@ -1,4 +1,4 @@
-use Rattle.std.proofs.Common.{sym, ap}
+use Rattle.std.proofs.Common.{ap}
 use Rattle.rd_script.specs.Dumps.{place_text}
 use Rattle.std.proofs.Common.{codes, ◌++◌, Some}
 use Rattle.rd_script.proofs.Writing.{prints-then, prints-stop, prints-fail, prints-as}

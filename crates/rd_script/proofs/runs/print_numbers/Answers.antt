@@ -1,4 +1,4 @@
-use Rattle.std.proofs.Common.{◌≡◌, ◌<◌, length, rules}
+use Rattle.std.proofs.Common.{◌<◌, length, rules}
 use Rattle.rd_script.specs.Dumps.{numbers_of_face}
 use Rattle.rd_script.proofs.OnePass.{numbers-step, numbers-failed}
 use Rattle.rd_script.proofs.Writing.{going-on, prints-fail}

@@ -1,4 +1,4 @@
-use Rattle.std.proofs.Common.{◌≡◌, ◌+◌, ◌<◌, ◌≤◌, length, refl, arith, sym, ap, rules}
+use Rattle.std.proofs.Common.{◌+◌, ◌<◌, ◌≤◌, length, refl, arith, sym, ap, rules}
 use Rattle.std.proofs.lemmas.List.{drop_all}
 use Rattle.rd_base.specs.Faces.{plain}
 use Rattle.rd_script.specs.Dumps.{faces_of}
