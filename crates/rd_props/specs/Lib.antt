@@ -1,0 +1,9 @@
+pub mod Buffers
+pub mod Values
+pub mod Faces
+pub mod Hiding
+pub mod Shown
+pub mod Strings
+pub mod Stops
+pub mod Laws
+pub mod Examples

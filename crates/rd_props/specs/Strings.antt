@@ -1,0 +1,44 @@
+-- The strings of overlays at a position.
+use Rattle.std.specs.Prelude.{ℕ, ◌==◌, Bool, if◌then◌else◌, List, [], ◌∷◌, ◌++◌, reverse, Option, None, Some}
+use Rattle.std.specs.Option.{option_to_list}
+use Rattle.rd_overlays.specs.declared.overlay.Overlay.{Overlay}
+use Rattle.rd_overlays.specs.declared.overlay.Kind.TheVariants.{Before, After}
+use Rattle.rd_overlays.specs.Overlays.{overlay_at, starting, ending}
+use Rattle.rd_props.specs.Buffers.{BufferValue}
+use Rattle.rd_props.specs.declared.strings.Part.{Part}
+use Rattle.rd_props.specs.declared.strings.Part.TheVariants.{Closing, Between, Opening}
+use Rattle.rd_props.specs.Values.{value_of}
+
+-- an overlay that covers nothing
+abbrev pub is_empty : Overlay → Bool
+is_empty overlay = overlay.from == overlay.to
+
+abbrev pub before_string : Overlay → List ℕ
+before_string overlay = option_to_list (value_of Before (Some overlay))
+
+abbrev pub after_string : Overlay → List ℕ
+after_string overlay = option_to_list (value_of After (Some overlay))
+
+-- what an overlay puts behind the text that it covers, what it puts where it covers nothing, and what it puts before the text
+-- that it covers
+abbrev pub part_of : Part → Overlay → List ℕ
+part_of Closing overlay = if is_empty overlay then [] else after_string overlay
+part_of Between overlay = if is_empty overlay then before_string overlay ++ after_string overlay else []
+part_of Opening overlay = if is_empty overlay then [] else before_string overlay
+
+abbrev pub part_in : Part → Option Overlay → List ℕ
+part_in part None = []
+part_in part (Some overlay) = part_of part overlay
+
+-- what these overlays put, one after the other
+abbrev pub strings_of : Part → List (Option Overlay) → List ℕ → List ℕ
+strings_of part slots [] = []
+strings_of part slots (number ∷ numbers) = part_in part (overlay_at slots number) ++ strings_of part slots numbers
+
+-- the strings at a position: the after-strings of overlays that end there, from the last by priority and number to the first,
+-- then both strings of those that are empty there, then the before-strings of those that start there
+abbrev pub strings_at : BufferValue → ℕ → List ℕ
+strings_at s pos =
+    strings_of Closing s.overlays (reverse (ending pos s.overlays))
+    ++ strings_of Between s.overlays (starting pos s.overlays)
+    ++ strings_of Opening s.overlays (starting pos s.overlays)

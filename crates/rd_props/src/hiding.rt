@@ -1,0 +1,39 @@
+//! Whether an atom of invisible text hides.
+ghost use Rattle.std.specs.Prelude.{◌≡◌};
+ghost use Rattle.rd_props.specs.Hiding.{listed, hiding_of};
+
+use rd_base::Invisible;
+
+/// Whether a position is hidden, and whether an ellipsis stands in its place.
+#[derive(Clone, Copy, Debug, PartialEq, Eq)]
+pub enum Hidden {
+    No,
+    Plain,
+    Ellipsis,
+}
+
+/// What the first pair of an atom says.
+fn listed(pairs: &[(u32, bool)], atom: u32) -> Hidden
+    ensures { result ≡ listed pairs.now atom }
+{
+    for pair in pairs {
+        if pair.0 == atom {
+            return if pair.1 {
+                Hidden::Ellipsis
+            } else {
+                Hidden::Plain
+            };
+        }
+    }
+    Hidden::No
+}
+
+/// How a setting hides an atom.
+pub(crate) fn hiding_of(setting: &Invisible, atom: u32) -> Hidden
+    ensures { result ≡ hiding_of setting.now atom }
+{
+    match setting {
+        Invisible::Every => Hidden::Plain,
+        Invisible::Listed(pairs) => listed(pairs.as_slice(), atom),
+    }
+}

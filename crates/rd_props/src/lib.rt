@@ -1,0 +1,28 @@
+//! What the text properties and the overlays of a buffer come to at a position: the effective value of a property, the merged
+//! face, whether the position is hidden, the strings of overlays there, and how far nothing changes. The rules are those of the
+//! Emacs Lisp Reference Manual (Text Properties, Overlay Properties, Invisible Text).
+#![tactic(auto)]
+
+mod faces;
+mod hiding;
+mod laws;
+mod shown;
+mod state;
+mod stops;
+mod strings;
+mod values;
+
+pub use faces::face_at;
+pub use hiding::Hidden;
+pub use laws::{
+    atoms_that_hide, effective_values_are_the_greatest_overlays, faces_that_merge,
+    strings_that_meet,
+};
+pub use shown::hidden;
+pub use state::{BufferState, View};
+pub use stops::next_stop;
+pub use strings::strings_at;
+pub use values::effective;
+
+#[cfg(test)]
+mod tests;

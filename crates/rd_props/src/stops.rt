@@ -1,0 +1,54 @@
+//! How far nothing changes.
+ghost use Rattle.std.specs.Prelude.{◌≡◌, ◌<◌, ◌≤◌};
+ghost use Rattle.rd_props.specs.Buffers.{meaning};
+ghost use Rattle.rd_props.specs.Stops.{IsNextStop, IsFirstEdge, IsFirstChange, sooner};
+
+use crate::state::View;
+use rd_base::Pos;
+use rd_overlays::Overlays;
+use rd_spans::Spans;
+
+/// The lesser of a place and one that may be missing.
+fn sooner(stop: Pos, other: Option<Pos>) -> Pos
+    ensures { result ≡ sooner stop other }
+{
+    match other {
+        None => stop,
+        Some(other) => stop.min(other),
+    }
+}
+
+/// The first place behind a position where an overlay starts or ends, up to an end.
+fn first_edge(overlays: &Overlays, pos: Pos, end: Pos) -> Pos
+    requires { pos < end }
+    ensures { IsFirstEdge overlays.now end pos result }
+{
+    sooner(end, overlays.next_edge(pos))
+}
+
+/// The first place behind a position where one of these properties changes, up to an end.
+fn first_change(spans: &[Spans], pos: Pos, end: Pos) -> Pos
+    requires { pos < end }
+    ensures { IsFirstChange spans.now end pos result }
+{
+    let mut stop = end;
+    let mut i = spans.len();
+    while 0 < i {
+        i -= 1;
+        stop = sooner(stop, spans[i].next_change(pos));
+    }
+    stop
+}
+
+/// The least position behind an accessible one at which a text property has another value or an overlay starts or ends, and the
+/// end of the accessible text where there is none before it. It costs a look-up of each of the five properties, with a step for
+/// each of its runs up to there, and a pass over all overlays.
+pub fn next_stop(view: &View, pos: Pos) -> Pos
+    requires first { view.now.state.now.text.begin ≤ pos }
+    requires last { pos < view.now.state.now.text.end }
+    ensures { IsNextStop (meaning view.now.state.now) pos result }
+{
+    let state = view.state;
+    let edge = first_edge(&state.overlays, pos, state.text.end());
+    first_change(&state.spans, pos, edge)
+}

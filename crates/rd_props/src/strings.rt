@@ -1,0 +1,125 @@
+//! The strings of overlays at a position.
+ghost use Rattle.std.specs.Prelude.{◌≡◌, ◌++◌, [], reverse, drop, take, OnOk, IfOk};
+ghost use Rattle.std.specs.Option.{option_to_list};
+ghost use Rattle.rd_text.specs.Texts.{IsAccessible};
+ghost use Rattle.rd_overlays.specs.Overlays.{overlay_at};
+ghost use Rattle.rd_props.specs.Buffers.{meaning};
+ghost use Rattle.rd_props.specs.Strings.{before_string, after_string, part_of, part_in, strings_of, strings_at, is_empty};
+
+use crate::state::View;
+use rd_base::{ListOf, Memory, Pos};
+use rd_overlays::{Kind, Overlay, Overlays};
+use std::alloc::Global;
+
+/// Which of its strings an overlay puts at a position: its after-string behind the text that it covers, both where it covers
+/// nothing, its before-string before the text that it covers.
+#[derive(Clone, Copy, Debug, PartialEq, Eq)]
+enum Part {
+    Closing,
+    Between,
+    Opening,
+}
+
+/// Whether an overlay covers nothing.
+fn is_empty(overlay: &Overlay) -> bool
+    ensures { result ≡ is_empty overlay.now }
+{
+    overlay.from == overlay.to
+}
+
+/// Adds a string where there is one.
+fn add(strings: &mut ListOf<u32>, string: Option<u32>) -> Result<(), Memory>
+    ensures { OnOk result (strings.new ≡ strings.old ++ option_to_list string) }
+{
+    if let Some(string) = string {
+        strings.push(string)?;
+    }
+    Ok(())
+}
+
+/// Adds what an overlay puts where it covers nothing.
+fn add_both(strings: &mut ListOf<u32>, overlay: &Overlay) -> Result<(), Memory>
+    ensures { OnOk result (strings.new ≡ strings.old ++ before_string overlay.now ++ after_string overlay.now) }
+{
+    add(strings, overlay.values[Kind::Before as usize])?;
+    add(strings, overlay.values[Kind::After as usize])
+}
+
+/// Adds the strings of one overlay.
+fn add_part(strings: &mut ListOf<u32>, part: Part, overlay: &Overlay) -> Result<(), Memory>
+    ensures { OnOk result (strings.new ≡ strings.old ++ part_of part overlay.now) }
+{
+    match (part, is_empty(overlay)) {
+        (Part::Between, true) => add_both(strings, overlay),
+        (Part::Closing, false) => add(strings, overlay.values[Kind::After as usize]),
+        (Part::Opening, false) => add(strings, overlay.values[Kind::Before as usize]),
+        _ => Ok(()),
+    }
+}
+
+/// Adds the strings of the overlay of a number.
+fn add_strings(
+    strings: &mut ListOf<u32>,
+    part: Part,
+    overlays: &Overlays,
+    number: u32,
+) -> Result<(), Memory>
+    ensures { OnOk result (strings.new ≡ strings.old ++ part_in part (overlay_at overlays.now number)) }
+{
+    match overlays.get(number) {
+        None => Ok(()),
+        Some(overlay) => add_part(strings, part, overlay),
+    }
+}
+
+/// Adds the strings of these overlays, from the first to the last.
+fn add_forward(
+    strings: &mut ListOf<u32>,
+    part: Part,
+    overlays: &Overlays,
+    numbers: &[u32],
+) -> Result<(), Memory>
+    ensures { OnOk result (strings.new ≡ strings.old ++ strings_of part overlays.now numbers.now) }
+{
+    for number in numbers {
+        add_strings(strings, part, overlays, *number)?;
+    }
+    Ok(())
+}
+
+/// Adds the strings of these overlays, from the last to the first.
+fn add_backward(
+    strings: &mut ListOf<u32>,
+    part: Part,
+    overlays: &Overlays,
+    numbers: &[u32],
+) -> Result<(), Memory>
+    ensures { OnOk result (strings.new ≡ strings.old ++ strings_of part overlays.now (reverse numbers.now)) }
+{
+    let mut i = numbers.len();
+    while 0 < i {
+        i -= 1;
+        add_strings(strings, part, overlays, numbers[i])?;
+    }
+    Ok(())
+}
+
+/// The numbers of the strings that overlays put before an accessible position, or at the end of the accessible text. First come
+/// the after-strings of overlays that end there and are not empty, in decreasing order of priority and number; then the strings
+/// of overlays that are empty there, in increasing order, of each the before-string and then the after-string; last the
+/// before-strings of overlays that start there and are not empty, in increasing order. It costs the listings of the overlays
+/// that start and that end there.
+pub fn strings_at(alloc: Global, view: &View, pos: Pos) -> Result<ListOf<u32>, Memory>
+    requires { IsAccessible view.now.state.now.text pos }
+    ensures { IfOk result (λ strings. strings ≡ strings_at (meaning view.now.state.now) pos) }
+{
+    let state = view.state;
+    let overlays = &state.overlays;
+    let ending = overlays.ending(pos)?;
+    let starting = overlays.starting(pos)?;
+    let mut strings = ListOf::new(alloc);
+    add_backward(&mut strings, Part::Closing, overlays, ending.as_slice())?;
+    add_forward(&mut strings, Part::Between, overlays, starting.as_slice())?;
+    add_forward(&mut strings, Part::Opening, overlays, starting.as_slice())?;
+    Ok(strings)
+}

@@ -1,0 +1,64 @@
+//! The effective value of a property.
+ghost use Rattle.std.specs.Prelude.{◌≡◌, ◌≤◌, ◌<◌, IfOk, IsTrue};
+ghost use Rattle.rd_text.specs.Texts.{IsAccessible};
+ghost use Rattle.rd_overlays.specs.Overlays.{overlay_at, place_of};
+ghost use Rattle.rd_props.specs.Buffers.{meaning, property};
+ghost use Rattle.rd_props.specs.Values.{value_of, last_value, effective, is_single};
+
+use crate::state::{BufferState, View};
+use rd_base::{Memory, Pos};
+use rd_overlays::{Kind, Overlays};
+use std::alloc::Global;
+
+/// The value of a text property at a position.
+pub(crate) fn property(state: &BufferState, kind: Kind, pos: Pos) -> Option<u32>
+    requires { place_of kind < 5 }
+    ensures { result ≡ property (meaning state.now) kind pos }
+{
+    state.spans[kind as usize].at(pos)
+}
+
+/// The value of a kind that the overlay of a number has.
+pub(crate) fn value_of(overlays: &Overlays, kind: Kind, number: u32) -> Option<u32>
+    ensures { result ≡ value_of kind (overlay_at overlays.now number) }
+{
+    match overlays.get(number) {
+        None => None,
+        Some(overlay) => overlay.values[kind as usize],
+    }
+}
+
+/// The value of the last of these overlays that has one.
+fn last_value(overlays: &Overlays, kind: Kind, numbers: &[u32]) -> Option<u32>
+    ensures { result ≡ last_value overlays.now kind numbers.now }
+{
+    let mut i = numbers.len();
+    while 0 < i {
+        i -= 1;
+        if let Some(value) = value_of(overlays, kind, numbers[i]) {
+            return Some(value);
+        }
+    }
+    None
+}
+
+/// The effective value of a kind at an accessible position, or at the end of the accessible text, where no kind has one: that of
+/// the covering overlay which has one and whose priority is greatest, of equal priorities the one with the greater number, and
+/// else that of the text property. It is asked of display, invisible, line_prefix and wrap_prefix alone, since the face of a
+/// position is merged of all faces there (`face_at`), and the strings of overlays all stand (`strings_at`). It costs the listing
+/// of the overlays that cover the position, and one look-up of the property.
+pub fn effective(alloc: Global, view: &View, pos: Pos, kind: Kind) -> Result<Option<u32>, Memory>
+    requires place { IsAccessible view.now.state.now.text pos }
+    requires kind { IsTrue (is_single kind) }
+    ensures value { IfOk result (λ value. value ≡ effective (meaning view.now.state.now) pos kind) }
+{
+    let state = view.state;
+    if state.text.end() <= pos {
+        return Ok(None);
+    }
+    let covering = state.overlays.covering(pos)?;
+    match last_value(&state.overlays, kind, covering.as_slice()) {
+        Some(value) => Ok(Some(value)),
+        None => Ok(property(state, kind, pos)),
+    }
+}
