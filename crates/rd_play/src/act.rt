@@ -14,6 +14,7 @@ ghost use Rattle.rd_play.specs.Runs.{asked, dump_lines, effect, effect_of_op, is
 use crate::halt::Halt;
 use crate::report::{tell_no_memory, tell_shown};
 use crate::status::ScriptFault;
+use crate::windows::Windows;
 use rd_base::{Memory, Steps};
 use rd_io::{Failed, Sink};
 use rd_script::{Op, OpFault, print_dump, read_op};
@@ -22,11 +23,12 @@ use rd_state::Refused;
 use std::alloc::Global;
 use std::sync::ledger::Ledger;
 
-/// A run: whether dumps are asked for, the session, and how many lines were run.
+/// A run: whether dumps are asked for, the session, room for what a dump says of the windows, and how many lines were run.
 #[derive(Drop)]
 pub struct Run {
     dumps: bool,
     session: Session,
+    windows: Windows,
     pub lines: u32,
 }
 
@@ -38,6 +40,7 @@ impl Run {
         Ok(Run {
             dumps,
             session: Session::new(alloc)?,
+            windows: Windows::new(alloc)?,
             lines: 0,
         })
     }
@@ -139,6 +142,7 @@ impl Run {
             Outcome::Shown(rows) => told(tell_redisplay(
                 report,
                 &self.session,
+                &mut self.windows,
                 self.dumps,
                 self.lines,
                 rows,
@@ -153,6 +157,7 @@ impl Run {
 fn tell_redisplay<R: Sink>(
     report: &mut R,
     session: &Session,
+    windows: &mut Windows,
     dumps: bool,
     number: u32,
     rows: u32,
@@ -163,12 +168,17 @@ fn tell_redisplay<R: Sink>(
     ensures failed { OnErr result (Rose (R.faults report.old) (R.faults report.new)) }
 {
     tell_shown(report, number, rows)?;
-    tell_dump(report, session, dumps)
+    tell_dump(report, session, windows, dumps)
 }
 
 /// Writes the dump of the screen where it is asked for.
 #[tactic(auto, unfolding(crate::specs::Runs::dump_lines))]
-fn tell_dump<R: Sink>(report: &mut R, session: &Session, dumps: bool) -> Result<(), Failed>
+fn tell_dump<R: Sink>(
+    report: &mut R,
+    session: &Session,
+    windows: &mut Windows,
+    dumps: bool,
+) -> Result<(), Failed>
     ensures bytes { Writes (R.written report.old) (R.written report.new)
         (dump_lines dumps session.now.current (facts_of session.now.state session.now.matrix)) result }
     ensures never_falls { R.faults report.old ≤ R.faults report.new }
@@ -178,7 +188,7 @@ fn tell_dump<R: Sink>(report: &mut R, session: &Session, dumps: bool) -> Result<
         return Ok(());
     }
     match session.screen() {
-        Some(screen) => print_dump(report, screen, &[session.facts()]),
+        Some(screen) => print_dump(report, screen, windows.of(session)),
         None => Ok(()),
     }
 }

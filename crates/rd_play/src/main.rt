@@ -9,6 +9,7 @@ mod report;
 mod run;
 mod status;
 mod top;
+mod windows;
 
 ghost use Rattle.std.specs.Prelude.{◌≡◌, ◌<◌};
 

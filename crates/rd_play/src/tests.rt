@@ -3,7 +3,7 @@ ghost use Rattle.std.specs.Prelude.{◌≡◌, ◌<◌};
 
 use crate::top::play;
 use rd_base::Steps;
-use rd_io::{MemFiles, MemSink, MemSource};
+use rd_io::{Failed, MemFiles, MemSink, MemSource, Source};
 use std::alloc::Global;
 use std::marker::Brand;
 use std::sync::ledger::{Blank, Ledger};
@@ -186,7 +186,26 @@ struct Trace {
     code: u8,
 }
 
-/// Runs a script on a new ledger, with the numbers of the calls that are to fail.
+/// A source that gives its bytes one at a time.
+#[derive(Drop)]
+struct OneByOne {
+    source: MemSource,
+}
+
+impl Source for OneByOne {
+    ghost left = { λ s. ⟦<MemSource as Source>⟧.left s.source };
+
+    ghost faults = { λ s. ⟦<MemSource as Source>⟧.faults s.source };
+
+    fn read(&mut self, buf: &mut [u8]) -> Result<usize, Failed> {
+        if buf.is_empty() {
+            return self.source.read(buf);
+        }
+        self.source.read(&mut buf[..1])
+    }
+}
+
+/// Runs a script in memory, with the numbers of the calls that are to fail.
 fn played<L: Ledger>(
     blank: Blank,
     alloc: Global,
@@ -200,12 +219,28 @@ fn played<L: Ledger>(
     requires parts { blank.parts ≡ L.parts }
     requires some { 0 < L.parts }
 {
+    let calls = Vec::from_slice(alloc, &[source])?;
+    let mut script = MemSource::new(Vec::from_slice(alloc, script)?).failing(calls);
+    played_from::<L, MemSource>(blank, alloc, words, &mut script, screen, report)
+}
+
+/// Runs the script that a source gives on a new ledger.
+fn played_from<L: Ledger, S: Source>(
+    blank: Blank,
+    alloc: Global,
+    words: &[&str],
+    script: &mut S,
+    screen: u64,
+    report: u64,
+) -> Result<Trace, Fail>
+    requires name { blank.name ≡ L.name }
+    requires parts { blank.parts ≡ L.parts }
+    requires some { 0 < L.parts }
+{
     let mut given = Vec::new(alloc);
     for word in words {
         given.push(String::from_str(alloc, word)?)?;
     }
-    let calls = Vec::from_slice(alloc, &[source])?;
-    let mut script = MemSource::new(Vec::from_slice(alloc, script)?).failing(calls);
     let mut files = MemFiles::new(Vec::new(alloc));
     let calls = Vec::from_slice(alloc, &[screen])?;
     let mut screen = MemSink::with_room(alloc, 4096)?.failing(calls);
@@ -214,7 +249,7 @@ fn played<L: Ledger>(
     let status = play(
         alloc,
         given,
-        &mut script,
+        script,
         &mut files,
         &mut screen,
         &mut report,
@@ -231,6 +266,26 @@ fn played<L: Ledger>(
 fn scripts_are_run(rt: HostRuntime) -> Result<(), Fail> {
     for case in &CASES {
         let run = played::<Brand>(Blank::new(1), rt.alloc(), &[], case.script, 0, 0, 0)?;
+        assert_eq!(rt; run.report.bytes(), case.report);
+        assert_eq!(rt; run.screen.bytes(), case.screen);
+        assert_eq!(rt; run.code, case.code);
+    }
+    Ok(())
+}
+
+#[test]
+fn a_script_may_come_byte_by_byte(rt: HostRuntime) -> Result<(), Fail> {
+    for case in &CASES {
+        let source = MemSource::new(Vec::from_slice(rt.alloc(), case.script)?);
+        let mut script = OneByOne { source };
+        let run = played_from::<Brand, OneByOne>(
+            Blank::new(1),
+            rt.alloc(),
+            &[],
+            &mut script,
+            0,
+            0,
+        )?;
         assert_eq!(rt; run.report.bytes(), case.report);
         assert_eq!(rt; run.screen.bytes(), case.screen);
         assert_eq!(rt; run.code, case.code);

@@ -1,0 +1,38 @@
+//! What a dump says of the windows.
+ghost use Rattle.std.specs.Prelude.{◌≡◌, ◌≤◌, ◌∷◌, []};
+ghost use Rattle.std.specs.Vec.{vec_capacity};
+ghost use Rattle.rd_session.specs.Facts.{facts_of};
+
+use rd_base::Memory;
+use rd_script::WindowFacts;
+use rd_session::Session;
+use std::alloc::Global;
+
+/// How many windows can live.
+const MOST_WINDOWS: usize = 64;
+
+/// Room for what a dump says of all windows. It is taken before the first line is run, so that no line of the report takes
+/// memory.
+#[derive(Drop)]
+pub struct Windows {
+    facts: Vec<WindowFacts>,
+    pub ghost roomy: { 64 ≤ vec_capacity facts },
+}
+
+impl Windows {
+    /// Room for all windows.
+    pub fn new(alloc: Global) -> Result<Windows, Memory> {
+        Ok(Windows {
+            facts: Vec::with_capacity(alloc, MOST_WINDOWS)?,
+        })
+    }
+
+    /// What a dump says of the windows of a session, in leaf order.
+    pub fn of(&mut self, session: &Session) -> &[WindowFacts]
+        ensures { result.now ≡ facts_of session.now.state session.now.matrix ∷ [] }
+    {
+        self.facts.clear();
+        self.facts.push_reserved(session.facts());
+        self.facts.as_slice()
+    }
+}
