@@ -43,7 +43,7 @@ impl Objects {
     ghost use Rattle.rd_objects.specs.Texts.{text_of};
     ghost use Rattle.rd_objects.specs.Things.{nothing_made, string_fault, spec_fault, full_fault, IsSmallSpec, Adds, KeepsObjects};
 
-    /// No object.
+    /// No object. It takes no memory.
     pub fn new(alloc: Global) -> Result<Objects, Memory>
         ensures { IfOk result (λ objects. objects ≡ nothing_made) }
     {
@@ -58,7 +58,7 @@ impl Objects {
 
     /// Makes a string of these characters and runs, and answers its number. The first of these faults counts: a run names a
     /// face or a spec that was not made, a run doesn't lie in the string, the string has more than 4,096 characters, 4,096
-    /// strings were made.
+    /// strings were made. It costs a copy of the characters and the runs.
     pub fn add_string(&mut self, text: &[Ch], runs: &[Run]) -> Result<u32, ObjectFault>
         ensures adds { Adds result (string_fault self.old text.now runs.now) (length self.old.strings) self.old self.new (record self.old { strings = self.old.strings ++ text_of text.now runs.now self.old.faces ∷ [] }) }
         ensures keeps { KeepsObjects self.old self.new }
@@ -82,7 +82,7 @@ impl Objects {
     }
 
     /// Makes a display spec, of at most 400 columns, and answers its number. The faults are that it names a string that was
-    /// not made, and that 4,096 specs were made.
+    /// not made, and that 4,096 specs were made. It costs one step.
     pub fn add_spec(&mut self, spec: Spec) -> Result<u32, ObjectFault>
         requires { IsSmallSpec spec }
         ensures adds { Adds result (spec_fault self.old spec) (length self.old.specs) self.old self.new (record self.old { specs = self.old.specs ++ spec ∷ [] }) }
@@ -101,7 +101,7 @@ impl Objects {
         Ok(number)
     }
 
-    /// Makes a face, and answers its number. The fault is that 1,024 faces were made.
+    /// Makes a face, and answers its number. The fault is that 1,024 faces were made. It costs one step.
     pub fn add_face(&mut self, face: Face) -> Result<u32, ObjectFault>
         ensures adds { Adds result (full_fault 1024 (length self.old.faces)) (length self.old.faces) self.old self.new (record self.old { faces = self.old.faces ++ face ∷ [] }) }
         ensures keeps { KeepsObjects self.old self.new }
@@ -114,7 +114,7 @@ impl Objects {
         Ok(number)
     }
 
-    /// Makes a display table, and answers its number. The fault is that 64 tables were made.
+    /// Makes a display table, and answers its number. The fault is that 64 tables were made. It costs one step.
     pub fn add_table(&mut self, table: Table) -> Result<u32, ObjectFault>
         ensures adds { Adds result (full_fault 64 (length self.old.tables)) (length self.old.tables) self.old self.new (record self.old { tables = self.old.tables ++ table ∷ [] }) }
         ensures keeps { KeepsObjects self.old self.new }
@@ -127,7 +127,7 @@ impl Objects {
         Ok(number)
     }
 
-    /// The string of a number, and None exactly where it was not made.
+    /// The string of a number, and None exactly where it was not made. It costs one step.
     pub fn string(&self, number: u32) -> Option<&Text>
         ensures { MatchOption result (length self.now.strings ≤ number) (λ text. slice_get self.now.strings number ≡ Some text.now) }
     {
@@ -138,7 +138,7 @@ impl Objects {
         }
     }
 
-    /// The spec of a number, and None exactly where it was not made.
+    /// The spec of a number, and None exactly where it was not made. It costs one step.
     pub fn spec(&self, number: u32) -> Option<Spec>
         ensures { result ≡ slice_get self.now.specs number }
     {
@@ -149,7 +149,7 @@ impl Objects {
         }
     }
 
-    /// The face of a number, and None exactly where it was not made.
+    /// The face of a number, and None exactly where it was not made. It costs one step.
     pub fn face(&self, number: u32) -> Option<Face>
         ensures { result ≡ slice_get self.now.faces number }
     {
@@ -160,7 +160,7 @@ impl Objects {
         }
     }
 
-    /// The table of a number, and None exactly where it was not made.
+    /// The table of a number, and None exactly where it was not made. It costs one step.
     pub fn table(&self, number: u32) -> Option<&Table>
         ensures { MatchOption result (length self.now.tables ≤ number) (λ table. slice_get self.now.tables number ≡ Some table.now) }
     {

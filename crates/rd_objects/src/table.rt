@@ -14,7 +14,8 @@ pub struct Entry {
     pub text: ListOf<Glyph>,
 }
 
-/// A display table: entries, and slots for marks and for the ellipsis.
+/// A display table: entries, and slots for marks and for the ellipsis. They hold glyph characters: scalar values that are no
+/// control, without marks, in 1 to 3 columns.
 #[derive(Drop)]
 pub struct Table {
     alloc: Global,
@@ -57,7 +58,7 @@ impl Table {
     ghost use Rattle.std.specs.Prelude.{◌≡◌, ◌≤◌, ◌++◌, ◌∷◌, [], Some, None, IsTrue, IfOk, OnOk, OnErr, MatchOption, IfSome};
     ghost use Rattle.rd_objects.specs.Tables.{empty_table, entry_in, slot_of, with_slot, is_glyph_text, is_slot_glyph};
 
-    /// A table that holds nothing.
+    /// A table that holds nothing. It takes no memory.
     pub fn new(alloc: Global) -> Result<Table, Memory>
         ensures { IfOk result (λ table. table ≡ empty_table) }
     {
@@ -74,6 +75,7 @@ impl Table {
     }
 
     /// Puts what a code shows: at most 16 glyph characters. A later entry of a code wins over an earlier one.
+    /// It costs a copy of the glyphs.
     pub fn put_entry(&mut self, code: u32, text: &[Glyph]) -> Result<(), Memory>
         requires code { code ≤ 1114111 }
         requires text { IsTrue (is_glyph_text text.now) }
@@ -84,7 +86,7 @@ impl Table {
         self.entries.push(Entry { code, text })
     }
 
-    /// Puts the glyph of a slot, one of one column, or takes it away.
+    /// Puts the glyph of a slot, one of one column, or takes it away. It costs one step.
     pub fn put_slot(&mut self, slot: Slot, glyph: Option<Glyph>)
         requires { IfSome glyph (λ g. IsTrue (is_slot_glyph g)) }
         ensures { self.new ≡ with_slot slot glyph self.old }
@@ -98,7 +100,7 @@ impl Table {
         }
     }
 
-    /// Puts what stands for hidden text: at most 16 glyph characters.
+    /// Puts what stands for hidden text: at most 16 glyph characters. It costs a copy of them.
     pub fn put_ellipsis(&mut self, text: &[Glyph]) -> Result<(), Memory>
         requires { IsTrue (is_glyph_text text.now) }
         ensures ok { OnOk result (self.new ≡ record self.old { ellipsis = Some text.now }) }
@@ -116,7 +118,7 @@ impl Table {
         last_entry(self.entries.as_slice(), code)
     }
 
-    /// The glyph of a slot, and None exactly where none was put or None was put last.
+    /// The glyph of a slot, and None exactly where none was put or None was put last. It costs one step.
     pub fn slot(&self, slot: Slot) -> Option<Glyph>
         ensures value { result ≡ slot_of slot self.now }
         ensures glyph { IfSome result (λ g. IsTrue (is_slot_glyph g)) }
@@ -130,7 +132,7 @@ impl Table {
         }
     }
 
-    /// What stands for hidden text, and None exactly where nothing was put.
+    /// What stands for hidden text, and None exactly where nothing was put. It costs one step.
     pub fn ellipsis(&self) -> Option<&[Glyph]>
         ensures value { MatchOption result (self.now.ellipsis ≡ None) (λ text. self.now.ellipsis ≡ Some text.now) }
         ensures text { IfSome result (λ text. IsTrue (is_glyph_text text.now)) }

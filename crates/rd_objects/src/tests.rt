@@ -69,3 +69,43 @@ fn objects_are_numbered(rt: HostRuntime) -> Result<(), Fail> {
     assert!(rt; objects.table(0).is_some());
     Ok(())
 }
+
+#[test]
+fn nothing_where_nothing_was_put(rt: HostRuntime) -> Result<(), Fail> {
+    let mut table = Table::new(rt.alloc())?;
+    assert!(rt; table.ellipsis().is_none());
+    assert!(rt; table.slot(Slot::Escape).is_none());
+    table.put_entry(98, &[])?;
+    assert!(rt; table.entry(97).is_none());
+    assert!(rt; table.entry(98).is_some());
+    Ok(())
+}
+
+#[test]
+fn refusals_in_their_order(rt: HostRuntime) -> Result<(), Fail> {
+    let mut objects = Objects::new(rt.alloc())?;
+    let long = [Ch::scalar('a'); 4097];
+    let run = Run {
+        from: 2,
+        to: 1,
+        kind: RunKind::Face,
+        value: 0,
+    };
+    assert_eq!(rt;
+        objects.add_string(&long, &[run]),
+        Err(ObjectFault::NoObject)
+    );
+    objects.add_face(Face::PLAIN)?;
+    assert_eq!(rt;
+        objects.add_string(&long, &[run]),
+        Err(ObjectFault::OutOfRange)
+    );
+    assert_eq!(rt; objects.add_string(&long, &[]), Err(ObjectFault::TooLong));
+    for _k in 0..64 {
+        let table = Table::new(rt.alloc())?;
+        objects.add_table(table)?;
+    }
+    let table = Table::new(rt.alloc())?;
+    assert_eq!(rt; objects.add_table(table), Err(ObjectFault::TooMany));
+    Ok(())
+}

@@ -34,7 +34,7 @@ impl Text {
     ghost use Rattle.std.specs.Prelude.{◌≡◌, ◌<◌, ◌≤◌, length, slice_get, Some, IfOk};
     ghost use Rattle.rd_objects.specs.Texts.{text_of, face_of, spec_of};
 
-    /// A string of these characters, with the faces that its runs name.
+    /// A string of these characters, with the faces that its runs name. It costs a copy of both.
     pub fn new(alloc: Global, chars: &[Ch], runs: &[Run], faces: &[Face]) -> Result<Text, Memory>
         requires { length chars.now ≤ 4096 }
         ensures { IfOk result (λ text. text ≡ text_of chars.now runs.now faces.now) }
@@ -49,14 +49,14 @@ impl Text {
         })
     }
 
-    /// How many characters there are.
+    /// How many characters there are. It costs one step.
     pub fn len(&self) -> u32
         ensures { result ≡ length self.now.chars }
     {
         self.chars.len() as u32
     }
 
-    /// The character at a place, counted from 0.
+    /// The character at a place, counted from 0. It costs one step.
     pub fn ch(&self, i: u32) -> Ch
         requires { i < length self.now.chars }
         ensures { slice_get self.now.chars i ≡ Some result }
