@@ -1,5 +1,5 @@
 -- The links from an index on, against the isolating run sequences of the items there.
-use Rattle.std.proofs.Common.{◌≡◌, ℕ, zero, suc, ◌+◌, ◌-◌, ◌<◌, ◌≤◌, ◌==◌, nat_lt, max, Bool, true, false, ◌&&◌, if◌then◌else◌, List, [], ◌∷◌, ◌++◌, length, map, drop, set, get_or, Option, None, Some, All, IfSome, is_none, refl, ap, ap₂, sym, ◌∙◌, inl, inr, arith}
+use Rattle.std.proofs.Common.{◌≡◌, ℕ, zero, suc, ◌+◌, ◌-◌, ◌<◌, ◌≤◌, ◌==◌, nat_lt, max, Bool, true, false, ◌&&◌, if◌then◌else◌, List, [], ◌∷◌, length, map, drop, set, get_or, Option, None, Some, All, is_none, refl, ap, ap₂, sym, ◌∙◌, inl, inr, arith}
 use Rattle.std.proofs.lemmas.List.{get_or-drop, drop-set-add, set-get_or, drop-drop, length-drop}
 use Rattle.std.proofs.lemmas.Bool.{cases_Bool, eq-eqb, ne_eqb, ltb-true}
 use Rattle.rd_base.specs.Classes.{direction_of, is_initiator, is_removed}
@@ -10,7 +10,7 @@ use Rattle.rd_explicit.specs.declared.links.First.{First}
 use Rattle.rd_explicit.specs.Follow.{follower, side}
 use Rattle.rd_explicit.specs.Isolates.{matching, content}
 use Rattle.rd_explicit.specs.Links.{link_at, chain, chain_end, chained, gathered, sequences_from, first_of, beginning, without_beginning}
-use Rattle.rd_explicit.specs.Sequences.{Item, item_at, first_level, partner_of, matter, level_runs, begins, continued, others, joined, start_type, end_type, sequence}
+use Rattle.rd_explicit.specs.Sequences.{Item, item_at, first_level, partner_of, matter, level_runs, begins, continued, others, joined, end_type, sequence}
 use Rattle.rd_explicit.proofs.Groups.{joined-step}
 
 abbrev pub starts : ℕ → List ℕ → Bool

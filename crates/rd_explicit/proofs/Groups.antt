@@ -1,12 +1,9 @@
 -- One item more before the isolating run sequences of the items behind it.
-use Rattle.std.proofs.Common.{◌≡◌, ℕ, zero, suc, ◌+◌, ◌<◌, ◌≤◌, ◌==◌, Bool, true, false, if◌then◌else◌, List, [], ◌∷◌, ◌++◌, length, map, max, Option, None, Some, refl, ap, ap₂, sym, ◌∙◌, inl, inr, arith}
-use Rattle.std.proofs.lemmas.Bool.{cases_Bool, eq-eqb}
-use Rattle.rd_base.specs.Classes.{direction_of}
-use Rattle.rd_base.specs.declared.class.Class.{Class}
-use Rattle.rd_base.specs.declared.line.Seq.{Seq}
+use Rattle.std.proofs.Common.{◌≡◌, ◌==◌, Bool, true, false, if◌then◌else◌, List, [], ◌∷◌, Some, refl}
+use Rattle.std.proofs.lemmas.Bool.{eq-eqb}
 use Rattle.rd_explicit.specs.Follow.{follower}
 use Rattle.rd_explicit.specs.Links.{first_of}
-use Rattle.rd_explicit.specs.Sequences.{Item, level_runs, with_item, has_level, last_partner, begins, continued, others, joined, start_type, end_type, sequence}
+use Rattle.rd_explicit.specs.Sequences.{Item, level_runs, with_item, has_level, continued, others, joined}
 
 -- the runs of at least one item begin with one that begins with the first item
 pub first_run : (y : Item) (ys : List Item) → (r : List Item) × (rs : List (List Item)) × (level_runs (y ∷ ys) ≡ (y ∷ r) ∷ rs)

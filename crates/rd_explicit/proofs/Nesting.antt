@@ -1,10 +1,10 @@
 -- The PDIs that wait for their initiators, against the matching by nesting.
-use Rattle.std.proofs.Common.{◌≡◌, ℕ, zero, suc, ◌+◌, ◌<◌, ◌≤◌, nat_lt, Bool, true, false, if◌then◌else◌, List, [], ◌∷◌, ◌++◌, length, reverse, Option, None, Some, MatchOption, refl, ap, sym, ◌∙◌, add-zero, inl, inr, arith}
-use Rattle.std.proofs.lemmas.List.{same_from_push, length-append, reverse-append, reverse-reverse}
+use Rattle.std.proofs.Common.{◌≡◌, ℕ, zero, suc, ◌+◌, ◌<◌, ◌≤◌, nat_lt, if◌then◌else◌, List, [], ◌∷◌, ◌++◌, length, reverse, Option, None, Some, MatchOption, refl, ap, sym, ◌∙◌, add-zero, inl, inr, arith}
+use Rattle.std.proofs.lemmas.List.{same_from_push, length-append, reverse-append}
 use Rattle.std.proofs.lemmas.Bool.{cases_Bool, ltb-true, ltb-false, lt-ltb, le-ltb}
 use Rattle.rd_base.specs.declared.class.Class.{Class}
 use Rattle.rd_base.specs.declared.class.Class.TheVariants.{LRI, RLI, FSI, PDI}
-use Rattle.rd_explicit.specs.Isolates.{inside, content, matching}
+use Rattle.rd_explicit.specs.Isolates.{inside}
 use Rattle.rd_explicit.specs.Links.{tail_of, unmatched}
 
 abbrev pub nth : List ℕ → ℕ → Option ℕ

@@ -1,5 +1,5 @@
 -- Stacks: what closing an isolate leaves.
-use Rattle.std.proofs.Common.{◌≡◌, ℕ, ◌<◌, ◌≤◌, if◌then◌else◌, Bool, true, false, List, [], ◌∷◌, length, refl, arith}
+use Rattle.std.proofs.Common.{◌≡◌, ◌<◌, ◌≤◌, if◌then◌else◌, true, false, List, [], ◌∷◌, length, refl, arith}
 use Rattle.rd_explicit.specs.declared.stack.Entry.{Entry}
 use Rattle.rd_explicit.specs.Explicit.{below_isolate, Rises}
 

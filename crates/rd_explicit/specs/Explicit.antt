@@ -1,8 +1,8 @@
 -- Explicit levels (UAX 9, rules X1 to X8).
-use Rattle.std.specs.Prelude.{ℕ, ◌+◌, ◌-◌, ◌%◌, ◌==◌, ◌≤◌, ◌<◌, nat_le, nat_lt, Bool, true, false, ◌&&◌, if◌then◌else◌, List, [], ◌∷◌, length, map, Option, None, Some}
+use Rattle.std.specs.Prelude.{ℕ, ◌+◌, ◌-◌, ◌%◌, ◌==◌, ◌≤◌, nat_le, nat_lt, Bool, true, false, ◌&&◌, if◌then◌else◌, List, [], ◌∷◌, length, map, Option, None, Some}
 use Rattle.rd_base.specs.Classes.{is_removed, strong_level}
 use Rattle.rd_base.specs.declared.class.Class.{Class}
-use Rattle.rd_base.specs.declared.class.Class.TheVariants.{L, R, BN, B, LRE, LRO, RLE, RLO, PDF, LRI, RLI, FSI, PDI}
+use Rattle.rd_base.specs.declared.class.Class.TheVariants.{L, R, B, LRE, LRO, RLE, RLO, PDF, LRI, RLI, FSI, PDI}
 use Rattle.rd_explicit.specs.Isolates.{content}
 use Rattle.rd_explicit.specs.declared.stack.Entry.{Entry}
 use Rattle.rd_explicit.specs.declared.state.State.{State}

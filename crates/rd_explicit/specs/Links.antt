@@ -1,11 +1,11 @@
 -- How the walk from a line's end keeps the isolating run sequences: for each index whether a sequence begins there, and the next
 -- index of the sequence that it is in.
-use Rattle.std.specs.Prelude.{◌≡◌, ℕ, zero, suc, ◌+◌, ◌<◌, ◌==◌, max, Bool, true, false, if◌then◌else◌, List, [], ◌∷◌, length, map, drop, reverse, Option, None, Some, IfSome, slice_index_or, slice_set}
+use Rattle.std.specs.Prelude.{◌≡◌, ℕ, ◌+◌, ◌<◌, ◌==◌, max, Bool, false, if◌then◌else◌, List, [], ◌∷◌, length, map, drop, reverse, Option, None, Some, IfSome, slice_index_or, slice_set}
 use Rattle.rd_base.specs.Classes.{is_removed, direction_of}
 use Rattle.rd_base.specs.declared.class.Class.{Class}
 use Rattle.rd_base.specs.declared.class.Class.TheVariants.{L, LRI, RLI, FSI, PDI}
 use Rattle.rd_base.specs.declared.line.Seq.{Seq}
-use Rattle.rd_explicit.specs.Sequences.{Item, matter, level_runs, joined, sequence, partner_of}
+use Rattle.rd_explicit.specs.Sequences.{Item, matter, level_runs, joined, sequence}
 use Rattle.rd_explicit.specs.declared.links.Link.{Link}
 use Rattle.rd_explicit.specs.declared.links.First.{First}
 use Rattle.rd_explicit.specs.declared.links.Links.{Links}

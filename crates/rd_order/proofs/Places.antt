@@ -1,7 +1,7 @@
 -- Maximal runs, and which index comes to which place.
-use Rattle.std.proofs.Common.{◌≡◌, ℕ, zero, suc, ◌+◌, ◌-◌, ◌%◌, ◌<◌, ◌≤◌, ◌⊎◌, inl, inr, refl, sym, ap, subst, arith}
+use Rattle.std.proofs.Common.{◌≡◌, ℕ, zero, suc, ◌+◌, ◌-◌, ◌<◌, ◌≤◌, inl, inr, refl, subst, arith}
 use Rattle.std.proofs.lemmas.Bool.{cases_lt, cases_eq}
-use Rattle.rd_order.specs.Places.{AreHigh, BeginsLow, IsRun, Turns, Moves, Comes, IsNextTo}
+use Rattle.rd_order.specs.Places.{AreHigh, BeginsLow, IsRun, Turns, Moves, Comes}
 
 -- each place of level k or above lies in a maximal run
 start_of : (f : ℕ → ℕ) (k q : ℕ) → k ≤ f q → (a : ℕ) × (a ≤ q) × AreHigh f k a (suc q) × BeginsLow f k a

@@ -1,11 +1,11 @@
 -- One step of the walk.
-use Rattle.std.proofs.Common.{◌≡◌, ℕ, zero, suc, ◌+◌, ◌-◌, ◌%◌, ◌==◌, ◌<◌, ◌≤◌, ◌⊎◌, if◌then◌else◌, inl, inr, List, length, get_or, Option, Some, None, refl, sym, ap, subst, ◌∙◌, arith}
+use Rattle.std.proofs.Common.{◌≡◌, ℕ, zero, suc, ◌+◌, ◌-◌, ◌%◌, ◌==◌, ◌<◌, ◌≤◌, if◌then◌else◌, inl, inr, List, length, get_or, Some, None, refl, sym, ap, subst, ◌∙◌, arith}
 use Rattle.std.specs.Prelude.{slice_get}
 use Rattle.std.proofs.lemmas.Bool.{cases_lt, cases_eq}
 use Rattle.std.proofs.lemmas.Bool.Decides.{nat_tests}
 use Rattle.std.proofs.lemmas.Option.{slice_get_within, slice_get-get_or, slice_get_past}
 use Rattle.rd_order.specs.Order.{highest, visual_order}
-use Rattle.rd_order.specs.Places.{AreHigh, BeginsLow, IsRun, Turns, Moves, Comes, IsNextTo, IsBeside}
+use Rattle.rd_order.specs.Places.{AreHigh, BeginsLow, IsRun, Comes, IsNextTo, IsBeside}
 use Rattle.rd_order.proofs.Places.{same_run, comes_of, Comes-within, Comes-source}
 use Rattle.rd_order.proofs.Turned.{visual_order-length, visual_order-comes, highest-bounds}
 

@@ -1,15 +1,14 @@
 -- What one reversal does to a list, and all of them one after the other.
-use Rattle.std.proofs.Common.{◌≡◌, ℕ, zero, suc, ◌+◌, ◌-◌, ◌<◌, ◌≤◌, ◌⊎◌, inl, inr, Bool, true, false, if◌then◌else◌, List, [], ◌∷◌, ◌++◌, length, get_or, refl, sym, ap, subst, ◌∙◌, arith, length-append, append_assoc}
+use Rattle.std.proofs.Common.{◌≡◌, ℕ, zero, suc, ◌+◌, ◌-◌, ◌<◌, ◌≤◌, inl, inr, Bool, true, false, if◌then◌else◌, List, [], ◌∷◌, ◌++◌, length, get_or, refl, sym, ap, subst, ◌∙◌, arith, length-append, append_assoc}
 use Rattle.std.proofs.lemmas.Bool.{cases_lt, cases_eq, le-leb, lt-leb}
 use lib.Dec.{leb}
 use Rattle.std.proofs.lemmas.List.{get_or_append_left, get_or-append-add, get_or-reverse, length-reverse, reverse-append}
 use Rattle.std.proofs.lemmas.List.FromFn.{length-range_with_len, get_or-range_with_len}
 use Rattle.std.specs.List.{range_with_len}
-use Rattle.std.specs.Prelude.{slice_index}
 use mathlib.Core.List.{reverse}
 use Rattle.rd_order.specs.Order.{turned, turned_down, highest, visual_order}
-use Rattle.rd_order.specs.Places.{AreHigh, BeginsLow, IsRun, Turns, Moves, Comes}
-use Rattle.rd_order.proofs.Places.{Agree, Comes-agree, Comes-within, moves_of, Moves-within}
+use Rattle.rd_order.specs.Places.{AreHigh, BeginsLow, IsRun, Moves, Comes}
+use Rattle.rd_order.proofs.Places.{Agree, Comes-agree, Comes-within, moves_of}
 
 -- the level of what stands at a place of a list of indexes
 abbrev pub level_in : List ℕ → List ℕ → ℕ → ℕ

@@ -1,5 +1,5 @@
 -- One character of a line, as rules P2 and P3 of UAX 9 read it.
-use Rattle.std.specs.Prelude.{ℕ, ◌+◌, ◌-◌, if◌then◌else◌, Option, None, Some}
+use Rattle.std.specs.Prelude.{ℕ, ◌+◌, ◌-◌, Option, None, Some}
 use Rattle.rd_base.specs.declared.class.Class.{Class}
 use Rattle.rd_base.specs.declared.class.Class.TheVariants.{L, R, AL, LRI, RLI, FSI, PDI}
 

@@ -1,5 +1,5 @@
 -- One step of the weak rules, with the run of ET that was looked through.
-use Rattle.std.proofs.Common.{◌≡◌, Bool, true, false, ◌||◌, List, [], ◌∷◌, Option, None, Some, IfSome, unwrap_or, refl, ap, ap₂, sym, ◌∙◌}
+use Rattle.std.proofs.Common.{◌≡◌, Bool, true, false, ◌||◌, List, ◌∷◌, Option, None, Some, IfSome, unwrap_or, refl, ap, ap₂, sym, ◌∙◌}
 use Rattle.rd_base.specs.declared.class.Class.{Class}
 use Rattle.rd_base.specs.declared.class.Class.TheVariants.{AL, EN, AN, ES, ET, CS}
 use Rattle.rd_resolve.specs.declared.weak_walk.Before.{Before}

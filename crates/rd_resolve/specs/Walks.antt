@@ -1,8 +1,8 @@
 -- How one walk over a sequence keeps the passes: what is left, done from here.
-use Rattle.std.specs.Prelude.{◌≡◌, ℕ, Bool, List, [], ◌∷◌, Option, None, Some}
+use Rattle.std.specs.Prelude.{◌≡◌, Bool, List, Option, None, Some}
 use Rattle.rd_base.specs.declared.class.Class.{Class}
 use Rattle.rd_base.specs.declared.class.Class.TheVariants.{ET}
-use Rattle.rd_resolve.specs.Neutral.{n1, n2, following}
+use Rattle.rd_resolve.specs.Neutral.{following}
 use Rattle.rd_resolve.specs.Weak.{w1, w2, w3, w4, w5, w6, w7, comes_en}
 use Rattle.rd_resolve.specs.declared.weak_walk.Before.{Before}
 

@@ -1,10 +1,9 @@
 -- Reading a class file line by line, against what the whole file stands for.
-use Rattle.std.specs.Prelude.{◌≡◌, ℕ, suc, ◌<◌, ◌≤◌, List, ◌∷◌, length, slice_index_or, Option, Some, IfSome, Result, Ok, Err}
+use Rattle.std.specs.Prelude.{◌≡◌, ℕ, suc, ◌<◌, List, ◌∷◌, length, slice_index_or, IfSome, Result, Ok, Err}
 use Rattle.rd_ucd.specs.declared.fault.UcdFault.{UcdFault}
 use Rattle.rd_ucd.specs.declared.fault.UcdFault.TheVariants.{Memory}
 use Rattle.rd_ucd.specs.declared.spans.Span.{Span}
 use Rattle.rd_ucd.specs.declared.entries.Entry.{Entry}
-use Rattle.rd_ucd.specs.declared.entries.Opened.{Opened}
 use Rattle.rd_ucd.specs.declared.reader.Reader.{Reader}
 use Rattle.rd_ucd.specs.Lookup.{IsAscending}
 use Rattle.rd_ucd.specs.ClassFile.{entries_from, spans_from}

@@ -1,4 +1,4 @@
-use Rattle.std.proofs.Common.{◌≡◌, ◌<◌, ◌≤◌, ◌^◌, length, drop, ℕ}
+use Rattle.std.proofs.Common.{◌≡◌, ◌≤◌, drop}
 use Rattle.rd_base.specs.Classes.{strong_level}
 use Rattle.rd_explicit.specs.Isolates.{inside}
 use Rattle.rd_explicit.specs.Explicit.{starts_right, is_level_one}

@@ -1,4 +1,4 @@
-use Rattle.std.proofs.Common.{◌≡◌, ◌<◌, ◌+◌, length, drop, ap, sym, ◌∙◌, arith}
+use Rattle.std.proofs.Common.{◌≡◌, ◌<◌, ◌+◌, length, drop, ap, ◌∙◌, arith}
 use Rattle.rd_explicit.specs.Explicit.{given, after}
 use Rattle.rd_explicit.proofs.Steps.{levels-step, types-step, low-step}
 use Rattle.rd_explicit.proofs.levels.explicit.Goals as goal

@@ -1,4 +1,4 @@
-use Rattle.std.proofs.Common.{◌≡◌, ◌<◌, ◌≤◌, ◌++◌, ◌^◌, length, take, drop, All}
+use Rattle.std.proofs.Common.{◌≡◌, ◌<◌, ◌≤◌, ◌++◌, length, take, drop, All}
 use Rattle.rd_explicit.specs.Explicit.{explicit_from, explicit_of, levels_of, types_of, Rises, IsCounted}
 use Rattle.rd_explicit.proofs.levels.explicit.Given as goal
 

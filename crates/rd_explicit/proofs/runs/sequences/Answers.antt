@@ -1,6 +1,6 @@
 use Rattle.std.proofs.Common.{◌≡◌, ◌<◌, ◌≤◌, ◌+◌, ◌++◌, ◌∷◌, [], List, max, if◌then◌else◌, false, length, drop, get_or, ap, sym, ◌∙◌, arith}
 use Rattle.std.proofs.lemmas.List.{append_assoc, append-nil, drop_all}
-use Rattle.rd_base.specs.Classes.{direction_of, is_removed}
+use Rattle.rd_base.specs.Classes.{direction_of}
 use Rattle.rd_base.specs.declared.line.Seq.{Seq}
 use Rattle.rd_explicit.specs.Links.{gathered, seq_at}
 use Rattle.rd_explicit.proofs.Joining.{gathered-next}

@@ -1,4 +1,4 @@
-use Rattle.std.proofs.Common.{◌≡◌, ℕ, suc, ◌+◌, ◌<◌, ◌≤◌, length}
+use Rattle.std.proofs.Common.{◌+◌, ◌≤◌}
 use Rattle.std.specs.Prelude.{slice_index}
 use Rattle.rd_order.specs.Places.{AreHigh}
 use Rattle.rd_order.proofs.run.back.Given as goal

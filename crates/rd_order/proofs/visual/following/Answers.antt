@@ -1,4 +1,4 @@
-use Rattle.std.proofs.Common.{◌≡◌, ℕ, suc, ◌+◌, ◌-◌, ◌<◌, ◌≤◌, ◌⊎◌, inl, inr, length, slice_index, arith}
+use Rattle.std.proofs.Common.{◌+◌, ◌-◌, ◌<◌, inl, inr, length, slice_index, arith}
 use Rattle.rd_order.specs.Places.{BeginsLow}
 use Rattle.rd_order.proofs.Steps.{beside, known, last, left_at, turned_by}
 use Rattle.rd_order.proofs.visual.following.Goals as goal

@@ -1,4 +1,4 @@
-use Rattle.std.proofs.Common.{ℕ, ◌-◌, ◌<◌, ◌≤◌, length, slice_index, arith}
+use Rattle.std.proofs.Common.{◌-◌, length, slice_index, arith}
 use Rattle.rd_order.proofs.Steps.{entered, shows, turned_by}
 use Rattle.rd_order.proofs.visual.settled.Goals as goal
 

@@ -1,8 +1,8 @@
-use Rattle.std.proofs.Common.{◌≡◌, ◌+◌, ◌-◌, ◌<◌, ◌≤◌, ℕ, Bool, not, List, [], length, get_or, sym, ap, subst, ◌∙◌, arith}
+use Rattle.std.proofs.Common.{◌≡◌, ◌+◌, ◌-◌, ◌<◌, ℕ, Bool, not, length, get_or, sym, ap, ◌∙◌, arith}
 use Rattle.std.specs.List.{slice_split}
-use Rattle.rd_text.specs.Texts.{TextValue, IsText, between, is_newline, next_newline}
+use Rattle.rd_text.specs.Texts.{between, is_newline}
 use Rattle.rd_para.specs.Paragraphs.{text_level, levels_of, level_by, is_separator}
-use Rattle.rd_para.proofs.Cuts.{IsCut, line_cut_at, line_length, some_line, levels_here, levels_next, level_found}
+use Rattle.rd_para.proofs.Cuts.{line_cut_at, line_length, some_line, levels_here, levels_next, level_found}
 use Rattle.rd_para.proofs.level.level_by_text.Goals as goal
 
 pub is_blank_line-separates-requires-clause-last : goal.is_blank_line-separates-requires-clause-last

@@ -1,9 +1,9 @@
-use Rattle.std.proofs.Common.{◌≡◌, ◌+◌, ◌<◌, ◌≤◌, ℕ, List, [], sym, ap, subst, ◌∙◌, arith}
+use Rattle.std.proofs.Common.{◌+◌, ◌<◌, [], sym, ◌∙◌, arith}
 use Rattle.std.specs.Prelude.{unwrap_or}
 use Rattle.std.specs.List.{slice_split}
-use Rattle.rd_text.specs.Texts.{TextValue, IsText, between, is_newline, next_newline}
+use Rattle.rd_text.specs.Texts.{between, is_newline}
 use Rattle.rd_para.specs.Paragraphs.{decided}
-use Rattle.rd_para.proofs.Cuts.{IsCut, line_cut_at, some_line, decided_ends, decided_here, decided_next}
+use Rattle.rd_para.proofs.Cuts.{line_cut_at, some_line, decided_ends, decided_here, decided_next}
 use Rattle.rd_para.proofs.level.paragraph_level.Goals as goal
 
 pub is_blank_line-requires-clause-first : goal.is_blank_line-requires-clause-first

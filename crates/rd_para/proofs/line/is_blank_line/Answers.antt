@@ -1,4 +1,4 @@
-use Rattle.std.proofs.Common.{◌≡◌, ◌+◌, ◌<◌, ◌≤◌, sym, ◌∙◌, arith}
+use Rattle.std.proofs.Common.{sym, ◌∙◌, arith}
 use Rattle.rd_para.specs.Paragraphs.{is_separator}
 use Rattle.rd_text.specs.Texts.{between}
 use Rattle.rd_para.proofs.Chars.{blank_stops, blank_goes}

@@ -1,4 +1,4 @@
-use Rattle.std.proofs.Common.{◌≡◌, ◌+◌, ◌<◌, ◌≤◌, sym, ◌∙◌, arith}
+use Rattle.std.proofs.Common.{arith}
 use Rattle.rd_para.specs.Paragraphs.{line_level}
 use Rattle.rd_text.specs.Texts.{between}
 use Rattle.rd_para.proofs.Chars.{level_stops, level_goes}

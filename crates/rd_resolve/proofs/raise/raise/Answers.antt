@@ -1,4 +1,4 @@
-use Rattle.std.proofs.Common.{◌≡◌, ◌<◌, ◌+◌, if◌then◌else◌, length, drop, set, refl, ap, sym, ◌∙◌, arith}
+use Rattle.std.proofs.Common.{◌≡◌, ◌<◌, ◌+◌, if◌then◌else◌, length, drop, set, refl, ap, ◌∙◌, arith}
 use Rattle.rd_base.specs.Classes.{is_removed}
 use Rattle.rd_resolve.specs.Implicit.{raised}
 use Rattle.rd_resolve.proofs.Raising.{bounded, left-on, raise-step}

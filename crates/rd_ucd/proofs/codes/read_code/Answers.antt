@@ -1,5 +1,4 @@
-use Rattle.std.proofs.Common.{◌≡◌, ℕ, ◌+◌, ◌*◌, ◌<◌, Bool, true, false, if◌then◌else◌, Option, None, Some, get_or, refl, ap, arith, sym}
-use Rattle.rd_ucd.specs.Codes.{is_hex, hex_value}
+use Rattle.std.proofs.Common.{get_or, refl, arith, sym}
 use Rattle.rd_ucd.proofs.Large.{code_of-too_large, hex_told}
 use Rattle.rd_ucd.proofs.codes.read_code.Goals as goal
 

@@ -1,4 +1,4 @@
-use Rattle.std.proofs.Common.{◌≡◌, ℕ, ◌≤◌, drop}
+use Rattle.std.proofs.Common.{◌≡◌, ◌≤◌, drop}
 use Rattle.rd_ucd.specs.Codes.{number_from, in_range}
 use Rattle.rd_ucd.proofs.codes.read_code.Given as goal
 

@@ -1,5 +1,4 @@
-use Rattle.std.proofs.Common.{◌≡◌, ℕ, ◌-◌, ◌<◌, ◌≤◌, ◌⊎◌, inl, inr, length, sym, arith}
-use Rattle.std.specs.Prelude.{slice_index_or}
+use Rattle.std.proofs.Common.{◌-◌, inl, inr, sym, arith}
 use Rattle.std.proofs.lemmas.Bool.{cases_eq, cases_lt}
 use Rattle.rd_ucd.specs.declared.spans.Pair.{Pair}
 use Rattle.rd_ucd.proofs.Ranges.{mirror_in-miss, mirror_in-hit, default_code, strictly}

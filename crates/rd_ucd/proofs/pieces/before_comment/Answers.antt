@@ -1,4 +1,4 @@
-use Rattle.std.proofs.Common.{◌≡◌, ◌∙◌, sym}
+use Rattle.std.proofs.Common.{◌∙◌, sym}
 use Rattle.rd_ucd.proofs.Cuts.{uncommented-at}
 use Rattle.rd_ucd.proofs.pieces.before_comment.Goals as goal
 

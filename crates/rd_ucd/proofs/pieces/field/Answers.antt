@@ -1,5 +1,5 @@
-use Rattle.std.proofs.Common.{◌≡◌, ℕ, arith, sym, ◌∙◌, List, []}
-use Rattle.rd_ucd.proofs.Cuts.{field_next, field_last, field_at}
+use Rattle.std.proofs.Common.{arith}
+use Rattle.rd_ucd.proofs.Cuts.{field_next, field_last}
 use Rattle.rd_ucd.proofs.pieces.field.Goals as goal
 
 pub returns-in-None : goal.returns-in-None

@@ -1,4 +1,4 @@
-use Rattle.std.proofs.Common.{◌≡◌, ◌==◌, ℕ, ◌+◌, ◌-◌, ◌<◌, ◌≤◌, List, [], length, drop}
+use Rattle.std.proofs.Common.{◌≡◌, ◌==◌, drop}
 use Rattle.std.specs.List.{slice_split}
 use Rattle.rd_ucd.proofs.pieces.field.Given as goal
 

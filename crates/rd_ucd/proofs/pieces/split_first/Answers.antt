@@ -1,5 +1,4 @@
-use Rattle.std.proofs.Common.{◌≡◌, ◌≢◌, ◌==◌, ℕ, ◌+◌, ◌-◌, ◌<◌, ◌≤◌, List, [], ◌∷◌, length, get_or, take, drop, arith, ◌∙◌, ap, sym}
-use Rattle.std.proofs.lemmas.List.{length-drop}
+use Rattle.std.proofs.Common.{◌≡◌, ◌==◌, ℕ, ◌<◌, List, [], ◌∷◌, length, drop, arith, ◌∙◌, ap, sym}
 use Rattle.std.specs.List.{slice_split}
 use Rattle.rd_ucd.proofs.Cuts.{first_of_pieces, split_none, split_at_first}
 use Rattle.rd_ucd.proofs.pieces.split_first.Goals as goal

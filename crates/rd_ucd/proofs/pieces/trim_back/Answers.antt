@@ -1,4 +1,4 @@
-use Rattle.std.proofs.Common.{◌≡◌, ◌∙◌, ◌<◌, ◌≤◌, ◌-◌, Bool, false, get_or, sym, arith}
+use Rattle.std.proofs.Common.{◌≡◌, ◌∙◌, ◌<◌, ◌-◌, false, get_or, sym, arith}
 use Rattle.rd_ucd.specs.Pieces.{is_blank}
 use Rattle.rd_ucd.proofs.Cuts.{back_step, back_stop}
 use Rattle.rd_ucd.proofs.pieces.trim_back.Goals.{then-loop-end-test+else-is_space, else-loop-end-test}

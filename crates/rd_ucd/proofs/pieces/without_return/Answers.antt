@@ -1,4 +1,4 @@
-use Rattle.std.proofs.Common.{◌≡◌, ℕ, ◌-◌, ◌<◌, List, length, arith, ◌∙◌, sym}
+use Rattle.std.proofs.Common.{arith, ◌∙◌, sym}
 use Rattle.rd_ucd.proofs.Cuts.{chomped-return, chomped-same, nothing, something}
 use Rattle.rd_ucd.proofs.pieces.without_return.Goals as goal
 

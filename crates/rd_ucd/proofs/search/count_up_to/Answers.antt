@@ -1,4 +1,4 @@
-use Rattle.std.proofs.Common.{◌≡◌, ℕ, ◌+◌, ◌-◌, ◌/◌, ◌<◌, ◌≤◌, length, arith}
+use Rattle.std.proofs.Common.{◌+◌, ◌-◌, ◌/◌, arith}
 use Rattle.rd_ucd.proofs.Halves.{lower_half, upper_half}
 use Rattle.rd_ucd.proofs.search.count_up_to.Goals as goal
 

@@ -1,5 +1,4 @@
-use Rattle.std.proofs.Common.{◌≡◌, ◌++◌, ◌+◌, ◌∷◌, [], Some, drop, ap, sym, ◌∙◌}
-use Rattle.rd_explicit.specs.Links.{chain, chain_end, link_at}
+use Rattle.std.proofs.Common.{◌≡◌, Some, ap, sym, ◌∙◌}
 use Rattle.rd_explicit.proofs.Joining.{link-leads, chain-step, end-step, chain-stop, end-stop}
 use Rattle.rd_explicit.specs.declared.links.Link.{Link}
 use Rattle.rd_explicit.proofs.links.Links.sequence.Goals as goal

@@ -1,4 +1,4 @@
-use Rattle.std.proofs.Common.{◌≡◌, ◌≤◌, ◌<◌, ◌+◌, ◌-◌, ◌∷◌, ◌++◌, length, drop}
+use Rattle.std.proofs.Common.{◌≡◌, ◌<◌, ◌+◌, ◌-◌, ◌∷◌, ◌++◌, length, drop}
 use Rattle.rd_explicit.specs.Links.{link_at, chain, chain_end}
 use Rattle.rd_explicit.proofs.links.Links.sequence.Given as goal
 

@@ -1,9 +1,8 @@
-use Rattle.std.proofs.Common.{◌≡◌, ◌<◌, ◌+◌, ◌&&◌, Bool, true, false, length, drop, set, max, IfSome, is_none, ap, sym, ◌∙◌, refl}
-use Rattle.rd_base.specs.Classes.{is_removed, is_initiator, direction_of}
+use Rattle.std.proofs.Common.{◌≡◌, ◌<◌, ◌+◌, ◌&&◌, true, false, length, drop, set, max, IfSome, is_none, ap, sym, ◌∙◌, refl}
+use Rattle.rd_base.specs.Classes.{is_initiator, direction_of}
 use Rattle.rd_explicit.specs.declared.links.Link.{Link}
 use Rattle.rd_explicit.specs.Follow.{follower, side}
 use Rattle.rd_explicit.specs.Links.{beginning, without_beginning}
-use Rattle.rd_explicit.specs.Sequences.{partner_of}
 use Rattle.rd_explicit.proofs.Joining.{joins-removed, joins-item, follows-within, beginning-within, leads-on, below-end}
 use Rattle.rd_explicit.proofs.links.Links.step.Goals as goal
 

@@ -1,8 +1,6 @@
-use Rattle.std.proofs.Common.{◌≡◌, ◌||◌, Bool, false, List, unwrap_or, ap, ap₂, sym, ◌∙◌}
-use Rattle.rd_base.specs.declared.class.Class.{Class}
-use Rattle.rd_base.specs.declared.class.Class.TheVariants.{ET}
+use Rattle.std.proofs.Common.{◌≡◌, ◌||◌, false, unwrap_or, ap, ap₂, sym, ◌∙◌}
 use Rattle.rd_resolve.specs.Places.{types_at}
-use Rattle.rd_resolve.specs.Weak.{marked, strong_after, arabic, right, between, first_type, is_en, ended, separated, latin, w1, w2, w3}
+use Rattle.rd_resolve.specs.Weak.{strong_after, arabic, right, between, first_type, is_en, ended, separated, latin, w1, w2, w3}
 use Rattle.rd_resolve.specs.Walks.{run_ends, run_of}
 use Rattle.rd_resolve.proofs.Runs.{mark_of, strong_of, own_of, number_of, end_of, weak-step, run-known, run-is, et-mark, et-own, et-strong, assembled}
 use Rattle.rd_resolve.proofs.weak_walk.Before.step.Goals as goal

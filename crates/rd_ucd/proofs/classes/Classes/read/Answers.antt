@@ -1,4 +1,4 @@
-use Rattle.std.proofs.Common.{◌≡◌, ◌==◌, ◌+◌, suc, ◌∙◌, sym, ap, List, [], ◌∷◌, drop, ℕ, Result, subst, arith}
+use Rattle.std.proofs.Common.{◌≡◌, ◌==◌, ◌∙◌, sym, ap, List, [], ◌∷◌, drop, ℕ, Result, subst}
 use Rattle.std.specs.List.{slice_split}
 use Rattle.rd_ucd.specs.declared.fault.UcdFault.{UcdFault}
 use Rattle.rd_ucd.specs.declared.spans.Span.{Span}

@@ -1,4 +1,4 @@
-use Rattle.std.proofs.Common.{◌≡◌, ◌==◌, suc, ◌∙◌, sym, ap, List, [], ◌∷◌, drop, ℕ, Result, Ok, append-nil}
+use Rattle.std.proofs.Common.{◌==◌, ◌∙◌, sym, ap, List, [], drop, ℕ, Ok, append-nil}
 use Rattle.std.specs.List.{slice_split}
 use Rattle.rd_ucd.specs.declared.spans.Pair.{Pair}
 use Rattle.rd_ucd.specs.MirrorFile.{mirrors_of, ascending_from, pairs_from}
