@@ -17,6 +17,8 @@ pub fn insertions_at_edges()
     ensures end_stays { grown 3 1 (new_overlay 2 3 (pos 0) false false) ≡ new_overlay 2 3 (pos 0) false false }
     ensures end_moves { grown 3 1 (new_overlay 2 3 (pos 0) false true) ≡ new_overlay 2 4 (pos 0) false true }
     ensures start_never_past_the_end { grown 2 1 (new_overlay 2 2 (pos 0) true false) ≡ new_overlay 2 2 (pos 0) true false }
+    ensures empty_grows { grown 2 1 (new_overlay 2 2 (pos 0) false true) ≡ new_overlay 2 3 (pos 0) false true }
+    ensures empty_moves { grown 2 1 (new_overlay 2 2 (pos 0) true true) ≡ new_overlay 3 3 (pos 0) true true }
 {}
 
 /// What stands at a position where five overlays meet, one of them empty. The call does nothing.
