@@ -1,5 +1,5 @@
 -- Display tables.
-use Rattle.std.specs.Prelude.{◌≡◌, ℕ, nat_le, nat_lt, ◌==◌, ◌≤◌, Bool, not, ◌&&◌, ◌||◌, IsTrue, if◌then◌else◌, List, [], ◌∷◌, length, All, Option, None, Some}
+use Rattle.std.specs.Prelude.{◌≡◌, ℕ, nat_le, nat_lt, ◌==◌, Bool, not, ◌&&◌, ◌||◌, IsTrue, if◌then◌else◌, List, [], ◌∷◌, length, All, Option, None, Some}
 use Rattle.std.specs.List.{list_all}
 use Rattle.rd_base.specs.Chars.{is_scalar}
 use Rattle.rd_base.specs.declared.cell.Glyph.{Glyph}
