@@ -10,10 +10,6 @@ mod rows;
 mod session;
 mod view;
 
-pub use block::{Block, block_after, block_before, block_of};
-pub use elements::LineElements;
 pub use laws::{layouts_stay_built, states_stay_built};
 pub use outcome::Outcome;
-pub use rows::{Wanted, add_block};
 pub use session::Session;
-pub use view::lay_out;
