@@ -1,16 +1,21 @@
 -- Bounds that move with their overlays, and what lies outside them.
-use Rattle.std.proofs.Common.{◌≡◌, ℕ, zero, suc, ◌+◌, ◌-◌, ◌*◌, ◌/◌, ◌<◌, ◌≤◌, min, Bool, true, false, if◌then◌else◌, List, [], ◌∷◌, ◌++◌, length, map, Option, None, Some, refl, sym, ap, subst, ◌∙◌, arith, length-append}
-use Rattle.std.specs.Prelude.{slice_get, nat_lt}
+use Rattle.std.proofs.Common.{◌≡◌, ℕ, zero, suc, ◌+◌, ◌-◌, ◌*◌, ◌/◌, ◌<◌, ◌≤◌, min, Bool, true, false, if◌then◌else◌, List, [], ◌∷◌, ◌++◌, length, map, get_or, Option, None, Some, refl, sym, ap, subst, ◌∙◌, arith, length-append}
+use Rattle.std.specs.Prelude.{slice_get, slice_set, nat_lt}
+use Rattle.std.specs.List.{All, range_with_len}
+use Rattle.std.specs.List.Sorted.{IsPermutation}
 use Rattle.std.specs.Option.{unwrap_or}
 use Rattle.std.proofs.lemmas.Bool.Decides.{nat_tests}
-use Rattle.std.proofs.lemmas.List.{length-map}
-use Rattle.std.proofs.lemmas.Option.{slice_get_within}
+use Rattle.std.proofs.lemmas.List.{length-map, length-set}
+use Rattle.std.proofs.lemmas.List.Elements.{All-from_get_or}
+use Rattle.std.proofs.lemmas.List.FromFn.{length-range_with_len, get_or-range_with_len}
+use Rattle.std.proofs.lemmas.List.Sorted.{All-permutation}
+use Rattle.std.proofs.lemmas.Option.{slice_get_within, slice_get-get_or, get_or_from_slice_get}
 use Rattle.rd_overlays.specs.declared.overlay.Overlay.{Overlay}
 use Rattle.rd_overlays.specs.declared.overlay.Meeting.{Meeting}
 use Rattle.rd_overlays.specs.declared.overlay.Meeting.TheVariants.{Covers, Starts, Ends}
 use Rattle.rd_overlays.specs.declared.bounds.Bounds.{Bounds}
-use Rattle.rd_overlays.specs.Overlays.{meets, after_insertion, after_deletion, slot_grown, slot_shrunk, Fits, SlotFits}
-use Rattle.rd_overlays.specs.Bounds.{Holds, SlotHolds, IsBounded, IsAway, bounds_grown, bounds_shrunk}
+use Rattle.rd_overlays.specs.Overlays.{live, overlay_at, meets, after_insertion, after_deletion, slot_grown, slot_shrunk, Fits, SlotFits, AllFit}
+use Rattle.rd_overlays.specs.Bounds.{Holds, SlotHolds, IsBounded, IsBoundedTo, IsWidened, IsIndex, IsAway, passed, bounds_grown, bounds_shrunk}
 
 low-after : (pos n low v : ℕ) (m : Bool) → low ≤ v → (if nat_lt pos low then min (low + n) 4294967295 else low) ≤ after_insertion pos n m v
 low-after pos n low v true p = grind (arith, nat_tests)
@@ -62,27 +67,60 @@ map-from {X} {Y} f [] k y e =
 map-from {X} {Y} f (x ∷ xs) zero y e = (x, refl, ap (λ (o : Option Y). unwrap_or o y) e)
 map-from {X} {Y} f (x ∷ xs) (suc k) y e = map-from f xs k y e
 
-both-moved : (f : Option Overlay → Option Overlay) (g : Bounds → Bounds) (slots : List (Option Overlay)) (bounds : List Bounds) (k : ℕ)
-    (slot : Option Overlay) (b : Bounds) → IsBounded slots bounds
-    → ((k : ℕ) (s : Option Overlay) (b : Bounds) → slice_get slots k ≡ Some s → SlotHolds b s → SlotHolds (g b) (f s))
-    → ((s : Option Overlay) × (slice_get slots k ≡ Some s) × (f s ≡ slot))
-    → ((c : Bounds) × (slice_get bounds (k / 256) ≡ Some c) × (g c ≡ b)) → SlotHolds b slot
-both-moved f g slots bounds k slot b h step (s, at, is) (c, at_bounds, bounds_is) =
-    let P : Option Overlay → Type 0 = λ x. SlotHolds b x in
-    let Q : Bounds → Type 0 = λ x. SlotHolds x (f s) in
-    subst P is (subst Q bounds_is (step k s c at (h.holds k s c at at_bounds)))
+pub overlay_at-map : (f : Option Overlay → Option Overlay) (slots : List (Option Overlay)) (number : ℕ) → f None ≡ None
+    → overlay_at (map f slots) number ≡ f (overlay_at slots number)
+overlay_at-map f [] number e = sym e
+overlay_at-map f (s ∷ slots) zero e = refl
+overlay_at-map f (s ∷ slots) (suc number) e = overlay_at-map f slots number e
 
-pub moved-bounded : (f : Option Overlay → Option Overlay) (g : Bounds → Bounds) (slots : List (Option Overlay)) (bounds : List Bounds)
-    → IsBounded slots bounds
-    → ((k : ℕ) (s : Option Overlay) (b : Bounds) → slice_get slots k ≡ Some s → SlotHolds b s → SlotHolds (g b) (f s))
-    → IsBounded (map f slots) (map g bounds)
-moved-bounded f g slots bounds h step =
-    let size = length-map slots f in
+both-moved : (f : Option Overlay → Option Overlay) (g : Bounds → Bounds) (slots : List (Option Overlay)) (order : List ℕ) (bounds : List Bounds)
+    (place number : ℕ) (b : Bounds) → IsBounded slots order bounds → f None ≡ None
+    → ((number : ℕ) (b : Bounds) → SlotHolds b (overlay_at slots number) → SlotHolds (g b) (f (overlay_at slots number)))
+    → slice_get order place ≡ Some number
+    → ((c : Bounds) × (slice_get bounds (place / 256) ≡ Some c) × (g c ≡ b)) → SlotHolds b (overlay_at (map f slots) number)
+both-moved f g slots order bounds place number b h none step at (c, at_bounds, is) =
+    let P : Bounds → Type 0 = λ x. SlotHolds x (overlay_at (map f slots) number) in
+    let Q : Option Overlay → Type 0 = λ s. SlotHolds (g c) s in
+    subst P is (subst Q (sym (overlay_at-map f slots number none)) (step number c (h.holds place number c at at_bounds)))
+
+moved-bounded : (f : Option Overlay → Option Overlay) (g : Bounds → Bounds) (slots : List (Option Overlay)) (order : List ℕ) (bounds : List Bounds)
+    → IsBounded slots order bounds → f None ≡ None
+    → ((number : ℕ) (b : Bounds) → SlotHolds b (overlay_at slots number) → SlotHolds (g b) (f (overlay_at slots number)))
+    → IsBounded (map f slots) order (map g bounds)
+moved-bounded f g slots order bounds h none step =
     let bounds_size = length-map bounds g in
     let room = h.room in
     record {
-      room = omega (arith, size, bounds_size);
-      holds = λ k slot b e d. both-moved f g slots bounds k slot b h step (map-from f slots k slot e) (map-from g bounds (k / 256) b d);
+      room = omega (arith, bounds_size, room);
+      holds = λ place number b at d. both-moved f g slots order bounds place number b h none step at (map-from g bounds (place / 256) b d);
+    }
+
+fit-by : (pos n : ℕ) (o : Option (Option Overlay)) → ((slot : Option Overlay) → o ≡ Some slot → SlotFits pos n slot) → SlotFits pos n (live o)
+fit-by pos n None h = tt
+fit-by pos n (Some slot) h = h slot refl
+
+pub grown-index : (pos n : ℕ) (slots : List (Option Overlay)) (order : List ℕ) (bounds : List Bounds) → pos < 4294967296 → AllFit pos n slots
+    → IsIndex slots order bounds → IsIndex (map (slot_grown pos n) slots) order (map (bounds_grown pos n) bounds)
+grown-index pos n slots order bounds small fits h =
+    let slots_size = length-map slots (slot_grown pos n) in
+    let size = h.size in
+    record {
+      size = omega (arith, slots_size, size);
+      whole = h.whole;
+      bounded = moved-bounded (slot_grown pos n) (bounds_grown pos n) slots order bounds h.bounded refl
+          (λ number b held. grown-holds pos n b (overlay_at slots number) small (fit-by pos n (slice_get slots number) (λ slot at. fits number slot at)) held);
+    }
+
+pub shrunk-index : (from to : ℕ) (slots : List (Option Overlay)) (order : List ℕ) (bounds : List Bounds) → from ≤ to
+    → IsIndex slots order bounds → IsIndex (map (slot_shrunk from to) slots) order (map (bounds_shrunk from to) bounds)
+shrunk-index from to slots order bounds p h =
+    let slots_size = length-map slots (slot_shrunk from to) in
+    let size = h.size in
+    record {
+      size = omega (arith, slots_size, size);
+      whole = h.whole;
+      bounded = moved-bounded (slot_shrunk from to) (bounds_shrunk from to) slots order bounds h.bounded refl
+          (λ number b held. shrunk-holds from to b (overlay_at slots number) p held);
     }
 
 below-low : (m : Meeting) (pos : ℕ) (o : Overlay) (b : Bounds) → Holds b o → pos < b.low → meets m pos o ≡ false
@@ -103,26 +141,194 @@ pub away-above : (pos : ℕ) (b : Bounds) (slot : Option Overlay) → SlotHolds 
 away-above pos b None h p = tt
 away-above pos b (Some o) h p = λ m. above-high m pos o b h p
 
--- what stands in one block lies within its bounds
-pub block-holds : (slots : List (Option Overlay)) (bounds : List Bounds) (number k : ℕ) (slot : Option Overlay) (b : Bounds) → IsBounded slots bounds
-    → slice_get bounds ((number - 1) / 256) ≡ Some b → (number - 1) / 256 * 256 ≤ k → k < number → slice_get slots k ≡ Some slot → SlotHolds b slot
-block-holds slots bounds number k slot b h at low high here =
-    let same : k / 256 ≡ (number - 1) / 256 = omega arith in
-    h.holds k slot b here (ap (λ (q : ℕ). slice_get bounds q) same ∙ at)
-
-slice_get-front : {X : Type 0} (xs ys : List X) (k : ℕ) → k < length xs → slice_get (xs ++ ys) k ≡ slice_get xs k
+pub slice_get-front : {X : Type 0} (xs ys : List X) (k : ℕ) → k < length xs → slice_get (xs ++ ys) k ≡ slice_get xs k
 slice_get-front [] ys k p = absurd (omega arith)
 slice_get-front (x ∷ xs) ys zero p = refl
 slice_get-front (x ∷ xs) ys (suc k) p = slice_get-front xs ys k (omega arith)
 
-pub more-bounds : (slots : List (Option Overlay)) (bounds : List Bounds) (more : Bounds) → IsBounded slots bounds → IsBounded slots (bounds ++ more ∷ [])
-more-bounds slots bounds more h =
+-- what stands in the block of a place lies within its bounds
+pub block-holds : (slots : List (Option Overlay)) (order more : List ℕ) (bounds : List Bounds) (block k number : ℕ) (b : Bounds) → IsBounded slots order bounds
+    → slice_get bounds block ≡ Some b → block * 256 ≤ k → k < block * 256 + 256 → k < length order → slice_get (order ++ more) k ≡ Some number
+    → SlotHolds b (overlay_at slots number)
+block-holds slots order more bounds block k number b h at low high inside here =
+    let same : k / 256 ≡ block = omega arith in
+    h.holds k number b (sym (slice_get-front order more k inside) ∙ here) (ap (λ (q : ℕ). slice_get bounds q) same ∙ at)
+
+pub passed-holds : (slots : List (Option Overlay)) (order : List ℕ) (bounds : List Bounds) (size block k number : ℕ) (b : Bounds) → IsBounded slots order bounds
+    → slice_get bounds block ≡ Some b → block * 256 ≤ k → k < block * 256 + 256 → k < length order → slice_get (passed order size) k ≡ Some number
+    → SlotHolds b (overlay_at slots number)
+passed-holds slots order bounds size block k number b h at low high inside here =
+    block-holds slots order (range_with_len (length order) (size - length order)) bounds block k number b h at low high inside here
+
+pub more-bounds : (place : ℕ) (slots : List (Option Overlay)) (order : List ℕ) (bounds : List Bounds) (more : Bounds) → IsBoundedTo place slots order bounds
+    → IsBoundedTo place slots order (bounds ++ more ∷ [])
+more-bounds place slots order bounds more h =
     let size = length-append bounds (more ∷ []) in
     let room = h.room in
     record {
-      room = omega (arith, size);
-      holds = λ k slot b at at_bounds.
-          let p = slice_get_within slots k slot at in
+      room = omega (arith, size, room);
+      holds = λ k number b p at at_bounds.
           let q : k / 256 < length bounds = omega (arith, room, p) in
-          h.holds k slot b at (sym (slice_get-front bounds (more ∷ []) (k / 256) q) ∙ at_bounds);
+          h.holds k number b p at (sym (slice_get-front bounds (more ∷ []) (k / 256) q) ∙ at_bounds);
     }
+
+-- the bounds still hold what they held where some are wider
+pub wider : (old new : List Bounds) (place k : ℕ) (slot other : Option Overlay) (c : Bounds) → IsWidened old new place slot
+    → ((b : Bounds) → slice_get old k ≡ Some b → SlotHolds b other) → slice_get new k ≡ Some c → SlotHolds c other
+wider old new place k slot other c w held at =
+    let size = w.size in
+    let inside = slice_get_within new k c at in
+    let b = get_or old k c in
+    let at_old = slice_get-get_or old k c (omega (arith, size, inside)) in
+    w.kept k b c other at_old at (held b at_old)
+
+-- an overlay lies within the bounds of the blocks of its number from a place on
+abbrev pub HoldsFrom : List ℕ → List Bounds → ℕ → Option Overlay → ℕ → Type 0
+HoldsFrom order bounds number slot place =
+    (k : ℕ) (c : Bounds) → place ≤ k → slice_get order k ≡ Some number → slice_get bounds (k / 256) ≡ Some c → SlotHolds c slot
+
+widened-by : (order : List ℕ) (now new : List Bounds) (number : ℕ) (slot : Option Overlay) (place k : ℕ) (c : Bounds) (t : Bool) → nat_lt k place ≡ t
+    → IsWidened now new (place - 1) slot → HoldsFrom order now number slot place → place - 1 ≤ k → slice_get order k ≡ Some number
+    → slice_get new (k / 256) ≡ Some c → SlotHolds c slot
+widened-by order now new number slot place k c true e w h p there at =
+    let q : k < place = grind (arith, nat_tests) in
+    let same : k ≡ place - 1 = omega (arith, p, q) in
+    w.holds c (ap (λ (j : ℕ). slice_get new (j / 256)) (sym same) ∙ at)
+widened-by order now new number slot place k c false e w h p there at =
+    let q : place ≤ k = grind (arith, nat_tests) in
+    wider now new (place - 1) (k / 256) slot slot c w (λ b at_now. h k b q there at_now) at
+
+pub widened-step : (order : List ℕ) (now new : List Bounds) (number : ℕ) (slot : Option Overlay) (place : ℕ)
+    → IsWidened now new (place - 1) slot → HoldsFrom order now number slot place → HoldsFrom order new number slot (place - 1)
+widened-step order now new number slot place w h = λ k c p there at. widened-by order now new number slot place k c (nat_lt k place) refl w h p there at
+
+other-by : (order : List ℕ) (bounds : List Bounds) (number : ℕ) (slot : Option Overlay) (place k : ℕ) (c : Bounds) (t : Bool) → nat_lt k place ≡ t
+    → (get_or order (place - 1) 0 ≡ number → ⊥) → HoldsFrom order bounds number slot place → place - 1 ≤ k → slice_get order k ≡ Some number
+    → slice_get bounds (k / 256) ≡ Some c → SlotHolds c slot
+other-by order bounds number slot place k c true e other h p there at =
+    let q : k < place = grind (arith, nat_tests) in
+    let same : k ≡ place - 1 = omega (arith, p, q) in
+    absurd (other (ap (λ (j : ℕ). get_or order j 0) (sym same) ∙ get_or_from_slice_get order k number 0 there))
+other-by order bounds number slot place k c false e other h p there at =
+    let q : place ≤ k = grind (arith, nat_tests) in
+    h k c q there at
+
+pub other-step : (order : List ℕ) (bounds : List Bounds) (number : ℕ) (slot : Option Overlay) (place : ℕ)
+    → (get_or order (place - 1) 0 ≡ number → ⊥) → HoldsFrom order bounds number slot place → HoldsFrom order bounds number slot (place - 1)
+other-step order bounds number slot place other h = λ k c p there at. other-by order bounds number slot place k c (nat_lt k place) refl other h p there at
+
+set-holds : (slots : List (Option Overlay)) (number : ℕ) (slot : Option Overlay) (k : ℕ) (b : Bounds) → (k ≡ number → SlotHolds b slot)
+    → SlotHolds b (overlay_at slots k) → SlotHolds b (overlay_at (slice_set slots number slot) k)
+set-holds [] number slot k b f h = h
+set-holds (s ∷ slots) zero slot zero b f h = f refl
+set-holds (s ∷ slots) zero slot (suc k) b f h = h
+set-holds (s ∷ slots) (suc number) slot zero b f h = h
+set-holds (s ∷ slots) (suc number) slot (suc k) b f h = set-holds slots number slot k b (λ e. f (ap suc e)) h
+
+-- what has no other edges can come in place of an overlay
+pub kept-bounded : (slots : List (Option Overlay)) (order : List ℕ) (bounds : List Bounds) (number : ℕ) (before after : Option Overlay)
+    → ((b : Bounds) → SlotHolds b before → SlotHolds b after) → slice_get slots number ≡ Some before → IsBounded slots order bounds
+    → IsBounded (slice_set slots number after) order bounds
+kept-bounded slots order bounds number before after step at h = record {
+  room = h.room;
+  holds = λ place k b there at_bounds.
+      let held = h.holds place k b there at_bounds in
+      set-holds slots number after k b
+          (λ e. step b (subst (λ (s : Option Overlay). SlotHolds b s) (ap (overlay_at slots) e ∙ ap live at) held)) held;
+}
+
+-- so can what lies within the bounds of each block in which its number stands
+pub widened-bounded : (slots : List (Option Overlay)) (order : List ℕ) (old new : List Bounds) (number : ℕ) (slot : Option Overlay)
+    → length new ≡ length old
+    → ((place : ℕ) (c : Bounds) (other : Option Overlay) → ((b : Bounds) → slice_get old place ≡ Some b → SlotHolds b other) → slice_get new place ≡ Some c → SlotHolds c other)
+    → ((place : ℕ) (c : Bounds) → slice_get order place ≡ Some number → slice_get new (place / 256) ≡ Some c → SlotHolds c slot)
+    → IsBounded slots order old → IsBounded (slice_set slots number slot) order new
+widened-bounded slots order old new number slot size kept holds h =
+    let room = h.room in
+    record {
+      room = omega (arith, size, room);
+      holds = λ place k c there at.
+          set-holds slots number slot k c (λ e. holds place c (there ∙ ap Some e) at)
+              (kept (place / 256) c (overlay_at slots k) (λ b at_old. h.holds place k b there at_old) at);
+    }
+
+pub replaced-index : (slots : List (Option Overlay)) (old order : List ℕ) (before bounds : List Bounds) (number : ℕ) (slot : Option Overlay)
+    → IsIndex slots old before → order ≡ old → IsBounded (slice_set slots number slot) order bounds → IsIndex (slice_set slots number slot) order bounds
+replaced-index slots old order before bounds number slot h same bounded =
+    let P : List ℕ → Type 0 = λ xs. IsPermutation (range_with_len 0 (length xs)) xs in
+    let size = h.size in
+    let order_size = ap length same in
+    let slots_size = length-set slots number slot in
+    record {
+      size = omega (arith, size, order_size, slots_size);
+      whole = subst P (sym same) h.whole;
+      bounded = bounded;
+    }
+
+-- a number of the index is below the count of its numbers
+range-below : (m : ℕ) → All (λ k. k < m) (range_with_len 0 m)
+range-below m = All-from_get_or (λ k. k < m) (range_with_len 0 m) 0 (λ i p.
+    let size = length-range_with_len 0 m in
+    let is = get_or-range_with_len 0 m i 0 (omega (arith, size, p)) in
+    omega (arith, is, size, p))
+
+pub number-below : (m : ℕ) (order : List ℕ) (place k : ℕ) → IsPermutation (range_with_len 0 m) order → slice_get order place ≡ Some k → k < m
+number-below m order place k h at =
+    let P : ℕ → Type 0 = λ k. k < m in
+    let below = All-permutation P (range_with_len 0 m) order h (range-below m) place k (slice_get_within order place k at) in
+    subst P (get_or_from_slice_get order place k k at) below
+
+pub longer-index : (slots more : List (Option Overlay)) (order : List ℕ) (bounds : List Bounds) → IsIndex slots order bounds → IsIndex (slots ++ more) order bounds
+longer-index slots more order bounds h =
+    let size = h.size in
+    let longer = length-append slots more in
+    record {
+      size = omega (arith, size, longer);
+      whole = h.whole;
+      bounded = record {
+        room = h.bounded.room;
+        holds = λ place k b at at_bounds.
+            let p = number-below (length order) order place k h.whole at in
+            let inside : k < length slots = omega (arith, p, size) in
+            subst (λ (s : Option Overlay). SlotHolds b s) (sym (ap live (slice_get-front slots more k inside))) (h.bounded.holds place k b at at_bounds);
+      };
+    }
+
+-- the bounds of one more number
+last-by : (slots : List (Option Overlay)) (order : List ℕ) (old new : List Bounds) (place number k n : ℕ) (c : Bounds) (t : Bool) → nat_lt k place ≡ t
+    → k < place + 1 → slice_get order place ≡ Some number → IsBoundedTo place slots order old → IsWidened old new place (overlay_at slots number)
+    → slice_get order k ≡ Some n → slice_get new (k / 256) ≡ Some c → SlotHolds c (overlay_at slots n)
+last-by slots order old new place number k n c true e p at h w there at_new =
+    let q : k < place = grind (arith, nat_tests) in
+    wider old new place (k / 256) (overlay_at slots number) (overlay_at slots n) c w (λ b at_old. h.holds k n b q there at_old) at_new
+last-by slots order old new place number k n c false e p at h w there at_new =
+    let same : k ≡ place = grind (arith, nat_tests) in
+    let is : Some number ≡ Some n = sym at ∙ (ap (slice_get order) (sym same) ∙ there) in
+    let P : Option Overlay → Type 0 = λ s. SlotHolds c s in
+    subst P (ap (overlay_at slots) (ap (λ (o : Option ℕ). unwrap_or o number) is)) (w.holds c (ap (λ (q : ℕ). slice_get new (q / 256)) (sym same) ∙ at_new))
+
+pub one-bounded : (slots : List (Option Overlay)) (order : List ℕ) (old new : List Bounds) (place number : ℕ)
+    → slice_get order place ≡ Some number → place < length old * 256 → IsBoundedTo place slots order old → IsWidened old new place (overlay_at slots number)
+    → IsBoundedTo (place + 1) slots order new
+one-bounded slots order old new place number at room h w =
+    let size = w.size in
+    record {
+      room = omega (arith, size, room);
+      holds = λ k n c p there at_new. last-by slots order old new place number k n c (nat_lt k place) refl p at h w there at_new;
+    }
+
+pub all-bounded : (place : ℕ) (slots : List (Option Overlay)) (order : List ℕ) (bounds : List Bounds) → length order ≤ place
+    → IsBoundedTo place slots order bounds → IsBounded slots order bounds
+all-bounded place slots order bounds p h =
+    let room = h.room in
+    record {
+      room = omega (arith, room, p);
+      holds = λ k n b at at_bounds. h.holds k n b (omega (arith, p, slice_get_within order k n at)) at at_bounds;
+    }
+
+pub none-bounded : (slots : List (Option Overlay)) (order : List ℕ) → IsBoundedTo 0 slots order []
+none-bounded slots order = record {
+  room = omega arith;
+  holds = λ k n b p at at_bounds. absurd (omega (arith, p));
+}
+

@@ -3,5 +3,6 @@ mod Exact
 mod Listed
 mod Moving
 mod Nearest
+mod Passing
 mod Skipping
 mod Sorting

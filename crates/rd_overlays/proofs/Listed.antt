@@ -1,21 +1,24 @@
 -- What was found, once it is sorted, is the listing; and what a listing holds.
-use Rattle.std.proofs.Common.{◌≡◌, ℕ, suc, ◌<◌, ◌≤◌, Bool, true, false, not, ◌&&◌, if◌then◌else◌, List, [], ◌∷◌, ◌++◌, length, Option, None, Some, refl, sym, ap, ◌∙◌, arith, append-nil, true≢false}
-use Rattle.std.specs.Prelude.{⊤}
-use Rattle.std.specs.List.{filter}
-use Rattle.std.specs.List.Sorted.{ties, IsSortedBy}
+use Rattle.std.proofs.Common.{◌≡◌, ℕ, suc, ◌<◌, ◌≤◌, Bool, true, false, not, ◌&&◌, if◌then◌else◌, List, [], ◌∷◌, ◌++◌, length, drop, replicate, ◌+◌, Option, None, Some, refl, sym, ap, ◌∙◌, arith, append-nil, length-append, true≢false}
+use Rattle.std.specs.Prelude.{⊤, nat_lt}
+use Rattle.std.specs.List.{filter, sum_by, range_with_len}
+use Rattle.std.specs.List.Sorted.{ties, IsSortedBy, IsPermutation}
 use Rattle.std.specs.Ordering.{is_lt, ordering_then, ordering_reverse, int_cmp, nat_cmp}
 use Rattle.std.specs.declared.cmp.Ordering.{Ordering}
 use Rattle.std.specs.declared.cmp.Ordering.TheVariants.{Less, Equal, Greater}
 use Rattle.std.specs.Cmp.{IsStrictWeakOrder, IsTotalOrder}
-use Rattle.std.proofs.lemmas.Cmp.{int_cmp_total, nat_cmp_total, then_total}
+use Rattle.std.proofs.lemmas.Cmp.{int_cmp_total, nat_cmp_total, then_total, int_ranked}
 use Rattle.std.specs.Cmp.{on_total}
 use Rattle.std.proofs.lemmas.Bool.Decides.{nat_tests}
 use Rattle.std.proofs.lemmas.List.Elements.{filter-append}
-use Rattle.std.proofs.lemmas.List.Sorted.{ranks_by}
+use Rattle.std.proofs.lemmas.List.Sorted.{ranks_by, sum_by-IsPermutation}
+use Rattle.std.proofs.lemmas.List.Sums.{sum_by-cons}
 use Rattle.rd_overlays.specs.declared.overlay.Overlay.{Overlay}
 use Rattle.rd_overlays.specs.declared.listing.Rank.{Rank}
-use Rattle.rd_overlays.specs.Overlays.{precedes, placed, ranked_from}
-use Rattle.rd_overlays.specs.Listings.{rank_of, found_from}
+use Rattle.rd_overlays.specs.Overlays.{live, overlay_at, precedes, placed, ranked_from}
+use Rattle.rd_overlays.specs.Listings.{rank_of, rank_at, found_from, found_in}
+use Rattle.rd_overlays.specs.Bounds.{passed}
+use Rattle.rd_overlays.proofs.Passing.{drop-cons, passed-whole}
 use Rattle.rd_overlays.proofs.Sorting.{AllAfter, Rises, rises-never_falls, sorted-never_falls, unique}
 
 order : IsTotalOrder (λ (a b : Rank). ordering_then (int_cmp a.priority b.priority) (nat_cmp a.number b.number))
@@ -187,10 +190,78 @@ ranked-ties test n (None ∷ slots) x =
 ranked-ties test n (Some o ∷ slots) x =
     slot_ties x n o (ranked_from test (suc n) slots) (found_from test (suc n) slots) (test o) (ranked-numbers test (suc n) slots) (ranked-ties test (suc n) slots x)
 
+-- what ties with a rank is the rank
+tied-number : (x r : Rank) (a b : Bool) → precedes x r ≡ false → precedes r x ≡ false → nat_lt x.number r.number ≡ a → nat_lt r.number x.number ≡ b
+    → x.number ≡ r.number
+tied-number x r true b p q e f = let low : x.number < r.number = grind (arith, nat_tests) in absurd (true≢false (sym (apart x r low q) ∙ p))
+tied-number x r false true p q e f = let low : r.number < x.number = grind (arith, nat_tests) in absurd (true≢false (sym (apart r x low p) ∙ q))
+tied-number x r false false p q e f = grind (arith, nat_tests)
+
+tied-by : (x r : Rank) (c : Ordering) → int_cmp x.priority r.priority ≡ c → precedes x r ≡ false → precedes r x ≡ false → x.priority ≡ r.priority
+tied-by x r Less e p q = absurd (true≢false (sym (ap (λ (o : Ordering). is_lt (ordering_then o (nat_cmp x.number r.number))) e) ∙ p))
+tied-by x r Equal e p q = int_ranked x.priority r.priority Equal (sym e)
+tied-by x r Greater e p q =
+    let back : int_cmp r.priority x.priority ≡ Less = int_cmp_total.antisymm r.priority x.priority ∙ ap ordering_reverse e in
+    absurd (true≢false (sym (ap (λ (o : Ordering). is_lt (ordering_then o (nat_cmp r.number x.number))) back) ∙ q))
+
+tied-same : (x r : Rank) → ties precedes x r ≡ true → r ≡ x
+tied-same x r t =
+    let p = tie-left (precedes x r) (precedes r x) t in
+    let q = tie-right (precedes x r) (precedes r x) t in
+    let number = tied-number x r (nat_lt x.number r.number) (nat_lt r.number x.number) p q refl refl in
+    let priority = tied-by x r (int_cmp x.priority r.priority) refl p q in
+    (λ i. record { priority = sym priority i; number = sym number i })
+
+tied-cons : (x r : Rank) (rs : List Rank) (b : Bool) → ties precedes x r ≡ b → filter (ties precedes x) rs ≡ replicate (length (filter (ties precedes x) rs)) x
+    → (if b then r ∷ filter (ties precedes x) rs else filter (ties precedes x) rs) ≡ replicate (length (if b then r ∷ filter (ties precedes x) rs else filter (ties precedes x) rs)) x
+tied-cons x r rs true e rest = ap (λ (s : Rank). s ∷ filter (ties precedes x) rs) (tied-same x r e) ∙ ap (λ (ss : List Rank). x ∷ ss) rest
+tied-cons x r rs false e rest = rest
+
+tied-all : (x : Rank) (rs : List Rank) → filter (ties precedes x) rs ≡ replicate (length (filter (ties precedes x) rs)) x
+tied-all x [] = refl
+tied-all x (r ∷ rs) = tied-cons x r rs (ties precedes x r) refl (tied-all x rs)
+
+-- how many ranks of one number tie with a rank
+abbrev tied_at : (Overlay → Bool) → List (Option Overlay) → Rank → ℕ → ℕ
+tied_at test slots x k = length (filter (ties precedes x) (rank_at test k (overlay_at slots k)))
+
+tied-sum : (test : Overlay → Bool) (slots : List (Option Overlay)) (x : Rank) (numbers : List ℕ)
+    → length (filter (ties precedes x) (found_in test slots numbers)) ≡ sum_by (tied_at test slots x) numbers
+tied-sum test slots x [] = refl
+tied-sum test slots x (k ∷ ks) =
+    let found = found_in test slots ks in
+    let here = rank_at test k (overlay_at slots k) in
+    let t = ties precedes x in
+    let parts = ap length (filter-append t found here) ∙ length-append (filter t found) (filter t here) in
+    let rest = tied-sum test slots x ks in
+    let sum = sum_by-cons (tied_at test slots x) k ks in
+    omega (arith, parts, rest, sum)
+
+same-ties : (test : Overlay → Bool) (slots : List (Option Overlay)) (x : Rank) (ks ls : List ℕ) → IsPermutation ks ls
+    → filter (ties precedes x) (found_in test slots ls) ≡ filter (ties precedes x) (found_in test slots ks)
+same-ties test slots x ks ls h =
+    let t = ties precedes x in
+    let count = tied-sum test slots x ls ∙ (sum_by-IsPermutation (tied_at test slots x) ks ls h ∙ sym (tied-sum test slots x ks)) in
+    tied-all x (found_in test slots ls) ∙ (ap (λ (n : ℕ). replicate n x) count ∙ sym (tied-all x (found_in test slots ks)))
+
+-- by number from the first on, what is found is what the definition finds
+found-by : (test : Overlay → Bool) (all : List (Option Overlay)) (a : ℕ) (rest : List (Option Overlay)) → drop a all ≡ rest
+    → found_in test all (range_with_len a (length rest)) ≡ found_from test a rest
+found-by test all a [] e = refl
+found-by test all a (s ∷ rest) e =
+    let (at, next) = drop-cons all a s rest e in
+    let later = found-by test all (a + 1) rest next in
+    let n : a + 1 ≡ suc a = omega arith in
+    ap (λ (rs : List Rank). rs ++ rank_at test a (overlay_at all a)) (later ∙ ap (λ (k : ℕ). found_from test k rest) n)
+    ∙ ap (λ (o : Option Overlay). found_from test (suc a) rest ++ rank_at test a o) (ap live at)
+
 -- what was found is the listing once it is sorted
-pub sorted-is : (test : Overlay → Bool) (slots : List (Option Overlay)) (sorted : List Rank) → IsSortedBy precedes sorted
-    → ((x : Rank) → filter (ties precedes x) sorted ≡ filter (ties precedes x) (found_from test 0 slots)) → sorted ≡ ranked_from test 0 slots
-sorted-is test slots sorted rising stable =
+pub sorted-is : (test : Overlay → Bool) (slots : List (Option Overlay)) (order : List ℕ) (sorted : List Rank) → length order ≤ length slots
+    → IsPermutation (range_with_len 0 (length order)) order → IsSortedBy precedes sorted
+    → ((x : Rank) → filter (ties precedes x) sorted ≡ filter (ties precedes x) (found_in test slots (passed order (length slots)))) → sorted ≡ ranked_from test 0 slots
+sorted-is test slots order sorted size whole rising stable =
     unique precedes weak sorted (ranked_from test 0 slots) (sorted-never_falls precedes weak sorted rising)
     (rises-never_falls precedes weak (ranked_from test 0 slots) (ranked-rises test 0 slots))
-    (λ x. stable x ∙ sym (ranked-ties test 0 slots x))
+    (λ x. stable x
+        ∙ (same-ties test slots x (range_with_len 0 (length slots)) (passed order (length slots)) (passed-whole slots order size whole)
+        ∙ (ap (filter (ties precedes x)) (found-by test slots 0 slots refl) ∙ sym (ranked-ties test 0 slots x))))

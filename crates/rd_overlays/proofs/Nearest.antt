@@ -1,12 +1,17 @@
 -- The least edge behind a position, over blocks that are passed over.
-use Rattle.std.proofs.Common.{◌≡◌, ℕ, zero, suc, ◌+◌, ◌-◌, ◌<◌, ◌≤◌, min, Bool, true, false, if◌then◌else◌, List, length, get_or, drop, Option, None, Some, refl, sym, ap, ◌∙◌, arith}
+use Rattle.std.proofs.Common.{◌≡◌, ℕ, zero, suc, ◌+◌, ◌-◌, ◌<◌, ◌≤◌, min, Bool, true, false, if◌then◌else◌, List, [], ◌∷◌, length, map, get_or, drop, Option, None, Some, refl, sym, ap, ◌∙◌, arith}
 use Rattle.std.specs.Prelude.{slice_get, nat_lt}
 use Rattle.std.proofs.lemmas.Bool.Decides.{nat_tests}
+use Rattle.std.specs.List.{All}
+use Rattle.std.specs.List.Sorted.{IsPermutation}
+use Rattle.std.proofs.lemmas.List.Elements.{All-nil, All-cons, All-head, All-tail, All-weaker}
+use Rattle.std.proofs.lemmas.List.Sorted.{All-permutation, IsPermutation-sym}
 use Rattle.std.proofs.lemmas.Option.{slice_get-get_or}
 use Rattle.rd_overlays.specs.declared.overlay.Overlay.{Overlay}
 use Rattle.rd_overlays.specs.declared.bounds.Bounds.{Bounds}
-use Rattle.rd_overlays.specs.Overlays.{lesser, beyond, slot_edge, next_edge}
+use Rattle.rd_overlays.specs.Overlays.{overlay_at, lesser, beyond, slot_edge, next_edge}
 use Rattle.rd_overlays.specs.Bounds.{SlotHolds}
+use Rattle.rd_overlays.specs.Listings.{edge_in}
 use Rattle.rd_overlays.proofs.Moving.{drop-from}
 
 pub lesser-none : (a : Option ℕ) → lesser a None ≡ a
@@ -47,31 +52,73 @@ none_lesser pos x b (Some o) p h =
     let low_to = h.low_to in
     as_low x o.from o.to (nat_lt pos o.from) (nat_lt pos o.to) (omega arith) (omega arith)
 
-pub one_more : (pos n : ℕ) (s : List (Option Overlay)) (least new : Option ℕ) (slot : Option Overlay) → slice_get s n ≡ Some slot
-    → new ≡ lesser least (slot_edge pos slot) → lesser new (next_edge pos (drop (n + 1) s)) ≡ lesser least (next_edge pos (drop n s))
-one_more pos n s least new slot at is =
-    let rest = next_edge pos (drop (n + 1) s) in
-    ap (λ (e : Option ℕ). lesser e rest) is
-    ∙ (lesser-assoc least (slot_edge pos slot) rest
-    ∙ ap (lesser least) (sym (ap (next_edge pos) (drop-from s n slot at))))
+lesser-comm : (a b : Option ℕ) → lesser a b ≡ lesser b a
+lesser-comm None b = sym (lesser-none b)
+lesser-comm (Some x) None = refl
+lesser-comm (Some x) (Some y) = let e : min x y ≡ min y x = omega arith in ap Some e
 
-skip-by : (pos : ℕ) (s : List (Option Overlay)) (least : Option ℕ) (d n i : ℕ) → i ≡ d + n → i ≤ length s
-    → ((k : ℕ) (slot : Option Overlay) → n ≤ k → k < i → slice_get s k ≡ Some slot → lesser least (slot_edge pos slot) ≡ least)
-    → lesser least (next_edge pos (drop i s)) ≡ lesser least (next_edge pos (drop n s))
-skip-by pos s least zero n i e within idle =
+lesser-same : (a : Option ℕ) → lesser a a ≡ a
+lesser-same None = refl
+lesser-same (Some x) = let e : min x x ≡ x = omega arith in ap Some e
+
+-- no edge of these stands before the first
+abbrev NoneBefore : ℕ → Option ℕ → Option Overlay → Type 0
+NoneBefore pos least slot = lesser least (slot_edge pos slot) ≡ least
+
+still-none : (pos : ℕ) (a f : Option ℕ) (slot : Option Overlay) → NoneBefore pos f slot → NoneBefore pos (lesser a f) slot
+still-none pos a f slot e = lesser-assoc a f (slot_edge pos slot) ∙ ap (lesser a) e
+
+none-first : (a f : Option ℕ) → lesser (lesser a f) a ≡ lesser a f
+none-first a f = lesser-assoc a f a ∙ (ap (lesser a) (lesser-comm f a) ∙ (sym (lesser-assoc a a f) ∙ ap (λ (e : Option ℕ). lesser e f) (lesser-same a)))
+
+least-of : (pos : ℕ) (slots : List (Option Overlay)) → All (NoneBefore pos (next_edge pos slots)) slots
+least-of pos [] = All-nil (NoneBefore pos None)
+least-of pos (s ∷ ss) =
+    let whole = lesser (slot_edge pos s) (next_edge pos ss) in
+    All-cons (NoneBefore pos whole) s ss (none-first (slot_edge pos s) (next_edge pos ss))
+    (All-weaker (NoneBefore pos (next_edge pos ss)) (NoneBefore pos whole) (still-none pos (slot_edge pos s) (next_edge pos ss)) ss (least-of pos ss))
+
+below-least : (pos : ℕ) (least : Option ℕ) (slots : List (Option Overlay)) → All (NoneBefore pos least) slots → lesser least (next_edge pos slots) ≡ least
+below-least pos least [] h = lesser-none least
+below-least pos least (s ∷ ss) h =
+    sym (lesser-assoc least (slot_edge pos s) (next_edge pos ss))
+    ∙ (ap (λ (e : Option ℕ). lesser e (next_edge pos ss)) (All-head (NoneBefore pos least) s ss h)
+    ∙ below-least pos least ss (All-tail (NoneBefore pos least) s ss h))
+
+-- the order of the overlays says nothing for their least edge
+pub same-edge : (pos : ℕ) (xs ys : List (Option Overlay)) → IsPermutation xs ys → next_edge pos ys ≡ next_edge pos xs
+same-edge pos xs ys h =
+    let a = next_edge pos xs in
+    let b = next_edge pos ys in
+    let ab = below-least pos a ys (All-permutation (NoneBefore pos a) xs ys h (least-of pos xs)) in
+    let ba = below-least pos b xs (All-permutation (NoneBefore pos b) ys xs (IsPermutation-sym xs ys h) (least-of pos ys)) in
+    sym ba ∙ (lesser-comm b a ∙ ab)
+
+pub one_more : (pos n : ℕ) (s : List (Option Overlay)) (numbers : List ℕ) (k : ℕ) (least new : Option ℕ) → slice_get numbers n ≡ Some k
+    → new ≡ lesser least (slot_edge pos (overlay_at s k)) → lesser new (edge_in pos s (drop (n + 1) numbers)) ≡ lesser least (edge_in pos s (drop n numbers))
+one_more pos n s numbers k least new at is =
+    let rest = edge_in pos s (drop (n + 1) numbers) in
+    ap (λ (e : Option ℕ). lesser e rest) is
+    ∙ (lesser-assoc least (slot_edge pos (overlay_at s k)) rest
+    ∙ ap (lesser least) (sym (ap (edge_in pos s) (drop-from numbers n k at))))
+
+skip-by : (pos : ℕ) (s : List (Option Overlay)) (numbers : List ℕ) (least : Option ℕ) (d n i : ℕ) → i ≡ d + n → i ≤ length numbers
+    → ((j k : ℕ) → n ≤ j → j < i → slice_get numbers j ≡ Some k → lesser least (slot_edge pos (overlay_at s k)) ≡ least)
+    → lesser least (edge_in pos s (drop i numbers)) ≡ lesser least (edge_in pos s (drop n numbers))
+skip-by pos s numbers least zero n i e within idle =
     let q : i ≡ n = omega arith in
-    ap (λ (k : ℕ). lesser least (next_edge pos (drop k s))) q
-skip-by pos s least (suc d) n i e within idle =
-    let p : n < length s = omega arith in
+    ap (λ (k : ℕ). lesser least (edge_in pos s (drop k numbers))) q
+skip-by pos s numbers least (suc d) n i e within idle =
+    let p : n < length numbers = omega arith in
     let here : n < i = omega arith in
     let next : i ≡ d + (n + 1) = omega arith in
-    let at = slice_get-get_or s n None p in
-    skip-by pos s least d (n + 1) i next within (λ k slot low high is. idle k slot (omega arith) high is)
-    ∙ one_more pos n s least least (get_or s n None) at (sym (idle n (get_or s n None) (omega arith) here at))
+    let at = slice_get-get_or numbers n 0 p in
+    skip-by pos s numbers least d (n + 1) i next within (λ j k low high is. idle j k (omega arith) high is)
+    ∙ one_more pos n s numbers (get_or numbers n 0) least least at (sym (idle n (get_or numbers n 0) (omega arith) here at))
 
-pub skipped : (pos : ℕ) (s : List (Option Overlay)) (least : Option ℕ) (n i : ℕ) → n ≤ i → i ≤ length s
-    → ((k : ℕ) (slot : Option Overlay) → n ≤ k → k < i → slice_get s k ≡ Some slot → lesser least (slot_edge pos slot) ≡ least)
-    → lesser least (next_edge pos (drop i s)) ≡ lesser least (next_edge pos (drop n s))
-skipped pos s least n i p within idle =
+pub skipped : (pos : ℕ) (s : List (Option Overlay)) (numbers : List ℕ) (least : Option ℕ) (n i : ℕ) → n ≤ i → i ≤ length numbers
+    → ((j k : ℕ) → n ≤ j → j < i → slice_get numbers j ≡ Some k → lesser least (slot_edge pos (overlay_at s k)) ≡ least)
+    → lesser least (edge_in pos s (drop i numbers)) ≡ lesser least (edge_in pos s (drop n numbers))
+skipped pos s numbers least n i p within idle =
     let e : i ≡ (i - n) + n = omega arith in
-    skip-by pos s least (i - n) n i e within idle
+    skip-by pos s numbers least (i - n) n i e within idle

@@ -1,9 +1,9 @@
 -- What a listing of overlays holds, and in which order.
-use Rattle.std.specs.Prelude.{◌≡◌, ℕ, suc, ◌<◌, ◌↔◌, Bool, true, if◌then◌else◌, List, [], ◌∷◌, ◌++◌, length, slice_index, Option, None, Some}
+use Rattle.std.specs.Prelude.{◌≡◌, ℕ, suc, ◌<◌, ◌↔◌, Bool, true, if◌then◌else◌, List, [], ◌∷◌, ◌++◌, length, map, slice_index, Option, None, Some}
 use Rattle.std.specs.List.{Contains}
 use Rattle.rd_overlays.specs.declared.overlay.Overlay.{Overlay}
 use Rattle.rd_overlays.specs.declared.listing.Rank.{Rank}
-use Rattle.rd_overlays.specs.Overlays.{overlay_at, precedes}
+use Rattle.rd_overlays.specs.Overlays.{overlay_at, precedes, next_edge}
 
 abbrev pub Passes : (Overlay → Bool) → Option Overlay → Type 0
 Passes test None = ⊥
@@ -32,3 +32,12 @@ rank_at test number (Some overlay) = if test overlay then rank_of number overlay
 abbrev pub found_from : (Overlay → Bool) → ℕ → List (Option Overlay) → List Rank
 found_from test number [] = []
 found_from test number (slot ∷ slots) = found_from test (suc number) slots ++ rank_at test number slot
+
+-- the overlays of these numbers that pass a test, from the last number to the first
+abbrev pub found_in : (Overlay → Bool) → List (Option Overlay) → List ℕ → List Rank
+found_in test slots [] = []
+found_in test slots (number ∷ numbers) = found_in test slots numbers ++ rank_at test number (overlay_at slots number)
+
+-- the least edge of the overlays of these numbers behind a position
+abbrev pub edge_in : ℕ → List (Option Overlay) → List ℕ → Option ℕ
+edge_in pos slots numbers = next_edge pos (map (overlay_at slots) numbers)

@@ -1,8 +1,11 @@
 //! The least start or end behind a position.
-ghost use Rattle.std.specs.Prelude.{◌≡◌};
+ghost use Rattle.std.specs.Prelude.{◌≡◌, ◌≤◌, length};
 ghost use Rattle.rd_overlays.specs.Overlays.{lesser, beyond, slot_edge, next_edge};
+ghost use Rattle.rd_overlays.specs.Bounds.{IsIndex, passed};
+ghost use Rattle.rd_overlays.specs.Listings.{edge_in};
 
-use crate::overlay::Overlay;
+use crate::index::Index;
+use crate::overlay::{Overlay, overlay_at};
 use crate::store::Store;
 use rd_base::Pos;
 
@@ -36,20 +39,31 @@ fn slot_edge(pos: Pos, slot: Option<Overlay>) -> Option<Pos>
     }
 }
 
-/// The least edge of all overlays after a position.
-pub(crate) fn next_edge(store: &Store, pos: Pos) -> Option<Pos>
-    ensures { result ≡ next_edge pos store.now }
+/// The least edge of all overlays after a position, along the order in which an index comes to them.
+fn next_edge_by(slots: &[Option<Overlay>], index: &Index, pos: Pos) -> Option<Pos>
+    requires size { length slots.now ≤ 65536 }
+    requires index { IsIndex slots.now index.now.order index.now.bounds }
+    ensures { result ≡ edge_in pos slots.now (passed index.now.order (length slots.now)) }
 {
     let mut least = None;
-    let mut number = 0;
-    while number < store.len() {
-        let next = store.skip_edges(number, pos, least);
-        if number < next {
-            number = next;
+    let mut place = 0;
+    while place < slots.len() {
+        let next = index.skip_edges(place, pos, least);
+        if place < next {
+            place = next;
         } else {
-            least = lesser(least, slot_edge(pos, *store.get(number)));
-            number += 1;
+            let number = index.number_at(place);
+            least = lesser(least, slot_edge(pos, overlay_at(slots, number)));
+            place += 1;
         }
     }
     least
+}
+
+/// The least edge of all overlays after a position.
+pub(crate) fn next_edge(store: &Store, pos: Pos) -> Option<Pos>
+    requires { length store.now ≤ 65536 }
+    ensures { result ≡ next_edge pos store.now }
+{
+    next_edge_by(store.as_slice(), store.index(), pos)
 }

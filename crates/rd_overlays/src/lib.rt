@@ -4,6 +4,7 @@
 mod bounds;
 mod edges;
 mod fault;
+mod index;
 mod laws;
 mod listing;
 mod moves;

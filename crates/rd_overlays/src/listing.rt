@@ -1,9 +1,11 @@
 //! The numbers of some overlays, in increasing order of priority and number.
 ghost use Rattle.std.specs.Prelude.{◌≡◌, ◌≤◌, ◌++◌, length, map, OnOk, IfOk};
 ghost use Rattle.rd_overlays.specs.Overlays.{meets, ranked_from, number_of_rank};
-ghost use Rattle.rd_overlays.specs.Listings.{rank_at, found_from};
+ghost use Rattle.rd_overlays.specs.Listings.{rank_at, found_in};
+ghost use Rattle.rd_overlays.specs.Bounds.{IsIndex, passed};
 
-use crate::overlay::{Meeting, Overlay, meets};
+use crate::index::Index;
+use crate::overlay::{Meeting, Overlay, meets, overlay_at};
 use crate::store::Store;
 use rd_base::{ListOf, Memory, Pos};
 use std::alloc::Global;
@@ -34,31 +36,46 @@ fn take_in(
     Ok(())
 }
 
-/// The overlays that stand so to a position, from the last number to the first.
-fn found(alloc: Global, store: &Store, meeting: Meeting, pos: Pos) -> Result<Vec<Rank>, Memory>
-    requires { length store.now ≤ 65536 }
-    ensures { IfOk result (λ ranks. ranks.items ≡ found_from (meets meeting pos) 0 store.now) }
+/// The overlays that stand so to a position, against the order in which the index comes to them.
+fn found(
+    alloc: Global,
+    slots: &[Option<Overlay>],
+    index: &Index,
+    meeting: Meeting,
+    pos: Pos,
+) -> Result<Vec<Rank>, Memory>
+    requires size { length slots.now ≤ 65536 }
+    requires index { IsIndex slots.now index.now.order index.now.bounds }
+    ensures { IfOk result (λ ranks. ranks.items ≡ found_in (meets meeting pos) slots.now (passed index.now.order (length slots.now))) }
 {
     let mut ranks = Vec::new(alloc);
-    let mut number = store.len();
-    while 0 < number {
-        let next = store.skip_to(number, pos);
-        if next < number {
-            number = next;
+    let mut place = slots.len();
+    while 0 < place {
+        let next = index.skip_to(place, pos);
+        if next < place {
+            place = next;
         } else {
-            number -= 1;
-            take_in(&mut ranks, *store.get(number), number as u32, meeting, pos)?;
+            place -= 1;
+            let number = index.number_at(place);
+            take_in(&mut ranks, overlay_at(slots, number), number, meeting, pos)?;
         }
     }
     Ok(ranks)
 }
 
 /// The overlays that stand so to a position, in increasing order.
-fn ranked(alloc: Global, store: &Store, meeting: Meeting, pos: Pos) -> Result<Vec<Rank>, Memory>
-    requires { length store.now ≤ 65536 }
-    ensures { IfOk result (λ ranks. ranks.items ≡ ranked_from (meets meeting pos) 0 store.now) }
+fn ranked(
+    alloc: Global,
+    slots: &[Option<Overlay>],
+    index: &Index,
+    meeting: Meeting,
+    pos: Pos,
+) -> Result<Vec<Rank>, Memory>
+    requires size { length slots.now ≤ 65536 }
+    requires index { IsIndex slots.now index.now.order index.now.bounds }
+    ensures { IfOk result (λ ranks. ranks.items ≡ ranked_from (meets meeting pos) 0 slots.now) }
 {
-    let mut ranks = found(alloc, store, meeting, pos)?;
+    let mut ranks = found(alloc, slots, index, meeting, pos)?;
     ranks.sort()?;
     Ok(ranks)
 }
@@ -84,6 +101,6 @@ pub(crate) fn listed(
     requires { length store.now ≤ 65536 }
     ensures { IfOk result (λ list. list ≡ map number_of_rank (ranked_from (meets meeting pos) 0 store.now)) }
 {
-    let ranks = ranked(alloc, store, meeting, pos)?;
+    let ranks = ranked(alloc, store.as_slice(), store.index(), meeting, pos)?;
     numbers(alloc, ranks.as_slice())
 }

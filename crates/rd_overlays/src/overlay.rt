@@ -1,6 +1,6 @@
 //! One overlay, and how it moves with the text.
-ghost use Rattle.std.specs.Prelude.{◌≡◌, ◌≤◌};
-ghost use Rattle.rd_overlays.specs.Overlays.{Fits, after_insertion, after_deletion, grown, shrunk, meets};
+ghost use Rattle.std.specs.Prelude.{◌≡◌, ◌≤◌, ◌<◌, OnSome, length};
+ghost use Rattle.rd_overlays.specs.Overlays.{Fits, after_insertion, after_deletion, grown, shrunk, meets, overlay_at};
 
 use rd_base::Pos;
 
@@ -98,5 +98,17 @@ pub(crate) fn shrunk(from: Pos, to: Pos, overlay: Overlay) -> Overlay
         from: after_deletion(from, to, overlay.from),
         to: after_deletion(from, to, overlay.to),
         ..overlay
+    }
+}
+
+/// The overlay of a number where it lives.
+pub(crate) fn overlay_at(slots: &[Option<Overlay>], number: u32) -> Option<Overlay>
+    ensures value { result ≡ overlay_at slots.now number }
+    ensures bound { OnSome result (number < length slots.now) }
+{
+    if (number as usize) < slots.len() {
+        slots[number as usize]
+    } else {
+        None
     }
 }

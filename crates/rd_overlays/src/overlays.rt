@@ -1,11 +1,8 @@
 //! All overlays of a buffer.
-ghost use Rattle.std.specs.Prelude.{◌≡◌, ◌≤◌, ◌<◌, OnSome, length};
-ghost use Rattle.rd_overlays.specs.Overlays.{overlay_at};
-
 use crate::edges::next_edge;
 use crate::fault::OverlayFault;
 use crate::listing::listed;
-use crate::overlay::{Kind, Meeting, Overlay};
+use crate::overlay::{Kind, Meeting, Overlay, overlay_at};
 use crate::store::Store;
 use rd_base::{ListOf, Memory, Pos};
 use std::alloc::Global;
@@ -66,6 +63,7 @@ impl Overlays {
         if self.slots.len() >= MOST {
             return Err(OverlayFault::TooMany);
         }
+        self.slots.settle()?;
         let number = self.slots.len() as u32;
         let values = [None; 7];
         self.slots.push(Overlay {
@@ -90,12 +88,13 @@ impl Overlays {
                 if to < from {
                     return Err(OverlayFault::OutOfRange);
                 }
+                self.slots.settle()?;
                 let overlay = Overlay {
                     from,
                     to,
                     ..overlay
                 };
-                self.slots.put(number as usize, Some(overlay));
+                self.slots.put(number, Some(overlay));
                 Ok(())
             }
         }
@@ -108,7 +107,7 @@ impl Overlays {
         match overlay_at(self.slots.as_slice(), number) {
             None => Err(OverlayFault::NoOverlay),
             Some(_) => {
-                self.slots.put(number as usize, None);
+                self.slots.put(number, None);
                 Ok(())
             }
         }
@@ -122,7 +121,7 @@ impl Overlays {
             None => Err(OverlayFault::NoOverlay),
             Some(mut overlay) => {
                 overlay.values[kind as usize] = value;
-                self.slots.put(number as usize, Some(overlay));
+                self.slots.put(number, Some(overlay));
                 Ok(())
             }
         }
@@ -191,17 +190,5 @@ impl Overlays {
         ensures { self.new ≡ map (slot_shrunk from to) self.old }
     {
         self.slots.shrink(from, to);
-    }
-}
-
-/// The overlay of a number where it lives.
-fn overlay_at(slots: &[Option<Overlay>], number: u32) -> Option<Overlay>
-    ensures value { result ≡ overlay_at slots.now number }
-    ensures bound { OnSome result (number < length slots.now) }
-{
-    if (number as usize) < slots.len() {
-        slots[number as usize]
-    } else {
-        None
     }
 }

@@ -1,49 +1,43 @@
-//! The overlays by number, with bounds by which a look-up passes over many of them at once.
-ghost use Rattle.std.specs.Prelude.{◌≡◌, ◌<◌, ◌≤◌, ◌*◌, ◌++◌, ◌∷◌, [], length, OnOk, List, Option};
-ghost use Rattle.rd_overlays.specs.declared.overlay.Overlay.{Overlay};
-ghost use Rattle.rd_overlays.specs.Bounds.{IsBounded};
-
-use crate::bounds::{Bounds, has_no_lesser_edge, widened};
+//! The overlays by number, with an index by which a look-up passes over many of them at once.
+use crate::index::{Index, indexed, make_fit};
 use crate::moves::{grow_bounds, grow_slots, shrink_bounds, shrink_slots};
 use crate::overlay::Overlay;
 use rd_base::{ListOf, Memory, Pos};
 use std::alloc::Global;
 use std::marker::Model;
 
-/// How many overlays that follow one another have bounds together.
-const BLOCK: usize = 256;
-
-/// The overlays by number, and bounds of the edges of each block of them.
+/// The overlays by number, with an index of them. It is made anew when many overlays were made or moved since it was made.
 #[derive(Drop)]
 pub(crate) struct Store {
+    alloc: Global,
     slots: ListOf<Option<Overlay>>,
-    bounds: ListOf<Bounds>,
+    index: Index,
 }
 
 impl Model for Store {
     ghost use Rattle.std.specs.Prelude.{List, Option};
     ghost use Rattle.rd_overlays.specs.declared.overlay.Overlay.{Overlay};
-    ghost use Rattle.rd_overlays.specs.Bounds.{IsBounded};
+    ghost use Rattle.rd_overlays.specs.Bounds.{IsIndex};
 
     ghost Value = { List (Option Overlay) };
 
     ghost view = { λ s. s.slots };
 
-    ghost invariant = { λ s. IsBounded s.slots s.bounds };
+    ghost invariant = { λ s. IsIndex s.slots s.index.order s.index.bounds };
 }
 
 impl Store {
-    ghost use Rattle.std.specs.Prelude.{◌≡◌, ℕ, ◌≤◌, ◌<◌, ◌++◌, ◌∷◌, [], length, map, Option, Some, None, OnOk, OnErr, slice_set, slice_get};
-    ghost use Rattle.rd_overlays.specs.declared.overlay.Overlay.{Overlay};
-    ghost use Rattle.rd_overlays.specs.Overlays.{AllFit, lesser, slot_edge, slot_grown, slot_shrunk};
-    ghost use Rattle.rd_overlays.specs.Bounds.{IsAway, IsBounded};
+    ghost use Rattle.std.specs.Prelude.{◌≡◌, ◌≤◌, ◌<◌, ◌++◌, ◌∷◌, [], length, map, Option, Some, OnOk, OnErr, slice_set, slice_get};
+    ghost use Rattle.rd_overlays.specs.Overlays.{AllFit, slot_grown, slot_shrunk};
+    ghost use Rattle.rd_overlays.specs.Bounds.{IsIndex};
 
     pub(crate) fn new(alloc: Global) -> Store
         ensures { result ≡ [] }
     {
         Store {
+            alloc,
             slots: ListOf::new(alloc),
-            bounds: ListOf::new(alloc),
+            index: Index::new(alloc),
         }
     }
 
@@ -59,6 +53,12 @@ impl Store {
         self.slots.as_slice()
     }
 
+    pub(crate) fn index(&self) -> &Index
+        ensures { IsIndex self.now result.now.order result.now.bounds }
+    {
+        &self.index
+    }
+
     /// What stands at a number.
     pub(crate) fn get(&self, number: usize) -> &Option<Overlay>
         requires { number < length self.now }
@@ -67,25 +67,14 @@ impl Store {
         self.slots.get(number)
     }
 
-    /// Puts something else at a number.
-    pub(crate) fn put(&mut self, number: usize, slot: Option<Overlay>)
+    /// Puts something else at a number. Costs a pass over the order where the range of an overlay changes.
+    pub(crate) fn put(&mut self, number: u32, slot: Option<Overlay>)
         requires { number < length self.old }
         ensures { self.new ≡ slice_set self.old number slot }
     {
-        let block = number / BLOCK;
-        let bounds = widened(self.bounds.at(block), slot);
-        self.bounds.set(block, bounds);
-        self.slots.set(number, slot);
-    }
-
-    /// Adds a number at which nothing stands.
-    fn add_number(&mut self) -> Result<(), Memory>
-        ensures ok { OnOk result (self.new ≡ self.old ++ None ∷ []) }
-        ensures err { OnErr result (self.new ≡ self.old) }
-    {
-        make_room(&mut self.bounds, self.slots.len())?;
-        self.slots.push(None)?;
-        Ok(())
+        let before = self.slots.at(number as usize);
+        make_fit(&mut self.index, number, before, slot);
+        self.slots.set(number as usize, slot);
     }
 
     /// Adds an overlay with the next number.
@@ -93,44 +82,19 @@ impl Store {
         ensures ok { OnOk result (self.new ≡ self.old ++ Some overlay ∷ []) }
         ensures err { OnErr result (self.new ≡ self.old) }
     {
-        let number = self.slots.len();
-        self.add_number()?;
-        self.put(number, Some(overlay));
+        self.slots.push(Some(overlay))?;
         Ok(())
     }
 
-    /// The number down to which a look-up at a position can go at once.
-    pub(crate) fn skip_to(&self, number: usize, pos: Pos) -> usize
-        requires { number ≤ length self.now }
-        ensures bound { result ≤ number }
-        ensures away { (k : ℕ) (slot : Option Overlay) → result ≤ k → k < number → slice_get self.now k ≡ Some slot → IsAway pos slot }
+    /// Makes the index anew where it is stale. Costs the count of the overlays times its logarithm then, for which it takes memory.
+    pub(crate) fn settle(&mut self) -> Result<(), Memory>
+        requires { length self.old ≤ 65536 }
+        ensures { self.new ≡ self.old }
     {
-        if number == 0 {
-            return 0;
+        if self.index.is_stale(self.slots.len()) {
+            self.index = indexed(self.alloc, self.slots.as_slice())?;
         }
-        let block = (number - 1) / BLOCK;
-        let bounds = self.bounds.at(block);
-        if pos < bounds.low {
-            return block * BLOCK;
-        }
-        if bounds.high < pos {
-            return block * BLOCK;
-        }
-        number
-    }
-
-    /// The number up to which a search for an edge behind a position, before the least so far, can go at once.
-    pub(crate) fn skip_edges(&self, number: usize, pos: Pos, least: Option<Pos>) -> usize
-        requires { number < length self.now }
-        ensures low { number ≤ result }
-        ensures high { result ≤ length self.now }
-        ensures idle { (k : ℕ) (slot : Option Overlay) → number ≤ k → k < result → slice_get self.now k ≡ Some slot → lesser least (slot_edge pos slot) ≡ least }
-    {
-        let block = number / BLOCK;
-        if has_no_lesser_edge(self.bounds.at(block), pos, least) {
-            return self.slots.len().min((block * BLOCK).saturating_add(BLOCK));
-        }
-        number
+        Ok(())
     }
 
     /// Moves the overlays with an insertion.
@@ -139,7 +103,7 @@ impl Store {
         ensures { self.new ≡ map (slot_grown pos n) self.old }
     {
         grow_slots(&mut self.slots, pos, n);
-        grow_bounds(&mut self.bounds, pos, n);
+        grow_bounds(&mut self.index.bounds, pos, n);
     }
 
     /// Moves the overlays with a deletion.
@@ -148,22 +112,6 @@ impl Store {
         ensures { self.new ≡ map (slot_shrunk from to) self.old }
     {
         shrink_slots(&mut self.slots, from, to);
-        shrink_bounds(&mut self.bounds, from, to);
+        shrink_bounds(&mut self.index.bounds, from, to);
     }
-}
-
-/// Adds bounds where one more overlay than these has none.
-fn make_room(bounds: &mut ListOf<Bounds>, size: usize) -> Result<(), Memory>
-    requires { size ≤ length bounds.old * 256 }
-    ensures room { OnOk result (size < length bounds.new * 256) }
-    ensures kept { (slots : List (Option Overlay)) → length slots ≡ size → IsBounded slots bounds.old → IsBounded slots bounds.new }
-{
-    if size / BLOCK < bounds.len() {
-        return Ok(());
-    }
-    bounds.push(Bounds {
-        low: u32::MAX,
-        high: 0,
-    })?;
-    Ok(())
 }

@@ -1,23 +1,13 @@
-use Rattle.std.proofs.Common.{◌∙◌, ap, arith}
-use Rattle.rd_overlays.specs.Overlays.{lesser}
-use Rattle.rd_overlays.proofs.Nearest.{one_more, skipped}
+use Rattle.std.proofs.Common.{List, Option, length, ap, ◌∙◌}
+use Rattle.rd_overlays.specs.declared.overlay.Overlay.{Overlay}
+use Rattle.rd_overlays.specs.Bounds.{passed}
+use Rattle.rd_overlays.specs.Listings.{edge_in}
+use Rattle.rd_overlays.proofs.Passing.{edge-of_all}
 use Rattle.rd_overlays.proofs.edges.next_edge.Goals as goal
 
-pub loop-number-preserved-then-number-next : goal.loop-number-preserved-then-number-next
-loop-number-preserved-then-number-next c = record {
-  within = c.skip_edges-next.ensures.high;
-  least = skipped c.args.pos c.args.store.now c.loop-number.least c.loop-number.number c.skip_edges-next.result c.skip_edges-next.ensures.low
-      c.skip_edges-next.ensures.high c.skip_edges-next.ensures.idle
-      ∙ c.loop-number.invariant.least;
-}
-
-pub loop-number-preserved : goal.loop-number-preserved
-loop-number-preserved c =
-    let more = c.loop-number-test.true in
-    let size = c.len.ensures in
-    record {
-      within = omega (arith, more, size);
-      least = one_more c.args.pos c.loop-number.number c.args.store.now c.loop-number.least c.lesser-least.result c.get.result.now c.get.ensures
-          (c.lesser-least.ensures ∙ ap (lesser c.loop-number.least) c.slot_edge.ensures)
-          ∙ c.loop-number.invariant.least;
-    }
+pub returns : goal.returns
+returns c =
+    let order = c.index.result.now.order in
+    c.next_edge_by.ensures
+    ∙ (ap (λ (slots : List (Option Overlay)). edge_in c.args.pos slots (passed order (length slots))) c.as_slice.ensures
+    ∙ edge-of_all c.args.pos c.args.store.now order c.index.ensures.size c.index.ensures.whole)

@@ -1,13 +1,14 @@
 use Rattle.std.proofs.Common.{◌≡◌, ◌≤◌, length, drop}
 use Rattle.rd_overlays.specs.Overlays.{meets}
-use Rattle.rd_overlays.specs.Listings.{found_from}
+use Rattle.rd_overlays.specs.Bounds.{passed}
+use Rattle.rd_overlays.specs.Listings.{found_in}
 use Rattle.rd_overlays.proofs.listing.found.Given as goal
 
-abbrev pub invariant-loop-number : goal.invariant-loop-number
-invariant-loop-number l = record {
-  within : l.number ≤ length l.store;
-  found : l.ranks.items ≡ found_from (meets l.meeting l.pos) l.number (drop l.number l.store);
+abbrev pub invariant-loop-place : goal.invariant-loop-place
+invariant-loop-place l = record {
+  within : l.place ≤ length l.slots;
+  found : l.ranks.items ≡ found_in (meets l.meeting l.pos) l.slots (drop l.place (passed l.index.order (length l.slots)));
 }
 
-abbrev pub decreases-loop-number : goal.decreases-loop-number
-decreases-loop-number l = l.number
+abbrev pub decreases-loop-place : goal.decreases-loop-place
+decreases-loop-place l = l.place

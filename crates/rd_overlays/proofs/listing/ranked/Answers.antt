@@ -8,5 +8,6 @@ use Rattle.rd_overlays.proofs.listing.ranked.Goals as goal
 
 pub returns : goal.returns
 returns c =
-    sorted-is (meets c.args.meeting c.args.pos) c.args.store.now c.sort.new.self.items c.in_ok-sort.ensures.sorted
+    sorted-is (meets c.args.meeting c.args.pos) c.args.slots.now c.args.index.now.order c.sort.new.self.items c.requires.index.size c.requires.index.whole
+    c.in_ok-sort.ensures.sorted
     (λ x. c.in_ok-sort.ensures.stable x ∙ ap (λ (ranks : List Rank). filter (ties precedes x) ranks) c.in_ok-ranks.ensures)

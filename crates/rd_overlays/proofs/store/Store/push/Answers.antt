@@ -1,15 +1,12 @@
-use Rattle.std.proofs.Common.{◌≡◌, ℕ, List, Option, None, Some, ◌∷◌, [], ◌++◌, length, set, ap, ◌∙◌}
-use Rattle.std.proofs.Math.Seq.{set-append_seam}
+use Rattle.std.proofs.Common.{◌∷◌, [], List, Option, Some, sym, subst}
 use Rattle.rd_overlays.specs.declared.overlay.Overlay.{Overlay}
+use Rattle.rd_overlays.specs.Bounds.{IsIndex}
+use Rattle.rd_overlays.proofs.Bounding.{longer-index}
 use Rattle.rd_overlays.proofs.store.Store.push.Goals as goal
 
-pub returns-clause-ok : goal.returns-clause-ok
-returns-clause-ok c =
-    let old = c.args.self.now in
-    let view = c.self.view_is in
-    let inside : c.self.inside.slots ≡ old = cc in
-    let size : c.len-number.result ≡ length old = c.len-number.ensures ∙ ap length inside in
-    c.put.ensures
-    ∙ (ap (λ (xs : List (Option Overlay)). set xs c.len-number.result (Some c.args.overlay)) c.in_ok-add_number.ensures.ok
-    ∙ (ap (λ (k : ℕ). set (old ++ None ∷ []) k (Some c.args.overlay)) size
-    ∙ set-append_seam old None [] (Some c.args.overlay)))
+pub invariant_of-self-2 : goal.invariant_of-self-2
+invariant_of-self-2 c =
+    let order = c.self.inside.index.order in
+    let bounds = c.self.inside.index.bounds in
+    let P : List (Option Overlay) → Type 0 = λ xs. IsIndex xs order bounds in
+    subst P (sym c.in_ok-push.ensures.ok) (longer-index c.self.inside.slots (Some c.args.overlay ∷ []) order bounds c.self.invariant)

@@ -1,0 +1,115 @@
+-- All numbers, in the order in which a look-up comes to them.
+use Rattle.std.proofs.Common.{◌≡◌, ℕ, zero, suc, ◌+◌, ◌-◌, ◌<◌, ◌≤◌, List, [], ◌∷◌, ◌++◌, length, map, get_or, drop, Option, None, Some, refl, sym, ap, subst, ◌∙◌, arith, length-append}
+use Rattle.std.specs.Prelude.{slice_get}
+use Rattle.std.specs.List.{range_with_len}
+use Rattle.std.specs.List.Sorted.{IsPermutation}
+use Rattle.std.proofs.lemmas.List.FromFn.{length-range_with_len, get_or-range_with_len}
+use Rattle.std.proofs.lemmas.List.Sorted.{IsPermutation-append_left, IsPermutation-map, length_permutation}
+use Rattle.std.proofs.lemmas.Option.{slice_get-get_or}
+use Rattle.rd_overlays.specs.declared.overlay.Overlay.{Overlay}
+use Rattle.rd_overlays.specs.declared.bounds.Bounds.{Bounds}
+use Rattle.rd_overlays.specs.Overlays.{live, overlay_at, next_edge}
+use Rattle.rd_overlays.specs.Listings.{edge_in}
+use Rattle.rd_overlays.specs.Bounds.{passed, IsBounded, IsIndex}
+use Rattle.rd_overlays.proofs.Bounding.{slice_get-front}
+use Rattle.rd_overlays.proofs.Nearest.{same-edge}
+
+slice_get-back : {X : Type 0} (xs ys : List X) (k : ℕ) → slice_get (xs ++ ys) (length xs + k) ≡ slice_get ys k
+slice_get-back [] ys k = let e : 0 + k ≡ k = omega arith in ap (slice_get ys) e
+slice_get-back (x ∷ xs) ys k = let e : suc (length xs) + k ≡ suc (length xs + k) = omega arith in ap (slice_get (x ∷ (xs ++ ys))) e ∙ slice_get-back xs ys k
+
+pub number-front : (order : List ℕ) (size place number : ℕ) → place < length order → slice_get order place ≡ Some number
+    → slice_get (passed order size) place ≡ Some number
+number-front order size place number p at = slice_get-front order (range_with_len (length order) (size - length order)) place p ∙ at
+
+pub number-back : (order : List ℕ) (size place : ℕ) → length order ≤ place → place < size → slice_get (passed order size) place ≡ Some place
+number-back order size place low high =
+    let m = length order in
+    let k = place - m in
+    let more = range_with_len m (size - m) in
+    let e : place ≡ m + k = omega arith in
+    let inside : k < length more = omega (arith, length-range_with_len m (size - m), low, high) in
+    let is : get_or more k 0 ≡ place = get_or-range_with_len m (size - m) k 0 (omega (arith, low, high)) ∙ sym e in
+    ap (slice_get (order ++ more)) e ∙ (slice_get-back order more k ∙ (slice_get-get_or more k 0 inside ∙ ap Some is))
+
+pub passed-size : (order : List ℕ) (size : ℕ) → length order ≤ size → length (passed order size) ≡ size
+passed-size order size p =
+    let more = length-range_with_len (length order) (size - length order) in
+    let both = length-append order (range_with_len (length order) (size - length order)) in
+    omega (arith, more, both, p)
+
+pub drop-all : {X : Type 0} (xs : List X) (n : ℕ) → length xs ≡ n → drop n xs ≡ []
+drop-all {X} [] zero e = refl
+drop-all {X} [] (suc n) e = refl
+drop-all {X} (x ∷ xs) zero e = absurd (omega (arith, e))
+drop-all {X} (x ∷ xs) (suc n) e = drop-all xs n (omega (arith, e))
+
+range-split : (a m k : ℕ) → range_with_len a (m + k) ≡ range_with_len a m ++ range_with_len (a + m) k
+range-split a zero k =
+    let e : a ≡ a + 0 = omega arith in
+    let n : 0 + k ≡ k = omega arith in
+    ap (range_with_len a) n ∙ ap (λ (b : ℕ). range_with_len b k) e
+range-split a (suc m) k =
+    let e : (a + 1) + m ≡ a + suc m = omega arith in
+    let n : suc m + k ≡ suc (m + k) = omega arith in
+    ap (range_with_len a) n
+    ∙ ap (λ (xs : List ℕ). a ∷ xs) (range-split (a + 1) m k ∙ ap (λ (b : ℕ). range_with_len (a + 1) m ++ range_with_len b k) e)
+
+pub range-pushed : (old new : List ℕ) (m : ℕ) → old ≡ range_with_len 0 m → new ≡ old ++ m ∷ [] → new ≡ range_with_len 0 (m + 1)
+range-pushed old new m is more =
+    let last : m ≡ 0 + m = omega arith in
+    more
+    ∙ (ap (λ (xs : List ℕ). xs ++ m ∷ []) is
+    ∙ (ap (λ (k : ℕ). range_with_len 0 m ++ k ∷ []) last ∙ sym (range-split 0 m 1)))
+
+-- each number stands among them once
+pub passed-whole : (slots : List (Option Overlay)) (order : List ℕ) → length order ≤ length slots → IsPermutation (range_with_len 0 (length order)) order
+    → IsPermutation (range_with_len 0 (length slots)) (passed order (length slots))
+passed-whole slots order size whole =
+    let m = length order in
+    let n = length slots in
+    let P : List ℕ → Type 0 = λ xs. IsPermutation xs (passed order n) in
+    let e : m + (n - m) ≡ n = omega (arith, size) in
+    let first : m ≡ 0 + m = omega arith in
+    let parts : range_with_len 0 m ++ range_with_len m (n - m) ≡ range_with_len 0 n
+    = ap (λ (a : ℕ). range_with_len 0 m ++ range_with_len a (n - m)) first ∙ (sym (range-split 0 m (n - m)) ∙ ap (range_with_len 0) e) in
+    subst P parts (IsPermutation-append_left (range_with_len m (n - m)) (range_with_len 0 m) order whole)
+
+pub drop-cons : {X : Type 0} (xs : List X) (a : ℕ) (x : X) (rest : List X) → drop a xs ≡ x ∷ rest → (slice_get xs a ≡ Some x) × (drop (a + 1) xs ≡ rest)
+drop-cons {X} [] zero x rest e = absurd (omega (arith, ap length e))
+drop-cons {X} [] (suc a) x rest e = absurd (omega (arith, ap length e))
+drop-cons {X} (y ∷ ys) zero x rest e =
+    let n : 0 + 1 ≡ 1 = omega arith in
+    (ap (λ (l : List X). slice_get l 0) e, ap (λ (k : ℕ). drop k (y ∷ ys)) n ∙ ap (drop 1) e)
+drop-cons {X} (y ∷ ys) (suc a) x rest e =
+    let (at, next) = drop-cons ys a x rest e in
+    let n : suc a + 1 ≡ suc (a + 1) = omega arith in
+    (at, ap (λ (k : ℕ). drop k (y ∷ ys)) n ∙ next)
+
+-- by number they are all overlays
+all-by : (all : List (Option Overlay)) (a : ℕ) (rest : List (Option Overlay)) → drop a all ≡ rest → map (overlay_at all) (range_with_len a (length rest)) ≡ rest
+all-by all a [] e = refl
+all-by all a (s ∷ rest) e =
+    let (at, next) = drop-cons all a s rest e in
+    ap (λ (o : Option Overlay). o ∷ map (overlay_at all) (range_with_len (a + 1) (length rest))) (ap live at)
+    ∙ ap (λ (os : List (Option Overlay)). s ∷ os) (all-by all (a + 1) rest next)
+
+pub edge-of_all : (pos : ℕ) (slots : List (Option Overlay)) (order : List ℕ) → length order ≤ length slots → IsPermutation (range_with_len 0 (length order)) order
+    → edge_in pos slots (passed order (length slots)) ≡ next_edge pos slots
+edge-of_all pos slots order size whole =
+    let numbers = range_with_len 0 (length slots) in
+    let now = passed order (length slots) in
+    let shuffled = IsPermutation-map (overlay_at slots) numbers now (passed-whole slots order size whole) in
+    same-edge pos (map (overlay_at slots) numbers) (map (overlay_at slots) now) shuffled ∙ ap (next_edge pos) (all-by slots 0 slots refl)
+
+pub built-index : (slots : List (Option Overlay)) (numbers sorted order : List ℕ) (bounds : List Bounds) → numbers ≡ range_with_len 0 (length slots)
+    → IsPermutation numbers sorted → order ≡ sorted → IsBounded slots order bounds → IsIndex slots order bounds
+built-index slots numbers sorted order bounds is shuffled same bounded =
+    let P : List ℕ → Type 0 = λ xs. IsPermutation xs order in
+    let Q : List ℕ → Type 0 = λ xs. IsPermutation numbers xs in
+    let size : length order ≡ length slots = ap length same ∙ (length_permutation numbers sorted shuffled ∙ (ap length is ∙ length-range_with_len 0 (length slots))) in
+    record {
+      size = omega (arith, size);
+      whole = subst P (is ∙ ap (range_with_len 0) (sym size)) (subst Q (sym same) shuffled);
+      bounded = bounded;
+    }
