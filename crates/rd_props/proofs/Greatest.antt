@@ -1,185 +1,108 @@
--- The overlay that comes last is the greatest.
-use Rattle.std.proofs.Common.{◌≡◌, ◌⊎◌, inl, inr, ℕ, ℤ, zero, suc, ◌+◌, ◌<◌, Bool, true, false, if◌then◌else◌, List, [], ◌∷◌, Option, None, Some, refl, sym, ap, subst, ◌∙◌, arith}
-use Rattle.std.specs.Prelude.{int_le, int_lt, is_some, slice_get}
-use Rattle.std.specs.List.{insert, position_or_len}
+-- The effective value is that of the greatest overlay: the last in a listing that has one.
+use Rattle.std.proofs.Common.{◌≡◌, inl, inr, ℕ, ℤ, zero, suc, ◌<◌, ◌≤◌, true, List, [], ◌∷◌, length, Option, None, Some, refl, sym, ap, subst, ◌∙◌, arith, true≢false}
+use Rattle.std.specs.Prelude.{int_lt, slice_index, slice_index_or}
+use Rattle.std.specs.List.{Contains}
+use Rattle.std.specs.Option.{option_or}
+use Rattle.std.specs.Ordering.{is_lt, ordering_then, int_cmp, nat_cmp}
+use Rattle.std.specs.declared.cmp.Ordering.{Ordering}
+use Rattle.std.specs.declared.cmp.Ordering.TheVariants.{Less, Equal, Greater}
+use Rattle.std.proofs.lemmas.Cmp.{ranked, int_ranked}
 use Rattle.std.proofs.lemmas.Int.{ints}
 use Rattle.rd_overlays.specs.declared.overlay.Overlay.{Overlay}
-use Rattle.rd_props.specs.Laws.{Precedes}
-use Rattle.rd_props.proofs.Options.{some-is}
-use Rattle.rd_props.proofs.Ranks.{taken_in, ranked, placed, insert-placed, Rises, rises-placed}
-use Rattle.rd_props.proofs.Latest.{last_in, higher, joined, last-placed}
+use Rattle.rd_overlays.specs.declared.overlay.Kind.{Kind}
+use Rattle.rd_overlays.specs.Overlays.{overlay_at, covers}
+use Rattle.rd_overlays.specs.Listings.{Passes, HoldsExactly, Ascends}
+use Rattle.rd_props.specs.Values.{value_of, last_value}
+use Rattle.rd_props.specs.Laws.{Gives, IsGreatest}
 
-lt-le : (a b : ℤ) → int_lt a b ≡ true → int_le a b ≡ true
-lt-le a b p = by (int_le a b) refl
-  where
-    by : (t : Bool) → int_le a b ≡ t → int_le a b ≡ true
-    by true e = e
-    by false e = absurd (omega (arith, ints))
+-- an order that puts one before another doesn't put it behind
+not-less : (n m : ℕ) (c : Ordering) → c ≡ nat_cmp n m → m ≤ n → is_lt c ≡ true → ⊥
+not-less n m Less e p f = omega (arith, ranked n m Less e)
+not-less n m Equal e p f = true≢false (sym f)
+not-less n m Greater e p f = true≢false (sym f)
 
-lt-not-le : (a b : ℤ) → int_lt a b ≡ true → int_le b a ≡ false
-lt-not-le a b p = by (int_le b a) refl
-  where
-    by : (t : Bool) → int_le b a ≡ t → int_le b a ≡ false
-    by true e = absurd (omega (arith, ints))
-    by false e = e
+not-lower : (p q : ℤ) (n m : ℕ) (c : Ordering) → c ≡ int_cmp p q → int_lt q p ≡ true → is_lt (ordering_then c (nat_cmp n m)) ≡ true → ⊥
+not-lower p q n m Less e l f = omega (arith, ints, int_ranked p q Less e)
+not-lower p q n m Equal e l f = omega (arith, ints, int_ranked p q Equal e)
+not-lower p q n m Greater e l f = true≢false (sym f)
 
-le-same : (a b : ℤ) → a ≡ b → int_le a b ≡ true
-le-same a b p = by (int_le a b) refl
-  where
-    by : (t : Bool) → int_le a b ≡ t → int_le a b ≡ true
-    by true e = e
-    by false e = absurd (omega (arith, ints))
+not-earlier : (p q : ℤ) (n m : ℕ) (c : Ordering) → c ≡ int_cmp p q → q ≡ p → m ≤ n → is_lt (ordering_then c (nat_cmp n m)) ≡ true → ⊥
+not-earlier p q n m Less e s l f = omega (arith, ints, int_ranked p q Less e)
+not-earlier p q n m Equal e s l f = not-less n m (nat_cmp n m) refl l f
+not-earlier p q n m Greater e s l f = true≢false (sym f)
 
-module _ {R : Type 0} (make : ℤ → ℕ → R) (priority : R → ℤ) (made : (p : ℤ) (n : ℕ) → priority (make p n) ≡ p) (value : R → Option ℕ) (test : Overlay → Bool) where
-  abbrev latest : ℕ → List (Option Overlay) → Option R
-  latest k slots = last_in priority value (ranked make priority test k slots)
+-- elements by their places
+any-default : (ns : List ℕ) (k d e : ℕ) → k < length ns → slice_index_or ns k d ≡ slice_index_or ns k e
+any-default [] k d e p = absurd (omega arith)
+any-default (n ∷ ns) zero d e p = refl
+any-default (n ∷ ns) (suc k) d e p = any-default ns k d e (omega arith)
 
-  taken : (k : ℕ) (o : Overlay) (rs : List R) → taken_in make priority test k o rs ≡ (if test o then placed priority (make o.priority k) rs else rs)
-  taken k o rs =
-      let same = made o.priority k in
-      ap (λ (p : ℤ). if test o then insert rs (position_or_len (λ r. int_le p (priority r)) rs) (make o.priority k) else rs) (sym same)
-      ∙ ap (λ (xs : List R). if test o then xs else rs) (insert-placed priority (make o.priority k) rs)
+contained : (ns : List ℕ) (k : ℕ) → k < length ns → Contains ns (slice_index ns k)
+contained ns k p = (k, p, any-default ns k (slice_index ns k) 0 p)
 
-  rises-by : (t : Bool) (r : R) (rs : List R) → Rises priority rs → Rises priority (if t then placed priority r rs else rs)
-  rises-by true r rs h = rises-placed priority r rs h
-  rises-by false r rs h = h
+module _ (slots : List (Option Overlay)) (kind : Kind) where
+  abbrev value_at : List ℕ → ℕ → Option ℕ
+  value_at ns k = value_of kind (overlay_at slots (slice_index ns k))
 
-  rises : (k : ℕ) (slots : List (Option Overlay)) → Rises priority (ranked make priority test k slots)
-  rises k [] = tt
-  rises k (None ∷ slots) = rises (suc k) slots
-  rises k (Some o ∷ slots) =
-      let rest = rises (suc k) slots in
-      let P : List R → Type 0 = Rises priority in
-      subst P (sym (taken k o (ranked make priority test (suc k) slots))) (rises-by (test o) (make o.priority k) (ranked make priority test (suc k) slots) rest)
+  none-last : (ns : List ℕ) → ((k : ℕ) → k < length ns → value_at ns k ≡ None) → last_value slots kind ns ≡ None
+  none-last [] none = refl
+  none-last (n ∷ ns) none =
+      let rest = none-last ns (λ k p. none (suc k) (omega arith)) in
+      ap (λ (o : Option ℕ). option_or o (value_of kind (overlay_at slots n))) rest ∙ none 0 (omega arith)
 
-  latest-by : (t : Bool) (r : R) (rs : List R) → Rises priority rs
-      → last_in priority value (if t then placed priority r rs else rs) ≡ (if t then joined priority value r (last_in priority value rs) else last_in priority value rs)
-  latest-by true r rs h = last-placed priority value r rs h
-  latest-by false r rs h = refl
+  some-last : (ns : List ℕ) (i v : ℕ) → i < length ns → value_at ns i ≡ Some v → ((k : ℕ) → i < k → k < length ns → value_at ns k ≡ None)
+      → last_value slots kind ns ≡ Some v
+  some-last [] i v p has none = absurd (omega arith)
+  some-last (n ∷ ns) zero v p has none =
+      let rest = none-last ns (λ k q. none (suc k) (omega arith) (omega arith)) in
+      ap (λ (o : Option ℕ). option_or o (value_of kind (overlay_at slots n))) rest ∙ has
+  some-last (n ∷ ns) (suc i) v p has none =
+      let rest = some-last ns i v (omega arith) has (λ k q r. none (suc k) (omega arith) (omega arith)) in
+      ap (λ (o : Option ℕ). option_or o (value_of kind (overlay_at slots n))) rest
 
-  step : (k : ℕ) (o : Overlay) (slots : List (Option Overlay))
-      → latest k (Some o ∷ slots) ≡ (if test o then joined priority value (make o.priority k) (latest (suc k) slots) else latest (suc k) slots)
-  step k o slots =
-      let rs = ranked make priority test (suc k) slots in
-      ap (last_in priority value) (taken k o rs) ∙ latest-by (test o) (make o.priority k) rs (rises (suc k) slots)
+  module _ (pos : ℕ) (ns : List ℕ) (holds : HoldsExactly (covers pos) slots ns) where
+    -- a member of a listing that has a value gives it
+    member-gives : (m w : ℕ) (b : Overlay) → Contains ns m → overlay_at slots m ≡ Some b → value_of kind (Some b) ≡ Some w → Gives slots pos kind m b w
+    member-gives m w b member lives has =
+        record { lives = lives; covers = subst (Passes (covers pos)) lives ((holds m).0 member); has = has }
 
-  -- where one comes from
-  abbrev pub ComesFrom : ℕ → List (Option Overlay) → R → Type 0
-  ComesFrom k slots b =
-      (j : ℕ) × (n : ℕ) × (o : Overlay) × (n ≡ k + j) × (slice_get slots j ≡ Some (Some o)) × (test o ≡ true) × (is_some (value b) ≡ true) × (b ≡ make o.priority n)
+    none-by : (m : ℕ) (x : Option Overlay) (y : Option ℕ) → Contains ns m → overlay_at slots m ≡ x → value_of kind x ≡ y
+        → ((w : ℕ) (b : Overlay) → Gives slots pos kind m b w → ⊥) → value_of kind (overlay_at slots m) ≡ None
+    none-by m None y member lives has none = ap (value_of kind) lives
+    none-by m (Some b) None member lives has none = ap (value_of kind) lives ∙ has
+    none-by m (Some b) (Some w) member lives has none = absurd (none w b (member-gives m w b member lives has))
 
-  from-rest : (k : ℕ) (slot : Option Overlay) (slots : List (Option Overlay)) (b : R) → ComesFrom (suc k) slots b → ComesFrom k (slot ∷ slots) b
-  from-rest k slot slots b (j, n, o, at, found, passes, has, is) = (suc j, n, o, omega arith, found, passes, has, is)
+    pub no-value : ((n v : ℕ) (o : Overlay) → Gives slots pos kind n o v → ⊥) → last_value slots kind ns ≡ None
+    no-value none =
+        none-last ns (λ k p.
+            let m = slice_index ns k in
+            none-by m (overlay_at slots m) (value_of kind (overlay_at slots m)) (contained ns k p) refl refl (λ w b. none m w b))
 
-  from-here : (k : ℕ) (o : Overlay) (slots : List (Option Overlay)) (b : R) → test o ≡ true → is_some (value (make o.priority k)) ≡ true
-      → Some (make o.priority k) ≡ Some b → ComesFrom k (Some o ∷ slots) b
-  from-here k o slots b passes has e =
-      let r = make o.priority k in
-      let same : r ≡ b = some-is r b e in
-      let P : R → Type 0 = λ x. is_some (value x) ≡ true in
-      (0, k, o, omega arith, refl, passes, subst P same has, sym same)
+    -- what stands behind the greatest in a listing has no value
+    behind : (n m v w : ℕ) (o b : Overlay) → IsGreatest slots pos kind n o v → Gives slots pos kind m b w
+        → is_lt (ordering_then (int_cmp o.priority b.priority) (nat_cmp n m)) ≡ true → ⊥
+    behind n m v w o b most gives before =
+        elim (most.last m b w gives) [
+          | inl same ↦
+              let one : Some b ≡ Some o = sym gives.lives ∙ ap (overlay_at slots) same ∙ most.gives.lives in
+              not-earlier o.priority b.priority n m (int_cmp o.priority b.priority) refl (priority-of b o one) (omega arith) before
+          | inr (inl less) ↦ not-lower o.priority b.priority n m (int_cmp o.priority b.priority) refl less before
+          | inr (inr (same, fewer)) ↦ not-earlier o.priority b.priority n m (int_cmp o.priority b.priority) refl same (omega arith) before
+        ]
+      where
+        priority_or : Overlay → Option Overlay → ℤ
+        priority_or d None = d.priority
+        priority_or d (Some a) = a.priority
+        priority-of : (b o : Overlay) → Some b ≡ Some o → b.priority ≡ o.priority
+        priority-of b o e = ap (priority_or b) e
 
-  from-either : (k : ℕ) (o : Overlay) (slots : List (Option Overlay)) (b c : R) (w : Bool) → ComesFrom k (Some o ∷ slots) (make o.priority k)
-      → ComesFrom k (Some o ∷ slots) c → (if w then Some c else Some (make o.priority k)) ≡ Some b → ComesFrom k (Some o ∷ slots) b
-  from-either k o slots b c true here there e =
-      let P : R → Type 0 = ComesFrom k (Some o ∷ slots) in
-      subst P (some-is c b e) there
-  from-either k o slots b c false here there e =
-      let P : R → Type 0 = ComesFrom k (Some o ∷ slots) in
-      subst P (some-is (make o.priority k) b e) here
-
-  from-by : (k : ℕ) (o : Overlay) (slots : List (Option Overlay)) (b : R) (t u : Bool) (l : Option R) → test o ≡ t
-      → is_some (value (make o.priority k)) ≡ u → ((c : R) → l ≡ Some c → ComesFrom k (Some o ∷ slots) c)
-      → (if t then (if u then higher priority value (make o.priority k) l else l) else l) ≡ Some b → ComesFrom k (Some o ∷ slots) b
-  from-by k o slots b false u l passes has rest e = rest b e
-  from-by k o slots b true false l passes has rest e = rest b e
-  from-by k o slots b true true None passes has rest e = from-here k o slots b passes has e
-  from-by k o slots b true true (Some c) passes has rest e =
-      from-either k o slots b c (int_le (priority (make o.priority k)) (priority c)) (from-here k o slots (make o.priority k) passes has refl) (rest c refl) e
-
-  pub comes-from : (k : ℕ) (slots : List (Option Overlay)) (b : R) → latest k slots ≡ Some b → ComesFrom k slots b
-  comes-from k [] b e = absurd (cc)
-  comes-from k (None ∷ slots) b e = from-rest k None slots b (comes-from (suc k) slots b e)
-  comes-from k (Some o ∷ slots) b e =
-      from-by k o slots b (test o) (is_some (value (make o.priority k))) (latest (suc k) slots) refl refl
-      (λ c is. from-rest k (Some o) slots c (comes-from (suc k) slots c is)) (sym (step k o slots) ∙ e)
-
-  -- all others with a value come before one
-  abbrev pub IsLast : ℕ → List (Option Overlay) → ℕ → Overlay → Type 0
-  IsLast k slots i o =
-      (j n : ℕ) (p : Overlay) → n ≡ k + j → slice_get slots j ≡ Some (Some p) → test p ≡ true → is_some (value (make p.priority n)) ≡ true
-      → (j ≡ i) ⊎ Precedes j p i o
-
-  later-rest : (k : ℕ) (slot : Option Overlay) (slots : List (Option Overlay)) (i : ℕ) (o : Overlay) → IsLast k (slot ∷ slots) (suc i) o → IsLast (suc k) slots i o
-  later-rest k slot slots i o last j n p at found passes has =
-      elim (last (suc j) n p (omega arith) found passes has) [
-        | inl e ↦ let same : j ≡ i = omega arith in inl same
-        | inr (inl less) ↦ inr (inl less)
-        | inr (inr (same, before)) ↦ let fewer : j < i = omega arith in inr (inr (same, fewer))
-      ]
-
-  below : (k : ℕ) (o : Overlay) (slots : List (Option Overlay)) (b : R) → IsLast k (Some o ∷ slots) 0 o → ComesFrom (suc k) slots b
-      → int_le (priority (make o.priority k)) (priority b) ≡ false
-  below k o slots b last (j, n, p, at, found, passes, has, is) =
-      let P : R → Type 0 = λ x. is_some (value x) ≡ true in
-      let Q : R → Type 0 = λ x. int_le (priority (make o.priority k)) (priority x) ≡ false in
-      let less : int_lt p.priority o.priority ≡ true =
-      elim (last (suc j) n p (omega arith) found passes (subst P is has)) [
-        | inl e ↦ absurd (omega arith)
-        | inr (inl less) ↦ less
-        | inr (inr (same, before)) ↦ absurd (omega arith)
-      ] in
-      subst Q (sym is) (ap (λ (a : ℤ). int_le a (priority (make p.priority n))) (made o.priority k) ∙ ap (int_le o.priority) (made p.priority n) ∙ lt-not-le p.priority o.priority less)
-
-  first-by : (r : R) (l : Option R) → ((b : R) → l ≡ Some b → int_le (priority r) (priority b) ≡ false) → higher priority value r l ≡ Some r
-  first-by r None h = refl
-  first-by r (Some b) h = ap (λ (t : Bool). if t then Some b else Some r) (h b refl)
-
-  chosen : (t u : Bool) (r : R) (l : Option R) (o : Option R) → t ≡ true → u ≡ true → higher priority value r l ≡ o
-      → (if t then (if u then higher priority value r l else l) else l) ≡ o
-  chosen true true r l o p q e = e
-  chosen true false r l o p q e = absurd (cc)
-  chosen false u r l o p q e = absurd (cc)
-
-  here-is-greatest : (k n : ℕ) (slots : List (Option Overlay)) (o : Overlay) → n ≡ k → test o ≡ true → is_some (value (make o.priority n)) ≡ true
-      → IsLast k (Some o ∷ slots) 0 o → latest k (Some o ∷ slots) ≡ Some (make o.priority n)
-  here-is-greatest k n slots o e passes has last =
-      let P : ℕ → Type 0 = λ x. is_some (value (make o.priority x)) ≡ true in
-      let r = make o.priority k in
-      step k o slots
-      ∙ chosen (test o) (is_some (value r)) r (latest (suc k) slots) (Some r) passes (subst P e has)
-      (first-by r (latest (suc k) slots) (λ b is. below k o slots b last (comes-from (suc k) slots b is)))
-      ∙ ap (λ (x : ℕ). Some (make o.priority x)) (sym e)
-
-  kept-by : (t u : Bool) (r b : R) → (t ≡ true → u ≡ true → int_le (priority r) (priority b) ≡ true)
-      → (if t then (if u then higher priority value r (Some b) else Some b) else Some b) ≡ Some b
-  kept-by false u r b h = refl
-  kept-by true false r b h = refl
-  kept-by true true r b h = ap (λ (w : Bool). if w then Some b else Some r) (h refl refl)
-
-  above : (k n i : ℕ) (q o : Overlay) (slots : List (Option Overlay)) → IsLast k (Some q ∷ slots) (suc i) o → test q ≡ true
-      → is_some (value (make q.priority k)) ≡ true → int_le (priority (make q.priority k)) (priority (make o.priority n)) ≡ true
-  above k n i q o slots last passes has =
-      let less : int_le q.priority o.priority ≡ true =
-      elim (last 0 k q (omega arith) refl passes has) [
-        | inl e ↦ absurd (omega arith)
-        | inr (inl less) ↦ lt-le q.priority o.priority less
-        | inr (inr (same, before)) ↦ le-same q.priority o.priority same
-      ] in
-      ap (λ (a : ℤ). int_le a (priority (make o.priority n))) (made q.priority k) ∙ ap (int_le q.priority) (made o.priority n) ∙ less
-
-  pub greatest : (k : ℕ) (slots : List (Option Overlay)) (i n : ℕ) (o : Overlay) → n ≡ k + i → slice_get slots i ≡ Some (Some o) → test o ≡ true
-      → is_some (value (make o.priority n)) ≡ true → IsLast k slots i o → latest k slots ≡ Some (make o.priority n)
-  greatest k [] i n o at found passes has last = absurd (cc)
-  greatest k (slot ∷ slots) zero n o at found passes has last =
-      let e = some-is slot (Some o) found in
-      let P : Option Overlay → Type 0 = λ x. IsLast k (x ∷ slots) 0 o in
-      ap (λ (x : Option Overlay). latest k (x ∷ slots)) e ∙ here-is-greatest k n slots o (omega arith) passes has (subst P e last)
-  greatest k (None ∷ slots) (suc i) n o at found passes has last =
-      greatest (suc k) slots i n o (omega arith) found passes has (later-rest k None slots i o last)
-  greatest k (Some q ∷ slots) (suc i) n o at found passes has last =
-      let rest = greatest (suc k) slots i n o (omega arith) found passes has (later-rest k (Some q) slots i o last) in
-      let r = make q.priority k in
-      step k q slots
-      ∙ ap (λ (l : Option R). if test q then joined priority value r l else l) rest
-      ∙ kept-by (test q) (is_some (value r)) r (make o.priority n) (above k n i q o slots last)
+    pub greatest-value : (n v : ℕ) (o : Overlay) → Ascends slots ns → IsGreatest slots pos kind n o v → last_value slots kind ns ≡ Some v
+    greatest-value n v o ascends most =
+        let (k, inside, found) = (holds n).1 (subst (Passes (covers pos)) (sym most.gives.lives) most.gives.covers) in
+        let here : slice_index ns k ≡ n = any-default ns k 0 n inside ∙ found in
+        let lives : overlay_at slots (slice_index ns k) ≡ Some o = ap (overlay_at slots) here ∙ most.gives.lives in
+        some-last ns k v inside (ap (value_of kind) lives ∙ most.gives.has) (λ j later p.
+            let m = slice_index ns j in
+            none-by m (overlay_at slots m) (value_of kind (overlay_at slots m)) (contained ns j p) refl refl (λ w b gives.
+                behind n m v w o b most gives
+                (ap (λ (x : ℕ). is_lt (ordering_then (int_cmp o.priority b.priority) (nat_cmp x m))) (sym here) ∙ ascends k j o b later p lives gives.lives)))

@@ -1,9 +1,6 @@
 pub mod Edges
 pub mod Changes
 pub mod Lasts
-pub mod Ranks
-pub mod Latest
 pub mod Greatest
-pub mod Winner
 pub mod Newness
 pub mod Options

@@ -13,6 +13,8 @@ ghost use Rattle.rd_props.specs.declared.hiding.Hidden.TheVariants.{No, Plain, E
 ghost use Rattle.rd_props.specs.Laws.{Gives, IsGreatest};
 ghost use Rattle.rd_props.specs.Examples.{three_characters, coloured, two_faces, meeting, partly_invisible};
 
+use rd_overlays::listings_are_exact;
+
 /// The effective value before the end of the accessible text is that of the overlay which covers the position, has a value of
 /// the kind, and which no other such overlay has a greater priority than, nor the same with a greater number; where no overlay
 /// covers the position with a value, it is that of the text property. At the end there is none. The call does nothing.
@@ -20,7 +22,9 @@ pub fn effective_values_are_the_greatest_overlays()
     ensures overlay { (s : BufferValue) (pos number value : ℕ) (kind : Kind) (overlay : Overlay) → pos < s.text.end → IsGreatest s.overlays pos kind number overlay value → effective s pos kind ≡ Some value }
     ensures text { (s : BufferValue) (pos : ℕ) (kind : Kind) → pos < s.text.end → ((number value : ℕ) (overlay : Overlay) → Gives s.overlays pos kind number overlay value → ⊥) → effective s pos kind ≡ property s kind pos }
     ensures end { (s : BufferValue) (kind : Kind) → effective s s.text.end kind ≡ None }
-{}
+{
+    listings_are_exact();
+}
 
 /// A face of the text that an overlay's is laid over. A number that names no face is the plain one, and the face of the end is
 /// plain. The call does nothing.
