@@ -1,7 +1,5 @@
 -- How a character is shown: its elements.
 use Rattle.std.specs.Prelude.{ℕ, ◌+◌, ◌-◌, ◌/◌, ◌%◌, ◌≤◌, nat_le, nat_lt, ◌==◌, Bool, true, false, ◌||◌, ◌&&◌, if◌then◌else◌, List, [], ◌∷◌, map, replicate, Option, None, Some, unwrap_or}
-use Rattle.unicode_width.specs.Width.{char_width}
-use Rattle.rd_base.specs.Chars.{is_scalar}
 use Rattle.rd_base.specs.Faces.{Attributes}
 use Rattle.rd_base.specs.Settings.{SettingValues}
 use Rattle.rd_base.specs.Classes.{is_initiator, is_removed}
@@ -22,6 +20,7 @@ use Rattle.rd_ucd.specs.Lookup.{class_of, mirror_in}
 use Rattle.rd_objects.specs.declared.run.Slot.{Slot}
 use Rattle.rd_objects.specs.declared.run.Slot.TheVariants.{Escape, Control}
 use Rattle.rd_objects.specs.Tables.{TableValue, entry_in, slot_of}
+use Rattle.rd_objects.specs.Widths.{columns}
 use Rattle.rd_glyphs.specs.declared.shown.Shown.{Shown}
 use Rattle.rd_glyphs.specs.declared.shown.Shown.TheVariants.{Caret, Octal, Space, Mark, Itself}
 
@@ -31,10 +30,6 @@ pub record PartValues : Type 0 where
   pub settings : SettingValues
   pub classes : List Span
   pub mirrors : List Pair
-
--- the columns of a scalar value in a terminal; 0 for a mark, and for a number that is no scalar value
-abbrev pub columns : ℕ → ℕ
-columns code = if is_scalar code then unwrap_or (char_width false code) 0 else 0
 
 -- a control character
 abbrev pub is_control : ℕ → Bool

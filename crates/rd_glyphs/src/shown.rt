@@ -1,11 +1,12 @@
 //! How one character is shown.
 ghost use Rattle.std.specs.Prelude.{◌≡◌, ◌≤◌, ◌==◌, if◌then◌else◌, IsTrue};
-ghost use Rattle.rd_glyphs.specs.Characters.{columns, is_control, caret, is_pop, is_formatting, shown_as, turned, mirrored, ShowsColumns};
+ghost use Rattle.rd_objects.specs.Widths.{columns};
+ghost use Rattle.rd_glyphs.specs.Characters.{is_control, caret, is_pop, is_formatting, shown_as, turned, mirrored, ShowsColumns};
 ghost use Rattle.rd_ucd.specs.Lookup.{mirror_in};
 
 use rd_base::Class;
+use rd_objects::columns;
 use rd_ucd::Mirrors;
-use unicode_width::UnicodeWidthChar;
 
 /// How a character is shown that no display table shows and that is no tab.
 #[derive(Clone, Copy, Debug, PartialEq, Eq)]
@@ -20,20 +21,6 @@ pub enum Shown {
     Mark(u32),
     /// The character itself, in so many columns.
     Itself(u32, u8),
-}
-
-/// The columns of a scalar value; 0 for a mark, and for a number that is no scalar value.
-pub fn columns(code: u32) -> u8
-    ensures value { result ≡ columns code }
-    ensures bound { result ≤ 3 }
-{
-    match char::from_u32(code) {
-        Some(c) => match c.width() {
-            Some(width) => width as u8,
-            None => 0,
-        },
-        None => 0,
-    }
 }
 
 /// Whether this is a control character.

@@ -1,7 +1,10 @@
 //! Each rule of a character's elements, and plain lines.
+ghost use Rattle.std.specs.Prelude.{IfOk, IsTrue};
+ghost use Rattle.rd_objects.specs.Tables.{is_slot_glyph};
+
 use super::*;
 use rd_base::{Cell, Ch, Element, Extent, Face, Glyph, Look, Origin, Settings};
-use rd_objects::{Slot, Table};
+use rd_objects::{Slot, Table, glyph_character};
 use rd_ucd::{Classes, Mirrors};
 use std::alloc::Global;
 use std::test::Fail;
@@ -40,6 +43,18 @@ fn shown(code: u32, width: u8) -> Element {
 /// The element of a character of one column.
 fn narrow(c: char) -> Element {
     shown(c as u32, 1)
+}
+
+/// The glyph character of a scalar value of one column.
+fn letter(c: char) -> Result<Glyph, Fail>
+    ensures { IfOk result (λ g. IsTrue (is_slot_glyph g)) }
+{
+    if let Some(glyph) = glyph_character(c) {
+        if glyph.width == 1 {
+            return Ok(glyph);
+        }
+    }
+    Err(Fail::new("no glyph character of one column"))
 }
 
 /// One blank column.
@@ -139,7 +154,7 @@ fn controls_without_arrows(rt: HostRuntime) -> Result<(), Fail> {
     let mut settings = Settings::new();
     settings.ctl_arrow = false;
     let mut table = Table::new(rt.alloc())?;
-    table.put_slot(Slot::Escape, Some(Glyph::single('!' as u32, 1)));
+    table.put_slot(Slot::Escape, Some(letter('!')?));
     let parts = Parts {
         table: Some(&table),
         settings: &settings,
@@ -161,12 +176,12 @@ fn controls_without_arrows(rt: HostRuntime) -> Result<(), Fail> {
 #[test]
 fn entries_come_first(rt: HostRuntime) -> Result<(), Fail> {
     let mut table = Table::new(rt.alloc())?;
-    let text = [Glyph::single('b' as u32, 1), Glyph::single('c' as u32, 1)];
+    let text = [letter('b')?, letter('c')?];
     for code in [0, 9, 97] {
         table.put_entry(code, &text)?;
     }
-    table.put_entry(40, &[Glyph::single(' ' as u32, 1); 16])?;
-    table.put_slot(Slot::Control, Some(Glyph::single('!' as u32, 1)));
+    table.put_entry(40, &[letter(' ')?; 16])?;
+    table.put_slot(Slot::Control, Some(letter('!')?));
     let parts = Parts {
         table: Some(&table),
         settings: &Settings::new(),

@@ -7,6 +7,7 @@ use Rattle.rd_objects.specs.declared.run.Slot.{Slot}
 use Rattle.rd_objects.specs.declared.run.Slot.TheVariants.{Truncation, Continuation, Escape, Control, Border}
 use Rattle.rd_objects.specs.declared.table.Entry.{Entry}
 use Rattle.rd_objects.specs.Texts.{later}
+use Rattle.rd_objects.specs.Widths.{columns}
 
 -- a table, as contracts see it: its entries in the order in which they were put, and what its slots hold
 pub record TableValue : Type 0 where
@@ -25,9 +26,15 @@ empty_table = record { entries = []; truncation = None; continuation = None; esc
 abbrev pub is_control : ℕ → Bool
 is_control code = nat_lt code 32 || (nat_le 127 code && nat_le code 159)
 
--- a glyph character: a scalar value that is no control, without marks, of 1 to 3 columns
+-- a glyph character: a scalar value that is no control, without marks, in its own columns, which are 1 to 3
 abbrev pub is_glyph_character : Glyph → Bool
-is_glyph_character g = is_scalar g.base && not (is_control g.base) && nat_le 1 g.width && nat_le g.width 3 && (g.count == 0) && list_all (λ mark. mark == 0) g.marks
+is_glyph_character g =
+    is_scalar g.base && not (is_control g.base) && (columns g.base == g.width) && nat_le 1 g.width && nat_le g.width 3
+    && (g.count == 0) && list_all (λ mark. mark == 0) g.marks
+
+-- whether a scalar value is no glyph character: it is a control, or has no columns
+abbrev pub has_no_glyph : ℕ → Bool
+has_no_glyph code = is_control code || (columns code == 0)
 
 -- at most 16 glyph characters
 abbrev pub is_glyph_text : List Glyph → Bool

@@ -2,12 +2,14 @@
 #![tactic(auto)]
 
 mod fault;
+mod glyph;
 mod objects;
 mod run;
 mod table;
 mod text;
 
 pub use fault::ObjectFault;
+pub use glyph::{columns, glyph_character};
 pub use objects::Objects;
 pub use run::{Run, RunKind, Slot, Spec};
 pub use table::Table;

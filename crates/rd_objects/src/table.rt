@@ -14,8 +14,8 @@ pub struct Entry {
     pub text: ListOf<Glyph>,
 }
 
-/// A display table: entries, and slots for marks and for the ellipsis. They hold glyph characters: scalar values that are no
-/// control, without marks, in 1 to 3 columns.
+/// A display table: entries, and slots for marks and for the ellipsis. They hold glyph characters: scalar values that have 1 to 3
+/// columns and no code below 32 or from 127 to 159, without marks and in their own columns. `glyph_character` makes them.
 #[derive(Drop)]
 pub struct Table {
     alloc: Global,
@@ -86,7 +86,7 @@ impl Table {
         self.entries.push(Entry { code, text })
     }
 
-    /// Puts the glyph of a slot, one of one column, or takes it away. It costs one step.
+    /// Puts the glyph of a slot, a glyph character of one column, or takes it away. It costs one step.
     pub fn put_slot(&mut self, slot: Slot, glyph: Option<Glyph>)
         requires { IfSome glyph (λ g. IsTrue (is_slot_glyph g)) }
         ensures { self.new ≡ with_slot slot glyph self.old }

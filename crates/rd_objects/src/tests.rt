@@ -1,24 +1,55 @@
 //! Objects with ample memory.
+ghost use Rattle.std.specs.Prelude.{IfOk, IsTrue};
+ghost use Rattle.rd_objects.specs.Tables.{is_slot_glyph};
+
 use super::*;
 use rd_base::{Ch, Face, Glyph};
 use std::test::Fail;
+
+/// The glyph character of a scalar value of one column.
+fn narrow(c: char) -> Result<Glyph, Fail>
+    ensures { IfOk result (λ g. IsTrue (is_slot_glyph g)) }
+{
+    if let Some(glyph) = glyph_character(c) {
+        if glyph.width == 1 {
+            return Ok(glyph);
+        }
+    }
+    Err(Fail::new("no glyph character of one column"))
+}
+
+#[test]
+fn glyph_characters_by_their_columns(rt: HostRuntime) {
+    let rows = [
+        ('a', Some(Glyph::single(97, 1))),
+        ('\u{A0}', Some(Glyph::single(0xA0, 1))),
+        ('\u{4E2D}', Some(Glyph::single(0x4E2D, 2))),
+        ('\u{301}', None),
+        ('\t', None),
+        ('\u{7F}', None),
+        ('\u{9F}', None),
+    ];
+    for (c, wanted) in rows {
+        assert_eq!(rt; glyph_character(c), wanted);
+    }
+}
 
 #[test]
 fn tables_hold_what_was_put_last(rt: HostRuntime) -> Result<(), Fail> {
     let mut table = Table::new(rt.alloc())?;
     assert!(rt; table.entry(97).is_none());
-    table.put_entry(97, &[Glyph::single(98, 1), Glyph::single(99, 1)])?;
+    table.put_entry(97, &[narrow('b')?, narrow('c')?])?;
     table.put_entry(98, &[])?;
-    table.put_entry(97, &[Glyph::single(120, 1)])?;
+    table.put_entry(97, &[narrow('x')?])?;
     if let Some(text) = table.entry(97) {
         assert_eq!(rt; text, [Glyph::single(120, 1)].as_slice());
     }
     assert!(rt; table.entry(97).is_some());
-    table.put_slot(Slot::Border, Some(Glyph::single(124, 1)));
+    table.put_slot(Slot::Border, Some(narrow('|')?));
     assert_eq!(rt; table.slot(Slot::Border), Some(Glyph::single(124, 1)));
     table.put_slot(Slot::Border, None);
     assert_eq!(rt; table.slot(Slot::Border), None);
-    table.put_ellipsis(&[Glyph::single(46, 1)])?;
+    table.put_ellipsis(&[narrow('.')?])?;
     assert!(rt; table.ellipsis().is_some());
     Ok(())
 }
