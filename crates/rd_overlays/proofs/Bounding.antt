@@ -234,7 +234,7 @@ kept-bounded slots order bounds number before after step at h = record {
   holds = λ place k b there at_bounds.
       let held = h.holds place k b there at_bounds in
       set-holds slots number after k b
-          (λ e. step b (subst (λ (s : Option Overlay). SlotHolds b s) (ap (overlay_at slots) e ∙ ap live at) held)) held;
+      (λ e. step b (subst (λ (s : Option Overlay). SlotHolds b s) (ap (overlay_at slots) e ∙ ap live at) held)) held;
 }
 
 -- so can what lies within the bounds of each block in which its number stands
@@ -249,7 +249,7 @@ widened-bounded slots order old new number slot size kept holds h =
       room = omega (arith, size, room);
       holds = λ place k c there at.
           set-holds slots number slot k c (λ e. holds place c (there ∙ ap Some e) at)
-              (kept (place / 256) c (overlay_at slots k) (λ b at_old. h.holds place k b there at_old) at);
+          (kept (place / 256) c (overlay_at slots k) (λ b at_old. h.holds place k b there at_old) at);
     }
 
 pub replaced-index : (slots : List (Option Overlay)) (old order : List ℕ) (before bounds : List Bounds) (number : ℕ) (slot : Option Overlay)
@@ -331,4 +331,3 @@ none-bounded slots order = record {
   room = omega arith;
   holds = λ k n b p at at_bounds. absurd (omega (arith, p));
 }
-

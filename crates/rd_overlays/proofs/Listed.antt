@@ -263,5 +263,5 @@ sorted-is test slots order sorted size whole rising stable =
     unique precedes weak sorted (ranked_from test 0 slots) (sorted-never_falls precedes weak sorted rising)
     (rises-never_falls precedes weak (ranked_from test 0 slots) (ranked-rises test 0 slots))
     (λ x. stable x
-        ∙ (same-ties test slots x (range_with_len 0 (length slots)) (passed order (length slots)) (passed-whole slots order size whole)
-        ∙ (ap (filter (ties precedes x)) (found-by test slots 0 slots refl) ∙ sym (ranked-ties test 0 slots x))))
+    ∙ (same-ties test slots x (range_with_len 0 (length slots)) (passed order (length slots)) (passed-whole slots order size whole)
+    ∙ (ap (filter (ties precedes x)) (found-by test slots 0 slots refl) ∙ sym (ranked-ties test 0 slots x))))

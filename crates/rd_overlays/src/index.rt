@@ -41,7 +41,8 @@ impl Index {
         }
     }
 
-    /// Whether so many of `size` overlays were made or moved since the index was made that it is worth making anew.
+    /// Whether so many of `size` overlays were made or moved since the index was made that it is worth making anew. Any answer is
+    /// right; only what a look-up costs depends on it.
     pub(crate) fn is_stale(&self, size: usize) -> bool {
         let indexed = self.order.len();
         let made = size.saturating_sub(indexed);
@@ -175,7 +176,7 @@ fn bounds_of(
     Ok(bounds)
 }
 
-/// The index of all these overlays.
+/// The index of all these overlays. Costs their number times its logarithm.
 pub(crate) fn indexed(alloc: Global, slots: &[Option<Overlay>]) -> Result<Index, Memory>
     requires { length slots.now ≤ 65536 }
     ensures { IfOk result (λ index. IsIndex slots.now index.order index.bounds) }
@@ -204,7 +205,7 @@ fn lies_within(before: Option<Overlay>, after: Option<Overlay>) -> bool
     }
 }
 
-/// Widens the bounds of each block in which a number stands, so that an overlay lies within them.
+/// Widens the bounds of each block in which a number stands, so that an overlay lies within them. Costs a pass over the order.
 fn widen_all(order: &[u32], bounds: &mut ListOf<Bounds>, number: u32, slot: Option<Overlay>)
     requires { length order.now ≤ length bounds.old * 256 }
     ensures { (slots : List (Option Overlay)) → IsBounded slots order.now bounds.old → IsBounded (slice_set slots number slot) order.now bounds.new }

@@ -11,9 +11,10 @@ use std::marker::Model;
 /// The most overlays that are made.
 const MOST: usize = 65_536;
 
-/// All overlays of a buffer. A number counts from 0 in order of making and is never used again. A block is 256 overlays whose
-/// numbers follow one another, so that overlays made in the order of the text, and one that covers all, are in few blocks whose
-/// bounds hold a position; where they were made in another order, a look-up can pass over all.
+/// All overlays of a buffer. A number counts from 0 in order of making and is never used again. A block is 256 overlays that
+/// follow one another by their starts, whatever the order in which they were made. The blocks are made anew when more than 256
+/// overlays and a 128th of those in blocks were made since, which are in no block, or when more than 16 and a 1,024th of them
+/// were moved since, each of which can widen the bounds of one block.
 #[derive(Drop)]
 pub struct Overlays {
     alloc: Global,
@@ -46,7 +47,9 @@ impl Overlays {
     }
 
     /// Makes an overlay without values from `from` to `to - 1`, and answers its number, which is the count of those made so far.
-    /// The first of these faults counts: the start stands behind the end, 65,536 overlays were made. Costs one step.
+    /// The first of these faults counts: the start stands behind the end, 65,536 overlays were made. Costs one step, and now and
+    /// then the making of the blocks: the number of the overlays times its logarithm, which comes to some hundred steps for each
+    /// that is made. It takes memory for this; where there is none nothing changes.
     pub fn make(
         &mut self,
         from: Pos,
@@ -78,7 +81,8 @@ impl Overlays {
     }
 
     /// Moves an overlay to the range from `from` to `to - 1`. The first of these faults counts: no such overlay lives, the
-    /// start stands behind the end. Costs one step.
+    /// start stands behind the end. Costs a pass over the order of the overlays where its range changes, and now and then, after
+    /// at least 17 such moves, the making of the blocks as in `make`.
     pub fn move_to(&mut self, number: u32, from: Pos, to: Pos) -> Result<(), OverlayFault>
         ensures { Moves result (move_fault self.old number from to) self.old self.new (moved self.old number from to) }
     {
@@ -139,8 +143,8 @@ impl Overlays {
     }
 
     /// The numbers of the overlays that cover a position, `from <= pos < to`, in increasing order of priority and number.
-    /// Costs a pass over the bounds of all blocks and over each block whose bounds hold the position, and for those listed their
-    /// number times its logarithm, for which it takes memory.
+    /// Costs a pass over the bounds of all blocks, over each block whose bounds hold the position and over the overlays in no
+    /// block, and for those listed their number times its logarithm, for which it takes memory.
     pub fn covering(&self, pos: Pos) -> Result<ListOf<u32>, Memory>
         ensures { IfOk result (λ list. list ≡ covering pos self.now) }
     {
@@ -148,8 +152,8 @@ impl Overlays {
     }
 
     /// The numbers of the overlays that start at a position, empty ones too, in increasing order of priority and number.
-    /// Costs a pass over the bounds of all blocks and over each block whose bounds hold the position, and for those listed their
-    /// number times its logarithm, for which it takes memory.
+    /// Costs a pass over the bounds of all blocks, over each block whose bounds hold the position and over the overlays in no
+    /// block, and for those listed their number times its logarithm, for which it takes memory.
     pub fn starting(&self, pos: Pos) -> Result<ListOf<u32>, Memory>
         ensures { IfOk result (λ list. list ≡ starting pos self.now) }
     {
@@ -157,16 +161,17 @@ impl Overlays {
     }
 
     /// The numbers of the overlays whose `to` is a position, empty ones too, in increasing order of priority and number.
-    /// Costs a pass over the bounds of all blocks and over each block whose bounds hold the position, and for those listed their
-    /// number times its logarithm, for which it takes memory.
+    /// Costs a pass over the bounds of all blocks, over each block whose bounds hold the position and over the overlays in no
+    /// block, and for those listed their number times its logarithm, for which it takes memory.
     pub fn ending(&self, pos: Pos) -> Result<ListOf<u32>, Memory>
         ensures { IfOk result (λ list. list ≡ ending pos self.now) }
     {
         listed(self.alloc, &self.slots, Meeting::Ends, pos)
     }
 
-    /// The least start or end after a position, and None where there is none. Costs a pass over the bounds of all blocks, and
-    /// over each block in which a start or an end may stand behind the position and before the least of the blocks so far.
+    /// The least start or end after a position, and None where there is none. Costs a pass over the bounds of all blocks, over
+    /// each block in which a start or an end may stand behind the position and before the least of the blocks so far, and over the
+    /// overlays in no block.
     pub fn next_edge(&self, pos: Pos) -> Option<Pos>
         ensures { result ≡ next_edge pos self.now }
     {

@@ -86,7 +86,7 @@ impl Store {
         Ok(())
     }
 
-    /// Makes the index anew where it is stale. Costs the count of the overlays times its logarithm then, for which it takes memory.
+    /// Makes the index anew where it is stale. Costs the number of the overlays times its logarithm then, and takes memory.
     pub(crate) fn settle(&mut self) -> Result<(), Memory>
         requires { length self.old ≤ 65536 }
         ensures { self.new ≡ self.old }

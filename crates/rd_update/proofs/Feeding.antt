@@ -1,16 +1,15 @@
 -- What the bytes of an update do to a terminal that is not confused and stands between two sequences.
-use Rattle.std.proofs.Common.{◌≡◌, if◌then◌else◌, ℕ, zero, suc, ◌+◌, ◌-◌, ◌*◌, ◌/◌, ◌%◌, ◌^◌, ◌<◌, ◌≤◌, ◌==◌, Bool, true, false, cond, nat_lt, nat_le, min, List, [], ◌∷◌, ◌++◌, length, get_or, set, take, drop, map, replicate, Option, None, Some, refl, sym, ap, ◌∙◌, arith, append_assoc}
+use Rattle.std.proofs.Common.{◌≡◌, if◌then◌else◌, ℕ, suc, ◌+◌, ◌-◌, ◌/◌, ◌%◌, ◌^◌, ◌<◌, ◌≤◌, ◌==◌, Bool, true, false, nat_lt, nat_le, List, [], ◌∷◌, ◌++◌, length, get_or, map, replicate, Option, None, Some, refl, sym, ap, ◌∙◌, arith, append_assoc}
 use Rattle.std.specs.Fmt.{decimal}
-use Rattle.std.specs.List.{AllByRecursion, flat_map}
+use Rattle.std.specs.List.{AllByRecursion}
 use Rattle.std.proofs.lemmas.Bool.Decides.{nat_tests}
 use Rattle.std.proofs.lemmas.Fmt.{decimal_by_steps}
-use Rattle.std.proofs.lemmas.List.{get_or_at, set_at, take_at, length-append, append-nil}
+use Rattle.std.proofs.lemmas.List.{get_or_at, set_at, take_at, length-append}
 use Rattle.rd_base.specs.Faces.{Attributes, plain}
-use Rattle.rd_base.specs.Cells.{single}
 use Rattle.rd_base.specs.declared.cell.Cell.{Cell}
 use Rattle.rd_base.specs.declared.cell.Cell.TheVariants.{Blank, First, Rest}
-use Rattle.rd_term.specs.Parameters.{ParametersRead, longer}
-use Rattle.rd_term.specs.Pictures.{blank, IsPlainCell, row_at, with_cell}
+use Rattle.rd_term.specs.Parameters.{longer}
+use Rattle.rd_term.specs.Pictures.{blank, IsPlainCell}
 use Rattle.rd_term.specs.Terminals.{Tty, feed_byte, feed_bytes, is_digit, is_printable, on_screen, erased_from, put_at, cell_of}
 use Rattle.rd_term.specs.declared.reading.Reading.TheVariants.{Between, Sequence}
 use Rattle.rd_update.specs.Updates.{move, erase_to_end, repaint, text_of_cell, text_of}

@@ -1,12 +1,12 @@
 -- Rows put in place one after another, and the parts of a plan.
-use Rattle.std.proofs.Common.{◌≡◌, if◌then◌else◌, ℕ, zero, suc, ◌+◌, ◌-◌, ◌<◌, ◌≤◌, Bool, true, false, not, nat_lt, nat_le, min, List, [], ◌∷◌, ◌++◌, length, get_or, set, take, drop, map, replicate, All, Option, None, Some, refl, sym, ap, ◌∙◌, arith, append_assoc, append-nil}
+use Rattle.std.proofs.Common.{◌≡◌, if◌then◌else◌, ℕ, zero, suc, ◌+◌, ◌-◌, ◌<◌, ◌≤◌, Bool, true, false, not, nat_lt, nat_le, min, List, [], ◌∷◌, ◌++◌, length, get_or, set, take, drop, replicate, Option, None, Some, refl, sym, ap, ◌∙◌, arith, append_assoc, append-nil}
 use Rattle.std.specs.List.{AllByRecursion}
 use Rattle.std.proofs.lemmas.List.Elements.{recursion_from_All, All-from_recursion}
 use Rattle.std.proofs.lemmas.Bool.Decides.{nat_tests}
-use Rattle.std.proofs.lemmas.List.{drop_more, take_more, set_at, length-take-le, length-append, set-set, get_or-set_same, length-set, set-get_or, take_all, drop_all, take_at, take-append-le, length-map, get_or-map, length-drop, get_or-replicate, drop-replicate, get_or_append_left, get_or-append_right, get_or-drop, get_or-take, length-replicate}
+use Rattle.std.proofs.lemmas.List.{drop_more, take_more, set_at, length-take-le, length-append, set-set, get_or-set_same, length-set, take_all, take_at, length-map, get_or-map, length-drop, get_or-replicate, drop-replicate, get_or-append_right, length-replicate}
 use Rattle.rd_base.specs.declared.cell.Cell.{Cell}
-use Rattle.rd_term.specs.Pictures.{Picture, IsGrid, blank, blank_row, width_of, with_cell}
-use Rattle.rd_update.specs.Updates.{differs, row_bytes, rows_bytes, rows_after, allows, less_one, differing, within, is_done, blank_like, start, opening, Update, update, move}
+use Rattle.rd_term.specs.Pictures.{Picture, IsGrid, blank_row, width_of, with_cell}
+use Rattle.rd_update.specs.Updates.{differs, row_bytes, rows_bytes, rows_after, allows, less_one, differing, within, is_done, blank_like, start, opening, update, move}
 use Rattle.rd_update.specs.Plans.{Prepared, parts_from, planned, sent_of, ArePartsOf, no_part, front_if, front_within, part_if, bytes_if, old_row, HaveOneSize}
 use Rattle.rd_update.specs.declared.plan.Part.{Part}
 use Rattle.rd_update.specs.declared.plan.Sent.{Sent}

@@ -1,18 +1,18 @@
 -- The update law.
-use Rattle.std.proofs.Common.{◌≡◌, if◌then◌else◌, ℕ, zero, suc, ◌+◌, ◌-◌, ◌<◌, ◌≤◌, Bool, true, false, not, List, [], ◌∷◌, ◌++◌, length, get_or, take, map, replicate, Option, None, Some, refl, sym, ap, subst, ◌∙◌, arith, append_assoc, append-nil, All}
+use Rattle.std.proofs.Common.{◌≡◌, if◌then◌else◌, ℕ, suc, ◌+◌, ◌-◌, ◌<◌, ◌≤◌, Bool, true, false, not, List, [], ◌∷◌, ◌++◌, length, get_or, map, replicate, Option, None, Some, refl, sym, ap, ◌∙◌, arith, All}
 use Rattle.std.specs.List.{AllByRecursion}
 use Rattle.std.proofs.lemmas.List.Elements.{recursion_from_All, All-from_recursion}
 use Rattle.std.proofs.lemmas.List.{length-map, get_or-map, length-replicate}
 use Rattle.rd_base.specs.Faces.{Attributes, plain}
 use Rattle.rd_base.specs.declared.cell.Cell.{Cell}
-use Rattle.rd_term.specs.Pictures.{Picture, blank, blank_row, IsPlainCell, IsOfSize, IsGrid}
+use Rattle.rd_term.specs.Pictures.{Picture, blank, blank_row, IsPlainCell, IsOfSize}
 use Rattle.rd_term.specs.Terminals.{Tty, feed_bytes, known, erased_from}
 use Rattle.rd_term.specs.declared.reading.Reading.{Reading}
 use Rattle.rd_term.specs.declared.reading.Reading.TheVariants.{Between}
-use Rattle.rd_update.specs.Updates.{move, repaint, rows_bytes, rows_after, differs, allows, less_one, blank_like, start, opening, Update, update, is_done, differing}
-use Rattle.rd_update.specs.Laws.{IsCurrent, IsReady, IsUpdated}
+use Rattle.rd_update.specs.Updates.{move, repaint, rows_bytes, rows_after, differs, allows, less_one, blank_like, start, opening, update, is_done, differing}
+use Rattle.rd_update.specs.Laws.{IsReady, IsUpdated}
 use Rattle.rd_update.proofs.Feeding.{Rows, standing, feed-append, move_fed, repaint_fed}
-use Rattle.rd_update.proofs.Rows.{Stands, rows_fed, map-replicate}
+use Rattle.rd_update.proofs.Rows.{rows_fed, map-replicate}
 
 -- ---- sizes
 

@@ -1,14 +1,14 @@
 -- What the bytes of a row, and those of the rows that differ, do to a terminal.
-use Rattle.std.proofs.Common.{◌≡◌, if◌then◌else◌, ℕ, zero, suc, ◌+◌, ◌-◌, ◌<◌, ◌≤◌, Bool, true, false, cond, not, nat_lt, nat_le, min, max, List, [], ◌∷◌, ◌++◌, length, get_or, take, drop, map, replicate, Option, None, Some, refl, sym, ap, ◌∙◌, arith, append_assoc, inl, inr}
-use Rattle.std.specs.List.{AllByRecursion, flat_map}
+use Rattle.std.proofs.Common.{◌≡◌, if◌then◌else◌, ℕ, zero, suc, ◌+◌, ◌-◌, ◌<◌, ◌≤◌, Bool, true, false, not, nat_lt, min, max, List, [], ◌∷◌, ◌++◌, length, get_or, take, drop, map, replicate, Option, Some, refl, sym, ap, ◌∙◌, arith, append_assoc}
+use Rattle.std.specs.List.{AllByRecursion}
 use Rattle.std.proofs.lemmas.Bool.Decides.{nat_tests}
-use Rattle.std.proofs.lemmas.List.{get_or_at, length-append, length-map, length-take-le, length-take, length-drop, map-append, take-map, drop-map, length-replicate}
-use Rattle.rd_base.specs.Faces.{Attributes, plain}
+use Rattle.std.proofs.lemmas.List.{get_or_at, length-append, length-map, length-take-le, length-take, length-drop, map-append}
+use Rattle.rd_base.specs.Faces.{plain}
 use Rattle.rd_base.specs.declared.cell.Cell.{Cell}
-use Rattle.rd_term.specs.Pictures.{blank, blank_row, IsPlainCell}
+use Rattle.rd_term.specs.Pictures.{blank, IsPlainCell}
 use Rattle.rd_term.specs.Terminals.{Tty, feed_bytes, known}
 use Rattle.rd_update.specs.Updates.{move, erase_to_end, text_of, first_difference, end_of_differences, used, differs, row_bytes, rows_bytes, rows_after, allows, less_one}
-use Rattle.rd_update.proofs.Feeding.{Rows, standing, feed-append, move_fed, text_fed, TextFed, erase_fed}
+use Rattle.rd_update.proofs.Feeding.{Rows, standing, feed-append, move_fed, text_fed, erase_fed}
 use Rattle.rd_update.proofs.Spans.{front-same, back-same, no-difference, first_before, end_within, blank-from, three-parts}
 
 -- a terminal with these rows and a plain pen between two sequences, wherever its cursor is

@@ -1,12 +1,10 @@
 -- Where two rows differ: what is before the first difference, behind the last one, and blank to the end.
-use Rattle.std.proofs.Common.{◌≡◌, if◌then◌else◌, ℕ, zero, suc, ◌+◌, ◌-◌, ◌<◌, ◌≤◌, ◌==◌, Bool, true, false, cond, not, ◌&&◌, nat_lt, nat_le, min, max, List, [], ◌∷◌, ◌++◌, length, get_or, take, drop, map, replicate, refl, sym, ap, ◌∙◌, arith, append_assoc}
-use Rattle.std.specs.Bool.{Decides}
-use Rattle.std.specs.Str.{bytes_eq}
+use Rattle.std.proofs.Common.{◌≡◌, if◌then◌else◌, ℕ, zero, suc, ◌+◌, ◌-◌, ◌<◌, ◌≤◌, Bool, true, false, List, [], ◌∷◌, ◌++◌, length, take, drop, replicate, refl, sym, ap, ◌∙◌, arith}
 use Rattle.std.proofs.lemmas.Bool.{and_parts}
 use Rattle.std.proofs.lemmas.Bool.Decides.{nat_tests, Decides-eqb}
 use Rattle.std.proofs.lemmas.Slice.Eq.{bytes_eq-Decides}
 use Rattle.std.proofs.lemmas.List.{take-append-drop, drop-drop, drop-replicate, length-replicate}
-use Rattle.rd_base.specs.Faces.{Attributes, plain}
+use Rattle.rd_base.specs.Faces.{Attributes}
 use Rattle.rd_base.specs.declared.cell.Glyph.{Glyph}
 use Rattle.rd_base.specs.declared.cell.Cell.{Cell}
 use Rattle.rd_base.specs.declared.cell.Cell.TheVariants.{Blank, First, Rest}

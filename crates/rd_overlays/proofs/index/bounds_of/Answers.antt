@@ -1,4 +1,4 @@
-use Rattle.std.proofs.Common.{get_or, sym, ap, subst, arith, Option, Some, ◌∙◌}
+use Rattle.std.proofs.Common.{get_or, subst, arith, Option}
 use Rattle.std.proofs.lemmas.Option.{slice_get-get_or}
 use Rattle.rd_overlays.specs.declared.overlay.Overlay.{Overlay}
 use Rattle.rd_overlays.specs.Bounds.{IsWidened}

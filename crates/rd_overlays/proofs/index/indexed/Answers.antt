@@ -1,4 +1,4 @@
-use Rattle.std.proofs.Common.{List, ℕ, length, ap, subst, ◌∙◌}
+use Rattle.std.proofs.Common.{List, ℕ, subst, ◌∙◌}
 use Rattle.rd_overlays.specs.Bounds.{IsBounded}
 use Rattle.rd_overlays.proofs.Passing.{built-index}
 use Rattle.rd_overlays.proofs.index.indexed.Goals as goal

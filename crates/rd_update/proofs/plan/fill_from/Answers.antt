@@ -1,5 +1,5 @@
-use Rattle.std.proofs.Common.{◌≡◌, ◌<◌, ◌≤◌, ◌+◌, ◌-◌, ◌++◌, ◌∙◌, [], length, get_or, set, take, drop, replicate, ap, sym, arith}
-use Rattle.rd_term.specs.Pictures.{Picture, width_of}
+use Rattle.std.proofs.Common.{◌<◌, ◌-◌, ◌++◌, ◌∙◌, [], length, set, take, drop, replicate, ap, sym, arith}
+use Rattle.rd_term.specs.Pictures.{Picture}
 use Rattle.rd_update.proofs.Parts.{seam, at-replica, length-replica}
 use Rattle.rd_update.proofs.plan.fill_from.Goals as goal
 

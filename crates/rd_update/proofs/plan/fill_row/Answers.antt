@@ -1,4 +1,4 @@
-use Rattle.std.proofs.Common.{◌≡◌, ◌<◌, ◌+◌, ◌++◌, ◌∙◌, [], length, get_or, set, take, drop, ap, arith}
+use Rattle.std.proofs.Common.{◌<◌, ◌∙◌, [], length, get_or, set, ap, arith}
 use Rattle.std.proofs.lemmas.List.{length-set}
 use Rattle.rd_term.specs.Pictures.{Picture, width_of, with_cell}
 use Rattle.rd_update.proofs.Parts.{cell-step, width-cell}

@@ -1,4 +1,4 @@
-use Rattle.std.proofs.Common.{◌≡◌, ◌∙◌, take, ap}
+use Rattle.std.proofs.Common.{◌∙◌, take, ap}
 use Rattle.std.proofs.lemmas.List.{take-replicate}
 use Rattle.rd_term.specs.Pictures.{blank}
 use Rattle.rd_update.proofs.plan.first.Goals as goal

@@ -1,4 +1,4 @@
-use Rattle.std.proofs.Common.{◌≡◌, ◌<◌, ◌++◌, ◌∙◌, length, None, arith}
+use Rattle.std.proofs.Common.{◌<◌, ◌++◌, ◌∙◌, length, None, arith}
 use Rattle.rd_update.specs.Updates.{start, rows_bytes}
 use Rattle.rd_update.specs.Plans.{shown, parts_from}
 use Rattle.rd_update.proofs.Parts.{start-row, start-length, bytes-step, parts-step}

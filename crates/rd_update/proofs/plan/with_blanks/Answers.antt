@@ -1,4 +1,4 @@
-use Rattle.std.proofs.Common.{◌≡◌, ◌++◌, ◌-◌, ◌∙◌, List, length, take, replicate, ap, sym}
+use Rattle.std.proofs.Common.{◌++◌, ◌-◌, ◌∙◌, List, length, take, replicate, ap, sym}
 use Rattle.rd_base.specs.declared.cell.Cell.{Cell}
 use Rattle.rd_term.specs.Pictures.{Picture, width_of, blank_row}
 use Rattle.rd_update.proofs.Parts.{drop-blanks}

@@ -1,5 +1,5 @@
-use Rattle.std.proofs.Common.{◌≡◌, ◌<◌, ◌+◌, ◌++◌, ◌∙◌, [], length, get_or, set, take, drop, ap, arith}
-use Rattle.rd_term.specs.Pictures.{Picture, width_of}
+use Rattle.std.proofs.Common.{◌<◌, ◌++◌, ◌∙◌, [], length, set, take, drop, ap, arith}
+use Rattle.rd_term.specs.Pictures.{Picture}
 use Rattle.rd_update.proofs.Parts.{seam}
 use Rattle.rd_update.proofs.plan.with_rows_of.Goals as goal
 

@@ -1,4 +1,4 @@
-use Rattle.std.proofs.Common.{◌≡◌, ◌++◌, length, take, drop}
+use Rattle.std.proofs.Common.{◌≡◌, ◌++◌, take, drop}
 use Rattle.rd_term.specs.Pictures.{width_of}
 use Rattle.rd_update.proofs.plan.with_rows_of.Given as goal
 

@@ -2,7 +2,7 @@ use Rattle.std.proofs.Common.{◌≡◌, List, Option, map, sym, subst}
 use Rattle.rd_overlays.specs.declared.overlay.Overlay.{Overlay}
 use Rattle.rd_overlays.specs.declared.bounds.Bounds.{Bounds}
 use Rattle.rd_overlays.specs.Overlays.{AllFit, slot_grown}
-use Rattle.rd_overlays.specs.Bounds.{IsIndex, bounds_grown}
+use Rattle.rd_overlays.specs.Bounds.{IsIndex}
 use Rattle.rd_overlays.proofs.Bounding.{grown-index}
 use Rattle.rd_overlays.proofs.store.Store.grow.Goals as goal
 

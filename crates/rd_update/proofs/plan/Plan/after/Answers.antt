@@ -1,4 +1,4 @@
-use Rattle.std.proofs.Common.{◌≡◌, ◌<◌, ◌≤◌, ◌++◌, ◌∙◌, ℕ, length, get_or, take, drop, Option, arith, ap, sym}
+use Rattle.std.proofs.Common.{◌++◌, ◌∙◌, length, get_or, take, drop, Option, arith, ap, sym}
 use Rattle.rd_term.specs.Pictures.{Picture}
 use Rattle.rd_update.specs.Updates.{start, opening}
 use Rattle.rd_update.specs.Plans.{Prepared, no_part}

@@ -1,6 +1,6 @@
-use Rattle.std.proofs.Common.{◌≡◌, ◌∙◌, ℕ, length, ap, subst, sym}
+use Rattle.std.proofs.Common.{◌∙◌, ℕ, ap, subst, sym}
 use Rattle.rd_term.specs.Pictures.{blank_row}
-use Rattle.rd_update.specs.Plans.{Prepared, planned, shown, ArePartsOf}
+use Rattle.rd_update.specs.Plans.{Prepared, shown, ArePartsOf}
 use Rattle.rd_update.proofs.Parts.{parts-of, planned-made}
 use Rattle.rd_update.proofs.plan.Plan.prepare.Goals as goal
 

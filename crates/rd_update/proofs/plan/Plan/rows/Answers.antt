@@ -1,4 +1,4 @@
-use Rattle.std.proofs.Common.{◌≡◌, ◌∙◌, length, ap}
+use Rattle.std.proofs.Common.{◌∙◌, length, ap}
 use Rattle.rd_update.specs.Updates.{start, opening}
 use Rattle.rd_update.specs.Plans.{Prepared}
 use Rattle.rd_update.proofs.Parts.{length-parts}

@@ -1,7 +1,6 @@
-use Rattle.std.proofs.Common.{◌≡◌, ◌∙◌, ℕ, List, length, take, ap, subst, sym, IfOk}
-use Rattle.rd_io.specs.Devices.{Writes}
+use Rattle.std.proofs.Common.{◌≡◌, ◌∙◌, ℕ, take, ap, subst, sym, IfOk}
 use Rattle.rd_update.specs.Updates.{update}
-use Rattle.rd_update.specs.Plans.{Prepared, planned, front_within, sent_of}
+use Rattle.rd_update.specs.Plans.{Prepared, planned, front_within}
 use Rattle.rd_update.specs.declared.plan.Sent.{Sent}
 use Rattle.rd_update.proofs.Parts.{front-is}
 use Rattle.rd_update.proofs.plan.Plan.send.Goals as goal
