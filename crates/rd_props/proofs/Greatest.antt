@@ -75,8 +75,8 @@ module _ (slots : List (Option Overlay)) (kind : Kind) where
     pub no-value : ((n v : ℕ) (o : Overlay) → Gives slots pos kind n o v → ⊥) → last_value slots kind ns ≡ None
     no-value none =
         none-last ns (λ k p.
-            let m = slice_index ns k in
-            none-by m (overlay_at slots m) (value_of kind (overlay_at slots m)) (contained ns k p) refl refl (λ w b. none m w b))
+        let m = slice_index ns k in
+        none-by m (overlay_at slots m) (value_of kind (overlay_at slots m)) (contained ns k p) refl refl (λ w b. none m w b))
 
     -- what stands behind the greatest in a listing has no value
     behind : (n m v w : ℕ) (o b : Overlay) → IsGreatest slots pos kind n o v → Gives slots pos kind m b w
@@ -93,6 +93,7 @@ module _ (slots : List (Option Overlay)) (kind : Kind) where
         priority_or : Overlay → Option Overlay → ℤ
         priority_or d None = d.priority
         priority_or d (Some a) = a.priority
+
         priority-of : (b o : Overlay) → Some b ≡ Some o → b.priority ≡ o.priority
         priority-of b o e = ap (priority_or b) e
 
@@ -102,7 +103,7 @@ module _ (slots : List (Option Overlay)) (kind : Kind) where
         let here : slice_index ns k ≡ n = any-default ns k 0 n inside ∙ found in
         let lives : overlay_at slots (slice_index ns k) ≡ Some o = ap (overlay_at slots) here ∙ most.gives.lives in
         some-last ns k v inside (ap (value_of kind) lives ∙ most.gives.has) (λ j later p.
-            let m = slice_index ns j in
-            none-by m (overlay_at slots m) (value_of kind (overlay_at slots m)) (contained ns j p) refl refl (λ w b gives.
-                behind n m v w o b most gives
-                (ap (λ (x : ℕ). is_lt (ordering_then (int_cmp o.priority b.priority) (nat_cmp x m))) (sym here) ∙ ascends k j o b later p lives gives.lives)))
+        let m = slice_index ns j in
+        none-by m (overlay_at slots m) (value_of kind (overlay_at slots m)) (contained ns j p) refl refl (λ w b gives.
+        behind n m v w o b most gives
+        (ap (λ (x : ℕ). is_lt (ordering_then (int_cmp o.priority b.priority) (nat_cmp x m))) (sym here) ∙ ascends k j o b later p lives gives.lives)))

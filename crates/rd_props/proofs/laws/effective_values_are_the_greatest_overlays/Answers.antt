@@ -12,7 +12,7 @@ returns-clause-overlay c = λ s pos number value kind overlay inside most.
     let here : nat_lt pos s.text.end ≡ true = grind (arith, nat_tests) in
     let listing = c.listings_are_exact.ensures in
     let last = greatest-value s.overlays kind pos (covering pos s.overlays) (listing.holds (covers pos) s.overlays) number value overlay
-        (listing.ascends (covers pos) s.overlays) most in
+    (listing.ascends (covers pos) s.overlays) most in
     rw here (ap (λ (o : Option ℕ). option_or o (property s kind pos)) last)
 
 pub returns-clause-text : goal.returns-clause-text
