@@ -37,3 +37,15 @@ fn overlays_are_numbered_and_listed(rt: HostRuntime) -> Result<(), Fail> {
     assert_eq!(rt; overlays.make(2, 2, 0, false, false), Ok(5));
     Ok(())
 }
+
+#[test]
+fn many_overlays_are_found(rt: HostRuntime) -> Result<(), Fail> {
+    let mut overlays = Overlays::new(rt.alloc())?;
+    for k in 0..300u32 {
+        assert!(rt; overlays.make(300 - k, 301 - k, 0, false, false).is_ok());
+    }
+    let covering = overlays.covering(7)?;
+    assert_eq!(rt; covering.as_slice(), [293].as_slice());
+    assert_eq!(rt; overlays.next_edge(7), Some(8));
+    Ok(())
+}
