@@ -1,5 +1,6 @@
 //! Glyphs and the cells of a screen.
 ghost use Rattle.std.specs.Prelude.{◌≡◌, ◌<◌};
+ghost use Rattle.rd_base.specs.Glyphs.{is_space};
 ghost use Rattle.rd_base.specs.Cells.{single, bit_of, face_number, packed, glyph_number, words_of, AreOnlyOf};
 
 use crate::face::Face;
@@ -24,6 +25,13 @@ impl Glyph {
             count: 0,
             width,
         }
+    }
+
+    /// Whether this is a space without marks, which a cell shows as `Blank`.
+    pub fn is_space(&self) -> bool
+        ensures { result ≡ is_space self.now }
+    {
+        self.base == 32 && self.count == 0
     }
 }
 

@@ -2,15 +2,16 @@
 use Rattle.std.proofs.Common.{◌≡◌, ◌≤◌, ◌-◌, length, arith, refl}
 use Rattle.std.proofs.lemmas.List.{length-replicate}
 use Rattle.rd_base.specs.Faces.{Attributes}
+use Rattle.rd_base.specs.Glyphs.{glyph_cells}
 use Rattle.rd_base.specs.declared.cell.Glyph.{Glyph}
 use Rattle.rd_base.specs.declared.cell.Cell.TheVariants.{Blank, Rest}
 use Rattle.rd_base.specs.declared.element.Look.{Look}
 use Rattle.rd_base.specs.declared.element.Look.TheVariants as look
 use Rattle.rd_glyphs.specs.Characters.{TakesColumns, look_columns}
-use Rattle.rd_glyphs.specs.Lines.{glyph_cells, cells_of}
+use Rattle.rd_glyphs.specs.Lines.{cells_of}
 
 -- a glyph has as many cells as columns
-glyph_count : (face : Attributes) (g : Glyph) → 1 ≤ g.width → length (glyph_cells face g) ≡ g.width
+glyph_count : (face : Attributes) (g : Glyph) → 1 ≤ g.width → length (glyph_cells g.width g face) ≡ g.width
 glyph_count face g wide =
     let blanks = length-replicate g.width (Blank face) in
     let rests = length-replicate (g.width - 1) Rest in

@@ -1,10 +1,10 @@
 -- A plain line of text, such as a mode line.
-use Rattle.std.specs.Prelude.{ℕ, ◌+◌, ◌-◌, ◌≤◌, nat_le, nat_lt, ◌==◌, Bool, true, false, ◌&&◌, if◌then◌else◌, List, [], ◌∷◌, ◌++◌, replicate, slice_set, Option, None, Some}
+use Rattle.std.specs.Prelude.{ℕ, ◌+◌, ◌-◌, ◌≤◌, nat_le, nat_lt, Bool, true, false, if◌then◌else◌, List, [], ◌∷◌, ◌++◌, slice_set, Option, None, Some}
 use Rattle.rd_base.specs.Faces.{Attributes}
 use Rattle.rd_base.specs.Cells.{single}
+use Rattle.rd_base.specs.Glyphs.{blanks, glyph_cells}
 use Rattle.rd_base.specs.declared.cell.Glyph.{Glyph}
 use Rattle.rd_base.specs.declared.cell.Cell.{Cell}
-use Rattle.rd_base.specs.declared.cell.Cell.TheVariants.{Blank, First, Rest}
 use Rattle.rd_base.specs.declared.element.Look.{Look}
 use Rattle.rd_base.specs.declared.element.Look.TheVariants as look
 use Rattle.rd_ucd.specs.declared.spans.Span.{Span}
@@ -59,26 +59,18 @@ looks_from classes held (c ∷ cs) =
     let s = shown_as true (class_of classes c) c in
     given held s ++ looks_from classes (held_after held s) cs
 
--- a space without marks
-abbrev pub is_space : Glyph → Bool
-is_space g = (g.base == 32) && (g.count == 0)
-
--- the cells of a glyph
-abbrev pub glyph_cells : Attributes → Glyph → List Cell
-glyph_cells face g = if is_space g then replicate g.width (Blank face) else First g face ∷ replicate (g.width - 1) Rest
-
 -- the cells of a look
 abbrev pub cells_of : Attributes → Look → List Cell
-cells_of face (look.Glyph g) = glyph_cells face g
-cells_of face other = replicate (look_columns other) (Blank face)
+cells_of face (look.Glyph g) = glyph_cells g.width g face
+cells_of face other = blanks (look_columns other) face
 
 -- looks in so many columns, while they fit, and blanks in the rest
 abbrev pub fitted : Attributes → ℕ → List Look → List Cell
-fitted face room [] = replicate room (Blank face)
+fitted face room [] = blanks room face
 fitted face room (l ∷ ls) =
     if nat_le (look_columns l) room
     then cells_of face l ++ fitted face (room - look_columns l) ls
-    else replicate room (Blank face)
+    else blanks room face
 
 -- the cells of a plain line
 abbrev pub plain_cells : List Span → Attributes → ℕ → List ℕ → List Cell

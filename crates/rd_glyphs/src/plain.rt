@@ -1,8 +1,9 @@
 //! Plain lines of text, such as mode lines.
 ghost use Rattle.std.specs.Prelude.{◌≡◌, ◌≤◌, ◌<◌, ◌+◌, ◌++◌, ◌∷◌, [], length, All, None, IfOk, OnOk, replicate};
 ghost use Rattle.rd_base.specs.Cells.{single};
+ghost use Rattle.rd_base.specs.Glyphs.{glyph_cells};
 ghost use Rattle.rd_glyphs.specs.Characters.{looks_of, look_columns, TakesColumns, ShowsColumns};
-ghost use Rattle.rd_glyphs.specs.Lines.{HoldsColumns, has_room, joined, joined_to, glyph_cells, held_looks, given, held_after, looks_from, is_space, cells_of, fitted, plain_cells};
+ghost use Rattle.rd_glyphs.specs.Lines.{HoldsColumns, has_room, joined, joined_to, held_looks, given, held_after, looks_from, cells_of, fitted, plain_cells};
 
 use crate::looks::{look_columns, looks_of, on_blank};
 use crate::shown::{Shown, shown_as};
@@ -187,18 +188,11 @@ fn put_cells(cells: &mut ListOf<Cell>, look: Look, face: Face) -> Result<(), Mem
     }
 }
 
-/// Whether this is a space without marks.
-fn is_space(glyph: Glyph) -> bool
-    ensures { result ≡ is_space glyph }
-{
-    glyph.base == 32 && glyph.count == 0
-}
-
 /// Adds the cells of a glyph.
 fn put_glyph(cells: &mut ListOf<Cell>, glyph: Glyph, face: Face) -> Result<(), Memory>
-    ensures { OnOk result (cells.new ≡ cells.old ++ glyph_cells face glyph) }
+    ensures { OnOk result (cells.new ≡ cells.old ++ glyph_cells glyph.width glyph face) }
 {
-    if is_space(glyph) {
+    if glyph.is_space() {
         return put_copies(cells, glyph.width as u32, Cell::Blank(face));
     }
     cells.push(Cell::First(glyph, face))?;

@@ -1,5 +1,5 @@
 -- The laws of rows, by the steps of their definition.
-use Rattle.std.proofs.Common.{◌≡◌, ℕ, suc, ◌+◌, ◌&&◌, ◌||◌, not, Bool, true, false, if◌then◌else◌, IsTrue, List, [], ◌∷◌, ◌++◌, length, flat_map, map, Option, None, Some, refl, ap, sym, ◌∙◌, arith}
+use Rattle.std.proofs.Common.{◌≡◌, ℕ, ◌+◌, not, Bool, true, false, if◌then◌else◌, IsTrue, List, [], ◌∷◌, ◌++◌, length, flat_map, map, Some, refl, ap, sym, ◌∙◌, arith}
 use Rattle.std.proofs.lemmas.List.{flat_map_more, map-append, append_assoc}
 use Rattle.rd_base.specs.declared.element.Element.{Element}
 use Rattle.rd_rows.specs.declared.begin.Begin.{Begin}
@@ -11,7 +11,7 @@ use Rattle.rd_rows.specs.Placing.{fits, ends_row, is_line_end, is_item, placed_a
 use Rattle.rd_rows.specs.Rows.{LaidRow, rows_from, begin_of, has_line_end, laid, weight_of}
 use Rattle.rd_rows.specs.Lines.{ends_once}
 use Rattle.rd_rows.specs.Laws.{ends_last, range_of, ranges_in, ranges_of}
-use Rattle.rd_rows.proofs.Walk.{line_end-ends, on-no_line_end, unfit-on, ends_once-tail, ends_once-last, no_end-more, weight-rows}
+use Rattle.rd_rows.proofs.Walk.{line_end-ends, ends_once-tail, ends_once-last, no_end-more, weight-rows}
 
 -- the last row
 

@@ -1,5 +1,5 @@
 -- What holds while a row is made, and what follows when it ends.
-use Rattle.std.proofs.Common.{◌≡◌, ℕ, suc, min, nat_lt, ◌+◌, ◌-◌, ◌^◌, ◌<◌, ◌≤◌, ◌&&◌, ◌||◌, not, Bool, true, false, if◌then◌else◌, IsTrue, List, [], ◌∷◌, ◌++◌, length, flat_map, Option, None, Some, Result, Ok, Err, IfOk, IsErr, All, get_or, refl, ap, sym, ◌∙◌, subst, arith, length-append, zero-add, add-zero}
+use Rattle.std.proofs.Common.{◌≡◌, ℕ, suc, min, nat_lt, ◌+◌, ◌≤◌, ◌&&◌, ◌||◌, not, Bool, true, false, if◌then◌else◌, IsTrue, List, [], ◌∷◌, ◌++◌, length, flat_map, Option, None, Some, Result, Ok, Err, IfOk, IsErr, refl, ap, sym, ◌∙◌, subst, arith, length-append, zero-add}
 use Rattle.std.proofs.lemmas.List.{flat_map_more}
 use Rattle.std.proofs.lemmas.List.Elements.{All-tail}
 use Rattle.rd_base.specs.declared.cell.Cell.{Cell}
@@ -9,7 +9,7 @@ use Rattle.rd_base.specs.declared.element.Extent.TheVariants.{Fixed, Tab, Column
 use Rattle.rd_base.specs.declared.element.Look.{Look}
 use Rattle.rd_base.specs.declared.element.Look.TheVariants.{Blank, Glyph, RowEnd, LineEnd}
 use Rattle.rd_base.specs.declared.memory.Memory.{Memory}
-use Rattle.rd_base.specs.Elements.{IsSound, AreSound}
+use Rattle.rd_base.specs.Elements.{IsSound}
 use Rattle.rd_rows.specs.declared.begin.Begin.{Begin}
 use Rattle.rd_rows.specs.declared.cutting.Cutting.{Cutting}
 use Rattle.rd_rows.specs.declared.draft.Draft.{Draft}
@@ -20,7 +20,7 @@ use Rattle.rd_rows.specs.Drafts.{IsDraft, Grows, finished_row}
 use Rattle.rd_rows.specs.Placing.{fits, ends_row, is_line_end, placed_at, behind, next_row, next_line, width_at, width_at_most, columns_in, goes_on}
 use Rattle.rd_rows.specs.Rows.{LaidRow, RowMeaning, rows_from, weight_of, laid, row_of, scrolled, seen, mark, begin_of, has_line_end}
 use Rattle.rd_rows.specs.Shapes.{ShapeValues, room}
-use Rattle.rd_rows.specs.Lines.{Making, IsLine, Asks, MakesRow, Makes, ends_once, columns_at_most, rows_left, held_placed, held_spot, with_held}
+use Rattle.rd_rows.specs.Lines.{Making, IsLine, Asks, MakesRow, Makes, ends_once, rows_left, held_placed, held_spot, with_held}
 
 -- the elements that were placed, with what the draft shows of them, the steps, and what is left of the line and of its rows
 pub record Walking (m : Making) (es : List Element) (s : ℕ) (n : Making) (draft : Draft) (fs : List Element) (t : ℕ) : Type 0 where

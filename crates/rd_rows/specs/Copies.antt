@@ -1,7 +1,8 @@
 -- Rows and their copies.
 use Rattle.std.specs.Prelude.{ℕ, ◌+◌, min, false, []}
 use Rattle.rd_base.specs.Faces.{plain}
-use Rattle.rd_rows.specs.Rows.{RowMeaning, blanks}
+use Rattle.rd_base.specs.Glyphs.{blanks}
+use Rattle.rd_rows.specs.Rows.{RowMeaning}
 
 -- a row: what is seen of it, and how often it was copied since it was made
 pub record RowValues : Type 0 where

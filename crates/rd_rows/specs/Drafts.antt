@@ -1,5 +1,5 @@
 -- A row that is being made.
-use Rattle.std.specs.Prelude.{◌≡◌, ℕ, ◌+◌, Bool, false, List, [], ◌∷◌, ◌++◌, flat_map}
+use Rattle.std.specs.Prelude.{◌≡◌, ℕ, Bool, false, List, [], ◌∷◌, ◌++◌, flat_map}
 use Rattle.rd_base.specs.declared.cell.Cell.{Cell}
 use Rattle.rd_rows.specs.declared.begin.Begin.{Begin}
 use Rattle.rd_rows.specs.declared.cutting.Cutting.{Cutting}

@@ -1,9 +1,8 @@
 -- Lines that the worked examples speak of.
-use Rattle.std.specs.Prelude.{ℕ, ◌+◌, List, [], ◌∷◌, ◌++◌, map, length}
-use Rattle.rd_base.specs.Faces.{Attributes, plain}
+use Rattle.std.specs.Prelude.{ℕ, ◌+◌, List, [], ◌∷◌, ◌++◌, map}
+use Rattle.rd_base.specs.Faces.{plain}
 use Rattle.rd_base.specs.Cells.{single}
 use Rattle.rd_base.specs.declared.cell.Cell.{Cell}
-use Rattle.rd_base.specs.declared.cell.Cell.TheVariants.{Rest}
 use Rattle.rd_base.specs.declared.element.Element.{Element}
 use Rattle.rd_base.specs.declared.element.Extent.{Extent}
 use Rattle.rd_base.specs.declared.element.Extent.TheVariants.{Fixed, Tab, Column}
@@ -12,7 +11,8 @@ use Rattle.rd_base.specs.declared.element.Look.TheVariants.{Blank, Glyph, RowEnd
 use Rattle.rd_base.specs.declared.settings.Wrap.TheVariants.{Truncate, Continue}
 use Rattle.rd_rows.specs.declared.begin.Begin.{Begin}
 use Rattle.rd_rows.specs.Shapes.{ShapeValues}
-use Rattle.rd_rows.specs.Rows.{LaidRow, rows_of, glyph_cells, blanks}
+use Rattle.rd_base.specs.Glyphs.{glyph_cells}
+use Rattle.rd_rows.specs.Rows.{LaidRow, rows_of}
 
 -- the element of one character: the item, which covers the position at its own number
 abbrev pub part : ℕ → Extent → Look → Element

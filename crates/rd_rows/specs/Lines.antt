@@ -1,5 +1,5 @@
 -- Lines of elements, the state of a maker of rows, and what its calls do.
-use Rattle.std.specs.Prelude.{◌≡◌, ℕ, ◌+◌, ◌^◌, ◌<◌, ◌≤◌, Bool, true, false, if◌then◌else◌, not, ◌&&◌, List, [], ◌∷◌, ◌++◌, length, Option, None, Some, Result, Ok, Err, IsTrue, flat_map, map}
+use Rattle.std.specs.Prelude.{◌≡◌, ℕ, ◌+◌, ◌^◌, ◌<◌, ◌≤◌, Bool, true, false, if◌then◌else◌, not, ◌&&◌, List, [], ◌∷◌, Option, None, Some, Result, Ok, Err, IsTrue}
 use Rattle.rd_base.specs.declared.cell.Glyph.{Glyph}
 use Rattle.rd_base.specs.declared.element.Element.{Element}
 use Rattle.rd_base.specs.declared.memory.Memory.{Memory}
@@ -9,7 +9,7 @@ use Rattle.rd_rows.specs.declared.spot.Placed.{Placed}
 use Rattle.rd_rows.specs.declared.spot.Spot.{Spot}
 use Rattle.rd_rows.specs.Copies.{RowValues}
 use Rattle.rd_rows.specs.Shapes.{ShapeValues}
-use Rattle.rd_rows.specs.Placing.{is_line_end, width_at_most, line_start, next_row, placed_at, behind}
+use Rattle.rd_rows.specs.Placing.{is_line_end, width_at_most, line_start, placed_at, behind}
 use Rattle.rd_rows.specs.Rows.{RowMeaning, LaidRow, rows_from, weight_of}
 
 -- whether the last element is a line end, and no other

@@ -1,8 +1,9 @@
 -- The rows into which a line is cut, from all of its elements.
-use Rattle.std.specs.Prelude.{ℕ, ◌+◌, ◌-◌, ◌==◌, ◌&&◌, ◌||◌, min, max, nat_lt, nat_le, Bool, true, false, if◌then◌else◌, List, [], ◌∷◌, ◌++◌, length, replicate, flat_map, Option, None, Some}
+use Rattle.std.specs.Prelude.{ℕ, ◌+◌, ◌-◌, ◌&&◌, ◌||◌, min, max, nat_lt, nat_le, Bool, true, false, if◌then◌else◌, List, [], ◌∷◌, ◌++◌, length, flat_map, Option, None, Some}
 use Rattle.rd_base.specs.Faces.{Attributes, plain}
+use Rattle.rd_base.specs.Glyphs.{is_space, blanks, glyph_cells}
 use Rattle.rd_base.specs.declared.cell.Cell.{Cell}
-use Rattle.rd_base.specs.declared.cell.Cell.TheVariants.{Blank, First, Rest}
+use Rattle.rd_base.specs.declared.cell.Cell.TheVariants.{Blank, First}
 use Rattle.rd_base.specs.declared.cell.Glyph.{Glyph}
 use Rattle.rd_base.specs.declared.element.Element.{Element}
 use Rattle.rd_rows.specs.declared.begin.Begin.{Begin}
@@ -23,18 +24,6 @@ pub record RowMeaning : Type 0 where
 pub record LaidRow : Type 0 where
   pub row : RowMeaning
   pub weight : ℕ
-
--- a space without marks is shown as blank
-abbrev pub is_space : Glyph → Bool
-is_space g = (g.base == 32) && (g.count == 0)
-
-abbrev pub blanks : ℕ → Attributes → List Cell
-blanks n face = replicate n (Blank face)
-
--- the cells of a glyph in so many columns
-abbrev pub glyph_cells : ℕ → Glyph → Attributes → List Cell
-glyph_cells columns g face =
-    if is_space g then blanks columns face else First g face ∷ replicate (columns - 1) Rest
 
 -- the cells of an element that is seen whole
 abbrev pub whole_cells : ℕ → Option Glyph → Attributes → List Cell

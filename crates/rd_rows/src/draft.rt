@@ -2,7 +2,8 @@
 ghost use Rattle.std.specs.Prelude.{◌≡◌, ◌+◌, ◌-◌, ◌^◌, ◌<◌, ◌≤◌, ◌++◌, ◌∷◌, [], length, replicate, min, OnOk, IfOk};
 ghost use Rattle.rd_rows.specs.Placing.{width_at_most, placed_at, behind};
 ghost use Rattle.rd_rows.specs.Shapes.{room};
-ghost use Rattle.rd_rows.specs.Rows.{is_space, blanks, glyph_cells, whole_cells, seen, mark, filled, last_cell, begin_of};
+ghost use Rattle.rd_base.specs.Glyphs.{blanks, glyph_cells};
+ghost use Rattle.rd_rows.specs.Rows.{whole_cells, seen, mark, filled, last_cell, begin_of};
 ghost use Rattle.rd_rows.specs.Placing.{glyph_in};
 ghost use Rattle.rd_rows.specs.Drafts.{Grows, finished_row};
 
@@ -32,18 +33,11 @@ fn add_copies<T: Copy>(list: &mut ListOf<T>, n: u64, value: T) -> Result<(), Mem
     Ok(())
 }
 
-/// Whether a glyph is a space without marks.
-fn is_space(glyph: &Glyph) -> bool
-    ensures { result ≡ is_space glyph.now }
-{
-    glyph.base == 32 && glyph.count == 0
-}
-
 /// The cell of a mark.
 fn mark(glyph: &Glyph) -> Cell
     ensures { result ≡ mark glyph.now }
 {
-    if is_space(glyph) {
+    if glyph.is_space() {
         return Cell::Blank(Face::PLAIN);
     }
     Cell::First(*glyph, Face::PLAIN)
@@ -53,7 +47,7 @@ fn mark(glyph: &Glyph) -> Cell
 fn add_glyph(cells: &mut ListOf<Cell>, columns: u64, glyph: Glyph, face: Face) -> Result<(), Memory>
     ensures { OnOk result (cells.new ≡ cells.old ++ glyph_cells columns glyph face) }
 {
-    if is_space(&glyph) {
+    if glyph.is_space() {
         return add_copies(cells, columns, Cell::Blank(face));
     }
     cells.push(Cell::First(glyph, face))?;

@@ -2,7 +2,7 @@
 ghost use Rattle.std.specs.Prelude.{◌≡◌, ◌<◌, ◌∷◌, ◌++◌, [], true, false, map, replicate};
 ghost use Rattle.rd_base.specs.Faces.{plain};
 ghost use Rattle.rd_base.specs.Cells.{single};
-ghost use Rattle.rd_rows.specs.Rows.{glyph_cells, blanks};
+ghost use Rattle.rd_base.specs.Glyphs.{glyph_cells, blanks};
 ghost use Rattle.rd_rows.specs.Examples.{letter, letters, wide, tab, line_end, row_end, stretch, spaces, narrow, cut, cut_at, rows, text, cells, weights, begins, at};
 
 use super::*;

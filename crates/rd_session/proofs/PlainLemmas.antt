@@ -12,7 +12,8 @@ use Rattle.rd_base.specs.declared.cell.Cell.TheVariants.{Blank, First}
 use Rattle.rd_base.specs.declared.element.Element.{Element}
 use Rattle.rd_base.specs.declared.settings.Wrap.{Wrap}
 use Rattle.rd_rows.specs.Placing.{fits, placed_at, behind, next_row, glyph_in}
-use Rattle.rd_rows.specs.Rows.{LaidRow, laid, rows_from, begin_of, seen, whole_cells, last_cell, mark, is_space, blanks, glyph_cells}
+use Rattle.rd_rows.specs.Rows.{LaidRow, laid, rows_from, begin_of, seen, whole_cells, last_cell, mark}
+use Rattle.rd_base.specs.Glyphs.{is_space, blanks, glyph_cells}
 use Rattle.rd_rows.specs.Shapes.{ShapeValues, room, truncates}
 use Rattle.rd_rows.specs.declared.begin.Begin.{Begin}
 use Rattle.rd_rows.specs.declared.cutting.Cutting.{Cutting}

@@ -1,9 +1,9 @@
 -- What is erased, step by step, and that it keeps its size.
-use Rattle.std.proofs.Common.{◌≡◌, ℕ, zero, suc, inl, inr, ◌+◌, ◌-◌, ◌<◌, ◌≤◌, List, [], ◌∷◌, ◌++◌, length, get_or, set, take, drop, map, replicate, Option, Some, refl, sym, ap, ◌∙◌, arith, append_assoc, All}
+use Rattle.std.proofs.Common.{◌≡◌, ℕ, zero, suc, inl, inr, ◌+◌, ◌-◌, ◌<◌, ◌≤◌, List, [], ◌∷◌, ◌++◌, length, get_or, set, take, drop, map, replicate, Option, Some, refl, sym, ap, ◌∙◌, arith, append_assoc}
 use Rattle.std.proofs.lemmas.List.{take_more_set, replicate_more, map_more, drop-set-lt, drop-drop, get_or-drop, length-set, length-map, length-append, length-take-le, length-replicate, get_or-set_same, get_or-set_other, get_or-map}
 use Rattle.std.proofs.lemmas.Bool.{cases_eq}
 use Rattle.rd_base.specs.declared.cell.Cell.{Cell}
-use Rattle.rd_term.specs.Pictures.{blank, width_of, IsGrid}
+use Rattle.rd_term.specs.Pictures.{blank, width_of}
 use Rattle.rd_term.specs.Terminals.{erased_from, IsTerminal}
 
 pub erased_more : (row whole : List (Option Cell)) (column i : ℕ) (y : Option Cell) → i < length row → column ≤ i

@@ -1,16 +1,16 @@
 -- Plain cells stand whole.
-use Rattle.std.proofs.Common.{◌≡◌, ℕ, zero, suc, ◌+◌, ◌-◌, ◌<◌, ◌≤◌, Bool, true, false, cond, nat_lt, nat_le, IsTrue, List, [], ◌∷◌, length, get_or, All, Option, Some, None, refl, sym, ap, ◌∙◌, arith}
+use Rattle.std.proofs.Common.{◌≡◌, ℕ, ◌<◌, ◌≤◌, false, List, [], ◌∷◌, length, get_or, Some, refl, ap, arith}
 use Rattle.std.proofs.lemmas.Bool.Decides.{nat_tests}
 use Rattle.std.proofs.lemmas.List.{get_or-replicate}
 use Rattle.std.proofs.lemmas.List.Elements.{recursion_from_All}
 use Rattle.std.specs.List.{AllByRecursion}
 use Rattle.unicode_width.specs.Width.{char_width}
-use Rattle.rd_base.specs.Chars.{is_scalar}
 use Rattle.rd_base.specs.Cells.{single}
 use Rattle.rd_base.specs.declared.cell.Glyph.{Glyph}
 use Rattle.rd_base.specs.declared.cell.Cell.{Cell}
 use Rattle.rd_base.specs.declared.cell.Cell.TheVariants.{Blank, First, Rest}
-use Rattle.rd_term.specs.Pictures.{Picture, IsGood, IsRowAfter, IsPlainCell, ArePlain, IsWellFormed, width_of}
+use Rattle.rd_base.specs.Glyphs.{IsGood, IsRowAfter}
+use Rattle.rd_term.specs.Pictures.{Picture, IsPlainCell, ArePlain, IsWellFormed, width_of}
 
 columns-printable : (c : ℕ) → 33 ≤ c → c ≤ 126 → char_width false c ≡ Some 1
 unfolding char_width
@@ -18,15 +18,17 @@ columns-printable c low high = grind (arith, nat_tests)
 
 good-single : (g : Glyph) (code : ℕ) → 33 ≤ code → code ≤ 126 → g ≡ single code 1 → IsGood g
 good-single g code low high e = rw e (record {
-  scalar = grind (arith, nat_tests);
-  columns = columns-printable code low high;
-  some = omega arith;
-  few = omega arith;
-  places = refl;
-  count = omega arith;
-  marks = λ k p. absurd (omega arith);
-  rest = λ k p q. get_or-replicate 6 k 0 0 q;
-  seen = λ p q. absurd (omega arith);
+  measured = record {
+    scalar = grind (arith, nat_tests);
+    columns = columns-printable code low high;
+    some = omega arith;
+    few = omega arith;
+    places = refl;
+    count = omega arith;
+    marks = λ k p. absurd (omega arith);
+    rest = λ k p q. get_or-replicate 6 k 0 0 q;
+  };
+  seen = grind (arith, nat_tests);
 })
 
 row-whole : (cells : List Cell) → AllByRecursion IsPlainCell cells → IsRowAfter 0 cells

@@ -1,10 +1,8 @@
 -- What a screen shows.
-use Rattle.std.specs.Prelude.{◌≡◌, ℕ, zero, suc, ◌-◌, ◌<◌, ◌≤◌, ◌==◌, IsTrue, Bool, false, List, [], ◌∷◌, length, All, replicate, slice_index, slice_index_or, slice_set, take, Option, Some}
-use Rattle.unicode_width.specs.Width.{char_width}
-use Rattle.rd_base.specs.Chars.{is_scalar}
+use Rattle.std.specs.Prelude.{◌≡◌, ℕ, ◌<◌, ◌≤◌, List, [], ◌∷◌, length, All, replicate, slice_index_or, slice_set}
 use Rattle.rd_base.specs.Cells.{single}
-use Rattle.rd_base.specs.Faces.{Attributes, plain}
-use Rattle.rd_base.specs.declared.cell.Glyph.{Glyph}
+use Rattle.rd_base.specs.Faces.{plain}
+use Rattle.rd_base.specs.Glyphs.{IsRowAfter}
 use Rattle.rd_base.specs.declared.cell.Cell.{Cell}
 use Rattle.rd_base.specs.declared.cell.Cell.TheVariants.{Blank, First, Rest}
 
@@ -56,28 +54,6 @@ cell_at rows row column = slice_index_or (row_at rows row) column blank
 -- the rows with another cell at a place
 abbrev pub with_cell : {A : Type 0} → List (List A) → ℕ → ℕ → A → List (List A)
 with_cell rows row column cell = slice_set rows row (slice_set (row_at rows row) column cell)
-
--- a glyph of a scalar value and up to 6 marks, by the columns that they take; never a space without marks
-pub record IsGood (g : Glyph) : Type 0 where
-  pub scalar : IsTrue (is_scalar g.base)
-  pub columns : char_width false g.base ≡ Some g.width
-  pub some : 1 ≤ g.width
-  pub few : g.width ≤ 3
-  pub places : length g.marks ≡ 6
-  pub count : g.count ≤ 6
-  pub marks : (k : ℕ) → k < g.count → IsTrue (is_scalar (slice_index g.marks k)) × (char_width false (slice_index g.marks k) ≡ Some 0)
-  pub rest : (k : ℕ) → g.count ≤ k → k < 6 → slice_index g.marks k ≡ 0
-  pub seen : g.count ≡ 0 → g.base ≡ 32 → ⊥
-
--- a row in which so many later columns of a glyph are still to come: after the first column of a glyph of w columns come
--- w - 1 later ones, and no others stand
-abbrev pub IsRowAfter : ℕ → List Cell → Type 0
-IsRowAfter zero [] = Unit {0}
-IsRowAfter zero (Blank f ∷ cells) = IsRowAfter zero cells
-IsRowAfter zero (First g f ∷ cells) = IsGood g × IsRowAfter (g.width - 1) cells
-IsRowAfter zero (Rest ∷ cells) = ⊥
-IsRowAfter (suc due) (Rest ∷ cells) = IsRowAfter due cells
-IsRowAfter (suc due) _ = ⊥
 
 -- a picture in which each glyph stands whole
 pub record IsWellFormed (picture : Picture) : Type 0 where

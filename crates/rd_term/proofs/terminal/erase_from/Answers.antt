@@ -1,4 +1,4 @@
-use Rattle.std.proofs.Common.{◌≡◌, ◌<◌, ◌≤◌, ◌∙◌, length, Some, arith}
+use Rattle.std.proofs.Common.{◌<◌, ◌≤◌, ◌∙◌, length, Some, arith}
 use Rattle.std.proofs.lemmas.List.{length-set}
 use Rattle.rd_term.specs.Pictures.{blank}
 use Rattle.rd_term.proofs.Erasing.{erased_more}

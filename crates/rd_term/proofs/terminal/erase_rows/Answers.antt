@@ -1,4 +1,4 @@
-use Rattle.std.proofs.Common.{◌≡◌, ◌<◌, ◌∙◌, length, get_or, arith, ap}
+use Rattle.std.proofs.Common.{◌<◌, ◌∙◌, length, arith, ap}
 use Rattle.std.proofs.lemmas.List.{length-set}
 use Rattle.rd_term.specs.Terminals.{erased_from}
 use Rattle.rd_term.proofs.Erasing.{rows_more}

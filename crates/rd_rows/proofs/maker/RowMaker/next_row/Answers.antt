@@ -1,7 +1,7 @@
-use Rattle.std.proofs.Common.{◌≡◌, false, true, ap, sym, ◌∙◌}
+use Rattle.std.proofs.Common.{ap, sym, ◌∙◌}
 use Rattle.rd_rows.specs.Lines.{Making}
 use Rattle.rd_rows.specs.Placing.{goes_on}
-use Rattle.rd_rows.proofs.Walk.{hold-makes, end-makes, keep-walking, err-more, makes-err, start, bound, bound-held, not-true}
+use Rattle.rd_rows.proofs.Walk.{hold-makes, end-makes, keep-walking, err-more, makes-err, start, bound, bound-held}
 use Rattle.rd_rows.proofs.maker.RowMaker.next_row.Goals as goal
 
 pub returns-in_err-draft : goal.returns-in_err-draft

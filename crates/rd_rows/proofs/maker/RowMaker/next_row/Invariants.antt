@@ -1,7 +1,4 @@
-use Rattle.std.proofs.Common.{◌≡◌, ◌+◌, ◌≤◌, ℕ, List, length, Option, None}
-use Rattle.rd_base.specs.declared.element.Element.{Element}
-use Rattle.rd_rows.specs.declared.draft.Draft.{Draft}
-use Rattle.rd_rows.specs.Lines.{Making, IsLine, rows_left}
+use Rattle.std.proofs.Common.{length}
 use Rattle.rd_rows.proofs.Walk.{Walking}
 use Rattle.rd_rows.proofs.maker.RowMaker.next_row.Given as goal
 

@@ -1,7 +1,6 @@
-use Rattle.std.proofs.Common.{◌≡◌, ◌<◌, ◌≤◌, ◌∙◌, [], length, get_or, arith, ap, subst, IfSome, sym}
+use Rattle.std.proofs.Common.{◌≡◌, ◌<◌, ◌≤◌, ◌∙◌, [], length, arith, ap, subst, IfSome}
 use Rattle.std.proofs.lemmas.List.{get_or_default}
 use Rattle.rd_term.specs.Pictures.{width_of}
-use Rattle.rd_term.specs.Terminals.{erased_from}
 use Rattle.rd_term.proofs.Erasing.{terminal-set, length-erased}
 use Rattle.rd_term.proofs.terminal.Terminal.erase.Goals as goal
 
