@@ -11,37 +11,78 @@ use rd_ucd::{Classes, Mirrors};
 use std::alloc::Global;
 use std::test::Fail;
 
-/// What a look needs besides the buffer.
+/// A buffer and what a look needs besides it.
 #[derive(Drop)]
-struct Surroundings {
+struct Example {
+    state: BufferState,
     objects: Objects,
     classes: Classes,
     mirrors: Mirrors,
 }
 
-fn others(alloc: Global) -> Result<Surroundings, Fail> {
-    Ok(Surroundings {
-        objects: Objects::new(alloc)?,
-        classes: Classes::read(alloc, b"")?,
-        mirrors: Mirrors::read(alloc, b"")?,
-    })
-}
-
-fn look_at<'a>(state: &'a BufferState, others: &'a Surroundings) -> View<'a> {
-    View {
-        state,
-        objects: &others.objects,
-        classes: &others.classes,
-        mirrors: &others.mirrors,
+impl Example {
+    fn view(&self) -> View {
+        View {
+            state: &self.state,
+            objects: &self.objects,
+            classes: &self.classes,
+            mirrors: &self.mirrors,
+        }
     }
 }
 
-/// A buffer of three characters.
-fn three_characters(alloc: Global) -> Result<BufferState, Fail> {
-    let mut state = BufferState::new(alloc)?;
+const RED: Face = Face {
+    fg: 1,
+    ..Face::PLAIN
+};
+
+const ON_GREEN: Face = Face {
+    bg: 2,
+    ..Face::PLAIN
+};
+
+const RED_ON_GREEN: Face = Face { fg: 1, ..ON_GREEN };
+
+/// A buffer of three characters with properties and overlays of several kinds.
+fn three_characters(alloc: Global) -> Result<Example, Fail> {
+    let mut example = Example {
+        state: BufferState::new(alloc)?,
+        objects: Objects::new(alloc)?,
+        classes: Classes::read(alloc, b"")?,
+        mirrors: Mirrors::read(alloc, b"")?,
+    };
+    fill(&mut example)?;
+    Ok(example)
+}
+
+fn fill(example: &mut Example) -> Result<(), Fail> {
     let text = [Ch::scalar('a'), Ch::scalar('b'), Ch::scalar('c')];
-    state.text.insert(1, &text)?;
-    Ok(state)
+    example.state.text.insert(1, &text)?;
+    example.objects.add_face(RED)?;
+    example.objects.add_face(ON_GREEN)?;
+    put_properties(&mut example.state)?;
+    make_overlays(&mut example.state)?;
+    Ok(())
+}
+
+fn put_properties(state: &mut BufferState) -> Result<(), Memory> {
+    put(state, Kind::Face, 1, 4, 0)?;
+    put(state, Kind::Invisible, 1, 3, 7)?;
+    put(state, Kind::Display, 2, 3, 9)?;
+    put(state, Kind::LinePrefix, 1, 4, 20)
+}
+
+fn make_overlays(state: &mut BufferState) -> Result<(), OverlayFault> {
+    overlay(state, 2, 3, 0, Kind::Face, 1)?;
+    overlay(state, 2, 4, 1, Kind::LinePrefix, 21)?;
+    overlay(state, 1, 4, 1, Kind::LinePrefix, 22)?;
+    overlay(state, 2, 3, 0, Kind::LinePrefix, 23)?;
+    overlay(state, 1, 2, 1, Kind::After, 10)?;
+    overlay(state, 1, 2, 2, Kind::After, 11)?;
+    overlay(state, 2, 3, 1, Kind::Before, 12)?;
+    overlay(state, 2, 3, 2, Kind::Before, 13)?;
+    let empty = overlay(state, 2, 2, 0, Kind::Before, 14)?;
+    state.overlays.set(empty, Kind::After, Some(15))
 }
 
 /// Gives a text property a value.
@@ -105,44 +146,42 @@ fn stop(view: &View, pos: Pos) -> Option<Pos> {
     None
 }
 
-#[test]
-fn faces_are_merged(rt: HostRuntime) -> Result<(), Fail> {
-    let mut state = three_characters(rt.alloc())?;
-    let mut others = others(rt.alloc())?;
-    let red = Face {
-        fg: 1,
-        ..Face::PLAIN
-    };
-    let on_green = Face {
-        bg: 2,
-        ..Face::PLAIN
-    };
-    others.objects.add_face(red)?;
-    others.objects.add_face(on_green)?;
-    put(&mut state, Kind::Face, 1, 4, 0)?;
-    overlay(&mut state, 2, 3, 0, Kind::Face, 1)?;
-    let both = Face { fg: 1, ..on_green };
-    let cases = [(1, red), (2, both), (3, red), (4, Face::PLAIN)];
-    for (pos, expected) in cases {
-        assert_eq!(rt;
-            face(rt.alloc(), &look_at(&state, &others), pos)?,
-            Some(expected)
-        );
-    }
-    Ok(())
+/// The answers at the positions 1 to 4.
+fn faces(alloc: Global, view: &View) -> Result<[Option<Face>; 4], Memory> {
+    Ok([
+        face(alloc, view, 1)?,
+        face(alloc, view, 2)?,
+        face(alloc, view, 3)?,
+        face(alloc, view, 4)?,
+    ])
+}
+
+/// The answers at the positions 1 to 3.
+fn invisibilities(alloc: Global, view: &View) -> Result<[Option<Hidden>; 3], Memory> {
+    Ok([
+        invisibility(alloc, view, 1)?,
+        invisibility(alloc, view, 2)?,
+        invisibility(alloc, view, 3)?,
+    ])
+}
+
+/// The answers at the positions 1 to 3.
+fn line_prefixes(alloc: Global, view: &View) -> Result<[Option<u32>; 3], Memory> {
+    Ok([
+        line_prefix(alloc, view, 1)?,
+        line_prefix(alloc, view, 2)?,
+        line_prefix(alloc, view, 3)?,
+    ])
 }
 
 #[test]
-fn strings_are_in_order(rt: HostRuntime) -> Result<(), Fail> {
-    let mut state = three_characters(rt.alloc())?;
-    let others = others(rt.alloc())?;
-    overlay(&mut state, 1, 2, 1, Kind::After, 10)?;
-    overlay(&mut state, 1, 2, 2, Kind::After, 11)?;
-    overlay(&mut state, 2, 3, 1, Kind::Before, 12)?;
-    overlay(&mut state, 2, 3, 2, Kind::Before, 13)?;
-    let empty = overlay(&mut state, 2, 2, 0, Kind::Before, 14)?;
-    state.overlays.set(empty, Kind::After, Some(15))?;
-    let view = look_at(&state, &others);
+fn faces_and_strings(rt: HostRuntime) -> Result<(), Fail> {
+    let example = three_characters(rt.alloc())?;
+    let view = example.view();
+    assert_eq!(rt;
+        faces(rt.alloc(), &view)?,
+        [Some(RED), Some(RED_ON_GREEN), Some(RED), Some(Face::PLAIN)]
+    );
     if is_accessible(&view, 2) {
         let strings = strings_at(rt.alloc(), &view, 2)?;
         assert_eq!(rt; strings.as_slice(), [11, 10, 14, 15, 12, 13].as_slice());
@@ -152,43 +191,29 @@ fn strings_are_in_order(rt: HostRuntime) -> Result<(), Fail> {
 
 #[test]
 fn atoms_hide_by_the_setting(rt: HostRuntime) -> Result<(), Fail> {
-    let mut state = three_characters(rt.alloc())?;
-    let others = others(rt.alloc())?;
-    put(&mut state, Kind::Invisible, 1, 3, 7)?;
-    put(&mut state, Kind::Display, 2, 3, 9)?;
-    let cases = [(1, Hidden::Plain), (2, Hidden::No), (3, Hidden::No)];
-    for (pos, expected) in cases {
-        assert_eq!(rt;
-            invisibility(rt.alloc(), &look_at(&state, &others), pos)?,
-            Some(expected)
-        );
-    }
-    let pairs = ListOf::from_slice(rt.alloc(), &[(8, false), (7, true), (7, false)])?;
-    state.settings.invisible = Invisible::Listed(pairs);
+    let mut example = three_characters(rt.alloc())?;
     assert_eq!(rt;
-        invisibility(rt.alloc(), &look_at(&state, &others), 1)?,
-        Some(Hidden::Ellipsis)
+        invisibilities(rt.alloc(), &example.view())?,
+        [Some(Hidden::Plain), Some(Hidden::No), Some(Hidden::No)]
+    );
+    let pairs = ListOf::from_slice(rt.alloc(), &[(8, false), (7, true), (7, false)])?;
+    example.state.settings.invisible = Invisible::Listed(pairs);
+    assert_eq!(rt;
+        invisibilities(rt.alloc(), &example.view())?,
+        [Some(Hidden::Ellipsis), Some(Hidden::No), Some(Hidden::No)]
     );
     Ok(())
 }
 
 #[test]
 fn values_and_stops_of_a_narrowed_text(rt: HostRuntime) -> Result<(), Fail> {
-    let mut state = three_characters(rt.alloc())?;
-    let others = others(rt.alloc())?;
-    put(&mut state, Kind::LinePrefix, 1, 4, 20)?;
-    overlay(&mut state, 2, 4, 1, Kind::LinePrefix, 21)?;
-    overlay(&mut state, 1, 4, 1, Kind::LinePrefix, 22)?;
-    overlay(&mut state, 2, 3, 0, Kind::LinePrefix, 23)?;
-    state.text.narrow(1, 3)?;
-    let cases = [(1, Some(22)), (2, Some(22)), (3, None)];
-    for (pos, expected) in cases {
-        assert_eq!(rt;
-            line_prefix(rt.alloc(), &look_at(&state, &others), pos)?,
-            expected
-        );
-    }
-    assert_eq!(rt; stop(&look_at(&state, &others), 1), Some(2));
-    assert_eq!(rt; stop(&look_at(&state, &others), 2), Some(3));
+    let mut example = three_characters(rt.alloc())?;
+    example.state.text.narrow(1, 3)?;
+    let view = example.view();
+    assert_eq!(rt;
+        line_prefixes(rt.alloc(), &view)?,
+        [Some(22), Some(22), None]
+    );
+    assert_eq!(rt; [stop(&view, 1), stop(&view, 2)], [Some(2), Some(3)]);
     Ok(())
 }
