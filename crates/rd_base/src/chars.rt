@@ -1,5 +1,6 @@
 //! Characters of a text: Unicode scalar values and raw bytes.
-ghost use Rattle.std.specs.Prelude.{◌≡◌, ◌+◌, ◌<◌, ◌≤◌, IfNone, IfSome, ◌↔◌, IsNone};
+ghost use Rattle.std.specs.Prelude.{◌≡◌, ◌+◌, ◌<◌, ◌≤◌, IfNone, IfSome, ◌↔◌, IsNone, IsTrue};
+ghost use Rattle.rd_base.specs.Chars.{is_code};
 
 use std::marker::Model;
 
@@ -48,7 +49,8 @@ impl Ch {
 
     /// The scalar's number, or 1,114,112 plus the byte.
     pub fn code(self) -> u32
-        ensures { result ≡ self }
+        ensures value { result ≡ self }
+        ensures right { IsTrue (is_code self) }
     {
         self.code
     }
