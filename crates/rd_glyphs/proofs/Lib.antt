@@ -1,2 +1,4 @@
 mod Columns
+mod Measures
 mod Short
+mod Wholeness

@@ -1,6 +1,7 @@
 //! The elements of a character.
 ghost use Rattle.std.specs.Prelude.{◌≡◌, ◌≤◌, ◌∷◌, [], map, length, All, None, IsTrue, IsOk, IfOk};
 ghost use Rattle.rd_base.specs.Elements.{AreSound};
+ghost use Rattle.rd_base.specs.Glyphs.{IsMeasuredLook, AreMeasured};
 ghost use Rattle.rd_objects.specs.Tables.{is_glyph_text};
 ghost use Rattle.rd_glyphs.specs.Characters.{element_of, glyph_elements, tab_of, entry_of, elements_of, TakesColumns, IsShort, IsShortElement};
 
@@ -38,7 +39,8 @@ impl<'a> Model for Parts<'a> {
 }
 
 impl<'a> Parts<'a> {
-    ghost use Rattle.std.specs.Prelude.{◌≡◌, ◌≤◌, length, All, MatchOption, IfSome, IsTrue, None, Some};
+    ghost use Rattle.std.specs.Prelude.{◌≡◌, ◌<◌, ◌≤◌, length, All, MatchOption, IfSome, IsTrue, None, Some};
+    ghost use Rattle.rd_base.specs.Glyphs.{IsMeasured, IsMeasuredLook};
     ghost use Rattle.rd_glyphs.specs.Characters.{entry_of, slot_or, own_looks, TakesColumns};
     ghost use Rattle.rd_objects.specs.Tables.{is_glyph_text};
 
@@ -57,6 +59,7 @@ impl<'a> Parts<'a> {
     fn slot(&self, slot: Slot, default: u32) -> Glyph
         ensures value { result ≡ slot_or slot self.now.table default }
         ensures columns { result.width ≡ 1 }
+        ensures measured { 32 ≤ default → default < 127 → IsMeasured result }
     {
         match self.table {
             Some(table) => match table.slot(slot) {
@@ -71,6 +74,7 @@ impl<'a> Parts<'a> {
     fn own_looks(&self, ch: Ch, odd: bool) -> Looks
         ensures value { result ≡ own_looks self.now ch odd }
         ensures columns { All TakesColumns result }
+        ensures measured { All IsMeasuredLook result }
         ensures count { length result ≤ 4 }
     {
         let class = self.classes.class(ch);
@@ -91,8 +95,8 @@ impl<'a> Parts<'a> {
 /// raw bytes and the codes 128 to 159 are. A character that only steers the order is one blank column. One of no columns is a
 /// mark on a blank. Any other is itself in its columns, and at an odd level its mirror, where one of the same width is listed.
 ///
-/// Each element is sound, and takes 1 to 3 columns or up to the next stop. There are at most 16, and without an entry at most
-/// four, for which no memory is taken.
+/// Each element is sound, and takes 1 to 3 columns or up to the next stop; each glyph has the columns that Unicode gives it,
+/// and its marks have none. There are at most 16, and without an entry at most four, for which no memory is taken.
 /// It costs a look at each entry of the table and the logarithms of the lengths of the data.
 pub fn expand(
     alloc: Global,
@@ -105,6 +109,7 @@ pub fn expand(
     ensures value { IfOk result (λ elements. elements.items ≡ elements_of parts.now ch odd face origin) }
     ensures sound { IfOk result (λ elements. AreSound elements.items) }
     ensures columns { IfOk result (λ elements. All (λ e. IsShort e.extent) elements.items) }
+    ensures measured { IfOk result (λ elements. AreMeasured elements.items) }
     ensures count { IfOk result (λ elements. length elements.items ≤ 16) }
     ensures few { entry_of parts.now.table ch ≡ None → IfOk result (λ elements. length elements.items ≤ 4) }
     ensures inline { entry_of parts.now.table ch ≡ None → IsOk result }
@@ -142,6 +147,7 @@ fn of_tab(
     requires { (1 ≤ stop) × (stop ≤ 32) }
     ensures value { IfOk result (λ elements. elements.items ≡ tab_of stop face origin ∷ []) }
     ensures shape { IfOk result (λ elements. All IsShortElement elements.items) }
+    ensures measured { IfOk result (λ elements. AreMeasured elements.items) }
     ensures inline { IsOk result }
 {
     let tab = Element {
@@ -163,6 +169,7 @@ fn of_glyphs(
     requires { IsTrue (is_glyph_text text.now) }
     ensures value { IfOk result (λ elements. elements.items ≡ glyph_elements face origin text.now) }
     ensures shape { IfOk result (λ elements. All IsShortElement elements.items) }
+    ensures measured { IfOk result (λ elements. AreMeasured elements.items) }
     ensures count { IfOk result (λ elements. length elements.items ≤ 16) }
 {
     let mut elements = SmallVec::new(alloc);
@@ -180,9 +187,11 @@ fn of_looks(
     origin: Origin,
 ) -> Result<SmallVec<Element, 4>, Memory>
     requires columns { All TakesColumns looks.now }
+    requires measured { All IsMeasuredLook looks.now }
     requires count { length looks.now ≤ 4 }
     ensures value { IfOk result (λ elements. elements.items ≡ map (element_of face origin) looks.now) }
     ensures shape { IfOk result (λ elements. All IsShortElement elements.items) }
+    ensures measured { IfOk result (λ elements. AreMeasured elements.items) }
     ensures inline { IsOk result }
 {
     let mut elements = SmallVec::new(alloc);

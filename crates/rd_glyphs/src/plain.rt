@@ -1,7 +1,8 @@
 //! Plain lines of text, such as mode lines.
-ghost use Rattle.std.specs.Prelude.{◌≡◌, ◌≤◌, ◌<◌, ◌+◌, ◌++◌, ◌∷◌, [], length, All, None, IfOk, OnOk, replicate};
+ghost use Rattle.std.specs.Prelude.{◌≡◌, ◌≤◌, ◌<◌, ◌+◌, ◌++◌, ◌∷◌, [], length, All, None, IfOk, OnOk, IsTrue, replicate};
+ghost use Rattle.rd_base.specs.Chars.{is_code};
 ghost use Rattle.rd_base.specs.Cells.{single};
-ghost use Rattle.rd_base.specs.Glyphs.{glyph_cells};
+ghost use Rattle.rd_base.specs.Glyphs.{glyph_cells, IsRowAfter};
 ghost use Rattle.rd_glyphs.specs.Characters.{looks_of, look_columns, TakesColumns, ShowsColumns};
 ghost use Rattle.rd_glyphs.specs.Lines.{HoldsColumns, has_room, joined, joined_to, held_looks, given, held_after, looks_from, cells_of, fitted, plain_cells};
 
@@ -15,7 +16,7 @@ use std::alloc::Global;
 /// circumflex and a letter, a tab and a newline too; a raw byte and a code of 128 to 159 a backslash and three octal digits. A
 /// character that only steers the order is one blank column. A mark joins a character before it that is shown itself, and a
 /// mark on a blank, until there are six; where it joins none it stands on a blank. What doesn't fit whole ends the text, and
-/// blanks fill the rest: there are exactly `width` cells.
+/// blanks fill the rest: there are exactly `width` cells, in which each glyph stands whole.
 /// It costs the text's length times the logarithm of that of the data, and the width.
 pub fn plain_line(
     alloc: Global,
@@ -26,6 +27,7 @@ pub fn plain_line(
 ) -> Result<ListOf<Cell>, Memory>
     ensures value { IfOk result (λ cells. cells ≡ plain_cells classes.now face width text.now) }
     ensures columns { IfOk result (λ cells. length cells ≡ width) }
+    ensures whole { IfOk result (λ cells. IsRowAfter 0 cells) }
 {
     let looks = looks_of_text(alloc, text, classes)?;
     fit(alloc, looks.as_slice(), face, width)
@@ -35,6 +37,7 @@ pub fn plain_line(
 fn looks_of_text(alloc: Global, text: &[Ch], classes: &Classes) -> Result<ListOf<Look>, Memory>
     ensures value { IfOk result (λ looks. looks ≡ looks_from classes.now None text.now) }
     ensures columns { IfOk result (λ looks. All TakesColumns looks) }
+    ensures codes { IfOk result (λ looks. All (λ c. IsTrue (is_code c)) text.now) }
 {
     let mut looks = ListOf::new(alloc);
     let mut held = None;

@@ -1,0 +1,213 @@
+-- Glyphs as Unicode measures them.
+use Rattle.std.proofs.Common.{rules, ◌≡◌, ℕ, ◌+◌, ◌<◌, ◌≤◌, Bool, true, false, IsTrue, List, [], ◌∷◌, length, get_or, Option, Some, None, All, refl, sym, subst, ap, map, ◌∙◌, ◌⊎◌, inl, inr, arith, tests, unwrap_or, replicate}
+use Rattle.std.specs.Prelude.{zero, suc, ◌-◌, ◌/◌, ◌%◌, ◌≢◌, ◌==◌, nat_le, ◌&&◌, if◌then◌else◌}
+use Rattle.std.specs.List.{list_all}
+use Rattle.std.proofs.lemmas.Bool.{and_parts}
+use Rattle.std.proofs.lemmas.Bool.Decides.{nat_tests}
+use Rattle.std.proofs.lemmas.List.{get_or-replicate}
+use Rattle.std.proofs.lemmas.List.Sums.{AllPass-from_list_all}
+use Rattle.std.proofs.lemmas.List.Elements.{All-map, All-cons, All-nil}
+use Rattle.unicode_width.specs.Width.{char_width, alone}
+use Rattle.unicode_width.proofs.Rules.{width_or_zero, width_or_zero-le}
+use Rattle.rd_ucd.specs.declared.spans.Pair.{Pair}
+use Rattle.rd_ucd.specs.Lookup.{mirror_in}
+use Rattle.rd_base.specs.Chars.{is_scalar, is_code}
+use Rattle.rd_base.specs.Cells.{single}
+use Rattle.rd_base.specs.Glyphs.{IsMeasured, IsMeasuredLook}
+use Rattle.rd_base.specs.declared.cell.Glyph.{Glyph}
+use Rattle.rd_base.specs.declared.class.Class.{Class}
+use Rattle.rd_objects.specs.Widths.{columns}
+use Rattle.rd_objects.specs.Tables.{is_glyph_character, is_slot_glyph}
+use Rattle.rd_base.specs.Faces.{Attributes}
+use Rattle.rd_base.specs.declared.element.Element.{Element}
+use Rattle.rd_base.specs.declared.element.Origin.{Origin}
+use Rattle.rd_base.specs.declared.element.Look.{Look}
+use Rattle.rd_base.specs.declared.element.Look.TheVariants as look
+use Rattle.rd_base.specs.Glyphs.{AreMeasured}
+use Rattle.rd_glyphs.specs.declared.shown.Shown.{Shown}
+use Rattle.rd_glyphs.specs.declared.shown.Shown.TheVariants.{Caret, Octal, Space, Mark, Itself}
+use Rattle.rd_glyphs.specs.Characters.{is_control, is_formatting, caret, shown_as, turned, mirrored, on_blank, narrow, digit, looks_of, element_of}
+
+-- what is put for a character has the columns that Unicode gives it: a letter is printable, a mark takes none, and a character
+-- that is shown itself takes 1 to 3
+abbrev pub ShowsMeasured : Shown → Type 0
+ShowsMeasured (Caret letter) = (32 ≤ letter) × (letter < 127)
+ShowsMeasured (Mark code) = IsTrue (is_scalar code) × (char_width false code ≡ Some 0)
+ShowsMeasured (Itself code width) = IsTrue (is_scalar code) × (char_width false code ≡ Some width) × (1 ≤ width) × (width ≤ 3)
+ShowsMeasured s = Unit {0}
+
+printable : (c : ℕ) → 32 ≤ c → c < 127 → char_width false c ≡ Some 1
+unfolding char_width
+printable c low high = grind (arith, nat_tests)
+
+-- the columns of a number that has some are those of a scalar value
+pub own-columns : (code width : ℕ) → columns code ≡ width → 1 ≤ width → char_width false code ≡ Some width
+own-columns code width own some = by-cases (is_scalar code) (char_width false code) width own some where
+  by-cases : (scalar : Bool) (found : Option ℕ) (width : ℕ) → (if scalar then unwrap_or found 0 else 0) ≡ width → 1 ≤ width → found ≡ Some width
+  by-cases true (Some n) width own some = ap Some own
+  by-cases true None width own some = absurd (omega arith)
+  by-cases false found width own some = absurd (omega arith)
+
+zero-mark : (marks : List ℕ) → list_all (λ mark. mark == 0) marks ≡ true → (k : ℕ) → k < length marks → get_or marks k 0 ≡ 0
+zero-mark marks zeros k inside = grind (arith, nat_tests, AllPass-from_list_all (λ mark. mark == 0) marks zeros k 0 inside)
+
+-- a character without marks in its own columns
+pub single-measured : (base width : ℕ) → IsTrue (is_scalar base) → char_width false base ≡ Some width → 1 ≤ width → width ≤ 3 → IsMeasured (single base width)
+single-measured base width scalar columns some few = record {
+  scalar = scalar;
+  columns = columns;
+  some = some;
+  few = few;
+  places = refl;
+  count = omega arith;
+  marks = λ k p. absurd (omega arith);
+  rest = λ k p q. get_or-replicate 6 k 0 0 q;
+}
+
+pub printable-measured : (base : ℕ) → 32 ≤ base → base < 127 → IsMeasured (single base 1)
+printable-measured base low high =
+    let scalar : is_scalar base ≡ true = grind (arith, nat_tests) in
+    single-measured base 1 (search (rules, tests)) (printable base low high) (omega arith) (omega arith)
+
+-- a glyph character in its own columns
+pub character-measured : (g : Glyph) → length g.marks ≡ 6 → is_glyph_character g ≡ true → IsMeasured g
+character-measured g places is =
+    let scalar : is_scalar g.base ≡ true = grind (arith, nat_tests) in
+    let own : columns g.base ≡ g.width = grind (arith, nat_tests) in
+    let some : 1 ≤ g.width = grind (arith, nat_tests) in
+    let few : g.width ≤ 3 = grind (arith, nat_tests) in
+    let none : g.count ≡ 0 = grind (arith, nat_tests) in
+    let zeros : list_all (λ mark. mark == 0) g.marks ≡ true = grind (arith, nat_tests) in
+    record {
+      scalar = search (rules, tests);
+      columns = own-columns g.base g.width own some;
+      some = some;
+      few = few;
+      places = places;
+      count = omega arith;
+      marks = λ k p. absurd (omega arith);
+      rest = λ k p q. zero-mark g.marks zeros k (rw places q);
+    }
+
+-- a mark on a blank
+pub on_blank-measured : (code : ℕ) → IsTrue (is_scalar code) → char_width false code ≡ Some 0 → IsMeasured (on_blank code)
+on_blank-measured code scalar none = record {
+  scalar = refl;
+  columns = printable 32 (omega arith) (omega arith);
+  some = omega arith;
+  few = omega arith;
+  places = refl;
+  count = omega arith;
+  marks = λ k p. first-mark k p;
+  rest = λ k p q. other-marks k p q;
+} where
+  first-mark : (k : ℕ) → k < 1 → IsTrue (is_scalar (get_or (code ∷ replicate 5 0) k 0)) × (char_width false (get_or (code ∷ replicate 5 0) k 0) ≡ Some 0)
+  first-mark zero p = (scalar, none)
+  first-mark (suc k) p = absurd (omega arith)
+
+  other-marks : (k : ℕ) → 1 ≤ k → k < 6 → get_or (code ∷ replicate 5 0) k 0 ≡ 0
+  other-marks zero p q = absurd (omega arith)
+  other-marks (suc k) p q = get_or-replicate 5 k 0 0 (omega arith)
+
+above-controls : (code : ℕ) → 160 ≤ code → char_width false code ≡ Some (alone false code).0
+unfolding char_width
+above-controls code high = grind (arith, nat_tests)
+
+-- the columns of a scalar value that has some
+of-scalar : (code width : ℕ) → is_scalar code ≡ true → char_width false code ≡ Some width → columns code ≡ width
+of-scalar code width scalar found = rw (scalar, found)
+
+-- a character of no columns that is no control and no byte is a mark
+pub mark-columns : (code : ℕ) → IsTrue (is_code code) → 32 ≤ code → (code ≡ 127 → ⊥) → code < 1114112 → (159 < code) ⊎ (code < 128) → columns code ≡ 0 → IsTrue (is_scalar code) × (char_width false code ≡ Some 0)
+mark-columns code is low other small free none =
+    let scalar : is_scalar code ≡ true = grind (arith, nat_tests) in
+    (scalar, by-place free scalar) where
+      by-place : (159 < code) ⊎ (code < 128) → is_scalar code ≡ true → char_width false code ≡ Some 0
+      by-place (inl high) scalar =
+          let found = above-controls code (omega arith) in
+          found ∙ ap Some (sym (of-scalar code (alone false code).0 scalar found) ∙ none)
+      by-place (inr ascii) scalar =
+          let one = of-scalar code 1 scalar (printable code low (omega arith)) in
+          absurd (omega arith)
+
+caret-printable : (code : ℕ) → is_control code ≡ true → (32 ≤ caret code) × (caret code < 127)
+caret-printable code control = (grind (arith, nat_tests), grind (arith, nat_tests))
+
+itself-measured : (code : ℕ) → columns code ≢ 0 → ShowsMeasured (Itself code (columns code))
+itself-measured code some = (own (is_scalar code) (width_or_zero false code) some, own-columns code (columns code) refl (omega arith), omega arith, small (is_scalar code) (width_or_zero false code) (width_or_zero-le false code)) where
+  own : (scalar : Bool) (n : ℕ) → (if scalar then n else 0) ≢ 0 → scalar ≡ true
+  own true n some = refl
+  own false n some = absurd (some refl)
+
+  small : (scalar : Bool) (n : ℕ) → n ≤ 3 → (if scalar then n else 0) ≤ 3
+  small true n few = few
+  small false n few = omega arith
+
+mirror-measured : (code width : ℕ) (other : Option ℕ) → ShowsMeasured (Itself code width) → ShowsMeasured (Itself (turned code width other) width)
+mirror-measured code width None s = s
+mirror-measured code width (Some other) s = by-width (columns other == width) refl where
+  by-width : (same : Bool) → (columns other == width) ≡ same → ShowsMeasured (Itself (if same then other else code) width)
+  by-width false e = s
+  by-width true e =
+      let own : columns other ≡ width = grind (arith, nat_tests) in
+      subst (λ (n : ℕ). ShowsMeasured (Itself other n)) own (itself-measured other (omega (arith, s.2)))
+
+mirrored-by : (odd : Bool) (pairs : List Pair) (code width : ℕ) → ShowsMeasured (Itself code width) → ShowsMeasured (Itself (if odd then turned code width (mirror_in pairs code) else code) width)
+mirrored-by false pairs code width s = s
+mirrored-by true pairs code width s = mirror-measured code width (mirror_in pairs code) s
+
+-- a character that is shown itself and its mirror
+pub mirrored-measured : (pairs : List Pair) (odd : Bool) (shown : Shown) → ShowsMeasured shown → ShowsMeasured (mirrored pairs odd shown)
+mirrored-measured pairs odd (Caret letter) s = s
+mirrored-measured pairs odd (Octal byte) s = s
+mirrored-measured pairs odd Space s = s
+mirrored-measured pairs odd (Mark code) s = s
+mirrored-measured pairs odd (Itself code width) s = mirrored-by odd pairs code width s
+
+shown-by : (control arrow raw high formatting none : Bool) (code : ℕ) → (control ≡ true → (32 ≤ caret code) × (caret code < 127)) → (control ≡ false → raw ≡ false → high ≡ false → none ≡ true → IsTrue (is_scalar code) × (char_width false code ≡ Some 0)) → (none ≡ false → ShowsMeasured (Itself code (columns code))) → ShowsMeasured (if control then (if arrow then Caret (caret code) else Octal code) else if raw then Octal (code - 1114112) else if high then Octal code else if formatting then Space else if none then Mark code else Itself code (columns code))
+shown-by true true raw high formatting none code f g h = f refl
+shown-by true false raw high formatting none code f g h = tt
+shown-by false arrow true high formatting none code f g h = tt
+shown-by false arrow false true formatting none code f g h = tt
+shown-by false arrow false false true none code f g h = tt
+shown-by false arrow false false false true code f g h = g refl refl refl refl
+shown-by false arrow false false false false code f g h = h refl
+
+-- how a character is shown
+pub shown_as-measured : (arrow : Bool) (class : Class) (code : ℕ) → IsTrue (is_code code) → ShowsMeasured (shown_as arrow class code)
+shown_as-measured arrow class code is =
+    shown-by (is_control code) arrow (nat_le 1114112 code) (nat_le 128 code && nat_le code 159) (is_formatting class code) (columns code == 0) code
+    (caret-printable code)
+    (λ control raw high none.
+    let low : 32 ≤ code = grind (arith, nat_tests) in
+    let other : code ≡ 127 → ⊥ = grind (arith, nat_tests) in
+    let small : code < 1114112 = grind (arith, nat_tests) in
+    let free : (159 < code) ⊎ (code < 128) = grind (arith, nat_tests) in
+    mark-columns code is low other small free (grind (arith, nat_tests)))
+    (λ none. itself-measured code (grind (arith, nat_tests)))
+
+digit-measured : (n : ℕ) → IsMeasuredLook (digit n)
+digit-measured n = printable-measured (48 + n % 8) (omega arith) (omega arith)
+
+measured-one : (l : Look) → IsMeasuredLook l → All IsMeasuredLook (l ∷ [])
+measured-one l own = All-cons IsMeasuredLook l [] own (All-nil IsMeasuredLook)
+
+-- what is put for a character
+pub looks-measured : (escape control : Glyph) (shown : Shown) → IsMeasured escape → IsMeasured control → ShowsMeasured shown → All IsMeasuredLook (looks_of escape control shown)
+looks-measured escape control (Caret letter) e c s =
+    All-cons IsMeasuredLook (look.Glyph control) (narrow letter ∷ []) c (measured-one (narrow letter) (printable-measured letter s.0 s.1))
+looks-measured escape control (Octal byte) e c s =
+    All-cons IsMeasuredLook (look.Glyph escape) (digit (byte / 64) ∷ digit (byte / 8) ∷ digit byte ∷ []) e
+    (All-cons IsMeasuredLook (digit (byte / 64)) (digit (byte / 8) ∷ digit byte ∷ []) (digit-measured (byte / 64))
+    (All-cons IsMeasuredLook (digit (byte / 8)) (digit byte ∷ []) (digit-measured (byte / 8)) (measured-one (digit byte) (digit-measured byte))))
+looks-measured escape control Space e c s = measured-one look.Blank tt
+looks-measured escape control (Mark code) e c s = measured-one (look.Glyph (on_blank code)) (on_blank-measured code s.0 s.1)
+looks-measured escape control (Itself code width) e c s =
+    measured-one (look.Glyph (single code width)) (single-measured code width s.0 s.1 s.2 s.3)
+
+pub elements-measured : (face : Attributes) (origin : Origin) (ls : List Look) → All IsMeasuredLook ls → AreMeasured (map (element_of face origin) ls)
+elements-measured face origin ls each = All-map (λ (e : Element). IsMeasuredLook e.look) (element_of face origin) ls each
+
+pub slot-measured : (g : Glyph) → length g.marks ≡ 6 → IsTrue (is_slot_glyph g) → IsMeasured g
+slot-measured g places is =
+    character-measured g places (and_parts (is_glyph_character g) (g.width == 1) is).0
