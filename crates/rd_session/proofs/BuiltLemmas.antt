@@ -2,7 +2,7 @@
 use Rattle.std.proofs.Common.{◌≡◌, ℕ, zero, suc, ◌+◌, ◌-◌, inl, inr, ◌==◌, Bool, true, false, if◌then◌else◌, Option, None, Some, Result, Ok, Err, List, [], ◌∷◌, ◌++◌, length, take, drop, set, subst, sym, refl}
 use Rattle.std.proofs.lemmas.Bool.{and_parts, and_from}
 use Rattle.std.specs.Prelude.{slice_get, slice_set, nat_lt, nat_le}
-use Rattle.rd_text.specs.Texts.{inserted, deleted, narrowed, widened}
+use Rattle.rd_text.specs.Texts.{narrowed, widened}
 use Rattle.rd_script.specs.declared.op.Op.{Op}
 use Rattle.rd_script.specs.declared.op.Op.TheVariants as ops
 use Rattle.rd_script.specs.Forms.{each}
@@ -10,7 +10,7 @@ use Rattle.rd_state.specs.declared.refused.Refused.{Refused}
 use Rattle.rd_state.specs.declared.refused.Refused.TheVariants.{NoWindow, NameTaken, TooManyBuffers, LastWindow, NotBuilt, OutOfRange, TextTooLarge}
 use Rattle.rd_state.specs.declared.window.WindowState.{WindowState}
 use Rattle.rd_state.specs.States.{BufferValue, StateValue, IsValid, new_buffer, main_name, most_buffers, number_of, opening}
-use Rattle.rd_state.specs.Edits.{is_accessible, is_built_character, is_built, is_accessible_range, is_range_of_all, has_room, marked, insertion, deletion, narrowing, widening, after_insertion, after_deletion, brought_into}
+use Rattle.rd_state.specs.Edits.{is_accessible, is_built_character, is_built, is_accessible_range, is_range_of_all, has_room, grown, shrunk, insertion, deletion, narrowing, widening, after_insertion, after_deletion, brought_into}
 use Rattle.rd_state.specs.Steps.{moved_in, changed, with, in_buffer, with_point, making, typing, showing, pointing, step}
 use Rattle.rd_state.proofs.Edits.{if-ok, if-not}
 use Rattle.rd_state.proofs.Keeping.{get-set}
@@ -50,7 +50,7 @@ insertion-built : (pos : ℕ) (new : List ℕ) → is_built new ≡ true → Kee
 insertion-built pos new fresh b c old h =
     let f = is_built_character in
     let xs = b.text.text in
-    let made : BufferValue = record { name = b.name; text = inserted b.text pos new; settings = marked (nat_lt 0 (length new)) b.settings } in
+    let made = grown b pos new in
     let outer = if-ok (is_accessible b.text pos) (if has_room b.text new then Ok made else Err TextTooLarge) OutOfRange c h in
     let inner = if-ok (has_room b.text new) (Ok made) TextTooLarge c outer.1 in
     let same : made ≡ c = cc (inner.1) in
@@ -62,7 +62,7 @@ deletion-built : (from to : ℕ) → KeepsBuilt (λ b. deletion b from to)
 deletion-built from to b c old h =
     let f = is_built_character in
     let xs = b.text.text in
-    let made : BufferValue = record { name = b.name; text = deleted b.text from to; settings = marked (nat_lt from to) b.settings } in
+    let made = shrunk b from to in
     let parts = if-ok (is_accessible_range b.text from to) (Ok made) OutOfRange c h in
     let same : made ≡ c = cc (parts.1) in
     subst HasBuilt same
@@ -70,14 +70,14 @@ deletion-built from to b c old h =
 
 narrowing-built : (from to : ℕ) → KeepsBuilt (λ b. narrowing b from to)
 narrowing-built from to b c old h =
-    let made : BufferValue = record { name = b.name; text = narrowed b.text from to; settings = b.settings } in
+    let made : BufferValue = record b { text = narrowed b.text from to } in
     let parts = if-ok (is_range_of_all b.text from to) (Ok made) OutOfRange c h in
     let same : made ≡ c = cc (parts.1) in
     subst HasBuilt same old
 
 widening-built : KeepsBuilt widening
 widening-built b c old h =
-    let same : record { name = b.name; text = widened b.text; settings = b.settings } ≡ c = cc (h) in
+    let same : record b { text = widened b.text } ≡ c = cc (h) in
     subst HasBuilt same old
 
 -- ---- states

@@ -2,12 +2,12 @@
 use Rattle.std.proofs.Common.{◌≡◌, ℕ, ◌+◌, ◌-◌, ◌≤◌, ◌&&◌, Bool, true, false, if◌then◌else◌, Result, Ok, Err, List, length, subst, sym, ap, refl, arith}
 use Rattle.std.proofs.lemmas.Bool.{and_parts, leb-true, ltb-true, ltb-false}
 use Rattle.std.specs.Prelude.{nat_lt, nat_le}
-use Rattle.rd_text.specs.Texts.{TextValue, IsText, IsAccessible, inserted, deleted, narrowed, widened, most_characters}
+use Rattle.rd_text.specs.Texts.{TextValue, IsText, IsAccessible, narrowed, widened, most_characters}
 use Rattle.rd_text.specs.Answers.{IsAccessibleRange, IsRangeOfAll}
 use Rattle.rd_text.proofs.Keeping.{inserted-is_text, deleted-is_text, narrowed-is_text, widened-is_text}
 use Rattle.rd_state.specs.declared.refused.Refused.TheVariants.{OutOfRange, TextTooLarge}
 use Rattle.rd_state.specs.States.{BufferValue}
-use Rattle.rd_state.specs.Edits.{is_accessible, is_accessible_range, is_range_of_all, has_room, marked, insertion, deletion, narrowing, widening, after_insertion, after_deletion, brought_into}
+use Rattle.rd_state.specs.Edits.{is_accessible, is_accessible_range, is_range_of_all, has_room, grown, shrunk, insertion, deletion, narrowing, widening, after_insertion, after_deletion, brought_into}
 use Rattle.rd_state.proofs.Keeping.{Keeps}
 
 -- a test that refuses what fails
@@ -65,9 +65,9 @@ moved_back false false low high p from to ht hu a b c d e =
 
 pub insertion-means : (b : BufferValue) (pos : ℕ) (new : List ℕ) (c : BufferValue) → insertion b pos new ≡ Ok c
     → IsAccessible b.text pos × (length b.text.text + length new ≤ most_characters)
-    × (record { name = b.name; text = inserted b.text pos new; settings = marked (nat_lt 0 (length new)) b.settings } ≡ c)
+    × (grown b pos new ≡ c)
 insertion-means b pos new c h =
-    let made : BufferValue = record { name = b.name; text = inserted b.text pos new; settings = marked (nat_lt 0 (length new)) b.settings } in
+    let made = grown b pos new in
     let outer = if-ok (is_accessible b.text pos) (if has_room b.text new then Ok made else Err TextTooLarge) OutOfRange c h in
     let inner = if-ok (has_room b.text new) (Ok made) TextTooLarge c outer.1 in
     let same : made ≡ c = cc (inner.1) in
@@ -87,9 +87,9 @@ insertion-keeps pos new = record {
 -- ---- deletion
 
 pub deletion-means : (b : BufferValue) (from to : ℕ) (c : BufferValue) → deletion b from to ≡ Ok c
-    → IsAccessibleRange b.text from to × (record { name = b.name; text = deleted b.text from to; settings = marked (nat_lt from to) b.settings } ≡ c)
+    → IsAccessibleRange b.text from to × (shrunk b from to ≡ c)
 deletion-means b from to c h =
-    let made : BufferValue = record { name = b.name; text = deleted b.text from to; settings = marked (nat_lt from to) b.settings } in
+    let made = shrunk b from to in
     let parts = if-ok (is_accessible_range b.text from to) (Ok made) OutOfRange c h in
     let same : made ≡ c = cc (parts.1) in
     (is_accessible_range-means b.text from to parts.0, same)
@@ -109,9 +109,9 @@ deletion-keeps from to = record {
 -- ---- narrowing and widening
 
 pub narrowing-means : (b : BufferValue) (from to : ℕ) (c : BufferValue) → narrowing b from to ≡ Ok c
-    → IsRangeOfAll b.text from to × (record { name = b.name; text = narrowed b.text from to; settings = b.settings } ≡ c)
+    → IsRangeOfAll b.text from to × (record b { text = narrowed b.text from to } ≡ c)
 narrowing-means b from to c h =
-    let made : BufferValue = record { name = b.name; text = narrowed b.text from to; settings = b.settings } in
+    let made : BufferValue = record b { text = narrowed b.text from to } in
     let parts = if-ok (is_range_of_all b.text from to) (Ok made) OutOfRange c h in
     let same : made ≡ c = cc (parts.1) in
     (is_range_of_all-means b.text from to parts.0, same)
@@ -130,12 +130,12 @@ narrowing-keeps from to = record {
 
 pub widening-keeps : Keeps widening (λ p. p)
 widening-keeps = record {
-  name = λ b c h. let same : record { name = b.name; text = widened b.text; settings = b.settings } ≡ c = cc in sym (ap (λ z. z.name) same);
+  name = λ b c h. let same : record b { text = widened b.text } ≡ c = cc in sym (ap (λ z. z.name) same);
   text = λ b c old h.
-      let same : record { name = b.name; text = widened b.text; settings = b.settings } ≡ c = cc in
+      let same : record b { text = widened b.text } ≡ c = cc in
       subst (λ z. IsText z.text) same (widened-is_text b.text old);
   moves = λ b c old h p a.
-      let same : record { name = b.name; text = widened b.text; settings = b.settings } ≡ c = cc in
+      let same : record b { text = widened b.text } ≡ c = cc in
       let first = old.first in
       let last = old.last in
       subst (λ z. IsAccessible z.text p) same (omega (arith, a.0, a.1), omega (arith, a.0, a.1));

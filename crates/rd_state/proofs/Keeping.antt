@@ -84,13 +84,18 @@ pub record Keeps (g : BufferValue → Result BufferValue Refused) (f : ℕ → �
   pub text : (b c : BufferValue) → IsText b.text → g b ≡ Ok c → IsText c.text
   pub moves : (b c : BufferValue) → IsText b.text → g b ≡ Ok c → (p : ℕ) → IsAccessible b.text p → IsAccessible c.text (f p)
 
+pub kept-valid : (s : StateValue) (i : ℕ) (b c : BufferValue) (f : ℕ → ℕ) (g : BufferValue → Result BufferValue Refused)
+    → IsValid s → Keeps g f → slice_get s.buffers i ≡ Some b → g b ≡ Ok c → IsValid (record s { buffers = slice_set s.buffers i c; window = moved_in i f s.window })
+kept-valid s i b c f g v k at is =
+    let old = v.texts i b at in
+    changed-valid s i b c f v at (k.name b c is) (k.text b c old is) (k.moves b c old is)
+
 done-valid : (s t : StateValue) (i : ℕ) (b : BufferValue) (f : ℕ → ℕ) (g : BufferValue → Result BufferValue Refused) (r : Result BufferValue Refused)
     → IsValid s → Keeps g f → slice_get s.buffers i ≡ Some b → g b ≡ r → changed s i f r ≡ Ok t → IsValid t
 done-valid s t i b f g (Err e) v k at is h = absurd (cc)
 done-valid s t i b f g (Ok c) v k at is h =
     let e : record s { buffers = slice_set s.buffers i c; window = moved_in i f s.window } ≡ t = cc in
-    let old = v.texts i b at in
-    subst IsValid e (changed-valid s i b c f v at (k.name b c is) (k.text b c old is) (k.moves b c old is))
+    subst IsValid e (kept-valid s i b c f g v k at is)
 
 found-valid : (s t : StateValue) (i : ℕ) (o : Option BufferValue) (f : ℕ → ℕ) (g : BufferValue → Result BufferValue Refused)
     → IsValid s → Keeps g f → slice_get s.buffers i ≡ o → with o (λ b. changed s i f (g b)) ≡ Ok t → IsValid t

@@ -17,7 +17,7 @@ use Rattle.rd_state.specs.States.{BufferValue, StateValue, new_buffer, most_buff
 use Rattle.rd_state.specs.Edits.{is_accessible, is_built, insertion, after_insertion, after_deletion, brought_into, deletion, narrowing, widening}
 use Rattle.rd_state.specs.Steps.{moved, moved_in, changed, with, in_buffer, making, typing, showing, pointing, with_point, step}
 use Rattle.rd_state.specs.Answers.{ChangesAt}
-use Rattle.rd_state.proofs.Keeping.{Keeps, get-set, changed-valid, in_buffer-valid}
+use Rattle.rd_state.proofs.Keeping.{Keeps, get-set, kept-valid, in_buffer-valid}
 use Rattle.rd_state.proofs.Edits.{if-ok, if-not, is_accessible-means, insertion-means, insertion-keeps, deletion-keeps, narrowing-keeps, widening-keeps}
 
 -- ---- a new buffer
@@ -155,9 +155,7 @@ typed-done s t b new (Ok c) v at is h =
     let p = s.window.point + length new in
     let same : record u { window = record u.window { point = p } } ≡ t = cc (h) in
     let m = insertion-means b s.window.point new c is in
-    let old = v.texts i b at in
-    let keeps = insertion-keeps s.window.point new in
-    let valid : IsValid u = changed-valid s i b c f v at (keeps.name b c is) (keeps.text b c old is) (keeps.moves b c old is) in
+    let valid : IsValid u = kept-valid s i b c f (λ x. insertion x s.window.point new) v (insertion-keeps s.window.point new) at is in
     let end : IsAccessible c.text p = subst (λ z. IsAccessible z.text p) m.2 (omega (arith, m.0.0), omega (arith, m.0.1)) in
     let here : (x : BufferValue) → slice_get (set s.buffers i c) (moved_in i f s.window).buffer ≡ Some x → IsAccessible x.text p
     = λ x hx. elim (get-set s.buffers i i c x (ap (slice_get (set s.buffers i c)) (sym (moved-buffer (s.window.buffer == i) f s.window)) ∙ hx)) [
@@ -219,8 +217,7 @@ pub at-valid : (s : StateValue) (i : ℕ) (f : ℕ → ℕ) (g : BufferValue →
     → IsValid s → Keeps g f → ChangesAt (Ok tt) g i s.buffers bs → w ≡ moved_in i f s.window
     → IsValid (record { buffers = bs; window = w; width = s.width; height = s.height })
 at-valid s i f g bs w v k (b, c, at, gives, is) e =
-    let old = v.texts i b at in
-    let new = changed-valid s i b c f v at (k.name b c gives) (k.text b c old gives) (k.moves b c old gives) in
+    let new = kept-valid s i b c f g v k at gives in
     subst (λ xs. IsValid (record s { buffers = xs; window = w })) (sym is)
     (subst (λ x. IsValid (record s { buffers = slice_set s.buffers i c; window = x })) (sym e) new)
 

@@ -4,7 +4,6 @@ use Rattle.rd_text.specs.declared.fault.TextFault.{TextFault}
 use Rattle.rd_text.specs.declared.fault.TextFault.TheVariants as faults
 use Rattle.rd_script.specs.declared.op.Op.{Op}
 use Rattle.rd_script.specs.declared.op.Op.TheVariants.{Redisplay}
-use Rattle.rd_state.specs.declared.buffer.BufferState.{BufferState}
 use Rattle.rd_state.specs.declared.effect.Effect.{Effect}
 use Rattle.rd_state.specs.declared.refused.Refused.{Refused}
 use Rattle.rd_state.specs.declared.refused.Refused.TheVariants.{OutOfRange, TextTooLarge, Memory}
@@ -36,7 +35,3 @@ Changes (Err refused) said old new = (new ≡ old) × (refused ≢ Memory → sa
 abbrev pub ChangesAt : Result Unit Refused → (BufferValue → Result BufferValue Refused) → ℕ → List BufferValue → List BufferValue → Type 0
 ChangesAt (Ok _) f i old new = (b c : BufferValue) × (slice_get old i ≡ Some b) × (f b ≡ Ok c) × (new ≡ slice_set old i c)
 ChangesAt (Err refused) f i old new = (new ≡ old) × (refused ≢ Memory → (b : BufferValue) × (slice_get old i ≡ Some b) × (f b ≡ Err refused))
-
--- what is lent of a buffer
-abbrev pub lent : BufferValue → BufferState
-lent b = record { text = b.text; settings = b.settings }

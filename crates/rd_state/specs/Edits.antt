@@ -1,7 +1,8 @@
 -- What an op does to one buffer, and where the positions in it move.
-use Rattle.std.specs.Prelude.{ℕ, ◌+◌, ◌-◌, nat_lt, nat_le, ◌==◌, ◌&&◌, ◌||◌, Bool, if◌then◌else◌, Result, Ok, Err, List, length, min, max}
+use Rattle.std.specs.Prelude.{ℕ, ◌+◌, ◌-◌, nat_lt, nat_le, ◌==◌, ◌&&◌, ◌||◌, Bool, if◌then◌else◌, Option, None, Result, Ok, Err, List, ◌++◌, length, map, take, drop, replicate, min, max}
 use Rattle.rd_base.specs.Settings.{SettingValues}
 use Rattle.rd_text.specs.Texts.{TextValue, most_characters, inserted, deleted, narrowed, widened}
+use Rattle.rd_overlays.specs.Overlays.{slot_grown, slot_shrunk}
 use Rattle.rd_script.specs.Forms.{each}
 use Rattle.rd_state.specs.declared.refused.Refused.{Refused}
 use Rattle.rd_state.specs.declared.refused.Refused.TheVariants.{OutOfRange, TextTooLarge}
@@ -32,31 +33,55 @@ is_built_character c = (c == 10) || (nat_le 32 c && nat_le c 126)
 abbrev pub is_built : List ℕ → Bool
 is_built text = each is_built_character text
 
+-- ---- the values of a text property, one for each character
+
+-- so many characters without a value behind the first ones
+abbrev pub spread : ℕ → ℕ → List (Option ℕ) → List (Option ℕ)
+spread at count values = take at values ++ replicate count None ++ drop at values
+
+-- the characters from one place to another, that one not included, taken out
+abbrev pub cut : ℕ → ℕ → List (Option ℕ) → List (Option ℕ)
+cut from to values = take from values ++ drop to values
+
 -- ---- one buffer
 
 -- the settings after an edit, which sets `modified` where it changed anything
 abbrev pub marked : Bool → SettingValues → SettingValues
 marked changed s = record s { modified = changed || s.modified }
 
+-- a buffer with a text put in before a position: the new characters have no properties, and what stands behind them moves
+abbrev pub grown : BufferValue → ℕ → List ℕ → BufferValue
+grown b pos new = record {
+  name = b.name;
+  text = inserted b.text pos new;
+  properties = map (spread (pos - 1) (length new)) b.properties;
+  overlays = map (slot_grown pos (length new)) b.overlays;
+  settings = marked (nat_lt 0 (length new)) b.settings;
+}
+
 abbrev pub insertion : BufferValue → ℕ → List ℕ → Result BufferValue Refused
 insertion b pos new = if is_accessible b.text pos
-    then (if has_room b.text new
-    then Ok (record { name = b.name; text = inserted b.text pos new; settings = marked (nat_lt 0 (length new)) b.settings })
-    else Err TextTooLarge)
+    then (if has_room b.text new then Ok (grown b pos new) else Err TextTooLarge)
     else Err OutOfRange
+
+-- a buffer with a range taken away
+abbrev pub shrunk : BufferValue → ℕ → ℕ → BufferValue
+shrunk b from to = record {
+  name = b.name;
+  text = deleted b.text from to;
+  properties = map (cut (from - 1) (to - 1)) b.properties;
+  overlays = map (slot_shrunk from to) b.overlays;
+  settings = marked (nat_lt from to) b.settings;
+}
 
 abbrev pub deletion : BufferValue → ℕ → ℕ → Result BufferValue Refused
-deletion b from to = if is_accessible_range b.text from to
-    then Ok (record { name = b.name; text = deleted b.text from to; settings = marked (nat_lt from to) b.settings })
-    else Err OutOfRange
+deletion b from to = if is_accessible_range b.text from to then Ok (shrunk b from to) else Err OutOfRange
 
 abbrev pub narrowing : BufferValue → ℕ → ℕ → Result BufferValue Refused
-narrowing b from to = if is_range_of_all b.text from to
-    then Ok (record { name = b.name; text = narrowed b.text from to; settings = b.settings })
-    else Err OutOfRange
+narrowing b from to = if is_range_of_all b.text from to then Ok (record b { text = narrowed b.text from to }) else Err OutOfRange
 
 abbrev pub widening : BufferValue → Result BufferValue Refused
-widening b = Ok (record { name = b.name; text = widened b.text; settings = b.settings })
+widening b = Ok (record b { text = widened b.text })
 
 -- ---- positions
 

@@ -2,3 +2,4 @@ pub mod Answers
 pub mod Edits
 pub mod States
 pub mod Steps
+pub mod Values

@@ -5,7 +5,7 @@ ghost use Rattle.rd_state.specs.States.{BufferValue, buffers_of, new_buffer, num
 ghost use Rattle.rd_state.specs.Edits.{insertion, deletion, narrowing, widening};
 ghost use Rattle.rd_state.specs.Answers.{ChangesAt};
 
-use crate::buffer::BufferState;
+use crate::content::Content;
 use crate::refused::Refused;
 use indexmap::IndexMap;
 use rd_base::{Ch, Memory};
@@ -13,7 +13,7 @@ use rd_script::BufferName;
 use rd_text::Buffer;
 
 /// The buffers by name, in order of making.
-pub(crate) type Buffers = IndexMap<String, BufferState>;
+pub(crate) type Buffers = IndexMap<String, Content>;
 
 /// The number of the buffer with a name, which is refused where no buffer has it.
 pub(crate) fn find(buffers: &Buffers, name: &str) -> Result<usize, Refused>
@@ -33,7 +33,7 @@ pub(crate) fn text_at(buffers: &Buffers, i: usize) -> &Buffer
     requires { i < length (buffers_of buffers.now.entries) }
     ensures { (b : BufferValue) × (slice_get (buffers_of buffers.now.entries) i ≡ Some b) × (result.now ≡ b.text) }
 {
-    &buffers[i].text
+    &buffers[i].state().text
 }
 
 /// Adds an empty buffer under a name that no buffer has.
@@ -42,7 +42,7 @@ pub(crate) fn add(buffers: &mut Buffers, name: BufferName) -> Result<(), Memory>
     ensures ok { OnOk result (buffers_of buffers.new.entries ≡ buffers_of buffers.old.entries ++ new_buffer name ∷ []) }
     ensures err { OnErr result (buffers_of buffers.new.entries ≡ buffers_of buffers.old.entries) }
 {
-    let buffer = BufferState::new(*buffers.allocator())?;
+    let buffer = Content::new(*buffers.allocator())?;
     buffers.insert(name.into_string(), buffer)?;
     Ok(())
 }

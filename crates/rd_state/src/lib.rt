@@ -4,16 +4,18 @@
 mod buffer;
 mod buffers;
 mod built;
+mod content;
 mod effect;
 mod laws;
 mod moves;
 mod refused;
 mod state;
+mod values;
 mod window;
 
-pub use buffer::BufferState;
 pub use effect::Effect;
 pub use laws::{settling_keeps_states, steps_keep_states};
+pub use rd_props::BufferState;
 pub use refused::Refused;
 pub use state::State;
 pub use window::WindowState;

@@ -2,11 +2,11 @@
 ghost use Rattle.std.specs.Prelude.{◌≡◌, ◌≤◌, ◌==◌, ◌++◌, ◌∷◌, [], nat_lt, if◌then◌else◌, IfOk, OnOk, OnErr, None, Some, length, slice_get, option_map, option_copied};
 ghost use Rattle.rd_script.specs.Forms.{IsInForm};
 ghost use Rattle.rd_text.specs.Texts.{IsAccessible};
-ghost use Rattle.rd_state.specs.States.{BufferValue, opening, IsValid, main_name, new_buffer, number_of};
+ghost use Rattle.rd_props.specs.Buffers.{meaning};
+ghost use Rattle.rd_state.specs.States.{BufferValue, seen, opening, IsValid, main_name, new_buffer, number_of};
 ghost use Rattle.rd_state.specs.Steps.{settled};
-ghost use Rattle.rd_state.specs.Answers.{IsApplied, Applies, lent};
+ghost use Rattle.rd_state.specs.Answers.{IsApplied, Applies};
 
-use crate::buffer::BufferState;
 use crate::buffers::{Buffers, add, delete_at, find, insert_at, narrow_at, text_at, widen_at};
 use crate::built::is_built;
 use crate::effect::Effect;
@@ -15,6 +15,7 @@ use crate::refused::Refused;
 use crate::window::WindowState;
 use indexmap::IndexMap;
 use rd_base::{Anchor, Ch, Memory, Pos, Wrap};
+use rd_props::BufferState;
 use rd_script::{BufferName, Op};
 use std::alloc::Global;
 use std::marker::Model;
@@ -103,10 +104,10 @@ impl State {
 
     /// The buffer with a number, from 0 in order of making; None exactly where none was made.
     pub fn buffer(&self, i: u32) -> Option<&BufferState>
-        ensures { option_copied result ≡ option_map lent (slice_get self.now.buffers i) }
+        ensures { option_map (λ b. meaning b.now) result ≡ option_map (λ b. seen b.text b.properties b.overlays b.settings) (slice_get self.now.buffers i) }
     {
         let (_name, buffer) = self.buffers.get_index(i as usize)?;
-        Some(buffer)
+        Some(buffer.state())
     }
 
     /// The name of the buffer with a number, from 0 in order of making; None exactly where none was made.
