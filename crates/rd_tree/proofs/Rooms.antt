@@ -1,0 +1,135 @@
+-- Needs, sizes and rectangles.
+use Rattle.std.proofs.Common.{◌≡◌, ℕ, ◌+◌, ◌-◌, ◌≤◌, ◌<◌, max, length, length-append, Bool, true, false, if◌then◌else◌, ◌==◌, List, [], ◌∷◌, ◌++◌, Option, None, Some, refl, sym, ap, ◌∙◌, arith}
+use Rattle.rd_tree.specs.declared.rect.Rect.{Rect}
+use Rattle.rd_tree.specs.declared.side.Side.{Side}
+use Rattle.rd_tree.specs.declared.side.Side.TheVariants.{Below, Right}
+use Rattle.rd_tree.specs.declared.placed.Placed.{Placed}
+use Rattle.rd_tree.specs.Windows.{Windows, Window, Split, rows_for, columns_needed, rows_needed, first_part, second_part, along, InFrame, NeedsMet, FirstPartsFit, HasRoom, first_size, resized, leaves, placed, of_number, window_at}
+
+rows_for-some : (mode : Bool) → 1 ≤ rows_for mode
+rows_for-some true = omega arith
+rows_for-some false = omega arith
+
+pub columns-some : (windows : Windows) → 1 ≤ columns_needed windows
+columns-some (Window number mode) = omega arith
+columns-some (Split Right size first second) = omega (arith, columns-some first)
+columns-some (Split Below size first second) = omega (arith, columns-some first)
+
+pub rows-some : (windows : Windows) → 1 ≤ rows_needed windows
+rows-some (Window number mode) = rows_for-some mode
+rows-some (Split Right size first second) = omega (arith, rows-some first)
+rows-some (Split Below size first second) = omega (arith, rows-some first)
+
+leaves-some : (windows : Windows) → 1 ≤ length (leaves windows)
+leaves-some (Window number mode) = omega arith
+leaves-some (Split side size first second) = omega (arith, leaves-some first, length-append (leaves first) (leaves second))
+
+-- both parts have fewer windows than the whole
+pub fewer_first : (first second : Windows) (n : ℕ) → length (leaves first ++ leaves second) ≡ n → length (leaves first) < n
+fewer_first first second n e = omega (arith, leaves-some second, length-append (leaves first) (leaves second))
+
+pub fewer_second : (first second : Windows) (n : ℕ) → length (leaves first ++ leaves second) ≡ n → length (leaves second) < n
+fewer_second first second n e = omega (arith, leaves-some first, length-append (leaves first) (leaves second))
+
+-- where each window has room, the needs of all are met
+pub room_needs : (windows : Windows) (rect : Rect) → HasRoom windows rect → NeedsMet windows rect
+room_needs (Window number mode) rect h = h
+room_needs (Split Right size first second) rect h =
+    let a = room_needs first (first_part Right size rect) h.0 in
+    let b = room_needs second (second_part Right size rect) h.1 in
+    let c = columns-some second in
+    (omega arith, omega arith)
+room_needs (Split Below size first second) rect h =
+    let a = room_needs first (first_part Below size rect) h.0 in
+    let b = room_needs second (second_part Below size rect) h.1 in
+    let c = rows-some second in
+    (omega arith, omega arith)
+
+pub room_first_parts : (windows : Windows) (rect : Rect) → HasRoom windows rect → FirstPartsFit windows
+room_first_parts (Window number mode) rect h = tt
+room_first_parts (Split Right size first second) rect h =
+    ((room_needs first (first_part Right size rect) h.0).0, room_first_parts first (first_part Right size rect) h.0, room_first_parts second (second_part Right size rect) h.1)
+room_first_parts (Split Below size first second) rect h =
+    ((room_needs first (first_part Below size rect) h.0).1, room_first_parts first (first_part Below size rect) h.0, room_first_parts second (second_part Below size rect) h.1)
+
+-- a first part lies within the split rectangle
+pub room_within : (side : Side) (size : ℕ) (first second : Windows) (rect : Rect) → HasRoom (Split side size first second) rect → size ≤ along side rect
+room_within Right size first second rect h =
+    let b = room_needs second (second_part Right size rect) h.1 in
+    let c = columns-some second in
+    omega arith
+room_within Below size first second rect h =
+    let b = room_needs second (second_part Below size rect) h.1 in
+    let c = rows-some second in
+    omega arith
+
+pub first_in_frame : (side : Side) (size : ℕ) (rect : Rect) → InFrame rect → size ≤ along side rect → InFrame (first_part side size rect)
+first_in_frame Right size rect h w = (omega arith, h.1)
+first_in_frame Below size rect h w = (h.0, omega arith)
+
+pub second_in_frame : (side : Side) (size : ℕ) (rect : Rect) → InFrame rect → size ≤ along side rect → InFrame (second_part side size rect)
+second_in_frame Right size rect h w = (omega arith, h.1)
+second_in_frame Below size rect h w = (h.0, omega arith)
+
+-- what each part of a split rectangle that has room needs is met in the whole rectangle
+pub second_needs : (side : Side) (size : ℕ) (first second : Windows) (rect : Rect) → HasRoom (Split side size first second) rect → NeedsMet second rect
+second_needs Right size first second rect h = let b = room_needs second (second_part Right size rect) h.1 in (omega arith, b.1)
+second_needs Below size first second rect h = let b = room_needs second (second_part Below size rect) h.1 in (b.0, omega arith)
+
+pub first_needs : (side : Side) (size : ℕ) (first second : Windows) (rect : Rect) → HasRoom (Split side size first second) rect → NeedsMet first rect
+first_needs Right size first second rect h =
+    let a = room_needs first (first_part Right size rect) h.0 in
+    let w = room_within Right size first second rect h in
+    (omega arith, a.1)
+first_needs Below size first second rect h =
+    let a = room_needs first (first_part Below size rect) h.0 in
+    let w = room_within Below size first second rect h in
+    (a.0, omega arith)
+
+-- where a rectangle is shared anew, both parts have what they need, and lie in it
+pub shared : (side : Side) (size : ℕ) (first second : Windows) (rect : Rect) → FirstPartsFit (Split side size first second) → NeedsMet (Split side size first second) rect → NeedsMet first (first_part side (first_size side size second rect) rect) × NeedsMet second (second_part side (first_size side size second rect) rect) × (first_size side size second rect ≤ along side rect)
+shared Right size first second rect p n = ((omega arith, omega arith), (omega arith, omega arith), omega arith)
+shared Below size first second rect p n = ((omega arith, omega arith), (omega arith, omega arith), omega arith)
+
+pub whole_second_needs : (side : Side) (size : ℕ) (first second : Windows) (rect : Rect) → NeedsMet (Split side size first second) rect → NeedsMet second rect
+whole_second_needs Right size first second rect n = (omega arith, omega arith)
+whole_second_needs Below size first second rect n = (omega arith, omega arith)
+
+pub first_parts-first : (side : Side) (size : ℕ) (first second : Windows) → FirstPartsFit (Split side size first second) → FirstPartsFit first × FirstPartsFit second
+first_parts-first Right size first second p = (p.1, p.2)
+first_parts-first Below size first second p = (p.1, p.2)
+
+-- windows that share a rectangle which meets their needs have room
+pub resized_room : (windows : Windows) (rect : Rect) → FirstPartsFit windows → NeedsMet windows rect → HasRoom (resized windows rect) rect
+resized_room (Window number mode) rect p n = n
+resized_room (Split side size first second) rect p n =
+    let s = shared side size first second rect p n in
+    let q = first_parts-first side size first second p in
+    let new = first_size side size second rect in
+    (resized_room first (first_part side new rect) q.0 s.0, resized_room second (second_part side new rect) q.1 s.1)
+
+-- the first of two that is there
+abbrev pub or_else : Option Placed → Option Placed → Option Placed
+or_else None other = other
+or_else (Some window) other = Some window
+
+cond_or : (b : Bool) (window : Placed) (m n other : Option Placed) → m ≡ or_else n other → (if b then Some window else m) ≡ or_else (if b then Some window else n) other
+cond_or true window m n other e = refl
+cond_or false window m n other e = e
+
+-- the window with a number among two lists
+pub of_number-append : (number : ℕ) (xs ys : List Placed) → of_number number (xs ++ ys) ≡ or_else (of_number number xs) (of_number number ys)
+of_number-append number [] ys = refl
+of_number-append number (window ∷ xs) ys =
+    cond_or (window.number == number) window (of_number number (xs ++ ys)) (of_number number xs) (of_number number ys) (of_number-append number xs ys)
+
+pub second_found : (w : ℕ) (side : Side) (size : ℕ) (first second : Windows) (rect a b : Rect) → a ≡ first_part side size rect → b ≡ second_part side size rect → window_at w first a ≡ None → window_at w (Split side size first second) rect ≡ window_at w second b
+second_found w side size first second rect a b p q e =
+    of_number-append w (placed first (first_part side size rect)) (placed second (second_part side size rect))
+    ∙ (ap (λ (o : Option Placed). or_else o (window_at w second (second_part side size rect))) (rw p at e)
+    ∙ ap (λ (r : Rect). window_at w second r) (sym q))
+
+pub first_found : (w : ℕ) (side : Side) (size : ℕ) (first second : Windows) (rect a : Rect) (found : Placed) → a ≡ first_part side size rect → window_at w first a ≡ Some found → window_at w (Split side size first second) rect ≡ Some found
+first_found w side size first second rect a found p e =
+    of_number-append w (placed first (first_part side size rect)) (placed second (second_part side size rect))
+    ∙ ap (λ (o : Option Placed). or_else o (window_at w second (second_part side size rect))) (rw p at e)

@@ -1,0 +1,57 @@
+use Rattle.rd_tree.specs.Shapes.{shape}
+use Rattle.rd_tree.proofs.Rooms.{fewer_first, fewer_second, room_first_parts, first_needs, second_needs, first_parts-first, room_within, first_in_frame, second_in_frame}
+use Rattle.rd_tree.specs.Windows.{Split}
+use Rattle.rd_tree.proofs.node.Node.+remove.Goals as goal
+
+pub resize-requires-clause-parts : goal.resize-requires-clause-parts
+resize-requires-clause-parts t c =
+    let s = c.in-Split in
+    let a = shape s.first.value in
+    let b = shape s.second.value in
+    let room = rw c.in-Split.is at c.requires.room in
+    rw (c.take.ensures, c.deref_mut.ensures.value) (first_parts-first s.side s.size a b (room_first_parts (Split s.side s.size a b) c.args.rect room)).1
+
+pub resize-requires-clause-needs : goal.resize-requires-clause-needs
+resize-requires-clause-needs t c =
+    let s = c.in-Split in
+    let room = rw c.in-Split.is at c.requires.room in
+    rw (c.take.ensures, c.deref_mut.ensures.value) (second_needs s.side s.size (shape s.first.value) (shape s.second.value) c.args.rect room)
+
+pub resize-requires-then-is_window-2-clause-parts : goal.resize-requires-then-is_window-2-clause-parts
+resize-requires-then-is_window-2-clause-parts t c =
+    let s = c.in-Split in
+    let a = shape s.first.value in
+    let b = shape s.second.value in
+    let room = rw c.in-Split.is at c.requires.room in
+    rw (c.take-then-is_window-2.ensures, c.deref_mut-then-is_window-2.ensures.value) (first_parts-first s.side s.size a b (room_first_parts (Split s.side s.size a b) c.args.rect room)).0
+
+pub resize-requires-then-is_window-2-clause-needs : goal.resize-requires-then-is_window-2-clause-needs
+resize-requires-then-is_window-2-clause-needs t c =
+    let s = c.in-Split in
+    let room = rw c.in-Split.is at c.requires.room in
+    rw (c.take-then-is_window-2.ensures, c.deref_mut-then-is_window-2.ensures.value) (first_needs s.side s.size (shape s.first.value) (shape s.second.value) c.args.rect room)
+
+pub remove-requires : goal.remove-requires
+remove-requires t c =
+    let s = c.in-Split in
+    let a = shape s.first.value in
+    let b = shape s.second.value in
+    let room = rw c.in-Split.is at c.requires.room in
+    let within = room_within s.side s.size a b c.args.rect room in
+    (rw c.deref_mut-then-holds.ensures.value (fewer_first a b t (rw c.in-Split.is at c.decreases)),
+    (rw (c.first_part.ensures, c.deref_mut-then-holds.ensures.value) room.0, rw c.first_part.ensures (first_in_frame s.side s.size c.args.rect c.requires.inside within)))
+
+pub second_part-requires-clause-within : goal.second_part-requires-clause-within
+second_part-requires-clause-within t c =
+    let s = c.in-Split in
+    room_within s.side s.size (shape s.first.value) (shape s.second.value) c.args.rect (rw c.in-Split.is at c.requires.room)
+
+pub remove-requires-else-holds : goal.remove-requires-else-holds
+remove-requires-else-holds t c =
+    let s = c.in-Split in
+    let a = shape s.first.value in
+    let b = shape s.second.value in
+    let room = rw c.in-Split.is at c.requires.room in
+    let within = room_within s.side s.size a b c.args.rect room in
+    (rw c.deref_mut-else-holds.ensures.value (fewer_second a b t (rw c.in-Split.is at c.decreases)),
+    (rw (c.second_part.ensures, c.deref_mut-else-holds.ensures.value) room.1, rw c.second_part.ensures (second_in_frame s.side s.size c.args.rect c.requires.inside within)))

@@ -1,0 +1,318 @@
+//! The nodes of a window tree.
+ghost use Rattle.std.specs.Prelude.{◌≡◌, ◌≤◌, length, slice_get, OnOk, OnErr};
+ghost use Rattle.rd_tree.specs.Windows.{HasRoom, InFrame, NeedsMet, FirstPartsFit, columns_needed, rows_needed, first_size, resized, leaves, window_at, holds, is_window, is_single, first_leaf, sibling, removed, split_at, with_mode};
+ghost use Rattle.rd_tree.specs.Shapes.{shape};
+
+use crate::placed::{COLUMNS, Placed, rows_for};
+use crate::rect::Rect;
+use crate::side::Side;
+use rd_base::Memory;
+use std::alloc::Global;
+use std::mem;
+
+/// A window, or a rectangle that is split: its first part, on top or to the left, has `size` rows or columns.
+#[derive(Drop)]
+pub(crate) enum Node {
+    Leaf {
+        number: u32,
+        mode: bool,
+    },
+    Split {
+        side: Side,
+        size: u32,
+        first: Box<Node>,
+        second: Box<Node>,
+    },
+}
+
+/// The size of the first part where a rectangle is shared anew: the second part has what is left behind the first part's old
+/// size, but at least what it needs, and the first part has the rest.
+fn first_size(side: Side, size: u32, second: &Node, rect: Rect) -> u32
+    requires needs { NeedsMet (shape second.now) rect }
+    requires inside { InFrame rect }
+    ensures { result ≡ first_size side size (shape second.now) rect }
+{
+    match side {
+        Side::Below => {
+            let rest = rect.height.saturating_sub(size);
+            rect.height - rest.max(second.rows())
+        }
+        Side::Right => {
+            let rest = rect.width.saturating_sub(size);
+            rect.width - rest.max(second.columns())
+        }
+    }
+}
+
+impl Node {
+    /// How many columns its windows need.
+    pub(crate) fn columns(&self) -> u32
+        requires { columns_needed (shape self.now) ≤ 400 }
+        ensures { result ≡ columns_needed (shape self.now) }
+    {
+        match self {
+            Node::Leaf { .. } => COLUMNS,
+            Node::Split {
+                side,
+                first,
+                second,
+                ..
+            } => match side {
+                Side::Below => first.columns().max(second.columns()),
+                Side::Right => first.columns() + second.columns(),
+            },
+        }
+    }
+
+    /// How many rows its windows need.
+    pub(crate) fn rows(&self) -> u32
+        requires { rows_needed (shape self.now) ≤ 200 }
+        ensures { result ≡ rows_needed (shape self.now) }
+    {
+        match self {
+            Node::Leaf { mode, .. } => rows_for(*mode),
+            Node::Split {
+                side,
+                first,
+                second,
+                ..
+            } => match side {
+                Side::Below => first.rows() + second.rows(),
+                Side::Right => first.rows().max(second.rows()),
+            },
+        }
+    }
+
+    /// How many windows it has.
+    pub(crate) fn count(&self) -> u32
+        requires { length (leaves (shape self.now)) ≤ 64 }
+        ensures { result ≡ length (leaves (shape self.now)) }
+    {
+        match self {
+            Node::Leaf { .. } => 1,
+            Node::Split { first, second, .. } => first.count() + second.count(),
+        }
+    }
+
+    /// Its window at a place in order, and None past the last.
+    pub(crate) fn leaf(&self, i: u32) -> Option<u32>
+        requires { length (leaves (shape self.now)) ≤ 64 }
+        ensures { result ≡ slice_get (leaves (shape self.now)) i }
+    {
+        match self {
+            Node::Leaf { number, .. } => { if i == 0 { Some(*number) } else { None } }
+            Node::Split { first, second, .. } => {
+                let count = first.count();
+                if i < count {
+                    first.leaf(i)
+                } else {
+                    second.leaf(i - count)
+                }
+            }
+        }
+    }
+
+    /// Its first window in order.
+    pub(crate) fn first_leaf(&self) -> u32
+        ensures { result ≡ first_leaf (shape self.now) }
+    {
+        match self {
+            Node::Leaf { number, .. } => *number,
+            Node::Split { first, .. } => first.first_leaf(),
+        }
+    }
+
+    /// Whether it is one window alone.
+    pub(crate) fn is_single(&self) -> bool
+        ensures { result ≡ is_single (shape self.now) }
+    {
+        match self {
+            Node::Leaf { .. } => true,
+            Node::Split { .. } => false,
+        }
+    }
+
+    /// Whether it is one window alone, with this number.
+    fn is_window(&self, window: u32) -> bool
+        ensures { result ≡ is_window window (shape self.now) }
+    {
+        match self {
+            Node::Leaf { number, .. } => *number == window,
+            Node::Split { .. } => false,
+        }
+    }
+
+    /// Whether one of its windows has this number.
+    pub(crate) fn holds(&self, window: u32) -> bool
+        ensures { result ≡ holds window (shape self.now) }
+    {
+        match self {
+            Node::Leaf { number, .. } => *number == window,
+            Node::Split { first, second, .. } => first.holds(window) || second.holds(window),
+        }
+    }
+
+    /// The window with a number, and its place where all fill a rectangle; None where it is not among them.
+    pub(crate) fn find(&self, window: u32, rect: Rect) -> Option<Placed>
+        requires room { HasRoom (shape self.now) rect }
+        requires inside { InFrame rect }
+        ensures { result ≡ window_at window (shape self.now) rect }
+    {
+        match self {
+            Node::Leaf { number, mode } => {
+                if *number == window {
+                    Some(Placed {
+                        number: *number,
+                        mode: *mode,
+                        rect,
+                    })
+                } else {
+                    None
+                }
+            }
+            Node::Split {
+                side,
+                size,
+                first,
+                second,
+            } => match first.find(window, rect.first_part(*side, *size)) {
+                None => second.find(window, rect.second_part(*side, *size)),
+                found => found,
+            },
+        }
+    }
+
+    /// Lets its windows share another rectangle, which meets their needs. A first part keeps its size where it can.
+    pub(crate) fn resize(&mut self, rect: Rect)
+        requires parts { FirstPartsFit (shape self.old) }
+        requires needs { NeedsMet (shape self.old) rect }
+        requires inside { InFrame rect }
+        ensures { shape self.new ≡ resized (shape self.old) rect }
+    {
+        if let Node::Split {
+            side,
+            size,
+            first,
+            second,
+        } = self
+        {
+            *size = first_size(*side, *size, second, rect);
+            first.resize(rect.first_part(*side, *size));
+            second.resize(rect.second_part(*side, *size));
+        }
+    }
+
+    /// Splits the window with a number: it keeps the first `size` rows or columns of its rectangle, and a new window gets the
+    /// rest.
+    pub(crate) fn split(
+        &mut self,
+        alloc: Global,
+        window: u32,
+        side: Side,
+        size: u32,
+        new: u32,
+    ) -> Result<(), Memory>
+        ensures done { OnOk result (shape self.new ≡ split_at window side size new (shape self.old)) }
+        ensures same { OnErr result (shape self.new ≡ shape self.old) }
+    {
+        match self {
+            Node::Leaf { number, mode } => {
+                if *number == window {
+                    let mode = *mode;
+                    let number = window;
+                    let first = Box::new(alloc, Node::Leaf { number, mode })?;
+                    let second = Box::new(alloc, Node::Leaf { number: new, mode })?;
+                    *self = Node::Split {
+                        side,
+                        size,
+                        first,
+                        second,
+                    };
+                }
+                Ok(())
+            }
+            Node::Split { first, second, .. } => {
+                if first.holds(window) {
+                    first.split(alloc, window, side, size, new)
+                } else {
+                    second.split(alloc, window, side, size, new)
+                }
+            }
+        }
+    }
+
+    /// Takes the window with a number away. Its sibling takes the rectangle of both. Nothing changes where the window is alone.
+    pub(crate) fn remove(&mut self, window: u32, rect: Rect)
+        requires room { HasRoom (shape self.old) rect }
+        requires inside { InFrame rect }
+        ensures { shape self.new ≡ removed window (shape self.old) rect }
+    {
+        if let Node::Split {
+            side,
+            size,
+            first,
+            second,
+        } = self
+        {
+            if first.is_window(window) {
+                *self = second.take();
+                self.resize(rect);
+            } else if second.is_window(window) {
+                *self = first.take();
+                self.resize(rect);
+            } else if first.holds(window) {
+                first.remove(window, rect.first_part(*side, *size));
+            } else {
+                second.remove(window, rect.second_part(*side, *size));
+            }
+        }
+    }
+
+    /// The first window of what shares a split rectangle with the window with a number.
+    pub(crate) fn heir(&self, window: u32) -> u32
+        ensures { result ≡ first_leaf (sibling window (shape self.now)) }
+    {
+        match self {
+            Node::Leaf { number, .. } => *number,
+            Node::Split { first, second, .. } => {
+                if first.is_window(window) {
+                    second.first_leaf()
+                } else if second.is_window(window) {
+                    first.first_leaf()
+                } else if first.holds(window) {
+                    first.heir(window)
+                } else {
+                    second.heir(window)
+                }
+            }
+        }
+    }
+
+    /// Lets the window with a number show a mode line or not.
+    pub(crate) fn show_mode(&mut self, window: u32, shown: bool)
+        ensures { shape self.new ≡ with_mode window shown (shape self.old) }
+    {
+        match self {
+            Node::Leaf { number, mode } => {
+                if *number == window {
+                    *mode = shown;
+                }
+            }
+            Node::Split { first, second, .. } => {
+                first.show_mode(window, shown);
+                second.show_mode(window, shown);
+            }
+        }
+    }
+
+    /// Takes the node out, and leaves a window in its place that is to be given up.
+    fn take(&mut self) -> Node
+        ensures { result ≡ self.old }
+    {
+        let left = Node::Leaf {
+            number: 0,
+            mode: false,
+        };
+        mem::replace(self, left)
+    }
+}

@@ -1,0 +1,175 @@
+//! The windows of a frame, which share its rows but the last.
+use crate::fault::TreeFault;
+use crate::node::Node;
+use crate::rect::Rect;
+use crate::side::Side;
+use rd_base::Memory;
+use std::alloc::Global;
+use std::marker::Model;
+
+/// The most windows that live at one time.
+const MOST_WINDOWS: u32 = 64;
+
+/// The windows of a frame. They fill a rectangle of `width` columns and `height` rows, which is the frame's but for its last row,
+/// the echo area: whoever makes or resizes a tree hands in the frame's height less one. A window's number counts from 0 in order
+/// of making and is never used again.
+#[derive(Drop)]
+pub struct Tree {
+    alloc: Global,
+    root: Node,
+    width: u32,
+    height: u32,
+    made: u32,
+}
+
+impl Model for Tree {
+    ghost use Rattle.rd_tree.specs.Calls.{Configuration, IsValid};
+    ghost use Rattle.rd_tree.specs.Codes.{configuration_code};
+
+    ghost Value = { Configuration };
+
+    ghost coded = { configuration_code };
+
+    ghost use Rattle.rd_tree.specs.Held.{configuration_of};
+
+    ghost view = { configuration_of };
+
+    ghost invariant = { λ t. IsValid (configuration_of t) };
+}
+
+impl Tree {
+    ghost use Rattle.std.specs.Prelude.{◌≡◌, ◌≤◌, slice_get, IfOk};
+    ghost use Rattle.rd_tree.specs.Windows.{window_at, leaves};
+    ghost use Rattle.rd_tree.specs.Calls.{opening, frame_of, split_tree, remove_tree, resize_tree, mode_tree, rect_of, Answers, Splits, Removes, IsValid};
+
+    /// The window 0, without a mode line, in so many columns and rows: 11 to 400 columns, and 1 to 200 rows.
+    pub fn new(alloc: Global, width: u32, height: u32) -> Result<Tree, Memory>
+        requires wide { 11 ≤ width }
+        requires high { 1 ≤ height }
+        requires narrow { width ≤ 400 }
+        requires low { height ≤ 200 }
+        ensures { IfOk result (λ tree. tree ≡ opening width height) }
+    {
+        Ok(Tree {
+            alloc,
+            root: Node::Leaf {
+                number: 0,
+                mode: false,
+            },
+            width,
+            height,
+            made: 1,
+        })
+    }
+
+    /// Splits a window: it keeps the first `size` rows or columns of its rectangle, on top or to the left, and a new window gets
+    /// the rest. Answers the new window's number, which is the count of windows made so far. The new window shows a mode line
+    /// where the old one does. The first of these faults counts: the window does not live; one of the two would not have the
+    /// columns and rows that it needs; 64 windows live or 4,294,967,295 were made. A fault changes nothing.
+    pub fn split(&mut self, window: u32, side: Side, size: u32) -> Result<u32, TreeFault>
+        ensures { Splits result (split_tree self.old window side size) self.old self.new }
+    {
+        let Some(old) = self.root.find(window, self.frame()) else {
+            return Err(TreeFault::NoWindow);
+        };
+        if !old.takes_split(side, size) {
+            return Err(TreeFault::TooSmall);
+        }
+        if self.root.count() >= MOST_WINDOWS || self.made == u32::MAX {
+            return Err(TreeFault::TooMany);
+        }
+        let number = self.made;
+        self.root.split(self.alloc, window, side, size, number)?;
+        self.made += 1;
+        Ok(number)
+    }
+
+    /// Takes a window away. Its sibling, the window or windows that share a split rectangle with it, takes the rectangle of both.
+    /// Answers the first leaf of the sibling. The first of these faults counts: the window does not live; it is the only one.
+    pub fn remove(&mut self, window: u32) -> Result<u32, TreeFault>
+        ensures { Removes result window (remove_tree self.old window) self.old self.new }
+    {
+        if !self.root.holds(window) {
+            return Err(TreeFault::NoWindow);
+        }
+        if self.root.is_single() {
+            return Err(TreeFault::LastWindow);
+        }
+        let heir = self.root.heir(window);
+        let rect = self.frame();
+        self.root.remove(window, rect);
+        Ok(heir)
+    }
+
+    /// Lets the windows fill another rectangle. Where a rectangle was split, the second part gets what is behind the first part's
+    /// old size, but at least what its windows need, and the first part the rest. The fault is that a need would not be met: a window
+    /// needs 11 columns and 1 row, 2 with a mode line, and a split rectangle the sum of its parts along the split and the greater
+    /// across it.
+    pub fn resize(&mut self, width: u32, height: u32) -> Result<(), TreeFault>
+        requires narrow { width ≤ 400 }
+        requires low { height ≤ 200 }
+        ensures { Answers result (resize_tree self.old width height) self.old self.new }
+    {
+        if width < self.root.columns() || height < self.root.rows() {
+            return Err(TreeFault::TooSmall);
+        }
+        self.width = width;
+        self.height = height;
+        self.root.resize(Rect {
+            x: 0,
+            y: 0,
+            width,
+            height,
+        });
+        Ok(())
+    }
+
+    /// Lets a window show a mode line or not. The first of these faults counts: the window does not live; it has not the 2 rows
+    /// that it needs with a mode line.
+    pub fn mode(&mut self, window: u32, shown: bool) -> Result<(), TreeFault>
+        ensures { Answers result (mode_tree self.old window shown) self.old self.new }
+    {
+        let Some(old) = self.root.find(window, self.frame()) else {
+            return Err(TreeFault::NoWindow);
+        };
+        if !old.takes_mode(shown) {
+            return Err(TreeFault::TooSmall);
+        }
+        self.root.show_mode(window, shown);
+        Ok(())
+    }
+
+    /// The windows in order, those of a first part before those of the second; None exactly past the last.
+    pub fn leaf(&self, i: u32) -> Option<u32>
+        ensures { result ≡ slice_get (leaves self.now.windows) i }
+    {
+        self.root.leaf(i)
+    }
+
+    /// A window's rectangle; None exactly where it does not live.
+    pub fn rect(&self, window: u32) -> Option<Rect>
+        ensures { result ≡ rect_of window self.now }
+    {
+        let placed = self.root.find(window, self.frame())?;
+        Some(placed.rect)
+    }
+
+    /// Each tree is valid: each window has the columns and rows that it needs, and its number stands once. The call does nothing.
+    pub fn stays_valid(&self)
+        ensures { IsValid self.now }
+    {
+        let _root = &self.root;
+    }
+
+    /// The rectangle that the windows fill.
+    fn frame(&self) -> Rect
+        ensures { result ≡ frame_of self.now }
+    {
+        Rect {
+            x: 0,
+            y: 0,
+            width: self.width,
+            height: self.height,
+        }
+    }
+}
