@@ -1,1 +1,4 @@
+pub mod Answering
+pub mod Keeping
 pub mod Rooms
+pub mod Validity

@@ -101,12 +101,23 @@ resized (Split side size first second) rect =
     let new = first_size side size second rect in
     Split side new (resized first (first_part side new rect)) (resized second (second_part side new rect))
 
--- the windows where the window with a number gives its rectangle, but for the first rows or columns, to a new window, which
--- shows a mode line where the old one does
+-- the windows where something else stands for the window with a number, by whether it shows a mode line
+abbrev pub replaced : ℕ → (Bool → Windows) → Windows → Windows
+replaced number other (Window n mode) = if n == number then other mode else Window n mode
+replaced number other (Split side size first second) =
+    if holds number first then Split side size (replaced number other first) second else Split side size first (replaced number other second)
+
+-- a window that keeps the first rows or columns of its rectangle, and a new window, which shows a mode line where the old one does
+abbrev pub halves : ℕ → Side → ℕ → ℕ → Bool → Windows
+halves number side size new mode = Split side size (Window number mode) (Window new mode)
+
+-- the windows where the window with a number is split
 abbrev pub split_at : ℕ → Side → ℕ → ℕ → Windows → Windows
-split_at number side size new (Window n mode) = if n == number then Split side size (Window n mode) (Window new mode) else Window n mode
-split_at number side size new (Split s k first second) =
-    if holds number first then Split s k (split_at number side size new first) second else Split s k first (split_at number side size new second)
+split_at number side size new windows = replaced number (halves number side size new) windows
+
+-- the windows where the window with a number shows a mode line or does not
+abbrev pub with_mode : ℕ → Bool → Windows → Windows
+with_mode number shown windows = replaced number (λ _. Window number shown) windows
 
 -- whether this is one window alone, with the number
 abbrev pub is_window : ℕ → Windows → Bool
@@ -140,11 +151,6 @@ removed number (Split side size first second) rect =
 abbrev pub first_leaf : Windows → ℕ
 first_leaf (Window number mode) = number
 first_leaf (Split side size first second) = first_leaf first
-
--- the windows where the window with a number shows a mode line or does not
-abbrev pub with_mode : ℕ → Bool → Windows → Windows
-with_mode number shown (Window n mode) = Window n (if n == number then shown else mode)
-with_mode number shown (Split side size first second) = Split side size (with_mode number shown first) (with_mode number shown second)
 
 -- how many of the windows have a number
 abbrev pub times : ℕ → Windows → ℕ

@@ -2,6 +2,7 @@
 #![tactic(auto)]
 
 mod fault;
+mod laws;
 mod node;
 mod placed;
 mod rect;
@@ -9,6 +10,7 @@ mod side;
 mod tree;
 
 pub use fault::TreeFault;
+pub use laws::calls_keep_trees;
 pub use rect::Rect;
 pub use side::Side;
 pub use tree::Tree;

@@ -299,8 +299,11 @@ impl Node {
                 }
             }
             Node::Split { first, second, .. } => {
-                first.show_mode(window, shown);
-                second.show_mode(window, shown);
+                if first.holds(window) {
+                    first.show_mode(window, shown);
+                } else {
+                    second.show_mode(window, shown);
+                }
             }
         }
     }

@@ -1,0 +1,66 @@
+-- What the calls say, from the window that was found.
+use Rattle.std.proofs.Common.{◌≡◌, ℕ, suc, ◌+◌, ◌≤◌, ◌<◌, Bool, true, false, if◌then◌else◌, ◌||◌, nat_le, length, Option, None, Some, Result, Ok, Err, refl, sym, ap, ◌∙◌, arith}
+use Rattle.std.specs.Prelude.{is_some}
+use Rattle.std.proofs.lemmas.Bool.Decides.{nat_tests}
+use Rattle.rd_tree.specs.declared.side.Side.{Side}
+use Rattle.rd_tree.specs.declared.placed.Placed.{Placed}
+use Rattle.rd_tree.specs.declared.fault.TreeFault.{TreeFault}
+use Rattle.rd_tree.specs.declared.fault.TreeFault.TheVariants.{NoWindow, TooSmall, TooMany}
+use Rattle.rd_tree.specs.Windows.{Windows, Window, Split, HasRoom, fits, leaves, window_at, holds, halves, split_at, with_mode}
+use Rattle.rd_tree.specs.Calls.{Configuration, frame_of, is_full, split_to, split_tree, mode_to, mode_tree}
+use Rattle.rd_tree.proofs.Keeping.{found_held, replaced_fits}
+
+not_held : (c : Configuration) (w : ℕ) → window_at w c.windows (frame_of c) ≡ None → holds w c.windows ≡ false
+not_held c w e = sym (found_held w c.windows (frame_of c)) ∙ ap is_some e
+
+-- a window that was found is among the windows
+pub found_is_held : (c : Configuration) (w : ℕ) (window : Placed) → window_at w c.windows (frame_of c) ≡ Some window → holds w c.windows ≡ true
+found_is_held c w window e = sym (found_held w c.windows (frame_of c)) ∙ ap is_some e
+
+-- whether a split leaves room, by the window that was found
+pub split_room : (c : Configuration) (w : ℕ) (side : Side) (size : ℕ) (window : Placed) → HasRoom c.windows (frame_of c) → window_at w c.windows (frame_of c) ≡ Some window → fits (split_at w side size c.made c.windows) (frame_of c) ≡ fits (Split side size (Window window.number window.mode) (Window 0 window.mode)) window.rect
+split_room c w side size window room e = replaced_fits w (halves w side size c.made) c.windows (frame_of c) window room e
+
+pub split_unknown : (c : Configuration) (w : ℕ) (side : Side) (size : ℕ) → window_at w c.windows (frame_of c) ≡ None → split_tree c w side size ≡ Err NoWindow
+split_unknown c w side size e = rw (not_held c w e) refl
+
+pub split_small : (c : Configuration) (w : ℕ) (side : Side) (size : ℕ) → holds w c.windows ≡ true → fits (split_at w side size c.made c.windows) (frame_of c) ≡ false → split_tree c w side size ≡ Err TooSmall
+split_small c w side size h f = rw (h, f) refl
+
+pub split_many : (c : Configuration) (w : ℕ) (side : Side) (size : ℕ) → holds w c.windows ≡ true → fits (split_at w side size c.made c.windows) (frame_of c) ≡ true → is_full c ≡ true → split_tree c w side size ≡ Err TooMany
+split_many c w side size h f full = rw (h, f, full) refl
+
+pub split_done : (c : Configuration) (w : ℕ) (side : Side) (size : ℕ) → holds w c.windows ≡ true → fits (split_at w side size c.made c.windows) (frame_of c) ≡ true → is_full c ≡ false → split_tree c w side size ≡ Ok (record c { windows = split_at w side size c.made c.windows; made = suc c.made })
+split_done c w side size h f full = rw (h, f, full) refl
+
+or_first : (a b : Bool) → a ≡ true → (a || b) ≡ true
+or_first a b e = rw e refl
+
+or_second : (a b : Bool) → b ≡ true → (a || b) ≡ true
+or_second true b e = refl
+or_second false b e = e
+
+or_neither : (a b : Bool) → a ≡ false → b ≡ false → (a || b) ≡ false
+or_neither a b p q = rw (p, q) refl
+
+pub full_of_windows : (c : Configuration) → 64 ≤ length (leaves c.windows) → is_full c ≡ true
+full_of_windows c p = or_first (nat_le 64 (length (leaves c.windows))) (nat_le 4294967295 c.made) (grind (arith, nat_tests))
+
+pub full_of_numbers : (c : Configuration) → 4294967295 ≤ c.made → is_full c ≡ true
+full_of_numbers c p = or_second (nat_le 64 (length (leaves c.windows))) (nat_le 4294967295 c.made) (grind (arith, nat_tests))
+
+pub not_full : (c : Configuration) → length (leaves c.windows) < 64 → c.made < 4294967295 → is_full c ≡ false
+not_full c p q = or_neither (nat_le 64 (length (leaves c.windows))) (nat_le 4294967295 c.made) (grind (arith, nat_tests)) (grind (arith, nat_tests))
+
+-- whether a mode line leaves room
+pub mode_room : (c : Configuration) (w : ℕ) (shown : Bool) (window : Placed) → HasRoom c.windows (frame_of c) → window_at w c.windows (frame_of c) ≡ Some window → fits (with_mode w shown c.windows) (frame_of c) ≡ fits (Window window.number shown) window.rect
+mode_room c w shown window room e = replaced_fits w (λ _. Window w shown) c.windows (frame_of c) window room e
+
+pub mode_unknown : (c : Configuration) (w : ℕ) (shown : Bool) → window_at w c.windows (frame_of c) ≡ None → mode_tree c w shown ≡ Err NoWindow
+mode_unknown c w shown e = rw (not_held c w e) refl
+
+pub mode_small : (c : Configuration) (w : ℕ) (shown : Bool) → holds w c.windows ≡ true → fits (with_mode w shown c.windows) (frame_of c) ≡ false → mode_tree c w shown ≡ Err TooSmall
+mode_small c w shown h f = rw (h, f) refl
+
+pub mode_done : (c : Configuration) (w : ℕ) (shown : Bool) → holds w c.windows ≡ true → fits (with_mode w shown c.windows) (frame_of c) ≡ true → mode_tree c w shown ≡ Ok (record c { windows = with_mode w shown c.windows })
+mode_done c w shown h f = rw (h, f) refl

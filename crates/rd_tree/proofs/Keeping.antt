@@ -1,0 +1,150 @@
+-- What changes of the windows keep.
+use Rattle.std.proofs.Common.{◌≡◌, ℕ, ◌+◌, ◌-◌, ◌≤◌, ◌<◌, Bool, true, false, if◌then◌else◌, ◌==◌, ◌&&◌, ◌||◌, nat_le, List, [], ◌∷◌, ◌++◌, length, length-append, Option, None, Some, ◌⊎◌, inl, inr, refl, sym, ap, ◌∙◌, arith}
+use Rattle.std.specs.Prelude.{is_some}
+use Rattle.std.proofs.lemmas.Bool.Decides.{nat_tests}
+use Rattle.rd_tree.specs.declared.rect.Rect.{Rect}
+use Rattle.rd_tree.specs.declared.side.Side.{Side}
+use Rattle.rd_tree.specs.declared.side.Side.TheVariants.{Below, Right}
+use Rattle.rd_tree.specs.declared.placed.Placed.{Placed}
+use Rattle.rd_tree.specs.Windows.{Windows, Window, Split, rows_for, first_part, second_part, HasRoom, fits, NeedsMet, first_size, resized, leaves, placed, of_number, window_at, holds, replaced, halves, split_at, with_mode, is_window, is_single, removed, times}
+use Rattle.rd_tree.proofs.Rooms.{or_else, of_number-append, first_needs, second_needs, first_parts-first, room_first_parts, resized_room}
+
+and_left : (a b : Bool) → (a && b) ≡ true → a ≡ true
+and_left true b e = refl
+and_left false b e = e
+
+and_right : (a b : Bool) → (a && b) ≡ true → b ≡ true
+and_right true b e = e
+and_right false b e = absurd (cc)
+
+and_both : (a b : Bool) → a ≡ true → b ≡ true → (a && b) ≡ true
+and_both a b p q = rw (p, q) refl
+
+-- the test of room is true where each window has room
+pub fits-room : (windows : Windows) (rect : Rect) → HasRoom windows rect → fits windows rect ≡ true
+fits-room (Window number mode) rect h = and_both (nat_le 11 rect.width) (nat_le (rows_for mode) rect.height) (let p = h.0 in grind (arith, nat_tests)) (let p = h.1 in grind (arith, nat_tests))
+fits-room (Split side size first second) rect h =
+    and_both (fits first (first_part side size rect)) (fits second (second_part side size rect)) (fits-room first (first_part side size rect) h.0) (fits-room second (second_part side size rect) h.1)
+
+pub room-fits : (windows : Windows) (rect : Rect) → fits windows rect ≡ true → HasRoom windows rect
+room-fits (Window number mode) rect e =
+    (let p = and_left (nat_le 11 rect.width) (nat_le (rows_for mode) rect.height) e in grind (arith, nat_tests),
+    let p = and_right (nat_le 11 rect.width) (nat_le (rows_for mode) rect.height) e in grind (arith, nat_tests))
+room-fits (Split side size first second) rect e =
+    (room-fits first (first_part side size rect) (and_left (fits first (first_part side size rect)) (fits second (second_part side size rect)) e),
+    room-fits second (second_part side size rect) (and_right (fits first (first_part side size rect)) (fits second (second_part side size rect)) e))
+
+is_some-test : (b : Bool) (window : Placed) → is_some (if b then Some window else None) ≡ b
+is_some-test true window = refl
+is_some-test false window = refl
+
+is_some-or : (a b : Option Placed) → is_some (or_else a b) ≡ (is_some a || is_some b)
+is_some-or None b = refl
+is_some-or (Some window) b = refl
+
+-- a window is among the windows where it is found
+pub found_held : (w : ℕ) (windows : Windows) (rect : Rect) → is_some (window_at w windows rect) ≡ holds w windows
+found_held w (Window number mode) rect = is_some-test (number == w) (record { number = number; mode = mode; rect = rect })
+found_held w (Split side size first second) rect =
+    ap is_some (of_number-append w (placed first (first_part side size rect)) (placed second (second_part side size rect)))
+    ∙ (is_some-or (window_at w first (first_part side size rect)) (window_at w second (second_part side size rect))
+    ∙ (ap (λ (b : Bool). b || is_some (window_at w second (second_part side size rect))) (found_held w first (first_part side size rect))
+    ∙ ap (λ (b : Bool). holds w first || b) (found_held w second (second_part side size rect))))
+
+and_true : (a : Bool) → (a && true) ≡ a
+and_true true = refl
+and_true false = refl
+
+pub bool_cases : (b : Bool) → (b ≡ true) ⊎ (b ≡ false)
+bool_cases true = inl refl
+bool_cases false = inr refl
+
+false≢true : false ≡ true → ⊥
+false≢true e = cc
+
+found_in : (a b : Option Placed) (window : Placed) → or_else a b ≡ Some window → (a ≡ Some window) ⊎ ((a ≡ None) × (b ≡ Some window))
+found_in None b window e = inr (refl, e)
+found_in (Some first) b window e = inl e
+
+at_leaf : (b : Bool) (leaf window : Placed) (other : Bool → Windows) (same : Windows) → (if b then Some leaf else None) ≡ Some window → fits (if b then other leaf.mode else same) leaf.rect ≡ fits (other window.mode) window.rect
+at_leaf true leaf window other same e = let s : leaf ≡ window = cc in ap (λ (p : Placed). fits (other p.mode) p.rect) s
+at_leaf false leaf window other same e = absurd (cc)
+
+-- where something else stands for a window, there is room exactly where it has room in the window's rectangle
+pub replaced_fits : (w : ℕ) (other : Bool → Windows) (windows : Windows) (rect : Rect) (window : Placed) → HasRoom windows rect → window_at w windows rect ≡ Some window → fits (replaced w other windows) rect ≡ fits (other window.mode) window.rect
+replaced_fits w other (Window n mode) rect window h e = at_leaf (n == w) (record { number = n; mode = mode; rect = rect }) window other (Window n mode) e
+replaced_fits w other (Split side size first second) rect window h e =
+    let a = first_part side size rect in
+    let b = second_part side size rect in
+    elim (found_in (window_at w first a) (window_at w second b) window (sym (of_number-append w (placed first a) (placed second b)) ∙ e)) [
+      | inl p ↦
+          let held : holds w first ≡ true = sym (found_held w first a) ∙ ap is_some p in
+          rw (held, fits-room second b h.1, and_true) (replaced_fits w other first a window h.0 p)
+      | inr q ↦
+          let held : holds w first ≡ false = sym (found_held w first a) ∙ ap is_some q.0 in
+          rw (held, fits-room first a h.0) (replaced_fits w other second b window h.1 q.1)
+    ]
+
+-- a number that some windows have is the sum of those of their parts
+abbrev pub IsSum : (Windows → ℕ) → Type 0
+IsSum f = (side : Side) (size : ℕ) (first second : Windows) → f (Split side size first second) ≡ f first + f second
+
+held_second : (a b : Bool) → a ≡ false → (a || b) ≡ true → b ≡ true
+held_second true b p e = absurd (cc)
+held_second false b p e = e
+
+pub replaced_more : (f : Windows → ℕ) (w d : ℕ) (other : Bool → Windows) → IsSum f → ((n : ℕ) (mode : Bool) → (n == w) ≡ true → f (other mode) ≡ f (Window n mode) + d) → (windows : Windows) → holds w windows ≡ true → f (replaced w other windows) ≡ f windows + d
+replaced_more f w d other sum leaf (Window n mode) e = rw e (leaf n mode e)
+replaced_more f w d other sum leaf (Split side size first second) e =
+    elim (bool_cases (holds w first)) [
+      | inl p ↦ rw p (omega (arith, sum side size (replaced w other first) second, sum side size first second, replaced_more f w d other sum leaf first p))
+      | inr p ↦ rw p (omega (arith, sum side size first (replaced w other second), sum side size first second, replaced_more f w d other sum leaf second (held_second (holds w first) (holds w second) p e)))
+    ]
+
+pub resized_same : (f : Windows → ℕ) → IsSum f → (windows : Windows) (rect : Rect) → f (resized windows rect) ≡ f windows
+resized_same f sum (Window n mode) rect = refl
+resized_same f sum (Split side size first second) rect =
+    let new = first_size side size second rect in
+    let a = first_part side new rect in
+    let b = second_part side new rect in
+    omega (arith, sum side new (resized first a) (resized second b), sum side size first second, resized_same f sum first a, resized_same f sum second b)
+
+window_has : (f : Windows → ℕ) (w d : ℕ) → ((n : ℕ) (mode : Bool) → (n == w) ≡ true → f (Window n mode) ≡ d) → (windows : Windows) → is_window w windows ≡ true → f windows ≡ d
+window_has f w d leaf (Window n mode) e = leaf n mode e
+window_has f w d leaf (Split side size first second) e = absurd (false≢true e)
+
+not_single : (w : ℕ) (windows : Windows) → is_window w windows ≡ false → holds w windows ≡ true → is_single windows ≡ false
+not_single w (Window n mode) p e = absurd (false≢true (sym p ∙ e))
+not_single w (Split side size first second) p e = refl
+
+pub removed_less : (f : Windows → ℕ) (w d : ℕ) → IsSum f → ((n : ℕ) (mode : Bool) → (n == w) ≡ true → f (Window n mode) ≡ d) → (windows : Windows) (rect : Rect) → holds w windows ≡ true → is_single windows ≡ false → f (removed w windows rect) + d ≡ f windows
+removed_less f w d sum leaf (Window n mode) rect e s = absurd (false≢true (sym s))
+removed_less f w d sum leaf (Split side size first second) rect e s =
+    elim (bool_cases (is_window w first)) [
+      | inl p ↦ rw p (omega (arith, sum side size first second, resized_same f sum second rect, window_has f w d leaf first p))
+      | inr p ↦ elim (bool_cases (is_window w second)) [
+        | inl q ↦ rw (p, q) (omega (arith, sum side size first second, resized_same f sum first rect, window_has f w d leaf second q))
+        | inr q ↦ elim (bool_cases (holds w first)) [
+          | inl h ↦ rw (p, q, h) (omega (arith, sum side size first second, sum side size (removed w first (first_part side size rect)) second, removed_less f w d sum leaf first (first_part side size rect) h (not_single w first p h)))
+          | inr h ↦
+              let k = held_second (holds w first) (holds w second) h e in
+              rw (p, q, h) (omega (arith, sum side size first second, sum side size first (removed w second (second_part side size rect)), removed_less f w d sum leaf second (second_part side size rect) k (not_single w second q k)))
+        ]
+      ]
+    ]
+
+-- where a window is removed, each other has room
+pub removed_room : (w : ℕ) (windows : Windows) (rect : Rect) → HasRoom windows rect → HasRoom (removed w windows rect) rect
+removed_room w (Window n mode) rect h = h
+removed_room w (Split side size first second) rect h =
+    let parts = first_parts-first side size first second (room_first_parts (Split side size first second) rect h) in
+    elim (bool_cases (is_window w first)) [
+      | inl p ↦ rw p (resized_room second rect parts.1 (second_needs side size first second rect h))
+      | inr p ↦ elim (bool_cases (is_window w second)) [
+        | inl q ↦ rw (p, q) (resized_room first rect parts.0 (first_needs side size first second rect h))
+        | inr q ↦ elim (bool_cases (holds w first)) [
+          | inl k ↦ rw (p, q, k) (removed_room w first (first_part side size rect) h.0, h.1)
+          | inr k ↦ rw (p, q, k) (h.0, removed_room w second (second_part side size rect) h.1)
+        ]
+      ]
+    ]

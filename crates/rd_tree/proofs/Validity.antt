@@ -1,0 +1,129 @@
+-- Each call leaves a valid tree valid.
+use Rattle.std.proofs.Common.{◌≡◌, ℕ, suc, ◌+◌, ◌-◌, ◌≤◌, ◌<◌, Bool, true, false, if◌then◌else◌, ◌==◌, ◌&&◌, ◌||◌, nat_le, List, [], ◌∷◌, ◌++◌, length, length-append, Option, None, Some, Result, Ok, Err, ◌⊎◌, inl, inr, refl, sym, ap, ◌∙◌, arith}
+use Rattle.std.proofs.lemmas.Bool.Decides.{nat_tests}
+use Rattle.rd_tree.specs.declared.rect.Rect.{Rect}
+use Rattle.rd_tree.specs.declared.side.Side.{Side}
+use Rattle.rd_tree.specs.declared.fault.TreeFault.{TreeFault}
+use Rattle.rd_tree.specs.Windows.{Windows, Window, Split, HasRoom, fits, NeedsMet, columns_needed, rows_needed, resized, leaves, holds, replaced, halves, split_at, with_mode, is_single, removed, times}
+use Rattle.rd_tree.specs.Calls.{Configuration, IsValid, frame, frame_of, opening, is_full, split_to, split_tree, remove_tree, resize_tree, mode_to, mode_tree}
+use Rattle.rd_tree.proofs.Rooms.{room_first_parts, resized_room}
+use Rattle.rd_tree.proofs.Keeping.{bool_cases, room-fits, IsSum, replaced_more, resized_same, removed_less, removed_room}
+
+same_number : (n w : ℕ) → (n == w) ≡ true → n ≡ w
+same_number n w e = grind (arith, nat_tests)
+
+count : Windows → ℕ
+count windows = length (leaves windows)
+
+count-sum : IsSum count
+unfolding count
+count-sum side size first second = length-append (leaves first) (leaves second)
+
+times-sum : (v : ℕ) → IsSum (times v)
+times-sum v side size first second = refl
+
+one_test : (b : Bool) → (if b then 1 else 0) ≤ 1
+one_test true = omega arith
+one_test false = omega arith
+
+one : (v n : ℕ) (mode : Bool) → times v (Window n mode) ≤ 1
+one v n mode = one_test (n == v)
+
+-- a window has its own number alone
+own : (v n : ℕ) (mode : Bool) → (n ≡ v) ⊎ (times v (Window n mode) ≡ 0)
+own v n mode = elim (bool_cases (n == v)) [ inl p ↦ inl (same_number n v p) | inr p ↦ inr (rw p refl) ]
+
+none_above : (v n : ℕ) (mode : Bool) → n < v → times v (Window n mode) ≡ 0
+none_above v n mode p = elim (own v n mode) [ inl e ↦ absurd (omega arith) | inr e ↦ e ]
+
+or_none : (a b : Bool) → (a || b) ≡ false → (a ≡ false) × (b ≡ false)
+or_none true b e = absurd (cc)
+or_none false b e = (refl, e)
+
+room_left : (c : Configuration) → is_full c ≡ false → (length (leaves c.windows) < 64) × (c.made < 4294967295)
+room_left c e =
+    let both = or_none (nat_le 64 (length (leaves c.windows))) (nat_le 4294967295 c.made) e in
+    let p : nat_le 64 (length (leaves c.windows)) ≡ false = both.0 in
+    let q : nat_le 4294967295 c.made ≡ false = both.1 in
+    (grind (arith, nat_tests), grind (arith, nat_tests))
+
+pub opening_valid : (width height : ℕ) → 11 ≤ width → 1 ≤ height → width ≤ 400 → height ≤ 200 → IsValid (opening width height)
+opening_valid width height a b w h = record {
+  room = (a, b);
+  wide = w;
+  high = h;
+  few = omega arith;
+  made = omega arith;
+  once = λ number. one number 0 false;
+  known = λ number p. none_above number 0 false (omega (arith, p));
+}
+
+pub split_valid : (c : Configuration) (window : ℕ) (side : Side) (size : ℕ) → IsValid c → holds window c.windows ≡ true → fits (split_at window side size c.made c.windows) (frame_of c) ≡ true → is_full c ≡ false → IsValid (record c { windows = split_at window side size c.made c.windows; made = suc c.made })
+unfolding count
+split_valid c window side size valid held fit full =
+    let more : (v : ℕ) → times v (split_at window side size c.made c.windows) ≡ times v c.windows + times v (Window c.made false) =
+        λ v. replaced_more (times v) window (times v (Window c.made false)) (halves window side size c.made) (times-sum v) (λ n mode e. rw (same_number n window e) refl) c.windows held in
+    let grown : count (split_at window side size c.made c.windows) ≡ count c.windows + 1 =
+        replaced_more count window 1 (halves window side size c.made) count-sum (λ n mode e. refl) c.windows held in
+    let left = room_left c full in
+    record {
+      room = room-fits (split_at window side size c.made c.windows) (frame_of c) fit;
+      wide = valid.wide;
+      high = valid.high;
+      few = omega (arith, left.0);
+      made = omega (arith, left.1);
+      once = λ v. elim (own v c.made false) [
+        | inl e ↦ omega (arith, more v, one v c.made false, valid.known v (omega (arith, e)))
+        | inr e ↦ omega (arith, more v, e, valid.once v)
+      ];
+      known = λ v p. omega (arith, more v, none_above v c.made false (omega (arith, p)), valid.known v (omega (arith, p)));
+    }
+
+pub mode_valid : (c : Configuration) (window : ℕ) (shown : Bool) → IsValid c → holds window c.windows ≡ true → fits (with_mode window shown c.windows) (frame_of c) ≡ true → IsValid (record c { windows = with_mode window shown c.windows })
+unfolding count
+mode_valid c window shown valid held fit =
+    let same : (v : ℕ) → times v (with_mode window shown c.windows) ≡ times v c.windows + 0 =
+        λ v. replaced_more (times v) window 0 (λ _. Window window shown) (times-sum v) (λ n mode e. rw (same_number n window e) (omega arith)) c.windows held in
+    let kept : count (with_mode window shown c.windows) ≡ count c.windows + 0 =
+        replaced_more count window 0 (λ _. Window window shown) count-sum (λ n mode e. refl) c.windows held in
+    record {
+      room = room-fits (with_mode window shown c.windows) (frame_of c) fit;
+      wide = valid.wide;
+      high = valid.high;
+      few = omega (arith, valid.few);
+      made = valid.made;
+      once = λ v. omega (arith, same v, valid.once v);
+      known = λ v p. omega (arith, same v, valid.known v p);
+    }
+
+pub remove_valid : (c : Configuration) (window : ℕ) → IsValid c → holds window c.windows ≡ true → is_single c.windows ≡ false → IsValid (record c { windows = removed window c.windows (frame_of c) })
+unfolding count
+remove_valid c window valid held more =
+    let less : (v : ℕ) → times v (removed window c.windows (frame_of c)) + times v (Window window false) ≡ times v c.windows =
+        λ v. removed_less (times v) window (times v (Window window false)) (times-sum v) (λ n mode e. rw (same_number n window e) refl) c.windows (frame_of c) held more in
+    let fewer : count (removed window c.windows (frame_of c)) + 1 ≡ count c.windows =
+        removed_less count window 1 count-sum (λ n mode e. refl) c.windows (frame_of c) held more in
+    record {
+      room = removed_room window c.windows (frame_of c) valid.room;
+      wide = valid.wide;
+      high = valid.high;
+      few = omega (arith, valid.few);
+      made = valid.made;
+      once = λ v. omega (arith, less v, valid.once v);
+      known = λ v p. omega (arith, less v, valid.known v p);
+    }
+
+pub resize_valid : (c : Configuration) (width height : ℕ) → IsValid c → width ≤ 400 → height ≤ 200 → NeedsMet c.windows (frame width height) → IsValid (record c { windows = resized c.windows (frame width height); width = width; height = height })
+unfolding count
+resize_valid c width height valid w h needs =
+    let rect = frame width height in
+    let kept : count (resized c.windows rect) ≡ count c.windows = resized_same count count-sum c.windows rect in
+    record {
+      room = resized_room c.windows rect (room_first_parts c.windows (frame_of c) valid.room) needs;
+      wide = w;
+      high = h;
+      few = omega (arith, valid.few);
+      made = valid.made;
+      once = λ v. omega (arith, resized_same (times v) (times-sum v) c.windows rect, valid.once v);
+      known = λ v p. omega (arith, resized_same (times v) (times-sum v) c.windows rect, valid.known v p);
+    }
