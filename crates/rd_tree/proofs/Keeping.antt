@@ -9,11 +9,11 @@ use Rattle.rd_tree.specs.declared.placed.Placed.{Placed}
 use Rattle.rd_tree.specs.Windows.{Windows, Window, Split, rows_for, first_part, second_part, HasRoom, fits, NeedsMet, first_size, resized, leaves, placed, of_number, window_at, holds, replaced, halves, split_at, with_mode, is_window, is_single, removed, times}
 use Rattle.rd_tree.proofs.Rooms.{or_else, of_number-append, first_needs, second_needs, first_parts-first, room_first_parts, resized_room}
 
-and_left : (a b : Bool) → (a && b) ≡ true → a ≡ true
+pub and_left : (a b : Bool) → (a && b) ≡ true → a ≡ true
 and_left true b e = refl
 and_left false b e = e
 
-and_right : (a b : Bool) → (a && b) ≡ true → b ≡ true
+pub and_right : (a b : Bool) → (a && b) ≡ true → b ≡ true
 and_right true b e = e
 and_right false b e = absurd (cc)
 
@@ -27,12 +27,14 @@ fits-room (Split side size first second) rect h =
     and_both (fits first (first_part side size rect)) (fits second (second_part side size rect)) (fits-room first (first_part side size rect) h.0) (fits-room second (second_part side size rect) h.1)
 
 pub room-fits : (windows : Windows) (rect : Rect) → fits windows rect ≡ true → HasRoom windows rect
-room-fits (Window number mode) rect e =
-    (let p = and_left (nat_le 11 rect.width) (nat_le (rows_for mode) rect.height) e in grind (arith, nat_tests),
-    let p = and_right (nat_le 11 rect.width) (nat_le (rows_for mode) rect.height) e in grind (arith, nat_tests))
-room-fits (Split side size first second) rect e =
-    (room-fits first (first_part side size rect) (and_left (fits first (first_part side size rect)) (fits second (second_part side size rect)) e),
-    room-fits second (second_part side size rect) (and_right (fits first (first_part side size rect)) (fits second (second_part side size rect)) e))
+room-fits (Window number mode) rect e = (
+  let p = and_left (nat_le 11 rect.width) (nat_le (rows_for mode) rect.height) e in grind (arith, nat_tests),
+  let p = and_right (nat_le 11 rect.width) (nat_le (rows_for mode) rect.height) e in grind (arith, nat_tests),
+)
+room-fits (Split side size first second) rect e = (
+  room-fits first (first_part side size rect) (and_left (fits first (first_part side size rect)) (fits second (second_part side size rect)) e),
+  room-fits second (second_part side size rect) (and_right (fits first (first_part side size rect)) (fits second (second_part side size rect)) e),
+)
 
 is_some-test : (b : Bool) (window : Placed) → is_some (if b then Some window else None) ≡ b
 is_some-test true window = refl
@@ -113,7 +115,7 @@ window_has : (f : Windows → ℕ) (w d : ℕ) → ((n : ℕ) (mode : Bool) → 
 window_has f w d leaf (Window n mode) e = leaf n mode e
 window_has f w d leaf (Split side size first second) e = absurd (false≢true e)
 
-not_single : (w : ℕ) (windows : Windows) → is_window w windows ≡ false → holds w windows ≡ true → is_single windows ≡ false
+pub not_single : (w : ℕ) (windows : Windows) → is_window w windows ≡ false → holds w windows ≡ true → is_single windows ≡ false
 not_single w (Window n mode) p e = absurd (false≢true (sym p ∙ e))
 not_single w (Split side size first second) p e = refl
 

@@ -1,4 +1,6 @@
 pub mod Answering
 pub mod Keeping
 pub mod Rooms
+pub mod Standing
+pub mod Steps
 pub mod Validity

@@ -62,9 +62,9 @@ pub split_valid : (c : Configuration) (window : ℕ) (side : Side) (size : ℕ) 
 unfolding count
 split_valid c window side size valid held fit full =
     let more : (v : ℕ) → times v (split_at window side size c.made c.windows) ≡ times v c.windows + times v (Window c.made false) =
-        λ v. replaced_more (times v) window (times v (Window c.made false)) (halves window side size c.made) (times-sum v) (λ n mode e. rw (same_number n window e) refl) c.windows held in
+    λ v. replaced_more (times v) window (times v (Window c.made false)) (halves window side size c.made) (times-sum v) (λ n mode e. rw (same_number n window e) refl) c.windows held in
     let grown : count (split_at window side size c.made c.windows) ≡ count c.windows + 1 =
-        replaced_more count window 1 (halves window side size c.made) count-sum (λ n mode e. refl) c.windows held in
+    replaced_more count window 1 (halves window side size c.made) count-sum (λ n mode e. refl) c.windows held in
     let left = room_left c full in
     record {
       room = room-fits (split_at window side size c.made c.windows) (frame_of c) fit;
@@ -83,9 +83,9 @@ pub mode_valid : (c : Configuration) (window : ℕ) (shown : Bool) → IsValid c
 unfolding count
 mode_valid c window shown valid held fit =
     let same : (v : ℕ) → times v (with_mode window shown c.windows) ≡ times v c.windows + 0 =
-        λ v. replaced_more (times v) window 0 (λ _. Window window shown) (times-sum v) (λ n mode e. rw (same_number n window e) (omega arith)) c.windows held in
+    λ v. replaced_more (times v) window 0 (λ _. Window window shown) (times-sum v) (λ n mode e. rw (same_number n window e) (omega arith)) c.windows held in
     let kept : count (with_mode window shown c.windows) ≡ count c.windows + 0 =
-        replaced_more count window 0 (λ _. Window window shown) count-sum (λ n mode e. refl) c.windows held in
+    replaced_more count window 0 (λ _. Window window shown) count-sum (λ n mode e. refl) c.windows held in
     record {
       room = room-fits (with_mode window shown c.windows) (frame_of c) fit;
       wide = valid.wide;
@@ -100,9 +100,9 @@ pub remove_valid : (c : Configuration) (window : ℕ) → IsValid c → holds wi
 unfolding count
 remove_valid c window valid held more =
     let less : (v : ℕ) → times v (removed window c.windows (frame_of c)) + times v (Window window false) ≡ times v c.windows =
-        λ v. removed_less (times v) window (times v (Window window false)) (times-sum v) (λ n mode e. rw (same_number n window e) refl) c.windows (frame_of c) held more in
+    λ v. removed_less (times v) window (times v (Window window false)) (times-sum v) (λ n mode e. rw (same_number n window e) refl) c.windows (frame_of c) held more in
     let fewer : count (removed window c.windows (frame_of c)) + 1 ≡ count c.windows =
-        removed_less count window 1 count-sum (λ n mode e. refl) c.windows (frame_of c) held more in
+    removed_less count window 1 count-sum (λ n mode e. refl) c.windows (frame_of c) held more in
     record {
       room = removed_room window c.windows (frame_of c) valid.room;
       wide = valid.wide;

@@ -9,9 +9,10 @@ find-requires t c =
     let a = shape s.first.value in
     let b = shape s.second.value in
     let room = rw c.in-Split.is at c.requires.room in
-    let within = room_within s.side s.size a b c.args.rect room in
-    (rw c.deref.ensures (fewer_first a b t (rw c.in-Split.is at c.decreases)),
-    (rw (c.first_part.ensures, c.deref.ensures) room.0, rw c.first_part.ensures (first_in_frame s.side s.size c.args.rect c.requires.inside within)))
+    let within = room_within s.side s.size a b c.args.rect room in (
+      rw c.deref.ensures (fewer_first a b t (rw c.in-Split.is at c.decreases)),
+      (rw (c.first_part.ensures, c.deref.ensures) room.0, rw c.first_part.ensures (first_in_frame s.side s.size c.args.rect c.requires.inside within)),
+    )
 
 pub second_part-requires-clause-within : goal.second_part-requires-clause-within
 second_part-requires-clause-within t c =
@@ -24,9 +25,10 @@ find-requires-in-None t c =
     let a = shape s.first.value in
     let b = shape s.second.value in
     let room = rw c.in-Split.is at c.requires.room in
-    let within = room_within s.side s.size a b c.args.rect room in
-    (rw c.deref-in-None.ensures (fewer_second a b t (rw c.in-Split.is at c.decreases)),
-    (rw (c.second_part.ensures, c.deref-in-None.ensures) room.1, rw c.second_part.ensures (second_in_frame s.side s.size c.args.rect c.requires.inside within)))
+    let within = room_within s.side s.size a b c.args.rect room in (
+      rw c.deref-in-None.ensures (fewer_second a b t (rw c.in-Split.is at c.decreases)),
+      (rw (c.second_part.ensures, c.deref-in-None.ensures) room.1, rw c.second_part.ensures (second_in_frame s.side s.size c.args.rect c.requires.inside within)),
+    )
 
 pub returns-in-None : goal.returns-in-None
 returns-in-None t c =

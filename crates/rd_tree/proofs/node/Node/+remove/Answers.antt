@@ -37,9 +37,10 @@ remove-requires t c =
     let a = shape s.first.value in
     let b = shape s.second.value in
     let room = rw c.in-Split.is at c.requires.room in
-    let within = room_within s.side s.size a b c.args.rect room in
-    (rw c.deref_mut-then-holds.ensures.value (fewer_first a b t (rw c.in-Split.is at c.decreases)),
-    (rw (c.first_part.ensures, c.deref_mut-then-holds.ensures.value) room.0, rw c.first_part.ensures (first_in_frame s.side s.size c.args.rect c.requires.inside within)))
+    let within = room_within s.side s.size a b c.args.rect room in (
+      rw c.deref_mut-then-holds.ensures.value (fewer_first a b t (rw c.in-Split.is at c.decreases)),
+      (rw (c.first_part.ensures, c.deref_mut-then-holds.ensures.value) room.0, rw c.first_part.ensures (first_in_frame s.side s.size c.args.rect c.requires.inside within)),
+    )
 
 pub second_part-requires-clause-within : goal.second_part-requires-clause-within
 second_part-requires-clause-within t c =
@@ -52,6 +53,7 @@ remove-requires-else-holds t c =
     let a = shape s.first.value in
     let b = shape s.second.value in
     let room = rw c.in-Split.is at c.requires.room in
-    let within = room_within s.side s.size a b c.args.rect room in
-    (rw c.deref_mut-else-holds.ensures.value (fewer_second a b t (rw c.in-Split.is at c.decreases)),
-    (rw (c.second_part.ensures, c.deref_mut-else-holds.ensures.value) room.1, rw c.second_part.ensures (second_in_frame s.side s.size c.args.rect c.requires.inside within)))
+    let within = room_within s.side s.size a b c.args.rect room in (
+      rw c.deref_mut-else-holds.ensures.value (fewer_second a b t (rw c.in-Split.is at c.decreases)),
+      (rw (c.second_part.ensures, c.deref_mut-else-holds.ensures.value) room.1, rw c.second_part.ensures (second_in_frame s.side s.size c.args.rect c.requires.inside within)),
+    )

@@ -28,10 +28,10 @@ returns-then-count-ge-MOST_WINDOWS c =
     let room = split_room (configuration_of c.self.inside) c.args.window c.args.side c.args.size c.in-Some.old c.self.invariant.room found in
     let fits = room ∙ (sym c.takes_split.ensures ∙ c.if-not-takes_split.false) in
     let full : is_full (configuration_of c.self.inside) ≡ true =
-        elim c.then-count-ge-MOST_WINDOWS.branch [
-          | then-count-ge-MOST_WINDOWS-via-then-count-ge-MOST_WINDOWS w ↦ full_of_windows (configuration_of c.self.inside) (omega (arith, c.count.ensures, w.if-count-ge-MOST_WINDOWS.true))
-          | then-count-ge-MOST_WINDOWS-via-else-count-ge-MOST_WINDOWS+then-self w ↦ full_of_numbers (configuration_of c.self.inside) (omega (arith, w.if-self.true))
-        ] in
+    elim c.then-count-ge-MOST_WINDOWS.branch [
+      | then-count-ge-MOST_WINDOWS-via-then-count-ge-MOST_WINDOWS w ↦ full_of_windows (configuration_of c.self.inside) (omega (arith, c.count.ensures, w.if-count-ge-MOST_WINDOWS.true))
+      | then-count-ge-MOST_WINDOWS-via-else-count-ge-MOST_WINDOWS+then-self w ↦ full_of_numbers (configuration_of c.self.inside) (omega (arith, w.if-self.true))
+    ] in
     (refl, rw (← c.self.view_is) (split_many (configuration_of c.self.inside) c.args.window c.args.side c.args.size held fits full))
 
 pub invariant_of-self-2 : goal.invariant_of-self-2

@@ -1,0 +1,271 @@
+-- Where windows stand.
+use Rattle.std.proofs.Common.{◌≡◌, ℕ, ◌+◌, ◌-◌, ◌≤◌, ◌<◌, max, Bool, true, false, if◌then◌else◌, ◌==◌, ◌&&◌, ◌||◌, nat_le, List, [], ◌∷◌, ◌++◌, append_assoc, append-nil, map, Option, None, Some, ◌⊎◌, inl, inr, refl, sym, ap, ◌∙◌, arith}
+use Rattle.std.specs.Prelude.{is_some, nat_lt}
+use Rattle.std.proofs.lemmas.Bool.Decides.{nat_tests}
+use Rattle.rd_tree.specs.declared.rect.Rect.{Rect}
+use Rattle.rd_tree.specs.declared.side.Side.{Side}
+use Rattle.rd_tree.specs.declared.side.Side.TheVariants.{Below, Right}
+use Rattle.rd_tree.specs.declared.placed.Placed.{Placed}
+use Rattle.rd_tree.specs.Windows.{Windows, Window, Split, rows_for, columns_needed, rows_needed, first_part, second_part, HasRoom, NeedsMet, first_size, resized, leaves, placed, of_number, window_at, holds, replaced, is_window, is_single, sibling, removed, times}
+use Rattle.rd_tree.specs.Places.{is_from, lies_in, one_if, windows_with, AllHaveRoom, in_place_of, without, is_among}
+use Rattle.rd_tree.proofs.Rooms.{room_needs, room_within, or_else, of_number-append}
+use Rattle.rd_tree.proofs.Keeping.{bool_cases, found_held, not_single}
+
+or_assoc : (a b c : Bool) → (a || (b || c)) ≡ ((a || b) || c)
+or_assoc true b c = refl
+or_assoc false b c = refl
+
+or_no : (a : Bool) → a ≡ (a || false)
+or_no true = refl
+or_no false = refl
+
+true≢false : true ≡ false → ⊥
+true≢false e = cc
+
+-- a place in a range that is cut is in one of the two parts
+is_from-cut : (first size whole place : ℕ) → size ≤ whole → one_if (is_from first size place) + one_if (is_from (first + size) (whole - size) place) ≡ one_if (is_from first whole place)
+is_from-cut first size whole place h = grind (arith, nat_tests)
+
+one_if-and : (a b c other : Bool) → one_if a + one_if b ≡ one_if c → one_if (a && other) + one_if (b && other) ≡ one_if (c && other)
+one_if-and true true true true e = e
+one_if-and true true true false e = refl
+one_if-and true true false true e = e
+one_if-and true true false false e = refl
+one_if-and true false true true e = e
+one_if-and true false true false e = refl
+one_if-and true false false true e = e
+one_if-and true false false false e = refl
+one_if-and false true true true e = e
+one_if-and false true true false e = refl
+one_if-and false true false true e = e
+one_if-and false true false false e = refl
+one_if-and false false true true e = e
+one_if-and false false true false e = refl
+one_if-and false false false true e = e
+one_if-and false false false false e = refl
+
+and_one_if : (other a b c : Bool) → one_if a + one_if b ≡ one_if c → one_if (other && a) + one_if (other && b) ≡ one_if (other && c)
+and_one_if true a b c e = e
+and_one_if false a b c e = refl
+
+parts_hold : (column row : ℕ) (side : Side) (size : ℕ) (first second : Windows) (rect : Rect) → HasRoom (Split side size first second) rect → one_if (lies_in column row (first_part side size rect)) + one_if (lies_in column row (second_part side size rect)) ≡ one_if (lies_in column row rect)
+parts_hold column row Right size first second rect h =
+    one_if-and (is_from rect.x size column) (is_from (rect.x + size) (rect.width - size) column) (is_from rect.x rect.width column) (is_from rect.y rect.height row)
+    (is_from-cut rect.x size rect.width column (room_within Right size first second rect h))
+parts_hold column row Below size first second rect h =
+    and_one_if (is_from rect.x rect.width column) (is_from rect.y size row) (is_from (rect.y + size) (rect.height - size) row) (is_from rect.y rect.height row)
+    (is_from-cut rect.y size rect.height row (room_within Below size first second rect h))
+
+windows_with-append : (column row : ℕ) (xs ys : List Placed) → windows_with column row (xs ++ ys) ≡ windows_with column row xs + windows_with column row ys
+windows_with-append column row [] ys = omega arith
+windows_with-append column row (window ∷ xs) ys = omega (arith, windows_with-append column row xs ys)
+
+-- each cell of the rectangle lies in one window, and no other cell does
+pub one_window : (windows : Windows) (rect : Rect) → HasRoom windows rect → (column row : ℕ) → windows_with column row (placed windows rect) ≡ one_if (lies_in column row rect)
+one_window (Window number mode) rect h column row = omega arith
+one_window (Split side size first second) rect h column row =
+    let a = first_part side size rect in
+    let b = second_part side size rect in
+    omega (arith, windows_with-append column row (placed first a) (placed second b), one_window first a h.0 column row, one_window second b h.1 column row, parts_hold column row side size first second rect h)
+
+listed-append : (xs ys : List Placed) → map (λ (window : Placed). window.number) (xs ++ ys) ≡ map (λ (window : Placed). window.number) xs ++ map (λ (window : Placed). window.number) ys
+listed-append [] ys = refl
+listed-append (window ∷ xs) ys = ap (λ (zs : List ℕ). window.number ∷ zs) (listed-append xs ys)
+
+pub listed : (windows : Windows) (rect : Rect) → map (λ (window : Placed). window.number) (placed windows rect) ≡ leaves windows
+listed (Window number mode) rect = refl
+listed (Split side size first second) rect =
+    let a = first_part side size rect in
+    let b = second_part side size rect in
+    rw (listed-append (placed first a) (placed second b), listed first a, listed second b) refl
+
+all_room-append : (xs ys : List Placed) → AllHaveRoom xs → AllHaveRoom ys → AllHaveRoom (xs ++ ys)
+all_room-append [] ys p q = q
+all_room-append (window ∷ xs) ys p q = (p.0, p.1, all_room-append xs ys p.2 q)
+
+pub all_room : (windows : Windows) (rect : Rect) → HasRoom windows rect → AllHaveRoom (placed windows rect)
+all_room (Window number mode) rect h = (h.0, h.1, tt)
+all_room (Split side size first second) rect h =
+    let a = first_part side size rect in
+    let b = second_part side size rect in
+    all_room-append (placed first a) (placed second b) (all_room first a h.0) (all_room second b h.1)
+
+-- others in place of a window that stands among the first windows, or behind them
+skip_none : (b : Bool) (window : Placed) (o : Option Placed) → (if b then Some window else o) ≡ None → (b ≡ false) × (o ≡ None)
+skip_none true window o e = absurd (cc)
+skip_none false window o e = (refl, e)
+
+in_place-back : (w : ℕ) (others : Placed → List Placed) (xs ys : List Placed) → of_number w xs ≡ None → in_place_of w others (xs ++ ys) ≡ xs ++ in_place_of w others ys
+in_place-back w others [] ys e = refl
+in_place-back w others (window ∷ xs) ys e =
+    let s = skip_none (window.number == w) window (of_number w xs) e in
+    rw s.0 (ap (λ (zs : List Placed). window ∷ zs) (in_place-back w others xs ys s.1))
+
+in_place-front : (w : ℕ) (others : Placed → List Placed) (xs ys : List Placed) → is_some (of_number w xs) ≡ true → in_place_of w others (xs ++ ys) ≡ in_place_of w others xs ++ ys
+in_place-front w others [] ys e = absurd (cc)
+in_place-front w others (window ∷ xs) ys e =
+    elim (bool_cases (window.number == w)) [
+      | inl p ↦ rw (p, append_assoc) refl
+      | inr p ↦ rw p (ap (λ (zs : List Placed). window ∷ zs) (in_place-front w others xs ys (rw p at e)))
+    ]
+
+none_of : (o : Option Placed) → is_some o ≡ false → o ≡ None
+none_of None e = refl
+none_of (Some window) e = absurd (cc)
+
+at_place : (b : Bool) (others : Placed → List Placed) (other same : Windows) (rect : Rect) (window : Placed) → placed other rect ≡ others window → placed same rect ≡ window ∷ [] → placed (if b then other else same) rect ≡ (if b then others window ++ [] else window ∷ [])
+at_place true others other same rect window e s = rw e (sym (append-nil (others window)))
+at_place false others other same rect window e s = s
+
+-- where something else stands for a window, each other window stays where it is
+pub replaced_places : (w : ℕ) (other : Bool → Windows) (windows : Windows) (rect : Rect) → placed (replaced w other windows) rect ≡ in_place_of w (λ window. placed (other window.mode) window.rect) (placed windows rect)
+replaced_places w other (Window number mode) rect =
+    at_place (number == w) (λ window. placed (other window.mode) window.rect) (other mode) (Window number mode) rect (record { number = number; mode = mode; rect = rect }) refl refl
+replaced_places w other (Split side size first second) rect =
+    let a = first_part side size rect in
+    let b = second_part side size rect in
+    elim (bool_cases (holds w first)) [
+      | inl p ↦ rw (p, in_place-front w (λ window. placed (other window.mode) window.rect) (placed first a) (placed second b) (found_held w first a ∙ p)) (ap (λ (zs : List Placed). zs ++ placed second b) (replaced_places w other first a))
+      | inr p ↦ rw (p, in_place-back w (λ window. placed (other window.mode) window.rect) (placed first a) (placed second b) (none_of (window_at w first a) (found_held w first a ∙ p))) (ap (λ (zs : List Placed). placed first a ++ zs) (replaced_places w other second b))
+    ]
+
+-- the windows of a rectangle that is shared anew are the same in the same order
+pub resized_leaves : (windows : Windows) (rect : Rect) → leaves (resized windows rect) ≡ leaves windows
+resized_leaves (Window number mode) rect = refl
+resized_leaves (Split side size first second) rect =
+    let new = first_size side size second rect in
+    rw (resized_leaves first (first_part side new rect), resized_leaves second (second_part side new rect)) refl
+
+same_size : (side : Side) (size : ℕ) (first second : Windows) (rect : Rect) → HasRoom (Split side size first second) rect → first_size side size second rect ≡ size
+same_size Right size first second rect h =
+    let b = room_needs second (second_part Right size rect) h.1 in
+    let w = room_within Right size first second rect h in
+    omega arith
+same_size Below size first second rect h =
+    let b = room_needs second (second_part Below size rect) h.1 in
+    let w = room_within Below size first second rect h in
+    omega arith
+
+-- sharing the same rectangle anew changes nothing
+pub resized_same_place : (windows : Windows) (rect : Rect) → HasRoom windows rect → resized windows rect ≡ windows
+resized_same_place (Window number mode) rect h = refl
+resized_same_place (Split side size first second) rect h =
+    rw (same_size side size first second rect h, resized_same_place first (first_part side size rect) h.0, resized_same_place second (second_part side size rect) h.1) refl
+
+among-append : (n : ℕ) (xs ys : List ℕ) → is_among n (xs ++ ys) ≡ (is_among n xs || is_among n ys)
+among-append n [] ys = refl
+among-append n (x ∷ xs) ys = ap (λ (b : Bool). x == n || b) (among-append n xs ys) ∙ or_assoc (x == n) (is_among n xs) (is_among n ys)
+
+-- a window is one of those whose numbers are listed
+pub held_among : (n : ℕ) (windows : Windows) → holds n windows ≡ is_among n (leaves windows)
+held_among n (Window number mode) = or_no (number == n)
+held_among n (Split side size first second) = rw (held_among n first, held_among n second) (sym (among-append n (leaves first) (leaves second)))
+
+pub resized_held : (n : ℕ) (windows : Windows) (rect : Rect) → holds n (resized windows rect) ≡ holds n windows
+resized_held n windows rect = held_among n (resized windows rect) ∙ (ap (is_among n) (resized_leaves windows rect) ∙ sym (held_among n windows))
+
+without-front : (n : ℕ) (xs ys : List ℕ) → is_among n xs ≡ true → without n (xs ++ ys) ≡ without n xs ++ ys
+without-front n [] ys e = absurd (cc)
+without-front n (x ∷ xs) ys e =
+    elim (bool_cases (x == n)) [
+      | inl p ↦ rw p refl
+      | inr p ↦ rw p (ap (λ (zs : List ℕ). x ∷ zs) (without-front n xs ys (rw p at e)))
+    ]
+
+without-back : (n : ℕ) (xs ys : List ℕ) → is_among n xs ≡ false → without n (xs ++ ys) ≡ xs ++ without n ys
+without-back n [] ys e = refl
+without-back n (x ∷ xs) ys e =
+    elim (bool_cases (x == n)) [
+      | inl p ↦ absurd (true≢false (rw p at e))
+      | inr p ↦ rw p (ap (λ (zs : List ℕ). x ∷ zs) (without-back n xs ys (rw p at e)))
+    ]
+
+window_without : (n : ℕ) (windows : Windows) (numbers : List ℕ) → is_window n windows ≡ true → without n (leaves windows ++ numbers) ≡ numbers
+window_without n (Window number mode) numbers e = rw e refl
+window_without n (Split side size first second) numbers e = absurd (cc)
+
+window_held : (n : ℕ) (windows : Windows) → is_window n windows ≡ true → holds n windows ≡ true
+window_held n (Window number mode) e = e
+window_held n (Split side size first second) e = absurd (cc)
+
+held_times : (n : ℕ) (windows : Windows) → holds n windows ≡ true → 1 ≤ times n windows
+held_times n (Window number mode) e = rw e (omega arith)
+held_times n (Split side size first second) e =
+    elim (bool_cases (holds n first)) [
+      | inl p ↦ omega (arith, held_times n first p)
+      | inr p ↦ omega (arith, held_times n second (rw p at e))
+    ]
+
+-- a window that stands in the second part does not stand in the first too
+once_in_first : (n : ℕ) (first second : Windows) → times n first + times n second ≤ 1 → holds n second ≡ true → holds n first ≡ false
+once_in_first n first second once e =
+    elim (bool_cases (holds n first)) [
+      | inl p ↦ absurd (omega (arith, held_times n first p, held_times n second e))
+      | inr p ↦ p
+    ]
+
+held_behind : (n : ℕ) (first second : Windows) → (holds n first || holds n second) ≡ true → holds n first ≡ false → holds n second ≡ true
+held_behind n first second e p = rw p at e
+
+-- a removal takes one number away
+pub removed_leaves : (n : ℕ) (windows : Windows) (rect : Rect) → times n windows ≤ 1 → holds n windows ≡ true → is_single windows ≡ false → leaves (removed n windows rect) ≡ without n (leaves windows)
+removed_leaves n (Window number mode) rect once e s = absurd (cc)
+removed_leaves n (Split side size first second) rect once e s =
+    elim (bool_cases (is_window n first)) [
+      | inl p ↦ rw (p, resized_leaves second rect, window_without n first (leaves second) p) refl
+      | inr p ↦ elim (bool_cases (is_window n second)) [
+        | inl q ↦
+            let away : is_among n (leaves first) ≡ false = sym (held_among n first) ∙ once_in_first n first second once (window_held n second q) in
+            rw (p, q, resized_leaves first rect, without-back n (leaves first) (leaves second) away)
+            (sym (ap (λ (zs : List ℕ). leaves first ++ zs) (ap (without n) (sym (append-nil (leaves second))) ∙ window_without n second [] q) ∙ append-nil (leaves first)))
+        | inr q ↦ elim (bool_cases (holds n first)) [
+          | inl h ↦
+              let among : is_among n (leaves first) ≡ true = sym (held_among n first) ∙ h in
+              rw (p, q, h, without-front n (leaves first) (leaves second) among)
+              (ap (λ (zs : List ℕ). zs ++ leaves second) (removed_leaves n first (first_part side size rect) (omega arith) h (not_single n first p h)))
+          | inr h ↦
+              let k = held_behind n first second e h in
+              let away : is_among n (leaves first) ≡ false = sym (held_among n first) ∙ h in
+              rw (p, q, h, without-back n (leaves first) (leaves second) away)
+              (ap (λ (zs : List ℕ). leaves first ++ zs) (removed_leaves n second (second_part side size rect) (omega arith) k (not_single n second q k)))
+        ]
+      ]
+    ]
+
+not_found : (v : ℕ) (windows : Windows) (rect : Rect) → holds v windows ≡ false → window_at v windows rect ≡ None
+not_found v windows rect e = none_of (window_at v windows rect) (found_held v windows rect ∙ e)
+
+other_window : (v n : ℕ) (windows : Windows) → is_window n windows ≡ true → (v == n) ≡ false → holds v windows ≡ false
+other_window v n (Window number mode) e d = grind (arith, nat_tests)
+other_window v n (Split side size first second) e d = absurd (cc)
+
+two_lists : (v : ℕ) (side : Side) (size : ℕ) (first second : Windows) (rect : Rect) → window_at v (Split side size first second) rect ≡ or_else (window_at v first (first_part side size rect)) (window_at v second (second_part side size rect))
+two_lists v side size first second rect = of_number-append v (placed first (first_part side size rect)) (placed second (second_part side size rect))
+
+neither_found : (v : ℕ) (side : Side) (size : ℕ) (first second : Windows) (rect : Rect) → holds v first ≡ false → holds v second ≡ false → window_at v (Split side size first second) rect ≡ None
+neither_found v side size first second rect p q = not_found v (Split side size first second) rect (rw (p, q) refl)
+
+-- a removal leaves each window that is not in the sibling where it is
+pub removed_others : (v n : ℕ) (windows : Windows) (rect : Rect) → (v == n) ≡ false → holds v (sibling n windows) ≡ false → window_at v (removed n windows rect) rect ≡ window_at v windows rect
+removed_others v n (Window number mode) rect d e = refl
+removed_others v n (Split side size first second) rect d e =
+    let a = first_part side size rect in
+    let b = second_part side size rect in
+    elim (bool_cases (is_window n first)) [
+      | inl p ↦
+          let away : holds v second ≡ false = rw p at e in
+          rw p (not_found v (resized second rect) rect (resized_held v second rect ∙ away) ∙ sym (neither_found v side size first second rect (other_window v n first p d) away))
+      | inr p ↦ elim (bool_cases (is_window n second)) [
+        | inl q ↦
+            let away : holds v first ≡ false = rw (p, q) at e in
+            rw (p, q) (not_found v (resized first rect) rect (resized_held v first rect ∙ away) ∙ sym (neither_found v side size first second rect away (other_window v n second q d)))
+        | inr q ↦ elim (bool_cases (holds n first)) [
+          | inl h ↦
+              let away : holds v (sibling n first) ≡ false = rw (p, q, h) at e in
+              rw (p, q, h) (two_lists v side size (removed n first a) second rect ∙ (ap (λ (o : Option Placed). or_else o (window_at v second b)) (removed_others v n first a d away) ∙ sym (two_lists v side size first second rect)))
+          | inr h ↦
+              let away : holds v (sibling n second) ≡ false = rw (p, q, h) at e in
+              rw (p, q, h) (two_lists v side size first (removed n second b) rect ∙ (ap (λ (o : Option Placed). or_else (window_at v first a) o) (removed_others v n second b d away) ∙ sym (two_lists v side size first second rect)))
+        ]
+      ]
+    ]

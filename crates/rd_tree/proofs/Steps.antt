@@ -1,0 +1,63 @@
+-- What each call leaves is valid.
+use Rattle.std.proofs.Common.{◌≡◌, ℕ, suc, ◌+◌, ◌≤◌, Bool, true, false, if◌then◌else◌, ◌&&◌, ◌||◌, nat_le, length, Result, Ok, Err, ◌⊎◌, inl, inr, refl, sym, ap, subst, ◌∙◌, arith}
+use Rattle.std.proofs.lemmas.Bool.Decides.{nat_tests}
+use Rattle.rd_tree.specs.declared.side.Side.{Side}
+use Rattle.rd_tree.specs.declared.fault.TreeFault.{TreeFault}
+use Rattle.rd_tree.specs.declared.fault.TreeFault.TheVariants.{NoWindow, TooSmall, TooMany, LastWindow}
+use Rattle.rd_tree.specs.Windows.{Windows, columns_needed, rows_needed, NeedsMet, fits, holds, leaves, is_single, resized, removed, split_at, with_mode}
+use Rattle.rd_tree.specs.Calls.{Configuration, IsValid, frame, frame_of, is_full, split_to, split_tree, remove_tree, resize_tree, mode_to, mode_tree}
+use Rattle.rd_tree.proofs.Keeping.{bool_cases, and_left, and_right}
+use Rattle.rd_tree.proofs.Answering.{split_small, split_many, split_done, mode_small, mode_done}
+use Rattle.rd_tree.proofs.Validity.{split_valid, remove_valid, resize_valid, mode_valid}
+
+left_valid : (said : Result Configuration TreeFault) (a d : Configuration) → said ≡ Ok a → said ≡ Ok d → IsValid a → IsValid d
+left_valid said a d p q v = let s : a ≡ d = cc in subst IsValid s v
+
+refused : (said : Result Configuration TreeFault) (fault : TreeFault) (d : Configuration) → said ≡ Err fault → said ≡ Ok d → IsValid d
+refused said fault d p q = absurd (cc)
+
+pub split_keeps : (c d : Configuration) (w : ℕ) (side : Side) (size : ℕ) → IsValid c → split_tree c w side size ≡ Ok d → IsValid d
+split_keeps c d w side size valid said =
+    elim (bool_cases (holds w c.windows)) [
+      | inr h ↦ refused (split_tree c w side size) NoWindow d (rw h refl) said
+      | inl h ↦ elim (bool_cases (fits (split_at w side size c.made c.windows) (frame_of c))) [
+        | inr f ↦ refused (split_tree c w side size) TooSmall d (split_small c w side size h f) said
+        | inl f ↦ elim (bool_cases (is_full c)) [
+          | inl n ↦ refused (split_tree c w side size) TooMany d (split_many c w side size h f n) said
+          | inr n ↦ left_valid (split_tree c w side size) _ d (split_done c w side size h f n) said (split_valid c w side size valid h f n)
+        ]
+      ]
+    ]
+
+pub remove_keeps : (c d : Configuration) (w : ℕ) → IsValid c → remove_tree c w ≡ Ok d → IsValid d
+remove_keeps c d w valid said =
+    elim (bool_cases (holds w c.windows)) [
+      | inr h ↦ refused (remove_tree c w) NoWindow d (rw h refl) said
+      | inl h ↦ elim (bool_cases (is_single c.windows)) [
+        | inl s ↦ refused (remove_tree c w) LastWindow d (rw (h, s) refl) said
+        | inr s ↦ left_valid (remove_tree c w) (record c { windows = removed w c.windows (frame_of c) }) d (rw (h, s) refl) said (remove_valid c w valid h s)
+      ]
+    ]
+
+met : (c : Configuration) (width height : ℕ) → (nat_le (columns_needed c.windows) width && nat_le (rows_needed c.windows) height) ≡ true → NeedsMet c.windows (frame width height)
+met c width height e = (
+  let p = and_left (nat_le (columns_needed c.windows) width) (nat_le (rows_needed c.windows) height) e in grind (arith, nat_tests),
+  let p = and_right (nat_le (columns_needed c.windows) width) (nat_le (rows_needed c.windows) height) e in grind (arith, nat_tests),
+)
+
+pub resize_keeps : (c d : Configuration) (width height : ℕ) → width ≤ 400 → height ≤ 200 → IsValid c → resize_tree c width height ≡ Ok d → IsValid d
+resize_keeps c d width height w h valid said =
+    elim (bool_cases (nat_le (columns_needed c.windows) width && nat_le (rows_needed c.windows) height)) [
+      | inr n ↦ refused (resize_tree c width height) TooSmall d (rw n refl) said
+      | inl n ↦ left_valid (resize_tree c width height) (record c { windows = resized c.windows (frame width height); width = width; height = height }) d (rw n refl) said (resize_valid c width height valid w h (met c width height n))
+    ]
+
+pub mode_keeps : (c d : Configuration) (w : ℕ) (shown : Bool) → IsValid c → mode_tree c w shown ≡ Ok d → IsValid d
+mode_keeps c d w shown valid said =
+    elim (bool_cases (holds w c.windows)) [
+      | inr h ↦ refused (mode_tree c w shown) NoWindow d (rw h refl) said
+      | inl h ↦ elim (bool_cases (fits (with_mode w shown c.windows) (frame_of c))) [
+        | inr f ↦ refused (mode_tree c w shown) TooSmall d (mode_small c w shown h f) said
+        | inl f ↦ left_valid (mode_tree c w shown) _ d (mode_done c w shown h f) said (mode_valid c w shown valid h f)
+      ]
+    ]

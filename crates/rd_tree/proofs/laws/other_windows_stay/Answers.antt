@@ -1,0 +1,11 @@
+use Rattle.rd_tree.specs.Windows.{Window, halves}
+use Rattle.rd_tree.proofs.Standing.{replaced_places, removed_leaves, removed_others}
+use Rattle.rd_tree.proofs.laws.other_windows_stay.Goals as goal
+
+pub returns : goal.returns
+returns c = record {
+  split = λ number side size new windows rect. replaced_places number (halves number side size new) windows rect;
+  mode = λ number shown windows rect. replaced_places number (λ _. Window number shown) windows rect;
+  removed = removed_leaves;
+  others = removed_others;
+}

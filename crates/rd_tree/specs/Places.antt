@@ -1,0 +1,41 @@
+-- Where windows stand: what the laws of a window tree speak of.
+use Rattle.std.specs.Prelude.{ℕ, ◌+◌, ◌≤◌, Bool, false, if◌then◌else◌, nat_le, nat_lt, ◌==◌, ◌&&◌, ◌||◌, List, [], ◌∷◌, ◌++◌}
+use Rattle.rd_tree.specs.declared.rect.Rect.{Rect}
+use Rattle.rd_tree.specs.declared.placed.Placed.{Placed}
+use Rattle.rd_tree.specs.Windows.{rows_for}
+
+-- whether a place is one of so many from the first on
+abbrev pub is_from : ℕ → ℕ → ℕ → Bool
+is_from first size place = nat_le first place && nat_lt place (first + size)
+
+-- whether the cell at a column and a row lies in a rectangle
+abbrev pub lies_in : ℕ → ℕ → Rect → Bool
+lies_in column row rect = is_from rect.x rect.width column && is_from rect.y rect.height row
+
+abbrev pub one_if : Bool → ℕ
+one_if test = if test then 1 else 0
+
+-- in how many of the windows a cell lies
+abbrev pub windows_with : ℕ → ℕ → List Placed → ℕ
+windows_with column row [] = 0
+windows_with column row (window ∷ windows) = one_if (lies_in column row window.rect) + windows_with column row windows
+
+-- each window has the columns and rows that it needs
+abbrev pub AllHaveRoom : List Placed → Type 0
+AllHaveRoom [] = Unit {0}
+AllHaveRoom (window ∷ windows) = (11 ≤ window.rect.width) × (rows_for window.mode ≤ window.rect.height) × AllHaveRoom windows
+
+-- the windows where others stand for the first that has a number
+abbrev pub in_place_of : ℕ → (Placed → List Placed) → List Placed → List Placed
+in_place_of number others [] = []
+in_place_of number others (window ∷ windows) = if window.number == number then others window ++ windows else window ∷ in_place_of number others windows
+
+-- the numbers without the first that is the given one
+abbrev pub without : ℕ → List ℕ → List ℕ
+without number [] = []
+without number (n ∷ numbers) = if n == number then numbers else n ∷ without number numbers
+
+-- whether a number is among some
+abbrev pub is_among : ℕ → List ℕ → Bool
+is_among number [] = false
+is_among number (n ∷ numbers) = n == number || is_among number numbers
