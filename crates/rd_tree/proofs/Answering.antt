@@ -1,13 +1,12 @@
 -- What the calls say, from the window that was found.
-use Rattle.std.proofs.Common.{◌≡◌, ℕ, suc, ◌+◌, ◌≤◌, ◌<◌, Bool, true, false, if◌then◌else◌, ◌||◌, nat_le, length, Option, None, Some, Result, Ok, Err, refl, sym, ap, ◌∙◌, arith}
+use Rattle.std.proofs.Common.{◌≡◌, ℕ, suc, ◌≤◌, ◌<◌, Bool, true, false, ◌||◌, nat_le, length, None, Some, Ok, Err, refl, sym, ap, ◌∙◌, arith}
 use Rattle.std.specs.Prelude.{is_some}
 use Rattle.std.proofs.lemmas.Bool.Decides.{nat_tests}
 use Rattle.rd_tree.specs.declared.side.Side.{Side}
 use Rattle.rd_tree.specs.declared.placed.Placed.{Placed}
-use Rattle.rd_tree.specs.declared.fault.TreeFault.{TreeFault}
 use Rattle.rd_tree.specs.declared.fault.TreeFault.TheVariants.{NoWindow, TooSmall, TooMany}
-use Rattle.rd_tree.specs.Windows.{Windows, Window, Split, HasRoom, fits, leaves, window_at, holds, halves, split_at, with_mode}
-use Rattle.rd_tree.specs.Calls.{Configuration, frame_of, is_full, split_to, split_tree, mode_to, mode_tree}
+use Rattle.rd_tree.specs.Windows.{Window, Split, HasRoom, fits, leaves, window_at, holds, halves, split_at, with_mode}
+use Rattle.rd_tree.specs.Calls.{Configuration, frame_of, is_full, split_tree, mode_tree}
 use Rattle.rd_tree.proofs.Keeping.{found_held, replaced_fits}
 
 not_held : (c : Configuration) (w : ℕ) → window_at w c.windows (frame_of c) ≡ None → holds w c.windows ≡ false

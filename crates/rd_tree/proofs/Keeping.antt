@@ -1,12 +1,11 @@
 -- What changes of the windows keep.
-use Rattle.std.proofs.Common.{◌≡◌, ℕ, ◌+◌, ◌-◌, ◌≤◌, ◌<◌, Bool, true, false, if◌then◌else◌, ◌==◌, ◌&&◌, ◌||◌, nat_le, List, [], ◌∷◌, ◌++◌, length, length-append, Option, None, Some, ◌⊎◌, inl, inr, refl, sym, ap, ◌∙◌, arith}
+use Rattle.std.proofs.Common.{◌≡◌, ℕ, ◌+◌, Bool, true, false, if◌then◌else◌, ◌==◌, ◌&&◌, ◌||◌, nat_le, Option, None, Some, ◌⊎◌, inl, inr, refl, sym, ap, ◌∙◌, arith}
 use Rattle.std.specs.Prelude.{is_some}
 use Rattle.std.proofs.lemmas.Bool.Decides.{nat_tests}
 use Rattle.rd_tree.specs.declared.rect.Rect.{Rect}
 use Rattle.rd_tree.specs.declared.side.Side.{Side}
-use Rattle.rd_tree.specs.declared.side.Side.TheVariants.{Below, Right}
 use Rattle.rd_tree.specs.declared.placed.Placed.{Placed}
-use Rattle.rd_tree.specs.Windows.{Windows, Window, Split, rows_for, first_part, second_part, HasRoom, fits, NeedsMet, first_size, resized, leaves, placed, of_number, window_at, holds, replaced, halves, split_at, with_mode, is_window, is_single, removed, times}
+use Rattle.rd_tree.specs.Windows.{Windows, Window, Split, rows_for, first_part, second_part, HasRoom, fits, first_size, resized, placed, window_at, holds, replaced, is_window, is_single, removed}
 use Rattle.rd_tree.proofs.Rooms.{or_else, of_number-append, first_needs, second_needs, first_parts-first, room_first_parts, resized_room}
 
 pub and_left : (a b : Bool) → (a && b) ≡ true → a ≡ true

@@ -1,11 +1,11 @@
 -- What each call leaves is valid.
-use Rattle.std.proofs.Common.{◌≡◌, ℕ, suc, ◌+◌, ◌≤◌, Bool, true, false, if◌then◌else◌, ◌&&◌, ◌||◌, nat_le, length, Result, Ok, Err, ◌⊎◌, inl, inr, refl, sym, ap, subst, ◌∙◌, arith}
+use Rattle.std.proofs.Common.{◌≡◌, ℕ, ◌≤◌, Bool, true, ◌&&◌, nat_le, Result, Ok, Err, inl, inr, refl, subst, arith}
 use Rattle.std.proofs.lemmas.Bool.Decides.{nat_tests}
 use Rattle.rd_tree.specs.declared.side.Side.{Side}
 use Rattle.rd_tree.specs.declared.fault.TreeFault.{TreeFault}
 use Rattle.rd_tree.specs.declared.fault.TreeFault.TheVariants.{NoWindow, TooSmall, TooMany, LastWindow}
-use Rattle.rd_tree.specs.Windows.{Windows, columns_needed, rows_needed, NeedsMet, fits, holds, leaves, is_single, resized, removed, split_at, with_mode}
-use Rattle.rd_tree.specs.Calls.{Configuration, IsValid, frame, frame_of, is_full, split_to, split_tree, remove_tree, resize_tree, mode_to, mode_tree}
+use Rattle.rd_tree.specs.Windows.{columns_needed, rows_needed, NeedsMet, fits, holds, is_single, resized, removed, split_at, with_mode}
+use Rattle.rd_tree.specs.Calls.{Configuration, IsValid, frame, frame_of, is_full, split_tree, remove_tree, resize_tree, mode_tree}
 use Rattle.rd_tree.proofs.Keeping.{bool_cases, and_left, and_right}
 use Rattle.rd_tree.proofs.Answering.{split_small, split_many, split_done, mode_small, mode_done}
 use Rattle.rd_tree.proofs.Validity.{split_valid, remove_valid, resize_valid, mode_valid}

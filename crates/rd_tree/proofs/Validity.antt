@@ -1,11 +1,9 @@
 -- Each call leaves a valid tree valid.
-use Rattle.std.proofs.Common.{◌≡◌, ℕ, suc, ◌+◌, ◌-◌, ◌≤◌, ◌<◌, Bool, true, false, if◌then◌else◌, ◌==◌, ◌&&◌, ◌||◌, nat_le, List, [], ◌∷◌, ◌++◌, length, length-append, Option, None, Some, Result, Ok, Err, ◌⊎◌, inl, inr, refl, sym, ap, ◌∙◌, arith}
+use Rattle.std.proofs.Common.{◌≡◌, ℕ, suc, ◌+◌, ◌≤◌, ◌<◌, Bool, true, false, if◌then◌else◌, ◌==◌, ◌||◌, nat_le, length, length-append, ◌⊎◌, inl, inr, refl, arith}
 use Rattle.std.proofs.lemmas.Bool.Decides.{nat_tests}
-use Rattle.rd_tree.specs.declared.rect.Rect.{Rect}
 use Rattle.rd_tree.specs.declared.side.Side.{Side}
-use Rattle.rd_tree.specs.declared.fault.TreeFault.{TreeFault}
-use Rattle.rd_tree.specs.Windows.{Windows, Window, Split, HasRoom, fits, NeedsMet, columns_needed, rows_needed, resized, leaves, holds, replaced, halves, split_at, with_mode, is_single, removed, times}
-use Rattle.rd_tree.specs.Calls.{Configuration, IsValid, frame, frame_of, opening, is_full, split_to, split_tree, remove_tree, resize_tree, mode_to, mode_tree}
+use Rattle.rd_tree.specs.Windows.{Windows, Window, fits, NeedsMet, resized, leaves, holds, halves, split_at, with_mode, is_single, removed, times}
+use Rattle.rd_tree.specs.Calls.{Configuration, IsValid, frame, frame_of, opening, is_full}
 use Rattle.rd_tree.proofs.Rooms.{room_first_parts, resized_room}
 use Rattle.rd_tree.proofs.Keeping.{bool_cases, room-fits, IsSum, replaced_more, resized_same, removed_less, removed_room}
 

@@ -1,5 +1,5 @@
 -- What the calls of a window tree answer, and what they leave.
-use Rattle.std.specs.Prelude.{◌≡◌, ℕ, suc, ◌≤◌, ◌+◌, Bool, false, if◌then◌else◌, nat_le, ◌&&◌, ◌||◌, List, length, Option, None, Some, Result, Ok, Err, ⊤}
+use Rattle.std.specs.Prelude.{◌≡◌, ℕ, suc, ◌≤◌, Bool, false, if◌then◌else◌, nat_le, ◌&&◌, ◌||◌, length, Option, None, Some, Result, Ok, Err, ⊤}
 use Rattle.rd_tree.specs.declared.rect.Rect.{Rect}
 use Rattle.rd_tree.specs.declared.placed.Placed.{Placed}
 use Rattle.rd_tree.specs.declared.side.Side.{Side}

@@ -17,3 +17,6 @@ pub use laws::{
 pub use rect::Rect;
 pub use side::Side;
 pub use tree::Tree;
+
+#[cfg(test)]
+mod tests;

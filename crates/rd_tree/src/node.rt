@@ -241,6 +241,17 @@ impl Node {
         }
     }
 
+    /// Gives way to one of its parts, which takes the whole rectangle.
+    fn give_way(&mut self, rest: Node, rect: Rect)
+        requires parts { FirstPartsFit (shape rest) }
+        requires needs { NeedsMet (shape rest) rect }
+        requires inside { InFrame rect }
+        ensures { shape self.new ≡ resized (shape rest) rect }
+    {
+        *self = rest;
+        self.resize(rect);
+    }
+
     /// Takes the window with a number away. Its sibling takes the rectangle of both. Nothing changes where the window is alone.
     pub(crate) fn remove(&mut self, window: u32, rect: Rect)
         requires room { HasRoom (shape self.old) rect }
@@ -255,11 +266,11 @@ impl Node {
         } = self
         {
             if first.is_window(window) {
-                *self = second.take();
-                self.resize(rect);
+                let rest = second.take();
+                self.give_way(rest, rect);
             } else if second.is_window(window) {
-                *self = first.take();
-                self.resize(rect);
+                let rest = first.take();
+                self.give_way(rest, rect);
             } else if first.holds(window) {
                 first.remove(window, rect.first_part(*side, *size));
             } else {

@@ -9,7 +9,7 @@ use crate::side::Side;
 pub(crate) const COLUMNS: u32 = 11;
 
 /// A window that lives: its number, whether it shows a mode line, and its rectangle.
-#[derive(Clone, Copy, Debug, Drop, PartialEq, Eq)]
+#[derive(Clone, Copy, Debug, PartialEq, Eq)]
 pub(crate) struct Placed {
     pub(crate) number: u32,
     pub(crate) mode: bool,

@@ -5,7 +5,7 @@ ghost use Rattle.rd_tree.specs.Windows.{first_part, second_part, along, InFrame}
 use crate::side::Side;
 
 /// A rectangle of cells: its first column `x` and its first row `y`, from 0, and how many columns and rows it has.
-#[derive(Clone, Copy, Debug, Drop, PartialEq, Eq)]
+#[derive(Clone, Copy, Debug, PartialEq, Eq)]
 pub struct Rect {
     pub x: u32,
     pub y: u32,

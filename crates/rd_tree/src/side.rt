@@ -1,7 +1,7 @@
 //! Where a new window goes.
 
 /// Where a new window goes: below the old one, or to its right.
-#[derive(Clone, Copy, Debug, Drop, PartialEq, Eq)]
+#[derive(Clone, Copy, Debug, PartialEq, Eq)]
 pub enum Side {
     Below,
     Right,

@@ -3,33 +3,33 @@ use Rattle.rd_tree.proofs.Rooms.{fewer_first, fewer_second, room_first_parts, fi
 use Rattle.rd_tree.specs.Windows.{Split}
 use Rattle.rd_tree.proofs.node.Node.+remove.Goals as goal
 
-pub resize-requires-clause-parts : goal.resize-requires-clause-parts
-resize-requires-clause-parts t c =
+pub give_way-requires-clause-parts : goal.give_way-requires-clause-parts
+give_way-requires-clause-parts t c =
     let s = c.in-Split in
     let a = shape s.first.value in
     let b = shape s.second.value in
     let room = rw c.in-Split.is at c.requires.room in
-    rw (c.take.ensures, c.deref_mut.ensures.value) (first_parts-first s.side s.size a b (room_first_parts (Split s.side s.size a b) c.args.rect room)).1
+    rw (c.take-rest.ensures, c.deref_mut.ensures.value) (first_parts-first s.side s.size a b (room_first_parts (Split s.side s.size a b) c.args.rect room)).1
 
-pub resize-requires-clause-needs : goal.resize-requires-clause-needs
-resize-requires-clause-needs t c =
+pub give_way-requires-clause-needs : goal.give_way-requires-clause-needs
+give_way-requires-clause-needs t c =
     let s = c.in-Split in
     let room = rw c.in-Split.is at c.requires.room in
-    rw (c.take.ensures, c.deref_mut.ensures.value) (second_needs s.side s.size (shape s.first.value) (shape s.second.value) c.args.rect room)
+    rw (c.take-rest.ensures, c.deref_mut.ensures.value) (second_needs s.side s.size (shape s.first.value) (shape s.second.value) c.args.rect room)
 
-pub resize-requires-then-is_window-2-clause-parts : goal.resize-requires-then-is_window-2-clause-parts
-resize-requires-then-is_window-2-clause-parts t c =
+pub give_way-requires-then-is_window-2-clause-parts : goal.give_way-requires-then-is_window-2-clause-parts
+give_way-requires-then-is_window-2-clause-parts t c =
     let s = c.in-Split in
     let a = shape s.first.value in
     let b = shape s.second.value in
     let room = rw c.in-Split.is at c.requires.room in
-    rw (c.take-then-is_window-2.ensures, c.deref_mut-then-is_window-2.ensures.value) (first_parts-first s.side s.size a b (room_first_parts (Split s.side s.size a b) c.args.rect room)).0
+    rw (c.take-rest-then-is_window-2.ensures, c.deref_mut-then-is_window-2.ensures.value) (first_parts-first s.side s.size a b (room_first_parts (Split s.side s.size a b) c.args.rect room)).0
 
-pub resize-requires-then-is_window-2-clause-needs : goal.resize-requires-then-is_window-2-clause-needs
-resize-requires-then-is_window-2-clause-needs t c =
+pub give_way-requires-then-is_window-2-clause-needs : goal.give_way-requires-then-is_window-2-clause-needs
+give_way-requires-then-is_window-2-clause-needs t c =
     let s = c.in-Split in
     let room = rw c.in-Split.is at c.requires.room in
-    rw (c.take-then-is_window-2.ensures, c.deref_mut-then-is_window-2.ensures.value) (first_needs s.side s.size (shape s.first.value) (shape s.second.value) c.args.rect room)
+    rw (c.take-rest-then-is_window-2.ensures, c.deref_mut-then-is_window-2.ensures.value) (first_needs s.side s.size (shape s.first.value) (shape s.second.value) c.args.rect room)
 
 pub remove-requires : goal.remove-requires
 remove-requires t c =

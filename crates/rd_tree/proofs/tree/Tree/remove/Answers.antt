@@ -1,6 +1,5 @@
-use Rattle.std.proofs.Common.{refl, sym, ◌∙◌}
+use Rattle.std.proofs.Common.{sym, ◌∙◌}
 use Rattle.rd_tree.specs.Held.{configuration_of}
-use Rattle.rd_tree.specs.Calls.{IsValid}
 use Rattle.rd_tree.proofs.Validity.{remove_valid}
 use Rattle.rd_tree.proofs.tree.Tree.remove.Goals as goal
 
