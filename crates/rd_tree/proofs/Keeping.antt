@@ -63,7 +63,7 @@ bool_cases false = inr refl
 false≢true : false ≡ true → ⊥
 false≢true e = cc
 
-found_in : (a b : Option Placed) (window : Placed) → or_else a b ≡ Some window → (a ≡ Some window) ⊎ ((a ≡ None) × (b ≡ Some window))
+pub found_in : (a b : Option Placed) (window : Placed) → or_else a b ≡ Some window → (a ≡ Some window) ⊎ ((a ≡ None) × (b ≡ Some window))
 found_in None b window e = inr (refl, e)
 found_in (Some first) b window e = inl e
 

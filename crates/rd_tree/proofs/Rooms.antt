@@ -6,7 +6,7 @@ use Rattle.rd_tree.specs.declared.side.Side.TheVariants.{Below, Right}
 use Rattle.rd_tree.specs.declared.placed.Placed.{Placed}
 use Rattle.rd_tree.specs.Windows.{Windows, Window, Split, rows_for, columns_needed, rows_needed, first_part, second_part, along, InFrame, NeedsMet, FirstPartsFit, HasRoom, first_size, resized, leaves, placed, of_number, window_at}
 
-rows_for-some : (mode : Bool) → 1 ≤ rows_for mode
+pub rows_for-some : (mode : Bool) → 1 ≤ rows_for mode
 rows_for-some true = omega arith
 rows_for-some false = omega arith
 

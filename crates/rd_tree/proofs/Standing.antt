@@ -1,5 +1,5 @@
 -- Where windows stand.
-use Rattle.std.proofs.Common.{◌≡◌, ℕ, ◌+◌, ◌-◌, ◌≤◌, Bool, true, false, if◌then◌else◌, ◌==◌, ◌&&◌, ◌||◌, List, [], ◌∷◌, ◌++◌, append_assoc, append-nil, map, Option, None, Some, inl, inr, refl, sym, ap, ◌∙◌, arith}
+use Rattle.std.proofs.Common.{◌≡◌, ℕ, ◌+◌, ◌-◌, ◌≤◌, Bool, true, false, if◌then◌else◌, ◌==◌, ◌&&◌, ◌||◌, List, [], ◌∷◌, ◌++◌, append_assoc, append-nil, map, Option, None, Some, inl, inr, refl, sym, ap, subst, ◌∙◌, arith}
 use Rattle.std.specs.Prelude.{is_some}
 use Rattle.std.proofs.lemmas.Bool.Decides.{nat_tests}
 use Rattle.rd_tree.specs.declared.rect.Rect.{Rect}
@@ -7,9 +7,10 @@ use Rattle.rd_tree.specs.declared.side.Side.{Side}
 use Rattle.rd_tree.specs.declared.side.Side.TheVariants.{Below, Right}
 use Rattle.rd_tree.specs.declared.placed.Placed.{Placed}
 use Rattle.rd_tree.specs.Windows.{Windows, Window, Split, first_part, second_part, HasRoom, first_size, resized, leaves, placed, of_number, window_at, holds, replaced, is_window, is_single, sibling, removed, times}
-use Rattle.rd_tree.specs.Places.{is_from, lies_in, one_if, windows_with, AllHaveRoom, in_place_of, without, is_among}
-use Rattle.rd_tree.proofs.Rooms.{room_needs, room_within, or_else, of_number-append}
-use Rattle.rd_tree.proofs.Keeping.{bool_cases, found_held, not_single}
+use Rattle.rd_tree.specs.Calls.{Configuration, IsValid, frame_of, rect_of_placed}
+use Rattle.rd_tree.specs.Places.{is_from, lies_in, one_if, windows_with, AllHaveRoom, in_place_of, without, is_among, IsWithin, StandsIn, LiesIn}
+use Rattle.rd_tree.proofs.Rooms.{rows_for-some, room_needs, room_within, or_else, of_number-append}
+use Rattle.rd_tree.proofs.Keeping.{bool_cases, found_held, found_in, not_single}
 
 or_assoc : (a b c : Bool) → (a || (b || c)) ≡ ((a || b) || c)
 or_assoc true b c = refl
@@ -269,3 +270,37 @@ removed_others v n (Split side size first second) rect d e =
         ]
       ]
     ]
+
+first_within : (side : Side) (size : ℕ) (first second : Windows) (rect : Rect) → HasRoom (Split side size first second) rect → IsWithin (first_part side size rect) rect
+first_within Right size first second rect h = let w = room_within Right size first second rect h in (omega arith, omega arith, omega arith, omega arith)
+first_within Below size first second rect h = let w = room_within Below size first second rect h in (omega arith, omega arith, omega arith, omega arith)
+
+second_within : (side : Side) (size : ℕ) (first second : Windows) (rect : Rect) → HasRoom (Split side size first second) rect → IsWithin (second_part side size rect) rect
+second_within Right size first second rect h = let w = room_within Right size first second rect h in (omega arith, omega arith, omega arith, omega arith)
+second_within Below size first second rect h = let w = room_within Below size first second rect h in (omega arith, omega arith, omega arith, omega arith)
+
+stands_further : (window : Placed) (part rect : Rect) → StandsIn window part → IsWithin part rect → StandsIn window rect
+stands_further window part rect s w = ((omega arith, omega arith, omega arith, omega arith), s.1, s.2)
+
+found_one : (b : Bool) (leaf window : Placed) → (if b then Some leaf else None) ≡ Some window → leaf ≡ window
+found_one true leaf window e = cc
+found_one false leaf window e = absurd (cc)
+
+-- each window that is found stands in the rectangle, with the room that it needs
+pub stands_in : (number : ℕ) (windows : Windows) (rect : Rect) (window : Placed) → HasRoom windows rect → window_at number windows rect ≡ Some window → StandsIn window rect
+stands_in number (Window n mode) rect window h e =
+    subst (λ (p : Placed). StandsIn p rect) (found_one (n == number) (record { number = n; mode = mode; rect = rect }) window e) ((omega arith, omega arith, omega arith, omega arith), h.0, h.1)
+stands_in number (Split side size first second) rect window h e =
+    let a = first_part side size rect in
+    let b = second_part side size rect in
+    elim (found_in (window_at number first a) (window_at number second b) window (sym (two_lists number side size first second rect) ∙ e)) [
+      | inl p ↦ stands_further window a rect (stands_in number first a window h.0 p) (first_within side size first second rect h)
+      | inr q ↦ stands_further window b rect (stands_in number second b window h.1 q.1) (second_within side size first second rect h)
+    ]
+
+-- a rectangle that is told of a valid tree lies in its frame
+pub lies_in_frame : (c : Configuration) (found : Option Placed) (number : ℕ) → IsValid c → window_at number c.windows (frame_of c) ≡ found → LiesIn (rect_of_placed found) (frame_of c)
+lies_in_frame c None number valid e = tt
+lies_in_frame c (Some window) number valid e =
+    let s = stands_in number c.windows (frame_of c) window valid.room e in
+    (s.0, s.1, omega (arith, rows_for-some window.mode, s.2), valid.wide, valid.high)

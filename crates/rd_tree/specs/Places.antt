@@ -1,5 +1,5 @@
 -- Where windows stand: what the laws of a window tree speak of.
-use Rattle.std.specs.Prelude.{ℕ, ◌+◌, ◌≤◌, Bool, false, if◌then◌else◌, nat_le, nat_lt, ◌==◌, ◌&&◌, ◌||◌, List, [], ◌∷◌, ◌++◌}
+use Rattle.std.specs.Prelude.{ℕ, ◌+◌, ◌≤◌, Bool, false, if◌then◌else◌, nat_le, nat_lt, ◌==◌, ◌&&◌, ◌||◌, List, [], ◌∷◌, ◌++◌, Option, None, Some}
 use Rattle.rd_tree.specs.declared.rect.Rect.{Rect}
 use Rattle.rd_tree.specs.declared.placed.Placed.{Placed}
 use Rattle.rd_tree.specs.Windows.{rows_for}
@@ -24,6 +24,19 @@ windows_with column row (window ∷ windows) = one_if (lies_in column row window
 abbrev pub AllHaveRoom : List Placed → Type 0
 AllHaveRoom [] = Unit {0}
 AllHaveRoom (window ∷ windows) = (11 ≤ window.rect.width) × (rows_for window.mode ≤ window.rect.height) × AllHaveRoom windows
+
+-- a rectangle lies in another
+abbrev pub IsWithin : Rect → Rect → Type 0
+IsWithin rect whole = (whole.x ≤ rect.x) × (rect.x + rect.width ≤ whole.x + whole.width) × (whole.y ≤ rect.y) × (rect.y + rect.height ≤ whole.y + whole.height)
+
+-- a window stands in a rectangle and has the columns and rows that it needs
+abbrev pub StandsIn : Placed → Rect → Type 0
+StandsIn window rect = IsWithin window.rect rect × (11 ≤ window.rect.width) × (rows_for window.mode ≤ window.rect.height)
+
+-- a rectangle that is told lies in another, which is at most 400 columns and 200 rows, and has 11 columns and 1 row at least
+abbrev pub LiesIn : Option Rect → Rect → Type 0
+LiesIn None whole = Unit {0}
+LiesIn (Some rect) whole = IsWithin rect whole × (11 ≤ rect.width) × (1 ≤ rect.height) × (whole.width ≤ 400) × (whole.height ≤ 200)
 
 -- the windows where others stand for the first that has a number
 abbrev pub in_place_of : ℕ → (Placed → List Placed) → List Placed → List Placed

@@ -5,9 +5,9 @@ ghost use Rattle.rd_tree.specs.declared.placed.Placed.{Placed};
 ghost use Rattle.rd_tree.specs.declared.rect.Rect.{Rect};
 ghost use Rattle.rd_tree.specs.declared.side.Side.{Side};
 ghost use Rattle.rd_tree.specs.declared.side.Side.TheVariants.{Below, Right};
-ghost use Rattle.rd_tree.specs.Windows.{Windows, Window, Split, HasRoom, FirstPartsFit, NeedsMet, placed, leaves, window_at, holds, halves, split_at, with_mode, is_single, first_leaf, sibling, removed, resized, times};
+ghost use Rattle.rd_tree.specs.Windows.{Windows, Window, Split, HasRoom, NeedsMet, fits, placed, leaves, window_at, holds, halves, split_at, with_mode, is_single, first_leaf, sibling, removed, resized, times};
 ghost use Rattle.rd_tree.specs.Calls.{Configuration, IsValid, opening, frame, split_tree, remove_tree, resize_tree, mode_tree, rect_of};
-ghost use Rattle.rd_tree.specs.Places.{lies_in, windows_with, one_if, AllHaveRoom, in_place_of, without, is_among};
+ghost use Rattle.rd_tree.specs.Places.{lies_in, windows_with, one_if, AllHaveRoom, StandsIn, in_place_of, without, is_among};
 
 /// The opening is a valid tree, and each call that is not refused leaves a valid tree valid. The call does nothing.
 pub fn calls_keep_trees()
@@ -23,12 +23,19 @@ pub fn calls_keep_trees()
 pub fn windows_tile_their_rectangle()
     ensures cells { (windows : Windows) (rect : Rect) → HasRoom windows rect → (column row : ℕ) → windows_with column row (placed windows rect) ≡ one_if (lies_in column row rect) }
     ensures room { (windows : Windows) (rect : Rect) → HasRoom windows rect → AllHaveRoom (placed windows rect) }
+    ensures inside { (number : ℕ) (windows : Windows) (rect : Rect) (window : Placed) → HasRoom windows rect → window_at number windows rect ≡ Some window → StandsIn window rect }
     ensures listed { (windows : Windows) (rect : Rect) → map (λ window. window.number) (placed windows rect) ≡ leaves windows }
     ensures found { (number : ℕ) (windows : Windows) (rect : Rect) → is_some (window_at number windows rect) ≡ is_among number (leaves windows) }
 {}
 
-/// Windows have room in a rectangle only where it meets their needs, and where it does they can share it. The call does nothing.
+/// Windows have room in a rectangle only where it meets their needs, and where it does they can share it. Sharing the same
+/// rectangle anew changes nothing, and the order stays. Whether a split or a mode line leaves room is a matter of the window's own
+/// rectangle alone. The call does nothing.
 pub fn needs_are_exact()
+    ensures true_of_room { (windows : Windows) (rect : Rect) → HasRoom windows rect → fits windows rect ≡ true }
+    ensures room_of_true { (windows : Windows) (rect : Rect) → fits windows rect ≡ true → HasRoom windows rect }
+    ensures split { (number : ℕ) (side : Side) (size new : ℕ) (windows : Windows) (rect : Rect) (window : Placed) → HasRoom windows rect → window_at number windows rect ≡ Some window → fits (split_at number side size new windows) rect ≡ fits (halves number side size new window.mode) window.rect }
+    ensures mode { (number : ℕ) (shown : Bool) (windows : Windows) (rect : Rect) (window : Placed) → HasRoom windows rect → window_at number windows rect ≡ Some window → fits (with_mode number shown windows) rect ≡ fits (Window number shown) window.rect }
     ensures needed { (windows : Windows) (rect : Rect) → HasRoom windows rect → NeedsMet windows rect }
     ensures enough { (windows : Windows) (old rect : Rect) → HasRoom windows old → NeedsMet windows rect → HasRoom (resized windows rect) rect }
     ensures same { (windows : Windows) (rect : Rect) → HasRoom windows rect → resized windows rect ≡ windows }

@@ -40,6 +40,7 @@ impl Model for Tree {
 impl Tree {
     ghost use Rattle.std.specs.Prelude.{◌≡◌, ◌≤◌, slice_get, IfOk};
     ghost use Rattle.rd_tree.specs.Windows.{window_at, leaves};
+    ghost use Rattle.rd_tree.specs.Places.{LiesIn};
     ghost use Rattle.rd_tree.specs.Calls.{opening, frame_of, split_tree, remove_tree, resize_tree, mode_tree, rect_of, Answers, Splits, Removes, IsValid};
 
     /// The window 0, without a mode line, in so many columns and rows: 11 to 400 columns, and 1 to 200 rows.
@@ -148,7 +149,8 @@ impl Tree {
 
     /// A window's rectangle; None exactly where it does not live.
     pub fn rect(&self, window: u32) -> Option<Rect>
-        ensures { result ≡ rect_of window self.now }
+        ensures place { result ≡ rect_of window self.now }
+        ensures inside { LiesIn result (frame_of self.now) }
     {
         let placed = self.root.find(window, self.frame())?;
         Some(placed.rect)

@@ -1,9 +1,15 @@
 use Rattle.rd_tree.proofs.Rooms.{room_needs, room_first_parts, resized_room}
+use Rattle.rd_tree.specs.Windows.{Window, halves}
+use Rattle.rd_tree.proofs.Keeping.{fits-room, room-fits, replaced_fits}
 use Rattle.rd_tree.proofs.Standing.{resized_same_place, resized_leaves}
 use Rattle.rd_tree.proofs.laws.needs_are_exact.Goals as goal
 
 pub returns : goal.returns
 returns c = record {
+  true_of_room = fits-room;
+  room_of_true = room-fits;
+  split = λ number side size new windows rect window h e. replaced_fits number (halves number side size new) windows rect window h e;
+  mode = λ number shown windows rect window h e. replaced_fits number (λ _. Window number shown) windows rect window h e;
   needed = room_needs;
   enough = λ windows old rect h n. resized_room windows rect (room_first_parts windows old h) n;
   same = resized_same_place;
