@@ -21,15 +21,19 @@ pub split_room : (c : Configuration) (w : ℕ) (side : Side) (size : ℕ) (windo
 split_room c w side size window room e = replaced_fits w (halves w side size c.made) c.windows (frame_of c) window room e
 
 pub split_unknown : (c : Configuration) (w : ℕ) (side : Side) (size : ℕ) → window_at w c.windows (frame_of c) ≡ None → split_tree c w side size ≡ Err NoWindow
+unfolding split_tree
 split_unknown c w side size e = rw (not_held c w e) refl
 
 pub split_small : (c : Configuration) (w : ℕ) (side : Side) (size : ℕ) → holds w c.windows ≡ true → fits (split_at w side size c.made c.windows) (frame_of c) ≡ false → split_tree c w side size ≡ Err TooSmall
+unfolding split_tree
 split_small c w side size h f = rw (h, f) refl
 
 pub split_many : (c : Configuration) (w : ℕ) (side : Side) (size : ℕ) → holds w c.windows ≡ true → fits (split_at w side size c.made c.windows) (frame_of c) ≡ true → is_full c ≡ true → split_tree c w side size ≡ Err TooMany
+unfolding split_tree
 split_many c w side size h f full = rw (h, f, full) refl
 
 pub split_done : (c : Configuration) (w : ℕ) (side : Side) (size : ℕ) → holds w c.windows ≡ true → fits (split_at w side size c.made c.windows) (frame_of c) ≡ true → is_full c ≡ false → split_tree c w side size ≡ Ok (record c { windows = split_at w side size c.made c.windows; made = suc c.made })
+unfolding split_tree
 split_done c w side size h f full = rw (h, f, full) refl
 
 or_first : (a b : Bool) → a ≡ true → (a || b) ≡ true
@@ -56,10 +60,13 @@ pub mode_room : (c : Configuration) (w : ℕ) (shown : Bool) (window : Placed) �
 mode_room c w shown window room e = replaced_fits w (λ _. Window w shown) c.windows (frame_of c) window room e
 
 pub mode_unknown : (c : Configuration) (w : ℕ) (shown : Bool) → window_at w c.windows (frame_of c) ≡ None → mode_tree c w shown ≡ Err NoWindow
+unfolding mode_tree
 mode_unknown c w shown e = rw (not_held c w e) refl
 
 pub mode_small : (c : Configuration) (w : ℕ) (shown : Bool) → holds w c.windows ≡ true → fits (with_mode w shown c.windows) (frame_of c) ≡ false → mode_tree c w shown ≡ Err TooSmall
+unfolding mode_tree
 mode_small c w shown h f = rw (h, f) refl
 
 pub mode_done : (c : Configuration) (w : ℕ) (shown : Bool) → holds w c.windows ≡ true → fits (with_mode w shown c.windows) (frame_of c) ≡ true → mode_tree c w shown ≡ Ok (record c { windows = with_mode w shown c.windows })
+unfolding mode_tree
 mode_done c w shown h f = rw (h, f) refl

@@ -17,6 +17,7 @@ refused : (said : Result Configuration TreeFault) (fault : TreeFault) (d : Confi
 refused said fault d p q = absurd (cc)
 
 pub split_keeps : (c d : Configuration) (w : ℕ) (side : Side) (size : ℕ) → IsValid c → split_tree c w side size ≡ Ok d → IsValid d
+unfolding split_tree
 split_keeps c d w side size valid said =
     elim (bool_cases (holds w c.windows)) [
       | inr h ↦ refused (split_tree c w side size) NoWindow d (rw h refl) said
@@ -30,6 +31,7 @@ split_keeps c d w side size valid said =
     ]
 
 pub remove_keeps : (c d : Configuration) (w : ℕ) → IsValid c → remove_tree c w ≡ Ok d → IsValid d
+unfolding remove_tree
 remove_keeps c d w valid said =
     elim (bool_cases (holds w c.windows)) [
       | inr h ↦ refused (remove_tree c w) NoWindow d (rw h refl) said
@@ -46,6 +48,7 @@ met c width height e = (
 )
 
 pub resize_keeps : (c d : Configuration) (width height : ℕ) → width ≤ 400 → height ≤ 200 → IsValid c → resize_tree c width height ≡ Ok d → IsValid d
+unfolding resize_tree
 resize_keeps c d width height w h valid said =
     elim (bool_cases (nat_le (columns_needed c.windows) width && nat_le (rows_needed c.windows) height)) [
       | inr n ↦ refused (resize_tree c width height) TooSmall d (rw n refl) said
@@ -53,6 +56,7 @@ resize_keeps c d width height w h valid said =
     ]
 
 pub mode_keeps : (c d : Configuration) (w : ℕ) (shown : Bool) → IsValid c → mode_tree c w shown ≡ Ok d → IsValid d
+unfolding mode_tree
 mode_keeps c d w shown valid said =
     elim (bool_cases (holds w c.windows)) [
       | inr h ↦ refused (mode_tree c w shown) NoWindow d (rw h refl) said

@@ -34,15 +34,15 @@ split_to c windows =
     if fits windows (frame_of c) then (if is_full c then Err TooMany else Ok (record c { windows = windows; made = suc c.made })) else Err TooSmall
 
 -- a split: the new window's number is the count of windows made so far
-abbrev pub split_tree : Configuration → ℕ → Side → ℕ → Result Configuration TreeFault
+unfoldable pub split_tree : Configuration → ℕ → Side → ℕ → Result Configuration TreeFault
 split_tree c window side size =
     if holds window c.windows then split_to c (split_at window side size c.made c.windows) else Err NoWindow
 
-abbrev pub remove_tree : Configuration → ℕ → Result Configuration TreeFault
+unfoldable pub remove_tree : Configuration → ℕ → Result Configuration TreeFault
 remove_tree c window =
     if holds window c.windows then (if is_single c.windows then Err LastWindow else Ok (record c { windows = removed window c.windows (frame_of c) })) else Err NoWindow
 
-abbrev pub resize_tree : Configuration → ℕ → ℕ → Result Configuration TreeFault
+unfoldable pub resize_tree : Configuration → ℕ → ℕ → Result Configuration TreeFault
 resize_tree c width height =
     if nat_le (columns_needed c.windows) width && nat_le (rows_needed c.windows) height
     then Ok (record c { windows = resized c.windows (frame width height); width = width; height = height })
@@ -51,7 +51,7 @@ resize_tree c width height =
 abbrev pub mode_to : Configuration → Windows → Result Configuration TreeFault
 mode_to c windows = if fits windows (frame_of c) then Ok (record c { windows = windows }) else Err TooSmall
 
-abbrev pub mode_tree : Configuration → ℕ → Bool → Result Configuration TreeFault
+unfoldable pub mode_tree : Configuration → ℕ → Bool → Result Configuration TreeFault
 mode_tree c window shown = if holds window c.windows then mode_to c (with_mode window shown c.windows) else Err NoWindow
 
 -- the rectangle of a window that lives

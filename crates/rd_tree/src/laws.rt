@@ -52,6 +52,7 @@ pub fn other_windows_stay()
 {}
 
 /// A tree of 24 columns and 5 rows is split, and its first window removed. The call does nothing.
+#[tactic(auto, unfolding(crate::specs::Calls::split_tree, crate::specs::Calls::remove_tree))]
 pub fn a_split_and_a_removal()
     ensures small { split_tree (opening 24 5) 0 Right 10 ≡ Err TooSmall }
     ensures split { split_tree (opening 24 5) 0 Right 11 ≡ Ok (record { windows = Split Right 11 (Window 0 false) (Window 1 false); width = 24; height = 5; made = 2 }) }
@@ -64,6 +65,7 @@ pub fn a_split_and_a_removal()
 {}
 
 /// How two windows share other rectangles, and when mode lines leave room. The call does nothing.
+#[tactic(auto, unfolding(crate::specs::Calls::resize_tree, crate::specs::Calls::mode_tree))]
 pub fn shared_anew()
     ensures wider { resized (Split Right 11 (Window 0 false) (Window 1 false)) (frame 30 5) ≡ Split Right 11 (Window 0 false) (Window 1 false) }
     ensures narrower { resized (Split Right 15 (Window 0 false) (Window 1 false)) (frame 23 5) ≡ Split Right 12 (Window 0 false) (Window 1 false) }

@@ -87,6 +87,7 @@ impl Tree {
 
     /// Takes a window away. Its sibling, the window or windows that share a split rectangle with it, takes the rectangle of both.
     /// Answers the first leaf of the sibling. The first of these faults counts: the window does not live; it is the only one.
+    #[tactic(auto, unfolding(crate::specs::Calls::remove_tree))]
     pub fn remove(&mut self, window: u32) -> Result<u32, TreeFault>
         ensures { Removes result window (remove_tree self.old window) self.old self.new }
     {
@@ -106,6 +107,7 @@ impl Tree {
     /// old size, but at least what its windows need, and the first part the rest. The fault is that a need would not be met: a window
     /// needs 11 columns and 1 row, 2 with a mode line, and a split rectangle the sum of its parts along the split and the greater
     /// across it.
+    #[tactic(auto, unfolding(crate::specs::Calls::resize_tree))]
     pub fn resize(&mut self, width: u32, height: u32) -> Result<(), TreeFault>
         requires narrow { width ≤ 400 }
         requires low { height ≤ 200 }
