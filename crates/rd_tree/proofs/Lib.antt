@@ -1,5 +1,6 @@
 pub mod Answering
 pub mod Keeping
+pub mod Listing
 pub mod Rooms
 pub mod Standing
 pub mod Steps

@@ -198,7 +198,7 @@ held_times n (Split side size first second) e =
     ]
 
 -- a window that stands in the second part does not stand in the first too
-once_in_first : (n : ℕ) (first second : Windows) → times n first + times n second ≤ 1 → holds n second ≡ true → holds n first ≡ false
+pub once_in_first : (n : ℕ) (first second : Windows) → times n first + times n second ≤ 1 → holds n second ≡ true → holds n first ≡ false
 once_in_first n first second once e =
     elim (bool_cases (holds n first)) [
       | inl p ↦ absurd (omega (arith, held_times n first p, held_times n second e))
@@ -233,14 +233,14 @@ removed_leaves n (Split side size first second) rect once e s =
       ]
     ]
 
-not_found : (v : ℕ) (windows : Windows) (rect : Rect) → holds v windows ≡ false → window_at v windows rect ≡ None
+pub not_found : (v : ℕ) (windows : Windows) (rect : Rect) → holds v windows ≡ false → window_at v windows rect ≡ None
 not_found v windows rect e = none_of (window_at v windows rect) (found_held v windows rect ∙ e)
 
 other_window : (v n : ℕ) (windows : Windows) → is_window n windows ≡ true → (v == n) ≡ false → holds v windows ≡ false
 other_window v n (Window number mode) e d = grind (arith, nat_tests)
 other_window v n (Split side size first second) e d = absurd (cc)
 
-two_lists : (v : ℕ) (side : Side) (size : ℕ) (first second : Windows) (rect : Rect) → window_at v (Split side size first second) rect ≡ or_else (window_at v first (first_part side size rect)) (window_at v second (second_part side size rect))
+pub two_lists : (v : ℕ) (side : Side) (size : ℕ) (first second : Windows) (rect : Rect) → window_at v (Split side size first second) rect ≡ or_else (window_at v first (first_part side size rect)) (window_at v second (second_part side size rect))
 two_lists v side size first second rect = of_number-append v (placed first (first_part side size rect)) (placed second (second_part side size rect))
 
 neither_found : (v : ℕ) (side : Side) (size : ℕ) (first second : Windows) (rect : Rect) → holds v first ≡ false → holds v second ≡ false → window_at v (Split side size first second) rect ≡ None

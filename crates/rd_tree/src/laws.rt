@@ -1,5 +1,5 @@
 //! Laws of the definitions, for the layers above.
-ghost use Rattle.std.specs.Prelude.{ℕ, ◌≡◌, ◌==◌, ◌≤◌, Bool, true, false, map, is_some, Some, Ok, Err};
+ghost use Rattle.std.specs.Prelude.{ℕ, ◌≡◌, ◌==◌, ◌≤◌, Bool, true, false, map, is_some, slice_get, Some, Ok, Err};
 ghost use Rattle.rd_tree.specs.declared.fault.TreeFault.TheVariants.{NoWindow, TooSmall, LastWindow};
 ghost use Rattle.rd_tree.specs.declared.placed.Placed.{Placed};
 ghost use Rattle.rd_tree.specs.declared.rect.Rect.{Rect};
@@ -19,12 +19,14 @@ pub fn calls_keep_trees()
 {}
 
 /// Where each window has room, each cell of the rectangle that they share lies in exactly one of them, and no other cell in any.
-/// A window is found exactly where its number is among the leaves. The call does nothing.
+/// Each window lies in the rectangle and has the columns and rows that it needs. The leaves are the windows' numbers in order, a window is
+/// found exactly where its number is among them, and it is the one in its leaf's place. The call does nothing.
 pub fn windows_tile_their_rectangle()
     ensures cells { (windows : Windows) (rect : Rect) → HasRoom windows rect → (column row : ℕ) → windows_with column row (placed windows rect) ≡ one_if (lies_in column row rect) }
     ensures room { (windows : Windows) (rect : Rect) → HasRoom windows rect → AllHaveRoom (placed windows rect) }
     ensures inside { (number : ℕ) (windows : Windows) (rect : Rect) (window : Placed) → HasRoom windows rect → window_at number windows rect ≡ Some window → StandsIn window rect }
     ensures listed { (windows : Windows) (rect : Rect) → map (λ window. window.number) (placed windows rect) ≡ leaves windows }
+    ensures in_order { (windows : Windows) (rect : Rect) (i number : ℕ) → ((n : ℕ) → times n windows ≤ 1) → slice_get (leaves windows) i ≡ Some number → window_at number windows rect ≡ slice_get (placed windows rect) i }
     ensures found { (number : ℕ) (windows : Windows) (rect : Rect) → is_some (window_at number windows rect) ≡ is_among number (leaves windows) }
 {}
 

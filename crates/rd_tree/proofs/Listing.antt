@@ -1,0 +1,76 @@
+-- The windows of a tree in order.
+use Rattle.std.proofs.Common.{◌≡◌, ℕ, zero, suc, ◌≤◌, Bool, true, false, ◌==◌, ◌||◌, List, [], ◌∷◌, ◌++◌, Option, None, Some, ◌⊎◌, inl, inr, refl, sym, ap, ◌∙◌, arith}
+use Rattle.std.specs.Prelude.{slice_get}
+use Rattle.std.specs.Option.{option_map}
+use Rattle.std.proofs.lemmas.Option.{slice_get-map}
+use Rattle.std.proofs.lemmas.Bool.Decides.{nat_tests}
+use Rattle.rd_tree.specs.declared.rect.Rect.{Rect}
+use Rattle.rd_tree.specs.declared.placed.Placed.{Placed}
+use Rattle.rd_tree.specs.Windows.{Windows, Window, Split, first_part, second_part, leaves, placed, window_at, holds, times}
+use Rattle.rd_tree.proofs.Rooms.{or_else}
+use Rattle.rd_tree.proofs.Standing.{listed, not_found, once_in_first, two_lists}
+
+or_true : (a b : Bool) → b ≡ true → (a || b) ≡ true
+or_true true b e = refl
+or_true false b e = e
+
+true_or : (a b : Bool) → a ≡ true → (a || b) ≡ true
+true_or a b e = rw e refl
+
+-- what stands in two lists stands in one of them
+in_one : (xs ys : List Placed) (i : ℕ) (window : Placed) → slice_get (xs ++ ys) i ≡ Some window → ((j : ℕ) × (slice_get xs j ≡ Some window)) ⊎ ((j : ℕ) × (slice_get ys j ≡ Some window))
+in_one [] ys i window e = inr (i, e)
+in_one (x ∷ xs) ys zero window e = inl (0, e)
+in_one (x ∷ xs) ys (suc i) window e =
+    elim (in_one xs ys i window e) [ inl p ↦ inl (suc p.0, p.1) | inr p ↦ inr p ]
+
+same_test : (n m : ℕ) → n ≡ m → (n == m) ≡ true
+same_test n m e = grind (arith, nat_tests)
+
+one_place : (leaf window : Placed) → Some leaf ≡ Some window → leaf ≡ window
+one_place leaf window e = cc
+
+number_of_leaf : (number : ℕ) (mode : Bool) (rect : Rect) (window : Placed) → Some (record { number = number; mode = mode; rect = rect }) ≡ Some window → (number == window.number) ≡ true
+number_of_leaf number mode rect window e =
+    same_test number window.number (ap (λ (p : Placed). p.number) (one_place (record { number = number; mode = mode; rect = rect }) window e))
+
+listed_held : (windows : Windows) (rect : Rect) (i : ℕ) (window : Placed) → slice_get (placed windows rect) i ≡ Some window → holds window.number windows ≡ true
+listed_held (Window number mode) rect zero window e = number_of_leaf number mode rect window e
+listed_held (Window number mode) rect (suc i) window e = absurd (cc)
+listed_held (Split side size first second) rect i window e =
+    let a = first_part side size rect in
+    let b = second_part side size rect in
+    elim (in_one (placed first a) (placed second b) i window e) [
+      | inl p ↦ true_or (holds window.number first) (holds window.number second) (listed_held first a p.0 window p.1)
+      | inr p ↦ or_true (holds window.number first) (holds window.number second) (listed_held second b p.0 window p.1)
+    ]
+
+-- where no number stands twice, each window that is listed is found by its number
+pub listed_found : (windows : Windows) (rect : Rect) → ((n : ℕ) → times n windows ≤ 1) → (i : ℕ) (window : Placed) → slice_get (placed windows rect) i ≡ Some window → window_at window.number windows rect ≡ Some window
+listed_found (Window number mode) rect once zero window e = rw (number_of_leaf number mode rect window e) e
+listed_found (Window number mode) rect once (suc i) window e = absurd (cc)
+listed_found (Split side size first second) rect once i window e =
+    let a = first_part side size rect in
+    let b = second_part side size rect in
+    let n = window.number in
+    elim (in_one (placed first a) (placed second b) i window e) [
+      | inl p ↦
+          let found = listed_found first a (λ m. omega (arith, once m)) p.0 window p.1 in
+          two_lists n side size first second rect ∙ ap (λ (o : Option Placed). or_else o (window_at n second b)) found
+      | inr p ↦
+          let found = listed_found second b (λ m. omega (arith, once m)) p.0 window p.1 in
+          let away = once_in_first n first second (once n) (listed_held second b p.0 window p.1) in
+          two_lists n side size first second rect ∙ (ap (λ (o : Option Placed). or_else o (window_at n second b)) (not_found n first a away) ∙ found)
+    ]
+
+in_order : (windows : Windows) (rect : Rect) (number i : ℕ) (o : Option Placed) → ((n : ℕ) → times n windows ≤ 1) → slice_get (placed windows rect) i ≡ o → option_map (λ (window : Placed). window.number) o ≡ Some number → window_at number windows rect ≡ o
+in_order windows rect number i None once e f = absurd (cc)
+in_order windows rect number i (Some window) once e f =
+    let same : window.number ≡ number = cc in
+    rw (← same) (listed_found windows rect once i window e)
+
+-- the window of a leaf is the one in its place
+pub leaf_window : (windows : Windows) (rect : Rect) (i number : ℕ) → ((n : ℕ) → times n windows ≤ 1) → slice_get (leaves windows) i ≡ Some number → window_at number windows rect ≡ slice_get (placed windows rect) i
+leaf_window windows rect i number once e =
+    in_order windows rect number i (slice_get (placed windows rect) i) once refl
+    (sym (slice_get-map (λ (window : Placed). window.number) (placed windows rect) i) ∙ (ap (λ (ns : List ℕ). slice_get ns i) (listed windows rect) ∙ e))
