@@ -1,2 +1,3 @@
 pub mod Characters
 pub mod Lines
+pub mod Joining

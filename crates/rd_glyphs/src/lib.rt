@@ -1,11 +1,13 @@
-//! How characters are shown: the elements of a character, and plain lines of text.
+//! How characters are shown: the elements of a character, the marks that join it, and plain lines of text.
 #![tactic(auto)]
 
+mod joining;
 mod looks;
 mod parts;
 mod plain;
 mod shown;
 
+pub use joining::{Joining, join};
 pub use parts::{Parts, expand};
 pub use plain::plain_line;
 

@@ -45,7 +45,7 @@ impl<'a> Parts<'a> {
     ghost use Rattle.rd_objects.specs.Tables.{is_glyph_text};
 
     /// What the table puts for a code, and None where it puts nothing.
-    fn entry(&self, code: u32) -> Option<&[Glyph]>
+    pub(crate) fn entry(&self, code: u32) -> Option<&[Glyph]>
         ensures value { MatchOption result (entry_of self.now.table code ≡ None) (λ text. entry_of self.now.table code ≡ Some text.now) }
         ensures text { IfSome result (λ text. IsTrue (is_glyph_text text.now)) }
     {

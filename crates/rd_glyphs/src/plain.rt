@@ -6,6 +6,7 @@ ghost use Rattle.rd_base.specs.Glyphs.{glyph_cells, IsRowAfter};
 ghost use Rattle.rd_glyphs.specs.Characters.{looks_of, look_columns, TakesColumns, ShowsColumns};
 ghost use Rattle.rd_glyphs.specs.Lines.{HoldsColumns, has_room, joined, joined_to, held_looks, given, held_after, looks_from, cells_of, fitted, plain_cells};
 
+use crate::joining::join;
 use crate::looks::{look_columns, looks_of, on_blank};
 use crate::shown::{Shown, shown_as};
 use rd_base::{Cell, Ch, Face, Glyph, ListOf, Look, Memory};
@@ -135,15 +136,9 @@ fn with_mark(glyph: Glyph, code: u32) -> Glyph
     ensures value { result ≡ joined_to glyph code }
     ensures columns { 1 ≤ glyph.width → glyph.width ≤ 3 → (1 ≤ result.width) × (result.width ≤ 3) }
 {
-    if glyph.count >= 6 {
-        return on_blank(code);
-    }
-    let mut marks = glyph.marks;
-    marks[glyph.count as usize] = code;
-    Glyph {
-        marks,
-        count: glyph.count + 1,
-        ..glyph
+    match join(glyph, code) {
+        Some(marked) => marked,
+        None => on_blank(code),
     }
 }
 

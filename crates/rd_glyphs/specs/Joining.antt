@@ -1,0 +1,32 @@
+-- How characters stand towards marks.
+use Rattle.std.specs.Prelude.{ℕ, nat_lt, Bool, true, false, if◌then◌else◌, List, [], ◌∷◌, Option, None, Some}
+use Rattle.rd_base.specs.Cells.{single}
+use Rattle.rd_base.specs.declared.cell.Glyph.{Glyph}
+use Rattle.rd_ucd.specs.Lookup.{class_of}
+use Rattle.rd_glyphs.specs.declared.joining.Joining.{Joining}
+use Rattle.rd_glyphs.specs.declared.joining.Joining.TheVariants as joining
+use Rattle.rd_glyphs.specs.declared.shown.Shown.{Shown}
+use Rattle.rd_glyphs.specs.declared.shown.Shown.TheVariants.{Mark, Itself}
+use Rattle.rd_glyphs.specs.Characters.{PartValues, shown_as, entry_of}
+use Rattle.rd_glyphs.specs.Lines.{with_mark}
+
+-- an entry that shows nothing
+abbrev pub is_empty_entry : Option (List Glyph) → Bool
+is_empty_entry (Some []) = true
+is_empty_entry entry = false
+
+-- a character that a table shows joins no mark, nor is it one
+abbrev pub joining_by : Option (List Glyph) → Shown → Joining
+joining_by (Some []) shown = joining.Empty
+joining_by (Some (g ∷ gs)) shown = joining.Alone
+joining_by None (Itself code width) = joining.Base (single code width)
+joining_by None (Mark code) = joining.Mark code
+joining_by None shown = joining.Alone
+
+-- how a character stands towards marks
+abbrev pub joining_of : PartValues → ℕ → Joining
+joining_of parts ch = joining_by (entry_of parts.table ch) (shown_as parts.settings.ctl_arrow (class_of parts.classes ch) ch)
+
+-- the glyph with one more mark, unless it has six
+abbrev pub joined_glyph : Glyph → ℕ → Option Glyph
+joined_glyph g code = if nat_lt g.count 6 then Some (with_mark g code) else None
