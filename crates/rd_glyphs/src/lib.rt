@@ -8,6 +8,7 @@ mod plain;
 mod shown;
 
 pub use joining::{Joining, join};
+pub use looks::on_blank;
 pub use parts::{Parts, expand};
 pub use plain::plain_line;
 

@@ -1,0 +1,4 @@
+mod Cuts
+mod Runs
+mod Steps
+mod Strings

@@ -1,0 +1,121 @@
+-- Runs of replaced and hidden positions.
+use Rattle.std.proofs.Common.{◌≡◌, ℕ, ◌+◌, ◌-◌, ◌<◌, ◌≤◌, Bool, true, false, List, [], ◌∷◌, Option, Some, None, refl, ap, ◌∙◌, arith, add-one}
+use Rattle.std.specs.Prelude.{suc, not, ◌&&◌, ◌||◌, is_some, if◌then◌else◌}
+use Rattle.std.proofs.lemmas.Bool.Decides.{nat_tests}
+use Rattle.rd_props.specs.Buffers.{BufferValue}
+use Rattle.rd_items.specs.declared.showing.Showing.{Showing}
+use Rattle.rd_items.specs.Readings.{Entry, showing_at, entry_at, is_hidden, is_open, is_ender, ends_line, accessible_char, reading, behind}
+use Rattle.rd_items.specs.Pieces.{same_spec, goes_on, run_length}
+
+-- the end is neither replaced nor hidden
+pub end-open : (s : BufferValue) → is_open (showing_at s s.text.end) ≡ true
+end-open s = grind (arith, nat_tests)
+
+spec-stops : (spec other : Option ℕ) → is_some other ≡ false → same_spec spec other ≡ false
+spec-stops None other none = refl
+spec-stops (Some n) None none = refl
+spec-stops (Some n) (Some m) none = cc
+
+spec-alone : (spec other : Option ℕ) → is_some spec ≡ false → same_spec spec other ≡ false
+spec-alone None other none = refl
+spec-alone (Some n) other none = cc
+
+both-false : (a b : Bool) → (not a && not b) ≡ true → (a ≡ false) × (b ≡ false)
+both-false true b e = cc
+both-false false true e = cc
+both-false false false e = (refl, refl)
+
+neither : (a b c : Bool) → a ≡ false → c ≡ false → (a || (b && c)) ≡ false
+neither true b c e f = cc
+neither false true c e f = f
+neither false false c e f = refl
+
+neither-first : (a b c : Bool) → a ≡ false → b ≡ false → (a || (b && c)) ≡ false
+neither-first true b c e f = cc
+neither-first false true c e f = cc
+neither-first false false c e f = refl
+
+-- an open position belongs to no run
+pub open-stops : (first next : Showing) → is_open next ≡ true → goes_on first next ≡ false
+open-stops first next shown =
+    let parts = both-false (is_some next.display) (is_hidden next.hidden) shown in
+    neither (same_spec first.display next.display) (is_hidden first.hidden) (is_hidden next.hidden) (spec-stops first.display next.display parts.0) parts.1
+
+open-begins : (first next : Showing) → is_open first ≡ true → goes_on first next ≡ false
+open-begins first next shown =
+    let parts = both-false (is_some first.display) (is_hidden first.hidden) shown in
+    neither-first (same_spec first.display next.display) (is_hidden first.hidden) (is_hidden next.hidden) (spec-alone first.display next.display parts.0) parts.1
+
+-- nor does it begin one
+pub open-alone : (first : Showing) (es : List Entry) → is_open first ≡ true → run_length first es ≡ 0
+open-alone first [] shown = refl
+open-alone first (e ∷ es) shown = rw (open-begins first e.showing shown)
+
+first-true : (a b : Bool) → (a && b) ≡ true → a ≡ true
+first-true true b e = refl
+first-true false b e = e
+
+pub ender-open : (s : BufferValue) (p : ℕ) → is_ender s p ≡ true → is_open (showing_at s p) ≡ true
+ender-open s p ender = first-true (is_open (showing_at s p)) (ends_line (accessible_char s p)) ender
+
+-- what is read at a position before the end
+pub reading-step : (s : BufferValue) (p : ℕ) → p < s.text.end → reading s p ≡ entry_at s p ∷ (if is_ender s p then [] else reading s (suc p))
+reading-step s p before =
+    let n : s.text.end - p ≡ suc (s.text.end - suc p) = omega arith in
+    rw n
+
+pub reading-end : (s : BufferValue) (p : ℕ) → p ≡ s.text.end → reading s p ≡ entry_at s p ∷ []
+reading-end s p end =
+    let n : s.text.end - p ≡ 0 = omega arith in
+    rw n
+
+pub not-both : (a : Bool) → a ≡ true → a ≡ false → ⊥
+not-both a e f = cc
+
+pub if-false : {A : Type 0} (test : Bool) (a b : A) → test ≡ false → (if test then a else b) ≡ b
+if-false true a b e = cc
+if-false false a b e = refl
+
+pub false-unless : (test : Bool) → (test ≡ true → ⊥) → test ≡ false
+false-unless true none = absurd (none refl)
+false-unless false none = refl
+
+-- a replaced or hidden position stands before the end, and what is read behind it is what is read at the next
+pub closed-before : (s : BufferValue) (p : ℕ) → p ≤ s.text.end → is_open (showing_at s p) ≡ false → p < s.text.end
+closed-before s p within closed =
+    let differs : p ≡ s.text.end → ⊥ = λ e. not-both (is_open (showing_at s p)) (rw e (end-open s)) closed in
+    grind arith
+
+pub behind-closed : (s : BufferValue) (p : ℕ) → p < s.text.end → is_open (showing_at s p) ≡ false → behind (reading s p) ≡ reading s (suc p)
+behind-closed s p before closed =
+    let ender = false-unless (is_ender s p) (λ e. not-both (is_open (showing_at s p)) (ender-open s p e) closed) in
+    ap behind (reading-step s p before) ∙ if-false (is_ender s p) [] (reading s (suc p)) ender
+
+-- an open position's run ends behind it
+pub open-end : (s : BufferValue) (p : ℕ) (showing : Showing) → is_open showing ≡ true → p + 1 ≡ suc p + run_length showing (behind (reading s p))
+open-end s p showing shown =
+    let alone = open-alone showing (behind (reading s p)) shown in
+    rw alone (omega arith)
+
+-- one position more belongs to a run
+pub run-more : (s : BufferValue) (p : ℕ) (showing : Showing) → p < s.text.end → goes_on showing (showing_at s p) ≡ true → run_length showing (reading s p) ≡ suc (run_length showing (reading s (suc p)))
+run-more s p showing before more =
+    let closed = false-unless (is_open (showing_at s p)) (λ e. not-both (goes_on showing (showing_at s p)) more (open-stops showing (showing_at s p) e)) in
+    let ender = false-unless (is_ender s p) (λ e. not-both (is_open (showing_at s p)) (ender-open s p e) closed) in
+    let rest = if-false (is_ender s p) [] (reading s (suc p)) ender in
+    ap (run_length showing) (reading-step s p before) ∙ rw (more, rest)
+
+-- a run behind its first position
+pub run-begins : (s : BufferValue) (p : ℕ) (showing : Showing) → p ≤ s.text.end → showing ≡ showing_at s p → is_open showing ≡ false → (p < s.text.end) × (p + 1 + run_length showing (reading s (p + 1)) ≡ 1 + p + run_length showing (behind (reading s p)))
+run-begins s p showing within same closed =
+    let here : is_open (showing_at s p) ≡ false = rw same at closed in
+    let before = closed-before s p within here in
+    let rest = behind-closed s p before here in
+    (before, rw (add-one, rest) (omega arith))
+
+-- one position more
+pub run-goes : (s : BufferValue) (p n : ℕ) (showing next : Showing) → p < s.text.end → next ≡ showing_at s p → goes_on showing next ≡ true → p + run_length showing (reading s p) ≡ n → p + 1 + run_length showing (reading s (p + 1)) ≡ n
+run-goes s p n showing next before same more so-far =
+    let here : goes_on showing (showing_at s p) ≡ true = rw same at more in
+    let one = run-more s p showing before here in
+    rw add-one (omega arith)

@@ -1,0 +1,15 @@
+use Rattle.std.proofs.Common.{◌-◌, ◌≡◌, ◌+◌, ◌<◌, ◌≤◌}
+use Rattle.rd_props.specs.Buffers.{meaning}
+use Rattle.rd_items.specs.Readings.{reading, behind}
+use Rattle.rd_items.specs.Pieces.{run_length}
+use Rattle.rd_items.proofs.showing.run_end.Given as goal
+
+abbrev pub invariant-loop-to : goal.invariant-loop-to
+invariant-loop-to l = record {
+  ordered : l.pos < l.to;
+  within : l.to ≤ l.end;
+  length : l.to + run_length l.showing (reading (meaning l.view.state.now) l.to) ≡ 1 + l.pos + run_length l.showing (behind (reading (meaning l.view.state.now) l.pos));
+}
+
+abbrev pub decreases-loop-to : goal.decreases-loop-to
+decreases-loop-to l = l.end - l.to

@@ -1,0 +1,5 @@
+pub mod Blocks
+pub mod Readings
+pub mod Pieces
+pub mod Items
+pub mod Examples

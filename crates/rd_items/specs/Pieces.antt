@@ -1,0 +1,164 @@
+-- The pieces of a block: what its positions give, before marks join and ranges are handed on.
+use Rattle.std.specs.Prelude.{ℕ, zero, suc, ◌+◌, ◌==◌, Bool, true, false, not, ◌||◌, ◌&&◌, if◌then◌else◌, List, [], ◌∷◌, ◌++◌, slice_get, map, Option, None, Some}
+use Rattle.std.specs.Option.{unwrap_or, option_and_then}
+use Rattle.rd_base.specs.declared.class.Class.{Class}
+use Rattle.rd_base.specs.declared.class.Class.TheVariants.{B, S, ON}
+use Rattle.rd_base.specs.declared.cell.Glyph.{Glyph}
+use Rattle.rd_text.specs.Texts.{is_newline}
+use Rattle.rd_ucd.specs.declared.spans.Span.{Span}
+use Rattle.rd_ucd.specs.declared.spans.Pair.{Pair}
+use Rattle.rd_ucd.specs.Lookup.{class_of}
+use Rattle.rd_objects.specs.declared.run.Spec.{Spec}
+use Rattle.rd_objects.specs.declared.run.Spec.TheVariants.{Text, Width, Align}
+use Rattle.rd_objects.specs.Tables.{TableValue}
+use Rattle.rd_objects.specs.Texts.{TextValue}
+use Rattle.rd_objects.specs.Things.{ObjectLists}
+use Rattle.rd_glyphs.specs.Characters.{PartValues, entry_of, on_blank}
+use Rattle.rd_glyphs.specs.Joining.{is_empty_entry, joining_of}
+use Rattle.rd_glyphs.specs.declared.joining.Joining.{Joining}
+use Rattle.rd_glyphs.specs.declared.joining.Joining.TheVariants as joining
+use Rattle.rd_props.specs.Buffers.{BufferValue, meaning}
+use Rattle.rd_props.specs.declared.state.View.{View}
+use Rattle.rd_props.specs.declared.hiding.Hidden.{Hidden}
+use Rattle.rd_props.specs.declared.hiding.Hidden.TheVariants.{No, Plain, Ellipsis}
+use Rattle.rd_items.specs.Readings.{Entry, is_hidden}
+use Rattle.rd_items.specs.declared.showing.Showing.{Showing}
+use Rattle.rd_items.specs.declared.item.ItemKind.{ItemKind}
+use Rattle.rd_items.specs.declared.item.ItemKind.TheVariants as kind
+use Rattle.rd_items.specs.declared.piece.Piece.{Piece}
+
+-- what the items of a block depend on, besides what is read of it
+pub record Scene : Type 0 where
+  pub objects : ObjectLists
+  pub parts : PartValues
+
+-- the table of a number, where one was made with it
+abbrev pub table_in : ObjectLists → Option ℕ → Option TableValue
+table_in objects number = option_and_then (λ n. slice_get objects.tables n) number
+
+abbrev pub parts_in : BufferValue → ObjectLists → List Span → List Pair → PartValues
+parts_in s objects classes mirrors =
+    record { table = table_in objects s.settings.table; settings = s.settings; classes = classes; mirrors = mirrors }
+
+abbrev pub scene_of : View → Scene
+scene_of view = record {
+  objects = view.objects.now;
+  parts = parts_in (meaning view.state.now) view.objects.now view.classes.now view.mirrors.now;
+}
+
+-- the display spec of a number: no columns where none was made with it
+abbrev pub spec_in : ObjectLists → ℕ → Spec
+spec_in objects number = unwrap_or (slice_get objects.specs number) (Width 0)
+
+-- a character of a string that gives an element: a newline ends a row, and any other has those of its entry in the table
+abbrev pub gives_element : Option TableValue → ℕ → Bool
+gives_element table c = is_newline c || not (is_empty_entry (entry_of table c))
+
+-- whether characters give any element
+abbrev pub give_elements : Option TableValue → List ℕ → Bool
+give_elements table [] = false
+give_elements table (c ∷ cs) = gives_element table c || give_elements table cs
+
+-- whether a display string gives any element
+abbrev pub string_gives : Option TableValue → Option TextValue → Bool
+string_gives table None = false
+string_gives table (Some text) = give_elements table text.chars
+
+-- whether the ellipsis gives any element: none where the table has an empty one
+abbrev pub ellipsis_gives : Option TableValue → Bool
+ellipsis_gives None = true
+ellipsis_gives (Some table) = not (is_empty_entry table.ellipsis)
+
+-- a piece that marks don't join
+abbrev pub piece : Class → Option ItemKind → Bool → ℕ → ℕ → Piece
+piece class kind covers at to = record { class = class; kind = kind; covers = covers; at = at; to = to; base = None; mark = None }
+
+-- the strings of overlays at a position cover nothing
+abbrev pub string_piece : ℕ → ℕ → Piece
+string_piece p number = piece ON (Some (kind.Text number)) false p p
+
+abbrev pub string_pieces : ℕ → List ℕ → List Piece
+string_pieces p numbers = map (string_piece p) numbers
+
+-- text that a display spec replaces: the spec's string, or its space, which counts as a separator
+abbrev pub spec_piece : Scene → Spec → ℕ → ℕ → Piece
+spec_piece s (Text n) p to = piece ON (Some (kind.Text n)) (string_gives s.parts.table (slice_get s.objects.strings n)) p to
+spec_piece s (Width n) p to = piece S (Some (kind.Space (Width n))) true p to
+spec_piece s (Align n) p to = piece S (Some (kind.Space (Align n))) true p to
+
+-- a separator of paragraphs inside a block counts as one of segments
+abbrev pub inner_class : Class → Class
+inner_class B = S
+inner_class c = c
+
+abbrev pub has_element : Joining → Bool
+has_element joining.Empty = false
+has_element j = true
+
+-- the glyph that marks may join: the character, or the blank that it stands on as a mark
+abbrev pub base_of : Joining → Option Glyph
+base_of (joining.Base g) = Some g
+base_of (joining.Mark code) = Some (on_blank code)
+base_of j = None
+
+abbrev pub mark_of : Joining → Option ℕ
+mark_of (joining.Mark code) = Some code
+mark_of j = None
+
+abbrev pub char_by : Joining → Class → ℕ → ℕ → Piece
+char_by j class c p = record {
+  class = inner_class class;
+  kind = Some (kind.Char c);
+  covers = has_element j;
+  at = p;
+  to = p + 1;
+  base = base_of j;
+  mark = mark_of j;
+}
+
+abbrev pub char_piece : Scene → ℕ → ℕ → Piece
+char_piece s c p = char_by (joining_of s.parts c) (class_of s.parts.classes c) c p
+
+abbrev pub ender_piece : ℕ → Piece
+ender_piece p = piece B (Some kind.Ender) true p (p + 1)
+
+-- text that is neither replaced nor hidden, and the end
+abbrev pub open_piece : Scene → Option ℕ → ℕ → Piece
+open_piece s None p = ender_piece p
+open_piece s (Some c) p = if is_newline c then ender_piece p else char_piece s c p
+
+-- text that is not replaced: hidden text gives an ellipsis, or nothing
+abbrev pub unreplaced_piece : Scene → Hidden → Option ℕ → ℕ → ℕ → Piece
+unreplaced_piece s No ch p to = open_piece s ch p
+unreplaced_piece s Plain ch p to = piece ON None false p to
+unreplaced_piece s Ellipsis ch p to = piece ON (Some kind.Ellipsis) (ellipsis_gives s.parts.table) p to
+
+abbrev pub piece_by : Scene → Option ℕ → Hidden → Option ℕ → ℕ → ℕ → Piece
+piece_by s (Some n) hidden ch p to = spec_piece s (spec_in s.objects n) p to
+piece_by s None hidden ch p to = unreplaced_piece s hidden ch p to
+
+-- what a position gives as the first of its run, which ends before another
+abbrev pub piece_at : Scene → Showing → Option ℕ → ℕ → ℕ → Piece
+piece_at s showing ch p to = piece_by s showing.display showing.hidden ch p to
+
+abbrev pub same_spec : Option ℕ → Option ℕ → Bool
+same_spec (Some a) (Some b) = a == b
+same_spec a b = false
+
+-- a position belongs to the run of another: both are replaced by one spec, or both are hidden
+abbrev pub goes_on : Showing → Showing → Bool
+goes_on first next = same_spec first.display next.display || (is_hidden first.hidden && is_hidden next.hidden)
+
+-- how many of the positions behind one belong to its run
+abbrev pub run_length : Showing → List Entry → ℕ
+run_length first [] = 0
+run_length first (e ∷ es) = if goes_on first e.showing then suc (run_length first es) else 0
+
+-- the pieces of a position and of those after it, of which so many belong to an earlier run and give nothing: of each other
+-- first the strings before it, and then its own with its run
+abbrev pub pieces_from : Scene → ℕ → ℕ → List Entry → List Piece
+pieces_from s due p [] = []
+pieces_from s (suc due) p (e ∷ es) = pieces_from s due (suc p) es
+pieces_from s zero p (e ∷ es) =
+    string_pieces p e.strings
+    ++ piece_at s e.showing e.ch p (suc p + run_length e.showing es) ∷ pieces_from s (run_length e.showing es) (suc p) es

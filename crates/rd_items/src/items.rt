@@ -1,0 +1,79 @@
+//! The items of a block.
+ghost use Rattle.std.specs.Prelude.{◌≡◌, IfOk};
+ghost use Rattle.rd_text.specs.Texts.{IsAccessible};
+ghost use Rattle.rd_props.specs.Buffers.{meaning};
+ghost use Rattle.rd_items.specs.Pieces.{scene_of};
+ghost use Rattle.rd_items.specs.Items.{items_of};
+
+use crate::item::Item;
+use crate::walk::Walk;
+use rd_base::{ListOf, Memory, Pos};
+use rd_props::View;
+use std::alloc::Global;
+use std::marker::Model;
+
+/// The items of a block, fewer than 2^32. Contracts see them as their list.
+#[derive(Debug, Drop)]
+pub struct Items {
+    list: ListOf<Item>,
+}
+
+impl Model for Items {
+    ghost use Rattle.std.specs.Prelude.{List, ◌<◌, length};
+    ghost use Rattle.rd_items.specs.declared.item.Item.{Item};
+
+    ghost Value = { List Item };
+
+    ghost view = { λ items. items.list };
+
+    ghost invariant = { λ items. length items.list < 4294967296 };
+}
+
+impl Items {
+    ghost use Rattle.std.specs.Prelude.{◌≡◌, ◌<◌, length, slice_get, Some, IfOk};
+    ghost use Rattle.rd_text.specs.Texts.{IsAccessible};
+    ghost use Rattle.rd_props.specs.Buffers.{meaning};
+    ghost use Rattle.rd_items.specs.Pieces.{scene_of};
+    ghost use Rattle.rd_items.specs.Items.{items_of};
+
+    /// The items of the block that starts at a position, in order of position. It costs the look-ups of the properties and of
+    /// the strings at each of the block's positions.
+    pub fn new(alloc: Global, view: &View, start: Pos) -> Result<Items, Memory>
+        requires { IsAccessible view.now.state.now.text start }
+        ensures { IfOk result (λ items. items ≡ items_of (meaning view.now.state.now) (scene_of view.now) start) }
+    {
+        let list = walk_from(alloc, view, start)?;
+        if list.len() > u32::MAX as usize {
+            return Err(Memory);
+        }
+        Ok(Items { list })
+    }
+
+    /// How many items there are.
+    pub fn len(&self) -> u32
+        ensures { result ≡ length self.now }
+    {
+        self.list.len() as u32
+    }
+
+    /// The item of a number, counted from 0.
+    pub fn item(&self, i: u32) -> &Item
+        requires { i < length self.now }
+        ensures { slice_get self.now i ≡ Some result.now }
+    {
+        self.list.get(i as usize)
+    }
+}
+
+/// The items from a position up to the block's ender.
+fn walk_from(alloc: Global, view: &View, start: Pos) -> Result<ListOf<Item>, Memory>
+    requires { IsAccessible view.now.state.now.text start }
+    ensures { IfOk result (λ items. items ≡ items_of (meaning view.now.state.now) (scene_of view.now) start) }
+{
+    let mut walk = Walk::new(alloc, start);
+    let mut pos = start;
+    while let Some(next) = walk.step(alloc, view, pos)? {
+        pos = next;
+    }
+    walk.finish()
+}

@@ -1,0 +1,254 @@
+//! What positions give before marks join and ranges are handed on.
+ghost use Rattle.std.specs.Prelude.{◌≡◌, ◌<◌, option_map, slice_get};
+ghost use Rattle.rd_text.specs.Texts.{IsAccessible};
+ghost use Rattle.rd_props.specs.Buffers.{meaning};
+ghost use Rattle.rd_items.specs.Readings.{accessible_char};
+ghost use Rattle.rd_items.specs.Pieces.{scene_of, table_in, spec_in, gives_element, give_elements, string_gives, ellipsis_gives, inner_class, has_element, base_of, mark_of, char_by, spec_piece, open_piece, unreplaced_piece, piece_at};
+
+use crate::item::ItemKind;
+use crate::showing::{Showing, char_at};
+use rd_base::{Ch, Class, Glyph, Pos};
+use rd_glyphs::{Joining, Parts, on_blank};
+use rd_objects::{Objects, Spec, Table, Text};
+use rd_props::{Hidden, View};
+
+/// A piece of a line: what stands for the positions from `at` to `to - 1`. There is no `kind` for hidden text without an
+/// ellipsis. It `covers` its positions where it has an element and is no overlay's string.
+#[derive(Clone, Copy, Debug, PartialEq, Eq)]
+pub struct Piece {
+    pub class: Class,
+    pub kind: Option<ItemKind>,
+    pub covers: bool,
+    pub at: Pos,
+    pub to: Pos,
+    /// The glyph that marks may join.
+    pub base: Option<Glyph>,
+    /// The mark that this is.
+    pub mark: Option<u32>,
+}
+
+impl Piece {
+    ghost use Rattle.std.specs.Prelude.{◌≡◌, ◌<◌};
+    ghost use Rattle.rd_items.specs.Pieces.{piece, string_piece, ender_piece};
+
+    /// A piece that marks don't join.
+    fn new(class: Class, kind: Option<ItemKind>, covers: bool, at: Pos, to: Pos) -> Piece
+        ensures { result ≡ piece class kind covers at to }
+    {
+        Piece {
+            class,
+            kind,
+            covers,
+            at,
+            to,
+            base: None,
+            mark: None,
+        }
+    }
+
+    /// An overlay's string before a position.
+    pub fn string(pos: Pos, number: u32) -> Piece
+        ensures { result ≡ string_piece pos number }
+    {
+        Piece::new(Class::ON, Some(ItemKind::Text(number)), false, pos, pos)
+    }
+
+    /// What ends a block.
+    fn ender(pos: Pos) -> Piece
+        requires { pos < 4294967295 }
+        ensures { result ≡ ender_piece pos }
+    {
+        Piece::new(Class::B, Some(ItemKind::Ender), true, pos, pos + 1)
+    }
+}
+
+/// The table of a number, where one was made with it.
+fn table_of(objects: &Objects, number: Option<u32>) -> Option<&Table>
+    ensures { option_map (λ table. table.now) result ≡ table_in objects.now number }
+{
+    match number {
+        None => None,
+        Some(number) => objects.table(number),
+    }
+}
+
+/// What the elements of a buffer's characters depend on. A number that names no table stands for none.
+pub fn parts_of<'a>(view: &View<'a>) -> Parts<'a>
+    ensures { result ≡ (scene_of view.now).parts }
+{
+    let state = view.state;
+    let settings = &state.settings;
+    Parts {
+        table: table_of(view.objects, settings.table),
+        settings,
+        classes: view.classes,
+        mirrors: view.mirrors,
+    }
+}
+
+/// The display spec of a number: no columns where none was made with it.
+fn spec_of(objects: &Objects, number: u32) -> Spec
+    ensures { result ≡ spec_in objects.now number }
+{
+    match objects.spec(number) {
+        Some(spec) => spec,
+        None => Spec::Width(0),
+    }
+}
+
+/// Whether a character of a string gives an element.
+fn gives_element(parts: &Parts, ch: Ch) -> bool
+    ensures { result ≡ gives_element parts.now.table ch }
+{
+    ch.code() == 10 || !parts.is_empty(ch)
+}
+
+/// Whether the characters of a string give any element.
+fn give_elements(parts: &Parts, text: &Text) -> bool
+    ensures { result ≡ give_elements parts.now.table text.now.chars }
+{
+    for i in 0..text.len() {
+        if gives_element(parts, text.ch(i)) {
+            return true;
+        }
+    }
+    false
+}
+
+/// Whether the string of a number gives any element.
+fn string_gives(parts: &Parts, objects: &Objects, number: u32) -> bool
+    ensures { result ≡ string_gives parts.now.table (slice_get objects.now.strings number) }
+{
+    match objects.string(number) {
+        Some(text) => give_elements(parts, text),
+        None => false,
+    }
+}
+
+/// Whether the ellipsis gives any element.
+fn ellipsis_gives(parts: &Parts) -> bool
+    ensures { result ≡ ellipsis_gives parts.now.table }
+{
+    match parts.table {
+        None => true,
+        Some(table) => match table.ellipsis() {
+            Some(text) => !text.is_empty(),
+            None => true,
+        },
+    }
+}
+
+/// The piece of text that a spec replaces.
+fn spec_piece(parts: &Parts, objects: &Objects, spec: Spec, pos: Pos, to: Pos) -> Piece
+    ensures { result ≡ spec_piece (record { objects = objects.now; parts = parts.now }) spec pos to }
+{
+    match spec {
+        Spec::Text(number) => Piece::new(
+            Class::ON,
+            Some(ItemKind::Text(number)),
+            string_gives(parts, objects, number),
+            pos,
+            to,
+        ),
+        Spec::Width(_) | Spec::Align(_) => {
+            Piece::new(Class::S, Some(ItemKind::Space(spec)), true, pos, to)
+        }
+    }
+}
+
+/// The class of a character inside a block.
+fn inner_class(class: Class) -> Class
+    ensures { result ≡ inner_class class }
+{
+    match class {
+        Class::B => Class::S,
+        other => other,
+    }
+}
+
+/// Whether a character has an element.
+fn has_element(joining: Joining) -> bool
+    ensures { result ≡ has_element joining }
+{
+    match joining {
+        Joining::Empty => false,
+        _ => true,
+    }
+}
+
+/// The glyph that marks may join.
+fn base_of(joining: Joining) -> Option<Glyph>
+    ensures { result ≡ base_of joining }
+{
+    match joining {
+        Joining::Base(glyph) => Some(glyph),
+        Joining::Mark(code) => Some(on_blank(code)),
+        _ => None,
+    }
+}
+
+/// The mark that a character is.
+fn mark_of(joining: Joining) -> Option<u32>
+    ensures { result ≡ mark_of joining }
+{
+    match joining {
+        Joining::Mark(code) => Some(code),
+        _ => None,
+    }
+}
+
+/// The piece of a character of this class.
+fn char_by(joining: Joining, class: Class, ch: Ch, pos: Pos) -> Piece
+    requires { pos < 4294967295 }
+    ensures { result ≡ char_by joining class ch pos }
+{
+    Piece {
+        class: inner_class(class),
+        kind: Some(ItemKind::Char(ch)),
+        covers: has_element(joining),
+        at: pos,
+        to: pos + 1,
+        base: base_of(joining),
+        mark: mark_of(joining),
+    }
+}
+
+/// The piece of a position that is neither replaced nor hidden.
+fn open_piece(parts: &Parts, objects: &Objects, ch: Option<Ch>, pos: Pos) -> Piece
+    requires { pos < 4294967295 }
+    ensures { result ≡ open_piece (record { objects = objects.now; parts = parts.now }) ch pos }
+{
+    match ch {
+        None => Piece::ender(pos),
+        Some(ch) => {
+            if ch.code() == 10 {
+                return Piece::ender(pos);
+            }
+            char_by(parts.joining(ch), parts.classes.class(ch), ch, pos)
+        }
+    }
+}
+
+/// The piece of a position, the first of its run, which ends before another.
+pub fn piece_at(view: &View, showing: Showing, pos: Pos, to: Pos) -> Piece
+    requires accessible { IsAccessible view.now.state.now.text pos }
+    requires place { pos < 4294967295 }
+    ensures { result ≡ piece_at (scene_of view.now) showing (accessible_char (meaning view.now.state.now) pos) pos to }
+{
+    let parts = parts_of(view);
+    match (showing.display, showing.hidden) {
+        (Some(number), _) => {
+            let spec = spec_of(view.objects, number);
+            spec_piece(&parts, view.objects, spec, pos, to)
+        }
+        (None, Hidden::No) => open_piece(&parts, view.objects, char_at(view, pos), pos),
+        (None, Hidden::Plain) => Piece::new(Class::ON, None, false, pos, to),
+        (None, Hidden::Ellipsis) => Piece::new(
+            Class::ON,
+            Some(ItemKind::Ellipsis),
+            ellipsis_gives(&parts),
+            pos,
+            to,
+        ),
+    }
+}

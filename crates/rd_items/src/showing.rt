@@ -1,0 +1,126 @@
+//! How the text at a position is shown, and how far a run goes.
+ghost use Rattle.std.specs.Prelude.{◌≡◌, ◌+◌, ◌<◌, suc, IfOk};
+ghost use Rattle.rd_text.specs.Texts.{IsAccessible};
+ghost use Rattle.rd_props.specs.Buffers.{meaning};
+ghost use Rattle.rd_items.specs.Readings.{showing_at, accessible_char, ends_line, is_hidden, is_ender, reading, behind};
+ghost use Rattle.rd_items.specs.Pieces.{same_spec, goes_on, run_length};
+
+use rd_base::{Ch, Memory, Pos};
+use rd_overlays::Kind;
+use rd_props::{Hidden, View, effective, hidden};
+use std::alloc::Global;
+
+/// How the text at a position is shown: the number of the display spec that replaces it, and how it is hidden.
+#[derive(Clone, Copy, Debug, PartialEq, Eq)]
+pub struct Showing {
+    pub display: Option<u32>,
+    pub hidden: Hidden,
+}
+
+/// Whether text is hidden, with an ellipsis or without.
+fn is_hidden(hidden: Hidden) -> bool
+    ensures { result ≡ is_hidden hidden }
+{
+    match hidden {
+        Hidden::No => false,
+        Hidden::Plain | Hidden::Ellipsis => true,
+    }
+}
+
+/// Whether two positions are replaced by one spec.
+fn same_spec(a: Option<u32>, b: Option<u32>) -> bool
+    ensures { result ≡ same_spec a b }
+{
+    match (a, b) {
+        (Some(a), Some(b)) => a == b,
+        _ => false,
+    }
+}
+
+/// Whether this is a newline, or the end of the accessible text.
+pub fn ends_line(ch: Option<Ch>) -> bool
+    ensures { result ≡ ends_line ch }
+{
+    match ch {
+        None => true,
+        Some(ch) => ch.code() == 10,
+    }
+}
+
+impl Showing {
+    ghost use Rattle.std.specs.Prelude.{◌≡◌};
+    ghost use Rattle.rd_items.specs.Readings.{is_open};
+    ghost use Rattle.rd_items.specs.Pieces.{goes_on};
+
+    /// Whether the text is neither replaced nor hidden.
+    pub fn is_open(self) -> bool
+        ensures { result ≡ is_open self }
+    {
+        self.display.is_none() && !is_hidden(self.hidden)
+    }
+
+    /// Whether another position belongs to the run of this one.
+    fn goes_on(self, next: Showing) -> bool
+        ensures { result ≡ goes_on self next }
+    {
+        same_spec(self.display, next.display) || is_hidden(self.hidden) && is_hidden(next.hidden)
+    }
+}
+
+/// The character at an accessible position, and None at the end of the accessible text.
+pub fn char_at(view: &View, pos: Pos) -> Option<Ch>
+    requires { IsAccessible view.now.state.now.text pos }
+    ensures { result ≡ accessible_char (meaning view.now.state.now) pos }
+{
+    let state = view.state;
+    if state.text.end() <= pos {
+        return None;
+    }
+    state.text.fetch(pos)
+}
+
+/// How an accessible position, or the end of the accessible text, is shown.
+pub fn showing_at(alloc: Global, view: &View, pos: Pos) -> Result<Showing, Memory>
+    requires { IsAccessible view.now.state.now.text pos }
+    ensures { IfOk result (λ showing. showing ≡ showing_at (meaning view.now.state.now) pos) }
+{
+    Ok(Showing {
+        display: effective(alloc, view, pos, Kind::Display)?,
+        hidden: hidden(alloc, view, pos)?,
+    })
+}
+
+/// Whether an accessible position, or the end of the accessible text, ends a block. Properties are looked up at newlines and at
+/// the end alone.
+pub fn is_ender(alloc: Global, view: &View, pos: Pos) -> Result<bool, Memory>
+    requires { IsAccessible view.now.state.now.text pos }
+    ensures { IfOk result (λ ends. ends ≡ is_ender (meaning view.now.state.now) pos) }
+{
+    if !ends_line(char_at(view, pos)) {
+        return Ok(false);
+    }
+    let showing = showing_at(alloc, view, pos)?;
+    Ok(showing.is_open())
+}
+
+/// The first position behind one that doesn't belong to its run.
+pub fn run_end(alloc: Global, view: &View, pos: Pos, showing: Showing) -> Result<Pos, Memory>
+    requires accessible { IsAccessible view.now.state.now.text pos }
+    requires showing { showing ≡ showing_at (meaning view.now.state.now) pos }
+    ensures { IfOk result (λ to. to ≡ suc pos + run_length showing (behind (reading (meaning view.now.state.now) pos))) }
+{
+    let state = view.state;
+    let end = state.text.end();
+    let mut to = pos + 1;
+    if showing.is_open() {
+        return Ok(to);
+    }
+    while to < end {
+        let next = showing_at(alloc, view, to)?;
+        if !showing.goes_on(next) {
+            return Ok(to);
+        }
+        to += 1;
+    }
+    Ok(to)
+}

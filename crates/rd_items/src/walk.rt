@@ -1,0 +1,154 @@
+//! The walk over a block: marks join, and ranges are handed on.
+ghost use Rattle.std.specs.Prelude.{◌≡◌};
+ghost use Rattle.rd_items.specs.Items.{marked_glyph, marked, item_of};
+
+use crate::item::{Item, ItemKind};
+use crate::piece::{Piece, piece_at};
+use crate::showing::{is_ender, run_end, showing_at};
+use rd_base::{Glyph, ListOf, Memory, Pos};
+use rd_glyphs::join;
+use rd_props::{View, strings_at};
+use std::alloc::Global;
+
+/// The items made so far, the first position that none of them covers yet, and the last piece, which marks may still join.
+#[derive(Drop)]
+pub struct Walk {
+    items: ListOf<Item>,
+    since: Pos,
+    held: Option<Piece>,
+}
+
+/// The glyph that a mark joins, with the mark, where it joins it.
+fn marked_glyph(base: Option<Glyph>, mark: Option<u32>) -> Option<Glyph>
+    ensures { result ≡ marked_glyph base mark }
+{
+    match (base, mark) {
+        (Some(glyph), Some(code)) => join(glyph, code),
+        _ => None,
+    }
+}
+
+/// A piece with the mark of the next, where it joins it.
+fn marked(held: &Piece, next: &Piece) -> Option<Piece>
+    ensures { result ≡ marked held.now next.now }
+{
+    match marked_glyph(held.base, next.mark) {
+        Some(glyph) => Some(Piece {
+            kind: Some(ItemKind::Marked(glyph)),
+            base: Some(glyph),
+            to: next.to,
+            class: held.class,
+            covers: held.covers,
+            at: held.at,
+            mark: held.mark,
+        }),
+        None => None,
+    }
+}
+
+/// The item of a piece that covers the positions from `since` on, or else nothing.
+fn item_of(since: Pos, piece: &Piece, kind: ItemKind) -> Item
+    ensures { result ≡ item_of since piece.now kind }
+{
+    let (from, to) = if piece.covers {
+        (since, piece.to)
+    } else {
+        (piece.at, piece.at)
+    };
+    Item {
+        class: piece.class,
+        kind,
+        at: piece.at,
+        from,
+        to,
+    }
+}
+
+impl Walk {
+    ghost use Rattle.std.specs.Prelude.{◌≡◌, ◌∷◌, [], ◌++◌, List, None, OnOk, IfOk};
+    ghost use Rattle.rd_text.specs.Texts.{IsAccessible};
+    ghost use Rattle.rd_props.specs.Buffers.{meaning};
+    ghost use Rattle.rd_items.specs.Items.{items_by, covered_to, whole, Steps};
+    ghost use Rattle.rd_items.specs.Pieces.{scene_of, string_pieces};
+    ghost use Rattle.rd_items.specs.declared.piece.Piece.{Piece};
+
+    /// A walk from a position.
+    pub fn new(alloc: Global, start: Pos) -> Walk
+        ensures items { result.items ≡ [] }
+        ensures since { result.since ≡ start }
+        ensures held { result.held ≡ None }
+    {
+        Walk {
+            items: ListOf::new(alloc),
+            since: start,
+            held: None,
+        }
+    }
+
+    /// Makes the item of a piece.
+    fn give(&mut self, piece: &Piece) -> Result<(), Memory>
+        ensures items { OnOk result (self.new.items ≡ self.old.items ++ items_by piece.now.kind self.old.since piece.now) }
+        ensures since { OnOk result (self.new.since ≡ covered_to self.old.since piece.now) }
+    {
+        if let Some(kind) = piece.kind {
+            self.items.push(item_of(self.since, piece, kind))?;
+        }
+        if piece.covers {
+            self.since = piece.to;
+        }
+        Ok(())
+    }
+
+    /// Adds a piece.
+    pub fn put(&mut self, piece: Piece) -> Result<(), Memory>
+        ensures { OnOk result ((xs : List Piece) → whole self.new.items self.new.since self.new.held xs ≡ whole self.old.items self.old.since self.old.held (piece ∷ xs)) }
+    {
+        let mut next = piece;
+        if let Some(held) = self.held.take() {
+            match marked(&held, &piece) {
+                Some(longer) => next = longer,
+                None => self.give(&held)?,
+            }
+        }
+        self.held = Some(next);
+        Ok(())
+    }
+
+    /// Adds the strings of overlays before a position.
+    fn put_strings(&mut self, pos: Pos, numbers: &[u32]) -> Result<(), Memory>
+        ensures { OnOk result ((xs : List Piece) → whole self.new.items self.new.since self.new.held xs ≡ whole self.old.items self.old.since self.old.held (string_pieces pos numbers.now ++ xs)) }
+    {
+        for number in numbers {
+            self.put(Piece::string(pos, *number))?;
+        }
+        Ok(())
+    }
+
+    /// Adds what stands at a position that belongs to no earlier run, and answers the next such position, or None behind the
+    /// block's ender.
+    pub fn step(&mut self, alloc: Global, view: &View, pos: Pos) -> Result<Option<Pos>, Memory>
+        requires { IsAccessible view.now.state.now.text pos }
+        ensures { Steps result (meaning view.now.state.now) (scene_of view.now) pos (whole self.old.items self.old.since self.old.held) (whole self.new.items self.new.since self.new.held) }
+    {
+        let strings = strings_at(alloc, view, pos)?;
+        self.put_strings(pos, strings.as_slice())?;
+        let showing = showing_at(alloc, view, pos)?;
+        let to = run_end(alloc, view, pos, showing)?;
+        self.put(piece_at(view, showing, pos, to))?;
+        if is_ender(alloc, view, pos)? {
+            return Ok(None);
+        }
+        Ok(Some(to))
+    }
+
+    /// The items, when no piece is left.
+    pub fn finish(self) -> Result<ListOf<Item>, Memory>
+        ensures { IfOk result (λ items. items ≡ whole self.items self.since self.held []) }
+    {
+        let mut walk = self;
+        if let Some(held) = walk.held.take() {
+            walk.give(&held)?;
+        }
+        Ok(walk.items)
+    }
+}
