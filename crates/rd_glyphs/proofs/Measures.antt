@@ -26,6 +26,7 @@ use Rattle.rd_base.specs.declared.element.Look.TheVariants as look
 use Rattle.rd_base.specs.Glyphs.{AreMeasured}
 use Rattle.rd_glyphs.specs.declared.shown.Shown.{Shown}
 use Rattle.rd_glyphs.specs.declared.shown.Shown.TheVariants.{Caret, Octal, Space, Mark, Itself}
+use Rattle.rd_glyphs.specs.Joining.{joining_by, IsMeasuredJoining}
 use Rattle.rd_glyphs.specs.Characters.{is_control, is_formatting, caret, shown_as, turned, mirrored, on_blank, narrow, digit, looks_of, element_of}
 
 -- what is put for a character has the columns that Unicode gives it: a letter is printable, a mark takes none, and a character
@@ -211,3 +212,11 @@ elements-measured face origin ls each = All-map (λ (e : Element). IsMeasuredLoo
 pub slot-measured : (g : Glyph) → length g.marks ≡ 6 → IsTrue (is_slot_glyph g) → IsMeasured g
 slot-measured g places is =
     character-measured g places (and_parts (is_glyph_character g) (g.width == 1) is).0
+
+-- how a character that no table shows stands towards marks
+pub joining-measured : (shown : Shown) → ShowsMeasured shown → IsMeasuredJoining (joining_by None shown)
+joining-measured (Caret letter) s = tt
+joining-measured (Octal byte) s = tt
+joining-measured Space s = tt
+joining-measured (Mark code) s = s
+joining-measured (Itself code width) s = single-measured code width s.0 s.1 s.2 s.3

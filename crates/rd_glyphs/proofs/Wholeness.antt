@@ -63,7 +63,7 @@ HoldsMeasured None = Unit {0}
 HoldsMeasured (Some g) = IsMeasured g
 
 -- a measured glyph takes one more mark
-marked-measured : (g : Glyph) (code : ℕ) → IsMeasured g → g.count < 6 → IsTrue (is_scalar code) → char_width false code ≡ Some 0 → IsMeasured (with_mark g code)
+pub marked-measured : (g : Glyph) (code : ℕ) → IsMeasured g → g.count < 6 → IsTrue (is_scalar code) → char_width false code ≡ Some 0 → IsMeasured (with_mark g code)
 marked-measured g code is room scalar none = record {
   scalar = is.scalar;
   columns = is.columns;

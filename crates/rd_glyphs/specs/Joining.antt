@@ -1,6 +1,9 @@
 -- How characters stand towards marks.
-use Rattle.std.specs.Prelude.{ℕ, nat_lt, Bool, true, false, if◌then◌else◌, List, [], ◌∷◌, Option, None, Some}
+use Rattle.std.specs.Prelude.{◌≡◌, ℕ, nat_lt, Bool, true, false, IsTrue, if◌then◌else◌, List, [], ◌∷◌, Option, None, Some}
+use Rattle.unicode_width.specs.Width.{char_width}
+use Rattle.rd_base.specs.Chars.{is_scalar}
 use Rattle.rd_base.specs.Cells.{single}
+use Rattle.rd_base.specs.Glyphs.{IsMeasured}
 use Rattle.rd_base.specs.declared.cell.Glyph.{Glyph}
 use Rattle.rd_ucd.specs.Lookup.{class_of}
 use Rattle.rd_glyphs.specs.declared.joining.Joining.{Joining}
@@ -30,3 +33,13 @@ joining_of parts ch = joining_by (entry_of parts.table ch) (shown_as parts.setti
 -- the glyph with one more mark, unless it has six
 abbrev pub joined_glyph : Glyph → ℕ → Option Glyph
 joined_glyph g code = if nat_lt g.count 6 then Some (with_mark g code) else None
+
+-- a mark: a scalar value of no columns
+abbrev pub IsMark : ℕ → Type 0
+IsMark code = IsTrue (is_scalar code) × (char_width false code ≡ Some 0)
+
+-- what joins has the columns that Unicode gives it
+abbrev pub IsMeasuredJoining : Joining → Type 0
+IsMeasuredJoining (joining.Base g) = IsMeasured g
+IsMeasuredJoining (joining.Mark code) = IsMark code
+IsMeasuredJoining j = Unit {0}

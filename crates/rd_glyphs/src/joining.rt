@@ -1,6 +1,7 @@
 //! How characters stand towards marks.
-ghost use Rattle.std.specs.Prelude.{◌≡◌, None};
-ghost use Rattle.rd_glyphs.specs.Joining.{joined_glyph, joining_by};
+ghost use Rattle.std.specs.Prelude.{◌≡◌, None, IfSome};
+ghost use Rattle.rd_base.specs.Glyphs.{IsMeasured};
+ghost use Rattle.rd_glyphs.specs.Joining.{joined_glyph, joining_by, IsMark};
 
 use crate::parts::Parts;
 use crate::shown::{Shown, shown_as};
@@ -22,7 +23,7 @@ pub enum Joining {
 impl<'a> Parts<'a> {
     ghost use Rattle.std.specs.Prelude.{◌≡◌};
     ghost use Rattle.rd_glyphs.specs.Characters.{entry_of};
-    ghost use Rattle.rd_glyphs.specs.Joining.{is_empty_entry, joining_of};
+    ghost use Rattle.rd_glyphs.specs.Joining.{is_empty_entry, joining_of, IsMeasuredJoining};
 
     /// Whether a table shows nothing for a character, so that it has no element. It costs a look at each entry of the table.
     pub fn is_empty(&self, ch: Ch) -> bool
@@ -38,6 +39,7 @@ impl<'a> Parts<'a> {
     /// data.
     pub fn joining(&self, ch: Ch) -> Joining
         ensures value { result ≡ joining_of self.now ch }
+        ensures measured { IsMeasuredJoining result }
     {
         if let Some(text) = self.entry(ch.code()) {
             return if text.is_empty() {
@@ -65,6 +67,7 @@ fn joining_of_shown(shown: Shown) -> Joining
 /// A glyph with one more mark, and None exactly where it has six.
 pub fn join(glyph: Glyph, code: u32) -> Option<Glyph>
     ensures value { result ≡ joined_glyph glyph code }
+    ensures measured { IsMeasured glyph → IsMark code → IfSome result (λ g. IsMeasured g) }
 {
     if glyph.count >= 6 {
         return None;

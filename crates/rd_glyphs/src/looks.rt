@@ -1,7 +1,9 @@
 //! What is put for one character: at most four looks.
 ghost use Rattle.std.specs.Prelude.{◌≡◌, ◌≤◌, All, length};
 ghost use Rattle.rd_base.specs.Cells.{single};
+ghost use Rattle.rd_base.specs.Glyphs.{IsMeasured};
 ghost use Rattle.rd_glyphs.specs.Characters.{narrow, digit, on_blank, looks_of, look_columns, TakesColumns, ShowsColumns};
+ghost use Rattle.rd_glyphs.specs.Joining.{IsMark};
 
 use crate::shown::Shown;
 use rd_base::{Glyph, Look};
@@ -82,7 +84,8 @@ fn digit(n: u32) -> Look
 
 /// A mark on a blank.
 pub fn on_blank(code: u32) -> Glyph
-    ensures { result ≡ on_blank code }
+    ensures value { result ≡ on_blank code }
+    ensures measured { IsMark code → IsMeasured result }
 {
     Glyph {
         base: 32,

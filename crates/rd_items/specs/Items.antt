@@ -1,12 +1,12 @@
 -- The items of a block.
-use Rattle.std.specs.Prelude.{◌≡◌, ℕ, ◌<◌, ◌≤◌, is_some, if◌then◌else◌, List, [], ◌∷◌, ◌++◌, Option, None, Some, option_map, Result, Ok, Err}
+use Rattle.std.specs.Prelude.{◌≡◌, ℕ, ◌<◌, ◌≤◌, is_some, if◌then◌else◌, List, [], ◌∷◌, ◌++◌, Option, None, Some, option_map, All, Result, Ok, Err}
 use Rattle.std.specs.Option.{unwrap_or}
 use Rattle.rd_base.specs.declared.cell.Glyph.{Glyph}
 use Rattle.rd_base.specs.declared.memory.Memory.{Memory}
 use Rattle.rd_glyphs.specs.Joining.{joined_glyph}
 use Rattle.rd_props.specs.Buffers.{BufferValue}
 use Rattle.rd_items.specs.Readings.{reading}
-use Rattle.rd_items.specs.Pieces.{Scene, pieces_from}
+use Rattle.rd_items.specs.Pieces.{Scene, pieces_from, IsMeasuredKind, HoldsPiece}
 use Rattle.rd_items.specs.declared.item.Item.{Item}
 use Rattle.rd_items.specs.declared.item.ItemKind.{ItemKind}
 use Rattle.rd_items.specs.declared.item.ItemKind.TheVariants as kind
@@ -75,3 +75,12 @@ Steps (Ok None) s scene p before after = after [] ≡ before (pieces_left s scen
 Steps (Ok (Some next)) s scene p before after =
     (p < next) × (next ≤ s.text.end) × (after (pieces_left s scene next) ≡ before (pieces_left s scene p))
 Steps (Err stop) s scene p before after = Unit {0}
+
+-- the glyphs of items are measured
+abbrev pub AreMeasuredItems : List Item → Type 0
+AreMeasuredItems items = All (λ item. IsMeasuredKind item.kind) items
+
+-- and so are those of the piece that is held
+pub record IsMeasuredWalk (items : List Item) (held : Option Piece) : Type 0 where
+  pub made : AreMeasuredItems items
+  pub last : HoldsPiece held

@@ -3,6 +3,7 @@ use Rattle.std.specs.Prelude.{ℕ, zero, suc, ◌+◌, ◌==◌, Bool, true, fal
 use Rattle.std.specs.Option.{unwrap_or, option_and_then}
 use Rattle.rd_base.specs.declared.class.Class.{Class}
 use Rattle.rd_base.specs.declared.class.Class.TheVariants.{B, S, ON}
+use Rattle.rd_base.specs.Glyphs.{IsMeasured}
 use Rattle.rd_base.specs.declared.cell.Glyph.{Glyph}
 use Rattle.rd_text.specs.Texts.{is_newline}
 use Rattle.rd_ucd.specs.declared.spans.Span.{Span}
@@ -14,7 +15,7 @@ use Rattle.rd_objects.specs.Tables.{TableValue}
 use Rattle.rd_objects.specs.Texts.{TextValue}
 use Rattle.rd_objects.specs.Things.{ObjectLists}
 use Rattle.rd_glyphs.specs.Characters.{PartValues, entry_of, on_blank}
-use Rattle.rd_glyphs.specs.Joining.{is_empty_entry, joining_of}
+use Rattle.rd_glyphs.specs.Joining.{is_empty_entry, joining_of, IsMark}
 use Rattle.rd_glyphs.specs.declared.joining.Joining.{Joining}
 use Rattle.rd_glyphs.specs.declared.joining.Joining.TheVariants as joining
 use Rattle.rd_props.specs.Buffers.{BufferValue, meaning}
@@ -162,3 +163,30 @@ pieces_from s (suc due) p (e ∷ es) = pieces_from s due (suc p) es
 pieces_from s zero p (e ∷ es) =
     string_pieces p e.strings
     ++ piece_at s e.showing e.ch p (suc p + run_length e.showing es) ∷ pieces_from s (run_length e.showing es) (suc p) es
+
+-- what a kind shows has the columns that Unicode gives it
+abbrev pub IsMeasuredKind : ItemKind → Type 0
+IsMeasuredKind (kind.Marked g) = IsMeasured g
+IsMeasuredKind kind = Unit {0}
+
+abbrev pub HoldsKind : Option ItemKind → Type 0
+HoldsKind None = Unit {0}
+HoldsKind (Some kind) = IsMeasuredKind kind
+
+abbrev pub HoldsBase : Option Glyph → Type 0
+HoldsBase None = Unit {0}
+HoldsBase (Some g) = IsMeasured g
+
+abbrev pub HoldsMark : Option ℕ → Type 0
+HoldsMark None = Unit {0}
+HoldsMark (Some code) = IsMark code
+
+-- the glyphs of a piece are measured, and its mark is one
+pub record IsMeasuredPiece (x : Piece) : Type 0 where
+  pub kind : HoldsKind x.kind
+  pub base : HoldsBase x.base
+  pub mark : HoldsMark x.mark
+
+abbrev pub HoldsPiece : Option Piece → Type 0
+HoldsPiece None = Unit {0}
+HoldsPiece (Some x) = IsMeasuredPiece x

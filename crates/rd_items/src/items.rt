@@ -3,7 +3,7 @@ ghost use Rattle.std.specs.Prelude.{◌≡◌, IfOk};
 ghost use Rattle.rd_text.specs.Texts.{IsAccessible};
 ghost use Rattle.rd_props.specs.Buffers.{meaning};
 ghost use Rattle.rd_items.specs.Pieces.{scene_of};
-ghost use Rattle.rd_items.specs.Items.{items_of};
+ghost use Rattle.rd_items.specs.Items.{items_of, AreMeasuredItems};
 
 use crate::item::Item;
 use crate::walk::Walk;
@@ -34,13 +34,14 @@ impl Items {
     ghost use Rattle.rd_text.specs.Texts.{IsAccessible};
     ghost use Rattle.rd_props.specs.Buffers.{meaning};
     ghost use Rattle.rd_items.specs.Pieces.{scene_of};
-    ghost use Rattle.rd_items.specs.Items.{items_of};
+    ghost use Rattle.rd_items.specs.Items.{items_of, AreMeasuredItems};
 
     /// The items of the block that starts at a position, in order of position. It costs the look-ups of the properties and of
     /// the strings at each of the block's positions.
     pub fn new(alloc: Global, view: &View, start: Pos) -> Result<Items, Memory>
         requires { IsAccessible view.now.state.now.text start }
-        ensures { IfOk result (λ items. items ≡ items_of (meaning view.now.state.now) (scene_of view.now) start) }
+        ensures value { IfOk result (λ items. items ≡ items_of (meaning view.now.state.now) (scene_of view.now) start) }
+        ensures measured { IfOk result (λ items. AreMeasuredItems items) }
     {
         let list = walk_from(alloc, view, start)?;
         if list.len() > u32::MAX as usize {
@@ -68,7 +69,8 @@ impl Items {
 /// The items from a position up to the block's ender.
 fn walk_from(alloc: Global, view: &View, start: Pos) -> Result<ListOf<Item>, Memory>
     requires { IsAccessible view.now.state.now.text start }
-    ensures { IfOk result (λ items. items ≡ items_of (meaning view.now.state.now) (scene_of view.now) start) }
+    ensures value { IfOk result (λ items. items ≡ items_of (meaning view.now.state.now) (scene_of view.now) start) }
+    ensures measured { IfOk result (λ items. AreMeasuredItems items) }
 {
     let mut walk = Walk::new(alloc, start);
     let mut pos = start;

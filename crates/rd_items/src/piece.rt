@@ -3,7 +3,8 @@ ghost use Rattle.std.specs.Prelude.{◌≡◌, ◌<◌, option_map, slice_get};
 ghost use Rattle.rd_text.specs.Texts.{IsAccessible};
 ghost use Rattle.rd_props.specs.Buffers.{meaning};
 ghost use Rattle.rd_items.specs.Readings.{accessible_char};
-ghost use Rattle.rd_items.specs.Pieces.{scene_of, table_in, spec_in, gives_element, give_elements, string_gives, ellipsis_gives, inner_class, has_element, base_of, mark_of, char_by, spec_piece, open_piece, unreplaced_piece, piece_at};
+ghost use Rattle.rd_items.specs.Pieces.{scene_of, table_in, spec_in, gives_element, give_elements, string_gives, ellipsis_gives, inner_class, has_element, base_of, mark_of, char_by, spec_piece, open_piece, piece_at, HoldsBase, HoldsMark, IsMeasuredPiece};
+ghost use Rattle.rd_glyphs.specs.Joining.{IsMeasuredJoining};
 
 use crate::item::ItemKind;
 use crate::showing::{Showing, char_at};
@@ -29,11 +30,12 @@ pub struct Piece {
 
 impl Piece {
     ghost use Rattle.std.specs.Prelude.{◌≡◌, ◌<◌};
-    ghost use Rattle.rd_items.specs.Pieces.{piece, string_piece, ender_piece};
+    ghost use Rattle.rd_items.specs.Pieces.{piece, string_piece, ender_piece, HoldsKind, IsMeasuredPiece};
 
     /// A piece that marks don't join.
     fn new(class: Class, kind: Option<ItemKind>, covers: bool, at: Pos, to: Pos) -> Piece
-        ensures { result ≡ piece class kind covers at to }
+        ensures value { result ≡ piece class kind covers at to }
+        ensures measured { HoldsKind kind → IsMeasuredPiece result }
     {
         Piece {
             class,
@@ -48,7 +50,8 @@ impl Piece {
 
     /// An overlay's string before a position.
     pub fn string(pos: Pos, number: u32) -> Piece
-        ensures { result ≡ string_piece pos number }
+        ensures value { result ≡ string_piece pos number }
+        ensures measured { IsMeasuredPiece result }
     {
         Piece::new(Class::ON, Some(ItemKind::Text(number)), false, pos, pos)
     }
@@ -56,7 +59,8 @@ impl Piece {
     /// What ends a block.
     fn ender(pos: Pos) -> Piece
         requires { pos < 4294967295 }
-        ensures { result ≡ ender_piece pos }
+        ensures value { result ≡ ender_piece pos }
+        ensures measured { IsMeasuredPiece result }
     {
         Piece::new(Class::B, Some(ItemKind::Ender), true, pos, pos + 1)
     }
@@ -140,7 +144,8 @@ fn ellipsis_gives(parts: &Parts) -> bool
 
 /// The piece of text that a spec replaces.
 fn spec_piece(parts: &Parts, objects: &Objects, spec: Spec, pos: Pos, to: Pos) -> Piece
-    ensures { result ≡ spec_piece (record { objects = objects.now; parts = parts.now }) spec pos to }
+    ensures value { result ≡ spec_piece (record { objects = objects.now; parts = parts.now }) spec pos to }
+    ensures measured { IsMeasuredPiece result }
 {
     match spec {
         Spec::Text(number) => Piece::new(
@@ -178,7 +183,8 @@ fn has_element(joining: Joining) -> bool
 
 /// The glyph that marks may join.
 fn base_of(joining: Joining) -> Option<Glyph>
-    ensures { result ≡ base_of joining }
+    ensures value { result ≡ base_of joining }
+    ensures measured { IsMeasuredJoining joining → HoldsBase result }
 {
     match joining {
         Joining::Base(glyph) => Some(glyph),
@@ -189,7 +195,8 @@ fn base_of(joining: Joining) -> Option<Glyph>
 
 /// The mark that a character is.
 fn mark_of(joining: Joining) -> Option<u32>
-    ensures { result ≡ mark_of joining }
+    ensures value { result ≡ mark_of joining }
+    ensures measured { IsMeasuredJoining joining → HoldsMark result }
 {
     match joining {
         Joining::Mark(code) => Some(code),
@@ -200,7 +207,8 @@ fn mark_of(joining: Joining) -> Option<u32>
 /// The piece of a character of this class.
 fn char_by(joining: Joining, class: Class, ch: Ch, pos: Pos) -> Piece
     requires { pos < 4294967295 }
-    ensures { result ≡ char_by joining class ch pos }
+    ensures value { result ≡ char_by joining class ch pos }
+    ensures measured { IsMeasuredJoining joining → IsMeasuredPiece result }
 {
     Piece {
         class: inner_class(class),
@@ -216,7 +224,8 @@ fn char_by(joining: Joining, class: Class, ch: Ch, pos: Pos) -> Piece
 /// The piece of a position that is neither replaced nor hidden.
 fn open_piece(parts: &Parts, objects: &Objects, ch: Option<Ch>, pos: Pos) -> Piece
     requires { pos < 4294967295 }
-    ensures { result ≡ open_piece (record { objects = objects.now; parts = parts.now }) ch pos }
+    ensures value { result ≡ open_piece (record { objects = objects.now; parts = parts.now }) ch pos }
+    ensures measured { IsMeasuredPiece result }
 {
     match ch {
         None => Piece::ender(pos),
@@ -233,7 +242,8 @@ fn open_piece(parts: &Parts, objects: &Objects, ch: Option<Ch>, pos: Pos) -> Pie
 pub fn piece_at(view: &View, showing: Showing, pos: Pos, to: Pos) -> Piece
     requires accessible { IsAccessible view.now.state.now.text pos }
     requires place { pos < 4294967295 }
-    ensures { result ≡ piece_at (scene_of view.now) showing (accessible_char (meaning view.now.state.now) pos) pos to }
+    ensures value { result ≡ piece_at (scene_of view.now) showing (accessible_char (meaning view.now.state.now) pos) pos to }
+    ensures measured { IsMeasuredPiece result }
 {
     let parts = parts_of(view);
     match (showing.display, showing.hidden) {

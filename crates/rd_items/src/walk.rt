@@ -1,6 +1,7 @@
 //! The walk over a block: marks join, and ranges are handed on.
 ghost use Rattle.std.specs.Prelude.{◌≡◌};
 ghost use Rattle.rd_items.specs.Items.{marked_glyph, marked, item_of};
+ghost use Rattle.rd_items.specs.Pieces.{HoldsBase, HoldsMark, IsMeasuredPiece, HoldsPiece};
 
 use crate::item::{Item, ItemKind};
 use crate::piece::{Piece, piece_at};
@@ -20,7 +21,8 @@ pub struct Walk {
 
 /// The glyph that a mark joins, with the mark, where it joins it.
 fn marked_glyph(base: Option<Glyph>, mark: Option<u32>) -> Option<Glyph>
-    ensures { result ≡ marked_glyph base mark }
+    ensures value { result ≡ marked_glyph base mark }
+    ensures measured { HoldsBase base → HoldsMark mark → HoldsBase result }
 {
     match (base, mark) {
         (Some(glyph), Some(code)) => join(glyph, code),
@@ -30,7 +32,8 @@ fn marked_glyph(base: Option<Glyph>, mark: Option<u32>) -> Option<Glyph>
 
 /// A piece with the mark of the next, where it joins it.
 fn marked(held: &Piece, next: &Piece) -> Option<Piece>
-    ensures { result ≡ marked held.now next.now }
+    ensures value { result ≡ marked held.now next.now }
+    ensures measured { IsMeasuredPiece held.now → IsMeasuredPiece next.now → HoldsPiece result }
 {
     match marked_glyph(held.base, next.mark) {
         Some(glyph) => Some(Piece {
@@ -68,8 +71,8 @@ impl Walk {
     ghost use Rattle.std.specs.Prelude.{◌≡◌, ◌∷◌, [], ◌++◌, List, None, OnOk, IfOk};
     ghost use Rattle.rd_text.specs.Texts.{IsAccessible};
     ghost use Rattle.rd_props.specs.Buffers.{meaning};
-    ghost use Rattle.rd_items.specs.Items.{items_by, covered_to, whole, Steps};
-    ghost use Rattle.rd_items.specs.Pieces.{scene_of, string_pieces};
+    ghost use Rattle.rd_items.specs.Items.{items_by, covered_to, whole, Steps, AreMeasuredItems, IsMeasuredWalk};
+    ghost use Rattle.rd_items.specs.Pieces.{scene_of, string_pieces, IsMeasuredPiece};
     ghost use Rattle.rd_items.specs.declared.piece.Piece.{Piece};
 
     /// A walk from a position.
@@ -89,6 +92,7 @@ impl Walk {
     fn give(&mut self, piece: &Piece) -> Result<(), Memory>
         ensures items { OnOk result (self.new.items ≡ self.old.items ++ items_by piece.now.kind self.old.since piece.now) }
         ensures since { OnOk result (self.new.since ≡ covered_to self.old.since piece.now) }
+        ensures measured { AreMeasuredItems self.old.items → IsMeasuredPiece piece.now → OnOk result (AreMeasuredItems self.new.items) }
     {
         if let Some(kind) = piece.kind {
             self.items.push(item_of(self.since, piece, kind))?;
@@ -101,7 +105,9 @@ impl Walk {
 
     /// Adds a piece.
     pub fn put(&mut self, piece: Piece) -> Result<(), Memory>
-        ensures { OnOk result ((xs : List Piece) → whole self.new.items self.new.since self.new.held xs ≡ whole self.old.items self.old.since self.old.held (piece ∷ xs)) }
+        requires { IsMeasuredPiece piece }
+        ensures measured { IsMeasuredWalk self.old.items self.old.held → OnOk result (IsMeasuredWalk self.new.items self.new.held) }
+        ensures whole { OnOk result ((xs : List Piece) → whole self.new.items self.new.since self.new.held xs ≡ whole self.old.items self.old.since self.old.held (piece ∷ xs)) }
     {
         let mut next = piece;
         if let Some(held) = self.held.take() {
@@ -116,7 +122,8 @@ impl Walk {
 
     /// Adds the strings of overlays before a position.
     fn put_strings(&mut self, pos: Pos, numbers: &[u32]) -> Result<(), Memory>
-        ensures { OnOk result ((xs : List Piece) → whole self.new.items self.new.since self.new.held xs ≡ whole self.old.items self.old.since self.old.held (string_pieces pos numbers.now ++ xs)) }
+        ensures measured { IsMeasuredWalk self.old.items self.old.held → OnOk result (IsMeasuredWalk self.new.items self.new.held) }
+        ensures whole { OnOk result ((xs : List Piece) → whole self.new.items self.new.since self.new.held xs ≡ whole self.old.items self.old.since self.old.held (string_pieces pos numbers.now ++ xs)) }
     {
         for number in numbers {
             self.put(Piece::string(pos, *number))?;
@@ -128,7 +135,8 @@ impl Walk {
     /// block's ender.
     pub fn step(&mut self, alloc: Global, view: &View, pos: Pos) -> Result<Option<Pos>, Memory>
         requires { IsAccessible view.now.state.now.text pos }
-        ensures { Steps result (meaning view.now.state.now) (scene_of view.now) pos (whole self.old.items self.old.since self.old.held) (whole self.new.items self.new.since self.new.held) }
+        ensures measured { IsMeasuredWalk self.old.items self.old.held → IfOk result (λ next. IsMeasuredWalk self.new.items self.new.held) }
+        ensures steps { Steps result (meaning view.now.state.now) (scene_of view.now) pos (whole self.old.items self.old.since self.old.held) (whole self.new.items self.new.since self.new.held) }
     {
         let strings = strings_at(alloc, view, pos)?;
         self.put_strings(pos, strings.as_slice())?;
@@ -143,7 +151,8 @@ impl Walk {
 
     /// The items, when no piece is left.
     pub fn finish(self) -> Result<ListOf<Item>, Memory>
-        ensures { IfOk result (λ items. items ≡ whole self.items self.since self.held []) }
+        ensures value { IfOk result (λ items. items ≡ whole self.items self.since self.held []) }
+        ensures measured { IsMeasuredWalk self.items self.held → IfOk result (λ items. AreMeasuredItems items) }
     {
         let mut walk = self;
         if let Some(held) = walk.held.take() {
