@@ -1,3 +1,4 @@
+mod Alike
 mod Cuts
 mod Runs
 mod Steps

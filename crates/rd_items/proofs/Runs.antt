@@ -1,9 +1,11 @@
 -- Runs of replaced and hidden positions.
 use Rattle.std.proofs.Common.{◌≡◌, ℕ, ◌+◌, ◌-◌, ◌<◌, ◌≤◌, Bool, true, false, List, [], ◌∷◌, Option, Some, None, refl, ap, ◌∙◌, arith, add-one}
-use Rattle.std.specs.Prelude.{suc, not, ◌&&◌, ◌||◌, is_some, if◌then◌else◌}
+use Rattle.std.specs.Prelude.{zero, suc, not, ◌&&◌, ◌||◌, is_some, if◌then◌else◌}
 use Rattle.std.proofs.lemmas.Bool.Decides.{nat_tests}
 use Rattle.rd_props.specs.Buffers.{BufferValue}
 use Rattle.rd_items.specs.declared.showing.Showing.{Showing}
+use Rattle.rd_items.specs.declared.stretch.Stretch.{Stretch}
+use Rattle.rd_items.specs.Stretches.{IsStretch}
 use Rattle.rd_items.specs.Readings.{Entry, showing_at, entry_at, is_hidden, is_open, is_ender, ends_line, accessible_char, reading, behind}
 use Rattle.rd_items.specs.Pieces.{same_spec, goes_on, run_length}
 
@@ -113,9 +115,28 @@ run-begins s p showing within same closed =
     let rest = behind-closed s p before here in
     (before, rw (add-one, rest) (omega arith))
 
--- one position more
-pub run-goes : (s : BufferValue) (p n : ℕ) (showing next : Showing) → p < s.text.end → next ≡ showing_at s p → goes_on showing next ≡ true → p + run_length showing (reading s p) ≡ n → p + 1 + run_length showing (reading s (p + 1)) ≡ n
-run-goes s p n showing next before same more so-far =
-    let here : goes_on showing (showing_at s p) ≡ true = rw same at more in
-    let one = run-more s p showing before here in
-    rw add-one (omega arith)
+run-jumps : (s : BufferValue) (first showing : Showing) (d p : ℕ) → p + d ≤ s.text.end → ((r : ℕ) → p ≤ r → r < p + d → showing_at s r ≡ showing) → goes_on first showing ≡ true → (p + d) + run_length first (reading s (p + d)) ≡ p + run_length first (reading s p)
+run-jumps s first showing zero p within alike more = (let same : p + 0 ≡ p = omega arith in rw same)
+run-jumps s first showing (suc d) p within alike more =
+    let here : goes_on first (showing_at s p) ≡ true = ap (goes_on first) (alike p (omega arith) (omega arith)) ∙ more in
+    let one = run-more s p first (omega arith) here in
+    let rest = run-jumps s first showing d (suc p) (omega arith) (λ r a b. alike r (omega arith) (omega arith)) more in
+    let place : p + suc d ≡ suc p + d = omega arith in
+    rw place (omega arith)
+
+alike-at : (s : BufferValue) (stretch : Stretch) (p r : ℕ) → IsStretch s stretch → stretch.from ≡ p → p ≤ r → r < stretch.until → showing_at s r ≡ stretch.showing
+alike-at s stretch p r is from first before = is.alike r (omega arith) before
+
+-- all positions of a stretch belong to a run, where its first does
+pub stretch-goes-on : (s : BufferValue) (first : Showing) (stretch : Stretch) (p n : ℕ) → IsStretch s stretch → stretch.from ≡ p → p < stretch.until → stretch.until ≤ s.text.end → goes_on first stretch.showing ≡ true → p + run_length first (reading s p) ≡ n → stretch.until + run_length first (reading s stretch.until) ≡ n
+stretch-goes-on s first stretch p n is from some within more so-far =
+    let place : p + (stretch.until - p) ≡ stretch.until = omega arith in
+    let jump = run-jumps s first stretch.showing (stretch.until - p) p (omega arith) (λ r a b. alike-at s stretch p r is from a (omega arith)) more in
+    rw place at jump ∙ so-far
+
+-- else the run ends before it
+pub stretch-stops : (s : BufferValue) (first : Showing) (stretch : Stretch) (p n : ℕ) → IsStretch s stretch → stretch.from ≡ p → p < stretch.until → p < s.text.end → goes_on first stretch.showing ≡ false → p + run_length first (reading s p) ≡ n → p ≡ n
+stretch-stops s first stretch p n is from some before none so-far =
+    let here : goes_on first (showing_at s p) ≡ false = ap (goes_on first) (alike-at s stretch p p is from (omega arith) some) ∙ none in
+    let length : run_length first (reading s p) ≡ 0 = ap (run_length first) (reading-step s p before) ∙ rw here in
+    omega arith

@@ -8,6 +8,7 @@ mod items;
 mod laws;
 mod piece;
 mod showing;
+mod stretch;
 mod walk;
 
 pub use block::block_at;

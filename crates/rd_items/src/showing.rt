@@ -1,9 +1,9 @@
 //! How the text at a position is shown, and how far a run goes.
-ghost use Rattle.std.specs.Prelude.{◌≡◌, ◌+◌, ◌<◌, suc, IfOk};
+ghost use Rattle.std.specs.Prelude.{◌≡◌, IfOk};
 ghost use Rattle.rd_text.specs.Texts.{IsAccessible};
 ghost use Rattle.rd_props.specs.Buffers.{meaning};
-ghost use Rattle.rd_items.specs.Readings.{showing_at, accessible_char, ends_line, is_hidden, is_ender, reading, behind};
-ghost use Rattle.rd_items.specs.Pieces.{same_spec, goes_on, run_length};
+ghost use Rattle.rd_items.specs.Readings.{showing_at, accessible_char, ends_line, is_hidden, is_ender};
+ghost use Rattle.rd_items.specs.Pieces.{same_spec};
 
 use rd_base::{Ch, Memory, Pos};
 use rd_overlays::Kind;
@@ -60,7 +60,7 @@ impl Showing {
     }
 
     /// Whether another position belongs to the run of this one.
-    fn goes_on(self, next: Showing) -> bool
+    pub fn goes_on(self, next: Showing) -> bool
         ensures { result ≡ goes_on self next }
     {
         same_spec(self.display, next.display) || is_hidden(self.hidden) && is_hidden(next.hidden)
@@ -101,26 +101,4 @@ pub fn is_ender(alloc: Global, view: &View, pos: Pos) -> Result<bool, Memory>
     }
     let showing = showing_at(alloc, view, pos)?;
     Ok(showing.is_open())
-}
-
-/// The first position behind one that doesn't belong to its run.
-pub fn run_end(alloc: Global, view: &View, pos: Pos, showing: Showing) -> Result<Pos, Memory>
-    requires accessible { IsAccessible view.now.state.now.text pos }
-    requires showing { showing ≡ showing_at (meaning view.now.state.now) pos }
-    ensures { IfOk result (λ to. to ≡ suc pos + run_length showing (behind (reading (meaning view.now.state.now) pos))) }
-{
-    let state = view.state;
-    let end = state.text.end();
-    let mut to = pos + 1;
-    if showing.is_open() {
-        return Ok(to);
-    }
-    while to < end {
-        let next = showing_at(alloc, view, to)?;
-        if !showing.goes_on(next) {
-            return Ok(to);
-        }
-        to += 1;
-    }
-    Ok(to)
 }

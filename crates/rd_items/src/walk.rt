@@ -5,7 +5,8 @@ ghost use Rattle.rd_items.specs.Pieces.{HoldsBase, HoldsMark, IsMeasuredPiece, H
 
 use crate::item::{Item, ItemKind};
 use crate::piece::{Piece, piece_at};
-use crate::showing::{is_ender, run_end, showing_at};
+use crate::showing::{is_ender, showing_at};
+use crate::stretch::run_end;
 use rd_base::{Glyph, ListOf, Memory, Pos};
 use rd_glyphs::join;
 use rd_props::{View, strings_at};

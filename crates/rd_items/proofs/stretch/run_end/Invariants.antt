@@ -2,7 +2,7 @@ use Rattle.std.proofs.Common.{◌-◌, ◌≡◌, ◌+◌, ◌<◌, ◌≤◌}
 use Rattle.rd_props.specs.Buffers.{meaning}
 use Rattle.rd_items.specs.Readings.{reading, behind}
 use Rattle.rd_items.specs.Pieces.{run_length}
-use Rattle.rd_items.proofs.showing.run_end.Given as goal
+use Rattle.rd_items.proofs.stretch.run_end.Given as goal
 
 abbrev pub invariant-loop-to : goal.invariant-loop-to
 invariant-loop-to l = record {

@@ -1,0 +1,72 @@
+//! Stretches of text that is shown alike, so that properties are looked up once for all of it.
+ghost use Rattle.std.specs.Prelude.{◌≡◌, ◌+◌, ◌<◌, ◌≤◌, suc, IfOk};
+ghost use Rattle.rd_text.specs.Texts.{IsAccessible};
+ghost use Rattle.rd_props.specs.Buffers.{meaning};
+ghost use Rattle.rd_items.specs.Stretches.{IsStretch, IsStopBehind};
+ghost use Rattle.rd_items.specs.Readings.{showing_at, reading, behind};
+ghost use Rattle.rd_items.specs.Pieces.{run_length};
+
+use crate::showing::{Showing, showing_at};
+use rd_base::{Memory, Pos};
+use rd_props::{View, next_stop};
+use std::alloc::Global;
+
+/// How the positions from `from` to `until - 1` are shown; no string stands before any of them but the first.
+#[derive(Clone, Copy, Debug, PartialEq, Eq)]
+pub struct Stretch {
+    pub from: Pos,
+    pub until: Pos,
+    pub showing: Showing,
+}
+
+/// The stretch from an accessible position, or from the end of the accessible text, up to where a property changes or an overlay
+/// starts or ends.
+pub fn stretch_at(alloc: Global, view: &View, pos: Pos) -> Result<Stretch, Memory>
+    requires { IsAccessible view.now.state.now.text pos }
+    ensures first { IfOk result (λ stretch. stretch.from ≡ pos) }
+    ensures some { IfOk result (λ stretch. pos < stretch.until) }
+    ensures within { pos < view.now.state.now.text.end → IfOk result (λ stretch. stretch.until ≤ view.now.state.now.text.end) }
+    ensures shown { IfOk result (λ stretch. IsStretch (meaning view.now.state.now) stretch) }
+{
+    let showing = showing_at(alloc, view, pos)?;
+    Ok(Stretch {
+        from: pos,
+        until: stop_behind(view, pos),
+        showing,
+    })
+}
+
+/// Where the stretch from a position ends.
+fn stop_behind(view: &View, pos: Pos) -> Pos
+    requires { IsAccessible view.now.state.now.text pos }
+    ensures { IsStopBehind (meaning view.now.state.now) pos result }
+{
+    let state = view.state;
+    if pos < state.text.end() {
+        next_stop(view, pos)
+    } else {
+        pos + 1
+    }
+}
+
+/// The first position behind one that doesn't belong to its run.
+pub fn run_end(alloc: Global, view: &View, pos: Pos, showing: Showing) -> Result<Pos, Memory>
+    requires accessible { IsAccessible view.now.state.now.text pos }
+    requires showing { showing ≡ showing_at (meaning view.now.state.now) pos }
+    ensures { IfOk result (λ to. to ≡ suc pos + run_length showing (behind (reading (meaning view.now.state.now) pos))) }
+{
+    let state = view.state;
+    let end = state.text.end();
+    let mut to = pos + 1;
+    if showing.is_open() {
+        return Ok(to);
+    }
+    while to < end {
+        let stretch = stretch_at(alloc, view, to)?;
+        if !showing.goes_on(stretch.showing) {
+            return Ok(to);
+        }
+        to = stretch.until;
+    }
+    Ok(to)
+}
