@@ -1,15 +1,14 @@
 -- Positions up to the next stop are shown alike.
-use Rattle.std.proofs.Common.{◌≡◌, ◌⊎◌, inl, inr, ℕ, ◌<◌, ◌≤◌, Bool, true, false, List, [], ◌∷◌, ◌++◌, reverse, map, Option, Some, None, refl, sym, ap, ◌∙◌, arith}
-use Rattle.std.specs.Prelude.{zero, suc, nat_lt, nat_le, ◌==◌, ◌&&◌, if◌then◌else◌}
+use Rattle.std.proofs.Common.{◌≡◌, ◌⊎◌, inl, inr, ℕ, ◌<◌, ◌≤◌, Bool, true, false, List, [], ◌∷◌, map, Option, Some, None, refl, sym, ap, ◌∙◌, arith}
+use Rattle.std.specs.Prelude.{suc, nat_lt}
 use Rattle.std.proofs.lemmas.Bool.Decides.{nat_tests}
 use Rattle.rd_overlays.specs.declared.overlay.Overlay.{Overlay}
 use Rattle.rd_overlays.specs.declared.overlay.Kind.{Kind}
 use Rattle.rd_overlays.specs.declared.overlay.Kind.TheVariants.{Display, Invisible}
-use Rattle.rd_overlays.specs.Overlays.{overlay_at, covers, starts, ends, with_slot, ranked_from, numbers_of, number_of_rank, covering, starting, ending, place_of}
+use Rattle.rd_overlays.specs.Overlays.{overlay_at, covers, starts, ends, ranked_from, numbers_of, number_of_rank, covering, place_of}
 use Rattle.rd_props.specs.Buffers.{BufferValue}
-use Rattle.rd_props.specs.Stops.{AreSame, HasEdge, IsNextStop}
+use Rattle.rd_props.specs.Stops.{IsNextStop}
 use Rattle.rd_props.specs.Values.{effective}
-use Rattle.rd_props.specs.Shown.{hidden}
 use Rattle.rd_props.specs.Strings.{strings_at}
 use Rattle.rd_items.specs.Readings.{showing_at}
 use Rattle.rd_items.specs.Stretches.{IsStretch, IsStopBehind}
@@ -86,6 +85,7 @@ alike-from s p stop showing (inr end) same q first before = (let here : q ≡ p 
 alike-from s p stop showing (inl next) same q first before = by-place (split p q first) where
   split : (p q : ℕ) → p ≤ q → (q ≡ p) ⊎ (p < q)
   split p q first = grind arith
+
   by-place : (q ≡ p) ⊎ (p < q) → showing_at s q ≡ showing
   by-place (inl e) = rw e (sym same)
   by-place (inr later) = showing-same s p stop q next later before ∙ sym same
@@ -96,4 +96,4 @@ bare-from s p stop (inl next) q later before = strings-none s p stop q next late
 
 -- the positions up to where a stretch ends
 pub stretch-from : (s : BufferValue) (p stop : ℕ) (showing : Showing) → IsStopBehind s p stop → showing ≡ showing_at s p → IsStretch s (record { from = p; until = stop; showing = showing })
-stretch-from s p stop showing behind same = record { alike = alike-from s p stop showing behind same; bare = bare-from s p stop behind; }
+stretch-from s p stop showing behind same = record { alike = alike-from s p stop showing behind same; bare = bare-from s p stop behind }

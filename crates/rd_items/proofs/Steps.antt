@@ -104,23 +104,23 @@ behind-left s scene first p within ender =
     rw rest (skipped s scene first (s.text.end - suc p) (suc p) (omega arith))
 
 -- what a step has put: the strings and the piece of a position
-made : (s : BufferValue) (scene : Scene) (p to : ℕ) (strings : List ℕ) (showing : Showing) (x : Piece) (before mid after : List Piece → List Item) (xs : List Piece) → ((ys : List Piece) → mid ys ≡ before (string_pieces p strings ++ ys)) → ((ys : List Piece) → after ys ≡ mid (x ∷ ys)) → strings ≡ strings_at s p → showing ≡ showing_at s p → to ≡ suc p + run_length showing (behind (reading s p)) → x ≡ piece_at scene showing (accessible_char s p) p to → after xs ≡ before (string_pieces p (strings_at s p) ++ piece_at scene (showing_at s p) (accessible_char s p) p (suc p + run_length (showing_at s p) (behind (reading s p))) ∷ xs)
-made s scene p to strings showing x before mid after xs first second e f g h =
-    second xs ∙ first (x ∷ xs) ∙ rw (e, h, g, f)
+made : (s : BufferValue) (scene : Scene) (p to : ℕ) (showing : Showing) (x : Piece) (before mid after : List Piece → List Item) (xs : List Piece) → ((ys : List Piece) → mid ys ≡ before (string_pieces p (strings_at s p) ++ ys)) → ((ys : List Piece) → after ys ≡ mid (x ∷ ys)) → showing ≡ showing_at s p → to ≡ suc p + run_length showing (behind (reading s p)) → x ≡ piece_at scene showing (accessible_char s p) p to → after xs ≡ before (string_pieces p (strings_at s p) ++ piece_at scene (showing_at s p) (accessible_char s p) p (suc p + run_length (showing_at s p) (behind (reading s p))) ∷ xs)
+made s scene p to showing x before mid after xs first second f g h =
+    second xs ∙ first (x ∷ xs) ∙ rw (h, g, f)
 
-pub step-ends : (s : BufferValue) (scene : Scene) (p to : ℕ) (strings : List ℕ) (showing : Showing) (x : Piece) (before mid after : List Piece → List Item) → ((ys : List Piece) → mid ys ≡ before (string_pieces p strings ++ ys)) → ((ys : List Piece) → after ys ≡ mid (x ∷ ys)) → strings ≡ strings_at s p → showing ≡ showing_at s p → to ≡ suc p + run_length showing (behind (reading s p)) → x ≡ piece_at scene showing (accessible_char s p) p to → p ≤ s.text.end → is_ender s p ≡ true → after [] ≡ before (pieces_left s scene p)
-step-ends s scene p to strings showing x before mid after first second e f g h within ender =
+pub step-ends : (s : BufferValue) (scene : Scene) (p to : ℕ) (showing : Showing) (x : Piece) (before mid after : List Piece → List Item) → ((ys : List Piece) → mid ys ≡ before (string_pieces p (strings_at s p) ++ ys)) → ((ys : List Piece) → after ys ≡ mid (x ∷ ys)) → showing ≡ showing_at s p → to ≡ suc p + run_length showing (behind (reading s p)) → x ≡ piece_at scene showing (accessible_char s p) p to → p ≤ s.text.end → is_ender s p ≡ true → after [] ≡ before (pieces_left s scene p)
+step-ends s scene p to showing x before mid after first second f g h within ender =
     let none = behind-ender s p within ender in
     let parts = left-parts s scene p within in
     let rest : pieces_from scene (run_length (showing_at s p) (behind (reading s p))) (suc p) (behind (reading s p)) ≡ [] = rw none in
-    made s scene p to strings showing x before mid after [] first second e f g h ∙ ap before (sym (rw rest at parts))
+    made s scene p to showing x before mid after [] first second f g h ∙ ap before (sym (rw rest at parts))
 
-pub step-goes : (s : BufferValue) (scene : Scene) (p to : ℕ) (strings : List ℕ) (showing : Showing) (x : Piece) (before mid after : List Piece → List Item) → ((ys : List Piece) → mid ys ≡ before (string_pieces p strings ++ ys)) → ((ys : List Piece) → after ys ≡ mid (x ∷ ys)) → strings ≡ strings_at s p → showing ≡ showing_at s p → to ≡ suc p + run_length showing (behind (reading s p)) → x ≡ piece_at scene showing (accessible_char s p) p to → p ≤ s.text.end → is_ender s p ≡ false → (p < to) × (to ≤ s.text.end) × (after (pieces_left s scene to) ≡ before (pieces_left s scene p))
-step-goes s scene p to strings showing x before mid after first second e f g h within ender =
+pub step-goes : (s : BufferValue) (scene : Scene) (p to : ℕ) (showing : Showing) (x : Piece) (before mid after : List Piece → List Item) → ((ys : List Piece) → mid ys ≡ before (string_pieces p (strings_at s p) ++ ys)) → ((ys : List Piece) → after ys ≡ mid (x ∷ ys)) → showing ≡ showing_at s p → to ≡ suc p + run_length showing (behind (reading s p)) → x ≡ piece_at scene showing (accessible_char s p) p to → p ≤ s.text.end → is_ender s p ≡ false → (p < to) × (to ≤ s.text.end) × (after (pieces_left s scene to) ≡ before (pieces_left s scene p))
+step-goes s scene p to showing x before mid after first second f g h within ender =
     let skips = behind-left s scene (showing_at s p) p within ender in
     let place : to ≡ suc p + run_length (showing_at s p) (behind (reading s p)) = rw f at g in
     let parts = left-parts s scene p within in
     let first-parts = string_pieces p (strings_at s p) in
     let own = piece_at scene (showing_at s p) (accessible_char s p) p (suc p + run_length (showing_at s p) (behind (reading s p))) in
     let all = parts ∙ ap (λ (ys : List Piece). first-parts ++ own ∷ ys) (skips.0 ∙ ap (pieces_left s scene) (sym place)) in
-    (omega arith, omega arith, made s scene p to strings showing x before mid after (pieces_left s scene to) first second e f g h ∙ ap before (sym all))
+    (omega arith, omega arith, made s scene p to showing x before mid after (pieces_left s scene to) first second f g h ∙ ap before (sym all))

@@ -1,5 +1,5 @@
 -- Stretches of text that is shown alike.
-use Rattle.std.specs.Prelude.{◌≡◌, ◌⊎◌, ℕ, ◌+◌, ◌<◌, ◌≤◌, []}
+use Rattle.std.specs.Prelude.{◌≡◌, ◌⊎◌, ℕ, ◌+◌, ◌<◌, ◌≤◌, nat_lt, Bool, ◌&&◌, []}
 use Rattle.rd_props.specs.Buffers.{BufferValue}
 use Rattle.rd_props.specs.Stops.{IsNextStop}
 use Rattle.rd_props.specs.Strings.{strings_at}
@@ -14,3 +14,11 @@ pub record IsStretch (s : BufferValue) (stretch : Stretch) : Type 0 where
 -- where a stretch from a position ends: at the next stop, and behind the end of the accessible text
 abbrev pub IsStopBehind : BufferValue → ℕ → ℕ → Type 0
 IsStopBehind s p stop = IsNextStop s p stop ⊎ ((p ≡ s.text.end) × (stop ≡ p + 1))
+
+-- a stretch in every buffer
+abbrev pub IsStretchOfAny : Stretch → Type 0
+IsStretchOfAny stretch = (s : BufferValue) → IsStretch s stretch
+
+-- a position of a stretch, but not its first
+abbrev pub holds_later : Stretch → ℕ → Bool
+holds_later stretch p = nat_lt stretch.from p && nat_lt p stretch.until

@@ -6,6 +6,7 @@ ghost use Rattle.rd_items.specs.Pieces.{scene_of};
 ghost use Rattle.rd_items.specs.Items.{items_of, AreMeasuredItems};
 
 use crate::item::Item;
+use crate::stretch::Stretch;
 use crate::walk::Walk;
 use rd_base::{ListOf, Memory, Pos};
 use rd_props::View;
@@ -73,8 +74,9 @@ fn walk_from(alloc: Global, view: &View, start: Pos) -> Result<ListOf<Item>, Mem
     ensures measured { IfOk result (λ items. AreMeasuredItems items) }
 {
     let mut walk = Walk::new(alloc, start);
+    let mut stretch = Stretch::nowhere();
     let mut pos = start;
-    while let Some(next) = walk.step(alloc, view, pos)? {
+    while let Some(next) = walk.step(alloc, view, &mut stretch, pos)? {
         pos = next;
     }
     walk.finish()

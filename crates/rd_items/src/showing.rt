@@ -102,3 +102,12 @@ pub fn is_ender(alloc: Global, view: &View, pos: Pos) -> Result<bool, Memory>
     let showing = showing_at(alloc, view, pos)?;
     Ok(showing.is_open())
 }
+
+/// The same of a position that is shown in a known way.
+pub fn is_ender_shown(view: &View, pos: Pos, showing: Showing) -> bool
+    requires accessible { IsAccessible view.now.state.now.text pos }
+    requires showing { showing ≡ showing_at (meaning view.now.state.now) pos }
+    ensures { result ≡ is_ender (meaning view.now.state.now) pos }
+{
+    showing.is_open() && ends_line(char_at(view, pos))
+}

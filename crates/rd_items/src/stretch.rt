@@ -8,7 +8,7 @@ ghost use Rattle.rd_items.specs.Pieces.{run_length};
 
 use crate::showing::{Showing, showing_at};
 use rd_base::{Memory, Pos};
-use rd_props::{View, next_stop};
+use rd_props::{Hidden, View, next_stop};
 use std::alloc::Global;
 
 /// How the positions from `from` to `until - 1` are shown; no string stands before any of them but the first.
@@ -17,6 +17,32 @@ pub struct Stretch {
     pub from: Pos,
     pub until: Pos,
     pub showing: Showing,
+}
+
+impl Stretch {
+    ghost use Rattle.std.specs.Prelude.{◌≡◌};
+    ghost use Rattle.rd_items.specs.Stretches.{holds_later, IsStretchOfAny};
+
+    /// A stretch without positions.
+    pub fn nowhere() -> Stretch
+        ensures { IsStretchOfAny result }
+    {
+        Stretch {
+            from: 0,
+            until: 0,
+            showing: Showing {
+                display: None,
+                hidden: Hidden::No,
+            },
+        }
+    }
+
+    /// Whether a position is one of these, but not the first.
+    pub fn holds_later(&self, pos: Pos) -> bool
+        ensures { result ≡ holds_later self.now pos }
+    {
+        self.from < pos && pos < self.until
+    }
 }
 
 /// The stretch from an accessible position, or from the end of the accessible text, up to where a property changes or an overlay

@@ -5,8 +5,8 @@ ghost use Rattle.rd_items.specs.Pieces.{HoldsBase, HoldsMark, IsMeasuredPiece, H
 
 use crate::item::{Item, ItemKind};
 use crate::piece::{Piece, piece_at};
-use crate::showing::{is_ender, showing_at};
-use crate::stretch::run_end;
+use crate::showing::{Showing, is_ender_shown};
+use crate::stretch::{Stretch, run_end, stretch_at};
 use rd_base::{Glyph, ListOf, Memory, Pos};
 use rd_glyphs::join;
 use rd_props::{View, strings_at};
@@ -72,6 +72,9 @@ impl Walk {
     ghost use Rattle.std.specs.Prelude.{◌≡◌, ◌∷◌, [], ◌++◌, List, None, OnOk, IfOk};
     ghost use Rattle.rd_text.specs.Texts.{IsAccessible};
     ghost use Rattle.rd_props.specs.Buffers.{meaning};
+    ghost use Rattle.rd_props.specs.Strings.{strings_at};
+    ghost use Rattle.rd_items.specs.Readings.{showing_at};
+    ghost use Rattle.rd_items.specs.Stretches.{IsStretch};
     ghost use Rattle.rd_items.specs.Items.{items_by, covered_to, whole, Steps, AreMeasuredItems, IsMeasuredWalk};
     ghost use Rattle.rd_items.specs.Pieces.{scene_of, string_pieces, IsMeasuredPiece};
     ghost use Rattle.rd_items.specs.declared.piece.Piece.{Piece};
@@ -132,19 +135,49 @@ impl Walk {
         Ok(())
     }
 
+    /// Goes on to a position: moves to its stretch, adds the strings of overlays before it, and answers how it is shown.
+    fn enter(
+        &mut self,
+        alloc: Global,
+        view: &View,
+        stretch: &mut Stretch,
+        pos: Pos,
+    ) -> Result<Showing, Memory>
+        requires accessible { IsAccessible view.now.state.now.text pos }
+        requires stretch { IsStretch (meaning view.now.state.now) stretch.old }
+        ensures showing { IfOk result (λ showing. showing ≡ showing_at (meaning view.now.state.now) pos) }
+        ensures stretch { IfOk result (λ showing. IsStretch (meaning view.now.state.now) stretch.new) }
+        ensures measured { IsMeasuredWalk self.old.items self.old.held → IfOk result (λ showing. IsMeasuredWalk self.new.items self.new.held) }
+        ensures whole { IfOk result (λ showing. (xs : List Piece) → whole self.new.items self.new.since self.new.held xs ≡ whole self.old.items self.old.since self.old.held (string_pieces pos (strings_at (meaning view.now.state.now) pos) ++ xs)) }
+    {
+        if stretch.holds_later(pos) {
+            return Ok(stretch.showing);
+        }
+        *stretch = stretch_at(alloc, view, pos)?;
+        let strings = strings_at(alloc, view, pos)?;
+        self.put_strings(pos, strings.as_slice())?;
+        Ok(stretch.showing)
+    }
+
     /// Adds what stands at a position that belongs to no earlier run, and answers the next such position, or None behind the
     /// block's ender.
-    pub fn step(&mut self, alloc: Global, view: &View, pos: Pos) -> Result<Option<Pos>, Memory>
-        requires { IsAccessible view.now.state.now.text pos }
+    pub fn step(
+        &mut self,
+        alloc: Global,
+        view: &View,
+        stretch: &mut Stretch,
+        pos: Pos,
+    ) -> Result<Option<Pos>, Memory>
+        requires accessible { IsAccessible view.now.state.now.text pos }
+        requires stretch { IsStretch (meaning view.now.state.now) stretch.old }
+        ensures stretch { IfOk result (λ next. IsStretch (meaning view.now.state.now) stretch.new) }
         ensures measured { IsMeasuredWalk self.old.items self.old.held → IfOk result (λ next. IsMeasuredWalk self.new.items self.new.held) }
         ensures steps { Steps result (meaning view.now.state.now) (scene_of view.now) pos (whole self.old.items self.old.since self.old.held) (whole self.new.items self.new.since self.new.held) }
     {
-        let strings = strings_at(alloc, view, pos)?;
-        self.put_strings(pos, strings.as_slice())?;
-        let showing = showing_at(alloc, view, pos)?;
+        let showing = self.enter(alloc, view, stretch, pos)?;
         let to = run_end(alloc, view, pos, showing)?;
         self.put(piece_at(view, showing, pos, to))?;
-        if is_ender(alloc, view, pos)? {
+        if is_ender_shown(view, pos, showing) {
             return Ok(None);
         }
         Ok(Some(to))
