@@ -1,4 +1,5 @@
 mod Columns
 mod Measures
 mod Short
+mod Sums
 mod Wholeness

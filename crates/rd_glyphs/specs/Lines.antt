@@ -75,3 +75,16 @@ fitted face room (l ∷ ls) =
 -- the cells of a plain line
 abbrev pub plain_cells : List Span → Attributes → ℕ → List ℕ → List Cell
 plain_cells classes face width text = fitted face width (looks_from classes None text)
+
+-- the columns of looks
+abbrev pub columns_of_looks : List Look → ℕ
+columns_of_looks [] = 0
+columns_of_looks (l ∷ ls) = look_columns l + columns_of_looks ls
+
+-- how many columns a text takes as a plain line that is not cut
+abbrev pub plain_columns : List Span → List ℕ → ℕ
+plain_columns classes text = columns_of_looks (looks_from classes None text)
+
+-- the columns of a glyph that is held
+abbrev pub held_columns : Option Glyph → ℕ
+held_columns held = columns_of_looks (held_looks held)

@@ -1,12 +1,14 @@
 //! How characters are shown: the elements of a character, the marks that join it, and plain lines of text.
 #![tactic(auto)]
 
+mod counting;
 mod joining;
 mod looks;
 mod parts;
 mod plain;
 mod shown;
 
+pub use counting::plain_columns;
 pub use joining::{Joining, join};
 pub use looks::on_blank;
 pub use parts::{Parts, expand};

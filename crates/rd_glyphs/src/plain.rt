@@ -63,7 +63,7 @@ fn put_held(looks: &mut ListOf<Look>, held: Option<Glyph>) -> Result<(), Memory>
 }
 
 /// Whether a glyph is held that a mark may join.
-fn has_room(held: Option<Glyph>) -> bool
+pub(crate) fn has_room(held: Option<Glyph>) -> bool
     ensures { result ≡ has_room held }
 {
     match held {
@@ -108,7 +108,7 @@ fn put_looks(list: &mut ListOf<Look>, shown: Shown) -> Result<(), Memory>
 }
 
 /// The glyph that is held behind a character.
-fn held_after(held: Option<Glyph>, shown: Shown) -> Option<Glyph>
+pub(crate) fn held_after(held: Option<Glyph>, shown: Shown) -> Option<Glyph>
     requires { ShowsColumns shown }
     ensures value { result ≡ held_after held shown }
     ensures columns { HoldsColumns held → HoldsColumns result }

@@ -1,0 +1,21 @@
+use Rattle.std.proofs.Common.{arith, ◌≡◌, ◌+◌, ◌∷◌, drop, sym, ap, ◌∙◌}
+use Rattle.std.proofs.lemmas.Grind.{common_steps}
+use Rattle.rd_modeline.specs.Formats.{fault_in, pieces_from}
+use Rattle.rd_modeline.proofs.Steps.{step-fault, step-bad}
+use Rattle.rd_modeline.proofs.reading.check.Goals as goal
+
+pub returns-in-None-clause-checks : goal.returns-in-None-clause-checks
+returns-in-None-clause-checks c =
+    let rest = drop (c.loop-place.place + 1) c.args.text.now in
+    let split : drop c.loop-place.place c.args.text.now ≡ c.index-text-place.result ∷ rest = grind (arith, common_steps) in
+    rw c.start_of.ensures
+    (sym c.loop-place.invariant.0 ∙ ap (λ l. fault_in (pieces_from c.loop-place.behind c.loop-place.place l)) split ∙ step-bad c.loop-place.behind c.loop-place.place c.index-text-place.result rest c.in-None.ensures.reads)
+
+pub loop-place-preserved : goal.loop-place-preserved
+loop-place-preserved c =
+    let rest = drop (c.loop-place.place + 1) c.args.text.now in
+    let split : drop c.loop-place.place c.args.text.now ≡ c.index-text-place.result ∷ rest = grind (arith, common_steps) in (
+      sym (step-fault c.loop-place.behind c.in-Some.after c.in-Some._piece c.loop-place.place c.index-text-place.result rest c.in-Some.ensures.reads)
+          ∙ ap (λ l. fault_in (pieces_from c.loop-place.behind c.loop-place.place l)) (sym split) ∙ c.loop-place.invariant.0,
+      c.in-Some.ensures.begun,
+    )

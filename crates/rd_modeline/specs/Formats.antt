@@ -1,0 +1,94 @@
+-- The grammar of a format: characters that stand for themselves, and codes that begin with a percent sign.
+use Rattle.std.specs.Prelude.{ℕ, ◌+◌, ◌-◌, ◌*◌, ◌==◌, ◌&&◌, ◌≤◌, ◌≡◌, nat_lt, nat_le, Bool, if◌then◌else◌, List, [], ◌∷◌, ◌++◌, Option, None, Some, Result, Ok, Err}
+use Rattle.rd_modeline.specs.declared.piece.Field.{Field}
+use Rattle.rd_modeline.specs.declared.piece.Field.TheVariants.{Name, Line, Place, ReadOnly, Modified, Narrowing}
+use Rattle.rd_modeline.specs.declared.piece.Piece.{Piece}
+use Rattle.rd_modeline.specs.declared.piece.Piece.TheVariants.{Literal, Value, Dashes}
+use Rattle.rd_modeline.specs.declared.reading.Behind.{Behind}
+use Rattle.rd_modeline.specs.declared.reading.Behind.TheVariants.{Text, Percent}
+
+-- the value that a letter asks for: b, l, p, *, + and n
+abbrev pub field_of : ℕ → Option Field
+field_of c =
+    if c == 98 then Some Name
+    else if c == 108 then Some Line
+    else if c == 112 then Some Place
+    else if c == 42 then Some ReadOnly
+    else if c == 43 then Some Modified
+    else if c == 110 then Some Narrowing
+    else None
+
+-- what a hyphen and a second percent sign ask for, which take no width
+abbrev pub sign_of : ℕ → ℕ → Option Piece
+sign_of digits c =
+    if digits == 0 then (if c == 45 then Some Dashes else if c == 37 then Some (Literal c) else None) else None
+
+abbrev pub value_or : Option Field → ℕ → Option Piece → Option Piece
+value_or (Some field) width other = Some (Value field width)
+value_or None width other = other
+
+-- the piece that a character ends behind a percent sign and so many digits, which make a least width
+abbrev pub piece_of : ℕ → ℕ → ℕ → Option Piece
+piece_of digits width c = value_or (field_of c) width (sign_of digits c)
+
+abbrev pub is_digit : ℕ → Bool
+is_digit c = nat_le 48 c && nat_le c 57
+
+-- a piece before those of the rest
+abbrev pub before : Piece → Result (List Piece) ℕ → Result (List Piece) ℕ
+before p (Ok ps) = Ok (p ∷ ps)
+before p (Err place) = Err place
+
+-- a piece before those of the rest, and the place of the percent sign where there is none
+abbrev pub before_or : Option Piece → ℕ → Result (List Piece) ℕ → Result (List Piece) ℕ
+before_or None start rest = Err start
+before_or (Some p) start rest = before p rest
+
+-- The pieces of a format from a place on, or the place of the first percent sign that no code follows. Behind a percent sign come
+-- up to three digits and then a letter or a sign.
+abbrev pub pieces_from : Behind → ℕ → List ℕ → Result (List Piece) ℕ
+pieces_from Text place [] = Ok []
+pieces_from (Percent start digits width) place [] = Err start
+pieces_from Text place (c ∷ cs) =
+    if c == 37 then pieces_from (Percent place 0 0) (place + 1) cs else before (Literal c) (pieces_from Text (place + 1) cs)
+pieces_from (Percent start digits width) place (c ∷ cs) =
+    if is_digit c && nat_lt digits 3
+    then pieces_from (Percent start (digits + 1) (10 * width + (c - 48))) (place + 1) cs
+    else before_or (piece_of digits width c) start (pieces_from Text (place + 1) cs)
+
+abbrev pub pieces_of : List ℕ → Result (List Piece) ℕ
+pieces_of format = pieces_from Text 0 format
+
+-- the pieces that were read before those of the rest
+abbrev pub behind_all : List Piece → Result (List Piece) ℕ → Result (List Piece) ℕ
+behind_all ps (Ok rest) = Ok (ps ++ rest)
+behind_all ps (Err place) = Err place
+
+-- the place of a format's first bad code
+abbrev pub fault_in : Result (List Piece) ℕ → Option ℕ
+fault_in (Ok ps) = None
+fault_in (Err place) = Some place
+
+-- a number of so many digits, at most three
+pub record HasDigits (digits width : ℕ) : Type 0 where
+  pub none : digits ≡ 0 → width ≡ 0
+  pub one : digits ≤ 1 → width ≤ 9
+  pub two : digits ≤ 2 → width ≤ 99
+  pub three : width ≤ 999
+  pub count : digits ≤ 3
+
+-- a width that was begun has at most three digits
+abbrev pub IsBegun : Behind → Type 0
+IsBegun Text = Unit {0}
+IsBegun (Percent start digits width) = HasDigits digits width
+
+-- the place of the percent sign that was read last
+abbrev pub start_of : Behind → ℕ
+start_of Text = 0
+start_of (Percent start digits width) = start
+
+-- what the next character makes of the rest, where it leaves this behind and ends a piece or none, and where it is bad
+abbrev pub ReadsOn : Option (Behind × Option Piece) → Behind → ℕ → ℕ → Type 0
+ReadsOn None b place c = (cs : List ℕ) → pieces_from b place (c ∷ cs) ≡ Err (start_of b)
+ReadsOn (Some (after, None)) b place c = (cs : List ℕ) → pieces_from b place (c ∷ cs) ≡ pieces_from after (place + 1) cs
+ReadsOn (Some (after, Some p)) b place c = (cs : List ℕ) → pieces_from b place (c ∷ cs) ≡ before p (pieces_from after (place + 1) cs)

@@ -1,0 +1,3 @@
+pub mod Values
+pub mod Formats
+pub mod Lines

@@ -1,0 +1,18 @@
+//! Mode lines: the line below a window that tells its buffer's name, the line of point, how much of the text is in view and
+//! whether it was changed, by a format (the Emacs Lisp manual's `%`-constructs).
+#![tactic(auto)]
+
+mod facts;
+mod fault;
+mod laws;
+mod line;
+mod piece;
+mod reading;
+
+pub use facts::Facts;
+pub use fault::FormatFault;
+pub use line::format;
+pub use reading::check;
+
+#[cfg(test)]
+mod tests;
