@@ -57,5 +57,9 @@ fn mark_columns(held: Option<Glyph>) -> u64
     ensures value { result ≡ columns_of_looks (if has_room held then [] else held_looks held) }
     ensures few { HoldsColumns held → result ≤ 3 }
 {
-    if has_room(held) { 0 } else { held_columns(held) }
+    if has_room(held) {
+        0
+    } else {
+        held_columns(held)
+    }
 }
