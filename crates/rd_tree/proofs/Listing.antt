@@ -1,5 +1,5 @@
 -- The windows of a tree in order.
-use Rattle.std.proofs.Common.{◌≡◌, ℕ, zero, suc, ◌≤◌, Bool, true, false, ◌==◌, ◌||◌, List, [], ◌∷◌, ◌++◌, Option, None, Some, ◌⊎◌, inl, inr, refl, sym, ap, ◌∙◌, arith}
+use Rattle.std.proofs.Common.{◌≡◌, ℕ, zero, suc, ◌≤◌, Bool, true, ◌==◌, List, [], ◌∷◌, ◌++◌, Option, None, Some, ◌⊎◌, inl, inr, refl, sym, ap, ◌∙◌, arith}
 use Rattle.std.specs.Prelude.{slice_get}
 use Rattle.std.specs.Option.{option_map}
 use Rattle.std.proofs.lemmas.Option.{slice_get-map}
@@ -8,14 +8,8 @@ use Rattle.rd_tree.specs.declared.rect.Rect.{Rect}
 use Rattle.rd_tree.specs.declared.placed.Placed.{Placed}
 use Rattle.rd_tree.specs.Windows.{Windows, Window, Split, first_part, second_part, leaves, placed, window_at, holds, times}
 use Rattle.rd_tree.proofs.Rooms.{or_else}
+use Rattle.rd_tree.proofs.Siblings.{or_true, true_or}
 use Rattle.rd_tree.proofs.Standing.{listed, not_found, once_in_first, two_lists}
-
-or_true : (a b : Bool) → b ≡ true → (a || b) ≡ true
-or_true true b e = refl
-or_true false b e = e
-
-true_or : (a b : Bool) → a ≡ true → (a || b) ≡ true
-true_or a b e = rw e refl
 
 -- what stands in two lists stands in one of them
 in_one : (xs ys : List Placed) (i : ℕ) (window : Placed) → slice_get (xs ++ ys) i ≡ Some window → ((j : ℕ) × (slice_get xs j ≡ Some window)) ⊎ ((j : ℕ) × (slice_get ys j ≡ Some window))

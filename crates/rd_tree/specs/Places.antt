@@ -2,7 +2,7 @@
 use Rattle.std.specs.Prelude.{ℕ, ◌+◌, ◌≤◌, Bool, false, if◌then◌else◌, nat_le, nat_lt, ◌==◌, ◌&&◌, ◌||◌, List, [], ◌∷◌, ◌++◌, Option, None, Some}
 use Rattle.rd_tree.specs.declared.rect.Rect.{Rect}
 use Rattle.rd_tree.specs.declared.placed.Placed.{Placed}
-use Rattle.rd_tree.specs.Windows.{rows_for}
+use Rattle.rd_tree.specs.Windows.{Windows, Window, Split, rows_for, first_part, second_part, holds, is_window}
 
 -- whether a place is one of so many from the first on
 abbrev pub is_from : ℕ → ℕ → ℕ → Bool
@@ -52,3 +52,13 @@ without number (n ∷ numbers) = if n == number then numbers else n ∷ without 
 abbrev pub is_among : ℕ → List ℕ → Bool
 is_among number [] = false
 is_among number (n ∷ numbers) = n == number || is_among number numbers
+
+-- the rectangle that the window with a number shares with its sibling
+abbrev pub shared_place : ℕ → Windows → Rect → Rect
+shared_place number (Window n mode) rect = rect
+shared_place number (Split side size first second) rect =
+    if is_window number first
+    then rect
+    else (if is_window number second
+    then rect
+    else (if holds number first then shared_place number first (first_part side size rect) else shared_place number second (second_part side size rect)))

@@ -7,7 +7,7 @@ ghost use Rattle.rd_tree.specs.declared.side.Side.{Side};
 ghost use Rattle.rd_tree.specs.declared.side.Side.TheVariants.{Below, Right};
 ghost use Rattle.rd_tree.specs.Windows.{Windows, Window, Split, HasRoom, NeedsMet, fits, placed, leaves, window_at, holds, halves, split_at, with_mode, is_single, first_leaf, sibling, removed, resized, times};
 ghost use Rattle.rd_tree.specs.Calls.{Configuration, IsValid, opening, frame, split_tree, remove_tree, resize_tree, mode_tree, rect_of};
-ghost use Rattle.rd_tree.specs.Places.{lies_in, windows_with, one_if, AllHaveRoom, StandsIn, in_place_of, without, is_among};
+ghost use Rattle.rd_tree.specs.Places.{lies_in, windows_with, one_if, AllHaveRoom, StandsIn, in_place_of, without, is_among, shared_place};
 
 /// The opening is a valid tree, and each call that is not refused leaves a valid tree valid. The call does nothing.
 pub fn calls_keep_trees()
@@ -44,13 +44,14 @@ pub fn needs_are_exact()
     ensures order { (windows : Windows) (rect : Rect) → leaves (resized windows rect) ≡ leaves windows }
 {}
 
-/// A split and a mode line leave each other window where it is. A removal takes one number away, and leaves each window that is not
-/// in the sibling where it is. The call does nothing.
+/// A split and a mode line leave each other window where it is. A removal takes one number away, leaves each window that is not in the
+/// sibling where it is, and lets the sibling share the rectangle that it had with the removed window. The call does nothing.
 pub fn other_windows_stay()
     ensures split { (number : ℕ) (side : Side) (size new : ℕ) (windows : Windows) (rect : Rect) → placed (split_at number side size new windows) rect ≡ in_place_of number (λ window. placed (halves number side size new window.mode) window.rect) (placed windows rect) }
     ensures mode { (number : ℕ) (shown : Bool) (windows : Windows) (rect : Rect) → placed (with_mode number shown windows) rect ≡ in_place_of number (λ window. placed (Window number shown) window.rect) (placed windows rect) }
     ensures removed { (number : ℕ) (windows : Windows) (rect : Rect) → times number windows ≤ 1 → holds number windows ≡ true → is_single windows ≡ false → leaves (removed number windows rect) ≡ without number (leaves windows) }
     ensures others { (other number : ℕ) (windows : Windows) (rect : Rect) → (other == number) ≡ false → holds other (sibling number windows) ≡ false → window_at other (removed number windows rect) rect ≡ window_at other windows rect }
+    ensures sibling { (other number : ℕ) (windows : Windows) (rect : Rect) → times other windows ≤ 1 → holds other (sibling number windows) ≡ true → window_at other (removed number windows rect) rect ≡ window_at other (resized (sibling number windows) (shared_place number windows rect)) (shared_place number windows rect) }
 {}
 
 /// A tree of 24 columns and 5 rows is split, and its first window removed. The call does nothing.

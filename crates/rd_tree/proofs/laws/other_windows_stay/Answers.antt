@@ -1,4 +1,5 @@
 use Rattle.rd_tree.specs.Windows.{Window, halves}
+use Rattle.rd_tree.proofs.Siblings.{removed_sibling}
 use Rattle.rd_tree.proofs.Standing.{replaced_places, removed_leaves, removed_others}
 use Rattle.rd_tree.proofs.laws.other_windows_stay.Goals as goal
 
@@ -8,4 +9,5 @@ returns c = record {
   mode = λ number shown windows rect. replaced_places number (λ _. Window number shown) windows rect;
   removed = removed_leaves;
   others = removed_others;
+  sibling = removed_sibling;
 }

@@ -1,0 +1,66 @@
+-- What a removal gives the sibling.
+use Rattle.std.proofs.Common.{◌≡◌, ℕ, ◌≤◌, Bool, true, false, ◌||◌, Option, None, Some, inl, inr, refl, ap, ◌∙◌, arith}
+use Rattle.std.specs.Prelude.{is_some}
+use Rattle.rd_tree.specs.declared.rect.Rect.{Rect}
+use Rattle.rd_tree.specs.declared.placed.Placed.{Placed}
+use Rattle.rd_tree.specs.Windows.{Windows, Window, Split, first_part, second_part, resized, window_at, holds, is_window, sibling, removed, times}
+use Rattle.rd_tree.specs.Places.{shared_place}
+use Rattle.rd_tree.proofs.Rooms.{or_else}
+use Rattle.rd_tree.proofs.Keeping.{bool_cases, found_held}
+use Rattle.rd_tree.proofs.Standing.{resized_held, not_found, once_in_first, two_lists}
+
+pub or_true : (a b : Bool) → b ≡ true → (a || b) ≡ true
+or_true true b e = refl
+or_true false b e = e
+
+pub true_or : (a b : Bool) → a ≡ true → (a || b) ≡ true
+true_or a b e = rw e refl
+
+-- the sibling is a part of the windows
+sibling_held : (v n : ℕ) (windows : Windows) → holds v (sibling n windows) ≡ true → holds v windows ≡ true
+sibling_held v n (Window number mode) e = e
+sibling_held v n (Split side size first second) e =
+    elim (bool_cases (is_window n first)) [
+      | inl p ↦ or_true (holds v first) (holds v second) (rw p at e)
+      | inr p ↦ elim (bool_cases (is_window n second)) [
+        | inl q ↦ true_or (holds v first) (holds v second) (rw (p, q) at e)
+        | inr q ↦ elim (bool_cases (holds n first)) [
+          | inl h ↦ true_or (holds v first) (holds v second) (sibling_held v n first (rw (p, q, h) at e))
+          | inr h ↦ or_true (holds v first) (holds v second) (sibling_held v n second (rw (p, q, h) at e))
+        ]
+      ]
+    ]
+
+or_else_some : (o other : Option Placed) → is_some o ≡ true → or_else o other ≡ o
+or_else_some None other e = absurd (cc)
+or_else_some (Some window) other e = refl
+
+-- the sibling shares the rectangle that it had with the removed window
+pub removed_sibling : (v n : ℕ) (windows : Windows) (rect : Rect) → times v windows ≤ 1 → holds v (sibling n windows) ≡ true → window_at v (removed n windows rect) rect ≡ window_at v (resized (sibling n windows) (shared_place n windows rect)) (shared_place n windows rect)
+removed_sibling v n (Window number mode) rect once e = refl
+removed_sibling v n (Split side size first second) rect once e =
+    let a = first_part side size rect in
+    let b = second_part side size rect in
+    elim (bool_cases (is_window n first)) [
+      | inl p ↦ rw p refl
+      | inr p ↦ elim (bool_cases (is_window n second)) [
+        | inl q ↦ rw (p, q) refl
+        | inr q ↦ elim (bool_cases (holds n first)) [
+          | inl h ↦
+              let held : holds v (sibling n first) ≡ true = rw (p, q, h) at e in
+              let place = shared_place n first a in
+              let there : is_some (window_at v (resized (sibling n first) place) place) ≡ true = found_held v (resized (sibling n first) place) place ∙ (resized_held v (sibling n first) place ∙ held) in
+              rw (p, q, h)
+              (two_lists v side size (removed n first a) second rect
+              ∙ (ap (λ (o : Option Placed). or_else o (window_at v second b)) (removed_sibling v n first a (omega arith) held)
+              ∙ or_else_some (window_at v (resized (sibling n first) place) place) (window_at v second b) there))
+          | inr h ↦
+              let held : holds v (sibling n second) ≡ true = rw (p, q, h) at e in
+              let away : holds v first ≡ false = once_in_first v first second once (sibling_held v n second held) in
+              rw (p, q, h)
+              (two_lists v side size first (removed n second b) rect
+              ∙ (ap (λ (o : Option Placed). or_else o (window_at v (removed n second b) b)) (not_found v first a away)
+              ∙ removed_sibling v n second b (omega arith) held))
+        ]
+      ]
+    ]
