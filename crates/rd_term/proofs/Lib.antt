@@ -1,3 +1,6 @@
+pub mod Cutting
+pub mod Encoded
 pub mod Erasing
 pub mod Feeding
+pub mod Putting
 pub mod Wholeness

@@ -5,12 +5,13 @@ use Rattle.std.proofs.lemmas.List.{get_or-replicate}
 use Rattle.std.proofs.lemmas.List.Elements.{recursion_from_All}
 use Rattle.std.specs.List.{AllByRecursion}
 use Rattle.unicode_width.specs.Width.{char_width}
-use Rattle.rd_base.specs.Cells.{single}
+use Rattle.rd_base.specs.Cells.{single, HasColours}
+use Rattle.rd_base.specs.Faces.{Attributes, plain}
 use Rattle.rd_base.specs.declared.cell.Glyph.{Glyph}
 use Rattle.rd_base.specs.declared.cell.Cell.{Cell}
 use Rattle.rd_base.specs.declared.cell.Cell.TheVariants.{Blank, First, Rest}
 use Rattle.rd_base.specs.Glyphs.{IsGood, IsRowAfter}
-use Rattle.rd_term.specs.Pictures.{Picture, IsPlainCell, ArePlain, IsWellFormed, width_of}
+use Rattle.rd_term.specs.Pictures.{Picture, IsPlainCell, ArePlain, IsWellFormed, IsColoured, AreColoured, width_of}
 
 columns-printable : (c : ℕ) → 33 ≤ c → c ≤ 126 → char_width false c ≡ Some 1
 unfolding char_width
@@ -43,3 +44,16 @@ whole p plain row column = record {
   row = row;
   column = column;
 }
+
+-- ---- colours
+
+face-coloured : (f : Attributes) → f ≡ plain → HasColours f
+face-coloured f e = rw e (record { fg = omega arith; bg = omega arith })
+
+cell-coloured : (cell : Cell) → IsPlainCell cell → IsColoured cell
+cell-coloured (Blank f) h = face-coloured f h
+cell-coloured (First g f) h = face-coloured f h.3
+cell-coloured Rest h = absurd h
+
+pub coloured : (rows : List (List Cell)) → ArePlain rows → AreColoured rows
+coloured rows plain k d p j e q = cell-coloured (get_or (get_or rows k d) j e) (plain k d p j e q)

@@ -1,21 +1,28 @@
 -- The terminal: a function from what it is and the bytes that it reads to what it then is.
-use Rattle.std.specs.Prelude.{◌≡◌, ℕ, ◌+◌, ◌-◌, ◌<◌, ◌≤◌, ◌==◌, nat_lt, nat_le, Bool, true, false, if◌then◌else◌, ◌&&◌, not, List, [], ◌∷◌, ◌++◌, length, replicate, take, map, Option, None, Some, IfSome, slice_set}
+use Rattle.std.specs.Prelude.{◌≡◌, ℕ, zero, suc, ◌+◌, ◌-◌, ◌<◌, ◌≤◌, ◌==◌, nat_lt, nat_le, min, Bool, true, false, if◌then◌else◌, ◌&&◌, ◌||◌, not, List, [], ◌∷◌, length, replicate, map, Option, None, Some, IfSome, slice_set, slice_index_or}
 use Rattle.rd_base.specs.Cells.{single}
-use Rattle.rd_base.specs.Faces.{Attributes, plain}
+use Rattle.rd_base.specs.Faces.{Attributes}
+use Rattle.rd_base.specs.Glyphs.{glyph_cells}
+use Rattle.rd_base.specs.declared.cell.Glyph.{Glyph}
 use Rattle.rd_base.specs.declared.cell.Cell.{Cell}
-use Rattle.rd_base.specs.declared.cell.Cell.TheVariants.{Blank, First}
+use Rattle.rd_base.specs.declared.cell.Cell.TheVariants.{Blank, First, Rest}
+use Rattle.rd_term.specs.Characters.{CharacterRead, begun, with_bits, continued, columns_of}
+use Rattle.rd_term.specs.Overwriting.{overwritten}
 use Rattle.rd_term.specs.Parameters.{ParametersRead, no_parameters, with_digit, separated, numbers_of}
+use Rattle.rd_term.specs.Pens.{are_renditions, pen_by}
 use Rattle.rd_term.specs.Pictures.{Picture, blank, row_at, with_cell, width_of, IsGrid}
 use Rattle.rd_term.specs.declared.reading.Reading.{Reading}
-use Rattle.rd_term.specs.declared.reading.Reading.TheVariants.{Between, Escaped, Sequence}
+use Rattle.rd_term.specs.declared.reading.Reading.TheVariants.{Between, Escaped, Sequence, Character}
 
 -- A cell that is not known is None, and so are a cursor and a pen. The cursor is a row and a column from 0. `wait` says that
--- a character filled the cursor's row; while the cursor is not known it is false.
+-- a character filled the cursor's row; while the cursor is not known it is false. `latest` is the first place of the character
+-- that the bytes directly before this put, and None after a sequence.
 pub record Tty : Type 0 where
   pub rows : List (List (Option Cell))
   pub cursor : Option (ℕ × ℕ)
   pub wait : Bool
   pub pen : Option Attributes
+  pub latest : Option (ℕ × ℕ)
   pub reading : Reading
   pub confused : Bool
 
@@ -26,6 +33,7 @@ unknown width height = record {
   cursor = None;
   wait = false;
   pen = None;
+  latest = None;
   reading = Between;
   confused = false;
 }
@@ -51,14 +59,18 @@ move_to (r ∷ c ∷ []) t = if on_screen t.rows r c then record t { cursor = So
 move_to numbers t = confuse t
 
 -- `\e[2J`: all cells become blank and plain, by a plain pen
-abbrev pub erased_from : ℕ → List (Option Cell) → List (Option Cell)
-erased_from column row = take column row ++ replicate (length row - column) (Some blank)
+abbrev pub cleared : List (Option Cell) → List (Option Cell)
+cleared row = replicate (length row) (Some blank)
 
 abbrev pub clear : List ℕ → Tty → Tty
-clear (n ∷ []) t = if n == 2 && writes_plain t.pen then record t { rows = map (erased_from 0) t.rows } else confuse t
+clear (n ∷ []) t = if n == 2 && writes_plain t.pen then record t { rows = map cleared t.rows } else confuse t
 clear numbers t = confuse t
 
--- `\e[K`: the cells from the cursor to its row's end become blank and plain, by a plain pen and while no wait stands
+-- `\e[K`: the cells from the cursor to its row's end become blank and plain, by a plain pen and while no wait stands; what is
+-- left of a character that this cuts becomes unknown
+abbrev pub erased_from : ℕ → List (Option Cell) → List (Option Cell)
+erased_from column row = overwritten column (replicate (length row - column) (Some blank)) row
+
 abbrev pub erase_at : Option (ℕ × ℕ) → Tty → Tty
 erase_at None t = confuse t
 erase_at (Some place) t = record t { rows = slice_set t.rows place.0 (erased_from place.1 (row_at t.rows place.0)) }
@@ -67,10 +79,10 @@ abbrev pub erase : List ℕ → Tty → Tty
 erase [] t = if writes_plain t.pen && not t.wait then erase_at t.cursor t else confuse t
 erase (n ∷ ns) t = confuse t
 
--- `\e[0m`: the pen becomes plain
+-- `\e[a;b;..m`: one or more numbers change the pen, one after another
 abbrev pub dress : List ℕ → Tty → Tty
-dress (n ∷ []) t = if n == 0 then record t { pen = Some plain } else confuse t
-dress numbers t = confuse t
+dress [] t = confuse t
+dress (n ∷ ns) t = if are_renditions (n ∷ ns) then record t { pen = pen_by (n ∷ ns) t.pen } else confuse t
 
 -- a whole sequence, by its last byte and its numbers
 abbrev pub obey : ℕ → List ℕ → Tty → Tty
@@ -85,47 +97,86 @@ abbrev pub end_sequence : ℕ → Option (List ℕ) → Tty → Tty
 end_sequence byte None t = confuse t
 end_sequence byte (Some numbers) t = obey byte numbers t
 
--- a character of one column, put where the cursor is: it goes on by one, and at the row's end it stays and the wait begins
+-- the cell of a character of one column
 abbrev pub cell_of : ℕ → Attributes → Cell
 cell_of code face = if code == 32 then Blank face else First (single code 1) face
 
-abbrev pub put_at : ℕ → Attributes → ℕ → ℕ → Tty → Tty
-put_at code face row column t =
-    let full = nat_le (length (row_at t.rows row)) (column + 1) in
+-- a character of so many columns, put where the cursor is: it goes on by as many, and at the row's end it stays in the last
+-- column and the wait begins
+abbrev pub put_at : ℕ → ℕ → Attributes → ℕ → ℕ → Tty → Tty
+put_at code columns face row column t =
+    let cells = row_at t.rows row in
     record t {
-      rows = with_cell t.rows row column (Some (cell_of code face));
-      cursor = Some (row, if full then column else column + 1);
-      wait = full;
+      rows = slice_set t.rows row (overwritten column (map Some (glyph_cells columns (single code columns) face)) cells);
+      cursor = Some (row, min (column + columns) (length cells - 1));
+      wait = nat_le (length cells) (column + columns);
+      latest = Some (row, column);
     }
 
--- a character needs the cursor and the pen, and that no wait stands
-abbrev pub put : ℕ → Option Attributes → Option (ℕ × ℕ) → Tty → Tty
-put code (Some face) (Some place) t = if t.wait then confuse t else put_at code face place.0 place.1 t
-put code (Some face) None t = confuse t
-put code None place t = confuse t
+-- such a character needs the cursor and the pen, that no wait stands, and its columns
+abbrev pub put : ℕ → ℕ → Option Attributes → Option (ℕ × ℕ) → Tty → Tty
+put code columns (Some face) (Some place) t =
+    if t.wait || nat_lt (length (row_at t.rows place.0)) (place.1 + columns) then confuse t
+    else put_at code columns face place.0 place.1 t
+put code columns (Some face) None t = confuse t
+put code columns None place t = confuse t
+
+-- a glyph with one more mark, where it has fewer than six
+abbrev pub with_mark : ℕ → Glyph → Attributes → Option Cell
+with_mark code g face =
+    if nat_lt g.count 6 then Some (First (record g { marks = slice_set g.marks g.count code; count = g.count + 1 }) face)
+    else None
+
+-- a cell with one more mark: a blank counts as a space
+abbrev pub marked : ℕ → Option Cell → Option Cell
+marked code None = None
+marked code (Some (Blank face)) = with_mark code (single 32 1) face
+marked code (Some (First g face)) = with_mark code g face
+marked code (Some Rest) = None
+
+-- a character of no column joins the one put directly before it
+abbrev pub join_into : Option Cell → ℕ → ℕ → Tty → Tty
+join_into None row column t = confuse t
+join_into (Some cell) row column t = record t { rows = with_cell t.rows row column (Some cell) }
+
+abbrev pub join : ℕ → Option (ℕ × ℕ) → Tty → Tty
+join code None t = confuse t
+join code (Some place) t = join_into (marked code (slice_index_or (row_at t.rows place.0) place.1 None)) place.0 place.1 t
+
+-- a character, by its columns
+abbrev pub show : ℕ → Option ℕ → Tty → Tty
+show code None t = confuse t
+show code (Some zero) t = join code t.latest t
+show code (Some (suc columns)) t = put code (suc columns) t.pen t.cursor t
+
+-- the first byte of a character of more than one
+abbrev pub begin : Option CharacterRead → Tty → Tty
+begin None t = confuse t
+begin (Some c) t = record t { reading = Character c }
 
 -- a digit may be too much
 abbrev pub go_on : Option ParametersRead → Tty → Tty
 go_on None t = confuse t
 go_on (Some parameters) t = record t { reading = Sequence parameters }
 
-abbrev pub is_printable : ℕ → Bool
-is_printable byte = nat_le 32 byte && nat_le byte 126
-
 abbrev pub is_digit : ℕ → Bool
 is_digit byte = nat_le 48 byte && nat_le byte 57
 
--- the next byte, by what was read of a sequence before it
+-- the next byte, by what was read of a sequence or of a character before it
 abbrev pub read_byte : Reading → ℕ → Tty → Tty
 read_byte Between byte t =
-    if byte == 27 then record t { reading = Escaped }
-    else if is_printable byte then put byte t.pen t.cursor t
-    else confuse t
+    if byte == 27 then record t { reading = Escaped; latest = None }
+    else if nat_lt byte 128 then show byte (columns_of byte) t
+    else begin (begun byte) t
 read_byte Escaped byte t = if byte == 91 then record t { reading = Sequence no_parameters } else confuse t
 read_byte (Sequence parameters) byte t =
     if is_digit byte then go_on (with_digit parameters (byte - 48)) t
     else if byte == 59 then record t { reading = Sequence (separated parameters) }
     else end_sequence byte (numbers_of parameters) t
+read_byte (Character c) byte t =
+    if nat_lt byte c.low || nat_lt c.high byte then confuse t
+    else if nat_le c.due 1 then show (with_bits c byte) (columns_of (with_bits c byte)) t
+    else record t { reading = Character (continued c byte) }
 
 -- one byte; a confused terminal stays as it is
 abbrev pub feed_byte : Tty → ℕ → Tty
@@ -153,3 +204,7 @@ pub record IsTerminal (rows : List (List (Option Cell))) (cursor : Option (ℕ �
   pub wide : width_of rows ≤ 400
   pub tall : length rows ≤ 200
   pub place : IfSome cursor (λ place. (place.0 < length rows) × (place.1 < width_of rows))
+
+-- a known place is on the rows
+abbrev pub IsWithin : List (List (Option Cell)) → Option (ℕ × ℕ) → Type 0
+IsWithin rows place = IfSome place (λ place. (place.0 < length rows) × (place.1 < width_of rows))

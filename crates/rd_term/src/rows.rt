@@ -1,5 +1,5 @@
 //! Rows of equal width.
-ghost use Rattle.std.specs.Prelude.{◌≡◌, IfOk, replicate};
+ghost use Rattle.std.specs.Prelude.{◌≡◌, ◌-◌, ◌≤◌, ◌++◌, IfOk, length, take, drop, replicate};
 
 use rd_base::{ListOf, Memory};
 use std::alloc::Global;
@@ -27,4 +27,15 @@ fn filled_row<T: Copy + Drop>(alloc: Global, width: u32, value: T) -> Result<Lis
     let mut row = ListOf::new(alloc);
     row.resize(width as usize, value)?;
     Ok(row)
+}
+
+/// Puts the same value in each column of a row from one to before another.
+pub(crate) fn fill<T: Copy + Drop>(row: &mut ListOf<T>, from: usize, to: usize, value: T)
+    requires order { from ≤ to }
+    requires end { to ≤ length row.old }
+    ensures { row.new ≡ take from row.old ++ (replicate (to - from) value ++ drop to row.old) }
+{
+    for i in from..to {
+        row.set(i, value);
+    }
 }

@@ -1,32 +1,39 @@
 //! The terminal: what it shows, by the bytes that it reads.
-ghost use Rattle.std.specs.Prelude.{◌≡◌, ◌<◌, ◌≤◌, OnOk, OnErr, IfOk, length, slice_index_or, map};
+ghost use Rattle.std.specs.Prelude.{◌≡◌, ◌+◌, ◌<◌, ◌≤◌, nat_le, OnOk, OnErr, IfOk, length, slice_index_or, map};
+ghost use Rattle.rd_base.specs.Cells.{single};
+ghost use Rattle.rd_term.specs.Characters.{columns_of};
 ghost use Rattle.rd_term.specs.Pictures.{width_of, row_at};
-ghost use Rattle.rd_term.specs.declared.reading.Reading.TheVariants.{Between, Escaped, Sequence};
-ghost use Rattle.rd_term.specs.Terminals.{IsTerminal, unknown, feed_byte, feed_bytes, read_byte, obey, move_to, on_screen, clear, erase, dress, put, put_at, cell_of, writes_plain, erased_from};
+ghost use Rattle.rd_term.specs.declared.reading.Reading.TheVariants.{Between, Escaped, Sequence, Character};
+ghost use Rattle.rd_term.specs.Terminals.{IsTerminal, IsWithin, unknown, feed_byte, feed_bytes, read_byte, obey, move_to, on_screen, clear, cleared, erase, dress, put, put_at, join, join_into, marked, with_mark, show, writes_plain};
 
+use crate::character::{Begun, columns_of};
+use crate::overwriting::{erase_from, put_character};
 use crate::parameters::Parameters;
+use crate::pen::{are_renditions, pen_by};
 use crate::reading::Reading;
-use crate::rows::filled;
+use crate::rows::{fill, filled};
 use rd_base::{Cell, Face, Glyph, ListOf, Memory};
 use std::alloc::Global;
 use std::marker::Model;
 
-/// A terminal of up to 200 rows of one width, up to 400 columns. It begins with nothing known. It reads these control
-/// sequences of ECMA-48, with numbers from 1: `ESC [ r ; c H` (cursor position), `ESC [ 2 J` (erase in page), `ESC [ K` (erase
-/// in line) and `ESC [ 0 m` (select graphic rendition), and the bytes 32 to 126, each a character of one column. What else it
-/// reads makes it confused, and then it stays as it is.
+/// A terminal of up to 200 rows of one width, up to 400 columns. It begins with nothing known. It reads characters in UTF-8 and
+/// these control sequences of ECMA-48, with numbers from 1: `ESC [ r ; c H` (cursor position), `ESC [ 2 J` (erase in page),
+/// `ESC [ K` (erase in line) and `ESC [ a ; b ; .. m` (select graphic rendition, with 0, 1, 4, 7, 30 to 37 and 40 to 47). A
+/// character of no column joins the one that was put directly before it. What else the terminal reads makes it confused, and
+/// then it stays as it is.
 #[derive(Drop)]
 pub struct Terminal {
     rows: Vec<ListOf<Option<Cell>>>,
     cursor: Option<(u32, u32)>,
     wait: bool,
     pen: Option<Face>,
+    latest: Option<(u32, u32)>,
     reading: Reading,
     confused: bool,
 }
 
 impl Model for Terminal {
-    ghost use Rattle.rd_term.specs.Terminals.{Tty, IsTerminal};
+    ghost use Rattle.rd_term.specs.Terminals.{Tty, IsTerminal, IsWithin};
 
     ghost Value = { Tty };
 
@@ -35,11 +42,12 @@ impl Model for Terminal {
       cursor = t.cursor;
       wait = t.wait;
       pen = t.pen;
+      latest = t.latest;
       reading = t.reading;
       confused = t.confused;
     } };
 
-    ghost invariant = { λ t. IsTerminal t.rows.items t.cursor };
+    ghost invariant = { λ t. IsTerminal t.rows.items t.cursor × IsWithin t.rows.items t.latest };
 }
 
 impl Terminal {
@@ -56,6 +64,7 @@ impl Terminal {
             cursor: None,
             wait: false,
             pen: None,
+            latest: None,
             reading: Reading::Between,
             confused: false,
         })
@@ -133,6 +142,7 @@ impl Terminal {
             Reading::Between => self.read_between(byte),
             Reading::Escaped => self.read_escaped(byte),
             Reading::Sequence(parameters) => self.read_sequence(parameters, byte),
+            Reading::Character(begun) => self.read_character(begun, byte),
         }
     }
 
@@ -140,10 +150,29 @@ impl Terminal {
     fn read_between(&mut self, byte: u8)
         ensures { self.new ≡ read_byte Between byte self.old }
     {
-        match byte {
-            27 => self.reading = Reading::Escaped,
-            32..=126 => self.put(byte),
-            _ => self.confused = true,
+        if byte == 27 {
+            self.reading = Reading::Escaped;
+            self.latest = None;
+        } else if byte < 128 {
+            self.show(byte as u32);
+        } else {
+            match Begun::by(byte) {
+                Some(begun) => self.reading = Reading::Character(begun),
+                None => self.confused = true,
+            }
+        }
+    }
+
+    /// Reads a byte of a character after its first.
+    fn read_character(&mut self, begun: Begun, byte: u8)
+        ensures { self.new ≡ read_byte (Character begun) byte self.old }
+    {
+        if !begun.may_go_on_with(byte) {
+            self.confused = true;
+        } else if begun.ends_next() {
+            self.show(begun.with_bits(byte));
+        } else {
+            self.reading = Reading::Character(begun.continued(byte));
         }
     }
 
@@ -216,7 +245,7 @@ impl Terminal {
         ensures { self.new ≡ clear numbers.now self.old }
     {
         match numbers {
-            [2] if writes_plain(self.pen) => erase_rows(&mut self.rows),
+            [2] if writes_plain(self.pen) => clear_rows(&mut self.rows),
             _ => self.confused = true,
         }
     }
@@ -242,49 +271,114 @@ impl Terminal {
     fn dress(&mut self, numbers: &[u32])
         ensures { self.new ≡ dress numbers.now self.old }
     {
-        match numbers {
-            [0] => self.pen = Some(Face::PLAIN),
-            _ => self.confused = true,
+        if numbers.is_empty() || !are_renditions(numbers) {
+            self.confused = true;
+            return;
+        }
+        self.pen = pen_by(numbers, self.pen);
+    }
+
+    /// Shows a character, by its columns.
+    fn show(&mut self, code: u32)
+        ensures { self.new ≡ show code (columns_of code) self.old }
+    {
+        match columns_of(code) {
+            None => self.confused = true,
+            Some(0) => self.join(code),
+            Some(columns) => self.put(code, columns),
         }
     }
 
-    /// Puts a character of one column where the cursor is.
-    fn put(&mut self, code: u8)
-        ensures { self.new ≡ put code self.old.pen self.old.cursor self.old }
+    /// Puts a character of so many columns where the cursor is.
+    fn put(&mut self, code: u32, columns: u8)
+        requires some { 1 ≤ columns }
+        requires few { columns ≤ 3 }
+        ensures { self.new ≡ put code columns self.old.pen self.old.cursor self.old }
     {
         match (self.pen, self.cursor) {
-            (Some(face), Some((row, column))) if !self.wait => self.put_at(face, row, column, code),
+            (Some(face), Some((row, column)))
+                if !self.wait && self.has_room(row, column, columns) => {
+                self.put_at(face, row, column, &Glyph::single(code, columns));
+            }
             _ => self.confused = true,
         }
     }
 
-    /// Puts a character at a place and moves on by one, but not past the row's end.
-    fn put_at(&mut self, face: Face, row: u32, column: u32, code: u8)
+    /// Whether a row goes on by so many columns from a column on.
+    fn has_room(&self, row: u32, column: u32, columns: u8) -> bool
+        requires row { row < length self.now.rows }
+        requires column { column < width_of self.now.rows }
+        ensures { result ≡ nat_le (column + columns) (length (row_at self.now.rows row)) }
+    {
+        column as usize + columns as usize <= self.rows[row as usize].len()
+    }
+
+    /// Puts a character at a place and moves on by its columns, but not past the row's end.
+    fn put_at(&mut self, face: Face, row: u32, column: u32, glyph: &Glyph)
         requires row { row < length self.old.rows }
         requires column { column < width_of self.old.rows }
-        ensures { self.new ≡ put_at code face row column self.old }
+        requires some { 1 ≤ glyph.now.width }
+        requires room { column + glyph.now.width ≤ length (row_at self.old.rows row) }
+        requires plain { glyph.now ≡ single glyph.now.base glyph.now.width }
+        ensures { self.new ≡ put_at glyph.now.base glyph.now.width face row column self.old }
     {
         let cells = &mut self.rows[row as usize];
-        cells.set(column as usize, Some(cell_of(code, face)));
-        if column as usize + 1 < cells.len() {
-            self.cursor = Some((row, column + 1));
-            self.wait = false;
-        } else {
-            self.cursor = Some((row, column));
-            self.wait = true;
+        let length = cells.len() as u32;
+        put_character(cells, column as usize, glyph, face);
+        let next = column + glyph.width as u32;
+        self.cursor = Some((row, next.min(length - 1)));
+        self.wait = next >= length;
+        self.latest = Some((row, column));
+    }
+
+    /// Joins a character of no column to the one that was put directly before it.
+    fn join(&mut self, code: u32)
+        ensures { self.new ≡ join code self.old.latest self.old }
+    {
+        match self.latest {
+            Some((row, column)) => self.join_at(row, column, code),
+            None => self.confused = true,
+        }
+    }
+
+    /// Joins a character of no column to the one at a place.
+    fn join_at(&mut self, row: u32, column: u32, code: u32)
+        requires row { row < length self.old.rows }
+        requires column { column < width_of self.old.rows }
+        ensures { self.new ≡ join_into (marked code (slice_index_or (row_at self.old.rows row) column None)) row column self.old }
+    {
+        match marked(self.rows[row as usize].get(column as usize), code) {
+            Some(cell) => {
+                let cells = &mut self.rows[row as usize];
+                cells.set(column as usize, Some(cell));
+            }
+            None => self.confused = true,
         }
     }
 }
 
-/// The cell of a character of one column.
-fn cell_of(code: u8, face: Face) -> Cell
-    ensures { result ≡ cell_of code face }
+/// A cell with one more mark, where a blank counts as a space. None where it has six, or is no character's first column.
+fn marked(cell: &Option<Cell>, code: u32) -> Option<Cell>
+    ensures { result ≡ marked code cell.now }
 {
-    if code == 32 {
-        Cell::Blank(face)
-    } else {
-        Cell::First(Glyph::single(code as u32, 1), face)
+    match cell {
+        Some(Cell::Blank(face)) => with_mark(&Glyph::single(32, 1), code, *face),
+        Some(Cell::First(glyph, face)) => with_mark(glyph, code, *face),
+        _ => None,
     }
+}
+
+/// The cell of a glyph with one more mark, where it has fewer than six.
+fn with_mark(glyph: &Glyph, code: u32, face: Face) -> Option<Cell>
+    ensures { result ≡ with_mark code glyph.now face }
+{
+    if glyph.count >= 6 {
+        return None;
+    }
+    let mut more = *glyph;
+    more.marks[more.count as usize] = code;
+    more.count += 1;
+    Some(Cell::First(more, face))
 }
 
 /// Whether the pen is known to be plain.
@@ -299,22 +393,13 @@ fn writes_plain(pen: Option<Face>) -> bool
     }
 }
 
-/// Makes the cells of a row from a column on blank.
-fn erase_from(row: &mut ListOf<Option<Cell>>, column: usize)
-    requires { column ≤ length row.old }
-    ensures { row.new ≡ erased_from column row.old }
-{
-    for i in column..row.len() {
-        row.set(i, Some(Cell::Blank(Face::PLAIN)));
-    }
-}
-
-/// Makes the cells of all rows blank.
-fn erase_rows(rows: &mut Vec<ListOf<Option<Cell>>>)
-    ensures { rows.new.items ≡ map (erased_from 0) rows.old.items }
+/// Makes the cells of all rows blank and plain.
+fn clear_rows(rows: &mut Vec<ListOf<Option<Cell>>>)
+    ensures { rows.new.items ≡ map cleared rows.old.items }
 {
     for i in 0..rows.len() {
         let row = &mut rows[i];
-        erase_from(row, 0);
+        let end = row.len();
+        fill(row, 0, end, Some(Cell::Blank(Face::PLAIN)));
     }
 }

@@ -42,6 +42,42 @@ fn an_update_that_stopped_is_gone_on_with(rt: HostRuntime) -> Result<(), Fail> {
     Ok(())
 }
 
+/// A cell in red.
+fn red(glyph: Glyph) -> Option<Cell> {
+    Some(Cell::First(
+        glyph,
+        Face {
+            fg: 1,
+            ..Face::PLAIN
+        },
+    ))
+}
+
+/// A letter with an acute accent, one of two columns that is cut between two feeds, and one of three.
+#[test]
+fn characters_take_their_columns(rt: HostRuntime) -> Result<(), Fail> {
+    let mut terminal = Terminal::new(rt.alloc(), 8, 1)?;
+    terminal.feed(b"\x1b[0;31m\x1b[1;1He\xcc\x81\xe4\xb8");
+    terminal.feed(b"\xad\xe1\x9f\x98x");
+    let accented = Glyph {
+        marks: [0x301, 0, 0, 0, 0, 0],
+        count: 1,
+        ..Glyph::single(101, 1)
+    };
+    for (column, cell) in [
+        (0, red(accented)),
+        (1, red(Glyph::single(0x4e2d, 2))),
+        (2, Some(Cell::Rest)),
+        (3, red(Glyph::single(0x17d8, 3))),
+        (6, red(Glyph::single(120, 1))),
+        (7, None),
+    ] {
+        assert_eq!(rt; shown(&terminal, 0, column), cell);
+    }
+    assert!(rt; !terminal.confused());
+    Ok(())
+}
+
 #[test]
 fn a_screen_is_written(rt: HostRuntime) -> Result<(), Fail> {
     let mut screen = Screen::blank(rt.alloc(), 3, 2)?;

@@ -1,0 +1,164 @@
+-- Cells in place of others: the columns of characters that are cut, and rows that are filled part by part.
+use Rattle.std.proofs.Common.{◌≡◌, if◌then◌else◌, ℕ, zero, suc, ◌+◌, ◌-◌, ◌<◌, ◌≤◌, Bool, true, false, List, [], ◌∷◌, ◌++◌, length, get_or, set, take, drop, map, replicate, Option, None, Some, refl, sym, ap, ◌∙◌, arith, append_assoc}
+use Rattle.std.specs.Prelude.{slice_get}
+use Rattle.std.proofs.lemmas.List.{take_at, drop_at, set_at, drop_more, drop-drop, take-append-drop, length-append, length-take-le, length-replicate, length-drop, length-map}
+use Rattle.std.proofs.lemmas.Option.{get_or_from_slice_get}
+use Rattle.rd_base.specs.Faces.{Attributes}
+use Rattle.rd_base.specs.Glyphs.{is_space, blanks, glyph_cells}
+use Rattle.rd_base.specs.declared.cell.Glyph.{Glyph}
+use Rattle.rd_base.specs.declared.cell.Cell.{Cell}
+use Rattle.rd_base.specs.declared.cell.Cell.TheVariants.{Blank, First, Rest}
+use Rattle.rd_term.specs.Overwriting.{is_later, first_column, later_columns, overwritten}
+
+abbrev pub Row : Type 0
+Row = List (Option Cell)
+
+-- ---- the columns of a character
+
+pub first-here : (row : Row) (column : ℕ) (cell : Option Cell) → slice_get row column ≡ Some cell → is_later cell ≡ false → first_column row column ≡ column
+first-here row zero cell e f = refl
+first-here row (suc column) cell e f =
+    let at = get_or_from_slice_get row (suc column) cell None e in
+    rw (at, f) refl
+
+first-chosen : (later : Bool) (n column : ℕ) → n ≤ column → (if later then n else suc column) ≤ suc column
+first-chosen true n column le = omega arith
+first-chosen false n column le = omega arith
+
+pub first-le : (row : Row) (column : ℕ) → first_column row column ≤ column
+first-le row zero = omega arith
+first-le row (suc column) = first-chosen (is_later (get_or row (suc column) None)) (first_column row column) column (first-le row column)
+
+pub later-more : (row : Row) (column : ℕ) (cell : Option Cell) → column < length row → slice_get row column ≡ Some cell → is_later cell ≡ true
+    → later_columns (drop column row) ≡ suc (later_columns (drop (column + 1) row))
+later-more row column cell lt e t =
+    let at = get_or_from_slice_get row column cell None e in
+    ap later_columns (drop_more row column None lt) ∙ rw (at, t) refl
+
+pub later-none : (row : Row) (column : ℕ) (cell : Option Cell) → column < length row → slice_get row column ≡ Some cell → is_later cell ≡ false
+    → later_columns (drop column row) ≡ 0
+later-none row column cell lt e f =
+    let at = get_or_from_slice_get row column cell None e in
+    ap later_columns (drop_more row column None lt) ∙ rw (at, f) refl
+
+-- ---- parts of a row
+
+pub filled-seam : {X : Type 0} (a m c : List X) (from to : ℕ) (v : X) → length a ≡ from → from + length m ≡ to
+    → take from (a ++ (m ++ c)) ++ (replicate (to - from) v ++ drop to (a ++ (m ++ c))) ≡ a ++ (replicate (to - from) v ++ c)
+filled-seam a m c from to v p q =
+    let above = take_at a (m ++ c) from p in
+    let n : length (a ++ m) ≡ to = omega (arith, length-append a m) in
+    let below = ap (drop to) (sym (append_assoc a m c)) ∙ drop_at (a ++ m) c to n in
+    rw (above, below) refl
+
+two-parts : {X : Type 0} (a m : ℕ) (xs : List X) → a ≤ m → take (m - a) (drop a xs) ++ drop m xs ≡ drop a xs
+two-parts a m xs le =
+    let sum : a + (m - a) ≡ m = omega arith in
+    ap (λ ys. take (m - a) (drop a xs) ++ ys) (sym (ap (λ j. drop j xs) sum) ∙ sym (drop-drop (m - a) a xs))
+    ∙ take-append-drop (m - a) (drop a xs)
+
+-- the part before a column, where what is left of a character that is cut there is unknown
+abbrev pub front : Row → ℕ → Row
+front row column = take (first_column row column) row ++ replicate (column - first_column row column) None
+
+pub length-front : (row : Row) (column : ℕ) → column ≤ length row → length (front row column) ≡ column
+length-front row column le =
+    let first = first-le row column in
+    length-append (take (first_column row column) row) (replicate (column - first_column row column) None)
+    ∙ omega (arith, length-take-le (first_column row column) row (omega arith), length-replicate {A = Option Cell} (column - first_column row column) None)
+
+-- the part from a column on, likewise
+abbrev pub behind : Row → ℕ → Row
+behind row to = replicate (later_columns (drop to row)) None ++ drop (to + later_columns (drop to row)) row
+
+pub overwritten-is : (row : Row) (column to : ℕ) (cells : Row) → column + length cells ≡ to → overwritten column cells row ≡ front row column ++ (cells ++ behind row to)
+overwritten-is row column to cells e = rw (sym e) (sym (append_assoc (take (first_column row column) row) (replicate (column - first_column row column) None) (cells ++ behind row (column + length cells))))
+
+pub cut-made : (row r1 r2 : Row) (from to begin end : ℕ) → from < length row → from < to → to ≤ length row
+    → begin ≡ first_column row from → end ≡ to + later_columns (drop to row) → end ≤ length row
+    → r1 ≡ take begin row ++ (replicate (from - begin) None ++ drop from row)
+    → r2 ≡ take to r1 ++ (replicate (end - to) None ++ drop end r1)
+    → r2 ≡ overwritten from (take (to - from) (drop from row)) row
+cut-made row r1 r2 from to begin end lt order le b e within p q =
+    let M = take (to - from) (drop from row) in
+    let L = take (end - to) (drop to row) in
+    let D = drop end row in
+    let F = front row from in
+    let f = length-front row from (omega arith) in
+    let m : length M ≡ to - from = length-take-le (to - from) (drop from row) (omega (arith, length-drop from row)) in
+    let l : length L ≡ end - to = length-take-le (end - to) (drop to row) (omega (arith, length-drop to row)) in
+    let n : length (F ++ M) ≡ to = omega (arith, length-append F M) in
+    let some : end - to ≡ later_columns (drop to row) = omega arith in
+    let made : r1 ≡ (F ++ M) ++ (L ++ D) =
+    p ∙ ap (λ k. take k row ++ (replicate (from - k) None ++ drop from row)) b
+    ∙ sym (append_assoc (take (first_column row from) row) (replicate (from - first_column row from) None) (drop from row))
+    ∙ ap (λ xs. F ++ xs) (sym (two-parts from to row (omega arith)) ∙ ap (λ xs. M ++ xs) (sym (two-parts to end row (omega arith))))
+    ∙ sym (append_assoc F M (L ++ D)) in
+    q ∙ ap (λ r. take to r ++ (replicate (end - to) None ++ drop end r)) made
+    ∙ filled-seam (F ++ M) L D to end None n (omega arith)
+    ∙ append_assoc F M (replicate (end - to) None ++ D)
+    ∙ ap (λ k. F ++ (M ++ (replicate k None ++ D))) some
+    ∙ ap (λ k. F ++ (M ++ (replicate (later_columns (drop to row)) None ++ drop k row))) e
+    ∙ sym (overwritten-is row from to M (omega arith))
+
+-- one value in place of what was put
+pub refilled : (row r M : Row) (column to : ℕ) (v : Option Cell) → column ≤ length row → r ≡ overwritten column M row → column + length M ≡ to
+    → take column r ++ (replicate (to - column) v ++ drop to r) ≡ overwritten column (replicate (to - column) v) row
+refilled row r M column to v le p e =
+    let f = length-front row column le in
+    let n : column + length (replicate (to - column) v) ≡ to = omega (arith, length-replicate (to - column) v) in
+    ap (λ r. take column r ++ (replicate (to - column) v ++ drop to r)) (p ∙ overwritten-is row column to M e)
+    ∙ filled-seam (front row column) M (behind row to) column to v f e
+    ∙ sym (overwritten-is row column to (replicate (to - column) v) n)
+
+-- a first value and others in place of what was put
+pub refilled-first : (row r M : Row) (column to : ℕ) (x v : Option Cell) → column ≤ length row → r ≡ overwritten column M row → column + length M ≡ to → column < to
+    → take (column + 1) (set r column x) ++ (replicate (to - (column + 1)) v ++ drop to (set r column x)) ≡ overwritten column (x ∷ replicate (to - (column + 1)) v) row
+refilled-first row r [] column to x v le p e lt = absurd (omega arith)
+refilled-first row r (m ∷ ms) column to x v le p e lt =
+    let F = front row column in
+    let T = behind row to in
+    let k = to - (column + 1) in
+    let f = length-front row column le in
+    let g : length (F ++ x ∷ []) ≡ column + 1 = omega (arith, length-append F (x ∷ [])) in
+    let n : column + length (x ∷ replicate (to - (column + 1)) v) ≡ to = omega (arith, length-replicate (to - (column + 1)) v) in
+    ap (λ r. take (column + 1) r ++ (replicate k v ++ drop to r)) (
+    ap (λ r. set r column x) (p ∙ overwritten-is row column to (m ∷ ms) e)
+    ∙ set_at F m (ms ++ T) x column f
+    ∙ sym (append_assoc F (x ∷ []) (ms ++ T)))
+    ∙ filled-seam (F ++ x ∷ []) ms T (column + 1) to v g (omega arith)
+    ∙ append_assoc F (x ∷ []) (replicate k v ++ T)
+    ∙ sym (overwritten-is row column to (x ∷ replicate k v) n)
+
+pub map-replicate : {X Y : Type 0} (f : X → Y) (n : ℕ) (x : X) → map f (replicate n x) ≡ replicate n (f x)
+map-replicate f zero x = refl
+map-replicate f (suc n) x = ap (λ ys. f x ∷ ys) (map-replicate f n x)
+
+pub length-overwritten : (row cells : Row) (column to : ℕ) → column + length cells ≡ to → to + later_columns (drop to row) ≤ length row → length (overwritten column cells row) ≡ length row
+length-overwritten row cells column to e le =
+    let f = length-front row column (omega arith) in
+    let left = later_columns (drop to row) in
+    ap length (overwritten-is row column to cells e)
+    ∙ length-append (front row column) (cells ++ behind row to)
+    ∙ omega (arith, length-append cells (behind row to), length-append (replicate left None) (drop (to + left) row), length-replicate {A = Option Cell} left None, length-drop (to + later_columns (drop to row)) row)
+
+later-chosen : (later : Bool) (n m : ℕ) → n ≤ m → (if later then suc n else 0) ≤ suc m
+later-chosen true n m le = omega arith
+later-chosen false n m le = omega arith
+
+pub later-within : (row : Row) → later_columns row ≤ length row
+later-within [] = omega arith
+later-within (cell ∷ row) = later-chosen (is_later cell) (later_columns row) (length row) (later-within row)
+
+-- a glyph's cells keep a row's length
+length-chosen : (space : Bool) (n : ℕ) (g : Glyph) (face : Attributes) → 1 ≤ n → length (if space then blanks n face else First g face ∷ replicate (n - 1) Rest) ≡ n
+length-chosen true n g face some = length-replicate n (Blank face)
+length-chosen false n g face some = omega (arith, length-replicate (n - 1) Rest)
+
+pub length-glyph : (n : ℕ) (g : Glyph) (face : Attributes) → 1 ≤ n → length (map Some (glyph_cells n g face)) ≡ n
+length-glyph n g face some = length-map (glyph_cells n g face) Some ∙ length-chosen (is_space g) n g face some
+
+pub length-put : (row : Row) (column n : ℕ) (g : Glyph) (face : Attributes) → 1 ≤ n → column + n ≤ length row → length (overwritten column (map Some (glyph_cells n g face)) row) ≡ length row
+length-put row column n g face some room =
+    let e : column + length (map Some (glyph_cells n g face)) ≡ column + n = ap (λ k. column + k) (length-glyph n g face some) in
+    length-overwritten row (map Some (glyph_cells n g face)) column (column + n) e (omega (arith, later-within (drop (column + n) row), length-drop (column + n) row))

@@ -1,0 +1,27 @@
+-- Cells that are put into a row in place of others.
+use Rattle.std.specs.Prelude.{ℕ, zero, suc, ◌+◌, ◌-◌, Bool, true, false, if◌then◌else◌, List, [], ◌∷◌, ◌++◌, length, take, drop, replicate, Option, None, Some, slice_index_or}
+use Rattle.rd_base.specs.declared.cell.Cell.{Cell}
+use Rattle.rd_base.specs.declared.cell.Cell.TheVariants.{Rest}
+
+-- a later column of a character
+abbrev pub is_later : Option Cell → Bool
+is_later (Some Rest) = true
+is_later cell = false
+
+-- the first column of the character that has this column
+abbrev pub first_column : List (Option Cell) → ℕ → ℕ
+first_column row zero = 0
+first_column row (suc column) = if is_later (slice_index_or row (suc column) None) then first_column row column else suc column
+
+-- how many later columns of a character cells begin with
+abbrev pub later_columns : List (Option Cell) → ℕ
+later_columns [] = 0
+later_columns (cell ∷ cells) = if is_later cell then suc (later_columns cells) else 0
+
+-- a row with these cells from a column on; what they leave of characters that they cut becomes unknown
+abbrev pub overwritten : ℕ → List (Option Cell) → List (Option Cell) → List (Option Cell)
+overwritten column cells row =
+    let begin = first_column row column in
+    let end = column + length cells in
+    let left = later_columns (drop end row) in
+    take begin row ++ (replicate (column - begin) None ++ (cells ++ (replicate left None ++ drop (end + left) row)))
