@@ -1,6 +1,9 @@
+pub mod Dressing
 pub mod Feeding
 pub mod Parts
 pub mod Reaching
 pub mod Rows
 pub mod Scanning
+pub mod Showing
 pub mod Spans
+pub mod Texts

@@ -1,18 +1,22 @@
 -- The update law.
-use Rattle.std.proofs.Common.{◌≡◌, if◌then◌else◌, ℕ, suc, ◌+◌, ◌-◌, ◌<◌, ◌≤◌, Bool, true, false, not, List, [], ◌∷◌, ◌++◌, length, get_or, map, replicate, Option, None, Some, refl, sym, ap, ◌∙◌, arith, All}
+use Rattle.std.proofs.Common.{◌≡◌, if◌then◌else◌, ℕ, suc, ◌+◌, ◌<◌, ◌≤◌, Bool, true, false, not, List, [], ◌∷◌, ◌++◌, length, get_or, map, replicate, Option, None, Some, refl, sym, ap, ◌∙◌, arith, All}
 use Rattle.std.specs.List.{AllByRecursion}
 use Rattle.std.proofs.lemmas.List.Elements.{recursion_from_All, All-from_recursion}
 use Rattle.std.proofs.lemmas.List.{length-map, get_or-map, length-replicate}
 use Rattle.rd_base.specs.Faces.{Attributes, plain}
+use Rattle.rd_base.specs.Glyphs.{IsRowAfter}
 use Rattle.rd_base.specs.declared.cell.Cell.{Cell}
-use Rattle.rd_term.specs.Pictures.{Picture, blank, blank_row, IsPlainCell, IsOfSize}
-use Rattle.rd_term.specs.Terminals.{Tty, feed_bytes, known, erased_from}
+use Rattle.rd_term.specs.Pictures.{Picture, blank, blank_row, IsColoured, IsOfSize}
+use Rattle.rd_term.specs.Terminals.{Tty, feed_bytes, known, cleared}
 use Rattle.rd_term.specs.declared.reading.Reading.{Reading}
 use Rattle.rd_term.specs.declared.reading.Reading.TheVariants.{Between}
 use Rattle.rd_update.specs.Updates.{move, repaint, rows_bytes, rows_after, differs, allows, less_one, blank_like, start, opening, update, is_done, differing}
 use Rattle.rd_update.specs.Laws.{IsReady, IsUpdated}
-use Rattle.rd_update.proofs.Feeding.{Rows, standing, feed-append, move_fed, repaint_fed}
-use Rattle.rd_update.proofs.Rows.{rows_fed, map-replicate}
+use Rattle.rd_term.proofs.Cutting.{map-replicate}
+use Rattle.rd_term.proofs.Encoded.{Rows, standing}
+use Rattle.rd_term.proofs.Feeding.{feed_bytes-append}
+use Rattle.rd_update.proofs.Feeding.{move_fed, repaint_fed}
+use Rattle.rd_update.proofs.Rows.{rows_fed}
 
 -- ---- sizes
 
@@ -54,42 +58,44 @@ blank-wide [] w h = tt
 blank-wide (row ∷ rows) w h = (length-replicate (length row) blank ∙ h.0, blank-wide rows w h.1)
 
 -- after a clear each cell is known to be blank
-cleared : (rows : Rows) (like : List (List Cell)) (w : ℕ) → length rows ≡ length like
+cleared-like : (rows : Rows) (like : List (List Cell)) (w : ℕ) → length rows ≡ length like
     → AllByRecursion (λ row. length row ≡ w) rows → AllByRecursion (λ row. length row ≡ w) like
-    → map (erased_from 0) rows ≡ known (blank_like like)
-cleared [] [] w n h k = refl
-cleared [] (l ∷ like) w n h k = absurd (cc)
-cleared (row ∷ rows) [] w n h k = absurd (cc)
-cleared (row ∷ rows) (l ∷ like) w n h k =
-    let all : length row - 0 ≡ length l = omega (arith, h.0, k.0) in
-    let first : erased_from 0 row ≡ map Some (blank_row (length l)) = ap (λ j. replicate j (Some blank)) all ∙ sym (map-replicate (length l)) in
-    let rest = cleared rows like w (omega arith) h.1 k.1 in
+    → map cleared rows ≡ known (blank_like like)
+cleared-like [] [] w n h k = refl
+cleared-like [] (l ∷ like) w n h k = absurd (cc)
+cleared-like (row ∷ rows) [] w n h k = absurd (cc)
+cleared-like (row ∷ rows) (l ∷ like) w n h k =
+    let first : cleared row ≡ map Some (blank_row (length l)) = ap (λ j. replicate j (Some blank)) (h.0 ∙ sym k.0) ∙ sym (map-replicate Some (length l) blank) in
+    let rest = cleared-like rows like w (omega arith) h.1 k.1 in
     cc
 
 -- what stands before the first row's bytes: the current screen, by a plain pen
 pub record Opens (old : List (List Cell)) (t : Tty) : Type 0 where
   pub cursor : Option (ℕ × ℕ)
   pub wait : Bool
-  pub is : t ≡ standing (known old) cursor wait (Some plain)
+  pub latest : Option (ℕ × ℕ)
+  pub is : t ≡ standing (known old) cursor wait (Some plain) latest
 
-tty-same : (rows : Rows) (cursor : Option (ℕ × ℕ)) (wait : Bool) (pen : Option Attributes) (reading : Reading) (confused : Bool) (rows' : Rows) (pen' : Option Attributes)
+tty-same : (rows : Rows) (cursor : Option (ℕ × ℕ)) (wait : Bool) (pen : Option Attributes) (latest : Option (ℕ × ℕ)) (reading : Reading) (confused : Bool) (rows' : Rows) (pen' : Option Attributes)
     → rows ≡ rows' → pen ≡ pen' → reading ≡ Between → confused ≡ false
-    → let t : Tty = record { rows = rows; cursor = cursor; wait = wait; pen = pen; reading = reading; confused = confused } in t ≡ standing rows' cursor wait pen'
-tty-same rows cursor wait pen reading confused rows' pen' a b c d = cc
+    → let t : Tty = record { rows = rows; cursor = cursor; wait = wait; pen = pen; latest = latest; reading = reading; confused = confused } in t ≡ standing rows' cursor wait pen' latest
+tty-same rows cursor wait pen latest reading confused rows' pen' a b c d = cc
 
 opened : (width height : ℕ) (current : Option Picture) (target : Picture) (t : Tty) → IsReady width height current target t → Opens (start current target).rows (feed_bytes t (opening current))
 opened width height None target t h =
-    let is = tty-same t.rows t.cursor t.wait t.pen t.reading t.confused t.rows t.pen refl refl h.between h.sure in
-    let blanks = cleared t.rows target.rows width (h.rows ∙ sym h.size.rows) (recursion_from_All (λ row. length row ≡ width) t.rows h.each) (recursion_from_All (λ row. length row ≡ width) target.rows h.size.each) in
+    let is = tty-same t.rows t.cursor t.wait t.pen t.latest t.reading t.confused t.rows t.pen refl refl h.between h.sure in
+    let blanks = cleared-like t.rows target.rows width (h.rows ∙ sym h.size.rows) (recursion_from_All (λ row. length row ≡ width) t.rows h.each) (recursion_from_All (λ row. length row ≡ width) target.rows h.size.each) in
     record {
       cursor = t.cursor;
       wait = t.wait;
-      is = ap (λ x. feed_bytes x repaint) is ∙ repaint_fed t.rows t.cursor t.wait t.pen ∙ ap (λ r. standing r t.cursor t.wait (Some plain)) blanks;
+      latest = None;
+      is = ap (λ x. feed_bytes x repaint) is ∙ repaint_fed t.rows t.cursor t.wait t.pen t.latest ∙ ap (λ r. standing r t.cursor t.wait (Some plain) None) blanks;
     }
 opened width height (Some screen) target t h = record {
   cursor = t.cursor;
   wait = t.wait;
-  is = tty-same t.rows t.cursor t.wait t.pen t.reading t.confused (known screen.rows) (Some plain) h.now.1 h.now.2 h.between h.sure;
+  latest = t.latest;
+  is = tty-same t.rows t.cursor t.wait t.pen t.latest t.reading t.confused (known screen.rows) (Some plain) h.now.1 h.now.2 h.between h.sure;
 }
 
 start-size : (width height : ℕ) (current : Option Picture) (target : Picture) (t : Tty) → IsReady width height current target t → IsOfSize width height (start current target)
@@ -105,9 +111,9 @@ start-size width height (Some screen) target t h = h.now.0
 
 -- ---- the end
 
-plain-rows : (rows : List (List Cell)) → AllByRecursion (λ row. All IsPlainCell row) rows → AllByRecursion (λ row. AllByRecursion IsPlainCell row) rows
-plain-rows [] h = tt
-plain-rows (row ∷ rows) h = (recursion_from_All IsPlainCell row h.0, plain-rows rows h.1)
+coloured-rows : (rows : List (List Cell)) → AllByRecursion (λ row. All IsColoured row) rows → AllByRecursion (λ row. AllByRecursion IsColoured row) rows
+coloured-rows [] h = tt
+coloured-rows (row ∷ rows) h = (recursion_from_All IsColoured row h.0, coloured-rows rows h.1)
 
 -- the terminal after the rows, and then after the cursor's move where all rows were sent
 pub record Ended (rows : List (List Cell)) (done : Bool) (row column : ℕ) (t : Tty) : Type 0 where
@@ -117,14 +123,14 @@ pub record Ended (rows : List (List Cell)) (done : Bool) (row column : ℕ) (t :
   pub pen : t.pen ≡ Some plain
   pub cursor : done ≡ true → t.cursor ≡ Some (row, column)
 
-ended : (rows : List (List Cell)) (done : Bool) (row column : ℕ) (cursor : Option (ℕ × ℕ)) (wait : Bool) → row < length rows → column < length (get_or rows row []) → row < 65535 → column < 65535
-    → Ended rows done row column (feed_bytes (standing (known rows) cursor wait (Some plain)) (if done then move row column else []))
-ended rows false row column cursor wait r c few narrow = record { sure = refl; between = refl; cells = refl; pen = refl; cursor = λ e. absurd (cc) }
-ended rows true row column cursor wait r c few narrow =
+ended : (rows : List (List Cell)) (done : Bool) (row column : ℕ) (cursor : Option (ℕ × ℕ)) (wait : Bool) (latest : Option (ℕ × ℕ)) → row < length rows → column < length (get_or rows row []) → row < 65535 → column < 65535
+    → Ended rows done row column (feed_bytes (standing (known rows) cursor wait (Some plain) latest) (if done then move row column else []))
+ended rows false row column cursor wait latest r c few narrow = record { sure = refl; between = refl; cells = refl; pen = refl; cursor = λ e. absurd (cc) }
+ended rows true row column cursor wait latest r c few narrow =
     let n : row < length (known rows) = omega (arith, length-map rows (map Some)) in
     let at : get_or (known rows) row [] ≡ map Some (get_or rows row []) = get_or-map (map Some) rows row [] [] r in
     let within : column < length (get_or (known rows) row []) = rw at (omega (arith, length-map (get_or rows row []) Some)) in
-    let is = move_fed (known rows) cursor wait (Some plain) row column n within few narrow in
+    let is = move_fed (known rows) cursor wait (Some plain) latest row column n within few narrow in
     rw is (record { sure = refl; between = refl; cells = refl; pen = refl; cursor = λ e. refl })
 
 either : (done : Bool) (a b n : ℕ) → a < n → b < n → (if done then a else b) < n
@@ -139,10 +145,11 @@ updated width height current target limit t h =
     let begun = opened width height current target t h in
     let old_wide = recursion_from_All (λ row. length row ≡ width) old.rows size.each in
     let new_wide = recursion_from_All (λ row. length row ≡ width) target.rows h.size.each in
-    let plains = plain-rows target.rows (recursion_from_All (λ row. All IsPlainCell row) target.rows h.cells) in
+    let wholes = recursion_from_All (λ row. IsRowAfter 0 row) target.rows h.whole.glyphs in
+    let colours = coloured-rows target.rows (recursion_from_All (λ row. All IsColoured row) target.rows h.colours) in
     let same : length old.rows ≡ length target.rows = size.rows ∙ sym h.size.rows in
     let few : length {A = List (Option Cell)} [] + length old.rows ≤ 200 = omega (arith, h.tall, size.rows) in
-    let sent = rows_fed [] limit old.rows target.rows width begun.cursor begun.wait few h.wide same old_wide new_wide plains in
+    let sent = rows_fed [] limit old.rows target.rows width begun.cursor begun.wait begun.latest few h.wide same old_wide new_wide wholes colours in
     let after = rows_after limit old.rows target.rows in
     let done = is_done limit (differing old.rows target.rows) in
     let last = if done then move target.row target.column else [] in
@@ -150,11 +157,11 @@ updated width height current target limit t h =
     let each = All-from_recursion (λ row. length row ≡ width) after (after-wide limit old.rows target.rows width same old_wide new_wide) in
     let row : target.row < length after = omega (arith, h.size.row) in
     let column : target.column < length (get_or after target.row []) = omega (arith, h.size.column, each target.row [] row) in
-    let end = ended after done target.row target.column sent.cursor sent.wait row column (omega (arith, h.size.row, h.tall)) (omega (arith, h.size.column, h.wide)) in
-    let is : feed_bytes t (update current target limit).bytes ≡ feed_bytes (standing (known after) sent.cursor sent.wait (Some plain)) last =
-    feed-append t (opening current ++ rows_bytes 0 limit old.rows target.rows) last
+    let end = ended after done target.row target.column sent.cursor sent.wait sent.latest row column (omega (arith, h.size.row, h.tall)) (omega (arith, h.size.column, h.wide)) in
+    let is : feed_bytes t (update current target limit).bytes ≡ feed_bytes (standing (known after) sent.cursor sent.wait (Some plain) sent.latest) last =
+    feed_bytes-append t (opening current ++ rows_bytes 0 limit old.rows target.rows) last
     ∙ ap (λ x. feed_bytes x last) (
-    feed-append t (opening current) (rows_bytes 0 limit old.rows target.rows)
+    feed_bytes-append t (opening current) (rows_bytes 0 limit old.rows target.rows)
     ∙ ap (λ x. feed_bytes x (rows_bytes 0 limit old.rows target.rows)) begun.is
     ∙ sent.is) in
     rw is (record {

@@ -1,129 +1,286 @@
 -- What the bytes of a row, and those of the rows that differ, do to a terminal.
-use Rattle.std.proofs.Common.{◌≡◌, if◌then◌else◌, ℕ, zero, suc, ◌+◌, ◌-◌, ◌<◌, ◌≤◌, Bool, true, false, not, nat_lt, min, max, List, [], ◌∷◌, ◌++◌, length, get_or, take, drop, map, replicate, Option, Some, refl, sym, ap, ◌∙◌, arith, append_assoc}
+use Rattle.std.proofs.Common.{◌≡◌, if◌then◌else◌, ◌⊎◌, inl, inr, ℕ, zero, suc, ◌+◌, ◌-◌, ◌<◌, ◌≤◌, Bool, true, false, not, nat_lt, min, max, List, [], ◌∷◌, ◌++◌, length, get_or, set, take, drop, map, replicate, Option, None, Some, refl, sym, ap, ◌∙◌, subst, arith, append_assoc, append-nil, drop_of_length-le, le_refl}
 use Rattle.std.specs.List.{AllByRecursion}
+use Rattle.std.proofs.lemmas.Bool.{cases_lt}
 use Rattle.std.proofs.lemmas.Bool.Decides.{nat_tests}
-use Rattle.std.proofs.lemmas.List.{get_or_at, length-append, length-map, length-take-le, length-take, length-drop, map-append}
+use Rattle.std.proofs.lemmas.List.{get_or_at, set_at, take_at, length-append, length-map, length-take-le, length-drop, map-append, drop-drop, length-replicate}
+use Rattle.rd_base.specs.Cells.{HasColours}
 use Rattle.rd_base.specs.Faces.{plain}
+use Rattle.rd_base.specs.Glyphs.{IsRowAfter}
 use Rattle.rd_base.specs.declared.cell.Cell.{Cell}
-use Rattle.rd_term.specs.Pictures.{blank, IsPlainCell}
-use Rattle.rd_term.specs.Terminals.{Tty, feed_bytes, known}
-use Rattle.rd_update.specs.Updates.{move, erase_to_end, text_of, first_difference, end_of_differences, used, differs, row_bytes, rows_bytes, rows_after, allows, less_one}
-use Rattle.rd_update.proofs.Feeding.{Rows, standing, feed-append, move_fed, text_fed, erase_fed}
-use Rattle.rd_update.proofs.Spans.{front-same, back-same, no-difference, first_before, end_within, blank-from, three-parts}
+use Rattle.rd_base.specs.declared.cell.Cell.TheVariants.{Blank, First, Rest}
+use Rattle.rd_term.specs.Overwriting.{first_column, later_columns}
+use Rattle.rd_term.specs.Pictures.{blank, IsColoured}
+use Rattle.rd_term.specs.Terminals.{Tty, feed_bytes, known, erased_from}
+use Rattle.rd_term.proofs.Cutting.{Row, front as front_of, behind, overwritten-is, map-replicate}
+use Rattle.rd_term.proofs.Encoded.{Rows, standing}
+use Rattle.rd_term.proofs.Feeding.{feed_bytes-append}
+use Rattle.rd_update.specs.Updates.{move, erase_to_end, text_by, pen_behind, dress, first_difference, end_of_differences, going_on, goes_on, begin_of, end_of, used, differs, row_bytes, rows_bytes, rows_after, allows, less_one}
+use Rattle.rd_update.proofs.Dressing.{dress_fed}
+use Rattle.rd_update.proofs.Feeding.{move_fed}
+use Rattle.rd_update.proofs.Spans.{front-same, back-same, no-difference, first_before, end_within, blank-from, three-parts, begin-le, begin-is, begin-first, going-le, going-stops, going-whole, at-whole}
+use Rattle.rd_update.proofs.Texts.{TextFed, text_fed}
 
 -- a terminal with these rows and a plain pen between two sequences, wherever its cursor is
 pub record Stands (rows : Rows) (t : Tty) : Type 0 where
   pub cursor : Option (ℕ × ℕ)
   pub wait : Bool
-  pub is : t ≡ standing rows cursor wait (Some plain)
+  pub latest : Option (ℕ × ℕ)
+  pub is : t ≡ standing rows cursor wait (Some plain) latest
 
-pub map-replicate : (n : ℕ) → map Some (replicate n blank) ≡ replicate n (Some blank)
-map-replicate zero = refl
-map-replicate (suc n) = ap (λ xs. Some blank ∷ xs) (map-replicate n)
+stands-along : (rows rows2 : Rows) (t u : Tty) → rows ≡ rows2 → t ≡ u → Stands rows t → Stands rows2 u
+stands-along rows rows2 t u r e h = record {
+  cursor = h.cursor;
+  wait = h.wait;
+  latest = h.latest;
+  is = sym e ∙ h.is ∙ ap (λ x. standing x h.cursor h.wait (Some plain) h.latest) r;
+}
 
-plain-drop : (n : ℕ) (cells : List Cell) → AllByRecursion IsPlainCell cells → AllByRecursion IsPlainCell (drop n cells)
-plain-drop zero cells h = h
-plain-drop (suc n) [] h = tt
-plain-drop (suc n) (c ∷ cells) h = plain-drop n cells h.1
+-- ---- parts of a row of whole characters
 
-plain-take : (n : ℕ) (cells : List Cell) → AllByRecursion IsPlainCell cells → AllByRecursion IsPlainCell (take n cells)
-plain-take zero cells h = tt
-plain-take (suc n) [] h = tt
-plain-take (suc n) (c ∷ cells) h = (h.0, plain-take n cells h.1)
+coloured-drop : (n : ℕ) (cells : List Cell) → AllByRecursion IsColoured cells → AllByRecursion IsColoured (drop n cells)
+coloured-drop zero cells h = h
+coloured-drop (suc n) [] h = tt
+coloured-drop (suc n) (c ∷ cells) h = coloured-drop n cells h.1
 
--- what the text and the end of a row's bytes leave, whether or not the rest is erased
-row-end : (above below : Rows) (front mid_old back : List (Option Cell)) (mid back_new : List Cell) (erases : Bool)
-    → length mid_old ≡ length mid → AllByRecursion IsPlainCell mid
-    → (erases ≡ true → (0 < length back) × (map Some back_new ≡ replicate (length back) (Some blank)))
-    → (erases ≡ false → map Some back_new ≡ back)
-    → Stands (above ++ (front ++ (map Some mid ++ map Some back_new)) ∷ below)
-    (feed_bytes (standing (above ++ (front ++ (mid_old ++ back)) ∷ below) (Some (length above, length front)) false (Some plain)) (text_of mid ++ (if erases then erase_to_end else [])))
-row-end above below front mid_old back mid back_new true same plains gone kept =
-    let fed = text_fed above below front mid_old back mid same plains in
-    let some = (gone refl).0 in
-    let n : length front + length mid ≡ length (front ++ map Some mid) = sym (length-append front (map Some mid) ∙ ap (λ k. length front + k) (length-map mid Some)) in
+coloured-take : (n : ℕ) (cells : List Cell) → AllByRecursion IsColoured cells → AllByRecursion IsColoured (take n cells)
+coloured-take zero cells h = tt
+coloured-take (suc n) [] h = tt
+coloured-take (suc n) (c ∷ cells) h = (h.0, coloured-take n cells h.1)
+
+-- a row that goes on with no later column owes none
+none-due : (due : ℕ) (cells : List Cell) → IsRowAfter due cells → later_columns (map Some cells) ≡ 0 → due ≡ 0
+none-due zero cells h e = refl
+none-due (suc due) [] h e = absurd h
+none-due (suc due) (Blank f ∷ cells) h e = absurd h
+none-due (suc due) (First g f ∷ cells) h e = absurd h
+none-due (suc due) (Rest ∷ cells) h e = absurd (cc)
+
+whole-drop : (n due : ℕ) (cells : List Cell) → IsRowAfter due cells → later_columns (map Some (drop n cells)) ≡ 0 → n ≤ length cells → IsRowAfter 0 (drop n cells)
+whole-drop zero due cells h e le = subst (λ d. IsRowAfter d cells) (none-due due cells h e) h
+whole-drop (suc n) due [] h e le = absurd (omega arith)
+whole-drop (suc n) zero (Blank f ∷ cells) h e le = whole-drop n 0 cells h e (omega arith)
+whole-drop (suc n) zero (First g f ∷ cells) h e le = whole-drop n (g.width - 1) cells h.1 e (omega arith)
+whole-drop (suc n) zero (Rest ∷ cells) h e le = absurd h
+whole-drop (suc n) (suc due) (Rest ∷ cells) h e le = whole-drop n due cells h e (omega arith)
+whole-drop (suc n) (suc due) (Blank f ∷ cells) h e le = absurd h
+whole-drop (suc n) (suc due) (First g f ∷ cells) h e le = absurd h
+
+whole-take : (n due : ℕ) (cells : List Cell) → IsRowAfter due cells → later_columns (map Some (drop n cells)) ≡ 0 → n ≤ length cells → IsRowAfter due (take n cells)
+whole-take zero due cells h e le = subst (λ d. IsRowAfter d []) (sym (none-due due cells h e)) tt
+whole-take (suc n) due [] h e le = absurd (omega arith)
+whole-take (suc n) zero (Blank f ∷ cells) h e le = whole-take n 0 cells h e (omega arith)
+whole-take (suc n) zero (First g f ∷ cells) h e le = (h.0, whole-take n (g.width - 1) cells h.1 e (omega arith))
+whole-take (suc n) zero (Rest ∷ cells) h e le = absurd h
+whole-take (suc n) (suc due) (Rest ∷ cells) h e le = whole-take n due cells h e (omega arith)
+whole-take (suc n) (suc due) (Blank f ∷ cells) h e le = absurd h
+whole-take (suc n) (suc due) (First g f ∷ cells) h e le = absurd h
+
+later-blanks : (n : ℕ) → later_columns (map Some (replicate n blank)) ≡ 0
+later-blanks zero = refl
+later-blanks (suc n) = refl
+
+-- from its begin the interval holds whole characters
+begin-whole : (old new : List Cell) (a : ℕ) → a < length old → a < length new → IsRowAfter 0 new → (a ≡ 0) ⊎ (goes_on old new a ≡ false) → IsRowAfter 0 (drop a new)
+begin-whole old new a p q h (inl e) = subst (λ k. IsRowAfter 0 (drop k new)) (sym e) h
+begin-whole old new a p q h (inr e) = whole-drop a 0 new h (at-whole old new a p q e).1 (omega (arith, q))
+
+-- ---- the end of a row
+
+pub erase_fed : (above below : Rows) (row : Row) (column : ℕ) (latest : Option (ℕ × ℕ)) → first_column row column ≡ column → column ≤ length row
+    → feed_bytes (standing (above ++ row ∷ below) (Some (length above, column)) false (Some plain) latest) erase_to_end
+    ≡ standing (above ++ (take column row ++ replicate (length row - column) (Some blank)) ∷ below) (Some (length above, column)) false (Some plain) None
+erase_fed above below row column latest first le =
+    let at : get_or (above ++ row ∷ below) (length above) [] ≡ row = get_or_at above row below [] (length above) refl in
+    let n : column + length (replicate (length row - column) (Some blank)) ≡ length row = omega (arith, le, length-replicate (length row - column) (Some blank)) in
+    let gone : drop (length row) row ≡ [] = drop_of_length-le row (le_refl (length row)) in
+    let none : column - column ≡ 0 = omega arith in
+    let zero_more : length row + 0 ≡ length row = omega arith in
+    let nothing : behind row (length row) ≡ [] = ap (λ xs. replicate (later_columns xs) None ++ drop (length row + later_columns xs) row) gone ∙ ap (λ k. drop k row) zero_more ∙ gone in
+    let kept : front_of row column ≡ take column row = ap (λ k. take k row ++ replicate (column - k) None) first ∙ ap (λ k. take column row ++ replicate k None) none ∙ append-nil (take column row) in
+    let over : erased_from column row ≡ take column row ++ replicate (length row - column) (Some blank) =
+    overwritten-is row column (length row) (replicate (length row - column) (Some blank)) n
+    ∙ ap (λ xs. xs ++ (replicate (length row - column) (Some blank) ++ behind row (length row))) kept
+    ∙ ap (λ xs. take column row ++ (replicate (length row - column) (Some blank) ++ xs)) nothing
+    ∙ ap (λ xs. take column row ++ xs) (append-nil (replicate (length row - column) (Some blank))) in
+    let rows = set_at above row below (take column row ++ replicate (length row - column) (Some blank)) (length above) refl in
+    let State = λ (rs : Rows). standing rs (Some (length above, column)) false (Some plain) None in
+    ap (λ (r : Row). State (set (above ++ row ∷ below) (length above) (erased_from column r))) at
+    ∙ ap (λ (r : Row). State (set (above ++ row ∷ below) (length above) r)) over
+    ∙ ap State rows
+
+plain-coloured : HasColours plain
+plain-coloured = record { fg = omega arith; bg = omega arith }
+
+empty : {A : Type 0} (xs : List A) → length xs ≡ 0 → xs ≡ []
+empty [] e = refl
+empty (x ∷ xs) e = absurd (cc)
+
+-- behind the text: the pen becomes plain, and the rest is erased or is as it has to be
+row-end : (above below : Rows) (front back : Row) (many : ℕ) (cells rest : List Cell) (erases : Bool) (t : Tty)
+    → TextFed above below front many back cells (pen_behind plain cells) t
+    → (erases ≡ true → (length cells < many) × (map Some rest ≡ replicate (many - length cells + length back) (Some blank)))
+    → (erases ≡ false → (length cells ≡ many) × (map Some rest ≡ back))
+    → Stands (above ++ (front ++ (map Some cells ++ map Some rest)) ∷ below) (feed_bytes t (dress (pen_behind plain cells) plain ++ (if erases then erase_to_end else [])))
+row-end above below front back many cells rest true t fed gone kept =
+    let pen = pen_behind plain cells in
+    let X = fed.left ++ back in
+    let row = front ++ (map Some cells ++ (fed.left ++ back)) in
+    let K = length front + length cells in
+    let less = (gone refl).0 in
+    let some : 0 < length (fed.left ++ back) = omega (arith, fed.long, less, length-append fed.left back) in
+    let free = fed.goes_on some in
+    let dressed = dress_fed (above ++ row ∷ below) fed.cursor fed.wait pen plain fed.latest plain-coloured in
+    let n : length (front ++ map Some cells) ≡ length front + length cells = length-append front (map Some cells) ∙ ap (λ k. length front + k) (length-map cells Some) in
+    let long : length (front ++ (map Some cells ++ (fed.left ++ back))) ≡ length front + length cells + length (fed.left ++ back) =
+    omega (arith, length-append front (map Some cells ++ (fed.left ++ back)), length-append (map Some cells) (fed.left ++ back), length-map cells Some) in
+    let erased = erase_fed above below row K dressed.0 fed.whole (omega (arith, long)) in
+    let taken : take (length front + length cells) (front ++ (map Some cells ++ (fed.left ++ back))) ≡ front ++ map Some cells =
+    ap (take (length front + length cells)) (sym (append_assoc front (map Some cells) (fed.left ++ back))) ∙ take_at (front ++ map Some cells) (fed.left ++ back) (length front + length cells) n in
+    let left : length (front ++ (map Some cells ++ (fed.left ++ back))) - (length front + length cells) ≡ many - length cells + length back = omega (arith, long, fed.long, less, length-append fed.left back) in
+    let State = λ (r : Row) (c : Option (ℕ × ℕ)) (w : Bool) (l : Option (ℕ × ℕ)). standing (above ++ r ∷ below) c w (Some plain) l in
     record {
-      cursor = Some (length above, length (front ++ map Some mid));
+      cursor = Some (length above, length front + length cells);
       wait = false;
+      latest = None;
       is =
-          feed-append (standing (above ++ (front ++ (mid_old ++ back)) ∷ below) (Some (length above, length front)) false (Some plain)) (text_of mid) erase_to_end
-          ∙ ap (λ t. feed_bytes t erase_to_end) (
-          fed.is
-          ∙ ap (λ c. standing (above ++ (front ++ (map Some mid ++ back)) ∷ below) c fed.wait (Some plain)) (fed.behind some ∙ ap (λ k. Some (length above, k)) n)
-          ∙ ap (λ w. standing (above ++ (front ++ (map Some mid ++ back)) ∷ below) (Some (length above, length (front ++ map Some mid))) w (Some plain)) (fed.goes_on some)
-          ∙ ap (λ r. standing (above ++ r ∷ below) (Some (length above, length (front ++ map Some mid))) false (Some plain)) (sym (append_assoc front (map Some mid) back)))
-          ∙ erase_fed above below (front ++ map Some mid) back
-          ∙ ap (λ r. standing (above ++ r ∷ below) (Some (length above, length (front ++ map Some mid))) false (Some plain)) (
-          append_assoc front (map Some mid) (replicate (length back) (Some blank))
-          ∙ ap (λ b. front ++ (map Some mid ++ b)) (sym (gone refl).1));
+          feed_bytes-append t (dress pen plain) erase_to_end
+          ∙ ap (λ u. feed_bytes u erase_to_end) (
+          ap (λ u. feed_bytes u (dress pen plain)) fed.is ∙ dressed.1
+          ∙ ap (λ c. State row c fed.wait dressed.0) free.0 ∙ ap (λ w. State row (Some (length above, K)) w dressed.0) free.1)
+          ∙ erased
+          ∙ ap (λ r. State r (Some (length above, K)) false None) (
+          ap (λ xs. xs ++ replicate (length row - K) (Some blank)) taken
+          ∙ ap (λ k. (front ++ map Some cells) ++ replicate k (Some blank)) left
+          ∙ append_assoc front (map Some cells) (replicate (many - length cells + length back) (Some blank))
+          ∙ ap (λ xs. front ++ (map Some cells ++ xs)) (sym (gone refl).1));
     }
-row-end above below front mid_old back mid back_new false same plains gone kept =
-    let fed = text_fed above below front mid_old back mid same plains in
+row-end above below front back many cells rest false t fed gone kept =
+    let pen = pen_behind plain cells in
+    let all = kept refl in
+    let row = front ++ (map Some cells ++ (fed.left ++ back)) in
+    let dressed = dress_fed (above ++ row ∷ below) fed.cursor fed.wait pen plain fed.latest plain-coloured in
+    let none : fed.left ≡ [] = empty fed.left (omega (arith, fed.long, all.0)) in
     record {
       cursor = fed.cursor;
       wait = fed.wait;
+      latest = dressed.0;
       is =
-          feed-append (standing (above ++ (front ++ (mid_old ++ back)) ∷ below) (Some (length above, length front)) false (Some plain)) (text_of mid) []
-          ∙ fed.is
-          ∙ ap (λ b. standing (above ++ (front ++ (map Some mid ++ b)) ∷ below) fed.cursor fed.wait (Some plain)) (sym (kept refl));
+          ap (feed_bytes t) (append-nil (dress pen plain))
+          ∙ ap (λ u. feed_bytes u (dress pen plain)) fed.is ∙ dressed.1
+          ∙ ap (λ xs. standing (above ++ (front ++ (map Some cells ++ (xs ++ back))) ∷ below) fed.cursor fed.wait (Some plain) dressed.0) none
+          ∙ ap (λ xs. standing (above ++ (front ++ (map Some cells ++ xs)) ∷ below) fed.cursor fed.wait (Some plain) dressed.0) (sym all.1);
     }
 
-stands-along : (rows rows' : Rows) (t t' : Tty) → rows ≡ rows' → t ≡ t' → Stands rows t → Stands rows' t'
-stands-along rows rows' t t' r e h = record {
-  cursor = h.cursor;
-  wait = h.wait;
-  is = sym e ∙ h.is ∙ ap (λ x. standing x h.cursor h.wait (Some plain)) r;
-}
+-- ---- a row that differs
 
--- a row that differs
-pub row_fed : (above below : Rows) (old new : List Cell) (cursor : Option (ℕ × ℕ)) (wait : Bool) (w : ℕ)
-    → length above < 65535 → length old ≡ w → length new ≡ w → w ≤ 400 → AllByRecursion IsPlainCell new → differs old new ≡ true
-    → Stands (above ++ map Some new ∷ below) (feed_bytes (standing (above ++ map Some old ∷ below) cursor wait (Some plain)) (row_bytes (length above) old new))
-row_fed above below old new cursor wait w few old_wide new_wide narrow plains d =
-    let a = first_difference old new in
+take-take : {A : Type 0} (a n : ℕ) (xs : List A) → a ≤ n → take a (take n xs) ≡ take a xs
+take-take zero n xs le = refl
+take-take (suc a) zero xs le = absurd (omega arith)
+take-take (suc a) (suc n) [] le = refl
+take-take (suc a) (suc n) (x ∷ xs) le = ap (λ ys. x ∷ ys) (take-take a n xs (omega arith))
+
+-- before the interval both rows are the same, and behind it
+begin-same : (old new : List Cell) → take (begin_of old new) new ≡ take (begin_of old new) old
+begin-same old new =
+    let le = begin-le old new (first_difference old new) in
+    sym (take-take (begin_of old new) (first_difference old new) new le)
+    ∙ ap (take (begin_of old new)) (front-same old new)
+    ∙ take-take (begin_of old new) (first_difference old new) old le
+
+end-same : (old new : List Cell) → length old ≡ length new → drop (end_of old new) new ≡ drop (end_of old new) old
+end-same old new same =
     let e = end_of_differences old new in
-    let k = max a (used new) in
-    let m = min e k in
-    let some : 0 < e = grind (arith, nat_tests) in
-    let before : a < e = first_before old new some in
-    let inside : e ≤ length new = end_within old new in
-    let order : a ≤ m = omega arith in
-    let most : m ≤ length new = omega arith in
+    let n = going_on (drop e old) (drop e new) in
+    sym (drop-drop n e new) ∙ ap (drop n) (back-same old new same) ∙ drop-drop n e old
+
+-- no character goes on at its end
+end-whole : (old new : List Cell) → length old ≡ length new → (later_columns (map Some (drop (end_of old new) old)) ≡ 0) × (later_columns (map Some (drop (end_of old new) new)) ≡ 0)
+end-whole old new same =
+    let e = end_of_differences old new in
+    let n = going_on (drop e old) (drop e new) in
+    let stops : going_on (drop (end_of old new) old) (drop (end_of old new) new) ≡ 0 =
+    ap (λ xs. going_on xs (drop (end_of old new) new)) (sym (drop-drop n e old)) ∙ ap (λ xs. going_on (drop n (drop e old)) xs) (sym (drop-drop n e new)) ∙ going-stops (drop e old) (drop e new) in
+    let long : length (drop (end_of old new) old) ≡ length (drop (end_of old new) new) = length-drop (end_of old new) old ∙ ap (λ k. k - end_of old new) same ∙ sym (length-drop (end_of old new) new) in
+    going-whole (drop (end_of old new) old) (drop (end_of old new) new) long stops
+
+-- the text ends where a character does
+text-ends : (old new : List Cell) (k m : ℕ) → length old ≡ length new → m ≡ min (end_of old new) k → used new ≤ k → later_columns (map Some (drop m new)) ≡ 0
+text-ends old new k m same e le = elim (cases_lt k (end_of old new)) [
+  | inl less ↦
+      let is : m ≡ k = omega (arith, e) in
+      ap (λ j. later_columns (map Some (drop j new))) is ∙ ap (λ xs. later_columns (map Some xs)) (blank-from new k le) ∙ later-blanks (length new - k)
+  | inr more ↦
+      let is : m ≡ end_of old new = omega (arith, e) in
+      ap (λ j. later_columns (map Some (drop j new))) is ∙ (end-whole old new same).1
+]
+
+pub row_fed : (above below : Rows) (old new : List Cell) (cursor : Option (ℕ × ℕ)) (wait : Bool) (latest : Option (ℕ × ℕ)) (w : ℕ)
+    → length above < 65535 → length old ≡ w → length new ≡ w → w ≤ 400 → IsRowAfter 0 new → AllByRecursion IsColoured new → differs old new ≡ true
+    → Stands (above ++ map Some new ∷ below) (feed_bytes (standing (above ++ map Some old ∷ below) cursor wait (Some plain) latest) (row_bytes (length above) old new))
+row_fed above below old new cursor wait latest w few old_wide new_wide narrow row colours d =
+    let first = first_difference old new in
+    let last = end_of_differences old new in
+    let a = begin_of old new in
+    let b = end_of old new in
+    let k = max (begin_of old new) (used new) in
+    let m = min (end_of old new) k in
+    let some : 0 < end_of_differences old new = grind (arith, nat_tests) in
+    let before : first_difference old new < end_of_differences old new = first_before old new some in
+    let begins : begin_of old new ≤ first_difference old new = begin-le old new (first_difference old new) in
+    let inside : end_of_differences old new ≤ length new = end_within old new in
+    let behind_last : going_on (drop last old) (drop last new) ≤ length (drop last new) = going-le (drop last old) (drop last new) in
+    let most : end_of old new ≤ length new = omega (arith, behind_last, length-drop last new, inside) in
+    let order : begin_of old new < end_of old new = omega arith in
     let same : length old ≡ length new = old_wide ∙ sym new_wide in
-    let mid = take (m - a) (drop a new) in
-    let mid_old = take (m - a) (drop a old) in
-    let front : List (Option Cell) = map Some (take a old) in
-    let back : List (Option Cell) = map Some (drop m old) in
-    let ending = if nat_lt k e then erase_to_end else [] in
-    let row_old : map Some old ≡ front ++ (map Some mid_old ++ back) =
-    sym (ap (map Some) (three-parts a m old order)) ∙ map-append Some (take a old) (mid_old ++ drop m old) ∙ ap (λ xs. front ++ xs) (map-append Some mid_old (drop m old)) in
-    let row_new : front ++ (map Some mid ++ map Some (drop m new)) ≡ map Some new =
-    ap (λ xs. map Some xs ++ (map Some mid ++ map Some (drop m new))) (sym (front-same old new))
-    ∙ sym (map-append Some (take a new) (mid ++ drop m new) ∙ ap (λ xs. map Some (take a new) ++ xs) (map-append Some mid (drop m new)))
-    ∙ ap (map Some) (three-parts a m new order) in
-    let front_length : length front ≡ a = length-map (take a old) Some ∙ length-take-le a old (omega arith) in
-    let back_length : length back ≡ length new - m = length-map (drop m old) Some ∙ length-drop m old ∙ ap (λ n. n - m) same in
-    let mid_length : length (map Some mid_old) ≡ length mid =
-    length-map mid_old Some ∙ length-take (m - a) (drop a old) ∙ ap (min (m - a)) (length-drop a old ∙ ap (λ n. n - a) same ∙ sym (length-drop a new)) ∙ sym (length-take (m - a) (drop a new)) in
-    let here : length above < length (above ++ map Some old ∷ below) = omega (arith, length-append above (map Some old ∷ below)) in
+    let past : used new ≤ k = omega arith in
+    let cells = take (m - a) (drop a new) in
+    let front : Row = map Some (take a old) in
+    let mid : Row = map Some (take (b - a) (drop a old)) in
+    let back : Row = map Some (drop b old) in
+    let here : begin_of old new < length old = omega arith in
+    let front_length : length front ≡ begin_of old new = length-map (take a old) Some ∙ length-take-le a old (omega arith) in
+    let cells_length : length cells ≡ m - begin_of old new = length-take-le (m - a) (drop a new) (omega (arith, length-drop a new)) in
+    let mid_length : length mid ≡ end_of old new - begin_of old new = length-map (take (b - a) (drop a old)) Some ∙ length-take-le (b - a) (drop a old) (omega (arith, length-drop a old)) in
+    let back_length : length back ≡ length new - end_of old new = length-map (drop b old) Some ∙ length-drop b old ∙ ap (λ n. n - b) same in
+    let row_old : map Some old ≡ front ++ (mid ++ back) =
+    sym (ap (map Some) (three-parts a b old (omega arith))) ∙ map-append Some (take a old) (take (b - a) (drop a old) ++ drop b old) ∙ ap (λ xs. front ++ xs) (map-append Some (take (b - a) (drop a old)) (drop b old)) in
+    let row_new : front ++ (map Some cells ++ map Some (drop m new)) ≡ map Some new =
+    ap (λ xs. map Some xs ++ (map Some cells ++ map Some (drop m new))) (sym (begin-same old new))
+    ∙ sym (map-append Some (take a new) (cells ++ drop m new) ∙ ap (λ xs. map Some (take a new) ++ xs) (map-append Some cells (drop m new)))
+    ∙ ap (map Some) (three-parts a m new (omega arith)) in
+    let starts : first_column (front ++ (mid ++ back)) (length front) ≡ length front =
+    subst (λ j. first_column (front ++ (mid ++ back)) j ≡ j) (sym front_length) (subst (λ r. first_column r a ≡ a) row_old (begin-first old new a here (begin-is old new first))) in
+    let ends = end-whole old new same in
+    let from_begin : IsRowAfter 0 (drop a new) = begin-whole old new a here (omega arith) row (begin-is old new first) in
+    let sum : begin_of old new + (m - begin_of old new) ≡ m = omega arith in
+    let stops : later_columns (map Some (drop (m - a) (drop a new))) ≡ 0 = ap (λ xs. later_columns (map Some xs)) (drop-drop (m - a) a new ∙ ap (λ j. drop j new) sum) ∙ text-ends old new k m same refl past in
+    let whole : IsRowAfter 0 cells = whole-take (m - a) 0 (drop a new) from_begin stops (omega (arith, length-drop a new)) in
+    let fits : length cells ≤ length mid = omega (arith, cells_length, mid_length) in
+    let enough : length cells ≤ length cells = omega arith in
+    let fed = text_fed (length cells) above below front mid back cells plain None enough fits whole (coloured-take (m - a) (drop a new) (coloured-drop a new colours)) starts ends.0 in
+    let gone : nat_lt k (end_of old new) ≡ true → (length cells < length mid) × (map Some (drop m new) ≡ replicate (length mid - length cells + length back) (Some blank)) = λ t.
+    let less : k < end_of old new = grind (arith, nat_tests) in
+    let n : length new - m ≡ length mid - length cells + length back = omega (arith, cells_length, mid_length, back_length) in
+    (omega (arith, cells_length, mid_length), ap (map Some) (blank-from new m (omega arith)) ∙ map-replicate Some (length new - m) blank ∙ ap (λ n. replicate n (Some blank)) n) in
+    let kept : nat_lt k (end_of old new) ≡ false → (length cells ≡ length mid) × (map Some (drop m new) ≡ back) = λ f.
+    let more : end_of old new ≤ k = grind (arith, nat_tests) in
+    let is : m ≡ end_of old new = omega arith in
+    (omega (arith, cells_length, mid_length), ap (map Some) (ap (λ n. drop n new) is ∙ end-same old new same)) in
+    let text = text_by plain cells in
+    let ending = dress (pen_behind plain cells) plain ++ (if nat_lt k (end_of old new) then erase_to_end else []) in
+    let ended = row-end above below front back (length mid) cells (drop m new) (nat_lt k (end_of old new)) _ fed gone kept in
+    let there : length above < length (above ++ map Some old ∷ below) = omega (arith, length-append above (map Some old ∷ below)) in
     let at : get_or (above ++ map Some old ∷ below) (length above) [] ≡ map Some old = get_or_at above (map Some old) below [] (length above) refl in
-    let column : a < length (get_or (above ++ map Some old ∷ below) (length above) []) = rw at (omega (arith, length-map old Some)) in
-    let gone : nat_lt k e ≡ true → (0 < length back) × (map Some (drop m new) ≡ replicate (length back) (Some blank)) = λ t.
-    let less : k < e = grind (arith, nat_tests) in
-    let past : used new ≤ m = omega arith in
-    (omega arith, ap (map Some) (blank-from new m past) ∙ map-replicate (length new - m) ∙ ap (λ n. replicate n (Some blank)) (sym back_length)) in
-    let kept : nat_lt k e ≡ false → map Some (drop m new) ≡ back = λ f.
-    let more : e ≤ k = grind (arith, nat_tests) in
-    let last : m ≡ e = omega arith in
-    ap (map Some) (ap (λ n. drop n new) last ∙ back-same old new same ∙ ap (λ n. drop n old) (sym last)) in
-    let ended = row-end above below front (map Some mid_old) back mid (drop m new) (nat_lt k e) mid_length (plain-take (m - a) (drop a new) (plain-drop a new plains)) gone kept in
+    let column : begin_of old new < length (get_or (above ++ map Some old ∷ below) (length above) []) = rw at (omega (arith, length-map old Some)) in
+    let start = standing (above ++ map Some old ∷ below) cursor wait (Some plain) latest in
+    let moved = move_fed (above ++ map Some old ∷ below) cursor wait (Some plain) latest (length above) a there column few (omega arith)
+    ∙ ap (λ r. standing (above ++ r ∷ below) (Some (length above, a)) false (Some plain) None) row_old
+    ∙ ap (λ c. standing (above ++ (front ++ (mid ++ back)) ∷ below) (Some (length above, c)) false (Some plain) None) (sym front_length) in
     stands-along _ _ _ _ (ap (λ r. above ++ r ∷ below) row_new) (sym (
-    ap (feed_bytes (standing (above ++ map Some old ∷ below) cursor wait (Some plain))) (append_assoc (move (length above) a) (text_of mid) ending)
-    ∙ feed-append (standing (above ++ map Some old ∷ below) cursor wait (Some plain)) (move (length above) a) (text_of mid ++ ending)
-    ∙ ap (λ t. feed_bytes t (text_of mid ++ ending)) (
-    move_fed (above ++ map Some old ∷ below) cursor wait (Some plain) (length above) a here column few (omega arith)
-    ∙ ap (λ r. standing (above ++ r ∷ below) (Some (length above, a)) false (Some plain)) row_old
-    ∙ ap (λ c. standing (above ++ (front ++ (map Some mid_old ++ back)) ∷ below) (Some (length above, c)) false (Some plain)) (sym front_length)))) ended
+    feed_bytes-append start (move (length above) a) (text ++ ending)
+    ∙ ap (λ t. feed_bytes t (text ++ ending)) moved
+    ∙ feed_bytes-append (standing (above ++ (front ++ (mid ++ back)) ∷ below) (Some (length above, length front)) false (Some plain) None) text ending)) ended
 
 -- rows by a choice on whether the first differs and whether the limit allows it
 chosen : (differ allow : Bool) (same_bytes bytes : List ℕ) (above : Rows) (same_rows rows rest : List (List Cell)) (t : Tty)
@@ -137,32 +294,32 @@ chosen true true same_bytes bytes above same_rows rows rest t a b c = b refl
 chosen true false same_bytes bytes above same_rows rows rest t a b c = c
 
 -- the rows that differ, while the limit allows
-pub rows_fed : (above : Rows) (limit : Option ℕ) (olds news : List (List Cell)) (w : ℕ) (cursor : Option (ℕ × ℕ)) (wait : Bool)
+pub rows_fed : (above : Rows) (limit : Option ℕ) (olds news : List (List Cell)) (w : ℕ) (cursor : Option (ℕ × ℕ)) (wait : Bool) (latest : Option (ℕ × ℕ))
     → length above + length olds ≤ 200 → w ≤ 400 → length olds ≡ length news
-    → AllByRecursion (λ row. length row ≡ w) olds → AllByRecursion (λ row. length row ≡ w) news → AllByRecursion (λ row. AllByRecursion IsPlainCell row) news
-    → Stands (above ++ known (rows_after limit olds news)) (feed_bytes (standing (above ++ known olds) cursor wait (Some plain)) (rows_bytes (length above) limit olds news))
-rows_fed above limit [] [] w cursor wait few narrow same ow nw plains = record { cursor = cursor; wait = wait; is = refl }
-rows_fed above limit [] (n ∷ ns) w cursor wait few narrow same ow nw plains = absurd (cc)
-rows_fed above limit (o ∷ os) [] w cursor wait few narrow same ow nw plains = absurd (cc)
-rows_fed above limit (o ∷ os) (n ∷ ns) w cursor wait few narrow same ow nw plains =
-    let t = standing (above ++ known (o ∷ os)) cursor wait (Some plain) in
+    → AllByRecursion (λ row. length row ≡ w) olds → AllByRecursion (λ row. length row ≡ w) news → AllByRecursion (λ row. IsRowAfter 0 row) news → AllByRecursion (λ row. AllByRecursion IsColoured row) news
+    → Stands (above ++ known (rows_after limit olds news)) (feed_bytes (standing (above ++ known olds) cursor wait (Some plain) latest) (rows_bytes (length above) limit olds news))
+rows_fed above limit [] [] w cursor wait latest few narrow same ow nw wholes colours = record { cursor = cursor; wait = wait; latest = latest; is = refl }
+rows_fed above limit [] (n ∷ ns) w cursor wait latest few narrow same ow nw wholes colours = absurd (cc)
+rows_fed above limit (o ∷ os) [] w cursor wait latest few narrow same ow nw wholes colours = absurd (cc)
+rows_fed above limit (o ∷ os) (n ∷ ns) w cursor wait latest few narrow same ow nw wholes colours =
+    let t = standing (above ++ known (o ∷ os)) cursor wait (Some plain) latest in
     let less : length os ≡ length ns = omega arith in
     let length_next : length (above ++ map Some n ∷ []) ≡ length above + 1 = length-append above (map Some n ∷ []) in
     let few_next : length (above ++ map Some n ∷ []) + length os ≤ 200 = omega arith in
-    let next = λ (limit : Option ℕ) (cursor : Option (ℕ × ℕ)) (wait : Bool).
+    let next = λ (limit : Option ℕ) (cursor : Option (ℕ × ℕ)) (wait : Bool) (latest : Option (ℕ × ℕ)).
     stands-along _ _ _ _
     (append_assoc above (map Some n ∷ []) (known (rows_after limit os ns)))
-    (ap (λ rows. feed_bytes (standing rows cursor wait (Some plain)) (rows_bytes (length (above ++ map Some n ∷ [])) limit os ns)) (append_assoc above (map Some n ∷ []) (known os))
-    ∙ ap (λ r. feed_bytes (standing (above ++ map Some n ∷ known os) cursor wait (Some plain)) (rows_bytes r limit os ns)) length_next)
-    (rows_fed (above ++ map Some n ∷ []) limit os ns w cursor wait few_next narrow less ow.1 nw.1 plains.1) in
+    (ap (λ rows. feed_bytes (standing rows cursor wait (Some plain) latest) (rows_bytes (length (above ++ map Some n ∷ [])) limit os ns)) (append_assoc above (map Some n ∷ []) (known os))
+    ∙ ap (λ r. feed_bytes (standing (above ++ map Some n ∷ known os) cursor wait (Some plain) latest) (rows_bytes r limit os ns)) length_next)
+    (rows_fed (above ++ map Some n ∷ []) limit os ns w cursor wait latest few_next narrow less ow.1 nw.1 wholes.1 colours.1) in
     chosen (differs o n) (allows limit) (rows_bytes (length above + 1) limit os ns) (row_bytes (length above) o n ++ rows_bytes (length above + 1) (less_one limit) os ns)
     above (n ∷ rows_after limit os ns) (n ∷ rows_after (less_one limit) os ns) (o ∷ os) t
     (λ d.
     let is = no-difference o n (ow.0 ∙ sym nw.0) d in
-    stands-along _ _ _ _ refl (ap (λ r. feed_bytes (standing (above ++ map Some r ∷ known os) cursor wait (Some plain)) (rows_bytes (length above + 1) limit os ns)) is) (next limit cursor wait))
+    stands-along _ _ _ _ refl (ap (λ r. feed_bytes (standing (above ++ map Some r ∷ known os) cursor wait (Some plain) latest) (rows_bytes (length above + 1) limit os ns)) is) (next limit cursor wait latest))
     (λ d.
-    let row = row_fed above (known os) o n cursor wait w (omega arith) ow.0 nw.0 narrow plains.0 d in
+    let row = row_fed above (known os) o n cursor wait latest w (omega arith) ow.0 nw.0 narrow wholes.0 colours.0 d in
     stands-along _ _ _ _ refl (sym (
-    feed-append t (row_bytes (length above) o n) (rows_bytes (length above + 1) (less_one limit) os ns)
-    ∙ ap (λ t. feed_bytes t (rows_bytes (length above + 1) (less_one limit) os ns)) row.is)) (next (less_one limit) row.cursor row.wait))
-    (record { cursor = cursor; wait = wait; is = refl })
+    feed_bytes-append t (row_bytes (length above) o n) (rows_bytes (length above + 1) (less_one limit) os ns)
+    ∙ ap (λ t. feed_bytes t (rows_bytes (length above + 1) (less_one limit) os ns)) row.is)) (next (less_one limit) row.cursor row.wait row.latest))
+    (record { cursor = cursor; wait = wait; latest = latest; is = refl })

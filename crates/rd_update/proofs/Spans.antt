@@ -1,15 +1,16 @@
 -- Where two rows differ: what is before the first difference, behind the last one, and blank to the end.
-use Rattle.std.proofs.Common.{◌≡◌, if◌then◌else◌, ℕ, zero, suc, ◌+◌, ◌-◌, ◌<◌, ◌≤◌, Bool, true, false, List, [], ◌∷◌, ◌++◌, length, take, drop, replicate, refl, sym, ap, ◌∙◌, arith}
+use Rattle.std.proofs.Common.{◌≡◌, if◌then◌else◌, ◌⊎◌, inl, inr, ◌||◌, ℕ, zero, suc, ◌+◌, ◌-◌, ◌<◌, ◌≤◌, Bool, true, false, List, [], ◌∷◌, ◌++◌, length, get_or, map, take, drop, replicate, None, Some, refl, sym, ap, ◌∙◌, arith}
 use Rattle.std.proofs.lemmas.Bool.{and_parts}
 use Rattle.std.proofs.lemmas.Bool.Decides.{nat_tests, Decides-eqb}
 use Rattle.std.proofs.lemmas.Slice.Eq.{bytes_eq-Decides}
-use Rattle.std.proofs.lemmas.List.{take-append-drop, drop-drop, drop-replicate, length-replicate}
+use Rattle.std.proofs.lemmas.List.{take-append-drop, drop-drop, drop-replicate, length-replicate, drop_more, get_or-map}
 use Rattle.rd_base.specs.Faces.{Attributes}
 use Rattle.rd_base.specs.declared.cell.Glyph.{Glyph}
 use Rattle.rd_base.specs.declared.cell.Cell.{Cell}
 use Rattle.rd_base.specs.declared.cell.Cell.TheVariants.{Blank, First, Rest}
 use Rattle.rd_term.specs.Pictures.{blank, blank_row}
-use Rattle.rd_update.specs.Updates.{same_flag, same_face, same_glyph, same_cell, first_difference, end_before, end_of_differences, used, differs}
+use Rattle.rd_term.specs.Overwriting.{is_later, later_columns, first_column}
+use Rattle.rd_update.specs.Updates.{same_flag, same_face, same_glyph, same_cell, first_difference, end_before, end_of_differences, used, differs, is_rest, goes_on, begin_before, going_on}
 
 -- ---- same cells
 
@@ -29,7 +30,7 @@ glyphs-same : (a b c d e f : ℕ) (xs ys : List ℕ) → a ≡ d → xs ≡ ys �
     let y : Glyph = record { base = d; marks = ys; count = e; width = f } in x ≡ y
 glyphs-same a b c d e f xs ys p q r s = cc
 
-face-told : (f g : Attributes) → same_face f g ≡ true → f ≡ g
+pub face-told : (f g : Attributes) → same_face f g ≡ true → f ≡ g
 face-told f g e =
     let one = and_parts _ _ e in
     let two = and_parts _ _ one.0 in
@@ -142,3 +143,101 @@ three-parts a m xs le =
     ap (λ ys. take a xs ++ (take (m - a) (drop a xs) ++ ys)) (sym (ap (λ j. drop j xs) sum) ∙ sym (drop-drop (m - a) a xs))
     ∙ ap (λ ys. take a xs ++ ys) (take-append-drop (m - a) (drop a xs))
     ∙ take-append-drop a xs
+
+-- ---- where a character goes on
+
+pub begin-goes : (old new : List Cell) (column : ℕ) → 0 < column → goes_on old new column ≡ true → begin_before old new (column - 1) ≡ begin_before old new column
+begin-goes old new zero p e = absurd (omega arith)
+begin-goes old new (suc column) p e =
+    let back : suc column - 1 ≡ column = omega arith in
+    rw (e, back) refl
+
+begin-le-chosen : (b : Bool) (n column : ℕ) → n ≤ column → (if b then n else suc column) ≤ suc column
+begin-le-chosen true n column le = omega arith
+begin-le-chosen false n column le = omega arith
+
+pub begin-le : (old new : List Cell) (column : ℕ) → begin_before old new column ≤ column
+begin-le old new zero = omega arith
+begin-le old new (suc column) = begin-le-chosen (goes_on old new (suc column)) (begin_before old new column) column (begin-le old new column)
+
+begin-is-chosen : (old new : List Cell) (column : ℕ) (b : Bool) → goes_on old new (suc column) ≡ b
+    → (begin_before old new column ≡ 0) ⊎ (goes_on old new (begin_before old new column) ≡ false)
+    → ((if b then begin_before old new column else suc column) ≡ 0) ⊎ (goes_on old new (if b then begin_before old new column else suc column) ≡ false)
+begin-is-chosen old new column true e h = h
+begin-is-chosen old new column false e h = inr e
+
+-- it is the first column, or no character goes on there
+pub begin-is : (old new : List Cell) (column : ℕ) → (begin_before old new column ≡ 0) ⊎ (goes_on old new (begin_before old new column) ≡ false)
+begin-is old new zero = inl refl
+begin-is old new (suc column) = begin-is-chosen old new column (goes_on old new (suc column)) refl (begin-is old new column)
+
+going-le-chosen : (b : Bool) (n m : ℕ) → n ≤ m → (if b then suc n else 0) ≤ suc m
+going-le-chosen true n m le = omega arith
+going-le-chosen false n m le = omega arith
+
+pub going-le : (xs ys : List Cell) → going_on xs ys ≤ length ys
+going-le [] [] = omega arith
+going-le [] (y ∷ ys) = omega arith
+going-le (x ∷ xs) [] = omega arith
+going-le (x ∷ xs) (y ∷ ys) = going-le-chosen (is_rest x || is_rest y) (going_on xs ys) (length ys) (going-le xs ys)
+
+going-stops-chosen : (b : Bool) (n : ℕ) (x y : Cell) (xs ys : List Cell) → (is_rest x || is_rest y) ≡ b → going_on (drop n xs) (drop n ys) ≡ 0
+    → going_on (drop (if b then suc n else 0) (x ∷ xs)) (drop (if b then suc n else 0) (y ∷ ys)) ≡ 0
+going-stops-chosen true n x y xs ys e h = h
+going-stops-chosen false n x y xs ys e h = rw e refl
+
+pub going-stops : (xs ys : List Cell) → going_on (drop (going_on xs ys) xs) (drop (going_on xs ys) ys) ≡ 0
+going-stops [] [] = refl
+going-stops [] (y ∷ ys) = refl
+going-stops (x ∷ xs) [] = refl
+going-stops (x ∷ xs) (y ∷ ys) = going-stops-chosen (is_rest x || is_rest y) (going_on xs ys) x y xs ys refl (going-stops xs ys)
+
+-- ---- cells that begin with no later column
+
+neither : (a b : Bool) → (a || b) ≡ false → (a ≡ false) × (b ≡ false)
+neither false false e = (refl, refl)
+neither false true e = absurd (cc)
+neither true b e = absurd (cc)
+
+neither-zero : (a b : Bool) (n : ℕ) → (if a || b then suc n else 0) ≡ 0 → (a ≡ false) × (b ≡ false)
+neither-zero false false n e = (refl, refl)
+neither-zero false true n e = absurd (cc)
+neither-zero true b n e = absurd (cc)
+
+whole-cons : (x : Cell) (cells : List Cell) → is_rest x ≡ false → later_columns (map Some (x ∷ cells)) ≡ 0
+whole-cons (Blank f) cells e = refl
+whole-cons (First g f) cells e = refl
+whole-cons Rest cells e = absurd (cc)
+
+-- where no character goes on, both rows begin with none
+pub going-whole : (xs ys : List Cell) → length xs ≡ length ys → going_on xs ys ≡ 0 → (later_columns (map Some xs) ≡ 0) × (later_columns (map Some ys) ≡ 0)
+going-whole [] [] n e = (refl, refl)
+going-whole [] (y ∷ ys) n e = absurd (cc)
+going-whole (x ∷ xs) [] n e = absurd (cc)
+going-whole (x ∷ xs) (y ∷ ys) n e =
+    let both = neither-zero (is_rest x) (is_rest y) (going_on xs ys) e in
+    (whole-cons x xs both.0, whole-cons y ys both.1)
+
+-- the same from a column on
+pub at-whole : (old new : List Cell) (column : ℕ) → column < length old → column < length new → goes_on old new column ≡ false
+    → (later_columns (map Some (drop column old)) ≡ 0) × (later_columns (map Some (drop column new)) ≡ 0)
+at-whole old new column p q e =
+    let both = neither (is_rest (get_or old column blank)) (is_rest (get_or new column blank)) e in (
+      ap (λ xs. later_columns (map Some xs)) (drop_more old column blank p) ∙ whole-cons (get_or old column blank) (drop (column + 1) old) both.0,
+      ap (λ xs. later_columns (map Some xs)) (drop_more new column blank q) ∙ whole-cons (get_or new column blank) (drop (column + 1) new) both.1,
+    )
+
+is-later-some : (x : Cell) → is_later (Some x) ≡ is_rest x
+is-later-some (Blank f) = refl
+is-later-some (First g f) = refl
+is-later-some Rest = refl
+
+-- the character at the interval's begin begins there
+pub begin-first : (old new : List Cell) (column : ℕ) → column < length old → (column ≡ 0) ⊎ (goes_on old new column ≡ false) → first_column (map Some old) column ≡ column
+begin-first old new zero p h = refl
+begin-first old new (suc column) p (inl e) = absurd (cc)
+begin-first old new (suc column) p (inr e) =
+    let both = neither (is_rest (get_or old (suc column) blank)) (is_rest (get_or new (suc column) blank)) e in
+    let at : get_or (map Some old) (suc column) None ≡ Some (get_or old (suc column) blank) = get_or-map Some old (suc column) blank None p in
+    let not : is_later (get_or (map Some old) (suc column) None) ≡ false = ap is_later at ∙ is-later-some (get_or old (suc column) blank) ∙ both.0 in
+    rw not refl

@@ -2,7 +2,7 @@
 use Rattle.std.specs.Prelude.{◌≡◌, ℕ, ◌≤◌, true, false, List, length, Option, None, Some, map}
 use Rattle.rd_base.specs.Faces.{plain}
 use Rattle.rd_base.specs.declared.cell.Cell.{Cell}
-use Rattle.rd_term.specs.Pictures.{Picture, IsGrid, IsOfSize, ArePlain}
+use Rattle.rd_term.specs.Pictures.{Picture, IsGrid, IsOfSize, IsWellFormed, AreColoured}
 use Rattle.rd_term.specs.Terminals.{Tty, known, cell_of}
 use Rattle.rd_term.specs.declared.reading.Reading.TheVariants.{Between}
 use Rattle.rd_update.specs.Updates.{Update}
@@ -12,7 +12,8 @@ abbrev pub IsCurrent : ℕ → ℕ → Option Picture → Tty → Type 0
 IsCurrent width height None t = Unit {0}
 IsCurrent width height (Some screen) t = IsOfSize width height screen × (t.rows ≡ known screen.rows) × (t.pen ≡ Some plain)
 
--- a terminal that is not confused and stands between two sequences, and a plain target of its size; a wait may stand
+-- a terminal that is not confused and stands between two sequences, and a well-formed target of its size, whose colours are in
+-- their range; a wait may stand
 pub record IsReady (width height : ℕ) (current : Option Picture) (target : Picture) (t : Tty) : Type 0 where
   pub sure : t.confused ≡ false
   pub between : t.reading ≡ Between
@@ -21,7 +22,8 @@ pub record IsReady (width height : ℕ) (current : Option Picture) (target : Pic
   pub wide : width ≤ 400
   pub tall : height ≤ 200
   pub size : IsOfSize width height target
-  pub cells : ArePlain target.rows
+  pub whole : IsWellFormed target
+  pub colours : AreColoured target.rows
   pub now : IsCurrent width height current t
 
 -- the terminal's cells are then those of the new current screen, its pen is plain, and where the update is done its cursor is

@@ -1,13 +1,15 @@
 -- The bytes that bring a terminal from the current screen to the target screen.
-use Rattle.std.specs.Prelude.{ℕ, zero, suc, ◌+◌, ◌-◌, ◌==◌, nat_lt, nat_le, min, max, Bool, true, false, if◌then◌else◌, ◌&&◌, not, List, [], ◌∷◌, ◌++◌, length, take, drop, map, Option, None, Some}
+use Rattle.std.specs.Prelude.{ℕ, zero, suc, ◌+◌, ◌-◌, ◌==◌, nat_lt, nat_le, min, max, Bool, true, false, if◌then◌else◌, ◌&&◌, ◌||◌, not, List, [], ◌∷◌, ◌++◌, length, take, drop, map, Option, None, Some, slice_index_or}
+use Rattle.std.specs.Char.{encode_utf8}
 use Rattle.std.specs.Fmt.{decimal}
 use Rattle.std.specs.List.{flat_map}
 use Rattle.std.specs.Str.{bytes_eq}
-use Rattle.rd_base.specs.Faces.{Attributes}
+use Rattle.rd_base.specs.Chars.{is_scalar}
+use Rattle.rd_base.specs.Faces.{Attributes, plain}
 use Rattle.rd_base.specs.declared.cell.Glyph.{Glyph}
 use Rattle.rd_base.specs.declared.cell.Cell.{Cell}
 use Rattle.rd_base.specs.declared.cell.Cell.TheVariants.{Blank, First, Rest}
-use Rattle.rd_term.specs.Pictures.{Picture, blank_row}
+use Rattle.rd_term.specs.Pictures.{Picture, blank, blank_row}
 
 -- ---- where two rows differ
 
@@ -41,6 +43,36 @@ abbrev pub end_of_differences : List Cell → List Cell → ℕ
 end_of_differences (x ∷ xs) (y ∷ ys) = end_before (same_cell x y) (end_of_differences xs ys)
 end_of_differences _ _ = 0
 
+-- ---- the interval that is sent
+
+-- a later column of a character
+abbrev pub is_rest : Cell → Bool
+is_rest Rest = true
+is_rest cell = false
+
+-- a character of either row goes on at this column
+abbrev pub goes_on : List Cell → List Cell → ℕ → Bool
+goes_on old new column = is_rest (slice_index_or old column blank) || is_rest (slice_index_or new column blank)
+
+-- the last column up to this one at which no character goes on
+abbrev pub begin_before : List Cell → List Cell → ℕ → ℕ
+begin_before old new zero = 0
+begin_before old new (suc column) = if goes_on old new (suc column) then begin_before old new column else suc column
+
+-- how many columns follow at which one goes on
+abbrev pub going_on : List Cell → List Cell → ℕ
+going_on (x ∷ xs) (y ∷ ys) = if is_rest x || is_rest y then suc (going_on xs ys) else 0
+going_on _ _ = 0
+
+-- the least interval that holds all columns at which two rows differ, and cuts no character of either
+abbrev pub begin_of : List Cell → List Cell → ℕ
+begin_of old new = begin_before old new (first_difference old new)
+
+abbrev pub end_of : List Cell → List Cell → ℕ
+end_of old new =
+    let end = end_of_differences old new in
+    end + going_on (drop end old) (drop end new)
+
 -- the first column from which a row is blank and plain to its end
 abbrev pub used : List Cell → ℕ
 used row = end_of_differences (blank_row (length row)) row
@@ -62,25 +94,71 @@ erase_to_end = 27 ∷ 91 ∷ 75 ∷ []
 abbrev pub repaint : List ℕ
 repaint = 27 ∷ 91 ∷ 48 ∷ 109 ∷ 27 ∷ 91 ∷ 50 ∷ 74 ∷ []
 
--- a plain cell of one column: a blank is a space, and a character of ASCII stands for itself
-abbrev pub text_of_cell : Cell → List ℕ
-text_of_cell (Blank f) = 32 ∷ []
-text_of_cell (First g f) = g.base ∷ []
-text_of_cell Rest = []
+-- a scalar value in UTF-8
+abbrev pub encoded : ℕ → List ℕ
+encoded code = if is_scalar code then encode_utf8 code else []
 
-abbrev pub text_of : List Cell → List ℕ
-text_of cells = flat_map text_of_cell cells
+-- a character and the marks that join it
+abbrev pub text_of_glyph : Glyph → List ℕ
+text_of_glyph g = encoded g.base ++ flat_map encoded (take g.count g.marks)
 
--- A row that differs: the least interval that holds all differing cells is sent, but what is blank and plain to the row's
--- end is erased in one where a part of it differs.
+-- a number, where this holds
+abbrev pub number_if : Bool → ℕ → List ℕ
+number_if holds n = if holds then n ∷ [] else []
+
+-- the numbers of a face: 1 bold, 4 underline, 7 inverse, 30 and on the colour of characters, 40 and on the colour behind them
+abbrev pub renditions : Attributes → List ℕ
+renditions f =
+    number_if f.bold 1
+    ++ (number_if f.underline 4
+    ++ (number_if f.inverse 7
+    ++ (number_if (not (f.fg == 8)) (30 + f.fg)
+    ++ number_if (not (f.bg == 8)) (40 + f.bg))))
+
+abbrev pub parameter : ℕ → List ℕ
+parameter n = 59 ∷ decimal n
+
+-- `\e[0;a;b;..m`, by which the pen becomes a face
+abbrev pub rendition : Attributes → List ℕ
+rendition f = 27 ∷ 91 ∷ 48 ∷ (flat_map parameter (renditions f) ++ 109 ∷ [])
+
+-- what makes a pen of one face one of another
+abbrev pub dress : Attributes → Attributes → List ℕ
+dress pen face = if same_face pen face then [] else rendition face
+
+-- a cell, by a pen of this face: a blank is a space, and a cell is dressed where its face is not the pen's
+abbrev pub text_of_cell : Attributes → Cell → List ℕ
+text_of_cell pen (Blank f) = dress pen f ++ 32 ∷ []
+text_of_cell pen (First g f) = dress pen f ++ text_of_glyph g
+text_of_cell pen Rest = []
+
+-- the pen's face behind it
+abbrev pub face_of : Attributes → Cell → Attributes
+face_of pen (Blank f) = f
+face_of pen (First g f) = f
+face_of pen Rest = pen
+
+-- cells, and the pen's face behind them
+abbrev pub text_by : Attributes → List Cell → List ℕ
+text_by pen [] = []
+text_by pen (cell ∷ cells) = text_of_cell pen cell ++ text_by (face_of pen cell) cells
+
+abbrev pub pen_behind : Attributes → List Cell → Attributes
+pen_behind pen [] = pen
+pen_behind pen (cell ∷ cells) = pen_behind (face_of pen cell) cells
+
+-- A row that differs: the cells of the interval are sent by a pen that is plain before and behind them, but what is blank and
+-- plain to the row's end is erased in one where a part of it lies in the interval.
 abbrev pub row_bytes : ℕ → List Cell → List Cell → List ℕ
 row_bytes row old new =
-    let from = first_difference old new in
-    let end = end_of_differences old new in
+    let from = begin_of old new in
+    let end = end_of old new in
     let blank_from = max from (used new) in
+    let cells = take (min end blank_from - from) (drop from new) in
     move row from
-    ++ text_of (take (min end blank_from - from) (drop from new))
-    ++ (if nat_lt blank_from end then erase_to_end else [])
+    ++ (text_by plain cells
+    ++ (dress (pen_behind plain cells) plain
+    ++ (if nat_lt blank_from end then erase_to_end else [])))
 
 -- ---- rows, while a limit of rows allows
 

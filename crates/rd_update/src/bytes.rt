@@ -1,11 +1,13 @@
 //! The bytes of moves, cells and rows.
-ghost use Rattle.std.specs.Prelude.{◌≡◌, ◌+◌, ◌<◌, ◌≤◌, ◌++◌, length, All, OnOk};
-ghost use Rattle.rd_term.specs.Pictures.{IsPlainCell, blank_row};
-ghost use Rattle.rd_update.specs.Updates.{move as move_bytes, text_of_cell, text_of, row_bytes, end_of_differences as end_column};
+ghost use Rattle.std.specs.Prelude.{◌≡◌, ◌+◌, ◌<◌, ◌≤◌, ◌++◌, length, OnOk, IfOk};
+ghost use Rattle.std.specs.List.{flat_map};
+ghost use Rattle.rd_base.specs.Faces.{plain};
+ghost use Rattle.rd_term.specs.Pictures.{blank_row};
+ghost use Rattle.rd_update.specs.Updates.{move as move_bytes, encoded, text_of_glyph, renditions, number_if, parameter, dress, text_of_cell, face_of, text_by, pen_behind, row_bytes, end_of_differences as end_column};
 
-use crate::span::{end_of_differences, first_difference};
+use crate::span::{end_of_differences, interval, is_face};
 use itoa::Buffer;
-use rd_base::{Cell, ListOf, Memory};
+use rd_base::{Cell, Face, Glyph, ListOf, Memory};
 
 /// Adds a move of the cursor to a row and a column, from 0.
 pub(crate) fn push_move(bytes: &mut ListOf<u8>, row: u32, column: u32) -> Result<(), Memory>
@@ -22,31 +24,7 @@ pub(crate) fn push_move(bytes: &mut ListOf<u8>, row: u32, column: u32) -> Result
     Ok(())
 }
 
-/// Adds the text of a cell.
-fn push_cell(bytes: &mut ListOf<u8>, cell: &Cell) -> Result<(), Memory>
-    requires { IsPlainCell cell.now }
-    ensures { OnOk result (bytes.new ≡ bytes.old ++ text_of_cell cell.now) }
-{
-    match cell {
-        Cell::Blank(_face) => bytes.push(b' '),
-        Cell::First(glyph, _face) => bytes.push(glyph.base as u8),
-        Cell::Rest => Ok(()),
-    }
-}
-
-/// Adds the text of cells.
-fn push_text(bytes: &mut ListOf<u8>, cells: &[Cell]) -> Result<(), Memory>
-    requires { All IsPlainCell cells.now }
-    ensures { OnOk result (bytes.new ≡ bytes.old ++ text_of cells.now) }
-{
-    for cell in cells {
-        push_cell(bytes, cell)?;
-    }
-    Ok(())
-}
-
 /// Adds the bytes of a row that differs. `blank` is a blank row of its width.
-#[tactic(auto, using(crate::proofs::Spans::first_before, crate::proofs::Spans::end_within))]
 pub(crate) fn push_row(
     bytes: &mut ListOf<u8>,
     row: u32,
@@ -58,18 +36,116 @@ pub(crate) fn push_row(
     requires width { length new.now < 65535 }
     requires old { length old.now ≡ length new.now }
     requires blank { blank.now ≡ blank_row (length new.now) }
-    requires plain { All IsPlainCell new.now }
     requires differ { 0 < end_column old.now new.now }
     ensures { OnOk result (bytes.new ≡ bytes.old ++ row_bytes row old.now new.now) }
 {
-    let from = first_difference(old, new);
-    let end = end_of_differences(old, new);
+    let (from, end) = interval(old, new);
     let blank_from = from.max(end_of_differences(blank, new));
     let to = end.min(blank_from);
     push_move(bytes, row, from as u32)?;
-    push_text(bytes, &new[from..to])?;
+    let pen = push_text(bytes, &new[from..to])?;
+    push_dress(bytes, pen, Face::PLAIN)?;
     if blank_from < end {
         bytes.extend_from_slice(b"\x1b[K")?;
+    }
+    Ok(())
+}
+
+/// Adds the text of cells, by a pen that is plain, and tells the face of the pen behind it.
+fn push_text(bytes: &mut ListOf<u8>, cells: &[Cell]) -> Result<Face, Memory>
+    ensures bytes { OnOk result (bytes.new ≡ bytes.old ++ text_by plain cells.now) }
+    ensures pen { IfOk result (λ pen. pen ≡ pen_behind plain cells.now) }
+{
+    let mut pen = Face::PLAIN;
+    for cell in cells {
+        pen = push_cell(bytes, pen, cell)?;
+    }
+    Ok(pen)
+}
+
+/// Adds the text of a cell, by a pen of a face, and tells the face of the pen behind it.
+fn push_cell(bytes: &mut ListOf<u8>, pen: Face, cell: &Cell) -> Result<Face, Memory>
+    ensures bytes { OnOk result (bytes.new ≡ bytes.old ++ text_of_cell pen cell.now) }
+    ensures pen { IfOk result (λ face. face ≡ face_of pen cell.now) }
+{
+    match cell {
+        Cell::Blank(face) => {
+            push_dress(bytes, pen, *face)?;
+            bytes.push(b' ')?;
+            Ok(*face)
+        }
+        Cell::First(glyph, face) => {
+            push_dress(bytes, pen, *face)?;
+            push_glyph(bytes, glyph)?;
+            Ok(*face)
+        }
+        Cell::Rest => Ok(pen),
+    }
+}
+
+/// Adds a character and the marks that join it.
+fn push_glyph(bytes: &mut ListOf<u8>, glyph: &Glyph) -> Result<(), Memory>
+    ensures { OnOk result (bytes.new ≡ bytes.old ++ text_of_glyph glyph.now) }
+{
+    push_code(bytes, glyph.base)?;
+    let count = (glyph.count as usize).min(glyph.marks.len());
+    push_codes(bytes, &glyph.marks[..count])
+}
+
+/// Adds characters.
+fn push_codes(bytes: &mut ListOf<u8>, codes: &[u32]) -> Result<(), Memory>
+    ensures { OnOk result (bytes.new ≡ bytes.old ++ flat_map encoded codes.now) }
+{
+    for code in codes {
+        push_code(bytes, *code)?;
+    }
+    Ok(())
+}
+
+/// Adds a character in UTF-8. A number that is no scalar value has no bytes.
+fn push_code(bytes: &mut ListOf<u8>, code: u32) -> Result<(), Memory>
+    ensures { OnOk result (bytes.new ≡ bytes.old ++ encoded code) }
+{
+    match char::from_u32(code) {
+        Some(c) => {
+            let mut buffer = [0; 4];
+            bytes.extend_from_slice(c.encode_utf8(&mut buffer).as_bytes())
+        }
+        None => Ok(()),
+    }
+}
+
+/// Adds what makes a pen of one face one of another.
+fn push_dress(bytes: &mut ListOf<u8>, pen: Face, face: Face) -> Result<(), Memory>
+    ensures { OnOk result (bytes.new ≡ bytes.old ++ dress pen face) }
+{
+    if is_face(pen, face) {
+        return Ok(());
+    }
+    bytes.extend_from_slice(b"\x1b[0")?;
+    push_renditions(bytes, face)?;
+    bytes.push(b'm')
+}
+
+/// Adds the numbers of a face.
+fn push_renditions(bytes: &mut ListOf<u8>, face: Face) -> Result<(), Memory>
+    ensures { OnOk result (bytes.new ≡ bytes.old ++ flat_map parameter (renditions face)) }
+{
+    push_if(bytes, face.bold, 1)?;
+    push_if(bytes, face.underline, 4)?;
+    push_if(bytes, face.inverse, 7)?;
+    push_if(bytes, face.fg != 8, 30 + face.fg)?;
+    push_if(bytes, face.bg != 8, 40 + face.bg)
+}
+
+/// Adds a number of a sequence, where this holds.
+fn push_if(bytes: &mut ListOf<u8>, holds: bool, number: u8) -> Result<(), Memory>
+    ensures { OnOk result (bytes.new ≡ bytes.old ++ flat_map parameter (number_if holds number)) }
+{
+    if holds {
+        let mut buffer = Buffer::new();
+        bytes.push(b';')?;
+        bytes.extend_from_slice(buffer.format(number).as_bytes())?;
     }
     Ok(())
 }

@@ -1,12 +1,15 @@
 //! What an update does to the terminal that reads its bytes, and what it sends in worked cases.
 ghost use Rattle.std.specs.Prelude.{◌≡◌, ℕ, List, [], ◌∷◌, ◌++◌, codes, Option, None, Some, true, false};
+ghost use Rattle.rd_base.specs.Cells.{single};
+ghost use Rattle.rd_base.specs.Faces.{plain};
+ghost use Rattle.rd_base.specs.declared.cell.Cell.TheVariants.{First, Rest};
 ghost use Rattle.rd_term.specs.Pictures.{Picture, blank_row};
-ghost use Rattle.rd_term.specs.Terminals.{Tty, feed_bytes};
+ghost use Rattle.rd_term.specs.Terminals.{Tty, feed_bytes, cell_of};
 ghost use Rattle.rd_update.specs.Updates.{update};
 ghost use Rattle.rd_update.specs.Laws.{IsReady, IsUpdated, plain_row};
 
-/// The update law. Take a terminal that is not confused and stands between two sequences, a target of its size, and any limit
-/// of rows. Either the current screen is unknown, or the terminal's cells are its cells and the terminal's pen is plain. Then,
+/// The update law. Take a terminal that is not confused and stands between two sequences, a well-formed target of its size, and
+/// any limit of rows. Either the current screen is unknown, or the terminal's cells are its cells and the terminal's pen is plain. Then,
 /// after the bytes of the update, the terminal is not confused and stands between two sequences, its cells are those of the new
 /// current screen, its pen is plain, and where the update is done its cursor is the target's.
 pub fn update_law()
@@ -52,4 +55,26 @@ fn a_row_is_continued()
     ensures { (update (Some (record { rows = plain_row (codes "abcdefghijk ") ∷ blank_row 12 ∷ []; row = 0; column = 11 }))
         (record { rows = plain_row (codes "abcdefghijk\\") ∷ plain_row (codes "l           ") ∷ []; row = 1; column = 1 }) None).bytes
         ≡ 27 ∷ codes "[1;12H\\" ++ 27 ∷ codes "[2;1Hl" ++ 27 ∷ codes "[2;2H" }
+{}
+
+/// Faces: each cell whose face is not the pen's is dressed from nothing, and the row ends with a plain pen.
+fn faces_are_dressed()
+    ensures bold { (update None (record { rows = (cell_of 97 plain ∷ cell_of 98 (record plain { fg = 1; bold = true }) ∷ cell_of 99 plain ∷ blank_row 9) ∷ blank_row 12 ∷ []; row = 0; column = 0 }) None).bytes
+        ≡ 27 ∷ codes "[0m" ++ 27 ∷ codes "[2J" ++ 27 ∷ codes "[1;1Ha" ++ 27 ∷ codes "[0;1;31mb" ++ 27 ∷ codes "[0mc" ++ 27 ∷ codes "[1;1H" }
+    ensures colours { (update None (record { rows = (cell_of 97 (record plain { fg = 1 }) ∷ cell_of 98 (record plain { fg = 1; bg = 2 }) ∷ cell_of 99 (record plain { fg = 1 }) ∷ blank_row 9) ∷ []; row = 0; column = 0 }) None).bytes
+        ≡ 27 ∷ codes "[0m" ++ 27 ∷ codes "[2J" ++ 27 ∷ codes "[1;1H" ++ 27 ∷ codes "[0;31ma" ++ 27 ∷ codes "[0;31;42mb" ++ 27 ∷ codes "[0;31mc" ++ 27 ∷ codes "[0m" ++ 27 ∷ codes "[1;1H" }
+{}
+
+/// A character with a mark, and characters of two columns: one that gives way to two letters, and one to another, of which both
+/// columns are sent although the second does not differ.
+fn characters_are_sent_whole()
+    ensures mark { (update (Some (record { rows = blank_row 3 ∷ []; row = 0; column = 0 }))
+        (record { rows = (First (record { base = 101; marks = 769 ∷ 0 ∷ 0 ∷ 0 ∷ 0 ∷ 0 ∷ []; count = 1; width = 1 }) plain ∷ cell_of 120 plain ∷ blank_row 1) ∷ []; row = 0; column = 0 }) None).bytes
+        ≡ 27 ∷ codes "[1;1He" ++ 204 ∷ 129 ∷ 120 ∷ 27 ∷ codes "[1;1H" }
+    ensures letters { (update (Some (record { rows = (cell_of 97 plain ∷ First (single 20013 2) plain ∷ Rest ∷ cell_of 98 plain ∷ []) ∷ []; row = 0; column = 0 }))
+        (record { rows = plain_row (codes "axyb") ∷ []; row = 0; column = 0 }) None).bytes
+        ≡ 27 ∷ codes "[1;2Hxy" ++ 27 ∷ codes "[1;1H" }
+    ensures other { (update (Some (record { rows = (cell_of 97 plain ∷ First (single 20013 2) plain ∷ Rest ∷ cell_of 98 plain ∷ []) ∷ []; row = 0; column = 0 }))
+        (record { rows = (cell_of 97 plain ∷ First (single 26085 2) plain ∷ Rest ∷ cell_of 98 plain ∷ []) ∷ []; row = 0; column = 0 }) None).bytes
+        ≡ 27 ∷ codes "[1;2H" ++ 230 ∷ 151 ∷ 165 ∷ 27 ∷ codes "[1;1H" }
 {}

@@ -1,7 +1,7 @@
 //! An update that is prepared before any of it is sent, so that sending takes no memory.
-ghost use Rattle.std.specs.Prelude.{◌≡◌, ℕ, ◌+◌, ◌<◌, ◌≤◌, ◌++◌, [], length, All, Option, IfOk, OnOk, OnErr, take, drop, slice_set, replicate, slice_index_or, ◌-◌};
+ghost use Rattle.std.specs.Prelude.{◌≡◌, ℕ, ◌+◌, ◌<◌, ◌≤◌, ◌++◌, [], length, Option, IfOk, OnOk, OnErr, take, drop, slice_set, replicate, slice_index_or, ◌-◌};
 ghost use Rattle.rd_io.specs.Devices.{Writes, Rose};
-ghost use Rattle.rd_term.specs.Pictures.{Picture, IsScreen, ArePlain, IsPlainCell, blank_row, width_of, row_at};
+ghost use Rattle.rd_term.specs.Pictures.{Picture, IsScreen, blank_row, width_of, row_at};
 ghost use Rattle.rd_update.specs.Updates.{update, opening as opening_of, start, row_bytes, rows_bytes, blank_like, differs, end_of_differences as end_column};
 ghost use Rattle.rd_update.specs.Plans.{Prepared, planned, shown, HaveOneSize, sent_of, parts_from, old_row as old_row_of, IsRowOf, no_part, front_within, part_if, bytes_if};
 
@@ -56,7 +56,6 @@ impl Plan {
     /// number of times.
     pub fn prepare(alloc: Global, current: Option<&Screen>, target: &Screen) -> Result<Plan, Memory>
         requires size { HaveOneSize (shown current) target.now }
-        requires plain { ArePlain target.now.rows }
         ensures { IfOk result (λ plan. plan ≡ planned (shown current.entry) target.now) }
     {
         let blanks = [Cell::Blank(Face::PLAIN); 400];
@@ -194,7 +193,6 @@ fn push_part(
     requires width { length new.now < 65535 }
     requires old { length old.now ≡ length new.now }
     requires blank { blank.now ≡ blank_row (length new.now) }
-    requires plain { All IsPlainCell new.now }
     ensures bytes { OnOk result (bytes.new ≡ bytes.old ++ bytes_if (differs old.now new.now) (row_bytes row old.now new.now)) }
     ensures parts { OnOk result (parts.new ≡ parts.old ++ part_if (differs old.now new.now) row (length bytes.old)) }
 {
@@ -217,7 +215,6 @@ fn push_parts(
     blank: &[Cell],
 ) -> Result<(), Memory>
     requires size { HaveOneSize (shown current) target.now }
-    requires plain { ArePlain target.now.rows }
     requires blank { blank.now ≡ blank_row (width_of target.now.rows) }
     ensures bytes { OnOk result (bytes.new ≡ bytes.old ++ rows_bytes 0 None (start (shown current.entry) target.now).rows target.now.rows) }
     ensures parts { OnOk result (parts.new ≡ parts.old ++ parts_from 0 (length bytes.old) (start (shown current.entry) target.now).rows target.now.rows) }

@@ -1,7 +1,6 @@
 //! Updates that are prepared and sent with ample memory.
-ghost use Rattle.std.specs.Prelude.{◌≡◌, ◌∷◌, [], IfOk, codes};
-ghost use Rattle.rd_term.specs.Pictures.{blank_row};
-ghost use Rattle.rd_update.specs.Laws.{plain_row};
+ghost use Rattle.std.specs.Prelude.{◌≡◌, ◌≤◌, ◌∷◌, [], IfOk};
+ghost use Rattle.rd_update.specs.Plans.{shown, HaveOneSize};
 
 use super::*;
 use rd_base::{Cell, Face, Glyph, Memory};
@@ -11,9 +10,7 @@ use std::alloc::Global;
 use std::test::Fail;
 
 /// A screen of 12 columns and 3 rows with `a` and `b` at the first cells of its first two rows.
-fn two_letters(alloc: Global) -> Result<Screen, Memory>
-    ensures { IfOk result (λ screen. screen ≡ record { rows = plain_row (codes "a           ") ∷ plain_row (codes "b           ") ∷ blank_row 12 ∷ []; row = 0; column = 0 }) }
-{
+fn two_letters(alloc: Global) -> Result<Screen, Memory> {
     let mut screen = Screen::blank(alloc, 12, 3)?;
     screen.set(0, 0, Cell::First(Glyph::single(97, 1), Face::PLAIN));
     screen.set(1, 0, Cell::First(Glyph::single(98, 1), Face::PLAIN));
@@ -120,5 +117,99 @@ fn a_sink_without_room_is_a_fault(rt: HostRuntime) -> Result<(), Fail> {
     let trace = sent_within(rt.alloc(), 10, None)?;
     assert_eq!(rt; trace.sent, Err(WriteFault));
     assert_eq!(rt; trace.sink.bytes(), b"\x1b[0m\x1b[2J\x1b[".as_slice());
+    Ok(())
+}
+
+/// A screen of one row of four cells.
+fn four_cells(alloc: Global, a: Cell, b: Cell, c: Cell, d: Cell) -> Result<Screen, Memory>
+    ensures { IfOk result (λ screen. screen ≡ record { rows = (a ∷ b ∷ c ∷ d ∷ []) ∷ []; row = 0; column = 0 }) }
+{
+    let mut screen = Screen::blank(alloc, 4, 1)?;
+    screen.set(0, 0, a);
+    screen.set(0, 1, b);
+    screen.set(0, 2, c);
+    screen.set(0, 3, d);
+    Ok(screen)
+}
+
+/// A letter in a colour, on another.
+fn letter(code: u8, fg: u8, bg: u8) -> Cell
+    requires fg { fg ≤ 8 }
+    requires bg { bg ≤ 8 }
+{
+    Cell::First(
+        Glyph::single(code as u32, 1),
+        Face {
+            fg,
+            bg,
+            ..Face::PLAIN
+        },
+    )
+}
+
+/// What an update sends, with ample room.
+fn sent_to(alloc: Global, current: Option<&Screen>, target: &Screen) -> Result<MemSink, Memory>
+    requires { HaveOneSize (shown current) target.now }
+{
+    let plan = Plan::prepare(alloc, current, target)?;
+    let mut sink = MemSink::with_room(alloc, 200)?;
+    match plan.send(&mut sink, None) {
+        Ok(_sent) => Ok(sink),
+        Err(_fault) => Ok(sink),
+    }
+}
+
+#[test]
+fn a_wide_character_gives_way(rt: HostRuntime) -> Result<(), Fail> {
+    let alloc = rt.alloc();
+    let wide = Cell::First(Glyph::single(0x4e2d, 2), Face::PLAIN);
+    let old = four_cells(alloc, letter(97, 8, 8), wide, Cell::Rest, letter(98, 8, 8))?;
+    let new = four_cells(
+        alloc,
+        letter(97, 8, 8),
+        letter(120, 8, 8),
+        letter(121, 8, 8),
+        letter(98, 8, 8),
+    )?;
+    let sink = sent_to(alloc, Some(&old), &new)?;
+    assert_eq!(rt; sink.bytes(), b"\x1b[1;2Hxy\x1b[1;1H".as_slice());
+    let sink = sent_to(alloc, Some(&new), &old)?;
+    assert_eq!(rt; sink.bytes(), b"\x1b[1;2H\xe4\xb8\xad\x1b[1;1H".as_slice());
+    Ok(())
+}
+
+#[test]
+fn faces_and_marks_are_sent(rt: HostRuntime) -> Result<(), Fail> {
+    let alloc = rt.alloc();
+    let blank = Cell::Blank(Face::PLAIN);
+    let target = four_cells(
+        alloc,
+        letter(97, 1, 8),
+        letter(98, 1, 2),
+        letter(99, 1, 8),
+        blank,
+    )?;
+    let sink = sent_to(alloc, None, &target)?;
+    assert_eq!(rt;
+        sink.bytes(),
+        b"\x1b[0m\x1b[2J\x1b[1;1H\x1b[0;31ma\x1b[0;31;42mb\x1b[0;31mc\x1b[0m\x1b[1;1H".as_slice()
+    );
+    let accented = Glyph {
+        marks: [0x301, 0, 0, 0, 0, 0],
+        count: 1,
+        ..Glyph::single(101, 1)
+    };
+    let marked = four_cells(
+        alloc,
+        Cell::First(accented, Face::PLAIN),
+        letter(120, 8, 8),
+        Cell::Blank(Face::PLAIN),
+        Cell::Blank(Face::PLAIN),
+    )?;
+    let sink = sent_to(alloc, None, &marked)?;
+    assert_eq!(rt;
+        sink.bytes(),
+        b"\x1b[0m\x1b[2J\x1b[1;1He\xcc\x81x\x1b[1;1H".as_slice()
+    );
     Ok(())
 }

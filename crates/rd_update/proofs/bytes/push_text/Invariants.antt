@@ -1,7 +1,11 @@
 use Rattle.std.proofs.Common.{◌≡◌, ◌++◌, drop}
-use Rattle.rd_update.specs.Updates.{text_of}
+use Rattle.rd_base.specs.Faces.{plain}
+use Rattle.rd_update.specs.Updates.{text_by, pen_behind}
 use Rattle.rd_update.proofs.bytes.push_text.Given as goal
 
--- the bytes so far and the text of the other cells
+-- the bytes so far and the text of the other cells, and the pen behind them
 abbrev pub invariant-loop-cell : goal.invariant-loop-cell
-invariant-loop-cell l = l.bytes ++ text_of (drop l.cell-index l.cells) ≡ l.fn.bytes ++ text_of l.cells
+invariant-loop-cell l = record {
+  bytes : l.bytes ++ text_by l.pen (drop l.cell-index l.cells) ≡ l.fn.bytes ++ text_by plain l.cells;
+  pen : pen_behind l.pen (drop l.cell-index l.cells) ≡ pen_behind plain l.cells;
+}

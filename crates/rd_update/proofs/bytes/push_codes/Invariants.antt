@@ -1,0 +1,8 @@
+use Rattle.std.proofs.Common.{◌≡◌, ◌++◌, drop}
+use Rattle.std.specs.List.{flat_map}
+use Rattle.rd_update.specs.Updates.{encoded}
+use Rattle.rd_update.proofs.bytes.push_codes.Given as goal
+
+-- the bytes so far and those of the other codes
+abbrev pub invariant-loop-code : goal.invariant-loop-code
+invariant-loop-code l = l.bytes ++ flat_map encoded (drop l.code-index l.codes) ≡ l.fn.bytes ++ flat_map encoded l.codes
