@@ -24,6 +24,7 @@ use Rattle.rd_session.specs.Sessions.{IsBuilt, is_frame}
 use Rattle.rd_play.specs.Runs.{Turn, Standing, Effect, World, opened, turn, after, terminal_after, ShowsEach, effect, effect_of_reading, effect_by, asked, is_blank, stepped, quiet, refused, unshown, redisplayed}
 use Rattle.rd_term.specs.Pictures.{width_of}
 use Rattle.rd_update.specs.Plans.{HaveOneSize}
+use Rattle.rd_term.proofs.Wholeness.{whole, coloured}
 use Rattle.rd_update.proofs.Parts.{after-done}
 use Rattle.rd_update.proofs.Reaching.{updated}
 use Rattle.rd_script.proofs.InForm.{reading-in_form}
@@ -99,7 +100,12 @@ grid-known w rows h k d p =
 
 ready : (laws : StateLaws) (place : Standing) (t : Tty) → IsSound place t → IsReady place.state.width place.state.height place.current (laid_out place.state).picture t
 ready laws place t h =
-    let l = laws.laid place.state h.built in record {
+    let l = laws.laid place.state h.built in
+    let target = (laid_out place.state).picture in
+    let rows : 0 < length target.rows = omega (arith, l.size.row, l.size.rows) in
+    let row : target.row < length target.rows = omega (arith, l.size.row, l.size.rows) in
+    let wide = width-of place.state.width target.rows rows l.size.each in
+    record {
       sure = h.sure;
       between = h.between;
       rows = h.rows;
@@ -107,7 +113,8 @@ ready laws place t h =
       wide = h.built.valid.frame.narrow;
       tall = h.built.valid.frame.low;
       size = l.size;
-      cells = l.cells;
+      whole = whole target l.cells row (omega (arith, l.size.column, wide));
+      colours = coloured target.rows l.cells;
       now = h.now;
     }
 

@@ -1,6 +1,5 @@
 use Rattle.std.proofs.Common.{◌≡◌, ℕ, ◌∙◌, ap, subst, sym, arith}
 use Rattle.rd_state.specs.declared.window.WindowState.{WindowState}
-use Rattle.rd_term.specs.Pictures.{Picture, ArePlain}
 use Rattle.rd_text.specs.Texts.{IsText, IsAccessible}
 use Rattle.rd_update.specs.Plans.{HaveOneSize, planned, shown}
 use Rattle.rd_session.proofs.LaidLemmas.{shown-right}
@@ -41,8 +40,8 @@ paint-requires-clause-showable g c =
       ),
     )
 
-pub prepare-requires-clause-size : goal.prepare-requires-clause-size
-prepare-requires-clause-size g c =
+pub prepare-requires : goal.prepare-requires
+prepare-requires g c =
     let s = c.self.inside.state in
     let view : c.in_ok-matrix.matrix ≡ (laid_out s).view =
     laid-view s c.text-text.result.now c.window-window.result c.frame-width.result.0 c.frame-width.result.1 c.in_ok-matrix.matrix c.text-text.ensures c.window-window.ensures c.frame-width.ensures.width c.frame-width.ensures.height c.in_ok-matrix.ensures in
@@ -52,17 +51,7 @@ prepare-requires-clause-size g c =
     let high = c.self.invariant.0.valid.frame.high in
     let current : shown c.as_ref.result ≡ c.self.inside.screen = c.as_ref.ensures.value in
     let fits : HaveOneSize c.self.inside.screen (laid_out s).picture = one-size c.self.inside.screen s (laid_out s).picture (omega arith) c.self.invariant.1 sized.0 in
-    subst (λ p. HaveOneSize (shown c.as_ref.result) p) (sym target) (subst (λ o. HaveOneSize o (laid_out s).picture) (sym current) fits)
-
-pub prepare-requires-clause-plain : goal.prepare-requires-clause-plain
-prepare-requires-clause-plain g c =
-    let s = c.self.inside.state in
-    let view : c.in_ok-matrix.matrix ≡ (laid_out s).view =
-    laid-view s c.text-text.result.now c.window-window.result c.frame-width.result.0 c.frame-width.result.1 c.in_ok-matrix.matrix c.text-text.ensures c.window-window.ensures c.frame-width.ensures.width c.frame-width.ensures.height c.in_ok-matrix.ensures in
-    let target : c.in_ok-target.target ≡ (laid_out s).picture =
-    laid-picture s c.window-window.result c.frame-width.result.0 c.frame-width.result.1 c.in_ok-matrix.matrix c.in_ok-target.target c.window-window.ensures c.frame-width.ensures.width c.frame-width.ensures.height view c.in_ok-target.ensures in
-    let sized = c.layouts_stay_built.ensures.size s c.self.invariant.0 in
-    subst (λ (p : Picture). ArePlain p.rows) (sym target) sized.1
+    record { size = subst (λ p. HaveOneSize (shown c.as_ref.result) p) (sym target) (subst (λ o. HaveOneSize o (laid_out s).picture) (sym current) fits) }
 
 pub returns-clause-matrix : goal.returns-clause-matrix
 returns-clause-matrix g c =
