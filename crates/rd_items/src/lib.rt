@@ -16,3 +16,6 @@ pub use item::{Item, ItemKind};
 pub use items::Items;
 pub use laws::{items_of_hidden_text, items_where_overlays_meet};
 pub use piece::parts_of;
+
+#[cfg(test)]
+mod tests;
