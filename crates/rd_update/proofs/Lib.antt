@@ -1,5 +1,6 @@
 pub mod Dressing
 pub mod Feeding
+pub mod Intervals
 pub mod Parts
 pub mod Reaching
 pub mod Rows

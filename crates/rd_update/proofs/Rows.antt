@@ -215,6 +215,13 @@ text-ends old new k m same e le = elim (cases_lt k (end_of old new)) [
       ap (λ j. later_columns (map Some (drop j new))) is ∙ (end-whole old new same).1
 ]
 
+-- behind the text the row is blank, or as it was
+rest-blank : (new : List Cell) (m n : ℕ) → used new ≤ m → length new - m ≡ n → map Some (drop m new) ≡ replicate n (Some blank)
+rest-blank new m n past e = ap (map Some) (blank-from new m past) ∙ map-replicate Some (length new - m) blank ∙ ap (λ k. replicate k (Some blank)) e
+
+rest-same : (old new : List Cell) (m : ℕ) → length old ≡ length new → m ≡ end_of old new → map Some (drop m new) ≡ map Some (drop (end_of old new) old)
+rest-same old new m same is = ap (map Some) (ap (λ n. drop n new) is ∙ end-same old new same)
+
 pub row_fed : (above below : Rows) (old new : List Cell) (cursor : Option (ℕ × ℕ)) (wait : Bool) (latest : Option (ℕ × ℕ)) (w : ℕ)
     → length above < 65535 → length old ≡ w → length new ≡ w → w ≤ 400 → IsRowAfter 0 new → AllByRecursion IsColoured new → differs old new ≡ true
     → Stands (above ++ map Some new ∷ below) (feed_bytes (standing (above ++ map Some old ∷ below) cursor wait (Some plain) latest) (row_bytes (length above) old new))
@@ -262,11 +269,11 @@ row_fed above below old new cursor wait latest w few old_wide new_wide narrow ro
     let gone : nat_lt k (end_of old new) ≡ true → (length cells < length mid) × (map Some (drop m new) ≡ replicate (length mid - length cells + length back) (Some blank)) = λ t.
     let less : k < end_of old new = grind (arith, nat_tests) in
     let n : length new - m ≡ length mid - length cells + length back = omega (arith, cells_length, mid_length, back_length) in
-    (omega (arith, cells_length, mid_length), ap (map Some) (blank-from new m (omega arith)) ∙ map-replicate Some (length new - m) blank ∙ ap (λ n. replicate n (Some blank)) n) in
+    (omega (arith, cells_length, mid_length), rest-blank new m (length mid - length cells + length back) (omega arith) n) in
     let kept : nat_lt k (end_of old new) ≡ false → (length cells ≡ length mid) × (map Some (drop m new) ≡ back) = λ f.
     let more : end_of old new ≤ k = grind (arith, nat_tests) in
     let is : m ≡ end_of old new = omega arith in
-    (omega (arith, cells_length, mid_length), ap (map Some) (ap (λ n. drop n new) is ∙ end-same old new same)) in
+    (omega (arith, cells_length, mid_length), rest-same old new m same is) in
     let text = text_by plain cells in
     let ending = dress (pen_behind plain cells) plain ++ (if nat_lt k (end_of old new) then erase_to_end else []) in
     let ended = row-end above below front back (length mid) cells (drop m new) (nat_lt k (end_of old new)) _ fed gone kept in

@@ -1,11 +1,11 @@
 -- What an update asks of the terminal that reads its bytes, and what it then shows.
-use Rattle.std.specs.Prelude.{◌≡◌, ℕ, ◌≤◌, true, false, List, length, Option, None, Some, map}
+use Rattle.std.specs.Prelude.{◌≡◌, ℕ, ◌<◌, ◌≤◌, true, false, List, length, Option, None, Some, map, slice_index_or}
 use Rattle.rd_base.specs.Faces.{plain}
 use Rattle.rd_base.specs.declared.cell.Cell.{Cell}
 use Rattle.rd_term.specs.Pictures.{Picture, IsGrid, IsOfSize, IsWellFormed, AreColoured}
 use Rattle.rd_term.specs.Terminals.{Tty, known, cell_of}
 use Rattle.rd_term.specs.declared.reading.Reading.TheVariants.{Between}
-use Rattle.rd_update.specs.Updates.{Update}
+use Rattle.rd_update.specs.Updates.{Update, same_cell, goes_on}
 
 -- a known current screen is what the terminal shows, and the terminal's pen is plain
 abbrev pub IsCurrent : ℕ → ℕ → Option Picture → Tty → Type 0
@@ -35,6 +35,20 @@ pub record IsUpdated (width height : ℕ) (u : Update) (target : Picture) (t : T
   pub cells : t.rows ≡ known u.screen.rows
   pub pen : t.pen ≡ Some plain
   pub cursor : u.done ≡ true → t.cursor ≡ Some (target.row, target.column)
+
+-- these columns hold all those at which two rows differ
+abbrev pub HoldsDifferences : List Cell → List Cell → ℕ → ℕ → Type 0
+HoldsDifferences old new from to = (k : ℕ) (d : Cell) → k < length new → same_cell (slice_index_or old k d) (slice_index_or new k d) ≡ false → (from ≤ k) × (k < to)
+
+-- no character of either row goes on at the first of these columns, nor at the one behind them
+abbrev pub CutsNone : List Cell → List Cell → ℕ → ℕ → Type 0
+CutsNone old new from to = (goes_on old new from ≡ false) × (goes_on old new to ≡ false)
+
+-- the least interval that holds all differences and cuts no character
+pub record IsLeastInterval (old new : List Cell) (from to : ℕ) : Type 0 where
+  pub holds : HoldsDifferences old new from to
+  pub whole : CutsNone old new from to
+  pub least : (x y : ℕ) → HoldsDifferences old new x y → CutsNone old new x y → (x ≤ from) × (to ≤ y)
 
 -- a row that shows a text of ASCII in the plain face
 abbrev pub plain_row : List ℕ → List Cell

@@ -1,12 +1,14 @@
 //! What an update does to the terminal that reads its bytes, and what it sends in worked cases.
-ghost use Rattle.std.specs.Prelude.{◌≡◌, ℕ, List, [], ◌∷◌, ◌++◌, codes, Option, None, Some, true, false};
+ghost use Rattle.std.specs.Prelude.{◌≡◌, ◌<◌, ℕ, List, length, [], ◌∷◌, ◌++◌, codes, Option, None, Some, true, false};
 ghost use Rattle.rd_base.specs.Cells.{single};
 ghost use Rattle.rd_base.specs.Faces.{plain};
+ghost use Rattle.rd_base.specs.Glyphs.{IsRowAfter};
+ghost use Rattle.rd_base.specs.declared.cell.Cell.{Cell};
 ghost use Rattle.rd_base.specs.declared.cell.Cell.TheVariants.{First, Rest};
 ghost use Rattle.rd_term.specs.Pictures.{Picture, blank_row};
 ghost use Rattle.rd_term.specs.Terminals.{Tty, feed_bytes, cell_of};
-ghost use Rattle.rd_update.specs.Updates.{update};
-ghost use Rattle.rd_update.specs.Laws.{IsReady, IsUpdated, plain_row};
+ghost use Rattle.rd_update.specs.Updates.{update, end_of_differences, begin_of, end_of};
+ghost use Rattle.rd_update.specs.Laws.{IsReady, IsUpdated, IsLeastInterval, plain_row};
 
 /// The update law. Take a terminal that is not confused and stands between two sequences, a well-formed target of its size, and
 /// any limit of rows. Either the current screen is unknown, or the terminal's cells are its cells and the terminal's pen is plain. Then,
@@ -16,6 +18,13 @@ pub fn update_law()
     ensures { (width height : ℕ) (current : Option Picture) (target : Picture) (limit : Option ℕ) (t : Tty)
         → IsReady width height current target t
         → IsUpdated width height (update current target limit) target (feed_bytes t (update current target limit).bytes) }
+{}
+
+/// Of a row that differs the least interval is sent that holds all columns at which it differs, and cuts no character of the row
+/// as it is or as it becomes.
+pub fn intervals_are_least()
+    ensures { (old new : List Cell) → length old ≡ length new → IsRowAfter 0 old → IsRowAfter 0 new → 0 < end_of_differences old new
+        → IsLeastInterval old new (begin_of old new) (end_of old new) }
 {}
 
 /// An unknown screen of 12 columns and 3 rows is repainted: a full row, a row of one character, a blank row.

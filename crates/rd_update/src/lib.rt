@@ -6,7 +6,7 @@ mod law;
 mod plan;
 mod span;
 
-pub use law::update_law;
+pub use law::{intervals_are_least, update_law};
 pub use plan::{Plan, Sent, WriteFault};
 
 #[cfg(test)]

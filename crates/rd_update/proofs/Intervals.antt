@@ -1,0 +1,172 @@
+-- The interval of a row that is sent is the least one that holds all differences and cuts no character.
+use Rattle.std.proofs.Common.{◌≡◌, if◌then◌else◌, ◌⊎◌, inl, inr, ◌||◌, ℕ, zero, suc, ◌+◌, ◌-◌, ◌<◌, ◌≤◌, Bool, true, false, List, [], ◌∷◌, length, get_or, drop, refl, sym, ap, ap₂, ◌∙◌, arith}
+use Rattle.std.proofs.lemmas.List.{get_or-drop, length-drop}
+use Rattle.std.proofs.lemmas.Bool.{cases_eq, cases_lt}
+use Rattle.rd_base.specs.Glyphs.{IsRowAfter}
+use Rattle.rd_base.specs.declared.cell.Cell.{Cell}
+use Rattle.rd_base.specs.declared.cell.Cell.TheVariants.{Blank, First, Rest}
+use Rattle.rd_term.specs.Pictures.{blank}
+use Rattle.rd_update.specs.Laws.{IsLeastInterval}
+use Rattle.rd_update.specs.Updates.{same_cell, first_difference, end_before, end_of_differences, is_rest, goes_on, begin_before, going_on, begin_of, end_of}
+use Rattle.rd_update.proofs.Spans.{first_before, end_within, begin-le, begin-is, going-stops}
+
+-- ---- the first and the last difference
+
+first-same-step : (same : Bool) (k n : ℕ) (x y d : Cell) (xs ys : List Cell) → same_cell x y ≡ same → (k < n → same_cell (get_or xs k d) (get_or ys k d) ≡ true)
+    → suc k < (if same then suc n else 0) → same_cell (get_or xs k d) (get_or ys k d) ≡ true
+first-same-step true k n x y d xs ys e h lt = h (omega arith)
+first-same-step false k n x y d xs ys e h lt = absurd (omega arith)
+
+first-same-here : (same : Bool) (n : ℕ) (x y : Cell) → same_cell x y ≡ same → 0 < (if same then suc n else 0) → same_cell x y ≡ true
+first-same-here true n x y e lt = e
+first-same-here false n x y e lt = absurd (omega arith)
+
+-- before the first difference cells are the same
+before-first : (k : ℕ) (d : Cell) (old new : List Cell) → k < first_difference old new → same_cell (get_or old k d) (get_or new k d) ≡ true
+before-first k d [] [] lt = absurd (omega arith)
+before-first k d [] (y ∷ ys) lt = absurd (omega arith)
+before-first k d (x ∷ xs) [] lt = absurd (omega arith)
+before-first zero d (x ∷ xs) (y ∷ ys) lt = first-same-here (same_cell x y) (first_difference xs ys) x y refl lt
+before-first (suc k) d (x ∷ xs) (y ∷ ys) lt = first-same-step (same_cell x y) k (first_difference xs ys) x y d xs ys refl (before-first k d xs ys) lt
+
+behind-step : (same : Bool) (k n : ℕ) → end_before same n ≤ suc k → n ≤ k
+behind-step true k zero le = omega arith
+behind-step false k zero le = omega arith
+behind-step true k (suc n) le = omega arith
+behind-step false k (suc n) le = omega arith
+
+behind-here : (same : Bool) (n : ℕ) (x y : Cell) → same_cell x y ≡ same → end_before same n ≤ 0 → same_cell x y ≡ true
+behind-here true n x y e le = e
+behind-here false zero x y e le = absurd (omega arith)
+behind-here false (suc n) x y e le = absurd (omega arith)
+
+-- from the end of the differences on cells are the same
+behind-last : (k : ℕ) (d : Cell) (old new : List Cell) → length old ≡ length new → k < length new → end_of_differences old new ≤ k → same_cell (get_or old k d) (get_or new k d) ≡ true
+behind-last k d [] [] n lt le = absurd (omega arith)
+behind-last k d [] (y ∷ ys) n lt le = absurd (cc)
+behind-last k d (x ∷ xs) [] n lt le = absurd (cc)
+behind-last zero d (x ∷ xs) (y ∷ ys) n lt le = behind-here (same_cell x y) (end_of_differences xs ys) x y refl le
+behind-last (suc k) d (x ∷ xs) (y ∷ ys) n lt le = behind-last k d xs ys (omega arith) (omega arith) (behind-step (same_cell x y) k (end_of_differences xs ys) le)
+
+-- at the first difference, and at the last, cells differ
+first-differs-step : (same : Bool) (n e : ℕ) (x y d : Cell) (xs ys : List Cell) → same_cell x y ≡ same → (0 < e → same_cell (get_or xs n d) (get_or ys n d) ≡ false)
+    → 0 < end_before same e → same_cell (get_or (x ∷ xs) (if same then suc n else 0) d) (get_or (y ∷ ys) (if same then suc n else 0) d) ≡ false
+first-differs-step true n zero x y d xs ys s h p = absurd (omega arith)
+first-differs-step true n (suc e) x y d xs ys s h p = h (omega arith)
+first-differs-step false n e x y d xs ys s h p = s
+
+first-differs : (d : Cell) (old new : List Cell) → 0 < end_of_differences old new → same_cell (get_or old (first_difference old new) d) (get_or new (first_difference old new) d) ≡ false
+first-differs d [] [] p = absurd (omega arith)
+first-differs d [] (y ∷ ys) p = absurd (omega arith)
+first-differs d (x ∷ xs) [] p = absurd (omega arith)
+first-differs d (x ∷ xs) (y ∷ ys) p = first-differs-step (same_cell x y) (first_difference xs ys) (end_of_differences xs ys) x y d xs ys refl (first-differs d xs ys) p
+
+last-differs-step : (same : Bool) (e j : ℕ) (x y d : Cell) (xs ys : List Cell) → same_cell x y ≡ same → ((j : ℕ) → suc j ≡ e → same_cell (get_or xs j d) (get_or ys j d) ≡ false)
+    → suc j ≡ end_before same e → same_cell (get_or (x ∷ xs) j d) (get_or (y ∷ ys) j d) ≡ false
+last-differs-step true zero j x y d xs ys s h p = absurd (omega arith)
+last-differs-step false zero zero x y d xs ys s h p = s
+last-differs-step false zero (suc j) x y d xs ys s h p = absurd (omega arith)
+last-differs-step true (suc e) zero x y d xs ys s h p = absurd (omega arith)
+last-differs-step false (suc e) zero x y d xs ys s h p = absurd (omega arith)
+last-differs-step true (suc e) (suc j) x y d xs ys s h p = h j (omega arith)
+last-differs-step false (suc e) (suc j) x y d xs ys s h p = h j (omega arith)
+
+last-differs : (d : Cell) (old new : List Cell) (j : ℕ) → suc j ≡ end_of_differences old new → same_cell (get_or old j d) (get_or new j d) ≡ false
+last-differs d [] [] j p = absurd (omega arith)
+last-differs d [] (y ∷ ys) j p = absurd (omega arith)
+last-differs d (x ∷ xs) [] j p = absurd (omega arith)
+last-differs d (x ∷ xs) (y ∷ ys) j p = last-differs-step (same_cell x y) (end_of_differences xs ys) j x y d xs ys refl (last-differs d xs ys) p
+
+-- ---- columns at which no character goes on
+
+begin-greatest-step : (old new : List Cell) (x column : ℕ) (b : Bool) → goes_on old new (suc column) ≡ b → goes_on old new x ≡ false
+    → (x ≤ column → x ≤ begin_before old new column) → x ≤ suc column → x ≤ (if b then begin_before old new column else suc column)
+begin-greatest-step old new x column false e f h le = le
+begin-greatest-step old new x column true e f h le = elim (cases_eq x (suc column)) [
+  | inl same ↦ absurd (let a : true ≡ false = sym e ∙ ap (goes_on old new) (sym same) ∙ f in cc)
+  | inr other ↦ h (omega (arith, le, other))
+]
+
+begin-greatest : (old new : List Cell) (x column : ℕ) → goes_on old new x ≡ false → x ≤ column → x ≤ begin_before old new column
+begin-greatest old new x zero f le = le
+begin-greatest old new x (suc column) f le = begin-greatest-step old new x column (goes_on old new (suc column)) refl f (begin-greatest old new x column f) le
+
+going-least-step : (b : Bool) (n k : ℕ) → n ≤ k → (if b then suc n else 0) ≤ suc k
+going-least-step true n k le = omega arith
+going-least-step false n k le = omega arith
+
+going-least-here : (b : Bool) (n : ℕ) → b ≡ false → (if b then suc n else 0) ≤ 0
+going-least-here true n e = absurd (cc)
+going-least-here false n e = omega arith
+
+going-least : (xs ys : List Cell) (k : ℕ) → goes_on xs ys k ≡ false → going_on xs ys ≤ k
+going-least [] [] k e = omega arith
+going-least [] (y ∷ ys) k e = omega arith
+going-least (x ∷ xs) [] k e = omega arith
+going-least (x ∷ xs) (y ∷ ys) zero e = going-least-here (is_rest x || is_rest y) (going_on xs ys) e
+going-least (x ∷ xs) (y ∷ ys) (suc k) e = going-least-step (is_rest x || is_rest y) (going_on xs ys) k (going-least xs ys k e)
+
+goes-drop : (old new : List Cell) (n k : ℕ) → goes_on (drop n old) (drop n new) k ≡ goes_on old new (n + k)
+goes-drop old new n k = ap₂ (λ a b. is_rest a || is_rest b) (get_or-drop n old k blank) (get_or-drop n new k blank)
+
+-- a row of whole characters begins with none that goes on
+row-begins : (cells : List Cell) → IsRowAfter 0 cells → is_rest (get_or cells 0 blank) ≡ false
+row-begins [] h = refl
+row-begins (Blank f ∷ cells) h = refl
+row-begins (First g f ∷ cells) h = refl
+row-begins (Rest ∷ cells) h = absurd h
+
+going-zero-step : (b : Bool) (n : ℕ) → (if b then suc n else 0) ≡ 0 → b ≡ false
+going-zero-step true n e = absurd (omega arith)
+going-zero-step false n e = refl
+
+going-zero : (xs ys : List Cell) → length xs ≡ length ys → going_on xs ys ≡ 0 → goes_on xs ys 0 ≡ false
+going-zero [] [] n e = refl
+going-zero [] (y ∷ ys) n e = absurd (cc)
+going-zero (x ∷ xs) [] n e = absurd (cc)
+going-zero (x ∷ xs) (y ∷ ys) n e = going-zero-step (is_rest x || is_rest y) (going_on xs ys) e
+
+begin-cuts-none : (old new : List Cell) (column : ℕ) → IsRowAfter 0 old → IsRowAfter 0 new → (column ≡ 0) ⊎ (goes_on old new column ≡ false) → goes_on old new column ≡ false
+begin-cuts-none old new column h k (inl e) =
+    let both : goes_on old new 0 ≡ false = ap₂ (λ a b. a || b) (row-begins old h) (row-begins new k) in
+    ap (goes_on old new) e ∙ both
+begin-cuts-none old new column h k (inr e) = e
+
+-- ---- the interval
+
+pub interval-least : (old new : List Cell) → length old ≡ length new → IsRowAfter 0 old → IsRowAfter 0 new → 0 < end_of_differences old new → IsLeastInterval old new (begin_of old new) (end_of old new)
+interval-least old new same h k some =
+    let first = first_difference old new in
+    let last = end_of_differences old new in
+    let more = going_on (drop last old) (drop last new) in
+    let le = begin-le old new (first_difference old new) in
+    let long : length (drop last old) ≡ length (drop last new) = length-drop last old ∙ ap (λ n. n - last) same ∙ sym (length-drop last new) in
+    let longer : length (drop more (drop last old)) ≡ length (drop more (drop last new)) = length-drop more (drop last old) ∙ ap (λ n. n - more) long ∙ sym (length-drop more (drop last new)) in
+    let zero_more : more + 0 ≡ more = omega arith in
+    let at_end : goes_on old new (end_of old new) ≡ false =
+    sym (goes-drop old new last more) ∙ sym (ap (goes_on (drop last old) (drop last new)) zero_more) ∙ sym (goes-drop (drop last old) (drop last new) more 0)
+    ∙ going-zero (drop more (drop last old)) (drop more (drop last new)) longer (going-stops (drop last old) (drop last new)) in
+    record {
+      holds = λ j d lt e. (
+        elim (cases_lt j (first_difference old new)) [
+          | inl less ↦ absurd (let a : true ≡ false = sym (before-first j d old new less) ∙ e in cc)
+          | inr past ↦ omega (arith, le, past)
+        ],
+        elim (cases_lt j (end_of_differences old new)) [
+          | inl less ↦ omega (arith, less)
+          | inr past ↦ absurd (let a : true ≡ false = sym (behind-last j d old new same lt past) ∙ e in cc)
+        ],
+      );
+      whole = (begin-cuts-none old new (begin_of old new) h k (begin-is old new first), at_end);
+      least = λ from to holds none.
+          let inside = end_within old new in
+          let order = first_before old new some in
+          let from_first = holds first blank (omega (arith, order, inside)) (first-differs blank old new some) in
+          let j = last - 1 in
+          let next : suc (last - 1) ≡ end_of_differences old new = omega (arith, some) in
+          let to_last = holds j blank (omega (arith, inside, next)) (last-differs blank old new j next) in
+          let past : end_of_differences old new + (to - end_of_differences old new) ≡ to = omega (arith, to_last.1, next) in
+          let free : goes_on (drop last old) (drop last new) (to - last) ≡ false = goes-drop old new last (to - last) ∙ ap (goes_on old new) past ∙ none.1 in
+          let few = going-least (drop last old) (drop last new) (to - last) free in
+          (begin-greatest old new from first none.0 from_first.0, omega (arith, few, past));
+    }
