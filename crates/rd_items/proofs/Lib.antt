@@ -1,5 +1,7 @@
 mod Alike
 mod Cuts
+mod Reach
 mod Runs
 mod Steps
 mod Strings
+mod Tiling

@@ -84,7 +84,7 @@ ends-by false c e f = cc
 end-char : (s : BufferValue) → accessible_char s s.text.end ≡ None
 end-char s = grind (arith, nat_tests)
 
-end-ends : (s : BufferValue) → is_ender s s.text.end ≡ true
+pub end-ends : (s : BufferValue) → is_ender s s.text.end ≡ true
 end-ends s = ends-by (is_open (showing_at s s.text.end)) (accessible_char s s.text.end) (end-open s) (end-char s)
 
 pub before-end : (s : BufferValue) (p : ℕ) → p ≤ s.text.end → is_ender s p ≡ false → p < s.text.end

@@ -37,8 +37,9 @@ impl Items {
     ghost use Rattle.rd_items.specs.Pieces.{scene_of};
     ghost use Rattle.rd_items.specs.Items.{items_of, AreMeasuredItems};
 
-    /// The items of the block that starts at a position, in order of position. It costs the look-ups of the properties and of
-    /// the strings at each of the block's positions.
+    /// The items of the block that starts at a position, in order of position; of a position inside a block, those from there
+    /// on. It costs a look at each of the block's characters, and the look-ups of the properties and of the overlays' strings
+    /// wherever a property changes or an overlay starts or ends.
     pub fn new(alloc: Global, view: &View, start: Pos) -> Result<Items, Memory>
         requires { IsAccessible view.now.state.now.text start }
         ensures value { IfOk result (λ items. items ≡ items_of (meaning view.now.state.now) (scene_of view.now) start) }

@@ -1,5 +1,10 @@
 //! The definitions on worked examples.
-ghost use Rattle.std.specs.Prelude.{◌≡◌, [], ◌∷◌};
+ghost use Rattle.std.specs.Prelude.{◌≡◌, ℕ, ◌+◌, length, [], ◌∷◌};
+ghost use Rattle.rd_props.specs.Buffers.{BufferValue};
+ghost use Rattle.rd_items.specs.Readings.{reading};
+ghost use Rattle.rd_items.specs.Blocks.{IsBlock};
+ghost use Rattle.rd_items.specs.Pieces.{Scene};
+ghost use Rattle.rd_items.specs.Covers.{Tile};
 ghost use Rattle.rd_base.specs.declared.class.Class.TheVariants.{S, B};
 ghost use Rattle.rd_objects.specs.Things.{nothing_made};
 ghost use Rattle.rd_objects.specs.declared.run.Spec.TheVariants.{Width};
@@ -18,4 +23,15 @@ pub fn items_where_overlays_meet()
 pub fn items_of_hidden_text()
     ensures hidden { items_of (three_characters [] [] (put_once 1 4 7) []) (alone (three_characters [] [] (put_once 1 4 7) []) nothing_made) 1 ≡ record { class = B; kind = Ender; at = 4; from = 1; to = 5 } ∷ [] }
     ensures replaced { items_of (three_characters [] (put_once 1 4 0) [] []) (alone (three_characters [] (put_once 1 4 0) [] []) no_columns) 1 ≡ record { class = S; kind = Space (Width 0); at = 1; from = 1; to = 4 } ∷ record { class = B; kind = Ender; at = 4; from = 4; to = 5 } ∷ [] }
+{}
+
+/// What is read of a block has one entry for each of its positions, its ender's included. The call does nothing.
+pub fn blocks_are_read_whole()
+    ensures { (s : BufferValue) (from to : ℕ) → IsBlock s from to → from + length (reading s from) ≡ to }
+{}
+
+/// The items of a block cover each of its positions once: each covers none, or goes on where the last that covers any ended,
+/// from the block's first position to its ender. The call does nothing.
+pub fn items_cover_their_block()
+    ensures { (s : BufferValue) (scene : Scene) (from to : ℕ) → IsBlock s from to → Tile from to (items_of s scene from) }
 {}

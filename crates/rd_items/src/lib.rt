@@ -14,7 +14,9 @@ mod walk;
 pub use block::block_at;
 pub use item::{Item, ItemKind};
 pub use items::Items;
-pub use laws::{items_of_hidden_text, items_where_overlays_meet};
+pub use laws::{
+    blocks_are_read_whole, items_cover_their_block, items_of_hidden_text, items_where_overlays_meet,
+};
 pub use piece::parts_of;
 
 #[cfg(test)]
