@@ -1,17 +1,29 @@
 -- An op that a line says is in form.
-use Rattle.std.proofs.Common.{◌≡◌, ℕ, ◌≤◌, ◌&&◌, Bool, true, false, List, ◌∷◌, Option, None, Some, Result, Ok, Err, IsTrue, refl, sym, ap, subst, ◌∙◌, arith, unwrap_or, option_and_then, option_map, if◌then◌else◌, nat_le, chars, is_some, true≢false, codes}
+use Rattle.std.proofs.Common.{◌≡◌, ℕ, suc, ◌≤◌, ◌&&◌, Bool, true, false, pos, List, [], ◌∷◌, length, Option, None, Some, Result, Ok, Err, IsTrue, refl, sym, ap, subst, ◌∙◌, arith, unwrap_or, option_and_then, option_map, if◌then◌else◌, nat_le, chars, is_some, true≢false, codes}
 use Rattle.std.proofs.lemmas.Bool.Decides.{nat_tests}
-use Rattle.serde_json.specs.Data.{Data, Members}
-use Rattle.serde_json.specs.Find.{get_member, as_null, as_number, as_u64, as_str, as_object}
+use Rattle.std.proofs.lemmas.List.Elements.{All-nil, All-cons}
+use Rattle.std.specs.Prelude.{All}
+use Rattle.serde_json.specs.Data.{Data, Items, no_items, item, Members}
+use Rattle.serde_json.specs.Find.{get_member, as_number, as_u64, as_i64, as_bool, as_str, as_array, as_object}
+use Rattle.rd_base.specs.declared.settings.Invisible.{Invisible}
+use Rattle.rd_base.specs.declared.settings.Invisible.TheVariants.{Every, Listed}
+use Rattle.rd_objects.specs.declared.run.RunKind.{RunKind}
+use Rattle.rd_script.specs.declared.object.SpecName.{SpecName}
+use Rattle.rd_script.specs.declared.object.SpecName.TheVariants as spec_names
+use Rattle.rd_script.specs.declared.setting.SettingName.{SettingName}
+use Rattle.rd_script.specs.declared.setting.SettingName.TheVariants as setting_names
 use Rattle.rd_script.specs.declared.fault.OpFault.{OpFault}
 use Rattle.rd_script.specs.declared.fault.OpFault.TheVariants.{NotObject, NotBuilt}
 use Rattle.rd_script.specs.declared.op.Op.{Op}
 use Rattle.rd_script.specs.declared.op.Op.TheVariants as ops
 use Rattle.rd_script.specs.declared.name.Name as name
 use Rattle.rd_script.specs.declared.name.Name.TheVariants as names
-use Rattle.rd_script.specs.Forms.{is_buffer_name, is_text, IsWhole, IsStop, IsInForm}
-use Rattle.rd_script.specs.Fields.{Fields, kept_if, within, whole, text, buffer_name, word, or_bad, required_of, optional_of, required, and_then, both, made}
-use Rattle.rd_script.specs.Reading.{reading, reading_name, reading_members, reading_fields, closed, extra_key, unless_extra, built, or_fault, json_of}
+use Rattle.rd_script.specs.Forms.{is_buffer_name, is_text, is_glyph_text, is_slot, IsWhole, IsStop, IsNumber, IsInvisible, IsSettingInForm, IsSpecInForm, IsRunInForm, IsEntryInForm, IsSlot, IsEllipsis, IsInForm}
+use Rattle.rd_script.specs.Fields.{Fields, kept_if, within, whole, signed, text, buffer_name, word, items_count, consed, each_item, list_of, pair_of, two_items_of, two_items, four_items_of, four_items, or_bad, required_of, present, optional_of, required, optional, defaulted, and_then, both, made, then_by}
+use Rattle.rd_script.specs.Numbers.{is_near_zero}
+use Rattle.rd_script.specs.Objects.{run_kinds, run_of, run, spec_names as spec_words, spec_value, face_of, glyph_text, only, slot, entry_of, entry, slot_field}
+use Rattle.rd_script.specs.Settings.{setting_names as setting_words, direction_names, invisible_by, invisible, value_of as value_of_setting}
+use Rattle.rd_script.specs.Reading.{reading, reading_name, reading_members, reading_fields, closed, extra_key, unless_extra, is_built, built, or_fault, json_of}
 use Rattle.rd_script.specs.Table.{row, wrap_modes}
 
 -- what fields give has this
@@ -93,29 +105,42 @@ both-gives f g P Q hf hg = record {
       subst (λ y. P y.0 × Q y.1) same (hf.given ms first.0 first.1, hg.given ms second.0 second.1);
 }
 
-made-gives : {A : Type 0} (f : A → Op) (fields : Fields A) (P : A → Type 0) → Gives fields P → ((a : A) → P a → IsInForm (f a)) → Gives (made f fields) IsInForm
-made-gives f fields P h so = record {
-  given = λ ms op e.
-      let of = and_then-ok (λ a. Ok (f a)) (fields.taken ms) op e in
-      subst IsInForm (ok-same (f of.0) op of.2) (so of.0 (h.given ms of.0 of.1));
+made-as : {A B : Type 0} (f : A → B) (fields : Fields A) (P : A → Type 0) (Q : B → Type 0) → Gives fields P → ((a : A) → P a → Q (f a)) → Gives (made f fields) Q
+made-as f fields P Q h so = record {
+  given = λ ms x e.
+      let of = and_then-ok (λ a. Ok (f a)) (fields.taken ms) x e in
+      subst Q (ok-same (f of.0) x of.2) (so of.0 (h.given ms of.0 of.1));
 }
+
+made-gives : {A : Type 0} (f : A → Op) (fields : Fields A) (P : A → Type 0) → Gives fields P → ((a : A) → P a → IsInForm (f a)) → Gives (made f fields) IsInForm
+made-gives f fields P h so = made-as f fields P IsInForm h so
 
 some_found : {T : Type 0} (kind : Data → Option T) (P : T → Type 0) (Q : Option T → Type 0) → Finds kind P → ((y : T) → P y → Q (Some y))
     → (d : Data) (o : Option T) (x : Option T) → kind d ≡ o → option_map Some o ≡ Some x → Q x
 some_found kind P Q finds some d None x is e = absurd (none≢some x e)
 some_found kind P Q finds some d (Some y) x is e = subst Q (ap (λ o. unwrap_or o None) e) (some y (finds.found d y is))
 
-optional-some : {T : Type 0} (key : List ℕ) (kind : Data → Option T) (P : T → Type 0) (Q : Option T → Type 0) → Finds kind P → Q None → ((y : T) → P y → Q (Some y))
-    → (d : Data) (x : Option T) (null : Bool) → (if null then Ok None else or_bad key (option_map Some (kind d))) ≡ Ok x → Q x
-optional-some key kind P Q finds none some d x true e = subst Q (ok-same None x e) none
-optional-some key kind P Q finds none some d x false e = some_found kind P Q finds some d (kind d) x refl (or_bad-ok key (option_map Some (kind d)) x e)
-
 optional-ok : {T : Type 0} (key : List ℕ) (kind : Data → Option T) (P : T → Type 0) (Q : Option T → Type 0) → Finds kind P → Q None → ((y : T) → P y → Q (Some y))
     → (o : Option Data) (x : Option T) → optional_of key kind o ≡ Ok x → Q x
 optional-ok key kind P Q finds none some None x e = subst Q (ok-same None x e) none
-optional-ok key kind P Q finds none some (Some d) x e = optional-some key kind P Q finds none some d x (is_some (as_null d)) e
+optional-ok key kind P Q finds none some (Some d) x e = some_found kind P Q finds some d (kind d) x refl (or_bad-ok key (option_map Some (kind d)) x e)
 
--- ---- rows
+optional-gives : {T : Type 0} (key : List ℕ) (kind : Data → Option T) (P : T → Type 0) (Q : Option T → Type 0) → Finds kind P → Q None → ((y : T) → P y → Q (Some y))
+    → Gives (optional key kind) Q
+optional-gives key kind P Q finds none some = record { given = λ ms x e. optional-ok key kind P Q finds none some (present (get_member key ms)) x e }
+
+defaulted-gives : {T : Type 0} (default : T) (key : List ℕ) (kind : Data → Option T) (P : T → Type 0) → Finds kind P → P default → Gives (defaulted default key kind) P
+defaulted-gives default key kind P finds h =
+    made-as (λ o. unwrap_or o default) (optional key kind) (λ o. P (unwrap_or o default)) P
+    (optional-gives key kind P (λ o. P (unwrap_or o default)) finds h (λ y p. p)) (λ o p. p)
+
+then_by-gives : {A B : Type 0} (first : Fields A) (keys : List (List ℕ)) (second : A → Fields B) (Q : B → Type 0)
+    → ((a : A) → Gives (second a) Q) → Gives (then_by first keys second) Q
+then_by-gives first keys second Q h = record {
+  given = λ ms x e.
+      let of = and_then-ok (λ a. (second a).taken ms) (first.taken ms) x e in
+      (h of.0).given ms x of.2;
+}
 
 any-finds : {T : Type 0} (kind : Data → Option T) → Finds kind (λ x. Unit {0})
 any-finds kind = record { found = λ d x e. tt }
@@ -131,6 +156,144 @@ whole_field key = required-gives key whole IsWhole whole-finds
 
 range_field : (key : List ℕ) (least greatest : ℕ) → Gives (required key (within least greatest)) (λ n. (least ≤ n) × (n ≤ greatest))
 range_field key least greatest = required-gives key (within least greatest) _ (within-finds least greatest)
+
+-- ---- arrays
+
+map-some : {A B : Type 0} (f : A → B) (o : Option A) (x : B) → option_map f o ≡ Some x → (y : A) × (o ≡ Some y) × (f y ≡ x)
+map-some f None x e = absurd (none≢some x e)
+map-some f (Some y) x e = (y, refl, cc)
+
+mapped-finds : {A B : Type 0} (f : A → B) (kind : Data → Option A) (P : A → Type 0) (Q : B → Type 0) → Finds kind P → ((y : A) → P y → Q (f y))
+    → Finds (λ d. option_map f (kind d)) Q
+mapped-finds f kind P Q finds so = record {
+  found = λ d x e. let y = map-some f (kind d) x e in subst Q y.2 (so y.0 (finds.found d y.0 y.1));
+}
+
+pair-some : {A B : Type 0} (a : Option A) (b : Option B) (x : A × B) → pair_of a b ≡ Some x → (a ≡ Some x.0) × (b ≡ Some x.1)
+pair-some None b x e = absurd (none≢some x e)
+pair-some (Some a) None x e = absurd (none≢some x e)
+pair-some (Some a) (Some b) x e = let same : (a, b) ≡ x = cc in (ap (λ z. Some z.0) same, ap (λ z. Some z.1) same)
+
+bound : {A B : Type 0} (f : A → Option B) (o : Option A) (x : B) → option_and_then f o ≡ Some x → (y : A) × (o ≡ Some y) × (f y ≡ Some x)
+bound f None x e = absurd (none≢some x e)
+bound f (Some y) x e = (y, refl, e)
+
+two-some : {A B : Type 0} (a : Data → Option A) (b : Data → Option B) (P : A → Type 0) (Q : B → Type 0) → Finds a P → Finds b Q
+    → (ds : Items) (x : A × B) → two_items_of a b ds ≡ Some x → P x.0 × Q x.1
+two-some a b P Q fa fb no_items x e = absurd (none≢some x e)
+two-some a b P Q fa fb (item d no_items) x e = absurd (none≢some x e)
+two-some a b P Q fa fb (item d (item f no_items)) x e = let parts = pair-some (a d) (b f) x e in (fa.found d x.0 parts.0, fb.found f x.1 parts.1)
+two-some a b P Q fa fb (item d (item f (item g ds))) x e = absurd (none≢some x e)
+
+two-finds : {A B : Type 0} (a : Data → Option A) (b : Data → Option B) (P : A → Type 0) (Q : B → Type 0) → Finds a P → Finds b Q
+    → Finds (two_items a b) (λ x. P x.0 × Q x.1)
+two-finds a b P Q fa fb = record {
+  found = λ d x e. let ds = bound (two_items_of a b) (as_array d) x e in two-some a b P Q fa fb ds.0 x ds.2;
+}
+
+run-some : (ds : Items) (x : ℕ × (ℕ × (RunKind × ℕ))) → four_items_of whole whole (word run_kinds) whole ds ≡ Some x → IsWhole x.0 × IsWhole x.1.0 × IsWhole x.1.1.1
+run-some no_items x e = absurd (none≢some x e)
+run-some (item a no_items) x e = absurd (none≢some x e)
+run-some (item a (item b no_items)) x e = absurd (none≢some x e)
+run-some (item a (item b (item c no_items))) x e = absurd (none≢some x e)
+run-some (item a (item b (item c (item d no_items)))) x e =
+    let first = pair-some (whole a) (pair_of (whole b) (pair_of (word run_kinds c) (whole d))) x e in
+    let second = pair-some (whole b) (pair_of (word run_kinds c) (whole d)) x.1 first.1 in
+    let third = pair-some (word run_kinds c) (whole d) x.1.1 second.1 in
+    (whole-finds.found a x.0 first.0, whole-finds.found b x.1.0 second.0, whole-finds.found d x.1.1.1 third.1)
+run-some (item a (item b (item c (item d (item f ds))))) x e = absurd (none≢some x e)
+
+run-finds : Finds run IsRunInForm
+run-finds = mapped-finds run_of (four_items whole whole (word run_kinds) whole) (λ x. IsWhole x.0 × IsWhole x.1.0 × IsWhole x.1.1.1) IsRunInForm
+    (record { found = λ d x e. let ds = bound (four_items_of whole whole (word run_kinds) whole) (as_array d) x e in run-some ds.0 x ds.2 })
+    (λ x h. record { from = h.0; to = h.1; value = h.2 })
+
+consed-some : {T : Type 0} (P : T → Type 0) (o : Option T) (os : Option (List T)) (n : ℕ) (xs : List T) → ((x : T) → o ≡ Some x → P x)
+    → ((ys : List T) → os ≡ Some ys → (length ys ≡ n) × All P ys) → consed o os ≡ Some xs → (length xs ≡ suc n) × All P xs
+consed-some P None os n xs first rest e = absurd (none≢some xs e)
+consed-some P (Some x) None n xs first rest e = absurd (none≢some xs e)
+consed-some P (Some x) (Some ys) n xs first rest e =
+    let same : (x ∷ ys) ≡ xs = cc in
+    let behind = rest ys refl in
+    (ap length (sym same) ∙ ap suc behind.0, subst (All P) same (All-cons P x ys (first x refl) behind.1))
+
+each-some : {T : Type 0} (kind : Data → Option T) (P : T → Type 0) → Finds kind P → (ds : Items) (xs : List T) → each_item kind ds ≡ Some xs
+    → (length xs ≡ items_count ds) × All P xs
+each-some kind P finds no_items xs e = let same : [] ≡ xs = cc in (ap length (sym same), subst (All P) same (All-nil P))
+each-some kind P finds (item d ds) xs e = consed-some P (kind d) (each_item kind ds) (items_count ds) xs (λ x h. finds.found d x h) (λ ys h. each-some kind P finds ds ys h) e
+
+list-finds : {T : Type 0} (most : ℕ) (kind : Data → Option T) (P : T → Type 0) → Finds kind P → Finds (list_of most kind) (λ xs. (length xs ≤ most) × All P xs)
+list-finds most kind P finds = record {
+  found = λ d xs e.
+      let ds = bound (each_item kind) (option_and_then (kept_if (λ ds. nat_le (items_count ds) most)) (as_array d)) xs e in
+      let all = each-some kind P finds ds.0 xs ds.2 in
+      let few = kept_if-found (λ ds. nat_le (items_count ds) most) (as_array d) ds.0 ds.1 in
+      let small : items_count ds.0 ≤ most = grind (arith, nat_tests) in
+      (omega (arith, all.0, small), all.1);
+}
+
+-- ---- settings and objects
+
+near-finds : (most : ℕ) → Finds (signed most) (λ z. IsTrue (is_near_zero most z))
+near-finds most = record { found = λ d z e. kept_if-found (is_near_zero most) (option_and_then as_i64 (as_number d)) z e }
+
+glyph_text-finds : Finds glyph_text (λ t. IsTrue (is_glyph_text t))
+glyph_text-finds = record { found = λ d t e. kept_if-found is_glyph_text (option_map chars (as_str d)) t e }
+
+slot-finds : Finds slot (λ c. IsTrue (is_slot c))
+slot-finds = record { found = λ d c e. kept_if-found is_slot (option_and_then only (option_map chars (as_str d))) c e }
+
+entry-finds : Finds entry IsEntryInForm
+entry-finds = mapped-finds entry_of (two_items (within 0 1114111) glyph_text) (λ x. ((0 ≤ x.0) × (x.0 ≤ 1114111)) × IsTrue (is_glyph_text x.1)) IsEntryInForm
+    (two-finds (within 0 1114111) glyph_text _ _ (within-finds 0 1114111) glyph_text-finds) (λ x h. record { code = h.0.1; text = h.1 })
+
+slot-gives : (key : List ℕ) → Gives (slot_field key) IsSlot
+slot-gives key = optional-gives key slot _ IsSlot slot-finds tt (λ c h. h)
+
+number-gives : (key : List ℕ) → Gives (optional key whole) IsNumber
+number-gives key = optional-gives key whole IsWhole IsNumber whole-finds tt (λ n h. h)
+
+invisible-some : (b : Option Bool) (o : Option (List (ℕ × Bool))) (x : Invisible) → ((pairs : List (ℕ × Bool)) → o ≡ Some pairs → IsInvisible (Listed pairs))
+    → invisible_by b o ≡ Some x → IsInvisible x
+invisible-some (Some true) o x so e = let same : Every ≡ x = cc in subst IsInvisible same tt
+invisible-some (Some false) o x so e = absurd (none≢some x e)
+invisible-some None o x so e = let y = map-some Listed o x e in subst IsInvisible y.2 (so y.0 y.1)
+
+pairs-finds : Finds (list_of 256 (two_items (within 0 65535) as_bool)) (λ pairs. IsInvisible (Listed pairs))
+pairs-finds = list-finds 256 (two_items (within 0 65535) as_bool) (λ pair. pair.0 ≤ 65535)
+    (record { found = λ d x e. ((two-finds (within 0 65535) as_bool _ _ (within-finds 0 65535) (any-finds as_bool)).found d x e).0.1 })
+
+invisible-finds : Finds invisible IsInvisible
+invisible-finds = record { found = λ d x e. invisible-some (as_bool d) (list_of 256 (two_items (within 0 65535) as_bool) d) x (pairs-finds.found d) e }
+
+any-gives : {T : Type 0} (key : List ℕ) (kind : Data → Option T) → Gives (required key kind) (λ x. Unit {0})
+any-gives key kind = required-gives key kind _ (any-finds kind)
+
+value-gives : (n : SettingName) → Gives (value_of_setting n) IsSettingInForm
+value-gives setting_names.TabWidth = made-as _ _ _ IsSettingInForm (required-gives (codes "value") (within 1 32) _ (within-finds 1 32)) (λ n h. h)
+value-gives setting_names.CtlArrow = made-as _ _ _ IsSettingInForm (any-gives (codes "value") as_bool) (λ x h. h)
+value-gives setting_names.Direction = made-as _ _ _ IsSettingInForm (any-gives (codes "value") (word direction_names)) (λ x h. h)
+value-gives setting_names.Reorder = made-as _ _ _ IsSettingInForm (any-gives (codes "value") as_bool) (λ x h. h)
+value-gives setting_names.Table = made-as _ _ _ IsSettingInForm (number-gives (codes "value")) (λ x h. h)
+value-gives setting_names.Invisible = made-as _ _ _ IsSettingInForm (required-gives (codes "value") invisible _ invisible-finds) (λ x h. h)
+value-gives setting_names.LinePrefix = made-as _ _ _ IsSettingInForm (number-gives (codes "value")) (λ x h. h)
+value-gives setting_names.WrapPrefix = made-as _ _ _ IsSettingInForm (number-gives (codes "value")) (λ x h. h)
+value-gives setting_names.Modified = made-as _ _ _ IsSettingInForm (any-gives (codes "value") as_bool) (λ x h. h)
+value-gives setting_names.ReadOnly = made-as _ _ _ IsSettingInForm (any-gives (codes "value") as_bool) (λ x h. h)
+
+spec-gives : (n : SpecName) → Gives (spec_value n) IsSpecInForm
+spec-gives spec_names.Text = made-as _ _ _ IsSpecInForm (whole_field (codes "value")) (λ n h. h)
+spec-gives spec_names.Width = made-as _ _ _ IsSpecInForm (range_field (codes "value") 0 400) (λ n h. h.1)
+spec-gives spec_names.Align = made-as _ _ _ IsSpecInForm (range_field (codes "value") 0 400) (λ n h. h.1)
+
+colour-gives : (key : List ℕ) → Gives (defaulted 8 key (within 0 7)) (λ n. n ≤ 8)
+colour-gives key = defaulted-gives 8 key (within 0 7) (λ n. n ≤ 8)
+    (record { found = λ d n e. let h = (within-finds 0 7).found d n e in let most = h.1 in omega arith }) (omega arith)
+
+flag-gives : (key : List ℕ) → Gives (defaulted false key as_bool) (λ b. Unit {0})
+flag-gives key = defaulted-gives false key as_bool _ (any-finds as_bool) tt
+
+-- ---- rows
 
 range_of_name : (f : List ℕ → ℕ → ℕ → Op) (from to : List ℕ)
     → ((b : List ℕ) (m n : ℕ) → IsTrue (is_buffer_name b) → IsWhole m → IsWhole n → IsInForm (f b m n))
@@ -148,29 +311,47 @@ row-gives names.TypeText = made-gives _ _ _ (text_field (codes "text")) (λ x h.
 row-gives names.Delete = range_of_name ops.Delete (codes "from") (codes "to") (λ b m n hb hm hn. (hb, hm, hn))
 row-gives names.Narrow = range_of_name ops.Narrow (codes "from") (codes "to") (λ b m n hb hm hn. (hb, hm, hn))
 row-gives names.Widen = made-gives _ _ _ (name_field (codes "buffer")) (λ x h. h)
+row-gives names.Overlay = made-gives _ _ _
+    (both-gives _ _ _ _ (name_field (codes "buffer")) (both-gives _ _ _ _ (whole_field (codes "from")) (both-gives _ _ _ _ (whole_field (codes "to"))
+    (both-gives _ _ _ _ (defaulted-gives (pos 0) (codes "priority") (signed 1000000) (λ z. IsTrue (is_near_zero 1000000 z)) (near-finds 1000000) refl)
+    (both-gives _ _ _ _ (flag-gives (codes "front")) (flag-gives (codes "rear")))))))
+    (λ x h. (h.0, h.1.0, h.1.1.0, h.1.1.1.0))
+row-gives names.OverlayMove = made-gives _ _ _
+    (both-gives _ _ _ _ (name_field (codes "buffer")) (both-gives _ _ _ _ (whole_field (codes "overlay")) (both-gives _ _ _ _ (whole_field (codes "from")) (whole_field (codes "to")))))
+    (λ x h. (h.0, h.1.0, h.1.1.0, h.1.1.1))
+row-gives names.OverlayDrop = made-gives _ _ _ (both-gives _ _ _ _ (name_field (codes "buffer")) (whole_field (codes "overlay"))) (λ x h. (h.0, h.1))
+row-gives names.Setting = made-gives _ _ _
+    (both-gives _ _ _ _ (name_field (codes "buffer")) (then_by-gives (required (codes "name") (word setting_words)) (codes "value" ∷ []) value_of_setting IsSettingInForm value-gives))
+    (λ x h. (h.0, h.1))
+row-gives names.AddString = made-gives _ _ _
+    (both-gives _ _ _ _ (text_field (codes "text")) (defaulted-gives [] (codes "runs") (list_of 256 run) _ (list-finds 256 run IsRunInForm run-finds) (omega arith, All-nil _)))
+    (λ x h. (h.0, h.1.0, h.1.1))
+row-gives names.AddSpec = made-gives _ _ _ (then_by-gives (required (codes "kind") (word spec_words)) (codes "value" ∷ []) spec_value IsSpecInForm spec-gives) (λ x h. h)
+row-gives names.AddFace = made-gives _ _ _
+    (made-as face_of _ _ (λ f. (f.fg ≤ 8) × (f.bg ≤ 8)) (both-gives _ _ _ _ (colour-gives (codes "fg")) (both-gives _ _ _ _ (colour-gives (codes "bg"))
+    (both-gives _ _ _ _ (flag-gives (codes "bold")) (both-gives _ _ _ _ (flag-gives (codes "underline")) (flag-gives (codes "inverse"))))))
+    (λ x h. (h.0, h.1.0))) (λ x h. h)
+row-gives names.AddTable = made-gives _ _ _
+    (both-gives _ _ _ _ (defaulted-gives [] (codes "entries") (list_of 256 entry) _ (list-finds 256 entry IsEntryInForm entry-finds) (omega arith, All-nil _))
+    (both-gives _ _ _ _ (slot-gives (codes "truncation")) (both-gives _ _ _ _ (slot-gives (codes "continuation")) (both-gives _ _ _ _ (slot-gives (codes "escape"))
+    (both-gives _ _ _ _ (slot-gives (codes "control"))
+    (both-gives _ _ _ _ (optional-gives (codes "ellipsis") glyph_text _ IsEllipsis glyph_text-finds tt (λ t h. h)) (slot-gives (codes "border"))))))))
+    (λ x h. (h.0.0, h.0.1, h.1.0, h.1.1.0, h.1.1.1.0, h.1.1.1.1.0, h.1.1.1.1.1.0, h.1.1.1.1.1.1))
 row-gives names.Remove = made-gives _ _ _ (whole_field (codes "window")) (λ x h. h)
 row-gives names.Show = made-gives _ _ _ (both-gives _ _ _ _ (whole_field (codes "window")) (name_field (codes "buffer"))) (λ x h. h)
 row-gives names.Point = made-gives _ _ _ (both-gives _ _ _ _ (whole_field (codes "window")) (whole_field (codes "pos"))) (λ x h. h)
 row-gives names.Wrap = made-gives _ _ _ (both-gives _ _ _ _ (whole_field (codes "window")) (required-gives (codes "mode") (word wrap_modes) _ (any-finds (word wrap_modes)))) (λ x h. h.0)
-row-gives names.Redisplay = made-gives _ _ IsStop (record { given = λ ms x e. optional-ok (codes "stop") (within 0 200) _ IsStop (within-finds 0 200) tt (λ y h. h.1) (get_member (codes "stop") ms) x e }) (λ x h. h)
+row-gives names.Redisplay = made-gives _ _ IsStop (optional-gives (codes "stop") (within 0 200) _ IsStop (within-finds 0 200) tt (λ y h. h.1)) (λ x h. h)
 row-gives names.Unbuilt = record { given = λ ms op e. absurd (err≢ok NotBuilt op e) }
 
 -- ---- lines
 
+built-if : (b : Bool) (op x : Op) → (if b then Ok op else Err NotBuilt) ≡ Ok x → op ≡ x
+built-if true op x e = ok-same op x e
+built-if false op x e = absurd (err≢ok NotBuilt x e)
+
 built-same : (op x : Op) → built op ≡ Ok x → op ≡ x
-built-same (ops.Redisplay (Some n)) x e = absurd (err≢ok NotBuilt x e)
-built-same (ops.Redisplay None) x e = ok-same _ x e
-built-same (ops.Frame w h) x e = ok-same _ x e
-built-same (ops.Buffer n) x e = ok-same _ x e
-built-same (ops.Insert b p t) x e = ok-same _ x e
-built-same (ops.TypeText t) x e = ok-same _ x e
-built-same (ops.Delete b m n) x e = ok-same _ x e
-built-same (ops.Narrow b m n) x e = ok-same _ x e
-built-same (ops.Widen b) x e = ok-same _ x e
-built-same (ops.Remove w) x e = ok-same _ x e
-built-same (ops.Show w b) x e = ok-same _ x e
-built-same (ops.Point w p) x e = ok-same _ x e
-built-same (ops.Wrap w m) x e = ok-same _ x e
+built-same op x e = built-if (is_built op) op x e
 
 unless_extra-same : (key : Option (List ℕ)) (op x : Op) → unless_extra key op ≡ Ok x → op ≡ x
 unless_extra-same None op x e = ok-same op x e

@@ -1,4 +1,6 @@
+mod Free
 pub mod InForm
+pub mod Items
 mod Json
 mod OnePass
 mod Texts

@@ -1,11 +1,12 @@
 -- Fields of an object: which keys are asked for, and what is read of their values.
-use Rattle.std.specs.Prelude.{ℕ, ◌≡◌, ◌&&◌, Bool, nat_le, bytes_eq, if◌then◌else◌, List, [], ◌∷◌, ◌++◌, Option, None, Some, option_and_then, option_map, is_some, Result, Ok, Err}
+use Rattle.std.specs.Prelude.{ℕ, zero, suc, ◌≡◌, ◌&&◌, Bool, ℤ, nat_le, bytes_eq, if◌then◌else◌, List, [], ◌∷◌, ◌++◌, Option, None, Some, option_and_then, option_map, is_some, unwrap_or, Result, Ok, Err}
 use Rattle.std.specs.Str.{chars}
-use Rattle.serde_json.specs.Data.{Data, Members}
-use Rattle.serde_json.specs.Find.{get_member, as_null, as_number, as_u64, as_str}
+use Rattle.serde_json.specs.Data.{Data, Items, no_items, item, Members}
+use Rattle.serde_json.specs.Find.{get_member, as_null, as_number, as_u64, as_i64, as_str, as_array}
 use Rattle.rd_script.specs.declared.fault.OpFault.{OpFault}
 use Rattle.rd_script.specs.declared.fault.OpFault.TheVariants.{Missing, BadField, Memory}
 use Rattle.rd_script.specs.Forms.{is_text, is_buffer_name}
+use Rattle.rd_script.specs.Numbers.{is_near_zero}
 
 -- ---- kinds of values
 
@@ -19,6 +20,10 @@ within least greatest d = option_and_then (kept_if (λ n. nat_le least n && nat_
 -- a whole number of 64 bits
 abbrev pub whole : Data → Option ℕ
 whole = within 0 18446744073709551615
+
+-- a whole number that may be below 0, from one of this size below 0 up to the same above
+abbrev pub signed : ℕ → Data → Option ℤ
+signed most d = option_and_then (kept_if (is_near_zero most)) (option_and_then as_i64 (as_number d))
 
 -- a text, as the list of its characters
 abbrev pub text : Data → Option (List ℕ)
@@ -37,6 +42,48 @@ beside (entry ∷ entries) name = if bytes_eq name entry.0 then Some entry.1 els
 abbrev pub word : {T : Type 0} → List (List ℕ × T) → Data → Option T
 word words d = option_and_then (beside words) (as_str d)
 
+-- how many items an array has
+abbrev pub items_count : Items → ℕ
+items_count no_items = zero
+items_count (item d ds) = suc (items_count ds)
+
+-- an item and those behind it, where there are both
+abbrev pub consed : {T : Type 0} → Option T → Option (List T) → Option (List T)
+consed (Some x) (Some xs) = Some (x ∷ xs)
+consed (Some x) None = None
+consed None xs = None
+
+-- what each item of an array is, where all are of this kind
+abbrev pub each_item : {T : Type 0} → (Data → Option T) → Items → Option (List T)
+each_item kind no_items = Some []
+each_item kind (item d ds) = consed (kind d) (each_item kind ds)
+
+-- an array of at most so many items of a kind
+abbrev pub list_of : {T : Type 0} → ℕ → (Data → Option T) → Data → Option (List T)
+list_of most kind d = option_and_then (each_item kind) (option_and_then (kept_if (λ ds. nat_le (items_count ds) most)) (as_array d))
+
+-- two values, where there are both
+abbrev pub pair_of : {A B : Type 0} → Option A → Option B → Option (A × B)
+pair_of (Some a) (Some b) = Some (a, b)
+pair_of (Some a) None = None
+pair_of None b = None
+
+-- an array of two items of these kinds
+abbrev pub two_items_of : {A B : Type 0} → (Data → Option A) → (Data → Option B) → Items → Option (A × B)
+two_items_of first second (item d (item e no_items)) = pair_of (first d) (second e)
+two_items_of first second ds = None
+
+abbrev pub two_items : {A B : Type 0} → (Data → Option A) → (Data → Option B) → Data → Option (A × B)
+two_items first second d = option_and_then (two_items_of first second) (as_array d)
+
+-- an array of four
+abbrev pub four_items_of : {A B C D : Type 0} → (Data → Option A) → (Data → Option B) → (Data → Option C) → (Data → Option D) → Items → Option (A × (B × (C × D)))
+four_items_of a b c d (item w (item x (item y (item z no_items)))) = pair_of (a w) (pair_of (b x) (pair_of (c y) (d z)))
+four_items_of a b c d ds = None
+
+abbrev pub four_items : {A B C D : Type 0} → (Data → Option A) → (Data → Option B) → (Data → Option C) → (Data → Option D) → Data → Option (A × (B × (C × D)))
+four_items a b c d e = option_and_then (four_items_of a b c d) (as_array e)
+
 -- ---- fields
 
 -- keys, and what is read of the members of an object at these keys
@@ -52,9 +99,14 @@ abbrev pub required_of : {T : Type 0} → List ℕ → (Data → Option T) → O
 required_of key kind None = Err (Missing (chars key))
 required_of key kind (Some d) = or_bad key (kind d)
 
+-- a member's value, where it is there and is not null
+abbrev pub present : Option Data → Option Data
+present None = None
+present (Some d) = if is_some (as_null d) then None else Some d
+
 abbrev pub optional_of : {T : Type 0} → List ℕ → (Data → Option T) → Option Data → Result (Option T) OpFault
 optional_of key kind None = Ok None
-optional_of key kind (Some d) = if is_some (as_null d) then Ok None else or_bad key (option_map Some (kind d))
+optional_of key kind (Some d) = or_bad key (option_map Some (kind d))
 
 -- a field that is asked for
 abbrev pub required : {T : Type 0} → List ℕ → (Data → Option T) → Fields T
@@ -62,11 +114,19 @@ required key kind = record { keys = key ∷ []; taken = λ ms. required_of key k
 
 -- a field that may be absent or null
 abbrev pub optional : {T : Type 0} → List ℕ → (Data → Option T) → Fields (Option T)
-optional key kind = record { keys = key ∷ []; taken = λ ms. optional_of key kind (get_member key ms) }
+optional key kind = record { keys = key ∷ []; taken = λ ms. optional_of key kind (present (get_member key ms)) }
 
 abbrev pub and_then : {A B : Type 0} → (A → Result B OpFault) → Result A OpFault → Result B OpFault
 and_then f (Ok a) = f a
 and_then f (Err e) = Err e
+
+-- what is made of what was read
+abbrev pub made : {A B : Type 0} → (A → B) → Fields A → Fields B
+made f fields = record { keys = fields.keys; taken = λ ms. and_then (λ a. Ok (f a)) (fields.taken ms) }
+
+-- a field that may be absent or null, and then is this
+abbrev pub defaulted : {T : Type 0} → T → List ℕ → (Data → Option T) → Fields T
+defaulted default key kind = made (λ found. unwrap_or found default) (optional key kind)
 
 -- fields and then others
 abbrev pub both : {A B : Type 0} → Fields A → Fields B → Fields (A × B)
@@ -75,9 +135,12 @@ both first second = record {
   taken = λ ms. and_then (λ a. and_then (λ b. Ok (a, b)) (second.taken ms)) (first.taken ms);
 }
 
--- what is made of what was read
-abbrev pub made : {A B : Type 0} → (A → B) → Fields A → Fields B
-made f fields = record { keys = fields.keys; taken = λ ms. and_then (λ a. Ok (f a)) (fields.taken ms) }
+-- fields, and then others of these keys that depend on what was read
+abbrev pub then_by : {A B : Type 0} → Fields A → List (List ℕ) → (A → Fields B) → Fields B
+then_by first keys second = record {
+  keys = first.keys ++ keys;
+  taken = λ ms. and_then (λ a. (second a).taken ms) (first.taken ms);
+}
 
 -- no key, and always this fault
 abbrev pub refused : {T : Type 0} → OpFault → Fields T

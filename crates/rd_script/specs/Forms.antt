@@ -1,10 +1,21 @@
 -- What is in form: the characters of names and texts, the ranges of numbers.
-use Rattle.std.specs.Prelude.{ℕ, ◌≤◌, ◌&&◌, ◌||◌, Bool, nat_lt, nat_le, IsTrue, List, [], ◌∷◌, length, true, Option, None, Some}
+use Rattle.std.specs.Prelude.{ℕ, ◌≤◌, ◌&&◌, ◌||◌, ◌==◌, not, Bool, nat_lt, nat_le, IsTrue, All, List, [], ◌∷◌, length, true, Option, None, Some}
 use Rattle.std.specs.List.{list_all}
 use Rattle.std.specs.Str.{chars}
 use Rattle.rd_base.specs.Chars.{is_scalar}
+use Rattle.rd_base.specs.declared.settings.Invisible.{Invisible}
+use Rattle.rd_base.specs.declared.settings.Invisible.TheVariants.{Every, Listed}
+use Rattle.rd_objects.specs.Tables.{has_no_glyph}
+use Rattle.rd_objects.specs.Widths.{columns}
+use Rattle.rd_script.specs.Numbers.{is_near_zero}
+use Rattle.rd_script.specs.declared.object.OpEntry.{OpEntry}
+use Rattle.rd_script.specs.declared.object.OpRun.{OpRun}
+use Rattle.rd_script.specs.declared.object.OpSpec.{OpSpec}
+use Rattle.rd_script.specs.declared.object.OpSpec.TheVariants as specs
 use Rattle.rd_script.specs.declared.op.Op.{Op}
-use Rattle.rd_script.specs.declared.op.Op.TheVariants.{Frame, Buffer, Insert, TypeText, Delete, Narrow, Widen, Remove, Show, Point, Wrap, Redisplay}
+use Rattle.rd_script.specs.declared.op.Op.TheVariants.{Frame, Buffer, Insert, TypeText, Delete, Narrow, Widen, Overlay, OverlayMove, OverlayDrop, Setting as SetSetting, AddString, AddSpec, AddFace, AddTable, Remove, Show, Point, Wrap, Redisplay}
+use Rattle.rd_script.specs.declared.setting.Setting.{Setting}
+use Rattle.rd_script.specs.declared.setting.Setting.TheVariants as settings
 
 -- what a test finds of each element
 abbrev pub each : (ℕ → Bool) → List ℕ → Bool
@@ -35,6 +46,60 @@ abbrev pub IsStop : Option ℕ → Type 0
 IsStop None = Unit {0}
 IsStop (Some n) = n ≤ 200
 
+-- a glyph character: a scalar value that is no control and has columns
+abbrev pub is_glyph : ℕ → Bool
+is_glyph c = is_scalar c && not (has_no_glyph c)
+
+-- at most 16 of them
+abbrev pub is_glyph_text : List ℕ → Bool
+is_glyph_text text = nat_le (length text) 16 && list_all is_glyph text
+
+-- one of one column
+abbrev pub is_slot : ℕ → Bool
+is_slot c = is_glyph c && (columns c == 1)
+
+abbrev pub IsNumber : Option ℕ → Type 0
+IsNumber None = Unit {0}
+IsNumber (Some n) = IsWhole n
+
+abbrev pub IsInvisible : Invisible → Type 0
+IsInvisible Every = Unit {0}
+IsInvisible (Listed pairs) = (length pairs ≤ 256) × All (λ pair. pair.0 ≤ 65535) pairs
+
+abbrev pub IsSettingInForm : Setting → Type 0
+IsSettingInForm (settings.TabWidth n) = (1 ≤ n) × (n ≤ 32)
+IsSettingInForm (settings.CtlArrow flag) = Unit {0}
+IsSettingInForm (settings.Direction direction) = Unit {0}
+IsSettingInForm (settings.Reorder flag) = Unit {0}
+IsSettingInForm (settings.Table number) = IsNumber number
+IsSettingInForm (settings.Invisible invisible) = IsInvisible invisible
+IsSettingInForm (settings.LinePrefix number) = IsNumber number
+IsSettingInForm (settings.WrapPrefix number) = IsNumber number
+IsSettingInForm (settings.Modified flag) = Unit {0}
+IsSettingInForm (settings.ReadOnly flag) = Unit {0}
+
+abbrev pub IsSpecInForm : OpSpec → Type 0
+IsSpecInForm (specs.Text n) = IsWhole n
+IsSpecInForm (specs.Width n) = n ≤ 400
+IsSpecInForm (specs.Align n) = n ≤ 400
+
+pub record IsRunInForm (run : OpRun) : Type 0 where
+  pub from : IsWhole run.from
+  pub to : IsWhole run.to
+  pub value : IsWhole run.value
+
+pub record IsEntryInForm (entry : OpEntry) : Type 0 where
+  pub code : entry.code ≤ 1114111
+  pub text : IsTrue (is_glyph_text entry.text)
+
+abbrev pub IsSlot : Option ℕ → Type 0
+IsSlot None = Unit {0}
+IsSlot (Some c) = IsTrue (is_slot c)
+
+abbrev pub IsEllipsis : Option (List ℕ) → Type 0
+IsEllipsis None = Unit {0}
+IsEllipsis (Some text) = IsTrue (is_glyph_text text)
+
 -- each field of an op has the range, kind, length and characters that its row asks for
 abbrev pub IsInForm : Op → Type 0
 IsInForm (Frame width height) = (12 ≤ width) × (width ≤ 400) × (2 ≤ height) × (height ≤ 200)
@@ -44,6 +109,15 @@ IsInForm (TypeText text) = IsTrue (is_text text)
 IsInForm (Delete buffer from to) = IsTrue (is_buffer_name buffer) × IsWhole from × IsWhole to
 IsInForm (Narrow buffer from to) = IsTrue (is_buffer_name buffer) × IsWhole from × IsWhole to
 IsInForm (Widen buffer) = IsTrue (is_buffer_name buffer)
+IsInForm (Overlay buffer from to priority front rear) = IsTrue (is_buffer_name buffer) × IsWhole from × IsWhole to × IsTrue (is_near_zero 1000000 priority)
+IsInForm (OverlayMove buffer overlay from to) = IsTrue (is_buffer_name buffer) × IsWhole overlay × IsWhole from × IsWhole to
+IsInForm (OverlayDrop buffer overlay) = IsTrue (is_buffer_name buffer) × IsWhole overlay
+IsInForm (SetSetting buffer setting) = IsTrue (is_buffer_name buffer) × IsSettingInForm setting
+IsInForm (AddString text runs) = IsTrue (is_text text) × (length runs ≤ 256) × All IsRunInForm runs
+IsInForm (AddSpec spec) = IsSpecInForm spec
+IsInForm (AddFace face) = (face.fg ≤ 8) × (face.bg ≤ 8)
+IsInForm (AddTable entries truncation continuation escape control ellipsis border) =
+    (length entries ≤ 256) × All IsEntryInForm entries × IsSlot truncation × IsSlot continuation × IsSlot escape × IsSlot control × IsEllipsis ellipsis × IsSlot border
 IsInForm (Remove window) = IsWhole window
 IsInForm (Show window buffer) = IsWhole window × IsTrue (is_buffer_name buffer)
 IsInForm (Point window pos) = IsWhole window × IsWhole pos

@@ -1,5 +1,5 @@
 -- What a line of a script says: an op, or the first fault.
-use Rattle.std.specs.Prelude.{ℕ, ◌||◌, Bool, false, bytes_eq, if◌then◌else◌, List, [], ◌∷◌, Option, None, Some, Result, Ok, Err, codes}
+use Rattle.std.specs.Prelude.{ℕ, ◌||◌, Bool, true, false, bytes_eq, if◌then◌else◌, List, [], ◌∷◌, Option, None, Some, Result, Ok, Err, codes}
 use Rattle.std.specs.Str.{chars, is_utf8}
 use Rattle.serde_json.specs.Data.{Data, Members, no_members, member}
 use Rattle.serde_json.specs.Find.{get_member, as_object, as_str}
@@ -8,7 +8,9 @@ use Rattle.rd_script.specs.declared.fault.OpFault.{OpFault}
 use Rattle.rd_script.specs.declared.fault.OpFault.TheVariants.{NotJson, NotObject, NoSuchOp, Extra, NotBuilt}
 use Rattle.rd_script.specs.declared.name.Name.{Name}
 use Rattle.rd_script.specs.declared.op.Op.{Op}
-use Rattle.rd_script.specs.declared.op.Op.TheVariants.{Redisplay}
+use Rattle.rd_script.specs.declared.op.Op.TheVariants.{Setting as SetSetting, Redisplay}
+use Rattle.rd_script.specs.declared.setting.Setting.{Setting}
+use Rattle.rd_script.specs.declared.setting.Setting.TheVariants as settings
 use Rattle.rd_script.specs.Fields.{Fields, and_then, required_of}
 use Rattle.rd_script.specs.Table.{name_of, row}
 
@@ -41,10 +43,22 @@ unless_extra (Some key) op = Err (Extra (chars key))
 abbrev pub closed : List (List ℕ) → Members → Op → Result Op OpFault
 closed keys ms op = unless_extra (extra_key keys ms) op
 
+-- the settings and the ops of which each part is built
+abbrev pub is_built_setting : Setting → Bool
+is_built_setting (settings.TabWidth n) = true
+is_built_setting (settings.CtlArrow flag) = true
+is_built_setting (settings.Modified flag) = true
+is_built_setting (settings.ReadOnly flag) = true
+is_built_setting setting = false
+
+abbrev pub is_built : Op → Bool
+is_built (SetSetting buffer setting) = is_built_setting setting
+is_built (Redisplay (Some n)) = false
+is_built op = true
+
 -- an op in form, unless a part of it is not built
 abbrev pub built : Op → Result Op OpFault
-built (Redisplay (Some n)) = Err NotBuilt
-built op = Ok op
+built op = if is_built op then Ok op else Err NotBuilt
 
 -- an op by the fields of its row, beside which there is only the key `op`
 abbrev pub reading_fields : Members → Fields Op → Result Op OpFault

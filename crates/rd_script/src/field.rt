@@ -1,11 +1,11 @@
 //! The fields of an object.
-ghost use Rattle.std.specs.Prelude.{◌≡◌, IfOk, None, Some, Ok, Err, option_map, length, true};
+ghost use Rattle.std.specs.Prelude.{◌≡◌, pos, IfOk, None, Some, Ok, Err, option_map, length, true, false};
 ghost use Rattle.std.specs.List.{list_all};
 ghost use Rattle.std.specs.Str.{chars};
-ghost use Rattle.serde_json.specs.Find.{get_member, as_str};
+ghost use Rattle.serde_json.specs.Find.{get_member, as_bool, as_str};
 ghost use Rattle.serde_json.specs.View.{view, members_view};
 ghost use Rattle.rd_script.specs.declared.fault.OpFault.TheVariants as faults;
-ghost use Rattle.rd_script.specs.Fields.{whole, within, text, buffer_name, word, required, required_of, optional, optional_of, or_bad, IsRead, IsReadAs};
+ghost use Rattle.rd_script.specs.Fields.{whole, within, signed, text, buffer_name, word, present, required, required_of, optional, defaulted, or_bad, IsRead, IsReadAs};
 ghost use Rattle.rd_script.specs.Forms.{is_text, is_name_character, is_name_length, is_buffer_name};
 ghost use Rattle.rd_script.specs.Table.{wrap_modes};
 
@@ -62,27 +62,48 @@ pub fn within_if_any(
 ) -> Result<Option<u32>, OpFault>
     ensures { IsRead result ((optional key.now (within least greatest)).taken (members_view members.now.entries)) }
 {
-    match find(members, key) {
-        Some(value) => value_within_if_any(alloc, key, value, least, greatest),
+    match present(members, key) {
+        Some(value) => some(alloc, key, number_within(value, least, greatest)),
         None => Ok(None),
     }
 }
 
-/// The same for a member's value.
-fn value_within_if_any(
-    alloc: Global,
-    key: &str,
-    value: &Value,
-    least: u32,
-    greatest: u32,
-) -> Result<Option<u32>, OpFault>
-    ensures { IsRead result (optional_of key.now (within least greatest) (Some (view value.now))) }
+/// A whole number of 64 bits, and None where the member is absent or null.
+pub fn whole_if_any(alloc: Global, members: &Members, key: &str) -> Result<Option<u64>, OpFault>
+    ensures { IsRead result ((optional key.now whole).taken (members_view members.now.entries)) }
 {
-    if value.is_null() {
-        return Ok(None);
+    match present(members, key) {
+        Some(value) => some(alloc, key, value.as_u64()),
+        None => Ok(None),
     }
-    let number = good(alloc, key, number_within(value, least, greatest))?;
-    Ok(Some(number))
+}
+
+/// A priority of an overlay, and 0 where the member is absent or null.
+pub fn priority(alloc: Global, members: &Members, key: &str) -> Result<i32, OpFault>
+    ensures { IsRead result ((defaulted (pos 0) key.now (signed 1000000)).taken (members_view members.now.entries)) }
+{
+    match present(members, key) {
+        Some(value) => good(alloc, key, signed_number(value)),
+        None => Ok(0),
+    }
+}
+
+/// A flag.
+pub fn flag(alloc: Global, members: &Members, key: &str) -> Result<bool, OpFault>
+    ensures { IsRead result ((required key.now as_bool).taken (members_view members.now.entries)) }
+{
+    let value = member(alloc, members, key)?;
+    good(alloc, key, value.as_bool())
+}
+
+/// A flag, which is not set where the member is absent or null.
+pub fn flag_if_any(alloc: Global, members: &Members, key: &str) -> Result<bool, OpFault>
+    ensures { IsRead result ((defaulted false key.now as_bool).taken (members_view members.now.entries)) }
+{
+    match present(members, key) {
+        Some(value) => good(alloc, key, value.as_bool()),
+        None => Ok(false),
+    }
 }
 
 /// A text.
@@ -129,7 +150,7 @@ pub fn word<'a>(alloc: Global, members: &'a Members, key: &str) -> Result<&'a st
 }
 
 /// The member that a key has.
-fn member<'a>(alloc: Global, members: &'a Members, key: &str) -> Result<&'a Value, OpFault>
+pub fn member<'a>(alloc: Global, members: &'a Members, key: &str) -> Result<&'a Value, OpFault>
     ensures { IsReadAs (λ value. view value.now) result (required_of key.now Some (get_member key.now (members_view members.now.entries))) }
 {
     match find(members, key) {
@@ -145,8 +166,28 @@ fn find<'a>(members: &'a Members, key: &str) -> Option<&'a Value>
     members.get(key)
 }
 
+/// The value of a member that is there and is not null.
+pub fn present<'a>(members: &'a Members, key: &str) -> Option<&'a Value>
+    ensures { option_map (λ value. view value.now) result ≡ present (get_member key.now (members_view members.now.entries)) }
+{
+    match find(members, key) {
+        Some(value) if !value.is_null() => Some(value),
+        _ => None,
+    }
+}
+
+/// What was found of the value of a member that may be absent, or that it is bad.
+pub fn some<T: Drop>(alloc: Global, key: &str, found: Option<T>) -> Result<Option<T>, OpFault>
+    ensures { IsRead result (or_bad key.now (option_map Some found)) }
+{
+    match found {
+        Some(value) => Ok(Some(value)),
+        None => bad(alloc, key),
+    }
+}
+
 /// What was found of a member's value, or that it is bad.
-fn good<T: Drop>(alloc: Global, key: &str, found: Option<T>) -> Result<T, OpFault>
+pub fn good<T: Drop>(alloc: Global, key: &str, found: Option<T>) -> Result<T, OpFault>
     ensures { IsRead result (or_bad key.now found) }
 {
     match found {
@@ -156,18 +197,28 @@ fn good<T: Drop>(alloc: Global, key: &str, found: Option<T>) -> Result<T, OpFaul
 }
 
 /// That a member's value is bad.
-fn bad<T: Drop>(alloc: Global, key: &str) -> Result<T, OpFault>
+pub fn bad<T: Drop>(alloc: Global, key: &str) -> Result<T, OpFault>
     ensures { IsRead result (Err (faults.BadField (chars key.now))) }
 {
     Err(OpFault::BadField(characters(alloc, key)?))
 }
 
 /// A value's number, where it is a whole one of a range.
-fn number_within(value: &Value, least: u32, greatest: u32) -> Option<u32>
+pub fn number_within(value: &Value, least: u32, greatest: u32) -> Option<u32>
     ensures { result ≡ within least greatest (view value.now) }
 {
     match value.as_u64() {
         Some(n) if least as u64 <= n && n <= greatest as u64 => Some(n as u32),
+        _ => None,
+    }
+}
+
+/// A value's number, where it is a whole one from -1,000,000 to 1,000,000.
+fn signed_number(value: &Value) -> Option<i32>
+    ensures { result ≡ signed 1000000 (view value.now) }
+{
+    match value.as_i64() {
+        Some(n) if -1_000_000 <= n && n <= 1_000_000 => Some(n as i32),
         _ => None,
     }
 }

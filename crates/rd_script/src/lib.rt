@@ -5,18 +5,25 @@ mod buffer_name;
 mod dump;
 mod fault;
 mod field;
+mod item;
 mod name;
+mod object;
+mod object_field;
 mod op;
 mod print;
 mod read;
 mod row;
 mod runs;
+mod setting;
+mod setting_field;
 
 pub use buffer_name::BufferName;
 pub use dump::{WindowFacts, print_dump};
 pub use fault::OpFault;
+pub use object::{OpEntry, OpRun, OpSpec};
 pub use op::Op;
 pub use read::read_op;
+pub use setting::Setting;
 
 #[cfg(test)]
 mod tests;

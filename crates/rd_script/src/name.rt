@@ -12,6 +12,14 @@ pub enum Name {
     Delete,
     Narrow,
     Widen,
+    Overlay,
+    OverlayMove,
+    OverlayDrop,
+    Setting,
+    AddString,
+    AddSpec,
+    AddFace,
+    AddTable,
     Remove,
     Show,
     Point,
@@ -33,6 +41,14 @@ impl Name {
             "delete" => Some(Name::Delete),
             "narrow" => Some(Name::Narrow),
             "widen" => Some(Name::Widen),
+            "overlay" => Some(Name::Overlay),
+            "overlay_move" => Some(Name::OverlayMove),
+            "overlay_drop" => Some(Name::OverlayDrop),
+            "setting" => Some(Name::Setting),
+            "string" => Some(Name::AddString),
+            "spec" => Some(Name::AddSpec),
+            "face" => Some(Name::AddFace),
+            "table" => Some(Name::AddTable),
             "remove" => Some(Name::Remove),
             "show" => Some(Name::Show),
             "point" => Some(Name::Point),
@@ -40,15 +56,7 @@ impl Name {
             "redisplay" => Some(Name::Redisplay),
             "insert_raw"
             | "put"
-            | "overlay"
-            | "overlay_move"
-            | "overlay_drop"
             | "overlay_put"
-            | "setting"
-            | "string"
-            | "spec"
-            | "face"
-            | "table"
             | "split"
             | "select"
             | "start"

@@ -5,20 +5,21 @@ ghost use Rattle.rd_script.specs.declared.fault.OpFault.TheVariants as faults;
 ghost use Rattle.rd_script.specs.declared.op.Op.{Op};
 ghost use Rattle.rd_script.specs.Fields.{IsRead, IsReadAs};
 ghost use Rattle.rd_script.specs.Forms.{IsInForm};
-ghost use Rattle.rd_script.specs.Reading.{reading, json_of, reading_name, reading_members, built};
+ghost use Rattle.rd_script.specs.Reading.{reading, json_of, reading_name, reading_members, built, is_built, is_built_setting};
 
 use crate::fault::OpFault;
 use crate::field::{Members, word};
 use crate::name::Name;
 use crate::op::Op;
 use crate::row::{read_fields, refuse_extra};
+use crate::setting::Setting;
 use serde_json::Value;
 use std::alloc::Global;
 
 /// Reads a line of a script. The value is a JSON object (RFC 8259; of two members with one key the last counts) with the key
 /// `op`, the op's fields and no other key. The fault is the first in this order: no JSON, no object, `op` missing or no text,
 /// no op of that name, an op that is not built, each field in the order of its row missing or bad, the first other key in byte
-/// order, a stop of a redisplay, which is not built. It costs one reading of the line.
+/// order, a setting that is not built or a stop of a redisplay, which is not built. It costs one reading of the line.
 #[tactic(auto, unfolding(crate::specs::Reading::reading))]
 pub fn read_op(alloc: Global, line: &[u8]) -> Result<Op, OpFault>
     ensures read { IsRead result (reading line.now) }
@@ -71,8 +72,31 @@ fn read_name(alloc: Global, members: &Members) -> Result<Name, OpFault>
 fn only_built(op: Op) -> Result<Op, OpFault>
     ensures { IsRead result (built op) }
 {
+    if is_built(&op) {
+        Ok(op)
+    } else {
+        Err(OpFault::NotBuilt)
+    }
+}
+
+/// Whether each part of an op is built.
+fn is_built(op: &Op) -> bool
+    ensures { result ≡ is_built op.now }
+{
     match op {
-        Op::Redisplay { stop: Some(_) } => Err(OpFault::NotBuilt),
-        op => Ok(op),
+        Op::Setting { setting, .. } => is_built_setting(setting),
+        Op::Redisplay { stop: Some(_) } => false,
+        _ => true,
+    }
+}
+
+/// Whether a setting is built.
+fn is_built_setting(setting: &Setting) -> bool
+    ensures { result ≡ is_built_setting setting.now }
+{
+    match setting {
+        Setting::TabWidth(_) | Setting::CtlArrow(_) | Setting::Modified(_) | Setting::ReadOnly(_) =>
+            true,
+        _ => false,
     }
 }

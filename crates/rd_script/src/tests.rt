@@ -10,6 +10,7 @@ ghost use Rattle.rd_script.specs.Reading.{reading};
 
 use super::*;
 use rd_base::{Ch, ListOf, Wrap};
+use rd_objects::RunKind;
 use std::alloc::Global;
 use std::test::Fail;
 
@@ -135,6 +136,45 @@ fn each_field_has_its_form(rt: HostRuntime) {
         (r#"{"op":"wrap","window":{},"mode":"truncate"}"#, "window"),
         (r#"{"op":"wrap","window":0,"mode":"word"}"#, "mode"),
         (r#"{"op":"redisplay","stop":201}"#, "stop"),
+        (
+            r#"{"op":"overlay","buffer":"a","from":1,"to":1,"priority":1000001}"#,
+            "priority",
+        ),
+        (
+            r#"{"op":"overlay","buffer":"a","from":1,"to":1,"front":0}"#,
+            "front",
+        ),
+        (
+            r#"{"op":"setting","buffer":"a","name":"tab_width","value":33}"#,
+            "value",
+        ),
+        (
+            r#"{"op":"setting","buffer":"a","name":"tab_width","value":null}"#,
+            "value",
+        ),
+        (
+            r#"{"op":"setting","buffer":"a","name":"wrap","value":1}"#,
+            "name",
+        ),
+        (
+            r#"{"op":"setting","buffer":"a","name":"invisible","value":[[65536,true]]}"#,
+            "value",
+        ),
+        (r#"{"op":"string","text":"","runs":[[0,1,"face"]]}"#, "runs"),
+        (
+            r#"{"op":"string","text":"","runs":[[0,1,"before",0]]}"#,
+            "runs",
+        ),
+        (r#"{"op":"spec","kind":"width","value":401}"#, "value"),
+        (r#"{"op":"face","fg":8}"#, "fg"),
+        (r#"{"op":"table","entries":[[1114112,"a"]]}"#, "entries"),
+        (r#"{"op":"table","entries":[[97,"\u0301"]]}"#, "entries"),
+        (r#"{"op":"table","border":"中"}"#, "border"),
+        (r#"{"op":"table","border":""}"#, "border"),
+        (
+            r#"{"op":"table","ellipsis":"12345678901234567"}"#,
+            "ellipsis",
+        ),
         (r#"{"op":"redisplay","stop":"0"}"#, "stop"),
     ] {
         assert!(rt;
@@ -209,6 +249,22 @@ fn the_first_fault_is_told(rt: HostRuntime) {
             "mode",
         ),
         (r#"{"op":"redisplay","stop":200}"#, "NotBuilt", ""),
+        (
+            r#"{"op":"setting","buffer":"x","name":"table"}"#,
+            "NotBuilt",
+            "",
+        ),
+        (
+            r#"{"op":"setting","buffer":"x","name":"direction","value":"left"}"#,
+            "NotBuilt",
+            "",
+        ),
+        (
+            r#"{"op":"setting","buffer":"x","name":"reorder"}"#,
+            "Missing",
+            "value",
+        ),
+        (r#"{"op":"put","buffer":1}"#, "NotBuilt", ""),
         (r#"{"op":"redisplay","stop":200,"x":1}"#, "Extra", "x"),
     ] {
         assert!(rt; faults(rt.alloc(), line.as_bytes(), kind, key), "{line}");
@@ -293,6 +349,65 @@ fn is_op(op: &Op, number: u32) -> bool {
         Op::Wrap { window, mode } => number == 9 && *window == 2 && *mode == Wrap::Continue,
         Op::Redisplay { stop } => number == 10 && stop.is_none(),
         Op::Remove { window } => number == 11 && *window == u64::MAX,
+        op => is_new_op(op, number),
+    }
+}
+
+/// The same of the ops on overlays, settings and objects.
+fn is_new_op(op: &Op, number: u32) -> bool {
+    match op {
+        Op::Overlay {
+            buffer,
+            from,
+            to,
+            priority,
+            front,
+            rear,
+        } => {
+            number == 12
+                && buffer.as_str() == "a"
+                && (*from, *to, *priority) == (2, 3, -1_000_000)
+                && *front
+                && !*rear
+        }
+        Op::OverlayMove {
+            overlay,
+            from,
+            to,
+            ..
+        } => number == 13 && (*overlay, *from, *to) == (0, 1, u64::MAX),
+        Op::OverlayDrop { overlay, .. } => number == 14 && *overlay == 7,
+        Op::Setting { setting, .. } => match setting {
+            Setting::TabWidth(columns) => number == 15 && *columns == 32,
+            _ => false,
+        },
+        Op::AddString { text, runs } => {
+            number == 16
+                && is_spelled(text, "ab")
+                && runs.len() == 1
+                && runs.at(0)
+                    == OpRun {
+                        from: 0,
+                        to: 1,
+                        kind: RunKind::Display,
+                        value: 9,
+                    }
+        }
+        Op::AddSpec { spec } => number == 17 && *spec == OpSpec::Align(400),
+        Op::AddFace { face } => number == 18 && face.fg == 7 && face.bg == 8 && face.underline,
+        Op::AddTable {
+            entries,
+            ellipsis,
+            border,
+            ..
+        } => {
+            number == 19
+                && entries.len() == 2
+                && is_spelled(&entries.get(1).text, "b中")
+                && ellipsis.is_none()
+                && *border == Some(Ch::scalar('|'))
+        }
+        _ => false,
     }
 }
 
@@ -318,6 +433,29 @@ fn each_op_is_read(rt: HostRuntime) {
         (r#"{"op":"redisplay"}"#, 10),
         (r#"{"op":"redisplay","stop":null}"#, 10),
         (r#"{"op":"remove","window":18446744073709551615}"#, 11),
+        (
+            r#"{"op":"overlay","buffer":"a","from":2,"to":3,"priority":-1000000,"front":true,"rear":null}"#,
+            12,
+        ),
+        (
+            r#"{"op":"overlay_move","buffer":"a","overlay":0,"from":1,"to":18446744073709551615}"#,
+            13,
+        ),
+        (r#"{"op":"overlay_drop","buffer":"a","overlay":7}"#, 14),
+        (
+            r#"{"op":"setting","buffer":"a","name":"tab_width","value":32}"#,
+            15,
+        ),
+        (
+            r#"{"op":"string","text":"ab","runs":[[0,1,"display",9]]}"#,
+            16,
+        ),
+        (r#"{"op":"spec","kind":"align","value":400}"#, 17),
+        (r#"{"op":"face","fg":7,"underline":true}"#, 18),
+        (
+            r#"{"op":"table","entries":[[97,""],[1114111,"b中"]],"ellipsis":null,"border":"|"}"#,
+            19,
+        ),
     ] {
         match read_op(rt.alloc(), line.as_bytes()) {
             Ok(op) => assert!(rt; is_op(&op, number), "{line}"),

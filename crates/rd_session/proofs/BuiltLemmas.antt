@@ -6,13 +6,17 @@ use Rattle.rd_text.specs.Texts.{narrowed, widened}
 use Rattle.rd_script.specs.declared.op.Op.{Op}
 use Rattle.rd_script.specs.declared.op.Op.TheVariants as ops
 use Rattle.rd_script.specs.Forms.{each}
+use Rattle.rd_script.specs.declared.setting.Setting.{Setting}
+use Rattle.rd_objects.specs.Things.{ObjectLists}
 use Rattle.rd_state.specs.declared.refused.Refused.{Refused}
-use Rattle.rd_state.specs.declared.refused.Refused.TheVariants.{NoWindow, NameTaken, TooManyBuffers, LastWindow, NotBuilt, OutOfRange, TextTooLarge}
+use Rattle.rd_state.specs.declared.refused.Refused.TheVariants.{NoWindow, NoObject, NameTaken, TooManyBuffers, LastWindow, NotBuilt, OutOfRange, TextTooLarge}
 use Rattle.rd_state.specs.declared.window.WindowState.{WindowState}
 use Rattle.rd_state.specs.States.{BufferValue, StateValue, IsValid, new_buffer, main_name, most_buffers, number_of, opening}
-use Rattle.rd_state.specs.Edits.{is_accessible, is_built_character, is_built, is_accessible_range, is_range_of_all, has_room, grown, shrunk, insertion, deletion, narrowing, widening, after_insertion, after_deletion, brought_into}
-use Rattle.rd_state.specs.Steps.{moved_in, changed, with, in_buffer, with_point, making, typing, showing, pointing, step}
+use Rattle.rd_state.specs.Edits.{is_accessible, is_built_character, is_built, is_accessible_range, is_range_of_all, has_room, grown, shrunk, insertion, deletion, narrowing, widening, overlay_making, overlay_moving, overlay_dropping, setting_putting, after_insertion, after_deletion, brought_into}
+use Rattle.rd_state.specs.Steps.{moved_in, changed, replaced, with_objects, names_made, with, in_buffer, with_point, making, typing, showing, pointing, step}
+use Rattle.rd_state.specs.Making.{string_making, spec_making, face_making, table_making, table_of}
 use Rattle.rd_state.proofs.Edits.{if-ok, if-not}
+use Rattle.rd_state.proofs.Replacing.{KeepsText, making-keeps, moving-keeps, dropping-keeps, putting-keeps}
 use Rattle.rd_state.proofs.Keeping.{get-set}
 use Rattle.rd_session.specs.Sessions.{IsBuilt, is_frame}
 
@@ -122,6 +126,40 @@ edited-named : (s t : StateValue) (name : List ℕ) (f : ℕ → ℕ) (g : Buffe
 edited-named s t name f g keeps h =
     edited-found s t (number_of name s.buffers) (slice_get s.buffers (number_of name s.buffers)) f g keeps refl h
 
+-- ---- an op that leaves the text of a buffer
+
+kept-built : (g : BufferValue → Result BufferValue Refused) → KeepsText g → KeepsBuilt g
+kept-built g k b c old h = subst (λ t. is_built t.text ≡ true) (sym (k.text b c h)) old
+
+replaced-stays : (s t : StateValue) (i : ℕ) (b : BufferValue) (r : Result BufferValue Refused)
+    → slice_get s.buffers i ≡ Some b → ((c : BufferValue) → HasBuilt b → r ≡ Ok c → HasBuilt c) → replaced s i r ≡ Ok t → Stays s t
+replaced-stays s t i b (Err e) at keeps h = absurd (cc)
+replaced-stays s t i b (Ok c) at keeps h =
+    let same : record s { buffers = slice_set s.buffers i c } ≡ t = cc in
+    subst (Stays s) same (record { wide = refl; high = refl; texts = λ old. set-built s.buffers i c old (keeps c (old i b at) refl) })
+
+replaced-found : (s t : StateValue) (i : ℕ) (o : Option BufferValue) (g : BufferValue → Result BufferValue Refused)
+    → KeepsText g → slice_get s.buffers i ≡ o → with o (λ b. replaced s i (g b)) ≡ Ok t → Stays s t
+replaced-found s t i None g keeps at h = absurd (cc)
+replaced-found s t i (Some b) g keeps at h = replaced-stays s t i b (g b) at (kept-built g keeps b) h
+
+replaced-named : (s t : StateValue) (name : List ℕ) (g : BufferValue → Result BufferValue Refused)
+    → KeepsText g → in_buffer s name (λ i b. replaced s i (g b)) ≡ Ok t → Stays s t
+replaced-named s t name g keeps h = replaced-found s t (number_of name s.buffers) (slice_get s.buffers (number_of name s.buffers)) g keeps refl h
+
+set-found : (s t : StateValue) (i : ℕ) (o : Option BufferValue) (setting : Setting) → slice_get s.buffers i ≡ o
+    → with o (λ b. if names_made s.objects setting then replaced s i (setting_putting b setting) else Err NoObject) ≡ Ok t → Stays s t
+set-found s t i None setting at h = absurd (cc)
+set-found s t i (Some b) setting at h =
+    let parts = if-ok (names_made s.objects setting) (replaced s i (setting_putting b setting)) NoObject t h in
+    replaced-stays s t i b (setting_putting b setting) at (kept-built (λ x. setting_putting x setting) (putting-keeps setting) b) parts.1
+
+objects-stay : (s t : StateValue) (r : Result ObjectLists Refused) → with_objects s r ≡ Ok t → Stays s t
+objects-stay s t (Err e) h = absurd (cc)
+objects-stay s t (Ok p) h =
+    let same : record s { objects = p } ≡ t = cc in
+    subst (Stays s) same (record { wide = refl; high = refl; texts = λ old. old })
+
 -- ---- typing
 
 typed : (s t : StateValue) (p i : ℕ) (b : BufferValue) (f : ℕ → ℕ) (r : Result BufferValue Refused)
@@ -189,6 +227,18 @@ step-stays s t (ops.Delete name from to) h other =
 step-stays s t (ops.Narrow name from to) h other =
     edited-named s t name (brought_into from to) (λ b. narrowing b from to) (narrowing-built from to) h
 step-stays s t (ops.Widen name) h other = edited-named s t name (λ p. p) widening widening-built h
+step-stays s t (ops.Overlay name from to priority front rear) h other =
+    replaced-named s t name (λ b. overlay_making b from to priority front rear) (making-keeps from to priority front rear) h
+step-stays s t (ops.OverlayMove name overlay from to) h other =
+    replaced-named s t name (λ b. overlay_moving b overlay from to) (moving-keeps overlay from to) h
+step-stays s t (ops.OverlayDrop name overlay) h other = replaced-named s t name (λ b. overlay_dropping b overlay) (dropping-keeps overlay) h
+step-stays s t (ops.Setting name setting) h other =
+    set-found s t (number_of name s.buffers) (slice_get s.buffers (number_of name s.buffers)) setting refl h
+step-stays s t (ops.AddString text runs) h other = objects-stay s t (string_making s.objects text runs) h
+step-stays s t (ops.AddSpec spec) h other = objects-stay s t (spec_making s.objects spec) h
+step-stays s t (ops.AddFace face) h other = objects-stay s t (face_making s.objects face) h
+step-stays s t (ops.AddTable entries truncation continuation escape control ellipsis border) h other =
+    objects-stay s t (table_making s.objects (table_of entries truncation continuation escape control ellipsis border)) h
 step-stays s t (ops.Remove window) h other =
     let parts = if-ok (window == 0) (Err LastWindow) NoWindow t h in
     absurd (cc (parts.1))
@@ -224,6 +274,15 @@ step-texts s t (ops.TypeText text) h old = (step-stays s t (ops.TypeText text) h
 step-texts s t (ops.Delete name from to) h old = (step-stays s t (ops.Delete name from to) h refl).texts old
 step-texts s t (ops.Narrow name from to) h old = (step-stays s t (ops.Narrow name from to) h refl).texts old
 step-texts s t (ops.Widen name) h old = (step-stays s t (ops.Widen name) h refl).texts old
+step-texts s t (ops.Overlay name from to priority front rear) h old = (step-stays s t (ops.Overlay name from to priority front rear) h refl).texts old
+step-texts s t (ops.OverlayMove name overlay from to) h old = (step-stays s t (ops.OverlayMove name overlay from to) h refl).texts old
+step-texts s t (ops.OverlayDrop name overlay) h old = (step-stays s t (ops.OverlayDrop name overlay) h refl).texts old
+step-texts s t (ops.Setting name setting) h old = (step-stays s t (ops.Setting name setting) h refl).texts old
+step-texts s t (ops.AddString text runs) h old = (step-stays s t (ops.AddString text runs) h refl).texts old
+step-texts s t (ops.AddSpec spec) h old = (step-stays s t (ops.AddSpec spec) h refl).texts old
+step-texts s t (ops.AddFace face) h old = (step-stays s t (ops.AddFace face) h refl).texts old
+step-texts s t (ops.AddTable entries truncation continuation escape control ellipsis border) h old =
+    (step-stays s t (ops.AddTable entries truncation continuation escape control ellipsis border) h refl).texts old
 step-texts s t (ops.Remove window) h old = (step-stays s t (ops.Remove window) h refl).texts old
 step-texts s t (ops.Show window name) h old = (step-stays s t (ops.Show window name) h refl).texts old
 step-texts s t (ops.Point window pos) h old = (step-stays s t (ops.Point window pos) h refl).texts old

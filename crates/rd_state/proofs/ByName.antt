@@ -2,7 +2,7 @@
 use Rattle.std.proofs.Common.{◌≡◌, ℕ, zero, suc, ◌+◌, ◌≤◌, Bool, true, false, cond, not, if◌then◌else◌, None, Some, Result, Ok, Err, List, [], ◌∷◌, ◌++◌, length, set, sym, ap, refl, ◌∙◌, arith}
 use Rattle.std.proofs.lemmas.Bool.{ltb-false}
 use Rattle.std.proofs.lemmas.List.Sums.{prefix_len-le-length}
-use Rattle.std.specs.Prelude.{slice_get, nat_lt, position, String, string_bytes, is_ok, OnErr}
+use Rattle.std.specs.Prelude.{slice_get, nat_lt, position, String, string_bytes, is_ok, IfOk, OnErr}
 use Rattle.std.specs.String.{string_eq}
 use Rattle.std.specs.declared.alloc.Global.{Global}
 use Rattle.std.specs.List.{position_or_len}
@@ -10,6 +10,8 @@ use Rattle.std.specs.Map.{keys_of, values_of}
 use Rattle.std.specs.Str.{bytes_eq}
 use Rattle.indexmap.specs.IndexMap.{insert_entry}
 use Rattle.indexmap.specs.Layout.{set_value_at}
+use Rattle.rd_overlays.specs.declared.overlay.Overlay.{Overlay}
+use Rattle.rd_overlays.specs.Overlays.{overlay_at}
 use Rattle.rd_state.specs.declared.refused.Refused.{Refused}
 use Rattle.rd_state.specs.States.{BufferValue, ContentValue, named, buffers_of, number_of}
 use Rattle.rd_state.specs.Answers.{Changes, ChangesAt}
@@ -104,3 +106,14 @@ changes-at r f i es b c at h =
 pub text-at : (es : List (String Global × ContentValue)) (i : ℕ) (b : ContentValue) → slice_get (values_of es) i ≡ Some b
     → (x : BufferValue) × (slice_get (buffers_of es) i ≡ Some x) × (b.text ≡ x.text)
 text-at es i b at = let there = at-place es i b b at in (named there.0 b, there.1, refl)
+
+-- what is said of an overlay, where one lives, of the buffer at a place
+pub overlay-found : (es : List (String Global × ContentValue)) (i number : ℕ) (b : ContentValue) (r : Result Overlay Refused) → slice_get (values_of es) i ≡ Some b
+    → IfOk r (λ o. overlay_at b.overlays number ≡ Some o) → IfOk r (λ o. (x : BufferValue) × (slice_get (buffers_of es) i ≡ Some x) × (overlay_at x.overlays number ≡ Some o))
+overlay-found es i number b (Ok o) at h = let there = at-place es i b b at in (named there.0 b, there.1, h)
+overlay-found es i number b (Err e) at h = h
+
+pub overlay-absent : (es : List (String Global × ContentValue)) (i number : ℕ) (b : ContentValue) (r : Result Overlay Refused) → slice_get (values_of es) i ≡ Some b
+    → OnErr r (overlay_at b.overlays number ≡ None) → OnErr r ((x : BufferValue) × (slice_get (buffers_of es) i ≡ Some x) × (overlay_at x.overlays number ≡ None))
+overlay-absent es i number b (Ok o) at h = h
+overlay-absent es i number b (Err e) at h = let there = at-place es i b b at in (named there.0 b, there.1, h)

@@ -74,6 +74,7 @@ changed-valid s i b c f v at same new moves = record {
   few = rw length-set v.few;
   told = told-set s.buffers i b c v.told at same;
   texts = texts-set s.buffers i c v.texts new;
+  objects = v.objects;
   shown = showing-moved s.buffers s.window i b c f (s.window.buffer == i) refl v.shown at moves;
   frame = v.frame;
 }

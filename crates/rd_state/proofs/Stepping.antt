@@ -14,10 +14,13 @@ use Rattle.rd_state.specs.declared.refused.Refused.{Refused}
 use Rattle.rd_state.specs.declared.refused.Refused.TheVariants.{NoWindow, NameTaken, TooManyBuffers, LastWindow, NotBuilt, OutOfRange}
 use Rattle.rd_state.specs.declared.window.WindowState.{WindowState}
 use Rattle.rd_state.specs.States.{BufferValue, StateValue, new_buffer, most_buffers, number_of, AreToldByName, AreTexts, IsShowing, IsValid}
-use Rattle.rd_state.specs.Edits.{is_accessible, is_built, insertion, after_insertion, after_deletion, brought_into, deletion, narrowing, widening}
+use Rattle.rd_state.specs.Edits.{is_accessible, is_built, insertion, after_insertion, after_deletion, brought_into, deletion, narrowing, widening, overlay_making, overlay_moving, overlay_dropping}
 use Rattle.rd_state.specs.Steps.{moved, moved_in, changed, with, in_buffer, making, typing, showing, pointing, with_point, step}
 use Rattle.rd_state.specs.Answers.{ChangesAt}
 use Rattle.rd_state.proofs.Keeping.{Keeps, get-set, kept-valid, in_buffer-valid}
+use Rattle.rd_state.specs.Making.{string_making, spec_making, face_making, table_making, table_of}
+use Rattle.rd_state.proofs.Making.{string-few, spec-few, face-few, table-few, objects-valid}
+use Rattle.rd_state.proofs.Replacing.{in_buffer-replaced, making-keeps, moving-keeps, dropping-keeps, setting-valid}
 use Rattle.rd_state.proofs.Edits.{if-ok, if-not, is_accessible-means, insertion-means, insertion-keeps, deletion-keeps, narrowing-keeps, widening-keeps}
 
 -- ---- a new buffer
@@ -84,6 +87,7 @@ appended-valid s name v room free = record {
   few = omega (arith, room, length-append s.buffers (new_buffer name ∷ []));
   told = told-append s.buffers name v.told free;
   texts = texts-append s.buffers name v.texts;
+  objects = v.objects;
   shown = shown-append s.buffers name s.window v.shown;
   frame = v.frame;
 }
@@ -102,7 +106,7 @@ making-valid s t name v h =
 
 -- another view of the buffers
 viewed-valid : (s : StateValue) (w : WindowState) → IsValid s → IsShowing s.buffers w → IsValid (record s { window = w })
-viewed-valid s w v shown = record { few = v.few; told = v.told; texts = v.texts; shown = shown; frame = v.frame }
+viewed-valid s w v shown = record { few = v.few; told = v.told; texts = v.texts; objects = v.objects; shown = shown; frame = v.frame }
 
 one_there : {X : Type 0} (xs : List X) (i : ℕ) (b c : X) → slice_get xs i ≡ Some b → slice_get xs i ≡ Some c → b ≡ c
 one_there xs i b c h k = cc
@@ -183,6 +187,7 @@ step-valid s t (ops.Frame width height) v form h =
       few = v.few;
       told = v.told;
       texts = v.texts;
+      objects = v.objects;
       shown = v.shown;
       frame = record { wide = form.0; narrow = form.1; high = form.2; low = form.3 };
     } in
@@ -197,6 +202,18 @@ step-valid s t (ops.Delete name from to) v form h =
 step-valid s t (ops.Narrow name from to) v form h =
     in_buffer-valid s t name (brought_into from to) (λ b. narrowing b from to) v (narrowing-keeps from to) h
 step-valid s t (ops.Widen name) v form h = in_buffer-valid s t name (λ p. p) widening v widening-keeps h
+step-valid s t (ops.Overlay name from to priority front rear) v form h =
+    in_buffer-replaced s t name (λ b. overlay_making b from to priority front rear) v (making-keeps from to priority front rear) h
+step-valid s t (ops.OverlayMove name overlay from to) v form h =
+    in_buffer-replaced s t name (λ b. overlay_moving b overlay from to) v (moving-keeps overlay from to) h
+step-valid s t (ops.OverlayDrop name overlay) v form h = in_buffer-replaced s t name (λ b. overlay_dropping b overlay) v (dropping-keeps overlay) h
+step-valid s t (ops.Setting name setting) v form h = setting-valid s t name setting v h
+step-valid s t (ops.AddString text runs) v form h = objects-valid s t (string_making s.objects text runs) v (λ p. string-few s.objects p text runs v.objects) h
+step-valid s t (ops.AddSpec spec) v form h = objects-valid s t (spec_making s.objects spec) v (λ p. spec-few s.objects p spec v.objects) h
+step-valid s t (ops.AddFace face) v form h = objects-valid s t (face_making s.objects face) v (λ p. face-few s.objects p face v.objects) h
+step-valid s t (ops.AddTable entries truncation continuation escape control ellipsis border) v form h =
+    let table = table_of entries truncation continuation escape control ellipsis border in
+    objects-valid s t (table_making s.objects table) v (λ p. table-few s.objects p table v.objects) h
 step-valid s t (ops.Remove window) v form h =
     let parts = if-ok (window == 0) (Err LastWindow) NoWindow t h in
     absurd (cc (parts.1))
@@ -215,7 +232,7 @@ step-valid s t (ops.Redisplay stop) v form h = let same : s ≡ t = cc in subst 
 -- the list after an edit of one buffer and the window that moved with it
 pub at-valid : (s : StateValue) (i : ℕ) (f : ℕ → ℕ) (g : BufferValue → Result BufferValue Refused) (bs : List BufferValue) (w : WindowState)
     → IsValid s → Keeps g f → ChangesAt (Ok tt) g i s.buffers bs → w ≡ moved_in i f s.window
-    → IsValid (record { buffers = bs; window = w; width = s.width; height = s.height })
+    → IsValid (record { buffers = bs; objects = s.objects; window = w; width = s.width; height = s.height })
 at-valid s i f g bs w v k (b, c, at, gives, is) e =
     let new = kept-valid s i b c f g v k at gives in
     subst (λ xs. IsValid (record s { buffers = xs; window = w })) (sym is)
@@ -225,7 +242,7 @@ at-valid s i f g bs w v k (b, c, at, gives, is) e =
 pub typed-valid : (s : StateValue) (new : List ℕ) (bs : List BufferValue) (w : WindowState)
     → IsValid s → ChangesAt (Ok tt) (λ b. insertion b s.window.point new) s.window.buffer s.buffers bs
     → w ≡ moved_in s.window.buffer (after_insertion s.window.point (length new)) s.window
-    → IsValid (record { buffers = bs; window = record w { point = s.window.point + length new }; width = s.width; height = s.height })
+    → IsValid (record { buffers = bs; objects = s.objects; window = record w { point = s.window.point + length new }; width = s.width; height = s.height })
 typed-valid s new bs w v (b, c, at, gives, is) e =
     let i = s.window.buffer in
     let p = s.window.point + length new in
@@ -240,5 +257,5 @@ moved-nowhere true w = refl
 moved-nowhere false w = refl
 
 -- the list as it was, after a call that changed none of it
-pub unchanged-valid : (s : StateValue) (bs : List BufferValue) → IsValid s → bs ≡ s.buffers → IsValid (record { buffers = bs; window = s.window; width = s.width; height = s.height })
+pub unchanged-valid : (s : StateValue) (bs : List BufferValue) → IsValid s → bs ≡ s.buffers → IsValid (record { buffers = bs; objects = s.objects; window = s.window; width = s.width; height = s.height })
 unchanged-valid s bs v e = subst (λ xs. IsValid (record s { buffers = xs })) (sym e) v

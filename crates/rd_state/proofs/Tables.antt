@@ -170,6 +170,7 @@ nothing-within b e = subst IsWithin (sym e) (record {
   kinds = λ kind p value h. absurd (cc);
   first = λ kind p value h. absurd (cc);
   last = λ kind p value h. absurd (cc);
+  few = omega arith;
   overlays = λ number o h. absurd (cc);
 })
 

@@ -1,13 +1,17 @@
 -- Overlays and values of properties that lie in a text, and still do after an edit of it.
-use Rattle.std.proofs.Common.{◌≡◌, ℕ, zero, suc, ◌+◌, ◌-◌, ◌<◌, ◌≤◌, ◌++◌, ◌==◌, ◌&&◌, ◌||◌, Bool, true, false, if◌then◌else◌, nat_lt, Option, None, Some, List, [], ◌∷◌, length, map, take, drop, sym, ap, subst, refl, ◌∙◌, arith, length-append, length-drop}
-use Rattle.std.proofs.lemmas.Bool.{ltb-true, ltb-false}
+use Rattle.std.proofs.Common.{◌≡◌, ℕ, zero, suc, ◌+◌, ◌-◌, ◌<◌, ◌≤◌, ◌⊎◌, ◌++◌, inl, inr, ◌==◌, ◌&&◌, ◌||◌, Bool, true, false, if◌then◌else◌, nat_lt, nat_le, Option, None, Some, Err, List, [], ◌∷◌, length, map, take, drop, set, sym, ap, subst, refl, ◌∙◌, arith, length-append, length-drop}
+use Rattle.std.proofs.lemmas.Bool.{ltb-true, ltb-false, leb-false}
 use Rattle.std.proofs.lemmas.Bool.Decides.{nat_tests}
-use Rattle.std.proofs.lemmas.List.{length-take}
-use Rattle.rd_text.specs.Texts.{IsText, IsAccessible, inserted, deleted}
+use Rattle.std.proofs.lemmas.List.{length-take, length-map, length-set}
+use Rattle.rd_text.specs.Texts.{TextValue, IsText, IsAccessible, inserted, deleted}
 use Rattle.rd_text.specs.Answers.{IsAccessibleRange}
 use Rattle.rd_overlays.specs.declared.overlay.Overlay.{Overlay}
-use Rattle.rd_overlays.specs.Overlays.{live, overlay_at, slot_changed, slot_grown, slot_shrunk, grown, shrunk, after_deletion, AllFit, SlotFits}
+use Rattle.rd_overlays.specs.Overlays.{live, overlay_at, make_fault, moved, Makes, slot_changed, slot_grown, slot_shrunk, grown, shrunk, after_deletion, AllFit, SlotFits}
+use Rattle.rd_base.specs.Settings.{SettingValues}
+use Rattle.rd_overlays.specs.declared.fault.OverlayFault.{OverlayFault}
+use Rattle.rd_overlays.specs.declared.fault.OverlayFault.TheVariants.{NoOverlay, OutOfRange, TooMany, Memory}
 use Rattle.rd_props.specs.Buffers as props
+use Rattle.rd_state.specs.Edits.{is_range_of_all}
 use Rattle.rd_state.specs.States.{IsOverlayIn, IsWithin}
 use Rattle.rd_state.specs.Values.{opened, closed}
 
@@ -143,6 +147,7 @@ grown-within b c pos new text within at same values overlays =
           let from = came kind p value h in
           let most = within.last kind from.0 value from.1 in
           omega (arith, from.3, most, size);
+      few = subst (λ xs. length xs ≤ 65536) (sym overlays) (rw length-map within.few);
       overlays = subst (λ s. AreIn s c.overlays) (sym size) (subst (AreIn (length b.text.text + n)) (sym overlays)
           (changed-in (length b.text.text) (length b.text.text + n) (grown pos n) b.overlays within.overlays (grown-in (length b.text.text) pos n)));
     }
@@ -168,6 +173,7 @@ shrunk-within b c from to text within at same values overlays =
       last = λ kind p value h.
           let least = closed-last (nat_lt p from) b.properties (length b.text.text) from to kind p value refl ordered most (within.last kind) (sym (values kind p) ∙ h) in
           omega (arith, least, size);
+      few = subst (λ xs. length xs ≤ 65536) (sym overlays) (rw length-map within.few);
       overlays = subst (λ s. AreIn s c.overlays) (sym size) (subst (AreIn (length b.text.text - (to - from))) (sym overlays)
           (changed-in (length b.text.text) (length b.text.text - (to - from)) (shrunk from to) b.overlays within.overlays
           (λ o. shrunk-in (length b.text.text) from to o one ordered most)));
@@ -180,5 +186,85 @@ same-within b c within same values overlays = record {
   kinds = λ kind p value h. within.kinds kind p value (sym (values kind p) ∙ h);
   first = λ kind p value h. within.first kind p value (sym (values kind p) ∙ h);
   last = λ kind p value h. subst (λ t. p ≤ length t) (sym same) (within.last kind p value (sym (values kind p) ∙ h));
+  few = subst (λ xs. length xs ≤ 65536) (sym overlays) within.few;
   overlays = subst (λ t. AreIn (length t) c.overlays) (sym same) (subst (AreIn (length b.text.text)) (sym overlays) within.overlays);
 }
+
+-- ---- one overlay more, or another
+
+at-end : (slots : List (Option Overlay)) (o : Overlay) (number : ℕ) (p : Overlay) → overlay_at (slots ++ Some o ∷ []) number ≡ Some p
+    → (overlay_at slots number ≡ Some p) ⊎ (o ≡ p)
+at-end [] o zero p h = inr (cc)
+at-end [] o (suc number) p h = absurd (cc)
+at-end (slot ∷ slots) o zero p h = inl h
+at-end (slot ∷ slots) o (suc number) p h = at-end slots o number p h
+
+after-set : (slots : List (Option Overlay)) (i : ℕ) (slot : Option Overlay) (number : ℕ) (p : Overlay) → overlay_at (set slots i slot) number ≡ Some p
+    → (overlay_at slots number ≡ Some p) ⊎ (slot ≡ Some p)
+after-set [] i slot number p h = inl h
+after-set (s ∷ slots) zero slot zero p h = inr h
+after-set (s ∷ slots) zero slot (suc number) p h = inl h
+after-set (s ∷ slots) (suc i) slot zero p h = inl h
+after-set (s ∷ slots) (suc i) slot (suc number) p h = after-set slots i slot number p h
+
+in-range : (t : TextValue) (from to : ℕ) (o : Overlay) → is_range_of_all t from to ≡ true → o.from ≡ from → o.to ≡ to → IsOverlayIn (length t.text) o
+in-range t from to o h f g = record { first = grind (arith, nat_tests); ordered = grind (arith, nat_tests); last = grind (arith, nat_tests) }
+
+pub not-made : (e : OverlayFault) (fault : Option OverlayFault) (old new : List (Option Overlay)) (o : Overlay) → Makes (Err e) fault old new o → new ≡ old
+not-made NoOverlay fault old new o h = h.1
+not-made OutOfRange fault old new o h = h.1
+not-made TooMany fault old new o h = h.1
+not-made Memory fault old new o h = h
+
+room-left : (a b : Bool) (n from to : ℕ) → nat_lt to from ≡ a → nat_le 65536 n ≡ b → (if a then Some OutOfRange else (if b then Some TooMany else None)) ≡ None → n < 65536
+room-left true b n from to ha hb h = absurd (cc)
+room-left false true n from to ha hb h = absurd (cc)
+room-left false false n from to ha hb h = leb-false 65536 n hb
+
+pub made-within : (b : props.BufferValue) (overlays : List (Option Overlay)) (settings : SettingValues) (from to : ℕ) (o : Overlay) → IsWithin b
+    → is_range_of_all b.text from to ≡ true → make_fault b.overlays from to ≡ None → o.from ≡ from → o.to ≡ to → overlays ≡ b.overlays ++ Some o ∷ []
+    → IsWithin (record b { overlays = overlays; settings = settings })
+made-within b overlays settings from to o within range none f g is =
+    let few = within.few in
+    let room = room-left (nat_lt to from) (nat_le 65536 (length b.overlays)) (length b.overlays) from to refl refl none in
+    let new : AreIn (length b.text.text) (b.overlays ++ Some o ∷ []) = λ number p h. elim (at-end b.overlays o number p h) [
+      | inl old ↦ within.overlays number p old
+      | inr same ↦ subst (IsOverlayIn (length b.text.text)) same (in-range b.text from to o range f g)
+    ] in
+    record {
+      kinds = within.kinds;
+      first = within.first;
+      last = within.last;
+      few = subst (λ xs. length xs ≤ 65536) (sym is) (omega (arith, room, length-append b.overlays (Some o ∷ [])));
+      overlays = subst (AreIn (length b.text.text)) (sym is) new;
+    }
+
+-- what is put at a number lies in the text
+pub put-within : (b : props.BufferValue) (overlays : List (Option Overlay)) (settings : SettingValues) (number : ℕ) (slot : Option Overlay) → IsWithin b
+    → ((p : Overlay) → slot ≡ Some p → IsOverlayIn (length b.text.text) p) → overlays ≡ set b.overlays number slot
+    → IsWithin (record b { overlays = overlays; settings = settings })
+put-within b overlays settings number slot within new is =
+    let all : AreIn (length b.text.text) (set b.overlays number slot) = λ k p h. elim (after-set b.overlays number slot k p h) [
+      | inl old ↦ within.overlays k p old
+      | inr here ↦ new p here
+    ] in
+    record {
+      kinds = within.kinds;
+      first = within.first;
+      last = within.last;
+      few = subst (λ xs. length xs ≤ 65536) (sym is) (rw length-set within.few);
+      overlays = subst (AreIn (length b.text.text)) (sym is) all;
+    }
+
+moved-in : (t : TextValue) (from to : ℕ) (slot : Option Overlay) (p : Overlay) → is_range_of_all t from to ≡ true
+    → slot_changed (λ overlay. record overlay { from = from; to = to }) slot ≡ Some p → IsOverlayIn (length t.text) p
+moved-in t from to None p range h = absurd (cc)
+moved-in t from to (Some o) p range h =
+    let same : record o { from = from; to = to } ≡ p = cc in
+    subst (IsOverlayIn (length t.text)) same (in-range t from to (record o { from = from; to = to }) range refl refl)
+
+pub moved-within : (b : props.BufferValue) (overlays : List (Option Overlay)) (settings : SettingValues) (number from to : ℕ) → IsWithin b
+    → is_range_of_all b.text from to ≡ true → overlays ≡ moved b.overlays number from to → IsWithin (record b { overlays = overlays; settings = settings })
+moved-within b overlays settings number from to within range is =
+    put-within b overlays settings number (slot_changed (λ overlay. record overlay { from = from; to = to }) (overlay_at b.overlays number)) within
+    (λ p h. moved-in b.text from to (overlay_at b.overlays number) p range h) is

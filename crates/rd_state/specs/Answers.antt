@@ -2,11 +2,14 @@
 use Rattle.std.specs.Prelude.{◌≡◌, ◌≢◌, ℕ, Some, Result, Ok, Err, List, slice_get, slice_set}
 use Rattle.rd_text.specs.declared.fault.TextFault.{TextFault}
 use Rattle.rd_text.specs.declared.fault.TextFault.TheVariants as faults
+use Rattle.rd_objects.specs.Things.{ObjectLists}
+use Rattle.rd_overlays.specs.declared.fault.OverlayFault.{OverlayFault}
+use Rattle.rd_overlays.specs.declared.fault.OverlayFault.TheVariants as overlay_faults
 use Rattle.rd_script.specs.declared.op.Op.{Op}
 use Rattle.rd_script.specs.declared.op.Op.TheVariants.{Redisplay}
 use Rattle.rd_state.specs.declared.effect.Effect.{Effect}
 use Rattle.rd_state.specs.declared.refused.Refused.{Refused}
-use Rattle.rd_state.specs.declared.refused.Refused.TheVariants.{OutOfRange, TextTooLarge, Memory}
+use Rattle.rd_state.specs.declared.refused.Refused.TheVariants.{NoOverlay, OutOfRange, TextTooLarge, TooManyOverlays, Memory}
 use Rattle.rd_state.specs.States.{BufferValue, StateValue}
 use Rattle.rd_state.specs.Steps.{step, effect_of}
 
@@ -20,6 +23,18 @@ abbrev pub refused_by : TextFault → Refused
 refused_by faults.OutOfRange = OutOfRange
 refused_by faults.TooLarge = TextTooLarge
 refused_by faults.Memory = Memory
+
+-- what a fault of an overlay is for the op
+abbrev pub refused_overlay : OverlayFault → Refused
+refused_overlay overlay_faults.NoOverlay = NoOverlay
+refused_overlay overlay_faults.OutOfRange = OutOfRange
+refused_overlay overlay_faults.TooMany = TooManyOverlays
+refused_overlay overlay_faults.Memory = Memory
+
+-- the same of a call that makes an object
+abbrev pub Makes : Result Unit Refused → Result ObjectLists Refused → ObjectLists → ObjectLists → Type 0
+Makes (Ok _) said old new = said ≡ Ok new
+Makes (Err refused) said old new = (new ≡ old) × (refused ≢ Memory → said ≡ Err refused)
 
 -- what the call that applies an op answers: a refusal is that of the op's row or want of memory, and leaves the state as it was
 abbrev pub Applies : Result Effect Refused → Op → StateValue → StateValue → Type 0

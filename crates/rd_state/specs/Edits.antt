@@ -1,11 +1,13 @@
 -- What an op does to one buffer, and where the positions in it move.
-use Rattle.std.specs.Prelude.{ℕ, ◌+◌, ◌-◌, nat_lt, nat_le, ◌==◌, ◌&&◌, ◌||◌, Bool, if◌then◌else◌, Option, None, Result, Ok, Err, List, ◌++◌, length, map, take, drop, replicate, min, max}
+use Rattle.std.specs.Prelude.{ℕ, ◌+◌, ◌-◌, nat_lt, nat_le, ◌==◌, ◌&&◌, ◌||◌, Bool, is_some, if◌then◌else◌, ℤ, Option, Some, None, Result, Ok, Err, List, [], ◌∷◌, ◌++◌, length, map, take, drop, replicate, min, max}
 use Rattle.rd_base.specs.Settings.{SettingValues}
 use Rattle.rd_text.specs.Texts.{TextValue, most_characters, inserted, deleted, narrowed, widened}
-use Rattle.rd_overlays.specs.Overlays.{slot_grown, slot_shrunk}
+use Rattle.rd_overlays.specs.Overlays.{overlay_at, new_overlay, moved, dropped, slot_grown, slot_shrunk}
 use Rattle.rd_script.specs.Forms.{each}
+use Rattle.rd_script.specs.declared.setting.Setting.{Setting}
+use Rattle.rd_script.specs.declared.setting.Setting.TheVariants.{TabWidth, CtlArrow, Direction, Reorder, Table, Invisible, LinePrefix, WrapPrefix, Modified, ReadOnly}
 use Rattle.rd_state.specs.declared.refused.Refused.{Refused}
-use Rattle.rd_state.specs.declared.refused.Refused.TheVariants.{OutOfRange, TextTooLarge}
+use Rattle.rd_state.specs.declared.refused.Refused.TheVariants.{NoOverlay, OutOfRange, TextTooLarge, TooManyOverlays}
 use Rattle.rd_state.specs.States.{BufferValue}
 
 -- ---- tests
@@ -82,6 +84,49 @@ narrowing b from to = if is_range_of_all b.text from to then Ok (record b { text
 
 abbrev pub widening : BufferValue → Result BufferValue Refused
 widening b = Ok (record b { text = widened b.text })
+
+-- ---- the overlays of one buffer
+
+-- how many overlays can be made in a buffer
+abbrev pub most_overlays : ℕ
+most_overlays = 65536
+
+-- one more overlay, without values
+abbrev pub overlay_making : BufferValue → ℕ → ℕ → ℤ → Bool → Bool → Result BufferValue Refused
+overlay_making b from to priority front rear = if is_range_of_all b.text from to
+    then (if nat_le most_overlays (length b.overlays)
+    then Err TooManyOverlays
+    else Ok (record b { overlays = b.overlays ++ Some (new_overlay from to priority front rear) ∷ [] }))
+    else Err OutOfRange
+
+-- an overlay with another range
+abbrev pub overlay_moving : BufferValue → ℕ → ℕ → ℕ → Result BufferValue Refused
+overlay_moving b number from to = if is_some (overlay_at b.overlays number)
+    then (if is_range_of_all b.text from to then Ok (record b { overlays = moved b.overlays number from to }) else Err OutOfRange)
+    else Err NoOverlay
+
+-- an overlay taken away
+abbrev pub overlay_dropping : BufferValue → ℕ → Result BufferValue Refused
+overlay_dropping b number = if is_some (overlay_at b.overlays number)
+    then Ok (record b { overlays = dropped b.overlays number })
+    else Err NoOverlay
+
+-- ---- the settings of one buffer
+
+abbrev pub with_setting : Setting → SettingValues → SettingValues
+with_setting (TabWidth n) s = record s { tab_width = n }
+with_setting (CtlArrow flag) s = record s { ctl_arrow = flag }
+with_setting (Direction direction) s = record s { direction = direction }
+with_setting (Reorder flag) s = record s { reorder = flag }
+with_setting (Table number) s = record s { table = number }
+with_setting (Invisible invisible) s = record s { invisible = invisible }
+with_setting (LinePrefix number) s = record s { line_prefix = number }
+with_setting (WrapPrefix number) s = record s { wrap_prefix = number }
+with_setting (Modified flag) s = record s { modified = flag }
+with_setting (ReadOnly flag) s = record s { read_only = flag }
+
+abbrev pub setting_putting : BufferValue → Setting → Result BufferValue Refused
+setting_putting b setting = Ok (record b { settings = with_setting setting b.settings })
 
 -- ---- positions
 

@@ -8,6 +8,7 @@ use Rattle.rd_base.specs.declared.settings.Wrap.TheVariants.{Truncate}
 use Rattle.rd_text.specs.Texts.{TextValue, no_text, IsText, IsAccessible}
 use Rattle.rd_overlays.specs.declared.overlay.Overlay.{Overlay}
 use Rattle.rd_overlays.specs.Overlays.{overlay_at}
+use Rattle.rd_objects.specs.Things.{ObjectLists, nothing_made}
 use Rattle.rd_props.specs.Buffers as props
 use Rattle.rd_props.specs.declared.state.BufferState.{BufferState}
 use Rattle.rd_state.specs.declared.window.WindowState.{WindowState}
@@ -59,9 +60,10 @@ abbrev pub seen : TextValue → List (List (Option ℕ)) → List (Option Overla
 seen text properties overlays settings =
     record { text = text; properties = value_in properties; overlays = overlays; settings = settings }
 
--- the buffers count from 0 in order of making, and the one window has the number 0
+-- the buffers count from 0 in order of making, the objects from 0 in each sort, and the one window has the number 0
 pub record StateValue : Type 0 where
   pub buffers : List BufferValue
+  pub objects : ObjectLists
   pub window : WindowState
   pub width : ℕ
   pub height : ℕ
@@ -88,9 +90,9 @@ main_name = codes "main"
 abbrev pub opening_window : WindowState
 opening_window = record { buffer = 0; point = 1; anchor = record { pos = 1; row = 0 }; forced = false; hscroll = 0; wrap = Truncate }
 
--- the state in which a session begins: one empty buffer, shown in one window of a frame of 80 columns and 24 rows
+-- the state in which a session begins: one empty buffer and no object, shown in one window of a frame of 80 columns and 24 rows
 abbrev pub opening : StateValue
-opening = record { buffers = new_buffer main_name ∷ []; window = opening_window; width = 80; height = 24 }
+opening = record { buffers = new_buffer main_name ∷ []; objects = nothing_made; window = opening_window; width = 80; height = 24 }
 
 -- the number of the buffer with a name, and the count of buffers where none has it
 abbrev pub number_of : List ℕ → List BufferValue → ℕ
@@ -110,11 +112,12 @@ pub record IsOverlayIn (size : ℕ) (o : Overlay) : Type 0 where
   pub ordered : o.from ≤ o.to
   pub last : o.to ≤ size + 1
 
--- there are five text properties, and their values and the overlays lie in the text
+-- there are five text properties and few overlays, and their values and the overlays lie in the text
 pub record IsWithin (b : props.BufferValue) : Type 0 where
   pub kinds : (kind p value : ℕ) → b.properties kind p ≡ Some value → kind < 5
   pub first : (kind p value : ℕ) → b.properties kind p ≡ Some value → 1 ≤ p
   pub last : (kind p value : ℕ) → b.properties kind p ≡ Some value → p ≤ length b.text.text
+  pub few : length b.overlays ≤ 65536
   pub overlays : (number : ℕ) (o : Overlay) → overlay_at b.overlays number ≡ Some o → IsOverlayIn (length b.text.text) o
 
 -- a window shows a buffer that was made, and its point and the beginning of its view are accessible there
@@ -130,10 +133,18 @@ pub record IsFrame (width height : ℕ) : Type 0 where
   pub high : 2 ≤ height
   pub low : height ≤ 200
 
+-- there are no more objects than there may be
+pub record AreFew (o : ObjectLists) : Type 0 where
+  pub strings : length o.strings ≤ 4096
+  pub specs : length o.specs ≤ 4096
+  pub faces : length o.faces ≤ 1024
+  pub tables : length o.tables ≤ 64
+
 -- what is true of each state that a session can reach
 pub record IsValid (s : StateValue) : Type 0 where
   pub few : length s.buffers ≤ most_buffers
   pub told : AreToldByName s.buffers
   pub texts : AreTexts s.buffers
+  pub objects : AreFew s.objects
   pub shown : IsShowing s.buffers s.window
   pub frame : IsFrame s.width s.height

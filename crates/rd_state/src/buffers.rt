@@ -1,15 +1,19 @@
 //! The buffers by name, in order of making, and the ops on the buffer with a number.
-ghost use Rattle.std.specs.Prelude.{◌≡◌, ◌<◌, ◌++◌, ◌∷◌, [], Ok, Some, IfOk, IfErr, OnOk, OnErr, length, slice_get};
-ghost use Rattle.rd_state.specs.declared.refused.Refused.TheVariants.{NoBuffer};
+ghost use Rattle.std.specs.Prelude.{◌≡◌, ◌<◌, ◌++◌, ◌∷◌, [], Ok, None, Some, IfOk, IfErr, OnOk, OnErr, length, slice_get};
+ghost use Rattle.rd_state.specs.declared.refused.Refused.TheVariants.{NoBuffer, NoOverlay};
 ghost use Rattle.rd_state.specs.States.{BufferValue, buffers_of, new_buffer, number_of};
-ghost use Rattle.rd_state.specs.Edits.{insertion, deletion, narrowing, widening};
+ghost use Rattle.rd_state.specs.Edits.{insertion, deletion, narrowing, widening, overlay_making, overlay_moving, overlay_dropping, setting_putting};
+ghost use Rattle.rd_overlays.specs.Overlays.{overlay_at};
+ghost use Rattle.rd_script.specs.Forms.{IsSettingInForm};
 ghost use Rattle.rd_state.specs.Answers.{ChangesAt};
+ghost use Rattle.rd_state.specs.Fitting.{IsFitting};
 
 use crate::content::Content;
 use crate::refused::Refused;
 use indexmap::IndexMap;
 use rd_base::{Ch, Memory};
-use rd_script::BufferName;
+use rd_overlays::Overlay;
+use rd_script::{BufferName, Setting};
 use rd_text::Buffer;
 
 /// The buffers by name, in order of making.
@@ -82,4 +86,62 @@ pub(crate) fn widen_at(buffers: &mut Buffers, i: usize)
     ensures { ChangesAt (Ok tt) widening i (buffers_of buffers.old.entries) (buffers_of buffers.new.entries) }
 {
     buffers[i].widen();
+}
+
+/// The overlay with a number in the buffer with a number, which is refused where none lives.
+pub(crate) fn overlay_at(buffers: &Buffers, i: usize, number: u64) -> Result<Overlay, Refused>
+    requires { i < length (buffers_of buffers.now.entries) }
+    ensures found { IfOk result (λ overlay. (b : BufferValue) × (slice_get (buffers_of buffers.now.entries) i ≡ Some b) × (overlay_at b.overlays number ≡ Some overlay)) }
+    ensures absent { OnErr result ((b : BufferValue) × (slice_get (buffers_of buffers.now.entries) i ≡ Some b) × (overlay_at b.overlays number ≡ None)) }
+    ensures refused { IfErr result (λ e. e ≡ NoOverlay) }
+{
+    buffers[i].overlay(number)
+}
+
+/// Makes an overlay without values in the buffer with a number.
+pub(crate) fn make_overlay_at(
+    buffers: &mut Buffers,
+    i: usize,
+    from: u64,
+    to: u64,
+    priority: i32,
+    front: bool,
+    rear: bool,
+) -> Result<(), Refused>
+    requires { i < length (buffers_of buffers.old.entries) }
+    ensures { ChangesAt result (λ b. overlay_making b from to priority front rear) i (buffers_of buffers.old.entries) (buffers_of buffers.new.entries) }
+{
+    buffers[i].make_overlay(from, to, priority, front, rear)
+}
+
+/// Gives an overlay of the buffer with a number another range.
+pub(crate) fn move_overlay_at(
+    buffers: &mut Buffers,
+    i: usize,
+    number: u64,
+    from: u64,
+    to: u64,
+) -> Result<(), Refused>
+    requires { i < length (buffers_of buffers.old.entries) }
+    ensures { ChangesAt result (λ b. overlay_moving b number from to) i (buffers_of buffers.old.entries) (buffers_of buffers.new.entries) }
+{
+    buffers[i].move_overlay(number, from, to)
+}
+
+/// Takes an overlay of the buffer with a number away.
+pub(crate) fn drop_overlay_at(buffers: &mut Buffers, i: usize, number: u64) -> Result<(), Refused>
+    requires { i < length (buffers_of buffers.old.entries) }
+    ensures { ChangesAt result (λ b. overlay_dropping b number) i (buffers_of buffers.old.entries) (buffers_of buffers.new.entries) }
+{
+    buffers[i].drop_overlay(number)
+}
+
+/// Sets a setting of the buffer with a number.
+pub(crate) fn set_at(buffers: &mut Buffers, i: usize, setting: Setting)
+    requires made { i < length (buffers_of buffers.old.entries) }
+    requires form { IsSettingInForm setting }
+    requires numbers { IsFitting setting }
+    ensures { ChangesAt (Ok tt) (λ b. setting_putting b setting) i (buffers_of buffers.old.entries) (buffers_of buffers.new.entries) }
+{
+    buffers[i].set(setting);
 }

@@ -13,6 +13,12 @@ pub enum Effect {
         removed: u32,
         added: u32,
     },
+    /// An overlay of a buffer was moved from a range to another. A range is its first position and the one behind its last.
+    Moved {
+        buffer: u32,
+        before: (Pos, Pos),
+        after: (Pos, Pos),
+    },
     /// All that shows a buffer.
     All {
         buffer: u32,

@@ -8,8 +8,12 @@ mod content;
 mod effect;
 mod laws;
 mod moves;
+mod objects;
+mod overlay;
 mod refused;
+mod setting;
 mod state;
+mod table;
 mod values;
 mod window;
 

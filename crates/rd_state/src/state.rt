@@ -7,23 +7,31 @@ ghost use Rattle.rd_state.specs.States.{BufferValue, seen, opening, IsValid, mai
 ghost use Rattle.rd_state.specs.Steps.{settled};
 ghost use Rattle.rd_state.specs.Answers.{IsApplied, Applies};
 
-use crate::buffers::{Buffers, add, delete_at, find, insert_at, narrow_at, text_at, widen_at};
+use crate::buffers::{
+    Buffers, add, delete_at, drop_overlay_at, find, insert_at, make_overlay_at, move_overlay_at,
+    narrow_at, overlay_at, set_at, text_at, widen_at,
+};
 use crate::built::is_built;
 use crate::effect::Effect;
 use crate::moves;
+use crate::objects::{add_face, add_spec, add_string, add_table};
 use crate::refused::Refused;
+use crate::setting::names_made;
+use crate::table::{TableParts, make_table};
 use crate::window::WindowState;
 use indexmap::IndexMap;
-use rd_base::{Anchor, Ch, Memory, Pos, Wrap};
+use rd_base::{Anchor, Ch, Face, Memory, Pos, Wrap};
+use rd_objects::Objects;
 use rd_props::BufferState;
-use rd_script::{BufferName, Op};
+use rd_script::{BufferName, Op, OpRun, OpSpec, Setting};
 use std::alloc::Global;
 use std::marker::Model;
 
-/// The buffers in order of making, the window, and the frame's size.
+/// The buffers in order of making, the objects, the window, and the frame's size.
 #[derive(Drop)]
 pub struct State {
     buffers: Buffers,
+    objects: Objects,
     window: WindowState,
     width: u32,
     height: u32,
@@ -34,9 +42,9 @@ impl Model for State {
 
     ghost Value = { StateValue };
 
-    ghost view = { λ s. record { buffers = buffers_of s.buffers.entries; window = s.window; width = s.width; height = s.height } };
+    ghost view = { λ s. record { buffers = buffers_of s.buffers.entries; objects = s.objects; window = s.window; width = s.width; height = s.height } };
 
-    ghost invariant = { λ s. IsValid (record { buffers = buffers_of s.buffers.entries; window = s.window; width = s.width; height = s.height }) };
+    ghost invariant = { λ s. IsValid (record { buffers = buffers_of s.buffers.entries; objects = s.objects; window = s.window; width = s.width; height = s.height }) };
 }
 
 /// How many buffers there can be.
@@ -51,6 +59,7 @@ impl State {
         add(&mut buffers, BufferName::from_str(alloc, "main")?)?;
         Ok(State {
             buffers,
+            objects: Objects::new(alloc)?,
             window: WindowState {
                 buffer: 0,
                 point: 1,
@@ -66,8 +75,10 @@ impl State {
 
     /// Applies one op other than redisplay. A refusal is the first that the op meets, and leaves the state as it was:
     /// NotBuilt for a text of other characters than a newline and those from space to tilde, then NoWindow and NoBuffer, then
-    /// OutOfRange, TextTooLarge, NameTaken, TooManyBuffers, LastWindow. A buffer is found by one look-up of its name, and an
-    /// edit moves the rest of the text once. Only `buffer`, `insert` and `type` take memory.
+    /// NoOverlay and NoObject, then OutOfRange, TextTooLarge, ObjectTooLong, NameTaken, LastWindow, then that there are too many
+    /// buffers, overlays or objects. A buffer is found by one look-up of its name, and an edit moves the rest of the text once,
+    /// and goes over the values of each text property and over the overlays. Only `buffer`, `insert`, `type`, `overlay`,
+    /// `overlay_move` and the ops that make objects take memory.
     #[tactic(auto, unfolding(crate::specs::Steps::step, crate::specs::Steps::effect_of))]
     pub fn apply(&mut self, op: Op) -> Result<Effect, Refused>
         requires form { IsInForm op }
@@ -82,6 +93,42 @@ impl State {
             Op::Delete { buffer, from, to } => self.delete(buffer.as_str(), from, to),
             Op::Narrow { buffer, from, to } => self.narrow(buffer.as_str(), from, to),
             Op::Widen { buffer } => self.widen(buffer.as_str()),
+            Op::Overlay {
+                buffer,
+                from,
+                to,
+                priority,
+                front,
+                rear,
+            } => self.make_overlay(buffer.as_str(), from, to, priority, front, rear),
+            Op::OverlayMove {
+                buffer,
+                overlay,
+                from,
+                to,
+            } => self.move_overlay(buffer.as_str(), overlay, from, to),
+            Op::OverlayDrop { buffer, overlay } => self.drop_overlay(buffer.as_str(), overlay),
+            Op::Setting { buffer, setting } => self.set(buffer.as_str(), setting),
+            Op::AddString { text, runs } => self.add_string(text.as_slice(), runs.as_slice()),
+            Op::AddSpec { spec } => self.add_spec(spec),
+            Op::AddFace { face } => self.add_face(face),
+            Op::AddTable {
+                entries,
+                truncation,
+                continuation,
+                escape,
+                control,
+                ellipsis,
+                border,
+            } => self.add_table(TableParts {
+                entries,
+                truncation,
+                continuation,
+                escape,
+                control,
+                ellipsis,
+                border,
+            }),
             Op::Remove { window } => self.remove(window),
             Op::Show { window, buffer } => self.show(window, buffer.as_str()),
             Op::Point { window, pos } => self.point(window, pos),
@@ -128,6 +175,13 @@ impl State {
         }
     }
 
+    /// All objects that were made.
+    pub fn objects(&self) -> &Objects
+        ensures { result.now ≡ self.now.objects }
+    {
+        &self.objects
+    }
+
     /// The window with a number; None exactly where no such window lives.
     pub fn window(&self, w: u32) -> Option<&WindowState>
         ensures { option_copied result ≡ (if w == 0 then Some self.now.window else None) }
@@ -154,8 +208,8 @@ impl State {
 
 impl State {
     ghost use Rattle.std.specs.Prelude.{◌≡◌, ◌≤◌};
-    ghost use Rattle.rd_script.specs.declared.op.Op.TheVariants.{Frame, Buffer as MakeBuffer, Insert, TypeText, Delete, Narrow, Widen, Remove, Show, Point, Wrap as SetWrap};
-    ghost use Rattle.rd_script.specs.Forms.{IsInForm};
+    ghost use Rattle.rd_script.specs.declared.op.Op.TheVariants.{Frame, Buffer as MakeBuffer, Insert, TypeText, Delete, Narrow, Widen, Overlay as MakeOverlay, OverlayMove, OverlayDrop, Setting as SetSetting, AddString, AddSpec, AddFace, AddTable, Remove, Show, Point, Wrap as SetWrap};
+    ghost use Rattle.rd_script.specs.Forms.{IsInForm, IsSettingInForm, IsSpecInForm};
     ghost use Rattle.rd_state.specs.Answers.{Applies};
 
     /// Resizes the frame.
@@ -262,6 +316,122 @@ impl State {
         let i = find(&self.buffers, name)?;
         widen_at(&mut self.buffers, i);
         Ok(Effect::All { buffer: i as u32 })
+    }
+
+    /// Makes an overlay without values.
+    #[tactic(auto, unfolding(crate::specs::Steps::step, crate::specs::Steps::effect_of))]
+    fn make_overlay(
+        &mut self,
+        name: &str,
+        from: u64,
+        to: u64,
+        priority: i32,
+        front: bool,
+        rear: bool,
+    ) -> Result<Effect, Refused>
+        ensures { Applies result (MakeOverlay name.now from to priority front rear) self.old self.new }
+    {
+        let i = find(&self.buffers, name)?;
+        make_overlay_at(&mut self.buffers, i, from, to, priority, front, rear)?;
+        let (from, to) = (from as u32, to as u32);
+        Ok(Effect::Edit {
+            buffer: i as u32,
+            from,
+            removed: to - from,
+            added: to - from,
+        })
+    }
+
+    /// Gives an overlay another range.
+    #[tactic(auto, unfolding(crate::specs::Steps::step, crate::specs::Steps::effect_of))]
+    fn move_overlay(
+        &mut self,
+        name: &str,
+        number: u64,
+        from: u64,
+        to: u64,
+    ) -> Result<Effect, Refused>
+        ensures { Applies result (OverlayMove name.now number from to) self.old self.new }
+    {
+        let i = find(&self.buffers, name)?;
+        let overlay = overlay_at(&self.buffers, i, number)?;
+        move_overlay_at(&mut self.buffers, i, number, from, to)?;
+        Ok(Effect::Moved {
+            buffer: i as u32,
+            before: (overlay.from, overlay.to),
+            after: (from as u32, to as u32),
+        })
+    }
+
+    /// Takes an overlay away.
+    #[tactic(auto, unfolding(crate::specs::Steps::step, crate::specs::Steps::effect_of))]
+    fn drop_overlay(&mut self, name: &str, number: u64) -> Result<Effect, Refused>
+        ensures { Applies result (OverlayDrop name.now number) self.old self.new }
+    {
+        let i = find(&self.buffers, name)?;
+        let overlay = overlay_at(&self.buffers, i, number)?;
+        drop_overlay_at(&mut self.buffers, i, number)?;
+        let covered = overlay.to.saturating_sub(overlay.from);
+        Ok(Effect::Edit {
+            buffer: i as u32,
+            from: overlay.from,
+            removed: covered,
+            added: covered,
+        })
+    }
+
+    /// Sets a setting of a buffer.
+    #[tactic(auto, unfolding(crate::specs::Steps::step, crate::specs::Steps::effect_of))]
+    fn set(&mut self, name: &str, setting: Setting) -> Result<Effect, Refused>
+        requires { IsSettingInForm setting }
+        ensures { Applies result (SetSetting name.now setting) self.old self.new }
+    {
+        let i = find(&self.buffers, name)?;
+        if !names_made(&self.objects, &setting) {
+            return Err(Refused::NoObject);
+        }
+        set_at(&mut self.buffers, i, setting);
+        Ok(Effect::All { buffer: i as u32 })
+    }
+
+    /// Makes a string with runs of faces and display specs.
+    #[tactic(auto, unfolding(crate::specs::Steps::step, crate::specs::Steps::effect_of))]
+    fn add_string(&mut self, text: &[Ch], runs: &[OpRun]) -> Result<Effect, Refused>
+        ensures { Applies result (AddString text.now runs.now) self.old self.new }
+    {
+        let alloc = *self.buffers.allocator();
+        add_string(alloc, &mut self.objects, text, runs)?;
+        Ok(Effect::Nothing)
+    }
+
+    /// Makes a display spec.
+    #[tactic(auto, unfolding(crate::specs::Steps::step, crate::specs::Steps::effect_of))]
+    fn add_spec(&mut self, spec: OpSpec) -> Result<Effect, Refused>
+        requires { IsSpecInForm spec }
+        ensures { Applies result (AddSpec spec) self.old self.new }
+    {
+        add_spec(&mut self.objects, spec)?;
+        Ok(Effect::Nothing)
+    }
+
+    /// Makes a face.
+    #[tactic(auto, unfolding(crate::specs::Steps::step, crate::specs::Steps::effect_of))]
+    fn add_face(&mut self, face: Face) -> Result<Effect, Refused>
+        ensures { Applies result (AddFace face) self.old self.new }
+    {
+        add_face(&mut self.objects, face)?;
+        Ok(Effect::Nothing)
+    }
+
+    /// Makes a display table.
+    #[tactic(auto, unfolding(crate::specs::Steps::step, crate::specs::Steps::effect_of))]
+    fn add_table(&mut self, parts: TableParts) -> Result<Effect, Refused>
+        requires { IsInForm (AddTable parts.entries parts.truncation parts.continuation parts.escape parts.control parts.ellipsis parts.border) }
+        ensures { Applies result (AddTable parts.entries parts.truncation parts.continuation parts.escape parts.control parts.ellipsis parts.border) self.old self.new }
+    {
+        let table = make_table(*self.buffers.allocator(), &parts)?;
+        add_table(&mut self.objects, table)?;
+        Ok(Effect::Nothing)
     }
 
     /// Takes the window away, which is refused: there is no other one.

@@ -56,6 +56,39 @@ fn ops_are_applied(rt: HostRuntime) -> Result<(), Fail> {
             r#"{"op":"delete","buffer":"main","from":1,"to":3}"#,
             edit(1, 2, 0),
         ),
+        (
+            r#"{"op":"overlay","buffer":"main","from":1,"to":2}"#,
+            edit(1, 1, 1),
+        ),
+        (
+            r#"{"op":"overlay_move","buffer":"main","overlay":0,"from":2,"to":4}"#,
+            Effect::Moved {
+                buffer: 0,
+                before: (1, 2),
+                after: (2, 4),
+            },
+        ),
+        (
+            r#"{"op":"overlay_drop","buffer":"main","overlay":0}"#,
+            edit(2, 2, 2),
+        ),
+        (
+            r#"{"op":"setting","buffer":"main","name":"tab_width","value":4}"#,
+            Effect::All { buffer: 0 },
+        ),
+        (r#"{"op":"face","fg":1,"bold":true}"#, Effect::Nothing),
+        (
+            r#"{"op":"string","text":"ab","runs":[[0,2,"face",0]]}"#,
+            Effect::Nothing,
+        ),
+        (
+            r#"{"op":"spec","kind":"string","value":0}"#,
+            Effect::Nothing,
+        ),
+        (
+            r#"{"op":"table","entries":[[97,"bc"]],"control":"c","ellipsis":"中"}"#,
+            Effect::Nothing,
+        ),
         (r#"{"op":"buffer","name":"é"}"#, Effect::Nothing),
         (r#"{"op":"point","window":0,"pos":2}"#, Effect::Nothing),
         (
@@ -142,6 +175,34 @@ fn ops_are_refused(rt: HostRuntime) -> Result<(), Fail> {
             Refused::OutOfRange,
         ),
         (r#"{"op":"widen","buffer":"mai"}"#, Refused::NoBuffer),
+        (
+            r#"{"op":"overlay","buffer":"x","from":0,"to":1}"#,
+            Refused::NoBuffer,
+        ),
+        (
+            r#"{"op":"overlay","buffer":"main","from":1,"to":2}"#,
+            Refused::OutOfRange,
+        ),
+        (
+            r#"{"op":"overlay_move","buffer":"main","overlay":0,"from":0,"to":1}"#,
+            Refused::NoOverlay,
+        ),
+        (
+            r#"{"op":"overlay_drop","buffer":"main","overlay":4294967296}"#,
+            Refused::NoOverlay,
+        ),
+        (
+            r#"{"op":"setting","buffer":"x","name":"modified","value":true}"#,
+            Refused::NoBuffer,
+        ),
+        (
+            r#"{"op":"string","text":"","runs":[[1,0,"face",0]]}"#,
+            Refused::NoObject,
+        ),
+        (
+            r#"{"op":"spec","kind":"string","value":4294967296}"#,
+            Refused::NoObject,
+        ),
         (r#"{"op":"remove","window":0}"#, Refused::LastWindow),
         (r#"{"op":"remove","window":4294967296}"#, Refused::NoWindow),
         (
@@ -163,6 +224,42 @@ fn ops_are_refused(rt: HostRuntime) -> Result<(), Fail> {
         ),
     ] {
         assert!(rt; refuses(&mut state, rt.alloc(), line, refused), "{line}");
+    }
+    Ok(())
+}
+
+/// The range of an overlay over the second of three characters, or as it is said, after one more character was put in.
+fn range_after(alloc: Global, overlay: &str, insert: &str) -> Result<Option<(u32, u32)>, Fail> {
+    let mut state = State::new(alloc)?;
+    let text = r#"{"op":"insert","buffer":"main","pos":1,"text":"abc"}"#;
+    for line in [text, overlay, insert] {
+        answer(&mut state, alloc, line.as_bytes());
+    }
+    match state.buffer(0) {
+        Some(buffer) => Ok(buffer.overlays.get(0).map(|o| (o.from, o.to))),
+        None => Ok(None),
+    }
+}
+
+#[test]
+fn overlays_move_with_the_text(rt: HostRuntime) -> Result<(), Fail> {
+    let plain = r#"{"op":"overlay","buffer":"main","from":2,"to":3}"#;
+    let front = r#"{"op":"overlay","buffer":"main","from":2,"to":3,"front":true}"#;
+    let rear = r#"{"op":"overlay","buffer":"main","from":2,"to":3,"rear":true}"#;
+    let empty = r#"{"op":"overlay","buffer":"main","from":2,"to":2,"front":true}"#;
+    let at_start = r#"{"op":"insert","buffer":"main","pos":2,"text":"x"}"#;
+    let at_end = r#"{"op":"insert","buffer":"main","pos":3,"text":"x"}"#;
+    for (overlay, insert, range) in [
+        (plain, at_start, (2, 4)),
+        (front, at_start, (3, 4)),
+        (plain, at_end, (2, 3)),
+        (rear, at_end, (2, 4)),
+        (empty, at_start, (2, 2)),
+    ] {
+        assert!(rt;
+            range_after(rt.alloc(), overlay, insert)? == Some(range),
+            "{overlay}"
+        );
     }
     Ok(())
 }

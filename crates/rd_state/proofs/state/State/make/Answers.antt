@@ -6,13 +6,13 @@ use Rattle.rd_state.proofs.state.State.make.Goals as goal
 
 pub invariant_of-self : goal.invariant_of-self
 invariant_of-self c =
-    let old : StateValue = record { buffers = buffers_of c.self.inside.buffers.entries; window = c.self.inside.window; width = c.self.inside.width; height = c.self.inside.height } in
+    let old : StateValue = record { buffers = buffers_of c.self.inside.buffers.entries; objects = c.self.inside.objects; window = c.self.inside.window; width = c.self.inside.width; height = c.self.inside.height } in
     unchanged-valid old (buffers_of c.add.new.buffers.entries) c.self.invariant c.in_err-add.ensures.err
 
 pub invariant_of-self-2 : goal.invariant_of-self-2
 invariant_of-self-2 c =
     let buffers = buffers_of c.self.inside.buffers.entries in
-    let old : StateValue = record { buffers = buffers; window = c.self.inside.window; width = c.self.inside.width; height = c.self.inside.height } in
+    let old : StateValue = record { buffers = buffers; objects = c.self.inside.objects; window = c.self.inside.window; width = c.self.inside.width; height = c.self.inside.height } in
     let absent = if-err c.find.result c.if-is_ok.ensures.value c.find.ensures.absent in
     let number : number_of c.args.name buffers ≡ length buffers = ap (λ n. number_of n buffers) (sym c.as_str.ensures) ∙ absent in
     let count = length-buffers_of c.self.inside.buffers.entries in

@@ -1,0 +1,149 @@
+-- What a line says is never want of memory.
+use Rattle.std.proofs.Common.{◌≡◌, ◌≢◌, Bool, true, false, Option, None, Some, Result, Ok, Err, List, ◌∷◌, codes, if◌then◌else◌}
+use Rattle.std.specs.Prelude.{ℕ}
+use Rattle.std.specs.Str.{is_utf8}
+use Rattle.serde_json.specs.Data.{Data, Members}
+use Rattle.serde_json.specs.Find.{get_member, as_str, as_object}
+use Rattle.serde_json.specs.Read.{read}
+use Rattle.rd_script.specs.declared.fault.OpFault.{OpFault}
+use Rattle.rd_script.specs.declared.fault.OpFault.TheVariants.{NotJson, NotObject, NoSuchOp, NotBuilt, Memory}
+use Rattle.rd_script.specs.declared.name.Name.{Name}
+use Rattle.rd_script.specs.declared.name.Name.TheVariants as names
+use Rattle.rd_script.specs.declared.object.SpecName.{SpecName}
+use Rattle.rd_script.specs.declared.object.SpecName.TheVariants as spec_names
+use Rattle.rd_script.specs.declared.op.Op.{Op}
+use Rattle.rd_script.specs.declared.setting.SettingName.{SettingName}
+use Rattle.rd_script.specs.declared.setting.SettingName.TheVariants as setting_names
+use Rattle.rd_script.specs.Fields.{Fields, or_bad, required_of, present, optional_of, required, optional, defaulted, and_then, both, made, then_by}
+use Rattle.rd_script.specs.Objects.{spec_value}
+use Rattle.rd_script.specs.Reading.{reading, reading_name, reading_members, reading_fields, json_of, or_fault, closed, extra_key, unless_extra, is_built, built}
+use Rattle.rd_script.specs.Settings.{value_of}
+use Rattle.rd_script.specs.Table.{row, name_of}
+
+-- what is said is no want of memory
+abbrev IsFree : {T : Type 0} → Result T OpFault → Type 0
+IsFree r = r ≢ Err Memory
+
+record AreFree {T : Type 0} (fields : Fields T) : Type 0 where
+  pub free : (ms : Members) → IsFree (fields.taken ms)
+
+and_then-free : {A B : Type 0} (f : A → Result B OpFault) (r : Result A OpFault) → ((a : A) → IsFree (f a)) → IsFree r → IsFree (and_then f r)
+and_then-free f (Ok a) h g = h a
+and_then-free f (Err fault) h g = λ e. g (cc)
+
+ok-free : {T : Type 0} (x : T) → IsFree (Ok x)
+ok-free x = λ e. cc
+
+or_bad-free : {T : Type 0} (key : List ℕ) (o : Option T) → IsFree (or_bad key o)
+or_bad-free key None = λ e. cc
+or_bad-free key (Some x) = λ e. cc
+
+required_of-free : {T : Type 0} (key : List ℕ) (kind : Data → Option T) (o : Option Data) → IsFree (required_of key kind o)
+required_of-free key kind None = λ e. cc
+required_of-free key kind (Some d) = or_bad-free key (kind d)
+
+optional_of-free : {T : Type 0} (key : List ℕ) (kind : Data → Option T) (o : Option Data) → IsFree (optional_of key kind o)
+optional_of-free key kind None = λ e. cc
+optional_of-free key kind (Some d) = or_bad-free key _
+
+required-free : {T : Type 0} (key : List ℕ) (kind : Data → Option T) → AreFree (required key kind)
+required-free key kind = record { free = λ ms. required_of-free key kind (get_member key ms) }
+
+optional-free : {T : Type 0} (key : List ℕ) (kind : Data → Option T) → AreFree (optional key kind)
+optional-free key kind = record { free = λ ms. optional_of-free key kind (present (get_member key ms)) }
+
+made-free : {A B : Type 0} (f : A → B) (fields : Fields A) → AreFree fields → AreFree (made f fields)
+made-free f fields h = record { free = λ ms. and_then-free (λ a. Ok (f a)) (fields.taken ms) (λ a. ok-free (f a)) (h.free ms) }
+
+defaulted-free : {T : Type 0} (default : T) (key : List ℕ) (kind : Data → Option T) → AreFree (defaulted default key kind)
+defaulted-free default key kind = made-free _ _ (optional-free key kind)
+
+both-free : {A B : Type 0} (f : Fields A) (g : Fields B) → AreFree f → AreFree g → AreFree (both f g)
+both-free f g hf hg = record {
+  free = λ ms. and_then-free (λ a. and_then (λ b. Ok (a, b)) (g.taken ms)) (f.taken ms)
+      (λ a. and_then-free (λ b. Ok (a, b)) (g.taken ms) (λ b. ok-free (a, b)) (hg.free ms)) (hf.free ms);
+}
+
+then_by-free : {A B : Type 0} (first : Fields A) (keys : List (List ℕ)) (second : A → Fields B) → AreFree first → ((a : A) → AreFree (second a)) → AreFree (then_by first keys second)
+then_by-free first keys second h so = record { free = λ ms. and_then-free (λ a. (second a).taken ms) (first.taken ms) (λ a. (so a).free ms) (h.free ms) }
+
+value-free : (n : SettingName) → AreFree (value_of n)
+value-free setting_names.TabWidth = made-free _ _ (required-free _ _)
+value-free setting_names.CtlArrow = made-free _ _ (required-free _ _)
+value-free setting_names.Direction = made-free _ _ (required-free _ _)
+value-free setting_names.Reorder = made-free _ _ (required-free _ _)
+value-free setting_names.Table = made-free _ _ (optional-free _ _)
+value-free setting_names.Invisible = made-free _ _ (required-free _ _)
+value-free setting_names.LinePrefix = made-free _ _ (optional-free _ _)
+value-free setting_names.WrapPrefix = made-free _ _ (optional-free _ _)
+value-free setting_names.Modified = made-free _ _ (required-free _ _)
+value-free setting_names.ReadOnly = made-free _ _ (required-free _ _)
+
+spec-free : (n : SpecName) → AreFree (spec_value n)
+spec-free spec_names.Text = made-free _ _ (required-free _ _)
+spec-free spec_names.Width = made-free _ _ (required-free _ _)
+spec-free spec_names.Align = made-free _ _ (required-free _ _)
+
+two : {A B : Type 0} (k l : List ℕ) (a : Data → Option A) (b : Data → Option B) → AreFree (both (required k a) (required l b))
+two k l a b = both-free _ _ (required-free k a) (required-free l b)
+
+three : {A B C : Type 0} (k l m : List ℕ) (a : Data → Option A) (b : Data → Option B) (c : Data → Option C) → AreFree (both (required k a) (both (required l b) (required m c)))
+three k l m a b c = both-free _ _ (required-free k a) (two l m b c)
+
+row-free : (n : Name) → AreFree (row n)
+row-free names.Frame = made-free _ _ (two _ _ _ _)
+row-free names.Buffer = made-free _ _ (required-free _ _)
+row-free names.Insert = made-free _ _ (three _ _ _ _ _ _)
+row-free names.TypeText = made-free _ _ (required-free _ _)
+row-free names.Delete = made-free _ _ (three _ _ _ _ _ _)
+row-free names.Narrow = made-free _ _ (three _ _ _ _ _ _)
+row-free names.Widen = made-free _ _ (required-free _ _)
+row-free names.Overlay = made-free _ _ (both-free _ _ (required-free _ _) (both-free _ _ (required-free _ _) (both-free _ _ (required-free _ _)
+    (both-free _ _ (defaulted-free _ _ _) (both-free _ _ (defaulted-free _ _ _) (defaulted-free _ _ _))))))
+row-free names.OverlayMove = made-free _ _ (both-free _ _ (required-free _ _) (three _ _ _ _ _ _))
+row-free names.OverlayDrop = made-free _ _ (two _ _ _ _)
+row-free names.Setting = made-free _ _ (both-free _ _ (required-free _ _) (then_by-free _ _ value_of (required-free _ _) value-free))
+row-free names.AddString = made-free _ _ (both-free _ _ (required-free _ _) (defaulted-free _ _ _))
+row-free names.AddSpec = made-free _ _ (then_by-free _ _ spec_value (required-free _ _) spec-free)
+row-free names.AddFace = made-free _ _ (made-free _ _ (both-free _ _ (defaulted-free _ _ _) (both-free _ _ (defaulted-free _ _ _)
+    (both-free _ _ (defaulted-free _ _ _) (both-free _ _ (defaulted-free _ _ _) (defaulted-free _ _ _))))))
+row-free names.AddTable = made-free _ _ (both-free _ _ (defaulted-free _ _ _) (both-free _ _ (optional-free _ _) (both-free _ _ (optional-free _ _)
+    (both-free _ _ (optional-free _ _) (both-free _ _ (optional-free _ _) (both-free _ _ (optional-free _ _) (optional-free _ _)))))))
+row-free names.Remove = made-free _ _ (required-free _ _)
+row-free names.Show = made-free _ _ (two _ _ _ _)
+row-free names.Point = made-free _ _ (two _ _ _ _)
+row-free names.Wrap = made-free _ _ (two _ _ _ _)
+row-free names.Redisplay = made-free _ _ (optional-free _ _)
+row-free names.Unbuilt = record { free = λ ms e. cc }
+
+or_fault-free : {T : Type 0} (fault : OpFault) (o : Option T) → (fault ≡ Memory → ⊥) → IsFree (or_fault fault o)
+or_fault-free fault None h = λ e. h (cc)
+or_fault-free fault (Some x) h = ok-free x
+
+unless_extra-free : (key : Option (List ℕ)) (op : Op) → IsFree (unless_extra key op)
+unless_extra-free None op = ok-free op
+unless_extra-free (Some key) op = λ e. cc
+
+built-free : (b : Bool) (op : Op) → IsFree (if b then Ok op else Err NotBuilt)
+built-free true op = ok-free op
+built-free false op = λ e. cc
+
+fields-free : (ms : Members) (n : Name) → IsFree (reading_fields ms (row n))
+fields-free ms n =
+    and_then-free built (and_then (closed (codes "op" ∷ (row n).keys) ms) ((row n).taken ms)) (λ op. built-free (is_built op) op)
+    (and_then-free (closed (codes "op" ∷ (row n).keys) ms) ((row n).taken ms)
+    (λ op. unless_extra-free (extra_key (codes "op" ∷ (row n).keys) ms) op) ((row-free n).free ms))
+
+name-free : (ms : Members) → IsFree (reading_name ms)
+name-free ms = and_then-free (λ text. or_fault NoSuchOp (name_of text)) (required_of (codes "op") as_str (get_member (codes "op") ms))
+    (λ text. or_fault-free NoSuchOp (name_of text) (λ e. cc)) (required_of-free (codes "op") as_str (get_member (codes "op") ms))
+
+members-free : (ms : Members) → IsFree (reading_members ms)
+members-free ms = and_then-free (λ n. reading_fields ms (row n)) (reading_name ms) (fields-free ms) (name-free ms)
+
+pub reading-free : (line : List ℕ) → IsFree (reading line)
+unfolding reading
+reading-free line =
+    and_then-free (λ d. and_then reading_members (or_fault NotObject (as_object d))) (json_of line)
+    (λ d. and_then-free reading_members (or_fault NotObject (as_object d)) members-free (or_fault-free NotObject (as_object d) (λ e. cc)))
+    (or_fault-free NotJson (if is_utf8 line then read line else None) (λ e. cc))

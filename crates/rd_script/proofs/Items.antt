@@ -1,0 +1,95 @@
+-- The items of an array, one after the other.
+use Rattle.std.proofs.Common.{◌≡◌, ◌≢◌, ℕ, suc, ◌+◌, ◌<◌, ◌≤◌, Bool, true, false, nat_le, if◌then◌else◌, option_and_then, Option, None, Some, Result, Ok, Err, IfOk, List, [], ◌∷◌, ◌++◌, length, drop, get_or, refl, sym, ap, ◌∙◌, arith, append_assoc}
+use Rattle.std.proofs.Math.Seq.{drop-cons}
+use Rattle.std.proofs.lemmas.Bool.Decides.{nat_tests}
+use Rattle.serde_json.specs.Data.{Data}
+use Rattle.serde_json.specs.Find.{as_array}
+use Rattle.serde_json.specs.View.{view, items_view}
+use Rattle.serde_json.specs.declared.value.Value.{Value}
+use Rattle.rd_script.specs.Fields.{kept_if, items_count, consed, each_item, list_of, two_items_of, four_items_of}
+
+-- items that were found before others
+abbrev pub joined : {T : Type 0} → List T → Option (List T) → Option (List T)
+joined xs None = None
+joined xs (Some ys) = Some (xs ++ ys)
+
+joined-push : {T : Type 0} (xs : List T) (x : T) (o : Option (List T)) → joined (xs ++ x ∷ []) o ≡ joined xs (consed (Some x) o)
+joined-push xs x None = refl
+joined-push xs x (Some ys) = ap Some (append_assoc xs (x ∷ []) ys)
+
+joined-none : {T : Type 0} (o : Option (List T)) → joined [] o ≡ o
+joined-none None = refl
+joined-none (Some ys) = refl
+
+-- what is left of the items, by the next one
+each-step : {T : Type 0} (kind : Data → Option T) (vs : List Value) (i : ℕ) (v : Value) → i < length vs → v ≡ get_or vs i v
+    → each_item kind (items_view (drop i vs)) ≡ consed (kind (view v)) (each_item kind (items_view (drop (i + 1) vs)))
+each-step kind vs i v less is =
+    let after : suc i ≡ i + 1 = omega arith in
+    let head : drop i vs ≡ v ∷ drop (i + 1) vs = drop-cons vs i v less ∙ ap (λ x. x ∷ drop (suc i) vs) (sym is) ∙ ap (λ k. v ∷ drop k vs) after in
+    ap (λ l. each_item kind (items_view l)) head
+
+pub each-more : {T : Type 0} (kind : Data → Option T) (vs : List Value) (i : ℕ) (v : Value) (list : List T) (x : T) (whole : Option (List T)) → i < length vs → v ≡ get_or vs i v
+    → Some x ≡ kind (view v) → joined list (each_item kind (items_view (drop i vs))) ≡ whole
+    → joined (list ++ x ∷ []) (each_item kind (items_view (drop (i + 1) vs))) ≡ whole
+each-more kind vs i v list x whole less is found h =
+    joined-push list x (each_item kind (items_view (drop (i + 1) vs)))
+    ∙ (ap (λ o. joined list (consed o (each_item kind (items_view (drop (i + 1) vs))))) found ∙ (ap (joined list) (sym (each-step kind vs i v less is)) ∙ h))
+
+pub each-fails : {T : Type 0} (kind : Data → Option T) (vs : List Value) (i : ℕ) (v : Value) (list : List T) (whole : Option (List T)) → i < length vs → v ≡ get_or vs i v
+    → None ≡ kind (view v) → joined list (each_item kind (items_view (drop i vs))) ≡ whole → None ≡ whole
+each-fails kind vs i v list whole less is found h =
+    ap (λ o. joined list (consed o (each_item kind (items_view (drop (i + 1) vs))))) found ∙ (ap (joined list) (sym (each-step kind vs i v less is)) ∙ h)
+
+-- ---- an array of at most so many items
+
+counted : (vs : List Value) → items_count (items_view vs) ≡ length vs
+counted [] = refl
+counted (v ∷ vs) = ap suc (counted vs)
+
+kept : {T : Type 0} (test : T → Bool) (x : T) (b : Bool) → test x ≡ b → kept_if test x ≡ (if b then Some x else None)
+kept test x b e = ap (λ t. if t then Some x else None) e
+
+few : (n most : ℕ) (b : Bool) → nat_le n most ≡ b → n ≤ most → b ≡ true
+few n most b e h = grind (arith, nat_tests)
+
+many : (n most : ℕ) (b : Bool) → nat_le n most ≡ b → most < n → b ≡ false
+many n most b e h = grind (arith, nat_tests)
+
+pub list-none : {T : Type 0} (most : ℕ) (kind : Data → Option T) (d : Data) → None ≡ as_array d → None ≡ list_of most kind d
+list-none most kind d e = ap (λ o. option_and_then (each_item kind) (option_and_then (kept_if (λ ds. nat_le (items_count ds) most)) o)) e
+
+pub list-long : {T : Type 0} (most : ℕ) (kind : Data → Option T) (d : Data) (vs : List Value) → Some (items_view vs) ≡ as_array d → most < length vs → None ≡ list_of most kind d
+list-long most kind d vs e h =
+    let test = nat_le (items_count (items_view vs)) most in
+    let no : test ≡ false = many (items_count (items_view vs)) most test refl (omega (arith, counted vs)) in
+    sym (ap (λ o. option_and_then (each_item kind) o) (kept (λ ds. nat_le (items_count ds) most) (items_view vs) false no))
+    ∙ ap (λ o. option_and_then (each_item kind) (option_and_then (kept_if (λ ds. nat_le (items_count ds) most)) o)) e
+
+pub list-all : {T : Type 0} (most : ℕ) (kind : Data → Option T) (d : Data) (vs : List Value) → Some (items_view vs) ≡ as_array d → length vs ≤ most → each_item kind (items_view vs) ≡ list_of most kind d
+list-all most kind d vs e h =
+    let test = nat_le (items_count (items_view vs)) most in
+    let yes : test ≡ true = few (items_count (items_view vs)) most test refl (omega (arith, counted vs)) in
+    sym (ap (λ o. option_and_then (each_item kind) o) (kept (λ ds. nat_le (items_count ds) most) (items_view vs) true yes))
+    ∙ ap (λ o. option_and_then (each_item kind) (option_and_then (kept_if (λ ds. nat_le (items_count ds) most)) o)) e
+
+pub if-all : {T E : Type 0} (r : Result (Option T) E) (o p : Option T) → IfOk r (λ x. x ≡ o) → o ≡ p → IfOk r (λ x. x ≡ p)
+if-all (Ok x) o p h e = h ∙ e
+if-all (Err x) o p h e = h
+
+-- ---- arrays of another length
+
+pub not-two : {A B : Type 0} (a : Data → Option A) (b : Data → Option B) (vs : List Value) → length vs ≢ 2 → None ≡ two_items_of a b (items_view vs)
+not-two a b [] h = refl
+not-two a b (v ∷ []) h = refl
+not-two a b (v ∷ w ∷ []) h = absurd (h refl)
+not-two a b (v ∷ w ∷ x ∷ vs) h = refl
+
+pub not-four : {A B C D : Type 0} (a : Data → Option A) (b : Data → Option B) (c : Data → Option C) (d : Data → Option D) (vs : List Value) → length vs ≢ 4
+    → None ≡ four_items_of a b c d (items_view vs)
+not-four a b c d [] h = refl
+not-four a b c d (v ∷ []) h = refl
+not-four a b c d (v ∷ w ∷ []) h = refl
+not-four a b c d (v ∷ w ∷ x ∷ []) h = refl
+not-four a b c d (v ∷ w ∷ x ∷ y ∷ []) h = absurd (h refl)
+not-four a b c d (v ∷ w ∷ x ∷ y ∷ z ∷ vs) h = refl

@@ -1,0 +1,77 @@
+-- The objects that an op makes: strings, display specs, faces and display tables.
+use Rattle.std.specs.Prelude.{ℕ, Bool, false, List, [], ◌∷◌, Option, None, Some, option_and_then, option_map, codes}
+use Rattle.std.specs.Str.{chars}
+use Rattle.serde_json.specs.Data.{Data}
+use Rattle.serde_json.specs.Find.{as_bool, as_str}
+use Rattle.rd_base.specs.Faces.{Attributes}
+use Rattle.rd_objects.specs.declared.run.RunKind.{RunKind}
+use Rattle.rd_objects.specs.declared.run.RunKind.TheVariants as kinds
+use Rattle.rd_script.specs.declared.object.OpEntry.{OpEntry}
+use Rattle.rd_script.specs.declared.object.OpRun.{OpRun}
+use Rattle.rd_script.specs.declared.object.OpSpec.{OpSpec}
+use Rattle.rd_script.specs.declared.object.OpSpec.TheVariants as specs
+use Rattle.rd_script.specs.declared.object.SpecName.{SpecName}
+use Rattle.rd_script.specs.declared.object.SpecName.TheVariants as names
+use Rattle.rd_script.specs.Fields.{Fields, kept_if, whole, within, word, two_items, four_items, required, optional, defaulted, both, made, then_by}
+use Rattle.rd_script.specs.Forms.{is_glyph_text, is_slot}
+
+-- ---- strings
+
+abbrev pub run_kinds : List (List ℕ × RunKind)
+run_kinds = (codes "face", kinds.Face) ∷ (codes "display", kinds.Display) ∷ []
+
+abbrev pub run_of : ℕ × (ℕ × (RunKind × ℕ)) → OpRun
+run_of parts = record { from = parts.0; to = parts.1.0; kind = parts.1.1.0; value = parts.1.1.1 }
+
+-- where a run begins and ends, its kind, and the number of its face or display spec
+abbrev pub run : Data → Option OpRun
+run d = option_map run_of (four_items whole whole (word run_kinds) whole d)
+
+-- ---- display specs
+
+abbrev pub spec_names : List (List ℕ × SpecName)
+spec_names = (codes "string", names.Text) ∷ (codes "width", names.Width) ∷ (codes "align", names.Align) ∷ []
+
+abbrev pub spec_value : SpecName → Fields OpSpec
+spec_value names.Text = made specs.Text (required (codes "value") whole)
+spec_value names.Width = made specs.Width (required (codes "value") (within 0 400))
+spec_value names.Align = made specs.Align (required (codes "value") (within 0 400))
+
+-- what a spec is, and then its string or its columns
+abbrev pub spec : Fields OpSpec
+spec = then_by (required (codes "kind") (word spec_names)) (codes "value" ∷ []) spec_value
+
+-- ---- faces
+
+abbrev pub face_of : ℕ × (ℕ × (Bool × (Bool × Bool))) → Attributes
+face_of f = record { fg = f.0; bg = f.1.0; bold = f.1.1.0; underline = f.1.1.1.0; inverse = f.1.1.1.1 }
+
+-- colours, which are none where they are not said, and flags
+abbrev pub face : Fields Attributes
+face = made face_of (both (defaulted 8 (codes "fg") (within 0 7)) (both (defaulted 8 (codes "bg") (within 0 7))
+    (both (defaulted false (codes "bold") as_bool) (both (defaulted false (codes "underline") as_bool) (defaulted false (codes "inverse") as_bool)))))
+
+-- ---- display tables
+
+-- at most 16 glyph characters
+abbrev pub glyph_text : Data → Option (List ℕ)
+glyph_text d = option_and_then (kept_if is_glyph_text) (option_map chars (as_str d))
+
+abbrev pub only : List ℕ → Option ℕ
+only [] = None
+only (c ∷ []) = Some c
+only (c ∷ d ∷ cs) = None
+
+-- a text of one glyph character of one column
+abbrev pub slot : Data → Option ℕ
+slot d = option_and_then (kept_if is_slot) (option_and_then only (option_map chars (as_str d)))
+
+abbrev pub entry_of : ℕ × List ℕ → OpEntry
+entry_of parts = record { code = parts.0; text = parts.1 }
+
+-- a code and what is shown in its place
+abbrev pub entry : Data → Option OpEntry
+entry d = option_map entry_of (two_items (within 0 1114111) glyph_text d)
+
+abbrev pub slot_field : List ℕ → Fields (Option ℕ)
+slot_field key = optional key slot
