@@ -1,10 +1,11 @@
 //! Lines and what they say.
-ghost use Rattle.std.specs.Prelude.{◌≡◌, ◌∷◌, [], ◌++◌, codes, Ok, Err, None, Some, true};
+ghost use Rattle.std.specs.Prelude.{◌≡◌, ◌∷◌, [], ◌++◌, codes, pos, Ok, Err, None, Some, true, false};
 ghost use Rattle.rd_script.specs.declared.fault.OpFault.TheVariants as faults;
 ghost use Rattle.rd_script.specs.declared.op.Op.TheVariants as ops;
 ghost use Rattle.rd_base.specs.Cells.{single};
 ghost use Rattle.rd_base.specs.Faces.{plain};
 ghost use Rattle.rd_base.specs.declared.cell.Cell.TheVariants.{Blank, First, Rest};
+ghost use Rattle.rd_objects.specs.declared.run.RunKind.TheVariants as kinds;
 ghost use Rattle.rd_script.specs.Dumps.{row_line, window_line};
 ghost use Rattle.rd_script.specs.Reading.{reading};
 
@@ -23,6 +24,9 @@ fn worked_lines()
     ensures json { reading (codes "{\"op\":\"redi") ≡ Err faults.NotJson }
     ensures twice { reading (codes "{\"op\":\"x\",\"op\":\"type\",\"text\":\"ab\"}") ≡ Ok (ops.TypeText (97 ∷ 98 ∷ [])) }
     ensures show { reading (codes "{\"op\":\"redisplay\",\"stop\":null}") ≡ Ok (ops.Redisplay None) }
+    ensures overlay { reading (codes "{\"op\":\"overlay\",\"buffer\":\"a\",\"from\":2,\"to\":3,\"rear\":true}") ≡ Ok (ops.Overlay (codes "a") 2 3 (pos 0) false true) }
+    ensures setting { reading (codes "{\"op\":\"setting\",\"buffer\":\"a\",\"name\":\"direction\",\"value\":\"left\"}") ≡ Err faults.NotBuilt }
+    ensures runs { reading (codes "{\"op\":\"string\",\"text\":\"ab\",\"runs\":[[0,1,\"face\",7]]}") ≡ Ok (ops.AddString (97 ∷ 98 ∷ []) (record { from = 0; to = 1; kind = kinds.Face; value = 7 } ∷ [])) }
 {}
 
 /// Whether a list has the characters of a text.

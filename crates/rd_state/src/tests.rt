@@ -1,9 +1,18 @@
 //! States on plain cases.
+ghost use Rattle.std.specs.Prelude.{◌≡◌, ◌∷◌, [], None, Some};
+ghost use Rattle.rd_state.specs.Edits.{spread, cut};
+
 use super::*;
 use rd_base::{Anchor, Wrap};
 use rd_script::{Op, read_op};
 use std::alloc::Global;
 use std::test::Fail;
+
+/// How the values of a text property move, computed on three characters.
+fn worked_values()
+    ensures spread { spread 1 2 (Some 7 ∷ Some 8 ∷ None ∷ []) ≡ Some 7 ∷ None ∷ None ∷ Some 8 ∷ None ∷ [] }
+    ensures cut { cut 0 2 (Some 7 ∷ Some 8 ∷ Some 9 ∷ []) ≡ Some 9 ∷ [] }
+{}
 
 /// What a state answers to a line of a script; None where the line is no op, or a redisplay.
 fn answer(state: &mut State, alloc: Global, line: &[u8]) -> Option<Result<Effect, Refused>> {

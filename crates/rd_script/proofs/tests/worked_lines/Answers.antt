@@ -31,3 +31,15 @@ returns-clause-twice c = refl
 pub returns-clause-show : goal.returns-clause-show
 unfolding serde_json_on_literals reading chars is_utf8
 returns-clause-show c = refl
+
+pub returns-clause-overlay : goal.returns-clause-overlay
+unfolding serde_json_on_literals reading chars is_utf8
+returns-clause-overlay c = refl
+
+pub returns-clause-setting : goal.returns-clause-setting
+unfolding serde_json_on_literals reading chars is_utf8
+returns-clause-setting c = refl
+
+pub returns-clause-runs : goal.returns-clause-runs
+unfolding serde_json_on_literals reading chars is_utf8
+returns-clause-runs c = refl
