@@ -1,0 +1,1 @@
+-- Buffers on which the definitions are worked out.

@@ -1,0 +1,16 @@
+//! The elements of a line, and of a prefix: the items of a block in visual order, each replaced by its elements. A string stands
+//! in a line, and a display string in an overlay's string, and no deeper.
+#![tactic(auto)]
+
+mod inner;
+mod line;
+mod middle;
+mod part;
+mod prefix;
+mod row;
+mod text;
+mod turn;
+mod walker;
+
+pub use prefix::string_line;
+pub use walker::Walker;

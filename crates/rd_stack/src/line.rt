@@ -1,0 +1,242 @@
+//! The elements of a line: its items in visual order, each as its elements.
+ghost use Rattle.std.specs.Prelude.{◌≡◌, ◌++◌, ◌+◌, ◌≤◌, ◌<◌, ◌∷◌, [], map, length, slice_get, All, OnOk, IfOk, IsTrue};
+ghost use Rattle.std.specs.List.{flat_map};
+ghost use Rattle.rd_base.specs.Glyphs.{IsMeasured};
+ghost use Rattle.rd_text.specs.Texts.{IsAccessible};
+ghost use Rattle.rd_objects.specs.Tables.{is_glyph_text};
+ghost use Rattle.rd_glyphs.specs.Characters.{element_of, glyph_elements};
+ghost use Rattle.rd_props.specs.Buffers.{meaning};
+ghost use Rattle.rd_items.specs.Pieces.{scene_of, IsMeasuredKind};
+ghost use Rattle.rd_items.specs.Items.{AreMeasuredItems};
+ghost use Rattle.rd_base.specs.declared.element.Look.TheVariants as look;
+ghost use Rattle.rd_stack.specs.Shown.{AreInside};
+ghost use Rattle.rd_stack.specs.Lines.{ellipsis_glyphs, stands_at, is_display_string, text_elements, outer_by, origin_of, item_elements, item_class, line_of_items, AreAccessibleItems};
+
+use crate::inner::{put_char, put_display_string, put_glyph, put_space};
+use crate::middle::put_overlay_string;
+use crate::turn::{Turn, turns_of};
+use rd_base::{Class, Element, Extent, Face, Glyph, ListOf, Look, Memory, Origin, Pos};
+use rd_items::{Item, ItemKind, Items, parts_of};
+use rd_overlays::Kind;
+use rd_props::{View, effective, face_at};
+use std::alloc::Global;
+
+/// The elements of the items of the block that starts at a position, in visual order.
+pub fn line_of_items(
+    alloc: Global,
+    view: &View,
+    base: u8,
+    start: Pos,
+    items: &Items,
+) -> Result<ListOf<Element>, Memory>
+    requires base { base ≤ 1 }
+    requires measured { AreMeasuredItems items.now }
+    requires accessible { AreAccessibleItems view.now.state.now.text items.now }
+    ensures value { IfOk result (λ elements. elements ≡ line_of_items (meaning view.now.state.now) (scene_of view.now) base start items.now) }
+{
+    let state = view.state;
+    let settings = &state.settings;
+    let classes = classes_of(alloc, items)?;
+    let turns = turns_of(alloc, settings.reorder, base, classes.as_slice())?;
+    put_items(alloc, view, base, start, items, turns.as_slice())
+}
+
+/// The classes of items.
+fn classes_of(alloc: Global, items: &Items) -> Result<ListOf<Class>, Memory>
+    ensures { IfOk result (λ classes. classes ≡ map item_class items.now) }
+{
+    let mut classes = ListOf::with_room(alloc, items.len() as usize)?;
+    for i in 0..items.len() {
+        let item = items.item(i);
+        classes.push(item.class)?;
+    }
+    Ok(classes)
+}
+
+/// The elements of the items of these turns.
+fn put_items(
+    alloc: Global,
+    view: &View,
+    base: u8,
+    start: Pos,
+    items: &Items,
+    turns: &[Turn],
+) -> Result<ListOf<Element>, Memory>
+    requires base { base ≤ 1 }
+    requires measured { AreMeasuredItems items.now }
+    requires accessible { AreAccessibleItems view.now.state.now.text items.now }
+    ensures value { IfOk result (λ elements. elements ≡ flat_map (item_elements (meaning view.now.state.now) (scene_of view.now) base start items.now) turns.now) }
+{
+    let mut out = ListOf::new(alloc);
+    for turn in turns {
+        put_turn(alloc, view, base, start, items, *turn, &mut out)?;
+    }
+    Ok(out)
+}
+
+/// Adds the elements of the item of a turn.
+fn put_turn(
+    alloc: Global,
+    view: &View,
+    base: u8,
+    start: Pos,
+    items: &Items,
+    turn: Turn,
+    out: &mut ListOf<Element>,
+) -> Result<(), Memory>
+    requires base { base ≤ 1 }
+    requires measured { AreMeasuredItems items.now }
+    requires accessible { AreAccessibleItems view.now.state.now.text items.now }
+    ensures value { OnOk result (out.new ≡ out.old ++ item_elements (meaning view.now.state.now) (scene_of view.now) base start items.now turn) }
+{
+    if turn.index >= items.len() as usize {
+        return Ok(());
+    }
+    let item = items.item(turn.index as u32);
+    let origin = origin_of(start, turn.index as u32, item);
+    let face = face_at(alloc, view, item.at)?;
+    let display = is_display_string(alloc, view, items, turn.index as u32, item.at)?;
+    put_item(
+        alloc, view, base, item.kind, display, turn.odd, face, origin, out,
+    )
+}
+
+/// An item's number, and the offsets of its range from the block's start.
+fn origin_of(start: Pos, number: u32, item: &Item) -> Origin
+    ensures { result ≡ origin_of start number item.now }
+{
+    Origin {
+        item: number,
+        from: item.from.saturating_sub(start),
+        to: item.to.saturating_sub(start),
+    }
+}
+
+/// Whether a string that stands at a position, as the item of a number, is that of a display spec there, and not an overlay's.
+fn is_display_string(
+    alloc: Global,
+    view: &View,
+    items: &Items,
+    number: u32,
+    pos: Pos,
+) -> Result<bool, Memory>
+    requires number { number < length items.now }
+    requires accessible { IsAccessible view.now.state.now.text pos }
+    ensures { IfOk result (λ display. display ≡ is_display_string (meaning view.now.state.now) pos (slice_get items.now (number + 1))) }
+{
+    let replaced = effective(alloc, view, pos, Kind::Display)?;
+    Ok(replaced.is_some() && !is_followed_at(pos, items, number))
+}
+
+/// Whether there is an item behind that of a number, and stands at a position.
+fn is_followed_at(pos: Pos, items: &Items, number: u32) -> bool
+    requires { number < length items.now }
+    ensures { result ≡ stands_at pos (slice_get items.now (number + 1)) }
+{
+    let count = items.len();
+    let next = number + 1;
+    if next >= count {
+        return false;
+    }
+    let item = items.item(next);
+    item.at == pos
+}
+
+/// Adds the elements of what an item shows; of a string it is told whether it is a display string.
+fn put_item(
+    alloc: Global,
+    view: &View,
+    base: u8,
+    kind: ItemKind,
+    display: bool,
+    odd: bool,
+    face: Face,
+    origin: Origin,
+    out: &mut ListOf<Element>,
+) -> Result<(), Memory>
+    requires base { base ≤ 1 }
+    requires measured { IsMeasuredKind kind }
+    ensures value { OnOk result (out.new ≡ out.old ++ outer_by kind display (scene_of view.now) base odd face origin) }
+{
+    match kind {
+        ItemKind::Char(ch) => put_char(alloc, view, ch, odd, face, origin, out),
+        ItemKind::Marked(glyph) => put_glyph(glyph, face, origin, out),
+        ItemKind::Text(number) => {
+            put_string(alloc, view, base, display, origin, face, number, out)
+        }
+        ItemKind::Space(spec) => put_space(spec, face, origin, out),
+        ItemKind::Ellipsis => put_ellipsis(view, face, origin, out),
+        ItemKind::Ender => put_line_end(face, origin, out),
+    }
+}
+
+/// Adds the elements of a string: a display string, or an overlay's.
+fn put_string(
+    alloc: Global,
+    view: &View,
+    base: u8,
+    display: bool,
+    origin: Origin,
+    face: Face,
+    number: u32,
+    out: &mut ListOf<Element>,
+) -> Result<(), Memory>
+    requires { base ≤ 1 }
+    ensures value { OnOk result (out.new ≡ out.old ++ text_elements display (scene_of view.now) base origin face number) }
+    ensures inside { AreInside out.old → OnOk result (AreInside out.new) }
+{
+    if display {
+        return put_display_string(alloc, view, base, origin, face, number, out);
+    }
+    put_overlay_string(alloc, view, base, origin, face, number, out)
+}
+
+/// Adds the glyphs of an ellipsis: those of the table, and three dots where it has none.
+fn put_ellipsis(
+    view: &View,
+    face: Face,
+    origin: Origin,
+    out: &mut ListOf<Element>,
+) -> Result<(), Memory>
+    ensures value { OnOk result (out.new ≡ out.old ++ glyph_elements face origin (ellipsis_glyphs (scene_of view.now).parts.table)) }
+{
+    let parts = parts_of(view);
+    if let Some(table) = parts.table {
+        if let Some(text) = table.ellipsis() {
+            return put_glyphs(text, face, origin, out);
+        }
+    }
+    put_glyphs(&[Glyph::single('.' as u32, 1); 3], face, origin, out)
+}
+
+/// Adds the elements of glyphs.
+fn put_glyphs(
+    text: &[Glyph],
+    face: Face,
+    origin: Origin,
+    out: &mut ListOf<Element>,
+) -> Result<(), Memory>
+    ensures value { OnOk result (out.new ≡ out.old ++ glyph_elements face origin text.now) }
+{
+    for glyph in text {
+        out.push(Element {
+            extent: Extent::Fixed(glyph.width as u32),
+            look: Look::Glyph(*glyph),
+            face,
+            origin,
+        })?;
+    }
+    Ok(())
+}
+
+/// Adds the end of the line.
+fn put_line_end(face: Face, origin: Origin, out: &mut ListOf<Element>) -> Result<(), Memory>
+    ensures { OnOk result (out.new ≡ out.old ++ element_of face origin look.LineEnd ∷ []) }
+{
+    out.push(Element {
+        extent: Extent::Fixed(0),
+        look: Look::LineEnd,
+        face,
+        origin,
+    })
+}

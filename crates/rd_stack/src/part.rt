@@ -1,0 +1,169 @@
+//! What strings are made of.
+ghost use Rattle.std.specs.Prelude.{◌≡◌, ◌<◌, ◌∷◌, ◌++◌, [], length, OnOk};
+ghost use Rattle.rd_objects.specs.Texts.{face_of, spec_of};
+ghost use Rattle.rd_glyphs.specs.Joining.{IsMeasuredJoining};
+ghost use Rattle.rd_items.specs.Pieces.{scene_of, spec_in, inner_class, same_spec};
+ghost use Rattle.rd_stack.specs.Strings.{place_of, ends_row, spec_class, part_of, glyph_with, marked, IsMeasuredPart, HoldsPart, HoldsMeasured, AreMeasuredParts};
+
+use rd_base::{Ch, Class, Face, Glyph, ListOf, Memory};
+use rd_glyphs::{Joining, join, on_blank};
+use rd_items::parts_of;
+use rd_objects::{Objects, Spec, Text};
+use rd_props::View;
+
+/// A place of a string: its character, its face, and the number of the display spec that replaces it.
+#[derive(Clone, Copy, Debug, PartialEq, Eq)]
+pub struct Place {
+    pub ch: Ch,
+    pub face: Face,
+    pub spec: Option<u32>,
+}
+
+/// What a part of a string shows.
+#[derive(Clone, Copy, Debug, PartialEq, Eq)]
+pub enum PartKind {
+    /// A character that no mark has joined.
+    Char(Ch),
+    /// A character with the marks that joined it, or a mark on a blank with others.
+    Marked(Glyph),
+    /// What a display spec puts for the places of its run.
+    Replaced(Spec),
+    /// The end of a row, where a newline stands.
+    RowEnd,
+}
+
+/// A part of a row of a string, before the row is put in order.
+#[derive(Clone, Copy, Debug, PartialEq, Eq)]
+pub struct Part {
+    pub class: Class,
+    pub kind: PartKind,
+    pub face: Face,
+    /// How it stands towards the marks behind it.
+    pub joining: Joining,
+}
+
+/// A part in its turn, at an odd embedding level or not.
+#[derive(Clone, Copy, Debug, PartialEq, Eq)]
+pub struct Shown {
+    pub kind: PartKind,
+    pub face: Face,
+    pub odd: bool,
+}
+
+/// A place of a string that stands over a face. Where the string's display runs aren't used, no spec replaces it.
+pub fn place_of(replaced: bool, text: &Text, under: Face, i: u32) -> Place
+    requires { i < length text.now.chars }
+    ensures { result ≡ place_of replaced text.now under i }
+{
+    Place {
+        ch: text.ch(i),
+        face: text.face(i).over(under),
+        spec: if replaced { text.spec(i) } else { None },
+    }
+}
+
+/// Whether two places are replaced by one spec.
+pub fn same_spec(a: Option<u32>, b: Option<u32>) -> bool
+    ensures { result ≡ same_spec a b }
+{
+    match (a, b) {
+        (Some(a), Some(b)) => a == b,
+        _ => false,
+    }
+}
+
+/// Whether a place has a newline that no spec replaces.
+pub fn ends_row(place: &Place) -> bool
+    ensures { result ≡ ends_row place.now }
+{
+    place.spec.is_none() && place.ch.code() == 10
+}
+
+/// The display spec of a number: no columns where none was made with it.
+fn spec_named(objects: &Objects, number: u32) -> Spec
+    ensures { result ≡ spec_in objects.now number }
+{
+    match objects.spec(number) {
+        Some(spec) => spec,
+        None => Spec::Width(0),
+    }
+}
+
+/// The class of what a spec puts.
+fn spec_class(spec: Spec) -> Class
+    ensures { result ≡ spec_class spec }
+{
+    match spec {
+        Spec::Text(_) => Class::ON,
+        Spec::Width(_) | Spec::Align(_) => Class::S,
+    }
+}
+
+/// The class of a character inside a line.
+fn inner_class(class: Class) -> Class
+    ensures { result ≡ inner_class class }
+{
+    match class {
+        Class::B => Class::S,
+        other => other,
+    }
+}
+
+/// The part of a place.
+fn part_of(view: &View, place: &Place) -> Part
+    ensures value { result ≡ part_of (scene_of view.now) place.now }
+    ensures measured { IsMeasuredPart result }
+{
+    if let Some(number) = place.spec {
+        let spec = spec_named(view.objects, number);
+        return Part {
+            class: spec_class(spec),
+            kind: PartKind::Replaced(spec),
+            face: place.face,
+            joining: Joining::Alone,
+        };
+    }
+    let parts = parts_of(view);
+    Part {
+        class: inner_class(parts.classes.class(place.ch)),
+        kind: PartKind::Char(place.ch),
+        face: place.face,
+        joining: parts.joining(place.ch),
+    }
+}
+
+/// Adds the part of a place to a row.
+pub fn put_place(view: &View, place: &Place, row: &mut ListOf<Part>) -> Result<(), Memory>
+    ensures value { OnOk result (row.new ≡ row.old ++ part_of (scene_of view.now) place.now ∷ []) }
+    ensures measured { AreMeasuredParts row.old → OnOk result (AreMeasuredParts row.new) }
+{
+    row.extend_from_slice(&[part_of(view, place)])
+}
+
+/// The glyph that a mark joins, with the mark, where it joins it.
+fn glyph_with(held: Joining, next: Joining) -> Option<Glyph>
+    ensures value { result ≡ glyph_with held next }
+    ensures measured { IsMeasuredJoining held → IsMeasuredJoining next → HoldsMeasured result }
+{
+    match (held, next) {
+        (Joining::Base(glyph), Joining::Mark(code)) => join(glyph, code),
+        (Joining::Mark(first), Joining::Mark(code)) => join(on_blank(first), code),
+        _ => None,
+    }
+}
+
+/// A part with the mark of the next, where it joins it.
+pub fn marked(held: &Part, next: &Part) -> Option<Part>
+    ensures value { result ≡ marked held.now next.now }
+    ensures measured { IsMeasuredPart held.now → IsMeasuredPart next.now → HoldsPart result }
+{
+    match glyph_with(held.joining, next.joining) {
+        Some(glyph) => Some(Part {
+            kind: PartKind::Marked(glyph),
+            joining: Joining::Base(glyph),
+            class: held.class,
+            face: held.face,
+        }),
+        None => None,
+    }
+}
