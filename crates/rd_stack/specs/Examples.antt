@@ -1,1 +1,88 @@
--- Buffers on which the definitions are worked out.
+-- Buffers and strings on which the definitions are worked out.
+use Rattle.std.specs.Prelude.{ℕ, ◌+◌, pos, false, true, List, [], ◌∷◌, length, Option, None, Some}
+use Rattle.rd_base.specs.Faces.{Attributes, plain}
+use Rattle.rd_base.specs.Cells.{single}
+use Rattle.rd_base.specs.Settings.{opening}
+use Rattle.rd_base.specs.declared.class.Class.TheVariants.{R, S}
+use Rattle.rd_base.specs.declared.element.Element.{Element}
+use Rattle.rd_base.specs.declared.element.Look.{Look}
+use Rattle.rd_base.specs.declared.element.Look.TheVariants as look
+use Rattle.rd_base.specs.declared.element.Origin.{Origin}
+use Rattle.rd_base.specs.declared.settings.Invisible.{Invisible}
+use Rattle.rd_ucd.specs.declared.spans.Span.{Span}
+use Rattle.rd_ucd.specs.declared.spans.Pair.{Pair}
+use Rattle.rd_spans.specs.declared.run.Run.{Run}
+use Rattle.rd_overlays.specs.declared.overlay.Overlay.{Overlay}
+use Rattle.rd_overlays.specs.declared.overlay.Kind.TheVariants.{Before}
+use Rattle.rd_overlays.specs.Overlays.{new_overlay, given}
+use Rattle.rd_objects.specs.declared.run.Spec.TheVariants.{Text, Align}
+use Rattle.rd_objects.specs.declared.run.RunKind.TheVariants as run
+use Rattle.rd_objects.specs.Texts.{TextValue, text_of}
+use Rattle.rd_objects.specs.Things.{ObjectLists, nothing_made}
+use Rattle.rd_glyphs.specs.Characters.{element_of}
+use Rattle.rd_props.specs.Buffers.{BufferValue, values_of}
+use Rattle.rd_props.specs.Examples.{put_once}
+use Rattle.rd_items.specs.Pieces.{Scene, parts_in}
+
+-- an element of a look in the plain face, of the item of a number that covers these offsets
+abbrev pub plain_look : Look → ℕ → ℕ → ℕ → Element
+plain_look l item from to = element_of plain (record { item = item; from = from; to = to }) l
+
+-- an element of a character of one column
+abbrev pub letter : ℕ → ℕ → ℕ → ℕ → Element
+letter c item from to = plain_look (look.Glyph (single c 1)) item from to
+
+-- a text with properties and overlays
+abbrev pub buffer : List ℕ → List (List Run) → List (Option Overlay) → Invisible → BufferValue
+buffer chars properties overlays invisible = record {
+  text = record { text = chars; begin = 1; end = length chars + 1 };
+  properties = values_of properties;
+  overlays = overlays;
+  settings = record opening { invisible = invisible };
+}
+
+-- a string without runs
+abbrev pub bare : List ℕ → TextValue
+bare chars = text_of chars [] []
+
+-- the strings A, B, C, D, E and F
+abbrev pub six_strings : ObjectLists
+six_strings = record nothing_made { strings = bare (65 ∷ []) ∷ bare (66 ∷ []) ∷ bare (67 ∷ []) ∷ bare (68 ∷ []) ∷ bare (69 ∷ []) ∷ bare (70 ∷ []) ∷ [] }
+
+-- the string PQ, newline, R, in which the string zz stands for Q; a face that is red, and one on green
+abbrev pub nested_strings : ObjectLists
+nested_strings = record nothing_made {
+  strings =
+    text_of (80 ∷ 81 ∷ 10 ∷ 82 ∷ []) (record { from = 1; to = 2; kind = run.Display; value = 0 } ∷ []) []
+    ∷ bare (122 ∷ 122 ∷ [])
+    ∷ [];
+  specs = Text 1 ∷ Text 0 ∷ Align 8 ∷ [];
+}
+
+-- an overlay on the second character with that string before it
+abbrev pub string_before : List (Option Overlay)
+string_before = given (Some (new_overlay 2 3 (pos 0) false false) ∷ []) 0 Before (Some 0)
+
+abbrev pub red : Attributes
+red = record plain { fg = 1 }
+
+abbrev pub on_green : Attributes
+on_green = record plain { bg = 2 }
+
+-- a string whose one character is on green, and whose newline a spec of another string replaces
+abbrev pub coloured_strings : ObjectLists
+coloured_strings = record nothing_made {
+  strings =
+    text_of (80 ∷ 10 ∷ []) (record { from = 0; to = 2; kind = run.Face; value = 1 } ∷ record { from = 1; to = 2; kind = run.Display; value = 0 } ∷ []) (red ∷ on_green ∷ [])
+    ∷ text_of (122 ∷ []) (record { from = 0; to = 1; kind = run.Face; value = 2 } ∷ []) (red ∷ on_green ∷ record plain { bold = true } ∷ [])
+    ∷ [];
+  specs = Text 1 ∷ [];
+  faces = red ∷ [];
+}
+
+-- Hebrew letters, and brackets that mirror each other
+abbrev pub some_classes : List Span
+some_classes = record { first = 1488; last = 1514; class = R } ∷ []
+
+abbrev pub scene : BufferValue → ObjectLists → Scene
+scene s objects = record { objects = objects; parts = parts_in s objects some_classes (record { code = 40; mirror = 41 } ∷ []) }
