@@ -53,9 +53,9 @@ six_strings = record nothing_made { strings = bare (65 ∷ []) ∷ bare (66 ∷ 
 abbrev pub nested_strings : ObjectLists
 nested_strings = record nothing_made {
   strings =
-    text_of (80 ∷ 81 ∷ 10 ∷ 82 ∷ []) (record { from = 1; to = 2; kind = run.Display; value = 0 } ∷ []) []
-    ∷ bare (122 ∷ 122 ∷ [])
-    ∷ [];
+      text_of (80 ∷ 81 ∷ 10 ∷ 82 ∷ []) (record { from = 1; to = 2; kind = run.Display; value = 0 } ∷ []) []
+      ∷ bare (122 ∷ 122 ∷ [])
+      ∷ [];
   specs = Text 1 ∷ Text 0 ∷ Align 8 ∷ [];
 }
 
@@ -73,9 +73,9 @@ on_green = record plain { bg = 2 }
 abbrev pub coloured_strings : ObjectLists
 coloured_strings = record nothing_made {
   strings =
-    text_of (80 ∷ 10 ∷ []) (record { from = 0; to = 2; kind = run.Face; value = 1 } ∷ record { from = 1; to = 2; kind = run.Display; value = 0 } ∷ []) (red ∷ on_green ∷ [])
-    ∷ text_of (122 ∷ []) (record { from = 0; to = 1; kind = run.Face; value = 2 } ∷ []) (red ∷ on_green ∷ record plain { bold = true } ∷ [])
-    ∷ [];
+      text_of (80 ∷ 10 ∷ []) (record { from = 0; to = 2; kind = run.Face; value = 1 } ∷ record { from = 1; to = 2; kind = run.Display; value = 0 } ∷ []) (red ∷ on_green ∷ [])
+      ∷ text_of (122 ∷ []) (record { from = 0; to = 1; kind = run.Face; value = 2 } ∷ []) (red ∷ on_green ∷ record plain { bold = true } ∷ [])
+      ∷ [];
   specs = Text 1 ∷ [];
   faces = red ∷ [];
 }

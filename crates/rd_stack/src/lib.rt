@@ -13,6 +13,8 @@ mod text;
 mod turn;
 mod walker;
 
-pub use laws::{line_where_overlays_meet, line_with_a_stretch, line_with_nested_strings, lines_of_hidden_text};
+pub use laws::{
+    line_where_overlays_meet, line_with_a_stretch, line_with_nested_strings, lines_of_hidden_text,
+};
 pub use prefix::string_line;
 pub use walker::Walker;
