@@ -1,3 +1,5 @@
 mod Lists
 mod Places
 mod Rows
+mod Glyphs
+mod Prefixes

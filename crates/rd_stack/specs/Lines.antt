@@ -6,6 +6,8 @@ use Rattle.rd_base.specs.Cells.{single}
 use Rattle.rd_base.specs.declared.class.Class.{Class}
 use Rattle.rd_base.specs.declared.cell.Glyph.{Glyph}
 use Rattle.rd_base.specs.declared.element.Element.{Element}
+use Rattle.rd_base.specs.declared.element.Extent.{Extent}
+use Rattle.rd_base.specs.declared.element.Extent.TheVariants.{Fixed, Tab, Column}
 use Rattle.rd_base.specs.declared.element.Look.TheVariants as look
 use Rattle.rd_base.specs.declared.element.Origin.{Origin}
 use Rattle.rd_text.specs.Texts.{TextValue, IsAccessible}
@@ -82,3 +84,14 @@ line_elements s scene base start = line_of_items s scene base start (items_of s 
 -- items that stand at accessible positions, or at the end of the accessible text
 abbrev pub AreAccessibleItems : TextValue → List Item → Type 0
 AreAccessibleItems t items = All (λ item. IsAccessible t item.at) items
+
+-- the most columns that an element can take, wherever it stands
+abbrev pub extent_columns : Extent → ℕ
+extent_columns (Fixed n) = n
+extent_columns (Tab t) = t
+extent_columns (Column n) = n
+
+-- the most columns that elements can take
+abbrev pub columns_at_most : List Element → ℕ
+columns_at_most [] = 0
+columns_at_most (e ∷ es) = extent_columns e.extent + columns_at_most es

@@ -83,3 +83,15 @@ pub record IsInside (e : Element) : Type 0 where
 
 abbrev pub AreInside : List Element → Type 0
 AreInside es = All IsInside es
+
+-- what each element of a line is
+pub record IsRight (e : Element) : Type 0 where
+  pub sound : IsSound e
+  pub measured : IsMeasuredLook e.look
+
+abbrev pub AreRight : List Element → Type 0
+AreRight es = All IsRight es
+
+-- elements that end no row
+abbrev pub AreOfOneRow : List Element → Type 0
+AreOfOneRow es = All (λ e. is_row_end e.look ≡ false) es

@@ -7,11 +7,11 @@ use Rattle.rd_stack.specs.Lines.{outer}
 use Rattle.rd_stack.proofs.Lists.{nothing-past, all-at}
 use Rattle.rd_stack.proofs.line.put_turn.Goals as goal
 
-pub returns-then-turn-len : goal.returns-then-turn-len
-returns-then-turn-len c = record {
-  value = nothing-past (outer (meaning c.args.view.now.state.now) (scene_of c.args.view.now) c.args.base c.args.start c.args.items.now c.args.turn) c.args.out.now
-      c.args.items.now c.len.result c.args.turn.index refl c.len.ensures c.if-turn-len.true;
-}
+pub returns-then-turn-len-clause-value : goal.returns-then-turn-len-clause-value
+returns-then-turn-len-clause-value c =
+    nothing-past
+    (outer (meaning c.args.view.now.state.now) (scene_of c.args.view.now) c.args.base c.args.start c.args.items.now c.args.turn)
+    c.args.out.now c.args.items.now c.len.result c.args.turn.index refl c.len.ensures c.if-turn-len.true
 
 pub face_at-requires : goal.face_at-requires
 face_at-requires c =
@@ -24,6 +24,6 @@ is_display_string-requires-clause-accessible c =
     all-at (λ (item : Item). IsAccessible c.args.view.now.state.now.text item.at) c.args.items.now c.args.turn.index c.item-item.result.now
     c.requires.accessible c.item-item.ensures
 
-pub put_item-requires-clause-measured : goal.put_item-requires-clause-measured
-put_item-requires-clause-measured c =
+pub of_item-requires-clause-measured : goal.of_item-requires-clause-measured
+of_item-requires-clause-measured c =
     all-at (λ (item : Item). IsMeasuredKind item.kind) c.args.items.now c.args.turn.index c.item-item.result.now c.requires.measured c.item-item.ensures
