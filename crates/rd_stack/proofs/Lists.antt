@@ -1,5 +1,5 @@
 -- Lists that are given element by element.
-use Rattle.std.proofs.Common.{◌≡◌, ℕ, zero, suc, ◌+◌, ◌-◌, ◌≤◌, ◌<◌, List, [], ◌∷◌, ◌++◌, length, drop, get_or, Option, None, Some, All, sym, ap, subst, ◌∙◌, append_assoc, append-nil, arith, add-one, drop-cons}
+use Rattle.std.proofs.Common.{◌≡◌, ℕ, suc, ◌+◌, ◌-◌, ◌≤◌, ◌<◌, List, [], ◌∷◌, ◌++◌, length, drop, get_or, Option, None, Some, All, sym, ap, subst, ◌∙◌, append_assoc, append-nil, arith, add-one, drop-cons}
 use Rattle.std.specs.Prelude.{map, slice_get, Result, Ok, Err, OnOk}
 use Rattle.std.proofs.lemmas.List.Elements.{All-push}
 use Rattle.rd_base.specs.declared.memory.Memory.{Memory}

@@ -1,5 +1,5 @@
 -- The items of a block stand at accessible positions.
-use Rattle.std.proofs.Common.{◌≡◌, ℕ, zero, suc, ◌+◌, ◌-◌, ◌≤◌, ◌<◌, Bool, true, false, List, [], ◌∷◌, ◌++◌, length, Option, None, Some, All, refl, sym, subst, arith}
+use Rattle.std.proofs.Common.{◌≡◌, ℕ, zero, suc, ◌+◌, ◌-◌, ◌≤◌, Bool, true, false, List, [], ◌∷◌, ◌++◌, length, Option, None, Some, All, refl, sym, subst, arith}
 use Rattle.std.specs.Prelude.{if◌then◌else◌, is_some, option_map}
 use Rattle.std.specs.Option.{unwrap_or}
 use Rattle.rd_base.specs.declared.cell.Glyph.{Glyph}
@@ -9,14 +9,13 @@ use Rattle.rd_text.specs.Texts.{IsAccessible, is_newline}
 use Rattle.rd_props.specs.Buffers.{BufferValue}
 use Rattle.rd_props.specs.declared.hiding.Hidden.{Hidden}
 use Rattle.rd_props.specs.declared.hiding.Hidden.TheVariants.{No, Plain, Ellipsis}
-use Rattle.rd_items.specs.Readings.{Entry, entry_at, is_ender, reading_from, reading}
-use Rattle.rd_items.specs.Pieces.{Scene, spec_in, spec_piece, open_piece, ender_piece, char_piece, unreplaced_piece, piece_by, piece_at, run_length, string_piece, string_pieces, pieces_from}
-use Rattle.rd_items.specs.Items.{marked_glyph, marked, joined_from, joined, item_of, items_by, covered_to, covering, items_of}
+use Rattle.rd_items.specs.Readings.{Entry, is_ender, reading_from, reading}
+use Rattle.rd_items.specs.Pieces.{Scene, spec_in, spec_piece, open_piece, ender_piece, char_piece, unreplaced_piece, piece_by, piece_at, run_length, string_pieces, pieces_from}
+use Rattle.rd_items.specs.Items.{marked_glyph, marked, joined_from, joined, items_by, covered_to, covering, items_of}
 use Rattle.rd_items.specs.declared.item.Item.{Item}
 use Rattle.rd_items.specs.declared.item.ItemKind.{ItemKind}
 use Rattle.rd_items.specs.declared.item.ItemKind.TheVariants as kind
 use Rattle.rd_items.specs.declared.piece.Piece.{Piece}
-use Rattle.rd_items.specs.declared.showing.Showing.{Showing}
 
 -- a fact of each element of a list, one after the other
 abbrev Each : {X : Type 0} → (X → Type 0) → List X → Type 0

@@ -1,16 +1,14 @@
 -- Buffers and strings on which the definitions are worked out.
-use Rattle.std.specs.Prelude.{ℕ, ◌+◌, pos, false, true, List, [], ◌∷◌, length, Option, None, Some}
+use Rattle.std.specs.Prelude.{ℕ, ◌+◌, pos, false, true, List, [], ◌∷◌, length, Option, Some}
 use Rattle.rd_base.specs.Faces.{Attributes, plain}
 use Rattle.rd_base.specs.Cells.{single}
 use Rattle.rd_base.specs.Settings.{opening}
-use Rattle.rd_base.specs.declared.class.Class.TheVariants.{R, S}
+use Rattle.rd_base.specs.declared.class.Class.TheVariants.{R, WS, ON}
 use Rattle.rd_base.specs.declared.element.Element.{Element}
 use Rattle.rd_base.specs.declared.element.Look.{Look}
 use Rattle.rd_base.specs.declared.element.Look.TheVariants as look
-use Rattle.rd_base.specs.declared.element.Origin.{Origin}
 use Rattle.rd_base.specs.declared.settings.Invisible.{Invisible}
 use Rattle.rd_ucd.specs.declared.spans.Span.{Span}
-use Rattle.rd_ucd.specs.declared.spans.Pair.{Pair}
 use Rattle.rd_spans.specs.declared.run.Run.{Run}
 use Rattle.rd_overlays.specs.declared.overlay.Overlay.{Overlay}
 use Rattle.rd_overlays.specs.declared.overlay.Kind.TheVariants.{Before}
@@ -21,8 +19,8 @@ use Rattle.rd_objects.specs.Texts.{TextValue, text_of}
 use Rattle.rd_objects.specs.Things.{ObjectLists, nothing_made}
 use Rattle.rd_glyphs.specs.Characters.{element_of}
 use Rattle.rd_props.specs.Buffers.{BufferValue, values_of}
-use Rattle.rd_props.specs.Examples.{put_once}
 use Rattle.rd_items.specs.Pieces.{Scene, parts_in}
+use Rattle.rd_stack.specs.Shown.{outside}
 
 -- an element of a look in the plain face, of the item of a number that covers these offsets
 abbrev pub plain_look : Look → ℕ → ℕ → ℕ → Element
@@ -49,7 +47,7 @@ bare chars = text_of chars [] []
 abbrev pub six_strings : ObjectLists
 six_strings = record nothing_made { strings = bare (65 ∷ []) ∷ bare (66 ∷ []) ∷ bare (67 ∷ []) ∷ bare (68 ∷ []) ∷ bare (69 ∷ []) ∷ bare (70 ∷ []) ∷ [] }
 
--- the string PQ, newline, R, in which the string zz stands for Q; a face that is red, and one on green
+-- the string PQ, newline, R, in which the string zz stands for Q
 abbrev pub nested_strings : ObjectLists
 nested_strings = record nothing_made {
   strings =
@@ -69,7 +67,7 @@ red = record plain { fg = 1 }
 abbrev pub on_green : Attributes
 on_green = record plain { bg = 2 }
 
--- a string whose one character is on green, and whose newline a spec of another string replaces
+-- a string on green, whose newline is replaced by another string, in bold; and a red face
 abbrev pub coloured_strings : ObjectLists
 coloured_strings = record nothing_made {
   strings =
@@ -80,9 +78,22 @@ coloured_strings = record nothing_made {
   faces = red ∷ [];
 }
 
--- Hebrew letters, and brackets that mirror each other
+-- a space, brackets that mirror each other, and three letters that are read from the right
 abbrev pub some_classes : List Span
-some_classes = record { first = 1488; last = 1514; class = R } ∷ []
+some_classes =
+    record { first = 32; last = 32; class = WS } ∷ record { first = 40; last = 41; class = ON } ∷ record { first = 114; last = 116; class = R } ∷ []
 
 abbrev pub scene : BufferValue → ObjectLists → Scene
 scene s objects = record { objects = objects; parts = parts_in s objects some_classes (record { code = 40; mirror = 41 } ∷ []) }
+
+-- an element of a character of one column in a face
+abbrev pub coloured : Attributes → ℕ → ℕ → ℕ → ℕ → Element
+coloured face c item from to = element_of face (record { item = item; from = from; to = to }) (look.Glyph (single c 1))
+
+-- an element of a character of a prefix
+abbrev pub outside_letter : ℕ → Element
+outside_letter c = element_of plain outside (look.Glyph (single c 1))
+
+-- the prefix of an arrow and a space, with a second row
+abbrev pub arrow : ObjectLists
+arrow = record nothing_made { strings = bare (62 ∷ 32 ∷ 10 ∷ 120 ∷ []) ∷ [] }

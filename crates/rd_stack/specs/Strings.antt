@@ -1,5 +1,5 @@
 -- The parts of a string, in the order in which they are shown.
-use Rattle.std.specs.Prelude.{ℕ, Bool, true, false, not, ◌&&◌, is_some, if◌then◌else◌, List, [], ◌∷◌, ◌++◌, length, map, get_or, slice_get, Option, None, Some, option_map, All}
+use Rattle.std.specs.Prelude.{ℕ, Bool, false, not, ◌&&◌, is_some, if◌then◌else◌, List, [], ◌∷◌, ◌++◌, length, map, get_or, slice_get, Option, None, Some, option_map, All}
 use Rattle.std.specs.Option.{unwrap_or}
 use Rattle.std.specs.List.{flat_map, range_with_len}
 use Rattle.rd_base.specs.Faces.{Attributes, over}
@@ -11,7 +11,6 @@ use Rattle.rd_ucd.specs.Lookup.{class_of}
 use Rattle.rd_objects.specs.Texts.{TextValue, face_of, spec_of}
 use Rattle.rd_objects.specs.declared.run.Spec.{Spec}
 use Rattle.rd_objects.specs.declared.run.Spec.TheVariants.{Text}
-use Rattle.rd_glyphs.specs.Characters.{PartValues}
 use Rattle.rd_base.specs.Glyphs.{IsMeasured}
 use Rattle.rd_glyphs.specs.Joining.{joining_of, IsMeasuredJoining}
 use Rattle.rd_glyphs.specs.declared.joining.Joining.{Joining}
