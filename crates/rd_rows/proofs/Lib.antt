@@ -1,2 +1,5 @@
+mod Fitting
 pub mod LineLaws
+mod Mirroring
+mod Stands
 pub mod Walk

@@ -12,7 +12,7 @@ use Rattle.rd_base.specs.declared.settings.Wrap.TheVariants.{Truncate, Continue}
 use Rattle.rd_rows.specs.declared.begin.Begin.{Begin}
 use Rattle.rd_rows.specs.Shapes.{ShapeValues}
 use Rattle.rd_base.specs.Glyphs.{glyph_cells}
-use Rattle.rd_rows.specs.Rows.{LaidRow, rows_of}
+use Rattle.rd_rows.specs.Rows.{LaidRow, cutting_of, rows_of}
 
 -- the element of one character: the item, which covers the position at its own number
 abbrev pub part : ℕ → Extent → Look → Element
@@ -61,9 +61,26 @@ cut = record { width = 12; wrap = Truncate; hscroll = 0 }
 abbrev pub cut_at : ℕ → ShapeValues
 cut_at columns = record { width = 5; wrap = Truncate; hscroll = columns }
 
--- cut with the marks $ and \
+-- cut with the marks $ and \, without a prefix
 abbrev pub rows : ShapeValues → List Element → List LaidRow
-rows shape es = rows_of shape (single 36 1) (single 92 1) es
+rows shape es = rows_of (cutting_of shape 0 [] [] (single 36 1) (single 92 1)) es
+
+-- the letters of a prefix
+abbrev pub prefix : List ℕ → List Element
+prefix cs = map (λ c. record {
+  extent = Fixed 1;
+  look = Glyph (single c 1);
+  face = plain;
+  origin = record { item = 4294967295; from = 0; to = 0 };
+}) cs
+
+-- the same behind these letters in the first row and in the others
+abbrev pub rows_behind : ShapeValues → List ℕ → List ℕ → List Element → List LaidRow
+rows_behind shape first wrap es = rows_of (cutting_of shape 0 (prefix first) (prefix wrap) (single 36 1) (single 92 1)) es
+
+-- from the right edge, with the marks $ and /
+abbrev pub rows_reversed : ShapeValues → List Element → List LaidRow
+rows_reversed shape es = rows_of (cutting_of shape 1 [] [] (single 36 1) (single 47 1)) es
 
 -- the cells of plain characters of one column
 abbrev pub text : List ℕ → List Cell

@@ -1,10 +1,10 @@
 -- What holds of the rows of every line.
-use Rattle.std.specs.Prelude.{ℕ, Bool, false, not, ◌&&◌, if◌then◌else◌, List, [], ◌∷◌, ◌++◌, map, Option, Some}
+use Rattle.std.specs.Prelude.{◌≡◌, ℕ, ◌+◌, ◌*◌, Bool, false, not, ◌&&◌, if◌then◌else◌, List, [], ◌∷◌, ◌++◌, map, length, Option, Some}
 use Rattle.rd_base.specs.declared.element.Element.{Element}
 use Rattle.rd_rows.specs.declared.begin.Begin.{Begin}
 use Rattle.rd_rows.specs.declared.cutting.Cutting.{Cutting}
-use Rattle.rd_rows.specs.Placing.{is_item, line_start}
-use Rattle.rd_rows.specs.Rows.{LaidRow, rows_from}
+use Rattle.rd_rows.specs.Placing.{is_item, ends_row}
+use Rattle.rd_rows.specs.Rows.{LaidRow, weight_of}
 
 -- whether the last row, and no other, ends the block
 abbrev pub ends_last : List LaidRow → Bool
@@ -25,6 +25,14 @@ ranges_of before [] = []
 ranges_of before (e ∷ es) =
     (if is_item before e.origin.item then [] else (e.origin.from, e.origin.to) ∷ []) ++ ranges_of (Some e.origin.item) es
 
--- the rows of a line
-abbrev pub rows_cut : Cutting → List Element → List LaidRow
-rows_cut c es = rows_from c line_start [] es
+-- how many lines these elements are, where each row end and the line end ends one
+abbrev pub lines_in : List Element → ℕ
+lines_in [] = 0
+lines_in (e ∷ es) = (if ends_row e.look then 1 else 0) + lines_in es
+
+-- each element was placed once, and each prefix once in each row that it stands in: the first row of each line has one, and
+-- each other row the other
+pub record IsPlacedOnce (c : Cutting) (es : List Element) (rows : List LaidRow) : Type 0 where
+  pub continued : ℕ
+  pub count : length rows ≡ lines_in es + continued
+  pub weight : weight_of rows ≡ length es + lines_in es * length c.first + continued * length c.wrap

@@ -2,7 +2,10 @@ pub mod Copies
 pub mod Drafts
 pub mod Examples
 pub mod Laws
+pub mod Leads
 pub mod Lines
+pub mod Mirrors
 pub mod Placing
+pub mod Prefixes
 pub mod Rows
 pub mod Shapes

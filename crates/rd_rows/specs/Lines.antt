@@ -1,6 +1,5 @@
 -- Lines of elements, the state of a maker of rows, and what its calls do.
-use Rattle.std.specs.Prelude.{◌≡◌, ℕ, ◌+◌, ◌^◌, ◌<◌, ◌≤◌, Bool, true, false, if◌then◌else◌, not, ◌&&◌, List, [], ◌∷◌, Option, None, Some, Result, Ok, Err, IsTrue}
-use Rattle.rd_base.specs.declared.cell.Glyph.{Glyph}
+use Rattle.std.specs.Prelude.{◌≡◌, ℕ, ◌+◌, ◌^◌, ◌<◌, ◌≤◌, Bool, true, false, if◌then◌else◌, not, ◌&&◌, List, [], ◌∷◌, ◌++◌, Option, None, Some, Result, Ok, Err, IsTrue}
 use Rattle.rd_base.specs.declared.element.Element.{Element}
 use Rattle.rd_base.specs.declared.memory.Memory.{Memory}
 use Rattle.rd_base.specs.Elements.{AreSound}
@@ -8,8 +7,7 @@ use Rattle.rd_rows.specs.declared.cutting.Cutting.{Cutting}
 use Rattle.rd_rows.specs.declared.spot.Placed.{Placed}
 use Rattle.rd_rows.specs.declared.spot.Spot.{Spot}
 use Rattle.rd_rows.specs.Copies.{RowValues}
-use Rattle.rd_rows.specs.Shapes.{ShapeValues}
-use Rattle.rd_rows.specs.Placing.{is_line_end, width_at_most, line_start, placed_at, behind}
+use Rattle.rd_rows.specs.Placing.{is_line_end, width_at_most, line_start, next_row, placed_at, behind, columns_of}
 use Rattle.rd_rows.specs.Rows.{RowMeaning, LaidRow, rows_from, weight_of}
 
 -- whether the last element is a line end, and no other
@@ -38,26 +36,23 @@ pub record Making : Type 0 where
   pub finished : Bool
 
 -- a maker that has made no row
-abbrev pub fresh : ShapeValues → Glyph → Glyph → Making
-fresh shape truncation continuation = record {
-  cutting = record { shape = shape; truncation = truncation; continuation = continuation };
-  spot = line_start;
-  held = None;
-  finished = false;
-}
+abbrev pub fresh : Cutting → Making
+fresh c = record { cutting = c; spot = line_start; held = None; finished = false }
 
 abbrev pub with_held : Option Element → List Element → List Element
 with_held None es = es
 with_held (Some e) es = e ∷ es
 
--- the held element begins its row
+-- the next row begins with its prefix, and where an element is held with that of rows that go on with the line and this element
 abbrev pub held_placed : Cutting → Spot → Option Element → List Placed
-held_placed c spot None = []
-held_placed c spot (Some e) = placed_at c.shape spot e ∷ []
+held_placed c spot None = c.first
+held_placed c spot (Some e) = c.wrap ++ placed_at c.shape (next_row (columns_of c.wrap) spot) e ∷ []
 
 abbrev pub held_spot : Cutting → Spot → Option Element → Spot
-held_spot c spot None = spot
-held_spot c spot (Some e) = behind spot (placed_at c.shape spot e)
+held_spot c spot None = next_row (columns_of c.first) spot
+held_spot c spot (Some e) =
+    let start = next_row (columns_of c.wrap) spot in
+    behind start (placed_at c.shape start e)
 
 -- the held element comes to fewer than 2^63 columns
 abbrev pub HasRoom : Spot → Option Element → Type 0

@@ -1,5 +1,5 @@
 -- How an element of a line comes to stand in a row.
-use Rattle.std.specs.Prelude.{ℕ, ◌+◌, ◌-◌, ◌%◌, ◌==◌, ◌&&◌, ◌||◌, min, nat_lt, nat_le, not, Bool, true, false, if◌then◌else◌, Option, None, Some}
+use Rattle.std.specs.Prelude.{ℕ, ◌+◌, ◌-◌, ◌%◌, ◌==◌, ◌&&◌, ◌||◌, min, nat_lt, nat_le, not, Bool, true, false, if◌then◌else◌, List, [], ◌∷◌, Option, None, Some}
 use Rattle.rd_base.specs.declared.cell.Glyph.{Glyph}
 use Rattle.rd_base.specs.declared.element.Element.{Element}
 use Rattle.rd_base.specs.declared.element.Extent.{Extent}
@@ -44,11 +44,11 @@ glyph_in look = None
 abbrev pub line_start : Spot
 line_start = record { column = 0; used = 0; before = None }
 
--- where a row begins that goes on with the line
-abbrev pub next_row : Spot → Spot
-next_row spot = record { column = spot.column; used = 0; before = spot.before }
+-- the line goes on in another row, behind a prefix of so many columns
+abbrev pub next_row : ℕ → Spot → Spot
+next_row lead spot = record { column = spot.column; used = lead; before = spot.before }
 
--- where the row behind a row end begins
+-- the line goes on behind a row end
 abbrev pub next_line : Spot → Spot
 next_line spot = record { column = 0; used = 0; before = spot.before }
 
@@ -93,3 +93,12 @@ behind spot p = record {
 abbrev pub goes_on : Option Element → Bool
 goes_on None = true
 goes_on (Some e) = not (ends_row e.look)
+
+abbrev pub has_line_end : List Placed → Bool
+has_line_end [] = false
+has_line_end (p ∷ ps) = is_line_end p.element.look || has_line_end ps
+
+-- the columns that elements take
+abbrev pub columns_of : List Placed → ℕ
+columns_of [] = 0
+columns_of (p ∷ ps) = p.columns + columns_of ps

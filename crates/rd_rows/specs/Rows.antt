@@ -1,5 +1,5 @@
 -- The rows into which a line is cut, from all of its elements.
-use Rattle.std.specs.Prelude.{ℕ, ◌+◌, ◌-◌, ◌&&◌, ◌||◌, min, max, nat_lt, nat_le, Bool, true, false, if◌then◌else◌, List, [], ◌∷◌, ◌++◌, length, flat_map, Option, None, Some}
+use Rattle.std.specs.Prelude.{ℕ, ◌+◌, ◌-◌, ◌==◌, ◌&&◌, min, max, nat_lt, nat_le, Bool, true, false, if◌then◌else◌, List, [], ◌∷◌, ◌++◌, length, flat_map, Option, None, Some}
 use Rattle.rd_base.specs.Faces.{Attributes, plain}
 use Rattle.rd_base.specs.Glyphs.{is_space, blanks, glyph_cells}
 use Rattle.rd_base.specs.declared.cell.Cell.{Cell}
@@ -11,7 +11,9 @@ use Rattle.rd_rows.specs.declared.cutting.Cutting.{Cutting}
 use Rattle.rd_rows.specs.declared.spot.Placed.{Placed}
 use Rattle.rd_rows.specs.declared.spot.Spot.{Spot}
 use Rattle.rd_rows.specs.Shapes.{ShapeValues, room, truncates}
-use Rattle.rd_rows.specs.Placing.{glyph_in, ends_row, is_line_end, line_start, next_row, next_line, fits, placed_at, behind}
+use Rattle.rd_rows.specs.Mirrors.{mirror_image}
+use Rattle.rd_rows.specs.Placing.{glyph_in, ends_row, line_start, next_row, next_line, fits, placed_at, behind, has_line_end, columns_of}
+use Rattle.rd_rows.specs.Prefixes.{prefix_of}
 
 -- what is seen of a row, whoever made it
 pub record RowMeaning : Type 0 where
@@ -41,13 +43,21 @@ seen from to p =
 abbrev pub mark : Glyph → Cell
 mark g = if is_space g then Blank plain else First g plain
 
--- the columns of the elements, and over the first of them the truncation mark where the row is scrolled sideways
+-- the first column of a row that is seen: where it is scrolled sideways, a mark has the place of the one before
+abbrev pub first_seen : ShapeValues → ℕ
+first_seen shape = if nat_lt 0 shape.hscroll then shape.hscroll + 1 else 0
+
+-- what is seen of an element in the window
+abbrev pub seen_in : ShapeValues → Placed → List Cell
+seen_in shape p = seen (first_seen shape) (shape.hscroll + room shape) p
+
+-- the mark of a row that is scrolled sideways and has any column
+abbrev pub front_mark : Cutting → ℕ → List Cell
+front_mark c used = if nat_lt 0 c.shape.hscroll && nat_lt 0 used then mark c.truncation ∷ [] else []
+
+-- the columns of the elements that are seen, and before them the truncation mark where the row is scrolled sideways
 abbrev pub scrolled : Cutting → ℕ → List Placed → List Cell
-scrolled c used ps =
-    let shift = c.shape.hscroll in
-    if nat_lt 0 shift && nat_lt 0 used
-    then mark c.truncation ∷ flat_map (seen (shift + 1) (shift + room c.shape)) ps
-    else flat_map (seen shift (shift + room c.shape)) ps
+scrolled c used ps = front_mark c used ++ flat_map (seen_in c.shape) ps
 
 -- what no element fills is blank and plain
 abbrev pub filled : ℕ → List Cell → List Cell
@@ -71,16 +81,16 @@ begin_of shape p =
     } ∷ []
     else []
 
-abbrev pub has_line_end : List Placed → Bool
-has_line_end [] = false
-has_line_end (p ∷ ps) = is_line_end p.element.look || has_line_end ps
+-- a row that is read from its right edge is shown as its mirror image
+abbrev pub from_edge : Bool → List Cell → List Cell
+from_edge reversed cells = if reversed then mirror_image cells else cells
 
 -- the row of these elements, which take so many columns; continued where the next element did not fit
 abbrev pub row_of : Cutting → ℕ → Bool → List Placed → RowMeaning
 row_of c used continued ps = record {
-  cells = filled (room c.shape) (scrolled c used ps) ++ last_cell c used continued ∷ [];
+  cells = from_edge c.reversed (filled (room c.shape) (scrolled c used ps) ++ last_cell c used continued ∷ []);
   begins = flat_map (begin_of c.shape) ps;
-  reversed = false;
+  reversed = c.reversed;
   ends_block = has_line_end ps;
 }
 
@@ -88,22 +98,34 @@ abbrev pub laid : Cutting → ℕ → Bool → List Placed → LaidRow
 laid c used continued ps = record { row = row_of c used continued ps; weight = length ps }
 
 -- the rows of the elements that are left, where some were placed already in a row that is not whole: each element that fits is
--- placed in the row, which ends behind a row end or the line end; one that does not fit begins the next row
+-- placed in the row, which ends behind a row end or the line end; one that does not fit begins the next row, behind the prefix
+-- of rows that go on with a line
 abbrev pub rows_from : Cutting → Spot → List Placed → List Element → List LaidRow
 rows_from c spot ps [] = []
 rows_from c spot ps (e ∷ es) =
     let p = placed_at c.shape spot e in
-    let q = placed_at c.shape (next_row spot) e in
+    let q = placed_at c.shape (next_row (columns_of c.wrap) spot) e in
     if fits c.shape spot e
     then if ends_row e.look
-    then laid c (spot.used + p.columns) false (ps ++ p ∷ []) ∷ rows_from c (next_line (behind spot p)) [] es
+    then laid c (spot.used + p.columns) false (ps ++ p ∷ []) ∷ rows_from c (next_row (columns_of c.first) (next_line (behind spot p))) c.first es
     else rows_from c (behind spot p) (ps ++ p ∷ []) es
-    else laid c spot.used true ps ∷ rows_from c (behind (next_row spot) q) (q ∷ []) es
+    else laid c spot.used true ps ∷ rows_from c (behind (next_row (columns_of c.wrap) spot) q) (c.wrap ++ q ∷ []) es
 
--- the rows of a line, with the glyphs that mark a truncated and a continued row
-abbrev pub rows_of : ShapeValues → Glyph → Glyph → List Element → List LaidRow
-rows_of shape truncation continuation es =
-    rows_from (record { shape = shape; truncation = truncation; continuation = continuation }) line_start [] es
+-- the rows of a line
+abbrev pub rows_of : Cutting → List Element → List LaidRow
+rows_of c es = rows_from c (next_row (columns_of c.first) line_start) c.first es
+
+-- how a line of a paragraph of this base level is cut, with the elements of the prefixes of its first row and of its other
+-- rows, and the glyphs that mark a truncated and a continued row
+abbrev pub cutting_of : ShapeValues → ℕ → List Element → List Element → Glyph → Glyph → Cutting
+cutting_of shape base first wrap truncation continuation = record {
+  shape = shape;
+  reversed = base == 1;
+  first = prefix_of shape first;
+  wrap = prefix_of shape wrap;
+  truncation = truncation;
+  continuation = continuation;
+}
 
 -- how many elements were placed in these rows
 abbrev pub weight_of : List LaidRow → ℕ

@@ -1,19 +1,22 @@
 //! A row that is being made.
 ghost use Rattle.std.specs.Prelude.{◌≡◌, ◌+◌, ◌-◌, ◌^◌, ◌<◌, ◌≤◌, ◌++◌, ◌∷◌, [], length, replicate, min, OnOk, IfOk};
-ghost use Rattle.rd_rows.specs.Placing.{width_at_most, placed_at, behind};
-ghost use Rattle.rd_rows.specs.Shapes.{room};
 ghost use Rattle.rd_base.specs.Glyphs.{blanks, glyph_cells};
-ghost use Rattle.rd_rows.specs.Rows.{whole_cells, seen, mark, filled, last_cell, begin_of};
-ghost use Rattle.rd_rows.specs.Placing.{glyph_in};
-ghost use Rattle.rd_rows.specs.Drafts.{Grows, finished_row};
+ghost use Rattle.rd_rows.specs.Placing.{width_at_most, placed_at, glyph_in, next_row, columns_of};
+ghost use Rattle.rd_rows.specs.Shapes.{room};
+ghost use Rattle.rd_rows.specs.Rows.{whole_cells, seen_in, first_seen, front_mark, from_edge, mark, filled, last_cell, begin_of};
+ghost use Rattle.rd_rows.specs.Drafts.{Grows, IsDraft, finished_row};
 
 use crate::begin::Begin;
 use crate::cutting::Cutting;
+use crate::mirror::mirror_image;
+use crate::prefix::Prefix;
+use crate::repeat::add_copies;
 use crate::row::Row;
 use crate::shape::Shape;
 use crate::spot::{Placed, Spot};
-use rd_base::{Cell, Element, Face, Glyph, ListOf, Look, Memory};
+use rd_base::{Cell, Element, Face, Glyph, ListOf, Look, Memory, Steps};
 use std::alloc::Global;
+use std::sync::ledger::Ledger;
 
 /// The cells and the items of the elements that were placed in a row so far, and where the next element comes.
 #[derive(Drop)]
@@ -21,16 +24,6 @@ pub struct Draft {
     pub cells: ListOf<Cell>,
     pub begins: ListOf<Begin>,
     pub spot: Spot,
-}
-
-/// Adds a value so many times.
-fn add_copies<T: Copy>(list: &mut ListOf<T>, n: u64, value: T) -> Result<(), Memory>
-    ensures { OnOk result (list.new ≡ list.old ++ replicate n value) }
-{
-    for _k in 0..n {
-        list.push(value)?;
-    }
-    Ok(())
 }
 
 /// The cell of a mark.
@@ -64,11 +57,13 @@ fn add_whole(cells: &mut ListOf<Cell>, placed: &Placed) -> Result<(), Memory>
     }
 }
 
-/// Adds what is seen of an element from one column up to another.
-fn add_seen(cells: &mut ListOf<Cell>, from: u64, to: u64, placed: &Placed) -> Result<(), Memory>
+/// Adds what is seen of an element in the window.
+fn add_seen(cells: &mut ListOf<Cell>, shape: Shape, placed: &Placed) -> Result<(), Memory>
     requires { placed.now.start + placed.now.columns < 2 ^ 64 }
-    ensures { OnOk result (cells.new ≡ cells.old ++ seen from to placed.now) }
+    ensures { OnOk result (cells.new ≡ cells.old ++ seen_in shape placed.now) }
 {
+    let from = shape.first_seen();
+    let to = shape.hscroll as u64 + shape.room();
     let end = placed.start + placed.columns;
     if from <= placed.start && end <= to {
         return add_whole(cells, placed);
@@ -93,34 +88,45 @@ fn add_begin(begins: &mut ListOf<Begin>, shape: Shape, placed: &Placed) -> Resul
 }
 
 impl Draft {
-    /// A row in which nothing stands yet.
-    pub fn new(alloc: Global, spot: Spot) -> Draft
-        ensures cells { result.cells ≡ [] }
-        ensures begins { result.begins ≡ [] }
-        ensures spot { result.spot ≡ spot }
+    /// A row of a line that goes on at a spot, in which the elements of a prefix stand. A step is counted for each of them.
+    pub fn behind<L: Ledger>(
+        alloc: Global,
+        shape: Shape,
+        spot: Spot,
+        prefix: &Prefix,
+        steps: &mut Steps<L>,
+    ) -> Result<Draft, Memory>
+        ensures draft { IfOk result (λ draft. IsDraft shape (next_row (columns_of prefix.now) spot) prefix.now draft) }
+        ensures steps { OnOk result (steps.new ≡ steps.old + length prefix.now) }
+        ensures bound { steps.new ≤ steps.old + length prefix.now }
     {
-        Draft {
-            cells: ListOf::new(alloc),
-            begins: ListOf::new(alloc),
-            spot,
+        let mut cells = ListOf::new(alloc);
+        for placed in prefix.placed() {
+            steps.tick();
+            add_seen(&mut cells, shape, placed)?;
         }
+        Ok(Draft {
+            cells,
+            begins: ListOf::new(alloc),
+            spot: spot.next_row(prefix.columns()),
+        })
     }
 
     /// Places an element. Of a draft that lacked memory nothing is known.
     pub fn place(&mut self, shape: Shape, element: &Element) -> Result<(), Memory>
         requires column { self.old.spot.column + width_at_most element.now.extent < 2 ^ 63 }
-        requires used { self.old.spot.used ≤ self.old.spot.column }
-        requires unscrolled { shape.hscroll ≡ 0 }
+        requires used { self.old.spot.used ≤ self.old.spot.column + 200 }
         ensures { OnOk result (Grows shape (placed_at shape self.old.spot element.now) self.old self.new) }
     {
         let placed = self.spot.place(shape, element);
-        add_seen(&mut self.cells, 0, shape.room(), &placed)?;
+        add_seen(&mut self.cells, shape, &placed)?;
         add_begin(&mut self.begins, shape, &placed)?;
         self.spot = self.spot.behind(&placed);
         Ok(())
     }
 
-    /// The row as it stands, filled with blanks, with the mark of a row whose line goes on.
+    /// The row as it stands: filled with blanks, with the marks of a row that is scrolled sideways and of one whose line goes on,
+    /// and as its mirror image where it is read from the right edge.
     pub fn finish(
         self,
         alloc: Global,
@@ -128,20 +134,60 @@ impl Draft {
         continued: bool,
         ends_block: bool,
     ) -> Result<Row, Memory>
-        requires { cutting.now.shape.hscroll ≡ 0 }
+        requires { length self.cells ≤ cutting.now.shape.hscroll + room cutting.now.shape - first_seen cutting.now.shape }
         ensures { IfOk result (λ row. row ≡ record { shown = finished_row cutting.now self.spot.used self.cells self.begins continued ends_block; copies = 0 }) }
     {
         let Draft {
-            mut cells,
+            cells,
             begins,
             spot,
         } = self;
+        let mut cells = behind_mark(alloc, cutting, spot.used, cells)?;
         let room = cutting.shape.room();
         let missing = room.saturating_sub(cells.len() as u64);
         add_copies(&mut cells, missing, Cell::Blank(Face::PLAIN))?;
         cells.push(last_cell(cutting, spot.used, continued))?;
-        Ok(Row::made(alloc, cells, begins, ends_block))
+        let cells = from_edge(alloc, cutting.reversed, cells)?;
+        Ok(Row::made(
+            alloc,
+            cells,
+            begins,
+            cutting.reversed,
+            ends_block,
+        ))
     }
+}
+
+/// The cells behind the mark of a row that is scrolled sideways.
+fn behind_mark(
+    alloc: Global,
+    cutting: &Cutting,
+    used: u64,
+    cells: ListOf<Cell>,
+) -> Result<ListOf<Cell>, Memory>
+    ensures { IfOk result (λ marked. marked ≡ front_mark cutting.now used ++ cells) }
+{
+    if cutting.shape.hscroll == 0 || used == 0 {
+        return Ok(cells);
+    }
+    let mut marked = ListOf::new(alloc);
+    marked.push(mark(&cutting.truncation))?;
+    marked.extend_from_slice(cells.as_slice())?;
+    Ok(marked)
+}
+
+/// The cells as they are shown: their mirror image where the row is read from the right edge.
+fn from_edge(
+    alloc: Global,
+    reversed: bool,
+    cells: ListOf<Cell>,
+) -> Result<ListOf<Cell>, Memory>
+    ensures { IfOk result (λ shown. shown ≡ from_edge reversed cells) }
+{
+    if reversed {
+        return mirror_image(alloc, cells.as_slice());
+    }
+    Ok(cells)
 }
 
 /// The cell of the last column.

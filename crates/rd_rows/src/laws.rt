@@ -1,16 +1,26 @@
 //! What holds of the rows of every line.
-ghost use Rattle.std.specs.Prelude.{◌≡◌, List, flat_map, length, IsTrue, None};
+ghost use Rattle.std.specs.Prelude.{◌≡◌, ◌≤◌, ℕ, List, flat_map, length, IsTrue, None};
+ghost use Rattle.rd_base.specs.declared.cell.Glyph.{Glyph};
 ghost use Rattle.rd_base.specs.declared.element.Element.{Element};
 ghost use Rattle.rd_rows.specs.declared.cutting.Cutting.{Cutting};
-ghost use Rattle.rd_rows.specs.Rows.{weight_of};
+ghost use Rattle.rd_rows.specs.Leads.{HasLeads};
+ghost use Rattle.rd_rows.specs.Prefixes.{IsPrefix};
+ghost use Rattle.rd_rows.specs.Rows.{cutting_of, rows_of, weight_of};
 ghost use Rattle.rd_rows.specs.Lines.{ends_once};
-ghost use Rattle.rd_rows.specs.Laws.{ends_last, ranges_in, ranges_of, rows_cut};
+ghost use Rattle.rd_rows.specs.Shapes.{ShapeValues};
+ghost use Rattle.rd_rows.specs.Laws.{ends_last, ranges_in, ranges_of, IsPlacedOnce};
 
 /// The rows of a line whose last element and no other is the line end: there is at least one, and the last and no other ends
-/// the block; each element is placed once; and each item begins once, in the order of the first elements. It has no body: what
-/// it promises is proved of the definitions.
+/// the block; each element is placed once, and each element of a prefix once in each of its rows; and each item begins once, in
+/// the order of the first elements. It has no body: what it promises is proved of the definitions.
 pub fn rows_of_every_line()
-    ensures last { (c : Cutting) (es : List Element) → IsTrue (ends_once es) → IsTrue (ends_last (rows_cut c es)) }
-    ensures placed { (c : Cutting) (es : List Element) → IsTrue (ends_once es) → weight_of (rows_cut c es) ≡ length es }
-    ensures begun { (c : Cutting) (es : List Element) → IsTrue (ends_once es) → flat_map ranges_in (rows_cut c es) ≡ ranges_of None es }
+    ensures last { (c : Cutting) (es : List Element) → HasLeads c → IsTrue (ends_once es) → IsTrue (ends_last (rows_of c es)) }
+    ensures placed { (c : Cutting) (es : List Element) → IsTrue (ends_once es) → IsPlacedOnce c es (rows_of c es) }
+    ensures begun { (c : Cutting) (es : List Element) → HasLeads c → IsTrue (ends_once es) → flat_map ranges_in (rows_of c es) ≡ ranges_of None es }
+{}
+
+/// Prefixes that were cut to half of a window's columns can stand before a line's elements. It has no body.
+pub fn prefixes_stand_before_lines()
+    ensures { (shape : ShapeValues) (base : ℕ) (first wrap : List Element) (truncation continuation : Glyph)
+        → shape.width ≤ 400 → IsPrefix first → IsPrefix wrap → HasLeads (cutting_of shape base first wrap truncation continuation) }
 {}

@@ -18,7 +18,7 @@ pub struct Row {
 }
 
 impl Model for Row {
-    ghost use Rattle.std.specs.Prelude.{ℕ};
+    ghost use Rattle.std.specs.Prelude.{ℕ, ◌≤◌, length};
     ghost use Rattle.rd_rows.specs.Copies.{RowValues};
 
     ghost Value = { RowValues };
@@ -27,10 +27,12 @@ impl Model for Row {
       shown = record { cells = r.cells; begins = r.begins; reversed = r.reversed; ends_block = r.ends_block };
       copies = r.copies;
     } };
+
+    ghost invariant = { λ r. length r.cells ≤ 400 };
 }
 
 impl Row {
-    ghost use Rattle.std.specs.Prelude.{◌≡◌, ◌≤◌, IfOk, false};
+    ghost use Rattle.std.specs.Prelude.{◌≡◌, ◌≤◌, length, IfOk};
     ghost use Rattle.rd_rows.specs.Copies.{copied, blank_row};
 
     /// A row of `width` blank and plain cells, 1 to 400 of them, in which nothing stands. It was not copied.
@@ -41,7 +43,7 @@ impl Row {
     {
         let mut cells = ListOf::new(alloc);
         cells.resize(width as usize, Cell::Blank(Face::PLAIN))?;
-        Ok(Row::made(alloc, cells, ListOf::new(alloc), false))
+        Ok(Row::made(alloc, cells, ListOf::new(alloc), false, false))
     }
 
     /// A row that was just made.
@@ -49,15 +51,17 @@ impl Row {
         alloc: Global,
         cells: ListOf<Cell>,
         begins: ListOf<Begin>,
+        reversed: bool,
         ends_block: bool,
     ) -> Row
-        ensures { result ≡ record { shown = record { cells = cells; begins = begins; reversed = false; ends_block = ends_block }; copies = 0 } }
+        requires { length cells ≤ 400 }
+        ensures { result ≡ record { shown = record { cells = cells; begins = begins; reversed = reversed; ends_block = ends_block }; copies = 0 } }
     {
         Row {
             alloc,
             cells,
             begins,
-            reversed: false,
+            reversed,
             ends_block,
             copies: 0,
         }
@@ -84,9 +88,10 @@ impl Row {
         self.copies
     }
 
-    /// The cells by column, from 0.
+    /// The cells by column, from 0. There are at most 400.
     pub fn cells(&self) -> &[Cell]
-        ensures { result.now ≡ self.now.shown.cells }
+        ensures cells { result.now ≡ self.now.shown.cells }
+        ensures few { length self.now.shown.cells ≤ 400 }
     {
         self.cells.as_slice()
     }

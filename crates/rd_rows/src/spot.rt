@@ -1,6 +1,7 @@
 //! Where elements come to stand in a row.
 ghost use Rattle.std.specs.Prelude.{◌≡◌, ◌+◌, ◌^◌, ◌<◌, ◌≤◌, IfSome};
 ghost use Rattle.rd_rows.specs.Placing.{width_at, width_at_most, is_blank, is_line_end, ends_row, fits, columns_in, placed_at, behind, next_row, next_line, line_start, is_item};
+ghost use Rattle.rd_rows.specs.Rows.{first_seen};
 ghost use Rattle.rd_rows.specs.Shapes.{room, truncates};
 
 use crate::shape::Shape;
@@ -28,9 +29,20 @@ impl Shape {
     /// The columns before the last one, which is kept for a mark.
     pub fn room(self) -> u64
         ensures room { result ≡ room self }
+        ensures least { 9 ≤ result }
         ensures bounds { result < 400 }
     {
         self.width as u64 - 1
+    }
+
+    /// The first column of a row that is seen: where it is scrolled sideways, a mark has the place of the one before.
+    pub fn first_seen(self) -> u64
+        ensures { result ≡ first_seen self }
+    {
+        if self.hscroll > 0 {
+            return self.hscroll as u64 + 1;
+        }
+        0
     }
 
     /// Whether longer lines are cut: a window that is scrolled sideways cuts them too.
@@ -72,10 +84,10 @@ pub fn ends_row(look: Look) -> bool
 }
 
 /// How many columns an extent has at a column of the line.
-fn width_at(extent: Extent, column: u64) -> u64
-    requires { width_at_most extent < 2 ^ 63 }
+pub fn width_at(extent: Extent, column: u64) -> u64
     ensures width { result ≡ width_at extent column }
     ensures bound { result ≤ width_at_most extent }
+    ensures small { result < 4294967296 }
 {
     match extent {
         Extent::Fixed(n) => n as u64,
@@ -97,14 +109,14 @@ impl Spot {
         }
     }
 
-    /// Where a row begins that goes on with the line.
-    pub fn next_row(self) -> Spot
-        ensures { result ≡ next_row self }
+    /// The line goes on in another row, behind a prefix of so many columns.
+    pub fn next_row(self, lead: u64) -> Spot
+        ensures { result ≡ next_row lead self }
     {
-        Spot { used: 0, ..self }
+        Spot { used: lead, ..self }
     }
 
-    /// Where the row behind a row end begins.
+    /// The line goes on behind a row end.
     pub fn next_line(self) -> Spot
         ensures { result ≡ next_line self }
     {
@@ -118,7 +130,7 @@ impl Spot {
     /// Whether an element can stand in this row.
     pub fn fits(self, shape: Shape, element: &Element) -> bool
         requires column { self.column + width_at_most element.now.extent < 2 ^ 63 }
-        requires used { self.used ≤ self.column }
+        requires used { self.used ≤ self.column + 200 }
         ensures { result ≡ fits shape self element.now }
     {
         if ends_row(element.look) || shape.truncates() {
@@ -170,7 +182,7 @@ impl Spot {
     /// Where the element behind that one comes.
     pub fn behind(self, placed: &Placed) -> Spot
         requires column { self.column + placed.now.columns < 2 ^ 63 }
-        requires used { self.used ≤ self.column }
+        requires used { self.used ≤ self.column + 200 }
         ensures { result ≡ behind self placed.now }
     {
         Spot {

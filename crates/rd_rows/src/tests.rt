@@ -3,7 +3,7 @@ ghost use Rattle.std.specs.Prelude.{◌≡◌, ◌<◌, ◌∷◌, ◌++◌, [],
 ghost use Rattle.rd_base.specs.Faces.{plain};
 ghost use Rattle.rd_base.specs.Cells.{single};
 ghost use Rattle.rd_base.specs.Glyphs.{glyph_cells, blanks};
-ghost use Rattle.rd_rows.specs.Examples.{letter, letters, wide, tab, line_end, row_end, stretch, spaces, narrow, cut, cut_at, rows, text, cells, weights, begins, at};
+ghost use Rattle.rd_rows.specs.Examples.{letter, letters, wide, tab, line_end, row_end, stretch, spaces, narrow, cut, cut_at, rows, rows_behind, rows_reversed, text, cells, weights, begins, at};
 
 use super::*;
 use rd_base::{Cell, Element, Elements, Extent, Face, Glyph, Look, Memory, Origin, Steps, Wrap};
@@ -70,6 +70,37 @@ fn stretches_of_set_columns()
     ensures next { cells (rows narrow (letters 0 (97 ∷ 98 ∷ 99 ∷ 100 ∷ 101 ∷ 102 ∷ 103 ∷ 104 ∷ 105 ∷ 106 ∷ 107 ∷ []) ++ spaces 11 1 ∷ line_end 12)) ≡ text (97 ∷ 98 ∷ 99 ∷ 100 ∷ 101 ∷ 102 ∷ 103 ∷ 104 ∷ 105 ∷ 106 ∷ 107 ∷ 92 ∷ []) ∷ blanks 12 plain ∷ [] }
 {}
 
+/// The prefix of the first row and that of the other rows, of which the line behind a row end has the first again; a prefix is
+/// cut to half of the columns, and a tab is measured from the line's beginning.
+
+fn rows_behind_prefixes()
+    ensures cells { cells (rows_behind narrow (62 ∷ 32 ∷ []) (43 ∷ 32 ∷ []) (letters 0 (97 ∷ 98 ∷ 99 ∷ 100 ∷ 101 ∷ 102 ∷ 103 ∷ 104 ∷ 105 ∷ 106 ∷ 107 ∷ 108 ∷ []) ++ line_end 12)) ≡ text (62 ∷ 32 ∷ 97 ∷ 98 ∷ 99 ∷ 100 ∷ 101 ∷ 102 ∷ 103 ∷ 104 ∷ 105 ∷ 92 ∷ []) ∷ (text (43 ∷ 32 ∷ 106 ∷ 107 ∷ 108 ∷ []) ++ blanks 7 plain) ∷ [] }
+    ensures weights { weights (rows_behind narrow (62 ∷ 32 ∷ []) (43 ∷ 32 ∷ []) (letters 0 (97 ∷ 98 ∷ 99 ∷ 100 ∷ 101 ∷ 102 ∷ 103 ∷ 104 ∷ 105 ∷ 106 ∷ 107 ∷ 108 ∷ []) ++ line_end 12)) ≡ 11 ∷ 6 ∷ [] }
+    ensures begins { begins (rows_behind narrow (62 ∷ 32 ∷ []) (43 ∷ 32 ∷ []) (letter 0 97 ∷ line_end 1)) ≡ (at 0 2 ∷ at 1 3 ∷ []) ∷ [] }
+    ensures row_end { cells (rows_behind narrow (62 ∷ []) (43 ∷ []) (letter 0 97 ∷ row_end 0 ∷ letter 0 98 ∷ line_end 1)) ≡ (text (62 ∷ 97 ∷ []) ++ blanks 10 plain) ∷ (text (62 ∷ 98 ∷ []) ++ blanks 10 plain) ∷ [] }
+    ensures cut { cells (rows_behind narrow (49 ∷ 50 ∷ 51 ∷ 52 ∷ 53 ∷ 54 ∷ 55 ∷ []) [] (letter 0 97 ∷ line_end 1)) ≡ (text (49 ∷ 50 ∷ 51 ∷ 52 ∷ 53 ∷ 54 ∷ 97 ∷ []) ++ blanks 5 plain) ∷ [] }
+    ensures tab { cells (rows_behind narrow (62 ∷ 32 ∷ []) [] (letter 0 97 ∷ tab 1 ∷ letter 2 98 ∷ line_end 3)) ≡ (text (62 ∷ 32 ∷ 97 ∷ []) ++ blanks 7 plain ++ text (98 ∷ 32 ∷ [])) ∷ [] }
+{}
+
+/// A row that is scrolled sideways has a mark at each end, and its prefix is scrolled with it.
+
+fn rows_scrolled_sideways()
+    ensures marks { cells (rows (record narrow { hscroll = 3 }) (letters 0 (97 ∷ 98 ∷ 99 ∷ 100 ∷ 101 ∷ 102 ∷ 103 ∷ 104 ∷ 105 ∷ 106 ∷ 107 ∷ 108 ∷ 109 ∷ 110 ∷ 111 ∷ 112 ∷ []) ++ line_end 16)) ≡ text (36 ∷ 101 ∷ 102 ∷ 103 ∷ 104 ∷ 105 ∷ 106 ∷ 107 ∷ 108 ∷ 109 ∷ 110 ∷ 36 ∷ []) ∷ [] }
+    ensures begins { begins (rows (record narrow { hscroll = 3 }) (letters 0 (97 ∷ 98 ∷ 99 ∷ 100 ∷ 101 ∷ []) ++ line_end 5)) ≡ (at 0 0 ∷ at 1 0 ∷ at 2 0 ∷ at 3 0 ∷ at 4 1 ∷ at 5 2 ∷ []) ∷ [] }
+    ensures empty { cells (rows (record narrow { hscroll = 3 }) (line_end 0)) ≡ blanks 12 plain ∷ [] }
+    ensures prefix { cells (rows_behind (record cut { hscroll = 1 }) (62 ∷ 32 ∷ []) [] (letters 0 (97 ∷ 98 ∷ []) ++ line_end 2)) ≡ (text (36 ∷ 97 ∷ 98 ∷ []) ++ blanks 9 plain) ∷ [] }
+{}
+
+/// A row that is read from its right edge has its first element in the last column and its mark in the first, and a wide
+/// character keeps its columns.
+
+fn rows_from_right_to_left()
+    ensures continued { cells (rows_reversed narrow (letters 0 (108 ∷ 107 ∷ 106 ∷ 105 ∷ 104 ∷ 103 ∷ 102 ∷ 101 ∷ 100 ∷ 99 ∷ 98 ∷ 97 ∷ []) ++ line_end 12)) ≡ text (47 ∷ 98 ∷ 99 ∷ 100 ∷ 101 ∷ 102 ∷ 103 ∷ 104 ∷ 105 ∷ 106 ∷ 107 ∷ 108 ∷ []) ∷ (blanks 11 plain ++ text (97 ∷ [])) ∷ [] }
+    ensures begins { begins (rows_reversed narrow (letters 0 (98 ∷ 97 ∷ []) ++ line_end 2)) ≡ (at 0 0 ∷ at 1 1 ∷ at 2 2 ∷ []) ∷ [] }
+    ensures wide { cells (rows_reversed narrow (letter 0 97 ∷ wide 1 20013 2 ∷ line_end 2)) ≡ (blanks 9 plain ++ glyph_cells 2 (single 20013 2) plain ++ text (97 ∷ [])) ∷ [] }
+    ensures scrolled { cells (rows_reversed (record cut { hscroll = 1 }) (letters 0 (97 ∷ 98 ∷ 99 ∷ []) ++ line_end 3)) ≡ (blanks 10 plain ++ text (99 ∷ 36 ∷ [])) ∷ [] }
+{}
+
 /// What these functions promise is proved; they have no body.
 #[test]
 fn worked_lines() {
@@ -80,6 +111,9 @@ fn worked_lines() {
     a_row_end_in_a_string();
     stretches_up_to_a_column();
     stretches_of_set_columns();
+    rows_behind_prefixes();
+    rows_scrolled_sideways();
+    rows_from_right_to_left();
 }
 
 /// A line given as a slice.

@@ -1,13 +1,12 @@
-use Rattle.std.proofs.Common.{refl, []}
-use Rattle.rd_rows.specs.Placing.{line_start}
-use Rattle.rd_rows.proofs.LineLaws.{last-rows, begun-rows, weight-all}
+use Rattle.rd_rows.specs.Placing.{line_start, next_row, columns_of}
+use Rattle.rd_rows.proofs.LineLaws.{last-rows, begun-rows, placed-once}
 use Rattle.rd_rows.proofs.laws.rows_of_every_line.Goals as goal
 
 pub returns-clause-last : goal.returns-clause-last
-returns-clause-last c = λ k es end. last-rows k line_start [] es refl end
+returns-clause-last c = λ k es leads end. last-rows k (next_row (columns_of k.first) line_start) k.first es leads leads.first.on end
 
 pub returns-clause-placed : goal.returns-clause-placed
-returns-clause-placed c = λ k es end. weight-all k es end
+returns-clause-placed c = λ k es end. placed-once k es end
 
 pub returns-clause-begun : goal.returns-clause-begun
-returns-clause-begun c = λ k es end. begun-rows k line_start [] es end
+returns-clause-begun c = λ k es leads end. begun-rows k es leads end
