@@ -1,11 +1,17 @@
 -- Where an item that covers a position begins in a row.
-use Rattle.std.specs.Prelude.{ℕ, ◌+◌, ◌&&◌, nat_lt, nat_le, Bool, List, Option, find}
+use Rattle.std.specs.Prelude.{ℕ, ◌+◌, ◌-◌, ◌&&◌, nat_lt, nat_le, Bool, if◌then◌else◌, List, length, Option, find}
 use Rattle.std.specs.Option.{option_map}
 use Rattle.rd_rows.specs.declared.begin.Begin.{Begin}
+use Rattle.rd_rows.specs.Rows.{RowMeaning}
 
 -- whether an item of a block that begins at a position covers a point
 abbrev pub covers : ℕ → ℕ → Begin → Bool
 covers start point b = nat_le (start + b.from) point && nat_lt point (start + b.to)
+
+-- the column in which the first element of an item is shown: that of its row as it is read, from the right edge where the row is
+-- read from there
+abbrev pub shown_column : RowMeaning → ℕ → ℕ
+shown_column row column = if row.reversed then length row.cells - 1 - column else column
 
 -- the column of the first item that covers a point among those that begin in a row
 abbrev pub column_in : ℕ → ℕ → List Begin → Option ℕ

@@ -1,6 +1,7 @@
 //! The rows of a window, from its top.
 ghost use Rattle.std.specs.Prelude.{◌≡◌};
-ghost use Rattle.rd_matrix.specs.Columns.{column_in, covers};
+ghost use Rattle.rd_matrix.specs.Columns.{column_in, covers, shown_column};
+ghost use Rattle.rd_matrix.specs.Cursors.{column_shown};
 
 use rd_base::{Memory, Pos};
 use rd_rows::{Begin, Row};
@@ -70,15 +71,16 @@ impl Matrix {
         &self.entries[i]
     }
 
-    /// The row and the column, from 0, in which the item that covers a position begins: the column of its first element, held
-    /// within the window. None exactly where no row holds its beginning. It costs
+    /// The row and the column, from 0, in which the item that covers a position begins: the column in which its first element is
+    /// shown, held within the window. In a row that is read from the right edge these columns are counted from there, so that the
+    /// item's first element is shown in the column as far from that edge. None exactly where no row holds its beginning. It costs
     /// what the rows have of items.
     pub fn cursor(&self, point: Pos) -> Option<(u32, u32)>
         ensures { result ≡ cursor_in point self.now }
     {
         for row in 0..self.entries.len() {
             let entry = &self.entries[row];
-            if let Some(column) = column_in(entry.row.begins(), entry.start, point) {
+            if let Some(column) = entry.column_of(point) {
                 return Some((row as u32, column));
             }
         }
@@ -91,6 +93,27 @@ impl Matrix {
     {
         self.cursor(point).is_some()
     }
+}
+
+impl Entry {
+    /// The column in which the item that covers a position begins, as it is shown.
+    fn column_of(&self, point: Pos) -> Option<u32>
+        ensures { result ≡ column_shown point self.now }
+    {
+        let column = column_in(self.row.begins(), self.start, point)?;
+        Some(shown_column(&self.row, column))
+    }
+}
+
+/// The column in which a reading column of a row is shown.
+fn shown_column(row: &Row, column: u32) -> u32
+    ensures { result ≡ shown_column row.now.shown column }
+{
+    if !row.reversed() {
+        return column;
+    }
+    let last = row.cells().len().saturating_sub(1) as u32;
+    last.saturating_sub(column)
 }
 
 /// The column of the first item that covers a position among those that begin in a row of a block.
