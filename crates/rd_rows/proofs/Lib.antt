@@ -3,3 +3,4 @@ pub mod LineLaws
 mod Mirroring
 mod Stands
 pub mod Walk
+mod Wholeness

@@ -35,7 +35,7 @@ front-by true false x h r n i some few = omega arith
 front-by false d x h r n i some few = let none : h ≡ 0 = grind (arith, nat_tests) in omega (arith, none)
 
 -- the mark of a scrolled row and the cells that are seen have room before the last column
-front-length : (c : Cutting) (used : ℕ) (cells : List Cell) → 1 ≤ room c.shape → length cells ≤ c.shape.hscroll + room c.shape - first_seen c.shape
+pub front-length : (c : Cutting) (used : ℕ) (cells : List Cell) → 1 ≤ room c.shape → length cells ≤ c.shape.hscroll + room c.shape - first_seen c.shape
     → length (front_mark c used ++ cells) ≤ room c.shape
 front-length c used cells some few =
     let front = front-by (nat_lt 0 c.shape.hscroll) (nat_lt 0 used) (mark c.truncation) c.shape.hscroll (room c.shape) (length cells) refl some few in

@@ -9,3 +9,4 @@ pub mod Placing
 pub mod Prefixes
 pub mod Rows
 pub mod Shapes
+pub mod Whole

@@ -2,6 +2,8 @@
 ghost use Rattle.std.specs.Prelude.{◌≡◌, ◌≤◌, ℕ, List, flat_map, length, IsTrue, None};
 ghost use Rattle.rd_base.specs.declared.cell.Glyph.{Glyph};
 ghost use Rattle.rd_base.specs.declared.element.Element.{Element};
+ghost use Rattle.rd_base.specs.Elements.{AreSound};
+ghost use Rattle.rd_base.specs.Glyphs.{AreMeasured};
 ghost use Rattle.rd_rows.specs.declared.cutting.Cutting.{Cutting};
 ghost use Rattle.rd_rows.specs.Leads.{HasLeads};
 ghost use Rattle.rd_rows.specs.Prefixes.{IsPrefix};
@@ -9,6 +11,7 @@ ghost use Rattle.rd_rows.specs.Rows.{cutting_of, rows_of, weight_of};
 ghost use Rattle.rd_rows.specs.Lines.{ends_once};
 ghost use Rattle.rd_rows.specs.Shapes.{ShapeValues};
 ghost use Rattle.rd_rows.specs.Laws.{ends_last, ranges_in, ranges_of, IsPlacedOnce};
+ghost use Rattle.rd_rows.specs.Whole.{AreWhole, IsMark, IsMeasuredPrefix, IsMeasuredCutting};
 
 /// The rows of a line whose last element and no other is the line end: there is at least one, and the last and no other ends
 /// the block; each element is placed once, and each element of a prefix once in each of its rows; and each item begins once, in
@@ -23,4 +26,13 @@ pub fn rows_of_every_line()
 pub fn prefixes_stand_before_lines()
     ensures { (shape : ShapeValues) (base : ℕ) (first wrap : List Element) (truncation continuation : Glyph)
         → shape.width ≤ 400 → IsPrefix first → IsPrefix wrap → HasLeads (cutting_of shape base first wrap truncation continuation) }
+{}
+
+/// In the rows of sound and measured elements, with measured prefixes and marks of one column, each glyph stands whole, and each
+/// row has the window's columns, whichever edge it is read from. It has no body.
+pub fn rows_are_whole()
+    ensures cutting { (shape : ShapeValues) (base : ℕ) (first wrap : List Element) (truncation continuation : Glyph)
+        → 2 ≤ shape.width → shape.width ≤ 400 → IsMeasuredPrefix first → IsMeasuredPrefix wrap → IsMark truncation → IsMark continuation
+        → IsMeasuredCutting (cutting_of shape base first wrap truncation continuation) }
+    ensures rows { (c : Cutting) (es : List Element) → IsMeasuredCutting c → AreSound es → AreMeasured es → AreWhole c.shape.width (rows_of c es) }
 {}

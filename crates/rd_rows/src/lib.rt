@@ -14,7 +14,7 @@ mod shape;
 mod spot;
 
 pub use begin::Begin;
-pub use laws::rows_of_every_line;
+pub use laws::{prefixes_stand_before_lines, rows_are_whole, rows_of_every_line};
 pub use maker::RowMaker;
 pub use row::Row;
 pub use shape::Shape;

@@ -85,7 +85,7 @@ fn rows_behind_prefixes()
 /// A row that is scrolled sideways has a mark at each end, and its prefix is scrolled with it.
 
 fn rows_scrolled_sideways()
-    ensures marks { cells (rows (record narrow { hscroll = 3 }) (letters 0 (97 ∷ 98 ∷ 99 ∷ 100 ∷ 101 ∷ 102 ∷ 103 ∷ 104 ∷ 105 ∷ 106 ∷ 107 ∷ 108 ∷ 109 ∷ 110 ∷ 111 ∷ 112 ∷ []) ++ line_end 16)) ≡ text (36 ∷ 101 ∷ 102 ∷ 103 ∷ 104 ∷ 105 ∷ 106 ∷ 107 ∷ 108 ∷ 109 ∷ 110 ∷ 36 ∷ []) ∷ [] }
+    ensures marks { cells (rows (record narrow { hscroll = 3 }) (spaces 0 4 ∷ letters 1 (101 ∷ 102 ∷ 103 ∷ 104 ∷ 105 ∷ 106 ∷ 107 ∷ 108 ∷ 109 ∷ 110 ∷ []) ++ spaces 11 2 ∷ line_end 12)) ≡ text (36 ∷ 101 ∷ 102 ∷ 103 ∷ 104 ∷ 105 ∷ 106 ∷ 107 ∷ 108 ∷ 109 ∷ 110 ∷ 36 ∷ []) ∷ [] }
     ensures begins { begins (rows (record narrow { hscroll = 3 }) (letters 0 (97 ∷ 98 ∷ 99 ∷ 100 ∷ 101 ∷ []) ++ line_end 5)) ≡ (at 0 0 ∷ at 1 0 ∷ at 2 0 ∷ at 3 0 ∷ at 4 1 ∷ at 5 2 ∷ []) ∷ [] }
     ensures empty { cells (rows (record narrow { hscroll = 3 }) (line_end 0)) ≡ blanks 12 plain ∷ [] }
     ensures prefix { cells (rows_behind (record cut { hscroll = 1 }) (62 ∷ 32 ∷ []) [] (letters 0 (97 ∷ 98 ∷ []) ++ line_end 2)) ≡ (text (36 ∷ 97 ∷ 98 ∷ []) ++ blanks 9 plain) ∷ [] }
