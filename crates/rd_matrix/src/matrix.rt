@@ -112,8 +112,7 @@ fn shown_column(row: &Row, column: u32) -> u32
     if !row.reversed() {
         return column;
     }
-    let last = row.cells().len().saturating_sub(1) as u32;
-    last.saturating_sub(column)
+    row.last_column().saturating_sub(column)
 }
 
 /// The column of the first item that covers a position among those that begin in a row of a block.

@@ -32,7 +32,7 @@ impl Model for Row {
 }
 
 impl Row {
-    ghost use Rattle.std.specs.Prelude.{◌≡◌, ◌≤◌, length, IfOk};
+    ghost use Rattle.std.specs.Prelude.{◌≡◌, ◌-◌, ◌≤◌, length, IfOk};
     ghost use Rattle.rd_rows.specs.Copies.{copied, blank_row};
 
     /// A row of `width` blank and plain cells, 1 to 400 of them, in which nothing stands. It was not copied.
@@ -88,12 +88,18 @@ impl Row {
         self.copies
     }
 
-    /// The cells by column, from 0. There are at most 400.
+    /// The cells by column, from 0.
     pub fn cells(&self) -> &[Cell]
-        ensures cells { result.now ≡ self.now.shown.cells }
-        ensures few { length self.now.shown.cells ≤ 400 }
+        ensures { result.now ≡ self.now.shown.cells }
     {
         self.cells.as_slice()
+    }
+
+    /// The last column, counted from 0.
+    pub fn last_column(&self) -> u32
+        ensures { result ≡ length self.now.shown.cells - 1 }
+    {
+        self.cells.len().saturating_sub(1) as u32
     }
 
     /// The items whose first element stands in this row, in the order in which these elements were placed.

@@ -10,8 +10,10 @@ use Rattle.rd_rows.specs.declared.cutting.Cutting.{Cutting}
 use Rattle.rd_rows.specs.declared.spot.Placed.{Placed}
 use Rattle.rd_rows.specs.declared.spot.Spot.{Spot}
 use Rattle.rd_rows.specs.Placing.{is_item, fits, placed_at, behind, next_row}
-use Rattle.rd_rows.specs.Placing.{is_line_end}
-use Rattle.rd_rows.specs.Rows.{LaidRow, laid, rows_from, begin_of, has_line_end}
+use Rattle.rd_rows.specs.Placing.{is_line_end, has_line_end}
+use Rattle.rd_rows.specs.Rows.{LaidRow, laid, rows_from, begin_of}
+use Rattle.rd_rows.specs.Shapes.{ShapeValues}
+use Rattle.rd_session.specs.Layout.{plain_cutting}
 use Rattle.rd_session.proofs.AddLemmas.{EndsOnce}
 use Rattle.rd_session.specs.Blocks.{char_element, line_end, elements_from}
 use Rattle.rd_session.proofs.SingleLemmas.{singles}
@@ -52,24 +54,26 @@ first_of_item : (spot : Spot) (i : ℕ) → is_item spot.before i ≡ false → 
 first_of_item spot i new = rw new refl
 
 -- the items that begin in the rows of a line are those placed already, and one for each character and the end
-pub ranges_in-rows : (c : Cutting) (start i : ℕ) (spot : Spot) (ps : List Placed) (cs : List ℕ) → is_item spot.before i ≡ false
-    → ranges_in start (rows_from c spot ps (elements_from i cs)) ≡ ranges_placed c start ps ++ singles (start + i) (suc (length cs))
-ranges_in-rows c start i spot ps [] new =
+pub ranges_in-rows : (shape : ShapeValues) (start i : ℕ) (spot : Spot) (ps : List Placed) (cs : List ℕ) → is_item spot.before i ≡ false
+    → ranges_in start (rows_from (plain_cutting shape) spot ps (elements_from i cs)) ≡ ranges_placed (plain_cutting shape) start ps ++ singles (start + i) (suc (length cs))
+ranges_in-rows shape start i spot ps [] new =
+    let c : Cutting = plain_cutting shape in
     let p : Placed = placed_at c.shape spot (line_end i) in
     append-nil (ranges_placed c start (ps ++ p ∷ [])) ∙ ranges_placed-first c start i p ps (first_of_item spot i new) refl refl
-ranges_in-rows c start i spot ps (ch ∷ cs) new =
+ranges_in-rows shape start i spot ps (ch ∷ cs) new =
+    let c : Cutting = plain_cutting shape in
     let e : Element = char_element i ch in
     let p : Placed = placed_at c.shape spot e in
-    let q : Placed = placed_at c.shape (next_row spot) e in
+    let q : Placed = placed_at c.shape (next_row 0 spot) e in
     let one : List (ℕ × ℕ) = (start + i, start + i + 1) ∷ [] in
     let rest : List (ℕ × ℕ) = singles (start + i + 1) (suc (length cs)) in
     let place : start + (i + 1) ≡ start + i + 1 = omega arith in
     let Goal : List LaidRow → Type 0 = λ rows. ranges_in start rows ≡ ranges_placed c start ps ++ one ++ rest in
     let stays : fits c.shape spot e ≡ true → Goal (rows_from c (behind spot p) (ps ++ p ∷ []) (elements_from (i + 1) cs)) = λ _.
-    let later = ranges_in-rows c start (i + 1) (behind spot p) (ps ++ p ∷ []) cs (not_item i) in
+    let later = ranges_in-rows shape start (i + 1) (behind spot p) (ps ++ p ∷ []) cs (not_item i) in
     later ∙ rw (ranges_placed-first c start i p ps (first_of_item spot i new) refl refl, place) refl in
-    let goes_on : fits c.shape spot e ≡ false → Goal (laid c spot.used true ps ∷ rows_from c (behind (next_row spot) q) (q ∷ []) (elements_from (i + 1) cs)) = λ _.
-    let later = ranges_in-rows c start (i + 1) (behind (next_row spot) q) (q ∷ []) cs (not_item i) in
+    let goes_on : fits c.shape spot e ≡ false → Goal (laid c spot.used true ps ∷ rows_from c (behind (next_row 0 spot) q) (q ∷ []) (elements_from (i + 1) cs)) = λ _.
+    let later = ranges_in-rows shape start (i + 1) (behind (next_row 0 spot) q) (q ∷ []) cs (not_item i) in
     let first = ranges_placed-first c start i q [] (first_of_item spot i new) refl refl in
     ap (λ xs. ranges_placed c start ps ++ xs) (later ∙ rw (first, place) refl) ∙ sym (append_assoc (ranges_placed c start ps) one rest) in
     by_cases Goal (fits c.shape spot e) _ _ stays goes_on ∙ append_assoc (ranges_placed c start ps) one rest
@@ -87,14 +91,16 @@ ends-behind r [] h later = absurd later
 ends-behind r (s ∷ rs) h later = (h, later)
 
 -- the last row of a line ends its block, and no other does
-pub rows-end : (c : Cutting) (i : ℕ) (spot : Spot) (ps : List Placed) (cs : List ℕ) → has_line_end ps ≡ false → EndsOnce (rows_from c spot ps (elements_from i cs))
-rows-end c i spot ps [] before =
+pub rows-end : (shape : ShapeValues) (i : ℕ) (spot : Spot) (ps : List Placed) (cs : List ℕ) → has_line_end ps ≡ false → EndsOnce (rows_from (plain_cutting shape) spot ps (elements_from i cs))
+rows-end shape i spot ps [] before =
+    let c : Cutting = plain_cutting shape in
     let p : Placed = placed_at c.shape spot (line_end i) in
     has-end ps p ∙ rw before refl
-rows-end c i spot ps (ch ∷ cs) before =
+rows-end shape i spot ps (ch ∷ cs) before =
+    let c : Cutting = plain_cutting shape in
     let e : Element = char_element i ch in
     let p : Placed = placed_at c.shape spot e in
-    let q : Placed = placed_at c.shape (next_row spot) e in
+    let q : Placed = placed_at c.shape (next_row 0 spot) e in
     by_cases EndsOnce (fits c.shape spot e) _ _
-    (λ _. rows-end c (i + 1) (behind spot p) (ps ++ p ∷ []) cs (has-end ps p ∙ rw before refl))
-    (λ _. ends-behind (laid c spot.used true ps) _ before (rows-end c (i + 1) (behind (next_row spot) q) (q ∷ []) cs refl))
+    (λ _. rows-end shape (i + 1) (behind spot p) (ps ++ p ∷ []) cs (has-end ps p ∙ rw before refl))
+    (λ _. ends-behind (laid c spot.used true ps) _ before (rows-end shape (i + 1) (behind (next_row 0 spot) q) (q ∷ []) cs refl))

@@ -4,13 +4,12 @@ use Rattle.std.specs.Prelude.{map, All, IsTrue}
 use Rattle.rd_base.specs.Elements.{IsSound}
 use Rattle.rd_base.specs.declared.element.Element.{Element}
 use Rattle.rd_rows.specs.Copies.{RowValues}
-use Rattle.rd_base.specs.declared.cell.Glyph.{Glyph}
 use Rattle.rd_rows.specs.Shapes.{ShapeValues}
 use Rattle.rd_rows.specs.Lines.{fresh, IsLine, ends_once, columns_at_most}
 use Rattle.rd_rows.specs.Rows.{rows_of}
 use Rattle.rd_matrix.specs.declared.matrix.Entry.{Entry}
 use Rattle.rd_rows.specs.Placing.{line_start}
-use Rattle.rd_session.specs.Layout.{made, numbered, rows_from_row}
+use Rattle.rd_session.specs.Layout.{made, numbered, plain_cutting, rows_from_row}
 use Rattle.rd_session.proofs.AddLemmas.{Adds, length-numbered}
 use Rattle.rd_session.proofs.BeginLemmas.{rows-end}
 use Rattle.rd_session.specs.Blocks.{elements_from, elements_left}
@@ -41,15 +40,15 @@ pub line-from : (cs : List ℕ) → length cs < 2 ^ 63 → IsLine 0 (elements_fr
 line-from cs h = record { sound = sound-from 0 cs; end = ends-from 0 cs; columns = let e = columns-from 0 cs in omega arith }
 
 -- no row of a line was put there
-pub adds-none : (first height start : ℕ) (es : List Entry) (shape : ShapeValues) (a b : Glyph) (cs : List ℕ) → length cs < 2 ^ 63 → length es ≤ height
-    → Adds first height start 0 es (fresh shape a b) (elements_from 0 cs)
-    (take height (es ++ rows_from_row first (numbered start 0 (map made (rows_of shape a b (elements_from 0 cs))))))
-adds-none first height start es shape a b cs few room =
-    let rows : List RowValues = map made (rows_of shape a b (elements_from 0 cs)) in
+pub adds-none : (first height start : ℕ) (es : List Entry) (shape : ShapeValues) (cs : List ℕ) → length cs < 2 ^ 63 → length es ≤ height
+    → Adds first height start 0 es (fresh (plain_cutting shape)) (elements_from 0 cs)
+    (take height (es ++ rows_from_row first (numbered start 0 (map made (rows_of (plain_cutting shape) (elements_from 0 cs))))))
+adds-none first height start es shape cs few room =
+    let rows : List RowValues = map made (rows_of (plain_cutting shape) (elements_from 0 cs)) in
     let n : first - 0 ≡ first = omega arith in
     record {
       rest = ap (λ xs. take height (es ++ xs)) (rw (n, length-numbered start 0 rows) refl);
       room = room;
       asks = λ _. line-from cs few;
-      ends = λ _. rows-end (record { shape = shape; truncation = a; continuation = b }) 0 line_start [] cs refl;
+      ends = λ _. rows-end shape 0 line_start [] cs refl;
     }

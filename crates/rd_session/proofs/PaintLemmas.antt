@@ -5,9 +5,10 @@ use Rattle.std.specs.Option.{option_map}
 use Rattle.std.proofs.lemmas.List.{get_or-set_same, length-take, map-append, length-replicate, take_all}
 use Rattle.rd_base.specs.declared.cell.Cell.{Cell}
 use Rattle.rd_matrix.specs.declared.matrix.Entry.{Entry}
-use Rattle.rd_matrix.specs.Columns.{covers, column_in}
-use Rattle.rd_matrix.specs.Cursors.{or_below, cursor_in}
+use Rattle.rd_matrix.specs.Columns.{covers, column_in, shown_column}
+use Rattle.rd_matrix.specs.Cursors.{or_below, column_shown, cursor_in}
 use Rattle.rd_rows.specs.declared.begin.Begin.{Begin}
+use Rattle.rd_rows.specs.Rows.{RowMeaning}
 use Rattle.rd_session.specs.Plain.{AreShowable, AreWithin}
 use Rattle.rd_session.specs.Redisplay.{with_cursor, window_rows, place_or_first}
 use Rattle.rd_term.specs.Pictures.{blank, blank_row, Picture, IsScreen, row_at, width_of, with_cell}
@@ -93,6 +94,14 @@ column-within : (width start point : ℕ) (bs : List Begin) → AreWithin width 
 column-within width start point [] h = tt
 column-within width start point (b ∷ bs) h = found-within width (covers start point b) b (find (covers start point) bs) h.0 (column-within width start point bs h.1)
 
+mirrored-within : (t : Bool) (width n column : ℕ) → n ≡ width → column < width → (if t then n - 1 - column else column) < width
+mirrored-within true width n column h within = omega arith
+mirrored-within false width n column h within = within
+
+shown-within : (width : ℕ) (row : RowMeaning) (column : Option ℕ) → length row.cells ≡ width → IfSome column (λ c. c < width) → IfSome (option_map (shown_column row) column) (λ c. c < width)
+shown-within width row None h within = tt
+shown-within width row (Some column) h within = mirrored-within row.reversed width (length row.cells) column h within
+
 below-within : (width n : ℕ) (column : Option ℕ) (below : Option (ℕ × ℕ)) → IfSome column (λ c. c < width) → IfSome below (λ place. (place.0 < n) × (place.1 < width))
     → IfSome (or_below column below) (λ place. (place.0 < suc n) × (place.1 < width))
 below-within width n (Some c) below h g = (omega arith, h)
@@ -102,8 +111,8 @@ below-within width n None (Some place) h g = let row = g.0 in (omega arith, g.1)
 pub cursor-within : (width first last point : ℕ) (es : List Entry) → AreShowable width first last es → IfSome (cursor_in point es) (λ place. (place.0 < length es) × (place.1 < width))
 cursor-within width first last point [] h = tt
 cursor-within width first last point (e ∷ es) h =
-    below-within width (length es) (column_in e.start point e.row.shown.begins) (cursor_in point es)
-    (column-within width e.start point e.row.shown.begins h.0.within) (cursor-within width first last point es h.2)
+    below-within width (length es) (column_shown point e) (cursor_in point es)
+    (shown-within width e.row.shown (column_in e.start point e.row.shown.begins) h.0.wide (column-within width e.start point e.row.shown.begins h.0.within)) (cursor-within width first last point es h.2)
 
 replicate-last : {X : Type 0} (n : ℕ) (x : X) → replicate (n + 1) x ≡ replicate n x ++ x ∷ []
 replicate-last zero x = refl

@@ -34,7 +34,7 @@ whole-block n none es rows empty put few =
 -- a block has a row
 pub block_rows-some : (shape : ShapeValues) (b : BlockValue) → 0 < length (block_rows shape b)
 block_rows-some shape b =
-    let some = some-more (line_rows shape b) (rows-end (record { shape = shape; truncation = single 36 1; continuation = single 92 1 }) 0 line_start [] b.chars refl) in
+    let some = some-more (line_rows shape b) (rows-end shape 0 line_start [] b.chars refl) in
     rw (length-numbered b.start 0 (map made (line_rows shape b))) some
 
 -- the rows above a block are those above the block before it, and its

@@ -21,6 +21,7 @@ use Rattle.rd_rows.specs.declared.spot.Placed.{Placed}
 use Rattle.rd_rows.specs.declared.spot.Spot.{Spot}
 use Rattle.rd_term.specs.Pictures.{IsPlainCell}
 use Rattle.rd_session.specs.Blocks.{char_element, line_end, elements_from}
+use Rattle.rd_session.specs.Layout.{plain_cutting}
 use Rattle.rd_session.specs.Plain.{AreWithin, IsShowable}
 
 -- characters from space to tilde
@@ -153,10 +154,10 @@ choose P true x y p q = p
 choose P false x y p q = q
 
 -- the cutting of a window that is not scrolled, with the marks `$` and `\`
-abbrev pub plain_cutting : ℕ → Wrap → Cutting
-plain_cutting width wrap = record { shape = record { width = width; wrap = wrap; hscroll = 0 }; truncation = single 36 1; continuation = single 92 1 }
+abbrev pub cutting_at : ℕ → Wrap → Cutting
+cutting_at width wrap = plain_cutting (record { width = width; wrap = wrap; hscroll = 0 })
 
-last-plain : (width : ℕ) (wrap : Wrap) (used : ℕ) (continued : Bool) → IsPlainCell (last_cell (plain_cutting width wrap) used continued)
+last-plain : (width : ℕ) (wrap : Wrap) (used : ℕ) (continued : Bool) → IsPlainCell (last_cell (cutting_at width wrap) used continued)
 last-plain width wrap used continued =
     let shape : ShapeValues = record { width = width; wrap = wrap; hscroll = 0 } in
     choose IsPlainCell (truncates shape) _ _
@@ -164,14 +165,14 @@ last-plain width wrap used continued =
     (choose IsPlainCell continued _ _ (mark-plain 92 (omega arith) (omega arith)) plain-blank)
 
 -- a row of a run can be shown
-row-showable : (width : ℕ) (wrap : Wrap) (used m : ℕ) (continued : Bool) (ps : List Placed) → 1 ≤ width → IsRun 0 ps m → IsShowable width (laid (plain_cutting width wrap) used continued ps).row
+row-showable : (width : ℕ) (wrap : Wrap) (used m : ℕ) (continued : Bool) (ps : List Placed) → 1 ≤ width → IsRun 0 ps m → IsShowable width (laid (cutting_at width wrap) used continued ps).row
 row-showable width wrap used m continued ps some run =
     let r : ℕ = width - 1 in
     let to : 0 + r ≡ r = omega arith in
     let cells : List Cell = flat_map (seen 0 (0 + r)) ps in
     let few : Few r cells = subst (λ k. Few r (flat_map (seen 0 k) ps)) (sym to) (subst (λ k. Few k (flat_map (seen 0 r) ps)) (let e : r - 0 ≡ r = omega arith in e) (run-seen r 0 m ps run)) in
     let short = few.few in
-    let last : Cell = last_cell (plain_cutting width wrap) used continued in
+    let last : Cell = last_cell (cutting_at width wrap) used continued in
     let blank : List Cell = blanks (r - length cells) plain in
     let size : length ((cells ++ blank) ++ last ∷ []) ≡ width
     = length-append (cells ++ blank) (last ∷ []) ∙ (ap (λ n. n + 1) (length-append cells blank ∙ ap (λ n. length cells + n) (length-replicate (r - length cells) (Blank plain))) ∙ omega arith) in
@@ -218,19 +219,19 @@ by_cases P false a b f g = g
 
 -- the rows of a line of printable characters can be shown
 pub rows-showable : (width : ℕ) (wrap : Wrap) (i : ℕ) (spot : Spot) (ps : List Placed) (cs : List ℕ) → 1 ≤ width → ArePrintable cs → IsRun 0 ps spot.used
-    → AllRows width (rows_from (plain_cutting width wrap) spot ps (elements_from i cs))
+    → AllRows width (rows_from (cutting_at width wrap) spot ps (elements_from i cs))
 rows-showable width wrap i spot ps [] some printable run =
-    let c : Cutting = plain_cutting width wrap in
+    let c : Cutting = cutting_at width wrap in
     let p : Placed = placed_at c.shape spot (line_end i) in
     all-cons width (laid c (spot.used + p.columns) false (ps ++ p ∷ [])) [] (row-showable width wrap (spot.used + p.columns) spot.used false (ps ++ p ∷ []) some (run-end 0 spot.used ps p run (end-cell c spot i))) (all-none width)
 rows-showable width wrap i spot ps (ch ∷ cs) some printable run =
-    let c : Cutting = plain_cutting width wrap in
+    let c : Cutting = cutting_at width wrap in
     let e : Element = char_element i ch in
     let p : Placed = placed_at c.shape spot e in
-    let q : Placed = placed_at c.shape (next_row spot) e in
+    let q : Placed = placed_at c.shape (next_row 0 spot) e in
     let here = char-cell c spot i ch printable.0 printable.1 in
-    let fresh = char-cell c (next_row spot) i ch printable.0 printable.1 in
+    let fresh = char-cell c (next_row 0 spot) i ch printable.0 printable.1 in
     by_cases (AllRows width) (fits c.shape spot e) _ _
     (rows-showable width wrap (i + 1) (behind spot p) (ps ++ p ∷ []) cs some printable.2 (run-push 0 spot.used ps p run here))
     (all-cons width (laid c spot.used true ps) _ (row-showable width wrap spot.used spot.used true ps some run)
-    (rows-showable width wrap (i + 1) (behind (next_row spot) q) (q ∷ []) cs some printable.2 (run-one q fresh)))
+    (rows-showable width wrap (i + 1) (behind (next_row 0 spot) q) (q ∷ []) cs some printable.2 (run-one q fresh)))

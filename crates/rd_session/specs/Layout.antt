@@ -6,7 +6,8 @@ use Rattle.rd_base.specs.declared.settings.Anchor.{Anchor}
 use Rattle.rd_matrix.specs.Columns.{covers}
 use Rattle.rd_matrix.specs.declared.matrix.Entry.{Entry}
 use Rattle.rd_rows.specs.Copies.{RowValues}
-use Rattle.rd_rows.specs.Rows.{LaidRow, rows_of}
+use Rattle.rd_rows.specs.declared.cutting.Cutting.{Cutting}
+use Rattle.rd_rows.specs.Rows.{LaidRow, cutting_of, rows_of}
 use Rattle.rd_rows.specs.Shapes.{ShapeValues}
 use Rattle.rd_session.specs.Blocks.{BlockValue, block_end, elements_from}
 
@@ -19,9 +20,13 @@ abbrev pub numbered : ℕ → ℕ → List RowValues → List Entry
 numbered start k [] = []
 numbered start k (r ∷ rs) = (record { start = start; number = k; row = r }) ∷ numbered start (k + 1) rs
 
+-- how lines are cut: from the left edge, without prefixes
+abbrev pub plain_cutting : ShapeValues → Cutting
+plain_cutting shape = cutting_of shape 0 [] [] (single 36 1) (single 92 1)
+
 -- the rows of a block's line, with the marks `$` of truncated rows and `\` of continued ones
 abbrev pub line_rows : ShapeValues → BlockValue → List LaidRow
-line_rows shape b = rows_of shape (single 36 1) (single 92 1) (elements_from 0 b.chars)
+line_rows shape b = rows_of (plain_cutting shape) (elements_from 0 b.chars)
 
 abbrev pub block_rows : ShapeValues → BlockValue → List Entry
 block_rows shape b = numbered b.start 0 (map made (line_rows shape b))

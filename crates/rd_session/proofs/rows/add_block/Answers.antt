@@ -11,8 +11,8 @@ of-elements-requires-clause-last g c =
     let ends = block-ends c.args.text.now c.args.wanted.block.start c.requires.right (block-accessible c.args.text.now c.args.wanted.block c.requires.block) in
     rw c.requires.block.1.end ends.1
 
-pub loop-row-init : goal.loop-row-init
-loop-row-init g c =
+pub loop-maker-init : goal.loop-maker-init
+loop-maker-init g c =
     let t = c.args.text.now in
     let b = c.args.wanted.block in
     let ends = block-ends t b.start c.requires.right (block-accessible t b c.requires.block) in
@@ -21,11 +21,11 @@ loop-row-init g c =
     let end = c.requires.block.1.end in
     let size = length-between t b.start b.end (omega arith) (omega arith) (omega arith) in
     rw (c.of-elements.ensures, c.in_ok-maker.ensures, c.single.ensures, c.single-2.ensures)
-    (adds-none c.args.wanted.row c.args.wanted.height b.start c.args.matrix.now c.args.shape (single 36 1) (single 92 1) (between t b.start b.end) (omega arith) c.requires.room)
+    (adds-none c.args.wanted.row c.args.wanted.height b.start c.args.matrix.now c.args.shape (between t b.start b.end) (omega arith) c.requires.room)
 
-pub loop-row-preserved : goal.loop-row-preserved
-loop-row-preserved g c =
+pub loop-maker-preserved : goal.loop-maker-preserved
+loop-maker-preserved g c =
     let makes = rw c.in-Some.is at c.in_ok-row.ensures in
     rw c.in_ok-add_row.ensures.ok
-    (adds-step c.args.wanted.row c.args.wanted.height c.args.wanted.block.start c.loop-row.number c.loop-row.matrix c.in-Some.row c.loop-row.maker c.next_row.new.self
-    (left_of c.loop-row.elements) (left_of c.next_row.new.elements) _ _ _ c.loop-row.invariant makes.0 makes.1)
+    (adds-step c.args.wanted.row c.args.wanted.height c.args.wanted.block.start c.loop-maker.number c.loop-maker.matrix c.in-Some.row c.loop-maker.maker c.next_row.new.self
+    (left_of c.loop-maker.elements) (left_of c.next_row.new.elements) _ _ _ c.loop-maker.invariant makes.0 makes.1)
