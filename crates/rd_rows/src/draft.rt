@@ -148,13 +148,7 @@ impl Draft {
         add_copies(&mut cells, missing, Cell::Blank(Face::PLAIN))?;
         cells.push(last_cell(cutting, spot.used, continued))?;
         let cells = from_edge(alloc, cutting.reversed, cells)?;
-        Ok(Row::made(
-            alloc,
-            cells,
-            begins,
-            cutting.reversed,
-            ends_block,
-        ))
+        Ok(Row::made(alloc, cells, begins, cutting.reversed, ends_block))
     }
 }
 
@@ -177,11 +171,7 @@ fn behind_mark(
 }
 
 /// The cells as they are shown: their mirror image where the row is read from the right edge.
-fn from_edge(
-    alloc: Global,
-    reversed: bool,
-    cells: ListOf<Cell>,
-) -> Result<ListOf<Cell>, Memory>
+fn from_edge(alloc: Global, reversed: bool, cells: ListOf<Cell>) -> Result<ListOf<Cell>, Memory>
     ensures { IfOk result (λ shown. shown ≡ from_edge reversed cells) }
 {
     if reversed {
