@@ -19,3 +19,6 @@ pub use laws::{
 };
 pub use prefix::string_line;
 pub use walker::Walker;
+
+#[cfg(test)]
+mod tests;

@@ -1,0 +1,112 @@
+//! A line and a prefix with ample memory, of a buffer that is made by calls.
+ghost use Rattle.std.specs.Bool.{OnTrue};
+ghost use Rattle.rd_text.specs.Texts.{IsAccessible};
+
+use super::*;
+use rd_base::{Ch, Element, Elements, Glyph, Look, Pos};
+use rd_objects::{Objects, Run, RunKind, Spec};
+use rd_overlays::Kind;
+use rd_props::{BufferState, View};
+use rd_ucd::{Classes, Mirrors};
+use std::alloc::Global;
+use std::test::Fail;
+
+/// The string zz, and the string PQ, newline, R, in which that one stands for Q.
+fn objects(alloc: Global) -> Result<Objects, Fail> {
+    let mut objects = Objects::new(alloc)?;
+    let inner = objects.add_string(&[Ch::scalar('z'), Ch::scalar('z')], &[])?;
+    let spec = objects.add_spec(Spec::Text(inner))?;
+    let run = Run {
+        from: 1,
+        to: 2,
+        kind: RunKind::Display,
+        value: spec,
+    };
+    objects.add_string(
+        &[
+            Ch::scalar('P'),
+            Ch::scalar('Q'),
+            Ch::scalar('\n'),
+            Ch::scalar('R'),
+        ],
+        &[run],
+    )?;
+    Ok(objects)
+}
+
+/// The text xy, with the second of those strings before its second character.
+fn buffer(alloc: Global) -> Result<BufferState, Fail> {
+    let mut state = BufferState::new(alloc)?;
+    state.text.insert(1, &[Ch::scalar('x'), Ch::scalar('y')])?;
+    let number = state.overlays.make(2, 3, 0, false, false)?;
+    state.overlays.set(number, Kind::Before, Some(1))?;
+    Ok(state)
+}
+
+fn is_accessible(view: &View, pos: Pos) -> bool
+    ensures { OnTrue result (IsAccessible view.now.state.now.text pos) }
+{
+    let state = view.state;
+    state.text.begin() <= pos && pos <= state.text.end()
+}
+
+/// The look of a character of one column.
+fn letter(c: char) -> Look {
+    Look::Glyph(Glyph::single(c as u32, 1))
+}
+
+/// Whether these are the looks of elements.
+fn are_looks(elements: &[Element], wanted: &[Look]) -> bool {
+    if elements.len() != wanted.len() {
+        return false;
+    }
+    for (element, look) in elements.iter().zip(wanted) {
+        if element.look != *look {
+            return false;
+        }
+    }
+    true
+}
+
+/// Whether the line from a position on has these looks, and then none.
+fn walks(alloc: Global, view: &View, start: Pos, wanted: &[Look]) -> bool {
+    if !is_accessible(view, start) {
+        return false;
+    }
+    let Ok(mut walker) = Walker::start(alloc, view, start, 0) else {
+        return false;
+    };
+    for look in wanted {
+        match walker.next(alloc) {
+            Ok(Some(element)) if element.look == *look => {}
+            _ => return false,
+        }
+    }
+    matches!(walker.next(alloc), Ok(None))
+}
+
+#[test]
+fn a_line_and_a_prefix(rt: HostRuntime) -> Result<(), Fail> {
+    let alloc = rt.alloc();
+    let state = buffer(alloc)?;
+    let view = View {
+        state: &state,
+        objects: &objects(alloc)?,
+        classes: &Classes::read(alloc, b"")?,
+        mirrors: &Mirrors::read(alloc, b"")?,
+    };
+    let line = [
+        letter('x'),
+        letter('P'),
+        letter('z'),
+        letter('z'),
+        Look::RowEnd,
+        letter('R'),
+        letter('y'),
+        Look::LineEnd,
+    ];
+    assert!(rt; walks(alloc, &view, 1, &line));
+    let prefix = string_line(alloc, &view, 1, 0)?;
+    assert!(rt; are_looks(prefix.as_slice(), &[letter('P'), letter('Q')]));
+    Ok(())
+}
