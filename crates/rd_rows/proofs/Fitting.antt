@@ -1,19 +1,18 @@
 -- A prefix that is cut to its columns, element by element.
-use Rattle.std.proofs.Common.{◌≡◌, ℕ, zero, suc, ◌+◌, ◌/◌, ◌<◌, ◌≤◌, ◌&&◌, ◌||◌, nat_le, not, Bool, true, false, if◌then◌else◌, IsTrue, List, [], ◌∷◌, ◌++◌, length, get_or, drop, flat_map, refl, ap, sym, ◌∙◌, subst, arith, append_assoc}
+use Rattle.std.proofs.Common.{◌≡◌, ℕ, zero, ◌+◌, ◌/◌, ◌<◌, ◌≤◌, ◌&&◌, nat_le, not, Bool, true, false, IsTrue, List, [], ◌∷◌, ◌++◌, length, get_or, drop, flat_map, refl, ap, sym, ◌∙◌, subst, arith, append_assoc}
 use Rattle.std.proofs.lemmas.Bool.Decides.{nat_tests}
 use Rattle.std.proofs.lemmas.List.{append-nil, drop_more}
 use Rattle.std.proofs.lemmas.List.Elements.{All-tail}
 use Rattle.rd_base.specs.declared.element.Element.{Element}
 use Rattle.rd_base.specs.declared.cell.Glyph.{Glyph}
 use Rattle.rd_base.specs.Elements.{IsSound}
-use Rattle.rd_rows.specs.declared.cutting.Cutting.{Cutting}
 use Rattle.rd_rows.specs.declared.spot.Placed.{Placed}
 use Rattle.rd_rows.specs.Leads.{HasLeads}
 use Rattle.rd_rows.specs.Placing.{width_at, ends_row, is_line_end, has_line_end, columns_of}
 use Rattle.rd_rows.specs.Prefixes.{fitted, prefix_of, ends_none, begins_none, IsPrefix, IsLead, StandFrom}
 use Rattle.rd_rows.specs.Rows.{begin_of, cutting_of}
 use Rattle.rd_rows.specs.Shapes.{ShapeValues}
-use Rattle.rd_rows.proofs.Stands.{stand-more, stand-columns, sound-fills, columns-more}
+use Rattle.rd_rows.proofs.Stands.{stand-more, stand-columns, sound-fills}
 use Rattle.rd_rows.proofs.Walk.{line_end-ends, no_end-more, not-true}
 
 -- the element with which what is left of a list begins

@@ -1,13 +1,12 @@
 -- Elements that stand one behind the other, and how many cells are seen of them.
-use Rattle.std.proofs.Common.{◌≡◌, ℕ, zero, suc, ◌+◌, ◌-◌, ◌≤◌, ◌&&◌, min, max, nat_le, not, Bool, true, false, if◌then◌else◌, IsTrue, List, [], ◌∷◌, ◌++◌, length, flat_map, Some, refl, ap, sym, ◌∙◌, subst, arith, length-append, replicate}
+use Rattle.std.proofs.Common.{◌≡◌, ℕ, zero, suc, ◌+◌, ◌-◌, ◌≤◌, ◌&&◌, min, max, nat_le, not, Bool, true, false, if◌then◌else◌, List, [], ◌∷◌, ◌++◌, length, flat_map, Some, refl, ap, sym, ◌∙◌, subst, arith, length-append, replicate}
 use Rattle.std.specs.Prelude.{slice_get}
 use Rattle.std.proofs.lemmas.Bool.Decides.{nat_tests}
 use Rattle.std.proofs.lemmas.List.{length-replicate}
 use Rattle.rd_base.specs.Elements.{IsSound, IsSoundLook}
 use Rattle.rd_base.specs.Faces.{Attributes}
-use Rattle.rd_base.specs.Glyphs.{is_space, blanks, glyph_cells}
-use Rattle.rd_base.specs.declared.cell.Cell.{Cell}
-use Rattle.rd_base.specs.declared.cell.Cell.TheVariants.{First, Rest}
+use Rattle.rd_base.specs.Glyphs.{is_space, glyph_cells}
+use Rattle.rd_base.specs.declared.cell.Cell.TheVariants.{Rest}
 use Rattle.rd_base.specs.declared.cell.Glyph.{Glyph}
 use Rattle.rd_base.specs.declared.element.Element.{Element}
 use Rattle.rd_base.specs.declared.element.Extent.{Extent}
@@ -16,7 +15,7 @@ use Rattle.rd_base.specs.declared.element.Look.{Look}
 use Rattle.rd_base.specs.declared.element.Look.TheVariants.{Blank, Glyph as Shown, RowEnd, LineEnd}
 use Rattle.rd_rows.specs.declared.spot.Placed.{Placed}
 use Rattle.rd_rows.specs.declared.spot.Spot.{Spot}
-use Rattle.rd_rows.specs.Placing.{width_at, is_blank, glyph_in, placed_at, columns_in, columns_of}
+use Rattle.rd_rows.specs.Placing.{width_at, is_blank, glyph_in, columns_in, columns_of}
 use Rattle.rd_rows.specs.Prefixes.{FillsColumns, StandFrom}
 use Rattle.rd_rows.specs.Rows.{seen, seen_in, first_seen, whole_cells}
 use Rattle.rd_rows.specs.Shapes.{ShapeValues, room, truncates}

@@ -19,8 +19,8 @@ use Rattle.rd_rows.specs.Copies.{RowValues}
 use Rattle.rd_rows.specs.Drafts.{IsDraft, Grows, finished_row}
 use Rattle.rd_rows.specs.Leads.{HasLeads}
 use Rattle.rd_rows.specs.Placing.{fits, ends_row, is_line_end, placed_at, behind, next_row, next_line, width_at, width_at_most, columns_in, columns_of, goes_on, has_line_end}
-use Rattle.rd_rows.specs.Prefixes.{IsLead, StandFrom}
-use Rattle.rd_rows.specs.Rows.{LaidRow, RowMeaning, rows_from, weight_of, laid, row_of, front_mark, seen_in, first_seen, begin_of}
+use Rattle.rd_rows.specs.Prefixes.{StandFrom}
+use Rattle.rd_rows.specs.Rows.{LaidRow, RowMeaning, rows_from, weight_of, laid, row_of, seen_in, first_seen, begin_of}
 use Rattle.rd_rows.specs.Shapes.{ShapeValues, room}
 use Rattle.rd_rows.specs.Lines.{Making, IsLine, Asks, MakesRow, Makes, ends_once, rows_left, held_placed, held_spot, with_held}
 use Rattle.rd_rows.proofs.Stands.{stand-more, placed-fills, room-length}

@@ -1,5 +1,5 @@
 -- In the rows of measured elements each glyph stands whole.
-use Rattle.std.proofs.Common.{◌≡◌, ℕ, zero, suc, ◌+◌, ◌-◌, ◌<◌, ◌≤◌, ◌&&◌, min, max, nat_le, nat_lt, Bool, true, false, if◌then◌else◌, List, [], ◌∷◌, ◌++◌, length, flat_map, refl, ap, sym, ◌∙◌, subst, arith, length-append, replicate}
+use Rattle.std.proofs.Common.{◌≡◌, ℕ, zero, suc, ◌+◌, ◌-◌, ◌≤◌, ◌&&◌, min, max, nat_le, nat_lt, Bool, true, false, if◌then◌else◌, List, [], ◌∷◌, ◌++◌, length, flat_map, refl, ap, ◌∙◌, arith, length-append, replicate}
 use Rattle.std.proofs.lemmas.List.{length-replicate}
 use Rattle.std.proofs.lemmas.List.Elements.{All-tail}
 use Rattle.rd_base.specs.Elements.{IsSound, AreSound}
@@ -16,7 +16,7 @@ use Rattle.rd_rows.specs.declared.spot.Placed.{Placed}
 use Rattle.rd_rows.specs.declared.spot.Spot.{Spot}
 use Rattle.rd_rows.specs.Mirrors.{mirror_image, leading_rests}
 use Rattle.rd_rows.specs.Placing.{glyph_in, fits, ends_row, placed_at, behind, next_row, next_line, line_start, columns_of, width_at}
-use Rattle.rd_rows.specs.Prefixes.{FillsColumns, StandFrom, fitted, prefix_of}
+use Rattle.rd_rows.specs.Prefixes.{FillsColumns, StandFrom, fitted}
 use Rattle.rd_rows.specs.Rows.{LaidRow, whole_cells, seen, seen_in, first_seen, mark, front_mark, scrolled, filled, last_cell, from_edge, row_of, laid, rows_from, rows_of, cutting_of}
 use Rattle.rd_rows.specs.Shapes.{ShapeValues, room, truncates}
 use Rattle.rd_rows.specs.Whole.{IsWhole, AreWhole, IsMark, IsMeasuredPrefix, ArePlacedMeasured, IsMeasuredCutting}

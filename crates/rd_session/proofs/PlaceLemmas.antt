@@ -4,7 +4,6 @@ use Rattle.std.specs.Prelude.{if◌then◌else◌, is_some, map}
 use Rattle.std.specs.List.{list_any, position_or_len}
 use Rattle.std.proofs.lemmas.Bool.Decides.{nat_tests}
 use Rattle.std.proofs.lemmas.List.{take_all, length-take}
-use Rattle.rd_base.specs.Cells.{single}
 use Rattle.rd_base.specs.declared.settings.Anchor.{Anchor}
 use Rattle.rd_matrix.specs.Cursors.{cursor_in}
 use Rattle.rd_matrix.specs.declared.matrix.Entry.{Entry}

@@ -7,7 +7,6 @@ use Rattle.std.proofs.lemmas.Bool.Decides.{nat_tests}
 use Rattle.std.proofs.lemmas.Grind.{flat_map-append}
 use Rattle.std.proofs.lemmas.List.{take-append-drop}
 use Rattle.std.proofs.lemmas.List.Folds.{list_any-append}
-use Rattle.rd_base.specs.Cells.{single}
 use Rattle.rd_matrix.specs.Columns.{covers, column_in, shown_column}
 use Rattle.rd_matrix.specs.Cursors.{or_below, column_shown, cursor_in}
 use Rattle.rd_matrix.specs.declared.matrix.Entry.{Entry}

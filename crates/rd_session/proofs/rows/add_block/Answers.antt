@@ -1,5 +1,4 @@
 use Rattle.std.proofs.Common.{arith}
-use Rattle.rd_base.specs.Cells.{single}
 use Rattle.rd_text.specs.Texts.{between}
 use Rattle.rd_session.proofs.AddLemmas.{adds-step}
 use Rattle.rd_session.proofs.CutLemmas.{block-ends, block-accessible, length-between}

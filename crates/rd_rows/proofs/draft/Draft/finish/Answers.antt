@@ -1,5 +1,5 @@
 use Rattle.rd_rows.proofs.Mirroring.{made-length}
-use Rattle.std.proofs.Common.{subst, arith, ◌≤◌, ◌<◌, ◌≡◌, ◌-◌, length}
+use Rattle.std.proofs.Common.{arith}
 use Rattle.rd_rows.proofs.draft.Draft.finish.Goals as goal
 
 pub made-requires : goal.made-requires

@@ -1,4 +1,4 @@
-use Rattle.std.proofs.Common.{arith, ◌<◌, ◌+◌, ◌/◌, ◌≤◌}
+use Rattle.std.proofs.Common.{arith}
 use Rattle.rd_rows.proofs.Fitting.{drop-at, fitting-stop, fitting-more, fitting-all}
 use Rattle.std.proofs.lemmas.List.{drop_all}
 use Rattle.rd_rows.proofs.prefix.Prefix.of.Goals as goal
