@@ -3,3 +3,5 @@ mod Places
 mod Rows
 mod Glyphs
 mod Prefixes
+mod Levels
+mod Lasts

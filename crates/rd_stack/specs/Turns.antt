@@ -1,5 +1,5 @@
 -- The order in which the places of a line are shown.
-use Rattle.std.specs.Prelude.{ℕ, ◌%◌, ◌==◌, Bool, if◌then◌else◌, List, length, map, replicate, slice_index}
+use Rattle.std.specs.Prelude.{◌≡◌, ℕ, ◌%◌, ◌<◌, ◌==◌, [], ◌∷◌, ◌++◌, All, Bool, if◌then◌else◌, List, length, map, replicate, slice_index}
 use Rattle.rd_base.specs.declared.class.Class.{Class}
 use Rattle.rd_levels.specs.Levels.{line_levels}
 use Rattle.rd_order.specs.Order.{visual_order}
@@ -19,3 +19,11 @@ turns_by base levels = map (turn_of levels) (visual_order base levels)
 -- the places of a line of these classes in visual order
 abbrev pub turns_of : Bool → ℕ → List Class → List Turn
 turns_of reorder base classes = turns_by base (levels_with reorder base classes)
+
+-- the place with this index comes last, and each other has a lower one
+pub record ComesLast (turns : List Turn) (n : ℕ) : Type 0 where
+  pub front : List Turn
+  pub last : Turn
+  pub whole : turns ≡ front ++ last ∷ []
+  pub index : last.index ≡ n
+  pub others : All (λ t. t.index < n) front
