@@ -1,1 +1,3 @@
+mod Equals
+mod Small
 mod Words

@@ -1,9 +1,10 @@
 -- Small cells with the same words are the same.
-use Rattle.std.proofs.Common.{◌≡◌, ℕ, zero, suc, ◌+◌, ◌*◌, ◌%◌, ◌<◌, Bool, true, false, List, get_or, refl, ap, sym, ◌∙◌, arith}
+use Rattle.std.proofs.Common.{◌≡◌, ℕ, zero, suc, ◌+◌, ◌*◌, ◌%◌, ◌<◌, Bool, true, false, get_or, refl, ap, sym, ◌∙◌, arith}
 use Rattle.std.proofs.lemmas.List.{ext_get_or}
 use Rattle.std.specs.Prelude.{slice_index}
 use Rattle.rd_base.specs.Faces.{Attributes}
 use Rattle.rd_base.specs.Cells.{bit_of, face_number, packed, glyph_number, words_of, HasColours, IsSmallGlyph, IsSmall}
+use Rattle.rd_base.proofs.Equals.{attributes-same, glyphs-same}
 use Rattle.rd_base.specs.declared.cell.Glyph.{Glyph}
 use Rattle.rd_base.specs.declared.cell.Cell.{Cell}
 use Rattle.rd_base.specs.declared.cell.Cell.TheVariants.{Blank, First, Rest}
@@ -52,11 +53,6 @@ face_number-small f h =
     let inverse = bit_of-small f.inverse in
     omega arith
 
-attributes-same : (a b c d : ℕ) (p q r s t u : Bool) → a ≡ c → b ≡ d → p ≡ s → q ≡ t → r ≡ u
-    → let x : Attributes = record { fg = a; bg = b; bold = p; underline = q; inverse = r } in
-    let y : Attributes = record { fg = c; bg = d; bold = s; underline = t; inverse = u } in x ≡ y
-attributes-same a b c d p q r s t u e f g h i = cc
-
 face_number-told : (f g : Attributes) → HasColours f → HasColours g → face_number f ≡ face_number g → f ≡ g
 face_number-told f g hf hg same =
     let fg = in_base_16 (f.fg % 16) _ (g.fg % 16) _ (omega arith) (omega arith) same in
@@ -83,11 +79,6 @@ below_six P a b c d e f (suc (suc (suc zero))) p = d
 below_six P a b c d e f (suc (suc (suc (suc zero)))) p = e
 below_six P a b c d e f (suc (suc (suc (suc (suc zero))))) p = f
 below_six P a b c d e f (suc (suc (suc (suc (suc (suc k)))))) p = absurd (omega arith)
-
-glyphs-same : (a b c d e f : ℕ) (xs ys : List ℕ) → a ≡ d → xs ≡ ys → b ≡ e → c ≡ f
-    → let x : Glyph = record { base = a; marks = xs; count = b; width = c } in
-    let y : Glyph = record { base = d; marks = ys; count = e; width = f } in x ≡ y
-glyphs-same a b c d e f xs ys p q r s = cc
 
 glyph_number-told : (g h : Glyph) → IsSmallGlyph g → IsSmallGlyph h → glyph_number g ≡ glyph_number h
     → packed (slice_index g.marks 1) (slice_index g.marks 2) (slice_index g.marks 3) ≡ packed (slice_index h.marks 1) (slice_index h.marks 2) (slice_index h.marks 3)

@@ -39,6 +39,16 @@ pub record HasColours (f : Attributes) : Type 0 where
   pub fg : f.fg ≤ 8
   pub bg : f.bg ≤ 8
 
+-- a cell whose colours are in their range
+abbrev pub IsColoured : Cell → Type 0
+IsColoured Rest = Unit {0}
+IsColoured (Blank f) = HasColours f
+IsColoured (First g f) = HasColours f
+
+-- rows of such cells
+abbrev pub AreColoured : List (List Cell) → Type 0
+AreColoured rows = All (λ row. All IsColoured row) rows
+
 -- a glyph whose codes are below 2^21, with at most 6 marks and 3 columns
 pub record IsSmallGlyph (g : Glyph) : Type 0 where
   pub base : g.base < 2097152

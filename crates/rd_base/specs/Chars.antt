@@ -1,5 +1,6 @@
 -- The codes of characters: scalar values of Unicode, and raw bytes behind them.
-use Rattle.std.specs.Prelude.{ℕ, Bool, nat_lt, nat_le, ◌&&◌, ◌||◌}
+use Rattle.std.specs.Prelude.{ℕ, Bool, nat_lt, nat_le, ◌&&◌, ◌||◌, if◌then◌else◌, List, []}
+use Rattle.std.specs.Char.{encode_utf8}
 
 -- a scalar value: a code point below 110000 (hexadecimal) that is no surrogate
 abbrev pub is_scalar : ℕ → Bool
@@ -11,3 +12,7 @@ is_raw n = nat_le 1114240 n && nat_lt n 1114368
 
 abbrev pub is_code : ℕ → Bool
 is_code n = is_scalar n || is_raw n
+
+-- a scalar value in UTF-8, and nothing for any other code
+abbrev pub encoded : ℕ → List ℕ
+encoded code = if is_scalar code then encode_utf8 code else []

@@ -1,8 +1,8 @@
 -- Elements of a line.
-use Rattle.std.specs.Prelude.{◌≡◌, ◌≤◌, List, [], ◌∷◌, Option, None, Some, Result, Ok, Err, All}
+use Rattle.std.specs.Prelude.{◌≡◌, ◌≤◌, ℕ, ◌+◌, Bool, true, false, not, ◌&&◌, List, [], ◌∷◌, Option, None, Some, Result, Ok, Err, All}
 use Rattle.rd_base.specs.declared.element.Element.{Element}
 use Rattle.rd_base.specs.declared.element.Extent.{Extent}
-use Rattle.rd_base.specs.declared.element.Extent.TheVariants.{Fixed, Tab}
+use Rattle.rd_base.specs.declared.element.Extent.TheVariants.{Fixed, Tab, Column}
 use Rattle.rd_base.specs.declared.element.Look.{Look}
 use Rattle.rd_base.specs.declared.element.Look.TheVariants.{Blank, Glyph, RowEnd, LineEnd}
 use Rattle.rd_base.specs.declared.memory.Memory.{Memory}
@@ -29,3 +29,24 @@ abbrev pub Takes : Result (Option Element) Memory → List Element → List Elem
 Takes (Ok (Some e)) old new = old ≡ e ∷ new
 Takes (Ok None) old new = (old ≡ []) × (new ≡ [])
 Takes (Err _) old new = Unit {0}
+
+-- the most columns that an extent can have
+abbrev pub width_at_most : Extent → ℕ
+width_at_most (Fixed n) = n
+width_at_most (Tab t) = t
+width_at_most (Column n) = n
+
+-- the most columns that elements can take
+abbrev pub columns_at_most : List Element → ℕ
+columns_at_most [] = 0
+columns_at_most (e ∷ es) = width_at_most e.extent + columns_at_most es
+
+abbrev pub is_line_end : Look → Bool
+is_line_end LineEnd = true
+is_line_end look = false
+
+-- whether the last element is a line end, and no other
+abbrev pub ends_once : List Element → Bool
+ends_once [] = false
+ends_once (e ∷ []) = is_line_end e.look
+ends_once (e ∷ f ∷ es) = not (is_line_end e.look) && ends_once (f ∷ es)

@@ -2,6 +2,7 @@ pub mod Cells
 pub mod Chars
 pub mod Classes
 pub mod Elements
+pub mod Equals
 pub mod Faces
 pub mod Glyphs
 pub mod Lines

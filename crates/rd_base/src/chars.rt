@@ -47,6 +47,14 @@ impl Ch {
         })
     }
 
+    /// The character of a code: a scalar value's number, or 1,114,112 plus a raw byte of 128 to 255.
+    pub fn from_code(code: u32) -> Ch
+        requires { IsTrue (is_code code) }
+        ensures { result ≡ code }
+    {
+        Ch { code }
+    }
+
     /// The scalar's number, or 1,114,112 plus the byte.
     pub fn code(self) -> u32
         ensures value { result ≡ self }

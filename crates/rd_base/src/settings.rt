@@ -84,9 +84,11 @@ pub struct Anchor {
     pub row: u32,
 }
 
-/// What becomes of a line that is longer than a row.
+/// What becomes of a line that is longer than a row: it is cut at the window's edge, goes on in the next row, or goes on there
+/// behind its last blank.
 #[derive(Clone, Copy, Debug, PartialEq, Eq)]
 pub enum Wrap {
     Truncate,
     Continue,
+    Word,
 }
