@@ -18,6 +18,3 @@ pub use laws::{
 };
 pub use overlay::{Kind, Overlay};
 pub use overlays::Overlays;
-
-#[cfg(test)]
-mod tests;

@@ -1,5 +1,5 @@
 //! Overlays with ample memory.
-use super::*;
+use rd_overlays::{Kind, OverlayFault, Overlays};
 use std::test::Fail;
 
 #[test]

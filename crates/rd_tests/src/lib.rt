@@ -1,0 +1,7 @@
+//! Tests of the layers by their public calls: outside vectors, printed text, limits, and each allocating call once
+//! with ample memory. One file a crate. They stand in a crate above those that they test, so that a crate's own proof
+//! and its must-fail edits never wait for them.
+#![tactic(auto)]
+
+#[cfg(test)]
+mod overlays;
