@@ -29,6 +29,3 @@ pub use steps::Steps;
 
 /// A place in a buffer's text, counted from 1.
 pub type Pos = u32;
-
-#[cfg(test)]
-mod tests;

@@ -4,4 +4,7 @@
 #![tactic(auto)]
 
 #[cfg(test)]
+mod base;
+
+#[cfg(test)]
 mod overlays;

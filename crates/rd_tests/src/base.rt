@@ -1,7 +1,7 @@
 //! The shared words on plain cases.
 ghost use Rattle.std.specs.Prelude.{◌≡◌, ◌<◌};
 
-use super::*;
+use rd_base::{Cell, Class, Face, Glyph, Line, ListOf, Steps};
 use std::marker::Brand;
 use std::sync::ledger::{Blank, Ledger};
 use std::test::Fail;
