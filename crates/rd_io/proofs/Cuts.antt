@@ -1,10 +1,10 @@
 -- Texts without a newline, and the lines of a text.
-use Rattle.std.proofs.Common.{◌≡◌, ◌≢◌, ℕ, zero, suc, ◌+◌, ◌<◌, ◌≤◌, ◌==◌, Bool, true, false, if◌then◌else◌, cond, List, [], ◌∷◌, ◌++◌, length, take, drop, get_or, Option, None, Some, refl, sym, ap, ◌∙◌, subst, append_assoc, append-nil, arith, add-one, MatchOption}
-use Rattle.std.specs.List.{AllByRecursion, position_from, flat_map}
+use Rattle.std.proofs.Common.{◌≡◌, ◌≢◌, ℕ, zero, suc, ◌+◌, ◌==◌, Bool, true, false, cond, List, [], ◌∷◌, ◌++◌, take, drop, Option, None, Some, refl, sym, ap, ◌∙◌, subst, append_assoc, arith, add-one, MatchOption}
+use Rattle.std.specs.List.{AllByRecursion, position_from}
 use Rattle.std.specs.Prelude.{position}
 use Rattle.std.proofs.lemmas.Bool.Decides.{nat_tests}
 use Rattle.std.proofs.lemmas.Iterator.Adapters.{position_from-zero}
-use Rattle.rd_io.specs.Lines.{IsUnbroken, lines_of, in_front, joined, last_of}
+use Rattle.rd_io.specs.Lines.{IsUnbroken, lines_of, joined, last_of}
 use Rattle.rd_io.specs.Pieces.{BreaksAt}
 
 pub unbroken-append : (xs ys : List ℕ) → IsUnbroken xs → IsUnbroken ys → IsUnbroken (xs ++ ys)

@@ -1,10 +1,10 @@
 -- The reading of one line, step by step.
-use Rattle.std.proofs.Common.{◌≡◌, ℕ, ◌+◌, ◌<◌, ◌≤◌, ◌⊎◌, inl, inr, List, [], ◌∷◌, ◌++◌, length, take, drop, Option, None, Some, Result, Ok, Err, refl, sym, ap, ◌∙◌, subst, append_assoc, append-nil, arith, length-append, Bool, true, false, ◌==◌}
+use Rattle.std.proofs.Common.{◌≡◌, ℕ, ◌<◌, ◌≤◌, ◌⊎◌, inl, inr, List, [], ◌∷◌, ◌++◌, length, take, drop, Option, None, Some, Result, Ok, Err, refl, sym, ap, ◌∙◌, subst, append_assoc, append-nil, arith, length-append, Bool, true, ◌==◌}
 use Rattle.std.proofs.lemmas.List.{take-append-le}
 use Rattle.std.specs.Io.KnownBytes.{Consumes, Keeps, IsAtEnd}
 use Rattle.std.proofs.KnownBytes.{Consumes-trans, Consumes-nil, Consumes-kept}
 use Rattle.rd_io.specs.Lines.{IsUnbroken, Cause}
-use Rattle.rd_io.specs.Pieces.{IsLine, IsLeft, TakesPiece, Gathers}
+use Rattle.rd_io.specs.Pieces.{IsLeft, TakesPiece, Gathers}
 use Rattle.rd_io.specs.declared.lines.Found.{Found}
 use Rattle.rd_io.specs.declared.lines.Found.TheVariants.{Whole, Last, Over}
 use Rattle.rd_io.specs.declared.lines.LineFault.{LineFault}

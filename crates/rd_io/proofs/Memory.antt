@@ -1,11 +1,10 @@
 -- Counts of files in memory.
-use Rattle.std.proofs.Common.{◌≡◌, ◌≢◌, ℕ, ◌+◌, ◌-◌, ◌^◌, ◌<◌, ◌≤◌, ◌⊎◌, ◌==◌, inl, inr, min, cond, true, List, [], ◌∷◌, ◌++◌, Option, None, Some, refl, sym, ap, ◌∙◌, subst, arith}
+use Rattle.std.proofs.Common.{◌≡◌, ℕ, ◌+◌, ◌-◌, ◌^◌, ◌<◌, ◌≤◌, ◌==◌, inl, min, cond, true, List, [], ◌∷◌, ◌++◌, Option, None, Some, sym, ap, ◌∙◌, subst, arith}
 use Rattle.std.proofs.lemmas.List.Sums.{sum_by_push}
 use Rattle.std.proofs.lemmas.Bool.Decides.{nat_tests}
-use Rattle.std.specs.List.{count_by, sum_by}
+use Rattle.std.specs.List.{count_by}
 use Rattle.rd_io.specs.Devices.{Rose, Fetches}
-use Rattle.std.proofs.Common.{length, take, drop, Ok, slice_get, String, Vec, Global}
-use Rattle.std.specs.Option.{option_map}
+use Rattle.std.proofs.Common.{length, take, drop, Ok, String, Vec, Global}
 use Rattle.rd_io.specs.Memory.{faults_at, bytes_at}
 
 counted : (m n : ℕ) → n ≡ min (m + 1) (2 ^ 64 - 1) → Rose m n

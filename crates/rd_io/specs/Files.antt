@@ -1,12 +1,13 @@
 -- What the steps of reading a whole file do.
-use Rattle.std.specs.Prelude.{◌≡◌, ℕ, ◌+◌, ◌<◌, ◌≤◌, Bool, true, false, List, ◌++◌, length, Option, None, Some, IfSome, Result, Ok, Err}
+use Rattle.std.specs.Prelude.{◌≡◌, ℕ, ◌+◌, ◌<◌, ◌≤◌, Bool, true, false, List, ◌++◌, length, Option, IfSome, Result, Ok, Err}
+use Rattle.rd_base.specs.declared.limits.TheConstants.{FILE_BYTES}
 use Rattle.rd_io.specs.declared.file.FileFault.{FileFault}
 use Rattle.rd_io.specs.declared.file.FileFault.TheVariants.{Failed, TooLarge, Memory}
 
 -- bytes are added, or there would be too many
 abbrev pub PutsBytes : Result Unit FileFault → List ℕ → List ℕ → List ℕ → Type 0
-PutsBytes (Ok _) old new piece = (new ≡ old ++ piece) × (length new ≤ 8388608)
-PutsBytes (Err TooLarge) old new piece = 8388608 < length old + length piece
+PutsBytes (Ok _) old new piece = (new ≡ old ++ piece) × (length new ≤ FILE_BYTES)
+PutsBytes (Err TooLarge) old new piece = FILE_BYTES < length old + length piece
 PutsBytes (Err Memory) old new piece = Unit {0}
 PutsBytes (Err Failed) old new piece = ⊥
 
@@ -16,7 +17,7 @@ IsFront bytes told = IfSome told (λ file. (rest : List ℕ) × (file ≡ bytes 
 
 -- a front of a file grows, or it is the whole file, or the file is too large
 abbrev pub FetchesMore : Result Bool FileFault → Option (List ℕ) → List ℕ → List ℕ → Type 0
-FetchesMore (Ok true) told old new = (length old < length new) × (length new ≤ 8388608) × (IsFront old told → IsFront new told)
+FetchesMore (Ok true) told old new = (length old < length new) × (length new ≤ FILE_BYTES) × (IsFront old told → IsFront new told)
 FetchesMore (Ok false) told old new = (new ≡ old) × (IsFront old told → IfSome told (λ file. old ≡ file))
-FetchesMore (Err TooLarge) told old new = IsFront old told → IfSome told (λ file. 8388608 < length file)
+FetchesMore (Err TooLarge) told old new = IsFront old told → IfSome told (λ file. FILE_BYTES < length file)
 FetchesMore (Err fault) told old new = Unit {0}

@@ -1,7 +1,8 @@
 -- The lines of a text, and what a reader of lines answers.
 use Rattle.std.specs.Prelude.{◌≡◌, ◌≢◌, ℕ, ◌+◌, ◌<◌, ◌≤◌, ◌⊎◌, ◌==◌, Bool, true, false, List, [], ◌∷◌, ◌++◌, length, take, if◌then◌else◌, Option, None, Some, Result, Ok, Err, flat_map}
 use Rattle.std.specs.List.{AllByRecursion}
-use Rattle.std.specs.Io.KnownBytes.{Consumes, IsAtEnd}
+use Rattle.std.specs.Io.KnownBytes.{IsAtEnd}
+use Rattle.rd_base.specs.declared.limits.TheConstants.{LINE_BYTES, LINES}
 use Rattle.rd_io.specs.declared.lines.LineFault.{LineFault}
 use Rattle.rd_io.specs.declared.lines.LineFault.TheVariants.{Failed, TooLong, TooMany, Memory}
 
@@ -44,8 +45,8 @@ unread = record { held = []; line = []; given = 0; ended = false; fault = None }
 -- a line may be given, and is: it has no newline and at most 1,048,576 bytes, and is not the 1,000,001st
 pub record Gives (old new : Reading) : Type 0 where
   pub unbroken : IsUnbroken new.line
-  pub short : length new.line ≤ 1048576
-  pub few : old.given < 1000000
+  pub short : length new.line ≤ LINE_BYTES
+  pub few : old.given < LINES
   pub count : new.given ≡ old.given + 1
   pub fault : new.fault ≡ None
 
@@ -76,9 +77,9 @@ pub record GivesNone (old new : Reading) (bytes : List ℕ) (left : Option (List
 -- When each fault comes: the source failed while the bytes held and taken had no newline, and neither limit was passed; more than
 -- 1,048,576 bytes have come without a newline; a byte has come that begins the 1,000,001st line; or memory was wanting.
 abbrev pub Cause : LineFault → ℕ → List ℕ → Type 0
-Cause Failed given come = IsUnbroken come × (length come ≤ 1048576) × ((given < 1000000) ⊎ (come ≡ []))
-Cause TooLong given come = (given < 1000000) × (1048576 < length come) × IsUnbroken (take 1048577 come)
-Cause TooMany given come = (1000000 ≤ given) × (0 < length come)
+Cause Failed given come = IsUnbroken come × (length come ≤ LINE_BYTES) × ((given < LINES) ⊎ (come ≡ []))
+Cause TooLong given come = (given < LINES) × (LINE_BYTES < length come) × IsUnbroken (take (LINE_BYTES + 1) come)
+Cause TooMany given come = (LINES ≤ given) × (0 < length come)
 Cause Memory given come = Unit {0}
 
 -- What the reader answers, where it took these bytes from the source, which then has this left.

@@ -1,6 +1,7 @@
 -- What the steps of reading one line do.
 use Rattle.std.specs.Prelude.{◌≡◌, ℕ, ◌+◌, ◌<◌, ◌≤◌, ◌⊎◌, List, [], ◌∷◌, ◌++◌, length, take, drop, Option, None, Some, Result, Ok, Err}
 use Rattle.std.specs.Io.KnownBytes.{IsAtEnd}
+use Rattle.rd_base.specs.declared.limits.TheConstants.{LINE_BYTES, LINES}
 use Rattle.rd_io.specs.Lines.{IsUnbroken, Cause}
 use Rattle.rd_io.specs.declared.lines.Found.{Found}
 use Rattle.rd_io.specs.declared.lines.Found.TheVariants.{Whole, Last, Over}
@@ -13,21 +14,21 @@ BreaksAt bytes i = (i < length bytes) × IsUnbroken (take i bytes) × (bytes ≡
 
 -- bytes are added to a line, or it would be too long
 abbrev pub PutsPiece : Result Unit LineFault → List ℕ → List ℕ → List ℕ → Type 0
-PutsPiece (Ok _) old new piece = (new ≡ old ++ piece) × (length new ≤ 1048576)
-PutsPiece (Err TooLong) old new piece = 1048576 < length old + length piece
+PutsPiece (Ok _) old new piece = (new ≡ old ++ piece) × (length new ≤ LINE_BYTES)
+PutsPiece (Err TooLong) old new piece = LINE_BYTES < length old + length piece
 PutsPiece (Err Memory) old new piece = Unit {0}
 PutsPiece (Err fault) old new piece = ⊥
 
 -- A line grows by what these bytes have of it: a piece before a newline, behind which n bytes are used up, or all of them.
 abbrev pub TakesPiece : Result (Option ℕ) LineFault → List ℕ → List ℕ → List ℕ → ℕ → Type 0
 TakesPiece (Ok (Some n)) old new bytes given =
-    (given < 1000000) × (n ≤ length bytes) × (length new ≤ 1048576)
+    (given < LINES) × (n ≤ length bytes) × (length new ≤ LINE_BYTES)
     × ((piece : List ℕ) × (bytes ≡ piece ++ 10 ∷ drop n bytes) × IsUnbroken piece × (new ≡ old ++ piece))
 TakesPiece (Ok None) old new bytes given =
-    (new ≡ old ++ bytes) × IsUnbroken bytes × ((bytes ≡ []) ⊎ ((given < 1000000) × (length new ≤ 1048576)))
+    (new ≡ old ++ bytes) × IsUnbroken bytes × ((bytes ≡ []) ⊎ ((given < LINES) × (length new ≤ LINE_BYTES)))
 TakesPiece (Err TooLong) old new bytes given =
-    (given < 1000000) × ((piece rest : List ℕ) × (bytes ≡ piece ++ rest) × IsUnbroken piece × (1048576 < length old + length piece))
-TakesPiece (Err TooMany) old new bytes given = (1000000 ≤ given) × (0 < length bytes)
+    (given < LINES) × ((piece rest : List ℕ) × (bytes ≡ piece ++ rest) × IsUnbroken piece × (LINE_BYTES < length old + length piece))
+TakesPiece (Err TooMany) old new bytes given = (LINES ≤ given) × (0 < length bytes)
 TakesPiece (Err Memory) old new bytes given = Unit {0}
 TakesPiece (Err Failed) old new bytes given = ⊥
 
@@ -40,8 +41,8 @@ IsLeft Whole line = ⊥
 -- a line that may be given
 pub record IsLine (line : List ℕ) (given : ℕ) : Type 0 where
   pub unbroken : IsUnbroken line
-  pub short : length line ≤ 1048576
-  pub few : given < 1000000
+  pub short : length line ≤ LINE_BYTES
+  pub few : given < LINES
 
 -- what the bytes that came begin with
 abbrev pub Gathers : Result Found LineFault → List ℕ → List ℕ → List ℕ → ℕ → Option (List ℕ) → Type 0

@@ -4,6 +4,7 @@ ghost use Rattle.rd_io.specs.Devices.{Rose};
 ghost use Rattle.rd_io.specs.Files.{FetchesMore, PutsBytes};
 
 use crate::traits::Files;
+use rd_base::limits::FILE_BYTES;
 use std::alloc::{AllocError, Global};
 use thiserror::Error;
 
@@ -33,7 +34,7 @@ impl From<AllocError> for FileFault {
 }
 
 /// The most bytes of a file.
-const LARGEST: usize = 8_388_608;
+const LARGEST: usize = FILE_BYTES as usize;
 
 /// How many bytes are fetched at a time.
 const ROOM: usize = 65_536;
@@ -46,8 +47,8 @@ const ROOM: usize = 65_536;
 /// the bytes that are read, and so is the memory.
 pub fn read_file<F: Files>(alloc: Global, files: &mut F, name: &str) -> Result<Vec<u8>, FileFault>
     ensures whole { IfOk result (λ bytes. IfSome (F.contents files.old name.now) (λ file. bytes.items ≡ file)) }
-    ensures small { IfOk result (λ bytes. length bytes.items ≤ 8388608) }
-    ensures large { IsErrOf result FileFault.TooLarge → IfSome (F.contents files.old name.now) (λ file. 8388608 < length file) }
+    ensures small { IfOk result (λ bytes. length bytes.items ≤ FILE_BYTES) }
+    ensures large { IsErrOf result FileFault.TooLarge → IfSome (F.contents files.old name.now) (λ file. FILE_BYTES < length file) }
     ensures contents { (file : List ℕ) → F.contents files.new file ≡ F.contents files.old file }
     ensures never_falls { (file : List ℕ) → F.faults files.old file ≤ F.faults files.new file }
     ensures failed { IsErrOf result FileFault.Failed → Rose (F.faults files.old name.now) (F.faults files.new name.now) }

@@ -9,6 +9,7 @@ ghost use Rattle.rd_io.specs.Pieces.{BreaksAt, IsLeft, PutsPiece, TakesPiece, Ga
 use crate::chunk::Chunk;
 use crate::traits::Source;
 use rd_base::Memory;
+use rd_base::limits::{LINE_BYTES, LINES};
 use std::alloc::Global;
 use std::marker::Model;
 use thiserror::Error;
@@ -30,10 +31,7 @@ pub enum LineFault {
 }
 
 /// The most bytes of a line, without its newline.
-const LONGEST: usize = 1_048_576;
-
-/// The most lines.
-const MOST: u32 = 1_000_000;
+const LONGEST: usize = LINE_BYTES as usize;
 
 /// The lines of a source, one at a time: its bytes are cut at each newline, byte 10, and what follows the last newline is a
 /// line where it is not empty.
@@ -184,7 +182,7 @@ fn take_piece(line: &mut Vec<u8>, bytes: &[u8], given: u32) -> Result<Option<usi
     if bytes.is_empty() {
         return Ok(None);
     }
-    if given >= MOST {
+    if given >= LINES {
         return Err(LineFault::TooMany);
     }
     match newline_in(bytes) {

@@ -1,4 +1,4 @@
-use Rattle.std.proofs.Common.{rules, ◌≡◌, ◌≤◌, ◌<◌, ◌++◌, ◌∙◌, ℕ, List, Option, arith, length, take, drop, IfSome, sym, ap, length-append}
+use Rattle.std.proofs.Common.{rules, ◌≡◌, ◌<◌, ◌++◌, ◌∙◌, ℕ, List, arith, length, ap}
 use Rattle.rd_io.proofs.Bytes.{front-grows, fetched-told, length-more}
 use Rattle.rd_io.proofs.file.fetch_more.Goals as goal
 

@@ -1,6 +1,6 @@
-use Rattle.std.proofs.Common.{◌≡◌, ◌∙◌, ℕ, List, Option, [], length, subst, sym, arith, None, Some, Ok, Err, inr}
+use Rattle.std.proofs.Common.{◌≡◌, ℕ, List, Option, [], subst, arith, None, Ok, Err, inr}
 use Rattle.rd_io.specs.Pieces.{TakesPiece, IsLeft}
-use Rattle.rd_io.proofs.Gathering.{Gathering, gathers-fault, gathering-goes_on, gathers-end, emptied, unbroken-first}
+use Rattle.rd_io.proofs.Gathering.{gathers-fault, gathering-goes_on, gathers-end, emptied, unbroken-first}
 use Rattle.rd_io.proofs.lines.gather.Goals as goal
 
 pub returns-in-Err-clause-gathers : goal.returns-in-Err-clause-gathers

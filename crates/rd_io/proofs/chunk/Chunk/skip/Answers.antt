@@ -1,4 +1,3 @@
-use Rattle.std.proofs.Common.{◌∙◌, ap, drop}
 use Rattle.rd_io.proofs.Bytes.{range-skipped}
 use Rattle.rd_io.proofs.chunk.Chunk.skip.Goals as goal
 

@@ -1,4 +1,4 @@
-use Rattle.std.proofs.Common.{◌≡◌, ◌∙◌, ℕ, Some, None, take, sym, ap, if◌then◌else◌, ◌++◌, ◌∷◌, [], List}
+use Rattle.std.proofs.Common.{◌∙◌, Some, take, sym, ap, if◌then◌else◌, ◌++◌, ◌∷◌, []}
 use Rattle.rd_io.specs.Memory.{place_in, bytes_at}
 use Rattle.rd_io.proofs.Memory.{rose-missing, rose-place, fetched-held}
 use Rattle.rd_io.proofs.memory_files.MemFilesFiles.fetch.Goals as goal
