@@ -1,5 +1,4 @@
 mod Among
-mod Answered
 mod Cuts
 mod Halves
 mod Large

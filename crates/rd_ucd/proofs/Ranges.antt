@@ -6,8 +6,7 @@ use Rattle.std.proofs.lemmas.Bool.{cases_eq}
 use Rattle.std.proofs.lemmas.List.{get_or_default}
 use Rattle.rd_base.specs.declared.class.Class.TheVariants.{L}
 use Rattle.rd_ucd.specs.declared.spans.Span.{Span}
-use Rattle.rd_ucd.specs.declared.spans.Pair.{Pair}
-use Rattle.rd_ucd.specs.Lookup.{class_in, mirror_in}
+use Rattle.rd_ucd.specs.Lookup.{class_in, entry_in}
 
 outside : (a b c : ℕ) → (b < c) ⊎ (c < a) → (nat_le a c && nat_le c b) ≡ false
 outside a b c (inl above) = grind (arith, nat_tests)
@@ -41,23 +40,23 @@ eq_no a b (inr less) = grind (arith, nat_tests)
 eq_yes : (a b : ℕ) → a ≡ b → (a == b) ≡ true
 eq_yes a b e = grind (arith, nat_tests)
 
--- no pair has the code
-pub mirror_in-miss : (pairs : List Pair) (code : ℕ)
-    → ((i : ℕ) (d : Pair) → i < length pairs → ((get_or pairs i d).code < code) ⊎ (code < (get_or pairs i d).code)) → mirror_in pairs code ≡ None
-mirror_in-miss [] code out = refl
-mirror_in-miss (p ∷ ps) code out =
-    ap (λ (t : Bool). if t then Some p.mirror else mirror_in ps code) (eq_no p.code code (out 0 p (omega arith)))
-    ∙ mirror_in-miss ps code (λ i d within. out (suc i) d (omega arith))
+-- no entry has the code
+pub entry_in-miss : {E : Type 0} (key : E → ℕ) (es : List E) (code : ℕ)
+    → ((i : ℕ) (d : E) → i < length es → (key (get_or es i d) < code) ⊎ (code < key (get_or es i d))) → entry_in key es code ≡ None
+entry_in-miss key [] code out = refl
+entry_in-miss key (e ∷ es) code out =
+    ap (λ (t : Bool). if t then Some e else entry_in key es code) (eq_no (key e) code (out 0 e (omega arith)))
+    ∙ entry_in-miss key es code (λ i d within. out (suc i) d (omega arith))
 
--- the first pair that has the code
-pub mirror_in-hit : (pairs : List Pair) (code i : ℕ) (d : Pair) → i < length pairs → (get_or pairs i d).code ≡ code
-    → ((k : ℕ) (d : Pair) → k < i → (get_or pairs k d).code < code) → mirror_in pairs code ≡ Some (get_or pairs i d).mirror
-mirror_in-hit [] code i d within is out = absurd (omega arith)
-mirror_in-hit (p ∷ ps) code zero d within is out =
-    ap (λ (t : Bool). if t then Some p.mirror else mirror_in ps code) (eq_yes p.code code is)
-mirror_in-hit (p ∷ ps) code (suc i) d within is out =
-    ap (λ (t : Bool). if t then Some p.mirror else mirror_in ps code) (eq_no p.code code (inl (out 0 p (omega arith))))
-    ∙ mirror_in-hit ps code i d (omega arith) is (λ k e less. out (suc k) e (omega arith))
+-- the first entry that has the code
+pub entry_in-hit : {E : Type 0} (key : E → ℕ) (es : List E) (code i : ℕ) (d : E) → i < length es → key (get_or es i d) ≡ code
+    → ((k : ℕ) (d : E) → k < i → key (get_or es k d) < code) → entry_in key es code ≡ Some (get_or es i d)
+entry_in-hit key [] code i d within is out = absurd (omega arith)
+entry_in-hit key (e ∷ es) code zero d within is out =
+    ap (λ (t : Bool). if t then Some e else entry_in key es code) (eq_yes (key e) code is)
+entry_in-hit key (e ∷ es) code (suc i) d within is out =
+    ap (λ (t : Bool). if t then Some e else entry_in key es code) (eq_no (key e) code (inl (out 0 e (omega arith))))
+    ∙ entry_in-hit key es code i d (omega arith) is (λ k f less. out (suc k) f (omega arith))
 
 -- the last code of a range at another default
 pub default_last : (spans : List Span) (i j code : ℕ) (d e : Span) → i < length spans → i ≡ j → (get_or spans j e).last < code → (get_or spans i d).last < code
@@ -65,8 +64,8 @@ default_last spans i j code d e within same less =
     let here : (get_or spans i d).last ≡ (get_or spans j e).last = ap (λ (s : Span). s.last) (get_or_default spans i d e within ∙ ap (λ (k : ℕ). get_or spans k e) same) in
     omega arith
 
-pub default_code : (pairs : List Pair) (i j : ℕ) (d e : Pair) → i < length pairs → i ≡ j → (get_or pairs i d).code ≡ (get_or pairs j e).code
-default_code pairs i j d e within same = ap (λ (p : Pair). p.code) (get_or_default pairs i d e within ∙ ap (λ (k : ℕ). get_or pairs k e) same)
+pub default_key : {E : Type 0} (key : E → ℕ) (es : List E) (i j : ℕ) (d e : E) → i < length es → i ≡ j → key (get_or es i d) ≡ key (get_or es j e)
+default_key key es i j d e within same = ap key (get_or_default es i d e within ∙ ap (λ (k : ℕ). get_or es k e) same)
 
 pub strictly : (a b code : ℕ) → a ≤ code → a ≡ b → (b ≡ code → ⊥) → a < code
 strictly a b code low same other = elim (cases_eq b code) [ inl e ↦ absurd (other e) | inr different ↦ omega arith ]

@@ -1,6 +1,6 @@
 -- The class file: lines in the form of `UnicodeData.txt`, and the ranges of codes that they stand for.
 use Rattle.std.specs.Prelude.{ℕ, suc, nat_eq, nat_lt, ◌==◌, Bool, true, false, not, ◌&&◌, if◌then◌else◌, List, [], ◌∷◌, length, slice_index_or, Option, None, Some, option_to_list, Result, Ok, Err, codes}
-use Rattle.std.specs.List.{slice_split, ends_with}
+use Rattle.std.specs.List.{ends_with}
 use Rattle.rd_base.specs.declared.class.Class.{Class}
 use Rattle.rd_ucd.specs.declared.fault.UcdFault.{UcdFault}
 use Rattle.rd_ucd.specs.declared.fault.UcdFault.TheVariants.{BadLine, BadCode, BadClass, NotAscending, BadRange}
@@ -10,6 +10,7 @@ use Rattle.rd_ucd.specs.declared.entries.Mark.TheVariants.{Alone, First, Last}
 use Rattle.rd_ucd.specs.declared.entries.Entry.{Entry}
 use Rattle.rd_ucd.specs.declared.entries.Opened.{Opened}
 use Rattle.rd_ucd.specs.Pieces.{chomped}
+use Rattle.rd_ucd.specs.Lines.{lines_of, fields_of, entries_in}
 use Rattle.rd_ucd.specs.Results.{behind}
 use Rattle.rd_ucd.specs.Codes.{code_of}
 use Rattle.rd_ucd.specs.Names.{named, same_class}
@@ -30,14 +31,13 @@ entry_of_fields n fields =
     then coded n (code_of (slice_index_or fields 0 [])) (mark_of (slice_index_or fields 1 [])) (named (slice_index_or fields 4 []))
     else Err (BadLine n)
 
-abbrev pub entry_of : ℕ → List ℕ → Result Entry UcdFault
-entry_of n line = entry_of_fields n (slice_split (λ b. b == 59) line)
+-- an empty line is passed over
+abbrev pub is_empty_line : List ℕ → Bool
+is_empty_line line = length (chomped line) == 0
 
--- the entries of lines from number n on, each with its number. An empty line is passed over
-abbrev pub entries_from : ℕ → List (List ℕ) → List (ℕ × Result Entry UcdFault)
-entries_from n [] = []
-entries_from n (line ∷ lines) =
-    if length (chomped line) == 0 then entries_from (suc n) lines else (n, entry_of n (chomped line)) ∷ entries_from (suc n) lines
+-- the entry of line n
+abbrev pub entry_of : ℕ → List ℕ → Result Entry UcdFault
+entry_of n line = entry_of_fields n (fields_of (chomped line))
 
 abbrev pub is_last : Mark → Bool
 is_last Last = true
@@ -82,4 +82,4 @@ spans_from least opened ((n, Ok e) ∷ entries) =
 
 -- the ranges that a class file stands for, or its first fault
 abbrev pub classes_of : List ℕ → Result (List Span) UcdFault
-classes_of bytes = spans_from 0 None (entries_from 1 (slice_split (λ b. b == 10) bytes))
+classes_of bytes = spans_from 0 None (entries_in is_empty_line entry_of (lines_of bytes))

@@ -1,5 +1,9 @@
+pub mod BracketFile
 pub mod ClassFile
 pub mod Codes
+pub mod Data
+pub mod Lines
+pub mod ListFile
 pub mod Lookup
 pub mod MirrorFile
 pub mod Names

@@ -1,34 +1,33 @@
 -- Reading a class file line by line, against what the whole file stands for.
-use Rattle.std.specs.Prelude.{◌≡◌, ℕ, suc, ◌<◌, List, ◌∷◌, length, slice_index_or, IfSome, Result, Ok, Err}
+use Rattle.std.specs.Prelude.{◌≡◌, ℕ, ◌<◌, List, ◌∷◌, length, slice_index_or, IfSome, Result, Ok, Err}
 use Rattle.rd_ucd.specs.declared.fault.UcdFault.{UcdFault}
 use Rattle.rd_ucd.specs.declared.fault.UcdFault.TheVariants.{Memory}
 use Rattle.rd_ucd.specs.declared.spans.Span.{Span}
 use Rattle.rd_ucd.specs.declared.entries.Entry.{Entry}
 use Rattle.rd_ucd.specs.declared.reader.Reader.{Reader}
 use Rattle.rd_ucd.specs.Lookup.{IsAscending}
-use Rattle.rd_ucd.specs.ClassFile.{entries_from, spans_from}
+use Rattle.rd_ucd.specs.Lines.{entries_in}
+use Rattle.rd_ucd.specs.ClassFile.{is_empty_line, entry_of, spans_from}
 use Rattle.rd_ucd.specs.Results.{behind}
 
-abbrev pub AreBelow : ℕ → List Span → Type 0
-AreBelow code spans = (i : ℕ) (d : Span) → i < length spans → (slice_index_or spans i d).last < code
+abbrev pub AreSpansBelow : ℕ → List Span → Type 0
+AreSpansBelow code spans = (i : ℕ) (d : Span) → i < length spans → (slice_index_or spans i d).last < code
 
 -- the ranges that were read ascend, below the code of a First that waits and below `least`
 pub record IsReading (reader : Reader) : Type 0 where
   pub ascending : IsAscending reader.spans
-  pub below : AreBelow reader.least reader.spans
-  pub opened : IfSome reader.opened (λ o. (o.code < reader.least) × AreBelow o.code reader.spans)
+  pub below : AreSpansBelow reader.least reader.spans
+  pub opened : IfSome reader.opened (λ o. (o.code < reader.least) × AreSpansBelow o.code reader.spans)
 
--- what the file stands for, where these entries are left
+-- what the file stands for, where these entries are left, or these lines
 abbrev pub whole : Reader → List (ℕ × Result Entry UcdFault) → Result (List Span) UcdFault
 whole reader entries = behind reader.spans (spans_from reader.least reader.opened entries)
+
+abbrev pub whole_lines : Reader → List (ℕ × List ℕ) → Result (List Span) UcdFault
+whole_lines reader lines = whole reader (entries_in is_empty_line entry_of lines)
 
 -- taking an entry changes nothing in the whole, whatever follows
 abbrev pub TakesEntry : {T : Type 0} → Result T UcdFault → Reader → Reader → ℕ → Entry → Type 0
 TakesEntry (Ok _) old new n e = (entries : List (ℕ × Result Entry UcdFault)) → whole old ((n, Ok e) ∷ entries) ≡ whole new entries
 TakesEntry (Err Memory) old new n e = Unit {0}
 TakesEntry (Err fault) old new n e = (entries : List (ℕ × Result Entry UcdFault)) → whole old ((n, Ok e) ∷ entries) ≡ Err fault
-
-abbrev pub ReadsLine : {T : Type 0} → Result T UcdFault → Reader → Reader → ℕ → List ℕ → Type 0
-ReadsLine (Ok _) old new n line = (lines : List (List ℕ)) → whole old (entries_from n (line ∷ lines)) ≡ whole new (entries_from (suc n) lines)
-ReadsLine (Err Memory) old new n line = Unit {0}
-ReadsLine (Err fault) old new n line = (lines : List (List ℕ)) → whole old (entries_from n (line ∷ lines)) ≡ Err fault

@@ -6,7 +6,7 @@ ghost use Rattle.rd_ucd.specs.Results.{behind, Answers};
 ghost use Rattle.rd_ucd.specs.Reading.{IsReading};
 
 use crate::fault::UcdFault;
-use crate::pieces::split_first;
+use crate::lines::read_lines;
 use crate::reader::Reader;
 use crate::search::count_up_to;
 use crate::spans::Span;
@@ -47,20 +47,9 @@ impl Classes {
     pub fn read(alloc: Global, bytes: &[u8]) -> Result<Classes, UcdFault>
         ensures { Answers result (classes_of bytes.now) }
     {
-        let mut reader = Reader::new(alloc);
-        let mut rest = bytes;
-        let mut number = 1;
-        'lines: loop {
-            let (line, more) = split_first(rest, b'\n');
-            match reader.read_line(number, line) {
-                Ok(()) => {}
-                Err(fault) => return Err(fault),
-            }
-            match more {
-                None => return finish(reader),
-                Some(more) => rest = more,
-            }
-            number += 1;
+        match read_lines(Reader::new(alloc), bytes) {
+            Ok(reader) => finish(reader),
+            Err(fault) => Err(fault),
         }
     }
 

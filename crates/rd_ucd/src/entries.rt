@@ -1,6 +1,7 @@
 //! The entries of a class file.
 ghost use Rattle.std.specs.Prelude.{◌≡◌, ◌≤◌, IfOk};
-ghost use Rattle.rd_ucd.specs.ClassFile.{entry_of, mark_of};
+ghost use Rattle.rd_ucd.specs.Lines.{fields_of};
+ghost use Rattle.rd_ucd.specs.ClassFile.{entry_of_fields, mark_of};
 
 use crate::codes::read_code;
 use crate::fault::UcdFault;
@@ -34,7 +35,7 @@ pub struct Opened {
 
 /// Reads a line, which is not empty, of this number.
 pub fn read_entry(line: &[u8], number: u64) -> Result<Entry, UcdFault>
-    ensures value { result ≡ entry_of number line.now }
+    ensures value { result ≡ entry_of_fields number (fields_of line.now) }
     ensures bound { IfOk result (λ entry. entry.code ≤ 1114111) }
 {
     let Some(class) = field(line, 4) else {

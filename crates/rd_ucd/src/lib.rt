@@ -1,11 +1,15 @@
-//! The Unicode data files that the redisplay reads: bidirectional classes in the form of `UnicodeData.txt`, and mirrored
-//! characters in the form of `BidiMirroring.txt`.
+//! The Unicode data files that the redisplay reads: bidirectional classes in the form of `UnicodeData.txt`, mirrored
+//! characters in the form of `BidiMirroring.txt`, and brackets in the form of `BidiBrackets.txt`.
 #![tactic(auto)]
 
+mod brackets;
 mod classes;
 mod codes;
 mod entries;
+mod examples;
 mod fault;
+mod lines;
+mod listing;
 mod mirrors;
 mod names;
 mod pieces;
@@ -13,9 +17,9 @@ mod reader;
 mod search;
 mod spans;
 
+pub use brackets::Brackets;
 pub use classes::Classes;
 pub use fault::UcdFault;
 pub use mirrors::Mirrors;
+pub use spans::Bracket;
 
-#[cfg(test)]
-mod tests;

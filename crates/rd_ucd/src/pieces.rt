@@ -1,6 +1,7 @@
 //! Cutting bytes into lines, and lines into fields.
 ghost use Rattle.std.specs.Prelude.{◌≡◌, ◌≢◌, ◌==◌, ℕ, slice_index, ◌<◌, ◌≤◌, [], ◌∷◌, length, drop, MatchOption, slice_index_or};
 ghost use Rattle.std.specs.List.{slice_split};
+ghost use Rattle.rd_ucd.specs.Lines.{fields_of};
 ghost use Rattle.rd_ucd.specs.Pieces.{chomped, uncommented, trimmed, trimmed_front, trimmed_back, is_blank};
 
 /// The bytes before the first separator, and those behind it, if there is one.
@@ -34,8 +35,8 @@ fn length_before(bytes: &[u8], separator: u8) -> usize
 /// The field at an index, from 0, of a line that is cut at each `;`.
 pub fn field(line: &[u8], index: usize) -> Option<&[u8]>
     ensures { MatchOption result
-        (length (slice_split (λ b. b == 59) line.now) ≤ index)
-        (λ field. (index < length (slice_split (λ b. b == 59) line.now)) × (slice_index_or (slice_split (λ b. b == 59) line.now) index [] ≡ field.now)) }
+        (length (fields_of line.now) ≤ index)
+        (λ field. (index < length (fields_of line.now)) × (slice_index_or (fields_of line.now) index [] ≡ field.now)) }
 {
     let mut rest = line;
     for _i in 0..index {

@@ -4,6 +4,7 @@ ghost use Rattle.rd_ucd.specs.ClassFile.{fault_of, span_by, opened_by, closes};
 
 use crate::entries::{Entry, Mark, Opened, read_entry};
 use crate::fault::UcdFault;
+use crate::lines::LineReader;
 use crate::names::is_same;
 use crate::pieces::without_return;
 use crate::spans::Span;
@@ -20,7 +21,7 @@ pub struct Reader {
 
 impl Reader {
     ghost use Rattle.std.specs.Prelude.{◌≡◌, [], None, ◌≤◌};
-    ghost use Rattle.rd_ucd.specs.Reading.{IsReading, ReadsLine, TakesEntry};
+    ghost use Rattle.rd_ucd.specs.Reading.{IsReading, TakesEntry};
 
     /// Nothing was read.
     pub fn new(alloc: Global) -> Reader
@@ -33,22 +34,6 @@ impl Reader {
             spans: ListOf::new(alloc),
             least: 0,
             opened: None,
-        }
-    }
-
-    /// Reads the line of a number.
-    pub fn read_line(&mut self, number: u64, line: &[u8]) -> Result<(), UcdFault>
-        requires { IsReading self.old }
-        ensures reading { IsReading self.new }
-        ensures line { ReadsLine result self.old self.new number line.now }
-    {
-        let line = without_return(line);
-        if line.len() == 0 {
-            return Ok(());
-        }
-        match read_entry(line, number) {
-            Ok(entry) => self.take(number, entry),
-            Err(fault) => Err(fault),
         }
     }
 
@@ -66,6 +51,27 @@ impl Reader {
         self.opened = opened(number, entry);
         self.least = entry.code + 1;
         Ok(())
+    }
+}
+
+impl LineReader for Reader {
+    ghost use Rattle.rd_ucd.specs.Reading.{IsReading, whole_lines};
+
+    type Value = Span;
+
+    ghost is_reading = { IsReading };
+
+    ghost whole = { whole_lines };
+
+    fn read_line(&mut self, number: u64, line: &[u8]) -> Result<(), UcdFault> {
+        let line = without_return(line);
+        if line.len() == 0 {
+            return Ok(());
+        }
+        match read_entry(line, number) {
+            Ok(entry) => self.take(number, entry),
+            Err(fault) => Err(fault),
+        }
     }
 }
 

@@ -1,4 +1,4 @@
-//! What the files stand for: ranges of codes with a class, and codes with their mirrored characters.
+//! What the files stand for: ranges of codes with a class, codes with their mirrored characters, and codes with their brackets.
 ghost use Rattle.std.specs.Prelude.{◌≡◌};
 
 use crate::search::Keyed;
@@ -29,6 +29,30 @@ pub struct Pair {
 
 impl Keyed for Pair {
     ghost key = { λ pair. pair.code };
+
+    fn key(&self) -> u32 {
+        self.code
+    }
+}
+
+/// What a bracket does, with the code of its partner (UAX 9 BD14, BD15).
+#[derive(Clone, Copy, Debug, PartialEq, Eq)]
+pub enum Bracket {
+    /// It opens what the partner closes.
+    Opens(u32),
+    /// It closes what the partner opens.
+    Closes(u32),
+}
+
+/// A code and its bracket.
+#[derive(Clone, Copy, Debug)]
+pub struct BracketEntry {
+    pub code: u32,
+    pub bracket: Bracket,
+}
+
+impl Keyed for BracketEntry {
+    ghost key = { λ entry. entry.code };
 
     fn key(&self) -> u32 {
         self.code

@@ -1,0 +1,116 @@
+//! Files that list codes with something each.
+ghost use Rattle.std.specs.Prelude.{◌≡◌, IfOk, ◌≤◌};
+ghost use Rattle.rd_ucd.specs.Lines.{fields_of};
+ghost use Rattle.rd_ucd.specs.Lookup.{AreAscending};
+ghost use Rattle.rd_ucd.specs.ListFile.{codes_of, trimmed_field, listed_in};
+ghost use Rattle.rd_ucd.specs.Results.{Answers};
+
+use crate::codes::read_code;
+use crate::fault::UcdFault;
+use crate::lines::{LineReader, read_lines};
+use crate::pieces::{before_comment, field, trim, without_return};
+use crate::search::Keyed;
+use rd_base::ListOf;
+use std::alloc::Global;
+
+/// An entry of such a file, which is made of the fields of a line.
+pub trait Listed: Keyed + Copy {
+    ghost use Rattle.std.specs.Prelude.{◌≡◌, ◌≤◌, ℕ, List, Result, IfOk};
+    ghost use Rattle.rd_ucd.specs.declared.fault.UcdFault.{UcdFault};
+    ghost use Rattle.rd_ucd.specs.Lines.{fields_of};
+
+    ghost of_fields: { ℕ → List (List ℕ) → Result Self UcdFault };
+
+    /// Reads the line of a number, without its comment.
+    fn read(line: &[u8], number: u64) -> Result<Self, UcdFault>
+        ensures value { result ≡ of_fields number (fields_of line.now) }
+        ensures bound { IfOk result (λ entry. Self.key entry ≤ 1114111) };
+}
+
+/// What was read so far: the entries, and one more than the code of the last of them.
+#[derive(Drop)]
+struct Listing<E> {
+    entries: ListOf<E>,
+    least: u32,
+}
+
+impl<E: Listed> LineReader for Listing<E> {
+    ghost use Rattle.rd_ucd.specs.Lookup.{AreAscending};
+    ghost use Rattle.rd_ucd.specs.ListFile.{AreBelow, listed_from};
+    ghost use Rattle.rd_ucd.specs.Results.{behind};
+
+    type Value = E;
+
+    ghost is_reading = { λ s. AreAscending E.key s.entries × AreBelow E.key s.least s.entries };
+
+    ghost whole = { λ s lines. behind s.entries (listed_from E.key E.of_fields s.least lines) };
+
+    fn read_line(&mut self, number: u64, line: &[u8]) -> Result<(), UcdFault> {
+        let line = before_comment(without_return(line));
+        if trim(line).is_empty() {
+            return Ok(());
+        }
+        let entry = match E::read(line, number) {
+            Ok(entry) => entry,
+            Err(fault) => return Err(fault),
+        };
+        let code = entry.key();
+        if code < self.least {
+            return Err(UcdFault::NotAscending(number));
+        }
+        self.entries.push(entry)?;
+        self.least = code + 1;
+        Ok(())
+    }
+}
+
+/// Reads a file of such lines. They end at byte 10, before which one byte 13 is dropped; the last may lack it. From `#` on a line
+/// is a comment, and a line of nothing but spaces and tabs before that is passed over. The codes ascend.
+pub fn read_listing<E: Listed>(alloc: Global, bytes: &[u8]) -> Result<ListOf<E>, UcdFault>
+    ensures listed { Answers result (listed_in E.key E.of_fields bytes.now) }
+    ensures ascending { IfOk result (λ entries. AreAscending E.key entries) }
+{
+    let empty = Listing {
+        entries: ListOf::new(alloc),
+        least: 0,
+    };
+    match read_lines(empty, bytes) {
+        Ok(listing) => Ok(listing.entries),
+        Err(fault) => Err(fault),
+    }
+}
+
+/// The two codes that a line begins with.
+#[derive(Clone, Copy)]
+pub struct Codes {
+    pub code: u32,
+    pub other: u32,
+}
+
+/// Reads the two codes that a line of just so many fields begins with.
+pub fn read_codes(line: &[u8], count: usize, number: u64) -> Result<Codes, UcdFault>
+    requires { 2 ≤ count }
+    ensures value { result ≡ codes_of count number (fields_of line.now) }
+    ensures bound { IfOk result (λ both. both.code ≤ 1114111) }
+{
+    if field(line, count).is_some() || field(line, count - 1).is_none() {
+        return Err(UcdFault::BadLine(number));
+    }
+    let Some(code) = read_code(trimmed_field(line, 0)) else {
+        return Err(UcdFault::BadCode(number));
+    };
+    let Some(other) = read_code(trimmed_field(line, 1)) else {
+        return Err(UcdFault::BadCode(number));
+    };
+    Ok(Codes { code, other })
+}
+
+/// The field at an index, from 0, without the spaces and tabs round it, and nothing where there are fewer fields.
+pub fn trimmed_field(line: &[u8], index: usize) -> &[u8]
+    ensures { result.now ≡ trimmed_field (fields_of line.now) index }
+{
+    match field(line, index) {
+        Some(field) => trim(field),
+        None => line.split_at(0).0,
+    }
+}
