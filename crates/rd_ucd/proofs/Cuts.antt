@@ -7,10 +7,10 @@ use Rattle.std.proofs.lemmas.List.{drop-drop, length-drop, get_or-drop, drop_mor
 use Rattle.std.proofs.lemmas.List.Splits.{slice_split-cons_yes, slice_split-cons_no}
 use Rattle.rd_ucd.specs.Pieces.{chomped, uncommented, is_blank, trimmed_front, trimmed_back}
 
-eq_yes : (a b : ℕ) → a ≡ b → (a == b) ≡ true
+pub eq_yes : (a b : ℕ) → a ≡ b → (a == b) ≡ true
 eq_yes a b e = grind (arith, nat_tests)
 
-eq_no : (a b : ℕ) → a ≢ b → (a == b) ≡ false
+pub eq_no : (a b : ℕ) → a ≢ b → (a == b) ≡ false
 eq_no a b e = grind (arith, nat_tests)
 
 pub first_of_pieces : (piece : List ℕ) (more all : List (List ℕ)) → all ≡ piece ∷ more → all ≡ piece ∷ drop 1 all

@@ -6,6 +6,7 @@ use Rattle.std.proofs.lemmas.Bool.{cases_eq}
 use Rattle.std.proofs.lemmas.List.{get_or_default}
 use Rattle.rd_base.specs.declared.class.Class.TheVariants.{L}
 use Rattle.rd_ucd.specs.declared.spans.Span.{Span}
+use Rattle.rd_ucd.proofs.Cuts.{eq_yes, eq_no}
 use Rattle.rd_ucd.specs.Lookup.{class_in, entry_in}
 
 outside : (a b c : ℕ) → (b < c) ⊎ (c < a) → (nat_le a c && nat_le c b) ≡ false
@@ -33,19 +34,16 @@ class_in-hit (s ∷ ss) code (suc i) d within from to out =
     ap (λ (t : Bool). if t then s.class else class_in ss code) (outside s.first s.last code (inl (out 0 s (omega arith))))
     ∙ class_in-hit ss code i d (omega arith) from to (λ k e less. out (suc k) e (omega arith))
 
-eq_no : (a b : ℕ) → (a < b) ⊎ (b < a) → (a == b) ≡ false
-eq_no a b (inl less) = grind (arith, nat_tests)
-eq_no a b (inr less) = grind (arith, nat_tests)
-
-eq_yes : (a b : ℕ) → a ≡ b → (a == b) ≡ true
-eq_yes a b e = grind (arith, nat_tests)
+other : (a b : ℕ) → (a < b) ⊎ (b < a) → (a == b) ≡ false
+other a b (inl less) = eq_no a b (λ e. omega arith)
+other a b (inr less) = eq_no a b (λ e. omega arith)
 
 -- no entry has the code
 pub entry_in-miss : {E : Type 0} (key : E → ℕ) (es : List E) (code : ℕ)
     → ((i : ℕ) (d : E) → i < length es → (key (get_or es i d) < code) ⊎ (code < key (get_or es i d))) → entry_in key es code ≡ None
 entry_in-miss key [] code out = refl
 entry_in-miss key (e ∷ es) code out =
-    ap (λ (t : Bool). if t then Some e else entry_in key es code) (eq_no (key e) code (out 0 e (omega arith)))
+    ap (λ (t : Bool). if t then Some e else entry_in key es code) (other (key e) code (out 0 e (omega arith)))
     ∙ entry_in-miss key es code (λ i d within. out (suc i) d (omega arith))
 
 -- the first entry that has the code
@@ -55,7 +53,7 @@ entry_in-hit key [] code i d within is out = absurd (omega arith)
 entry_in-hit key (e ∷ es) code zero d within is out =
     ap (λ (t : Bool). if t then Some e else entry_in key es code) (eq_yes (key e) code is)
 entry_in-hit key (e ∷ es) code (suc i) d within is out =
-    ap (λ (t : Bool). if t then Some e else entry_in key es code) (eq_no (key e) code (inl (out 0 e (omega arith))))
+    ap (λ (t : Bool). if t then Some e else entry_in key es code) (other (key e) code (inl (out 0 e (omega arith))))
     ∙ entry_in-hit key es code i d (omega arith) is (λ k f less. out (suc k) f (omega arith))
 
 -- the last code of a range at another default

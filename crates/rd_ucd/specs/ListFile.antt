@@ -1,5 +1,5 @@
 -- Files that list codes with something each: lines in the form of `BidiMirroring.txt` and `BidiBrackets.txt`.
-use Rattle.std.specs.Prelude.{ℕ, suc, nat_lt, ◌<◌, ◌==◌, Bool, if◌then◌else◌, List, [], ◌∷◌, length, slice_index_or, Option, None, Some, Result, Ok, Err}
+use Rattle.std.specs.Prelude.{ℕ, suc, nat_lt, ◌<◌, ◌==◌, Bool, if◌then◌else◌, List, [], ◌∷◌, length, slice_index_or, Option, Some, Result, Ok, Err}
 use Rattle.rd_ucd.specs.declared.fault.UcdFault.{UcdFault}
 use Rattle.rd_ucd.specs.declared.fault.UcdFault.TheVariants.{BadLine, BadCode, NotAscending}
 use Rattle.rd_ucd.specs.declared.listing.Codes.{Codes}

@@ -22,4 +22,3 @@ pub use classes::Classes;
 pub use fault::UcdFault;
 pub use mirrors::Mirrors;
 pub use spans::Bracket;
-
