@@ -7,4 +7,7 @@
 mod base;
 
 #[cfg(test)]
+mod lanes;
+
+#[cfg(test)]
 mod overlays;
