@@ -5,7 +5,7 @@ use Rattle.std.proofs.lemmas.Bool.Decides.{nat_tests}
 use Rattle.rd_tree.specs.declared.rect.Rect.{Rect}
 use Rattle.rd_tree.specs.declared.side.Side.{Side}
 use Rattle.rd_tree.specs.declared.placed.Placed.{Placed}
-use Rattle.rd_tree.specs.Windows.{Windows, Window, Split, rows_for, first_part, second_part, HasRoom, fits, first_size, resized, placed, window_at, holds, replaced, is_window, is_single, removed}
+use Rattle.rd_tree.specs.Windows.{Windows, Window, Split, columns_for, rows_for, first_part, second_part, HasRoom, fits, first_size, resized, placed, window_at, holds, replaced, is_window, is_single, removed}
 use Rattle.rd_tree.proofs.Rooms.{or_else, of_number-append, first_needs, second_needs, first_parts-first, room_first_parts, resized_room}
 
 pub and_left : (a b : Bool) → (a && b) ≡ true → a ≡ true
@@ -21,14 +21,14 @@ and_both a b p q = rw (p, q) refl
 
 -- the test of room is true where each window has room
 pub fits-room : (windows : Windows) (rect : Rect) → HasRoom windows rect → fits windows rect ≡ true
-fits-room (Window number mode) rect h = and_both (nat_le 11 rect.width) (nat_le (rows_for mode) rect.height) (let p = h.0 in grind (arith, nat_tests)) (let p = h.1 in grind (arith, nat_tests))
+fits-room (Window number mode margins) rect h = and_both (nat_le (columns_for margins) rect.width) (nat_le (rows_for mode) rect.height) (let p = h.0 in grind (arith, nat_tests)) (let p = h.1 in grind (arith, nat_tests))
 fits-room (Split side size first second) rect h =
     and_both (fits first (first_part side size rect)) (fits second (second_part side size rect)) (fits-room first (first_part side size rect) h.0) (fits-room second (second_part side size rect) h.1)
 
 pub room-fits : (windows : Windows) (rect : Rect) → fits windows rect ≡ true → HasRoom windows rect
-room-fits (Window number mode) rect e = (
-  let p = and_left (nat_le 11 rect.width) (nat_le (rows_for mode) rect.height) e in grind (arith, nat_tests),
-  let p = and_right (nat_le 11 rect.width) (nat_le (rows_for mode) rect.height) e in grind (arith, nat_tests),
+room-fits (Window number mode margins) rect e = (
+  let p = and_left (nat_le (columns_for margins) rect.width) (nat_le (rows_for mode) rect.height) e in grind (arith, nat_tests),
+  let p = and_right (nat_le (columns_for margins) rect.width) (nat_le (rows_for mode) rect.height) e in grind (arith, nat_tests),
 )
 room-fits (Split side size first second) rect e = (
   room-fits first (first_part side size rect) (and_left (fits first (first_part side size rect)) (fits second (second_part side size rect)) e),
@@ -45,7 +45,7 @@ is_some-or (Some window) b = refl
 
 -- a window is among the windows where it is found
 pub found_held : (w : ℕ) (windows : Windows) (rect : Rect) → is_some (window_at w windows rect) ≡ holds w windows
-found_held w (Window number mode) rect = is_some-test (number == w) (record { number = number; mode = mode; rect = rect })
+found_held w (Window number mode margins) rect = is_some-test (number == w) (record { number = number; mode = mode; margins = margins; rect = rect })
 found_held w (Split side size first second) rect =
     ap is_some (of_number-append w (placed first (first_part side size rect)) (placed second (second_part side size rect)))
     ∙ (is_some-or (window_at w first (first_part side size rect)) (window_at w second (second_part side size rect))
@@ -67,13 +67,13 @@ pub found_in : (a b : Option Placed) (window : Placed) → or_else a b ≡ Some 
 found_in None b window e = inr (refl, e)
 found_in (Some first) b window e = inl e
 
-at_leaf : (b : Bool) (leaf window : Placed) (other : Bool → Windows) (same : Windows) → (if b then Some leaf else None) ≡ Some window → fits (if b then other leaf.mode else same) leaf.rect ≡ fits (other window.mode) window.rect
-at_leaf true leaf window other same e = let s : leaf ≡ window = cc in ap (λ (p : Placed). fits (other p.mode) p.rect) s
+at_leaf : (b : Bool) (leaf window : Placed) (other : Bool → ℕ → Windows) (same : Windows) → (if b then Some leaf else None) ≡ Some window → fits (if b then other leaf.mode leaf.margins else same) leaf.rect ≡ fits (other window.mode window.margins) window.rect
+at_leaf true leaf window other same e = let s : leaf ≡ window = cc in ap (λ (p : Placed). fits (other p.mode p.margins) p.rect) s
 at_leaf false leaf window other same e = absurd (cc)
 
 -- where something else stands for a window, there is room exactly where it has room in the window's rectangle
-pub replaced_fits : (w : ℕ) (other : Bool → Windows) (windows : Windows) (rect : Rect) (window : Placed) → HasRoom windows rect → window_at w windows rect ≡ Some window → fits (replaced w other windows) rect ≡ fits (other window.mode) window.rect
-replaced_fits w other (Window n mode) rect window h e = at_leaf (n == w) (record { number = n; mode = mode; rect = rect }) window other (Window n mode) e
+pub replaced_fits : (w : ℕ) (other : Bool → ℕ → Windows) (windows : Windows) (rect : Rect) (window : Placed) → HasRoom windows rect → window_at w windows rect ≡ Some window → fits (replaced w other windows) rect ≡ fits (other window.mode window.margins) window.rect
+replaced_fits w other (Window n mode margins) rect window h e = at_leaf (n == w) (record { number = n; mode = mode; margins = margins; rect = rect }) window other (Window n mode margins) e
 replaced_fits w other (Split side size first second) rect window h e =
     let a = first_part side size rect in
     let b = second_part side size rect in
@@ -94,8 +94,8 @@ held_second : (a b : Bool) → a ≡ false → (a || b) ≡ true → b ≡ true
 held_second true b p e = absurd (cc)
 held_second false b p e = e
 
-pub replaced_more : (f : Windows → ℕ) (w d : ℕ) (other : Bool → Windows) → IsSum f → ((n : ℕ) (mode : Bool) → (n == w) ≡ true → f (other mode) ≡ f (Window n mode) + d) → (windows : Windows) → holds w windows ≡ true → f (replaced w other windows) ≡ f windows + d
-replaced_more f w d other sum leaf (Window n mode) e = rw e (leaf n mode e)
+pub replaced_more : (f : Windows → ℕ) (w d : ℕ) (other : Bool → ℕ → Windows) → IsSum f → ((n : ℕ) (mode : Bool) (margins : ℕ) → (n == w) ≡ true → f (other mode margins) ≡ f (Window n mode margins) + d) → (windows : Windows) → holds w windows ≡ true → f (replaced w other windows) ≡ f windows + d
+replaced_more f w d other sum leaf (Window n mode margins) e = rw e (leaf n mode margins e)
 replaced_more f w d other sum leaf (Split side size first second) e =
     elim (bool_cases (holds w first)) [
       | inl p ↦ rw p (omega (arith, sum side size (replaced w other first) second, sum side size first second, replaced_more f w d other sum leaf first p))
@@ -103,23 +103,23 @@ replaced_more f w d other sum leaf (Split side size first second) e =
     ]
 
 pub resized_same : (f : Windows → ℕ) → IsSum f → (windows : Windows) (rect : Rect) → f (resized windows rect) ≡ f windows
-resized_same f sum (Window n mode) rect = refl
+resized_same f sum (Window n mode margins) rect = refl
 resized_same f sum (Split side size first second) rect =
     let new = first_size side size second rect in
     let a = first_part side new rect in
     let b = second_part side new rect in
     omega (arith, sum side new (resized first a) (resized second b), sum side size first second, resized_same f sum first a, resized_same f sum second b)
 
-window_has : (f : Windows → ℕ) (w d : ℕ) → ((n : ℕ) (mode : Bool) → (n == w) ≡ true → f (Window n mode) ≡ d) → (windows : Windows) → is_window w windows ≡ true → f windows ≡ d
-window_has f w d leaf (Window n mode) e = leaf n mode e
+window_has : (f : Windows → ℕ) (w d : ℕ) → ((n : ℕ) (mode : Bool) (margins : ℕ) → (n == w) ≡ true → f (Window n mode margins) ≡ d) → (windows : Windows) → is_window w windows ≡ true → f windows ≡ d
+window_has f w d leaf (Window n mode margins) e = leaf n mode margins e
 window_has f w d leaf (Split side size first second) e = absurd (false≢true e)
 
 pub not_single : (w : ℕ) (windows : Windows) → is_window w windows ≡ false → holds w windows ≡ true → is_single windows ≡ false
-not_single w (Window n mode) p e = absurd (false≢true (sym p ∙ e))
+not_single w (Window n mode margins) p e = absurd (false≢true (sym p ∙ e))
 not_single w (Split side size first second) p e = refl
 
-pub removed_less : (f : Windows → ℕ) (w d : ℕ) → IsSum f → ((n : ℕ) (mode : Bool) → (n == w) ≡ true → f (Window n mode) ≡ d) → (windows : Windows) (rect : Rect) → holds w windows ≡ true → is_single windows ≡ false → f (removed w windows rect) + d ≡ f windows
-removed_less f w d sum leaf (Window n mode) rect e s = absurd (false≢true (sym s))
+pub removed_less : (f : Windows → ℕ) (w d : ℕ) → IsSum f → ((n : ℕ) (mode : Bool) (margins : ℕ) → (n == w) ≡ true → f (Window n mode margins) ≡ d) → (windows : Windows) (rect : Rect) → holds w windows ≡ true → is_single windows ≡ false → f (removed w windows rect) + d ≡ f windows
+removed_less f w d sum leaf (Window n mode margins) rect e s = absurd (false≢true (sym s))
 removed_less f w d sum leaf (Split side size first second) rect e s =
     elim (bool_cases (is_window w first)) [
       | inl p ↦ rw p (omega (arith, sum side size first second, resized_same f sum second rect, window_has f w d leaf first p))
@@ -136,7 +136,7 @@ removed_less f w d sum leaf (Split side size first second) rect e s =
 
 -- where a window is removed, each other has room
 pub removed_room : (w : ℕ) (windows : Windows) (rect : Rect) → HasRoom windows rect → HasRoom (removed w windows rect) rect
-removed_room w (Window n mode) rect h = h
+removed_room w (Window n mode margins) rect h = h
 removed_room w (Split side size first second) rect h =
     let parts = first_parts-first side size first second (room_first_parts (Split side size first second) rect h) in
     elim (bool_cases (is_window w first)) [

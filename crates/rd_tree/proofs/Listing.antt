@@ -24,13 +24,13 @@ same_test n m e = grind (arith, nat_tests)
 one_place : (leaf window : Placed) → Some leaf ≡ Some window → leaf ≡ window
 one_place leaf window e = cc
 
-number_of_leaf : (number : ℕ) (mode : Bool) (rect : Rect) (window : Placed) → Some (record { number = number; mode = mode; rect = rect }) ≡ Some window → (number == window.number) ≡ true
-number_of_leaf number mode rect window e =
-    same_test number window.number (ap (λ (p : Placed). p.number) (one_place (record { number = number; mode = mode; rect = rect }) window e))
+number_of_leaf : (number : ℕ) (mode : Bool) (margins : ℕ) (rect : Rect) (window : Placed) → Some (record { number = number; mode = mode; margins = margins; rect = rect }) ≡ Some window → (number == window.number) ≡ true
+number_of_leaf number mode margins rect window e =
+    same_test number window.number (ap (λ (p : Placed). p.number) (one_place (record { number = number; mode = mode; margins = margins; rect = rect }) window e))
 
 listed_held : (windows : Windows) (rect : Rect) (i : ℕ) (window : Placed) → slice_get (placed windows rect) i ≡ Some window → holds window.number windows ≡ true
-listed_held (Window number mode) rect zero window e = number_of_leaf number mode rect window e
-listed_held (Window number mode) rect (suc i) window e = absurd (cc)
+listed_held (Window number mode margins) rect zero window e = number_of_leaf number mode margins rect window e
+listed_held (Window number mode margins) rect (suc i) window e = absurd (cc)
 listed_held (Split side size first second) rect i window e =
     let a = first_part side size rect in
     let b = second_part side size rect in
@@ -41,8 +41,8 @@ listed_held (Split side size first second) rect i window e =
 
 -- where no number stands twice, each window that is listed is found by its number
 pub listed_found : (windows : Windows) (rect : Rect) → ((n : ℕ) → times n windows ≤ 1) → (i : ℕ) (window : Placed) → slice_get (placed windows rect) i ≡ Some window → window_at window.number windows rect ≡ Some window
-listed_found (Window number mode) rect once zero window e = rw (number_of_leaf number mode rect window e) e
-listed_found (Window number mode) rect once (suc i) window e = absurd (cc)
+listed_found (Window number mode margins) rect once zero window e = rw (number_of_leaf number mode margins rect window e) e
+listed_found (Window number mode margins) rect once (suc i) window e = absurd (cc)
 listed_found (Split side size first second) rect once i window e =
     let a = first_part side size rect in
     let b = second_part side size rect in

@@ -11,17 +11,17 @@ rows_for-some true = omega arith
 rows_for-some false = omega arith
 
 pub columns-some : (windows : Windows) → 1 ≤ columns_needed windows
-columns-some (Window number mode) = omega arith
+columns-some (Window number mode margins) = omega arith
 columns-some (Split Right size first second) = omega (arith, columns-some first)
 columns-some (Split Below size first second) = omega (arith, columns-some first)
 
 pub rows-some : (windows : Windows) → 1 ≤ rows_needed windows
-rows-some (Window number mode) = rows_for-some mode
+rows-some (Window number mode margins) = rows_for-some mode
 rows-some (Split Right size first second) = omega (arith, rows-some first)
 rows-some (Split Below size first second) = omega (arith, rows-some first)
 
 leaves-some : (windows : Windows) → 1 ≤ length (leaves windows)
-leaves-some (Window number mode) = omega arith
+leaves-some (Window number mode margins) = omega arith
 leaves-some (Split side size first second) = omega (arith, leaves-some first, length-append (leaves first) (leaves second))
 
 -- both parts have fewer windows than the whole
@@ -33,7 +33,7 @@ fewer_second first second n e = omega (arith, leaves-some first, length-append (
 
 -- where each window has room, the needs of all are met
 pub room_needs : (windows : Windows) (rect : Rect) → HasRoom windows rect → NeedsMet windows rect
-room_needs (Window number mode) rect h = h
+room_needs (Window number mode margins) rect h = h
 room_needs (Split Right size first second) rect h =
     let a = room_needs first (first_part Right size rect) h.0 in
     let b = room_needs second (second_part Right size rect) h.1 in
@@ -46,7 +46,7 @@ room_needs (Split Below size first second) rect h =
     (omega arith, omega arith)
 
 pub room_first_parts : (windows : Windows) (rect : Rect) → HasRoom windows rect → FirstPartsFit windows
-room_first_parts (Window number mode) rect h = tt
+room_first_parts (Window number mode margins) rect h = tt
 room_first_parts (Split Right size first second) rect h =
     ((room_needs first (first_part Right size rect) h.0).0, room_first_parts first (first_part Right size rect) h.0, room_first_parts second (second_part Right size rect) h.1)
 room_first_parts (Split Below size first second) rect h =
@@ -101,7 +101,7 @@ first_parts-first Below size first second p = (p.1, p.2)
 
 -- windows that share a rectangle which meets their needs have room
 pub resized_room : (windows : Windows) (rect : Rect) → FirstPartsFit windows → NeedsMet windows rect → HasRoom (resized windows rect) rect
-resized_room (Window number mode) rect p n = n
+resized_room (Window number mode margins) rect p n = n
 resized_room (Split side size first second) rect p n =
     let s = shared side size first second rect p n in
     let q = first_parts-first side size first second p in

@@ -18,7 +18,7 @@ true_or a b e = rw e refl
 
 -- the sibling is a part of the windows
 sibling_held : (v n : ℕ) (windows : Windows) → holds v (sibling n windows) ≡ true → holds v windows ≡ true
-sibling_held v n (Window number mode) e = e
+sibling_held v n (Window number mode margins) e = e
 sibling_held v n (Split side size first second) e =
     elim (bool_cases (is_window n first)) [
       | inl p ↦ or_true (holds v first) (holds v second) (rw p at e)
@@ -37,7 +37,7 @@ or_else_some (Some window) other e = refl
 
 -- the sibling shares the rectangle that it had with the removed window
 pub removed_sibling : (v n : ℕ) (windows : Windows) (rect : Rect) → times v windows ≤ 1 → holds v (sibling n windows) ≡ true → window_at v (removed n windows rect) rect ≡ window_at v (resized (sibling n windows) (shared_place n windows rect)) (shared_place n windows rect)
-removed_sibling v n (Window number mode) rect once e = refl
+removed_sibling v n (Window number mode margins) rect once e = refl
 removed_sibling v n (Split side size first second) rect once e =
     let a = first_part side size rect in
     let b = second_part side size rect in

@@ -63,7 +63,7 @@ windows_with-append column row (window ∷ xs) ys = omega (arith, windows_with-a
 
 -- each cell of the rectangle lies in one window, and no other cell does
 pub one_window : (windows : Windows) (rect : Rect) → HasRoom windows rect → (column row : ℕ) → windows_with column row (placed windows rect) ≡ one_if (lies_in column row rect)
-one_window (Window number mode) rect h column row = omega arith
+one_window (Window number mode margins) rect h column row = omega arith
 one_window (Split side size first second) rect h column row =
     let a = first_part side size rect in
     let b = second_part side size rect in
@@ -74,7 +74,7 @@ listed-append [] ys = refl
 listed-append (window ∷ xs) ys = ap (λ (zs : List ℕ). window.number ∷ zs) (listed-append xs ys)
 
 pub listed : (windows : Windows) (rect : Rect) → map (λ (window : Placed). window.number) (placed windows rect) ≡ leaves windows
-listed (Window number mode) rect = refl
+listed (Window number mode margins) rect = refl
 listed (Split side size first second) rect =
     let a = first_part side size rect in
     let b = second_part side size rect in
@@ -85,7 +85,7 @@ all_room-append [] ys p q = q
 all_room-append (window ∷ xs) ys p q = (p.0, p.1, all_room-append xs ys p.2 q)
 
 pub all_room : (windows : Windows) (rect : Rect) → HasRoom windows rect → AllHaveRoom (placed windows rect)
-all_room (Window number mode) rect h = (h.0, h.1, tt)
+all_room (Window number mode margins) rect h = (h.0, h.1, tt)
 all_room (Split side size first second) rect h =
     let a = first_part side size rect in
     let b = second_part side size rect in
@@ -119,20 +119,20 @@ at_place true others other same rect window e s = rw e (sym (append-nil (others 
 at_place false others other same rect window e s = s
 
 -- where something else stands for a window, each other window stays where it is
-pub replaced_places : (w : ℕ) (other : Bool → Windows) (windows : Windows) (rect : Rect) → placed (replaced w other windows) rect ≡ in_place_of w (λ window. placed (other window.mode) window.rect) (placed windows rect)
-replaced_places w other (Window number mode) rect =
-    at_place (number == w) (λ window. placed (other window.mode) window.rect) (other mode) (Window number mode) rect (record { number = number; mode = mode; rect = rect }) refl refl
+pub replaced_places : (w : ℕ) (other : Bool → ℕ → Windows) (windows : Windows) (rect : Rect) → placed (replaced w other windows) rect ≡ in_place_of w (λ window. placed (other window.mode window.margins) window.rect) (placed windows rect)
+replaced_places w other (Window number mode margins) rect =
+    at_place (number == w) (λ window. placed (other window.mode window.margins) window.rect) (other mode margins) (Window number mode margins) rect (record { number = number; mode = mode; margins = margins; rect = rect }) refl refl
 replaced_places w other (Split side size first second) rect =
     let a = first_part side size rect in
     let b = second_part side size rect in
     elim (bool_cases (holds w first)) [
-      | inl p ↦ rw (p, in_place-front w (λ window. placed (other window.mode) window.rect) (placed first a) (placed second b) (found_held w first a ∙ p)) (ap (λ (zs : List Placed). zs ++ placed second b) (replaced_places w other first a))
-      | inr p ↦ rw (p, in_place-back w (λ window. placed (other window.mode) window.rect) (placed first a) (placed second b) (none_of (window_at w first a) (found_held w first a ∙ p))) (ap (λ (zs : List Placed). placed first a ++ zs) (replaced_places w other second b))
+      | inl p ↦ rw (p, in_place-front w (λ window. placed (other window.mode window.margins) window.rect) (placed first a) (placed second b) (found_held w first a ∙ p)) (ap (λ (zs : List Placed). zs ++ placed second b) (replaced_places w other first a))
+      | inr p ↦ rw (p, in_place-back w (λ window. placed (other window.mode window.margins) window.rect) (placed first a) (placed second b) (none_of (window_at w first a) (found_held w first a ∙ p))) (ap (λ (zs : List Placed). placed first a ++ zs) (replaced_places w other second b))
     ]
 
 -- the windows of a rectangle that is shared anew are the same in the same order
 pub resized_leaves : (windows : Windows) (rect : Rect) → leaves (resized windows rect) ≡ leaves windows
-resized_leaves (Window number mode) rect = refl
+resized_leaves (Window number mode margins) rect = refl
 resized_leaves (Split side size first second) rect =
     let new = first_size side size second rect in
     rw (resized_leaves first (first_part side new rect), resized_leaves second (second_part side new rect)) refl
@@ -149,7 +149,7 @@ same_size Below size first second rect h =
 
 -- sharing the same rectangle anew changes nothing
 pub resized_same_place : (windows : Windows) (rect : Rect) → HasRoom windows rect → resized windows rect ≡ windows
-resized_same_place (Window number mode) rect h = refl
+resized_same_place (Window number mode margins) rect h = refl
 resized_same_place (Split side size first second) rect h =
     rw (same_size side size first second rect h, resized_same_place first (first_part side size rect) h.0, resized_same_place second (second_part side size rect) h.1) refl
 
@@ -159,7 +159,7 @@ among-append n (x ∷ xs) ys = ap (λ (b : Bool). x == n || b) (among-append n x
 
 -- a window is one of those whose numbers are listed
 pub held_among : (n : ℕ) (windows : Windows) → holds n windows ≡ is_among n (leaves windows)
-held_among n (Window number mode) = or_no (number == n)
+held_among n (Window number mode margins) = or_no (number == n)
 held_among n (Split side size first second) = rw (held_among n first, held_among n second) (sym (among-append n (leaves first) (leaves second)))
 
 pub resized_held : (n : ℕ) (windows : Windows) (rect : Rect) → holds n (resized windows rect) ≡ holds n windows
@@ -182,15 +182,15 @@ without-back n (x ∷ xs) ys e =
     ]
 
 window_without : (n : ℕ) (windows : Windows) (numbers : List ℕ) → is_window n windows ≡ true → without n (leaves windows ++ numbers) ≡ numbers
-window_without n (Window number mode) numbers e = rw e refl
+window_without n (Window number mode margins) numbers e = rw e refl
 window_without n (Split side size first second) numbers e = absurd (cc)
 
 window_held : (n : ℕ) (windows : Windows) → is_window n windows ≡ true → holds n windows ≡ true
-window_held n (Window number mode) e = e
+window_held n (Window number mode margins) e = e
 window_held n (Split side size first second) e = absurd (cc)
 
 held_times : (n : ℕ) (windows : Windows) → holds n windows ≡ true → 1 ≤ times n windows
-held_times n (Window number mode) e = rw e (omega arith)
+held_times n (Window number mode margins) e = rw e (omega arith)
 held_times n (Split side size first second) e =
     elim (bool_cases (holds n first)) [
       | inl p ↦ omega (arith, held_times n first p)
@@ -210,7 +210,7 @@ held_behind n first second e p = rw p at e
 
 -- a removal takes one number away
 pub removed_leaves : (n : ℕ) (windows : Windows) (rect : Rect) → times n windows ≤ 1 → holds n windows ≡ true → is_single windows ≡ false → leaves (removed n windows rect) ≡ without n (leaves windows)
-removed_leaves n (Window number mode) rect once e s = absurd (cc)
+removed_leaves n (Window number mode margins) rect once e s = absurd (cc)
 removed_leaves n (Split side size first second) rect once e s =
     elim (bool_cases (is_window n first)) [
       | inl p ↦ rw (p, resized_leaves second rect, window_without n first (leaves second) p) refl
@@ -237,7 +237,7 @@ pub not_found : (v : ℕ) (windows : Windows) (rect : Rect) → holds v windows 
 not_found v windows rect e = none_of (window_at v windows rect) (found_held v windows rect ∙ e)
 
 other_window : (v n : ℕ) (windows : Windows) → is_window n windows ≡ true → (v == n) ≡ false → holds v windows ≡ false
-other_window v n (Window number mode) e d = grind (arith, nat_tests)
+other_window v n (Window number mode margins) e d = grind (arith, nat_tests)
 other_window v n (Split side size first second) e d = absurd (cc)
 
 pub two_lists : (v : ℕ) (side : Side) (size : ℕ) (first second : Windows) (rect : Rect) → window_at v (Split side size first second) rect ≡ or_else (window_at v first (first_part side size rect)) (window_at v second (second_part side size rect))
@@ -248,7 +248,7 @@ neither_found v side size first second rect p q = not_found v (Split side size f
 
 -- a removal leaves each window that is not in the sibling where it is
 pub removed_others : (v n : ℕ) (windows : Windows) (rect : Rect) → (v == n) ≡ false → holds v (sibling n windows) ≡ false → window_at v (removed n windows rect) rect ≡ window_at v windows rect
-removed_others v n (Window number mode) rect d e = refl
+removed_others v n (Window number mode margins) rect d e = refl
 removed_others v n (Split side size first second) rect d e =
     let a = first_part side size rect in
     let b = second_part side size rect in
@@ -288,8 +288,8 @@ found_one false leaf window e = absurd (cc)
 
 -- each window that is found stands in the rectangle, with the room that it needs
 pub stands_in : (number : ℕ) (windows : Windows) (rect : Rect) (window : Placed) → HasRoom windows rect → window_at number windows rect ≡ Some window → StandsIn window rect
-stands_in number (Window n mode) rect window h e =
-    subst (λ (p : Placed). StandsIn p rect) (found_one (n == number) (record { number = n; mode = mode; rect = rect }) window e) ((omega arith, omega arith, omega arith, omega arith), h.0, h.1)
+stands_in number (Window n mode margins) rect window h e =
+    subst (λ (p : Placed). StandsIn p rect) (found_one (n == number) (record { number = n; mode = mode; margins = margins; rect = rect }) window e) ((omega arith, omega arith, omega arith, omega arith), h.0, h.1)
 stands_in number (Split side size first second) rect window h e =
     let a = first_part side size rect in
     let b = second_part side size rect in
@@ -303,4 +303,4 @@ pub lies_in_frame : (c : Configuration) (found : Option Placed) (number : ℕ) �
 lies_in_frame c None number valid e = tt
 lies_in_frame c (Some window) number valid e =
     let s = stands_in number c.windows (frame_of c) window valid.room e in
-    (s.0, s.1, omega (arith, rows_for-some window.mode, s.2), valid.wide, valid.high)
+    (s.0, omega (arith, s.1), omega (arith, rows_for-some window.mode, s.2), valid.wide, valid.high)

@@ -4,11 +4,11 @@ use Rattle.std.proofs.lemmas.Bool.Decides.{nat_tests}
 use Rattle.rd_tree.specs.declared.side.Side.{Side}
 use Rattle.rd_tree.specs.declared.fault.TreeFault.{TreeFault}
 use Rattle.rd_tree.specs.declared.fault.TreeFault.TheVariants.{NoWindow, TooSmall, TooMany, LastWindow}
-use Rattle.rd_tree.specs.Windows.{columns_needed, rows_needed, NeedsMet, fits, holds, is_single, resized, removed, split_at, with_mode}
-use Rattle.rd_tree.specs.Calls.{Configuration, IsValid, frame, frame_of, is_full, split_tree, remove_tree, resize_tree, mode_tree}
+use Rattle.rd_tree.specs.Windows.{columns_needed, rows_needed, NeedsMet, fits, holds, is_single, resized, removed, split_at, with_mode, with_margins}
+use Rattle.rd_tree.specs.Calls.{Configuration, IsValid, frame, frame_of, is_full, split_tree, remove_tree, resize_tree, mode_tree, margins_tree}
 use Rattle.rd_tree.proofs.Keeping.{bool_cases, and_left, and_right}
-use Rattle.rd_tree.proofs.Answering.{split_small, split_many, split_done, mode_small, mode_done}
-use Rattle.rd_tree.proofs.Validity.{split_valid, remove_valid, resize_valid, mode_valid}
+use Rattle.rd_tree.proofs.Answering.{split_small, split_many, split_done, mode_small, mode_done, margins_small, margins_done}
+use Rattle.rd_tree.proofs.Validity.{split_valid, remove_valid, resize_valid, mode_valid, margins_valid}
 
 left_valid : (said : Result Configuration TreeFault) (a d : Configuration) → said ≡ Ok a → said ≡ Ok d → IsValid a → IsValid d
 left_valid said a d p q v = let s : a ≡ d = cc in subst IsValid s v
@@ -63,5 +63,16 @@ mode_keeps c d w shown valid said =
       | inl h ↦ elim (bool_cases (fits (with_mode w shown c.windows) (frame_of c))) [
         | inr f ↦ refused (mode_tree c w shown) TooSmall d (mode_small c w shown h f) said
         | inl f ↦ left_valid (mode_tree c w shown) _ d (mode_done c w shown h f) said (mode_valid c w shown valid h f)
+      ]
+    ]
+
+pub margins_keeps : (c d : Configuration) (w columns : ℕ) → IsValid c → margins_tree c w columns ≡ Ok d → IsValid d
+unfolding margins_tree
+margins_keeps c d w columns valid said =
+    elim (bool_cases (holds w c.windows)) [
+      | inr h ↦ refused (margins_tree c w columns) NoWindow d (rw h refl) said
+      | inl h ↦ elim (bool_cases (fits (with_margins w columns c.windows) (frame_of c))) [
+        | inr f ↦ refused (margins_tree c w columns) TooSmall d (margins_small c w columns h f) said
+        | inl f ↦ left_valid (margins_tree c w columns) _ d (margins_done c w columns h f) said (margins_valid c w columns valid h f)
       ]
     ]

@@ -2,7 +2,7 @@
 use Rattle.std.proofs.Common.{◌≡◌, ℕ, suc, ◌+◌, ◌≤◌, ◌<◌, Bool, true, false, if◌then◌else◌, ◌==◌, ◌||◌, nat_le, length, length-append, ◌⊎◌, inl, inr, refl, arith}
 use Rattle.std.proofs.lemmas.Bool.Decides.{nat_tests}
 use Rattle.rd_tree.specs.declared.side.Side.{Side}
-use Rattle.rd_tree.specs.Windows.{Windows, Window, fits, NeedsMet, resized, leaves, holds, halves, split_at, with_mode, is_single, removed, times}
+use Rattle.rd_tree.specs.Windows.{Windows, Window, fits, NeedsMet, resized, leaves, holds, halves, replaced, split_at, with_mode, with_margins, is_single, removed, times}
 use Rattle.rd_tree.specs.Calls.{Configuration, IsValid, frame, frame_of, opening, is_full}
 use Rattle.rd_tree.proofs.Rooms.{room_first_parts, resized_room}
 use Rattle.rd_tree.proofs.Keeping.{bool_cases, room-fits, IsSum, replaced_more, resized_same, removed_less, removed_room}
@@ -24,15 +24,15 @@ one_test : (b : Bool) → (if b then 1 else 0) ≤ 1
 one_test true = omega arith
 one_test false = omega arith
 
-one : (v n : ℕ) (mode : Bool) → times v (Window n mode) ≤ 1
-one v n mode = one_test (n == v)
+one : (v n : ℕ) (mode : Bool) (margins : ℕ) → times v (Window n mode margins) ≤ 1
+one v n mode margins = one_test (n == v)
 
 -- a window has its own number alone
-own : (v n : ℕ) (mode : Bool) → (n ≡ v) ⊎ (times v (Window n mode) ≡ 0)
-own v n mode = elim (bool_cases (n == v)) [ inl p ↦ inl (same_number n v p) | inr p ↦ inr (rw p refl) ]
+own : (v n : ℕ) (mode : Bool) (margins : ℕ) → (n ≡ v) ⊎ (times v (Window n mode margins) ≡ 0)
+own v n mode margins = elim (bool_cases (n == v)) [ inl p ↦ inl (same_number n v p) | inr p ↦ inr (rw p refl) ]
 
-none_above : (v n : ℕ) (mode : Bool) → n < v → times v (Window n mode) ≡ 0
-none_above v n mode p = elim (own v n mode) [ inl e ↦ absurd (omega arith) | inr e ↦ e ]
+none_above : (v n : ℕ) (mode : Bool) (margins : ℕ) → n < v → times v (Window n mode margins) ≡ 0
+none_above v n mode margins p = elim (own v n mode margins) [ inl e ↦ absurd (omega arith) | inr e ↦ e ]
 
 or_none : (a b : Bool) → (a || b) ≡ false → (a ≡ false) × (b ≡ false)
 or_none true b e = absurd (cc)
@@ -52,17 +52,17 @@ opening_valid width height a b w h = record {
   high = h;
   few = omega arith;
   made = omega arith;
-  once = λ number. one number 0 false;
-  known = λ number p. none_above number 0 false (omega (arith, p));
+  once = λ number. one number 0 false 0;
+  known = λ number p. none_above number 0 false 0 (omega (arith, p));
 }
 
 pub split_valid : (c : Configuration) (window : ℕ) (side : Side) (size : ℕ) → IsValid c → holds window c.windows ≡ true → fits (split_at window side size c.made c.windows) (frame_of c) ≡ true → is_full c ≡ false → IsValid (record c { windows = split_at window side size c.made c.windows; made = suc c.made })
 unfolding count
 split_valid c window side size valid held fit full =
-    let more : (v : ℕ) → times v (split_at window side size c.made c.windows) ≡ times v c.windows + times v (Window c.made false) =
-    λ v. replaced_more (times v) window (times v (Window c.made false)) (halves window side size c.made) (times-sum v) (λ n mode e. rw (same_number n window e) refl) c.windows held in
+    let more : (v : ℕ) → times v (split_at window side size c.made c.windows) ≡ times v c.windows + times v (Window c.made false 0) =
+    λ v. replaced_more (times v) window (times v (Window c.made false 0)) (halves window side size c.made) (times-sum v) (λ n mode _ e. rw (same_number n window e) refl) c.windows held in
     let grown : count (split_at window side size c.made c.windows) ≡ count c.windows + 1 =
-    replaced_more count window 1 (halves window side size c.made) count-sum (λ n mode e. refl) c.windows held in
+    replaced_more count window 1 (halves window side size c.made) count-sum (λ n mode _ e. refl) c.windows held in
     let left = room_left c full in
     record {
       room = room-fits (split_at window side size c.made c.windows) (frame_of c) fit;
@@ -70,22 +70,24 @@ split_valid c window side size valid held fit full =
       high = valid.high;
       few = omega (arith, left.0);
       made = omega (arith, left.1);
-      once = λ v. elim (own v c.made false) [
-        | inl e ↦ omega (arith, more v, one v c.made false, valid.known v (omega (arith, e)))
+      once = λ v. elim (own v c.made false 0) [
+        | inl e ↦ omega (arith, more v, one v c.made false 0, valid.known v (omega (arith, e)))
         | inr e ↦ omega (arith, more v, e, valid.once v)
       ];
-      known = λ v p. omega (arith, more v, none_above v c.made false (omega (arith, p)), valid.known v (omega (arith, p)));
+      known = λ v p. omega (arith, more v, none_above v c.made false 0 (omega (arith, p)), valid.known v (omega (arith, p)));
     }
 
-pub mode_valid : (c : Configuration) (window : ℕ) (shown : Bool) → IsValid c → holds window c.windows ≡ true → fits (with_mode window shown c.windows) (frame_of c) ≡ true → IsValid (record c { windows = with_mode window shown c.windows })
+-- a window that stays one window, with another mode line or other margins
+changed_valid : (c : Configuration) (window : ℕ) (mode_of : Bool → ℕ → Bool) (columns_of : Bool → ℕ → ℕ) → IsValid c → holds window c.windows ≡ true → fits (replaced window (λ mode margins. Window window (mode_of mode margins) (columns_of mode margins)) c.windows) (frame_of c) ≡ true → IsValid (record c { windows = replaced window (λ mode margins. Window window (mode_of mode margins) (columns_of mode margins)) c.windows })
 unfolding count
-mode_valid c window shown valid held fit =
-    let same : (v : ℕ) → times v (with_mode window shown c.windows) ≡ times v c.windows + 0 =
-    λ v. replaced_more (times v) window 0 (λ _. Window window shown) (times-sum v) (λ n mode e. rw (same_number n window e) (omega arith)) c.windows held in
-    let kept : count (with_mode window shown c.windows) ≡ count c.windows + 0 =
-    replaced_more count window 0 (λ _. Window window shown) count-sum (λ n mode e. refl) c.windows held in
+changed_valid c window mode_of columns_of valid held fit =
+    let other : Bool → ℕ → Windows = λ mode margins. Window window (mode_of mode margins) (columns_of mode margins) in
+    let same : (v : ℕ) → times v (replaced window other c.windows) ≡ times v c.windows + 0 =
+    λ v. replaced_more (times v) window 0 other (times-sum v) (λ n mode _ e. rw (same_number n window e) (omega arith)) c.windows held in
+    let kept : count (replaced window other c.windows) ≡ count c.windows + 0 =
+    replaced_more count window 0 other count-sum (λ n mode _ e. refl) c.windows held in
     record {
-      room = room-fits (with_mode window shown c.windows) (frame_of c) fit;
+      room = room-fits (replaced window other c.windows) (frame_of c) fit;
       wide = valid.wide;
       high = valid.high;
       few = omega (arith, valid.few);
@@ -94,13 +96,19 @@ mode_valid c window shown valid held fit =
       known = λ v p. omega (arith, same v, valid.known v p);
     }
 
+pub mode_valid : (c : Configuration) (window : ℕ) (shown : Bool) → IsValid c → holds window c.windows ≡ true → fits (with_mode window shown c.windows) (frame_of c) ≡ true → IsValid (record c { windows = with_mode window shown c.windows })
+mode_valid c window shown = changed_valid c window (λ _ _. shown) (λ _ margins. margins)
+
+pub margins_valid : (c : Configuration) (window columns : ℕ) → IsValid c → holds window c.windows ≡ true → fits (with_margins window columns c.windows) (frame_of c) ≡ true → IsValid (record c { windows = with_margins window columns c.windows })
+margins_valid c window columns = changed_valid c window (λ mode _. mode) (λ _ _. columns)
+
 pub remove_valid : (c : Configuration) (window : ℕ) → IsValid c → holds window c.windows ≡ true → is_single c.windows ≡ false → IsValid (record c { windows = removed window c.windows (frame_of c) })
 unfolding count
 remove_valid c window valid held more =
-    let less : (v : ℕ) → times v (removed window c.windows (frame_of c)) + times v (Window window false) ≡ times v c.windows =
-    λ v. removed_less (times v) window (times v (Window window false)) (times-sum v) (λ n mode e. rw (same_number n window e) refl) c.windows (frame_of c) held more in
+    let less : (v : ℕ) → times v (removed window c.windows (frame_of c)) + times v (Window window false 0) ≡ times v c.windows =
+    λ v. removed_less (times v) window (times v (Window window false 0)) (times-sum v) (λ n mode _ e. rw (same_number n window e) refl) c.windows (frame_of c) held more in
     let fewer : count (removed window c.windows (frame_of c)) + 1 ≡ count c.windows =
-    removed_less count window 1 count-sum (λ n mode e. refl) c.windows (frame_of c) held more in
+    removed_less count window 1 count-sum (λ n mode _ e. refl) c.windows (frame_of c) held more in
     record {
       room = removed_room window c.windows (frame_of c) valid.room;
       wide = valid.wide;

@@ -5,7 +5,7 @@ use Rattle.rd_tree.specs.declared.placed.Placed.{Placed}
 use Rattle.rd_tree.specs.declared.side.Side.{Side}
 use Rattle.rd_tree.specs.declared.fault.TreeFault.{TreeFault}
 use Rattle.rd_tree.specs.declared.fault.TreeFault.TheVariants.{NoWindow, TooSmall, TooMany, LastWindow, Memory}
-use Rattle.rd_tree.specs.Windows.{Windows, Window, HasRoom, window_at, columns_needed, rows_needed, leaves, holds, fits, resized, split_at, is_single, sibling, removed, first_leaf, with_mode, times}
+use Rattle.rd_tree.specs.Windows.{Windows, Window, HasRoom, window_at, columns_needed, rows_needed, leaves, holds, fits, resized, split_at, is_single, sibling, removed, first_leaf, with_mode, with_margins, times}
 
 -- a window tree: its windows, the columns and rows that they fill, and how many windows were made so far
 pub record Configuration : Type 0 where
@@ -21,9 +21,9 @@ frame width height = record { x = 0; y = 0; width = width; height = height }
 abbrev pub frame_of : Configuration → Rect
 frame_of c = frame c.width c.height
 
--- the first window, which has the number 0 and no mode line
+-- the first window, which has the number 0, no mode line and no margins
 abbrev pub opening : ℕ → ℕ → Configuration
-opening width height = record { windows = Window 0 false; width = width; height = height; made = 1 }
+opening width height = record { windows = Window 0 false 0; width = width; height = height; made = 1 }
 
 -- no more windows can be made
 abbrev pub is_full : Configuration → Bool
@@ -48,11 +48,15 @@ resize_tree c width height =
     then Ok (record c { windows = resized c.windows (frame width height); width = width; height = height })
     else Err TooSmall
 
-abbrev pub mode_to : Configuration → Windows → Result Configuration TreeFault
-mode_to c windows = if fits windows (frame_of c) then Ok (record c { windows = windows }) else Err TooSmall
+-- other windows, where they have room
+abbrev pub changed_to : Configuration → Windows → Result Configuration TreeFault
+changed_to c windows = if fits windows (frame_of c) then Ok (record c { windows = windows }) else Err TooSmall
 
 unfoldable pub mode_tree : Configuration → ℕ → Bool → Result Configuration TreeFault
-mode_tree c window shown = if holds window c.windows then mode_to c (with_mode window shown c.windows) else Err NoWindow
+mode_tree c window shown = if holds window c.windows then changed_to c (with_mode window shown c.windows) else Err NoWindow
+
+unfoldable pub margins_tree : Configuration → ℕ → ℕ → Result Configuration TreeFault
+margins_tree c window columns = if holds window c.windows then changed_to c (with_margins window columns c.windows) else Err NoWindow
 
 -- the rectangle of a window that lives
 abbrev pub rect_of_placed : Option Placed → Option Rect
@@ -61,6 +65,14 @@ rect_of_placed (Some window) = Some window.rect
 
 abbrev pub rect_of : ℕ → Configuration → Option Rect
 rect_of window c = rect_of_placed (window_at window c.windows (frame_of c))
+
+-- the columns of the margins of a window that lives
+abbrev pub margins_of_placed : Option Placed → Option ℕ
+margins_of_placed None = None
+margins_of_placed (Some window) = Some window.margins
+
+abbrev pub margins_of : ℕ → Configuration → Option ℕ
+margins_of window c = margins_of_placed (window_at window c.windows (frame_of c))
 
 -- a call leaves what was said, or answers the fault that was said and changes nothing
 abbrev pub Answers : Result ⊤ TreeFault → Result Configuration TreeFault → Configuration → Configuration → Type 0

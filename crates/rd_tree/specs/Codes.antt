@@ -9,7 +9,7 @@ use Rattle.rd_tree.specs.Calls.{Configuration}
 
 -- a window, or a split
 abbrev pub Part : Type 0
-Part = (ℕ × Bool) ⊎ (ℕ × Bool)
+Part = (ℕ × (Bool × ℕ)) ⊎ (ℕ × Bool)
 
 abbrev pub is_right : Side → Bool
 is_right Below = false
@@ -24,7 +24,7 @@ side_of-is_right Below = refl
 side_of-is_right Right = refl
 
 abbrev pub parts : Windows → List Part
-parts (Window number mode) = inl (number, mode) ∷ []
+parts (Window number mode margins) = inl (number, (mode, margins)) ∷ []
 parts (Split side size first second) = parts first ++ (parts second ++ inr (size, is_right side) ∷ [])
 
 -- the last two of what was made so far are joined
@@ -34,11 +34,11 @@ joined size side few = few
 
 abbrev pub made_onto : List Part → List Windows → List Windows
 made_onto [] done = done
-made_onto (inl window ∷ rest) done = made_onto rest (Window window.0 window.1 ∷ done)
+made_onto (inl window ∷ rest) done = made_onto rest (Window window.0 window.1.0 window.1.1 ∷ done)
 made_onto (inr split ∷ rest) done = made_onto rest (joined split.0 split.1 done)
 
 abbrev pub top : List Windows → Windows
-top [] = Window 0 false
+top [] = Window 0 false 0
 top (windows ∷ _) = windows
 
 abbrev pub from_parts : List Part → Windows
@@ -46,11 +46,11 @@ from_parts ps = top (made_onto ps [])
 
 pub made_onto-append : (ps qs : List Part) (done : List Windows) → made_onto (ps ++ qs) done ≡ made_onto qs (made_onto ps done)
 made_onto-append [] qs done = refl
-made_onto-append (inl window ∷ ps) qs done = made_onto-append ps qs (Window window.0 window.1 ∷ done)
+made_onto-append (inl window ∷ ps) qs done = made_onto-append ps qs (Window window.0 window.1.0 window.1.1 ∷ done)
 made_onto-append (inr split ∷ ps) qs done = made_onto-append ps qs (joined split.0 split.1 done)
 
 pub made_onto-parts : (windows : Windows) (done : List Windows) → made_onto (parts windows) done ≡ windows ∷ done
-made_onto-parts (Window number mode) done = refl
+made_onto-parts (Window number mode margins) done = refl
 made_onto-parts (Split side size first second) done =
     made_onto-append (parts first) (parts second ++ inr (size, is_right side) ∷ []) done
     ∙ (ap (λ (d : List Windows). made_onto (parts second ++ inr (size, is_right side) ∷ []) d) (made_onto-parts first done)
@@ -63,7 +63,7 @@ from_parts-parts windows = ap top (made_onto-parts windows [])
 
 abbrev pub windows_code : Coded Windows
 windows_code =
-    code_by (List Part) (coded_list (coded⊎ (coded× coded_ℕ coded_bool) (coded× coded_ℕ coded_bool))) parts from_parts from_parts-parts
+    code_by (List Part) (coded_list (coded⊎ (coded× coded_ℕ (coded× coded_bool coded_ℕ)) (coded× coded_ℕ coded_bool))) parts from_parts from_parts-parts
 
 abbrev pub configuration_code : Coded Configuration
 configuration_code =

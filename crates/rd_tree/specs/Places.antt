@@ -2,7 +2,7 @@
 use Rattle.std.specs.Prelude.{ℕ, ◌+◌, ◌≤◌, Bool, false, if◌then◌else◌, nat_le, nat_lt, ◌==◌, ◌&&◌, ◌||◌, List, [], ◌∷◌, ◌++◌, Option, None, Some}
 use Rattle.rd_tree.specs.declared.rect.Rect.{Rect}
 use Rattle.rd_tree.specs.declared.placed.Placed.{Placed}
-use Rattle.rd_tree.specs.Windows.{Windows, Window, Split, rows_for, first_part, second_part, holds, is_window}
+use Rattle.rd_tree.specs.Windows.{Windows, Window, Split, columns_for, rows_for, first_part, second_part, holds, is_window}
 
 -- whether a place is one of so many from the first on
 abbrev pub is_from : ℕ → ℕ → ℕ → Bool
@@ -23,7 +23,7 @@ windows_with column row (window ∷ windows) = one_if (lies_in column row window
 -- each window has the columns and rows that it needs
 abbrev pub AllHaveRoom : List Placed → Type 0
 AllHaveRoom [] = Unit {0}
-AllHaveRoom (window ∷ windows) = (11 ≤ window.rect.width) × (rows_for window.mode ≤ window.rect.height) × AllHaveRoom windows
+AllHaveRoom (window ∷ windows) = (columns_for window.margins ≤ window.rect.width) × (rows_for window.mode ≤ window.rect.height) × AllHaveRoom windows
 
 -- a rectangle lies in another
 abbrev pub IsWithin : Rect → Rect → Type 0
@@ -31,7 +31,7 @@ IsWithin rect whole = (whole.x ≤ rect.x) × (rect.x + rect.width ≤ whole.x +
 
 -- a window stands in a rectangle and has the columns and rows that it needs
 abbrev pub StandsIn : Placed → Rect → Type 0
-StandsIn window rect = IsWithin window.rect rect × (11 ≤ window.rect.width) × (rows_for window.mode ≤ window.rect.height)
+StandsIn window rect = IsWithin window.rect rect × (columns_for window.margins ≤ window.rect.width) × (rows_for window.mode ≤ window.rect.height)
 
 -- a rectangle that is told lies in another, which is at most 400 columns and 200 rows, and has 11 columns and 1 row at least
 abbrev pub LiesIn : Option Rect → Rect → Type 0
@@ -55,7 +55,7 @@ is_among number (n ∷ numbers) = n == number || is_among number numbers
 
 -- the rectangle that the window with a number shares with its sibling
 abbrev pub shared_place : ℕ → Windows → Rect → Rect
-shared_place number (Window n mode) rect = rect
+shared_place number (Window n mode margins) rect = rect
 shared_place number (Split side size first second) rect =
     if is_window number first
     then rect

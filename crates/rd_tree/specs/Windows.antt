@@ -5,11 +5,15 @@ use Rattle.rd_tree.specs.declared.side.Side.{Side}
 use Rattle.rd_tree.specs.declared.side.Side.TheVariants.{Below, Right}
 use Rattle.rd_tree.specs.declared.placed.Placed.{Placed}
 
--- one window, with its number and whether it shows a mode line; or a split rectangle, whose first part, on top or to the
--- left, has so many rows or columns, with the windows of the first part and those of the second
+-- one window, with its number, whether it shows a mode line and how many columns its margins take; or a split rectangle, whose
+-- first part, on top or to the left, has so many rows or columns, with the windows of the first part and those of the second
 pub data Windows : Type 0 where
-  Window : ℕ → Bool → Windows
+  Window : ℕ → Bool → ℕ → Windows
   Split : Side → ℕ → Windows → Windows → Windows
+
+-- how many columns a window needs: 10 of text, 1 for a border, and those of its margins
+abbrev pub columns_for : ℕ → ℕ
+columns_for margins = 11 + margins
 
 -- how many rows a window needs
 abbrev pub rows_for : Bool → ℕ
@@ -17,13 +21,13 @@ rows_for mode = if mode then 2 else 1
 
 -- how many columns some windows need: the sum of both parts along a split, and the greater across it
 abbrev pub columns_needed : Windows → ℕ
-columns_needed (Window number mode) = 11
+columns_needed (Window number mode margins) = columns_for margins
 columns_needed (Split Right size first second) = columns_needed first + columns_needed second
 columns_needed (Split Below size first second) = max (columns_needed first) (columns_needed second)
 
 -- how many rows
 abbrev pub rows_needed : Windows → ℕ
-rows_needed (Window number mode) = rows_for mode
+rows_needed (Window number mode margins) = rows_for mode
 rows_needed (Split Right size first second) = max (rows_needed first) (rows_needed second)
 rows_needed (Split Below size first second) = rows_needed first + rows_needed second
 
@@ -51,18 +55,18 @@ NeedsMet windows rect = (columns_needed windows ≤ rect.width) × (rows_needed 
 
 -- each first part is at least as large as its windows need
 abbrev pub FirstPartsFit : Windows → Type 0
-FirstPartsFit (Window number mode) = Unit {0}
+FirstPartsFit (Window number mode margins) = Unit {0}
 FirstPartsFit (Split Right size first second) = (columns_needed first ≤ size) × FirstPartsFit first × FirstPartsFit second
 FirstPartsFit (Split Below size first second) = (rows_needed first ≤ size) × FirstPartsFit first × FirstPartsFit second
 
 -- the numbers of the windows in order, those of a first part before those of the second
 abbrev pub leaves : Windows → List ℕ
-leaves (Window number mode) = number ∷ []
+leaves (Window number mode margins) = number ∷ []
 leaves (Split side size first second) = leaves first ++ leaves second
 
 -- the windows in order with their rectangles, where they fill a rectangle together
 abbrev pub placed : Windows → Rect → List Placed
-placed (Window number mode) rect = record { number = number; mode = mode; rect = rect } ∷ []
+placed (Window number mode margins) rect = record { number = number; mode = mode; margins = margins; rect = rect } ∷ []
 placed (Split side size first second) rect = placed first (first_part side size rect) ++ placed second (second_part side size rect)
 
 -- the first window with a number
@@ -75,17 +79,17 @@ window_at number windows rect = of_number number (placed windows rect)
 
 -- whether a window with a number is among them
 abbrev pub holds : ℕ → Windows → Bool
-holds number (Window n mode) = n == number
+holds number (Window n mode margins) = n == number
 holds number (Split side size first second) = holds number first || holds number second
 
 -- each window has the columns and rows that it needs
 abbrev pub HasRoom : Windows → Rect → Type 0
-HasRoom (Window number mode) rect = (11 ≤ rect.width) × (rows_for mode ≤ rect.height)
+HasRoom (Window number mode margins) rect = (columns_for margins ≤ rect.width) × (rows_for mode ≤ rect.height)
 HasRoom (Split side size first second) rect = HasRoom first (first_part side size rect) × HasRoom second (second_part side size rect)
 
 -- the test of that
 abbrev pub fits : Windows → Rect → Bool
-fits (Window number mode) rect = nat_le 11 rect.width && nat_le (rows_for mode) rect.height
+fits (Window number mode margins) rect = nat_le (columns_for margins) rect.width && nat_le (rows_for mode) rect.height
 fits (Split side size first second) rect = fits first (first_part side size rect) && fits second (second_part side size rect)
 
 -- the size of the first part where a rectangle is shared anew: the second part has what is left behind the first part's old size,
@@ -96,20 +100,21 @@ first_size Below size second rect = rect.height - max (rows_needed second) (rect
 
 -- the windows where they share another rectangle
 abbrev pub resized : Windows → Rect → Windows
-resized (Window number mode) rect = Window number mode
+resized (Window number mode margins) rect = Window number mode margins
 resized (Split side size first second) rect =
     let new = first_size side size second rect in
     Split side new (resized first (first_part side new rect)) (resized second (second_part side new rect))
 
--- the windows where something else stands for the window with a number, by whether it shows a mode line
-abbrev pub replaced : ℕ → (Bool → Windows) → Windows → Windows
-replaced number other (Window n mode) = if n == number then other mode else Window n mode
+-- the windows where something else stands for the window with a number, by whether it shows a mode line and by its margins
+abbrev pub replaced : ℕ → (Bool → ℕ → Windows) → Windows → Windows
+replaced number other (Window n mode margins) = if n == number then other mode margins else Window n mode margins
 replaced number other (Split side size first second) =
     if holds number first then Split side size (replaced number other first) second else Split side size first (replaced number other second)
 
 -- a window that keeps the first rows or columns of its rectangle, and a new window, which shows a mode line where the old one does
-abbrev pub halves : ℕ → Side → ℕ → ℕ → Bool → Windows
-halves number side size new mode = Split side size (Window number mode) (Window new mode)
+-- and has its margins
+abbrev pub halves : ℕ → Side → ℕ → ℕ → Bool → ℕ → Windows
+halves number side size new mode margins = Split side size (Window number mode margins) (Window new mode margins)
 
 -- the windows where the window with a number is split
 abbrev pub split_at : ℕ → Side → ℕ → ℕ → Windows → Windows
@@ -117,27 +122,31 @@ split_at number side size new windows = replaced number (halves number side size
 
 -- the windows where the window with a number shows a mode line or does not
 abbrev pub with_mode : ℕ → Bool → Windows → Windows
-with_mode number shown windows = replaced number (λ _. Window number shown) windows
+with_mode number shown windows = replaced number (λ _ margins. Window number shown margins) windows
+
+-- the windows where the margins of the window with a number take so many columns
+abbrev pub with_margins : ℕ → ℕ → Windows → Windows
+with_margins number columns windows = replaced number (λ mode _. Window number mode columns) windows
 
 -- whether this is one window alone, with the number
 abbrev pub is_window : ℕ → Windows → Bool
-is_window number (Window n mode) = n == number
+is_window number (Window n mode margins) = n == number
 is_window number (Split side size first second) = false
 
 -- whether it is one window alone
 abbrev pub is_single : Windows → Bool
-is_single (Window number mode) = true
+is_single (Window number mode margins) = true
 is_single (Split side size first second) = false
 
 -- what shares a split rectangle with the window with a number
 abbrev pub sibling : ℕ → Windows → Windows
-sibling number (Window n mode) = Window n mode
+sibling number (Window n mode margins) = Window n mode margins
 sibling number (Split side size first second) =
     if is_window number first then second else (if is_window number second then first else (if holds number first then sibling number first else sibling number second))
 
 -- the windows without the window with a number: its sibling takes the rectangle of both
 abbrev pub removed : ℕ → Windows → Rect → Windows
-removed number (Window n mode) rect = Window n mode
+removed number (Window n mode margins) rect = Window n mode margins
 removed number (Split side size first second) rect =
     if is_window number first
     then resized second rect
@@ -149,10 +158,10 @@ removed number (Split side size first second) rect =
 
 -- the first window in order
 abbrev pub first_leaf : Windows → ℕ
-first_leaf (Window number mode) = number
+first_leaf (Window number mode margins) = number
 first_leaf (Split side size first second) = first_leaf first
 
 -- how many of the windows have a number
 abbrev pub times : ℕ → Windows → ℕ
-times number (Window n mode) = if n == number then 1 else 0
+times number (Window n mode margins) = if n == number then 1 else 0
 times number (Split side size first second) = times number first + times number second

@@ -1,6 +1,6 @@
 //! The nodes of a window tree.
 ghost use Rattle.std.specs.Prelude.{◌≡◌, ◌≤◌, length, slice_get, OnOk, OnErr};
-ghost use Rattle.rd_tree.specs.Windows.{HasRoom, InFrame, NeedsMet, FirstPartsFit, columns_needed, rows_needed, first_size, resized, leaves, window_at, holds, is_window, is_single, first_leaf, sibling, removed, split_at, with_mode};
+ghost use Rattle.rd_tree.specs.Windows.{HasRoom, InFrame, NeedsMet, FirstPartsFit, columns_needed, rows_needed, first_size, resized, leaves, window_at, holds, is_window, is_single, first_leaf, sibling, removed, split_at, with_mode, with_margins};
 ghost use Rattle.rd_tree.specs.Shapes.{shape};
 
 use crate::placed::{COLUMNS, Placed, rows_for};
@@ -16,6 +16,7 @@ pub(crate) enum Node {
     Leaf {
         number: u32,
         mode: bool,
+        margins: u32,
     },
     Split {
         side: Side,
@@ -51,7 +52,7 @@ impl Node {
         ensures { result ≡ columns_needed (shape self.now) }
     {
         match self {
-            Node::Leaf { .. } => COLUMNS,
+            Node::Leaf { margins, .. } => COLUMNS + *margins,
             Node::Split {
                 side,
                 first,
@@ -159,11 +160,16 @@ impl Node {
         ensures { result ≡ window_at window (shape self.now) rect }
     {
         match self {
-            Node::Leaf { number, mode } => {
+            Node::Leaf {
+                number,
+                mode,
+                margins,
+            } => {
                 if *number == window {
                     Some(Placed {
                         number: *number,
                         mode: *mode,
+                        margins: *margins,
                         rect,
                     })
                 } else {
@@ -216,12 +222,24 @@ impl Node {
         ensures same { OnErr result (shape self.new ≡ shape self.old) }
     {
         match self {
-            Node::Leaf { number, mode } => {
+            Node::Leaf {
+                number,
+                mode,
+                margins,
+            } => {
                 if *number == window {
-                    let mode = *mode;
-                    let number = window;
-                    let first = Box::new(alloc, Node::Leaf { number, mode })?;
-                    let second = Box::new(alloc, Node::Leaf { number: new, mode })?;
+                    let first = Node::Leaf {
+                        number: window,
+                        mode: *mode,
+                        margins: *margins,
+                    };
+                    let second = Node::Leaf {
+                        number: new,
+                        mode: *mode,
+                        margins: *margins,
+                    };
+                    let first = Box::new(alloc, first)?;
+                    let second = Box::new(alloc, second)?;
                     *self = Node::Split {
                         side,
                         size,
@@ -304,7 +322,7 @@ impl Node {
         ensures { shape self.new ≡ with_mode window shown (shape self.old) }
     {
         match self {
-            Node::Leaf { number, mode } => {
+            Node::Leaf { number, mode, .. } => {
                 if *number == window {
                     *mode = shown;
                 }
@@ -319,6 +337,28 @@ impl Node {
         }
     }
 
+    /// Lets the margins of the window with a number take so many columns.
+    pub(crate) fn set_margins(&mut self, window: u32, columns: u32)
+        ensures { shape self.new ≡ with_margins window columns (shape self.old) }
+    {
+        match self {
+            Node::Leaf {
+                number, margins, ..
+            } => {
+                if *number == window {
+                    *margins = columns;
+                }
+            }
+            Node::Split { first, second, .. } => {
+                if first.holds(window) {
+                    first.set_margins(window, columns);
+                } else {
+                    second.set_margins(window, columns);
+                }
+            }
+        }
+    }
+
     /// Takes the node out, and leaves a window in its place that is to be given up.
     fn take(&mut self) -> Node
         ensures { result ≡ self.old }
@@ -326,6 +366,7 @@ impl Node {
         let left = Node::Leaf {
             number: 0,
             mode: false,
+            margins: 0,
         };
         mem::replace(self, left)
     }

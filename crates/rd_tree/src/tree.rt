@@ -41,9 +41,9 @@ impl Tree {
     ghost use Rattle.std.specs.Prelude.{◌≡◌, ◌≤◌, slice_get, IfOk};
     ghost use Rattle.rd_tree.specs.Windows.{window_at, leaves};
     ghost use Rattle.rd_tree.specs.Places.{LiesIn};
-    ghost use Rattle.rd_tree.specs.Calls.{opening, frame_of, split_tree, remove_tree, resize_tree, mode_tree, rect_of, Answers, Splits, Removes, IsValid};
+    ghost use Rattle.rd_tree.specs.Calls.{opening, frame_of, split_tree, remove_tree, resize_tree, mode_tree, margins_tree, rect_of, margins_of, Answers, Splits, Removes, IsValid};
 
-    /// The window 0, without a mode line, in so many columns and rows: 11 to 400 columns, and 1 to 200 rows.
+    /// The window 0, without a mode line and margins, in so many columns and rows: 11 to 400 columns, and 1 to 200 rows.
     pub fn new(alloc: Global, width: u32, height: u32) -> Result<Tree, Memory>
         requires wide { 11 ≤ width }
         requires high { 1 ≤ height }
@@ -56,6 +56,7 @@ impl Tree {
             root: Node::Leaf {
                 number: 0,
                 mode: false,
+                margins: 0,
             },
             width,
             height,
@@ -65,7 +66,7 @@ impl Tree {
 
     /// Splits a window: it keeps the first `size` rows or columns of its rectangle, on top or to the left, and a new window gets
     /// the rest. Answers the new window's number, which is the count of windows made so far. The new window shows a mode line
-    /// where the old one does. The first of these faults counts: the window does not live; one of the two would not have the
+    /// where the old one does and has its margins. The first of these faults counts: the window does not live; one of the two would not have the
     /// columns and rows that it needs; 64 windows live or 4,294,967,295 were made. A fault changes nothing.
     pub fn split(&mut self, window: u32, side: Side, size: u32) -> Result<u32, TreeFault>
         ensures { Splits result (split_tree self.old window side size) self.old self.new }
@@ -105,7 +106,7 @@ impl Tree {
 
     /// Lets the windows fill another rectangle. Where a rectangle was split, the second part gets what is behind the first part's
     /// old size, but at least what its windows need, and the first part the rest. The fault is that a need would not be met: a window
-    /// needs 11 columns and 1 row, 2 with a mode line, and a split rectangle the sum of its parts along the split and the greater
+    /// needs 11 columns and those of its margins, and 1 row, 2 with a mode line, and a split rectangle the sum of its parts along the split and the greater
     /// across it.
     #[tactic(auto, unfolding(crate::specs::Calls::resize_tree))]
     pub fn resize(&mut self, width: u32, height: u32) -> Result<(), TreeFault>
@@ -142,6 +143,21 @@ impl Tree {
         Ok(())
     }
 
+    /// Lets the margins of a window take so many columns. The first of these faults counts: the window does not live; it has not the
+    /// 11 columns that it needs beside those of its margins.
+    pub fn margins(&mut self, window: u32, columns: u32) -> Result<(), TreeFault>
+        ensures { Answers result (margins_tree self.old window columns) self.old self.new }
+    {
+        let Some(old) = self.root.find(window, self.frame()) else {
+            return Err(TreeFault::NoWindow);
+        };
+        if !old.takes_margins(columns) {
+            return Err(TreeFault::TooSmall);
+        }
+        self.root.set_margins(window, columns);
+        Ok(())
+    }
+
     /// The windows in order, those of a first part before those of the second; None exactly past the last.
     pub fn leaf(&self, i: u32) -> Option<u32>
         ensures { result ≡ slice_get (leaves self.now.windows) i }
@@ -156,6 +172,14 @@ impl Tree {
     {
         let placed = self.root.find(window, self.frame())?;
         Some(placed.rect)
+    }
+
+    /// How many columns a window's margins take; None exactly where it does not live.
+    pub fn margin_columns(&self, window: u32) -> Option<u32>
+        ensures { result ≡ margins_of window self.now }
+    {
+        let placed = self.root.find(window, self.frame())?;
+        Some(placed.margins)
     }
 
     /// Each tree is valid: each window has the columns and rows that it needs, and its number stands once. The call does nothing.
