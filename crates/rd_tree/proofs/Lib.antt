@@ -1,4 +1,5 @@
 pub mod Answering
+pub mod Composing
 pub mod Keeping
 pub mod Listing
 pub mod Rooms

@@ -12,7 +12,7 @@ use Rattle.rd_tree.proofs.Siblings.{or_true, true_or}
 use Rattle.rd_tree.proofs.Standing.{listed, not_found, once_in_first, two_lists}
 
 -- what stands in two lists stands in one of them
-in_one : (xs ys : List Placed) (i : ℕ) (window : Placed) → slice_get (xs ++ ys) i ≡ Some window → ((j : ℕ) × (slice_get xs j ≡ Some window)) ⊎ ((j : ℕ) × (slice_get ys j ≡ Some window))
+pub in_one : (xs ys : List Placed) (i : ℕ) (window : Placed) → slice_get (xs ++ ys) i ≡ Some window → ((j : ℕ) × (slice_get xs j ≡ Some window)) ⊎ ((j : ℕ) × (slice_get ys j ≡ Some window))
 in_one [] ys i window e = inr (i, e)
 in_one (x ∷ xs) ys zero window e = inl (0, e)
 in_one (x ∷ xs) ys (suc i) window e =

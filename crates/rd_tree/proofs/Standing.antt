@@ -1,6 +1,6 @@
 -- Where windows stand.
 use Rattle.std.proofs.Common.{◌≡◌, ℕ, ◌+◌, ◌-◌, ◌≤◌, Bool, true, false, if◌then◌else◌, ◌==◌, ◌&&◌, ◌||◌, List, [], ◌∷◌, ◌++◌, append_assoc, append-nil, map, Option, None, Some, inl, inr, refl, sym, ap, subst, ◌∙◌, arith}
-use Rattle.std.specs.Prelude.{is_some}
+use Rattle.std.specs.Prelude.{is_some, IfSome}
 use Rattle.std.proofs.lemmas.Bool.Decides.{nat_tests}
 use Rattle.rd_tree.specs.declared.rect.Rect.{Rect}
 use Rattle.rd_tree.specs.declared.side.Side.{Side}
@@ -271,11 +271,11 @@ removed_others v n (Split side size first second) rect d e =
       ]
     ]
 
-first_within : (side : Side) (size : ℕ) (first second : Windows) (rect : Rect) → HasRoom (Split side size first second) rect → IsWithin (first_part side size rect) rect
+pub first_within : (side : Side) (size : ℕ) (first second : Windows) (rect : Rect) → HasRoom (Split side size first second) rect → IsWithin (first_part side size rect) rect
 first_within Right size first second rect h = let w = room_within Right size first second rect h in (omega arith, omega arith, omega arith, omega arith)
 first_within Below size first second rect h = let w = room_within Below size first second rect h in (omega arith, omega arith, omega arith, omega arith)
 
-second_within : (side : Side) (size : ℕ) (first second : Windows) (rect : Rect) → HasRoom (Split side size first second) rect → IsWithin (second_part side size rect) rect
+pub second_within : (side : Side) (size : ℕ) (first second : Windows) (rect : Rect) → HasRoom (Split side size first second) rect → IsWithin (second_part side size rect) rect
 second_within Right size first second rect h = let w = room_within Right size first second rect h in (omega arith, omega arith, omega arith, omega arith)
 second_within Below size first second rect h = let w = room_within Below size first second rect h in (omega arith, omega arith, omega arith, omega arith)
 
@@ -304,3 +304,8 @@ lies_in_frame c None number valid e = tt
 lies_in_frame c (Some window) number valid e =
     let s = stands_in number c.windows (frame_of c) window valid.room e in
     (s.0, omega (arith, s.1), omega (arith, rows_for-some window.mode, s.2), valid.wide, valid.high)
+
+-- a window that is told of a valid tree stands in its frame
+pub stands_in_frame : (c : Configuration) (found : Option Placed) (number : ℕ) → IsValid c → window_at number c.windows (frame_of c) ≡ found → IfSome found (λ window. StandsIn window (frame_of c))
+stands_in_frame c None number valid e = tt
+stands_in_frame c (Some window) number valid e = stands_in number c.windows (frame_of c) window valid.room e

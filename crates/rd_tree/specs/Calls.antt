@@ -66,14 +66,6 @@ rect_of_placed (Some window) = Some window.rect
 abbrev pub rect_of : ℕ → Configuration → Option Rect
 rect_of window c = rect_of_placed (window_at window c.windows (frame_of c))
 
--- the columns of the margins of a window that lives
-abbrev pub margins_of_placed : Option Placed → Option ℕ
-margins_of_placed None = None
-margins_of_placed (Some window) = Some window.margins
-
-abbrev pub margins_of : ℕ → Configuration → Option ℕ
-margins_of window c = margins_of_placed (window_at window c.windows (frame_of c))
-
 -- a call leaves what was said, or answers the fault that was said and changes nothing
 abbrev pub Answers : Result ⊤ TreeFault → Result Configuration TreeFault → Configuration → Configuration → Type 0
 Answers (Ok _) said old new = said ≡ Ok new

@@ -1,12 +1,14 @@
 //! Laws of the definitions, for the layers above.
-ghost use Rattle.std.specs.Prelude.{ℕ, ◌≡◌, ◌==◌, ◌≤◌, Bool, true, false, map, is_some, slice_get, Some, Ok, Err};
-ghost use Rattle.rd_tree.specs.declared.fault.TreeFault.TheVariants.{NoWindow, TooSmall, LastWindow};
+ghost use Rattle.std.specs.Prelude.{ℕ, ◌≡◌, ◌==◌, ◌≤◌, Bool, true, false, ◌-◌, map, is_some, slice_get, Some, Ok, List, All};
+ghost use Rattle.rd_base.specs.Cells.{AreColoured};
+ghost use Rattle.rd_base.specs.Glyphs.{IsRowAfter};
+ghost use Rattle.rd_base.specs.declared.cell.Cell.{Cell};
 ghost use Rattle.rd_tree.specs.declared.placed.Placed.{Placed};
 ghost use Rattle.rd_tree.specs.declared.rect.Rect.{Rect};
 ghost use Rattle.rd_tree.specs.declared.side.Side.{Side};
-ghost use Rattle.rd_tree.specs.declared.side.Side.TheVariants.{Below, Right};
-ghost use Rattle.rd_tree.specs.Windows.{Windows, Window, Split, HasRoom, NeedsMet, fits, placed, leaves, window_at, holds, halves, split_at, with_mode, with_margins, is_single, first_leaf, sibling, removed, resized, times};
-ghost use Rattle.rd_tree.specs.Calls.{Configuration, IsValid, opening, frame, split_tree, remove_tree, resize_tree, mode_tree, margins_tree, rect_of};
+ghost use Rattle.rd_tree.specs.Windows.{Windows, Window, HasRoom, NeedsMet, fits, placed, leaves, window_at, holds, halves, split_at, with_mode, with_margins, is_single, sibling, removed, resized, times};
+ghost use Rattle.rd_tree.specs.Calls.{Configuration, IsValid, opening, split_tree, remove_tree, resize_tree, mode_tree, margins_tree};
+ghost use Rattle.rd_tree.specs.Compositions.{composed, cell_at, HasSize, FillTheirRectangles, IsHeld};
 ghost use Rattle.rd_tree.specs.Places.{lies_in, windows_with, one_if, AllHaveRoom, StandsIn, in_place_of, without, is_among, shared_place};
 
 /// The opening is a valid tree, and each call that is not refused leaves a valid tree valid. The call does nothing.
@@ -57,26 +59,14 @@ pub fn other_windows_stay()
     ensures sibling { (other number : ℕ) (windows : Windows) (rect : Rect) → times other windows ≤ 1 → holds other (sibling number windows) ≡ true → window_at other (removed number windows rect) rect ≡ window_at other (resized (sibling number windows) (shared_place number windows rect)) (shared_place number windows rect) }
 {}
 
-/// A tree of 24 columns and 5 rows is split, and its first window removed. The call does nothing.
-#[tactic(auto, unfolding(crate::specs::Calls::split_tree, crate::specs::Calls::remove_tree))]
-pub fn a_split_and_a_removal()
-    ensures small { split_tree (opening 24 5) 0 Right 10 ≡ Err TooSmall }
-    ensures split { split_tree (opening 24 5) 0 Right 11 ≡ Ok (record { windows = Split Right 11 (Window 0 false 0) (Window 1 false 0); width = 24; height = 5; made = 2 }) }
-    ensures place { rect_of 1 (record { windows = Split Right 11 (Window 0 false 0) (Window 1 false 0); width = 24; height = 5; made = 2 }) ≡ Some (record { x = 11; y = 0; width = 13; height = 5 }) }
-    ensures heir { first_leaf (sibling 0 (Split Right 11 (Window 0 false 0) (Window 1 false 0))) ≡ 1 }
-    ensures removed { remove_tree (record { windows = Split Right 11 (Window 0 false 0) (Window 1 false 0); width = 24; height = 5; made = 2 }) 0 ≡ Ok (record { windows = Window 1 false 0; width = 24; height = 5; made = 2 }) }
-    ensures filled { rect_of 1 (record { windows = Window 1 false 0; width = 24; height = 5; made = 2 }) ≡ Some (record { x = 0; y = 0; width = 24; height = 5 }) }
-    ensures last { remove_tree (record { windows = Window 1 false 0; width = 24; height = 5; made = 2 }) 1 ≡ Err LastWindow }
-    ensures unknown { remove_tree (record { windows = Window 1 false 0; width = 24; height = 5; made = 2 }) 0 ≡ Err NoWindow }
-{}
-
-/// How two windows share other rectangles, and when mode lines leave room. The call does nothing.
-#[tactic(auto, unfolding(crate::specs::Calls::resize_tree, crate::specs::Calls::mode_tree))]
-pub fn shared_anew()
-    ensures wider { resized (Split Right 11 (Window 0 false 0) (Window 1 false 0)) (frame 30 5) ≡ Split Right 11 (Window 0 false 0) (Window 1 false 0) }
-    ensures narrower { resized (Split Right 15 (Window 0 false 0) (Window 1 false 0)) (frame 23 5) ≡ Split Right 12 (Window 0 false 0) (Window 1 false 0) }
-    ensures lower { resized (Split Below 3 (Window 0 true 0) (Window 1 true 0)) (frame 24 4) ≡ Split Below 2 (Window 0 true 0) (Window 1 true 0) }
-    ensures least { resize_tree (record { windows = Split Right 12 (Window 0 false 0) (Window 1 false 0); width = 24; height = 5; made = 2 }) 21 5 ≡ Err TooSmall }
-    ensures mode { mode_tree (record { windows = Split Below 1 (Window 0 false 0) (Window 1 false 0); width = 24; height = 5; made = 2 }) 0 true ≡ Err TooSmall }
-    ensures shown { mode_tree (record { windows = Split Below 1 (Window 0 false 0) (Window 1 false 0); width = 24; height = 5; made = 2 }) 1 true ≡ Ok (record { windows = Split Below 1 (Window 0 false 0) (Window 1 true 0); width = 24; height = 5; made = 2 }) }
+/// The rows of a frame are those of its windows: each cell is that of the window that holds it, at its place in the window's rectangle.
+/// They fill the rectangle where each window's rows fill the window's, each glyph stands whole and each colour is in its range where
+/// they are in each window's rows, and nothing but the rows of the windows counts. The call does nothing.
+pub fn frames_are_composed()
+    ensures size { (rows_of : Placed → List (List Cell)) (windows : Windows) (rect : Rect) → HasRoom windows rect → FillTheirRectangles rows_of (placed windows rect) → HasSize rect.width rect.height (composed rows_of windows rect) }
+    ensures cell { (rows_of : Placed → List (List Cell)) (windows : Windows) (rect : Rect) (column row i : ℕ) (window : Placed) → HasRoom windows rect → FillTheirRectangles rows_of (placed windows rect) → slice_get (placed windows rect) i ≡ Some window → lies_in column row window.rect ≡ true → cell_at (column - rect.x) (row - rect.y) (composed rows_of windows rect) ≡ cell_at (column - window.rect.x) (row - window.rect.y) (rows_of window) }
+    ensures held { (windows : Windows) (rect : Rect) (column row : ℕ) → HasRoom windows rect → lies_in column row rect ≡ true → IsHeld column row (placed windows rect) }
+    ensures whole { (rows_of : Placed → List (List Cell)) (windows : Windows) (rect : Rect) → All (λ window. All (IsRowAfter 0) (rows_of window)) (placed windows rect) → All (IsRowAfter 0) (composed rows_of windows rect) }
+    ensures coloured { (rows_of : Placed → List (List Cell)) (windows : Windows) (rect : Rect) → All (λ window. AreColoured (rows_of window)) (placed windows rect) → AreColoured (composed rows_of windows rect) }
+    ensures same { (rows_of others : Placed → List (List Cell)) (windows : Windows) (rect : Rect) → All (λ window. rows_of window ≡ others window) (placed windows rect) → composed rows_of windows rect ≡ composed others windows rect }
 {}

@@ -1,9 +1,11 @@
 //! The windows of a frame, and the rectangles in which they stand.
 #![tactic(auto)]
 
+mod examples;
 mod fault;
 mod laws;
 mod node;
+mod panes;
 mod placed;
 mod rect;
 mod side;
@@ -11,12 +13,11 @@ mod tree;
 
 pub use fault::TreeFault;
 pub use laws::{
-    a_split_and_a_removal, calls_keep_trees, needs_are_exact, other_windows_stay, shared_anew,
+    calls_keep_trees, frames_are_composed, needs_are_exact, other_windows_stay,
     windows_tile_their_rectangle,
 };
+pub use panes::Panes;
+pub use placed::Placed;
 pub use rect::Rect;
 pub use side::Side;
 pub use tree::Tree;
-
-#[cfg(test)]
-mod tests;

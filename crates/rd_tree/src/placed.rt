@@ -10,11 +10,11 @@ pub(crate) const COLUMNS: u32 = 11;
 
 /// A window that lives: its number, whether it shows a mode line, the columns of its margins, and its rectangle.
 #[derive(Clone, Copy, Debug, PartialEq, Eq)]
-pub(crate) struct Placed {
-    pub(crate) number: u32,
-    pub(crate) mode: bool,
-    pub(crate) margins: u32,
-    pub(crate) rect: Rect,
+pub struct Placed {
+    pub number: u32,
+    pub mode: bool,
+    pub margins: u32,
+    pub rect: Rect,
 }
 
 /// How many rows a window needs: one of text, and one more for a mode line.

@@ -1,9 +1,11 @@
 //! The windows of a frame, which share its rows but the last.
 use crate::fault::TreeFault;
 use crate::node::Node;
+use crate::panes::Panes;
+use crate::placed::Placed;
 use crate::rect::Rect;
 use crate::side::Side;
-use rd_base::Memory;
+use rd_base::{Cell, ListOf, Memory};
 use std::alloc::Global;
 use std::marker::Model;
 
@@ -38,10 +40,11 @@ impl Model for Tree {
 }
 
 impl Tree {
-    ghost use Rattle.std.specs.Prelude.{◌≡◌, ◌≤◌, slice_get, IfOk};
-    ghost use Rattle.rd_tree.specs.Windows.{window_at, leaves};
-    ghost use Rattle.rd_tree.specs.Places.{LiesIn};
-    ghost use Rattle.rd_tree.specs.Calls.{opening, frame_of, split_tree, remove_tree, resize_tree, mode_tree, margins_tree, rect_of, margins_of, Answers, Splits, Removes, IsValid};
+    ghost use Rattle.std.specs.Prelude.{◌≡◌, ◌≤◌, ◌<◌, ◌++◌, slice_get, IfOk, OnOk, IfSome};
+    ghost use Rattle.rd_tree.specs.Windows.{window_at, leaves, placed};
+    ghost use Rattle.rd_tree.specs.Places.{LiesIn, StandsIn};
+    ghost use Rattle.rd_tree.specs.Compositions.{composed, row_at, FillTheirRectangles};
+    ghost use Rattle.rd_tree.specs.Calls.{opening, frame_of, split_tree, remove_tree, resize_tree, mode_tree, margins_tree, rect_of, Answers, Splits, Removes, IsValid};
 
     /// The window 0, without a mode line and margins, in so many columns and rows: 11 to 400 columns, and 1 to 200 rows.
     pub fn new(alloc: Global, width: u32, height: u32) -> Result<Tree, Memory>
@@ -174,12 +177,26 @@ impl Tree {
         Some(placed.rect)
     }
 
-    /// How many columns a window's margins take; None exactly where it does not live.
-    pub fn margin_columns(&self, window: u32) -> Option<u32>
-        ensures { result ≡ margins_of window self.now }
+    /// A window's mode line, margins and rectangle; None exactly where it does not live.
+    pub fn placed(&self, window: u32) -> Option<Placed>
+        ensures place { result ≡ window_at window self.now.windows (frame_of self.now) }
+        ensures inside { IfSome result (λ placed. StandsIn placed (frame_of self.now)) }
     {
-        let placed = self.root.find(window, self.frame())?;
-        Some(placed.margins)
+        self.root.find(window, self.frame())
+    }
+
+    /// Adds the cells of a row at the end of a list, from what the windows show: 0 is the first row of the rectangle that they fill.
+    pub fn put_row<P: Panes>(
+        &self,
+        panes: &P,
+        row: u32,
+        cells: &mut ListOf<Cell>,
+    ) -> Result<(), Memory>
+        requires filled { FillTheirRectangles (P.rows_of panes.now) (placed self.now.windows (frame_of self.now)) }
+        requires within { row < self.now.height }
+        ensures { OnOk result (cells.new ≡ cells.old ++ row_at row (composed (P.rows_of panes.now) self.now.windows (frame_of self.now))) }
+    {
+        self.root.put_row(panes, self.frame(), row, cells)
     }
 
     /// Each tree is valid: each window has the columns and rows that it needs, and its number stands once. The call does nothing.
