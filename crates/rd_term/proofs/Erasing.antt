@@ -5,7 +5,8 @@ use Rattle.std.proofs.lemmas.Bool.{cases_eq}
 use Rattle.rd_base.specs.declared.cell.Cell.{Cell}
 use Rattle.rd_term.specs.Pictures.{blank, width_of}
 use Rattle.rd_term.specs.Overwriting.{later_columns}
-use Rattle.rd_term.specs.Terminals.{cleared, erased_from, IsTerminal, IsWithin}
+use Rattle.rd_term.specs.Shifts.{cleared}
+use Rattle.rd_term.specs.Terminals.{erased_from, IsTerminal, IsWithin, HasRegion}
 use Rattle.rd_term.proofs.Cutting.{length-overwritten}
 
 pub erased_more : {X : Type 0} (row whole : List X) (column i : ℕ) (y : X) → i < length row → column ≤ i
@@ -43,76 +44,9 @@ length-erased column row le =
     let none : later_columns (drop (length row) row) ≡ 0 = ap later_columns (drop_of_length-le row (le_refl (length row))) in
     length-overwritten row (replicate (length row - column) (Some blank)) column (length row) n (omega arith)
 
-width-set : {A : Type 0} (rows : List (List A)) (row : ℕ) (new : List A) → length new ≡ length (get_or rows row []) → width_of (set rows row new) ≡ width_of rows
-width-set [] row new e = refl
-width-set (r ∷ rows) zero new e = e
-width-set (r ∷ rows) (suc row) new e = refl
-
--- a terminal with another row of the same width
-pub terminal-set : (rows : List (List (Option Cell))) (cursor : Option (ℕ × ℕ)) (row : ℕ) (new : List (Option Cell)) → IsTerminal rows cursor
-    → row < length rows → length new ≡ length (get_or rows row []) → IsTerminal (set rows row new) cursor
-terminal-set rows cursor row new h lt e =
-    let w = width-set rows row new e in
-    let n = length-set rows row new in
-    record {
-      each = λ k d p. elim (cases_eq k row) [
-        | inl s ↦ rw (w, s, get_or-set_same rows row new d lt) (e ∙ h.each row [] lt)
-        | inr s ↦ rw (w, get_or-set_other rows row k new d s) (h.each k d (rw (sym n) p))
-      ];
-      some = rw w h.some;
-      wide = rw w h.wide;
-      tall = rw n h.tall;
-      place = rw (w, n) h.place;
-    }
-
-width-cleared : (rows : List (List (Option Cell))) → width_of (map cleared rows) ≡ width_of rows
-width-cleared [] = refl
-width-cleared (row ∷ rows) = length-replicate (length row) (Some blank)
-
--- a terminal whose cells are all cleared
-pub terminal-cleared : (rows : List (List (Option Cell))) (cursor : Option (ℕ × ℕ)) → IsTerminal rows cursor → IsTerminal (map cleared rows) cursor
-terminal-cleared rows cursor h =
-    let w = width-cleared rows in
-    let n = length-map rows cleared in
-    record {
-      each = λ k d p.
-          let within : k < length rows = omega arith in
-          rw (w, get_or-map cleared rows k [] d within) (length-replicate (length (get_or rows k [])) (Some blank) ∙ h.each k [] within);
-      some = rw w h.some;
-      wide = rw w h.wide;
-      tall = rw n h.tall;
-      place = rw (w, n) h.place;
-    }
-
--- ---- places that stay on the rows
-
-pub within-cleared : (rows : List (List (Option Cell))) (place : Option (ℕ × ℕ)) → IsWithin rows place → IsWithin (map cleared rows) place
-within-cleared rows place h =
-    let w = width-cleared rows in
-    let n = length-map rows cleared in
-    rw (w, n) h
-
-pub within-set : (rows : List (List (Option Cell))) (place : Option (ℕ × ℕ)) (row : ℕ) (new : List (Option Cell)) → length new ≡ length (get_or rows row []) → IsWithin rows place → IsWithin (set rows row new) place
-within-set rows place row new e h =
-    let w = width-set rows row new e in
-    let n = length-set rows row new in
-    rw (w, n) h
-
 -- a row that was filled from its beginning to its end
 pub filled-whole : (row : List (Option Cell)) (end : ℕ) → end ≡ length row → take 0 row ++ (replicate (end - 0) (Some blank) ++ drop end row) ≡ cleared row
 filled-whole row end e =
     let gone : drop end row ≡ [] = drop_of_length-le row (omega (arith, e)) in
     let n : end - 0 ≡ length row = omega (arith, e) in
     rw (gone, n) (append-nil (replicate (length row) (Some blank)))
-
--- a terminal with another row of the same width, its cursor and the latest place on it
-pub terminal-put : (rows : List (List (Option Cell))) (cursor : Option (ℕ × ℕ)) (row column next : ℕ) (new : List (Option Cell)) → IsTerminal rows cursor
-    → row < length rows → column < width_of rows → next < width_of rows → length new ≡ length (get_or rows row [])
-    → IsTerminal (set rows row new) (Some (row, next)) × IsWithin (set rows row new) (Some (row, column))
-terminal-put rows cursor row column next new h lt here there e =
-    let w = width-set rows row new e in
-    let n = length-set rows row new in
-    let s = terminal-set rows cursor row new h lt e in (
-      record { each = s.each; some = s.some; wide = s.wide; tall = s.tall; place = rw (w, n) (lt, there) },
-      rw (w, n) (lt, here),
-    )

@@ -4,4 +4,5 @@ pub mod Erasing
 pub mod Feeding
 pub mod Measured
 pub mod Putting
-pub mod Wholeness
+pub mod Shapes
+pub mod Writing

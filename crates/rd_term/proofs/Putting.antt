@@ -9,14 +9,14 @@ use Rattle.rd_term.specs.Overwriting.{overwritten}
 use Rattle.rd_term.specs.Terminals.{Tty, put_at}
 use Rattle.rd_term.specs.declared.reading.Reading.{Reading}
 
-pub put-made : (rows : List (List (Option Cell))) (cursor : Option (ℕ × ℕ)) (wait : Bool) (pen : Option Attributes) (latest : Option (ℕ × ℕ)) (reading : Reading) (confused : Bool)
+pub put-made : (rows : List (List (Option Cell))) (region cursor : Option (ℕ × ℕ)) (wait : Bool) (pen : Option Attributes) (latest : Option (ℕ × ℕ)) (reading : Reading) (confused : Bool)
     → (row column : ℕ) (g : Glyph) (face : Attributes) (cells new : List (Option Cell)) (long next : ℕ)
     → cells ≡ get_or rows row [] → long ≡ length cells → new ≡ overwritten column (map Some (glyph_cells g.width g face)) cells
     → next ≡ min (column + g.width) (long - 1) → g ≡ single g.base g.width
-    → let t : Tty = record { rows = rows; cursor = cursor; wait = wait; pen = pen; latest = latest; reading = reading; confused = confused } in
-    let u : Tty = record { rows = set rows row new; cursor = Some (row, next); wait = nat_le long (column + g.width); pen = pen; latest = Some (row, column); reading = reading; confused = confused } in
+    → let t : Tty = record { rows = rows; region = region; cursor = cursor; wait = wait; pen = pen; latest = latest; reading = reading; confused = confused } in
+    let u : Tty = record { rows = set rows row new; region = region; cursor = Some (row, next); wait = nat_le long (column + g.width); pen = pen; latest = Some (row, column); reading = reading; confused = confused } in
     u ≡ put_at g.base g.width face row column t
-put-made rows cursor wait pen latest reading confused row column g face cells new long next p q r s e =
+put-made rows region cursor wait pen latest reading confused row column g face cells new long next p q r s e =
     let long_is : long ≡ length (get_or rows row []) = q ∙ ap length p in
     let next_is : next ≡ min (column + g.width) (length (get_or rows row []) - 1) = s ∙ ap (λ k. min (column + g.width) (k - 1)) long_is in
     let new_is : new ≡ overwritten column (map Some (glyph_cells g.width (single g.base g.width) face)) (get_or rows row []) =

@@ -1,6 +1,9 @@
 pub mod Characters
+pub mod Controls
 pub mod Overwriting
 pub mod Parameters
 pub mod Pens
 pub mod Pictures
+pub mod Shifts
+pub mod Steps
 pub mod Terminals

@@ -1,6 +1,6 @@
 -- What a screen shows.
-use Rattle.std.specs.Prelude.{◌≡◌, ℕ, ◌<◌, ◌≤◌, List, [], ◌∷◌, length, All, replicate, slice_index_or, slice_set}
-use Rattle.rd_base.specs.Cells.{single, HasColours}
+use Rattle.std.specs.Prelude.{◌≡◌, ℕ, ◌+◌, ◌<◌, ◌≤◌, List, [], ◌∷◌, ◌++◌, length, take, drop, All, replicate, slice_index_or, slice_set}
+use Rattle.rd_base.specs.Cells.{HasColours}
 use Rattle.rd_base.specs.Faces.{plain}
 use Rattle.rd_base.specs.Glyphs.{IsRowAfter}
 use Rattle.rd_base.specs.declared.cell.Cell.{Cell}
@@ -51,6 +51,14 @@ row_at rows row = slice_index_or rows row []
 abbrev pub cell_at : List (List Cell) → ℕ → ℕ → Cell
 cell_at rows row column = slice_index_or (row_at rows row) column blank
 
+-- a row with these cells in place of its own from a column on
+abbrev pub written_over : {A : Type 0} → ℕ → List A → List A → List A
+written_over column cells row = take column row ++ (cells ++ drop (column + length cells) row)
+
+-- the rows with these cells in place of a row's own from a column on
+abbrev pub with_cells : {A : Type 0} → List (List A) → ℕ → ℕ → List A → List (List A)
+with_cells rows row column cells = slice_set rows row (written_over column cells (row_at rows row))
+
 -- the rows with another cell at a place
 abbrev pub with_cell : {A : Type 0} → List (List A) → ℕ → ℕ → A → List (List A)
 with_cell rows row column cell = slice_set rows row (slice_set (row_at rows row) column cell)
@@ -70,13 +78,3 @@ IsColoured (First g f) = HasColours f
 -- rows of such cells
 abbrev pub AreColoured : List (List Cell) → Type 0
 AreColoured rows = All (λ row. All IsColoured row) rows
-
--- a blank, or a printable character of ASCII, in the plain face
-abbrev pub IsPlainCell : Cell → Type 0
-IsPlainCell (Blank f) = f ≡ plain
-IsPlainCell (First g f) = (33 ≤ g.base) × (g.base ≤ 126) × (g ≡ single g.base 1) × (f ≡ plain)
-IsPlainCell Rest = ⊥
-
--- rows of such cells: each of these is well formed
-abbrev pub ArePlain : List (List Cell) → Type 0
-ArePlain rows = All (λ row. All IsPlainCell row) rows

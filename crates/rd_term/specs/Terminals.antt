@@ -6,19 +6,25 @@ use Rattle.rd_base.specs.Glyphs.{glyph_cells}
 use Rattle.rd_base.specs.declared.cell.Glyph.{Glyph}
 use Rattle.rd_base.specs.declared.cell.Cell.{Cell}
 use Rattle.rd_base.specs.declared.cell.Cell.TheVariants.{Blank, First, Rest}
-use Rattle.rd_term.specs.Characters.{CharacterRead, begun, with_bits, continued, columns_of}
+use Rattle.rd_term.specs.Characters.{columns_of}
 use Rattle.rd_term.specs.Overwriting.{overwritten}
-use Rattle.rd_term.specs.Parameters.{ParametersRead, no_parameters, with_digit, separated, numbers_of}
 use Rattle.rd_term.specs.Pens.{are_renditions, pen_by}
 use Rattle.rd_term.specs.Pictures.{Picture, blank, row_at, with_cell, width_of, IsGrid}
+use Rattle.rd_term.specs.Shifts.{cleared, moved_down, moved_up, changed_between, rows_moved}
+use Rattle.rd_term.specs.Steps.{read_byte}
+use Rattle.rd_term.specs.declared.control.Control.{Control}
+use Rattle.rd_term.specs.declared.control.Control.TheVariants.{MoveTo, ClearAll, EraseToEnd, InsertRows, DeleteRows, ChangePen, SetRegion}
 use Rattle.rd_term.specs.declared.reading.Reading.{Reading}
-use Rattle.rd_term.specs.declared.reading.Reading.TheVariants.{Between, Escaped, Sequence, Character}
+use Rattle.rd_term.specs.declared.reading.Reading.TheVariants.{Between, Escaped}
+use Rattle.rd_term.specs.declared.reading.Step.{Step}
+use Rattle.rd_term.specs.declared.reading.Step.TheVariants.{Begins, GoesOn, Prints, Obeys, Fails}
 
--- A cell that is not known is None, and so are a cursor and a pen. The cursor is a row and a column from 0. `wait` says that
--- a character filled the cursor's row; while the cursor is not known it is false. `latest` is the first place of the character
--- that the bytes directly before this put, and None after a sequence.
+-- A cell that is not known is None, and so are a region, a cursor and a pen. The region is its first and its last row, and the
+-- cursor a row and a column, all from 0. `wait` says that a character filled the cursor's row; while the cursor is not known it is
+-- false. `latest` is the first place of the character that the bytes directly before this put, and None after a sequence.
 pub record Tty : Type 0 where
   pub rows : List (List (Option Cell))
+  pub region : Option (ℕ × ℕ)
   pub cursor : Option (ℕ × ℕ)
   pub wait : Bool
   pub pen : Option Attributes
@@ -30,6 +36,7 @@ pub record Tty : Type 0 where
 abbrev pub unknown : ℕ → ℕ → Tty
 unknown width height = record {
   rows = replicate height (replicate width None);
+  region = None;
   cursor = None;
   wait = false;
   pen = None;
@@ -59,9 +66,6 @@ move_to (r ∷ c ∷ []) t = if on_screen t.rows r c then record t { cursor = So
 move_to numbers t = confuse t
 
 -- `\e[2J`: all cells become blank and plain, by a plain pen
-abbrev pub cleared : List (Option Cell) → List (Option Cell)
-cleared row = replicate (length row) (Some blank)
-
 abbrev pub clear : List ℕ → Tty → Tty
 clear (n ∷ []) t = if n == 2 && writes_plain t.pen then record t { rows = map cleared t.rows } else confuse t
 clear numbers t = confuse t
@@ -84,18 +88,41 @@ abbrev pub dress : List ℕ → Tty → Tty
 dress [] t = confuse t
 dress (n ∷ ns) t = if are_renditions (n ∷ ns) then record t { pen = pen_by (n ∷ ns) t.pen } else confuse t
 
--- a whole sequence, by its last byte and its numbers
-abbrev pub obey : ℕ → List ℕ → Tty → Tty
-obey byte numbers t =
-    if byte == 72 then move_to numbers t
-    else if byte == 74 then clear numbers t
-    else if byte == 75 then erase numbers t
-    else if byte == 109 then dress numbers t
-    else confuse t
+-- `\e[t;br`: the region becomes the rows t to b, counted from 1, where t is less than b and both are on the screen; the cursor is
+-- not known then, and the wait ends
+abbrev pub set_region : List ℕ → Tty → Tty
+set_region (t ∷ b ∷ []) s =
+    if nat_lt 0 t && nat_lt t b && nat_le b (length s.rows) then
+      record s { region = Some (t - 1, b - 1); cursor = None; wait = false }
+    else confuse s
+set_region numbers s = confuse s
 
-abbrev pub end_sequence : ℕ → Option (List ℕ) → Tty → Tty
-end_sequence byte None t = confuse t
-end_sequence byte (Some numbers) t = obey byte numbers t
+-- `\e[nL` and `\e[nM`: the rows from the cursor's to the region's last are moved down or up by n, which is at least 1, by a plain
+-- pen, while no wait stands, with a cursor in a known region; the cursor is not known then
+abbrev pub move_rows : (List (List (Option Cell)) → List (List (Option Cell))) → Option (ℕ × ℕ) → Tty → Tty
+move_rows move None t = confuse t
+move_rows move (Some part) t = record t { rows = changed_between part.0 part.1 move t.rows; cursor = None }
+
+abbrev pub may_move : ℕ → Tty → Bool
+may_move n t = nat_lt 0 n && writes_plain t.pen && not t.wait
+
+abbrev pub insert_rows : List ℕ → Tty → Tty
+insert_rows (n ∷ []) t = if may_move n t then move_rows (moved_down n) (rows_moved t.region t.cursor) t else confuse t
+insert_rows numbers t = confuse t
+
+abbrev pub delete_rows : List ℕ → Tty → Tty
+delete_rows (n ∷ []) t = if may_move n t then move_rows (moved_up n) (rows_moved t.region t.cursor) t else confuse t
+delete_rows numbers t = confuse t
+
+-- a whole sequence, by its control function and its numbers
+abbrev pub obey : Control → List ℕ → Tty → Tty
+obey MoveTo numbers t = move_to numbers t
+obey ClearAll numbers t = clear numbers t
+obey EraseToEnd numbers t = erase numbers t
+obey InsertRows numbers t = insert_rows numbers t
+obey DeleteRows numbers t = delete_rows numbers t
+obey ChangePen numbers t = dress numbers t
+obey SetRegion numbers t = set_region numbers t
 
 -- the cell of a character of one column
 abbrev pub cell_of : ℕ → Attributes → Cell
@@ -149,38 +176,17 @@ show code None t = confuse t
 show code (Some zero) t = join code t.latest t
 show code (Some (suc columns)) t = put code (suc columns) t.pen t.cursor t
 
--- the first byte of a character of more than one
-abbrev pub begin : Option CharacterRead → Tty → Tty
-begin None t = confuse t
-begin (Some c) t = record t { reading = Character c }
-
--- a digit may be too much
-abbrev pub go_on : Option ParametersRead → Tty → Tty
-go_on None t = confuse t
-go_on (Some parameters) t = record t { reading = Sequence parameters }
-
-abbrev pub is_digit : ℕ → Bool
-is_digit byte = nat_le 48 byte && nat_le byte 57
-
--- the next byte, by what was read of a sequence or of a character before it
-abbrev pub read_byte : Reading → ℕ → Tty → Tty
-read_byte Between byte t =
-    if byte == 27 then record t { reading = Escaped; latest = None }
-    else if nat_lt byte 128 then show byte (columns_of byte) t
-    else begin (begun byte) t
-read_byte Escaped byte t = if byte == 91 then record t { reading = Sequence no_parameters } else confuse t
-read_byte (Sequence parameters) byte t =
-    if is_digit byte then go_on (with_digit parameters (byte - 48)) t
-    else if byte == 59 then record t { reading = Sequence (separated parameters) }
-    else end_sequence byte (numbers_of parameters) t
-read_byte (Character c) byte t =
-    if nat_lt byte c.low || nat_lt c.high byte then confuse t
-    else if nat_le c.due 1 then show (with_bits c byte) (columns_of (with_bits c byte)) t
-    else record t { reading = Character (continued c byte) }
+-- what was read
+abbrev pub perform : Step → Tty → Tty
+perform Begins t = record t { reading = Escaped; latest = None }
+perform (GoesOn reading) t = record t { reading = reading }
+perform (Prints code) t = show code (columns_of code) t
+perform (Obeys control numbers) t = obey control numbers t
+perform Fails t = confuse t
 
 -- one byte; a confused terminal stays as it is
 abbrev pub feed_byte : Tty → ℕ → Tty
-feed_byte t byte = if t.confused then t else read_byte t.reading byte (record t { reading = Between })
+feed_byte t byte = if t.confused then t else perform (read_byte t.reading byte) (record t { reading = Between })
 
 -- bytes, one after another
 abbrev pub feed_bytes : Tty → List ℕ → Tty
@@ -208,3 +214,7 @@ pub record IsTerminal (rows : List (List (Option Cell))) (cursor : Option (ℕ �
 -- a known place is on the rows
 abbrev pub IsWithin : List (List (Option Cell)) → Option (ℕ × ℕ) → Type 0
 IsWithin rows place = IfSome place (λ place. (place.0 < length rows) × (place.1 < width_of rows))
+
+-- a known region is two rows or more of them
+abbrev pub HasRegion : List (List (Option Cell)) → Option (ℕ × ℕ) → Type 0
+HasRegion rows region = IfSome region (λ r. (r.0 < r.1) × (r.1 < length rows))

@@ -2,21 +2,20 @@
 #![tactic(auto)]
 
 mod character;
+mod control;
+mod examples;
 mod laws;
+mod obeying;
 mod overwriting;
 mod parameters;
 mod pen;
+mod printing;
 mod reading;
 mod rows;
 mod screen;
+mod shifting;
 mod terminal;
 
-pub use laws::{
-    a_cut_makes_no_difference, characters_are_read, plain_cells_are_coloured,
-    plain_pictures_are_well_formed,
-};
+pub use laws::{a_cut_makes_no_difference, characters_are_read};
 pub use screen::Screen;
 pub use terminal::Terminal;
-
-#[cfg(test)]
-mod tests;

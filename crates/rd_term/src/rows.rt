@@ -1,5 +1,6 @@
 //! Rows of equal width.
-ghost use Rattle.std.specs.Prelude.{◌≡◌, ◌-◌, ◌≤◌, ◌++◌, IfOk, length, take, drop, replicate};
+ghost use Rattle.std.specs.Prelude.{◌≡◌, ◌+◌, ◌-◌, ◌≤◌, ◌++◌, IfOk, length, take, drop, replicate};
+ghost use Rattle.rd_term.specs.Pictures.{written_over};
 
 use rd_base::{ListOf, Memory};
 use std::alloc::Global;
@@ -37,5 +38,16 @@ pub(crate) fn fill<T: Copy + Drop>(row: &mut ListOf<T>, from: usize, to: usize, 
 {
     for i in from..to {
         row.set(i, value);
+    }
+}
+
+/// Puts these values in place of a row's from a column on.
+pub(crate) fn write_over<T: Copy + Drop>(row: &mut ListOf<T>, column: usize, values: &[T])
+    requires room { column + length values.now ≤ length row.old }
+    requires narrow { length row.old ≤ 400 }
+    ensures { row.new ≡ written_over column values.now row.old }
+{
+    for i in 0..values.len() {
+        row.set(column + i, values[i]);
     }
 }

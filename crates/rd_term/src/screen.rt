@@ -1,8 +1,8 @@
 //! A screen of cells with a cursor.
-ghost use Rattle.std.specs.Prelude.{◌≡◌, ◌<◌, ◌≤◌, IfOk, length};
-ghost use Rattle.rd_term.specs.Pictures.{IsScreen, blank_picture, width_of, row_at, cell_at, with_cell};
+ghost use Rattle.std.specs.Prelude.{◌≡◌, ◌+◌, ◌<◌, ◌≤◌, IfOk, length};
+ghost use Rattle.rd_term.specs.Pictures.{IsScreen, blank_picture, width_of, row_at, cell_at, with_cell, with_cells};
 
-use crate::rows::filled;
+use crate::rows::{filled, write_over};
 use rd_base::{Cell, Face, ListOf, Memory};
 use std::alloc::Global;
 use std::marker::Model;
@@ -81,6 +81,15 @@ impl Screen {
     {
         let cells = &mut self.rows[row as usize];
         cells.set(column as usize, cell);
+    }
+
+    /// Puts other cells into a row, from a column on.
+    pub fn set_cells(&mut self, row: u32, column: u32, cells: &[Cell])
+        requires row { row < length self.old.rows }
+        requires room { column + length cells.now ≤ width_of self.old.rows }
+        ensures { self.new ≡ record self.old { rows = with_cells self.old.rows row column cells.now } }
+    {
+        write_over(&mut self.rows[row as usize], column as usize, cells);
     }
 
     /// The cursor's row and column.

@@ -4,13 +4,14 @@ use Rattle.rd_base.specs.declared.cell.Cell.{Cell}
 use Rattle.rd_term.specs.Pictures.{width_of}
 use Rattle.rd_term.specs.Terminals.{Tty, put_at}
 use Rattle.rd_term.proofs.Cutting.{length-put}
-use Rattle.rd_term.proofs.Erasing.{terminal-put}
 use Rattle.rd_term.proofs.Putting.{put-made}
+use Rattle.rd_term.proofs.Shapes.{put-whole}
 use Rattle.rd_term.proofs.terminal.Terminal.put_at.Goals as goal
 
 pub invariant_of-self : goal.invariant_of-self
 invariant_of-self c =
-    let rows = c.self.inside.rows.items in
+    let t = c.self.inside in
+    let rows = t.rows.items in
     let row = c.args.row in
     let column = c.args.column in
     let cells = c.index_mut-cells.result.now in
@@ -19,13 +20,12 @@ invariant_of-self c =
     let here : c.args.row < length c.self.inside.rows.items = subst (λ (rs : List (List (Option Cell))). row < length rs) (sym is) c.requires.row in
     let there : c.args.column < width_of c.self.inside.rows.items = subst (λ (rs : List (List (Option Cell))). column < width_of rs) (sym is) c.requires.column in
     let same = c.index_mut-cells.ensures.value ∙ get_or_default rows row cells [] here in
-    let wide = h.each row [] here in
-    let long : length c.index_mut-cells.result.now ≡ width_of c.self.inside.rows.items = ap length same ∙ wide in
+    let long : length c.index_mut-cells.result.now ≡ width_of c.self.inside.rows.items = ap length same ∙ h.each row [] here in
     let room : c.args.column + c.args.glyph.now.width ≤ length c.index_mut-cells.result.now =
     subst (λ (rs : List (Option Cell)). column + c.args.glyph.now.width ≤ length rs) (ap (λ (rs : List (List (Option Cell))). get_or rs row []) (sym is) ∙ sym same) c.requires.room in
     let next : c.min.result < width_of c.self.inside.rows.items = omega (arith, c.min.ensures, c.len-length.ensures, long, there) in
-    terminal-put rows c.self.inside.cursor row column c.min.result c.put_character.new.row h here there next
-    (ap length c.put_character.ensures ∙ length-put cells column c.args.glyph.now.width c.args.glyph.now c.args.face c.requires.some room ∙ ap length same)
+    let total = ap length c.put_character.ensures ∙ length-put cells column c.args.glyph.now.width c.args.glyph.now c.args.face c.requires.some room ∙ long in
+    put-whole rows t.cursor t.latest t.region row column c.min.result c.put_character.new.row c.self.invariant here there next total
 
 pub returns : goal.returns
 returns c =
@@ -37,6 +37,6 @@ returns c =
     let here : c.args.row < length c.self.inside.rows.items = subst (λ (rs : List (List (Option Cell))). row < length rs) (sym is) c.requires.row in
     let same = c.index_mut-cells.ensures.value ∙ get_or_default rows row cells [] here in
     let g = c.args.glyph.now in
-    put-made rows t.cursor t.wait t.pen t.latest t.reading t.confused row c.args.column g c.args.face cells c.put_character.new.row c.len-length.result c.min.result
+    put-made rows t.region t.cursor t.wait t.pen t.latest t.reading t.confused row c.args.column g c.args.face cells c.put_character.new.row c.len-length.result c.min.result
     same c.len-length.ensures c.put_character.ensures c.min.ensures c.requires.plain
     ∙ ap (λ (t : Tty). put_at g.base g.width c.args.face row c.args.column t) c.self.view_is

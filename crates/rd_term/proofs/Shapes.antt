@@ -1,0 +1,110 @@
+-- Rows that keep their number and their width, and what a terminal then keeps.
+use Rattle.std.proofs.Common.{◌≡◌, ℕ, ◌+◌, ◌-◌, ◌<◌, ◌≤◌, List, [], ◌∷◌, ◌++◌, length, get_or, set, take, drop, map, replicate, Option, None, Some, refl, sym, ap, ◌∙◌, arith}
+use Rattle.std.proofs.lemmas.List.{length-append, length-take, length-take-le, length-drop, length-map, length-replicate, length-set}
+use Rattle.std.proofs.lemmas.List.Elements.{All-append, All-take, All-drop, All-map, All-set}
+use Rattle.rd_base.specs.declared.cell.Cell.{Cell}
+use Rattle.rd_term.specs.Pictures.{blank, width_of, IsGrid}
+use Rattle.rd_term.specs.Shifts.{cleared, moved_down, moved_up, changed_between}
+use Rattle.rd_term.specs.Terminals.{IsTerminal, IsWithin, HasRegion}
+
+abbrev pub Rows : Type 0
+Rows = List (List (Option Cell))
+
+-- what a terminal may be, with the place of its latest character and its region
+abbrev pub IsWhole : Rows → Option (ℕ × ℕ) → Option (ℕ × ℕ) → Option (ℕ × ℕ) → Type 0
+IsWhole rows cursor latest region = IsTerminal rows cursor × IsWithin rows latest × HasRegion rows region
+
+width-kept : (w : ℕ) (new : Rows) → 0 < length new → IsGrid w new → width_of new ≡ w
+width-kept w [] some h = absurd (omega arith)
+width-kept w (row ∷ new) some h = h 0 [] (omega arith)
+
+some-rows : (rows : Rows) → 0 < width_of rows → 0 < length rows
+some-rows [] some = absurd (omega arith)
+some-rows (row ∷ rows) some = omega arith
+
+-- other rows, as many and as wide
+pub whole-kept : (rows new : Rows) (cursor next latest region : Option (ℕ × ℕ)) → IsWhole rows cursor latest region
+    → length new ≡ length rows → IsGrid (width_of rows) new → IsWithin rows next → IsWhole new next latest region
+whole-kept rows new cursor next latest region h n grid place =
+    let some : 0 < length new = omega (arith, some-rows rows h.0.some) in
+    let w = width-kept (width_of rows) new some grid in (
+      record { each = rw w grid; some = rw w h.0.some; wide = rw w h.0.wide; tall = rw n h.0.tall; place = rw (w, n) place },
+      rw (w, n) h.1,
+      rw n h.2,
+    )
+
+-- ---- rows that are cleared and moved
+
+pub grid-cleared : (w : ℕ) (rows : Rows) → IsGrid w rows → IsGrid w (map cleared rows)
+grid-cleared w rows h = All-map (λ row. length row ≡ w) cleared rows (λ k d lt. length-replicate (length (get_or rows k d)) (Some blank) ∙ h k d lt)
+
+pub grid-down : (w n : ℕ) (rows : Rows) → IsGrid w rows → IsGrid w (moved_down n rows)
+grid-down w n rows h =
+    let kept = length rows - n in
+    All-append (λ row. length row ≡ w) (map cleared (drop kept rows)) (take kept rows)
+    (grid-cleared w (drop kept rows) (All-drop (λ row. length row ≡ w) kept rows h))
+    (All-take (λ row. length row ≡ w) kept rows h)
+
+pub grid-up : (w n : ℕ) (rows : Rows) → IsGrid w rows → IsGrid w (moved_up n rows)
+grid-up w n rows h =
+    All-append (λ row. length row ≡ w) (drop n rows) (map cleared (take n rows))
+    (All-drop (λ row. length row ≡ w) n rows h)
+    (grid-cleared w (take n rows) (All-take (λ row. length row ≡ w) n rows h))
+
+pub length-down : (n : ℕ) (rows : Rows) → length (moved_down n rows) ≡ length rows
+length-down n rows =
+    let kept = length rows - n in
+    length-append (map cleared (drop kept rows)) (take kept rows)
+    ∙ omega (arith, length-map (drop (length rows - n) rows) cleared, length-drop (length rows - n) rows, length-take-le (length rows - n) rows (omega arith))
+
+pub length-up : (n : ℕ) (rows : Rows) → length (moved_up n rows) ≡ length rows
+length-up n rows =
+    length-append (drop n rows) (map cleared (take n rows))
+    ∙ omega (arith, length-map (take n rows) cleared, length-drop n rows, length-take n rows)
+
+-- rows of which a part is changed
+pub grid-between : (w from end : ℕ) (change : Rows → Rows) (rows : Rows) → ((xs : Rows) → IsGrid w xs → IsGrid w (change xs)) → IsGrid w rows → IsGrid w (changed_between from end change rows)
+grid-between w from end change rows keeps h =
+    let part = take (end - from) (drop from rows) in
+    All-append (λ row. length row ≡ w) (take from rows) (change part ++ drop end rows)
+    (All-take (λ row. length row ≡ w) from rows h)
+    (All-append (λ row. length row ≡ w) (change part) (drop end rows)
+    (keeps part (All-take (λ row. length row ≡ w) (end - from) (drop from rows) (All-drop (λ row. length row ≡ w) from rows h)))
+    (All-drop (λ row. length row ≡ w) end rows h))
+
+pub length-between : (from end : ℕ) (change : Rows → Rows) (rows : Rows) → ((xs : Rows) → length (change xs) ≡ length xs) → from ≤ end → end ≤ length rows → length (changed_between from end change rows) ≡ length rows
+length-between from end change rows keeps order within =
+    length-append (take from rows) (change (take (end - from) (drop from rows)) ++ drop end rows)
+    ∙ omega (
+      arith,
+      length-append (change (take (end - from) (drop from rows))) (drop end rows),
+      keeps (take (end - from) (drop from rows)),
+      length-take-le from rows (omega arith),
+      length-take-le (end - from) (drop from rows) (omega (arith, length-drop from rows)),
+      length-drop end rows,
+    )
+
+-- ---- all of a terminal
+
+pub whole-cleared : (rows : Rows) (cursor latest region : Option (ℕ × ℕ)) → IsWhole rows cursor latest region → IsWhole (map cleared rows) cursor latest region
+whole-cleared rows cursor latest region h =
+    whole-kept rows (map cleared rows) cursor cursor latest region h (length-map rows cleared) (grid-cleared (width_of rows) rows h.0.each) h.0.place
+
+pub whole-set : (rows : Rows) (cursor next latest region : Option (ℕ × ℕ)) (row : ℕ) (new : List (Option Cell)) → IsWhole rows cursor latest region
+    → length new ≡ width_of rows → IsWithin rows next → IsWhole (set rows row new) next latest region
+whole-set rows cursor next latest region row new h long place =
+    whole-kept rows (set rows row new) cursor next latest region h (length-set rows row new) (All-set (λ r. length r ≡ width_of rows) rows row new long h.0.each) place
+
+pub whole-moved : (rows : Rows) (cursor latest region : Option (ℕ × ℕ)) (from end : ℕ) (change : Rows → Rows) → IsWhole rows cursor latest region
+    → ((xs : Rows) → length (change xs) ≡ length xs) → ((xs : Rows) → IsGrid (width_of rows) xs → IsGrid (width_of rows) (change xs))
+    → from ≤ end → end ≤ length rows → IsWhole (changed_between from end change rows) None latest region
+whole-moved rows cursor latest region from end change h long wide order within =
+    whole-kept rows (changed_between from end change rows) cursor None latest region h (length-between from end change rows long order within)
+    (grid-between (width_of rows) from end change rows wide h.0.each) tt
+
+-- another row with the latest character and the cursor in it
+pub put-whole : (rows : Rows) (cursor latest region : Option (ℕ × ℕ)) (row column next : ℕ) (new : List (Option Cell)) → IsWhole rows cursor latest region
+    → row < length rows → column < width_of rows → next < width_of rows → length new ≡ width_of rows
+    → IsWhole (set rows row new) (Some (row, next)) (Some (row, column)) region
+put-whole rows cursor latest region row column next new h here there within long =
+    whole-set rows cursor (Some (row, next)) (Some (row, column)) region row new (h.0, (here, there), h.2) long (here, within)

@@ -1,7 +1,0 @@
-use Rattle.std.proofs.Common.{refl}
-use Rattle.unicode_width.specs.Width.{char_width}
-use Rattle.rd_term.proofs.laws.a_row_moves_down.Goals as goal
-
-pub returns : goal.returns
-unfolding char_width
-returns c = record { sure = refl; cells = refl; cursor = refl }

@@ -1,0 +1,72 @@
+//! Rows that are cleared, and rows that are moved within a part of the screen.
+ghost use Rattle.std.specs.Prelude.{◌≡◌, ◌≤◌, length, map};
+ghost use Rattle.rd_term.specs.Shifts.{cleared, moved_down, moved_up, changed_between};
+
+use crate::rows::fill;
+use rd_base::{Cell, Face, ListOf};
+
+/// Makes the cells of these rows blank and plain.
+fn clear_rows(rows: &mut [ListOf<Option<Cell>>])
+    ensures { rows.new ≡ map cleared rows.old }
+{
+    for i in 0..rows.len() {
+        let row = &mut rows[i];
+        let end = row.len();
+        fill(row, 0, end, Some(Cell::Blank(Face::PLAIN)));
+    }
+}
+
+/// Makes the cells of all rows blank and plain.
+pub(crate) fn clear_all(rows: &mut Vec<ListOf<Option<Cell>>>)
+    ensures { rows.new.items ≡ map cleared rows.old.items }
+{
+    clear_rows(&mut rows[..]);
+}
+
+/// Moves the rows from one to before another down by so many.
+pub(crate) fn move_down(
+    rows: &mut Vec<ListOf<Option<Cell>>>,
+    from: usize,
+    end: usize,
+    count: usize,
+)
+    requires order { from ≤ end }
+    requires end { end ≤ length rows.old.items }
+    ensures { rows.new.items ≡ changed_between from end (moved_down count) rows.old.items }
+{
+    push_down(&mut rows[from..end], count);
+}
+
+/// Moves the rows from one to before another up by so many.
+pub(crate) fn move_up(
+    rows: &mut Vec<ListOf<Option<Cell>>>,
+    from: usize,
+    end: usize,
+    count: usize,
+)
+    requires order { from ≤ end }
+    requires end { end ≤ length rows.old.items }
+    ensures { rows.new.items ≡ changed_between from end (moved_up count) rows.old.items }
+{
+    push_up(&mut rows[from..end], count);
+}
+
+/// Moves rows down by so many: the last ones are lost, and blank ones come before the others.
+fn push_down(rows: &mut [ListOf<Option<Cell>>], count: usize)
+    ensures { rows.new ≡ moved_down count rows.old }
+{
+    let kept = rows.len().saturating_sub(count);
+    let lost = rows.len() - kept;
+    rows.rotate_left(kept);
+    clear_rows(&mut rows[..lost]);
+}
+
+/// Moves rows up by so many: the first ones are lost, and blank ones come behind the others.
+fn push_up(rows: &mut [ListOf<Option<Cell>>], count: usize)
+    ensures { rows.new ≡ moved_up count rows.old }
+{
+    let lost = count.min(rows.len());
+    let kept = rows.len() - lost;
+    rows.rotate_left(lost);
+    clear_rows(&mut rows[kept..]);
+}
