@@ -1,12 +1,11 @@
 -- What is erased, step by step, and that it keeps its size.
-use Rattle.std.proofs.Common.{◌≡◌, ℕ, zero, suc, inl, inr, ◌+◌, ◌-◌, ◌<◌, ◌≤◌, List, [], ◌∷◌, ◌++◌, length, get_or, set, take, drop, map, replicate, Option, Some, refl, sym, ap, ◌∙◌, arith, append_assoc, drop_of_length-le, le_refl, append-nil}
-use Rattle.std.proofs.lemmas.List.{take_more_set, replicate_more, map_more, drop-set-lt, drop-drop, get_or-drop, length-set, length-map, length-replicate, get_or-set_same, get_or-set_other, get_or-map}
-use Rattle.std.proofs.lemmas.Bool.{cases_eq}
+use Rattle.std.proofs.Common.{◌≡◌, ℕ, ◌+◌, ◌-◌, ◌<◌, ◌≤◌, List, [], ◌∷◌, ◌++◌, length, get_or, set, take, drop, map, replicate, Option, Some, sym, ap, ◌∙◌, arith, append_assoc, drop_of_length-le, le_refl, append-nil}
+use Rattle.std.proofs.lemmas.List.{take_more_set, replicate_more, map_more, drop-set-lt, drop-drop, get_or-drop, length-replicate}
 use Rattle.rd_base.specs.declared.cell.Cell.{Cell}
-use Rattle.rd_term.specs.Pictures.{blank, width_of}
+use Rattle.rd_term.specs.Pictures.{blank}
 use Rattle.rd_term.specs.Overwriting.{later_columns}
 use Rattle.rd_term.specs.Shifts.{cleared}
-use Rattle.rd_term.specs.Terminals.{erased_from, IsTerminal, IsWithin, HasRegion}
+use Rattle.rd_term.specs.Terminals.{erased_from}
 use Rattle.rd_term.proofs.Cutting.{length-overwritten}
 
 pub erased_more : {X : Type 0} (row whole : List X) (column i : ℕ) (y : X) → i < length row → column ≤ i

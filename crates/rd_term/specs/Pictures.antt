@@ -1,10 +1,9 @@
 -- What a screen shows.
 use Rattle.std.specs.Prelude.{◌≡◌, ℕ, ◌+◌, ◌<◌, ◌≤◌, List, [], ◌∷◌, ◌++◌, length, take, drop, All, replicate, slice_index_or, slice_set}
-use Rattle.rd_base.specs.Cells.{HasColours}
 use Rattle.rd_base.specs.Faces.{plain}
 use Rattle.rd_base.specs.Glyphs.{IsRowAfter}
 use Rattle.rd_base.specs.declared.cell.Cell.{Cell}
-use Rattle.rd_base.specs.declared.cell.Cell.TheVariants.{Blank, First, Rest}
+use Rattle.rd_base.specs.declared.cell.Cell.TheVariants.{Blank}
 
 -- the rows of cells, from the top, and the cursor's row and column, from 0
 pub record Picture : Type 0 where
@@ -68,13 +67,3 @@ pub record IsWellFormed (picture : Picture) : Type 0 where
   pub glyphs : All (λ row. IsRowAfter 0 row) picture.rows
   pub row : picture.row < length picture.rows
   pub column : picture.column < width_of picture.rows
-
--- a cell whose colours are in their range
-abbrev pub IsColoured : Cell → Type 0
-IsColoured Rest = Unit {0}
-IsColoured (Blank f) = HasColours f
-IsColoured (First g f) = HasColours f
-
--- rows of such cells
-abbrev pub AreColoured : List (List Cell) → Type 0
-AreColoured rows = All (λ row. All IsColoured row) rows

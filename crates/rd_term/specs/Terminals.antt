@@ -93,7 +93,7 @@ dress (n ∷ ns) t = if are_renditions (n ∷ ns) then record t { pen = pen_by (
 abbrev pub set_region : List ℕ → Tty → Tty
 set_region (t ∷ b ∷ []) s =
     if nat_lt 0 t && nat_lt t b && nat_le b (length s.rows) then
-      record s { region = Some (t - 1, b - 1); cursor = None; wait = false }
+    record s { region = Some (t - 1, b - 1); cursor = None; wait = false }
     else confuse s
 set_region numbers s = confuse s
 

@@ -105,7 +105,7 @@ fn bytes_of_no_character()
 fn a_region_moves_up()
     ensures { Shows
         (feed_bytes (unknown 3 6) (27 ∷ codes "[0m" ++ 27 ∷ codes "[2J" ++ 27 ∷ codes "[1;1Ha" ++ 27 ∷ codes "[2;1Hb" ++ 27 ∷ codes "[3;1Hc" ++ 27 ∷ codes "[4;1Hd" ++ 27 ∷ codes "[5;1He" ++ 27 ∷ codes "[6;1H!"
-            ++ 27 ∷ codes "[1;5r" ++ 27 ∷ codes "[1;1H" ++ 27 ∷ codes "[1M" ++ 27 ∷ codes "[1;6r" ++ 27 ∷ codes "[5;1Hf" ++ 27 ∷ codes "[1;1H"))
+        ++ 27 ∷ codes "[1;5r" ++ 27 ∷ codes "[1;1H" ++ 27 ∷ codes "[1M" ++ 27 ∷ codes "[1;6r" ++ 27 ∷ codes "[5;1Hf" ++ 27 ∷ codes "[1;1H"))
         (record {
           rows =
               map (λ code. cell_of code plain) (codes "b  ")
@@ -124,7 +124,7 @@ fn a_region_moves_up()
 fn an_update_that_stopped_is_gone_on_with()
     ensures { Shows
         (feed_bytes (unknown 3 6) (27 ∷ codes "[0m" ++ 27 ∷ codes "[2J" ++ 27 ∷ codes "[1;1Ha" ++ 27 ∷ codes "[2;1Hb"
-            ++ 27 ∷ codes "[1;1HXa" ++ 27 ∷ codes "[3;1Hc" ++ 27 ∷ codes "[4;1Hd" ++ 27 ∷ codes "[5;1He" ++ 27 ∷ codes "[1;1H"))
+        ++ 27 ∷ codes "[1;1HXa" ++ 27 ∷ codes "[3;1Hc" ++ 27 ∷ codes "[4;1Hd" ++ 27 ∷ codes "[5;1He" ++ 27 ∷ codes "[1;1H"))
         (record {
           rows =
               map (λ code. cell_of code plain) (codes "Xa ")

@@ -24,12 +24,7 @@ pub(crate) fn clear_all(rows: &mut Vec<ListOf<Option<Cell>>>)
 }
 
 /// Moves the rows from one to before another down by so many.
-pub(crate) fn move_down(
-    rows: &mut Vec<ListOf<Option<Cell>>>,
-    from: usize,
-    end: usize,
-    count: usize,
-)
+pub(crate) fn move_down(rows: &mut Vec<ListOf<Option<Cell>>>, from: usize, end: usize, count: usize)
     requires order { from ≤ end }
     requires end { end ≤ length rows.old.items }
     ensures { rows.new.items ≡ changed_between from end (moved_down count) rows.old.items }
@@ -38,12 +33,7 @@ pub(crate) fn move_down(
 }
 
 /// Moves the rows from one to before another up by so many.
-pub(crate) fn move_up(
-    rows: &mut Vec<ListOf<Option<Cell>>>,
-    from: usize,
-    end: usize,
-    count: usize,
-)
+pub(crate) fn move_up(rows: &mut Vec<ListOf<Option<Cell>>>, from: usize, end: usize, count: usize)
     requires order { from ≤ end }
     requires end { end ≤ length rows.old.items }
     ensures { rows.new.items ≡ changed_between from end (moved_up count) rows.old.items }

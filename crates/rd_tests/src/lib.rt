@@ -11,3 +11,6 @@ mod lanes;
 
 #[cfg(test)]
 mod overlays;
+
+#[cfg(test)]
+mod term;

@@ -1,4 +1,4 @@
-use Rattle.std.proofs.Common.{◌≡◌, ◌≤◌, length, get_or, arith, ap}
+use Rattle.std.proofs.Common.{◌≤◌, length, get_or, arith, ap}
 use Rattle.rd_term.specs.Pictures.{width_of}
 use Rattle.rd_term.specs.Shifts.{moved_down}
 use Rattle.rd_term.specs.Terminals.{Tty}
