@@ -38,9 +38,9 @@ pub space-narrow : (g : Glyph) → IsMeasured g → g.base ≡ 32 → g.width �
 space-narrow g h e = let c : Some g.width ≡ Some 1 = sym (base-columns g h) ∙ ap columns_of e ∙ space-columns in cc
 
 -- a character is shown by its columns
-pub shown_fed : (rows : Rows) (region : Option (ℕ × ℕ)) (cursor : Option (ℕ × ℕ)) (wait : Bool) (pen : Option Attributes) (latest : Option (ℕ × ℕ)) (code w : ℕ)
+pub shown_fed : (region : Option (ℕ × ℕ)) (rows : Rows) (cursor : Option (ℕ × ℕ)) (wait : Bool) (pen : Option Attributes) (latest : Option (ℕ × ℕ)) (code w : ℕ)
     → is_scalar code ≡ true → columns_of code ≡ Some w
-    → feed_bytes (standing rows region cursor wait pen latest) (encode_utf8 code) ≡ show code (Some w) (standing rows region cursor wait pen latest)
-shown_fed rows region cursor wait pen latest code w s e =
-    encoded_fed rows region cursor wait pen latest code s (no-escape code w e)
-    ∙ ap (λ c. show code c (standing rows region cursor wait pen latest)) e
+    → feed_bytes (standing region rows cursor wait pen latest) (encode_utf8 code) ≡ show code (Some w) (standing region rows cursor wait pen latest)
+shown_fed region rows cursor wait pen latest code w s e =
+    encoded_fed region rows cursor wait pen latest code s (no-escape code w e)
+    ∙ ap (λ c. show code c (standing region rows cursor wait pen latest)) e

@@ -7,7 +7,8 @@ use Rattle.rd_base.specs.declared.cell.Cell.{Cell}
 use Rattle.rd_base.specs.declared.cell.Cell.TheVariants.{Blank, First, Rest}
 use Rattle.rd_term.specs.Pictures.{blank}
 use Rattle.rd_update.specs.Laws.{IsLeastInterval}
-use Rattle.rd_update.specs.Updates.{same_cell, first_difference, end_before, end_of_differences, is_rest, goes_on, begin_before, going_on, begin_of, end_of}
+use Rattle.rd_base.specs.Equals.{same_cell}
+use Rattle.rd_update.specs.Updates.{first_difference, end_before, end_of_differences, is_rest, goes_on, begin_before, going_on, begin_of, end_of}
 use Rattle.rd_update.proofs.Spans.{first_before, end_within, begin-le, begin-is, going-stops}
 
 -- ---- the first and the last difference

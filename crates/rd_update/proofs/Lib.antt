@@ -1,4 +1,5 @@
 pub mod Dressing
+pub mod Equals
 pub mod Feeding
 pub mod Intervals
 pub mod Parts

@@ -6,8 +6,10 @@ use Rattle.std.proofs.lemmas.List.{length-map, get_or-map, length-replicate}
 use Rattle.rd_base.specs.Faces.{Attributes, plain}
 use Rattle.rd_base.specs.Glyphs.{IsRowAfter}
 use Rattle.rd_base.specs.declared.cell.Cell.{Cell}
-use Rattle.rd_term.specs.Pictures.{Picture, blank, blank_row, IsColoured, IsOfSize}
-use Rattle.rd_term.specs.Terminals.{Tty, feed_bytes, known, cleared}
+use Rattle.rd_term.specs.Pictures.{Picture, blank, blank_row, IsOfSize}
+use Rattle.rd_base.specs.Cells.{IsColoured}
+use Rattle.rd_term.specs.Terminals.{Tty, feed_bytes, known}
+use Rattle.rd_term.specs.Shifts.{cleared}
 use Rattle.rd_term.specs.declared.reading.Reading.{Reading}
 use Rattle.rd_term.specs.declared.reading.Reading.TheVariants.{Between}
 use Rattle.rd_update.specs.Updates.{move, repaint, rows_bytes, rows_after, differs, allows, less_one, blank_like, start, opening, update, is_done, differing}
@@ -70,32 +72,32 @@ cleared-like (row ∷ rows) (l ∷ like) w n h k =
     cc
 
 -- what stands before the first row's bytes: the current screen, by a plain pen
-pub record Opens (old : List (List Cell)) (t : Tty) : Type 0 where
+pub record Opens (region : Option (ℕ × ℕ)) (old : List (List Cell)) (t : Tty) : Type 0 where
   pub cursor : Option (ℕ × ℕ)
   pub wait : Bool
   pub latest : Option (ℕ × ℕ)
-  pub is : t ≡ standing (known old) cursor wait (Some plain) latest
+  pub is : t ≡ standing region (known old) cursor wait (Some plain) latest
 
-tty-same : (rows : Rows) (cursor : Option (ℕ × ℕ)) (wait : Bool) (pen : Option Attributes) (latest : Option (ℕ × ℕ)) (reading : Reading) (confused : Bool) (rows' : Rows) (pen' : Option Attributes)
+tty-same : (region : Option (ℕ × ℕ)) → (rows : Rows) (cursor : Option (ℕ × ℕ)) (wait : Bool) (pen : Option Attributes) (latest : Option (ℕ × ℕ)) (reading : Reading) (confused : Bool) (rows' : Rows) (pen' : Option Attributes)
     → rows ≡ rows' → pen ≡ pen' → reading ≡ Between → confused ≡ false
-    → let t : Tty = record { rows = rows; cursor = cursor; wait = wait; pen = pen; latest = latest; reading = reading; confused = confused } in t ≡ standing rows' cursor wait pen' latest
-tty-same rows cursor wait pen latest reading confused rows' pen' a b c d = cc
+    → let t : Tty = record { rows = rows; region = region; cursor = cursor; wait = wait; pen = pen; latest = latest; reading = reading; confused = confused } in t ≡ standing region rows' cursor wait pen' latest
+tty-same region rows cursor wait pen latest reading confused rows' pen' a b c d = cc
 
-opened : (width height : ℕ) (current : Option Picture) (target : Picture) (t : Tty) → IsReady width height current target t → Opens (start current target).rows (feed_bytes t (opening current))
+opened : (width height : ℕ) (current : Option Picture) (target : Picture) (t : Tty) → IsReady width height current target t → Opens t.region (start current target).rows (feed_bytes t (opening current))
 opened width height None target t h =
-    let is = tty-same t.rows t.cursor t.wait t.pen t.latest t.reading t.confused t.rows t.pen refl refl h.between h.sure in
+    let is = tty-same t.region t.rows t.cursor t.wait t.pen t.latest t.reading t.confused t.rows t.pen refl refl h.between h.sure in
     let blanks = cleared-like t.rows target.rows width (h.rows ∙ sym h.size.rows) (recursion_from_All (λ row. length row ≡ width) t.rows h.each) (recursion_from_All (λ row. length row ≡ width) target.rows h.size.each) in
     record {
       cursor = t.cursor;
       wait = t.wait;
       latest = None;
-      is = ap (λ x. feed_bytes x repaint) is ∙ repaint_fed t.rows t.cursor t.wait t.pen t.latest ∙ ap (λ r. standing r t.cursor t.wait (Some plain) None) blanks;
+      is = ap (λ x. feed_bytes x repaint) is ∙ repaint_fed t.region t.rows t.cursor t.wait t.pen t.latest ∙ ap (λ r. standing t.region r t.cursor t.wait (Some plain) None) blanks;
     }
 opened width height (Some screen) target t h = record {
   cursor = t.cursor;
   wait = t.wait;
   latest = t.latest;
-  is = tty-same t.rows t.cursor t.wait t.pen t.latest t.reading t.confused (known screen.rows) (Some plain) h.now.1 h.now.2 h.between h.sure;
+  is = tty-same t.region t.rows t.cursor t.wait t.pen t.latest t.reading t.confused (known screen.rows) (Some plain) h.now.1 h.now.2 h.between h.sure;
 }
 
 start-size : (width height : ℕ) (current : Option Picture) (target : Picture) (t : Tty) → IsReady width height current target t → IsOfSize width height (start current target)
@@ -123,14 +125,14 @@ pub record Ended (rows : List (List Cell)) (done : Bool) (row column : ℕ) (t :
   pub pen : t.pen ≡ Some plain
   pub cursor : done ≡ true → t.cursor ≡ Some (row, column)
 
-ended : (rows : List (List Cell)) (done : Bool) (row column : ℕ) (cursor : Option (ℕ × ℕ)) (wait : Bool) (latest : Option (ℕ × ℕ)) → row < length rows → column < length (get_or rows row []) → row < 65535 → column < 65535
-    → Ended rows done row column (feed_bytes (standing (known rows) cursor wait (Some plain) latest) (if done then move row column else []))
-ended rows false row column cursor wait latest r c few narrow = record { sure = refl; between = refl; cells = refl; pen = refl; cursor = λ e. absurd (cc) }
-ended rows true row column cursor wait latest r c few narrow =
+ended : (region : Option (ℕ × ℕ)) → (rows : List (List Cell)) (done : Bool) (row column : ℕ) (cursor : Option (ℕ × ℕ)) (wait : Bool) (latest : Option (ℕ × ℕ)) → row < length rows → column < length (get_or rows row []) → row < 65535 → column < 65535
+    → Ended rows done row column (feed_bytes (standing region (known rows) cursor wait (Some plain) latest) (if done then move row column else []))
+ended region rows false row column cursor wait latest r c few narrow = record { sure = refl; between = refl; cells = refl; pen = refl; cursor = λ e. absurd (cc) }
+ended region rows true row column cursor wait latest r c few narrow =
     let n : row < length (known rows) = omega (arith, length-map rows (map Some)) in
     let at : get_or (known rows) row [] ≡ map Some (get_or rows row []) = get_or-map (map Some) rows row [] [] r in
     let within : column < length (get_or (known rows) row []) = rw at (omega (arith, length-map (get_or rows row []) Some)) in
-    let is = move_fed (known rows) cursor wait (Some plain) latest row column n within few narrow in
+    let is = move_fed region (known rows) cursor wait (Some plain) latest row column n within few narrow in
     rw is (record { sure = refl; between = refl; cells = refl; pen = refl; cursor = λ e. refl })
 
 either : (done : Bool) (a b n : ℕ) → a < n → b < n → (if done then a else b) < n
@@ -149,7 +151,7 @@ updated width height current target limit t h =
     let colours = coloured-rows target.rows (recursion_from_All (λ row. All IsColoured row) target.rows h.colours) in
     let same : length old.rows ≡ length target.rows = size.rows ∙ sym h.size.rows in
     let few : length {A = List (Option Cell)} [] + length old.rows ≤ 200 = omega (arith, h.tall, size.rows) in
-    let sent = rows_fed [] limit old.rows target.rows width begun.cursor begun.wait begun.latest few h.wide same old_wide new_wide wholes colours in
+    let sent = rows_fed t.region [] limit old.rows target.rows width begun.cursor begun.wait begun.latest few h.wide same old_wide new_wide wholes colours in
     let after = rows_after limit old.rows target.rows in
     let done = is_done limit (differing old.rows target.rows) in
     let last = if done then move target.row target.column else [] in
@@ -157,8 +159,8 @@ updated width height current target limit t h =
     let each = All-from_recursion (λ row. length row ≡ width) after (after-wide limit old.rows target.rows width same old_wide new_wide) in
     let row : target.row < length after = omega (arith, h.size.row) in
     let column : target.column < length (get_or after target.row []) = omega (arith, h.size.column, each target.row [] row) in
-    let end = ended after done target.row target.column sent.cursor sent.wait sent.latest row column (omega (arith, h.size.row, h.tall)) (omega (arith, h.size.column, h.wide)) in
-    let is : feed_bytes t (update current target limit).bytes ≡ feed_bytes (standing (known after) sent.cursor sent.wait (Some plain) sent.latest) last =
+    let end = ended t.region after done target.row target.column sent.cursor sent.wait sent.latest row column (omega (arith, h.size.row, h.tall)) (omega (arith, h.size.column, h.wide)) in
+    let is : feed_bytes t (update current target limit).bytes ≡ feed_bytes (standing t.region (known after) sent.cursor sent.wait (Some plain) sent.latest) last =
     feed_bytes-append t (opening current ++ rows_bytes 0 limit old.rows target.rows) last
     ∙ ap (λ x. feed_bytes x last) (
     feed_bytes-append t (opening current) (rows_bytes 0 limit old.rows target.rows)

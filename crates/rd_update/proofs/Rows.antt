@@ -4,13 +4,13 @@ use Rattle.std.specs.List.{AllByRecursion}
 use Rattle.std.proofs.lemmas.Bool.{cases_lt}
 use Rattle.std.proofs.lemmas.Bool.Decides.{nat_tests}
 use Rattle.std.proofs.lemmas.List.{get_or_at, set_at, take_at, length-append, length-map, length-take-le, length-drop, map-append, drop-drop, length-replicate}
-use Rattle.rd_base.specs.Cells.{HasColours}
+use Rattle.rd_base.specs.Cells.{HasColours, IsColoured}
 use Rattle.rd_base.specs.Faces.{plain}
 use Rattle.rd_base.specs.Glyphs.{IsRowAfter}
 use Rattle.rd_base.specs.declared.cell.Cell.{Cell}
 use Rattle.rd_base.specs.declared.cell.Cell.TheVariants.{Blank, First, Rest}
 use Rattle.rd_term.specs.Overwriting.{first_column, later_columns}
-use Rattle.rd_term.specs.Pictures.{blank, IsColoured}
+use Rattle.rd_term.specs.Pictures.{blank}
 use Rattle.rd_term.specs.Terminals.{Tty, feed_bytes, known, erased_from}
 use Rattle.rd_term.proofs.Cutting.{Row, front as front_of, behind, overwritten-is, map-replicate}
 use Rattle.rd_term.proofs.Encoded.{Rows, standing}
@@ -22,18 +22,18 @@ use Rattle.rd_update.proofs.Spans.{front-same, back-same, no-difference, first_b
 use Rattle.rd_update.proofs.Texts.{TextFed, text_fed}
 
 -- a terminal with these rows and a plain pen between two sequences, wherever its cursor is
-pub record Stands (rows : Rows) (t : Tty) : Type 0 where
+pub record Stands (region : Option (ℕ × ℕ)) (rows : Rows) (t : Tty) : Type 0 where
   pub cursor : Option (ℕ × ℕ)
   pub wait : Bool
   pub latest : Option (ℕ × ℕ)
-  pub is : t ≡ standing rows cursor wait (Some plain) latest
+  pub is : t ≡ standing region rows cursor wait (Some plain) latest
 
-stands-along : (rows rows2 : Rows) (t u : Tty) → rows ≡ rows2 → t ≡ u → Stands rows t → Stands rows2 u
-stands-along rows rows2 t u r e h = record {
+stands-along : (region : Option (ℕ × ℕ)) → (rows rows2 : Rows) (t u : Tty) → rows ≡ rows2 → t ≡ u → Stands region rows t → Stands region rows2 u
+stands-along region rows rows2 t u r e h = record {
   cursor = h.cursor;
   wait = h.wait;
   latest = h.latest;
-  is = sym e ∙ h.is ∙ ap (λ x. standing x h.cursor h.wait (Some plain) h.latest) r;
+  is = sym e ∙ h.is ∙ ap (λ x. standing region x h.cursor h.wait (Some plain) h.latest) r;
 }
 
 -- ---- parts of a row of whole characters
@@ -87,10 +87,10 @@ begin-whole old new a p q h (inr e) = whole-drop a 0 new h (at-whole old new a p
 
 -- ---- the end of a row
 
-pub erase_fed : (above below : Rows) (row : Row) (column : ℕ) (latest : Option (ℕ × ℕ)) → first_column row column ≡ column → column ≤ length row
-    → feed_bytes (standing (above ++ row ∷ below) (Some (length above, column)) false (Some plain) latest) erase_to_end
-    ≡ standing (above ++ (take column row ++ replicate (length row - column) (Some blank)) ∷ below) (Some (length above, column)) false (Some plain) None
-erase_fed above below row column latest first le =
+pub erase_fed : (region : Option (ℕ × ℕ)) → (above below : Rows) (row : Row) (column : ℕ) (latest : Option (ℕ × ℕ)) → first_column row column ≡ column → column ≤ length row
+    → feed_bytes (standing region (above ++ row ∷ below) (Some (length above, column)) false (Some plain) latest) erase_to_end
+    ≡ standing region (above ++ (take column row ++ replicate (length row - column) (Some blank)) ∷ below) (Some (length above, column)) false (Some plain) None
+erase_fed region above below row column latest first le =
     let at : get_or (above ++ row ∷ below) (length above) [] ≡ row = get_or_at above row below [] (length above) refl in
     let n : column + length (replicate (length row - column) (Some blank)) ≡ length row = omega (arith, le, length-replicate (length row - column) (Some blank)) in
     let gone : drop (length row) row ≡ [] = drop_of_length-le row (le_refl (length row)) in
@@ -104,7 +104,7 @@ erase_fed above below row column latest first le =
     ∙ ap (λ xs. take column row ++ (replicate (length row - column) (Some blank) ++ xs)) nothing
     ∙ ap (λ xs. take column row ++ xs) (append-nil (replicate (length row - column) (Some blank))) in
     let rows = set_at above row below (take column row ++ replicate (length row - column) (Some blank)) (length above) refl in
-    let State = λ (rs : Rows). standing rs (Some (length above, column)) false (Some plain) None in
+    let State = λ (rs : Rows). standing region rs (Some (length above, column)) false (Some plain) None in
     ap (λ (r : Row). State (set (above ++ row ∷ below) (length above) (erased_from column r))) at
     ∙ ap (λ (r : Row). State (set (above ++ row ∷ below) (length above) r)) over
     ∙ ap State rows
@@ -117,12 +117,12 @@ empty [] e = refl
 empty (x ∷ xs) e = absurd (cc)
 
 -- behind the text: the pen becomes plain, and the rest is erased or is as it has to be
-row-end : (above below : Rows) (front back : Row) (many : ℕ) (cells rest : List Cell) (erases : Bool) (t : Tty)
-    → TextFed above below front many back cells (pen_behind plain cells) t
+row-end : (region : Option (ℕ × ℕ)) → (above below : Rows) (front back : Row) (many : ℕ) (cells rest : List Cell) (erases : Bool) (t : Tty)
+    → TextFed region above below front many back cells (pen_behind plain cells) t
     → (erases ≡ true → (length cells < many) × (map Some rest ≡ replicate (many - length cells + length back) (Some blank)))
     → (erases ≡ false → (length cells ≡ many) × (map Some rest ≡ back))
-    → Stands (above ++ (front ++ (map Some cells ++ map Some rest)) ∷ below) (feed_bytes t (dress (pen_behind plain cells) plain ++ (if erases then erase_to_end else [])))
-row-end above below front back many cells rest true t fed gone kept =
+    → Stands region (above ++ (front ++ (map Some cells ++ map Some rest)) ∷ below) (feed_bytes t (dress (pen_behind plain cells) plain ++ (if erases then erase_to_end else [])))
+row-end region above below front back many cells rest true t fed gone kept =
     let pen = pen_behind plain cells in
     let X = fed.left ++ back in
     let row = front ++ (map Some cells ++ (fed.left ++ back)) in
@@ -130,15 +130,15 @@ row-end above below front back many cells rest true t fed gone kept =
     let less = (gone refl).0 in
     let some : 0 < length (fed.left ++ back) = omega (arith, fed.long, less, length-append fed.left back) in
     let free = fed.goes_on some in
-    let dressed = dress_fed (above ++ row ∷ below) fed.cursor fed.wait pen plain fed.latest plain-coloured in
+    let dressed = dress_fed region (above ++ row ∷ below) fed.cursor fed.wait pen plain fed.latest plain-coloured in
     let n : length (front ++ map Some cells) ≡ length front + length cells = length-append front (map Some cells) ∙ ap (λ k. length front + k) (length-map cells Some) in
     let long : length (front ++ (map Some cells ++ (fed.left ++ back))) ≡ length front + length cells + length (fed.left ++ back) =
     omega (arith, length-append front (map Some cells ++ (fed.left ++ back)), length-append (map Some cells) (fed.left ++ back), length-map cells Some) in
-    let erased = erase_fed above below row K dressed.0 fed.whole (omega (arith, long)) in
+    let erased = erase_fed region above below row K dressed.0 fed.whole (omega (arith, long)) in
     let taken : take (length front + length cells) (front ++ (map Some cells ++ (fed.left ++ back))) ≡ front ++ map Some cells =
     ap (take (length front + length cells)) (sym (append_assoc front (map Some cells) (fed.left ++ back))) ∙ take_at (front ++ map Some cells) (fed.left ++ back) (length front + length cells) n in
     let left : length (front ++ (map Some cells ++ (fed.left ++ back))) - (length front + length cells) ≡ many - length cells + length back = omega (arith, long, fed.long, less, length-append fed.left back) in
-    let State = λ (r : Row) (c : Option (ℕ × ℕ)) (w : Bool) (l : Option (ℕ × ℕ)). standing (above ++ r ∷ below) c w (Some plain) l in
+    let State = λ (r : Row) (c : Option (ℕ × ℕ)) (w : Bool) (l : Option (ℕ × ℕ)). standing region (above ++ r ∷ below) c w (Some plain) l in
     record {
       cursor = Some (length above, length front + length cells);
       wait = false;
@@ -155,11 +155,11 @@ row-end above below front back many cells rest true t fed gone kept =
           ∙ append_assoc front (map Some cells) (replicate (many - length cells + length back) (Some blank))
           ∙ ap (λ xs. front ++ (map Some cells ++ xs)) (sym (gone refl).1));
     }
-row-end above below front back many cells rest false t fed gone kept =
+row-end region above below front back many cells rest false t fed gone kept =
     let pen = pen_behind plain cells in
     let all = kept refl in
     let row = front ++ (map Some cells ++ (fed.left ++ back)) in
-    let dressed = dress_fed (above ++ row ∷ below) fed.cursor fed.wait pen plain fed.latest plain-coloured in
+    let dressed = dress_fed region (above ++ row ∷ below) fed.cursor fed.wait pen plain fed.latest plain-coloured in
     let none : fed.left ≡ [] = empty fed.left (omega (arith, fed.long, all.0)) in
     record {
       cursor = fed.cursor;
@@ -168,8 +168,8 @@ row-end above below front back many cells rest false t fed gone kept =
       is =
           ap (feed_bytes t) (append-nil (dress pen plain))
           ∙ ap (λ u. feed_bytes u (dress pen plain)) fed.is ∙ dressed.1
-          ∙ ap (λ xs. standing (above ++ (front ++ (map Some cells ++ (xs ++ back))) ∷ below) fed.cursor fed.wait (Some plain) dressed.0) none
-          ∙ ap (λ xs. standing (above ++ (front ++ (map Some cells ++ xs)) ∷ below) fed.cursor fed.wait (Some plain) dressed.0) (sym all.1);
+          ∙ ap (λ xs. standing region (above ++ (front ++ (map Some cells ++ (xs ++ back))) ∷ below) fed.cursor fed.wait (Some plain) dressed.0) none
+          ∙ ap (λ xs. standing region (above ++ (front ++ (map Some cells ++ xs)) ∷ below) fed.cursor fed.wait (Some plain) dressed.0) (sym all.1);
     }
 
 -- ---- a row that differs
@@ -222,10 +222,10 @@ rest-blank new m n past e = ap (map Some) (blank-from new m past) ∙ map-replic
 rest-same : (old new : List Cell) (m : ℕ) → length old ≡ length new → m ≡ end_of old new → map Some (drop m new) ≡ map Some (drop (end_of old new) old)
 rest-same old new m same is = ap (map Some) (ap (λ n. drop n new) is ∙ end-same old new same)
 
-pub row_fed : (above below : Rows) (old new : List Cell) (cursor : Option (ℕ × ℕ)) (wait : Bool) (latest : Option (ℕ × ℕ)) (w : ℕ)
+pub row_fed : (region : Option (ℕ × ℕ)) → (above below : Rows) (old new : List Cell) (cursor : Option (ℕ × ℕ)) (wait : Bool) (latest : Option (ℕ × ℕ)) (w : ℕ)
     → length above < 65535 → length old ≡ w → length new ≡ w → w ≤ 400 → IsRowAfter 0 new → AllByRecursion IsColoured new → differs old new ≡ true
-    → Stands (above ++ map Some new ∷ below) (feed_bytes (standing (above ++ map Some old ∷ below) cursor wait (Some plain) latest) (row_bytes (length above) old new))
-row_fed above below old new cursor wait latest w few old_wide new_wide narrow row colours d =
+    → Stands region (above ++ map Some new ∷ below) (feed_bytes (standing region (above ++ map Some old ∷ below) cursor wait (Some plain) latest) (row_bytes (length above) old new))
+row_fed region above below old new cursor wait latest w few old_wide new_wide narrow row colours d =
     let first = first_difference old new in
     let last = end_of_differences old new in
     let a = begin_of old new in
@@ -265,7 +265,7 @@ row_fed above below old new cursor wait latest w few old_wide new_wide narrow ro
     let whole : IsRowAfter 0 cells = whole-take (m - a) 0 (drop a new) from_begin stops (omega (arith, length-drop a new)) in
     let fits : length cells ≤ length mid = omega (arith, cells_length, mid_length) in
     let enough : length cells ≤ length cells = omega arith in
-    let fed = text_fed (length cells) above below front mid back cells plain None enough fits whole (coloured-take (m - a) (drop a new) (coloured-drop a new colours)) starts ends.0 in
+    let fed = text_fed region (length cells) above below front mid back cells plain None enough fits whole (coloured-take (m - a) (drop a new) (coloured-drop a new colours)) starts ends.0 in
     let gone : nat_lt k (end_of old new) ≡ true → (length cells < length mid) × (map Some (drop m new) ≡ replicate (length mid - length cells + length back) (Some blank)) = λ t.
     let less : k < end_of old new = grind (arith, nat_tests) in
     let n : length new - m ≡ length mid - length cells + length back = omega (arith, cells_length, mid_length, back_length) in
@@ -276,57 +276,57 @@ row_fed above below old new cursor wait latest w few old_wide new_wide narrow ro
     (omega (arith, cells_length, mid_length), rest-same old new m same is) in
     let text = text_by plain cells in
     let ending = dress (pen_behind plain cells) plain ++ (if nat_lt k (end_of old new) then erase_to_end else []) in
-    let ended = row-end above below front back (length mid) cells (drop m new) (nat_lt k (end_of old new)) _ fed gone kept in
+    let ended = row-end region above below front back (length mid) cells (drop m new) (nat_lt k (end_of old new)) _ fed gone kept in
     let there : length above < length (above ++ map Some old ∷ below) = omega (arith, length-append above (map Some old ∷ below)) in
     let at : get_or (above ++ map Some old ∷ below) (length above) [] ≡ map Some old = get_or_at above (map Some old) below [] (length above) refl in
     let column : begin_of old new < length (get_or (above ++ map Some old ∷ below) (length above) []) = rw at (omega (arith, length-map old Some)) in
-    let start = standing (above ++ map Some old ∷ below) cursor wait (Some plain) latest in
-    let moved = move_fed (above ++ map Some old ∷ below) cursor wait (Some plain) latest (length above) a there column few (omega arith)
-    ∙ ap (λ r. standing (above ++ r ∷ below) (Some (length above, a)) false (Some plain) None) row_old
-    ∙ ap (λ c. standing (above ++ (front ++ (mid ++ back)) ∷ below) (Some (length above, c)) false (Some plain) None) (sym front_length) in
-    stands-along _ _ _ _ (ap (λ r. above ++ r ∷ below) row_new) (sym (
+    let start = standing region (above ++ map Some old ∷ below) cursor wait (Some plain) latest in
+    let moved = move_fed region (above ++ map Some old ∷ below) cursor wait (Some plain) latest (length above) a there column few (omega arith)
+    ∙ ap (λ r. standing region (above ++ r ∷ below) (Some (length above, a)) false (Some plain) None) row_old
+    ∙ ap (λ c. standing region (above ++ (front ++ (mid ++ back)) ∷ below) (Some (length above, c)) false (Some plain) None) (sym front_length) in
+    stands-along region _ _ _ _ (ap (λ r. above ++ r ∷ below) row_new) (sym (
     feed_bytes-append start (move (length above) a) (text ++ ending)
     ∙ ap (λ t. feed_bytes t (text ++ ending)) moved
-    ∙ feed_bytes-append (standing (above ++ (front ++ (mid ++ back)) ∷ below) (Some (length above, length front)) false (Some plain) None) text ending)) ended
+    ∙ feed_bytes-append (standing region (above ++ (front ++ (mid ++ back)) ∷ below) (Some (length above, length front)) false (Some plain) None) text ending)) ended
 
 -- rows by a choice on whether the first differs and whether the limit allows it
-chosen : (differ allow : Bool) (same_bytes bytes : List ℕ) (above : Rows) (same_rows rows rest : List (List Cell)) (t : Tty)
-    → (differ ≡ false → Stands (above ++ known same_rows) (feed_bytes t same_bytes))
-    → (differ ≡ true → Stands (above ++ known rows) (feed_bytes t bytes))
-    → Stands (above ++ known rest) t
-    → Stands (above ++ known (if not differ then same_rows else if allow then rows else rest))
+chosen : (region : Option (ℕ × ℕ)) → (differ allow : Bool) (same_bytes bytes : List ℕ) (above : Rows) (same_rows rows rest : List (List Cell)) (t : Tty)
+    → (differ ≡ false → Stands region (above ++ known same_rows) (feed_bytes t same_bytes))
+    → (differ ≡ true → Stands region (above ++ known rows) (feed_bytes t bytes))
+    → Stands region (above ++ known rest) t
+    → Stands region (above ++ known (if not differ then same_rows else if allow then rows else rest))
     (feed_bytes t (if not differ then same_bytes else if allow then bytes else []))
-chosen false allow same_bytes bytes above same_rows rows rest t a b c = a refl
-chosen true true same_bytes bytes above same_rows rows rest t a b c = b refl
-chosen true false same_bytes bytes above same_rows rows rest t a b c = c
+chosen region false allow same_bytes bytes above same_rows rows rest t a b c = a refl
+chosen region true true same_bytes bytes above same_rows rows rest t a b c = b refl
+chosen region true false same_bytes bytes above same_rows rows rest t a b c = c
 
 -- the rows that differ, while the limit allows
-pub rows_fed : (above : Rows) (limit : Option ℕ) (olds news : List (List Cell)) (w : ℕ) (cursor : Option (ℕ × ℕ)) (wait : Bool) (latest : Option (ℕ × ℕ))
+pub rows_fed : (region : Option (ℕ × ℕ)) → (above : Rows) (limit : Option ℕ) (olds news : List (List Cell)) (w : ℕ) (cursor : Option (ℕ × ℕ)) (wait : Bool) (latest : Option (ℕ × ℕ))
     → length above + length olds ≤ 200 → w ≤ 400 → length olds ≡ length news
     → AllByRecursion (λ row. length row ≡ w) olds → AllByRecursion (λ row. length row ≡ w) news → AllByRecursion (λ row. IsRowAfter 0 row) news → AllByRecursion (λ row. AllByRecursion IsColoured row) news
-    → Stands (above ++ known (rows_after limit olds news)) (feed_bytes (standing (above ++ known olds) cursor wait (Some plain) latest) (rows_bytes (length above) limit olds news))
-rows_fed above limit [] [] w cursor wait latest few narrow same ow nw wholes colours = record { cursor = cursor; wait = wait; latest = latest; is = refl }
-rows_fed above limit [] (n ∷ ns) w cursor wait latest few narrow same ow nw wholes colours = absurd (cc)
-rows_fed above limit (o ∷ os) [] w cursor wait latest few narrow same ow nw wholes colours = absurd (cc)
-rows_fed above limit (o ∷ os) (n ∷ ns) w cursor wait latest few narrow same ow nw wholes colours =
-    let t = standing (above ++ known (o ∷ os)) cursor wait (Some plain) latest in
+    → Stands region (above ++ known (rows_after limit olds news)) (feed_bytes (standing region (above ++ known olds) cursor wait (Some plain) latest) (rows_bytes (length above) limit olds news))
+rows_fed region above limit [] [] w cursor wait latest few narrow same ow nw wholes colours = record { cursor = cursor; wait = wait; latest = latest; is = refl }
+rows_fed region above limit [] (n ∷ ns) w cursor wait latest few narrow same ow nw wholes colours = absurd (cc)
+rows_fed region above limit (o ∷ os) [] w cursor wait latest few narrow same ow nw wholes colours = absurd (cc)
+rows_fed region above limit (o ∷ os) (n ∷ ns) w cursor wait latest few narrow same ow nw wholes colours =
+    let t = standing region (above ++ known (o ∷ os)) cursor wait (Some plain) latest in
     let less : length os ≡ length ns = omega arith in
     let length_next : length (above ++ map Some n ∷ []) ≡ length above + 1 = length-append above (map Some n ∷ []) in
     let few_next : length (above ++ map Some n ∷ []) + length os ≤ 200 = omega arith in
     let next = λ (limit : Option ℕ) (cursor : Option (ℕ × ℕ)) (wait : Bool) (latest : Option (ℕ × ℕ)).
-    stands-along _ _ _ _
+    stands-along region _ _ _ _
     (append_assoc above (map Some n ∷ []) (known (rows_after limit os ns)))
-    (ap (λ rows. feed_bytes (standing rows cursor wait (Some plain) latest) (rows_bytes (length (above ++ map Some n ∷ [])) limit os ns)) (append_assoc above (map Some n ∷ []) (known os))
-    ∙ ap (λ r. feed_bytes (standing (above ++ map Some n ∷ known os) cursor wait (Some plain) latest) (rows_bytes r limit os ns)) length_next)
-    (rows_fed (above ++ map Some n ∷ []) limit os ns w cursor wait latest few_next narrow less ow.1 nw.1 wholes.1 colours.1) in
-    chosen (differs o n) (allows limit) (rows_bytes (length above + 1) limit os ns) (row_bytes (length above) o n ++ rows_bytes (length above + 1) (less_one limit) os ns)
+    (ap (λ rows. feed_bytes (standing region rows cursor wait (Some plain) latest) (rows_bytes (length (above ++ map Some n ∷ [])) limit os ns)) (append_assoc above (map Some n ∷ []) (known os))
+    ∙ ap (λ r. feed_bytes (standing region (above ++ map Some n ∷ known os) cursor wait (Some plain) latest) (rows_bytes r limit os ns)) length_next)
+    (rows_fed region (above ++ map Some n ∷ []) limit os ns w cursor wait latest few_next narrow less ow.1 nw.1 wholes.1 colours.1) in
+    chosen region (differs o n) (allows limit) (rows_bytes (length above + 1) limit os ns) (row_bytes (length above) o n ++ rows_bytes (length above + 1) (less_one limit) os ns)
     above (n ∷ rows_after limit os ns) (n ∷ rows_after (less_one limit) os ns) (o ∷ os) t
     (λ d.
     let is = no-difference o n (ow.0 ∙ sym nw.0) d in
-    stands-along _ _ _ _ refl (ap (λ r. feed_bytes (standing (above ++ map Some r ∷ known os) cursor wait (Some plain) latest) (rows_bytes (length above + 1) limit os ns)) is) (next limit cursor wait latest))
+    stands-along region _ _ _ _ refl (ap (λ r. feed_bytes (standing region (above ++ map Some r ∷ known os) cursor wait (Some plain) latest) (rows_bytes (length above + 1) limit os ns)) is) (next limit cursor wait latest))
     (λ d.
-    let row = row_fed above (known os) o n cursor wait latest w (omega arith) ow.0 nw.0 narrow wholes.0 colours.0 d in
-    stands-along _ _ _ _ refl (sym (
+    let row = row_fed region above (known os) o n cursor wait latest w (omega arith) ow.0 nw.0 narrow wholes.0 colours.0 d in
+    stands-along region _ _ _ _ refl (sym (
     feed_bytes-append t (row_bytes (length above) o n) (rows_bytes (length above + 1) (less_one limit) os ns)
     ∙ ap (λ t. feed_bytes t (rows_bytes (length above + 1) (less_one limit) os ns)) row.is)) (next (less_one limit) row.cursor row.wait row.latest))
     (record { cursor = cursor; wait = wait; latest = latest; is = refl })

@@ -79,12 +79,12 @@ over-seam front o1 o2 back cells first same h =
 abbrev pub behind_it : ℕ → ℕ → ℕ → ℕ → Option (ℕ × ℕ)
 behind_it row column w long = Some (row, min (column + w) (long - 1))
 
-pub put_seam : (above below : Rows) (front o1 o2 back : Row) (base w : ℕ) (f : Attributes) (latest : Option (ℕ × ℕ))
+pub put_seam : (region : Option (ℕ × ℕ)) → (above below : Rows) (front o1 o2 back : Row) (base w : ℕ) (f : Attributes) (latest : Option (ℕ × ℕ))
     → first_column (front ++ (o1 ++ (o2 ++ back))) (length front) ≡ length front → length o1 ≡ w → 1 ≤ w → later_columns back ≡ 0
-    → put base w (Some f) (Some (length above, length front)) (standing (above ++ (front ++ (o1 ++ (o2 ++ back))) ∷ below) (Some (length above, length front)) false (Some f) latest)
-    ≡ standing (above ++ (front ++ (map Some (glyph_cells w (single base w) f) ++ (loose o2 ++ back))) ∷ below)
+    → put base w (Some f) (Some (length above, length front)) (standing region (above ++ (front ++ (o1 ++ (o2 ++ back))) ∷ below) (Some (length above, length front)) false (Some f) latest)
+    ≡ standing region (above ++ (front ++ (map Some (glyph_cells w (single base w) f) ++ (loose o2 ++ back))) ∷ below)
     (behind_it (length above) (length front) w (length (front ++ (o1 ++ (o2 ++ back))))) (nat_le (length (front ++ (o1 ++ (o2 ++ back)))) (length front + w)) (Some f) (Some (length above, length front))
-put_seam above below front o1 o2 back base w f latest first same some h =
+put_seam region above below front o1 o2 back base w f latest first same some h =
     let row = front ++ (o1 ++ (o2 ++ back)) in
     let cells = map Some (glyph_cells w (single base w) f) in
     let at : get_or (above ++ row ∷ below) (length above) [] ≡ row = get_or_at above row below [] (length above) refl in
@@ -152,21 +152,21 @@ encoded-is : (code : ℕ) → is_scalar code ≡ true → encoded code ≡ encod
 encoded-is code e = rw e refl
 
 -- a character is shown by its columns
-pub code_fed : (rows : Rows) (cursor : Option (ℕ × ℕ)) (wait : Bool) (pen : Option Attributes) (latest : Option (ℕ × ℕ)) (code w : ℕ)
+pub code_fed : (region : Option (ℕ × ℕ)) → (rows : Rows) (cursor : Option (ℕ × ℕ)) (wait : Bool) (pen : Option Attributes) (latest : Option (ℕ × ℕ)) (code w : ℕ)
     → is_scalar code ≡ true → columns_of code ≡ Some w
-    → feed_bytes (standing rows cursor wait pen latest) (encoded code) ≡ show code (Some w) (standing rows cursor wait pen latest)
-code_fed rows cursor wait pen latest code w s e =
-    ap (feed_bytes (standing rows cursor wait pen latest)) (encoded-is code s) ∙ shown_fed rows cursor wait pen latest code w s e
+    → feed_bytes (standing region rows cursor wait pen latest) (encoded code) ≡ show code (Some w) (standing region rows cursor wait pen latest)
+code_fed region rows cursor wait pen latest code w s e =
+    ap (feed_bytes (standing region rows cursor wait pen latest)) (encoded-is code s) ∙ shown_fed region rows cursor wait pen latest code w s e
 
 -- a row with a glyph as far as it has grown
 abbrev pub with_glyph : Rows → Rows → Row → Row → Cell → Rows
 with_glyph above below front tail cell = above ++ (front ++ Some cell ∷ tail) ∷ below
 
-mark_joins : (above below : Rows) (front tail : Row) (g : Glyph) (f : Attributes) (cursor : Option (ℕ × ℕ)) (wait : Bool) (k code : ℕ)
+mark_joins : (region : Option (ℕ × ℕ)) → (above below : Rows) (front tail : Row) (g : Glyph) (f : Attributes) (cursor : Option (ℕ × ℕ)) (wait : Bool) (k code : ℕ)
     → length g.marks ≡ 6 → k < 6 → get_or g.marks k 0 ≡ code → (g.base ≡ 32 → g.width ≡ 1)
-    → join code (Some (length above, length front)) (standing (with_glyph above below front tail (grown g k f)) cursor wait (Some f) (Some (length above, length front)))
-    ≡ standing (with_glyph above below front tail (grown g (suc k) f)) cursor wait (Some f) (Some (length above, length front))
-mark_joins above below front tail g f cursor wait k code six lt at narrow =
+    → join code (Some (length above, length front)) (standing region (with_glyph above below front tail (grown g k f)) cursor wait (Some f) (Some (length above, length front)))
+    ≡ standing region (with_glyph above below front tail (grown g (suc k) f)) cursor wait (Some f) (Some (length above, length front))
+mark_joins region above below front tail g f cursor wait k code six lt at narrow =
     let row = front ++ Some (grown g k f) ∷ tail in
     let next = front ++ Some (grown g (suc k) f) ∷ tail in
     let here : get_or (above ++ row ∷ below) (length above) [] ≡ row = get_or_at above row below [] (length above) refl in
@@ -175,7 +175,7 @@ mark_joins above below front tail g f cursor wait k code six lt at narrow =
     let put = set_at front (Some (grown g k f)) tail (Some (grown g (suc k) f)) (length front) refl in
     let rows = set_at above row below next (length above) refl in
     let all = above ++ row ∷ below in
-    let State = λ (rs : Rows). standing rs cursor wait (Some f) (Some (length above, length front)) in
+    let State = λ (rs : Rows). standing region rs cursor wait (Some f) (Some (length above, length front)) in
     let mark = ap (λ (r : Row). marked code (get_or r (length front) None)) here ∙ ap (marked code) cell ∙ more in
     ap (λ (c : Option Cell). join_into c (length above) (length front) (State all)) mark
     ∙ ap (λ (r : Row). State (set all (length above) (set r (length front) (Some (grown g (suc k) f))))) here
@@ -183,14 +183,14 @@ mark_joins above below front tail g f cursor wait k code six lt at narrow =
     ∙ ap State rows
 
 -- so many marks join, from one on
-marks_join : (above below : Rows) (front tail : Row) (g : Glyph) (f : Attributes) (cursor : Option (ℕ × ℕ)) (wait : Bool) (n k : ℕ) → IsMeasured g → k + n ≤ g.count
-    → feed_bytes (standing (with_glyph above below front tail (grown g k f)) cursor wait (Some f) (Some (length above, length front))) (flat_map encoded (take n (drop k g.marks)))
-    ≡ standing (with_glyph above below front tail (grown g (k + n) f)) cursor wait (Some f) (Some (length above, length front))
-marks_join above below front tail g f cursor wait zero k h le =
+marks_join : (region : Option (ℕ × ℕ)) → (above below : Rows) (front tail : Row) (g : Glyph) (f : Attributes) (cursor : Option (ℕ × ℕ)) (wait : Bool) (n k : ℕ) → IsMeasured g → k + n ≤ g.count
+    → feed_bytes (standing region (with_glyph above below front tail (grown g k f)) cursor wait (Some f) (Some (length above, length front))) (flat_map encoded (take n (drop k g.marks)))
+    ≡ standing region (with_glyph above below front tail (grown g (k + n) f)) cursor wait (Some f) (Some (length above, length front))
+marks_join region above below front tail g f cursor wait zero k h le =
     let e : k ≡ k + 0 = omega arith in
-    ap (λ j. standing (with_glyph above below front tail (grown g j f)) cursor wait (Some f) (Some (length above, length front))) e
-marks_join above below front tail g f cursor wait (suc n) k h le =
-    let State = λ (j : ℕ). standing (with_glyph above below front tail (grown g j f)) cursor wait (Some f) (Some (length above, length front)) in
+    ap (λ j. standing region (with_glyph above below front tail (grown g j f)) cursor wait (Some f) (Some (length above, length front))) e
+marks_join region above below front tail g f cursor wait (suc n) k h le =
+    let State = λ (j : ℕ). standing region (with_glyph above below front tail (grown g j f)) cursor wait (Some f) (Some (length above, length front)) in
     let code = get_or g.marks k 0 in
     let lt : k < g.count = omega arith in
     let within : k < 6 = omega (arith, lt, h.count) in
@@ -202,10 +202,10 @@ marks_join above below front tail g f cursor wait (suc n) k h le =
     ap (feed_bytes (State k)) bytes
     ∙ feed_bytes-append (State k) (encoded code) (flat_map encoded (take n (drop (k + 1) g.marks)))
     ∙ ap (λ t. feed_bytes t (flat_map encoded (take n (drop (k + 1) g.marks)))) (
-    code_fed (with_glyph above below front tail (grown g k f)) cursor wait (Some f) (Some (length above, length front)) code 0 mark.0 (mark-columns g k h lt)
-    ∙ mark_joins above below front tail g f cursor wait k code h.places within refl (space-narrow g h))
+    code_fed region (with_glyph above below front tail (grown g k f)) cursor wait (Some f) (Some (length above, length front)) code 0 mark.0 (mark-columns g k h lt)
+    ∙ mark_joins region above below front tail g f cursor wait k code h.places within refl (space-narrow g h))
     ∙ ap (λ j. feed_bytes (State (suc k)) (flat_map encoded (take n (drop j g.marks)))) next
-    ∙ marks_join above below front tail g f cursor wait n (suc k) h (omega (arith, le))
+    ∙ marks_join region above below front tail g f cursor wait n (suc k) h (omega (arith, le))
     ∙ ap State after
 
 zeros : (xs : List ℕ) (c : ℕ) → ((k : ℕ) → c ≤ k → k < length xs → get_or xs k 0 ≡ 0) → drop c xs ≡ replicate (length xs - c) 0
@@ -254,40 +254,40 @@ shown-put code (suc w) t p = refl
 
 -- ---- a whole glyph
 
-pub glyph_fed : (above below : Rows) (front o1 o2 back : Row) (g : Glyph) (f : Attributes) (latest : Option (ℕ × ℕ))
+pub glyph_fed : (region : Option (ℕ × ℕ)) → (above below : Rows) (front o1 o2 back : Row) (g : Glyph) (f : Attributes) (latest : Option (ℕ × ℕ))
     → first_column (front ++ (o1 ++ (o2 ++ back))) (length front) ≡ length front → length o1 ≡ g.width → later_columns back ≡ 0 → IsGood g
-    → feed_bytes (standing (above ++ (front ++ (o1 ++ (o2 ++ back))) ∷ below) (Some (length above, length front)) false (Some f) latest) (text_of_glyph g)
-    ≡ standing (above ++ (front ++ (map Some (First g f ∷ replicate (g.width - 1) Rest) ++ (loose o2 ++ back))) ∷ below)
+    → feed_bytes (standing region (above ++ (front ++ (o1 ++ (o2 ++ back))) ∷ below) (Some (length above, length front)) false (Some f) latest) (text_of_glyph g)
+    ≡ standing region (above ++ (front ++ (map Some (First g f ∷ replicate (g.width - 1) Rest) ++ (loose o2 ++ back))) ∷ below)
     (behind_it (length above) (length front) g.width (length (front ++ (o1 ++ (o2 ++ back))))) (nat_le (length (front ++ (o1 ++ (o2 ++ back)))) (length front + g.width)) (Some f) (Some (length above, length front))
-glyph_fed above below front o1 o2 back g f latest first same h good =
+glyph_fed region above below front o1 o2 back g f latest first same h good =
     let m = good.measured in
     let row = front ++ (o1 ++ (o2 ++ back)) in
-    let before = standing (above ++ row ∷ below) (Some (length above, length front)) false (Some f) latest in
+    let before = standing region (above ++ row ∷ below) (Some (length above, length front)) false (Some f) latest in
     let cursor = behind_it (length above) (length front) g.width (length row) in
     let wait = nat_le (length row) (length front + g.width) in
     let tail : Row = replicate (g.width - 1) (Some Rest) ++ (loose o2 ++ back) in
-    let State = λ (cell : Cell). standing (with_glyph above below front tail cell) cursor wait (Some f) (Some (length above, length front)) in
+    let State = λ (cell : Cell). standing region (with_glyph above below front tail cell) cursor wait (Some f) (Some (length above, length front)) in
     let marks = flat_map encoded (take g.count g.marks) in
-    let begun = code_fed (above ++ row ∷ below) (Some (length above, length front)) false (Some f) latest g.base g.width m.scalar (base-columns g m)
+    let begun = code_fed region (above ++ row ∷ below) (Some (length above, length front)) false (Some f) latest g.base g.width m.scalar (base-columns g m)
     ∙ shown-put g.base g.width before m.some
-    ∙ put_seam above below front o1 o2 back g.base g.width f latest first same m.some h
-    ∙ ap (λ (cells : Row). standing (above ++ (front ++ (cells ++ (loose o2 ++ back))) ∷ below) cursor wait (Some f) (Some (length above, length front))) (bare g f m) in
+    ∙ put_seam region above below front o1 o2 back g.base g.width f latest first same m.some h
+    ∙ ap (λ (cells : Row). standing region (above ++ (front ++ (cells ++ (loose o2 ++ back))) ∷ below) cursor wait (Some f) (Some (length above, length front))) (bare g f m) in
     let end : 0 + g.count ≡ g.count = omega arith in
     let cells : map Some (First g f ∷ replicate (g.width - 1) Rest) ≡ Some (First g f) ∷ replicate (g.width - 1) (Some Rest) = ap (λ xs. Some (First g f) ∷ xs) (map-replicate Some (g.width - 1) Rest) in
     feed_bytes-append before (encoded g.base) marks
     ∙ ap (λ t. feed_bytes t marks) begun
-    ∙ marks_join above below front tail g f cursor wait g.count 0 m (omega arith)
+    ∙ marks_join region above below front tail g f cursor wait g.count 0 m (omega arith)
     ∙ ap (λ k. State (grown g k f)) end
     ∙ ap State (whole-glyph g f good)
-    ∙ ap (λ (cs : Row). standing (above ++ (front ++ (cs ++ (loose o2 ++ back))) ∷ below) cursor wait (Some f) (Some (length above, length front))) (sym cells)
+    ∙ ap (λ (cs : Row). standing region (above ++ (front ++ (cs ++ (loose o2 ++ back))) ∷ below) cursor wait (Some f) (Some (length above, length front))) (sym cells)
 
 -- a blank
-pub blank_fed : (above below : Rows) (front back : Row) (o : Option Cell) (o2 : Row) (f : Attributes) (latest : Option (ℕ × ℕ))
+pub blank_fed : (region : Option (ℕ × ℕ)) → (above below : Rows) (front back : Row) (o : Option Cell) (o2 : Row) (f : Attributes) (latest : Option (ℕ × ℕ))
     → first_column (front ++ (o ∷ (o2 ++ back))) (length front) ≡ length front → later_columns back ≡ 0
-    → feed_bytes (standing (above ++ (front ++ (o ∷ (o2 ++ back))) ∷ below) (Some (length above, length front)) false (Some f) latest) (32 ∷ [])
-    ≡ standing (above ++ (front ++ (Some (Blank f) ∷ (loose o2 ++ back))) ∷ below)
+    → feed_bytes (standing region (above ++ (front ++ (o ∷ (o2 ++ back))) ∷ below) (Some (length above, length front)) false (Some f) latest) (32 ∷ [])
+    ≡ standing region (above ++ (front ++ (Some (Blank f) ∷ (loose o2 ++ back))) ∷ below)
     (behind_it (length above) (length front) 1 (length (front ++ (o ∷ (o2 ++ back))))) (nat_le (length (front ++ (o ∷ (o2 ++ back)))) (length front + 1)) (Some f) (Some (length above, length front))
-blank_fed above below front back o o2 f latest first h =
-    let before = standing (above ++ (front ++ (o ∷ (o2 ++ back))) ∷ below) (Some (length above, length front)) false (Some f) latest in
+blank_fed region above below front back o o2 f latest first h =
+    let before = standing region (above ++ (front ++ (o ∷ (o2 ++ back))) ∷ below) (Some (length above, length front)) false (Some f) latest in
     ap (λ c. show 32 c before) space-columns
-    ∙ put_seam above below front (o ∷ []) o2 back 32 1 f latest first refl (omega arith) h
+    ∙ put_seam region above below front (o ∷ []) o2 back 32 1 f latest first refl (omega arith) h

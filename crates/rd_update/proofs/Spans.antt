@@ -10,60 +10,9 @@ use Rattle.rd_base.specs.declared.cell.Cell.{Cell}
 use Rattle.rd_base.specs.declared.cell.Cell.TheVariants.{Blank, First, Rest}
 use Rattle.rd_term.specs.Pictures.{blank, blank_row}
 use Rattle.rd_term.specs.Overwriting.{is_later, later_columns, first_column}
-use Rattle.rd_update.specs.Updates.{same_flag, same_face, same_glyph, same_cell, first_difference, end_before, end_of_differences, used, differs, is_rest, goes_on, begin_before, going_on}
-
--- ---- same cells
-
-flag-told : (a b : Bool) → same_flag a b ≡ true → a ≡ b
-flag-told true true e = refl
-flag-told true false e = absurd (cc)
-flag-told false true e = absurd (cc)
-flag-told false false e = refl
-
-attributes-same : (a b c d : ℕ) (p q r s t u : Bool) → a ≡ c → b ≡ d → p ≡ s → q ≡ t → r ≡ u
-    → let x : Attributes = record { fg = a; bg = b; bold = p; underline = q; inverse = r } in
-    let y : Attributes = record { fg = c; bg = d; bold = s; underline = t; inverse = u } in x ≡ y
-attributes-same a b c d p q r s t u e f g h i = cc
-
-glyphs-same : (a b c d e f : ℕ) (xs ys : List ℕ) → a ≡ d → xs ≡ ys → b ≡ e → c ≡ f
-    → let x : Glyph = record { base = a; marks = xs; count = b; width = c } in
-    let y : Glyph = record { base = d; marks = ys; count = e; width = f } in x ≡ y
-glyphs-same a b c d e f xs ys p q r s = cc
-
-pub face-told : (f g : Attributes) → same_face f g ≡ true → f ≡ g
-face-told f g e =
-    let one = and_parts _ _ e in
-    let two = and_parts _ _ one.0 in
-    let three = and_parts _ _ two.0 in
-    let four = and_parts _ _ three.0 in
-    let fg = (Decides-eqb f.fg g.fg).0 four.0 in
-    let bg = (Decides-eqb f.bg g.bg).0 four.1 in
-    let bold = flag-told f.bold g.bold three.1 in
-    let underline = flag-told f.underline g.underline two.1 in
-    let inverse = flag-told f.inverse g.inverse one.1 in
-    attributes-same f.fg f.bg g.fg g.bg f.bold f.underline f.inverse g.bold g.underline g.inverse fg bg bold underline inverse
-
-glyph-told : (g h : Glyph) → same_glyph g h ≡ true → g ≡ h
-glyph-told g h e =
-    let one = and_parts _ _ e in
-    let two = and_parts _ _ one.0 in
-    let three = and_parts _ _ two.0 in
-    let base = (Decides-eqb g.base h.base).0 three.0 in
-    let marks = (bytes_eq-Decides g.marks h.marks).0 three.1 in
-    let count = (Decides-eqb g.count h.count).0 two.1 in
-    let width = (Decides-eqb g.width h.width).0 one.1 in
-    glyphs-same g.base g.count g.width h.base h.count h.width g.marks h.marks base marks count width
-
-pub cell-told : (x y : Cell) → same_cell x y ≡ true → x ≡ y
-cell-told (Blank f) (Blank g) e = ap Blank (face-told f g e)
-cell-told (First g f) (First h k) e = let parts = and_parts _ _ e in let glyph = glyph-told g h parts.0 in let face = face-told f k parts.1 in cc
-cell-told Rest Rest e = refl
-cell-told (Blank f) (First h k) e = absurd (cc)
-cell-told (Blank f) Rest e = absurd (cc)
-cell-told (First g f) (Blank k) e = absurd (cc)
-cell-told (First g f) Rest e = absurd (cc)
-cell-told Rest (Blank f) e = absurd (cc)
-cell-told Rest (First g f) e = absurd (cc)
+use Rattle.rd_base.specs.Equals.{same_flag, same_face, same_glyph, same_cell}
+use Rattle.rd_update.proofs.Equals.{cell-told}
+use Rattle.rd_update.specs.Updates.{first_difference, end_before, end_of_differences, used, differs, is_rest, goes_on, begin_before, going_on}
 
 -- ---- before the first difference and behind the last
 

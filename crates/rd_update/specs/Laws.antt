@@ -2,10 +2,12 @@
 use Rattle.std.specs.Prelude.{◌≡◌, ℕ, ◌<◌, ◌≤◌, true, false, List, length, Option, None, Some, map, slice_index_or}
 use Rattle.rd_base.specs.Faces.{plain}
 use Rattle.rd_base.specs.declared.cell.Cell.{Cell}
-use Rattle.rd_term.specs.Pictures.{Picture, IsGrid, IsOfSize, IsWellFormed, AreColoured}
+use Rattle.rd_term.specs.Pictures.{Picture, IsGrid, IsOfSize, IsWellFormed}
+use Rattle.rd_base.specs.Cells.{AreColoured}
 use Rattle.rd_term.specs.Terminals.{Tty, known, cell_of}
 use Rattle.rd_term.specs.declared.reading.Reading.TheVariants.{Between}
-use Rattle.rd_update.specs.Updates.{Update, same_cell, goes_on}
+use Rattle.rd_base.specs.Equals.{same_cell}
+use Rattle.rd_update.specs.Updates.{Update, goes_on}
 
 -- a known current screen is what the terminal shows, and the terminal's pen is plain
 abbrev pub IsCurrent : ℕ → ℕ → Option Picture → Tty → Type 0

@@ -3,8 +3,8 @@ use Rattle.std.specs.Prelude.{ℕ, zero, suc, ◌+◌, ◌-◌, ◌==◌, nat_lt
 use Rattle.std.specs.Char.{encode_utf8}
 use Rattle.std.specs.Fmt.{decimal}
 use Rattle.std.specs.List.{flat_map}
-use Rattle.std.specs.Str.{bytes_eq}
 use Rattle.rd_base.specs.Chars.{is_scalar}
+use Rattle.rd_base.specs.Equals.{same_face, same_cell}
 use Rattle.rd_base.specs.Faces.{Attributes, plain}
 use Rattle.rd_base.specs.declared.cell.Glyph.{Glyph}
 use Rattle.rd_base.specs.declared.cell.Cell.{Cell}
@@ -12,21 +12,6 @@ use Rattle.rd_base.specs.declared.cell.Cell.TheVariants.{Blank, First, Rest}
 use Rattle.rd_term.specs.Pictures.{Picture, blank, blank_row}
 
 -- ---- where two rows differ
-
-abbrev pub same_flag : Bool → Bool → Bool
-same_flag a b = if a then b else not b
-
-abbrev pub same_face : Attributes → Attributes → Bool
-same_face f g = f.fg == g.fg && f.bg == g.bg && same_flag f.bold g.bold && same_flag f.underline g.underline && same_flag f.inverse g.inverse
-
-abbrev pub same_glyph : Glyph → Glyph → Bool
-same_glyph g h = g.base == h.base && bytes_eq g.marks h.marks && g.count == h.count && g.width == h.width
-
-abbrev pub same_cell : Cell → Cell → Bool
-same_cell (Blank f) (Blank g) = same_face f g
-same_cell (First g f) (First h e) = same_glyph g h && same_face f e
-same_cell Rest Rest = true
-same_cell _ _ = false
 
 -- the first column at which two rows differ, and their width where they do not
 abbrev pub first_difference : List Cell → List Cell → ℕ

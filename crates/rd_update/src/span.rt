@@ -1,6 +1,7 @@
 //! Where two rows differ.
 ghost use Rattle.std.specs.Prelude.{◌≡◌, ◌+◌, ◌<◌, ◌≤◌, ◌||◌, length, drop};
-ghost use Rattle.rd_update.specs.Updates.{same_cell, same_face, same_glyph, first_difference as first_column, end_of_differences as end_column, is_rest, goes_on, begin_before, going_on, begin_of, end_of};
+ghost use Rattle.rd_base.specs.Equals.{same_cell, same_face, same_glyph};
+ghost use Rattle.rd_update.specs.Updates.{first_difference as first_column, end_of_differences as end_column, is_rest, goes_on, begin_before, going_on, begin_of, end_of};
 
 use rd_base::{Cell, Face, Glyph};
 
