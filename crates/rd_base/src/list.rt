@@ -135,6 +135,16 @@ impl<T: Copy> ListOf<T> {
         Ok(())
     }
 
+    /// Adds `n` copies of a value at the end.
+    pub fn push_copies(&mut self, n: u64, value: T) -> Result<(), Memory>
+        ensures { OnOk result (self.new ≡ self.old ++ replicate n value) }
+    {
+        for _k in 0..n {
+            self.push(value)?;
+        }
+        Ok(())
+    }
+
     /// Cuts the list to `n` elements, or fills it up to `n` with copies of a value.
     pub fn resize(&mut self, n: usize, value: T) -> Result<(), Memory>
         ensures ok { OnOk result (self.new ≡ take n self.old ++ replicate (n - length self.old) value) }

@@ -153,24 +153,14 @@ fn fit(alloc: Global, looks: &[Look], face: Face, width: u32) -> Result<ListOf<C
     for look in looks {
         let columns = look_columns(*look) as u32;
         if columns > room {
-            put_copies(&mut cells, room, Cell::Blank(face))?;
+            cells.push_copies(room as u64, Cell::Blank(face))?;
             return Ok(cells);
         }
         put_cells(&mut cells, *look, face)?;
         room -= columns;
     }
-    put_copies(&mut cells, room, Cell::Blank(face))?;
+    cells.push_copies(room as u64, Cell::Blank(face))?;
     Ok(cells)
-}
-
-/// Adds so many copies of a value.
-fn put_copies<T: Copy>(list: &mut ListOf<T>, n: u32, value: T) -> Result<(), Memory>
-    ensures { OnOk result (list.new ≡ list.old ++ replicate n value) }
-{
-    for _k in 0..n {
-        list.push(value)?;
-    }
-    Ok(())
 }
 
 /// Adds the cells of a look.
@@ -182,7 +172,7 @@ fn put_cells(cells: &mut ListOf<Cell>, look: Look, face: Face) -> Result<(), Mem
 {
     match look {
         Look::Glyph(glyph) => put_glyph(cells, glyph, face),
-        _ => put_copies(cells, look_columns(look) as u32, Cell::Blank(face)),
+        _ => cells.push_copies(look_columns(look) as u64, Cell::Blank(face)),
     }
 }
 
@@ -191,8 +181,8 @@ fn put_glyph(cells: &mut ListOf<Cell>, glyph: Glyph, face: Face) -> Result<(), M
     ensures { OnOk result (cells.new ≡ cells.old ++ glyph_cells glyph.width glyph face) }
 {
     if glyph.is_space() {
-        return put_copies(cells, glyph.width as u32, Cell::Blank(face));
+        return cells.push_copies(glyph.width as u64, Cell::Blank(face));
     }
     cells.push(Cell::First(glyph, face))?;
-    put_copies(cells, (glyph.width as u32).saturating_sub(1), Cell::Rest)
+    cells.push_copies((glyph.width as u64).saturating_sub(1), Cell::Rest)
 }

@@ -64,7 +64,7 @@ fn text_of(
                 &mut text, alloc, *field, *width, classes, facts,
             )?,
             Piece::Dashes => {
-                push_copies(&mut text, columns, Ch::scalar('-'))?;
+                text.push_copies(columns as u64, Ch::scalar('-'))?;
                 return Ok(text);
             }
         }
@@ -94,12 +94,12 @@ fn push_filled(text: &mut ListOf<Ch>, field: Field, blanks: u32, value: &[Ch]) -
 {
     match field {
         Field::Line => {
-            push_copies(text, blanks, Ch::scalar(' '))?;
+            text.push_copies(blanks as u64, Ch::scalar(' '))?;
             text.extend_from_slice(value)
         }
         _ => {
             text.extend_from_slice(value)?;
-            push_copies(text, blanks, Ch::scalar(' '))
+            text.push_copies(blanks as u64, Ch::scalar(' '))
         }
     }
 }
@@ -194,14 +194,4 @@ fn text_of_bytes(alloc: Global, bytes: &[u8]) -> Result<ListOf<Ch>, Memory>
         text.push(Ch::scalar(*byte as char))?;
     }
     Ok(text)
-}
-
-/// Adds so many copies of a character.
-fn push_copies(text: &mut ListOf<Ch>, n: u32, ch: Ch) -> Result<(), Memory>
-    ensures { OnOk result (text.new ≡ text.old ++ replicate n ch) }
-{
-    for _k in 0..n {
-        text.push(ch)?;
-    }
-    Ok(())
 }
