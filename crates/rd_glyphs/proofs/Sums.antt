@@ -1,5 +1,5 @@
 -- The columns of looks that are put together.
-use Rattle.std.proofs.Common.{◌≡◌, ◌+◌, ◌++◌, ◌≤◌, min, List, [], ◌∷◌, Option, true, refl, sym, ℕ, arith, rules}
+use Rattle.std.proofs.Common.{◌≡◌, ◌+◌, ◌++◌, ◌≤◌, min, List, [], ◌∷◌, Option, true, ℕ, arith}
 use Rattle.rd_base.specs.declared.cell.Glyph.{Glyph}
 use Rattle.rd_base.specs.declared.element.Look.{Look}
 use Rattle.rd_ucd.specs.declared.spans.Span.{Span}

@@ -1,4 +1,4 @@
-use Rattle.std.proofs.Common.{arith, rules, ◌≡◌, ◌+◌, ◌∷◌, drop, ℕ, refl}
+use Rattle.std.proofs.Common.{arith, ◌≡◌, ◌+◌, ◌∷◌, drop, refl}
 use Rattle.std.proofs.lemmas.Grind.{common_steps}
 use Rattle.rd_glyphs.proofs.Sums.{counted, reached}
 use Rattle.rd_glyphs.proofs.counting.plain_columns.Goals as goal
