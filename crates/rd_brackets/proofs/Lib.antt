@@ -1,0 +1,4 @@
+mod Closings
+mod Spans
+mod Stacks
+mod Steps

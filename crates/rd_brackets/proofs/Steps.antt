@@ -1,0 +1,98 @@
+-- One place more of a sequence, and a sequence without pairs.
+use Rattle.std.proofs.Common.{◌≡◌, ℕ, suc, ◌+◌, ◌-◌, ◌<◌, ◌≤◌, ◌==◌, Bool, true, false, List, [], ◌∷◌, ◌++◌, length, get_or, slice_get, take, drop, set, Option, None, Some, All, refl, sym, ap, subst, ◌∙◌, append_assoc, arith}
+use Rattle.std.specs.Prelude.{if◌then◌else◌, replicate, option_map, unwrap_or, IfSome}
+use Rattle.std.proofs.lemmas.Bool.Decides.{nat_tests}
+use Rattle.std.proofs.lemmas.List.{drop_more, take_all, set-get_or, get_or-replicate, length-replicate}
+use Rattle.std.proofs.lemmas.Option.{get_or_from_slice_get}
+use Rattle.rd_base.specs.declared.class.Class.{Class}
+use Rattle.rd_base.specs.declared.class.Class.TheVariants.{L, ON}
+use Rattle.rd_base.specs.declared.line.Seq.{Seq}
+use Rattle.rd_ucd.specs.declared.spans.BracketEntry.{BracketEntry}
+use Rattle.rd_resolve.specs.Places.{types_at, put_at}
+use Rattle.rd_brackets.specs.Pairs.{role_of, roles, pairs_from, pairs_of, closings}
+use Rattle.rd_brackets.specs.Sides.{with_pairs, with_marks, bracket_types, codes_at, embedding_of, brackets_in}
+use Rattle.rd_brackets.specs.Matchings.{all_pairs}
+use Rattle.rd_brackets.specs.declared.role.Role.{Role}
+use Rattle.rd_brackets.specs.declared.role.Role.TheVariants.{Other}
+use Rattle.rd_brackets.specs.declared.matching.Opened.{Opened}
+use Rattle.rd_brackets.specs.declared.matching.Pair.{Pair}
+use Rattle.rd_brackets.specs.declared.matching.Matching.{Matching}
+use Rattle.rd_brackets.proofs.Closings.{none-taken, none-marked}
+
+-- what is left begins with the role that was read
+pub roles-read : (entries : List BracketEntry) (is : List ℕ) (k i : ℕ) (ts : List Class) (codes : List ℕ) (class : Class) → k < length is → slice_get is k ≡ Some i
+    → slice_get ts i ≡ Some class
+    → roles entries (types_at (drop k is) ts) (codes_at (drop k is) codes) ≡ role_of entries class (get_or codes i 0) ∷ roles entries (types_at (drop (k + 1) is) ts) (codes_at (drop (k + 1) is) codes)
+roles-read entries is k i ts codes class within read here =
+    let front : drop k is ≡ i ∷ drop (k + 1) is = drop_more is k i within ∙ ap (λ j. j ∷ drop (k + 1) is) (get_or_from_slice_get is k i i read) in
+    ap (λ js. roles entries (types_at js ts) (codes_at js codes)) front
+    ∙ ap (λ c. role_of entries c (get_or codes i 0) ∷ roles entries (types_at (drop (k + 1) is) ts) (codes_at (drop (k + 1) is) codes)) (get_or_from_slice_get ts i class L here)
+
+module _ (old new : Matching) (place : ℕ) (role : Role) (goes_on : Bool)
+  (added : (rs : List Role) → all_pairs old place (role ∷ rs) ≡ (if goes_on then all_pairs new (suc place) rs else None)) where
+  pub pairs-next : goes_on ≡ true → (all rs : List Role) (whole : Option (List Pair)) → all ≡ role ∷ rs → all_pairs old place all ≡ whole → all_pairs new (place + 1) rs ≡ whole
+  pairs-next on all rs whole read is =
+      let next : place + 1 ≡ suc place = omega arith in
+      ap (λ n. all_pairs new n rs) next ∙ sym (added rs ∙ ap (λ b. if b then all_pairs new (suc place) rs else None) on)
+      ∙ sym (ap (all_pairs old place) read) ∙ is
+
+  pub no-pairs : goes_on ≡ false → (all rs whole : List Role) → all ≡ role ∷ rs → all_pairs old place all ≡ pairs_from 0 [] whole → pairs_of whole ≡ []
+  no-pairs off all rs whole read is =
+      let none : pairs_from 0 [] whole ≡ None = sym is ∙ ap (all_pairs old place) read ∙ added rs ∙ ap (λ b. if b then all_pairs new (suc place) rs else None) off in
+      ap (λ o. unwrap_or o []) none
+
+-- a list of nothing, filled up
+pub filled : (n : ℕ) (xs : List (Option ℕ)) → xs ≡ [] → take n xs ++ replicate (n - length xs) None ≡ replicate n None
+filled n xs none =
+    let size : n - 0 ≡ n = omega arith in
+    ap (λ l. take n l ++ replicate (n - length l) None) none ∙ ap (λ l. l ++ replicate (n - 0) None) (take_all n [] (omega arith)) ∙ ap (λ k. replicate k None) size
+
+pub none-inside : (n m : ℕ) → All (λ (closing : Option ℕ). IfSome closing (λ place. place < m)) (replicate n None)
+none-inside n m = λ k d inside.
+    let less : k < n = omega (arith, length-replicate {A = Option ℕ}) in
+    subst (λ (o : Option ℕ). IfSome o (λ place. place < m)) (sym (get_or-replicate n k None d less)) tt
+
+-- a type more of a sequence
+pub types-next : (is : List ℕ) (ts : List Class) (k : ℕ) (c : Class) (out more whole : List Class) → k < length is → slice_get ts (get_or is k 0) ≡ Some c → more ≡ out ++ c ∷ []
+    → out ++ types_at (drop k is) ts ≡ whole → more ++ types_at (drop (k + 1) is) ts ≡ whole
+types-next is ts k c out more whole within here given is_whole =
+    let rest = types_at (drop (k + 1) is) ts in
+    ap (λ l. l ++ rest) given ∙ append_assoc out (c ∷ []) rest
+    ∙ ap (λ t. out ++ t ∷ rest) (sym (get_or_from_slice_get ts (get_or is k 0) c L here))
+    ∙ sym (ap (λ js. out ++ types_at js ts) (drop_more is k 0 within)) ∙ is_whole
+
+put-same : (is : List ℕ) (ts : List Class) → put_at is (types_at is ts) ts ≡ ts
+put-same [] ts = refl
+put-same (i ∷ is) ts = ap (put_at is (types_at is ts)) (set-get_or ts i L) ∙ put-same is ts
+
+-- without pairs the types of the line stay
+pub without-pairs : (entries : List BracketEntry) (embedding sos : Class) (is : List ℕ) (cs : List Class) (codes : List ℕ) (ts : List Class)
+    → pairs_of (roles entries (types_at is ts) codes) ≡ [] → put_at is (bracket_types entries embedding sos cs codes (types_at is ts)) ts ≡ ts
+without-pairs entries embedding sos is cs codes ts none =
+    let us = types_at is ts in
+    ap (λ pairs. put_at is (with_marks None cs us (with_pairs embedding sos 0 (closings pairs (length us)) us)) ts) none
+    ∙ ap (λ vs. put_at is (with_marks None cs us vs) ts) (none-taken embedding sos 0 0 (length us) us)
+    ∙ ap (λ vs. put_at is vs ts) (none-marked cs us)
+    ∙ put-same is ts
+
+pub empty-told : (pairs : List Pair) → (length pairs == 0) ≡ true → pairs ≡ []
+empty-told [] told = refl
+empty-told (p ∷ ps) told =
+    let some : (suc (length ps) == 0) ≡ false = grind (arith, nat_tests) in
+    absurd (cc)
+
+no-role : (t : Class) (code : ℕ) → role_of [] t code ≡ Other
+no-role ON code = refl
+no-role t code = refl
+
+no-roles : (place : ℕ) (os : List Opened) (ts : List Class) (codes : List ℕ) → pairs_from place os (roles [] ts codes) ≡ Some []
+no-roles place os [] codes = refl
+no-roles place os (t ∷ ts) [] = refl
+no-roles place os (t ∷ ts) (code ∷ codes) = ap (λ r. pairs_from place os (r ∷ roles [] ts codes)) (no-role t code) ∙ no-roles (suc place) os ts codes
+
+-- without brackets there are no pairs
+pub without-brackets : (cs : List Class) (codes levels : List ℕ) (s : Seq) (ts : List Class) → brackets_in [] cs codes levels s ts ≡ ts
+without-brackets cs codes levels s ts =
+    let is = s.indexes in
+    without-pairs [] (embedding_of is levels) s.sos is (types_at is cs) (codes_at is codes) ts
+    (ap (λ o. unwrap_or o []) (no-roles 0 [] (types_at is ts) (codes_at is codes)))

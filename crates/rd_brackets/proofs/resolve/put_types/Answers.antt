@@ -1,0 +1,47 @@
+use Rattle.std.proofs.Common.{◌≡◌, ◌<◌, ◌+◌, ◌∷◌, length, drop, get_or, ap, ap₂, sym, ◌∙◌, arith}
+use Rattle.std.specs.Prelude.{unwrap_or}
+use Rattle.std.proofs.lemmas.List.{drop_more}
+use Rattle.rd_base.specs.declared.class.Class.TheVariants.{L}
+use Rattle.rd_resolve.specs.Places.{types_at, put_at}
+use Rattle.rd_resolve.proofs.Places.{types-read, types-kept, put-step}
+use Rattle.rd_brackets.specs.Sides.{with_marks}
+use Rattle.rd_brackets.proofs.resolve.put_types.Goals as goal
+
+pub loop-place-preserved : goal.loop-place-preserved
+loop-place-preserved c =
+    let is = c.args.seq.now.indexes in
+    let k = c.loop-place.place in
+    let i = c.at-i.result in
+    let line = c.loop-place.line in
+    let given = c.args.types.now in
+    let after = get_or given k L in
+    let side = c.side_taken-side.result in
+    let inv = c.loop-place.invariant in
+    let within : k < length is = omega (arith, c.loop-place-test.true, c.len-place-end.ensures) in
+    let inside : k < length given = omega (arith, c.requires.count) in
+    let classes = types-read is k i within c.at-i.ensures line.classes c.at.result c.at.ensures in
+    let types = types-read is k i within c.at-i.ensures line.types c.at-before.result c.at-before.ensures in
+    let rest = drop_more given k L inside in
+    let C = types_at (drop (k + 1) is) line.classes in
+    let T = types_at (drop (k + 1) is) line.types in
+    let stays : types_at (drop (k + 1) is) c.set_type.new.self.types ≡ T =
+    ap (types_at (drop (k + 1) is)) c.set_type.ensures.types ∙ types-kept is k i within c.at-i.ensures c.requires.ascend line.types c.unwrap_or.result in
+    let stays_classes : types_at (drop (k + 1) is) c.set_type.new.self.classes ≡ C = ap (types_at (drop (k + 1) is)) c.set_type.ensures.rest.classes in
+    let marked : with_marks c.loop-place.side (types_at (drop k is) line.classes) (types_at (drop k is) line.types) (drop k given)
+        ≡ c.unwrap_or.result ∷ with_marks side C T (drop (k + 1) given) =
+    ap₂ (λ cs bs. with_marks c.loop-place.side cs bs (drop k given)) classes types
+    ∙ ap (with_marks c.loop-place.side (c.at.result ∷ C) (c.at-before.result ∷ T)) rest
+    ∙ ap (λ s. unwrap_or s after ∷ with_marks s C T (drop (k + 1) given)) (sym c.side_taken-side.ensures)
+    ∙ ap (λ t. t ∷ with_marks side C T (drop (k + 1) given)) (sym c.unwrap_or.ensures) in
+    record {
+      left = ap₂ (λ cs bs. put_at (drop (k + 1) is) (with_marks side cs bs (drop (k + 1) given)) c.set_type.new.self.types) stays_classes stays
+          ∙ ap (put_at (drop (k + 1) is) (with_marks side C T (drop (k + 1) given))) c.set_type.ensures.types
+          ∙ sym (put-step is k i within c.at-i.ensures c.unwrap_or.result _ line.types)
+          ∙ ap (λ vs. put_at (drop k is) vs line.types) (sym marked)
+          ∙ inv.left;
+      levels = c.set_type.ensures.levels ∙ inv.levels;
+      keeps = record {
+        classes = c.set_type.ensures.rest.classes ∙ inv.keeps.classes;
+        base = c.set_type.ensures.rest.base ∙ inv.keeps.base;
+      };
+    }

@@ -1,0 +1,4 @@
+pub mod Pairs
+pub mod Sides
+pub mod Matchings
+pub mod Examples

@@ -1,0 +1,75 @@
+-- Bracket pairs (UAX 9, BD14 to BD16) among the places of one isolating run sequence, which are counted from 0.
+use Rattle.std.specs.Prelude.{ℕ, suc, ◌==◌, nat_lt, if◌then◌else◌, List, [], ◌∷◌, ◌++◌, length, map, Option, None, Some, is_some, option_map, unwrap_or}
+use Rattle.std.specs.List.{range_with_len}
+use Rattle.rd_base.specs.declared.class.Class.{Class}
+use Rattle.rd_base.specs.declared.class.Class.TheVariants.{ON}
+use Rattle.rd_ucd.specs.declared.spans.Bracket.{Bracket}
+use Rattle.rd_ucd.specs.declared.spans.Bracket.TheVariants.{Opens, Closes}
+use Rattle.rd_ucd.specs.declared.spans.BracketEntry.{BracketEntry}
+use Rattle.rd_ucd.specs.Lookup.{bracket_in}
+use Rattle.rd_brackets.specs.declared.role.Role.{Role}
+use Rattle.rd_brackets.specs.declared.role.Role.TheVariants.{Other, Opening, Closing}
+use Rattle.rd_brackets.specs.declared.matching.Opened.{Opened}
+use Rattle.rd_brackets.specs.declared.matching.Pair.{Pair}
+
+-- U+2329 and U+232A count as U+3008 and U+3009, which they are canonically equivalent to
+abbrev pub canonical : ℕ → ℕ
+canonical code = if code == 9001 then 12296 else (if code == 9002 then 12297 else code)
+
+abbrev pub role_by : ℕ → Option Bracket → Role
+role_by code None = Other
+role_by code (Some (Opens partner)) = Opening (canonical partner)
+role_by code (Some (Closes partner)) = Closing code
+
+-- BD14, BD15: what a character is to this rule, by its type and its code. Only where its type is ON it is a bracket: an opening one,
+-- with the code that closes it, or a closing one, with its own code
+abbrev pub role_of : List BracketEntry → Class → ℕ → Role
+role_of entries ON code = role_by (canonical code) (bracket_in entries (canonical code))
+role_of entries c code = Other
+
+abbrev pub roles : List BracketEntry → List Class → List ℕ → List Role
+roles entries [] codes = []
+roles entries (t ∷ ts) [] = []
+roles entries (t ∷ ts) (code ∷ codes) = role_of entries t code ∷ roles entries ts codes
+
+-- where the opening bracket stands that a code closes: the entries are looked at from the top of the stack, which is the first of the
+-- list
+abbrev pub opener : ℕ → List Opened → Option ℕ
+opener code [] = None
+opener code (o ∷ os) = if o.partner == code then Some o.place else opener code os
+
+-- the entries below that one
+abbrev pub below : ℕ → List Opened → List Opened
+below code [] = []
+below code (o ∷ os) = if o.partner == code then os else below code os
+
+-- the stack behind a closing bracket: that entry and all above it are gone; where there is none, nothing changes
+abbrev pub closed : ℕ → List Opened → List Opened
+closed code os = if is_some (opener code os) then below code os else os
+
+abbrev pub pair_at : Option ℕ → ℕ → List Pair
+pair_at None place = []
+pair_at (Some opening) place = record { opening = opening; closing = place } ∷ []
+
+-- BD16: the pairs among the roles from a place on, where these brackets are open, in the order of their closing brackets; None where
+-- a bracket opens while 63 stand open
+abbrev pub pairs_from : ℕ → List Opened → List Role → Option (List Pair)
+pairs_from place os [] = Some []
+pairs_from place os (Other ∷ rs) = pairs_from (suc place) os rs
+pairs_from place os (Opening partner ∷ rs) =
+    if nat_lt (length os) 63 then pairs_from (suc place) (record { place = place; partner = partner } ∷ os) rs else None
+pairs_from place os (Closing code ∷ rs) =
+    option_map (λ pairs. pair_at (opener code os) place ++ pairs) (pairs_from (suc place) (closed code os) rs)
+
+-- the pairs of a sequence. Where a bracket opens while 63 stand open there is none at all, which is a choice of this project
+abbrev pub pairs_of : List Role → List Pair
+pairs_of rs = unwrap_or (pairs_from 0 [] rs) []
+
+-- where the pair closes that opens at a place
+abbrev pub closing_of : List Pair → ℕ → Option ℕ
+closing_of [] place = None
+closing_of (p ∷ ps) place = if p.opening == place then Some p.closing else closing_of ps place
+
+-- the same for each of so many places: the pairs in the order of their opening brackets
+abbrev pub closings : List Pair → ℕ → List (Option ℕ)
+closings pairs count = map (closing_of pairs) (range_with_len 0 count)

@@ -1,0 +1,108 @@
+//! Rule N0 of UAX 9 over a sequence.
+ghost use Rattle.std.specs.Prelude.{◌≡◌, ◌<◌, length, All, AllPairs, IfSome, IfOk, OnOk, OnErr, None};
+ghost use Rattle.rd_base.specs.Lines.{KeepsClasses};
+ghost use Rattle.rd_resolve.specs.Places.{types_at, put_at};
+ghost use Rattle.rd_brackets.specs.Pairs.{closings};
+ghost use Rattle.rd_brackets.specs.Sides.{brackets_in, embedding_of, with_marks};
+ghost use Rattle.rd_brackets.specs.Matchings.{ArePairsBefore};
+
+use crate::matching::{Pair, pairs_of};
+use crate::sides::{side_taken, take_pairs};
+use rd_base::{Class, Line, ListOf, Memory, Seq};
+use rd_ucd::Brackets;
+use std::alloc::Global;
+
+/// Gives the paired brackets of an isolating run sequence the types that rule N0 of UAX 9 makes of theirs, and with them the
+/// nonspacing marks directly behind them. `codes` has the code of each character of the line; a code that is listed nowhere is no
+/// bracket. The sequence's indexes ascend and lie within the line.
+///
+/// U+2329 and U+232A count as U+3008 and U+3009. Where a bracket opens while 63 stand open, the sequence has no pairs at all, which
+/// is a choice of this project. Want of memory leaves the line as it was, and may come only where a bracket stands in the sequence. The
+/// cost is linear in the sequence.
+pub fn pair(
+    alloc: Global,
+    line: &mut Line,
+    seq: &Seq,
+    codes: &[u32],
+    brackets: &Brackets,
+) -> Result<(), Memory>
+    requires within { All (λ i. i < length line.old.classes) seq.now.indexes }
+    requires ascend { AllPairs (λ i j. i < j) seq.now.indexes }
+    requires codes { length codes.now ≡ length line.old.classes }
+    ensures types { OnOk result (line.new.types ≡ brackets_in brackets.now line.old.classes codes.now line.old.levels seq.now line.old.types) }
+    ensures err { OnErr result (line.new.types ≡ line.old.types) }
+    ensures levels { line.new.levels ≡ line.old.levels }
+    ensures rest { KeepsClasses line.old line.new }
+{
+    let pairs = pairs_of(alloc, line, seq, codes, brackets)?;
+    if pairs.is_empty() {
+        return Ok(());
+    }
+    let closings = closings(alloc, pairs.as_slice(), seq.indexes.len())?;
+    let mut types = types_at(alloc, line, seq)?;
+    let embedding = embedding_of(line, seq);
+    take_pairs(embedding, seq.sos, closings.as_slice(), &mut types);
+    put_types(line, seq, types.as_slice());
+    Ok(())
+}
+
+/// The direction of a sequence's level.
+fn embedding_of(line: &Line, seq: &Seq) -> Class
+    requires { All (λ i. i < length line.now.classes) seq.now.indexes }
+    ensures { result ≡ embedding_of seq.now.indexes line.now.levels }
+{
+    if seq.indexes.is_empty() {
+        return Class::L;
+    }
+    Class::of_level(line.levels.at(seq.indexes.at(0) as usize))
+}
+
+/// For each of so many places where the pair closes that opens there.
+fn closings(alloc: Global, pairs: &[Pair], count: usize) -> Result<ListOf<Option<usize>>, Memory>
+    requires { ArePairsBefore count pairs.now }
+    ensures value { IfOk result (λ found. found ≡ closings pairs.now count) }
+    ensures within { IfOk result (λ found. All (λ closing. IfSome closing (λ place. place < count)) found) }
+{
+    let mut found = ListOf::new(alloc);
+    found.resize(count, None)?;
+    let mut left = pairs.len();
+    while left > 0 {
+        left -= 1;
+        let pair = pairs[left];
+        found.set(pair.opening, Some(pair.closing));
+    }
+    Ok(found)
+}
+
+/// The types of a sequence.
+fn types_at(alloc: Global, line: &Line, seq: &Seq) -> Result<ListOf<Class>, Memory>
+    requires { All (λ i. i < length line.now.classes) seq.now.indexes }
+    ensures { IfOk result (λ types. types ≡ types_at seq.now.indexes line.now.types) }
+{
+    let mut types = ListOf::with_room(alloc, seq.indexes.len())?;
+    for i in seq.indexes.as_slice() {
+        types.push(line.types.at(*i as usize))?;
+    }
+    Ok(types)
+}
+
+/// Gives the characters of a sequence the types that they have after the pairs, and the marks behind brackets that took a direction
+/// that one.
+fn put_types(line: &mut Line, seq: &Seq, types: &[Class])
+    requires within { All (λ i. i < length line.old.classes) seq.now.indexes }
+    requires ascend { AllPairs (λ i j. i < j) seq.now.indexes }
+    requires count { length types.now ≡ length seq.now.indexes }
+    ensures types { line.new.types ≡ put_at seq.now.indexes
+        (with_marks None (types_at seq.now.indexes line.old.classes) (types_at seq.now.indexes line.old.types) types.now) line.old.types }
+    ensures levels { line.new.levels ≡ line.old.levels }
+    ensures rest { KeepsClasses line.old line.new }
+{
+    let mut side = None;
+    for place in 0..seq.indexes.len() {
+        let i = seq.indexes.at(place) as usize;
+        let before = line.types.at(i);
+        let after = types[place];
+        side = side_taken(side, line.classes.at(i), before, after);
+        line.set_type(i, side.unwrap_or(after));
+    }
+}

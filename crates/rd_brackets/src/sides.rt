@@ -1,0 +1,158 @@
+//! The directions that the pairs of a sequence take.
+ghost use Rattle.std.specs.Prelude.{◌≡◌, ◌<◌, ◌≤◌, take, length, suc, None, Some, All, IfSome};
+ghost use Rattle.rd_brackets.specs.Sides.{counts_as, holds, opposite, last_side, pair_side, between, with_pair, with_pairs, became, followed, side_taken};
+
+use rd_base::{Class, ListOf};
+
+/// Takes each pair of a sequence, in the order of the opening brackets, where for each place it is told where the pair closes that
+/// opens there. Each pair whose content decides takes one direction.
+///
+/// The content of a pair is looked through for it alone: as at most 63 brackets stand open at a time, the cost is linear in the
+/// sequence. What stands before an opening bracket is looked through back to the last strong type, and then the bracket is one itself.
+pub fn take_pairs(
+    embedding: Class,
+    sos: Class,
+    closings: &[Option<usize>],
+    types: &mut ListOf<Class>,
+)
+    requires count { length closings.now ≡ length types.old }
+    requires within { All (λ closing. IfSome closing (λ place. place < length types.old)) closings.now }
+    ensures types { types.new ≡ with_pairs embedding sos 0 closings.now types.old }
+    ensures count { length types.new ≡ length types.old }
+{
+    for opening in 0..closings.len() {
+        if let Some(closing) = closings[opening] {
+            take_pair(embedding, sos, opening, closing, types);
+        }
+    }
+}
+
+/// Takes a pair.
+fn take_pair(
+    embedding: Class,
+    sos: Class,
+    opening: usize,
+    closing: usize,
+    types: &mut ListOf<Class>,
+)
+    requires opening { opening < length types.old }
+    requires closing { closing < length types.old }
+    ensures types { types.new ≡ with_pair embedding sos opening closing types.old }
+    ensures count { length types.new ≡ length types.old }
+{
+    if let Some(side) = pair_side(embedding, sos, opening, closing, types.as_slice()) {
+        types.set(opening, side);
+        types.set(closing, side);
+    }
+}
+
+/// The direction that both brackets of a pair take, if they take one.
+fn pair_side(
+    embedding: Class,
+    sos: Class,
+    opening: usize,
+    closing: usize,
+    types: &[Class],
+) -> Option<Class>
+    requires opening { opening < length types.now }
+    requires closing { closing < length types.now }
+    ensures { result ≡ pair_side embedding (last_side sos (take opening types.now)) (between opening closing types.now) }
+{
+    if holds(embedding, opening, closing, types) {
+        return Some(embedding);
+    }
+    let other = opposite(embedding);
+    if !holds(other, opening, closing, types) {
+        return None;
+    }
+    if counts_as(other, last_side(sos, opening, types)) {
+        return Some(other);
+    }
+    Some(embedding)
+}
+
+/// Whether a type between two places counts as this direction.
+fn holds(side: Class, opening: usize, closing: usize, types: &[Class]) -> bool
+    requires opening { opening < length types.now }
+    requires closing { closing < length types.now }
+    ensures { result ≡ holds side (between opening closing types.now) }
+{
+    for place in opening + 1..closing {
+        if counts_as(side, types[place]) {
+            return true;
+        }
+    }
+    false
+}
+
+/// The direction of the last strong type before a place, or sos where there is none.
+fn last_side(sos: Class, place: usize, types: &[Class]) -> Class
+    requires { place < length types.now }
+    ensures { result ≡ last_side sos (take place types.now) }
+{
+    let mut count = place;
+    while count > 0 {
+        count -= 1;
+        let class = types[count];
+        if counts_as(Class::L, class) {
+            return Class::L;
+        }
+        if counts_as(Class::R, class) {
+            return Class::R;
+        }
+    }
+    sos
+}
+
+/// Whether a type counts as this direction: EN and AN count as R.
+fn counts_as(side: Class, class: Class) -> bool
+    ensures { result ≡ counts_as side class }
+{
+    match (side, class) {
+        (Class::L, Class::L) => true,
+        (Class::R, Class::R | Class::EN | Class::AN) => true,
+        _ => false,
+    }
+}
+
+/// The other direction.
+fn opposite(side: Class) -> Class
+    ensures { result ≡ opposite side }
+{
+    match side {
+        Class::L => Class::R,
+        _ => Class::L,
+    }
+}
+
+/// The direction that a character took by the pairs, or takes as a mark behind one that did: by that of the character before it,
+/// its class, and its types before and after the pairs.
+pub fn side_taken(side: Option<Class>, class: Class, before: Class, after: Class) -> Option<Class>
+    ensures { result ≡ side_taken side class before after }
+{
+    if became(before, after) {
+        return Some(after);
+    }
+    followed(side, class, after)
+}
+
+/// Whether a bracket took a direction.
+fn became(before: Class, after: Class) -> bool
+    ensures { result ≡ became before after }
+{
+    match (before, after) {
+        (Class::ON, Class::ON) => false,
+        (Class::ON, _) => true,
+        _ => false,
+    }
+}
+
+/// The direction that a mark takes.
+fn followed(side: Option<Class>, class: Class, after: Class) -> Option<Class>
+    ensures { result ≡ followed side class after }
+{
+    match (class, after) {
+        (Class::NSM, Class::ON) => side,
+        _ => None,
+    }
+}
