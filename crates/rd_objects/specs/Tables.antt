@@ -26,11 +26,11 @@ empty_table = record { entries = []; truncation = None; continuation = None; esc
 abbrev pub is_control : ℕ → Bool
 is_control code = nat_lt code 32 || (nat_le 127 code && nat_le code 159)
 
--- a glyph character: a scalar value that is no control, without marks, in its own columns, which are 1 to 3
+-- a glyph character: a scalar value that is no control, without marks in its six places, in its own columns, which are 1 to 3
 abbrev pub is_glyph_character : Glyph → Bool
 is_glyph_character g =
     is_scalar g.base && not (is_control g.base) && (columns g.base == g.width) && nat_le 1 g.width && nat_le g.width 3
-    && (g.count == 0) && list_all (λ mark. mark == 0) g.marks
+    && (g.count == 0) && (length g.marks == 6) && list_all (λ mark. mark == 0) g.marks
 
 -- whether a scalar value is no glyph character: it is a control, or has no columns
 abbrev pub has_no_glyph : ℕ → Bool

@@ -1,5 +1,5 @@
 -- All numbered objects.
-use Rattle.std.specs.Prelude.{◌≡◌, ℕ, nat_lt, nat_le, Bool, true, not, ◌≤◌, ◌&&◌, if◌then◌else◌, List, [], length, slice_get, Option, None, Some, Result, Ok, Err}
+use Rattle.std.specs.Prelude.{◌≡◌, ℕ, nat_lt, nat_le, Bool, true, not, ◌≤◌, ◌&&◌, if◌then◌else◌, List, [], ◌∷◌, ◌++◌, length, Option, None, Some, Result, Ok, Err}
 use Rattle.std.specs.List.{list_all}
 use Rattle.rd_base.specs.Faces.{Attributes}
 use Rattle.rd_objects.specs.declared.fault.ObjectFault.{ObjectFault}
@@ -9,7 +9,7 @@ use Rattle.rd_objects.specs.declared.run.RunKind.{RunKind}
 use Rattle.rd_objects.specs.declared.run.RunKind.TheVariants.{Face, Display}
 use Rattle.rd_objects.specs.declared.run.Spec.{Spec}
 use Rattle.rd_objects.specs.declared.run.Spec.TheVariants.{Text, Width, Align}
-use Rattle.rd_objects.specs.Texts.{TextValue}
+use Rattle.rd_objects.specs.Texts.{TextValue, text_of}
 use Rattle.rd_objects.specs.Tables.{TableValue}
 
 -- the objects of each sort, in order of their numbers
@@ -56,6 +56,19 @@ spec_fault made spec =
 abbrev pub full_fault : ℕ → ℕ → Option ObjectFault
 full_fault most made = if nat_le most made then Some TooMany else None
 
+-- the objects with one more
+abbrev pub string_added : ObjectLists → List ℕ → List Run → ObjectLists
+string_added made chars runs = record made { strings = made.strings ++ text_of chars runs made.faces ∷ [] }
+
+abbrev pub spec_added : ObjectLists → Spec → ObjectLists
+spec_added made spec = record made { specs = made.specs ++ spec ∷ [] }
+
+abbrev pub face_added : ObjectLists → Attributes → ObjectLists
+face_added made face = record made { faces = made.faces ++ face ∷ [] }
+
+abbrev pub table_added : ObjectLists → TableValue → ObjectLists
+table_added made table = record made { tables = made.tables ++ table ∷ [] }
+
 -- the widths and columns that specs may have
 abbrev pub IsSmallSpec : Spec → Type 0
 IsSmallSpec (Text n) = Unit {0}
@@ -67,10 +80,3 @@ abbrev pub Adds : Result ℕ ObjectFault → Option ObjectFault → ℕ → Obje
 Adds (Ok number) fault next old new added = (fault ≡ None) × (number ≡ next) × (new ≡ added)
 Adds (Err Memory) fault next old new added = new ≡ old
 Adds (Err cause) fault next old new added = (fault ≡ Some cause) × (new ≡ old)
-
--- each object that was there is there as it was
-pub record KeepsObjects (old new : ObjectLists) : Type 0 where
-  pub strings : (n : ℕ) (text : TextValue) → slice_get old.strings n ≡ Some text → slice_get new.strings n ≡ Some text
-  pub specs : (n : ℕ) (spec : Spec) → slice_get old.specs n ≡ Some spec → slice_get new.specs n ≡ Some spec
-  pub faces : (n : ℕ) (face : Attributes) → slice_get old.faces n ≡ Some face → slice_get new.faces n ≡ Some face
-  pub tables : (n : ℕ) (table : TableValue) → slice_get old.tables n ≡ Some table → slice_get new.tables n ≡ Some table

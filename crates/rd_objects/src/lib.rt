@@ -3,6 +3,7 @@
 
 mod fault;
 mod glyph;
+mod laws;
 mod objects;
 mod run;
 mod table;
@@ -10,10 +11,10 @@ mod text;
 
 pub use fault::ObjectFault;
 pub use glyph::{columns, glyph_character};
+pub use laws::{
+    extensions_keep_objects, objects_stay_closed, objects_stay_sound, strings_have_colours,
+};
 pub use objects::Objects;
 pub use run::{Run, RunKind, Slot, Spec};
 pub use table::Table;
 pub use text::Text;
-
-#[cfg(test)]
-mod tests;

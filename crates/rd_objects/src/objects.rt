@@ -1,6 +1,7 @@
 //! All objects of a session.
 ghost use Rattle.std.specs.Prelude.{◌≡◌, length};
 ghost use Rattle.std.specs.List.{list_all};
+ghost use Rattle.rd_base.specs.Cells.{HasColours};
 ghost use Rattle.rd_objects.specs.Things.{is_numbered, is_inside};
 
 use crate::fault::ObjectFault;
@@ -39,9 +40,9 @@ impl Model for Objects {
 }
 
 impl Objects {
-    ghost use Rattle.std.specs.Prelude.{◌≡◌, ◌≤◌, ◌++◌, ◌∷◌, [], length, Some, None, IfOk, MatchOption, slice_get};
-    ghost use Rattle.rd_objects.specs.Texts.{text_of};
-    ghost use Rattle.rd_objects.specs.Things.{nothing_made, string_fault, spec_fault, full_fault, IsSmallSpec, Adds, KeepsObjects};
+    ghost use Rattle.std.specs.Prelude.{◌≡◌, ◌≤◌, length, Some, None, IfOk, MatchOption, slice_get};
+    ghost use Rattle.rd_objects.specs.Things.{nothing_made, is_spec_made, string_fault, spec_fault, full_fault, string_added, spec_added, face_added, table_added, IsSmallSpec, Adds};
+    ghost use Rattle.rd_objects.specs.Sound.{AreCodes, AreObjects, IsClosed, Extends};
 
     /// No object. It takes no memory.
     pub fn new(alloc: Global) -> Result<Objects, Memory>
@@ -60,8 +61,10 @@ impl Objects {
     /// face or a spec that was not made, a run doesn't lie in the string, the string has more than 4,096 characters, 4,096
     /// strings were made. It costs a copy of the characters and the runs.
     pub fn add_string(&mut self, text: &[Ch], runs: &[Run]) -> Result<u32, ObjectFault>
-        ensures adds { Adds result (string_fault self.old text.now runs.now) (length self.old.strings) self.old self.new (record self.old { strings = self.old.strings ++ text_of text.now runs.now self.old.faces ∷ [] }) }
-        ensures keeps { KeepsObjects self.old self.new }
+        ensures adds { Adds result (string_fault self.old text.now runs.now) (length self.old.strings) self.old self.new (string_added self.old text.now runs.now) }
+        ensures sound { AreCodes text.now → AreObjects self.old → AreObjects self.new }
+        ensures closed { IsClosed self.old → IsClosed self.new }
+        ensures extends { Extends self.old self.new }
     {
         if !are_made(runs, self.faces.len(), self.specs.len()) {
             return Err(ObjectFault::NoObject);
@@ -85,13 +88,13 @@ impl Objects {
     /// not made, and that 4,096 specs were made. It costs one step.
     pub fn add_spec(&mut self, spec: Spec) -> Result<u32, ObjectFault>
         requires { IsSmallSpec spec }
-        ensures adds { Adds result (spec_fault self.old spec) (length self.old.specs) self.old self.new (record self.old { specs = self.old.specs ++ spec ∷ [] }) }
-        ensures keeps { KeepsObjects self.old self.new }
+        ensures adds { Adds result (spec_fault self.old spec) (length self.old.specs) self.old self.new (spec_added self.old spec) }
+        ensures sound { AreObjects self.old → AreObjects self.new }
+        ensures closed { IsClosed self.old → IsClosed self.new }
+        ensures extends { Extends self.old self.new }
     {
-        if let Spec::Text(string) = spec {
-            if string as usize >= self.strings.len() {
-                return Err(ObjectFault::NoObject);
-            }
+        if !self.names_made(spec) {
+            return Err(ObjectFault::NoObject);
         }
         if self.specs.len() >= MOST {
             return Err(ObjectFault::TooMany);
@@ -103,12 +106,15 @@ impl Objects {
 
     /// Makes a face, and answers its number. The fault is that 1,024 faces were made. It costs one step.
     pub fn add_face(&mut self, face: Face) -> Result<u32, ObjectFault>
-        ensures adds { Adds result (full_fault 1024 (length self.old.faces)) (length self.old.faces) self.old self.new (record self.old { faces = self.old.faces ++ face ∷ [] }) }
-        ensures keeps { KeepsObjects self.old self.new }
+        ensures adds { Adds result (full_fault 1024 (length self.old.faces)) (length self.old.faces) self.old self.new (face_added self.old face) }
+        ensures sound { AreObjects self.old → AreObjects self.new }
+        ensures closed { IsClosed self.old → IsClosed self.new }
+        ensures extends { Extends self.old self.new }
     {
         if self.faces.len() >= MOST_FACES {
             return Err(ObjectFault::TooMany);
         }
+        keeps_colours(face);
         let number = self.faces.len() as u32;
         self.faces.push(face)?;
         Ok(number)
@@ -116,12 +122,15 @@ impl Objects {
 
     /// Makes a display table, and answers its number. The fault is that 64 tables were made. It costs one step.
     pub fn add_table(&mut self, table: Table) -> Result<u32, ObjectFault>
-        ensures adds { Adds result (full_fault 64 (length self.old.tables)) (length self.old.tables) self.old self.new (record self.old { tables = self.old.tables ++ table ∷ [] }) }
-        ensures keeps { KeepsObjects self.old self.new }
+        ensures adds { Adds result (full_fault 64 (length self.old.tables)) (length self.old.tables) self.old self.new (table_added self.old table) }
+        ensures sound { AreObjects self.old → AreObjects self.new }
+        ensures closed { IsClosed self.old → IsClosed self.new }
+        ensures extends { Extends self.old self.new }
     {
         if self.tables.len() >= MOST_TABLES {
             return Err(ObjectFault::TooMany);
         }
+        table.stays_valid();
         let number = self.tables.len() as u32;
         self.tables.push(table)?;
         Ok(number)
@@ -170,6 +179,23 @@ impl Objects {
             None
         }
     }
+
+    /// Whether the string that a spec names was made.
+    fn names_made(&self, spec: Spec) -> bool
+        ensures { result ≡ is_spec_made self.now spec }
+    {
+        match spec {
+            Spec::Text(string) => (string as usize) < self.strings.len(),
+            Spec::Width(_) | Spec::Align(_) => true,
+        }
+    }
+}
+
+/// Each face has colours in their range. The call does nothing.
+fn keeps_colours(face: Face)
+    ensures { HasColours face }
+{
+    let _colour = face.fg;
 }
 
 /// Whether each run names a face or a spec among so many.

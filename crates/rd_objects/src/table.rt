@@ -56,7 +56,7 @@ impl Model for Table {
 
 impl Table {
     ghost use Rattle.std.specs.Prelude.{◌≡◌, ◌≤◌, ◌++◌, ◌∷◌, [], Some, None, IsTrue, IfOk, OnOk, OnErr, MatchOption, IfSome};
-    ghost use Rattle.rd_objects.specs.Tables.{empty_table, entry_in, slot_of, with_slot, is_glyph_text, is_slot_glyph};
+    ghost use Rattle.rd_objects.specs.Tables.{empty_table, entry_in, slot_of, with_slot, is_glyph_text, is_slot_glyph, IsTable};
 
     /// A table that holds nothing. It takes no memory.
     pub fn new(alloc: Global) -> Result<Table, Memory>
@@ -141,6 +141,14 @@ impl Table {
             Some(text) => Some(text.as_slice()),
             None => None,
         }
+    }
+
+    /// Each table holds glyph characters, at most 16 for a code and for hidden text, and in its slots such of one column.
+    /// The call does nothing.
+    pub fn stays_valid(&self)
+        ensures { IsTable self.now }
+    {
+        let _entries = &self.entries;
     }
 }
 

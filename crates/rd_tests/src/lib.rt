@@ -10,7 +10,13 @@ mod base;
 mod lanes;
 
 #[cfg(test)]
+mod objects;
+
+#[cfg(test)]
 mod overlays;
 
 #[cfg(test)]
 mod term;
+
+#[cfg(test)]
+mod tree;

@@ -2,8 +2,8 @@
 ghost use Rattle.std.specs.Prelude.{IfOk, IsTrue};
 ghost use Rattle.rd_objects.specs.Tables.{is_slot_glyph};
 
-use super::*;
 use rd_base::{Ch, Face, Glyph};
+use rd_objects::{ObjectFault, Objects, Run, RunKind, Slot, Spec, Table, glyph_character};
 use std::test::Fail;
 
 /// The glyph character of a scalar value of one column.

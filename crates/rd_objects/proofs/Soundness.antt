@@ -1,0 +1,308 @@
+-- What holds of all objects where one more is made.
+use Rattle.std.proofs.Common.{◌≡◌, ℕ, zero, suc, ◌<◌, ◌≤◌, Bool, true, false, if◌then◌else◌, not, List, [], ◌∷◌, ◌++◌, length, length-append, append_assoc, append-nil, get_or, Option, Some, None, refl, sym, subst, arith}
+use Rattle.std.specs.Prelude.{nat_le, nat_lt, slice_get, IfSome, unwrap_or}
+use Rattle.std.specs.List.{All, AllByRecursion, list_all}
+use Rattle.std.proofs.lemmas.Bool.Decides.{nat_tests}
+use Rattle.std.proofs.lemmas.Option.{slice_get_within, get_or_from_slice_get}
+use Rattle.std.proofs.lemmas.List.Elements.{recursion_from_All, All-from_recursion, All-nil, All-push, All-get_or, All-weaker}
+use Rattle.std.proofs.lemmas.List.Sums.{AllPass-from_list_all}
+use Rattle.rd_base.specs.Faces.{Attributes, plain}
+use Rattle.rd_base.specs.Cells.{HasColours}
+use Rattle.rd_objects.specs.declared.fault.ObjectFault.{ObjectFault}
+use Rattle.rd_objects.specs.declared.run.Run.{Run}
+use Rattle.rd_objects.specs.declared.run.RunKind.{RunKind}
+use Rattle.rd_objects.specs.declared.run.RunKind.TheVariants.{Face, Display}
+use Rattle.rd_objects.specs.declared.run.FaceRun.{FaceRun}
+use Rattle.rd_objects.specs.declared.run.SpecRun.{SpecRun}
+use Rattle.rd_objects.specs.declared.run.Spec.{Spec}
+use Rattle.rd_objects.specs.declared.run.Spec.TheVariants.{Text, Width, Align}
+use Rattle.rd_objects.specs.Texts.{TextValue, with_face, with_spec, face_runs, spec_runs, text_of, later, covers, face_in, spec_in, face_of, spec_of}
+use Rattle.rd_objects.specs.Tables.{TableValue, IsTable}
+use Rattle.rd_objects.specs.Things.{ObjectLists, nothing_made, is_numbered, is_made, is_inside, string_fault, is_spec_made, spec_fault, full_fault, string_added, spec_added, face_added, table_added, IsSmallSpec}
+use Rattle.rd_objects.specs.Sound.{AreCodes, IsString, AreObjects, NamesMade, IsClosed, GoesOn, Extends}
+
+-- what an answer without a fault tells
+no_fault : (wrong : Bool) (fault : ObjectFault) (rest : Option ObjectFault) → (if wrong then Some fault else rest) ≡ None → (wrong ≡ false) × (rest ≡ None)
+no_fault true fault rest e = absurd (cc)
+no_fault false fault rest e = (refl, e)
+
+not_wrong : (b : Bool) → not b ≡ false → b ≡ true
+not_wrong true e = refl
+not_wrong false e = absurd (cc)
+
+record NoStringFault (o : ObjectLists) (chars : List ℕ) (runs : List Run) : Type 0 where
+  made : list_all (is_made o) runs ≡ true
+  short : length chars ≤ 4096
+  few : length o.strings < 4096
+
+no_string_fault : (o : ObjectLists) (chars : List ℕ) (runs : List Run) → string_fault o chars runs ≡ None → NoStringFault o chars runs
+no_string_fault o chars runs e =
+    let a = no_fault (not (list_all (is_made o) runs)) _ _ e in
+    let b = no_fault (not (list_all (is_inside (length chars)) runs)) _ _ a.1 in
+    let c = no_fault (nat_lt 4096 (length chars)) _ _ b.1 in
+    let d = no_fault (nat_le 4096 (length o.strings)) _ _ c.1 in
+    record {
+      made = not_wrong (list_all (is_made o) runs) a.0;
+      short = let p = c.0 in grind (arith, nat_tests);
+      few = let p = d.0 in grind (arith, nat_tests);
+    }
+
+not_full : (most made : ℕ) → full_fault most made ≡ None → made < most
+not_full most made e = let p = (no_fault (nat_le most made) _ _ e).0 in grind (arith, nat_tests)
+
+no_spec_fault : (o : ObjectLists) (spec : Spec) → spec_fault o spec ≡ None → (is_spec_made o spec ≡ true) × (length o.specs < 4096)
+no_spec_fault o spec e =
+    let a = no_fault (not (is_spec_made o spec)) _ _ e in
+    let b = no_fault (nat_le 4096 (length o.specs)) _ _ a.1 in
+    (not_wrong (is_spec_made o spec) a.0, let p = b.0 in grind (arith, nat_tests))
+
+pushed : {X : Type 0} (xs : List X) (x : X) (most : ℕ) → length xs < most → length (xs ++ x ∷ []) ≤ most
+pushed xs x most p = omega (arith, length-append xs (x ∷ []))
+
+pushed_one : {X : Type 0} (xs : List X) (x : X) → length xs ≤ length (xs ++ x ∷ [])
+pushed_one xs x = omega (arith, length-append xs (x ∷ []))
+
+-- the faces that runs name have colours in their range
+plain_coloured : HasColours plain
+plain_coloured = record { fg = omega arith; bg = omega arith }
+
+named_coloured : (faces : List Attributes) (i : ℕ) → AllByRecursion HasColours faces → HasColours (get_or faces i plain)
+named_coloured [] i h = plain_coloured
+named_coloured (f ∷ faces) zero h = h.0
+named_coloured (f ∷ faces) (suc i) h = named_coloured faces i h.1
+
+run_coloured : (kind : RunKind) (faces : List Attributes) (run : Run) (runs : List FaceRun) → AllByRecursion HasColours faces → AllByRecursion (λ run. HasColours run.face) runs → AllByRecursion (λ run. HasColours run.face) (with_face kind faces run runs)
+run_coloured Face faces run runs h r = (named_coloured faces run.value h, r)
+run_coloured Display faces run runs h r = r
+
+runs_coloured : (faces : List Attributes) (runs : List Run) → AllByRecursion HasColours faces → AllByRecursion (λ run. HasColours run.face) (face_runs faces runs)
+runs_coloured faces [] h = tt
+runs_coloured faces (run ∷ runs) h = run_coloured run.kind faces run (face_runs faces runs) h (runs_coloured faces runs h)
+
+string_sound : (o : ObjectLists) (chars : List ℕ) (runs : List Run) → AreCodes chars → length chars ≤ 4096 → AreObjects o → IsString (text_of chars runs o.faces)
+string_sound o chars runs codes short sound = record {
+  chars = codes;
+  few = short;
+  faces = All-from_recursion (λ run. HasColours run.face) (face_runs o.faces runs) (runs_coloured o.faces runs (recursion_from_All HasColours o.faces sound.faces));
+}
+
+pub nothing_sound : AreObjects nothing_made
+nothing_sound = record {
+  strings = All-nil IsString;
+  specs = All-nil IsSmallSpec;
+  faces = All-nil HasColours;
+  tables = All-nil IsTable;
+  few_strings = omega arith;
+  few_specs = omega arith;
+  few_faces = omega arith;
+  few_tables = omega arith;
+}
+
+pub string_keeps : (o : ObjectLists) (chars : List ℕ) (runs : List Run) → AreCodes chars → string_fault o chars runs ≡ None → AreObjects o → AreObjects (string_added o chars runs)
+string_keeps o chars runs codes e sound =
+    let f = no_string_fault o chars runs e in
+    record {
+      strings = All-push IsString o.strings (text_of chars runs o.faces) sound.strings (string_sound o chars runs codes f.short sound);
+      specs = sound.specs;
+      faces = sound.faces;
+      tables = sound.tables;
+      few_strings = pushed o.strings (text_of chars runs o.faces) 4096 f.few;
+      few_specs = sound.few_specs;
+      few_faces = sound.few_faces;
+      few_tables = sound.few_tables;
+    }
+
+pub spec_keeps : (o : ObjectLists) (spec : Spec) → IsSmallSpec spec → spec_fault o spec ≡ None → AreObjects o → AreObjects (spec_added o spec)
+spec_keeps o spec small e sound = record {
+  strings = sound.strings;
+  specs = All-push IsSmallSpec o.specs spec sound.specs small;
+  faces = sound.faces;
+  tables = sound.tables;
+  few_strings = sound.few_strings;
+  few_specs = pushed o.specs spec 4096 (no_spec_fault o spec e).1;
+  few_faces = sound.few_faces;
+  few_tables = sound.few_tables;
+}
+
+pub face_keeps : (o : ObjectLists) (face : Attributes) → HasColours face → full_fault 1024 (length o.faces) ≡ None → AreObjects o → AreObjects (face_added o face)
+face_keeps o face colours e sound = record {
+  strings = sound.strings;
+  specs = sound.specs;
+  faces = All-push HasColours o.faces face sound.faces colours;
+  tables = sound.tables;
+  few_strings = sound.few_strings;
+  few_specs = sound.few_specs;
+  few_faces = pushed o.faces face 1024 (not_full 1024 (length o.faces) e);
+  few_tables = sound.few_tables;
+}
+
+pub table_keeps : (o : ObjectLists) (table : TableValue) → IsTable table → full_fault 64 (length o.tables) ≡ None → AreObjects o → AreObjects (table_added o table)
+table_keeps o table right e sound = record {
+  strings = sound.strings;
+  specs = sound.specs;
+  faces = sound.faces;
+  tables = All-push IsTable o.tables table sound.tables right;
+  few_strings = sound.few_strings;
+  few_specs = sound.few_specs;
+  few_faces = sound.few_faces;
+  few_tables = pushed o.tables table 64 (not_full 64 (length o.tables) e);
+}
+
+-- the specs that runs name were made
+run_closed : (kind : RunKind) (o : ObjectLists) (run : Run) (runs : List SpecRun) → is_numbered kind (length o.faces) (length o.specs) run.value ≡ true → AllByRecursion (λ run. run.spec < length o.specs) runs → AllByRecursion (λ run. run.spec < length o.specs) (with_spec kind run runs)
+run_closed Face o run runs e r = r
+run_closed Display o run runs e r = (grind (arith, nat_tests), r)
+
+runs_closed : (o : ObjectLists) (runs : List Run) → AllByRecursion (λ run. is_made o run ≡ true) runs → AllByRecursion (λ run. run.spec < length o.specs) (spec_runs runs)
+runs_closed o [] h = tt
+runs_closed o (run ∷ runs) h = run_closed run.kind o run (spec_runs runs) h.0 (runs_closed o runs h.1)
+
+names_more : (a b : ℕ) → a ≤ b → (spec : Spec) → NamesMade a spec → NamesMade b spec
+names_more a b p (Text number) h = omega arith
+names_more a b p (Width n) h = tt
+names_more a b p (Align n) h = tt
+
+spec_named : (o : ObjectLists) (spec : Spec) → is_spec_made o spec ≡ true → NamesMade (length o.strings) spec
+spec_named o (Text number) e = grind (arith, nat_tests)
+spec_named o (Width n) e = tt
+spec_named o (Align n) e = tt
+
+-- a text's runs name specs among so many
+NamesSpecs : ℕ → TextValue → Type 0
+NamesSpecs specs text = All (λ run. run.spec < specs) text.specs
+
+specs_more : (a b : ℕ) → a ≤ b → (text : TextValue) → All (λ run. run.spec < a) text.specs → All (λ run. run.spec < b) text.specs
+specs_more a b p text h = All-weaker (λ run. run.spec < a) (λ run. run.spec < b) (λ run q. omega arith) text.specs h
+
+pub nothing_closed : IsClosed nothing_made
+nothing_closed = record { strings = All-nil (λ text. All (λ run. run.spec < 0) text.specs); specs = All-nil (NamesMade 0) }
+
+pub string_closed : (o : ObjectLists) (chars : List ℕ) (runs : List Run) → string_fault o chars runs ≡ None → IsClosed o → IsClosed (string_added o chars runs)
+string_closed o chars runs e closed =
+    let f = no_string_fault o chars runs e in
+    let made = recursion_from_All (λ run. is_made o run ≡ true) runs (AllPass-from_list_all (is_made o) runs f.made) in
+    record {
+      strings = All-push (λ text. All (λ run. run.spec < length o.specs) text.specs) o.strings (text_of chars runs o.faces) closed.strings
+          (All-from_recursion (λ run. run.spec < length o.specs) (spec_runs runs) (runs_closed o runs made));
+      specs = All-weaker (NamesMade (length o.strings)) (NamesMade (length (o.strings ++ text_of chars runs o.faces ∷ [])))
+          (names_more (length o.strings) (length (o.strings ++ text_of chars runs o.faces ∷ [])) (pushed_one o.strings (text_of chars runs o.faces))) o.specs closed.specs;
+    }
+
+pub spec_closed : (o : ObjectLists) (spec : Spec) → spec_fault o spec ≡ None → IsClosed o → IsClosed (spec_added o spec)
+spec_closed o spec e closed = record {
+  strings = All-weaker (λ text. All (λ run. run.spec < length o.specs) text.specs) (λ text. All (λ run. run.spec < length (o.specs ++ spec ∷ [])) text.specs)
+      (specs_more (length o.specs) (length (o.specs ++ spec ∷ [])) (pushed_one o.specs spec)) o.strings closed.strings;
+  specs = All-push (NamesMade (length o.strings)) o.specs spec closed.specs (spec_named o spec (no_spec_fault o spec e).0);
+}
+
+pub face_closed : (o : ObjectLists) (face : Attributes) → IsClosed o → IsClosed (face_added o face)
+face_closed o face closed = record { strings = closed.strings; specs = closed.specs }
+
+pub table_closed : (o : ObjectLists) (table : TableValue) → IsClosed o → IsClosed (table_added o table)
+table_closed o table closed = record { strings = closed.strings; specs = closed.specs }
+
+-- lists that go on
+goes_nowhere : {X : Type 0} (xs : List X) → GoesOn xs xs
+goes_nowhere xs = ([], sym (append-nil xs))
+
+goes_one : {X : Type 0} (xs : List X) (x : X) → GoesOn xs (xs ++ x ∷ [])
+goes_one xs x = (x ∷ [], refl)
+
+goes_further : {X : Type 0} (xs ys zs : List X) → GoesOn xs ys → GoesOn ys zs → GoesOn xs zs
+goes_further xs ys zs a b = (a.0 ++ b.0, rw (b.1, a.1, append_assoc) refl)
+
+front_kept : {X : Type 0} (xs more : List X) (i : ℕ) → i < length xs → slice_get (xs ++ more) i ≡ slice_get xs i
+front_kept [] more i p = absurd (omega arith)
+front_kept (x ∷ xs) more zero p = refl
+front_kept (x ∷ xs) more (suc i) p = front_kept xs more i (omega arith)
+
+goes_kept : {X : Type 0} (xs ys : List X) (i : ℕ) → GoesOn xs ys → i < length xs → slice_get ys i ≡ slice_get xs i
+goes_kept xs ys i a p = rw a.1 (front_kept xs a.0 i p)
+
+pub extends_itself : (o : ObjectLists) → Extends o o
+extends_itself o = record { strings = goes_nowhere o.strings; specs = goes_nowhere o.specs; faces = goes_nowhere o.faces; tables = goes_nowhere o.tables }
+
+pub extends_further : (old middle new : ObjectLists) → Extends old middle → Extends middle new → Extends old new
+extends_further old middle new a b = record {
+  strings = goes_further old.strings middle.strings new.strings a.strings b.strings;
+  specs = goes_further old.specs middle.specs new.specs a.specs b.specs;
+  faces = goes_further old.faces middle.faces new.faces a.faces b.faces;
+  tables = goes_further old.tables middle.tables new.tables a.tables b.tables;
+}
+
+pub string_extends : (o : ObjectLists) (chars : List ℕ) (runs : List Run) → Extends o (string_added o chars runs)
+string_extends o chars runs = record { strings = goes_one o.strings (text_of chars runs o.faces); specs = goes_nowhere o.specs; faces = goes_nowhere o.faces; tables = goes_nowhere o.tables }
+
+pub spec_extends : (o : ObjectLists) (spec : Spec) → Extends o (spec_added o spec)
+spec_extends o spec = record { strings = goes_nowhere o.strings; specs = goes_one o.specs spec; faces = goes_nowhere o.faces; tables = goes_nowhere o.tables }
+
+pub face_extends : (o : ObjectLists) (face : Attributes) → Extends o (face_added o face)
+face_extends o face = record { strings = goes_nowhere o.strings; specs = goes_nowhere o.specs; faces = goes_one o.faces face; tables = goes_nowhere o.tables }
+
+pub table_extends : (o : ObjectLists) (table : TableValue) → Extends o (table_added o table)
+table_extends o table = record { strings = goes_nowhere o.strings; specs = goes_nowhere o.specs; faces = goes_nowhere o.faces; tables = goes_one o.tables table }
+
+pub same_strings : (old new : ObjectLists) (number : ℕ) → Extends old new → number < length old.strings → slice_get new.strings number ≡ slice_get old.strings number
+same_strings old new number e p = goes_kept old.strings new.strings number e.strings p
+
+pub same_specs : (old new : ObjectLists) (number : ℕ) → Extends old new → number < length old.specs → slice_get new.specs number ≡ slice_get old.specs number
+same_specs old new number e p = goes_kept old.specs new.specs number e.specs p
+
+pub same_faces : (old new : ObjectLists) (number : ℕ) → Extends old new → number < length old.faces → slice_get new.faces number ≡ slice_get old.faces number
+same_faces old new number e p = goes_kept old.faces new.faces number e.faces p
+
+pub same_tables : (old new : ObjectLists) (number : ℕ) → Extends old new → number < length old.tables → slice_get new.tables number ≡ slice_get old.tables number
+same_tables old new number e p = goes_kept old.tables new.tables number e.tables p
+
+-- what holds of all objects of a sort holds of each that was made
+each_made : {X : Type 0} (P : X → Type 0) (xs : List X) (i : ℕ) (x : X) → All P xs → slice_get xs i ≡ Some x → P x
+each_made P xs i x h e = subst P (get_or_from_slice_get xs i x x e) (All-get_or P xs i x (slice_get_within xs i x e) h)
+
+spec_in-made : (specs : ℕ) (runs : List SpecRun) (i : ℕ) → AllByRecursion (λ run. run.spec < specs) runs → IfSome (spec_in runs i) (λ number. number < specs)
+spec_in-made specs [] i h = tt
+spec_in-made specs (run ∷ runs) i h = later-each (spec_in runs i) (covers run.from run.to i) run.spec (spec_in-made specs runs i h.1) h.0 where
+  later-each : (late : Option ℕ) (covered : Bool) (spec : ℕ) → IfSome late (λ number. number < specs) → spec < specs → IfSome (later late (if covered then Some spec else None)) (λ number. number < specs)
+  later-each (Some late) covered spec p q = p
+  later-each None true spec p q = q
+  later-each None false spec p q = tt
+
+some_made : (specs number : ℕ) (o : Option ℕ) → IfSome o (λ n. n < specs) → o ≡ Some number → number < specs
+some_made specs number (Some n) p e = let s : n ≡ number = cc in omega arith
+some_made specs number None p e = absurd (cc)
+
+pub named_specs : (o : ObjectLists) (string i number : ℕ) (text : TextValue) → IsClosed o → slice_get o.strings string ≡ Some text → spec_of text i ≡ Some number → number < length o.specs
+named_specs o string i number text closed e f =
+    let all = each_made (λ text. All (λ run. run.spec < length o.specs) text.specs) o.strings string text closed.strings e in
+    some_made (length o.specs) number (spec_in text.specs i) (spec_in-made (length o.specs) text.specs i (recursion_from_All (λ run. run.spec < length o.specs) text.specs all)) f
+
+pub named_strings : (o : ObjectLists) (spec number : ℕ) → IsClosed o → slice_get o.specs spec ≡ Some (Text number) → number < length o.strings
+named_strings o spec number closed e = each_made (NamesMade (length o.strings)) o.specs spec (Text number) closed.specs e
+
+-- the face at each place of a sound string
+face_in-coloured : (runs : List FaceRun) (i : ℕ) → AllByRecursion (λ run. HasColours run.face) runs → IfSome (face_in runs i) HasColours
+face_in-coloured [] i h = tt
+face_in-coloured (run ∷ runs) i h = later-each (face_in runs i) (covers run.from run.to i) run.face (face_in-coloured runs i h.1) h.0 where
+  later-each : (late : Option Attributes) (covered : Bool) (face : Attributes) → IfSome late HasColours → HasColours face → IfSome (later late (if covered then Some face else None)) HasColours
+  later-each (Some late) covered face p q = p
+  later-each None true face p q = q
+  later-each None false face p q = tt
+
+else_plain : (o : Option Attributes) → IfSome o HasColours → HasColours (unwrap_or o plain)
+else_plain (Some face) p = p
+else_plain None p = plain_coloured
+
+pub string_coloured : (text : TextValue) (i : ℕ) → IsString text → HasColours (face_of text i)
+string_coloured text i sound = else_plain (face_in text.faces i) (face_in-coloured text.faces i (recursion_from_All (λ run. HasColours run.face) text.faces sound.faces))
+
+-- where there is no fault
+pub has_room : (most made : ℕ) → made < most → full_fault most made ≡ None
+has_room most made p = let q : nat_le most made ≡ false = grind (arith, nat_tests) in rw q refl
+
+pub string_made : (o : ObjectLists) (chars : List ℕ) (runs : List Run) → list_all (is_made o) runs ≡ true → list_all (is_inside (length chars)) runs ≡ true → length chars ≤ 4096 → length o.strings < 4096 → string_fault o chars runs ≡ None
+string_made o chars runs made inside short few =
+    let p : nat_lt 4096 (length chars) ≡ false = grind (arith, nat_tests) in
+    let q : nat_le 4096 (length o.strings) ≡ false = grind (arith, nat_tests) in
+    rw (made, inside, p, q) refl
+
+pub spec_made : (o : ObjectLists) (spec : Spec) → is_spec_made o spec ≡ true → length o.specs < 4096 → spec_fault o spec ≡ None
+spec_made o spec made few = let q : nat_le 4096 (length o.specs) ≡ false = grind (arith, nat_tests) in rw (made, q) refl
