@@ -5,7 +5,8 @@ pub mod Intervals
 pub mod Parts
 pub mod Reaching
 pub mod Rows
-pub mod Scanning
 pub mod Showing
+pub mod Soundness
 pub mod Spans
+pub mod Telling
 pub mod Texts

@@ -1,5 +1,5 @@
 -- The update law.
-use Rattle.std.proofs.Common.{◌≡◌, if◌then◌else◌, ℕ, suc, ◌+◌, ◌<◌, ◌≤◌, Bool, true, false, not, List, [], ◌∷◌, ◌++◌, length, get_or, map, replicate, Option, None, Some, refl, sym, ap, ◌∙◌, arith, All}
+use Rattle.std.proofs.Common.{◌≡◌, if◌then◌else◌, ℕ, ◌+◌, ◌<◌, ◌≤◌, Bool, true, false, List, [], ◌∷◌, ◌++◌, length, get_or, map, replicate, Option, None, Some, refl, sym, ap, ◌∙◌, arith, All}
 use Rattle.std.specs.List.{AllByRecursion}
 use Rattle.std.proofs.lemmas.List.Elements.{recursion_from_All, All-from_recursion}
 use Rattle.std.proofs.lemmas.List.{length-map, get_or-map, length-replicate}
@@ -12,46 +12,14 @@ use Rattle.rd_term.specs.Terminals.{Tty, feed_bytes, known}
 use Rattle.rd_term.specs.Shifts.{cleared}
 use Rattle.rd_term.specs.declared.reading.Reading.{Reading}
 use Rattle.rd_term.specs.declared.reading.Reading.TheVariants.{Between}
-use Rattle.rd_update.specs.Updates.{move, repaint, rows_bytes, rows_after, differs, allows, less_one, blank_like, start, opening, update, is_done, differing}
+use Rattle.rd_update.specs.Updates.{move, repaint, rows_bytes, rows_after, blank_like, start, opening, update, is_done, differing}
 use Rattle.rd_update.specs.Laws.{IsReady, IsUpdated}
 use Rattle.rd_term.proofs.Cutting.{map-replicate}
 use Rattle.rd_term.proofs.Encoded.{Rows, standing}
 use Rattle.rd_term.proofs.Feeding.{feed_bytes-append}
 use Rattle.rd_update.proofs.Feeding.{move_fed, repaint_fed}
 use Rattle.rd_update.proofs.Rows.{rows_fed}
-
--- ---- sizes
-
-after-chosen : (differ allow : Bool) (w : ℕ) (a b c : List (List Cell)) → AllByRecursion (λ row. length row ≡ w) a → AllByRecursion (λ row. length row ≡ w) b → AllByRecursion (λ row. length row ≡ w) c
-    → AllByRecursion (λ row. length row ≡ w) (if not differ then a else if allow then b else c)
-after-chosen false allow w a b c x y z = x
-after-chosen true true w a b c x y z = y
-after-chosen true false w a b c x y z = z
-
-after-wide : (limit : Option ℕ) (olds news : List (List Cell)) (w : ℕ) → length olds ≡ length news
-    → AllByRecursion (λ row. length row ≡ w) olds → AllByRecursion (λ row. length row ≡ w) news
-    → AllByRecursion (λ row. length row ≡ w) (rows_after limit olds news)
-after-wide limit [] [] w n o h = tt
-after-wide limit [] (x ∷ xs) w n o h = absurd (cc)
-after-wide limit (x ∷ xs) [] w n o h = absurd (cc)
-after-wide limit (x ∷ xs) (y ∷ ys) w n o h =
-    let less : length xs ≡ length ys = omega arith in
-    after-chosen (differs x y) (allows limit) w (y ∷ rows_after limit xs ys) (y ∷ rows_after (less_one limit) xs ys) (x ∷ xs)
-    (h.0, after-wide limit xs ys w less o.1 h.1) (h.0, after-wide (less_one limit) xs ys w less o.1 h.1) o
-
-length-chosen : (differ allow : Bool) (n : ℕ) (a b c : List (List Cell)) → length a ≡ n → length b ≡ n → length c ≡ n → length (if not differ then a else if allow then b else c) ≡ n
-length-chosen false allow n a b c x y z = x
-length-chosen true true n a b c x y z = y
-length-chosen true false n a b c x y z = z
-
-length-after : (limit : Option ℕ) (olds news : List (List Cell)) → length olds ≡ length news → length (rows_after limit olds news) ≡ length olds
-length-after limit [] [] n = refl
-length-after limit [] (x ∷ xs) n = absurd (cc)
-length-after limit (x ∷ xs) [] n = absurd (cc)
-length-after limit (x ∷ xs) (y ∷ ys) n =
-    let less : length xs ≡ length ys = omega arith in
-    length-chosen (differs x y) (allows limit) (suc (length xs)) (y ∷ rows_after limit xs ys) (y ∷ rows_after (less_one limit) xs ys) (x ∷ xs)
-    (ap suc (length-after limit xs ys less)) (ap suc (length-after (less_one limit) xs ys less)) refl
+use Rattle.rd_update.proofs.Soundness.{after-all, length-after}
 
 -- ---- the screen that counts as current
 
@@ -156,7 +124,7 @@ updated width height current target limit t h =
     let done = is_done limit (differing old.rows target.rows) in
     let last = if done then move target.row target.column else [] in
     let n : length after ≡ height = length-after limit old.rows target.rows same ∙ size.rows in
-    let each = All-from_recursion (λ row. length row ≡ width) after (after-wide limit old.rows target.rows width same old_wide new_wide) in
+    let each = All-from_recursion (λ row. length row ≡ width) after (after-all (λ row. length row ≡ width) limit old.rows target.rows old_wide new_wide) in
     let row : target.row < length after = omega (arith, h.size.row) in
     let column : target.column < length (get_or after target.row []) = omega (arith, h.size.column, each target.row [] row) in
     let end = ended t.region after done target.row target.column sent.cursor sent.wait sent.latest row column (omega (arith, h.size.row, h.tall)) (omega (arith, h.size.column, h.wide)) in

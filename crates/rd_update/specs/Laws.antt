@@ -9,6 +9,11 @@ use Rattle.rd_term.specs.declared.reading.Reading.TheVariants.{Between}
 use Rattle.rd_base.specs.Equals.{same_cell}
 use Rattle.rd_update.specs.Updates.{Update, goes_on}
 
+-- a screen in which each glyph stands whole, its cursor is on it, and each colour is in its range
+pub record IsSound (picture : Picture) : Type 0 where
+  pub whole : IsWellFormed picture
+  pub colours : AreColoured picture.rows
+
 -- a known current screen is what the terminal shows, and the terminal's pen is plain
 abbrev pub IsCurrent : ℕ → ℕ → Option Picture → Tty → Type 0
 IsCurrent width height None t = Unit {0}

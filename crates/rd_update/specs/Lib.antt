@@ -1,3 +1,4 @@
 pub mod Laws
 pub mod Plans
 pub mod Updates
+pub mod Words

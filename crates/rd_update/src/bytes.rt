@@ -1,11 +1,10 @@
 //! The bytes of moves, cells and rows.
-ghost use Rattle.std.specs.Prelude.{◌≡◌, ◌+◌, ◌<◌, ◌≤◌, ◌++◌, length, OnOk, IfOk};
+ghost use Rattle.std.specs.Prelude.{◌≡◌, ◌<◌, ◌++◌, length, OnOk, IfOk};
 ghost use Rattle.std.specs.List.{flat_map};
 ghost use Rattle.rd_base.specs.Faces.{plain};
-ghost use Rattle.rd_term.specs.Pictures.{blank_row};
-ghost use Rattle.rd_update.specs.Updates.{move as move_bytes, encoded, text_of_glyph, renditions, number_if, parameter, dress, text_of_cell, face_of, text_by, pen_behind, row_bytes, end_of_differences as end_column};
+ghost use Rattle.rd_update.specs.Updates.{move as move_bytes, encoded, text_of_glyph, renditions, number_if, parameter, dress, text_of_cell, face_of, text_by, pen_behind, row_bytes, first_difference as first_column, end_of_differences as end_column, used as used_of};
 
-use crate::span::{end_of_differences, interval, is_face};
+use crate::span::{Columns, interval, is_face};
 use itoa::Buffer;
 use rd_base::{Cell, Face, Glyph, ListOf, Memory};
 
@@ -24,28 +23,31 @@ pub(crate) fn push_move(bytes: &mut ListOf<u8>, row: u32, column: u32) -> Result
     Ok(())
 }
 
-/// Adds the bytes of a row that differs. `blank` is a blank row of its width.
+/// Adds the bytes of a row that differs in these columns. From the column `used` on it becomes blank and plain.
 pub(crate) fn push_row(
     bytes: &mut ListOf<u8>,
     row: u32,
     old: &[Cell],
     new: &[Cell],
-    blank: &[Cell],
+    differing: Columns,
+    used: usize,
 ) -> Result<(), Memory>
     requires row { row < 65535 }
     requires width { length new.now < 65535 }
     requires old { length old.now ≡ length new.now }
-    requires blank { blank.now ≡ blank_row (length new.now) }
     requires differ { 0 < end_column old.now new.now }
+    requires from { differing.from ≡ first_column old.now new.now }
+    requires end { differing.end ≡ end_column old.now new.now }
+    requires used { used ≡ used_of new.now }
     ensures { OnOk result (bytes.new ≡ bytes.old ++ row_bytes row old.now new.now) }
 {
-    let (from, end) = interval(old, new);
-    let blank_from = from.max(end_of_differences(blank, new));
-    let to = end.min(blank_from);
-    push_move(bytes, row, from as u32)?;
-    let pen = push_text(bytes, &new[from..to])?;
+    let sent = interval(differing, old, new);
+    let blank_from = sent.from.max(used);
+    let to = sent.end.min(blank_from);
+    push_move(bytes, row, sent.from as u32)?;
+    let pen = push_text(bytes, &new[sent.from..to])?;
     push_dress(bytes, pen, Face::PLAIN)?;
-    if blank_from < end {
+    if blank_from < sent.end {
         bytes.extend_from_slice(b"\x1b[K")?;
     }
     Ok(())

@@ -2,12 +2,13 @@
 #![tactic(auto)]
 
 mod bytes;
+mod examples;
 mod law;
 mod plan;
 mod span;
+mod words;
 
-pub use law::{intervals_are_least, update_law};
+pub use law::{
+    intervals_are_least, update_law, updates_keep_screens_sound, updates_reach_their_targets,
+};
 pub use plan::{Plan, Sent, WriteFault};
-
-#[cfg(test)]
-mod tests;

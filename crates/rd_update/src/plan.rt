@@ -1,13 +1,15 @@
 //! An update that is prepared before any of it is sent, so that sending takes no memory.
-ghost use Rattle.std.specs.Prelude.{◌≡◌, ℕ, ◌+◌, ◌<◌, ◌≤◌, ◌++◌, [], length, Option, IfOk, OnOk, OnErr, take, drop, slice_set, replicate, slice_index_or, ◌-◌};
+ghost use Rattle.std.specs.Prelude.{◌≡◌, ℕ, ◌<◌, ◌≤◌, ◌++◌, ◌-◌, length, Option, All, IfSome, IfOk, OnOk, OnErr, take, drop, slice_set, replicate, slice_index_or};
+ghost use Rattle.rd_base.specs.Cells.{IsSmall};
 ghost use Rattle.rd_io.specs.Devices.{Writes, Rose};
 ghost use Rattle.rd_term.specs.Pictures.{Picture, IsScreen, blank_row, width_of, row_at};
-ghost use Rattle.rd_update.specs.Updates.{update, opening as opening_of, start, row_bytes, rows_bytes, blank_like, differs, end_of_differences as end_column};
+ghost use Rattle.rd_update.specs.Updates.{update, opening as opening_of, start, row_bytes, rows_bytes, blank_like, differs};
+ghost use Rattle.rd_update.specs.Laws.{IsSound};
 ghost use Rattle.rd_update.specs.Plans.{Prepared, planned, shown, HaveOneSize, sent_of, parts_from, old_row as old_row_of, IsRowOf, no_part, front_within, part_if, bytes_if};
 
 use crate::bytes::{push_move, push_row};
-use crate::span::end_of_differences;
-use rd_base::{Cell, Face, ListOf, Memory};
+use crate::span::{Room, differences, end_of_differences};
+use rd_base::{Cell, Face, ListOf, Memory, good_cells_are_small};
 use rd_io::{Sink, write_whole};
 use rd_term::Screen;
 use std::alloc::Global;
@@ -56,6 +58,8 @@ impl Plan {
     /// number of times.
     pub fn prepare(alloc: Global, current: Option<&Screen>, target: &Screen) -> Result<Plan, Memory>
         requires size { HaveOneSize (shown current) target.now }
+        requires current { IfSome (shown current) (λ screen. IsSound screen) }
+        requires target { IsSound target.now }
         ensures { IfOk result (λ plan. plan ≡ planned (shown current.entry) target.now) }
     {
         let blanks = [Cell::Blank(Face::PLAIN); 400];
@@ -168,15 +172,31 @@ fn cells_of(screen: &Screen, row: u32) -> &[Cell]
     &screen.row(row)[..width]
 }
 
+/// The cells of a row of a sound screen, which their words tell apart.
+fn sound_cells_of(screen: &Screen, row: u32) -> &[Cell]
+    requires row { row < length screen.now.rows }
+    requires sound { IsSound screen.now }
+    ensures cells { result.now ≡ row_at screen.now.rows row }
+    ensures width { length result.now ≡ width_of screen.now.rows }
+    ensures narrow { width_of screen.now.rows ≤ 400 }
+    ensures small { All IsSmall result.now }
+{
+    good_cells_are_small();
+    cells_of(screen, row)
+}
+
 /// The row of the current screen, where an unknown one has this row everywhere.
 fn old_row<'a>(current: Option<&'a Screen>, blank: &'a [Cell], row: u32) -> &'a [Cell]
-    requires { IsRowOf (shown current) (length blank.now) row }
+    requires row { IsRowOf (shown current) (length blank.now) row }
+    requires sound { IfSome (shown current) (λ screen. IsSound screen) }
+    requires blank { All IsSmall blank.now }
     ensures cells { result.now ≡ old_row_of (shown current.entry) blank.now row }
     ensures width { length result.now ≡ length blank.now }
+    ensures small { All IsSmall result.now }
 {
     match current {
         None => blank,
-        Some(screen) => cells_of(screen, row),
+        Some(screen) => sound_cells_of(screen, row),
     }
 }
 
@@ -184,26 +204,30 @@ fn old_row<'a>(current: Option<&'a Screen>, blank: &'a [Cell], row: u32) -> &'a 
 fn push_part(
     bytes: &mut ListOf<u8>,
     parts: &mut ListOf<Part>,
+    room: &mut Room,
     row: u32,
     old: &[Cell],
     new: &[Cell],
     blank: &[Cell],
 ) -> Result<(), Memory>
     requires row { row < 65535 }
-    requires width { length new.now < 65535 }
-    requires old { length old.now ≡ length new.now }
+    requires width { length new.now ≤ 400 }
+    requires length { length old.now ≡ length new.now }
     requires blank { blank.now ≡ blank_row (length new.now) }
+    requires old { All IsSmall old.now }
+    requires new { All IsSmall new.now }
     ensures bytes { OnOk result (bytes.new ≡ bytes.old ++ bytes_if (differs old.now new.now) (row_bytes row old.now new.now)) }
     ensures parts { OnOk result (parts.new ≡ parts.old ++ part_if (differs old.now new.now) row (length bytes.old)) }
 {
-    if end_of_differences(old, new) == 0 {
+    let Some(differing) = differences(room, old, new) else {
         return Ok(());
-    }
+    };
     parts.push(Part {
         row,
         start: bytes.len(),
     })?;
-    push_row(bytes, row, old, new, blank)
+    let used = end_of_differences(room, blank, new);
+    push_row(bytes, row, old, new, differing, used)
 }
 
 /// Adds the bytes of each row that differs, and where they begin. `blank` is a blank row of the target's width.
@@ -216,14 +240,18 @@ fn push_parts(
 ) -> Result<(), Memory>
     requires size { HaveOneSize (shown current) target.now }
     requires blank { blank.now ≡ blank_row (width_of target.now.rows) }
+    requires current { IfSome (shown current) (λ screen. IsSound screen) }
+    requires target { IsSound target.now }
     ensures bytes { OnOk result (bytes.new ≡ bytes.old ++ rows_bytes 0 None (start (shown current.entry) target.now).rows target.now.rows) }
     ensures parts { OnOk result (parts.new ≡ parts.old ++ parts_from 0 (length bytes.old) (start (shown current.entry) target.now).rows target.now.rows) }
     ensures few { length target.now.rows ≤ 200 }
 {
     let _width = target.width();
+    let mut room = Room::new();
     for row in 0..target.height() {
         let old = old_row(current, blank, row);
-        push_part(bytes, parts, row, old, cells_of(target, row), blank)?;
+        let new = sound_cells_of(target, row);
+        push_part(bytes, parts, &mut room, row, old, new, blank)?;
     }
     Ok(())
 }
@@ -248,9 +276,8 @@ fn fill_row(screen: &mut Screen, row: u32, cells: &[Cell])
     ensures screen { screen.new ≡ record screen.old { rows = slice_set screen.old.rows row cells.now } }
     ensures width { width_of screen.new.rows ≡ width_of screen.old.rows }
 {
-    for column in 0..screen.width() {
-        screen.set(row, column, cells[column as usize]);
-    }
+    let _width = screen.width();
+    screen.set_cells(row, 0, cells);
 }
 
 /// A screen with the target's rows before a row.

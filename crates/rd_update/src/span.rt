@@ -1,21 +1,34 @@
 //! Where two rows differ.
-ghost use Rattle.std.specs.Prelude.{◌≡◌, ◌+◌, ◌<◌, ◌≤◌, ◌||◌, length, drop};
-ghost use Rattle.rd_base.specs.Equals.{same_cell, same_face, same_glyph};
+ghost use Rattle.std.specs.Prelude.{◌≡◌, ◌+◌, ◌<◌, ◌≤◌, ◌||◌, All, length, drop};
+ghost use Rattle.rd_base.specs.Cells.{IsSmall};
+ghost use Rattle.rd_base.specs.Equals.{same_face};
 ghost use Rattle.rd_update.specs.Updates.{first_difference as first_column, end_of_differences as end_column, is_rest, goes_on, begin_before, going_on, begin_of, end_of};
+ghost use Rattle.rd_update.specs.Words.{differing_columns};
 
-use rd_base::{Cell, Face, Glyph};
+use crate::words::RowWords;
+use rd_base::{Cell, Face};
+use rd_lanes::{first_diff, last_diff};
 
-/// Whether two cells are the same.
-fn same(a: &Cell, b: &Cell) -> bool
-    ensures { result ≡ same_cell a.now b.now }
-{
-    match (a, b) {
-        (Cell::Blank(face), Cell::Blank(other)) => is_face(*face, *other),
-        (Cell::First(glyph, face), Cell::First(other, under)) => {
-            is_glyph(glyph, other) && is_face(*face, *under)
+/// Columns from one to before another.
+#[derive(Clone, Copy)]
+pub(crate) struct Columns {
+    pub(crate) from: usize,
+    pub(crate) end: usize,
+}
+
+/// Room for the words of two rows that are compared.
+#[derive(Drop)]
+pub(crate) struct Room {
+    old: RowWords,
+    new: RowWords,
+}
+
+impl Room {
+    pub(crate) fn new() -> Room {
+        Room {
+            old: RowWords::none(),
+            new: RowWords::none(),
         }
-        (Cell::Rest, Cell::Rest) => true,
-        _ => false,
     }
 }
 
@@ -30,52 +43,55 @@ pub(crate) fn is_face(a: Face, b: Face) -> bool
         && a.inverse == b.inverse
 }
 
-/// Whether two glyphs are the same.
-fn is_glyph(a: &Glyph, b: &Glyph) -> bool
-    ensures { result ≡ same_glyph a.now b.now }
+/// The columns from the first to the last one at which two rows of one width differ. None exactly where they do not.
+pub(crate) fn differences(room: &mut Room, old: &[Cell], new: &[Cell]) -> Option<Columns>
+    requires length { length old.now ≡ length new.now }
+    requires narrow { length new.now ≤ 400 }
+    requires old { All IsSmall old.now }
+    requires new { All IsSmall new.now }
+    ensures { result ≡ differing_columns old.now new.now }
 {
-    a.base == b.base && a.marks == b.marks && a.count == b.count && a.width == b.width
-}
-
-/// The first column at which two rows of one width differ, and their width where they do not.
-fn first_difference(old: &[Cell], new: &[Cell]) -> usize
-    requires { length old.now ≡ length new.now }
-    ensures { result ≡ first_column old.now new.now }
-{
-    for i in 0..old.len() {
-        if !same(&old[i], &new[i]) {
-            return i;
-        }
+    room.old.read(old);
+    room.new.read(new);
+    let (old, new) = (room.old.as_slice(), room.new.as_slice());
+    match (first_diff(old, new), last_diff(old, new)) {
+        (Some(first), Some(last)) => Some(Columns {
+            from: first / 3,
+            end: last / 3 + 1,
+        }),
+        _ => None,
     }
-    old.len()
 }
 
 /// The column after the last one at which two rows of one width differ, and 0 where they do not.
-pub(crate) fn end_of_differences(old: &[Cell], new: &[Cell]) -> usize
-    requires { length old.now ≡ length new.now }
+pub(crate) fn end_of_differences(room: &mut Room, old: &[Cell], new: &[Cell]) -> usize
+    requires length { length old.now ≡ length new.now }
+    requires narrow { length new.now ≤ 400 }
+    requires old { All IsSmall old.now }
+    requires new { All IsSmall new.now }
     ensures { result ≡ end_column old.now new.now }
 {
-    let mut end = 0;
-    for i in 0..old.len() {
-        if !same(&old[i], &new[i]) {
-            end = i + 1;
-        }
+    match differences(room, old, new) {
+        Some(columns) => columns.end,
+        None => 0,
     }
-    end
 }
 
-/// The least interval of columns that holds all those at which two rows of one width differ, and cuts no character of either.
-pub(crate) fn interval(old: &[Cell], new: &[Cell]) -> (usize, usize)
+/// The least interval of columns that holds those at which two rows of one width differ, and cuts no character of either.
+pub(crate) fn interval(differing: Columns, old: &[Cell], new: &[Cell]) -> Columns
     requires length { length old.now ≡ length new.now }
     requires differ { 0 < end_column old.now new.now }
-    ensures begin { result.0 ≡ begin_of old.now new.now }
-    ensures end { result.1 ≡ end_of old.now new.now }
-    ensures order { result.0 < result.1 }
-    ensures within { result.1 ≤ length new.now }
+    requires from { differing.from ≡ first_column old.now new.now }
+    requires end { differing.end ≡ end_column old.now new.now }
+    ensures begin { result.from ≡ begin_of old.now new.now }
+    ensures end { result.end ≡ end_of old.now new.now }
+    ensures order { result.from < result.end }
+    ensures within { result.end ≤ length new.now }
 {
-    let begin = begin_before(old, new, first_difference(old, new));
-    let end = end_behind(old, new, end_of_differences(old, new));
-    (begin, end)
+    Columns {
+        from: begin_before(old, new, differing.from),
+        end: end_behind(old, new, differing.end),
+    }
 }
 
 /// The last column up to this one at which no character of two rows goes on.

@@ -1,8 +1,8 @@
 use Rattle.std.proofs.Common.{refl}
 use Rattle.std.specs.Char.{encode_utf8}
 use Rattle.std.specs.Fmt.{digits}
-use Rattle.rd_update.proofs.law.characters_are_sent_whole.Goals as goal
+use Rattle.rd_update.proofs.examples.faces_are_dressed.Goals as goal
 
 pub returns : goal.returns
 unfolding digits encode_utf8
-returns c = record { mark = refl; letters = refl; other = refl }
+returns c = record { bold = refl; colours = refl }

@@ -1,8 +1,8 @@
 use Rattle.std.proofs.Common.{refl}
 use Rattle.std.specs.Char.{encode_utf8}
 use Rattle.std.specs.Fmt.{digits}
-use Rattle.rd_update.proofs.law.an_unknown_screen_is_repainted.Goals as goal
+use Rattle.rd_update.proofs.examples.an_update_stops_and_goes_on.Goals as goal
 
 pub returns : goal.returns
 unfolding digits encode_utf8
-returns c = refl
+returns c = record { stops = refl; goes_on = refl }

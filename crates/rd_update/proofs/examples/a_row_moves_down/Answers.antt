@@ -1,7 +1,7 @@
 use Rattle.std.proofs.Common.{refl}
 use Rattle.std.specs.Char.{encode_utf8}
 use Rattle.std.specs.Fmt.{digits}
-use Rattle.rd_update.proofs.law.a_row_is_continued.Goals as goal
+use Rattle.rd_update.proofs.examples.a_row_moves_down.Goals as goal
 
 pub returns : goal.returns
 unfolding digits encode_utf8

@@ -1,0 +1,128 @@
+-- The new current screen of an update keeps what its screens have.
+use Rattle.std.proofs.Common.{◌≡◌, ℕ, zero, suc, ◌<◌, Bool, true, false, not, if◌then◌else◌, List, [], ◌∷◌, length, get_or, Option, None, Some, refl, ap, ◌∙◌, arith}
+use Rattle.std.specs.List.{AllByRecursion}
+use Rattle.std.specs.Prelude.{All, IfSome}
+use Rattle.std.proofs.lemmas.List.{length-replicate}
+use Rattle.std.proofs.lemmas.List.Elements.{recursion_from_All, All-from_recursion, All-replicate, All-map}
+use Rattle.rd_base.specs.Cells.{IsColoured, IsSmall}
+use Rattle.rd_base.specs.Glyphs.{IsRowAfter}
+use Rattle.rd_base.specs.declared.cell.Cell.{Cell}
+use Rattle.rd_term.specs.Pictures.{Picture, blank, blank_row, width_of}
+use Rattle.rd_update.specs.Laws.{IsSound}
+use Rattle.rd_update.specs.Plans.{HaveOneSize}
+use Rattle.rd_update.specs.Updates.{update, start, blank_like, rows_after, allows, less_one, differs, differing, is_done}
+use Rattle.rd_update.proofs.Parts.{start-length}
+
+-- ---- blank rows
+
+pub blanks-whole : (n : ℕ) → IsRowAfter 0 (blank_row n)
+blanks-whole zero = tt
+blanks-whole (suc n) = blanks-whole n
+
+blank-coloured : IsColoured blank
+blank-coloured = record { fg = omega arith; bg = omega arith }
+
+pub blanks-small : (n : ℕ) → All IsSmall (blank_row n)
+blanks-small n = All-replicate IsSmall n blank blank-coloured
+
+blanks-coloured : (n : ℕ) → All IsColoured (blank_row n)
+blanks-coloured n = All-replicate IsColoured n blank blank-coloured
+
+-- ---- what holds of each row of both screens holds of each row of the new one
+
+after-step : (P : List Cell → Type 0) (differ may : Bool) (o n : List Cell) (os a b : List (List Cell)) → P o → P n → AllByRecursion P os → AllByRecursion P a → AllByRecursion P b
+    → AllByRecursion P (if not differ then n ∷ a else if may then n ∷ b else o ∷ os)
+after-step P false may o n os a b po pn pos pa pb = (pn, pa)
+after-step P true true o n os a b po pn pos pa pb = (pn, pb)
+after-step P true false o n os a b po pn pos pa pb = (po, pos)
+
+pub after-all : (P : List Cell → Type 0) (limit : Option ℕ) (olds news : List (List Cell)) → AllByRecursion P olds → AllByRecursion P news → AllByRecursion P (rows_after limit olds news)
+after-all P limit [] [] p q = tt
+after-all P limit [] (n ∷ ns) p q = tt
+after-all P limit (o ∷ os) [] p q = p
+after-all P limit (o ∷ os) (n ∷ ns) p q =
+    after-step P (differs o n) (allows limit) o n os (rows_after limit os ns) (rows_after (less_one limit) os ns) p.0 q.0 p.1 (after-all P limit os ns p.1 q.1) (after-all P (less_one limit) os ns p.1 q.1)
+
+each-after : (P : List Cell → Type 0) (limit : Option ℕ) (olds news : List (List Cell)) → All P olds → All P news → All P (rows_after limit olds news)
+each-after P limit olds news p q =
+    All-from_recursion P (rows_after limit olds news) (after-all P limit olds news (recursion_from_All P olds p) (recursion_from_All P news q))
+
+-- ---- sizes
+
+length-chosen : (differ may : Bool) (n : ℕ) (a b c : List (List Cell)) → length a ≡ n → length b ≡ n → length c ≡ n → length (if not differ then a else if may then b else c) ≡ n
+length-chosen false may n a b c x y z = x
+length-chosen true true n a b c x y z = y
+length-chosen true false n a b c x y z = z
+
+pub length-after : (limit : Option ℕ) (olds news : List (List Cell)) → length olds ≡ length news → length (rows_after limit olds news) ≡ length olds
+length-after limit [] [] n = refl
+length-after limit [] (x ∷ xs) n = absurd (cc)
+length-after limit (x ∷ xs) [] n = absurd (cc)
+length-after limit (x ∷ xs) (y ∷ ys) n =
+    let less : length xs ≡ length ys = omega arith in
+    length-chosen (differs x y) (allows limit) (suc (length xs)) (y ∷ rows_after limit xs ys) (y ∷ rows_after (less_one limit) xs ys) (x ∷ xs)
+    (ap suc (length-after limit xs ys less)) (ap suc (length-after (less_one limit) xs ys less)) refl
+
+width-chosen : (differ may : Bool) (o n : List Cell) (os a b : List (List Cell)) → length o ≡ length n → width_of (if not differ then n ∷ a else if may then n ∷ b else o ∷ os) ≡ length n
+width-chosen false may o n os a b e = refl
+width-chosen true true o n os a b e = refl
+width-chosen true false o n os a b e = e
+
+width-after : (limit : Option ℕ) (olds news : List (List Cell)) → length olds ≡ length news → width_of olds ≡ width_of news → width_of (rows_after limit olds news) ≡ width_of news
+width-after limit [] [] n e = refl
+width-after limit [] (x ∷ xs) n e = absurd (cc)
+width-after limit (x ∷ xs) [] n e = absurd (cc)
+width-after limit (x ∷ xs) (y ∷ ys) n e = width-chosen (differs x y) (allows limit) x y xs (rows_after limit xs ys) (rows_after (less_one limit) xs ys) e
+
+blank-width : (rows : List (List Cell)) → width_of (blank_like rows) ≡ width_of rows
+blank-width [] = refl
+blank-width (row ∷ rows) = length-replicate (length row) blank
+
+start-width : (current : Option Picture) (target : Picture) → HaveOneSize current target → width_of (start current target).rows ≡ width_of target.rows
+start-width None target h = blank-width target.rows
+start-width (Some screen) target h = h.1
+
+pub size-kept : (current : Option Picture) (target : Picture) (limit : Option ℕ) → HaveOneSize current target → HaveOneSize (Some (update current target limit).screen) target
+size-kept current target limit h =
+    let old = start current target in
+    let n = start-length current target h in
+    (length-after limit old.rows target.rows n ∙ n, width-after limit old.rows target.rows n (start-width current target h))
+
+-- ---- soundness
+
+start-sound : (current : Option Picture) (target : Picture) → HaveOneSize current target → IfSome current (λ screen. IsSound screen) → IsSound target → IsSound (start current target)
+start-sound None target h p t =
+    let w = start-width None target h in
+    let n = start-length None target h in
+    record {
+      whole = record {
+        glyphs = All-map (λ row. IsRowAfter 0 row) (λ (row : List Cell). blank_row (length row)) target.rows (λ k d lt. blanks-whole (length (get_or target.rows k d)));
+        row = omega (arith, n, t.whole.row);
+        column = omega (arith, w, t.whole.column);
+      };
+      colours = All-map (λ row. All IsColoured row) (λ (row : List Cell). blank_row (length row)) target.rows (λ k d lt. blanks-coloured (length (get_or target.rows k d)));
+    }
+start-sound (Some screen) target h p t = p
+
+either : (done : Bool) (a b n : ℕ) → a < n → b < n → (if done then a else b) < n
+either true a b n p q = p
+either false a b n p q = q
+
+pub sound-kept : (current : Option Picture) (target : Picture) (limit : Option ℕ) → HaveOneSize current target → IfSome current (λ screen. IsSound screen) → IsSound target → IsSound (update current target limit).screen
+sound-kept current target limit h p t =
+    let old = start current target in
+    let s = start-sound current target h p t in
+    let size = size-kept current target limit h in
+    let n = start-length current target h in
+    let w = start-width current target h in
+    let done = is_done limit (differing old.rows target.rows) in
+    let row : (start current target).row < length target.rows = omega (arith, n, s.whole.row) in
+    let column : (start current target).column < width_of target.rows = omega (arith, w, s.whole.column) in
+    record {
+      whole = record {
+        glyphs = each-after (λ row. IsRowAfter 0 row) limit old.rows target.rows s.whole.glyphs t.whole.glyphs;
+        row = rw size.0 (either done target.row old.row (length target.rows) t.whole.row row);
+        column = rw size.1 (either done target.column old.column (width_of target.rows) t.whole.column column);
+      };
+      colours = each-after (λ row. All IsColoured row) limit old.rows target.rows s.colours t.colours;
+    }

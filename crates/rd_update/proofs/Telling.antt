@@ -1,0 +1,252 @@
+-- The words of two rows tell where their cells differ.
+use Rattle.std.proofs.Common.{◌≡◌, inl, inr, if◌then◌else◌, cond, ◌*◌, ℕ, zero, suc, ◌+◌, ◌-◌, ◌/◌, ◌<◌, ◌≤◌, ◌==◌, ◌&&◌, not, nat_lt, Bool, true, false, List, [], ◌∷◌, ◌++◌, length, get_or, None, Some, refl, sym, ap, ap₂, subst, ◌∙◌, arith, take, append_assoc, append-nil}
+use Rattle.std.specs.List.{AllByRecursion, position_or_len, suffix_len}
+use Rattle.std.specs.Prelude.{zip}
+use Rattle.std.proofs.lemmas.Bool.{and_parts, cases_eq}
+use Rattle.std.proofs.lemmas.Bool.Decides.{nat_tests, Decides-eqb}
+use Rattle.std.proofs.lemmas.List.{take_more}
+use Rattle.std.proofs.lemmas.List.Elements.{All-append, All-from_recursion}
+use Rattle.std.proofs.lemmas.List.Sums.{suffix_len_is}
+use Rattle.rd_lanes.specs.Kernels.{differs as words_differ, first_difference as first_word, last_difference as last_word}
+use Rattle.rd_base.specs.Cells.{words_of, IsSmall, AreOnlyOf}
+use Rattle.rd_base.specs.Equals.{same_cell}
+use Rattle.rd_base.specs.declared.cell.Cell.{Cell}
+use Rattle.rd_base.specs.declared.cell.Cell.TheVariants.{Blank, First, Rest}
+use Rattle.rd_update.specs.Updates.{first_difference, end_before, end_of_differences}
+use Rattle.rd_update.specs.Words.{row_words, AreTold, differing_columns}
+use Rattle.rd_update.specs.declared.span.Columns.{Columns}
+use Rattle.rd_update.proofs.Equals.{cell-told, cell-itself}
+use Rattle.rd_update.proofs.Spans.{first_before, end_within}
+
+-- ---- the words of two cells
+
+abbrev word : Cell → ℕ → ℕ
+word x i = get_or (words_of x) i 0
+
+pub three-words : (x : Cell) → words_of x ≡ word x 0 ∷ word x 1 ∷ word x 2 ∷ []
+three-words (Blank f) = refl
+three-words (First g f) = refl
+three-words Rest = refl
+
+-- a small cell that its words tell
+abbrev pub IsTold : Cell → Type 0
+IsTold x = IsSmall x × AreOnlyOf x (words_of x)
+
+one-truth : (a b : Bool) → (a ≡ true → b ≡ true) → (b ≡ true → a ≡ true) → a ≡ b
+one-truth true b f g = sym (f refl)
+one-truth false false f g = refl
+one-truth false true f g = g refl
+
+words-itself : (x : Cell) → (word x 0 == word x 0 && word x 1 == word x 1 && word x 2 == word x 2) ≡ true
+words-itself x =
+    let a = (Decides-eqb (word x 0) (word x 0)).1 refl in
+    let b = (Decides-eqb (word x 1) (word x 1)).1 refl in
+    let c = (Decides-eqb (word x 2) (word x 2)).1 refl in
+    rw (a, b, c) refl
+
+words-same : (x y : Cell) → IsTold x → IsSmall y → (word x 0 == word y 0 && word x 1 == word y 1 && word x 2 == word y 2) ≡ same_cell x y
+words-same x y told small =
+    one-truth (word x 0 == word y 0 && word x 1 == word y 1 && word x 2 == word y 2) (same_cell x y)
+    (λ e.
+    let two = and_parts _ _ e in
+    let one = and_parts _ _ two.0 in
+    let a = (Decides-eqb (word x 0) (word y 0)).0 one.0 in
+    let b = (Decides-eqb (word x 1) (word y 1)).0 one.1 in
+    let c = (Decides-eqb (word x 2) (word y 2)).0 two.1 in
+    let words : words_of y ≡ words_of x = three-words y ∙ rw (sym a, sym b, sym c) (sym (three-words x)) in
+    let same = told.1 y told.0 small words in
+    subst (λ z. same_cell x z ≡ true) (sym same) (cell-itself x))
+    (λ e. subst (λ z. (word x 0 == word z 0 && word x 1 == word z 1 && word x 2 == word z 2) ≡ true) (cell-told x y e) (words-itself x))
+
+-- ---- the first word that differs
+
+first-chosen : (a b c : Bool) (r f : ℕ) → r / 3 ≡ f
+    → cond (not (not a)) (1 + cond (not (not b)) (1 + cond (not (not c)) (1 + r) 0) 0) 0 / 3 ≡ (if a && b && c then suc f else 0)
+first-chosen true true true r f e = omega (arith, e)
+first-chosen true true false r f e = omega arith
+first-chosen true false true r f e = omega arith
+first-chosen true false false r f e = omega arith
+first-chosen false true true r f e = omega arith
+first-chosen false true false r f e = omega arith
+first-chosen false false true r f e = omega arith
+first-chosen false false false r f e = omega arith
+
+first-words : (xs ys : List Cell) → length xs ≡ length ys → AllByRecursion IsTold xs → AllByRecursion IsSmall ys
+    → position_or_len words_differ (zip (row_words xs) (row_words ys)) / 3 ≡ first_difference xs ys
+first-words [] [] n p q = omega arith
+first-words [] (y ∷ ys) n p q = absurd (omega arith)
+first-words (x ∷ xs) [] n p q = absurd (omega arith)
+first-words (x ∷ xs) (y ∷ ys) n p q =
+    ap₂ (λ ws vs. position_or_len words_differ (zip (ws ++ row_words xs) (vs ++ row_words ys)) / 3) (three-words x) (three-words y)
+    ∙ first-chosen (word x 0 == word y 0) (word x 1 == word y 1) (word x 2 == word y 2) (position_or_len words_differ (zip (row_words xs) (row_words ys))) (first_difference xs ys)
+    (first-words xs ys (omega arith) p.1 q.1)
+    ∙ ap (λ b. if b then suc (first_difference xs ys) else 0) (words-same x y p.0 q.0)
+
+-- ---- the last word that differs
+
+-- the place after the last pair that differs, and 0 where none does
+abbrev end_of_pairs : List (ℕ × ℕ) → ℕ
+end_of_pairs [] = 0
+end_of_pairs (p ∷ ps) = end_before (p.0 == p.1) (end_of_pairs ps)
+
+end-chosen : (a b c : Bool) (r f : ℕ) → (r + 2) / 3 ≡ f → (end_before a (end_before b (end_before c r)) + 2) / 3 ≡ end_before (a && b && c) f
+end-chosen a b c (suc r) (suc f) e = omega (arith, e)
+end-chosen a b c (suc r) zero e = absurd (omega (arith, e))
+end-chosen a b c zero (suc f) e = absurd (omega (arith, e))
+end-chosen true true true zero zero e = omega arith
+end-chosen true true false zero zero e = omega arith
+end-chosen true false true zero zero e = omega arith
+end-chosen true false false zero zero e = omega arith
+end-chosen false true true zero zero e = omega arith
+end-chosen false true false zero zero e = omega arith
+end-chosen false false true zero zero e = omega arith
+end-chosen false false false zero zero e = omega arith
+
+end-words : (xs ys : List Cell) → length xs ≡ length ys → AllByRecursion IsTold xs → AllByRecursion IsSmall ys
+    → (end_of_pairs (zip (row_words xs) (row_words ys)) + 2) / 3 ≡ end_of_differences xs ys
+end-words [] [] n p q = omega arith
+end-words [] (y ∷ ys) n p q = absurd (omega arith)
+end-words (x ∷ xs) [] n p q = absurd (omega arith)
+end-words (x ∷ xs) (y ∷ ys) n p q =
+    ap₂ (λ ws vs. (end_of_pairs (zip (ws ++ row_words xs) (vs ++ row_words ys)) + 2) / 3) (three-words x) (three-words y)
+    ∙ end-chosen (word x 0 == word y 0) (word x 1 == word y 1) (word x 2 == word y 2) (end_of_pairs (zip (row_words xs) (row_words ys))) (end_of_differences xs ys)
+    (end-words xs ys (omega arith) p.1 q.1)
+    ∙ ap (λ b. end_before b (end_of_differences xs ys)) (words-same x y p.0 q.0)
+
+end-le-step : (same : Bool) (e n : ℕ) → e ≤ n → end_before same e ≤ suc n
+end-le-step true zero n h = omega arith
+end-le-step false zero n h = omega arith
+end-le-step true (suc e) n h = omega arith
+end-le-step false (suc e) n h = omega arith
+
+end-le : (ps : List (ℕ × ℕ)) → end_of_pairs ps ≤ length ps
+end-le [] = omega arith
+end-le (p ∷ ps) = end-le-step (p.0 == p.1) (end_of_pairs ps) (length ps) (end-le ps)
+
+behind-here : (same : Bool) (e : ℕ) → end_before same e ≤ 0 → not (not same) ≡ true
+behind-here true e le = refl
+behind-here false zero le = absurd (omega arith)
+behind-here false (suc e) le = absurd (omega arith)
+
+behind-step : (same : Bool) (e k : ℕ) → end_before same e ≤ suc k → e ≤ k
+behind-step true zero k le = omega arith
+behind-step false zero k le = omega arith
+behind-step true (suc e) k le = omega arith
+behind-step false (suc e) k le = omega arith
+
+-- from that place on pairs do not differ
+behind-end : (ps : List (ℕ × ℕ)) (d : ℕ × ℕ) (k : ℕ) → end_of_pairs ps ≤ k → k < length ps → not (words_differ (get_or ps k d)) ≡ true
+behind-end [] d k le lt = absurd (omega arith)
+behind-end (p ∷ ps) d zero le lt = behind-here (p.0 == p.1) (end_of_pairs ps) le
+behind-end (p ∷ ps) d (suc k) le lt = behind-end ps d k (behind-step (p.0 == p.1) (end_of_pairs ps) k le) (omega arith)
+
+at-step : (same : Bool) (e : ℕ) (p d : ℕ × ℕ) (ps : List (ℕ × ℕ)) → (p.0 == p.1) ≡ same → (0 < e → not (words_differ (get_or ps (e - 1) d)) ≡ false)
+    → 0 < end_before same e → not (words_differ (get_or (p ∷ ps) (end_before same e - 1) d)) ≡ false
+at-step true zero p d ps s h lt = absurd (omega arith)
+at-step false zero p d ps s h lt = rw s refl
+at-step same (suc e) p d ps s h lt =
+    let a : suc (suc e) - 1 ≡ suc e = omega arith in
+    let b : suc e - 1 ≡ e = omega arith in
+    let here : not (words_differ (get_or ps e d)) ≡ false = subst (λ k. not (words_differ (get_or ps k d)) ≡ false) b (h (omega arith)) in
+    rw a here
+
+-- at the last of them they do
+at-end : (ps : List (ℕ × ℕ)) (d : ℕ × ℕ) → 0 < end_of_pairs ps → not (words_differ (get_or ps (end_of_pairs ps - 1) d)) ≡ false
+at-end [] d lt = absurd (omega arith)
+at-end (p ∷ ps) d lt = at-step (p.0 == p.1) (end_of_pairs ps) p d ps refl (at-end ps d) lt
+
+end-suffix : (ps : List (ℕ × ℕ)) → suffix_len (λ p. not (words_differ p)) ps ≡ length ps - end_of_pairs ps
+end-suffix ps = suffix_len_is (λ p. not (words_differ p)) ps (end_of_pairs ps) (0, 0) (end-le ps) (behind-end ps (0, 0)) (at-end ps (0, 0))
+
+-- ---- the columns
+
+length-words : (xs ys : List Cell) → length xs ≡ length ys → length (zip (row_words xs) (row_words ys)) ≡ 3 * length xs
+length-words [] [] n = omega arith
+length-words [] (y ∷ ys) n = absurd (omega arith)
+length-words (x ∷ xs) [] n = absurd (omega arith)
+length-words (x ∷ xs) (y ∷ ys) n =
+    ap₂ (λ ws vs. length (zip (ws ++ row_words xs) (vs ++ row_words ys))) (three-words x) (three-words y)
+    ∙ omega (arith, length-words xs ys (omega arith))
+
+some-chosen : (b : Bool) (n k : ℕ) → Some k ≡ (if b then Some n else None) → (k ≡ n) × (b ≡ true)
+some-chosen true n k e = (cc, refl)
+some-chosen false n k e = absurd (cc)
+
+none-chosen : (b : Bool) (n : ℕ) → None ≡ (if b then Some n else None) → b ≡ false
+none-chosen true n e = absurd (cc)
+none-chosen false n e = refl
+
+columns-same : (a b c d : ℕ) → a ≡ c → b ≡ d → let x : Columns = record { from = a; end = b } in let y : Columns = record { from = c; end = d } in x ≡ y
+columns-same a b c d p q = cc
+
+pub columns-some : (xs ys : List Cell) → length xs ≡ length ys → AllByRecursion IsTold xs → AllByRecursion IsSmall ys
+    → (first last : ℕ) → Some first ≡ first_word (row_words xs) (row_words ys) → Some last ≡ last_word (row_words xs) (row_words ys)
+    → let found : Columns = record { from = first / 3; end = last / 3 + 1 } in Some found ≡ differing_columns xs ys
+columns-some xs ys n p q first last f l =
+    let ps = zip (row_words xs) (row_words ys) in
+    let from = some-chosen (nat_lt (position_or_len words_differ ps) (length ps)) (position_or_len words_differ ps) first f in
+    let behind = some-chosen (nat_lt (suffix_len (λ p. not (words_differ p)) ps) (length ps)) (length ps - suffix_len (λ p. not (words_differ p)) ps - 1) last l in
+    let suffix = end-suffix ps in
+    let le = end-le ps in
+    let lt : suffix_len (λ p. not (words_differ p)) (zip (row_words xs) (row_words ys)) < length (zip (row_words xs) (row_words ys)) = grind (arith, nat_tests) in
+    let end = end-words xs ys n p q in
+    let last_is : last ≡ end_of_pairs (zip (row_words xs) (row_words ys)) - 1 = omega (arith, behind.0, suffix, le, lt) in
+    let some : 0 < end_of_pairs (zip (row_words xs) (row_words ys)) = omega (arith, suffix, le, lt) in
+    let e : last / 3 + 1 ≡ end_of_differences xs ys = omega (arith, last_is, end, some) in
+    let b : first / 3 ≡ first_difference xs ys = ap (λ k. k / 3) from.0 ∙ first-words xs ys n p q in
+    let differ : nat_lt 0 (end_of_differences xs ys) ≡ true = grind (arith, nat_tests) in
+    rw differ (ap (λ (c : Columns). Some c) (columns-same (first / 3) (last / 3 + 1) (first_difference xs ys) (end_of_differences xs ys) b e))
+
+none-differ : (xs ys : List Cell) → end_of_differences xs ys ≡ 0 → None ≡ differing_columns xs ys
+none-differ xs ys e = rw e refl
+
+pub columns-none-last : (xs ys : List Cell) → length xs ≡ length ys → AllByRecursion IsTold xs → AllByRecursion IsSmall ys
+    → None ≡ last_word (row_words xs) (row_words ys) → None ≡ differing_columns xs ys
+columns-none-last xs ys n p q l =
+    let ps = zip (row_words xs) (row_words ys) in
+    let none = none-chosen (nat_lt (suffix_len (λ p. not (words_differ p)) ps) (length ps)) (length ps - suffix_len (λ p. not (words_differ p)) ps - 1) l in
+    let ge : length (zip (row_words xs) (row_words ys)) ≤ suffix_len (λ p. not (words_differ p)) (zip (row_words xs) (row_words ys)) = grind (arith, nat_tests) in
+    none-differ xs ys (omega (arith, end-suffix ps, end-le ps, ge, end-words xs ys n p q))
+
+pub columns-none-first : (xs ys : List Cell) → length xs ≡ length ys → AllByRecursion IsTold xs → AllByRecursion IsSmall ys
+    → None ≡ first_word (row_words xs) (row_words ys) → None ≡ differing_columns xs ys
+columns-none-first xs ys n p q f =
+    let ps = zip (row_words xs) (row_words ys) in
+    let none = none-chosen (nat_lt (position_or_len words_differ ps) (length ps)) (position_or_len words_differ ps) f in
+    let ge : length (zip (row_words xs) (row_words ys)) ≤ position_or_len words_differ (zip (row_words xs) (row_words ys)) = grind (arith, nat_tests) in
+    let first : length ys ≤ first_difference xs ys = omega (arith, ge, length-words xs ys n, first-words xs ys n p q, n) in
+    elim (cases_eq (end_of_differences xs ys) 0) [
+      | inl same ↦ none-differ xs ys same
+      | inr some ↦ absurd (omega (arith, first, end_within xs ys, first_before xs ys (omega (arith, some))))
+    ]
+
+-- ---- words that are read one after another
+
+row_words-append : (xs : List Cell) (x : Cell) → row_words (xs ++ x ∷ []) ≡ row_words xs ++ words_of x
+row_words-append [] x = append-nil (words_of x)
+row_words-append (y ∷ xs) x = ap (λ ws. words_of y ++ ws) (row_words-append xs x) ∙ sym (append_assoc (words_of y) (row_words xs) (words_of x))
+
+pub length-row : (cells : List Cell) → length (row_words cells) ≡ 3 * length cells
+length-row [] = omega arith
+length-row (x ∷ cells) = ap (λ ws. length (ws ++ row_words cells)) (three-words x) ∙ omega (arith, length-row cells)
+
+-- three more words
+pub read-more : (cells : List Cell) (i : ℕ) (x : Cell) (words before one two three : List ℕ) → i < length cells → x ≡ get_or cells i x → words ≡ words_of x
+    → before ≡ row_words (take i cells) → one ≡ before ++ get_or words 0 0 ∷ [] → two ≡ one ++ get_or words 1 0 ∷ [] → three ≡ two ++ get_or words 2 0 ∷ []
+    → three ≡ row_words (take (i + 1) cells)
+read-more cells i x words before one two three lt here w b p q r =
+    let ws = row_words (take i cells) in
+    let first = p ∙ ap (λ xs. xs ++ get_or words 0 0 ∷ []) b ∙ ap (λ xs. ws ++ get_or xs 0 0 ∷ []) w in
+    let second = q ∙ ap (λ xs. xs ++ get_or words 1 0 ∷ []) first ∙ append_assoc ws (word x 0 ∷ []) (get_or words 1 0 ∷ []) ∙ ap (λ xs. ws ++ (word x 0 ∷ get_or xs 1 0 ∷ [])) w in
+    let third = r ∙ ap (λ xs. xs ++ get_or words 2 0 ∷ []) second ∙ append_assoc ws (word x 0 ∷ word x 1 ∷ []) (get_or words 2 0 ∷ []) ∙ ap (λ xs. ws ++ (word x 0 ∷ word x 1 ∷ get_or xs 2 0 ∷ [])) w in
+    third
+    ∙ ap (λ xs. ws ++ xs) (sym (three-words x))
+    ∙ sym (row_words-append (take i cells) x)
+    ∙ ap (λ y. row_words (take i cells ++ y ∷ [])) here
+    ∙ ap row_words (sym (take_more cells i x lt))
+
+-- one more cell that its words tell
+pub told-more : (cells : List Cell) (i : ℕ) (x : Cell) → i < length cells → x ≡ get_or cells i x → AreTold (take i cells) → AreOnlyOf x (words_of x) → AreTold (take (i + 1) cells)
+told-more cells i x lt here before told =
+    let all = All-append (λ c. AreOnlyOf c (words_of c)) (take i cells) (x ∷ []) before (All-from_recursion (λ c. AreOnlyOf c (words_of c)) (x ∷ []) (told, tt)) in
+    subst (λ cs. AreTold cs) (ap (λ y. take i cells ++ y ∷ []) here ∙ sym (take_more cells i x lt)) all

@@ -1,0 +1,20 @@
+-- Where two rows differ, as the words of their cells tell it.
+use Rattle.std.specs.Prelude.{ℕ, if◌then◌else◌, List, [], ◌∷◌, ◌++◌, All, Option, None, Some}
+use Rattle.rd_base.specs.Cells.{words_of, AreOnlyOf}
+use Rattle.rd_base.specs.declared.cell.Cell.{Cell}
+use Rattle.rd_update.specs.Updates.{first_difference, end_of_differences, differs}
+use Rattle.rd_update.specs.declared.span.Columns.{Columns}
+
+-- the words of a row's cells, in order
+abbrev pub row_words : List Cell → List ℕ
+row_words [] = []
+row_words (cell ∷ cells) = words_of cell ++ row_words cells
+
+-- cells that their words tell
+abbrev pub AreTold : List Cell → Type 0
+AreTold cells = All (λ cell. AreOnlyOf cell (words_of cell)) cells
+
+-- the columns from the first to the last one at which two rows differ
+abbrev pub differing_columns : List Cell → List Cell → Option Columns
+differing_columns old new =
+    if differs old new then Some (record { from = first_difference old new; end = end_of_differences old new }) else None
