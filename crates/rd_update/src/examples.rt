@@ -64,6 +64,9 @@ fn characters_are_sent_whole()
     ensures letters { (update (Some (record { rows = (cell_of 97 plain ∷ First (single 20013 2) plain ∷ Rest ∷ cell_of 98 plain ∷ []) ∷ []; row = 0; column = 0 }))
         (record { rows = plain_row (codes "axyb") ∷ []; row = 0; column = 0 }) None).bytes
         ≡ 27 ∷ codes "[1;2Hxy" ++ 27 ∷ codes "[1;1H" }
+    ensures back { (update (Some (record { rows = plain_row (codes "axyb") ∷ []; row = 0; column = 0 }))
+        (record { rows = (cell_of 97 plain ∷ First (single 20013 2) plain ∷ Rest ∷ cell_of 98 plain ∷ []) ∷ []; row = 0; column = 0 }) None).bytes
+        ≡ 27 ∷ codes "[1;2H" ++ 228 ∷ 184 ∷ 173 ∷ 27 ∷ codes "[1;1H" }
     ensures other { (update (Some (record { rows = (cell_of 97 plain ∷ First (single 20013 2) plain ∷ Rest ∷ cell_of 98 plain ∷ []) ∷ []; row = 0; column = 0 }))
         (record { rows = (cell_of 97 plain ∷ First (single 26085 2) plain ∷ Rest ∷ cell_of 98 plain ∷ []) ∷ []; row = 0; column = 0 }) None).bytes
         ≡ 27 ∷ codes "[1;2H" ++ 230 ∷ 151 ∷ 165 ∷ 27 ∷ codes "[1;1H" }

@@ -5,4 +5,4 @@ use Rattle.rd_update.proofs.examples.characters_are_sent_whole.Goals as goal
 
 pub returns : goal.returns
 unfolding digits encode_utf8
-returns c = record { mark = refl; letters = refl; other = refl }
+returns c = record { mark = refl; letters = refl; back = refl; other = refl }
