@@ -4,10 +4,10 @@ use Rattle.std.proofs.Common.{get_or, replicate, ◌⊎◌, inl, inr}
 use Rattle.std.proofs.lemmas.List.{length-replicate, length-map, get_or-map}
 use Rattle.std.proofs.lemmas.List.Elements.{All-replicate}
 use Rattle.rd_base.specs.declared.cell.Cell.{Cell}
-use Rattle.rd_term.specs.Pictures.{Picture, IsGrid, IsOfSize, ArePlain}
+use Rattle.rd_term.specs.Pictures.{Picture, IsGrid, IsOfSize}
 use Rattle.rd_term.specs.Terminals.{Tty, unknown, feed_bytes, Shows, known}
 use Rattle.rd_term.specs.declared.reading.Reading.TheVariants.{Between}
-use Rattle.rd_update.specs.Laws.{IsReady, IsUpdated, IsCurrent}
+use Rattle.rd_update.specs.Laws.{IsReady, IsUpdated, IsCurrent, IsSound as IsSoundScreen}
 use Rattle.rd_update.specs.Updates.{Update, update}
 use Rattle.rd_script.specs.Forms.{IsInForm}
 use Rattle.rd_script.specs.Reading as script
@@ -24,9 +24,6 @@ use Rattle.rd_session.specs.Sessions.{IsBuilt, is_frame}
 use Rattle.rd_play.specs.Runs.{Turn, Standing, Effect, World, opened, turn, after, terminal_after, ShowsEach, effect, effect_of_reading, effect_by, asked, is_blank, stepped, quiet, refused, unshown, redisplayed}
 use Rattle.rd_term.specs.Pictures.{width_of}
 use Rattle.rd_update.specs.Plans.{HaveOneSize}
-use Rattle.rd_term.proofs.Wholeness.{whole, coloured}
-use Rattle.rd_update.proofs.Parts.{after-done}
-use Rattle.rd_update.proofs.Reaching.{updated}
 use Rattle.rd_script.proofs.InForm.{reading-in_form}
 
 -- ---- what the layers below promise
@@ -44,23 +41,23 @@ sizes-agree width height (Some screen) target t size now =
     let second : 0 < length target.rows = let a = size.row in let b = size.rows in omega arith in
     (own.rows ∙ sym size.rows, width-of width screen.rows first own.each ∙ sym (width-of width target.rows second size.each))
 
--- an update without a limit reaches its target
-reaches : (width height : ℕ) (current : Option Picture) (target : Picture) (t : Tty) → IsReady width height current target t → (update current target None).screen ≡ target
-reaches width height current target t h = sym (after-done current target None (sizes-agree width height current target t h.size h.now) refl)
-
 -- what they promise of states and of redisplay from nothing
 pub record IsLaid (s : StateValue) (l : Laid) : Type 0 where
   pub built : IsBuilt l.state
   pub width : l.state.width ≡ s.width
   pub height : l.state.height ≡ s.height
   pub size : IsOfSize s.width s.height l.picture
-  pub cells : ArePlain l.picture.rows
+  pub sound : IsSoundScreen l.picture
 
 pub record StateLaws : Type 0 where
   pub begins : IsBuilt opening
   pub stepped : (s t : StateValue) (op : Op) → IsBuilt s → IsInForm op → step s op ≡ Ok t → IsBuilt t
   pub sized : (s t : StateValue) (op : Op) → step s op ≡ Ok t → is_frame op ≡ false → (t.width ≡ s.width) × (t.height ≡ s.height)
   pub laid : (s : StateValue) → IsBuilt s → IsLaid s (laid_out s)
+  pub updated : (width height : ℕ) (current : Option Picture) (target : Picture) (limit : Option ℕ) (t : Tty) → IsReady width height current target t
+      → IsUpdated width height (update current target limit) target (feed_bytes t (update current target limit).bytes)
+  pub reached : (current : Option Picture) (target : Picture) (limit : Option ℕ) → HaveOneSize current target
+      → (update current target limit).done ≡ true → (update current target limit).screen ≡ target
 
 -- ---- where a run stands, with its terminal
 
@@ -101,10 +98,6 @@ grid-known w rows h k d p =
 ready : (laws : StateLaws) (place : Standing) (t : Tty) → IsSound place t → IsReady place.state.width place.state.height place.current (laid_out place.state).picture t
 ready laws place t h =
     let l = laws.laid place.state h.built in
-    let target = (laid_out place.state).picture in
-    let rows : 0 < length target.rows = omega (arith, l.size.row, l.size.rows) in
-    let row : target.row < length target.rows = omega (arith, l.size.row, l.size.rows) in
-    let wide = width-of place.state.width target.rows rows l.size.each in
     record {
       sure = h.sure;
       between = h.between;
@@ -113,8 +106,8 @@ ready laws place t h =
       wide = h.built.valid.frame.narrow;
       tall = h.built.valid.frame.low;
       size = l.size;
-      whole = whole target l.cells row (omega (arith, l.size.column, wide));
-      colours = coloured target.rows l.cells;
+      whole = l.sound.whole;
+      colours = l.sound.colours;
       now = h.now;
     }
 
@@ -180,8 +173,9 @@ redisplayed-goes laws place t h =
     let l = laws.laid place.state h.built in
     let r = ready laws place t h in
     let u = update place.current laid.picture None in
-    let after_update = updated place.state.width place.state.height place.current laid.picture None t r in
-    let reached = reaches place.state.width place.state.height place.current laid.picture t r in
+    let after_update = laws.updated place.state.width place.state.height place.current laid.picture None t r in
+    let size = sizes-agree place.state.width place.state.height place.current laid.picture t r.size r.now in
+    let reached = laws.reached place.current laid.picture None size refl in
     record {
       sound = updated-sound place (redisplayed place laid).now u laid.picture (feed_bytes t u.bytes) l.built l.width l.height refl after_update;
       shows = λ s. updated-shows place.state.width place.state.height u laid.picture (feed_bytes t u.bytes) reached refl after_update;

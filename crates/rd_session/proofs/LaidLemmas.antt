@@ -12,10 +12,10 @@ use Rattle.rd_state.specs.Edits.{is_built}
 use Rattle.rd_state.specs.States.{BufferValue, StateValue, IsValid}
 use Rattle.rd_state.specs.Steps.{settled}
 use Rattle.rd_state.specs.declared.window.WindowState.{WindowState}
-use Rattle.rd_term.specs.Pictures.{blank, blank_row, IsGrid, IsOfSize, IsPlainCell, ArePlain}
+use Rattle.rd_term.specs.Pictures.{blank, blank_row, IsGrid, IsOfSize}
 use Rattle.rd_text.specs.Texts.{TextValue, IsText, IsAccessible}
 use Rattle.rd_session.specs.Blocks.{blocks_of}
-use Rattle.rd_session.specs.Plain.{AreShowable}
+use Rattle.rd_session.specs.Plain.{IsPlainCell, ArePlain, AreShowable}
 use Rattle.rd_session.specs.Redisplay.{anchor_of, laid_out, painted, place_or_first, shape_of, shown_text, text_height, text_in, view_for, window_rows}
 use Rattle.rd_session.specs.Sessions.{IsBuilt}
 use Rattle.rd_session.proofs.PaintLemmas.{cursor-within, length-cells}

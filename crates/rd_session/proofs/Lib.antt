@@ -16,3 +16,4 @@ pub mod SessionLemmas
 pub mod ShowLemmas
 pub mod SingleLemmas
 pub mod ViewLemmas
+pub mod WholeLemmas

@@ -13,40 +13,12 @@ use Rattle.rd_session.specs.Plain.{AreShowable, AreWithin}
 use Rattle.rd_session.specs.Redisplay.{with_cursor, window_rows, place_or_first}
 use Rattle.rd_term.specs.Pictures.{blank, blank_row, Picture, IsScreen, row_at, width_of, with_cell}
 
-set-twice : {X : Type 0} (xs : List X) (i : ℕ) (a b : X) → slice_set (slice_set xs i a) i b ≡ slice_set xs i b
-set-twice [] i a b = refl
-set-twice (x ∷ xs) zero a b = refl
-set-twice (x ∷ xs) (suc i) a b = ap (λ ys. x ∷ ys) (set-twice xs i a b)
-
--- the next cell of a list that takes the place of another
-set-seam : (xs ys : List Cell) (c : ℕ) (x : Cell) → length xs ≡ length ys → c < length xs → x ≡ get_or xs c x
-    → slice_set (take c xs ++ drop c ys) c x ≡ take (c + 1) xs ++ drop (c + 1) ys
-set-seam [] ys c x same below here = absurd (omega arith)
-set-seam (a ∷ xs) [] c x same below here = absurd (omega arith)
-set-seam (a ∷ xs) (b ∷ ys) zero x same below here = ap (λ z. z ∷ ys) here
-set-seam (a ∷ xs) (b ∷ ys) (suc c) x same below here =
-    let e : suc c + 1 ≡ suc (c + 1) = omega arith in
-    rw e (ap (λ zs. a ∷ zs) (set-seam xs ys c x (omega arith) (omega arith) here))
-
--- one more cell of a row is painted
-pub row-painted : (rows : List (List Cell)) (r c : ℕ) (cells : List Cell) (x : Cell) → r < length rows → length cells ≡ length (row_at rows r) → c < length cells → x ≡ get_or cells c x
-    → with_cell (slice_set rows r (take c cells ++ drop c (row_at rows r))) r c x ≡ slice_set rows r (take (c + 1) cells ++ drop (c + 1) (row_at rows r))
-row-painted rows r c cells x below same inside here =
-    let part : List Cell = take c cells ++ drop c (row_at rows r) in
-    let there : row_at (slice_set rows r part) r ≡ part = get_or-set_same rows r part [] below in
-    ap (λ row. slice_set (slice_set rows r part) r (slice_set row c x)) there
-    ∙ (set-twice rows r part (slice_set part c x) ∙ ap (slice_set rows r) (set-seam cells (row_at rows r) c x same inside here))
-
 -- a row in the place of the first of those that are left
 pub set-row : (xs : List (List Cell)) (y z : List Cell) (ys : List (List Cell)) (n : ℕ) → length xs ≡ n → slice_set (xs ++ y ∷ ys) n z ≡ xs ++ z ∷ ys
 set-row [] y z ys zero h = refl
 set-row [] y z ys (suc n) h = absurd (omega arith)
 set-row (x ∷ xs) y z ys zero h = absurd (omega arith)
 set-row (x ∷ xs) y z ys (suc n) h = ap (λ rows. x ∷ rows) (set-row xs y z ys n (omega arith))
-
--- each row of a screen is as wide as the first
-pub row-wide : (p : Picture) (r : ℕ) → IsScreen p → r < length p.rows → width_of p.rows ≡ length (row_at p.rows r)
-row-wide p r h below = sym (h.size.each r [] below)
 
 -- the screen when so many of the rows in view are painted
 abbrev pub painted_so_far : ℕ → ℕ → ℕ → List Entry → Picture

@@ -19,10 +19,9 @@ use Rattle.rd_rows.specs.declared.begin.Begin.{Begin}
 use Rattle.rd_rows.specs.declared.cutting.Cutting.{Cutting}
 use Rattle.rd_rows.specs.declared.spot.Placed.{Placed}
 use Rattle.rd_rows.specs.declared.spot.Spot.{Spot}
-use Rattle.rd_term.specs.Pictures.{IsPlainCell}
 use Rattle.rd_session.specs.Blocks.{char_element, line_end, elements_from}
 use Rattle.rd_session.specs.Layout.{plain_cutting}
-use Rattle.rd_session.specs.Plain.{AreWithin, IsShowable}
+use Rattle.rd_session.specs.Plain.{AreWithin, IsPlainCell, IsShowable}
 
 -- characters from space to tilde
 abbrev pub ArePrintable : List ℕ → Type 0

@@ -1,6 +1,6 @@
 -- What a session keeps: a built state, and a known screen of the frame's size.
-use Rattle.std.proofs.Common.{◌≡◌, ℕ, suc, ◌-◌, ◌≤◌, Option, None, Some, List, [], ◌∷◌, length, refl, sym, ◌∙◌, ap, subst, arith}
-use Rattle.std.specs.Prelude.{slice_get}
+use Rattle.std.proofs.Common.{◌≡◌, ℕ, suc, ◌-◌, ◌<◌, ◌≤◌, Option, None, Some, List, [], ◌∷◌, length, refl, sym, ◌∙◌, ap, subst, arith}
+use Rattle.std.specs.Prelude.{slice_get, IfSome}
 use Rattle.std.specs.List.{AllByRecursion}
 use Rattle.std.proofs.lemmas.List.Elements.{recursion_from_All}
 use Rattle.rd_base.specs.declared.cell.Cell.{Cell}
@@ -12,20 +12,21 @@ use Rattle.rd_state.specs.declared.window.WindowState.{WindowState}
 use Rattle.rd_term.specs.Pictures.{Picture, IsOfSize, width_of}
 use Rattle.rd_text.specs.Texts.{TextValue, IsAccessible}
 use Rattle.rd_update.specs.Plans.{HaveOneSize, sent_of}
-use Rattle.rd_update.specs.Updates.{blank_like, Update, start, update}
+use Rattle.rd_update.specs.Laws.{IsSound}
+use Rattle.rd_update.specs.Updates.{Update, update}
 use Rattle.rd_update.specs.declared.plan.Sent.{Sent}
-use Rattle.rd_update.proofs.Parts.{done-rows}
 use Rattle.rd_rows.specs.Shapes.{ShapeValues}
 use Rattle.rd_session.specs.Blocks.{blocks_of}
 use Rattle.rd_session.specs.Layout.{view_of}
 use Rattle.rd_session.specs.Plain.{AreShowable}
 use Rattle.rd_session.specs.Redisplay.{anchor_of, laid_out, painted, shown_text, text_in}
 use Rattle.rd_session.specs.Sessions.{SessionValue, IsBuilt, FitsFrame}
-use Rattle.rd_session.proofs.LaidLemmas.{anchor-accessible, shown-showable}
+use Rattle.rd_session.proofs.LaidLemmas.{anchor-accessible, laid-sized, shown-showable}
+use Rattle.rd_session.proofs.WholeLemmas.{plain-sound}
 
 pub fits-kept : (screen : Option Picture) (s t : StateValue) → (t.width ≡ s.width) × (t.height ≡ s.height) → FitsFrame screen s → FitsFrame screen t
 fits-kept None s t same fits = tt
-fits-kept (Some screen) s t same fits = (fits.0 ∙ sym same.1, fits.1 ∙ sym same.0)
+fits-kept (Some screen) s t same fits = (fits.0 ∙ sym same.1, fits.1 ∙ sym same.0, fits.2)
 
 -- the buffer that the window shows has the shown text
 shown-is : (s : StateValue) (b : BufferValue) → slice_get s.buffers s.window.buffer ≡ Some b → shown_text s ≡ b.text
@@ -46,23 +47,26 @@ pub one-size : (current : Option Picture) (s : StateValue) (target : Picture) �
 one-size None s target some fits size = tt
 one-size (Some screen) s target some fits size = (fits.0 ∙ sym size.rows, fits.1 ∙ sym (wide s.width s.height target some size))
 
-length-blank : (rows : List (List Cell)) → length (blank_like rows) ≡ length rows
-length-blank [] = refl
-length-blank (row ∷ rows) = ap suc (length-blank rows)
+-- a known screen is sound
+pub sound-if-known : (current : Option Picture) (s : StateValue) → FitsFrame current s → IfSome current (λ screen. IsSound screen)
+sound-if-known None s fits = tt
+sound-if-known (Some screen) s fits = fits.2
 
-length-start : (current : Option Picture) (target : Picture) → HaveOneSize current target → length (start current target).rows ≡ length target.rows
-length-start None target same = length-blank target.rows
-length-start (Some screen) target same = same.0
+-- a sound screen of the target's size fits the frame
+pub update-fits : (s t : StateValue) (target screen : Picture) → 1 ≤ s.height → HaveOneSize (Some screen) target → IsOfSize s.width s.height target → IsSound screen
+    → (t.width ≡ s.width) × (t.height ≡ s.height) → FitsFrame (Some screen) t
+update-fits s t target screen some size sized sound same =
+    (size.0 ∙ sized.rows ∙ sym same.1, size.1 ∙ wide s.width s.height target some sized ∙ sym same.0, sound)
 
--- an update without a limit leaves the target's rows
-pub update-rows : (current : Option Picture) (target : Picture) → HaveOneSize current target → (update current target None).screen.rows ≡ target.rows
-update-rows current target same = done-rows None (start current target).rows target.rows (length-start current target same) refl
-
-pub update-fits : (current : Option Picture) (s t : StateValue) (target : Picture) → 1 ≤ s.height → FitsFrame current s → IsOfSize s.width s.height target
-    → (t.width ≡ s.width) × (t.height ≡ s.height) → FitsFrame (Some (update current target None).screen) t
-update-fits current s t target some fits size same =
-    let rows = update-rows current target (one-size current s target some fits size) in
-    (ap length rows ∙ (size.rows ∙ sym same.1), ap width_of rows ∙ (wide s.width s.height target some size ∙ sym same.0))
+-- the target of a layout is sound
+pub laid-sound : (s : StateValue) → IsBuilt s → IsSound (laid_out s).picture
+laid-sound s built =
+    let sized = laid-sized s built in
+    let high = built.valid.frame.high in
+    let w = wide s.width s.height (laid_out s).picture (omega arith) sized.0 in
+    let row : (laid_out s).picture.row < length (laid_out s).picture.rows = omega (arith, sized.0.row, sized.0.rows) in
+    let column : (laid_out s).picture.column < width_of (laid_out s).picture.rows = omega (arith, sized.0.column, w) in
+    plain-sound (laid_out s).picture sized.1 row column
 
 -- the state that is settled as a layout found it
 pub settled-laid : (s t : StateValue) (w : WindowState) (a : Anchor) (view : List Entry) → w ≡ s.window → view ≡ (laid_out s).view → a ≡ anchor_of w.anchor view

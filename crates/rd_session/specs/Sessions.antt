@@ -11,6 +11,7 @@ use Rattle.rd_state.specs.Steps.{step}
 use Rattle.rd_state.specs.declared.refused.Refused.{Refused}
 use Rattle.rd_state.specs.declared.refused.Refused.TheVariants.{Memory}
 use Rattle.rd_term.specs.Pictures.{Picture, width_of}
+use Rattle.rd_update.specs.Laws.{IsSound}
 use Rattle.rd_update.specs.Updates.{update}
 use Rattle.rd_session.specs.Redisplay.{laid_out}
 use Rattle.rd_session.specs.declared.outcome.Outcome.{Outcome}
@@ -31,10 +32,10 @@ pub record IsBuilt (s : StateValue) : Type 0 where
   pub valid : IsValid s
   pub texts : (k : ℕ) (b : BufferValue) → slice_get s.buffers k ≡ Some b → is_built b.text.text ≡ true
 
--- a known screen has the frame's size
+-- a known screen has the frame's size, and it is sound
 abbrev pub FitsFrame : Option Picture → StateValue → Type 0
 FitsFrame None s = Unit {0}
-FitsFrame (Some screen) s = (length screen.rows ≡ s.height) × (width_of screen.rows ≡ s.width)
+FitsFrame (Some screen) s = (length screen.rows ≡ s.height) × (width_of screen.rows ≡ s.width) × IsSound screen
 
 abbrev pub is_frame : Op → Bool
 is_frame (Frame width height) = true

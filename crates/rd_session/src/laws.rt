@@ -4,7 +4,9 @@ ghost use Rattle.rd_script.specs.declared.op.Op.{Op};
 ghost use Rattle.rd_script.specs.Forms.{IsInForm};
 ghost use Rattle.rd_state.specs.States.{StateValue, opening};
 ghost use Rattle.rd_state.specs.Steps.{step};
-ghost use Rattle.rd_term.specs.Pictures.{IsOfSize, ArePlain};
+ghost use Rattle.rd_term.specs.Pictures.{IsOfSize};
+ghost use Rattle.rd_update.specs.Laws.{IsSound};
+ghost use Rattle.rd_session.specs.Plain.{ArePlain};
 ghost use Rattle.rd_session.specs.Redisplay.{laid_out};
 ghost use Rattle.rd_session.specs.Sessions.{IsBuilt, is_frame};
 
@@ -21,11 +23,12 @@ pub fn states_stay_built()
 }
 
 /// What a redisplay leaves of such a state is such a state, in a frame of the same size, and its target is a plain picture of that
-/// size. The call does nothing.
+/// size, which is sound. The call does nothing.
 pub fn layouts_stay_built()
     ensures built { (s : StateValue) → IsBuilt s → IsBuilt (laid_out s).state }
     ensures frame { (s : StateValue) → ((laid_out s).state.width ≡ s.width) × ((laid_out s).state.height ≡ s.height) }
     ensures size { (s : StateValue) → IsBuilt s → IsOfSize s.width s.height (laid_out s).picture × ArePlain (laid_out s).picture.rows }
+    ensures sound { (s : StateValue) → IsBuilt s → IsSound (laid_out s).picture }
 {
     settling_keeps_states();
 }

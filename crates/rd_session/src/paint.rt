@@ -15,10 +15,8 @@ fn paint_row(screen: &mut Screen, row: u32, cells: &[Cell])
     requires wide { length cells.now ≡ width_of screen.old.rows }
     ensures { screen.new ≡ record screen.old { rows = slice_set screen.old.rows row cells.now } }
 {
-    let width = screen.width();
-    for column in 0..width {
-        screen.set(row, column, cells[column as usize]);
-    }
+    let _width = screen.width();
+    screen.set_cells(row, 0, cells);
 }
 
 /// The target screen of a frame: the rows in view from its top, blank rows below them, the echo row, and the cursor where the item

@@ -23,7 +23,7 @@ use rd_state::{Refused, State, WindowState};
 use rd_term::Screen;
 use rd_text::Buffer;
 use rd_tree::Rect;
-use rd_update::Plan;
+use rd_update::{Plan, updates_keep_screens_sound};
 use std::alloc::Global;
 use std::marker::Model;
 use std::sync::ledger::Ledger;
@@ -160,6 +160,7 @@ impl Session {
         ensures failed { result ≡ Fault → Rose (K.faults sink.old) (K.faults sink.new) }
     {
         layouts_stay_built();
+        updates_keep_screens_sound();
         let current = self.screen.take();
         match prepared.plan.send(sink, stop) {
             Err(_fault) => Outcome::WriteFault,

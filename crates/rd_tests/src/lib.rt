@@ -20,3 +20,6 @@ mod term;
 
 #[cfg(test)]
 mod tree;
+
+#[cfg(test)]
+mod update;

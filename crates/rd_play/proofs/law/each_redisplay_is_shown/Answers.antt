@@ -14,6 +14,8 @@ returns c =
         width = (layouts.frame s).0;
         height = (layouts.frame s).1;
         size = (layouts.size s h).0;
-        cells = (layouts.size s h).1;
+        sound = layouts.sound s h;
       };
+      updated = c.update_law.ensures;
+      reached = c.updates_reach_their_targets.ensures.reached;
     })

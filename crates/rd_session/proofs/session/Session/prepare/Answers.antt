@@ -1,9 +1,11 @@
 use Rattle.std.proofs.Common.{◌≡◌, ℕ, ◌∙◌, ap, subst, sym, arith}
 use Rattle.rd_state.specs.declared.window.WindowState.{WindowState}
 use Rattle.rd_text.specs.Texts.{IsText, IsAccessible}
+use Rattle.rd_update.specs.Laws.{IsSound}
 use Rattle.rd_update.specs.Plans.{HaveOneSize, planned, shown}
+use Rattle.std.specs.Prelude.{IfSome}
 use Rattle.rd_session.proofs.LaidLemmas.{shown-right}
-use Rattle.rd_session.proofs.SessionLemmas.{one-size, laid-showable, laid-view, laid-picture}
+use Rattle.rd_session.proofs.SessionLemmas.{one-size, laid-showable, laid-view, laid-picture, sound-if-known}
 use Rattle.rd_session.specs.Plain.{AreShowable}
 use Rattle.rd_session.specs.Redisplay.{laid_out, shown_text}
 use Rattle.rd_session.specs.Sessions.{SessionValue}
@@ -51,7 +53,11 @@ prepare-requires g c =
     let high = c.self.invariant.0.valid.frame.high in
     let current : shown c.as_ref.result ≡ c.self.inside.screen = c.as_ref.ensures.value in
     let fits : HaveOneSize c.self.inside.screen (laid_out s).picture = one-size c.self.inside.screen s (laid_out s).picture (omega arith) c.self.invariant.1 sized.0 in
-    record { size = subst (λ p. HaveOneSize (shown c.as_ref.result) p) (sym target) (subst (λ o. HaveOneSize o (laid_out s).picture) (sym current) fits) }
+    record {
+      size = subst (λ p. HaveOneSize (shown c.as_ref.result) p) (sym target) (subst (λ o. HaveOneSize o (laid_out s).picture) (sym current) fits);
+      current = subst (λ o. IfSome o (λ screen. IsSound screen)) (sym current) (sound-if-known c.self.inside.screen s c.self.invariant.1);
+      target = subst (λ p. IsSound p) (sym target) (c.layouts_stay_built.ensures.sound s c.self.invariant.0);
+    }
 
 pub returns-clause-matrix : goal.returns-clause-matrix
 returns-clause-matrix g c =

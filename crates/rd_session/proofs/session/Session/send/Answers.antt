@@ -6,7 +6,7 @@ use Rattle.rd_term.specs.Pictures.{Picture}
 use Rattle.rd_update.specs.Plans.{HaveOneSize, sent_of}
 use Rattle.rd_update.specs.Updates.{update}
 use Rattle.rd_update.specs.declared.plan.Sent.{Sent}
-use Rattle.rd_session.proofs.SessionLemmas.{screen-after, anchor-found, anchor-settles, one-size, same-session, settled-laid, update-fits}
+use Rattle.rd_session.proofs.SessionLemmas.{screen-after, anchor-found, anchor-settles, one-size, same-session, settled-laid, sound-if-known, update-fits}
 use Rattle.rd_session.specs.Redisplay.{laid_out}
 use Rattle.rd_session.specs.Sessions.{SessionValue, IsBuilt, FitsFrame}
 use Rattle.rd_session.proofs.session.Session.send.Goals as goal
@@ -43,7 +43,11 @@ invariant_of-self-in-Ok g c =
     let screen : c.after.result ≡ (update c.self.inside.screen (laid_out s).picture None).screen =
     screen-after c.take-current.result c.self.inside.screen c.args.self.now.current c.args.prepared.target (laid_out s).picture (laid_out c.args.self.now.state).picture c.in-Ok.sent c.after.result
     current (ap (λ (v : SessionValue). v.current) c.self.view_is) target c.requires.target whole (c.after.ensures None) in
-    let fits = update-fits c.self.inside.screen s (laid_out s).state (laid_out s).picture (omega arith) c.self.invariant.1 sized.0 (c.layouts_stay_built.ensures.frame s) in
+    let size = one-size c.self.inside.screen s (laid_out s).picture (omega arith) c.self.invariant.1 sized.0 in
+    let kept = c.updates_keep_screens_sound.ensures in
+    let sound = kept.sound c.self.inside.screen (laid_out s).picture None size (sound-if-known c.self.inside.screen s c.self.invariant.1) (c.layouts_stay_built.ensures.sound s built) in
+    let fits = update-fits s (laid_out s).state (laid_out s).picture (update c.self.inside.screen (laid_out s).picture None).screen (omega arith)
+    (kept.size c.self.inside.screen (laid_out s).picture None size) sized.0 sound (c.layouts_stay_built.ensures.frame s) in
     let all : IsBuilt (laid_out s).state × FitsFrame (Some c.after.result) (laid_out s).state =
     (c.layouts_stay_built.ensures.built s built, subst (λ (p : Picture). FitsFrame (Some p) (laid_out s).state) (sym screen) fits) in
     subst (λ (t : StateValue). IsBuilt t × FitsFrame (Some c.after.result) t) (sym state) all

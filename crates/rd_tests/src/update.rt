@@ -1,0 +1,123 @@
+//! Updates that are prepared and sent with ample memory.
+ghost use Rattle.std.specs.Prelude.{IfOk};
+ghost use Rattle.rd_update.specs.Laws.{IsSound};
+
+use rd_base::{Cell, Face, Glyph, Memory};
+use rd_io::MemSink;
+use rd_term::Screen;
+use rd_update::{Plan, Sent, WriteFault};
+use std::alloc::Global;
+use std::test::Fail;
+
+/// A screen of 12 columns and 3 rows with `a` and `b` at the first cells of its first two rows.
+fn two_letters(alloc: Global) -> Result<Screen, Memory>
+    ensures { IfOk result (λ screen. IsSound screen) }
+{
+    let mut screen = Screen::blank(alloc, 12, 3)?;
+    screen.set(0, 0, Cell::First(Glyph::single(97, 1), Face::PLAIN));
+    screen.set(1, 0, Cell::First(Glyph::single(98, 1), Face::PLAIN));
+    Ok(screen)
+}
+
+/// What an update of an unknown screen to two letters came to.
+#[derive(Drop)]
+struct Trace {
+    sink: MemSink,
+    sent: Result<Sent, WriteFault>,
+    screen: Option<Screen>,
+}
+
+/// Sends two letters to an unknown screen, into a sink of so much room, where so many rows are allowed.
+fn sent_within(alloc: Global, room: u64, limit: Option<u32>) -> Result<Trace, Memory> {
+    let target = two_letters(alloc)?;
+    let plan = Plan::prepare(alloc, None, &target)?;
+    let mut sink = MemSink::with_room(alloc, room)?;
+    match plan.send(&mut sink, limit) {
+        Ok(sent) => Ok(Trace {
+            sink,
+            sent: Ok(sent),
+            screen: Some(plan.after(None, target, sent)),
+        }),
+        Err(fault) => Ok(Trace {
+            sink,
+            sent: Err(fault),
+            screen: None,
+        }),
+    }
+}
+
+/// Whether each of the first two rows of a new current screen begins with a character, where there is such a screen.
+fn are_filled(screen: &Option<Screen>) -> Option<(bool, bool)> {
+    match screen {
+        Some(screen) if screen.height() >= 2 && screen.width() >= 1 => Some((
+            is_filled(screen.cell(0, 0)),
+            is_filled(screen.cell(1, 0)),
+        )),
+        _ => None,
+    }
+}
+
+/// Whether a character stands in a cell.
+fn is_filled(cell: Cell) -> bool {
+    match cell {
+        Cell::First(_, _) => true,
+        _ => false,
+    }
+}
+
+/// A limit of rows, and the rows that are sent, whether the target is reached, and the bytes.
+const LIMITS: [(Option<u32>, u32, bool, &'static [u8]); 5] = [
+    (Some(0), 0, false, b"\x1b[0m\x1b[2J"),
+    (Some(1), 1, false, b"\x1b[0m\x1b[2J\x1b[1;1Ha"),
+    (
+        Some(2),
+        2,
+        true,
+        b"\x1b[0m\x1b[2J\x1b[1;1Ha\x1b[2;1Hb\x1b[1;1H",
+    ),
+    (
+        Some(3),
+        2,
+        true,
+        b"\x1b[0m\x1b[2J\x1b[1;1Ha\x1b[2;1Hb\x1b[1;1H",
+    ),
+    (
+        None,
+        2,
+        true,
+        b"\x1b[0m\x1b[2J\x1b[1;1Ha\x1b[2;1Hb\x1b[1;1H",
+    ),
+];
+
+#[test]
+fn an_update_stops_after_so_many_rows(rt: HostRuntime) -> Result<(), Fail> {
+    for (limit, rows, done, bytes) in &LIMITS {
+        let trace = sent_within(rt.alloc(), 64, *limit)?;
+        assert_eq!(rt;
+            trace.sent,
+            Ok(Sent {
+                rows: *rows,
+                done: *done
+            })
+        );
+        assert_eq!(rt; trace.sink.bytes(), *bytes);
+    }
+    Ok(())
+}
+
+#[test]
+fn rows_that_were_not_sent_stay_blank(rt: HostRuntime) -> Result<(), Fail> {
+    for (limit, filled) in &[(0, (false, false)), (1, (true, false)), (2, (true, true))] {
+        let trace = sent_within(rt.alloc(), 64, Some(*limit))?;
+        assert_eq!(rt; are_filled(&trace.screen), Some(*filled));
+    }
+    Ok(())
+}
+
+#[test]
+fn a_sink_without_room_is_a_fault(rt: HostRuntime) -> Result<(), Fail> {
+    let trace = sent_within(rt.alloc(), 10, None)?;
+    assert_eq!(rt; trace.sent, Err(WriteFault));
+    assert_eq!(rt; trace.sink.bytes(), b"\x1b[0m\x1b[2J\x1b[".as_slice());
+    Ok(())
+}
