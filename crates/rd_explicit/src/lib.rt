@@ -11,6 +11,3 @@ mod state;
 
 pub use levels::explicit;
 pub use runs::sequences;
-
-#[cfg(test)]
-mod tests;

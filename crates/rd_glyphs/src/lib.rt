@@ -13,6 +13,3 @@ pub use joining::{Joining, join};
 pub use looks::on_blank;
 pub use parts::{Parts, expand};
 pub use plain::plain_line;
-
-#[cfg(test)]
-mod tests;

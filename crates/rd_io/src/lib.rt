@@ -19,6 +19,3 @@ pub use memory_files::MemFiles;
 pub use memory_sink::MemSink;
 pub use memory_source::MemSource;
 pub use traits::{Failed, Files, Sink, Source, write_whole};
-
-#[cfg(test)]
-mod tests;

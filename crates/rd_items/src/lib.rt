@@ -18,6 +18,3 @@ pub use laws::{
     blocks_are_read_whole, items_cover_their_block, items_of_hidden_text, items_where_overlays_meet,
 };
 pub use piece::parts_of;
-
-#[cfg(test)]
-mod tests;

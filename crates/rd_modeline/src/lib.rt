@@ -13,6 +13,3 @@ pub use facts::Facts;
 pub use fault::FormatFault;
 pub use line::format;
 pub use reading::check;
-
-#[cfg(test)]
-mod tests;

@@ -6,6 +6,7 @@ use rd_base::Steps;
 use rd_io::{Failed, MemFiles, MemSink, MemSource, Source};
 use std::alloc::Global;
 use std::marker::Brand;
+use std::process::Abort;
 use std::sync::ledger::{Blank, Ledger};
 use std::test::Fail;
 
@@ -117,11 +118,23 @@ const REFUSED: [(&'static [u8], &'static [u8]); 12] = [
     ),
 ];
 
-/// The calls that are to fail, and what is then sent, reported and answered, for the first script.
-struct Fault {
+/// The numbers of the calls of each device that are to fail; 0 where none is.
+#[derive(Clone, Copy)]
+struct Calls {
     source: u64,
     screen: u64,
     report: u64,
+}
+
+const NONE: Calls = Calls {
+    source: 0,
+    screen: 0,
+    report: 0,
+};
+
+/// The calls that are to fail, and what is then sent, reported and answered, for the first script.
+struct Fault {
+    calls: Calls,
     sent: &'static [u8],
     told: &'static [u8],
     code: u8,
@@ -129,49 +142,61 @@ struct Fault {
 
 const FAULTS: [Fault; 6] = [
     Fault {
-        source: 1,
-        screen: 0,
-        report: 0,
+        calls: Calls {
+            source: 1,
+            screen: 0,
+            report: 0,
+        },
         sent: b"",
         told: b"read fault\n",
         code: 5,
     },
     Fault {
-        source: 2,
-        screen: 0,
-        report: 0,
+        calls: Calls {
+            source: 2,
+            screen: 0,
+            report: 0,
+        },
         sent: b"\x1b[0m\x1b[2J\x1b[1;1H",
         told: b"2: shown 0 rows\nread fault\n",
         code: 5,
     },
     Fault {
-        source: 0,
-        screen: 1,
-        report: 0,
+        calls: Calls {
+            source: 0,
+            screen: 1,
+            report: 0,
+        },
         sent: b"",
         told: b"write fault\n",
         code: 6,
     },
     Fault {
-        source: 0,
-        screen: 1,
-        report: 1,
+        calls: Calls {
+            source: 0,
+            screen: 1,
+            report: 1,
+        },
         sent: b"",
         told: b"",
         code: 6,
     },
     Fault {
-        source: 0,
-        screen: 0,
-        report: 2,
+        calls: Calls {
+            source: 0,
+            screen: 0,
+            report: 2,
+        },
         sent: b"\x1b[0m\x1b[2J\x1b[1;1H",
         told: b"2",
         code: 6,
     },
     Fault {
-        source: 0,
-        screen: 0,
-        report: 5,
+        calls: Calls {
+            source: 0,
+            screen: 0,
+            report: 5,
+        },
         sent: b"\x1b[0m\x1b[2J\x1b[1;1H",
         told: b"2: shown 0 rows\n",
         code: 6,
@@ -205,101 +230,114 @@ impl Source for OneByOne {
     }
 }
 
-/// Runs a script in memory, with the numbers of the calls that are to fail.
-fn played<L: Ledger>(
-    blank: Blank,
-    alloc: Global,
-    words: &[&str],
-    script: &[u8],
-    source: u64,
-    screen: u64,
-    report: u64,
-) -> Result<Trace, Fail>
-    requires name { blank.name ≡ L.name }
-    requires parts { blank.parts ≡ L.parts }
-    requires some { 0 < L.parts }
-{
-    let calls = Vec::from_slice(alloc, &[source])?;
-    let mut script = MemSource::new(Vec::from_slice(alloc, script)?).failing(calls);
-    played_from::<L, MemSource>(blank, alloc, words, &mut script, screen, report)
+/// A source in memory, of whose calls the one of a number fails.
+fn source(alloc: Global, script: &[u8], call: u64) -> Result<MemSource, Fail> {
+    let calls = Vec::from_slice(alloc, &[call])?;
+    Ok(MemSource::new(Vec::from_slice(alloc, script)?).failing(calls))
 }
 
-/// Runs the script that a source gives on a new ledger.
-fn played_from<L: Ledger, S: Source>(
-    blank: Blank,
-    alloc: Global,
-    words: &[&str],
-    script: &mut S,
-    screen: u64,
-    report: u64,
-) -> Result<Trace, Fail>
-    requires name { blank.name ≡ L.name }
-    requires parts { blank.parts ≡ L.parts }
-    requires some { 0 < L.parts }
-{
+/// A sink in memory, of whose calls the one of a number fails.
+fn sink(alloc: Global, call: u64) -> Result<MemSink, Fail> {
+    let calls = Vec::from_slice(alloc, &[call])?;
+    Ok(MemSink::with_room(alloc, 4096)?.failing(calls))
+}
+
+/// The words of a command line.
+fn words_of(alloc: Global, words: &[&str]) -> Result<Vec<String>, Fail> {
     let mut given = Vec::new(alloc);
     for word in words {
         given.push(String::from_str(alloc, word)?)?;
     }
+    Ok(given)
+}
+
+/// Runs a script in memory.
+fn played(alloc: Global, words: &[&str], script: &[u8], calls: Calls) -> Result<Trace, Fail> {
+    played_from(
+        alloc,
+        words,
+        &mut source(alloc, script, calls.source)?,
+        calls,
+    )
+}
+
+/// Runs the script that a source gives, on a new ledger.
+fn played_from<S: Source>(
+    alloc: Global,
+    words: &[&str],
+    script: &mut S,
+    calls: Calls,
+) -> Result<Trace, Fail> {
+    let words = words_of(alloc, words)?;
+    let screen = sink(alloc, calls.screen)?;
+    let report = sink(alloc, calls.report)?;
+    Ok(traced::<Brand, S>(Blank::new(1), alloc, words, script, screen, report))
+}
+
+/// Runs the script that a source gives over sinks.
+fn traced<L: Ledger, S: Source>(
+    blank: Blank,
+    alloc: Global,
+    words: Vec<String>,
+    script: &mut S,
+    screen: MemSink,
+    report: MemSink,
+) -> Trace
+    requires name { blank.name ≡ L.name }
+    requires parts { blank.parts ≡ L.parts }
+    requires some { 0 < L.parts }
+{
     let mut files = MemFiles::new(Vec::new(alloc));
-    let calls = Vec::from_slice(alloc, &[screen])?;
-    let mut screen = MemSink::with_room(alloc, 4096)?.failing(calls);
-    let calls = Vec::from_slice(alloc, &[report])?;
-    let mut report = MemSink::with_room(alloc, 4096)?.failing(calls);
+    let mut screen = screen;
+    let mut report = report;
+    let mut steps = Steps::<L>::new(blank);
     let status = play(
         alloc,
-        given,
+        words,
         script,
         &mut files,
         &mut screen,
         &mut report,
-        &mut Steps::<L>::new(blank),
+        &mut steps,
     );
-    Ok(Trace {
+    Trace {
         screen,
         report,
         code: status.code(),
-    })
+    }
+}
+
+/// Asserts what a run left.
+fn assert_trace(rt: &impl Abort, run: &Trace, screen: &[u8], report: &[u8], code: u8) {
+    assert_eq!(rt; run.report.bytes(), report);
+    assert_eq!(rt; run.screen.bytes(), screen);
+    assert_eq!(rt; run.code, code);
 }
 
 #[test]
 fn scripts_are_run(rt: HostRuntime) -> Result<(), Fail> {
     for case in &CASES {
-        let run = played::<Brand>(Blank::new(1), rt.alloc(), &[], case.script, 0, 0, 0)?;
-        assert_eq!(rt; run.report.bytes(), case.report);
-        assert_eq!(rt; run.screen.bytes(), case.screen);
-        assert_eq!(rt; run.code, case.code);
+        let run = played(rt.alloc(), &[], case.script, NONE)?;
+        assert_trace(&rt, &run, case.screen, case.report, case.code);
+    }
+    for (script, report) in &REFUSED {
+        let run = played(rt.alloc(), &[], script, NONE)?;
+        assert_trace(&rt, &run, b"", report, 4);
     }
     Ok(())
+}
+
+/// Runs a script that comes byte by byte.
+fn played_slowly(alloc: Global, script: &[u8]) -> Result<Trace, Fail> {
+    let source = source(alloc, script, 0)?;
+    played_from(alloc, &[], &mut OneByOne { source }, NONE)
 }
 
 #[test]
 fn a_script_may_come_byte_by_byte(rt: HostRuntime) -> Result<(), Fail> {
     for case in &CASES {
-        let source = MemSource::new(Vec::from_slice(rt.alloc(), case.script)?);
-        let mut script = OneByOne { source };
-        let run = played_from::<Brand, OneByOne>(
-            Blank::new(1),
-            rt.alloc(),
-            &[],
-            &mut script,
-            0,
-            0,
-        )?;
-        assert_eq!(rt; run.report.bytes(), case.report);
-        assert_eq!(rt; run.screen.bytes(), case.screen);
-        assert_eq!(rt; run.code, case.code);
-    }
-    Ok(())
-}
-
-#[test]
-fn bad_lines_end_a_run(rt: HostRuntime) -> Result<(), Fail> {
-    for (script, report) in &REFUSED {
-        let run = played::<Brand>(Blank::new(1), rt.alloc(), &[], script, 0, 0, 0)?;
-        assert_eq!(rt; run.report.bytes(), *report);
-        assert!(rt; run.screen.bytes().is_empty());
-        assert_eq!(rt; run.code, 4);
+        let run = played_slowly(rt.alloc(), case.script)?;
+        assert_trace(&rt, &run, case.screen, case.report, case.code);
     }
     Ok(())
 }
@@ -307,36 +345,28 @@ fn bad_lines_end_a_run(rt: HostRuntime) -> Result<(), Fail> {
 #[test]
 fn faults_end_a_run(rt: HostRuntime) -> Result<(), Fail> {
     for fault in &FAULTS {
-        let run = played::<Brand>(
-            Blank::new(1),
-            rt.alloc(),
-            &[],
-            CASES[0].script,
-            fault.source,
-            fault.screen,
-            fault.report,
-        )?;
-        assert_eq!(rt; run.report.bytes(), fault.told);
-        assert_eq!(rt; run.screen.bytes(), fault.sent);
-        assert_eq!(rt; run.code, fault.code);
+        let run = played(rt.alloc(), &[], CASES[0].script, fault.calls)?;
+        assert_trace(&rt, &run, fault.sent, fault.told, fault.code);
     }
     Ok(())
 }
 
+/// Words of a command line, and what the first script then reports and answers.
+const WORDS: [(&'static str, &'static [u8], u8); 2] = [
+    ("--help", b"usage: redisplay [--dump]\n", 2),
+    (
+        "--dump",
+        b"2: shown 0 rows\nwindow 0 at 0,0 size 12x1 start 1.0 point 1 cursor 0,0\nrow 0 |            |\nrow 1 |            |\ncursor 0,0\ndone 2 lines\n",
+        0,
+    ),
+];
+
 #[test]
 fn words_are_known(rt: HostRuntime) -> Result<(), Fail> {
-    let script = CASES[0].script;
-    let run = played::<Brand>(Blank::new(1), rt.alloc(), &["--help"], script, 0, 0, 0)?;
-    assert_eq!(rt;
-        run.report.bytes(),
-        b"usage: redisplay [--dump]\n".as_slice()
-    );
-    assert_eq!(rt; run.code, 2);
-    let run = played::<Brand>(Blank::new(1), rt.alloc(), &["--dump"], script, 0, 0, 0)?;
-    assert_eq!(rt;
-        run.report.bytes(),
-        b"2: shown 0 rows\nwindow 0 at 0,0 size 12x1 start 1.0 point 1 cursor 0,0\nrow 0 |            |\nrow 1 |            |\ncursor 0,0\ndone 2 lines\n".as_slice()
-    );
-    assert_eq!(rt; run.code, 0);
+    for (word, report, code) in &WORDS {
+        let run = played(rt.alloc(), &[*word], CASES[0].script, NONE)?;
+        assert_eq!(rt; run.report.bytes(), *report);
+        assert_eq!(rt; run.code, *code);
+    }
     Ok(())
 }

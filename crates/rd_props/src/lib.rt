@@ -23,6 +23,3 @@ pub use state::{BufferState, View};
 pub use stops::next_stop;
 pub use strings::strings_at;
 pub use values::effective;
-
-#[cfg(test)]
-mod tests;

@@ -8,6 +8,3 @@ mod weak_walk;
 pub use neutral_walk::neutral;
 pub use raise::implicit;
 pub use weak_walk::weak;
-
-#[cfg(test)]
-mod tests;

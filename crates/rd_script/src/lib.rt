@@ -3,6 +3,7 @@
 
 mod buffer_name;
 mod dump;
+mod examples;
 mod fault;
 mod field;
 mod item;
@@ -24,6 +25,3 @@ pub use object::{OpEntry, OpRun, OpSpec};
 pub use op::Op;
 pub use read::read_op;
 pub use setting::Setting;
-
-#[cfg(test)]
-mod tests;

@@ -19,6 +19,3 @@ pub use laws::{
 };
 pub use prefix::string_line;
 pub use walker::Walker;
-
-#[cfg(test)]
-mod tests;

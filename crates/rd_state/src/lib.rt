@@ -6,6 +6,7 @@ mod buffers;
 mod built;
 mod content;
 mod effect;
+mod examples;
 mod laws;
 mod moves;
 mod objects;
@@ -23,6 +24,3 @@ pub use rd_props::BufferState;
 pub use refused::Refused;
 pub use state::State;
 pub use window::WindowState;
-
-#[cfg(test)]
-mod tests;

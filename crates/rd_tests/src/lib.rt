@@ -7,13 +7,49 @@
 mod base;
 
 #[cfg(test)]
+mod claims;
+
+#[cfg(test)]
+mod explicit;
+
+#[cfg(test)]
+mod glyphs;
+
+#[cfg(test)]
+mod io;
+
+#[cfg(test)]
+mod items;
+
+#[cfg(test)]
 mod lanes;
+
+#[cfg(test)]
+mod modeline;
 
 #[cfg(test)]
 mod objects;
 
 #[cfg(test)]
 mod overlays;
+
+#[cfg(test)]
+mod props;
+
+#[cfg(test)]
+mod resolve;
+
+#[cfg(test)]
+mod scenery;
+
+#[cfg(test)]
+mod script;
+
+#[cfg(test)]
+mod stack;
+
+#[cfg(test)]
+mod state;
 
 #[cfg(test)]
 mod term;

@@ -2,7 +2,7 @@ use Rattle.std.proofs.Common.{refl}
 use Rattle.std.specs.Str.{chars, is_utf8}
 use Rattle.serde_json.proofs.OnLiterals.{serde_json_on_literals}
 use Rattle.rd_script.specs.Reading.{reading}
-use Rattle.rd_script.proofs.tests.worked_lines.Goals as goal
+use Rattle.rd_script.proofs.examples.worked_lines.Goals as goal
 
 pub returns-clause-missing : goal.returns-clause-missing
 unfolding serde_json_on_literals reading chars is_utf8

@@ -1,33 +1,10 @@
 //! Lines and what they say.
-ghost use Rattle.std.specs.Prelude.{◌≡◌, ◌∷◌, [], ◌++◌, codes, pos, Ok, Err, None, Some, true, false};
-ghost use Rattle.rd_script.specs.declared.fault.OpFault.TheVariants as faults;
-ghost use Rattle.rd_script.specs.declared.op.Op.TheVariants as ops;
-ghost use Rattle.rd_base.specs.Cells.{single};
-ghost use Rattle.rd_base.specs.Faces.{plain};
-ghost use Rattle.rd_base.specs.declared.cell.Cell.TheVariants.{Blank, First, Rest};
-ghost use Rattle.rd_objects.specs.declared.run.RunKind.TheVariants as kinds;
-ghost use Rattle.rd_script.specs.Dumps.{row_line, window_line};
-ghost use Rattle.rd_script.specs.Reading.{reading};
-
-use super::*;
+use crate::claims::assert_of;
 use rd_base::{Ch, ListOf, Wrap};
 use rd_objects::RunKind;
+use rd_script::{Op, OpFault, OpRun, OpSpec, Setting, read_op};
 use std::alloc::Global;
 use std::test::Fail;
-
-/// The definition, computed on lines.
-fn worked_lines()
-    ensures missing { reading (codes "{\"op\":\"point\",\"window\":0}") ≡ Err (faults.Missing (codes "pos")) }
-    ensures extra { reading (codes "{\"op\":\"widen\",\"buffer\":\"main\",\"x\":1}") ≡ Err (faults.Extra (codes "x")) }
-    ensures bad { reading (codes "{\"op\":\"point\",\"window\":0,\"pos\":1.0}") ≡ Err (faults.BadField (codes "pos")) }
-    ensures object { reading (codes "[]") ≡ Err faults.NotObject }
-    ensures json { reading (codes "{\"op\":\"redi") ≡ Err faults.NotJson }
-    ensures twice { reading (codes "{\"op\":\"x\",\"op\":\"type\",\"text\":\"ab\"}") ≡ Ok (ops.TypeText (97 ∷ 98 ∷ [])) }
-    ensures show { reading (codes "{\"op\":\"redisplay\",\"stop\":null}") ≡ Ok (ops.Redisplay None) }
-    ensures overlay { reading (codes "{\"op\":\"overlay\",\"buffer\":\"a\",\"from\":2,\"to\":3,\"rear\":true}") ≡ Ok (ops.Overlay (codes "a") 2 3 (pos 0) false true) }
-    ensures setting { reading (codes "{\"op\":\"setting\",\"buffer\":\"a\",\"name\":\"direction\",\"value\":\"left\"}") ≡ Err faults.NotBuilt }
-    ensures runs { reading (codes "{\"op\":\"string\",\"text\":\"ab\",\"runs\":[[0,1,\"face\",7]]}") ≡ Ok (ops.AddString (97 ∷ 98 ∷ []) (record { from = 0; to = 1; kind = kinds.Face; value = 7 } ∷ [])) }
-{}
 
 /// Whether a list has the characters of a text.
 fn is_spelled(list: &ListOf<Ch>, text: &str) -> bool {
@@ -90,9 +67,10 @@ fn each_field_is_asked_for(rt: HostRuntime) {
         (r#"{"op":"wrap","mode":"continue"}"#, "window"),
         (r#"{"op":"wrap","window":0}"#, "mode"),
     ] {
-        assert!(rt;
+        assert_of(
+            &rt,
+            line,
             faults(rt.alloc(), line.as_bytes(), "Missing", key),
-            "{line}"
         );
     }
 }
@@ -181,9 +159,10 @@ fn each_field_has_its_form(rt: HostRuntime) {
         ),
         (r#"{"op":"redisplay","stop":"0"}"#, "stop"),
     ] {
-        assert!(rt;
+        assert_of(
+            &rt,
+            line,
             faults(rt.alloc(), line.as_bytes(), "BadField", key),
-            "{line}"
         );
     }
 }
@@ -219,7 +198,7 @@ fn no_other_key_is_taken(rt: HostRuntime) {
         ),
         (r#"{"op":"redisplay","stop":0,"x":1}"#, "x"),
     ] {
-        assert!(rt; faults(rt.alloc(), line.as_bytes(), "Extra", key), "{line}");
+        assert_of(&rt, line, faults(rt.alloc(), line.as_bytes(), "Extra", key));
     }
 }
 
@@ -271,7 +250,7 @@ fn the_first_fault_is_told(rt: HostRuntime) {
         (r#"{"op":"put","buffer":1}"#, "NotBuilt", ""),
         (r#"{"op":"redisplay","stop":200,"x":1}"#, "Extra", "x"),
     ] {
-        assert!(rt; faults(rt.alloc(), line.as_bytes(), kind, key), "{line}");
+        assert_of(&rt, line, faults(rt.alloc(), line.as_bytes(), kind, key));
     }
 }
 
@@ -415,6 +394,14 @@ fn is_new_op(op: &Op, number: u32) -> bool {
     }
 }
 
+/// Whether a line is read as the op of a number.
+fn reads(alloc: Global, line: &str, number: u32) -> bool {
+    match read_op(alloc, line.as_bytes()) {
+        Ok(op) => is_op(&op, number),
+        Err(_fault) => false,
+    }
+}
+
 #[test]
 fn each_op_is_read(rt: HostRuntime) {
     for (line, number) in [
@@ -461,26 +448,6 @@ fn each_op_is_read(rt: HostRuntime) {
             19,
         ),
     ] {
-        match read_op(rt.alloc(), line.as_bytes()) {
-            Ok(op) => assert!(rt; is_op(&op, number), "{line}"),
-            Err(_fault) => assert!(rt; false, "{line}"),
-        }
+        assert_of(&rt, line, reads(rt.alloc(), line, number));
     }
 }
-
-/// The definition of a dump, computed on a row and a window.
-fn worked_dump()
-    ensures row { row_line 0
-        (First (single 97 1) plain ∷ First (single 98 1) (record plain { fg = 1; bold = true }) ∷ First (single 99 1) plain ∷ Blank plain ∷ [])
-        ≡ codes "row 0 |abc | 1-1:1;31\n" }
-    ensures wide { row_line 3
-        (Blank plain ∷ First (single 20013 2) (record plain { bg = 4; inverse = true }) ∷ Rest ∷ [])
-        ≡ codes "row 3 | " ++ (228 ∷ 184 ∷ 173 ∷ codes "| 1-2:7;44\n") }
-    ensures window { window_line (record {
-      window = 0;
-      rect = record { x = 0; y = 0; width = 14; height = 11 };
-      start = record { pos = 1; row = 0 };
-      point = 1;
-      cursor = Some (0, 0);
-    }) ≡ codes "window 0 at 0,0 size 14x11 start 1.0 point 1 cursor 0,0\n" }
-{}

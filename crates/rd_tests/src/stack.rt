@@ -1,13 +1,10 @@
 //! A line and a prefix with ample memory, of a buffer that is made by calls.
-ghost use Rattle.std.specs.Bool.{OnTrue};
-ghost use Rattle.rd_text.specs.Texts.{IsAccessible};
-
-use super::*;
+use crate::scenery::{Scenery, is_accessible};
 use rd_base::{Ch, Element, Elements, Glyph, Look, Pos};
 use rd_objects::{Objects, Run, RunKind, Spec};
 use rd_overlays::Kind;
 use rd_props::{BufferState, View};
-use rd_ucd::{Classes, Mirrors};
+use rd_stack::{Walker, string_line};
 use std::alloc::Global;
 use std::test::Fail;
 
@@ -43,11 +40,9 @@ fn buffer(alloc: Global) -> Result<BufferState, Fail> {
     Ok(state)
 }
 
-fn is_accessible(view: &View, pos: Pos) -> bool
-    ensures { OnTrue result (IsAccessible view.now.state.now.text pos) }
-{
-    let state = view.state;
-    state.text.begin() <= pos && pos <= state.text.end()
+/// The buffer and the objects.
+fn scenery(alloc: Global) -> Result<Scenery, Fail> {
+    Scenery::new(alloc, buffer(alloc)?, objects(alloc)?)
 }
 
 /// The look of a character of one column.
@@ -85,16 +80,18 @@ fn walks(alloc: Global, view: &View, start: Pos, wanted: &[Look]) -> bool {
     matches!(walker.next(alloc), Ok(None))
 }
 
+/// Whether a string that stands as a prefix has these looks.
+fn stands(alloc: Global, view: &View, string: u32, wanted: &[Look]) -> bool {
+    match string_line(alloc, view, string, 0) {
+        Ok(elements) => are_looks(elements.as_slice(), wanted),
+        Err(_) => false,
+    }
+}
+
 #[test]
 fn a_line_and_a_prefix(rt: HostRuntime) -> Result<(), Fail> {
     let alloc = rt.alloc();
-    let state = buffer(alloc)?;
-    let view = View {
-        state: &state,
-        objects: &objects(alloc)?,
-        classes: &Classes::read(alloc, b"")?,
-        mirrors: &Mirrors::read(alloc, b"")?,
-    };
+    let scenery = scenery(alloc)?;
     let line = [
         letter('x'),
         letter('P'),
@@ -105,8 +102,7 @@ fn a_line_and_a_prefix(rt: HostRuntime) -> Result<(), Fail> {
         letter('y'),
         Look::LineEnd,
     ];
-    assert!(rt; walks(alloc, &view, 1, &line));
-    let prefix = string_line(alloc, &view, 1, 0)?;
-    assert!(rt; are_looks(prefix.as_slice(), &[letter('P'), letter('Q')]));
+    assert!(rt; walks(alloc, &scenery.view(), 1, &line));
+    assert!(rt; stands(alloc, &scenery.view(), 1, &[letter('P'), letter('Q')]));
     Ok(())
 }

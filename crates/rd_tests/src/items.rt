@@ -1,36 +1,12 @@
 //! Items and blocks with ample memory, of buffers that are made by calls.
-ghost use Rattle.std.specs.Bool.{OnTrue};
-ghost use Rattle.rd_text.specs.Texts.{IsAccessible};
-
-use super::*;
+use crate::scenery::{Scenery, is_accessible};
 use rd_base::{Ch, Class, Glyph, Invisible, ListOf, Memory, Pos};
+use rd_items::{Item, ItemKind, Items, block_at};
 use rd_objects::Objects;
 use rd_overlays::Kind;
 use rd_props::{BufferState, View};
-use rd_ucd::{Classes, Mirrors};
 use std::alloc::Global;
 use std::test::Fail;
-
-/// A buffer and what a look at it needs.
-#[derive(Drop)]
-struct Scenery {
-    state: BufferState,
-    objects: Objects,
-    classes: Classes,
-    mirrors: Mirrors,
-}
-
-impl Scenery {
-    /// A look at the buffer.
-    fn view(&self) -> View<'_> {
-        View {
-            state: &self.state,
-            objects: &self.objects,
-            classes: &self.classes,
-            mirrors: &self.mirrors,
-        }
-    }
-}
 
 /// A buffer whose atom 7 hides with an ellipsis, and 8 without.
 fn empty_buffer(alloc: Global) -> Result<BufferState, Memory> {
@@ -65,19 +41,7 @@ fn set_up(
 ) -> Result<Scenery, Fail> {
     let mut state = empty_buffer(alloc)?;
     fill(&mut state, text, atom, string)?;
-    Ok(Scenery {
-        state,
-        objects: Objects::new(alloc)?,
-        classes: Classes::read(alloc, b"")?,
-        mirrors: Mirrors::read(alloc, b"")?,
-    })
-}
-
-fn is_accessible(view: &View, pos: Pos) -> bool
-    ensures { OnTrue result (IsAccessible view.now.state.now.text pos) }
-{
-    let state = view.state;
-    state.text.begin() <= pos && pos <= state.text.end()
+    Scenery::new(alloc, state, Objects::new(alloc)?)
 }
 
 /// Whether these are the items from a position on.
@@ -126,15 +90,20 @@ fn is_in(alloc: Global, view: &View, pos: Pos, wanted: (Pos, Pos)) -> bool {
     }
 }
 
+/// Whether each of these positions is in its block.
+fn are_in(alloc: Global, view: &View, wanted: &[(Pos, (Pos, Pos))]) -> bool {
+    for (pos, block) in wanted {
+        if !is_in(alloc, view, *pos, *block) {
+            return false;
+        }
+    }
+    true
+}
+
 /// Whether two lines, with an atom on the newline between them, have these blocks at these positions.
 fn cuts(alloc: Global, atom: Option<u32>, wanted: &[(Pos, (Pos, Pos))]) -> Result<bool, Fail> {
     let scenery = set_up(alloc, &lines(), atom, None)?;
-    for (pos, block) in wanted {
-        if !is_in(alloc, &scenery.view(), *pos, *block) {
-            return Ok(false);
-        }
-    }
-    Ok(true)
+    Ok(are_in(alloc, &scenery.view(), wanted))
 }
 
 /// An item that covers the positions from one to another.

@@ -1,18 +1,10 @@
 //! States on plain cases.
-ghost use Rattle.std.specs.Prelude.{◌≡◌, ◌∷◌, [], None, Some};
-ghost use Rattle.rd_state.specs.Edits.{spread, cut};
-
-use super::*;
+use crate::claims::{assert_at, assert_of};
 use rd_base::{Anchor, Wrap};
 use rd_script::{Op, read_op};
-use std::alloc::Global;
+use rd_state::{Effect, Refused, State, WindowState};
+use std::alloc::{AllocError, Global};
 use std::test::Fail;
-
-/// How the values of a text property move, computed on three characters.
-fn worked_values()
-    ensures spread { spread 1 2 (Some 7 ∷ Some 8 ∷ None ∷ []) ≡ Some 7 ∷ None ∷ None ∷ Some 8 ∷ None ∷ [] }
-    ensures cut { cut 0 2 (Some 7 ∷ Some 8 ∷ Some 9 ∷ []) ≡ Some 9 ∷ [] }
-{}
 
 /// What a state answers to a line of a script; None where the line is no op, or a redisplay.
 fn answer(state: &mut State, alloc: Global, line: &[u8]) -> Option<Result<Effect, Refused>> {
@@ -40,6 +32,14 @@ fn edit(from: u32, removed: u32, added: u32) -> Effect {
         from,
         removed,
         added,
+    }
+}
+
+/// Whether a window shows a buffer, with its point there.
+fn shows(state: &State, window: u32, buffer: u32, point: u32) -> bool {
+    match state.window(window) {
+        Some(window) => window.buffer == buffer && window.point == point,
+        None => false,
     }
 }
 
@@ -105,9 +105,9 @@ fn ops_are_applied(rt: HostRuntime) -> Result<(), Fail> {
             Effect::Nothing,
         ),
     ] {
-        assert!(rt; accepts(&mut state, rt.alloc(), line, effect), "{line}");
+        assert_of(&rt, line, accepts(&mut state, rt.alloc(), line, effect));
     }
-    assert_eq!(rt; state.frame(), (12, 3));
+    assert!(rt; state.frame() == (12, 3));
     let window = WindowState {
         buffer: 0,
         point: 2,
@@ -119,8 +119,21 @@ fn ops_are_applied(rt: HostRuntime) -> Result<(), Fail> {
     assert!(rt; state.window(0) == Some(&window));
     let show = r#"{"op":"show","window":0,"buffer":"é"}"#;
     assert!(rt; accepts(&mut state, rt.alloc(), show, Effect::Window(0)));
-    assert_eq!(rt; state.window(0).map(|w| (w.buffer, w.point)), Some((1, 1)));
+    assert!(rt; shows(&state, 0, 1, 1));
     Ok(())
+}
+
+/// Whether the buffer of a number has this name.
+fn is_named(state: &State, number: u32, name: &str) -> bool {
+    state.name(number) == Some(name) && state.number_of(name) == Some(number)
+}
+
+/// Whether the buffer of a number is there, and holds so many characters.
+fn has_length(state: &State, number: u32, length: u32) -> bool {
+    match state.buffer(number) {
+        Some(buffer) => buffer.text.length() == length,
+        None => false,
+    }
 }
 
 #[test]
@@ -128,12 +141,9 @@ fn buffers_are_told_by_name(rt: HostRuntime) -> Result<(), Fail> {
     let mut state = State::new(rt.alloc())?;
     let line = r#"{"op":"buffer","name":"é"}"#;
     assert!(rt; accepts(&mut state, rt.alloc(), line, Effect::Nothing));
-    assert_eq!(rt; state.name(0), Some("main"));
-    assert_eq!(rt; state.name(1), Some("é"));
-    assert_eq!(rt; state.name(2), None);
-    assert_eq!(rt; state.number_of("é"), Some(1));
-    assert_eq!(rt; state.number_of("e"), None);
-    assert_eq!(rt; state.buffer(1).map(|b| b.text.length()), Some(0));
+    assert!(rt; is_named(&state, 0, "main") && is_named(&state, 1, "é"));
+    assert!(rt; state.name(2).is_none() && state.number_of("e").is_none());
+    assert!(rt; has_length(&state, 1, 0));
     Ok(())
 }
 
@@ -232,7 +242,7 @@ fn ops_are_refused(rt: HostRuntime) -> Result<(), Fail> {
             Refused::NoWindow,
         ),
     ] {
-        assert!(rt; refuses(&mut state, rt.alloc(), line, refused), "{line}");
+        assert_of(&rt, line, refuses(&mut state, rt.alloc(), line, refused));
     }
     Ok(())
 }
@@ -265,16 +275,17 @@ fn overlays_move_with_the_text(rt: HostRuntime) -> Result<(), Fail> {
         (rear, at_end, (2, 4)),
         (empty, at_start, (2, 2)),
     ] {
-        assert!(rt;
+        assert_of(
+            &rt,
+            overlay,
             range_after(rt.alloc(), overlay, insert)? == Some(range),
-            "{overlay}"
         );
     }
     Ok(())
 }
 
 /// A line with so many characters `a` between its two parts.
-fn filled(alloc: Global, front: &str, count: usize, back: &str) -> Result<String, Fail> {
+fn filled(alloc: Global, front: &str, count: usize, back: &str) -> Result<String, AllocError> {
     let mut line = String::from_str(alloc, front)?;
     for _i in 0..count {
         line.push('a')?;
@@ -283,12 +294,19 @@ fn filled(alloc: Global, front: &str, count: usize, back: &str) -> Result<String
     Ok(line)
 }
 
+/// Whether a state accepts a buffer whose name is so many characters `a`.
+fn makes_buffer(state: &mut State, alloc: Global, count: usize) -> bool {
+    match filled(alloc, r#"{"op":"buffer","name":""#, count, r#""}"#) {
+        Ok(line) => accepts(state, alloc, line.as_str(), Effect::Nothing),
+        Err(_) => false,
+    }
+}
+
 #[test]
 fn there_are_64_buffers(rt: HostRuntime) -> Result<(), Fail> {
     let mut state = State::new(rt.alloc())?;
     for count in 1..64 {
-        let line = filled(rt.alloc(), r#"{"op":"buffer","name":""#, count, r#""}"#)?;
-        assert!(rt; accepts(&mut state, rt.alloc(), line.as_str(), Effect::Nothing));
+        assert!(rt; makes_buffer(&mut state, rt.alloc(), count));
     }
     let taken = r#"{"op":"buffer","name":"aa"}"#;
     assert!(rt; refuses(&mut state, rt.alloc(), taken, Refused::NameTaken));
@@ -297,23 +315,26 @@ fn there_are_64_buffers(rt: HostRuntime) -> Result<(), Fail> {
     Ok(())
 }
 
+/// Whether a state types so many characters `a` at a position.
+fn types(state: &mut State, alloc: Global, pos: u32, count: u32) -> bool {
+    match filled(alloc, r#"{"op":"type","text":""#, count as usize, r#""}"#) {
+        Ok(line) => accepts(state, alloc, line.as_str(), edit(pos, 0, count)),
+        Err(_) => false,
+    }
+}
+
 #[test]
 fn texts_have_4_194_304_characters(rt: HostRuntime) -> Result<(), Fail> {
     let mut state = State::new(rt.alloc())?;
-    let line = filled(rt.alloc(), r#"{"op":"type","text":""#, 1_048_000, r#""}"#)?;
-    for i in 0..4 {
-        let effect = edit(1 + i * 1_048_000, 0, 1_048_000);
-        assert!(rt; accepts(&mut state, rt.alloc(), line.as_str(), effect));
+    for (pos, count) in [
+        (1, 1_048_000),
+        (1_048_001, 1_048_000),
+        (2_096_001, 1_048_000),
+        (3_144_001, 1_048_000),
+        (4_192_001, 2_304),
+    ] {
+        assert_at(&rt, pos, types(&mut state, rt.alloc(), pos, count));
     }
-    let rest = filled(rt.alloc(), r#"{"op":"type","text":""#, 2_304, r#""}"#)?;
-    assert!(rt;
-        accepts(
-            &mut state,
-            rt.alloc(),
-            rest.as_str(),
-            edit(4_192_001, 0, 2_304)
-        )
-    );
     for (line, refused) in [
         (r#"{"op":"type","text":"a"}"#, Refused::TextTooLarge),
         (
@@ -325,7 +346,7 @@ fn texts_have_4_194_304_characters(rt: HostRuntime) -> Result<(), Fail> {
             Refused::OutOfRange,
         ),
     ] {
-        assert!(rt; refuses(&mut state, rt.alloc(), line, refused), "{line}");
+        assert_of(&rt, line, refuses(&mut state, rt.alloc(), line, refused));
     }
     Ok(())
 }

@@ -1,7 +1,7 @@
 use Rattle.std.proofs.Common.{refl}
 use Rattle.std.specs.Fmt.{digits}
 use Rattle.std.specs.Char.{encode_utf8}
-use Rattle.rd_script.proofs.tests.worked_dump.Goals as goal
+use Rattle.rd_script.proofs.examples.worked_dump.Goals as goal
 
 pub returns-clause-row : goal.returns-clause-row
 unfolding digits encode_utf8

@@ -1,6 +1,6 @@
 //! Mode lines with ample memory.
-use super::*;
 use rd_base::{Cell, Ch, Face, Glyph, ListOf, Memory};
+use rd_modeline::{Facts, format};
 use rd_ucd::Classes;
 use std::alloc::Global;
 use std::test::Fail;

@@ -2,8 +2,8 @@
 ghost use Rattle.std.specs.Prelude.{IfOk, IsTrue};
 ghost use Rattle.rd_objects.specs.Tables.{is_slot_glyph};
 
-use super::*;
 use rd_base::{Cell, Ch, Element, Extent, Face, Glyph, Look, Origin, Settings};
+use rd_glyphs::{Parts, expand, plain_line};
 use rd_objects::{Slot, Table, glyph_character};
 use rd_ucd::{Classes, Mirrors};
 use std::alloc::Global;
@@ -79,12 +79,59 @@ fn raw(byte: u8) -> Ch {
     }
 }
 
-/// Whether a character has these elements.
-fn gives(alloc: Global, parts: &Parts, ch: Ch, odd: bool, wanted: &[Element]) -> bool {
-    match expand(alloc, parts, ch, odd, RED, ORIGIN) {
-        Ok(elements) => elements.as_slice() == wanted,
+/// Whether a character has this one element.
+fn gives(alloc: Global, parts: &Parts, ch: Ch, wanted: Element) -> bool {
+    match expand(alloc, parts, ch, false, RED, ORIGIN) {
+        Ok(elements) => elements.as_slice() == [wanted].as_slice(),
         Err(_) => false,
     }
+}
+
+/// Whether elements are those of the characters of a text, each of one column.
+fn are_letters(elements: &[Element], text: &str) -> bool {
+    let mut i = 0;
+    for c in text.chars() {
+        if i >= elements.len() || elements[i] != narrow(c) {
+            return false;
+        }
+        i += 1;
+    }
+    i == elements.len()
+}
+
+/// Whether a character is shown as a text whose characters have one column each.
+fn spells(alloc: Global, parts: &Parts, ch: Ch, odd: bool, text: &str) -> bool {
+    match expand(alloc, parts, ch, odd, RED, ORIGIN) {
+        Ok(elements) => are_letters(elements.as_slice(), text),
+        Err(_) => false,
+    }
+}
+
+/// Settings, and data of a few characters.
+#[derive(Drop)]
+struct Data {
+    settings: Settings,
+    classes: Classes,
+    mirrors: Mirrors,
+}
+
+impl Data {
+    /// What elements are made from.
+    fn parts<'a>(&'a self, table: Option<&'a Table>) -> Parts<'a> {
+        Parts {
+            table,
+            settings: &self.settings,
+            classes: &self.classes,
+            mirrors: &self.mirrors,
+        }
+    }
+}
+
+/// The settings that a buffer has from the start, with or without arrows for controls.
+fn settings(ctl_arrow: bool) -> Settings {
+    let mut settings = Settings::new();
+    settings.ctl_arrow = ctl_arrow;
+    settings
 }
 
 /// Classes with one character that no column shows and one embedding.
@@ -100,123 +147,109 @@ fn mirrors(alloc: Global) -> Result<Mirrors, Fail> {
     Ok(Mirrors::read(alloc, b"0028; 0029\n003C; FF1E\n005B; D800")?)
 }
 
+/// Those data, with or without arrows for controls.
+fn worked_data(alloc: Global, ctl_arrow: bool) -> Result<Data, Fail> {
+    let classes = classes(alloc)?;
+    let mirrors = mirrors(alloc)?;
+    Ok(Data {
+        settings: settings(ctl_arrow),
+        classes,
+        mirrors,
+    })
+}
+
 #[test]
 fn characters_by_the_rules(rt: HostRuntime) -> Result<(), Fail> {
-    let parts = Parts {
-        table: None,
-        settings: &Settings::new(),
-        classes: &classes(rt.alloc())?,
-        mirrors: &mirrors(rt.alloc())?,
-    };
-    let on_blank = element(Extent::Fixed(1), Look::Glyph(marked(0x301)));
-    let rows: [(Ch, &[Element]); 12] = [
-        (Ch::scalar('\t'), &[element(Extent::Tab(8), Look::Blank)]),
-        (Ch::scalar('\u{0}'), &[narrow('^'), narrow('@')]),
-        (Ch::scalar('\u{7F}'), &[narrow('^'), narrow('?')]),
+    let alloc = rt.alloc();
+    let data = worked_data(alloc, true)?;
+    let parts = data.parts(None);
+    for (ch, text) in [
+        (Ch::scalar('\u{0}'), "^@"),
+        (Ch::scalar('\u{7F}'), "^?"),
+        (raw(200), "\\310"),
+        (Ch::scalar('\u{9F}'), "\\237"),
+        (Ch::scalar('('), "("),
+    ] {
+        assert!(rt; spells(alloc, &parts, ch, false, text));
+    }
+    for (c, wanted) in [
+        ('\t', element(Extent::Tab(8), Look::Blank)),
+        ('\u{AD}', blank()),
+        ('\u{202B}', blank()),
+        ('\u{61C}', blank()),
+        ('\u{200E}', blank()),
         (
-            raw(200),
-            &[narrow('\\'), narrow('3'), narrow('1'), narrow('0')],
+            '\u{301}',
+            element(Extent::Fixed(1), Look::Glyph(marked(0x301))),
         ),
-        (
-            Ch::scalar('\u{9F}'),
-            &[narrow('\\'), narrow('2'), narrow('3'), narrow('7')],
-        ),
-        (Ch::scalar('\u{AD}'), &[blank()]),
-        (Ch::scalar('\u{202B}'), &[blank()]),
-        (Ch::scalar('\u{61C}'), &[blank()]),
-        (Ch::scalar('\u{200E}'), &[blank()]),
-        (Ch::scalar('\u{301}'), &[on_blank]),
-        (Ch::scalar('\u{4E2D}'), &[shown(0x4E2D, 2)]),
-        (Ch::scalar('('), &[narrow('(')]),
-    ];
-    for (ch, wanted) in rows {
-        assert!(rt; gives(rt.alloc(), &parts, ch, false, wanted));
+        ('\u{4E2D}', shown(0x4E2D, 2)),
+    ] {
+        assert!(rt; gives(alloc, &parts, Ch::scalar(c), wanted));
     }
     Ok(())
 }
 
 #[test]
 fn mirrors_at_an_odd_level(rt: HostRuntime) -> Result<(), Fail> {
-    let parts = Parts {
-        table: None,
-        settings: &Settings::new(),
-        classes: &classes(rt.alloc())?,
-        mirrors: &mirrors(rt.alloc())?,
-    };
-    for (ch, other) in [('(', ')'), ('<', '<'), ('[', '['), ('a', 'a')] {
-        assert!(rt; gives(rt.alloc(), &parts, Ch::scalar(ch), true, &[narrow(other)]));
+    let data = worked_data(rt.alloc(), true)?;
+    let parts = data.parts(None);
+    for (c, text) in [('(', ")"), ('<', "<"), ('[', "["), ('a', "a")] {
+        assert!(rt; spells(rt.alloc(), &parts, Ch::scalar(c), true, text));
     }
     Ok(())
+}
+
+/// A table with a mark for escapes.
+fn marked_table(alloc: Global) -> Result<Table, Fail> {
+    let escape = letter('!')?;
+    let mut table = Table::new(alloc)?;
+    table.put_slot(Slot::Escape, Some(escape));
+    Ok(table)
 }
 
 #[test]
 fn controls_without_arrows(rt: HostRuntime) -> Result<(), Fail> {
-    let mut settings = Settings::new();
-    settings.ctl_arrow = false;
-    let mut table = Table::new(rt.alloc())?;
-    table.put_slot(Slot::Escape, Some(letter('!')?));
-    let parts = Parts {
-        table: Some(&table),
-        settings: &settings,
-        classes: &classes(rt.alloc())?,
-        mirrors: &mirrors(rt.alloc())?,
-    };
-    for (ch, digits) in [
-        (Ch::scalar('\u{7F}'), ['1', '7', '7']),
-        (Ch::scalar('\n'), ['0', '1', '2']),
-        (raw(128), ['2', '0', '0']),
+    let table = marked_table(rt.alloc())?;
+    let data = worked_data(rt.alloc(), false)?;
+    let parts = data.parts(Some(&table));
+    for (ch, text) in [
+        (Ch::scalar('\u{7F}'), "!177"),
+        (Ch::scalar('\n'), "!012"),
+        (raw(128), "!200"),
     ] {
-        let [first, second, third] = digits;
-        let wanted = [narrow('!'), narrow(first), narrow(second), narrow(third)];
-        assert!(rt; gives(rt.alloc(), &parts, ch, false, &wanted));
+        assert!(rt; spells(rt.alloc(), &parts, ch, false, text));
     }
     Ok(())
 }
 
-#[test]
-fn entries_come_first(rt: HostRuntime) -> Result<(), Fail> {
-    let mut table = Table::new(rt.alloc())?;
+/// A table with entries for 0, 9 and `a`, the longest one for an opening parenthesis, and a mark for controls.
+fn entered_table(alloc: Global) -> Result<Table, Fail> {
+    let control = letter('!')?;
     let text = [letter('b')?, letter('c')?];
+    let longest = [letter(' ')?; 16];
+    let mut table = Table::new(alloc)?;
+    table.put_slot(Slot::Control, Some(control));
     for code in [0, 9, 97] {
         table.put_entry(code, &text)?;
     }
-    table.put_entry(40, &[letter(' ')?; 16])?;
-    table.put_slot(Slot::Control, Some(letter('!')?));
-    let parts = Parts {
-        table: Some(&table),
-        settings: &Settings::new(),
-        classes: &classes(rt.alloc())?,
-        mirrors: &mirrors(rt.alloc())?,
-    };
-    for ch in ['\u{0}', '\t', 'a'] {
-        assert!(rt;
-            gives(
-                rt.alloc(),
-                &parts,
-                Ch::scalar(ch),
-                true,
-                &[narrow('b'), narrow('c')]
-            )
-        );
+    table.put_entry(40, &longest)?;
+    Ok(table)
+}
+
+#[test]
+fn entries_come_first(rt: HostRuntime) -> Result<(), Fail> {
+    let table = entered_table(rt.alloc())?;
+    let data = worked_data(rt.alloc(), true)?;
+    let parts = data.parts(Some(&table));
+    for (c, odd, text) in [
+        ('\u{0}', true, "bc"),
+        ('\t', true, "bc"),
+        ('a', true, "bc"),
+        ('(', true, "                "),
+        ('\u{1}', false, "!A"),
+    ] {
+        assert!(rt; spells(rt.alloc(), &parts, Ch::scalar(c), odd, text));
     }
-    assert!(rt;
-        gives(
-            rt.alloc(),
-            &parts,
-            Ch::scalar('('),
-            true,
-            &[narrow(' '); 16]
-        )
-    );
-    assert!(rt;
-        gives(
-            rt.alloc(),
-            &parts,
-            Ch::scalar('\u{1}'),
-            false,
-            &[narrow('!'), narrow('A')]
-        )
-    );
     Ok(())
 }
 

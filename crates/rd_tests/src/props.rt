@@ -1,0 +1,176 @@
+//! Look-ups with ample memory, on buffers that are made by calls.
+ghost use Rattle.std.specs.Prelude.{◌≤◌};
+
+use crate::claims::assert_at;
+use crate::scenery::{Scenery, is_accessible};
+use rd_base::{Ch, Face, Invisible, ListOf, Memory, Pos};
+use rd_objects::Objects;
+use rd_overlays::{Kind, OverlayFault};
+use rd_props::{BufferState, Hidden, View, effective, face_at, hidden, next_stop, strings_at};
+use std::alloc::Global;
+use std::test::Fail;
+
+const RED: Face = Face {
+    fg: 1,
+    ..Face::PLAIN
+};
+
+const ON_GREEN: Face = Face {
+    bg: 2,
+    ..Face::PLAIN
+};
+
+const RED_ON_GREEN: Face = Face { fg: 1, ..ON_GREEN };
+
+/// A buffer of three characters with properties and overlays of several kinds, and two faces.
+fn three_characters(alloc: Global) -> Result<Scenery, Fail> {
+    Scenery::new(alloc, buffer(alloc)?, faces(alloc)?)
+}
+
+fn faces(alloc: Global) -> Result<Objects, Fail> {
+    let mut objects = Objects::new(alloc)?;
+    objects.add_face(RED)?;
+    objects.add_face(ON_GREEN)?;
+    Ok(objects)
+}
+
+fn buffer(alloc: Global) -> Result<BufferState, Fail> {
+    let mut state = BufferState::new(alloc)?;
+    fill(&mut state)?;
+    Ok(state)
+}
+
+fn fill(state: &mut BufferState) -> Result<(), Fail> {
+    let text = [Ch::scalar('a'), Ch::scalar('b'), Ch::scalar('c')];
+    state.text.insert(1, &text)?;
+    put_properties(state)?;
+    make_overlays(state)?;
+    Ok(())
+}
+
+fn put_properties(state: &mut BufferState) -> Result<(), Memory> {
+    put(state, Kind::Face, 1, 4, 0)?;
+    put(state, Kind::Invisible, 1, 3, 7)?;
+    put(state, Kind::Display, 2, 3, 9)?;
+    put(state, Kind::LinePrefix, 1, 4, 20)
+}
+
+fn make_overlays(state: &mut BufferState) -> Result<(), OverlayFault> {
+    overlay(state, 2, 3, 0, Kind::Face, 1)?;
+    overlay(state, 2, 4, 1, Kind::LinePrefix, 21)?;
+    overlay(state, 1, 4, 1, Kind::LinePrefix, 22)?;
+    overlay(state, 2, 3, 0, Kind::LinePrefix, 23)?;
+    overlay(state, 1, 2, 1, Kind::After, 10)?;
+    overlay(state, 1, 2, 2, Kind::After, 11)?;
+    overlay(state, 2, 3, 1, Kind::Before, 12)?;
+    overlay(state, 2, 3, 2, Kind::Before, 13)?;
+    let empty = overlay(state, 2, 2, 0, Kind::Before, 14)?;
+    state.overlays.set(empty, Kind::After, Some(15))
+}
+
+/// Gives a text property a value.
+fn put(state: &mut BufferState, kind: Kind, from: Pos, to: Pos, value: u32) -> Result<(), Memory>
+    requires { from ≤ to }
+{
+    let kind = kind as usize;
+    if kind < 5 {
+        state.spans[kind].put(from, to, Some(value))?;
+    }
+    Ok(())
+}
+
+/// Makes an overlay with one value.
+fn overlay(
+    state: &mut BufferState,
+    from: Pos,
+    to: Pos,
+    priority: i32,
+    kind: Kind,
+    value: u32,
+) -> Result<u32, OverlayFault> {
+    let number = state.overlays.make(from, to, priority, false, false)?;
+    state.overlays.set(number, kind, Some(value))?;
+    Ok(number)
+}
+
+/// Whether the face at a position is this one.
+fn has_face(alloc: Global, view: &View, pos: Pos, face: Face) -> bool {
+    is_accessible(view, pos) && face_at(alloc, view, pos) == Ok(face)
+}
+
+/// Whether a position is hidden so.
+fn is_hidden(alloc: Global, view: &View, pos: Pos, how: Hidden) -> bool {
+    is_accessible(view, pos) && hidden(alloc, view, pos) == Ok(how)
+}
+
+/// Whether the line prefix at a position is this one.
+fn has_prefix(alloc: Global, view: &View, pos: Pos, value: Option<u32>) -> bool {
+    is_accessible(view, pos) && effective(alloc, view, pos, Kind::LinePrefix) == Ok(value)
+}
+
+/// Whether overlays have these strings at a position, in this order.
+fn has_strings(alloc: Global, view: &View, pos: Pos, strings: &[u32]) -> bool {
+    if !is_accessible(view, pos) {
+        return false;
+    }
+    match strings_at(alloc, view, pos) {
+        Ok(found) => found.as_slice() == strings,
+        Err(_) => false,
+    }
+}
+
+/// Whether the next stop behind a position is this one.
+fn stops_at(view: &View, pos: Pos, stop: Pos) -> bool {
+    let state = view.state;
+    state.text.begin() <= pos && pos < state.text.end() && next_stop(view, pos) == stop
+}
+
+#[test]
+fn what_holds_at_positions(rt: HostRuntime) -> Result<(), Fail> {
+    let example = three_characters(rt.alloc())?;
+    let view = example.view();
+    for (pos, face) in [(1, RED), (2, RED_ON_GREEN), (3, RED), (4, Face::PLAIN)] {
+        assert_at(&rt, pos, has_face(rt.alloc(), &view, pos, face));
+    }
+    for (pos, how) in [(1, Hidden::Plain), (2, Hidden::No), (3, Hidden::No)] {
+        assert_at(&rt, pos, is_hidden(rt.alloc(), &view, pos, how));
+    }
+    assert!(rt; has_strings(rt.alloc(), &view, 2, &[11, 10, 14, 15, 12, 13]));
+    Ok(())
+}
+
+/// The buffer of three characters, with a setting that names the atom 7 with an ellipsis and then without.
+fn listed(alloc: Global) -> Result<Scenery, Fail> {
+    let mut example = three_characters(alloc)?;
+    let pairs = ListOf::from_slice(alloc, &[(8, false), (7, true), (7, false)])?;
+    example.state.settings.invisible = Invisible::Listed(pairs);
+    Ok(example)
+}
+
+#[test]
+fn atoms_hide_by_the_setting(rt: HostRuntime) -> Result<(), Fail> {
+    let example = listed(rt.alloc())?;
+    let view = example.view();
+    for (pos, how) in [(1, Hidden::Ellipsis), (2, Hidden::No), (3, Hidden::No)] {
+        assert_at(&rt, pos, is_hidden(rt.alloc(), &view, pos, how));
+    }
+    Ok(())
+}
+
+/// The buffer of three characters, of which the last is not accessible.
+fn narrowed(alloc: Global) -> Result<Scenery, Fail> {
+    let mut example = three_characters(alloc)?;
+    example.state.text.narrow(1, 3)?;
+    Ok(example)
+}
+
+#[test]
+fn what_holds_in_a_narrowed_text(rt: HostRuntime) -> Result<(), Fail> {
+    let example = narrowed(rt.alloc())?;
+    let view = example.view();
+    for (pos, value) in [(1, Some(22)), (2, Some(22)), (3, None)] {
+        assert_at(&rt, pos, has_prefix(rt.alloc(), &view, pos, value));
+    }
+    assert!(rt; stops_at(&view, 1, 2) && stops_at(&view, 2, 3));
+    Ok(())
+}

@@ -1,0 +1,47 @@
+//! Lines that were worked out by hand, each one isolating run sequence.
+ghost use Rattle.std.specs.Prelude.{◌<◌, ◌≤◌, All, AllPairs, IfOk};
+
+use rd_base::{Class, Line, ListOf, Memory, Seq};
+use rd_resolve::{implicit, neutral, weak};
+use std::alloc::Global;
+use std::test::Fail;
+
+/// The sequence of four characters, with one type at both ends.
+fn whole(alloc: Global, side: Class) -> Result<Seq, Memory>
+    ensures within { IfOk result (λ seq. All (λ i. i < 4) seq.indexes) }
+    ensures ascend { IfOk result (λ seq. AllPairs (λ i j. i < j) seq.indexes) }
+{
+    Ok(Seq {
+        indexes: ListOf::from_slice(alloc, &[0, 1, 2, 3])?,
+        sos: side,
+        eos: side,
+    })
+}
+
+/// Whether four classes at a base level, with one type at both ends, have these levels.
+fn has_levels(
+    alloc: Global,
+    classes: &[Class; 4],
+    base: u8,
+    side: Class,
+    levels: &[u8],
+) -> Result<bool, Memory>
+    requires { base ≤ 1 }
+{
+    let seq = whole(alloc, side)?;
+    let mut line = Line::new(alloc);
+    line.refill(classes, base)?;
+    weak(&mut line, &seq);
+    neutral(&mut line, &seq);
+    implicit(&mut line);
+    Ok(line.levels.as_slice() == levels)
+}
+
+#[test]
+fn lines_by_hand(rt: HostRuntime) -> Result<(), Fail> {
+    let numbers = [Class::EN, Class::ET, Class::ES, Class::EN];
+    assert!(rt; has_levels(rt.alloc(), &numbers, 1, Class::R, &[2, 2, 1, 2])?);
+    let blanks = [Class::R, Class::WS, Class::R, Class::WS];
+    assert!(rt; has_levels(rt.alloc(), &blanks, 0, Class::L, &[1, 1, 1, 0])?);
+    Ok(())
+}
