@@ -1,12 +1,11 @@
 -- Where each pair closes, by the place where it opens.
-use Rattle.std.proofs.Common.{◌≡◌, ◌≢◌, ℕ, zero, suc, ◌+◌, ◌<◌, ◌≤◌, ◌==◌, Bool, true, false, List, [], ◌∷◌, length, get_or, drop, set, Option, None, Some, refl, sym, ap, ap₂, ◌∙◌, arith}
+use Rattle.std.proofs.Common.{◌≡◌, ℕ, zero, suc, ◌+◌, ◌<◌, ◌==◌, false, List, [], ◌∷◌, set, Option, None, Some, refl, sym, ap, ap₂, ◌∙◌, arith}
 use Rattle.std.specs.Prelude.{if◌then◌else◌, map, replicate, unwrap_or}
 use Rattle.std.specs.List.{range_with_len}
 use Rattle.std.proofs.lemmas.Bool.Decides.{Decides-eqb, nat_tests}
-use Rattle.std.proofs.lemmas.List.{drop_more}
 use Rattle.rd_base.specs.declared.class.Class.{Class}
 use Rattle.rd_base.specs.declared.class.Class.TheVariants.{NSM, ON}
-use Rattle.rd_brackets.specs.Pairs.{closing_of, closings}
+use Rattle.rd_brackets.specs.Pairs.{closing_of}
 use Rattle.rd_brackets.specs.Sides.{with_pairs, became, followed, side_taken, with_marks}
 use Rattle.rd_brackets.specs.declared.matching.Pair.{Pair}
 

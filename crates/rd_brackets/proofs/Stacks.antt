@@ -1,9 +1,9 @@
 -- The stack of the brackets that stand open, from its top.
-use Rattle.std.proofs.Common.{◌≡◌, ◌≢◌, ℕ, ◌+◌, ◌<◌, ◌≤◌, ◌==◌, Bool, true, false, List, [], ◌∷◌, ◌++◌, length, take, get_or, reverse, Option, None, Some, All, refl, sym, ap, ◌∙◌, arith}
+use Rattle.std.proofs.Common.{◌≡◌, ◌≢◌, ℕ, ◌+◌, ◌<◌, ◌==◌, false, List, [], ◌∷◌, length, take, get_or, reverse, Some, sym, ap, ◌∙◌, arith}
 use Rattle.std.specs.Prelude.{if◌then◌else◌}
 use Rattle.std.proofs.lemmas.Bool.Decides.{Decides-eqb, nat_tests}
 use Rattle.std.proofs.lemmas.List.{take_more, reverse-append, get_or_default}
-use Rattle.rd_brackets.specs.Pairs.{opener, below, closed}
+use Rattle.rd_brackets.specs.Pairs.{opener, below}
 use Rattle.rd_brackets.specs.declared.matching.Opened.{Opened}
 
 top-of : (xs : List Opened) (n m : ℕ) (d : Opened) → n ≡ m + 1 → m < length xs → reverse (take n xs) ≡ get_or xs m d ∷ reverse (take m xs)

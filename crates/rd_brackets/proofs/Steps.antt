@@ -1,6 +1,6 @@
 -- One place more of a sequence, and a sequence without pairs.
-use Rattle.std.proofs.Common.{◌≡◌, ℕ, suc, ◌+◌, ◌-◌, ◌<◌, ◌≤◌, ◌==◌, Bool, true, false, List, [], ◌∷◌, ◌++◌, length, get_or, slice_get, take, drop, set, Option, None, Some, All, refl, sym, ap, subst, ◌∙◌, append_assoc, arith}
-use Rattle.std.specs.Prelude.{if◌then◌else◌, replicate, option_map, unwrap_or, IfSome}
+use Rattle.std.proofs.Common.{◌≡◌, ℕ, suc, ◌+◌, ◌-◌, ◌<◌, ◌==◌, Bool, true, false, List, [], ◌∷◌, ◌++◌, length, get_or, slice_get, take, drop, Option, None, Some, All, refl, sym, ap, subst, ◌∙◌, append_assoc, arith}
+use Rattle.std.specs.Prelude.{if◌then◌else◌, replicate, unwrap_or, IfSome}
 use Rattle.std.proofs.lemmas.Bool.Decides.{nat_tests}
 use Rattle.std.proofs.lemmas.List.{drop_more, take_all, set-get_or, get_or-replicate, length-replicate}
 use Rattle.std.proofs.lemmas.Option.{get_or_from_slice_get}
@@ -29,7 +29,7 @@ roles-read entries is k i ts codes class within read here =
     ∙ ap (λ c. role_of entries c (get_or codes i 0) ∷ roles entries (types_at (drop (k + 1) is) ts) (codes_at (drop (k + 1) is) codes)) (get_or_from_slice_get ts i class L here)
 
 module _ (old new : Matching) (place : ℕ) (role : Role) (goes_on : Bool)
-  (added : (rs : List Role) → all_pairs old place (role ∷ rs) ≡ (if goes_on then all_pairs new (suc place) rs else None)) where
+    (added : (rs : List Role) → all_pairs old place (role ∷ rs) ≡ (if goes_on then all_pairs new (suc place) rs else None)) where
   pub pairs-next : goes_on ≡ true → (all rs : List Role) (whole : Option (List Pair)) → all ≡ role ∷ rs → all_pairs old place all ≡ whole → all_pairs new (place + 1) rs ≡ whole
   pairs-next on all rs whole read is =
       let next : place + 1 ≡ suc place = omega arith in

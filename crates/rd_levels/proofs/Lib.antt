@@ -1,1 +1,6 @@
-pub mod Sequences
+mod Calm
+mod Each
+mod FromLeft
+mod Lasts
+mod Lengths
+mod Sequences

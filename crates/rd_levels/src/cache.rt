@@ -4,6 +4,7 @@ ghost use Rattle.rd_levels.specs.Levels.{line_levels};
 
 use crate::fill::fill_line;
 use rd_base::{Class, Line, Memory};
+use rd_ucd::Brackets;
 use std::alloc::Global;
 use std::marker::Model;
 use std::mem;
@@ -40,15 +41,24 @@ impl LevelCache {
         })
     }
 
-    /// Becomes the levels of a line of these classes with a base level of 0 or 1, by rules X1 to L1 of UAX 9 without paired
-    /// brackets. Its one error is want of memory, which leaves the levels as they were. The cost is linear in the line.
-    pub fn fill(&mut self, classes: &[Class], base: u8) -> Result<(), Memory>
+    /// Becomes the levels of a line of these classes with a base level of 0 or 1, by rules X1 to L1 of UAX 9. `codes` has the code of
+    /// each character, by which the paired brackets are known; a code that is listed nowhere is no bracket. Its one error is want of
+    /// memory, which leaves the levels as they were. The cost is linear in the line. A line at base 0 without anything that is read
+    /// from the right, embedded or isolated is looked through once, and has all levels 0.
+    pub fn fill(
+        &mut self,
+        classes: &[Class],
+        codes: &[u32],
+        brackets: &Brackets,
+        base: u8,
+    ) -> Result<(), Memory>
         requires short { length classes.now < 2 ^ 32 }
+        requires codes { length codes.now ≡ length classes.now }
         requires base { base ≤ 1 }
-        ensures ok { OnOk result (self.new ≡ line_levels base classes.now) }
+        ensures ok { OnOk result (self.new ≡ line_levels brackets.now base classes.now codes.now) }
         ensures err { OnErr result (self.new ≡ self.old) }
     {
-        fill_line(self.alloc, &mut self.spare, classes, base)?;
+        fill_line(self.alloc, &mut self.spare, classes, codes, brackets, base)?;
         mem::swap(&mut self.shown, &mut self.spare);
         Ok(())
     }

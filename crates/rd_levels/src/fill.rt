@@ -1,38 +1,83 @@
 //! The rules of UAX 9 over a line, in turn.
 ghost use Rattle.std.specs.Prelude.{◌≡◌, ◌<◌, ◌≤◌, ◌^◌, length, All, AllPairs, OnOk};
 ghost use Rattle.rd_base.specs.Lines.{KeepsClasses};
-ghost use Rattle.rd_levels.specs.Levels.{resolved, line_levels};
+ghost use Rattle.rd_levels.specs.Levels.{resolved, line_levels, is_leveled, are_leveled};
 
 use rd_base::{Class, Line, ListOf, Memory, Seq};
+use rd_brackets::pair;
 use rd_explicit::{explicit, sequences};
 use rd_resolve::{implicit, neutral, weak};
+use rd_ucd::Brackets;
 use std::alloc::Global;
 
 /// Gives a line these classes and their levels.
-pub fn fill_line(alloc: Global, line: &mut Line, classes: &[Class], base: u8) -> Result<(), Memory>
+pub fn fill_line(
+    alloc: Global,
+    line: &mut Line,
+    classes: &[Class],
+    codes: &[u32],
+    brackets: &Brackets,
+    base: u8,
+) -> Result<(), Memory>
     requires short { length classes.now < 2 ^ 32 }
+    requires codes { length codes.now ≡ length classes.now }
     requires base { base ≤ 1 }
-    ensures { OnOk result (line.new.levels ≡ line_levels base classes.now) }
+    ensures { OnOk result (line.new.levels ≡ line_levels brackets.now base classes.now codes.now) }
 {
     line.refill(classes, base)?;
+    if base == 0 && are_leveled(classes) {
+        return Ok(());
+    }
     explicit(line);
     let found = sequences(alloc, line)?;
-    resolve(line, &found);
+    resolve(alloc, line, codes, brackets, &found)?;
     implicit(line);
     Ok(())
 }
 
-/// The weak and the neutral rules over each of these sequences.
-fn resolve(line: &mut Line, found: &ListOf<Seq>)
+/// The weak rules, the paired brackets and the neutral rules over each of these sequences.
+fn resolve(
+    alloc: Global,
+    line: &mut Line,
+    codes: &[u32],
+    brackets: &Brackets,
+    found: &ListOf<Seq>,
+) -> Result<(), Memory>
     requires within { All (λ seq. All (λ i. i < length line.old.classes) seq.indexes) found.now }
     requires ascend { All (λ seq. AllPairs (λ i j. i < j) seq.indexes) found.now }
-    ensures types { line.new.types ≡ resolved line.old.levels found.now line.old.types }
+    requires codes { length codes.now ≡ length line.old.classes }
+    ensures types { OnOk result (line.new.types ≡ resolved brackets.now line.old.classes codes.now line.old.levels found.now line.old.types) }
     ensures levels { line.new.levels ≡ line.old.levels }
     ensures rest { KeepsClasses line.old line.new }
 {
     for k in 0..found.len() {
         let seq = found.get(k);
         weak(line, seq);
+        pair(alloc, line, seq, codes, brackets)?;
         neutral(line, seq);
+    }
+    Ok(())
+}
+
+/// Whether no class can bring about a level above the base 0.
+fn are_leveled(classes: &[Class]) -> bool
+    ensures { result ≡ are_leveled classes.now }
+{
+    for class in classes {
+        if !is_leveled(*class) {
+            return false;
+        }
+    }
+    true
+}
+
+/// Whether a class is no letter or number that is read from the right, and opens and closes no embedding, override or isolate.
+fn is_leveled(class: Class) -> bool
+    ensures { result ≡ is_leveled class }
+{
+    match class {
+        Class::L | Class::EN | Class::ES | Class::ET | Class::CS => true,
+        Class::NSM | Class::BN | Class::B | Class::S | Class::WS | Class::ON => true,
+        _ => false,
     }
 }

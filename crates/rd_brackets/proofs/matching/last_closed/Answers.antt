@@ -13,10 +13,11 @@ returns-then-opened-count c =
     let within = inv.within in
     let some = c.loop-count-test.true in
     let os = c.args.opened.now in
-    let n = c.loop-count.count in
-    (omega arith,
-    λ d. sym inv.opener ∙ opener-fits c.args.code os n (n - 1) nothing (omega arith) (omega arith) c.if-opened-count.true d,
-    sym inv.below ∙ below-fits c.args.code os n (n - 1) nothing (omega arith) (omega arith) c.if-opened-count.true)
+    let n = c.loop-count.count in (
+      omega arith,
+      λ d. sym inv.opener ∙ opener-fits c.args.code os n (n - 1) nothing (omega arith) (omega arith) c.if-opened-count.true d,
+      sym inv.below ∙ below-fits c.args.code os n (n - 1) nothing (omega arith) (omega arith) c.if-opened-count.true,
+    )
 
 pub loop-count-preserved : goal.loop-count-preserved
 loop-count-preserved c =

@@ -1,8 +1,7 @@
-use Rattle.std.proofs.Common.{◌≡◌, ◌<◌, ◌+◌, ◌∷◌, List, length, drop, get_or, ap, sym, ◌∙◌, arith}
+use Rattle.std.proofs.Common.{◌<◌, ◌+◌, ◌∷◌, length, drop, ap, sym, ◌∙◌, arith}
 use Rattle.rd_resolve.specs.Places.{types_at}
 use Rattle.rd_brackets.specs.Pairs.{roles}
 use Rattle.rd_brackets.specs.Sides.{codes_at}
-use Rattle.rd_brackets.specs.declared.role.Role.{Role}
 use Rattle.rd_brackets.proofs.Steps.{roles-read, pairs-next, no-pairs}
 use Rattle.rd_brackets.proofs.matching.pairs_of.Goals as goal
 

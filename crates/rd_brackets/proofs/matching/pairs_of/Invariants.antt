@@ -1,4 +1,4 @@
-use Rattle.std.proofs.Common.{◌≡◌, [], length, drop}
+use Rattle.std.proofs.Common.{◌≡◌, [], drop}
 use Rattle.rd_resolve.specs.Places.{types_at}
 use Rattle.rd_brackets.specs.Pairs.{roles, pairs_from}
 use Rattle.rd_brackets.specs.Sides.{codes_at}

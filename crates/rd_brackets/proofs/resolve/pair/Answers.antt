@@ -1,8 +1,8 @@
-use Rattle.std.proofs.Common.{◌≡◌, [], length, ap, sym, ◌∙◌, arith}
+use Rattle.std.proofs.Common.{◌≡◌, [], length, ap, sym, ◌∙◌}
 use Rattle.std.proofs.lemmas.List.{length-map}
 use Rattle.std.proofs.lemmas.List.FromFn.{length-map-range_with_len}
 use Rattle.rd_resolve.specs.Places.{types_at}
-use Rattle.rd_brackets.specs.Pairs.{closing_of, roles, pairs_of}
+use Rattle.rd_brackets.specs.Pairs.{closing_of}
 use Rattle.rd_brackets.specs.Sides.{codes_at, embedding_of}
 use Rattle.rd_brackets.proofs.Steps.{empty-told, without-pairs}
 use Rattle.rd_brackets.proofs.resolve.pair.Goals as goal

@@ -28,7 +28,7 @@ loop-place-preserved c =
     ap (types_at (drop (k + 1) is)) c.set_type.ensures.types ∙ types-kept is k i within c.at-i.ensures c.requires.ascend line.types c.unwrap_or.result in
     let stays_classes : types_at (drop (k + 1) is) c.set_type.new.self.classes ≡ C = ap (types_at (drop (k + 1) is)) c.set_type.ensures.rest.classes in
     let marked : with_marks c.loop-place.side (types_at (drop k is) line.classes) (types_at (drop k is) line.types) (drop k given)
-        ≡ c.unwrap_or.result ∷ with_marks side C T (drop (k + 1) given) =
+    ≡ c.unwrap_or.result ∷ with_marks side C T (drop (k + 1) given) =
     ap₂ (λ cs bs. with_marks c.loop-place.side cs bs (drop k given)) classes types
     ∙ ap (with_marks c.loop-place.side (c.at.result ∷ C) (c.at-before.result ∷ T)) rest
     ∙ ap (λ s. unwrap_or s after ∷ with_marks s C T (drop (k + 1) given)) (sym c.side_taken-side.ensures)

@@ -1,4 +1,4 @@
-use Rattle.std.proofs.Common.{◌≡◌, ◌+◌, ◌-◌, ◌<◌, ◌∙◌, length, take, ap, sym, arith}
+use Rattle.std.proofs.Common.{◌≡◌, ◌-◌, ◌∙◌, take, ap, sym, arith}
 use Rattle.rd_brackets.specs.Sides.{last_side}
 use Rattle.rd_brackets.proofs.Spans.{last-left, last-right, last-past}
 use Rattle.rd_brackets.proofs.sides.last_side.Goals as goal

@@ -1,5 +1,6 @@
 use Rattle.std.proofs.Common.{◌≡◌, ◌<◌, ◌+◌, length, drop, ap, ap₂, sym, ◌∙◌, arith}
-use Rattle.rd_levels.specs.Levels.{resolved, weak_in, neutral_in}
+use Rattle.rd_brackets.specs.Sides.{brackets_in}
+use Rattle.rd_levels.specs.Levels.{resolved, resolved_in, weak_in, neutral_in}
 use Rattle.rd_levels.proofs.Sequences.{resolved-step}
 use Rattle.rd_levels.proofs.fill.resolve.Goals as goal
 
@@ -9,16 +10,26 @@ loop-k-preserved c =
     let k = c.loop-k.k in
     let s = c.get-seq.result.now in
     let ts = c.loop-k.line.types in
+    let classes = c.args.line.now.classes in
+    let codes = c.args.codes.now in
+    let entries = c.args.brackets.now in
     let levels = c.args.line.now.levels in
     let inv = c.loop-k.invariant in
     let within : k < length found = omega (arith, c.loop-k-test.true, c.len-k-end.ensures) in
-    let given : c.neutral.new.line.types ≡ neutral_in levels s (weak_in s ts) =
-    c.neutral.ensures.types ∙ ap₂ (λ ls us. neutral_in ls s us) (c.weak.ensures.levels ∙ inv.levels) c.weak.ensures.types in
+    let weak_levels = c.weak.ensures.levels ∙ inv.levels in
+    let weak_classes = c.weak.ensures.rest.classes ∙ inv.keeps.classes in
+    let paired : c.pair.new.line.types ≡ brackets_in entries classes codes levels s (weak_in s ts) =
+    c.in_ok-pair.ensures.types
+    ∙ ap₂ (λ cs ls. brackets_in entries cs codes ls s c.weak.new.line.types) weak_classes weak_levels
+    ∙ ap (brackets_in entries classes codes levels s) c.weak.ensures.types in
+    let given : c.neutral.new.line.types ≡ resolved_in entries classes codes levels s ts =
+    c.neutral.ensures.types ∙ ap₂ (λ ls us. neutral_in ls s us) (c.pair.ensures.levels ∙ weak_levels) paired in
     record {
-      types = ap (resolved levels (drop (k + 1) found)) given ∙ sym (resolved-step levels found k s ts within c.get-seq.ensures) ∙ inv.types;
-      levels = c.neutral.ensures.levels ∙ c.weak.ensures.levels ∙ inv.levels;
+      types = ap (resolved entries classes codes levels (drop (k + 1) found)) given
+          ∙ sym (resolved-step entries classes codes levels found k s ts within c.get-seq.ensures) ∙ inv.types;
+      levels = c.neutral.ensures.levels ∙ c.pair.ensures.levels ∙ weak_levels;
       keeps = record {
-        classes = c.neutral.ensures.rest.classes ∙ c.weak.ensures.rest.classes ∙ inv.keeps.classes;
-        base = c.neutral.ensures.rest.base ∙ c.weak.ensures.rest.base ∙ inv.keeps.base;
+        classes = c.neutral.ensures.rest.classes ∙ c.pair.ensures.rest.classes ∙ weak_classes;
+        base = c.neutral.ensures.rest.base ∙ c.pair.ensures.rest.base ∙ c.weak.ensures.rest.base ∙ inv.keeps.base;
       };
     }

@@ -5,7 +5,7 @@ use Rattle.rd_levels.proofs.fill.resolve.Given as goal
 
 abbrev pub invariant-loop-k : goal.invariant-loop-k
 invariant-loop-k l = record {
-  types : resolved l.fn.line.levels (drop l.k l.found) l.line.types ≡ resolved l.fn.line.levels l.found l.fn.line.types;
+  types : resolved l.brackets l.fn.line.classes l.codes l.fn.line.levels (drop l.k l.found) l.line.types ≡ resolved l.brackets l.fn.line.classes l.codes l.fn.line.levels l.found l.fn.line.types;
   levels : l.line.levels ≡ l.fn.line.levels;
   keeps : KeepsClasses l.fn.line l.line;
 }

@@ -1,0 +1,94 @@
+-- The last place of a line, at the base level, stays the last in visual order.
+use Rattle.std.proofs.Common.{◌≡◌, ℕ, zero, suc, ◌+◌, ◌-◌, ◌≤◌, ◌<◌, Bool, true, false, List, [], ◌∷◌, ◌++◌, length, refl, sym, ap, ◌∙◌, append_assoc, arith}
+use Rattle.std.specs.Prelude.{nat_le, if◌then◌else◌, slice_index, map}
+use Rattle.std.proofs.lemmas.List.{map-append}
+use Rattle.std.specs.List.{range_with_len}
+use Rattle.std.proofs.lemmas.Bool.Decides.{nat_tests}
+use Rattle.rd_base.specs.declared.class.Class.{Class}
+use Rattle.rd_base.specs.declared.class.Class.TheVariants.{B}
+use Rattle.rd_order.specs.Order.{turned, turned_down, highest, visual_order}
+use Rattle.rd_levels.specs.Turns.{levels_with, turn_of, turns_by, turns_of, ComesLast}
+use Rattle.rd_levels.specs.declared.turn.Turn.{Turn}
+use Rattle.rd_ucd.specs.declared.spans.BracketEntry.{BracketEntry}
+use Rattle.rd_levels.proofs.Each.{Each, each-append, each-all}
+use Rattle.rd_levels.proofs.Lengths.{with-length, with-last}
+
+either-last : (b : Bool) (n : ℕ) (x y u v : List ℕ) → x ≡ u ++ n ∷ [] → y ≡ v ++ n ∷ [] → (if b then x else y) ≡ (if b then u else v) ++ n ∷ []
+either-last true n x y u v these those = these
+either-last false n x y u v these those = those
+
+low-last : (b : Bool) (run : List ℕ) (n : ℕ) (x : List ℕ) → b ≡ false → (if b then x else run ++ n ∷ []) ≡ run ++ n ∷ []
+low-last b run n x low = ap (λ t. if t then x else run ++ n ∷ []) low
+
+turned-last : (levels : List ℕ) (k : ℕ) (run is : List ℕ) (n : ℕ) → slice_index levels n < k → turned levels k run (is ++ n ∷ []) ≡ turned levels k run is ++ n ∷ []
+turned-last levels k run [] n low =
+    let below : nat_le k (slice_index levels n) ≡ false = grind (arith, nat_tests) in
+    low-last (nat_le k (slice_index levels n)) run n (turned levels k (n ∷ run) []) below
+turned-last levels k run (i ∷ is) n low =
+    either-last (nat_le k (slice_index levels i)) n
+    (turned levels k (i ∷ run) (is ++ n ∷ [])) (run ++ i ∷ turned levels k [] (is ++ n ∷ []))
+    (turned levels k (i ∷ run) is) (run ++ i ∷ turned levels k [] is)
+    (turned-last levels k (i ∷ run) is n low)
+    (ap (λ l. run ++ i ∷ l) (turned-last levels k [] is n low) ∙ sym (append_assoc run (i ∷ turned levels k [] is) (n ∷ [])))
+
+turned_down-last : (levels : List ℕ) (base m : ℕ) (is : List ℕ) (n : ℕ) → slice_index levels n ≤ base → turned_down levels base m (is ++ n ∷ []) ≡ turned_down levels base m is ++ n ∷ []
+turned_down-last levels base zero is n low = refl
+turned_down-last levels base (suc m) is n low =
+    ap (turned_down levels base m) (turned-last levels (base + suc m) [] is n (omega arith))
+    ∙ turned_down-last levels base m (turned levels (base + suc m) [] is) n low
+
+range-last : (a n : ℕ) → range_with_len a (suc n) ≡ range_with_len a n ++ (a + n) ∷ []
+range-last a zero = ap (λ k. k ∷ []) (omega arith)
+range-last a (suc n) =
+    let same : a + 1 + n ≡ a + suc n = omega arith in
+    ap (λ l. a ∷ l) (range-last (a + 1) n) ∙ ap (λ k. a ∷ range_with_len (a + 1) n ++ k ∷ []) same
+
+pub order-last : (base n : ℕ) (levels : List ℕ) → length levels ≡ suc n → slice_index levels n ≤ base → visual_order base levels ≡ turned_down levels base (highest levels - base) (range_with_len 0 n) ++ n ∷ []
+order-last base n levels size low =
+    let same : 0 + n ≡ n = omega arith in
+    ap (λ k. turned_down levels base (highest levels - base) (range_with_len 0 k)) size
+    ∙ ap (turned_down levels base (highest levels - base)) (range-last 0 n)
+    ∙ ap (λ k. turned_down levels base (highest levels - base) (range_with_len 0 n ++ k ∷ [])) same
+    ∙ turned_down-last levels base (highest levels - base) (range_with_len 0 n) n low
+
+either-below : (b : Bool) (n : ℕ) (x y : List ℕ) → Each (λ (i : ℕ). i < n) x → Each (λ (i : ℕ). i < n) y → Each (λ (i : ℕ). i < n) (if b then x else y)
+either-below true n x y these those = these
+either-below false n x y these those = those
+
+turned-below : (levels : List ℕ) (k n : ℕ) (run is : List ℕ) → Each (λ (i : ℕ). i < n) run → Each (λ (i : ℕ). i < n) is → Each (λ (i : ℕ). i < n) (turned levels k run is)
+turned-below levels k n run [] these those = these
+turned-below levels k n run (i ∷ is) these those =
+    either-below (nat_le k (slice_index levels i)) n (turned levels k (i ∷ run) is) (run ++ i ∷ turned levels k [] is)
+    (turned-below levels k n (i ∷ run) is (those.0, these) those.1)
+    (each-append (λ (j : ℕ). j < n) run (i ∷ turned levels k [] is) these (those.0, turned-below levels k n [] is tt those.1))
+
+turned_down-below : (levels : List ℕ) (base m n : ℕ) (is : List ℕ) → Each (λ (i : ℕ). i < n) is → Each (λ (i : ℕ). i < n) (turned_down levels base m is)
+turned_down-below levels base zero n is each = each
+turned_down-below levels base (suc m) n is each =
+    turned_down-below levels base m n (turned levels (base + suc m) [] is) (turned-below levels (base + suc m) n [] is tt each)
+
+range-below : (a n m : ℕ) → a + n ≤ m → Each (λ (i : ℕ). i < m) (range_with_len a n)
+range-below a zero m few = tt
+range-below a (suc n) m few = (omega arith, range-below (a + 1) n m (omega arith))
+
+turns-below : (levels : List ℕ) (n : ℕ) (is : List ℕ) → Each (λ (i : ℕ). i < n) is → Each (λ (t : Turn). t.index < n) (map (turn_of levels) is)
+turns-below levels n [] each = tt
+turns-below levels n (i ∷ is) each = (each.0, turns-below levels n is each.1)
+
+-- the turns of a line whose last place has the base level, or a lower one
+last-turn : (base n : ℕ) (levels : List ℕ) → length levels ≡ suc n → slice_index levels n ≤ base → ComesLast (turns_by base levels) n
+last-turn base n levels size low =
+    let before = turned_down levels base (highest levels - base) (range_with_len 0 n) in
+    let below = turned_down-below levels base (highest levels - base) n (range_with_len 0 n) (range-below 0 n n (omega arith)) in
+    record {
+      front = map (turn_of levels) before;
+      last = turn_of levels n;
+      whole = ap (map (turn_of levels)) (order-last base n levels size low) ∙ map-append (turn_of levels) before (n ∷ []);
+      index = refl;
+      others = each-all (λ (t : Turn). t.index < n) (map (turn_of levels) before) (turns-below levels n before below);
+    }
+
+-- a separator at the end of a line comes last
+pub ender-last : (entries : List BracketEntry) (reorder : Bool) (base : ℕ) (cs : List Class) (codes : List ℕ) → ComesLast (turns_of entries reorder base (cs ++ B ∷ []) codes) (length cs)
+ender-last entries reorder base cs codes =
+    last-turn base (length cs) (levels_with entries reorder base (cs ++ B ∷ []) codes) (with-length entries base reorder cs codes) (with-last entries base reorder cs codes)

@@ -1,0 +1,18 @@
+//! What the levels and turns of lines always are.
+ghost use Rattle.std.specs.Prelude.{◌≡◌, ℕ, Bool, true, List, [], ◌∷◌, ◌++◌, length, replicate};
+ghost use Rattle.rd_base.specs.declared.class.Class.{Class};
+ghost use Rattle.rd_base.specs.declared.class.Class.TheVariants.{B};
+ghost use Rattle.rd_ucd.specs.declared.spans.BracketEntry.{BracketEntry};
+ghost use Rattle.rd_levels.specs.Levels.{are_leveled, line_levels};
+ghost use Rattle.rd_levels.specs.Turns.{turns_of, ComesLast};
+
+/// A line at base 0 whose classes are all L, EN, ES, ET, CS, NSM, BN, B, S, WS or ON has all levels 0, whatever brackets are listed. The
+/// call does nothing.
+pub fn lines_read_from_the_left()
+    ensures { (entries : List BracketEntry) (classes : List Class) (codes : List ℕ) → are_leveled classes ≡ true → line_levels entries 0 classes codes ≡ replicate (length classes) 0 }
+{}
+
+/// A separator of paragraphs at the end of a line, as the ender of a block is, comes last in visual order. The call does nothing.
+pub fn enders_come_last()
+    ensures { (entries : List BracketEntry) (reorder : Bool) (base : ℕ) (classes : List Class) (codes : List ℕ) → ComesLast (turns_of entries reorder base (classes ++ B ∷ []) codes) (length classes) }
+{}
