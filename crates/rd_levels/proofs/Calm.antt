@@ -1,12 +1,12 @@
 -- The weak, bracket and neutral rules over a sequence at level 0 without anything that is read from the right.
-use Rattle.std.proofs.Common.{◌≡◌, ℕ, zero, suc, ◌+◌, ◌-◌, ◌<◌, ◌≤◌, Bool, true, false, ◌||◌, ◌&&◌, List, [], ◌∷◌, ◌++◌, length, take, drop, set, replicate, Option, None, Some, refl, sym, ap, ap₂, subst, ◌∙◌, arith}
-use Rattle.std.specs.Prelude.{if◌then◌else◌, unwrap_or, slice_set}
+use Rattle.std.proofs.Common.{◌≡◌, ℕ, zero, suc, ◌-◌, Bool, true, false, ◌||◌, List, [], ◌∷◌, length, take, drop, set, replicate, Option, None, Some, refl, sym, ap, ap₂, subst, ◌∙◌}
+use Rattle.std.specs.Prelude.{if◌then◌else◌, unwrap_or}
 use Rattle.std.proofs.lemmas.List.{length-set}
 use Rattle.rd_base.specs.declared.class.Class.{Class}
-use Rattle.rd_base.specs.declared.class.Class.TheVariants.{L, R, AL, EN, ES, ET, AN, CS, NSM, BN, B, S, WS, ON, LRE, LRO, RLE, RLO, PDF, LRI, RLI, FSI, PDI}
+use Rattle.rd_base.specs.declared.class.Class.TheVariants.{L, R, AL, EN, ES, ET, AN, CS, NSM, B, S, WS, ON, LRI, RLI, FSI, PDI}
 use Rattle.rd_ucd.specs.declared.spans.BracketEntry.{BracketEntry}
-use Rattle.rd_resolve.specs.Weak.{marked, w1, strong_after, arabic, w2, right, w3, between, first_type, w4, is_en, comes_en, ended, w5, separated, w6, latin, w7, weak_types}
-use Rattle.rd_resolve.specs.Neutral.{is_neutral, side, following, agreed, n1, n2, neutral_types}
+use Rattle.rd_resolve.specs.Weak.{marked, w1, strong_after, w2, right, w3, between, first_type, w4, is_en, comes_en, ended, w5, separated, w6, latin, w7, weak_types}
+use Rattle.rd_resolve.specs.Neutral.{side, following, agreed, n1, n2, neutral_types}
 use Rattle.rd_brackets.specs.Pairs.{roles, pairs_of, closings}
 use Rattle.rd_brackets.specs.Sides as sides
 use Rattle.rd_levels.proofs.Each.{Each}

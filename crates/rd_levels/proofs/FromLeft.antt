@@ -1,23 +1,23 @@
 -- A line at base 0 without anything that is read from the right has all levels 0.
-use Rattle.std.proofs.Common.{◌≡◌, ℕ, zero, suc, ◌+◌, ◌<◌, ◌≤◌, ◌==◌, ◌⊎◌, inl, inr, Bool, true, false, ◌&&◌, List, [], ◌∷◌, ◌++◌, length, get_or, drop, set, replicate, map, Option, None, Some, refl, sym, ap, ap₂, subst, ◌∙◌, append-nil, arith}
+use Rattle.std.proofs.Common.{◌≡◌, ℕ, zero, suc, ◌+◌, ◌<◌, ◌≤◌, ◌==◌, ◌⊎◌, inl, inr, Bool, true, false, ◌&&◌, List, [], ◌∷◌, length, get_or, drop, set, replicate, map, refl, sym, ap, ap₂, subst, ◌∙◌, append-nil, arith}
 use Rattle.std.specs.Prelude.{if◌then◌else◌, max, is_none, slice_index}
 use Rattle.std.proofs.lemmas.Bool.{and_parts, cases_eq, cases_lt}
-use Rattle.std.proofs.lemmas.List.{length-map, length-replicate, get_or-set_same, get_or-set_other, length-set, drop_more, get_or-drop, drop-drop, get_or_past}
+use Rattle.std.proofs.lemmas.List.{length-map, length-replicate, get_or-set_same, get_or-set_other, length-set, get_or-drop, drop-drop, get_or_past}
 use Rattle.rd_base.specs.Classes.{is_removed, is_initiator, direction_of}
 use Rattle.rd_base.specs.declared.class.Class.{Class}
-use Rattle.rd_base.specs.declared.class.Class.TheVariants.{L, R, AL, EN, ES, ET, AN, CS, NSM, BN, B, S, WS, ON, LRE, LRO, RLE, RLO, PDF, LRI, RLI, FSI, PDI}
+use Rattle.rd_base.specs.declared.class.Class.TheVariants.{L, BN, LRE, LRO, RLE, RLO, PDF, LRI, RLI, FSI, PDI}
 use Rattle.rd_base.specs.declared.line.Seq.{Seq}
 use Rattle.rd_ucd.specs.declared.spans.BracketEntry.{BracketEntry}
-use Rattle.rd_explicit.specs.Explicit.{start, after, given, explicit_from, explicit_of, levels_of, types_of}
+use Rattle.rd_explicit.specs.Explicit.{start, after, given, explicit_from, levels_of, types_of}
 use Rattle.rd_explicit.specs.Sequences.{Item, partner_of, first_level, item_at, matter, has_level, with_item, level_runs, joined, start_type, end_type, sequence, sequences_of}
 use Rattle.rd_explicit.specs.declared.state.State.{State}
 use Rattle.rd_explicit.specs.declared.state.Given.{Given}
 use Rattle.rd_resolve.specs.Places.{types_at, levels_at, put_at}
 use Rattle.rd_resolve.specs.Weak.{weak_types}
 use Rattle.rd_resolve.specs.Neutral.{neutral_types}
-use Rattle.rd_resolve.specs.Implicit.{even_raised, raised, i1_i2, kept, resets, l1, implicit_levels}
-use Rattle.rd_brackets.specs.Sides.{bracket_types, codes_at, embedding_of, brackets_in}
-use Rattle.rd_levels.specs.Levels.{weak_in, neutral_in, resolved_in, resolved, line_levels, is_leveled, are_leveled}
+use Rattle.rd_resolve.specs.Implicit.{even_raised, i1_i2, kept, resets, l1, implicit_levels}
+use Rattle.rd_brackets.specs.Sides.{bracket_types, codes_at, embedding_of}
+use Rattle.rd_levels.specs.Levels.{resolved_in, resolved, line_levels, is_leveled, are_leveled}
 use Rattle.rd_levels.proofs.Each.{Each}
 use Rattle.rd_levels.proofs.Calm.{IsItem, IsCalm, weak-calm, weak-length, brackets-calm, brackets-length, neutral-left}
 

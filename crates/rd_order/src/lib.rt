@@ -2,10 +2,8 @@
 //! reading edge, the left edge at an even base level and the right edge at an odd one.
 #![tactic(auto)]
 
+mod examples;
 mod run;
 mod visual;
 
 pub use visual::Visual;
-
-#[cfg(test)]
-mod tests;

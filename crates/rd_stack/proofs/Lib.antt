@@ -3,5 +3,3 @@ mod Places
 mod Rows
 mod Glyphs
 mod Prefixes
-mod Levels
-mod Lasts

@@ -22,9 +22,9 @@ use Rattle.rd_items.specs.Items.{items_of}
 use Rattle.rd_items.specs.declared.item.Item.{Item}
 use Rattle.rd_items.specs.declared.item.ItemKind.{ItemKind}
 use Rattle.rd_items.specs.declared.item.ItemKind.TheVariants as kind
-use Rattle.rd_stack.specs.Turns.{turns_of}
+use Rattle.rd_stack.specs.Turns.{unpaired_turns}
 use Rattle.rd_stack.specs.Shown.{space_elements, inner, middle}
-use Rattle.rd_stack.specs.declared.turn.Turn.{Turn}
+use Rattle.rd_levels.specs.declared.turn.Turn.{Turn}
 
 -- the glyphs of an ellipsis: those of the table, and three dots where it has none
 abbrev pub ellipsis_glyphs : Option TableValue → List Glyph
@@ -75,7 +75,7 @@ item_class item = item.class
 
 abbrev pub line_of_items : BufferValue → Scene → ℕ → ℕ → List Item → List Element
 line_of_items s scene base start items =
-    flat_map (item_elements s scene base start items) (turns_of scene.parts.settings.reorder base (map item_class items))
+    flat_map (item_elements s scene base start items) (unpaired_turns scene.parts.settings.reorder base (map item_class items))
 
 -- the line of the block that starts at a position: its items in visual order, each as its elements
 abbrev pub line_elements : BufferValue → Scene → ℕ → ℕ → List Element

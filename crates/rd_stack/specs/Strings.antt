@@ -17,8 +17,8 @@ use Rattle.rd_glyphs.specs.declared.joining.Joining.{Joining}
 use Rattle.rd_glyphs.specs.declared.joining.Joining.TheVariants as joining
 use Rattle.rd_items.specs.Pieces.{Scene, spec_in, inner_class, base_of, mark_of, same_spec}
 use Rattle.rd_items.specs.Items.{marked_glyph}
-use Rattle.rd_stack.specs.Turns.{turns_of}
-use Rattle.rd_stack.specs.declared.turn.Turn.{Turn}
+use Rattle.rd_stack.specs.Turns.{unpaired_turns}
+use Rattle.rd_levels.specs.declared.turn.Turn.{Turn}
 use Rattle.rd_stack.specs.declared.part.Place.{Place}
 use Rattle.rd_stack.specs.declared.part.Part.{Part}
 use Rattle.rd_stack.specs.declared.part.Shown.{Shown}
@@ -100,7 +100,7 @@ part_class x = x.class
 
 -- parts in visual order, by their classes with the line's base
 abbrev pub in_order : Bool → ℕ → List Part → List Shown
-in_order reorder base xs = flat_map (shown_at xs) (turns_of reorder base (map part_class xs))
+in_order reorder base xs = flat_map (shown_at xs) (unpaired_turns reorder base (map part_class xs))
 
 -- a row of a string: its marks join, and its parts are put in order
 abbrev pub row : Scene → ℕ → List Part → List Shown

@@ -1,29 +1,13 @@
 -- The order in which the places of a line are shown.
-use Rattle.std.specs.Prelude.{◌≡◌, ℕ, ◌%◌, ◌<◌, ◌==◌, [], ◌∷◌, ◌++◌, All, Bool, if◌then◌else◌, List, length, map, replicate, slice_index}
+use Rattle.std.specs.Prelude.{ℕ, Bool, List, [], length, replicate}
 use Rattle.rd_base.specs.declared.class.Class.{Class}
-use Rattle.rd_levels.specs.Levels.{line_levels}
-use Rattle.rd_order.specs.Order.{visual_order}
-use Rattle.rd_stack.specs.declared.turn.Turn.{Turn}
+use Rattle.rd_levels.specs.Turns.{turns_of}
+use Rattle.rd_levels.specs.declared.turn.Turn.{Turn}
 
--- the level of each place of a line of these classes: 0 where reordering is off
-abbrev pub levels_with : Bool → ℕ → List Class → List ℕ
-levels_with reorder base classes = if reorder then line_levels base classes else replicate (length classes) 0
+-- the code of what is no bracket: no file lists it
+abbrev pub unlisted : ℕ
+unlisted = 4294967295
 
-abbrev pub turn_of : List ℕ → ℕ → Turn
-turn_of levels i = record { index = i; odd = slice_index levels i % 2 == 1 }
-
--- places of these levels in visual order, each with whether its level is odd
-abbrev pub turns_by : ℕ → List ℕ → List Turn
-turns_by base levels = map (turn_of levels) (visual_order base levels)
-
--- the places of a line of these classes in visual order
-abbrev pub turns_of : Bool → ℕ → List Class → List Turn
-turns_of reorder base classes = turns_by base (levels_with reorder base classes)
-
--- the place with this index comes last, and each other has a lower one
-pub record ComesLast (turns : List Turn) (n : ℕ) : Type 0 where
-  pub front : List Turn
-  pub last : Turn
-  pub whole : turns ≡ front ++ last ∷ []
-  pub index : last.index ≡ n
-  pub others : All (λ t. t.index < n) front
+-- the places of a line of these classes in visual order, where no bracket is known
+abbrev pub unpaired_turns : Bool → ℕ → List Class → List Turn
+unpaired_turns reorder base cs = turns_of [] reorder base cs (replicate (length cs) unlisted)

@@ -1,15 +1,12 @@
 //! The definitions on worked examples.
-ghost use Rattle.std.specs.Prelude.{◌≡◌, ◌∷◌, [], true, false, map, pos, ℕ, Bool, List, ◌++◌, length};
+ghost use Rattle.std.specs.Prelude.{◌≡◌, ◌∷◌, [], true, false, map, pos};
 ghost use Rattle.rd_base.specs.Faces.{plain};
 ghost use Rattle.rd_base.specs.Cells.{single};
-ghost use Rattle.rd_base.specs.declared.class.Class.{Class};
-ghost use Rattle.rd_base.specs.declared.class.Class.TheVariants.{B};
 ghost use Rattle.rd_base.specs.declared.element.Extent.TheVariants.{Fixed, Column};
 ghost use Rattle.rd_base.specs.declared.element.Look.TheVariants.{Blank, RowEnd, LineEnd, Glyph};
 ghost use Rattle.rd_base.specs.declared.settings.Invisible.TheVariants.{Every, Listed};
 ghost use Rattle.rd_props.specs.Examples.{put_once, meeting};
 ghost use Rattle.rd_glyphs.specs.Characters.{element_of};
-ghost use Rattle.rd_stack.specs.Turns.{turns_of, ComesLast};
 ghost use Rattle.rd_stack.specs.Shown.{prefix};
 ghost use Rattle.rd_stack.specs.Lines.{line_elements};
 ghost use Rattle.rd_stack.specs.Examples.{plain_look, letter, buffer, coloured, outside_letter, six_strings, nested_strings, string_before, red, coloured_strings, arrow, scene};
@@ -57,9 +54,4 @@ pub fn faces_of_strings_and_ellipses()
 pub fn prefixes_of_one_row()
     ensures row { let s = buffer [] [] [] Every in prefix (scene s arrow) 0 0 ≡ outside_letter 62 ∷ outside_letter 32 ∷ [] }
     ensures missing { let s = buffer [] [] [] Every in prefix (scene s arrow) 0 7 ≡ [] }
-{}
-
-/// A separator of paragraphs at the end of a line, as the ender of a block is, comes last in visual order. The call does nothing.
-pub fn enders_come_last()
-    ensures { (reorder : Bool) (base : ℕ) (classes : List Class) → ComesLast (turns_of reorder base (classes ++ B ∷ [])) (length classes) }
 {}

@@ -14,7 +14,7 @@ mod turn;
 mod walker;
 
 pub use laws::{
-    enders_come_last, faces_of_strings_and_ellipses, line_where_overlays_meet, line_with_a_stretch,
+    faces_of_strings_and_ellipses, line_where_overlays_meet, line_with_a_stretch,
     line_with_nested_strings, lines_in_visual_order, lines_of_hidden_text, prefixes_of_one_row,
 };
 pub use prefix::string_line;

@@ -14,9 +14,10 @@ ghost use Rattle.rd_stack.specs.Lines.{ellipsis_glyphs, stands_at, is_display_st
 
 use crate::inner::{put_char, put_display_string, put_glyph, put_space};
 use crate::middle::put_overlay_string;
-use crate::turn::{Turn, turns_of};
+use crate::turn::unpaired_turns;
 use rd_base::{Class, Element, Extent, Face, Glyph, ListOf, Look, Memory, Origin, Pos};
 use rd_items::{Item, ItemKind, Items, parts_of};
+use rd_levels::Turn;
 use rd_overlays::Kind;
 use rd_props::{View, effective, face_at};
 use std::alloc::Global;
@@ -43,7 +44,7 @@ pub fn line_of_items(
     let state = view.state;
     let settings = &state.settings;
     let classes = classes_of(alloc, items)?;
-    let turns = turns_of(alloc, settings.reorder, base, classes.as_slice())?;
+    let turns = unpaired_turns(alloc, settings.reorder, base, classes.as_slice())?;
     let elements = put_items(alloc, view, base, start, items, turns.as_slice())?;
     if columns_at_most(elements.as_slice()) >= TOO_MANY_COLUMNS {
         return Err(Memory);

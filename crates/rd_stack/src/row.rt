@@ -5,8 +5,9 @@ ghost use Rattle.rd_stack.specs.Strings.{joined, with_held, shown_at, part_class
 ghost use Rattle.rd_stack.specs.declared.part.Part.{Part};
 
 use crate::part::{Part, Shown, marked};
-use crate::turn::{Turn, turns_of};
+use crate::turn::unpaired_turns;
 use rd_base::{Class, ListOf, Memory};
+use rd_levels::Turn;
 use std::alloc::Global;
 
 /// Adds the parts of a row to those that are shown: its marks join, and its parts come in visual order.
@@ -24,7 +25,7 @@ pub fn put_row(
 {
     let parts = join_marks(alloc, row)?;
     let classes = classes_of(alloc, parts.as_slice())?;
-    let turns = turns_of(alloc, reorder, base, classes.as_slice())?;
+    let turns = unpaired_turns(alloc, reorder, base, classes.as_slice())?;
     put_turns(&parts, turns.as_slice(), shown)
 }
 

@@ -3,9 +3,10 @@ ghost use Rattle.std.specs.Prelude.{◌≡◌, ◌+◌, ◌<◌, ◌≤◌, ◌^
 
 mod table;
 
-use super::*;
 use rd_base::{Class, ListOf, Memory};
+use rd_levels::{LevelCache, Turn, turns_of};
 use rd_order::Visual;
+use rd_ucd::Brackets;
 use std::alloc::Global;
 use std::test::Fail;
 
@@ -28,8 +29,18 @@ fn agrees(alloc: Global, cache: &mut LevelCache, row: &str) -> Result<bool, Memo
     if classes.len() > 1000 {
         return Ok(false);
     }
-    cache.fill(classes.as_slice(), base)?;
+    fill(alloc, cache, classes.as_slice(), base)?;
     Ok(are_levels(cache.levels(), levels) && is_order(cache.levels(), base, order))
+}
+
+/// Fills the cache with a line without brackets.
+fn fill(alloc: Global, cache: &mut LevelCache, classes: &[Class], base: u8) -> Result<(), Memory>
+    requires short { length classes.now < 2 ^ 32 }
+    requires base { base ≤ 1 }
+{
+    let mut codes = ListOf::new(alloc);
+    codes.resize(classes.len(), 0)?;
+    cache.fill(classes, codes.as_slice(), &Brackets::none(alloc), base)
 }
 
 /// The four fields of a row: the base, the classes, the levels and the order.
@@ -112,11 +123,12 @@ fn class_named(name: &str) -> Option<Class> {
 
 #[test]
 fn a_line_takes_the_place_of_another(rt: HostRuntime) -> Result<(), Fail> {
-    let mut cache = LevelCache::new(rt.alloc())?;
-    cache.fill(&[Class::R, Class::EN], 0)?;
+    let alloc = rt.alloc();
+    let mut cache = LevelCache::new(alloc)?;
+    fill(alloc, &mut cache, &[Class::R, Class::EN], 0)?;
     assert!(rt; cache.len() == 2);
-    assert_eq!(rt; cache.level(1), 2);
-    cache.fill(&[], 0)?;
+    assert!(rt; are_levels(cache.levels(), "1 2"));
+    fill(alloc, &mut cache, &[], 0)?;
     assert!(rt; cache.len() == 0);
     assert!(rt; is_order(cache.levels(), 0, ""));
     Ok(())
@@ -138,7 +150,7 @@ fn last_level(alloc: Global, count: usize, rest: &[Class]) -> Result<Option<u8>,
 {
     let classes = nested(alloc, count, rest)?;
     let mut cache = LevelCache::new(alloc)?;
-    cache.fill(classes.as_slice(), 0)?;
+    fill(alloc, &mut cache, classes.as_slice(), 0)?;
     Ok(cache.levels().last().copied())
 }
 
@@ -152,4 +164,44 @@ fn nested(alloc: Global, count: usize, rest: &[Class]) -> Result<ListOf<Class>, 
     }
     classes.extend_from_slice(rest)?;
     Ok(classes)
+}
+
+#[test]
+fn brackets_take_a_direction(rt: HostRuntime) -> Result<(), Fail> {
+    let alloc = rt.alloc();
+    let brackets = Brackets::read(alloc, b"0028; 0029; o\n0029; 0028; c")?;
+    let mut cache = LevelCache::new(alloc)?;
+    let classes = [
+        Class::R,
+        Class::ON,
+        Class::L,
+        Class::ON,
+        Class::NSM,
+        Class::R,
+    ];
+    cache.fill(&classes, &[0, 0x28, 0, 0x29, 0x301, 0], &brackets, 0)?;
+    assert!(rt; are_levels(cache.levels(), "1 0 0 0 0 1"));
+    let right = [Class::L, Class::ON, Class::R, Class::ON, Class::WS, Class::R];
+    cache.fill(&right, &[0, 0x28, 0, 0x29, 0, 0], &brackets, 0)?;
+    assert!(rt; are_levels(cache.levels(), "0 0 1 0 0 1"));
+    Ok(())
+}
+
+#[test]
+fn turns_of_a_line(rt: HostRuntime) -> Result<(), Fail> {
+    let alloc = rt.alloc();
+    let classes = [Class::R, Class::EN, Class::B];
+    let none = Brackets::none(alloc);
+    let turns = turns_of(alloc, true, 0, &classes, &[0, 0, 0], &none)?;
+    let numbers = [turn(1, false), turn(0, true), turn(2, false)];
+    assert!(rt; turns.as_slice() == numbers.as_slice());
+    let turns = turns_of(alloc, false, 0, &classes, &[0, 0, 0], &none)?;
+    let unordered = [turn(0, false), turn(1, false), turn(2, false)];
+    assert!(rt; turns.as_slice() == unordered.as_slice());
+    Ok(())
+}
+
+/// A turn.
+fn turn(index: usize, odd: bool) -> Turn {
+    Turn { index, odd }
 }

@@ -1,6 +1,6 @@
 //! Small data files and what they answer.
-use super::*;
 use rd_base::{Ch, Class};
+use rd_ucd::{Bracket, Brackets, Classes, Mirrors, UcdFault};
 use std::alloc::Global;
 use std::test::Fail;
 
@@ -15,6 +15,14 @@ fn class_fault(alloc: Global, bytes: &[u8]) -> Option<UcdFault> {
 /// The fault of a mirror file.
 fn mirror_fault(alloc: Global, bytes: &[u8]) -> Option<UcdFault> {
     match Mirrors::read(alloc, bytes) {
+        Ok(_) => None,
+        Err(fault) => Some(fault),
+    }
+}
+
+/// The fault of a bracket file.
+fn bracket_fault(alloc: Global, bytes: &[u8]) -> Option<UcdFault> {
+    match Brackets::read(alloc, bytes) {
         Ok(_) => None,
         Err(fault) => Some(fault),
     }
@@ -69,6 +77,26 @@ fn faults_of_mirror_files(rt: HostRuntime) {
 }
 
 #[test]
+fn faults_of_bracket_files(rt: HostRuntime) {
+    let table: [(&[u8], Option<UcdFault>); 8] = [
+        (b"", None),
+        (b"# nothing\n \t\n\r\n", None),
+        (b"0028; 0029; o # LEFT\n0029;0028;c\r\n", None),
+        (b"0028; 0029; x", Some(UcdFault::BadClass(1))),
+        (b"0028; 0029", Some(UcdFault::BadLine(1))),
+        (b"0028; 0029; o; c", Some(UcdFault::BadLine(1))),
+        (b"0028; 29; x", Some(UcdFault::BadCode(1))),
+        (
+            b"0028; 0029; o\n#\n0028; 0029; o",
+            Some(UcdFault::NotAscending(3)),
+        ),
+    ];
+    for (bytes, fault) in table {
+        assert!(rt; bracket_fault(rt.alloc(), bytes) == fault);
+    }
+}
+
+#[test]
 fn files_are_looked_up(rt: HostRuntime) -> Result<(), Fail> {
     let classes = Classes::read(
         rt.alloc(),
@@ -83,5 +111,9 @@ fn files_are_looked_up(rt: HostRuntime) -> Result<(), Fail> {
     assert_eq!(rt; mirrors.mirror(0x28), Some(0x29));
     assert_eq!(rt; mirrors.mirror(0x29), Some(0x28));
     assert_eq!(rt; mirrors.mirror(0x2A), None);
+    let brackets = Brackets::read(rt.alloc(), b"0028; 0029; o\n0029; 0028; c")?;
+    assert_eq!(rt; brackets.bracket(0x28), Some(Bracket::Opens(0x29)));
+    assert_eq!(rt; brackets.bracket(0x29), Some(Bracket::Closes(0x28)));
+    assert_eq!(rt; brackets.bracket(0x2A), None);
     Ok(())
 }

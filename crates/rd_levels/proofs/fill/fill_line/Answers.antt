@@ -1,4 +1,4 @@
-use Rattle.std.proofs.Common.{◌≡◌, length, replicate, ap, sym, ◌∙◌}
+use Rattle.std.proofs.Common.{length, replicate, ap, sym, ◌∙◌}
 use Rattle.rd_levels.specs.Levels.{line_levels}
 use Rattle.rd_levels.proofs.FromLeft.{from-left}
 use Rattle.rd_levels.proofs.fill.fill_line.Goals as goal

@@ -1,8 +1,8 @@
 //! The walk on worked lines, and its cost.
 ghost use Rattle.std.specs.Prelude.{◌≤◌};
 
-use super::*;
 use rd_base::{ListOf, Memory};
+use rd_order::Visual;
 use std::alloc::Global;
 use std::test::Fail;
 
