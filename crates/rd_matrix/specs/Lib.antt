@@ -1,2 +1,5 @@
+pub mod Blocks
 pub mod Columns
 pub mod Cursors
+pub mod Entries
+pub mod Sources

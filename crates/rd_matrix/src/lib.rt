@@ -1,9 +1,13 @@
-//! The rows that a window shows, and the place of the cursor among them.
+//! The rows that a window shows, the place of the cursor among them, and the blocks of a text from which rows come.
 #![tactic(auto)]
 
+mod block;
 mod matrix;
+mod source;
 
+pub use block::Block;
 pub use matrix::{Entry, Matrix};
+pub use source::BlockSource;
 
 #[cfg(test)]
 mod tests;

@@ -2,6 +2,7 @@
 ghost use Rattle.std.specs.Prelude.{◌≡◌};
 ghost use Rattle.rd_matrix.specs.Columns.{column_in, covers, shown_column};
 ghost use Rattle.rd_matrix.specs.Cursors.{column_shown};
+ghost use Rattle.rd_matrix.specs.Entries.{shown_entry};
 
 use rd_base::{Memory, Pos};
 use rd_rows::{Begin, Row};
@@ -36,6 +37,7 @@ impl Model for Matrix {
 impl Matrix {
     ghost use Rattle.std.specs.Prelude.{◌≡◌, ◌<◌, length, is_some, Some, OnOk, OnErr, IfOk, [], ◌∷◌, ◌++◌, slice_get};
     ghost use Rattle.rd_matrix.specs.Cursors.{cursor_in};
+    ghost use Rattle.rd_matrix.specs.Entries.{shown_entries};
 
     /// A matrix of no row.
     pub fn new(alloc: Global) -> Result<Matrix, Memory>
@@ -76,7 +78,7 @@ impl Matrix {
     /// item's first element is shown in the column as far from that edge. None exactly where no row holds its beginning. It costs
     /// what the rows have of items.
     pub fn cursor(&self, point: Pos) -> Option<(u32, u32)>
-        ensures { result ≡ cursor_in point self.now }
+        ensures { result ≡ cursor_in point (shown_entries self.now) }
     {
         for row in 0..self.entries.len() {
             let entry = &self.entries[row];
@@ -89,7 +91,7 @@ impl Matrix {
 
     /// Whether a row holds the beginning of the item that covers a position.
     pub fn shows(&self, point: Pos) -> bool
-        ensures { result ≡ is_some (cursor_in point self.now) }
+        ensures { result ≡ is_some (cursor_in point (shown_entries self.now)) }
     {
         self.cursor(point).is_some()
     }
@@ -98,7 +100,7 @@ impl Matrix {
 impl Entry {
     /// The column in which the item that covers a position begins, as it is shown.
     fn column_of(&self, point: Pos) -> Option<u32>
-        ensures { result ≡ column_shown point self.now }
+        ensures { result ≡ column_shown point (shown_entry self.now) }
     {
         let column = column_in(self.row.begins(), self.start, point)?;
         Some(shown_column(&self.row, column))

@@ -11,14 +11,11 @@ use std::test::Fail;
 
 /// In the second row of twelve columns, which is read from the right edge, an item begins in the reading column 1.
 fn a_cursor_in_a_row_from_the_right_edge()
-    ensures { cursor_in 13 (record { start = 1; number = 0; row = record { shown = blank_row 12; copies = 0 } }
+    ensures { cursor_in 13 (record { start = 1; number = 0; row = blank_row 12 }
         ∷ record {
           start = 1;
           number = 1;
-          row = record {
-            shown = record { cells = blanks 12 plain; begins = record { from = 12; to = 13; column = 1 } ∷ []; reversed = true; ends_block = true };
-            copies = 0;
-          };
+          row = record { cells = blanks 12 plain; begins = record { from = 12; to = 13; column = 1 } ∷ []; reversed = true; ends_block = true };
         } ∷ []) ≡ Some (1, 10) }
 {}
 

@@ -1,5 +1,5 @@
 -- Rows and their copies.
-use Rattle.std.specs.Prelude.{ℕ, ◌+◌, min, false, []}
+use Rattle.std.specs.Prelude.{ℕ, ◌+◌, min, false, List, [], map}
 use Rattle.rd_base.specs.Faces.{plain}
 use Rattle.rd_base.specs.Glyphs.{blanks}
 use Rattle.rd_rows.specs.Rows.{RowMeaning}
@@ -8,6 +8,9 @@ use Rattle.rd_rows.specs.Rows.{RowMeaning}
 pub record RowValues : Type 0 where
   pub shown : RowMeaning
   pub copies : ℕ
+
+abbrev pub shown_rows : List RowValues → List RowMeaning
+shown_rows rows = map (λ r. r.shown) rows
 
 -- one more copy, up to the last number
 abbrev pub copied : ℕ → ℕ

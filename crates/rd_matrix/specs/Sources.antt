@@ -1,0 +1,46 @@
+-- Sources of blocks and of their rows.
+use Rattle.std.specs.Prelude.{◌≡◌, ℕ, ◌+◌, ◌<◌, ◌≤◌, ◌&&◌, not, Bool, false, IsTrue, List, [], ◌∷◌, flat_map, count_by, All}
+use Rattle.rd_matrix.specs.Blocks.{AreBlocks, IsAmong}
+use Rattle.rd_matrix.specs.Columns.{covers}
+use Rattle.rd_matrix.specs.Entries.{EntryMeaning, all_rows}
+use Rattle.rd_matrix.specs.declared.block.Block.{Block}
+use Rattle.rd_rows.specs.declared.begin.Begin.{Begin}
+use Rattle.rd_rows.specs.Rows.{RowMeaning}
+use Rattle.rd_rows.specs.Shapes.{ShapeValues, IsShape}
+
+-- what a source is: its blocks in order, the rows of a block at a shape, and by how much the making of these may raise the steps
+pub record SourceValues : Type 0 where
+  pub blocks : List Block
+  pub rows_of : Block → ShapeValues → List RowMeaning
+  pub cost_of : Block → ShapeValues → ℕ
+
+-- the rows of all of its blocks at a shape
+abbrev pub rows_at : SourceValues → ShapeValues → List EntryMeaning
+rows_at m shape = all_rows (λ b. m.rows_of b shape) m.blocks
+
+-- the costs of blocks together
+abbrev pub costs_of : (Block → ℕ) → List Block → ℕ
+costs_of cost [] = 0
+costs_of cost (b ∷ bs) = cost b + costs_of cost bs
+
+-- whether the last row, and no other, ends the block
+abbrev pub ends_last : List RowMeaning → Bool
+ends_last [] = false
+ends_last (r ∷ []) = r.ends_block
+ends_last (r ∷ s ∷ rs) = not r.ends_block && ends_last (s ∷ rs)
+
+-- the items that begin in rows
+abbrev pub begins_of : List RowMeaning → List Begin
+begins_of rows = flat_map (λ r. r.begins) rows
+
+-- the rows of a block from one position up to another: at least one, of which the last and no other ends the block; and the items
+-- that begin in them lie in the block, and exactly one of them covers each of its positions
+pub record AreRowsOf (start end : ℕ) (rows : List RowMeaning) : Type 0 where
+  pub ends : IsTrue (ends_last rows)
+  pub inside : All (λ b. (b.from ≤ b.to) × (start + b.to ≤ end)) (begins_of rows)
+  pub once : (point : ℕ) → start ≤ point → point < end → count_by (covers start point) (begins_of rows) ≡ 1
+
+-- what holds of every source
+pub record IsSource (m : SourceValues) : Type 0 where
+  pub blocks : AreBlocks m.blocks
+  pub rows : (b : Block) (shape : ShapeValues) → IsAmong m.blocks b → IsShape shape → AreRowsOf b.start b.end (m.rows_of b shape)
