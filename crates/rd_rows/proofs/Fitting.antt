@@ -5,15 +5,15 @@ use Rattle.std.proofs.lemmas.List.{append-nil, drop_more}
 use Rattle.std.proofs.lemmas.List.Elements.{All-tail}
 use Rattle.rd_base.specs.declared.element.Element.{Element}
 use Rattle.rd_base.specs.declared.cell.Glyph.{Glyph}
-use Rattle.rd_base.specs.Elements.{IsSound}
+use Rattle.rd_base.specs.Elements.{IsSound, is_line_end}
 use Rattle.rd_rows.specs.declared.spot.Placed.{Placed}
 use Rattle.rd_rows.specs.Leads.{HasLeads}
-use Rattle.rd_rows.specs.Placing.{width_at, ends_row, is_line_end, has_line_end, columns_of}
+use Rattle.rd_rows.specs.Placing.{width_at, ends_row, has_line_end, columns_of}
 use Rattle.rd_rows.specs.Prefixes.{fitted, prefix_of, ends_none, begins_none, IsPrefix, IsLead, StandFrom}
 use Rattle.rd_rows.specs.Rows.{begin_of, cutting_of}
 use Rattle.rd_rows.specs.Shapes.{ShapeValues}
 use Rattle.rd_rows.proofs.Stands.{stand-more, stand-columns, sound-fills}
-use Rattle.rd_rows.proofs.Walk.{line_end-ends, no_end-more, not-true}
+use Rattle.rd_rows.proofs.Ends.{line_end-ends, no_end-more, not-true}
 
 -- the element with which what is left of a list begins
 pub drop-at : {A : Type 0} (xs : List A) (k : ℕ) (x : A) → k < length xs → x ≡ get_or xs k x → drop k xs ≡ x ∷ drop (k + 1) xs

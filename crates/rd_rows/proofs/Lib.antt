@@ -1,6 +1,11 @@
+mod Ends
+mod Fill
 mod Fitting
-pub mod LineLaws
+mod LineLaws
+mod Made
 mod Mirroring
+mod Splits
 mod Stands
-pub mod Walk
+mod Waiting
+mod Walk
 mod Wholeness

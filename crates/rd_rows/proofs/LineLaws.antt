@@ -1,6 +1,8 @@
--- The laws of rows, by the steps of their definition.
-use Rattle.std.proofs.Common.{◌≡◌, ℕ, suc, ◌+◌, ◌*◌, not, Bool, true, false, if◌then◌else◌, IsTrue, List, [], ◌∷◌, ◌++◌, length, flat_map, map, None, Some, refl, ap, sym, ◌∙◌, arith, length-append}
-use Rattle.std.proofs.lemmas.List.{flat_map_more, map-append, append_assoc}
+-- The laws of rows, row by row.
+use Rattle.std.proofs.Common.{◌≡◌, ℕ, zero, suc, ◌+◌, ◌*◌, ◌≤◌, not, Bool, true, false, if◌then◌else◌, IsTrue, List, [], ◌∷◌, ◌++◌, length, flat_map, map, drop, Option, None, Some, refl, ap, sym, ◌∙◌, subst, arith, length-append, append_assoc}
+use Rattle.std.proofs.lemmas.List.{map-append, append-nil}
+use Rattle.std.proofs.lemmas.Grind.{flat_map-append}
+use Rattle.rd_base.specs.Elements.{ends_once, is_line_end}
 use Rattle.rd_base.specs.declared.element.Element.{Element}
 use Rattle.rd_rows.specs.declared.begin.Begin.{Begin}
 use Rattle.rd_rows.specs.declared.cutting.Cutting.{Cutting}
@@ -8,190 +10,210 @@ use Rattle.rd_rows.specs.declared.spot.Placed.{Placed}
 use Rattle.rd_rows.specs.declared.spot.Spot.{Spot}
 use Rattle.rd_rows.specs.Leads.{HasLeads}
 use Rattle.rd_rows.specs.Shapes.{ShapeValues}
-use Rattle.rd_rows.specs.Placing.{fits, ends_row, is_line_end, is_item, placed_at, behind, next_row, next_line, line_start, columns_of, has_line_end}
-use Rattle.rd_rows.specs.Prefixes.{begins_none}
-use Rattle.rd_rows.specs.Rows.{LaidRow, rows_from, rows_of, begin_of, laid, weight_of}
-use Rattle.rd_rows.specs.Lines.{ends_once}
-use Rattle.rd_rows.specs.Laws.{ends_last, range_of, ranges_in, ranges_of, lines_in, IsPlacedOnce}
+use Rattle.rd_rows.specs.Cuts.{cut_row, RowCut}
+use Rattle.rd_rows.specs.Placing.{is_item, placed_at, behind, behind_all, next_row, next_line, line_start, place_all, columns_of, has_line_end}
+use Rattle.rd_rows.specs.Prefixes.{begins_none, IsLead}
+use Rattle.rd_rows.specs.Rows.{RowMeaning, LaidRow, rows_within, rows_of, row_of, begin_of, laid, weight_of}
+use Rattle.rd_rows.specs.Laws.{seen_rows, ends_last, begins_of, range_of, ranges_of, lines_in, IsPlacedOnce}
+use Rattle.rd_rows.proofs.Ends.{line_ends, line_end-ends, standing-ends, ends_once-parts, ends_once-all}
 use Rattle.rd_rows.proofs.Fitting.{begins-none}
-use Rattle.rd_rows.proofs.Walk.{line_end-ends, ends_once-tail, ends_once-last, no_end-more, unfit-on}
+use Rattle.rd_rows.proofs.Splits.{IsCut, cut-is, rest-less, none-left}
+
+either-lead : (c : Cutting) (b : Bool) → HasLeads c → IsLead (if b then c.first else c.wrap)
+either-lead c true leads = leads.first
+either-lead c false leads = leads.wrap
+
+-- the row that is cut at a place, and what it is cut from
+abbrev pub cut_at : Cutting → List Placed → Spot → Element → List Element → RowCut
+cut_at c lead spot e es = cut_row c.shape (next_row (columns_of lead) spot) (e ∷ es)
+
+abbrev pub placed_in : Cutting → List Placed → Spot → List Element → List Placed
+placed_in c lead spot xs = place_all c.shape (next_row (columns_of lead) spot) xs
 
 -- the last row
 
-last-cons : (r : LaidRow) (rs : List LaidRow) → r.row.ends_block ≡ false → ends_last rs ≡ true → ends_last (r ∷ rs) ≡ true
+last-cons : (r : RowMeaning) (rs : List RowMeaning) → r.ends_block ≡ false → ends_last rs ≡ true → ends_last (r ∷ rs) ≡ true
 last-cons r [] h k = cc
 last-cons r (s ∷ rs) h k = rw (h, k) refl
 
-last-step : (c : Cutting) (spot : Spot) (ps : List Placed) (e : Element) (es : List Element) → HasLeads c → has_line_end ps ≡ false → is_line_end e.look ≡ false
-    → ((sp : Spot) (qs : List Placed) → has_line_end qs ≡ false → ends_last (rows_from c sp qs es) ≡ true)
-    → (b d : Bool) → fits c.shape spot e ≡ b → ends_row e.look ≡ d → ends_last (rows_from c spot ps (e ∷ es)) ≡ true
-last-step c spot ps e es leads none more rest true true h k =
-    let p = placed_at c.shape spot e in
-    let sp = next_row (columns_of c.first) (next_line (behind spot p)) in
-    rw (h, k) (last-cons (laid c (spot.used + p.columns) false (ps ++ p ∷ [])) (rows_from c sp c.first es) (no_end-more ps p none ∙ more) (rest sp c.first leads.first.on))
-last-step c spot ps e es leads none more rest true false h k =
-    let p = placed_at c.shape spot e in
-    rw (h, k) (rest (behind spot p) (ps ++ p ∷ []) (no_end-more ps p none ∙ more))
-last-step c spot ps e es leads none more rest false d h k =
-    let q = placed_at c.shape (next_row (columns_of c.wrap) spot) e in
-    let sp = behind (next_row (columns_of c.wrap) spot) q in
-    rw h (last-cons (laid c spot.used true ps) (rows_from c sp (c.wrap ++ q ∷ []) es) none (rest sp (c.wrap ++ q ∷ []) (no_end-more c.wrap q leads.wrap.on ∙ more)))
+last-step : (c : Cutting) (lead lead2 : List Placed) (start spot2 : Spot) (r : RowMeaning) (xs rest : List Element) (n : ℕ) → has_line_end lead ≡ false
+    → r.ends_block ≡ has_line_end (lead ++ place_all c.shape start xs) → IsTrue (ends_once (xs ++ rest))
+    → (IsTrue (ends_once rest) → ends_last (seen_rows (rows_within n c lead2 spot2 rest)) ≡ true)
+    → ends_last (r ∷ seen_rows (rows_within n c lead2 spot2 rest)) ≡ true
+last-step c lead lead2 start spot2 r xs [] n none same end rest =
+    let all : IsTrue (ends_once xs) = subst (λ ys. IsTrue (ends_once ys)) (append-nil xs) end in
+    rw (none-left n c lead2 spot2) (same ∙ (standing-ends c.shape lead start xs none ∙ ends_once-all xs all))
+last-step c lead lead2 start spot2 r xs (f ∷ fs) n none same end rest =
+    let parts = ends_once-parts xs f fs end in
+    last-cons r _ (same ∙ (standing-ends c.shape lead start xs none ∙ parts.0)) (rest parts.1)
 
-last-cases : (c : Cutting) (spot : Spot) (ps : List Placed) (e : Element) (es : List Element) (d : Bool) → HasLeads c → is_line_end e.look ≡ d → has_line_end ps ≡ false → IsTrue (ends_once (e ∷ es))
-    → (IsTrue (ends_once es) → (sp : Spot) (qs : List Placed) → has_line_end qs ≡ false → ends_last (rows_from c sp qs es) ≡ true)
-    → ends_last (rows_from c spot ps (e ∷ es)) ≡ true
-last-cases c spot ps e es true leads h none end rest =
-    rw (ends_once-last e es h end) (rw (line_end-ends e.look h) (no_end-more ps (placed_at c.shape spot e) none ∙ h))
-last-cases c spot ps e es false leads h none end rest =
-    last-step c spot ps e es leads none h (rest (ends_once-tail e es h end)) (fits c.shape spot e) (ends_row e.look) refl refl
-
-pub last-rows : (c : Cutting) (spot : Spot) (ps : List Placed) (es : List Element) → HasLeads c → has_line_end ps ≡ false → IsTrue (ends_once es) → ends_last (rows_from c spot ps es) ≡ true
-last-rows c spot ps [] leads none end = cc
-last-rows c spot ps (e ∷ es) leads none end =
-    last-cases c spot ps e es (is_line_end e.look) leads refl none end (λ more sp qs h. last-rows c sp qs es leads h more)
+pub last-rows : (n : ℕ) (c : Cutting) (lead : List Placed) (spot : Spot) (es : List Element) → HasLeads c → IsLead lead → length es ≤ n → IsTrue (ends_once es)
+    → ends_last (seen_rows (rows_within n c lead spot es)) ≡ true
+last-rows n c lead spot [] leads one few end = cc
+last-rows zero c lead spot (e ∷ es) leads one few end = absurd (omega arith)
+last-rows (suc n) c lead spot (e ∷ es) leads one few end =
+    let start = next_row (columns_of lead) spot in
+    let cut = cut_at c lead spot e es in
+    let is = cut-is c.shape start e es in
+    let rest : List Element = drop (length cut.elements) (e ∷ es) in
+    let ps = place_all c.shape start cut.elements in
+    let lead2 : List Placed = if cut.ended then c.first else c.wrap in
+    let spot2 : Spot = if cut.ended then next_line (behind_all start ps) else behind_all start ps in
+    last-step c lead lead2 start spot2 (row_of c (behind_all start ps).used cut.marked (lead ++ ps)) cut.elements rest n one.on refl (subst (λ ys. IsTrue (ends_once ys)) is.parts end)
+    (λ more. last-rows n c lead2 spot2 rest leads (either-lead c cut.ended leads) (rest-less n e es cut.elements is.some few) more)
 
 -- where items begin
 
-ranges-more : (shape : ShapeValues) (ps : List Placed) (p : Placed) → map range_of (flat_map (begin_of shape) (ps ++ p ∷ [])) ≡ map range_of (flat_map (begin_of shape) ps) ++ map range_of (begin_of shape p)
-ranges-more shape ps p =
-    ap (map range_of) (sym (flat_map_more (begin_of shape) [] ps p)) ∙ map-append range_of (flat_map (begin_of shape) ps) (begin_of shape p)
+-- the item of the element before, behind these
+abbrev pub before_behind : Option ℕ → List Element → Option ℕ
+before_behind before [] = before
+before_behind before (e ∷ es) = before_behind (Some e.origin.item) es
+
+pub ranges-append : (before : Option ℕ) (xs ys : List Element) → ranges_of before (xs ++ ys) ≡ ranges_of before xs ++ ranges_of (before_behind before xs) ys
+ranges-append before [] ys = refl
+ranges-append before (x ∷ xs) ys = rw (ranges-append (Some x.origin.item) xs ys) (sym (append_assoc _ (ranges_of (Some x.origin.item) xs) (ranges_of (before_behind (Some x.origin.item) xs) ys)))
+
+before-placed : (shape : ShapeValues) (spot : Spot) (xs : List Element) → (behind_all spot (place_all shape spot xs)).before ≡ before_behind spot.before xs
+before-placed shape spot [] = refl
+before-placed shape spot (x ∷ xs) = before-placed shape (behind spot (placed_at shape spot x)) xs
 
 begun-by : (b : Bool) (r : Begin) → map range_of (if not b then r ∷ [] else []) ≡ (if b then [] else (r.from, r.to) ∷ [])
 begun-by true r = refl
 begun-by false r = refl
 
-ranges-none : (shape : ShapeValues) (ps : List Placed) → IsTrue (begins_none ps) → map range_of (flat_map (begin_of shape) ps) ≡ []
-ranges-none shape ps h = ap (map range_of) (begins-none shape ps h)
+begun-placed : (shape : ShapeValues) (spot : Spot) (xs : List Element) → map range_of (flat_map (begin_of shape) (place_all shape spot xs)) ≡ ranges_of spot.before xs
+begun-placed shape spot [] = refl
+begun-placed shape spot (x ∷ xs) =
+    let p = placed_at shape spot x in
+    map-append range_of (begin_of shape p) (flat_map (begin_of shape) (place_all shape (behind spot p) xs))
+    ∙ rw (begun-placed shape (behind spot p) xs) (ap (λ (zs : List (ℕ × ℕ)). zs ++ ranges_of (Some x.origin.item) xs) (begun-by (is_item spot.before x.origin.item) _))
 
-ranges-one : (shape : ShapeValues) (ps : List Placed) (q : Placed) → IsTrue (begins_none ps) → map range_of (flat_map (begin_of shape) (ps ++ q ∷ [])) ≡ map range_of (begin_of shape q)
-ranges-one shape ps q h = ranges-more shape ps q ∙ ap (λ xs. xs ++ map range_of (begin_of shape q)) (ranges-none shape ps h)
+begun-row : (shape : ShapeValues) (lead : List Placed) (start : Spot) (xs : List Element) → IsTrue (begins_none lead)
+    → map range_of (flat_map (begin_of shape) (lead ++ place_all shape start xs)) ≡ ranges_of start.before xs
+begun-row shape lead start xs none =
+    ap (map range_of) (flat_map-append (begin_of shape) lead (place_all shape start xs) ∙ ap (λ (bs : List Begin). bs ++ flat_map (begin_of shape) (place_all shape start xs)) (begins-none shape lead none))
+    ∙ begun-placed shape start xs
 
-joined-two : (all old this first rest end : List (ℕ × ℕ)) → all ≡ old ++ this → this ≡ first → rest ≡ end → all ++ rest ≡ old ++ (first ++ end)
-joined-two all old this first rest end h i k = rw (h, i, k) (append_assoc old first end)
+before-next : (b : Bool) (spot : Spot) → (if b then next_line spot else spot).before ≡ spot.before
+before-next true spot = refl
+before-next false spot = refl
 
-begin-here : (shape : ShapeValues) (spot : Spot) (e : Element) → map range_of (begin_of shape (placed_at shape spot e)) ≡ (if is_item spot.before e.origin.item then [] else (e.origin.from, e.origin.to) ∷ [])
-begin-here shape spot e = begun-by (is_item spot.before e.origin.item) _
-
-begun-step : (c : Cutting) (spot : Spot) (ps : List Placed) (e : Element) (es : List Element) → HasLeads c
-    → ((sp : Spot) (qs : List Placed) → flat_map ranges_in (rows_from c sp qs es) ≡ map range_of (flat_map (begin_of c.shape) qs) ++ ranges_of sp.before es)
-    → (b d : Bool) → fits c.shape spot e ≡ b → ends_row e.look ≡ d
-    → flat_map ranges_in (rows_from c spot ps (e ∷ es)) ≡ map range_of (flat_map (begin_of c.shape) ps) ++ ranges_of spot.before (e ∷ es)
-begun-step c spot ps e es leads rest true true h k =
-    let p = placed_at c.shape spot e in
-    let sp = next_row (columns_of c.first) (next_line (behind spot p)) in
-    let first : List (ℕ × ℕ) = (if is_item spot.before e.origin.item then [] else (e.origin.from, e.origin.to) ∷ []) in
-    let old : List (ℕ × ℕ) = map range_of (flat_map (begin_of c.shape) ps) in
-    let none = ap (λ (xs : List (ℕ × ℕ)). xs ++ ranges_of (Some e.origin.item) es) (ranges-none c.shape c.first leads.first.items) in
-    rw (h, k) (joined-two _ old _ first _ (ranges_of (Some e.origin.item) es) (ranges-more c.shape ps p) (begin-here c.shape spot e) (rest sp c.first ∙ none))
-begun-step c spot ps e es leads rest true false h k =
-    let p = placed_at c.shape spot e in
-    let first : List (ℕ × ℕ) = (if is_item spot.before e.origin.item then [] else (e.origin.from, e.origin.to) ∷ []) in
-    let old : List (ℕ × ℕ) = map range_of (flat_map (begin_of c.shape) ps) in
-    rw (h, k) (rest (behind spot p) (ps ++ p ∷ []) ∙ joined-two _ old _ first (ranges_of (Some e.origin.item) es) (ranges_of (Some e.origin.item) es) (ranges-more c.shape ps p) (begin-here c.shape spot e) refl)
-begun-step c spot ps e es leads rest false d h k =
-    let start = next_row (columns_of c.wrap) spot in
-    let q = placed_at c.shape start e in
-    let old : List (ℕ × ℕ) = map range_of (flat_map (begin_of c.shape) ps) in
-    rw h (ap (λ (xs : List (ℕ × ℕ)). old ++ xs) (rest (behind start q) (c.wrap ++ q ∷ []) ∙ ap (λ (xs : List (ℕ × ℕ)). xs ++ ranges_of (Some e.origin.item) es) (ranges-one c.shape c.wrap q leads.wrap.items ∙ begin-here c.shape start e)))
-
-begun-cases : (c : Cutting) (spot : Spot) (ps : List Placed) (e : Element) (es : List Element) (d : Bool) → HasLeads c → is_line_end e.look ≡ d → IsTrue (ends_once (e ∷ es))
-    → (IsTrue (ends_once es) → (sp : Spot) (qs : List Placed) → flat_map ranges_in (rows_from c sp qs es) ≡ map range_of (flat_map (begin_of c.shape) qs) ++ ranges_of sp.before es)
-    → flat_map ranges_in (rows_from c spot ps (e ∷ es)) ≡ map range_of (flat_map (begin_of c.shape) ps) ++ ranges_of spot.before (e ∷ es)
-begun-cases c spot ps e es true leads h end rest =
-    let p = placed_at c.shape spot e in
-    let first : List (ℕ × ℕ) = (if is_item spot.before e.origin.item then [] else (e.origin.from, e.origin.to) ∷ []) in
-    let old : List (ℕ × ℕ) = map range_of (flat_map (begin_of c.shape) ps) in
-    rw (ends_once-last e es h end) (rw (line_end-ends e.look h) (joined-two _ old _ first [] [] (ranges-more c.shape ps p) (begin-here c.shape spot e) refl))
-begun-cases c spot ps e es false leads h end rest =
-    begun-step c spot ps e es leads (rest (ends_once-tail e es h end)) (fits c.shape spot e) (ends_row e.look) refl refl
-
-begun-placed : (c : Cutting) (spot : Spot) (ps : List Placed) (es : List Element) → HasLeads c → IsTrue (ends_once es) → flat_map ranges_in (rows_from c spot ps es) ≡ map range_of (flat_map (begin_of c.shape) ps) ++ ranges_of spot.before es
-begun-placed c spot ps [] leads end = cc
-begun-placed c spot ps (e ∷ es) leads end =
-    begun-cases c spot ps e es (is_line_end e.look) leads refl end (λ more sp qs. begun-placed c sp qs es leads more)
-
-pub begun-rows : (c : Cutting) (es : List Element) → HasLeads c → IsTrue (ends_once es) → flat_map ranges_in (rows_of c es) ≡ ranges_of None es
-begun-rows c es leads end =
-    begun-placed c (next_row (columns_of c.first) line_start) c.first es leads end ∙ ap (λ (xs : List (ℕ × ℕ)). xs ++ ranges_of None es) (ranges-none c.shape c.first leads.first.items)
+pub begun-rows : (n : ℕ) (c : Cutting) (lead : List Placed) (spot : Spot) (es : List Element) → HasLeads c → IsLead lead → length es ≤ n
+    → map range_of (begins_of (seen_rows (rows_within n c lead spot es))) ≡ ranges_of spot.before es
+begun-rows n c lead spot [] leads one few = rw (none-left n c lead spot) refl
+begun-rows zero c lead spot (e ∷ es) leads one few = absurd (omega arith)
+begun-rows (suc n) c lead spot (e ∷ es) leads one few =
+    let start = next_row (columns_of lead) spot in
+    let cut = cut_at c lead spot e es in
+    let ps = place_all c.shape start cut.elements in
+    let is = cut-is c.shape start e es in
+    let rest : List Element = drop (length cut.elements) (e ∷ es) in
+    let lead2 : List Placed = if cut.ended then c.first else c.wrap in
+    let spot2 : Spot = if cut.ended then next_line (behind_all start ps) else behind_all start ps in
+    let before : spot2.before ≡ before_behind spot.before cut.elements = before-next cut.ended (behind_all start ps) ∙ before-placed c.shape start cut.elements in
+    let later = begun-rows n c lead2 spot2 rest leads (either-lead c cut.ended leads) (rest-less n e es cut.elements is.some few) in
+    map-append range_of (flat_map (begin_of c.shape) (lead ++ ps)) (begins_of (seen_rows (rows_within n c lead2 spot2 rest)))
+    ∙ (rw (begun-row c.shape lead start cut.elements one.items, later, before) (sym (ranges-append spot.before cut.elements rest))
+    ∙ ap (ranges_of spot.before) (sym is.parts))
 
 -- how often elements were placed
 
--- the rows of what is left, where a row has begun: its own elements, those that are left, and the prefixes of the other rows
-record Counted (rows : List LaidRow) (begun left lines first wrap : ℕ) : Type 0 where
+-- the rows of what is left, of which the first begins with a prefix of so many elements
+record Counted (rows : List LaidRow) (lead left lines first wrap : ℕ) : Type 0 where
   continued : ℕ
   count : length rows ≡ lines + continued
-  weight : weight_of rows + first ≡ begun + left + lines * first + continued * wrap
+  weight : weight_of rows + first ≡ lead + left + lines * first + continued * wrap
 
-count-line : (n k w first lines a continued wrap : ℕ) → a ≡ n + 1 → w + first ≡ first + k + lines * first + continued * wrap → (a + w) + first ≡ n + suc k + (1 + lines) * first + continued * wrap
-count-line n k w first lines a continued wrap h i =
-    let step : (1 + lines) * first ≡ first + lines * first = grind arith in omega (arith, step)
+lines-append : (xs ys : List Element) → lines_in (xs ++ ys) ≡ lines_in xs + lines_in ys
+lines-append [] ys = omega arith
+lines-append (x ∷ xs) ys = let e = lines-append xs ys in omega (arith, e)
 
-count-held : (n k w first lines a continued wrap : ℕ) → a ≡ wrap + 1 → w + first ≡ a + k + lines * first + continued * wrap → (n + w) + first ≡ n + suc k + (0 + lines) * first + (continued + 1) * wrap
-count-held n k w first lines a continued wrap h i =
+counted-last : (row lead left lines first wrap : ℕ) → row ≡ lead + left → lines ≡ 1 → (row + 0) + first ≡ lead + left + lines * first + 0 * wrap
+counted-last row lead left lines first wrap h k = rw k (let one : 1 * first ≡ first = grind arith in let none : 0 * wrap ≡ 0 = grind arith in omega (arith, one, none, h))
+
+counted-line : (row w lead xs rest here lines first wrap continued : ℕ) → row ≡ lead + xs → here ≡ 1 → w + first ≡ first + rest + lines * first + continued * wrap
+    → (row + w) + first ≡ lead + (xs + rest) + (here + lines) * first + continued * wrap
+counted-line row w lead xs rest here lines first wrap continued h k i =
+    rw k (let step : (1 + lines) * first ≡ first + lines * first = grind arith in omega (arith, step, h, i))
+
+counted-wrap : (row w lead xs rest here lines first wrap continued : ℕ) → row ≡ lead + xs → here ≡ 0 → w + first ≡ wrap + rest + lines * first + continued * wrap
+    → (row + w) + first ≡ lead + (xs + rest) + (here + lines) * first + (continued + 1) * wrap
+counted-wrap row w lead xs rest here lines first wrap continued h k i =
+    let same : (here + lines) * first ≡ lines * first = ap (λ k. k * first) (let e : here + lines ≡ lines = omega (arith, k) in e) in
     let step : (continued + 1) * wrap ≡ continued * wrap + wrap = grind arith in
-    let same : (0 + lines) * first ≡ lines * first = ap (λ k. k * first) (let e : 0 + lines ≡ lines = omega arith in e) in
-    omega (arith, step, same)
+    omega (arith, same, step, h, i)
 
-count-on : (w n k rest a : ℕ) → a ≡ n + 1 → w ≡ a + k + rest → w ≡ n + suc k + rest
-count-on w n k rest a h i = omega arith
+counted-step : (c : Cutting) (lead : List Placed) (spot2 : Spot) (r : LaidRow) (xs rest : List Element) (n : ℕ) (b : Bool) → r.weight ≡ length lead + length xs
+    → lines_in xs ≡ (if b then 1 else 0) → Counted (rows_within n c (if b then c.first else c.wrap) spot2 rest) (length (if b then c.first else c.wrap)) (length rest) (lines_in rest) (length c.first) (length c.wrap)
+    → Counted (r ∷ rows_within n c (if b then c.first else c.wrap) spot2 rest) (length lead) (length xs + length rest) (lines_in xs + lines_in rest) (length c.first) (length c.wrap)
+counted-step c lead spot2 r xs rest n true weight lines later =
+    let count = later.count in
+    record {
+      continued = later.continued;
+      count = omega (arith, count, lines);
+      weight = counted-line r.weight _ (length lead) (length xs) (length rest) (lines_in xs) (lines_in rest) (length c.first) (length c.wrap) later.continued weight lines later.weight;
+    }
+counted-step c lead spot2 r xs rest n false weight lines later =
+    let count = later.count in
+    record {
+      continued = later.continued + 1;
+      count = omega (arith, count, lines);
+      weight = counted-wrap r.weight _ (length lead) (length xs) (length rest) (lines_in xs) (lines_in rest) (length c.first) (length c.wrap) later.continued weight lines later.weight;
+    }
 
-count-last : (a n first wrap : ℕ) → a ≡ n + 1 → (a + 0) + first ≡ n + 1 + (1 + 0) * first + 0 * wrap
-count-last a n first wrap h = let step : (1 + 0) * first ≡ first = grind arith in let none : 0 * wrap ≡ 0 = grind arith in omega (arith, step, none)
+no-line : (x : Element) (xs : List Element) (b : Bool) → is_line_end x.look ≡ b → lines_in (x ∷ xs) ≡ 0 → line_ends (x ∷ xs) ≡ true → (lines_in xs ≡ 0 → line_ends xs ≡ true → ⊥) → ⊥
+no-line x xs true h none some rest = absurd (let ends = line_end-ends x.look h in let more : 1 + lines_in xs ≡ 0 = rw ends at none in omega (arith, more))
+no-line x xs false h none some rest = rest (omega arith) (rw h at some)
 
-counted-step : (c : Cutting) (spot : Spot) (ps : List Placed) (e : Element) (es : List Element)
-    → ((sp : Spot) (qs : List Placed) → Counted (rows_from c sp qs es) (length qs) (length es) (lines_in es) (length c.first) (length c.wrap))
-    → (b d : Bool) → fits c.shape spot e ≡ b → ends_row e.look ≡ d
-    → Counted (rows_from c spot ps (e ∷ es)) (length ps) (length (e ∷ es)) (lines_in (e ∷ es)) (length c.first) (length c.wrap)
-counted-step c spot ps e es rest true true h k =
-    let p = placed_at c.shape spot e in
-    let r = rest (next_row (columns_of c.first) (next_line (behind spot p))) c.first in
-    let count = r.count in
-    rw (h, k) (record {
-      continued = r.continued;
-      count = omega (arith, count);
-      weight = count-line (length ps) (length es) _ (length c.first) (lines_in es) _ r.continued (length c.wrap) (length-append ps (p ∷ [])) r.weight;
-    })
-counted-step c spot ps e es rest true false h k =
-    let p = placed_at c.shape spot e in
-    let r = rest (behind spot p) (ps ++ p ∷ []) in
-    let count = r.count in
-    let weight = r.weight in
-    let size = length-append ps (p ∷ []) in
-    rw (h, k) (record {
-      continued = r.continued;
-      count = omega (arith, count);
-      weight = omega (arith, weight, size);
-    })
-counted-step c spot ps e es rest false d h k =
-    let q = placed_at c.shape (next_row (columns_of c.wrap) spot) e in
-    let r = rest (behind (next_row (columns_of c.wrap) spot) q) (c.wrap ++ q ∷ []) in
-    let count = r.count in
-    let on = unfit-on c.shape spot e h in
-    rw (h, on) (record {
-      continued = r.continued + 1;
-      count = omega (arith, count);
-      weight = count-held (length ps) (length es) _ (length c.first) (lines_in es) _ r.continued (length c.wrap) (length-append c.wrap (q ∷ [])) r.weight;
-    })
+no-lines : (xs : List Element) → lines_in xs ≡ 0 → line_ends xs ≡ true → ⊥
+no-lines [] h k = cc
+no-lines (x ∷ xs) h k = no-line x xs (is_line_end x.look) refl h k (no-lines xs)
 
-counted-cases : (c : Cutting) (spot : Spot) (ps : List Placed) (e : Element) (es : List Element) (d : Bool) → is_line_end e.look ≡ d → IsTrue (ends_once (e ∷ es))
-    → (IsTrue (ends_once es) → (sp : Spot) (qs : List Placed) → Counted (rows_from c sp qs es) (length qs) (length es) (lines_in es) (length c.first) (length c.wrap))
-    → Counted (rows_from c spot ps (e ∷ es)) (length ps) (length (e ∷ es)) (lines_in (e ∷ es)) (length c.first) (length c.wrap)
-counted-cases c spot ps e es true h end rest =
-    rw (ends_once-last e es h end) (rw (line_end-ends e.look h) (record {
+line-end-counts : (xs : List Element) (b : Bool) → lines_in xs ≡ (if b then 1 else 0) → line_ends xs ≡ true → lines_in xs ≡ 1
+line-end-counts xs true h k = h
+line-end-counts xs false h k = absurd (no-lines xs h k)
+
+counted-rest : (c : Cutting) (lead : List Placed) (spot2 : Spot) (r : LaidRow) (xs rest : List Element) (n : ℕ) (b : Bool) → r.weight ≡ length lead + length xs
+    → lines_in xs ≡ (if b then 1 else 0) → IsTrue (ends_once (xs ++ rest))
+    → (IsTrue (ends_once rest) → Counted (rows_within n c (if b then c.first else c.wrap) spot2 rest) (length (if b then c.first else c.wrap)) (length rest) (lines_in rest) (length c.first) (length c.wrap))
+    → Counted (r ∷ rows_within n c (if b then c.first else c.wrap) spot2 rest) (length lead) (length xs + length rest) (lines_in xs + lines_in rest) (length c.first) (length c.wrap)
+counted-rest c lead spot2 r xs [] n b weight lines end rest =
+    let all : IsTrue (ends_once xs) = subst (λ ys. IsTrue (ends_once ys)) (append-nil xs) end in
+    let one = line-end-counts xs b lines (ends_once-all xs all) in
+    rw (none-left n c (if b then c.first else c.wrap) spot2) (record {
       continued = 0;
-      count = refl;
-      weight = count-last _ (length ps) (length c.first) (length c.wrap) (length-append ps (placed_at c.shape spot e ∷ []));
-    }))
-counted-cases c spot ps e es false h end rest =
-    counted-step c spot ps e es (rest (ends_once-tail e es h end)) (fits c.shape spot e) (ends_row e.look) refl refl
+      count = omega (arith, one);
+      weight = counted-last r.weight (length lead) (length xs + 0) (lines_in xs + 0) (length c.first) (length c.wrap) (omega (arith, weight)) (omega (arith, one));
+    })
+counted-rest c lead spot2 r xs (f ∷ fs) n b weight lines end rest =
+    counted-step c lead spot2 r xs (f ∷ fs) n b weight lines (rest (ends_once-parts xs f fs end).1)
 
-counted : (c : Cutting) (spot : Spot) (ps : List Placed) (es : List Element) → IsTrue (ends_once es) → Counted (rows_from c spot ps es) (length ps) (length es) (lines_in es) (length c.first) (length c.wrap)
-counted c spot ps [] end = cc
-counted c spot ps (e ∷ es) end =
-    counted-cases c spot ps e es (is_line_end e.look) refl end (λ more sp qs. counted c sp qs es more)
+pub length-placed : (shape : ShapeValues) (spot : Spot) (xs : List Element) → length (place_all shape spot xs) ≡ length xs
+length-placed shape spot [] = refl
+length-placed shape spot (x ∷ xs) = ap suc (length-placed shape (behind spot (placed_at shape spot x)) xs)
+
+counted : (n : ℕ) (c : Cutting) (lead : List Placed) (spot : Spot) (es : List Element) → length es ≤ n → IsTrue (ends_once es)
+    → Counted (rows_within n c lead spot es) (length lead) (length es) (lines_in es) (length c.first) (length c.wrap)
+counted n c lead spot [] few end = cc
+counted zero c lead spot (e ∷ es) few end = absurd (omega arith)
+counted (suc n) c lead spot (e ∷ es) few end =
+    let start = next_row (columns_of lead) spot in
+    let cut = cut_at c lead spot e es in
+    let ps = place_all c.shape start cut.elements in
+    let is = cut-is c.shape start e es in
+    let rest : List Element = drop (length cut.elements) (e ∷ es) in
+    let lead2 : List Placed = if cut.ended then c.first else c.wrap in
+    let spot2 : Spot = if cut.ended then next_line (behind_all start ps) else behind_all start ps in
+    let weight : length (lead ++ ps) ≡ length lead + length cut.elements = length-append lead ps ∙ ap (λ k. length lead + k) (length-placed c.shape start cut.elements) in
+    let all = counted-rest c lead spot2 (laid c (behind_all start ps).used cut.marked (lead ++ ps)) cut.elements rest n cut.ended weight is.lines (subst (λ ys. IsTrue (ends_once ys)) is.parts end)
+    (λ more. counted n c lead2 spot2 rest (rest-less n e es cut.elements is.some few) more) in
+    let size : length cut.elements + length rest ≡ length (e ∷ es) = sym (ap length is.parts ∙ length-append cut.elements rest) in
+    let lines : lines_in cut.elements + lines_in rest ≡ lines_in (e ∷ es) = sym (ap lines_in is.parts ∙ lines-append cut.elements rest) in
+    subst (λ k. Counted (rows_within (suc n) c lead spot (e ∷ es)) (length lead) k (lines_in (e ∷ es)) (length c.first) (length c.wrap)) size
+    (subst (λ k. Counted (rows_within (suc n) c lead spot (e ∷ es)) (length lead) (length cut.elements + length rest) k (length c.first) (length c.wrap)) lines all)
 
 pub placed-once : (c : Cutting) (es : List Element) → IsTrue (ends_once es) → IsPlacedOnce c es (rows_of c es)
 placed-once c es end =
-    let all = counted c (next_row (columns_of c.first) line_start) c.first es end in
+    let all = counted (length es) c c.first line_start es (omega arith) end in
     let weight = all.weight in
     record { continued = all.continued; count = all.count; weight = omega (arith, weight) }

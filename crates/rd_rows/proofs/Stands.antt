@@ -3,7 +3,8 @@ use Rattle.std.proofs.Common.{◌≡◌, ℕ, zero, suc, ◌+◌, ◌-◌, ◌�
 use Rattle.std.specs.Prelude.{slice_get}
 use Rattle.std.proofs.lemmas.Bool.Decides.{nat_tests}
 use Rattle.std.proofs.lemmas.List.{length-replicate}
-use Rattle.rd_base.specs.Elements.{IsSound, IsSoundLook}
+use Rattle.std.proofs.lemmas.List.Elements.{All-tail}
+use Rattle.rd_base.specs.Elements.{IsSound, IsSoundLook, AreSound}
 use Rattle.rd_base.specs.Faces.{Attributes}
 use Rattle.rd_base.specs.Glyphs.{is_space, glyph_cells}
 use Rattle.rd_base.specs.declared.cell.Cell.TheVariants.{Rest}
@@ -15,7 +16,7 @@ use Rattle.rd_base.specs.declared.element.Look.{Look}
 use Rattle.rd_base.specs.declared.element.Look.TheVariants.{Blank, Glyph as Shown, RowEnd, LineEnd}
 use Rattle.rd_rows.specs.declared.spot.Placed.{Placed}
 use Rattle.rd_rows.specs.declared.spot.Spot.{Spot}
-use Rattle.rd_rows.specs.Placing.{width_at, is_blank, glyph_in, columns_in, columns_of}
+use Rattle.rd_rows.specs.Placing.{width_at, is_blank, glyph_in, columns_in, placed_at, behind, behind_all, place_all, columns_of}
 use Rattle.rd_rows.specs.Prefixes.{FillsColumns, StandFrom}
 use Rattle.rd_rows.specs.Rows.{seen, seen_in, first_seen, whole_cells}
 use Rattle.rd_rows.specs.Shapes.{ShapeValues, room, truncates}
@@ -55,6 +56,18 @@ cut-fills (Shown g) b width k h = h
 
 pub placed-fills : (shape : ShapeValues) (spot : Spot) (e : Element) → IsSound e → FillsColumns e.look (columns_in shape spot e)
 placed-fills shape spot e h = cut-fills e.look (not (truncates shape)) (width_at e.extent spot.column) (room shape - spot.used) (sound-fills e spot.column h)
+
+-- elements of a line one behind the other
+
+pub stand-append : (a b c : ℕ) (ps qs : List Placed) → StandFrom a ps b → StandFrom b qs c → StandFrom a (ps ++ qs) c
+stand-append a b c [] qs h k = subst (λ from. StandFrom from qs c) (sym h) k
+stand-append a b c (p ∷ ps) qs h k = (h.0, h.1, stand-append (a + p.columns) b c ps qs h.2 k)
+
+pub stand-placed : (shape : ShapeValues) (spot : Spot) (xs : List Element) → AreSound xs → StandFrom spot.used (place_all shape spot xs) (behind_all spot (place_all shape spot xs)).used
+stand-placed shape spot [] h = refl
+stand-placed shape spot (x ∷ xs) h =
+    let p = placed_at shape spot x in
+    (refl, placed-fills shape spot x (h zero x (omega arith)), stand-placed shape (behind spot p) xs (All-tail IsSound x xs h))
 
 -- the cells that are seen
 

@@ -1,434 +1,390 @@
 -- What holds while a row is made, and what follows when it ends.
-use Rattle.std.proofs.Common.{◌≡◌, ℕ, zero, suc, min, ◌+◌, ◌-◌, ◌≤◌, ◌||◌, not, Bool, true, false, if◌then◌else◌, IsTrue, List, [], ◌∷◌, ◌++◌, length, flat_map, Option, None, Some, Result, Ok, Err, IfOk, IsErr, refl, ap, sym, ◌∙◌, subst, arith, length-append}
-use Rattle.std.proofs.lemmas.List.{flat_map_more}
-use Rattle.std.proofs.lemmas.List.Elements.{All-tail}
-use Rattle.rd_base.specs.declared.cell.Cell.{Cell}
+use Rattle.std.proofs.Common.{◌≡◌, ℕ, zero, suc, ◌+◌, ◌-◌, ◌^◌, ◌<◌, ◌≤◌, ◌&&◌, ◌||◌, not, Bool, true, false, if◌then◌else◌, IsTrue, List, [], ◌∷◌, ◌++◌, length, drop, flat_map, Option, None, Some, Result, Ok, Err, IfOk, refl, ap, sym, ◌∙◌, subst, arith, length-append, append_assoc}
+use Rattle.std.proofs.lemmas.List.{append-nil, length-drop}
+use Rattle.std.proofs.lemmas.List.Elements.{All-append}
+use Rattle.std.proofs.Math.Seq.{drop-append_seam}
+use Rattle.rd_base.specs.Elements.{IsSound, AreSound, width_at_most, columns_at_most, is_line_end, ends_once}
 use Rattle.rd_base.specs.declared.element.Element.{Element}
-use Rattle.rd_base.specs.declared.element.Extent.{Extent}
-use Rattle.rd_base.specs.declared.element.Extent.TheVariants.{Fixed, Tab, Column}
-use Rattle.rd_base.specs.declared.element.Look.{Look}
-use Rattle.rd_base.specs.declared.element.Look.TheVariants.{Blank, Glyph, RowEnd, LineEnd}
 use Rattle.rd_base.specs.declared.memory.Memory.{Memory}
-use Rattle.rd_base.specs.Elements.{IsSound}
-use Rattle.rd_rows.specs.declared.begin.Begin.{Begin}
 use Rattle.rd_rows.specs.declared.cutting.Cutting.{Cutting}
-use Rattle.rd_rows.specs.declared.draft.Draft.{Draft}
+use Rattle.rd_rows.specs.declared.draft.Break.{Break}
+use Rattle.rd_rows.specs.declared.filling.Filling.{Filling}
+use Rattle.rd_rows.specs.declared.making.MadeRow.{MadeRow}
 use Rattle.rd_rows.specs.declared.spot.Placed.{Placed}
 use Rattle.rd_rows.specs.declared.spot.Spot.{Spot}
 use Rattle.rd_rows.specs.Copies.{RowValues}
-use Rattle.rd_rows.specs.Drafts.{IsDraft, Grows, finished_row}
+use Rattle.rd_rows.specs.Cuts.{has_break, up_to_break, ends_some, room_for, RowCut, is_wrapped, cut_row}
 use Rattle.rd_rows.specs.Leads.{HasLeads}
-use Rattle.rd_rows.specs.Placing.{fits, ends_row, is_line_end, placed_at, behind, next_row, next_line, width_at, width_at_most, columns_in, columns_of, goes_on, has_line_end}
-use Rattle.rd_rows.specs.Prefixes.{StandFrom}
-use Rattle.rd_rows.specs.Rows.{LaidRow, RowMeaning, rows_from, weight_of, laid, row_of, seen_in, first_seen, begin_of}
-use Rattle.rd_rows.specs.Shapes.{ShapeValues, room}
-use Rattle.rd_rows.specs.Lines.{Making, IsLine, Asks, MakesRow, Makes, ends_once, rows_left, held_placed, held_spot, with_held}
-use Rattle.rd_rows.proofs.Stands.{stand-more, placed-fills, room-length}
+use Rattle.rd_rows.specs.Left.{MakerValues, IsLine, lead_of, rows_behind}
+use Rattle.rd_rows.specs.Makers.{IsDraft, IsNoted, IsFilling, Leaves, Ends, Cuts, standing, reached, can_wrap, is_empty, has_room, room_behind, kept_of, row_standing}
+use Rattle.rd_rows.specs.Placing.{ends_row, behind_all, place_all, next_row, next_line, columns_of, has_line_end}
+use Rattle.rd_rows.specs.Prefixes.{IsLead}
+use Rattle.rd_rows.specs.Rows.{RowMeaning, LaidRow, laid, row_of, rows_within, seen_in, first_seen, begin_of}
+use Rattle.rd_rows.specs.Shapes.{ShapeValues, room, is_word}
+use Rattle.rd_rows.proofs.Ends.{All-left, All-right, line_ends, or-false, on-parts, on-append, on-line_ends, ends-append, standing-ends, ends_once-parts, line_end-ends, on-no_line_end}
+use Rattle.rd_rows.proofs.Fill.{standing-length, reached-column, reached-used, columns-append, line-behind, once-behind, once-some, room-on, room-ended, room-full, unfit-ends, cells-room}
+use Rattle.rd_rows.proofs.Splits.{IsFront, break-front, break-some, none-left, rows-same, cut-is}
 
--- the elements that were placed, with what the draft shows of them, the steps, and what is left of the line and of its rows
-pub record Walking (m : Making) (es : List Element) (s : ℕ) (n : Making) (draft : Draft) (fs : List Element) (t : ℕ) : Type 0 where
-  pub ps : List Placed
-  pub shown : IsDraft m.cutting.shape draft.spot ps draft
-  pub no_end : has_line_end ps ≡ false
-  pub rows : rows_left m es ≡ rows_from m.cutting draft.spot ps fs
-  pub steps : t ≡ s + length ps
-  pub line : IsLine draft.spot.column fs
-  pub used : draft.spot.used ≤ draft.spot.column + 200
-  pub stand : StandFrom 0 ps draft.spot.used
+-- where the next row begins behind its prefix
+abbrev pub start_of : MakerValues → Spot
+start_of m = next_row (columns_of (lead_of m)) m.spot
+
+-- the elements that stand in a row, and what is left of the line
+pub record Walks (m : MakerValues) (es : List Element) (n : MakerValues) (fs : List Element) (f : Filling) : Type 0 where
+  pub xs : List Element
+  pub filling : IsFilling m.cutting.shape (lead_of m) (start_of m) xs f
+  pub parts : m.held ++ es ≡ xs ++ (n.held ++ fs)
+  pub room : room_for m.cutting.shape (start_of m) (m.held ++ es) ≡ xs ++ room_behind m.cutting.shape xs (reached m.cutting.shape (start_of m) xs) (n.held ++ fs)
+  pub on : ends_some xs ≡ false
+  pub maker : n ≡ record m { held = n.held }
+  pub line : IsLine m.spot.column (m.held ++ es)
   pub leads : HasLeads m.cutting
   pub going_on : m.finished ≡ false
-  pub maker : n ≡ record m { held = None }
 
-pub by_if : {A : Type 0} (P : A → Type 0) (b : Bool) (x y : A) → (b ≡ true → P x) → (b ≡ false → P y) → P (if b then x else y)
-by_if P true x y f g = f refl
-by_if P false x y f g = g refl
-
-pub not-true : (b : Bool) → not b ≡ true → b ≡ false
-not-true true h = cc
-not-true false h = refl
-
-or-none : (b : Bool) → (b || false) ≡ b
-or-none true = refl
-or-none false = refl
-
-plus_one : (n : ℕ) → suc n ≡ n + 1
-plus_one n = omega arith
-
-plus_same : (a b n : ℕ) → a ≤ b + 200 → a + n ≤ b + n + 200
-plus_same a b n h = omega arith
-
-flat_map_last : {X A : Type 0} (f : X → List A) (xs : List X) (x : X) → flat_map f (xs ++ x ∷ []) ≡ flat_map f xs ++ f x
-flat_map_last f xs x = sym (flat_map_more f [] xs x)
-
-next_rows : (r q : RowMeaning) (n : ℕ) (rs qs : List LaidRow) → r ≡ q → rs ≡ qs
-    → let a : LaidRow = record { row = r; weight = n } in let b : LaidRow = record { row = q; weight = n } in a ∷ rs ≡ b ∷ qs
-next_rows r q n rs qs h k = cc
-
-row-parts : (c : Cutting) (used : ℕ) (continued : Bool) (xs ys : List Cell) (bs ds : List Begin) (e f : Bool) → xs ≡ ys → bs ≡ ds → e ≡ f
-    → finished_row c used xs bs continued e ≡ finished_row c used ys ds continued f
-row-parts c used continued xs ys bs ds e f h i k = rw (h, i, k) refl
-
--- ends
-
-pub line_end-ends : (look : Look) → is_line_end look ≡ true → ends_row look ≡ true
-line_end-ends Blank h = cc
-line_end-ends (Glyph g) h = cc
-line_end-ends RowEnd h = refl
-line_end-ends LineEnd h = refl
-
-pub on-no_line_end : (look : Look) → ends_row look ≡ false → is_line_end look ≡ false
-on-no_line_end Blank h = refl
-on-no_line_end (Glyph g) h = refl
-on-no_line_end RowEnd h = cc
-on-no_line_end LineEnd h = cc
-
-pub or-false : (a b : Bool) → (a || b) ≡ false → (a ≡ false) × (b ≡ false)
-or-false true b h = cc
-or-false false b h = (refl, h)
-
--- what does not fit ends no row
-pub unfit-on : (shape : ShapeValues) (spot : Spot) (e : Element) → fits shape spot e ≡ false → ends_row e.look ≡ false
-unfit-on shape spot e h = (or-false _ _ (or-false _ _ (or-false _ _ h).0).0).0
-
-pub end-fits : (shape : ShapeValues) (spot : Spot) (e : Element) → ends_row e.look ≡ true → fits shape spot e ≡ true
-end-fits shape spot e h = rw h refl
-
--- behind an element that is no line end, the line goes on
-pub ends_once-tail : (e : Element) (es : List Element) → is_line_end e.look ≡ false → IsTrue (ends_once (e ∷ es)) → IsTrue (ends_once es)
-ends_once-tail e [] h end = cc
-ends_once-tail e (f ∷ es) h end = rw h at end
-
--- behind the line end is nothing
-pub ends_once-last : (e : Element) (es : List Element) → is_line_end e.look ≡ true → IsTrue (ends_once (e ∷ es)) → es ≡ []
-ends_once-last e [] h end = refl
-ends_once-last e (f ∷ es) h end = let g : false ≡ true = rw h at end in cc
-
--- columns
-
-width-bound : (x : Extent) (column : ℕ) → width_at x column ≤ width_at_most x
-width-bound (Fixed n) column = omega arith
-width-bound (Tab t) column = omega arith
-width-bound (Column n) column = omega arith
-
-if-min : (b : Bool) (w k m : ℕ) → w ≤ m → (if b then min w k else w) ≤ m
-if-min true w k m h = omega arith
-if-min false w k m h = h
-
-pub columns-bound : (shape : ShapeValues) (spot : Spot) (e : Element) → columns_in shape spot e ≤ width_at_most e.extent
-columns-bound shape spot e = if-min _ _ _ _ (width-bound e.extent spot.column)
-
--- what is left of a line behind an element
-
-line-tail : (column more : ℕ) (e : Element) (es : List Element) → is_line_end e.look ≡ false → more ≤ column + width_at_most e.extent → IsLine column (e ∷ es) → IsLine more es
-line-tail column more e es on bound line = record {
-  sound = All-tail IsSound e es line.sound;
-  end = ends_once-tail e es on line.end;
-  columns = let h = line.columns in omega arith;
+pub walk-start : (m : MakerValues) (es : List Element) (f : Filling) → IsFilling m.cutting.shape (lead_of m) (start_of m) [] f → IsLine m.spot.column (m.held ++ es) → HasLeads m.cutting → m.finished ≡ false
+    → Walks m es m es f
+walk-start m es f filling line leads on = record {
+  xs = [];
+  filling = filling;
+  parts = refl;
+  room = refl;
+  on = refl;
+  maker = refl;
+  line = line;
+  leads = leads;
+  going_on = on;
 }
 
-pub line-behind : (shape : ShapeValues) (spot : Spot) (e : Element) (es : List Element) → is_line_end e.look ≡ false → IsLine spot.column (e ∷ es) → IsLine (spot.column + columns_in shape spot e) es
-line-behind shape spot e es on line =
-    let bound = columns-bound shape spot e in
-    line-tail spot.column (spot.column + columns_in shape spot e) e es on (omega (arith, bound)) line
+either-lead : (c : Cutting) (b : Bool) → HasLeads c → IsLead (if b then c.wrap else c.first)
+either-lead c true leads = leads.wrap
+either-lead c false leads = leads.first
 
-pub line-next : (column : ℕ) (e : Element) (es : List Element) → is_line_end e.look ≡ false → IsLine column (e ∷ es) → IsLine 0 es
-line-next column e es on line = line-tail column 0 e es on (omega arith) line
+pub lead-is : (m : MakerValues) → HasLeads m.cutting → IsLead (lead_of m)
+lead-is m leads = either-lead m.cutting m.continued leads
 
--- how many elements the rows have
+pub walk-some : (m n : MakerValues) (es fs : List Element) (f : Filling) → Walks m es n fs f → 0 < length (n.held ++ fs)
+walk-some m n es fs f w =
+    once-some (n.held ++ fs) (once-behind w.xs (n.held ++ fs) (on-line_ends w.xs w.on) (subst (λ ys. IsTrue (ends_once ys)) w.parts w.line.end))
 
-plus_row : (a n w k lead : ℕ) → a ≡ n + 1 → lead + k ≤ w → n + suc k ≤ a + w
-plus_row a n w k lead h i = omega arith
+pub walk-column : (m n : MakerValues) (es fs rest : List Element) (f : Filling) (e : Element) → Walks m es n fs f → n.held ++ fs ≡ e ∷ rest → f.draft.spot.column + width_at_most e.extent < 2 ^ 63
+walk-column m n es fs rest f e w more =
+    let all : m.held ++ es ≡ w.xs ++ e ∷ rest = w.parts ∙ ap (λ ys. w.xs ++ ys) more in
+    let sum = ap columns_at_most all ∙ columns-append w.xs (e ∷ rest) in
+    let few = w.line.columns in
+    let here = reached-column m.cutting.shape (start_of m) w.xs in
+    let spot = ap (λ (s : Spot). s.column) w.filling.draft.spot in
+    omega (arith, sum, few, here, spot)
 
-plus_on : (a n w k : ℕ) → a ≡ n + 1 → a + k ≤ w → n + suc k ≤ w
-plus_on a n w k h i = omega arith
+pub walk-used : (m n : MakerValues) (es fs : List Element) (f : Filling) → Walks m es n fs f → f.draft.spot.used ≤ f.draft.spot.column + 200
+walk-used m n es fs f w =
+    let few = (lead-is m w.leads).short in
+    let here = reached-used m.cutting.shape (start_of m) w.xs (omega (arith, few)) in
+    let used = ap (λ (s : Spot). s.used) w.filling.draft.spot in
+    let column = ap (λ (s : Spot). s.column) w.filling.draft.spot in
+    omega (arith, here, used, column)
 
-plus_held : (n w k a lead : ℕ) → a ≡ lead + 1 → a + k ≤ w → n + suc k ≤ n + w
-plus_held n w k a lead h i = omega arith
+-- the answer of the test for room
+pub walk-fits : (m n : MakerValues) (es fs : List Element) (f : Filling) (w : Walks m es n fs f) (shape : ShapeValues) (b : Bool) (e : Element) → shape ≡ m.cutting.shape
+    → ((lead : List Placed) (start : Spot) (xs : List Element) → IsFilling shape lead start xs f → b ≡ has_room shape xs (reached shape start xs) e)
+    → b ≡ has_room m.cutting.shape w.xs (reached m.cutting.shape (start_of m) w.xs) e
+walk-fits m n es fs f w shape b e same test =
+    subst (λ (s : ShapeValues). (lead : List Placed) (start : Spot) (xs : List Element) → IsFilling s lead start xs f → b ≡ has_room s xs (reached s start xs) e) same test
+    (lead_of m) (start_of m) w.xs w.filling
 
-weight-step : (c : Cutting) (spot : Spot) (ps : List Placed) (e : Element) (es : List Element)
-    → ((sp : Spot) (qs : List Placed) → length qs + length es ≤ weight_of (rows_from c sp qs es))
-    → (b d : Bool) → fits c.shape spot e ≡ b → ends_row e.look ≡ d
-    → length ps + length (e ∷ es) ≤ weight_of (rows_from c spot ps (e ∷ es))
-weight-step c spot ps e es rest true true h k =
-    rw (h, k) (plus_row _ (length ps) _ (length es) (length c.first) (length-append ps (placed_at c.shape spot e ∷ [])) (rest (next_row (columns_of c.first) (next_line (behind spot (placed_at c.shape spot e)))) c.first))
-weight-step c spot ps e es rest true false h k =
-    rw (h, k) (plus_on _ (length ps) _ (length es) (length-append ps (placed_at c.shape spot e ∷ [])) (rest (behind spot (placed_at c.shape spot e)) (ps ++ placed_at c.shape spot e ∷ [])))
-weight-step c spot ps e es rest false d h k =
-    let q = placed_at c.shape (next_row (columns_of c.wrap) spot) e in
-    rw h (plus_held (length ps) _ (length es) _ (length c.wrap) (length-append c.wrap (q ∷ [])) (rest (behind (next_row (columns_of c.wrap) spot) q) (c.wrap ++ q ∷ [])))
+taken : (m n k : MakerValues) → n ≡ record m { held = n.held } → k ≡ record n { held = k.held } → k ≡ record m { held = k.held }
+taken m n k h i = i ∙ ap (λ (x : MakerValues). let y : MakerValues = record x { held = k.held } in y) h
 
-plus_end : (a n : ℕ) → a ≡ n + 1 → n + 1 ≤ a + 0
-plus_end a n h = omega arith
+pub taken-cutting : (m n k : MakerValues) → n ≡ record m { held = n.held } → k ≡ record n { held = k.held } → k.cutting ≡ m.cutting
+taken-cutting m n k h i = ap (λ (x : MakerValues). x.cutting) (taken m n k h i)
 
-weight-cases : (c : Cutting) (spot : Spot) (ps : List Placed) (e : Element) (es : List Element) (d : Bool) → is_line_end e.look ≡ d → IsTrue (ends_once (e ∷ es))
-    → (IsTrue (ends_once es) → (sp : Spot) (qs : List Placed) → length qs + length es ≤ weight_of (rows_from c sp qs es))
-    → length ps + length (e ∷ es) ≤ weight_of (rows_from c spot ps (e ∷ es))
-weight-cases c spot ps e es true h end rest =
-    rw (ends_once-last e es h end) (rw (line_end-ends e.look h) (plus_end _ (length ps) (length-append ps (placed_at c.shape spot e ∷ []))))
-weight-cases c spot ps e es false h end rest =
-    weight-step c spot ps e es (rest (ends_once-tail e es h end)) (fits c.shape spot e) (ends_row e.look) refl refl
-
--- each element that is placed or left has its step
-pub weight-rows : (c : Cutting) (spot : Spot) (ps : List Placed) (es : List Element) → IsTrue (ends_once es) → length ps + length es ≤ weight_of (rows_from c spot ps es)
-weight-rows c spot ps [] end = cc
-weight-rows c spot ps (e ∷ es) end =
-    weight-cases c spot ps e es (is_line_end e.look) refl end (λ more sp qs. weight-rows c sp qs es more)
-
--- the steps before memory was wanting
-
-pub bound : (m n : Making) (es fs : List Element) (s t : ℕ) (draft : Draft) → Walking m es s n draft fs t → t ≤ s + weight_of (rows_left m es)
-bound m n es fs s t draft w =
-    let rows : weight_of (rows_left m es) ≡ weight_of (rows_from m.cutting draft.spot w.ps fs) = ap weight_of w.rows in
-    let weight = weight-rows m.cutting draft.spot w.ps fs w.line.end in
-    let steps = w.steps in
-    omega (arith, rows, weight, steps)
-
-pub bound-more : (m n : Making) (es fs : List Element) (s t : ℕ) (draft : Draft) (e : Element) (gs : List Element) → Walking m es s n draft fs t → fs ≡ e ∷ gs → t + 1 ≤ s + weight_of (rows_left m es)
-bound-more m n es fs s t draft e gs w more =
-    let rows : weight_of (rows_left m es) ≡ weight_of (rows_from m.cutting draft.spot w.ps fs) = ap weight_of w.rows in
-    let weight = weight-rows m.cutting draft.spot w.ps fs w.line.end in
-    let some : length fs ≡ length gs + 1 = ap length more ∙ plus_one (length gs) in
-    let steps = w.steps in
-    omega (arith, rows, weight, steps, some)
-
--- the beginning of a row
-
-line-held : (c : Cutting) (spot : Spot) (held : Option Element) (es : List Element) → goes_on held ≡ true → IsLine spot.column (with_held held es) → IsLine (held_spot c spot held).column es
-line-held c spot None es h line = line
-line-held c spot (Some e) es h line = line-behind c.shape (next_row (columns_of c.wrap) spot) e es (on-no_line_end e.look (not-true _ h)) line
-
-pub no_end-more : (ps : List Placed) (p : Placed) → has_line_end ps ≡ false → has_line_end (ps ++ p ∷ []) ≡ is_line_end p.element.look
-no_end-more [] p h = or-none (is_line_end p.element.look)
-no_end-more (q ∷ ps) p h =
-    let parts = or-false (is_line_end q.element.look) (has_line_end ps) h in
-    rw parts.0 (no_end-more ps p parts.1)
-
-used-held : (c : Cutting) (spot : Spot) (held : Option Element) → HasLeads c → (held_spot c spot held).used ≤ (held_spot c spot held).column + 200
-used-held c spot None leads = let few = leads.first.short in omega (arith, few)
-used-held c spot (Some e) leads = let few = leads.wrap.short in omega (arith, few)
-
-stand-held : (c : Cutting) (spot : Spot) (held : Option Element) (es : List Element) → HasLeads c → IsLine spot.column (with_held held es)
-    → StandFrom 0 (held_placed c spot held) (held_spot c spot held).used
-stand-held c spot None es leads line = leads.first.stand
-stand-held c spot (Some e) es leads line =
-    let start = next_row (columns_of c.wrap) spot in
-    stand-more 0 start.used c.wrap (placed_at c.shape start e) leads.wrap.stand refl (placed-fills c.shape start e (line.sound zero e (omega arith)))
-
-end-held : (c : Cutting) (spot : Spot) (held : Option Element) → HasLeads c → goes_on held ≡ true → has_line_end (held_placed c spot held) ≡ false
-end-held c spot None leads h = leads.first.on
-end-held c spot (Some e) leads h = no_end-more c.wrap (placed_at c.shape (next_row (columns_of c.wrap) spot) e) leads.wrap.on ∙ on-no_line_end e.look (not-true _ h)
-
-pub bound-held : (m : Making) (es : List Element) (s t : ℕ) → m.finished ≡ false → goes_on m.held ≡ true → Asks m es
-    → t ≤ s + length (held_placed m.cutting m.spot m.held) → t ≤ s + weight_of (rows_left m es)
-bound-held m es s t on held asks steps =
-    let line = line-held m.cutting m.spot m.held es held (asks on) in
-    let rows : weight_of (rows_left m es) ≡ weight_of (rows_from m.cutting (held_spot m.cutting m.spot m.held) (held_placed m.cutting m.spot m.held) es) = rw on refl in
-    let weight = weight-rows m.cutting (held_spot m.cutting m.spot m.held) (held_placed m.cutting m.spot m.held) es line.end in
-    omega (arith, rows, weight, steps)
-
-pub start : (m n : Making) (es : List Element) (s t : ℕ) (draft : Draft) → m.finished ≡ false → goes_on m.held ≡ true → HasLeads m.cutting → Asks m es
-    → IsDraft m.cutting.shape (held_spot m.cutting m.spot m.held) (held_placed m.cutting m.spot m.held) draft
-    → t ≡ s + length (held_placed m.cutting m.spot m.held) → n ≡ record m { held = None } → Walking m es s n draft es t
-start m n es s t draft on held leads asks d steps maker =
-    let rows : rows_left m es ≡ rows_from m.cutting (held_spot m.cutting m.spot m.held) (held_placed m.cutting m.spot m.held) es = rw on refl in
+-- one more element
+pub walk-on : (m n k : MakerValues) (es fs gs : List Element) (f g : Filling) (w : Walks m es n fs f) (e : Element) (shape : ShapeValues) → n.held ++ fs ≡ e ∷ (k.held ++ gs) → k ≡ record n { held = k.held }
+    → has_room m.cutting.shape w.xs (reached m.cutting.shape (start_of m) w.xs) e ≡ true → ends_row e.look ≡ false → shape ≡ m.cutting.shape
+    → ((lead : List Placed) (start : Spot) (xs : List Element) → IsFilling shape lead start xs f → IsFilling shape lead start (xs ++ e ∷ []) g)
+    → Walks m es k gs g
+walk-on m n k es fs gs f g w e shape more rest fit on same placed =
+    let filled = subst (λ (s : ShapeValues). (lead : List Placed) (start : Spot) (xs : List Element) → IsFilling s lead start xs f → IsFilling s lead start (xs ++ e ∷ []) g) same placed in
+    let room = subst (λ ys. room_for m.cutting.shape (start_of m) (m.held ++ es) ≡ w.xs ++ room_behind m.cutting.shape w.xs (reached m.cutting.shape (start_of m) w.xs) ys) more w.room in
     record {
-      ps = held_placed m.cutting m.spot m.held;
-      shown = record { cells = d.cells; begins = d.begins; spot = refl };
-      no_end = end-held m.cutting m.spot m.held leads held;
-      rows = rows ∙ ap (λ (sp : Spot). rows_from m.cutting sp (held_placed m.cutting m.spot m.held) es) (sym d.spot);
-      steps = steps;
-      line = subst (λ (sp : Spot). IsLine sp.column es) (sym d.spot) (line-held m.cutting m.spot m.held es held (asks on));
-      used = subst (λ (sp : Spot). sp.used ≤ sp.column + 200) (sym d.spot) (used-held m.cutting m.spot m.held leads);
-      stand = subst (λ (sp : Spot). StandFrom 0 (held_placed m.cutting m.spot m.held) sp.used) (sym d.spot) (stand-held m.cutting m.spot m.held es leads (asks on));
-      leads = leads;
-      going_on = on;
-      maker = maker;
-    }
-
--- an element is placed
-
-grown : (shape : ShapeValues) (ps : List Placed) (p : Placed) (old new : Draft) → IsDraft shape old.spot ps old → Grows shape p old new → IsDraft shape new.spot (ps ++ p ∷ []) new
-grown shape ps p old new d g = record {
-  cells = g.cells ∙ (ap (λ (xs : List Cell). xs ++ seen_in shape p) d.cells ∙ sym (flat_map_last (seen_in shape) ps p));
-  begins = g.begins ∙ (ap (λ (xs : List Begin). xs ++ begin_of shape p) d.begins ∙ sym (flat_map_last (begin_of shape) ps p));
-  spot = refl;
-}
-
--- the element that comes next stands behind those that were placed
-stand-here : (m n : Making) (es fs : List Element) (s t : ℕ) (draft : Draft) (e : Element) (gs : List Element) → (w : Walking m es s n draft fs t) → fs ≡ e ∷ gs
-    → let p = placed_at m.cutting.shape draft.spot e in StandFrom 0 (w.ps ++ p ∷ []) (draft.spot.used + p.columns)
-stand-here m n es fs s t draft e gs w more =
-    let line = subst (λ (xs : List Element). IsLine draft.spot.column xs) more w.line in
-    stand-more 0 draft.spot.used w.ps (placed_at m.cutting.shape draft.spot e) w.stand refl (placed-fills m.cutting.shape draft.spot e (line.sound zero e (omega arith)))
-
-pub walk-on : (m n : Making) (es fs : List Element) (s t : ℕ) (draft new : Draft) (e : Element) (gs : List Element) → Walking m es s n draft fs t → fs ≡ e ∷ gs
-    → fits m.cutting.shape draft.spot e ≡ true → ends_row e.look ≡ false → Grows m.cutting.shape (placed_at m.cutting.shape draft.spot e) draft new
-    → Walking m es s n new gs (t + 1)
-walk-on m n es fs s t draft new e gs w more fit on g =
-    let p = placed_at m.cutting.shape draft.spot e in
-    let line = subst (λ (xs : List Element). IsLine draft.spot.column xs) more w.line in
-    let steps = w.steps in
-    let used = w.used in
-    let size = length-append w.ps (p ∷ []) in
-    let step : rows_from m.cutting draft.spot w.ps (e ∷ gs) ≡ rows_from m.cutting (behind draft.spot p) (w.ps ++ p ∷ []) gs = rw (fit, on) refl in
-    record {
-      ps = w.ps ++ p ∷ [];
-      shown = grown m.cutting.shape w.ps p draft new w.shown g;
-      no_end = no_end-more w.ps p w.no_end ∙ on-no_line_end e.look on;
-      rows = w.rows ∙ (ap (rows_from m.cutting draft.spot w.ps) more ∙ (step ∙ ap (λ (sp : Spot). rows_from m.cutting sp (w.ps ++ p ∷ []) gs) (sym g.spot)));
-      steps = omega (arith, steps, size);
-      line = subst (λ (sp : Spot). IsLine sp.column gs) (sym g.spot) (line-behind m.cutting.shape draft.spot e gs (on-no_line_end e.look on) line);
-      used = subst (λ (sp : Spot). sp.used ≤ sp.column + 200) (sym g.spot) (plus_same _ _ _ used);
-      stand = subst (λ (sp : Spot). StandFrom 0 (w.ps ++ p ∷ []) sp.used) (sym g.spot) (stand-here m n es fs s t draft e gs w more);
+      xs = w.xs ++ e ∷ [];
+      filling = filled (lead_of m) (start_of m) w.xs w.filling;
+      parts = w.parts ∙ (ap (λ ys. w.xs ++ ys) more ∙ sym (append_assoc w.xs (e ∷ []) (k.held ++ gs)));
+      room = room-on m.cutting.shape (start_of m) w.xs (m.held ++ es) (k.held ++ gs) e fit on room;
+      on = on-append w.xs (e ∷ []) w.on (rw on refl);
+      maker = taken m n k w.maker rest;
+      line = w.line;
       leads = w.leads;
       going_on = w.going_on;
-      maker = w.maker;
     }
 
--- the row that a draft shows
+-- what a row that is left asks
 
-row-same : (c : Cutting) (used : ℕ) (continued : Bool) (ps : List Placed) (cells : List Cell) (begins : List Begin) (ends : Bool)
-    → cells ≡ flat_map (seen_in c.shape) ps → begins ≡ flat_map (begin_of c.shape) ps → ends ≡ has_line_end ps
-    → finished_row c used cells begins continued ends ≡ row_of c used continued ps
-row-same c used continued ps cells begins ends h i k =
-    row-parts c used continued cells (flat_map (seen_in c.shape) ps) begins (flat_map (begin_of c.shape) ps) ends (has_line_end ps) h i k
+sound-parts : (m n : MakerValues) (es fs : List Element) (f : Filling) → (w : Walks m es n fs f) → AreSound w.xs × AreSound (n.held ++ fs)
+sound-parts m n es fs f w =
+    let all = subst AreSound w.parts w.line.sound in
+    (All-left IsSound w.xs (n.held ++ fs) all, All-right IsSound w.xs (n.held ++ fs) all)
 
--- what is seen of a draft has room before the last column
+record IsBack (ws xs : List Element) : Type 0 where
+  front : List Element
+  parts : xs ≡ front ++ ws
 
-pub cells-held : (m k : Making) (es fs : List Element) (s t : ℕ) (draft : Draft) (c : Cutting) → Walking m es s k draft fs t → c ≡ k.cutting
-    → length draft.cells ≤ c.shape.hscroll + room c.shape - first_seen c.shape
-cells-held m k es fs s t draft c w same =
-    let c_is : m.cutting ≡ c = sym (same ∙ ap (λ (x : Making). x.cutting) w.maker) in
-    let few : length draft.cells ≤ m.cutting.shape.hscroll + room m.cutting.shape - first_seen m.cutting.shape
-    = rw w.shown.cells (room-length m.cutting.shape draft.spot.used w.ps w.stand) in
-    subst (λ (x : Cutting). length draft.cells ≤ x.shape.hscroll + room x.shape - first_seen x.shape) c_is few
+noted-back : (shape : ShapeValues) (lead : List Placed) (start : Spot) (xs : List Element) (b : Option Break) (waiting : List Element) → IsNoted shape lead start xs b waiting → IsBack waiting xs
+noted-back shape lead start xs None waiting h = record { front = xs; parts = sym (ap (λ ys. xs ++ ys) h.1 ∙ append-nil xs) }
+noted-back shape lead start xs (Some b) waiting h = record { front = up_to_break xs; parts = h.2 }
 
-pub cells-ended : (m k : Making) (es fs : List Element) (s t : ℕ) (draft new : Draft) (e : Element) (gs : List Element) (c : Cutting) → Walking m es s k draft fs t → c ≡ k.cutting → fs ≡ e ∷ gs
-    → Grows c.shape (placed_at c.shape draft.spot e) draft new → length new.cells ≤ c.shape.hscroll + room c.shape - first_seen c.shape
-cells-ended m k es fs s t draft new e gs c w same more g =
-    let c_is : c ≡ m.cutting = same ∙ ap (λ (x : Making). x.cutting) w.maker in
-    let p = placed_at m.cutting.shape draft.spot e in
-    let grows = subst (λ (x : Cutting). Grows x.shape (placed_at x.shape draft.spot e) draft new) c_is g in
-    let shown = grown m.cutting.shape w.ps p draft new w.shown grows in
-    let few : length new.cells ≤ m.cutting.shape.hscroll + room m.cutting.shape - first_seen m.cutting.shape
-    = rw shown.cells (room-length m.cutting.shape (draft.spot.used + p.columns) (w.ps ++ p ∷ []) (stand-here m k es fs s t draft e gs w more)) in
-    subst (λ (x : Cutting). length new.cells ≤ x.shape.hscroll + room x.shape - first_seen x.shape) (sym c_is) few
+pub waiting-sound : (m n k : MakerValues) (es fs gs : List Element) (f : Filling) (e : Element) → Walks m es n fs f → n.held ++ fs ≡ e ∷ (k.held ++ gs) → AreSound (f.waiting ++ e ∷ k.held)
+waiting-sound m n k es fs gs f e w more =
+    let both = sound-parts m n es fs f w in
+    let back = noted-back m.cutting.shape (lead_of m) (start_of m) w.xs f.last_break f.waiting w.filling.noted in
+    All-append IsSound f.waiting (e ∷ k.held)
+    (All-right IsSound back.front f.waiting (subst AreSound back.parts both.0))
+    (All-left IsSound (e ∷ k.held) gs (subst AreSound more both.1))
 
--- the row ends before an element that does not fit
+pub waiting-on : (m n k : MakerValues) (es fs : List Element) (f : Filling) (w : Walks m es n fs f) (e : Element) → has_room m.cutting.shape w.xs (reached m.cutting.shape (start_of m) w.xs) e ≡ false → ends_some k.held ≡ false
+    → ends_some (f.waiting ++ e ∷ k.held) ≡ false
+waiting-on m n k es fs f w e unfit held =
+    let back = noted-back m.cutting.shape (lead_of m) (start_of m) w.xs f.last_break f.waiting w.filling.noted in
+    let on = unfit-ends m.cutting.shape w.xs (reached m.cutting.shape (start_of m) w.xs) e unfit in
+    on-append f.waiting (e ∷ k.held) (on-parts back.front f.waiting (sym (ap ends_some back.parts) ∙ w.on)).1 (rw (on, held) refl)
 
-pub makes-held : (m n k : Making) (es fs : List Element) (s t : ℕ) (draft : Draft) (e : Element) (gs : List Element) → Walking m es s k draft fs t → fs ≡ e ∷ gs
-    → fits m.cutting.shape draft.spot e ≡ false → n ≡ record k { spot = draft.spot; held = Some e }
-    → MakesRow (finished_row m.cutting draft.spot.used draft.cells draft.begins true false) m n es gs s t
-makes-held m n k es fs s t draft e gs w more unfit next =
-    let q = placed_at m.cutting.shape (next_row (columns_of m.cutting.wrap) draft.spot) e in
-    let n_is : n ≡ record { cutting = m.cutting; spot = draft.spot; held = Some e; finished = false }
-    = next ∙ (ap (λ (x : Making). let y : Making = record x { spot = draft.spot; held = Some e } in y) w.maker
-    ∙ ap (λ (b : Bool). let y : Making = record { cutting = m.cutting; spot = draft.spot; held = Some e; finished = b } in y) w.going_on) in
-    let row = row-same m.cutting draft.spot.used true w.ps draft.cells draft.begins false w.shown.cells w.shown.begins (sym w.no_end) in
-    let step : rows_from m.cutting draft.spot w.ps (e ∷ gs) ≡ laid m.cutting draft.spot.used true w.ps ∷ rows_from m.cutting (behind (next_row (columns_of m.cutting.wrap) draft.spot) q) (m.cutting.wrap ++ q ∷ []) gs = rw unfit refl in
-    let left : rows_left n gs ≡ rows_from m.cutting (behind (next_row (columns_of m.cutting.wrap) draft.spot) q) (m.cutting.wrap ++ q ∷ []) gs = ap (λ (x : Making). rows_left x gs) n_is in
-    let line = subst (λ (xs : List Element). IsLine draft.spot.column xs) more w.line in
+pub walk-cells : (m n : MakerValues) (es fs : List Element) (f : Filling) (shape : ShapeValues) → Walks m es n fs f → shape ≡ m.cutting.shape → length f.draft.cells ≤ shape.hscroll + room shape - first_seen shape
+walk-cells m n es fs f shape w same =
+    let lead = lead-is m w.leads in
+    rw same (cells-room m.cutting.shape (lead_of m) (start_of m) w.xs f.draft w.filling.draft lead.stand (sound-parts m n es fs f w).0)
+
+pub ended-cells : (m n k : MakerValues) (es fs gs : List Element) (f g : Filling) (e : Element) (shape here : ShapeValues) → Walks m es n fs f → n.held ++ fs ≡ e ∷ (k.held ++ gs) → shape ≡ m.cutting.shape → here ≡ m.cutting.shape
+    → ((lead : List Placed) (start : Spot) (xs : List Element) → IsFilling shape lead start xs f → IsFilling shape lead start (xs ++ e ∷ []) g)
+    → length g.draft.cells ≤ here.hscroll + room here - first_seen here
+ended-cells m n k es fs gs f g e shape here w more same too placed =
+    let lead = lead-is m w.leads in
+    let both = sound-parts m n es fs f w in
+    let filled = subst (λ (s : ShapeValues). (lead : List Placed) (start : Spot) (xs : List Element) → IsFilling s lead start xs f → IsFilling s lead start (xs ++ e ∷ []) g) same placed in
+    let sound = All-append IsSound w.xs (e ∷ []) both.0 (All-left IsSound (e ∷ []) (k.held ++ gs) (subst AreSound more both.1)) in
+    rw too (cells-room m.cutting.shape (lead_of m) (start_of m) (w.xs ++ e ∷ []) g.draft (filled (lead_of m) (start_of m) w.xs w.filling).draft lead.stand sound)
+
+-- the row that was made is the next of the line
+
+-- how a row with these elements for which there is room is cut
+abbrev pub cut_of : ShapeValues → List Element → RowCut
+cut_of shape row = record {
+  elements = if is_wrapped shape row then up_to_break row else row;
+  ended = ends_some row;
+  marked = not (ends_some row) && not (is_wrapped shape row);
+}
+
+lead-same : (c : Cutting) (b : Bool) → (if not b then c.wrap else c.first) ≡ (if b then c.first else c.wrap)
+lead-same c true = refl
+lead-same c false = refl
+
+abbrev pub line_row : Cutting → List Placed → Spot → RowCut → LaidRow
+line_row c lead start cut = laid c (reached c.shape start cut.elements).used cut.marked (standing c.shape lead start cut.elements)
+
+abbrev pub next_lead : Cutting → Bool → List Placed
+next_lead c b = if b then c.first else c.wrap
+
+abbrev pub next_spot : Bool → Spot → Spot
+next_spot b spot = if b then next_line spot else spot
+
+same-rows : (fin : Bool) (n : ℕ) (c : Cutting) (b : Bool) (spot : Spot) (rest all : List Element) → (fin ≡ true → rest ≡ []) → length rest ≤ n → all ≡ rest
+    → rows_within n c (next_lead c b) spot rest ≡ (if fin then [] else rows_within (length all) c (if not b then c.wrap else c.first) spot all)
+same-rows true n c b spot rest all over few same = rw (over refl) (none-left n c (next_lead c b) spot)
+same-rows false n c b spot rest all over few same =
+    rw (same, lead-same c b) (rows-same n (length rest) c (next_lead c b) spot rest few (omega arith))
+
+row-parts : (r : LaidRow) (row : RowValues) (weight : ℕ) (rs qs : List LaidRow) → r.row ≡ row.shown → r.weight ≡ weight → rs ≡ qs → r ∷ rs ≡ record { row = row.shown; weight = weight } ∷ qs
+row-parts r row weight rs qs h k i =
+    let same : r ≡ record { row = row.shown; weight = weight }
+    = ap (λ (x : RowMeaning). let y : LaidRow = record { row = x; weight = r.weight } in y) h ∙ ap (λ (n : ℕ). let y : LaidRow = record { row = row.shown; weight = n } in y) k in
+    ap (λ (x : LaidRow). x ∷ rs) same ∙ ap (λ (xs : List LaidRow). (record { row = row.shown; weight = weight }) ∷ xs) i
+
+-- a row is cut from the elements of a line, of which there is one
+pub cuts-by : (m p : MakerValues) (es gs : List Element) (row : RowValues) (weight : ℕ) (x : Element) (others kept : List Element) (b marked fin : Bool) → m.finished ≡ false
+    → m.held ++ es ≡ x ∷ others → cut_row m.cutting.shape (start_of m) (x ∷ others) ≡ record { elements = kept; ended = b; marked = marked } → x ∷ others ≡ kept ++ (p.held ++ gs) → 0 < length kept
+    → p ≡ record { cutting = m.cutting; spot = next_spot b (reached m.cutting.shape (start_of m) kept); continued = not b; held = p.held; finished = fin }
+    → (fin ≡ true → p.held ++ gs ≡ [])
+    → row ≡ record { shown = row_of m.cutting (reached m.cutting.shape (start_of m) kept).used marked (standing m.cutting.shape (lead_of m) (start_of m) kept); copies = 0 }
+    → weight ≡ length (lead_of m) + length kept → fin ≡ has_line_end (standing m.cutting.shape (lead_of m) (start_of m) kept)
+    → ends_some p.held ≡ false → (fin ≡ false → IsLine p.spot.column (p.held ++ gs))
+    → Cuts m p es gs row weight
+cuts-by m p es gs row weight x others kept b marked fin on all cut parts some next over row_is weight_is last waits line =
+    let c : Cutting = m.cutting in
+    let lead : List Placed = lead_of m in
+    let start : Spot = start_of m in
+    let made : RowCut = record { elements = kept; ended = b; marked = marked } in
+    let rest : List Element = p.held ++ gs in
+    let behind : drop (length kept) (x ∷ others) ≡ rest = ap (drop (length kept)) parts ∙ drop-append_seam kept rest in
+    let size = ap length parts ∙ length-append kept rest in
+    let left : rows_behind m es ≡ rows_within (suc (length others)) c lead m.spot (x ∷ others) = rw on (ap (λ (ys : List Element). rows_within (length ys) c lead m.spot ys) all) in
+    let step : rows_within (suc (length others)) c lead m.spot (x ∷ others) ≡ line_row c lead start made ∷ rows_within (length others) c (next_lead c b) (next_spot b (reached c.shape start kept)) (drop (length kept) (x ∷ others))
+    = ap (λ (k : RowCut). line_row c lead start k ∷ rows_within (length others) c (next_lead c k.ended) (next_spot k.ended (reached c.shape start k.elements)) (drop (length k.elements) (x ∷ others))) cut in
+    let later : rows_within (length others) c (next_lead c b) (next_spot b (reached c.shape start kept)) (drop (length kept) (x ∷ others)) ≡ rows_behind p gs
+    = ap (rows_within (length others) c (next_lead c b) (next_spot b (reached c.shape start kept))) behind
+    ∙ (same-rows fin (length others) c b (next_spot b (reached c.shape start kept)) rest rest over (omega (arith, size, some)) refl
+    ∙ ap (λ (y : MakerValues). rows_behind y gs) (sym next)) in
+    let fin_is : p.finished ≡ fin = ap (λ (y : MakerValues). y.finished) next in
+    let shown = ap (λ (r : RowValues). r.shown) row_is in
     record {
-      steps_taken = length w.ps;
-      row_is = w.rows ∙ (ap (rows_from m.cutting draft.spot w.ps) more ∙ (step ∙ next_rows _ _ (length w.ps) _ _ (sym row) (sym left)));
-      steps = w.steps;
-      last = ap (λ (x : Making). x.finished) n_is;
-      going_on = w.going_on;
-      asks = subst (λ (x : Making). Asks x gs) (sym n_is) (λ on. line);
+      row_is = left ∙ (step ∙ row-parts (line_row c lead start made) row weight _ (rows_behind p gs) (sym shown) (standing-length c.shape lead start kept ∙ sym weight_is) later);
+      fresh = ap (λ (r : RowValues). r.copies) row_is;
+      last = fin_is ∙ (last ∙ sym (ap (λ (r : RowMeaning). r.ends_block) shown));
+      on = waits;
+      line = λ h. line (sym fin_is ∙ h);
     }
 
--- the row ends behind an end
+-- a row that is left
 
-rows-next : (c : Cutting) (sp : Spot) (gs : List Element) (b : Bool) → (b ≡ true → gs ≡ [])
-    → rows_left (record { cutting = c; spot = sp; held = None; finished = b }) gs ≡ rows_from c (next_row (columns_of c.first) sp) c.first gs
-rows-next c sp gs true h = rw (h refl) refl
-rows-next c sp gs false h = refl
+and-true : (b : Bool) → (b && true) ≡ b
+and-true true = refl
+and-true false = refl
 
-pub makes-ended : (m n k : Making) (es fs : List Element) (s t : ℕ) (draft new : Draft) (e : Element) (gs : List Element) (b : Bool) → Walking m es s k draft fs t → fs ≡ e ∷ gs
-    → fits m.cutting.shape draft.spot e ≡ true → ends_row e.look ≡ true → b ≡ is_line_end e.look
-    → Grows m.cutting.shape (placed_at m.cutting.shape draft.spot e) draft new
-    → n ≡ record k { spot = next_line new.spot; finished = b }
-    → MakesRow (finished_row m.cutting new.spot.used new.cells new.begins false b) m n es gs s (t + 1)
-makes-ended m n k es fs s t draft new e gs b w more fit close b_is g next =
-    let p = placed_at m.cutting.shape draft.spot e in
-    let sp = next_line (behind draft.spot p) in
-    let n_is : n ≡ record { cutting = m.cutting; spot = sp; held = None; finished = b }
-    = next ∙ (ap (λ (x : Making). let y : Making = record x { spot = next_line new.spot; finished = b } in y) w.maker
-    ∙ ap (λ (x : Spot). let y : Making = record { cutting = m.cutting; spot = next_line x; held = None; finished = b } in y) g.spot) in
-    let shown = grown m.cutting.shape w.ps p draft new w.shown g in
-    let row : finished_row m.cutting new.spot.used new.cells new.begins false b ≡ row_of m.cutting (draft.spot.used + p.columns) false (w.ps ++ p ∷ [])
-    = ap (λ (x : Spot). finished_row m.cutting x.used new.cells new.begins false b) g.spot
-    ∙ row-same m.cutting (draft.spot.used + p.columns) false (w.ps ++ p ∷ []) new.cells new.begins b shown.cells shown.begins (b_is ∙ sym (no_end-more w.ps p w.no_end)) in
-    let step : rows_from m.cutting draft.spot w.ps (e ∷ gs) ≡ laid m.cutting (draft.spot.used + p.columns) false (w.ps ++ p ∷ []) ∷ rows_from m.cutting (next_row (columns_of m.cutting.first) sp) m.cutting.first gs = rw (fit, close) refl in
-    let line = subst (λ (xs : List Element). IsLine draft.spot.column xs) more w.line in
-    let left : rows_left n gs ≡ rows_from m.cutting (next_row (columns_of m.cutting.first) sp) m.cutting.first gs
-    = ap (λ (x : Making). rows_left x gs) n_is ∙ rows-next m.cutting sp gs b (λ end. ends_once-last e gs (sym b_is ∙ end) line.end) in
-    let steps = w.steps in
-    let size = length-append w.ps (p ∷ []) in
-    record {
-      steps_taken = length (w.ps ++ p ∷ []);
-      row_is = w.rows ∙ (ap (rows_from m.cutting draft.spot w.ps) more ∙ (step ∙ next_rows _ _ (length (w.ps ++ p ∷ [])) _ _ (sym row) (sym left)));
-      steps = omega (arith, steps, size);
-      last = ap (λ (x : Making). x.finished) n_is;
-      going_on = w.going_on;
-      asks = subst (λ (x : Making). Asks x gs) (sym n_is) (λ on. line-next draft.spot.column e gs (sym b_is ∙ on) line);
-    }
+left-cut : (shape : ShapeValues) (row : List Element) → ends_some row ≡ false
+    → cut_of shape row ≡ record { elements = if can_wrap shape row then up_to_break row else row; ended = false; marked = not (can_wrap shape row) }
+left-cut shape row on = rw on (rw (and-true (can_wrap shape row)) refl)
 
--- the answer of the call
+kept-front : (b : Bool) (xs : List Element) → IsFront (if b then up_to_break xs else xs) xs
+kept-front true xs = break-front xs
+kept-front false xs = record { rest = []; parts = sym (append-nil xs) }
 
-pub makes : (result : Result (Option RowValues) Memory) (r : RowMeaning) (m n : Making) (es fs : List Element) (s t : ℕ)
-    → IfOk result (λ row. row ≡ Some (record { shown = r; copies = 0 })) → MakesRow r m n es fs s t → t ≤ s + weight_of (rows_left m es) → Makes result m n es fs s t
-makes (Ok row) r m n es fs s t e h b = rw e (h, refl)
-makes (Err x) r m n es fs s t e h b = b
+and-second : (a b : Bool) → (a && b) ≡ true → b ≡ true
+and-second true b h = h
+and-second false b h = cc
 
-pub makes-err : (result : Result (Option RowValues) Memory) (m n : Making) (es fs : List Element) (s t : ℕ) → IsErr result → t ≤ s + weight_of (rows_left m es) → Makes result m n es fs s t
-makes-err (Ok row) m n es fs s t h b = let g : false ≡ true = h in cc
-makes-err (Err x) m n es fs s t h b = b
+can-break : (shape : ShapeValues) (xs : List Element) → can_wrap shape xs ≡ true → has_break xs ≡ true
+can-break shape xs h = and-second (is_word shape.wrap) (has_break xs) h
 
-cutting-same : (m k : Making) (c : Cutting) → k ≡ record m { held = None } → c ≡ k.cutting → c ≡ m.cutting
-cutting-same m k c h i = i ∙ ap (λ (x : Making). x.cutting) h
+kept-some : (shape : ShapeValues) (xs : List Element) (b : Bool) → can_wrap shape xs ≡ b → 0 < length xs → 0 < length (if b then up_to_break xs else xs)
+kept-some shape xs true h some = break-some xs (can-break shape xs h)
+kept-some shape xs false h some = some
 
-pub hold-makes : (result : Result (Option RowValues) Memory) (m n k : Making) (es fs : List Element) (s t : ℕ) (draft : Draft) (e : Element) (gs : List Element) (c : Cutting) (b : Bool)
-    → Walking m es s k draft fs t → c ≡ k.cutting → fs ≡ e ∷ gs → b ≡ fits c.shape draft.spot e → b ≡ false
-    → n ≡ record k { spot = draft.spot; held = Some e }
-    → IfOk result (λ row. row ≡ Some (record { shown = finished_row k.cutting draft.spot.used draft.cells draft.begins true false; copies = 0 }))
-    → Makes result m n es gs s t
-hold-makes result m n k es fs s t draft e gs c b w same more b_is unfit next row =
-    let c_is = cutting-same m k c w.maker same in
-    let k_is : k.cutting ≡ m.cutting = ap (λ (x : Making). x.cutting) w.maker in
-    let made = makes-held m n k es fs s t draft e gs w
-    more (subst (λ (x : Cutting). fits x.shape draft.spot e ≡ false) c_is (sym b_is ∙ unfit)) next in
-    makes result (finished_row k.cutting draft.spot.used draft.cells draft.begins true false) m n es gs s t row
-    (subst (λ (x : Cutting). MakesRow (finished_row x draft.spot.used draft.cells draft.begins true false) m n es gs s t) (sym k_is) made)
-    (bound m k es fs s t draft w)
+not-empty : (xs : List Element) → is_empty xs ≡ false → 0 < length xs
+not-empty [] h = cc
+not-empty (x ∷ xs) h = omega arith
 
-pub end-makes : (result : Result (Option RowValues) Memory) (m n k : Making) (es fs : List Element) (s t u : ℕ) (draft new : Draft) (e : Element) (gs : List Element) (c : Cutting) (b d l : Bool)
-    → Walking m es s k draft fs t → c ≡ k.cutting → fs ≡ e ∷ gs → b ≡ fits c.shape draft.spot e → b ≡ true → d ≡ ends_row e.look → d ≡ true → l ≡ is_line_end e.look
-    → Grows c.shape (placed_at c.shape draft.spot e) draft new → u ≡ t + 1
-    → n ≡ record k { spot = next_line new.spot; finished = l }
-    → IfOk result (λ row. row ≡ Some (record { shown = finished_row k.cutting new.spot.used new.cells new.begins false l; copies = 0 }))
-    → Makes result m n es gs s u
-end-makes result m n k es fs s t u draft new e gs c b d l w same more b_is fit d_is close l_is g tick next row =
-    let c_is = cutting-same m k c w.maker same in
-    let k_is : k.cutting ≡ m.cutting = ap (λ (x : Making). x.cutting) w.maker in
-    let made = makes-ended m n k es fs s t draft new e gs l w
-    more (subst (λ (x : Cutting). fits x.shape draft.spot e ≡ true) c_is (sym b_is ∙ fit)) (sym d_is ∙ close) l_is
-    (subst (λ (x : Cutting). Grows x.shape (placed_at x.shape draft.spot e) draft new) c_is g) next in
-    let bounded : t + 1 ≤ s + weight_of (rows_left m es) = bound-more m k es fs s t draft e gs w more in
-    rw tick (makes result (finished_row k.cutting new.spot.used new.cells new.begins false l) m n es gs s (t + 1) row
-    (subst (λ (x : Cutting). MakesRow (finished_row x new.spot.used new.cells new.begins false l) m n es gs s (t + 1)) (sym k_is) made)
-    bounded)
+pub record IsCons (all : List Element) : Type 0 where
+  pub first : Element
+  pub rest : List Element
+  pub is : all ≡ first ∷ rest
 
-pub keep-walking : (m k : Making) (es fs : List Element) (s t u : ℕ) (draft new : Draft) (e : Element) (gs : List Element) (c : Cutting) (b d : Bool)
-    → Walking m es s k draft fs t → c ≡ k.cutting → fs ≡ e ∷ gs → b ≡ fits c.shape draft.spot e → b ≡ true → d ≡ ends_row e.look → d ≡ false
-    → Grows c.shape (placed_at c.shape draft.spot e) draft new → u ≡ t + 1 → Walking m es s k new gs u
-keep-walking m k es fs s t u draft new e gs c b d w same more b_is fit d_is on g tick =
-    let c_is = cutting-same m k c w.maker same in
-    rw tick (walk-on m k es fs s t draft new e gs w more
-    (subst (λ (x : Cutting). fits x.shape draft.spot e ≡ true) c_is (sym b_is ∙ fit)) (sym d_is ∙ on)
-    (subst (λ (x : Cutting). Grows x.shape (placed_at x.shape draft.spot e) draft new) c_is g))
+pub cons-of : (all : List Element) → 0 < length all → IsCons all
+cons-of [] h = absurd (omega (arith, h))
+cons-of (x ∷ xs) h = record { first = x; rest = xs; is = refl }
 
-pub err-more : (result : Result (Option RowValues) Memory) (m n k : Making) (es fs : List Element) (s t u : ℕ) (draft : Draft) (e : Element) (gs hs : List Element) → Walking m es s k draft fs t
-    → fs ≡ e ∷ gs → u ≡ t + 1 → IsErr result → Makes result m n es hs s u
-err-more result m n k es fs s t u draft e gs hs w more tick h =
-    makes-err result m n es hs s u h (let b = bound-more m k es fs s t draft e gs w more in omega (arith, b, tick))
+left-cuts : (m p : MakerValues) (es hs gs xs : List Element) (e : Element) (row : RowValues) (weight : ℕ) → m.finished ≡ false → IsLine m.spot.column (m.held ++ es) → HasLeads m.cutting
+    → m.held ++ es ≡ xs ++ e ∷ (hs ++ gs) → room_for m.cutting.shape (start_of m) (m.held ++ es) ≡ xs → ends_some xs ≡ false → 0 < length xs → ends_row e.look ≡ false → ends_some hs ≡ false
+    → Leaves (record m { held = hs }) p (lead_of m) (start_of m) xs e row weight → Cuts m p es gs row weight
+left-cuts m p es hs gs xs e row weight on line leads parts full ends some unended held leaves =
+    let shape = m.cutting.shape in
+    let wrap : Bool = can_wrap shape xs in
+    let kept : List Element = kept_of shape xs in
+    let size = ap length parts ∙ length-append xs (e ∷ (hs ++ gs)) in
+    let first = cons-of (m.held ++ es) (omega (arith, size, some)) in
+    let cut : cut_row shape (start_of m) (first.first ∷ first.rest) ≡ record { elements = kept; ended = false; marked = not wrap }
+    = ap (λ (ys : List Element). cut_of shape (room_for shape (start_of m) ys)) (sym first.is) ∙ (ap (cut_of shape) full ∙ left-cut shape xs ends) in
+    let all : m.held ++ es ≡ kept ++ (p.held ++ gs)
+    = parts ∙ (sym (append_assoc xs (e ∷ hs) gs) ∙ (ap (λ ys. ys ++ gs) (sym leaves.waits) ∙ append_assoc kept p.held gs)) in
+    let front = kept-front wrap xs in
+    let kept_on : ends_some kept ≡ false = (on-parts kept front.rest (sym (ap ends_some front.parts) ∙ ends)).0 in
+    let lead = lead-is m leads in
+    let last : has_line_end (standing shape (lead_of m) (start_of m) kept) ≡ false = standing-ends shape (lead_of m) (start_of m) kept lead.on ∙ on-line_ends kept kept_on in
+    let next : p ≡ record { cutting = m.cutting; spot = reached shape (start_of m) kept; continued = true; held = p.held; finished = false }
+    = leaves.next ∙ ap (λ (b : Bool). let y : MakerValues = record { cutting = m.cutting; spot = reached shape (start_of m) kept; continued = true; held = p.held; finished = b } in y) on in
+    let column : p.spot.column ≤ m.spot.column + columns_at_most kept
+    = let here = reached-column shape (start_of m) kept in let spot = ap (λ (y : MakerValues). y.spot.column) next in omega (arith, here, spot) in
+    cuts-by m p es gs row weight first.first first.rest kept false (not wrap) false on first.is cut (sym first.is ∙ all) (kept-some shape xs wrap refl some) next
+    (λ h. absurd (cc))
+    (leaves.row_is ∙ ap (row_standing m.cutting (lead_of m) (start_of m) kept (not wrap)) (sym last))
+    leaves.weight_is (sym last)
+    (on-parts kept p.held (ap ends_some leaves.waits ∙ on-append xs (e ∷ hs) ends (rw (unended, held) refl))).1
+    (λ h. line-behind m.spot.column p.spot.column kept (p.held ++ gs) (on-line_ends kept kept_on) column (subst (IsLine m.spot.column) all line))
+
+pub leave-cuts : (result : Result MadeRow Memory) (m n k p : MakerValues) (held : ends_some k.held ≡ false) (es fs gs : List Element) (f : Filling) (w : Walks m es n fs f) (e : Element) → n.held ++ fs ≡ e ∷ (k.held ++ gs) → k ≡ record n { held = k.held }
+    → has_room m.cutting.shape w.xs (reached m.cutting.shape (start_of m) w.xs) e ≡ false
+    → IfOk result (λ made. (lead : List Placed) (start : Spot) (xs : List Element) → IsFilling k.cutting.shape lead start xs f → Leaves k p lead start xs e made.row made.weight)
+    → IfOk result (λ made. Cuts m p es gs made.row made.weight)
+leave-cuts (Err x) m n k p held es fs gs f w e more rest unfit h = h
+leave-cuts (Ok made) m n k p held es fs gs f w e more rest unfit h =
+    let k_is = taken m n k w.maker rest in
+    let leaves = subst (λ (y : MakerValues). (lead : List Placed) (start : Spot) (xs : List Element) → IsFilling y.cutting.shape lead start xs f → Leaves y p lead start xs e made.row made.weight) k_is h in
+    let room = subst (λ ys. room_for m.cutting.shape (start_of m) (m.held ++ es) ≡ w.xs ++ room_behind m.cutting.shape w.xs (reached m.cutting.shape (start_of m) w.xs) ys) more w.room in
+    let empty : is_empty w.xs ≡ false = (or-false (is_empty w.xs) _ unfit).0 in
+    left-cuts m p es k.held gs w.xs e made.row made.weight w.going_on w.line w.leads (w.parts ∙ ap (λ ys. w.xs ++ ys) more)
+    (room-full m.cutting.shape (start_of m) w.xs (m.held ++ es) (k.held ++ gs) e unfit room) w.on (not-empty w.xs empty) (unfit-ends m.cutting.shape w.xs (reached m.cutting.shape (start_of m) w.xs) e unfit) held
+    (leaves (lead_of m) (start_of m) w.xs w.filling)
+
+-- a row that is ended
+
+and-false : (b : Bool) → (b && false) ≡ false
+and-false true = refl
+and-false false = refl
+
+or-nothing : (b : Bool) → (b || false) ≡ b
+or-nothing true = refl
+or-nothing false = refl
+
+or-all : (b : Bool) → (b || (true || false)) ≡ true
+or-all true = refl
+or-all false = refl
+
+last-end : (xs : List Element) (e : Element) → is_line_end e.look ≡ true → line_ends (xs ++ e ∷ []) ≡ false → ⊥
+last-end [] e h none = let k : true ≡ false = rw h at none in cc
+last-end (x ∷ xs) e h none = last-end xs e h (or-false (is_line_end x.look) _ none).1
+
+ended-cut : (shape : ShapeValues) (row : List Element) → ends_some row ≡ true → cut_of shape row ≡ record { elements = row; ended = true; marked = false }
+ended-cut shape row h = rw h (rw (and-false (can_wrap shape row)) refl)
+
+line-ends-more : (xs : List Element) (e : Element) → line_ends xs ≡ false → line_ends (xs ++ e ∷ []) ≡ is_line_end e.look
+line-ends-more [] e h = or-nothing (is_line_end e.look)
+line-ends-more (x ∷ xs) e h = let parts = or-false (is_line_end x.look) (line_ends xs) h in rw parts.0 (line-ends-more xs e parts.1)
+
+some-last : (xs : List Element) (e : Element) → ends_row e.look ≡ true → ends_some (xs ++ e ∷ []) ≡ true
+some-last xs e h = ends-append xs (e ∷ []) ∙ rw h (or-all (ends_some xs))
+
+once-over : (xs : List Element) (e : Element) (rest : List Element) → is_line_end e.look ≡ true → IsTrue (ends_once (xs ++ e ∷ rest)) → rest ≡ []
+once-over xs e [] h end = refl
+once-over xs e (f ∷ fs) h end =
+    let all : (xs ++ e ∷ []) ++ f ∷ fs ≡ xs ++ e ∷ f ∷ fs = append_assoc xs (e ∷ []) (f ∷ fs) in
+    let none = (ends_once-parts (xs ++ e ∷ []) f fs (subst (λ ys. IsTrue (ends_once ys)) (sym all) end)).0 in
+    absurd (last-end xs e h none)
+
+ended-cuts : (m p : MakerValues) (es hs gs xs : List Element) (e : Element) (fin : Bool) (row : RowValues) (weight : ℕ) → m.finished ≡ false → IsLine m.spot.column (m.held ++ es) → HasLeads m.cutting
+    → m.held ++ es ≡ xs ++ e ∷ (hs ++ gs) → room_for m.cutting.shape (start_of m) (m.held ++ es) ≡ xs ++ e ∷ [] → ends_some xs ≡ false → ends_row e.look ≡ true → fin ≡ is_line_end e.look → ends_some hs ≡ false
+    → Ends (record m { held = hs }) p (lead_of m) (start_of m) (xs ++ e ∷ []) fin row weight → Cuts m p es gs row weight
+ended-cuts m p es hs gs xs e fin row weight on line leads parts full none close fin_is waits ends =
+    let shape = m.cutting.shape in
+    let kept : List Element = xs ++ e ∷ [] in
+    let size = ap length parts ∙ length-append xs (e ∷ (hs ++ gs)) in
+    let kept_size = length-append xs (e ∷ []) in
+    let first = cons-of (m.held ++ es) (omega (arith, size)) in
+    let cut : cut_row shape (start_of m) (first.first ∷ first.rest) ≡ record { elements = kept; ended = true; marked = false }
+    = ap (λ (ys : List Element). cut_of shape (room_for shape (start_of m) ys)) (sym first.is) ∙ (ap (cut_of shape) full ∙ ended-cut shape kept (some-last xs e close)) in
+    let held : p.held ≡ hs = ap (λ (y : MakerValues). y.held) ends.next in
+    let all : m.held ++ es ≡ kept ++ (p.held ++ gs) = parts ∙ (sym (append_assoc xs (e ∷ []) (hs ++ gs)) ∙ ap (λ ys. kept ++ (ys ++ gs)) (sym held)) in
+    let lead = lead-is m leads in
+    let last : has_line_end (standing shape (lead_of m) (start_of m) kept) ≡ fin
+    = standing-ends shape (lead_of m) (start_of m) kept lead.on ∙ (line-ends-more xs e (on-line_ends xs none) ∙ sym fin_is) in
+    let next : p ≡ record { cutting = m.cutting; spot = next_line (reached shape (start_of m) kept); continued = false; held = p.held; finished = fin }
+    = ends.next ∙ ap (λ (ys : List Element). let y : MakerValues = record { cutting = m.cutting; spot = next_line (reached shape (start_of m) kept); continued = false; held = ys; finished = fin } in y) (sym held) in
+    let column : p.spot.column ≡ 0 = ap (λ (y : MakerValues). y.spot.column) next in
+    cuts-by m p es gs row weight first.first first.rest kept true false fin on first.is cut (sym first.is ∙ all) (omega (arith, kept_size)) next
+    (λ h. let over = once-over xs e (hs ++ gs) (sym fin_is ∙ h) (subst (λ ys. IsTrue (ends_once ys)) parts line.end) in ap (λ ys. ys ++ gs) held ∙ over)
+    (ends.row_is ∙ ap (row_standing m.cutting (lead_of m) (start_of m) kept false) (sym last))
+    ends.weight_is (sym last) (ap ends_some held ∙ waits)
+    (λ h. line-behind m.spot.column p.spot.column kept (p.held ++ gs) (line-ends-more xs e (on-line_ends xs none) ∙ (sym fin_is ∙ h)) (omega (arith, column)) (subst (IsLine m.spot.column) all line))
+
+pub end-cuts : (result : Result MadeRow Memory) (m n k p : MakerValues) (held : ends_some k.held ≡ false) (es fs gs : List Element) (f g : Filling) (w : Walks m es n fs f) (e : Element) (shape : ShapeValues) (fin : Bool) → n.held ++ fs ≡ e ∷ (k.held ++ gs) → k ≡ record n { held = k.held }
+    → has_room m.cutting.shape w.xs (reached m.cutting.shape (start_of m) w.xs) e ≡ true → ends_row e.look ≡ true → fin ≡ is_line_end e.look → shape ≡ m.cutting.shape
+    → ((lead : List Placed) (start : Spot) (xs : List Element) → IsFilling shape lead start xs f → IsFilling shape lead start (xs ++ e ∷ []) g)
+    → IfOk result (λ made. (lead : List Placed) (start : Spot) (xs : List Element) → IsFilling k.cutting.shape lead start xs g → Ends k p lead start xs fin made.row made.weight)
+    → IfOk result (λ made. Cuts m p es gs made.row made.weight)
+end-cuts (Err x) m n k p held es fs gs f g w e shape fin more rest fit close fin_is same placed h = h
+end-cuts (Ok made) m n k p held es fs gs f g w e shape fin more rest fit close fin_is same placed h =
+    let k_is = taken m n k w.maker rest in
+    let filled = subst (λ (s : ShapeValues). (lead : List Placed) (start : Spot) (xs : List Element) → IsFilling s lead start xs f → IsFilling s lead start (xs ++ e ∷ []) g) same placed in
+    let ends = subst (λ (y : MakerValues). (lead : List Placed) (start : Spot) (xs : List Element) → IsFilling y.cutting.shape lead start xs g → Ends y p lead start xs fin made.row made.weight) k_is h in
+    let room = subst (λ ys. room_for m.cutting.shape (start_of m) (m.held ++ es) ≡ w.xs ++ room_behind m.cutting.shape w.xs (reached m.cutting.shape (start_of m) w.xs) ys) more w.room in
+    ended-cuts m p es k.held gs w.xs e fin made.row made.weight w.going_on w.line w.leads (w.parts ∙ ap (λ ys. w.xs ++ ys) more)
+    (room-ended m.cutting.shape (start_of m) w.xs (m.held ++ es) (k.held ++ gs) e fit close room) w.on close fin_is held
+    (ends (lead_of m) (start_of m) (w.xs ++ e ∷ []) (filled (lead_of m) (start_of m) w.xs w.filling))
+
+pub walk-less : (n k : MakerValues) (fs gs : List Element) (e : Element) → n.held ++ fs ≡ e ∷ (k.held ++ gs) → length (k.held ++ gs) < length (n.held ++ fs)
+walk-less n k fs gs e more = let size = ap length more in omega (arith, size)

@@ -1,5 +1,5 @@
 -- In the rows of measured elements each glyph stands whole.
-use Rattle.std.proofs.Common.{◌≡◌, ℕ, zero, suc, ◌+◌, ◌-◌, ◌≤◌, ◌&&◌, min, max, nat_le, nat_lt, Bool, true, false, if◌then◌else◌, List, [], ◌∷◌, ◌++◌, length, flat_map, refl, ap, ◌∙◌, arith, length-append, replicate}
+use Rattle.std.proofs.Common.{◌≡◌, ℕ, zero, suc, ◌+◌, ◌-◌, ◌≤◌, ◌&&◌, min, max, nat_le, nat_lt, Bool, true, false, if◌then◌else◌, List, [], ◌∷◌, ◌++◌, length, drop, flat_map, refl, ap, ◌∙◌, subst, arith, length-append, replicate}
 use Rattle.std.proofs.lemmas.List.{length-replicate}
 use Rattle.std.proofs.lemmas.List.Elements.{All-tail}
 use Rattle.rd_base.specs.Elements.{IsSound, AreSound}
@@ -15,14 +15,17 @@ use Rattle.rd_rows.specs.declared.cutting.Cutting.{Cutting}
 use Rattle.rd_rows.specs.declared.spot.Placed.{Placed}
 use Rattle.rd_rows.specs.declared.spot.Spot.{Spot}
 use Rattle.rd_rows.specs.Mirrors.{mirror_image, leading_rests}
-use Rattle.rd_rows.specs.Placing.{glyph_in, fits, ends_row, placed_at, behind, next_row, next_line, line_start, columns_of, width_at}
+use Rattle.rd_rows.specs.Cuts.{cut_row}
+use Rattle.rd_rows.specs.Placing.{glyph_in, placed_at, behind, next_row, line_start, place_all, columns_of, width_at}
 use Rattle.rd_rows.specs.Prefixes.{FillsColumns, StandFrom, fitted}
-use Rattle.rd_rows.specs.Rows.{LaidRow, whole_cells, seen, seen_in, first_seen, mark, front_mark, scrolled, filled, last_cell, from_edge, row_of, laid, rows_from, rows_of, cutting_of}
+use Rattle.rd_rows.specs.Rows.{LaidRow, whole_cells, seen, seen_in, first_seen, mark, front_mark, scrolled, filled, last_cell, from_edge, row_of, rows_within, rows_of, cutting_of}
 use Rattle.rd_rows.specs.Shapes.{ShapeValues, room, truncates}
 use Rattle.rd_rows.specs.Whole.{IsWhole, AreWhole, IsMark, IsMeasuredPrefix, ArePlacedMeasured, IsMeasuredCutting}
 use Rattle.rd_rows.proofs.Fitting.{cutting-leads}
 use Rattle.rd_rows.proofs.Mirroring.{mirror-length, front-length}
-use Rattle.rd_rows.proofs.Stands.{stand-more, placed-fills, room-length}
+use Rattle.rd_rows.proofs.Ends.{All-left, All-right}
+use Rattle.rd_rows.proofs.Splits.{cut-is}
+use Rattle.rd_rows.proofs.Stands.{stand-append, stand-placed, room-length}
 
 -- cells one behind the other
 
@@ -137,42 +140,43 @@ row-whole c used continued ps m stand measured =
     let same = edge.1 in
     record { wide = omega (arith, columns, size, more, same); whole = edge.0 }
 
-measured-more : (ps : List Placed) (p : Placed) → ArePlacedMeasured ps → IsMeasuredLook p.element.look → ArePlacedMeasured (ps ++ p ∷ [])
-measured-more [] p h k = (k, tt)
-measured-more (q ∷ ps) p h k = (h.0, measured-more ps p h.1 k)
+measured-placed : (shape : ShapeValues) (spot : Spot) (xs : List Element) → AreMeasured xs → ArePlacedMeasured (place_all shape spot xs)
+measured-placed shape spot [] h = tt
+measured-placed shape spot (x ∷ xs) h =
+    (h zero x (omega arith), measured-placed shape (behind spot (placed_at shape spot x)) xs (All-tail (λ y. IsMeasuredLook y.look) x xs h))
 
-either-rows : (b : Bool) (width : ℕ) (xs ys : List LaidRow) → AreWhole width xs → AreWhole width ys → AreWhole width (if b then xs else ys)
-either-rows true width xs ys h k = h
-either-rows false width xs ys h k = k
+measured-append : (ps qs : List Placed) → ArePlacedMeasured ps → ArePlacedMeasured qs → ArePlacedMeasured (ps ++ qs)
+measured-append [] qs h k = k
+measured-append (p ∷ ps) qs h k = (h.0, measured-append ps qs h.1 k)
 
-whole-cons : (width : ℕ) (r : LaidRow) (rs : List LaidRow) → IsWhole width r.row → AreWhole width rs → AreWhole width (r ∷ rs)
-whole-cons width r rs h k = (h, k)
+-- a prefix with which a measured row can begin
+record IsMeasuredLead (lead : List Placed) : Type 0 where
+  stand : StandFrom 0 lead (columns_of lead)
+  measured : ArePlacedMeasured lead
 
-pub whole-rows : (c : Cutting) (spot : Spot) (ps : List Placed) (es : List Element) → IsMeasuredCutting c → StandFrom 0 ps spot.used → ArePlacedMeasured ps → AreSound es → AreMeasured es
-    → AreWhole c.shape.width (rows_from c spot ps es)
-whole-rows c spot ps [] m stand placed sound measured = tt
-whole-rows c spot ps (e ∷ es) m stand placed sound measured =
-    let p : Placed = placed_at c.shape spot e in
-    let start : Spot = next_row (columns_of c.wrap) spot in
-    let q : Placed = placed_at c.shape start e in
-    let here = sound zero e (omega arith) in
-    let look : IsMeasuredLook e.look = measured zero e (omega arith) in
-    let sound_rest = All-tail IsSound e es sound in
-    let measured_rest = All-tail (λ x. IsMeasuredLook x.look) e es measured in
-    let more = stand-more 0 spot.used ps p stand refl (placed-fills c.shape spot e here) in
-    let more_placed = measured-more ps p placed look in
-    either-rows (fits c.shape spot e) c.shape.width _ _
-    (either-rows (ends_row e.look) c.shape.width _ _
-    (whole-cons c.shape.width (laid c (spot.used + p.columns) false (ps ++ p ∷ [])) _ (row-whole c (spot.used + p.columns) false (ps ++ p ∷ []) m more more_placed)
-    (whole-rows c (next_row (columns_of c.first) (next_line (behind spot p))) c.first es m m.leads.first.stand m.first sound_rest measured_rest))
-    (whole-rows c (behind spot p) (ps ++ p ∷ []) es m more more_placed sound_rest measured_rest))
-    (whole-cons c.shape.width (laid c spot.used true ps) _ (row-whole c spot.used true ps m stand placed)
-    (whole-rows c (behind start q) (c.wrap ++ q ∷ []) es m
-    (stand-more 0 start.used c.wrap q m.leads.wrap.stand refl (placed-fills c.shape start e here))
-    (measured-more c.wrap q m.wrap look) sound_rest measured_rest))
+either-lead : (c : Cutting) (b : Bool) → IsMeasuredCutting c → IsMeasuredLead (if b then c.first else c.wrap)
+either-lead c true m = record { stand = m.leads.first.stand; measured = m.first }
+either-lead c false m = record { stand = m.leads.wrap.stand; measured = m.wrap }
+
+whole-rows : (n : ℕ) (c : Cutting) (lead : List Placed) (spot : Spot) (es : List Element) → IsMeasuredCutting c → IsMeasuredLead lead → AreSound es → AreMeasured es
+    → AreWhole c.shape.width (rows_within n c lead spot es)
+whole-rows zero c lead spot es m one sound measured = tt
+whole-rows (suc n) c lead spot [] m one sound measured = tt
+whole-rows (suc n) c lead spot (e ∷ es) m one sound measured =
+    let start = next_row (columns_of lead) spot in
+    let cut = cut_row c.shape start (e ∷ es) in
+    let is = cut-is c.shape start e es in
+    let rest : List Element = drop (length cut.elements) (e ∷ es) in
+    let all_sound = subst AreSound is.parts sound in
+    let all_measured = subst AreMeasured is.parts measured in (
+      row-whole c _ cut.marked (lead ++ place_all c.shape start cut.elements) m
+          (stand-append 0 (columns_of lead) _ lead (place_all c.shape start cut.elements) one.stand (stand-placed c.shape start cut.elements (All-left IsSound cut.elements rest all_sound)))
+          (measured-append lead (place_all c.shape start cut.elements) one.measured (measured-placed c.shape start cut.elements (All-left (λ y. IsMeasuredLook y.look) cut.elements rest all_measured))),
+      whole-rows n c _ _ rest m (either-lead c cut.ended m) (All-right IsSound cut.elements rest all_sound) (All-right (λ y. IsMeasuredLook y.look) cut.elements rest all_measured),
+    )
 
 pub whole-line : (c : Cutting) (es : List Element) → IsMeasuredCutting c → AreSound es → AreMeasured es → AreWhole c.shape.width (rows_of c es)
-whole-line c es m sound measured = whole-rows c (next_row (columns_of c.first) line_start) c.first es m m.leads.first.stand m.first sound measured
+whole-line c es m sound measured = whole-rows (length es) c c.first line_start es m (record { stand = m.leads.first.stand; measured = m.first }) sound measured
 
 -- measured prefixes
 

@@ -8,7 +8,7 @@ use Rattle.rd_base.specs.declared.element.Extent.{Extent}
 use Rattle.rd_base.specs.declared.element.Extent.TheVariants.{Fixed, Tab, Column}
 use Rattle.rd_base.specs.declared.element.Look.{Look}
 use Rattle.rd_base.specs.declared.element.Look.TheVariants.{Blank, Glyph, RowEnd, LineEnd}
-use Rattle.rd_base.specs.declared.settings.Wrap.TheVariants.{Truncate, Continue}
+use Rattle.rd_base.specs.declared.settings.Wrap.TheVariants.{Truncate, Continue, Word}
 use Rattle.rd_rows.specs.declared.begin.Begin.{Begin}
 use Rattle.rd_rows.specs.Shapes.{ShapeValues}
 use Rattle.rd_base.specs.Glyphs.{glyph_cells}
@@ -56,6 +56,9 @@ narrow = record { width = 12; wrap = Continue; hscroll = 0 }
 
 abbrev pub cut : ShapeValues
 cut = record { width = 12; wrap = Truncate; hscroll = 0 }
+
+abbrev pub by_words : ShapeValues
+by_words = record { width = 12; wrap = Word; hscroll = 0 }
 
 -- scrolled sideways, in a window of five columns
 abbrev pub cut_at : ℕ → ShapeValues

@@ -1,23 +1,27 @@
 -- What holds of the rows of every line.
-use Rattle.std.specs.Prelude.{◌≡◌, ℕ, ◌+◌, ◌*◌, Bool, false, not, ◌&&◌, if◌then◌else◌, List, [], ◌∷◌, ◌++◌, map, length, Option, Some}
+use Rattle.std.specs.Prelude.{◌≡◌, ℕ, ◌+◌, ◌*◌, Bool, false, not, ◌&&◌, if◌then◌else◌, List, [], ◌∷◌, ◌++◌, map, flat_map, length, Option, Some}
 use Rattle.rd_base.specs.declared.element.Element.{Element}
 use Rattle.rd_rows.specs.declared.begin.Begin.{Begin}
 use Rattle.rd_rows.specs.declared.cutting.Cutting.{Cutting}
 use Rattle.rd_rows.specs.Placing.{is_item, ends_row}
-use Rattle.rd_rows.specs.Rows.{LaidRow, weight_of}
+use Rattle.rd_rows.specs.Rows.{RowMeaning, LaidRow, weight_of}
+
+-- what is seen of the rows of a line
+abbrev pub seen_rows : List LaidRow → List RowMeaning
+seen_rows rows = map (λ r. r.row) rows
 
 -- whether the last row, and no other, ends the block
-abbrev pub ends_last : List LaidRow → Bool
+abbrev pub ends_last : List RowMeaning → Bool
 ends_last [] = false
-ends_last (r ∷ []) = r.row.ends_block
-ends_last (r ∷ s ∷ rs) = not r.row.ends_block && ends_last (s ∷ rs)
+ends_last (r ∷ []) = r.ends_block
+ends_last (r ∷ s ∷ rs) = not r.ends_block && ends_last (s ∷ rs)
+
+-- the items that begin in rows
+abbrev pub begins_of : List RowMeaning → List Begin
+begins_of rows = flat_map (λ r. r.begins) rows
 
 abbrev pub range_of : Begin → ℕ × ℕ
 range_of b = (b.from, b.to)
-
--- the ranges of the items that begin in a row
-abbrev pub ranges_in : LaidRow → List (ℕ × ℕ)
-ranges_in r = map range_of r.row.begins
 
 -- the ranges of the items whose first element is among these, behind an element of an item
 abbrev pub ranges_of : Option ℕ → List Element → List (ℕ × ℕ)

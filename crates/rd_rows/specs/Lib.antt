@@ -1,9 +1,11 @@
 pub mod Copies
-pub mod Drafts
+pub mod Cuts
 pub mod Examples
 pub mod Laws
 pub mod Leads
+pub mod Left
 pub mod Lines
+pub mod Makers
 pub mod Mirrors
 pub mod Placing
 pub mod Prefixes

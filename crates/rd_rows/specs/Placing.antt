@@ -1,5 +1,6 @@
 -- How an element of a line comes to stand in a row.
 use Rattle.std.specs.Prelude.{ℕ, ◌+◌, ◌-◌, ◌%◌, ◌==◌, ◌&&◌, ◌||◌, min, nat_lt, nat_le, not, Bool, true, false, if◌then◌else◌, List, [], ◌∷◌, Option, None, Some}
+use Rattle.rd_base.specs.Elements.{is_line_end}
 use Rattle.rd_base.specs.declared.cell.Glyph.{Glyph}
 use Rattle.rd_base.specs.declared.element.Element.{Element}
 use Rattle.rd_base.specs.declared.element.Extent.{Extent}
@@ -16,19 +17,9 @@ width_at (Fixed n) column = n
 width_at (Tab t) column = t - column % t
 width_at (Column n) column = n - column
 
--- the most columns that an extent can have
-abbrev pub width_at_most : Extent → ℕ
-width_at_most (Fixed n) = n
-width_at_most (Tab t) = t
-width_at_most (Column n) = n
-
 abbrev pub is_blank : Look → Bool
 is_blank Blank = true
 is_blank look = false
-
-abbrev pub is_line_end : Look → Bool
-is_line_end LineEnd = true
-is_line_end look = false
 
 -- a row ends behind such an element
 abbrev pub ends_row : Look → Bool
@@ -89,10 +80,17 @@ behind spot p = record {
   before = Some p.element.origin.item;
 }
 
--- an element that waits for the next row ends none
-abbrev pub goes_on : Option Element → Bool
-goes_on None = true
-goes_on (Some e) = not (ends_row e.look)
+-- these elements one behind the other
+abbrev pub place_all : ShapeValues → Spot → List Element → List Placed
+place_all shape spot [] = []
+place_all shape spot (e ∷ es) =
+    let p = placed_at shape spot e in
+    p ∷ place_all shape (behind spot p) es
+
+-- where the element behind all of these comes
+abbrev pub behind_all : Spot → List Placed → Spot
+behind_all spot [] = spot
+behind_all spot (p ∷ ps) = behind_all (behind spot p) ps
 
 abbrev pub has_line_end : List Placed → Bool
 has_line_end [] = false

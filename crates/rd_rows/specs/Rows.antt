@@ -1,5 +1,5 @@
 -- The rows into which a line is cut, from all of its elements.
-use Rattle.std.specs.Prelude.{ℕ, ◌+◌, ◌-◌, ◌==◌, ◌&&◌, min, max, nat_lt, nat_le, Bool, true, false, if◌then◌else◌, List, [], ◌∷◌, ◌++◌, length, flat_map, Option, None, Some}
+use Rattle.std.specs.Prelude.{ℕ, zero, suc, ◌+◌, ◌-◌, ◌==◌, ◌&&◌, min, max, nat_lt, nat_le, Bool, true, false, if◌then◌else◌, List, [], ◌∷◌, ◌++◌, length, drop, flat_map, Option, None, Some}
 use Rattle.rd_base.specs.Faces.{Attributes, plain}
 use Rattle.rd_base.specs.Glyphs.{is_space, blanks, glyph_cells}
 use Rattle.rd_base.specs.declared.cell.Cell.{Cell}
@@ -12,7 +12,8 @@ use Rattle.rd_rows.specs.declared.spot.Placed.{Placed}
 use Rattle.rd_rows.specs.declared.spot.Spot.{Spot}
 use Rattle.rd_rows.specs.Shapes.{ShapeValues, room, truncates}
 use Rattle.rd_rows.specs.Mirrors.{mirror_image}
-use Rattle.rd_rows.specs.Placing.{glyph_in, ends_row, line_start, next_row, next_line, fits, placed_at, behind, has_line_end, columns_of}
+use Rattle.rd_rows.specs.Cuts.{cut_row}
+use Rattle.rd_rows.specs.Placing.{glyph_in, line_start, next_row, next_line, place_all, behind_all, has_line_end, columns_of}
 use Rattle.rd_rows.specs.Prefixes.{prefix_of}
 
 -- what is seen of a row, whoever made it
@@ -85,7 +86,7 @@ begin_of shape p =
 abbrev pub from_edge : Bool → List Cell → List Cell
 from_edge reversed cells = if reversed then mirror_image cells else cells
 
--- the row of these elements, which take so many columns; continued where the next element did not fit
+-- the row of these elements, which take so many columns; continued where it ends with the mark of a row whose line goes on
 abbrev pub row_of : Cutting → ℕ → Bool → List Placed → RowMeaning
 row_of c used continued ps = record {
   cells = from_edge c.reversed (filled (room c.shape) (scrolled c used ps) ++ last_cell c used continued ∷ []);
@@ -97,23 +98,22 @@ row_of c used continued ps = record {
 abbrev pub laid : Cutting → ℕ → Bool → List Placed → LaidRow
 laid c used continued ps = record { row = row_of c used continued ps; weight = length ps }
 
--- the rows of the elements that are left, where some were placed already in a row that is not whole: each element that fits is
--- placed in the row, which ends behind a row end or the line end; one that does not fit begins the next row, behind the prefix
--- of rows that go on with a line
-abbrev pub rows_from : Cutting → Spot → List Placed → List Element → List LaidRow
-rows_from c spot ps [] = []
-rows_from c spot ps (e ∷ es) =
-    let p = placed_at c.shape spot e in
-    let q = placed_at c.shape (next_row (columns_of c.wrap) spot) e in
-    if fits c.shape spot e
-    then if ends_row e.look
-    then laid c (spot.used + p.columns) false (ps ++ p ∷ []) ∷ rows_from c (next_row (columns_of c.first) (next_line (behind spot p))) c.first es
-    else rows_from c (behind spot p) (ps ++ p ∷ []) es
-    else laid c spot.used true ps ∷ rows_from c (behind (next_row (columns_of c.wrap) spot) q) (c.wrap ++ q ∷ []) es
+-- the rows of elements, at most so many: each begins with its prefix, the first with this one, and has those elements of the line
+-- for which it has room; the line goes on behind a row end with the prefix of first rows, and else with that of other rows
+abbrev pub rows_within : ℕ → Cutting → List Placed → Spot → List Element → List LaidRow
+rows_within zero c lead spot es = []
+rows_within (suc n) c lead spot [] = []
+rows_within (suc n) c lead spot (e ∷ es) =
+    let start = next_row (columns_of lead) spot in
+    let cut = cut_row c.shape start (e ∷ es) in
+    let ps = place_all c.shape start cut.elements in
+    let end = behind_all start ps in
+    laid c end.used cut.marked (lead ++ ps)
+    ∷ rows_within n c (if cut.ended then c.first else c.wrap) (if cut.ended then next_line end else end) (drop (length cut.elements) (e ∷ es))
 
--- the rows of a line
+-- the rows of a line, of which each has at least one of its elements
 abbrev pub rows_of : Cutting → List Element → List LaidRow
-rows_of c es = rows_from c (next_row (columns_of c.first) line_start) c.first es
+rows_of c es = rows_within (length es) c c.first line_start es
 
 -- how a line of a paragraph of this base level is cut, with the elements of the prefixes of its first row and of its other
 -- rows, and the glyphs that mark a truncated and a continued row

@@ -1,7 +1,7 @@
 -- Shapes, as contracts see them.
 use Rattle.std.specs.Prelude.{ℕ, ◌-◌, ◌≤◌, ◌||◌, Bool, true, false, nat_lt}
 use Rattle.rd_base.specs.declared.settings.Wrap.{Wrap}
-use Rattle.rd_base.specs.declared.settings.Wrap.TheVariants.{Truncate}
+use Rattle.rd_base.specs.declared.settings.Wrap.TheVariants.{Truncate, Word}
 
 pub record ShapeValues : Type 0 where
   pub width : ℕ
@@ -20,6 +20,10 @@ room shape = shape.width - 1
 abbrev pub is_truncate : Wrap → Bool
 is_truncate Truncate = true
 is_truncate wrap = false
+
+abbrev pub is_word : Wrap → Bool
+is_word Word = true
+is_word wrap = false
 
 -- a window that is scrolled sideways cuts its lines too
 abbrev pub truncates : ShapeValues → Bool

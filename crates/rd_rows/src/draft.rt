@@ -1,10 +1,14 @@
 //! A row that is being made.
-ghost use Rattle.std.specs.Prelude.{◌≡◌, ◌+◌, ◌-◌, ◌^◌, ◌<◌, ◌≤◌, ◌++◌, ◌∷◌, [], length, replicate, min, OnOk, IfOk};
+ghost use Rattle.std.specs.Prelude.{◌≡◌, ◌+◌, ◌-◌, ◌^◌, ◌<◌, ◌≤◌, ◌++◌, ◌∷◌, [], List, length, replicate, min, OnOk, IfOk};
+ghost use Rattle.rd_base.specs.Elements.{width_at_most};
 ghost use Rattle.rd_base.specs.Glyphs.{blanks, glyph_cells};
-ghost use Rattle.rd_rows.specs.Placing.{width_at_most, placed_at, glyph_in, next_row, columns_of};
+ghost use Rattle.rd_base.specs.declared.element.Element.{Element};
+ghost use Rattle.rd_rows.specs.declared.spot.Placed.{Placed};
+ghost use Rattle.rd_rows.specs.declared.spot.Spot.{Spot};
+ghost use Rattle.rd_rows.specs.Placing.{placed_at, glyph_in, next_row, columns_of};
 ghost use Rattle.rd_rows.specs.Shapes.{room};
 ghost use Rattle.rd_rows.specs.Rows.{whole_cells, seen_in, first_seen, front_mark, from_edge, mark, filled, last_cell, begin_of};
-ghost use Rattle.rd_rows.specs.Drafts.{Grows, IsDraft, finished_row};
+ghost use Rattle.rd_rows.specs.Makers.{Grows, IsDraft, IsBreak, IsNoted, kept_of, finished_row};
 
 use crate::begin::Begin;
 use crate::cutting::Cutting;
@@ -14,16 +18,27 @@ use crate::repeat::add_copies;
 use crate::row::Row;
 use crate::shape::Shape;
 use crate::spot::{Placed, Spot};
-use rd_base::{Cell, Element, Face, Glyph, ListOf, Look, Memory, Steps};
+use rd_base::{Cell, Element, Face, Glyph, ListOf, Look, Memory};
 use std::alloc::Global;
-use std::sync::ledger::Ledger;
 
-/// The cells and the items of the elements that were placed in a row so far, and where the next element comes.
+/// The cells and the items of the elements that were placed in a row so far, where the next element comes, and how many elements
+/// were placed.
 #[derive(Drop)]
 pub struct Draft {
     pub cells: ListOf<Cell>,
     pub begins: ListOf<Begin>,
     pub spot: Spot,
+    pub placed: u64,
+}
+
+/// A place in a row at which it can be left: how many cells and items come before it, where the next element comes, and how
+/// many elements were placed.
+#[derive(Clone, Copy, Debug, PartialEq, Eq)]
+pub struct Break {
+    pub cells: usize,
+    pub begins: usize,
+    pub spot: Spot,
+    pub placed: u64,
 }
 
 /// The cell of a mark.
@@ -88,27 +103,19 @@ fn add_begin(begins: &mut ListOf<Begin>, shape: Shape, placed: &Placed) -> Resul
 }
 
 impl Draft {
-    /// A row of a line that goes on at a spot, in which the elements of a prefix stand. A step is counted for each of them.
-    pub fn behind<L: Ledger>(
-        alloc: Global,
-        shape: Shape,
-        spot: Spot,
-        prefix: &Prefix,
-        steps: &mut Steps<L>,
-    ) -> Result<Draft, Memory>
-        ensures draft { IfOk result (λ draft. IsDraft shape (next_row (columns_of prefix.now) spot) prefix.now draft) }
-        ensures steps { OnOk result (steps.new ≡ steps.old + length prefix.now) }
-        ensures bound { steps.new ≤ steps.old + length prefix.now }
+    /// A row of a line that goes on at a spot, in which the elements of a prefix stand.
+    pub fn behind(alloc: Global, shape: Shape, spot: Spot, prefix: &Prefix) -> Result<Draft, Memory>
+        ensures { IfOk result (λ draft. IsDraft shape prefix.now (next_row (columns_of prefix.now) spot) [] draft) }
     {
         let mut cells = ListOf::new(alloc);
         for placed in prefix.placed() {
-            steps.tick();
             add_seen(&mut cells, shape, placed)?;
         }
         Ok(Draft {
             cells,
             begins: ListOf::new(alloc),
             spot: spot.next_row(prefix.columns()),
+            placed: prefix.placed().len() as u64,
         })
     }
 
@@ -118,11 +125,49 @@ impl Draft {
         requires used { self.old.spot.used ≤ self.old.spot.column + 200 }
         ensures { OnOk result (Grows shape (placed_at shape self.old.spot element.now) self.old self.new) }
     {
+        if self.placed == u64::MAX {
+            return Err(Memory);
+        }
         let placed = self.spot.place(shape, element);
         add_seen(&mut self.cells, shape, &placed)?;
         add_begin(&mut self.begins, shape, &placed)?;
         self.spot = self.spot.behind(&placed);
+        self.placed += 1;
         Ok(())
+    }
+
+    /// The place behind the elements that were placed.
+    pub fn here(&self) -> Break
+        ensures { (shape : _) (lead : List Placed) (start : Spot) (xs : List Element) → IsDraft shape lead start xs self.now → IsBreak shape lead start xs result }
+    {
+        Break {
+            cells: self.cells.len(),
+            begins: self.begins.len(),
+            spot: self.spot,
+            placed: self.placed,
+        }
+    }
+
+    /// Takes the elements behind a place away.
+    pub fn cut_back(&mut self, place: Break)
+        ensures cut { (shape : _) (lead : List Placed) (start : Spot) (xs ys : List Element) → IsDraft shape lead start (xs ++ ys) self.old → IsBreak shape lead start xs place → IsDraft shape lead start xs self.new }
+        ensures shorter { length self.new.cells ≤ length self.old.cells }
+    {
+        self.cells.truncate(place.cells);
+        self.begins.truncate(place.begins);
+        self.spot = place.spot;
+        self.placed = place.placed;
+    }
+
+    /// Takes the elements behind the last break away, where there is one.
+    pub fn leave_at(&mut self, last_break: Option<Break>)
+        ensures left { (shape : _) (lead : List Placed) (start : Spot) (xs waiting : List Element) → IsDraft shape lead start xs self.old → IsNoted shape lead start xs last_break waiting
+            → IsDraft shape lead start (kept_of shape xs) self.new }
+        ensures shorter { length self.new.cells ≤ length self.old.cells }
+    {
+        if let Some(place) = last_break {
+            self.cut_back(place);
+        }
     }
 
     /// The row as it stands: filled with blanks, with the marks of a row that is scrolled sideways and of one whose line goes on,
@@ -141,6 +186,7 @@ impl Draft {
             cells,
             begins,
             spot,
+            ..
         } = self;
         let mut cells = behind_mark(alloc, cutting, spot.used, cells)?;
         let room = cutting.shape.room();

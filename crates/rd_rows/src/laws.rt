@@ -1,25 +1,24 @@
 //! What holds of the rows of every line.
-ghost use Rattle.std.specs.Prelude.{◌≡◌, ◌≤◌, ℕ, List, flat_map, length, IsTrue, None};
+ghost use Rattle.std.specs.Prelude.{◌≡◌, ◌≤◌, ℕ, List, map, IsTrue, None};
 ghost use Rattle.rd_base.specs.declared.cell.Glyph.{Glyph};
 ghost use Rattle.rd_base.specs.declared.element.Element.{Element};
-ghost use Rattle.rd_base.specs.Elements.{AreSound};
+ghost use Rattle.rd_base.specs.Elements.{AreSound, ends_once};
 ghost use Rattle.rd_base.specs.Glyphs.{AreMeasured};
 ghost use Rattle.rd_rows.specs.declared.cutting.Cutting.{Cutting};
 ghost use Rattle.rd_rows.specs.Leads.{HasLeads};
 ghost use Rattle.rd_rows.specs.Prefixes.{IsPrefix};
-ghost use Rattle.rd_rows.specs.Rows.{cutting_of, rows_of, weight_of};
-ghost use Rattle.rd_rows.specs.Lines.{ends_once};
+ghost use Rattle.rd_rows.specs.Rows.{cutting_of, rows_of};
 ghost use Rattle.rd_rows.specs.Shapes.{ShapeValues};
-ghost use Rattle.rd_rows.specs.Laws.{ends_last, ranges_in, ranges_of, IsPlacedOnce};
+ghost use Rattle.rd_rows.specs.Laws.{seen_rows, ends_last, begins_of, range_of, ranges_of, IsPlacedOnce};
 ghost use Rattle.rd_rows.specs.Whole.{AreWhole, IsMark, IsMeasuredPrefix, IsMeasuredCutting};
 
 /// The rows of a line whose last element and no other is the line end: there is at least one, and the last and no other ends
 /// the block; each element is placed once, and each element of a prefix once in each of its rows; and each item begins once, in
 /// the order of the first elements. It has no body: what it promises is proved of the definitions.
 pub fn rows_of_every_line()
-    ensures last { (c : Cutting) (es : List Element) → HasLeads c → IsTrue (ends_once es) → IsTrue (ends_last (rows_of c es)) }
+    ensures last { (c : Cutting) (es : List Element) → HasLeads c → IsTrue (ends_once es) → IsTrue (ends_last (seen_rows (rows_of c es))) }
     ensures placed { (c : Cutting) (es : List Element) → IsTrue (ends_once es) → IsPlacedOnce c es (rows_of c es) }
-    ensures begun { (c : Cutting) (es : List Element) → HasLeads c → IsTrue (ends_once es) → flat_map ranges_in (rows_of c es) ≡ ranges_of None es }
+    ensures begun { (c : Cutting) (es : List Element) → HasLeads c → IsTrue (ends_once es) → map range_of (begins_of (seen_rows (rows_of c es))) ≡ ranges_of None es }
 {}
 
 /// Prefixes that were cut to half of a window's columns can stand before a line's elements. It has no body.

@@ -4,8 +4,11 @@
 mod begin;
 mod cutting;
 mod draft;
+mod examples;
+mod filling;
 mod laws;
 mod maker;
+mod making;
 mod mirror;
 mod prefix;
 mod repeat;
@@ -18,6 +21,3 @@ pub use laws::{prefixes_stand_before_lines, rows_are_whole, rows_of_every_line};
 pub use maker::RowMaker;
 pub use row::Row;
 pub use shape::Shape;
-
-#[cfg(test)]
-mod tests;

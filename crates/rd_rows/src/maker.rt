@@ -1,52 +1,60 @@
 //! Makes the rows of a line, one at a time.
-ghost use Rattle.std.specs.Prelude.{◌≡◌, ◌<◌, ◌∷◌, length, IfOk};
+ghost use Rattle.std.specs.Prelude.{◌≡◌, ◌+◌};
 
 use crate::cutting::Cutting;
-use crate::draft::Draft;
 use crate::prefix::Prefix;
 use crate::row::Row;
 use crate::shape::Shape;
-use crate::spot::{Spot, ends_row, is_line_end};
-use rd_base::{Element, Elements, Glyph, Memory, Steps};
+use crate::spot::Spot;
+use rd_base::{Element, Elements, Glyph, ListOf, Memory, Steps};
 use std::alloc::Global;
 use std::marker::Model;
 use std::sync::ledger::Ledger;
 
-/// Makes the rows of one line, each from the elements that come next. It holds the element that did not fit the row before.
+/// Makes the rows of one line, each from the elements that come next. It holds the elements that wait for the next row, at most
+/// 400, and the one that did not fit the row before is among them. Contracts know of it the rows that it is still to make by the
+/// elements that are left, the columns that were reached and are held, and whether the line end was placed.
 #[derive(Drop)]
 pub struct RowMaker {
-    alloc: Global,
-    cutting: Cutting,
-    spot: Spot,
-    held: Option<Element>,
-    finished: bool,
+    pub(crate) alloc: Global,
+    pub(crate) cutting: Cutting,
+    /// Where the next row begins.
+    pub(crate) spot: Spot,
+    /// Whether that row goes on with the line behind no row end.
+    pub(crate) continued: bool,
+    /// The elements that wait, of which those before `next` were taken.
+    pub(crate) held: ListOf<Element>,
+    pub(crate) next: usize,
+    /// Whether the line end was placed.
+    pub(crate) finished: bool,
 }
 
 impl Model for RowMaker {
-    ghost use Rattle.std.specs.Prelude.{◌≡◌, true};
-    ghost use Rattle.rd_rows.specs.Lines.{Making};
-    ghost use Rattle.rd_rows.specs.Leads.{HasLeads};
-    ghost use Rattle.rd_rows.specs.Placing.{goes_on};
+    ghost use Rattle.std.specs.Prelude.{◌≤◌, length, drop};
+    ghost use Rattle.rd_rows.specs.Left.{MakerValues};
+    ghost use Rattle.rd_rows.specs.Makers.{IsMaking};
 
-    ghost Value = { Making };
+    ghost Value = { MakerValues };
 
-    ghost view = { λ m. record { cutting = m.cutting; spot = m.spot; held = m.held; finished = m.finished } };
+    ghost view = { λ m. record { cutting = m.cutting; spot = m.spot; continued = m.continued; held = drop m.next m.held; finished = m.finished } };
 
-    ghost invariant = { λ m. (goes_on m.held ≡ true) × HasLeads m.cutting };
+    ghost invariant = { λ m. (m.next ≤ length m.held) × IsMaking (record { cutting = m.cutting; spot = m.spot; continued = m.continued; held = drop m.next m.held; finished = m.finished }) };
 }
 
 impl RowMaker {
-    ghost use Rattle.std.specs.Prelude.{◌≡◌, ◌+◌, ◌-◌, ◌≤◌, IfOk, length, true, false};
-    ghost use Rattle.rd_rows.specs.Lines.{fresh, Asks, Makes, held_spot, held_placed, HasRoom};
-    ghost use Rattle.rd_rows.specs.Drafts.{IsDraft, finished_row};
-    ghost use Rattle.rd_rows.specs.Placing.{next_line, ends_row};
+    ghost use Rattle.std.specs.Prelude.{◌≡◌, ◌≤◌, List, IfOk};
+    ghost use Rattle.rd_base.specs.Elements.{AreSound};
+    ghost use Rattle.rd_base.specs.Glyphs.{AreMeasured};
+    ghost use Rattle.rd_base.specs.declared.element.Element.{Element};
+    ghost use Rattle.rd_rows.specs.Lines.{IsFresh, Asks, Makes, MakesWhole, rows_left};
     ghost use Rattle.rd_rows.specs.Prefixes.{IsPrefix};
-    ghost use Rattle.rd_rows.specs.Rows.{cutting_of, first_seen};
-    ghost use Rattle.rd_rows.specs.Shapes.{room};
+    ghost use Rattle.rd_rows.specs.Rows.{cutting_of};
+    ghost use Rattle.rd_rows.specs.Whole.{AreWhole, IsMark, IsMeasuredPrefix};
 
     /// A maker of the rows of a line in a paragraph of base level `base`, 0 or 1, with the elements of the prefixes of the line's
     /// first row (and of each row behind a row end) and of its other rows, and the glyphs that mark a truncated and a continued
-    /// row, of one column each. A prefix is shown as far as its elements fit whole in half of the shape's width.
+    /// row, of one column each. A prefix is shown as far as its elements fit whole in half of the shape's width. Where elements,
+    /// prefixes and marks are measured, each row is whole.
     pub fn new(
         alloc: Global,
         shape: Shape,
@@ -61,109 +69,59 @@ impl RowMaker {
         requires wrap { IsPrefix wrap.now }
         requires truncation { truncation.width ≡ 1 }
         requires continuation { continuation.width ≡ 1 }
-        ensures { IfOk result (λ maker. maker ≡ fresh (cutting_of shape base first.now wrap.now truncation continuation)) }
+        ensures fresh { IfOk result (IsFresh (cutting_of shape base first.now wrap.now truncation continuation)) }
+        ensures whole { IfOk result (λ maker. IsMeasuredPrefix first.now → IsMeasuredPrefix wrap.now → IsMark truncation → IsMark continuation
+            → (es : List Element) → AreSound es → AreMeasured es → AreWhole shape.width (rows_left maker es)) }
     {
         let first = Prefix::of(alloc, shape, first)?;
         let wrap = Prefix::of(alloc, shape, wrap)?;
+        let cutting = Cutting {
+            shape,
+            reversed: base == 1,
+            first,
+            wrap,
+            truncation,
+            continuation,
+        };
         Ok(RowMaker {
             alloc,
-            cutting: Cutting {
-                shape,
-                reversed: base == 1,
-                first,
-                wrap,
-                truncation,
-                continuation,
-            },
+            cutting,
             spot: Spot::line_start(),
-            held: None,
+            continued: false,
+            held: ListOf::new(alloc),
+            next: 0,
             finished: false,
         })
     }
 
     /// Makes the next row from the elements that are left, and counts a step for each element that it places: the row, and
-    /// None exactly after the line end was placed. Until then the elements that it holds or are left are sound, their last and
-    /// no other is the line end, and they come to fewer than 2^63 columns behind the column that was reached. In a truncated
-    /// line all elements up to the row's end are placed. After want of memory the maker is to be made anew.
+    /// None exactly after the line end was placed. Until then the elements that are left are sound, their last and no other is
+    /// the line end, and with those that it holds they come to fewer than 2^63 columns behind the column that was reached. In a
+    /// truncated line all elements up to the row's end are placed. A row is whole where those that are left are. After want of
+    /// memory the maker is to be made anew.
     pub fn next_row<E: Elements, L: Ledger>(
         &mut self,
         elements: &mut E,
         steps: &mut Steps<L>,
     ) -> Result<Option<Row>, Memory>
         requires { Asks self.old (E.left elements.old) }
-        ensures { Makes result self.old self.new (E.left elements.old) (E.left elements.new) steps.old steps.new }
+        ensures row { Makes result self.old self.new (E.left elements.old) (E.left elements.new) steps.old steps.new }
+        ensures whole { MakesWhole result self.old self.new (E.left elements.old) (E.left elements.new) }
     {
         if self.finished {
             return Ok(None);
         }
-        let mut draft = self.begin_row(steps)?;
-        loop {
-            let element = pull(self.alloc, elements)?;
-            if !draft.spot.fits(self.cutting.shape, &element) {
-                return self.hold(element, draft);
-            }
-            steps.tick();
-            draft.place(self.cutting.shape, &element)?;
-            if ends_row(element.look) {
-                return self.end_row(is_line_end(element.look), draft);
-            }
-        }
-    }
-
-    /// Begins a row with its prefix and the element that is held.
-    fn begin_row<L: Ledger>(&mut self, steps: &mut Steps<L>) -> Result<Draft, Memory>
-        requires { HasRoom self.old.spot self.old.held }
-        ensures draft { IfOk result (λ draft. IsDraft self.old.cutting.shape (held_spot self.old.cutting self.old.spot self.old.held) (held_placed self.old.cutting self.old.spot self.old.held) draft) }
-        ensures steps { IfOk result (λ draft. steps.new ≡ steps.old + length (held_placed self.old.cutting self.old.spot self.old.held)) }
-        ensures bound { steps.new ≤ steps.old + length (held_placed self.old.cutting self.old.spot self.old.held) }
-        ensures rest { self.new ≡ record self.old { held = None } }
-    {
-        let shape = self.cutting.shape;
-        match self.held.take() {
-            None => Draft::behind(self.alloc, shape, self.spot, &self.cutting.first, steps),
-            Some(element) => {
-                let wrap = &self.cutting.wrap;
-                let mut draft = Draft::behind(self.alloc, shape, self.spot, wrap, steps)?;
-                steps.tick();
-                draft.place(shape, &element)?;
-                Ok(draft)
-            }
-        }
-    }
-
-    /// Ends a row with the mark of one whose line goes on, and holds the element that did not fit.
-    fn hold(&mut self, element: Element, draft: Draft) -> Result<Option<Row>, Memory>
-        requires on { ends_row element.look ≡ false }
-        requires cells { length draft.cells ≤ self.old.cutting.shape.hscroll + room self.old.cutting.shape - first_seen self.old.cutting.shape }
-        ensures row { IfOk result (λ row. row ≡ Some (record { shown = finished_row self.old.cutting draft.spot.used draft.cells draft.begins true false; copies = 0 })) }
-        ensures rest { self.new ≡ record self.old { spot = draft.spot; held = Some element } }
-    {
-        self.spot = draft.spot;
-        self.held = Some(element);
-        let row = draft.finish(self.alloc, &self.cutting, true, false)?;
-        Ok(Some(row))
-    }
-
-    /// Ends a row behind a row end or the line end.
-    fn end_row(&mut self, line_end: bool, draft: Draft) -> Result<Option<Row>, Memory>
-        requires { length draft.cells ≤ self.old.cutting.shape.hscroll + room self.old.cutting.shape - first_seen self.old.cutting.shape }
-        ensures row { IfOk result (λ row. row ≡ Some (record { shown = finished_row self.old.cutting draft.spot.used draft.cells draft.begins false line_end; copies = 0 })) }
-        ensures rest { self.new ≡ record self.old { spot = next_line draft.spot; finished = line_end } }
-    {
-        self.spot = draft.spot.next_line();
-        self.finished = line_end;
-        let row = draft.finish(self.alloc, &self.cutting, false, line_end)?;
-        Ok(Some(row))
+        let made = self.make_row(elements)?;
+        count(made.weight, steps);
+        Ok(Some(made.row))
     }
 }
 
-/// Takes the next element of those that are left.
-fn pull<E: Elements>(alloc: Global, elements: &mut E) -> Result<Element, Memory>
-    requires { 0 < length (E.left elements.old) }
-    ensures { IfOk result (λ element. E.left elements.old ≡ element ∷ E.left elements.new) }
+/// Counts so many steps.
+fn count<L: Ledger>(weight: u64, steps: &mut Steps<L>)
+    ensures { steps.new ≡ steps.old + weight }
 {
-    match elements.next(alloc)? {
-        Some(element) => Ok(element),
-        None => unreachable!(),
+    for _k in 0..weight {
+        steps.tick();
     }
 }

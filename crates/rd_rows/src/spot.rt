@@ -1,8 +1,9 @@
 //! Where elements come to stand in a row.
 ghost use Rattle.std.specs.Prelude.{◌≡◌, ◌+◌, ◌^◌, ◌<◌, ◌≤◌, IfSome};
-ghost use Rattle.rd_rows.specs.Placing.{width_at, width_at_most, is_blank, is_line_end, ends_row, fits, columns_in, placed_at, behind, next_row, next_line, line_start, is_item};
+ghost use Rattle.rd_base.specs.Elements.{width_at_most, is_line_end};
+ghost use Rattle.rd_rows.specs.Placing.{width_at, is_blank, ends_row, fits, columns_in, placed_at, behind, next_row, next_line, line_start, is_item};
 ghost use Rattle.rd_rows.specs.Rows.{first_seen};
-ghost use Rattle.rd_rows.specs.Shapes.{room, truncates};
+ghost use Rattle.rd_rows.specs.Shapes.{room, truncates, is_word};
 
 use crate::shape::Shape;
 use rd_base::{Element, Extent, Look, Wrap};
@@ -50,6 +51,13 @@ impl Shape {
         ensures { result ≡ truncates self }
     {
         self.wrap == Wrap::Truncate || self.hscroll > 0
+    }
+
+    /// Whether a line goes on in the next row behind a whole word.
+    pub fn wraps_words(self) -> bool
+        ensures { result ≡ is_word self.wrap }
+    {
+        self.wrap == Wrap::Word
     }
 }
 
