@@ -7,6 +7,9 @@
 mod base;
 
 #[cfg(test)]
+mod brackets;
+
+#[cfg(test)]
 mod claims;
 
 #[cfg(test)]
@@ -25,10 +28,16 @@ mod items;
 mod lanes;
 
 #[cfg(test)]
+mod levels;
+
+#[cfg(test)]
 mod modeline;
 
 #[cfg(test)]
 mod objects;
+
+#[cfg(test)]
+mod order;
 
 #[cfg(test)]
 mod overlays;
@@ -56,6 +65,9 @@ mod term;
 
 #[cfg(test)]
 mod tree;
+
+#[cfg(test)]
+mod ucd;
 
 #[cfg(test)]
 mod update;
