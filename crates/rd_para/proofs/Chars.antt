@@ -9,7 +9,7 @@ use Rattle.rd_base.specs.declared.class.Class.TheVariants.{L, R, AL, LRI, RLI, F
 use Rattle.rd_ucd.specs.declared.spans.Span.{Span}
 use Rattle.rd_ucd.specs.Lookup.{class_of}
 use Rattle.rd_para.specs.Strong.{decided_by, depth_after}
-use Rattle.rd_para.specs.Paragraphs.{is_blank, is_separator}
+use Rattle.rd_text.specs.Texts.{is_blank, is_separator}
 
 -- the first character of a range
 pub range_first : (xs : List ℕ) (p to : ℕ) → 1 ≤ p → p < to → to ≤ length xs + 1

@@ -1,21 +1,13 @@
 -- Paragraphs of a text and their base levels. P2 and P3 of UAX 9 find the level of a line. What a paragraph is, P1 leaves open; that
 -- it has several lines, and what separates it from the next, are choices of this project.
-use Rattle.std.specs.Prelude.{ℕ, ◌+◌, ◌-◌, ◌==◌, Bool, false, not, ◌||◌, if◌then◌else◌, List, [], ◌∷◌, ◌++◌, length, map, replicate, slice_index, Option, None, Some, unwrap_or}
-use Rattle.std.specs.List.{list_all, slice_split}
+use Rattle.std.specs.Prelude.{◌≡◌, ℕ, ◌+◌, ◌-◌, ◌≤◌, Bool, false, not, ◌||◌, max, if◌then◌else◌, List, [], ◌∷◌, ◌++◌, length, map, replicate, slice_index, Option, None, Some, unwrap_or}
+use Rattle.std.specs.List.{slice_split}
 use Rattle.rd_base.specs.Classes.{strong_level}
 use Rattle.rd_base.specs.declared.settings.Direction.{Direction}
 use Rattle.rd_base.specs.declared.settings.Direction.TheVariants.{Auto, Left, Right}
-use Rattle.rd_text.specs.Texts.{TextValue, between, is_newline}
+use Rattle.rd_text.specs.Texts.{TextValue, IsText, between, is_newline, is_separator, next_newline, prev_ink, IsParagraphStart}
 use Rattle.rd_ucd.specs.declared.spans.Span.{Span}
 use Rattle.rd_ucd.specs.Lookup.{class_of}
-
--- a space, a tab or a form feed
-abbrev pub is_blank : ℕ → Bool
-is_blank c = (c == 32) || (c == 9) || (c == 12)
-
--- a line of nothing else stands between paragraphs
-abbrev pub is_separator : List ℕ → Bool
-is_separator line = list_all is_blank line
 
 -- the level that rules P2 and P3 find in a line
 abbrev pub line_level : List Span → List ℕ → Option ℕ
@@ -47,6 +39,11 @@ levels_of classes last inside (line ∷ lines) =
 -- the base level at a position, where the text decides: its accessible part is cut at its newlines
 abbrev pub text_level : List Span → TextValue → ℕ → ℕ
 text_level classes t pos = slice_index (levels_of classes 0 false (slice_split is_newline (between t t.begin t.end))) (pos - t.begin)
+
+-- the place of a text by which the paragraph of a position is found: its last character up to the end of the position's line
+-- that is neither newline nor blank, and the beginning where there is none
+abbrev pub paragraph_place : TextValue → ℕ → ℕ
+paragraph_place t pos = max t.begin (prev_ink t (next_newline t pos) - 1)
 
 abbrev pub base_at : List Span → TextValue → Direction → ℕ → ℕ
 base_at classes t Auto pos = text_level classes t pos

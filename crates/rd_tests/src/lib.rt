@@ -64,6 +64,9 @@ mod state;
 mod term;
 
 #[cfg(test)]
+mod text;
+
+#[cfg(test)]
 mod tree;
 
 #[cfg(test)]

@@ -1,2 +1,6 @@
 pub mod Keeping
-mod Newlines
+mod Moves
+mod Openings
+mod Paragraphs
+mod Ranges
+mod Summaries

@@ -1,2 +1,5 @@
 pub mod Answers
+pub mod Gaps
+pub mod Pieces
+pub mod Stretches
 pub mod Texts

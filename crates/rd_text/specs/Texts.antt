@@ -1,6 +1,6 @@
 -- The text of a buffer with its accessible range, and how edits change it. Positions count from 1.
-use Rattle.std.specs.Prelude.{ℕ, ◌+◌, ◌-◌, ◌≤◌, nat_le, ◌==◌, Bool, not, if◌then◌else◌, Option, None, List, [], ◌++◌, length, take, drop, slice_get, slice_range}
-use Rattle.std.specs.List.{count_by, position_or_len, suffix_len}
+use Rattle.std.specs.Prelude.{◌≡◌, ℕ, ◌+◌, ◌-◌, ◌<◌, ◌≤◌, ◌⊎◌, nat_le, ◌==◌, Bool, true, not, ◌||◌, if◌then◌else◌, Option, None, List, [], ◌++◌, length, take, drop, slice_get, slice_index, slice_range}
+use Rattle.std.specs.List.{count_by, list_all, position_or_len, suffix_len}
 
 -- the characters by their codes, the first accessible position, and one past the last
 pub record TextValue : Type 0 where
@@ -73,3 +73,39 @@ prev_newline t pos = pos - suffix_len (λ c. not (is_newline c)) (between t t.be
 -- the number of a position's line: one more than the accessible newlines before it
 abbrev pub line_of : TextValue → ℕ → ℕ
 line_of t pos = 1 + count_by is_newline (between t t.begin pos)
+
+-- a space, a tab or a form feed
+abbrev pub is_blank : ℕ → Bool
+is_blank c = (c == 32) || (c == 9) || (c == 12)
+
+-- a line of nothing else stands between paragraphs
+abbrev pub is_separator : List ℕ → Bool
+is_separator line = list_all is_blank line
+
+-- a character that keeps its line from being one of those
+abbrev pub is_ink : ℕ → Bool
+is_ink c = not (is_newline c || is_blank c)
+
+-- one past the last accessible character before a position that is neither newline nor blank, and the beginning where there is none
+abbrev pub prev_ink : TextValue → ℕ → ℕ
+prev_ink t pos = pos - suffix_len (λ c. not (is_ink c)) (between t t.begin pos)
+
+-- a position at which a line begins
+abbrev pub IsLineStart : TextValue → ℕ → Type 0
+IsLineStart t pos = (pos ≡ t.begin) ⊎ ((t.begin < pos) × (is_newline (slice_index t.text (pos - 1 - 1)) ≡ true))
+
+-- the line that ends right before a position is one of blanks alone
+pub record EndsSeparator (t : TextValue) (pos : ℕ) : Type 0 where
+  pub start : ℕ
+  pub begins : IsLineStart t start
+  pub order : start < pos
+  pub newline : is_newline (slice_index t.text (pos - 1 - 1)) ≡ true
+  pub blank : is_separator (between t start (pos - 1)) ≡ true
+
+-- where the paragraph of a position begins: right behind the last line of blanks alone that ends before it, or else at the
+-- accessible beginning
+pub record IsParagraphStart (t : TextValue) (pos start : ℕ) : Type 0 where
+  pub first : t.begin ≤ start
+  pub order : start ≤ pos
+  pub begins : (start ≡ t.begin) ⊎ EndsSeparator t start
+  pub last : (later : ℕ) → start < later → later ≤ pos → EndsSeparator t later → ⊥

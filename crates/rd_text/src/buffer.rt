@@ -1,10 +1,10 @@
 //! A text that is edited in place.
 ghost use Rattle.std.specs.Prelude.{◌≡◌, ◌≤◌, ◌++◌, IfOk, OnOk, OnErr, length, take, drop};
-ghost use Rattle.rd_text.specs.Texts.{no_text, IsText, IsAccessible, widened, char_at, next_newline, prev_newline, line_of};
+ghost use Rattle.rd_text.specs.Texts.{no_text, IsText, IsAccessible, IsParagraphStart, widened, char_at, next_newline, prev_newline, prev_ink, line_of};
 ghost use Rattle.rd_text.specs.Answers.{Inserts, Deletes, Narrows};
 
 use crate::fault::TextFault;
-use crate::lines::{after_last, before_first, count};
+use crate::gap::{GapText, MOST};
 use rd_base::{Ch, Memory, Pos};
 use std::alloc::Global;
 use std::marker::Model;
@@ -12,24 +12,22 @@ use std::marker::Model;
 /// A text of at most 4,194,304 characters with its accessible range.
 #[derive(Drop)]
 pub struct Buffer {
-    chars: Vec<Ch>,
+    chars: GapText,
     begin: u32,
     end: u32,
 }
 
 impl Model for Buffer {
     ghost use Rattle.std.specs.Prelude.{◌≤◌, ◌+◌, length};
-    ghost use Rattle.rd_text.specs.Texts.{TextValue, most_characters};
+    ghost use Rattle.rd_text.specs.Texts.{TextValue};
+    ghost use Rattle.rd_text.specs.Gaps.{text_of, IsGapText};
 
     ghost Value = { TextValue };
 
-    ghost view = { λ s. record { text = s.chars.items; begin = s.begin; end = s.end } };
+    ghost view = { λ s. record { text = text_of s.chars; begin = s.begin; end = s.end } };
 
-    ghost invariant = { λ s. (1 ≤ s.begin) × (s.begin ≤ s.end) × (s.end ≤ length s.chars.items + 1) × (length s.chars.items ≤ most_characters) };
+    ghost invariant = { λ s. (1 ≤ s.begin) × (s.begin ≤ s.end) × (s.end ≤ length (text_of s.chars) + 1) × IsGapText s.chars };
 }
-
-/// How many characters a text can have.
-const MOST: usize = 4_194_304;
 
 impl Buffer {
     /// An empty text.
@@ -37,7 +35,7 @@ impl Buffer {
         ensures { IfOk result (λ text. text ≡ no_text) }
     {
         Ok(Buffer {
-            chars: Vec::new(alloc),
+            chars: GapText::new(alloc),
             begin: 1,
             end: 1,
         })
@@ -78,7 +76,7 @@ impl Buffer {
         if MOST - self.chars.len() < text.len() {
             return Err(TextFault::TooLarge);
         }
-        match put_in(&mut self.chars, pos as usize - 1, text) {
+        match self.chars.insert(pos as usize - 1, text) {
             Err(Memory) => Err(TextFault::Memory),
             Ok(()) => {
                 self.end += text.len() as u32;
@@ -95,7 +93,7 @@ impl Buffer {
         if from < self.begin || to < from || self.end < to {
             return Err(TextFault::OutOfRange);
         }
-        take_out(&mut self.chars, from as usize - 1, to as usize - 1);
+        self.chars.delete(from as usize - 1, to as usize - 1);
         self.end -= to - from;
         Ok(())
     }
@@ -127,7 +125,7 @@ impl Buffer {
         if pos < 1 || self.length() < pos {
             return None;
         }
-        Some(self.chars[pos as usize - 1])
+        Some(self.chars.fetch(pos as usize - 1))
     }
 
     /// The first accessible newline at or after a position, and the accessible end where there is none.
@@ -135,7 +133,9 @@ impl Buffer {
         requires { IsAccessible self.now pos }
         ensures { result ≡ next_newline self.now pos }
     {
-        pos + before_first(self.part(pos, self.end)) as u32
+        pos + self
+            .chars
+            .before_newline(pos as usize - 1, self.end as usize - 1) as u32
     }
 
     /// One past the last accessible newline before a position, and the accessible beginning where there is none.
@@ -143,7 +143,9 @@ impl Buffer {
         requires { IsAccessible self.now pos }
         ensures { result ≡ prev_newline self.now pos }
     {
-        pos - after_last(self.part(self.begin, pos)) as u32
+        pos - self
+            .chars
+            .after_newline(self.begin as usize - 1, pos as usize - 1) as u32
     }
 
     /// The number of a position's line in the accessible range, from 1: one more than the newlines before the position.
@@ -151,43 +153,38 @@ impl Buffer {
         requires { IsAccessible self.now pos }
         ensures { result ≡ line_of self.now pos }
     {
-        1 + count(self.part(self.begin, pos)) as u32
+        1 + self
+            .chars
+            .newlines(self.begin as usize - 1, pos as usize - 1)
     }
-}
 
-impl Buffer {
-    ghost use Rattle.std.specs.Prelude.{◌≡◌, ◌+◌, ◌≤◌, length};
-    ghost use Rattle.rd_text.specs.Texts.{between};
-
-    /// The characters at the positions from `from` to `to - 1`.
-    fn part(&self, from: Pos, to: Pos) -> &[Ch]
-        requires first { 1 ≤ from }
-        requires ordered { from ≤ to }
-        requires last { to ≤ length self.now.text + 1 }
-        ensures value { result.now ≡ between self.now from to }
-        ensures len { length result.now + from ≡ to }
+    /// One past the last accessible character before a position that is neither a newline nor a space, a tab or a form feed,
+    /// and the accessible beginning where there is none.
+    pub fn prev_ink(&self, pos: Pos) -> Pos
+        requires { IsAccessible self.now pos }
+        ensures { result ≡ prev_ink self.now pos }
     {
-        &self.chars.as_slice()[from as usize - 1..to as usize - 1]
+        pos - self
+            .chars
+            .after_ink(self.begin as usize - 1, pos as usize - 1) as u32
     }
-}
 
-/// Puts characters in before the index `at`: they are added at the end, and then the rest is turned once.
-fn put_in(chars: &mut Vec<Ch>, at: usize, text: &[Ch]) -> Result<(), Memory>
-    requires { at ≤ length chars.old.items }
-    ensures ok { OnOk result (chars.new.items ≡ take at chars.old.items ++ text.now ++ drop at chars.old.items) }
-    ensures err { OnErr result (chars.new.items ≡ chars.old.items) }
-{
-    chars.extend_from_slice(text)?;
-    let (_front, back) = chars.as_mut_slice().split_at_mut(at);
-    back.rotate_right(text.len());
-    Ok(())
-}
-
-/// Takes the characters from one index to another, that one not included, away.
-fn take_out(chars: &mut Vec<Ch>, from: usize, to: usize)
-    requires ordered { from ≤ to }
-    requires last { to ≤ length chars.old.items }
-    ensures { chars.new.items ≡ take from chars.old.items ++ drop to chars.old.items }
-{
-    chars.drain(from..to);
+    /// Where the paragraph of a position begins: right behind the last line of only spaces, tabs and form feeds that ends
+    /// before the position, and at the accessible beginning where there is none.
+    pub fn paragraph_start(&self, pos: Pos) -> Pos
+        requires { IsAccessible self.now pos }
+        ensures { IsParagraphStart self.now pos result }
+    {
+        let from = self.begin as usize - 1;
+        let to = pos as usize - 1;
+        let at = self.chars.opening(from, to);
+        let end = at + self.chars.before_newline(at, to);
+        if end == to {
+            return at as u32 + 1;
+        }
+        if self.chars.after_ink(at, end) < end - at {
+            return at as u32 + 1;
+        }
+        end as u32 + 2
+    }
 }

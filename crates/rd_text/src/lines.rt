@@ -1,53 +1,50 @@
-//! Newlines in a run of characters.
+//! Newlines and blanks in a run of codes.
 ghost use Rattle.std.specs.Prelude.{◌≡◌, ◌≤◌, not, length};
 ghost use Rattle.std.specs.List.{count_by, position_or_len, suffix_len};
-ghost use Rattle.rd_text.specs.Texts.{is_newline};
+ghost use Rattle.rd_text.specs.Texts.{is_newline, is_ink};
 
-use rd_base::Ch;
+use crate::stretch::{NEWLINE, is_blank};
 
-/// The code of the character that ends a line.
-const NEWLINE: u32 = 10;
-
-/// How many characters stand before the first newline, and all of them where there is none.
-pub(crate) fn before_first(chars: &[Ch]) -> usize
-    ensures value { result ≡ position_or_len is_newline chars.now }
-    ensures bound { result ≤ length chars.now }
+/// How many codes stand before the first newline, and all of them where there is none.
+pub(crate) fn before_first(codes: &[u32]) -> usize
+    ensures value { result ≡ position_or_len is_newline codes.now }
+    ensures bound { result ≤ length codes.now }
 {
-    let mut i = 0;
-    while i < chars.len() {
-        if chars[i].code() == NEWLINE {
-            return i;
-        }
-        i += 1;
+    match rd_lanes::find(codes, NEWLINE) {
+        Some(at) => at,
+        None => codes.len(),
     }
-    i
 }
 
-/// How many characters stand after the last newline, and all of them where there is none.
-pub(crate) fn after_last(chars: &[Ch]) -> usize
-    ensures value { result ≡ suffix_len (λ c. not (is_newline c)) chars.now }
-    ensures bound { result ≤ length chars.now }
+/// How many codes stand behind the last newline, and all of them where there is none.
+pub(crate) fn after_last(codes: &[u32]) -> usize
+    ensures value { result ≡ suffix_len (λ c. not (is_newline c)) codes.now }
+    ensures bound { result ≤ length codes.now }
 {
-    let mut i = chars.len();
-    while 0 < i {
-        if chars[i - 1].code() == NEWLINE {
-            return chars.len() - i;
-        }
-        i -= 1;
+    match rd_lanes::rfind(codes, NEWLINE) {
+        Some(at) => codes.len() - at - 1,
+        None => codes.len(),
     }
-    chars.len()
 }
 
-/// How many newlines there are.
-pub(crate) fn count(chars: &[Ch]) -> usize
-    ensures value { result ≡ count_by is_newline chars.now }
-    ensures bound { result ≤ length chars.now }
+/// How many codes stand behind the last that is neither newline nor blank, and all of them where there is none.
+pub(crate) fn after_ink(codes: &[u32]) -> usize
+    ensures value { result ≡ suffix_len (λ c. not (is_ink c)) codes.now }
+    ensures bound { result ≤ length codes.now }
 {
-    let mut count = 0;
-    for i in 0..chars.len() {
-        if chars[i].code() == NEWLINE {
-            count += 1;
+    let mut at = codes.len();
+    while 0 < at {
+        if is_ink(codes[at - 1]) {
+            return codes.len() - at;
         }
+        at -= 1;
     }
-    count
+    codes.len()
+}
+
+/// A character that is neither newline nor blank.
+pub(crate) fn is_ink(code: u32) -> bool
+    ensures { result ≡ is_ink code }
+{
+    !(code == NEWLINE || is_blank(code))
 }

@@ -1,11 +1,6 @@
-use Rattle.std.proofs.Common.{arith}
-use Rattle.rd_text.proofs.Newlines.{first-is, is_newline-read}
+use Rattle.rd_text.proofs.Summaries.{prefix_absent}
+use Rattle.rd_text.specs.Texts.{is_newline}
 use Rattle.rd_text.proofs.lines.before_first.Goals as goal
 
-pub returns-then-code-eq-NEWLINE-clause-value : goal.returns-then-code-eq-NEWLINE-clause-value
-returns-then-code-eq-NEWLINE-clause-value c =
-    first-is c.args.chars.now c.loop-i.i c.loop-i.invariant.0 c.loop-i.invariant.1 (λ p. is_newline-read c.args.chars.now c.loop-i.i c.index-chars-i.result (omega (arith, c.loop-i.invariant.0)) c.index-chars-i.is (grind arith))
-
-pub returns-clause-value : goal.returns-clause-value
-returns-clause-value c =
-    first-is c.args.chars.now c.loop-i.i c.loop-i.invariant.0 c.loop-i.invariant.1 (λ p. absurd (omega arith))
+pub returns-in-None-clause-value : goal.returns-in-None-clause-value
+returns-in-None-clause-value c = prefix_absent is_newline c.args.codes.now c.in-None.ensures

@@ -1,0 +1,223 @@
+-- The gap moves, and what is kept of the stretches goes with it.
+use Rattle.std.proofs.Common.{◌≡◌, ℕ, ◌+◌, ◌-◌, ◌*◌, ◌<◌, ◌≤◌, List, ◌++◌, length, get_or, take, drop, sym, ap, subst, ◌∙◌, arith}
+use Rattle.std.specs.Prelude.{IsTrue, slice_range}
+use Rattle.std.specs.List.{CopiedTo, SameBelow, SameFrom}
+use Rattle.std.proofs.lemmas.Bool.{cases_lt}
+use Rattle.std.proofs.Common.{get_or-set_same, get_or-set_other, set, inl, inr}
+use Rattle.std.proofs.lemmas.Bool.{cases_eq}
+use Rattle.std.proofs.lemmas.List.{ext_get_or, take_at, drop_at, drop-drop, length-take-le, length-append, length-drop, append_assoc, get_or_append_left, get_or-append_right, get_or-take, get_or-drop}
+use Rattle.rd_base.specs.Chars.{is_code}
+use Rattle.rd_text.specs.Stretches.{summary}
+use Rattle.rd_text.specs.Gaps.{IsGapped, IsRecounted}
+use Rattle.rd_text.specs.declared.stretch.Stretch.{Stretch}
+use Rattle.rd_text.proofs.Ranges.{range_same, length-gap, gap_front, gap_back}
+
+-- a stretch whose codes stay
+stays : (old new : List ℕ) (k : ℕ) → length new ≡ length old → k * 1024 + 1024 ≤ length old → ((i : ℕ) → k * 1024 ≤ i → i < k * 1024 + 1024 → get_or new i 0 ≡ get_or old i 0)
+    → summary (slice_range old (k * 1024) (k * 1024 + 1024)) ≡ summary (slice_range new (k * 1024) (k * 1024 + 1024))
+stays old new k size within same =
+    ap summary (sym (range_same new old (k * 1024) (k * 1024 + 1024) (k * 1024) (k * 1024 + 1024) (omega arith) (omega arith) (omega arith) (omega arith) within
+    (λ i less. same (k * 1024 + i) (omega arith) (omega arith))))
+
+-- codes that were copied are codes
+copied_codes : (old new : List ℕ) (src dest n : ℕ) → CopiedTo old new src dest n → SameBelow old new dest → SameFrom old new (dest + n)
+    → ((k : ℕ) → IsTrue (is_code (get_or old k 0))) → (k : ℕ) → IsTrue (is_code (get_or new k 0))
+copied_codes old new src dest n copied below from codes k =
+    let C : ℕ → Type 0 = λ x. IsTrue (is_code x) in
+    elim (cases_lt k dest) [
+      | inl less ↦ subst C (sym (below k 0 less)) (codes k)
+      | inr more ↦ elim (cases_lt k (dest + n)) [
+        | inl inside ↦ subst C (sym (copied k 0 more inside)) (codes (src + (k - dest)))
+        | inr past ↦ subst C (sym (from k 0 past)) (codes k)
+      ]
+    ]
+
+-- to the left: what stood between goes behind the gap
+module _ (old new : List ℕ) (olds news : List Stretch) (front back at first last : ℕ) (right : IsGapped old olds front back) (place : at < front) (size : length new ≡ length old)
+    (copied : CopiedTo old new at (back - (front - at)) (front - at)) (below : SameBelow old new (back - (front - at))) (from : SameFrom old new (back - (front - at) + (front - at))) where
+  pub left_text : take at new ++ drop (back - (front - at)) new ≡ take front old ++ drop back old
+  left_text =
+      let order = right.order in
+      let within = right.within in
+      let dest : ℕ = back - (front - at) in
+      let ln = length-gap new at dest (omega arith) (omega arith) in
+      let lo = length-gap old front back order within in
+      ext_get_or 0 (take at new ++ drop dest new) (take front old ++ drop back old) (omega arith)
+      (λ k less. elim (cases_lt k at) [
+        | inl near ↦ gap_front new at dest (omega arith) (omega arith) k 0 near ∙ below k 0 (omega arith) ∙ sym (gap_front old front back order within k 0 (omega arith))
+        | inr far ↦ gap_back new at dest (omega arith) (omega arith) k 0 far ∙ elim (cases_lt k front) [
+          | inl inside ↦ copied (dest + (k - at)) 0 (omega arith) (omega arith)
+              ∙ (let e : at + (dest + (k - at) - dest) ≡ k = omega arith in ap (λ (n : ℕ). get_or old n 0) e)
+              ∙ sym (gap_front old front back order within k 0 inside)
+          | inr past ↦ from (dest + (k - at)) 0 (omega arith)
+              ∙ (let e : dest + (k - at) ≡ back + (k - front) = omega arith in ap (λ (n : ℕ). get_or old n 0) e)
+              ∙ sym (gap_back old front back order within k 0 past)
+        ]
+      ])
+
+  pub left_right : IsRecounted new olds news first last → back - (front - at) ≤ first * 1024 → first * 1024 < back - (front - at) + 1024
+      → ((k : ℕ) → k * 1024 < back → k * 1024 + 1024 ≤ length old → k < last) → ((k : ℕ) → back ≤ k * 1024 → last ≤ k)
+      → IsGapped new news at (back - (front - at))
+  left_right again low high reach past =
+      let order = right.order in
+      let within = right.within in
+      let short = right.short in
+      let covered = right.covered in
+      let many = again.size in
+      record {
+        order = omega arith;
+        within = omega arith;
+        short = omega arith;
+        covered = omega arith;
+        are_codes = copied_codes old new at (back - (front - at)) (front - at) copied below from right.are_codes;
+        before = λ k d l h. again.below k d (omega arith) ∙ right.before k d l (omega arith)
+            ∙ stays old new k size (omega arith) (λ i low' high'. below i 0 (omega arith));
+        behind = λ k d l h. elim (cases_lt (k * 1024) back) [
+          | inl near ↦ again.counted k d (omega arith) (reach k near (omega arith))
+          | inr far ↦ again.above k d (past k far) ∙ right.behind k d far (omega arith)
+              ∙ stays old new k size (omega arith) (λ i low' high'. from i 0 (omega arith))
+        ];
+      }
+
+-- to the right: what stood between goes before the gap
+module _ (old new : List ℕ) (olds news : List Stretch) (front back at first last : ℕ) (right : IsGapped old olds front back) (place : front ≤ at) (room : at ≤ front + (length old - back))
+    (size : length new ≡ length old) (copied : CopiedTo old new back front (at - front)) (below : SameBelow old new front) (from : SameFrom old new (front + (at - front))) where
+  pub right_text : take at new ++ drop (back + (at - front)) new ≡ take front old ++ drop back old
+  right_text =
+      let order = right.order in
+      let within = right.within in
+      let dest : ℕ = back + (at - front) in
+      let ln = length-gap new at dest (omega arith) (omega arith) in
+      let lo = length-gap old front back order within in
+      ext_get_or 0 (take at new ++ drop dest new) (take front old ++ drop back old) (omega arith)
+      (λ k less. elim (cases_lt k at) [
+        | inl near ↦ gap_front new at dest (omega arith) (omega arith) k 0 near ∙ elim (cases_lt k front) [
+          | inl inside ↦ below k 0 inside ∙ sym (gap_front old front back order within k 0 inside)
+          | inr past ↦ copied k 0 past (omega arith) ∙ sym (gap_back old front back order within k 0 past)
+        ]
+        | inr far ↦ gap_back new at dest (omega arith) (omega arith) k 0 far ∙ from (dest + (k - at)) 0 (omega arith)
+            ∙ (let e : dest + (k - at) ≡ back + (k - front) = omega arith in ap (λ (n : ℕ). get_or old n 0) e)
+            ∙ sym (gap_back old front back order within k 0 (omega arith))
+      ])
+
+  pub right_right : IsRecounted new olds news first last → first * 1024 ≤ front → front < first * 1024 + 1024 → last * 1024 ≤ at → at < last * 1024 + 1024
+      → IsGapped new news at (back + (at - front))
+  right_right again fl fh ll lh =
+      let order = right.order in
+      let within = right.within in
+      let short = right.short in
+      let covered = right.covered in
+      let many = again.size in
+      record {
+        order = omega arith;
+        within = omega arith;
+        short = omega arith;
+        covered = omega arith;
+        are_codes = copied_codes old new back front (at - front) copied below from right.are_codes;
+        before = λ k d l h. elim (cases_lt k first) [
+          | inl near ↦ again.below k d near ∙ right.before k d l (omega arith) ∙ stays old new k size (omega arith) (λ i low' high'. below i 0 (omega arith))
+          | inr far ↦ again.counted k d far (omega arith)
+        ];
+        behind = λ k d l h. again.above k d (omega arith) ∙ right.behind k d (omega arith) (omega arith)
+            ∙ stays old new k size (omega arith) (λ i low' high'. from i 0 (omega arith));
+      }
+
+-- a code is written
+pub code_written : (xs : List ℕ) (i x : ℕ) → i < length xs → IsTrue (is_code x) → ((k : ℕ) → IsTrue (is_code (get_or xs k 0))) → (k : ℕ) → IsTrue (is_code (get_or (set xs i x) k 0))
+code_written xs i x within code codes k =
+    let C : ℕ → Type 0 = λ y. IsTrue (is_code y) in
+    elim (cases_eq k i) [
+      | inl same ↦ subst C (sym (ap (λ (j : ℕ). get_or (set xs i x) j 0) same ∙ get_or-set_same xs i x 0 within)) code
+      | inr other ↦ subst C (sym (get_or-set_other xs i k x 0 other)) (codes k)
+    ]
+
+-- a text is written into the gap
+module _ (old new : List ℕ) (olds news : List Stretch) (at back first last : ℕ) (text : List ℕ) (right : IsGapped old olds at back) (room : at + length text ≤ back)
+    (is : new ≡ take at old ++ (text ++ drop (at + length text) old)) where
+  before_size : length (take at old) ≡ at
+  before_size =
+      let order = right.order in
+      let within = right.within in
+      length-take-le at old (omega arith)
+
+  front_size : length (take at old ++ text) ≡ at + length text
+  front_size =
+      let a = before_size in
+      let b = length-append (take at old) text in
+      omega arith
+
+  joined : new ≡ (take at old ++ text) ++ drop (at + length text) old
+  joined = is ∙ sym (append_assoc (take at old) text (drop (at + length text) old))
+
+  behind_is : drop (at + length text) new ≡ drop (at + length text) old
+  behind_is = ap (drop (at + length text)) joined ∙ drop_at (take at old ++ text) (drop (at + length text) old) (at + length text) front_size
+
+  pub written_size : length new ≡ length old
+  written_size =
+      let order = right.order in
+      let within = right.within in
+      let a = front_size in
+      let b = length-append (take at old ++ text) (drop (at + length text) old) in
+      let d = length-drop (at + length text) old in
+      let e = ap length joined in
+      omega arith
+
+  written_below : (k : ℕ) → k < at → get_or new k 0 ≡ get_or old k 0
+  written_below k less =
+      let a = before_size in
+      ap (λ (xs : List ℕ). get_or xs k 0) is ∙ get_or_append_left (take at old) (text ++ drop (at + length text) old) 0 k (omega arith) ∙ get_or-take at old k 0 less
+
+  written_from : (k : ℕ) → at + length text ≤ k → get_or new k 0 ≡ get_or old k 0
+  written_from k more =
+      ap (λ (xs : List ℕ). get_or xs k 0) joined
+      ∙ get_or-append_right (take at old ++ text) (drop (at + length text) old) (at + length text) k 0 front_size more
+      ∙ get_or-drop (at + length text) old (k - (at + length text)) 0
+      ∙ (let e : at + length text + (k - (at + length text)) ≡ k = omega arith in ap (λ (n : ℕ). get_or old n 0) e)
+
+  pub put_right : ((k : ℕ) → IsTrue (is_code (get_or new k 0))) → IsRecounted new olds news first last → first * 1024 ≤ at → at < first * 1024 + 1024
+      → last * 1024 ≤ at + length text → at + length text < last * 1024 + 1024 → IsGapped new news (at + length text) back
+  put_right codes again fl fh ll lh =
+      let order = right.order in
+      let within = right.within in
+      let short = right.short in
+      let covered = right.covered in
+      let many = again.size in
+      let size = written_size in
+      record {
+        order = room;
+        within = omega arith;
+        short = omega arith;
+        covered = omega arith;
+        are_codes = codes;
+        before = λ k d l h. elim (cases_lt k first) [
+          | inl near ↦ again.below k d near ∙ right.before k d l (omega arith) ∙ stays old new k size (omega arith) (λ i low' high'. written_below i (omega arith))
+          | inr far ↦ again.counted k d far (omega arith)
+        ];
+        behind = λ k d l h. again.above k d (omega arith) ∙ right.behind k d l (omega arith)
+            ∙ stays old new k size (omega arith) (λ i low' high'. written_from i (omega arith));
+      }
+
+  pub put_text : (whole : List ℕ) → whole ≡ take at old ++ drop back old → take (at + length text) new ++ drop back new ≡ take at whole ++ text ++ drop at whole
+  put_text whole e =
+      let past : at + length text + (back - (at + length text)) ≡ back = omega arith in
+      let front : take (at + length text) new ≡ take at old ++ text
+      = ap (take (at + length text)) joined ∙ take_at (take at old ++ text) (drop (at + length text) old) (at + length text) front_size in
+      let rest : drop back new ≡ drop back old
+      = ap (λ (n : ℕ). drop n new) (sym past) ∙ sym (drop-drop (back - (at + length text)) (at + length text) new)
+      ∙ ap (drop (back - (at + length text))) behind_is ∙ drop-drop (back - (at + length text)) (at + length text) old ∙ ap (λ (n : ℕ). drop n old) past in
+      let fore : take at whole ≡ take at old = ap (take at) e ∙ take_at (take at old) (drop back old) at before_size in
+      let aft : drop at whole ≡ drop back old = ap (drop at) e ∙ drop_at (take at old) (drop back old) at before_size in
+      ap (λ (xs : List ℕ). xs ++ drop back new) front ∙ ap (λ (xs : List ℕ). take at old ++ text ++ xs) rest
+      ∙ ap (λ (xs : List ℕ). xs ++ text ++ drop back old) (sym fore) ∙ ap (λ (xs : List ℕ). take at whole ++ text ++ xs) (sym aft)
+
+-- characters behind the gap are taken away
+pub taken_text : (codes whole : List ℕ) (from to back : ℕ) → from ≤ length codes → from ≤ to → whole ≡ take from codes ++ drop back codes
+    → take from codes ++ drop (back + (to - from)) codes ≡ take from whole ++ drop to whole
+taken_text codes whole from to back within order e =
+    let size : length (take from codes) ≡ from = length-take-le from codes within in
+    let fore : take from whole ≡ take from codes = ap (take from) e ∙ take_at (take from codes) (drop back codes) from size in
+    let aft : drop from whole ≡ drop back codes = ap (drop from) e ∙ drop_at (take from codes) (drop back codes) from size in
+    let past : from + (to - from) ≡ to = omega arith in
+    let rest : drop to whole ≡ drop (back + (to - from)) codes
+    = ap (λ (n : ℕ). drop n whole) (sym past) ∙ sym (drop-drop (to - from) from whole) ∙ ap (drop (to - from)) aft ∙ drop-drop (to - from) back codes in
+    ap (λ (xs : List ℕ). xs ++ drop (back + (to - from)) codes) (sym fore) ∙ ap (λ (xs : List ℕ). take from whole ++ xs) (sym rest)

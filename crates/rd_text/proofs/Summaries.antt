@@ -1,0 +1,111 @@
+-- What is kept of a stretch, character by character and part by part.
+use Rattle.std.proofs.Common.{◌≡◌, ℕ, zero, suc, ◌+◌, ◌-◌, ◌<◌, ltb, length, get_or, Some, None, arith, Bool, true, false, not, ◌&&◌, ◌||◌, cond, List, [], ◌∷◌, ◌++◌, refl, sym, ap, ◌∙◌}
+use Rattle.std.specs.Prelude.{count_by}
+use Rattle.std.specs.List.{list_all, list_any, position, position_or_len, suffix_len}
+use Rattle.std.proofs.lemmas.List.Sums.{sum_by-cons, position_or_len_is, suffix_len_is, prefix_len-le-length, suffix_len-le-length}
+use Rattle.std.proofs.lemmas.Bool.{ltb-false}
+use Rattle.rd_lanes.specs.Kernels.{last_position}
+use Rattle.rd_text.specs.Texts.{is_newline, is_blank}
+use Rattle.rd_text.specs.Stretches.{opens, closes, separated, summary}
+use Rattle.rd_text.specs.declared.stretch.Stretch.{Stretch}
+
+-- with one more character in front, by whether it is a newline and whether it is blank
+abbrev pub with_one : Bool → Bool → Stretch → Stretch
+with_one nl blank s = record {
+  newlines = cond nl 1 0 + s.newlines;
+  inked = not (nl || blank) || s.inked;
+  blank = blank && s.blank;
+  opens = nl || (blank && s.opens);
+  closes = (nl && s.blank) || s.closes;
+  separated = (nl && s.opens) || s.separated;
+}
+
+pub summary-cons : (c : ℕ) (cs : List ℕ) (s : Stretch) → s ≡ summary cs → with_one (is_newline c) (is_blank c) s ≡ summary (c ∷ cs)
+summary-cons c cs s e =
+    ap (with_one (is_newline c) (is_blank c)) e
+    ∙ ap (λ (n : ℕ). let S : Stretch = record (summary (c ∷ cs)) { newlines = n } in S) (sym (sum_by-cons (λ x. cond (is_newline x) 1 0) c cs))
+
+-- how lists that are joined begin
+joined_begin : (nl blank first all rest : Bool) → (nl || (blank && (first || (all && rest)))) ≡ ((nl || (blank && first)) || ((blank && all) && rest))
+joined_begin true blank first all rest = refl
+joined_begin false true first all rest = refl
+joined_begin false false first all rest = refl
+
+pub opens-append : (xs ys : List ℕ) → opens (xs ++ ys) ≡ (opens xs || (list_all is_blank xs && opens ys))
+opens-append [] ys = refl
+opens-append (c ∷ cs) ys =
+    ap (λ b. is_newline c || (is_blank c && b)) (opens-append cs ys)
+    ∙ joined_begin (is_newline c) (is_blank c) (opens cs) (list_all is_blank cs) (opens ys)
+
+-- and where blanks alone stand between two of their newlines
+joined_gap : (nl first all rest inside ends later : Bool)
+    → ((nl && (first || (all && rest))) || ((inside || (ends && rest)) || later)) ≡ ((((nl && first) || inside) || (((nl && all) || ends) && rest)) || later)
+joined_gap false first all rest inside ends later = refl
+joined_gap true true all rest inside ends later = refl
+joined_gap true false false rest inside ends later = refl
+joined_gap true false true true true ends later = refl
+joined_gap true false true true false ends later = refl
+joined_gap true false true false inside true later = refl
+joined_gap true false true false inside false later = refl
+
+pub separated-append : (xs ys : List ℕ) → separated (xs ++ ys) ≡ ((separated xs || (closes xs && opens ys)) || separated ys)
+separated-append [] ys = refl
+separated-append (c ∷ cs) ys =
+    ap (λ b. (is_newline c && b) || separated (cs ++ ys)) (opens-append cs ys)
+    ∙ ap (λ b. (is_newline c && (opens cs || (list_all is_blank cs && opens ys))) || b) (separated-append cs ys)
+    ∙ joined_gap (is_newline c) (opens cs) (list_all is_blank cs) (opens ys) (separated cs) (closes cs) (separated ys)
+
+pub left : (a b : Bool) → (a || b) ≡ false → a ≡ false
+left true b e = e
+left false b e = refl
+
+pub right : (a b : Bool) → (a || b) ≡ false → b ≡ false
+right true b e = absurd (cc)
+right false b e = e
+
+unset : (b : Bool) → ◌≡◌ {A = ℕ} (cond b 1 0) 0 → b ≡ false
+unset true h = absurd (omega (arith, h))
+unset false h = refl
+
+-- what is counted and seen nowhere
+pub none_counted : (p : ℕ → Bool) (xs : List ℕ) (k : ℕ) → count_by p xs ≡ 0 → k < length xs → p (get_or xs k 0) ≡ false
+none_counted p [] k e less = absurd (omega arith)
+none_counted p (x ∷ xs) zero e less =
+    let sum : count_by p (x ∷ xs) ≡ cond (p x) 1 0 + count_by p xs = sum_by-cons (λ y. cond (p y) 1 0) x xs in
+    let here : ◌≡◌ {A = ℕ} (cond (p x) 1 0) 0 = omega arith in
+    unset (p x) here
+none_counted p (x ∷ xs) (suc k) e less =
+    let sum : count_by p (x ∷ xs) ≡ cond (p x) 1 0 + count_by p xs = sum_by-cons (λ y. cond (p y) 1 0) x xs in
+    none_counted p xs k (omega arith) (omega arith)
+
+pub none_seen : (p : ℕ → Bool) (xs : List ℕ) (k : ℕ) → list_any p xs ≡ false → k < length xs → p (get_or xs k 0) ≡ false
+none_seen p [] k e less = absurd (omega arith)
+none_seen p (x ∷ xs) zero e less = left (p x) (list_any p xs) e
+none_seen p (x ∷ xs) (suc k) e less = none_seen p xs k (right (p x) (list_any p xs) e) (omega arith)
+
+-- so a search passes over them
+pub prefix_passes : (p : ℕ → Bool) (xs : List ℕ) → ((k : ℕ) → k < length xs → p (get_or xs k 0) ≡ false) → length xs ≡ position_or_len p xs
+prefix_passes p xs fails = sym (position_or_len_is p xs (length xs) 0 (omega arith) fails (λ h. absurd (omega arith)))
+
+pub suffix_passes : (p : ℕ → Bool) (xs : List ℕ) → ((k : ℕ) → k < length xs → p (get_or xs k 0) ≡ false) → length xs ≡ suffix_len (λ c. not (p c)) xs
+suffix_passes p xs fails =
+    let e = suffix_len_is (λ c. not (p c)) xs 0 0 (omega arith) (λ k low less. ap not (fails k less)) (λ h. absurd (omega arith)) in
+    sym (e ∙ (let z : length xs - 0 ≡ length xs = omega arith in z))
+
+-- nor is there a place
+none_chosen : (b : Bool) (n : ℕ) → None ≡ cond b (Some n) None → b ≡ false
+none_chosen true n e = absurd (cc)
+none_chosen false n e = refl
+
+pub prefix_absent : (p : ℕ → Bool) (xs : List ℕ) → None ≡ position p xs → length xs ≡ position_or_len p xs
+prefix_absent p xs e =
+    let past = ltb-false (position_or_len p xs) (length xs) (none_chosen (ltb (position_or_len p xs) (length xs)) (position_or_len p xs) e) in
+    let bound = prefix_len-le-length (λ x. not (p x)) xs in
+    omega arith
+
+pub suffix_absent : (p : ℕ → Bool) (xs : List ℕ) → None ≡ last_position p xs → length xs ≡ suffix_len (λ c. not (p c)) xs
+suffix_absent p xs e =
+    let s = suffix_len (λ c. not (p c)) xs in
+    let past = ltb-false s (length xs) (none_chosen (ltb s (length xs)) (length xs - s - 1) e) in
+    let bound = suffix_len-le-length (λ c. not (p c)) xs in
+    omega arith

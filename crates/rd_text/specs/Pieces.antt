@@ -1,0 +1,30 @@
+-- Parts of a text that lie together in memory, and what searches by them find.
+use Rattle.std.specs.Prelude.{◌≡◌, ℕ, ◌+◌, ◌-◌, ◌<◌, ◌≤◌, true, false, Option, IfSome, List, ◌++◌, length, slice_index, slice_range}
+use Rattle.rd_text.specs.Texts.{is_newline}
+use Rattle.rd_text.specs.Stretches.{summary, opens, separated}
+use Rattle.rd_text.specs.declared.stretch.Stretch.{Stretch}
+
+-- a part of a stretch at most, and what is kept of it, where it is a whole stretch
+pub record IsPiece (codes : List ℕ) (known : Option Stretch) : Type 0 where
+  pub known_right : IfSome known (λ s. s ≡ summary codes)
+  pub short : length codes ≤ 1024
+
+-- a part that begins a range of the text, and one that ends it
+pub record IsFirstPiece (text : List ℕ) (from to : ℕ) (piece : List ℕ) : Type 0 where
+  pub some : 0 < length piece
+  pub fits : from + length piece ≤ to
+  pub same : slice_range text from to ≡ piece ++ slice_range text (from + length piece) to
+
+pub record IsLastPiece (text : List ℕ) (from to : ℕ) (piece : List ℕ) : Type 0 where
+  pub some : 0 < length piece
+  pub fits : from + length piece ≤ to
+  pub same : slice_range text from to ≡ slice_range text from (to - length piece) ++ piece
+
+-- where a search back along lines stops: no line of blanks alone lies behind it between two newlines, and before it stands
+-- a newline with such a line behind it, or it is where the search ends
+pub record IsOpening (text : List ℕ) (from to at : ℕ) : Type 0 where
+  pub first : from ≤ at
+  pub last : at ≤ to
+  pub clear : separated (slice_range text at to) ≡ false
+  pub newline : from < at → is_newline (slice_index text (at - 1)) ≡ true
+  pub begins : from < at → opens (slice_range text at to) ≡ true

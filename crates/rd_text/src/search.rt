@@ -1,0 +1,203 @@
+//! Searches in a text that pass over its stretches.
+ghost use Rattle.std.specs.Prelude.{◌≡◌, ◌+◌, ◌*◌, ◌/◌, ◌-◌, ◌<◌, ◌≤◌, not, length, slice_range};
+ghost use Rattle.std.specs.List.{count_by, position_or_len, suffix_len};
+ghost use Rattle.rd_text.specs.Texts.{is_newline, is_ink};
+ghost use Rattle.rd_text.specs.Gaps.{text_of, IsGapText, AreSummed};
+ghost use Rattle.rd_text.specs.Pieces.{IsPiece, IsFirstPiece, IsLastPiece, IsOpening};
+
+use crate::gap::{GapText, STRETCH};
+use crate::opening::last_opening;
+use crate::piece::Piece;
+use crate::stretch::Stretch;
+
+impl GapText {
+    /// How many characters stand from one index on before the first newline, and all up to another index where there is none.
+    pub(crate) fn before_newline(&self, from: usize, to: usize) -> usize
+        requires right { IsGapText self.now }
+        requires order { from ≤ to }
+        requires last { to ≤ length (text_of self.now) }
+        ensures value { result ≡ position_or_len is_newline (slice_range (text_of self.now) from to) }
+        ensures bound { from + result ≤ to }
+    {
+        let mut at = from;
+        'pieces: while at < to {
+            let piece = self.first_piece(at, to);
+            let before = piece.before_newline();
+            if before < piece.len() {
+                return at + before - from;
+            }
+            at += before;
+        }
+        at - from
+    }
+
+    /// How many characters stand up to one index behind the last newline, and all from another index on where there is none.
+    pub(crate) fn after_newline(&self, from: usize, to: usize) -> usize
+        requires right { IsGapText self.now }
+        requires order { from ≤ to }
+        requires last { to ≤ length (text_of self.now) }
+        ensures value { result ≡ suffix_len (λ c. not (is_newline c)) (slice_range (text_of self.now) from to) }
+        ensures bound { from + result ≤ to }
+    {
+        let mut at = to;
+        'pieces: while from < at {
+            let piece = self.last_piece(from, at);
+            let after = piece.after_newline();
+            if after < piece.len() {
+                return to - at + after;
+            }
+            at -= after;
+        }
+        to - at
+    }
+
+    /// The same for the last character that is neither newline nor blank.
+    pub(crate) fn after_ink(&self, from: usize, to: usize) -> usize
+        requires right { IsGapText self.now }
+        requires order { from ≤ to }
+        requires last { to ≤ length (text_of self.now) }
+        ensures value { result ≡ suffix_len (λ c. not (is_ink c)) (slice_range (text_of self.now) from to) }
+        ensures bound { from + result ≤ to }
+    {
+        let mut at = to;
+        'pieces: while from < at {
+            let piece = self.last_piece(from, at);
+            let after = piece.after_ink();
+            if after < piece.len() {
+                return to - at + after;
+            }
+            at -= after;
+        }
+        to - at
+    }
+
+    /// How many newlines stand from one index to another, that one not included.
+    pub(crate) fn newlines(&self, from: usize, to: usize) -> u32
+        requires right { IsGapText self.now }
+        requires order { from ≤ to }
+        requires last { to ≤ length (text_of self.now) }
+        ensures value { result ≡ count_by is_newline (slice_range (text_of self.now) from to) }
+        ensures bound { from + result ≤ to }
+    {
+        let mut at = from;
+        let mut count = 0;
+        'pieces: while at < to {
+            let piece = self.first_piece(at, to);
+            count += piece.newlines();
+            at += piece.len();
+        }
+        count
+    }
+
+    /// Where a search back along lines stops: behind the last newline that a line of blanks alone follows, or else at `from`.
+    pub(crate) fn opening(&self, from: usize, to: usize) -> usize
+        requires right { IsGapText self.now }
+        requires order { from ≤ to }
+        requires last { to ≤ length (text_of self.now) }
+        ensures { IsOpening (text_of self.now) from to result }
+    {
+        let mut at = to;
+        let mut opened = false;
+        'pieces: while from < at {
+            let piece = self.last_piece(from, at);
+            let stretch = piece.stretch();
+            if stretch.separates(opened) {
+                return at - piece.len() + last_opening(piece.codes, opened);
+            }
+            opened = stretch.opens_before(opened);
+            at -= piece.len();
+        }
+        at
+    }
+
+    /// A part of the text that begins at one index and ends at another one at most.
+    fn first_piece(&self, from: usize, to: usize) -> Piece<'_>
+        requires right { IsGapText self.now }
+        requires order { from < to }
+        requires last { to ≤ length (text_of self.now) }
+        ensures part { IsFirstPiece (text_of self.now) from to result.codes.now }
+        ensures right { IsPiece result.codes.now result.known }
+    {
+        let codes = self.codes.as_slice();
+        let stretches = self.stretches.as_slice();
+        if from < self.front {
+            return first_of(codes, stretches, from, to.min(self.front));
+        }
+        let gap = self.back - self.front;
+        first_of(codes, stretches, from + gap, to + gap)
+    }
+
+    /// A part of the text that ends at one index and begins at another one at least.
+    fn last_piece(&self, from: usize, to: usize) -> Piece<'_>
+        requires right { IsGapText self.now }
+        requires order { from < to }
+        requires last { to ≤ length (text_of self.now) }
+        ensures part { IsLastPiece (text_of self.now) from to result.codes.now }
+        ensures right { IsPiece result.codes.now result.known }
+    {
+        let codes = self.codes.as_slice();
+        let stretches = self.stretches.as_slice();
+        if to <= self.front {
+            return last_of(codes, stretches, from, to);
+        }
+        let gap = self.back - self.front;
+        last_of(codes, stretches, from.max(self.front) + gap, to + gap)
+    }
+}
+
+/// The codes at the places from one on that lie in its stretch and before another place.
+fn first_of<'a>(codes: &'a [u32], stretches: &[Stretch], from: usize, to: usize) -> Piece<'a>
+    requires order { from < to }
+    requires last { to ≤ length codes.now }
+    requires short { length codes.now ≤ 4194304 }
+    requires covered { length codes.now ≤ length stretches.now * 1024 }
+    requires summed { AreSummed codes.now stretches.now from to }
+    ensures right { IsPiece result.codes.now result.known }
+    ensures some { 0 < length result.codes.now }
+    ensures fits { from + length result.codes.now ≤ to }
+    ensures same { result.codes.now ≡ slice_range codes.now from (from + length result.codes.now) }
+{
+    let stop = to.min((from / STRETCH + 1) * STRETCH);
+    part_of(codes, stretches, from, stop)
+}
+
+/// The codes at the places before one that lie in the last one's stretch and from another place on.
+fn last_of<'a>(codes: &'a [u32], stretches: &[Stretch], from: usize, to: usize) -> Piece<'a>
+    requires order { from < to }
+    requires last { to ≤ length codes.now }
+    requires short { length codes.now ≤ 4194304 }
+    requires covered { length codes.now ≤ length stretches.now * 1024 }
+    requires summed { AreSummed codes.now stretches.now from to }
+    ensures right { IsPiece result.codes.now result.known }
+    ensures some { 0 < length result.codes.now }
+    ensures fits { from + length result.codes.now ≤ to }
+    ensures same { result.codes.now ≡ slice_range codes.now (to - length result.codes.now) to }
+{
+    let start = from.max((to - 1) / STRETCH * STRETCH);
+    part_of(codes, stretches, start, to)
+}
+
+/// The codes at places of one stretch.
+fn part_of<'a>(codes: &'a [u32], stretches: &[Stretch], from: usize, to: usize) -> Piece<'a>
+    requires order { from ≤ to }
+    requires stretch { to ≤ (from / 1024 + 1) * 1024 }
+    requires last { to ≤ length codes.now }
+    requires short { length codes.now ≤ 4194304 }
+    requires covered { length codes.now ≤ length stretches.now * 1024 }
+    requires summed { AreSummed codes.now stretches.now from to }
+    ensures right { IsPiece result.codes.now result.known }
+    ensures value { result.codes.now ≡ slice_range codes.now from to }
+    ensures len { length result.codes.now + from ≡ to }
+{
+    let part = &codes[from..to];
+    if part.len() == STRETCH {
+        return Piece {
+            codes: part,
+            known: Some(stretches[from / STRETCH]),
+        };
+    }
+    Piece {
+        codes: part,
+        known: None,
+    }
+}
