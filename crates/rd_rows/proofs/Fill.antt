@@ -1,31 +1,26 @@
 -- A row that is filled element by element, against the cut of its line.
-use Rattle.std.proofs.Common.{◌≡◌, ℕ, zero, suc, ◌+◌, ◌-◌, ◌^◌, ◌<◌, ◌≤◌, ◌&&◌, ◌||◌, min, not, Bool, true, false, if◌then◌else◌, IsTrue, List, [], ◌∷◌, ◌++◌, length, take, drop, flat_map, Option, None, Some, refl, ap, sym, ◌∙◌, subst, arith, length-append, append_assoc}
-use Rattle.std.proofs.lemmas.List.{append-nil, length-take}
-use Rattle.std.proofs.lemmas.List.Elements.{All-append, All-tail}
+use Rattle.std.proofs.Common.{◌≡◌, ℕ, ◌+◌, ◌-◌, ◌<◌, ◌≤◌, ◌&&◌, ◌||◌, min, Bool, true, false, if◌then◌else◌, IsTrue, List, [], ◌∷◌, ◌++◌, length, take, flat_map, Option, None, Some, refl, ap, sym, ◌∙◌, subst, arith, length-append, append_assoc}
+use Rattle.std.proofs.lemmas.List.{append-nil}
 use Rattle.std.proofs.lemmas.Grind.{flat_map-append}
-use Rattle.std.proofs.Math.Seq.{take-append_seam, drop-append_seam}
+use Rattle.std.proofs.Math.Seq.{take-append_seam}
 use Rattle.rd_base.specs.Elements.{IsSound, AreSound, width_at_most, columns_at_most, is_line_end, ends_once}
-use Rattle.rd_base.specs.declared.cell.Cell.{Cell}
 use Rattle.rd_base.specs.declared.element.Element.{Element}
 use Rattle.rd_base.specs.declared.element.Extent.{Extent}
 use Rattle.rd_base.specs.declared.element.Extent.TheVariants.{Fixed, Tab, Column}
-use Rattle.rd_rows.specs.declared.begin.Begin.{Begin}
 use Rattle.rd_rows.specs.declared.draft.Draft.{Draft}
 use Rattle.rd_rows.specs.declared.draft.Break.{Break}
-use Rattle.rd_rows.specs.declared.filling.Filling.{Filling}
 use Rattle.rd_rows.specs.declared.spot.Placed.{Placed}
 use Rattle.rd_rows.specs.declared.spot.Spot.{Spot}
-use Rattle.rd_rows.specs.Cuts.{is_break, has_break, up_to_break, ends_some, fitting, room_for}
+use Rattle.rd_rows.specs.Cuts.{is_break, has_break, up_to_break, fitting, room_for}
 use Rattle.rd_rows.specs.Left.{IsLine}
-use Rattle.rd_rows.specs.Makers.{Grows, IsDraft, IsBreak, IsNoted, IsFilling, standing, reached, can_wrap, is_empty, has_room, room_behind}
-use Rattle.rd_rows.specs.Placing.{width_at, ends_row, fits, columns_in, placed_at, behind, behind_all, place_all, next_row, columns_of}
+use Rattle.rd_rows.specs.Makers.{Grows, IsDraft, IsBreak, IsNoted, standing, reached, is_empty, has_room, room_behind}
+use Rattle.rd_rows.specs.Placing.{width_at, ends_row, columns_in, placed_at, behind, place_all}
 use Rattle.rd_rows.specs.Rows.{seen_in, first_seen, begin_of}
 use Rattle.rd_rows.specs.Shapes.{ShapeValues, room, is_word}
-use Rattle.rd_rows.proofs.Ends.{All-left, All-right, line_ends, or-false, unfit-on, on-parts, on-append, on-line_ends, ends_once-tail, ends_once-parts, ends_once-all, ends-append}
+use Rattle.rd_rows.proofs.Ends.{All-right, line_ends, or-false, unfit-on, ends_once-tail}
 use Rattle.rd_rows.proofs.LineLaws.{length-placed}
-use Rattle.rd_rows.proofs.Splits.{IsFront, break-front}
 use Rattle.rd_rows.proofs.Stands.{stand-append, stand-placed, room-length}
-use Rattle.rd_rows.specs.Prefixes.{IsLead, StandFrom}
+use Rattle.rd_rows.specs.Prefixes.{StandFrom}
 
 -- elements placed one behind the other
 

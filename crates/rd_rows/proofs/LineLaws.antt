@@ -1,5 +1,5 @@
 -- The laws of rows, row by row.
-use Rattle.std.proofs.Common.{◌≡◌, ℕ, zero, suc, ◌+◌, ◌*◌, ◌≤◌, not, Bool, true, false, if◌then◌else◌, IsTrue, List, [], ◌∷◌, ◌++◌, length, flat_map, map, drop, Option, None, Some, refl, ap, sym, ◌∙◌, subst, arith, length-append, append_assoc}
+use Rattle.std.proofs.Common.{◌≡◌, ℕ, zero, suc, ◌+◌, ◌*◌, ◌≤◌, not, Bool, true, false, if◌then◌else◌, IsTrue, List, [], ◌∷◌, ◌++◌, length, flat_map, map, drop, Option, Some, refl, ap, sym, ◌∙◌, subst, arith, length-append, append_assoc}
 use Rattle.std.proofs.lemmas.List.{map-append, append-nil}
 use Rattle.std.proofs.lemmas.Grind.{flat_map-append}
 use Rattle.rd_base.specs.Elements.{ends_once, is_line_end}
@@ -17,7 +17,7 @@ use Rattle.rd_rows.specs.Rows.{RowMeaning, LaidRow, rows_within, rows_of, row_of
 use Rattle.rd_rows.specs.Laws.{seen_rows, ends_last, begins_of, range_of, ranges_of, lines_in, IsPlacedOnce}
 use Rattle.rd_rows.proofs.Ends.{line_ends, line_end-ends, standing-ends, ends_once-parts, ends_once-all}
 use Rattle.rd_rows.proofs.Fitting.{begins-none}
-use Rattle.rd_rows.proofs.Splits.{IsCut, cut-is, rest-less, none-left}
+use Rattle.rd_rows.proofs.Splits.{cut-is, rest-less, none-left}
 
 either-lead : (c : Cutting) (b : Bool) → HasLeads c → IsLead (if b then c.first else c.wrap)
 either-lead c true leads = leads.first

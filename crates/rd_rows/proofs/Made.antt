@@ -1,6 +1,6 @@
 -- A maker of rows, as the layer above knows it.
-use Rattle.std.proofs.Common.{◌≡◌, ℕ, ◌+◌, ◌≤◌, Bool, true, false, List, [], ◌∷◌, ◌++◌, length, Option, None, Some, Result, Ok, Err, refl, ap, sym, ◌∙◌, subst, arith}
-use Rattle.rd_base.specs.Elements.{IsSound, AreSound, columns_at_most, ends_once}
+use Rattle.std.proofs.Common.{◌≡◌, ℕ, ◌+◌, ◌≤◌, Bool, true, false, List, [], ◌++◌, refl, sym, subst, arith}
+use Rattle.rd_base.specs.Elements.{IsSound, AreSound}
 use Rattle.rd_base.specs.Glyphs.{AreMeasured}
 use Rattle.rd_base.specs.declared.cell.Glyph.{Glyph}
 use Rattle.rd_base.specs.declared.element.Element.{Element}
@@ -12,7 +12,7 @@ use Rattle.rd_rows.specs.Left.{MakerValues, IsLine, rows_behind}
 use Rattle.rd_rows.specs.Lines.{rows_left, columns_held, is_finished, IsFresh, Asks, MakesRow}
 use Rattle.rd_rows.specs.Makers.{IsMaking, Cuts}
 use Rattle.rd_rows.specs.Placing.{line_start}
-use Rattle.rd_rows.specs.Rows.{LaidRow, rows_of, cutting_of}
+use Rattle.rd_rows.specs.Rows.{cutting_of}
 use Rattle.rd_rows.specs.Shapes.{ShapeValues}
 use Rattle.rd_rows.specs.Whole.{IsWhole, AreWhole, IsMark, IsMeasuredPrefix}
 use Rattle.rd_rows.proofs.Ends.{All-right, on-line_ends, once-before}

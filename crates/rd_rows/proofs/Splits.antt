@@ -1,6 +1,6 @@
 -- How a row is cut from the elements of a line.
-use Rattle.std.proofs.Common.{◌≡◌, ℕ, zero, suc, ◌+◌, ◌-◌, ◌<◌, ◌≤◌, ◌&&◌, ◌||◌, not, Bool, true, false, if◌then◌else◌, List, [], ◌∷◌, ◌++◌, length, drop, refl, ap, sym, ◌∙◌, subst, arith, append_assoc}
-use Rattle.std.proofs.lemmas.List.{append-nil, length-drop}
+use Rattle.std.proofs.Common.{◌≡◌, ℕ, zero, suc, ◌<◌, ◌≤◌, ◌&&◌, ◌||◌, not, Bool, true, false, if◌then◌else◌, List, [], ◌∷◌, ◌++◌, length, drop, refl, ap, sym, ◌∙◌, arith, append_assoc}
+use Rattle.std.proofs.lemmas.List.{length-drop}
 use Rattle.std.proofs.Math.Seq.{drop-append_seam}
 use Rattle.rd_base.specs.declared.element.Element.{Element}
 use Rattle.rd_rows.specs.declared.cutting.Cutting.{Cutting}
@@ -8,8 +8,8 @@ use Rattle.rd_rows.specs.declared.spot.Placed.{Placed}
 use Rattle.rd_rows.specs.declared.spot.Spot.{Spot}
 use Rattle.rd_rows.specs.Cuts.{is_break, has_break, up_to_break, ends_some, fitting, room_for, RowCut, is_wrapped, cut_row}
 use Rattle.rd_rows.specs.Laws.{lines_in}
-use Rattle.rd_rows.specs.Placing.{ends_row, fits, placed_at, behind, behind_all, next_row, next_line, place_all, columns_of}
-use Rattle.rd_rows.specs.Rows.{LaidRow, laid, rows_within}
+use Rattle.rd_rows.specs.Placing.{ends_row, fits, placed_at, behind, behind_all, next_row, place_all, columns_of}
+use Rattle.rd_rows.specs.Rows.{laid, rows_within}
 use Rattle.rd_rows.specs.Shapes.{ShapeValues}
 use Rattle.rd_rows.proofs.Ends.{on-lines, on-parts, not-true}
 

@@ -1,6 +1,6 @@
 -- What holds while a row is made, and what follows when it ends.
-use Rattle.std.proofs.Common.{◌≡◌, ℕ, zero, suc, ◌+◌, ◌-◌, ◌^◌, ◌<◌, ◌≤◌, ◌&&◌, ◌||◌, not, Bool, true, false, if◌then◌else◌, IsTrue, List, [], ◌∷◌, ◌++◌, length, drop, flat_map, Option, None, Some, Result, Ok, Err, IfOk, refl, ap, sym, ◌∙◌, subst, arith, length-append, append_assoc}
-use Rattle.std.proofs.lemmas.List.{append-nil, length-drop}
+use Rattle.std.proofs.Common.{◌≡◌, ℕ, suc, ◌+◌, ◌-◌, ◌^◌, ◌<◌, ◌≤◌, ◌&&◌, ◌||◌, not, Bool, true, false, if◌then◌else◌, IsTrue, List, [], ◌∷◌, ◌++◌, length, drop, Option, None, Some, Result, Ok, Err, IfOk, refl, ap, sym, ◌∙◌, subst, arith, length-append, append_assoc}
+use Rattle.std.proofs.lemmas.List.{append-nil}
 use Rattle.std.proofs.lemmas.List.Elements.{All-append}
 use Rattle.std.proofs.Math.Seq.{drop-append_seam}
 use Rattle.rd_base.specs.Elements.{IsSound, AreSound, width_at_most, columns_at_most, is_line_end, ends_once}
@@ -16,14 +16,14 @@ use Rattle.rd_rows.specs.Copies.{RowValues}
 use Rattle.rd_rows.specs.Cuts.{has_break, up_to_break, ends_some, room_for, RowCut, is_wrapped, cut_row}
 use Rattle.rd_rows.specs.Leads.{HasLeads}
 use Rattle.rd_rows.specs.Left.{MakerValues, IsLine, lead_of, rows_behind}
-use Rattle.rd_rows.specs.Makers.{IsDraft, IsNoted, IsFilling, Leaves, Ends, Cuts, standing, reached, can_wrap, is_empty, has_room, room_behind, kept_of, row_standing}
-use Rattle.rd_rows.specs.Placing.{ends_row, behind_all, place_all, next_row, next_line, columns_of, has_line_end}
+use Rattle.rd_rows.specs.Makers.{IsNoted, IsFilling, Leaves, Ends, Cuts, standing, reached, can_wrap, is_empty, has_room, room_behind, kept_of, row_standing}
+use Rattle.rd_rows.specs.Placing.{ends_row, next_row, next_line, columns_of, has_line_end}
 use Rattle.rd_rows.specs.Prefixes.{IsLead}
-use Rattle.rd_rows.specs.Rows.{RowMeaning, LaidRow, laid, row_of, rows_within, seen_in, first_seen, begin_of}
+use Rattle.rd_rows.specs.Rows.{RowMeaning, LaidRow, laid, row_of, rows_within, first_seen}
 use Rattle.rd_rows.specs.Shapes.{ShapeValues, room, is_word}
-use Rattle.rd_rows.proofs.Ends.{All-left, All-right, line_ends, or-false, on-parts, on-append, on-line_ends, ends-append, standing-ends, ends_once-parts, line_end-ends, on-no_line_end}
+use Rattle.rd_rows.proofs.Ends.{All-left, All-right, line_ends, or-false, on-parts, on-append, on-line_ends, ends-append, standing-ends, ends_once-parts}
 use Rattle.rd_rows.proofs.Fill.{standing-length, reached-column, reached-used, columns-append, line-behind, once-behind, once-some, room-on, room-ended, room-full, unfit-ends, cells-room}
-use Rattle.rd_rows.proofs.Splits.{IsFront, break-front, break-some, none-left, rows-same, cut-is}
+use Rattle.rd_rows.proofs.Splits.{IsFront, break-front, break-some, none-left, rows-same}
 
 -- where the next row begins behind its prefix
 abbrev pub start_of : MakerValues → Spot

@@ -18,7 +18,7 @@ use Rattle.rd_rows.specs.Mirrors.{mirror_image, leading_rests}
 use Rattle.rd_rows.specs.Cuts.{cut_row}
 use Rattle.rd_rows.specs.Placing.{glyph_in, placed_at, behind, next_row, line_start, place_all, columns_of, width_at}
 use Rattle.rd_rows.specs.Prefixes.{FillsColumns, StandFrom, fitted}
-use Rattle.rd_rows.specs.Rows.{LaidRow, whole_cells, seen, seen_in, first_seen, mark, front_mark, scrolled, filled, last_cell, from_edge, row_of, rows_within, rows_of, cutting_of}
+use Rattle.rd_rows.specs.Rows.{whole_cells, seen, seen_in, first_seen, mark, front_mark, scrolled, filled, last_cell, from_edge, row_of, rows_within, rows_of, cutting_of}
 use Rattle.rd_rows.specs.Shapes.{ShapeValues, room, truncates}
 use Rattle.rd_rows.specs.Whole.{IsWhole, AreWhole, IsMark, IsMeasuredPrefix, ArePlacedMeasured, IsMeasuredCutting}
 use Rattle.rd_rows.proofs.Fitting.{cutting-leads}

@@ -1,5 +1,5 @@
-use Rattle.std.proofs.Common.{refl, sym, ◌∙◌}
-use Rattle.rd_rows.proofs.Fill.{filled-more, noted-off, noted-here}
+use Rattle.std.proofs.Common.{sym, ◌∙◌}
+use Rattle.rd_rows.proofs.Fill.{filled-more, noted-here}
 use Rattle.rd_rows.proofs.Waiting.{noted-some, noted-still}
 use Rattle.rd_rows.proofs.filling.Filling.note.Goals as goal
 

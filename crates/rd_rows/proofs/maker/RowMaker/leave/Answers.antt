@@ -1,4 +1,4 @@
-use Rattle.std.proofs.Common.{◌≡◌, ◌∷◌, ◌++◌, drop, arith, true, false, ap, sym, subst, refl, ◌∙◌}
+use Rattle.std.proofs.Common.{◌≡◌, ◌∷◌, ◌++◌, drop, arith, true, false, ap, sym, subst, ◌∙◌}
 use Rattle.rd_base.specs.Elements.{AreSound}
 use Rattle.rd_rows.specs.Cuts.{ends_some}
 use Rattle.rd_rows.specs.Left.{MakerValues}

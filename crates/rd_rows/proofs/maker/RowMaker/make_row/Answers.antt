@@ -1,4 +1,4 @@
-use Rattle.std.proofs.Common.{ap, refl, sym, ◌∙◌}
+use Rattle.std.proofs.Common.{ap, sym, ◌∙◌}
 use Rattle.rd_rows.specs.declared.cutting.Cutting.{Cutting}
 use Rattle.rd_rows.specs.Left.{MakerValues}
 use Rattle.rd_rows.proofs.Walk.{walk-start, walk-some, walk-column, walk-used, walk-fits, walk-on, walk-less, taken-cutting, waiting-sound, waiting-on, walk-cells, ended-cells, leave-cuts, end-cuts}

@@ -1,4 +1,4 @@
-use Rattle.std.proofs.Common.{refl, ap, sym, subst, ◌∙◌, ◌≡◌, true, false}
+use Rattle.std.proofs.Common.{refl, ap, sym, subst, ◌∙◌, ◌≡◌, true}
 use Rattle.rd_rows.specs.Left.{MakerValues}
 use Rattle.rd_rows.specs.Lines.{is_finished}
 use Rattle.rd_rows.specs.Makers.{IsMaking}
