@@ -1,3 +1,4 @@
+mod All
 mod Ends
 mod Fill
 mod Fitting

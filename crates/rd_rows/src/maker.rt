@@ -42,13 +42,14 @@ impl Model for RowMaker {
 }
 
 impl RowMaker {
-    ghost use Rattle.std.specs.Prelude.{◌≡◌, ◌≤◌, List, IfOk};
+    ghost use Rattle.std.specs.Prelude.{◌≡◌, ◌+◌, ◌^◌, ◌<◌, ◌≤◌, List, length, IfOk, OnOk};
     ghost use Rattle.rd_base.specs.Elements.{AreSound};
     ghost use Rattle.rd_base.specs.Glyphs.{AreMeasured};
     ghost use Rattle.rd_base.specs.declared.element.Element.{Element};
     ghost use Rattle.rd_rows.specs.Lines.{IsFresh, Asks, Makes, MakesWhole, rows_left};
     ghost use Rattle.rd_rows.specs.Prefixes.{IsPrefix};
-    ghost use Rattle.rd_rows.specs.Rows.{cutting_of};
+    ghost use Rattle.rd_rows.specs.Copies.{made_rows};
+    ghost use Rattle.rd_rows.specs.Rows.{cutting_of, weight_of};
     ghost use Rattle.rd_rows.specs.Whole.{AreWhole, IsMark, IsMeasuredPrefix};
 
     /// A maker of the rows of a line in a paragraph of base level `base`, 0 or 1, with the elements of the prefixes of the line's
@@ -114,6 +115,29 @@ impl RowMaker {
         let made = self.make_row(elements)?;
         count(made.weight, steps);
         Ok(Some(made.row))
+    }
+
+    /// Makes all rows that are left, where there are fewer than 2^32 of them; where there are more it wants memory. A step is
+    /// counted for each element that is placed.
+    pub fn make_all<E: Elements, L: Ledger>(
+        mut self,
+        elements: &mut E,
+        steps: &mut Steps<L>,
+    ) -> Result<Vec<Row>, Memory>
+        requires { Asks self (E.left elements.old) }
+        ensures rows { IfOk result (λ rows. rows.items ≡ made_rows (rows_left self (E.left elements.old))) }
+        ensures few { IfOk result (λ rows. length rows.items < 2 ^ 32) }
+        ensures steps { OnOk result (steps.new ≡ steps.old + weight_of (rows_left self (E.left elements.old))) }
+        ensures bound { steps.new ≤ steps.old + weight_of (rows_left self (E.left elements.old)) }
+    {
+        let mut rows = Vec::new(self.alloc);
+        while let Some(row) = self.next_row(elements, steps)? {
+            if rows.len() >= u32::MAX as usize {
+                return Err(Memory);
+            }
+            rows.push(row)?;
+        }
+        Ok(rows)
     }
 }
 
