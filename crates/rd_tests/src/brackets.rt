@@ -44,7 +44,9 @@ fn pairs_take_a_direction(rt: HostRuntime) -> Result<(), Fail> {
     assert!(rt; types.as_slice() == [Class::R, Class::L, Class::L, Class::L, Class::WS].as_slice());
     let right = [Class::R, Class::ON, Class::EN, Class::ON, Class::WS];
     let types = types_of(alloc, &right, &[0, 0x28, 0, 0x29, 0], &brackets)?;
-    assert!(rt; types.as_slice() == [Class::R, Class::R, Class::EN, Class::R, Class::WS].as_slice());
+    assert!(rt;
+        types.as_slice() == [Class::R, Class::R, Class::EN, Class::R, Class::WS].as_slice()
+    );
     let types = types_of(alloc, &right, &[0, 0x28, 0, 0x5D, 0], &brackets)?;
     assert!(rt; types.as_slice() == right.as_slice());
     Ok(())

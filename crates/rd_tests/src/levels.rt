@@ -181,7 +181,14 @@ fn brackets_take_a_direction(rt: HostRuntime) -> Result<(), Fail> {
     ];
     cache.fill(&classes, &[0, 0x28, 0, 0x29, 0x301, 0], &brackets, 0)?;
     assert!(rt; are_levels(cache.levels(), "1 0 0 0 0 1"));
-    let right = [Class::L, Class::ON, Class::R, Class::ON, Class::WS, Class::R];
+    let right = [
+        Class::L,
+        Class::ON,
+        Class::R,
+        Class::ON,
+        Class::WS,
+        Class::R,
+    ];
     cache.fill(&right, &[0, 0x28, 0, 0x29, 0, 0], &brackets, 0)?;
     assert!(rt; are_levels(cache.levels(), "0 0 1 0 0 1"));
     Ok(())
