@@ -13,33 +13,8 @@ use Rattle.rd_term.proofs.Encoded.{Rows, standing}
 use Rattle.rd_term.proofs.Feeding.{feed_bytes-append}
 use Rattle.rd_base.specs.Equals.{same_face}
 use Rattle.rd_update.specs.Updates.{number_if, renditions, parameter, rendition, dress}
-use Rattle.rd_update.proofs.Feeding.{amid, decimal_fed}
+use Rattle.rd_update.proofs.Sequences.{parameters_fed}
 use Rattle.rd_update.proofs.Equals.{face-told}
-
--- ---- the numbers of a sequence
-
-end_fed : (region : Option (ℕ × ℕ)) → (rows : Rows) (cursor : Option (ℕ × ℕ)) (wait : Bool) (pen : Option Attributes) (ended : List ℕ) (last : ℕ)
-    → feed_byte (amid region rows cursor wait pen ended (Some last)) 109 ≡ dress_pen (ended ++ last ∷ []) (standing region rows cursor wait pen None)
-end_fed region rows cursor wait pen ended last = refl
-
-next_fed : (region : Option (ℕ × ℕ)) → (rows : Rows) (cursor : Option (ℕ × ℕ)) (wait : Bool) (pen : Option Attributes) (ended : List ℕ) (last : ℕ)
-    → feed_byte (amid region rows cursor wait pen ended (Some last)) 59 ≡ amid region rows cursor wait pen (ended ++ last ∷ []) None
-next_fed region rows cursor wait pen ended last = refl
-
-parameters_fed : (region : Option (ℕ × ℕ)) → (rows : Rows) (cursor : Option (ℕ × ℕ)) (wait : Bool) (pen : Option Attributes) (ended : List ℕ) (last : ℕ) (ns : List ℕ)
-    → length ended + length ns < 16 → AllByRecursion (λ n. n ≤ 65535) ns
-    → feed_bytes (amid region rows cursor wait pen ended (Some last)) (flat_map parameter ns ++ 109 ∷ []) ≡ dress_pen (ended ++ last ∷ ns) (standing region rows cursor wait pen None)
-parameters_fed region rows cursor wait pen ended last [] few small = end_fed region rows cursor wait pen ended last
-parameters_fed region rows cursor wait pen ended last (n ∷ ns) few small =
-    let more = flat_map parameter ns ++ 109 ∷ [] in
-    let room : length (ended ++ last ∷ []) < 16 = omega (arith, few, length-append ended (last ∷ [])) in
-    let next : length (ended ++ last ∷ []) + length ns < 16 = omega (arith, few, length-append ended (last ∷ [])) in
-    ap (feed_bytes (amid region rows cursor wait pen ended (Some last))) (append_assoc (parameter n) (flat_map parameter ns) (109 ∷ []))
-    ∙ ap (λ t. feed_bytes t (decimal n ++ more)) (next_fed region rows cursor wait pen ended last)
-    ∙ feed_bytes-append (amid region rows cursor wait pen (ended ++ last ∷ []) None) (decimal n) more
-    ∙ ap (λ t. feed_bytes t more) (decimal_fed region rows cursor wait pen (ended ++ last ∷ []) n room small.0)
-    ∙ parameters_fed region rows cursor wait pen (ended ++ last ∷ []) n ns next small.1
-    ∙ ap (λ xs. dress_pen xs (standing region rows cursor wait pen None)) (append_assoc ended (last ∷ []) (n ∷ ns))
 
 -- ---- the pen after the numbers of a face
 
@@ -199,7 +174,7 @@ rendition_fed : (region : Option (ℕ × ℕ)) → (rows : Rows) (cursor : Optio
     → feed_bytes (standing region rows cursor wait (Some pen) latest) (rendition f) ≡ standing region rows cursor wait (Some f) None
 rendition_fed region rows cursor wait pen f latest h =
     let few : length {A = ℕ} [] + length (renditions f) < 16 = omega (arith, few-numbers f) in
-    parameters_fed region rows cursor wait (Some pen) [] 0 (renditions f) few (small-numbers f h)
+    parameters_fed region rows cursor wait (Some pen) [] 0 109 (renditions f) refl refl few (small-numbers f h)
     ∙ ap (λ b. let t : Tty = if b then standing region rows cursor wait (pen_by (renditions f) (Some plain)) None else (record (standing region rows cursor wait (Some pen) None) { confused = true }) in t) (all-right f h)
     ∙ ap (λ p. standing region rows cursor wait p None) (pen-is f h)
 

@@ -5,6 +5,7 @@ pub mod Intervals
 pub mod Parts
 pub mod Reaching
 pub mod Rows
+pub mod Sequences
 pub mod Showing
 pub mod Soundness
 pub mod Spans

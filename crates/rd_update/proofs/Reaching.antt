@@ -19,6 +19,7 @@ use Rattle.rd_term.proofs.Encoded.{Rows, standing}
 use Rattle.rd_term.proofs.Feeding.{feed_bytes-append}
 use Rattle.rd_update.proofs.Feeding.{move_fed, repaint_fed}
 use Rattle.rd_update.proofs.Rows.{rows_fed}
+use Rattle.rd_update.proofs.Sequences.{tty-same}
 use Rattle.rd_update.proofs.Soundness.{after-all, length-after}
 
 -- ---- the screen that counts as current
@@ -46,14 +47,9 @@ pub record Opens (region : Option (ℕ × ℕ)) (old : List (List Cell)) (t : Tt
   pub latest : Option (ℕ × ℕ)
   pub is : t ≡ standing region (known old) cursor wait (Some plain) latest
 
-tty-same : (region : Option (ℕ × ℕ)) → (rows : Rows) (cursor : Option (ℕ × ℕ)) (wait : Bool) (pen : Option Attributes) (latest : Option (ℕ × ℕ)) (reading : Reading) (confused : Bool) (rows' : Rows) (pen' : Option Attributes)
-    → rows ≡ rows' → pen ≡ pen' → reading ≡ Between → confused ≡ false
-    → let t : Tty = record { rows = rows; region = region; cursor = cursor; wait = wait; pen = pen; latest = latest; reading = reading; confused = confused } in t ≡ standing region rows' cursor wait pen' latest
-tty-same region rows cursor wait pen latest reading confused rows' pen' a b c d = cc
-
 opened : (width height : ℕ) (current : Option Picture) (target : Picture) (t : Tty) → IsReady width height current target t → Opens t.region (start current target).rows (feed_bytes t (opening current))
 opened width height None target t h =
-    let is = tty-same t.region t.rows t.cursor t.wait t.pen t.latest t.reading t.confused t.rows t.pen refl refl h.between h.sure in
+    let is = tty-same t.rows t.region t.cursor t.wait t.pen t.latest t.reading t.confused t.rows t.pen refl refl h.between h.sure in
     let blanks = cleared-like t.rows target.rows width (h.rows ∙ sym h.size.rows) (recursion_from_All (λ row. length row ≡ width) t.rows h.each) (recursion_from_All (λ row. length row ≡ width) target.rows h.size.each) in
     record {
       cursor = t.cursor;
@@ -65,7 +61,7 @@ opened width height (Some screen) target t h = record {
   cursor = t.cursor;
   wait = t.wait;
   latest = t.latest;
-  is = tty-same t.region t.rows t.cursor t.wait t.pen t.latest t.reading t.confused (known screen.rows) (Some plain) h.now.1 h.now.2 h.between h.sure;
+  is = tty-same t.rows t.region t.cursor t.wait t.pen t.latest t.reading t.confused (known screen.rows) (Some plain) h.now.1 h.now.2 h.between h.sure;
 }
 
 start-size : (width height : ℕ) (current : Option Picture) (target : Picture) (t : Tty) → IsReady width height current target t → IsOfSize width height (start current target)

@@ -103,6 +103,10 @@ renditions f =
 abbrev pub parameter : ℕ → List ℕ
 parameter n = 59 ∷ decimal n
 
+-- a control sequence: its numbers between semicolons, and its last byte
+abbrev pub sequence : ℕ → List ℕ → ℕ → List ℕ
+sequence n ns last = 27 ∷ 91 ∷ (decimal n ++ (flat_map parameter ns ++ last ∷ []))
+
 -- `\e[0;a;b;..m`, by which the pen becomes a face
 abbrev pub rendition : Attributes → List ℕ
 rendition f = 27 ∷ 91 ∷ 48 ∷ (flat_map parameter (renditions f) ++ 109 ∷ [])

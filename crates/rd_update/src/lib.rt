@@ -9,6 +9,7 @@ mod span;
 mod words;
 
 pub use law::{
-    intervals_are_least, update_law, updates_keep_screens_sound, updates_reach_their_targets,
+    intervals_are_least, sequences_are_read, update_law, updates_keep_screens_sound,
+    updates_reach_their_targets,
 };
 pub use plan::{Plan, Sent, WriteFault};
