@@ -2,4 +2,5 @@ pub mod Blocks
 pub mod Columns
 pub mod Cursors
 pub mod Entries
+pub mod Held
 pub mod Sources

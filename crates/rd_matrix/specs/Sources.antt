@@ -1,10 +1,10 @@
 -- Sources of blocks and of their rows.
-use Rattle.std.specs.Prelude.{◌≡◌, ℕ, ◌+◌, ◌<◌, ◌≤◌, ◌&&◌, not, Bool, false, IsTrue, List, [], ◌∷◌, flat_map, count_by, All}
+use Rattle.std.specs.Prelude.{◌≡◌, ℕ, ◌+◌, ◌<◌, ◌≤◌, IsTrue, List, [], ◌∷◌, count_by, All}
 use Rattle.rd_matrix.specs.Blocks.{AreBlocks, IsAmong}
 use Rattle.rd_matrix.specs.Columns.{covers}
 use Rattle.rd_matrix.specs.Entries.{EntryMeaning, all_rows}
 use Rattle.rd_matrix.specs.declared.block.Block.{Block}
-use Rattle.rd_rows.specs.declared.begin.Begin.{Begin}
+pub use Rattle.rd_rows.specs.Laws.{ends_last, begins_of}
 use Rattle.rd_rows.specs.Rows.{RowMeaning}
 use Rattle.rd_rows.specs.Shapes.{ShapeValues, IsShape}
 
@@ -22,16 +22,6 @@ rows_at m shape = all_rows (λ b. m.rows_of b shape) m.blocks
 abbrev pub costs_of : (Block → ℕ) → List Block → ℕ
 costs_of cost [] = 0
 costs_of cost (b ∷ bs) = cost b + costs_of cost bs
-
--- whether the last row, and no other, ends the block
-abbrev pub ends_last : List RowMeaning → Bool
-ends_last [] = false
-ends_last (r ∷ []) = r.ends_block
-ends_last (r ∷ s ∷ rs) = not r.ends_block && ends_last (s ∷ rs)
-
--- the items that begin in rows
-abbrev pub begins_of : List RowMeaning → List Begin
-begins_of rows = flat_map (λ r. r.begins) rows
 
 -- the rows of a block from one position up to another: at least one, of which the last and no other ends the block; and the items
 -- that begin in them lie in the block, and exactly one of them covers each of its positions

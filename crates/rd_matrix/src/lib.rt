@@ -2,10 +2,13 @@
 #![tactic(auto)]
 
 mod block;
+mod held;
+mod listed;
 mod matrix;
 mod source;
 
 pub use block::Block;
+pub use held::{HeldBlock, MemBlocks};
 pub use matrix::{Entry, Matrix};
 pub use source::BlockSource;
 

@@ -1,0 +1,310 @@
+-- Blocks with their lines, as a source.
+use Rattle.std.proofs.Common.{◌≡◌, ℕ, zero, suc, ◌+◌, ◌-◌, ◌<◌, ◌≤◌, ◌&&◌, nat_le, nat_lt, nat_eq, Bool, true, false, cond, IsTrue, List, [], ◌∷◌, ◌++◌, length, get_or, map, All, inl, inr, Option, None, Some, Result, Ok, Err, IfOk, refl, ap, sym, ◌∙◌, subst, arith}
+use Rattle.std.specs.Prelude.{count_by, slice_get, option_map}
+use Rattle.std.proofs.lemmas.Bool.Decides.{nat_tests}
+use Rattle.std.proofs.lemmas.Bool.{cases_lt}
+use Rattle.std.proofs.lemmas.Option.{slice_get-map, slice_get_within, slice_get_read, get_or_from_slice_get}
+use Rattle.std.proofs.lemmas.List.Elements.{All-cons, All-nil, All-tail, All-append}
+use Rattle.std.proofs.lemmas.List.Sums.{sum_by-cons}
+use Rattle.std.proofs.lemmas.Simd.{map-map}
+use Rattle.rd_base.specs.Elements.{ends_once}
+use Rattle.rd_base.specs.declared.cell.Glyph.{Glyph}
+use Rattle.rd_base.specs.declared.element.Element.{Element}
+use Rattle.rd_matrix.specs.Blocks.{IsAmong, IsWithin, HoldsPosition, StandFrom, first_start, end_from, block_before}
+use Rattle.rd_matrix.specs.Columns.{covers}
+use Rattle.rd_matrix.specs.Held.{blocks_held, laid_at, laid_from, source_of, in_range, covers_each, are_inside, IsHeld, AreHeld}
+use Rattle.rd_matrix.specs.Sources.{IsSource, AreRowsOf}
+use Rattle.rd_matrix.specs.declared.block.Block.{Block}
+use Rattle.rd_matrix.specs.declared.held.HeldBlock.{HeldBlock}
+use Rattle.rd_rows.specs.declared.begin.Begin.{Begin}
+use Rattle.rd_rows.specs.declared.cutting.Cutting.{Cutting}
+use Rattle.rd_rows.specs.Copies.{shown_rows, made_rows}
+use Rattle.rd_rows.specs.Laws.{seen_rows, ends_last, begins_of, range_of, ranges_of}
+use Rattle.rd_rows.specs.Leads.{HasLeads}
+use Rattle.rd_rows.specs.Prefixes.{IsPrefix}
+use Rattle.rd_rows.specs.Rows.{LaidRow, cutting_of, rows_of}
+use Rattle.rd_rows.specs.Shapes.{ShapeValues}
+
+-- places of blocks that stand one behind the other
+
+pub later-start : (from k : ℕ) (bs : List Block) (b : Block) → StandFrom from bs → slice_get bs k ≡ Some b → (from ≤ b.start) × (b.start < b.end)
+later-start from k [] b h i = absurd cc
+later-start from zero (a ∷ bs) b h i = let same : a ≡ b = cc in let start = h.0 in subst (λ (x : Block). (from ≤ x.start) × (x.start < x.end)) same (omega (arith, start), h.1)
+later-start from (suc k) (a ∷ bs) b h i =
+    let rest = later-start a.end k bs b h.2 i in
+    let low = rest.0 in
+    let start = h.0 in
+    let some = h.1 in
+    (omega (arith, low, start, some), rest.1)
+
+pub same-place : (from k j : ℕ) (bs : List Block) (a b : Block) → StandFrom from bs → slice_get bs k ≡ Some a → slice_get bs j ≡ Some b → a.start ≡ b.start → k ≡ j
+same-place from k j [] a b h i g s = absurd cc
+same-place from zero zero (c ∷ bs) a b h i g s = refl
+same-place from zero (suc j) (c ∷ bs) a b h i g s =
+    let same : c ≡ a = cc in
+    let start = ap (λ (x : Block). x.start) same in
+    let some = h.1 in
+    let later = (later-start c.end j bs b h.2 g).0 in
+    absurd (omega (arith, start, some, later, s))
+same-place from (suc k) zero (c ∷ bs) a b h i g s =
+    let same : c ≡ b = cc in
+    let start = ap (λ (x : Block). x.start) same in
+    let some = h.1 in
+    let later = (later-start c.end k bs a h.2 i).0 in
+    absurd (omega (arith, start, some, later, s))
+same-place from (suc k) (suc j) (c ∷ bs) a b h i g s = ap suc (same-place c.end k j bs a b h.2 i g s)
+
+pub record IsBlockHeld (hs : List HeldBlock) (k : ℕ) (b : Block) : Type 0 where
+  pub held : HeldBlock
+  pub there : slice_get hs k ≡ Some held
+  pub block : held.block ≡ b
+
+pub held-at : (hs : List HeldBlock) (k : ℕ) (b : Block) → slice_get (blocks_held hs) k ≡ Some b → IsBlockHeld hs k b
+held-at [] k b h = absurd cc
+held-at (h ∷ hs) zero b i = record { held = h; there = refl; block = cc }
+held-at (h ∷ hs) (suc k) b i = let rest = held-at hs k b i in record { held = rest.held; there = rest.there; block = rest.block }
+
+pub all-at : (hs : List HeldBlock) (k : ℕ) (h : HeldBlock) → All IsHeld hs → slice_get hs k ≡ Some h → IsHeld h
+all-at hs k h all i = subst IsHeld (get_or_from_slice_get hs k h h i) (all k h (slice_get_within hs k h i))
+
+pub laid-there : (from k : ℕ) (hs : List HeldBlock) (h : HeldBlock) (shape : ShapeValues) → StandFrom from (blocks_held hs) → slice_get hs k ≡ Some h → laid_from shape h.block.start hs ≡ laid_at shape h
+laid-there from k [] h shape stand i = absurd cc
+laid-there from zero (g ∷ hs) h shape stand i =
+    let same : g ≡ h = cc in
+    let b : nat_eq g.block.start h.block.start ≡ true = let start = ap (λ (x : HeldBlock). x.block.start) same in grind (arith, nat_tests) in
+    rw b (ap (laid_at shape) same)
+laid-there from (suc k) (g ∷ hs) h shape stand i =
+    let block : slice_get (blocks_held hs) k ≡ Some h.block = slice_get-map (λ (x : HeldBlock). x.block) hs k ∙ ap (option_map (λ (x : HeldBlock). x.block)) i in
+    let later = (later-start g.block.end k (blocks_held hs) h.block stand.2 block).0 in
+    let some = stand.1 in
+    let b : nat_eq g.block.start h.block.start ≡ false = grind (arith, nat_tests) in
+    rw b (laid-there g.block.end k hs h shape stand.2 i)
+
+-- the items of a block
+
+count-cons : {X : Type 0} (p : X → Bool) (x : X) (xs : List X) → count_by p (x ∷ xs) ≡ cond (p x) 1 0 + count_by p xs
+count-cons p x xs = sum_by-cons (λ y. cond (p y) 1 0) x xs
+
+count-same : (p : Begin → Bool) (q : ℕ × ℕ → Bool) (bs : List Begin) → ((b : Begin) → p b ≡ q (range_of b)) → count_by p bs ≡ count_by q (map range_of bs)
+count-same p q [] h = refl
+count-same p q (b ∷ bs) h = count-cons p b bs ∙ (rw (h b, count-same p q bs h) refl ∙ sym (count-cons q (range_of b) (map range_of bs)))
+
+moved-le : (b : Bool) (start f k : ℕ) → nat_le f k ≡ b → nat_le (start + f) (start + k) ≡ b
+moved-le true start f k h = grind (arith, nat_tests)
+moved-le false start f k h = grind (arith, nat_tests)
+
+moved-lt : (b : Bool) (start k t : ℕ) → nat_lt k t ≡ b → nat_lt (start + k) (start + t) ≡ b
+moved-lt true start k t h = grind (arith, nat_tests)
+moved-lt false start k t h = grind (arith, nat_tests)
+
+covers-moved : (start k : ℕ) (b : Begin) → covers start (start + k) b ≡ in_range k (range_of b)
+covers-moved start k b = rw (moved-le (nat_le b.from k) start b.from k refl, moved-lt (nat_lt k b.to) start k b.to refl) refl
+
+and-both : (a b : Bool) → (a && b) ≡ true → (a ≡ true) × (b ≡ true)
+and-both true b h = (refl, h)
+and-both false b h = cc
+
+covered-at : (n k : ℕ) (rs : List (ℕ × ℕ)) → covers_each n rs ≡ true → k < n → count_by (in_range k) rs ≡ 1
+covered-at zero k rs h below = absurd (omega arith)
+covered-at (suc n) k rs h below =
+    let both = and-both _ (covers_each n rs) h in
+    elim (cases_lt k n) as (λ _. count_by (in_range k) rs ≡ 1) [
+      | inl less ↦ covered-at n k rs both.1 less
+      | inr last ↦ let same : k ≡ n = omega (arith, last, below) in rw same (let one = both.0 in grind (arith, nat_tests))
+    ]
+
+inside-all : (start end size : ℕ) (bs : List Begin) → start + size ≡ end → are_inside size (map range_of bs) ≡ true → All (λ b. (b.from ≤ b.to) × (start + b.to ≤ end)) bs
+inside-all start end size [] e h = All-nil (λ (b : Begin). (b.from ≤ b.to) × (start + b.to ≤ end))
+inside-all start end size (b ∷ bs) e h =
+    let both = and-both (nat_le b.from b.to && nat_le b.to size) (are_inside size (map range_of bs)) h in
+    let parts = and-both (nat_le b.from b.to) (nat_le b.to size) both.0 in
+    let order : b.from ≤ b.to = let o = parts.0 in grind (arith, nat_tests) in
+    let within : b.to ≤ size = let o = parts.1 in grind (arith, nat_tests) in
+    All-cons (λ (x : Begin). (x.from ≤ x.to) × (start + x.to ≤ end)) b bs (order, omega (arith, e, within)) (inside-all start end size bs e both.1)
+
+pub rows-right : (h : HeldBlock) (shape : ShapeValues) → IsHeld h → IsTrue (ends_last (seen_rows (laid_at shape h))) → map range_of (begins_of (seen_rows (laid_at shape h))) ≡ ranges_of None h.elements
+    → AreRowsOf h.block.start h.block.end (seen_rows (laid_at shape h))
+rows-right h shape held last begun =
+    let some = held.some in
+    let size : h.block.start + (h.block.end - h.block.start) ≡ h.block.end = omega (arith, some) in
+    let bs : List Begin = begins_of (seen_rows (laid_at shape h)) in
+    record {
+      ends = last;
+      inside = inside-all h.block.start h.block.end (h.block.end - h.block.start) bs size (ap (are_inside (h.block.end - h.block.start)) begun ∙ held.inside);
+      once = λ point low high.
+          let k : ℕ = point - h.block.start in
+          let at : h.block.start + k ≡ point = omega (arith, low) in
+          let one : count_by (in_range k) (ranges_of None h.elements) ≡ 1 = covered-at (h.block.end - h.block.start) k (ranges_of None h.elements) held.covers (omega (arith, low, high)) in
+          subst (λ (p : ℕ). count_by (covers h.block.start p) bs ≡ 1) at
+          (count-same (covers h.block.start (h.block.start + k)) (in_range k) bs (covers-moved h.block.start k) ∙ (ap (count_by (in_range k)) begun ∙ one));
+    }
+
+bases-of : (hs : List HeldBlock) → All IsHeld hs → All (λ b. b.base ≤ 1) (blocks_held hs)
+bases-of [] all = All-nil (λ (b : Block). b.base ≤ 1)
+bases-of (h ∷ hs) all = All-cons (λ (b : Block). b.base ≤ 1) h.block (blocks_held hs) (all zero h (omega arith)).base (bases-of hs (All-tail IsHeld h hs all))
+
+some-blocks : (hs : List HeldBlock) → 0 < length hs → 0 < length (blocks_held hs)
+some-blocks [] h = absurd (omega (arith, h))
+some-blocks (x ∷ xs) h = omega arith
+
+pub source-right : (hs : List HeldBlock) → AreHeld hs → 0 < length hs
+    → ((c : Cutting) (es : List Element) → HasLeads c → IsTrue (ends_once es) → IsTrue (ends_last (seen_rows (rows_of c es))))
+    → ((c : Cutting) (es : List Element) → HasLeads c → IsTrue (ends_once es) → map range_of (begins_of (seen_rows (rows_of c es))) ≡ ranges_of None es)
+    → ((shape : ShapeValues) (base : ℕ) (first wrap : List Element) (truncation continuation : Glyph) → shape.width ≤ 400 → IsPrefix first → IsPrefix wrap → HasLeads (cutting_of shape base first wrap truncation continuation))
+    → IsSource (source_of hs)
+source-right hs held some last begun leads = record {
+  blocks = record { some = some-blocks hs some; stand = held.stand; bases = bases-of hs held.lines };
+  rows = λ b shape among good.
+      let found = held-at hs among.0 b among.1 in
+      let h = found.held in
+      let is = all-at hs among.0 h held.lines found.there in
+      let lead = leads shape h.block.base h.first h.wrap h.truncation h.continuation good.most is.first is.wrap in
+      let there = laid-there (first_start (blocks_held hs)) among.0 hs h shape held.stand found.there in
+      subst (λ (x : Block). AreRowsOf x.start x.end (seen_rows (laid_from shape x.start hs))) found.block
+      (subst (λ (rs : List LaidRow). AreRowsOf h.block.start h.block.end (seen_rows rs)) (sym there) (rows-right h shape is (last _ h.elements lead is.end) (begun _ h.elements lead is.end)));
+}
+
+-- one more block
+
+stand-more : (from : ℕ) (bs : List Block) (b : Block) → StandFrom from bs → b.start ≡ end_from from bs → b.start < b.end → StandFrom from (bs ++ b ∷ [])
+stand-more from [] b h next some = (next, some, tt)
+stand-more from (a ∷ bs) b h next some = (h.0, h.1, stand-more a.end bs b h.2 next some)
+
+blocks-more : (hs : List HeldBlock) (h : HeldBlock) → blocks_held (hs ++ h ∷ []) ≡ blocks_held hs ++ h.block ∷ []
+blocks-more [] h = refl
+blocks-more (x ∷ xs) h = ap (λ bs. x.block ∷ bs) (blocks-more xs h)
+
+first-more : (bs : List Block) (b : Block) → StandFrom (first_start bs) bs → b.start ≡ end_from b.start bs → b.start < b.end → StandFrom (first_start (bs ++ b ∷ [])) (bs ++ b ∷ [])
+first-more [] b h next some = (refl, some, tt)
+first-more (a ∷ bs) b h next some = stand-more a.start (a ∷ bs) b h next some
+
+pub held-none : AreHeld []
+held-none = record { stand = tt; lines = All-nil IsHeld }
+
+pub held-more : (hs all : List HeldBlock) (h : HeldBlock) → AreHeld hs → IsHeld h → h.block.start ≡ end_from h.block.start (blocks_held hs) → all ≡ hs ++ h ∷ [] → AreHeld all
+held-more hs all h held one next push = rw push (record {
+  stand = rw (blocks-more hs h) (first-more (blocks_held hs) h.block held.stand next one.some);
+  lines = All-append IsHeld hs (h ∷ []) held.lines (All-cons IsHeld h [] one (All-nil IsHeld));
+})
+
+-- what the calls answer
+
+pub shown-made : (rs : List LaidRow) → shown_rows (made_rows rs) ≡ seen_rows rs
+shown-made rs = map-map _ _ rs
+
+pub next-place : (hs : List HeldBlock) (b : Block) (place : ℕ) (result : Option Block) → AreHeld hs → slice_get (blocks_held hs) place ≡ Some b → result ≡ slice_get (blocks_held hs) (place + 1)
+    → (k : ℕ) → slice_get (blocks_held hs) k ≡ Some b → result ≡ slice_get (blocks_held hs) (k + 1)
+next-place hs b place result held there is k h =
+    is ∙ ap (λ (n : ℕ). slice_get (blocks_held hs) (n + 1)) (same-place (first_start (blocks_held hs)) place k (blocks_held hs) b b held.stand there h refl)
+
+pub prev-place : (hs : List HeldBlock) (b : Block) (place : ℕ) (result : Option Block) → AreHeld hs → slice_get (blocks_held hs) place ≡ Some b → result ≡ block_before (blocks_held hs) place
+    → (k : ℕ) → slice_get (blocks_held hs) k ≡ Some b → result ≡ block_before (blocks_held hs) k
+prev-place hs b place result held there is k h =
+    is ∙ ap (block_before (blocks_held hs)) (same-place (first_start (blocks_held hs)) place k (blocks_held hs) b b held.stand there h refl)
+
+pub before-is : (bs : List Block) (k : ℕ) → 0 < k → block_before bs k ≡ slice_get bs (k - 1)
+before-is bs zero h = absurd (omega arith)
+before-is bs (suc k) h = let e : suc k - 1 ≡ k = omega arith in rw e refl
+
+-- the search for a block by its start
+
+abbrev pub NoneBefore : List HeldBlock → ℕ → ℕ → Type 0
+NoneBefore hs start n = (k : ℕ) (h : HeldBlock) → k < n → slice_get hs k ≡ Some h → h.block.start ≡ start → ⊥
+
+pub none-first : (hs : List HeldBlock) (start : ℕ) → NoneBefore hs start 0
+none-first hs start k h below there same = absurd (omega (arith, below))
+
+pub none-more : (hs : List HeldBlock) (start n : ℕ) (g : HeldBlock) → NoneBefore hs start n → slice_get hs n ≡ Some g → (g.block.start ≡ start → ⊥) → NoneBefore hs start (n + 1)
+none-more hs start n g none at differs k h below there same =
+    elim (cases_lt k n) as (λ _. ⊥) [
+      | inl less ↦ none k h less there same
+      | inr last ↦
+          let e : k ≡ n = omega (arith, last, below) in
+          let both : Some g ≡ Some h = sym at ∙ (ap (slice_get hs) (sym e) ∙ there) in
+          let here : g ≡ h = cc in
+          differs (ap (λ (x : HeldBlock). x.block.start) here ∙ same)
+    ]
+
+pub none-left : (hs : List HeldBlock) (n : ℕ) (b : Block) → NoneBefore hs b.start n → length hs ≤ n → IsAmong (blocks_held hs) b → ⊥
+none-left hs n b none all among =
+    let found = held-at hs among.0 b among.1 in
+    let below = slice_get_within hs among.0 found.held found.there in
+    none among.0 found.held (omega (arith, below, all)) found.there (ap (λ (x : Block). x.start) found.block)
+
+pub place-found : (hs : List HeldBlock) (n : ℕ) (g : HeldBlock) (b : Block) → AreHeld hs → IsAmong (blocks_held hs) b → slice_get hs n ≡ Some g → g.block.start ≡ b.start → slice_get (blocks_held hs) n ≡ Some b
+place-found hs n g b held among there same =
+    let at : slice_get (blocks_held hs) n ≡ Some g.block = slice_get-map (λ (x : HeldBlock). x.block) hs n ∙ ap (option_map (λ (x : HeldBlock). x.block)) there in
+    let e = same-place (first_start (blocks_held hs)) n among.0 (blocks_held hs) g.block b held.stand at among.1 same in
+    ap (slice_get (blocks_held hs)) e ∙ among.1
+
+-- the search for a position
+
+abbrev pub Passed : List HeldBlock → ℕ → ℕ → Type 0
+Passed hs pos n = (k : ℕ) (h : HeldBlock) → k < n → slice_get hs k ≡ Some h → h.block.end ≤ pos
+
+pub passed-first : (hs : List HeldBlock) (pos : ℕ) → Passed hs pos 0
+passed-first hs pos k h below there = absurd (omega (arith, below))
+
+pub passed-more : (hs : List HeldBlock) (pos n : ℕ) (g : HeldBlock) → Passed hs pos n → slice_get hs n ≡ Some g → g.block.end ≤ pos → Passed hs pos (n + 1)
+passed-more hs pos n g passed at past k h below there =
+    elim (cases_lt k n) as (λ _. h.block.end ≤ pos) [
+      | inl less ↦ passed k h less there
+      | inr last ↦
+          let e : k ≡ n = omega (arith, last, below) in
+          let both : Some g ≡ Some h = sym at ∙ (ap (slice_get hs) (sym e) ∙ there) in
+          let here : g ≡ h = cc in
+          let end_is = ap (λ (x : HeldBlock). x.block.end) here in
+          omega (arith, end_is, past)
+    ]
+
+start-before : (from pos k : ℕ) (hs : List HeldBlock) (h : HeldBlock) → StandFrom from (blocks_held hs) → from ≤ pos → Passed hs pos k → slice_get hs k ≡ Some h → h.block.start ≤ pos
+start-before from pos k [] h stand low passed there = absurd cc
+start-before from pos zero (g ∷ hs) h stand low passed there = let same : g ≡ h = cc in let start = ap (λ (x : HeldBlock). x.block.start) same in let first = stand.0 in omega (arith, start, first, low)
+start-before from pos (suc k) (g ∷ hs) h stand low passed there =
+    start-before g.block.end pos k hs h stand.2 (passed zero g (omega arith) refl) (λ j x below at. passed (suc j) x (omega (arith, below)) at) there
+
+pub holds-found : (hs : List HeldBlock) (pos n : ℕ) (h : HeldBlock) → AreHeld hs → IsWithin pos (blocks_held hs) → Passed hs pos n → slice_get hs n ≡ Some h → pos < h.block.end → HoldsPosition pos (blocks_held hs) h.block
+holds-found hs pos n h held within passed there below = record {
+  among = (n, slice_get-map (λ (x : HeldBlock). x.block) hs n ∙ ap (option_map (λ (x : HeldBlock). x.block)) there);
+  from = start-before (first_start (blocks_held hs)) pos n hs h held.stand within.0 passed there;
+  below = below;
+}
+
+end-passed : (from pos : ℕ) (hs : List HeldBlock) → from ≤ pos → ((k : ℕ) (h : HeldBlock) → slice_get hs k ≡ Some h → h.block.end ≤ pos) → end_from from (blocks_held hs) ≤ pos
+end-passed from pos [] low passed = low
+end-passed from pos (h ∷ hs) low passed = end-passed h.block.end pos hs (passed zero h refl) (λ k x at. passed (suc k) x at)
+
+pub passed-all : (hs : List HeldBlock) (pos n : ℕ) → Passed hs pos n → length hs ≤ n → IsWithin pos (blocks_held hs) → ⊥
+passed-all hs pos n passed all within =
+    let end = end-passed 0 pos hs (omega arith) (λ k x at. let below = slice_get_within hs k x at in passed k x (omega (arith, below, all)) at) in
+    let high = within.1 in
+    absurd (omega (arith, end, high))
+
+-- where there is a block
+
+pub among-some : (hs : List HeldBlock) (b : Block) → IsAmong (blocks_held hs) b → 0 < length hs
+among-some hs b among = let found = held-at hs among.0 b among.1 in let below = slice_get_within hs among.0 found.held found.there in omega (arith, below)
+
+pub within-some : (hs : List HeldBlock) (pos : ℕ) → IsWithin pos (blocks_held hs) → 0 < length hs
+within-some [] pos within = let high = within.1 in absurd (omega (arith, high))
+within-some (h ∷ hs) pos within = omega arith
+
+pub if-ok : {T E : Type 0} (r : Result T E) (P Q : T → Type 0) → ((x : T) → P x → Q x) → IfOk r P → IfOk r Q
+if-ok (Ok x) P Q f h = f x h
+if-ok (Err x) P Q f h = h
+
+pub rows-at : (b : Block) (shape : ShapeValues) (hs : List HeldBlock) (n : ℕ) (h : HeldBlock) → AreHeld hs → slice_get (blocks_held hs) n ≡ Some b → slice_get hs n ≡ Some h → laid_from shape b.start hs ≡ laid_at shape h
+rows-at b shape hs n h held block there =
+    let at : slice_get (blocks_held hs) n ≡ Some h.block = slice_get-map (λ (x : HeldBlock). x.block) hs n ∙ ap (option_map (λ (x : HeldBlock). x.block)) there in
+    let both : Some b ≡ Some h.block = sym block ∙ at in
+    let same : b ≡ h.block = cc in
+    ap (λ (x : Block). laid_from shape x.start hs) same ∙ laid-there (first_start (blocks_held hs)) n hs h shape held.stand there
+
+pub above-zero : (n : ℕ) → (n ≡ 0 → ⊥) → 0 < n
+above-zero zero h = absurd (h refl)
+above-zero (suc n) h = omega arith
+
+pub rows-there : (b : Block) (shape : ShapeValues) (now items : List HeldBlock) (n : ℕ) (h : HeldBlock) → AreHeld now → items ≡ now → slice_get (blocks_held now) n ≡ Some b → n < length now → h ≡ get_or items n h
+    → laid_from shape b.start now ≡ laid_at shape h
+rows-there b shape now items n h held same block below read =
+    rows-at b shape now n h held block (slice_get_read now (length now) n h refl below (read ∙ ap (λ xs. get_or xs n h) same))
