@@ -1,5 +1,5 @@
 -- One character of a line after another.
-use Rattle.std.proofs.Common.{◌≡◌, ℕ, zero, suc, ◌+◌, ◌-◌, ◌<◌, ◌≤◌, Bool, true, false, ◌&&◌, if◌then◌else◌, List, ◌∷◌, length, get_or, take, drop, map, Option, Some, None, refl, sym, ap, ◌∙◌, arith}
+use Rattle.std.proofs.Common.{◌≡◌, ℕ, zero, suc, ◌+◌, ◌-◌, ◌<◌, ◌≤◌, Bool, false, if◌then◌else◌, List, ◌∷◌, length, get_or, take, drop, map, Option, Some, None, refl, sym, ap, ◌∙◌, arith}
 use Rattle.std.specs.Prelude.{slice_range, ◌==◌}
 use Rattle.std.proofs.lemmas.List.{drop_more}
 use Rattle.std.proofs.lemmas.Bool.Decides.{nat_tests}
@@ -9,7 +9,6 @@ use Rattle.rd_base.specs.declared.class.Class.TheVariants.{L, R, AL, LRI, RLI, F
 use Rattle.rd_ucd.specs.declared.spans.Span.{Span}
 use Rattle.rd_ucd.specs.Lookup.{class_of}
 use Rattle.rd_para.specs.Strong.{decided_by, depth_after}
-use Rattle.rd_text.specs.Texts.{is_blank, is_separator}
 
 -- the first character of a range
 pub range_first : (xs : List ℕ) (p to : ℕ) → 1 ≤ p → p < to → to ≤ length xs + 1
@@ -21,22 +20,6 @@ range_first xs p to first order last =
     ap (λ (n : ℕ). take n (drop (p - 1) xs)) size
     ∙ ap (take (suc (to - 1 - (p + 1 - 1)))) here
     ∙ ap (λ (n : ℕ). get_or xs (p - 1) 0 ∷ take (to - 1 - (p + 1 - 1)) (drop n xs)) next
-
-pub blank_stops : (xs : List ℕ) (p to x : ℕ) (whole : Bool) → 1 ≤ p → p < to → to ≤ length xs + 1 → x ≡ get_or xs (p - 1) 0 → is_blank x ≡ false
-    → is_separator (slice_range xs (p - 1) (to - 1)) ≡ whole → false ≡ whole
-blank_stops xs p to x whole first order last at other is =
-    let here : is_separator (slice_range xs (p - 1) (to - 1)) ≡ (is_blank (get_or xs (p - 1) 0) && is_separator (slice_range xs (p + 1 - 1) (to - 1)))
-    = ap is_separator (range_first xs p to first order last) in
-    let no : is_blank (get_or xs (p - 1) 0) ≡ false = ap is_blank (sym at) ∙ other in
-    sym (ap (λ (t : Bool). t && is_separator (slice_range xs (p + 1 - 1) (to - 1))) no) ∙ sym here ∙ is
-
-pub blank_goes : (xs : List ℕ) (p to x : ℕ) (whole : Bool) → 1 ≤ p → p < to → to ≤ length xs + 1 → x ≡ get_or xs (p - 1) 0 → is_blank x ≡ true
-    → is_separator (slice_range xs (p - 1) (to - 1)) ≡ whole → is_separator (slice_range xs (p + 1 - 1) (to - 1)) ≡ whole
-blank_goes xs p to x whole first order last at blank is =
-    let here : is_separator (slice_range xs (p - 1) (to - 1)) ≡ (is_blank (get_or xs (p - 1) 0) && is_separator (slice_range xs (p + 1 - 1) (to - 1)))
-    = ap is_separator (range_first xs p to first order last) in
-    let yes : is_blank (get_or xs (p - 1) 0) ≡ true = ap is_blank (sym at) ∙ blank in
-    sym (ap (λ (t : Bool). t && is_separator (slice_range xs (p + 1 - 1) (to - 1))) yes) ∙ sym here ∙ is
 
 -- a character that decides
 strong_decided : (c : Class) (v : ℕ) (cs : List Class) → decided_by c ≡ Some v → strong_level 0 (c ∷ cs) ≡ Some v

@@ -8,7 +8,8 @@ use Rattle.std.proofs.lemmas.List.{length-take-le, length-drop, length-replicate
 use Rattle.std.proofs.lemmas.List.Splits.{slice_split_first}
 use Rattle.rd_text.specs.Texts.{TextValue, IsText, between, is_newline, next_newline}
 use Rattle.rd_ucd.specs.declared.spans.Span.{Span}
-use Rattle.rd_para.specs.Paragraphs.{is_separator, line_level, first_of, decided, level_by, levels_of}
+use Rattle.rd_text.specs.Texts.{is_separator}
+use Rattle.rd_para.specs.Paragraphs.{line_level, first_of, decided, level_by, levels_of}
 
 -- what is known of the line that begins at a position
 pub record IsCut (t : TextValue) (from to : ℕ) : Type 0 where

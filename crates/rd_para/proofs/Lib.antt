@@ -1,2 +1,4 @@
 mod Chars
 mod Cuts
+mod Inks
+mod Walks

@@ -1,2 +1,3 @@
+pub mod Known
 pub mod Paragraphs
 pub mod Strong

@@ -1,11 +1,11 @@
 -- Paragraphs of a text and their base levels. P2 and P3 of UAX 9 find the level of a line. What a paragraph is, P1 leaves open; that
 -- it has several lines, and what separates it from the next, are choices of this project.
-use Rattle.std.specs.Prelude.{◌≡◌, ℕ, ◌+◌, ◌-◌, ◌≤◌, Bool, false, not, ◌||◌, max, if◌then◌else◌, List, [], ◌∷◌, ◌++◌, length, map, replicate, slice_index, Option, None, Some, unwrap_or}
+use Rattle.std.specs.Prelude.{ℕ, ◌+◌, ◌-◌, Bool, false, not, ◌||◌, max, if◌then◌else◌, List, [], ◌∷◌, ◌++◌, length, map, replicate, slice_index, Option, None, Some, unwrap_or}
 use Rattle.std.specs.List.{slice_split}
 use Rattle.rd_base.specs.Classes.{strong_level}
 use Rattle.rd_base.specs.declared.settings.Direction.{Direction}
 use Rattle.rd_base.specs.declared.settings.Direction.TheVariants.{Auto, Left, Right}
-use Rattle.rd_text.specs.Texts.{TextValue, IsText, between, is_newline, is_separator, next_newline, prev_ink, IsParagraphStart}
+use Rattle.rd_text.specs.Texts.{TextValue, between, is_newline, is_separator, next_newline, prev_ink}
 use Rattle.rd_ucd.specs.declared.spans.Span.{Span}
 use Rattle.rd_ucd.specs.Lookup.{class_of}
 

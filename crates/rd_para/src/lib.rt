@@ -3,8 +3,7 @@
 
 mod level;
 mod line;
+mod paragraph;
 
-pub use level::base_level;
-
-#[cfg(test)]
-mod tests;
+pub use level::{base_level, paragraph_at};
+pub use paragraph::Paragraph;

@@ -1,28 +1,21 @@
 //! What one line of a text says of its paragraph.
 ghost use Rattle.std.specs.Prelude.{◌≡◌, ◌==◌, ◌≤◌, ◌<◌, ◌+◌, ◌-◌, if◌then◌else◌, None, length, slice_index};
-ghost use Rattle.rd_text.specs.Texts.{between};
+ghost use Rattle.rd_text.specs.Texts.{IsText, IsAccessible, between, is_separator, next_newline};
 ghost use Rattle.rd_para.specs.Strong.{decided_by, depth_after};
-ghost use Rattle.rd_para.specs.Paragraphs.{is_blank, is_separator, line_level};
+ghost use Rattle.rd_para.specs.Paragraphs.{line_level};
 
 use rd_base::{Ch, Class, Pos};
 use rd_text::Buffer;
 use rd_ucd::Classes;
 
-/// Whether the characters from one position to another, that one not included, are only spaces, tabs and form feeds.
+/// Whether the line from a position to its end is only spaces, tabs and form feeds.
 pub fn is_blank_line(text: &Buffer, from: Pos, to: Pos) -> bool
-    requires first { 1 ≤ from }
-    requires order { from ≤ to }
-    requires last { to ≤ length text.now.text + 1 }
+    requires right { IsText text.now }
+    requires place { IsAccessible text.now from }
+    requires end { to ≡ next_newline text.now from }
     ensures { result ≡ is_separator (between text.now from to) }
 {
-    let mut pos = from;
-    while pos < to {
-        if !is_blank_character(char_at(text, pos)) {
-            return false;
-        }
-        pos += 1;
-    }
-    true
+    text.prev_ink(to) <= from
 }
 
 /// The level that rules P2 and P3 find in the characters from one position to another, that one not included.
@@ -55,14 +48,6 @@ fn char_at(text: &Buffer, pos: Pos) -> Ch
         Some(ch) => ch,
         None => unreachable!(),
     }
-}
-
-/// A space, a tab or a form feed.
-fn is_blank_character(ch: Ch) -> bool
-    ensures { result ≡ is_blank ch }
-{
-    let code = ch.code();
-    code == 32 || code == 9 || code == 12
 }
 
 /// The level that a character in so many isolates decides.

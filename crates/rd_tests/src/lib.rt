@@ -43,6 +43,9 @@ mod order;
 mod overlays;
 
 #[cfg(test)]
+mod para;
+
+#[cfg(test)]
 mod props;
 
 #[cfg(test)]

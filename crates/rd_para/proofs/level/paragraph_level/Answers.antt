@@ -6,25 +6,6 @@ use Rattle.rd_para.specs.Paragraphs.{decided}
 use Rattle.rd_para.proofs.Cuts.{line_cut_at, some_line, decided_ends, decided_here, decided_next}
 use Rattle.rd_para.proofs.level.paragraph_level.Goals as goal
 
-pub is_blank_line-requires-clause-first : goal.is_blank_line-requires-clause-first
-is_blank_line-requires-clause-first c =
-    let first = c.lines.invariant.text.first in
-    let begin = c.lines.invariant.begin in
-    omega arith
-
-pub is_blank_line-requires-clause-last : goal.is_blank_line-requires-clause-last
-is_blank_line-requires-clause-last c =
-    let inv = c.lines.invariant in
-    let cut = line_cut_at c.args.text.now c.lines.from c.next_newline-to.result inv.text inv.begin inv.end c.next_newline-to.ensures in
-    let within = cut.within in
-    let last = inv.text.last in
-    omega arith
-
-pub is_blank_line-requires-clause-order : goal.is_blank_line-requires-clause-order
-is_blank_line-requires-clause-order c =
-    let inv = c.lines.invariant in
-    (line_cut_at c.args.text.now c.lines.from c.next_newline-to.result inv.text inv.begin inv.end c.next_newline-to.ensures).order
-
 pub returns-then-is_blank_line : goal.returns-then-is_blank_line
 returns-then-is_blank_line c =
     let inv = c.lines.invariant in

@@ -1,6 +1,6 @@
-//! A worked text of three paragraphs.
-use super::*;
+//! Base levels of three paragraphs.
 use rd_base::{Ch, Direction};
+use rd_para::{base_level, paragraph_at};
 use rd_text::Buffer;
 use rd_ucd::Classes;
 use std::test::Fail;
@@ -29,5 +29,7 @@ fn paragraphs_have_their_levels(rt: HostRuntime) -> Result<(), Fail> {
     assert!(rt; base_level(&text, &classes, Direction::Auto, 6) == 1);
     assert!(rt; base_level(&text, &classes, Direction::Auto, 7) == 0);
     assert!(rt; base_level(&text, &classes, Direction::Right, 7) == 1);
+    let known = paragraph_at(&text, &classes, 4);
+    assert!(rt; (known.from, known.to, known.base) == (1, 5, 1));
     Ok(())
 }

@@ -1,0 +1,350 @@
+-- The levels of a text from the start of a paragraph on.
+use Rattle.std.proofs.Common.{◌≡◌, ℕ, zero, suc, ◌+◌, ◌-◌, ◌<◌, ◌≤◌, ◌⊎◌, Bool, true, false, ◌||◌, not, if◌then◌else◌, List, ◌∷◌, length, get_or, inl, inr, None, refl, sym, ap, subst, ◌∙◌, arith}
+use Rattle.std.specs.Prelude.{unwrap_or, max}
+use Rattle.std.specs.List.{slice_split}
+use Rattle.std.proofs.lemmas.Bool.{cases_lt}
+use Rattle.rd_text.specs.Texts.{TextValue, IsText, between, is_newline, is_ink, is_separator, next_newline, prev_ink, IsLineStart, EndsSeparator, IsParagraphStart}
+use Rattle.rd_ucd.specs.declared.spans.Span.{Span}
+use Rattle.rd_para.specs.Paragraphs.{line_level, first_of, decided, level_by, levels_of, text_level}
+use Rattle.rd_para.proofs.Cuts.{line_cut, line_length, some_line, levels_here, levels_next}
+use Rattle.rd_para.proofs.Inks.{clash, blank_else, blank_not_ink, newline_not_ink, next_before, next_at, ink_after, ink_at, prev_ink_bound, all_blank, blank_at}
+
+or_true : (b : Bool) → (b || true) ≡ true
+or_true true = refl
+or_true false = refl
+
+bool_cases : (b : Bool) → (b ≡ true) ⊎ (b ≡ false)
+bool_cases true = inl refl
+bool_cases false = inr refl
+
+-- the lines from a position on
+abbrev pub rows : TextValue → ℕ → List (List ℕ)
+rows t from = slice_split is_newline (between t from t.end)
+
+-- the levels from a line on, by the level and the kind of the line before it
+pub record Reached (classes : List Span) (t : TextValue) (from : ℕ) : Type 0 where
+  pub last : ℕ
+  pub inside : Bool
+  pub rest : (p : ℕ) → from ≤ p → p ≤ t.end → text_level classes t p ≡ get_or (levels_of classes last inside (rows t from)) (p - from) 0
+
+-- the line before a position, with the levels from that position on
+pub record ReachedBehind (classes : List Span) (t : TextValue) (from : ℕ) : Type 0 where
+  pub start : ℕ
+  pub begins : IsLineStart t start
+  pub first : t.begin ≤ start
+  pub order : start < from
+  pub clear : (k : ℕ) → start ≤ k → k < from - 1 → is_newline (get_or t.text (k - 1) 0) ≡ false
+  pub reached : Reached classes t from
+  pub inside_is : reached.inside ≡ not (is_separator (between t start (from - 1)))
+  pub last_is : reached.last ≡ text_level classes t (from - 1)
+
+-- the levels from the start of a paragraph on
+pub record FromStart (classes : List Span) (t : TextValue) (start : ℕ) : Type 0 where
+  pub last : ℕ
+  pub none : start ≡ t.begin → last ≡ 0
+  pub rest : (p : ℕ) → start ≤ p → p ≤ t.end → text_level classes t p ≡ get_or (levels_of classes last false (rows t start)) (p - start) 0
+
+module _ (classes : List Span) (t : TextValue) (right : IsText t) where
+  abbrev from_begin : Reached classes t t.begin
+  from_begin = record { last = 0; inside = false; rest = λ p low high. refl }
+
+  -- the level of a line
+  line_is : (from : ℕ) (r : Reached classes t from) → t.begin ≤ from → from ≤ t.end → (p : ℕ) → from ≤ p → p ≤ next_newline t from
+      → (lines : List (List ℕ)) → rows t from ≡ between t from (next_newline t from) ∷ lines
+      → text_level classes t p ≡ level_by classes r.last r.inside (between t from (next_newline t from)) lines
+  line_is from r low high p at within lines cut =
+      let to = next_newline t from in
+      let c = line_cut t from right low high in
+      let order = c.order in
+      let inside = c.within in
+      let size = line_length t from to right low order inside in
+      r.rest p at (omega arith)
+      ∙ sym (levels_here classes r.last r.inside (between t from to) lines (rows t from) (p - from) (get_or (levels_of classes r.last r.inside (rows t from)) (p - from) 0) cut (omega arith) refl)
+
+  -- one line further
+  abbrev step : (from : ℕ) → Reached classes t from → t.begin ≤ from → from ≤ t.end → next_newline t from < t.end → Reached classes t (next_newline t from + 1)
+  step from r low high more =
+      let to = next_newline t from in
+      let c = line_cut t from right low high in
+      let order = c.order in
+      let size = line_length t from to right low order c.within in
+      let line = between t from to in
+      record {
+        last = level_by classes r.last r.inside line (rows t (to + 1));
+        inside = not (is_separator line);
+        rest = λ p at within.
+            let place : p - from - (length line + 1) ≡ p - (to + 1) = omega arith in
+            r.rest p (omega arith) within
+            ∙ sym (levels_next classes r.last r.inside line (rows t (to + 1)) (rows t from) (p - from) (get_or (levels_of classes r.last r.inside (rows t from)) (p - from) 0) (c.more more) (omega arith) refl)
+            ∙ ap (λ (n : ℕ). get_or (levels_of classes (level_by classes r.last r.inside line (rows t (to + 1))) (not (is_separator line)) (rows t (to + 1))) n 0) place;
+      }
+
+  behind : (from : ℕ) → Reached classes t from → IsLineStart t from → t.begin ≤ from → from ≤ t.end → next_newline t from < t.end → ReachedBehind classes t (next_newline t from + 1)
+  behind from r begins low high more =
+      let to = next_newline t from in
+      let c = line_cut t from right low high in
+      let order = c.order in
+      let back : to + 1 - 1 ≡ to = omega arith in
+      record {
+        start = from;
+        begins = begins;
+        first = low;
+        order = omega arith;
+        clear = λ k at less. next_before t right from k low high at (omega arith) (omega arith);
+        reached = step from r low high more;
+        inside_is = ap (λ (n : ℕ). not (is_separator (between t from n))) (sym back);
+        last_is = sym (ap (text_level classes t) back ∙ line_is from r low high to order (omega arith) (rows t (to + 1)) (c.more more));
+      }
+
+  reach : (n from to : ℕ) → to ≤ from + n → Reached classes t from → IsLineStart t from → t.begin ≤ from → from < to → to ≤ t.end → is_newline (get_or t.text (to - 1 - 1) 0) ≡ true
+      → ReachedBehind classes t to
+  reach zero from to room r begins low less high newline = absurd (omega arith)
+  reach (suc n) from to room r begins low less high newline = elim (cases_lt (to - 1) (next_newline t from)) [
+    | inl past ↦ clash _ newline (next_before t right from (to - 1) low (omega arith) (omega arith) past (omega arith))
+    | inr found ↦
+        let c = line_cut t from right low (omega arith) in
+        let order = c.order in
+        elim (cases_lt (next_newline t from + 1) to) [
+          | inl before ↦ reach n (next_newline t from + 1) to (omega arith) (step from r low (omega arith) (omega arith))
+              (inr (omega arith, ap (λ (k : ℕ). is_newline (get_or t.text k 0)) (let e : next_newline t from + 1 - 1 - 1 ≡ next_newline t from - 1 = omega arith in e) ∙ next_at t right from low (omega arith) (omega arith)))
+              (omega arith) before high newline
+          | inr here ↦
+              let e : next_newline t from + 1 ≡ to = omega arith in
+              subst (ReachedBehind classes t) e (behind from r begins low (omega arith) (omega arith))
+        ]
+  ]
+
+  -- the line before a paragraph is one of blanks alone
+  from_start : (start : ℕ) → start ≤ t.end → (start ≡ t.begin) ⊎ EndsSeparator t start → FromStart classes t start
+  from_start start high (inl is) = record {
+    last = 0;
+    none = λ _. refl;
+    rest = λ p at within.
+        let C : ℕ → Type 0 = λ n. text_level classes t p ≡ get_or (levels_of classes 0 false (rows t n)) (p - n) 0 in
+        subst C (sym is) (from_begin.rest p (omega arith) within);
+  }
+  from_start start high (inr e) =
+      let ordered = right.ordered in
+      let order = e.order in
+      let low : t.begin ≤ e.start = elim e.begins [ inl is ↦ omega arith | inr more ↦ let h = more.0 in omega arith ] in
+      let b = reach start t.begin start (omega arith) from_begin (inl refl) (omega arith) (omega arith) high e.newline in
+      let first = b.first in
+      let b_order = b.order in
+      let same : e.start ≤ b.start = elim (cases_lt b.start e.start) [
+        | inr not_past ↦ not_past
+        | inl past ↦ elim e.begins [
+          | inl is ↦ absurd (omega arith)
+          | inr line ↦ clash _ line.1 (b.clear (e.start - 1) (omega arith) (omega arith))
+        ]
+      ] in
+      let blank : is_separator (between t b.start (start - 1)) ≡ true
+      = all_blank t right b.start (start - 1) first (omega arith) (omega arith) (λ k at less. blank_at t right e.start (start - 1) k low (omega arith) less (omega arith) e.blank) in
+      let outside : b.reached.inside ≡ false = b.inside_is ∙ ap not blank in
+      record {
+        last = b.reached.last;
+        none = λ is. absurd (omega arith);
+        rest = λ p at within.
+            b.reached.rest p at within ∙ ap (λ (v : Bool). get_or (levels_of classes b.reached.last v (rows t start)) (p - start) 0) outside;
+      }
+
+  -- a paragraph, from its start up to the line of a position: `place` is the last character up to that line's end that is
+  -- neither newline nor blank, or the beginning
+  module _ (pos place start : ℕ) (low : t.begin ≤ pos) (high : pos ≤ t.end) (from_low : t.begin ≤ place) (within : place ≤ next_newline t pos) (begins : IsParagraphStart t place start)
+      (no_ink : (k : ℕ) → place < k → k < next_newline t pos → is_ink (get_or t.text (k - 1) 0) ≡ false)
+      (ink : (place ≡ t.begin) ⊎ ((place < next_newline t pos) × (is_ink (get_or t.text (place - 1) 0) ≡ true))) where
+    -- no line that ends up to the end of the position's line goes beyond it
+    ends_within : (from p : ℕ) → t.begin ≤ from → from ≤ p → p ≤ next_newline t pos → next_newline t from ≤ next_newline t pos
+    ends_within from p at order p_high = elim (cases_lt (next_newline t pos) (next_newline t from)) [
+      | inr fine ↦ fine
+      | inl past ↦
+          let c = line_cut t from right at (let h = (line_cut t pos right low high).within in omega arith) in
+          let h = c.within in
+          let here = next_at t right pos low high (omega arith) in
+          clash _ here (next_before t right from (next_newline t pos) at (omega arith) (omega arith) past (omega arith))
+    ]
+
+    -- a line of blanks alone lies behind the place
+    past_place : (from : ℕ) → start ≤ from → IsLineStart t from → from ≤ t.end → next_newline t from < t.end → is_separator (between t from (next_newline t from)) ≡ true → place < next_newline t from + 1
+    past_place from at line high' more blank = elim (cases_lt place (next_newline t from + 1)) [
+      | inl fine ↦ fine
+      | inr past ↦
+          let to = next_newline t from in
+          let first = begins.first in
+          let c = line_cut t from right (omega arith) high' in
+          let order = c.order in
+          let back : to + 1 - 1 ≡ to = omega arith in
+          absurd (begins.last (to + 1) (omega arith) past (record {
+            start = from;
+            begins = line;
+            order = omega arith;
+            newline = ap (λ (k : ℕ). is_newline (get_or t.text k 0)) (let e : to + 1 - 1 - 1 ≡ to - 1 = omega arith in e) ∙ next_at t right from (omega arith) high' more;
+            blank = ap (λ (n : ℕ). is_separator (between t from n)) back ∙ blank;
+          }))
+    ]
+
+    blank_behind : (from p : ℕ) → t.begin ≤ from → from ≤ p → p ≤ next_newline t pos → place < from → is_separator (between t from (next_newline t from)) ≡ true
+    blank_behind from p at order p_high past =
+        let e_high = (line_cut t pos right low high).within in
+        let c = line_cut t from right at (omega arith) in
+        let ends = ends_within from p at order p_high in
+        let c_order = c.order in
+        let c_within = c.within in
+        all_blank t right from (next_newline t from) at c_order c_within
+        (λ k lo hi. blank_else (get_or t.text (k - 1) 0) (next_before t right from k at (omega arith) lo hi (omega arith)) (no_ink k (omega arith) (omega arith)))
+
+    stays : (n from p : ℕ) (level : ℕ) (inside : Bool) → t.end < from + n → start ≤ from → IsLineStart t from → from ≤ p → p ≤ next_newline t pos → (inside ≡ true) ⊎ (place < from)
+        → get_or (levels_of classes level inside (rows t from)) (p - from) 0 ≡ level
+    stays zero from p level inside room at line order p_high kind =
+        let e_high = (line_cut t pos right low high).within in
+        absurd (omega arith)
+    stays (suc n) from p level inside room at line order p_high kind =
+        let e_high = (line_cut t pos right low high).within in
+        let first = begins.first in
+        let to = next_newline t from in
+        let c = line_cut t from right (omega arith) (omega arith) in
+        let c_order = c.order in
+        let c_within = c.within in
+        let size = line_length t from to right (omega arith) c_order c_within in
+        let text = between t from to in
+        let one : (lines : List (List ℕ)) → level_by classes level inside text lines ≡ level = λ lines. elim kind [
+          | inl is ↦ ap (λ (b : Bool). if is_separator text || b then level else unwrap_or (decided classes (text ∷ lines)) 0) is
+              ∙ ap (λ (b : Bool). if b then level else unwrap_or (decided classes (text ∷ lines)) 0) (or_true (is_separator text))
+          | inr past ↦ ap (λ (b : Bool). if b || inside then level else unwrap_or (decided classes (text ∷ lines)) 0) (blank_behind from p (omega arith) order p_high past)
+        ] in
+        elim (cases_lt to p) [
+          | inr here ↦
+              let some = some_line t from to c in
+              sym (levels_here classes level inside text some.0 (rows t from) (p - from) (get_or (levels_of classes level inside (rows t from)) (p - from) 0) some.1 (omega arith) refl) ∙ one some.0
+          | inl further ↦
+              let more : to < t.end = omega arith in
+              let place_is : p - from - (length text + 1) ≡ p - (to + 1) = omega arith in
+              let next_line : IsLineStart t (to + 1)
+              = inr (omega arith, ap (λ (k : ℕ). is_newline (get_or t.text k 0)) (let e : to + 1 - 1 - 1 ≡ to - 1 = omega arith in e) ∙ next_at t right from (omega arith) (omega arith) more) in
+              let next_kind : (not (is_separator text) ≡ true) ⊎ (place < to + 1) = elim (bool_cases (is_separator text)) [
+                | inl blank ↦ inr (past_place from at line (omega arith) more blank)
+                | inr other ↦ inl (ap not other)
+              ] in
+              sym (levels_next classes level inside text (rows t (to + 1)) (rows t from) (p - from) (get_or (levels_of classes level inside (rows t from)) (p - from) 0) (c.more more) (omega arith) refl)
+              ∙ ap (λ (k : ℕ). get_or (levels_of classes (level_by classes level inside text (rows t (to + 1))) (not (is_separator text)) (rows t (to + 1))) k 0) place_is
+              ∙ ap (λ (v : ℕ). get_or (levels_of classes v (not (is_separator text)) (rows t (to + 1))) (p - (to + 1)) 0) (one (rows t (to + 1)))
+              ∙ stays n (to + 1) p level (not (is_separator text)) (omega arith) (omega arith) next_line (omega arith) p_high next_kind
+        ]
+
+    -- the line that begins the paragraph
+    begins_line : IsLineStart t start
+    begins_line = elim begins.begins [
+      | inl is ↦ inl is
+      | inr e ↦
+          let order = e.order in
+          let e_low : t.begin ≤ e.start = elim e.begins [ inl is ↦ omega arith | inr more ↦ let h = more.0 in omega arith ] in
+          inr (omega arith, e.newline)
+    ]
+
+    -- where its first line is blank there is no other character
+    no_text : is_separator (between t start (next_newline t start)) ≡ true → start ≡ t.begin
+    no_text blank =
+        let first = begins.first in
+        let b_order = begins.order in
+        let e_high = (line_cut t pos right low high).within in
+        let to = next_newline t start in
+        let c = line_cut t start right first (omega arith) in
+        let c_order = c.order in
+        let c_within = c.within in
+        elim ink [
+          | inl is ↦ omega arith
+          | inr some ↦
+              let some_at = some.0 in
+              elim (cases_lt place to) [
+                | inl inner ↦ clash _ some.1 (blank_not_ink (get_or t.text (place - 1) 0) (blank_at t right start to place first b_order inner c_within blank))
+                | inr outer ↦ elim (cases_lt to t.end) [
+                  | inr last ↦ absurd (omega arith)
+                  | inl more ↦
+                      let past = past_place start (omega arith) begins_line (omega arith) more blank in
+                      let same : place ≡ to = omega arith in
+                      clash _ some.1 (newline_not_ink (get_or t.text (place - 1) 0) (ap (λ (n : ℕ). is_newline (get_or t.text (n - 1) 0)) same ∙ next_at t right start first (omega arith) more))
+                ]
+              ]
+        ]
+
+    -- each position from the start up to the end of the position's line has the level that the paragraph's lines give
+    pub level_is : (p : ℕ) → start ≤ p → p ≤ next_newline t pos → text_level classes t p ≡ unwrap_or (decided classes (rows t start)) 0
+    level_is p at p_high =
+        let e_high = (line_cut t pos right low high).within in
+        let first = begins.first in
+        let b_order = begins.order in
+        let f = from_start start (omega arith) begins.begins in
+        let to = next_newline t start in
+        let c = line_cut t start right first (omega arith) in
+        let c_order = c.order in
+        let c_within = c.within in
+        let size = line_length t start to right first c_order c_within in
+        let text = between t start to in
+        let some = some_line t start to c in
+        let whole : ℕ = unwrap_or (decided classes (rows t start)) 0 in
+        let one : (lines : List (List ℕ)) → rows t start ≡ text ∷ lines → level_by classes f.last false text lines ≡ whole = λ lines cut. elim (bool_cases (is_separator text)) [
+          | inr other ↦ ap (λ (b : Bool). if b || false then f.last else unwrap_or (decided classes (text ∷ lines)) 0) other
+              ∙ ap (λ (ls : List (List ℕ)). unwrap_or (decided classes ls) 0) (sym cut)
+          | inl blank ↦
+              let nothing : f.last ≡ 0 = f.none (no_text blank) in
+              ap (λ (b : Bool). if b || false then f.last else unwrap_or (decided classes (text ∷ lines)) 0) blank ∙ nothing
+              ∙ sym (ap (λ (ls : List (List ℕ)). unwrap_or (decided classes ls) 0) cut
+              ∙ ap (λ (b : Bool). unwrap_or (if b then None else first_of (line_level classes text) (decided classes lines)) 0) blank)
+        ] in
+        f.rest p at (omega arith) ∙ elim (cases_lt to p) [
+          | inr here ↦
+              sym (levels_here classes f.last false text some.0 (rows t start) (p - start) (get_or (levels_of classes f.last false (rows t start)) (p - start) 0) some.1 (omega arith) refl) ∙ one some.0 some.1
+          | inl further ↦
+              let more : to < t.end = omega arith in
+              let place_is : p - start - (length text + 1) ≡ p - (to + 1) = omega arith in
+              let next_line : IsLineStart t (to + 1)
+              = inr (omega arith, ap (λ (k : ℕ). is_newline (get_or t.text k 0)) (let e : to + 1 - 1 - 1 ≡ to - 1 = omega arith in e) ∙ next_at t right start first (omega arith) more) in
+              let next_kind : (not (is_separator text) ≡ true) ⊎ (place < to + 1) = elim (bool_cases (is_separator text)) [
+                | inl blank ↦ inr (past_place start (omega arith) begins_line (omega arith) more blank)
+                | inr other ↦ inl (ap not other)
+              ] in
+              sym (levels_next classes f.last false text (rows t (to + 1)) (rows t start) (p - start) (get_or (levels_of classes f.last false (rows t start)) (p - start) 0) (c.more more) (omega arith) refl)
+              ∙ ap (λ (k : ℕ). get_or (levels_of classes (level_by classes f.last false text (rows t (to + 1))) (not (is_separator text)) (rows t (to + 1))) k 0) place_is
+              ∙ ap (λ (v : ℕ). get_or (levels_of classes v (not (is_separator text)) (rows t (to + 1))) (p - (to + 1)) 0) (one (rows t (to + 1)) (c.more more))
+              ∙ stays t.end (to + 1) p whole (not (is_separator text)) (omega arith) (omega arith) next_line (omega arith) p_high next_kind
+        ]
+
+-- the start of a paragraph, by the places that the code finds, stands before the position
+pub start_before : (t : TextValue) (right : IsText t) (pos ink place start : ℕ) → t.begin ≤ pos → pos ≤ t.end → ink ≡ prev_ink t (next_newline t pos) → place ≡ max t.begin (ink - 1)
+    → IsParagraphStart t place start → start ≤ pos
+start_before t right pos ink place start low high ink_is place_is begins = elim (cases_lt pos start) [
+  | inr fine ↦ fine
+  | inl past ↦
+      let to = next_newline t pos in
+      let c = line_cut t pos right low high in
+      let order = c.order in
+      let within = c.within in
+      let bound = prev_ink_bound t right to (omega arith) within in
+      let ink_high = bound.1 in
+      let b_order = begins.order in
+      elim begins.begins [
+        | inl is ↦ absurd (omega arith)
+        | inr e ↦ clash _ e.newline (next_before t right pos (start - 1) low high (omega arith) (omega arith) (omega arith))
+      ]
+]
+
+-- and each position from there on has the level that the paragraph's lines give
+pub paragraph_is : (classes : List Span) (t : TextValue) (right : IsText t) (pos ink place start : ℕ) → t.begin ≤ pos → pos ≤ t.end → ink ≡ prev_ink t (next_newline t pos) → place ≡ max t.begin (ink - 1)
+    → IsParagraphStart t place start → (p : ℕ) → start ≤ p → p ≤ next_newline t pos → text_level classes t p ≡ unwrap_or (decided classes (rows t start)) 0
+paragraph_is classes t right pos ink place start low high ink_is place_is begins p at p_high =
+    let first = right.first in
+    let to = next_newline t pos in
+    let c = line_cut t pos right low high in
+    let order = c.order in
+    let within = c.within in
+    let bound = prev_ink_bound t right to (omega arith) within in
+    let ink_low = bound.0 in
+    let ink_high = bound.1 in
+    level_is classes t right pos place start low high (omega arith) (omega arith) begins
+    (λ k past before. ink_after t right to k (omega arith) within (omega arith) (omega arith) before)
+    (elim (cases_lt t.begin (prev_ink t to)) [
+      | inl some ↦
+          let there : place ≡ prev_ink t to - 1 = omega arith in
+          inr (omega arith, ap (λ (n : ℕ). is_ink (get_or t.text (n - 1) 0)) there ∙ ink_at t right to (omega arith) within some)
+      | inr none ↦ inl (omega arith)
+    ])
+    p at p_high

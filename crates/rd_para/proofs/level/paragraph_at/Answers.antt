@@ -1,0 +1,94 @@
+use Rattle.std.proofs.Common.{◌-◌, ℕ, sym, ap, subst, ◌∙◌, arith}
+use Rattle.std.specs.Prelude.{max}
+use Rattle.rd_text.specs.Texts.{IsParagraphStart, prev_ink}
+use Rattle.rd_para.proofs.Cuts.{line_cut}
+use Rattle.rd_para.proofs.Inks.{prev_ink_bound}
+use Rattle.rd_para.proofs.Walks.{paragraph_is, start_before}
+use Rattle.rd_para.proofs.level.paragraph_at.Goals as goal
+
+pub prev_ink-requires : goal.prev_ink-requires
+prev_ink-requires c =
+    let cut = line_cut c.args.text.now c.args.pos c.begin-begin.ensures.right c.requires.0 c.requires.1 in
+    let order = cut.order in
+    let within = cut.within in
+    let low = c.requires.0 in
+    let is = c.next_newline-to.ensures in
+    (omega arith, omega arith)
+
+pub overflow_sub-prev_ink : goal.overflow_sub-prev_ink
+overflow_sub-prev_ink c =
+    let t = c.args.text.now in
+    let right = c.begin-begin.ensures.right in
+    let first = right.first in
+    let cut = line_cut t c.args.pos right c.requires.0 c.requires.1 in
+    let order = cut.order in
+    let within = cut.within in
+    let low = c.requires.0 in
+    let is = c.next_newline-to.ensures in
+    let bound = prev_ink_bound t right c.next_newline-to.result (omega arith) (omega arith) in
+    let ink = c.prev_ink.ensures in
+    let ink_low = bound.0 in
+    omega arith
+
+pub paragraph_start-from-requires : goal.paragraph_start-from-requires
+paragraph_start-from-requires c =
+    let t = c.args.text.now in
+    let right = c.begin-begin.ensures.right in
+    let value = c.begin-begin.ensures.value in
+    let ordered = right.ordered in
+    let cut = line_cut t c.args.pos right c.requires.0 c.requires.1 in
+    let order = cut.order in
+    let within = cut.within in
+    let low = c.requires.0 in
+    let is = c.next_newline-to.ensures in
+    let bound = prev_ink_bound t right c.next_newline-to.result (omega arith) (omega arith) in
+    let ink = c.prev_ink.ensures in
+    let ink_high = bound.1 in
+    let max = c.max-place.ensures in
+    (omega arith, omega arith)
+
+pub paragraph_level-requires : goal.paragraph_level-requires
+paragraph_level-requires c =
+    let t = c.args.text.now in
+    let right = c.begin-begin.ensures.right in
+    let value = c.begin-begin.ensures.value in
+    let ordered = right.ordered in
+    let cut = line_cut t c.args.pos right c.requires.0 c.requires.1 in
+    let within = cut.within in
+    let order = cut.order in
+    let low = c.requires.0 in
+    let is = c.next_newline-to.ensures in
+    let bound = prev_ink_bound t right c.next_newline-to.result (omega arith) (omega arith) in
+    let ink = c.prev_ink.ensures in
+    let ink_high = bound.1 in
+    let max = c.max-place.ensures in
+    let start = c.paragraph_start-from.ensures in
+    let start_low = start.first in
+    let start_high = start.order in
+    (start_low, omega arith)
+
+pub returns : goal.returns
+returns c =
+    let t = c.args.text.now in
+    let classes = c.args.classes.now in
+    let right = c.begin-begin.ensures.right in
+    let value = c.begin-begin.ensures.value in
+    let is = c.next_newline-to.ensures in
+    let ink_is = c.prev_ink.ensures ∙ ap (prev_ink t) is in
+    let place_is = c.max-place.ensures ∙ ap (λ (n : ℕ). max n (c.prev_ink.result - 1)) value in
+    let start = c.paragraph_start-from.ensures in
+    let from = c.paragraph_start-from.result in
+    let level = paragraph_is classes t right c.args.pos c.prev_ink.result c.max-place.result from c.requires.0 c.requires.1 ink_is place_is start in
+    let cut = line_cut t c.args.pos right c.requires.0 c.requires.1 in
+    let order = cut.order in
+    let start_high = start.order in
+    let before = start_before t right c.args.pos c.prev_ink.result c.max-place.result from c.requires.0 c.requires.1 ink_is place_is start in
+    let whole = place_is ∙ ap (λ (n : ℕ). max t.begin (n - 1)) ink_is in
+    record {
+      first = subst (λ (n : ℕ). IsParagraphStart t n from) whole start;
+      last = is;
+      low = before;
+      high = omega arith;
+      base = c.paragraph_level.ensures ∙ sym (level c.args.pos before order);
+      same = λ p low high. level p low (omega arith) ∙ sym c.paragraph_level.ensures;
+    }
