@@ -1,6 +1,6 @@
-//! Runs of positions with one value.
+//! Runs of places with one value.
 
-/// The positions from the end of the run before it up to `end`, which is not one of them, and their value.
+/// The places from the end of the run before it up to `end`, which is not one of them, and their value.
 #[derive(Clone, Copy, Debug, PartialEq, Eq)]
 pub struct Run {
     pub end: u64,

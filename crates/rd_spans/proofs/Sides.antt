@@ -1,0 +1,439 @@
+-- The runs on one side of the gap.
+use Rattle.std.proofs.Common.{◌≡◌, ℕ, zero, suc, ◌+◌, ◌-◌, ◌<◌, ◌≤◌, Bool, true, false, if◌then◌else◌, List, [], ◌∷◌, ◌++◌, length, length-append, append_assoc, append-nil, replicate, take, Option, None, Some, inl, inr, refl, sym, ap, subst, ◌∙◌, arith}
+use Rattle.std.specs.Prelude.{is_some, min, nat_lt, nat_eq, slice_get, slice_index_or, reverse}
+use Rattle.std.proofs.lemmas.Bool.Decides.{nat_tests}
+use Rattle.std.proofs.lemmas.Bool.{eqb-true, eq-eqb, lt-ltb, le-ltb, cases_lt}
+use Rattle.std.proofs.lemmas.List.{replicate-append-replicate, length-replicate, take_all, length-reverse, reverse-append, get_or_append_left, get_or-append_right, get_or-replicate, get_or_past, get_or-reverse, take-append-le}
+use Rattle.rd_spans.specs.declared.run.Run.{Run}
+use Rattle.rd_spans.specs.Values.{value_at, IsTrimmed}
+use Rattle.rd_spans.specs.Sides.{values_from, values_of, Rises, reach, size_of, value_in, top, same_value, has_value, meet, needs, joined, AreMoved, GapMoved}
+
+-- values
+
+pub same_value-true : (a b : Option ℕ) → same_value a b ≡ true → a ≡ b
+same_value-true None None h = refl
+same_value-true None (Some b) h = cc
+same_value-true (Some a) None h = cc
+same_value-true (Some a) (Some b) h = ap Some (eqb-true a b h)
+
+pub same_value-refl : (a : Option ℕ) → same_value a a ≡ true
+same_value-refl None = refl
+same_value-refl (Some a) = eq-eqb a a refl
+
+-- runs and a last one
+
+pub reach-push : (k : ℕ) (rs : List Run) (r : Run) → reach k (rs ++ r ∷ []) ≡ r.end
+reach-push k [] r = refl
+reach-push k (q ∷ rs) r = reach-push q.end rs r
+
+pub reach-least : (k : ℕ) (rs : List Run) → Rises k rs → k ≤ reach k rs
+reach-least k [] h = omega arith
+reach-least k (r ∷ rs) h = omega (arith, h.0, reach-least r.end rs h.1)
+
+pub rises-push : (k : ℕ) (rs : List Run) (r : Run) → Rises k rs → reach k rs < r.end → Rises k (rs ++ r ∷ [])
+rises-push k [] r h p = (p, tt)
+rises-push k (q ∷ rs) r h p = (h.0, rises-push q.end rs r h.1 p)
+
+pub rises-parts : (k : ℕ) (rs : List Run) (r : Run) → Rises k (rs ++ r ∷ []) → Rises k rs × (reach k rs < r.end)
+rises-parts k [] r h = (tt, h.0)
+rises-parts k (q ∷ rs) r h = let rest = rises-parts q.end rs r h.1 in ((h.0, rest.0), rest.1)
+
+pub values-push : (k : ℕ) (rs : List Run) (r : Run) → values_from k (rs ++ r ∷ []) ≡ values_from k rs ++ replicate (r.end - reach k rs) r.value
+values-push k [] r = append-nil (replicate (r.end - k) r.value)
+values-push k (q ∷ rs) r = rw (values-push q.end rs r, append_assoc) refl
+
+pub top-push : (rs : List Run) (r : Run) → top (rs ++ r ∷ []) ≡ Some r
+top-push [] r = refl
+top-push (q ∷ []) r = refl
+top-push (q ∷ (s ∷ rs)) r = top-push (s ∷ rs) r
+
+length-push : (rs : List Run) (r : Run) → length (rs ++ r ∷ []) ≡ length rs + 1
+length-push rs r = length-append rs (r ∷ [])
+
+pub length-values : (k : ℕ) (rs : List Run) → Rises k rs → length (values_from k rs) + k ≡ reach k rs
+length-values k [] h = omega arith
+length-values k (r ∷ rs) h =
+    omega (arith, length-append (replicate (r.end - k) r.value) (values_from r.end rs), length-replicate (r.end - k) r.value, length-values r.end rs h.1, h.0)
+
+pub size-values : (rs : List Run) → Rises 0 rs → length (values_of rs) ≡ size_of rs
+size-values rs h = omega (arith, length-values 0 rs h)
+
+pub few-runs : (k : ℕ) (rs : List Run) → Rises k rs → length rs + k ≤ reach k rs
+few-runs k [] h = omega arith
+few-runs k (r ∷ rs) h = omega (arith, few-runs r.end rs h.1, h.0)
+
+-- the last run is the one at the last place
+pub last-top : (rs : List Run) → slice_get rs (length rs - 1) ≡ top rs
+last-top [] = refl
+last-top (r ∷ []) = refl
+last-top (r ∷ (q ∷ rs)) =
+    let e : length (r ∷ (q ∷ rs)) - 1 ≡ suc (length (q ∷ rs) - 1) = omega arith in
+    ap (λ (i : ℕ). slice_get (r ∷ (q ∷ rs)) i) e ∙ last-top (q ∷ rs)
+
+pub size-top : (rs : List Run) (r : Run) → top rs ≡ Some r → (k : ℕ) → reach k rs ≡ r.end
+size-top [] r e k = absurd (cc)
+size-top (q ∷ []) r e k = let s : q ≡ r = cc in ap (λ (x : Run). x.end) s
+size-top (q ∷ (s ∷ rs)) r e k = size-top (s ∷ rs) r e q.end
+
+pub size-none : (rs : List Run) → top rs ≡ None → rs ≡ []
+size-none [] e = refl
+size-none (q ∷ []) e = absurd (cc)
+size-none (q ∷ (s ∷ rs)) e = absurd (none-there (s ∷ rs) s rs refl e) where
+  none-there : (xs : List Run) (y : Run) (ys : List Run) → xs ≡ y ∷ ys → top xs ≡ None → ⊥
+  none-there xs y [] e n = let t : top (y ∷ []) ≡ None = rw e at n in cc
+  none-there xs y (z ∷ zs) e n = none-there (z ∷ zs) z zs refl (rw e at n)
+
+-- the value of a place
+
+pub value_in-values : (k : ℕ) (rs : List Run) (p : ℕ) → Rises k rs → k ≤ p → value_at (values_from k rs) (p - k) ≡ value_in rs p
+value_in-values k [] p h low = refl
+value_in-values k (r ∷ rs) p h low =
+    let here = replicate (r.end - k) r.value in
+    let rest = values_from r.end rs in
+    let long : length here ≡ r.end - k = length-replicate (r.end - k) r.value in
+    elim (cases_lt p r.end) as (λ x. value_at (here ++ rest) (p - k) ≡ (if nat_lt p r.end then r.value else value_in rs p)) [
+      | inl less ↦
+          rw (lt-ltb p r.end less)
+          (get_or_append_left here rest None (p - k) (omega (arith, h.0)) ∙ get_or-replicate (r.end - k) (p - k) r.value None (omega (arith, h.0)))
+      | inr more ↦
+          let e : (p - k) - (r.end - k) ≡ p - r.end = omega (arith, h.0) in
+          rw (le-ltb p r.end more)
+          (get_or-append_right here rest (r.end - k) (p - k) None long (omega arith) ∙ (ap (value_at rest) e ∙ value_in-values r.end rs p h.1 more))
+    ]
+
+pub value-of-place : (rs : List Run) (p : ℕ) → Rises 0 rs → value_at (values_of rs) p ≡ value_in rs p
+value-of-place rs p h = let e : p ≡ p - 0 = omega arith in ap (value_at (values_of rs)) e ∙ value_in-values 0 rs p h (omega arith)
+
+pub rises-ends : (k : ℕ) (es : List Run) (i j : ℕ) (d : Run) → Rises k es → i ≤ j → j < length es → (k < (slice_index_or es i d).end) × ((slice_index_or es i d).end ≤ (slice_index_or es j d).end)
+rises-ends k [] i j d h p q = absurd (omega arith)
+rises-ends k (r ∷ rs) zero zero d h p q = (h.0, omega arith)
+rises-ends k (r ∷ rs) zero (suc j) d h p q = let rest = rises-ends r.end rs j j d h.1 (omega arith) (omega arith) in (h.0, omega (arith, rest.0))
+rises-ends k (r ∷ rs) (suc i) zero d h p q = absurd (omega arith)
+rises-ends k (r ∷ rs) (suc i) (suc j) d h p q = let rest = rises-ends r.end rs i j d h.1 (omega arith) (omega arith) in (omega (arith, rest.0, h.0), rest.1)
+
+-- the first run that ends behind a place gives its value
+pub found-run : (es : List Run) (i p : ℕ) (r : Run) → ((k : ℕ) (d : Run) → k < i → (slice_index_or es k d).end ≤ p) → p < r.end → i < length es → slice_index_or es i r ≡ r → value_in es p ≡ r.value
+found-run [] i p r below high h e = absurd (omega arith)
+found-run (q ∷ es) zero p r below high h e = let s : q ≡ r = e in rw (s, lt-ltb p r.end high) refl
+found-run (q ∷ es) (suc i) p r below high h e =
+    rw (le-ltb p q.end (below 0 q (omega arith))) (found-run es i p r (λ k d l. below (suc k) d (omega arith)) high (omega arith) e)
+
+pub found-none : (es : List Run) (p : ℕ) → ((k : ℕ) (d : Run) → k < length es → (slice_index_or es k d).end ≤ p) → value_in es p ≡ None
+found-none [] p below = refl
+found-none (q ∷ es) p below = rw (le-ltb p q.end (below 0 q (omega arith))) (found-none es p (λ k d l. below (suc k) d (omega arith)))
+
+-- a run's end, and the end of the one before it
+pub end-at : (k : ℕ) (es : List Run) (i : ℕ) (d : Run) → Rises k es → i < length es → (slice_index_or es i d).end ≤ reach k es
+end-at k [] i d h p = absurd (omega arith)
+end-at k (r ∷ rs) zero d h p = reach-least r.end rs h.1
+end-at k (r ∷ rs) (suc i) d h p = end-at r.end rs i d h.1 (omega arith)
+
+rises-take : (k : ℕ) (rs : List Run) (i : ℕ) → Rises k rs → Rises k (take i rs)
+rises-take k rs zero h = tt
+rises-take k [] (suc i) h = tt
+rises-take k (r ∷ rs) (suc i) h = (h.0, rises-take r.end rs i h.1)
+
+pub end-before : (k : ℕ) (es : List Run) (i : ℕ) (d : Run) → Rises k es → i < length es → (reach k (take i es) < (slice_index_or es i d).end) × ((j : ℕ) (c : Run) → j < i → (slice_index_or es j c).end ≤ reach k (take i es))
+end-before k [] i d h p = absurd (omega arith)
+end-before k (r ∷ rs) zero d h p = (h.0, λ j c q. absurd (omega arith))
+end-before k (r ∷ rs) (suc i) d h p =
+    let rest = end-before r.end rs i d h.1 (omega arith) in
+    (rest.0, below k r rs i h rest.1) where
+      below : (k : ℕ) (r : Run) (rs : List Run) (i : ℕ) → Rises k (r ∷ rs) → ((j : ℕ) (c : Run) → j < i → (slice_index_or rs j c).end ≤ reach r.end (take i rs)) → (j : ℕ) (c : Run) → j < suc i → (slice_index_or (r ∷ rs) j c).end ≤ reach r.end (take i rs)
+      below k r rs i h rest zero c q = reach-least r.end (take i rs) (rises-take r.end rs i h.1)
+      below k r rs i h rest (suc j) c q = rest j c (omega arith)
+
+pub reach-before : (k : ℕ) (es : List Run) (i p : ℕ) → k ≤ p → ((j : ℕ) (c : Run) → j < i → (slice_index_or es j c).end ≤ p) → reach k (take i es) ≤ p
+reach-before k es zero p low below = low
+reach-before k [] (suc i) p low below = low
+reach-before k (r ∷ rs) (suc i) p low below = reach-before r.end rs i p (below 0 r (omega arith)) (λ j c q. below (suc j) c (omega arith))
+
+-- each place of a run has its value
+pub same-run : (es : List Run) (i p q : ℕ) (d : Run) → Rises 0 es → i < length es → size_of (take i es) ≤ p → p < (slice_index_or es i d).end → size_of (take i es) ≤ q → q < (slice_index_or es i d).end → value_at (values_of es) p ≡ value_at (values_of es) q
+same-run es i p q d h l a b c e =
+    let r = slice_index_or es i d in
+    let before = (end-before 0 es i d h l).1 in
+    let here : slice_index_or es i r ≡ r = default-same es i r d l in
+    value-of-place es p h
+    ∙ (found-run es i p r (λ k x m. omega (arith, before k x m)) b l here
+    ∙ (sym (found-run es i q r (λ k x m. omega (arith, before k x m)) e l here) ∙ sym (value-of-place es q h))) where
+      default-same : (es : List Run) (i : ℕ) (r d : Run) → i < length es → slice_index_or es i r ≡ slice_index_or es i d
+      default-same [] i r d l = absurd (omega arith)
+      default-same (x ∷ es) zero r d l = refl
+      default-same (x ∷ es) (suc i) r d l = default-same es i r d (omega arith)
+
+-- a run is opened at its end, or a new one begins
+pub has-top : (rs : List Run) (r : Run) (value : Option ℕ) → has_value (top (rs ++ r ∷ [])) value ≡ same_value r.value value
+has-top rs r value = rw (top-push rs r) refl
+
+pub opened-values : (rs : List Run) (r : Run) (value : Option ℕ) → same_value r.value value ≡ true → values_of (rs ++ r ∷ []) ≡ values_of rs ++ replicate (size_of (rs ++ r ∷ []) - size_of rs) value
+opened-values rs r value e = rw (reach-push 0 rs r, ← same_value-true r.value value e) (values-push 0 rs r)
+
+pub longer-values : (old new : List Run) (end n : ℕ) (value : Option ℕ) → values_of old ≡ values_of new ++ replicate (size_of old - size_of new) value → size_of new ≤ size_of old → end ≡ size_of old + n
+    → values_of (new ++ record { end = end; value = value } ∷ []) ≡ values_of old ++ replicate n value
+longer-values old new end n value e less is =
+    let run : Run = record { end = end; value = value } in
+    let long : end - size_of new ≡ (size_of old - size_of new) + n = omega arith in
+    values-push 0 new run
+    ∙ (ap (λ (m : ℕ). values_of new ++ replicate m value) long
+    ∙ (ap (λ (vs : List (Option ℕ)). values_of new ++ vs) (sym (replicate-append-replicate (size_of old - size_of new) n value))
+    ∙ (sym (append_assoc (values_of new) (replicate (size_of old - size_of new) value) (replicate n value))
+    ∙ ap (λ (vs : List (Option ℕ)). vs ++ replicate n value) (sym e))))
+
+-- the search for a place
+pub size-below : (k : ℕ) (es : List Run) (p : ℕ) → ((j : ℕ) (d : Run) → j < length es → (slice_index_or es j d).end ≤ p) → k ≤ p → reach k es ≤ p
+size-below k [] p below low = low
+size-below k (r ∷ rs) p below low = size-below r.end rs p (λ j d l. below (suc j) d (omega arith)) (below 0 r (omega arith))
+
+pub found-within : (es : List Run) (i p : ℕ) → ((k : ℕ) (d : Run) → k < i → (slice_index_or es k d).end < p + 1) → p < size_of es → i < length es
+found-within es i p below within =
+    elim (cases_lt i (length es)) [
+      | inl less ↦ less
+      | inr more ↦ absurd (omega (arith, size-below 0 es p (λ j d l. omega (arith, below j d (omega arith))) (omega arith)))
+    ]
+
+pub found-some : (es : List Run) (i p : ℕ) (r : Run) → Rises 0 es → ((k : ℕ) (d : Run) → k < i → (slice_index_or es k d).end < p + 1) → ((k : ℕ) (d : Run) → i ≤ k → k < length es → p + 1 ≤ (slice_index_or es k d).end)
+    → i < length es → r ≡ slice_index_or es i r → r.value ≡ value_at (values_of es) p
+found-some es i p r h below behind l e =
+    let reaches : p + 1 ≤ (slice_index_or es i r).end = behind i r (omega arith) l in
+    let high : p < r.end = rw e (omega arith) in
+    sym (value-of-place es p h ∙ found-run es i p r (λ k d q. omega (arith, below k d q)) high l (sym e))
+
+pub found-past : (es : List Run) (i p : ℕ) → Rises 0 es → ((k : ℕ) (d : Run) → k < i → (slice_index_or es k d).end < p + 1) → length es ≤ i → None ≡ value_at (values_of es) p
+found-past es i p h below past = sym (value-of-place es p h ∙ found-none es p (λ k d q. omega (arith, below k d (omega arith))))
+
+pub size-last : (rs : List Run) (r : Run) → Some r ≡ slice_get rs (length rs - 1) → r.end ≡ size_of rs
+size-last rs r e = sym (size-top rs r (sym (last-top rs) ∙ sym e) 0)
+
+-- what is left where the last run is taken
+pub popped-rises : (old rs : List Run) (r : Run) → old ≡ rs ++ r ∷ [] → Rises 0 old → Rises 0 rs × ((size_of rs < r.end) × (size_of old ≡ r.end))
+popped-rises old rs r e h =
+    let parts = rises-parts 0 rs r (subst (Rises 0) e h) in
+    (parts.0, (parts.1, ap size_of e ∙ reach-push 0 rs r))
+
+pub popped-values : (old rs : List Run) (r : Run) → old ≡ rs ++ r ∷ [] → values_of old ≡ values_of rs ++ replicate (r.end - size_of rs) r.value
+popped-values old rs r e = ap values_of e ∙ values-push 0 rs r
+
+pub popped-has : (old rs : List Run) (r : Run) (value : Option ℕ) → old ≡ rs ++ r ∷ [] → has_value (top old) value ≡ same_value r.value value
+popped-has old rs r value e = ap (λ (x : List Run). has_value (top x) value) e ∙ has-top rs r value
+
+pub popped-length : (old rs : List Run) (r : Run) → old ≡ rs ++ r ∷ [] → length old ≡ length rs + 1
+popped-length old rs r e = ap length e ∙ length-push rs r
+
+pub kept-count : (old rs : List Run) (r : Run) (value : Option ℕ) → old ≡ rs ++ r ∷ [] → same_value r.value value ≡ false → length (rs ++ r ∷ []) + (if has_value (top old) value then 1 else 0) ≡ length old
+kept-count old rs r value e f = rw (popped-has old rs r value e, f, ← e) (omega arith)
+
+pub taken-count : (old rs : List Run) (r : Run) (value : Option ℕ) → old ≡ rs ++ r ∷ [] → same_value r.value value ≡ true → length rs + (if has_value (top old) value then 1 else 0) ≡ length old
+taken-count old rs r value e f = rw (popped-has old rs r value e, f) (sym (popped-length old rs r e))
+
+pub taken-values : (old rs : List Run) (r : Run) (value : Option ℕ) → old ≡ rs ++ r ∷ [] → same_value r.value value ≡ true → values_of old ≡ values_of rs ++ replicate (size_of old - size_of rs) value
+taken-values old rs r value e f = rw e (opened-values rs r value f)
+
+-- two sides
+
+same_nat-swap : (a b : ℕ) → nat_eq a b ≡ nat_eq b a
+same_nat-swap a b = grind (arith, nat_tests)
+
+same_value-swap : (a b : Option ℕ) → same_value a b ≡ same_value b a
+same_value-swap None None = refl
+same_value-swap None (Some b) = refl
+same_value-swap (Some a) None = refl
+same_value-swap (Some a) (Some b) = same_nat-swap a b
+
+meet-run : (run : Run) (o : Option Run) → meet (Some run) o ≡ has_value o run.value
+meet-run run None = refl
+meet-run run (Some r) = same_value-swap run.value r.value
+
+meet-swap : (a b : Option Run) → meet a b ≡ meet b a
+meet-swap None None = refl
+meet-swap None (Some b) = refl
+meet-swap (Some a) None = refl
+meet-swap (Some a) (Some b) = same_value-swap a.value b.value
+
+-- a last run with a value meets whatever has the value
+meet-value : (a b : Option Run) (value : Option ℕ) → has_value b value ≡ true → meet a b ≡ has_value a value
+meet-value a None value h = absurd (cc)
+meet-value a (Some r) value h = ap (has_value a) (same_value-true r.value value h)
+
+pub one-at-most : (b : Bool) → (if b then 0 else 1) ≤ 1
+one-at-most true = omega arith
+one-at-most false = omega arith
+
+pub needs-swap : (a b : List Run) → needs a b ≡ needs b a
+needs-swap a b = rw (meet-swap (top a) (top b)) (omega arith)
+
+-- the gap moves by a part of a run
+pub moved-needs : (old rs to from_new to_new : List Run) (r : Run) (rest moved : ℕ) → old ≡ rs ++ r ∷ [] → 0 < moved
+    → (rest ≡ 0 → from_new ≡ rs) → length from_new ≤ length rs + (if has_value (top rs) r.value then 0 else 1) → (0 < rest → has_value (top from_new) r.value ≡ true)
+    → length to_new ≤ length to + (if has_value (top to) r.value then 0 else 1) → (0 < moved → has_value (top to_new) r.value ≡ true)
+    → needs from_new to_new ≤ needs old to
+moved-needs old rs to from_new to_new r rest moved e some none from_count from_top to_count to_top =
+    let before : needs old to ≡ length rs + 1 + length to + (if has_value (top to) r.value then 0 else 1) =
+    rw (e, top-push rs r, meet-run r (top to), length-push rs r) refl in
+    elim (cases_lt 0 rest) [
+      | inl part ↦
+          let both : meet (top from_new) (top to_new) ≡ true = meet-value (top from_new) (top to_new) r.value (to_top some) ∙ from_top part in
+          let after : needs from_new to_new ≡ length from_new + length to_new + 0 = rw both refl in
+          omega (arith, before, after, from_count, one-at-most (has_value (top rs) r.value), to_count)
+      | inr all ↦
+          let same : from_new ≡ rs = none (omega arith) in
+          let long : length from_new ≡ length rs = ap length same in
+          omega (arith, before, long, to_count, one-at-most (meet (top from_new) (top to_new)))
+    ]
+
+reverse-same : (n : ℕ) (a : Option ℕ) → reverse (replicate n a) ≡ replicate n a
+reverse-same zero a = refl
+reverse-same (suc n) a =
+    let before : 1 + n ≡ suc n = omega arith in
+    let behind : n + 1 ≡ suc n = omega arith in
+    let one : replicate 1 a ++ replicate n a ≡ replicate (suc n) a = replicate-append-replicate 1 n a ∙ ap (λ (m : ℕ). replicate m a) before in
+    let more : replicate n a ++ replicate 1 a ≡ replicate (suc n) a = replicate-append-replicate n 1 a ∙ ap (λ (m : ℕ). replicate m a) behind in
+    ap reverse (sym one)
+    ∙ (reverse-append (replicate 1 a) (replicate n a) ∙ (ap (λ (vs : List (Option ℕ)). vs ++ reverse (replicate 1 a)) (reverse-same n a) ∙ more))
+
+pub moved-joined : (old rs to from_new to_new : List Run) (r : Run) (rest moved : ℕ) → old ≡ rs ++ r ∷ [] → rest + moved ≡ r.end - size_of rs
+    → values_of from_new ≡ values_of rs ++ replicate rest r.value → values_of to_new ≡ values_of to ++ replicate moved r.value → joined from_new to_new ≡ joined old to
+moved-joined old rs to from_new to_new r rest moved e all from_values to_values =
+    let a = values_of rs in
+    let b = reverse (values_of to) in
+    let whole : values_of old ≡ a ++ (replicate rest r.value ++ replicate moved r.value) =
+    popped-values old rs r e ∙ ap (λ (vs : List (Option ℕ)). a ++ vs) (ap (λ (m : ℕ). replicate m r.value) (sym all) ∙ sym (replicate-append-replicate rest moved r.value)) in
+    let turned : reverse (values_of to_new) ≡ replicate moved r.value ++ b =
+    ap reverse to_values ∙ (reverse-append (values_of to) (replicate moved r.value) ∙ ap (λ (vs : List (Option ℕ)). vs ++ b) (reverse-same moved r.value)) in
+    ap (λ (vs : List (Option ℕ)). vs ++ reverse (values_of to_new)) from_values
+    ∙ (ap (λ (vs : List (Option ℕ)). (a ++ replicate rest r.value) ++ vs) turned
+    ∙ (append_assoc a (replicate rest r.value) (replicate moved r.value ++ b)
+    ∙ (ap (λ (vs : List (Option ℕ)). a ++ vs) (sym (append_assoc (replicate rest r.value) (replicate moved r.value) b))
+    ∙ (sym (append_assoc a (replicate rest r.value ++ replicate moved r.value) b) ∙ ap (λ (vs : List (Option ℕ)). vs ++ b) (sym whole)))))
+
+turn-turn : (xs : List (Option ℕ)) → reverse (reverse xs) ≡ xs
+turn-turn [] = refl
+turn-turn (x ∷ xs) =
+    ap reverse (reverse-append (x ∷ []) xs) ∙ (reverse-append (reverse xs) (x ∷ []) ∙ ap (λ (vs : List (Option ℕ)). x ∷ vs) (turn-turn xs))
+
+joined-swap : (front back : List Run) → joined front back ≡ reverse (joined back front)
+joined-swap front back =
+    sym (reverse-append (values_of back) (reverse (values_of front)) ∙ ap (λ (vs : List (Option ℕ)). vs ++ reverse (values_of back)) (turn-turn (values_of front)))
+
+pub moved-swap : (front back front_new back_new : List Run) → AreMoved back front back_new front_new → AreMoved front back front_new back_new
+moved-swap front back front_new back_new m = record {
+  same = joined-swap front_new back_new ∙ (ap reverse m.same ∙ sym (joined-swap front back));
+  from_rises = m.to_rises;
+  to_rises = m.from_rises;
+  needs = rw (needs-swap front_new back_new, needs-swap front back) m.needs;
+}
+
+pub moved-further : (from to from_mid to_mid from_new to_new : List Run) → AreMoved from to from_mid to_mid → AreMoved from_mid to_mid from_new to_new → AreMoved from to from_new to_new
+moved-further from to from_mid to_mid from_new to_new a b = record {
+  same = b.same ∙ a.same;
+  from_rises = b.from_rises;
+  to_rises = b.to_rises;
+  needs = omega (arith, a.needs, b.needs);
+}
+
+pub moved-nowhere : (from to : List Run) → Rises 0 from → Rises 0 to → AreMoved from to from to
+moved-nowhere from to a b = record { same = refl; from_rises = a; to_rises = b; needs = omega arith }
+
+-- the last run is cut
+pub cut-lighter : (old rs new : List Run) (r : Run) (n : ℕ) → old ≡ rs ++ r ∷ [] → (n ≡ 0 → new ≡ rs) → length new ≤ length rs + (if has_value (top rs) r.value then 0 else 1)
+    → (0 < n → has_value (top new) r.value ≡ true) → (other : List Run) → needs other new ≤ needs other old
+cut-lighter old rs new r n e none count has other =
+    let before : needs other old ≡ length other + (length rs + 1) + (if has_value (top other) r.value then 0 else 1) =
+    rw (e, top-push rs r, length-push rs r) refl in
+    elim (cases_lt 0 n) [
+      | inl some ↦
+          let after : needs other new ≡ length other + length new + (if has_value (top other) r.value then 0 else 1) =
+          rw (meet-value (top other) (top new) r.value (has some)) refl in
+          omega (arith, before, after, count, one-at-most (has_value (top rs) r.value))
+      | inr all ↦
+          let long : length new ≡ length rs = ap length (none (omega arith)) in
+          omega (arith, before, long, one-at-most (meet (top other) (top new)))
+    ]
+
+pub cut-values : (old rs new : List Run) (r : Run) (end : ℕ) → old ≡ rs ++ r ∷ [] → Rises 0 old → end < size_of old → values_of new ≡ values_of rs ++ replicate (end - size_of rs) r.value
+    → take end (values_of new) ≡ take end (values_of old)
+cut-values old rs new r end e h below is =
+    let p = popped-rises old rs r e h in
+    let long : length (values_of new) ≡ size_of rs + (end - size_of rs) =
+    ap length is ∙ (length-append (values_of rs) (replicate (end - size_of rs) r.value) ∙ omega (arith, size-values rs p.0, length-replicate (end - size_of rs) r.value)) in
+    let more = replicate ((r.end - size_of rs) - (end - size_of rs)) r.value in
+    let split : r.end - size_of rs ≡ (end - size_of rs) + ((r.end - size_of rs) - (end - size_of rs)) = omega (arith, p.1.0, p.1.1) in
+    let whole : values_of old ≡ values_of new ++ more =
+    popped-values old rs r e
+    ∙ (ap (λ (m : ℕ). values_of rs ++ replicate m r.value) split
+    ∙ (ap (λ (vs : List (Option ℕ)). values_of rs ++ vs) (sym (replicate-append-replicate (end - size_of rs) ((r.end - size_of rs) - (end - size_of rs)) r.value))
+    ∙ (sym (append_assoc (values_of rs) (replicate (end - size_of rs) r.value) more) ∙ ap (λ (vs : List (Option ℕ)). vs ++ more) (sym is)))) in
+    sym (ap (take end) whole ∙ take-append-le end (values_of new) more (omega arith))
+
+pub cut-whole : (new old : List Run) (end : ℕ) → Rises 0 new → size_of new ≡ end → take end (values_of new) ≡ take end (values_of old) → values_of new ≡ take end (values_of old)
+cut-whole new old end h e is = sym (take_all end (values_of new) (omega (arith, size-values new h))) ∙ is
+
+-- the last runs without a value are taken
+pub nothing-more : (xs : List (Option ℕ)) (n : ℕ) (value : Option ℕ) (p : ℕ) → value ≡ None → value_at (xs ++ replicate n value) p ≡ value_at xs p
+nothing-more xs n value p none =
+    elim (cases_lt p (length xs)) [
+      | inl less ↦ get_or_append_left xs (replicate n value) None p less
+      | inr more ↦
+          get_or-append_right xs (replicate n value) (length xs) p None refl more
+          ∙ (all-none n (p - length xs) ∙ sym (get_or_past xs p None more))
+    ] where
+      all-none : (n i : ℕ) → value_at (replicate n value) i ≡ None
+      all-none n i =
+          elim (cases_lt i n) [
+            | inl less ↦ get_or-replicate n i value None less ∙ none
+            | inr more ↦ get_or_past (replicate n value) i None (omega (arith, length-replicate n value))
+          ]
+
+pub trim-values : (old rs : List Run) (r : Run) (p : ℕ) → old ≡ rs ++ r ∷ [] → r.value ≡ None → value_at (values_of rs) p ≡ value_at (values_of old) p
+trim-values old rs r p e none =
+    let more = replicate (r.end - size_of rs) r.value in
+    sym (ap (λ (vs : List (Option ℕ)). value_at vs p) (popped-values old rs r e) ∙ nothing-more (values_of rs) (r.end - size_of rs) r.value p none)
+
+pub trim-lighter : (old rs : List Run) (r : Run) (other : List Run) → old ≡ rs ++ r ∷ [] → needs rs other ≤ needs old other
+trim-lighter old rs r other e = omega (arith, popped-length old rs r e, one-at-most (meet (top rs) (top other)))
+
+pub trimmed-last : (rs : List Run) (r : Run) → Rises 0 (rs ++ r ∷ []) → (r.value ≡ None → ⊥) → IsTrimmed (values_of (rs ++ r ∷ []))
+trimmed-last rs r h some p is none =
+    let parts = rises-parts 0 rs r h in
+    let long : length (values_of (rs ++ r ∷ [])) ≡ r.end = size-values (rs ++ r ∷ []) h ∙ reach-push 0 rs r in
+    let front : length (values_of rs) ≡ size_of rs = size-values rs parts.0 in
+    let last : value_at (values_of (rs ++ r ∷ [])) p ≡ r.value =
+    ap (λ (vs : List (Option ℕ)). value_at vs p) (values-push 0 rs r)
+    ∙ (get_or-append_right (values_of rs) (replicate (r.end - size_of rs) r.value) (size_of rs) p None front (omega (arith, parts.1))
+    ∙ get_or-replicate (r.end - size_of rs) (p - size_of rs) r.value None (omega (arith, parts.1))) in
+    some (sym last ∙ none)
+
+-- both sides together
+pub joined-front : (front back : List Run) (p : ℕ) → Rises 0 front → p < size_of front → value_at (joined front back) p ≡ value_at (values_of front) p
+joined-front front back p h l = get_or_append_left (values_of front) (reverse (values_of back)) None p (omega (arith, size-values front h))
+
+pub joined-back : (front back : List Run) (p : ℕ) → Rises 0 front → Rises 0 back → size_of front ≤ p → p < size_of front + size_of back → value_at (joined front back) p ≡ value_at (values_of back) (size_of front + size_of back - 1 - p)
+joined-back front back p h k low high =
+    let b = values_of back in
+    let e : length b - 1 - (p - size_of front) ≡ size_of front + size_of back - 1 - p = omega (arith, size-values back k) in
+    get_or-append_right (values_of front) (reverse b) (size_of front) p None (size-values front h) low
+    ∙ (get_or-reverse b (p - size_of front) None (omega (arith, size-values back k)) ∙ ap (value_at b) e)
+
+pub length-joined : (front back : List Run) → Rises 0 front → Rises 0 back → length (joined front back) ≡ size_of front + size_of back
+length-joined front back h k =
+    omega (arith, length-append (values_of front) (reverse (values_of back)), length-reverse (values_of back), size-values front h, size-values back k)
+
+pub joined-past : (front back : List Run) (p : ℕ) → Rises 0 front → Rises 0 back → size_of front + size_of back ≤ p → value_at (joined front back) p ≡ None
+joined-past front back p h k past = get_or_past (joined front back) p None (omega (arith, length-joined front back h k))
+
+pub some-value : (o : Option ℕ) → is_some o ≡ true → o ≡ None → ⊥
+some-value None h e = cc
+some-value (Some v) h e = cc
+
+pub no-value : (o : Option ℕ) → is_some o ≡ false → o ≡ None
+no-value None h = refl
+no-value (Some v) h = absurd (cc)
+
+pub not-same : (a b : Option ℕ) → same_value a b ≡ false → a ≡ b → ⊥
+not-same a b h e =
+    let g : same_value b b ≡ false = subst (λ (x : Option ℕ). same_value x b ≡ false) e h in
+    let k : true ≡ false = sym (same_value-refl b) ∙ g in absurd (cc)
+
+-- the gap is where it was to be
+pub gap-moved : (front back a b : List Run) (pos : ℕ) → AreMoved front back a b → size_of a + size_of b ≡ size_of front + size_of back → size_of a ≡ min pos (size_of front + size_of back) → GapMoved front back a b pos
+gap-moved front back a b pos m size gap = record { same = m.same; front_rises = m.from_rises; back_rises = m.to_rises; needs = m.needs; size = size; gap = gap }

@@ -1,0 +1,49 @@
+use Rattle.std.proofs.Common.{◌-◌, List, ℕ, Option, arith, ap, subst, sym, ◌∙◌}
+use Rattle.rd_spans.specs.Values.{value_at, closed_at, IsTrimmed}
+use Rattle.rd_spans.proofs.Edits.{IsCut, at-gap, not-empty, is-empty, nothing-left, joined-none, close-values, close-trimmed}
+use Rattle.rd_spans.proofs.gap.close.Goals as goal
+
+pub returns-then-is_empty-clause-values : goal.returns-then-is_empty-clause-values
+returns-then-is_empty-clause-values c =
+    let m = c.move_to.ensures.moved in
+    let a = c.move_to.new.front.items in
+    let b = c.move_to.new.back.items in
+    let d = c.cut.new.runs in
+    let g = at-gap c.args.front.now.items c.args.back.now.items a b c.args.from m in
+    let k : IsCut b c.cut.new.runs.items (c.args.to - c.args.from) = record { rises = c.cut.ensures.order; values = c.cut.ensures.values; size = c.cut.ensures.size } in
+    let nothing = nothing-left d.items c.cut.ensures.order (is-empty d.items d.len d.ok.0 (sym c.is_empty.ensures ∙ c.if-is_empty.true)) in
+    λ p.
+    ap (λ (xs : List (Option ℕ)). value_at xs p) (joined-none c.trim.new.runs.items d.items nothing)
+    ∙ (c.trim.ensures.values p
+    ∙ (ap (λ (xs : List (Option ℕ)). value_at xs p) (sym (joined-none a d.items nothing))
+    ∙ (close-values a b d.items c.args.from c.args.to g c.requires.ordered k p ∙ ap (λ (xs : List (Option ℕ)). closed_at xs c.args.from c.args.to p) m.same)))
+
+pub returns-else-is_empty-clause-sides : goal.returns-else-is_empty-clause-sides
+returns-else-is_empty-clause-sides c =
+    let m = c.move_to.ensures.moved in
+    let a = c.move_to.new.front.items in
+    let b = c.move_to.new.back.items in
+    let d = c.cut.new.runs in
+    let g = at-gap c.args.front.now.items c.args.back.now.items a b c.args.from m in
+    let k : IsCut b c.cut.new.runs.items (c.args.to - c.args.from) = record { rises = c.cut.ensures.order; values = c.cut.ensures.values; size = c.cut.ensures.size } in
+    let more = not-empty d.items d.len c.cut.ensures.order d.ok.0 (sym c.is_empty.ensures ∙ c.if-is_empty.false) in
+    let t = subst IsTrimmed (sym m.same) c.requires.sides.trimmed in
+    let s = c.requires.sides in
+    record {
+      front_rises = m.front_rises;
+      back_rises = c.cut.ensures.order;
+      few = omega (arith, m.size, s.few, c.cut.ensures.size);
+      trimmed = close-trimmed a b d.items c.args.from c.args.to g c.requires.ordered k more (close-values a b d.items c.args.from c.args.to g c.requires.ordered k) t;
+      front_holds = omega (arith, c.cut.ensures.lighter a, m.needs, s.front_holds, c.move_to.ensures.front_room);
+      back_holds = omega (arith, c.cut.ensures.lighter a, m.needs, s.back_holds, c.move_to.ensures.back_room, c.cut.ensures.room);
+    }
+
+pub returns-else-is_empty-clause-values : goal.returns-else-is_empty-clause-values
+returns-else-is_empty-clause-values c =
+    let m = c.move_to.ensures.moved in
+    let a = c.move_to.new.front.items in
+    let b = c.move_to.new.back.items in
+    let g = at-gap c.args.front.now.items c.args.back.now.items a b c.args.from m in
+    let k : IsCut b c.cut.new.runs.items (c.args.to - c.args.from) = record { rises = c.cut.ensures.order; values = c.cut.ensures.values; size = c.cut.ensures.size } in
+    λ p.
+    close-values a b c.cut.new.runs.items c.args.from c.args.to g c.requires.ordered k p ∙ ap (λ (xs : List (Option ℕ)). closed_at xs c.args.from c.args.to p) m.same

@@ -1,0 +1,61 @@
+use Rattle.std.proofs.Common.{◌-◌, List, ℕ, Option, arith, ap, subst, sym, ◌∙◌}
+use Rattle.rd_spans.specs.Values.{value_at, put_at, IsTrimmed}
+use Rattle.rd_spans.specs.Sides.{joined}
+use Rattle.rd_spans.proofs.Edits.{IsCut, at-gap, nothing-left, length-none, size-none, joined-none, put-filled, put-nothing, put-trimmed, needs-most, needs-least}
+use Rattle.rd_spans.proofs.gap.put.Goals as goal
+
+pub returns-then-ends_there-clause-values : goal.returns-then-ends_there-clause-values
+returns-then-ends_there-clause-values c =
+    let m = c.move_to.ensures.moved in
+    let a = c.move_to.new.front.items in
+    let b = c.move_to.new.back.items in
+    let d = c.cut.new.runs.items in
+    let g = at-gap c.args.front.now.items c.args.back.now.items a b c.args.from m in
+    let k : IsCut b c.cut.new.runs.items (c.args.to - c.args.from) = record { rises = c.cut.ensures.order; values = c.cut.ensures.values; size = c.cut.ensures.size } in
+    let ends = rw c.deref.ensures.value at c.ends_there.ensures.yes in
+    let there = ends c.if-ends_there.true in
+    let nothing = nothing-left d c.cut.ensures.order there.1 in
+    let none = size-none d c.cut.ensures.order there.1 in
+    λ p.
+    ap (λ (xs : List (Option ℕ)). value_at xs p) (joined-none c.trim.new.runs.items d nothing)
+    ∙ (c.trim.ensures.values p
+    ∙ (put-nothing a b d c.args.from c.args.to g c.requires.some k none p
+    ∙ (ap (λ (v : Option ℕ). put_at (joined a b) c.args.from c.args.to v p) (sym there.0)
+    ∙ ap (λ (xs : List (Option ℕ)). put_at xs c.args.from c.args.to c.args.value p) m.same)))
+
+pub returns-else-ends_there-clause-values : goal.returns-else-ends_there-clause-values
+returns-else-ends_there-clause-values c =
+    let m = c.move_to.ensures.moved in
+    let a = c.move_to.new.front.items in
+    let b = c.move_to.new.back.items in
+    let g = at-gap c.args.front.now.items c.args.back.now.items a b c.args.from m in
+    let k : IsCut b c.cut.new.runs.items (c.args.to - c.args.from) = record { rises = c.cut.ensures.order; values = c.cut.ensures.values; size = c.cut.ensures.size } in
+    λ p.
+    put-filled a b c.fill.new.front.items c.cut.new.runs.items c.args.from c.args.to c.args.value g c.requires.some c.fill.ensures.order c.fill.ensures.size c.fill.ensures.values k p
+    ∙ ap (λ (xs : List (Option ℕ)). put_at xs c.args.from c.args.to c.args.value p) m.same
+
+pub returns-else-ends_there-clause-sides : goal.returns-else-ends_there-clause-sides
+returns-else-ends_there-clause-sides c =
+    let m = c.move_to.ensures.moved in
+    let a = c.move_to.new.front.items in
+    let b = c.move_to.new.back.items in
+    let d = c.cut.new.runs.items in
+    let new = c.fill.new.front.items in
+    let g = at-gap c.args.front.now.items c.args.back.now.items a b c.args.from m in
+    let k : IsCut b c.cut.new.runs.items (c.args.to - c.args.from) = record { rises = c.cut.ensures.order; values = c.cut.ensures.values; size = c.cut.ensures.size } in
+    let t = subst IsTrimmed (sym m.same) c.requires.sides.trimmed in
+    let s = c.requires.sides in
+    let ends = rw c.deref.ensures.value at c.ends_there.ensures.no in
+    let values = put-filled a b new d c.args.from c.args.to c.args.value g c.requires.some c.fill.ensures.order c.fill.ensures.size c.fill.ensures.values k in
+    let most = needs-most c.args.front.now.items c.args.back.now.items in
+    let least = needs-least a b in
+    let now = needs-most new d in
+    record {
+      front_rises = c.fill.ensures.order;
+      back_rises = c.cut.ensures.order;
+      few = omega (arith, g.gap, m.size, s.few, c.cut.ensures.size, c.fill.ensures.size, c.requires.bound, c.requires.some);
+      trimmed = put-trimmed a b new d c.args.from c.args.to c.args.value g c.requires.some c.fill.ensures.order c.fill.ensures.size k values
+          (λ none v. ends c.if-ends_there.false (length-none d c.cut.ensures.order none) v) t;
+      front_holds = omega (arith, now, c.fill.ensures.count, c.cut.ensures.count, least, m.needs, most, c.fill.ensures.room, c.move_to.ensures.front_room, c.requires.front_more);
+      back_holds = omega (arith, now, c.fill.ensures.count, c.cut.ensures.count, least, m.needs, most, c.cut.ensures.room, c.move_to.ensures.back_room, c.requires.back_more);
+    }

@@ -1,0 +1,8 @@
+use Rattle.std.proofs.Common.{arith}
+use Rattle.rd_spans.proofs.Sides.{few-runs}
+use Rattle.rd_spans.proofs.spans.Spans.inserted.Goals as goal
+
+pub make_room-requires : goal.make_room-requires
+make_room-requires c =
+    let v = c.self.invariant in
+    record { few = omega (arith, few-runs 0 c.self.inside.front.items v.front_rises, few-runs 0 c.self.inside.back.items v.back_rises, v.few) }

@@ -1,0 +1,34 @@
+-- A value for each position: a list from position 0 on. A position that it does not reach has none.
+use Rattle.std.specs.Prelude.{◌≡◌, ℕ, ◌+◌, ◌-◌, ◌<◌, nat_lt, nat_le, ◌&&◌, if◌then◌else◌, List, length, slice_index_or, Option, None, Some}
+
+-- the value of a position
+abbrev pub value_at : List (Option ℕ) → ℕ → Option ℕ
+value_at values p = slice_index_or values p None
+
+-- the value of each position after a value was put from one position up to another
+abbrev pub put_at : List (Option ℕ) → ℕ → ℕ → Option ℕ → ℕ → Option ℕ
+put_at values from to value p = if nat_le from p && nat_lt p to then value else value_at values p
+
+-- the value of each position after so many positions were opened
+abbrev pub opened_at : List (Option ℕ) → ℕ → ℕ → ℕ → Option ℕ
+opened_at values pos n p =
+    if nat_lt p pos then value_at values p else if nat_lt p (pos + n) then None else value_at values (p - n)
+
+-- the value of each position after those from one up to another were taken away
+abbrev pub closed_at : List (Option ℕ) → ℕ → ℕ → ℕ → Option ℕ
+closed_at values from to p = if nat_lt p from then value_at values p else value_at values (p + (to - from))
+
+-- each position with a value can move on by so many
+abbrev pub CanMove : List (Option ℕ) → ℕ → Type 0
+CanMove values n = (p v : ℕ) → value_at values p ≡ Some v → p + n < 4294967296
+
+-- the least later position whose value differs from that of a position, where that is a position
+abbrev pub IsNextChange : List (Option ℕ) → ℕ → Option ℕ → Type 0
+IsNextChange values p None = (q : ℕ) → p < q → q < 4294967296 → value_at values q ≡ value_at values p
+IsNextChange values p (Some q) =
+    (p < q) × (q < 4294967296) × (value_at values q ≡ value_at values p → ⊥)
+    × ((r : ℕ) → p < r → r < q → value_at values r ≡ value_at values p)
+
+-- the list reaches no further than to the last position with a value
+abbrev pub IsTrimmed : List (Option ℕ) → Type 0
+IsTrimmed values = (p : ℕ) → p + 1 ≡ length values → value_at values p ≡ None → ⊥

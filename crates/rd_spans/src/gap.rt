@@ -1,0 +1,177 @@
+//! Both sides of the gap, and the edits at it.
+ghost use Rattle.std.specs.Prelude.{◌≡◌, ℕ, ◌+◌, ◌-◌, ◌<◌, ◌≤◌, ◌++◌, true, false, length, replicate, None, OnOk};
+ghost use Rattle.std.specs.Vec.{vec_capacity};
+ghost use Rattle.rd_spans.specs.Values.{value_at, put_at, opened_at, closed_at, CanMove, IsNextChange};
+ghost use Rattle.rd_spans.specs.Sides.{values_of, Rises, size_of, needs, joined, GapMoved, AreSides};
+
+use crate::run::Run;
+use crate::side;
+use rd_base::Memory;
+
+/// The value of a position.
+pub(crate) fn value_of(front: &[Run], back: &[Run], pos: u64) -> Option<u32>
+    requires front_order { Rises 0 front.now }
+    requires back_order { Rises 0 back.now }
+    requires bound { pos < 4294967296 }
+    requires few { size_of front.now + size_of back.now ≤ 4294967296 }
+    ensures { result ≡ value_at (joined front.now back.now) pos }
+{
+    let gap = side::size(front);
+    if pos < gap {
+        return side::value_in(front, pos);
+    }
+    let end = gap + side::size(back);
+    if pos < end {
+        return side::value_in(back, end - 1 - pos);
+    }
+    None
+}
+
+/// A later position up to which no value differs from that of a position.
+pub(crate) fn same_up_to(front: &[Run], back: &[Run], pos: u64) -> u64
+    requires front_order { Rises 0 front.now }
+    requires back_order { Rises 0 back.now }
+    requires bound { pos < 4294967296 }
+    requires few { size_of front.now + size_of back.now ≤ 4294967296 }
+    ensures later { pos < result }
+    ensures few { result ≤ 4294967296 }
+    ensures same { (p : ℕ) → pos ≤ p → p < result → value_at (joined front.now back.now) p ≡ value_at (joined front.now back.now) pos }
+{
+    let gap = side::size(front);
+    if pos < gap {
+        return side::run_at(front, pos).1;
+    }
+    let end = gap + side::size(back);
+    if pos < end {
+        let (first, _last) = side::run_at(back, end - 1 - pos);
+        return end - first;
+    }
+    side::LIMIT
+}
+
+/// The first position behind one whose value differs from that of the one.
+pub(crate) fn next_other(front: &[Run], back: &[Run], pos: u64) -> Option<u32>
+    requires front_order { Rises 0 front.now }
+    requires back_order { Rises 0 back.now }
+    requires bound { pos < 4294967296 }
+    requires few { size_of front.now + size_of back.now ≤ 4294967296 }
+    ensures { IsNextChange (joined front.now back.now) pos result }
+{
+    let value = value_of(front, back, pos);
+    let mut next = same_up_to(front, back, pos);
+    while next < side::LIMIT {
+        if !side::same_value(value_of(front, back, next), value) {
+            return Some(next as u32);
+        }
+        next = same_up_to(front, back, next);
+    }
+    None
+}
+
+/// Makes room for an edit, which adds at most three runs.
+pub(crate) fn make_room(front: &mut Vec<Run>, back: &mut Vec<Run>) -> Result<(), Memory>
+    requires few { length front.old.items + length back.old.items ≤ 4294967296 }
+    ensures front { front.new.items ≡ front.old.items }
+    ensures back { back.new.items ≡ back.old.items }
+    ensures front_room { vec_capacity front.old ≤ vec_capacity front.new }
+    ensures back_room { vec_capacity back.old ≤ vec_capacity back.new }
+    ensures front_more { OnOk result (length front.old.items + length back.old.items + 4 ≤ vec_capacity front.new) }
+    ensures back_more { OnOk result (length front.old.items + length back.old.items + 4 ≤ vec_capacity back.new) }
+{
+    front.reserve(back.len() + 4)?;
+    back.reserve(front.len() + 4)?;
+    Ok(())
+}
+
+/// Moves the gap to a position, or to the end where that comes before.
+fn move_to(front: &mut Vec<Run>, back: &mut Vec<Run>, pos: u64)
+    requires front_order { Rises 0 front.old.items }
+    requires back_order { Rises 0 back.old.items }
+    requires few { size_of front.old.items + size_of back.old.items ≤ 4294967296 }
+    requires front_room { needs front.old.items back.old.items ≤ vec_capacity front.old }
+    requires back_room { needs front.old.items back.old.items ≤ vec_capacity back.old }
+    ensures moved { GapMoved front.old.items back.old.items front.new.items back.new.items pos }
+    ensures front_room { vec_capacity front.new ≡ vec_capacity front.old }
+    ensures back_room { vec_capacity back.new ≡ vec_capacity back.old }
+{
+    let gap = side::size(front);
+    if pos < gap {
+        side::shift(front, back, gap - pos);
+    } else {
+        side::shift(back, front, pos - gap);
+    }
+}
+
+/// Adds positions without a value behind the front up to `from`, and positions with a value from there up to `to`.
+fn fill(front: &mut Vec<Run>, from: u64, to: u64, value: Option<u32>)
+    requires order { Rises 0 front.old.items }
+    requires reached { size_of front.old.items ≤ from }
+    requires ordered { from ≤ to }
+    requires bound { to ≤ 4294967296 }
+    requires room { length front.old.items + 1 < vec_capacity front.old }
+    ensures values { values_of front.new.items ≡ (values_of front.old.items ++ replicate (from - size_of front.old.items) None) ++ replicate (to - from) value }
+    ensures order { Rises 0 front.new.items }
+    ensures size { size_of front.new.items ≡ to }
+    ensures count { length front.new.items ≤ length front.old.items + 2 }
+    ensures room { vec_capacity front.new ≡ vec_capacity front.old }
+{
+    let missing = from - side::size(front);
+    side::push(front, missing, None);
+    side::push(front, to - from, value);
+}
+
+/// Whether nothing with a value would stand behind the front.
+fn ends_there(back: &[Run], value: Option<u32>) -> bool
+    ensures yes { result ≡ true → (value ≡ None) × (length back.now ≡ 0) }
+    ensures no { result ≡ false → length back.now ≡ 0 → value ≡ None → ⊥ }
+{
+    value.is_none() && back.is_empty()
+}
+
+/// Puts a value on the positions from `from` up to `to`, where there is room for three more runs.
+pub(crate) fn put(front: &mut Vec<Run>, back: &mut Vec<Run>, from: u64, to: u64, value: Option<u32>)
+    requires sides { AreSides front.old.items back.old.items (vec_capacity front.old) (vec_capacity back.old) }
+    requires front_more { length front.old.items + length back.old.items + 4 ≤ vec_capacity front.old }
+    requires back_more { length front.old.items + length back.old.items + 4 ≤ vec_capacity back.old }
+    requires some { from < to }
+    requires bound { to ≤ 4294967296 }
+    ensures sides { AreSides front.new.items back.new.items (vec_capacity front.new) (vec_capacity back.new) }
+    ensures values { (p : ℕ) → value_at (joined front.new.items back.new.items) p ≡ put_at (joined front.old.items back.old.items) from to value p }
+{
+    move_to(front, back, from);
+    side::cut(back, to - from);
+    if ends_there(back, value) {
+        side::trim(front);
+    } else {
+        fill(front, from, to, value);
+    }
+}
+
+/// Opens `n` positions without a value at a position, where there is room for three more runs.
+pub(crate) fn open(front: &mut Vec<Run>, back: &mut Vec<Run>, pos: u64, n: u64)
+    requires sides { AreSides front.old.items back.old.items (vec_capacity front.old) (vec_capacity back.old) }
+    requires front_more { length front.old.items + length back.old.items + 4 ≤ vec_capacity front.old }
+    requires back_more { length front.old.items + length back.old.items + 4 ≤ vec_capacity back.old }
+    requires bound { CanMove (joined front.old.items back.old.items) n }
+    ensures sides { AreSides front.new.items back.new.items (vec_capacity front.new) (vec_capacity back.new) }
+    ensures values { (p : ℕ) → value_at (joined front.new.items back.new.items) p ≡ opened_at (joined front.old.items back.old.items) pos n p }
+{
+    move_to(front, back, pos);
+    if !back.is_empty() {
+        side::push(front, n, None);
+    }
+}
+
+/// Takes the positions from `from` up to `to` away.
+pub(crate) fn close(front: &mut Vec<Run>, back: &mut Vec<Run>, from: u64, to: u64)
+    requires sides { AreSides front.old.items back.old.items (vec_capacity front.old) (vec_capacity back.old) }
+    requires ordered { from ≤ to }
+    ensures sides { AreSides front.new.items back.new.items (vec_capacity front.new) (vec_capacity back.new) }
+    ensures values { (p : ℕ) → value_at (joined front.new.items back.new.items) p ≡ closed_at (joined front.old.items back.old.items) from to p }
+{
+    move_to(front, back, from);
+    side::cut(back, to - from);
+    if back.is_empty() {
+        side::trim(front);
+    }
+}
