@@ -58,6 +58,9 @@ mod scenery;
 mod script;
 
 #[cfg(test)]
+mod spans;
+
+#[cfg(test)]
 mod stack;
 
 #[cfg(test)]

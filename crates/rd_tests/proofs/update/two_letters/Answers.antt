@@ -1,4 +1,4 @@
-use Rattle.std.proofs.Common.{◌≡◌, ℕ, ◌<◌, ◌≤◌, All, false, List, [], ◌∷◌, replicate, Some, refl, arith}
+use Rattle.std.proofs.Common.{◌≡◌, ℕ, ◌<◌, ◌≤◌, All, false, List, [], ◌∷◌, replicate, Some, refl, sym, ap, subst, ◌∙◌, arith}
 use Rattle.std.proofs.lemmas.Bool.Decides.{nat_tests}
 use Rattle.std.proofs.lemmas.List.{get_or-replicate}
 use Rattle.std.proofs.lemmas.List.Elements.{All-from_recursion, All-append, All-replicate}
@@ -7,8 +7,9 @@ use Rattle.rd_base.specs.Cells.{single, HasColours, IsColoured}
 use Rattle.rd_base.specs.Faces.{plain}
 use Rattle.rd_base.specs.Glyphs.{IsGood, IsRowAfter}
 use Rattle.rd_base.specs.declared.cell.Cell.{Cell}
+use Rattle.rd_base.specs.declared.cell.Glyph.{Glyph}
 use Rattle.rd_base.specs.declared.cell.Cell.TheVariants.{First}
-use Rattle.rd_term.specs.Pictures.{Picture, blank}
+use Rattle.rd_term.specs.Pictures.{Picture, blank, blank_picture, with_cell}
 use Rattle.rd_update.specs.Laws.{IsSound}
 use Rattle.rd_tests.proofs.update.two_letters.Goals as goal
 
@@ -54,5 +55,15 @@ sound = record {
   colours = All-from_recursion (λ row. All IsColoured row) two.rows (letter-coloured 97, (letter-coloured 98, (All-replicate IsColoured 12 blank coloured, tt)));
 }
 
+abbrev with_first : ℕ → Picture → Glyph → Picture
+with_first row p g = record p { rows = with_cell p.rows row 0 (First g plain) }
+
+made : (none one both : Picture) (a b : Glyph) → none ≡ blank_picture 12 3 → a ≡ single 97 1 → b ≡ single 98 1
+    → one ≡ with_first 0 none a → both ≡ with_first 1 one b → IsSound both
+made none one both a b p q r e f =
+    let first = e ∙ ap (λ s. with_first 0 s a) p ∙ ap (λ g. with_first 0 (blank_picture 12 3) g) q in
+    let second = f ∙ ap (λ s. with_first 1 s b) first ∙ ap (λ g. with_first 1 (with_first 0 (blank_picture 12 3) (single 97 1)) g) r in
+    subst (λ s. IsSound s) (sym second) sound
+
 pub returns : goal.returns
-returns c = ?
+returns c = made c.in_ok-screen.screen c.set.new.self c.set-2.new.self c.single.result c.single-2.result c.in_ok-screen.ensures c.single.ensures c.single-2.ensures c.set.ensures c.set-2.ensures
