@@ -2,6 +2,7 @@
 #![tactic(auto)]
 
 mod block;
+mod examples;
 mod held;
 mod listed;
 mod matrix;
@@ -11,6 +12,3 @@ pub use block::Block;
 pub use held::{HeldBlock, MemBlocks};
 pub use matrix::{Entry, Matrix};
 pub use source::BlockSource;
-
-#[cfg(test)]
-mod tests;

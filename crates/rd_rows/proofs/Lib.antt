@@ -2,10 +2,10 @@ mod All
 mod Ends
 mod Fill
 mod Fitting
-mod LineLaws
+pub mod LineLaws
 mod Made
 mod Mirroring
-mod Splits
+pub mod Splits
 mod Stands
 mod Waiting
 mod Walk

@@ -7,7 +7,8 @@ use Rattle.std.proofs.lemmas.Bool.{cases_lt}
 use Rattle.rd_base.specs.declared.element.Element.{Element}
 use Rattle.rd_matrix.specs.declared.matrix.Entry.{Entry}
 use Rattle.rd_rows.specs.Copies.{RowValues}
-use Rattle.rd_rows.specs.Lines.{Making, rows_left, Asks, MakesRow}
+use Rattle.rd_rows.specs.Left.{MakerValues}
+use Rattle.rd_rows.specs.Lines.{rows_left, is_finished, Asks, MakesRow}
 use Rattle.rd_rows.specs.Rows.{RowMeaning, LaidRow}
 use Rattle.rd_session.specs.Adding.{with_row}
 use Rattle.rd_session.specs.Layout.{made, numbered}
@@ -27,17 +28,17 @@ abbrev pub left_from : ℕ → ℕ → ℕ → List RowValues → List Entry
 left_from first k start rs = drop (min (first - k) (length rs - 1)) (numbered start k rs)
 
 -- the rows put there so far and those that are left come to a target
-pub record Adds (first height start number : ℕ) (es : List Entry) (m : Making) (left : List Element) (target : List Entry) : Type 0 where
+pub record Adds (first height start number : ℕ) (es : List Entry) (m : MakerValues) (left : List Element) (target : List Entry) : Type 0 where
   pub rest : take height (es ++ left_from first number start (map made (rows_left m left))) ≡ target
   pub room : length es ≤ height
   pub asks : Asks m left
-  pub ends : m.finished ≡ false → EndsOnce (rows_left m left)
+  pub ends : is_finished m ≡ false → EndsOnce (rows_left m left)
 
 same_row : (a b : RowMeaning) (m n : ℕ) → a ≡ b → m ≡ n → let x : RowValues = record { shown = a; copies = m } in let y : RowValues = record { shown = b; copies = n } in x ≡ y
 same_row a b m n e f = cc
 
 -- the rows that are left begin with the one that was made
-left-first : (row : RowValues) (m n : Making) (es fs : List Element) (s t : ℕ) → MakesRow row.shown m n es fs s t → row.copies ≡ 0
+left-first : (row : RowValues) (m n : MakerValues) (es fs : List Element) (s t : ℕ) → MakesRow row.shown m n es fs s t → row.copies ≡ 0
     → map made (rows_left m es) ≡ row ∷ map made (rows_left n fs)
 left-first row m n es fs s t makes fresh =
     ap (map made) makes.row_is ∙ ap (λ r. r ∷ map made (rows_left n fs)) (same_row row.shown row.shown 0 row.copies refl (sym fresh))
@@ -126,7 +127,7 @@ adds-row false false first height start number es row rs target so_far room h la
     full height es (left_from first (number + 1) start rs) (left_from first number start (row ∷ rs)) (not_below (length es) height room) ∙ so_far
 
 -- one more row
-pub adds-step : (first height start number : ℕ) (es : List Entry) (row : RowValues) (m n : Making) (left later : List Element) (s t : ℕ) (target : List Entry)
+pub adds-step : (first height start number : ℕ) (es : List Entry) (row : RowValues) (m n : MakerValues) (left later : List Element) (s t : ℕ) (target : List Entry)
     → Adds first height start number es m left target → MakesRow row.shown m n left later s t → row.copies ≡ 0
     → Adds first height start (number + 1) (with_row es first height start number row) n later target
 adds-step first height start number es row m n left later s t target so_far makes fresh =
@@ -149,9 +150,8 @@ left_from-none : (first k start : ℕ) → left_from first k start [] ≡ []
 left_from-none first k start = let none : min (first - k) (length {A = RowValues} [] - 1) ≡ zero = omega arith in rw none refl
 
 -- all rows were put there
-pub adds-all : (first height start number : ℕ) (es : List Entry) (m : Making) (left : List Element) (target : List Entry)
-    → Adds first height start number es m left target → m.finished ≡ true → es ≡ target
+pub adds-all : (first height start number : ℕ) (es : List Entry) (m : MakerValues) (left : List Element) (target : List Entry)
+    → Adds first height start number es m left target → rows_left m left ≡ [] → es ≡ target
 adds-all first height start number es m left target so_far over =
-    let none : rows_left m left ≡ [] = rw over refl in
-    let nothing : left_from first number start (map made (rows_left m left)) ≡ [] = rw none (left_from-none first number start) in
+    let nothing : left_from first number start (map made (rows_left m left)) ≡ [] = rw over (left_from-none first number start) in
     sym (take_all height es so_far.room) ∙ (ap (take height) (sym (append-nil es)) ∙ (ap (λ xs. take height (es ++ xs)) (sym nothing) ∙ so_far.rest))

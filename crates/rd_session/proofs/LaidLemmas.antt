@@ -6,7 +6,7 @@ use Rattle.std.proofs.lemmas.List.{length-replicate}
 use Rattle.std.proofs.lemmas.List.Elements.{All-from_recursion}
 use Rattle.rd_base.specs.declared.cell.Cell.{Cell}
 use Rattle.rd_base.specs.declared.settings.Anchor.{Anchor}
-use Rattle.rd_matrix.specs.Cursors.{cursor_in}
+use Rattle.rd_session.specs.Shown.{cursor_of}
 use Rattle.rd_matrix.specs.declared.matrix.Entry.{Entry}
 use Rattle.rd_state.specs.Edits.{is_built}
 use Rattle.rd_state.specs.States.{BufferValue, StateValue, IsValid}
@@ -141,7 +141,7 @@ place-within n width height (Some place) h few wide high = let row = h.0 in (ome
 pub painted-sized : (width height first last point : ℕ) (es : List Entry) → AreShowable width first last es → length es ≤ height - 1 → 1 ≤ width → 2 ≤ height
     → IsOfSize width height (painted width (height - 1) point es) × ArePlain (painted width (height - 1) point es).rows
 painted-sized width height first last point es h few wide high =
-    let place = place-within (length es) width height (cursor_in point es) (cursor-within width first last point es h) (omega arith) wide (omega arith) in
+    let place = place-within (length es) width height (cursor_of point es) (cursor-within width first last point es h) (omega arith) wide (omega arith) in
     let rows = rows-painted width (height - 1) first last es h in (
       record {
         rows = painted-length width (height - 1) es few ∙ omega arith;

@@ -1,17 +1,17 @@
 -- The rows of a block's line, made one after the other.
 use Rattle.std.proofs.Common.{◌≡◌, ℕ, zero, suc, ◌+◌, ◌-◌, ◌^◌, ◌<◌, ◌≤◌, List, [], ◌∷◌, ◌++◌, length, take, refl, ap, arith}
 use Rattle.std.specs.Prelude.{map, All, IsTrue}
-use Rattle.rd_base.specs.Elements.{IsSound}
+use Rattle.rd_base.specs.Elements.{IsSound, columns_at_most}
 use Rattle.rd_base.specs.declared.element.Element.{Element}
 use Rattle.rd_rows.specs.Copies.{RowValues}
 use Rattle.rd_rows.specs.Shapes.{ShapeValues}
-use Rattle.rd_rows.specs.Lines.{fresh, IsLine, ends_once, columns_at_most}
+use Rattle.rd_rows.specs.Left.{MakerValues, IsLine}
+use Rattle.rd_rows.specs.Lines.{IsFresh, rows_left, columns_held, is_finished}
 use Rattle.rd_rows.specs.Rows.{rows_of}
 use Rattle.rd_matrix.specs.declared.matrix.Entry.{Entry}
-use Rattle.rd_rows.specs.Placing.{line_start}
 use Rattle.rd_session.specs.Layout.{made, numbered, plain_cutting, rows_from_row}
 use Rattle.rd_session.proofs.AddLemmas.{Adds, length-numbered}
-use Rattle.rd_session.proofs.BeginLemmas.{rows-end}
+use Rattle.rd_session.proofs.BeginLemmas.{rows-end, ends-from}
 use Rattle.rd_session.specs.Blocks.{elements_from, elements_left}
 use Rattle.rd_session.specs.declared.elements.LineElements.{LineElements}
 use Rattle.rd_text.specs.Texts.{between}
@@ -26,11 +26,6 @@ sound-from i [] (suc k) d h = absurd (omega arith)
 sound-from i (c ∷ cs) zero d h = (refl, omega arith, omega arith)
 sound-from i (c ∷ cs) (suc k) d h = sound-from (i + 1) cs k d (omega arith)
 
-ends-from : (i : ℕ) (cs : List ℕ) → IsTrue (ends_once (elements_from i cs))
-ends-from i [] = refl
-ends-from i (c ∷ []) = refl
-ends-from i (c ∷ (d ∷ cs)) = ends-from (i + 1) (d ∷ cs)
-
 columns-from : (i : ℕ) (cs : List ℕ) → columns_at_most (elements_from i cs) ≡ length cs
 columns-from i [] = refl
 columns-from i (c ∷ cs) = let e = columns-from (i + 1) cs in omega arith
@@ -40,15 +35,16 @@ pub line-from : (cs : List ℕ) → length cs < 2 ^ 63 → IsLine 0 (elements_fr
 line-from cs h = record { sound = sound-from 0 cs; end = ends-from 0 cs; columns = let e = columns-from 0 cs in omega arith }
 
 -- no row of a line was put there
-pub adds-none : (first height start : ℕ) (es : List Entry) (shape : ShapeValues) (cs : List ℕ) → length cs < 2 ^ 63 → length es ≤ height
-    → Adds first height start 0 es (fresh (plain_cutting shape)) (elements_from 0 cs)
+pub adds-none : (first height start : ℕ) (es : List Entry) (m : MakerValues) (shape : ShapeValues) (cs : List ℕ) → IsFresh (plain_cutting shape) m → length cs < 2 ^ 63 → length es ≤ height
+    → Adds first height start 0 es m (elements_from 0 cs)
     (take height (es ++ rows_from_row first (numbered start 0 (map made (rows_of (plain_cutting shape) (elements_from 0 cs))))))
-adds-none first height start es shape cs few room =
+adds-none first height start es m shape cs fresh few room =
     let rows : List RowValues = map made (rows_of (plain_cutting shape) (elements_from 0 cs)) in
     let n : first - 0 ≡ first = omega arith in
+    let all = fresh.rows (elements_from 0 cs) in
     record {
-      rest = ap (λ xs. take height (es ++ xs)) (rw (n, length-numbered start 0 rows) refl);
+      rest = rw all (ap (λ xs. take height (es ++ xs)) (rw (n, length-numbered start 0 rows) refl));
       room = room;
-      asks = λ _. line-from cs few;
-      ends = λ _. rows-end shape 0 line_start [] cs refl;
+      asks = λ _. rw fresh.columns (line-from cs few);
+      ends = λ _. rw all (rows-end shape cs);
     }

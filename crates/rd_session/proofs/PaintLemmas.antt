@@ -6,7 +6,8 @@ use Rattle.std.proofs.lemmas.List.{get_or-set_same, length-take, map-append, len
 use Rattle.rd_base.specs.declared.cell.Cell.{Cell}
 use Rattle.rd_matrix.specs.declared.matrix.Entry.{Entry}
 use Rattle.rd_matrix.specs.Columns.{covers, column_in, shown_column}
-use Rattle.rd_matrix.specs.Cursors.{or_below, column_shown, cursor_in}
+use Rattle.rd_matrix.specs.Cursors.{or_below}
+use Rattle.rd_session.specs.Shown.{column_of, cursor_of}
 use Rattle.rd_rows.specs.declared.begin.Begin.{Begin}
 use Rattle.rd_rows.specs.Rows.{RowMeaning}
 use Rattle.rd_session.specs.Plain.{AreShowable, AreWithin}
@@ -80,10 +81,10 @@ below-within width n (Some c) below h g = (omega arith, h)
 below-within width n None None h g = tt
 below-within width n None (Some place) h g = let row = g.0 in (omega arith, g.1)
 
-pub cursor-within : (width first last point : ℕ) (es : List Entry) → AreShowable width first last es → IfSome (cursor_in point es) (λ place. (place.0 < length es) × (place.1 < width))
+pub cursor-within : (width first last point : ℕ) (es : List Entry) → AreShowable width first last es → IfSome (cursor_of point es) (λ place. (place.0 < length es) × (place.1 < width))
 cursor-within width first last point [] h = tt
 cursor-within width first last point (e ∷ es) h =
-    below-within width (length es) (column_shown point e) (cursor_in point es)
+    below-within width (length es) (column_of point e) (cursor_of point es)
     (shown-within width e.row.shown (column_in e.start point e.row.shown.begins) h.0.wide (column-within width e.start point e.row.shown.begins h.0.within)) (cursor-within width first last point es h.2)
 
 replicate-last : {X : Type 0} (n : ℕ) (x : X) → replicate (n + 1) x ≡ replicate n x ++ x ∷ []

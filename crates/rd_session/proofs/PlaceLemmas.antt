@@ -5,9 +5,8 @@ use Rattle.std.specs.List.{list_any, position_or_len}
 use Rattle.std.proofs.lemmas.Bool.Decides.{nat_tests}
 use Rattle.std.proofs.lemmas.List.{take_all, length-take}
 use Rattle.rd_base.specs.declared.settings.Anchor.{Anchor}
-use Rattle.rd_matrix.specs.Cursors.{cursor_in}
+use Rattle.rd_session.specs.Shown.{cursor_of}
 use Rattle.rd_matrix.specs.declared.matrix.Entry.{Entry}
-use Rattle.rd_rows.specs.Placing.{line_start}
 use Rattle.rd_rows.specs.Shapes.{ShapeValues}
 use Rattle.rd_text.specs.Texts.{TextValue, IsText, IsAccessible, between, prev_newline, next_newline}
 use Rattle.rd_session.specs.Blocks.{BlockValue, blocks_of, block_end}
@@ -33,7 +32,7 @@ whole-block n none es rows empty put few =
 -- a block has a row
 pub block_rows-some : (shape : ShapeValues) (b : BlockValue) → 0 < length (block_rows shape b)
 block_rows-some shape b =
-    let some = some-more (line_rows shape b) (rows-end shape 0 line_start [] b.chars refl) in
+    let some = some-more (line_rows shape b) (rows-end shape b.chars) in
     rw (length-numbered b.start 0 (map made (line_rows shape b))) some
 
 -- the rows above a block are those above the block before it, and its
@@ -66,8 +65,8 @@ row-held shape t b point right h first last =
     block-holds shape (value_of t b) point ∙ grind (arith, nat_tests)
 
 pub row-index : (shape : ShapeValues) (t : TextValue) (b : Block) (point : ℕ) → IsText t → IsBlock t b → b.start ≤ point → point ≤ b.end
-    → (rows_above shape t b.start + cursor_row (cursor_in point (block_rows shape (value_of t b))) ≡ point_index point (text_rows shape (blocks_of t)))
-    × (cursor_row (cursor_in point (block_rows shape (value_of t b))) < length (block_rows shape (value_of t b)))
+    → (rows_above shape t b.start + cursor_row (cursor_of point (block_rows shape (value_of t b))) ≡ point_index point (text_rows shape (blocks_of t)))
+    × (cursor_row (cursor_of point (block_rows shape (value_of t b))) < length (block_rows shape (value_of t b)))
     × (point_index point (text_rows shape (blocks_of t)) < length (text_rows shape (blocks_of t)))
 row-index shape t b point right h first last =
     let v : BlockValue = value_of t b in
@@ -144,7 +143,7 @@ anchor-row false row rows = omega arith
 
 -- the start is the old one where its view shows the point, and else that which brings the point's row to the middle
 pub start-kept : (shape : ShapeValues) (t : TextValue) (b : Block) (height i point : ℕ) → IsText t → IsBlock t b → b.start ≤ point → point ≤ b.end
-    → is_some (cursor_in point (view_from height i (text_rows shape (blocks_of t)))) ≡ (nat_le i (point_index point (text_rows shape (blocks_of t))) && nat_lt (point_index point (text_rows shape (blocks_of t))) (i + height))
+    → is_some (cursor_of point (view_from height i (text_rows shape (blocks_of t)))) ≡ (nat_le i (point_index point (text_rows shape (blocks_of t))) && nat_lt (point_index point (text_rows shape (blocks_of t))) (i + height))
 start-kept shape t b height i point right h first last =
     let all : List Entry = text_rows shape (blocks_of t) in
     let found = row-index shape t b point right h first last in
@@ -178,7 +177,7 @@ block-of t point right h =
 
 -- whether the view from a start shows the point
 pub start-shows : (shape : ShapeValues) (t : TextValue) (height i point : ℕ) → IsText t → IsAccessible t point
-    → is_some (cursor_in point (view_from height i (text_rows shape (blocks_of t)))) ≡ (nat_le i (point_index point (text_rows shape (blocks_of t))) && nat_lt (point_index point (text_rows shape (blocks_of t))) (i + height))
+    → is_some (cursor_of point (view_from height i (text_rows shape (blocks_of t)))) ≡ (nat_le i (point_index point (text_rows shape (blocks_of t))) && nat_lt (point_index point (text_rows shape (blocks_of t))) (i + height))
 start-shows shape t height i point right h =
     let b = block-of t point right h in
     start-kept shape t b.0 height i point right b.1.0 b.1.1 b.1.2

@@ -1,5 +1,5 @@
 -- The rows of a text of plain characters can be shown.
-use Rattle.std.proofs.Common.{◌≡◌, ℕ, zero, suc, ◌+◌, ◌-◌, ◌<◌, ◌≤◌, ◌⊎◌, inl, inr, min, max, Bool, true, false, ◌&&◌, nat_lt, nat_le, None, List, [], ◌∷◌, ◌++◌, length, refl, sym, ◌∙◌, ap, subst, arith, length-append}
+use Rattle.std.proofs.Common.{◌≡◌, ℕ, zero, suc, ◌+◌, ◌-◌, ◌<◌, ◌≤◌, ◌⊎◌, inl, inr, min, max, Bool, true, false, ◌&&◌, nat_lt, nat_le, None, List, [], ◌∷◌, ◌++◌, length, drop, refl, sym, ◌∙◌, ap, subst, arith, length-append}
 use Rattle.std.specs.Prelude.{All, flat_map, if◌then◌else◌}
 use Rattle.std.proofs.lemmas.Bool.Decides.{nat_tests}
 use Rattle.std.proofs.lemmas.List.{length-replicate}
@@ -11,8 +11,10 @@ use Rattle.rd_base.specs.declared.cell.Cell.{Cell}
 use Rattle.rd_base.specs.declared.cell.Cell.TheVariants.{Blank, First}
 use Rattle.rd_base.specs.declared.element.Element.{Element}
 use Rattle.rd_base.specs.declared.settings.Wrap.{Wrap}
-use Rattle.rd_rows.specs.Placing.{fits, placed_at, behind, next_row, glyph_in}
-use Rattle.rd_rows.specs.Rows.{LaidRow, laid, rows_from, begin_of, seen, whole_cells, last_cell, mark}
+use Rattle.rd_rows.specs.Cuts.{cut_row}
+use Rattle.rd_rows.specs.Placing.{placed_at, place_all, behind, behind_all, next_row, next_line, line_start, glyph_in}
+use Rattle.rd_rows.proofs.Splits.{cut-is}
+use Rattle.rd_rows.specs.Rows.{LaidRow, laid, rows_within, rows_of, begin_of, seen, whole_cells, last_cell, mark}
 use Rattle.rd_base.specs.Glyphs.{is_space, blanks, glyph_cells}
 use Rattle.rd_rows.specs.Shapes.{ShapeValues, room, truncates}
 use Rattle.rd_rows.specs.declared.begin.Begin.{Begin}
@@ -45,26 +47,6 @@ pub record IsEnd (p : Placed) : Type 0 where
 pub IsRun : ℕ → List Placed → ℕ → Type 0
 IsRun n [] m = n ≡ m
 IsRun n (p ∷ ps) m = (IsCellAt n p × IsRun (n + 1) ps m) ⊎ (IsEnd p × IsRun n ps m)
-
-run-push : (n m : ℕ) (ps : List Placed) (p : Placed) → IsRun n ps m → IsCellAt m p → IsRun n (ps ++ p ∷ []) (m + 1)
-unfolding IsRun
-run-push n m [] p h at = inl (subst (λ k. IsCellAt k p) (sym h) at, ap (λ k. k + 1) h)
-run-push n m (q ∷ ps) p (inl h) at = inl (h.0, run-push (n + 1) m ps p h.1 at)
-run-push n m (q ∷ ps) p (inr h) at = inr (h.0, run-push n m ps p h.1 at)
-
-run-end : (n m : ℕ) (ps : List Placed) (p : Placed) → IsRun n ps m → IsEnd p → IsRun n (ps ++ p ∷ []) m
-unfolding IsRun
-run-end n m [] p h over = inr (over, h)
-run-end n m (q ∷ ps) p (inl h) over = inl (h.0, run-end (n + 1) m ps p h.1 over)
-run-end n m (q ∷ ps) p (inr h) over = inr (h.0, run-end n m ps p h.1 over)
-
-run-one : (p : Placed) → IsCellAt 0 p → IsRun 0 (p ∷ []) 1
-unfolding IsRun
-run-one p at = inl (at, refl)
-
-pub run-none : IsRun 0 [] 0
-unfolding IsRun
-run-none = refl
 
 -- so many plain cells at most
 record Few (n : ℕ) (cells : List Cell) : Type 0 where
@@ -212,25 +194,65 @@ all-cons width r rs h g = (h, g)
 all-none : (width : ℕ) → AllRows width []
 all-none width = tt
 
-by_cases : (P : List LaidRow → Type 0) (t : Bool) (a b : List LaidRow) → P a → P b → P (if t then a else b)
-by_cases P true a b f g = f
-by_cases P false a b f g = g
+-- elements of a line of printable characters
+
+record IsChar (e : Element) : Type 0 where
+  item : ℕ
+  code : ℕ
+  low : 32 ≤ code
+  high : code ≤ 126
+  is : e ≡ char_element item code
+
+record IsEnding (e : Element) : Type 0 where
+  item : ℕ
+  is : e ≡ line_end item
+
+AreChars : List Element → Type 0
+AreChars [] = Unit {0}
+AreChars (e ∷ es) = (IsChar e ⊎ IsEnding e) × AreChars es
+
+chars-from : (i : ℕ) (cs : List ℕ) → ArePrintable cs → AreChars (elements_from i cs)
+unfolding AreChars
+chars-from i [] h = (inr (record { item = i; is = refl }), tt)
+chars-from i (c ∷ cs) h = (inl (record { item = i; code = c; low = h.0; high = h.1; is = refl }), chars-from (i + 1) cs h.2)
+
+chars-parts : (xs ys : List Element) → AreChars (xs ++ ys) → AreChars xs × AreChars ys
+unfolding AreChars
+chars-parts [] ys h = (tt, h)
+chars-parts (x ∷ xs) ys h = let rest = chars-parts xs ys h.1 in ((h.0, rest.0), rest.1)
+
+chars-run : (c : Cutting) (spot : Spot) (xs : List Element) → AreChars xs → IsRun spot.used (place_all c.shape spot xs) (behind_all spot (place_all c.shape spot xs)).used
+unfolding AreChars IsRun
+chars-run c spot [] h = refl
+chars-run c spot (x ∷ xs) (inl k, h) =
+    let p : Placed = placed_at c.shape spot (char_element k.item k.code) in
+    let run : IsRun spot.used (place_all c.shape spot (char_element k.item k.code ∷ xs)) (behind_all spot (place_all c.shape spot (char_element k.item k.code ∷ xs))).used
+    = inl (char-cell c spot k.item k.code k.low k.high, chars-run c (behind spot p) xs h) in
+    subst (λ (e : Element). IsRun spot.used (place_all c.shape spot (e ∷ xs)) (behind_all spot (place_all c.shape spot (e ∷ xs))).used) (sym k.is) run
+chars-run c spot (x ∷ xs) (inr k, h) =
+    let p : Placed = placed_at c.shape spot (line_end k.item) in
+    let here : spot.used + 0 ≡ spot.used = omega arith in
+    let run : IsRun spot.used (place_all c.shape spot (line_end k.item ∷ xs)) (behind_all spot (place_all c.shape spot (line_end k.item ∷ xs))).used
+    = inr (end-cell c spot k.item, subst (λ n. IsRun n (place_all c.shape (behind spot p) xs) (behind_all (behind spot p) (place_all c.shape (behind spot p) xs)).used) here (chars-run c (behind spot p) xs h)) in
+    subst (λ (e : Element). IsRun spot.used (place_all c.shape spot (e ∷ xs)) (behind_all spot (place_all c.shape spot (e ∷ xs))).used) (sym k.is) run
+
+no-lead : (b : Bool) (lead : List Placed) → lead ≡ [] → (if b then lead else lead) ≡ []
+no-lead true lead h = h
+no-lead false lead h = h
+
+showable-within : (n width : ℕ) (wrap : Wrap) (lead : List Placed) (spot : Spot) (es : List Element) → 1 ≤ width → lead ≡ [] → AreChars es → AllRows width (rows_within n (cutting_at width wrap) lead spot es)
+showable-within zero width wrap lead spot es some none h = all-none width
+showable-within (suc n) width wrap lead spot [] some none h = all-none width
+showable-within (suc n) width wrap lead spot (e ∷ es) some none h =
+    let c : Cutting = cutting_at width wrap in
+    let start : Spot = next_row 0 spot in
+    let cut = cut_row c.shape start (e ∷ es) in
+    let ps : List Placed = place_all c.shape start cut.elements in
+    let is = cut-is c.shape start e es in
+    let parts = chars-parts cut.elements (drop (length cut.elements) (e ∷ es)) (subst AreChars is.parts h) in
+    rw none (all-cons width (laid c (behind_all start ps).used cut.marked ps) _ (row-showable width wrap (behind_all start ps).used (behind_all start ps).used cut.marked ps some (chars-run c start cut.elements parts.0))
+    (showable-within n width wrap (if cut.ended then [] else []) (if cut.ended then next_line (behind_all start ps) else behind_all start ps) (drop (length cut.elements) (e ∷ es)) some (no-lead cut.ended [] refl) parts.1))
 
 -- the rows of a line of printable characters can be shown
-pub rows-showable : (width : ℕ) (wrap : Wrap) (i : ℕ) (spot : Spot) (ps : List Placed) (cs : List ℕ) → 1 ≤ width → ArePrintable cs → IsRun 0 ps spot.used
-    → AllRows width (rows_from (cutting_at width wrap) spot ps (elements_from i cs))
-rows-showable width wrap i spot ps [] some printable run =
-    let c : Cutting = cutting_at width wrap in
-    let p : Placed = placed_at c.shape spot (line_end i) in
-    all-cons width (laid c (spot.used + p.columns) false (ps ++ p ∷ [])) [] (row-showable width wrap (spot.used + p.columns) spot.used false (ps ++ p ∷ []) some (run-end 0 spot.used ps p run (end-cell c spot i))) (all-none width)
-rows-showable width wrap i spot ps (ch ∷ cs) some printable run =
-    let c : Cutting = cutting_at width wrap in
-    let e : Element = char_element i ch in
-    let p : Placed = placed_at c.shape spot e in
-    let q : Placed = placed_at c.shape (next_row 0 spot) e in
-    let here = char-cell c spot i ch printable.0 printable.1 in
-    let fresh = char-cell c (next_row 0 spot) i ch printable.0 printable.1 in
-    by_cases (AllRows width) (fits c.shape spot e) _ _
-    (rows-showable width wrap (i + 1) (behind spot p) (ps ++ p ∷ []) cs some printable.2 (run-push 0 spot.used ps p run here))
-    (all-cons width (laid c spot.used true ps) _ (row-showable width wrap spot.used spot.used true ps some run)
-    (rows-showable width wrap (i + 1) (behind (next_row 0 spot) q) (q ∷ []) cs some printable.2 (run-one q fresh)))
+pub rows-showable : (width : ℕ) (wrap : Wrap) (cs : List ℕ) → 1 ≤ width → ArePrintable cs → AllRows width (rows_of (cutting_at width wrap) (elements_from 0 cs))
+rows-showable width wrap cs some printable = showable-within (length (elements_from 0 cs)) width wrap [] line_start (elements_from 0 cs) some refl (chars-from 0 cs printable)

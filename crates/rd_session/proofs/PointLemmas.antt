@@ -8,9 +8,9 @@ use Rattle.std.proofs.lemmas.Grind.{flat_map-append}
 use Rattle.std.proofs.lemmas.List.{take-append-drop}
 use Rattle.std.proofs.lemmas.List.Folds.{list_any-append}
 use Rattle.rd_matrix.specs.Columns.{covers, column_in, shown_column}
-use Rattle.rd_matrix.specs.Cursors.{or_below, column_shown, cursor_in}
+use Rattle.rd_matrix.specs.Cursors.{or_below}
+use Rattle.rd_session.specs.Shown.{column_of, cursor_of}
 use Rattle.rd_matrix.specs.declared.matrix.Entry.{Entry}
-use Rattle.rd_rows.specs.Placing.{line_start}
 use Rattle.rd_rows.specs.Rows.{LaidRow, RowMeaning}
 use Rattle.rd_rows.specs.Shapes.{ShapeValues}
 use Rattle.rd_rows.specs.declared.begin.Begin.{Begin}
@@ -46,10 +46,9 @@ numbered-ranges start k (r ∷ rs) = ap (λ xs. map (range_at start) r.row.begin
 -- the rows of a block hold each of its positions, in order
 pub block-ranges : (shape : ShapeValues) (b : BlockValue) → entry_ranges (block_rows shape b) ≡ singles b.start (length b.chars + 1)
 block-ranges shape b =
-    let here : b.start + 0 ≡ b.start = omega arith in
     let size : suc (length b.chars) ≡ length b.chars + 1 = omega arith in
-    let rows = ranges_in-rows shape b.start 0 line_start [] b.chars refl in
-    numbered-ranges b.start 0 (line_rows shape b) ∙ (rows ∙ (ap (λ k. singles k (suc (length b.chars))) here ∙ ap (singles b.start) size))
+    let rows = ranges_in-rows shape b.start b.chars in
+    numbered-ranges b.start 0 (line_rows shape b) ∙ (rows ∙ ap (singles b.start) size)
 
 pub block-holds : (shape : ShapeValues) (b : BlockValue) (point : ℕ) → list_any (begins_item point) (block_rows shape b) ≡ (nat_le b.start point && nat_lt point (b.start + (length b.chars + 1)))
 block-holds shape b point =
@@ -129,7 +128,7 @@ mapped-some : (row : RowMeaning) (column : Option ℕ) → is_some (option_map (
 mapped-some row (Some column) = refl
 mapped-some row None = refl
 
-shown-some : (point : ℕ) (e : Entry) → is_some (column_shown point e) ≡ begins_item point e
+shown-some : (point : ℕ) (e : Entry) → is_some (column_of point e) ≡ begins_item point e
 shown-some point e = mapped-some e.row.shown (column_in e.start point e.row.shown.begins) ∙ column-some e.start point e.row.shown.begins
 
 below-some : (column : Option ℕ) (below : Option (ℕ × ℕ)) → is_some (or_below column below) ≡ (is_some column || is_some below)
@@ -137,12 +136,12 @@ below-some (Some column) below = refl
 below-some None None = refl
 below-some None (Some place) = refl
 
-pub shows-any : (point : ℕ) (es : List Entry) → is_some (cursor_in point es) ≡ list_any (begins_item point) es
+pub shows-any : (point : ℕ) (es : List Entry) → is_some (cursor_of point es) ≡ list_any (begins_item point) es
 shows-any point [] = refl
 shows-any point (e ∷ es) =
     let here = shown-some point e in
     let later = shows-any point es in
-    below-some (column_shown point e) (cursor_in point es) ∙ cc
+    below-some (column_of point e) (cursor_of point es) ∙ cc
 
 found_in_row : (column : Option ℕ) (below : Option (ℕ × ℕ)) (t : Bool) (n : ℕ) → is_some column ≡ t → (t ≡ false → (cursor_row below ≡ n) × (is_some below ≡ true))
     → cursor_row (or_below column below) ≡ (if not t then 1 + n else 0)
@@ -156,10 +155,10 @@ later_true : (a b : Bool) → (a || b) ≡ true → a ≡ false → b ≡ true
 later_true true b h g = absurd (cc)
 later_true false b h g = h
 
-pub cursor_row-position : (point : ℕ) (es : List Entry) → list_any (begins_item point) es ≡ true → cursor_row (cursor_in point es) ≡ position_or_len (begins_item point) es
+pub cursor_row-position : (point : ℕ) (es : List Entry) → list_any (begins_item point) es ≡ true → cursor_row (cursor_of point es) ≡ position_or_len (begins_item point) es
 cursor_row-position point [] h = absurd (cc)
 cursor_row-position point (e ∷ es) h =
-    found_in_row (column_shown point e) (cursor_in point es) (begins_item point e) (position_or_len (begins_item point) es)
+    found_in_row (column_of point e) (cursor_of point es) (begins_item point e) (position_or_len (begins_item point) es)
     (shown-some point e)
     (λ passed.
     let later = later_true (begins_item point e) (list_any (begins_item point) es) h passed in

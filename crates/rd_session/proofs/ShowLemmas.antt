@@ -6,7 +6,6 @@ use Rattle.std.proofs.lemmas.List.{length-take}
 use Rattle.rd_base.specs.declared.settings.Anchor.{Anchor}
 use Rattle.rd_base.specs.declared.settings.Wrap.{Wrap}
 use Rattle.rd_matrix.specs.declared.matrix.Entry.{Entry}
-use Rattle.rd_rows.specs.Placing.{line_start}
 use Rattle.rd_rows.specs.Rows.{LaidRow}
 use Rattle.rd_rows.specs.Shapes.{ShapeValues}
 use Rattle.rd_script.specs.Forms.{each}
@@ -18,7 +17,7 @@ use Rattle.rd_session.specs.Plain.{AreShowable}
 use Rattle.rd_session.specs.Redisplay.{anchor_of}
 use Rattle.rd_session.proofs.BuiltLemmas.{each-take, each-drop}
 use Rattle.rd_session.proofs.CutLemmas.{length-between}
-use Rattle.rd_session.proofs.PlainLemmas.{ArePrintable, AllRows, rows-showable, run-none}
+use Rattle.rd_session.proofs.PlainLemmas.{ArePrintable, AllRows, rows-showable}
 
 -- the shape of a window that is not scrolled
 abbrev pub unscrolled : ℕ → Wrap → ShapeValues
@@ -31,7 +30,7 @@ numbered-showable width first last start k (r ∷ rs) p q h = (h.0, (p, q), numb
 block-showable : (width first last : ℕ) (wrap : Wrap) (b : BlockValue) → 1 ≤ width → ArePrintable b.chars → first ≤ b.start → b.start ≤ last
     → AreShowable width first last (block_rows (unscrolled width wrap) b)
 block-showable width first last wrap b some printable p q =
-    numbered-showable width first last b.start 0 (line_rows (unscrolled width wrap) b) p q (rows-showable width wrap 0 line_start [] b.chars some printable run-none)
+    numbered-showable width first last b.start 0 (line_rows (unscrolled width wrap) b) p q (rows-showable width wrap b.chars some printable)
 
 -- blocks of printable characters that begin in a part of the text
 AreBlocks : ℕ → ℕ → List BlockValue → Type 0

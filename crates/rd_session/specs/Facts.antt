@@ -1,6 +1,6 @@
 -- What a dump says of the window.
 use Rattle.std.specs.Prelude.{List}
-use Rattle.rd_matrix.specs.Cursors.{cursor_in}
+use Rattle.rd_session.specs.Shown.{cursor_of}
 use Rattle.rd_matrix.specs.declared.matrix.Entry.{Entry}
 use Rattle.rd_script.specs.declared.dump.WindowFacts.{WindowFacts}
 use Rattle.rd_state.specs.States.{StateValue}
@@ -13,4 +13,4 @@ place_of s = record { x = 0; y = 0; width = s.width; height = text_height s }
 
 -- the window, its place, its start, its point, and the cursor among the rows of the last redisplay
 abbrev pub facts_of : StateValue → List Entry → WindowFacts
-facts_of s rows = record { window = 0; rect = place_of s; start = s.window.anchor; point = s.window.point; cursor = cursor_in s.window.point rows }
+facts_of s rows = record { window = 0; rect = place_of s; start = s.window.anchor; point = s.window.point; cursor = cursor_of s.window.point rows }

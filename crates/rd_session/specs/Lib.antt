@@ -7,3 +7,4 @@ pub mod Places
 pub mod Plain
 pub mod Redisplay
 pub mod Sessions
+pub mod Shown

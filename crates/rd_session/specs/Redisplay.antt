@@ -2,7 +2,7 @@
 use Rattle.std.specs.Prelude.{ℕ, ◌-◌, Option, None, Some, List, [], ◌∷◌, ◌++◌, length, map, replicate, slice_get}
 use Rattle.rd_base.specs.declared.cell.Cell.{Cell}
 use Rattle.rd_base.specs.declared.settings.Anchor.{Anchor}
-use Rattle.rd_matrix.specs.Cursors.{cursor_in}
+use Rattle.rd_session.specs.Shown.{cursor_of}
 use Rattle.rd_matrix.specs.declared.matrix.Entry.{Entry}
 use Rattle.rd_rows.specs.Shapes.{ShapeValues}
 use Rattle.rd_state.specs.States.{BufferValue, StateValue}
@@ -55,8 +55,8 @@ with_cursor (Some place) p = record p { row = place.0; column = place.1 }
 abbrev pub painted : ℕ → ℕ → ℕ → List Entry → Picture
 painted width height point es = record {
   rows = window_rows width height es ++ blank_row width ∷ [];
-  row = (place_or_first (cursor_in point es)).0;
-  column = (place_or_first (cursor_in point es)).1;
+  row = (place_or_first (cursor_of point es)).0;
+  column = (place_or_first (cursor_of point es)).1;
 }
 
 -- what a redisplay leaves: the state with the window's new start, the rows in view, and the target screen

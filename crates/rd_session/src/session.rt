@@ -1,6 +1,6 @@
 //! A session.
 ghost use Rattle.std.specs.Prelude.{◌≡◌, ◌≤◌, ◌==◌, if◌then◌else◌, not, is_some, option_copied, IfOk, None, Some};
-ghost use Rattle.rd_matrix.specs.Cursors.{cursor_in};
+ghost use Rattle.rd_session.specs.Shown.{cursor_of};
 ghost use Rattle.rd_io.specs.Devices.{Rose};
 ghost use Rattle.rd_script.specs.Forms.{IsInForm};
 ghost use Rattle.rd_state.specs.Answers.{IsApplied};
@@ -192,7 +192,7 @@ impl Session {
     /// The place of the cursor, at the present point, among the rows of the last redisplay, as a row and a column of the window
     /// from 0. None exactly where no such window lives; `Some(None)` where no row holds the cursor.
     pub fn cursor(&self, w: u32) -> Option<Option<(u32, u32)>>
-        ensures { result ≡ (if w == 0 then Some (cursor_in self.now.state.window.point self.now.matrix) else None) }
+        ensures { result ≡ (if w == 0 then Some (cursor_of self.now.state.window.point self.now.matrix) else None) }
     {
         self.point(w).map(|point| self.matrix.cursor(point))
     }

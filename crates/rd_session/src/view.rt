@@ -4,7 +4,7 @@ ghost use Rattle.rd_text.specs.Texts.{IsText, IsAccessible};
 ghost use Rattle.rd_session.specs.Blocks.{blocks_of};
 ghost use Rattle.rd_session.specs.Cuts.{IsBlock, value_of};
 ghost use Rattle.rd_session.specs.Layout.{anchor_index, block_rows, held_row, point_index, text_rows, view_from, view_of};
-ghost use Rattle.rd_matrix.specs.Cursors.{cursor_in};
+ghost use Rattle.rd_session.specs.Shown.{cursor_of};
 ghost use Rattle.rd_session.specs.Places.{IsPlace, cursor_row, place_index, rows_above};
 
 use crate::block::{Block, block_after, block_before, block_of};
@@ -152,7 +152,7 @@ fn row_of<L: Ledger>(
 
 /// The row that holds the beginning of the item that covers a position.
 fn row_in(rows: &Matrix, point: Pos) -> u32
-    ensures { result ≡ cursor_row (cursor_in point rows.now) }
+    ensures { result ≡ cursor_row (cursor_of point rows.now) }
 {
     match rows.cursor(point) {
         Some((row, _)) => row,

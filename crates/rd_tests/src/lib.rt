@@ -5,76 +5,62 @@
 
 #[cfg(test)]
 mod base;
-
 #[cfg(test)]
 mod brackets;
 
 #[cfg(test)]
 mod claims;
-
 #[cfg(test)]
 mod explicit;
-
 #[cfg(test)]
 mod glyphs;
-
 #[cfg(test)]
 mod io;
-
 #[cfg(test)]
 mod items;
-
 #[cfg(test)]
 mod lanes;
-
+#[cfg(test)]
+mod matrix;
 #[cfg(test)]
 mod levels;
 
 #[cfg(test)]
 mod modeline;
-
 #[cfg(test)]
 mod objects;
-
 #[cfg(test)]
 mod order;
 
 #[cfg(test)]
 mod overlays;
-
 #[cfg(test)]
 mod para;
 
 #[cfg(test)]
 mod props;
-
 #[cfg(test)]
 mod resolve;
-
+#[cfg(test)]
+mod rows;
 #[cfg(test)]
 mod scenery;
-
 #[cfg(test)]
 mod script;
-
 #[cfg(test)]
 mod spans;
 
 #[cfg(test)]
 mod stack;
-
 #[cfg(test)]
 mod state;
-
 #[cfg(test)]
 mod term;
-
 #[cfg(test)]
 mod text;
 
 #[cfg(test)]
 mod tree;
-
 #[cfg(test)]
 mod ucd;
 

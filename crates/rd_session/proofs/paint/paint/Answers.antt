@@ -2,7 +2,7 @@ use Rattle.std.proofs.Common.{◌≡◌, ℕ, ◌+◌, List, length, arith, sym,
 use Rattle.std.specs.Prelude.{slice_set}
 use Rattle.rd_base.specs.declared.cell.Cell.{Cell}
 use Rattle.rd_term.specs.Pictures.{Picture, width_of}
-use Rattle.rd_matrix.specs.Cursors.{cursor_in}
+use Rattle.rd_session.specs.Shown.{cursor_of}
 use Rattle.rd_matrix.specs.declared.matrix.Entry.{Entry}
 use Rattle.rd_session.specs.Redisplay.{with_cursor}
 use Rattle.rd_session.proofs.PaintLemmas.{painted_so_far, painted-step, painted-width, painted-rows, with-new-rows, cursor-moved, showable-at, cursor-within, painted-all}
@@ -46,7 +46,7 @@ place_cursor-requires c =
     let rows = painted-rows c.args.width c.args.height c.loop-row.row es (omega arith) (let room = c.requires.room in omega arith) in
     let tall : length c.loop-row.screen.rows ≡ c.args.height = ap (λ (p : Picture). length p.rows) c.loop-row.invariant ∙ rows in
     let room = c.requires.room in
-    cursor-moved (length es) c.args.width (length c.loop-row.screen.rows) (width_of c.loop-row.screen.rows) (cursor_in c.args.point es) c.cursor.result c.cursor.ensures
+    cursor-moved (length es) c.args.width (length c.loop-row.screen.rows) (width_of c.loop-row.screen.rows) (cursor_of c.args.point es) c.cursor.result c.cursor.ensures
     (cursor-within c.args.width h.0 h.1.0 c.args.point es h.1.1) (omega arith) (omega arith)
 
 pub returns : goal.returns
@@ -58,5 +58,5 @@ returns c =
     let es : List Entry = c.args.matrix.now in
     let whole : c.loop-row.row ≡ length es = omega arith in
     c.place_cursor.ensures ∙ (ap (λ cursor. with_cursor cursor c.loop-row.screen) c.cursor.ensures
-    ∙ (ap (with_cursor (cursor_in c.args.point es)) (c.loop-row.invariant ∙ ap (λ n. painted_so_far c.args.width c.args.height n es) whole)
-    ∙ painted-all c.args.width c.args.height es (cursor_in c.args.point es) room))
+    ∙ (ap (with_cursor (cursor_of c.args.point es)) (c.loop-row.invariant ∙ ap (λ n. painted_so_far c.args.width c.args.height n es) whole)
+    ∙ painted-all c.args.width c.args.height es (cursor_of c.args.point es) room))
