@@ -3,11 +3,12 @@ use Rattle.std.proofs.Common.{◌≡◌, ℕ, zero, suc, ◌+◌, ◌-◌, ◌<�
 use Rattle.std.specs.Prelude.{unwrap_or, max}
 use Rattle.std.specs.List.{slice_split}
 use Rattle.std.proofs.lemmas.Bool.{cases_lt}
-use Rattle.rd_text.specs.Texts.{TextValue, IsText, between, is_newline, is_ink, is_separator, next_newline, prev_ink, IsLineStart, EndsSeparator, IsParagraphStart}
+use Rattle.std.proofs.lemmas.List.Sums.{suffix_len_is}
+use Rattle.rd_text.specs.Texts.{TextValue, IsText, between, is_newline, is_ink, is_separator, next_newline, prev_newline, prev_ink, IsLineStart, EndsSeparator, IsParagraphStart}
 use Rattle.rd_ucd.specs.declared.spans.Span.{Span}
 use Rattle.rd_para.specs.Paragraphs.{line_level, first_of, decided, level_by, levels_of, text_level}
 use Rattle.rd_para.proofs.Cuts.{line_cut, line_length, some_line, levels_here, levels_next}
-use Rattle.rd_para.proofs.Inks.{clash, blank_else, blank_not_ink, newline_not_ink, next_before, next_at, ink_after, ink_at, prev_ink_bound, all_blank, blank_at}
+use Rattle.rd_para.proofs.Inks.{clash, blank_else, blank_not_ink, newline_not_ink, next_before, next_at, ink_after, ink_at, prev_ink_bound, between_at, between_size, all_blank, some_ink, blank_at}
 
 or_true : (b : Bool) → (b || true) ≡ true
 or_true true = refl
@@ -308,6 +309,21 @@ module _ (classes : List Span) (t : TextValue) (right : IsText t) where
               ∙ stays t.end (to + 1) p whole (not (is_separator text)) (omega arith) (omega arith) next_line (omega arith) p_high next_kind
         ]
 
+-- the end of a line is its own
+pub ends_itself : (t : TextValue) (right : IsText t) (pos : ℕ) → t.begin ≤ pos → pos ≤ t.end → next_newline t pos ≡ next_newline t (next_newline t pos)
+ends_itself t right pos low high =
+    let to = next_newline t pos in
+    let c = line_cut t pos right low high in
+    let order = c.order in
+    let within = c.within in
+    let d = line_cut t to right (omega arith) within in
+    let d_order = d.order in
+    let d_within = d.within in
+    elim (cases_lt to (next_newline t to)) [
+      | inr same ↦ omega arith
+      | inl past ↦ clash _ (next_at t right pos low high (omega arith)) (next_before t right to to (omega arith) within (omega arith) past (omega arith))
+    ]
+
 -- the start of a paragraph, by the places that the code finds, stands before the position
 pub start_before : (t : TextValue) (right : IsText t) (pos ink place start : ℕ) → t.begin ≤ pos → pos ≤ t.end → ink ≡ prev_ink t (next_newline t pos) → place ≡ max t.begin (ink - 1)
     → IsParagraphStart t place start → start ≤ pos
@@ -348,3 +364,76 @@ paragraph_is classes t right pos ink place start low high ink_is place_is begins
       | inr none ↦ inl (omega arith)
     ])
     p at p_high
+
+-- the level of the line behind one that ends at `end`, by the level there and by what the two lines are
+pub record NextLine (classes : List Span) (t : TextValue) (end : ℕ) : Type 0 where
+  pub kept : (p : ℕ) → end + 1 ≤ p → p ≤ next_newline t (end + 1) → (prev_ink t (next_newline t (end + 1)) ≤ end + 1) ⊎ (prev_newline t end < prev_ink t end)
+      → text_level classes t p ≡ text_level classes t end
+  pub fresh : (p : ℕ) → end + 1 ≤ p → p ≤ next_newline t (end + 1) → end + 1 < prev_ink t (next_newline t (end + 1)) → prev_ink t end ≤ prev_newline t end
+      → text_level classes t p ≡ unwrap_or (decided classes (rows t (end + 1))) 0
+
+-- where a line begins, as a search finds it
+prev_is : (t : TextValue) (right : IsText t) (start pos : ℕ) → t.begin ≤ start → start ≤ pos → pos ≤ t.end → IsLineStart t start
+    → ((k : ℕ) → start ≤ k → k < pos → is_newline (get_or t.text (k - 1) 0) ≡ false) → prev_newline t pos ≡ start
+prev_is t right start pos low order high begins clear =
+    let first = right.first in
+    let xs = between t t.begin pos in
+    let size = between_size t right t.begin pos (omega arith) (omega arith) high in
+    let at : (k : ℕ) → k < length xs → get_or xs k 0 ≡ get_or t.text (t.begin + k - 1) 0
+    = λ k less. let place : t.begin + k - t.begin ≡ k = omega arith in
+    ap (λ (n : ℕ). get_or xs n 0) (sym place) ∙ between_at t right t.begin pos (t.begin + k) (omega arith) (omega arith) (omega arith) in
+    let e = suffix_len_is (λ c. not (is_newline c)) xs (start - t.begin) 0 (omega arith)
+    (λ k lo hi. ap (λ (c : ℕ). not (is_newline c)) (at k hi) ∙ ap not (clear (t.begin + k) (omega arith) (omega arith)))
+    (λ some. elim begins [
+      | inl is ↦ absurd (omega arith)
+      | inr line ↦ ap (λ (c : ℕ). not (is_newline c)) (at (start - t.begin - 1) (omega arith) ∙ (let e : t.begin + (start - t.begin - 1) - 1 ≡ start - 1 - 1 = omega arith in ap (λ (n : ℕ). get_or t.text n 0) e)) ∙ ap not line.1
+    ]) in
+    omega arith
+
+-- a line is one of blanks alone just where nothing else stands in it
+line_blank : (t : TextValue) (right : IsText t) (from to : ℕ) → t.begin ≤ from → from ≤ to → to ≤ t.end → ((k : ℕ) → from ≤ k → k < to → is_newline (get_or t.text (k - 1) 0) ≡ false)
+    → prev_ink t to ≤ from → is_separator (between t from to) ≡ true
+line_blank t right from to low order high clear none =
+    all_blank t right from to low order high
+    (λ k at less. blank_else (get_or t.text (k - 1) 0) (clear k at less) (ink_after t right to k (omega arith) high (omega arith) (omega arith) less))
+
+line_ink : (t : TextValue) (right : IsText t) (from to : ℕ) → t.begin ≤ from → from ≤ to → to ≤ t.end → from < prev_ink t to → is_separator (between t from to) ≡ false
+line_ink t right from to low order high some =
+    let bound = prev_ink_bound t right to (omega arith) high in
+    some_ink t right from to (prev_ink t to - 1) low (omega arith) (omega arith) high (ink_at t right to (omega arith) high (omega arith))
+
+pub next_line_is : (classes : List Span) (t : TextValue) (right : IsText t) (end : ℕ) → t.begin ≤ end → end < t.end → is_newline (get_or t.text (end - 1) 0) ≡ true → NextLine classes t end
+next_line_is classes t right end low more newline =
+    let from : ℕ = end + 1 in
+    let back : from - 1 ≡ end = omega arith in
+    let code : from - 1 - 1 ≡ end - 1 = omega arith in
+    let b = reach classes t right from t.begin from (omega arith) (from_begin classes t right) (inl refl) (omega arith) (omega arith) (omega arith) (ap (λ (n : ℕ). is_newline (get_or t.text n 0)) code ∙ newline) in
+    let first = b.first in
+    let order = b.order in
+    let start_is : prev_newline t end ≡ b.start = prev_is t right b.start end first (omega arith) (omega arith) b.begins (λ k at less. b.clear k at (omega arith)) in
+    let inside : b.reached.inside ≡ not (is_separator (between t b.start end)) = b.inside_is ∙ ap (λ (n : ℕ). not (is_separator (between t b.start n))) back in
+    let last : b.reached.last ≡ text_level classes t end = b.last_is ∙ ap (text_level classes t) back in
+    let to = next_newline t from in
+    let c = line_cut t from right (omega arith) (omega arith) in
+    let c_order = c.order in
+    let c_within = c.within in
+    let some = some_line t from to c in
+    let text = between t from to in
+    let level = λ (p : ℕ) (at : from ≤ p) (within : p ≤ to). line_is classes t right from b.reached (omega arith) (omega arith) p at within some.0 some.1 in
+    record {
+      kept = λ p at within kind. level p at within ∙ elim kind [
+        | inl blank ↦
+            ap (λ (v : Bool). if v || b.reached.inside then b.reached.last else unwrap_or (decided classes (text ∷ some.0)) 0)
+            (line_blank t right from to (omega arith) c_order c_within (λ k lo hi. next_before t right from k (omega arith) (omega arith) lo hi (omega arith)) blank) ∙ last
+        | inr ink ↦
+            ap (λ (v : Bool). if is_separator text || v then b.reached.last else unwrap_or (decided classes (text ∷ some.0)) 0)
+            (inside ∙ ap not (line_ink t right b.start end first (omega arith) (omega arith) (omega arith)))
+            ∙ ap (λ (v : Bool). if v then b.reached.last else unwrap_or (decided classes (text ∷ some.0)) 0) (or_true (is_separator text)) ∙ last
+      ];
+      fresh = λ p at within ink blank. level p at within
+          ∙ ap (λ (v : Bool). if v || b.reached.inside then b.reached.last else unwrap_or (decided classes (text ∷ some.0)) 0)
+          (line_ink t right from to (omega arith) c_order c_within ink)
+          ∙ ap (λ (v : Bool). if v then b.reached.last else unwrap_or (decided classes (text ∷ some.0)) 0)
+          (inside ∙ ap not (line_blank t right b.start end first (omega arith) (omega arith) (λ k lo hi. b.clear k lo (omega arith)) (omega arith)))
+          ∙ ap (λ (ls : List (List ℕ)). unwrap_or (decided classes ls) 0) (sym some.1);
+    }

@@ -1,9 +1,9 @@
 //! Base levels.
-ghost use Rattle.std.specs.Prelude.{◌≡◌, ◌||◌, if◌then◌else◌, unwrap_or};
+ghost use Rattle.std.specs.Prelude.{◌≡◌, ◌+◌, ◌<◌, ◌≤◌, unwrap_or};
 ghost use Rattle.std.specs.List.{slice_split};
-ghost use Rattle.rd_text.specs.Texts.{IsAccessible, between, is_newline};
+ghost use Rattle.rd_text.specs.Texts.{IsAccessible, between, is_newline, next_newline};
 ghost use Rattle.rd_para.specs.Paragraphs.{base_at, decided};
-ghost use Rattle.rd_para.specs.Known.{IsParagraph};
+ghost use Rattle.rd_para.specs.Known.{IsKnown, IsParagraph};
 
 use crate::line::{is_blank_line, level_of_line};
 use crate::paragraph::Paragraph;
@@ -41,6 +41,43 @@ pub fn paragraph_at(text: &Buffer, classes: &Classes, pos: Pos) -> Paragraph
     let to = text.next_newline(pos);
     let place = begin.max(text.prev_ink(to) - 1);
     let from = text.paragraph_start(place);
+    Paragraph {
+        from,
+        to,
+        base: paragraph_level(text, classes, from),
+    }
+}
+
+/// The paragraph of the line behind one that is known: the same, further, unless a text line follows a separator. So whoever
+/// reads a text line by line asks for one paragraph, and then goes on from it.
+///
+/// It reads what tells whether the two lines are separators, and a paragraph that begins here up to its first strong character.
+pub fn next_line(text: &Buffer, classes: &Classes, known: &Paragraph) -> Paragraph
+    requires known { IsKnown classes.now text.now known.now }
+    requires more { known.now.to < text.now.end }
+    ensures known { IsKnown classes.now text.now result }
+    ensures low { result.from ≤ known.now.to + 1 }
+    ensures high { result.to ≡ next_newline text.now (known.now.to + 1) }
+{
+    let begin = text.begin();
+    let from = known.to + 1;
+    let to = text.next_newline(from);
+    let base = known.base;
+    let start = known.from;
+    if text.prev_ink(to) <= from {
+        return Paragraph {
+            from: start,
+            to,
+            base,
+        };
+    }
+    if text.prev_newline(known.to) < text.prev_ink(known.to) {
+        return Paragraph {
+            from: start,
+            to,
+            base,
+        };
+    }
     Paragraph {
         from,
         to,

@@ -1,6 +1,6 @@
 //! Base levels of three paragraphs.
 use rd_base::{Ch, Direction};
-use rd_para::{base_level, paragraph_at};
+use rd_para::{base_level, next_line, paragraph_at};
 use rd_text::Buffer;
 use rd_ucd::Classes;
 use std::test::Fail;
@@ -31,5 +31,11 @@ fn paragraphs_have_their_levels(rt: HostRuntime) -> Result<(), Fail> {
     assert!(rt; base_level(&text, &classes, Direction::Right, 7) == 1);
     let known = paragraph_at(&text, &classes, 4);
     assert!(rt; (known.from, known.to, known.base) == (1, 5, 1));
+    assert!(rt; known.to < text.end());
+    let blank = next_line(&text, &classes, &known);
+    assert!(rt; (blank.from, blank.to, blank.base) == (1, 6, 1));
+    assert!(rt; blank.to < text.end());
+    let last = next_line(&text, &classes, &blank);
+    assert!(rt; (last.from, last.to, last.base) == (7, 8, 0));
     Ok(())
 }

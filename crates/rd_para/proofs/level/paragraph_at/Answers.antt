@@ -1,9 +1,9 @@
 use Rattle.std.proofs.Common.{◌-◌, ℕ, sym, ap, subst, ◌∙◌, arith}
 use Rattle.std.specs.Prelude.{max}
-use Rattle.rd_text.specs.Texts.{IsParagraphStart, prev_ink}
+use Rattle.rd_text.specs.Texts.{IsParagraphStart, next_newline, prev_ink}
 use Rattle.rd_para.proofs.Cuts.{line_cut}
 use Rattle.rd_para.proofs.Inks.{prev_ink_bound}
-use Rattle.rd_para.proofs.Walks.{paragraph_is, start_before}
+use Rattle.rd_para.proofs.Walks.{paragraph_is, start_before, ends_itself}
 use Rattle.rd_para.proofs.level.paragraph_at.Goals as goal
 
 pub prev_ink-requires : goal.prev_ink-requires
@@ -84,11 +84,17 @@ returns c =
     let start_high = start.order in
     let before = start_before t right c.args.pos c.prev_ink.result c.max-place.result from c.requires.0 c.requires.1 ink_is place_is start in
     let whole = place_is ∙ ap (λ (n : ℕ). max t.begin (n - 1)) ink_is in
+    let first = start.first in
+    let within = cut.within in
     record {
-      first = subst (λ (n : ℕ). IsParagraphStart t n from) whole start;
-      last = is;
+      known = record {
+        first = first;
+        order = omega arith;
+        last = omega arith;
+        ends = is ∙ ends_itself t right c.args.pos c.requires.0 c.requires.1 ∙ ap (next_newline t) (sym is);
+        same = λ p low high. level p low (omega arith) ∙ sym c.paragraph_level.ensures;
+      };
+      start = subst (λ (n : ℕ). IsParagraphStart t n from) whole start;
       low = before;
-      high = omega arith;
-      base = c.paragraph_level.ensures ∙ sym (level c.args.pos before order);
-      same = λ p low high. level p low (omega arith) ∙ sym c.paragraph_level.ensures;
+      high = is;
     }
