@@ -14,7 +14,6 @@ use crate::begin::Begin;
 use crate::cutting::Cutting;
 use crate::mirror::mirror_image;
 use crate::prefix::Prefix;
-use crate::repeat::add_copies;
 use crate::row::Row;
 use crate::shape::Shape;
 use crate::spot::{Placed, Spot};
@@ -56,10 +55,10 @@ fn add_glyph(cells: &mut ListOf<Cell>, columns: u64, glyph: Glyph, face: Face) -
     ensures { OnOk result (cells.new ≡ cells.old ++ glyph_cells columns glyph face) }
 {
     if glyph.is_space() {
-        return add_copies(cells, columns, Cell::Blank(face));
+        return cells.push_copies(columns, Cell::Blank(face));
     }
     cells.push(Cell::First(glyph, face))?;
-    add_copies(cells, columns.saturating_sub(1), Cell::Rest)
+    cells.push_copies(columns.saturating_sub(1), Cell::Rest)
 }
 
 /// Adds the cells of an element that is seen whole.
@@ -68,7 +67,7 @@ fn add_whole(cells: &mut ListOf<Cell>, placed: &Placed) -> Result<(), Memory>
 {
     match placed.element.look {
         Look::Glyph(glyph) => add_glyph(cells, placed.columns, glyph, placed.element.face),
-        _ => add_copies(cells, placed.columns, Cell::Blank(placed.element.face)),
+        _ => cells.push_copies(placed.columns, Cell::Blank(placed.element.face)),
     }
 }
 
@@ -84,7 +83,7 @@ fn add_seen(cells: &mut ListOf<Cell>, shape: Shape, placed: &Placed) -> Result<(
         return add_whole(cells, placed);
     }
     let columns = end.min(to).saturating_sub(placed.start.max(from));
-    add_copies(cells, columns, Cell::Blank(placed.element.face))
+    cells.push_copies(columns, Cell::Blank(placed.element.face))
 }
 
 /// Notes where an item begins.
@@ -191,7 +190,7 @@ impl Draft {
         let mut cells = behind_mark(alloc, cutting, spot.used, cells)?;
         let room = cutting.shape.room();
         let missing = room.saturating_sub(cells.len() as u64);
-        add_copies(&mut cells, missing, Cell::Blank(Face::PLAIN))?;
+        cells.push_copies(missing, Cell::Blank(Face::PLAIN))?;
         cells.push(last_cell(cutting, spot.used, continued))?;
         let cells = from_edge(alloc, cutting.reversed, cells)?;
         Ok(Row::made(alloc, cells, begins, cutting.reversed, ends_block))

@@ -11,7 +11,6 @@ mod maker;
 mod making;
 mod mirror;
 mod prefix;
-mod repeat;
 mod row;
 mod shape;
 mod spot;

@@ -3,7 +3,6 @@ ghost use Rattle.std.specs.Prelude.{◌≡◌, ◌++◌, ◌∷◌, replicate, O
 ghost use Rattle.rd_base.specs.declared.cell.Cell.TheVariants.{Rest};
 ghost use Rattle.rd_rows.specs.Mirrors.{mirror_image};
 
-use crate::repeat::add_copies;
 use rd_base::{Cell, ListOf, Memory};
 use std::alloc::Global;
 
@@ -30,5 +29,5 @@ fn add_with_rests(image: &mut ListOf<Cell>, cell: Cell, rests: u64) -> Result<()
     ensures { OnOk result (image.new ≡ image.old ++ cell ∷ replicate rests Rest) }
 {
     image.push(cell)?;
-    add_copies(image, rests, Cell::Rest)
+    image.push_copies(rests, Cell::Rest)
 }

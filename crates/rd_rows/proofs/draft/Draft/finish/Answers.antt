@@ -10,4 +10,4 @@ made-requires c =
     let sub = c.saturating_sub-missing.ensures in
     let len = c.len.ensures in
     made-length c.args.cutting.now c.args.self.spot.used c.saturating_sub-missing.result c.args.self.cells _ _ _ _ _ _
-    (omega (arith, least, room)) (omega (arith, bound, room)) c.requires c.in_ok-cells.ensures (omega (arith, sub, len, room)) c.in_ok-add_copies.ensures c.in_ok-push.ensures.ok c.in_ok-cells-2.ensures
+    (omega (arith, least, room)) (omega (arith, bound, room)) c.requires c.in_ok-cells.ensures (omega (arith, sub, len, room)) c.in_ok-push_copies.ensures c.in_ok-push.ensures.ok c.in_ok-cells-2.ensures
