@@ -2,8 +2,7 @@
 use Rattle.std.specs.Prelude.{ℕ, List, [], get_or, Option, None}
 use Rattle.rd_base.specs.Settings.{SettingValues, opening}
 use Rattle.rd_text.specs.Texts.{TextValue, no_text}
-use Rattle.rd_spans.specs.declared.run.Run.{Run}
-use Rattle.rd_spans.specs.Runs.{value_at}
+use Rattle.rd_spans.specs.Values.{value_at}
 use Rattle.rd_overlays.specs.declared.overlay.Overlay.{Overlay}
 use Rattle.rd_overlays.specs.declared.overlay.Kind.{Kind}
 use Rattle.rd_overlays.specs.Overlays.{place_of}
@@ -17,8 +16,8 @@ pub record BufferValue : Type 0 where
   pub overlays : List (Option Overlay)
   pub settings : SettingValues
 
--- what runs of values, one for each kind, give a position
-abbrev pub values_of : List (List Run) → ℕ → ℕ → Option ℕ
+-- what lists of values, one for each kind, give a position
+abbrev pub values_of : List (List (Option ℕ)) → ℕ → ℕ → Option ℕ
 values_of spans kind p = value_at (get_or spans kind []) p
 
 -- what the parts of a buffer mean

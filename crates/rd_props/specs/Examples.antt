@@ -1,9 +1,8 @@
 -- Buffers on which the definitions are worked out.
-use Rattle.std.specs.Prelude.{ℕ, pos, false, List, [], ◌∷◌, Option, None, Some}
+use Rattle.std.specs.Prelude.{ℕ, ◌-◌, pos, false, List, [], ◌∷◌, ◌++◌, replicate, Option, None, Some}
 use Rattle.rd_base.specs.Faces.{plain}
 use Rattle.rd_base.specs.Settings.{opening}
 use Rattle.rd_base.specs.declared.settings.Invisible as setting
-use Rattle.rd_spans.specs.declared.run.Run.{Run}
 use Rattle.rd_overlays.specs.declared.overlay.Overlay.{Overlay}
 use Rattle.rd_overlays.specs.declared.overlay.Kind.TheVariants.{Face, Before, After}
 use Rattle.rd_overlays.specs.Overlays.{new_overlay, given}
@@ -11,11 +10,11 @@ use Rattle.rd_props.specs.Buffers.{BufferValue, values_of}
 use Rattle.rd_objects.specs.Things.{ObjectLists, nothing_made}
 
 -- a property with one value from one position up to another
-abbrev pub put_once : ℕ → ℕ → ℕ → List Run
-put_once from to value = record { end = from; value = None } ∷ record { end = to; value = Some value } ∷ []
+abbrev pub put_once : ℕ → ℕ → ℕ → List (Option ℕ)
+put_once from to value = replicate from None ++ replicate (to - from) (Some value)
 
 -- three characters with a face, display specs, atoms and overlays
-abbrev pub three_characters : List Run → List Run → List Run → List (Option Overlay) → BufferValue
+abbrev pub three_characters : List (Option ℕ) → List (Option ℕ) → List (Option ℕ) → List (Option Overlay) → BufferValue
 three_characters faces specs atoms overlays = record {
   text = record { text = 97 ∷ 98 ∷ 99 ∷ []; begin = 1; end = 4 };
   properties = values_of (faces ∷ specs ∷ atoms ∷ []);

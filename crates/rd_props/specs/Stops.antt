@@ -1,10 +1,8 @@
 -- How far nothing changes.
-use Rattle.std.specs.Prelude.{◌≡◌, ◌⊎◌, ℕ, ◌<◌, ◌≤◌, min, List, slice_get, Option, None, Some}
-use Rattle.rd_spans.specs.declared.run.Run.{Run}
-use Rattle.rd_spans.specs.Runs.{value_at}
+use Rattle.std.specs.Prelude.{◌≡◌, ◌⊎◌, ℕ, ◌<◌, ◌≤◌, min, List, Option, None, Some}
 use Rattle.rd_overlays.specs.declared.overlay.Overlay.{Overlay}
 use Rattle.rd_overlays.specs.Overlays.{overlay_at}
-use Rattle.rd_props.specs.Buffers.{BufferValue}
+use Rattle.rd_props.specs.Buffers.{BufferValue, values_of}
 
 -- every text property has the same value at two positions
 abbrev pub AreSame : BufferValue → ℕ → ℕ → Type 0
@@ -34,20 +32,20 @@ pub record IsFirstEdge (slots : List (Option Overlay)) (end pos stop : ℕ) : Ty
   pub no_edge : (p : ℕ) → pos < p → p < stop → HasEdge slots p → ⊥
   pub reason : stop < end → HasEdge slots stop
 
--- some of these properties, each given by its runs, has other values at two positions
-abbrev pub RunsDiffer : List (List Run) → ℕ → ℕ → Type 0
-RunsDiffer spans p q = (kind : ℕ) × (runs : List Run) × (slice_get spans kind ≡ Some runs) × (value_at runs p ≡ value_at runs q → ⊥)
+-- some of these properties has other values at two positions
+abbrev pub ValuesDiffer : List (List (Option ℕ)) → ℕ → ℕ → Type 0
+ValuesDiffer spans p q = (kind : ℕ) × (values_of spans kind p ≡ values_of spans kind q → ⊥)
 
 -- each of them has the same value at two positions
-abbrev pub RunsAgree : List (List Run) → ℕ → ℕ → Type 0
-RunsAgree spans p q = (kind : ℕ) (runs : List Run) → slice_get spans kind ≡ Some runs → value_at runs p ≡ value_at runs q
+abbrev pub ValuesAgree : List (List (Option ℕ)) → ℕ → ℕ → Type 0
+ValuesAgree spans p q = (kind : ℕ) → values_of spans kind p ≡ values_of spans kind q
 
 -- the first change of one of them behind a position, and the end where there is none before it
-pub record IsFirstChange (spans : List (List Run)) (end pos stop : ℕ) : Type 0 where
+pub record IsFirstChange (spans : List (List (Option ℕ))) (end pos stop : ℕ) : Type 0 where
   pub later : pos < stop
   pub within : stop ≤ end
-  pub same : (p : ℕ) → pos < p → p < stop → RunsAgree spans p pos
-  pub reason : stop < end → RunsDiffer spans stop pos
+  pub same : (p : ℕ) → pos < p → p < stop → ValuesAgree spans p pos
+  pub reason : stop < end → ValuesDiffer spans stop pos
 
 -- the lesser of a place and one that may be missing
 abbrev pub sooner : ℕ → Option ℕ → ℕ

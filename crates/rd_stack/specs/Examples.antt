@@ -9,7 +9,6 @@ use Rattle.rd_base.specs.declared.element.Look.{Look}
 use Rattle.rd_base.specs.declared.element.Look.TheVariants as look
 use Rattle.rd_base.specs.declared.settings.Invisible.{Invisible}
 use Rattle.rd_ucd.specs.declared.spans.Span.{Span}
-use Rattle.rd_spans.specs.declared.run.Run.{Run}
 use Rattle.rd_overlays.specs.declared.overlay.Overlay.{Overlay}
 use Rattle.rd_overlays.specs.declared.overlay.Kind.TheVariants.{Before}
 use Rattle.rd_overlays.specs.Overlays.{new_overlay, given}
@@ -31,7 +30,7 @@ abbrev pub letter : ℕ → ℕ → ℕ → ℕ → Element
 letter c item from to = plain_look (look.Glyph (single c 1)) item from to
 
 -- a text with properties and overlays
-abbrev pub buffer : List ℕ → List (List Run) → List (Option Overlay) → Invisible → BufferValue
+abbrev pub buffer : List ℕ → List (List (Option ℕ)) → List (Option Overlay) → Invisible → BufferValue
 buffer chars properties overlays invisible = record {
   text = record { text = chars; begin = 1; end = length chars + 1 };
   properties = values_of properties;

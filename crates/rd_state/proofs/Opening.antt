@@ -4,8 +4,7 @@ use Rattle.std.proofs.lemmas.Bool.{cases_eq, cases_lt}
 use Rattle.std.proofs.lemmas.Bool.Decides.{nat_tests}
 use Rattle.std.proofs.lemmas.List.{get_or-set_same, get_or-set_other, get_or_default, get_or_past, set-get_or}
 use Rattle.std.specs.Prelude.{is_err, OnOk, OnErr}
-use Rattle.rd_spans.specs.declared.run.Run.{Run}
-use Rattle.rd_spans.specs.Runs.{value_at, opened_at, closed_at}
+use Rattle.rd_spans.specs.Values.{value_at, opened_at, closed_at}
 use Rattle.rd_props.specs.Buffers.{values_of}
 use Rattle.rd_state.specs.Values.{opened, closed}
 
@@ -47,7 +46,7 @@ abbrev pub changed_first : Change → (ℕ → ℕ → Option ℕ) → ℕ → �
 changed_first change old k kind p = if nat_lt kind k then change old kind p else old kind p
 
 -- one more kind is changed
-one-more : (change : Change) (spans : List (List Run)) (old : ℕ → ℕ → Option ℕ) (k : ℕ) (was now : List Run) → k < length spans → was ≡ get_or spans k was
+one-more : (change : Change) (spans : List (List (Option ℕ))) (old : ℕ → ℕ → Option ℕ) (k : ℕ) (was now : List (Option ℕ)) → k < length spans → was ≡ get_or spans k was
     → ((p : ℕ) → ((q : ℕ) → value_at was q ≡ old k q) → value_at now p ≡ change old k p)
     → ((kind p : ℕ) → values_of spans kind p ≡ changed_first change old k kind p)
     → (kind p : ℕ) → values_of (set spans k now) kind p ≡ changed_first change old (k + 1) kind p
@@ -65,7 +64,7 @@ one-more change spans old k was now there is made before kind p =
           ∙ (before kind p ∙ ap (λ t. if t then change old kind p else old kind p) (sym (same-less kind k other)))
     ]
 
-pub one-opened : (spans : List (List Run)) (old : ℕ → ℕ → Option ℕ) (pos n k : ℕ) (was now : List Run) → k < length spans → was ≡ get_or spans k was
+pub one-opened : (spans : List (List (Option ℕ))) (old : ℕ → ℕ → Option ℕ) (pos n k : ℕ) (was now : List (Option ℕ)) → k < length spans → was ≡ get_or spans k was
     → ((p : ℕ) → value_at now p ≡ opened_at (get_or spans k was) pos n p)
     → ((kind p : ℕ) → values_of spans kind p ≡ changed_first (λ f. opened f pos n) old k kind p)
     → (kind p : ℕ) → values_of (set spans k now) kind p ≡ changed_first (λ f. opened f pos n) old (k + 1) kind p
@@ -73,7 +72,7 @@ one-opened spans old pos n k was now there is made =
     one-more (λ f. opened f pos n) spans old k was now there is
     (λ p e. made p ∙ ap (λ rs. opened_at rs pos n p) (sym is) ∙ branches (nat_lt p pos) _ _ _ _ (e p) (branches (nat_lt p (pos + n)) None (value_at was (p - n)) None (old k (p - n)) (cc) (e (p - n))))
 
-pub one-closed : (spans : List (List Run)) (old : ℕ → ℕ → Option ℕ) (from to k : ℕ) (was now : List Run) → k < length spans → was ≡ get_or spans k was
+pub one-closed : (spans : List (List (Option ℕ))) (old : ℕ → ℕ → Option ℕ) (from to k : ℕ) (was now : List (Option ℕ)) → k < length spans → was ≡ get_or spans k was
     → ((p : ℕ) → value_at now p ≡ closed_at (get_or spans k was) from to p)
     → ((kind p : ℕ) → values_of spans kind p ≡ changed_first (λ f. closed f from to) old k kind p)
     → (kind p : ℕ) → values_of (set spans k now) kind p ≡ changed_first (λ f. closed f from to) old (k + 1) kind p
@@ -84,10 +83,10 @@ one-closed spans old from to k was now there is made =
 -- ---- all kinds
 
 -- no kind behind the last has a value
-none-behind : (spans : List (List Run)) (kind p : ℕ) → length spans ≤ kind → values_of spans kind p ≡ None
+none-behind : (spans : List (List (Option ℕ))) (kind p : ℕ) → length spans ≤ kind → values_of spans kind p ≡ None
 none-behind spans kind p past = ap (λ rs. value_at rs p) (get_or_past spans kind [] past)
 
-pub all-opened : (spans old : List (List Run)) (pos n k : ℕ) → length old ≤ k
+pub all-opened : (spans old : List (List (Option ℕ))) (pos n k : ℕ) → length old ≤ k
     → ((kind p : ℕ) → values_of spans kind p ≡ changed_first (λ f. opened f pos n) (values_of old) k kind p)
     → (kind p : ℕ) → values_of spans kind p ≡ opened (values_of old) pos n kind p
 all-opened spans old pos n k all h kind p = elim (cases_lt kind k) [
@@ -98,7 +97,7 @@ all-opened spans old pos n k all h kind p = elim (cases_lt kind k) [
       ∙ (none p ∙ sym (either (nat_lt p pos) _ _ None (none p) (either (nat_lt p (pos + n)) None _ None (cc) (none (p - n))))))
 ]
 
-pub all-closed : (spans old : List (List Run)) (from to k : ℕ) → length old ≤ k
+pub all-closed : (spans old : List (List (Option ℕ))) (from to k : ℕ) → length old ≤ k
     → ((kind p : ℕ) → values_of spans kind p ≡ changed_first (λ f. closed f from to) (values_of old) k kind p)
     → (kind p : ℕ) → values_of spans kind p ≡ closed (values_of old) from to kind p
 all-closed spans old from to k all h kind p = elim (cases_lt kind k) [
@@ -127,7 +126,7 @@ closed-alike : (f g : ℕ → ℕ → Option ℕ) (from to kind p : ℕ) → ((q
 closed-alike f g from to kind p e = branches (nat_lt p from) _ _ _ _ (e p) (e (p + (to - from)))
 
 -- the kinds that were opened are closed again
-pub undone : (mid now : List (List Run)) (old : ℕ → ℕ → Option ℕ) (pos n k : ℕ)
+pub undone : (mid now : List (List (Option ℕ))) (old : ℕ → ℕ → Option ℕ) (pos n k : ℕ)
     → ((kind p : ℕ) → values_of mid kind p ≡ changed_first (λ f. opened f pos n) old k kind p)
     → ((kind p : ℕ) → values_of now kind p ≡ changed_first (λ f. closed f pos (pos + n)) (values_of mid) k kind p)
     → (kind p : ℕ) → values_of now kind p ≡ old kind p
@@ -142,14 +141,14 @@ undone mid now old pos n k up down kind p = elim (cases_lt kind k) [
 ]
 
 -- nothing was changed at a place
-pub unchanged : (change : Change) (spans : List (List Run)) (old : ℕ → ℕ → Option ℕ) (k : ℕ) (was now : List Run) → k < length spans → was ≡ get_or spans k was
+pub unchanged : (change : Change) (spans : List (List (Option ℕ))) (old : ℕ → ℕ → Option ℕ) (k : ℕ) (was now : List (Option ℕ)) → k < length spans → was ≡ get_or spans k was
     → now ≡ get_or spans k was → ((kind p : ℕ) → values_of spans kind p ≡ changed_first change old k kind p)
     → (kind p : ℕ) → values_of (set spans k now) kind p ≡ changed_first change old k kind p
 unchanged change spans old k was now there is same before kind p =
     ap (λ s. values_of s kind p) (ap (set spans k) same ∙ set-get_or spans k was) ∙ before kind p
 
 -- the values of a kind that was not changed yet
-pub not-yet : (change : Change) (spans : List (List Run)) (old : ℕ → ℕ → Option ℕ) (k : ℕ) (was : List Run) → k < length spans
+pub not-yet : (change : Change) (spans : List (List (Option ℕ))) (old : ℕ → ℕ → Option ℕ) (k : ℕ) (was : List (Option ℕ)) → k < length spans
     → ((kind p : ℕ) → values_of spans kind p ≡ changed_first change old k kind p) → (p : ℕ) → value_at (get_or spans k was) p ≡ old k p
 not-yet change spans old k was there before p =
     ap (λ rs. value_at rs p) (get_or_default spans k was [] there) ∙ (before k p ∙ passed (nat_lt k k) _ _ (not-less k k (omega arith)))

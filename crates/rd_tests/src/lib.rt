@@ -7,7 +7,6 @@
 mod base;
 #[cfg(test)]
 mod brackets;
-
 #[cfg(test)]
 mod claims;
 #[cfg(test)]
@@ -21,22 +20,19 @@ mod items;
 #[cfg(test)]
 mod lanes;
 #[cfg(test)]
-mod matrix;
-#[cfg(test)]
 mod levels;
-
+#[cfg(test)]
+mod matrix;
 #[cfg(test)]
 mod modeline;
 #[cfg(test)]
 mod objects;
 #[cfg(test)]
 mod order;
-
 #[cfg(test)]
 mod overlays;
 #[cfg(test)]
 mod para;
-
 #[cfg(test)]
 mod props;
 #[cfg(test)]
@@ -49,7 +45,6 @@ mod scenery;
 mod script;
 #[cfg(test)]
 mod spans;
-
 #[cfg(test)]
 mod stack;
 #[cfg(test)]
@@ -58,11 +53,9 @@ mod state;
 mod term;
 #[cfg(test)]
 mod text;
-
 #[cfg(test)]
 mod tree;
 #[cfg(test)]
 mod ucd;
-
 #[cfg(test)]
 mod update;
