@@ -1,0 +1,4 @@
+pub mod Chosen
+pub mod Examples
+pub mod Near
+pub mod Starts

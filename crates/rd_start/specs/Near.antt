@@ -1,0 +1,36 @@
+-- The rows near a window's old start, its new start and point, and the blocks that have such a row.
+use Rattle.std.specs.Prelude.{ℕ, ◌+◌, min, max, nat_lt, nat_le, Bool, ◌&&◌, ◌||◌, if◌then◌else◌, List, [], ◌∷◌, length}
+use Rattle.std.specs.List.{list_any, range_with_len}
+use Rattle.rd_matrix.specs.Sources.{SourceValues}
+use Rattle.rd_matrix.specs.declared.block.Block.{Block}
+use Rattle.rd_rows.specs.Rows.{RowMeaning}
+use Rattle.rd_rows.specs.Shapes.{ShapeValues}
+use Rattle.rd_start.specs.Chosen.{places_of}
+use Rattle.rd_start.specs.Starts.{Places, suits, scrolled}
+use Rattle.rd_start.specs.declared.wanted.Wanted.{Wanted}
+
+-- whether a row is at most so far below another, or so far above it
+abbrev pub is_within : ℕ → ℕ → ℕ → ℕ → Bool
+is_within above below row k = nat_le row (k + above) && nat_le k (row + below)
+
+-- whether a row is near: where the start is forced, a row from the lesser of the old and the new start up to the end of the view
+-- from the greater; else, where the old start suits, a row in view from there; else a row at most so far from the old start, or
+-- from its view, as the start may be moved, or a row at most a view's height away from point's
+abbrev pub is_near : Wanted → Places → ℕ → Bool
+is_near w at k =
+    if w.forced
+    then nat_le (min at.old (scrolled w at)) k && nat_lt k (max at.old (scrolled w at) + w.height)
+    else if suits w at at.old
+    then nat_le at.old k && nat_lt k (at.old + w.height)
+    else is_within w.conservatively (w.conservatively + w.height) at.old k || is_within w.height w.height at.point k
+
+-- the sum of the costs of the blocks that have a row of a kind, where the first of their rows has a number
+abbrev pub costs_with : (ℕ → Bool) → (Block → List RowMeaning) → (Block → ℕ) → ℕ → List Block → ℕ
+costs_with kind rows cost first [] = 0
+costs_with kind rows cost first (b ∷ bs) =
+    (if list_any kind (range_with_len first (length (rows b))) then cost b else 0)
+    + costs_with kind rows cost (first + length (rows b)) bs
+
+-- the sum of the costs of a source's blocks that have a row near a window
+abbrev pub near_costs : SourceValues → ShapeValues → Wanted → ℕ
+near_costs m shape w = costs_with (is_near w (places_of m shape w)) (λ b. m.rows_of b shape) (λ b. m.cost_of b shape) 0 m.blocks

@@ -1,0 +1,8 @@
+//! The row at which a window starts, chosen from its old start, from point and from the rows of its text.
+#![tactic(auto)]
+
+mod examples;
+mod wanted;
+
+pub use rd_base::Anchor;
+pub use wanted::{Chosen, Wanted};
