@@ -1,9 +1,9 @@
 -- The start and the point that are chosen for a window, from all rows of its text.
-use Rattle.std.specs.Prelude.{ℕ, ◌+◌, ◌-◌, min, max, nat_lt, Bool, ◌==◌, if◌then◌else◌, List, [], ◌∷◌, length, take, drop, slice_get, is_some, Option, None, Some}
-use Rattle.std.specs.List.{flat_map, reduce, position_or_len}
+use Rattle.std.specs.Prelude.{ℕ, ◌+◌, ◌-◌, min, max, nat_lt, Bool, ◌==◌, if◌then◌else◌, List, [], ◌∷◌, length, take, drop, slice_get, Option, None, Some}
+use Rattle.std.specs.List.{flat_map, list_any, reduce, position_or_len}
 use Rattle.std.specs.Option.{unwrap_or}
 use Rattle.rd_base.specs.declared.settings.Anchor.{Anchor}
-use Rattle.rd_matrix.specs.Columns.{column_in}
+use Rattle.rd_matrix.specs.Columns.{covers}
 use Rattle.rd_matrix.specs.Entries.{EntryMeaning}
 use Rattle.rd_matrix.specs.Sources.{SourceValues, rows_at}
 use Rattle.rd_matrix.specs.declared.block.Block.{Block}
@@ -14,9 +14,9 @@ use Rattle.rd_start.specs.Starts.{Places, is_in_view, start_of}
 use Rattle.rd_start.specs.declared.wanted.Chosen.{Chosen}
 use Rattle.rd_start.specs.declared.wanted.Wanted.{Wanted}
 
--- whether the item that covers a position begins in a row
+-- whether an item that covers a position begins in a row
 abbrev pub begins_item : ℕ → EntryMeaning → Bool
-begins_item point e = is_some (column_in e.start point e.row.begins)
+begins_item point e = list_any (covers e.start point) e.row.begins
 
 -- the first row in which an item that covers a position begins, and the count of rows where there is none
 abbrev pub row_of : ℕ → List EntryMeaning → ℕ
@@ -55,9 +55,12 @@ anchor_at rows row = anchor_from (slice_get rows row)
 abbrev pub first_covered : ℕ → Begin → List ℕ
 first_covered start b = if nat_lt b.from b.to then (start + b.from) ∷ [] else []
 
--- the least positions that the items cover which begin in rows
+-- the least positions that the items cover which begin in a row, and in rows
+abbrev pub positions_of : EntryMeaning → List ℕ
+positions_of e = flat_map (first_covered e.start) e.row.begins
+
 abbrev pub first_positions : List EntryMeaning → List ℕ
-first_positions rows = flat_map (λ e. flat_map (first_covered e.start) e.row.begins) rows
+first_positions rows = flat_map positions_of rows
 
 -- point in a window whose start is forced: where its row is out of view it moves to the first item in order of position that
 -- begins in view and covers a position, or to the last one where its row is below the view; where there is none it stays

@@ -1,0 +1,133 @@
+-- Blocks that stand one behind the other, and their rows.
+use Rattle.std.proofs.Common.{◌≡◌, ℕ, zero, suc, ◌+◌, ◌-◌, ◌<◌, ◌≤◌, ◌⊎◌, inl, inr, Bool, true, false, cond, ◌||◌, ◌&&◌, ◌==◌, leb, ltb, min, List, [], ◌∷◌, ◌++◌, length, map, get_or, Option, None, Some, All, refl, sym, ap, subst, ◌∙◌, arith, zero-add}
+use Rattle.std.proofs.lemmas.Bool.{cases_Bool, false≢true, le-ltb, lt-ltb}
+use Rattle.std.proofs.lemmas.Bool.Decides.{nat_tests}
+use Rattle.std.proofs.lemmas.Grind.{flat_map-append}
+use Rattle.std.proofs.lemmas.List.{length-append}
+use Rattle.std.proofs.lemmas.List.Folds.{list_any-append, list_any_none}
+use Rattle.std.specs.List.{list_any, slice_get}
+use Rattle.rd_base.specs.declared.settings.Anchor.{Anchor}
+use Rattle.rd_matrix.specs.Blocks.{IsAmong, StandFrom, end_from}
+use Rattle.rd_matrix.specs.Columns.{covers}
+use Rattle.rd_matrix.specs.Entries.{EntryMeaning, all_rows, entries_of, numbered}
+use Rattle.rd_matrix.specs.Sources.{AreRowsOf, begins_of, ends_last}
+use Rattle.rd_matrix.specs.declared.block.Block.{Block}
+use Rattle.rd_rows.specs.Rows.{RowMeaning}
+use Rattle.rd_rows.specs.declared.begin.Begin.{Begin}
+use Rattle.rd_start.specs.Chosen.{anchor_row, begins_item, row_in_block}
+use Rattle.rd_start.proofs.Lists.{one-passes}
+use Rattle.rd_start.proofs.Tests.{range-parts}
+
+pub length-numbered : (start number : ℕ) (rows : List RowMeaning) → length (numbered start number rows) ≡ length rows
+length-numbered start number [] = refl
+length-numbered start number (r ∷ rows) = ap suc (length-numbered start (number + 1) rows)
+
+pub count-cons : (rows : Block → List RowMeaning) (b : Block) (bs : List Block) → length (all_rows rows (b ∷ bs)) ≡ length (rows b) + length (all_rows rows bs)
+count-cons rows b bs = length-append (entries_of rows b) (all_rows rows bs) ∙ ap (λ n. n + length (all_rows rows bs)) (length-numbered b.start 0 (rows b))
+
+pub all-append : (rows : Block → List RowMeaning) (xs ys : List Block) → all_rows rows (xs ++ ys) ≡ all_rows rows xs ++ all_rows rows ys
+all-append rows xs ys = flat_map-append (entries_of rows) xs ys
+
+pub count-append : (rows : Block → List RowMeaning) (xs ys : List Block) → length (all_rows rows (xs ++ ys)) ≡ length (all_rows rows xs) + length (all_rows rows ys)
+count-append rows xs ys = ap length (all-append rows xs ys) ∙ length-append (all_rows rows xs) (all_rows rows ys)
+
+-- blocks that stand one behind the other from a position on, each with rows of its own
+abbrev pub Fit : (Block → List RowMeaning) → ℕ → List Block → Type 0
+Fit rows from [] = Unit {0}
+Fit rows from (b ∷ bs) = (b.start ≡ from) × (b.start < b.end) × AreRowsOf b.start b.end (rows b) × Fit rows b.end bs
+
+pub fit : (rows : Block → List RowMeaning) (from : ℕ) (bs : List Block) → StandFrom from bs → ((b : Block) → IsAmong bs b → AreRowsOf b.start b.end (rows b)) → Fit rows from bs
+fit rows from [] h each = tt
+fit rows from (b ∷ bs) h each = (h.0, h.1, each b (0, refl), fit rows b.end bs h.2 (λ c k. each c (suc k.0, k.1)))
+
+pub fit-front : (rows : Block → List RowMeaning) (from : ℕ) (xs ys : List Block) → Fit rows from (xs ++ ys) → Fit rows from xs
+fit-front rows from [] ys h = tt
+fit-front rows from (x ∷ xs) ys h = (h.0, h.1, h.2, fit-front rows x.end xs ys h.3)
+
+pub fit-back : (rows : Block → List RowMeaning) (from : ℕ) (xs ys : List Block) → Fit rows from (xs ++ ys) → Fit rows (end_from from xs) ys
+fit-back rows from [] ys h = h
+fit-back rows from (x ∷ xs) ys h = fit-back rows x.end xs ys h.3
+
+pub end-append : (from : ℕ) (xs ys : List Block) → end_from from (xs ++ ys) ≡ end_from (end_from from xs) ys
+end-append from [] ys = refl
+end-append from (x ∷ xs) ys = end-append x.end xs ys
+
+pub fit-le : (rows : Block → List RowMeaning) (from : ℕ) (bs : List Block) → Fit rows from bs → from ≤ end_from from bs
+fit-le rows from [] h = omega arith
+fit-le rows from (b ∷ bs) h = omega (arith, h.0, h.1, fit-le rows b.end bs h.3)
+
+-- a block has a row
+pub some-row : (start end : ℕ) (rows : List RowMeaning) → AreRowsOf start end rows → 0 < length rows
+some-row start end [] h = absurd (false≢true h.ends)
+some-row start end (r ∷ rows) h = omega arith
+
+any-numbered : (point start number : ℕ) (rows : List RowMeaning) → list_any (begins_item point) (numbered start number rows) ≡ list_any (covers start point) (begins_of rows)
+any-numbered point start number [] = refl
+any-numbered point start number (r ∷ rows) =
+    ap (λ b. list_any (covers start point) r.begins || b) (any-numbered point start (number + 1) rows)
+    ∙ sym (list_any-append (covers start point) r.begins (begins_of rows))
+
+none-covers : (start end point : ℕ) (bs : List Begin) → All (λ b. (b.from ≤ b.to) × (start + b.to ≤ end)) bs → (leb start point && ltb point end) ≡ false
+    → list_any (covers start point) bs ≡ false
+none-covers start end point bs inside out = list_any_none (covers start point) bs (λ k d below.
+    let h = inside k d below in
+    grind (arith, nat_tests, h.0, h.1))
+
+-- an item that covers a position begins in a row of the block that holds the position, and of no other
+pub any-block : (point start end : ℕ) (rows : List RowMeaning) → AreRowsOf start end rows
+    → list_any (begins_item point) (numbered start 0 rows) ≡ (leb start point && ltb point end)
+any-block point start end rows h =
+    any-numbered point start 0 rows
+    ∙ elim (cases_Bool (leb start point && ltb point end)) [
+      | inl here ↦
+          let inside = range-parts start end point here in
+          one-passes (covers start point) (begins_of rows) (h.once point inside.0 inside.1) ∙ sym here
+      | inr out ↦ none-covers start end point (begins_of rows) h.inside out ∙ sym out
+    ]
+
+nothing-between : (from point : ℕ) → (leb from point && ltb point from) ≡ false
+nothing-between from point = grind (arith, nat_tests)
+
+joined-tests : (from start point middle end : ℕ) → start ≡ from → start < middle → middle ≤ end
+    → ((leb start point && ltb point middle) || (leb middle point && ltb point end)) ≡ (leb from point && ltb point end)
+joined-tests from start point middle end same low high = grind (arith, nat_tests)
+
+pub any-fit : (rows : Block → List RowMeaning) (from point : ℕ) (bs : List Block) → Fit rows from bs
+    → list_any (begins_item point) (all_rows rows bs) ≡ (leb from point && ltb point (end_from from bs))
+any-fit rows from point [] h = sym (nothing-between from point)
+any-fit rows from point (b ∷ bs) h =
+    let here = any-block point b.start b.end (rows b) h.2 in
+    let rest = any-fit rows b.end point bs h.3 in
+    let start = h.0 in
+    let some = h.1 in
+    let far = fit-le rows b.end bs h.3 in
+    list_any-append (begins_item point) (entries_of rows b) (all_rows rows bs)
+    ∙ (ap (λ t. t || list_any (begins_item point) (all_rows rows bs)) here
+    ∙ (ap (λ t. (leb b.start point && ltb point b.end) || t) rest ∙ joined-tests from b.start point b.end (end_from b.end bs) start some far))
+
+pub fit-start : (rows : Block → List RowMeaning) (from : ℕ) (before after : List Block) (b : Block) → Fit rows from (before ++ (b ∷ after)) → from ≤ b.start
+fit-start rows from before after b h =
+    let low = fit-le rows from before (fit-front rows from before (b ∷ after) h) in
+    let back = fit-back rows from before (b ∷ after) h in
+    omega (arith, low, back.0)
+
+-- an anchor's row is one of the block that holds its position
+pub anchor-skips : (rows : Block → List RowMeaning) (anchor : Anchor) (from : ℕ) (before after : List Block) (b : Block) → Fit rows from (before ++ (b ∷ after))
+    → b.start ≤ anchor.pos → anchor.pos < b.end
+    → anchor_row rows anchor (before ++ (b ∷ after)) ≡ length (all_rows rows before) + row_in_block anchor b.start (rows b)
+anchor-skips rows anchor from [] after b h low high =
+    let here = lt-ltb anchor.pos b.end high in
+    rw here (sym (zero-add (row_in_block anchor b.start (rows b))))
+anchor-skips rows anchor from (x ∷ before) after b h low high =
+    let start = fit-start rows x.end before after b h.3 in
+    let later = le-ltb anchor.pos x.end (omega (arith, start, low)) in
+    let rest = anchor-skips rows anchor x.end before after b h.3 low high in
+    let count = count-cons rows x before in
+    rw later (omega (arith, rest, count))
+
+held-below : (b : Bool) (row count : ℕ) → 0 < count → cond b (min row (count - 1)) 0 < count
+held-below true row count some = omega arith
+held-below false row count some = some
+
+pub row-below : (anchor : Anchor) (start : ℕ) (rows : List RowMeaning) → 0 < length rows → row_in_block anchor start rows < length rows
+row-below anchor start rows some = held-below (anchor.pos == start) anchor.row (length rows) some

@@ -1,0 +1,98 @@
+-- What is chosen, from what was found.
+use Rattle.std.proofs.Common.{◌≡◌, ℕ, zero, suc, ◌+◌, ◌-◌, ◌*◌, ◌/◌, ◌<◌, ◌≤◌, ◌⊎◌, inl, inr, Bool, true, false, cond, min, max, leb, ltb, List, [], ◌∷◌, ◌++◌, length, take, drop, Option, None, Some, ℤ, pos, negsuc, refl, sym, ap, subst, ◌∙◌, arith}
+use Rattle.std.proofs.lemmas.Bool.{le-ltb, lt-ltb}
+use Rattle.std.proofs.lemmas.Bool.Decides.{nat_tests}
+use Rattle.std.specs.List.{find, reduce}
+use Rattle.std.specs.Option.{option_map, unwrap_or}
+use Rattle.rd_matrix.specs.Entries.{EntryMeaning, all_rows}
+use Rattle.rd_matrix.specs.Sources.{SourceValues, rows_at}
+use Rattle.rd_rows.specs.Shapes.{ShapeValues}
+use Rattle.rd_start.specs.Chosen.{anchor_at, chosen_of, first_positions, forced_point, places_of, point_from}
+use Rattle.rd_start.specs.Starts.{Places, around, centred, following, is_in_view, scrolled, start_of, suits}
+use Rattle.rd_start.specs.Strips.{centred_chosen, span_of}
+use Rattle.rd_start.specs.declared.span.Span.{Span}
+use Rattle.rd_start.specs.declared.strip.Side.{Side}
+use Rattle.rd_start.specs.declared.strip.Side.TheVariants.{Above, Below, Within}
+use Rattle.rd_start.specs.declared.wanted.Chosen.{Chosen}
+use Rattle.rd_start.specs.declared.wanted.Wanted.{Wanted}
+use Rattle.rd_start.proofs.Lists.{find-first}
+use Rattle.rd_start.proofs.Sides.{Sees}
+use Rattle.rd_start.proofs.Spans.{span_of-greatest, span_of-least}
+
+abbrev chosen_at : List EntryMeaning → ℕ → ℕ → Chosen
+chosen_at rows j point = record { anchor = anchor_at rows j; point = point }
+
+pub chosen-free : (m : SourceValues) (shape : ShapeValues) (w : Wanted) (j : ℕ) → w.forced ≡ false → following w (places_of m shape w) ≡ j
+    → record { anchor = anchor_at (rows_at m shape) j; point = w.point } ≡ chosen_of m shape w
+chosen-free m shape w j free e =
+    let at = places_of m shape w in
+    let rows = rows_at m shape in
+    let start = ap (λ b. cond b (scrolled w at) (following w at)) free ∙ e in
+    let point = ap (λ b. cond b (forced_point w (start_of w at) at.point (take w.height (drop (start_of w at) rows))) w.point) free in
+    ap (λ n. chosen_at rows n w.point) (sym start) ∙ ap (chosen_at rows (start_of w at)) (sym point)
+
+pub follows-found : (w : Wanted) (at : Places) (j : ℕ) → find (suits w at) (around at.old w.conservatively) ≡ Some j → following w at ≡ j
+follows-found w at j e = ap (λ o. unwrap_or o (centred w at)) e
+
+pub follows-none : (w : Wanted) (at : Places) → find (suits w at) (around at.old w.conservatively) ≡ None → following w at ≡ centred w at
+follows-none w at e = ap (λ o. unwrap_or o (centred w at)) e
+
+pub follows-old : (w : Wanted) (at : Places) → suits w at at.old ≡ true → following w at ≡ at.old
+follows-old w at e = follows-found w at at.old (find-first (suits w at) at.old w.conservatively e)
+
+pub chosen-forced : (m : SourceValues) (shape : ShapeValues) (w : Wanted) (j p : ℕ) → w.forced ≡ true → scrolled w (places_of m shape w) ≡ j
+    → p ≡ forced_point w j (places_of m shape w).point (take w.height (drop j (rows_at m shape)))
+    → record { anchor = anchor_at (rows_at m shape) j; point = p } ≡ chosen_of m shape w
+chosen-forced m shape w j p forced e point =
+    let at = places_of m shape w in
+    let rows = rows_at m shape in
+    let start : start_of w at ≡ j = ap (λ b. cond b (scrolled w at) (following w at)) forced ∙ e in
+    let moved : point_from w at (start_of w at) rows ≡ forced_point w (start_of w at) at.point (take w.height (drop (start_of w at) rows)) =
+    ap (λ b. cond b (forced_point w (start_of w at) at.point (take w.height (drop (start_of w at) rows))) w.point) forced in
+    let same : p ≡ point_from w at (start_of w at) rows = point ∙ (ap (λ n. forced_point w n at.point (take w.height (drop n rows))) (sym start) ∙ sym moved) in
+    ap (λ n. chosen_at rows n p) (sym start) ∙ ap (chosen_at rows (start_of w at)) same
+
+shown : (start height row : ℕ) → start ≤ row → row < start + height → is_in_view height start row ≡ true
+shown start height row low high = grind (arith, nat_tests)
+
+hidden-above : (start height row : ℕ) → row < start → is_in_view height start row ≡ false
+hidden-above start height row low = grind (arith, nat_tests)
+
+hidden-below : (start height row : ℕ) → start + height ≤ row → is_in_view height start row ≡ false
+hidden-below start height row high = grind (arith, nat_tests)
+
+-- point where a start is forced
+abbrev forced_to : Wanted → List ℕ → Bool → Bool → ℕ
+forced_to w ps shown above = cond shown w.point (cond above (unwrap_or (reduce min ps) w.point) (unwrap_or (reduce max ps) w.point))
+
+forced-none : (w : Wanted) (ps : List ℕ) (shown above : Bool) → None ≡ span_of ps → w.point ≡ forced_to w ps shown above
+forced-none w [] true above e = refl
+forced-none w [] false true e = refl
+forced-none w [] false false e = refl
+forced-none w (p ∷ ps) shown above e = absurd cc
+
+pub point-kept : (w : Wanted) (start row : ℕ) (view : List EntryMeaning) → None ≡ span_of (first_positions view) → w.point ≡ forced_point w start row view
+point-kept w start row view e = forced-none w (first_positions view) (is_in_view w.height start row) (ltb row start) e
+
+pub point-shown : (w : Wanted) (start row : ℕ) (view : List EntryMeaning) → Sees Within start w.height row → w.point ≡ forced_point w start row view
+point-shown w start row view sees =
+    let low = sees.0 in
+    let high = sees.1 in
+    let t = shown start w.height row low high in
+    sym (ap (λ b. forced_to w (first_positions view) b (ltb row start)) t)
+
+pub point-above : (w : Wanted) (start row : ℕ) (view : List EntryMeaning) (span : Span) → Some span ≡ span_of (first_positions view) → Sees Above start w.height row → span.first ≡ forced_point w start row view
+point-above w start row view span e low =
+    let ps = first_positions view in
+    let t = hidden-above start w.height row low in
+    let u = lt-ltb row start low in
+    let least = span_of-least ps ∙ ap (option_map (λ (s : Span). s.first)) (sym e) in
+    sym (ap (λ b. forced_to w ps b (ltb row start)) t ∙ (ap (forced_to w ps false) u ∙ ap (λ o. unwrap_or o w.point) least))
+
+pub point-below : (w : Wanted) (start row : ℕ) (view : List EntryMeaning) (span : Span) → Some span ≡ span_of (first_positions view) → 1 ≤ w.height → Sees Below start w.height row → span.last ≡ forced_point w start row view
+point-below w start row view span e some high =
+    let ps = first_positions view in
+    let t = hidden-below start w.height row high in
+    let u = le-ltb row start (omega (arith, high)) in
+    let greatest = span_of-greatest ps ∙ ap (option_map (λ (s : Span). s.last)) (sym e) in
+    sym (ap (λ b. forced_to w ps b (ltb row start)) t ∙ (ap (forced_to w ps false) u ∙ ap (λ o. unwrap_or o w.point) greatest))

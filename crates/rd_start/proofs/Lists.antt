@@ -1,0 +1,187 @@
+-- Places in joined lists, and searches there.
+use Rattle.std.proofs.Common.{◌≡◌, ℕ, zero, suc, ◌+◌, ◌-◌, ◌<◌, ◌≤◌, ◌⊎◌, inl, inr, Bool, true, false, cond, ◌||◌, ◌&&◌, not, leb, ltb, List, [], ◌∷◌, ◌++◌, length, map, take, drop, get_or, Option, None, Some, All, refl, sym, ap, subst, ◌∙◌, arith, zero-add}
+use Rattle.std.proofs.Math.Bool.{or-true}
+use Rattle.std.proofs.Math.Nat.{add-suc, add-zero, suc-add}
+use Rattle.std.proofs.Math.Numerals.{add-one}
+use Rattle.std.proofs.lemmas.Bool.{cases_Bool, cases_eq, le-leb, le-ltb, leb-true, lt-ltb}
+use Rattle.std.specs.List.{AllByRecursion, find, list_any, position, position_or_len, range_with_len, slice_get, count_by}
+use Rattle.std.proofs.lemmas.List.{drop_more, length-take-le, take-append-drop, take_all}
+use Rattle.std.proofs.lemmas.List.Folds.{find-append}
+use Rattle.std.specs.Option.{option_or}
+use Rattle.rd_start.specs.Starts.{around, both_at}
+
+pub slice_get-front : {X : Type 0} (xs ys : List X) (k : ℕ) → k < length xs → slice_get (xs ++ ys) k ≡ slice_get xs k
+slice_get-front [] ys k p = absurd (omega arith)
+slice_get-front (x ∷ xs) ys zero p = refl
+slice_get-front (x ∷ xs) ys (suc k) p = slice_get-front xs ys k (omega arith)
+
+pub slice_get-behind : {X : Type 0} (xs ys : List X) (k : ℕ) → slice_get (xs ++ ys) (length xs + k) ≡ slice_get ys k
+slice_get-behind [] ys k = ap (slice_get ys) (zero-add k)
+slice_get-behind (x ∷ xs) ys k = ap (slice_get (x ∷ (xs ++ ys))) (suc-add (length xs) k) ∙ slice_get-behind xs ys k
+
+-- a list round the element at a place
+pub record Split {X : Type 0} (xs : List X) (k : ℕ) (x : X) : Type 0 where
+  pub front : List X
+  pub back : List X
+  pub whole : xs ≡ front ++ (x ∷ back)
+  pub place : length front ≡ k
+
+pub split : {X : Type 0} (xs : List X) (k : ℕ) (x : X) → slice_get xs k ≡ Some x → Split xs k x
+split [] k x e = absurd cc
+split (y ∷ xs) zero x e = let here : y ≡ x = cc in record { front = []; back = xs; whole = ap (λ z. z ∷ xs) here; place = refl }
+split (y ∷ xs) (suc k) x e =
+    let rest = split xs k x e in
+    record { front = y ∷ rest.front; back = rest.back; whole = ap (λ zs. y ∷ zs) rest.whole; place = ap suc rest.place }
+
+-- a list that ends with an element
+pub record Ends {X : Type 0} (xs : List X) (x : X) : Type 0 where
+  pub front : List X
+  pub whole : xs ≡ front ++ (x ∷ [])
+
+pub ends : {X : Type 0} (xs : List X) (x : X) → 0 < length xs → slice_get xs (length xs - 1) ≡ Some x → Ends xs x
+ends [] x p e = absurd (omega arith)
+ends (y ∷ []) x p e = let here : y ≡ x = cc in record { front = []; whole = ap (λ z. z ∷ []) here }
+ends (y ∷ z ∷ xs) x p e =
+    let same : length (y ∷ z ∷ xs) - 1 ≡ suc (length (z ∷ xs) - 1) = omega arith in
+    let rest = ends (z ∷ xs) x (omega arith) (sym (ap (slice_get (y ∷ z ∷ xs)) same) ∙ e) in
+    record { front = y ∷ rest.front; whole = ap (λ zs. y ∷ zs) rest.whole }
+
+pub neither : (a b : Bool) → (a || b) ≡ false → (a ≡ false) × (b ≡ false)
+neither true b e = absurd cc
+neither false b e = (refl, e)
+
+-- a test that passes at a number passes in each list of numbers that has it
+pub any-range : (p : ℕ → Bool) (from n k : ℕ) → from ≤ k → k < from + n → p k ≡ true → list_any p (range_with_len from n) ≡ true
+any-range p from zero k low high e = absurd (omega arith)
+any-range p from (suc n) k low high e =
+    elim (cases_eq from k) [
+      | inl here ↦ ap (λ b. b || list_any p (range_with_len (from + 1) n)) (ap p here ∙ e)
+      | inr other ↦ ap (λ b. p from || b) (any-range p (from + 1) n k (omega arith) (omega arith) e) ∙ or-true (p from)
+    ]
+
+-- the first element that passes, behind elements that don't, and among elements of which one does
+pub first-behind : {X : Type 0} (p : X → Bool) (xs ys : List X) → list_any p xs ≡ false → position_or_len p (xs ++ ys) ≡ length xs + position_or_len p ys
+first-behind p [] ys none = sym (zero-add (position_or_len p ys))
+first-behind p (x ∷ xs) ys none =
+    let both = neither (p x) (list_any p xs) none in
+    let here = both.0 in
+    let rest = first-behind p xs ys both.1 in
+    rw here (omega arith)
+
+pub first-among : {X : Type 0} (p : X → Bool) (xs ys : List X) → list_any p xs ≡ true → position_or_len p (xs ++ ys) ≡ position_or_len p xs
+first-among p [] ys some = absurd cc
+first-among p (x ∷ xs) ys some =
+    elim (cases_Bool (p x)) [
+      | inl here ↦ rw here refl
+      | inr here ↦
+          let later : list_any p xs ≡ true = sym (ap (λ b. b || list_any p xs) here) ∙ some in
+          let rest = first-among p xs ys later in
+          rw here (omega arith)
+    ]
+
+pub first-inside : {X : Type 0} (p : X → Bool) (xs : List X) → list_any p xs ≡ true → position_or_len p xs < length xs
+first-inside p [] some = absurd cc
+first-inside p (x ∷ xs) some =
+    elim (cases_Bool (p x)) [
+      | inl here ↦ rw here (omega arith)
+      | inr here ↦
+          let later : list_any p xs ≡ true = sym (ap (λ b. b || list_any p xs) here) ∙ some in
+          let rest = first-inside p xs later in
+          rw here (omega arith)
+    ]
+
+pub first-none : {X : Type 0} (p : X → Bool) (xs : List X) → list_any p xs ≡ false → position_or_len p xs ≡ length xs
+first-none p [] none = refl
+first-none p (x ∷ xs) none =
+    let both = neither (p x) (list_any p xs) none in
+    let here = both.0 in
+    let rest = first-none p xs both.1 in
+    rw here (omega arith)
+
+pub first-mapped : {X Y : Type 0} (p : Y → Bool) (f : X → Y) (xs : List X) → position_or_len p (map f xs) ≡ position_or_len (λ x. p (f x)) xs
+first-mapped p f [] = refl
+first-mapped p f (x ∷ xs) = ap (λ n. cond (not (p (f x))) (1 + n) 0) (first-mapped p f xs)
+
+pub none-counted : {X : Type 0} (p : X → Bool) (xs : List X) → list_any p xs ≡ false → count_by p xs ≡ 0
+none-counted p [] none = refl
+none-counted p (x ∷ xs) none =
+    let both = neither (p x) (list_any p xs) none in
+    let here = both.0 in
+    rw here (none-counted p xs both.1)
+
+pub one-passes : {X : Type 0} (p : X → Bool) (xs : List X) → count_by p xs ≡ 1 → list_any p xs ≡ true
+one-passes p xs one =
+    elim (cases_Bool (list_any p xs)) [
+      | inl some ↦ some
+      | inr none ↦ absurd (omega (arith, none-counted p xs none))
+    ]
+
+-- a search among the rows round a row
+pub find-first : (p : ℕ → Bool) (row far : ℕ) → p row ≡ true → find p (around row far) ≡ Some row
+find-first p row zero here = rw here refl
+find-first p row (suc far) here =
+    find-append p (around row far) (both_at row (suc far)) ∙ ap (λ o. option_or o (find p (both_at row (suc far)))) (find-first p row far here)
+
+pub find-kept : (p : ℕ → Bool) (row far : ℕ) (o : Option ℕ) → find p (around row far) ≡ None → find p (both_at row (far + 1)) ≡ o → find p (around row (far + 1)) ≡ o
+find-kept p row far o before here =
+    ap (λ n. find p (around row n)) (add-one far)
+    ∙ (find-append p (around row far) (both_at row (suc far))
+    ∙ (ap (λ r. option_or r (find p (both_at row (suc far)))) before
+    ∙ (ap (λ n. find p (both_at row n)) (sym (add-one far)) ∙ here)))
+
+pub find-far : (p : ℕ → Bool) (row far more : ℕ) (x : ℕ) → find p (around row far) ≡ Some x → find p (around row (far + more)) ≡ Some x
+find-far p row far zero x e = rw (add-zero far) e
+find-far p row far (suc more) x e =
+    ap (λ n. find p (around row n)) (add-suc far more)
+    ∙ (find-append p (around row (far + more)) (both_at row (suc (far + more)))
+    ∙ ap (λ o. option_or o (find p (both_at row (suc (far + more))))) (find-far p row far more x e))
+
+find-neither : (p : ℕ → Bool) (row far : ℕ) → (far ≤ row → p (row - far) ≡ false) → p (row + far) ≡ false → find p (both_at row far) ≡ None
+find-neither p row far lesser here =
+    elim (cases_Bool (leb far row)) [
+      | inl there ↦ let low = leb-true far row there in rw there (rw (lesser low) (rw here refl))
+      | inr there ↦ rw there (rw here refl)
+    ]
+
+pub find-none : (p : ℕ → Bool) (row far : ℕ) → ((k : ℕ) → row ≤ k + far → k ≤ row + far → p k ≡ false) → find p (around row far) ≡ None
+find-none p row zero none = let here = none row (omega arith) (omega arith) in rw here refl
+find-none p row (suc far) none =
+    find-append p (around row far) (both_at row (suc far))
+    ∙ (ap (λ o. option_or o (find p (both_at row (suc far)))) (find-none p row far (λ k low high. none k (omega arith) (omega arith)))
+    ∙ find-neither p row (suc far) (λ low. none (row - suc far) (omega arith) (omega arith)) (none (row + suc far) (omega arith) (omega arith)))
+
+-- the place of the first element that passes, where those before it don't
+pub position-here : {X : Type 0} (p : X → Bool) (xs : List X) (k : ℕ) (x : X) → list_any p (take k xs) ≡ false → k < length xs → x ≡ get_or xs k x → p x ≡ true → position p xs ≡ Some k
+position-here p xs k x none inside at here =
+    let more = drop_more xs k x inside ∙ ap (λ y. y ∷ drop (k + 1) xs) (sym at) in
+    let whole = sym (take-append-drop k xs) ∙ ap (λ ys. take k xs ++ ys) more in
+    let first : position_or_len p (x ∷ drop (k + 1) xs) ≡ 0 = rw here refl in
+    let size = length-take-le k xs (omega arith) in
+    let place : position_or_len p xs ≡ k = ap (position_or_len p) whole ∙ (first-behind p (take k xs) (x ∷ drop (k + 1) xs) none ∙ omega (arith, first, size)) in
+    let t = lt-ltb (position_or_len p xs) (length xs) (omega (arith, place, inside)) in
+    ap (λ b. cond b (Some (position_or_len p xs)) None) t ∙ ap Some place
+
+pub position-none : {X : Type 0} (p : X → Bool) (xs : List X) (k : ℕ) → list_any p (take k xs) ≡ false → length xs ≤ k → position p xs ≡ None
+position-none p xs k none all =
+    let place = first-none p xs (ap (list_any p) (sym (take_all k xs all)) ∙ none) in
+    let t = le-ltb (position_or_len p xs) (length xs) (omega (arith, place)) in
+    ap (λ b. cond b (Some (position_or_len p xs)) None) t
+
+-- what holds of each element
+pub each-append : {X : Type 0} (P : X → Type 0) (xs ys : List X) → AllByRecursion P xs → AllByRecursion P ys → AllByRecursion P (xs ++ ys)
+each-append P [] ys h i = i
+each-append P (x ∷ xs) ys h i = (h.0, each-append P xs ys h.1 i)
+
+pub each-take : {X : Type 0} (P : X → Type 0) (k : ℕ) (xs : List X) → AllByRecursion P xs → AllByRecursion P (take k xs)
+each-take P zero xs h = tt
+each-take P (suc k) [] h = tt
+each-take P (suc k) (x ∷ xs) h = (h.0, each-take P k xs h.1)
+
+pub each-drop : {X : Type 0} (P : X → Type 0) (k : ℕ) (xs : List X) → AllByRecursion P xs → AllByRecursion P (drop k xs)
+each-drop P zero xs h = h
+each-drop P (suc k) [] h = tt
+each-drop P (suc k) (x ∷ xs) h = each-drop P k xs h.1
+
+pub each-from : {X : Type 0} (P : X → Type 0) (xs : List X) → All P xs → AllByRecursion P xs
+each-from P [] h = tt
+each-from P (x ∷ xs) h = (h 0 x (omega arith), each-from P xs (λ k d below. h (suc k) d (omega arith)))

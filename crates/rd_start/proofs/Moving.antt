@@ -1,0 +1,271 @@
+-- What is asked of the rows near a window, and what is chosen from them.
+use Rattle.std.proofs.Common.{◌≡◌, ℕ, zero, suc, ◌+◌, ◌-◌, ◌*◌, ◌/◌, ◌<◌, ◌≤◌, ◌⊎◌, inl, inr, Bool, true, false, min, max, List, length, take, drop, Option, None, Some, Result, Ok, Err, refl, sym, ap, subst, ◌∙◌, arith}
+use Rattle.std.specs.List.{find}
+use Rattle.std.specs.Option.{option_map, unwrap_or}
+use Rattle.std.specs.Prelude.{IfOk, MatchResult, is_some}
+use Rattle.rd_base.specs.declared.memory.Memory.{Memory}
+use Rattle.rd_base.specs.declared.settings.Anchor.{Anchor}
+use Rattle.rd_matrix.specs.Entries.{EntryMeaning, all_rows}
+use Rattle.rd_matrix.specs.Sources.{SourceValues, rows_at}
+use Rattle.rd_rows.specs.Shapes.{ShapeValues}
+use Rattle.rd_start.specs.Chosen.{anchor_at, chosen_of, forced_point, places_of, row_of}
+use Rattle.rd_start.specs.Near.{costs_with, is_near, near_costs}
+use Rattle.rd_start.specs.Starts.{Places, around, centred, following, moved, scrolled, suits}
+use Rattle.rd_start.specs.Strips.{HasPoint, IsFor, IsPaid, IsStrip, BeginsAbove, Between, Reaches, all_costs, centred_chosen, count_in, first_row, home_row, moved_row, point_row, rows_in}
+use Rattle.rd_start.specs.declared.strip.Strip.{Strip}
+use Rattle.rd_start.specs.declared.strip.Sweep.{Sweep}
+use Rattle.rd_start.specs.declared.wanted.Chosen.{Chosen}
+use Rattle.rd_start.specs.declared.wanted.Wanted.{Wanted}
+use Rattle.rd_start.proofs.Choosing.{chosen-forced, chosen-free, follows-found, follows-none, follows-old}
+use Rattle.rd_start.proofs.NearRows.{forced-near, moving-near, old-near, point-near, view-near}
+use Rattle.rd_start.proofs.Growth.{affords}
+use Rattle.rd_start.proofs.Reaching.{AsksAbove, AsksBelow}
+use Rattle.rd_start.proofs.Rows.{find_point, whereabouts}
+use Rattle.rd_start.proofs.Sides.{point-found}
+use Rattle.rd_start.proofs.Suits.{old-is, point-is}
+
+abbrev pub near_of : SourceValues → Sweep → Wanted → ℕ → Bool
+near_of m sweep w = is_near w (places_of m sweep.shape w)
+
+pub home-is : (m : SourceValues) (s : Strip) → IsStrip m s → first_row m s + s.home ≡ home_row m s.sweep
+home-is m s h = let home = h.home in omega arith
+
+-- the anchor's row is near
+pub asks-home : (m : SourceValues) (sweep : Sweep) (w : Wanted) → IsFor w sweep → 1 ≤ w.height → near_of m sweep w (home_row m sweep) ≡ true
+asks-home m sweep w of some = ap (near_of m sweep w) (sym (old-is m w sweep of)) ∙ old-near w (places_of m sweep.shape w) some
+
+-- the view from the old start
+pub asks-view : (m : SourceValues) (s : Strip) (w : Wanted) → IsStrip m s → IsFor w s.sweep → w.forced ≡ false → AsksBelow (near_of m s.sweep w) m s (s.home + w.height)
+asks-view m s w h of free = λ k from to.
+    let old = old-is m w s.sweep of in
+    let home = h.home in
+    let inside = h.inside in
+    view-near w (places_of m s.sweep.shape w) k free (omega arith) (omega arith)
+
+moves-old : (m : SourceValues) (s : Strip) (w : Wanted) → IsStrip m s → IsFor w s.sweep → suits w (places_of m s.sweep.shape w) (first_row m s + s.home) ≡ false
+    → suits w (places_of m s.sweep.shape w) (places_of m s.sweep.shape w).old ≡ false
+moves-old m s w h of moves = ap (suits w (places_of m s.sweep.shape w)) (old-is m w s.sweep of ∙ sym (home-is m s h)) ∙ moves
+
+-- as far above the old start as it may be moved
+pub asks-far : (m : SourceValues) (s : Strip) (w : Wanted) → IsStrip m s → IsFor w s.sweep → w.forced ≡ false → suits w (places_of m s.sweep.shape w) (first_row m s + s.home) ≡ false
+    → AsksAbove (near_of m s.sweep w) m s w.conservatively
+asks-far m s w h of free moves = λ k from to.
+    let old = old-is m w s.sweep of in
+    let home = h.home in
+    moving-near w (places_of m s.sweep.shape w) k free (moves-old m s w h of moves) (omega arith) (omega arith)
+
+-- and below it
+pub asks-end : (m : SourceValues) (s new : Strip) (w : Wanted) → IsStrip m s → IsStrip m new → new.sweep ≡ s.sweep → IsFor w s.sweep → w.forced ≡ false
+    → suits w (places_of m s.sweep.shape w) (first_row m s + s.home) ≡ false → AsksBelow (near_of m s.sweep w) m new (new.home + w.conservatively + w.height + 1)
+asks-end m s new w h i e of free moves = λ k from to.
+    let old = old-is m w s.sweep of in
+    let same = ap (home_row m) e in
+    let home = i.home in
+    let inside = i.inside in
+    moving-near w (places_of m s.sweep.shape w) k free (moves-old m s w h of moves) (omega arith) (omega arith)
+
+-- round point's row
+pub asks-point : (m : SourceValues) (s new : Strip) (w : Wanted) → IsStrip m s → new.sweep ≡ s.sweep → IsFor w s.sweep → w.forced ≡ false
+    → suits w (places_of m s.sweep.shape w) (first_row m s + s.home) ≡ false → Between (near_of m s.sweep w) (point_row m new.sweep - w.height) (point_row m new.sweep + 1)
+asks-point m s new w h e of free moves = λ k from to.
+    let point = point-is m w s.sweep of.point in
+    let same = ap (point_row m) e in
+    point-near w (places_of m s.sweep.shape w) k free (moves-old m s w h of moves) (omega arith) (omega arith)
+
+-- a forced start
+scrolled-is : (m : SourceValues) (sweep : Sweep) (w : Wanted) → IsFor w sweep → scrolled w (places_of m sweep.shape w) ≡ moved_row m sweep w.pending
+scrolled-is m sweep w of = ap (λ n. min (moved w.pending n) (count_in m sweep m.blocks - 1)) (old-is m w sweep of)
+
+pub asks-scrolled : (m : SourceValues) (sweep : Sweep) (w : Wanted) → IsFor w sweep → w.forced ≡ true → 1 ≤ w.height
+    → Between (near_of m sweep w) (min (home_row m sweep) (moved_row m sweep w.pending)) (max (home_row m sweep) (moved_row m sweep w.pending) + 1)
+asks-scrolled m sweep w of forced some = λ k from to.
+    let old = old-is m w sweep of in
+    let new = scrolled-is m sweep w of in
+    forced-near w (places_of m sweep.shape w) k forced (omega arith) (omega arith)
+
+pub asks-forced : (m : SourceValues) (sweep : Sweep) (s : Strip) (w : Wanted) (start : ℕ) → IsStrip m s → s.sweep ≡ sweep → IsFor w sweep → w.forced ≡ true → start < length s.lines.items
+    → first_row m s + start ≡ moved_row m sweep w.pending → AsksBelow (near_of m sweep w) m s (start + w.height)
+asks-forced m sweep s w start h e of forced inside place = λ k from to.
+    let old = old-is m w sweep of in
+    let new = scrolled-is m sweep w of in
+    let same = ap (home_row m) e in
+    forced-near w (places_of m sweep.shape w) k forced (omega arith) (omega arith)
+
+-- what is chosen
+pub value-forced : (m : SourceValues) (sweep : Sweep) (s : Strip) (w : Wanted) (start p : ℕ) (anchor : Anchor) → s.sweep ≡ sweep → IsFor w sweep → w.forced ≡ true
+    → first_row m s + start ≡ moved_row m sweep w.pending
+    → anchor ≡ anchor_at (all_rows (rows_in m s.sweep) m.blocks) (first_row m s + start)
+    → p ≡ forced_point w (first_row m s + start) (point_row m s.sweep) (take w.height (drop (first_row m s + start) (all_rows (rows_in m s.sweep) m.blocks)))
+    → record { anchor = anchor; point = p } ≡ chosen_of m sweep.shape w
+value-forced m sweep s w start p anchor e of forced place here point =
+    let at = places_of m sweep.shape w in
+    let j = first_row m s + start in
+    let rows = ap (λ (x : Sweep). all_rows (rows_in m x) m.blocks) e in
+    let row = ap (point_row m) e ∙ sym (point-is m w sweep of.point) in
+    let there : p ≡ forced_point w j at.point (take w.height (drop j (rows_at m sweep.shape))) =
+    point ∙ (ap (λ n. forced_point w j n (take w.height (drop j (all_rows (rows_in m s.sweep) m.blocks)))) row
+    ∙ ap (λ (ys : List EntryMeaning). forced_point w j at.point (take w.height (drop j ys))) rows) in
+    let named : anchor ≡ anchor_at (rows_at m sweep.shape) j = here ∙ ap (λ (ys : List EntryMeaning). anchor_at ys j) rows in
+    ap (λ (a : Anchor). record { anchor = a; point = p }) named
+    ∙ chosen-forced m sweep.shape w j p forced (scrolled-is m sweep w of ∙ sym place) there
+
+pub value-free : (m : SourceValues) (sweep : Sweep) (s : Strip) (w : Wanted) (place : ℕ) (chosen : Chosen) → s.sweep ≡ sweep → w.forced ≡ false
+    → following w (places_of m sweep.shape w) ≡ first_row m s + place
+    → chosen ≡ record { anchor = anchor_at (all_rows (rows_in m s.sweep) m.blocks) (first_row m s + place); point = w.point } → chosen ≡ chosen_of m sweep.shape w
+value-free m sweep s w place chosen e free follows is =
+    let rows = ap (λ (x : Sweep). all_rows (rows_in m x) m.blocks) e in
+    is ∙ (ap (λ (ys : List EntryMeaning). record { anchor = anchor_at ys (first_row m s + place); point = w.point }) rows
+    ∙ chosen-free m sweep.shape w (first_row m s + place) free follows)
+
+pub follows-home : (m : SourceValues) (sweep : Sweep) (s : Strip) (w : Wanted) → IsStrip m s → s.sweep ≡ sweep → IsFor w sweep
+    → suits w (places_of m sweep.shape w) (first_row m s + s.home) ≡ true → following w (places_of m sweep.shape w) ≡ first_row m s + s.home
+follows-home m sweep s w h e of here =
+    let at = places_of m sweep.shape w in
+    let same : at.old ≡ first_row m s + s.home = old-is m w sweep of ∙ (sym (ap (home_row m) e) ∙ sym (home-is m s h)) in
+    follows-old w at (ap (suits w at) same ∙ here) ∙ same
+
+pub follows-near : (m : SourceValues) (sweep : Sweep) (s : Strip) (w : Wanted) (o : Option ℕ) (place : ℕ) → IsStrip m s → s.sweep ≡ sweep → IsFor w sweep
+    → o ≡ Some place → option_map (λ n. first_row m s + n) o ≡ find (suits w (places_of m sweep.shape w)) (around (first_row m s + s.home) w.conservatively)
+    → following w (places_of m sweep.shape w) ≡ first_row m s + place
+follows-near m sweep s w o place h e of is found =
+    let at = places_of m sweep.shape w in
+    let same : at.old ≡ first_row m s + s.home = old-is m w sweep of ∙ (sym (ap (home_row m) e) ∙ sym (home-is m s h)) in
+    follows-found w at (first_row m s + place)
+    (ap (λ n. find (suits w at) (around n w.conservatively)) same ∙ (sym found ∙ ap (option_map (λ n. first_row m s + n)) is))
+
+pub follows-centre : (m : SourceValues) (sweep : Sweep) (s : Strip) (w : Wanted) (o : Option ℕ) → IsStrip m s → s.sweep ≡ sweep → IsFor w sweep
+    → o ≡ None → option_map (λ n. first_row m s + n) o ≡ find (suits w (places_of m sweep.shape w)) (around (first_row m s + s.home) w.conservatively)
+    → following w (places_of m sweep.shape w) ≡ centred w (places_of m sweep.shape w)
+follows-centre m sweep s w o h e of is found =
+    let at = places_of m sweep.shape w in
+    let same : at.old ≡ first_row m s + s.home = old-is m w sweep of ∙ (sym (ap (home_row m) e) ∙ sym (home-is m s h)) in
+    follows-none w at (ap (λ n. find (suits w at) (around n w.conservatively)) same ∙ (sym found ∙ ap (option_map (λ n. first_row m s + n)) is))
+
+value-centred : (m : SourceValues) (sweep : Sweep) (s : Strip) (w : Wanted) (chosen : Chosen) → s.sweep ≡ sweep → w.forced ≡ false
+    → following w (places_of m sweep.shape w) ≡ centred w (places_of m sweep.shape w) → chosen ≡ centred_chosen m s.sweep.shape w → chosen ≡ chosen_of m sweep.shape w
+value-centred m sweep s w chosen e free follows is =
+    is ∙ (ap (λ (x : Sweep). centred_chosen m x.shape w) e ∙ chosen-free m sweep.shape w (centred w (places_of m sweep.shape w)) free follows)
+
+-- point's row in a strip that has it
+is-some : {X : Type 0} (o : Option X) → is_some o ≡ true → (x : X) × (o ≡ Some x)
+is-some None e = absurd cc
+is-some (Some x) e = (x, refl)
+
+pub has-found : (m : SourceValues) (s : Strip) → IsStrip m s → is_some (find_point s.lines.items) ≡ true → HasPoint m s
+has-found m s h some =
+    let o = is-some (find_point s.lines.items) some in
+    let place = point-found m s o.0 h o.1 in
+    let inside = place.0 in
+    let here = place.1 in
+    record { strip = h; from = omega arith; to = omega arith }
+
+pub row-found : (m : SourceValues) (s : Strip) (d : ℕ) → HasPoint m s → (unwrap_or (find_point s.lines.items) d < length s.lines.items) × (first_row m s + unwrap_or (find_point s.lines.items) d ≡ point_row m s.sweep)
+row-found m s d h =
+    let strip = h.strip in
+    let from = h.from in
+    let to = h.to in
+    let home = strip.home in
+    elim (whereabouts m s.sweep s.blocks.items s.lines.items s.home strip) [
+      | inl above ↦ let row = above.row in absurd (omega arith)
+      | inr other ↦ elim other [
+        | inl among ↦
+            let e = ap (λ o. unwrap_or o d) among.here in
+            let inside = among.inside in
+            let place = among.place in
+            (omega arith, omega arith)
+        | inr below ↦ let row = below.row in absurd (omega arith)
+      ]
+    ]
+
+-- sweeps for one point at one shape
+pub points-same : (m : SourceValues) (a b : Sweep) → b.point ≡ a.point → b.shape ≡ a.shape → point_row m b ≡ point_row m a
+points-same m a b e f = ap (λ p. row_of p (rows_at m b.shape)) e ∙ ap (λ (x : ShapeValues). row_of a.point (rows_at m x)) f
+
+pub costs-same : (kind : ℕ → Bool) (m : SourceValues) (a b : Sweep) → b.shape ≡ a.shape → all_costs kind m b ≡ all_costs kind m a
+costs-same kind m a b f = ap (λ (x : ShapeValues). costs_with kind (λ c. m.rows_of c x) (λ c. m.cost_of c x) 0 m.blocks) f
+
+-- the rows above point's
+pub asks-above : (kind : ℕ → Bool) (m : SourceValues) (s : Strip) (w : Wanted) (point row half : ℕ) → IsStrip m s → row < length s.lines.items → first_row m s + row ≡ point_row m s.sweep → half ≤ w.height
+    → point ≡ point_row m s.sweep → Between kind (point - w.height) (point + 1) → AsksAbove kind m s (s.home + half - row)
+asks-above kind m s w point row half h inside place low same asks = λ k from to.
+    let home = h.home in
+    asks k (omega arith) (omega arith)
+
+pub centre-place : (m : SourceValues) (s new : Strip) (row half : ℕ) → IsStrip m s → IsStrip m new → new.sweep ≡ s.sweep → row < length s.lines.items → first_row m s + row ≡ point_row m s.sweep
+    → length new.lines.items + s.home ≡ length s.lines.items + new.home → s.home ≤ new.home → BeginsAbove m new (s.home + half - row)
+    → (row + (new.home - s.home) - half < length new.lines.items) × (first_row m new + (row + (new.home - s.home) - half) ≡ point_row m s.sweep - half)
+centre-place m s new row half h i e inside place grows higher begins =
+    let home = h.home in
+    let now = i.home in
+    let same = ap (home_row m) e in
+    (omega arith, elim begins [ inl far ↦ omega arith | inr text ↦ omega arith ])
+
+pub value-centre : (m : SourceValues) (shape : ShapeValues) (s new : Strip) (w : Wanted) (place : ℕ) (chosen : Chosen) → new.sweep ≡ s.sweep → s.sweep.shape ≡ shape → s.sweep.point ≡ w.point
+    → first_row m new + place ≡ point_row m s.sweep - w.height / 2
+    → chosen ≡ record { anchor = anchor_at (all_rows (rows_in m new.sweep) m.blocks) (first_row m new + place); point = w.point } → chosen ≡ centred_chosen m shape w
+value-centre m shape s new w place chosen e f point row is =
+    let rows = ap (λ (x : Sweep). all_rows (rows_in m x) m.blocks) e ∙ ap (rows_at m) f in
+    let there : first_row m new + place ≡ centred w (places_of m shape w) =
+    row ∙ ap (λ n. n - w.height / 2) (ap (λ p. row_of p (all_rows (rows_in m s.sweep) m.blocks)) point ∙ ap (λ (x : ShapeValues). row_of w.point (rows_at m x)) f) in
+    is ∙ (ap (λ (ys : List EntryMeaning). record { anchor = anchor_at ys (first_row m new + place); point = w.point }) rows
+    ∙ ap (λ n. record { anchor = anchor_at (rows_at m shape) n; point = w.point }) there)
+
+abbrev pub DownFails : SourceValues → Strip → ℕ → ℕ → ℕ → Type 0
+DownFails m old n steps count = (kind : ℕ → Bool) (base : ℕ) → IsPaid kind base m old n → AsksBelow kind m old count → steps ≤ base + all_costs kind m old.sweep
+
+abbrev pub DownPays : SourceValues → Strip → Strip → ℕ → ℕ → ℕ → Type 0
+DownPays m old new n steps count = (kind : ℕ → Bool) (base : ℕ) → IsPaid kind base m old n → AsksBelow kind m old count → IsPaid kind base m new steps
+
+abbrev pub UpFails : SourceValues → Strip → ℕ → ℕ → ℕ → Type 0
+UpFails m old n steps rows = (kind : ℕ → Bool) (base : ℕ) → IsPaid kind base m old n → AsksAbove kind m old rows → steps ≤ base + all_costs kind m old.sweep
+
+abbrev pub UpPays : SourceValues → Strip → Strip → ℕ → ℕ → ℕ → Type 0
+UpPays m old new n steps rows = (kind : ℕ → Bool) (base : ℕ) → IsPaid kind base m old n → AsksAbove kind m old rows → IsPaid kind base m new steps
+
+-- what was paid, where it may be as much again
+pub pays : (kind : ℕ → Bool) (base : ℕ) (m : SourceValues) (sweep : Sweep) (s : Strip) (steps : ℕ) → s.sweep ≡ sweep → IsPaid kind base m s steps → steps ≤ base + all_costs kind m sweep
+pays kind base m sweep s steps e paid =
+    let bound = affords kind base m s.sweep s.blocks.items s.lines.items s.home steps paid.0 paid.1 in
+    omega (arith, bound, ap (λ (x : Sweep). all_costs kind m x) e)
+
+-- the steps that are left to a window
+abbrev pub WindowPays : SourceValues → ShapeValues → Wanted → Strip → ℕ → ℕ → Type 0
+WindowPays m shape w s n steps = (base : ℕ) → IsPaid (is_near w (places_of m shape w)) base m s n → steps ≤ base + 2 * near_costs m shape w
+
+pub window-pays : (m : SourceValues) (sweep : Sweep) (w : Wanted) (s : Strip) (n steps base : ℕ) → s.sweep ≡ sweep → WindowPays m s.sweep.shape w s n steps
+    → IsPaid (near_of m sweep w) base m s n → steps ≤ base + 2 * near_costs m sweep.shape w
+window-pays m sweep w s n steps base e pays paid =
+    subst (λ (x : ShapeValues). WindowPays m x w s n steps) (ap (λ (x : Sweep). x.shape) e) pays base paid
+
+pub first-same : (m : SourceValues) (s new : Strip) → new.sweep ≡ s.sweep → new.home ≡ s.home → first_row m new ≡ first_row m s
+first-same m s new e f = ap (λ (x : Sweep). home_row m x - new.home) e ∙ ap (λ n. home_row m s.sweep - n) f
+
+-- a strip round point's block
+pub with-point : (r : Result Strip Memory) (m : SourceValues) (old sweep : Sweep) → IfOk r (λ s. IsStrip m s × (s.sweep ≡ sweep)) → IfOk r (λ s. sweep.anchor.pos ≡ sweep.point → HasPoint m s)
+    → sweep.anchor.pos ≡ sweep.point → sweep.point ≡ old.point → sweep.shape ≡ old.shape → IfOk r (λ found. (found.sweep.point ≡ old.point) × (found.sweep.shape ≡ old.shape) × HasPoint m found)
+with-point (Ok s) m old sweep strip has same point shape =
+    (ap (λ (x : Sweep). x.point) strip.1 ∙ point, ap (λ (x : Sweep). x.shape) strip.1 ∙ shape, has same)
+with-point (Err x) m old sweep strip has same point shape = tt
+
+pub paid-again : (kind : ℕ → Bool) (base n more costs : ℕ) (m : SourceValues) (r : Result Strip Memory) → n ≤ base + costs
+    → MatchResult r (λ s. IsPaid kind n m s more) (λ _. more ≤ n + costs) → MatchResult r (λ s. IsPaid kind (base + costs) m s more) (λ _. more ≤ base + 2 * costs)
+paid-again kind base n more costs m (Ok s) low paid =
+    let old = paid.1.paid in
+    (paid.0, record { have = paid.1.have; paid = omega (arith, old, low) })
+paid-again kind base n more costs m (Err x) low paid = omega (arith, paid, low)
+
+abbrev pub CentredPays : SourceValues → Strip → Wanted → ℕ → ℕ → Type 0
+CentredPays m s w n steps = (kind : ℕ → Bool) (base : ℕ) → IsPaid kind base m s n → Between kind (point_row m s.sweep - w.height) (point_row m s.sweep + 1) → steps ≤ base + 2 * all_costs kind m s.sweep
+
+pub result-centred : (r : Result Chosen Memory) (m : SourceValues) (sweep : Sweep) (s : Strip) (w : Wanted) → s.sweep ≡ sweep → w.forced ≡ false
+    → following w (places_of m sweep.shape w) ≡ centred w (places_of m sweep.shape w) → IfOk r (λ chosen. chosen ≡ centred_chosen m s.sweep.shape w) → IfOk r (λ chosen. chosen ≡ chosen_of m sweep.shape w)
+result-centred (Ok chosen) m sweep s w e free follows is = value-centred m sweep s w chosen e free follows is
+result-centred (Err x) m sweep s w e free follows is = tt
+
+abbrev pub ForcedPays : SourceValues → ShapeValues → Wanted → Strip → ℕ → ℕ → Type 0
+ForcedPays m shape w s n steps = (base : ℕ) → IsPaid (is_near w (places_of m shape w)) base m s n → steps ≤ base + near_costs m shape w
+
+pub forced-pays : (m : SourceValues) (sweep : Sweep) (w : Wanted) (s : Strip) (n steps base : ℕ) → s.sweep ≡ sweep → ForcedPays m s.sweep.shape w s n steps
+    → IsPaid (near_of m sweep w) base m s n → steps ≤ base + near_costs m sweep.shape w
+forced-pays m sweep w s n steps base e pays paid =
+    subst (λ (x : ShapeValues). ForcedPays m x w s n steps) (ap (λ (x : Sweep). x.shape) e) pays base paid

@@ -1,0 +1,85 @@
+-- The lines of a strip as rows of its source.
+use Rattle.std.proofs.Common.{◌≡◌, ℕ, ◌+◌, ◌-◌, ◌<◌, ◌≤◌, inl, inr, min, List, [], ◌∷◌, ◌++◌, length, map, take, drop, Option, None, Some, refl, sym, ap, subst, ◌∙◌, arith}
+use Rattle.std.proofs.Math.Seq.{drop-append-add}
+use Rattle.std.proofs.lemmas.List.{drop-append-le, drop-take, length-drop, take-append-le, take_all}
+use Rattle.std.proofs.lemmas.Bool.{cases_lt}
+use Rattle.std.proofs.lemmas.Option.{slice_get-map}
+use Rattle.std.specs.List.{drop-map, slice_get, take-map}
+use Rattle.std.specs.Option.{option_map}
+use Rattle.rd_base.specs.declared.settings.Anchor.{Anchor}
+use Rattle.rd_matrix.specs.Entries.{EntryMeaning, all_rows}
+use Rattle.rd_matrix.specs.Sources.{SourceValues}
+use Rattle.rd_start.specs.Chosen.{anchor_at, anchor_from, first_positions}
+use Rattle.rd_start.specs.Strips.{IsStrip, Reaches, count_in, first_row, home_row, line_of, rows_in, span_of}
+use Rattle.rd_start.specs.declared.span.Span.{Span}
+use Rattle.rd_start.specs.declared.strip.Line.{Line}
+use Rattle.rd_start.specs.declared.strip.Strip.{Strip}
+use Rattle.rd_start.proofs.Lists.{slice_get-behind, slice_get-front}
+use Rattle.rd_start.proofs.Rows.{parts}
+use Rattle.rd_start.proofs.Spans.{spans, spans-lines}
+
+abbrev anchor_of : Line → Anchor
+anchor_of l = record { pos = l.start; row = l.number }
+
+anchor-same : (point : ℕ) (o : Option EntryMeaning) (line : Line) → option_map (line_of point) o ≡ Some line → anchor_of line ≡ anchor_from o
+anchor-same point None line e = absurd cc
+anchor-same point (Some x) line e = let same : line_of point x ≡ line = cc in ap anchor_of (sym same)
+
+pub anchor-line : (m : SourceValues) (s : Strip) (place : ℕ) (line : Line) → IsStrip m s → place < length s.lines.items → slice_get s.lines.items place ≡ Some line
+    → anchor_of line ≡ anchor_at (all_rows (rows_in m s.sweep) m.blocks) (first_row m s + place)
+anchor-line m s place line h inside at =
+    let z = parts m s.sweep s.blocks.items s.lines.items s.home h in
+    let from = z.from in
+    let count = z.count in
+    let first : first_row m s + place ≡ length z.front + place = omega arith in
+    let low : place < length z.middle = omega arith in
+    let here = ap (λ (ys : List EntryMeaning). slice_get ys (first_row m s + place)) z.whole
+    ∙ (ap (slice_get (z.front ++ (z.middle ++ z.back))) first
+    ∙ (slice_get-behind z.front (z.middle ++ z.back) place ∙ slice_get-front z.middle z.back place low)) in
+    let mapped = sym (slice_get-map (line_of s.sweep.point) z.middle place) ∙ (ap (λ (ys : List Line). slice_get ys place) (sym z.lines) ∙ at) in
+    anchor-same s.sweep.point (slice_get z.middle place) line mapped ∙ ap anchor_from (sym here)
+
+-- the rows of a strip from one place up to another
+pub rows-between : (front middle back : List EntryMeaning) (first from to : ℕ) → length front ≡ first → from ≤ to → to ≤ length middle
+    → drop from (take to middle) ≡ take (to - from) (drop (first + from) (front ++ (middle ++ back)))
+rows-between front middle back first from to size low high =
+    let apart : from + (to - from) ≡ to = omega arith in
+    let left = length-drop from middle in
+    ap (λ n. drop from (take n middle)) (sym apart)
+    ∙ (drop-take from (to - from) middle
+    ∙ sym (ap (λ n. take (to - from) (drop (n + from) (front ++ (middle ++ back)))) (sym size)
+    ∙ (ap (take (to - from)) (drop-append-add front (middle ++ back) from ∙ drop-append-le from middle back (omega arith))
+    ∙ take-append-le (to - from) (drop from middle) back (omega arith))))
+
+pub span-lines : (m : SourceValues) (s : Strip) (from to place : ℕ) (span : Option Span) → to ≤ length s.lines.items → place ≡ to → span ≡ spans None (drop from (take place s.lines.items)) → IsStrip m s → from ≤ to
+    → span ≡ span_of (first_positions (take (to - from) (drop (first_row m s + from) (all_rows (rows_in m s.sweep) m.blocks))))
+span-lines m s from to place span inside end e h low =
+    let z = parts m s.sweep s.blocks.items s.lines.items s.home h in
+    let start = z.from in
+    let count = z.count in
+    let f = line_of s.sweep.point in
+    let all = all_rows (rows_in m s.sweep) m.blocks in
+    e ∙ (ap (λ n. spans None (drop from (take n s.lines.items))) end
+    ∙ (ap (λ (ys : List Line). spans None (drop from (take to ys))) z.lines
+    ∙ (ap (λ (ys : List Line). spans None (drop from ys)) (take-map f to z.middle)
+    ∙ (ap (spans None) (drop-map f from (take to z.middle))
+    ∙ (spans-lines s.sweep.point None (drop from (take to z.middle))
+    ∙ ap (λ (ys : List EntryMeaning). span_of (first_positions ys))
+    (rows-between z.front z.middle z.back (first_row m s) from to (omega arith) low (omega arith)
+    ∙ ap (λ (ys : List EntryMeaning). take (to - from) (drop (first_row m s + from) ys)) (sym z.whole)))))))
+
+whole-height : (start height count end : ℕ) → end ≡ min (start + height) count → start + height ≤ count → end - start ≡ height
+whole-height start height count end is within = omega arith
+
+-- the view from a row of a strip that reaches the view's end
+pub view-same : (m : SourceValues) (s : Strip) (start height end : ℕ) → IsStrip m s → Reaches m s (start + height) → start < length s.lines.items → end ≡ min (start + height) (length s.lines.items)
+    → take (end - start) (drop (first_row m s + start) (all_rows (rows_in m s.sweep) m.blocks)) ≡ take height (drop (first_row m s + start) (all_rows (rows_in m s.sweep) m.blocks))
+view-same m s start height end h reached inside is =
+    let rows = drop (first_row m s + start) (all_rows (rows_in m s.sweep) m.blocks) in
+    elim (cases_lt (length s.lines.items) (start + height)) [
+      | inl past ↦
+          let left = length-drop (first_row m s + start) (all_rows (rows_in m s.sweep) m.blocks) in
+          let all : length rows ≤ length s.lines.items - start = elim reached [ inl far ↦ absurd (omega arith) | inr text ↦ omega arith ] in
+          take_all (end - start) rows (omega (arith, all, is, past)) ∙ sym (take_all height rows (omega (arith, all, past)))
+      | inr within ↦ ap (λ n. take n rows) (whole-height start height (length s.lines.items) end is within)
+    ]

@@ -1,0 +1,88 @@
+-- The rows of a block, added to a strip one by one.
+use Rattle.std.proofs.Common.{◌≡◌, ℕ, zero, suc, ◌+◌, ◌-◌, ◌<◌, ◌≤◌, List, [], ◌∷◌, ◌++◌, length, map, take, drop, get_or, Option, None, Some, refl, sym, ap, subst, ◌∙◌, arith}
+use Rattle.std.proofs.lemmas.List.{append-nil, append_assoc, drop_all, drop_more, length-map, map-append, take_all, take_more}
+use Rattle.std.proofs.lemmas.Option.{slice_get-map, slice_get_read}
+use Rattle.std.specs.Option.{option_map}
+use Rattle.rd_rows.specs.Copies.{RowValues, shown_rows}
+use Rattle.std.specs.List.{slice_get}
+use Rattle.rd_matrix.specs.Entries.{EntryMeaning, numbered}
+use Rattle.rd_matrix.specs.declared.block.Block.{Block}
+use Rattle.rd_rows.specs.Rows.{RowMeaning}
+use Rattle.rd_start.specs.Strips.{IsAbove, IsBelow, line_of}
+use Rattle.rd_start.specs.declared.strip.Line.{Line}
+use Rattle.rd_start.specs.declared.strip.Strip.{Strip}
+use Rattle.rd_start.proofs.Blocks.{length-numbered}
+
+numbered-at : (start number k : ℕ) (rows : List RowMeaning) (r : RowMeaning) (d : EntryMeaning) → slice_get rows k ≡ Some r
+    → get_or (numbered start number rows) k d ≡ record { start = start; number = number + k; row = r }
+numbered-at start number k [] r d e = absurd cc
+numbered-at start number zero (x ∷ rows) r d e =
+    let here : x ≡ r = cc in
+    let same : number ≡ number + 0 = omega arith in
+    ap (λ (y : RowMeaning). record { start = start; number = number; row = y }) here ∙ ap (λ n. record { start = start; number = n; row = r }) same
+numbered-at start number (suc k) (x ∷ rows) r d e =
+    let same : number + 1 + k ≡ number + suc k = omega arith in
+    numbered-at start (number + 1) k rows r d e ∙ ap (λ n. record { start = start; number = n; row = r }) same
+
+abbrev entry : ℕ → ℕ → RowMeaning → EntryMeaning
+entry start k r = record { start = start; number = k; row = r }
+
+within : (rows : List RowMeaning) (k : ℕ) (r : RowMeaning) → slice_get rows k ≡ Some r → k < length rows
+within [] k r e = absurd cc
+within (x ∷ rows) zero r e = omega arith
+within (x ∷ rows) (suc k) r e = let rest = within rows k r e in omega arith
+
+entry-at : (start k : ℕ) (rows : List RowMeaning) (r : RowMeaning) → slice_get rows k ≡ Some r → get_or (numbered start 0 rows) k (entry start k r) ≡ entry start k r
+entry-at start k rows r e =
+    let same : 0 + k ≡ k = omega arith in
+    numbered-at start 0 k rows r (entry start k r) e ∙ ap (λ n. entry start n r) same
+
+take-entries : (start k : ℕ) (rows : List RowMeaning) (r : RowMeaning) → slice_get rows k ≡ Some r → take (k + 1) (numbered start 0 rows) ≡ take k (numbered start 0 rows) ++ entry start k r ∷ []
+take-entries start k rows r e =
+    let size = length-numbered start 0 rows in
+    let low = within rows k r e in
+    take_more (numbered start 0 rows) k (entry start k r) (omega arith) ∙ ap (λ x. take k (numbered start 0 rows) ++ x ∷ []) (entry-at start k rows r e)
+
+drop-entries : (start k : ℕ) (rows : List RowMeaning) (r : RowMeaning) → slice_get rows k ≡ Some r → drop k (numbered start 0 rows) ≡ entry start k r ∷ drop (k + 1) (numbered start 0 rows)
+drop-entries start k rows r e =
+    let size = length-numbered start 0 rows in
+    let low = within rows k r e in
+    drop_more (numbered start 0 rows) k (entry start k r) (omega arith) ∙ ap (λ x. x ∷ drop (k + 1) (numbered start 0 rows)) (entry-at start k rows r e)
+
+pub lines-below : (point start k : ℕ) (rows : List RowMeaning) (r : RowMeaning) (old lines new : List Line) (line : Line) → slice_get rows k ≡ Some r
+    → line ≡ line_of point (record { start = start; number = k; row = r }) → lines ≡ old ++ map (line_of point) (take k (numbered start 0 rows)) → new ≡ lines ++ line ∷ []
+    → new ≡ old ++ map (line_of point) (take (k + 1) (numbered start 0 rows))
+lines-below point start k rows r old lines new line at is before now =
+    let f = line_of point in
+    let es = numbered start 0 rows in
+    now ∙ (ap (λ x. lines ++ x ∷ []) is ∙ (ap (λ ys. ys ++ f (entry start k r) ∷ []) before
+    ∙ (append_assoc old (map f (take k es)) (f (entry start k r) ∷ [])
+    ∙ ap (λ ys. old ++ ys) (sym (map-append f (take k es) (entry start k r ∷ [])) ∙ ap (map f) (sym (take-entries start k rows r at))))))
+
+pub lines-above : (point start k : ℕ) (rows : List RowMeaning) (r : RowMeaning) (old lines new : List Line) (line : Line) → slice_get rows k ≡ Some r
+    → line ≡ line_of point (record { start = start; number = k; row = r }) → lines ≡ map (line_of point) (drop (k + 1) (numbered start 0 rows)) ++ old → new ≡ line ∷ lines
+    → new ≡ map (line_of point) (drop k (numbered start 0 rows)) ++ old
+lines-above point start k rows r old lines new line at is before now =
+    let f = line_of point in
+    let es = numbered start 0 rows in
+    now ∙ (ap (λ x. x ∷ lines) is ∙ (ap (λ ys. f (entry start k r) ∷ ys) before
+    ∙ ap (λ ys. map f ys ++ old) (sym (drop-entries start k rows r at))))
+
+pub all-below : (point start k : ℕ) (rows : List RowMeaning) (old new : List Line) → length rows ≤ k → new ≡ old ++ map (line_of point) (take k (numbered start 0 rows))
+    → new ≡ old ++ map (line_of point) (numbered start 0 rows)
+all-below point start k rows old new all e =
+    let size = length-numbered start 0 rows in
+    e ∙ ap (λ ys. old ++ map (line_of point) ys) (take_all k (numbered start 0 rows) (omega arith))
+
+-- the rows of a block, shown
+pub shown-at : (rows : List RowValues) (k : ℕ) (r : RowValues) → k < length rows → r ≡ get_or rows k r → slice_get (shown_rows rows) k ≡ Some r.shown
+shown-at rows k r inside at =
+    slice_get-map (λ (x : RowValues). x.shown) rows k ∙ ap (option_map (λ (x : RowValues). x.shown)) (slice_get_read rows (length rows) k r refl inside at)
+
+pub none-above : (point start k : ℕ) (rows : List RowMeaning) (old : List Line) → length rows ≤ k → old ≡ map (line_of point) (drop k (numbered start 0 rows)) ++ old
+none-above point start k rows old all =
+    let size = length-numbered start 0 rows in
+    sym (ap (λ ys. map (line_of point) ys ++ old) (drop_all k (numbered start 0 rows) (omega arith)))
+
+pub count-shown : (rows : List RowValues) → length (shown_rows rows) ≡ length rows
+count-shown rows = length-map rows (λ (r : RowValues). r.shown)

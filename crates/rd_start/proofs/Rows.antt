@@ -1,0 +1,231 @@
+-- A strip's rows among all rows, and where point's row is.
+use Rattle.std.proofs.Common.{◌≡◌, ℕ, zero, suc, ◌+◌, ◌-◌, ◌<◌, ◌≤◌, ◌⊎◌, inl, inr, Bool, true, false, cond, ◌||◌, ◌&&◌, leb, ltb, List, [], ◌∷◌, ◌++◌, length, map, Option, None, Some, refl, sym, ap, subst, ◌∙◌, arith}
+use Rattle.std.proofs.lemmas.Bool.{cases_Bool, le-ltb, leb-false, leb-true, lt-ltb, ltb-false, ltb-true}
+use Rattle.std.proofs.lemmas.List.{length-append, length-map}
+use Rattle.std.specs.List.{list_any, position, position_or_len, slice_get}
+use Rattle.rd_matrix.specs.Blocks.{end_from, first_start}
+use Rattle.rd_matrix.specs.Entries.{EntryMeaning, all_rows}
+use Rattle.rd_matrix.specs.Sources.{SourceValues, IsSource}
+use Rattle.rd_matrix.specs.declared.block.Block.{Block}
+use Rattle.rd_rows.specs.Rows.{RowMeaning}
+use Rattle.rd_rows.specs.Shapes.{IsShape}
+use Rattle.rd_start.specs.Chosen.{begins_item}
+use Rattle.rd_start.specs.Strips.{IsStripOf, count_in, home_row, line_of, point_row, rows_in}
+use Rattle.rd_start.specs.declared.strip.Line.{Line}
+use Rattle.rd_start.specs.declared.strip.Sweep.{Sweep}
+use Rattle.rd_start.proofs.Blocks.{Fit, all-append, any-fit, end-append, fit, fit-back, fit-front, fit-le}
+use Rattle.rd_start.proofs.Tests.{above-range, below-range, in-range}
+use Rattle.rd_start.proofs.Lists.{first-among, first-behind, first-inside, first-mapped, first-none}
+
+-- all rows are those before a strip, its own and those behind it
+pub record Parts (m : SourceValues) (sweep : Sweep) (bs : List Block) (ls : List Line) (at : ℕ) : Type 0 where
+  pub front : List EntryMeaning
+  pub middle : List EntryMeaning
+  pub back : List EntryMeaning
+  pub whole : all_rows (rows_in m sweep) m.blocks ≡ front ++ (middle ++ back)
+  pub from : length front + at ≡ home_row m sweep
+  pub lines : ls ≡ map (line_of sweep.point) middle
+  pub count : length ls ≡ length middle
+  pub total : length front + (length ls + length back) ≡ count_in m sweep m.blocks
+
+pub parts : (m : SourceValues) (sweep : Sweep) (bs : List Block) (ls : List Line) (at : ℕ) → IsStripOf m sweep bs ls at → Parts m sweep bs ls at
+parts m sweep bs ls at h =
+    let rows = λ (b : Block). rows_in m sweep b in
+    let front = all_rows rows h.before in
+    let middle = all_rows rows bs in
+    let back = all_rows rows h.after in
+    let whole = ap (all_rows rows) h.pieces ∙ (all-append rows h.before (bs ++ h.after) ∙ ap (λ ys. front ++ ys) (all-append rows bs h.after)) in
+    let count = ap length h.lines ∙ length-map middle (line_of sweep.point) in
+    record {
+      front = front;
+      middle = middle;
+      back = back;
+      whole = whole;
+      from = h.home;
+      lines = h.lines;
+      count = count;
+      total = omega (arith, count, ap length whole, length-append front (middle ++ back), length-append middle back);
+    }
+
+-- and how many rows stand behind a strip's
+pub total-is : (m : SourceValues) (sweep : Sweep) (bs : List Block) (ls : List Line) (at : ℕ) → (h : IsStripOf m sweep bs ls at)
+    → home_row m sweep + (length ls + length (all_rows (rows_in m sweep) h.after)) ≡ count_in m sweep m.blocks + at
+total-is m sweep bs ls at h =
+    let rows = λ (b : Block). rows_in m sweep b in
+    let front = all_rows rows h.before in
+    let middle = all_rows rows bs in
+    let back = all_rows rows h.after in
+    let whole = ap (all_rows rows) h.pieces ∙ (all-append rows h.before (bs ++ h.after) ∙ ap (λ ys. front ++ ys) (all-append rows bs h.after)) in
+    let count = ap length h.lines ∙ length-map middle (line_of sweep.point) in
+    omega (arith, count, h.home, ap length whole, length-append front (middle ++ back), length-append middle back)
+
+abbrev pub find_point : List Line → Option ℕ
+find_point ls = position (λ (line : Line). line.has_point) ls
+
+found : (point : ℕ) (es : List EntryMeaning) → list_any (begins_item point) es ≡ true → find_point (map (line_of point) es) ≡ Some (position_or_len (begins_item point) es)
+found point es some =
+    let inside = first-inside (begins_item point) es some in
+    let same = first-mapped (λ (line : Line). line.has_point) (line_of point) es in
+    let size = length-map es (line_of point) in
+    let t = lt-ltb (position_or_len (λ (line : Line). line.has_point) (map (line_of point) es)) (length (map (line_of point) es)) (omega (arith, inside, same, size)) in
+    ap (λ b. cond b (Some (position_or_len (λ (line : Line). line.has_point) (map (line_of point) es))) None) t ∙ ap Some same
+
+not-found : (point : ℕ) (es : List EntryMeaning) → list_any (begins_item point) es ≡ false → find_point (map (line_of point) es) ≡ None
+not-found point es none =
+    let outside = first-none (begins_item point) es none in
+    let same = first-mapped (λ (line : Line). line.has_point) (line_of point) es in
+    let size = length-map es (line_of point) in
+    let t = le-ltb (position_or_len (λ (line : Line). line.has_point) (map (line_of point) es)) (length (map (line_of point) es)) (omega (arith, outside, same, size)) in
+    ap (λ b. cond b (Some (position_or_len (λ (line : Line). line.has_point) (map (line_of point) es))) None) t
+
+-- point's row is above a strip's rows, among them or below them
+pub record PointAbove (m : SourceValues) (sweep : Sweep) (bs : List Block) (ls : List Line) (at : ℕ) : Type 0 where
+  pub first : Block
+  pub here : slice_get bs 0 ≡ Some first
+  pub low : sweep.point < first.start
+  pub none : find_point ls ≡ None
+  pub row : point_row m sweep + at < home_row m sweep
+
+pub record PointAmong (m : SourceValues) (sweep : Sweep) (bs : List Block) (ls : List Line) (at : ℕ) : Type 0 where
+  pub row : ℕ
+  pub here : find_point ls ≡ Some row
+  pub inside : row < length ls
+  pub place : point_row m sweep + at ≡ home_row m sweep + row
+
+pub record PointBelow (m : SourceValues) (sweep : Sweep) (bs : List Block) (ls : List Line) (at : ℕ) : Type 0 where
+  pub first : Block
+  pub here : slice_get bs 0 ≡ Some first
+  pub high : first.start ≤ sweep.point
+  pub none : find_point ls ≡ None
+  pub row : home_row m sweep + length ls ≤ point_row m sweep + at
+  pub inside : point_row m sweep < count_in m sweep m.blocks
+
+pub record First (bs : List Block) (from : ℕ) : Type 0 where
+  pub first : Block
+  pub here : slice_get bs 0 ≡ Some first
+  pub start : first.start ≡ from
+
+first-of : (rows : Block → List RowMeaning) (from : ℕ) (bs : List Block) → 0 < length bs → Fit rows from bs → First bs from
+first-of rows from [] some h = absurd (omega arith)
+first-of rows from (b ∷ bs) some h = record { first = b; here = refl; start = h.0 }
+
+end-any : (x y : ℕ) (bs : List Block) → 0 < length bs → end_from x bs ≡ end_from y bs
+end-any x y [] some = absurd (omega arith)
+end-any x y (b ∷ bs) some = refl
+
+-- the bounds of the positions before a strip, of its own and of those behind it
+pub record Bounds (m : SourceValues) (sweep : Sweep) (bs before after : List Block) : Type 0 where
+  pub start : ℕ
+  pub first : ℕ
+  pub last : ℕ
+  pub end : ℕ
+  pub front : Fit (rows_in m sweep) start before
+  pub middle : Fit (rows_in m sweep) first bs
+  pub back : Fit (rows_in m sweep) last after
+  pub at_first : first ≡ end_from start before
+  pub at_last : last ≡ end_from first bs
+  pub at_end : end ≡ end_from last after
+  pub low : start ≤ sweep.point
+  pub high : sweep.point < end
+
+pub whole-fit : (m : SourceValues) (sweep : Sweep) → IsSource m → IsShape sweep.shape → Fit (rows_in m sweep) (first_start m.blocks) m.blocks
+whole-fit m sweep source shape = fit (rows_in m sweep) (first_start m.blocks) m.blocks source.blocks.stand (λ b k. source.rows b sweep.shape k shape)
+
+pub bounds : (m : SourceValues) (sweep : Sweep) (bs : List Block) (ls : List Line) (at : ℕ) → (h : IsStripOf m sweep bs ls at) → Bounds m sweep bs h.before h.after
+bounds m sweep bs ls at h =
+    let rows = λ (b : Block). rows_in m sweep b in
+    let start = first_start m.blocks in
+    let whole = subst (Fit rows start) h.pieces (whole-fit m sweep h.source h.shape) in
+    let rest = fit-back rows start h.before (bs ++ h.after) whole in
+    let first = end_from start h.before in
+    let last = end_from first bs in
+    let last_end = ap (end_from start) h.pieces ∙ (end-append start h.before (bs ++ h.after) ∙ end-append first bs h.after) in
+    let any_end = end-any 0 start m.blocks h.source.blocks.some in
+    record {
+      start = start;
+      first = first;
+      last = last;
+      end = end_from last h.after;
+      front = fit-front rows start h.before (bs ++ h.after) whole;
+      middle = fit-front rows first bs h.after rest;
+      back = fit-back rows first bs h.after rest;
+      at_first = refl;
+      at_last = refl;
+      at_end = refl;
+      low = h.point.0;
+      high = subst (λ n. sweep.point < n) (any_end ∙ last_end) h.point.1;
+    }
+
+pub whereabouts : (m : SourceValues) (sweep : Sweep) (bs : List Block) (ls : List Line) (at : ℕ) → IsStripOf m sweep bs ls at
+    → PointAbove m sweep bs ls at ⊎ (PointAmong m sweep bs ls at ⊎ PointBelow m sweep bs ls at)
+whereabouts m sweep bs ls at h =
+    let rows = λ (b : Block). rows_in m sweep b in
+    let p = sweep.point in
+    let begins = begins_item p in
+    let w = bounds m sweep bs ls at h in
+    let z = parts m sweep bs ls at h in
+    let front = all_rows rows h.before in
+    let middle = all_rows rows bs in
+    let back = all_rows rows h.after in
+    let whole = ap (all_rows rows) h.pieces ∙ (all-append rows h.before (bs ++ h.after) ∙ ap (λ ys. front ++ ys) (all-append rows bs h.after)) in
+    let row = ap (position_or_len begins) whole in
+    let in_front = any-fit rows w.start p h.before w.front in
+    let in_middle = any-fit rows w.first p bs w.middle in
+    let in_back = any-fit rows w.last p h.after w.back in
+    let size = ap length h.lines ∙ length-map middle (line_of p) in
+    let head = first-of rows w.first bs h.some w.middle in
+    let start_low = w.low in
+    let end_high = w.high in
+    let e1 = w.at_first in
+    let e2 = w.at_last in
+    let e3 = w.at_end in
+    elim (cases_Bool (leb w.first p)) [
+      | inr below ↦
+          let low = leb-false w.first p below in
+          let t = in-range w.start (end_from w.start h.before) p w.low (omega (arith, low, e1)) in
+          let u = below-range w.first (end_from w.first bs) p low in
+          let some = in_front ∙ t in
+          let place = row ∙ first-among begins front (middle ++ back) some in
+          let inside = first-inside begins front some in
+          let start = head.start in
+          inl (record {
+            first = head.first;
+            here = head.here;
+            low = omega (arith, low, start);
+            none = ap find_point h.lines ∙ not-found p middle (in_middle ∙ u);
+            row = omega (arith, place, inside, h.home);
+          })
+      | inl from ↦ elim (cases_Bool (ltb p w.last)) [
+        | inl here ↦
+            let low = leb-true w.first p from in
+            let high = ltb-true p w.last here in
+            let t = above-range w.start (end_from w.start h.before) p (omega (arith, low, e1)) in
+            let u = in-range w.first (end_from w.first bs) p low (omega (arith, high, e2)) in
+            let some = in_middle ∙ u in
+            let place = row ∙ (first-behind begins front (middle ++ back) (in_front ∙ t) ∙ ap (λ n. length front + n) (first-among begins middle back some)) in
+            let inside = first-inside begins middle some in
+            inr (inl (record {
+              row = position_or_len begins middle;
+              here = ap find_point h.lines ∙ found p middle some;
+              inside = omega (arith, inside, size);
+              place = omega (arith, place, h.home);
+            }))
+        | inr after ↦
+            let high = leb-true w.first p from in
+            let past = ltb-false p w.last after in
+            let t = above-range w.start (end_from w.start h.before) p (omega (arith, high, e1)) in
+            let u = above-range w.first (end_from w.first bs) p (omega (arith, past, e2)) in
+            let v = in-range w.last (end_from w.last h.after) p past (omega (arith, end_high, e3)) in
+            let place = row ∙ (first-behind begins front (middle ++ back) (in_front ∙ t) ∙ ap (λ n. length front + n) (first-behind begins middle back (in_middle ∙ u))) in
+            let inside = first-inside begins back (in_back ∙ v) in
+            let start = head.start in
+            inr (inr (record {
+              first = head.first;
+              here = head.here;
+              high = omega (arith, high, start);
+              none = ap find_point h.lines ∙ not-found p middle (in_middle ∙ u);
+              row = omega (arith, place, size, h.home);
+              inside = omega (arith, place, inside, size, z.total, ap length whole, length-append front (middle ++ back), length-append middle back);
+            }))
+      ]
+    ]

@@ -1,0 +1,63 @@
+-- Spans of positions, joined from the left.
+use Rattle.std.proofs.Common.{◌≡◌, ℕ, ◌+◌, ◌<◌, ◌≤◌, min, max, List, [], ◌∷◌, ◌++◌, length, map, take, get_or, Option, None, Some, refl, sym, ap, ◌∙◌, arith}
+use Rattle.std.proofs.lemmas.Grind.{flat_map-append}
+use Rattle.std.proofs.lemmas.List.{append-nil, take_more}
+use Rattle.std.proofs.lemmas.List.Sums.{fold-append}
+use Rattle.std.specs.List.{flat_map, fold, reduce}
+use Rattle.std.specs.Option.{option_map}
+use Rattle.rd_matrix.specs.Entries.{EntryMeaning}
+use Rattle.rd_start.specs.Chosen.{first_positions, positions_of}
+use Rattle.rd_start.specs.Strips.{joined, line_of, span_of}
+use Rattle.rd_start.specs.declared.span.Span.{Span}
+use Rattle.rd_start.specs.declared.strip.Line.{Line}
+
+pub joined-none : (a : Option Span) → joined a None ≡ a
+joined-none None = refl
+joined-none (Some a) = refl
+
+pub joined_assoc : (a b c : Option Span) → joined (joined a b) c ≡ joined a (joined b c)
+joined_assoc None b c = refl
+joined_assoc (Some a) None c = refl
+joined_assoc (Some a) (Some b) None = refl
+joined_assoc (Some a) (Some b) (Some c) =
+    let least : min (min a.first b.first) c.first ≡ min a.first (min b.first c.first) = omega arith in
+    let greatest : max (max a.last b.last) c.last ≡ max a.last (max b.last c.last) = omega arith in
+    cc
+
+fold-min : (a y : ℕ) (ys : List ℕ) → fold min (min a y) ys ≡ min a (fold min y ys)
+fold-min a y [] = refl
+fold-min a y (z ∷ ys) =
+    let e : min (min a y) z ≡ min a (min y z) = omega arith in
+    ap (λ n. fold min n ys) e ∙ fold-min a (min y z) ys
+
+fold-max : (a y : ℕ) (ys : List ℕ) → fold max (max a y) ys ≡ max a (fold max y ys)
+fold-max a y [] = refl
+fold-max a y (z ∷ ys) =
+    let e : max (max a y) z ≡ max a (max y z) = omega arith in
+    ap (λ n. fold max n ys) e ∙ fold-max a (max y z) ys
+
+pub span_of-append : (xs ys : List ℕ) → span_of (xs ++ ys) ≡ joined (span_of xs) (span_of ys)
+span_of-append [] ys = refl
+span_of-append (x ∷ xs) [] = ap (λ zs. span_of (x ∷ zs)) (append-nil xs)
+span_of-append (x ∷ xs) (y ∷ ys) =
+    let least : fold min x (xs ++ (y ∷ ys)) ≡ min (fold min x xs) (fold min y ys) = fold-append min x xs (y ∷ ys) ∙ fold-min (fold min x xs) y ys in
+    let greatest : fold max x (xs ++ (y ∷ ys)) ≡ max (fold max x xs) (fold max y ys) = fold-append max x xs (y ∷ ys) ∙ fold-max (fold max x xs) y ys in
+    cc
+
+pub span_of-least : (ps : List ℕ) → reduce min ps ≡ option_map (λ (s : Span). s.first) (span_of ps)
+span_of-least [] = refl
+span_of-least (p ∷ ps) = refl
+
+pub span_of-greatest : (ps : List ℕ) → reduce max ps ≡ option_map (λ (s : Span). s.last) (span_of ps)
+span_of-greatest [] = refl
+span_of-greatest (p ∷ ps) = refl
+
+abbrev pub spans : Option Span → List Line → Option Span
+spans a ls = fold (λ b l. joined b l.span) a ls
+
+pub spans-lines : (point : ℕ) (a : Option Span) (es : List EntryMeaning) → spans a (map (line_of point) es) ≡ joined a (span_of (first_positions es))
+spans-lines point a [] = sym (joined-none a)
+spans-lines point a (e ∷ es) =
+    spans-lines point (joined a (span_of (positions_of e))) es
+    ∙ (joined_assoc a (span_of (positions_of e)) (span_of (first_positions es))
+    ∙ ap (joined a) (sym (span_of-append (positions_of e) (first_positions es))))

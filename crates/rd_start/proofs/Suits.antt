@@ -1,0 +1,135 @@
+-- Rows of a strip that suit as a start.
+use Rattle.std.proofs.Common.{◌≡◌, ℕ, zero, suc, ◌+◌, ◌-◌, ◌*◌, ◌<◌, ◌≤◌, ◌⊎◌, inl, inr, Bool, true, false, cond, ◌&&◌, ◌||◌, leb, ltb, eqb, List, [], ◌∷◌, length, Option, None, Some, Result, Ok, Err, refl, sym, ap, subst, ◌∙◌, arith}
+use Rattle.std.proofs.lemmas.Bool.{and_right, eq-eqb, le-leb, le-ltb, lt-leb, lt-ltb, ne_eqb}
+use Rattle.std.proofs.lemmas.Bool.Decides.{nat_tests}
+use Rattle.std.specs.List.{find, slice_get}
+use Rattle.rd_matrix.specs.Sources.{SourceValues}
+use Rattle.rd_matrix.specs.declared.block.Block.{Block}
+use Rattle.rd_start.specs.Chosen.{anchor_row, places_of, row_of}
+use Rattle.rd_start.specs.Starts.{above_at, around, both_at, is_inside, margin_of, suits, wanted_above, wanted_below}
+use Rattle.rd_start.specs.Strips.{IsFor, IsStrip, BeginsAbove, Reaches, count_in, first_row, home_row, point_row, rows_in}
+use Rattle.rd_matrix.specs.Entries.{all_rows}
+use Rattle.rd_start.specs.declared.strip.Strip.{Strip}
+use Rattle.rd_start.specs.declared.strip.Sweep.{Sweep}
+use Rattle.rd_start.specs.declared.wanted.Wanted.{Wanted}
+use Rattle.rd_base.specs.declared.settings.Anchor.{Anchor}
+use Rattle.std.proofs.lemmas.List.Folds.{find-append}
+use Rattle.std.specs.Option.{option_map, option_or}
+use Rattle.std.specs.Prelude.{IfOk}
+use Rattle.rd_base.specs.declared.memory.Memory.{Memory}
+use Rattle.rd_start.proofs.Lists.{find-far, find-kept, find-none}
+use Rattle.rd_start.proofs.Growth.{some-of}
+use Rattle.rd_start.proofs.Reaching.{GivesNext, GivesPrev, above-low, next-of, next-row, no-next, no-prev, prev-of}
+use Rattle.rd_start.proofs.Rows.{find_point}
+use Rattle.rd_start.proofs.Sides.{point-lost}
+
+pub old-is : (m : SourceValues) (w : Wanted) (sweep : Sweep) → IsFor w sweep → (places_of m sweep.shape w).old ≡ home_row m sweep
+old-is m w sweep h = ap (λ (a : Anchor). anchor_row (rows_in m sweep) a m.blocks) (sym h.anchor)
+
+pub point-is : (m : SourceValues) (w : Wanted) (sweep : Sweep) → sweep.point ≡ w.point → (places_of m sweep.shape w).point ≡ point_row m sweep
+point-is m w sweep e = ap (λ p. row_of p (all_rows (rows_in m sweep) m.blocks)) (sym e)
+
+pub above-none : (m : SourceValues) (s : Strip) (w : Wanted) (start : ℕ) (first : Block) → IsStrip m s → start ≡ 0 → slice_get s.blocks.items 0 ≡ Some first → GivesPrev m first None
+    → 0 ≡ wanted_above w (first_row m s + start)
+above-none m s w start first h none at gives =
+    let home = no-prev m s first h at gives in
+    let t = eq-eqb (first_row m s + start) 0 (omega (arith, home, none)) in
+    sym (ap (λ b. cond b 0 (margin_of w)) t)
+
+pub above-some : (m : SourceValues) (s : Strip) (w : Wanted) (start : ℕ) (first b : Block) → IsStrip m s → slice_get s.blocks.items 0 ≡ Some first → GivesPrev m first (Some b)
+    → margin_of w ≡ wanted_above w (first_row m s + start)
+above-some m s w start first b h at gives =
+    let prev = prev-of m s first b h at gives in
+    let low = above-low m s b prev in
+    let some = some-of m s.sweep s.blocks.items s.lines.items s.home b h prev.among in
+    let t = ne_eqb (first_row m s + start) 0 (λ e. omega (arith, e, low, some)) in
+    sym (ap (λ b. cond b 0 (margin_of w)) t)
+
+pub below-none : (m : SourceValues) (s : Strip) (w : Wanted) (start : ℕ) (last : Block) → IsStrip m s → length s.lines.items ≤ start + w.height
+    → slice_get s.blocks.items (length s.blocks.items - 1) ≡ Some last → GivesNext m last None → 0 ≡ wanted_below w (count_in m s.sweep m.blocks) (first_row m s + start)
+below-none m s w start last h end at gives =
+    let all = no-next m s last h at gives in
+    let t = le-leb (count_in m s.sweep m.blocks) (first_row m s + start + w.height) (omega (arith, all, end)) in
+    sym (ap (λ b. cond b 0 (margin_of w)) t)
+
+pub below-some : (m : SourceValues) (s : Strip) (w : Wanted) (start : ℕ) (last b : Block) → IsStrip m s → Reaches m s (start + w.height)
+    → slice_get s.blocks.items (length s.blocks.items - 1) ≡ Some last → GivesNext m last (Some b) → margin_of w ≡ wanted_below w (count_in m s.sweep m.blocks) (first_row m s + start)
+below-some m s w start last b h reached at gives =
+    let next = next-of m s last b h at gives in
+    let some = some-of m s.sweep s.blocks.items s.lines.items s.home b h next.among in
+    let more = next-row m s b next some in
+    let low : first_row m s + start + w.height < count_in m s.sweep m.blocks = elim reached [ inl far ↦ omega arith | inr all ↦ omega arith ] in
+    let t = lt-leb (count_in m s.sweep m.blocks) (first_row m s + start + w.height) (omega arith) in
+    sym (ap (λ b. cond b 0 (margin_of w)) t)
+
+not-above : (height above below start row : ℕ) → row < start → is_inside height above below start row ≡ false
+not-above height above below start row low = grind (arith, nat_tests)
+
+not-below : (height above below start row : ℕ) → start + height ≤ row → is_inside height above below start row ≡ false
+not-below height above below start row high = grind (arith, nat_tests)
+
+unseen : (w : Wanted) (m : SourceValues) (sweep : Sweep) (j : ℕ) → sweep.point ≡ w.point → (point_row m sweep < j) ⊎ (j + w.height ≤ point_row m sweep) → suits w (places_of m sweep.shape w) j ≡ false
+unseen w m sweep j same away =
+    let at = places_of m sweep.shape w in
+    let point = point-is m w sweep same in
+    let out : is_inside w.height (wanted_above w j) (wanted_below w at.count j) j at.point ≡ false =
+    elim away [
+      | inl above ↦ not-above w.height (wanted_above w j) (wanted_below w at.count j) j at.point (omega arith)
+      | inr below ↦ not-below w.height (wanted_above w j) (wanted_below w at.count j) j at.point (omega arith)
+    ] in
+    and_right (ltb j at.count) (is_inside w.height (wanted_above w j) (wanted_below w at.count j) j at.point) out
+
+-- where the strip has not point's row, no row suits from which it reaches the end of the view
+pub lost-suits : (m : SourceValues) (s : Strip) (w : Wanted) (start : ℕ) → IsStrip m s → IsFor w s.sweep → find_point s.lines.items ≡ None → Reaches m s (start + w.height)
+    → suits w (places_of m s.sweep.shape w) (first_row m s + start) ≡ false
+lost-suits m s w start h of lost reached =
+    unseen w m s.sweep (first_row m s + start) of.point
+    (elim (point-lost m s h lost) [
+      | inl above ↦ inl (omega arith)
+      | inr below ↦
+          let low = below.0 in
+          let inside = below.1 in
+          inr (elim reached [ inl far ↦ omega arith | inr all ↦ omega arith ])
+    ])
+
+pub lost-nearest : (m : SourceValues) (s : Strip) (w : Wanted) → IsStrip m s → IsFor w s.sweep → find_point s.lines.items ≡ None → BeginsAbove m s w.conservatively
+    → Reaches m s (s.home + w.conservatively + w.height + 1) → find (suits w (places_of m s.sweep.shape w)) (around (first_row m s + s.home) w.conservatively) ≡ None
+lost-nearest m s w h of lost begins reached =
+    let home = h.home in
+    find-none (suits w (places_of m s.sweep.shape w)) (first_row m s + s.home) w.conservatively (λ k low high.
+    let from : first_row m s ≤ k = elim begins [ inl far ↦ omega arith | inr all ↦ omega arith ] in
+    unseen w m s.sweep k of.point
+    (elim (point-lost m s h lost) [
+      | inl above ↦ inl (omega arith)
+      | inr below ↦
+          let last = below.0 in
+          let inside = below.1 in
+          inr (elim reached [ inl far ↦ omega arith | inr all ↦ omega arith ])
+    ]))
+
+-- where no row suits so far above, the one so far below is asked
+at-greater : (row far next : ℕ) (p : ℕ → Bool) (o found : Option ℕ) → o ≡ find p (above_at row far) → o ≡ None → next ≡ row + far → found ≡ find p (next ∷ []) → found ≡ find p (both_at row far)
+at-greater row far next p o found e none same here =
+    here ∙ (ap (λ n. find p (n ∷ [])) same
+    ∙ sym (find-append p (above_at row far) ((row + far) ∷ []) ∙ ap (λ r. option_or r (find p ((row + far) ∷ []))) (sym e ∙ none)))
+
+pub greater-found : (r : Result (Option ℕ) Memory) (m other : SourceValues) (s : Strip) (w : Wanted) (far next : ℕ) (o : Option ℕ) → other ≡ m
+    → option_map (λ n. first_row m s + n) o ≡ find (suits w (places_of m s.sweep.shape w)) (above_at (first_row m s + s.home) far) → o ≡ None → next ≡ s.home + far
+    → IfOk r (λ f. option_map (λ n. first_row other s + n) f ≡ find (suits w (places_of other s.sweep.shape w)) ((first_row other s + next) ∷ []))
+    → IfOk r (λ f. option_map (λ n. first_row m s + n) f ≡ find (suits w (places_of m s.sweep.shape w)) (both_at (first_row m s + s.home) far))
+greater-found (Ok f) m other s w far next o e value none same told =
+    let here = subst (λ (x : SourceValues). option_map (λ n. first_row x s + n) f ≡ find (suits w (places_of x s.sweep.shape w)) ((first_row x s + next) ∷ [])) e told in
+    let place : first_row m s + next ≡ first_row m s + s.home + far = omega (arith, same) in
+    at-greater (first_row m s + s.home) far (first_row m s + next) (suits w (places_of m s.sweep.shape w)) (option_map (λ n. first_row m s + n) o) (option_map (λ n. first_row m s + n) f)
+    value (ap (option_map (λ n. first_row m s + n)) none) place here
+greater-found (Err x) m other s w far next o e value none same told = tt
+
+-- a search by steps
+pub nearest-here : (p : ℕ → Bool) (row step c x : ℕ) → step < c → find p (around row step) ≡ None → Some x ≡ find p (both_at row (step + 1)) → Some x ≡ find p (around row c)
+nearest-here p row step c x low before here =
+    let found = find-kept p row step (Some x) before (sym here) in
+    let more : step + 1 + (c - (step + 1)) ≡ c = omega arith in
+    sym (find-far p row (step + 1) (c - (step + 1)) x found) ∙ ap (λ n. find p (around row n)) more
+
+pub nearest-later : (p : ℕ → Bool) (row step : ℕ) → find p (around row step) ≡ None → None ≡ find p (both_at row (step + 1)) → find p (around row (step + 1)) ≡ None
+nearest-later p row step before here = find-kept p row step None before (sym here)

@@ -1,0 +1,63 @@
+use Rattle.std.proofs.Common.{◌≡◌, ℕ, ◌+◌, ◌*◌, ◌≤◌, inl, refl, ap, subst, ◌∙◌, arith}
+use Rattle.std.specs.Prelude.{IfOk}
+use Rattle.rd_matrix.specs.Sources.{SourceValues}
+use Rattle.rd_start.specs.Chosen.{chosen_of}
+use Rattle.rd_start.specs.Strips.{IsFor}
+use Rattle.rd_start.specs.declared.strip.Sweep.{Sweep}
+use Rattle.rd_start.specs.declared.wanted.Chosen.{Chosen}
+use Rattle.rd_start.specs.declared.wanted.Wanted.{Wanted}
+use Rattle.rd_rows.specs.Shapes.{ShapeValues}
+use Rattle.rd_start.proofs.Moving.{ForcedPays, WindowPays, asks-home, forced-pays, near_of, window-pays}
+use Rattle.rd_start.proofs.Reaching.{at-source}
+use Rattle.rd_start.proofs.choice.choose.Goals as goal
+
+abbrev sweep_of : Wanted → ShapeValues → Sweep
+sweep_of w shape = record { anchor = w.anchor; point = w.point; shape = shape }
+
+is-for : (w : Wanted) (shape : ShapeValues) → IsFor w (sweep_of w shape)
+is-for w shape = record { anchor = refl; point = refl }
+
+pub returns-in_err-strip-clause-steps : goal.returns-in_err-strip-clause-steps
+returns-in_err-strip-clause-steps g c =
+    let m = g.B.BlockSource.meaning c.args.source.now in
+    let w = c.args.wanted in
+    let sweep = sweep_of w c.args.shape in
+    let bound = c.in_err-strip.ensures.paid (near_of m sweep w) (inl (asks-home m sweep w (is-for w c.args.shape) c.requires.height)) in
+    omega (arith, bound)
+
+pub returns-then-wanted-clause-value : goal.returns-then-wanted-clause-value
+returns-then-wanted-clause-value g c =
+    let m = g.B.BlockSource.meaning c.args.source.now in
+    let w = c.args.wanted in
+    let s = c.in_ok-strip.strip in
+    let told = at-source (λ (x : SourceValues). IfOk c.forced.result (λ (chosen : Chosen). chosen ≡ chosen_of x s.sweep.shape w)) m (g.B.BlockSource.meaning c.around.new.source) c.around.ensures.stays c.forced.ensures.value in
+    subst (λ (x : Sweep). IfOk c.forced.result (λ (chosen : Chosen). chosen ≡ chosen_of m x.shape w)) c.in_ok-strip.ensures.strip.1 told
+
+pub returns-then-wanted-clause-steps : goal.returns-then-wanted-clause-steps
+returns-then-wanted-clause-steps g c =
+    let m = g.B.BlockSource.meaning c.args.source.now in
+    let w = c.args.wanted in
+    let s = c.in_ok-strip.strip in
+    let sweep = sweep_of w c.args.shape in
+    let had = c.in_ok-strip.ensures.paid (near_of m sweep w) (inl (asks-home m sweep w (is-for w c.args.shape) c.requires.height)) in
+    let paying = at-source (λ (x : SourceValues). ForcedPays x s.sweep.shape w s c.around.new.steps c.forced.new.steps) m (g.B.BlockSource.meaning c.around.new.source) c.around.ensures.stays c.forced.ensures.steps in
+    let bound = forced-pays m sweep w s c.around.new.steps c.forced.new.steps c.args.steps.now c.in_ok-strip.ensures.strip.1 paying had in
+    omega (arith, bound)
+
+pub returns-clause-value : goal.returns-clause-value
+returns-clause-value g c =
+    let m = g.B.BlockSource.meaning c.args.source.now in
+    let w = c.args.wanted in
+    let s = c.in_ok-strip.strip in
+    let told = at-source (λ (x : SourceValues). IfOk c.following.result (λ (chosen : Chosen). chosen ≡ chosen_of x s.sweep.shape w)) m (g.B.BlockSource.meaning c.around.new.source) c.around.ensures.stays c.following.ensures.value in
+    subst (λ (x : Sweep). IfOk c.following.result (λ (chosen : Chosen). chosen ≡ chosen_of m x.shape w)) c.in_ok-strip.ensures.strip.1 told
+
+pub returns-clause-steps : goal.returns-clause-steps
+returns-clause-steps g c =
+    let m = g.B.BlockSource.meaning c.args.source.now in
+    let w = c.args.wanted in
+    let s = c.in_ok-strip.strip in
+    let sweep = sweep_of w c.args.shape in
+    let had = c.in_ok-strip.ensures.paid (near_of m sweep w) (inl (asks-home m sweep w (is-for w c.args.shape) c.requires.height)) in
+    let paying = at-source (λ (x : SourceValues). WindowPays x s.sweep.shape w s c.around.new.steps c.following.new.steps) m (g.B.BlockSource.meaning c.around.new.source) c.around.ensures.stays c.following.ensures.steps in
+    window-pays m sweep w s c.around.new.steps c.following.new.steps c.args.steps.now c.in_ok-strip.ensures.strip.1 paying had

@@ -1,0 +1,72 @@
+use Rattle.std.proofs.Common.{◌≡◌, ◌+◌, ◌-◌, ◌≤◌, ◌==◌, min, cond, refl, sym, ap, ◌∙◌, arith}
+use Rattle.rd_matrix.specs.Sources.{SourceValues}
+use Rattle.rd_rows.specs.Copies.{shown_rows}
+use Rattle.rd_rows.specs.Shapes.{IsShape}
+use Rattle.rd_start.specs.Strips.{IsPaid, all_costs}
+use Rattle.rd_start.specs.declared.strip.Strip.{Strip}
+use Rattle.rd_start.proofs.Around.{Made, fails-around, made-paid, made-point, made-strip, made-sweep}
+use Rattle.rd_start.proofs.Pushing.{count-shown}
+use Rattle.rd_start.proofs.Reaching.{cost-same, rows-same}
+use Rattle.rd_start.proofs.Results.{of-err}
+use Rattle.rd_start.proofs.strip.Strip.around.Given as given
+use Rattle.rd_start.proofs.strip.Strip.around.Goals as goal
+
+pub returns-in_err-rows-clause-paid : goal.returns-in_err-rows-clause-paid
+returns-in_err-rows-clause-paid g c = λ kind asked.
+    let m = g.B.BlockSource.meaning c.args.source.now in
+    let sweep = c.args.sweep in
+    let n = c.rows.new.steps in
+    let shape : IsShape sweep.shape = record { least = omega arith; most = omega arith } in
+    let cost = cost-same m (g.B.BlockSource.meaning c.block_of.new.self) sweep c.in_ok-block.block n c.args.steps.now c.block_of.ensures.stays c.rows.ensures.steps in
+    of-err c.from_residual-in_err-rows.result (λ (s : Strip). IsPaid kind c.args.steps.now m s n) (n ≤ c.args.steps.now + all_costs kind m sweep) c.from_residual-in_err-rows.ensures.0
+    (fails-around kind c.args.steps.now m sweep c.in_ok-block.block n c.block_of.ensures.source shape c.in_ok-block.ensures.found asked cost)
+
+pub returns-in_err-push_below-clause-paid : goal.returns-in_err-push_below-clause-paid
+returns-in_err-push_below-clause-paid g c = λ kind asked.
+    let m = g.B.BlockSource.meaning c.args.source.now in
+    let sweep = c.args.sweep in
+    let n = c.rows.new.steps in
+    let shape : IsShape sweep.shape = record { least = omega arith; most = omega arith } in
+    let cost = cost-same m (g.B.BlockSource.meaning c.block_of.new.self) sweep c.in_ok-block.block n c.args.steps.now c.block_of.ensures.stays c.rows.ensures.steps in
+    of-err c.from_residual-in_err-push_below.result (λ (s : Strip). IsPaid kind c.args.steps.now m s n) (n ≤ c.args.steps.now + all_costs kind m sweep) c.from_residual-in_err-push_below.ensures.0
+    (fails-around kind c.args.steps.now m sweep c.in_ok-block.block n c.block_of.ensures.source shape c.in_ok-block.ensures.found asked cost)
+
+empty : (g : given.Over) → goal.After-drop-rows-2 g → Strip
+empty g c = record { sweep = c.args.sweep; blocks = c.new.result; lines = c.new-2.result; home = c.row_in_block.result }
+
+made : (g : given.Over) → (c : goal.After-drop-rows-2 g) → Made (g.B.BlockSource.meaning c.args.source.now) c.args.sweep c.in_ok-block.block (empty g c) c.push_below.new.self (shown_rows c.as_slice.result.now)
+unfolding empty
+made g c =
+    let m = g.B.BlockSource.meaning c.args.source.now in
+    let sweep = c.args.sweep in
+    let b = c.in_ok-block.block in
+    let count = c.len.ensures ∙ (sym c.as_slice.ensures.len ∙ sym (count-shown c.as_slice.result.now)) in
+    record {
+      source = c.block_of.ensures.source;
+      shape = record { least = omega arith; most = omega arith };
+      point = c.requires.point;
+      holds = c.in_ok-block.ensures.found;
+      same = rows-same m (g.B.BlockSource.meaning c.block_of.new.self) sweep b (shown_rows c.as_slice.result.now) c.block_of.ensures.stays (ap shown_rows c.as_slice.ensures.value ∙ c.in_ok-rows.ensures.rows);
+      sweep_is = refl;
+      blocks = c.new.ensures.items;
+      lines = c.new-2.ensures.items;
+      home = c.row_in_block.ensures ∙ ap (λ n. cond (sweep.anchor.pos == b.start) (min sweep.anchor.row (n - 1)) 0) count;
+      below = c.in_ok-push_below.ensures;
+    }
+
+pub returns-clause-strip : goal.returns-clause-strip
+returns-clause-strip g c =
+    let m = g.B.BlockSource.meaning c.args.source.now in (
+      made-strip m c.args.sweep c.in_ok-block.block (empty g c) c.push_below.new.self (shown_rows c.as_slice.result.now) (made g c),
+      made-sweep m c.args.sweep c.in_ok-block.block (empty g c) c.push_below.new.self (shown_rows c.as_slice.result.now) (made g c),
+    )
+
+pub returns-clause-point : goal.returns-clause-point
+returns-clause-point g c =
+    made-point (g.B.BlockSource.meaning c.args.source.now) c.args.sweep c.in_ok-block.block (empty g c) c.push_below.new.self (shown_rows c.as_slice.result.now) (made g c)
+
+pub returns-clause-paid : goal.returns-clause-paid
+returns-clause-paid g c = λ kind asked.
+    let m = g.B.BlockSource.meaning c.args.source.now in
+    let cost = cost-same m (g.B.BlockSource.meaning c.block_of.new.self) c.args.sweep c.in_ok-block.block c.rows.new.steps c.args.steps.now c.block_of.ensures.stays c.rows.ensures.steps in
+    made-paid kind c.args.steps.now m c.args.sweep c.in_ok-block.block (empty g c) c.push_below.new.self (shown_rows c.as_slice.result.now) c.rows.new.steps (made g c) asked cost

@@ -1,0 +1,37 @@
+use Rattle.std.proofs.Common.{◌≡◌, ◌++◌, ◌∷◌, [], ap, ◌∙◌, arith, rules}
+use Rattle.rd_rows.specs.Copies.{shown_rows}
+use Rattle.rd_matrix.specs.declared.block.Block.{Block}
+use Rattle.rd_start.specs.Strips.{line_of}
+use Rattle.rd_start.specs.declared.strip.Sweep.{Sweep}
+use Rattle.rd_start.proofs.Pushing.{all-below, count-shown, lines-below, shown-at}
+use Rattle.rd_start.proofs.strip.Strip.push_below.Goals as goal
+
+pub loop-number-preserved : goal.loop-number-preserved
+loop-number-preserved c =
+    let old = c.args.self.now in
+    let s = c.loop-number.self in
+    let k = c.loop-number.number in
+    let r = c.index-rows-number.result in
+    let inv = c.loop-number.invariant in
+    record {
+      sweep = inv.sweep;
+      home = inv.home;
+      blocks = inv.blocks;
+      lines = lines-below old.sweep.point c.args.block.start k (shown_rows c.args.rows.now) r.shown old.lines.items s.lines.items _ c.line_of-line.result
+          (shown-at c.args.rows.now k r (omega arith) c.index-rows-number.is)
+          (c.line_of-line.ensures ∙ ap (λ (x : Sweep). line_of x.point (record { start = c.args.block.start; number = k; row = r.shown })) inv.sweep)
+          inv.lines c.in_ok-push_back.ensures.items;
+    }
+
+pub returns : goal.returns
+returns c =
+    let old = c.args.self.now in
+    let inv = c.loop-number.invariant in
+    let count = count-shown c.args.rows.now in
+    record {
+      small = search rules;
+      sweep = inv.sweep;
+      home = inv.home;
+      blocks = c.in_ok-push_back-2.ensures.items ∙ ap (λ ys. ys ++ c.args.block ∷ []) inv.blocks;
+      lines = all-below old.sweep.point c.args.block.start c.loop-number.number (shown_rows c.args.rows.now) old.lines.items _ (omega arith) inv.lines;
+    }

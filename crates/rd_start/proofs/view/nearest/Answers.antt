@@ -1,0 +1,49 @@
+use Rattle.std.proofs.Common.{◌≡◌, ◌+◌, ◌<◌, sym, ap, ◌∙◌, arith}
+use Rattle.std.specs.List.{find}
+use Rattle.std.specs.Option.{option_map}
+use Rattle.rd_matrix.specs.Sources.{SourceValues}
+use Rattle.rd_start.specs.Chosen.{places_of}
+use Rattle.rd_start.specs.Starts.{both_at, suits}
+use Rattle.rd_start.specs.Strips.{first_row, point_row}
+use Rattle.rd_start.proofs.Reaching.{at-source}
+use Rattle.rd_start.proofs.Sides.{point-found}
+use Rattle.rd_start.proofs.Suits.{lost-nearest, nearest-here, nearest-later}
+use Rattle.rd_start.proofs.view.nearest.Goals as goal
+
+pub returns-in_default-clause-value : goal.returns-in_default-clause-value
+returns-in_default-clause-value g c =
+    sym (lost-nearest (g.B.BlockSource.meaning c.args.source.now) c.args.strip.now c.args.wanted c.requires.strip c.requires.of (sym c.point_row.ensures ∙ c.in_default.is) c.requires.above c.requires.below)
+
+pub suiting_at-requires-clause-point : goal.suiting_at-requires-clause-point
+suiting_at-requires-clause-point g c =
+    let m = g.B.BlockSource.meaning c.args.source.now in
+    let s = c.args.strip.now in
+    let place = point-found m s c.in-Some.row c.requires.strip (sym c.point_row.ensures ∙ c.in-Some.is) in
+    at-source (λ (x : SourceValues). first_row x s + c.in-Some.row ≡ point_row x s.sweep) (g.B.BlockSource.meaning c.loop-step.source) m (sym c.loop-step.invariant.source) place.1
+
+pub returns-in-Some-found-clause-value : goal.returns-in-Some-found-clause-value
+returns-in-Some-found-clause-value g c =
+    let m = g.B.BlockSource.meaning c.args.source.now in
+    let s = c.args.strip.now in
+    let w = c.args.wanted in
+    let step = c.loop-step.step in
+    let inv = c.loop-step.invariant in
+    let low : step < w.conservatively = omega arith in
+    let told = at-source (λ (x : SourceValues). option_map (λ n. first_row x s + n) c.in_ok-found.found ≡ find (suits w (places_of x s.sweep.shape w)) (both_at (first_row x s + s.home) (step + 1)))
+    m (g.B.BlockSource.meaning c.loop-step.source) inv.source c.in_ok-found.ensures.value in
+    nearest-here (suits w (places_of m s.sweep.shape w)) (first_row m s + s.home) step w.conservatively (first_row m s + c.in-Some-found.start) low inv.none
+    (sym (ap (option_map (λ n. first_row m s + n)) c.in-Some-found.is) ∙ told)
+
+pub loop-step-preserved : goal.loop-step-preserved
+loop-step-preserved g c =
+    let m = g.B.BlockSource.meaning c.args.source.now in
+    let s = c.args.strip.now in
+    let w = c.args.wanted in
+    let step = c.loop-step.step in
+    let inv = c.loop-step.invariant in
+    let told = at-source (λ (x : SourceValues). option_map (λ n. first_row x s + n) c.in_ok-found.found ≡ find (suits w (places_of x s.sweep.shape w)) (both_at (first_row x s + s.home) (step + 1)))
+    m (g.B.BlockSource.meaning c.loop-step.source) inv.source c.in_ok-found.ensures.value in
+    record {
+      source = c.suiting_at.ensures.stays ∙ inv.source;
+      none = nearest-later (suits w (places_of m s.sweep.shape w)) (first_row m s + s.home) step inv.none (sym (ap (option_map (λ n. first_row m s + n)) c.in_default-found.is) ∙ told);
+    }

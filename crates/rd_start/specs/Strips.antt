@@ -1,0 +1,159 @@
+-- Words for what the code holds while it chooses: a strip of rows that were laid out. The crate's public contract does not name
+-- them.
+use Rattle.std.specs.Prelude.{◌≡◌, ℕ, ◌+◌, ◌-◌, ◌^◌, ◌<◌, ◌≤◌, ◌⊎◌, min, max, nat_lt, Bool, true, if◌then◌else◌, List, [], ◌∷◌, ◌++◌, length, map, slice_get, ℤ, Option, None, Some}
+use Rattle.std.specs.List.{AllByRecursion, fold, list_any, position, range_with_len}
+use Rattle.rd_matrix.specs.Blocks.{IsWithin}
+use Rattle.rd_matrix.specs.Entries.{EntryMeaning, all_rows, numbered}
+use Rattle.rd_matrix.specs.Sources.{SourceValues, IsSource, costs_of, rows_at}
+use Rattle.rd_matrix.specs.declared.block.Block.{Block}
+use Rattle.rd_rows.specs.Rows.{RowMeaning}
+use Rattle.rd_rows.specs.Shapes.{ShapeValues, IsShape}
+use Rattle.rd_start.specs.Chosen.{anchor_at, anchor_row, begins_item, places_of, positions_of, row_of}
+use Rattle.rd_start.specs.Near.{costs_with}
+use Rattle.rd_start.specs.Starts.{centred, moved}
+use Rattle.rd_start.specs.declared.strip.Line.{Line}
+use Rattle.rd_start.specs.declared.wanted.Chosen.{Chosen}
+use Rattle.rd_start.specs.declared.wanted.Wanted.{Wanted}
+use Rattle.rd_start.specs.declared.strip.Side.{Side}
+use Rattle.rd_start.specs.declared.strip.Side.TheVariants.{Above, Below, Within}
+use Rattle.rd_start.specs.declared.strip.Strip.{Strip}
+use Rattle.rd_start.specs.declared.strip.Sweep.{Sweep}
+use Rattle.rd_start.specs.declared.span.Span.{Span}
+
+-- the least and the greatest of positions
+abbrev pub span_of : List ℕ → Option Span
+span_of [] = None
+span_of (p ∷ ps) = Some (record { first = fold min p ps; last = fold max p ps })
+
+-- that of the positions of both
+abbrev pub joined : Option Span → Option Span → Option Span
+joined None b = b
+joined (Some a) None = Some a
+joined (Some a) (Some b) = Some (record { first = min a.first b.first; last = max a.last b.last })
+
+-- what is kept of a row
+abbrev pub line_of : ℕ → EntryMeaning → Line
+line_of point e = record { start = e.start; number = e.number; has_point = begins_item point e; span = span_of (positions_of e) }
+
+-- the rows of a block, and their cost, as a sweep asks for them
+abbrev pub rows_in : SourceValues → Sweep → Block → List RowMeaning
+rows_in m sweep b = m.rows_of b sweep.shape
+
+abbrev pub cost_in : SourceValues → Sweep → Block → ℕ
+cost_in m sweep b = m.cost_of b sweep.shape
+
+-- how many rows blocks have
+abbrev pub count_in : SourceValues → Sweep → List Block → ℕ
+count_in m sweep bs = length (all_rows (rows_in m sweep) bs)
+
+-- the row of a sweep's anchor, and that of its point
+abbrev pub home_row : SourceValues → Sweep → ℕ
+home_row m sweep = anchor_row (rows_in m sweep) sweep.anchor m.blocks
+
+abbrev pub point_row : SourceValues → Sweep → ℕ
+point_row m sweep = row_of sweep.point (all_rows (rows_in m sweep) m.blocks)
+
+-- these lines are the rows of blocks that stand one behind the other, and the row of a sweep's anchor is at a place among them
+pub record IsStripOf (m : SourceValues) (sweep : Sweep) (bs : List Block) (ls : List Line) (at : ℕ) : Type 0 where
+  pub source : IsSource m
+  pub shape : IsShape sweep.shape
+  pub point : IsWithin sweep.point m.blocks
+  pub before : List Block
+  pub after : List Block
+  pub pieces : m.blocks ≡ before ++ (bs ++ after)
+  pub some : 0 < length bs
+  pub small : AllByRecursion (λ b. b.end < 2 ^ 32) bs
+  pub lines : ls ≡ map (line_of sweep.point) (all_rows (rows_in m sweep) bs)
+  pub home : count_in m sweep before + at ≡ home_row m sweep
+  pub inside : at < length ls
+
+abbrev pub IsStrip : SourceValues → Strip → Type 0
+IsStrip m s = IsStripOf m s.sweep s.blocks.items s.lines.items s.home
+
+-- the number of a strip's first row
+abbrev pub first_row : SourceValues → Strip → ℕ
+first_row m s = home_row m s.sweep - s.home
+
+-- each of these blocks has a row of a kind, where the first of their rows has a number
+abbrev pub HaveRows : (ℕ → Bool) → (Block → List RowMeaning) → ℕ → List Block → Type 0
+HaveRows kind rows first [] = Unit {0}
+HaveRows kind rows first (b ∷ bs) =
+    (list_any kind (range_with_len first (length (rows b))) ≡ true) × HaveRows kind rows (first + length (rows b)) bs
+
+-- the row of a sweep's anchor moved down or up, held to the rows that there are
+abbrev pub moved_row : SourceValues → Sweep → ℤ → ℕ
+moved_row m sweep rows = min (moved rows (home_row m sweep)) (count_in m sweep m.blocks - 1)
+
+-- the costs of all blocks that have a row of a kind
+abbrev pub all_costs : (ℕ → Bool) → SourceValues → Sweep → ℕ
+all_costs kind m sweep = costs_with kind (rows_in m sweep) (cost_in m sweep) 0 m.blocks
+
+-- the blocks of a strip each have a row of a kind, and cost no less than the steps that were taken since there were `base`
+pub record IsPaidOf (kind : ℕ → Bool) (base : ℕ) (m : SourceValues) (sweep : Sweep) (bs : List Block) (at steps : ℕ) : Type 0 where
+  pub have : HaveRows kind (rows_in m sweep) (home_row m sweep - at) bs
+  pub paid : steps ≤ base + costs_of (cost_in m sweep) bs
+
+abbrev pub IsPaid : (ℕ → Bool) → ℕ → SourceValues → Strip → ℕ → Type 0
+IsPaid kind base m s steps = IsStrip m s × IsPaidOf kind base m s.sweep s.blocks.items s.home steps
+
+-- a strip reaches a row, counted from its first, or ends with the text
+abbrev pub Reaches : SourceValues → Strip → ℕ → Type 0
+Reaches m s row = (row ≤ length s.lines.items) ⊎ (first_row m s + length s.lines.items ≡ count_in m s.sweep m.blocks)
+
+-- a strip begins so many rows before its anchor's, or with the text
+abbrev pub BeginsAbove : SourceValues → Strip → ℕ → Type 0
+BeginsAbove m s rows = (rows ≤ s.home) ⊎ (s.home ≡ home_row m s.sweep)
+
+-- each number from one up to another is of a kind
+abbrev pub Between : (ℕ → Bool) → ℕ → ℕ → Type 0
+Between kind from to = (k : ℕ) → from ≤ k → k < to → kind k ≡ true
+
+-- the first block of a sweep has a row of a kind: that of its anchor, or that of point, where point is the anchor's position
+abbrev pub IsAsked : (ℕ → Bool) → SourceValues → Sweep → Type 0
+IsAsked kind m sweep =
+    (kind (home_row m sweep) ≡ true) ⊎ ((sweep.anchor.pos ≡ sweep.point) × (kind (point_row m sweep) ≡ true))
+
+-- a strip to which a block and its rows were added below, and above
+pub record IsBelow (old new : Strip) (b : Block) (rows : List RowMeaning) : Type 0 where
+  pub small : b.end < 2 ^ 32
+  pub sweep : new.sweep ≡ old.sweep
+  pub home : new.home ≡ old.home
+  pub blocks : new.blocks.items ≡ old.blocks.items ++ b ∷ []
+  pub lines : new.lines.items ≡ old.lines.items ++ map (line_of old.sweep.point) (numbered b.start 0 rows)
+
+pub record IsAbove (old new : Strip) (b : Block) (rows : List RowMeaning) : Type 0 where
+  pub small : b.end < 2 ^ 32
+  pub sweep : new.sweep ≡ old.sweep
+  pub home : new.home ≡ old.home + length rows
+  pub blocks : new.blocks.items ≡ b ∷ old.blocks.items
+  pub lines : new.lines.items ≡ map (line_of old.sweep.point) (numbered b.start 0 rows) ++ old.lines.items
+
+-- where point's row is, as seen from the rows from one place up to another
+abbrev pub seen_from : ℕ → ℕ → ℕ → Side
+seen_from from to row = if nat_lt row from then Above else if nat_lt row to then Within else Below
+
+abbrev pub unseen_from : ℕ → Option Block → Side
+unseen_from point None = Below
+unseen_from point (Some b) = if nat_lt point b.start then Above else Below
+
+abbrev pub side_of : ℕ → ℕ → Side → Option ℕ → Side
+side_of from to unseen None = unseen
+side_of from to unseen (Some row) = seen_from from to row
+
+abbrev pub side_in : Strip → ℕ → ℕ → Side
+side_in s from to = side_of from to (unseen_from s.sweep.point (slice_get s.blocks.items 0)) (position (λ (line : Line). line.has_point) s.lines.items)
+
+-- a sweep from a window's anchor
+pub record IsFor (w : Wanted) (sweep : Sweep) : Type 0 where
+  pub anchor : sweep.anchor ≡ w.anchor
+  pub point : sweep.point ≡ w.point
+
+-- a strip has the row in which the item that covers its point begins
+pub record HasPoint (m : SourceValues) (s : Strip) : Type 0 where
+  pub strip : IsStrip m s
+  pub from : first_row m s ≤ point_row m s.sweep
+  pub to : point_row m s.sweep < first_row m s + length s.lines.items
+
+-- the choice of the start that brings point's row to the middle
+abbrev pub centred_chosen : SourceValues → ShapeValues → Wanted → Chosen
+centred_chosen m shape w = record { anchor = anchor_at (rows_at m shape) (centred w (places_of m shape w)); point = w.point }

@@ -1,0 +1,230 @@
+//! The choice of a window's start.
+ghost use Rattle.std.specs.Prelude.{◌≡◌, ℕ, ◌+◌, ◌-◌, ◌*◌, ◌<◌, ◌≤◌, Bool, true, false, length, take, drop, MatchResult, IfOk};
+ghost use Rattle.rd_matrix.specs.Blocks.{IsWithin};
+ghost use Rattle.rd_matrix.specs.Entries.{all_rows};
+ghost use Rattle.rd_matrix.specs.Sources.{SourceValues, IsSource};
+ghost use Rattle.rd_start.specs.Chosen.{anchor_at, chosen_of, forced_point, places_of};
+ghost use Rattle.rd_start.specs.Near.{is_near, near_costs};
+ghost use Rattle.rd_start.specs.Starts.{suits};
+ghost use Rattle.rd_start.specs.Strips.{IsStrip, IsFor, IsPaid, Between, HasPoint, Reaches, all_costs, centred_chosen, first_row, point_row, rows_in};
+
+use crate::strip::{Side, Strip, Sweep};
+use crate::view::{home_suits, nearest};
+use crate::wanted::{Chosen, Wanted};
+use rd_base::{Anchor, Memory, Pos, Steps};
+use rd_matrix::BlockSource;
+use rd_rows::Shape;
+use std::alloc::Global;
+use std::sync::ledger::Ledger;
+
+/// Chooses the start of a window, and its point, by the rows of all blocks of a source. The anchor's row is that of its block, held to
+/// the block's last, and the block's first where the anchor is not its start.
+///
+/// A forced start is the anchor's row, scrolled by the rows that are pending and held to the rows that there are. Point stays where
+/// its row is in view. Else it moves to the least position that the first item covers, in order of position, which begins in view
+/// and covers a position, or the last such item where its row is below the view; where there is no such item it stays.
+///
+/// Else the start stays where it suits: where point's row is in view, at least the margin away from the view's first and last rows,
+/// held to a quarter of the height; no row is wanted above it where the view starts with the first row, and none below where it has
+/// the last one. If it does not suit it moves to the nearest row that does, the lesser one where two are equally near, and at most
+/// `conservatively` rows away. If there is none, point's row comes to the middle: the start is half the height above it.
+///
+/// The anchor and point are positions of the source's blocks, and the height is at least 1. The steps that it takes, also where
+/// memory is wanting, are at most twice the costs of the blocks that have a row near the window; of other blocks it asks for no rows.
+pub fn choose<B: BlockSource, L: Ledger>(
+    alloc: Global,
+    source: &mut B,
+    wanted: Wanted,
+    shape: Shape,
+    steps: &mut Steps<L>,
+) -> Result<Chosen, Memory>
+    requires anchor { IsWithin wanted.anchor.pos (B.meaning source.old).blocks }
+    requires point { IsWithin wanted.point (B.meaning source.old).blocks }
+    requires height { 1 ≤ wanted.height }
+    ensures value { IfOk result (λ chosen. chosen ≡ chosen_of (B.meaning source.old) shape wanted) }
+    ensures steps { steps.new ≤ steps.old + 2 * near_costs (B.meaning source.old) shape wanted }
+    ensures source { IsSource (B.meaning source.old) }
+    ensures stays { B.meaning source.new ≡ B.meaning source.old }
+{
+    let sweep = Sweep {
+        anchor: wanted.anchor,
+        point: wanted.point,
+        shape,
+    };
+    let strip = Strip::around(alloc, source, sweep, steps)?;
+    if wanted.forced {
+        return forced(alloc, source, wanted, strip, steps);
+    }
+    following(alloc, source, wanted, strip, steps)
+}
+
+/// The start and the point of a window whose start is forced.
+fn forced<B: BlockSource, L: Ledger>(
+    alloc: Global,
+    source: &mut B,
+    wanted: Wanted,
+    strip: Strip,
+    steps: &mut Steps<L>,
+) -> Result<Chosen, Memory>
+    requires strip { IsStrip (B.meaning source.old) strip }
+    requires of { IsFor wanted strip.sweep }
+    requires height { 1 ≤ wanted.height }
+    requires forced { wanted.forced ≡ true }
+    ensures value { IfOk result (λ chosen. chosen ≡ chosen_of (B.meaning source.old) strip.sweep.shape wanted) }
+    ensures steps { (base : ℕ) → IsPaid (is_near wanted (places_of (B.meaning source.old) strip.sweep.shape wanted)) base (B.meaning source.old) strip steps.old
+        → steps.new ≤ base + near_costs (B.meaning source.old) strip.sweep.shape wanted }
+    ensures stays { B.meaning source.new ≡ B.meaning source.old }
+{
+    let mut strip = strip;
+    let start = strip.scroll(alloc, source, wanted, steps)?;
+    strip.reach_down(alloc, source, start + wanted.height as usize, steps)?;
+    Ok(Chosen {
+        anchor: strip.anchor(start),
+        point: forced_point(wanted, &strip, start),
+    })
+}
+
+/// Point where a row of a strip is a forced start, and the strip reaches the end of the view from there.
+fn forced_point(wanted: Wanted, strip: &Strip, start: usize) -> Pos
+    requires strip { (m : SourceValues) × IsStrip m strip.now }
+    requires start { start < length strip.now.lines.items }
+    requires height { 1 ≤ wanted.height }
+    ensures { (m : SourceValues) → IsStrip m strip.now → Reaches m strip.now (start + wanted.height)
+        → result ≡ forced_point wanted (first_row m strip.now + start) (point_row m strip.now.sweep)
+        (take wanted.height (drop (first_row m strip.now + start) (all_rows (rows_in m strip.now.sweep) m.blocks))) }
+{
+    let end = (start + wanted.height as usize).min(strip.count());
+    let side = strip.side_of_point(start, end);
+    match strip.span(start, end) {
+        None => wanted.point,
+        Some(span) => match side {
+            Side::Above => span.first as Pos,
+            Side::Within => wanted.point,
+            Side::Below => span.last as Pos,
+        },
+    }
+}
+
+/// The start of a window that follows point.
+fn following<B: BlockSource, L: Ledger>(
+    alloc: Global,
+    source: &mut B,
+    wanted: Wanted,
+    strip: Strip,
+    steps: &mut Steps<L>,
+) -> Result<Chosen, Memory>
+    requires strip { IsStrip (B.meaning source.old) strip }
+    requires of { IsFor wanted strip.sweep }
+    requires height { 1 ≤ wanted.height }
+    requires forced { wanted.forced ≡ false }
+    ensures value { IfOk result (λ chosen. chosen ≡ chosen_of (B.meaning source.old) strip.sweep.shape wanted) }
+    ensures steps { (base : ℕ) → IsPaid (is_near wanted (places_of (B.meaning source.old) strip.sweep.shape wanted)) base (B.meaning source.old) strip steps.old
+        → steps.new ≤ base + 2 * near_costs (B.meaning source.old) strip.sweep.shape wanted }
+    ensures stays { B.meaning source.new ≡ B.meaning source.old }
+{
+    let mut strip = strip;
+    let end = strip.home() + wanted.height as usize;
+    strip.reach_down(alloc, source, end, steps)?;
+    if home_suits(alloc, source, wanted, &strip)? {
+        return Ok(starting_at(wanted, &strip, strip.home()));
+    }
+    moving(alloc, source, wanted, strip, steps)
+}
+
+/// The start of a window whose old start does not suit.
+fn moving<B: BlockSource, L: Ledger>(
+    alloc: Global,
+    source: &mut B,
+    wanted: Wanted,
+    strip: Strip,
+    steps: &mut Steps<L>,
+) -> Result<Chosen, Memory>
+    requires strip { IsStrip (B.meaning source.old) strip }
+    requires of { IsFor wanted strip.sweep }
+    requires height { 1 ≤ wanted.height }
+    requires forced { wanted.forced ≡ false }
+    requires home { suits wanted (places_of (B.meaning source.old) strip.sweep.shape wanted) (first_row (B.meaning source.old) strip + strip.home) ≡ false }
+    ensures value { IfOk result (λ chosen. chosen ≡ chosen_of (B.meaning source.old) strip.sweep.shape wanted) }
+    ensures steps { (base : ℕ) → IsPaid (is_near wanted (places_of (B.meaning source.old) strip.sweep.shape wanted)) base (B.meaning source.old) strip steps.old
+        → steps.new ≤ base + 2 * near_costs (B.meaning source.old) strip.sweep.shape wanted }
+    ensures stays { B.meaning source.new ≡ B.meaning source.old }
+{
+    let far = wanted.conservatively as usize;
+    let mut strip = strip;
+    strip.reach_up(alloc, source, far, steps)?;
+    let end = strip.home() + far + wanted.height as usize;
+    strip.reach_down(alloc, source, end + 1, steps)?;
+    match nearest(alloc, source, wanted, &strip)? {
+        Some(start) => Ok(starting_at(wanted, &strip, start)),
+        None => centred(alloc, source, wanted, strip, steps),
+    }
+}
+
+/// The start that brings point's row to the middle.
+fn centred<B: BlockSource, L: Ledger>(
+    alloc: Global,
+    source: &mut B,
+    wanted: Wanted,
+    strip: Strip,
+    steps: &mut Steps<L>,
+) -> Result<Chosen, Memory>
+    requires strip { IsStrip (B.meaning source.old) strip }
+    requires point { strip.sweep.point ≡ wanted.point }
+    ensures value { IfOk result (λ chosen. chosen ≡ centred_chosen (B.meaning source.old) strip.sweep.shape wanted) }
+    ensures steps { (kind : ℕ → Bool) (base : ℕ) → IsPaid kind base (B.meaning source.old) strip steps.old
+        → Between kind (point_row (B.meaning source.old) strip.sweep - wanted.height) (point_row (B.meaning source.old) strip.sweep + 1)
+        → steps.new ≤ base + 2 * all_costs kind (B.meaning source.old) strip.sweep }
+    ensures stays { B.meaning source.new ≡ B.meaning source.old }
+{
+    let mut strip = with_point(alloc, source, strip, steps)?;
+    let half = wanted.height as usize / 2;
+    let home = strip.home();
+    let row = row_of_point(&strip);
+    strip.reach_up(alloc, source, (home + half).saturating_sub(row), steps)?;
+    let row = row + (strip.home() - home);
+    Ok(starting_at(wanted, &strip, row.saturating_sub(half)))
+}
+
+/// The place of point's row in a strip that has it.
+fn row_of_point(strip: &Strip) -> usize
+    ensures { (m : SourceValues) → HasPoint m strip.now → (result < length strip.now.lines.items) × (first_row m strip.now + result ≡ point_row m strip.now.sweep) }
+{
+    strip.point_row().unwrap_or(strip.home())
+}
+
+/// A strip that has point's row: this one, or one round point's block.
+fn with_point<B: BlockSource, L: Ledger>(
+    alloc: Global,
+    source: &mut B,
+    strip: Strip,
+    steps: &mut Steps<L>,
+) -> Result<Strip, Memory>
+    requires strip { IsStrip (B.meaning source.old) strip }
+    ensures point { IfOk result (λ found. (found.sweep.point ≡ strip.sweep.point) × (found.sweep.shape ≡ strip.sweep.shape) × HasPoint (B.meaning source.old) found) }
+    ensures paid { (kind : ℕ → Bool) (base : ℕ) → IsPaid kind base (B.meaning source.old) strip steps.old
+        → kind (point_row (B.meaning source.old) strip.sweep) ≡ true
+        → MatchResult result (λ found. IsPaid kind (base + all_costs kind (B.meaning source.old) strip.sweep) (B.meaning source.old) found steps.new)
+        (λ _. steps.new ≤ base + 2 * all_costs kind (B.meaning source.old) strip.sweep) }
+    ensures stays { B.meaning source.new ≡ B.meaning source.old }
+{
+    if strip.point_row().is_some() {
+        return Ok(strip);
+    }
+    let sweep = strip.sweep();
+    let anchor = Anchor {
+        pos: sweep.point,
+        row: 0,
+    };
+    Strip::around(alloc, source, Sweep { anchor, ..sweep }, steps)
+}
+
+/// The choice of the row at a place of a strip; point stays.
+fn starting_at(wanted: Wanted, strip: &Strip, place: usize) -> Chosen
+    requires { place < length strip.now.lines.items }
+    ensures { (m : SourceValues) → IsStrip m strip.now → result ≡ record { anchor = anchor_at (all_rows (rows_in m strip.now.sweep) m.blocks) (first_row m strip.now + place); point = wanted.point } }
+{
+    Chosen {
+        anchor: strip.anchor(place),
+        point: wanted.point,
+    }
+}

@@ -1,0 +1,350 @@
+//! A strip of rows, laid out block by block.
+ghost use Rattle.std.specs.Prelude.{◌≡◌, ◌-◌, ◌==◌, if◌then◌else◌, min};
+ghost use Rattle.std.specs.List.{list_any};
+ghost use Rattle.rd_matrix.specs.Columns.{covers};
+ghost use Rattle.rd_start.specs.Strips.{line_of};
+
+use crate::span::{Span, joined, span_of};
+use crate::wanted::Wanted;
+use rd_base::{Anchor, Memory, Pos, Steps};
+use rd_matrix::{Block, BlockSource};
+use rd_rows::{Begin, Row, Shape};
+use std::alloc::Global;
+use std::collections::VecDeque;
+use std::sync::ledger::Ledger;
+
+/// From where rows are laid out, up and down: the block that holds the anchor's position. `point` is the position whose row is
+/// looked for among them.
+#[derive(Clone, Copy)]
+pub(crate) struct Sweep {
+    pub(crate) anchor: Anchor,
+    pub(crate) point: Pos,
+    pub(crate) shape: Shape,
+}
+
+/// What is kept of a row: the start of its block, its number there, whether an item that covers point begins in it, and the least
+/// and the greatest of the positions at which the items begin that begin in it and cover a position.
+#[derive(Clone, Copy)]
+pub(crate) struct Line {
+    start: Pos,
+    number: u32,
+    has_point: bool,
+    span: Option<Span>,
+}
+
+/// The rows of blocks that stand one behind the other. Places in it count from its first row; `home` is that of the anchor's row.
+#[derive(Drop)]
+pub(crate) struct Strip {
+    sweep: Sweep,
+    blocks: VecDeque<Block>,
+    lines: VecDeque<Line>,
+    home: usize,
+}
+
+/// Where point's row is, as seen from rows in view.
+#[derive(Clone, Copy)]
+pub(crate) enum Side {
+    Above,
+    Within,
+    Below,
+}
+
+/// What is kept of a row of a block.
+fn line_of(point: Pos, start: Pos, number: u32, row: &Row) -> Line
+    ensures { result ≡ line_of point (record { start = start; number = number; row = row.now.shown }) }
+{
+    Line {
+        start,
+        number,
+        has_point: has_point(point, start, row.begins()),
+        span: span_of(start, row.begins()),
+    }
+}
+
+/// Whether an item that covers a position is among those that begin in a row.
+fn has_point(point: Pos, start: Pos, begins: &[Begin]) -> bool
+    ensures { result ≡ list_any (covers start point) begins.now }
+{
+    begins.iter().any(|begin| covers(start, point, begin))
+}
+
+/// Whether an item of a block covers a position.
+fn covers(start: Pos, point: Pos, begin: &Begin) -> bool
+    ensures { result ≡ covers start point begin.now }
+{
+    let place = u64::from(point);
+    let first = u64::from(start) + u64::from(begin.from);
+    let end = u64::from(start) + u64::from(begin.to);
+    first <= place && place < end
+}
+
+impl Strip {
+    ghost use Rattle.std.specs.Prelude.{◌≡◌, ℕ, ◌+◌, ◌-◌, ◌^◌, ◌<◌, ◌≤◌, min, max, Bool, length, take, drop, MatchResult, OnOk, IfOk, slice_get, Some};
+    ghost use Rattle.std.specs.List.{position};
+    ghost use Rattle.rd_matrix.specs.Blocks.{IsWithin};
+    ghost use Rattle.rd_matrix.specs.Entries.{all_rows};
+    ghost use Rattle.rd_matrix.specs.Sources.{SourceValues, IsSource};
+    ghost use Rattle.rd_rows.specs.Copies.{shown_rows};
+    ghost use Rattle.rd_start.specs.Chosen.{anchor_at, first_positions};
+    ghost use Rattle.rd_start.specs.Strips.{IsStrip, IsPaid, IsAsked, HasPoint, IsAbove, IsBelow, Reaches, BeginsAbove, Between, rows_in, count_in, home_row, first_row, moved_row, side_in, all_costs, span_of};
+    ghost use Rattle.rd_start.specs.declared.strip.Line.{Line};
+
+    /// What it was swept for.
+    pub(crate) fn sweep(&self) -> Sweep
+        ensures { result ≡ self.now.sweep }
+    {
+        self.sweep
+    }
+
+    /// The place of the anchor's row.
+    pub(crate) fn home(&self) -> usize
+        ensures { result ≡ self.now.home }
+    {
+        self.home
+    }
+
+    /// How many rows it has.
+    pub(crate) fn count(&self) -> usize
+        ensures value { result ≡ length self.now.lines.items }
+        ensures bound { result < 2 ^ 63 }
+    {
+        self.lines.len()
+    }
+
+    /// The first of its blocks.
+    pub(crate) fn first(&self) -> Block
+        requires { 0 < length self.now.blocks.items }
+        ensures { slice_get self.now.blocks.items 0 ≡ Some result }
+    {
+        self.blocks[0]
+    }
+
+    /// The last of its blocks.
+    pub(crate) fn last(&self) -> Block
+        requires { 0 < length self.now.blocks.items }
+        ensures { slice_get self.now.blocks.items (length self.now.blocks.items - 1) ≡ Some result }
+    {
+        self.blocks[self.blocks.len() - 1]
+    }
+
+    /// A strip of the rows of the block that holds its anchor's position. It takes no more steps than these rows cost.
+    pub(crate) fn around<B: BlockSource, L: Ledger>(
+        alloc: Global,
+        source: &mut B,
+        sweep: Sweep,
+        steps: &mut Steps<L>,
+    ) -> Result<Strip, Memory>
+        requires anchor { IsWithin sweep.anchor.pos (B.meaning source.old).blocks }
+        requires point { IsWithin sweep.point (B.meaning source.old).blocks }
+        ensures stays { B.meaning source.new ≡ B.meaning source.old }
+        ensures source { IsSource (B.meaning source.old) }
+        ensures strip { IfOk result (λ strip. IsStrip (B.meaning source.old) strip × (strip.sweep ≡ sweep)) }
+        ensures point { IfOk result (λ strip. sweep.anchor.pos ≡ sweep.point → HasPoint (B.meaning source.old) strip) }
+        ensures paid { (kind : ℕ → Bool) → IsAsked kind (B.meaning source.old) sweep
+            → MatchResult result (λ strip. IsPaid kind steps.old (B.meaning source.old) strip steps.new)
+            (λ _. steps.new ≤ steps.old + all_costs kind (B.meaning source.old) sweep) }
+    {
+        let block = source.block_of(alloc, sweep.anchor.pos)?;
+        let rows = source.rows(alloc, &block, sweep.shape, steps)?;
+        let mut strip = Strip {
+            sweep,
+            blocks: VecDeque::new(alloc),
+            lines: VecDeque::new(alloc),
+            home: row_in_block(sweep.anchor, block.start, rows.len()),
+        };
+        strip.push_below(block, rows.as_slice())?;
+        Ok(strip)
+    }
+
+    /// Adds a block below the others, and its rows.
+    fn push_below(&mut self, block: Block, rows: &[Row]) -> Result<(), Memory>
+        requires { length rows.now < 2 ^ 32 }
+        ensures { OnOk result (IsBelow self.old self.new block (shown_rows rows.now)) }
+    {
+        for number in 0..rows.len() {
+            let line = line_of(self.sweep.point, block.start, number as u32, &rows[number]);
+            self.lines.push_back(line)?;
+        }
+        self.blocks.push_back(block)?;
+        Ok(())
+    }
+
+    /// Adds a block above the others, and its rows.
+    fn push_above(&mut self, block: Block, rows: &[Row]) -> Result<(), Memory>
+        requires few { length rows.now < 2 ^ 32 }
+        requires home { self.old.home < length self.old.lines.items }
+        ensures { OnOk result (IsAbove self.old self.new block (shown_rows rows.now)) }
+    {
+        let mut number = rows.len();
+        while number > 0 {
+            number -= 1;
+            let line = line_of(self.sweep.point, block.start, number as u32, &rows[number]);
+            self.lines.push_front(line)?;
+        }
+        self.home += rows.len();
+        self.blocks.push_front(block)?;
+        Ok(())
+    }
+
+    /// Lays out blocks above the others until so many rows stand above the anchor's, or the text begins.
+    pub(crate) fn reach_up<B: BlockSource, L: Ledger>(
+        &mut self,
+        alloc: Global,
+        source: &mut B,
+        rows: usize,
+        steps: &mut Steps<L>,
+    ) -> Result<(), Memory>
+        requires { IsStrip (B.meaning source.old) self.old }
+        ensures stays { B.meaning source.new ≡ B.meaning source.old }
+        ensures strip { OnOk result (IsStrip (B.meaning source.old) self.new) }
+        ensures sweep { OnOk result (self.new.sweep ≡ self.old.sweep) }
+        ensures reached { OnOk result (BeginsAbove (B.meaning source.old) self.new rows) }
+        ensures grows { OnOk result ((length self.new.lines.items + self.old.home ≡ length self.old.lines.items + self.new.home) × (self.old.home ≤ self.new.home)) }
+        ensures paid { (kind : ℕ → Bool) (base : ℕ) → IsPaid kind base (B.meaning source.old) self.old steps.old
+            → Between kind (home_row (B.meaning source.old) self.old.sweep - rows) (first_row (B.meaning source.old) self.old)
+            → MatchResult result (λ _. IsPaid kind base (B.meaning source.old) self.new steps.new)
+            (λ _. steps.new ≤ base + all_costs kind (B.meaning source.old) self.old.sweep) }
+    {
+        while self.home < rows {
+            let Some(block) = source.prev(alloc, &self.first())? else {
+                return Ok(());
+            };
+            let rows_above = source.rows(alloc, &block, self.sweep.shape, steps)?;
+            self.push_above(block, rows_above.as_slice())?;
+        }
+        Ok(())
+    }
+
+    /// Lays out blocks below the others until there are so many rows, or the text ends.
+    pub(crate) fn reach_down<B: BlockSource, L: Ledger>(
+        &mut self,
+        alloc: Global,
+        source: &mut B,
+        count: usize,
+        steps: &mut Steps<L>,
+    ) -> Result<(), Memory>
+        requires { IsStrip (B.meaning source.old) self.old }
+        ensures stays { B.meaning source.new ≡ B.meaning source.old }
+        ensures strip { OnOk result (IsStrip (B.meaning source.old) self.new) }
+        ensures sweep { OnOk result (self.new.sweep ≡ self.old.sweep) }
+        ensures home { OnOk result (self.new.home ≡ self.old.home) }
+        ensures reached { OnOk result (Reaches (B.meaning source.old) self.new count) }
+        ensures paid { (kind : ℕ → Bool) (base : ℕ) → IsPaid kind base (B.meaning source.old) self.old steps.old
+            → Between kind (first_row (B.meaning source.old) self.old + length self.old.lines.items)
+            (min (first_row (B.meaning source.old) self.old + count) (count_in (B.meaning source.old) self.old.sweep (B.meaning source.old).blocks))
+            → MatchResult result (λ _. IsPaid kind base (B.meaning source.old) self.new steps.new)
+            (λ _. steps.new ≤ base + all_costs kind (B.meaning source.old) self.old.sweep) }
+    {
+        while self.lines.len() < count {
+            let Some(block) = source.next(alloc, &self.last())? else {
+                return Ok(());
+            };
+            let rows = source.rows(alloc, &block, self.sweep.shape, steps)?;
+            self.push_below(block, rows.as_slice())?;
+        }
+        Ok(())
+    }
+
+    /// Lays out rows up to the one that is as far below the anchor's as rows are pending, or above it where their number is below 0,
+    /// held to the rows that there are: its place.
+    pub(crate) fn scroll<B: BlockSource, L: Ledger>(
+        &mut self,
+        alloc: Global,
+        source: &mut B,
+        wanted: Wanted,
+        steps: &mut Steps<L>,
+    ) -> Result<usize, Memory>
+        requires { IsStrip (B.meaning source.old) self.old }
+        ensures stays { B.meaning source.new ≡ B.meaning source.old }
+        ensures strip { OnOk result (IsStrip (B.meaning source.old) self.new) }
+        ensures sweep { OnOk result (self.new.sweep ≡ self.old.sweep) }
+        ensures place { IfOk result (λ place. (place < length self.new.lines.items) × (first_row (B.meaning source.old) self.new + place ≡ moved_row (B.meaning source.old) self.old.sweep wanted.pending)) }
+        ensures paid { (kind : ℕ → Bool) (base : ℕ) → IsPaid kind base (B.meaning source.old) self.old steps.old
+            → Between kind (min (home_row (B.meaning source.old) self.old.sweep) (moved_row (B.meaning source.old) self.old.sweep wanted.pending))
+            (max (home_row (B.meaning source.old) self.old.sweep) (moved_row (B.meaning source.old) self.old.sweep wanted.pending) + 1)
+            → MatchResult result (λ _. IsPaid kind base (B.meaning source.old) self.new steps.new)
+            (λ _. steps.new ≤ base + all_costs kind (B.meaning source.old) self.old.sweep) }
+    {
+        let rows = wanted.pending.unsigned_abs() as usize;
+        if wanted.pending.is_negative() {
+            self.reach_up(alloc, source, rows, steps)?;
+            return Ok(self.home.saturating_sub(rows));
+        }
+        let place = self.home + rows;
+        self.reach_down(alloc, source, place + 1, steps)?;
+        Ok(place.min(self.lines.len() - 1))
+    }
+
+    /// The place of point's row, where the strip has it.
+    pub(crate) fn point_row(&self) -> Option<usize>
+        ensures { result ≡ position (λ (line : Line). line.has_point) self.now.lines.items }
+    {
+        for row in 0..self.lines.len() {
+            if self.lines[row].has_point {
+                return Some(row);
+            }
+        }
+        None
+    }
+
+    /// Where point's row is, as seen from the rows in view from one place up to another.
+    pub(crate) fn side_of_point(&self, from: usize, to: usize) -> Side
+        requires { 0 < length self.now.blocks.items }
+        ensures { result ≡ side_in self.now from to }
+    {
+        match self.point_row() {
+            None => {
+                if self.sweep.point < self.first().start {
+                    Side::Above
+                } else {
+                    Side::Below
+                }
+            }
+            Some(row) => {
+                if row < from {
+                    Side::Above
+                } else if row < to {
+                    Side::Within
+                } else {
+                    Side::Below
+                }
+            }
+        }
+    }
+
+    /// The block and the number of the row at a place.
+    pub(crate) fn anchor(&self, place: usize) -> Anchor
+        requires { place < length self.now.lines.items }
+        ensures { (m : SourceValues) → IsStrip m self.now → result ≡ anchor_at (all_rows (rows_in m self.now.sweep) m.blocks) (first_row m self.now + place) }
+    {
+        let line = self.lines[place];
+        Anchor {
+            pos: line.start,
+            row: line.number,
+        }
+    }
+
+    /// The least and the greatest of the positions at which items begin in the rows from one place up to another.
+    pub(crate) fn span(&self, from: usize, to: usize) -> Option<Span>
+        requires { to ≤ length self.now.lines.items }
+        ensures { (m : SourceValues) → IsStrip m self.now → from ≤ to
+            → result ≡ span_of (first_positions (take (to - from) (drop (first_row m self.now + from) (all_rows (rows_in m self.now.sweep) m.blocks)))) }
+    {
+        let mut span = None;
+        for place in from..to {
+            span = joined(span, self.lines[place].span);
+        }
+        span
+    }
+}
+
+/// The number of an anchor's row in the block that starts at a position and has so many rows: that row, held to the last, and the
+/// first where the anchor is not that start.
+fn row_in_block(anchor: Anchor, start: Pos, count: usize) -> usize
+    ensures { result ≡ (if anchor.pos == start then min anchor.row (count - 1) else 0) }
+{
+    if anchor.pos != start {
+        return 0;
+    }
+    (anchor.row as usize).min(count.saturating_sub(1))
+}
