@@ -12,6 +12,7 @@ mod Rows
 mod Choosing
 mod Costs
 mod Growth
+mod Inside
 mod Moving
 mod NearRows
 mod Places

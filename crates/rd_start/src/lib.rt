@@ -3,11 +3,13 @@
 
 mod choice;
 mod examples;
+mod laws;
 mod span;
 mod strip;
 mod view;
 mod wanted;
 
 pub use choice::choose;
+pub use laws::a_start_is_a_row;
 pub use rd_base::Anchor;
 pub use wanted::{Chosen, Wanted};

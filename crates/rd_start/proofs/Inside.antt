@@ -1,0 +1,56 @@
+-- A start is a row.
+use Rattle.std.proofs.Common.{◌≡◌, ℕ, ◌+◌, ◌-◌, ◌/◌, ◌<◌, ◌≤◌, inl, inr, Bool, true, false, cond, ◌&&◌, leb, ltb, min, List, [], ◌∷◌, length, Option, None, Some, refl, sym, ap, subst, ◌∙◌, arith}
+use Rattle.std.proofs.lemmas.Bool.{and_parts, cases_Bool, ltb-true}
+use Rattle.std.specs.List.{find}
+use Rattle.std.specs.Option.{unwrap_or}
+use Rattle.rd_matrix.specs.Blocks.{IsWithin, end_from, first_start}
+use Rattle.rd_matrix.specs.Entries.{all_rows}
+use Rattle.rd_matrix.specs.Sources.{IsSource, SourceValues, rows_at}
+use Rattle.rd_rows.specs.Shapes.{IsShape, ShapeValues}
+use Rattle.rd_start.specs.Chosen.{begins_item, places_of, row_of}
+use Rattle.rd_start.specs.Starts.{Places, around, centred, following, is_inside, scrolled, start_of, suits, wanted_above, wanted_below}
+use Rattle.rd_start.specs.Strips.{rows_in}
+use Rattle.rd_start.specs.declared.strip.Sweep.{Sweep}
+use Rattle.rd_start.specs.declared.wanted.Wanted.{Wanted}
+use Rattle.rd_start.proofs.Blocks.{any-fit}
+use Rattle.rd_start.proofs.Lists.{first-inside}
+use Rattle.rd_start.proofs.Rows.{end-any, whole-fit}
+use Rattle.rd_start.proofs.Tests.{in-range}
+
+abbrev sweep_of : Wanted → ShapeValues → Sweep
+sweep_of w shape = record { anchor = w.anchor; point = w.point; shape = shape }
+
+point-inside : (m : SourceValues) (shape : ShapeValues) (w : Wanted) → IsSource m → IsShape shape → IsWithin w.point m.blocks → (places_of m shape w).point < (places_of m shape w).count
+point-inside m shape w source is within =
+    let sweep = sweep_of w shape in
+    let start = first_start m.blocks in
+    let rows = rows_in m sweep in
+    let high = subst (λ n. w.point < n) (end-any 0 start m.blocks source.blocks.some) within.1 in
+    let some = any-fit rows start w.point m.blocks (whole-fit m sweep source is) ∙ in-range start (end_from start m.blocks) w.point within.0 high in
+    first-inside (begins_item w.point) (all_rows rows m.blocks) some
+
+some-same : (x y : ℕ) → Some x ≡ Some y → x ≡ y
+some-same x y e = cc
+
+found-passes : (p : ℕ → Bool) (xs : List ℕ) (x : ℕ) → find p xs ≡ Some x → p x ≡ true
+found-passes p [] x e = absurd cc
+found-passes p (y ∷ xs) x e =
+    elim (cases_Bool (p y)) [
+      inl here ↦
+        let same : y ≡ x = some-same y x (sym (ap (λ b. cond b (Some y) (find p xs)) here) ∙ e) in
+        sym (ap p same) ∙ here
+    | inr not_here ↦ found-passes p xs x (sym (ap (λ b. cond b (Some y) (find p xs)) not_here) ∙ e)
+    ]
+
+following-inside : (w : Wanted) (at : Places) (o : Option ℕ) → find (suits w at) (around at.old w.conservatively) ≡ o → at.point < at.count → unwrap_or o (centred w at) < at.count
+following-inside w at None e low = omega arith
+following-inside w at (Some j) e low =
+    let fits = found-passes (suits w at) (around at.old w.conservatively) j e in
+    ltb-true j at.count (and_parts (ltb j at.count) (is_inside w.height (wanted_above w j) (wanted_below w at.count j) j at.point) fits).0
+
+start-held : (w : Wanted) (at : Places) (b : Bool) → at.point < at.count → cond b (scrolled w at) (following w at) < at.count
+start-held w at true low = omega arith
+start-held w at false low = following-inside w at (find (suits w at) (around at.old w.conservatively)) refl low
+
+pub start-inside : (m : SourceValues) (shape : ShapeValues) (w : Wanted) → IsSource m → IsShape shape → IsWithin w.point m.blocks → start_of w (places_of m shape w) < length (rows_at m shape)
+start-inside m shape w source is within = start-held w (places_of m shape w) w.forced (point-inside m shape w source is within)
