@@ -1,16 +1,16 @@
 -- Blocks that stand one behind the other, and their rows.
-use Rattle.std.proofs.Common.{◌≡◌, ℕ, zero, suc, ◌+◌, ◌-◌, ◌<◌, ◌≤◌, ◌⊎◌, inl, inr, Bool, true, false, cond, ◌||◌, ◌&&◌, ◌==◌, leb, ltb, min, List, [], ◌∷◌, ◌++◌, length, map, get_or, Option, None, Some, All, refl, sym, ap, subst, ◌∙◌, arith, zero-add}
+use Rattle.std.proofs.Common.{◌≡◌, ℕ, suc, ◌+◌, ◌-◌, ◌<◌, ◌≤◌, inl, inr, Bool, true, false, cond, ◌||◌, ◌&&◌, ◌==◌, leb, ltb, min, List, [], ◌∷◌, ◌++◌, length, All, refl, sym, ap, ◌∙◌, arith, zero-add}
 use Rattle.std.proofs.lemmas.Bool.{cases_Bool, false≢true, le-ltb, lt-ltb}
 use Rattle.std.proofs.lemmas.Bool.Decides.{nat_tests}
 use Rattle.std.proofs.lemmas.Grind.{flat_map-append}
 use Rattle.std.proofs.lemmas.List.{length-append}
 use Rattle.std.proofs.lemmas.List.Folds.{list_any-append, list_any_none}
-use Rattle.std.specs.List.{list_any, slice_get}
+use Rattle.std.specs.List.{list_any}
 use Rattle.rd_base.specs.declared.settings.Anchor.{Anchor}
 use Rattle.rd_matrix.specs.Blocks.{IsAmong, StandFrom, end_from}
 use Rattle.rd_matrix.specs.Columns.{covers}
-use Rattle.rd_matrix.specs.Entries.{EntryMeaning, all_rows, entries_of, numbered}
-use Rattle.rd_matrix.specs.Sources.{AreRowsOf, begins_of, ends_last}
+use Rattle.rd_matrix.specs.Entries.{all_rows, entries_of, numbered}
+use Rattle.rd_matrix.specs.Sources.{AreRowsOf, begins_of}
 use Rattle.rd_matrix.specs.declared.block.Block.{Block}
 use Rattle.rd_rows.specs.Rows.{RowMeaning}
 use Rattle.rd_rows.specs.declared.begin.Begin.{Begin}

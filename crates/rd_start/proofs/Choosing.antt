@@ -1,17 +1,16 @@
 -- What is chosen, from what was found.
-use Rattle.std.proofs.Common.{◌≡◌, ℕ, zero, suc, ◌+◌, ◌-◌, ◌*◌, ◌/◌, ◌<◌, ◌≤◌, ◌⊎◌, inl, inr, Bool, true, false, cond, min, max, leb, ltb, List, [], ◌∷◌, ◌++◌, length, take, drop, Option, None, Some, ℤ, pos, negsuc, refl, sym, ap, subst, ◌∙◌, arith}
+use Rattle.std.proofs.Common.{◌≡◌, ℕ, ◌+◌, ◌<◌, ◌≤◌, Bool, true, false, cond, min, max, ltb, List, [], ◌∷◌, take, drop, None, Some, refl, sym, ap, ◌∙◌, arith}
 use Rattle.std.proofs.lemmas.Bool.{le-ltb, lt-ltb}
 use Rattle.std.proofs.lemmas.Bool.Decides.{nat_tests}
 use Rattle.std.specs.List.{find, reduce}
 use Rattle.std.specs.Option.{option_map, unwrap_or}
-use Rattle.rd_matrix.specs.Entries.{EntryMeaning, all_rows}
+use Rattle.rd_matrix.specs.Entries.{EntryMeaning}
 use Rattle.rd_matrix.specs.Sources.{SourceValues, rows_at}
 use Rattle.rd_rows.specs.Shapes.{ShapeValues}
 use Rattle.rd_start.specs.Chosen.{anchor_at, chosen_of, first_positions, forced_point, places_of, point_from}
 use Rattle.rd_start.specs.Starts.{Places, around, centred, following, is_in_view, scrolled, start_of, suits}
-use Rattle.rd_start.specs.Strips.{centred_chosen, span_of}
+use Rattle.rd_start.specs.Strips.{span_of}
 use Rattle.rd_start.specs.declared.span.Span.{Span}
-use Rattle.rd_start.specs.declared.strip.Side.{Side}
 use Rattle.rd_start.specs.declared.strip.Side.TheVariants.{Above, Below, Within}
 use Rattle.rd_start.specs.declared.wanted.Chosen.{Chosen}
 use Rattle.rd_start.specs.declared.wanted.Wanted.{Wanted}

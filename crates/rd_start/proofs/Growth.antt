@@ -1,16 +1,14 @@
 -- A strip to which a block is added below, or above.
-use Rattle.std.proofs.Common.{◌≡◌, ℕ, zero, suc, ◌+◌, ◌-◌, ◌^◌, ◌<◌, ◌≤◌, ◌⊎◌, inl, inr, Bool, true, false, min, List, [], ◌∷◌, ◌++◌, length, map, get_or, Option, None, Some, refl, sym, ap, subst, ◌∙◌, arith}
+use Rattle.std.proofs.Common.{◌≡◌, ℕ, ◌+◌, ◌-◌, ◌^◌, ◌<◌, ◌≤◌, Bool, true, List, [], ◌∷◌, ◌++◌, length, map, None, Some, refl, sym, ap, subst, ◌∙◌, arith}
 use Rattle.std.proofs.lemmas.List.{append-nil, append_assoc, length-append, length-map, map-append}
 use Rattle.std.proofs.lemmas.Option.{slice_get-get_or}
-use Rattle.std.specs.List.{list_any, range_with_len, slice_get}
+use Rattle.std.specs.List.{slice_get}
 use Rattle.rd_matrix.specs.Blocks.{IsAmong, block_before}
-use Rattle.rd_matrix.specs.Entries.{EntryMeaning, all_rows, entries_of, numbered}
-use Rattle.rd_matrix.specs.Sources.{SourceValues, costs_of}
+use Rattle.rd_matrix.specs.Entries.{all_rows, entries_of}
+use Rattle.rd_matrix.specs.Sources.{SourceValues}
 use Rattle.rd_matrix.specs.declared.block.Block.{Block}
-use Rattle.rd_rows.specs.Rows.{RowMeaning}
-use Rattle.rd_start.specs.Strips.{HaveRows, IsAbove, IsBelow, IsPaid, IsPaidOf, IsStrip, IsStripOf, Between, all_costs, cost_in, count_in, first_row, home_row, line_of, rows_in}
+use Rattle.rd_start.specs.Strips.{HaveRows, IsPaidOf, IsStripOf, all_costs, cost_in, count_in, home_row, line_of, rows_in}
 use Rattle.rd_start.specs.declared.strip.Line.{Line}
-use Rattle.rd_start.specs.declared.strip.Strip.{Strip}
 use Rattle.rd_start.specs.declared.strip.Sweep.{Sweep}
 use Rattle.rd_start.proofs.Blocks.{all-append, count-append, count-cons, length-numbered, some-row}
 use Rattle.rd_start.proofs.Costs.{costs-more, costs-piece, have-more}

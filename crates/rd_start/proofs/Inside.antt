@@ -1,5 +1,5 @@
 -- A start is a row.
-use Rattle.std.proofs.Common.{◌≡◌, ℕ, ◌+◌, ◌-◌, ◌/◌, ◌<◌, ◌≤◌, inl, inr, Bool, true, false, cond, ◌&&◌, leb, ltb, min, List, [], ◌∷◌, length, Option, None, Some, refl, sym, ap, subst, ◌∙◌, arith}
+use Rattle.std.proofs.Common.{◌≡◌, ℕ, ◌<◌, inl, inr, Bool, true, false, cond, ltb, List, [], ◌∷◌, length, Option, None, Some, refl, sym, ap, subst, ◌∙◌, arith}
 use Rattle.std.proofs.lemmas.Bool.{and_parts, cases_Bool, ltb-true}
 use Rattle.std.specs.List.{find}
 use Rattle.std.specs.Option.{unwrap_or}
@@ -7,7 +7,7 @@ use Rattle.rd_matrix.specs.Blocks.{IsWithin, end_from, first_start}
 use Rattle.rd_matrix.specs.Entries.{all_rows}
 use Rattle.rd_matrix.specs.Sources.{IsSource, SourceValues, rows_at}
 use Rattle.rd_rows.specs.Shapes.{IsShape, ShapeValues}
-use Rattle.rd_start.specs.Chosen.{begins_item, places_of, row_of}
+use Rattle.rd_start.specs.Chosen.{begins_item, places_of}
 use Rattle.rd_start.specs.Starts.{Places, around, centred, following, is_inside, scrolled, start_of, suits, wanted_above, wanted_below}
 use Rattle.rd_start.specs.Strips.{rows_in}
 use Rattle.rd_start.specs.declared.strip.Sweep.{Sweep}
@@ -36,10 +36,10 @@ found-passes : (p : ℕ → Bool) (xs : List ℕ) (x : ℕ) → find p xs ≡ So
 found-passes p [] x e = absurd cc
 found-passes p (y ∷ xs) x e =
     elim (cases_Bool (p y)) [
-      inl here ↦
-        let same : y ≡ x = some-same y x (sym (ap (λ b. cond b (Some y) (find p xs)) here) ∙ e) in
-        sym (ap p same) ∙ here
-    | inr not_here ↦ found-passes p xs x (sym (ap (λ b. cond b (Some y) (find p xs)) not_here) ∙ e)
+      | inl here ↦
+          let same : y ≡ x = some-same y x (sym (ap (λ b. cond b (Some y) (find p xs)) here) ∙ e) in
+          sym (ap p same) ∙ here
+      | inr not_here ↦ found-passes p xs x (sym (ap (λ b. cond b (Some y) (find p xs)) not_here) ∙ e)
     ]
 
 following-inside : (w : Wanted) (at : Places) (o : Option ℕ) → find (suits w at) (around at.old w.conservatively) ≡ o → at.point < at.count → unwrap_or o (centred w at) < at.count

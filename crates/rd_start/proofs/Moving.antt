@@ -1,5 +1,5 @@
 -- What is asked of the rows near a window, and what is chosen from them.
-use Rattle.std.proofs.Common.{◌≡◌, ℕ, zero, suc, ◌+◌, ◌-◌, ◌*◌, ◌/◌, ◌<◌, ◌≤◌, ◌⊎◌, inl, inr, Bool, true, false, min, max, List, length, take, drop, Option, None, Some, Result, Ok, Err, refl, sym, ap, subst, ◌∙◌, arith}
+use Rattle.std.proofs.Common.{◌≡◌, ℕ, ◌+◌, ◌-◌, ◌*◌, ◌/◌, ◌<◌, ◌≤◌, inl, inr, Bool, true, false, min, max, List, length, take, drop, Option, None, Some, Result, Ok, Err, refl, sym, ap, subst, ◌∙◌, arith}
 use Rattle.std.specs.List.{find}
 use Rattle.std.specs.Option.{option_map, unwrap_or}
 use Rattle.std.specs.Prelude.{IfOk, MatchResult, is_some}
@@ -10,8 +10,8 @@ use Rattle.rd_matrix.specs.Sources.{SourceValues, rows_at}
 use Rattle.rd_rows.specs.Shapes.{ShapeValues}
 use Rattle.rd_start.specs.Chosen.{anchor_at, chosen_of, forced_point, places_of, row_of}
 use Rattle.rd_start.specs.Near.{costs_with, is_near, near_costs}
-use Rattle.rd_start.specs.Starts.{Places, around, centred, following, moved, scrolled, suits}
-use Rattle.rd_start.specs.Strips.{HasPoint, IsFor, IsPaid, IsStrip, BeginsAbove, Between, Reaches, all_costs, centred_chosen, count_in, first_row, home_row, moved_row, point_row, rows_in}
+use Rattle.rd_start.specs.Starts.{around, centred, following, moved, scrolled, suits}
+use Rattle.rd_start.specs.Strips.{HasPoint, IsFor, IsPaid, IsStrip, BeginsAbove, Between, all_costs, centred_chosen, count_in, first_row, home_row, moved_row, point_row, rows_in}
 use Rattle.rd_start.specs.declared.strip.Strip.{Strip}
 use Rattle.rd_start.specs.declared.strip.Sweep.{Sweep}
 use Rattle.rd_start.specs.declared.wanted.Chosen.{Chosen}

@@ -1,5 +1,5 @@
 -- The lines of a strip as rows of its source.
-use Rattle.std.proofs.Common.{◌≡◌, ℕ, ◌+◌, ◌-◌, ◌<◌, ◌≤◌, inl, inr, min, List, [], ◌∷◌, ◌++◌, length, map, take, drop, Option, None, Some, refl, sym, ap, subst, ◌∙◌, arith}
+use Rattle.std.proofs.Common.{◌≡◌, ℕ, ◌+◌, ◌-◌, ◌<◌, ◌≤◌, inl, inr, min, List, ◌++◌, length, take, drop, Option, None, Some, sym, ap, ◌∙◌, arith}
 use Rattle.std.proofs.Math.Seq.{drop-append-add}
 use Rattle.std.proofs.lemmas.List.{drop-append-le, drop-take, length-drop, take-append-le, take_all}
 use Rattle.std.proofs.lemmas.Bool.{cases_lt}
@@ -10,7 +10,7 @@ use Rattle.rd_base.specs.declared.settings.Anchor.{Anchor}
 use Rattle.rd_matrix.specs.Entries.{EntryMeaning, all_rows}
 use Rattle.rd_matrix.specs.Sources.{SourceValues}
 use Rattle.rd_start.specs.Chosen.{anchor_at, anchor_from, first_positions}
-use Rattle.rd_start.specs.Strips.{IsStrip, Reaches, count_in, first_row, home_row, line_of, rows_in, span_of}
+use Rattle.rd_start.specs.Strips.{IsStrip, Reaches, first_row, line_of, rows_in, span_of}
 use Rattle.rd_start.specs.declared.span.Span.{Span}
 use Rattle.rd_start.specs.declared.strip.Line.{Line}
 use Rattle.rd_start.specs.declared.strip.Strip.{Strip}

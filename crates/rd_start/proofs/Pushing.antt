@@ -1,16 +1,14 @@
 -- The rows of a block, added to a strip one by one.
-use Rattle.std.proofs.Common.{◌≡◌, ℕ, zero, suc, ◌+◌, ◌-◌, ◌<◌, ◌≤◌, List, [], ◌∷◌, ◌++◌, length, map, take, drop, get_or, Option, None, Some, refl, sym, ap, subst, ◌∙◌, arith}
-use Rattle.std.proofs.lemmas.List.{append-nil, append_assoc, drop_all, drop_more, length-map, map-append, take_all, take_more}
+use Rattle.std.proofs.Common.{◌≡◌, ℕ, zero, suc, ◌+◌, ◌<◌, ◌≤◌, List, [], ◌∷◌, ◌++◌, length, map, take, drop, get_or, Some, refl, sym, ap, ◌∙◌, arith}
+use Rattle.std.proofs.lemmas.List.{append_assoc, drop_all, drop_more, length-map, map-append, take_all, take_more}
 use Rattle.std.proofs.lemmas.Option.{slice_get-map, slice_get_read}
 use Rattle.std.specs.Option.{option_map}
 use Rattle.rd_rows.specs.Copies.{RowValues, shown_rows}
 use Rattle.std.specs.List.{slice_get}
 use Rattle.rd_matrix.specs.Entries.{EntryMeaning, numbered}
-use Rattle.rd_matrix.specs.declared.block.Block.{Block}
 use Rattle.rd_rows.specs.Rows.{RowMeaning}
-use Rattle.rd_start.specs.Strips.{IsAbove, IsBelow, line_of}
+use Rattle.rd_start.specs.Strips.{line_of}
 use Rattle.rd_start.specs.declared.strip.Line.{Line}
-use Rattle.rd_start.specs.declared.strip.Strip.{Strip}
 use Rattle.rd_start.proofs.Blocks.{length-numbered}
 
 numbered-at : (start number k : ℕ) (rows : List RowMeaning) (r : RowMeaning) (d : EntryMeaning) → slice_get rows k ≡ Some r

@@ -1,12 +1,11 @@
 -- A start that is scrolled.
-use Rattle.std.proofs.Common.{◌≡◌, ℕ, zero, suc, ◌+◌, ◌-◌, ◌<◌, ◌≤◌, ◌⊎◌, inl, inr, Bool, true, false, min, max, List, length, ℤ, pos, negsuc, refl, sym, ap, ◌∙◌, arith}
+use Rattle.std.proofs.Common.{◌≡◌, ℕ, ◌+◌, ◌-◌, ◌<◌, ◌≤◌, inl, inr, Bool, true, false, min, max, length, ℤ, pos, negsuc, refl, sym, arith}
 use Rattle.std.specs.Prelude.{int_lt, unsigned_abs}
 use Rattle.std.proofs.lemmas.Bool.{ltb-true, false≢true}
 use Rattle.rd_matrix.specs.Sources.{SourceValues}
 use Rattle.rd_start.specs.Starts.{moved}
 use Rattle.rd_start.specs.Strips.{IsStrip, BeginsAbove, Between, Reaches, count_in, first_row, home_row, moved_row}
 use Rattle.rd_start.specs.declared.strip.Strip.{Strip}
-use Rattle.rd_start.specs.declared.strip.Sweep.{Sweep}
 use Rattle.rd_start.proofs.Reaching.{AsksAbove, AsksBelow}
 use Rattle.rd_start.proofs.Rows.{parts}
 

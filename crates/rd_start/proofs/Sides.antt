@@ -1,14 +1,13 @@
 -- Where point's row is, as seen from rows in view.
-use Rattle.std.proofs.Common.{◌≡◌, ℕ, ◌+◌, ◌-◌, ◌<◌, ◌≤◌, ◌⊎◌, inl, inr, Bool, true, false, cond, leb, ltb, min, List, [], ◌∷◌, length, Option, None, Some, refl, sym, ap, subst, ◌∙◌, arith}
+use Rattle.std.proofs.Common.{◌≡◌, ℕ, ◌+◌, ◌<◌, ◌≤◌, ◌⊎◌, inl, inr, cond, ltb, min, length, None, Some, sym, ap, subst, ◌∙◌, arith}
 use Rattle.std.proofs.lemmas.Bool.{cases_Bool, le-ltb, lt-ltb, ltb-false, ltb-true}
 use Rattle.std.specs.List.{slice_get}
 use Rattle.rd_matrix.specs.Sources.{SourceValues}
-use Rattle.rd_matrix.specs.declared.block.Block.{Block}
-use Rattle.rd_start.specs.Strips.{IsStrip, Reaches, count_in, first_row, home_row, point_row, seen_from, side_in, side_of, unseen_from}
+use Rattle.rd_start.specs.Strips.{IsStrip, Reaches, count_in, first_row, point_row, seen_from, side_in, side_of, unseen_from}
 use Rattle.rd_start.specs.declared.strip.Side.{Side}
 use Rattle.rd_start.specs.declared.strip.Side.TheVariants.{Above, Below, Within}
 use Rattle.rd_start.specs.declared.strip.Strip.{Strip}
-use Rattle.rd_start.proofs.Rows.{PointAbove, PointAmong, PointBelow, find_point, whereabouts}
+use Rattle.rd_start.proofs.Rows.{find_point, whereabouts}
 
 -- what a side tells of a row, seen from the view of a height that starts with another
 abbrev pub Sees : Side → ℕ → ℕ → ℕ → Type 0

@@ -1,5 +1,5 @@
 -- Positions that items of a strip cover are positions of its blocks.
-use Rattle.std.proofs.Common.{◌≡◌, ℕ, zero, suc, ◌+◌, ◌-◌, ◌^◌, ◌<◌, ◌≤◌, inl, inr, Bool, true, false, cond, ltb, min, max, List, [], ◌∷◌, ◌++◌, length, map, take, drop, Option, None, Some, All, refl, sym, ap, subst, ◌∙◌, arith}
+use Rattle.std.proofs.Common.{◌≡◌, ℕ, ◌+◌, ◌-◌, ◌^◌, ◌<◌, ◌≤◌, inl, inr, cond, ltb, min, max, List, [], ◌∷◌, ◌++◌, length, take, drop, Some, sym, ap, subst, ◌∙◌, arith}
 use Rattle.std.proofs.lemmas.Bool.{cases_Bool, ltb-true}
 use Rattle.std.proofs.lemmas.List.{length-map}
 use Rattle.std.specs.List.{AllByRecursion, flat_map, fold}
@@ -9,7 +9,7 @@ use Rattle.rd_matrix.specs.declared.block.Block.{Block}
 use Rattle.rd_rows.specs.Rows.{RowMeaning}
 use Rattle.rd_rows.specs.declared.begin.Begin.{Begin}
 use Rattle.rd_start.specs.Chosen.{first_covered, first_positions, positions_of}
-use Rattle.rd_start.specs.Strips.{IsStrip, first_row, home_row, line_of, rows_in, span_of}
+use Rattle.rd_start.specs.Strips.{IsStrip, first_row, line_of, rows_in, span_of}
 use Rattle.rd_start.specs.declared.span.Span.{Span}
 use Rattle.rd_start.specs.declared.strip.Strip.{Strip}
 use Rattle.rd_start.proofs.Blocks.{Fit, all-append}

@@ -1,6 +1,6 @@
-use Rattle.std.proofs.Common.{◌≡◌, ℕ, ◌+◌, ◌-◌, ◌*◌, ◌/◌, ◌<◌, ◌≤◌, Bool, length, sym, ap, subst, ◌∙◌, arith}
+use Rattle.std.proofs.Common.{◌≡◌, ◌+◌, ◌-◌, ◌/◌, sym, ap, subst, ◌∙◌, arith}
 use Rattle.rd_matrix.specs.Sources.{SourceValues}
-use Rattle.rd_start.specs.Strips.{HasPoint, IsStrip, BeginsAbove, Between, all_costs, first_row, point_row}
+use Rattle.rd_start.specs.Strips.{IsStrip, BeginsAbove, all_costs, first_row, point_row}
 use Rattle.rd_start.proofs.Reaching.{at-source, AsksAbove}
 use Rattle.rd_start.proofs.Moving.{UpFails, UpPays, asks-above, centre-place, costs-same, pays, points-same, value-centre}
 use Rattle.rd_start.proofs.choice.centred.Goals as goal

@@ -1,4 +1,4 @@
-use Rattle.std.proofs.Common.{◌≡◌, ℕ, ◌+◌, ◌*◌, ◌≤◌, inl, refl, ap, subst, ◌∙◌, arith}
+use Rattle.std.proofs.Common.{◌≡◌, inl, refl, subst, arith}
 use Rattle.std.specs.Prelude.{IfOk}
 use Rattle.rd_matrix.specs.Sources.{SourceValues}
 use Rattle.rd_start.specs.Chosen.{chosen_of}

@@ -1,4 +1,4 @@
-use Rattle.std.proofs.Common.{◌≡◌, ◌+◌, ◌*◌, ◌≤◌, ap, ◌∙◌, arith}
+use Rattle.std.proofs.Common.{◌+◌, ap, ◌∙◌, arith}
 use Rattle.rd_matrix.specs.Sources.{SourceValues}
 use Rattle.rd_start.specs.Strips.{IsStrip, Reaches, all_costs}
 use Rattle.rd_start.specs.declared.strip.Sweep.{Sweep}

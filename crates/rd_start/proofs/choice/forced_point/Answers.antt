@@ -1,4 +1,4 @@
-use Rattle.std.proofs.Common.{◌≡◌, ◌+◌, ◌-◌, ◌<◌, ◌≤◌, ◌^◌, min, List, length, take, drop, sym, ap, subst, ◌∙◌, arith}
+use Rattle.std.proofs.Common.{◌≡◌, ◌+◌, ◌≤◌, min, List, length, take, drop, sym, ap, subst, ◌∙◌, arith}
 use Rattle.rd_matrix.specs.Entries.{EntryMeaning, all_rows}
 use Rattle.rd_start.specs.Chosen.{first_positions}
 use Rattle.rd_start.specs.Strips.{first_row, point_row, rows_in, span_of}

@@ -1,12 +1,11 @@
-use Rattle.std.proofs.Common.{◌≡◌, ℕ, ◌+◌, ◌-◌, ◌*◌, ◌≤◌, Option, None, Some, sym, ap, subst, ◌∙◌, arith}
+use Rattle.std.proofs.Common.{◌≡◌, ◌+◌, sym, ap, subst, ◌∙◌, arith}
 use Rattle.std.specs.Prelude.{IfOk}
 use Rattle.std.specs.List.{find}
 use Rattle.std.specs.Option.{option_map}
-use Rattle.rd_matrix.specs.Entries.{all_rows}
 use Rattle.rd_matrix.specs.Sources.{SourceValues}
-use Rattle.rd_start.specs.Chosen.{anchor_at, chosen_of, places_of}
+use Rattle.rd_start.specs.Chosen.{places_of}
 use Rattle.rd_start.specs.Starts.{around, suits}
-use Rattle.rd_start.specs.Strips.{IsPaid, IsStrip, Between, all_costs, centred_chosen, first_row, point_row, rows_in}
+use Rattle.rd_start.specs.Strips.{IsStrip, all_costs, centred_chosen, first_row}
 use Rattle.rd_start.specs.declared.strip.Sweep.{Sweep}
 use Rattle.rd_start.specs.declared.wanted.Chosen.{Chosen}
 use Rattle.rd_start.proofs.Reaching.{at-source, AsksBelow}

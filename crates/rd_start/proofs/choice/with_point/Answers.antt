@@ -1,4 +1,4 @@
-use Rattle.std.proofs.Common.{◌≡◌, ◌+◌, ◌≤◌, inr, refl, subst, sym, ap, ◌∙◌, arith}
+use Rattle.std.proofs.Common.{◌+◌, ◌≤◌, inr, refl, subst, sym, ap, ◌∙◌}
 use Rattle.std.specs.Prelude.{MatchResult, is_some}
 use Rattle.rd_start.specs.Strips.{IsPaid, all_costs, point_row}
 use Rattle.rd_start.specs.declared.strip.Strip.{Strip}

@@ -1,4 +1,4 @@
-use Rattle.std.proofs.Common.{◌≡◌, ◌+◌, ap}
+use Rattle.std.proofs.Common.{◌+◌, ap}
 use Rattle.rd_start.proofs.Suits.{greater-found}
 use Rattle.rd_start.proofs.view.suiting_at.Goals as goal
 

@@ -1,5 +1,4 @@
-use Rattle.std.proofs.Common.{◌≡◌, ◌+◌, ◌-◌, ◌≤◌, ◌==◌, min, cond, refl, sym, ap, ◌∙◌, arith}
-use Rattle.rd_matrix.specs.Sources.{SourceValues}
+use Rattle.std.proofs.Common.{◌+◌, ◌-◌, ◌≤◌, ◌==◌, min, cond, refl, sym, ap, ◌∙◌, arith}
 use Rattle.rd_rows.specs.Copies.{shown_rows}
 use Rattle.rd_rows.specs.Shapes.{IsShape}
 use Rattle.rd_start.specs.Strips.{IsPaid, all_costs}

@@ -1,4 +1,4 @@
-use Rattle.std.proofs.Common.{◌≡◌, ◌+◌, ◌-◌, ◌++◌, ◌∷◌, [], map, drop, ap, sym, refl, ◌∙◌, arith, rules}
+use Rattle.std.proofs.Common.{◌≡◌, ◌+◌, ◌-◌, ◌++◌, map, drop, ap, refl, ◌∙◌, arith}
 use Rattle.rd_matrix.specs.Entries.{numbered}
 use Rattle.rd_rows.specs.Copies.{shown_rows}
 use Rattle.rd_start.specs.Strips.{line_of}

@@ -1,6 +1,5 @@
-use Rattle.std.proofs.Common.{◌≡◌, ◌++◌, ◌∷◌, [], ap, ◌∙◌, arith, rules}
+use Rattle.std.proofs.Common.{◌++◌, ◌∷◌, [], ap, ◌∙◌, arith, rules}
 use Rattle.rd_rows.specs.Copies.{shown_rows}
-use Rattle.rd_matrix.specs.declared.block.Block.{Block}
 use Rattle.rd_start.specs.Strips.{line_of}
 use Rattle.rd_start.specs.declared.strip.Sweep.{Sweep}
 use Rattle.rd_start.proofs.Pushing.{all-below, count-shown, lines-below, shown-at}

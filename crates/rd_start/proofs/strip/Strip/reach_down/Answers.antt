@@ -1,9 +1,8 @@
-use Rattle.std.proofs.Common.{◌≡◌, ℕ, ◌+◌, ◌<◌, ◌≤◌, Bool, length, None, Some, sym, ap, ◌∙◌, arith}
+use Rattle.std.proofs.Common.{◌≡◌, ◌+◌, ◌<◌, ◌≤◌, length, None, Some, ap, ◌∙◌, arith}
 use Rattle.rd_matrix.specs.Sources.{SourceValues}
-use Rattle.rd_matrix.specs.declared.block.Block.{Block}
 use Rattle.rd_rows.specs.Copies.{shown_rows}
-use Rattle.rd_start.specs.Strips.{IsPaid, all_costs, rows_in}
-use Rattle.rd_start.proofs.Reaching.{AsksBelow, Next, among-same, cost-same, last-among, next-given, next-of, rows-same, down-ends, down-fails, down-smaller, down-more, down-stops}
+use Rattle.rd_start.specs.Strips.{IsPaid, all_costs}
+use Rattle.rd_start.proofs.Reaching.{among-same, cost-same, last-among, next-given, next-of, rows-same, down-ends, down-fails, down-smaller, down-more, down-stops}
 use Rattle.rd_start.proofs.Results.{nothing-of-err, of-err}
 use Rattle.rd_start.proofs.strip.Strip.reach_down.Goals as goal
 

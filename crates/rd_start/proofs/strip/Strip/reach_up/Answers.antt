@@ -1,9 +1,7 @@
-use Rattle.std.proofs.Common.{◌≡◌, ℕ, ◌+◌, ◌≤◌, Bool, None, Some, sym, ap, ◌∙◌, arith}
-use Rattle.rd_matrix.specs.Sources.{SourceValues}
-use Rattle.rd_matrix.specs.declared.block.Block.{Block}
+use Rattle.std.proofs.Common.{◌≡◌, ◌+◌, ◌≤◌, None, Some, ap, ◌∙◌, arith}
 use Rattle.rd_rows.specs.Copies.{shown_rows}
-use Rattle.rd_start.specs.Strips.{IsPaid, all_costs, rows_in}
-use Rattle.rd_start.proofs.Reaching.{AsksAbove, Prev, among-same, cost-same, first-among, prev-given, prev-of, rows-same, up-ends, up-fails, up-higher, up-more, up-stops}
+use Rattle.rd_start.specs.Strips.{IsPaid, all_costs}
+use Rattle.rd_start.proofs.Reaching.{among-same, cost-same, first-among, prev-given, prev-of, rows-same, up-ends, up-fails, up-higher, up-more, up-stops}
 use Rattle.rd_start.proofs.Results.{nothing-of-err, of-err}
 use Rattle.rd_start.proofs.strip.Strip.reach_up.Goals as goal
 

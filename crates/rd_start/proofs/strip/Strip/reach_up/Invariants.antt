@@ -1,4 +1,4 @@
-use Rattle.std.proofs.Common.{◌≡◌, ◌-◌, length}
+use Rattle.std.proofs.Common.{◌≡◌, ◌-◌}
 use Rattle.rd_start.proofs.Reaching.{Up}
 use Rattle.rd_start.proofs.strip.Strip.reach_up.Given as goal
 
