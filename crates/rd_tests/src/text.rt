@@ -54,6 +54,8 @@ fn paragraphs_begin_behind_blank_lines(rt: HostRuntime) -> Result<(), Fail> {
     let mut text = Buffer::new(rt.alloc())?;
     let lines = chars_of(rt, "one\n \t\ntwo\nmore\n\x0c\n\nlast")?;
     text.insert(1, lines.as_slice())?;
+    assert!(rt; text.begin() == 1);
+    assert!(rt; text.end() == 24);
     assert_eq!(rt;
         (
             text.paragraph_start(2),
@@ -71,6 +73,8 @@ fn paragraphs_begin_behind_blank_lines(rt: HostRuntime) -> Result<(), Fail> {
         (20, 16, 1)
     );
     text.narrow(6, 22)?;
+    assert!(rt; text.begin() == 6);
+    assert!(rt; text.end() == 22);
     assert_eq!(rt;
         (
             text.paragraph_start(7),
