@@ -1,0 +1,23 @@
+//! Tests of what stands at positions, of items, lines of elements and rows, by the public calls of their layers: outside vectors, printed
+//! text, limits, and each allocating call once with ample memory. One file a crate. They stand above the crates that they
+//! test, so that a crate's own proof and its must-fail edits never wait for them.
+#![tactic(auto)]
+
+#[cfg(test)]
+mod claims;
+#[cfg(test)]
+mod glyphs;
+#[cfg(test)]
+mod items;
+#[cfg(test)]
+mod matrix;
+#[cfg(test)]
+mod modeline;
+#[cfg(test)]
+mod props;
+#[cfg(test)]
+mod rows;
+#[cfg(test)]
+mod scenery;
+#[cfg(test)]
+mod stack;

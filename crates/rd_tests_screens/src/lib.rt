@@ -1,0 +1,19 @@
+//! Tests of devices, windows, the terminal and its updates, scripts and states, by the public calls of their layers: outside vectors, printed
+//! text, limits, and each allocating call once with ample memory. One file a crate. They stand above the crates that they
+//! test, so that a crate's own proof and its must-fail edits never wait for them.
+#![tactic(auto)]
+
+#[cfg(test)]
+mod claims;
+#[cfg(test)]
+mod io;
+#[cfg(test)]
+mod script;
+#[cfg(test)]
+mod state;
+#[cfg(test)]
+mod term;
+#[cfg(test)]
+mod tree;
+#[cfg(test)]
+mod update;
