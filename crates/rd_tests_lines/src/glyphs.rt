@@ -222,37 +222,6 @@ fn controls_without_arrows(rt: HostRuntime) -> Result<(), Fail> {
     Ok(())
 }
 
-/// A table with entries for 0, 9 and `a`, the longest one for an opening parenthesis, and a mark for controls.
-fn entered_table(alloc: Global) -> Result<Table, Fail> {
-    let control = letter('!')?;
-    let text = [letter('b')?, letter('c')?];
-    let longest = [letter(' ')?; 16];
-    let mut table = Table::new(alloc)?;
-    table.put_slot(Slot::Control, Some(control));
-    for code in [0, 9, 97] {
-        table.put_entry(code, &text)?;
-    }
-    table.put_entry(40, &longest)?;
-    Ok(table)
-}
-
-#[test]
-fn entries_come_first(rt: HostRuntime) -> Result<(), Fail> {
-    let table = entered_table(rt.alloc())?;
-    let data = worked_data(rt.alloc(), true)?;
-    let parts = data.parts(Some(&table));
-    for (c, odd, text) in [
-        ('\u{0}', true, "bc"),
-        ('\t', true, "bc"),
-        ('a', true, "bc"),
-        ('(', true, "                "),
-        ('\u{1}', false, "!A"),
-    ] {
-        assert!(rt; spells(rt.alloc(), &parts, Ch::scalar(c), odd, text));
-    }
-    Ok(())
-}
-
 /// A cell of a character of one column.
 fn cell(c: char) -> Cell {
     Cell::First(Glyph::single(c as u32, 1), RED)
