@@ -1,5 +1,5 @@
 use Rattle.rd_order.specs.Walks.{IsWalkOf}
-use Rattle.rd_tests_texts.proofs.levels.is_order.Given as goal
+use Rattle.rd_tests_levels.proofs.levels.is_order.Given as goal
 
 abbrev pub invariant-loop-word : goal.invariant-loop-word
 invariant-loop-word l =

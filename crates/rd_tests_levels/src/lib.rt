@@ -1,0 +1,15 @@
+//! Tests of the bidirectional algorithm, by the public calls of their layers:
+//! outside vectors, limits, and each allocating call once with ample memory. One file a crate. They stand above the crates
+//! that they test, so that a crate's own proof and its must-fail edits never wait for them.
+#![tactic(auto)]
+
+#[cfg(test)]
+mod brackets;
+#[cfg(test)]
+mod explicit;
+#[cfg(test)]
+mod levels;
+#[cfg(test)]
+mod order;
+#[cfg(test)]
+mod resolve;
