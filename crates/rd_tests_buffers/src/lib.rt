@@ -1,0 +1,11 @@
+//! Tests of texts, of their paragraphs and of values by position, by the public calls of their layers: limits, and each
+//! allocating call once with ample memory. One file a crate. They stand above the crates that they test, so that a crate's own
+//! proof and its must-fail edits never wait for them.
+#![tactic(auto)]
+
+#[cfg(test)]
+mod para;
+#[cfg(test)]
+mod spans;
+#[cfg(test)]
+mod text;
