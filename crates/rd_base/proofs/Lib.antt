@@ -1,3 +1,3 @@
-mod Equals
+pub mod Equals
 mod Small
 mod Words

@@ -5,6 +5,7 @@ use Rattle.std.proofs.lemmas.List.Concat.{flat_map-append}
 use Rattle.std.specs.Io.KnownBytes.{Appends}
 use Rattle.std.proofs.KnownBytes.{Appends-trans}
 use Rattle.rd_io.specs.Devices.{Rose, AppendsFront, Writes}
+use Rattle.rd_io.proofs.Bytes.{rose-after}
 use Rattle.rd_io.specs.declared.traits.Failed.{Failed}
 use Rattle.rd_session.specs.Facts.{facts_of}
 use Rattle.rd_session.specs.Redisplay.{Laid}
@@ -31,11 +32,6 @@ front-behind a b c bytes front more rest e p q =
     e ∙ ap (λ l. front ++ (l ++ rest)) (sym (take-append-drop n more)) ∙ ap (λ l. front ++ l) (append_assoc (take n more) (drop n more) rest)
     ∙ sym (append_assoc front (take n more) (drop n more ++ rest)) in
     front-of a c bytes (front ++ take n more) (drop n more ++ rest) split (Appends-trans a b c front (take n more) p q.2)
-
--- a call that failed after others did so for the whole
-pub rose-after : (a b c : ℕ) → a ≤ b → Rose b c → Rose a c
-rose-after a b c p (inl q) = inl (omega arith)
-rose-after a b c p (inr q) = inr q
 
 -- what broke behind bytes that were written
 pub broke-after : (a b c : Option (List ℕ)) (m n o : ℕ) (bytes more : List ℕ) → Appends a b bytes → m ≤ n → Broke (sunk b c n o) [] more → Broke (sunk a c m o) bytes more

@@ -7,11 +7,8 @@ use Rattle.std.proofs.lemmas.List.{take-append-le}
 use Rattle.std.proofs.Math.Seq.{take-append-add, drop-cons}
 use Rattle.std.specs.List.{flat_map}
 use Rattle.rd_io.specs.Devices.{Rose, AppendsFront, Writes}
+use Rattle.rd_io.proofs.Bytes.{rose-after}
 use Rattle.rd_script.specs.Prints.{Prints}
-
-rose-after : (f g h : ℕ) → f ≤ g → Rose g h → Rose f h
-rose-after f g h p (inl q) = inl (omega arith)
-rose-after f g h p (inr q) = inr q
 
 front-before : (a b : Option (List ℕ)) (xs ys : List ℕ) → AppendsFront a b xs → AppendsFront a b (xs ++ ys)
 front-before a b xs ys front =

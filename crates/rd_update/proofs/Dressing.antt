@@ -14,7 +14,7 @@ use Rattle.rd_term.proofs.Feeding.{feed_bytes-append}
 use Rattle.rd_base.specs.Equals.{same_face}
 use Rattle.rd_update.specs.Updates.{number_if, renditions, parameter, rendition, dress}
 use Rattle.rd_update.proofs.Sequences.{parameters_fed}
-use Rattle.rd_update.proofs.Equals.{face-told}
+use Rattle.rd_base.proofs.Equals.{face-told}
 
 -- ---- the pen after the numbers of a face
 

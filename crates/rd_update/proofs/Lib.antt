@@ -1,5 +1,4 @@
 pub mod Dressing
-pub mod Equals
 pub mod Feeding
 pub mod Intervals
 pub mod Parts

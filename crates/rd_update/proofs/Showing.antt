@@ -6,7 +6,7 @@ use Rattle.std.proofs.lemmas.Bool.{and_parts}
 use Rattle.std.proofs.lemmas.Bool.Decides.{nat_tests}
 use Rattle.std.proofs.lemmas.List.{get_or_at, set_at, take_at, drop_at, drop-drop, drop-append-le, length-append, length-replicate, length-take-le, length-drop, take_more, drop_more, take-append-drop}
 use Rattle.rd_base.specs.Cells.{single}
-use Rattle.rd_base.specs.Chars.{is_scalar}
+use Rattle.rd_base.specs.Chars.{is_scalar, encoded}
 use Rattle.rd_base.specs.Faces.{Attributes}
 use Rattle.rd_base.specs.Glyphs.{is_space, blanks, glyph_cells, IsMeasured, IsGood}
 use Rattle.rd_base.specs.declared.cell.Glyph.{Glyph}
@@ -19,7 +19,7 @@ use Rattle.rd_term.proofs.Cutting.{Row, front as front_of, behind, overwritten-i
 use Rattle.rd_term.proofs.Encoded.{Rows, standing}
 use Rattle.rd_term.proofs.Feeding.{feed_bytes-append}
 use Rattle.rd_term.proofs.Measured.{shown_fed, base-columns, mark-columns, space-narrow, space-columns}
-use Rattle.rd_update.specs.Updates.{encoded, text_of_glyph}
+use Rattle.rd_update.specs.Updates.{text_of_glyph}
 
 -- ---- cells that are left where a character was put before them
 

@@ -7,7 +7,7 @@ use Rattle.rd_base.specs.declared.cell.Cell.TheVariants.{Blank, First, Rest}
 use Rattle.rd_term.specs.Pictures.{blank, blank_row}
 use Rattle.rd_term.specs.Overwriting.{is_later, later_columns, first_column}
 use Rattle.rd_base.specs.Equals.{same_cell}
-use Rattle.rd_update.proofs.Equals.{cell-told}
+use Rattle.rd_base.proofs.Equals.{cell-told}
 use Rattle.rd_update.specs.Updates.{first_difference, end_before, end_of_differences, used, differs, is_rest, goes_on, begin_before, going_on}
 
 -- ---- before the first difference and behind the last

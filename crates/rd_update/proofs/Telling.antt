@@ -15,7 +15,7 @@ use Rattle.rd_base.specs.declared.cell.Cell.TheVariants.{Blank, First, Rest}
 use Rattle.rd_update.specs.Updates.{first_difference, end_before, end_of_differences}
 use Rattle.rd_update.specs.Words.{row_words, AreTold, differing_columns}
 use Rattle.rd_update.specs.declared.span.Columns.{Columns}
-use Rattle.rd_update.proofs.Equals.{cell-told, cell-itself}
+use Rattle.rd_base.proofs.Equals.{cell-told, cell-itself}
 use Rattle.rd_update.proofs.Spans.{first_before, end_within}
 
 -- ---- the words of two cells

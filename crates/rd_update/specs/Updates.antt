@@ -1,9 +1,8 @@
 -- The bytes that bring a terminal from the current screen to the target screen.
 use Rattle.std.specs.Prelude.{ℕ, zero, suc, ◌+◌, ◌-◌, ◌==◌, nat_lt, nat_le, min, max, Bool, true, false, if◌then◌else◌, ◌||◌, not, List, [], ◌∷◌, ◌++◌, length, take, drop, map, Option, None, Some, slice_index_or}
-use Rattle.std.specs.Char.{encode_utf8}
 use Rattle.std.specs.Fmt.{decimal}
 use Rattle.std.specs.List.{flat_map}
-use Rattle.rd_base.specs.Chars.{is_scalar}
+use Rattle.rd_base.specs.Chars.{encoded}
 use Rattle.rd_base.specs.Equals.{same_face, same_cell}
 use Rattle.rd_base.specs.Faces.{Attributes, plain}
 use Rattle.rd_base.specs.declared.cell.Glyph.{Glyph}
@@ -78,10 +77,6 @@ erase_to_end = 27 ∷ 91 ∷ 75 ∷ []
 -- `\e[0m` and `\e[2J`, by which an unknown screen becomes blank and plain
 abbrev pub repaint : List ℕ
 repaint = 27 ∷ 91 ∷ 48 ∷ 109 ∷ 27 ∷ 91 ∷ 50 ∷ 74 ∷ []
-
--- a scalar value in UTF-8
-abbrev pub encoded : ℕ → List ℕ
-encoded code = if is_scalar code then encode_utf8 code else []
 
 -- a character and the marks that join it
 abbrev pub text_of_glyph : Glyph → List ℕ

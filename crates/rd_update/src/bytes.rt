@@ -2,7 +2,8 @@
 ghost use Rattle.std.specs.Prelude.{◌≡◌, ◌<◌, ◌++◌, length, OnOk, IfOk};
 ghost use Rattle.std.specs.List.{flat_map};
 ghost use Rattle.rd_base.specs.Faces.{plain};
-ghost use Rattle.rd_update.specs.Updates.{move as move_bytes, encoded, text_of_glyph, renditions, number_if, parameter, dress, text_of_cell, face_of, text_by, pen_behind, row_bytes, first_difference as first_column, end_of_differences as end_column, used as used_of};
+ghost use Rattle.rd_base.specs.Chars.{encoded};
+ghost use Rattle.rd_update.specs.Updates.{move as move_bytes, text_of_glyph, renditions, number_if, parameter, dress, text_of_cell, face_of, text_by, pen_behind, row_bytes, first_difference as first_column, end_of_differences as end_column, used as used_of};
 
 use crate::span::{Columns, interval, is_face};
 use itoa::Buffer;

@@ -1,6 +1,6 @@
 use Rattle.std.proofs.Common.{◌≡◌, ◌++◌, drop}
 use Rattle.std.specs.List.{flat_map}
-use Rattle.rd_update.specs.Updates.{encoded}
+use Rattle.rd_base.specs.Chars.{encoded}
 use Rattle.rd_update.proofs.bytes.push_codes.Given as goal
 
 -- the bytes so far and those of the other codes
