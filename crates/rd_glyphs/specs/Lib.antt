@@ -1,3 +1,4 @@
 pub mod Characters
 pub mod Lines
+pub mod Marks
 pub mod Joining

@@ -4,6 +4,7 @@ pub mod Faces
 pub mod Hiding
 pub mod Shown
 pub mod Strings
+pub mod Seen
 pub mod Stops
 pub mod Laws
 pub mod Examples
