@@ -1,5 +1,6 @@
 -- What holds of all objects that were made, and what stays as it is where more are made.
 use Rattle.std.specs.Prelude.{◌≡◌, ℕ, ◌<◌, ◌≤◌, ◌++◌, IsTrue, List, length, All}
+use Rattle.rd_base.specs.declared.limits.TheConstants.{FACES, SPECS, STRING_CHARACTERS, STRINGS, TABLES}
 use Rattle.rd_base.specs.Chars.{is_code}
 use Rattle.rd_base.specs.Cells.{HasColours}
 use Rattle.rd_objects.specs.declared.run.Spec.{Spec}
@@ -15,7 +16,7 @@ AreCodes chars = All (λ c. IsTrue (is_code c)) chars
 -- a string of at most 4,096 characters, whose runs give faces with colours in their range
 pub record IsString (text : TextValue) : Type 0 where
   pub chars : AreCodes text.chars
-  pub few : length text.chars ≤ 4096
+  pub few : length text.chars ≤ STRING_CHARACTERS
   pub faces : All (λ run. HasColours run.face) text.faces
 
 -- each object is sound, and there are no more than there may be
@@ -24,10 +25,10 @@ pub record AreObjects (o : ObjectLists) : Type 0 where
   pub specs : All IsSmallSpec o.specs
   pub faces : All HasColours o.faces
   pub tables : All IsTable o.tables
-  pub few_strings : length o.strings ≤ 4096
-  pub few_specs : length o.specs ≤ 4096
-  pub few_faces : length o.faces ≤ 1024
-  pub few_tables : length o.tables ≤ 64
+  pub few_strings : length o.strings ≤ STRINGS
+  pub few_specs : length o.specs ≤ SPECS
+  pub few_faces : length o.faces ≤ FACES
+  pub few_tables : length o.tables ≤ TABLES
 
 -- the string that a spec names is one of so many
 abbrev pub NamesMade : ℕ → Spec → Type 0

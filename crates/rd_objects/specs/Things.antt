@@ -1,6 +1,7 @@
 -- All numbered objects.
 use Rattle.std.specs.Prelude.{◌≡◌, ℕ, nat_lt, nat_le, Bool, true, not, ◌≤◌, ◌&&◌, if◌then◌else◌, List, [], ◌∷◌, ◌++◌, length, Option, None, Some, Result, Ok, Err}
 use Rattle.std.specs.List.{list_all}
+use Rattle.rd_base.specs.declared.limits.TheConstants.{SPACE_COLUMNS, SPECS, STRING_CHARACTERS, STRINGS}
 use Rattle.rd_base.specs.Faces.{Attributes}
 use Rattle.rd_objects.specs.declared.fault.ObjectFault.{ObjectFault}
 use Rattle.rd_objects.specs.declared.fault.ObjectFault.TheVariants.{TooMany, TooLong, NoObject, OutOfRange, Memory}
@@ -40,8 +41,8 @@ abbrev pub string_fault : ObjectLists → List ℕ → List Run → Option Objec
 string_fault made chars runs =
     if not (list_all (is_made made) runs) then Some NoObject
     else (if not (list_all (is_inside (length chars)) runs) then Some OutOfRange
-    else (if nat_lt 4096 (length chars) then Some TooLong
-    else (if nat_le 4096 (length made.strings) then Some TooMany else None)))
+    else (if nat_lt STRING_CHARACTERS (length chars) then Some TooLong
+    else (if nat_le STRINGS (length made.strings) then Some TooMany else None)))
 
 -- whether the string that a spec names was made
 abbrev pub is_spec_made : ObjectLists → Spec → Bool
@@ -50,7 +51,7 @@ is_spec_made made spec = true
 
 abbrev pub spec_fault : ObjectLists → Spec → Option ObjectFault
 spec_fault made spec =
-    if not (is_spec_made made spec) then Some NoObject else (if nat_le 4096 (length made.specs) then Some TooMany else None)
+    if not (is_spec_made made spec) then Some NoObject else (if nat_le SPECS (length made.specs) then Some TooMany else None)
 
 -- why one more object is not made where there may be so many
 abbrev pub full_fault : ℕ → ℕ → Option ObjectFault
@@ -72,8 +73,8 @@ table_added made table = record made { tables = made.tables ++ table ∷ [] }
 -- the widths and columns that specs may have
 abbrev pub IsSmallSpec : Spec → Type 0
 IsSmallSpec (Text n) = Unit {0}
-IsSmallSpec (Width n) = n ≤ 400
-IsSmallSpec (Align n) = n ≤ 400
+IsSmallSpec (Width n) = n ≤ SPACE_COLUMNS
+IsSmallSpec (Align n) = n ≤ SPACE_COLUMNS
 
 -- an object is added with the next number, unless there is a fault, and where it is not nothing changes
 abbrev pub Adds : Result ℕ ObjectFault → Option ObjectFault → ℕ → ObjectLists → ObjectLists → ObjectLists → Type 0

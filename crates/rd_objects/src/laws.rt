@@ -10,14 +10,16 @@ ghost use Rattle.rd_objects.specs.Tables.{TableValue, IsTable};
 ghost use Rattle.rd_objects.specs.Things.{ObjectLists, nothing_made, string_fault, spec_fault, full_fault, string_added, spec_added, face_added, table_added, IsSmallSpec};
 ghost use Rattle.rd_objects.specs.Sound.{AreCodes, IsString, AreObjects, IsClosed, Extends};
 
+use rd_base::limits::{FACES, TABLES};
+
 /// Where nothing is made all objects are sound, and they stay sound where one more is made: a string of characters, a spec of at most
 /// 400 columns, a face with colours in their range, a table. The call does nothing.
 pub fn objects_stay_sound()
     ensures nothing { AreObjects nothing_made }
     ensures string { (o : ObjectLists) (chars : List ℕ) (runs : List Run) → AreCodes chars → string_fault o chars runs ≡ None → AreObjects o → AreObjects (string_added o chars runs) }
     ensures spec { (o : ObjectLists) (spec : Spec) → IsSmallSpec spec → spec_fault o spec ≡ None → AreObjects o → AreObjects (spec_added o spec) }
-    ensures face { (o : ObjectLists) (face : Attributes) → HasColours face → full_fault 1024 (length o.faces) ≡ None → AreObjects o → AreObjects (face_added o face) }
-    ensures table { (o : ObjectLists) (table : TableValue) → IsTable table → full_fault 64 (length o.tables) ≡ None → AreObjects o → AreObjects (table_added o table) }
+    ensures face { (o : ObjectLists) (face : Attributes) → HasColours face → full_fault FACES (length o.faces) ≡ None → AreObjects o → AreObjects (face_added o face) }
+    ensures table { (o : ObjectLists) (table : TableValue) → IsTable table → full_fault TABLES (length o.tables) ≡ None → AreObjects o → AreObjects (table_added o table) }
 {}
 
 /// Where nothing is made each object that is named was made, and so it stays where one more is made. The call does nothing.

@@ -8,18 +8,10 @@ use crate::fault::ObjectFault;
 use crate::run::{Run, RunKind, Spec};
 use crate::table::Table;
 use crate::text::{LONGEST, Text};
+use rd_base::limits::{FACES, SPECS, STRINGS, TABLES};
 use rd_base::{Ch, Face, ListOf, Memory};
 use std::alloc::Global;
 use std::marker::Model;
-
-/// The most strings, and the most specs.
-const MOST: usize = 4_096;
-
-/// The most faces.
-const MOST_FACES: usize = 1_024;
-
-/// The most tables.
-const MOST_TABLES: usize = 64;
 
 /// All objects that were made, numbered from 0 in each sort. An object never changes.
 #[derive(Drop)]
@@ -75,7 +67,7 @@ impl Objects {
         if text.len() > LONGEST {
             return Err(ObjectFault::TooLong);
         }
-        if self.strings.len() >= MOST {
+        if self.strings.len() >= STRINGS as usize {
             return Err(ObjectFault::TooMany);
         }
         let number = self.strings.len() as u32;
@@ -96,7 +88,7 @@ impl Objects {
         if !self.names_made(spec) {
             return Err(ObjectFault::NoObject);
         }
-        if self.specs.len() >= MOST {
+        if self.specs.len() >= SPECS as usize {
             return Err(ObjectFault::TooMany);
         }
         let number = self.specs.len() as u32;
@@ -106,12 +98,12 @@ impl Objects {
 
     /// Makes a face, and answers its number. The fault is that 1,024 faces were made. It costs one step.
     pub fn add_face(&mut self, face: Face) -> Result<u32, ObjectFault>
-        ensures adds { Adds result (full_fault 1024 (length self.old.faces)) (length self.old.faces) self.old self.new (face_added self.old face) }
+        ensures adds { Adds result (full_fault FACES (length self.old.faces)) (length self.old.faces) self.old self.new (face_added self.old face) }
         ensures sound { AreObjects self.old → AreObjects self.new }
         ensures closed { IsClosed self.old → IsClosed self.new }
         ensures extends { Extends self.old self.new }
     {
-        if self.faces.len() >= MOST_FACES {
+        if self.faces.len() >= FACES as usize {
             return Err(ObjectFault::TooMany);
         }
         keeps_colours(face);
@@ -122,12 +114,12 @@ impl Objects {
 
     /// Makes a display table, and answers its number. The fault is that 64 tables were made. It costs one step.
     pub fn add_table(&mut self, table: Table) -> Result<u32, ObjectFault>
-        ensures adds { Adds result (full_fault 64 (length self.old.tables)) (length self.old.tables) self.old self.new (table_added self.old table) }
+        ensures adds { Adds result (full_fault TABLES (length self.old.tables)) (length self.old.tables) self.old self.new (table_added self.old table) }
         ensures sound { AreObjects self.old → AreObjects self.new }
         ensures closed { IsClosed self.old → IsClosed self.new }
         ensures extends { Extends self.old self.new }
     {
-        if self.tables.len() >= MOST_TABLES {
+        if self.tables.len() >= TABLES as usize {
             return Err(ObjectFault::TooMany);
         }
         table.stays_valid();

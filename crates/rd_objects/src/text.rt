@@ -4,12 +4,13 @@ ghost use Rattle.rd_base.specs.Faces.{plain};
 ghost use Rattle.rd_objects.specs.Texts.{face_runs, spec_runs, face_in, spec_in, covers};
 
 use crate::run::{FaceRun, Run, RunKind, SpecRun};
+use rd_base::limits::STRING_CHARACTERS;
 use rd_base::{Ch, Face, ListOf, Memory};
 use std::alloc::Global;
 use std::marker::Model;
 
 /// The most characters of a string.
-pub const LONGEST: usize = 4_096;
+pub const LONGEST: usize = STRING_CHARACTERS as usize;
 
 /// A string of at most 4,096 characters, and the runs over it.
 #[derive(Drop)]
@@ -22,12 +23,13 @@ pub struct Text {
 impl Model for Text {
     ghost use Rattle.std.specs.Prelude.{◌≤◌, length};
     ghost use Rattle.rd_objects.specs.Texts.{TextValue};
+    ghost use Rattle.rd_base.specs.declared.limits.TheConstants.{STRING_CHARACTERS};
 
     ghost Value = { TextValue };
 
     ghost view = { λ text. record { chars = text.chars; faces = text.faces; specs = text.specs } };
 
-    ghost invariant = { λ text. length text.chars ≤ 4096 };
+    ghost invariant = { λ text. length text.chars ≤ STRING_CHARACTERS };
 }
 
 impl Text {
@@ -36,7 +38,7 @@ impl Text {
 
     /// A string of these characters, with the faces that its runs name. It costs a copy of both.
     pub fn new(alloc: Global, chars: &[Ch], runs: &[Run], faces: &[Face]) -> Result<Text, Memory>
-        requires { length chars.now ≤ 4096 }
+        requires { length chars.now ≤ STRING_CHARACTERS }
         ensures { IfOk result (λ text. text ≡ text_of chars.now runs.now faces.now) }
     {
         let chars = ListOf::from_slice(alloc, chars)?;

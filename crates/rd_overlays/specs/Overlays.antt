@@ -1,6 +1,7 @@
 -- The overlays of a buffer as a list: each stands at its number, and nothing stands where one was dropped.
 use Rattle.std.specs.Prelude.{◌≡◌, ℕ, suc, ◌+◌, ◌-◌, ◌<◌, ◌≤◌, min, ℤ, nat_le, nat_lt, ◌==◌, Bool, ◌&&◌, ◌||◌, if◌then◌else◌, is_some, List, [], ◌∷◌, ◌++◌, length, map, replicate, slice_get, slice_set, Option, None, Some, Result, Ok, Err, ⊤}
 use Rattle.std.specs.Ordering.{is_lt, ordering_then, int_cmp, nat_cmp}
+use Rattle.rd_base.specs.declared.limits.TheConstants.{OVERLAYS}
 use Rattle.rd_overlays.specs.declared.fault.OverlayFault.{OverlayFault}
 use Rattle.rd_overlays.specs.declared.fault.OverlayFault.TheVariants.{NoOverlay, OutOfRange, TooMany, Memory}
 use Rattle.rd_overlays.specs.declared.overlay.Overlay.{Overlay}
@@ -24,7 +25,7 @@ new_overlay from to priority front rear =
 
 -- why an overlay is not made
 abbrev pub make_fault : List (Option Overlay) → ℕ → ℕ → Option OverlayFault
-make_fault slots from to = if nat_lt to from then Some OutOfRange else (if nat_le 65536 (length slots) then Some TooMany else None)
+make_fault slots from to = if nat_lt to from then Some OutOfRange else (if nat_le OVERLAYS (length slots) then Some TooMany else None)
 
 -- an overlay is made with the next number, unless there is a fault, and where it is not nothing changes
 abbrev pub Makes : Result ℕ OverlayFault → Option OverlayFault → List (Option Overlay) → List (Option Overlay) → Overlay → Type 0

@@ -8,6 +8,7 @@ use crate::index::Index;
 use crate::overlay::{Overlay, overlay_at};
 use crate::store::Store;
 use rd_base::Pos;
+use rd_base::limits::OVERLAYS;
 
 /// The lesser of two positions that may be missing.
 fn lesser(a: Option<Pos>, b: Option<Pos>) -> Option<Pos>
@@ -41,7 +42,7 @@ fn slot_edge(pos: Pos, slot: Option<Overlay>) -> Option<Pos>
 
 /// The least edge of all overlays after a position, along the order in which an index comes to them.
 fn next_edge_by(slots: &[Option<Overlay>], index: &Index, pos: Pos) -> Option<Pos>
-    requires size { length slots.now ≤ 65536 }
+    requires size { length slots.now ≤ OVERLAYS }
     requires index { IsIndex slots.now index.now.order index.now.bounds }
     ensures { result ≡ edge_in pos slots.now (passed index.now.order (length slots.now)) }
 {
@@ -62,7 +63,7 @@ fn next_edge_by(slots: &[Option<Overlay>], index: &Index, pos: Pos) -> Option<Po
 
 /// The least edge of all overlays after a position.
 pub(crate) fn next_edge(store: &Store, pos: Pos) -> Option<Pos>
-    requires { length store.now ≤ 65536 }
+    requires { length store.now ≤ OVERLAYS }
     ensures { result ≡ next_edge pos store.now }
 {
     next_edge_by(store.as_slice(), store.index(), pos)

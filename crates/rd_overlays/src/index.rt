@@ -8,6 +8,7 @@ ghost use Rattle.rd_overlays.specs.Bounds.{SlotHolds, IsBounded, IsBoundedTo, Is
 
 use crate::bounds::{Bounds, has_no_lesser_edge, widened};
 use crate::overlay::{Overlay, overlay_at};
+use rd_base::limits::OVERLAYS;
 use rd_base::{ListOf, Memory, Pos};
 use std::alloc::Global;
 
@@ -51,7 +52,7 @@ impl Index {
 
     /// The number at a place. Those that were made since the others were put in order come last.
     pub(crate) fn number_at(&self, place: usize) -> u32
-        requires { place < 65536 }
+        requires { place < OVERLAYS }
         ensures { (size : ℕ) → place < size → slice_get (passed self.now.order size) place ≡ Some result }
     {
         if place < self.order.len() {
@@ -104,7 +105,7 @@ impl Index {
 
 /// The numbers below a count, in increasing order.
 fn numbers_below(alloc: Global, count: usize) -> Result<Vec<u32>, Memory>
-    requires { count ≤ 65536 }
+    requires { count ≤ OVERLAYS }
     ensures { IfOk result (λ numbers. numbers.items ≡ range_with_len 0 count) }
 {
     let mut numbers = Vec::new(alloc);
@@ -178,7 +179,7 @@ fn bounds_of(
 
 /// The index of all these overlays. Costs their number times its logarithm.
 pub(crate) fn indexed(alloc: Global, slots: &[Option<Overlay>]) -> Result<Index, Memory>
-    requires { length slots.now ≤ 65536 }
+    requires { length slots.now ≤ OVERLAYS }
     ensures { IfOk result (λ index. IsIndex slots.now index.order index.bounds) }
 {
     let mut numbers = numbers_below(alloc, slots.len())?;

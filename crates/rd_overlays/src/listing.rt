@@ -7,6 +7,7 @@ ghost use Rattle.rd_overlays.specs.Bounds.{IsIndex, passed};
 use crate::index::Index;
 use crate::overlay::{Meeting, Overlay, meets, overlay_at};
 use crate::store::Store;
+use rd_base::limits::OVERLAYS;
 use rd_base::{ListOf, Memory, Pos};
 use std::alloc::Global;
 
@@ -44,7 +45,7 @@ fn found(
     meeting: Meeting,
     pos: Pos,
 ) -> Result<Vec<Rank>, Memory>
-    requires size { length slots.now ≤ 65536 }
+    requires size { length slots.now ≤ OVERLAYS }
     requires index { IsIndex slots.now index.now.order index.now.bounds }
     ensures { IfOk result (λ ranks. ranks.items ≡ found_in (meets meeting pos) slots.now (passed index.now.order (length slots.now))) }
 {
@@ -71,7 +72,7 @@ fn ranked(
     meeting: Meeting,
     pos: Pos,
 ) -> Result<Vec<Rank>, Memory>
-    requires size { length slots.now ≤ 65536 }
+    requires size { length slots.now ≤ OVERLAYS }
     requires index { IsIndex slots.now index.now.order index.now.bounds }
     ensures { IfOk result (λ ranks. ranks.items ≡ ranked_from (meets meeting pos) 0 slots.now) }
 {
@@ -98,7 +99,7 @@ pub(crate) fn listed(
     meeting: Meeting,
     pos: Pos,
 ) -> Result<ListOf<u32>, Memory>
-    requires { length store.now ≤ 65536 }
+    requires { length store.now ≤ OVERLAYS }
     ensures { IfOk result (λ list. list ≡ map number_of_rank (ranked_from (meets meeting pos) 0 store.now)) }
 {
     let ranks = ranked(alloc, store.as_slice(), store.index(), meeting, pos)?;

@@ -4,12 +4,13 @@ use crate::fault::OverlayFault;
 use crate::listing::listed;
 use crate::overlay::{Kind, Meeting, Overlay, overlay_at};
 use crate::store::Store;
+use rd_base::limits::OVERLAYS;
 use rd_base::{ListOf, Memory, Pos};
 use std::alloc::Global;
 use std::marker::Model;
 
 /// The most overlays that are made.
-const MOST: usize = 65_536;
+const MOST: usize = OVERLAYS as usize;
 
 /// All overlays of a buffer. A number counts from 0 in order of making and is never used again. A block is 256 overlays that
 /// follow one another by their starts, whatever the order in which they were made. The blocks are made anew when more than 256
@@ -24,12 +25,13 @@ pub struct Overlays {
 impl Model for Overlays {
     ghost use Rattle.std.specs.Prelude.{List, Option, ◌≤◌, length};
     ghost use Rattle.rd_overlays.specs.declared.overlay.Overlay.{Overlay};
+    ghost use Rattle.rd_base.specs.declared.limits.TheConstants.{OVERLAYS};
 
     ghost Value = { List (Option Overlay) };
 
     ghost view = { λ s. s.slots };
 
-    ghost invariant = { λ s. length s.slots ≤ 65536 };
+    ghost invariant = { λ s. length s.slots ≤ OVERLAYS };
 }
 
 impl Overlays {

@@ -2,6 +2,7 @@
 use crate::index::{Index, indexed, make_fit};
 use crate::moves::{grow_bounds, grow_slots, shrink_bounds, shrink_slots};
 use crate::overlay::Overlay;
+use rd_base::limits::OVERLAYS;
 use rd_base::{ListOf, Memory, Pos};
 use std::alloc::Global;
 use std::marker::Model;
@@ -88,7 +89,7 @@ impl Store {
 
     /// Makes the index anew where it is stale. Costs the number of the overlays times its logarithm then, and takes memory.
     pub(crate) fn settle(&mut self) -> Result<(), Memory>
-        requires { length self.old ≤ 65536 }
+        requires { length self.old ≤ OVERLAYS }
         ensures { self.new ≡ self.old }
     {
         if self.index.is_stale(self.slots.len()) {

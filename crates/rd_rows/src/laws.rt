@@ -12,6 +12,8 @@ ghost use Rattle.rd_rows.specs.Shapes.{ShapeValues};
 ghost use Rattle.rd_rows.specs.Laws.{seen_rows, ends_last, begins_of, range_of, ranges_of, IsPlacedOnce};
 ghost use Rattle.rd_rows.specs.Whole.{AreWhole, IsMark, IsMeasuredPrefix, IsMeasuredCutting};
 
+use rd_base::limits::FRAME_COLUMNS;
+
 /// The rows of a line whose last element and no other is the line end: there is at least one, and the last and no other ends
 /// the block; each element is placed once, and each element of a prefix once in each of its rows; and each item begins once, in
 /// the order of the first elements. It has no body: what it promises is proved of the definitions.
@@ -24,14 +26,14 @@ pub fn rows_of_every_line()
 /// Prefixes that were cut to half of a window's columns can stand before a line's elements. It has no body.
 pub fn prefixes_stand_before_lines()
     ensures { (shape : ShapeValues) (base : ℕ) (first wrap : List Element) (truncation continuation : Glyph)
-        → shape.width ≤ 400 → IsPrefix first → IsPrefix wrap → HasLeads (cutting_of shape base first wrap truncation continuation) }
+        → shape.width ≤ FRAME_COLUMNS → IsPrefix first → IsPrefix wrap → HasLeads (cutting_of shape base first wrap truncation continuation) }
 {}
 
 /// In the rows of sound and measured elements, with measured prefixes and marks of one column, each glyph stands whole, and each
 /// row has the window's columns, whichever edge it is read from. It has no body.
 pub fn rows_are_whole()
     ensures cutting { (shape : ShapeValues) (base : ℕ) (first wrap : List Element) (truncation continuation : Glyph)
-        → 2 ≤ shape.width → shape.width ≤ 400 → IsMeasuredPrefix first → IsMeasuredPrefix wrap → IsMark truncation → IsMark continuation
+        → 2 ≤ shape.width → shape.width ≤ FRAME_COLUMNS → IsMeasuredPrefix first → IsMeasuredPrefix wrap → IsMark truncation → IsMark continuation
         → IsMeasuredCutting (cutting_of shape base first wrap truncation continuation) }
     ensures rows { (c : Cutting) (es : List Element) → IsMeasuredCutting c → AreSound es → AreMeasured es → AreWhole c.shape.width (rows_of c es) }
 {}

@@ -1,6 +1,7 @@
 //! A row of a window, and its copies.
 
 use crate::begin::Begin;
+use rd_base::limits::FRAME_COLUMNS;
 use rd_base::{Cell, Face, ListOf, Memory};
 use std::alloc::Global;
 use std::marker::Model;
@@ -20,6 +21,7 @@ pub struct Row {
 impl Model for Row {
     ghost use Rattle.std.specs.Prelude.{ℕ, ◌≤◌, length};
     ghost use Rattle.rd_rows.specs.Copies.{RowValues};
+    ghost use Rattle.rd_base.specs.declared.limits.TheConstants.{FRAME_COLUMNS};
 
     ghost Value = { RowValues };
 
@@ -28,7 +30,7 @@ impl Model for Row {
       copies = r.copies;
     } };
 
-    ghost invariant = { λ r. length r.cells ≤ 400 };
+    ghost invariant = { λ r. length r.cells ≤ FRAME_COLUMNS };
 }
 
 impl Row {
@@ -38,7 +40,7 @@ impl Row {
     /// A row of `width` blank and plain cells, 1 to 400 of them, in which nothing stands. It was not copied.
     pub fn blank(alloc: Global, width: u32) -> Result<Row, Memory>
         requires least { 1 ≤ width }
-        requires most { width ≤ 400 }
+        requires most { width ≤ FRAME_COLUMNS }
         ensures { IfOk result (λ row. row ≡ record { shown = blank_row width; copies = 0 }) }
     {
         let mut cells = ListOf::new(alloc);
@@ -54,7 +56,7 @@ impl Row {
         reversed: bool,
         ends_block: bool,
     ) -> Row
-        requires { length cells ≤ 400 }
+        requires { length cells ≤ FRAME_COLUMNS }
         ensures { result ≡ record { shown = record { cells = cells; begins = begins; reversed = reversed; ends_block = ends_block }; copies = 0 } }
     {
         Row {

@@ -6,6 +6,7 @@ ghost use Rattle.rd_rows.specs.Rows.{first_seen};
 ghost use Rattle.rd_rows.specs.Shapes.{room, truncates, is_word};
 
 use crate::shape::Shape;
+use rd_base::limits::FRAME_COLUMNS;
 use rd_base::{Element, Extent, Look, Wrap};
 
 /// Where the next element comes: the column of the line, which counts from the line's start or the last row end, the columns
@@ -31,7 +32,7 @@ impl Shape {
     pub fn room(self) -> u64
         ensures room { result ≡ room self }
         ensures least { 9 ≤ result }
-        ensures bounds { result < 400 }
+        ensures bounds { result < FRAME_COLUMNS }
     {
         self.width as u64 - 1
     }

@@ -1,5 +1,6 @@
 -- What a screen shows.
 use Rattle.std.specs.Prelude.{◌≡◌, ℕ, ◌+◌, ◌<◌, ◌≤◌, List, [], ◌∷◌, ◌++◌, length, take, drop, All, replicate, slice_index_or, slice_set}
+use Rattle.rd_base.specs.declared.limits.TheConstants.{FRAME_COLUMNS, FRAME_ROWS}
 use Rattle.rd_base.specs.Faces.{plain}
 use Rattle.rd_base.specs.Glyphs.{IsRowAfter}
 use Rattle.rd_base.specs.declared.cell.Cell.{Cell}
@@ -40,8 +41,8 @@ pub record IsOfSize (width height : ℕ) (picture : Picture) : Type 0 where
 -- what a screen may be: at most 400 columns and 200 rows
 pub record IsScreen (picture : Picture) : Type 0 where
   pub size : IsOfSize (width_of picture.rows) (length picture.rows) picture
-  pub wide : width_of picture.rows ≤ 400
-  pub tall : length picture.rows ≤ 200
+  pub wide : width_of picture.rows ≤ FRAME_COLUMNS
+  pub tall : length picture.rows ≤ FRAME_ROWS
 
 -- the row and the cell at a place
 abbrev pub row_at : {A : Type 0} → List (List A) → ℕ → List A

@@ -1,5 +1,6 @@
 -- The terminal: a function from what it is and the bytes that it reads to what it then is.
 use Rattle.std.specs.Prelude.{◌≡◌, ℕ, zero, suc, ◌+◌, ◌-◌, ◌<◌, ◌≤◌, ◌==◌, nat_lt, nat_le, min, Bool, true, false, if◌then◌else◌, ◌&&◌, ◌||◌, not, List, [], ◌∷◌, length, replicate, map, Option, None, Some, IfSome, slice_set, slice_index_or}
+use Rattle.rd_base.specs.declared.limits.TheConstants.{FRAME_COLUMNS, FRAME_ROWS}
 use Rattle.rd_base.specs.Cells.{single}
 use Rattle.rd_base.specs.Faces.{Attributes}
 use Rattle.rd_base.specs.Glyphs.{glyph_cells}
@@ -207,8 +208,8 @@ pub record Shows (t : Tty) (picture : Picture) : Type 0 where
 pub record IsTerminal (rows : List (List (Option Cell))) (cursor : Option (ℕ × ℕ)) : Type 0 where
   pub each : IsGrid (width_of rows) rows
   pub some : 0 < width_of rows
-  pub wide : width_of rows ≤ 400
-  pub tall : length rows ≤ 200
+  pub wide : width_of rows ≤ FRAME_COLUMNS
+  pub tall : length rows ≤ FRAME_ROWS
   pub place : IfSome cursor (λ place. (place.0 < length rows) × (place.1 < width_of rows))
 
 -- a known place is on the rows

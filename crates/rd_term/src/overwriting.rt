@@ -5,6 +5,7 @@ ghost use Rattle.rd_term.specs.Overwriting.{is_later, first_column as first_colu
 ghost use Rattle.rd_term.specs.Terminals.{erased_from};
 
 use crate::rows::fill;
+use rd_base::limits::FRAME_COLUMNS;
 use rd_base::{Cell, Face, Glyph, ListOf};
 
 /// Whether this is a later column of a character.
@@ -65,7 +66,7 @@ pub(crate) fn put_character(
 )
     requires some { 1 ≤ glyph.now.width }
     requires room { column + glyph.now.width ≤ length row.old }
-    requires narrow { length row.old ≤ 400 }
+    requires narrow { length row.old ≤ FRAME_COLUMNS }
     ensures { row.new ≡ overwritten column (map Some (glyph_cells glyph.now.width glyph.now face)) row.old }
 {
     let end = column + glyph.width as usize;

@@ -3,6 +3,7 @@ ghost use Rattle.std.specs.Prelude.{◌≡◌, ◌+◌, ◌<◌, ◌≤◌, IfOk
 ghost use Rattle.rd_term.specs.Pictures.{IsScreen, blank_picture, width_of, row_at, cell_at, with_cell, with_cells};
 
 use crate::rows::{filled, write_over};
+use rd_base::limits::{FRAME_COLUMNS, FRAME_ROWS};
 use rd_base::{Cell, Face, ListOf, Memory};
 use std::alloc::Global;
 use std::marker::Model;
@@ -29,9 +30,9 @@ impl Screen {
     /// A screen of plain blanks, with the cursor at its first cell.
     pub fn blank(alloc: Global, width: u32, height: u32) -> Result<Screen, Memory>
         requires some_columns { 1 ≤ width }
-        requires columns { width ≤ 400 }
+        requires columns { width ≤ FRAME_COLUMNS }
         requires some_rows { 1 ≤ height }
-        requires rows { height ≤ 200 }
+        requires rows { height ≤ FRAME_ROWS }
         ensures { IfOk result (λ screen. screen ≡ blank_picture width height) }
     {
         Ok(Screen {

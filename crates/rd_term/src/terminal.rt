@@ -6,6 +6,7 @@ ghost use Rattle.rd_term.specs.Terminals.{IsTerminal, unknown, feed_byte, feed_b
 use crate::control::Control;
 use crate::reading::{Reading, Step};
 use crate::rows::filled;
+use rd_base::limits::{FRAME_COLUMNS, FRAME_ROWS};
 use rd_base::{Cell, Face, ListOf, Memory};
 use std::alloc::Global;
 use std::marker::Model;
@@ -50,9 +51,9 @@ impl Terminal {
     /// A terminal of which nothing is known.
     pub fn new(alloc: Global, width: u32, height: u32) -> Result<Terminal, Memory>
         requires some_columns { 1 ≤ width }
-        requires columns { width ≤ 400 }
+        requires columns { width ≤ FRAME_COLUMNS }
         requires some_rows { 1 ≤ height }
-        requires rows { height ≤ 200 }
+        requires rows { height ≤ FRAME_ROWS }
         ensures { IfOk result (λ terminal. terminal ≡ unknown width height) }
     {
         Ok(Terminal {
@@ -70,9 +71,9 @@ impl Terminal {
     /// Becomes a terminal of another size of which nothing is known. Where memory is wanting nothing changes.
     pub fn resize(&mut self, width: u32, height: u32) -> Result<(), Memory>
         requires some_columns { 1 ≤ width }
-        requires columns { width ≤ 400 }
+        requires columns { width ≤ FRAME_COLUMNS }
         requires some_rows { 1 ≤ height }
-        requires rows { height ≤ 200 }
+        requires rows { height ≤ FRAME_ROWS }
         ensures ok { OnOk result (self.new ≡ unknown width height) }
         ensures err { OnErr result (self.new ≡ self.old) }
     {

@@ -1,6 +1,7 @@
 -- The text of a buffer with its accessible range, and how edits change it. Positions count from 1.
 use Rattle.std.specs.Prelude.{◌≡◌, ℕ, ◌+◌, ◌-◌, ◌<◌, ◌≤◌, ◌⊎◌, nat_le, ◌==◌, Bool, true, not, ◌||◌, if◌then◌else◌, Option, None, List, [], ◌++◌, length, take, drop, slice_get, slice_index, slice_range}
 use Rattle.std.specs.List.{count_by, list_all, position_or_len, suffix_len}
+use Rattle.rd_base.specs.declared.limits.TheConstants.{TEXT_CHARACTERS}
 
 -- the characters by their codes, the first accessible position, and one past the last
 pub record TextValue : Type 0 where
@@ -10,7 +11,7 @@ pub record TextValue : Type 0 where
 
 -- how many characters a buffer can have
 abbrev pub most_characters : ℕ
-most_characters = 4194304
+most_characters = TEXT_CHARACTERS
 
 -- the accessible range lies in the text, and the text is not too long
 pub record IsText (t : TextValue) : Type 0 where

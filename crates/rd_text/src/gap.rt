@@ -7,11 +7,12 @@ ghost use Rattle.rd_text.specs.Stretches.{summary};
 ghost use Rattle.rd_text.specs.declared.stretch.Stretch.{Stretch};
 
 use crate::stretch::Stretch;
+use rd_base::limits::TEXT_CHARACTERS;
 use rd_base::{Ch, Memory};
 use std::alloc::Global;
 
 /// How many characters a text can have.
-pub(crate) const MOST: usize = 4_194_304;
+pub(crate) const MOST: usize = TEXT_CHARACTERS as usize;
 
 /// How many places a stretch has.
 pub(crate) const STRETCH: usize = 1024;

@@ -9,6 +9,7 @@ use crate::gap::{GapText, STRETCH};
 use crate::opening::last_opening;
 use crate::piece::Piece;
 use crate::stretch::Stretch;
+use rd_base::limits::TEXT_CHARACTERS;
 
 impl GapText {
     /// How many characters stand from one index on before the first newline, and all up to another index where there is none.
@@ -149,7 +150,7 @@ impl GapText {
 fn first_of<'a>(codes: &'a [u32], stretches: &[Stretch], from: usize, to: usize) -> Piece<'a>
     requires order { from < to }
     requires last { to ≤ length codes.now }
-    requires short { length codes.now ≤ 4194304 }
+    requires short { length codes.now ≤ TEXT_CHARACTERS }
     requires covered { length codes.now ≤ length stretches.now * 1024 }
     requires summed { AreSummed codes.now stretches.now from to }
     ensures right { IsPiece result.codes.now result.known }
@@ -165,7 +166,7 @@ fn first_of<'a>(codes: &'a [u32], stretches: &[Stretch], from: usize, to: usize)
 fn last_of<'a>(codes: &'a [u32], stretches: &[Stretch], from: usize, to: usize) -> Piece<'a>
     requires order { from < to }
     requires last { to ≤ length codes.now }
-    requires short { length codes.now ≤ 4194304 }
+    requires short { length codes.now ≤ TEXT_CHARACTERS }
     requires covered { length codes.now ≤ length stretches.now * 1024 }
     requires summed { AreSummed codes.now stretches.now from to }
     ensures right { IsPiece result.codes.now result.known }
@@ -182,7 +183,7 @@ fn part_of<'a>(codes: &'a [u32], stretches: &[Stretch], from: usize, to: usize) 
     requires order { from ≤ to }
     requires stretch { to ≤ (from / 1024 + 1) * 1024 }
     requires last { to ≤ length codes.now }
-    requires short { length codes.now ≤ 4194304 }
+    requires short { length codes.now ≤ TEXT_CHARACTERS }
     requires covered { length codes.now ≤ length stretches.now * 1024 }
     requires summed { AreSummed codes.now stretches.now from to }
     ensures right { IsPiece result.codes.now result.known }

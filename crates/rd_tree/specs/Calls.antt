@@ -1,5 +1,6 @@
 -- What the calls of a window tree answer, and what they leave.
 use Rattle.std.specs.Prelude.{◌≡◌, ℕ, suc, ◌≤◌, Bool, false, if◌then◌else◌, nat_le, ◌&&◌, ◌||◌, length, Option, None, Some, Result, Ok, Err, ⊤}
+use Rattle.rd_base.specs.declared.limits.TheConstants.{FRAME_COLUMNS, FRAME_ROWS, WINDOWS}
 use Rattle.rd_tree.specs.declared.rect.Rect.{Rect}
 use Rattle.rd_tree.specs.declared.placed.Placed.{Placed}
 use Rattle.rd_tree.specs.declared.side.Side.{Side}
@@ -27,7 +28,7 @@ opening width height = record { windows = Window 0 false 0; width = width; heigh
 
 -- no more windows can be made
 abbrev pub is_full : Configuration → Bool
-is_full c = nat_le 64 (length (leaves c.windows)) || nat_le 4294967295 c.made
+is_full c = nat_le WINDOWS (length (leaves c.windows)) || nat_le 4294967295 c.made
 
 abbrev pub split_to : Configuration → Windows → Result Configuration TreeFault
 split_to c windows =
@@ -85,9 +86,9 @@ Removes (Err fault) window said old new = (new ≡ old) × (said ≡ Err fault)
 -- what holds of each tree that the calls make: each window has room, a number stands once and was made, and there are at most 64
 pub record IsValid (c : Configuration) : Type 0 where
   pub room : HasRoom c.windows (frame_of c)
-  pub wide : c.width ≤ 400
-  pub high : c.height ≤ 200
-  pub few : length (leaves c.windows) ≤ 64
+  pub wide : c.width ≤ FRAME_COLUMNS
+  pub high : c.height ≤ FRAME_ROWS
+  pub few : length (leaves c.windows) ≤ WINDOWS
   pub made : c.made ≤ 4294967295
   pub once : (number : ℕ) → times number c.windows ≤ 1
   pub known : (number : ℕ) → c.made ≤ number → times number c.windows ≡ 0

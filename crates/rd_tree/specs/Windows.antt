@@ -1,5 +1,6 @@
 -- The windows of a frame: how they share its rectangle, what they need, and where each stands.
 use Rattle.std.specs.Prelude.{ℕ, ◌+◌, ◌-◌, ◌≤◌, max, Bool, true, false, if◌then◌else◌, nat_le, ◌==◌, ◌&&◌, ◌||◌, List, [], ◌∷◌, ◌++◌, Option, None, Some}
+use Rattle.rd_base.specs.declared.limits.TheConstants.{FRAME_COLUMNS, FRAME_ROWS}
 use Rattle.rd_tree.specs.declared.rect.Rect.{Rect}
 use Rattle.rd_tree.specs.declared.side.Side.{Side}
 use Rattle.rd_tree.specs.declared.side.Side.TheVariants.{Below, Right}
@@ -47,7 +48,7 @@ along Below rect = rect.height
 
 -- a rectangle lies in a frame of the greatest size
 abbrev pub InFrame : Rect → Type 0
-InFrame rect = (rect.x + rect.width ≤ 400) × (rect.y + rect.height ≤ 200)
+InFrame rect = (rect.x + rect.width ≤ FRAME_COLUMNS) × (rect.y + rect.height ≤ FRAME_ROWS)
 
 -- a rectangle has what some windows need
 abbrev pub NeedsMet : Windows → Rect → Type 0

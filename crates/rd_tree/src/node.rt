@@ -8,6 +8,7 @@ use crate::panes::Panes;
 use crate::placed::{COLUMNS, Placed, rows_for};
 use crate::rect::Rect;
 use crate::side::Side;
+use rd_base::limits::{FRAME_COLUMNS, FRAME_ROWS, WINDOWS};
 use rd_base::{Cell, ListOf, Memory};
 use std::alloc::Global;
 use std::mem;
@@ -50,7 +51,7 @@ fn first_size(side: Side, size: u32, second: &Node, rect: Rect) -> u32
 impl Node {
     /// How many columns its windows need.
     pub(crate) fn columns(&self) -> u32
-        requires { columns_needed (shape self.now) ≤ 400 }
+        requires { columns_needed (shape self.now) ≤ FRAME_COLUMNS }
         ensures { result ≡ columns_needed (shape self.now) }
     {
         match self {
@@ -69,7 +70,7 @@ impl Node {
 
     /// How many rows its windows need.
     pub(crate) fn rows(&self) -> u32
-        requires { rows_needed (shape self.now) ≤ 200 }
+        requires { rows_needed (shape self.now) ≤ FRAME_ROWS }
         ensures { result ≡ rows_needed (shape self.now) }
     {
         match self {
@@ -88,7 +89,7 @@ impl Node {
 
     /// How many windows it has.
     pub(crate) fn count(&self) -> u32
-        requires { length (leaves (shape self.now)) ≤ 64 }
+        requires { length (leaves (shape self.now)) ≤ WINDOWS }
         ensures { result ≡ length (leaves (shape self.now)) }
     {
         match self {
@@ -99,7 +100,7 @@ impl Node {
 
     /// Its window at a place in order, and None past the last.
     pub(crate) fn leaf(&self, i: u32) -> Option<u32>
-        requires { length (leaves (shape self.now)) ≤ 64 }
+        requires { length (leaves (shape self.now)) ≤ WINDOWS }
         ensures { result ≡ slice_get (leaves (shape self.now)) i }
     {
         match self {

@@ -5,12 +5,13 @@ use crate::panes::Panes;
 use crate::placed::Placed;
 use crate::rect::Rect;
 use crate::side::Side;
+use rd_base::limits::{FRAME_COLUMNS, FRAME_ROWS, WINDOWS};
 use rd_base::{Cell, ListOf, Memory};
 use std::alloc::Global;
 use std::marker::Model;
 
 /// The most windows that live at one time.
-const MOST_WINDOWS: u32 = 64;
+const MOST_WINDOWS: u32 = WINDOWS;
 
 /// The windows of a frame. They fill a rectangle of `width` columns and `height` rows, which is the frame's but for its last row,
 /// the echo area: whoever makes or resizes a tree hands in the frame's height less one. A window's number counts from 0 in order
@@ -50,8 +51,8 @@ impl Tree {
     pub fn new(alloc: Global, width: u32, height: u32) -> Result<Tree, Memory>
         requires wide { 11 ≤ width }
         requires high { 1 ≤ height }
-        requires narrow { width ≤ 400 }
-        requires low { height ≤ 200 }
+        requires narrow { width ≤ FRAME_COLUMNS }
+        requires low { height ≤ FRAME_ROWS }
         ensures { IfOk result (λ tree. tree ≡ opening width height) }
     {
         Ok(Tree {
@@ -113,8 +114,8 @@ impl Tree {
     /// across it.
     #[tactic(auto, unfolding(crate::specs::Calls::resize_tree))]
     pub fn resize(&mut self, width: u32, height: u32) -> Result<(), TreeFault>
-        requires narrow { width ≤ 400 }
-        requires low { height ≤ 200 }
+        requires narrow { width ≤ FRAME_COLUMNS }
+        requires low { height ≤ FRAME_ROWS }
         ensures { Answers result (resize_tree self.old width height) self.old self.new }
     {
         if width < self.root.columns() || height < self.root.rows() {

@@ -1,14 +1,11 @@
 -- Pieces of bytes, as the code finds them.
 use Rattle.std.proofs.Common.{◌≡◌, ◌≢◌, ◌==◌, ℕ, zero, suc, ◌+◌, ◌-◌, ◌<◌, ◌≤◌, inl, inr, Bool, true, false, ◌&&◌, if◌then◌else◌, List, [], ◌∷◌, ◌++◌, length, get_or, take, drop, refl, sym, ap, ◌∙◌, arith}
 use Rattle.std.proofs.lemmas.Bool.{cases_lt}
-use Rattle.std.proofs.lemmas.Bool.Decides.{nat_tests}
+use Rattle.std.proofs.lemmas.Bool.Decides.{Decides-eqb, nat_tests}
 use Rattle.std.specs.List.{slice_split, onto_first}
 use Rattle.std.proofs.lemmas.List.{drop-drop, length-drop, get_or-drop, drop_more, drop_all, take_more, length-append}
 use Rattle.std.proofs.lemmas.List.Splits.{slice_split-cons_yes, slice_split-cons_no}
 use Rattle.rd_ucd.specs.Pieces.{chomped, uncommented, is_blank, trimmed_front, trimmed_back}
-
-pub eq_yes : (a b : ℕ) → a ≡ b → (a == b) ≡ true
-eq_yes a b e = grind (arith, nat_tests)
 
 pub eq_no : (a b : ℕ) → a ≢ b → (a == b) ≡ false
 eq_no a b e = grind (arith, nat_tests)
@@ -27,7 +24,7 @@ split_none c (b ∷ bs) none =
 pub split_at_first : (c i : ℕ) (bs : List ℕ) → i < length bs → ((k : ℕ) → k < i → get_or bs k 0 ≢ c) → get_or bs i 0 ≡ c
     → slice_split (λ b. b == c) bs ≡ take i bs ∷ slice_split (λ b. b == c) (drop 1 (drop i bs))
 split_at_first c i [] within none found = absurd (omega arith)
-split_at_first c zero (b ∷ bs) within none found = slice_split-cons_yes (λ x. x == c) b bs (eq_yes b c found)
+split_at_first c zero (b ∷ bs) within none found = slice_split-cons_yes (λ x. x == c) b bs ((Decides-eqb b c).1 found)
 split_at_first c (suc i) (b ∷ bs) within none found =
     slice_split-cons_no (λ x. x == c) b bs (eq_no b c (none 0 (omega arith)))
     ∙ ap (onto_first b) (split_at_first c i bs (omega arith) (λ k less. none (suc k) (omega arith)) found)
@@ -99,7 +96,7 @@ pub uncommented-at : (i : ℕ) (bs : List ℕ) → i ≤ length bs → ((k : ℕ
     → uncommented bs ≡ take i bs
 uncommented-at zero [] within none found = refl
 uncommented-at (suc i) [] within none found = absurd (omega arith)
-uncommented-at zero (b ∷ bs) within none found = ap (λ (v : Bool). if v then [] else b ∷ uncommented bs) (eq_yes b 35 (found (omega arith)))
+uncommented-at zero (b ∷ bs) within none found = ap (λ (v : Bool). if v then [] else b ∷ uncommented bs) ((Decides-eqb b 35).1 (found (omega arith)))
 uncommented-at (suc i) (b ∷ bs) within none found =
     ap (λ (v : Bool). if v then [] else b ∷ uncommented bs) (eq_no b 35 (none 0 (omega arith)))
     ∙ ap (λ (xs : List ℕ). b ∷ xs) (uncommented-at i bs (omega arith) (λ k less. none (suc k) (omega arith)) (λ less. found (omega arith)))

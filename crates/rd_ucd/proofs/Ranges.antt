@@ -1,12 +1,12 @@
 -- Looking a code up in ranges and pairs that ascend.
 use Rattle.std.proofs.Common.{◌≡◌, ℕ, zero, suc, ◌<◌, ◌≤◌, ◌⊎◌, inl, inr, Bool, true, false, ◌&&◌, if◌then◌else◌, List, [], ◌∷◌, length, get_or, None, Some, refl, ap, ◌∙◌, arith}
 use Rattle.std.specs.Prelude.{nat_le, ◌==◌}
-use Rattle.std.proofs.lemmas.Bool.Decides.{nat_tests}
+use Rattle.std.proofs.lemmas.Bool.Decides.{Decides-eqb, nat_tests}
 use Rattle.std.proofs.lemmas.Bool.{cases_eq}
 use Rattle.std.proofs.lemmas.List.{get_or_default}
 use Rattle.rd_base.specs.declared.class.Class.TheVariants.{L}
 use Rattle.rd_ucd.specs.declared.spans.Span.{Span}
-use Rattle.rd_ucd.proofs.Cuts.{eq_yes, eq_no}
+use Rattle.rd_ucd.proofs.Cuts.{eq_no}
 use Rattle.rd_ucd.specs.Lookup.{class_in, entry_in}
 
 outside : (a b c : ℕ) → (b < c) ⊎ (c < a) → (nat_le a c && nat_le c b) ≡ false
@@ -51,7 +51,7 @@ pub entry_in-hit : {E : Type 0} (key : E → ℕ) (es : List E) (code i : ℕ) (
     → ((k : ℕ) (d : E) → k < i → key (get_or es k d) < code) → entry_in key es code ≡ Some (get_or es i d)
 entry_in-hit key [] code i d within is out = absurd (omega arith)
 entry_in-hit key (e ∷ es) code zero d within is out =
-    ap (λ (t : Bool). if t then Some e else entry_in key es code) (eq_yes (key e) code is)
+    ap (λ (t : Bool). if t then Some e else entry_in key es code) ((Decides-eqb (key e) code).1 is)
 entry_in-hit key (e ∷ es) code (suc i) d within is out =
     ap (λ (t : Bool). if t then Some e else entry_in key es code) (other (key e) code (inl (out 0 e (omega arith))))
     ∙ entry_in-hit key es code i d (omega arith) is (λ k f less. out (suc k) f (omega arith))

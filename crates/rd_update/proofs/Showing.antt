@@ -6,6 +6,7 @@ use Rattle.std.proofs.lemmas.Bool.{and_parts}
 use Rattle.std.proofs.lemmas.Bool.Decides.{nat_tests}
 use Rattle.std.proofs.lemmas.List.{get_or_at, set_at, take_at, drop_at, drop-drop, drop-append-le, length-append, length-replicate, length-take-le, length-drop, take_more, drop_more, take-append-drop}
 use Rattle.rd_base.specs.Cells.{single}
+use Rattle.rd_base.proofs.Equals.{glyphs-same}
 use Rattle.rd_base.specs.Chars.{is_scalar, encoded}
 use Rattle.rd_base.specs.Faces.{Attributes}
 use Rattle.rd_base.specs.Glyphs.{is_space, blanks, glyph_cells, IsMeasured, IsGood}
@@ -107,11 +108,6 @@ and-false : (b : Bool) → (b && false) ≡ false
 and-false true = refl
 and-false false = refl
 
-glyphs-same : (a b c d : ℕ) (xs ys : List ℕ) (e f : ℕ) → a ≡ b → xs ≡ ys → c ≡ d → e ≡ f
-    → let x : Glyph = record { base = a; marks = xs; count = c; width = e } in
-    let y : Glyph = record { base = b; marks = ys; count = d; width = f } in x ≡ y
-glyphs-same a b c d xs ys e f p q r s = cc
-
 more-marks : (marks : List ℕ) (k code : ℕ) → length marks ≡ 6 → k < 6 → get_or marks k 0 ≡ code
     → set (take k marks ++ replicate (6 - k) 0) k code ≡ take (suc k) marks ++ replicate (6 - suc k) 0
 more-marks marks k code six lt e =
@@ -129,7 +125,7 @@ grow-chosen : (g : Glyph) (k code : ℕ) (f : Attributes) (b : Bool) → is_spac
 grow-chosen g k code f false e six lt at narrow =
     let less : nat_lt k 6 ≡ true = grind (arith, nat_tests) in
     let next : k + 1 ≡ suc k = omega arith in
-    rw less (ap (λ (x : Glyph). Some (First x f)) (glyphs-same g.base g.base (k + 1) (suc k) (set (take k g.marks ++ replicate (6 - k) 0) k code) (take (suc k) g.marks ++ replicate (6 - suc k) 0) g.width g.width
+    rw less (ap (λ (x : Glyph). Some (First x f)) (glyphs-same g.base (k + 1) g.width g.base (suc k) g.width (set (take k g.marks ++ replicate (6 - k) 0) k code) (take (suc k) g.marks ++ replicate (6 - suc k) 0)
     refl (more-marks g.marks k code six lt at) next refl))
 grow-chosen g k code f true e six lt at narrow =
     let parts = and_parts (g.base == 32) (k == 0) e in
@@ -137,7 +133,7 @@ grow-chosen g k code f true e six lt at narrow =
     let none : k ≡ 0 = grind (arith, nat_tests) in
     let here : get_or g.marks 0 0 ≡ code = ap (λ j. get_or g.marks j 0) (sym none) ∙ at in
     let one : 1 ≡ suc k = ap suc (sym none) in
-    ap (λ (x : Glyph). Some (First x f)) (glyphs-same 32 g.base 1 (suc k) (set (replicate 6 0) 0 code) (take (suc k) g.marks ++ replicate (6 - suc k) 0) 1 g.width
+    ap (λ (x : Glyph). Some (First x f)) (glyphs-same 32 1 1 g.base (suc k) g.width (set (replicate 6 0) 0 code) (take (suc k) g.marks ++ replicate (6 - suc k) 0)
     (sym base) (more-marks g.marks 0 code six (omega arith) here ∙ ap (λ j. take j g.marks ++ replicate (6 - j) 0) one) one (sym (narrow base)))
 
 grow : (g : Glyph) (k code : ℕ) (f : Attributes) → length g.marks ≡ 6 → k < 6 → get_or g.marks k 0 ≡ code → (g.base ≡ 32 → g.width ≡ 1)

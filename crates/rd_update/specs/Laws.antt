@@ -1,5 +1,6 @@
 -- What an update asks of the terminal that reads its bytes, and what it then shows.
 use Rattle.std.specs.Prelude.{◌≡◌, ℕ, ◌<◌, ◌≤◌, true, false, List, length, Option, None, Some, map, slice_index_or}
+use Rattle.rd_base.specs.declared.limits.TheConstants.{FRAME_COLUMNS, FRAME_ROWS}
 use Rattle.rd_base.specs.Faces.{plain}
 use Rattle.rd_base.specs.declared.cell.Cell.{Cell}
 use Rattle.rd_term.specs.Pictures.{Picture, IsGrid, IsOfSize, IsWellFormed}
@@ -26,8 +27,8 @@ pub record IsReady (width height : ℕ) (current : Option Picture) (target : Pic
   pub between : t.reading ≡ Between
   pub rows : length t.rows ≡ height
   pub each : IsGrid width t.rows
-  pub wide : width ≤ 400
-  pub tall : height ≤ 200
+  pub wide : width ≤ FRAME_COLUMNS
+  pub tall : height ≤ FRAME_ROWS
   pub size : IsOfSize width height target
   pub whole : IsWellFormed target
   pub colours : AreColoured target.rows

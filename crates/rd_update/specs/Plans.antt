@@ -1,6 +1,7 @@
 -- What is prepared for an update, so that any number of its rows can be sent.
 use Rattle.std.specs.Prelude.{◌≡◌, ℕ, ◌+◌, ◌<◌, ◌≤◌, nat_lt, Bool, true, false, if◌then◌else◌, List, [], ◌∷◌, length, All, Option, None, Some, slice_index_or}
 use Rattle.std.specs.Borrow.{Bor}
+use Rattle.rd_base.specs.declared.limits.TheConstants.{FRAME_ROWS}
 use Rattle.rd_base.specs.declared.cell.Cell.{Cell}
 use Rattle.rd_term.specs.Pictures.{Picture, width_of, row_at}
 use Rattle.rd_update.specs.Updates.{differs, row_bytes, start, opening, Update, update}
@@ -51,7 +52,7 @@ IsRowOf (Some current) width row = (row < length current.rows) × (width_of curr
 
 -- at most 200 parts, each of which begins within the bytes
 pub record ArePartsOf (bytes : List ℕ) (parts : List Part) : Type 0 where
-  pub few : length parts ≤ 200
+  pub few : length parts ≤ FRAME_ROWS
   pub each : All (λ part. part.start ≤ length bytes) parts
 
 abbrev pub no_part : Part

@@ -9,6 +9,7 @@ ghost use Rattle.rd_update.specs.Plans.{Prepared, planned, shown, HaveOneSize, s
 
 use crate::bytes::{push_move, push_row};
 use crate::span::{Room, differences, end_of_differences};
+use rd_base::limits::{FRAME_COLUMNS, FRAME_ROWS};
 use rd_base::{Cell, Face, ListOf, Memory, good_cells_are_small};
 use rd_io::{Sink, write_whole};
 use rd_term::Screen;
@@ -155,7 +156,7 @@ fn opening(alloc: Global, current: Option<&Screen>) -> Result<ListOf<u8>, Memory
 /// So many of 400 blank cells.
 fn first(blanks: &[Cell], width: u32) -> &[Cell]
     requires blanks { blanks.now ≡ blank_row 400 }
-    requires width { width ≤ 400 }
+    requires width { width ≤ FRAME_COLUMNS }
     ensures { result.now ≡ blank_row width }
 {
     &blanks[..width as usize]
@@ -166,7 +167,7 @@ fn cells_of(screen: &Screen, row: u32) -> &[Cell]
     requires { row < length screen.now.rows }
     ensures cells { result.now ≡ row_at screen.now.rows row }
     ensures width { length result.now ≡ width_of screen.now.rows }
-    ensures narrow { width_of screen.now.rows ≤ 400 }
+    ensures narrow { width_of screen.now.rows ≤ FRAME_COLUMNS }
 {
     let width = screen.width() as usize;
     &screen.row(row)[..width]
@@ -178,7 +179,7 @@ fn sound_cells_of(screen: &Screen, row: u32) -> &[Cell]
     requires sound { IsSound screen.now }
     ensures cells { result.now ≡ row_at screen.now.rows row }
     ensures width { length result.now ≡ width_of screen.now.rows }
-    ensures narrow { width_of screen.now.rows ≤ 400 }
+    ensures narrow { width_of screen.now.rows ≤ FRAME_COLUMNS }
     ensures small { All IsSmall result.now }
 {
     good_cells_are_small();
@@ -211,7 +212,7 @@ fn push_part(
     blank: &[Cell],
 ) -> Result<(), Memory>
     requires row { row < 65535 }
-    requires width { length new.now ≤ 400 }
+    requires width { length new.now ≤ FRAME_COLUMNS }
     requires length { length old.now ≡ length new.now }
     requires blank { blank.now ≡ blank_row (length new.now) }
     requires old { All IsSmall old.now }
@@ -244,7 +245,7 @@ fn push_parts(
     requires target { IsSound target.now }
     ensures bytes { OnOk result (bytes.new ≡ bytes.old ++ rows_bytes 0 None (start (shown current.entry) target.now).rows target.now.rows) }
     ensures parts { OnOk result (parts.new ≡ parts.old ++ parts_from 0 (length bytes.old) (start (shown current.entry) target.now).rows target.now.rows) }
-    ensures few { length target.now.rows ≤ 200 }
+    ensures few { length target.now.rows ≤ FRAME_ROWS }
 {
     let _width = target.width();
     let mut room = Room::new();

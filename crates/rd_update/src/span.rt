@@ -6,6 +6,7 @@ ghost use Rattle.rd_update.specs.Updates.{first_difference as first_column, end_
 ghost use Rattle.rd_update.specs.Words.{differing_columns};
 
 use crate::words::RowWords;
+use rd_base::limits::FRAME_COLUMNS;
 use rd_base::{Cell, Face};
 use rd_lanes::{first_diff, last_diff};
 
@@ -46,7 +47,7 @@ pub(crate) fn is_face(a: Face, b: Face) -> bool
 /// The columns from the first to the last one at which two rows of one width differ. None exactly where they do not.
 pub(crate) fn differences(room: &mut Room, old: &[Cell], new: &[Cell]) -> Option<Columns>
     requires length { length old.now ≡ length new.now }
-    requires narrow { length new.now ≤ 400 }
+    requires narrow { length new.now ≤ FRAME_COLUMNS }
     requires old { All IsSmall old.now }
     requires new { All IsSmall new.now }
     ensures { result ≡ differing_columns old.now new.now }
@@ -66,7 +67,7 @@ pub(crate) fn differences(room: &mut Room, old: &[Cell], new: &[Cell]) -> Option
 /// The column after the last one at which two rows of one width differ, and 0 where they do not.
 pub(crate) fn end_of_differences(room: &mut Room, old: &[Cell], new: &[Cell]) -> usize
     requires length { length old.now ≡ length new.now }
-    requires narrow { length new.now ≤ 400 }
+    requires narrow { length new.now ≤ FRAME_COLUMNS }
     requires old { All IsSmall old.now }
     requires new { All IsSmall new.now }
     ensures { result ≡ end_column old.now new.now }

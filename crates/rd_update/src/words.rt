@@ -3,6 +3,7 @@ ghost use Rattle.std.specs.Prelude.{◌≡◌, ◌<◌, ◌≤◌, [], ◌∷◌
 ghost use Rattle.rd_update.specs.Words.{row_words, AreTold};
 
 use rd_base::Cell;
+use rd_base::limits::FRAME_COLUMNS;
 use std::marker::Model;
 
 /// Room for the words of up to 400 cells.
@@ -35,7 +36,7 @@ impl RowWords {
 
     /// Becomes the words of these cells.
     pub(crate) fn read(&mut self, cells: &[Cell])
-        requires { length cells.now ≤ 400 }
+        requires { length cells.now ≤ FRAME_COLUMNS }
         ensures words { self.new ≡ row_words cells.now }
         ensures told { AreTold cells.now }
     {

@@ -6,7 +6,7 @@ use Rattle.rd_objects.proofs.objects.Objects.add_face.Goals as goal
 pub returns-clause-sound : goal.returns-clause-sound
 returns-clause-sound c =
     rw (← c.self.view_is, c.in_ok-push.ensures.ok)
-    (face_keeps (the_view c.self.inside) c.args.face c.keeps_colours.ensures (has_room _ _ (omega (arith, c.len.ensures, c.if-len-ge-MOST_FACES.false))))
+    (face_keeps (the_view c.self.inside) c.args.face c.keeps_colours.ensures (has_room _ _ (omega (arith, c.len.ensures, c.if-len.false))))
 
 pub returns-clause-extends : goal.returns-clause-extends
 returns-clause-extends c = rw (← c.self.view_is, c.in_ok-push.ensures.ok) (face_extends (the_view c.self.inside) c.args.face)

@@ -8,14 +8,14 @@ returns-clause-sound c =
     let made = sym (rw (c.len.ensures, c.len-2.ensures) at c.are_made.ensures) ∙ c.if-not-are_made.false in
     let inside = sym c.are_inside.ensures ∙ c.if-not-are_inside.false in
     rw (← c.self.view_is, c.in_ok-push.ensures.ok, c.in_ok-text.ensures, c.as_slice.ensures)
-    (λ codes. string_keeps (the_view c.self.inside) c.args.text.now c.args.runs.now codes (string_made (the_view c.self.inside) c.args.text.now c.args.runs.now made inside (omega (arith, c.if-text-gt-LONGEST.false)) (omega (arith, c.len-3.ensures, c.if-len-ge-MOST.false))))
+    (λ codes. string_keeps (the_view c.self.inside) c.args.text.now c.args.runs.now codes (string_made (the_view c.self.inside) c.args.text.now c.args.runs.now made inside (omega (arith, c.if-text-gt-LONGEST.false)) (omega (arith, c.len-3.ensures, c.if-len.false))))
 
 pub returns-clause-closed : goal.returns-clause-closed
 returns-clause-closed c =
     let made = sym (rw (c.len.ensures, c.len-2.ensures) at c.are_made.ensures) ∙ c.if-not-are_made.false in
     let inside = sym c.are_inside.ensures ∙ c.if-not-are_inside.false in
     rw (← c.self.view_is, c.in_ok-push.ensures.ok, c.in_ok-text.ensures, c.as_slice.ensures)
-    (string_closed (the_view c.self.inside) c.args.text.now c.args.runs.now (string_made (the_view c.self.inside) c.args.text.now c.args.runs.now made inside (omega (arith, c.if-text-gt-LONGEST.false)) (omega (arith, c.len-3.ensures, c.if-len-ge-MOST.false))))
+    (string_closed (the_view c.self.inside) c.args.text.now c.args.runs.now (string_made (the_view c.self.inside) c.args.text.now c.args.runs.now made inside (omega (arith, c.if-text-gt-LONGEST.false)) (omega (arith, c.len-3.ensures, c.if-len.false))))
 
 pub returns-clause-extends : goal.returns-clause-extends
 returns-clause-extends c =

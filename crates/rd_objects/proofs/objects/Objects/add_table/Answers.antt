@@ -6,7 +6,7 @@ use Rattle.rd_objects.proofs.objects.Objects.add_table.Goals as goal
 pub returns-clause-sound : goal.returns-clause-sound
 returns-clause-sound c =
     rw (← c.self.view_is, c.in_ok-push.ensures.ok)
-    (table_keeps (the_view c.self.inside) c.args.table c.stays_valid.ensures (has_room _ _ (omega (arith, c.len.ensures, c.if-len-ge-MOST_TABLES.false))))
+    (table_keeps (the_view c.self.inside) c.args.table c.stays_valid.ensures (has_room _ _ (omega (arith, c.len.ensures, c.if-len.false))))
 
 pub returns-clause-extends : goal.returns-clause-extends
 returns-clause-extends c = rw (← c.self.view_is, c.in_ok-push.ensures.ok) (table_extends (the_view c.self.inside) c.args.table)
