@@ -1,4 +1,5 @@
 mod Columns
+mod Holding
 mod Measures
 mod Short
 mod Sums

@@ -6,7 +6,8 @@ use Rattle.rd_ucd.specs.declared.spans.Span.{Span}
 use Rattle.rd_ucd.specs.Lookup.{class_of}
 use Rattle.rd_glyphs.specs.declared.shown.Shown.{Shown}
 use Rattle.rd_glyphs.specs.Characters.{shown_as}
-use Rattle.rd_glyphs.specs.Lines.{columns_of_looks, given, held_after, looks_from}
+use Rattle.rd_glyphs.specs.Held.{given, held_after, looks_from}
+use Rattle.rd_glyphs.specs.Lines.{columns_of_looks}
 
 columns_append : (xs ys : List Look) → columns_of_looks (xs ++ ys) ≡ columns_of_looks xs + columns_of_looks ys
 columns_append [] ys = omega arith

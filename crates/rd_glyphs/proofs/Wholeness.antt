@@ -19,7 +19,10 @@ use Rattle.rd_ucd.specs.Lookup.{class_of}
 use Rattle.rd_glyphs.specs.declared.shown.Shown.{Shown}
 use Rattle.rd_glyphs.specs.declared.shown.Shown.TheVariants.{Caret, Octal, Space, Mark, Itself}
 use Rattle.rd_glyphs.specs.Characters.{shown_as, looks_of, look_columns, on_blank}
-use Rattle.rd_glyphs.specs.Lines.{with_mark, held_looks, has_room, given, joined, held_after, looks_from, cells_of, fitted, plain_cells}
+use Rattle.rd_glyphs.specs.Joining.{with_mark}
+use Rattle.rd_glyphs.specs.Held.{held_looks, has_room, given, joined_held, held_after, looks_from}
+use Rattle.rd_glyphs.specs.Lines.{plain_looks, cells_of, fitted, plain_cells}
+use Rattle.rd_glyphs.proofs.Holding.{read_whole}
 use Rattle.rd_glyphs.proofs.Measures.{ShowsMeasured, printable-measured, single-measured, on_blank-measured, shown_as-measured, looks-measured}
 
 -- ---- cells
@@ -94,7 +97,7 @@ marked-measured g code is room scalar none = record {
       let other : k ≢ g.count = omega arith in
       get_or-set_other g.marks g.count k code 0 other ∙ is.rest k (omega arith) q
 
-joined-measured : (held : Option Glyph) (code : ℕ) → HoldsMeasured held → IsTrue (is_scalar code) → char_width false code ≡ Some 0 → IsMeasured (joined held code)
+joined-measured : (held : Option Glyph) (code : ℕ) → HoldsMeasured held → IsTrue (is_scalar code) → char_width false code ≡ Some 0 → IsMeasured (joined_held held code)
 joined-measured None code is scalar none = on_blank-measured code scalar none
 joined-measured (Some g) code is scalar none = by-room (nat_lt g.count 6) refl where
   by-room : (room : Bool) → nat_lt g.count 6 ≡ room → IsMeasured (if room then with_mark g code else on_blank code)
@@ -140,6 +143,6 @@ looks_from-measured classes held (c ∷ cs) h codes =
 -- each glyph of a plain line stands whole
 pub plain-whole : (classes : List Span) (face : Attributes) (width : ℕ) (text : List ℕ) → All (λ c. IsTrue (is_code c)) text → IsRowAfter 0 (plain_cells classes face width text)
 plain-whole classes face width text codes =
-    fitted-whole face width (looks_from classes None text)
-    (recursion_from_All IsMeasuredLook (looks_from classes None text)
-    (looks_from-measured classes None text tt (recursion_from_All (λ (c : ℕ). IsTrue (is_code c)) text codes)))
+    fitted-whole face width (plain_looks classes text)
+    (recursion_from_All IsMeasuredLook (plain_looks classes text)
+    (rw (sym (read_whole classes text)) (looks_from-measured classes None text tt (recursion_from_All (λ (c : ℕ). IsTrue (is_code c)) text codes))))

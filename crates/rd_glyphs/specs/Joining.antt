@@ -1,5 +1,5 @@
 -- How characters stand towards marks.
-use Rattle.std.specs.Prelude.{◌≡◌, ℕ, nat_lt, Bool, true, false, IsTrue, if◌then◌else◌, List, [], ◌∷◌, Option, None, Some}
+use Rattle.std.specs.Prelude.{◌≡◌, ℕ, ◌+◌, nat_lt, Bool, true, false, IsTrue, if◌then◌else◌, List, [], ◌∷◌, slice_set, Option, None, Some}
 use Rattle.unicode_width.specs.Width.{char_width}
 use Rattle.rd_base.specs.Chars.{is_scalar}
 use Rattle.rd_base.specs.Cells.{single}
@@ -10,8 +10,7 @@ use Rattle.rd_glyphs.specs.declared.joining.Joining.{Joining}
 use Rattle.rd_glyphs.specs.declared.joining.Joining.TheVariants as joining
 use Rattle.rd_glyphs.specs.declared.shown.Shown.{Shown}
 use Rattle.rd_glyphs.specs.declared.shown.Shown.TheVariants.{Mark, Itself}
-use Rattle.rd_glyphs.specs.Characters.{PartValues, shown_as, entry_of}
-use Rattle.rd_glyphs.specs.Lines.{with_mark}
+use Rattle.rd_glyphs.specs.Characters.{PartValues, shown_as, entry_of, on_blank}
 
 -- an entry that shows nothing
 abbrev pub is_empty_entry : Option (List Glyph) → Bool
@@ -29,6 +28,21 @@ joining_by None shown = joining.Alone
 -- how a character stands towards marks
 abbrev pub joining_of : PartValues → ℕ → Joining
 joining_of parts ch = joining_by (entry_of parts.table ch) (shown_as parts.settings.ctl_arrow (class_of parts.classes ch) ch)
+
+-- the glyph that marks may join: the character, or the blank that it stands on as a mark
+abbrev pub base_of : Joining → Option Glyph
+base_of (joining.Base g) = Some g
+base_of (joining.Mark code) = Some (on_blank code)
+base_of j = None
+
+-- the mark that a character is
+abbrev pub mark_of : Joining → Option ℕ
+mark_of (joining.Mark code) = Some code
+mark_of j = None
+
+-- a glyph with one more mark
+abbrev pub with_mark : Glyph → ℕ → Glyph
+with_mark g code = record g { marks = slice_set g.marks g.count code; count = g.count + 1 }
 
 -- the glyph with one more mark, unless it has six
 abbrev pub joined_glyph : Glyph → ℕ → Option Glyph

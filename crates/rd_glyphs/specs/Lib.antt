@@ -1,4 +1,5 @@
 pub mod Characters
-pub mod Lines
-pub mod Marks
 pub mod Joining
+pub mod Marks
+pub mod Lines
+pub mod Held

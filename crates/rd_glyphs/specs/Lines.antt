@@ -1,63 +1,52 @@
 -- A plain line of text, such as a mode line.
-use Rattle.std.specs.Prelude.{ℕ, ◌+◌, ◌-◌, ◌≤◌, nat_le, nat_lt, Bool, true, false, if◌then◌else◌, List, [], ◌∷◌, ◌++◌, slice_set, Option, None, Some}
+use Rattle.std.specs.Prelude.{ℕ, ◌+◌, ◌-◌, nat_le, true, if◌then◌else◌, List, [], ◌∷◌, ◌++◌, map, None}
+use Rattle.std.specs.List.{flat_map}
 use Rattle.rd_base.specs.Faces.{Attributes}
 use Rattle.rd_base.specs.Cells.{single}
 use Rattle.rd_base.specs.Glyphs.{blanks, glyph_cells}
-use Rattle.rd_base.specs.declared.cell.Glyph.{Glyph}
 use Rattle.rd_base.specs.declared.cell.Cell.{Cell}
 use Rattle.rd_base.specs.declared.element.Look.{Look}
 use Rattle.rd_base.specs.declared.element.Look.TheVariants as look
 use Rattle.rd_ucd.specs.declared.spans.Span.{Span}
 use Rattle.rd_ucd.specs.Lookup.{class_of}
+use Rattle.rd_glyphs.specs.declared.joining.Joining.{Joining}
+use Rattle.rd_glyphs.specs.declared.joining.Joining.TheVariants.{Base}
 use Rattle.rd_glyphs.specs.declared.shown.Shown.{Shown}
-use Rattle.rd_glyphs.specs.declared.shown.Shown.TheVariants.{Mark, Itself}
-use Rattle.rd_glyphs.specs.Characters.{shown_as, looks_of, look_columns, on_blank}
+use Rattle.rd_glyphs.specs.Characters.{shown_as, looks_of, look_columns}
+use Rattle.rd_glyphs.specs.Joining.{joining_by, base_of, mark_of}
+use Rattle.rd_glyphs.specs.Marks.{Joins, joined}
 
--- a glyph with one more mark
-abbrev pub with_mark : Glyph → ℕ → Glyph
-with_mark g code = record g { marks = slice_set g.marks g.count code; count = g.count + 1 }
+-- a part of a plain line: what is put for it, and how it stands towards marks
+pub record PlainPart : Type 0 where
+  pub looks : List Look
+  pub joining : Joining
 
--- the look of a glyph that is held
-abbrev pub held_looks : Option Glyph → List Look
-held_looks None = []
-held_looks (Some g) = look.Glyph g ∷ []
+-- what is put for a character that is shown so, with a backslash for escapes and a circumflex for controls
+abbrev pub part_of : Shown → PlainPart
+part_of s = record { looks = looks_of (single 92 1) (single 94 1) s; joining = joining_by None s }
 
--- whether a glyph is held that a mark may join: one that has fewer than six
-abbrev pub has_room : Option Glyph → Bool
-has_room None = false
-has_room (Some g) = nat_lt g.count 6
+-- a character: no table shows it, and a control character is a circumflex and a letter
+abbrev pub plain_part : List Span → ℕ → PlainPart
+plain_part classes c = part_of (shown_as true (class_of classes c) c)
 
--- a glyph that is held takes 1 to 3 columns
-abbrev pub HoldsColumns : Option Glyph → Type 0
-HoldsColumns None = Unit {0}
-HoldsColumns (Some g) = (1 ≤ g.width) × (g.width ≤ 3)
+-- a part that a mark joins becomes the longer glyph
+abbrev pub plain_joins : Joins PlainPart
+plain_joins = record {
+  base = λ part. base_of part.joining;
+  mark = λ part. mark_of part.joining;
+  grown = λ held glyph next. record { looks = look.Glyph glyph ∷ []; joining = Base glyph };
+}
 
--- what comes out when a character is read behind a glyph that is held for its marks: nothing where the character joins it
-abbrev pub given : Option Glyph → Shown → List Look
-given held (Mark code) = if has_room held then [] else held_looks held
-given held (Itself code width) = held_looks held
-given held s = held_looks held ++ looks_of (single 92 1) (single 94 1) s
+abbrev pub part_looks : PlainPart → List Look
+part_looks part = part.looks
 
--- the glyph that takes a mark: the one that is held, or where that has six a blank
-abbrev pub joined_to : Glyph → ℕ → Glyph
-joined_to g code = if nat_lt g.count 6 then with_mark g code else on_blank code
+-- what is put for parts whose marks have joined
+abbrev pub looks_of_parts : List PlainPart → List Look
+looks_of_parts parts = flat_map part_looks parts
 
-abbrev pub joined : Option Glyph → ℕ → Glyph
-joined None code = on_blank code
-joined (Some g) code = joined_to g code
-
--- the glyph that is held then; behind a control, an escape or a blank of its own nothing is held
-abbrev pub held_after : Option Glyph → Shown → Option Glyph
-held_after held (Mark code) = Some (joined held code)
-held_after held (Itself code width) = Some (single code width)
-held_after held s = None
-
--- what is put for a text, behind a glyph that is held
-abbrev pub looks_from : List Span → Option Glyph → List ℕ → List Look
-looks_from classes held [] = held_looks held
-looks_from classes held (c ∷ cs) =
-    let s = shown_as true (class_of classes c) c in
-    given held s ++ looks_from classes (held_after held s) cs
+-- what is put for a text
+abbrev pub plain_looks : List Span → List ℕ → List Look
+plain_looks classes text = looks_of_parts (joined plain_joins (map (plain_part classes) text))
 
 -- the cells of a look
 abbrev pub cells_of : Attributes → Look → List Cell
@@ -74,7 +63,7 @@ fitted face room (l ∷ ls) =
 
 -- the cells of a plain line
 abbrev pub plain_cells : List Span → Attributes → ℕ → List ℕ → List Cell
-plain_cells classes face width text = fitted face width (looks_from classes None text)
+plain_cells classes face width text = fitted face width (plain_looks classes text)
 
 -- the columns of looks
 abbrev pub columns_of_looks : List Look → ℕ
@@ -83,8 +72,4 @@ columns_of_looks (l ∷ ls) = look_columns l + columns_of_looks ls
 
 -- how many columns a text takes as a plain line that is not cut
 abbrev pub plain_columns : List Span → List ℕ → ℕ
-plain_columns classes text = columns_of_looks (looks_from classes None text)
-
--- the columns of a glyph that is held
-abbrev pub held_columns : Option Glyph → ℕ
-held_columns held = columns_of_looks (held_looks held)
+plain_columns classes text = columns_of_looks (plain_looks classes text)

@@ -1,7 +1,8 @@
 //! How many columns a plain line takes.
 ghost use Rattle.std.specs.Prelude.{◌≡◌, ◌≤◌, ◌+◌, min, if◌then◌else◌, []};
 ghost use Rattle.rd_glyphs.specs.Characters.{ShowsColumns};
-ghost use Rattle.rd_glyphs.specs.Lines.{HoldsColumns, columns_of_looks, has_room, held_looks, held_columns, given, plain_columns};
+ghost use Rattle.rd_glyphs.specs.Held.{HoldsColumns, has_room, held_looks, held_columns, given};
+ghost use Rattle.rd_glyphs.specs.Lines.{columns_of_looks, plain_columns};
 
 use crate::plain::{has_room, held_after};
 use crate::shown::{Shown, shown_as};
@@ -10,6 +11,7 @@ use rd_ucd::Classes;
 
 /// How many columns a text takes as a plain line that is not cut, counted up to `most`. It takes no memory.
 /// It costs the text's length, up to `most` columns, times the logarithm of that of the data.
+#[tactic(auto, using(crate::proofs::Holding::read_whole))]
 pub fn plain_columns(text: &[Ch], classes: &Classes, most: u32) -> u32
     ensures { result ≡ min (plain_columns classes.now text.now) most }
 {

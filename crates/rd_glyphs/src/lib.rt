@@ -2,6 +2,7 @@
 #![tactic(auto)]
 
 mod counting;
+mod examples;
 mod joining;
 mod looks;
 mod parts;

@@ -4,7 +4,8 @@ ghost use Rattle.rd_base.specs.Chars.{is_code};
 ghost use Rattle.rd_base.specs.Cells.{single};
 ghost use Rattle.rd_base.specs.Glyphs.{glyph_cells, IsRowAfter};
 ghost use Rattle.rd_glyphs.specs.Characters.{looks_of, look_columns, TakesColumns, ShowsColumns};
-ghost use Rattle.rd_glyphs.specs.Lines.{HoldsColumns, has_room, joined, joined_to, held_looks, given, held_after, looks_from, cells_of, fitted, plain_cells};
+ghost use Rattle.rd_glyphs.specs.Held.{HoldsColumns, has_room, joined_held, joined_to, held_looks, given, held_after};
+ghost use Rattle.rd_glyphs.specs.Lines.{plain_looks, cells_of, fitted, plain_cells};
 
 use crate::joining::join;
 use crate::looks::{look_columns, looks_of, on_blank};
@@ -35,8 +36,9 @@ pub fn plain_line(
 }
 
 /// What is put for a text, with marks joined.
+#[tactic(auto, using(crate::proofs::Holding::read_whole))]
 fn looks_of_text(alloc: Global, text: &[Ch], classes: &Classes) -> Result<ListOf<Look>, Memory>
-    ensures value { IfOk result (λ looks. looks ≡ looks_from classes.now None text.now) }
+    ensures value { IfOk result (λ looks. looks ≡ plain_looks classes.now text.now) }
     ensures columns { IfOk result (λ looks. All TakesColumns looks) }
     ensures codes { IfOk result (λ looks. All (λ c. IsTrue (is_code c)) text.now) }
 {
@@ -122,7 +124,7 @@ pub(crate) fn held_after(held: Option<Glyph>, shown: Shown) -> Option<Glyph>
 
 /// The glyph with one more mark, where a mark may join one, and else the mark on a blank.
 fn joined(held: Option<Glyph>, code: u32) -> Glyph
-    ensures value { result ≡ joined held code }
+    ensures value { result ≡ joined_held held code }
     ensures columns { HoldsColumns held → (1 ≤ result.width) × (result.width ≤ 3) }
 {
     match held {

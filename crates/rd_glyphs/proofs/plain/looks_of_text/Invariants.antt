@@ -1,12 +1,13 @@
-use Rattle.std.proofs.Common.{◌≡◌, ℕ, ◌++◌, take, drop, All, IsTrue, None}
+use Rattle.std.proofs.Common.{◌≡◌, ℕ, ◌++◌, take, drop, All, IsTrue}
 use Rattle.rd_base.specs.Chars.{is_code}
 use Rattle.rd_glyphs.specs.Characters.{TakesColumns}
-use Rattle.rd_glyphs.specs.Lines.{HoldsColumns, looks_from}
+use Rattle.rd_glyphs.specs.Held.{HoldsColumns, looks_from}
+use Rattle.rd_glyphs.specs.Lines.{plain_looks}
 use Rattle.rd_glyphs.proofs.plain.looks_of_text.Given as goal
 
 abbrev pub invariant-loop-ch : goal.invariant-loop-ch
 invariant-loop-ch l = record {
-  whole : l.looks ++ looks_from l.classes l.held (drop l.ch-index l.text) ≡ looks_from l.classes None l.text;
+  whole : l.looks ++ looks_from l.classes l.held (drop l.ch-index l.text) ≡ plain_looks l.classes l.text;
   columns : All TakesColumns l.looks;
   held : HoldsColumns l.held;
   codes : All (λ (c : ℕ). IsTrue (is_code c)) (take l.ch-index l.text);

@@ -1,8 +1,8 @@
-use Rattle.std.proofs.Common.{◌≡◌, List, None, IfOk, Result, Ok, Err}
+use Rattle.std.proofs.Common.{◌≡◌, List, IfOk, Result, Ok, Err}
 use Rattle.rd_base.specs.declared.cell.Cell.{Cell}
 use Rattle.rd_base.specs.declared.memory.Memory.{Memory}
 use Rattle.rd_base.specs.Glyphs.{IsRowAfter}
-use Rattle.rd_glyphs.specs.Lines.{fitted, looks_from}
+use Rattle.rd_glyphs.specs.Lines.{fitted, plain_looks}
 use Rattle.rd_glyphs.proofs.Wholeness.{plain-whole}
 use Rattle.rd_glyphs.proofs.plain.plain_line.Goals as goal
 
@@ -12,6 +12,6 @@ whole-result (Err stop) cells same row = tt
 
 pub returns-clause-whole : goal.returns-clause-whole
 returns-clause-whole c =
-    let looks : c.as_slice.result.now ≡ looks_from c.args.classes.now None c.args.text.now = cc c.in_ok-looks.ensures.value in
+    let looks : c.as_slice.result.now ≡ plain_looks c.args.classes.now c.args.text.now = cc c.in_ok-looks.ensures.value in
     whole-result c.fit.result (fitted c.args.face c.args.width c.as_slice.result.now) c.fit.ensures.value
     (rw looks (plain-whole c.args.classes.now c.args.face c.args.width c.args.text.now c.in_ok-looks.ensures.codes))
