@@ -1,5 +1,7 @@
 mod Columns
+mod Elements
 mod Holding
+mod Joined
 mod Measures
 mod Short
 mod Sums

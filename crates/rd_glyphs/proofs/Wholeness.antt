@@ -1,29 +1,34 @@
--- The cells of a plain line stand whole.
-use Rattle.std.proofs.Common.{◌≡◌, ℕ, ◌+◌, ◌-◌, ◌<◌, ◌≤◌, ◌≢◌, Bool, true, false, IsTrue, List, [], ◌∷◌, ◌++◌, length, get_or, set, replicate, Option, Some, None, All, refl, sym, ◌∙◌, arith, length-set, get_or-set_same, get_or-set_other}
+-- The cells of a plain line stand whole, and there are as many as it has columns.
+use Rattle.std.proofs.Common.{◌≡◌, ℕ, ◌+◌, ◌-◌, ◌<◌, ◌≤◌, ◌≢◌, Bool, true, false, IsTrue, List, [], ◌∷◌, ◌++◌, length, length-append, map, get_or, set, replicate, Option, Some, None, IfSome, All, refl, sym, subst, ◌∙◌, arith, length-set, get_or-set_same, get_or-set_other}
 use Rattle.std.specs.Prelude.{zero, suc, nat_lt, nat_le, if◌then◌else◌}
 use Rattle.std.specs.List.{AllByRecursion}
 use Rattle.std.proofs.lemmas.Bool.Decides.{nat_tests}
-use Rattle.std.proofs.lemmas.List.Elements.{All-append, All-nil, All-cons, recursion_from_All}
+use Rattle.std.proofs.lemmas.List.{length-replicate}
+use Rattle.std.proofs.lemmas.List.Elements.{All-append, All-nil, All-cons, All-replicate, All-from_recursion, recursion_from_All}
 use Rattle.unicode_width.specs.Width.{char_width}
 use Rattle.rd_base.specs.Chars.{is_scalar, is_code}
-use Rattle.rd_base.specs.Cells.{single}
+use Rattle.rd_base.specs.Cells.{single, HasColours, IsColoured}
 use Rattle.rd_base.specs.Faces.{Attributes}
 use Rattle.rd_base.specs.Glyphs.{is_space, blanks, IsMeasured, IsMeasuredLook, IsRowAfter}
 use Rattle.rd_base.specs.declared.cell.Glyph.{Glyph}
 use Rattle.rd_base.specs.declared.cell.Cell.{Cell}
-use Rattle.rd_base.specs.declared.cell.Cell.TheVariants.{First, Rest}
+use Rattle.rd_base.specs.declared.cell.Cell.TheVariants.{Blank, First, Rest}
 use Rattle.rd_base.specs.declared.element.Look.{Look}
 use Rattle.rd_base.specs.declared.element.Look.TheVariants as look
 use Rattle.rd_ucd.specs.declared.spans.Span.{Span}
 use Rattle.rd_ucd.specs.Lookup.{class_of}
+use Rattle.rd_glyphs.specs.declared.joining.Joining.{Joining}
+use Rattle.rd_glyphs.specs.declared.joining.Joining.TheVariants as joining
 use Rattle.rd_glyphs.specs.declared.shown.Shown.{Shown}
 use Rattle.rd_glyphs.specs.declared.shown.Shown.TheVariants.{Caret, Octal, Space, Mark, Itself}
-use Rattle.rd_glyphs.specs.Characters.{shown_as, looks_of, look_columns, on_blank}
-use Rattle.rd_glyphs.specs.Joining.{with_mark}
-use Rattle.rd_glyphs.specs.Held.{held_looks, has_room, given, joined_held, held_after, looks_from}
-use Rattle.rd_glyphs.specs.Lines.{plain_looks, cells_of, fitted, plain_cells}
-use Rattle.rd_glyphs.proofs.Holding.{read_whole}
-use Rattle.rd_glyphs.proofs.Measures.{ShowsMeasured, printable-measured, single-measured, on_blank-measured, shown_as-measured, looks-measured}
+use Rattle.rd_glyphs.specs.Characters.{PartValues, TakesColumns, ShowsColumns, shown_as, look_columns, entry_of}
+use Rattle.rd_glyphs.specs.Joining.{joining_by, joining_of, base_of, mark_of, with_mark, joined_glyph, IsMark, IsMeasuredJoining}
+use Rattle.rd_glyphs.specs.Marks.{marked_glyph, joined}
+use Rattle.rd_glyphs.specs.Lines.{PlainPart, part_of, plain_part, plain_joins, looks_of_parts, plain_looks, cells_of, fitted, plain_cells}
+use Rattle.rd_glyphs.proofs.Columns.{cell_count}
+use Rattle.rd_glyphs.proofs.Elements.{shown_as-columns, looks-columns}
+use Rattle.rd_glyphs.proofs.Joined.{Grows, joined-all}
+use Rattle.rd_glyphs.proofs.Measures.{ShowsMeasured, printable-measured, on_blank-measured, shown_as-measured, looks-measured, joining-measured}
 
 -- ---- cells
 
@@ -61,10 +66,6 @@ fitted-whole face room (l ∷ ls) each =
 
 -- ---- looks
 
-abbrev HoldsMeasured : Option Glyph → Type 0
-HoldsMeasured None = Unit {0}
-HoldsMeasured (Some g) = IsMeasured g
-
 -- a measured glyph takes one more mark
 pub marked-measured : (g : Glyph) (code : ℕ) → IsMeasured g → g.count < 6 → IsTrue (is_scalar code) → char_width false code ≡ Some 0 → IsMeasured (with_mark g code)
 marked-measured g code is room scalar none = record {
@@ -97,52 +98,153 @@ marked-measured g code is room scalar none = record {
       let other : k ≢ g.count = omega arith in
       get_or-set_other g.marks g.count k code 0 other ∙ is.rest k (omega arith) q
 
-joined-measured : (held : Option Glyph) (code : ℕ) → HoldsMeasured held → IsTrue (is_scalar code) → char_width false code ≡ Some 0 → IsMeasured (joined_held held code)
-joined-measured None code is scalar none = on_blank-measured code scalar none
-joined-measured (Some g) code is scalar none = by-room (nat_lt g.count 6) refl where
-  by-room : (room : Bool) → nat_lt g.count 6 ≡ room → IsMeasured (if room then with_mark g code else on_blank code)
-  by-room true e = marked-measured g code is (grind (arith, nat_tests)) scalar none
-  by-room false e = on_blank-measured code scalar none
+-- and one that a mark joins
+pub joined_glyph-measured : (g : Glyph) (code : ℕ) → IsMeasured g → IsMark code → IfSome (joined_glyph g code) (λ joined. IsMeasured joined)
+joined_glyph-measured g code is mark = by-room (nat_lt g.count 6) refl where
+  by-room : (room : Bool) → nat_lt g.count 6 ≡ room → IfSome (if room then Some (with_mark g code) else None) (λ joined. IsMeasured joined)
+  by-room true e = marked-measured g code is (grind (arith, nat_tests)) mark.0 mark.1
+  by-room false e = tt
 
-held-measured : (held : Option Glyph) → HoldsMeasured held → All IsMeasuredLook (held_looks held)
-held-measured None is = All-nil IsMeasuredLook
-held-measured (Some g) is = All-cons IsMeasuredLook (look.Glyph g) [] is (All-nil IsMeasuredLook)
+pub marked_glyph-measured : (base : Option Glyph) (mark : Option ℕ) → IfSome base (λ g. IsMeasured g) → IfSome mark (λ code. IsMark code) → IfSome (marked_glyph base mark) (λ joined. IsMeasured joined)
+marked_glyph-measured None mark b m = tt
+marked_glyph-measured (Some g) None b m = tt
+marked_glyph-measured (Some g) (Some code) b m = joined_glyph-measured g code b m
 
-plain-measured : (shown : Shown) → ShowsMeasured shown → All IsMeasuredLook (looks_of (single 92 1) (single 94 1) shown)
-plain-measured shown is =
-    looks-measured (single 92 1) (single 94 1) shown (printable-measured 92 (omega arith) (omega arith)) (printable-measured 94 (omega arith) (omega arith)) is
+pub base-measured : (j : Joining) → IsMeasuredJoining j → IfSome (base_of j) (λ g. IsMeasured g)
+base-measured joining.Empty is = tt
+base-measured joining.Alone is = tt
+base-measured (joining.Base g) is = is
+base-measured (joining.Mark code) is = on_blank-measured code is.0 is.1
 
-given-measured : (held : Option Glyph) (shown : Shown) → HoldsMeasured held → ShowsMeasured shown → All IsMeasuredLook (given held shown)
-given-measured held (Mark code) h s = by-room (has_room held) where
-  by-room : (room : Bool) → All IsMeasuredLook (if room then [] else held_looks held)
-  by-room true = All-nil IsMeasuredLook
-  by-room false = held-measured held h
-given-measured held (Itself code width) h s = held-measured held h
-given-measured held (Caret letter) h s =
-    All-append IsMeasuredLook (held_looks held) (looks_of (single 92 1) (single 94 1) (Caret letter)) (held-measured held h) (plain-measured (Caret letter) s)
-given-measured held (Octal byte) h s =
-    All-append IsMeasuredLook (held_looks held) (looks_of (single 92 1) (single 94 1) (Octal byte)) (held-measured held h) (plain-measured (Octal byte) s)
-given-measured held Space h s =
-    All-append IsMeasuredLook (held_looks held) (looks_of (single 92 1) (single 94 1) Space) (held-measured held h) (plain-measured Space s)
+pub mark-measured : (j : Joining) → IsMeasuredJoining j → IfSome (mark_of j) (λ code. IsMark code)
+mark-measured joining.Empty is = tt
+mark-measured joining.Alone is = tt
+mark-measured (joining.Base g) is = tt
+mark-measured (joining.Mark code) is = is
 
-after-measured : (held : Option Glyph) (shown : Shown) → HoldsMeasured held → ShowsMeasured shown → HoldsMeasured (held_after held shown)
-after-measured held (Mark code) h s = joined-measured held code h s.0 s.1
-after-measured held (Itself code width) h s = single-measured code width s.0 s.1 s.2 s.3
-after-measured held (Caret letter) h s = tt
-after-measured held (Octal byte) h s = tt
-after-measured held Space h s = tt
+-- how any character stands towards marks
+pub joining_of-measured : (parts : PartValues) (ch : ℕ) → IsTrue (is_code ch) → IsMeasuredJoining (joining_of parts ch)
+joining_of-measured parts ch code = by-entry (entry_of parts.table ch) where
+  by-entry : (entry : Option (List Glyph)) → IsMeasuredJoining (joining_by entry (shown_as parts.settings.ctl_arrow (class_of parts.classes ch) ch))
+  by-entry None = joining-measured _ (shown_as-measured parts.settings.ctl_arrow (class_of parts.classes ch) ch code)
+  by-entry (Some []) = tt
+  by-entry (Some (g ∷ gs)) = tt
 
-looks_from-measured : (classes : List Span) (held : Option Glyph) (text : List ℕ) → HoldsMeasured held → AllByRecursion (λ c. IsTrue (is_code c)) text → All IsMeasuredLook (looks_from classes held text)
-looks_from-measured classes held [] h codes = held-measured held h
-looks_from-measured classes held (c ∷ cs) h codes =
-    let shown = shown_as true (class_of classes c) c in
-    let s = shown_as-measured true (class_of classes c) c codes.0 in
-    All-append IsMeasuredLook (given held shown) (looks_from classes (held_after held shown) cs) (given-measured held shown h s)
-    (looks_from-measured classes (held_after held shown) cs (after-measured held shown h s) codes.1)
+-- ---- the parts of a plain line
+
+looks-all : (P : Look → Type 0) (parts : List PlainPart) → AllByRecursion (λ part. AllByRecursion P part.looks) parts → All P (looks_of_parts parts)
+looks-all P [] each = All-nil P
+looks-all P (part ∷ parts) each =
+    All-append P part.looks (looks_of_parts parts) (All-from_recursion P part.looks each.0) (looks-all P parts each.1)
+
+record IsMeasuredPart (part : PlainPart) : Type 0 where
+  looks : AllByRecursion IsMeasuredLook part.looks
+  joining : IsMeasuredJoining part.joining
+
+part-measured : (shown : Shown) → ShowsMeasured shown → IsMeasuredPart (part_of shown)
+part-measured shown is = record {
+  looks = recursion_from_All IsMeasuredLook (part_of shown).looks
+      (looks-measured (single 92 1) (single 94 1) shown (printable-measured 92 (omega arith) (omega arith)) (printable-measured 94 (omega arith) (omega arith)) is);
+  joining = joining-measured shown is;
+}
+
+parts-measured : (classes : List Span) (text : List ℕ) → AllByRecursion (λ c. IsTrue (is_code c)) text → AllByRecursion IsMeasuredPart (map (plain_part classes) text)
+parts-measured classes [] codes = tt
+parts-measured classes (c ∷ cs) codes =
+    (part-measured (shown_as true (class_of classes c) c) (shown_as-measured true (class_of classes c) c codes.0), parts-measured classes cs codes.1)
+
+measured-grows : Grows plain_joins IsMeasuredPart
+measured-grows held next glyph h n e =
+    let found : IfSome (Some glyph) (λ (g : Glyph). IsMeasured g) = subst (λ (m : Option Glyph). IfSome m (λ (g : Glyph). IsMeasured g)) e (marked_glyph-measured (base_of held.joining) (mark_of next.joining) (base-measured held.joining h.joining) (mark-measured next.joining n.joining)) in
+    record { looks = (found, tt); joining = found }
+
+plain_looks-measured : (classes : List Span) (text : List ℕ) → AllByRecursion (λ c. IsTrue (is_code c)) text → All IsMeasuredLook (plain_looks classes text)
+plain_looks-measured classes text codes =
+    looks-all IsMeasuredLook (joined plain_joins (map (plain_part classes) text))
+    (each-looks _ (joined-all plain_joins IsMeasuredPart measured-grows (map (plain_part classes) text) (parts-measured classes text codes))) where
+      each-looks : (parts : List PlainPart) → AllByRecursion IsMeasuredPart parts → AllByRecursion (λ part. AllByRecursion IsMeasuredLook part.looks) parts
+      each-looks [] each = tt
+      each-looks (part ∷ parts) each = (each.0.looks, each-looks parts each.1)
 
 -- each glyph of a plain line stands whole
 pub plain-whole : (classes : List Span) (face : Attributes) (width : ℕ) (text : List ℕ) → All (λ c. IsTrue (is_code c)) text → IsRowAfter 0 (plain_cells classes face width text)
 plain-whole classes face width text codes =
     fitted-whole face width (plain_looks classes text)
-    (recursion_from_All IsMeasuredLook (plain_looks classes text)
-    (rw (sym (read_whole classes text)) (looks_from-measured classes None text tt (recursion_from_All (λ (c : ℕ). IsTrue (is_code c)) text codes))))
+    (recursion_from_All IsMeasuredLook (plain_looks classes text) (plain_looks-measured classes text (recursion_from_All (λ (c : ℕ). IsTrue (is_code c)) text codes)))
+
+-- ---- columns
+
+record IsNarrowPart (part : PlainPart) : Type 0 where
+  looks : AllByRecursion TakesColumns part.looks
+  base : IfSome (base_of part.joining) (λ g. TakesColumns (look.Glyph g))
+
+part-narrow : (shown : Shown) → ShowsColumns shown → IsNarrowPart (part_of shown)
+part-narrow shown is = record { looks = looks-columns (single 92 1) (single 94 1) shown refl refl is; base = base shown is } where
+  base : (shown : Shown) → ShowsColumns shown → IfSome (base_of (part_of shown).joining) (λ g. TakesColumns (look.Glyph g))
+  base (Caret letter) is = tt
+  base (Octal byte) is = tt
+  base Space is = tt
+  base (Mark code) is = (omega arith, omega arith)
+  base (Itself code width) is = is
+
+parts-narrow : (classes : List Span) (text : List ℕ) → AllByRecursion IsNarrowPart (map (plain_part classes) text)
+parts-narrow classes [] = tt
+parts-narrow classes (c ∷ cs) = (part-narrow (shown_as true (class_of classes c) c) (shown_as-columns true (class_of classes c) c), parts-narrow classes cs)
+
+marked-narrow : (base : Option Glyph) (mark : Option ℕ) → IfSome base (λ g. TakesColumns (look.Glyph g)) → IfSome (marked_glyph base mark) (λ g. TakesColumns (look.Glyph g))
+marked-narrow None mark b = tt
+marked-narrow (Some g) None b = tt
+marked-narrow (Some g) (Some code) b = by-room (nat_lt g.count 6) where
+  by-room : (room : Bool) → IfSome (if room then Some (with_mark g code) else None) (λ joined. TakesColumns (look.Glyph joined))
+  by-room true = b
+  by-room false = tt
+
+narrow-grows : Grows plain_joins IsNarrowPart
+narrow-grows held next glyph h n e =
+    let found : IfSome (Some glyph) (λ (g : Glyph). TakesColumns (look.Glyph g)) = subst (λ (m : Option Glyph). IfSome m (λ (g : Glyph). TakesColumns (look.Glyph g))) e (marked-narrow (base_of held.joining) (mark_of next.joining) h.base) in
+    record { looks = (found, tt); base = found }
+
+plain_looks-narrow : (classes : List Span) (text : List ℕ) → All TakesColumns (plain_looks classes text)
+plain_looks-narrow classes text =
+    looks-all TakesColumns (joined plain_joins (map (plain_part classes) text))
+    (each-looks _ (joined-all plain_joins IsNarrowPart narrow-grows (map (plain_part classes) text) (parts-narrow classes text))) where
+      each-looks : (parts : List PlainPart) → AllByRecursion IsNarrowPart parts → AllByRecursion (λ part. AllByRecursion TakesColumns part.looks) parts
+      each-looks [] each = tt
+      each-looks (part ∷ parts) each = (each.0.looks, each-looks parts each.1)
+
+fitted-length : (face : Attributes) (room : ℕ) (ls : List Look) → AllByRecursion TakesColumns ls → length (fitted face room ls) ≡ room
+fitted-length face room [] each = length-replicate room (Blank face)
+fitted-length face room (l ∷ ls) each = by-room (nat_le (look_columns l) room) refl (fitted-length face (room - look_columns l) ls each.1) where
+  by-room : (fits : Bool) → nat_le (look_columns l) room ≡ fits → length (fitted face (room - look_columns l) ls) ≡ room - look_columns l → length (if fits then cells_of face l ++ fitted face (room - look_columns l) ls else blanks room face) ≡ room
+  by-room true e rest =
+      let sum = length-append (cells_of face l) (fitted face (room - look_columns l) ls) in
+      let first = cell_count face l each.0 in
+      let fits : look_columns l ≤ room = grind (arith, nat_tests) in
+      omega arith
+  by-room false e rest = length-replicate room (Blank face)
+
+-- a plain line has exactly its columns
+pub plain-length : (classes : List Span) (face : Attributes) (width : ℕ) (text : List ℕ) → length (plain_cells classes face width text) ≡ width
+plain-length classes face width text = fitted-length face width (plain_looks classes text) (recursion_from_All TakesColumns (plain_looks classes text) (plain_looks-narrow classes text))
+
+-- ---- colours
+
+cells-coloured : (face : Attributes) (l : Look) → HasColours face → All IsColoured (cells_of face l)
+cells-coloured face (look.Glyph g) c = by-space (is_space g) where
+  by-space : (space : Bool) → All IsColoured (if space then blanks g.width face else First g face ∷ replicate (g.width - 1) Rest)
+  by-space true = All-replicate IsColoured g.width (Blank face) c
+  by-space false = All-cons IsColoured (First g face) (replicate (g.width - 1) Rest) c (All-replicate IsColoured (g.width - 1) Rest tt)
+cells-coloured face look.Blank c = All-replicate IsColoured 1 (Blank face) c
+cells-coloured face look.RowEnd c = All-nil IsColoured
+cells-coloured face look.LineEnd c = All-nil IsColoured
+
+fitted-coloured : (face : Attributes) (room : ℕ) (ls : List Look) → HasColours face → All IsColoured (fitted face room ls)
+fitted-coloured face room [] c = All-replicate IsColoured room (Blank face) c
+fitted-coloured face room (l ∷ ls) c = by-room (nat_le (look_columns l) room) (fitted-coloured face (room - look_columns l) ls c) where
+  by-room : (fits : Bool) → All IsColoured (fitted face (room - look_columns l) ls) → All IsColoured (if fits then cells_of face l ++ fitted face (room - look_columns l) ls else blanks room face)
+  by-room true rest = All-append IsColoured (cells_of face l) (fitted face (room - look_columns l) ls) (cells-coloured face l c) rest
+  by-room false rest = All-replicate IsColoured room (Blank face) c
+
+-- the colours of a plain line are those of its face
+pub plain-coloured : (classes : List Span) (face : Attributes) (width : ℕ) (text : List ℕ) → HasColours face → All IsColoured (plain_cells classes face width text)
+plain-coloured classes face width text c = fitted-coloured face width (plain_looks classes text) c

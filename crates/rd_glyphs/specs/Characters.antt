@@ -1,5 +1,5 @@
 -- How a character is shown: its elements.
-use Rattle.std.specs.Prelude.{ℕ, ◌+◌, ◌-◌, ◌/◌, ◌%◌, ◌≤◌, nat_le, nat_lt, ◌==◌, Bool, true, false, ◌||◌, ◌&&◌, if◌then◌else◌, List, [], ◌∷◌, map, replicate, Option, None, Some, unwrap_or}
+use Rattle.std.specs.Prelude.{◌≡◌, ℕ, ◌+◌, ◌-◌, ◌/◌, ◌%◌, ◌≤◌, nat_le, nat_lt, ◌==◌, Bool, true, false, ◌||◌, ◌&&◌, if◌then◌else◌, List, [], ◌∷◌, map, replicate, Option, None, Some, IfSome, unwrap_or}
 use Rattle.rd_base.specs.Faces.{Attributes}
 use Rattle.rd_base.specs.Settings.{SettingValues}
 use Rattle.rd_base.specs.Classes.{is_initiator, is_removed}
@@ -19,7 +19,7 @@ use Rattle.rd_ucd.specs.declared.spans.Pair.{Pair}
 use Rattle.rd_ucd.specs.Lookup.{class_of, mirror_in}
 use Rattle.rd_objects.specs.declared.run.Slot.{Slot}
 use Rattle.rd_objects.specs.declared.run.Slot.TheVariants.{Escape, Control}
-use Rattle.rd_objects.specs.Tables.{TableValue, entry_in, slot_of}
+use Rattle.rd_objects.specs.Tables.{TableValue, IsTable, entry_in, slot_of}
 use Rattle.rd_objects.specs.Widths.{columns}
 use Rattle.rd_glyphs.specs.declared.shown.Shown.{Shown}
 use Rattle.rd_glyphs.specs.declared.shown.Shown.TheVariants.{Caret, Octal, Space, Mark, Itself}
@@ -147,3 +147,12 @@ IsShort (Column n) = ⊥
 -- what an element of a character always is
 abbrev pub IsShortElement : Element → Type 0
 IsShortElement e = IsSound e × IsShort e.extent
+
+-- what the elements of a character depend on is sound: the table holds glyph characters, and a tab has 1 to 32 columns
+pub record AreSoundParts (parts : PartValues) : Type 0 where
+  pub table : IfSome parts.table (λ table. IsTable table)
+  pub tab : (1 ≤ parts.settings.tab_width) × (parts.settings.tab_width ≤ 32)
+
+-- an element of this face and this origin
+abbrev pub HasOrigin : Attributes → Origin → Element → Type 0
+HasOrigin face origin e = (e.face ≡ face) × (e.origin ≡ origin)

@@ -4,6 +4,7 @@
 mod counting;
 mod examples;
 mod joining;
+mod laws;
 mod looks;
 mod parts;
 mod plain;
@@ -11,6 +12,9 @@ mod shown;
 
 pub use counting::plain_columns;
 pub use joining::{Joining, join};
+pub use laws::{
+    elements_are_sound, glyph_texts_are_sound, marks_join_measured_glyphs, plain_lines_are_whole,
+};
 pub use looks::on_blank;
 pub use parts::{Parts, expand};
 pub use plain::plain_line;

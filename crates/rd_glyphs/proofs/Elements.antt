@@ -1,0 +1,224 @@
+-- What the elements of a character always are.
+use Rattle.std.proofs.Common.{rules, ◌≡◌, ℕ, ◌*◌, ◌<◌, ◌≤◌, Bool, true, false, IsTrue, List, [], ◌∷◌, length, Option, Some, None, IfSome, All, refl, map, arith, slice_index_or, unwrap_or}
+use Rattle.std.specs.Prelude.{◌≢◌, ◌-◌, ◌==◌, nat_le, ◌&&◌, if◌then◌else◌}
+use Rattle.std.specs.List.{AllByRecursion, list_all}
+use Rattle.std.proofs.lemmas.Bool.Decides.{nat_tests}
+use Rattle.std.proofs.lemmas.List.{length-map}
+use Rattle.std.proofs.lemmas.List.Sums.{AllPass-from_list_all}
+use Rattle.std.proofs.lemmas.List.Elements.{All-map, All-from_recursion, recursion_from_All}
+use Rattle.unicode_width.proofs.Rules.{width_or_zero, width_or_zero-le}
+use Rattle.rd_base.specs.Chars.{is_scalar, is_code}
+use Rattle.rd_base.specs.Cells.{single}
+use Rattle.rd_base.specs.Elements.{width_at_most, columns_at_most}
+use Rattle.rd_base.specs.Faces.{Attributes}
+use Rattle.rd_base.specs.Glyphs.{IsMeasured, IsMeasuredLook, AreMeasured}
+use Rattle.rd_base.specs.declared.cell.Glyph.{Glyph}
+use Rattle.rd_base.specs.declared.class.Class.{Class}
+use Rattle.rd_base.specs.declared.element.Element.{Element}
+use Rattle.rd_base.specs.declared.element.Look.{Look}
+use Rattle.rd_base.specs.declared.element.Look.TheVariants as look
+use Rattle.rd_base.specs.declared.element.Origin.{Origin}
+use Rattle.rd_ucd.specs.Lookup.{class_of}
+use Rattle.rd_ucd.specs.declared.spans.Pair.{Pair}
+use Rattle.rd_objects.specs.Tables.{TableValue, IsTable, HoldsGlyph, entry_in, is_glyph_character, is_glyph_text, is_slot_glyph}
+use Rattle.rd_objects.specs.Texts.{later}
+use Rattle.rd_objects.specs.Widths.{columns}
+use Rattle.rd_objects.specs.declared.run.Slot.TheVariants.{Escape, Control}
+use Rattle.rd_objects.specs.declared.table.Entry.{Entry}
+use Rattle.rd_glyphs.specs.declared.shown.Shown.{Shown}
+use Rattle.rd_glyphs.specs.declared.shown.Shown.TheVariants.{Caret, Octal, Space, Mark, Itself}
+use Rattle.rd_glyphs.specs.Characters.{PartValues, AreSoundParts, HasOrigin, TakesColumns, ShowsColumns, IsShortElement, is_control, is_formatting, caret, shown_as, mirrored, looks_of, element_of, glyph_elements, entry_of, slot_or, own_looks, elements_by, elements_of, tab_of}
+use Rattle.rd_glyphs.specs.Joining.{is_empty_entry}
+use Rattle.rd_glyphs.proofs.Measures.{printable-measured, slot-measured, character-measured, shown_as-measured, mirrored-measured, looks-measured, elements-measured}
+use Rattle.rd_glyphs.proofs.Short.{short_elements, short_glyphs, glyph_count}
+
+-- what holds of the elements of a character
+pub record AreOfCharacter (face : Attributes) (origin : Origin) (es : List Element) : Type 0 where
+  pub short : All IsShortElement es
+  pub measured : AreMeasured es
+  pub own : All (HasOrigin face origin) es
+  pub count : length es ≤ 16
+  pub columns : columns_at_most es ≤ 48
+
+-- ---- how a character is shown
+
+itself-columns : (code : ℕ) → columns code ≢ 0 → ShowsColumns (Itself code (columns code))
+itself-columns code some = by-scalar (is_scalar code) (width_or_zero false code) some (width_or_zero-le false code) where
+  by-scalar : (scalar : Bool) (n : ℕ) → (if scalar then n else 0) ≢ 0 → n ≤ 3 → (1 ≤ (if scalar then n else 0)) × ((if scalar then n else 0) ≤ 3)
+  by-scalar true n some few = (omega arith, few)
+  by-scalar false n some few = absurd (some refl)
+
+columns-by : (control arrow raw high formatting none : Bool) (code letter byte : ℕ) → (none ≡ false → ShowsColumns (Itself code (columns code))) →
+    ShowsColumns (if control then (if arrow then Caret letter else Octal code) else if raw then Octal byte else if high then Octal code else if formatting then Space else if none then Mark code else Itself code (columns code))
+columns-by true true raw high formatting none code letter byte some = tt
+columns-by true false raw high formatting none code letter byte some = tt
+columns-by false arrow true high formatting none code letter byte some = tt
+columns-by false arrow false true formatting none code letter byte some = tt
+columns-by false arrow false false true none code letter byte some = tt
+columns-by false arrow false false false true code letter byte some = tt
+columns-by false arrow false false false false code letter byte some = some refl
+
+-- a character that is shown itself takes 1 to 3 columns
+pub shown_as-columns : (arrow : Bool) (class : Class) (code : ℕ) → ShowsColumns (shown_as arrow class code)
+shown_as-columns arrow class code =
+    columns-by (is_control code) arrow (nat_le 1114112 code) (nat_le 128 code && nat_le code 159) (is_formatting class code) (columns code == 0) code
+    (caret code) (code - 1114112) (λ none. itself-columns code (grind (arith, nat_tests)))
+
+pub mirrored-columns : (pairs : List Pair) (odd : Bool) (shown : Shown) → ShowsColumns shown → ShowsColumns (mirrored pairs odd shown)
+mirrored-columns pairs odd (Caret letter) s = s
+mirrored-columns pairs odd (Octal byte) s = s
+mirrored-columns pairs odd Space s = s
+mirrored-columns pairs odd (Mark code) s = s
+mirrored-columns pairs odd (Itself code width) s = s
+
+-- ---- what is put for it
+
+pub looks-columns : (escape control : Glyph) (shown : Shown) → escape.width ≡ 1 → control.width ≡ 1 → ShowsColumns shown → AllByRecursion TakesColumns (looks_of escape control shown)
+looks-columns escape control (Caret letter) e c s = ((omega arith, omega arith), ((omega arith, omega arith), tt))
+looks-columns escape control (Octal byte) e c s = ((omega arith, omega arith), ((omega arith, omega arith), ((omega arith, omega arith), ((omega arith, omega arith), tt))))
+looks-columns escape control Space e c s = ((omega arith, omega arith), tt)
+looks-columns escape control (Mark code) e c s = ((omega arith, omega arith), tt)
+looks-columns escape control (Itself code width) e c s = (s, tt)
+
+looks-count : (escape control : Glyph) (shown : Shown) → length (looks_of escape control shown) ≤ 4
+looks-count escape control (Caret letter) = omega arith
+looks-count escape control (Octal byte) = omega arith
+looks-count escape control Space = omega arith
+looks-count escape control (Mark code) = omega arith
+looks-count escape control (Itself code width) = omega arith
+
+-- a slot's glyph of one column, or the one that stands for it
+pub record IsSlot (g : Glyph) : Type 0 where
+  pub measured : IsMeasured g
+  pub width : g.width ≡ 1
+
+slot-or : (slot : Option Glyph) (code : ℕ) → HoldsGlyph is_slot_glyph slot → 32 ≤ code → code < 127 → IsSlot (unwrap_or slot (single code 1))
+slot-or None code is low high = record { measured = printable-measured code low high; width = refl }
+slot-or (Some g) code is low high =
+    let own : is_slot_glyph g ≡ true = is g refl in
+    let places : length g.marks ≡ 6 = grind (arith, nat_tests) in
+    record { measured = slot-measured g places (is g refl); width = grind (arith, nat_tests) }
+
+escape-slot : (table : Option TableValue) → IfSome table (λ t. IsTable t) → IsSlot (slot_or Escape table 92)
+escape-slot None is = record { measured = printable-measured 92 (omega arith) (omega arith); width = refl }
+escape-slot (Some t) is = slot-or t.escape 92 is.escape (omega arith) (omega arith)
+
+control-slot : (table : Option TableValue) → IfSome table (λ t. IsTable t) → IsSlot (slot_or Control table 94)
+control-slot None is = record { measured = printable-measured 94 (omega arith) (omega arith); width = refl }
+control-slot (Some t) is = slot-or t.control 94 is.control (omega arith) (omega arith)
+
+own-columns : (parts : PartValues) (ch : ℕ) (odd : Bool) → AreSoundParts parts → AllByRecursion TakesColumns (own_looks parts ch odd)
+own-columns parts ch odd is =
+    looks-columns _ _ _ (escape-slot parts.table is.table).width (control-slot parts.table is.table).width
+    (mirrored-columns parts.mirrors odd _ (shown_as-columns parts.settings.ctl_arrow (class_of parts.classes ch) ch))
+
+own-measured : (parts : PartValues) (ch : ℕ) (odd : Bool) → AreSoundParts parts → IsTrue (is_code ch) → All IsMeasuredLook (own_looks parts ch odd)
+own-measured parts ch odd is code =
+    looks-measured _ _ _ (escape-slot parts.table is.table).measured (control-slot parts.table is.table).measured
+    (mirrored-measured parts.mirrors odd _ (shown_as-measured parts.settings.ctl_arrow (class_of parts.classes ch) ch code))
+
+-- ---- columns
+
+columns-few : (es : List Element) → AllByRecursion (λ e. width_at_most e.extent ≤ 3) es → columns_at_most es ≤ 3 * length es
+columns-few [] each = omega arith
+columns-few (e ∷ es) each =
+    let first : width_at_most e.extent ≤ 3 = each.0 in
+    let rest = columns-few es each.1 in
+    omega arith
+
+look-columns : (face : Attributes) (origin : Origin) (ls : List Look) → AllByRecursion TakesColumns ls → AllByRecursion (λ e. width_at_most e.extent ≤ 3) (map (element_of face origin) ls)
+look-columns face origin [] each = tt
+look-columns face origin (l ∷ ls) each = (each.0.1, look-columns face origin ls each.1)
+
+glyph-columns : (face : Attributes) (origin : Origin) (text : List Glyph) → AllByRecursion (λ g. g.width ≤ 3) text → AllByRecursion (λ e. width_at_most e.extent ≤ 3) (glyph_elements face origin text)
+glyph-columns face origin [] each = tt
+glyph-columns face origin (g ∷ gs) each = (each.0, glyph-columns face origin gs each.1)
+
+-- ---- elements
+
+-- the elements of looks
+of-looks : (face : Attributes) (origin : Origin) (ls : List Look) → AllByRecursion TakesColumns ls → All IsMeasuredLook ls → length ls ≤ 4 → AreOfCharacter face origin (map (element_of face origin) ls)
+of-looks face origin ls columns measured few =
+    let same = length-map ls (element_of face origin) in
+    let sum = columns-few (map (element_of face origin) ls) (look-columns face origin ls columns) in
+    record {
+      short = short_elements face origin ls (All-from_recursion TakesColumns ls columns);
+      measured = elements-measured face origin ls measured;
+      own = All-map (HasOrigin face origin) (element_of face origin) ls (λ k d inside. (refl, refl));
+      count = omega arith;
+      columns = omega arith;
+    }
+
+-- the elements of a table's glyphs
+pub of-glyphs : (face : Attributes) (origin : Origin) (text : List Glyph) → IsTrue (is_glyph_text text) → AreOfCharacter face origin (glyph_elements face origin text)
+of-glyphs face origin text is =
+    let each : list_all is_glyph_character text ≡ true = search rules in
+    let put = λ (g : Glyph). element_of face origin (look.Glyph g) in
+    let same = length-map text put in
+    let count = glyph_count face origin text is in
+    let narrow : All (λ (g : Glyph). g.width ≤ 3) text = λ k d inside. glyph-narrow (slice_index_or text k d) (AllPass-from_list_all is_glyph_character text each k d inside) in
+    let sum = columns-few (glyph_elements face origin text) (glyph-columns face origin text (recursion_from_All (λ (g : Glyph). g.width ≤ 3) text narrow)) in
+    record {
+      short = short_glyphs face origin text is;
+      measured = All-map (λ (e : Element). IsMeasuredLook e.look) put text (λ k d inside. glyph-measured (slice_index_or text k d) (AllPass-from_list_all is_glyph_character text each k d inside));
+      own = All-map (HasOrigin face origin) put text (λ k d inside. (refl, refl));
+      count = count;
+      columns = omega arith;
+    } where
+      glyph-narrow : (g : Glyph) → is_glyph_character g ≡ true → g.width ≤ 3
+      glyph-narrow g is = grind (arith, nat_tests)
+
+      glyph-measured : (g : Glyph) → is_glyph_character g ≡ true → IsMeasured g
+      glyph-measured g is =
+          let places : length g.marks ≡ 6 = grind (arith, nat_tests) in
+          character-measured g places is
+
+entry-text : (entries : List Entry) (code : ℕ) → AllByRecursion (λ e. IsTrue (is_glyph_text e.text)) entries → IfSome (entry_in entries code) (λ text. IsTrue (is_glyph_text text))
+entry-text [] code each = tt
+entry-text (e ∷ es) code each = by-later (entry_in es code) (e.code == code) (entry-text es code each.1) where
+  by-later : (rest : Option (List Glyph)) (same : Bool) → IfSome rest (λ text. IsTrue (is_glyph_text text)) → IfSome (later rest (if same then Some e.text else None)) (λ text. IsTrue (is_glyph_text text))
+  by-later (Some text) same is = is
+  by-later None true is = each.0
+  by-later None false is = tt
+
+entry-sound : (table : Option TableValue) (code : ℕ) → IfSome table (λ t. IsTable t) → IfSome (entry_of table code) (λ text. IsTrue (is_glyph_text text))
+entry-sound None code is = tt
+entry-sound (Some t) code is = entry-text t.entries code (recursion_from_All (λ (e : Entry). IsTrue (is_glyph_text e.text)) t.entries is.entries)
+
+-- the elements of a character
+pub of-character : (parts : PartValues) (ch : ℕ) (odd : Bool) (face : Attributes) (origin : Origin) → AreSoundParts parts → IsTrue (is_code ch) → AreOfCharacter face origin (elements_of parts ch odd face origin)
+of-character parts ch odd face origin is code = by-entry (entry_of parts.table ch) (entry-sound parts.table ch is.table) where
+  by-tab : (tab : Bool) → AreOfCharacter face origin (if tab then tab_of parts.settings.tab_width face origin ∷ [] else map (element_of face origin) (own_looks parts ch odd))
+  by-tab true =
+      let tab = tab_of parts.settings.tab_width face origin in
+      record {
+        short = All-from_recursion IsShortElement (tab ∷ []) ((is.tab, is.tab), tt);
+        measured = All-from_recursion (λ (e : Element). IsMeasuredLook e.look) (tab ∷ []) (tt, tt);
+        own = All-from_recursion (HasOrigin face origin) (tab ∷ []) ((refl, refl), tt);
+        count = omega arith;
+        columns = omega (arith, is.tab.1);
+      }
+  by-tab false = of-looks face origin (own_looks parts ch odd) (own-columns parts ch odd is) (own-measured parts ch odd is code) (looks-count _ _ _)
+
+  by-entry : (entry : Option (List Glyph)) → IfSome entry (λ text. IsTrue (is_glyph_text text)) → AreOfCharacter face origin (elements_by entry parts ch odd face origin)
+  by-entry (Some text) own = of-glyphs face origin text own
+  by-entry None own = by-tab (ch == 9)
+
+-- a character that the table does not show as nothing has an element
+pub some-element : (parts : PartValues) (ch : ℕ) (odd : Bool) (face : Attributes) (origin : Origin) → is_empty_entry (entry_of parts.table ch) ≡ false → 1 ≤ length (elements_of parts ch odd face origin)
+some-element parts ch odd face origin some = by-entry (entry_of parts.table ch) some where
+  by-shown : (escape control : Glyph) (shown : Shown) → 1 ≤ length (map (element_of face origin) (looks_of escape control shown))
+  by-shown escape control (Caret letter) = omega arith
+  by-shown escape control (Octal byte) = omega arith
+  by-shown escape control Space = omega arith
+  by-shown escape control (Mark code) = omega arith
+  by-shown escape control (Itself code width) = omega arith
+
+  by-tab : (tab : Bool) → 1 ≤ length (if tab then tab_of parts.settings.tab_width face origin ∷ [] else map (element_of face origin) (own_looks parts ch odd))
+  by-tab true = omega arith
+  by-tab false = by-shown _ _ _
+
+  by-entry : (entry : Option (List Glyph)) → is_empty_entry entry ≡ false → 1 ≤ length (elements_by entry parts ch odd face origin)
+  by-entry None some = by-tab (ch == 9)
+  by-entry (Some []) some = grind arith
+  by-entry (Some (g ∷ gs)) some = omega arith
