@@ -1,2 +1,3 @@
+mod Characters
 mod Digits
 mod Steps

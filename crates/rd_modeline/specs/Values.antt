@@ -1,5 +1,6 @@
 -- What a mode line tells of, as contracts see it.
-use Rattle.std.specs.Prelude.{ℕ, ◌+◌, ◌-◌, ◌*◌, ◌/◌, ◌==◌, min, Bool, if◌then◌else◌, List, [], ◌++◌, codes, decimal}
+use Rattle.std.specs.Prelude.{ℕ, ◌<◌, ◌^◌, ◌+◌, ◌-◌, ◌*◌, ◌/◌, ◌==◌, min, Bool, IsTrue, All, if◌then◌else◌, List, [], ◌++◌, codes, decimal}
+use Rattle.rd_base.specs.Chars.{is_code}
 use Rattle.rd_modeline.specs.declared.piece.Field.{Field}
 use Rattle.rd_modeline.specs.declared.piece.Field.TheVariants.{Name, Line, Place, ReadOnly, Modified, Narrowing}
 
@@ -13,6 +14,11 @@ pub record FactValues : Type 0 where
   pub modified : Bool
   pub read_only : Bool
   pub narrowed : Bool
+
+-- a name of characters, and a line whose number has 32 bits
+pub record AreFacts (f : FactValues) : Type 0 where
+  pub name : All (λ c. IsTrue (is_code c)) f.name
+  pub line : f.line < 2 ^ 32
 
 -- the share of the text above the view, in whole percent, rounded up and at most 99
 abbrev pub share : ℕ → ℕ → ℕ

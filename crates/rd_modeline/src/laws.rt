@@ -1,26 +1,22 @@
-//! What formats give, in worked cases.
-ghost use Rattle.std.specs.Prelude.{◌≡◌, ◌++◌, ◌∷◌, [], codes, true, false, Ok, Err};
-ghost use Rattle.rd_modeline.specs.declared.piece.Field.TheVariants.{Name, Line, Place};
-ghost use Rattle.rd_modeline.specs.declared.piece.Piece.TheVariants.{Literal, Value, Dashes};
-ghost use Rattle.rd_modeline.specs.Formats.{pieces_of, fault_in};
-ghost use Rattle.rd_modeline.specs.Values.{FactValues, share, value_text};
-ghost use Rattle.rd_modeline.specs.Lines.{line_text};
+//! Laws of the definitions, for the layers above.
+ghost use Rattle.std.specs.Prelude.{ℕ, ◌≡◌, IsTrue, List, length, All, Ok};
+ghost use Rattle.rd_base.specs.Cells.{IsColoured};
+ghost use Rattle.rd_base.specs.Chars.{is_code};
+ghost use Rattle.rd_base.specs.Glyphs.{IsRowAfter};
+ghost use Rattle.rd_ucd.specs.declared.spans.Span.{Span};
+ghost use Rattle.rd_modeline.specs.declared.piece.Piece.{Piece};
+ghost use Rattle.rd_modeline.specs.Formats.{pieces_of};
+ghost use Rattle.rd_modeline.specs.Values.{FactValues, AreFacts};
+ghost use Rattle.rd_modeline.specs.Lines.{line_cells};
 
-/// A name, a line in five columns and dashes; and where a format is bad: a letter that is no code, four digits, a width before
-/// dashes, and a percent sign at the end.
-fn formats_are_read()
-    ensures good { pieces_of (codes "%5l|%-") ≡ Ok (Value Line 5 ∷ Literal 124 ∷ Dashes ∷ []) }
-    ensures sign { pieces_of (codes "%%%b") ≡ Ok (Literal 37 ∷ Value Name 0 ∷ []) }
-    ensures letter { pieces_of (codes "a%q") ≡ Err 1 }
-    ensures digits { pieces_of (codes "%0005l") ≡ Err 0 }
-    ensures dashes { pieces_of (codes "%%%5-") ≡ Err 2 }
-    ensures end { pieces_of (codes "ab%12") ≡ Err 2 }
-{}
+use rd_glyphs::plain_lines_are_whole;
 
-/// The fourth line of eleven characters, four of which stand above the view.
-fn values_are_told()
-    ensures share { share 4 15 ≡ 27 }
-    ensures none { share 0 0 ≡ 0 }
-    ensures most { share 1000 1000 ≡ 99 }
-    ensures line { (f : FactValues) → line_text [] (record f { line = 12 }) 10 (Value Line 5 ∷ Literal 124 ∷ Dashes ∷ []) ≡ codes "   12|----------" }
-{}
+/// A mode line has exactly its columns, and its colours are in their range. In that of a good format of characters each glyph stands
+/// whole. The call does nothing.
+pub fn mode_lines_are_whole()
+    ensures width { (classes : List Span) (facts : FactValues) (width : ℕ) (pieces : List Piece) → length (line_cells classes facts width pieces) ≡ width }
+    ensures coloured { (classes : List Span) (facts : FactValues) (width : ℕ) (pieces : List Piece) → All IsColoured (line_cells classes facts width pieces) }
+    ensures whole { (classes : List Span) (facts : FactValues) (width : ℕ) (format : List ℕ) (pieces : List Piece) → AreFacts facts → All (λ c. IsTrue (is_code c)) format → pieces_of format ≡ Ok pieces → IsRowAfter 0 (line_cells classes facts width pieces) }
+{
+    plain_lines_are_whole();
+}

@@ -2,6 +2,7 @@
 //! whether it was changed, by a format (the Emacs Lisp manual's `%`-constructs).
 #![tactic(auto)]
 
+mod examples;
 mod facts;
 mod fault;
 mod laws;
@@ -11,5 +12,6 @@ mod reading;
 
 pub use facts::Facts;
 pub use fault::FormatFault;
+pub use laws::mode_lines_are_whole;
 pub use line::format;
 pub use reading::check;
