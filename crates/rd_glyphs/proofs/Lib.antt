@@ -1,7 +1,7 @@
 mod Columns
 mod Elements
 mod Holding
-mod Joined
+pub mod Joined
 mod Measures
 mod Short
 mod Sums
