@@ -1,6 +1,7 @@
 -- What is seen at a position.
-use Rattle.std.specs.Prelude.{◌≡◌, ℕ, nat_lt, if◌then◌else◌, List, Option, None}
+use Rattle.std.specs.Prelude.{◌≡◌, ℕ, nat_lt, is_some, if◌then◌else◌, List, Option, None}
 use Rattle.rd_base.specs.Faces.{Attributes}
+use Rattle.rd_base.specs.declared.settings.Invisible as setting
 use Rattle.rd_text.specs.Texts.{TextValue, char_at}
 use Rattle.rd_overlays.specs.declared.overlay.Kind.TheVariants.{Display, Invisible, LinePrefix, WrapPrefix}
 use Rattle.rd_objects.specs.Things.{ObjectLists}
@@ -8,6 +9,9 @@ use Rattle.rd_props.specs.Buffers.{BufferValue}
 use Rattle.rd_props.specs.Values.{effective}
 use Rattle.rd_props.specs.Faces.{face_at}
 use Rattle.rd_props.specs.Strings.{strings_at}
+use Rattle.rd_props.specs.Shown.{hiding_of_value}
+use Rattle.rd_props.specs.declared.hiding.Hidden.{Hidden}
+use Rattle.rd_props.specs.declared.hiding.Hidden.TheVariants.{No}
 
 -- the character at a position, and none at the end of the accessible text
 abbrev pub accessible_char : TextValue → ℕ → Option ℕ
@@ -38,3 +42,7 @@ seen_at s objects p = record {
 -- two buffers agree at a position of the one and a position of the other where the same is seen there
 abbrev pub Agree : BufferValue → ObjectLists → ℕ → BufferValue → ObjectLists → ℕ → Type 0
 Agree s objects x t things y = seen_at s objects x ≡ seen_at t things y
+
+-- how a position where this is seen is hidden by a buffer's setting: not at all where it is replaced, and else as its atom hides
+abbrev pub hidden_seen : setting.Invisible → Seen → Hidden
+hidden_seen setting seen = if is_some seen.display then No else hiding_of_value setting seen.invisible

@@ -8,7 +8,9 @@ ghost use Rattle.rd_props.specs.Buffers.{BufferValue, property};
 ghost use Rattle.rd_props.specs.Values.{effective};
 ghost use Rattle.rd_props.specs.Faces.{face_at};
 ghost use Rattle.rd_props.specs.Shown.{hidden};
+ghost use Rattle.rd_objects.specs.Things.{ObjectLists};
 ghost use Rattle.rd_props.specs.Strings.{strings_at};
+ghost use Rattle.rd_props.specs.Seen.{seen_at, hidden_seen};
 ghost use Rattle.rd_props.specs.declared.hiding.Hidden.TheVariants.{No, Plain, Ellipsis};
 ghost use Rattle.rd_props.specs.Laws.{Gives, IsGreatest};
 ghost use Rattle.rd_props.specs.Examples.{three_characters, coloured, two_faces, meeting, partly_invisible};
@@ -25,6 +27,11 @@ pub fn effective_values_are_the_greatest_overlays()
 {
     listings_are_exact();
 }
+
+/// Whether a position is hidden depends on what is seen there and on the buffer's setting alone. The call does nothing.
+pub fn what_is_seen_says_what_is_hidden()
+    ensures { (s : BufferValue) (objects : ObjectLists) (pos : ℕ) → hidden s pos ≡ hidden_seen s.settings.invisible (seen_at s objects pos) }
+{}
 
 /// A face of the text that an overlay's is laid over. A number that names no face is the plain one, and the face of the end is
 /// plain. The call does nothing.

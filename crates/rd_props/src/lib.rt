@@ -16,7 +16,7 @@ pub use faces::face_at;
 pub use hiding::Hidden;
 pub use laws::{
     atoms_that_hide, effective_values_are_the_greatest_overlays, faces_that_merge,
-    strings_that_meet,
+    strings_that_meet, what_is_seen_says_what_is_hidden,
 };
 pub use shown::hidden;
 pub use state::{BufferState, View};

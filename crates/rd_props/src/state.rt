@@ -7,7 +7,7 @@ use rd_objects::Objects;
 use rd_overlays::Overlays;
 use rd_spans::Spans;
 use rd_text::Buffer;
-use rd_ucd::{Classes, Mirrors};
+use rd_ucd::{Brackets, Classes, Mirrors};
 use std::alloc::Global;
 
 /// A buffer: its text, the text properties in the order face, display, invisible, line_prefix, wrap_prefix, its overlays, and
@@ -40,12 +40,14 @@ impl BufferState {
     }
 }
 
-/// What a look at a buffer needs: the buffer, the objects that its properties name, and the Unicode data. A number that names
-/// no object stands for the plain face, a display spec of no columns, the empty string or no table.
+/// What a look at a buffer needs: the buffer, the objects that its properties name, and the Unicode data, of which the brackets
+/// are none where no file gives any. A number that names no object stands for the plain face, a display spec of no columns, the
+/// empty string or no table.
 #[derive(Clone, Copy)]
 pub struct View<'a> {
     pub state: &'a BufferState,
     pub objects: &'a Objects,
     pub classes: &'a Classes,
     pub mirrors: &'a Mirrors,
+    pub brackets: &'a Brackets,
 }

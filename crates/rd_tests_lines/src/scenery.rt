@@ -5,7 +5,7 @@ ghost use Rattle.rd_text.specs.Texts.{IsAccessible};
 use rd_base::Pos;
 use rd_objects::Objects;
 use rd_props::{BufferState, View};
-use rd_ucd::{Classes, Mirrors};
+use rd_ucd::{Brackets, Classes, Mirrors};
 use std::alloc::Global;
 use std::test::Fail;
 
@@ -16,6 +16,7 @@ pub struct Scenery {
     pub objects: Objects,
     pub classes: Classes,
     pub mirrors: Mirrors,
+    pub brackets: Brackets,
 }
 
 impl Scenery {
@@ -27,6 +28,7 @@ impl Scenery {
             objects,
             classes,
             mirrors,
+            brackets: Brackets::none(alloc),
         })
     }
 
@@ -37,6 +39,7 @@ impl Scenery {
             objects: &self.objects,
             classes: &self.classes,
             mirrors: &self.mirrors,
+            brackets: &self.brackets,
         }
     }
 }
