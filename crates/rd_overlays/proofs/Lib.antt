@@ -1,3 +1,4 @@
+mod Alike
 mod Bounding
 mod Exact
 mod Listed

@@ -1,5 +1,5 @@
 -- What a listing of overlays holds, and in which order.
-use Rattle.std.specs.Prelude.{◌≡◌, ℕ, suc, ◌<◌, ◌↔◌, Bool, true, if◌then◌else◌, List, [], ◌∷◌, ◌++◌, length, map, slice_index, Option, None, Some}
+use Rattle.std.specs.Prelude.{◌≡◌, ℕ, ℤ, suc, ◌<◌, ◌↔◌, Bool, true, if◌then◌else◌, List, [], ◌∷◌, ◌++◌, length, map, slice_index, Option, None, Some}
 use Rattle.std.specs.List.{Contains}
 use Rattle.rd_overlays.specs.declared.overlay.Overlay.{Overlay}
 use Rattle.rd_overlays.specs.declared.listing.Rank.{Rank}
@@ -12,6 +12,11 @@ Passes test (Some overlay) = test overlay ≡ true
 -- a listing holds exactly the numbers of the overlays that live and pass a test
 abbrev pub HoldsExactly : (Overlay → Bool) → List (Option Overlay) → List ℕ → Type 0
 HoldsExactly test slots numbers = (number : ℕ) → Contains numbers number ↔ Passes test (overlay_at slots number)
+
+-- the priority of an overlay that lives and passes a test
+abbrev pub listed_priority : (Overlay → Bool) → Option Overlay → Option ℤ
+listed_priority test None = None
+listed_priority test (Some overlay) = if test overlay then Some overlay.priority else None
 
 abbrev pub rank_of : ℕ → Overlay → Rank
 rank_of number overlay = record { priority = overlay.priority; number = number }

@@ -1,8 +1,8 @@
 //! Laws of the definitions, for the layers above.
 ghost use Rattle.std.specs.Prelude.{ℕ, ◌≡◌, ◌≤◌, Bool, true, false, ℤ, pos, ◌∷◌, [], List, Option, Some, None};
 ghost use Rattle.rd_overlays.specs.declared.overlay.Overlay.{Overlay};
-ghost use Rattle.rd_overlays.specs.Overlays.{new_overlay, grown, shrunk, numbers_of, covering, starting, ending, next_edge};
-ghost use Rattle.rd_overlays.specs.Listings.{HoldsExactly, Ascends};
+ghost use Rattle.rd_overlays.specs.Overlays.{overlay_at, new_overlay, grown, shrunk, numbers_of, covering, starting, ending, next_edge};
+ghost use Rattle.rd_overlays.specs.Listings.{HoldsExactly, Ascends, listed_priority};
 
 /// Every edit leaves a start that isn't behind its end. The call does nothing.
 pub fn edits_keep_starts_before_ends()
@@ -35,4 +35,11 @@ pub fn overlays_that_meet()
 pub fn listings_are_exact()
     ensures holds { (test : Overlay → Bool) (slots : List (Option Overlay)) → HoldsExactly test slots (numbers_of test slots) }
     ensures ascends { (test : Overlay → Bool) (slots : List (Option Overlay)) → Ascends slots (numbers_of test slots) }
+{}
+
+/// A listing depends on the numbers of the overlays that pass its test and on their priorities alone: two tests of two lists have
+/// the same listing where at each number an overlay passes the one as an overlay with its priority passes the other. The call does
+/// nothing.
+pub fn listings_agree()
+    ensures { (f g : Overlay → Bool) (a b : List (Option Overlay)) → ((number : ℕ) → listed_priority f (overlay_at a number) ≡ listed_priority g (overlay_at b number)) → numbers_of f a ≡ numbers_of g b }
 {}

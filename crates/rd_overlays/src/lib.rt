@@ -14,7 +14,8 @@ mod store;
 
 pub use fault::OverlayFault;
 pub use laws::{
-    edits_keep_starts_before_ends, insertions_at_edges, listings_are_exact, overlays_that_meet,
+    edits_keep_starts_before_ends, insertions_at_edges, listings_agree, listings_are_exact,
+    overlays_that_meet,
 };
 pub use overlay::{Kind, Overlay};
 pub use overlays::Overlays;

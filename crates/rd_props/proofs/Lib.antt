@@ -1,6 +1,11 @@
+pub mod Alike
 pub mod Edges
 pub mod Changes
 pub mod Lasts
 pub mod Greatest
 pub mod Newness
 pub mod Options
+pub mod Joining
+pub mod Moves
+pub mod Texts
+pub mod Editing

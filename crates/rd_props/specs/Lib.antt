@@ -5,6 +5,9 @@ pub mod Hiding
 pub mod Shown
 pub mod Strings
 pub mod Seen
+pub mod Agreement
+pub mod Edits
+pub mod Made
 pub mod Stops
 pub mod Laws
 pub mod Examples

@@ -3,6 +3,7 @@
 //! Emacs Lisp Reference Manual (Text Properties, Overlay Properties, Invisible Text).
 #![tactic(auto)]
 
+mod edits;
 mod faces;
 mod hiding;
 mod laws;
@@ -12,6 +13,7 @@ mod stops;
 mod strings;
 mod values;
 
+pub use edits::{changes_join, deletions_leave_the_rest, insertions_leave_the_rest};
 pub use faces::face_at;
 pub use hiding::Hidden;
 pub use laws::{

@@ -1,0 +1,221 @@
+-- Two positions of two buffers at which the same is seen.
+use Rattle.std.proofs.Common.{◌≡◌, ℕ, ℤ, suc, ◌-◌, ◌<◌, Bool, true, false, if◌then◌else◌, List, [], ◌∷◌, ◌++◌, length, reverse, get_or, Option, None, Some, refl, sym, ap, ◌∙◌, arith}
+use Rattle.std.specs.Prelude.{nat_lt}
+use Rattle.std.specs.List.{Contains}
+use Rattle.std.specs.Option.{option_or, option_to_list}
+use Rattle.std.proofs.lemmas.List.{length-reverse, get_or-reverse}
+use Rattle.std.proofs.lemmas.Option.{same_Some}
+use Rattle.rd_base.specs.Faces.{Attributes, over}
+use Rattle.rd_overlays.specs.declared.overlay.Overlay.{Overlay}
+use Rattle.rd_overlays.specs.declared.overlay.Kind.{Kind}
+use Rattle.rd_overlays.specs.declared.overlay.Kind.TheVariants.{Face, Display, Invisible, LinePrefix, WrapPrefix, Before, After}
+use Rattle.rd_overlays.specs.Overlays.{overlay_at, place_of, covers, starts, ends, numbers_of, covering, starting, ending}
+use Rattle.rd_overlays.specs.Listings.{Passes, HoldsExactly, listed_priority}
+use Rattle.rd_objects.specs.Things.{ObjectLists}
+use Rattle.rd_props.specs.Buffers.{BufferValue}
+use Rattle.rd_props.specs.Values.{value_of, last_value, effective}
+use Rattle.rd_props.specs.Faces.{face_of, laid_over, face_at}
+use Rattle.rd_props.specs.Strings.{is_empty, part_of, part_in, strings_of}
+use Rattle.rd_props.specs.declared.strings.Part.{Part}
+use Rattle.rd_props.specs.declared.strings.Part.TheVariants.{Closing, Between, Opening}
+use Rattle.rd_props.specs.Seen.{accessible_char, Agree}
+
+-- what a position sees of an overlay, wherever it stands
+pub record Mark : Type 0 where
+  pub priority : ℤ
+  pub values : List (Option ℕ)
+  pub empty : Bool
+
+abbrev pub mark_of : Overlay → Mark
+mark_of o = record { priority = o.priority; values = o.values; empty = is_empty o }
+
+-- the same where the overlay passes a test
+abbrev pub picked : (Overlay → Bool) → Option Overlay → Option Mark
+picked test None = None
+picked test (Some o) = if test o then Some (mark_of o) else None
+
+-- at each number the same is seen of the overlays of two lists that pass two tests
+abbrev pub AreAlike : (Overlay → Bool) → (Overlay → Bool) → List (Option Overlay) → List (Option Overlay) → Type 0
+AreAlike f g a b = (number : ℕ) → picked f (overlay_at a number) ≡ picked g (overlay_at b number)
+
+-- what the laws of overlays say of listings
+pub record AreListings : Type 0 where
+  pub exact : (test : Overlay → Bool) (slots : List (Option Overlay)) → HoldsExactly test slots (numbers_of test slots)
+  pub agree : (f g : Overlay → Bool) (a b : List (Option Overlay)) → ((number : ℕ) → listed_priority f (overlay_at a number) ≡ listed_priority g (overlay_at b number))
+      → numbers_of f a ≡ numbers_of g b
+
+abbrev priority_of : Option Mark → Option ℤ
+priority_of None = None
+priority_of (Some m) = Some m.priority
+
+priority-by : (o : Overlay) (t : Bool) → (if t then Some o.priority else None) ≡ priority_of (if t then Some (mark_of o) else None)
+priority-by o true = refl
+priority-by o false = refl
+
+priority-picked : (test : Overlay → Bool) (slot : Option Overlay) → listed_priority test slot ≡ priority_of (picked test slot)
+priority-picked test None = refl
+priority-picked test (Some o) = priority-by o (test o)
+
+listing-same : AreListings → (f g : Overlay → Bool) (a b : List (Option Overlay)) → AreAlike f g a b → numbers_of f a ≡ numbers_of g b
+listing-same listings f g a b alike =
+    listings.agree f g a b (λ n.
+    priority-picked f (overlay_at a n) ∙ (ap priority_of (alike n) ∙ sym (priority-picked g (overlay_at b n))))
+
+-- ---- what the overlays of a listing give
+
+abbrev value_by : Kind → Mark → Option ℕ
+value_by kind m = get_or m.values (place_of kind) None
+
+abbrev part_by : Part → Mark → List ℕ
+part_by Closing m = if m.empty then [] else option_to_list (value_by After m)
+part_by Between m = if m.empty then option_to_list (value_by Before m) ++ option_to_list (value_by After m) else []
+part_by Opening m = if m.empty then [] else option_to_list (value_by Before m)
+
+part-by : (part : Part) (o : Overlay) → part_of part o ≡ part_by part (mark_of o)
+part-by Closing o = refl
+part-by Between o = refl
+part-by Opening o = refl
+
+marks-same : (o p : Overlay) (x y : Bool) → x ≡ true → (if x then Some (mark_of o) else None) ≡ (if y then Some (mark_of p) else None) → mark_of o ≡ mark_of p
+marks-same o p true true e same = same_Some (mark_of o) (mark_of p) same
+marks-same o p true false e same = absurd (cc)
+marks-same o p false y e same = absurd (cc)
+
+no-mark : (o : Overlay) (x : Bool) → x ≡ true → (if x then Some (mark_of o) else None) ≡ None → ⊥
+no-mark o true e same = absurd (cc)
+no-mark o false e same = absurd (cc)
+
+-- an overlay that is listed, and the one that stands at its number in another list
+record GivesSame (s t : Option Overlay) : Type 0 where
+  value : (kind : Kind) → value_of kind s ≡ value_of kind t
+  part : (part : Part) → part_in part s ≡ part_in part t
+
+slots-give : (f g : Overlay → Bool) (s t : Option Overlay) → Passes f s → picked f s ≡ picked g t → GivesSame s t
+slots-give f g None t pass same = absurd pass
+slots-give f g (Some o) None pass same = absurd (no-mark o (f o) pass same)
+slots-give f g (Some o) (Some p) pass same =
+    let e : mark_of o ≡ mark_of p = marks-same o p (f o) (g p) pass same in
+    record {
+      value = λ kind. ap (value_by kind) e;
+      part = λ part. part-by part o ∙ (ap (part_by part) e ∙ sym (part-by part p));
+    }
+
+-- each overlay of these numbers gives the same in two lists
+abbrev GiveSame : List (Option Overlay) → List (Option Overlay) → List ℕ → Type 0
+GiveSame a b numbers = (n : ℕ) → Contains numbers n → GivesSame (overlay_at a n) (overlay_at b n)
+
+listing-gives : AreListings → (f g : Overlay → Bool) (a b : List (Option Overlay)) → AreAlike f g a b → GiveSame a b (numbers_of f a)
+listing-gives listings f g a b alike n member = slots-give f g (overlay_at a n) (overlay_at b n) ((listings.exact f a n).0 member) (alike n)
+
+first-contained : (n : ℕ) (ns : List ℕ) → Contains (n ∷ ns) n
+first-contained n ns = (0, omega arith, refl)
+
+later-contained : (m n : ℕ) (ns : List ℕ) → Contains ns n → Contains (m ∷ ns) n
+later-contained m n ns (k, inside, is) = (suc k, omega (arith, inside), is)
+
+turned-contained : (n : ℕ) (ns : List ℕ) → Contains (reverse ns) n → Contains ns n
+turned-contained n ns (k, inside, is) =
+    let size = length-reverse ns in
+    let here : k < length ns = omega (arith, inside) in
+    (length ns - 1 - k, omega arith, sym (get_or-reverse ns k n here) ∙ is)
+
+-- ---- values, faces and strings
+
+module _ (a b : List (Option Overlay)) where
+  last-same : (kind : Kind) (ns : List ℕ) → GiveSame a b ns → last_value a kind ns ≡ last_value b kind ns
+  last-same kind [] same = refl
+  last-same kind (n ∷ ns) same =
+      let rest = last-same kind ns (λ m h. same m (later-contained n m ns h)) in
+      let here = (same n (first-contained n ns)).value kind in
+      ap (λ (o : Option ℕ). option_or o (value_of kind (overlay_at a n))) rest ∙ ap (option_or (last_value b kind ns)) here
+
+  faces-same : (objects : ObjectLists) (ns : List ℕ) (face : Attributes) → GiveSame a b ns → laid_over objects a ns face ≡ laid_over objects b ns face
+  faces-same objects [] face same = refl
+  faces-same objects (n ∷ ns) face same =
+      let here = (same n (first-contained n ns)).value Face in
+      faces-same objects ns (over (face_of objects (value_of Face (overlay_at a n))) face) (λ m h. same m (later-contained n m ns h))
+      ∙ ap (λ (o : Option ℕ). laid_over objects b ns (over (face_of objects o) face)) here
+
+  strings-same : (part : Part) (ns : List ℕ) → GiveSame a b ns → strings_of part a ns ≡ strings_of part b ns
+  strings-same part [] same = refl
+  strings-same part (n ∷ ns) same =
+      let rest = strings-same part ns (λ m h. same m (later-contained n m ns h)) in
+      let here = (same n (first-contained n ns)).part part in
+      ap (λ (xs : List ℕ). xs ++ strings_of part a ns) here ∙ ap (λ (xs : List ℕ). part_in part (overlay_at b n) ++ xs) rest
+
+-- what two positions of two lists of overlays see of them is the same
+pub record SeeSame (x y : ℕ) (a b : List (Option Overlay)) : Type 0 where
+  pub covers : AreAlike (covers x) (covers y) a b
+  pub starts : AreAlike (starts x) (starts y) a b
+  pub ends : AreAlike (ends x) (ends y) a b
+
+module _ (listings : AreListings) (x y : ℕ) (a b : List (Option Overlay)) (see : SeeSame x y a b) where
+  covering-same : covering x a ≡ covering y b
+  covering-same = listing-same listings (covers x) (covers y) a b see.covers
+
+  covering-gives : GiveSame a b (covering x a)
+  covering-gives = listing-gives listings (covers x) (covers y) a b see.covers
+
+  pub lasts-agree : (kind : Kind) → last_value a kind (covering x a) ≡ last_value b kind (covering y b)
+  lasts-agree kind = last-same a b kind (covering x a) covering-gives ∙ ap (last_value b kind) covering-same
+
+  pub faces-agree : (objects : ObjectLists) (face : Attributes) → laid_over objects a (covering x a) face ≡ laid_over objects b (covering y b) face
+  faces-agree objects face =
+      faces-same a b objects (covering x a) face covering-gives ∙ ap (λ (ns : List ℕ). laid_over objects b ns face) covering-same
+
+  starts-agree : (part : Part) → strings_of part a (starting x a) ≡ strings_of part b (starting y b)
+  starts-agree part =
+      strings-same a b part (starting x a) (listing-gives listings (starts x) (starts y) a b see.starts)
+      ∙ ap (strings_of part b) (listing-same listings (starts x) (starts y) a b see.starts)
+
+  ends-agree : (part : Part) → strings_of part a (reverse (ending x a)) ≡ strings_of part b (reverse (ending y b))
+  ends-agree part =
+      let gives = listing-gives listings (ends x) (ends y) a b see.ends in
+      strings-same a b part (reverse (ending x a)) (λ n h. gives n (turned-contained n (ending x a) h))
+      ∙ ap (λ (ns : List ℕ). strings_of part b (reverse ns)) (listing-same listings (ends x) (ends y) a b see.ends)
+
+  pub strings-agree : (closing between opening : List ℕ)
+      → closing ≡ strings_of Closing a (reverse (ending x a)) → between ≡ strings_of Between a (starting x a) → opening ≡ strings_of Opening a (starting x a)
+      → closing ++ between ++ opening ≡ strings_of Closing b (reverse (ending y b)) ++ strings_of Between b (starting y b) ++ strings_of Opening b (starting y b)
+  strings-agree closing between opening c m o =
+      let first = c ∙ ends-agree Closing in
+      let second = m ∙ starts-agree Between in
+      let third = o ∙ starts-agree Opening in
+      rw (first, second, third)
+
+-- ---- all that is seen
+
+-- the text and the text properties are the same at two positions
+pub record ReadSame (s : BufferValue) (x : ℕ) (t : BufferValue) (y : ℕ) : Type 0 where
+  pub character : accessible_char s.text x ≡ accessible_char t.text y
+  pub inside : nat_lt x s.text.end ≡ nat_lt y t.text.end
+  pub properties : (kind : ℕ) → s.properties kind x ≡ t.properties kind y
+
+module _ (listings : AreListings) (s t : BufferValue) (x y : ℕ) (read : ReadSame s x t y) (see : SeeSame x y s.overlays t.overlays) where
+  values-agree : (kind : Kind) → effective s x kind ≡ effective t y kind
+  values-agree kind =
+      let inside = read.inside in
+      let own = read.properties (place_of kind) in
+      let last = lasts-agree listings x y s.overlays t.overlays see kind in
+      rw (inside, own, last)
+
+  face-agrees : (objects : ObjectLists) → face_at s objects x ≡ face_at t objects y
+  face-agrees objects =
+      let inside = read.inside in
+      let own = read.properties (place_of Face) in
+      let laid = faces-agree listings x y s.overlays t.overlays see objects (face_of objects (t.properties (place_of Face) y)) in
+      rw (inside, own, laid)
+
+  pub seen-agrees : (objects : ObjectLists) → Agree s objects x t objects y
+  seen-agrees objects =
+      let strings = strings-agree listings x y s.overlays t.overlays see (strings_of Closing s.overlays (reverse (ending x s.overlays)))
+      (strings_of Between s.overlays (starting x s.overlays)) (strings_of Opening s.overlays (starting x s.overlays)) refl refl refl in
+      λ i. record {
+        character = read.character i;
+        display = values-agree Display i;
+        invisible = values-agree Invisible i;
+        line_prefix = values-agree LinePrefix i;
+        wrap_prefix = values-agree WrapPrefix i;
+        face = face-agrees objects i;
+        strings = strings i;
+      }

@@ -1,0 +1,101 @@
+-- Insertions and deletions leave what stands before them and one behind them.
+use Rattle.std.proofs.Common.{◌≡◌, inl, inr, ℕ, ◌+◌, ◌-◌, ◌<◌, ◌≤◌, List, length, Option, sym, ap, subst, ◌∙◌, arith}
+use Rattle.std.proofs.lemmas.Int.{ints}
+use Rattle.rd_text.specs.Texts.{TextValue, IsText, IsAccessible}
+use Rattle.rd_text.specs.Answers.{IsAccessibleRange}
+use Rattle.rd_overlays.specs.declared.overlay.Overlay.{Overlay}
+use Rattle.rd_objects.specs.Things.{ObjectLists}
+use Rattle.rd_props.specs.Buffers.{BufferValue}
+use Rattle.rd_props.specs.Agreement.{IsInReach, IsSame, IsEdited}
+use Rattle.rd_props.specs.Edits.{AreOrdered, IsInsertion, IsDeletion}
+use Rattle.rd_props.proofs.Alike.{AreListings, SeeSame, seen-agrees}
+use Rattle.rd_props.proofs.Texts.{ReadsAlike, inserted-reads-before, inserted-reads-behind, deleted-reads-before, deleted-reads-behind, opened-before, opened-behind, closed-before, closed-behind}
+use Rattle.rd_props.proofs.Moves.{grown-before, grown-behind, shrunk-before, shrunk-behind}
+
+-- all that two positions see is the same
+pub record StaysSame (s : BufferValue) (x : ℕ) (t : BufferValue) (y : ℕ) : Type 0 where
+  pub text : ReadsAlike s.text x t.text y
+  pub properties : (kind : ℕ) → s.properties kind x ≡ t.properties kind y
+  pub overlays : SeeSame x y s.overlays t.overlays
+
+pub same-by : AreListings → (s t : BufferValue) (objects : ObjectLists) (x y : ℕ) → StaysSame s x t y → IsInReach s x t y → IsSame s objects x t objects y
+same-by listings s t objects x y stays reach =
+    let text = stays.text in
+    let agree = seen-agrees listings s t x y (record { character = text.character; inside = text.inside; properties = stays.properties }) stays.overlays objects in
+    elim reach [
+      | inl within ↦ record { old_within = within; new_within = text.to within; agree = agree }
+      | inr within ↦ record { old_within = text.from within; new_within = within; agree = agree }
+    ]
+
+module _ (listings : AreListings) (old new : BufferValue) (objects : ObjectLists) (text : IsText old.text) (ordered : AreOrdered old.overlays) where
+  module _ (place : ℕ) (chars : List ℕ) (at : IsAccessible old.text place) (edit : IsInsertion old new place chars) where
+    first : 1 ≤ place
+    first = let begin = text.first in let low = at.0 in omega arith
+
+    within : place ≤ length old.text.text + 1
+    within = let end = text.last in let high = at.1 in omega arith
+
+    insertion-before : (x : ℕ) → x < place → StaysSame old x new x
+    insertion-before x less =
+        let P : TextValue → Type 0 = λ t. ReadsAlike old.text x t x in
+        let Q : List (Option Overlay) → Type 0 = λ slots. SeeSame x x old.overlays slots in
+        record {
+          text = subst P (sym edit.text) (inserted-reads-before old.text place x chars within at.1 less);
+          properties = λ kind. opened-before old.properties place (length chars) kind x less ∙ sym (edit.properties kind x);
+          overlays = subst Q (sym edit.overlays) (grown-before place (length chars) x old.overlays ordered less);
+        }
+
+    insertion-behind : (x y : ℕ) → place < x → x + length chars ≡ y → StaysSame old x new y
+    insertion-behind x y less is =
+        let P : TextValue → Type 0 = λ t. ReadsAlike old.text x t y in
+        let Q : List (Option Overlay) → Type 0 = λ slots. SeeSame x y old.overlays slots in
+        record {
+          text = subst P (sym edit.text) (inserted-reads-behind old.text place x y chars first within (omega arith) is);
+          properties = λ kind. opened-behind old.properties place (length chars) kind x y (omega arith) is ∙ sym (edit.properties kind y);
+          overlays = subst Q (sym edit.overlays) (grown-behind place (length chars) x y old.overlays ordered less is);
+        }
+
+    pub insertion-edits : IsEdited old objects new objects place 0 (length chars)
+    insertion-edits = record {
+      begin = ap (λ (t : TextValue). t.begin) edit.text;
+      before = λ x low less reach. same-by listings old new objects x x (insertion-before x less) reach;
+      behind = λ x y low more is reach.
+          let moved : x + length chars ≡ y = omega (arith, ints, is) in
+          same-by listings old new objects x y (insertion-behind x y (omega arith) moved) reach;
+    }
+
+  module _ (from to : ℕ) (at : IsAccessibleRange old.text from to) (edit : IsDeletion old new from to) where
+    start : 1 ≤ from
+    start = let begin = text.first in let low = at.first in omega arith
+
+    inside : from ≤ length old.text.text + 1
+    inside = let end = text.last in let middle = at.ordered in let high = at.last in omega arith
+
+    deletion-before : (x : ℕ) → x < from → StaysSame old x new x
+    deletion-before x less =
+        let P : TextValue → Type 0 = λ t. ReadsAlike old.text x t x in
+        let Q : List (Option Overlay) → Type 0 = λ slots. SeeSame x x old.overlays slots in
+        record {
+          text = subst P (sym edit.text) (deleted-reads-before old.text from to x inside at.ordered at.last less);
+          properties = λ kind. closed-before old.properties from to kind x less ∙ sym (edit.properties kind x);
+          overlays = subst Q (sym edit.overlays) (shrunk-before from to x old.overlays at.ordered less);
+        }
+
+    deletion-behind : (x y : ℕ) → from < y → y + (to - from) ≡ x → StaysSame old x new y
+    deletion-behind x y less is =
+        let P : TextValue → Type 0 = λ t. ReadsAlike old.text x t y in
+        let Q : List (Option Overlay) → Type 0 = λ slots. SeeSame x y old.overlays slots in
+        record {
+          text = subst P (sym edit.text) (deleted-reads-behind old.text from to x y start at.ordered inside at.last (omega arith) is);
+          properties = λ kind. closed-behind old.properties from to kind x y (omega arith) is ∙ sym (edit.properties kind y);
+          overlays = subst Q (sym edit.overlays) (shrunk-behind from to x y old.overlays at.ordered less is);
+        }
+
+    pub deletion-edits : IsEdited old objects new objects from (to - from) 0
+    deletion-edits = record {
+      begin = ap (λ (t : TextValue). t.begin) edit.text;
+      before = λ x low less reach. same-by listings old new objects x x (deletion-before x less) reach;
+      behind = λ x y low more is reach.
+          let moved : y + (to - from) ≡ x = omega (arith, ints, is) in
+          same-by listings old new objects x y (deletion-behind x y (omega arith) moved) reach;
+    }

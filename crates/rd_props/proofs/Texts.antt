@@ -1,0 +1,151 @@
+-- Characters and values of properties before and behind an edit.
+use Rattle.std.proofs.Common.{◌≡◌, ℕ, zero, suc, ◌+◌, ◌-◌, ◌<◌, ◌≤◌, Bool, true, false, if◌then◌else◌, List, [], ◌∷◌, ◌++◌, length, take, drop, Option, None, refl, sym, ap, ◌∙◌, arith}
+use Rattle.std.specs.Prelude.{nat_lt, nat_le, slice_get}
+use Rattle.std.proofs.lemmas.Bool.Decides.{nat_tests}
+use Rattle.std.proofs.lemmas.List.{length-take, length-append}
+use Rattle.rd_text.specs.Texts.{TextValue, char_at, inserted, deleted}
+use Rattle.rd_props.specs.Edits.{opened, closed}
+use Rattle.rd_props.specs.Seen.{accessible_char}
+
+-- ---- elements of lists
+
+get-left : (xs ys : List ℕ) (k : ℕ) → k < length xs → slice_get (xs ++ ys) k ≡ slice_get xs k
+get-left [] ys k less = absurd (omega arith)
+get-left (x ∷ xs) ys zero less = refl
+get-left (x ∷ xs) ys (suc k) less = get-left xs ys k (omega arith)
+
+get-right : (xs ys : List ℕ) (n k j : ℕ) → length xs ≡ n → k ≡ n + j → slice_get (xs ++ ys) k ≡ slice_get ys j
+get-right [] ys n k j size is = (let e : k ≡ j = omega arith in ap (slice_get ys) e)
+get-right (x ∷ xs) ys n zero j size is = absurd (omega arith)
+get-right (x ∷ xs) ys n (suc k) j size is = get-right xs ys (length xs) k j refl (omega arith)
+
+get-take : (i : ℕ) (xs : List ℕ) (k : ℕ) → k < i → slice_get (take i xs) k ≡ slice_get xs k
+get-take zero xs k less = absurd (omega arith)
+get-take (suc i) [] k less = refl
+get-take (suc i) (x ∷ xs) zero less = refl
+get-take (suc i) (x ∷ xs) (suc k) less = get-take i xs k (omega arith)
+
+get-drop : (i : ℕ) (xs : List ℕ) (k j : ℕ) → k ≡ i + j → slice_get (drop i xs) j ≡ slice_get xs k
+get-drop zero xs k j is = (let e : j ≡ k = omega arith in ap (slice_get xs) e)
+get-drop (suc i) [] k j is = refl
+get-drop (suc i) (x ∷ xs) zero j is = absurd (omega arith)
+get-drop (suc i) (x ∷ xs) (suc k) j is = get-drop i xs k j (omega arith)
+
+-- ---- characters
+
+char-by : (xs ys : List ℕ) (x y : ℕ) → (1 ≤ x → 1 ≤ y) → (1 ≤ y → 1 ≤ x) → (1 ≤ x → slice_get xs (x - 1) ≡ slice_get ys (y - 1))
+    → (if nat_le 1 x then slice_get xs (x - 1) else None) ≡ (if nat_le 1 y then slice_get ys (y - 1) else None)
+char-by xs ys x y to from same = by (nat_le 1 x) (nat_le 1 y) refl refl where
+  by : (t u : Bool) → nat_le 1 x ≡ t → nat_le 1 y ≡ u → (if t then slice_get xs (x - 1) else None) ≡ (if u then slice_get ys (y - 1) else None)
+  by true true ht hu = same (grind (arith, nat_tests))
+  by true false ht hu = absurd (grind (arith, nat_tests))
+  by false true ht hu = absurd (grind (arith, nat_tests))
+  by false false ht hu = refl
+
+inserted-before : (t : TextValue) (place x : ℕ) (new : List ℕ) → place ≤ length t.text + 1 → x < place → char_at t x ≡ char_at (inserted t place new) x
+inserted-before t place x new within less =
+    char-by t.text (inserted t place new).text x x (λ h. h) (λ h. h) (λ some.
+    let front = length-take (place - 1) t.text in
+    let both = length-append (take (place - 1) t.text) new in
+    sym (get-left (take (place - 1) t.text ++ new) (drop (place - 1) t.text) (x - 1) (omega arith)
+    ∙ (get-left (take (place - 1) t.text) new (x - 1) (omega arith) ∙ get-take (place - 1) t.text (x - 1) (omega arith))))
+
+inserted-behind : (t : TextValue) (place x y : ℕ) (new : List ℕ) → 1 ≤ place → place ≤ length t.text + 1 → place ≤ x → x + length new ≡ y
+    → char_at t x ≡ char_at (inserted t place new) y
+inserted-behind t place x y new first within less is =
+    char-by t.text (inserted t place new).text x y (λ h. omega arith) (λ h. omega arith) (λ some.
+    let front = length-take (place - 1) t.text in
+    let both = length-append (take (place - 1) t.text) new in
+    sym (get-right (take (place - 1) t.text ++ new) (drop (place - 1) t.text) (place - 1 + length new) (y - 1) (x - place) (omega arith) (omega arith)
+    ∙ get-drop (place - 1) t.text (x - 1) (x - place) (omega arith)))
+
+deleted-before : (t : TextValue) (from to x : ℕ) → from ≤ length t.text + 1 → x < from → char_at t x ≡ char_at (deleted t from to) x
+deleted-before t from to x within less =
+    char-by t.text (deleted t from to).text x x (λ h. h) (λ h. h) (λ some.
+    let front = length-take (from - 1) t.text in
+    sym (get-left (take (from - 1) t.text) (drop (to - 1) t.text) (x - 1) (omega arith) ∙ get-take (from - 1) t.text (x - 1) (omega arith)))
+
+deleted-behind : (t : TextValue) (from to x y : ℕ) → 1 ≤ from → from ≤ to → from ≤ length t.text + 1 → from ≤ y → y + (to - from) ≡ x
+    → char_at t x ≡ char_at (deleted t from to) y
+deleted-behind t from to x y first ordered within less is =
+    char-by t.text (deleted t from to).text x y (λ h. omega arith) (λ h. omega arith) (λ some.
+    let front = length-take (from - 1) t.text in
+    sym (get-right (take (from - 1) t.text) (drop (to - 1) t.text) (from - 1) (y - 1) (y - from) (omega arith) (omega arith)
+    ∙ get-drop (to - 1) t.text (x - 1) (y - from) (omega arith)))
+
+-- the same with the ends of the accessible texts
+accessible-by : (t u : TextValue) (x y : ℕ) → nat_lt x t.end ≡ nat_lt y u.end → char_at t x ≡ char_at u y → accessible_char t x ≡ accessible_char u y
+accessible-by t u x y inside same = rw (inside, same)
+
+-- what is accessible reads the same at two positions of two texts, and neither end lies between them
+pub record ReadsAlike (t : TextValue) (x : ℕ) (u : TextValue) (y : ℕ) : Type 0 where
+  pub inside : nat_lt x t.end ≡ nat_lt y u.end
+  pub character : accessible_char t x ≡ accessible_char u y
+  pub to : x ≤ t.end → y ≤ u.end
+  pub from : y ≤ u.end → x ≤ t.end
+
+pub inserted-reads-before : (t : TextValue) (place x : ℕ) (new : List ℕ) → place ≤ length t.text + 1 → place ≤ t.end → x < place → ReadsAlike t x (inserted t place new) x
+inserted-reads-before t place x new within last less =
+    let inside : nat_lt x t.end ≡ nat_lt x (t.end + length new) = grind (arith, nat_tests) in
+    record {
+      inside = inside;
+      character = accessible-by t (inserted t place new) x x inside (inserted-before t place x new within less);
+      to = λ h. omega arith;
+      from = λ h. omega arith;
+    }
+
+pub inserted-reads-behind : (t : TextValue) (place x y : ℕ) (new : List ℕ) → 1 ≤ place → place ≤ length t.text + 1 → place ≤ x → x + length new ≡ y
+    → ReadsAlike t x (inserted t place new) y
+inserted-reads-behind t place x y new first within less is =
+    let inside : nat_lt x t.end ≡ nat_lt y (t.end + length new) = grind (arith, nat_tests) in
+    record {
+      inside = inside;
+      character = accessible-by t (inserted t place new) x y inside (inserted-behind t place x y new first within less is);
+      to = λ h. omega arith;
+      from = λ h. omega arith;
+    }
+
+pub deleted-reads-before : (t : TextValue) (from to x : ℕ) → from ≤ length t.text + 1 → from ≤ to → to ≤ t.end → x < from → ReadsAlike t x (deleted t from to) x
+deleted-reads-before t from to x within ordered last less =
+    let inside : nat_lt x t.end ≡ nat_lt x (t.end - (to - from)) = grind (arith, nat_tests) in
+    record {
+      inside = inside;
+      character = accessible-by t (deleted t from to) x x inside (deleted-before t from to x within less);
+      to = λ h. omega arith;
+      from = λ h. omega arith;
+    }
+
+pub deleted-reads-behind : (t : TextValue) (from to x y : ℕ) → 1 ≤ from → from ≤ to → from ≤ length t.text + 1 → to ≤ t.end → from ≤ y → y + (to - from) ≡ x
+    → ReadsAlike t x (deleted t from to) y
+deleted-reads-behind t from to x y first ordered within last less is =
+    let inside : nat_lt x t.end ≡ nat_lt y (t.end - (to - from)) = grind (arith, nat_tests) in
+    record {
+      inside = inside;
+      character = accessible-by t (deleted t from to) x y inside (deleted-behind t from to x y first ordered within less is);
+      to = λ h. omega arith;
+      from = λ h. omega arith;
+    }
+
+-- ---- values
+
+pub opened-before : (values : ℕ → ℕ → Option ℕ) (place n kind x : ℕ) → x < place → values kind x ≡ opened values place n kind x
+opened-before values place n kind x less =
+    let here : nat_lt x place ≡ true = grind (arith, nat_tests) in
+    rw here refl
+
+pub opened-behind : (values : ℕ → ℕ → Option ℕ) (place n kind x y : ℕ) → place ≤ x → x + n ≡ y → values kind x ≡ opened values place n kind y
+opened-behind values place n kind x y less is =
+    let one : nat_lt y place ≡ false = grind (arith, nat_tests) in
+    let two : nat_lt y (place + n) ≡ false = grind (arith, nat_tests) in
+    let back : x ≡ y - n = omega arith in
+    rw (one, two) (ap (values kind) back)
+
+pub closed-before : (values : ℕ → ℕ → Option ℕ) (from to kind x : ℕ) → x < from → values kind x ≡ closed values from to kind x
+closed-before values from to kind x less =
+    let here : nat_lt x from ≡ true = grind (arith, nat_tests) in
+    rw here refl
+
+pub closed-behind : (values : ℕ → ℕ → Option ℕ) (from to kind x y : ℕ) → from ≤ y → y + (to - from) ≡ x → values kind x ≡ closed values from to kind y
+closed-behind values from to kind x y less is =
+    let one : nat_lt y from ≡ false = grind (arith, nat_tests) in
+    rw one (ap (values kind) (sym is))
