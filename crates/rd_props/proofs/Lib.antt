@@ -9,3 +9,4 @@ pub mod Joining
 pub mod Moves
 pub mod Texts
 pub mod Editing
+pub mod Between

@@ -5,6 +5,7 @@ pub mod Hiding
 pub mod Shown
 pub mod Strings
 pub mod Seen
+pub mod Appearance
 pub mod Agreement
 pub mod Edits
 pub mod Made

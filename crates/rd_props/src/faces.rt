@@ -1,7 +1,8 @@
 //! The merged face of a position.
 ghost use Rattle.std.specs.Prelude.{◌≡◌, IfOk};
 ghost use Rattle.rd_text.specs.Texts.{IsAccessible};
-ghost use Rattle.rd_props.specs.Buffers.{meaning};
+ghost use Rattle.rd_overlays.specs.declared.overlay.Kind.TheVariants as kind;
+ghost use Rattle.rd_props.specs.Buffers.{meaning, property};
 ghost use Rattle.rd_props.specs.Faces.{face_of, laid_over, face_at};
 
 use crate::state::View;
@@ -33,6 +34,15 @@ fn laid_over(objects: &Objects, overlays: &Overlays, numbers: &[u32], under: Fac
     face
 }
 
+/// The face of a position that these overlays cover.
+pub(crate) fn face_under(view: &View, covering: &[u32], pos: Pos) -> Face
+    ensures { result ≡ laid_over view.now.objects.now view.now.state.now.overlays covering.now (face_of view.now.objects.now (property (meaning view.now.state.now) kind.Face pos)) }
+{
+    let state = view.state;
+    let under = face_of(view.objects, property(state, Kind::Face, pos));
+    laid_over(view.objects, &state.overlays, covering, under)
+}
+
 /// The face of an accessible position, or of the end of the accessible text, which is plain: the face of the text property with
 /// the faces of the covering overlays laid over it in increasing order of priority and number. It costs the listing of the
 /// overlays that cover the position, and one look-up of the property.
@@ -45,6 +55,5 @@ pub fn face_at(alloc: Global, view: &View, pos: Pos) -> Result<Face, Memory>
         return Ok(Face::PLAIN);
     }
     let covering = state.overlays.covering(pos)?;
-    let under = face_of(view.objects, property(state, Kind::Face, pos));
-    Ok(laid_over(view.objects, &state.overlays, covering.as_slice(), under))
+    Ok(face_under(view, covering.as_slice(), pos))
 }

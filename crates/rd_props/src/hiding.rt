@@ -1,6 +1,7 @@
 //! Whether an atom of invisible text hides.
 ghost use Rattle.std.specs.Prelude.{◌≡◌};
 ghost use Rattle.rd_props.specs.Hiding.{listed, hiding_of};
+ghost use Rattle.rd_props.specs.Shown.{hiding_of_value};
 
 use rd_base::Invisible;
 
@@ -29,11 +30,21 @@ fn listed(pairs: &[(u32, bool)], atom: u32) -> Hidden
 }
 
 /// How a setting hides an atom.
-pub(crate) fn hiding_of(setting: &Invisible, atom: u32) -> Hidden
+fn hiding_of(setting: &Invisible, atom: u32) -> Hidden
     ensures { result ≡ hiding_of setting.now atom }
 {
     match setting {
         Invisible::Every => Hidden::Plain,
         Invisible::Listed(pairs) => listed(pairs.as_slice(), atom),
+    }
+}
+
+/// How an atom hides by a setting, where there is one.
+pub(crate) fn hiding_of_value(setting: &Invisible, atom: Option<u32>) -> Hidden
+    ensures { result ≡ hiding_of_value setting.now atom }
+{
+    match atom {
+        None => Hidden::No,
+        Some(atom) => hiding_of(setting, atom),
     }
 }

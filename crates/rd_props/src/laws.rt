@@ -11,11 +11,13 @@ ghost use Rattle.rd_props.specs.Shown.{hidden};
 ghost use Rattle.rd_objects.specs.Things.{ObjectLists};
 ghost use Rattle.rd_props.specs.Strings.{strings_at};
 ghost use Rattle.rd_props.specs.Seen.{seen_at, hidden_seen};
+ghost use Rattle.rd_props.specs.Appearance.{appearance_in};
+ghost use Rattle.rd_props.specs.Stops.{IsNextStop};
 ghost use Rattle.rd_props.specs.declared.hiding.Hidden.TheVariants.{No, Plain, Ellipsis};
 ghost use Rattle.rd_props.specs.Laws.{Gives, IsGreatest};
 ghost use Rattle.rd_props.specs.Examples.{three_characters, coloured, two_faces, meeting, partly_invisible};
 
-use rd_overlays::listings_are_exact;
+use rd_overlays::{listings_agree, listings_are_exact};
 
 /// The effective value before the end of the accessible text is that of the overlay which covers the position, has a value of
 /// the kind, and which no other such overlay has a greater priority than, nor the same with a greater number; where no overlay
@@ -32,6 +34,15 @@ pub fn effective_values_are_the_greatest_overlays()
 pub fn what_is_seen_says_what_is_hidden()
     ensures { (s : BufferValue) (objects : ObjectLists) (pos : ℕ) → hidden s pos ≡ hidden_seen s.settings.invisible (seen_at s objects pos) }
 {}
+
+/// Between a position and the next stop behind it no value changes, nor the face, and no string of an overlay stands there. The call
+/// does nothing.
+pub fn nothing_changes_before_the_next_stop()
+    ensures appearance { (s : BufferValue) (objects : ObjectLists) (pos stop p : ℕ) → IsNextStop s pos stop → pos < p → p < stop → appearance_in (seen_at s objects p) ≡ appearance_in (seen_at s objects pos) }
+    ensures strings { (s : BufferValue) (pos stop p : ℕ) → IsNextStop s pos stop → pos < p → p < stop → strings_at s p ≡ [] }
+{
+    listings_agree();
+}
 
 /// A face of the text that an overlay's is laid over. A number that names no face is the plain one, and the face of the end is
 /// plain. The call does nothing.

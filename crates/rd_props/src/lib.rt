@@ -3,6 +3,7 @@
 //! Emacs Lisp Reference Manual (Text Properties, Overlay Properties, Invisible Text).
 #![tactic(auto)]
 
+mod appearance;
 mod edits;
 mod faces;
 mod hiding;
@@ -13,12 +14,13 @@ mod stops;
 mod strings;
 mod values;
 
+pub use appearance::{Appearance, appearance_at};
 pub use edits::{changes_join, deletions_leave_the_rest, insertions_leave_the_rest};
 pub use faces::face_at;
 pub use hiding::Hidden;
 pub use laws::{
     atoms_that_hide, effective_values_are_the_greatest_overlays, faces_that_merge,
-    strings_that_meet, what_is_seen_says_what_is_hidden,
+    nothing_changes_before_the_next_stop, strings_that_meet, what_is_seen_says_what_is_hidden,
 };
 pub use shown::hidden;
 pub use state::{BufferState, View};

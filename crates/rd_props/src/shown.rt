@@ -4,7 +4,7 @@ ghost use Rattle.rd_text.specs.Texts.{IsAccessible};
 ghost use Rattle.rd_props.specs.Buffers.{meaning};
 ghost use Rattle.rd_props.specs.Shown.{hidden};
 
-use crate::hiding::{Hidden, hiding_of};
+use crate::hiding::{Hidden, hiding_of_value};
 use crate::state::View;
 use crate::values::effective;
 use rd_base::{Memory, Pos};
@@ -22,12 +22,8 @@ pub fn hidden(alloc: Global, view: &View, pos: Pos) -> Result<Hidden, Memory>
     if effective(alloc, view, pos, Kind::Display)?.is_some() {
         return Ok(Hidden::No);
     }
-    match effective(alloc, view, pos, Kind::Invisible)? {
-        None => Ok(Hidden::No),
-        Some(atom) => {
-            let state = view.state;
-            let settings = &state.settings;
-            Ok(hiding_of(&settings.invisible, atom))
-        }
-    }
+    let atom = effective(alloc, view, pos, Kind::Invisible)?;
+    let state = view.state;
+    let settings = &state.settings;
+    Ok(hiding_of_value(&settings.invisible, atom))
 }

@@ -1,5 +1,6 @@
 //! The effective value of a property.
 ghost use Rattle.std.specs.Prelude.{◌≡◌, ◌≤◌, ◌<◌, IfOk, IsTrue};
+ghost use Rattle.std.specs.Option.{option_or};
 ghost use Rattle.rd_text.specs.Texts.{IsAccessible};
 ghost use Rattle.rd_overlays.specs.Overlays.{overlay_at, place_of};
 ghost use Rattle.rd_props.specs.Buffers.{meaning, property};
@@ -42,6 +43,23 @@ fn last_value(overlays: &Overlays, kind: Kind, numbers: &[u32]) -> Option<u32>
     None
 }
 
+/// The value of a kind at a position that these overlays cover: that of the last of them which has one, else that of the text
+/// property.
+pub(crate) fn value_under(
+    state: &BufferState,
+    covering: &[u32],
+    kind: Kind,
+    pos: Pos,
+) -> Option<u32>
+    requires { place_of kind < 5 }
+    ensures { result ≡ option_or (last_value state.now.overlays kind covering.now) (property (meaning state.now) kind pos) }
+{
+    match last_value(&state.overlays, kind, covering) {
+        Some(value) => Some(value),
+        None => property(state, kind, pos),
+    }
+}
+
 /// The effective value of a kind at an accessible position, or at the end of the accessible text, where no kind has one: that of
 /// the covering overlay which has one and whose priority is greatest, of equal priorities the one with the greater number, and
 /// else that of the text property. It is asked of display, invisible, line_prefix and wrap_prefix alone, since the face of a
@@ -57,8 +75,5 @@ pub fn effective(alloc: Global, view: &View, pos: Pos, kind: Kind) -> Result<Opt
         return Ok(None);
     }
     let covering = state.overlays.covering(pos)?;
-    match last_value(&state.overlays, kind, covering.as_slice()) {
-        Some(value) => Ok(Some(value)),
-        None => Ok(property(state, kind, pos)),
-    }
+    Ok(value_under(state, covering.as_slice(), kind, pos))
 }

@@ -1,0 +1,97 @@
+-- Between a position and its next stop nothing changes.
+use Rattle.std.proofs.Common.{◌≡◌, ◌⊎◌, inl, inr, ℕ, ◌<◌, ◌≤◌, Bool, true, false, if◌then◌else◌, List, [], Option, None, Some, refl, ap, arith}
+use Rattle.std.specs.Prelude.{nat_lt}
+use Rattle.std.proofs.lemmas.Bool.Decides.{nat_tests}
+use Rattle.rd_overlays.specs.declared.overlay.Overlay.{Overlay}
+use Rattle.rd_overlays.specs.declared.overlay.Kind.{Kind}
+use Rattle.rd_overlays.specs.declared.overlay.Kind.TheVariants.{Face, Display, Invisible, LinePrefix, WrapPrefix}
+use Rattle.rd_overlays.specs.Overlays.{overlay_at, place_of, covers, starts, ends, numbers_of, covering}
+use Rattle.rd_overlays.specs.Listings.{listed_priority}
+use Rattle.rd_objects.specs.Things.{ObjectLists}
+use Rattle.rd_props.specs.Buffers.{BufferValue}
+use Rattle.rd_props.specs.Stops.{IsNextStop}
+use Rattle.rd_props.specs.Values.{effective}
+use Rattle.rd_props.specs.Faces.{face_at}
+use Rattle.rd_props.specs.Strings.{strings_at}
+use Rattle.rd_props.specs.Seen.{seen_at}
+use Rattle.rd_props.specs.Appearance.{appearance_in}
+
+-- what the law of overlays says of two listings
+abbrev ListingsAgree : Type 0
+ListingsAgree = (f g : Overlay → Bool) (a b : List (Option Overlay)) → ((number : ℕ) → listed_priority f (overlay_at a number) ≡ listed_priority g (overlay_at b number))
+    → numbers_of f a ≡ numbers_of g b
+
+slot-same : (f g : Overlay → Bool) (slot : Option Overlay) → ((o : Overlay) → slot ≡ Some o → f o ≡ g o) → listed_priority f slot ≡ listed_priority g slot
+slot-same f g None same = refl
+slot-same f g (Some o) same = ap (λ (t : Bool). if t then Some o.priority else None) (same o refl)
+
+slot-none : (f : Overlay → Bool) (slot : Option Overlay) → ((o : Overlay) → slot ≡ Some o → f o ≡ false) → listed_priority f slot ≡ None
+slot-none f None none = refl
+slot-none f (Some o) none = ap (λ (t : Bool). if t then Some o.priority else None) (none o refl)
+
+covers-by : (p q : ℕ) (o : Overlay) → p < q → (o.from ≤ p) ⊎ (q < o.from) → (o.to ≤ p) ⊎ (q < o.to) → covers q o ≡ covers p o
+covers-by p q o later from to = grind (arith, nat_tests)
+
+starts-not : (q : ℕ) (o : Overlay) → (o.from ≡ q → ⊥) → starts q o ≡ false
+starts-not q o differs = grind (arith, nat_tests)
+
+ends-not : (q : ℕ) (o : Overlay) → (o.to ≡ q → ⊥) → ends q o ≡ false
+ends-not q o differs = grind (arith, nat_tests)
+
+below : (a b : ℕ) → a < b → nat_lt a b ≡ true
+below a b less = grind (arith, nat_tests)
+
+module _ (agree : ListingsAgree) (s : BufferValue) (p stop q : ℕ) (next : IsNextStop s p stop) (later : p < q) (before : q < stop) where
+  -- the edges of an overlay that lives don't stand between the two positions
+  outside : (k : ℕ) (o : Overlay) → overlay_at s.overlays k ≡ Some o → ((o.from ≤ p) ⊎ (q < o.from)) × ((o.to ≤ p) ⊎ (q < o.to))
+  outside k o lives =
+      let from : p < o.from → o.from ≤ q → ⊥ = λ a b. next.no_edge o.from a (omega arith) (k, o, lives, inl refl) in
+      let to : p < o.to → o.to ≤ q → ⊥ = λ a b. next.no_edge o.to a (omega arith) (k, o, lives, inr refl) in
+      (grind arith, grind arith)
+
+  covering-same : covering q s.overlays ≡ covering p s.overlays
+  covering-same =
+      agree (covers q) (covers p) s.overlays s.overlays (λ k.
+      slot-same (covers q) (covers p) (overlay_at s.overlays k) (λ o lives.
+      let parts = outside k o lives in
+      covers-by p q o later parts.0 parts.1))
+
+  value-same : (kind : Kind) → effective s q kind ≡ effective s p kind
+  value-same kind =
+      let same = covering-same in
+      let property = next.same q later before (place_of kind) in
+      let within = next.within in
+      let here = below q s.text.end (omega arith) in
+      let first = below p s.text.end (omega arith) in
+      rw (here, first, same, property)
+
+  face-same : (objects : ObjectLists) → face_at s objects q ≡ face_at s objects p
+  face-same objects =
+      let same = covering-same in
+      let property = next.same q later before (place_of Face) in
+      let within = next.within in
+      let here = below q s.text.end (omega arith) in
+      let first = below p s.text.end (omega arith) in
+      rw (here, first, same, property)
+
+  pub appearance-same : (objects : ObjectLists) → appearance_in (seen_at s objects q) ≡ appearance_in (seen_at s objects p)
+  appearance-same objects = λ i. record {
+    display = value-same Display i;
+    invisible = value-same Invisible i;
+    line_prefix = value-same LinePrefix i;
+    wrap_prefix = value-same WrapPrefix i;
+    face = face-same objects i;
+  }
+
+  none-start : numbers_of (starts q) s.overlays ≡ []
+  none-start =
+      agree (starts q) (starts q) s.overlays [] (λ k.
+      slot-none (starts q) (overlay_at s.overlays k) (λ o lives. starts-not q o (λ e. next.no_edge q later before (k, o, lives, inl e))))
+
+  none-end : numbers_of (ends q) s.overlays ≡ []
+  none-end =
+      agree (ends q) (ends q) s.overlays [] (λ k.
+      slot-none (ends q) (overlay_at s.overlays k) (λ o lives. ends-not q o (λ e. next.no_edge q later before (k, o, lives, inr e))))
+
+  pub strings-none : strings_at s q ≡ []
+  strings-none = let first = none-start in let last = none-end in rw (first, last)
