@@ -10,3 +10,4 @@ pub mod Moves
 pub mod Texts
 pub mod Editing
 pub mod Between
+pub mod Replacing

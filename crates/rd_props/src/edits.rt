@@ -1,11 +1,16 @@
 //! Laws of what edits leave as it was, for the layers above.
-ghost use Rattle.std.specs.Prelude.{ℕ, ◌-◌, ◌≤◌, min, ℤ, pos, ◌+ℤ◌, ◌≤ℤ◌, List, length};
+ghost use Rattle.std.specs.Prelude.{◌≡◌, ℕ, ◌+◌, ◌-◌, ◌≤◌, min, max, ℤ, pos, ◌+ℤ◌, ◌≤ℤ◌, List, [], ◌∷◌, ◌++◌, length, Option, Some};
 ghost use Rattle.rd_text.specs.Texts.{IsText, IsAccessible};
 ghost use Rattle.rd_text.specs.Answers.{IsAccessibleRange};
+ghost use Rattle.rd_overlays.specs.declared.overlay.Overlay.{Overlay};
+ghost use Rattle.rd_overlays.specs.declared.overlay.Kind.{Kind};
+ghost use Rattle.rd_overlays.specs.Overlays.{overlay_at, moved, dropped, given};
 ghost use Rattle.rd_objects.specs.Things.{ObjectLists};
+ghost use Rattle.rd_objects.specs.Sound.{Extends};
 ghost use Rattle.rd_props.specs.Buffers.{BufferValue};
 ghost use Rattle.rd_props.specs.Agreement.{Unchanged, IsEdited};
-ghost use Rattle.rd_props.specs.Edits.{AreOrdered, IsInsertion, IsDeletion};
+ghost use Rattle.rd_props.specs.Edits.{AreOrdered, IsInsertion, IsDeletion, IsPut, HasOverlays};
+ghost use Rattle.rd_props.specs.Made.{AreMade};
 
 use rd_overlays::{listings_agree, listings_are_exact};
 
@@ -32,3 +37,30 @@ pub fn deletions_leave_the_rest()
     listings_are_exact();
     listings_agree();
 }
+
+/// A text property that is put on a range leaves what stands before the range and behind the first position after it. The call does
+/// nothing.
+pub fn puts_leave_the_rest()
+    ensures { (old new : BufferValue) (objects : ObjectLists) (kind : Kind) (from to : ℕ) (value : Option ℕ) → IsPut old new kind from to value → IsEdited old objects new objects from (to - from) (to - from) }
+{
+    listings_are_exact();
+    listings_agree();
+}
+
+/// An overlay that is made, that is dropped, or that is given a value leaves what stands before it and behind the first position after
+/// it. One that is moved leaves what stands before and behind both its ranges. The call does nothing.
+pub fn overlays_leave_the_rest()
+    ensures made { (old new : BufferValue) (objects : ObjectLists) (overlay : Overlay) → overlay.from ≤ overlay.to → HasOverlays old new (old.overlays ++ Some overlay ∷ []) → IsEdited old objects new objects overlay.from (overlay.to - overlay.from) (overlay.to - overlay.from) }
+    ensures dropped { (old new : BufferValue) (objects : ObjectLists) (number : ℕ) (overlay : Overlay) → overlay_at old.overlays number ≡ Some overlay → overlay.from ≤ overlay.to → HasOverlays old new (dropped old.overlays number) → IsEdited old objects new objects overlay.from (overlay.to - overlay.from) (overlay.to - overlay.from) }
+    ensures given { (old new : BufferValue) (objects : ObjectLists) (number : ℕ) (overlay : Overlay) (kind : Kind) (value : Option ℕ) → overlay_at old.overlays number ≡ Some overlay → overlay.from ≤ overlay.to → HasOverlays old new (given old.overlays number kind value) → IsEdited old objects new objects overlay.from (overlay.to - overlay.from) (overlay.to - overlay.from) }
+    ensures moved { (old new : BufferValue) (objects : ObjectLists) (number from to : ℕ) (overlay : Overlay) → overlay_at old.overlays number ≡ Some overlay → overlay.from ≤ overlay.to → from ≤ to → HasOverlays old new (moved old.overlays number from to) → Unchanged old objects new objects (min overlay.from from) (max overlay.to to + 1) (pos 0) }
+{
+    listings_are_exact();
+    listings_agree();
+}
+
+/// Objects that are made change nothing that is seen of a buffer whose properties and overlays name none that was not made. The call
+/// does nothing.
+pub fn new_objects_leave_all()
+    ensures { (s : BufferValue) (old new : ObjectLists) (head tail : ℕ) → Extends old new → AreMade s old → Unchanged s old s new head tail (pos 0) }
+{}

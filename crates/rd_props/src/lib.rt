@@ -15,7 +15,10 @@ mod strings;
 mod values;
 
 pub use appearance::{Appearance, appearance_at};
-pub use edits::{changes_join, deletions_leave_the_rest, insertions_leave_the_rest};
+pub use edits::{
+    changes_join, deletions_leave_the_rest, insertions_leave_the_rest, new_objects_leave_all,
+    overlays_leave_the_rest, puts_leave_the_rest,
+};
 pub use faces::face_at;
 pub use hiding::Hidden;
 pub use laws::{

@@ -1,0 +1,273 @@
+-- A property that is put, an overlay that becomes another, and objects that are made leave what stands elsewhere.
+use Rattle.std.proofs.Common.{◌≡◌, ◌⊎◌, inl, inr, ℕ, zero, suc, ◌+◌, ◌-◌, ◌<◌, ◌≤◌, min, max, Bool, true, false, ◌&&◌, if◌then◌else◌, List, [], ◌∷◌, ◌++◌, length, set, Option, None, Some, refl, sym, ap, subst, ◌∙◌, arith}
+use Rattle.std.specs.Prelude.{nat_lt, nat_le, ◌==◌, slice_get, ℤ, pos, ◌-ℤ◌}
+use Rattle.std.specs.Option.{unwrap_or}
+use Rattle.std.proofs.lemmas.Int.{ints}
+use Rattle.std.proofs.lemmas.Bool.Decides.{nat_tests}
+use Rattle.rd_base.specs.Faces.{Attributes, plain, over}
+use Rattle.rd_text.specs.Texts.{TextValue}
+use Rattle.rd_overlays.specs.declared.overlay.Overlay.{Overlay}
+use Rattle.rd_overlays.specs.declared.overlay.Kind.{Kind}
+use Rattle.rd_overlays.specs.declared.overlay.Kind.TheVariants.{Face}
+use Rattle.rd_overlays.specs.Overlays.{overlay_at, place_of, covers, starts, ends, covering, slot_changed, moved, dropped, given}
+use Rattle.rd_objects.specs.Things.{ObjectLists}
+use Rattle.rd_objects.specs.Sound.{Extends}
+use Rattle.rd_props.specs.Buffers.{BufferValue, property}
+use Rattle.rd_props.specs.Values.{value_of}
+use Rattle.rd_props.specs.Faces.{face_of, laid_over, face_at}
+use Rattle.rd_props.specs.Seen.{seen_at, Agree}
+use Rattle.rd_props.specs.Agreement.{IsInReach, IsSame, Unchanged, IsEdited}
+use Rattle.rd_props.specs.Edits.{IsPut, HasOverlays}
+use Rattle.rd_props.specs.Made.{AreMade}
+use Rattle.rd_props.proofs.Alike.{AreListings, AreAlike, SeeSame, mark_of, picked}
+use Rattle.rd_props.proofs.Texts.{ReadsAlike}
+use Rattle.rd_props.proofs.Editing.{StaysSame, same-by}
+
+itself : (t u : TextValue) (x : ℕ) → u ≡ t → ReadsAlike t x u x
+itself t u x same =
+    let P : TextValue → Type 0 = λ v. ReadsAlike t x v x in
+    subst P (sym same) (record { inside = refl; character = refl; to = λ h. h; from = λ h. h })
+
+-- two states of one length that see the same before one position and behind another
+module _ (listings : AreListings) (old new : BufferValue) (objects : ObjectLists) (begin : new.text.begin ≡ old.text.begin) where
+  pub unmoved : (head last : ℕ) (added : ℤ) → added ≡ pos 0 → ((x : ℕ) → (x < head) ⊎ (last < x) → StaysSame old x new x) → Unchanged old objects new objects head (last + 1) added
+  unmoved head last added none stays = record {
+    begin = begin;
+    before = λ x low less reach. same-by listings old new objects x x (stays x (inl less)) reach;
+    behind = λ x y low more is reach.
+        let here : x ≡ y = omega (arith, ints, is, none) in
+        let P : ℕ → Type 0 = λ z. IsSame old objects z new objects y in
+        let Q : ℕ → Type 0 = λ z. IsInReach old z new y in
+        subst P (sym here) (same-by listings old new objects y y (stays y (inr (omega arith))) (subst Q here reach));
+  }
+
+no-more : (n : ℕ) → pos n -ℤ pos n ≡ pos 0
+no-more n = omega (arith, ints)
+
+-- ---- a property that is put
+
+put-outside : (t u : Bool) (value other : Option ℕ) → u ≡ false → other ≡ (if t && u then value else other)
+put-outside true false value other out = refl
+put-outside false false value other out = refl
+put-outside true true value other out = absurd (cc)
+put-outside false true value other out = absurd (cc)
+
+put-stays : (old new : BufferValue) (kind : Kind) (from to x : ℕ) (value : Option ℕ) → IsPut old new kind from to value → (x < from) ⊎ (from + (to - from) < x) → StaysSame old x new x
+put-stays old new kind from to x value edit away =
+    let Q : List (Option Overlay) → Type 0 = λ slots. SeeSame x x old.overlays slots in
+    let out : (nat_le from x && nat_lt x to) ≡ false = grind (arith, nat_tests) in
+    record {
+      text = itself old.text new.text x edit.text;
+      properties = λ k. put-outside (k == place_of kind) (nat_le from x && nat_lt x to) value (old.properties k x) out ∙ sym (edit.properties k x);
+      overlays = subst Q (sym edit.overlays) (record { covers = λ n. refl; starts = λ n. refl; ends = λ n. refl });
+    }
+
+pub put-edits : AreListings → (old new : BufferValue) (objects : ObjectLists) (kind : Kind) (from to : ℕ) (value : Option ℕ) → IsPut old new kind from to value
+    → IsEdited old objects new objects from (to - from) (to - from)
+put-edits listings old new objects kind from to value edit =
+    unmoved listings old new objects (ap (λ (t : TextValue). t.begin) edit.text) from (from + (to - from)) (pos (to - from) -ℤ pos (to - from)) (no-more (to - from))
+    (λ x away. put-stays old new kind from to x value edit away)
+
+-- ---- one overlay that becomes another
+
+-- an overlay that may be there lies between two positions
+abbrev LiesIn : ℕ → ℕ → Option Overlay → Type 0
+LiesIn low high slot = (o : Overlay) → slot ≡ Some o → (low ≤ o.from) × (o.from ≤ o.to) × (o.to ≤ high)
+
+unmet : (f : Overlay → Bool) (slot : Option Overlay) → ((o : Overlay) → slot ≡ Some o → f o ≡ false) → picked f slot ≡ None
+unmet f None none = refl
+unmet f (Some o) none = ap (λ (t : Bool). if t then Some (mark_of o) else None) (none o refl)
+
+uncovered : (low high x : ℕ) (o : Overlay) → (low ≤ o.from) × (o.from ≤ o.to) × (o.to ≤ high) → (x < low) ⊎ (high < x) → covers x o ≡ false
+uncovered low high x o lies away = let first = lies.0 in let middle = lies.1 in let last = lies.2 in grind (arith, nat_tests)
+
+unstarted : (low high x : ℕ) (o : Overlay) → (low ≤ o.from) × (o.from ≤ o.to) × (o.to ≤ high) → (x < low) ⊎ (high < x) → starts x o ≡ false
+unstarted low high x o lies away = let first = lies.0 in let middle = lies.1 in let last = lies.2 in grind (arith, nat_tests)
+
+unended : (low high x : ℕ) (o : Overlay) → (low ≤ o.from) × (o.from ≤ o.to) × (o.to ≤ high) → (x < low) ⊎ (high < x) → ends x o ≡ false
+unended low high x o lies away = let first = lies.0 in let middle = lies.1 in let last = lies.2 in grind (arith, nat_tests)
+
+-- two lists have the same overlay at each number but one, and those at this one lie between two positions
+record DifferAt (number low high : ℕ) (a b : List (Option Overlay)) : Type 0 where
+  others : (n : ℕ) → (n ≡ number → ⊥) → overlay_at a n ≡ overlay_at b n
+  old : LiesIn low high (overlay_at a number)
+  new : LiesIn low high (overlay_at b number)
+
+module _ (number low high : ℕ) (a b : List (Option Overlay)) (differ : DifferAt number low high a b) where
+  alike-by : (f : Overlay → Bool) (n : ℕ) (t : Bool) → (n == number) ≡ t → picked f (overlay_at a number) ≡ None → picked f (overlay_at b number) ≡ None
+      → picked f (overlay_at a n) ≡ picked f (overlay_at b n)
+  alike-by f n true same left right =
+      let here : n ≡ number = grind (arith, nat_tests) in
+      let P : ℕ → Type 0 = λ k. picked f (overlay_at a k) ≡ picked f (overlay_at b k) in
+      subst P (sym here) (left ∙ sym right)
+  alike-by f n false same left right =
+      let away : n ≡ number → ⊥ = grind (arith, nat_tests) in
+      ap (picked f) (differ.others n away)
+
+  alike-where : (f : Overlay → Bool) → ((o : Overlay) → (low ≤ o.from) × (o.from ≤ o.to) × (o.to ≤ high) → f o ≡ false) → AreAlike f f a b
+  alike-where f none n =
+      alike-by f n (n == number) refl
+      (unmet f (overlay_at a number) (λ o h. none o (differ.old o h)))
+      (unmet f (overlay_at b number) (λ o h. none o (differ.new o h)))
+
+  see-elsewhere : (x : ℕ) → (x < low) ⊎ (high < x) → SeeSame x x a b
+  see-elsewhere x away = record {
+    covers = alike-where (covers x) (λ o lies. uncovered low high x o lies away);
+    starts = alike-where (starts x) (λ o lies. unstarted low high x o lies away);
+    ends = alike-where (ends x) (λ o lies. unended low high x o lies away);
+  }
+
+overlays-stay : (old new : BufferValue) (slots : List (Option Overlay)) (number low high x : ℕ) → HasOverlays old new slots → DifferAt number low high old.overlays slots
+    → (x < low) ⊎ (high < x) → StaysSame old x new x
+overlays-stay old new slots number low high x edit differ away =
+    let Q : List (Option Overlay) → Type 0 = λ others. SeeSame x x old.overlays others in
+    record {
+      text = itself old.text new.text x edit.text;
+      properties = λ kind. sym (edit.properties kind x);
+      overlays = subst Q (sym edit.overlays) (see-elsewhere number low high old.overlays slots differ x away);
+    }
+
+-- overlays in lists
+other-set : (slots : List (Option Overlay)) (i n : ℕ) (slot : Option Overlay) → (n ≡ i → ⊥) → overlay_at slots n ≡ overlay_at (set slots i slot) n
+other-set [] i n slot away = refl
+other-set (s ∷ slots) zero zero slot away = absurd (away refl)
+other-set (s ∷ slots) zero (suc n) slot away = refl
+other-set (s ∷ slots) (suc i) zero slot away = refl
+other-set (s ∷ slots) (suc i) (suc n) slot away = other-set slots i n slot (λ e. away (ap suc e))
+
+at-set : (slots : List (Option Overlay)) (i : ℕ) (slot : Option Overlay) (o : Overlay) → overlay_at (set slots i slot) i ≡ Some o → slot ≡ Some o
+at-set [] i slot o h = absurd (cc)
+at-set (s ∷ slots) zero slot o h = h
+at-set (s ∷ slots) (suc i) slot o h = at-set slots i slot o h
+
+other-end : (slots : List (Option Overlay)) (n : ℕ) (o : Overlay) → (n ≡ length slots → ⊥) → overlay_at slots n ≡ overlay_at (slots ++ Some o ∷ []) n
+other-end [] zero o away = absurd (away refl)
+other-end [] (suc n) o away = refl
+other-end (s ∷ slots) zero o away = refl
+other-end (s ∷ slots) (suc n) o away = other-end slots n o (λ e. away (ap suc e))
+
+no-end : (slots : List (Option Overlay)) (o : Overlay) → overlay_at slots (length slots) ≡ Some o → ⊥
+no-end [] o h = absurd (cc)
+no-end (s ∷ slots) o h = no-end slots o h
+
+at-end : (slots : List (Option Overlay)) (o p : Overlay) → overlay_at (slots ++ Some o ∷ []) (length slots) ≡ Some p → o ≡ p
+at-end [] o p h = cc
+at-end (s ∷ slots) o p h = at-end slots o p h
+
+same-lies : (low high : ℕ) (slot : Option Overlay) (o p : Overlay) → slot ≡ Some o → (low ≤ o.from) × (o.from ≤ o.to) × (o.to ≤ high) → slot ≡ Some p
+    → (low ≤ p.from) × (p.from ≤ p.to) × (p.to ≤ high)
+same-lies low high slot o p is lies h =
+    let same : o ≡ p = cc in
+    let P : Overlay → Type 0 = λ q. (low ≤ q.from) × (q.from ≤ q.to) × (q.to ≤ high) in
+    subst P same lies
+
+-- an overlay of a number that became another, or went
+set-differs : (slots : List (Option Overlay)) (number low high : ℕ) (o : Overlay) (slot : Option Overlay) → overlay_at slots number ≡ Some o → (low ≤ o.from) × (o.from ≤ o.to) × (o.to ≤ high)
+    → LiesIn low high slot → DifferAt number low high slots (set slots number slot)
+set-differs slots number low high o slot is lies next = record {
+  others = λ n away. other-set slots number n slot away;
+  old = λ p h. same-lies low high (overlay_at slots number) o p is lies h;
+  new = λ p h. next p (at-set slots number slot p h);
+}
+
+end-differs : (slots : List (Option Overlay)) (low high : ℕ) (o : Overlay) → (low ≤ o.from) × (o.from ≤ o.to) × (o.to ≤ high) → DifferAt (length slots) low high slots (slots ++ Some o ∷ [])
+end-differs slots low high o lies = record {
+  others = λ n away. other-end slots n o away;
+  old = λ p h. absurd (no-end slots p h);
+  new = λ p h.
+      let same : o ≡ p = at-end slots o p h in
+      let P : Overlay → Type 0 = λ q. (low ≤ q.from) × (q.from ≤ q.to) × (q.to ≤ high) in
+      subst P same lies;
+}
+
+changed-lies : (change : Overlay → Overlay) (low high : ℕ) (slot : Option Overlay) (o p : Overlay) → slot ≡ Some o → (low ≤ (change o).from) × ((change o).from ≤ (change o).to) × ((change o).to ≤ high)
+    → slot_changed change slot ≡ Some p → (low ≤ p.from) × (p.from ≤ p.to) × (p.to ≤ high)
+changed-lies change low high None o p is lies h = absurd (cc)
+changed-lies change low high (Some q) o p is lies h =
+    let one : q ≡ o = cc in
+    let same : change o ≡ p = ap change (sym one) ∙ cc in
+    let P : Overlay → Type 0 = λ r. (low ≤ r.from) × (r.from ≤ r.to) × (r.to ≤ high) in
+    subst P same lies
+
+module _ (listings : AreListings) (old new : BufferValue) (objects : ObjectLists) where
+  one-edits : (slots : List (Option Overlay)) (number from to : ℕ) → HasOverlays old new slots → DifferAt number from (from + (to - from)) old.overlays slots
+      → IsEdited old objects new objects from (to - from) (to - from)
+  one-edits slots number from to edit differ =
+      unmoved listings old new objects (ap (λ (t : TextValue). t.begin) edit.text) from (from + (to - from)) (pos (to - from) -ℤ pos (to - from)) (no-more (to - from))
+      (λ x away. overlays-stay old new slots number from (from + (to - from)) x edit differ away)
+
+  pub making-edits : (o : Overlay) → o.from ≤ o.to → HasOverlays old new (old.overlays ++ Some o ∷ []) → IsEdited old objects new objects o.from (o.to - o.from) (o.to - o.from)
+  making-edits o ordered edit =
+      one-edits (old.overlays ++ Some o ∷ []) (length old.overlays) o.from o.to edit
+      (end-differs old.overlays o.from (o.from + (o.to - o.from)) o (omega arith, ordered, omega arith))
+
+  module _ (number : ℕ) (o : Overlay) (is : overlay_at old.overlays number ≡ Some o) (ordered : o.from ≤ o.to) where
+    pub dropping-edits : HasOverlays old new (dropped old.overlays number) → IsEdited old objects new objects o.from (o.to - o.from) (o.to - o.from)
+    dropping-edits edit =
+        one-edits (dropped old.overlays number) number o.from o.to edit
+        (set-differs old.overlays number o.from (o.from + (o.to - o.from)) o None is (omega arith, ordered, omega arith) (λ p h. absurd (cc)))
+
+    pub giving-edits : (kind : Kind) (value : Option ℕ) → HasOverlays old new (given old.overlays number kind value) → IsEdited old objects new objects o.from (o.to - o.from) (o.to - o.from)
+    giving-edits kind value edit =
+        let change : Overlay → Overlay = λ overlay. record overlay { values = set overlay.values (place_of kind) value } in
+        one-edits (given old.overlays number kind value) number o.from o.to edit
+        (set-differs old.overlays number o.from (o.from + (o.to - o.from)) o (slot_changed change (overlay_at old.overlays number)) is (omega arith, ordered, omega arith)
+        (λ p h. changed-lies change o.from (o.from + (o.to - o.from)) (overlay_at old.overlays number) o p is (omega arith, ordered, omega arith) h))
+
+    pub moving-edits : (from to : ℕ) → from ≤ to → HasOverlays old new (moved old.overlays number from to)
+        → Unchanged old objects new objects (min o.from from) (max o.to to + 1) (pos 0)
+    moving-edits from to less edit =
+        let change : Overlay → Overlay = λ overlay. record overlay { from = from; to = to } in
+        let differ = set-differs old.overlays number (min o.from from) (max o.to to) o (slot_changed change (overlay_at old.overlays number)) is (omega arith, ordered, omega arith)
+        (λ p h. changed-lies change (min o.from from) (max o.to to) (overlay_at old.overlays number) o p is (omega arith, less, omega arith) h) in
+        unmoved listings old new objects (ap (λ (t : TextValue). t.begin) edit.text) (min o.from from) (max o.to to) (pos 0) refl
+        (λ x away. overlays-stay old new (moved old.overlays number from to) number (min o.from from) (max o.to to) x edit differ away)
+
+-- ---- objects that are made
+
+get-more : (xs more : List Attributes) (n : ℕ) → n < length xs → slice_get xs n ≡ slice_get (xs ++ more) n
+get-more [] more n less = absurd (omega arith)
+get-more (x ∷ xs) more zero less = refl
+get-more (x ∷ xs) more (suc n) less = get-more xs more n (omega arith)
+
+module _ (s : BufferValue) (old new : ObjectLists) (extends : Extends old new) (made : AreMade s old) where
+  face-same : (o : Option ℕ) → ((v : ℕ) → o ≡ Some v → v < length old.faces) → face_of old o ≡ face_of new o
+  face-same None small = refl
+  face-same (Some v) small =
+      ap (λ (a : Option Attributes). unwrap_or a plain)
+      (get-more old.faces extends.faces.0 v (small v refl) ∙ ap (λ (xs : List Attributes). slice_get xs v) (sym extends.faces.1))
+
+  overlay-small : (number v : ℕ) (slot : Option Overlay) → overlay_at s.overlays number ≡ slot → value_of Face slot ≡ Some v → v < length old.faces
+  overlay-small number v None is h = absurd (cc)
+  overlay-small number v (Some o) is h = made.overlays number v Face o is h
+
+  laid-same : (numbers : List ℕ) (face : Attributes) → laid_over old s.overlays numbers face ≡ laid_over new s.overlays numbers face
+  laid-same [] face = refl
+  laid-same (n ∷ ns) face =
+      let here = face-same (value_of Face (overlay_at s.overlays n)) (λ v h. overlay-small n v (overlay_at s.overlays n) refl h) in
+      laid-same ns (over (face_of old (value_of Face (overlay_at s.overlays n))) face)
+      ∙ ap (λ (a : Attributes). laid_over new s.overlays ns (over a face)) here
+
+  seen-same : (x : ℕ) → Agree s old x s new x
+  seen-same x =
+      let own = face-same (property s Face x) (λ v h. made.properties Face x v h) in
+      let laid = laid-same (covering x s.overlays) (face_of old (property s Face x))
+      ∙ ap (laid_over new s.overlays (covering x s.overlays)) own in
+      let face : face_at s old x ≡ face_at s new x = ap (λ (a : Attributes). if nat_lt x s.text.end then a else plain) laid in
+      λ i. record (seen_at s old x) { face = face i }
+
+  within-same : (x : ℕ) → IsInReach s x s x → IsSame s old x s new x
+  within-same x reach =
+      let within : x ≤ s.text.end = elim reach [ inl h ↦ h | inr h ↦ h ] in
+      record { old_within = within; new_within = within; agree = seen-same x }
+
+  pub objects-edit : (head tail : ℕ) → Unchanged s old s new head tail (pos 0)
+  objects-edit head tail = record {
+    begin = refl;
+    before = λ x low less reach. within-same x reach;
+    behind = λ x y low more is reach.
+        let here : x ≡ y = omega (arith, ints, is) in
+        let P : ℕ → Type 0 = λ z. IsSame s old z s new y in
+        let Q : ℕ → Type 0 = λ z. IsInReach s z s y in
+        subst P (sym here) (within-same y (subst Q here reach));
+  }
