@@ -1,5 +1,5 @@
 -- Which blocks keep the rows that they have in an older layout, and which rows these are.
-use Rattle.std.specs.Prelude.{◌≡◌, ℕ, zero, suc, ◌+◌, nat_le, Bool, true, false, not, ◌==◌, ◌&&◌, ◌||◌, if◌then◌else◌, List, [], ◌∷◌, length, Option, None, Some, find, pos, ◌-ℤ◌}
+use Rattle.std.specs.Prelude.{◌≡◌, ℕ, zero, suc, ◌+◌, nat_le, Bool, true, false, not, ◌==◌, ◌&&◌, ◌||◌, if◌then◌else◌, List, [], ◌∷◌, length, map, Option, None, Some, find, pos, ◌-ℤ◌}
 use Rattle.std.specs.List.{list_all}
 use Rattle.std.specs.Ordering.{int_eq}
 use Rattle.rd_base.specs.declared.settings.Wrap.{Wrap}
@@ -9,7 +9,7 @@ use Rattle.rd_matrix.specs.Sources.{SourceValues}
 use Rattle.rd_matrix.specs.declared.block.Block.{Block}
 use Rattle.rd_matrix.specs.declared.matrix.Entry.{Entry}
 use Rattle.rd_reuse.specs.declared.change.Change.{Change}
-use Rattle.rd_rows.specs.Copies.{RowValues, shown_rows}
+use Rattle.rd_rows.specs.Copies.{RowValues, copied, shown_rows}
 use Rattle.rd_rows.specs.Laws.{ends_last}
 use Rattle.rd_rows.specs.Rows.{RowMeaning}
 use Rattle.rd_rows.specs.Shapes.{ShapeValues}
@@ -23,9 +23,13 @@ is_outside c b = nat_le b.end c.head || nat_le c.tail b.start
 abbrev pub started_at : Change → ℕ → ℕ → Bool
 started_at c start before = if nat_le c.tail start then int_eq (pos start -ℤ pos before) c.added else before == start
 
--- the first of the older rows with a number in the block that starts at a position now
+-- whether an older row has a number in the block that starts at a position now
+abbrev pub is_under : Change → ℕ → ℕ → Entry → Bool
+is_under c start number e = started_at c start e.start && (e.number == number)
+
+-- the first of these
 abbrev pub entry_under : List Entry → Change → ℕ → ℕ → Option Entry
-entry_under old c start number = find (λ e. started_at c start e.start && (e.number == number)) old
+entry_under old c start number = find (is_under c start number) old
 
 -- a row and those behind it, up to the first that ends its block
 abbrev pub up_to_end : Option Entry → List RowValues → List RowValues
@@ -41,6 +45,10 @@ taken_from (suc n) old c start number = up_to_end (entry_under old c start numbe
 -- to a number that none has
 abbrev pub taken : List Entry → Change → ℕ → List RowValues
 taken old c start = taken_from (length old) old c start 0
+
+-- rows copied once more
+abbrev pub copied_rows : List RowValues → List RowValues
+copied_rows rows = map (λ r. record { shown = r.shown; copies = copied r.copies }) rows
 
 -- whether a row is read as those of a block of a base level are, from the right edge where it is 1
 abbrev pub has_base : ℕ → RowMeaning → Bool

@@ -3,5 +3,8 @@
 
 mod change;
 mod examples;
+mod keeping;
+mod kept;
 
 pub use change::Change;
+pub use kept::Kept;

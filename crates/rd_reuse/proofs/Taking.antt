@@ -1,0 +1,137 @@
+-- The older rows of a block, one after the other.
+use Rattle.std.proofs.Common.{◌≡◌, ℕ, zero, suc, ◌+◌, ◌-◌, ◌<◌, ◌≤◌, ◌&&◌, ◌==◌, Bool, true, false, not, cond, if◌then◌else◌, List, [], ◌∷◌, ◌++◌, length, map, drop, find, slice_get, Option, None, Some, Result, Ok, Err, IfOk, refl, sym, ap, ◌∙◌, arith}
+use Rattle.std.proofs.lemmas.Bool.{and_parts}
+use Rattle.std.proofs.lemmas.Bool.Decides.{nat_tests}
+use Rattle.std.proofs.lemmas.List.{append-nil, append_assoc}
+use Rattle.std.specs.List.{list_all}
+use Rattle.rd_base.specs.declared.settings.Wrap.{Wrap}
+use Rattle.rd_base.specs.declared.settings.Wrap.TheVariants.{Truncate, Continue, Word}
+use Rattle.rd_matrix.specs.declared.matrix.Entry.{Entry}
+use Rattle.rd_reuse.specs.Keeping.{are_whole, copied_rows, entry_under, has_base, is_same_shape, is_same_wrap, taken_from, up_to_end}
+use Rattle.rd_reuse.specs.declared.change.Change.{Change}
+use Rattle.rd_rows.specs.Copies.{RowValues, copied, shown_rows}
+use Rattle.rd_rows.specs.Laws.{ends_last}
+use Rattle.rd_rows.specs.Rows.{RowMeaning}
+use Rattle.rd_rows.specs.Shapes.{ShapeValues}
+
+-- an element that passes a test, and one that does not
+pub find-here : {X : Type 0} (test : X → Bool) (xs : List X) (k : ℕ) (x : X) → slice_get xs k ≡ Some x → test x ≡ true → find test (drop k xs) ≡ Some x
+find-here test [] k x i e = absurd cc
+find-here test (y ∷ xs) zero x i e = let same : y ≡ x = cc in rw (same, e) refl
+find-here test (y ∷ xs) (suc k) x i e = find-here test xs k x i e
+
+pub find-behind : {X : Type 0} (test : X → Bool) (xs : List X) (k : ℕ) (x : X) → slice_get xs k ≡ Some x → test x ≡ false
+    → find test (drop k xs) ≡ find test (drop (k + 1) xs)
+find-behind test [] k x i e = absurd cc
+find-behind test (y ∷ xs) zero x i e = let same : y ≡ x = cc in rw (same, e) refl
+find-behind test (y ∷ xs) (suc k) x i e =
+    let next : suc (k + 1) ≡ suc k + 1 = omega arith in
+    find-behind test xs k x i e ∙ ap (λ n. find test (drop n (y ∷ xs))) next
+
+and-false : (a b : Bool) → (a && (false && b)) ≡ false
+and-false true b = refl
+and-false false b = refl
+
+-- rows that are of no such base are not whole
+based-not : (base : ℕ) (r : RowMeaning) (rs : List RowMeaning) → has_base base r ≡ false → are_whole base (r ∷ rs) ≡ false
+based-not base r rs e = rw e (and-false (ends_last (r ∷ rs)) (list_all (has_base base) rs))
+
+ends-here : (base : ℕ) (r : RowMeaning) → has_base base r ≡ true → r.ends_block ≡ true → are_whole base (r ∷ []) ≡ true
+ends-here base r e h = rw (h, e) refl
+
+goes-on : (base : ℕ) (r : RowMeaning) (rs : List RowMeaning) → has_base base r ≡ true → r.ends_block ≡ false → are_whole base (r ∷ rs) ≡ are_whole base rs
+goes-on base r [] e h = rw h refl
+goes-on base r (s ∷ rs) e h = rw (h, e) refl
+
+abbrev left : List Entry → Change → ℕ → ℕ → List RowValues
+left old c start number = taken_from (length old - number) old c start number
+
+-- at a number that has a row the rows that are left are that row and those behind it
+step : (old : List Entry) (c : Change) (start number : ℕ) (o : Option Entry) → number < length old → entry_under old c start number ≡ o
+    → left old c start number ≡ up_to_end o (left old c start (number + 1))
+step old c start number o low e =
+    let size : length old - number ≡ suc (length old - (number + 1)) = omega arith in
+    ap (λ n. taken_from n old c start number) size ∙ ap (λ x. up_to_end x (left old c start (number + 1))) e
+
+pub whole-none : (base : ℕ) (old : List Entry) (c : Change) (start number : ℕ) → number < length old → entry_under old c start number ≡ None
+    → are_whole base (shown_rows (left old c start number)) ≡ false
+whole-none base old c start number low e = ap (λ rs. are_whole base (shown_rows rs)) (step old c start number None low e)
+
+pub whole-not : (base : ℕ) (old : List Entry) (c : Change) (start number : ℕ) (x : Entry) → number < length old → entry_under old c start number ≡ Some x
+    → has_base base x.row.shown ≡ false → are_whole base (shown_rows (left old c start number)) ≡ false
+whole-not base old c start number x low e h =
+    ap (λ rs. are_whole base (shown_rows rs)) (step old c start number (Some x) low e) ∙ based-not base x.row.shown _ h
+
+pub whole-ends : (base : ℕ) (old : List Entry) (c : Change) (start number : ℕ) (x : Entry) → number < length old → entry_under old c start number ≡ Some x
+    → has_base base x.row.shown ≡ true → x.row.shown.ends_block ≡ true → are_whole base (shown_rows (left old c start number)) ≡ true
+whole-ends base old c start number x low e h t =
+    ap (λ rs. are_whole base (shown_rows rs)) (step old c start number (Some x) low e)
+    ∙ (ap (λ b. are_whole base (shown_rows (x.row ∷ (if b then [] else left old c start (number + 1))))) t ∙ ends-here base x.row.shown h t)
+
+pub whole-more : (base : ℕ) (old : List Entry) (c : Change) (start number : ℕ) (x : Entry) → number < length old → entry_under old c start number ≡ Some x
+    → has_base base x.row.shown ≡ true → x.row.shown.ends_block ≡ false → are_whole base (shown_rows (left old c start (number + 1))) ≡ are_whole base (shown_rows (left old c start number))
+whole-more base old c start number x low e h t =
+    sym (ap (λ rs. are_whole base (shown_rows rs)) (step old c start number (Some x) low e)
+    ∙ (ap (λ b. are_whole base (shown_rows (x.row ∷ (if b then [] else left old c start (number + 1))))) t
+    ∙ goes-on base x.row.shown (shown_rows (left old c start (number + 1))) h t))
+
+pub whole-all : (base : ℕ) (old : List Entry) (c : Change) (start number : ℕ) → length old ≤ number → are_whole base (shown_rows (left old c start number)) ≡ false
+whole-all base old c start number high =
+    let none : length old - number ≡ 0 = omega arith in
+    ap (λ n. are_whole base (shown_rows (taken_from n old c start number))) none
+
+-- copies show the same
+pub shown-copied : (rows : List RowValues) → shown_rows (copied_rows rows) ≡ shown_rows rows
+shown-copied [] = refl
+shown-copied (r ∷ rows) = ap (λ rs. r.shown ∷ rs) (shown-copied rows)
+
+-- copies of the rows that are left
+pub copies-none : (rows : List RowValues) (old : List Entry) (c : Change) (start number : ℕ) → number < length old → entry_under old c start number ≡ None
+    → rows ++ copied_rows (left old c start number) ≡ rows
+copies-none rows old c start number low e = ap (λ rs. rows ++ copied_rows rs) (step old c start number None low e) ∙ append-nil rows
+
+pub copies-ends : (rows : List RowValues) (old : List Entry) (c : Change) (start number : ℕ) (x : Entry) → number < length old → entry_under old c start number ≡ Some x
+    → x.row.shown.ends_block ≡ true → rows ++ copied_rows (left old c start number) ≡ rows ++ record { shown = x.row.shown; copies = copied x.row.copies } ∷ []
+copies-ends rows old c start number x low e t =
+    ap (λ rs. rows ++ copied_rows rs) (step old c start number (Some x) low e)
+    ∙ ap (λ b. rows ++ copied_rows (x.row ∷ (if b then [] else left old c start (number + 1)))) t
+
+pub copies-more : (rows new : List RowValues) (old : List Entry) (c : Change) (start number : ℕ) (x : Entry) (r : RowValues) → number < length old → entry_under old c start number ≡ Some x
+    → x.row.shown.ends_block ≡ false → r ≡ record { shown = x.row.shown; copies = copied x.row.copies } → new ≡ rows ++ r ∷ []
+    → new ++ copied_rows (left old c start (number + 1)) ≡ rows ++ copied_rows (left old c start number)
+copies-more rows new old c start number x r low e t is at =
+    ap (λ rs. rs ++ copied_rows (left old c start (number + 1))) (at ∙ ap (λ y. rows ++ y ∷ []) is)
+    ∙ (append_assoc rows (record { shown = x.row.shown; copies = copied x.row.copies } ∷ []) (copied_rows (left old c start (number + 1)))
+    ∙ sym (ap (λ rs. rows ++ copied_rows rs) (step old c start number (Some x) low e)
+    ∙ ap (λ b. rows ++ copied_rows (x.row ∷ (if b then [] else left old c start (number + 1)))) t))
+
+pub copies-all : (rows : List RowValues) (old : List Entry) (c : Change) (start number : ℕ) → length old ≤ number → rows ++ copied_rows (left old c start number) ≡ rows
+copies-all rows old c start number high =
+    let none : length old - number ≡ 0 = omega arith in
+    ap (λ n. rows ++ copied_rows (taken_from n old c start number)) none ∙ append-nil rows
+
+-- what is true of an answer where it is one
+pub on-answer : {T E : Type 0} (r : Result T E) (P Q : T → Type 0) → IfOk r P → ((x : T) → P x → Q x) → IfOk r Q
+on-answer (Ok x) P Q h f = f x h
+on-answer (Err x) P Q h f = tt
+
+same-wrap : (a b : Wrap) → is_same_wrap a b ≡ true → a ≡ b
+same-wrap Truncate Truncate e = refl
+same-wrap Truncate Continue e = cc
+same-wrap Truncate Word e = cc
+same-wrap Continue Truncate e = cc
+same-wrap Continue Continue e = refl
+same-wrap Continue Word e = cc
+same-wrap Word Truncate e = cc
+same-wrap Word Continue e = cc
+same-wrap Word Word e = refl
+
+pub same-shape : (a b : ShapeValues) → is_same_shape a b ≡ true → a ≡ b
+same-shape a b e =
+    let both = and_parts ((a.width == b.width) && (a.hscroll == b.hscroll)) (is_same_wrap a.wrap b.wrap) e in
+    let numbers = and_parts (a.width == b.width) (a.hscroll == b.hscroll) both.0 in
+    let width : a.width ≡ b.width = let h = numbers.0 in grind (arith, nat_tests) in
+    let hscroll : a.hscroll ≡ b.hscroll = let h = numbers.1 in grind (arith, nat_tests) in
+    ap (λ (x : ℕ). record { width = x; wrap = a.wrap; hscroll = a.hscroll }) width
+    ∙ (ap (λ (x : Wrap). record { width = b.width; wrap = x; hscroll = a.hscroll }) (same-wrap a.wrap b.wrap both.1)
+    ∙ ap (λ (x : ℕ). record { width = b.width; wrap = b.wrap; hscroll = x }) hscroll)
