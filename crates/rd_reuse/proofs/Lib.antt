@@ -1,1 +1,5 @@
+mod Lists
+mod Places
+mod Placing
 mod Taking
+mod Walking

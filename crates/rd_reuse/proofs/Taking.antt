@@ -1,7 +1,6 @@
 -- The older rows of a block, one after the other.
-use Rattle.std.proofs.Common.{◌≡◌, ℕ, zero, suc, ◌+◌, ◌-◌, ◌<◌, ◌≤◌, ◌&&◌, ◌==◌, Bool, true, false, not, cond, if◌then◌else◌, List, [], ◌∷◌, ◌++◌, length, map, drop, find, slice_get, Option, None, Some, Result, Ok, Err, IfOk, refl, sym, ap, ◌∙◌, arith}
-use Rattle.std.proofs.lemmas.Bool.{and_parts}
-use Rattle.std.proofs.lemmas.Bool.Decides.{nat_tests}
+use Rattle.std.proofs.Common.{◌≡◌, ℕ, zero, suc, ◌+◌, ◌-◌, ◌<◌, ◌≤◌, ◌&&◌, ◌==◌, Bool, true, false, if◌then◌else◌, List, [], ◌∷◌, ◌++◌, length, drop, find, slice_get, Option, None, Some, refl, sym, ap, ◌∙◌, arith}
+use Rattle.std.proofs.lemmas.Bool.{and_parts, eqb-true}
 use Rattle.std.proofs.lemmas.List.{append-nil, append_assoc}
 use Rattle.std.specs.List.{list_all}
 use Rattle.rd_base.specs.declared.settings.Wrap.{Wrap}
@@ -110,11 +109,6 @@ copies-all rows old c start number high =
     let none : length old - number ≡ 0 = omega arith in
     ap (λ n. rows ++ copied_rows (taken_from n old c start number)) none ∙ append-nil rows
 
--- what is true of an answer where it is one
-pub on-answer : {T E : Type 0} (r : Result T E) (P Q : T → Type 0) → IfOk r P → ((x : T) → P x → Q x) → IfOk r Q
-on-answer (Ok x) P Q h f = f x h
-on-answer (Err x) P Q h f = tt
-
 same-wrap : (a b : Wrap) → is_same_wrap a b ≡ true → a ≡ b
 same-wrap Truncate Truncate e = refl
 same-wrap Truncate Continue e = cc
@@ -126,12 +120,14 @@ same-wrap Word Truncate e = cc
 same-wrap Word Continue e = cc
 same-wrap Word Word e = refl
 
+equal-shapes : (a b : ShapeValues) → a.width ≡ b.width → a.wrap ≡ b.wrap → a.hscroll ≡ b.hscroll → a ≡ b
+equal-shapes a b width wrap hscroll =
+    ap (λ (x : ℕ). record { width = x; wrap = a.wrap; hscroll = a.hscroll }) width
+    ∙ (ap (λ (x : Wrap). record { width = b.width; wrap = x; hscroll = a.hscroll }) wrap
+    ∙ ap (λ (x : ℕ). record { width = b.width; wrap = b.wrap; hscroll = x }) hscroll)
+
 pub same-shape : (a b : ShapeValues) → is_same_shape a b ≡ true → a ≡ b
 same-shape a b e =
     let both = and_parts ((a.width == b.width) && (a.hscroll == b.hscroll)) (is_same_wrap a.wrap b.wrap) e in
     let numbers = and_parts (a.width == b.width) (a.hscroll == b.hscroll) both.0 in
-    let width : a.width ≡ b.width = let h = numbers.0 in grind (arith, nat_tests) in
-    let hscroll : a.hscroll ≡ b.hscroll = let h = numbers.1 in grind (arith, nat_tests) in
-    ap (λ (x : ℕ). record { width = x; wrap = a.wrap; hscroll = a.hscroll }) width
-    ∙ (ap (λ (x : Wrap). record { width = b.width; wrap = x; hscroll = a.hscroll }) (same-wrap a.wrap b.wrap both.1)
-    ∙ ap (λ (x : ℕ). record { width = b.width; wrap = b.wrap; hscroll = x }) hscroll)
+    equal-shapes a b (eqb-true a.width b.width numbers.0) (same-wrap a.wrap b.wrap both.1) (eqb-true a.hscroll b.hscroll numbers.1)

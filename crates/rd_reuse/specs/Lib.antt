@@ -1,4 +1,5 @@
 pub mod Changes
 pub mod Examples
 pub mod Keeping
+pub mod Laying
 pub mod Views

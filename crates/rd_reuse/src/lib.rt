@@ -5,6 +5,8 @@ mod change;
 mod examples;
 mod keeping;
 mod kept;
+mod layout;
 
 pub use change::Change;
 pub use kept::Kept;
+pub use layout::relay;

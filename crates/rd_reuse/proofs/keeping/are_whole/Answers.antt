@@ -1,4 +1,4 @@
-use Rattle.std.proofs.Common.{◌≡◌, ap, sym, ◌∙◌, option_map, Bor, arith}
+use Rattle.std.proofs.Common.{ap, sym, ◌∙◌, option_map, Bor, arith}
 use Rattle.rd_matrix.specs.declared.matrix.Entry.{Entry}
 use Rattle.rd_reuse.proofs.Taking.{whole-none, whole-not, whole-ends, whole-more}
 use Rattle.rd_reuse.proofs.keeping.are_whole.Goals as goal

@@ -1,4 +1,4 @@
-use Rattle.std.proofs.Common.{◌≡◌, length, ap, sym, ◌∙◌, option_map, Bor, arith}
+use Rattle.std.proofs.Common.{length, ap, sym, ◌∙◌, option_map, Bor, arith}
 use Rattle.std.proofs.lemmas.List.{length_push}
 use Rattle.rd_matrix.specs.declared.matrix.Entry.{Entry}
 use Rattle.rd_reuse.proofs.Taking.{copies-more}

@@ -1,4 +1,4 @@
-use Rattle.std.proofs.Common.{◌≡◌, sym, ◌∙◌}
+use Rattle.std.proofs.Common.{sym, ◌∙◌}
 use Rattle.rd_reuse.specs.Keeping.{is_under}
 use Rattle.rd_reuse.proofs.Taking.{find-here, find-behind}
 use Rattle.rd_reuse.proofs.keeping.entry_under.Goals as goal

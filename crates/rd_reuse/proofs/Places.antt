@@ -1,0 +1,139 @@
+-- Blocks and their rows, by place.
+use Rattle.std.proofs.Common.{◌≡◌, ℕ, zero, suc, ◌+◌, ◌-◌, ◌<◌, ◌≤◌, inl, inr, List, [], ◌∷◌, ◌++◌, length, option_map, Option, None, Some, refl, sym, ap, ◌∙◌, subst, arith}
+use Rattle.std.proofs.lemmas.Bool.{cases_lt}
+use Rattle.std.proofs.lemmas.Grind.{flat_map-append}
+use Rattle.std.proofs.lemmas.List.{length-append}
+use Rattle.std.specs.List.{slice_get}
+use Rattle.rd_base.specs.declared.settings.Anchor.{Anchor}
+use Rattle.rd_matrix.specs.Blocks.{IsWithin, StandFrom, end_from, first_start}
+use Rattle.rd_matrix.specs.Entries.{EntryMeaning, all_rows, entries_of, numbered}
+use Rattle.rd_matrix.specs.Sources.{SourceValues, IsSource, rows_at}
+use Rattle.rd_matrix.specs.declared.block.Block.{Block}
+use Rattle.rd_reuse.specs.Views.{Names, anchor_of}
+use Rattle.rd_reuse.proofs.Lists.{at-left, at-right, at-seam}
+use Rattle.rd_rows.specs.Rows.{RowMeaning}
+use Rattle.rd_rows.specs.Shapes.{ShapeValues}
+
+pub length-numbered : (start number : ℕ) (rows : List RowMeaning) → length (numbered start number rows) ≡ length rows
+length-numbered start number [] = refl
+length-numbered start number (r ∷ rows) = ap suc (length-numbered start (number + 1) rows)
+
+pub count-cons : (rows : Block → List RowMeaning) (b : Block) (bs : List Block) → length (all_rows rows (b ∷ bs)) ≡ length (rows b) + length (all_rows rows bs)
+count-cons rows b bs = length-append (entries_of rows b) (all_rows rows bs) ∙ ap (λ n. n + length (all_rows rows bs)) (length-numbered b.start 0 (rows b))
+
+pub all-append : (rows : Block → List RowMeaning) (xs ys : List Block) → all_rows rows (xs ++ ys) ≡ all_rows rows xs ++ all_rows rows ys
+all-append rows xs ys = flat_map-append (entries_of rows) xs ys
+
+pub count-last : (rows : Block → List RowMeaning) (xs : List Block) (b : Block) → length (all_rows rows (xs ++ b ∷ [])) ≡ length (all_rows rows xs) + length (rows b)
+count-last rows xs b =
+    let whole = ap length (all-append rows xs (b ∷ [])) ∙ length-append (all_rows rows xs) (all_rows rows (b ∷ [])) in
+    let last = count-cons rows b [] in
+    omega (arith, whole, last)
+
+numbered-at : (start number k : ℕ) (rows : List RowMeaning) (e : EntryMeaning) → slice_get (numbered start number rows) k ≡ Some e
+    → (k < length rows) × (e.start ≡ start) × (e.number ≡ number + k)
+numbered-at start number k [] e h = absurd cc
+numbered-at start number zero (r ∷ rows) e h =
+    let same : record { start = start; number = number; row = r } ≡ e = cc in
+    let starts : e.start ≡ start = ap (λ (x : EntryMeaning). x.start) (sym same) in
+    let at : e.number ≡ number = ap (λ (x : EntryMeaning). x.number) (sym same) in
+    (omega arith, starts, omega (arith, at))
+numbered-at start number (suc k) (r ∷ rows) e h =
+    let rest = numbered-at start (number + 1) k rows e h in
+    let low = rest.0 in
+    let at = rest.2 in
+    (omega (arith, low), rest.1, omega (arith, at))
+
+-- the block of which a row is one
+pub record Found (rows : Block → List RowMeaning) (bs : List Block) (start row k : ℕ) : Type 0 where
+  pub before : List Block
+  pub block : Block
+  pub after : List Block
+  pub pieces : bs ≡ before ++ block ∷ after
+  pub starts : block.start ≡ start
+  pub inside : row < length (rows block)
+  pub place : length (all_rows rows before) + row ≡ k
+
+entry-found : (rows : Block → List RowMeaning) (bs : List Block) (k : ℕ) (e : EntryMeaning) → slice_get (all_rows rows bs) k ≡ Some e → Found rows bs e.start e.number k
+entry-found rows [] k e h = absurd cc
+entry-found rows (b ∷ bs) k e h =
+    let size = length-numbered b.start 0 (rows b) in
+    elim (cases_lt k (length (rows b))) as (λ _. Found rows (b ∷ bs) e.start e.number k) [
+      | inl here ↦
+          let parts = numbered-at b.start 0 k (rows b) e (sym (at-left (entries_of rows b) (all_rows rows bs) k (omega (arith, size, here))) ∙ h) in
+          let at = parts.2 in
+          record { before = []; block = b; after = bs; pieces = refl; starts = sym parts.1; inside = omega (arith, at, here); place = omega (arith, at) }
+      | inr later ↦
+          let far : k ≡ length (entries_of rows b) + (k - length (rows b)) = omega (arith, size, later) in
+          let rest = entry-found rows bs (k - length (rows b)) e (sym (ap (slice_get (all_rows rows (b ∷ bs))) far ∙ at-right (entries_of rows b) (all_rows rows bs) (k - length (rows b))) ∙ h) in
+          let count = count-cons rows b rest.before in
+          let place = rest.place in
+          record {
+            before = b ∷ rest.before;
+            block = rest.block;
+            after = rest.after;
+            pieces = ap (λ xs. b ∷ xs) rest.pieces;
+            starts = rest.starts;
+            inside = rest.inside;
+            place = omega (arith, count, place, later);
+          }
+    ]
+
+found-of : (rows : Block → List RowMeaning) (bs : List Block) (k : ℕ) (anchor : Anchor) (o : Option EntryMeaning) → slice_get (all_rows rows bs) k ≡ o
+    → option_map anchor_of o ≡ Some anchor → Found rows bs anchor.pos anchor.row k
+found-of rows bs k anchor None at is = absurd cc
+found-of rows bs k anchor (Some e) at is =
+    let same : anchor_of e ≡ anchor = cc in
+    subst (λ (a : Anchor). Found rows bs a.pos a.row k) same (entry-found rows bs k e at)
+
+-- the block of an anchor that names a row
+pub anchor-found : (rows : Block → List RowMeaning) (bs : List Block) (k : ℕ) (anchor : Anchor) → Names anchor (all_rows rows bs) k → Found rows bs anchor.pos anchor.row k
+anchor-found rows bs k anchor is = found-of rows bs k anchor (slice_get (all_rows rows bs) k) refl is
+
+pub later-start : (from k : ℕ) (bs : List Block) (b : Block) → StandFrom from bs → slice_get bs k ≡ Some b → (from ≤ b.start) × (b.start < b.end)
+later-start from k [] b h i = absurd cc
+later-start from zero (a ∷ bs) b h i = let same : a ≡ b = cc in let start = h.0 in subst (λ (x : Block). (from ≤ x.start) × (x.start < x.end)) same (omega (arith, start), h.1)
+later-start from (suc k) (a ∷ bs) b h i =
+    let rest = later-start a.end k bs b h.2 i in
+    let low = rest.0 in
+    let start = h.0 in
+    let some = h.1 in
+    (omega (arith, low, start, some), rest.1)
+
+-- only one block holds a position
+pub holding : (from place : ℕ) (before after : List Block) (b d : Block) (j : ℕ) → StandFrom from (before ++ b ∷ after) → b.start ≡ place
+    → slice_get (before ++ b ∷ after) j ≡ Some d → d.start ≤ place → place < d.end → d ≡ b
+holding from place [] after b d zero stand starts at low high = let same : b ≡ d = cc in sym same
+holding from place [] after b d (suc j) stand starts at low high =
+    let later = (later-start b.end j after d stand.2 at).0 in
+    let some = stand.1 in
+    absurd (omega (arith, later, some, starts, low))
+holding from place (x ∷ before) after b d zero stand starts at low high =
+    let same : x ≡ d = cc in
+    let ends = ap (λ (y : Block). y.end) same in
+    let later = (later-start x.end (length before) (before ++ b ∷ after) b stand.2 (at-seam before b after)).0 in
+    absurd (omega (arith, ends, later, starts, high))
+holding from place (x ∷ before) after b d (suc j) stand starts at low high = holding x.end place before after b d j stand.2 starts at low high
+
+stand-le : (from : ℕ) (bs : List Block) → StandFrom from bs → from ≤ end_from from bs
+stand-le from [] h = omega arith
+stand-le from (b ∷ bs) h = let start = h.0 in let some = h.1 in let rest = stand-le b.end bs h.2 in omega (arith, start, some, rest)
+
+below-end : (from last k : ℕ) (bs : List Block) (b : Block) → StandFrom from bs → slice_get bs k ≡ Some b → b.end ≤ end_from last bs
+below-end from last k [] b h i = absurd cc
+below-end from last zero (a ∷ bs) b h i = let same : a ≡ b = cc in subst (λ (x : Block). x.end ≤ end_from a.end bs) same (stand-le a.end bs h.2)
+below-end from last (suc k) (a ∷ bs) b h i = below-end a.end a.end k bs b h.2 i
+
+-- the position of an anchor that names a row is one of its source's
+pub within : (m : SourceValues) (shape : ShapeValues) (anchor : Anchor) (k : ℕ) → IsSource m → Names anchor (rows_at m shape) k → IsWithin anchor.pos m.blocks
+within m shape anchor k source is =
+    let found = anchor-found (λ b. m.rows_of b shape) m.blocks k anchor is in
+    let stand = source.blocks.stand in
+    let at : slice_get m.blocks (length found.before) ≡ Some found.block =
+    ap (λ bs. slice_get bs (length found.before)) found.pieces ∙ at-seam found.before found.block found.after in
+    let low = later-start (first_start m.blocks) (length found.before) m.blocks found.block stand at in
+    let first = low.0 in
+    let some = low.1 in
+    let high = below-end (first_start m.blocks) 0 (length found.before) m.blocks found.block stand at in
+    let starts = found.starts in
+    (omega (arith, first, starts), omega (arith, some, starts, high))
