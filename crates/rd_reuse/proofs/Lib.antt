@@ -1,3 +1,4 @@
+mod Joining
 mod Lists
 mod Places
 mod Placing

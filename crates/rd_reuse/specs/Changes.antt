@@ -1,5 +1,5 @@
 -- What of a text stands where it stood: what ends before a head, and, moved by some positions, what starts at a tail or later.
-use Rattle.std.specs.Prelude.{ℕ, suc, ◌+◌, ◌-◌, min, max, nat_le, Bool, ◌==◌, ◌&&◌, ◌||◌, if◌then◌else◌, ℤ, pos, negsuc, ◌+ℤ◌, ◌-ℤ◌, int_le}
+use Rattle.std.specs.Prelude.{◌≡◌, ℕ, suc, ◌+◌, ◌-◌, ◌≤◌, min, max, nat_le, Bool, true, ◌==◌, ◌&&◌, ◌||◌, if◌then◌else◌, ℤ, pos, negsuc, ◌+ℤ◌, ◌-ℤ◌, int_le}
 use Rattle.std.specs.Ordering.{int_eq}
 use Rattle.rd_reuse.specs.declared.change.Change.{Change}
 
@@ -17,6 +17,12 @@ is_all c = (c.head == 0) && (c.tail == 4294967295) && int_eq c.added (pos 0)
 -- whether a number has the 64 bits of a signed one
 abbrev pub is_small : ℤ → Bool
 is_small added = int_le (negsuc 9223372036854775807) added && int_le added (pos 9223372036854775807)
+
+-- the parts of a change are positions and a number of 64 bits
+pub record IsChange (c : Change) : Type 0 where
+  pub head : c.head ≤ 4294967295
+  pub tail : c.tail ≤ 4294967295
+  pub added : is_small c.added ≡ true
 
 -- a change of these parts; anything may have changed where the tail is behind the last position or the number is too great
 abbrev pub change_of : ℕ → ℕ → ℤ → Change

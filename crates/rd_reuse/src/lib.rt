@@ -5,8 +5,12 @@ mod change;
 mod examples;
 mod keeping;
 mod kept;
+mod laws;
 mod layout;
 
 pub use change::Change;
 pub use kept::Kept;
+pub use laws::{
+    all_keeps_no_block, an_anchor_of_a_row_is_within, joined_with_all, joined_with_none,
+};
 pub use layout::relay;

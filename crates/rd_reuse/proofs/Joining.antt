@@ -1,0 +1,80 @@
+-- Changes that are joined with none and with all.
+use Rattle.std.proofs.Common.{◌≡◌, ℕ, ◌+◌, ◌^◌, ◌<◌, ◌≤◌, min, max, nat_le, inl, inr, Bool, true, false, ◌&&◌, ◌||◌, ◌==◌, if◌then◌else◌, List, ℤ, pos, ◌+ℤ◌, refl, sym, ap, ◌∙◌, arith}
+use Rattle.std.proofs.Math.IntN.{+ℤ_idl, +ℤ_idr}
+use Rattle.std.proofs.lemmas.Bool.{and_from, and_left, and_parts, cases_Bool, eqb-true, le-leb, lt-leb, true≢false}
+use Rattle.std.specs.Cmp.{signed_Decides}
+use Rattle.std.specs.Ordering.{int_eq}
+use Rattle.rd_matrix.specs.Blocks.{IsAmong, first_start}
+use Rattle.rd_matrix.specs.Sources.{SourceValues, IsSource}
+use Rattle.rd_matrix.specs.declared.block.Block.{Block}
+use Rattle.rd_matrix.specs.declared.matrix.Entry.{Entry}
+use Rattle.rd_reuse.specs.Changes.{IsChange, all, change_of, is_all, is_small, join, moved, none}
+use Rattle.rd_reuse.specs.Keeping.{AreRight, are_whole, is_kept, is_outside, taken}
+use Rattle.rd_reuse.specs.declared.change.Change.{Change}
+use Rattle.rd_reuse.proofs.Places.{later-start}
+use Rattle.rd_rows.specs.Copies.{shown_rows}
+use Rattle.rd_rows.specs.Shapes.{ShapeValues}
+
+or-last : (a b : Bool) → b ≡ true → (a || b) ≡ true
+or-last true b e = refl
+or-last false b e = e
+
+or-none : (a b : Bool) → a ≡ false → b ≡ false → (a || b) ≡ false
+or-none true b e f = absurd (true≢false e)
+or-none false b e f = f
+
+pub all-last : (c : Change) → join c all ≡ all
+all-last c =
+    ap (λ (t : Bool). if t then all else change_of (min c.head all.head) (max (moved all.added c.tail) all.tail) (c.added +ℤ all.added)) (or-last (is_all c) (is_all all) refl)
+
+-- a change that may be of anything is that of anything
+is-all : (c : Change) → is_all c ≡ true → c ≡ all
+is-all c e =
+    let both = and_parts ((c.head == 0) && (c.tail == 4294967295)) (int_eq c.added (pos 0)) e in
+    let places = and_parts (c.head == 0) (c.tail == 4294967295) both.0 in
+    ap (λ (x : ℕ). record { head = x; tail = c.tail; added = c.added }) (eqb-true c.head 0 places.0)
+    ∙ (ap (λ (x : ℕ). record { head = 0; tail = x; added = c.added }) (eqb-true c.tail 4294967295 places.1)
+    ∙ ap (λ (x : ℤ). record { head = 0; tail = 4294967295; added = x }) ((signed_Decides c.added (pos 0)).0 both.1))
+
+-- the parts of a change make that change
+made : (c : Change) (head tail : ℕ) (added : ℤ) → IsChange c → head ≡ c.head → tail ≡ c.tail → added ≡ c.added → change_of head tail added ≡ c
+made c head tail added is h t a =
+    ap (λ n. change_of n tail added) h
+    ∙ (ap (λ n. change_of c.head n added) t
+    ∙ (ap (λ n. change_of c.head c.tail n) a
+    ∙ ap (λ (b : Bool). if b then record { head = c.head; tail = c.tail; added = c.added } else all) (and_from (nat_le c.tail 4294967295) (is_small c.added) (le-leb c.tail 4294967295 is.tail) is.added)))
+
+pub none-last : (c : Change) → IsChange c → join c none ≡ c
+none-last c is =
+    let joined : ℕ → ℕ → ℤ → Bool → Change = λ head tail added t. if t then all else change_of head tail added in
+    let head : min c.head 4294967295 ≡ c.head = let h = is.head in omega (arith, h) in
+    let tail : max (c.tail + 0) 0 ≡ c.tail = omega arith in
+    elim (cases_Bool (is_all c)) as (λ _. join c none ≡ c) [
+      | inl whole ↦ ap (λ (t : Bool). joined (min c.head 4294967295) (max (c.tail + 0) 0) (c.added +ℤ pos 0) (t || is_all none)) whole ∙ sym (is-all c whole)
+      | inr part ↦
+          ap (λ (t : Bool). joined (min c.head 4294967295) (max (c.tail + 0) 0) (c.added +ℤ pos 0) (t || is_all none)) part
+          ∙ made c (min c.head 4294967295) (max (c.tail + 0) 0) (c.added +ℤ pos 0) is head tail (+ℤ_idr c.added)
+    ]
+
+pub none-first : (c : Change) → IsChange c → moved c.added 0 ≤ c.tail → join none c ≡ c
+none-first c is low =
+    let joined : ℕ → ℕ → ℤ → Bool → Change = λ head tail added t. if t then all else change_of head tail added in
+    let head : min 4294967295 c.head ≡ c.head = let h = is.head in omega (arith, h) in
+    let tail : max (moved c.added 0) c.tail ≡ c.tail = omega (arith, low) in
+    elim (cases_Bool (is_all c)) as (λ _. join none c ≡ c) [
+      | inl whole ↦ ap (joined (min 4294967295 c.head) (max (moved c.added 0) c.tail) (pos 0 +ℤ c.added)) whole ∙ sym (is-all c whole)
+      | inr part ↦
+          ap (joined (min 4294967295 c.head) (max (moved c.added 0) c.tail) (pos 0 +ℤ c.added)) part
+          ∙ made c (min 4294967295 c.head) (max (moved c.added 0) c.tail) (pos 0 +ℤ c.added) is head tail (+ℤ_idl c.added)
+    ]
+
+pub none-kept : (old : List Entry) (b : Block) → b.start < b.end → b.end < 2 ^ 32 → is_kept old all b ≡ false
+none-kept old b some small =
+    let below = lt-leb b.end 0 (omega (arith, some)) in
+    let behind = lt-leb 4294967295 b.start (omega (arith, some, small)) in
+    and_left (is_outside all b) (are_whole b.base (shown_rows (taken old all b.start))) (or-none (nat_le b.end 0) (nat_le 4294967295 b.start) below behind)
+
+pub all-right : (m : SourceValues) (old : List Entry) (shape : ShapeValues) → IsSource m → ((b : Block) → IsAmong m.blocks b → b.end < 2 ^ 32) → AreRight m old all shape
+all-right m old shape source small = λ b among kept.
+    let some = (later-start (first_start m.blocks) among.0 m.blocks b source.blocks.stand among.1).1 in
+    absurd (true≢false (sym kept ∙ none-kept old b some (small b among)))

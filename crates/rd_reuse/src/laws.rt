@@ -1,0 +1,35 @@
+//! Laws of changes and of rows that are kept, over all changes and sources.
+ghost use Rattle.std.specs.Prelude.{◌≡◌, ℕ, ◌^◌, ◌<◌, ◌≤◌, false, List};
+ghost use Rattle.rd_base.specs.declared.settings.Anchor.{Anchor};
+ghost use Rattle.rd_matrix.specs.Blocks.{IsAmong, IsWithin};
+ghost use Rattle.rd_matrix.specs.Sources.{SourceValues, IsSource, rows_at};
+ghost use Rattle.rd_matrix.specs.declared.block.Block.{Block};
+ghost use Rattle.rd_matrix.specs.declared.matrix.Entry.{Entry};
+ghost use Rattle.rd_reuse.specs.Changes.{IsChange, all, join, moved, none};
+ghost use Rattle.rd_reuse.specs.Keeping.{AreRight, is_kept};
+ghost use Rattle.rd_reuse.specs.Views.{Names};
+ghost use Rattle.rd_reuse.specs.declared.change.Change.{Change};
+ghost use Rattle.rd_rows.specs.Shapes.{ShapeValues};
+
+/// Joined with a change of anything each change is one.
+pub fn joined_with_all()
+    ensures first { (c : Change) → join all c ≡ all }
+    ensures last { (c : Change) → join c all ≡ all }
+{}
+
+/// Joined with none a change stays as it is: before it, where no more was added than what stands before the tail.
+pub fn joined_with_none()
+    ensures first { (c : Change) → IsChange c → moved c.added 0 ≤ c.tail → join none c ≡ c }
+    ensures last { (c : Change) → IsChange c → join c none ≡ c }
+{}
+
+/// Where anything may have changed no block keeps its older rows, whatever these are.
+pub fn all_keeps_no_block()
+    ensures block { (old : List Entry) (b : Block) → b.start < b.end → b.end < 2 ^ 32 → is_kept old all b ≡ false }
+    ensures source { (m : SourceValues) (old : List Entry) (shape : ShapeValues) → IsSource m → ((b : Block) → IsAmong m.blocks b → b.end < 2 ^ 32) → AreRight m old all shape }
+{}
+
+/// The position of an anchor that names a row of a source is a position of its blocks.
+pub fn an_anchor_of_a_row_is_within()
+    ensures { (m : SourceValues) (shape : ShapeValues) (anchor : Anchor) (place : ℕ) → IsSource m → Names anchor (rows_at m shape) place → IsWithin anchor.pos m.blocks }
+{}
