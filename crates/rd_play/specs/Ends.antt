@@ -2,6 +2,7 @@
 use Rattle.std.specs.Prelude.{◌≡◌, ℕ, ◌+◌, ◌<◌, ◌≤◌, ◌⊎◌, Bool, true, false, List, [], ◌∷◌, ◌++◌, length, take, map, Option, None, Some}
 use Rattle.std.specs.List.{AllByRecursion}
 use Rattle.std.specs.Io.KnownBytes.{Appends, IsAtEnd}
+use Rattle.rd_base.specs.declared.limits.TheConstants.{LINES}
 use Rattle.rd_io.specs.Devices.{Rose}
 use Rattle.rd_io.specs.Lines.{lines_of, joined, IsUnbroken}
 use Rattle.rd_play.specs.Reports.{last_line}
@@ -55,7 +56,7 @@ AreFirst lines bytes left = ((rest : List ℕ) × Begins lines bytes rest) ⊎ (
 -- a line that is too long, or one too many: nothing of it was run
 abbrev pub IsOver : ScriptFault → List Turn → List ℕ → Type 0
 IsOver TooLong turns bytes = (rest : List ℕ) × GoesOn turns bytes rest × (1048576 < length rest) × IsUnbroken (take 1048577 rest)
-IsOver TooMany turns bytes = (rest : List ℕ) × GoesOn turns bytes rest × (0 < length rest) × (length turns ≡ 1000000)
+IsOver TooMany turns bytes = (rest : List ℕ) × GoesOn turns bytes rest × (0 < length rest) × (length turns ≡ LINES)
 IsOver fault turns bytes = ⊥
 
 -- a line that is bad: it is no op, or its op was refused; it is the last of those that were run
@@ -141,7 +142,7 @@ Ended mode status turns bytes left screen report =
 -- No line of the script is too long or one too many, and each op is accepted, whichever redisplays find memory.
 pub record IsValidScript (dump : Bool) (script : List ℕ) : Type 0 where
   pub short : AllByRecursion (λ line. length line ≤ 1048576) (lines_of script)
-  pub few : length (lines_of script) ≤ 1000000
+  pub few : length (lines_of script) ≤ LINES
   pub accepted : (turns : List Turn) → lines_in turns ≡ lines_of script → (run (opened dump) turns).fault ≡ None
 
 -- the run ended well

@@ -15,6 +15,7 @@ use crate::halt::Halt;
 use crate::report::{tell_no_memory, tell_shown};
 use crate::status::ScriptFault;
 use crate::windows::Windows;
+use rd_base::limits::LINES;
 use rd_base::{Memory, Steps};
 use rd_io::{Failed, Sink};
 use rd_script::{Op, OpFault, print_dump, read_op};
@@ -55,7 +56,7 @@ impl Run {
         report: &mut R,
         steps: &mut Steps<L>,
     ) -> Result<(), Halt>
-        requires { self.old.lines < 1000000 }
+        requires { self.old.lines < LINES }
         ensures acts { Acts result (λ starved. effect (standing self.old) (turn_of line.now starved)) (standing self.new)
             (sunk (K.written screen.old) (K.written screen.new) (K.faults screen.old) (K.faults screen.new))
             (sunk (R.written report.old) (R.written report.new) (R.faults report.old) (R.faults report.new)) }
@@ -81,7 +82,7 @@ impl Run {
         report: &mut R,
         steps: &mut Steps<L>,
     ) -> Result<(), Halt>
-        requires few { self.old.lines < 1000000 }
+        requires few { self.old.lines < LINES }
         requires form { IsInForm op }
         ensures acts { Acts result (λ starved. effect_of_op starved (standing self.old) op) (standing self.new)
             (sunk (K.written screen.old) (K.written screen.new) (K.faults screen.old) (K.faults screen.new))
@@ -103,7 +104,7 @@ impl Run {
         screen: &mut K,
         report: &mut R,
     ) -> Result<(), Halt>
-        requires few { self.old.lines < 1000000 }
+        requires few { self.old.lines < LINES }
         requires form { IsInForm op }
         requires applied { asked op ≡ None }
         ensures acts { Acts result (λ starved. stepped (standing self.old) op (step self.old.session.state op)) (standing self.new)
@@ -129,7 +130,7 @@ impl Run {
         report: &mut R,
         steps: &mut Steps<L>,
     ) -> Result<(), Halt>
-        requires { self.old.lines < 1000000 }
+        requires { self.old.lines < LINES }
         ensures acts { Acts result (λ starved. if starved then unshown (standing self.old) else redisplayed (standing self.old) (laid_out self.old.session.state))
             (standing self.new)
             (sunk (K.written screen.old) (K.written screen.new) (K.faults screen.old) (K.faults screen.new))

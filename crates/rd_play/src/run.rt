@@ -9,6 +9,7 @@ ghost use Rattle.rd_play.specs.Runs.{Turn};
 use crate::act::Run;
 use crate::halt::{Halt, Stop};
 use crate::status::{ScriptFault, Status};
+use rd_base::limits::LINES;
 use rd_base::Steps;
 use rd_io::{LineFault, Lines, Sink, Source};
 use std::alloc::Global;
@@ -54,7 +55,7 @@ pub fn run_script<S: Source, K: Sink, R: Sink, L: Ledger>(
 
 /// How a run ends whose reader answers a fault, behind so many lines.
 fn ended_by(fault: LineFault, lines: u32) -> Stop
-    requires { lines ≤ 1000000 }
+    requires { lines ≤ LINES }
     ensures { result ≡ ended_by fault lines }
 {
     match fault {
@@ -67,7 +68,7 @@ fn ended_by(fault: LineFault, lines: u32) -> Stop
 
 /// How a run ends that halts at a line, behind so many others.
 fn halted_by(halt: Halt, lines: u32) -> Stop
-    requires { lines ≤ 1000000 }
+    requires { lines ≤ LINES }
     ensures { result ≡ halted_by halt lines }
 {
     match halt {

@@ -3,20 +3,21 @@ ghost use Rattle.std.specs.Prelude.{◌≡◌, ◌≤◌, ◌∷◌, []};
 ghost use Rattle.std.specs.Vec.{vec_capacity};
 ghost use Rattle.rd_session.specs.Facts.{facts_of};
 
+use rd_base::limits::WINDOWS;
 use rd_base::Memory;
 use rd_script::WindowFacts;
 use rd_session::Session;
 use std::alloc::Global;
 
 /// How many windows can live.
-const MOST_WINDOWS: usize = 64;
+const MOST_WINDOWS: usize = WINDOWS as usize;
 
 /// Room for what a dump says of all windows. It is taken before the first line is run, so that no line of the report takes
 /// memory.
 #[derive(Drop)]
 pub struct Windows {
     facts: Vec<WindowFacts>,
-    pub ghost roomy: { 64 ≤ vec_capacity facts },
+    pub ghost roomy: { WINDOWS ≤ vec_capacity facts },
 }
 
 impl Windows {

@@ -4,6 +4,7 @@ ghost use Rattle.rd_term.specs.Pictures.{width_of};
 ghost use Rattle.rd_session.specs.Plain.{AreShowable};
 ghost use Rattle.rd_session.specs.Redisplay.{painted, with_cursor};
 
+use rd_base::limits::{FRAME_COLUMNS, FRAME_ROWS};
 use rd_base::{Cell, Memory, Pos};
 use rd_matrix::Matrix;
 use rd_term::Screen;
@@ -29,9 +30,9 @@ pub fn paint(
     point: Pos,
 ) -> Result<Screen, Memory>
     requires some_columns { 1 ≤ width }
-    requires columns { width ≤ 400 }
+    requires columns { width ≤ FRAME_COLUMNS }
     requires some_rows { 2 ≤ height }
-    requires most_rows { height ≤ 200 }
+    requires most_rows { height ≤ FRAME_ROWS }
     requires room { length matrix.now < height }
     requires showable { (first : ℕ) × ((last : ℕ) × AreShowable width first last matrix.now) }
     ensures { IfOk result (λ screen. screen ≡ painted width (height - 1) point matrix.now) }

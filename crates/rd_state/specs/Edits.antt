@@ -1,5 +1,6 @@
 -- What an op does to one buffer, and where the positions in it move.
 use Rattle.std.specs.Prelude.{ℕ, ◌+◌, ◌-◌, nat_lt, nat_le, ◌==◌, ◌&&◌, ◌||◌, Bool, is_some, if◌then◌else◌, ℤ, Option, Some, None, Result, Ok, Err, List, [], ◌∷◌, ◌++◌, length, map, take, drop, replicate, min, max}
+use Rattle.rd_base.specs.declared.limits.TheConstants.{OVERLAYS}
 use Rattle.rd_base.specs.Settings.{SettingValues}
 use Rattle.rd_text.specs.Texts.{TextValue, most_characters, inserted, deleted, narrowed, widened}
 use Rattle.rd_overlays.specs.Overlays.{overlay_at, new_overlay, moved, dropped, slot_grown, slot_shrunk}
@@ -89,7 +90,7 @@ widening b = Ok (record b { text = widened b.text })
 
 -- how many overlays can be made in a buffer
 abbrev pub most_overlays : ℕ
-most_overlays = 65536
+most_overlays = OVERLAYS
 
 -- one more overlay, without values
 abbrev pub overlay_making : BufferValue → ℕ → ℕ → ℤ → Bool → Bool → Result BufferValue Refused

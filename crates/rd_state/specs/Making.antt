@@ -1,5 +1,6 @@
 -- The objects that ops make.
 use Rattle.std.specs.Prelude.{ℕ, List, [], ◌∷◌, ◌++◌, map, option_map, Option, None, Some, Result, Ok, Err, length}
+use Rattle.rd_base.specs.declared.limits.TheConstants.{FACES, TABLES}
 use Rattle.rd_base.specs.Cells.{single}
 use Rattle.rd_base.specs.Faces.{Attributes}
 use Rattle.rd_base.specs.declared.cell.Glyph.{Glyph}
@@ -49,7 +50,7 @@ abbrev pub spec_making : ObjectLists → OpSpec → Result ObjectLists Refused
 spec_making o spec = unless_fault (spec_fault o (spec_of spec)) (record o { specs = o.specs ++ spec_of spec ∷ [] })
 
 abbrev pub face_making : ObjectLists → Attributes → Result ObjectLists Refused
-face_making o face = unless_fault (full_fault 1024 (length o.faces)) (record o { faces = o.faces ++ face ∷ [] })
+face_making o face = unless_fault (full_fault FACES (length o.faces)) (record o { faces = o.faces ++ face ∷ [] })
 
 -- a glyph character in its own columns
 abbrev pub glyph_of : ℕ → Glyph
@@ -59,7 +60,7 @@ abbrev pub entry_of : OpEntry → Entry
 entry_of entry = record { code = entry.code; text = map glyph_of entry.text }
 
 abbrev pub table_making : ObjectLists → TableValue → Result ObjectLists Refused
-table_making o table = unless_fault (full_fault 64 (length o.tables)) (record o { tables = o.tables ++ table ∷ [] })
+table_making o table = unless_fault (full_fault TABLES (length o.tables)) (record o { tables = o.tables ++ table ∷ [] })
 
 abbrev pub table_of : List OpEntry → Option ℕ → Option ℕ → Option ℕ → Option ℕ → Option (List ℕ) → Option ℕ → TableValue
 table_of entries truncation continuation escape control ellipsis border = record {

@@ -3,6 +3,7 @@ use Rattle.std.specs.Prelude.{◌≡◌, ℕ, zero, suc, ◌+◌, ◌<◌, ◌�
 use Rattle.std.specs.List.{position_or_len}
 use Rattle.std.specs.Str.{bytes_eq}
 use Rattle.std.specs.declared.alloc.Global.{Global}
+use Rattle.rd_base.specs.declared.limits.TheConstants.{BUFFERS, FACES, FRAME_COLUMNS, FRAME_ROWS, OVERLAYS, SPECS, STRINGS, TABLES}
 use Rattle.rd_base.specs.Settings as settings
 use Rattle.rd_base.specs.declared.settings.Wrap.TheVariants.{Truncate}
 use Rattle.rd_text.specs.Texts.{TextValue, no_text, IsText, IsAccessible}
@@ -74,7 +75,7 @@ buffers_of entries = map (λ e. named (string_bytes e.0) e.1) entries
 
 -- how many buffers there can be
 abbrev pub most_buffers : ℕ
-most_buffers = 64
+most_buffers = BUFFERS
 
 -- a buffer as it is made
 abbrev pub new_content : ContentValue
@@ -117,7 +118,7 @@ pub record IsWithin (b : props.BufferValue) : Type 0 where
   pub kinds : (kind p value : ℕ) → b.properties kind p ≡ Some value → kind < 5
   pub first : (kind p value : ℕ) → b.properties kind p ≡ Some value → 1 ≤ p
   pub last : (kind p value : ℕ) → b.properties kind p ≡ Some value → p ≤ length b.text.text
-  pub few : length b.overlays ≤ 65536
+  pub few : length b.overlays ≤ OVERLAYS
   pub overlays : (number : ℕ) (o : Overlay) → overlay_at b.overlays number ≡ Some o → IsOverlayIn (length b.text.text) o
 
 -- a window shows a buffer that was made, and its point and the beginning of its view are accessible there
@@ -129,16 +130,16 @@ pub record IsShowing (buffers : List BufferValue) (w : WindowState) : Type 0 whe
 -- a frame of 12 to 400 columns and 2 to 200 rows
 pub record IsFrame (width height : ℕ) : Type 0 where
   pub wide : 12 ≤ width
-  pub narrow : width ≤ 400
+  pub narrow : width ≤ FRAME_COLUMNS
   pub high : 2 ≤ height
-  pub low : height ≤ 200
+  pub low : height ≤ FRAME_ROWS
 
 -- there are no more objects than there may be
 pub record AreFew (o : ObjectLists) : Type 0 where
-  pub strings : length o.strings ≤ 4096
-  pub specs : length o.specs ≤ 4096
-  pub faces : length o.faces ≤ 1024
-  pub tables : length o.tables ≤ 64
+  pub strings : length o.strings ≤ STRINGS
+  pub specs : length o.specs ≤ SPECS
+  pub faces : length o.faces ≤ FACES
+  pub tables : length o.tables ≤ TABLES
 
 -- what is true of each state that a session can reach
 pub record IsValid (s : StateValue) : Type 0 where

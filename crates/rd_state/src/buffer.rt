@@ -9,13 +9,14 @@ ghost use Rattle.rd_state.specs.Answers.{Changes};
 
 use crate::refused::Refused;
 use crate::values::{close, open};
+use rd_base::limits::TEXT_CHARACTERS;
 use rd_base::{Ch, Memory, Pos, Settings};
 use rd_props::BufferState;
 use rd_spans::Spans;
 use rd_text::Buffer;
 
 /// How many characters a text can have.
-const MOST_CHARACTERS: usize = 4_194_304;
+const MOST_CHARACTERS: usize = TEXT_CHARACTERS as usize;
 
 /// Puts a text in before a position. It has no properties, and what stands behind it moves.
 pub(crate) fn insert(buffer: &mut BufferState, pos: u64, new: &[Ch]) -> Result<(), Refused>

@@ -10,16 +10,17 @@ ghost use Rattle.rd_state.specs.Answers.{Makes};
 ghost use Rattle.rd_state.specs.Making.{run_of, string_making, spec_making, face_making, table_making};
 
 use crate::refused::Refused;
+use rd_base::limits::{STRING_CHARACTERS, STRINGS};
 use rd_base::{Ch, Face, ListOf, Memory};
 use rd_objects::{Objects, Run, RunKind, Spec, Table};
 use rd_script::{OpRun, OpSpec};
 use std::alloc::Global;
 
 /// How many strings there can be, and display specs.
-const MOST: u64 = 4_096;
+const MOST: u64 = STRINGS as u64;
 
 /// How many characters a string can have.
-const LONGEST: usize = 4_096;
+const LONGEST: usize = STRING_CHARACTERS as usize;
 
 /// Makes a string with runs of faces and display specs.
 pub(crate) fn add_string(

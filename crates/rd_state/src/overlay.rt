@@ -7,13 +7,14 @@ ghost use Rattle.rd_state.specs.Edits.{is_range_of_all, overlay_making, overlay_
 ghost use Rattle.rd_state.specs.Answers.{Changes};
 ghost use Rattle.rd_state.specs.declared.refused.Refused.TheVariants.{NoOverlay};
 
+use rd_base::limits::OVERLAYS;
 use crate::refused::Refused;
 use rd_overlays::{Overlay, Overlays};
 use rd_props::BufferState;
 use rd_text::Buffer;
 
 /// How many overlays can be made in a buffer.
-const MOST_OVERLAYS: u64 = 65_536;
+const MOST_OVERLAYS: u64 = OVERLAYS as u64;
 
 /// Makes an overlay without values.
 pub(crate) fn make(
@@ -71,9 +72,9 @@ pub(crate) fn drop_one(buffer: &mut BufferState, number: u64) -> Result<(), Refu
 
 /// The overlay with a number, which is refused where none lives.
 pub(crate) fn find_overlay(overlays: &Overlays, number: u64) -> Result<Overlay, Refused>
-    requires { length overlays.now ≤ 65536 }
+    requires { length overlays.now ≤ OVERLAYS }
     ensures found { IfOk result (λ overlay. overlay_at overlays.now number ≡ Some overlay) }
-    ensures small { IfOk result (λ overlay. number < 65536) }
+    ensures small { IfOk result (λ overlay. number < OVERLAYS) }
     ensures absent { OnErr result (overlay_at overlays.now number ≡ None) }
     ensures refused { IfErr result (λ e. e ≡ NoOverlay) }
 {

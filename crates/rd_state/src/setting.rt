@@ -7,12 +7,13 @@ ghost use Rattle.rd_state.specs.Fitting.{IsFitting};
 ghost use Rattle.rd_state.specs.States.{AreFew};
 ghost use Rattle.rd_state.specs.Steps.{is_made, names_made};
 
+use rd_base::limits::STRINGS;
 use rd_base::Settings;
 use rd_objects::Objects;
 use rd_script::Setting;
 
 /// No sort of objects has more.
-const MOST_NUMBERS: u64 = 4_096;
+const MOST_NUMBERS: u64 = STRINGS as u64;
 
 /// Sets a setting.
 pub(crate) fn put(settings: &mut Settings, setting: Setting)

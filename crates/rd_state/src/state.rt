@@ -20,6 +20,7 @@ use crate::setting::names_made;
 use crate::table::{TableParts, make_table};
 use crate::window::WindowState;
 use indexmap::IndexMap;
+use rd_base::limits::BUFFERS;
 use rd_base::{Anchor, Ch, Face, Memory, Pos, Wrap};
 use rd_objects::Objects;
 use rd_props::BufferState;
@@ -48,7 +49,7 @@ impl Model for State {
 }
 
 /// How many buffers there can be.
-const MOST_BUFFERS: usize = 64;
+const MOST_BUFFERS: usize = BUFFERS as usize;
 
 impl State {
     /// The state in which a session begins: one empty buffer `main`, shown in window 0 of a frame of 80 columns and 24 rows.
