@@ -5,6 +5,7 @@ use Rattle.std.proofs.lemmas.List.Elements.{All-nil, All-cons}
 use Rattle.std.specs.Prelude.{All}
 use Rattle.serde_json.specs.Data.{Data, Items, no_items, item, Members}
 use Rattle.serde_json.specs.Find.{get_member, as_number, as_u64, as_i64, as_bool, as_str, as_array, as_object}
+use Rattle.rd_base.specs.declared.limits.TheConstants.{FRAME_COLUMNS, FRAME_ROWS, SPACE_COLUMNS, TAB_COLUMNS}
 use Rattle.rd_base.specs.declared.settings.Invisible.{Invisible}
 use Rattle.rd_base.specs.declared.settings.Invisible.TheVariants.{Every, Listed}
 use Rattle.rd_objects.specs.declared.run.RunKind.{RunKind}
@@ -270,7 +271,7 @@ any-gives : {T : Type 0} (key : List ℕ) (kind : Data → Option T) → Gives (
 any-gives key kind = required-gives key kind _ (any-finds kind)
 
 value-gives : (n : SettingName) → Gives (value_of_setting n) IsSettingInForm
-value-gives setting_names.TabWidth = made-as _ _ _ IsSettingInForm (required-gives (codes "value") (within 1 32) _ (within-finds 1 32)) (λ n h. h)
+value-gives setting_names.TabWidth = made-as _ _ _ IsSettingInForm (required-gives (codes "value") (within 1 TAB_COLUMNS) _ (within-finds 1 TAB_COLUMNS)) (λ n h. h)
 value-gives setting_names.CtlArrow = made-as _ _ _ IsSettingInForm (any-gives (codes "value") as_bool) (λ x h. h)
 value-gives setting_names.Direction = made-as _ _ _ IsSettingInForm (any-gives (codes "value") (word direction_names)) (λ x h. h)
 value-gives setting_names.Reorder = made-as _ _ _ IsSettingInForm (any-gives (codes "value") as_bool) (λ x h. h)
@@ -283,8 +284,8 @@ value-gives setting_names.ReadOnly = made-as _ _ _ IsSettingInForm (any-gives (c
 
 spec-gives : (n : SpecName) → Gives (spec_value n) IsSpecInForm
 spec-gives spec_names.Text = made-as _ _ _ IsSpecInForm (whole_field (codes "value")) (λ n h. h)
-spec-gives spec_names.Width = made-as _ _ _ IsSpecInForm (range_field (codes "value") 0 400) (λ n h. h.1)
-spec-gives spec_names.Align = made-as _ _ _ IsSpecInForm (range_field (codes "value") 0 400) (λ n h. h.1)
+spec-gives spec_names.Width = made-as _ _ _ IsSpecInForm (range_field (codes "value") 0 SPACE_COLUMNS) (λ n h. h.1)
+spec-gives spec_names.Align = made-as _ _ _ IsSpecInForm (range_field (codes "value") 0 SPACE_COLUMNS) (λ n h. h.1)
 
 colour-gives : (key : List ℕ) → Gives (defaulted 8 key (within 0 7)) (λ n. n ≤ 8)
 colour-gives key = defaulted-gives 8 key (within 0 7) (λ n. n ≤ 8)
@@ -304,7 +305,7 @@ range_of_name f from to so =
     (λ x h. so x.0 x.1.0 x.1.1 h.0 h.1.0 h.1.1)
 
 row-gives : (n : name.Name) → Gives (row n) IsInForm
-row-gives names.Frame = made-gives _ _ _ (both-gives _ _ _ _ (range_field (codes "width") 12 400) (range_field (codes "height") 2 200)) (λ x h. (h.0.0, h.0.1, h.1.0, h.1.1))
+row-gives names.Frame = made-gives _ _ _ (both-gives _ _ _ _ (range_field (codes "width") 12 FRAME_COLUMNS) (range_field (codes "height") 2 FRAME_ROWS)) (λ x h. (h.0.0, h.0.1, h.1.0, h.1.1))
 row-gives names.Buffer = made-gives _ _ _ (name_field (codes "name")) (λ x h. h)
 row-gives names.Insert = made-gives _ _ _ (both-gives _ _ _ _ (name_field (codes "buffer")) (both-gives _ _ _ _ (whole_field (codes "pos")) (text_field (codes "text")))) (λ x h. (h.0, h.1.0, h.1.1))
 row-gives names.TypeText = made-gives _ _ _ (text_field (codes "text")) (λ x h. h)
@@ -341,7 +342,7 @@ row-gives names.Remove = made-gives _ _ _ (whole_field (codes "window")) (λ x h
 row-gives names.Show = made-gives _ _ _ (both-gives _ _ _ _ (whole_field (codes "window")) (name_field (codes "buffer"))) (λ x h. h)
 row-gives names.Point = made-gives _ _ _ (both-gives _ _ _ _ (whole_field (codes "window")) (whole_field (codes "pos"))) (λ x h. h)
 row-gives names.Wrap = made-gives _ _ _ (both-gives _ _ _ _ (whole_field (codes "window")) (required-gives (codes "mode") (word wrap_modes) _ (any-finds (word wrap_modes)))) (λ x h. h.0)
-row-gives names.Redisplay = made-gives _ _ IsStop (optional-gives (codes "stop") (within 0 200) _ IsStop (within-finds 0 200) tt (λ y h. h.1)) (λ x h. h)
+row-gives names.Redisplay = made-gives _ _ IsStop (optional-gives (codes "stop") (within 0 FRAME_ROWS) _ IsStop (within-finds 0 FRAME_ROWS) tt (λ y h. h.1)) (λ x h. h)
 row-gives names.Unbuilt = record { given = λ ms op e. absurd (err≢ok NotBuilt op e) }
 
 -- ---- lines

@@ -1,8 +1,10 @@
 -- The runs of faces, found in one pass.
-use Rattle.std.proofs.Common.{◌≡◌, ℕ, suc, ◌+◌, ◌-◌, ◌<◌, ◌||◌, length, drop, get_or, Option, Result, is_some, codes, decimal, ◌==◌, ◌&&◌, Bool, true, false, if◌then◌else◌, List, [], ◌∷◌, ◌++◌, refl, sym, ap, ◌∙◌, subst, arith, append-nil, true≢false}
+use Rattle.std.proofs.Common.{◌≡◌, ℕ, suc, ◌+◌, ◌-◌, ◌<◌, ◌||◌, length, drop, get_or, Option, Result, is_some, codes, decimal, Bool, true, false, if◌then◌else◌, List, [], ◌∷◌, ◌++◌, refl, sym, ap, ◌∙◌, subst, arith, append-nil, true≢false}
 use Rattle.std.proofs.lemmas.Bool.Decides.{nat_tests}
 use Rattle.rd_base.specs.Faces.{Attributes, plain}
-use Rattle.rd_script.specs.Dumps.{same_flag, same_face, joined, runs_of, run_text, runs_text, ended_text, faces_of, face_after, pieces, numbers_text, number_text, numbers_behind, rows_text, row_line}
+use Rattle.rd_base.specs.Equals.{same_face}
+use Rattle.rd_base.proofs.Equals.{face-told, face-itself}
+use Rattle.rd_script.specs.Dumps.{joined, runs_of, run_text, runs_text, ended_text, faces_of, face_after, pieces, numbers_text, number_text, numbers_behind, rows_text, row_line}
 use Rattle.std.proofs.Math.Seq.{drop-cons}
 use Rattle.std.specs.Result.{IsErr}
 use Rattle.rd_script.specs.Prints.{Prints}
@@ -14,39 +16,6 @@ abbrev pub open_text : ℕ → ℕ → Attributes → List Attributes → List �
 open_text first column face [] = run_text first column face
 open_text first column face (next ∷ faces) = if same_face next face then open_text first (column + 1) face faces else run_text first column face ++ open_text column (column + 1) next faces
 
-same_flag-told : (a b : Bool) → same_flag a b ≡ true → a ≡ b
-same_flag-told true true e = refl
-same_flag-told true false e = absurd (true≢false (sym e))
-same_flag-told false true e = absurd (true≢false (sym e))
-same_flag-told false false e = refl
-
-same_flag-itself : (a : Bool) → same_flag a a ≡ true
-same_flag-itself true = refl
-same_flag-itself false = refl
-
-attributes-same : (a b c d : ℕ) (p q r s t u : Bool) → a ≡ c → b ≡ d → p ≡ s → q ≡ t → r ≡ u
-    → let x : Attributes = record { fg = a; bg = b; bold = p; underline = q; inverse = r } in
-    let y : Attributes = record { fg = c; bg = d; bold = s; underline = t; inverse = u } in x ≡ y
-attributes-same a b c d p q r s t u e f g h i = cc
-
-both-true : (a b : Bool) → (a && b) ≡ true → (a ≡ true) × (b ≡ true)
-both-true true b e = (refl, e)
-both-true false b e = absurd (true≢false (sym e))
-
-equal-told : (m n : ℕ) → (m == n) ≡ true → m ≡ n
-equal-told m n e = grind (arith, nat_tests)
-
-same_face-told : (f g : Attributes) → same_face f g ≡ true → f ≡ g
-same_face-told f g e =
-    let inverse = both-true (f.fg == g.fg && f.bg == g.bg && same_flag f.bold g.bold && same_flag f.underline g.underline) (same_flag f.inverse g.inverse) e in
-    let underline = both-true (f.fg == g.fg && f.bg == g.bg && same_flag f.bold g.bold) (same_flag f.underline g.underline) inverse.0 in
-    let bold = both-true (f.fg == g.fg && f.bg == g.bg) (same_flag f.bold g.bold) underline.0 in
-    let colours = both-true (f.fg == g.fg) (f.bg == g.bg) bold.0 in
-    let fg_same : f.fg ≡ g.fg = equal-told f.fg g.fg colours.0 in
-    let bg_same : f.bg ≡ g.bg = equal-told f.bg g.bg colours.1 in
-    attributes-same f.fg f.bg g.fg g.bg f.bold f.underline f.inverse g.bold g.underline g.inverse fg_same bg_same
-    (same_flag-told f.bold g.bold bold.1) (same_flag-told f.underline g.underline underline.1) (same_flag-told f.inverse g.inverse inverse.1)
-
 if_true : {A : Type 0} (b : Bool) (x y : A) → b ≡ true → (if b then x else y) ≡ x
 if_true true x y e = refl
 if_true false x y e = absurd (true≢false (sym e))
@@ -55,30 +24,16 @@ if_false : {A : Type 0} (b : Bool) (x y : A) → b ≡ false → (if b then x el
 if_false true x y e = absurd (true≢false e)
 if_false false x y e = refl
 
-and_true : (a b : Bool) → a ≡ true → b ≡ true → (a && b) ≡ true
-and_true true b p q = q
-and_true false b p q = p
-
-equal-itself : (n : ℕ) → (n == n) ≡ true
-equal-itself n = grind (arith, nat_tests)
-
-same_face-itself : (f : Attributes) → same_face f f ≡ true
-same_face-itself f =
-    let colours = and_true (f.fg == f.fg) (f.bg == f.bg) (equal-itself f.fg) (equal-itself f.bg) in
-    let bold = and_true (f.fg == f.fg && f.bg == f.bg) (same_flag f.bold f.bold) colours (same_flag-itself f.bold) in
-    let underline = and_true (f.fg == f.fg && f.bg == f.bg && same_flag f.bold f.bold) (same_flag f.underline f.underline) bold (same_flag-itself f.underline) in
-    and_true (f.fg == f.fg && f.bg == f.bg && same_flag f.bold f.bold && same_flag f.underline f.underline) (same_flag f.inverse f.inverse) underline (same_flag-itself f.inverse)
-
 -- more columns of a face before joined runs of it
 joined-more_at : (m n : ℕ) (face : Attributes) (run : ℕ × Attributes) (runs : List (ℕ × Attributes)) (same : Bool)
     → joined m face (if same then (n + run.0, face) ∷ runs else (n, face) ∷ run ∷ runs) ≡ (if same then (m + n + run.0, face) ∷ runs else (m + n, face) ∷ run ∷ runs)
 joined-more_at m n face run runs true =
     let sum : m + (n + run.0) ≡ m + n + run.0 = omega arith in
-    if_true (same_face face face) _ _ (same_face-itself face) ∙ ap (λ k. (k, face) ∷ runs) sum
-joined-more_at m n face run runs false = if_true (same_face face face) _ _ (same_face-itself face)
+    if_true (same_face face face) _ _ (face-itself face) ∙ ap (λ k. (k, face) ∷ runs) sum
+joined-more_at m n face run runs false = if_true (same_face face face) _ _ (face-itself face)
 
 joined-more : (m n : ℕ) (face : Attributes) (runs : List (ℕ × Attributes)) → joined m face (joined n face runs) ≡ joined (m + n) face runs
-joined-more m n face [] = if_true (same_face face face) _ _ (same_face-itself face)
+joined-more m n face [] = if_true (same_face face face) _ _ (face-itself face)
 joined-more m n face (run ∷ runs) = joined-more_at m n face run runs (same_face face run.1)
 
 -- columns of another face before joined runs
@@ -93,7 +48,7 @@ joined-other m n face next (run ∷ runs) other = joined-other_at m n face next 
 
 told_apart : (f g : Attributes) (same : Bool) → same_face g f ≡ same → same_face f g ≡ false → same ≡ false
 told_apart f g true e other =
-    let alike : same_face f g ≡ true = subst (λ h. same_face f h ≡ true) (sym (same_face-told g f e)) (same_face-itself f) in
+    let alike : same_face f g ≡ true = subst (λ h. same_face f h ≡ true) (sym (face-told g f e)) (face-itself f) in
     absurd (true≢false (sym alike ∙ other))
 told_apart f g false e other = refl
 
@@ -104,7 +59,7 @@ open_text-step : (first n : ℕ) (face next : Attributes) (faces : List Attribut
     → (if same then open_text first (first + n + 1) face faces else run_text first (first + n) face ++ open_text (first + n) (first + n + 1) next faces)
     ≡ runs_text first (joined n face (joined 1 next (runs_of faces)))
 open_text-step first n face next faces true e on other =
-    let turned : next ≡ face = same_face-told next face e in
+    let turned : next ≡ face = face-told next face e in
     let moved : first + n + 1 ≡ first + (n + 1) = omega arith in
     ap (λ k. open_text first k face faces) moved ∙ on
     ∙ sym (ap (runs_text first) (joined-more n 1 face (runs_of faces))) ∙ ap (λ f. runs_text first (joined n face (joined 1 f (runs_of faces)))) (sym turned)
@@ -123,7 +78,7 @@ before_plain_at : (run : ℕ × Attributes) (runs : List (ℕ × Attributes)) (s
     → runs_text 0 (if same then (0 + run.0, plain) ∷ runs else (0, plain) ∷ run ∷ runs) ≡ runs_text 0 (run ∷ runs)
 before_plain_at run runs true e =
     let sum : 0 + (0 + run.0) ≡ 0 + run.0 = omega arith in
-    ap (λ k. run_text 0 k plain ++ runs_text k runs) sum ∙ ap (λ f. run_text 0 (0 + run.0) f ++ runs_text (0 + run.0) runs) (same_face-told plain run.1 e)
+    ap (λ k. run_text 0 k plain ++ runs_text k runs) sum ∙ ap (λ f. run_text 0 (0 + run.0) f ++ runs_text (0 + run.0) runs) (face-told plain run.1 e)
 before_plain_at run runs false e = refl
 
 before_plain : (runs : List (ℕ × Attributes)) → runs_text 0 (joined 0 plain runs) ≡ runs_text 0 runs
@@ -139,7 +94,7 @@ open-step_at : (first column : ℕ) (face next : Attributes) (cells : List Cell)
     → (if same then open_text first (column + 1) face (faces_of next cells) else run_text first column face ++ open_text column (column + 1) next (faces_of next cells))
     ≡ (if same then [] else run_text first column face)
     ++ open_text (if same then first else column) (column + 1) (if same then face else next) (faces_of (if same then face else next) cells)
-open-step_at first column face next cells true e = ap (λ f. open_text first (column + 1) face (faces_of f cells)) (same_face-told next face e)
+open-step_at first column face next cells true e = ap (λ f. open_text first (column + 1) face (faces_of f cells)) (face-told next face e)
 open-step_at first column face next cells false e = refl
 
 pub open-step : (first column first' : ℕ) (face next face' : Attributes) (cells : List Cell)

@@ -1,9 +1,9 @@
 -- The text of a dump.
-use Rattle.std.specs.Prelude.{ℕ, ◌+◌, ◌-◌, ◌==◌, ◌&&◌, ◌||◌, Bool, false, not, if◌then◌else◌, List, [], ◌∷◌, ◌++◌, take, Option, None, Some, is_some, codes}
+use Rattle.std.specs.Prelude.{ℕ, ◌+◌, ◌-◌, ◌==◌, ◌||◌, Bool, false, if◌then◌else◌, List, [], ◌∷◌, ◌++◌, take, Option, None, Some, is_some, codes}
 use Rattle.std.specs.Fmt.{decimal}
-use Rattle.std.specs.Char.{encode_utf8}
 use Rattle.std.specs.List.{flat_map}
-use Rattle.rd_base.specs.Chars.{is_scalar}
+use Rattle.rd_base.specs.Chars.{encoded}
+use Rattle.rd_base.specs.Equals.{same_face}
 use Rattle.rd_base.specs.Faces.{Attributes, plain}
 use Rattle.rd_base.specs.declared.cell.Glyph.{Glyph}
 use Rattle.rd_base.specs.declared.cell.Cell.{Cell}
@@ -52,16 +52,9 @@ windows_text windows = flat_map window_line windows
 
 -- ---- the text of a row
 
--- a scalar value in UTF-8; a code that is none has no text
-abbrev pub character : ℕ → List ℕ
-character code = if is_scalar code then encode_utf8 code else []
-
-abbrev pub characters : List ℕ → List ℕ
-characters marks = flat_map character marks
-
 -- a character and its marks
 abbrev pub glyph_text : Glyph → List ℕ
-glyph_text g = character g.base ++ characters (take g.count g.marks)
+glyph_text g = encoded g.base ++ flat_map encoded (take g.count g.marks)
 
 -- a space for a blank, and nothing for a later column of a glyph
 abbrev pub cell_text : Cell → List ℕ
@@ -84,12 +77,6 @@ face_after before Rest = before
 abbrev pub faces_of : Attributes → List Cell → List Attributes
 faces_of before [] = []
 faces_of before (cell ∷ cells) = face_after before cell ∷ faces_of (face_after before cell) cells
-
-abbrev pub same_flag : Bool → Bool → Bool
-same_flag a b = if a then b else not b
-
-abbrev pub same_face : Attributes → Attributes → Bool
-same_face f g = f.fg == g.fg && f.bg == g.bg && same_flag f.bold g.bold && same_flag f.underline g.underline && same_flag f.inverse g.inverse
 
 -- so many columns of a face before these runs, each of which is a number of columns and their face
 abbrev pub joined : ℕ → Attributes → List (ℕ × Attributes) → List (ℕ × Attributes)

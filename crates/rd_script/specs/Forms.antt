@@ -3,6 +3,7 @@ use Rattle.std.specs.Prelude.{ℕ, ◌≤◌, ◌&&◌, ◌||◌, ◌==◌, not,
 use Rattle.std.specs.List.{list_all}
 use Rattle.std.specs.Str.{chars}
 use Rattle.rd_base.specs.Chars.{is_scalar}
+use Rattle.rd_base.specs.declared.limits.TheConstants.{FRAME_COLUMNS, FRAME_ROWS, NAME_CHARACTERS, SPACE_COLUMNS, TAB_COLUMNS}
 use Rattle.rd_base.specs.declared.settings.Invisible.{Invisible}
 use Rattle.rd_base.specs.declared.settings.Invisible.TheVariants.{Every, Listed}
 use Rattle.rd_objects.specs.Tables.{has_no_glyph}
@@ -28,7 +29,7 @@ is_name_character c = nat_le 32 c && (nat_lt c 127 || nat_le 160 c)
 
 -- how many characters a buffer's name may have
 abbrev pub is_name_length : ℕ → Bool
-is_name_length n = nat_le 1 n && nat_le n 64
+is_name_length n = nat_le 1 n && nat_le n NAME_CHARACTERS
 
 -- the bytes of a buffer's name in UTF-8, which spell so many such characters
 abbrev pub is_buffer_name : List ℕ → Bool
@@ -44,7 +45,7 @@ IsWhole n = n ≤ 18446744073709551615
 
 abbrev pub IsStop : Option ℕ → Type 0
 IsStop None = Unit {0}
-IsStop (Some n) = n ≤ 200
+IsStop (Some n) = n ≤ FRAME_ROWS
 
 -- a glyph character: a scalar value that is no control and has columns
 abbrev pub is_glyph : ℕ → Bool
@@ -67,7 +68,7 @@ IsInvisible Every = Unit {0}
 IsInvisible (Listed pairs) = (length pairs ≤ 256) × All (λ pair. pair.0 ≤ 65535) pairs
 
 abbrev pub IsSettingInForm : Setting → Type 0
-IsSettingInForm (settings.TabWidth n) = (1 ≤ n) × (n ≤ 32)
+IsSettingInForm (settings.TabWidth n) = (1 ≤ n) × (n ≤ TAB_COLUMNS)
 IsSettingInForm (settings.CtlArrow flag) = Unit {0}
 IsSettingInForm (settings.Direction direction) = Unit {0}
 IsSettingInForm (settings.Reorder flag) = Unit {0}
@@ -80,8 +81,8 @@ IsSettingInForm (settings.ReadOnly flag) = Unit {0}
 
 abbrev pub IsSpecInForm : OpSpec → Type 0
 IsSpecInForm (specs.Text n) = IsWhole n
-IsSpecInForm (specs.Width n) = n ≤ 400
-IsSpecInForm (specs.Align n) = n ≤ 400
+IsSpecInForm (specs.Width n) = n ≤ SPACE_COLUMNS
+IsSpecInForm (specs.Align n) = n ≤ SPACE_COLUMNS
 
 pub record IsRunInForm (run : OpRun) : Type 0 where
   pub from : IsWhole run.from
@@ -102,7 +103,7 @@ IsEllipsis (Some text) = IsTrue (is_glyph_text text)
 
 -- each field of an op has the range, kind, length and characters that its row asks for
 abbrev pub IsInForm : Op → Type 0
-IsInForm (Frame width height) = (12 ≤ width) × (width ≤ 400) × (2 ≤ height) × (height ≤ 200)
+IsInForm (Frame width height) = (12 ≤ width) × (width ≤ FRAME_COLUMNS) × (2 ≤ height) × (height ≤ FRAME_ROWS)
 IsInForm (Buffer name) = IsTrue (is_buffer_name name)
 IsInForm (Insert buffer pos text) = IsTrue (is_buffer_name buffer) × IsWhole pos × IsTrue (is_text text)
 IsInForm (TypeText text) = IsTrue (is_text text)

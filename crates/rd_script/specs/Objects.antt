@@ -4,6 +4,7 @@ use Rattle.std.specs.Str.{chars}
 use Rattle.serde_json.specs.Data.{Data}
 use Rattle.serde_json.specs.Find.{as_bool, as_str}
 use Rattle.rd_base.specs.Faces.{Attributes}
+use Rattle.rd_base.specs.declared.limits.TheConstants.{SPACE_COLUMNS}
 use Rattle.rd_objects.specs.declared.run.RunKind.{RunKind}
 use Rattle.rd_objects.specs.declared.run.RunKind.TheVariants as kinds
 use Rattle.rd_script.specs.declared.object.OpEntry.{OpEntry}
@@ -34,8 +35,8 @@ spec_names = (codes "string", names.Text) ∷ (codes "width", names.Width) ∷ (
 
 abbrev pub spec_value : SpecName → Fields OpSpec
 spec_value names.Text = made specs.Text (required (codes "value") whole)
-spec_value names.Width = made specs.Width (required (codes "value") (within 0 400))
-spec_value names.Align = made specs.Align (required (codes "value") (within 0 400))
+spec_value names.Width = made specs.Width (required (codes "value") (within 0 SPACE_COLUMNS))
+spec_value names.Align = made specs.Align (required (codes "value") (within 0 SPACE_COLUMNS))
 
 -- what a spec is, and then its string or its columns
 abbrev pub spec : Fields OpSpec

@@ -2,6 +2,7 @@
 use Rattle.std.specs.Prelude.{ℕ, Bool, true, false, List, [], ◌∷◌, Option, None, Some, option_map, codes}
 use Rattle.serde_json.specs.Data.{Data}
 use Rattle.serde_json.specs.Find.{as_bool}
+use Rattle.rd_base.specs.declared.limits.TheConstants.{TAB_COLUMNS}
 use Rattle.rd_base.specs.declared.settings.Direction.{Direction}
 use Rattle.rd_base.specs.declared.settings.Direction.TheVariants as directions
 use Rattle.rd_base.specs.declared.settings.Invisible.{Invisible}
@@ -39,7 +40,7 @@ invisible d = invisible_by (as_bool d) (list_of 256 (two_items (within 0 65535) 
 
 -- the value of each setting
 abbrev pub value_of : SettingName → Fields Setting
-value_of names.TabWidth = made settings.TabWidth (required (codes "value") (within 1 32))
+value_of names.TabWidth = made settings.TabWidth (required (codes "value") (within 1 TAB_COLUMNS))
 value_of names.CtlArrow = made settings.CtlArrow (required (codes "value") as_bool)
 value_of names.Direction = made settings.Direction (required (codes "value") (word direction_names))
 value_of names.Reorder = made settings.Reorder (required (codes "value") as_bool)

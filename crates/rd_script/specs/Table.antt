@@ -1,6 +1,7 @@
 -- The table of ops: their names, and for each the fields in order.
-use Rattle.std.specs.Prelude.{ℕ, pos, false, List, [], ◌∷◌, ◌++◌, map, Option, codes}
+use Rattle.std.specs.Prelude.{ℕ, ℤ, pos, Bool, false, List, [], ◌∷◌, ◌++◌, map, Option, codes}
 use Rattle.serde_json.specs.Find.{as_bool}
+use Rattle.rd_base.specs.declared.limits.TheConstants.{FRAME_COLUMNS, FRAME_ROWS}
 use Rattle.rd_base.specs.declared.settings.Wrap.{Wrap}
 use Rattle.rd_base.specs.declared.settings.Wrap.TheVariants.{Truncate, Continue}
 use Rattle.rd_script.specs.declared.fault.OpFault.TheVariants.{NotBuilt}
@@ -41,17 +42,24 @@ abbrev pub unbuilt_names : List (List ℕ)
 unbuilt_names = codes "insert_raw" ∷ codes "put" ∷ codes "overlay_put" ∷ codes "split" ∷ codes "select" ∷ codes "start"
     ∷ codes "scroll" ∷ codes "hscroll" ∷ codes "mode_line" ∷ codes "scrolling" ∷ codes "echo" ∷ []
 
+abbrev pub unbuilt : List (List ℕ × name.Name)
+unbuilt = map (λ text. (text, names.Unbuilt)) unbuilt_names
+
 -- the op that a text names
 abbrev pub name_of : List ℕ → Option name.Name
-name_of text = beside (built_names ++ map (λ text. (text, names.Unbuilt)) unbuilt_names) text
+name_of text = beside (built_names ++ unbuilt) text
 
 -- what may become of lines that are longer than a row
 abbrev pub wrap_modes : List (List ℕ × Wrap)
 wrap_modes = (codes "truncate", Truncate) ∷ (codes "continue", Continue) ∷ []
 
+-- the priority of an overlay and its flags
+abbrev pub overlay_manner : Fields (ℤ × (Bool × Bool))
+overlay_manner = both (defaulted (pos 0) (codes "priority") (signed 1000000)) (both (defaulted false (codes "front") as_bool) (defaulted false (codes "rear") as_bool))
+
 -- the fields of each op, in order, and the op that they say
 abbrev pub row : name.Name → Fields op.Op
-row names.Frame = made (λ f. ops.Frame f.0 f.1) (both (required (codes "width") (within 12 400)) (required (codes "height") (within 2 200)))
+row names.Frame = made (λ f. ops.Frame f.0 f.1) (both (required (codes "width") (within 12 FRAME_COLUMNS)) (required (codes "height") (within 2 FRAME_ROWS)))
 row names.Buffer = made ops.Buffer (required (codes "name") buffer_name)
 row names.Insert = made (λ f. ops.Insert f.0 f.1.0 f.1.1)
     (both (required (codes "buffer") buffer_name) (both (required (codes "pos") whole) (required (codes "text") text)))
@@ -62,8 +70,7 @@ row names.Narrow = made (λ f. ops.Narrow f.0 f.1.0 f.1.1)
     (both (required (codes "buffer") buffer_name) (both (required (codes "from") whole) (required (codes "to") whole)))
 row names.Widen = made ops.Widen (required (codes "buffer") buffer_name)
 row names.Overlay = made (λ f. ops.Overlay f.0 f.1.0 f.1.1.0 f.1.1.1.0 f.1.1.1.1.0 f.1.1.1.1.1)
-    (both (required (codes "buffer") buffer_name) (both (required (codes "from") whole) (both (required (codes "to") whole)
-    (both (defaulted (pos 0) (codes "priority") (signed 1000000)) (both (defaulted false (codes "front") as_bool) (defaulted false (codes "rear") as_bool))))))
+    (both (required (codes "buffer") buffer_name) (both (required (codes "from") whole) (both (required (codes "to") whole) overlay_manner)))
 row names.OverlayMove = made (λ f. ops.OverlayMove f.0 f.1.0 f.1.1.0 f.1.1.1)
     (both (required (codes "buffer") buffer_name) (both (required (codes "overlay") whole) (both (required (codes "from") whole) (required (codes "to") whole))))
 row names.OverlayDrop = made (λ f. ops.OverlayDrop f.0 f.1) (both (required (codes "buffer") buffer_name) (required (codes "overlay") whole))
@@ -78,5 +85,5 @@ row names.Remove = made ops.Remove (required (codes "window") whole)
 row names.Show = made (λ f. ops.Show f.0 f.1) (both (required (codes "window") whole) (required (codes "buffer") buffer_name))
 row names.Point = made (λ f. ops.Point f.0 f.1) (both (required (codes "window") whole) (required (codes "pos") whole))
 row names.Wrap = made (λ f. ops.Wrap f.0 f.1) (both (required (codes "window") whole) (required (codes "mode") (word wrap_modes)))
-row names.Redisplay = made ops.Redisplay (optional (codes "stop") (within 0 200))
+row names.Redisplay = made ops.Redisplay (optional (codes "stop") (within 0 FRAME_ROWS))
 row names.Unbuilt = refused NotBuilt

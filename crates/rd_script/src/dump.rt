@@ -1,7 +1,9 @@
 //! The dump of a screen and of the windows on it.
 ghost use Rattle.std.specs.Prelude.{◌≡◌, ◌≤◌, OnErr, take};
+ghost use Rattle.std.specs.List.{flat_map};
+ghost use Rattle.rd_base.specs.Chars.{encoded};
 ghost use Rattle.rd_io.specs.Devices.{Rose, Writes};
-ghost use Rattle.rd_script.specs.Dumps.{dump_text, windows_text, window_line, place_text, cursor_line, rows_text, row_line, cells_text, cell_text, glyph_text, characters};
+ghost use Rattle.rd_script.specs.Dumps.{dump_text, windows_text, window_line, place_text, cursor_line, rows_text, row_line, cells_text, cell_text, glyph_text};
 ghost use Rattle.rd_script.specs.Prints.{Prints};
 
 use crate::print::{Part, print_character, print_parts};
@@ -168,7 +170,7 @@ fn marks_of(glyph: &Glyph) -> &[u32]
 
 /// Writes marks.
 fn print_marks<K: Sink>(sink: &mut K, marks: &[u32]) -> Result<(), Failed>
-    ensures { Prints (K.written sink.old) (K.written sink.new) (K.faults sink.old) (K.faults sink.new) (characters marks.now) result }
+    ensures { Prints (K.written sink.old) (K.written sink.new) (K.faults sink.old) (K.faults sink.new) (flat_map encoded marks.now) result }
 {
     for mark in marks {
         print_character(sink, *mark)?;

@@ -11,6 +11,7 @@ ghost use Rattle.rd_script.specs.Table.{wrap_modes};
 
 use crate::buffer_name::BufferName;
 use crate::fault::OpFault;
+use rd_base::limits::NAME_CHARACTERS;
 use rd_base::{Ch, ListOf, Memory, Wrap};
 use serde_json::{Map, Value};
 use std::alloc::Global;
@@ -241,7 +242,7 @@ fn character_count(text: &str) -> usize
 fn is_name_length(count: usize) -> bool
     ensures { result ≡ is_name_length count }
 {
-    1 <= count && count <= 64
+    1 <= count && count <= NAME_CHARACTERS as usize
 }
 
 /// Whether a buffer's name may have each character of a text.

@@ -7,6 +7,7 @@ mod examples;
 mod fault;
 mod field;
 mod item;
+mod keys;
 mod name;
 mod object;
 mod object_field;

@@ -1,6 +1,7 @@
 //! The names of the ops.
 ghost use Rattle.std.specs.Prelude.{◌≡◌};
-ghost use Rattle.rd_script.specs.Table.{name_of};
+ghost use Rattle.rd_script.specs.Fields.{beside};
+ghost use Rattle.rd_script.specs.Table.{name_of, unbuilt};
 
 /// An op's name. Those of the ops that are not built are told by one variant.
 #[derive(Clone, Copy, Debug, PartialEq, Eq)]
@@ -54,18 +55,18 @@ impl Name {
             "point" => Some(Name::Point),
             "wrap" => Some(Name::Wrap),
             "redisplay" => Some(Name::Redisplay),
-            "insert_raw"
-            | "put"
-            | "overlay_put"
-            | "split"
-            | "select"
-            | "start"
-            | "scroll"
-            | "hscroll"
-            | "mode_line"
-            | "scrolling"
-            | "echo" => Some(Name::Unbuilt),
-            _ => None,
+            _ => unbuilt(text),
         }
+    }
+}
+
+/// The same for the ops that are not built.
+fn unbuilt(text: &str) -> Option<Name>
+    ensures { result ≡ beside unbuilt text.now }
+{
+    match text {
+        "insert_raw" | "put" | "overlay_put" | "split" | "select" | "start" | "scroll"
+        | "hscroll" | "mode_line" | "scrolling" | "echo" => Some(Name::Unbuilt),
+        _ => None,
     }
 }

@@ -13,6 +13,7 @@ use crate::field::{
 };
 use crate::item::{Item, list};
 use crate::object::{OpEntry, OpRun, OpSpec, SpecName};
+use rd_base::limits::SPACE_COLUMNS;
 use rd_base::{Ch, Face, ListOf, Memory};
 use rd_objects::{RunKind, columns, glyph_character};
 use serde_json::Value;
@@ -82,8 +83,8 @@ fn spec_value(alloc: Global, members: &Members, name: SpecName) -> Result<OpSpec
 {
     match name {
         SpecName::Text => Ok(OpSpec::Text(whole(alloc, members, "value")?)),
-        SpecName::Width => Ok(OpSpec::Width(within(alloc, members, "value", 0, 400)?)),
-        SpecName::Align => Ok(OpSpec::Align(within(alloc, members, "value", 0, 400)?)),
+        SpecName::Width => Ok(OpSpec::Width(within(alloc, members, "value", 0, SPACE_COLUMNS)?)),
+        SpecName::Align => Ok(OpSpec::Align(within(alloc, members, "value", 0, SPACE_COLUMNS)?)),
     }
 }
 

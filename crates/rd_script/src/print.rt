@@ -1,6 +1,7 @@
 //! Writing texts and numbers to a sink, without taking memory.
 ghost use Rattle.std.specs.Prelude.{◌≡◌};
-ghost use Rattle.rd_script.specs.Dumps.{part_text, parts_text, character};
+ghost use Rattle.rd_base.specs.Chars.{encoded};
+ghost use Rattle.rd_script.specs.Dumps.{part_text, parts_text};
 ghost use Rattle.rd_script.specs.Prints.{Prints};
 
 use itoa::Buffer;
@@ -35,7 +36,7 @@ fn print_part<K: Sink>(sink: &mut K, part: &Part) -> Result<(), Failed>
 
 /// Writes a character's code as UTF-8.
 pub fn print_character<K: Sink>(sink: &mut K, code: u32) -> Result<(), Failed>
-    ensures { Prints (K.written sink.old) (K.written sink.new) (K.faults sink.old) (K.faults sink.new) (character code) result }
+    ensures { Prints (K.written sink.old) (K.written sink.new) (K.faults sink.old) (K.faults sink.new) (encoded code) result }
 {
     match char::from_u32(code) {
         Some(c) => print_bytes(sink, c.encode_utf8(&mut [0; 4]).as_bytes()),

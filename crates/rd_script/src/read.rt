@@ -9,9 +9,10 @@ ghost use Rattle.rd_script.specs.Reading.{reading, json_of, reading_name, readin
 
 use crate::fault::OpFault;
 use crate::field::{Members, word};
+use crate::keys::refuse_extra;
 use crate::name::Name;
 use crate::op::Op;
-use crate::row::{read_fields, refuse_extra};
+use crate::row::read_fields;
 use crate::setting::Setting;
 use serde_json::Value;
 use std::alloc::Global;

@@ -1,20 +1,19 @@
 //! The fields of each op.
-ghost use Rattle.std.specs.Prelude.{◌≡◌, ◌∷◌, codes, option_map};
+ghost use Rattle.std.specs.Prelude.{◌≡◌};
 ghost use Rattle.serde_json.specs.View.{members_view};
 ghost use Rattle.rd_script.specs.Fields.{IsRead};
-ghost use Rattle.rd_script.specs.Reading.{closed, extra_key, is_among};
-ghost use Rattle.rd_script.specs.Table.{row};
+ghost use Rattle.rd_script.specs.Table.{row, overlay_manner};
 ghost use Rattle.rd_script.specs.declared.name.Name.TheVariants as names;
 
 use crate::fault::OpFault;
 use crate::field::{
-    Members, buffer_name, characters, flag_if_any, priority, text, whole, within, within_if_any,
-    wrap_mode,
+    Members, buffer_name, flag_if_any, priority, text, whole, within, within_if_any, wrap_mode,
 };
 use crate::name::Name;
 use crate::object_field::{entries, face, glyph_text_if_any, runs, slot, spec};
 use crate::op::Op;
 use crate::setting_field::setting;
+use rd_base::limits::{FRAME_COLUMNS, FRAME_ROWS};
 use std::alloc::Global;
 
 /// Reads the fields of an op, in the order of its row.
@@ -22,53 +21,24 @@ pub fn read_fields(alloc: Global, members: &Members, name: Name) -> Result<Op, O
     ensures { IsRead result ((row name).taken (members_view members.now.entries)) }
 {
     match name {
-        Name::Frame => Ok(Op::Frame {
-            width: within(alloc, members, "width", 12, 400)?,
-            height: within(alloc, members, "height", 2, 200)?,
-        }),
+        Name::Frame => read_frame(alloc, members),
         Name::Buffer => Ok(Op::Buffer {
             name: buffer_name(alloc, members, "name")?,
         }),
-        Name::Insert => Ok(Op::Insert {
-            buffer: buffer_name(alloc, members, "buffer")?,
-            pos: whole(alloc, members, "pos")?,
-            text: text(alloc, members, "text")?,
-        }),
+        Name::Insert => read_insert(alloc, members),
         Name::TypeText => Ok(Op::TypeText {
             text: text(alloc, members, "text")?,
         }),
-        Name::Delete => Ok(Op::Delete {
-            buffer: buffer_name(alloc, members, "buffer")?,
-            from: whole(alloc, members, "from")?,
-            to: whole(alloc, members, "to")?,
-        }),
-        Name::Narrow => Ok(Op::Narrow {
-            buffer: buffer_name(alloc, members, "buffer")?,
-            from: whole(alloc, members, "from")?,
-            to: whole(alloc, members, "to")?,
-        }),
+        Name::Delete => read_delete(alloc, members),
+        Name::Narrow => read_narrow(alloc, members),
         Name::Widen => Ok(Op::Widen {
             buffer: buffer_name(alloc, members, "buffer")?,
         }),
         Name::Overlay => read_overlay(alloc, members),
-        Name::OverlayMove => Ok(Op::OverlayMove {
-            buffer: buffer_name(alloc, members, "buffer")?,
-            overlay: whole(alloc, members, "overlay")?,
-            from: whole(alloc, members, "from")?,
-            to: whole(alloc, members, "to")?,
-        }),
-        Name::OverlayDrop => Ok(Op::OverlayDrop {
-            buffer: buffer_name(alloc, members, "buffer")?,
-            overlay: whole(alloc, members, "overlay")?,
-        }),
-        Name::Setting => Ok(Op::Setting {
-            buffer: buffer_name(alloc, members, "buffer")?,
-            setting: setting(alloc, members)?,
-        }),
-        Name::AddString => Ok(Op::AddString {
-            text: text(alloc, members, "text")?,
-            runs: runs(alloc, members, "runs")?,
-        }),
+        Name::OverlayMove => read_overlay_move(alloc, members),
+        Name::OverlayDrop => read_overlay_drop(alloc, members),
+        Name::Setting => read_setting(alloc, members),
+        Name::AddString => read_string(alloc, members),
         Name::AddSpec => Ok(Op::AddSpec {
             spec: spec(alloc, members)?,
         }),
@@ -79,36 +49,129 @@ pub fn read_fields(alloc: Global, members: &Members, name: Name) -> Result<Op, O
         Name::Remove => Ok(Op::Remove {
             window: whole(alloc, members, "window")?,
         }),
-        Name::Show => Ok(Op::Show {
-            window: whole(alloc, members, "window")?,
-            buffer: buffer_name(alloc, members, "buffer")?,
-        }),
-        Name::Point => Ok(Op::Point {
-            window: whole(alloc, members, "window")?,
-            pos: whole(alloc, members, "pos")?,
-        }),
-        Name::Wrap => Ok(Op::Wrap {
-            window: whole(alloc, members, "window")?,
-            mode: wrap_mode(alloc, members, "mode")?,
-        }),
+        Name::Show => read_show(alloc, members),
+        Name::Point => read_point(alloc, members),
+        Name::Wrap => read_wrap(alloc, members),
         Name::Redisplay => Ok(Op::Redisplay {
-            stop: within_if_any(alloc, members, "stop", 0, 200)?,
+            stop: within_if_any(alloc, members, "stop", 0, FRAME_ROWS)?,
         }),
         Name::Unbuilt => Err(OpFault::NotBuilt),
     }
+}
+
+/// Reads the fields of the op that resizes the frame.
+fn read_frame(alloc: Global, members: &Members) -> Result<Op, OpFault>
+    ensures { IsRead result ((row names.Frame).taken (members_view members.now.entries)) }
+{
+    Ok(Op::Frame {
+        width: within(alloc, members, "width", 12, FRAME_COLUMNS)?,
+        height: within(alloc, members, "height", 2, FRAME_ROWS)?,
+    })
+}
+
+/// Reads the fields of the op that puts a text in.
+fn read_insert(alloc: Global, members: &Members) -> Result<Op, OpFault>
+    ensures { IsRead result ((row names.Insert).taken (members_view members.now.entries)) }
+{
+    Ok(Op::Insert {
+        buffer: buffer_name(alloc, members, "buffer")?,
+        pos: whole(alloc, members, "pos")?,
+        text: text(alloc, members, "text")?,
+    })
+}
+
+/// Reads the fields of the op that takes a range away.
+fn read_delete(alloc: Global, members: &Members) -> Result<Op, OpFault>
+    ensures { IsRead result ((row names.Delete).taken (members_view members.now.entries)) }
+{
+    Ok(Op::Delete {
+        buffer: buffer_name(alloc, members, "buffer")?,
+        from: whole(alloc, members, "from")?,
+        to: whole(alloc, members, "to")?,
+    })
+}
+
+/// Reads the fields of the op that makes a range the accessible part.
+fn read_narrow(alloc: Global, members: &Members) -> Result<Op, OpFault>
+    ensures { IsRead result ((row names.Narrow).taken (members_view members.now.entries)) }
+{
+    Ok(Op::Narrow {
+        buffer: buffer_name(alloc, members, "buffer")?,
+        from: whole(alloc, members, "from")?,
+        to: whole(alloc, members, "to")?,
+    })
 }
 
 /// Reads the fields of the op that makes an overlay.
 fn read_overlay(alloc: Global, members: &Members) -> Result<Op, OpFault>
     ensures { IsRead result ((row names.Overlay).taken (members_view members.now.entries)) }
 {
+    let buffer = buffer_name(alloc, members, "buffer")?;
+    let from = whole(alloc, members, "from")?;
+    let to = whole(alloc, members, "to")?;
+    let (priority, (front, rear)) = read_manner(alloc, members)?;
     Ok(Op::Overlay {
+        buffer,
+        from,
+        to,
+        priority,
+        front,
+        rear,
+    })
+}
+
+/// Reads the priority of an overlay, and whether its start and its end move with a text that is put in there.
+fn read_manner(alloc: Global, members: &Members) -> Result<(i32, (bool, bool)), OpFault>
+    ensures { IsRead result (overlay_manner.taken (members_view members.now.entries)) }
+{
+    Ok((
+        priority(alloc, members, "priority")?,
+        (
+            flag_if_any(alloc, members, "front")?,
+            flag_if_any(alloc, members, "rear")?,
+        ),
+    ))
+}
+
+/// Reads the fields of the op that gives an overlay another range.
+fn read_overlay_move(alloc: Global, members: &Members) -> Result<Op, OpFault>
+    ensures { IsRead result ((row names.OverlayMove).taken (members_view members.now.entries)) }
+{
+    Ok(Op::OverlayMove {
         buffer: buffer_name(alloc, members, "buffer")?,
+        overlay: whole(alloc, members, "overlay")?,
         from: whole(alloc, members, "from")?,
         to: whole(alloc, members, "to")?,
-        priority: priority(alloc, members, "priority")?,
-        front: flag_if_any(alloc, members, "front")?,
-        rear: flag_if_any(alloc, members, "rear")?,
+    })
+}
+
+/// Reads the fields of the op that drops an overlay.
+fn read_overlay_drop(alloc: Global, members: &Members) -> Result<Op, OpFault>
+    ensures { IsRead result ((row names.OverlayDrop).taken (members_view members.now.entries)) }
+{
+    Ok(Op::OverlayDrop {
+        buffer: buffer_name(alloc, members, "buffer")?,
+        overlay: whole(alloc, members, "overlay")?,
+    })
+}
+
+/// Reads the fields of the op that gives a setting another value.
+fn read_setting(alloc: Global, members: &Members) -> Result<Op, OpFault>
+    ensures { IsRead result ((row names.Setting).taken (members_view members.now.entries)) }
+{
+    Ok(Op::Setting {
+        buffer: buffer_name(alloc, members, "buffer")?,
+        setting: setting(alloc, members)?,
+    })
+}
+
+/// Reads the fields of the op that makes a string.
+fn read_string(alloc: Global, members: &Members) -> Result<Op, OpFault>
+    ensures { IsRead result ((row names.AddString).taken (members_view members.now.entries)) }
+{
+    Ok(Op::AddString {
+        text: text(alloc, members, "text")?,
+        runs: runs(alloc, members, "runs")?,
     })
 }
 
@@ -127,65 +190,32 @@ fn read_table(alloc: Global, members: &Members) -> Result<Op, OpFault>
     })
 }
 
-/// An op, unless its object has a key that it does not have.
-pub fn refuse_extra(alloc: Global, members: &Members, name: Name, op: Op) -> Result<Op, OpFault>
-    ensures { IsRead result (closed (codes "op" ∷ (row name).keys) (members_view members.now.entries) op) }
+/// Reads the fields of the op that shows a buffer in a window.
+fn read_show(alloc: Global, members: &Members) -> Result<Op, OpFault>
+    ensures { IsRead result ((row names.Show).taken (members_view members.now.entries)) }
 {
-    match extra_key(members, name) {
-        Some(key) => Err(OpFault::Extra(characters(alloc, key)?)),
-        None => Ok(op),
-    }
+    Ok(Op::Show {
+        window: whole(alloc, members, "window")?,
+        buffer: buffer_name(alloc, members, "buffer")?,
+    })
 }
 
-/// The first key in byte order that an op does not have.
-fn extra_key<'a>(members: &'a Members, name: Name) -> Option<&'a str>
-    ensures { option_map (λ key. key.now) result
-        ≡ extra_key (codes "op" ∷ (row name).keys) (members_view members.now.entries) }
+/// Reads the fields of the op that moves a window's point.
+fn read_point(alloc: Global, members: &Members) -> Result<Op, OpFault>
+    ensures { IsRead result ((row names.Point).taken (members_view members.now.entries)) }
 {
-    for (key, _value) in members.iter() {
-        if !has_key(name, key.as_str()) {
-            return Some(key.as_str());
-        }
-    }
-    None
+    Ok(Op::Point {
+        window: whole(alloc, members, "window")?,
+        pos: whole(alloc, members, "pos")?,
+    })
 }
 
-/// Whether an op has a key.
-fn has_key(name: Name, key: &str) -> bool
-    ensures { result ≡ is_among (codes "op" ∷ (row name).keys) key.now }
+/// Reads the fields of the op that says what becomes of a window's long lines.
+fn read_wrap(alloc: Global, members: &Members) -> Result<Op, OpFault>
+    ensures { IsRead result ((row names.Wrap).taken (members_view members.now.entries)) }
 {
-    match name {
-        Name::Frame => matches!(key, "op" | "width" | "height"),
-        Name::Buffer => matches!(key, "op" | "name"),
-        Name::Insert => matches!(key, "op" | "buffer" | "pos" | "text"),
-        Name::TypeText => matches!(key, "op" | "text"),
-        Name::Delete | Name::Narrow => matches!(key, "op" | "buffer" | "from" | "to"),
-        Name::Widen => matches!(key, "op" | "buffer"),
-        Name::Overlay => matches!(
-            key,
-            "op" | "buffer" | "from" | "to" | "priority" | "front" | "rear"
-        ),
-        Name::OverlayMove => matches!(key, "op" | "buffer" | "overlay" | "from" | "to"),
-        Name::OverlayDrop => matches!(key, "op" | "buffer" | "overlay"),
-        Name::Setting => matches!(key, "op" | "buffer" | "name" | "value"),
-        Name::AddString => matches!(key, "op" | "text" | "runs"),
-        Name::AddSpec => matches!(key, "op" | "kind" | "value"),
-        Name::AddFace => matches!(key, "op" | "fg" | "bg" | "bold" | "underline" | "inverse"),
-        Name::AddTable => matches!(
-            key,
-            "op" | "entries"
-                | "truncation"
-                | "continuation"
-                | "escape"
-                | "control"
-                | "ellipsis"
-                | "border"
-        ),
-        Name::Remove => matches!(key, "op" | "window"),
-        Name::Show => matches!(key, "op" | "window" | "buffer"),
-        Name::Point => matches!(key, "op" | "window" | "pos"),
-        Name::Wrap => matches!(key, "op" | "window" | "mode"),
-        Name::Redisplay => matches!(key, "op" | "stop"),
-        Name::Unbuilt => matches!(key, "op"),
-    }
+    Ok(Op::Wrap {
+        window: whole(alloc, members, "window")?,
+        mode: wrap_mode(alloc, members, "mode")?,
+    })
 }

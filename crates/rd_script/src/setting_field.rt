@@ -9,6 +9,7 @@ use crate::fault::OpFault;
 use crate::field::{Members, bad, flag, good, member, number_within, whole_if_any, within, word};
 use crate::item::{Item, list};
 use crate::setting::{Setting, SettingName};
+use rd_base::limits::TAB_COLUMNS;
 use rd_base::{Direction, Invisible, Memory};
 use serde_json::Value;
 use std::alloc::Global;
@@ -34,7 +35,7 @@ fn value_of(alloc: Global, members: &Members, name: SettingName) -> Result<Setti
 {
     let key = "value";
     match name {
-        SettingName::TabWidth => Ok(Setting::TabWidth(within(alloc, members, key, 1, 32)? as u8)),
+        SettingName::TabWidth => Ok(Setting::TabWidth(within(alloc, members, key, 1, TAB_COLUMNS as u32)? as u8)),
         SettingName::CtlArrow => Ok(Setting::CtlArrow(flag(alloc, members, key)?)),
         SettingName::Direction => Ok(Setting::Direction(direction(alloc, members, key)?)),
         SettingName::Reorder => Ok(Setting::Reorder(flag(alloc, members, key)?)),

@@ -1,6 +1,6 @@
 use Rattle.std.proofs.Common.{◌≡◌, false, rules}
 use Rattle.rd_base.specs.Faces.{plain}
-use Rattle.rd_script.specs.Dumps.{same_face}
+use Rattle.rd_base.specs.Equals.{same_face}
 use Rattle.rd_script.proofs.OnePass.{run_text-last}
 use Rattle.rd_script.proofs.Writing.{prints-then, prints-stop, prints-fail, prints-as}
 use Rattle.rd_script.proofs.runs.print_run.Goals as goal
