@@ -6,7 +6,8 @@ ghost use Rattle.rd_io.specs.Devices.{Rose, Writes};
 ghost use Rattle.rd_script.specs.Dumps.{dump_text, windows_text, window_line, place_text, cursor_line, rows_text, row_line, cells_text, cell_text, glyph_text};
 ghost use Rattle.rd_script.specs.Prints.{Prints};
 
-use crate::print::{Part, print_character, print_parts};
+use crate::piece::Piece;
+use crate::print::{Part, print_bytes, print_character, print_parts};
 use crate::runs::print_runs;
 use rd_base::{Anchor, Cell, Glyph, Pos};
 use rd_io::{Failed, Sink};
@@ -113,8 +114,19 @@ fn print_rows<K: Sink>(sink: &mut K, screen: &Screen) -> Result<(), Failed>
     Ok(())
 }
 
-/// Writes the line of a row: its text between two bytes `|`, and the runs of its faces.
+/// Writes the line of a row, in one piece where it fits into one.
 fn print_row<K: Sink>(sink: &mut K, row: u32, cells: &[Cell]) -> Result<(), Failed>
+    ensures { Prints (K.written sink.old) (K.written sink.new) (K.faults sink.old) (K.faults sink.new) (row_line row cells.now) result }
+{
+    let mut piece = Piece::new();
+    match print_row_parts(&mut piece, row, cells) {
+        Ok(()) => print_bytes(sink, piece.bytes()),
+        Err(_full) => print_row_parts(sink, row, cells),
+    }
+}
+
+/// Writes the parts of a row's line: its text between two bytes `|`, and the runs of its faces.
+fn print_row_parts<K: Sink>(sink: &mut K, row: u32, cells: &[Cell]) -> Result<(), Failed>
     ensures { Prints (K.written sink.old) (K.written sink.new) (K.faults sink.old) (K.faults sink.new) (row_line row cells.now) result }
 {
     print_parts(

@@ -12,6 +12,7 @@ mod name;
 mod object;
 mod object_field;
 mod op;
+mod piece;
 mod print;
 mod read;
 mod row;

@@ -65,8 +65,17 @@ fn unbuilt(text: &str) -> Option<Name>
     ensures { result ≡ beside unbuilt text.now }
 {
     match text {
-        "insert_raw" | "put" | "overlay_put" | "split" | "select" | "start" | "scroll"
-        | "hscroll" | "mode_line" | "scrolling" | "echo" => Some(Name::Unbuilt),
+        "insert_raw"
+        | "put"
+        | "overlay_put"
+        | "split"
+        | "select"
+        | "start"
+        | "scroll"
+        | "hscroll"
+        | "mode_line"
+        | "scrolling"
+        | "echo" => Some(Name::Unbuilt),
         _ => None,
     }
 }

@@ -45,7 +45,7 @@ pub fn print_character<K: Sink>(sink: &mut K, code: u32) -> Result<(), Failed>
 }
 
 /// Writes bytes.
-fn print_bytes<K: Sink>(sink: &mut K, bytes: &[u8]) -> Result<(), Failed>
+pub fn print_bytes<K: Sink>(sink: &mut K, bytes: &[u8]) -> Result<(), Failed>
     ensures { Prints (K.written sink.old) (K.written sink.new) (K.faults sink.old) (K.faults sink.new) bytes.now result }
 {
     write_whole(sink, bytes)

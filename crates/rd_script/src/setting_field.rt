@@ -35,7 +35,9 @@ fn value_of(alloc: Global, members: &Members, name: SettingName) -> Result<Setti
 {
     let key = "value";
     match name {
-        SettingName::TabWidth => Ok(Setting::TabWidth(within(alloc, members, key, 1, TAB_COLUMNS as u32)? as u8)),
+        SettingName::TabWidth => Ok(Setting::TabWidth(
+            within(alloc, members, key, 1, TAB_COLUMNS as u32)? as u8,
+        )),
         SettingName::CtlArrow => Ok(Setting::CtlArrow(flag(alloc, members, key)?)),
         SettingName::Direction => Ok(Setting::Direction(direction(alloc, members, key)?)),
         SettingName::Reorder => Ok(Setting::Reorder(flag(alloc, members, key)?)),

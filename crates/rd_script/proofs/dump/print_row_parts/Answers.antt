@@ -1,5 +1,5 @@
 use Rattle.rd_script.proofs.Writing.{prints-then, prints-stop, prints-fail}
-use Rattle.rd_script.proofs.dump.print_row.Goals as goal
+use Rattle.rd_script.proofs.dump.print_row_parts.Goals as goal
 
 pub returns-in_err-print_parts : goal.returns-in_err-print_parts
 returns-in_err-print_parts g c =

@@ -1,0 +1,52 @@
+//! A piece of fixed size, in which a text is made that is then written at once.
+ghost use Rattle.std.specs.Prelude.{◌≡◌, [], Some};
+
+use arrayvec::ArrayVec;
+use rd_io::{Failed, Sink};
+
+/// The most bytes of a piece.
+const ROOM: usize = 8192;
+
+/// Bytes that are kept without taking memory. It is a sink that fails where it has no room for more.
+#[derive(Drop)]
+pub struct Piece {
+    bytes: ArrayVec<u8, ROOM>,
+    refused: u64,
+}
+
+impl Piece {
+    /// No bytes.
+    pub fn new() -> Piece
+        ensures { ⟦<Piece as Sink>⟧.written result ≡ Some [] }
+    {
+        Piece {
+            bytes: ArrayVec::new(),
+            refused: 0,
+        }
+    }
+
+    /// The bytes that were kept.
+    pub fn bytes(&self) -> &[u8]
+        ensures { ⟦<Piece as Sink>⟧.written self.now ≡ Some result.now }
+    {
+        self.bytes.as_slice()
+    }
+}
+
+impl Sink for Piece {
+    ghost use Rattle.std.specs.Prelude.{Some};
+
+    ghost written = { λ p. Some p.bytes.items };
+
+    ghost faults = { λ p. p.refused };
+
+    fn write(&mut self, piece: &[u8]) -> Result<usize, Failed> {
+        match self.bytes.try_extend_from_slice(piece) {
+            Ok(()) => Ok(piece.len()),
+            Err(_full) => {
+                self.refused = self.refused.saturating_add(1);
+                Err(Failed)
+            }
+        }
+    }
+}
