@@ -4,4 +4,4 @@ pub mod Items
 mod Json
 mod OnePass
 mod Texts
-mod Writing
+pub mod Writing
