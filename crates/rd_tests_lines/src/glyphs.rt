@@ -222,6 +222,27 @@ fn controls_without_arrows(rt: HostRuntime) -> Result<(), Fail> {
     Ok(())
 }
 
+/// A table with entries: nothing for a tab, two letters for an x, and two entries for a y.
+fn table_of_entries(alloc: Global) -> Result<Table, Fail> {
+    let mut table = Table::new(alloc)?;
+    table.put_entry('\t' as u32, &[])?;
+    table.put_entry('x' as u32, &[letter('a')?, letter('b')?])?;
+    table.put_entry('y' as u32, &[letter('c')?])?;
+    table.put_entry('y' as u32, &[letter('d')?])?;
+    Ok(table)
+}
+
+#[test]
+fn characters_by_the_entries_of_a_table(rt: HostRuntime) -> Result<(), Fail> {
+    let table = table_of_entries(rt.alloc())?;
+    let data = worked_data(rt.alloc(), true)?;
+    let parts = data.parts(Some(&table));
+    for (c, text) in [('\t', ""), ('x', "ab"), ('y', "d"), ('z', "z")] {
+        assert!(rt; spells(rt.alloc(), &parts, Ch::scalar(c), false, text));
+    }
+    Ok(())
+}
+
 /// A cell of a character of one column.
 fn cell(c: char) -> Cell {
     Cell::First(Glyph::single(c as u32, 1), RED)
@@ -306,7 +327,8 @@ fn marks_in_plain_lines(rt: HostRuntime) -> Result<(), Fail> {
         count: 2,
         ..Glyph::single(32, 1)
     };
-    let rows: [(&[Ch], u32, &[Cell]); 4] = [
+    let rows: [(&[Ch], u32, &[Cell]); 5] = [
+        (&many[..8], 2, &[heavy(), alone()]),
         (&many, 3, &[heavy(), Cell::First(two, RED), gap()]),
         (&[acute()], 2, &[alone(), gap()]),
         (
