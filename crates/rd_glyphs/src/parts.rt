@@ -41,8 +41,19 @@ impl<'a> Model for Parts<'a> {
 impl<'a> Parts<'a> {
     ghost use Rattle.std.specs.Prelude.{◌≡◌, ◌<◌, ◌≤◌, length, All, MatchOption, IfSome, IsTrue, None, Some};
     ghost use Rattle.rd_base.specs.Glyphs.{IsMeasured, IsMeasuredLook};
-    ghost use Rattle.rd_glyphs.specs.Characters.{entry_of, slot_or, own_looks, TakesColumns};
+    ghost use Rattle.rd_glyphs.specs.Characters.{AreSoundParts, entry_of, slot_or, own_looks, TakesColumns};
     ghost use Rattle.rd_objects.specs.Tables.{is_glyph_text};
+
+    /// The table holds glyph characters, and a tab has 1 to 32 columns. The call does nothing.
+    pub fn stays_valid(&self)
+        ensures { AreSoundParts self.now }
+    {
+        let settings = self.settings;
+        let _tab_width = settings.tab_width;
+        if let Some(table) = self.table {
+            table.stays_valid();
+        }
+    }
 
     /// What the table puts for a code, and None where it puts nothing.
     pub(crate) fn entry(&self, code: u32) -> Option<&[Glyph]>
