@@ -1,12 +1,14 @@
 -- Buffers on which the definitions are worked out.
-use Rattle.std.specs.Prelude.{ℕ, ◌-◌, pos, false, List, [], ◌∷◌, ◌++◌, replicate, Option, None, Some}
+use Rattle.std.specs.Prelude.{ℕ, ◌-◌, pos, Bool, false, List, [], ◌∷◌, ◌++◌, length, map, replicate, Option, None, Some}
 use Rattle.rd_base.specs.Faces.{plain}
 use Rattle.rd_base.specs.Settings.{opening}
 use Rattle.rd_base.specs.declared.settings.Invisible as setting
 use Rattle.rd_overlays.specs.declared.overlay.Overlay.{Overlay}
 use Rattle.rd_overlays.specs.declared.overlay.Kind.TheVariants.{Face, Before, After}
-use Rattle.rd_overlays.specs.Overlays.{new_overlay, given}
+use Rattle.rd_text.specs.Texts.{inserted, deleted}
+use Rattle.rd_overlays.specs.Overlays.{new_overlay, given, slot_grown, slot_shrunk}
 use Rattle.rd_props.specs.Buffers.{BufferValue, values_of}
+use Rattle.rd_props.specs.Edits.{opened, closed}
 use Rattle.rd_objects.specs.Things.{ObjectLists, nothing_made}
 
 -- a property with one value from one position up to another
@@ -43,3 +45,26 @@ abbrev pub partly_invisible : setting.Invisible → BufferValue
 partly_invisible setting =
     let s = three_characters [] (put_once 2 3 0) (put_once 1 3 7) [] in
     record s { settings = record opening { invisible = setting } }
+
+-- an overlay on the second of three characters, with the before-string 4 and the after-string 5, whose start moves with characters
+-- that are put in there or stays
+abbrev pub enclosed : Bool → BufferValue
+enclosed front = three_characters [] [] [] (given (given (Some (new_overlay 2 3 (pos 0) front false) ∷ []) 0 Before (Some 4)) 0 After (Some 5))
+
+-- a buffer with characters put in
+abbrev pub with_more : BufferValue → ℕ → List ℕ → BufferValue
+with_more s place new = record {
+  text = inserted s.text place new;
+  properties = opened s.properties place (length new);
+  overlays = map (slot_grown place (length new)) s.overlays;
+  settings = s.settings;
+}
+
+-- a buffer without the characters from one position to another, that one not included
+abbrev pub with_less : BufferValue → ℕ → ℕ → BufferValue
+with_less s from to = record {
+  text = deleted s.text from to;
+  properties = closed s.properties from to;
+  overlays = map (slot_shrunk from to) s.overlays;
+  settings = s.settings;
+}

@@ -5,6 +5,7 @@
 
 mod appearance;
 mod edits;
+mod examples;
 mod faces;
 mod hiding;
 mod laws;
