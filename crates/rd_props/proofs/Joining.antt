@@ -43,3 +43,11 @@ module _ (old middle new : BufferValue) (a b c : ObjectLists) (head later_head t
 
   pub join : Unchanged old a new c (min head later_head) joined (d +ℤ e)
   join = record { begin = two.begin ∙ one.begin; before = joined-before; behind = joined-behind }
+
+pub widen : (old new : BufferValue) (a b : ObjectLists) (head tail lesser greater : ℕ) (added : ℤ) → Unchanged old a new b head tail added → lesser ≤ head → tail ≤ greater
+    → Unchanged old a new b lesser greater added
+widen old new a b head tail lesser greater added same less more = record {
+  begin = same.begin;
+  before = λ x low before reach. same.before x low (omega arith) reach;
+  behind = λ x y low behind is reach. same.behind x y low (omega arith) is reach;
+}

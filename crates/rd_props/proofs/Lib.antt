@@ -11,3 +11,4 @@ pub mod Texts
 pub mod Editing
 pub mod Between
 pub mod Replacing
+pub mod Names

@@ -63,7 +63,7 @@ picked-by o p false true same empty priority values = absurd (cc)
 picked-by o p false false same empty priority values = refl
 
 -- what stands at a number after each overlay was changed
-changed-at : (change : Overlay → Overlay) (slots : List (Option Overlay)) (number : ℕ) → overlay_at (map (slot_changed change) slots) number ≡ slot_changed change (overlay_at slots number)
+pub changed-at : (change : Overlay → Overlay) (slots : List (Option Overlay)) (number : ℕ) → overlay_at (map (slot_changed change) slots) number ≡ slot_changed change (overlay_at slots number)
 changed-at change [] number = refl
 changed-at change (slot ∷ slots) zero = refl
 changed-at change (slot ∷ slots) (suc number) = changed-at change slots number

@@ -44,6 +44,28 @@ module _ (listings : AreListings) (old new : BufferValue) (objects : ObjectLists
 no-more : (n : ℕ) → pos n -ℤ pos n ≡ pos 0
 no-more n = omega (arith, ints)
 
+-- ---- the settings alone
+
+pub settings-edit : AreListings → (old new : BufferValue) (objects : ObjectLists) (head tail : ℕ) → HasOverlays old new old.overlays → Unchanged old objects new objects head tail (pos 0)
+settings-edit listings old new objects head tail edit =
+    record {
+      begin = ap (λ (t : TextValue). t.begin) edit.text;
+      before = λ x low less reach. same-by listings old new objects x x (all-stays old new x edit) reach;
+      behind = λ x y low more is reach.
+          let here : x ≡ y = omega (arith, ints, is) in
+          let R : ℕ → Type 0 = λ z. StaysSame old z new y in
+          same-by listings old new objects x y (subst R (sym here) (all-stays old new y edit)) reach;
+    }
+  where
+    all-stays : (old new : BufferValue) (x : ℕ) → HasOverlays old new old.overlays → StaysSame old x new x
+    all-stays old new x edit =
+        let Q : List (Option Overlay) → Type 0 = λ slots. SeeSame x x old.overlays slots in
+        record {
+          text = itself old.text new.text x edit.text;
+          properties = λ kind. sym (edit.properties kind x);
+          overlays = subst Q (sym edit.overlays) (record { covers = λ n. refl; starts = λ n. refl; ends = λ n. refl });
+        }
+
 -- ---- a property that is put
 
 put-outside : (t u : Bool) (value other : Option ℕ) → u ≡ false → other ≡ (if t && u then value else other)

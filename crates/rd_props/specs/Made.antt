@@ -1,5 +1,6 @@
 -- The objects that a buffer names.
 use Rattle.std.specs.Prelude.{◌≡◌, ℕ, ◌<◌, IfSome, length, Some}
+use Rattle.rd_base.specs.Settings.{SettingValues}
 use Rattle.rd_overlays.specs.declared.overlay.Overlay.{Overlay}
 use Rattle.rd_overlays.specs.declared.overlay.Kind.{Kind}
 use Rattle.rd_overlays.specs.declared.overlay.Kind.TheVariants.{Face, Display, Invisible, LinePrefix, WrapPrefix, Before, After}
@@ -18,10 +19,14 @@ IsMade objects WrapPrefix value = value < length objects.strings
 IsMade objects Before value = value < length objects.strings
 IsMade objects After value = value < length objects.strings
 
+-- the table and the strings that settings name were made
+pub record SettingsMade (objects : ObjectLists) (settings : SettingValues) : Type 0 where
+  pub table : IfSome settings.table (λ number. number < length objects.tables)
+  pub line_prefix : IfSome settings.line_prefix (λ number. number < length objects.strings)
+  pub wrap_prefix : IfSome settings.wrap_prefix (λ number. number < length objects.strings)
+
 -- each object that the properties, the overlays and the settings of a buffer name was made
 pub record AreMade (s : BufferValue) (objects : ObjectLists) : Type 0 where
   pub properties : (kind : Kind) (p value : ℕ) → property s kind p ≡ Some value → IsMade objects kind value
   pub overlays : (number value : ℕ) (kind : Kind) (overlay : Overlay) → overlay_at s.overlays number ≡ Some overlay → value_of kind (Some overlay) ≡ Some value → IsMade objects kind value
-  pub table : IfSome s.settings.table (λ number. number < length objects.tables)
-  pub line_prefix : IfSome s.settings.line_prefix (λ number. number < length objects.strings)
-  pub wrap_prefix : IfSome s.settings.wrap_prefix (λ number. number < length objects.strings)
+  pub settings : SettingsMade objects s.settings

@@ -64,3 +64,16 @@ pub fn overlays_leave_the_rest()
 pub fn new_objects_leave_all()
     ensures { (s : BufferValue) (old new : ObjectLists) (head tail : ℕ) → Extends old new → AreMade s old → Unchanged s old s new head tail (pos 0) }
 {}
+
+/// A change of the settings alone changes nothing that is seen at a position. The call does nothing.
+pub fn settings_leave_all()
+    ensures { (old new : BufferValue) (objects : ObjectLists) (head tail : ℕ) → HasOverlays old new old.overlays → Unchanged old objects new objects head tail (pos 0) }
+{
+    listings_are_exact();
+    listings_agree();
+}
+
+/// What is the same before a head and from a tail on is so before a lesser head and from a greater tail on. The call does nothing.
+pub fn changes_widen()
+    ensures { (old new : BufferValue) (a b : ObjectLists) (head tail lesser greater : ℕ) (added : ℤ) → Unchanged old a new b head tail added → lesser ≤ head → tail ≤ greater → Unchanged old a new b lesser greater added }
+{}

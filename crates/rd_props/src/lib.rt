@@ -9,6 +9,7 @@ mod examples;
 mod faces;
 mod hiding;
 mod laws;
+mod made;
 mod shown;
 mod state;
 mod stops;
@@ -17,8 +18,8 @@ mod values;
 
 pub use appearance::{Appearance, appearance_at};
 pub use edits::{
-    changes_join, deletions_leave_the_rest, insertions_leave_the_rest, new_objects_leave_all,
-    overlays_leave_the_rest, puts_leave_the_rest,
+    changes_join, changes_widen, deletions_leave_the_rest, insertions_leave_the_rest,
+    new_objects_leave_all, overlays_leave_the_rest, puts_leave_the_rest, settings_leave_all,
 };
 pub use faces::face_at;
 pub use hiding::Hidden;
@@ -26,6 +27,7 @@ pub use laws::{
     atoms_that_hide, effective_values_are_the_greatest_overlays, faces_that_merge,
     nothing_changes_before_the_next_stop, strings_that_meet, what_is_seen_says_what_is_hidden,
 };
+pub use made::edits_keep_what_is_made;
 pub use shown::hidden;
 pub use state::{BufferState, View};
 pub use stops::next_stop;

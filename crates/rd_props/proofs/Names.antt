@@ -1,0 +1,227 @@
+-- Edits name no object that was not made.
+use Rattle.std.proofs.Common.{◌≡◌, ◌⊎◌, inl, inr, ℕ, zero, suc, ◌+◌, ◌-◌, ◌<◌, Bool, true, false, ◌&&◌, if◌then◌else◌, List, [], ◌∷◌, ◌++◌, length, map, set, get_or, Option, None, Some, refl, sym, ap, subst, ◌∙◌, arith}
+use Rattle.std.specs.Prelude.{nat_lt, nat_le, ◌==◌, IfSome}
+use Rattle.std.proofs.lemmas.Bool.Decides.{nat_tests}
+use Rattle.std.proofs.lemmas.List.{length-append}
+use Rattle.rd_overlays.specs.declared.overlay.Overlay.{Overlay}
+use Rattle.rd_overlays.specs.declared.overlay.Kind.{Kind}
+use Rattle.rd_overlays.specs.declared.overlay.Kind.TheVariants.{Face, Display, Invisible, LinePrefix, WrapPrefix, Before, After}
+use Rattle.rd_overlays.specs.Overlays.{overlay_at, place_of, slot_changed, grown, shrunk, moved, dropped, given}
+use Rattle.rd_objects.specs.Things.{ObjectLists}
+use Rattle.rd_objects.specs.Sound.{GoesOn, Extends}
+use Rattle.rd_props.specs.Buffers.{BufferValue}
+use Rattle.rd_props.specs.Values.{value_of}
+use Rattle.rd_props.specs.Edits.{IsInsertion, IsDeletion, IsPut, HasOverlays}
+use Rattle.rd_props.specs.Made.{IsMade, SettingsMade, AreMade}
+use Rattle.rd_props.proofs.Moves.{changed-at}
+
+-- ---- values of properties
+
+abbrev AreValuesMade : ObjectLists → (ℕ → ℕ → Option ℕ) → Type 0
+AreValuesMade objects values = (kind : Kind) (p value : ℕ) → values (place_of kind) p ≡ Some value → IsMade objects kind value
+
+opened-by : (t u : Bool) (values : ℕ → ℕ → Option ℕ) (k n p v : ℕ) → (if t then values k p else (if u then None else values k (p - n))) ≡ Some v
+    → (q : ℕ) × (values k q ≡ Some v)
+opened-by true u values k n p v h = (p, h)
+opened-by false true values k n p v h = absurd (cc)
+opened-by false false values k n p v h = (p - n, h)
+
+closed-by : (t : Bool) (values : ℕ → ℕ → Option ℕ) (k n p v : ℕ) → (if t then values k p else values k (p + n)) ≡ Some v → (q : ℕ) × (values k q ≡ Some v)
+closed-by true values k n p v h = (p, h)
+closed-by false values k n p v h = (p + n, h)
+
+-- the kind of a place
+kind_at : ℕ → Kind
+kind_at zero = Face
+kind_at (suc zero) = Display
+kind_at (suc (suc zero)) = Invisible
+kind_at (suc (suc (suc zero))) = LinePrefix
+kind_at (suc (suc (suc (suc zero)))) = WrapPrefix
+kind_at (suc (suc (suc (suc (suc zero))))) = Before
+kind_at (suc (suc (suc (suc (suc (suc n)))))) = After
+
+at-place : (kind : Kind) → kind_at (place_of kind) ≡ kind
+unfolding kind_at
+at-place Face = refl
+at-place Display = refl
+at-place Invisible = refl
+at-place LinePrefix = refl
+at-place WrapPrefix = refl
+at-place Before = refl
+at-place After = refl
+
+same-kind : (k l : Kind) → place_of k ≡ place_of l → k ≡ l
+same-kind k l e = sym (at-place k) ∙ (ap kind_at e ∙ at-place l)
+
+put-by : (objects : ObjectLists) (k chosen : Kind) (t u : Bool) (value other : Option ℕ) (v : ℕ) → (place_of k == place_of chosen) ≡ t
+    → ((w : ℕ) → value ≡ Some w → IsMade objects chosen w) → (other ≡ Some v → IsMade objects k v) → (if t && u then value else other) ≡ Some v → IsMade objects k v
+put-by objects k chosen true true value other v same given old h =
+    let place : place_of k ≡ place_of chosen = grind (arith, nat_tests) in
+    let P : Kind → Type 0 = λ l. IsMade objects l v in
+    subst P (sym (same-kind k chosen place)) (given v h)
+put-by objects k chosen true false value other v same given old h = old h
+put-by objects k chosen false true value other v same given old h = old h
+put-by objects k chosen false false value other v same given old h = old h
+
+-- ---- values of overlays
+
+abbrev AreOverlaysMade : ObjectLists → List (Option Overlay) → Type 0
+AreOverlaysMade objects slots =
+    (number value : ℕ) (kind : Kind) (overlay : Overlay) → overlay_at slots number ≡ Some overlay → value_of kind (Some overlay) ≡ Some value → IsMade objects kind value
+
+kept-by : (change : Overlay → Overlay) → ((o : Overlay) → (change o).values ≡ o.values) → (slot : Option Overlay) (p : Overlay) (kind : Kind) (v : ℕ) → slot_changed change slot ≡ Some p
+    → value_of kind (Some p) ≡ Some v → (o : Overlay) × (slot ≡ Some o) × (value_of kind (Some o) ≡ Some v)
+kept-by change keeps None p kind v is h = absurd (cc)
+kept-by change keeps (Some o) p kind v is h =
+    let same : change o ≡ p = cc in
+    let values : o.values ≡ p.values = sym (keeps o) ∙ ap (λ (q : Overlay). q.values) same in
+    (o, refl, ap (λ (xs : List (Option ℕ)). get_or xs (place_of kind) None) values ∙ h)
+
+changed-made : (objects : ObjectLists) (change : Overlay → Overlay) → ((o : Overlay) → (change o).values ≡ o.values) → (slots : List (Option Overlay)) → AreOverlaysMade objects slots
+    → AreOverlaysMade objects (map (slot_changed change) slots)
+changed-made objects change keeps slots made number v kind p is h =
+    let found = kept-by change keeps (overlay_at slots number) p kind v (sym (changed-at change slots number) ∙ is) h in
+    made number v kind found.0 found.1 found.2
+
+after-set : (slots : List (Option Overlay)) (i : ℕ) (slot : Option Overlay) (number : ℕ) (p : Overlay) → overlay_at (set slots i slot) number ≡ Some p
+    → (overlay_at slots number ≡ Some p) ⊎ (slot ≡ Some p)
+after-set [] i slot number p h = inl h
+after-set (s ∷ slots) zero slot zero p h = inr h
+after-set (s ∷ slots) zero slot (suc number) p h = inl h
+after-set (s ∷ slots) (suc i) slot zero p h = inl h
+after-set (s ∷ slots) (suc i) slot (suc number) p h = after-set slots i slot number p h
+
+after-end : (slots : List (Option Overlay)) (o : Overlay) (number : ℕ) (p : Overlay) → overlay_at (slots ++ Some o ∷ []) number ≡ Some p
+    → (overlay_at slots number ≡ Some p) ⊎ (o ≡ p)
+after-end [] o zero p h = inr (cc)
+after-end [] o (suc number) p h = absurd (cc)
+after-end (slot ∷ slots) o zero p h = inl h
+after-end (slot ∷ slots) o (suc number) p h = after-end slots o number p h
+
+set-made : (objects : ObjectLists) (slots : List (Option Overlay)) (i : ℕ) (slot : Option Overlay) → AreOverlaysMade objects slots
+    → ((p : Overlay) (kind : Kind) (v : ℕ) → slot ≡ Some p → value_of kind (Some p) ≡ Some v → IsMade objects kind v) → AreOverlaysMade objects (set slots i slot)
+set-made objects slots i slot made new number v kind p is h =
+    elim (after-set slots i slot number p is) [ inl old ↦ made number v kind p old h | inr here ↦ new p kind v here h ]
+
+end-made : (objects : ObjectLists) (slots : List (Option Overlay)) (o : Overlay) → AreOverlaysMade objects slots
+    → ((kind : Kind) (v : ℕ) → value_of kind (Some o) ≡ Some v → IsMade objects kind v) → AreOverlaysMade objects (slots ++ Some o ∷ [])
+end-made objects slots o made new number v kind p is h =
+    elim (after-end slots o number p is) [
+      | inl old ↦ made number v kind p old h
+      | inr same ↦ let Q : Overlay → Type 0 = λ q. value_of kind (Some q) ≡ Some v in new kind v (subst Q (sym same) h)
+    ]
+
+get-set : (xs : List (Option ℕ)) (i j v : ℕ) (value : Option ℕ) → get_or (set xs i value) j None ≡ Some v → ((j ≡ i) × (value ≡ Some v)) ⊎ (get_or xs j None ≡ Some v)
+get-set [] i j v value h = inr h
+get-set (x ∷ xs) zero zero v value h = inl (refl, h)
+get-set (x ∷ xs) zero (suc j) v value h = inr h
+get-set (x ∷ xs) (suc i) zero v value h = inr h
+get-set (x ∷ xs) (suc i) (suc j) v value h = elim (get-set xs i j v value h) [ inl both ↦ inl (ap suc both.0, both.1) | inr old ↦ inr old ]
+
+given-made : (objects : ObjectLists) (slots : List (Option Overlay)) (number : ℕ) (chosen : Kind) (value : Option ℕ) → AreOverlaysMade objects slots
+    → ((w : ℕ) → value ≡ Some w → IsMade objects chosen w) → AreOverlaysMade objects (given slots number chosen value)
+given-made objects slots number chosen value made new =
+    set-made objects slots number (slot_changed change (overlay_at slots number)) made (λ p kind v is h. by (overlay_at slots number) refl p kind v is h)
+  where
+    change : Overlay → Overlay
+    change overlay = record overlay { values = set overlay.values (place_of chosen) value }
+
+    by : (slot : Option Overlay) → overlay_at slots number ≡ slot → (p : Overlay) (kind : Kind) (v : ℕ) → slot_changed (λ overlay. record overlay { values = set overlay.values (place_of chosen) value }) slot ≡ Some p
+        → value_of kind (Some p) ≡ Some v → IsMade objects kind v
+    by None lives p kind v is h = absurd (cc)
+    by (Some o) lives p kind v is h =
+        let same : record o { values = set o.values (place_of chosen) value } ≡ p = cc in
+        let values : set o.values (place_of chosen) value ≡ p.values = ap (λ (q : Overlay). q.values) same in
+        let has : get_or (set o.values (place_of chosen) value) (place_of kind) None ≡ Some v = ap (λ (xs : List (Option ℕ)). get_or xs (place_of kind) None) values ∙ h in
+        elim (get-set o.values (place_of chosen) (place_of kind) v value has) [
+          | inl both ↦ let P : Kind → Type 0 = λ l. IsMade objects l v in subst P (sym (same-kind kind chosen both.0)) (new v both.1)
+          | inr old ↦ made number v kind o lives old
+        ]
+
+moved-made : (objects : ObjectLists) (slots : List (Option Overlay)) (number from to : ℕ) → AreOverlaysMade objects slots → AreOverlaysMade objects (moved slots number from to)
+moved-made objects slots number from to made =
+    set-made objects slots number (slot_changed (λ overlay. record overlay { from = from; to = to }) (overlay_at slots number)) made (λ p kind v is h.
+    let found = kept-by (λ overlay. record overlay { from = from; to = to }) (λ o. refl) (overlay_at slots number) p kind v is h in
+    made number v kind found.0 found.1 found.2)
+
+-- ---- buffers
+
+module _ (old new : BufferValue) (objects : ObjectLists) (made : AreMade old objects) (settings : SettingsMade objects new.settings) where
+  pub made-inserted : (place : ℕ) (chars : List ℕ) → IsInsertion old new place chars → AreMade new objects
+  made-inserted place chars edit = record {
+    properties = λ kind p v h.
+        let found = opened-by (nat_lt p place) (nat_lt p (place + length chars)) old.properties (place_of kind) (length chars) p v (sym (edit.properties (place_of kind) p) ∙ h) in
+        made.properties kind found.0 v found.1;
+    overlays = let P : List (Option Overlay) → Type 0 = AreOverlaysMade objects in
+        subst P (sym edit.overlays) (changed-made objects (grown place (length chars)) (λ o. refl) old.overlays made.overlays);
+    settings = settings;
+  }
+
+  pub made-deleted : (from to : ℕ) → IsDeletion old new from to → AreMade new objects
+  made-deleted from to edit = record {
+    properties = λ kind p v h.
+        let found = closed-by (nat_lt p from) old.properties (place_of kind) (to - from) p v (sym (edit.properties (place_of kind) p) ∙ h) in
+        made.properties kind found.0 v found.1;
+    overlays = let P : List (Option Overlay) → Type 0 = AreOverlaysMade objects in
+        subst P (sym edit.overlays) (changed-made objects (shrunk from to) (λ o. refl) old.overlays made.overlays);
+    settings = settings;
+  }
+
+  pub made-put : (kind : Kind) (from to : ℕ) (value : Option ℕ) → ((v : ℕ) → value ≡ Some v → IsMade objects kind v) → IsPut old new kind from to value → AreMade new objects
+  made-put kind from to value new_made edit = record {
+    properties = λ k p v h.
+        put-by objects k kind (place_of k == place_of kind) (nat_le from p && nat_lt p to) value (old.properties (place_of k) p) v refl new_made (made.properties k p v)
+        (sym (edit.properties (place_of k) p) ∙ h);
+    overlays = let P : List (Option Overlay) → Type 0 = AreOverlaysMade objects in subst P (sym edit.overlays) made.overlays;
+    settings = settings;
+  }
+
+  made-overlays : (slots : List (Option Overlay)) → AreOverlaysMade objects slots → HasOverlays old new slots → AreMade new objects
+  made-overlays slots all edit = record {
+    properties = λ kind p v h. made.properties kind p v (sym (edit.properties (place_of kind) p) ∙ h);
+    overlays = let P : List (Option Overlay) → Type 0 = AreOverlaysMade objects in subst P (sym edit.overlays) all;
+    settings = settings;
+  }
+
+  pub made-making : (o : Overlay) → ((kind : Kind) (v : ℕ) → value_of kind (Some o) ≡ Some v → IsMade objects kind v) → HasOverlays old new (old.overlays ++ Some o ∷ []) → AreMade new objects
+  made-making o all edit = made-overlays (old.overlays ++ Some o ∷ []) (end-made objects old.overlays o made.overlays all) edit
+
+  pub made-dropping : (number : ℕ) → HasOverlays old new (dropped old.overlays number) → AreMade new objects
+  made-dropping number edit = made-overlays (dropped old.overlays number) (set-made objects old.overlays number None made.overlays (λ p kind v is h. absurd (cc))) edit
+
+  pub made-giving : (number : ℕ) (kind : Kind) (value : Option ℕ) → ((v : ℕ) → value ≡ Some v → IsMade objects kind v) → HasOverlays old new (given old.overlays number kind value) → AreMade new objects
+  made-giving number kind value all edit = made-overlays (given old.overlays number kind value) (given-made objects old.overlays number kind value made.overlays all) edit
+
+  pub made-moving : (number from to : ℕ) → HasOverlays old new (moved old.overlays number from to) → AreMade new objects
+  made-moving number from to edit = made-overlays (moved old.overlays number from to) (moved-made objects old.overlays number from to made.overlays) edit
+
+-- ---- objects
+
+longer : {X : Type 0} (old new : List X) (n : ℕ) → GoesOn old new → n < length old → n < length new
+longer {X} old new n more less =
+    let size : length new ≡ length old + length more.0 = ap length more.1 ∙ length-append old more.0 in
+    omega arith
+
+made-longer : (old new : ObjectLists) → Extends old new → (kind : Kind) (v : ℕ) → IsMade old kind v → IsMade new kind v
+made-longer old new extends Face v h = longer old.faces new.faces v extends.faces h
+made-longer old new extends Display v h = longer old.specs new.specs v extends.specs h
+made-longer old new extends Invisible v h = tt
+made-longer old new extends LinePrefix v h = longer old.strings new.strings v extends.strings h
+made-longer old new extends WrapPrefix v h = longer old.strings new.strings v extends.strings h
+made-longer old new extends Before v h = longer old.strings new.strings v extends.strings h
+made-longer old new extends After v h = longer old.strings new.strings v extends.strings h
+
+setting-longer : {X : Type 0} (old new : List X) (number : Option ℕ) → GoesOn old new → IfSome number (λ n. n < length old) → IfSome number (λ n. n < length new)
+setting-longer {X} old new None more h = h
+setting-longer {X} old new (Some n) more h = longer old new n more h
+
+pub made-extended : (s : BufferValue) (old new : ObjectLists) → AreMade s old → Extends old new → AreMade s new
+made-extended s old new made extends = record {
+  properties = λ kind p v h. made-longer old new extends kind v (made.properties kind p v h);
+  overlays = λ number v kind o is h. made-longer old new extends kind v (made.overlays number v kind o is h);
+  settings = record {
+    table = setting-longer old.tables new.tables s.settings.table extends.tables made.settings.table;
+    line_prefix = setting-longer old.strings new.strings s.settings.line_prefix extends.strings made.settings.line_prefix;
+    wrap_prefix = setting-longer old.strings new.strings s.settings.wrap_prefix extends.strings made.settings.wrap_prefix;
+  };
+}
