@@ -4,11 +4,15 @@
 #![tactic(auto)]
 
 #[cfg(test)]
+mod blocks;
+#[cfg(test)]
 mod claims;
 #[cfg(test)]
 mod glyphs;
 #[cfg(test)]
 mod items;
+#[cfg(test)]
+mod margins;
 #[cfg(test)]
 mod matrix;
 #[cfg(test)]
@@ -21,3 +25,5 @@ mod rows;
 mod scenery;
 #[cfg(test)]
 mod stack;
+#[cfg(test)]
+mod starts;

@@ -11,7 +11,7 @@ const INVERSE: Face = Face {
 };
 
 /// The characters of an ASCII text.
-fn text(alloc: Global, bytes: &[u8]) -> Result<ListOf<Ch>, Memory> {
+pub fn text(alloc: Global, bytes: &[u8]) -> Result<ListOf<Ch>, Memory> {
     let mut text = ListOf::new(alloc);
     for byte in bytes {
         text.push(Ch::scalar(*byte as char))?;
@@ -19,13 +19,13 @@ fn text(alloc: Global, bytes: &[u8]) -> Result<ListOf<Ch>, Memory> {
     Ok(text)
 }
 
-/// The cells of an ASCII text in the inverse face.
-fn cells(alloc: Global, bytes: &[u8]) -> Result<ListOf<Cell>, Memory> {
+/// The cells of an ASCII text in a face.
+pub fn cells(alloc: Global, bytes: &[u8], face: Face) -> Result<ListOf<Cell>, Memory> {
     let mut cells = ListOf::new(alloc);
     for byte in bytes {
         cells.push(match *byte {
-            b' ' => Cell::Blank(INVERSE),
-            _ => Cell::First(Glyph::single(*byte as u32, 1), INVERSE),
+            b' ' => Cell::Blank(face),
+            _ => Cell::First(Glyph::single(*byte as u32, 1), face),
         })?;
     }
     Ok(cells)
@@ -42,7 +42,7 @@ fn gives(alloc: Global, code: &[u8], facts: &Facts, line: &[u8]) -> Result<bool,
         facts,
         line.len().min(400) as u32,
     )?;
-    Ok(shown.as_slice() == cells(alloc, line)?.as_slice())
+    Ok(shown.as_slice() == cells(alloc, line, INVERSE)?.as_slice())
 }
 
 #[test]

@@ -1,0 +1,287 @@
+//! Blocks in memory, with ample memory: how they are made for tests of what reads them, and their rows and order.
+ghost use Rattle.std.specs.Prelude.{◌≡◌, ◌+◌, ◌*◌, ◌^◌, ◌<◌, ◌≤◌, ℕ, None, IsTrue, IfOk, OnOk};
+ghost use Rattle.rd_base.specs.Elements.{AreSound, columns_at_most, ends_once};
+ghost use Rattle.rd_matrix.specs.Blocks.{end_from, first_start};
+ghost use Rattle.rd_matrix.specs.Held.{IsHeld, are_inside, blocks_held, covers_each};
+ghost use Rattle.rd_rows.specs.Laws.{ranges_of};
+
+use rd_base::{Element, Extent, Face, Glyph, ListOf, Look, Memory, Origin, Pos, Steps, Wrap};
+use rd_matrix::{Block, BlockSource, HeldBlock, MemBlocks};
+use rd_rows::Shape;
+use std::alloc::Global;
+use std::marker::Brand;
+use std::sync::ledger::{Blank, Ledger};
+use std::test::Fail;
+
+macro_rules! element {
+    ($item:expr, $columns:expr, $from:expr, $to:expr, $look:expr) => {
+        Element {
+            extent: Extent::Fixed($columns),
+            look: $look,
+            face: Face::PLAIN,
+            origin: Origin {
+                item: $item,
+                from: $from,
+                to: $to,
+            },
+        }
+    };
+}
+
+macro_rules! glyph {
+    ($code:expr) => {
+        Glyph {
+            base: $code,
+            marks: [0, 0, 0, 0, 0, 0],
+            count: 0,
+            width: 1,
+        }
+    };
+}
+
+macro_rules! letter {
+    ($item:expr, $from:expr, $to:expr, $code:expr) => {
+        element!($item, 1, $from, $to, Look::Glyph(glyph!($code)))
+    };
+}
+
+/// Twelve columns.
+pub const SHAPE: Shape = Shape {
+    width: 12,
+    wrap: Wrap::Truncate,
+    hscroll: 0,
+};
+
+/// A block of so many positions with its line.
+fn held(alloc: Global, start: Pos, size: u32, line: &[Element]) -> Result<HeldBlock, Memory>
+    requires start { start ≤ 1000 }
+    requires some { 1 ≤ size }
+    requires few { size ≤ 1000 }
+    requires sound { AreSound line.now }
+    requires end { IsTrue (ends_once line.now) }
+    requires columns { columns_at_most line.now < 2 ^ 63 }
+    requires covers { IsTrue (covers_each size (ranges_of None line.now)) }
+    requires inside { IsTrue (are_inside size (ranges_of None line.now)) }
+    ensures held { IfOk result IsHeld }
+    ensures start { IfOk result (λ held. held.block.start ≡ start) }
+    ensures end { IfOk result (λ held. held.block.end ≡ start + size) }
+{
+    let elements = ListOf::from_slice(alloc, line)?;
+    let block = Block {
+        start,
+        end: start + size,
+        base: 0,
+    };
+    Ok(HeldBlock {
+        block,
+        elements,
+        first: ListOf::new(alloc),
+        wrap: ListOf::new(alloc),
+        truncation: glyph!(36),
+        continuation: glyph!(92),
+    })
+}
+
+/// A letter and the line's end.
+fn one(alloc: Global, start: Pos) -> Result<HeldBlock, Memory>
+    requires start { start ≤ 1000 }
+    ensures held { IfOk result IsHeld }
+    ensures start { IfOk result (λ held. held.block.start ≡ start) }
+    ensures end { IfOk result (λ held. held.block.end ≡ start + 2) }
+{
+    let line = [letter!(0, 0, 1, 97), element!(1, 0, 1, 2, Look::LineEnd)];
+    held(alloc, start, 2, &line)
+}
+
+/// Two letters and the line's end.
+fn two(alloc: Global, start: Pos) -> Result<HeldBlock, Memory>
+    requires start { start ≤ 1000 }
+    ensures held { IfOk result IsHeld }
+    ensures start { IfOk result (λ held. held.block.start ≡ start) }
+    ensures end { IfOk result (λ held. held.block.end ≡ start + 3) }
+{
+    let line = [
+        letter!(0, 0, 1, 97),
+        letter!(1, 1, 2, 98),
+        element!(2, 0, 2, 3, Look::LineEnd),
+    ];
+    held(alloc, start, 3, &line)
+}
+
+/// Two letters and the line's end, and before the second letter a string of the lines 1 to 4.
+fn with_string(alloc: Global, start: Pos) -> Result<HeldBlock, Memory>
+    requires start { start ≤ 1000 }
+    ensures held { IfOk result IsHeld }
+    ensures start { IfOk result (λ held. held.block.start ≡ start) }
+    ensures end { IfOk result (λ held. held.block.end ≡ start + 3) }
+{
+    let line = [
+        letter!(0, 0, 1, 120),
+        letter!(1, 1, 1, 49),
+        element!(1, 0, 1, 1, Look::RowEnd),
+        letter!(1, 1, 1, 50),
+        element!(1, 0, 1, 1, Look::RowEnd),
+        letter!(1, 1, 1, 51),
+        element!(1, 0, 1, 1, Look::RowEnd),
+        letter!(1, 1, 1, 52),
+        element!(1, 0, 1, 1, Look::RowEnd),
+        letter!(2, 1, 2, 121),
+        element!(3, 0, 2, 3, Look::LineEnd),
+    ];
+    held(alloc, start, 3, &line)
+}
+
+/// One block alone.
+fn single(alloc: Global, held: HeldBlock) -> Result<MemBlocks, Memory>
+    requires held { IsHeld held }
+    ensures first { IfOk result (λ source. first_start (blocks_held source) ≡ held.block.start) }
+    ensures end { IfOk result (λ source. (from : ℕ) → end_from from (blocks_held source) ≡ held.block.end) }
+{
+    let mut source = MemBlocks::new(alloc);
+    source.push(held)?;
+    Ok(source)
+}
+
+/// One block more.
+fn add(source: &mut MemBlocks, held: HeldBlock) -> Result<(), Memory>
+    requires held { IsHeld held }
+    requires next { (from : ℕ) → end_from from (blocks_held source.old) ≡ held.block.start }
+    ensures first { OnOk result (first_start (blocks_held source.new) ≡ first_start (blocks_held source.old)) }
+    ensures end { OnOk result ((from : ℕ) → end_from from (blocks_held source.new) ≡ held.block.end) }
+{
+    source.push(held)?;
+    Ok(())
+}
+
+/// So many lines of one letter.
+fn letters(alloc: Global, count: u32) -> Result<MemBlocks, Memory>
+    requires some { 1 ≤ count }
+    requires few { count ≤ 400 }
+    ensures first { IfOk result (λ source. first_start (blocks_held source) ≡ 1) }
+    ensures end { IfOk result (λ source. (from : ℕ) → end_from from (blocks_held source) ≡ 1 + 2 * count) }
+{
+    let mut source = single(alloc, one(alloc, 1)?)?;
+    for k in 1..count {
+        add(&mut source, one(alloc, 1 + 2 * k)?)?;
+    }
+    Ok(source)
+}
+
+/// A line of two letters and one of one letter.
+fn two_lines(alloc: Global) -> Result<MemBlocks, Memory>
+    ensures first { IfOk result (λ source. first_start (blocks_held source) ≡ 1) }
+    ensures end { IfOk result (λ source. (from : ℕ) → end_from from (blocks_held source) ≡ 6) }
+{
+    let mut source = single(alloc, two(alloc, 1)?)?;
+    add(&mut source, one(alloc, 4)?)?;
+    Ok(source)
+}
+
+/// The line with a string.
+fn one_line(alloc: Global) -> Result<MemBlocks, Memory>
+    ensures first { IfOk result (λ source. first_start (blocks_held source) ≡ 1) }
+    ensures end { IfOk result (λ source. (from : ℕ) → end_from from (blocks_held source) ≡ 4) }
+{
+    single(alloc, with_string(alloc, 1)?)
+}
+
+/// Texts whose first block starts at position 1.
+#[derive(Clone, Copy)]
+pub enum Text {
+    /// Ten lines of one letter.
+    TenLines,
+    /// Three such lines.
+    ThreeLines,
+    /// A line of two letters and one of one letter.
+    TwoLines,
+    /// A line of two letters with a string of the lines 1 to 4 between them.
+    OneLine,
+}
+
+/// The blocks of a text, and where the last of them ends.
+#[derive(Drop)]
+pub struct Made {
+    pub source: MemBlocks,
+    pub end: Pos,
+}
+
+/// The blocks of a text.
+pub fn blocks_of(alloc: Global, text: Text) -> Result<Made, Memory>
+    ensures first { IfOk result (λ made. first_start (blocks_held made.source) ≡ 1) }
+    ensures end { IfOk result (λ made. end_from 0 (blocks_held made.source) ≡ made.end) }
+{
+    match text {
+        Text::TenLines => lines_made(alloc, 10),
+        Text::ThreeLines => lines_made(alloc, 3),
+        Text::TwoLines => {
+            let source = two_lines(alloc)?;
+            Ok(Made { source, end: 6 })
+        }
+        Text::OneLine => {
+            let source = one_line(alloc)?;
+            Ok(Made { source, end: 4 })
+        }
+    }
+}
+
+/// So many lines of one letter, and where they end.
+fn lines_made(alloc: Global, count: u32) -> Result<Made, Memory>
+    requires some { 1 ≤ count }
+    requires few { count ≤ 400 }
+    ensures first { IfOk result (λ made. first_start (blocks_held made.source) ≡ 1) }
+    ensures end { IfOk result (λ made. end_from 0 (blocks_held made.source) ≡ made.end) }
+{
+    let source = letters(alloc, count)?;
+    Ok(Made {
+        source,
+        end: 1 + 2 * count,
+    })
+}
+
+/// The count of rows of the first block, and where the block behind it starts.
+fn rows_and_next<L: Ledger>(
+    alloc: Global,
+    source: &mut MemBlocks,
+    blank: Blank,
+) -> Result<(usize, Pos), Memory>
+    requires first { first_start (blocks_held source.old) ≡ 1 }
+    requires end { 2 ≤ end_from 0 (blocks_held source.old) }
+    requires name { blank.name ≡ L.name }
+    requires parts { blank.parts ≡ L.parts }
+    requires some { 0 < L.parts }
+{
+    let mut steps = Steps::<L>::new(blank);
+    let first = source.block_of(alloc, 1)?;
+    let rows = source.rows(alloc, &first, SHAPE, &mut steps)?;
+    let count = rows.len();
+    match source.next(alloc, &first)? {
+        Some(next) => Ok((count, next.start)),
+        None => Ok((count, 0)),
+    }
+}
+
+/// The same of a text.
+fn rows_and_next_of<L: Ledger>(
+    alloc: Global,
+    text: Text,
+    blank: Blank,
+) -> Result<(usize, Pos), Memory>
+    requires name { blank.name ≡ L.name }
+    requires parts { blank.parts ≡ L.parts }
+    requires some { 0 < L.parts }
+{
+    let mut made = blocks_of(alloc, text)?;
+    if made.end < 2 {
+        return Ok((0, 0));
+    }
+    rows_and_next::<L>(alloc, &mut made.source, blank)
+}
+
+#[test]
+fn rows_come_from_blocks(rt: HostRuntime) -> Result<(), Fail> {
+    let (rows, next) = rows_and_next_of::<Brand>(rt.alloc(), Text::TwoLines, Blank::new(1))?;
+    assert!(rt; rows == 1 && next == 4);
+    let (rows, next) = rows_and_next_of::<Brand>(rt.alloc(), Text::OneLine, Blank::new(1))?;
+    assert!(rt; rows == 5 && next == 0);
+    Ok(())
+}

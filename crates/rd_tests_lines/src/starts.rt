@@ -1,0 +1,163 @@
+//! Starts of windows over blocks in memory.
+ghost use Rattle.std.specs.Prelude.{◌≡◌, ◌<◌, ◌≤◌};
+ghost use Rattle.std.specs.Bool.{OnTrue};
+ghost use Rattle.rd_matrix.specs.Blocks.{IsWithin};
+ghost use Rattle.rd_matrix.specs.Held.{blocks_held};
+
+use crate::blocks::{SHAPE, Text, blocks_of};
+use crate::claims::assert_at;
+use rd_base::{Anchor, Memory, Pos, Steps};
+use rd_matrix::MemBlocks;
+use rd_start::{Chosen, Wanted, choose};
+use std::alloc::Global;
+use std::marker::Brand;
+use std::sync::ledger::{Blank, Ledger};
+use std::test::Fail;
+
+/// A window over a text, and what is to be chosen for it.
+#[derive(Clone, Copy)]
+struct Case {
+    text: Text,
+    wanted: Wanted,
+    chosen: Chosen,
+}
+
+/// A window of so many rows whose old start is a row of the block at a position, and which follows point.
+fn window(height: u32, start: Pos, row: u32, point: Pos) -> Wanted {
+    Wanted {
+        anchor: Anchor { pos: start, row },
+        forced: false,
+        pending: 0,
+        point,
+        height,
+        margin: 0,
+        conservatively: 0,
+    }
+}
+
+/// A window of four rows with a margin, whose start may move by one row.
+fn careful(start: Pos, point: Pos, margin: u32) -> Wanted {
+    Wanted {
+        margin,
+        conservatively: 1,
+        ..window(4, start, 0, point)
+    }
+}
+
+/// A window whose start was set by command, and is to be scrolled by so many rows.
+fn forced(wanted: Wanted, pending: i64) -> Wanted {
+    Wanted {
+        forced: true,
+        pending,
+        ..wanted
+    }
+}
+
+macro_rules! case {
+    ($text:ident, $wanted:expr, $start:expr, $row:expr, $point:expr) => {
+        Case {
+            text: Text::$text,
+            wanted: $wanted,
+            chosen: Chosen {
+                anchor: Anchor {
+                    pos: $start,
+                    row: $row,
+                },
+                point: $point,
+            },
+        }
+    };
+}
+
+/// Windows whose start follows point: in view; a row below the view; too far away, so that its row comes to the middle; margins
+/// inside the text and at both of its ends; an old start that is no block's start, and one whose row is gone.
+fn following() -> [Case; 10] {
+    [
+        case!(TenLines, window(4, 5, 0, 11), 5, 0, 11),
+        case!(TenLines, careful(1, 9, 0), 3, 0, 9),
+        case!(TenLines, careful(3, 19, 0), 15, 0, 19),
+        case!(TenLines, window(4, 1, 0, 19), 15, 0, 19),
+        case!(TenLines, careful(1, 7, 3), 3, 0, 7),
+        case!(TenLines, careful(13, 19, 3), 13, 0, 19),
+        case!(TenLines, careful(5, 5, 3), 3, 0, 5),
+        case!(TenLines, careful(3, 1, 3), 1, 0, 1),
+        case!(TwoLines, window(3, 2, 0, 2), 1, 0, 2),
+        case!(TenLines, window(4, 3, 7, 3), 3, 0, 3),
+    ]
+}
+
+/// Forced starts: point moves down and up into the view, and stays where no item begins there; rows that are pending scroll down, up,
+/// to the first row and to the last.
+fn forced_starts() -> [Case; 7] {
+    [
+        case!(ThreeLines, forced(window(3, 3, 0, 1), 0), 3, 0, 3),
+        case!(TenLines, forced(window(4, 1, 0, 19), 0), 1, 0, 8),
+        case!(OneLine, forced(window(2, 1, 2, 1), 0), 1, 2, 1),
+        case!(TenLines, forced(window(4, 5, 0, 9), 2), 9, 0, 9),
+        case!(TenLines, forced(window(4, 5, 0, 5), -1), 3, 0, 5),
+        case!(TenLines, forced(window(4, 5, 0, 5), -100), 1, 0, 5),
+        case!(TenLines, forced(window(4, 5, 0, 5), 100), 19, 0, 19),
+    ]
+}
+
+/// Whether a window stands within a text from position 1 up to its end.
+fn stands(end: Pos, wanted: Wanted) -> bool
+    ensures start { OnTrue result ((1 ≤ wanted.anchor.pos) × (wanted.anchor.pos < end)) }
+    ensures point { OnTrue result ((1 ≤ wanted.point) × (wanted.point < end)) }
+    ensures height { OnTrue result (1 ≤ wanted.height) }
+{
+    let start = wanted.anchor.pos;
+    1 <= start && start < end && 1 <= wanted.point && wanted.point < end && 1 <= wanted.height
+}
+
+/// What is chosen for a window.
+fn choice<L: Ledger>(
+    alloc: Global,
+    source: &mut MemBlocks,
+    wanted: Wanted,
+    blank: Blank,
+) -> Result<Chosen, Memory>
+    requires anchor { IsWithin wanted.anchor.pos (blocks_held source.old) }
+    requires point { IsWithin wanted.point (blocks_held source.old) }
+    requires height { 1 ≤ wanted.height }
+    requires name { blank.name ≡ L.name }
+    requires parts { blank.parts ≡ L.parts }
+    requires some { 0 < L.parts }
+{
+    let mut steps = Steps::<L>::new(blank);
+    choose(alloc, source, wanted, SHAPE, &mut steps)
+}
+
+/// Whether a case is as it is to be.
+fn holds<L: Ledger>(alloc: Global, case: Case, blank: Blank) -> Result<bool, Memory>
+    requires name { blank.name ≡ L.name }
+    requires parts { blank.parts ≡ L.parts }
+    requires some { 0 < L.parts }
+{
+    let mut made = blocks_of(alloc, case.text)?;
+    if !stands(made.end, case.wanted) {
+        return Ok(false);
+    }
+    let chosen = choice::<L>(alloc, &mut made.source, case.wanted, blank)?;
+    Ok(chosen == case.chosen)
+}
+
+#[test]
+fn starts_follow_point(rt: HostRuntime) -> Result<(), Fail> {
+    let cases = following();
+    for (place, case) in cases.iter().enumerate() {
+        let holds = holds::<Brand>(rt.alloc(), *case, Blank::new(1))?;
+        assert_at(&rt, place as u32, holds);
+    }
+    Ok(())
+}
+
+#[test]
+fn forced_starts_move_point(rt: HostRuntime) -> Result<(), Fail> {
+    let cases = forced_starts();
+    for (place, case) in cases.iter().enumerate() {
+        let holds = holds::<Brand>(rt.alloc(), *case, Blank::new(1))?;
+        assert_at(&rt, place as u32, holds);
+    }
+    Ok(())
+}
