@@ -1,2 +1,3 @@
 pub mod Finite
+pub mod Greatest
 pub mod Whole

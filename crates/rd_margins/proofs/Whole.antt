@@ -1,6 +1,6 @@
 -- The cells of a line's number: their count, whole glyphs, and colours in their range.
 use Rattle.std.proofs.Common.{rules, tests, ◌≡◌, ℕ, zero, suc, ◌+◌, ◌-◌, ◌^◌, ◌<◌, ◌≤◌, Bool, true, false, List, [], ◌∷◌, ◌++◌, length, get_or, map, replicate, decimal, Some, All, refl, subst, ap, ◌∙◌, arith, length-append}
-use Rattle.std.specs.Prelude.{nat_le, if◌then◌else◌}
+use Rattle.std.specs.Prelude.{IfSome, Option, None, nat_le, if◌then◌else◌}
 use Rattle.std.proofs.lemmas.Bool.Decides.{nat_tests}
 use Rattle.std.proofs.lemmas.Fmt.{decimal_is_IsNumeral}
 use Rattle.std.proofs.lemmas.List.{get_or-replicate, length-map, length-replicate}
@@ -8,7 +8,7 @@ use Rattle.std.proofs.lemmas.List.Elements.{All-append, All-cons, All-nil, All-r
 use Rattle.std.proofs.lemmas.Str.Parse.{digit_at}
 use Rattle.unicode_width.specs.Width.{char_width}
 use Rattle.rd_base.specs.Chars.{is_scalar}
-use Rattle.rd_base.specs.Cells.{IsColoured, single}
+use Rattle.rd_base.specs.Cells.{HasColours, IsColoured, single}
 use Rattle.rd_base.specs.Faces.{plain}
 use Rattle.rd_base.specs.Glyphs.{IsGood, IsMeasured, IsRowAfter, blanks, is_space}
 use Rattle.rd_base.specs.declared.cell.Cell.{Cell}
@@ -112,3 +112,13 @@ pub number-margin : (columns line : ℕ) → line < 2 ^ 64 → IsMargin (columns
 number-margin columns line fits =
     joined-margin columns 1 (digit_cells columns (decimal line)) (Blank plain ∷ [])
     (digits-margin columns (decimal line) (λ i p. digit_at (decimal line) i (decimal_is_IsNumeral line fits).0.1 p)) (blanks-margin 1)
+
+-- a line's number, or none
+pub numbers-margin : (columns : ℕ) (line : Option ℕ) → IfSome line (λ n. n < 2 ^ 64) → IsMargin columns (number_cells columns line)
+numbers-margin columns None fits = blanks-margin columns
+numbers-margin zero (Some line) fits = blanks-margin 0
+numbers-margin (suc columns) (Some line) fits =
+    subst (λ (n : ℕ). IsMargin n (number_cells (suc columns) (Some line))) (omega arith) (number-margin columns line fits)
+
+pub plain-coloured : HasColours plain
+plain-coloured = record { fg = omega arith; bg = omega arith }

@@ -2,10 +2,12 @@
 #![tactic(auto)]
 
 mod examples;
+mod laws;
 mod lines;
 mod marks;
 mod rows;
 
+pub use laws::{margin_strings_are_the_greatest_overlays, margins_are_whole};
 pub use lines::numbers;
 pub use marks::Marks;
 pub use rows::{Widths, row_margin};

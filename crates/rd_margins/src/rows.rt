@@ -1,11 +1,12 @@
 //! The margins beside a row.
-ghost use Rattle.std.specs.Prelude.{◌≡◌, ◌+◌, IfOk, length};
+ghost use Rattle.std.specs.Prelude.{All, ◌≡◌, ◌+◌, IfOk, length};
+ghost use Rattle.rd_base.specs.Cells.{IsColoured};
 ghost use Rattle.rd_base.specs.Glyphs.{IsRowAfter};
 ghost use Rattle.rd_margins.specs.Cells.{margin_cells, row_margin};
 
 use crate::lines::numbers;
 use rd_base::{Cell, Ch, Face, ListOf, Memory};
-use rd_glyphs::plain_line;
+use rd_glyphs::{plain_line, plain_lines_are_whole};
 use rd_ucd::Classes;
 use std::alloc::Global;
 
@@ -30,6 +31,7 @@ pub fn row_margin(
     ensures value { IfOk result (λ cells. cells ≡ row_margin classes.now widths row line text.now) }
     ensures columns { IfOk result (λ cells. length cells ≡ widths.numbers + widths.strings) }
     ensures whole { IfOk result (λ cells. IsRowAfter 0 cells) }
+    ensures coloured { IfOk result (λ cells. All IsColoured cells) }
 {
     if row > 0 {
         return margin(alloc, classes, widths, None, &[]);
@@ -48,7 +50,9 @@ fn margin(
     ensures value { IfOk result (λ cells. cells ≡ margin_cells classes.now widths line text.now) }
     ensures columns { IfOk result (λ cells. length cells ≡ widths.numbers + widths.strings) }
     ensures whole { IfOk result (λ cells. IsRowAfter 0 cells) }
+    ensures coloured { IfOk result (λ cells. All IsColoured cells) }
 {
+    plain_lines_are_whole();
     let mut cells = numbers(alloc, line, widths.numbers)?;
     let string = plain_line(alloc, text, classes, Face::PLAIN, widths.strings)?;
     cells.extend_from_slice(string.as_slice())?;
