@@ -1,10 +1,11 @@
 //! What a dump says of the windows.
 ghost use Rattle.std.specs.Prelude.{◌≡◌, ◌≤◌, ◌∷◌, []};
 ghost use Rattle.std.specs.Vec.{vec_capacity};
+ghost use Rattle.rd_base.specs.declared.limits.TheConstants.{WINDOWS};
 ghost use Rattle.rd_session.specs.Facts.{facts_of};
 
-use rd_base::limits::WINDOWS;
 use rd_base::Memory;
+use rd_base::limits::WINDOWS;
 use rd_script::WindowFacts;
 use rd_session::Session;
 use std::alloc::Global;

@@ -7,8 +7,8 @@ ghost use Rattle.rd_state.specs.Edits.{is_range_of_all, overlay_making, overlay_
 ghost use Rattle.rd_state.specs.Answers.{Changes};
 ghost use Rattle.rd_state.specs.declared.refused.Refused.TheVariants.{NoOverlay};
 
-use rd_base::limits::OVERLAYS;
 use crate::refused::Refused;
+use rd_base::limits::OVERLAYS;
 use rd_overlays::{Overlay, Overlays};
 use rd_props::BufferState;
 use rd_text::Buffer;

@@ -7,8 +7,8 @@ ghost use Rattle.rd_state.specs.Fitting.{IsFitting};
 ghost use Rattle.rd_state.specs.States.{AreFew};
 ghost use Rattle.rd_state.specs.Steps.{is_made, names_made};
 
-use rd_base::limits::STRINGS;
 use rd_base::Settings;
+use rd_base::limits::STRINGS;
 use rd_objects::Objects;
 use rd_script::Setting;
 
