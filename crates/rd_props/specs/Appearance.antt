@@ -1,12 +1,11 @@
 -- What the text at a position looks like.
-use Rattle.std.specs.Prelude.{is_some, if◌then◌else◌, None}
+use Rattle.std.specs.Prelude.{None}
 use Rattle.rd_base.specs.declared.settings.Invisible as setting
 use Rattle.rd_base.specs.Faces.{plain}
-use Rattle.rd_props.specs.Shown.{hiding_of_value}
+use Rattle.rd_props.specs.Shown.{hidden_where}
 use Rattle.rd_props.specs.Seen.{Seen}
 use Rattle.rd_props.specs.declared.appearance.Appearance.{Appearance}
 use Rattle.rd_props.specs.declared.hiding.Hidden.{Hidden}
-use Rattle.rd_props.specs.declared.hiding.Hidden.TheVariants.{No}
 
 -- the values and the face of what is seen
 abbrev pub appearance_in : Seen → Appearance
@@ -24,4 +23,4 @@ nothing_seen = record { display = None; invisible = None; line_prefix = None; wr
 
 -- how a position that looks like this is hidden by a buffer's setting
 abbrev pub hidden_by : setting.Invisible → Appearance → Hidden
-hidden_by setting appearance = if is_some appearance.display then No else hiding_of_value setting appearance.invisible
+hidden_by setting appearance = hidden_where setting appearance.display appearance.invisible

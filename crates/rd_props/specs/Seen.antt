@@ -1,5 +1,5 @@
 -- What is seen at a position.
-use Rattle.std.specs.Prelude.{◌≡◌, ℕ, nat_lt, is_some, if◌then◌else◌, List, Option, None}
+use Rattle.std.specs.Prelude.{◌≡◌, ℕ, nat_lt, if◌then◌else◌, List, Option, None}
 use Rattle.rd_base.specs.Faces.{Attributes}
 use Rattle.rd_base.specs.declared.settings.Invisible as setting
 use Rattle.rd_text.specs.Texts.{TextValue, char_at}
@@ -9,9 +9,8 @@ use Rattle.rd_props.specs.Buffers.{BufferValue}
 use Rattle.rd_props.specs.Values.{effective}
 use Rattle.rd_props.specs.Faces.{face_at}
 use Rattle.rd_props.specs.Strings.{strings_at}
-use Rattle.rd_props.specs.Shown.{hiding_of_value}
+use Rattle.rd_props.specs.Shown.{hidden_where}
 use Rattle.rd_props.specs.declared.hiding.Hidden.{Hidden}
-use Rattle.rd_props.specs.declared.hiding.Hidden.TheVariants.{No}
 
 -- the character at a position, and none at the end of the accessible text
 abbrev pub accessible_char : TextValue → ℕ → Option ℕ
@@ -45,4 +44,4 @@ Agree s objects x t things y = seen_at s objects x ≡ seen_at t things y
 
 -- how a position where this is seen is hidden by a buffer's setting: not at all where it is replaced, and else as its atom hides
 abbrev pub hidden_seen : setting.Invisible → Seen → Hidden
-hidden_seen setting seen = if is_some seen.display then No else hiding_of_value setting seen.invisible
+hidden_seen setting seen = hidden_where setting seen.display seen.invisible

@@ -17,6 +17,10 @@ abbrev pub hiding_of_value : setting.Invisible → Option ℕ → Hidden
 hiding_of_value setting None = No
 hiding_of_value setting (Some atom) = hiding_of setting atom
 
+-- what has this display spec and this atom is hidden where it has no spec and the atom hides
+abbrev pub hidden_where : setting.Invisible → Option ℕ → Option ℕ → Hidden
+hidden_where setting display atom = if is_some display then No else hiding_of_value setting atom
+
 -- a position is hidden where it is not replaced and its effective atom hides
 abbrev pub hidden : BufferValue → ℕ → Hidden
-hidden s pos = if is_replaced s pos then No else hiding_of_value s.settings.invisible (effective s pos Invisible)
+hidden s pos = hidden_where s.settings.invisible (effective s pos Display) (effective s pos Invisible)
