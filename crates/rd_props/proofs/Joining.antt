@@ -1,5 +1,5 @@
 -- Two changes one after the other.
-use Rattle.std.proofs.Common.{◌≡◌, inl, inr, ℕ, ◌<◌, ◌≤◌, min, ◌∙◌, refl, arith}
+use Rattle.std.proofs.Common.{◌≡◌, inl, inr, ℕ, ◌<◌, ◌≤◌, min, max, ◌∙◌, refl, arith}
 use Rattle.std.specs.Prelude.{ℤ, pos, negsuc, ◌+ℤ◌, ◌≤ℤ◌}
 use Rattle.std.proofs.lemmas.Int.{ints}
 use Rattle.rd_objects.specs.Things.{ObjectLists}
@@ -20,14 +20,15 @@ through old middle new a b c x m y first second (inr within) =
     record { old_within = one.old_within; new_within = within; agree = one.agree ∙ two.agree }
 
 -- where a position stood between two changes, of which the second leaves it behind its own tail
-between : (x y tail : ℕ) (d e : ℤ) → pos x +ℤ (d +ℤ e) ≡ pos y → (pos tail +ℤ e) ≤ℤ pos y → (m : ℕ) × (tail ≤ m) × (pos x +ℤ d ≡ pos m) × (pos m +ℤ e ≡ pos y)
-between x y tail d e is behind = by (pos x +ℤ d) refl where
-  by : (z : ℤ) → pos x +ℤ d ≡ z → (m : ℕ) × (tail ≤ m) × (pos x +ℤ d ≡ pos m) × (pos m +ℤ e ≡ pos y)
-  by (pos m) same = (m, omega (arith, ints), same, omega (arith, ints))
+between : (x y tail begin : ℕ) (d e : ℤ) → pos x +ℤ (d +ℤ e) ≡ pos y → (pos tail +ℤ e) ≤ℤ pos y → (pos begin +ℤ e) ≤ℤ pos y
+    → (m : ℕ) × (tail ≤ m) × (begin ≤ m) × (pos x +ℤ d ≡ pos m) × (pos m +ℤ e ≡ pos y)
+between x y tail begin d e is behind low = by (pos x +ℤ d) refl where
+  by : (z : ℤ) → pos x +ℤ d ≡ z → (m : ℕ) × (tail ≤ m) × (begin ≤ m) × (pos x +ℤ d ≡ pos m) × (pos m +ℤ e ≡ pos y)
+  by (pos m) same = (m, omega (arith, ints), omega (arith, ints), same, omega (arith, ints))
   by (negsuc m) same = absurd (omega (arith, ints))
 
 module _ (old middle new : BufferValue) (a b c : ObjectLists) (head later_head tail later_tail joined : ℕ) (d e : ℤ)
-    (one : Unchanged old a middle b head tail d) (two : Unchanged middle b new c later_head later_tail e) (low : middle.text.begin ≤ tail)
+    (one : Unchanged old a middle b head tail d) (two : Unchanged middle b new c later_head later_tail e) (low : (pos middle.text.begin +ℤ e) ≤ℤ pos (max middle.text.begin later_tail))
     (first : (pos tail +ℤ e) ≤ℤ pos joined) (second : later_tail ≤ joined) where
   joined-before : (x : ℕ) → new.text.begin ≤ x → x < min head later_head → IsInReach old x new x → IsSame old a x new c x
   joined-before x begin less =
@@ -36,10 +37,11 @@ module _ (old middle new : BufferValue) (a b c : ObjectLists) (head later_head t
 
   joined-behind : (x y : ℕ) → new.text.begin ≤ y → joined ≤ y → pos x +ℤ (d +ℤ e) ≡ pos y → IsInReach old x new y → IsSame old a x new c y
   joined-behind x y begin more is =
-      let found = between x y tail d e is (omega (arith, ints)) in
+      let same = two.begin in
+      let most : max middle.text.begin later_tail ≤ y = omega arith in
+      let found = between x y tail middle.text.begin d e is (omega (arith, ints)) (omega (arith, ints)) in
       let m = found.0 in
-      let from = found.1 in
-      through old middle new a b c x m y (one.behind x m (omega arith) from found.2) (two.behind m y begin (omega arith) found.3)
+      through old middle new a b c x m y (one.behind x m found.2 found.1 found.3) (two.behind m y begin (omega arith) found.4)
 
   pub join : Unchanged old a new c (min head later_head) joined (d +ℤ e)
   join = record { begin = two.begin ∙ one.begin; before = joined-before; behind = joined-behind }
