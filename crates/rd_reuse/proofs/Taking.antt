@@ -1,6 +1,6 @@
 -- The older rows of a block, one after the other.
 use Rattle.std.proofs.Common.{◌≡◌, ℕ, zero, suc, ◌+◌, ◌-◌, ◌<◌, ◌≤◌, ◌&&◌, ◌==◌, Bool, true, false, if◌then◌else◌, List, [], ◌∷◌, ◌++◌, length, drop, find, slice_get, Option, None, Some, refl, sym, ap, ◌∙◌, arith}
-use Rattle.std.proofs.lemmas.Bool.{and_parts, eqb-true}
+use Rattle.std.proofs.lemmas.Bool.{and_from, and_parts, eq-eqb, eqb-true}
 use Rattle.std.proofs.lemmas.List.{append-nil, append_assoc}
 use Rattle.std.specs.List.{list_all}
 use Rattle.rd_base.specs.declared.settings.Wrap.{Wrap}
@@ -131,3 +131,24 @@ same-shape a b e =
     let both = and_parts ((a.width == b.width) && (a.hscroll == b.hscroll)) (is_same_wrap a.wrap b.wrap) e in
     let numbers = and_parts (a.width == b.width) (a.hscroll == b.hscroll) both.0 in
     equal-shapes a b (eqb-true a.width b.width numbers.0) (same-wrap a.wrap b.wrap both.1) (eqb-true a.hscroll b.hscroll numbers.1)
+
+wrap-itself : (a : Wrap) → is_same_wrap a a ≡ true
+wrap-itself Truncate = refl
+wrap-itself Continue = refl
+wrap-itself Word = refl
+
+-- a shape is itself
+pub shape-itself : (a : ShapeValues) → is_same_shape a a ≡ true
+shape-itself a =
+    and_from ((a.width == a.width) && (a.hscroll == a.hscroll)) (is_same_wrap a.wrap a.wrap)
+    (and_from (a.width == a.width) (a.hscroll == a.hscroll) (eq-eqb a.width a.width refl) (eq-eqb a.hscroll a.hscroll refl)) (wrap-itself a.wrap)
+
+-- the parts of a source with kept rows
+pub kept-parts : {S : Type 0} (s : S) (old : List Entry) (c : Change) (shape : ShapeValues) (k : S × List Entry × Change × ShapeValues) → (s, old, c, shape) ≡ k
+    → (s ≡ k.0) × (old ≡ k.1) × (c ≡ k.2) × (shape ≡ k.3)
+kept-parts {S} s old c shape k e = (
+  ap (λ (x : S × List Entry × Change × ShapeValues). x.0) e,
+  ap (λ (x : S × List Entry × Change × ShapeValues). x.1) e,
+  ap (λ (x : S × List Entry × Change × ShapeValues). x.2) e,
+  ap (λ (x : S × List Entry × Change × ShapeValues). x.3) e,
+)

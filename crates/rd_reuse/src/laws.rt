@@ -6,7 +6,7 @@ ghost use Rattle.rd_matrix.specs.Sources.{SourceValues, IsSource, rows_at};
 ghost use Rattle.rd_matrix.specs.declared.block.Block.{Block};
 ghost use Rattle.rd_matrix.specs.declared.matrix.Entry.{Entry};
 ghost use Rattle.rd_reuse.specs.Changes.{IsChange, all, join, moved, none};
-ghost use Rattle.rd_reuse.specs.Keeping.{AreRight, is_kept};
+ghost use Rattle.rd_reuse.specs.Keeping.{AreRight, fresh_cost, is_kept, kept_source};
 ghost use Rattle.rd_reuse.specs.Views.{Names};
 ghost use Rattle.rd_reuse.specs.declared.change.Change.{Change};
 ghost use Rattle.rd_rows.specs.Shapes.{ShapeValues};
@@ -32,4 +32,9 @@ pub fn all_keeps_no_block()
 /// The position of an anchor that names a row of a source is a position of its blocks.
 pub fn an_anchor_of_a_row_is_within()
     ensures { (m : SourceValues) (shape : ShapeValues) (anchor : Anchor) (place : ℕ) → IsSource m → Names anchor (rows_at m shape) place → IsWithin anchor.pos m.blocks }
+{}
+
+/// At the shape of its kept rows a source with such rows costs what its blocks cost that do not keep them.
+pub fn kept_rows_cost_nothing()
+    ensures { (m : SourceValues) (old : List Entry) (c : Change) (shape : ShapeValues) (b : Block) → (kept_source m old c shape).cost_of b shape ≡ fresh_cost m old c shape b }
 {}

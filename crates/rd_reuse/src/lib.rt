@@ -12,5 +12,6 @@ pub use change::Change;
 pub use kept::Kept;
 pub use laws::{
     all_keeps_no_block, an_anchor_of_a_row_is_within, joined_with_all, joined_with_none,
+    kept_rows_cost_nothing,
 };
 pub use layout::relay;
