@@ -1,0 +1,5 @@
+pub mod Choices
+pub mod Laws
+pub mod Numbers
+pub mod Plans
+pub mod Shifts
