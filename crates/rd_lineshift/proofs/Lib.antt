@@ -1,0 +1,7 @@
+mod Counting
+mod Keeping
+mod Moving
+mod Pricing
+mod Reaching
+mod Sameness
+mod Sending

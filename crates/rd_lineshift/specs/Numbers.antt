@@ -1,14 +1,49 @@
 -- Rows that are numbered, so that equal rows have equal numbers.
-use Rattle.std.specs.Prelude.{ℕ, suc, ◌==◌, if◌then◌else◌, List, [], ◌∷◌}
+use Rattle.std.specs.Prelude.{ℕ, suc, ◌+◌, ◌*◌, ◌%◌, ◌^◌, ◌==◌, nat_le, if◌then◌else◌, List, [], ◌∷◌, Option, None, Some, slice_index}
+use Rattle.rd_base.specs.Cells.{words_of}
 use Rattle.rd_base.specs.declared.cell.Cell.{Cell}
 use Rattle.rd_update.specs.Updates.{differs}
+use Rattle.rd_lineshift.specs.Shifts.{shifted_rows}
+use Rattle.rd_lineshift.specs.declared.band.Shift.{Shift}
+use Rattle.rd_lineshift.specs.declared.choice.Priced.{Priced}
 
 -- the number of the first of these rows that does not differ from a row, and how many they are where each does
 abbrev pub number_in : List (List Cell) → List Cell → ℕ
 number_in [] row = 0
 number_in (x ∷ xs) row = if differs x row then suc (number_in xs row) else 0
 
+-- a row's print, a number made of the words of its cells: rows of different prints differ
+abbrev pub mixed : ℕ → ℕ → ℕ
+mixed print word = (print * 1099511628211 % 2 ^ 64 + word) % 2 ^ 64
+
+abbrev pub print_with : ℕ → List ℕ → ℕ
+print_with print words = mixed (mixed (mixed print (slice_index words 0)) (slice_index words 1)) (slice_index words 2)
+
+abbrev pub print_from : ℕ → List Cell → ℕ
+print_from print [] = print
+print_from print (cell ∷ cells) = print_from (print_with print (words_of cell)) cells
+
 -- at how many places two lists of numbers differ
 abbrev pub unlike : List ℕ → List ℕ → ℕ
 unlike (x ∷ xs) (y ∷ ys) = if x == y then unlike xs ys else suc (unlike xs ys)
 unlike _ _ = 0
+
+-- the cost of a shift, by the numbers of the rows of both screens and the number of a blank row
+abbrev pub number_cost : List ℕ → List ℕ → ℕ → Shift → ℕ
+number_cost old new blank s = unlike (shifted_rows s blank old) new
+
+-- a shift with its cost
+abbrev pub priced : (Shift → ℕ) → Option Shift → Option Priced
+priced cost_of None = None
+priced cost_of (Some s) = Some (record { shift = s; cost = cost_of s })
+
+-- one of two, the second only where it costs less
+abbrev pub lesser : Option Priced → Option Priced → Option Priced
+lesser None other = other
+lesser (Some p) None = Some p
+lesser (Some p) (Some other) = if nat_le p.cost other.cost then Some p else Some other
+
+-- a shift that spares three of so many rows
+abbrev pub gained : ℕ → Option Priced → Option Shift
+gained rows None = None
+gained rows (Some p) = if nat_le (p.cost + 3) rows then Some p.shift else None

@@ -2,6 +2,19 @@
 #![tactic(auto)]
 
 mod band;
+mod bytes;
+mod choice;
 mod examples;
+mod law;
+mod numbers;
+mod plan;
+mod rows;
+mod screens;
 
 pub use band::{Band, Shift};
+pub use choice::shift_of;
+pub use law::{
+    shift_law, shifted_updates_keep_screens_sound, shifted_updates_reach_their_targets,
+    shifts_stay_on_the_screen,
+};
+pub use plan::{Shifted, shifted_plan};

@@ -1,0 +1,100 @@
+-- The new current screen of an update that may begin with a shift.
+use Rattle.std.proofs.Common.{◌≡◌, ℕ, ◌<◌, ◌≤◌, true, List, length, Option, None, Some, subst, ◌∙◌, arith, All}
+use Rattle.std.specs.Prelude.{IfSome}
+use Rattle.std.proofs.lemmas.List.Elements.{All-replicate}
+use Rattle.rd_base.specs.Cells.{IsColoured}
+use Rattle.rd_base.specs.Glyphs.{IsRowAfter}
+use Rattle.rd_base.specs.declared.cell.Cell.{Cell}
+use Rattle.rd_term.specs.Pictures.{Picture, IsScreen, blank, blank_row, width_of}
+use Rattle.rd_update.specs.Laws.{IsSound}
+use Rattle.rd_update.specs.Plans.{HaveOneSize}
+use Rattle.rd_update.specs.Updates.{update}
+use Rattle.rd_update.proofs.Soundness.{blanks-whole}
+use Rattle.rd_lineshift.specs.Choices.{AreWithin, choice}
+use Rattle.rd_lineshift.specs.Laws.{IsShift}
+use Rattle.rd_lineshift.specs.Plans.{after_shift, shifted_update, shifting}
+use Rattle.rd_lineshift.specs.Shifts.{shifted}
+use Rattle.rd_lineshift.specs.declared.band.Band.{Band}
+use Rattle.rd_lineshift.specs.declared.band.Shift.{Shift}
+use Rattle.rd_lineshift.proofs.Moving.{shifted-all}
+use Rattle.rd_lineshift.proofs.Reaching.{shifted-size, taken-fits, width-is}
+
+shifted-sized : (s : Shift) (screen : Picture) → IsScreen screen → IsShift (length screen.rows) s
+    → (length (shifted s screen).rows ≡ length screen.rows) × (width_of (shifted s screen).rows ≡ width_of screen.rows)
+shifted-sized s screen p fits =
+    let size = shifted-size (width_of screen.rows) (length screen.rows) s screen p.size fits in
+    let some = p.size.row in
+    (size.rows, width-is (width_of screen.rows) (shifted s screen).rows size.each (omega (arith, size.rows, some)))
+
+pub after-sized : (current : Option Picture) (target : Picture) (taken : Option Shift) → HaveOneSize current target → IfSome current (λ screen. IsScreen screen)
+    → IfSome taken (λ s. IsShift (length target.rows) s) → HaveOneSize (after_shift taken current) target
+after-sized None target None h p q = h
+after-sized None target (Some s) h p q = h
+after-sized (Some screen) target None h p q = h
+after-sized (Some screen) target (Some s) h p q =
+    let fits : IsShift (length screen.rows) s = rw h.0 q in
+    let size = shifted-sized s screen p fits in
+    (size.0 ∙ h.0, size.1 ∙ h.1)
+
+-- the screen that is kept
+pub moved-sized : (taken : Option Shift) (current : Option Picture) (target old moved : Picture) → current ≡ Some old → (shifting taken current target).screen ≡ Some moved
+    → HaveOneSize current target → IsScreen old → IfSome taken (λ s. IsShift (length target.rows) s) → HaveOneSize (Some moved) target
+moved-sized None current target old moved e f h p q = absurd (cc)
+moved-sized (Some s) None target old moved e f h p q = absurd (cc)
+moved-sized (Some s) (Some screen) target old moved e f h p q =
+    let is : old ≡ screen = cc in
+    let here : IsScreen screen = subst IsScreen is p in
+    subst (λ o. IfSome o (λ (m : Picture). HaveOneSize (Some m) target)) f (after-sized (Some screen) target (Some s) h here q)
+
+blank-coloured : IsColoured blank
+blank-coloured = record { fg = omega arith; bg = omega arith }
+
+pub shifted-sound : (s : Shift) (screen : Picture) → IsScreen screen → IsSound screen → IsShift (length screen.rows) s → IsSound (shifted s screen)
+shifted-sound s screen p sound fits =
+    let v = width_of screen.rows in
+    let size = shifted-sized s screen p fits in
+    record {
+      whole = record {
+        glyphs = shifted-all (λ (row : List Cell). IsRowAfter 0 row) s (blank_row v) screen.rows (blanks-whole v) sound.whole.glyphs;
+        row = omega (arith, size.0, sound.whole.row);
+        column = omega (arith, size.1, sound.whole.column);
+      };
+      colours = shifted-all (λ (row : List Cell). All IsColoured row) s (blank_row v) screen.rows (All-replicate IsColoured v blank blank-coloured) sound.colours;
+    }
+
+pub after-sound : (current : Option Picture) (target : Picture) (taken : Option Shift) → HaveOneSize current target → IfSome current (λ screen. IsScreen screen × IsSound screen)
+    → IfSome taken (λ s. IsShift (length target.rows) s) → IfSome (after_shift taken current) (λ screen. IsSound screen)
+after-sound None target None h p q = tt
+after-sound None target (Some s) h p q = tt
+after-sound (Some screen) target None h p q = p.1
+after-sound (Some screen) target (Some s) h p q =
+    let fits : IsShift (length screen.rows) s = rw h.0 q in
+    shifted-sound s screen p.0 p.1 fits
+
+only-screens : (current : Option Picture) → IfSome current (λ screen. IsScreen screen × IsSound screen) → IfSome current (λ screen. IsScreen screen)
+only-screens None p = tt
+only-screens (Some screen) p = p.0
+
+-- ---- by the laws of updates
+
+pub reached : ((current : Option Picture) (target : Picture) (limit : Option ℕ) → HaveOneSize current target → (update current target limit).done ≡ true → (update current target limit).screen ≡ target)
+    → (current : Option Picture) (target : Picture) (bands : List Band) (limit : Option ℕ) → HaveOneSize current target → IfSome current (λ screen. IsScreen screen)
+    → AreWithin (length target.rows) bands → (shifted_update current target bands limit).done ≡ true → (shifted_update current target bands limit).screen ≡ target
+reached law current target bands limit h p within done =
+    law (after_shift (choice current target bands) current) target limit
+    (after-sized current target (choice current target bands) h p (taken-fits (length target.rows) current target bands within)) done
+
+pub sized : ((current : Option Picture) (target : Picture) (limit : Option ℕ) → HaveOneSize current target → HaveOneSize (Some (update current target limit).screen) target)
+    → (current : Option Picture) (target : Picture) (bands : List Band) (limit : Option ℕ) → HaveOneSize current target → IfSome current (λ screen. IsScreen screen)
+    → AreWithin (length target.rows) bands → HaveOneSize (Some (shifted_update current target bands limit).screen) target
+sized law current target bands limit h p within =
+    law (after_shift (choice current target bands) current) target limit
+    (after-sized current target (choice current target bands) h p (taken-fits (length target.rows) current target bands within))
+
+pub sound : ((current : Option Picture) (target : Picture) (limit : Option ℕ) → HaveOneSize current target → IfSome current (λ screen. IsSound screen) → IsSound target → IsSound (update current target limit).screen)
+    → (current : Option Picture) (target : Picture) (bands : List Band) (limit : Option ℕ) → HaveOneSize current target → IfSome current (λ screen. IsScreen screen × IsSound screen)
+    → AreWithin (length target.rows) bands → IsSound target → IsSound (shifted_update current target bands limit).screen
+sound law current target bands limit h p within t =
+    let taken = choice current target bands in
+    let fits = taken-fits (length target.rows) current target bands within in
+    law (after_shift taken current) target limit (after-sized current target taken h (only-screens current p) fits) (after-sound current target taken h p fits) t

@@ -1,0 +1,287 @@
+-- Rows that are moved.
+use Rattle.std.proofs.Common.{◌≡◌, ℕ, zero, suc, ◌+◌, ◌-◌, ◌<◌, ◌≤◌, true, false, List, [], ◌∷◌, ◌++◌, length, get_or, map, take, drop, replicate, refl, sym, ap, ap₂, ◌∙◌, arith, append_assoc, All}
+use Rattle.std.specs.Prelude.{ℤ, pos, negsuc, neg_ℤ, unsigned_abs}
+use Rattle.std.specs.List.{AllByRecursion}
+use Rattle.std.proofs.lemmas.List.{get_or_append_left, get_or-append_right, get_or-take, get_or-drop, get_or-replicate, map-append, length-map, length-append, length-take-le, length-drop, length-replicate, take_all, take-map, drop-map, drop-take, drop-drop, take-take, take-append-drop}
+use Rattle.std.proofs.lemmas.List.Elements.{recursion_from_All, All-append, All-take, All-drop, All-replicate}
+use Rattle.rd_base.specs.declared.cell.Cell.{Cell}
+use Rattle.rd_term.specs.Pictures.{Picture, IsGrid, blank, blank_row, width_of}
+use Rattle.rd_term.proofs.Cutting.{map-replicate}
+use Rattle.rd_update.specs.Updates.{differing}
+use Rattle.rd_update.proofs.Spans.{three-parts}
+use Rattle.rd_lineshift.specs.Choices.{cost, shift_by}
+use Rattle.rd_lineshift.specs.Laws.{IsShift, is_up}
+use Rattle.rd_lineshift.specs.Numbers.{number_cost, number_in, unlike}
+use Rattle.rd_lineshift.specs.Shifts.{moved, shifted_rows}
+use Rattle.rd_lineshift.specs.declared.band.Band.{Band}
+use Rattle.rd_lineshift.specs.declared.band.Shift.{Shift}
+use Rattle.rd_lineshift.proofs.Counting.{IsIn, all-in, counted, unlike-append}
+
+-- ---- what is kept
+
+map-moved : {A B : Type 0} (f : A → B) (by : ℤ) (free : A) (rows : List A) → map f (moved by free rows) ≡ moved by (f free) (map f rows)
+map-moved f (pos n) free rows =
+    map-append f (drop n rows) (replicate n free)
+    ∙ ap₂ (λ xs ys. xs ++ ys) (sym (drop-map f n rows)) (map-replicate f n free)
+map-moved f (negsuc n) free rows =
+    map-append f (replicate (suc n) free) (take (length rows - suc n) rows)
+    ∙ ap₂ (λ xs ys. xs ++ ys) (map-replicate f (suc n) free) (sym (take-map f (length rows - suc n) rows))
+    ∙ ap (λ k. replicate (suc n) (f free) ++ take (k - suc n) (map f rows)) (sym (length-map rows f))
+
+pub map-shifted : {A B : Type 0} (f : A → B) (s : Shift) (free : A) (rows : List A) → map f (shifted_rows s free rows) ≡ shifted_rows s (f free) (map f rows)
+map-shifted f s free rows =
+    let end = s.top + s.height in
+    let part = take (end - s.top) (drop s.top rows) in
+    map-append f (take s.top rows) (moved s.by free part ++ drop end rows)
+    ∙ ap (λ ys. map f (take s.top rows) ++ ys) (map-append f (moved s.by free part) (drop end rows))
+    ∙ ap (λ xs. xs ++ (map f (moved s.by free part) ++ map f (drop end rows))) (sym (take-map f s.top rows))
+    ∙ ap (λ ys. take s.top (map f rows) ++ (map f (moved s.by free part) ++ ys)) (sym (drop-map f end rows))
+    ∙ ap (λ ys. take s.top (map f rows) ++ (ys ++ drop end (map f rows))) (map-moved f s.by free part)
+    ∙ ap (λ ys. take s.top (map f rows) ++ (moved s.by (f free) ys ++ drop end (map f rows))) (
+    sym (take-map f (end - s.top) (drop s.top rows)) ∙ ap (take (end - s.top)) (sym (drop-map f s.top rows)))
+
+moved-all : {A : Type 0} (P : A → Type 0) (by : ℤ) (free : A) (rows : List A) → P free → All P rows → All P (moved by free rows)
+moved-all P (pos n) free rows p h = All-append P (drop n rows) (replicate n free) (All-drop P n rows h) (All-replicate P n free p)
+moved-all P (negsuc n) free rows p h =
+    All-append P (replicate (suc n) free) (take (length rows - suc n) rows) (All-replicate P (suc n) free p) (All-take P (length rows - suc n) rows h)
+
+pub shifted-all : {A : Type 0} (P : A → Type 0) (s : Shift) (free : A) (rows : List A) → P free → All P rows → All P (shifted_rows s free rows)
+shifted-all P s free rows p h =
+    let end = s.top + s.height in
+    let part = take (end - s.top) (drop s.top rows) in
+    All-append P (take s.top rows) (moved s.by free part ++ drop end rows) (All-take P s.top rows h)
+    (All-append P (moved s.by free part) (drop end rows)
+    (moved-all P s.by free part p (All-take P (end - s.top) (drop s.top rows) (All-drop P s.top rows h)))
+    (All-drop P end rows h))
+
+moved-length : {A : Type 0} (by : ℤ) (free : A) (rows : List A) → unsigned_abs by ≤ length rows → length (moved by free rows) ≡ length rows
+moved-length (pos n) free rows le = length-append (drop n rows) (replicate n free) ∙ omega (arith, length-drop n rows, length-replicate n free)
+moved-length (negsuc n) free rows le =
+    length-append (replicate (suc n) free) (take (length rows - suc n) rows)
+    ∙ omega (arith, length-take-le (length rows - suc n) rows (omega arith), length-replicate (suc n) free)
+
+pub shifted-length : {A : Type 0} (s : Shift) (free : A) (rows : List A) → IsShift (length rows) s → length (shifted_rows s free rows) ≡ length rows
+shifted-length s free rows h =
+    let end = s.top + s.height in
+    let part = take (end - s.top) (drop s.top rows) in
+    let n : length part ≡ s.height = length-take-le (end - s.top) (drop s.top rows) (omega (arith, length-drop s.top rows, h.within)) ∙ omega arith in
+    length-append (take s.top rows) (moved s.by free part ++ drop end rows)
+    ∙ omega (
+      arith,
+      h.within,
+      n,
+      length-append (moved s.by free part) (drop end rows),
+      moved-length s.by free part (omega (arith, n, h.left)),
+      length-take-le s.top rows (omega (arith, h.within)),
+      length-drop end rows,
+    )
+
+-- ---- costs by numbers
+
+pub cost-told : (current target : Picture) (w : ℕ) (s : Shift) → IsGrid w current.rows → IsGrid w target.rows → width_of current.rows ≡ w
+    → number_cost (map (number_in target.rows) current.rows) (map (number_in target.rows) target.rows) (number_in target.rows (blank_row w)) s ≡ cost current target s
+cost-told current target w s old new e =
+    let f = number_in target.rows in
+    let after = shifted_rows s (blank_row w) current.rows in
+    let wide = shifted-all (λ (r : List Cell). length r ≡ w) s (blank_row w) current.rows (length-replicate w blank) old in
+    ap (λ xs. unlike xs (map f target.rows)) (sym (map-shifted f s (blank_row w) current.rows))
+    ∙ counted w target.rows after target.rows (recursion_from_All (λ r. length r ≡ w) target.rows new) (recursion_from_All (λ r. length r ≡ w) after wide)
+    (recursion_from_All (λ r. length r ≡ w) target.rows new) (all-in target.rows)
+    ∙ ap (λ k. differing (shifted_rows s (blank_row k) current.rows) target.rows) (sym e)
+
+part-length : (xs : List ℕ) (top height : ℕ) → top + height ≤ length xs → length (take (top + height - top) (drop top xs)) ≡ height
+part-length xs top height le = length-take-le (top + height - top) (drop top xs) (omega (arith, length-drop top xs)) ∙ omega arith
+
+-- the cost in four parts: above the band, in what is moved and what comes in, and below
+in-parts : (old new change : List ℕ) (top height : ℕ) → length old ≡ length new → top + height ≤ length new → length change ≡ height
+    → unlike (take top old ++ (change ++ drop (top + height) old)) new
+    ≡ unlike (take top old) (take top new) + (unlike change (take (top + height - top) (drop top new)) + unlike (drop (top + height) old) (drop (top + height) new))
+in-parts old new change top height same le n =
+    let part = take (top + height - top) (drop top new) in
+    let below = drop (top + height) new in
+    let long : length (take top old) ≡ length (take top new) = length-take-le top old (omega arith) ∙ sym (length-take-le top new (omega arith)) in
+    ap (unlike (take top old ++ (change ++ drop (top + height) old))) (sym (three-parts top (top + height) new (omega arith)))
+    ∙ unlike-append (take top old) (change ++ drop (top + height) old) (take top new) (part ++ below) long
+    ∙ ap (λ k. unlike (take top old) (take top new) + k) (unlike-append change (drop (top + height) old) part below (n ∙ sym (part-length new top height le)))
+
+-- a part of a part
+inner : (xs : List ℕ) (t k a m : ℕ) → a + m ≤ k → take m (drop a (take k (drop t xs))) ≡ take m (drop (t + a) xs)
+inner xs t k a m le =
+    let sum : a + (k - a) ≡ k = omega arith in
+    ap (λ j. take m (drop a (take j (drop t xs)))) (sym sum)
+    ∙ ap (take m) (drop-take a (k - a) (drop t xs))
+    ∙ take-take m (k - a) (drop a (drop t xs)) (omega arith)
+    ∙ ap (take m) (drop-drop a t xs)
+
+front-of : (xs : List ℕ) (t h m : ℕ) → m ≤ h → take m (take (t + h - t) (drop t xs)) ≡ take m (drop t xs)
+front-of xs t h m le = take-take m (t + h - t) (drop t xs) (omega arith)
+
+back-of : (xs : List ℕ) (t h a m : ℕ) → t + h ≤ length xs → a + m ≡ h → drop a (take (t + h - t) (drop t xs)) ≡ take m (drop (t + a) xs)
+back-of xs t h a m le e =
+    let part = take (t + h - t) (drop t xs) in
+    let n : length (drop a part) ≤ m = omega (arith, length-drop a part, part-length xs t h le) in
+    sym (take_all m (drop a part) n) ∙ inner xs t (t + h - t) a m (omega arith)
+
+-- a cost where rows move up, by the parts that are compared
+pub up-cost : (old new : List ℕ) (blank t h n : ℕ) (a b c : List ℕ) → length old ≡ length new → t + h ≤ length new → n ≤ h
+    → a ≡ take (h - n) (drop (t + n) old) → b ≡ take (h - n) (drop t new) → c ≡ take n (drop (t + (h - n)) new)
+    → unlike (take t old) (take t new) + (unlike a b + unlike (replicate (length c) blank) c + unlike (drop (t + h) old) (drop (t + h) new))
+    ≡ number_cost old new blank (record { top = t; height = h; by = pos n })
+up-cost old new blank t h n a b c same le fits ea eb ec =
+    let P = take (t + h - t) (drop t old) in
+    let Q = take (t + h - t) (drop t new) in
+    let free = replicate n blank in
+    let inside : t + h ≤ length old = omega arith in
+    let kept = back-of old t h n (h - n) inside (omega arith) in
+    let rest = back-of new t h (h - n) n le (omega arith) in
+    let first = front-of new t h (h - n) (omega arith) in
+    let lp = part-length old t h inside in
+    let lq = part-length new t h le in
+    let long : length (drop n P) ≡ length (take (h - n) Q) = omega (arith, length-drop n P, lp, length-take-le (h - n) Q (omega (arith, lq))) in
+    let many : length c ≡ n = ap length ec ∙ ap length (sym rest) ∙ omega (arith, length-drop (h - n) Q, lq) in
+    let change : length (drop n P ++ free) ≡ h = omega (arith, length-append (drop n P) free, length-drop n P, lp, length-replicate n blank) in
+    let split : unlike (drop n P ++ free) Q ≡ unlike a b + unlike (replicate (length c) blank) c =
+    ap (unlike (drop n P ++ free)) (sym (take-append-drop (h - n) Q))
+    ∙ unlike-append (drop n P) free (take (h - n) Q) (drop (h - n) Q) long
+    ∙ ap₂ (λ x y. x + y) (ap₂ unlike (kept ∙ sym ea) (first ∙ sym eb)) (ap₂ unlike (ap (λ k. replicate k blank) (sym many)) (rest ∙ sym ec)) in
+    sym (
+    in-parts old new (drop n P ++ free) t h same le change
+    ∙ ap (λ k. unlike (take t old) (take t new) + (k + unlike (drop (t + h) old) (drop (t + h) new))) split)
+
+-- and where they move down
+pub down-cost : (old new : List ℕ) (blank t h n : ℕ) (a b c : List ℕ) → length old ≡ length new → t + h ≤ length new → 1 ≤ n → n ≤ h
+    → a ≡ take (h - n) (drop t old) → b ≡ take (h - n) (drop (t + n) new) → c ≡ take n (drop t new)
+    → unlike (take t old) (take t new) + (unlike (replicate (length c) blank) c + unlike a b + unlike (drop (t + h) old) (drop (t + h) new))
+    ≡ number_cost old new blank (record { top = t; height = h; by = neg_ℤ (pos n) })
+down-cost old new blank t h zero a b c same le some fits ea eb ec = absurd (omega arith)
+down-cost old new blank t h (suc k) a b c same le some fits ea eb ec =
+    let n = suc k in
+    let P = take (t + h - t) (drop t old) in
+    let Q = take (t + h - t) (drop t new) in
+    let free = replicate (suc k) blank in
+    let inside : t + h ≤ length old = omega arith in
+    let lp = part-length old t h inside in
+    let lq = part-length new t h le in
+    let kept = ap (λ j. take (j - n) P) lp ∙ front-of old t h (h - n) (omega arith) in
+    let rest = back-of new t h n (h - n) le (omega arith) in
+    let first = front-of new t h n fits in
+    let fl : length (take n Q) ≡ suc k = length-take-le n Q (omega (arith, lq)) in
+    let many : length c ≡ n = ap length ec ∙ ap length (sym first) ∙ fl in
+    let moved_rows = take (length P - n) P in
+    let ml : length (take (length P - suc k) P) ≡ h - suc k = length-take-le (length P - n) P (omega arith) ∙ omega (arith, lp) in
+    let change : length (free ++ moved_rows) ≡ h = omega (arith, length-append free moved_rows, ml, length-replicate (suc k) blank) in
+    let long : length free ≡ length (take n Q) = length-replicate (suc k) blank ∙ sym fl in
+    let split : unlike (free ++ moved_rows) Q ≡ unlike (replicate (length c) blank) c + unlike a b =
+    ap (unlike (free ++ moved_rows)) (sym (take-append-drop n Q))
+    ∙ unlike-append free moved_rows (take n Q) (drop n Q) long
+    ∙ ap₂ (λ x y. x + y) (ap₂ unlike (ap (λ j. replicate j blank) (sym many)) (first ∙ sym ec)) (ap₂ unlike (kept ∙ sym ea) (rest ∙ sym eb)) in
+    sym (
+    in-parts old new (free ++ moved_rows) t h same le change
+    ∙ ap (λ j. unlike (take t old) (take t new) + (j + unlike (drop (t + h) old) (drop (t + h) new))) split)
+
+-- ---- the rows after a shift, one by one
+
+row-part : (s : Shift) (rows : List (List Cell)) → s.top + s.height ≤ length rows → length (take (s.top + s.height - s.top) (drop s.top rows)) ≡ s.height
+row-part s rows within = length-take-le (s.top + s.height - s.top) (drop s.top rows) (omega (arith, length-drop s.top rows)) ∙ omega arith
+
+pub row-above : (s : Shift) (free : List Cell) (rows : List (List Cell)) (row : ℕ) → s.top + s.height ≤ length rows → row < s.top
+    → get_or rows row [] ≡ get_or (shifted_rows s free rows) row []
+row-above s free rows row within lt =
+    let rest = moved s.by free (take (s.top + s.height - s.top) (drop s.top rows)) ++ drop (s.top + s.height) rows in
+    let n : length (take s.top rows) ≡ s.top = length-take-le s.top rows (omega arith) in
+    sym (get_or_append_left (take s.top rows) rest [] row (omega (arith, n)) ∙ get_or-take s.top rows row [] lt)
+
+row-behind : (s : Shift) (free : List Cell) (rows : List (List Cell)) (row : ℕ) → s.top + s.height ≤ length rows → s.top ≤ row
+    → get_or (shifted_rows s free rows) row [] ≡ get_or (moved s.by free (take (s.top + s.height - s.top) (drop s.top rows)) ++ drop (s.top + s.height) rows) (row - s.top) []
+row-behind s free rows row within le =
+    let rest = moved s.by free (take (s.top + s.height - s.top) (drop s.top rows)) ++ drop (s.top + s.height) rows in
+    get_or-append_right (take s.top rows) rest s.top row [] (length-take-le s.top rows (omega arith)) le
+
+moved-long : (s : Shift) (free : List Cell) (rows : List (List Cell)) → IsShift (length rows) s → length (moved s.by free (take (s.top + s.height - s.top) (drop s.top rows))) ≡ s.height
+moved-long s free rows h =
+    let n = row-part s rows h.within in
+    moved-length s.by free (take (s.top + s.height - s.top) (drop s.top rows)) (omega (arith, n, h.left)) ∙ n
+
+pub row-below : (s : Shift) (free : List Cell) (rows : List (List Cell)) (row : ℕ) → IsShift (length rows) s → s.top + s.height ≤ row
+    → get_or rows row [] ≡ get_or (shifted_rows s free rows) row []
+row-below s free rows row h le =
+    let change = moved s.by free (take (s.top + s.height - s.top) (drop s.top rows)) in
+    let place : s.top + s.height + (row - s.top - s.height) ≡ row = omega arith in
+    sym (
+    row-behind s free rows row h.within (omega arith)
+    ∙ get_or-append_right change (drop (s.top + s.height) rows) s.height (row - s.top) [] (moved-long s free rows h) (omega arith)
+    ∙ get_or-drop (s.top + s.height) rows (row - s.top - s.height) []
+    ∙ ap (λ k. get_or rows k []) place)
+
+row-within : (s : Shift) (free : List Cell) (rows : List (List Cell)) (row : ℕ) → IsShift (length rows) s → s.top ≤ row → row < s.top + s.height
+    → get_or (shifted_rows s free rows) row [] ≡ get_or (moved s.by free (take (s.top + s.height - s.top) (drop s.top rows))) (row - s.top) []
+row-within s free rows row h le lt =
+    let change = moved s.by free (take (s.top + s.height - s.top) (drop s.top rows)) in
+    row-behind s free rows row h.within le
+    ∙ get_or_append_left change (drop (s.top + s.height) rows) [] (row - s.top) (omega (arith, moved-long s free rows h))
+
+-- a row of the band
+part-row : (rows : List (List Cell)) (t h k : ℕ) → k < h → get_or (take (t + h - t) (drop t rows)) k [] ≡ get_or rows (t + k) []
+part-row rows t h k lt = get_or-take (t + h - t) (drop t rows) k [] (omega arith) ∙ get_or-drop t rows k []
+
+up-kept : (by : ℤ) (free : List Cell) (P : List (List Cell)) (k : ℕ) → is_up by ≡ true → k + unsigned_abs by < length P → get_or (moved by free P) k [] ≡ get_or P (unsigned_abs by + k) []
+up-kept (pos n) free P k up lt = get_or_append_left (drop n P) (replicate n free) [] k (omega (arith, length-drop n P)) ∙ get_or-drop n P k []
+up-kept (negsuc n) free P k up lt = absurd (cc)
+
+up-free : (by : ℤ) (free : List Cell) (P : List (List Cell)) (k : ℕ) → is_up by ≡ true → unsigned_abs by ≤ length P → length P ≤ k + unsigned_abs by → k < length P → get_or (moved by free P) k [] ≡ free
+up-free (pos n) free P k up fits le lt =
+    get_or-append_right (drop n P) (replicate n free) (length P - n) k [] (length-drop n P) (omega arith)
+    ∙ get_or-replicate n (k - (length P - n)) free [] (omega arith)
+up-free (negsuc n) free P k up fits le lt = absurd (cc)
+
+down-kept : (by : ℤ) (free : List Cell) (P : List (List Cell)) (k : ℕ) → is_up by ≡ false → unsigned_abs by ≤ k → k < length P → get_or (moved by free P) k [] ≡ get_or P (k - unsigned_abs by) []
+down-kept (pos n) free P k up le lt = absurd (cc)
+down-kept (negsuc n) free P k up le lt =
+    get_or-append_right (replicate (suc n) free) (take (length P - suc n) P) (suc n) k [] (length-replicate (suc n) free) le
+    ∙ get_or-take (length P - suc n) P (k - suc n) [] (omega arith)
+
+down-free : (by : ℤ) (free : List Cell) (P : List (List Cell)) (k : ℕ) → is_up by ≡ false → k < unsigned_abs by → get_or (moved by free P) k [] ≡ free
+down-free (pos n) free P k up lt = absurd (cc)
+down-free (negsuc n) free P k up lt =
+    get_or_append_left (replicate (suc n) free) (take (length P - suc n) P) [] k (omega (arith, length-replicate (suc n) free))
+    ∙ get_or-replicate (suc n) k free [] lt
+
+pub row-up : (s : Shift) (free : List Cell) (rows : List (List Cell)) (row : ℕ) → IsShift (length rows) s → is_up s.by ≡ true → s.top ≤ row → row + unsigned_abs s.by < s.top + s.height
+    → get_or rows (row + unsigned_abs s.by) [] ≡ get_or (shifted_rows s free rows) row []
+row-up s free rows row h up le lt =
+    let P = take (s.top + s.height - s.top) (drop s.top rows) in
+    let n = row-part s rows h.within in
+    let place : s.top + (unsigned_abs s.by + (row - s.top)) ≡ row + unsigned_abs s.by = omega arith in
+    sym (
+    row-within s free rows row h le (omega arith)
+    ∙ up-kept s.by free P (row - s.top) up (omega (arith, n))
+    ∙ part-row rows s.top s.height (unsigned_abs s.by + (row - s.top)) (omega arith)
+    ∙ ap (λ k. get_or rows k []) place)
+
+pub row-up-free : (s : Shift) (free : List Cell) (rows : List (List Cell)) (row : ℕ) → IsShift (length rows) s → is_up s.by ≡ true → s.top ≤ row → row < s.top + s.height → s.top + s.height ≤ row + unsigned_abs s.by
+    → free ≡ get_or (shifted_rows s free rows) row []
+row-up-free s free rows row h up le lt past =
+    let P = take (s.top + s.height - s.top) (drop s.top rows) in
+    let n = row-part s rows h.within in
+    sym (row-within s free rows row h le lt ∙ up-free s.by free P (row - s.top) up (omega (arith, n, h.left)) (omega (arith, n)) (omega (arith, n)))
+
+pub row-down : (s : Shift) (free : List Cell) (rows : List (List Cell)) (row : ℕ) → IsShift (length rows) s → is_up s.by ≡ false → s.top + unsigned_abs s.by ≤ row → row < s.top + s.height
+    → get_or rows (row - unsigned_abs s.by) [] ≡ get_or (shifted_rows s free rows) row []
+row-down s free rows row h up le lt =
+    let P = take (s.top + s.height - s.top) (drop s.top rows) in
+    let n = row-part s rows h.within in
+    let place : s.top + (row - s.top - unsigned_abs s.by) ≡ row - unsigned_abs s.by = omega arith in
+    sym (
+    row-within s free rows row h (omega arith) lt
+    ∙ down-kept s.by free P (row - s.top) up (omega arith) (omega (arith, n))
+    ∙ part-row rows s.top s.height (row - s.top - unsigned_abs s.by) (omega arith)
+    ∙ ap (λ k. get_or rows k []) place)
+
+pub row-down-free : (s : Shift) (free : List Cell) (rows : List (List Cell)) (row : ℕ) → IsShift (length rows) s → is_up s.by ≡ false → s.top ≤ row → row < s.top + s.height → row < s.top + unsigned_abs s.by
+    → free ≡ get_or (shifted_rows s free rows) row []
+row-down-free s free rows row h up le lt near =
+    let P = take (s.top + s.height - s.top) (drop s.top rows) in
+    sym (row-within s free rows row h le lt ∙ down-free s.by free P (row - s.top) up (omega arith))
+
+pub sum-of : (p q r s a b c d n : ℕ) → p ≡ a → q ≡ b → r ≡ c → s ≡ d → a + (b + c + d) ≡ n → p + q + r + s ≡ n
+sum-of p q r s a b c d n e f g h k = omega arith

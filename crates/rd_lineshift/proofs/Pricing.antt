@@ -1,0 +1,141 @@
+-- The cheapest of shifts, found one after another.
+use Rattle.std.proofs.Common.{◌≡◌, ℕ, zero, suc, ◌+◌, ◌-◌, ◌<◌, ◌≤◌, nat_le, Bool, true, false, if◌then◌else◌, List, [], ◌∷◌, ◌++◌, length, get_or, drop, Option, None, Some, IfSome, refl, sym, ap, ap₂, ◌∙◌, arith}
+use Rattle.std.specs.List.{flat_map}
+use Rattle.std.proofs.lemmas.Bool.Decides.{nat_tests}
+use Rattle.std.proofs.lemmas.List.{drop_more, drop_all}
+use Rattle.std.specs.Prelude.{pos, neg_ℤ}
+use Rattle.rd_lineshift.specs.Choices.{cheaper, cheapest, if_gains, shift_by, shifts_from, shifts_of}
+use Rattle.rd_lineshift.specs.Numbers.{gained, lesser, priced}
+use Rattle.rd_lineshift.specs.declared.band.Band.{Band}
+use Rattle.rd_lineshift.specs.declared.band.Shift.{Shift}
+use Rattle.rd_lineshift.specs.declared.choice.Priced.{Priced}
+
+lesser-if : (b : Bool) (f : Shift → ℕ) (s t : Shift) → (if b then Some (let p : Priced = record { shift = s; cost = f s } in p) else Some (record { shift = t; cost = f t })) ≡ priced f (if b then Some s else Some t)
+lesser-if true f s t = refl
+lesser-if false f s t = refl
+
+pub lesser-priced : (f : Shift → ℕ) (s t : Option Shift) → lesser (priced f s) (priced f t) ≡ priced f (cheaper f s t)
+lesser-priced f None t = refl
+lesser-priced f (Some s) None = refl
+lesser-priced f (Some s) (Some t) = lesser-if (nat_le (f s) (f t)) f s t
+
+pub lesser-none : (p : Option Priced) → lesser p None ≡ p
+lesser-none None = refl
+lesser-none (Some p) = refl
+
+lesser-by : (a b c : Bool) (p q r : Priced) → nat_le p.cost q.cost ≡ a → nat_le q.cost r.cost ≡ b → nat_le p.cost r.cost ≡ c
+    → lesser (if a then Some p else Some q) (Some r) ≡ lesser (Some p) (if b then Some q else Some r)
+lesser-by true true true p q r e f g = rw (g, e) refl
+lesser-by true true false p q r e f g = absurd (let h : nat_le p.cost r.cost ≡ true = grind (arith, nat_tests) in cc)
+lesser-by true false c p q r e f g = refl
+lesser-by false true c p q r e f g = rw (f, e) refl
+lesser-by false false true p q r e f g = absurd (let h : nat_le p.cost r.cost ≡ false = grind (arith, nat_tests) in cc)
+lesser-by false false false p q r e f g = rw (f, g) refl
+
+pub lesser-assoc : (p q r : Option Priced) → lesser (lesser p q) r ≡ lesser p (lesser q r)
+lesser-assoc None q r = refl
+lesser-assoc (Some p) None r = refl
+lesser-assoc (Some p) (Some q) None = lesser-none (lesser (Some p) (Some q))
+lesser-assoc (Some p) (Some q) (Some r) = lesser-by (nat_le p.cost q.cost) (nat_le q.cost r.cost) (nat_le p.cost r.cost) p q r refl refl refl
+
+bound-by : (b : Bool) (p q : Priced) → p.cost ≤ 200 → q.cost ≤ 200 → IfSome (if b then Some p else Some q) (λ r. r.cost ≤ 200)
+bound-by true p q h k = h
+bound-by false p q h k = k
+
+pub lesser-bound : (p q : Option Priced) → IfSome p (λ r. r.cost ≤ 200) → IfSome q (λ r. r.cost ≤ 200) → IfSome (lesser p q) (λ r. r.cost ≤ 200)
+lesser-bound None q h k = k
+lesser-bound (Some p) None h k = h
+lesser-bound (Some p) (Some q) h k = bound-by (nat_le p.cost q.cost) p q h k
+
+priced-fields : (s t : Shift) (m n : ℕ) → s ≡ t → m ≡ n → let p : Priced = record { shift = s; cost = m } in let q : Priced = record { shift = t; cost = n } in Some p ≡ Some q
+priced-fields s t m n e f = cc
+
+pub priced-is : (f : Shift → ℕ) (p : Priced) (s : Shift) → p.shift ≡ s → p.cost ≡ f s → Some p ≡ priced f (Some s)
+priced-is f p s e g = priced-fields p.shift s p.cost (f s) e g
+
+-- the cheapest of some shifts and of others
+pub appended : (f : Shift → ℕ) (xs ys : List Shift) → priced f (cheapest f (xs ++ ys)) ≡ lesser (priced f (cheapest f xs)) (priced f (cheapest f ys))
+appended f [] ys = refl
+appended f (x ∷ xs) ys =
+    sym (lesser-priced f (Some x) (cheapest f (xs ++ ys)))
+    ∙ ap (lesser (priced f (Some x))) (appended f xs ys)
+    ∙ sym (lesser-assoc (priced f (Some x)) (priced f (cheapest f xs)) (priced f (cheapest f ys)))
+    ∙ ap (λ p. lesser p (priced f (cheapest f ys))) (lesser-priced f (Some x) (cheapest f xs))
+
+-- two more shifts of a band
+pub two-more : (f : Shift → ℕ) (band : Band) (by more : ℕ) (best u d : Option Priced) → u ≡ priced f (Some (shift_by band (pos by))) → d ≡ priced f (Some (shift_by band (neg_ℤ (pos by))))
+    → lesser (lesser (lesser best u) d) (priced f (cheapest f (shifts_from band (suc by) more))) ≡ lesser best (priced f (cheapest f (shifts_from band by (suc more))))
+two-more f band by more best u d e g =
+    let s = Some (shift_by band (pos by)) in
+    let t = Some (shift_by band (neg_ℤ (pos by))) in
+    let rest = cheapest f (shifts_from band (suc by) more) in
+    lesser-assoc (lesser best u) d (priced f rest)
+    ∙ lesser-assoc best u (lesser d (priced f rest))
+    ∙ ap (λ x. lesser best (lesser u (lesser x (priced f rest)))) g
+    ∙ ap (λ x. lesser best (lesser u x)) (lesser-priced f t rest)
+    ∙ ap (λ x. lesser best (lesser x (priced f (cheaper f t rest)))) e
+    ∙ ap (lesser best) (lesser-priced f s (cheaper f t rest))
+
+pub band-step : (f : Shift → ℕ) (band : Band) (by : ℕ) (best u d whole : Option Priced) → by < band.height
+    → u ≡ priced f (Some (shift_by band (pos by))) → d ≡ priced f (Some (shift_by band (neg_ℤ (pos by))))
+    → lesser best (priced f (cheapest f (shifts_from band by (band.height - by)))) ≡ whole
+    → lesser (lesser (lesser best u) d) (priced f (cheapest f (shifts_from band (by + 1) (band.height - (by + 1))))) ≡ whole
+band-step f band by best u d whole lt e g h =
+    let next : by + 1 ≡ suc by = omega arith in
+    let more : band.height - by ≡ suc (band.height - (by + 1)) = omega arith in
+    ap (λ n. lesser (lesser (lesser best u) d) (priced f (cheapest f (shifts_from band n (band.height - (by + 1)))))) next
+    ∙ two-more f band by (band.height - (by + 1)) best u d e g
+    ∙ ap (λ n. lesser best (priced f (cheapest f (shifts_from band by n)))) (sym more)
+    ∙ h
+
+pub band-end : (f : Shift → ℕ) (band : Band) (by : ℕ) (best whole : Option Priced) → band.height ≤ by
+    → lesser best (priced f (cheapest f (shifts_from band by (band.height - by)))) ≡ whole → best ≡ whole
+band-end f band by best whole le h =
+    let none : band.height - by ≡ 0 = omega arith in
+    sym (lesser-none best) ∙ sym (ap (λ n. lesser best (priced f (cheapest f (shifts_from band by n)))) none) ∙ h
+
+-- one more band
+pub bands-step : (f : Shift → ℕ) (bands : List Band) (i : ℕ) (d : Band) (best more whole : Option Priced) → i < length bands
+    → more ≡ priced f (cheapest f (shifts_of (get_or bands i d)))
+    → lesser best (priced f (cheapest f (flat_map shifts_of (drop i bands)))) ≡ whole
+    → lesser (lesser best more) (priced f (cheapest f (flat_map shifts_of (drop (i + 1) bands)))) ≡ whole
+bands-step f bands i d best more whole lt g h =
+    let band = get_or bands i d in
+    let rest = flat_map shifts_of (drop (i + 1) bands) in
+    lesser-assoc best more (priced f (cheapest f rest))
+    ∙ ap (λ x. lesser best (lesser x (priced f (cheapest f rest)))) g
+    ∙ ap (lesser best) (sym (appended f (shifts_of band) rest))
+    ∙ ap (λ xs. lesser best (priced f (cheapest f (flat_map shifts_of xs)))) (sym (drop_more bands i d lt))
+    ∙ h
+
+pub bands-end : (f : Shift → ℕ) (bands : List Band) (i : ℕ) (best whole : Option Priced) → length bands ≤ i
+    → lesser best (priced f (cheapest f (flat_map shifts_of (drop i bands)))) ≡ whole → best ≡ whole
+bands-end f bands i best whole le h =
+    sym (lesser-none best) ∙ sym (ap (λ xs. lesser best (priced f (cheapest f (flat_map shifts_of xs)))) (drop_all i bands le)) ∙ h
+
+-- ---- what is taken
+
+cheaper-if : (s t : Shift) (a b : Bool) → a ≡ b → (if a then Some s else Some t) ≡ (if b then Some s else Some t)
+cheaper-if s t a b e = ap (λ x. if x then Some s else Some t) e
+
+cheaper-same : (f g : Shift → ℕ) → ((s : Shift) → f s ≡ g s) → (s t : Option Shift) → cheaper f s t ≡ cheaper g s t
+cheaper-same f g same None t = refl
+cheaper-same f g same (Some s) None = refl
+cheaper-same f g same (Some s) (Some t) = cheaper-if s t (nat_le (f s) (f t)) (nat_le (g s) (g t)) (ap₂ nat_le (same s) (same t))
+
+cheapest-same : (f g : Shift → ℕ) → ((s : Shift) → f s ≡ g s) → (xs : List Shift) → cheapest f xs ≡ cheapest g xs
+cheapest-same f g same [] = refl
+cheapest-same f g same (x ∷ xs) = ap (cheaper f (Some x)) (cheapest-same f g same xs) ∙ cheaper-same f g same (Some x) (cheapest g xs)
+
+gained-same : (f g : Shift → ℕ) (rows : ℕ) → ((s : Shift) → f s ≡ g s) → (s : Option Shift) → gained rows (priced f s) ≡ if_gains g rows s
+gained-same f g rows same None = refl
+gained-same f g rows same (Some s) = ap (λ n. if nat_le (n + 3) rows then Some s else None) (same s)
+
+pub taken-is : (f g : Shift → ℕ) (rows : ℕ) (xs : List Shift) → ((s : Shift) → f s ≡ g s) → gained rows (priced f (cheapest f xs)) ≡ if_gains g rows (cheapest g xs)
+taken-is f g rows xs same = gained-same f g rows same (cheapest f xs) ∙ ap (if_gains g rows) (cheapest-same f g same xs)
+
+pub none-gains : (f : Shift → ℕ) (rows : ℕ) (s : Option Shift) → rows < 3 → None ≡ if_gains f rows s
+none-gains f rows None few = refl
+none-gains f rows (Some s) few =
+    let no : nat_le (f s + 3) rows ≡ false = grind (arith, nat_tests) in
+    sym (ap (λ b. if b then Some s else None) no)

@@ -1,0 +1,7 @@
+use Rattle.rd_lineshift.proofs.Keeping.{sized, sound}
+use Rattle.rd_lineshift.proofs.law.shifted_updates_keep_screens_sound.Goals as goal
+
+pub returns : goal.returns
+returns c =
+    let law = c.updates_keep_screens_sound.ensures in
+    record { size = sized law.size; sound = sound law.sound }

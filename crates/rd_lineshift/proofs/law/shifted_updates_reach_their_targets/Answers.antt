@@ -1,0 +1,9 @@
+use Rattle.rd_lineshift.specs.Choices.{choice}
+use Rattle.rd_lineshift.specs.Plans.{after_shift}
+use Rattle.rd_lineshift.proofs.Keeping.{reached}
+use Rattle.rd_lineshift.proofs.law.shifted_updates_reach_their_targets.Goals as goal
+
+pub returns : goal.returns
+returns c =
+    let law = c.updates_reach_their_targets.ensures in
+    record { reached = reached law.reached; done = λ current target bands. law.done (after_shift (choice current target bands) current) target }

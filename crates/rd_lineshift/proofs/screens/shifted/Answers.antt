@@ -1,0 +1,56 @@
+use Rattle.std.proofs.Common.{◌≡◌, ◌<◌, ◌≤◌, ◌++◌, ◌∙◌, [], length, get_or, set, take, drop, replicate, List, ℕ, sym, ap, arith}
+use Rattle.std.proofs.lemmas.List.{length-replicate}
+use Rattle.rd_base.specs.declared.cell.Cell.{Cell}
+use Rattle.rd_term.specs.Pictures.{Picture, blank, blank_row, width_of}
+use Rattle.rd_update.proofs.Parts.{length-seam, seam}
+use Rattle.rd_lineshift.specs.Shifts.{shifted, shifted_rows}
+use Rattle.rd_lineshift.proofs.Moving.{shifted-all, shifted-length}
+use Rattle.rd_lineshift.proofs.screens.shifted.Goals as goal
+
+pub fill_row-requires-clause-width : goal.fill_row-requires-clause-width
+fill_row-requires-clause-width c =
+    let current = c.args.current.now in
+    let shift = c.args.shift in
+    let v = width_of current.rows in
+    let row = c.loop-row.row in
+    let free = c.first-blank.ensures ∙ ap blank_row c.width-width.ensures.value in
+    let cells = c.row_after.ensures ∙ ap (λ xs. get_or (shifted_rows shift xs current.rows) row []) free in
+    let wide = shifted-all (λ (r : List Cell). length r ≡ v) shift (blank_row v) current.rows (length-replicate v blank) c.width-width.ensures.screen.size.each in
+    let here : c.loop-row.row < length (shifted shift current).rows = omega (arith, shifted-length shift (blank_row v) current.rows c.requires) in
+    ap length cells ∙ wide row [] here ∙ sym c.loop-row.invariant.width
+
+pub loop-row-preserved : goal.loop-row-preserved
+loop-row-preserved c =
+    let current = c.args.current.now in
+    let shift = c.args.shift in
+    let v = width_of current.rows in
+    let row = c.loop-row.row in
+    let S = (shifted shift current).rows in
+    let B = replicate (length current.rows) (blank_row v) in
+    let h = c.loop-row.invariant in
+    let free = c.first-blank.ensures ∙ ap blank_row c.width-width.ensures.value in
+    let cells = c.row_after.ensures ∙ ap (λ xs. get_or (shifted_rows shift xs current.rows) row []) free in
+    let here : c.loop-row.row < length (shifted shift current).rows = omega (arith, shifted-length shift (blank_row v) current.rows c.requires) in
+    let there : c.loop-row.row < length (replicate (length current.rows) (blank_row v)) = omega (arith, length-replicate (length current.rows) (blank_row v)) in
+    record {
+      rows =
+          ap (λ (p : Picture). p.rows) c.fill_row.ensures.screen
+          ∙ ap (λ xs. set xs row c.row_after.result.now) h.rows
+          ∙ ap (λ x. set (take row S ++ drop row B) row x) cells
+          ∙ seam S B row [] here there;
+      width = c.fill_row.ensures.width ∙ h.width;
+    }
+
+pub place-requires-clause-row : goal.place-requires-clause-row
+place-requires-clause-row c =
+    let current = c.args.current.now in
+    let shift = c.args.shift in
+    let v = width_of current.rows in
+    let row = c.loop-row.row in
+    let S = (shifted shift current).rows in
+    let B = replicate (length current.rows) (blank_row v) in
+    let n = shifted-length shift (blank_row v) current.rows c.requires in
+    let same : length (shifted shift current).rows ≡ length (replicate (length current.rows) (blank_row v)) = n ∙ sym (length-replicate (length current.rows) (blank_row v)) in
+    let le : c.loop-row.row ≤ length (shifted shift current).rows = omega (arith, n) in
+    let long = ap length c.loop-row.invariant.rows ∙ length-seam S B row same le ∙ n in
+    omega (arith, long, ap (λ (p : ℕ × ℕ). p.0) c.cursor-row.ensures, c.width-width.ensures.screen.size.row)

@@ -1,0 +1,64 @@
+//! The bytes of shifts.
+ghost use Rattle.std.specs.Prelude.{◌≡◌, ◌+◌, ◌≤◌, ◌++◌, OnOk, IfOk, unsigned_abs};
+ghost use Rattle.std.specs.List.{flat_map};
+ghost use Rattle.rd_update.specs.Updates.{parameter, sequence};
+ghost use Rattle.rd_lineshift.specs.Laws.{IsShift, is_up as is_move_up};
+ghost use Rattle.rd_lineshift.specs.Shifts.{moving, shift_bytes as bytes_of};
+
+use crate::band::Shift;
+use itoa::Buffer;
+use rd_base::{ListOf, Memory};
+use std::alloc::Global;
+
+/// Whether a shift moves rows up.
+pub(crate) fn is_up(by: i64) -> bool
+    ensures { result ≡ is_move_up by }
+{
+    by >= 0
+}
+
+/// The bytes of a shift on a screen of so many rows.
+pub(crate) fn shift_bytes(alloc: Global, height: u32, shift: Shift) -> Result<ListOf<u8>, Memory>
+    requires shift { IsShift height shift }
+    requires height { height ≤ 200 }
+    ensures { IfOk result (λ bytes. bytes ≡ bytes_of height shift) }
+{
+    let mut bytes = ListOf::new(alloc);
+    push_sequence(&mut bytes, shift.top + 1, &[shift.top + shift.height], b'r')?;
+    push_sequence(&mut bytes, shift.top + 1, &[1], b'H')?;
+    push_moving(&mut bytes, shift.by)?;
+    push_sequence(&mut bytes, 1, &[height], b'r')?;
+    Ok(bytes)
+}
+
+/// Adds what moves the rows of the region.
+fn push_moving(bytes: &mut ListOf<u8>, by: i64) -> Result<(), Memory>
+    requires { unsigned_abs by ≤ 200 }
+    ensures { OnOk result (bytes.new ≡ bytes.old ++ moving by) }
+{
+    let last = if is_up(by) { b'M' } else { b'L' };
+    push_sequence(bytes, by.unsigned_abs() as u32, &[], last)
+}
+
+/// Adds a control sequence: its first number, the others, and its last byte.
+fn push_sequence(bytes: &mut ListOf<u8>, first: u32, others: &[u32], last: u8) -> Result<(), Memory>
+    ensures { OnOk result (bytes.new ≡ bytes.old ++ sequence first others.now last) }
+{
+    let mut buffer = Buffer::new();
+    bytes.extend_from_slice(b"\x1b[")?;
+    bytes.extend_from_slice(buffer.format(first).as_bytes())?;
+    push_parameters(bytes, others)?;
+    bytes.push(last)
+}
+
+/// Adds numbers, each behind a semicolon.
+fn push_parameters(bytes: &mut ListOf<u8>, numbers: &[u32]) -> Result<(), Memory>
+    ensures { OnOk result (bytes.new ≡ bytes.old ++ flat_map parameter numbers.now) }
+{
+    for number in numbers {
+        let mut buffer = Buffer::new();
+        bytes.push(b';')?;
+        bytes.extend_from_slice(buffer.format(*number).as_bytes())?;
+    }
+    Ok(())
+}

@@ -1,0 +1,189 @@
+//! Which shift is taken.
+ghost use Rattle.std.specs.Prelude.{◌≡◌, ◌+◌, ◌-◌, ◌<◌, ◌≤◌, length, map, pos, neg_ℤ, Some, IfSome};
+ghost use Rattle.std.specs.List.{flat_map};
+ghost use Rattle.rd_term.specs.Pictures.{blank_row, width_of};
+ghost use Rattle.rd_update.specs.Laws.{IsSound};
+ghost use Rattle.rd_update.specs.Plans.{HaveOneSize};
+ghost use Rattle.rd_lineshift.specs.Choices.{AreWithin, choice, cheapest, shift_by, shifts_of};
+ghost use Rattle.rd_lineshift.specs.Numbers.{gained, lesser, number_cost, number_in, priced};
+
+use crate::band::{Band, Shift};
+use crate::numbers::{Numbers, unlike, unlike_one};
+use crate::rows::{differing, number_of_blank, numbers_of, prints_of};
+use rd_term::Screen;
+
+/// How many rows a shift must spare.
+const GAIN: u32 = 3;
+
+/// A shift, and how many rows differ after it.
+#[derive(Clone, Copy)]
+pub(crate) struct Priced {
+    shift: Shift,
+    cost: u32,
+}
+
+/// The numbers of the rows of a current screen and of a target, and that of a blank row: rows of the same number are the same, where
+/// one is the target's.
+#[derive(Drop)]
+struct Numbered {
+    old: Numbers,
+    new: Numbers,
+    blank: u64,
+}
+
+/// The shift that brings the current screen nearest to the target. Of all shifts of all bands it is the first that leaves the fewest
+/// rows that differ: the bands are taken in order, then the shifts by the number of their rows from 1 on, then the one upward. None
+/// comes exactly where that many are not at least three fewer than differ now. It takes no memory. It looks at each cell of both
+/// screens a fixed number of times and at the numbers of all rows once for each shift; two rows are compared cell by cell only where
+/// their prints are equal.
+pub fn shift_of(current: &Screen, target: &Screen, bands: &[Band]) -> Option<Shift>
+    requires size { HaveOneSize (Some current.now) target.now }
+    requires current { IsSound current.now }
+    requires target { IsSound target.now }
+    requires bands { AreWithin (length target.now.rows) bands.now }
+    ensures { result ≡ choice (Some current.now) target.now bands.now }
+{
+    if bands.is_empty() {
+        return None;
+    }
+    let rows = differing(current, target);
+    if rows < GAIN {
+        return None;
+    }
+    let _old_width = current.width();
+    let _new_width = target.width();
+    gaining(cheapest_of(&number_rows(current, target), bands), rows)
+}
+
+/// A shift that costs at least three less than so many rows.
+fn gaining(best: Option<Priced>, rows: u32) -> Option<Shift>
+    requires { IfSome best (λ p. p.cost ≤ 200) }
+    ensures { result ≡ gained rows best }
+{
+    match best {
+        Some(priced) if priced.cost + GAIN <= rows => Some(priced.shift),
+        _ => None,
+    }
+}
+
+/// The numbers of the rows of two screens of one size.
+fn number_rows(current: &Screen, target: &Screen) -> Numbered
+    requires size { HaveOneSize (Some current.now) target.now }
+    requires current { IsSound current.now }
+    requires target { IsSound target.now }
+    ensures old { result.old ≡ map (number_in target.now.rows) current.now.rows }
+    ensures new { result.new ≡ map (number_in target.now.rows) target.now.rows }
+    ensures blank { result.blank ≡ number_in target.now.rows (blank_row (width_of target.now.rows)) }
+    ensures few { length target.now.rows ≤ 200 }
+{
+    let _width = target.width();
+    let prints = prints_of(target);
+    Numbered {
+        old: numbers_of(target, &prints, current),
+        new: numbers_of(target, &prints, target),
+        blank: number_of_blank(target, &prints),
+    }
+}
+
+/// The first of the shifts of these bands that cost the least.
+fn cheapest_of(numbers: &Numbered, bands: &[Band]) -> Option<Priced>
+    requires length { length numbers.now.old ≡ length numbers.now.new }
+    requires few { length numbers.now.new ≤ 200 }
+    requires bands { AreWithin (length numbers.now.new) bands.now }
+    ensures value { result ≡ priced (number_cost numbers.now.old numbers.now.new numbers.now.blank) (cheapest (number_cost numbers.now.old numbers.now.new numbers.now.blank) (flat_map shifts_of bands.now)) }
+    ensures bound { IfSome result (λ p. p.cost ≤ 200) }
+{
+    let mut best = None;
+    for i in 0..bands.len() {
+        best = cheaper(best, cheapest_in(numbers, bands[i]));
+    }
+    best
+}
+
+/// The first of the shifts of a band that cost the least.
+fn cheapest_in(numbers: &Numbered, band: Band) -> Option<Priced>
+    requires length { length numbers.now.old ≡ length numbers.now.new }
+    requires few { length numbers.now.new ≤ 200 }
+    requires band { band.top + band.height ≤ length numbers.now.new }
+    ensures value { result ≡ priced (number_cost numbers.now.old numbers.now.new numbers.now.blank) (cheapest (number_cost numbers.now.old numbers.now.new numbers.now.blank) (shifts_of band)) }
+    ensures bound { IfSome result (λ p. p.cost ≤ 200) }
+{
+    let mut best = None;
+    for by in 1..band.height {
+        best = cheaper(best, Some(upward(numbers, band, by)));
+        best = cheaper(best, Some(downward(numbers, band, by)));
+    }
+    best
+}
+
+/// One of two shifts, the second only where it costs less.
+fn cheaper(best: Option<Priced>, other: Option<Priced>) -> Option<Priced>
+    ensures { result ≡ lesser best other }
+{
+    match (best, other) {
+        (Some(first), Some(second)) if second.cost < first.cost => other,
+        (Some(_), _) => best,
+        _ => other,
+    }
+}
+
+/// The shift of a band up by so many rows.
+fn upward(numbers: &Numbered, band: Band, by: u32) -> Priced
+    requires length { length numbers.now.old ≡ length numbers.now.new }
+    requires few { length numbers.now.new ≤ 200 }
+    requires band { band.top + band.height ≤ length numbers.now.new }
+    requires by { by < band.height }
+    ensures shift { result.shift ≡ shift_by band (pos by) }
+    ensures cost { result.cost ≡ number_cost numbers.now.old numbers.now.new numbers.now.blank (shift_by band (pos by)) }
+    ensures bound { result.cost ≤ 200 }
+{
+    let (old, new) = (numbers.old.as_slice(), numbers.new.as_slice());
+    let (top, end, by) = (
+        band.top as usize,
+        (band.top + band.height) as usize,
+        by as usize,
+    );
+    let above = unlike(&old[..top], &new[..top]);
+    let kept = unlike(&old[top + by..end], &new[top..end - by]);
+    let free = unlike_one(numbers.blank, &new[end - by..end]);
+    let below = unlike(&old[end..], &new[end..]);
+    Priced {
+        shift: Shift {
+            top: band.top,
+            height: band.height,
+            by: by as i64,
+        },
+        cost: above + kept + free + below,
+    }
+}
+
+/// The shift of a band down by so many rows.
+fn downward(numbers: &Numbered, band: Band, by: u32) -> Priced
+    requires length { length numbers.now.old ≡ length numbers.now.new }
+    requires few { length numbers.now.new ≤ 200 }
+    requires band { band.top + band.height ≤ length numbers.now.new }
+    requires some { 1 ≤ by }
+    requires by { by < band.height }
+    ensures shift { result.shift ≡ shift_by band (neg_ℤ (pos by)) }
+    ensures cost { result.cost ≡ number_cost numbers.now.old numbers.now.new numbers.now.blank (shift_by band (neg_ℤ (pos by))) }
+    ensures bound { result.cost ≤ 200 }
+{
+    let (old, new) = (numbers.old.as_slice(), numbers.new.as_slice());
+    let (top, end, by) = (
+        band.top as usize,
+        (band.top + band.height) as usize,
+        by as usize,
+    );
+    let above = unlike(&old[..top], &new[..top]);
+    let free = unlike_one(numbers.blank, &new[top..top + by]);
+    let kept = unlike(&old[top..end - by], &new[top + by..end]);
+    let below = unlike(&old[end..], &new[end..]);
+    Priced {
+        shift: Shift {
+            top: band.top,
+            height: band.height,
+            by: -(by as i64),
+        },
+        cost: above + free + kept + below,
+    }
+}

@@ -1,0 +1,58 @@
+//! What an update that may begin with a shift does to the terminal that reads its bytes, and where it leads.
+ghost use Rattle.std.specs.Prelude.{◌≡◌, ℕ, List, length, Option, IfSome, None, Some, true};
+ghost use Rattle.rd_term.specs.Pictures.{Picture, IsScreen};
+ghost use Rattle.rd_term.specs.Terminals.{Tty, feed_bytes};
+ghost use Rattle.rd_update.specs.Laws.{IsReady, IsSound, IsUpdated};
+ghost use Rattle.rd_update.specs.Plans.{HaveOneSize};
+ghost use Rattle.rd_lineshift.specs.Choices.{AreWithin, choice};
+ghost use Rattle.rd_lineshift.specs.Laws.{IsShift};
+ghost use Rattle.rd_lineshift.specs.Plans.{shifted_update};
+ghost use Rattle.rd_lineshift.specs.declared.band.Band.{Band};
+
+use rd_term::a_cut_makes_no_difference;
+use rd_update::{
+    sequences_are_read, update_law, updates_keep_screens_sound, updates_reach_their_targets,
+};
+
+/// The update law, with shifts. Take a terminal that is not confused and stands between two sequences, a well-formed target of its size,
+/// any bands on it and any limit of rows; nothing is asked of its region. Either the current screen is unknown, or the terminal's cells
+/// are its cells and the terminal's pen is plain. Then, after the bytes of the update, the terminal is not confused and stands between
+/// two sequences, its cells are those of the new current screen, its pen is plain, and where the update is done its cursor is the
+/// target's.
+pub fn shift_law()
+    ensures { (width height : ℕ) (current : Option Picture) (target : Picture) (bands : List Band) (limit : Option ℕ) (t : Tty)
+        → IsReady width height current target t → AreWithin height bands
+        → IsUpdated width height (shifted_update current target bands limit) target (feed_bytes t (shifted_update current target bands limit).bytes) }
+{
+    a_cut_makes_no_difference();
+    sequences_are_read();
+    update_law();
+}
+
+/// A shift that is taken lies on the screen, moves by one row or more, and leaves one or more of its band.
+pub fn shifts_stay_on_the_screen()
+    ensures { (height : ℕ) (current : Option Picture) (target : Picture) (bands : List Band) → AreWithin height bands
+        → IfSome (choice current target bands) (λ s. IsShift height s) }
+{}
+
+/// An update that is done leads to its target, and one without a limit is always done.
+pub fn shifted_updates_reach_their_targets()
+    ensures reached { (current : Option Picture) (target : Picture) (bands : List Band) (limit : Option ℕ) → HaveOneSize current target
+        → IfSome current (λ screen. IsScreen screen) → AreWithin (length target.rows) bands
+        → (shifted_update current target bands limit).done ≡ true → (shifted_update current target bands limit).screen ≡ target }
+    ensures done { (current : Option Picture) (target : Picture) (bands : List Band) → (shifted_update current target bands None).done ≡ true }
+{
+    updates_reach_their_targets();
+}
+
+/// The new current screen has the target's size, and it is sound where the target and the screen before it are.
+pub fn shifted_updates_keep_screens_sound()
+    ensures size { (current : Option Picture) (target : Picture) (bands : List Band) (limit : Option ℕ) → HaveOneSize current target
+        → IfSome current (λ screen. IsScreen screen) → AreWithin (length target.rows) bands
+        → HaveOneSize (Some (shifted_update current target bands limit).screen) target }
+    ensures sound { (current : Option Picture) (target : Picture) (bands : List Band) (limit : Option ℕ) → HaveOneSize current target
+        → IfSome current (λ screen. IsScreen screen × IsSound screen) → AreWithin (length target.rows) bands → IsSound target
+        → IsSound (shifted_update current target bands limit).screen }
+{
+    updates_keep_screens_sound();
+}
