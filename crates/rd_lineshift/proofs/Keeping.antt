@@ -1,5 +1,5 @@
 -- The new current screen of an update that may begin with a shift.
-use Rattle.std.proofs.Common.{◌≡◌, ℕ, ◌<◌, ◌≤◌, true, List, length, Option, None, Some, subst, ◌∙◌, arith, All}
+use Rattle.std.proofs.Common.{◌≡◌, ℕ, true, List, length, Option, None, Some, subst, ◌∙◌, arith, All}
 use Rattle.std.specs.Prelude.{IfSome}
 use Rattle.std.proofs.lemmas.List.Elements.{All-replicate}
 use Rattle.rd_base.specs.Cells.{IsColoured}

@@ -1,7 +1,6 @@
 -- Rows that are moved.
-use Rattle.std.proofs.Common.{◌≡◌, ℕ, zero, suc, ◌+◌, ◌-◌, ◌<◌, ◌≤◌, true, false, List, [], ◌∷◌, ◌++◌, length, get_or, map, take, drop, replicate, refl, sym, ap, ap₂, ◌∙◌, arith, append_assoc, All}
+use Rattle.std.proofs.Common.{◌≡◌, ℕ, zero, suc, ◌+◌, ◌-◌, ◌<◌, ◌≤◌, true, false, List, [], ◌++◌, length, get_or, map, take, drop, replicate, sym, ap, ap₂, ◌∙◌, arith, All}
 use Rattle.std.specs.Prelude.{ℤ, pos, negsuc, neg_ℤ, unsigned_abs}
-use Rattle.std.specs.List.{AllByRecursion}
 use Rattle.std.proofs.lemmas.List.{get_or_append_left, get_or-append_right, get_or-take, get_or-drop, get_or-replicate, map-append, length-map, length-append, length-take-le, length-drop, length-replicate, take_all, take-map, drop-map, drop-take, drop-drop, take-take, take-append-drop}
 use Rattle.std.proofs.lemmas.List.Elements.{recursion_from_All, All-append, All-take, All-drop, All-replicate}
 use Rattle.rd_base.specs.declared.cell.Cell.{Cell}
@@ -9,13 +8,12 @@ use Rattle.rd_term.specs.Pictures.{Picture, IsGrid, blank, blank_row, width_of}
 use Rattle.rd_term.proofs.Cutting.{map-replicate}
 use Rattle.rd_update.specs.Updates.{differing}
 use Rattle.rd_update.proofs.Spans.{three-parts}
-use Rattle.rd_lineshift.specs.Choices.{cost, shift_by}
+use Rattle.rd_lineshift.specs.Choices.{cost}
 use Rattle.rd_lineshift.specs.Laws.{IsShift, is_up}
 use Rattle.rd_lineshift.specs.Numbers.{number_cost, number_in, unlike}
 use Rattle.rd_lineshift.specs.Shifts.{moved, shifted_rows}
-use Rattle.rd_lineshift.specs.declared.band.Band.{Band}
 use Rattle.rd_lineshift.specs.declared.band.Shift.{Shift}
-use Rattle.rd_lineshift.proofs.Counting.{IsIn, all-in, counted, unlike-append}
+use Rattle.rd_lineshift.proofs.Counting.{all-in, counted, unlike-append}
 
 -- ---- what is kept
 

@@ -1,16 +1,14 @@
 -- What the bytes of a shift do to the terminal that reads them, and the law of the update that begins with one.
-use Rattle.std.proofs.Common.{◌≡◌, ℕ, zero, suc, ◌+◌, ◌-◌, ◌<◌, ◌≤◌, ◌==◌, ◌&&◌, nat_lt, nat_le, if◌then◌else◌, Bool, true, false, List, [], ◌∷◌, ◌++◌, length, get_or, map, take, drop, replicate, Option, None, Some, IfSome, refl, sym, ap, ◌∙◌, arith, append_assoc, subst, All}
-use Rattle.std.specs.Prelude.{ℤ, pos, negsuc, neg_ℤ, unsigned_abs, IsSome}
+use Rattle.std.proofs.Common.{◌≡◌, ℕ, zero, suc, ◌+◌, ◌-◌, ◌<◌, ◌≤◌, ◌==◌, ◌&&◌, nat_lt, nat_le, if◌then◌else◌, Bool, true, false, List, [], ◌∷◌, ◌++◌, length, get_or, map, take, drop, replicate, Option, None, Some, IfSome, refl, sym, ap, ◌∙◌, arith, subst, All}
+use Rattle.std.specs.Prelude.{ℤ, pos, negsuc, unsigned_abs, IsSome}
 use Rattle.std.specs.List.{AllByRecursion, flat_map}
 use Rattle.std.proofs.lemmas.Bool.Decides.{nat_tests}
 use Rattle.std.proofs.lemmas.List.{length-map, length-take-le, length-drop, length-replicate}
-use Rattle.std.proofs.lemmas.List.Elements.{recursion_from_All, All-from_recursion, All-append, All-map, All-take, All-drop, All-replicate}
-use Rattle.rd_base.specs.Cells.{IsColoured, AreColoured}
+use Rattle.std.proofs.lemmas.List.Elements.{recursion_from_All, All-from_recursion, All-map, All-take, All-drop}
 use Rattle.rd_base.specs.Faces.{Attributes, plain}
-use Rattle.rd_base.specs.Glyphs.{IsRowAfter}
 use Rattle.rd_base.specs.declared.cell.Cell.{Cell}
 use Rattle.rd_term.specs.Controls.{control_of}
-use Rattle.rd_term.specs.Pictures.{Picture, blank, blank_row, width_of, IsGrid, IsOfSize, IsWellFormed}
+use Rattle.rd_term.specs.Pictures.{Picture, blank, blank_row, width_of, IsGrid, IsOfSize}
 use Rattle.rd_term.specs.Shifts.{cleared, moved_down, moved_up, changed_between}
 use Rattle.rd_term.specs.Steps.{at_end, is_digit}
 use Rattle.rd_term.specs.Terminals.{Tty, feed_bytes, perform, known, on_screen}
@@ -18,10 +16,10 @@ use Rattle.rd_term.specs.declared.reading.Reading.TheVariants.{Between}
 use Rattle.rd_term.proofs.Cutting.{map-replicate}
 use Rattle.rd_term.proofs.Encoded.{Rows, standing}
 use Rattle.rd_term.proofs.Shapes.{length-between, length-up, length-down}
-use Rattle.rd_update.specs.Laws.{IsReady, IsUpdated, IsSound}
+use Rattle.rd_update.specs.Laws.{IsReady, IsUpdated}
 use Rattle.rd_update.specs.Updates.{differing, sequence, update, Update}
 use Rattle.rd_update.proofs.Sequences.{tty-same}
-use Rattle.rd_lineshift.specs.Choices.{AreWithin, cheaper, cheapest, choice, cost, if_gains, shift_by, shifts_from, shifts_of}
+use Rattle.rd_lineshift.specs.Choices.{AreWithin, cheaper, cheapest, choice, cost, if_gains, shifts_from, shifts_of}
 use Rattle.rd_lineshift.specs.Laws.{IsShift}
 use Rattle.rd_lineshift.specs.Plans.{after_shift, opening, shifted_update}
 use Rattle.rd_lineshift.specs.Shifts.{moved, moving, region, shift_bytes, shifted, shifted_rows}

@@ -1,4 +1,4 @@
-use Rattle.std.proofs.Common.{◌+◌, ◌≤◌, arith}
+use Rattle.std.proofs.Common.{arith}
 use Rattle.rd_lineshift.specs.Numbers.{unlike}
 use Rattle.std.specs.Prelude.{replicate, length}
 use Rattle.rd_lineshift.proofs.Counting.{one-same, one-other}
