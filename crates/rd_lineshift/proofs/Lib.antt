@@ -1,5 +1,6 @@
 mod Counting
 mod Keeping
+mod Least
 mod Moving
 mod Pricing
 mod Reaching

@@ -7,8 +7,8 @@ pub struct Band {
     pub height: u32,
 }
 
-/// A move of a band's rows: row `r` becomes the old row `r + by`, or blank and plain where that lies outside the band. So `by` above
-/// 0 moves rows up, and below 0 down.
+/// A move of a band's rows: row `r` becomes the old row `r + by`, or blank and plain where that lies outside the band. So `by`
+/// above 0 moves rows up, and below 0 down.
 #[derive(Clone, Copy, Debug, PartialEq, Eq)]
 pub struct Shift {
     pub top: u32,

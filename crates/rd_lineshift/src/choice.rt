@@ -22,8 +22,8 @@ pub(crate) struct Priced {
     cost: u32,
 }
 
-/// The numbers of the rows of a current screen and of a target, and that of a blank row: rows of the same number are the same, where
-/// one is the target's.
+/// The numbers of the rows of a current screen and of a target, and that of a blank row: rows of the same number are the same,
+/// where one is the target's.
 #[derive(Drop)]
 struct Numbered {
     old: Numbers,
@@ -31,11 +31,12 @@ struct Numbered {
     blank: u64,
 }
 
-/// The shift that brings the current screen nearest to the target. Of all shifts of all bands it is the first that leaves the fewest
-/// rows that differ: the bands are taken in order, then the shifts by the number of their rows from 1 on, then the one upward. None
-/// comes exactly where that many are not at least three fewer than differ now. It takes no memory. It looks at each cell of both
-/// screens a fixed number of times and at the numbers of all rows once for each shift; two rows are compared cell by cell only where
-/// their prints are equal.
+/// The shift that brings the current screen nearest to the target. Of all shifts of all bands it is the first that leaves the
+/// fewest rows that differ: the bands are taken in order, then the shifts by the number of their rows from 1 on, then the one
+/// upward. None comes exactly where that many are not at least three fewer than differ now. It takes no memory. It looks at
+/// each cell of both screens a fixed number of times, and at the numbers of all rows once for each shift; two rows are compared
+/// cell by cell only where their prints are equal. Where there is no band it looks at nothing, and where fewer than three rows
+/// differ at those alone.
 pub fn shift_of(current: &Screen, target: &Screen, bands: &[Band]) -> Option<Shift>
     requires size { HaveOneSize (Some current.now) target.now }
     requires current { IsSound current.now }

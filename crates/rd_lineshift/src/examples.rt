@@ -32,8 +32,8 @@ fn without_a_band_all_rows_are_sent()
         } }
 {}
 
-/// The bytes of the shift go out where no row may be sent, and the shifted screen is then the current one, with the old cursor. An
-/// unknown screen is not shifted.
+/// The bytes of the shift go out where no row may be sent, and the shifted screen is then the current one, with the old cursor.
+/// An unknown screen is not shifted.
 fn a_stopped_update_is_shifted()
     ensures stopped { shifted_update (Some (record { rows = plain_row (codes "a") ∷ plain_row (codes "b") ∷ plain_row (codes "c") ∷ plain_row (codes "d") ∷ []; row = 2; column = 0 }))
         (record { rows = plain_row (codes "b") ∷ plain_row (codes "c") ∷ plain_row (codes "d") ∷ plain_row (codes "e") ∷ []; row = 1; column = 0 })
@@ -64,7 +64,8 @@ fn shifts_of_a_band()
     ensures none { shifts_of (record { top = 2; height = 0 }) ≡ [] }
 {}
 
-/// Of shifts of one cost the one of the first band is taken, of one band the one by the fewest rows, and of those the one upward.
+/// Of shifts of one cost the one of the first band is taken, of one band the one by the fewest rows, and of those the one
+/// upward.
 fn ties_are_broken()
     ensures bands { choice (Some (record { rows = plain_row (codes "a") ∷ plain_row (codes "b") ∷ plain_row (codes "c") ∷ plain_row (codes "d") ∷ plain_row (codes "a") ∷ plain_row (codes "b") ∷ plain_row (codes "c") ∷ plain_row (codes "d") ∷ []; row = 0; column = 0 }))
         (record { rows = plain_row (codes "b") ∷ plain_row (codes "c") ∷ plain_row (codes "d") ∷ plain_row (codes " ") ∷ plain_row (codes "b") ∷ plain_row (codes "c") ∷ plain_row (codes "d") ∷ plain_row (codes " ") ∷ []; row = 0; column = 0 })

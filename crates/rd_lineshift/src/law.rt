@@ -1,24 +1,27 @@
 //! What an update that may begin with a shift does to the terminal that reads its bytes, and where it leads.
-ghost use Rattle.std.specs.Prelude.{◌≡◌, ℕ, List, length, Option, IfSome, None, Some, true};
+ghost use Rattle.std.specs.Prelude.{◌≡◌, ℕ, ◌+◌, ◌<◌, ◌≤◌, All, List, length, Option, IfSome, None, Some, true};
+ghost use Rattle.std.specs.List.{flat_map};
 ghost use Rattle.rd_term.specs.Pictures.{Picture, IsScreen};
 ghost use Rattle.rd_term.specs.Terminals.{Tty, feed_bytes};
 ghost use Rattle.rd_update.specs.Laws.{IsReady, IsSound, IsUpdated};
 ghost use Rattle.rd_update.specs.Plans.{HaveOneSize};
-ghost use Rattle.rd_lineshift.specs.Choices.{AreWithin, choice};
+ghost use Rattle.rd_update.specs.Updates.{differing};
+ghost use Rattle.rd_lineshift.specs.Choices.{AreWithin, choice, cost, shifts_of};
 ghost use Rattle.rd_lineshift.specs.Laws.{IsShift};
 ghost use Rattle.rd_lineshift.specs.Plans.{shifted_update};
 ghost use Rattle.rd_lineshift.specs.declared.band.Band.{Band};
+ghost use Rattle.rd_lineshift.specs.declared.band.Shift.{Shift};
 
 use rd_term::a_cut_makes_no_difference;
 use rd_update::{
     sequences_are_read, update_law, updates_keep_screens_sound, updates_reach_their_targets,
 };
 
-/// The update law, with shifts. Take a terminal that is not confused and stands between two sequences, a well-formed target of its size,
-/// any bands on it and any limit of rows; nothing is asked of its region. Either the current screen is unknown, or the terminal's cells
-/// are its cells and the terminal's pen is plain. Then, after the bytes of the update, the terminal is not confused and stands between
-/// two sequences, its cells are those of the new current screen, its pen is plain, and where the update is done its cursor is the
-/// target's.
+/// The update law, with shifts. Take a terminal that is not confused and stands between two sequences, a well-formed target of
+/// its size, any bands on it and any limit of rows; nothing is asked of its region. Either the current screen is unknown, or
+/// the terminal's cells are its cells and the terminal's pen is plain. Then, after the bytes of the update, the terminal is not
+/// confused and stands between two sequences, its cells are those of the new current screen, its pen is plain, and where the
+/// update is done its cursor is the target's.
 pub fn shift_law()
     ensures { (width height : ℕ) (current : Option Picture) (target : Picture) (bands : List Band) (limit : Option ℕ) (t : Tty)
         → IsReady width height current target t → AreWithin height bands
@@ -33,6 +36,15 @@ pub fn shift_law()
 pub fn shifts_stay_on_the_screen()
     ensures { (height : ℕ) (current : Option Picture) (target : Picture) (bands : List Band) → AreWithin height bands
         → IfSome (choice current target bands) (λ s. IsShift height s) }
+{}
+
+/// No shift of any band costs less than the one that is taken, and that costs at least three less than the screen as it is.
+/// Where none is taken, none would.
+pub fn the_shift_taken_costs_the_least()
+    ensures taken { (current target : Picture) (bands : List Band) (s : Shift) → choice (Some current) target bands ≡ Some s
+        → (cost current target s + 3 ≤ differing current.rows target.rows) × All (λ t. cost current target s ≤ cost current target t) (flat_map shifts_of bands) }
+    ensures none { (current target : Picture) (bands : List Band) → choice (Some current) target bands ≡ None
+        → All (λ t. differing current.rows target.rows < cost current target t + 3) (flat_map shifts_of bands) }
 {}
 
 /// An update that is done leads to its target, and one without a limit is always done.

@@ -15,6 +15,6 @@ pub use band::{Band, Shift};
 pub use choice::shift_of;
 pub use law::{
     shift_law, shifted_updates_keep_screens_sound, shifted_updates_reach_their_targets,
-    shifts_stay_on_the_screen,
+    shifts_stay_on_the_screen, the_shift_taken_costs_the_least,
 };
 pub use plan::{Shifted, shifted_plan};

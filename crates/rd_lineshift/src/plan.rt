@@ -35,8 +35,8 @@ impl Model for Shifted {
     ghost view = { λ s. record { opening = s.opening; screen = s.screen; plan = s.plan } };
 }
 
-/// Prepares the update from the current screen, or an unknown one, to the target. Where a shift of one of the bands spares three rows or
-/// more it begins with that shift.
+/// Prepares the update from the current screen, or an unknown one, to the target. Where a shift of one of the bands spares
+/// three rows or more it begins with that shift.
 pub fn shifted_plan(
     alloc: Global,
     current: Option<&Screen>,
@@ -110,9 +110,9 @@ impl Shifted {
         self.plan.rows()
     }
 
-    /// Sends the bytes of the shift, whatever the limit is, then those of the rows that differ after it, from the top, at most so many of
-    /// them, and then the move of the cursor where these were all. It takes no memory. A fault comes only where the sink's count of
-    /// faults rose, and a front of the bytes was then written.
+    /// Sends the bytes of the shift, whatever the limit is, then those of the rows that differ after it, from the top, at most
+    /// so many of them, and then the move of the cursor where these were all. It takes no memory. A fault comes only where the
+    /// sink's count of faults rose, and a front of the bytes was then written.
     pub fn send<K: Sink>(&self, sink: &mut K, rows_at_most: Option<u32>) -> Result<Sent, WriteFault>
         ensures bytes { (current : Option Picture) (target : Picture) (bands : List Band) → self.now ≡ shifted_planned current target bands
             → Writes (K.written sink.old) (K.written sink.new) (shifted_update current target bands rows_at_most).bytes result }
@@ -127,8 +127,8 @@ impl Shifted {
         self.plan.send(sink, rows_at_most)
     }
 
-    /// The new current screen: the target's cells in the rows that were sent, the cells after the shift elsewhere, and the target's
-    /// cursor where the update is done, else the old one. It takes no memory.
+    /// The new current screen: the target's cells in the rows that were sent, the cells after the shift elsewhere, and the
+    /// target's cursor where the update is done, else the old one. It takes no memory.
     pub fn after(self, current: Option<Screen>, target: Screen, sent: Sent) -> Screen
         requires prepared { (bands : List Band) × (AreWithin (length target.rows) bands × (self ≡ shifted_planned current target bands)
             × ((limit : Option ℕ) × (sent ≡ sent_of (shifted_update current target bands limit)))) }

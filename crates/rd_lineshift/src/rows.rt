@@ -118,8 +118,8 @@ fn is_row(old: &[Cell], old_print: u64, new: &[Cell], new_print: u64) -> bool
     !differ(old, new)
 }
 
-/// The number of the first row of the target that is the same as a row of its width, and the target's height where none is. The rows are
-/// compared where their prints are equal.
+/// The number of the first row of the target that is the same as a row of its width, and the target's height where none is. The
+/// rows are compared where their prints are equal.
 fn number_of(target: &Screen, prints: &Numbers, row: &[Cell]) -> u64
     requires target { IsSound target.now }
     requires prints { prints.now ≡ map (print_from 0) target.now.rows }
