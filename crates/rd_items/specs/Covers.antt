@@ -1,9 +1,27 @@
--- Items that cover each position once.
-use Rattle.std.specs.Prelude.{◌≡◌, ◌⊎◌, ℕ, ◌<◌, List, [], ◌∷◌}
+-- What items cover, and how they end.
+use Rattle.std.specs.Prelude.{◌≡◌, ◌⊎◌, ℕ, ◌<◌, nat_lt, Bool, true, false, not, ◌&&◌, List, [], ◌∷◌, All}
+use Rattle.rd_items.specs.Pieces.{Scene}
+use Rattle.rd_items.specs.Items.{kind_gives}
 use Rattle.rd_items.specs.declared.item.Item.{Item}
+use Rattle.rd_items.specs.declared.item.ItemKind.{ItemKind}
+use Rattle.rd_items.specs.declared.item.ItemKind.TheVariants as kind
 
--- items that cover the positions from one to another, that one not included: each covers none, or goes on where the last that
+-- items that cover the offsets from one to another, that one not included: each covers none, or goes on where the last that
 -- covers any ended
 abbrev pub Tile : ℕ → ℕ → List Item → Type 0
 Tile since to [] = since ≡ to
 Tile since to (x ∷ xs) = ((x.from ≡ x.to) × Tile since to xs) ⊎ ((x.from ≡ since) × (since < x.to) × Tile x.to to xs)
+
+-- an item covers any offset exactly where it is no overlay's string and gives an element
+abbrev pub CoverWhereTheyGive : Scene → List Item → Type 0
+CoverWhereTheyGive scene items = All (λ x. nat_lt x.from x.to ≡ (not x.overlay && kind_gives scene x.kind)) items
+
+abbrev pub is_ender_kind : ItemKind → Bool
+is_ender_kind kind.Ender = true
+is_ender_kind k = false
+
+-- the last item is an ender, and no other is
+abbrev pub EndOnce : List Item → Type 0
+EndOnce [] = ⊥
+EndOnce (x ∷ []) = is_ender_kind x.kind ≡ true
+EndOnce (x ∷ y ∷ xs) = (is_ender_kind x.kind ≡ false) × EndOnce (y ∷ xs)

@@ -4,4 +4,6 @@ pub mod Stretches
 pub mod Pieces
 pub mod Items
 pub mod Covers
+pub mod Growing
+pub mod Walks
 pub mod Examples

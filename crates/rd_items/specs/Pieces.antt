@@ -1,13 +1,16 @@
--- The pieces of a block: what its positions give, before marks join and ranges are handed on.
+-- The pieces of a block: what its positions give, before marks join and ranges are handed on. Places are offsets in what is read.
 use Rattle.std.specs.Prelude.{ℕ, zero, suc, ◌+◌, ◌==◌, Bool, true, false, not, ◌||◌, ◌&&◌, if◌then◌else◌, List, [], ◌∷◌, ◌++◌, slice_get, map, Option, None, Some}
 use Rattle.std.specs.Option.{unwrap_or, option_and_then}
 use Rattle.rd_base.specs.declared.class.Class.{Class}
 use Rattle.rd_base.specs.declared.class.Class.TheVariants.{B, S, ON}
+use Rattle.rd_base.specs.Faces.{Attributes}
+use Rattle.rd_base.specs.Settings.{SettingValues}
+use Rattle.rd_base.specs.declared.settings.Invisible.{Invisible}
 use Rattle.rd_base.specs.Glyphs.{IsMeasured}
 use Rattle.rd_base.specs.declared.cell.Glyph.{Glyph}
 use Rattle.rd_text.specs.Texts.{is_newline}
-use Rattle.rd_ucd.specs.declared.spans.Span.{Span}
-use Rattle.rd_ucd.specs.declared.spans.Pair.{Pair}
+use Rattle.rd_ucd.specs.declared.spans.BracketEntry.{BracketEntry}
+use Rattle.rd_ucd.specs.Data.{Data}
 use Rattle.rd_ucd.specs.Lookup.{class_of}
 use Rattle.rd_objects.specs.declared.run.Spec.{Spec}
 use Rattle.rd_objects.specs.declared.run.Spec.TheVariants.{Text, Width, Align}
@@ -18,34 +21,40 @@ use Rattle.rd_glyphs.specs.Characters.{PartValues, entry_of, on_blank}
 use Rattle.rd_glyphs.specs.Joining.{is_empty_entry, joining_of, IsMark}
 use Rattle.rd_glyphs.specs.declared.joining.Joining.{Joining}
 use Rattle.rd_glyphs.specs.declared.joining.Joining.TheVariants as joining
-use Rattle.rd_props.specs.Buffers.{BufferValue, meaning}
+use Rattle.rd_props.specs.Buffers.{meaning}
+use Rattle.rd_props.specs.Seen.{Seen}
 use Rattle.rd_props.specs.declared.state.View.{View}
 use Rattle.rd_props.specs.declared.hiding.Hidden.{Hidden}
 use Rattle.rd_props.specs.declared.hiding.Hidden.TheVariants.{No, Plain, Ellipsis}
-use Rattle.rd_items.specs.Readings.{Entry, is_hidden}
+use Rattle.rd_items.specs.Readings.{is_hidden, showing_of}
 use Rattle.rd_items.specs.declared.showing.Showing.{Showing}
 use Rattle.rd_items.specs.declared.item.ItemKind.{ItemKind}
 use Rattle.rd_items.specs.declared.item.ItemKind.TheVariants as kind
 use Rattle.rd_items.specs.declared.piece.Piece.{Piece}
 
--- what the items of a block depend on, besides what is read of it
+-- what the items of a block depend on, besides what is read of it; the brackets count in the order of its line alone
 pub record Scene : Type 0 where
   pub objects : ObjectLists
   pub parts : PartValues
+  pub brackets : List BracketEntry
 
 -- the table of a number, where one was made with it
 abbrev pub table_in : ObjectLists → Option ℕ → Option TableValue
 table_in objects number = option_and_then (λ n. slice_get objects.tables n) number
 
-abbrev pub parts_in : BufferValue → ObjectLists → List Span → List Pair → PartValues
-parts_in s objects classes mirrors =
-    record { table = table_in objects s.settings.table; settings = s.settings; classes = classes; mirrors = mirrors }
+-- the scene of a buffer with these settings
+abbrev pub scene_in : SettingValues → ObjectLists → Data → Scene
+scene_in settings objects files = record {
+  objects = objects;
+  parts =
+      record { table = table_in objects settings.table; settings = settings; classes = files.classes; mirrors = files.mirrors };
+  brackets = files.brackets;
+}
 
 abbrev pub scene_of : View → Scene
-scene_of view = record {
-  objects = view.objects.now;
-  parts = parts_in (meaning view.state.now) view.objects.now view.classes.now view.mirrors.now;
-}
+scene_of view =
+    scene_in (meaning view.state.now).settings view.objects.now
+    (record { classes = view.classes.now; mirrors = view.mirrors.now; brackets = view.brackets.now })
 
 -- the display spec of a number: no columns where none was made with it
 abbrev pub spec_in : ObjectLists → ℕ → Spec
@@ -70,22 +79,32 @@ abbrev pub ellipsis_gives : Option TableValue → Bool
 ellipsis_gives None = true
 ellipsis_gives (Some table) = not (is_empty_entry table.ellipsis)
 
--- a piece that marks don't join
-abbrev pub piece : Class → Option ItemKind → Bool → ℕ → ℕ → Piece
-piece class kind covers at to = record { class = class; kind = kind; covers = covers; at = at; to = to; base = None; mark = None }
+-- a piece that marks don't join and that is no overlay's string
+abbrev pub piece : Class → Option ItemKind → Attributes → Bool → ℕ → ℕ → Piece
+piece class kind face covers at to = record {
+  class = class;
+  kind = kind;
+  face = face;
+  overlay = false;
+  covers = covers;
+  at = at;
+  to = to;
+  base = None;
+  mark = None;
+}
 
 -- the strings of overlays at a position cover nothing
-abbrev pub string_piece : ℕ → ℕ → Piece
-string_piece p number = piece ON (Some (kind.Text number)) false p p
+abbrev pub string_piece : ℕ → Attributes → ℕ → Piece
+string_piece p face number = record (piece ON (Some (kind.Text number)) face false p p) { overlay = true }
 
-abbrev pub string_pieces : ℕ → List ℕ → List Piece
-string_pieces p numbers = map (string_piece p) numbers
+abbrev pub string_pieces : ℕ → Attributes → List ℕ → List Piece
+string_pieces p face numbers = map (string_piece p face) numbers
 
 -- text that a display spec replaces: the spec's string, or its space, which counts as a separator
-abbrev pub spec_piece : Scene → Spec → ℕ → ℕ → Piece
-spec_piece s (Text n) p to = piece ON (Some (kind.Text n)) (string_gives s.parts.table (slice_get s.objects.strings n)) p to
-spec_piece s (Width n) p to = piece S (Some (kind.Space (Width n))) true p to
-spec_piece s (Align n) p to = piece S (Some (kind.Space (Align n))) true p to
+abbrev pub spec_piece : Scene → Spec → Attributes → ℕ → ℕ → Piece
+spec_piece s (Text n) face p to = piece ON (Some (kind.Text n)) face (string_gives s.parts.table (slice_get s.objects.strings n)) p to
+spec_piece s (Width n) face p to = piece S (Some (kind.Space (Width n))) face true p to
+spec_piece s (Align n) face p to = piece S (Some (kind.Space (Align n))) face true p to
 
 -- a separator of paragraphs inside a block counts as one of segments
 abbrev pub inner_class : Class → Class
@@ -106,10 +125,12 @@ abbrev pub mark_of : Joining → Option ℕ
 mark_of (joining.Mark code) = Some code
 mark_of j = None
 
-abbrev pub char_by : Joining → Class → ℕ → ℕ → Piece
-char_by j class c p = record {
+abbrev pub char_by : Joining → Class → Attributes → ℕ → ℕ → Piece
+char_by j class face c p = record {
   class = inner_class class;
   kind = Some (kind.Char c);
+  face = face;
+  overlay = false;
   covers = has_element j;
   at = p;
   to = p + 1;
@@ -117,30 +138,30 @@ char_by j class c p = record {
   mark = mark_of j;
 }
 
-abbrev pub char_piece : Scene → ℕ → ℕ → Piece
-char_piece s c p = char_by (joining_of s.parts c) (class_of s.parts.classes c) c p
+abbrev pub char_piece : Scene → Attributes → ℕ → ℕ → Piece
+char_piece s face c p = char_by (joining_of s.parts c) (class_of s.parts.classes c) face c p
 
-abbrev pub ender_piece : ℕ → Piece
-ender_piece p = piece B (Some kind.Ender) true p (p + 1)
+abbrev pub ender_piece : Attributes → ℕ → Piece
+ender_piece face p = piece B (Some kind.Ender) face true p (p + 1)
 
 -- text that is neither replaced nor hidden, and the end
-abbrev pub open_piece : Scene → Option ℕ → ℕ → Piece
-open_piece s None p = ender_piece p
-open_piece s (Some c) p = if is_newline c then ender_piece p else char_piece s c p
+abbrev pub open_piece : Scene → Attributes → Option ℕ → ℕ → Piece
+open_piece s face None p = ender_piece face p
+open_piece s face (Some c) p = if is_newline c then ender_piece face p else char_piece s face c p
 
 -- text that is not replaced: hidden text gives an ellipsis, or nothing
-abbrev pub unreplaced_piece : Scene → Hidden → Option ℕ → ℕ → ℕ → Piece
-unreplaced_piece s No ch p to = open_piece s ch p
-unreplaced_piece s Plain ch p to = piece ON None false p to
-unreplaced_piece s Ellipsis ch p to = piece ON (Some kind.Ellipsis) (ellipsis_gives s.parts.table) p to
+abbrev pub unreplaced_piece : Scene → Hidden → Attributes → Option ℕ → ℕ → ℕ → Piece
+unreplaced_piece s No face ch p to = open_piece s face ch p
+unreplaced_piece s Plain face ch p to = piece ON None face false p to
+unreplaced_piece s Ellipsis face ch p to = piece ON (Some kind.Ellipsis) face (ellipsis_gives s.parts.table) p to
 
-abbrev pub piece_by : Scene → Option ℕ → Hidden → Option ℕ → ℕ → ℕ → Piece
-piece_by s (Some n) hidden ch p to = spec_piece s (spec_in s.objects n) p to
-piece_by s None hidden ch p to = unreplaced_piece s hidden ch p to
+abbrev pub piece_by : Scene → Option ℕ → Hidden → Attributes → Option ℕ → ℕ → ℕ → Piece
+piece_by s (Some n) hidden face ch p to = spec_piece s (spec_in s.objects n) face p to
+piece_by s None hidden face ch p to = unreplaced_piece s hidden face ch p to
 
 -- what a position gives as the first of its run, which ends before another
 abbrev pub piece_at : Scene → Showing → Option ℕ → ℕ → ℕ → Piece
-piece_at s showing ch p to = piece_by s showing.display showing.hidden ch p to
+piece_at s showing ch p to = piece_by s showing.display showing.hidden showing.face ch p to
 
 abbrev pub same_spec : Option ℕ → Option ℕ → Bool
 same_spec (Some a) (Some b) = a == b
@@ -151,18 +172,22 @@ abbrev pub goes_on : Showing → Showing → Bool
 goes_on first next = same_spec first.display next.display || (is_hidden first.hidden && is_hidden next.hidden)
 
 -- how many of the positions behind one belong to its run
-abbrev pub run_length : Showing → List Entry → ℕ
-run_length first [] = 0
-run_length first (e ∷ es) = if goes_on first e.showing then suc (run_length first es) else 0
+abbrev pub run_length : Invisible → Showing → List Seen → ℕ
+run_length setting first [] = 0
+run_length setting first (e ∷ es) = if goes_on first (showing_of setting e) then suc (run_length setting first es) else 0
 
--- the pieces of a position and of those after it, of which so many belong to an earlier run and give nothing: of each other
+-- the same by the setting of a scene
+abbrev pub run_in : Scene → Seen → List Seen → ℕ
+run_in s first es = run_length s.parts.settings.invisible (showing_of s.parts.settings.invisible first) es
+
+-- the pieces of what is read at an offset and after it, of which so many belong to an earlier run and give nothing: of each other
 -- first the strings before it, and then its own with its run
-abbrev pub pieces_from : Scene → ℕ → ℕ → List Entry → List Piece
-pieces_from s due p [] = []
-pieces_from s (suc due) p (e ∷ es) = pieces_from s due (suc p) es
-pieces_from s zero p (e ∷ es) =
-    string_pieces p e.strings
-    ++ piece_at s e.showing e.ch p (suc p + run_length e.showing es) ∷ pieces_from s (run_length e.showing es) (suc p) es
+abbrev pub pieces_from : Scene → ℕ → ℕ → List Seen → List Piece
+pieces_from s due k [] = []
+pieces_from s (suc due) k (e ∷ es) = pieces_from s due (suc k) es
+pieces_from s zero k (e ∷ es) =
+    string_pieces k e.face e.strings
+    ++ piece_at s (showing_of s.parts.settings.invisible e) e.character k (suc k + run_in s e es) ∷ pieces_from s (run_in s e es) (suc k) es
 
 -- what a kind shows has the columns that Unicode gives it
 abbrev pub IsMeasuredKind : ItemKind → Type 0

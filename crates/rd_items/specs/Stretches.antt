@@ -1,5 +1,6 @@
 -- Stretches of text that is shown alike.
 use Rattle.std.specs.Prelude.{◌≡◌, ◌⊎◌, ℕ, ◌+◌, ◌<◌, ◌≤◌, nat_lt, Bool, ◌&&◌, []}
+use Rattle.rd_objects.specs.Things.{ObjectLists}
 use Rattle.rd_props.specs.Buffers.{BufferValue}
 use Rattle.rd_props.specs.Stops.{IsNextStop}
 use Rattle.rd_props.specs.Strings.{strings_at}
@@ -7,8 +8,8 @@ use Rattle.rd_items.specs.Readings.{showing_at}
 use Rattle.rd_items.specs.declared.stretch.Stretch.{Stretch}
 
 -- the positions of a stretch are shown alike, and no string stands before any but the first
-pub record IsStretch (s : BufferValue) (stretch : Stretch) : Type 0 where
-  pub alike : (p : ℕ) → stretch.from ≤ p → p < stretch.until → showing_at s p ≡ stretch.showing
+pub record IsStretch (s : BufferValue) (objects : ObjectLists) (stretch : Stretch) : Type 0 where
+  pub alike : (p : ℕ) → stretch.from ≤ p → p < stretch.until → showing_at s objects p ≡ stretch.showing
   pub bare : (p : ℕ) → stretch.from < p → p < stretch.until → strings_at s p ≡ []
 
 -- where a stretch from a position ends: at the next stop, and behind the end of the accessible text
@@ -17,7 +18,7 @@ IsStopBehind s p stop = IsNextStop s p stop ⊎ ((p ≡ s.text.end) × (stop ≡
 
 -- a stretch in every buffer
 abbrev pub IsStretchOfAny : Stretch → Type 0
-IsStretchOfAny stretch = (s : BufferValue) → IsStretch s stretch
+IsStretchOfAny stretch = (s : BufferValue) (objects : ObjectLists) → IsStretch s objects stretch
 
 -- a position of a stretch, but not its first
 abbrev pub holds_later : Stretch → ℕ → Bool

@@ -1,60 +1,63 @@
 //! Where blocks begin and end.
-ghost use Rattle.std.specs.Prelude.{◌≡◌, ◌⊎◌, ◌+◌, ◌-◌, ◌<◌, ◌≤◌, ℕ, suc, true, false, IfOk};
+ghost use Rattle.std.specs.Prelude.{◌≡◌, ◌-◌, ◌<◌, ◌≤◌, true, IfOk};
 ghost use Rattle.rd_text.specs.Texts.{IsAccessible};
 ghost use Rattle.rd_props.specs.Buffers.{meaning};
-ghost use Rattle.rd_items.specs.Blocks.{is_shown_newline, IsBlockAt, IsLastStart, IsFirstEnd};
+ghost use Rattle.rd_items.specs.Blocks.{is_shown_newline, StartsBlock, IsBlock, IsBlockAt, IsLastStart, IsFirstEnd};
 
-use crate::showing::is_ender;
+use crate::showing::{ends_block, showing_at};
+use crate::stretch::stretch_at;
 use rd_base::{Memory, Pos};
 use rd_props::View;
 use std::alloc::Global;
 
-/// Whether an accessible position before the end has a newline that is neither replaced nor hidden. Properties are looked up for
-/// newlines alone.
+/// Whether an accessible position before the end has a newline that is neither replaced nor hidden.
 fn is_shown_newline(alloc: Global, view: &View, pos: Pos) -> Result<bool, Memory>
     requires first { view.now.state.now.text.begin ≤ pos }
     requires last { pos < view.now.state.now.text.end }
     ensures { IfOk result (λ shown. shown ≡ is_shown_newline (meaning view.now.state.now) pos) }
 {
-    is_ender(alloc, view, pos)
+    let showing = showing_at(alloc, view, pos)?;
+    Ok(ends_block(view, pos, &showing))
 }
 
-/// The first position of the block that holds a position.
+/// The first position of the block that holds a position. Properties are looked up for newlines alone.
 fn block_start(alloc: Global, view: &View, pos: Pos) -> Result<Pos, Memory>
     requires { IsAccessible view.now.state.now.text pos }
     ensures { IfOk result (λ from. IsLastStart (meaning view.now.state.now) pos from) }
 {
     let state = view.state;
     let begin = state.text.begin();
-    let mut from = pos;
+    let mut from = state.text.prev_newline(pos);
     while begin < from {
         if is_shown_newline(alloc, view, from - 1)? {
             return Ok(from);
         }
-        from -= 1;
+        from = state.text.prev_newline(from - 1);
     }
     Ok(from)
 }
 
-/// The position behind the ender of the block that holds a position.
+/// The position behind the ender of the block that holds a position. Properties are looked up for newlines alone, and once for
+/// all of a stretch that hides or replaces them.
 fn block_end(alloc: Global, view: &View, pos: Pos) -> Result<Pos, Memory>
     requires { IsAccessible view.now.state.now.text pos }
     ensures { IfOk result (λ to. IsFirstEnd (meaning view.now.state.now) pos to) }
 {
     let state = view.state;
     let end = state.text.end();
-    let mut last = pos;
-    while last < end {
-        if is_shown_newline(alloc, view, last)? {
-            return Ok(last + 1);
+    let mut newline = state.text.next_newline(pos);
+    while newline < end {
+        let stretch = stretch_at(alloc, view, newline)?;
+        if stretch.showing.is_open() {
+            return Ok(newline + 1);
         }
-        last += 1;
+        newline = state.text.next_newline(stretch.until);
     }
-    Ok(last + 1)
+    Ok(newline + 1)
 }
 
 /// The block that holds an accessible position, or the end of the accessible text: its first position, and the position behind
-/// its ender. It costs a look at each of its characters, and the look-ups of the properties at each of its newlines.
+/// its ender. It costs a pass over the block's characters, and a look-up of the properties at its newlines.
 pub fn block_at(alloc: Global, view: &View, pos: Pos) -> Result<(Pos, Pos), Memory>
     requires { IsAccessible view.now.state.now.text pos }
     ensures { IfOk result (λ block. IsBlockAt (meaning view.now.state.now) pos block.0 block.1) }
@@ -62,4 +65,25 @@ pub fn block_at(alloc: Global, view: &View, pos: Pos) -> Result<(Pos, Pos), Memo
     let from = block_start(alloc, view, pos)?;
     let to = block_end(alloc, view, pos)?;
     Ok((from, to))
+}
+
+/// The position behind the ender of the block that starts at a position: the beginning of the accessible text, or one right
+/// behind a newline that is neither replaced nor hidden. It reads that block alone.
+pub fn block_from(alloc: Global, view: &View, start: Pos) -> Result<Pos, Memory>
+    requires accessible { IsAccessible view.now.state.now.text start }
+    requires start { StartsBlock (meaning view.now.state.now) start }
+    ensures { IfOk result (λ end. IsBlock (meaning view.now.state.now) start end) }
+{
+    block_end(alloc, view, start)
+}
+
+/// The first position of the block that ends right before a position, which is behind a newline that is neither replaced nor
+/// hidden. It reads that block alone.
+pub fn block_before(alloc: Global, view: &View, end: Pos) -> Result<Pos, Memory>
+    requires first { view.now.state.now.text.begin < end }
+    requires last { end ≤ view.now.state.now.text.end }
+    requires newline { is_shown_newline (meaning view.now.state.now) (end - 1) ≡ true }
+    ensures { IfOk result (λ start. IsBlock (meaning view.now.state.now) start end) }
+{
+    block_start(alloc, view, end - 1)
 }

@@ -1,6 +1,12 @@
 //! What an item is.
-use rd_base::{Ch, Class, Glyph, Pos};
+ghost use Rattle.std.specs.Prelude.{◌≡◌};
+ghost use Rattle.rd_items.specs.Items.{unlisted};
+
+use rd_base::{Ch, Class, Face, Glyph};
 use rd_objects::Spec;
+
+/// The code of what is no bracket.
+pub const UNLISTED: u32 = u32::MAX;
 
 /// What an item shows.
 #[derive(Clone, Copy, Debug, PartialEq, Eq)]
@@ -19,13 +25,32 @@ pub enum ItemKind {
     Ender,
 }
 
-/// An item of a line. It covers the positions from `from` to `to - 1`; an overlay's string, and one that shows no element,
-/// covers none. It stands at the position `at`, which is its character's own, or the first of the text that it is shown for.
+impl ItemKind {
+    ghost use Rattle.std.specs.Prelude.{◌≡◌};
+    ghost use Rattle.rd_items.specs.Items.{bracket_code};
+
+    /// The code by which an item of this kind may be a bracket: that of its character, or of the base of its marks; and
+    /// `UNLISTED` where it shows no character.
+    pub fn bracket_code(&self) -> u32
+        ensures { result ≡ bracket_code self.now }
+    {
+        match self {
+            ItemKind::Char(ch) => ch.code(),
+            ItemKind::Marked(glyph) => glyph.base,
+            _ => UNLISTED,
+        }
+    }
+}
+
+/// An item of a line. It covers the positions at the offsets from `from` to `to - 1` in its block; an overlay's string, and one
+/// that shows no element, covers none. Its face is the buffer's at the position that it stands at, which is its character's own,
+/// or the first of the text that it is shown for. It is an `overlay` exactly where it is an overlay's string.
 #[derive(Clone, Copy, Debug, PartialEq, Eq)]
 pub struct Item {
     pub class: Class,
     pub kind: ItemKind,
-    pub at: Pos,
-    pub from: Pos,
-    pub to: Pos,
+    pub face: Face,
+    pub overlay: bool,
+    pub from: u32,
+    pub to: u32,
 }

@@ -2,6 +2,7 @@
 ghost use Rattle.std.specs.Prelude.{◌≡◌, IfOk};
 ghost use Rattle.rd_text.specs.Texts.{IsAccessible};
 ghost use Rattle.rd_props.specs.Buffers.{meaning};
+ghost use Rattle.rd_items.specs.Readings.{reading};
 ghost use Rattle.rd_items.specs.Pieces.{scene_of};
 ghost use Rattle.rd_items.specs.Items.{items_of, AreMeasuredItems};
 
@@ -34,7 +35,8 @@ impl Items {
     ghost use Rattle.std.specs.Prelude.{◌≡◌, ◌<◌, length, slice_get, Some, IfOk};
     ghost use Rattle.rd_text.specs.Texts.{IsAccessible};
     ghost use Rattle.rd_props.specs.Buffers.{meaning};
-    ghost use Rattle.rd_items.specs.Pieces.{scene_of};
+    ghost use Rattle.rd_items.specs.Readings.{reading};
+ghost use Rattle.rd_items.specs.Pieces.{scene_of};
     ghost use Rattle.rd_items.specs.Items.{items_of, AreMeasuredItems};
 
     /// The items of the block that starts at a position, in order of position; of a position inside a block, those from there
@@ -42,7 +44,7 @@ impl Items {
     /// wherever a property changes or an overlay starts or ends.
     pub fn new(alloc: Global, view: &View, start: Pos) -> Result<Items, Memory>
         requires { IsAccessible view.now.state.now.text start }
-        ensures value { IfOk result (λ items. items ≡ items_of (meaning view.now.state.now) (scene_of view.now) start) }
+        ensures value { IfOk result (λ items. items ≡ items_of (scene_of view.now) (reading (meaning view.now.state.now) view.now.objects.now start)) }
         ensures measured { IfOk result (λ items. AreMeasuredItems items) }
     {
         let list = walk_from(alloc, view, start)?;
@@ -71,13 +73,13 @@ impl Items {
 /// The items from a position up to the block's ender.
 fn walk_from(alloc: Global, view: &View, start: Pos) -> Result<ListOf<Item>, Memory>
     requires { IsAccessible view.now.state.now.text start }
-    ensures value { IfOk result (λ items. items ≡ items_of (meaning view.now.state.now) (scene_of view.now) start) }
+    ensures value { IfOk result (λ items. items ≡ items_of (scene_of view.now) (reading (meaning view.now.state.now) view.now.objects.now start)) }
     ensures measured { IfOk result (λ items. AreMeasuredItems items) }
 {
-    let mut walk = Walk::new(alloc, start);
+    let mut walk = Walk::new(alloc);
     let mut stretch = Stretch::nowhere();
     let mut pos = start;
-    while let Some(next) = walk.step(alloc, view, &mut stretch, pos)? {
+    while let Some(next) = walk.step(alloc, view, &mut stretch, start, pos)? {
         pos = next;
     }
     walk.finish()

@@ -3,6 +3,7 @@
 #![tactic(auto)]
 
 mod block;
+mod examples;
 mod item;
 mod items;
 mod laws;
@@ -11,10 +12,8 @@ mod showing;
 mod stretch;
 mod walk;
 
-pub use block::block_at;
-pub use item::{Item, ItemKind};
+pub use block::{block_at, block_before, block_from};
+pub use item::{Item, ItemKind, UNLISTED};
 pub use items::Items;
-pub use laws::{
-    blocks_are_read_whole, items_cover_their_block, items_of_hidden_text, items_where_overlays_meet,
-};
+pub use laws::{blocks_are_read_whole, items_cover_their_block};
 pub use piece::parts_of;

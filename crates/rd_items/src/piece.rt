@@ -1,27 +1,27 @@
 //! What positions give before marks join and ranges are handed on.
 ghost use Rattle.std.specs.Prelude.{◌≡◌, ◌<◌, option_map, slice_get};
-ghost use Rattle.rd_text.specs.Texts.{IsAccessible};
-ghost use Rattle.rd_props.specs.Buffers.{meaning};
-ghost use Rattle.rd_items.specs.Readings.{accessible_char};
 ghost use Rattle.rd_items.specs.Pieces.{scene_of, table_in, spec_in, gives_element, give_elements, string_gives, ellipsis_gives, inner_class, has_element, base_of, mark_of, char_by, spec_piece, open_piece, piece_at, HoldsBase, HoldsMark, IsMeasuredPiece};
 ghost use Rattle.rd_glyphs.specs.Joining.{IsMeasuredJoining};
 
 use crate::item::ItemKind;
-use crate::showing::{Showing, char_at};
-use rd_base::{Ch, Class, Glyph, Pos};
+use crate::showing::Showing;
+use rd_base::{Ch, Class, Face, Glyph};
 use rd_glyphs::{Joining, Parts, on_blank};
 use rd_objects::{Objects, Spec, Table, Text};
 use rd_props::{Hidden, View};
 
-/// A piece of a line: what stands for the positions from `at` to `to - 1`. There is no `kind` for hidden text without an
+/// A piece of a line: what stands for the positions at the offsets from `at` to `to - 1`. There is no `kind` for hidden text without an
 /// ellipsis. It `covers` its positions where it has an element and is no overlay's string.
 #[derive(Clone, Copy, Debug, PartialEq, Eq)]
 pub struct Piece {
     pub class: Class,
     pub kind: Option<ItemKind>,
+    pub face: Face,
+    /// Whether this is an overlay's string.
+    pub overlay: bool,
     pub covers: bool,
-    pub at: Pos,
-    pub to: Pos,
+    pub at: u32,
+    pub to: u32,
     /// The glyph that marks may join.
     pub base: Option<Glyph>,
     /// The mark that this is.
@@ -32,14 +32,23 @@ impl Piece {
     ghost use Rattle.std.specs.Prelude.{◌≡◌, ◌<◌};
     ghost use Rattle.rd_items.specs.Pieces.{piece, string_piece, ender_piece, HoldsKind, IsMeasuredPiece};
 
-    /// A piece that marks don't join.
-    fn new(class: Class, kind: Option<ItemKind>, covers: bool, at: Pos, to: Pos) -> Piece
-        ensures value { result ≡ piece class kind covers at to }
+    /// A piece that marks don't join and that is no overlay's string.
+    fn new(
+        class: Class,
+        kind: Option<ItemKind>,
+        face: Face,
+        covers: bool,
+        at: u32,
+        to: u32,
+    ) -> Piece
+        ensures value { result ≡ piece class kind face covers at to }
         ensures measured { HoldsKind kind → IsMeasuredPiece result }
     {
         Piece {
             class,
             kind,
+            face,
+            overlay: false,
             covers,
             at,
             to,
@@ -48,21 +57,31 @@ impl Piece {
         }
     }
 
-    /// An overlay's string before a position.
-    pub fn string(pos: Pos, number: u32) -> Piece
-        ensures value { result ≡ string_piece pos number }
+    /// An overlay's string before the position at an offset, where the text has this face.
+    pub fn string(at: u32, face: Face, number: u32) -> Piece
+        ensures value { result ≡ string_piece at face number }
         ensures measured { IsMeasuredPiece result }
     {
-        Piece::new(Class::ON, Some(ItemKind::Text(number)), false, pos, pos)
+        Piece {
+            class: Class::ON,
+            kind: Some(ItemKind::Text(number)),
+            face,
+            overlay: true,
+            covers: false,
+            at,
+            to: at,
+            base: None,
+            mark: None,
+        }
     }
 
     /// What ends a block.
-    fn ender(pos: Pos) -> Piece
-        requires { pos < 4294967295 }
-        ensures value { result ≡ ender_piece pos }
+    fn ender(face: Face, at: u32) -> Piece
+        requires { at < 4294967295 }
+        ensures value { result ≡ ender_piece face at }
         ensures measured { IsMeasuredPiece result }
     {
-        Piece::new(Class::B, Some(ItemKind::Ender), true, pos, pos + 1)
+        Piece::new(Class::B, Some(ItemKind::Ender), face, true, at, at + 1)
     }
 }
 
@@ -143,20 +162,21 @@ fn ellipsis_gives(parts: &Parts) -> bool
 }
 
 /// The piece of text that a spec replaces.
-fn spec_piece(parts: &Parts, objects: &Objects, spec: Spec, pos: Pos, to: Pos) -> Piece
-    ensures value { result ≡ spec_piece (record { objects = objects.now; parts = parts.now }) spec pos to }
+fn spec_piece(view: &View, spec: Spec, face: Face, at: u32, to: u32) -> Piece
+    ensures value { result ≡ spec_piece (scene_of view.now) spec face at to }
     ensures measured { IsMeasuredPiece result }
 {
     match spec {
         Spec::Text(number) => Piece::new(
             Class::ON,
             Some(ItemKind::Text(number)),
-            string_gives(parts, objects, number),
-            pos,
+            face,
+            string_gives(&parts_of(view), view.objects, number),
+            at,
             to,
         ),
         Spec::Width(_) | Spec::Align(_) => {
-            Piece::new(Class::S, Some(ItemKind::Space(spec)), true, pos, to)
+            Piece::new(Class::S, Some(ItemKind::Space(spec)), face, true, at, to)
         }
     }
 }
@@ -205,59 +225,59 @@ fn mark_of(joining: Joining) -> Option<u32>
 }
 
 /// The piece of a character of this class.
-fn char_by(joining: Joining, class: Class, ch: Ch, pos: Pos) -> Piece
-    requires { pos < 4294967295 }
-    ensures value { result ≡ char_by joining class ch pos }
+fn char_by(joining: Joining, class: Class, face: Face, ch: Ch, at: u32) -> Piece
+    requires { at < 4294967295 }
+    ensures value { result ≡ char_by joining class face ch at }
     ensures measured { IsMeasuredJoining joining → IsMeasuredPiece result }
 {
     Piece {
         class: inner_class(class),
         kind: Some(ItemKind::Char(ch)),
+        face,
+        overlay: false,
         covers: has_element(joining),
-        at: pos,
-        to: pos + 1,
+        at,
+        to: at + 1,
         base: base_of(joining),
         mark: mark_of(joining),
     }
 }
 
 /// The piece of a position that is neither replaced nor hidden.
-fn open_piece(parts: &Parts, objects: &Objects, ch: Option<Ch>, pos: Pos) -> Piece
-    requires { pos < 4294967295 }
-    ensures value { result ≡ open_piece (record { objects = objects.now; parts = parts.now }) ch pos }
+fn open_piece(view: &View, face: Face, ch: Option<Ch>, at: u32) -> Piece
+    requires { at < 4294967295 }
+    ensures value { result ≡ open_piece (scene_of view.now) face ch at }
     ensures measured { IsMeasuredPiece result }
 {
     match ch {
-        None => Piece::ender(pos),
+        None => Piece::ender(face, at),
         Some(ch) => {
             if ch.code() == 10 {
-                return Piece::ender(pos);
+                return Piece::ender(face, at);
             }
-            char_by(parts.joining(ch), parts.classes.class(ch), ch, pos)
+            let joining = parts_of(view).joining(ch);
+            char_by(joining, view.classes.class(ch), face, ch, at)
         }
     }
 }
 
-/// The piece of a position, the first of its run, which ends before another.
-pub fn piece_at(view: &View, showing: Showing, pos: Pos, to: Pos) -> Piece
-    requires accessible { IsAccessible view.now.state.now.text pos }
-    requires place { pos < 4294967295 }
-    ensures value { result ≡ piece_at (scene_of view.now) showing (accessible_char (meaning view.now.state.now) pos) pos to }
+/// The piece of the position at an offset, the first of its run, which ends before another.
+pub fn piece_at(view: &View, showing: &Showing, ch: Option<Ch>, at: u32, to: u32) -> Piece
+    requires { at < 4294967295 }
+    ensures value { result ≡ piece_at (scene_of view.now) showing.now ch at to }
     ensures measured { IsMeasuredPiece result }
 {
-    let parts = parts_of(view);
+    let face = showing.face;
     match (showing.display, showing.hidden) {
-        (Some(number), _) => {
-            let spec = spec_of(view.objects, number);
-            spec_piece(&parts, view.objects, spec, pos, to)
-        }
-        (None, Hidden::No) => open_piece(&parts, view.objects, char_at(view, pos), pos),
-        (None, Hidden::Plain) => Piece::new(Class::ON, None, false, pos, to),
+        (Some(number), _) => spec_piece(view, spec_of(view.objects, number), face, at, to),
+        (None, Hidden::No) => open_piece(view, face, ch, at),
+        (None, Hidden::Plain) => Piece::new(Class::ON, None, face, false, at, to),
         (None, Hidden::Ellipsis) => Piece::new(
             Class::ON,
             Some(ItemKind::Ellipsis),
-            ellipsis_gives(&parts),
-            pos,
+            face,
+            ellipsis_gives(&parts_of(view)),
+            at,
             to,
         ),
     }

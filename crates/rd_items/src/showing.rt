@@ -2,19 +2,21 @@
 ghost use Rattle.std.specs.Prelude.{◌≡◌, IfOk};
 ghost use Rattle.rd_text.specs.Texts.{IsAccessible};
 ghost use Rattle.rd_props.specs.Buffers.{meaning};
-ghost use Rattle.rd_items.specs.Readings.{showing_at, accessible_char, ends_line, is_hidden, is_ender};
+ghost use Rattle.rd_props.specs.Seen.{accessible_char};
+ghost use Rattle.rd_items.specs.Readings.{showing_at, ends_line, is_hidden, ends_block};
 ghost use Rattle.rd_items.specs.Pieces.{same_spec};
 
-use rd_base::{Ch, Memory, Pos};
+use rd_base::{Ch, Face, Memory, Pos};
 use rd_overlays::Kind;
-use rd_props::{Hidden, View, effective, hidden};
+use rd_props::{Hidden, View, effective, face_at, hidden};
 use std::alloc::Global;
 
-/// How the text at a position is shown: the number of the display spec that replaces it, and how it is hidden.
+/// How the text at a position is shown: the number of the display spec that replaces it, how it is hidden, and its face.
 #[derive(Clone, Copy, Debug, PartialEq, Eq)]
 pub struct Showing {
     pub display: Option<u32>,
     pub hidden: Hidden,
+    pub face: Face,
 }
 
 /// Whether text is hidden, with an ellipsis or without.
@@ -53,15 +55,15 @@ impl Showing {
     ghost use Rattle.rd_items.specs.Pieces.{goes_on};
 
     /// Whether the text is neither replaced nor hidden.
-    pub fn is_open(self) -> bool
-        ensures { result ≡ is_open self }
+    pub fn is_open(&self) -> bool
+        ensures { result ≡ is_open self.now }
     {
         self.display.is_none() && !is_hidden(self.hidden)
     }
 
     /// Whether another position belongs to the run of this one.
-    pub fn goes_on(self, next: Showing) -> bool
-        ensures { result ≡ goes_on self next }
+    pub fn goes_on(&self, next: &Showing) -> bool
+        ensures { result ≡ goes_on self.now next.now }
     {
         same_spec(self.display, next.display) || is_hidden(self.hidden) && is_hidden(next.hidden)
     }
@@ -70,7 +72,7 @@ impl Showing {
 /// The character at an accessible position, and None at the end of the accessible text.
 pub fn char_at(view: &View, pos: Pos) -> Option<Ch>
     requires { IsAccessible view.now.state.now.text pos }
-    ensures { result ≡ accessible_char (meaning view.now.state.now) pos }
+    ensures { result ≡ accessible_char view.now.state.now.text pos }
 {
     let state = view.state;
     if state.text.end() <= pos {
@@ -82,32 +84,20 @@ pub fn char_at(view: &View, pos: Pos) -> Option<Ch>
 /// How an accessible position, or the end of the accessible text, is shown.
 pub fn showing_at(alloc: Global, view: &View, pos: Pos) -> Result<Showing, Memory>
     requires { IsAccessible view.now.state.now.text pos }
-    ensures { IfOk result (λ showing. showing ≡ showing_at (meaning view.now.state.now) pos) }
+    ensures { IfOk result (λ showing. showing ≡ showing_at (meaning view.now.state.now) view.now.objects.now pos) }
 {
     Ok(Showing {
         display: effective(alloc, view, pos, Kind::Display)?,
         hidden: hidden(alloc, view, pos)?,
+        face: face_at(alloc, view, pos)?,
     })
 }
 
-/// Whether an accessible position, or the end of the accessible text, ends a block. Properties are looked up at newlines and at
-/// the end alone.
-pub fn is_ender(alloc: Global, view: &View, pos: Pos) -> Result<bool, Memory>
-    requires { IsAccessible view.now.state.now.text pos }
-    ensures { IfOk result (λ ends. ends ≡ is_ender (meaning view.now.state.now) pos) }
-{
-    if !ends_line(char_at(view, pos)) {
-        return Ok(false);
-    }
-    let showing = showing_at(alloc, view, pos)?;
-    Ok(showing.is_open())
-}
-
-/// The same of a position that is shown in a known way.
-pub fn is_ender_shown(view: &View, pos: Pos, showing: Showing) -> bool
+/// Whether an accessible position, or the end of the accessible text, that is shown in this way ends a block.
+pub fn ends_block(view: &View, pos: Pos, showing: &Showing) -> bool
     requires accessible { IsAccessible view.now.state.now.text pos }
-    requires showing { showing ≡ showing_at (meaning view.now.state.now) pos }
-    ensures { result ≡ is_ender (meaning view.now.state.now) pos }
+    requires showing { showing.now ≡ showing_at (meaning view.now.state.now) view.now.objects.now pos }
+    ensures { result ≡ ends_block (meaning view.now.state.now) pos }
 {
     showing.is_open() && ends_line(char_at(view, pos))
 }

@@ -7,7 +7,7 @@ ghost use Rattle.rd_items.specs.Readings.{showing_at, reading, behind};
 ghost use Rattle.rd_items.specs.Pieces.{run_length};
 
 use crate::showing::{Showing, showing_at};
-use rd_base::{Memory, Pos};
+use rd_base::{Face, Memory, Pos};
 use rd_props::{Hidden, View, next_stop};
 use std::alloc::Global;
 
@@ -33,6 +33,7 @@ impl Stretch {
             showing: Showing {
                 display: None,
                 hidden: Hidden::No,
+                face: Face::PLAIN,
             },
         }
     }
@@ -52,7 +53,7 @@ pub fn stretch_at(alloc: Global, view: &View, pos: Pos) -> Result<Stretch, Memor
     ensures first { IfOk result (λ stretch. stretch.from ≡ pos) }
     ensures some { IfOk result (λ stretch. pos < stretch.until) }
     ensures within { pos < view.now.state.now.text.end → IfOk result (λ stretch. stretch.until ≤ view.now.state.now.text.end) }
-    ensures shown { IfOk result (λ stretch. IsStretch (meaning view.now.state.now) stretch) }
+    ensures shown { IfOk result (λ stretch. IsStretch (meaning view.now.state.now) view.now.objects.now stretch) }
 {
     let showing = showing_at(alloc, view, pos)?;
     Ok(Stretch {
@@ -76,10 +77,10 @@ fn stop_behind(view: &View, pos: Pos) -> Pos
 }
 
 /// The first position behind one that doesn't belong to its run.
-pub fn run_end(alloc: Global, view: &View, pos: Pos, showing: Showing) -> Result<Pos, Memory>
+pub fn run_end(alloc: Global, view: &View, pos: Pos, showing: &Showing) -> Result<Pos, Memory>
     requires accessible { IsAccessible view.now.state.now.text pos }
-    requires showing { showing ≡ showing_at (meaning view.now.state.now) pos }
-    ensures { IfOk result (λ to. to ≡ suc pos + run_length showing (behind (reading (meaning view.now.state.now) pos))) }
+    requires showing { showing.now ≡ showing_at (meaning view.now.state.now) view.now.objects.now pos }
+    ensures { IfOk result (λ to. to ≡ suc pos + run_length view.now.state.now.settings.invisible showing.now (behind (reading (meaning view.now.state.now) view.now.objects.now pos))) }
 {
     let state = view.state;
     let end = state.text.end();
@@ -89,7 +90,7 @@ pub fn run_end(alloc: Global, view: &View, pos: Pos, showing: Showing) -> Result
     }
     while to < end {
         let stretch = stretch_at(alloc, view, to)?;
-        if !showing.goes_on(stretch.showing) {
+        if !showing.goes_on(&stretch.showing) {
             return Ok(to);
         }
         to = stretch.until;

@@ -1,22 +1,23 @@
 //! The walk over a block: marks join, and ranges are handed on.
 ghost use Rattle.std.specs.Prelude.{◌≡◌};
-ghost use Rattle.rd_items.specs.Items.{marked_glyph, marked, item_of};
+ghost use Rattle.rd_glyphs.specs.Marks.{marked_glyph, marked};
+ghost use Rattle.rd_items.specs.Items.{piece_joins, item_of};
 ghost use Rattle.rd_items.specs.Pieces.{HoldsBase, HoldsMark, IsMeasuredPiece, HoldsPiece};
 
 use crate::item::{Item, ItemKind};
 use crate::piece::{Piece, piece_at};
-use crate::showing::{Showing, is_ender_shown};
+use crate::showing::{Showing, char_at, ends_block};
 use crate::stretch::{Stretch, run_end, stretch_at};
-use rd_base::{Glyph, ListOf, Memory, Pos};
+use rd_base::{Face, Glyph, ListOf, Memory, Pos};
 use rd_glyphs::join;
 use rd_props::{View, strings_at};
 use std::alloc::Global;
 
-/// The items made so far, the first position that none of them covers yet, and the last piece, which marks may still join.
+/// The items made so far, the first offset that none of them covers yet, and the last piece, which marks may still join.
 #[derive(Drop)]
 pub struct Walk {
     items: ListOf<Item>,
-    since: Pos,
+    since: u32,
     held: Option<Piece>,
 }
 
@@ -33,7 +34,7 @@ fn marked_glyph(base: Option<Glyph>, mark: Option<u32>) -> Option<Glyph>
 
 /// A piece with the mark of the next, where it joins it.
 fn marked(held: &Piece, next: &Piece) -> Option<Piece>
-    ensures value { result ≡ marked held.now next.now }
+    ensures value { result ≡ marked piece_joins held.now next.now }
     ensures measured { IsMeasuredPiece held.now → IsMeasuredPiece next.now → HoldsPiece result }
 {
     match marked_glyph(held.base, next.mark) {
@@ -42,6 +43,8 @@ fn marked(held: &Piece, next: &Piece) -> Option<Piece>
             base: Some(glyph),
             to: next.to,
             class: held.class,
+            face: held.face,
+            overlay: held.overlay,
             covers: held.covers,
             at: held.at,
             mark: held.mark,
@@ -50,8 +53,8 @@ fn marked(held: &Piece, next: &Piece) -> Option<Piece>
     }
 }
 
-/// The item of a piece that covers the positions from `since` on, or else nothing.
-fn item_of(since: Pos, piece: &Piece, kind: ItemKind) -> Item
+/// The item of a piece that covers the offsets from `since` on, or else none.
+fn item_of(since: u32, piece: &Piece, kind: ItemKind) -> Item
     ensures { result ≡ item_of since piece.now kind }
 {
     let (from, to) = if piece.covers {
@@ -62,32 +65,34 @@ fn item_of(since: Pos, piece: &Piece, kind: ItemKind) -> Item
     Item {
         class: piece.class,
         kind,
-        at: piece.at,
+        face: piece.face,
+        overlay: piece.overlay,
         from,
         to,
     }
 }
 
 impl Walk {
-    ghost use Rattle.std.specs.Prelude.{◌≡◌, ◌∷◌, [], ◌++◌, List, None, OnOk, IfOk};
+    ghost use Rattle.std.specs.Prelude.{◌≡◌, ◌≤◌, ◌-◌, ◌∷◌, [], ◌++◌, List, None, OnOk, IfOk};
     ghost use Rattle.rd_text.specs.Texts.{IsAccessible};
     ghost use Rattle.rd_props.specs.Buffers.{meaning};
     ghost use Rattle.rd_props.specs.Strings.{strings_at};
     ghost use Rattle.rd_items.specs.Readings.{showing_at};
     ghost use Rattle.rd_items.specs.Stretches.{IsStretch};
-    ghost use Rattle.rd_items.specs.Items.{items_by, covered_to, whole, Steps, AreMeasuredItems, IsMeasuredWalk};
+    ghost use Rattle.rd_items.specs.Items.{items_by, covered_to, AreMeasuredItems};
+    ghost use Rattle.rd_items.specs.Walks.{whole, Steps, IsMeasuredWalk};
     ghost use Rattle.rd_items.specs.Pieces.{scene_of, string_pieces, IsMeasuredPiece};
     ghost use Rattle.rd_items.specs.declared.piece.Piece.{Piece};
 
-    /// A walk from a position.
-    pub fn new(alloc: Global, start: Pos) -> Walk
+    /// A walk before its first step.
+    pub fn new(alloc: Global) -> Walk
         ensures items { result.items ≡ [] }
-        ensures since { result.since ≡ start }
+        ensures since { result.since ≡ 0 }
         ensures held { result.held ≡ None }
     {
         Walk {
             items: ListOf::new(alloc),
-            since: start,
+            since: 0,
             held: None,
         }
     }
@@ -124,13 +129,13 @@ impl Walk {
         Ok(())
     }
 
-    /// Adds the strings of overlays before a position.
-    fn put_strings(&mut self, pos: Pos, numbers: &[u32]) -> Result<(), Memory>
+    /// Adds the strings of overlays before the position at an offset, where the text has this face.
+    fn put_strings(&mut self, at: u32, face: Face, numbers: &[u32]) -> Result<(), Memory>
         ensures measured { IsMeasuredWalk self.old.items self.old.held → OnOk result (IsMeasuredWalk self.new.items self.new.held) }
-        ensures whole { OnOk result ((xs : List Piece) → whole self.new.items self.new.since self.new.held xs ≡ whole self.old.items self.old.since self.old.held (string_pieces pos numbers.now ++ xs)) }
+        ensures whole { OnOk result ((xs : List Piece) → whole self.new.items self.new.since self.new.held xs ≡ whole self.old.items self.old.since self.old.held (string_pieces at face numbers.now ++ xs)) }
     {
         for number in numbers {
-            self.put(Piece::string(pos, *number))?;
+            self.put(Piece::string(at, face, *number))?;
         }
         Ok(())
     }
@@ -141,21 +146,23 @@ impl Walk {
         alloc: Global,
         view: &View,
         stretch: &mut Stretch,
+        start: Pos,
         pos: Pos,
     ) -> Result<Showing, Memory>
         requires accessible { IsAccessible view.now.state.now.text pos }
-        requires stretch { IsStretch (meaning view.now.state.now) stretch.old }
-        ensures showing { IfOk result (λ showing. showing ≡ showing_at (meaning view.now.state.now) pos) }
-        ensures stretch { IfOk result (λ showing. IsStretch (meaning view.now.state.now) stretch.new) }
+        requires behind { start ≤ pos }
+        requires stretch { IsStretch (meaning view.now.state.now) view.now.objects.now stretch.old }
+        ensures showing { IfOk result (λ showing. showing ≡ showing_at (meaning view.now.state.now) view.now.objects.now pos) }
+        ensures stretch { IfOk result (λ showing. IsStretch (meaning view.now.state.now) view.now.objects.now stretch.new) }
         ensures measured { IsMeasuredWalk self.old.items self.old.held → IfOk result (λ showing. IsMeasuredWalk self.new.items self.new.held) }
-        ensures whole { IfOk result (λ showing. (xs : List Piece) → whole self.new.items self.new.since self.new.held xs ≡ whole self.old.items self.old.since self.old.held (string_pieces pos (strings_at (meaning view.now.state.now) pos) ++ xs)) }
+        ensures whole { IfOk result (λ showing. (xs : List Piece) → whole self.new.items self.new.since self.new.held xs ≡ whole self.old.items self.old.since self.old.held (string_pieces (pos - start) showing.face (strings_at (meaning view.now.state.now) pos) ++ xs)) }
     {
         if stretch.holds_later(pos) {
             return Ok(stretch.showing);
         }
         *stretch = stretch_at(alloc, view, pos)?;
         let strings = strings_at(alloc, view, pos)?;
-        self.put_strings(pos, strings.as_slice())?;
+        self.put_strings(pos - start, stretch.showing.face, strings.as_slice())?;
         Ok(stretch.showing)
     }
 
@@ -166,18 +173,20 @@ impl Walk {
         alloc: Global,
         view: &View,
         stretch: &mut Stretch,
+        start: Pos,
         pos: Pos,
     ) -> Result<Option<Pos>, Memory>
         requires accessible { IsAccessible view.now.state.now.text pos }
-        requires stretch { IsStretch (meaning view.now.state.now) stretch.old }
-        ensures stretch { IfOk result (λ next. IsStretch (meaning view.now.state.now) stretch.new) }
+        requires behind { start ≤ pos }
+        requires stretch { IsStretch (meaning view.now.state.now) view.now.objects.now stretch.old }
+        ensures stretch { IfOk result (λ next. IsStretch (meaning view.now.state.now) view.now.objects.now stretch.new) }
         ensures measured { IsMeasuredWalk self.old.items self.old.held → IfOk result (λ next. IsMeasuredWalk self.new.items self.new.held) }
-        ensures steps { Steps result (meaning view.now.state.now) (scene_of view.now) pos (whole self.old.items self.old.since self.old.held) (whole self.new.items self.new.since self.new.held) }
+        ensures steps { Steps result (meaning view.now.state.now) (scene_of view.now) start pos (whole self.old.items self.old.since self.old.held) (whole self.new.items self.new.since self.new.held) }
     {
-        let showing = self.enter(alloc, view, stretch, pos)?;
-        let to = run_end(alloc, view, pos, showing)?;
-        self.put(piece_at(view, showing, pos, to))?;
-        if is_ender_shown(view, pos, showing) {
+        let showing = self.enter(alloc, view, stretch, start, pos)?;
+        let to = run_end(alloc, view, pos, &showing)?;
+        self.put(piece_at(view, &showing, char_at(view, pos), pos - start, to - start))?;
+        if ends_block(view, pos, &showing) {
             return Ok(None);
         }
         Ok(Some(to))

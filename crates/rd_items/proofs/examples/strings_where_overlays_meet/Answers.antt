@@ -1,6 +1,6 @@
 use Rattle.std.proofs.Common.{refl}
 use Rattle.unicode_width.specs.Width.{char_width}
-use Rattle.rd_items.proofs.laws.items_where_overlays_meet.Goals as goal
+use Rattle.rd_items.proofs.examples.strings_where_overlays_meet.Goals as goal
 
 pub returns : goal.returns
 unfolding char_width
