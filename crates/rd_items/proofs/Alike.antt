@@ -4,10 +4,12 @@ use Rattle.std.specs.Prelude.{suc, nat_lt}
 use Rattle.std.proofs.lemmas.Bool.Decides.{nat_tests}
 use Rattle.rd_overlays.specs.declared.overlay.Overlay.{Overlay}
 use Rattle.rd_overlays.specs.declared.overlay.Kind.{Kind}
-use Rattle.rd_overlays.specs.declared.overlay.Kind.TheVariants.{Display, Invisible}
+use Rattle.rd_overlays.specs.declared.overlay.Kind.TheVariants.{Face, Display, Invisible}
 use Rattle.rd_overlays.specs.Overlays.{overlay_at, covers, starts, ends, ranked_from, numbers_of, number_of_rank, covering, place_of}
 use Rattle.rd_props.specs.Buffers.{BufferValue}
 use Rattle.rd_props.specs.Stops.{IsNextStop}
+use Rattle.rd_objects.specs.Things.{ObjectLists}
+use Rattle.rd_props.specs.Faces.{face_at}
 use Rattle.rd_props.specs.Values.{effective}
 use Rattle.rd_props.specs.Strings.{strings_at}
 use Rattle.rd_items.specs.Readings.{showing_at}
@@ -62,11 +64,20 @@ value-same s p stop q kind next later before =
     let inside-first = below p s.text.end (omega arith) in
     rw (inside, inside-first, same, property)
 
-showing-same : (s : BufferValue) (p stop q : ℕ) → IsNextStop s p stop → p < q → q < stop → showing_at s q ≡ showing_at s p
-showing-same s p stop q next later before =
+face-same : (s : BufferValue) (o : ObjectLists) (p stop q : ℕ) → IsNextStop s p stop → p < q → q < stop → face_at s o q ≡ face_at s o p
+face-same s o p stop q next later before =
+    let same = covering-same s p stop q next later before in
+    let property = next.same q later before (place_of Face) in
+    let inside = below q s.text.end (omega arith) in
+    let inside-first = below p s.text.end (omega arith) in
+    rw (inside, inside-first, same, property)
+
+showing-same : (s : BufferValue) (o : ObjectLists) (p stop q : ℕ) → IsNextStop s p stop → p < q → q < stop → showing_at s o q ≡ showing_at s o p
+showing-same s o p stop q next later before =
     let display = value-same s p stop q Display next later before in
     let atom = value-same s p stop q Invisible next later before in
-    rw (display, atom)
+    let face = face-same s o p stop q next later before in
+    rw (display, atom, face)
 
 starts-not : (q : ℕ) (o : Overlay) → (o.from ≡ q → ⊥) → starts q o ≡ false
 starts-not q o differs = grind (arith, nat_tests)
@@ -80,20 +91,20 @@ strings-none s p stop q next later before =
     let last = numbers-none (ends q) s.overlays (λ k o lives. ends-not q o (λ e. next.no_edge q later before (k, o, lives, inr e))) in
     rw (first, last)
 
-alike-from : (s : BufferValue) (p stop : ℕ) (showing : Showing) → IsStopBehind s p stop → showing ≡ showing_at s p → (q : ℕ) → p ≤ q → q < stop → showing_at s q ≡ showing
-alike-from s p stop showing (inr end) same q first before = (let here : q ≡ p = omega arith in rw here (sym same))
-alike-from s p stop showing (inl next) same q first before = by-place (split p q first) where
+alike-from : (s : BufferValue) (o : ObjectLists) (p stop : ℕ) (showing : Showing) → IsStopBehind s p stop → showing ≡ showing_at s o p → (q : ℕ) → p ≤ q → q < stop → showing_at s o q ≡ showing
+alike-from s o p stop showing (inr end) same q first before = (let here : q ≡ p = omega arith in rw here (sym same))
+alike-from s o p stop showing (inl next) same q first before = by-place (split p q first) where
   split : (p q : ℕ) → p ≤ q → (q ≡ p) ⊎ (p < q)
   split p q first = grind arith
 
-  by-place : (q ≡ p) ⊎ (p < q) → showing_at s q ≡ showing
+  by-place : (q ≡ p) ⊎ (p < q) → showing_at s o q ≡ showing
   by-place (inl e) = rw e (sym same)
-  by-place (inr later) = showing-same s p stop q next later before ∙ sym same
+  by-place (inr later) = showing-same s o p stop q next later before ∙ sym same
 
 bare-from : (s : BufferValue) (p stop : ℕ) → IsStopBehind s p stop → (q : ℕ) → p < q → q < stop → strings_at s q ≡ []
 bare-from s p stop (inr end) q later before = absurd (omega arith)
 bare-from s p stop (inl next) q later before = strings-none s p stop q next later before
 
 -- the positions up to where a stretch ends
-pub stretch-from : (s : BufferValue) (p stop : ℕ) (showing : Showing) → IsStopBehind s p stop → showing ≡ showing_at s p → IsStretch s (record { from = p; until = stop; showing = showing })
-stretch-from s p stop showing behind same = record { alike = alike-from s p stop showing behind same; bare = bare-from s p stop behind }
+pub stretch-from : (s : BufferValue) (o : ObjectLists) (p stop : ℕ) (showing : Showing) → IsStopBehind s p stop → showing ≡ showing_at s o p → IsStretch s o (record { from = p; until = stop; showing = showing })
+stretch-from s o p stop showing behind same = record { alike = alike-from s o p stop showing behind same; bare = bare-from s p stop behind }

@@ -1,5 +1,9 @@
 mod Alike
-mod Cuts
+mod Chains
+mod Growing
+mod Listing
+mod Measured
+mod Newlines
 mod Reach
 mod Runs
 mod Steps

@@ -1,27 +1,30 @@
 -- How far the reading of a block goes.
-use Rattle.std.proofs.Common.{◌≡◌, ◌⊎◌, inl, inr, ℕ, ◌+◌, ◌-◌, ◌<◌, ◌≤◌, Bool, true, false, List, [], length, refl, sym, ap, ◌∙◌, arith}
-use Rattle.std.specs.Prelude.{zero, suc, nat_lt, if◌then◌else◌}
+use Rattle.std.proofs.Common.{◌≡◌, ◌⊎◌, inl, inr, ℕ, ◌+◌, ◌-◌, ◌<◌, ◌≤◌, Bool, true, false, List, [], ◌∷◌, length, Option, Some, None, refl, sym, ap, ◌∙◌, arith}
+use Rattle.std.specs.Prelude.{zero, suc, nat_lt, ◌&&◌, if◌then◌else◌}
 use Rattle.std.proofs.lemmas.Bool.Decides.{nat_tests}
 use Rattle.rd_props.specs.Buffers.{BufferValue}
-use Rattle.rd_items.specs.Readings.{Entry, is_ender, reading_from, reading}
+use Rattle.rd_base.specs.declared.settings.Invisible.{Invisible}
+use Rattle.rd_objects.specs.Things.{ObjectLists}
+use Rattle.rd_props.specs.Seen.{Seen, seen_at, accessible_char}
+use Rattle.rd_items.specs.Readings.{showing_at, is_open, ends_line, is_ender, ends_block, reading_from, reading, IsReading}
 use Rattle.rd_items.specs.Blocks.{is_shown_newline, IsBlock}
-use Rattle.rd_items.proofs.Runs.{if-false}
+use Rattle.rd_items.proofs.Runs.{end-open, if-false}
 
 pub if-true : {A : Type 0} (test : Bool) (a b : A) → test ≡ true → (if test then a else b) ≡ a
 if-true true a b e = refl
 if-true false a b e = cc
 
 -- before the end a shown newline is an ender
-newline-ends : (s : BufferValue) (p : ℕ) → p < s.text.end → is_shown_newline s p ≡ is_ender s p
+newline-ends : (s : BufferValue) (p : ℕ) → p < s.text.end → is_shown_newline s p ≡ ends_block s p
 newline-ends s p before =
     let inside : nat_lt p s.text.end ≡ true = grind (arith, nat_tests) in
     rw inside
 
-read-one : (s : BufferValue) (n p : ℕ) → is_ender s p ≡ true → length (reading_from s (suc n) p) ≡ 1
-read-one s n p ender = ap (λ (es : List Entry). suc (length es)) (if-true (is_ender s p) [] (reading_from s n (suc p)) ender)
+read-one : (s : BufferValue) (o : ObjectLists) (n p : ℕ) → ends_block s p ≡ true → length (reading_from s o (suc n) p) ≡ 1
+read-one s o n p ender = ap (λ (es : List Seen). suc (length es)) (if-true (ends_block s p) [] (reading_from s o n (suc p)) ender)
 
-read-more : (s : BufferValue) (n p : ℕ) → is_ender s p ≡ false → length (reading_from s (suc n) p) ≡ suc (length (reading_from s n (suc p)))
-read-more s n p ender = ap (λ (es : List Entry). suc (length es)) (if-false (is_ender s p) [] (reading_from s n (suc p)) ender)
+read-more : (s : BufferValue) (o : ObjectLists) (n p : ℕ) → ends_block s p ≡ false → length (reading_from s o (suc n) p) ≡ suc (length (reading_from s o n (suc p)))
+read-more s o n p ender = ap (λ (es : List Seen). suc (length es)) (if-false (ends_block s p) [] (reading_from s o n (suc p)) ender)
 
 -- what a block is from one of its positions on
 record IsRest (s : BufferValue) (p to : ℕ) : Type 0 where
@@ -30,36 +33,67 @@ record IsRest (s : BufferValue) (p to : ℕ) : Type 0 where
   inside : (q : ℕ) → p ≤ q → suc q < to → is_shown_newline s q ≡ false
   ends : (to ≡ s.text.end + 1) ⊎ (is_shown_newline s (to - 1) ≡ true)
 
-ends-here : (s : BufferValue) (p to : ℕ) → p < s.text.end → to ≡ suc p → (to ≡ s.text.end + 1) ⊎ (is_shown_newline s (to - 1) ≡ true) → is_ender s p ≡ true
+ends-here : (s : BufferValue) (p to : ℕ) → p < s.text.end → to ≡ suc p → (to ≡ s.text.end + 1) ⊎ (is_shown_newline s (to - 1) ≡ true) → ends_block s p ≡ true
 ends-here s p to before here (inl end) = absurd (omega arith)
 ends-here s p to before here (inr newline) =
     let place : to - 1 ≡ p = omega arith in
     sym (newline-ends s p before) ∙ sym (ap (is_shown_newline s) place) ∙ newline
 
-reach-by : (s : BufferValue) (n p to : ℕ) → p + suc n ≡ s.text.end → IsRest s p to → (IsRest s (suc p) to → suc p + length (reading_from s n (suc p)) ≡ to) → (to ≡ suc p) ⊎ (suc p < to) → p + length (reading_from s (suc n) p) ≡ to
-reach-by s n p to far rest later (inl here) =
-    let one = read-one s n p (ends-here s p to (omega arith) here rest.ends) in
+reach-by : (s : BufferValue) (o : ObjectLists) (n p to : ℕ) → p + suc n ≡ s.text.end → IsRest s p to → (IsRest s (suc p) to → suc p + length (reading_from s o n (suc p)) ≡ to) → (to ≡ suc p) ⊎ (suc p < to) → p + length (reading_from s o (suc n) p) ≡ to
+reach-by s o n p to far rest later (inl here) =
+    let one = read-one s o n p (ends-here s p to (omega arith) here rest.ends) in
     omega arith
-reach-by s n p to far rest later (inr more) =
-    let goes : is_ender s p ≡ false = sym (newline-ends s p (omega arith)) ∙ rest.inside p (omega arith) more in
-    let one = read-more s n p goes in
+reach-by s o n p to far rest later (inr more) =
+    let goes : ends_block s p ≡ false = sym (newline-ends s p (omega arith)) ∙ rest.inside p (omega arith) more in
+    let one = read-more s o n p goes in
     let left : IsRest s (suc p) to = record { some = more; last = rest.last; inside = λ q a b. rest.inside q (omega arith) b; ends = rest.ends } in
     let all = later left in
     omega arith
 
-reach : (s : BufferValue) (n p to : ℕ) → p + n ≡ s.text.end → IsRest s p to → p + length (reading_from s n p) ≡ to
-reach s zero p to far rest = omega (arith, rest.some, rest.last)
-reach s (suc n) p to far rest = reach-by s n p to far rest (reach s n (suc p) to (omega arith)) (split rest.some) where
+reach : (s : BufferValue) (o : ObjectLists) (n p to : ℕ) → p + n ≡ s.text.end → IsRest s p to → p + length (reading_from s o n p) ≡ to
+reach s o zero p to far rest = omega (arith, rest.some, rest.last)
+reach s o (suc n) p to far rest = reach-by s o n p to far rest (reach s o n (suc p) to (omega arith)) (split rest.some) where
   split : p < to → (to ≡ suc p) ⊎ (suc p < to)
   split some = grind arith
 
 -- the reading of a block has one entry for each of its positions
-pub block-read : (s : BufferValue) (from to : ℕ) → IsBlock s from to → from + length (reading s from) ≡ to
-block-read s from to block =
+pub block-read : (s : BufferValue) (o : ObjectLists) (from to : ℕ) → IsBlock s from to → from + length (reading s o from) ≡ to
+block-read s o from to block =
     let rest : IsRest s from to = record { some = block.some; last = block.last; inside = block.inside; ends = block.ends } in
     by-place (order from s.text.end to block.some block.last) rest where
       order : (from end to : ℕ) → from < to → to ≤ end + 1 → from ≤ end
       order from end to a b = omega arith
 
-      by-place : from ≤ s.text.end → IsRest s from to → from + length (reading s from) ≡ to
-      by-place within rest = reach s (s.text.end - from) from to (omega arith) rest
+      by-place : from ≤ s.text.end → IsRest s from to → from + length (reading s o from) ≡ to
+      by-place within rest = reach s o (s.text.end - from) from to (omega arith) rest
+
+-- what is read of a block ends with its ender, and has none before
+reading-cons : (setting : Invisible) (e : Seen) (es : List Seen) → is_ender setting e ≡ false → IsReading setting es → IsReading setting (e ∷ es)
+reading-cons setting e [] none rest = absurd rest
+reading-cons setting e (f ∷ es) none rest = (none, rest)
+
+ends-by : (a : Bool) (c : Option ℕ) → a ≡ true → c ≡ None → (a && ends_line c) ≡ true
+ends-by true None e f = refl
+ends-by true (Some c) e f = cc
+ends-by false c e f = cc
+
+end-char : (s : BufferValue) → accessible_char s.text s.text.end ≡ None
+end-char s = grind (arith, nat_tests)
+
+-- the end of the accessible text is an ender
+pub end-ends : (s : BufferValue) (o : ObjectLists) → ends_block s s.text.end ≡ true
+end-ends s o = ends-by (is_open (showing_at s o s.text.end)) (accessible_char s.text s.text.end) (end-open s o) (end-char s)
+
+whole-by : (s : BufferValue) (o : ObjectLists) (n p : ℕ) → IsReading s.settings.invisible (reading_from s o n (suc p)) → (ender : Bool) → ends_block s p ≡ ender → IsReading s.settings.invisible (reading_from s o (suc n) p)
+whole-by s o n p rest true e = rw (if-true (ends_block s p) [] (reading_from s o n (suc p)) e) e
+whole-by s o n p rest false e =
+    rw (if-false (ends_block s p) [] (reading_from s o n (suc p)) e) (reading-cons s.settings.invisible (seen_at s o p) (reading_from s o n (suc p)) e rest)
+
+whole-from : (s : BufferValue) (o : ObjectLists) (n p : ℕ) → p + n ≡ s.text.end → IsReading s.settings.invisible (reading_from s o n p)
+whole-from s o zero p far =
+    let here : p ≡ s.text.end = omega arith in
+    ap (ends_block s) here ∙ end-ends s o
+whole-from s o (suc n) p far = whole-by s o n p (whole-from s o n (suc p) (omega arith)) (ends_block s p) refl
+
+pub reading-whole : (s : BufferValue) (o : ObjectLists) (p : ℕ) → p ≤ s.text.end → IsReading s.settings.invisible (reading s o p)
+reading-whole s o p within = whole-from s o (s.text.end - p) p (omega arith)

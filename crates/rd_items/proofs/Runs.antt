@@ -6,12 +6,15 @@ use Rattle.rd_props.specs.Buffers.{BufferValue}
 use Rattle.rd_items.specs.declared.showing.Showing.{Showing}
 use Rattle.rd_items.specs.declared.stretch.Stretch.{Stretch}
 use Rattle.rd_items.specs.Stretches.{IsStretch}
-use Rattle.rd_items.specs.Readings.{Entry, showing_at, entry_at, is_hidden, is_open, is_ender, ends_line, accessible_char, reading, behind}
+use Rattle.rd_objects.specs.Things.{ObjectLists}
+use Rattle.rd_base.specs.declared.settings.Invisible.{Invisible}
+use Rattle.rd_props.specs.Seen.{Seen, seen_at, accessible_char}
+use Rattle.rd_items.specs.Readings.{showing_of, showing_at, is_hidden, is_open, ends_block, ends_line, reading, behind}
 use Rattle.rd_items.specs.Pieces.{same_spec, goes_on, run_length}
 
 -- the end is neither replaced nor hidden
-pub end-open : (s : BufferValue) → is_open (showing_at s s.text.end) ≡ true
-end-open s = grind (arith, nat_tests)
+pub end-open : (s : BufferValue) (o : ObjectLists) → is_open (showing_at s o s.text.end) ≡ true
+end-open s o = grind (arith, nat_tests)
 
 spec-stops : (spec other : Option ℕ) → is_some other ≡ false → same_spec spec other ≡ false
 spec-stops None other none = refl
@@ -49,25 +52,25 @@ open-begins first next shown =
     neither-first (same_spec first.display next.display) (is_hidden first.hidden) (is_hidden next.hidden) (spec-alone first.display next.display parts.0) parts.1
 
 -- nor does it begin one
-pub open-alone : (first : Showing) (es : List Entry) → is_open first ≡ true → run_length first es ≡ 0
-open-alone first [] shown = refl
-open-alone first (e ∷ es) shown = rw (open-begins first e.showing shown)
+pub open-alone : (setting : Invisible) (first : Showing) (es : List Seen) → is_open first ≡ true → run_length setting first es ≡ 0
+open-alone setting first [] shown = refl
+open-alone setting first (e ∷ es) shown = rw (open-begins first (showing_of setting e) shown)
 
 first-true : (a b : Bool) → (a && b) ≡ true → a ≡ true
 first-true true b e = refl
 first-true false b e = e
 
-pub ender-open : (s : BufferValue) (p : ℕ) → is_ender s p ≡ true → is_open (showing_at s p) ≡ true
-ender-open s p ender = first-true (is_open (showing_at s p)) (ends_line (accessible_char s p)) ender
+pub ender-open : (s : BufferValue) (o : ObjectLists) (p : ℕ) → ends_block s p ≡ true → is_open (showing_at s o p) ≡ true
+ender-open s o p ender = first-true (is_open (showing_at s o p)) (ends_line (accessible_char s.text p)) ender
 
 -- what is read at a position before the end
-pub reading-step : (s : BufferValue) (p : ℕ) → p < s.text.end → reading s p ≡ entry_at s p ∷ (if is_ender s p then [] else reading s (suc p))
-reading-step s p before =
+pub reading-step : (s : BufferValue) (o : ObjectLists) (p : ℕ) → p < s.text.end → reading s o p ≡ seen_at s o p ∷ (if ends_block s p then [] else reading s o (suc p))
+reading-step s o p before =
     let n : s.text.end - p ≡ suc (s.text.end - suc p) = omega arith in
     rw n
 
-pub reading-end : (s : BufferValue) (p : ℕ) → p ≡ s.text.end → reading s p ≡ entry_at s p ∷ []
-reading-end s p end =
+pub reading-end : (s : BufferValue) (o : ObjectLists) (p : ℕ) → p ≡ s.text.end → reading s o p ≡ seen_at s o p ∷ []
+reading-end s o p end =
     let n : s.text.end - p ≡ 0 = omega arith in
     rw n
 
@@ -83,60 +86,60 @@ false-unless true none = absurd (none refl)
 false-unless false none = refl
 
 -- a replaced or hidden position stands before the end, and what is read behind it is what is read at the next
-pub closed-before : (s : BufferValue) (p : ℕ) → p ≤ s.text.end → is_open (showing_at s p) ≡ false → p < s.text.end
-closed-before s p within closed =
-    let differs : p ≡ s.text.end → ⊥ = λ e. not-both (is_open (showing_at s p)) (rw e (end-open s)) closed in
+pub closed-before : (s : BufferValue) (o : ObjectLists) (p : ℕ) → p ≤ s.text.end → is_open (showing_at s o p) ≡ false → p < s.text.end
+closed-before s o p within closed =
+    let differs : p ≡ s.text.end → ⊥ = λ e. not-both (is_open (showing_at s o p)) (rw e (end-open s o)) closed in
     grind arith
 
-pub behind-closed : (s : BufferValue) (p : ℕ) → p < s.text.end → is_open (showing_at s p) ≡ false → behind (reading s p) ≡ reading s (suc p)
-behind-closed s p before closed =
-    let ender = false-unless (is_ender s p) (λ e. not-both (is_open (showing_at s p)) (ender-open s p e) closed) in
-    ap behind (reading-step s p before) ∙ if-false (is_ender s p) [] (reading s (suc p)) ender
+pub behind-closed : (s : BufferValue) (o : ObjectLists) (p : ℕ) → p < s.text.end → is_open (showing_at s o p) ≡ false → behind (reading s o p) ≡ reading s o (suc p)
+behind-closed s o p before closed =
+    let ender = false-unless (ends_block s p) (λ e. not-both (is_open (showing_at s o p)) (ender-open s o p e) closed) in
+    ap behind (reading-step s o p before) ∙ if-false (ends_block s p) [] (reading s o (suc p)) ender
 
 -- an open position's run ends behind it
-pub open-end : (s : BufferValue) (p : ℕ) (showing : Showing) → is_open showing ≡ true → p + 1 ≡ suc p + run_length showing (behind (reading s p))
-open-end s p showing shown =
-    let alone = open-alone showing (behind (reading s p)) shown in
+pub open-end : (s : BufferValue) (o : ObjectLists) (p : ℕ) (showing : Showing) → is_open showing ≡ true → p + 1 ≡ suc p + run_length s.settings.invisible showing (behind (reading s o p))
+open-end s o p showing shown =
+    let alone = open-alone s.settings.invisible showing (behind (reading s o p)) shown in
     rw alone (omega arith)
 
 -- one position more belongs to a run
-pub run-more : (s : BufferValue) (p : ℕ) (showing : Showing) → p < s.text.end → goes_on showing (showing_at s p) ≡ true → run_length showing (reading s p) ≡ suc (run_length showing (reading s (suc p)))
-run-more s p showing before more =
-    let closed = false-unless (is_open (showing_at s p)) (λ e. not-both (goes_on showing (showing_at s p)) more (open-stops showing (showing_at s p) e)) in
-    let ender = false-unless (is_ender s p) (λ e. not-both (is_open (showing_at s p)) (ender-open s p e) closed) in
-    let rest = if-false (is_ender s p) [] (reading s (suc p)) ender in
-    ap (run_length showing) (reading-step s p before) ∙ rw (more, rest)
+pub run-more : (s : BufferValue) (o : ObjectLists) (p : ℕ) (showing : Showing) → p < s.text.end → goes_on showing (showing_at s o p) ≡ true → run_length s.settings.invisible showing (reading s o p) ≡ suc (run_length s.settings.invisible showing (reading s o (suc p)))
+run-more s o p showing before more =
+    let closed = false-unless (is_open (showing_at s o p)) (λ e. not-both (goes_on showing (showing_at s o p)) more (open-stops showing (showing_at s o p) e)) in
+    let ender = false-unless (ends_block s p) (λ e. not-both (is_open (showing_at s o p)) (ender-open s o p e) closed) in
+    let rest = if-false (ends_block s p) [] (reading s o (suc p)) ender in
+    ap (run_length s.settings.invisible showing) (reading-step s o p before) ∙ rw (more, rest)
 
 -- a run behind its first position
-pub run-begins : (s : BufferValue) (p : ℕ) (showing : Showing) → p ≤ s.text.end → showing ≡ showing_at s p → is_open showing ≡ false → (p < s.text.end) × (p + 1 + run_length showing (reading s (p + 1)) ≡ 1 + p + run_length showing (behind (reading s p)))
-run-begins s p showing within same closed =
-    let here : is_open (showing_at s p) ≡ false = rw same at closed in
-    let before = closed-before s p within here in
-    let rest = behind-closed s p before here in
+pub run-begins : (s : BufferValue) (o : ObjectLists) (p : ℕ) (showing : Showing) → p ≤ s.text.end → showing ≡ showing_at s o p → is_open showing ≡ false → (p < s.text.end) × (p + 1 + run_length s.settings.invisible showing (reading s o (p + 1)) ≡ 1 + p + run_length s.settings.invisible showing (behind (reading s o p)))
+run-begins s o p showing within same closed =
+    let here : is_open (showing_at s o p) ≡ false = rw same at closed in
+    let before = closed-before s o p within here in
+    let rest = behind-closed s o p before here in
     (before, rw (add-one, rest) (omega arith))
 
-run-jumps : (s : BufferValue) (first showing : Showing) (d p : ℕ) → p + d ≤ s.text.end → ((r : ℕ) → p ≤ r → r < p + d → showing_at s r ≡ showing) → goes_on first showing ≡ true → (p + d) + run_length first (reading s (p + d)) ≡ p + run_length first (reading s p)
-run-jumps s first showing zero p within alike more = (let same : p + 0 ≡ p = omega arith in rw same)
-run-jumps s first showing (suc d) p within alike more =
-    let here : goes_on first (showing_at s p) ≡ true = ap (goes_on first) (alike p (omega arith) (omega arith)) ∙ more in
-    let one = run-more s p first (omega arith) here in
-    let rest = run-jumps s first showing d (suc p) (omega arith) (λ r a b. alike r (omega arith) (omega arith)) more in
+run-jumps : (s : BufferValue) (o : ObjectLists) (first showing : Showing) (d p : ℕ) → p + d ≤ s.text.end → ((r : ℕ) → p ≤ r → r < p + d → showing_at s o r ≡ showing) → goes_on first showing ≡ true → (p + d) + run_length s.settings.invisible first (reading s o (p + d)) ≡ p + run_length s.settings.invisible first (reading s o p)
+run-jumps s o first showing zero p within alike more = (let same : p + 0 ≡ p = omega arith in rw same)
+run-jumps s o first showing (suc d) p within alike more =
+    let here : goes_on first (showing_at s o p) ≡ true = ap (goes_on first) (alike p (omega arith) (omega arith)) ∙ more in
+    let one = run-more s o p first (omega arith) here in
+    let rest = run-jumps s o first showing d (suc p) (omega arith) (λ r a b. alike r (omega arith) (omega arith)) more in
     let place : p + suc d ≡ suc p + d = omega arith in
     rw place (omega arith)
 
-alike-at : (s : BufferValue) (stretch : Stretch) (p r : ℕ) → IsStretch s stretch → stretch.from ≡ p → p ≤ r → r < stretch.until → showing_at s r ≡ stretch.showing
-alike-at s stretch p r is from first before = is.alike r (omega arith) before
+alike-at : (s : BufferValue) (o : ObjectLists) (stretch : Stretch) (p r : ℕ) → IsStretch s o stretch → stretch.from ≡ p → p ≤ r → r < stretch.until → showing_at s o r ≡ stretch.showing
+alike-at s o stretch p r is from first before = is.alike r (omega arith) before
 
 -- all positions of a stretch belong to a run, where its first does
-pub stretch-goes-on : (s : BufferValue) (first : Showing) (stretch : Stretch) (p n : ℕ) → IsStretch s stretch → stretch.from ≡ p → p < stretch.until → stretch.until ≤ s.text.end → goes_on first stretch.showing ≡ true → p + run_length first (reading s p) ≡ n → stretch.until + run_length first (reading s stretch.until) ≡ n
-stretch-goes-on s first stretch p n is from some within more so-far =
+pub stretch-goes-on : (s : BufferValue) (o : ObjectLists) (first : Showing) (stretch : Stretch) (p n : ℕ) → IsStretch s o stretch → stretch.from ≡ p → p < stretch.until → stretch.until ≤ s.text.end → goes_on first stretch.showing ≡ true → p + run_length s.settings.invisible first (reading s o p) ≡ n → stretch.until + run_length s.settings.invisible first (reading s o stretch.until) ≡ n
+stretch-goes-on s o first stretch p n is from some within more so-far =
     let place : p + (stretch.until - p) ≡ stretch.until = omega arith in
-    let jump = run-jumps s first stretch.showing (stretch.until - p) p (omega arith) (λ r a b. alike-at s stretch p r is from a (omega arith)) more in
+    let jump = run-jumps s o first stretch.showing (stretch.until - p) p (omega arith) (λ r a b. alike-at s o stretch p r is from a (omega arith)) more in
     rw place at jump ∙ so-far
 
 -- else the run ends before it
-pub stretch-stops : (s : BufferValue) (first : Showing) (stretch : Stretch) (p n : ℕ) → IsStretch s stretch → stretch.from ≡ p → p < stretch.until → p < s.text.end → goes_on first stretch.showing ≡ false → p + run_length first (reading s p) ≡ n → p ≡ n
-stretch-stops s first stretch p n is from some before none so-far =
-    let here : goes_on first (showing_at s p) ≡ false = ap (goes_on first) (alike-at s stretch p p is from (omega arith) some) ∙ none in
-    let length : run_length first (reading s p) ≡ 0 = ap (run_length first) (reading-step s p before) ∙ rw here in
+pub stretch-stops : (s : BufferValue) (o : ObjectLists) (first : Showing) (stretch : Stretch) (p n : ℕ) → IsStretch s o stretch → stretch.from ≡ p → p < stretch.until → p < s.text.end → goes_on first stretch.showing ≡ false → p + run_length s.settings.invisible first (reading s o p) ≡ n → p ≡ n
+stretch-stops s o first stretch p n is from some before none so-far =
+    let here : goes_on first (showing_at s o p) ≡ false = ap (goes_on first) (alike-at s o stretch p p is from (omega arith) some) ∙ none in
+    let length : run_length s.settings.invisible first (reading s o p) ≡ 0 = ap (run_length s.settings.invisible first) (reading-step s o p before) ∙ rw here in
     omega arith

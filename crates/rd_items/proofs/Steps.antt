@@ -2,125 +2,148 @@
 use Rattle.std.proofs.Common.{◌≡◌, ℕ, ◌+◌, ◌-◌, ◌<◌, ◌≤◌, Bool, true, false, List, [], ◌∷◌, ◌++◌, Option, Some, None, refl, sym, ap, ◌∙◌, arith}
 use Rattle.std.specs.Prelude.{zero, suc, ◌&&◌, if◌then◌else◌}
 use Rattle.std.proofs.lemmas.Bool.Decides.{nat_tests}
+use Rattle.rd_base.specs.declared.settings.Invisible.{Invisible}
+use Rattle.rd_ucd.specs.Data.{Data}
+use Rattle.rd_objects.specs.Things.{ObjectLists}
 use Rattle.rd_props.specs.Buffers.{BufferValue}
 use Rattle.rd_props.specs.Strings.{strings_at}
+use Rattle.rd_props.specs.Seen.{Seen, seen_at, accessible_char}
 use Rattle.rd_items.specs.declared.showing.Showing.{Showing}
 use Rattle.rd_items.specs.declared.piece.Piece.{Piece}
 use Rattle.rd_items.specs.declared.item.Item.{Item}
-use Rattle.rd_items.specs.Readings.{Entry, entry_at, showing_at, accessible_char, is_open, ends_line, is_ender, reading_from, reading, behind}
-use Rattle.rd_items.specs.Pieces.{Scene, string_pieces, piece_at, goes_on, run_length, pieces_from}
-use Rattle.rd_items.specs.Items.{pieces_left}
+use Rattle.rd_items.specs.Readings.{showing_of, showing_at, is_open, ends_line, ends_block, reading_from, reading, behind}
+use Rattle.rd_items.specs.Pieces.{Scene, scene_in, string_pieces, piece_at, goes_on, run_length, pieces_from}
+use Rattle.rd_items.specs.Walks.{pieces_left}
+use Rattle.rd_items.proofs.Reach.{end-ends}
 use Rattle.rd_items.proofs.Runs.{end-open, open-stops, ender-open, not-both, if-false, false-unless, reading-step}
 
-skip-one : (scene : Scene) (first : Showing) (e : Entry) (rest : List Entry) (p : ℕ) → goes_on first e.showing ≡ true → pieces_from scene (run_length first (e ∷ rest)) p (e ∷ rest) ≡ pieces_from scene (run_length first rest) (suc p) rest
-skip-one scene first e rest p more = rw more
+-- the scene of a buffer, and the pieces of a position at an offset and of those after it
+abbrev scene : BufferValue → ObjectLists → Data → Scene
+scene s o d = scene_in s.settings o d
 
-length-more : (first : Showing) (e : Entry) (rest : List Entry) → goes_on first e.showing ≡ true → run_length first (e ∷ rest) ≡ suc (run_length first rest)
-length-more first e rest more = rw more
+abbrev left : BufferValue → ObjectLists → Data → ℕ → ℕ → List Piece
+left s o d k p = pieces_from (scene s o d) 0 k (reading s o p)
 
-length-none : (first : Showing) (e : Entry) (rest : List Entry) → goes_on first e.showing ≡ false → run_length first (e ∷ rest) ≡ 0
-length-none first e rest none = rw none
+length-more : (setting : Invisible) (first : Showing) (e : Seen) (rest : List Seen) → goes_on first (showing_of setting e) ≡ true → run_length setting first (e ∷ rest) ≡ suc (run_length setting first rest)
+length-more setting first e rest more = rw more
 
-left-here : (s : BufferValue) (scene : Scene) (n p : ℕ) → p + n ≡ s.text.end → pieces_from scene 0 p (reading_from s n p) ≡ pieces_left s scene p
-left-here s scene n p far =
+length-none : (setting : Invisible) (first : Showing) (e : Seen) (rest : List Seen) → goes_on first (showing_of setting e) ≡ false → run_length setting first (e ∷ rest) ≡ 0
+length-none setting first e rest none = rw none
+
+left-here : (s : BufferValue) (o : ObjectLists) (d : Data) (n k p : ℕ) → p + n ≡ s.text.end → pieces_from (scene s o d) 0 k (reading_from s o n p) ≡ left s o d k p
+left-here s o d n k p far =
     let same : s.text.end - p ≡ n = omega arith in
     rw same
 
 -- what is so, where the positions that belong to a run give nothing
-abbrev IsSkipped : BufferValue → Scene → Showing → ℕ → List Entry → Type 0
-IsSkipped s scene first p es =
-    (pieces_from scene (run_length first es) p es ≡ pieces_left s scene (p + run_length first es)) × (p + run_length first es ≤ s.text.end)
+abbrev IsSkipped : BufferValue → ObjectLists → Data → Showing → ℕ → ℕ → List Seen → Type 0
+IsSkipped s o d first k p es =
+    (pieces_from (scene s o d) (run_length s.settings.invisible first es) k es
+    ≡ left s o d (k + run_length s.settings.invisible first es) (p + run_length s.settings.invisible first es))
+    × (p + run_length s.settings.invisible first es ≤ s.text.end)
 
-skips-none : (s : BufferValue) (scene : Scene) (first : Showing) (n p : ℕ) → p + n ≡ s.text.end → run_length first (reading_from s n p) ≡ 0 → IsSkipped s scene first p (reading_from s n p)
-skips-none s scene first n p far none =
+skips-none : (s : BufferValue) (o : ObjectLists) (d : Data) (first : Showing) (n k p : ℕ) → p + n ≡ s.text.end → run_length s.settings.invisible first (reading_from s o n p) ≡ 0 → IsSkipped s o d first k p (reading_from s o n p)
+skips-none s o d first n k p far none =
     let same : p + 0 ≡ p = omega arith in
-    rw (none, same) (left-here s scene n p far, omega arith)
+    let offset : k + 0 ≡ k = omega arith in
+    rw (none, same, offset) (left-here s o d n k p far, omega arith)
 
-skips-end : (s : BufferValue) (scene : Scene) (first : Showing) (p : ℕ) → p ≡ s.text.end → IsSkipped s scene first p (entry_at s p ∷ [])
-skips-end s scene first p end =
-    let here : is_open (showing_at s p) ≡ true = rw end (end-open s) in
-    skips-none s scene first 0 p (omega arith) (length-none first (entry_at s p) [] (open-stops first (showing_at s p) here))
+skips-end : (s : BufferValue) (o : ObjectLists) (d : Data) (first : Showing) (k p : ℕ) → p ≡ s.text.end → IsSkipped s o d first k p (seen_at s o p ∷ [])
+skips-end s o d first k p end =
+    let here : is_open (showing_at s o p) ≡ true = rw end (end-open s o) in
+    skips-none s o d first 0 k p (omega arith) (length-none s.settings.invisible first (seen_at s o p) [] (open-stops first (showing_at s o p) here))
 
-skips-more : (s : BufferValue) (scene : Scene) (first : Showing) (e : Entry) (es : List Entry) (p : ℕ) → goes_on first e.showing ≡ true → IsSkipped s scene first (suc p) es → IsSkipped s scene first p (e ∷ es)
-skips-more s scene first e es p more rest =
-    let one = skip-one scene first e es p more in
-    let length = length-more first e es more in
-    let place : p + suc (run_length first es) ≡ suc p + run_length first es = omega arith in
-    (one ∙ rest.0 ∙ sym (ap (λ n. pieces_left s scene (p + n)) length ∙ ap (pieces_left s scene) place), omega arith)
+skips-more : (s : BufferValue) (o : ObjectLists) (d : Data) (first : Showing) (e : Seen) (es : List Seen) (k p : ℕ) → goes_on first (showing_of s.settings.invisible e) ≡ true → IsSkipped s o d first (suc k) (suc p) es → IsSkipped s o d first k p (e ∷ es)
+skips-more s o d first e es k p more rest =
+    let n = run_length s.settings.invisible first es in
+    let length = length-more s.settings.invisible first e es more in
+    let place : p + suc n ≡ suc p + n = omega arith in
+    let offset : k + suc n ≡ suc k + n = omega arith in
+    rw (length, place, offset) rest
 
 -- the positions that belong to a run give nothing
-pub skipped : (s : BufferValue) (scene : Scene) (first : Showing) (n p : ℕ) → p + n ≡ s.text.end → IsSkipped s scene first p (reading_from s n p)
-skipped s scene first zero p far = skips-end s scene first p (omega arith)
-skipped s scene first (suc n) p far = skips-by s scene first n p far (skipped s scene first n (suc p) (omega arith)) (goes_on first (showing_at s p)) refl where
-  skips-by : (s : BufferValue) (scene : Scene) (first : Showing) (n p : ℕ) → p + suc n ≡ s.text.end → IsSkipped s scene first (suc p) (reading_from s n (suc p)) → (more : Bool) → goes_on first (showing_at s p) ≡ more → IsSkipped s scene first p (reading_from s (suc n) p)
-  skips-by s scene first n p far rest false none =
-      skips-none s scene first (suc n) p far (length-none first (entry_at s p) (if is_ender s p then [] else reading_from s n (suc p)) none)
-  skips-by s scene first n p far rest true more =
-      let closed = false-unless (is_open (showing_at s p)) (λ e. not-both (goes_on first (showing_at s p)) more (open-stops first (showing_at s p) e)) in
-      let ender = false-unless (is_ender s p) (λ e. not-both (is_open (showing_at s p)) (ender-open s p e) closed) in
-      let es = if-false (is_ender s p) [] (reading_from s n (suc p)) ender in
-      rw es (skips-more s scene first (entry_at s p) (reading_from s n (suc p)) p more rest)
+pub skipped : (s : BufferValue) (o : ObjectLists) (d : Data) (first : Showing) (n k p : ℕ) → p + n ≡ s.text.end → IsSkipped s o d first k p (reading_from s o n p)
+skipped s o d first zero k p far = skips-end s o d first k p (omega arith)
+skipped s o d first (suc n) k p far = skips-by (skipped s o d first n (suc k) (suc p) (omega arith)) (goes_on first (showing_at s o p)) refl where
+  skips-by : IsSkipped s o d first (suc k) (suc p) (reading_from s o n (suc p)) → (more : Bool) → goes_on first (showing_at s o p) ≡ more → IsSkipped s o d first k p (reading_from s o (suc n) p)
+  skips-by rest false none =
+      skips-none s o d first (suc n) k p far (length-none s.settings.invisible first (seen_at s o p) (if ends_block s p then [] else reading_from s o n (suc p)) none)
+  skips-by rest true more =
+      let closed = false-unless (is_open (showing_at s o p)) (λ e. not-both (goes_on first (showing_at s o p)) more (open-stops first (showing_at s o p) e)) in
+      let ender = false-unless (ends_block s p) (λ e. not-both (is_open (showing_at s o p)) (ender-open s o p e) closed) in
+      let es = if-false (ends_block s p) [] (reading_from s o n (suc p)) ender in
+      rw es (skips-more s o d first (seen_at s o p) (reading_from s o n (suc p)) k p more rest)
 
 -- what is read at a position, and behind it
-pub reading-behind : (s : BufferValue) (p : ℕ) → p ≤ s.text.end → reading s p ≡ entry_at s p ∷ behind (reading s p)
-reading-behind s p within = by-place (s.text.end - p) where
-  by-place : (n : ℕ) → reading_from s n p ≡ entry_at s p ∷ behind (reading_from s n p)
+pub reading-behind : (s : BufferValue) (o : ObjectLists) (p : ℕ) → p ≤ s.text.end → reading s o p ≡ seen_at s o p ∷ behind (reading s o p)
+reading-behind s o p within = by-place (s.text.end - p) where
+  by-place : (n : ℕ) → reading_from s o n p ≡ seen_at s o p ∷ behind (reading_from s o n p)
   by-place zero = refl
   by-place (suc n) = refl
 
 -- nothing is read behind an ender
-pub behind-ender : (s : BufferValue) (p : ℕ) → p ≤ s.text.end → is_ender s p ≡ true → behind (reading s p) ≡ []
-behind-ender s p within ender = by-place (s.text.end - p) where
-  by-place : (n : ℕ) → behind (reading_from s n p) ≡ []
+pub behind-ender : (s : BufferValue) (o : ObjectLists) (p : ℕ) → p ≤ s.text.end → ends_block s p ≡ true → behind (reading s o p) ≡ []
+behind-ender s o p within ender = by-place (s.text.end - p) where
+  by-place : (n : ℕ) → behind (reading_from s o n p) ≡ []
   by-place zero = refl
   by-place (suc n) = rw ender
 
--- the end of the accessible text is an ender
-ends-by : (a : Bool) (c : Option ℕ) → a ≡ true → c ≡ None → (a && ends_line c) ≡ true
-ends-by true None e f = refl
-ends-by true (Some c) e f = cc
-ends-by false c e f = cc
-
-end-char : (s : BufferValue) → accessible_char s s.text.end ≡ None
-end-char s = grind (arith, nat_tests)
-
-pub end-ends : (s : BufferValue) → is_ender s s.text.end ≡ true
-end-ends s = ends-by (is_open (showing_at s s.text.end)) (accessible_char s s.text.end) (end-open s) (end-char s)
-
-pub before-end : (s : BufferValue) (p : ℕ) → p ≤ s.text.end → is_ender s p ≡ false → p < s.text.end
-before-end s p within ender =
-    let differs : p ≡ s.text.end → ⊥ = λ e. not-both (is_ender s p) (rw e (end-ends s)) ender in
+pub before-end : (s : BufferValue) (o : ObjectLists) (p : ℕ) → p ≤ s.text.end → ends_block s p ≡ false → p < s.text.end
+before-end s o p within ender =
+    let differs : p ≡ s.text.end → ⊥ = λ e. not-both (ends_block s p) (rw e (end-ends s o)) ender in
     grind arith
 
--- the pieces of a position and of those after it
-pub left-parts : (s : BufferValue) (scene : Scene) (p : ℕ) → p ≤ s.text.end → pieces_left s scene p ≡ string_pieces p (strings_at s p) ++ piece_at scene (showing_at s p) (accessible_char s p) p (suc p + run_length (showing_at s p) (behind (reading s p))) ∷ pieces_from scene (run_length (showing_at s p) (behind (reading s p))) (suc p) (behind (reading s p))
-left-parts s scene p within = ap (pieces_from scene 0 p) (reading-behind s p within)
+-- how far the run of a position goes behind it
+abbrev run_behind : BufferValue → ObjectLists → ℕ → ℕ
+run_behind s o p = run_length s.settings.invisible (showing_at s o p) (behind (reading s o p))
+
+-- the pieces of a position at an offset and of those after it
+left-parts : (s : BufferValue) (o : ObjectLists) (d : Data) (k p : ℕ) → p ≤ s.text.end → left s o d k p ≡ string_pieces k (showing_at s o p).face (strings_at s p) ++ piece_at (scene s o d) (showing_at s o p) (accessible_char s.text p) k (suc k + run_behind s o p) ∷ pieces_from (scene s o d) (run_behind s o p) (suc k) (behind (reading s o p))
+left-parts s o d k p within = ap (pieces_from (scene s o d) 0 k) (reading-behind s o p within)
 
 -- behind a position that is no ender
-pub behind-left : (s : BufferValue) (scene : Scene) (first : Showing) (p : ℕ) → p ≤ s.text.end → is_ender s p ≡ false → IsSkipped s scene first (suc p) (behind (reading s p))
-behind-left s scene first p within ender =
-    let before = before-end s p within ender in
-    let rest = ap behind (reading-step s p before) ∙ if-false (is_ender s p) [] (reading s (suc p)) ender in
-    rw rest (skipped s scene first (s.text.end - suc p) (suc p) (omega arith))
+behind-left : (s : BufferValue) (o : ObjectLists) (d : Data) (first : Showing) (k p : ℕ) → p ≤ s.text.end → ends_block s p ≡ false → IsSkipped s o d first (suc k) (suc p) (behind (reading s o p))
+behind-left s o d first k p within ender =
+    let before = before-end s o p within ender in
+    let rest = ap behind (reading-step s o p before) ∙ if-false (ends_block s p) [] (reading s o (suc p)) ender in
+    rw rest (skipped s o d first (s.text.end - suc p) (suc k) (suc p) (omega arith))
 
--- what a step has put: the strings and the piece of a position
-made : (s : BufferValue) (scene : Scene) (p to : ℕ) (showing : Showing) (x : Piece) (before mid after : List Piece → List Item) (xs : List Piece) → ((ys : List Piece) → mid ys ≡ before (string_pieces p (strings_at s p) ++ ys)) → ((ys : List Piece) → after ys ≡ mid (x ∷ ys)) → showing ≡ showing_at s p → to ≡ suc p + run_length showing (behind (reading s p)) → x ≡ piece_at scene showing (accessible_char s p) p to → after xs ≡ before (string_pieces p (strings_at s p) ++ piece_at scene (showing_at s p) (accessible_char s p) p (suc p + run_length (showing_at s p) (behind (reading s p))) ∷ xs)
-made s scene p to showing x before mid after xs first second f g h =
-    second xs ∙ first (x ∷ xs) ∙ rw (h, g, f)
+-- a step from a position at an offset: it puts the strings before it, and then its piece, which ends before another position
+pub record IsStep (s : BufferValue) (o : ObjectLists) (d : Data) (start p to : ℕ) (showing : Showing) (x : Piece) (before mid after : List Piece → List Item) : Type 0 where
+  pub strings : (ys : List Piece) → mid ys ≡ before (string_pieces (p - start) showing.face (strings_at s p) ++ ys)
+  pub put : (ys : List Piece) → after ys ≡ mid (x ∷ ys)
+  pub shown : showing ≡ showing_at s o p
+  pub run : to ≡ suc p + run_length s.settings.invisible showing (behind (reading s o p))
+  pub piece : x ≡ piece_at (scene s o d) showing (accessible_char s.text p) (p - start) (to - start)
+  pub first : start ≤ p
+  pub last : p ≤ s.text.end
 
-pub step-ends : (s : BufferValue) (scene : Scene) (p to : ℕ) (showing : Showing) (x : Piece) (before mid after : List Piece → List Item) → ((ys : List Piece) → mid ys ≡ before (string_pieces p (strings_at s p) ++ ys)) → ((ys : List Piece) → after ys ≡ mid (x ∷ ys)) → showing ≡ showing_at s p → to ≡ suc p + run_length showing (behind (reading s p)) → x ≡ piece_at scene showing (accessible_char s p) p to → p ≤ s.text.end → is_ender s p ≡ true → after [] ≡ before (pieces_left s scene p)
-step-ends s scene p to showing x before mid after first second f g h within ender =
-    let none = behind-ender s p within ender in
-    let parts = left-parts s scene p within in
-    let rest : pieces_from scene (run_length (showing_at s p) (behind (reading s p))) (suc p) (behind (reading s p)) ≡ [] = rw none in
-    made s scene p to showing x before mid after [] first second f g h ∙ ap before (sym (rw rest at parts))
+-- where it goes on, counted from the start
+goes-to : (s : BufferValue) (o : ObjectLists) (d : Data) (start p to : ℕ) (showing : Showing) (x : Piece) (before mid after : List Piece → List Item) → IsStep s o d start p to showing x before mid after → (to ≡ suc p + run_behind s o p) × (to - start ≡ suc (p - start) + run_behind s o p)
+goes-to s o d start p to showing x before mid after is =
+    let place : to ≡ suc p + run_behind s o p = rw is.shown at is.run in
+    (place, omega (arith, is.first, place))
 
-pub step-goes : (s : BufferValue) (scene : Scene) (p to : ℕ) (showing : Showing) (x : Piece) (before mid after : List Piece → List Item) → ((ys : List Piece) → mid ys ≡ before (string_pieces p (strings_at s p) ++ ys)) → ((ys : List Piece) → after ys ≡ mid (x ∷ ys)) → showing ≡ showing_at s p → to ≡ suc p + run_length showing (behind (reading s p)) → x ≡ piece_at scene showing (accessible_char s p) p to → p ≤ s.text.end → is_ender s p ≡ false → (p < to) × (to ≤ s.text.end) × (after (pieces_left s scene to) ≡ before (pieces_left s scene p))
-step-goes s scene p to showing x before mid after first second f g h within ender =
-    let skips = behind-left s scene (showing_at s p) p within ender in
-    let place : to ≡ suc p + run_length (showing_at s p) (behind (reading s p)) = rw f at g in
-    let parts = left-parts s scene p within in
-    let first-parts = string_pieces p (strings_at s p) in
-    let own = piece_at scene (showing_at s p) (accessible_char s p) p (suc p + run_length (showing_at s p) (behind (reading s p))) in
-    let all = parts ∙ ap (λ (ys : List Piece). first-parts ++ own ∷ ys) (skips.0 ∙ ap (pieces_left s scene) (sym place)) in
-    (omega arith, omega arith, made s scene p to showing x before mid after (pieces_left s scene to) first second f g h ∙ ap before (sym all))
+made : (s : BufferValue) (o : ObjectLists) (d : Data) (start p to : ℕ) (showing : Showing) (x : Piece) (before mid after : List Piece → List Item) (xs : List Piece) → IsStep s o d start p to showing x before mid after → after xs ≡ before (string_pieces (p - start) (showing_at s o p).face (strings_at s p) ++ piece_at (scene s o d) (showing_at s o p) (accessible_char s.text p) (p - start) (suc (p - start) + run_behind s o p) ∷ xs)
+made s o d start p to showing x before mid after xs is =
+    let goes = goes-to s o d start p to showing x before mid after is in
+    is.put xs ∙ is.strings (x ∷ xs) ∙ rw (is.piece, is.shown, goes.1)
+
+pub step-ends : (s : BufferValue) (o : ObjectLists) (d : Data) (start p to : ℕ) (showing : Showing) (x : Piece) (before mid after : List Piece → List Item) → IsStep s o d start p to showing x before mid after → ends_block s p ≡ true → after [] ≡ before (pieces_left s (scene s o d) start p)
+step-ends s o d start p to showing x before mid after is ender =
+    let none = behind-ender s o p is.last ender in
+    let parts = left-parts s o d (p - start) p is.last in
+    let rest : pieces_from (scene s o d) (run_behind s o p) (suc (p - start)) (behind (reading s o p)) ≡ [] = rw none in
+    made s o d start p to showing x before mid after [] is ∙ ap before (sym (rw rest at parts))
+
+pub step-goes : (s : BufferValue) (o : ObjectLists) (d : Data) (start p to : ℕ) (showing : Showing) (x : Piece) (before mid after : List Piece → List Item) → IsStep s o d start p to showing x before mid after → ends_block s p ≡ false → (p < to) × (to ≤ s.text.end) × (after (pieces_left s (scene s o d) start to) ≡ before (pieces_left s (scene s o d) start p))
+step-goes s o d start p to showing x before mid after is ender =
+    let k = p - start in
+    let skips = behind-left s o d (showing_at s o p) k p is.last ender in
+    let goes = goes-to s o d start p to showing x before mid after is in
+    let there : pieces_left s (scene s o d) start to ≡ left s o d (suc k + run_behind s o p) (suc p + run_behind s o p) = rw (goes.1, goes.0) in
+    let parts = left-parts s o d k p is.last in
+    let first-parts = string_pieces k (showing_at s o p).face (strings_at s p) in
+    let own = piece_at (scene s o d) (showing_at s o p) (accessible_char s.text p) k (suc k + run_behind s o p) in
+    let all = parts ∙ ap (λ (ys : List Piece). first-parts ++ own ∷ ys) (skips.0 ∙ sym there) in
+    (omega (arith, goes.0), omega (arith, goes.0, skips.1), made s o d start p to showing x before mid after (pieces_left s (scene s o d) start to) is ∙ ap before (sym all))

@@ -13,7 +13,6 @@ use Rattle.rd_overlays.specs.Overlays.{new_overlay, given}
 use Rattle.rd_objects.specs.declared.run.Spec.TheVariants.{Text, Width}
 use Rattle.rd_objects.specs.Texts.{text_of}
 use Rattle.rd_objects.specs.Things.{ObjectLists, nothing_made}
-use Rattle.rd_glyphs.specs.Lines.{with_mark}
 use Rattle.rd_glyphs.specs.Marks.{joined}
 use Rattle.rd_glyphs.specs.declared.joining.Joining.TheVariants.{Base, Mark}
 use Rattle.rd_props.specs.Buffers.{BufferValue, values_of}

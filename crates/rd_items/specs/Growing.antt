@@ -1,32 +1,27 @@
 -- Scenes that show alike what is read, since no object that it names has changed.
-use Rattle.std.specs.Prelude.{◌≡◌, ℕ, ◌<◌, false, List, length, All, Option, None, Some}
+use Rattle.std.specs.Prelude.{◌≡◌, ℕ, ◌<◌, false, List, length, All, IfSome}
 use Rattle.rd_base.specs.Settings.{SettingValues}
 use Rattle.rd_objects.specs.Sound.{Extends}
 use Rattle.rd_objects.specs.Things.{ObjectLists}
 use Rattle.rd_props.specs.Seen.{Seen}
 use Rattle.rd_items.specs.Pieces.{Scene}
 
--- a number that is one of so many, where there is one
-abbrev pub HoldsNumber : ℕ → Option ℕ → Type 0
-HoldsNumber count None = Unit {0}
-HoldsNumber count (Some n) = n < count
-
 -- each spec and each string that is named at a position was made
-pub record NamesMadeObjects (o : ObjectLists) (seen : Seen) : Type 0 where
-  pub display : HoldsNumber (length o.specs) seen.display
-  pub line_prefix : HoldsNumber (length o.strings) seen.line_prefix
-  pub wrap_prefix : HoldsNumber (length o.strings) seen.wrap_prefix
+pub record SeesMade (o : ObjectLists) (seen : Seen) : Type 0 where
+  pub display : IfSome seen.display (λ number. number < length o.specs)
+  pub line_prefix : IfSome seen.line_prefix (λ number. number < length o.strings)
+  pub wrap_prefix : IfSome seen.wrap_prefix (λ number. number < length o.strings)
   pub strings : All (λ n. n < length o.strings) seen.strings
 
 -- each spec and each string that is named in what is read was made
-abbrev pub NameMadeObjects : ObjectLists → List Seen → Type 0
-NameMadeObjects o es = All (NamesMadeObjects o) es
+abbrev pub ReadsMade : ObjectLists → List Seen → Type 0
+ReadsMade o es = All (SeesMade o) es
 
 -- the table and the prefixes of settings were made
-pub record SettingsNameMade (o : ObjectLists) (settings : SettingValues) : Type 0 where
-  pub table : HoldsNumber (length o.tables) settings.table
-  pub line_prefix : HoldsNumber (length o.strings) settings.line_prefix
-  pub wrap_prefix : HoldsNumber (length o.strings) settings.wrap_prefix
+pub record HasMade (o : ObjectLists) (settings : SettingValues) : Type 0 where
+  pub table : IfSome settings.table (λ number. number < length o.tables)
+  pub line_prefix : IfSome settings.line_prefix (λ number. number < length o.strings)
+  pub wrap_prefix : IfSome settings.wrap_prefix (λ number. number < length o.strings)
 
 -- settings without the two flags that no line depends on
 abbrev pub without_flags : SettingValues → SettingValues

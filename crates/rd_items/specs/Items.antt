@@ -69,4 +69,3 @@ bracket_code k = unlisted
 -- the glyphs of items are measured
 abbrev pub AreMeasuredItems : List Item → Type 0
 AreMeasuredItems items = All (λ item. IsMeasuredKind item.kind) items
-

@@ -1,5 +1,5 @@
 -- The pieces of a block: what its positions give, before marks join and ranges are handed on. Places are offsets in what is read.
-use Rattle.std.specs.Prelude.{ℕ, zero, suc, ◌+◌, ◌==◌, Bool, true, false, not, ◌||◌, ◌&&◌, if◌then◌else◌, List, [], ◌∷◌, ◌++◌, slice_get, map, Option, None, Some}
+use Rattle.std.specs.Prelude.{ℕ, zero, suc, ◌+◌, ◌==◌, Bool, true, false, not, ◌||◌, ◌&&◌, if◌then◌else◌, List, [], ◌∷◌, ◌++◌, slice_get, map, Option, None, Some, IfSome}
 use Rattle.std.specs.Option.{unwrap_or, option_and_then}
 use Rattle.rd_base.specs.declared.class.Class.{Class}
 use Rattle.rd_base.specs.declared.class.Class.TheVariants.{B, S, ON}
@@ -17,8 +17,8 @@ use Rattle.rd_objects.specs.declared.run.Spec.TheVariants.{Text, Width, Align}
 use Rattle.rd_objects.specs.Tables.{TableValue}
 use Rattle.rd_objects.specs.Texts.{TextValue}
 use Rattle.rd_objects.specs.Things.{ObjectLists}
-use Rattle.rd_glyphs.specs.Characters.{PartValues, entry_of, on_blank}
-use Rattle.rd_glyphs.specs.Joining.{is_empty_entry, joining_of, IsMark}
+use Rattle.rd_glyphs.specs.Characters.{PartValues, entry_of}
+use Rattle.rd_glyphs.specs.Joining.{is_empty_entry, joining_of, base_of, mark_of, IsMark}
 use Rattle.rd_glyphs.specs.declared.joining.Joining.{Joining}
 use Rattle.rd_glyphs.specs.declared.joining.Joining.TheVariants as joining
 use Rattle.rd_props.specs.Buffers.{meaning}
@@ -115,16 +115,6 @@ abbrev pub has_element : Joining → Bool
 has_element joining.Empty = false
 has_element j = true
 
--- the glyph that marks may join: the character, or the blank that it stands on as a mark
-abbrev pub base_of : Joining → Option Glyph
-base_of (joining.Base g) = Some g
-base_of (joining.Mark code) = Some (on_blank code)
-base_of j = None
-
-abbrev pub mark_of : Joining → Option ℕ
-mark_of (joining.Mark code) = Some code
-mark_of j = None
-
 abbrev pub char_by : Joining → Class → Attributes → ℕ → ℕ → Piece
 char_by j class face c p = record {
   class = inner_class class;
@@ -194,24 +184,8 @@ abbrev pub IsMeasuredKind : ItemKind → Type 0
 IsMeasuredKind (kind.Marked g) = IsMeasured g
 IsMeasuredKind kind = Unit {0}
 
-abbrev pub HoldsKind : Option ItemKind → Type 0
-HoldsKind None = Unit {0}
-HoldsKind (Some kind) = IsMeasuredKind kind
-
-abbrev pub HoldsBase : Option Glyph → Type 0
-HoldsBase None = Unit {0}
-HoldsBase (Some g) = IsMeasured g
-
-abbrev pub HoldsMark : Option ℕ → Type 0
-HoldsMark None = Unit {0}
-HoldsMark (Some code) = IsMark code
-
 -- the glyphs of a piece are measured, and its mark is one
 pub record IsMeasuredPiece (x : Piece) : Type 0 where
-  pub kind : HoldsKind x.kind
-  pub base : HoldsBase x.base
-  pub mark : HoldsMark x.mark
-
-abbrev pub HoldsPiece : Option Piece → Type 0
-HoldsPiece None = Unit {0}
-HoldsPiece (Some x) = IsMeasuredPiece x
+  pub kind : IfSome x.kind IsMeasuredKind
+  pub base : IfSome x.base (λ g. IsMeasured g)
+  pub mark : IfSome x.mark (λ code. IsMark code)

@@ -1,5 +1,6 @@
 -- What is read of a block: what is seen at each of its positions, up to its ender.
-use Rattle.std.specs.Prelude.{◌≡◌, ℕ, zero, suc, ◌-◌, nat_lt, Bool, true, false, not, ◌&&◌, is_some, if◌then◌else◌, List, [], ◌∷◌, Option, None, Some}
+use Rattle.std.specs.Prelude.{◌≡◌, ℕ, zero, suc, ◌-◌, nat_lt, Bool, true, false, not, ◌&&◌, is_some, if◌then◌else◌, List, [], ◌∷◌, Option, None, Some, IfSome, IsTrue, All}
+use Rattle.rd_base.specs.Chars.{is_code}
 use Rattle.rd_base.specs.declared.settings.Invisible.{Invisible}
 use Rattle.rd_text.specs.Texts.{is_newline}
 use Rattle.rd_objects.specs.Things.{ObjectLists}
@@ -54,6 +55,10 @@ abbrev pub IsReading : Invisible → List Seen → Type 0
 IsReading setting [] = ⊥
 IsReading setting (e ∷ []) = is_ender setting e ≡ true
 IsReading setting (e ∷ f ∷ es) = (is_ender setting e ≡ false) × IsReading setting (f ∷ es)
+
+-- each character that is read has a code
+abbrev pub HaveCodes : List Seen → Type 0
+HaveCodes es = All (λ e. IfSome e.character (λ c. IsTrue (is_code c))) es
 
 -- all but the first
 abbrev pub behind : List Seen → List Seen

@@ -1,10 +1,10 @@
 -- The walk over the positions of a block that makes its items.
-use Rattle.std.specs.Prelude.{◌≡◌, ℕ, ◌-◌, ◌<◌, ◌≤◌, List, [], ◌++◌, Option, None, Some, Result, Ok, Err}
+use Rattle.std.specs.Prelude.{◌≡◌, ℕ, ◌-◌, ◌<◌, ◌≤◌, List, [], ◌++◌, Option, None, Some, IfSome, Result, Ok, Err}
 use Rattle.rd_base.specs.declared.memory.Memory.{Memory}
 use Rattle.rd_glyphs.specs.Marks.{with_held}
 use Rattle.rd_props.specs.Buffers.{BufferValue}
 use Rattle.rd_items.specs.Readings.{reading}
-use Rattle.rd_items.specs.Pieces.{Scene, pieces_from, HoldsPiece}
+use Rattle.rd_items.specs.Pieces.{Scene, pieces_from, IsMeasuredPiece}
 use Rattle.rd_items.specs.Items.{piece_joins, covering, AreMeasuredItems}
 use Rattle.rd_items.specs.declared.item.Item.{Item}
 use Rattle.rd_items.specs.declared.piece.Piece.{Piece}
@@ -28,4 +28,4 @@ Steps (Err stop) s scene start p before after = Unit {0}
 -- the glyphs of the items that are made are measured, and so are those of the piece that is held
 pub record IsMeasuredWalk (items : List Item) (held : Option Piece) : Type 0 where
   pub made : AreMeasuredItems items
-  pub last : HoldsPiece held
+  pub last : IfSome held IsMeasuredPiece

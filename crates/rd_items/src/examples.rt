@@ -8,7 +8,7 @@ ghost use Rattle.rd_objects.specs.declared.run.Spec.TheVariants.{Width};
 ghost use Rattle.rd_props.specs.Examples.{three_characters, put_once, meeting, coloured, two_faces};
 ghost use Rattle.rd_items.specs.declared.item.ItemKind.TheVariants.{Marked, Text, Space, Ellipsis};
 ghost use Rattle.rd_base.specs.Cells.{single};
-ghost use Rattle.rd_glyphs.specs.Lines.{with_mark};
+ghost use Rattle.rd_glyphs.specs.Joining.{with_mark};
 ghost use Rattle.rd_items.specs.Blocks.{blocks_of};
 ghost use Rattle.rd_items.specs.Pieces.{string_piece};
 ghost use Rattle.rd_items.specs.Examples.{items_at, no_columns, two_strings, two_characters, around_the_second, with_ellipsis, folded, an_e, a_grave, items_of_pieces, string, letter, ender};

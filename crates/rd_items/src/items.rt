@@ -36,7 +36,7 @@ impl Items {
     ghost use Rattle.rd_text.specs.Texts.{IsAccessible};
     ghost use Rattle.rd_props.specs.Buffers.{meaning};
     ghost use Rattle.rd_items.specs.Readings.{reading};
-ghost use Rattle.rd_items.specs.Pieces.{scene_of};
+    ghost use Rattle.rd_items.specs.Pieces.{scene_of};
     ghost use Rattle.rd_items.specs.Items.{items_of, AreMeasuredItems};
 
     /// The items of the block that starts at a position, in order of position; of a position inside a block, those from there

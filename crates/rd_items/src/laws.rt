@@ -1,22 +1,65 @@
 //! What holds of blocks and of their items, proved of the definitions.
-ghost use Rattle.std.specs.Prelude.{◌≡◌, ℕ, ◌+◌, ◌≤◌, List, length};
+ghost use Rattle.std.specs.Prelude.{◌≡◌, ℕ, ◌+◌, ◌≤◌, List, length, slice_get, Some, None};
+ghost use Rattle.rd_base.specs.Settings.{SettingValues};
+ghost use Rattle.rd_ucd.specs.Data.{Data};
+ghost use Rattle.rd_objects.specs.Sound.{IsClosed, Extends};
 ghost use Rattle.rd_objects.specs.Things.{ObjectLists};
 ghost use Rattle.rd_props.specs.Buffers.{BufferValue};
 ghost use Rattle.rd_props.specs.Seen.{Seen};
-ghost use Rattle.rd_items.specs.Readings.{reading, IsReading};
-ghost use Rattle.rd_items.specs.Blocks.{IsBlock};
-ghost use Rattle.rd_items.specs.Pieces.{Scene};
-ghost use Rattle.rd_items.specs.Items.{items_of};
-ghost use Rattle.rd_items.specs.Covers.{Tile};
+ghost use Rattle.rd_items.specs.Readings.{reading, IsReading, HaveCodes};
+ghost use Rattle.rd_items.specs.Blocks.{blocks_of, Adjoin, IsBlock};
+ghost use Rattle.rd_items.specs.Pieces.{Scene, table_in, scene_in};
+ghost use Rattle.rd_items.specs.Items.{items_of, AreMeasuredItems};
+ghost use Rattle.rd_items.specs.Covers.{Tile, CoverWhereTheyGive, EndOnce};
+ghost use Rattle.rd_items.specs.Growing.{ReadsMade, HasMade, without_flags, GoesOnFrom};
 
-/// What is read of a block has one entry for each of its positions, its ender's included. It has no body: what it promises is
-/// proved of the definitions.
-pub fn blocks_are_read_whole()
-    ensures { (s : BufferValue) (objects : ObjectLists) (from to : ℕ) → IsBlock s from to → from + length (reading s objects from) ≡ to }
+use rd_glyphs::marks_join_measured_glyphs;
+
+/// The blocks of a text are those of its list, which stand one behind the other from the beginning of the accessible text to its
+/// end, which counts as a position. It has no body: what it promises is proved of the definitions.
+pub fn blocks_are_listed()
+    ensures blocks { (s : BufferValue) → s.text.begin ≤ s.text.end → (k : ℕ) (b : ℕ × ℕ) → slice_get (blocks_of s) k ≡ Some b → IsBlock s b.0 b.1 }
+    ensures every { (s : BufferValue) (from to : ℕ) → IsBlock s from to → (k : ℕ) × (slice_get (blocks_of s) k ≡ Some (from, to)) }
+    ensures adjoin { (s : BufferValue) → s.text.begin ≤ s.text.end → Adjoin s.text.begin (s.text.end + 1) (blocks_of s) }
 {}
 
-/// The items of a block cover each of its positions once: each covers none, or goes on where the last that covers any ended,
-/// from the block's first position to its ender. It has no body: what it promises is proved of the definitions.
+/// The block that starts where another ends stands behind it in the list, and the block that ends where another starts before
+/// it; none is behind the block that ends with the text, and none before the one that starts with it. It has no body: what it
+/// promises is proved of the definitions.
+pub fn blocks_are_in_order()
+    ensures next { (s : BufferValue) (k a b c : ℕ) → slice_get (blocks_of s) k ≡ Some (a, b) → IsBlock s b c → slice_get (blocks_of s) (k + 1) ≡ Some (b, c) }
+    ensures last { (s : BufferValue) (k a : ℕ) → s.text.begin ≤ s.text.end → slice_get (blocks_of s) k ≡ Some (a, s.text.end + 1) → slice_get (blocks_of s) (k + 1) ≡ None }
+    ensures prev { (s : BufferValue) (k a b c : ℕ) → slice_get (blocks_of s) k ≡ Some (b, c) → IsBlock s a b → (j : ℕ) × (k ≡ j + 1) × (slice_get (blocks_of s) j ≡ Some (a, b)) }
+    ensures first { (s : BufferValue) (k c : ℕ) → s.text.begin ≤ s.text.end → slice_get (blocks_of s) k ≡ Some (s.text.begin, c) → k ≡ 0 }
+{}
+
+/// What is read from an accessible position on, the end of the accessible text included, ends with its ender and has none before,
+/// and of a block it has one entry for each of its positions. It has no body: what it promises is proved of the definitions.
+pub fn blocks_are_read_whole()
+    ensures reading { (s : BufferValue) (objects : ObjectLists) (p : ℕ) → p ≤ s.text.end → IsReading s.settings.invisible (reading s objects p) }
+    ensures length { (s : BufferValue) (objects : ObjectLists) (from to : ℕ) → IsBlock s from to → from + length (reading s objects from) ≡ to }
+{}
+
+/// The items of what is read of a block cover each of its positions once: each covers none, or goes on where the last that covers
+/// any ended, from the first position to the ender. An item covers any exactly where it is no overlay's string and gives an
+/// element. The last item is the ender, and no other is. It has no body: what it promises is proved of the definitions.
 pub fn items_cover_their_block()
-    ensures { (scene : Scene) (es : List Seen) → IsReading scene.parts.settings.invisible es → Tile 0 (length es) (items_of scene es) }
+    ensures tile { (scene : Scene) (es : List Seen) → IsReading scene.parts.settings.invisible es → Tile 0 (length es) (items_of scene es) }
+    ensures give { (scene : Scene) (es : List Seen) → IsReading scene.parts.settings.invisible es → CoverWhereTheyGive scene (items_of scene es) }
+    ensures end { (scene : Scene) (es : List Seen) → IsReading scene.parts.settings.invisible es → EndOnce (items_of scene es) }
+{}
+
+/// The glyphs of the items of characters are measured: each has the columns that Unicode gives it. The call does nothing.
+pub fn items_are_measured()
+    ensures { (scene : Scene) (es : List Seen) → HaveCodes es → AreMeasuredItems (items_of scene es) }
+{
+    marks_join_measured_glyphs();
+}
+
+/// Objects that are made later change no item of what names none of them, nor do the flags of modified and of read-only text. It
+/// has no body: what it promises is proved of the definitions.
+pub fn objects_that_are_made_change_no_item()
+    ensures items { (old new : Scene) (es : List Seen) → GoesOnFrom old new → IsClosed old.objects → ReadsMade old.objects es → items_of new es ≡ items_of old es }
+    ensures table { (o n : ObjectLists) (settings : SettingValues) → Extends o n → HasMade o settings → table_in n settings.table ≡ table_in o settings.table }
+    ensures scenes { (o n : ObjectLists) (a b : SettingValues) (files : Data) → Extends o n → HasMade o a → without_flags b ≡ without_flags a → GoesOnFrom (scene_in a o files) (scene_in b n files) }
 {}

@@ -15,5 +15,8 @@ mod walk;
 pub use block::{block_at, block_before, block_from};
 pub use item::{Item, ItemKind, UNLISTED};
 pub use items::Items;
-pub use laws::{blocks_are_read_whole, items_cover_their_block};
+pub use laws::{
+    blocks_are_in_order, blocks_are_listed, blocks_are_read_whole, items_are_measured,
+    items_cover_their_block, objects_that_are_made_change_no_item,
+};
 pub use piece::parts_of;

@@ -1,7 +1,8 @@
 //! What positions give before marks join and ranges are handed on.
-ghost use Rattle.std.specs.Prelude.{◌≡◌, ◌<◌, option_map, slice_get};
-ghost use Rattle.rd_items.specs.Pieces.{scene_of, table_in, spec_in, gives_element, give_elements, string_gives, ellipsis_gives, inner_class, has_element, base_of, mark_of, char_by, spec_piece, open_piece, piece_at, HoldsBase, HoldsMark, IsMeasuredPiece};
-ghost use Rattle.rd_glyphs.specs.Joining.{IsMeasuredJoining};
+ghost use Rattle.std.specs.Prelude.{◌≡◌, ◌<◌, option_map, slice_get, IfSome};
+ghost use Rattle.rd_base.specs.Glyphs.{IsMeasured};
+ghost use Rattle.rd_items.specs.Pieces.{scene_of, table_in, spec_in, gives_element, give_elements, string_gives, ellipsis_gives, inner_class, has_element, char_by, spec_piece, open_piece, piece_at, IsMeasuredPiece};
+ghost use Rattle.rd_glyphs.specs.Joining.{base_of, mark_of, IsMark, IsMeasuredJoining};
 
 use crate::item::ItemKind;
 use crate::showing::Showing;
@@ -29,8 +30,8 @@ pub struct Piece {
 }
 
 impl Piece {
-    ghost use Rattle.std.specs.Prelude.{◌≡◌, ◌<◌};
-    ghost use Rattle.rd_items.specs.Pieces.{piece, string_piece, ender_piece, HoldsKind, IsMeasuredPiece};
+    ghost use Rattle.std.specs.Prelude.{◌≡◌, ◌<◌, IfSome};
+    ghost use Rattle.rd_items.specs.Pieces.{piece, string_piece, ender_piece, IsMeasuredKind, IsMeasuredPiece};
 
     /// A piece that marks don't join and that is no overlay's string.
     fn new(
@@ -42,7 +43,7 @@ impl Piece {
         to: u32,
     ) -> Piece
         ensures value { result ≡ piece class kind face covers at to }
-        ensures measured { HoldsKind kind → IsMeasuredPiece result }
+        ensures measured { IfSome kind IsMeasuredKind → IsMeasuredPiece result }
     {
         Piece {
             class,
@@ -204,7 +205,7 @@ fn has_element(joining: Joining) -> bool
 /// The glyph that marks may join.
 fn base_of(joining: Joining) -> Option<Glyph>
     ensures value { result ≡ base_of joining }
-    ensures measured { IsMeasuredJoining joining → HoldsBase result }
+    ensures measured { IsMeasuredJoining joining → IfSome result (λ g. IsMeasured g) }
 {
     match joining {
         Joining::Base(glyph) => Some(glyph),
@@ -216,7 +217,7 @@ fn base_of(joining: Joining) -> Option<Glyph>
 /// The mark that a character is.
 fn mark_of(joining: Joining) -> Option<u32>
     ensures value { result ≡ mark_of joining }
-    ensures measured { IsMeasuredJoining joining → HoldsMark result }
+    ensures measured { IsMeasuredJoining joining → IfSome result (λ code. IsMark code) }
 {
     match joining {
         Joining::Mark(code) => Some(code),

@@ -1,8 +1,10 @@
 //! The walk over a block: marks join, and ranges are handed on.
-ghost use Rattle.std.specs.Prelude.{◌≡◌};
+ghost use Rattle.std.specs.Prelude.{◌≡◌, IfSome};
+ghost use Rattle.rd_base.specs.Glyphs.{IsMeasured};
+ghost use Rattle.rd_glyphs.specs.Joining.{IsMark};
 ghost use Rattle.rd_glyphs.specs.Marks.{marked_glyph, marked};
 ghost use Rattle.rd_items.specs.Items.{piece_joins, item_of};
-ghost use Rattle.rd_items.specs.Pieces.{HoldsBase, HoldsMark, IsMeasuredPiece, HoldsPiece};
+ghost use Rattle.rd_items.specs.Pieces.{IsMeasuredPiece};
 
 use crate::item::{Item, ItemKind};
 use crate::piece::{Piece, piece_at};
@@ -24,7 +26,7 @@ pub struct Walk {
 /// The glyph that a mark joins, with the mark, where it joins it.
 fn marked_glyph(base: Option<Glyph>, mark: Option<u32>) -> Option<Glyph>
     ensures value { result ≡ marked_glyph base mark }
-    ensures measured { HoldsBase base → HoldsMark mark → HoldsBase result }
+    ensures measured { IfSome base (λ g. IsMeasured g) → IfSome mark (λ code. IsMark code) → IfSome result (λ g. IsMeasured g) }
 {
     match (base, mark) {
         (Some(glyph), Some(code)) => join(glyph, code),
@@ -35,7 +37,7 @@ fn marked_glyph(base: Option<Glyph>, mark: Option<u32>) -> Option<Glyph>
 /// A piece with the mark of the next, where it joins it.
 fn marked(held: &Piece, next: &Piece) -> Option<Piece>
     ensures value { result ≡ marked piece_joins held.now next.now }
-    ensures measured { IsMeasuredPiece held.now → IsMeasuredPiece next.now → HoldsPiece result }
+    ensures measured { IsMeasuredPiece held.now → IsMeasuredPiece next.now → IfSome result IsMeasuredPiece }
 {
     match marked_glyph(held.base, next.mark) {
         Some(glyph) => Some(Piece {

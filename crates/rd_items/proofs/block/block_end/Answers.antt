@@ -1,11 +1,30 @@
 use Rattle.std.proofs.Common.{sym, ◌∙◌, arith}
 use Rattle.rd_props.specs.Buffers.{meaning}
-use Rattle.rd_items.proofs.Cuts.{one-more}
+use Rattle.rd_items.proofs.Newlines.{next-bound, next-inside, next-newline, step-on}
 use Rattle.rd_items.proofs.block.block_end.Goals as goal
 
-pub loop-last-preserved : goal.loop-last-preserved
-loop-last-preserved c = record {
-  ordered = omega arith;
-  within = omega arith;
-  inside = one-more (meaning c.args.view.now.state.now) c.args.pos c.loop-last.last c.loop-last.invariant.inside (sym c.in_ok-is_shown_newline.ensures ∙ c.if-branch.false);
-}
+pub loop-newline-init : goal.loop-newline-init
+loop-newline-init c =
+    let s = meaning c.args.view.now.state.now in
+    let right = c.end-end.ensures.right in
+    let bound = next-bound s right c.args.pos c.requires.0 c.requires.1 in
+    rw c.next_newline-newline.ensures (record {
+      ordered = bound.0;
+      within = omega (arith, bound.1);
+      inside = next-inside s right c.args.pos c.requires.0 c.requires.1;
+      ends = λ less. next-newline s right c.args.pos c.requires.0 c.requires.1 (omega arith);
+    })
+
+pub loop-newline-preserved : goal.loop-newline-preserved
+loop-newline-preserved c =
+    let s = meaning c.args.view.now.state.now in
+    let right = c.end-end.ensures.right in
+    let stretch = c.in_ok-stretch.ensures in
+    let within = stretch.within (omega arith) in
+    let bound = next-bound s right c.in_ok-stretch.stretch.until (omega (arith, stretch.some)) within in
+    rw c.next_newline-newline-in-loop-newline.ensures (record {
+      ordered = omega (arith, bound.0, stretch.some);
+      within = omega (arith, bound.1);
+      inside = step-on s c.args.view.now.objects.now c.in_ok-stretch.stretch c.args.pos c.loop-newline.newline right stretch.shown stretch.first stretch.some within c.requires.0 c.loop-newline.invariant.ordered (sym c.is_open.ensures ∙ c.if-is_open.false) c.loop-newline.invariant.inside;
+      ends = λ less. next-newline s right c.in_ok-stretch.stretch.until (omega (arith, stretch.some)) within (omega arith);
+    })

@@ -8,7 +8,7 @@ abbrev pub invariant-loop-to : goal.invariant-loop-to
 invariant-loop-to l = record {
   ordered : l.pos < l.to;
   within : l.to ≤ l.end;
-  length : l.to + run_length l.showing (reading (meaning l.view.state.now) l.to) ≡ 1 + l.pos + run_length l.showing (behind (reading (meaning l.view.state.now) l.pos));
+  length : l.to + run_length l.view.state.now.settings.invisible l.showing (reading (meaning l.view.state.now) l.view.objects.now l.to) ≡ 1 + l.pos + run_length l.view.state.now.settings.invisible l.showing (behind (reading (meaning l.view.state.now) l.view.objects.now l.pos));
 }
 
 abbrev pub decreases-loop-to : goal.decreases-loop-to

@@ -4,4 +4,4 @@ use Rattle.rd_items.proofs.stretch.stretch_at.Goals as goal
 
 pub returns-clause-shown : goal.returns-clause-shown
 returns-clause-shown c =
-    stretch-from (meaning c.args.view.now.state.now) c.args.pos c.stop_behind.result c.in_ok-showing.showing c.stop_behind.ensures c.in_ok-showing.ensures
+    stretch-from (meaning c.args.view.now.state.now) c.args.view.now.objects.now c.args.pos c.stop_behind.result c.in_ok-showing.showing c.stop_behind.ensures c.in_ok-showing.ensures

@@ -1,0 +1,115 @@
+-- The glyphs of items have the columns that Unicode gives them.
+use Rattle.std.proofs.Common.{◌≡◌, ℕ, ◌+◌, Bool, true, false, List, [], ◌∷◌, ◌++◌, Option, Some, None, All, IfSome, IsTrue, refl, subst}
+use Rattle.std.specs.Prelude.{zero, suc, if◌then◌else◌, slice_get}
+use Rattle.std.proofs.lemmas.List.Elements.{All-cons, All-nil, All-head, All-tail, All-append}
+use Rattle.rd_base.specs.Chars.{is_code}
+use Rattle.rd_base.specs.Faces.{Attributes}
+use Rattle.rd_base.specs.Glyphs.{IsMeasured}
+use Rattle.rd_base.specs.declared.cell.Glyph.{Glyph}
+use Rattle.rd_text.specs.Texts.{is_newline}
+use Rattle.rd_objects.specs.declared.run.Spec.{Spec}
+use Rattle.rd_objects.specs.declared.run.Spec.TheVariants.{Text, Width, Align}
+use Rattle.rd_glyphs.specs.Joining.{joining_of, base_of, mark_of, IsMark, IsMeasuredJoining}
+use Rattle.rd_glyphs.specs.Marks.{marked_glyph, joined_from, joined}
+use Rattle.rd_glyphs.specs.Characters.{PartValues}
+use Rattle.rd_glyphs.specs.declared.joining.Joining.{Joining}
+use Rattle.rd_props.specs.Seen.{Seen}
+use Rattle.rd_props.specs.declared.hiding.Hidden.{Hidden}
+use Rattle.rd_props.specs.declared.hiding.Hidden.TheVariants.{No, Plain, Ellipsis}
+use Rattle.rd_items.specs.declared.piece.Piece.{Piece}
+use Rattle.rd_items.specs.declared.item.Item.{Item}
+use Rattle.rd_items.specs.declared.item.ItemKind.{ItemKind}
+use Rattle.rd_items.specs.declared.item.ItemKind.TheVariants as kind
+use Rattle.rd_items.specs.Readings.{showing_of, HaveCodes}
+use Rattle.rd_items.specs.Pieces.{Scene, string_pieces, string_piece, spec_in, spec_piece, open_piece, char_piece, ender_piece, piece_by, piece_at, run_in, pieces_from, IsMeasuredKind, IsMeasuredPiece}
+use Rattle.rd_items.specs.Items.{piece_joins, items_by, item_of, covered_to, covering, items_of, AreMeasuredItems}
+
+abbrev AreMeasuredPieces : List Piece → Type 0
+AreMeasuredPieces xs = All IsMeasuredPiece xs
+
+-- what is known of marks
+pub record MarkLaws : Type 0 where
+  pub joining : (parts : PartValues) (ch : ℕ) → IsTrue (is_code ch) → IsMeasuredJoining (joining_of parts ch)
+  pub base : (j : Joining) → IsMeasuredJoining j → IfSome (base_of j) (λ g. IsMeasured g)
+  pub mark : (j : Joining) → IsMeasuredJoining j → IfSome (mark_of j) (λ code. IsMark code)
+  pub joined : (base : Option Glyph) (mark : Option ℕ) → IfSome base (λ g. IsMeasured g) → IfSome mark (λ code. IsMark code) → IfSome (marked_glyph base mark) (λ g. IsMeasured g)
+
+-- ---- the pieces of what is read
+
+of-string : (p : ℕ) (face : Attributes) (n : ℕ) → IsMeasuredPiece (string_piece p face n)
+of-string p face n = record { kind = tt; base = tt; mark = tt }
+
+of-strings : (p : ℕ) (face : Attributes) (numbers : List ℕ) → AreMeasuredPieces (string_pieces p face numbers)
+of-strings p face [] = All-nil IsMeasuredPiece
+of-strings p face (n ∷ ns) = All-cons IsMeasuredPiece (string_piece p face n) (string_pieces p face ns) (of-string p face n) (of-strings p face ns)
+
+of-spec : (s : Scene) (spec : Spec) (face : Attributes) (p to : ℕ) → IsMeasuredPiece (spec_piece s spec face p to)
+of-spec s (Text n) face p to = record { kind = tt; base = tt; mark = tt }
+of-spec s (Width n) face p to = record { kind = tt; base = tt; mark = tt }
+of-spec s (Align n) face p to = record { kind = tt; base = tt; mark = tt }
+
+of-ender : (face : Attributes) (p : ℕ) → IsMeasuredPiece (ender_piece face p)
+of-ender face p = record { kind = tt; base = tt; mark = tt }
+
+of-char : (laws : MarkLaws) → (s : Scene) (face : Attributes) (c p : ℕ) → IsTrue (is_code c) → IsMeasuredPiece (char_piece s face c p)
+of-char laws s face c p code =
+    let joining = laws.joining s.parts c code in
+    record { kind = tt; base = laws.base (joining_of s.parts c) joining; mark = laws.mark (joining_of s.parts c) joining }
+
+of-open : (laws : MarkLaws) → (s : Scene) (face : Attributes) (ch : Option ℕ) (p : ℕ) → IfSome ch (λ c. IsTrue (is_code c)) → IsMeasuredPiece (open_piece s face ch p)
+of-open laws s face None p code = of-ender face p
+of-open laws s face (Some c) p code = by-newline (is_newline c) where
+  by-newline : (newline : Bool) → IsMeasuredPiece (if newline then ender_piece face p else char_piece s face c p)
+  by-newline true = of-ender face p
+  by-newline false = of-char laws s face c p code
+
+of-position : (laws : MarkLaws) → (s : Scene) (display : Option ℕ) (hidden : Hidden) (face : Attributes) (ch : Option ℕ) (p to : ℕ) → IfSome ch (λ c. IsTrue (is_code c)) → IsMeasuredPiece (piece_by s display hidden face ch p to)
+of-position laws s (Some n) hidden face ch p to code = of-spec s (spec_in s.objects n) face p to
+of-position laws s None No face ch p to code = of-open laws s face ch p code
+of-position laws s None Plain face ch p to code = record { kind = tt; base = tt; mark = tt }
+of-position laws s None Ellipsis face ch p to code = record { kind = tt; base = tt; mark = tt }
+
+of-reading : (laws : MarkLaws) → (s : Scene) (due p : ℕ) (es : List Seen) → HaveCodes es → AreMeasuredPieces (pieces_from s due p es)
+of-reading laws s due p [] codes = All-nil IsMeasuredPiece
+of-reading laws s (suc due) p (e ∷ es) codes = of-reading laws s due (suc p) es (All-tail (λ (f : Seen). IfSome f.character (λ c. IsTrue (is_code c))) e es codes)
+of-reading laws s zero p (e ∷ es) codes =
+    let showing = showing_of s.parts.settings.invisible e in
+    let x = piece_at s showing e.character p (suc p + run_in s e es) in
+    let rest = of-reading laws s (run_in s e es) (suc p) es (All-tail (λ (f : Seen). IfSome f.character (λ c. IsTrue (is_code c))) e es codes) in
+    let own = of-position laws s showing.display showing.hidden e.face e.character p (suc p + run_in s e es) (All-head (λ (f : Seen). IfSome f.character (λ c. IsTrue (is_code c))) e es codes) in
+    All-append IsMeasuredPiece (string_pieces p e.face e.strings) (x ∷ pieces_from s (run_in s e es) (suc p) es) (of-strings p e.face e.strings)
+    (All-cons IsMeasuredPiece x (pieces_from s (run_in s e es) (suc p) es) own rest)
+
+-- ---- marks that join
+
+joins-by : (laws : MarkLaws) → (h x : Piece) (xs : List Piece) → IsMeasuredPiece h → IsMeasuredPiece x → ((k : Piece) → IsMeasuredPiece k → AreMeasuredPieces (joined_from piece_joins k xs)) → (glyph : Option Glyph) → marked_glyph h.base x.mark ≡ glyph → AreMeasuredPieces (joined_from piece_joins h (x ∷ xs))
+joins-by laws h x xs held next rest None e = rw e (All-cons IsMeasuredPiece h (joined_from piece_joins x xs) held (rest x next))
+joins-by laws h x xs held next rest (Some g) e =
+    let glyph : IsMeasured g = subst (λ (m : Option Glyph). IfSome m (λ (b : Glyph). IsMeasured b)) e (laws.joined h.base x.mark held.base next.mark) in
+    rw e (rest _ (record { kind = glyph; base = glyph; mark = held.mark }))
+
+joins : (laws : MarkLaws) → (h : Piece) (xs : List Piece) → IsMeasuredPiece h → AreMeasuredPieces xs → AreMeasuredPieces (joined_from piece_joins h xs)
+joins laws h [] held all = All-cons IsMeasuredPiece h [] held (All-nil IsMeasuredPiece)
+joins laws h (x ∷ xs) held all =
+    joins-by laws h x xs held (All-head IsMeasuredPiece x xs all) (λ k measured. joins laws k xs measured (All-tail IsMeasuredPiece x xs all)) (marked_glyph h.base x.mark) refl
+
+joins-all : (laws : MarkLaws) → (xs : List Piece) → AreMeasuredPieces xs → AreMeasuredPieces (joined piece_joins xs)
+joins-all laws [] all = all
+joins-all laws (x ∷ xs) all = joins laws x xs (All-head IsMeasuredPiece x xs all) (All-tail IsMeasuredPiece x xs all)
+
+-- ---- the items
+
+item-by : (since : ℕ) (x : Piece) (items : List Item) → IsMeasuredPiece x → AreMeasuredItems items → (kind : Option ItemKind) → x.kind ≡ kind → AreMeasuredItems (items_by x.kind since x ++ items)
+item-by since x items measured rest None e = rw e rest
+item-by since x items measured rest (Some k) e =
+    let own : IsMeasuredKind k = subst (λ (m : Option ItemKind). IfSome m IsMeasuredKind) e measured.kind in
+    rw e (All-cons (λ (i : Item). IsMeasuredKind i.kind) (item_of since x k) items own rest)
+
+items : (since : ℕ) (xs : List Piece) → AreMeasuredPieces xs → AreMeasuredItems (covering since xs)
+items since [] all = All-nil (λ (i : Item). IsMeasuredKind i.kind)
+items since (x ∷ xs) all =
+    item-by since x (covering (covered_to since x) xs) (All-head IsMeasuredPiece x xs all) (items (covered_to since x) xs (All-tail IsMeasuredPiece x xs all)) x.kind refl
+
+-- of what has codes
+pub reading-measured : (laws : MarkLaws) → (s : Scene) (es : List Seen) → HaveCodes es → AreMeasuredItems (items_of s es)
+reading-measured laws s es codes = items 0 (joined piece_joins (pieces_from s 0 0 es)) (joins-all laws (pieces_from s 0 0 es) (of-reading laws s 0 0 es codes))
