@@ -7,8 +7,7 @@ ghost use Rattle.rd_items.specs.Readings.{showing_at, ends_line, is_hidden, ends
 ghost use Rattle.rd_items.specs.Pieces.{same_spec};
 
 use rd_base::{Ch, Face, Memory, Pos};
-use rd_overlays::Kind;
-use rd_props::{Hidden, View, effective, face_at, hidden};
+use rd_props::{Hidden, View, appearance_at};
 use std::alloc::Global;
 
 /// How the text at a position is shown: the number of the display spec that replaces it, how it is hidden, and its face.
@@ -86,10 +85,13 @@ pub fn showing_at(alloc: Global, view: &View, pos: Pos) -> Result<Showing, Memor
     requires { IsAccessible view.now.state.now.text pos }
     ensures { IfOk result (λ showing. showing ≡ showing_at (meaning view.now.state.now) view.now.objects.now pos) }
 {
+    let seen = appearance_at(alloc, view, pos)?;
+    let state = view.state;
+    let settings = &state.settings;
     Ok(Showing {
-        display: effective(alloc, view, pos, Kind::Display)?,
-        hidden: hidden(alloc, view, pos)?,
-        face: face_at(alloc, view, pos)?,
+        display: seen.display,
+        hidden: seen.hidden(&settings.invisible),
+        face: seen.face,
     })
 }
 

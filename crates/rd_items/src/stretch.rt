@@ -8,7 +8,7 @@ ghost use Rattle.rd_items.specs.Pieces.{run_length};
 
 use crate::showing::{Showing, showing_at};
 use rd_base::{Face, Memory, Pos};
-use rd_props::{Hidden, View, next_stop};
+use rd_props::{Hidden, View, next_stop, nothing_changes_before_the_next_stop};
 use std::alloc::Global;
 
 /// How the positions from `from` to `until - 1` are shown; no string stands before any of them but the first.
@@ -55,6 +55,7 @@ pub fn stretch_at(alloc: Global, view: &View, pos: Pos) -> Result<Stretch, Memor
     ensures within { pos < view.now.state.now.text.end → IfOk result (λ stretch. stretch.until ≤ view.now.state.now.text.end) }
     ensures shown { IfOk result (λ stretch. IsStretch (meaning view.now.state.now) view.now.objects.now stretch) }
 {
+    nothing_changes_before_the_next_stop();
     let showing = showing_at(alloc, view, pos)?;
     Ok(Stretch {
         from: pos,
