@@ -1,6 +1,6 @@
 -- The pieces of what is read of a block, which stand one behind the other.
-use Rattle.std.proofs.Common.{◌≡◌, ℕ, ◌+◌, ◌<◌, ◌≤◌, Bool, true, false, List, [], ◌∷◌, ◌++◌, length, Option, Some, None, refl, sym, ap, ◌∙◌, arith}
-use Rattle.std.specs.Prelude.{zero, suc, not, ◌&&◌, is_some, if◌then◌else◌, slice_get}
+use Rattle.std.proofs.Common.{◌≡◌, ℕ, ◌+◌, ◌<◌, ◌≤◌, Bool, true, false, List, [], ◌∷◌, ◌++◌, length, Option, Some, None, refl, sym, ap, arith}
+use Rattle.std.specs.Prelude.{zero, suc, not, ◌&&◌, is_some}
 use Rattle.rd_base.specs.Faces.{Attributes}
 use Rattle.rd_base.specs.declared.cell.Glyph.{Glyph}
 use Rattle.rd_base.specs.declared.settings.Invisible.{Invisible}
@@ -9,7 +9,7 @@ use Rattle.rd_objects.specs.declared.run.Spec.{Spec}
 use Rattle.rd_objects.specs.declared.run.Spec.TheVariants.{Text, Width, Align}
 use Rattle.rd_glyphs.specs.Characters.{entry_of, shown_as}
 use Rattle.rd_glyphs.specs.Joining.{joining_by, joining_of, base_of, is_empty_entry}
-use Rattle.rd_glyphs.specs.Marks.{marked_glyph, marked, joined_from, joined}
+use Rattle.rd_glyphs.specs.Marks.{marked_glyph, joined_from, joined}
 use Rattle.rd_glyphs.specs.declared.joining.Joining.{Joining}
 use Rattle.rd_glyphs.specs.declared.joining.Joining.TheVariants as joining
 use Rattle.rd_glyphs.specs.declared.shown.Shown.{Shown}
@@ -26,7 +26,7 @@ use Rattle.rd_items.specs.Readings.{showing_of, is_hidden, is_open, ends_line, i
 use Rattle.rd_items.specs.Pieces.{Scene, string_pieces, string_piece, spec_in, spec_piece, open_piece, char_piece, has_element, piece_by, piece_at, ender_piece, goes_on, run_length, run_in, pieces_from}
 use Rattle.rd_items.specs.Items.{piece_joins, kind_gives}
 use Rattle.rd_items.specs.Covers.{is_ender_kind}
-use Rattle.rd_items.proofs.Runs.{open-stops, open-alone, if-false}
+use Rattle.rd_items.proofs.Runs.{open-stops, open-alone}
 use Rattle.rd_items.proofs.Reach.{if-true}
 
 -- ---- pieces that stand one behind the other

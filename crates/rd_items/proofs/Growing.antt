@@ -1,13 +1,12 @@
 -- Objects that are made change no item of what names none of them.
-use Rattle.std.proofs.Common.{◌≡◌, ℕ, ◌+◌, ◌<◌, Bool, true, false, List, [], ◌∷◌, ◌++◌, length, Option, Some, None, All, IfSome, refl, sym, ap, ◌∙◌, arith}
-use Rattle.std.specs.Prelude.{zero, suc, if◌then◌else◌, slice_get}
+use Rattle.std.proofs.Common.{◌≡◌, ℕ, ◌+◌, ◌<◌, List, [], ◌∷◌, ◌++◌, length, Option, Some, None, IfSome, refl, ap, ◌∙◌, arith}
+use Rattle.std.specs.Prelude.{zero, suc, slice_get}
 use Rattle.std.specs.Option.{unwrap_or, option_and_then}
 use Rattle.std.proofs.lemmas.List.Elements.{All-head, All-tail, All-get_or}
 use Rattle.std.proofs.lemmas.Option.{unwrap_or-slice_get}
 use Rattle.rd_base.specs.Faces.{Attributes}
 use Rattle.rd_base.specs.Settings.{SettingValues}
 use Rattle.rd_base.specs.declared.settings.Invisible.{Invisible}
-use Rattle.rd_text.specs.Texts.{is_newline}
 use Rattle.rd_ucd.specs.Data.{Data}
 use Rattle.rd_objects.specs.declared.run.Spec.{Spec}
 use Rattle.rd_objects.specs.declared.run.Spec.TheVariants.{Text, Width, Align}
@@ -19,7 +18,7 @@ use Rattle.rd_props.specs.declared.hiding.Hidden.{Hidden}
 use Rattle.rd_props.specs.declared.hiding.Hidden.TheVariants.{No, Plain, Ellipsis}
 use Rattle.rd_items.specs.declared.piece.Piece.{Piece}
 use Rattle.rd_items.specs.Readings.{showing_of}
-use Rattle.rd_items.specs.Pieces.{Scene, table_in, scene_in, string_pieces, spec_in, spec_piece, open_piece, char_piece, ender_piece, unreplaced_piece, piece_by, piece_at, run_in, pieces_from}
+use Rattle.rd_items.specs.Pieces.{Scene, table_in, scene_in, string_pieces, spec_in, spec_piece, open_piece, char_piece, piece_by, piece_at, run_in, pieces_from}
 use Rattle.rd_items.specs.Items.{piece_joins, covering, items_of}
 use Rattle.rd_items.specs.Growing.{SeesMade, ReadsMade, HasMade, without_flags, GoesOnFrom}
 

@@ -6,8 +6,7 @@ use Rattle.std.proofs.lemmas.Bool.Decides.{nat_tests}
 use Rattle.rd_props.specs.Buffers.{BufferValue}
 use Rattle.rd_items.specs.Readings.{ends_block}
 use Rattle.rd_items.specs.Blocks.{blocks_from, blocks_of, Adjoin, is_shown_newline, StartsBlock, EndsBlock, IsBlock}
-use Rattle.rd_items.proofs.Runs.{not-both, if-false}
-use Rattle.rd_items.proofs.Reach.{if-true}
+use Rattle.rd_items.proofs.Runs.{not-both}
 use Rattle.rd_items.proofs.Newlines.{AreInside, both-inside, one-inside}
 
 -- ---- lists of blocks that adjoin

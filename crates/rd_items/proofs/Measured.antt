@@ -1,6 +1,6 @@
 -- The glyphs of items have the columns that Unicode gives them.
 use Rattle.std.proofs.Common.{◌≡◌, ℕ, ◌+◌, Bool, true, false, List, [], ◌∷◌, ◌++◌, Option, Some, None, All, IfSome, IsTrue, refl, subst}
-use Rattle.std.specs.Prelude.{zero, suc, if◌then◌else◌, slice_get}
+use Rattle.std.specs.Prelude.{zero, suc, if◌then◌else◌}
 use Rattle.std.proofs.lemmas.List.Elements.{All-cons, All-nil, All-head, All-tail, All-append}
 use Rattle.rd_base.specs.Chars.{is_code}
 use Rattle.rd_base.specs.Faces.{Attributes}
@@ -19,7 +19,6 @@ use Rattle.rd_props.specs.declared.hiding.Hidden.TheVariants.{No, Plain, Ellipsi
 use Rattle.rd_items.specs.declared.piece.Piece.{Piece}
 use Rattle.rd_items.specs.declared.item.Item.{Item}
 use Rattle.rd_items.specs.declared.item.ItemKind.{ItemKind}
-use Rattle.rd_items.specs.declared.item.ItemKind.TheVariants as kind
 use Rattle.rd_items.specs.Readings.{showing_of, HaveCodes}
 use Rattle.rd_items.specs.Pieces.{Scene, string_pieces, string_piece, spec_in, spec_piece, open_piece, char_piece, ender_piece, piece_by, piece_at, run_in, pieces_from, IsMeasuredKind, IsMeasuredPiece}
 use Rattle.rd_items.specs.Items.{piece_joins, items_by, item_of, covered_to, covering, items_of, AreMeasuredItems}

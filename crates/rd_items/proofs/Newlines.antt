@@ -1,19 +1,19 @@
 -- What the searches for newlines tell of shown newlines.
 use Rattle.std.proofs.Common.{◌≡◌, ◌⊎◌, inl, inr, ℕ, ◌+◌, ◌-◌, ◌<◌, ◌≤◌, Bool, true, false, not, List, length, get_or, reverse, Some, refl, sym, ap, ◌∙◌, arith}
-use Rattle.std.specs.Prelude.{suc, nat_lt, nat_le, is_some, ◌&&◌}
+use Rattle.std.specs.Prelude.{suc, nat_lt, nat_le, ◌&&◌}
 use Rattle.std.specs.List.{position_or_len, suffix_len}
 use Rattle.std.proofs.lemmas.Bool.{not-true}
 use Rattle.std.proofs.lemmas.Bool.Decides.{nat_tests}
-use Rattle.std.proofs.lemmas.List.{get_or-reverse, length-reverse}
+use Rattle.std.proofs.lemmas.List.{get_or-reverse}
 use Rattle.std.proofs.lemmas.List.Edits.{length-between, get_or-between}
 use Rattle.std.proofs.lemmas.List.Sums.{passes_at_first, fails_before_first, prefix_len-le-length, prefix_len_passes, suffix_len-le-length}
 use Rattle.std.proofs.lemmas.Option.{slice_get-get_or}
-use Rattle.rd_text.specs.Texts.{TextValue, IsText, is_newline, between, next_newline, prev_newline}
+use Rattle.rd_text.specs.Texts.{IsText, is_newline, between, next_newline, prev_newline}
 use Rattle.rd_objects.specs.Things.{ObjectLists}
 use Rattle.rd_props.specs.Buffers.{BufferValue}
 use Rattle.rd_props.specs.Seen.{accessible_char}
-use Rattle.rd_items.specs.Readings.{showing_at, is_open, ends_line, ends_block}
-use Rattle.rd_items.specs.Blocks.{is_shown_newline, StartsBlock, EndsBlock, IsLastStart, IsFirstEnd}
+use Rattle.rd_items.specs.Readings.{showing_at, is_open, ends_line}
+use Rattle.rd_items.specs.Blocks.{is_shown_newline}
 use Rattle.rd_items.specs.Stretches.{IsStretch}
 use Rattle.rd_items.specs.declared.stretch.Stretch.{Stretch}
 

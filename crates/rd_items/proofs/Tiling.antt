@@ -1,6 +1,6 @@
 -- What the items of a block cover, and how they end.
-use Rattle.std.proofs.Common.{◌≡◌, inl, inr, ℕ, ◌+◌, ◌-◌, ◌<◌, ◌≤◌, Bool, true, false, List, [], ◌∷◌, ◌++◌, length, Option, Some, None, All, refl, sym, ap, ◌∙◌, arith}
-use Rattle.std.specs.Prelude.{zero, suc, not, ◌&&◌, nat_lt}
+use Rattle.std.proofs.Common.{◌≡◌, inl, inr, ℕ, ◌<◌, ◌≤◌, Bool, true, false, List, [], ◌∷◌, ◌++◌, length, Option, Some, None, refl, sym, ◌∙◌, arith}
+use Rattle.std.specs.Prelude.{not, ◌&&◌, nat_lt}
 use Rattle.std.proofs.lemmas.Bool.Decides.{nat_tests}
 use Rattle.std.proofs.lemmas.List.Elements.{All-cons, All-nil}
 use Rattle.rd_glyphs.specs.Marks.{joined}
@@ -8,12 +8,11 @@ use Rattle.rd_props.specs.Seen.{Seen}
 use Rattle.rd_items.specs.declared.piece.Piece.{Piece}
 use Rattle.rd_items.specs.declared.item.Item.{Item}
 use Rattle.rd_items.specs.declared.item.ItemKind.{ItemKind}
-use Rattle.rd_items.specs.declared.item.ItemKind.TheVariants as kind
 use Rattle.rd_items.specs.Readings.{IsReading}
 use Rattle.rd_items.specs.Pieces.{Scene, pieces_from}
 use Rattle.rd_items.specs.Items.{piece_joins, kind_gives, item_of, items_by, covered_to, covering, items_of}
 use Rattle.rd_items.specs.Covers.{Tile, CoverWhereTheyGive, is_ender_kind, EndOnce}
-use Rattle.rd_items.proofs.Chains.{option_gives, option_ends, IsLink, IsInner, IsLast, Chain, reading-chain}
+use Rattle.rd_items.proofs.Chains.{IsLink, IsInner, Chain, reading-chain}
 
 differ : (b : Bool) → b ≡ true → b ≡ false → ⊥
 differ b e f = cc

@@ -1,5 +1,5 @@
 -- Buffers on which the definitions are worked out.
-use Rattle.std.specs.Prelude.{ℕ, ◌+◌, ◌-◌, pos, true, false, List, [], ◌∷◌, length, Option, Some}
+use Rattle.std.specs.Prelude.{ℕ, ◌+◌, pos, true, false, List, [], ◌∷◌, length, Option, Some}
 use Rattle.rd_base.specs.Faces.{plain}
 use Rattle.rd_base.specs.Settings.{opening}
 use Rattle.rd_base.specs.declared.class.Class.TheVariants.{L, B, ON, NSM}
@@ -18,7 +18,7 @@ use Rattle.rd_glyphs.specs.declared.joining.Joining.TheVariants.{Base, Mark}
 use Rattle.rd_props.specs.Buffers.{BufferValue, values_of}
 use Rattle.rd_props.specs.Examples.{three_characters, put_once}
 use Rattle.rd_items.specs.Readings.{reading}
-use Rattle.rd_items.specs.Pieces.{scene_in, char_by, string_piece}
+use Rattle.rd_items.specs.Pieces.{scene_in, char_by}
 use Rattle.rd_items.specs.Items.{piece_joins, covering, items_of}
 use Rattle.rd_items.specs.declared.item.Item.{Item}
 use Rattle.rd_items.specs.declared.item.ItemKind.TheVariants as kind

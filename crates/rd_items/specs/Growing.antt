@@ -1,5 +1,5 @@
 -- Scenes that show alike what is read, since no object that it names has changed.
-use Rattle.std.specs.Prelude.{◌≡◌, ℕ, ◌<◌, false, List, length, All, IfSome}
+use Rattle.std.specs.Prelude.{◌≡◌, ◌<◌, false, List, length, All, IfSome}
 use Rattle.rd_base.specs.Settings.{SettingValues}
 use Rattle.rd_objects.specs.Sound.{Extends}
 use Rattle.rd_objects.specs.Things.{ObjectLists}

@@ -1,4 +1,4 @@
-use Rattle.std.proofs.Common.{◌-◌, ◌<◌, ◌≤◌}
+use Rattle.std.proofs.Common.{◌-◌, ◌≤◌}
 use Rattle.rd_props.specs.Buffers.{meaning}
 use Rattle.rd_items.proofs.Newlines.{AreInside}
 use Rattle.rd_items.proofs.block.block_start.Given as goal

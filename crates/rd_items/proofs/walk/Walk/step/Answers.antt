@@ -1,7 +1,7 @@
 use Rattle.std.proofs.Common.{sym, ◌∙◌}
 use Rattle.rd_props.specs.Buffers.{meaning}
 use Rattle.rd_items.specs.Walks.{whole}
-use Rattle.rd_items.proofs.Steps.{IsStep, step-ends, step-goes}
+use Rattle.rd_items.proofs.Steps.{step-ends, step-goes}
 use Rattle.rd_items.proofs.walk.Walk.step.Goals as goal
 
 pub returns-then-ends_block-clause-steps : goal.returns-then-ends_block-clause-steps
