@@ -86,7 +86,7 @@ module _ (entries : List BracketEntry) (base : ℕ) where
       let keep : length (kept base cs (i1_i2 us ls)) ≡ length (i1_i2 us ls) = kept-length base cs (i1_i2 us ls) (omega arith) in
       keep ∙ raise ∙ levels ∙ all
 
-  line-length : (cs : List Class) (codes : List ℕ) → length (line_levels entries base cs codes) ≡ length cs
+  pub line-length : (cs : List Class) (codes : List ℕ) → length (line_levels entries base cs codes) ≡ length cs
   line-length cs codes = l1-length base cs (levels-before cs codes) (sym (before-length cs codes)) ∙ before-length cs codes
 
   line-last : (cs : List Class) (codes : List ℕ) → slice_index (line_levels entries base (cs ++ B ∷ []) codes) (length cs) ≡ base

@@ -12,6 +12,11 @@ pub fn lines_read_from_the_left()
     ensures { (entries : List BracketEntry) (classes : List Class) (codes : List ℕ) → are_leveled classes ≡ true → line_levels entries 0 classes codes ≡ replicate (length classes) 0 }
 {}
 
+/// A line has as many levels as places. The call does nothing.
+pub fn lines_have_a_level_each()
+    ensures { (entries : List BracketEntry) (base : ℕ) (classes : List Class) (codes : List ℕ) → length (line_levels entries base classes codes) ≡ length classes }
+{}
+
 /// A separator of paragraphs at the end of a line, as the ender of a block is, comes last in visual order. The call does nothing.
 pub fn enders_come_last()
     ensures { (entries : List BracketEntry) (reorder : Bool) (base : ℕ) (classes : List Class) (codes : List ℕ) → ComesLast (turns_of entries reorder base (classes ++ B ∷ []) codes) (length classes) }
