@@ -1,5 +1,12 @@
 mod Lists
-mod Places
-mod Rows
+mod Orders
 mod Glyphs
+mod Rows
+mod Walks
+mod Strings
+mod Elements
 mod Prefixes
+mod Ends
+mod Enders
+mod LineEnds
+mod Measures

@@ -46,7 +46,7 @@ pub all-more : {X : Type 0} (P : X → Type 0) (old new : List X) (x : X) (resul
 all-more P old new x (Ok u) one made all = subst (All P) (sym made) (All-push P old x all one)
 all-more P old new x (Err e) one made all = made
 
-range-next : (i n m : ℕ) → m ≡ n → i < m → range_with_len i (n - i) ≡ i ∷ range_with_len (i + 1) (n - (i + 1))
+pub range-next : (i n m : ℕ) → m ≡ n → i < m → range_with_len i (n - i) ≡ i ∷ range_with_len (i + 1) (n - (i + 1))
 range-next i n m size inside =
     let e : n - i ≡ suc (n - (i + 1)) = omega arith in
     ap (λ k. range_with_len i k) e

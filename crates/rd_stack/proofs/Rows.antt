@@ -1,35 +1,63 @@
 -- The rows of a string, place by place.
-use Rattle.std.proofs.Common.{◌≡◌, ℕ, true, false, List, [], ◌∷◌, ◌++◌, Option, ap, sym, ◌∙◌, append_assoc}
-use Rattle.std.specs.Prelude.{if◌then◌else◌, Result, Ok, Err, OnOk}
-use Rattle.rd_base.specs.declared.memory.Memory.{Memory}
+use Rattle.std.proofs.Common.{◌≡◌, ℕ, suc, ◌+◌, ◌-◌, ◌<◌, Bool, true, false, List, [], ◌∷◌, ◌++◌, length, Option, None, Some, ap, sym, refl, ◌∙◌, arith}
+use Rattle.std.specs.Prelude.{not, is_some, ◌&&◌, if◌then◌else◌, nat_lt, map}
+use Rattle.std.specs.List.{range_with_len}
+use Rattle.std.proofs.lemmas.Bool.Decides.{nat_tests}
+use Rattle.rd_base.specs.Faces.{Attributes}
+use Rattle.rd_text.specs.Texts.{is_newline}
+use Rattle.rd_objects.specs.Texts.{TextValue}
 use Rattle.rd_items.specs.Pieces.{Scene, same_spec}
-use Rattle.rd_stack.specs.Strings.{run_heads, ends_row, part_of, row, row_end, rows_from, rows_left}
+use Rattle.rd_stack.specs.Strings.{place_of, places_from, run_heads, ends_row, part_of, row, row_end, rows_from, shown_from, behind_row}
 use Rattle.rd_stack.specs.declared.part.Place.{Place}
 use Rattle.rd_stack.specs.declared.part.Part.{Part}
-use Rattle.rd_stack.specs.declared.part.Shown.{Shown}
+use Rattle.rd_stack.proofs.Lists.{range-next}
+
+-- nothing goes on a place without a spec
+bare-heads : (before : Option ℕ) (p : Place) (ps : List Place) → p.spec ≡ None → run_heads before (p ∷ ps) ≡ p ∷ run_heads None ps
+bare-heads before p ps bare = ap (λ spec. (if same_spec before spec then [] else p ∷ []) ++ run_heads spec ps) bare ∙ by before where
+  by : (before : Option ℕ) → (if same_spec before None then [] else p ∷ []) ++ run_heads None ps ≡ p ∷ run_heads None ps
+  by None = refl
+  by (Some n) = refl
+
+bare-end : (spec : Option ℕ) (newline : Bool) → (not (is_some spec) && newline) ≡ true → spec ≡ None
+bare-end None newline ends = refl
+bare-end (Some n) newline ends = absurd (grind arith)
 
 -- a newline ends the row
-pub row-ends : (s : Scene) (base : ℕ) (made new : List Shown) (xs ys : List Part) (p : Place) (result : Result (Unit {0}) Memory) → ends_row p ≡ true
-    → OnOk result (new ≡ made ++ row s base xs ++ row_end p.face ∷ []) → OnOk result (ys ≡ [])
-    → OnOk result ((ps : List Place) → new ++ rows_from s base ys ps ≡ made ++ rows_from s base xs (p ∷ ps))
-row-ends s base made new xs ys p (Ok u) ends given empty = λ ps.
-    let rest = rows_from s base [] ps in
-    let r = row s base xs in
-    let e = row_end p.face in
-    ap (λ zs. new ++ rows_from s base zs ps) empty
-    ∙ ap (λ l. l ++ rest) given
-    ∙ append_assoc (made ++ r) (e ∷ []) rest
-    ∙ append_assoc made r (e ∷ rest)
-    ∙ sym (ap (λ t. made ++ (if t then r ++ e ∷ rest else rows_from s base (xs ++ part_of s p ∷ []) ps)) ends)
-row-ends s base made new xs ys p (Err e) ends given empty = given
+row-ends : (s : Scene) (base : ℕ) (parts : List Part) (before : Option ℕ) (p : Place) (ps : List Place) → ends_row p ≡ true
+    → rows_from s base parts (run_heads before (p ∷ ps)) ≡ row s base parts ++ row_end p.face ∷ rows_from s base [] (run_heads None ps)
+row-ends s base parts before p ps ends =
+    let rest = run_heads None ps in
+    ap (rows_from s base parts) (bare-heads before p ps (bare-end p.spec (is_newline p.ch) ends))
+    ∙ ap (λ t. if t then row s base parts ++ row_end p.face ∷ rows_from s base [] rest else rows_from s base (parts ++ part_of s p ∷ []) rest) ends
 
--- a place that goes on no run
-pub row-goes : (s : Scene) (base : ℕ) (made new : List Shown) (xs ys : List Part) (before after : Option ℕ) (p : Place) (result : Result (Unit {0}) Memory)
-    → same_spec before p.spec ≡ false → after ≡ p.spec
-    → OnOk result ((ps : List Place) → new ++ rows_from s base ys ps ≡ made ++ rows_from s base xs (p ∷ ps))
-    → OnOk result ((ps : List Place) → rows_left s base new ys after ps ≡ rows_left s base made xs before (p ∷ ps))
-row-goes s base made new xs ys before after p (Ok u) differs same step = λ ps.
-    ap (λ b. new ++ rows_from s base ys (run_heads b ps)) same
-    ∙ step (run_heads p.spec ps)
-    ∙ sym (ap (λ t. made ++ rows_from s base xs ((if t then [] else p ∷ []) ++ run_heads p.spec ps)) differs)
-row-goes s base made new xs ys before after p (Err e) differs same step = step
+pub places-next : (replaced : Bool) (text : TextValue) (under : Attributes) (i n : ℕ) → n ≡ length text.chars → i < n → places_from replaced text under i ≡ place_of replaced text under i ∷ places_from replaced text under (i + 1)
+places-next replaced text under i n size inside = ap (map (place_of replaced text under)) (range-next i (length text.chars) n size inside)
+
+-- the row that was read up to a newline, and what is behind it
+pub row-ended : (s : Scene) (base : ℕ) (replaced : Bool) (text : TextValue) (under : Attributes) (i n : ℕ) (parts : List Part) (before : Option ℕ) (p : Place) (whole : List _)
+    → n ≡ length text.chars → i < n → p ≡ place_of replaced text under i → ends_row p ≡ true
+    → rows_from s base parts (run_heads before (places_from replaced text under i)) ≡ whole
+    → row s base parts ++ behind_row s base replaced text under i ≡ whole
+row-ended s base replaced text under i n parts before p whole size inside here ends all =
+    let q = place_of replaced text under i in
+    let rest = places_from replaced text under (i + 1) in
+    let inner : nat_lt i (length text.chars) ≡ true = grind (arith, nat_tests) in
+    ap (λ t. row s base parts ++ (if t then row_end q.face ∷ shown_from s base replaced text under (i + 1) else [])) inner
+    ∙ sym (row-ends s base parts before q rest (ap ends_row (sym here) ∙ ends))
+    ∙ sym (ap (λ ps. rows_from s base parts (run_heads before ps)) (places-next replaced text under i n size inside))
+    ∙ all
+
+-- one more place of the row
+pub row-goes : (s : Scene) (base : ℕ) (replaced : Bool) (text : TextValue) (under : Attributes) (i n : ℕ) (parts more : List Part) (before after : Option ℕ) (p : Place) (whole : List _)
+    → n ≡ length text.chars → i < n → p ≡ place_of replaced text under i → after ≡ p.spec
+    → ((ps : List Place) → rows_from s base more (run_heads p.spec ps) ≡ rows_from s base parts (run_heads before (p ∷ ps)))
+    → rows_from s base parts (run_heads before (places_from replaced text under i)) ≡ whole
+    → rows_from s base more (run_heads after (places_from replaced text under (i + 1))) ≡ whole
+row-goes s base replaced text under i n parts more before after p whole size inside here same step all =
+    let rest = places_from replaced text under (i + 1) in
+    ap (λ spec. rows_from s base more (run_heads spec rest)) same
+    ∙ step rest
+    ∙ ap (λ q. rows_from s base parts (run_heads before (q ∷ rest))) here
+    ∙ sym (ap (λ ps. rows_from s base parts (run_heads before ps)) (places-next replaced text under i n size inside))
+    ∙ all

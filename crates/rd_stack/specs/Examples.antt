@@ -9,6 +9,9 @@ use Rattle.rd_base.specs.declared.element.Look.{Look}
 use Rattle.rd_base.specs.declared.element.Look.TheVariants as look
 use Rattle.rd_base.specs.declared.settings.Invisible.{Invisible}
 use Rattle.rd_ucd.specs.declared.spans.Span.{Span}
+use Rattle.rd_ucd.specs.declared.spans.Bracket.TheVariants.{Opens, Closes}
+use Rattle.rd_ucd.specs.declared.spans.BracketEntry.{BracketEntry}
+use Rattle.rd_ucd.specs.Data.{Data}
 use Rattle.rd_overlays.specs.declared.overlay.Overlay.{Overlay}
 use Rattle.rd_overlays.specs.declared.overlay.Kind.TheVariants.{Before}
 use Rattle.rd_overlays.specs.Overlays.{new_overlay, given}
@@ -18,8 +21,10 @@ use Rattle.rd_objects.specs.Texts.{TextValue, text_of}
 use Rattle.rd_objects.specs.Things.{ObjectLists, nothing_made}
 use Rattle.rd_glyphs.specs.Characters.{element_of}
 use Rattle.rd_props.specs.Buffers.{BufferValue, values_of}
-use Rattle.rd_items.specs.Pieces.{Scene, parts_in}
+use Rattle.rd_items.specs.Readings.{reading}
+use Rattle.rd_items.specs.Pieces.{Scene, scene_in}
 use Rattle.rd_stack.specs.Shown.{outside}
+use Rattle.rd_stack.specs.Lines.{line_elements}
 
 -- an element of a look in the plain face, of the item of a number that covers these offsets
 abbrev pub plain_look : Look → ℕ → ℕ → ℕ → Element
@@ -82,8 +87,23 @@ abbrev pub some_classes : List Span
 some_classes =
     record { first = 32; last = 32; class = WS } ∷ record { first = 40; last = 41; class = ON } ∷ record { first = 114; last = 116; class = R } ∷ []
 
+-- round brackets, which mirror each other and, where they are paired, close each other
+abbrev pub files : List BracketEntry → Data
+files brackets = record { classes = some_classes; mirrors = record { code = 40; mirror = 41 } ∷ []; brackets = brackets }
+
 abbrev pub scene : BufferValue → ObjectLists → Scene
-scene s objects = record { objects = objects; parts = parts_in s objects some_classes (record { code = 40; mirror = 41 } ∷ []) }
+scene s objects = scene_in s.settings objects (files [])
+
+-- the line of the block that starts at a position of a buffer, with a base level
+abbrev pub line_at : BufferValue → ObjectLists → ℕ → ℕ → List Element
+line_at s objects base start = line_elements (scene s objects) base (reading s objects start)
+
+abbrev pub round : List BracketEntry
+round = record { code = 40; bracket = Opens 41 } ∷ record { code = 41; bracket = Closes 40 } ∷ []
+
+-- the same where round brackets are paired
+abbrev pub paired_line_at : BufferValue → ObjectLists → ℕ → ℕ → List Element
+paired_line_at s objects base start = line_elements (scene_in s.settings objects (files round)) base (reading s objects start)
 
 -- an element of a character of one column in a face
 abbrev pub coloured : Attributes → ℕ → ℕ → ℕ → ℕ → Element

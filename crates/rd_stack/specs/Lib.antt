@@ -1,5 +1,7 @@
-pub mod Turns
+pub mod Ahead
 pub mod Strings
 pub mod Shown
 pub mod Lines
+pub mod Steps
+pub mod Walks
 pub mod Examples

@@ -7,7 +7,7 @@ use Rattle.rd_base.specs.declared.element.Extent.TheVariants.{Fixed, Column}
 use Rattle.rd_base.specs.declared.element.Look.{Look}
 use Rattle.rd_base.specs.declared.element.Look.TheVariants as look
 use Rattle.rd_base.specs.declared.element.Origin.{Origin}
-use Rattle.rd_base.specs.Elements.{IsSound}
+use Rattle.rd_base.specs.Elements.{is_line_end, IsSound}
 use Rattle.rd_base.specs.Glyphs.{IsMeasuredLook}
 use Rattle.rd_objects.specs.Texts.{TextValue}
 use Rattle.rd_objects.specs.declared.run.Spec.{Spec}
@@ -71,19 +71,6 @@ outside = record { item = 4294967295; from = 0; to = 0 }
 abbrev pub prefix : Scene → ℕ → ℕ → List Element
 prefix s base number = before_row_end (inner s base outside plain (slice_get s.objects.strings number))
 
-abbrev pub is_line_end : Look → Bool
-is_line_end look.LineEnd = true
-is_line_end l = false
-
--- what an element of a line other than its last always is
-pub record IsInside (e : Element) : Type 0 where
-  pub sound : IsSound e
-  pub measured : IsMeasuredLook e.look
-  pub inside : is_line_end e.look ≡ false
-
-abbrev pub AreInside : List Element → Type 0
-AreInside es = All IsInside es
-
 -- what each element of a line is
 pub record IsRight (e : Element) : Type 0 where
   pub sound : IsSound e
@@ -91,6 +78,19 @@ pub record IsRight (e : Element) : Type 0 where
 
 abbrev pub AreRight : List Element → Type 0
 AreRight es = All IsRight es
+
+-- elements of which none ends the line
+abbrev pub AreOpen : List Element → Type 0
+AreOpen es = All (λ e. is_line_end e.look ≡ false) es
+
+-- what each element of a prefix is
+pub record IsInside (e : Element) : Type 0 where
+  pub sound : IsSound e
+  pub measured : IsMeasuredLook e.look
+  pub inside : is_line_end e.look ≡ false
+
+abbrev pub AreInside : List Element → Type 0
+AreInside es = All IsInside es
 
 -- elements that end no row
 abbrev pub AreOfOneRow : List Element → Type 0

@@ -1,23 +1,21 @@
 -- The parts of a string, in the order in which they are shown.
-use Rattle.std.specs.Prelude.{ℕ, Bool, false, not, ◌&&◌, is_some, if◌then◌else◌, List, [], ◌∷◌, ◌++◌, length, map, get_or, slice_get, Option, None, Some, option_map, All}
-use Rattle.std.specs.Option.{unwrap_or}
+use Rattle.std.specs.Prelude.{ℕ, ◌+◌, ◌-◌, nat_lt, Bool, false, not, ◌&&◌, is_some, if◌then◌else◌, List, [], ◌∷◌, ◌++◌, length, map, get_or, slice_get, Option, None, Some, option_map, All}
 use Rattle.std.specs.List.{flat_map, range_with_len}
 use Rattle.rd_base.specs.Faces.{Attributes, over}
 use Rattle.rd_base.specs.declared.class.Class.{Class}
 use Rattle.rd_base.specs.declared.class.Class.TheVariants.{S, ON}
-use Rattle.rd_base.specs.declared.cell.Glyph.{Glyph}
 use Rattle.rd_text.specs.Texts.{is_newline}
 use Rattle.rd_ucd.specs.Lookup.{class_of}
 use Rattle.rd_objects.specs.Texts.{TextValue, face_of, spec_of}
 use Rattle.rd_objects.specs.declared.run.Spec.{Spec}
 use Rattle.rd_objects.specs.declared.run.Spec.TheVariants.{Text}
 use Rattle.rd_base.specs.Glyphs.{IsMeasured}
-use Rattle.rd_glyphs.specs.Joining.{joining_of, IsMeasuredJoining}
-use Rattle.rd_glyphs.specs.declared.joining.Joining.{Joining}
+use Rattle.rd_glyphs.specs.Joining.{joining_of, base_of, mark_of, IsMeasuredJoining}
+use Rattle.rd_glyphs.specs.Marks.{Joins, joined}
 use Rattle.rd_glyphs.specs.declared.joining.Joining.TheVariants as joining
-use Rattle.rd_items.specs.Pieces.{Scene, spec_in, inner_class, base_of, mark_of, same_spec}
-use Rattle.rd_items.specs.Items.{marked_glyph}
-use Rattle.rd_stack.specs.Turns.{unpaired_turns}
+use Rattle.rd_items.specs.Pieces.{Scene, spec_in, inner_class, same_spec}
+use Rattle.rd_items.specs.Items.{unlisted}
+use Rattle.rd_levels.specs.Turns.{turns_of}
 use Rattle.rd_levels.specs.declared.turn.Turn.{Turn}
 use Rattle.rd_stack.specs.declared.part.Place.{Place}
 use Rattle.rd_stack.specs.declared.part.Part.{Part}
@@ -34,8 +32,9 @@ place_of replaced text under i = record {
   spec = if replaced then spec_of text i else None;
 }
 
-abbrev pub places : Bool → TextValue → Attributes → List Place
-places replaced text under = map (place_of replaced text under) (range_with_len 0 (length text.chars))
+-- the places of a string from one on
+abbrev pub places_from : Bool → TextValue → Attributes → ℕ → List Place
+places_from replaced text under i = map (place_of replaced text under) (range_with_len i (length text.chars - i))
 
 -- places without those that go on the run of the place before them, which has this spec: a run of places with one spec stands as
 -- its first
@@ -64,28 +63,13 @@ part_by s None p = record {
 abbrev pub part_of : Scene → Place → Part
 part_of s p = part_by s (option_map (spec_in s.objects) p.spec) p
 
--- the glyph that a mark joins, with the mark, where it joins it
-abbrev pub glyph_with : Joining → Joining → Option Glyph
-glyph_with held next = marked_glyph (base_of held) (mark_of next)
-
-abbrev pub marked : Part → Part → Option Part
-marked held next =
-    option_map (λ glyph. record held { kind = kind.Marked glyph; joining = joining.Base glyph }) (glyph_with held.joining next.joining)
-
--- parts in which each mark has joined the part directly before it, where it may
-abbrev pub joined_from : Part → List Part → List Part
-joined_from held [] = held ∷ []
-joined_from held (x ∷ xs) =
-    (if is_some (marked held x) then [] else held ∷ []) ++ joined_from (unwrap_or (marked held x) x) xs
-
-abbrev pub joined : List Part → List Part
-joined [] = []
-joined (x ∷ xs) = joined_from x xs
-
--- the parts behind one that is held for its marks
-abbrev pub with_held : Option Part → List Part → List Part
-with_held None xs = joined xs
-with_held (Some held) xs = joined_from held xs
+-- how the parts of a row join marks
+abbrev pub part_joins : Joins Part
+part_joins = record {
+  base = λ x. base_of x.joining;
+  mark = λ x. mark_of x.joining;
+  grown = λ held glyph next. record held { kind = kind.Marked glyph; joining = joining.Base glyph };
+}
 
 -- the part at a place in its turn, if there is one
 abbrev pub shown_by : Bool → Option Part → List Shown
@@ -98,13 +82,23 @@ shown_at xs turn = shown_by turn.odd (slice_get xs turn.index)
 abbrev pub part_class : Part → Class
 part_class x = x.class
 
--- parts in visual order, by their classes with the line's base
-abbrev pub in_order : Bool → ℕ → List Part → List Shown
-in_order reorder base xs = flat_map (shown_at xs) (unpaired_turns reorder base (map part_class xs))
+-- the code by which a part may be a bracket: a character's own, with marks its base, and no other has one
+abbrev pub kind_code : PartKind → ℕ
+kind_code (kind.Char c) = c
+kind_code (kind.Marked g) = g.base
+kind_code kind = unlisted
+
+abbrev pub part_code : Part → ℕ
+part_code x = kind_code x.kind
+
+-- parts in visual order, in a line of this base
+abbrev pub in_order : Scene → ℕ → List Part → List Shown
+in_order s base xs =
+    flat_map (shown_at xs) (turns_of s.brackets s.parts.settings.reorder base (map part_class xs) (map part_code xs))
 
 -- a row of a string: its marks join, and its parts are put in order
 abbrev pub row : Scene → ℕ → List Part → List Shown
-row s base xs = in_order s.parts.settings.reorder base (joined xs)
+row s base xs = in_order s base (joined part_joins xs)
 
 abbrev pub row_end : Attributes → Shown
 row_end face = record { kind = kind.RowEnd; face = face; odd = false }
@@ -115,14 +109,19 @@ rows_from s base xs [] = row s base xs
 rows_from s base xs (p ∷ ps) =
     if ends_row p then row s base xs ++ row_end p.face ∷ rows_from s base [] ps else rows_from s base (xs ++ part_of s p ∷ []) ps
 
+-- the parts of the rows of a string from a place on, where a row begins
+abbrev pub shown_from : Scene → ℕ → Bool → TextValue → Attributes → ℕ → List Shown
+shown_from s base replaced text under i = rows_from s base [] (run_heads None (places_from replaced text under i))
+
+-- the parts of a string behind a row that ends at a place, with the row's end, where it is not the string's
+abbrev pub behind_row : Scene → ℕ → Bool → TextValue → Attributes → ℕ → List Shown
+behind_row s base replaced text under i =
+    if nat_lt i (length text.chars) then row_end (place_of replaced text under i).face ∷ shown_from s base replaced text under (i + 1) else []
+
 -- the parts of a string over a face in the order in which they are shown, with the ends of its rows; its display runs are used or
 -- not
 abbrev pub string_parts : Scene → ℕ → Bool → TextValue → Attributes → List Shown
-string_parts s base replaced text under = rows_from s base [] (run_heads None (places replaced text under))
-
--- the parts that are shown, where some of them are, a part of a row is read, and these places are left behind one with this spec
-abbrev pub rows_left : Scene → ℕ → List Shown → List Part → Option ℕ → List Place → List Shown
-rows_left s base made xs before ps = made ++ rows_from s base xs (run_heads before ps)
+string_parts s base replaced text under = shown_from s base replaced text under 0
 
 -- the glyphs of parts are measured
 abbrev pub IsMeasuredKind : PartKind → Type 0
@@ -137,12 +136,5 @@ abbrev pub HoldsPart : Option Part → Type 0
 HoldsPart None = Unit {0}
 HoldsPart (Some x) = IsMeasuredPart x
 
-abbrev pub HoldsMeasured : Option Glyph → Type 0
-HoldsMeasured None = Unit {0}
-HoldsMeasured (Some g) = IsMeasured g
-
 abbrev pub AreMeasuredParts : List Part → Type 0
 AreMeasuredParts xs = All IsMeasuredPart xs
-
-abbrev pub AreMeasuredShown : List Shown → Type 0
-AreMeasuredShown xs = All (λ x. IsMeasuredKind x.kind) xs

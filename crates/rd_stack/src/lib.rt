@@ -2,20 +2,22 @@
 //! in a line, and a display string in an overlay's string, and no deeper.
 #![tactic(auto)]
 
-mod inner;
+mod examples;
+mod few;
 mod laws;
 mod line;
-mod middle;
+mod line_steps;
+mod marks;
+mod measure;
+mod order;
 mod part;
 mod prefix;
 mod row;
-mod text;
-mod turn;
+mod step;
+mod string;
+mod string_steps;
 mod walker;
 
-pub use laws::{
-    faces_of_strings_and_ellipses, line_where_overlays_meet, line_with_a_stretch,
-    line_with_nested_strings, lines_in_visual_order, lines_of_hidden_text, prefixes_of_one_row,
-};
+pub use laws::{lines_end_once, prefixes_end_no_line};
 pub use prefix::string_line;
 pub use walker::Walker;

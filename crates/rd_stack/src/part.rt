@@ -1,13 +1,12 @@
 //! What strings are made of.
-ghost use Rattle.std.specs.Prelude.{◌≡◌, ◌<◌, ◌∷◌, ◌++◌, [], length, OnOk};
+ghost use Rattle.std.specs.Prelude.{◌≡◌, ◌<◌, length};
 ghost use Rattle.rd_objects.specs.Texts.{face_of, spec_of};
-ghost use Rattle.rd_glyphs.specs.Joining.{IsMeasuredJoining};
 ghost use Rattle.rd_items.specs.Pieces.{scene_of, spec_in, inner_class, same_spec};
-ghost use Rattle.rd_stack.specs.Strings.{place_of, ends_row, spec_class, part_of, glyph_with, marked, IsMeasuredPart, HoldsPart, HoldsMeasured, AreMeasuredParts};
+ghost use Rattle.rd_stack.specs.Strings.{place_of, ends_row, spec_class, part_of, kind_code, IsMeasuredPart};
 
-use rd_base::{Ch, Class, Face, Glyph, ListOf, Memory};
-use rd_glyphs::{Joining, join, on_blank};
-use rd_items::parts_of;
+use rd_base::{Ch, Class, Face, Glyph};
+use rd_glyphs::Joining;
+use rd_items::{UNLISTED, parts_of};
 use rd_objects::{Objects, Spec, Text};
 use rd_props::View;
 
@@ -110,7 +109,7 @@ fn inner_class(class: Class) -> Class
 }
 
 /// The part of a place.
-fn part_of(view: &View, place: &Place) -> Part
+pub fn part_of(view: &View, place: &Place) -> Part
     ensures value { result ≡ part_of (scene_of view.now) place.now }
     ensures measured { IsMeasuredPart result }
 {
@@ -132,38 +131,14 @@ fn part_of(view: &View, place: &Place) -> Part
     }
 }
 
-/// Adds the part of a place to a row.
-pub fn put_place(view: &View, place: &Place, row: &mut ListOf<Part>) -> Result<(), Memory>
-    ensures value { OnOk result (row.new ≡ row.old ++ part_of (scene_of view.now) place.now ∷ []) }
-    ensures measured { AreMeasuredParts row.old → OnOk result (AreMeasuredParts row.new) }
+/// The code by which a part may be a bracket: that of its character, or of the base of its marks; and `UNLISTED` where it shows no
+/// character.
+pub fn kind_code(kind: PartKind) -> u32
+    ensures { result ≡ kind_code kind }
 {
-    row.extend_from_slice(&[part_of(view, place)])
-}
-
-/// The glyph that a mark joins, with the mark, where it joins it.
-fn glyph_with(held: Joining, next: Joining) -> Option<Glyph>
-    ensures value { result ≡ glyph_with held next }
-    ensures measured { IsMeasuredJoining held → IsMeasuredJoining next → HoldsMeasured result }
-{
-    match (held, next) {
-        (Joining::Base(glyph), Joining::Mark(code)) => join(glyph, code),
-        (Joining::Mark(first), Joining::Mark(code)) => join(on_blank(first), code),
-        _ => None,
-    }
-}
-
-/// A part with the mark of the next, where it joins it.
-pub fn marked(held: &Part, next: &Part) -> Option<Part>
-    ensures value { result ≡ marked held.now next.now }
-    ensures measured { IsMeasuredPart held.now → IsMeasuredPart next.now → HoldsPart result }
-{
-    match glyph_with(held.joining, next.joining) {
-        Some(glyph) => Some(Part {
-            kind: PartKind::Marked(glyph),
-            joining: Joining::Base(glyph),
-            class: held.class,
-            face: held.face,
-        }),
-        None => None,
+    match kind {
+        PartKind::Char(ch) => ch.code(),
+        PartKind::Marked(glyph) => glyph.base,
+        _ => UNLISTED,
     }
 }

@@ -1,10 +1,12 @@
 //! The elements of a prefix.
-ghost use Rattle.std.specs.Prelude.{◌≡◌, ◌≤◌, take, IfOk};
-ghost use Rattle.rd_base.specs.Faces.{plain};
+ghost use Rattle.std.specs.Prelude.{◌≡◌, ◌≤◌, [], IfOk, OnOk};
 ghost use Rattle.rd_items.specs.Pieces.{scene_of};
-ghost use Rattle.rd_stack.specs.Shown.{outside, inner, prefix, is_row_end, before_row_end, AreInside, AreOfOneRow};
+ghost use Rattle.rd_stack.specs.Shown.{prefix, is_row_end, before_row_end, AreRight, AreInside, AreOfOneRow};
+ghost use Rattle.rd_stack.specs.Walks.{walk_left};
 
-use crate::inner::put_display_string;
+use crate::step::Frame;
+use crate::string::StringFrame;
+use crate::walker::Walker;
 use rd_base::{Element, Face, ListOf, Look, Memory, Origin};
 use rd_props::View;
 use std::alloc::Global;
@@ -29,30 +31,28 @@ pub fn string_line(
         to: 0,
     };
     let mut elements = ListOf::new(alloc);
-    put_display_string(
-        alloc,
-        view,
-        base,
-        outside,
-        Face::PLAIN,
-        string,
-        &mut elements,
-    )?;
-    let first = first_row(elements.as_slice());
-    elements.truncate(first);
+    let found = StringFrame::of_number(alloc, *view, base, false, outside, Face::PLAIN, string)?;
+    let Some(frame) = found else {
+        return Ok(elements);
+    };
+    let mut walker = Walker::from_frame(alloc, Frame::Text(frame))?;
+    put_row(alloc, &mut walker, &mut elements)?;
     Ok(elements)
 }
 
-/// How many elements stand before the first end of a row.
-fn first_row(elements: &[Element]) -> usize
-    ensures { take result elements.now ≡ before_row_end elements.now }
+/// Adds the elements before the first end of a row.
+fn put_row(alloc: Global, walker: &mut Walker, elements: &mut ListOf<Element>) -> Result<(), Memory>
+    requires { elements.old ≡ [] }
+    ensures value { OnOk result (elements.new ≡ before_row_end (walk_left walker.old.few walker.old.frames.items)) }
+    ensures right { OnOk result (AreRight elements.new) }
 {
-    for (i, element) in elements.iter().enumerate() {
+    while let Some(element) = walker.give(alloc)? {
         if is_row_end(element.look) {
-            return i;
+            return Ok(());
         }
+        elements.push(element)?;
     }
-    elements.len()
+    Ok(())
 }
 
 /// Whether this ends a row.

@@ -1,66 +1,81 @@
-//! A row of a string: marks join, and its parts are put in visual order.
-ghost use Rattle.std.specs.Prelude.{◌≡◌, ◌≤◌, ◌∷◌, ◌++◌, List, map, Some, None, OnOk, IfOk};
-ghost use Rattle.std.specs.List.{flat_map};
-ghost use Rattle.rd_stack.specs.Strings.{joined, with_held, shown_at, part_class, in_order, IsMeasuredPart, HoldsPart, AreMeasuredParts, AreMeasuredShown};
+//! The rows of a string, of which each ends at a newline.
+ghost use Rattle.std.specs.Prelude.{◌≡◌, ◌≤◌, ◌++◌, ◌∷◌, ℕ, List, [], map, length, false, IfOk, OnOk};
+ghost use Rattle.rd_items.specs.Pieces.{scene_of};
+ghost use Rattle.rd_levels.specs.Turns.{turns_of};
+ghost use Rattle.rd_stack.specs.Strings.{ends_row, part_class, part_code, run_heads, row, rows_from, shown_from, behind_row, AreMeasuredParts};
+ghost use Rattle.rd_stack.specs.declared.part.Place.{Place};
 ghost use Rattle.rd_stack.specs.declared.part.Part.{Part};
 
-use crate::part::{Part, Shown, marked};
-use crate::turn::unpaired_turns;
-use rd_base::{Class, ListOf, Memory};
-use rd_levels::Turn;
+use crate::order::Order;
+use crate::part::{Part, Place, ends_row, kind_code, part_of, place_of, same_spec};
+use rd_base::{Class, Face, ListOf, Memory};
+use rd_objects::Text;
+use rd_props::View;
 use std::alloc::Global;
 
-/// Adds the parts of a row to those that are shown: its marks join, and its parts come in visual order.
-pub fn put_row(
-    alloc: Global,
-    reorder: bool,
-    base: u8,
-    row: &[Part],
-    shown: &mut ListOf<Shown>,
-) -> Result<(), Memory>
-    requires base { base ≤ 1 }
-    requires measured { AreMeasuredParts row.now }
-    ensures value { OnOk result (shown.new ≡ shown.old ++ in_order reorder base (joined row.now)) }
-    ensures measured { AreMeasuredShown shown.old → OnOk result (AreMeasuredShown shown.new) }
+/// Adds the parts of the row of a string over a face that begins at a place, of which no mark has joined any; and answers the place of
+/// the newline that ends it, or the string's length. The string's display runs are used where `replaced` is set.
+pub fn read_row(
+    view: &View,
+    replaced: bool,
+    text: &Text,
+    under: Face,
+    from: u32,
+    parts: &mut ListOf<Part>,
+) -> Result<u32, Memory>
+    requires from { from ≤ length text.now.chars }
+    requires none { parts.old ≡ [] }
+    ensures value { IfOk result (λ end. (base : ℕ) → row (scene_of view.now) base parts.new ++ behind_row (scene_of view.now) base replaced text.now under end ≡ shown_from (scene_of view.now) base replaced text.now under from) }
+    ensures end { IfOk result (λ end. end ≤ length text.now.chars) }
+    ensures measured { OnOk result (AreMeasuredParts parts.new) }
 {
-    let parts = join_marks(alloc, row)?;
-    let classes = classes_of(alloc, parts.as_slice())?;
-    let turns = unpaired_turns(alloc, reorder, base, classes.as_slice())?;
-    put_turns(&parts, turns.as_slice(), shown)
-}
-
-/// Parts in which each mark has joined the part directly before it, where it may.
-fn join_marks(alloc: Global, parts: &[Part]) -> Result<ListOf<Part>, Memory>
-    requires { AreMeasuredParts parts.now }
-    ensures value { IfOk result (λ made. made ≡ joined parts.now) }
-    ensures measured { IfOk result (λ made. AreMeasuredParts made) }
-{
-    let mut made = ListOf::new(alloc);
-    let mut held = None;
-    for part in parts {
-        held = Some(hold(&mut made, held, part)?);
-    }
-    if let Some(last) = held {
-        made.push(last)?;
-    }
-    Ok(made)
-}
-
-/// The part to be held for its marks behind another: the next one, or the held one with the next as its mark.
-fn hold(made: &mut ListOf<Part>, held: Option<Part>, next: &Part) -> Result<Part, Memory>
-    requires held { HoldsPart held }
-    requires next { IsMeasuredPart next.now }
-    ensures value { IfOk result (λ x. (xs : List Part) → made.new ++ with_held (Some x) xs ≡ made.old ++ with_held held (next.now ∷ xs)) }
-    ensures part { IfOk result (λ x. IsMeasuredPart x) }
-    ensures measured { AreMeasuredParts made.old → OnOk result (AreMeasuredParts made.new) }
-{
-    if let Some(before) = held {
-        if let Some(longer) = marked(&before, next) {
-            return Ok(longer);
+    let mut before = None;
+    for i in from..text.len() {
+        let place = place_of(replaced, text, under, i);
+        if ends_row(&place) {
+            return Ok(i);
         }
-        made.push(before)?;
+        put_place(view, before, &place, parts)?;
+        before = place.spec;
     }
-    Ok(*next)
+    Ok(text.len())
+}
+
+/// Adds the part of a place, unless it goes on the run of the place before it, which has this spec.
+fn put_place(
+    view: &View,
+    before: Option<u32>,
+    place: &Place,
+    parts: &mut ListOf<Part>,
+) -> Result<(), Memory>
+    requires { ends_row place.now ≡ false }
+    ensures value { OnOk result ((base : ℕ) (ps : List Place) → rows_from (scene_of view.now) base parts.new (run_heads place.now.spec ps) ≡ rows_from (scene_of view.now) base parts.old (run_heads before (place.now ∷ ps))) }
+    ensures measured { AreMeasuredParts parts.old → OnOk result (AreMeasuredParts parts.new) }
+{
+    if same_spec(before, place.spec) {
+        return Ok(());
+    }
+    parts.extend_from_slice(&[part_of(view, place)])
+}
+
+/// The turns of the parts of a row in a line of this base.
+pub fn order_of_parts(alloc: Global, view: &View, base: u8, parts: &[Part]) -> Result<Order, Memory>
+    requires { base ≤ 1 }
+    ensures turns { IfOk result (λ order. order.turns ≡ turns_of (scene_of view.now).brackets (scene_of view.now).parts.settings.reorder base (map part_class parts.now) (map part_code parts.now)) }
+    ensures places { IfOk result (λ order. order.places ≡ length parts.now) }
+{
+    let classes = classes_of(alloc, parts)?;
+    let codes = codes_of(alloc, parts)?;
+    let state = view.state;
+    let settings = &state.settings;
+    Order::new(
+        alloc,
+        settings.reorder,
+        base,
+        classes.as_slice(),
+        codes.as_slice(),
+        view.brackets,
+    )
 }
 
 /// The classes of parts.
@@ -74,31 +89,13 @@ fn classes_of(alloc: Global, parts: &[Part]) -> Result<ListOf<Class>, Memory>
     Ok(classes)
 }
 
-/// Adds the parts of these turns.
-fn put_turns(parts: &ListOf<Part>, turns: &[Turn], shown: &mut ListOf<Shown>) -> Result<(), Memory>
-    requires { AreMeasuredParts parts.now }
-    ensures value { OnOk result (shown.new ≡ shown.old ++ flat_map (shown_at parts.now) turns.now) }
-    ensures measured { AreMeasuredShown shown.old → OnOk result (AreMeasuredShown shown.new) }
+/// The codes by which parts may be brackets.
+fn codes_of(alloc: Global, parts: &[Part]) -> Result<ListOf<u32>, Memory>
+    ensures { IfOk result (λ codes. codes ≡ map part_code parts.now) }
 {
-    for turn in turns {
-        put_turn(parts, *turn, shown)?;
+    let mut codes = ListOf::with_room(alloc, parts.len())?;
+    for part in parts {
+        codes.push(kind_code(part.kind))?;
     }
-    Ok(())
-}
-
-/// Adds the part of a turn.
-fn put_turn(parts: &ListOf<Part>, turn: Turn, shown: &mut ListOf<Shown>) -> Result<(), Memory>
-    requires { AreMeasuredParts parts.now }
-    ensures value { OnOk result (shown.new ≡ shown.old ++ shown_at parts.now turn) }
-    ensures measured { AreMeasuredShown shown.old → OnOk result (AreMeasuredShown shown.new) }
-{
-    if turn.index >= parts.len() {
-        return Ok(());
-    }
-    let part = parts.at(turn.index);
-    shown.push(Shown {
-        kind: part.kind,
-        face: part.face,
-        odd: turn.odd,
-    })
+    Ok(codes)
 }

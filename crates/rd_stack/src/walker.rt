@@ -1,59 +1,161 @@
 //! The walk over the elements of a line.
-ghost use Rattle.std.specs.Prelude.{◌≤◌, length};
+ghost use Rattle.std.specs.Prelude.{◌≡◌, ◌≤◌, ◌<◌, IfOk, OnOk};
 
-use crate::line::line_of_items;
-use rd_base::{Element, Elements, ListOf, Memory, Pos};
-use rd_items::Items;
+use crate::few::Few;
+use crate::laws::lines_end_once;
+use crate::line::LineFrame;
+use crate::measure::measure;
+use crate::step::{Frame, Step};
+use crate::string::StringFrame;
+use rd_base::{Element, Elements, Memory, Pos};
+use rd_items::{Items, blocks_are_read_whole};
 use rd_props::View;
+use smallvec::SmallVec;
 use std::alloc::Global;
 
-/// The elements of a line, of which some are still to be given.
+/// The elements of a line, of which some are still to be given. It holds the frames of what is being walked through, the innermost last:
+/// the block, a string in it, and a display string in that one; each has the levels of its line or row and the place reached in visual
+/// order, and borrows its text. Of the elements it holds those of one character at most.
 #[derive(Drop)]
-pub struct Walker {
-    elements: ListOf<Element>,
-    given: usize,
-    ghost within: { given ≤ length elements },
+pub struct Walker<'a> {
+    pub(crate) frames: SmallVec<Frame<'a>, 3>,
+    pub(crate) few: Few,
 }
 
-impl Walker {
-    ghost use Rattle.std.specs.Prelude.{◌≡◌, ◌≤◌, ◌<◌, ◌^◌, IfOk};
-    ghost use Rattle.rd_base.specs.Elements.{AreSound};
+impl<'a> Walker<'a> {
+    ghost use Rattle.std.specs.Prelude.{◌≡◌, ◌≤◌, ◌<◌, ◌^◌, ◌∷◌, ◌++◌, [], true, MatchOption, IfOk, IfSome, OnOk};
+    ghost use Rattle.rd_base.specs.Elements.{Takes, AreSound, columns_at_most, ends_once};
     ghost use Rattle.rd_base.specs.Glyphs.{AreMeasured};
     ghost use Rattle.rd_text.specs.Texts.{IsAccessible};
     ghost use Rattle.rd_props.specs.Buffers.{meaning};
     ghost use Rattle.rd_items.specs.Pieces.{scene_of};
-    ghost use Rattle.rd_stack.specs.Lines.{line_elements, columns_at_most};
+    ghost use Rattle.rd_items.specs.Readings.{reading};
+    ghost use Rattle.rd_stack.specs.Shown.{IsRight};
+    ghost use Rattle.rd_stack.specs.Lines.{line_elements};
+    ghost use Rattle.rd_stack.specs.Steps.{elements_in};
+    ghost use Rattle.rd_stack.specs.Walks.{frame_left, frames_left, walk_left, given, entered, work};
+    ghost use Rattle.rd_stack.specs.declared.step.Frame.TheVariants as frame;
 
     /// The elements of the line of the block that starts at a position, in a line of this base. They are those of its items in
     /// visual order from the reading edge: a character's, a space, the glyphs of an ellipsis, those of a display string or of an
-    /// overlay's string, and at the end the line's end. Each is sound, and its glyphs have the columns that Unicode gives them. They
+    /// overlay's string; the last of them and no other is the line's end. Each is sound, and its glyphs have the columns that Unicode gives them. They
     /// take fewer than 2^60 columns, a tab counted as its stop's width and a stretch up to a column as that column; a line of more,
-    /// which no objects within their limits make, has no other answer than want of memory. The whole list is made at once.
-    pub fn start(alloc: Global, view: &View, start: Pos, base: u8) -> Result<Walker, Memory>
-        requires place { IsAccessible view.now.state.now.text start }
+    /// which no objects within their limits make, has no other answer than want of memory. So the line is walked through once before.
+    pub fn start(alloc: Global, view: View<'a>, start: Pos, base: u8) -> Result<Walker<'a>, Memory>
+        requires place { IsAccessible view.state.now.text start }
         requires base { base ≤ 1 }
-        ensures left { IfOk result (λ walker. ⟦<Walker as Elements>⟧.left walker ≡ line_elements (meaning view.now.state.now) (scene_of view.now) base start) }
-        ensures sound { IfOk result (λ walker. AreSound (⟦<Walker as Elements>⟧.left walker)) }
-        ensures measured { IfOk result (λ walker. AreMeasured (⟦<Walker as Elements>⟧.left walker)) }
-        ensures columns { IfOk result (λ walker. columns_at_most (⟦<Walker as Elements>⟧.left walker) < 2 ^ 60) }
+        ensures left { IfOk result (λ walker. ⟦<Walker<'a> as Elements>⟧.left walker ≡ line_elements (scene_of view.entry) base (reading (meaning view.entry.state.now) view.entry.objects.now start)) }
+        ensures sound { IfOk result (λ walker. AreSound (⟦<Walker<'a> as Elements>⟧.left walker)) }
+        ensures measured { IfOk result (λ walker. AreMeasured (⟦<Walker<'a> as Elements>⟧.left walker)) }
+        ensures columns { IfOk result (λ walker. columns_at_most (⟦<Walker<'a> as Elements>⟧.left walker) < 2 ^ 60) }
+        ensures ends { IfOk result (λ walker. ends_once (⟦<Walker<'a> as Elements>⟧.left walker) ≡ true) }
     {
-        let items = Items::new(alloc, view, start)?;
-        let elements = line_of_items(alloc, view, base, start, &items)?;
-        Ok(Walker { elements, given: 0 })
+        blocks_are_read_whole();
+        lines_end_once();
+        let mut first = Walker::of_block(alloc, view, start, base)?;
+        measure(alloc, &mut first)?;
+        Walker::of_block(alloc, view, start, base)
+    }
+
+    /// The elements of the line of the block that starts at a position.
+    fn of_block(alloc: Global, view: View<'a>, start: Pos, base: u8) -> Result<Walker<'a>, Memory>
+        requires place { IsAccessible view.state.now.text start }
+        requires base { base ≤ 1 }
+        ensures left { IfOk result (λ walker. walk_left walker.few walker.frames.items ≡ line_elements (scene_of view.entry) base (reading (meaning view.entry.state.now) view.entry.objects.now start)) }
+    {
+        let items = Items::new(alloc, &view, start)?;
+        let line = LineFrame::new(alloc, view, base, items)?;
+        Walker::from_frame(alloc, Frame::Line(line))
+    }
+
+    /// The elements of a frame.
+    pub(crate) fn from_frame(alloc: Global, outermost: Frame<'a>) -> Result<Walker<'a>, Memory>
+        ensures { IfOk result (λ walker. walk_left walker.few walker.frames.items ≡ elements_in (frame_left outermost.entry)) }
+    {
+        let mut frames = SmallVec::new(alloc);
+        frames.push(outermost)?;
+        Ok(Walker {
+            frames,
+            few: Few::none(alloc),
+        })
+    }
+
+    /// Takes the next element, and None exactly where none is left.
+    pub(crate) fn give(&mut self, alloc: Global) -> Result<Option<Element>, Memory>
+        ensures takes { Takes result (walk_left self.old.few self.old.frames.items) (walk_left self.new.few self.new.frames.items) }
+        ensures right { IfOk result (λ found. IfSome found (λ e. IsRight e)) }
+    {
+        loop {
+            if let Some(element) = self.few.next() {
+                return Ok(Some(element));
+            }
+            let Some(innermost) = self.frames.pop() else {
+                return Ok(None);
+            };
+            self.advance(alloc, innermost)?;
+        }
+    }
+
+    /// Takes a step of the innermost frame, which was taken out.
+    fn advance(&mut self, alloc: Global, innermost: Frame<'a>) -> Result<(), Memory>
+        requires { self.old.few ≡ [] }
+        ensures left { OnOk result (walk_left self.new.few self.new.frames.items ≡ elements_in (frames_left (self.old.frames.items ++ innermost.entry ∷ []))) }
+        ensures work { OnOk result (work self.new.frames.items < work (self.old.frames.items ++ innermost.entry ∷ [])) }
+    {
+        match innermost {
+            Frame::Ended => Ok(()),
+            Frame::Line(line) => self.advance_line(alloc, line),
+            Frame::Text(text) => self.advance_text(alloc, text),
+        }
+    }
+
+    /// Takes a step of a line, which was taken out.
+    fn advance_line(&mut self, alloc: Global, line: LineFrame<'a>) -> Result<(), Memory>
+        requires { self.old.few ≡ [] }
+        ensures left { OnOk result (walk_left self.new.few self.new.frames.items ≡ elements_in (frames_left (self.old.frames.items ++ frame.Line line.entry ∷ []))) }
+        ensures work { OnOk result (work self.new.frames.items < work (self.old.frames.items ++ frame.Line line.entry ∷ [])) }
+    {
+        let mut line = line;
+        match line.step(alloc)? {
+            None => Ok(()),
+            Some(step) => self.take(Frame::Line(line), step),
+        }
+    }
+
+    /// Takes a step of a string, which was taken out.
+    fn advance_text(&mut self, alloc: Global, text: StringFrame<'a>) -> Result<(), Memory>
+        requires { self.old.few ≡ [] }
+        ensures left { OnOk result (walk_left self.new.few self.new.frames.items ≡ elements_in (frames_left (self.old.frames.items ++ frame.Text text.entry ∷ []))) }
+        ensures work { OnOk result (work self.new.frames.items < work (self.old.frames.items ++ frame.Text text.entry ∷ [])) }
+    {
+        let mut text = text;
+        match text.step(alloc)? {
+            None => Ok(()),
+            Some(step) => self.take(Frame::Text(text), step),
+        }
+    }
+
+    /// Puts a frame back, with what its step gives or enters.
+    fn take(&mut self, stepped: Frame<'a>, step: Step<'a>) -> Result<(), Memory>
+        requires { self.old.few ≡ [] }
+        ensures few { OnOk result (self.new.few ≡ given step.entry) }
+        ensures frames { OnOk result (self.new.frames.items ≡ entered step.entry (self.old.frames.items ++ stepped.entry ∷ [])) }
+    {
+        self.frames.push(stepped)?;
+        match step {
+            Step::Gives(few) => self.few = few,
+            Step::Enters(inner) => self.frames.push(Frame::Text(inner))?,
+        }
+        Ok(())
     }
 }
 
-impl Elements for Walker {
-    ghost use Rattle.std.specs.Prelude.{drop};
+impl<'a> Elements for Walker<'a> {
+    ghost use Rattle.rd_stack.specs.Walks.{walk_left};
 
-    ghost left = { λ s. drop s.given s.elements };
+    ghost left = { λ s. walk_left s.few s.frames.items };
 
-    fn next(&mut self, _alloc: Global) -> Result<Option<Element>, Memory> {
-        if self.given >= self.elements.len() {
-            return Ok(None);
-        }
-        let element = self.elements.at(self.given);
-        self.given += 1;
-        Ok(Some(element))
+    fn next(&mut self, alloc: Global) -> Result<Option<Element>, Memory> {
+        self.give(alloc)
     }
 }

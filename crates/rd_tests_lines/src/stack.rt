@@ -68,7 +68,7 @@ fn walks(alloc: Global, view: &View, start: Pos, wanted: &[Look]) -> bool {
     if !is_accessible(view, start) {
         return false;
     }
-    let Ok(mut walker) = Walker::start(alloc, view, start, 0) else {
+    let Ok(mut walker) = Walker::start(alloc, *view, start, 0) else {
         return false;
     };
     for look in wanted {

@@ -1,0 +1,109 @@
+-- No element of a character, a space or a string ends the line.
+use Rattle.std.proofs.Common.{◌≡◌, ℕ, Bool, true, false, List, [], ◌∷◌, ◌++◌, Option, None, Some, All, suc, refl, arith}
+use Rattle.std.specs.Prelude.{◌==◌, ◌/◌, if◌then◌else◌, map, slice_get}
+use Rattle.std.specs.List.{flat_map}
+use Rattle.std.proofs.lemmas.List.Elements.{All-map, All-cons, All-nil, All-append}
+use Rattle.rd_base.specs.Faces.{Attributes}
+use Rattle.rd_base.specs.Elements.{is_line_end}
+use Rattle.rd_base.specs.Cells.{single}
+use Rattle.rd_base.specs.declared.element.Extent.TheVariants.{Fixed, Column}
+use Rattle.rd_base.specs.declared.cell.Glyph.{Glyph}
+use Rattle.rd_base.specs.declared.element.Element.{Element}
+use Rattle.rd_base.specs.declared.element.Origin.{Origin}
+use Rattle.rd_base.specs.declared.element.Look.{Look}
+use Rattle.rd_base.specs.declared.element.Look.TheVariants as look
+use Rattle.rd_objects.specs.Texts.{TextValue}
+use Rattle.rd_objects.specs.declared.run.Slot.TheVariants.{Escape, Control}
+use Rattle.rd_objects.specs.declared.run.Spec.{Spec}
+use Rattle.rd_objects.specs.declared.run.Spec.TheVariants.{Text, Width, Align}
+use Rattle.rd_ucd.specs.Lookup.{class_of}
+use Rattle.rd_glyphs.specs.declared.shown.Shown.{Shown}
+use Rattle.rd_glyphs.specs.declared.shown.Shown.TheVariants.{Caret, Octal, Space, Mark, Itself}
+use Rattle.rd_glyphs.specs.Characters.{PartValues, element_of, glyph_elements, tab_of, narrow, digit, on_blank, looks_of, own_looks, slot_or, mirrored, shown_as, entry_of, elements_by, elements_of}
+use Rattle.rd_items.specs.Pieces.{Scene}
+use Rattle.rd_stack.specs.Strings.{string_parts}
+use Rattle.rd_stack.specs.Shown.{space_elements, kind_elements, inner_elements, inner, middle_by, middle_elements, middle, before_row_end, is_row_end, AreOpen}
+use Rattle.rd_stack.specs.Lines.{text_elements}
+use Rattle.rd_stack.specs.declared.part.PartKind.{PartKind}
+use Rattle.rd_stack.specs.declared.part.PartKind.TheVariants as kind
+
+abbrev IsOpen : Element → Type 0
+IsOpen e = is_line_end e.look ≡ false
+
+abbrev IsOpenLook : Look → Type 0
+IsOpenLook l = is_line_end l ≡ false
+
+pub open-one : (e : Element) → IsOpen e → AreOpen (e ∷ [])
+open-one e is = All-cons IsOpen e [] is (All-nil IsOpen)
+
+either : {X : Type 0} (P : X → Type 0) (b : Bool) (xs ys : List X) → All P xs → All P ys → All P (if b then xs else ys)
+either P true xs ys these those = these
+either P false xs ys these those = those
+
+pub open-each : {X : Type 0} (f : X → List Element) → ((x : X) → AreOpen (f x)) → (xs : List X) → AreOpen (flat_map f xs)
+open-each f each [] = All-nil IsOpen
+open-each f each (x ∷ xs) = All-append IsOpen (f x) (flat_map f xs) (each x) (open-each f each xs)
+
+one-look : (l : Look) → IsOpenLook l → All IsOpenLook (l ∷ [])
+one-look l is = All-cons IsOpenLook l [] is (All-nil IsOpenLook)
+
+looks-open : (escape control : Glyph) (shown : Shown) → All IsOpenLook (looks_of escape control shown)
+looks-open escape control (Caret letter) = All-cons IsOpenLook (look.Glyph control) (narrow letter ∷ []) refl (one-look (narrow letter) refl)
+looks-open escape control (Octal byte) =
+    All-cons IsOpenLook (look.Glyph escape) (digit (byte / 64) ∷ digit (byte / 8) ∷ digit byte ∷ []) refl
+    (All-cons IsOpenLook (digit (byte / 64)) (digit (byte / 8) ∷ digit byte ∷ []) refl
+    (All-cons IsOpenLook (digit (byte / 8)) (digit byte ∷ []) refl (one-look (digit byte) refl)))
+looks-open escape control Space = one-look look.Blank refl
+looks-open escape control (Mark code) = one-look (look.Glyph (on_blank code)) refl
+looks-open escape control (Itself code width) = one-look (look.Glyph (single code width)) refl
+
+pub glyphs-open : (face : Attributes) (origin : Origin) (text : List Glyph) → AreOpen (glyph_elements face origin text)
+glyphs-open face origin text = All-map IsOpen (λ (g : Glyph). element_of face origin (look.Glyph g)) text (λ k d inside. refl)
+
+by-open : (entry : Option (List Glyph)) (parts : PartValues) (ch : ℕ) (odd : Bool) (face : Attributes) (origin : Origin) → AreOpen (elements_by entry parts ch odd face origin)
+by-open (Some text) parts ch odd face origin = glyphs-open face origin text
+by-open None parts ch odd face origin =
+    either IsOpen (ch == 9) (tab_of parts.settings.tab_width face origin ∷ []) (map (element_of face origin) (own_looks parts ch odd))
+    (open-one (tab_of parts.settings.tab_width face origin) refl)
+    (All-map IsOpen (element_of face origin) (own_looks parts ch odd)
+    (looks-open (slot_or Escape parts.table 92) (slot_or Control parts.table 94)
+    (mirrored parts.mirrors odd (shown_as parts.settings.ctl_arrow (class_of parts.classes ch) ch))))
+
+pub character-open : (parts : PartValues) (ch : ℕ) (odd : Bool) (face : Attributes) (origin : Origin) → AreOpen (elements_of parts ch odd face origin)
+character-open parts ch odd face origin = by-open (entry_of parts.table ch) parts ch odd face origin
+
+pub space-open : (spec : Spec) (face : Attributes) (origin : Origin) → AreOpen (space_elements spec face origin)
+space-open (Width n) face origin = open-one (record { extent = Fixed n; look = look.Blank; face = face; origin = origin }) refl
+space-open (Align n) face origin = open-one (record { extent = Column n; look = look.Blank; face = face; origin = origin }) refl
+space-open (Text n) face origin = All-nil IsOpen
+
+part-open : (s : Scene) (k : PartKind) (face : Attributes) (odd : Bool) (origin : Origin) → AreOpen (kind_elements s k face odd origin)
+part-open s (kind.Char c) face odd origin = character-open s.parts c odd face origin
+part-open s (kind.Marked g) face odd origin = open-one (element_of face origin (look.Glyph g)) refl
+part-open s (kind.Replaced spec) face odd origin = space-open spec face origin
+part-open s kind.RowEnd face odd origin = open-one (element_of face origin look.RowEnd) refl
+
+pub inner-open : (s : Scene) (base : ℕ) (origin : Origin) (under : Attributes) (text : Option TextValue) → AreOpen (inner s base origin under text)
+inner-open s base origin under None = All-nil IsOpen
+inner-open s base origin under (Some text) =
+    open-each (inner_elements s origin) (λ x. part-open s x.kind x.face x.odd origin) (string_parts s base false text under)
+
+middle-part-open : (s : Scene) (base : ℕ) (origin : Origin) (k : PartKind) (face : Attributes) (odd : Bool) → AreOpen (middle_by s base origin k face odd)
+middle-part-open s base origin (kind.Replaced (Text n)) face odd = inner-open s base origin face (slice_get s.objects.strings n)
+middle-part-open s base origin (kind.Replaced (Width n)) face odd = part-open s (kind.Replaced (Width n)) face odd origin
+middle-part-open s base origin (kind.Replaced (Align n)) face odd = part-open s (kind.Replaced (Align n)) face odd origin
+middle-part-open s base origin (kind.Char c) face odd = part-open s (kind.Char c) face odd origin
+middle-part-open s base origin (kind.Marked g) face odd = part-open s (kind.Marked g) face odd origin
+middle-part-open s base origin kind.RowEnd face odd = part-open s kind.RowEnd face odd origin
+
+pub text-open : (s : Scene) (base : ℕ) (overlay : Bool) (origin : Origin) (face : Attributes) (text : Option TextValue) → AreOpen (text_elements s base overlay origin face text)
+text-open s base true origin face None = All-nil IsOpen
+text-open s base true origin face (Some text) =
+    open-each (middle_elements s base origin) (λ x. middle-part-open s base origin x.kind x.face x.odd) (string_parts s base true text face)
+text-open s base false origin face text = inner-open s base origin face text
+
+pub before-open : (es : List Element) → AreOpen es → AreOpen (before_row_end es)
+before-open [] each = each
+before-open (e ∷ es) each =
+    either IsOpen (is_row_end e.look) [] (e ∷ before_row_end es) (All-nil IsOpen)
+    (All-cons IsOpen e (before_row_end es) (each 0 e (omega arith)) (before-open es (λ k d inside. each (suc k) d (omega arith))))

@@ -1,0 +1,120 @@
+-- The last element of a line is its end, and no other is.
+use Rattle.std.proofs.Common.{◌≡◌, ℕ, zero, suc, ◌<◌, Bool, true, false, List, [], ◌∷◌, ◌++◌, length, All, refl, sym, subst, ap, ap₂, ◌∙◌, append-nil, arith}
+use Rattle.std.specs.Prelude.{not, ◌&&◌, map, slice_get, Some}
+use Rattle.std.specs.List.{flat_map}
+use Rattle.std.proofs.lemmas.Grind.{flat_map-append}
+use Rattle.std.proofs.lemmas.List.{map-append, length-map}
+use Rattle.std.proofs.lemmas.List.Elements.{All-nil, All-append}
+use Rattle.rd_base.specs.Faces.{Attributes}
+use Rattle.rd_base.specs.Elements.{is_line_end, ends_once}
+use Rattle.rd_base.specs.declared.class.Class.{Class}
+use Rattle.rd_base.specs.declared.class.Class.TheVariants.{B}
+use Rattle.rd_base.specs.declared.element.Element.{Element}
+use Rattle.rd_base.specs.declared.element.Origin.{Origin}
+use Rattle.rd_base.specs.declared.element.Look.TheVariants as look
+use Rattle.rd_glyphs.specs.Characters.{element_of}
+use Rattle.rd_ucd.specs.declared.spans.BracketEntry.{BracketEntry}
+use Rattle.rd_levels.specs.Turns.{turns_of, ComesLast}
+use Rattle.rd_levels.specs.declared.turn.Turn.{Turn}
+use Rattle.rd_items.specs.Pieces.{Scene}
+use Rattle.rd_items.specs.Covers.{is_ender_kind, EndOnce}
+use Rattle.rd_items.specs.declared.item.Item.{Item}
+use Rattle.rd_items.specs.declared.item.ItemKind.{ItemKind}
+use Rattle.rd_items.specs.declared.item.ItemKind.TheVariants as item
+use Rattle.rd_stack.specs.Shown.{AreOpen}
+use Rattle.rd_stack.specs.Lines.{ellipsis_glyphs, outer_by, outer, origin_of, item_elements, item_class, item_code, item_turns, line_of_items}
+use Rattle.rd_stack.proofs.Ends.{open-one, glyphs-open, character-open, space-open, text-open}
+use Rattle.rd_stack.proofs.Enders.{Each, EndsAsB, IsFineItem}
+
+-- elements of which none ends the line, and one that does
+ends-append : (es : List Element) (e : Element) → AreOpen es → is_line_end e.look ≡ true → ends_once (es ++ e ∷ []) ≡ true
+ends-append [] e each is = is
+ends-append (x ∷ []) e each is = ap₂ (λ a b. not a && b) (each 0 x (omega arith)) is
+ends-append (x ∷ y ∷ ys) e each is =
+    ap₂ (λ a b. not a && b) (each 0 x (omega arith)) (ends-append (y ∷ ys) e (λ k d inside. each (suc k) d (omega arith)) is)
+
+ender-class : (class : Class) (k : ItemKind) → is_ender_kind k ≡ true → EndsAsB class (Some k) → class ≡ B
+ender-class class item.Ender is fine = fine
+ender-class class (item.Char c) is fine = absurd (let q : false ≡ true = is in cc)
+ender-class class (item.Marked g) is fine = absurd (let q : false ≡ true = is in cc)
+ender-class class (item.Text n) is fine = absurd (let q : false ≡ true = is in cc)
+ender-class class (item.Space spec) is fine = absurd (let q : false ≡ true = is in cc)
+ender-class class item.Ellipsis is fine = absurd (let q : false ≡ true = is in cc)
+
+-- items of which the last is an ender, and no other
+record Ended (items : List Item) : Type 0 where
+  front : List Item
+  last : Item
+  whole : items ≡ front ++ last ∷ []
+  ends : is_ender_kind last.kind ≡ true
+  class : last.class ≡ B
+  others : Each (λ (x : Item). is_ender_kind x.kind ≡ false) front
+
+ended : (items : List Item) → EndOnce items → Each IsFineItem items → Ended items
+ended [] once fine = absurd once
+ended (x ∷ []) once fine = record { front = []; last = x; whole = refl; ends = once; class = ender-class x.class x.kind once fine.0; others = tt }
+ended (x ∷ y ∷ xs) once fine =
+    let rest = ended (y ∷ xs) once.1 fine.1 in
+    record { front = x ∷ rest.front; last = rest.last; whole = ap (λ l. x ∷ l) rest.whole; ends = rest.ends; class = rest.class; others = (once.0, rest.others) }
+
+module _ (s : Scene) (base : ℕ) where
+  kind-open : (k : ItemKind) (overlay odd : Bool) (face : Attributes) (origin : Origin) → is_ender_kind k ≡ false → AreOpen (outer_by s base k overlay odd face origin)
+  kind-open (item.Char c) overlay odd face origin other = character-open s.parts c odd face origin
+  kind-open (item.Marked g) overlay odd face origin other = open-one (element_of face origin (look.Glyph g)) refl
+  kind-open (item.Text n) overlay odd face origin other = text-open s base overlay origin face (slice_get s.objects.strings n)
+  kind-open (item.Space spec) overlay odd face origin other = space-open spec face origin
+  kind-open item.Ellipsis overlay odd face origin other = glyphs-open face origin (ellipsis_glyphs s.parts.table)
+  kind-open item.Ender overlay odd face origin other = absurd (let q : true ≡ false = other in cc)
+
+  kind-ends : (k : ItemKind) (overlay odd : Bool) (face : Attributes) (origin : Origin) → is_ender_kind k ≡ true → outer_by s base k overlay odd face origin ≡ element_of face origin look.LineEnd ∷ []
+  kind-ends item.Ender overlay odd face origin is = refl
+  kind-ends (item.Char c) overlay odd face origin is = absurd (let q : false ≡ true = is in cc)
+  kind-ends (item.Marked g) overlay odd face origin is = absurd (let q : false ≡ true = is in cc)
+  kind-ends (item.Text n) overlay odd face origin is = absurd (let q : false ≡ true = is in cc)
+  kind-ends (item.Space spec) overlay odd face origin is = absurd (let q : false ≡ true = is in cc)
+  kind-ends item.Ellipsis overlay odd face origin is = absurd (let q : false ≡ true = is in cc)
+
+  open-at : (front : List Item) (last : Item) (turn : Turn) → Each (λ (x : Item). is_ender_kind x.kind ≡ false) front → (i : ℕ) → i < length front → AreOpen (outer s base turn (slice_get (front ++ last ∷ []) i))
+  open-at [] last turn each i inside = absurd (omega arith)
+  open-at (x ∷ xs) last turn each zero inside = kind-open x.kind x.overlay turn.odd x.face (origin_of turn.index x) each.0
+  open-at (x ∷ xs) last turn each (suc i) inside = open-at xs last turn each.1 i (omega arith)
+
+  end-at : (front : List Item) (last : Item) (turn : Turn) → outer s base turn (slice_get (front ++ last ∷ []) (length front)) ≡ outer s base turn (Some last)
+  end-at [] last turn = refl
+  end-at (x ∷ xs) last turn = end-at xs last turn
+
+  front-open : (front : List Item) (last : Item) (turns : List Turn) (n : ℕ) → n ≡ length front → Each (λ (x : Item). is_ender_kind x.kind ≡ false) front → All (λ (t : Turn). t.index < n) turns
+      → AreOpen (flat_map (item_elements s base (front ++ last ∷ [])) turns)
+  front-open front last [] n size each low = All-nil (λ (e : Element). is_line_end e.look ≡ false)
+  front-open front last (t ∷ ts) n size each low =
+      let here : t.index < n = low 0 t (omega arith) in
+      All-append (λ (e : Element). is_line_end e.look ≡ false) (item_elements s base (front ++ last ∷ []) t) (flat_map (item_elements s base (front ++ last ∷ [])) ts)
+      (open-at front last t each t.index (omega arith))
+      (front-open front last ts n size each (λ k d inside. low (suc k) d (omega arith)))
+
+  turned-ends : (front : List Item) (last : Item) (turns : List Turn) (n : ℕ) → n ≡ length front → is_ender_kind last.kind ≡ true → Each (λ (x : Item). is_ender_kind x.kind ≡ false) front → ComesLast turns n
+      → ends_once (flat_map (item_elements s base (front ++ last ∷ [])) turns) ≡ true
+  turned-ends front last turns n size ends each comes =
+      let f = item_elements s base (front ++ last ∷ []) in
+      let end = element_of last.face (origin_of comes.last.index last) look.LineEnd in
+      let place : comes.last.index ≡ length front = comes.index ∙ size in
+      let given : f comes.last ≡ end ∷ [] =
+      ap (λ i. outer s base comes.last (slice_get (front ++ last ∷ []) i)) place ∙ end-at front last comes.last
+      ∙ kind-ends last.kind last.overlay comes.last.odd last.face (origin_of comes.last.index last) ends in
+      ap (λ ts. ends_once (flat_map f ts)) comes.whole
+      ∙ ap ends_once (flat_map-append f comes.front (comes.last ∷ []) ∙ ap (λ l. flat_map f comes.front ++ l) (append-nil (f comes.last) ∙ given))
+      ∙ ends-append (flat_map f comes.front) end (front-open front last comes.front n size each comes.others) refl
+
+  pub line-ends : ((entries : List BracketEntry) (reorder : Bool) (base : ℕ) (classes : List Class) (codes : List ℕ) → ComesLast (turns_of entries reorder base (classes ++ B ∷ []) codes) (length classes))
+      → (items : List Item) → EndOnce items → Each IsFineItem items → ends_once (line_of_items s base items) ≡ true
+  line-ends law items once fine =
+      let e = ended items once fine in
+      let classes : map item_class items ≡ map item_class e.front ++ B ∷ [] =
+      ap (map item_class) e.whole ∙ map-append item_class e.front (e.last ∷ []) ∙ ap (λ c. map item_class e.front ++ c ∷ []) e.class in
+      let codes = map item_code items in
+      let entries = s.brackets in
+      let reorder = s.parts.settings.reorder in
+      let comes : ComesLast (item_turns s base items) (length (map item_class e.front)) =
+      subst (λ (cs : List Class). ComesLast (turns_of entries reorder base cs codes) (length (map item_class e.front))) (sym classes) (law entries reorder base (map item_class e.front) codes) in
+      ap (λ xs. ends_once (flat_map (item_elements s base xs) (item_turns s base items))) e.whole
+      ∙ turned-ends e.front e.last (item_turns s base items) (length (map item_class e.front)) (length-map e.front item_class) e.ends e.others comes

@@ -1,7 +1,0 @@
-use Rattle.std.proofs.Common.{refl}
-use Rattle.unicode_width.specs.Width.{char_width}
-use Rattle.rd_stack.proofs.laws.line_with_a_stretch.Goals as goal
-
-pub returns : goal.returns
-unfolding char_width
-returns c = refl

@@ -1,0 +1,69 @@
+-- What the frames of a walk have still to give, step by step: a step is the elements of one character, space or end, or of nothing
+-- where a string is entered.
+use Rattle.std.specs.Prelude.{ℕ, Bool, true, false, List, [], ◌∷◌, ◌++◌, slice_get, Option, None, Some}
+use Rattle.std.specs.List.{flat_map}
+use Rattle.rd_base.specs.Faces.{Attributes}
+use Rattle.rd_base.specs.declared.element.Element.{Element}
+use Rattle.rd_base.specs.declared.element.Origin.{Origin}
+use Rattle.rd_objects.specs.Texts.{TextValue}
+use Rattle.rd_objects.specs.declared.run.Spec.TheVariants.{Text}
+use Rattle.rd_items.specs.Pieces.{Scene}
+use Rattle.rd_items.specs.declared.item.Item.{Item}
+use Rattle.rd_items.specs.declared.item.ItemKind.{ItemKind}
+use Rattle.rd_items.specs.declared.item.ItemKind.TheVariants as item
+use Rattle.rd_levels.specs.declared.turn.Turn.{Turn}
+use Rattle.rd_stack.specs.Strings.{shown_at, behind_row, string_parts}
+use Rattle.rd_stack.specs.Shown.{kind_elements}
+use Rattle.rd_stack.specs.Lines.{outer_by, origin_of}
+use Rattle.rd_stack.specs.declared.part.Part.{Part}
+use Rattle.rd_stack.specs.declared.part.Shown.{Shown}
+use Rattle.rd_stack.specs.declared.part.PartKind.{PartKind}
+use Rattle.rd_stack.specs.declared.part.PartKind.TheVariants as kind
+
+-- the steps of a part that shows no other string
+abbrev pub inner_steps : Scene → Origin → Shown → List (List Element)
+inner_steps s origin x = kind_elements s x.kind x.face x.odd origin ∷ []
+
+-- the steps of a display string, where there is one
+abbrev pub display_steps : Scene → ℕ → Origin → Attributes → Option TextValue → List (List Element)
+display_steps s base origin under None = []
+display_steps s base origin under (Some text) = flat_map (inner_steps s origin) (string_parts s base false text under)
+
+-- the steps of a part of a string whose display runs are used: where a run names a string, that string is entered
+abbrev pub middle_steps : Scene → ℕ → Origin → PartKind → Attributes → Bool → List (List Element)
+middle_steps s base origin (kind.Replaced (Text n)) face odd = [] ∷ display_steps s base origin face (slice_get s.objects.strings n)
+middle_steps s base origin kind face odd = kind_elements s kind face odd origin ∷ []
+
+-- the steps of a part of a string whose display runs are used or not
+abbrev pub part_steps : Scene → ℕ → Bool → Origin → Shown → List (List Element)
+part_steps s base true origin x = middle_steps s base origin x.kind x.face x.odd
+part_steps s base false origin x = inner_steps s origin x
+
+abbrev pub text_steps : Scene → ℕ → Bool → Origin → Attributes → Option TextValue → List (List Element)
+text_steps s base replaced origin under None = []
+text_steps s base replaced origin under (Some text) = flat_map (part_steps s base replaced origin) (string_parts s base replaced text under)
+
+-- what a string has still to give, where these turns of the parts of a row are left that ends at a place
+abbrev pub string_left : Scene → ℕ → Bool → Origin → Attributes → TextValue → List Part → List Turn → ℕ → List (List Element)
+string_left s base replaced origin under text parts turns i =
+    flat_map (part_steps s base replaced origin) (flat_map (shown_at parts) turns ++ behind_row s base replaced text under i)
+
+-- the steps of what an item shows: a string is entered
+abbrev pub outer_steps : Scene → ℕ → ItemKind → Bool → Bool → Attributes → Origin → List (List Element)
+outer_steps s base (item.Text n) overlay odd face origin = [] ∷ text_steps s base overlay origin face (slice_get s.objects.strings n)
+outer_steps s base kind overlay odd face origin = outer_by s base kind overlay odd face origin ∷ []
+
+abbrev pub steps_of : Scene → ℕ → Turn → Option Item → List (List Element)
+steps_of s base turn None = []
+steps_of s base turn (Some item) = outer_steps s base item.kind item.overlay turn.odd item.face (origin_of turn.index item)
+
+abbrev pub item_steps : Scene → ℕ → List Item → Turn → List (List Element)
+item_steps s base items turn = steps_of s base turn (slice_get items turn.index)
+
+-- what a line has still to give, where these turns of its items are left
+abbrev pub line_left : Scene → ℕ → List Item → List Turn → List (List Element)
+line_left s base items turns = flat_map (item_steps s base items) turns
+
+-- the elements of steps
+abbrev pub elements_in : List (List Element) → List Element
+elements_in steps = flat_map (λ (es : List Element). es) steps

@@ -1,0 +1,105 @@
+//! Strings that are being walked through.
+use crate::marks::join_marks;
+use crate::order::Order;
+use crate::part::Part;
+use crate::row::{order_of_parts, read_row};
+use rd_base::{Face, ListOf, Memory, Origin};
+use rd_objects::Text;
+use rd_props::View;
+use std::alloc::Global;
+use std::marker::Model;
+
+/// A string over a face in a line of this base, of which a row is being walked through. It holds that row alone. Contracts see the steps
+/// that are left.
+#[derive(Drop)]
+pub struct StringFrame<'a> {
+    pub view: View<'a>,
+    pub base: u8,
+    /// Whether the string's display runs are used.
+    pub replaced: bool,
+    pub origin: Origin,
+    pub under: Face,
+    pub text: &'a Text,
+    pub parts: ListOf<Part>,
+    pub order: Order,
+    /// The place where the row ends.
+    pub end: u32,
+}
+
+impl<'a> Model for StringFrame<'a> {
+    ghost use Rattle.std.specs.Prelude.{◌≡◌, List, ◌≤◌, length};
+    ghost use Rattle.rd_base.specs.declared.element.Element.{Element};
+    ghost use Rattle.rd_items.specs.Pieces.{scene_of};
+    ghost use Rattle.rd_stack.specs.Strings.{AreMeasuredParts};
+    ghost use Rattle.rd_stack.specs.Steps.{string_left};
+
+    ghost Value = { List (List Element) };
+
+    ghost view = { λ f. string_left (scene_of f.view) f.base f.replaced f.origin f.under f.text.now f.parts f.order.turns f.end };
+
+    ghost invariant = { λ f. (f.base ≤ 1) × (f.end ≤ length f.text.now.chars) × (f.order.places ≡ length f.parts) × AreMeasuredParts f.parts };
+}
+
+impl<'a> StringFrame<'a> {
+    ghost use Rattle.std.specs.Prelude.{◌≡◌, ◌≤◌, [], length, slice_get, unwrap_or, OnOk, IfOk};
+    ghost use Rattle.std.specs.List.{flat_map};
+    ghost use Rattle.rd_items.specs.Pieces.{scene_of};
+    ghost use Rattle.rd_stack.specs.Strings.{shown_from};
+    ghost use Rattle.rd_stack.specs.Steps.{part_steps, text_steps};
+
+    /// A string of which the row that begins at a place is walked through first.
+    pub fn from_place(
+        alloc: Global,
+        view: View<'a>,
+        base: u8,
+        replaced: bool,
+        origin: Origin,
+        under: Face,
+        text: &'a Text,
+        from: u32,
+    ) -> Result<StringFrame<'a>, Memory>
+        requires base { base ≤ 1 }
+        requires from { from ≤ length text.now.chars }
+        ensures { IfOk result (λ f. f ≡ flat_map (part_steps (scene_of view.entry) base replaced origin) (shown_from (scene_of view.entry) base replaced text.now under from)) }
+    {
+        let mut read = ListOf::new(alloc);
+        let end = read_row(&view, replaced, text, under, from, &mut read)?;
+        let parts = join_marks(alloc, read.as_slice())?;
+        let order = order_of_parts(alloc, &view, base, parts.as_slice())?;
+        Ok(StringFrame {
+            view,
+            base,
+            replaced,
+            origin,
+            under,
+            text,
+            parts,
+            order,
+            end,
+        })
+    }
+
+    /// The string of a number, where one was made, from its beginning.
+    pub fn of_number(
+        alloc: Global,
+        view: View<'a>,
+        base: u8,
+        replaced: bool,
+        origin: Origin,
+        under: Face,
+        number: u32,
+    ) -> Result<Option<StringFrame<'a>>, Memory>
+        requires { base ≤ 1 }
+        ensures { IfOk result (λ found. unwrap_or found [] ≡ text_steps (scene_of view.entry) base replaced origin under (slice_get view.entry.objects.now.strings number)) }
+    {
+        match view.objects.string(number) {
+            None => Ok(None),
+            Some(text) => {
+                let frame = StringFrame::from_place(
+                    alloc, view, base, replaced, origin, under, text, 0,
+                )?;
+                Ok(Some(frame))
+            }
+        }
+    }
+}
