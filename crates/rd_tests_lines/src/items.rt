@@ -1,6 +1,6 @@
 //! Items and blocks with ample memory, of buffers that are made by calls.
 use crate::scenery::{Scenery, is_accessible};
-use rd_base::{Ch, Class, Glyph, Invisible, ListOf, Memory, Pos};
+use rd_base::{Ch, Class, Face, Glyph, Invisible, ListOf, Memory, Pos};
 use rd_items::{Item, ItemKind, Items, block_at};
 use rd_objects::Objects;
 use rd_overlays::Kind;
@@ -44,7 +44,7 @@ fn set_up(
     Scenery::new(alloc, state, Objects::new(alloc)?)
 }
 
-/// Whether these are the items from a position on.
+/// Whether these are the items of the block that starts at a position.
 fn gives(alloc: Global, view: &View, start: Pos, wanted: &[Item]) -> bool {
     if !is_accessible(view, start) {
         return false;
@@ -106,23 +106,36 @@ fn cuts(alloc: Global, atom: Option<u32>, wanted: &[(Pos, (Pos, Pos))]) -> Resul
     Ok(are_in(alloc, &scenery.view(), wanted))
 }
 
-/// An item that covers the positions from one to another.
-fn item(kind: ItemKind, class: Class, at: Pos, from: Pos, to: Pos) -> Item {
+/// An item that covers the offsets from one to another.
+fn item(kind: ItemKind, class: Class, from: u32, to: u32) -> Item {
     Item {
         class,
         kind,
-        at,
+        face: Face::PLAIN,
+        overlay: false,
         from,
         to,
     }
 }
 
-fn letter(ch: Ch, at: Pos, from: Pos, to: Pos) -> Item {
-    item(ItemKind::Char(ch), Class::L, at, from, to)
+/// The string of an overlay at an offset.
+fn overlay_string(number: u32, at: u32) -> Item {
+    Item {
+        class: Class::ON,
+        kind: ItemKind::Text(number),
+        face: Face::PLAIN,
+        overlay: true,
+        from: at,
+        to: at,
+    }
 }
 
-fn ender(at: Pos, from: Pos, to: Pos) -> Item {
-    item(ItemKind::Ender, Class::B, at, from, to)
+fn letter(ch: Ch, from: u32, to: u32) -> Item {
+    item(ItemKind::Char(ch), Class::L, from, to)
+}
+
+fn ender(from: u32, to: u32) -> Item {
+    item(ItemKind::Ender, Class::B, from, to)
 }
 
 /// The letter e.
@@ -163,16 +176,16 @@ fn marks_join(rt: HostRuntime) -> Result<(), Fail> {
     let mut text = [acute(); 9];
     text[0] = base();
     let six = [
-        item(heavy(), Class::L, 1, 1, 8),
-        item(blank(), Class::L, 8, 8, 10),
-        ender(10, 10, 11),
+        item(heavy(), Class::L, 0, 7),
+        item(blank(), Class::L, 7, 9),
+        ender(9, 10),
     ];
     assert!(rt; shows(rt.alloc(), &text, None, None, &six)?);
     let parted = [
-        letter(base(), 1, 1, 2),
-        item(ItemKind::Text(9), Class::ON, 2, 2, 2),
-        item(blank(), Class::L, 2, 2, 4),
-        ender(4, 4, 5),
+        letter(base(), 0, 1),
+        overlay_string(9, 1),
+        item(blank(), Class::L, 1, 3),
+        ender(3, 4),
     ];
     assert!(rt;
         shows(
@@ -188,17 +201,13 @@ fn marks_join(rt: HostRuntime) -> Result<(), Fail> {
 
 #[test]
 fn hidden_newlines(rt: HostRuntime) -> Result<(), Fail> {
-    let plain = [
-        letter(base(), 1, 1, 2),
-        letter(acute(), 3, 2, 4),
-        ender(4, 4, 5),
-    ];
+    let plain = [letter(base(), 0, 1), letter(acute(), 1, 3), ender(3, 4)];
     assert!(rt; shows(rt.alloc(), &lines(), Some(8), None, &plain)?);
     let ellipsis = [
-        letter(base(), 1, 1, 2),
-        item(ItemKind::Ellipsis, Class::ON, 2, 2, 3),
-        letter(acute(), 3, 3, 4),
-        ender(4, 4, 5),
+        letter(base(), 0, 1),
+        item(ItemKind::Ellipsis, Class::ON, 1, 2),
+        letter(acute(), 2, 3),
+        ender(3, 4),
     ];
     assert!(rt; shows(rt.alloc(), &lines(), Some(7), None, &ellipsis)?);
     Ok(())
