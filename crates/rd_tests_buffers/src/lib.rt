@@ -4,6 +4,8 @@
 #![tactic(auto)]
 
 #[cfg(test)]
+mod lanes;
+#[cfg(test)]
 mod para;
 #[cfg(test)]
 mod spans;
