@@ -1,5 +1,5 @@
 -- The elements of the steps of a line are those of its items.
-use Rattle.std.proofs.Common.{◌≡◌, ℕ, Bool, true, false, List, [], ◌∷◌, ◌++◌, Option, None, Some, refl, sym, subst, ap, ap₂, ◌∙◌, append-nil}
+use Rattle.std.proofs.Common.{◌≡◌, ℕ, Bool, true, false, List, [], ◌∷◌, ◌++◌, Option, None, Some, refl, sym, subst, ap₂, ◌∙◌, append-nil}
 use Rattle.std.specs.Prelude.{slice_get, Result, Ok, Err, IfOk}
 use Rattle.std.specs.List.{flat_map}
 use Rattle.std.proofs.lemmas.Grind.{flat_map-append}
@@ -17,10 +17,9 @@ use Rattle.rd_levels.specs.declared.turn.Turn.{Turn}
 use Rattle.rd_stack.specs.Strings.{string_parts}
 use Rattle.rd_base.specs.Elements.{AreSound}
 use Rattle.rd_base.specs.Glyphs.{AreMeasured}
-use Rattle.rd_stack.specs.Shown.{AreRight, kind_elements, inner_elements, inner, middle_by, middle_elements, middle}
+use Rattle.rd_stack.specs.Shown.{AreRight, kind_elements, inner_elements, inner, middle_by, middle_elements}
 use Rattle.rd_stack.specs.Lines.{text_elements, outer_by, outer, origin_of, item_elements}
 use Rattle.rd_stack.specs.Steps.{inner_steps, display_steps, middle_steps, part_steps, text_steps, outer_steps, steps_of, item_steps, line_left, elements_in}
-use Rattle.rd_stack.specs.declared.part.Shown.{Shown}
 use Rattle.rd_stack.specs.declared.part.PartKind.{PartKind}
 use Rattle.rd_stack.specs.declared.part.PartKind.TheVariants as kind
 

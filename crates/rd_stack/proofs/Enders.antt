@@ -1,23 +1,21 @@
 -- The ender of a block counts as a separator of paragraphs.
 use Rattle.std.proofs.Common.{◌≡◌, ℕ, zero, suc, Bool, true, false, List, [], ◌∷◌, ◌++◌, Option, None, Some, refl}
-use Rattle.std.specs.Prelude.{is_some, if◌then◌else◌, map, option_map}
+use Rattle.std.specs.Prelude.{is_some, if◌then◌else◌, option_map}
 use Rattle.std.specs.Option.{unwrap_or}
 use Rattle.rd_text.specs.Texts.{is_newline}
-use Rattle.rd_ucd.specs.Lookup.{class_of}
 use Rattle.rd_base.specs.Faces.{Attributes}
 use Rattle.rd_base.specs.declared.class.Class.{Class}
 use Rattle.rd_base.specs.declared.class.Class.TheVariants.{B}
 use Rattle.rd_base.specs.declared.cell.Glyph.{Glyph}
 use Rattle.rd_objects.specs.declared.run.Spec.{Spec}
 use Rattle.rd_objects.specs.declared.run.Spec.TheVariants.{Text, Width, Align}
-use Rattle.rd_glyphs.specs.Joining.{joining_of}
 use Rattle.rd_glyphs.specs.Marks.{marked_glyph, marked, joined_from, joined}
 use Rattle.rd_props.specs.Seen.{Seen}
 use Rattle.rd_props.specs.declared.hiding.Hidden.{Hidden}
 use Rattle.rd_props.specs.declared.hiding.Hidden.TheVariants.{No, Plain, Ellipsis}
 use Rattle.rd_items.specs.Readings.{showing_of}
-use Rattle.rd_items.specs.Pieces.{Scene, spec_in, string_piece, string_pieces, spec_piece, char_piece, ender_piece, open_piece, unreplaced_piece, piece_by, piece_at, run_in, pieces_from}
-use Rattle.rd_items.specs.Items.{piece_joins, item_of, items_by, covered_to, covering, items_of}
+use Rattle.rd_items.specs.Pieces.{Scene, spec_in, string_pieces, spec_piece, char_piece, ender_piece, open_piece, unreplaced_piece, piece_by, piece_at, run_in, pieces_from}
+use Rattle.rd_items.specs.Items.{piece_joins, items_by, covered_to, covering, items_of}
 use Rattle.rd_items.specs.declared.item.Item.{Item}
 use Rattle.rd_items.specs.declared.item.ItemKind.{ItemKind}
 use Rattle.rd_items.specs.declared.item.ItemKind.TheVariants as kind

@@ -1,5 +1,5 @@
 -- No element of a character, a space or a string ends the line.
-use Rattle.std.proofs.Common.{◌≡◌, ℕ, Bool, true, false, List, [], ◌∷◌, ◌++◌, Option, None, Some, All, suc, refl, arith}
+use Rattle.std.proofs.Common.{◌≡◌, ℕ, Bool, true, false, List, [], ◌∷◌, Option, None, Some, All, suc, refl, arith}
 use Rattle.std.specs.Prelude.{◌==◌, ◌/◌, if◌then◌else◌, map, slice_get}
 use Rattle.std.specs.List.{flat_map}
 use Rattle.std.proofs.lemmas.List.Elements.{All-map, All-cons, All-nil, All-append}
@@ -22,7 +22,7 @@ use Rattle.rd_glyphs.specs.declared.shown.Shown.TheVariants.{Caret, Octal, Space
 use Rattle.rd_glyphs.specs.Characters.{PartValues, element_of, glyph_elements, tab_of, narrow, digit, on_blank, looks_of, own_looks, slot_or, mirrored, shown_as, entry_of, elements_by, elements_of}
 use Rattle.rd_items.specs.Pieces.{Scene}
 use Rattle.rd_stack.specs.Strings.{string_parts}
-use Rattle.rd_stack.specs.Shown.{space_elements, kind_elements, inner_elements, inner, middle_by, middle_elements, middle, before_row_end, is_row_end, AreOpen}
+use Rattle.rd_stack.specs.Shown.{space_elements, kind_elements, inner_elements, inner, middle_by, middle_elements, before_row_end, is_row_end, AreOpen}
 use Rattle.rd_stack.specs.Lines.{text_elements}
 use Rattle.rd_stack.specs.declared.part.PartKind.{PartKind}
 use Rattle.rd_stack.specs.declared.part.PartKind.TheVariants as kind

@@ -1,6 +1,6 @@
 -- The steps of a string, row by row.
-use Rattle.std.proofs.Common.{◌≡◌, ℕ, Bool, true, false, List, [], ◌∷◌, ◌++◌, Option, None, Some, refl, sym, ap, ◌∙◌, append_assoc, append-nil, arith}
-use Rattle.std.specs.Prelude.{◌+◌, ◌<◌, length, nat_lt, if◌then◌else◌, map, slice_get}
+use Rattle.std.proofs.Common.{◌≡◌, ℕ, Bool, true, false, List, [], ◌∷◌, ◌++◌, refl, sym, ap, ◌∙◌, append-nil, arith}
+use Rattle.std.specs.Prelude.{◌+◌, ◌<◌, length, nat_lt, if◌then◌else◌, map}
 use Rattle.std.proofs.lemmas.Bool.Decides.{nat_tests}
 use Rattle.std.specs.List.{flat_map}
 use Rattle.rd_base.specs.Faces.{Attributes}
@@ -14,7 +14,7 @@ use Rattle.rd_items.specs.Pieces.{Scene}
 use Rattle.rd_levels.specs.Turns.{turns_of}
 use Rattle.rd_levels.specs.declared.turn.Turn.{Turn}
 use Rattle.rd_stack.specs.Strings.{part_joins, part_class, part_code, place_of, in_order, row, row_end, shown_from, behind_row}
-use Rattle.rd_stack.specs.Steps.{part_steps, text_steps, display_steps, string_left}
+use Rattle.rd_stack.specs.Steps.{part_steps, string_left}
 use Rattle.rd_stack.specs.Walks.{IsFirst}
 use Rattle.rd_stack.specs.declared.part.Part.{Part}
 use Rattle.rd_stack.specs.declared.step.Step.{Step}

@@ -8,7 +8,7 @@ ghost use Rattle.rd_base.specs.declared.settings.Invisible.TheVariants.{Every, L
 ghost use Rattle.rd_props.specs.Examples.{put_once, meeting};
 ghost use Rattle.rd_glyphs.specs.Characters.{element_of};
 ghost use Rattle.rd_stack.specs.Shown.{prefix};
-ghost use Rattle.rd_stack.specs.Examples.{plain_look, letter, buffer, coloured, outside_letter, six_strings, nested_strings, string_before, red, coloured_strings, arrow, scene, line_at};
+ghost use Rattle.rd_stack.specs.Examples.{plain_look, letter, buffer, coloured, outside_letter, six_strings, nested_strings, string_before, red, coloured_strings, arrow, scene, line_at, paired_line_at};
 
 /// A line where five overlays with strings meet between two characters. The call does nothing.
 fn line_where_overlays_meet()
@@ -40,6 +40,13 @@ fn lines_of_hidden_text()
 fn lines_in_visual_order()
     ensures left { let s = buffer (97 ∷ 32 ∷ 114 ∷ 40 ∷ 116 ∷ 32 ∷ 98 ∷ []) [] [] Every in line_at s six_strings 0 1 ≡ letter 97 0 0 1 ∷ letter 32 1 1 2 ∷ letter 116 4 4 5 ∷ letter 41 3 3 4 ∷ letter 114 2 2 3 ∷ letter 32 5 5 6 ∷ letter 98 6 6 7 ∷ plain_look LineEnd 7 7 8 ∷ [] }
     ensures right { let s = buffer (114 ∷ 32 ∷ 97 ∷ 40 ∷ 98 ∷ []) [] [] Every in line_at s six_strings 1 1 ≡ letter 114 0 0 1 ∷ letter 32 1 1 2 ∷ letter 98 4 4 5 ∷ letter 40 3 3 4 ∷ letter 97 2 2 3 ∷ plain_look LineEnd 5 5 6 ∷ [] }
+{}
+
+/// Brackets around letters that are read from the right, behind one that is read from the left: where no pair is known the closing
+/// bracket goes with the letters on both sides, and where they are a pair both stand with the line. The call does nothing.
+fn lines_with_brackets()
+    ensures unpaired { let s = buffer (97 ∷ 40 ∷ 114 ∷ 41 ∷ 32 ∷ 116 ∷ []) [] [] Every in line_at s six_strings 0 1 ≡ letter 97 0 0 1 ∷ letter 40 1 1 2 ∷ letter 116 5 5 6 ∷ letter 32 4 4 5 ∷ letter 41 3 3 4 ∷ letter 114 2 2 3 ∷ plain_look LineEnd 6 6 7 ∷ [] }
+    ensures paired { let s = buffer (97 ∷ 40 ∷ 114 ∷ 41 ∷ 32 ∷ 116 ∷ []) [] [] Every in paired_line_at s six_strings 0 1 ≡ letter 97 0 0 1 ∷ letter 40 1 1 2 ∷ letter 114 2 2 3 ∷ letter 41 3 3 4 ∷ letter 32 4 4 5 ∷ letter 116 5 5 6 ∷ plain_look LineEnd 6 6 7 ∷ [] }
 {}
 
 /// The faces of strings, one inside the other, over the face of the position where they stand, and that of an ellipsis. The call

@@ -9,6 +9,7 @@ mod line;
 mod line_steps;
 mod marks;
 mod measure;
+mod nesting;
 mod order;
 mod part;
 mod prefix;

@@ -38,9 +38,10 @@ impl<'a> Walker<'a> {
 
     /// The elements of the line of the block that starts at a position, in a line of this base. They are those of its items in
     /// visual order from the reading edge: a character's, a space, the glyphs of an ellipsis, those of a display string or of an
-    /// overlay's string; the last of them and no other is the line's end. Each is sound, and its glyphs have the columns that Unicode gives them. They
-    /// take fewer than 2^60 columns, a tab counted as its stop's width and a stretch up to a column as that column; a line of more,
-    /// which no objects within their limits make, has no other answer than want of memory. So the line is walked through once before.
+    /// overlay's string; the last of them and no other is the line's end. Each is sound, and its glyphs have the columns that Unicode
+    /// gives them. They take fewer than 2^60 columns, a tab counted as its stop's width and a stretch up to a column as that column; a
+    /// line of more, which no objects within their limits make, has no other answer than want of memory. To know so much the line is
+    /// walked through once before.
     pub fn start(alloc: Global, view: View<'a>, start: Pos, base: u8) -> Result<Walker<'a>, Memory>
         requires place { IsAccessible view.state.now.text start }
         requires base { base ≤ 1 }

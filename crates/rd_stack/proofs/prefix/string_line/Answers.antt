@@ -2,7 +2,7 @@ use Rattle.std.proofs.Common.{sym, subst, ap, ◌∙◌}
 use Rattle.std.specs.Prelude.{slice_get}
 use Rattle.rd_base.specs.Faces.{plain}
 use Rattle.rd_items.specs.Pieces.{scene_of}
-use Rattle.rd_stack.specs.Shown.{inner, outside, prefix, before_row_end, AreOpen, AreOfOneRow}
+use Rattle.rd_stack.specs.Shown.{inner, outside, before_row_end, AreOpen, AreOfOneRow}
 use Rattle.rd_stack.proofs.Prefixes.{of-one-row, prefix-none, prefix-some, are-inside}
 use Rattle.rd_stack.proofs.Ends.{inner-open, before-open}
 use Rattle.rd_stack.proofs.prefix.string_line.Goals as goal

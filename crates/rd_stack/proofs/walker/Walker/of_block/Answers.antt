@@ -1,5 +1,4 @@
 use Rattle.std.proofs.Common.{ap, ◌∙◌}
-use Rattle.rd_base.specs.declared.memory.Memory.{Memory}
 use Rattle.rd_items.specs.Pieces.{scene_of}
 use Rattle.rd_stack.specs.Lines.{line_of_items, item_turns}
 use Rattle.rd_stack.specs.Steps.{elements_in}

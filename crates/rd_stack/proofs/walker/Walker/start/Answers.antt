@@ -1,4 +1,4 @@
-use Rattle.std.proofs.Common.{◌≡◌, true, sym, subst, ◌∙◌}
+use Rattle.std.proofs.Common.{◌≡◌, true, subst}
 use Rattle.std.specs.Prelude.{◌<◌, ◌^◌, List}
 use Rattle.rd_base.specs.Elements.{AreSound, columns_at_most, ends_once}
 use Rattle.rd_base.specs.Glyphs.{AreMeasured}
@@ -6,7 +6,6 @@ use Rattle.rd_base.specs.declared.element.Element.{Element}
 use Rattle.rd_props.specs.Buffers.{meaning}
 use Rattle.rd_items.specs.Readings.{reading}
 use Rattle.rd_items.specs.Pieces.{scene_of}
-use Rattle.rd_stack.specs.Shown.{AreRight}
 use Rattle.rd_stack.specs.Walks.{walk_left}
 use Rattle.rd_stack.specs.declared.walker.Walker.{Walker}
 use Rattle.rd_stack.proofs.Elements.{if-same, right-sound, right-measured}
