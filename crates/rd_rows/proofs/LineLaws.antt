@@ -8,18 +8,24 @@ use Rattle.rd_rows.specs.declared.begin.Begin.{Begin}
 use Rattle.rd_rows.specs.declared.cutting.Cutting.{Cutting}
 use Rattle.rd_rows.specs.declared.spot.Placed.{Placed}
 use Rattle.rd_rows.specs.declared.spot.Spot.{Spot}
-use Rattle.rd_rows.specs.Leads.{HasLeads}
+use Rattle.rd_rows.specs.Leads.{HasLeads, IsQuiet, HasQuietLeads}
 use Rattle.rd_rows.specs.Shapes.{ShapeValues}
 use Rattle.rd_rows.specs.Cuts.{cut_row, RowCut}
 use Rattle.rd_rows.specs.Placing.{is_item, placed_at, behind, behind_all, next_row, next_line, line_start, place_all, columns_of, has_line_end}
-use Rattle.rd_rows.specs.Prefixes.{begins_none, IsLead}
+use Rattle.rd_rows.specs.Prefixes.{begins_none}
 use Rattle.rd_rows.specs.Rows.{RowMeaning, LaidRow, rows_within, rows_of, row_of, begin_of, laid, weight_of}
 use Rattle.rd_rows.specs.Laws.{seen_rows, ends_last, begins_of, range_of, ranges_of, lines_in, IsPlacedOnce}
 use Rattle.rd_rows.proofs.Ends.{line_ends, line_end-ends, standing-ends, ends_once-parts, ends_once-all}
 use Rattle.rd_rows.proofs.Fitting.{begins-none}
 use Rattle.rd_rows.proofs.Splits.{cut-is, rest-less, none-left}
 
-either-lead : (c : Cutting) (b : Bool) → HasLeads c → IsLead (if b then c.first else c.wrap)
+pub quiet-leads : (c : Cutting) → HasLeads c → HasQuietLeads c
+quiet-leads c leads = record {
+  first = record { on = leads.first.on; items = leads.first.items };
+  wrap = record { on = leads.wrap.on; items = leads.wrap.items };
+}
+
+either-lead : (c : Cutting) (b : Bool) → HasQuietLeads c → IsQuiet (if b then c.first else c.wrap)
 either-lead c true leads = leads.first
 either-lead c false leads = leads.wrap
 
@@ -47,7 +53,7 @@ last-step c lead lead2 start spot2 r xs (f ∷ fs) n none same end rest =
     let parts = ends_once-parts xs f fs end in
     last-cons r _ (same ∙ (standing-ends c.shape lead start xs none ∙ parts.0)) (rest parts.1)
 
-pub last-rows : (n : ℕ) (c : Cutting) (lead : List Placed) (spot : Spot) (es : List Element) → HasLeads c → IsLead lead → length es ≤ n → IsTrue (ends_once es)
+pub last-rows : (n : ℕ) (c : Cutting) (lead : List Placed) (spot : Spot) (es : List Element) → HasQuietLeads c → IsQuiet lead → length es ≤ n → IsTrue (ends_once es)
     → ends_last (seen_rows (rows_within n c lead spot es)) ≡ true
 last-rows n c lead spot [] leads one few end = cc
 last-rows zero c lead spot (e ∷ es) leads one few end = absurd (omega arith)
@@ -98,7 +104,7 @@ before-next : (b : Bool) (spot : Spot) → (if b then next_line spot else spot).
 before-next true spot = refl
 before-next false spot = refl
 
-pub begun-rows : (n : ℕ) (c : Cutting) (lead : List Placed) (spot : Spot) (es : List Element) → HasLeads c → IsLead lead → length es ≤ n
+pub begun-rows : (n : ℕ) (c : Cutting) (lead : List Placed) (spot : Spot) (es : List Element) → HasQuietLeads c → IsQuiet lead → length es ≤ n
     → map range_of (begins_of (seen_rows (rows_within n c lead spot es))) ≡ ranges_of spot.before es
 begun-rows n c lead spot [] leads one few = rw (none-left n c lead spot) refl
 begun-rows zero c lead spot (e ∷ es) leads one few = absurd (omega arith)

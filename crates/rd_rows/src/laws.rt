@@ -5,7 +5,7 @@ ghost use Rattle.rd_base.specs.declared.element.Element.{Element};
 ghost use Rattle.rd_base.specs.Elements.{AreSound, ends_once};
 ghost use Rattle.rd_base.specs.Glyphs.{AreMeasured};
 ghost use Rattle.rd_rows.specs.declared.cutting.Cutting.{Cutting};
-ghost use Rattle.rd_rows.specs.Leads.{HasLeads};
+ghost use Rattle.rd_rows.specs.Leads.{HasLeads, HasQuietLeads};
 ghost use Rattle.rd_rows.specs.Prefixes.{IsPrefix};
 ghost use Rattle.rd_rows.specs.Rows.{cutting_of, rows_of};
 ghost use Rattle.rd_rows.specs.Shapes.{ShapeValues};
@@ -21,6 +21,13 @@ pub fn rows_of_every_line()
     ensures last { (c : Cutting) (es : List Element) → HasLeads c → IsTrue (ends_once es) → IsTrue (ends_last (seen_rows (rows_of c es))) }
     ensures placed { (c : Cutting) (es : List Element) → IsTrue (ends_once es) → IsPlacedOnce c es (rows_of c es) }
     ensures begun { (c : Cutting) (es : List Element) → HasLeads c → IsTrue (ends_once es) → map range_of (begins_of (seen_rows (rows_of c es))) ≡ ranges_of None es }
+{}
+
+/// The same of the last row and of where items begin, for all prefixes that end no line and begin no item of it, sound or not. It has
+/// no body: what it promises is proved of the definitions.
+pub fn rows_behind_quiet_prefixes()
+    ensures last { (c : Cutting) (es : List Element) → HasQuietLeads c → IsTrue (ends_once es) → IsTrue (ends_last (seen_rows (rows_of c es))) }
+    ensures begun { (c : Cutting) (es : List Element) → HasQuietLeads c → IsTrue (ends_once es) → map range_of (begins_of (seen_rows (rows_of c es))) ≡ ranges_of None es }
 {}
 
 /// Prefixes that were cut to half of a window's columns can stand before a line's elements. It has no body.

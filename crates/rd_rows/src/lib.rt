@@ -16,7 +16,9 @@ mod shape;
 mod spot;
 
 pub use begin::Begin;
-pub use laws::{prefixes_stand_before_lines, rows_are_whole, rows_of_every_line};
+pub use laws::{
+    prefixes_stand_before_lines, rows_are_whole, rows_behind_quiet_prefixes, rows_of_every_line,
+};
 pub use maker::RowMaker;
 pub use row::Row;
 pub use shape::Shape;
