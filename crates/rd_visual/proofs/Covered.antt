@@ -1,0 +1,284 @@
+-- The items of rows that cover a position, and the hits of these rows.
+use Rattle.std.proofs.Common.{◌≡◌, ℕ, zero, suc, ◌+◌, ◌<◌, ◌≤◌, ◌&&◌, nat_le, nat_lt, Bool, true, false, cond, List, [], ◌∷◌, ◌++◌, length, inl, inr, Option, None, Some, All, refl, ap, sym, ◌∙◌, subst, arith}
+use Rattle.std.specs.Prelude.{count_by, slice_get}
+use Rattle.std.specs.Option.{option_map}
+use Rattle.std.proofs.lemmas.Bool.{cases_lt}
+use Rattle.std.proofs.lemmas.Bool.Decides.{nat_tests}
+use Rattle.std.proofs.lemmas.List.Elements.{All-head, All-tail}
+use Rattle.std.proofs.lemmas.List.Sums.{sum_by-append}
+use Rattle.rd_matrix.specs.Blocks.{IsAmong, StandFrom, first_start}
+use Rattle.rd_matrix.specs.Columns.{covers, shown_column}
+use Rattle.rd_matrix.specs.Cursors.{column_shown, cursor_in, or_below}
+use Rattle.rd_matrix.specs.Entries.{EntryMeaning, shown_entry, shown_entries, numbered, entries_of, all_rows}
+use Rattle.rd_matrix.specs.Sources.{SourceValues, IsSource, AreRowsOf, rows_at}
+use Rattle.rd_matrix.specs.declared.block.Block.{Block}
+use Rattle.rd_matrix.specs.declared.matrix.Entry.{Entry}
+use Rattle.rd_rows.specs.Laws.{begins_of}
+use Rattle.rd_rows.specs.Rows.{RowMeaning}
+use Rattle.rd_rows.specs.Shapes.{ShapeValues, IsShape}
+use Rattle.rd_rows.specs.declared.begin.Begin.{Begin}
+use Rattle.rd_visual.specs.Hits.{AreInPositions, AreRowsAt, Fits, begins_at, covers_some, hit_in, item_at, item_of_cell, least_at, reading_column}
+use Rattle.rd_visual.proofs.Items.{count-cons, counted, found-one, found-none, item-again, item-alone, item-column, item-member}
+
+-- how many items of these rows cover a position
+abbrev pub count_at : ℕ → List EntryMeaning → ℕ
+count_at point [] = 0
+count_at point (e ∷ es) = count_by (covers e.start point) e.row.begins + count_at point es
+
+pub count-append : {X : Type 0} (p : X → Bool) (xs ys : List X) → count_by p (xs ++ ys) ≡ count_by p xs + count_by p ys
+count-append p xs ys = sum_by-append (λ y. cond (p y) 1 0) xs ys
+
+count-joined : (point : ℕ) (xs ys : List EntryMeaning) → count_at point (xs ++ ys) ≡ count_at point xs + count_at point ys
+count-joined point [] ys = omega arith
+count-joined point (x ∷ xs) ys = let rest = count-joined point xs ys in omega (arith, rest)
+
+count-numbered : (point start n : ℕ) (rs : List RowMeaning) → count_at point (numbered start n rs) ≡ count_by (covers start point) (begins_of rs)
+count-numbered point start n [] = refl
+count-numbered point start n (r ∷ rs) =
+    ap (λ k. count_by (covers start point) r.begins + k) (count-numbered point start (n + 1) rs) ∙ sym (count-append (covers start point) r.begins (begins_of rs))
+
+-- an item of a block covers no position outside of it
+
+abbrev pub IsInside : ℕ → ℕ → Begin → Type 0
+IsInside start end b = (b.from ≤ b.to) × (start + b.to ≤ end)
+
+and-both : (a b : Bool) → (a && b) ≡ true → (a ≡ true) × (b ≡ true)
+and-both true b h = (refl, h)
+and-both false b h = cc
+
+covers-parts : (start point : ℕ) (b : Begin) → covers start point b ≡ true → (start + b.from ≤ point) × (point < start + b.to)
+covers-parts start point b h =
+    let both = and-both (nat_le (start + b.from) point) (nat_lt point (start + b.to)) h in
+    let low = both.0 in
+    let high = both.1 in
+    (grind (arith, nat_tests), grind (arith, nat_tests))
+
+below-no : (start point : ℕ) (b : Begin) (q : Bool) → covers start point b ≡ q → point < start → q ≡ false
+below-no start point b false here low = refl
+below-no start point b true here low = let parts = covers-parts start point b here in let from = parts.0 in absurd (omega (arith, from, low))
+
+above-no : (start end point : ℕ) (b : Begin) (q : Bool) → covers start point b ≡ q → start + b.to ≤ end → end ≤ point → q ≡ false
+above-no start end point b false here inside high = refl
+above-no start end point b true here inside high = let parts = covers-parts start point b here in let to = parts.1 in absurd (omega (arith, to, inside, high))
+
+none-below : (start point : ℕ) (bs : List Begin) → point < start → count_by (covers start point) bs ≡ 0
+none-below start point [] low = refl
+none-below start point (b ∷ bs) low =
+    let out = below-no start point b _ refl low in
+    let rest = none-below start point bs low in
+    count-cons (covers start point) b bs ∙ rw (out, rest) refl
+
+none-above : (start end point : ℕ) (bs : List Begin) → All (IsInside start end) bs → end ≤ point → count_by (covers start point) bs ≡ 0
+none-above start end point [] inside high = refl
+none-above start end point (b ∷ bs) inside high =
+    let out = above-no start end point b _ refl (All-head (IsInside start end) b bs inside).1 high in
+    let rest = none-above start end point bs (All-tail (IsInside start end) b bs inside) high in
+    count-cons (covers start point) b bs ∙ rw (out, rest) refl
+
+count-block : (rows : Block → List RowMeaning) (b : Block) (point : ℕ) → count_at point (entries_of rows b) ≡ count_by (covers b.start point) (begins_of (rows b))
+count-block rows b point = count-numbered point b.start 0 (rows b)
+
+count-first : (rows : Block → List RowMeaning) (b : Block) (bs : List Block) (point : ℕ) → count_at point (all_rows rows (b ∷ bs)) ≡ count_by (covers b.start point) (begins_of (rows b)) + count_at point (all_rows rows bs)
+count-first rows b bs point = count-joined point (entries_of rows b) (all_rows rows bs) ∙ ap (λ n. n + count_at point (all_rows rows bs)) (count-block rows b point)
+
+none-behind : (rows : Block → List RowMeaning) (from : ℕ) (bs : List Block) (point : ℕ) → StandFrom from bs → point < from → count_at point (all_rows rows bs) ≡ 0
+none-behind rows from [] point stand low = refl
+none-behind rows from (b ∷ bs) point stand low =
+    let start = stand.0 in
+    let some = stand.1 in
+    let here = none-below b.start point (begins_of (rows b)) (omega (arith, start, low)) in
+    let rest = none-behind rows b.end bs point stand.2 (omega (arith, start, some, low)) in
+    count-first rows b bs point ∙ rw (here, rest) refl
+
+few-here : (rows : Block → List RowMeaning) (b : Block) (point : ℕ) → AreRowsOf b.start b.end (rows b) → count_by (covers b.start point) (begins_of (rows b)) ≤ 1
+few-here rows b point right =
+    elim (cases_lt point b.start) [
+      | inl low ↦ let none = none-below b.start point (begins_of (rows b)) low in omega (arith, none)
+      | inr from ↦ elim (cases_lt point b.end) [
+        | inl high ↦ let one = right.once point from high in omega (arith, one)
+        | inr above ↦ let none = none-above b.start b.end point (begins_of (rows b)) right.inside above in omega (arith, none)
+      ]
+    ]
+
+few-all : (rows : Block → List RowMeaning) (from : ℕ) (bs : List Block) (point : ℕ) → StandFrom from bs → ((b : Block) → IsAmong bs b → AreRowsOf b.start b.end (rows b)) → count_at point (all_rows rows bs) ≤ 1
+few-all rows from [] point stand right = omega arith
+few-all rows from (b ∷ bs) point stand right =
+    let e = count-first rows b bs point in
+    elim (cases_lt point b.end) [
+      | inl low ↦
+          let here = few-here rows b point (right b (zero, refl)) in
+          let rest = none-behind rows b.end bs point stand.2 low in
+          omega (arith, e, here, rest)
+      | inr high ↦
+          let here = none-above b.start b.end point (begins_of (rows b)) (right b (zero, refl)).inside high in
+          let rest = few-all rows b.end bs point stand.2 (λ c among. right c (suc among.0, among.1)) in
+          omega (arith, e, here, rest)
+    ]
+
+-- at most one item of a source's rows covers a position
+pub few-at : (m : SourceValues) (shape : ShapeValues) (es : List EntryMeaning) (point : ℕ) → IsSource m → IsShape shape → AreRowsAt m shape es → count_at point es ≤ 1
+few-at m shape es point source is rows =
+    let all = few-all (λ b. m.rows_of b shape) (first_start m.blocks) m.blocks point source.blocks.stand (λ b among. source.rows b shape among is) in
+    let whole : count_at point (rows_at m shape) ≡ count_at point (rows.above ++ (es ++ rows.below)) = ap (count_at point) rows.rows in
+    let outer = count-joined point rows.above (es ++ rows.below) in
+    let inner = count-joined point es rows.below in
+    omega (arith, all, whole, outer, inner)
+
+-- the cursor stands where the item of its position begins
+
+counted-row : (point r : ℕ) (es : List EntryMeaning) (e : EntryMeaning) → slice_get es r ≡ Some e → count_by (covers e.start point) e.row.begins ≤ count_at point es
+counted-row point r [] e there = absurd cc
+counted-row point zero (x ∷ xs) e there =
+    let same : x ≡ e = cc in
+    subst (λ (y : EntryMeaning). count_by (covers y.start point) y.row.begins ≤ count_at point (x ∷ xs)) same (omega arith)
+counted-row point (suc r) (x ∷ xs) e there = let rest = counted-row point r xs e there in omega (arith, rest)
+
+add-one : (n : ℕ) → suc n ≡ n + 1
+add-one n = omega arith
+
+pub cursor-there : (point r : ℕ) (es : List EntryMeaning) (e : EntryMeaning) (k : ℕ) (b : Begin) → count_at point es ≤ 1 → slice_get es r ≡ Some e → slice_get e.row.begins k ≡ Some b → covers e.start point b ≡ true
+    → cursor_in point es ≡ Some (r, shown_column e.row b.column)
+cursor-there point r [] e k b few there place covered = absurd cc
+cursor-there point zero (x ∷ xs) e k b few there place covered =
+    let same : x ≡ e = cc in
+    let here : count_by (covers x.start point) x.row.begins ≤ 1 = omega (arith, few) in
+    let less : count_by (covers e.start point) e.row.begins ≤ 1 = subst (λ (y : EntryMeaning). count_by (covers y.start point) y.row.begins ≤ 1) same here in
+    let found = found-one (covers e.start point) e.row.begins k b less place covered in
+    let column : column_shown point e ≡ Some (shown_column e.row b.column) = rw found refl in
+    ap (λ o. or_below o (cursor_in point xs)) (ap (column_shown point) same ∙ column)
+cursor-there point (suc r) (x ∷ xs) e k b few there place covered =
+    let some = counted (covers e.start point) e.row.begins k b place covered in
+    let row = counted-row point r xs e there in
+    let none : count_by (covers x.start point) x.row.begins ≡ 0 = omega (arith, few, some, row) in
+    let rest : count_at point xs ≤ 1 = omega (arith, few) in
+    let found = found-none (covers x.start point) x.row.begins none in
+    let column : column_shown point x ≡ None = rw found refl in
+    rw (column, cursor-there point r xs e k b rest there place covered) (ap (λ n. Some (n, shown_column e.row b.column)) (sym (add-one r)))
+
+-- hits
+
+pub record IsHit (es : List EntryMeaning) (row column point : ℕ) : Type 0 where
+  pub entry : EntryMeaning
+  pub item : Begin
+  pub there : slice_get es row ≡ Some entry
+  pub cell : column < length entry.row.cells
+  pub found : item_at (reading_column entry.row column) entry.row.begins ≡ Some item
+  pub least : entry.start + item.from ≡ point
+
+hit-column : (es : List EntryMeaning) (row column point : ℕ) (e : EntryMeaning) (q : Bool) (o : Option Begin) → slice_get es row ≡ Some e → nat_lt column (length e.row.cells) ≡ q
+    → item_at (reading_column e.row column) e.row.begins ≡ o → option_map (λ b. e.start + b.from) (cond q o None) ≡ Some point → IsHit es row column point
+hit-column es row column point e false o there cell found hit = absurd cc
+hit-column es row column point e true None there cell found hit = absurd cc
+hit-column es row column point e true (Some b) there cell found hit =
+    record { entry = e; item = b; there = there; cell = let lt = cell in grind (arith, nat_tests); found = found; least = cc }
+
+moved-down : (x : EntryMeaning) (es : List EntryMeaning) (row column point : ℕ) → IsHit es row column point → IsHit (x ∷ es) (suc row) column point
+moved-down x es row column point h = record { entry = h.entry; item = h.item; there = h.there; cell = h.cell; found = h.found; least = h.least }
+
+hit-parts : (es : List EntryMeaning) (row column point : ℕ) → hit_in es row column ≡ Some point → IsHit es row column point
+hit-parts [] row column point hit = absurd cc
+hit-parts (e ∷ es) zero column point hit = hit-column (e ∷ es) zero column point e _ _ refl refl refl hit
+hit-parts (e ∷ es) (suc row) column point hit = moved-down e es row column point (hit-parts es row column point hit)
+
+hit-there : (es : List EntryMeaning) (row column : ℕ) (e : EntryMeaning) → slice_get es row ≡ Some e → hit_in es row column ≡ least_at e column
+hit-there [] row column e there = absurd cc
+hit-there (x ∷ xs) zero column e there = let same : x ≡ e = cc in ap (λ (y : EntryMeaning). least_at y column) same
+hit-there (x ∷ xs) (suc row) column e there = hit-there xs row column e there
+
+hit-made : (es : List EntryMeaning) (row column : ℕ) (e : EntryMeaning) (b : Begin) → slice_get es row ≡ Some e → column < length e.row.cells → item_at (reading_column e.row column) e.row.begins ≡ Some b
+    → hit_in es row column ≡ Some (e.start + b.from)
+hit-made es row column e b there cell found =
+    let lt : nat_lt column (length e.row.cells) ≡ true = grind (arith, nat_tests) in
+    hit-there es row column e there ∙ rw (lt, found) refl
+
+-- what the code needs
+
+pub hit-outside : (es : List Entry) (row column : ℕ) → length es ≤ row → hit_in (shown_entries es) row column ≡ None
+hit-outside [] row column out = refl
+hit-outside (e ∷ es) zero column out = absurd (omega (arith, out))
+hit-outside (e ∷ es) (suc row) column out = hit-outside es row column (omega (arith, out))
+
+pub hit-entry : (es : List Entry) (row column : ℕ) (e : Entry) → slice_get es row ≡ Some e → hit_in (shown_entries es) row column ≡ least_at (shown_entry e) column
+hit-entry [] row column e there = absurd cc
+hit-entry (x ∷ xs) zero column e there = let same : x ≡ e = cc in ap (λ (y : Entry). least_at (shown_entry y) column) same
+hit-entry (x ∷ xs) (suc row) column e there = hit-entry xs row column e there
+
+abbrev pub AreInRow : EntryMeaning → Type 0
+AreInRow e = All (Fits e.start) e.row.begins
+
+pub fits-entry : (es : List Entry) (row : ℕ) (e : Entry) → AreInPositions (shown_entries es) → slice_get es row ≡ Some e → All (Fits e.start) e.row.shown.begins
+fits-entry [] row e fits there = absurd cc
+fits-entry (x ∷ xs) zero e fits there =
+    let same : x ≡ e = cc in
+    subst (λ (y : Entry). All (Fits y.start) y.row.shown.begins) same (All-head AreInRow (shown_entry x) (shown_entries xs) fits)
+fits-entry (x ∷ xs) (suc row) e fits there = fits-entry xs row e (All-tail AreInRow (shown_entry x) (shown_entries xs) fits) there
+
+fits-at : (start : ℕ) (bs : List Begin) (k : ℕ) (b : Begin) → All (Fits start) bs → slice_get bs k ≡ Some b → Fits start b
+fits-at start [] k b fits there = absurd cc
+fits-at start (x ∷ xs) zero b fits there = let same : x ≡ b = cc in subst (Fits start) same (All-head (Fits start) x xs fits)
+fits-at start (x ∷ xs) (suc k) b fits there = fits-at start xs k b (All-tail (Fits start) x xs fits) there
+
+some-cell : (row : RowMeaning) (column : ℕ) (b : Begin) (q : Bool) → nat_lt column (length row.cells) ≡ q → item_of_cell row column ≡ Some b → item_at (reading_column row column) row.begins ≡ Some b
+some-cell row column b true cell found = subst (λ (t : Bool). cond t (item_at (reading_column row column) row.begins) None ≡ Some b) cell found
+some-cell row column b false cell found = let e : None ≡ Some b = subst (λ (t : Bool). cond t (item_at (reading_column row column) row.begins) None ≡ Some b) cell found in absurd cc
+
+pub item-fits : (start : ℕ) (row : RowMeaning) (column : ℕ) (b : Begin) → All (Fits start) row.begins → item_of_cell row column ≡ Some b → start + b.from < 4294967296
+item-fits start row column b fits found =
+    let at = some-cell row column b _ refl found in
+    let one = item-member (reading_column row column) row.begins b at in
+    let some = (item-column (reading_column row column) row.begins b at).0 in
+    let order : b.from < b.to = grind (arith, nat_tests) in
+    let end : start + b.to < 4294967296 = fits-at start row.begins one.place b fits one.there in
+    omega (arith, order, end)
+
+-- a reading column and the cell in which it is shown
+
+shown-read : (row : RowMeaning) (column : ℕ) (q : Bool) → row.reversed ≡ q → column < length row.cells → reading_column row (shown_column row column) ≡ column
+shown-read row column false q low = rw q refl
+shown-read row column true q low = rw q (omega (arith, low))
+
+shown-in : (row : RowMeaning) (column : ℕ) (q : Bool) → row.reversed ≡ q → column < length row.cells → shown_column row column < length row.cells
+shown-in row column false q low = rw q low
+shown-in row column true q low = rw q (omega (arith, low))
+
+covers-least : (start : ℕ) (b : Begin) → covers_some b ≡ true → covers start (start + b.from) b ≡ true
+covers-least start b some =
+    let low : nat_le (start + b.from) (start + b.from) ≡ true = grind (arith, nat_tests) in
+    let high : nat_lt (start + b.from) (start + b.to) ≡ true = grind (arith, nat_tests) in
+    rw (low, high) refl
+
+covers-some : (start point : ℕ) (b : Begin) → covers start point b ≡ true → covers_some b ≡ true
+covers-some start point b covered = let parts = covers-parts start point b covered in let low = parts.0 in let high = parts.1 in grind (arith, nat_tests)
+
+pub comes-back : (m : SourceValues) (shape : ShapeValues) (es : List EntryMeaning) (row column point : ℕ) → IsSource m → IsShape shape → AreRowsAt m shape es → hit_in es row column ≡ Some point
+    → (there : ℕ) × (cursor_in point es ≡ Some (row, there)) × (hit_in es row there ≡ Some point)
+comes-back m shape es row column point source is rows hit =
+    let h = hit-parts es row column point hit in
+    let e : EntryMeaning = h.entry in
+    let b : Begin = h.item in
+    let one = item-member (reading_column e.row column) e.row.begins b h.found in
+    let parts = item-column (reading_column e.row column) e.row.begins b h.found in
+    let before = parts.1 in
+    let inner = shown-in e.row column _ refl h.cell in
+    let low : b.column < length e.row.cells = omega (arith, before, inner) in
+    let covered : covers e.start point b ≡ true = subst (λ (p : ℕ). covers e.start p b ≡ true) h.least (covers-least e.start b parts.0) in
+    let read = shown-read e.row b.column _ refl low in
+    let again : item_at (reading_column e.row (shown_column e.row b.column)) e.row.begins ≡ Some b = ap (λ c. item_at c e.row.begins) read ∙ item-again (reading_column e.row column) e.row.begins b h.found in (
+      shown_column e.row b.column,
+      cursor-there point row es e one.place b (few-at m shape es point source is rows) h.there one.there covered,
+      hit-made es row (shown_column e.row b.column) e b h.there (shown-in e.row b.column _ refl low) again ∙ ap Some h.least,
+    )
+
+abbrev second-of : Option (ℕ × ℕ) → ℕ
+second-of None = 0
+second-of (Some place) = place.1
+
+pub shows-item : (m : SourceValues) (shape : ShapeValues) (es : List EntryMeaning) (row column point : ℕ) (e : EntryMeaning) (k : ℕ) (b : Begin) → IsSource m → IsShape shape → AreRowsAt m shape es
+    → cursor_in point es ≡ Some (row, column) → slice_get es row ≡ Some e → slice_get e.row.begins k ≡ Some b → covers e.start point b ≡ true → b.column < length e.row.cells
+    → count_by (begins_at (reading_column e.row column)) e.row.begins ≤ 1 → hit_in es row column ≡ Some (e.start + b.from)
+shows-item m shape es row column point e k b source is rows cursor there place covered low alone =
+    let at = cursor-there point row es e k b (few-at m shape es point source is rows) there place covered in
+    let column-at : column ≡ shown_column e.row b.column = ap second-of (sym cursor ∙ at) in
+    let read : b.column ≡ reading_column e.row column = sym (shown-read e.row b.column _ refl low) ∙ ap (reading_column e.row) (sym column-at) in
+    let cell : column < length e.row.cells = subst (λ (c : ℕ). c < length e.row.cells) (sym column-at) (shown-in e.row b.column _ refl low) in
+    hit-made es row column e b there cell (item-alone (reading_column e.row column) e.row.begins k b place (covers-some e.start point b covered) read alone)

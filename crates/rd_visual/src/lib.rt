@@ -1,0 +1,9 @@
+//! Which position a cell of a window shows, and in which cell a position is shown.
+#![tactic(auto)]
+
+mod examples;
+mod hits;
+mod laws;
+
+pub use hits::{cell_of, position_at};
+pub use laws::{a_cell_shows_its_item, a_hit_comes_back, items_begin_in_the_window};
