@@ -12,7 +12,7 @@ use Rattle.rd_rows.specs.Leads.{HasLeads}
 use Rattle.rd_rows.specs.Placing.{is_item, line_start}
 use Rattle.rd_rows.specs.Rows.{LaidRow, rows_of}
 use Rattle.rd_rows.specs.Shapes.{ShapeValues}
-use Rattle.rd_rows.proofs.LineLaws.{last-rows, begun-rows}
+use Rattle.rd_rows.proofs.LineLaws.{quiet-leads, last-rows, begun-rows}
 use Rattle.rd_session.specs.Layout.{plain_cutting}
 use Rattle.rd_session.proofs.AddLemmas.{EndsOnce}
 use Rattle.rd_session.specs.Blocks.{elements_from}
@@ -52,7 +52,7 @@ ends-once (r ∷ s ∷ rs) h =
 
 pub rows-end : (shape : ShapeValues) (cs : List ℕ) → EndsOnce (rows_of (plain_cutting shape) (elements_from 0 cs))
 rows-end shape cs =
-    let leads = plain-leads shape in
+    let leads = quiet-leads (plain_cutting shape) (plain-leads shape) in
     ends-once (rows_of (plain_cutting shape) (elements_from 0 cs))
     (last-rows (length (elements_from 0 cs)) (plain_cutting shape) (plain_cutting shape).first line_start (elements_from 0 cs) leads leads.first (omega arith) (ends-from 0 cs))
 
@@ -80,7 +80,7 @@ line-ranges start i before (c ∷ cs) new =
 
 pub ranges_in-rows : (shape : ShapeValues) (start : ℕ) (cs : List ℕ) → ranges_in start (rows_of (plain_cutting shape) (elements_from 0 cs)) ≡ singles start (suc (length cs))
 ranges_in-rows shape start cs =
-    let leads = plain-leads shape in
+    let leads = quiet-leads (plain_cutting shape) (plain-leads shape) in
     let here : start + 0 ≡ start = omega arith in
     ranges-moved start (rows_of (plain_cutting shape) (elements_from 0 cs))
     ∙ (ap (map (moved start)) (begun-rows (length (elements_from 0 cs)) (plain_cutting shape) (plain_cutting shape).first line_start (elements_from 0 cs) leads leads.first (omega arith))
