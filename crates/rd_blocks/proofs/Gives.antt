@@ -1,0 +1,270 @@
+-- What gives an element has one in its line.
+use Rattle.std.proofs.Common.{◌≡◌, ◌⊎◌, ℕ, suc, ◌+◌, ◌-◌, ◌<◌, ◌≤◌, Bool, true, false, cond, not, ◌||◌, List, [], ◌∷◌, ◌++◌, length, map, get_or, inl, inr, Option, None, Some, refl, ap, sym, ◌∙◌, subst, arith, nat_eq, length-append}
+use Rattle.std.specs.Prelude.{is_some, if◌then◌else◌, slice_get, option_map}
+use Rattle.std.specs.Option.{unwrap_or}
+use Rattle.std.specs.List.{flat_map, range_with_len}
+use Rattle.std.proofs.lemmas.Bool.Decides.{nat_tests}
+use Rattle.std.proofs.lemmas.List.{length-map}
+use Rattle.rd_base.specs.Faces.{Attributes}
+use Rattle.rd_base.specs.declared.cell.Glyph.{Glyph}
+use Rattle.rd_base.specs.declared.element.Element.{Element}
+use Rattle.rd_base.specs.declared.element.Origin.{Origin}
+use Rattle.rd_objects.specs.Tables.{TableValue}
+use Rattle.rd_objects.specs.Texts.{TextValue}
+use Rattle.rd_objects.specs.declared.run.Spec.TheVariants.{Text, Width, Align}
+use Rattle.rd_text.specs.Texts.{is_newline}
+use Rattle.rd_glyphs.specs.Characters.{PartValues, glyph_elements, entry_of, elements_of}
+use Rattle.rd_glyphs.specs.Joining.{is_empty_entry}
+use Rattle.rd_glyphs.specs.Marks.{marked_glyph, joined_from, joined}
+use Rattle.rd_items.specs.Pieces.{Scene, gives_element, give_elements, string_gives, ellipsis_gives}
+use Rattle.rd_items.specs.Items.{kind_gives}
+use Rattle.rd_items.specs.declared.item.ItemKind.{ItemKind}
+use Rattle.rd_items.specs.declared.item.ItemKind.TheVariants as item
+use Rattle.rd_levels.specs.Turns.{turns_of}
+use Rattle.rd_levels.specs.declared.turn.Turn.{Turn}
+use Rattle.rd_stack.specs.Strings.{place_of, run_heads, ends_row, part_of, part_joins, part_class, part_code, shown_by, shown_at, in_order, row, row_end, rows_from}
+use Rattle.rd_stack.specs.Shown.{kind_elements, inner_elements, inner}
+use Rattle.rd_stack.specs.Lines.{ellipsis_glyphs, outer_by}
+use Rattle.rd_stack.specs.declared.part.Place.{Place}
+use Rattle.rd_stack.specs.declared.part.Part.{Part}
+use Rattle.rd_stack.specs.declared.part.Shown.{Shown}
+use Rattle.rd_stack.specs.declared.part.PartKind.{PartKind}
+use Rattle.rd_stack.specs.declared.part.PartKind.TheVariants as kind
+use Rattle.rd_blocks.proofs.Turns.{LevelsEach, total_in, is_place, each-turn, once-at-least}
+
+-- the law of characters that give an element
+abbrev pub CharactersGive : Type 0
+CharactersGive = (parts : PartValues) (ch : ℕ) (odd : Bool) (face : Attributes) (origin : Origin) → is_empty_entry (entry_of parts.table ch) ≡ false → 1 ≤ length (elements_of parts ch odd face origin)
+
+-- what a part shows gives an element
+abbrev part_gives : Scene → PartKind → Bool
+part_gives s (kind.Char c) = not (is_empty_entry (entry_of s.parts.table c))
+part_gives s (kind.Marked g) = true
+part_gives s (kind.Replaced spec) = false
+part_gives s kind.RowEnd = true
+
+abbrev some_gives : Scene → List Part → Bool
+some_gives s [] = false
+some_gives s (x ∷ xs) = part_gives s x.kind || some_gives s xs
+
+not-true : (b : Bool) → not b ≡ true → b ≡ false
+not-true true h = cc
+not-true false h = refl
+
+or-parts : (a b : Bool) → (a || b) ≡ true → (a ≡ true) ⊎ (b ≡ true)
+or-parts true b h = inl refl
+or-parts false b h = inr h
+
+or-left : (a b : Bool) → a ≡ true → (a || b) ≡ true
+or-left true b h = refl
+or-left false b h = cc
+
+or-right : (a b : Bool) → b ≡ true → (a || b) ≡ true
+or-right true b h = refl
+or-right false b h = h
+
+kind-some : CharactersGive → (s : Scene) (k : PartKind) (face : Attributes) (odd : Bool) (origin : Origin) → part_gives s k ≡ true → 1 ≤ length (kind_elements s k face odd origin)
+kind-some law s (kind.Char c) face odd origin h = law s.parts c odd face origin (not-true (is_empty_entry (entry_of s.parts.table c)) h)
+kind-some law s (kind.Marked g) face odd origin h = omega arith
+kind-some law s (kind.Replaced spec) face odd origin h = absurd (let q : false ≡ true = h in cc)
+kind-some law s kind.RowEnd face odd origin h = omega arith
+
+-- lists of elements, of which one has some
+
+some-front : (xs ys : List Element) → 1 ≤ length xs → 1 ≤ length (xs ++ ys)
+some-front xs ys h = let e = length-append xs ys in omega (arith, e, h)
+
+some-back : (xs ys : List Element) → 1 ≤ length ys → 1 ≤ length (xs ++ ys)
+some-back xs ys h = let e = length-append xs ys in omega (arith, e, h)
+
+either-more : (a b c : List Element) → 1 ≤ length (a ++ b) → (1 ≤ length b → 1 ≤ length c) → 1 ≤ length (a ++ c)
+either-more [] b c h k = k h
+either-more (e ∷ es) b c h k = omega arith
+
+front-more : {X : Type 0} (f : X → List Element) (xs ys : List X) → 1 ≤ length (flat_map f xs) → 1 ≤ length (flat_map f (xs ++ ys))
+front-more f [] ys h = absurd (omega (arith, h))
+front-more f (x ∷ xs) ys h = either-more (f x) (flat_map f xs) (flat_map f (xs ++ ys)) h (front-more f xs ys)
+
+back-more : {X : Type 0} (f : X → List Element) (xs ys : List X) → 1 ≤ length (flat_map f ys) → 1 ≤ length (flat_map f (xs ++ ys))
+back-more f [] ys h = h
+back-more f (x ∷ xs) ys h = some-back (f x) (flat_map f (xs ++ ys)) (back-more f xs ys h)
+
+-- a part of a row in its turn
+
+same-place : (k i : ℕ) → nat_eq k i ≡ true → i ≡ k
+same-place k i h = grind (arith, nat_tests)
+
+turn-by : {X : Type 0} (b : Bool) (f : X → List Element) (g : Turn → List X) (k : ℕ) (t : Turn) (ts : List Turn) → nat_eq k t.index ≡ b → 1 ≤ cond b 1 0 + total_in (is_place k) ts
+    → ((t : Turn) → t.index ≡ k → 1 ≤ length (flat_map f (g t))) → (1 ≤ total_in (is_place k) ts → 1 ≤ length (flat_map f (flat_map g ts))) → 1 ≤ length (flat_map f (g t ++ flat_map g ts))
+turn-by true f g k t ts h there some later = front-more f (g t) (flat_map g ts) (some t (same-place k t.index h))
+turn-by false f g k t ts h there some later = back-more f (g t) (flat_map g ts) (later (omega (arith, there)))
+
+turn-some : {X : Type 0} (f : X → List Element) (g : Turn → List X) (k : ℕ) (ts : List Turn) → 1 ≤ total_in (is_place k) ts
+    → ((t : Turn) → t.index ≡ k → 1 ≤ length (flat_map f (g t))) → 1 ≤ length (flat_map f (flat_map g ts))
+turn-some f g k [] there some = absurd (omega (arith, there))
+turn-some f g k (t ∷ ts) there some = turn-by (nat_eq k t.index) f g k t ts refl there some (λ h. turn-some f g k ts h some)
+
+part-at : CharactersGive → (s : Scene) (origin : Origin) (xs : List Part) (x : Part) (t : Turn) → slice_get xs t.index ≡ Some x → part_gives s x.kind ≡ true
+    → 1 ≤ length (flat_map (inner_elements s origin) (shown_at xs t))
+part-at law s origin xs x t at gives =
+    subst (λ (o : Option Part). 1 ≤ length (flat_map (inner_elements s origin) (shown_by t.odd o))) (sym at)
+    (some-front (kind_elements s x.kind x.face t.odd origin) [] (kind-some law s x.kind x.face t.odd origin gives))
+
+-- the place of a part that gives an element
+record GivesAt (s : Scene) (xs : List Part) : Type 0 where
+  place : ℕ
+  part : Part
+  at : slice_get xs place ≡ Some part
+  within : place < length xs
+  gives : part_gives s part.kind ≡ true
+
+gives-by : (s : Scene) (x : Part) (xs : List Part) → (part_gives s x.kind ≡ true) ⊎ (some_gives s xs ≡ true) → (some_gives s xs ≡ true → GivesAt s xs) → GivesAt s (x ∷ xs)
+gives-by s x xs (inl h) later = record { place = 0; part = x; at = refl; within = omega arith; gives = h }
+gives-by s x xs (inr h) later =
+    let rest = later h in
+    let below = rest.within in
+    record { place = suc rest.place; part = rest.part; at = rest.at; within = omega (arith, below); gives = rest.gives }
+
+gives-at : (s : Scene) (xs : List Part) → some_gives s xs ≡ true → GivesAt s xs
+gives-at s [] h = absurd (let q : false ≡ true = h in cc)
+gives-at s (x ∷ xs) h = gives-by s x xs (or-parts (part_gives s x.kind) (some_gives s xs) h) (gives-at s xs)
+
+order-some : LevelsEach → CharactersGive → (s : Scene) (base : ℕ) (origin : Origin) (xs : List Part) → some_gives s xs ≡ true → 1 ≤ length (flat_map (inner_elements s origin) (in_order s base xs))
+order-some levels law s base origin xs h =
+    let found = gives-at s xs h in
+    let turns = turns_of s.brackets s.parts.settings.reorder base (map part_class xs) (map part_code xs) in
+    let size : length (map part_class xs) ≡ length xs = length-map xs part_class in
+    let within = found.within in
+    let there : 1 ≤ total_in (is_place found.place) turns =
+    let each = each-turn levels s.brackets s.parts.settings.reorder base (map part_class xs) (map part_code xs) (is_place found.place) in
+    let once = once-at-least found.place 0 (length (map part_class xs)) (omega arith) (omega (arith, size, within)) in
+    omega (arith, each, once) in
+    turn-some (inner_elements s origin) (shown_at xs) found.place turns there
+    (λ t same. part-at law s origin xs found.part t (ap (slice_get xs) same ∙ found.at) found.gives)
+
+-- marks that join take no part away without another that gives an element
+
+held-gives : (s : Scene) (held x : Part) (m : Option Glyph) (rest : List Part)
+    → (part_gives s held.kind ≡ true) ⊎ ((part_gives s x.kind || some_gives s rest) ≡ true)
+    → ((y : Part) → (part_gives s y.kind ≡ true) ⊎ (some_gives s rest ≡ true) → some_gives s (joined_from part_joins y rest) ≡ true)
+    → some_gives s ((if is_some (option_map (λ glyph. part_joins.grown held glyph x) m) then [] else held ∷ []) ++ joined_from part_joins (unwrap_or (option_map (λ glyph. part_joins.grown held glyph x) m) x) rest) ≡ true
+held-gives s held x (Some g) rest h later = later (part_joins.grown held g x) (inl refl)
+held-gives s held x None rest (inl h) later = or-left (part_gives s held.kind) (some_gives s (joined_from part_joins x rest)) h
+held-gives s held x None rest (inr h) later = or-right (part_gives s held.kind) (some_gives s (joined_from part_joins x rest)) (later x (or-parts (part_gives s x.kind) (some_gives s rest) h))
+
+joined_from-gives : (s : Scene) (held : Part) (xs : List Part) → (part_gives s held.kind ≡ true) ⊎ (some_gives s xs ≡ true) → some_gives s (joined_from part_joins held xs) ≡ true
+joined_from-gives s held [] (inl h) = or-left (part_gives s held.kind) false h
+joined_from-gives s held [] (inr h) = absurd (let q : false ≡ true = h in cc)
+joined_from-gives s held (x ∷ xs) h = held-gives s held x (marked_glyph (part_joins.base held) (part_joins.mark x)) xs h (λ y. joined_from-gives s y xs)
+
+joined-gives : (s : Scene) (xs : List Part) → some_gives s xs ≡ true → some_gives s (joined part_joins xs) ≡ true
+joined-gives s [] h = h
+joined-gives s (x ∷ xs) h = joined_from-gives s x xs (or-parts (part_gives s x.kind) (some_gives s xs) h)
+
+append-by : (s : Scene) (x : Part) (xs ys : List Part) → (part_gives s x.kind ≡ true) ⊎ (some_gives s xs ≡ true) → (some_gives s xs ≡ true → some_gives s (xs ++ ys) ≡ true) → some_gives s (x ∷ (xs ++ ys)) ≡ true
+append-by s x xs ys (inl h) later = or-left (part_gives s x.kind) (some_gives s (xs ++ ys)) h
+append-by s x xs ys (inr h) later = or-right (part_gives s x.kind) (some_gives s (xs ++ ys)) (later h)
+
+gives-append : (s : Scene) (xs ys : List Part) → (some_gives s xs ≡ true) ⊎ (some_gives s ys ≡ true) → some_gives s (xs ++ ys) ≡ true
+gives-append s [] ys (inl h) = absurd (let q : false ≡ true = h in cc)
+gives-append s [] ys (inr h) = h
+gives-append s (x ∷ xs) ys (inl h) = append-by s x xs ys (or-parts (part_gives s x.kind) (some_gives s xs) h) (λ k. gives-append s xs ys (inl k))
+gives-append s (x ∷ xs) ys (inr h) = or-right (part_gives s x.kind) (some_gives s (xs ++ ys)) (gives-append s xs ys (inr h))
+
+-- the rows of a string whose display runs are not used
+
+abbrev bare_place : TextValue → Attributes → ℕ → Place
+bare_place text under i = place_of false text under i
+
+bare-heads : (text : TextValue) (under : Attributes) (is : List ℕ) → run_heads None (map (bare_place text under) is) ≡ map (bare_place text under) is
+bare-heads text under [] = refl
+bare-heads text under (i ∷ is) = ap (λ (ps : List Place). bare_place text under i ∷ ps) (bare-heads text under is)
+
+-- characters from a place on
+abbrev char_gives : Scene → TextValue → List ℕ → Bool
+char_gives s text [] = false
+char_gives s text (i ∷ is) = gives_element s.parts.table (get_or text.chars i 0) || char_gives s text is
+
+rows-by : (b : Bool) (f : Shown → List Element) (xs ys : List Shown) → (b ≡ true → 1 ≤ length (flat_map f xs)) → (b ≡ false → 1 ≤ length (flat_map f ys)) → 1 ≤ length (flat_map f (if b then xs else ys))
+rows-by true f xs ys h k = h refl
+rows-by false f xs ys h k = k refl
+
+newline-not : (newline gives : Bool) → newline ≡ false → (newline || gives) ≡ true → gives ≡ true
+newline-not true gives e h = cc
+newline-not false gives e h = h
+
+go-by : (s : Scene) (xs : List Part) (text : TextValue) (under : Attributes) (i : ℕ) (is : List ℕ) → ends_row (bare_place text under i) ≡ false
+    → (gives_element s.parts.table (get_or text.chars i 0) ≡ true) ⊎ (char_gives s text is ≡ true) → (some_gives s (xs ++ part_of s (bare_place text under i) ∷ []) ≡ true) ⊎ (char_gives s text is ≡ true)
+go-by s xs text under i is e (inr h) = inr h
+go-by s xs text under i is e (inl h) =
+    inl (gives-append s xs (part_of s (bare_place text under i) ∷ []) (inr (or-left (not (is_empty_entry (entry_of s.parts.table (get_or text.chars i 0)))) false
+    (newline-not (is_newline (get_or text.chars i 0)) (not (is_empty_entry (entry_of s.parts.table (get_or text.chars i 0)))) e h))))
+
+-- a place that ends no row goes to the parts
+go-on : (s : Scene) (xs : List Part) (text : TextValue) (under : Attributes) (i : ℕ) (is : List ℕ) → ends_row (bare_place text under i) ≡ false
+    → (some_gives s xs ≡ true) ⊎ (char_gives s text (i ∷ is) ≡ true) → (some_gives s (xs ++ part_of s (bare_place text under i) ∷ []) ≡ true) ⊎ (char_gives s text is ≡ true)
+go-on s xs text under i is e (inl h) = inl (gives-append s xs (part_of s (bare_place text under i) ∷ []) (inl h))
+go-on s xs text under i is e (inr h) = go-by s xs text under i is e (or-parts (gives_element s.parts.table (get_or text.chars i 0)) (char_gives s text is) h)
+
+rows-some : LevelsEach → CharactersGive → (s : Scene) (base : ℕ) (origin : Origin) (text : TextValue) (under : Attributes) (xs : List Part) (is : List ℕ)
+    → (some_gives s xs ≡ true) ⊎ (char_gives s text is ≡ true) → 1 ≤ length (flat_map (inner_elements s origin) (rows_from s base xs (map (bare_place text under) is)))
+rows-some levels law s base origin text under xs [] (inl h) = order-some levels law s base origin (joined part_joins xs) (joined-gives s xs h)
+rows-some levels law s base origin text under xs [] (inr h) = absurd (let q : false ≡ true = h in cc)
+rows-some levels law s base origin text under xs (i ∷ is) h =
+    let p = bare_place text under i in
+    rows-by (ends_row p) (inner_elements s origin) (row s base xs ++ row_end p.face ∷ rows_from s base [] (map (bare_place text under) is)) (rows_from s base (xs ++ part_of s p ∷ []) (map (bare_place text under) is))
+    (λ e. back-more (inner_elements s origin) (row s base xs) (row_end p.face ∷ rows_from s base [] (map (bare_place text under) is)) (omega arith))
+    (λ e. rows-some levels law s base origin text under (xs ++ part_of s p ∷ []) is (go-on s xs text under i is e h))
+
+get-behind : (front : List ℕ) (c : ℕ) (cs : List ℕ) → get_or (front ++ c ∷ cs) (length front) 0 ≡ c
+get-behind [] c cs = refl
+get-behind (x ∷ xs) c cs = get-behind xs c cs
+
+get-at : (front : List ℕ) (c : ℕ) (cs all : List ℕ) → all ≡ front ++ c ∷ cs → get_or all (length front) 0 ≡ c
+get-at front c cs all is = ap (λ xs. get_or xs (length front) 0) is ∙ get-behind front c cs
+
+size-more : (front : List ℕ) (c : ℕ) → length (front ++ c ∷ []) ≡ length front + 1
+size-more front c = length-append front (c ∷ [])
+
+one-behind : (front : List ℕ) (c : ℕ) (cs : List ℕ) → front ++ c ∷ cs ≡ (front ++ c ∷ []) ++ cs
+one-behind [] c cs = refl
+one-behind (x ∷ xs) c cs = ap (λ l. x ∷ l) (one-behind xs c cs)
+
+chars-by : (s : Scene) (text : TextValue) (c : ℕ) (cs : List ℕ) (n : ℕ) → get_or text.chars n 0 ≡ c → (gives_element s.parts.table c ≡ true) ⊎ (give_elements s.parts.table cs ≡ true)
+    → (give_elements s.parts.table cs ≡ true → char_gives s text (range_with_len (n + 1) (length cs)) ≡ true) → char_gives s text (n ∷ range_with_len (n + 1) (length cs)) ≡ true
+chars-by s text c cs n is (inl h) later = or-left (gives_element s.parts.table (get_or text.chars n 0)) (char_gives s text (range_with_len (n + 1) (length cs))) (ap (gives_element s.parts.table) is ∙ h)
+chars-by s text c cs n is (inr h) later = or-right (gives_element s.parts.table (get_or text.chars n 0)) (char_gives s text (range_with_len (n + 1) (length cs))) (later h)
+
+chars-at : (s : Scene) (text : TextValue) (chars front : List ℕ) → text.chars ≡ front ++ chars → give_elements s.parts.table chars ≡ true → char_gives s text (range_with_len (length front) (length chars)) ≡ true
+chars-at s text [] front is h = h
+chars-at s text (c ∷ cs) front is h =
+    chars-by s text c cs (length front) (get-at front c cs text.chars is) (or-parts (gives_element s.parts.table c) (give_elements s.parts.table cs) h)
+    (λ k. subst (λ n. char_gives s text (range_with_len n (length cs)) ≡ true) (size-more front c) (chars-at s text cs (front ++ c ∷ []) (is ∙ one-behind front c cs) k))
+
+string-some : LevelsEach → CharactersGive → (s : Scene) (base : ℕ) (origin : Origin) (under : Attributes) (text : Option TextValue) → string_gives s.parts.table text ≡ true → 1 ≤ length (inner s base origin under text)
+string-some levels law s base origin under None h = absurd (let q : false ≡ true = h in cc)
+string-some levels law s base origin under (Some text) h =
+    let size : length text.chars ≡ length text.chars - 0 = omega arith in
+    subst (λ (ps : List Place). 1 ≤ length (flat_map (inner_elements s origin) (rows_from s base [] ps))) (sym (bare-heads text under (range_with_len 0 (length text.chars - 0))))
+    (rows-some levels law s base origin text under [] (range_with_len 0 (length text.chars - 0)) (inr (subst (λ n. char_gives s text (range_with_len 0 n) ≡ true) size (chars-at s text text.chars [] refl h))))
+
+-- what an item shows
+
+glyphs-some : (ellipsis : Option (List Glyph)) (face : Attributes) (origin : Origin) → not (is_empty_entry ellipsis) ≡ true → 1 ≤ length (glyph_elements face origin (unwrap_or ellipsis (ellipsis_glyphs None)))
+glyphs-some None face origin h = let e : 1 ≤ 3 = omega arith in e
+glyphs-some (Some []) face origin h = absurd (let q : false ≡ true = h in cc)
+glyphs-some (Some (g ∷ gs)) face origin h = omega arith
+
+ellipsis-some : (table : Option TableValue) (face : Attributes) (origin : Origin) → ellipsis_gives table ≡ true → 1 ≤ length (glyph_elements face origin (ellipsis_glyphs table))
+ellipsis-some None face origin h = let e : 1 ≤ 3 = omega arith in e
+ellipsis-some (Some table) face origin h = glyphs-some table.ellipsis face origin h
+
+pub item-some : LevelsEach → CharactersGive → (s : Scene) (base : ℕ) (k : ItemKind) (odd : Bool) (face : Attributes) (origin : Origin) → kind_gives s k ≡ true → 1 ≤ length (outer_by s base k false odd face origin)
+item-some levels law s base (item.Char c) odd face origin h = law s.parts c odd face origin (not-true (is_empty_entry (entry_of s.parts.table c)) h)
+item-some levels law s base (item.Marked g) odd face origin h = omega arith
+item-some levels law s base (item.Text n) odd face origin h = string-some levels law s base origin face (slice_get s.objects.strings n) h
+item-some levels law s base (item.Space (Text n)) odd face origin h = absurd (let q : false ≡ true = h in cc)
+item-some levels law s base (item.Space (Width n)) odd face origin h = omega arith
+item-some levels law s base (item.Space (Align n)) odd face origin h = omega arith
+item-some levels law s base item.Ellipsis odd face origin h = ellipsis-some s.parts.table face origin h
+item-some levels law s base item.Ender odd face origin h = omega arith

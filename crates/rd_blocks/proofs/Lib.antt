@@ -1,0 +1,9 @@
+mod Turns
+mod Origins
+mod Gives
+mod Within
+mod Ranges
+mod Bases
+mod Quiet
+mod Sources
+mod Steps

@@ -1,0 +1,265 @@
+-- The ranges of the items of a line are those of its block's items, in another order.
+use Rattle.std.proofs.Common.{◌≡◌, ℕ, zero, suc, ◌+◌, ◌<◌, ◌≤◌, nat_le, nat_lt, nat_eq, Bool, true, false, cond, not, ◌&&◌, List, [], ◌∷◌, ◌++◌, length, map, All, inl, inr, Option, None, Some, refl, ap, ap₂, sym, ◌∙◌, subst, arith}
+use Rattle.std.specs.Prelude.{if◌then◌else◌, slice_get, count_by}
+use Rattle.std.specs.List.{flat_map, range_with_len}
+use Rattle.std.proofs.lemmas.Bool.Decides.{nat_tests}
+use Rattle.std.proofs.lemmas.Bool.{cases_lt}
+use Rattle.std.proofs.lemmas.List.{length-map}
+use Rattle.std.proofs.lemmas.List.Elements.{All-cons, All-nil, All-append, All-tail}
+use Rattle.std.proofs.lemmas.List.Sums.{sum_by-cons}
+use Rattle.std.proofs.lemmas.Option.{get_or_from_slice_get, slice_get_within}
+use Rattle.rd_base.specs.declared.element.Element.{Element}
+use Rattle.rd_base.specs.declared.element.Origin.{Origin}
+use Rattle.rd_items.specs.Pieces.{Scene}
+use Rattle.rd_items.specs.Items.{kind_gives}
+use Rattle.rd_items.specs.Covers.{Tile, CoverWhereTheyGive}
+use Rattle.rd_items.specs.declared.item.Item.{Item}
+use Rattle.rd_levels.specs.declared.turn.Turn.{Turn}
+use Rattle.rd_matrix.specs.Held.{in_range}
+use Rattle.rd_rows.specs.Laws.{ranges_of}
+use Rattle.rd_rows.specs.Placing.{is_item}
+use Rattle.rd_stack.specs.Lines.{outer_by, outer, origin_of, item_elements, item_class, item_code, item_turns, line_of_items}
+use Rattle.rd_blocks.proofs.Turns.{LevelsEach, total, total_in, is_place, each-turn, once-at-most}
+use Rattle.rd_blocks.proofs.Origins.{AreOf, item-of}
+use Rattle.rd_blocks.proofs.Gives.{CharactersGive, item-some}
+
+abbrev pub range_of_item : Item → ℕ × ℕ
+range_of_item x = (x.from, x.to)
+
+count-cons : {X : Type 0} (p : X → Bool) (x : X) (xs : List X) → count_by p (x ∷ xs) ≡ cond (p x) 1 0 + count_by p xs
+count-cons p x xs = sum_by-cons (λ y. cond (p y) 1 0) x xs
+
+same-item : (k : ℕ) → is_item (Some k) k ≡ true
+same-item k = grind (arith, nat_tests)
+
+-- the elements of one item, with those of others behind
+
+ranges-behind : (origin : Origin) (es rest : List Element) → AreOf origin es → ranges_of (Some origin.item) (es ++ rest) ≡ ranges_of (Some origin.item) rest
+ranges-behind origin [] rest own = refl
+ranges-behind origin (e ∷ es) rest own =
+    let here : e.origin ≡ origin = own 0 e (omega arith) in
+    rw here (rw (same-item origin.item) (ranges-behind origin es rest (All-tail (λ (x : Element). x.origin ≡ origin) e es own)))
+
+ranges-first : (before : Option ℕ) (origin : Origin) (e : Element) (es rest : List Element) → is_item before origin.item ≡ false → AreOf origin (e ∷ es)
+    → ranges_of before ((e ∷ es) ++ rest) ≡ (origin.from, origin.to) ∷ ranges_of (Some origin.item) rest
+ranges-first before origin e es rest other own =
+    let here : e.origin ≡ origin = own 0 e (omega arith) in
+    rw here (rw other (ap (λ (rs : List (ℕ × ℕ)). (origin.from, origin.to) ∷ rs) (ranges-behind origin es rest (All-tail (λ (x : Element). x.origin ≡ origin) e es own))))
+
+-- counted by what each turn gives
+
+abbrev pub hit_by : (ℕ × ℕ → Bool) → Option Item → ℕ
+hit_by q None = 0
+hit_by q (Some x) = cond (q (range_of_item x)) 1 0
+
+abbrev pub hit : (ℕ × ℕ → Bool) → List Item → ℕ → ℕ
+hit q items i = hit_by q (slice_get items i)
+
+-- no item behind has the place of the one before
+abbrev IsBehind : Option ℕ → List Turn → Type 0
+IsBehind None ts = Unit {0}
+IsBehind (Some k) ts = total_in (is_place k) ts ≡ 0
+
+abbrev IsOnce : List Turn → Type 0
+IsOnce ts = (k : ℕ) → total_in (is_place k) ts ≤ 1
+
+place-self : (k : ℕ) → is_place k k ≡ 1
+place-self k = let b : nat_eq k k ≡ true = grind (arith, nat_tests) in rw b refl
+
+once-behind : (t : Turn) (ts : List Turn) → IsOnce (t ∷ ts) → total_in (is_place t.index) ts ≡ 0
+once-behind t ts once = let all = once t.index in let self = place-self t.index in omega (arith, all, self)
+
+once-rest : (t : Turn) (ts : List Turn) → IsOnce (t ∷ ts) → IsOnce ts
+once-rest t ts once = λ k. let all = once k in omega (arith, all)
+
+other-by : (b : Bool) (k i rest : ℕ) → nat_eq k i ≡ b → cond b 1 0 + rest ≡ 0 → nat_eq k i ≡ false
+other-by true k i rest h none = absurd (omega (arith, none))
+other-by false k i rest h none = h
+
+other-item : (before : Option ℕ) (t : Turn) (ts : List Turn) → IsBehind before (t ∷ ts) → is_item before t.index ≡ false
+other-item None t ts behind = refl
+other-item (Some k) t ts behind = other-by (nat_eq k t.index) k t.index (total_in (is_place k) ts) refl behind
+
+behind-rest : (before : Option ℕ) (t : Turn) (ts : List Turn) → IsBehind before (t ∷ ts) → IsBehind before ts
+behind-rest None t ts behind = tt
+behind-rest (Some k) t ts behind = omega (arith, behind)
+
+module _ (s : Scene) (base : ℕ) (q : ℕ × ℕ → Bool) where
+  -- an item that this tests has an element
+  abbrev pub HasElements : Item → Type 0
+  HasElements x = (odd : Bool) (origin : Origin) → q (range_of_item x) ≡ true → 1 ≤ length (outer_by s base x.kind x.overlay odd x.face origin)
+
+  abbrev one_if : Bool → ℕ
+  one_if b = cond b 1 0
+
+  none-hit : (b : Bool) (n : ℕ) → (b ≡ true → 1 ≤ n) → n ≡ 0 → one_if b ≡ 0
+  none-hit true n h none = let one = h refl in absurd (omega (arith, one, none))
+  none-hit false n h none = refl
+
+  plus-none : (a n : ℕ) → a ≡ 0 → n ≡ a + n
+  plus-none a n h = omega (arith, h)
+
+  counted-by : (before : Option ℕ) (t : Turn) (x : Item) (es rest : List Element) (n : ℕ) → is_item before t.index ≡ false → AreOf (origin_of t.index x) es → (q (range_of_item x) ≡ true → 1 ≤ length es)
+      → (es ≡ [] → count_by q (ranges_of before rest) ≡ n) → count_by q (ranges_of (Some t.index) rest) ≡ n
+      → count_by q (ranges_of before (es ++ rest)) ≡ cond (q (range_of_item x)) 1 0 + n
+  counted-by before t x [] rest n other own some same later =
+      same refl ∙ plus-none (cond (q (range_of_item x)) 1 0) n (none-hit (q (range_of_item x)) 0 some refl)
+  counted-by before t x (e ∷ es) rest n other own some same later =
+      ap (count_by q) (ranges-first before (origin_of t.index x) e es rest other own)
+      ∙ count-cons q (range_of_item x) (ranges_of (Some t.index) rest)
+      ∙ ap (λ m. cond (q (range_of_item x)) 1 0 + m) later
+
+  counted-turn : (before : Option ℕ) (t : Turn) (o : Option Item) (rest : List Element) (n : ℕ) → is_item before t.index ≡ false → ((x : Item) → o ≡ Some x → HasElements x)
+      → count_by q (ranges_of before rest) ≡ n → count_by q (ranges_of (Some t.index) rest) ≡ n
+      → count_by q (ranges_of before (outer s base t o ++ rest)) ≡ hit_by q o + n
+  counted-turn before t None rest n other some same later = same ∙ plus-none 0 n refl
+  counted-turn before t (Some x) rest n other some same later =
+      counted-by before t x (outer_by s base x.kind x.overlay t.odd x.face (origin_of t.index x)) rest n other
+      (item-of (origin_of t.index x) s base x.kind x.overlay t.odd x.face)
+      (λ h. some x refl t.odd (origin_of t.index x) h) (λ e. same) later
+
+  counted : (items : List Item) (before : Option ℕ) (ts : List Turn) → ((i : ℕ) (x : Item) → slice_get items i ≡ Some x → HasElements x) → IsOnce ts → IsBehind before ts
+      → count_by q (ranges_of before (flat_map (item_elements s base items) ts)) ≡ total_in (hit q items) ts
+  counted items before [] some once behind = refl
+  counted items before (t ∷ ts) some once behind =
+      counted-turn before t (slice_get items t.index) (flat_map (item_elements s base items) ts) (total_in (hit q items) ts) (other-item before t ts behind)
+      (λ x at. some t.index x at)
+      (counted items before ts some (once-rest t ts once) (behind-rest before t ts behind))
+      (counted items (Some t.index) ts some (once-rest t ts once) (once-behind t ts once))
+
+hit-behind : (q : ℕ × ℕ → Bool) (x : Item) (xs : List Item) (i : ℕ) → hit q (x ∷ xs) (1 + i) ≡ hit q xs (0 + i)
+hit-behind q x xs i =
+    let one : 1 + i ≡ suc i = omega arith in
+    let none : i ≡ 0 + i = omega arith in
+    ap (hit q (x ∷ xs)) one ∙ ap (hit q xs) none
+
+-- counted by items
+
+total-same : (f g : ℕ → ℕ) (from to n : ℕ) → ((i : ℕ) → f (from + i) ≡ g (to + i)) → total f (range_with_len from n) ≡ total g (range_with_len to n)
+total-same f g from to zero h = refl
+total-same f g from to (suc n) h =
+    let here : f from ≡ g to = subst (λ k. f k ≡ g to) (let e : from + 0 ≡ from = omega arith in e) (subst (λ k. f (from + 0) ≡ g k) (let e : to + 0 ≡ to = omega arith in e) (h 0)) in
+    let rest = total-same f g (from + 1) (to + 1) n (λ i. subst (λ k. f k ≡ g (to + 1 + i)) (let e : from + (1 + i) ≡ from + 1 + i = omega arith in e) (subst (λ k. f (from + (1 + i)) ≡ g k) (let e : to + (1 + i) ≡ to + 1 + i = omega arith in e) (h (1 + i)))) in
+    ap₂ (λ (a b : ℕ). a + b) here rest
+
+hits : (q : ℕ × ℕ → Bool) (items : List Item) → total (hit q items) (range_with_len 0 (length items)) ≡ count_by q (map range_of_item items)
+hits q [] = refl
+hits q (x ∷ xs) =
+    ap (λ n. cond (q (range_of_item x)) 1 0 + n) (total-same (hit q (x ∷ xs)) (hit q xs) 1 0 (length xs) (λ i. hit-behind q x xs i) ∙ hits q xs)
+    ∙ sym (count-cons q (range_of_item x) (map range_of_item xs))
+
+-- items that tile
+
+tile-above : (from to k : ℕ) → from ≤ k → k < to → in_range k (from, to) ≡ true
+tile-above from to k low high = grind (arith, nat_tests)
+
+tile-below : (from to k : ℕ) → k < from → in_range k (from, to) ≡ false
+tile-below from to k low = grind (arith, nat_tests)
+
+tile-past : (from to k : ℕ) → to ≤ k → in_range k (from, to) ≡ false
+tile-past from to k high = grind (arith, nat_tests)
+
+tile-empty : (b : Bool) (from to k : ℕ) → nat_le from k ≡ b → from ≡ to → (b && nat_lt k to) ≡ false
+tile-empty true from to k h e = grind (arith, nat_tests)
+tile-empty false from to k h e = refl
+
+pub tiled-none : (k since to : ℕ) (items : List Item) → Tile since to items → k < since → count_by (in_range k) (map range_of_item items) ≡ 0
+tiled-none k since to [] tile low = refl
+tiled-none k since to (x ∷ xs) (inl empty) low =
+    let none = tile-empty (nat_le x.from k) x.from x.to k refl empty.0 in
+    count-cons (in_range k) (range_of_item x) (map range_of_item xs) ∙ ap₂ (λ (b : Bool) (n : ℕ). cond b 1 0 + n) none (tiled-none k since to xs empty.1 low)
+tiled-none k since to (x ∷ xs) (inr next) low =
+    let start = next.0 in
+    let some = next.1 in
+    let none = tile-below x.from x.to k (omega (arith, start, low)) in
+    count-cons (in_range k) (range_of_item x) (map range_of_item xs) ∙ ap₂ (λ (b : Bool) (n : ℕ). cond b 1 0 + n) none (tiled-none k x.to to xs next.2 (omega (arith, start, some, low)))
+
+pub tiled-once : (k since to : ℕ) (items : List Item) → Tile since to items → since ≤ k → k < to → count_by (in_range k) (map range_of_item items) ≡ 1
+tiled-once k since to [] tile low high = absurd (omega (arith, tile, low, high))
+tiled-once k since to (x ∷ xs) (inl empty) low high =
+    let none = tile-empty (nat_le x.from k) x.from x.to k refl empty.0 in
+    count-cons (in_range k) (range_of_item x) (map range_of_item xs) ∙ ap₂ (λ (b : Bool) (n : ℕ). cond b 1 0 + n) none (tiled-once k since to xs empty.1 low high)
+tiled-once k since to (x ∷ xs) (inr next) low high =
+    let start = next.0 in
+    count-cons (in_range k) (range_of_item x) (map range_of_item xs)
+    ∙ (elim (cases_lt k x.to) as (λ _. cond (in_range k (range_of_item x)) 1 0 + count_by (in_range k) (map range_of_item xs) ≡ 1) [
+      | inl here ↦ let one = tile-above x.from x.to k (omega (arith, start, low)) here in let none = tiled-none k x.to to xs next.2 here in ap₂ (λ (b : Bool) (n : ℕ). cond b 1 0 + n) one none
+      | inr later ↦ let none = tile-past x.from x.to k (omega (arith, later)) in ap₂ (λ (b : Bool) (n : ℕ). cond b 1 0 + n) none (tiled-once k x.to to xs next.2 (omega (arith, later)) high)
+    ])
+
+-- each range begins where it ends or before, and ends within the block
+abbrev pub LiesWithin : ℕ → ℕ × ℕ → Type 0
+LiesWithin size r = (r.0 ≤ r.1) × (r.1 ≤ size)
+
+tile-order : (since to : ℕ) (items : List Item) → Tile since to items → All (λ (x : Item). x.from ≤ x.to) items
+tile-order since to [] tile = All-nil (λ (x : Item). x.from ≤ x.to)
+tile-order since to (x ∷ xs) (inl empty) = let same = empty.0 in All-cons (λ (x : Item). x.from ≤ x.to) x xs (omega (arith, same)) (tile-order since to xs empty.1)
+tile-order since to (x ∷ xs) (inr next) = let start = next.0 in let some = next.1 in All-cons (λ (x : Item). x.from ≤ x.to) x xs (omega (arith, start, some)) (tile-order x.to to xs next.2)
+
+all-at : (P : Item → Type 0) (xs : List Item) (i : ℕ) (x : Item) → All P xs → slice_get xs i ≡ Some x → P x
+all-at P xs i x all at = subst P (get_or_from_slice_get xs i x x at) (all i x (slice_get_within xs i x at))
+
+module _ (size : ℕ) where
+  abbrev LiesIn : Element → Type 0
+  LiesIn e = LiesWithin size (e.origin.from, e.origin.to)
+
+  range-in : (b : Bool) (r : ℕ × ℕ) (rs : List (ℕ × ℕ)) → LiesWithin size r → All (LiesWithin size) rs → All (LiesWithin size) ((if b then [] else r ∷ []) ++ rs)
+  range-in true r rs h all = all
+  range-in false r rs h all = All-cons (LiesWithin size) r rs h all
+
+  ranges-in : (before : Option ℕ) (es : List Element) → All LiesIn es → All (LiesWithin size) (ranges_of before es)
+  ranges-in before [] all = All-nil (LiesWithin size)
+  ranges-in before (e ∷ es) all =
+      range-in (is_item before e.origin.item) (e.origin.from, e.origin.to) (ranges_of (Some e.origin.item) es) (all 0 e (omega arith)) (ranges-in (Some e.origin.item) es (All-tail LiesIn e es all))
+
+  turn-in : (s : Scene) (base : ℕ) (t : Turn) (o : Option Item) → ((x : Item) → o ≡ Some x → LiesWithin size (range_of_item x)) → All LiesIn (outer s base t o)
+  turn-in s base t None each = All-nil LiesIn
+  turn-in s base t (Some x) each =
+      let own = item-of (origin_of t.index x) s base x.kind x.overlay t.odd x.face in
+      λ k d inside. subst (λ (o : Origin). LiesWithin size (o.from, o.to)) (sym (own k d inside)) (each x refl)
+
+  turns-in : (s : Scene) (base : ℕ) (items : List Item) (ts : List Turn) → All (λ (x : Item). LiesWithin size (range_of_item x)) items → All LiesIn (flat_map (item_elements s base items) ts)
+  turns-in s base items [] all = All-nil LiesIn
+  turns-in s base items (t ∷ ts) all =
+      All-append LiesIn (item_elements s base items t) (flat_map (item_elements s base items) ts)
+      (turn-in s base t (slice_get items t.index) (λ x at. all-at (λ (y : Item). LiesWithin size (range_of_item y)) items t.index x all at)) (turns-in s base items ts all)
+
+-- what a range that holds an offset says of its item
+
+holds-less : (k : ℕ) (r : ℕ × ℕ) → in_range k r ≡ true → r.0 < r.1
+holds-less k r h = grind (arith, nat_tests)
+
+and-parts : (a b c : Bool) → a ≡ true → a ≡ (not b && c) → (b ≡ false) × (c ≡ true)
+and-parts true true c h e = absurd (let q : true ≡ false = e in cc)
+and-parts true false c h e = (refl, sym e)
+and-parts false b c h e = absurd (let q : false ≡ true = h in cc)
+
+less-true : (a b : ℕ) → a < b → nat_lt a b ≡ true
+less-true a b h = grind (arith, nat_tests)
+
+pub item-has : LevelsEach → CharactersGive → (s : Scene) (base k : ℕ) (x : Item) → nat_lt x.from x.to ≡ (not x.overlay && kind_gives s x.kind) → HasElements s base (in_range k) x
+item-has levels law s base k x covers = λ odd origin held.
+    let less = less-true x.from x.to (holds-less k (range_of_item x) held) in
+    let parts = and-parts (nat_lt x.from x.to) x.overlay (kind_gives s x.kind) less covers in
+    subst (λ (b : Bool). 1 ≤ length (outer_by s base x.kind b odd x.face origin)) (sym parts.0)
+    (item-some levels law s base x.kind odd x.face origin parts.1)
+
+-- the items of a line: each offset is in the range of exactly one
+pub line-once : LevelsEach → CharactersGive → (s : Scene) (base size k : ℕ) (items : List Item) → Tile 0 size items → CoverWhereTheyGive s items → k < size
+    → count_by (in_range k) (ranges_of None (line_of_items s base items)) ≡ 1
+line-once levels law s base size k items tile give below =
+    let ts = item_turns s base items in
+    let classes = map item_class items in
+    let codes = map item_code items in
+    let each = each-turn levels s.brackets s.parts.settings.reorder base classes codes in
+    let once : (i : ℕ) → total_in (is_place i) ts ≤ 1 = λ i. let all = each (is_place i) in let most = once-at-most i 0 (length classes) in omega (arith, all, most) in
+    counted s base (in_range k) items None ts (λ i x at. item-has levels law s base k x (all-at (λ (y : Item). nat_lt y.from y.to ≡ (not y.overlay && kind_gives s y.kind)) items i x give at)) once tt
+    ∙ each (hit (in_range k) items)
+    ∙ ap (λ n. total (hit (in_range k) items) (range_with_len 0 n)) (length-map items item_class)
+    ∙ hits (in_range k) items
+    ∙ tiled-once k 0 size items tile (omega arith) below
+
+pub line-within : (s : Scene) (base size : ℕ) (items : List Item) → Tile 0 size items → All (λ (x : Item). x.to ≤ size) items → All (LiesWithin size) (ranges_of None (line_of_items s base items))
+line-within s base size items tile ends =
+    let order = tile-order 0 size items tile in
+    ranges-in size None (line_of_items s base items) (turns-in size s base items (item_turns s base items) (λ k d inside. (order k d inside, ends k d inside)))

@@ -1,0 +1,174 @@
+-- Each buffer is a source of blocks.
+use Rattle.std.proofs.Common.{◌≡◌, ℕ, zero, suc, ◌+◌, ◌-◌, ◌<◌, ◌≤◌, nat_le, nat_lt, Bool, true, false, cond, IsTrue, List, [], ◌∷◌, length, get_or, map, All, None, Some, refl, ap, sym, ◌∙◌, subst, arith}
+use Rattle.std.specs.Prelude.{count_by, slice_get}
+use Rattle.std.proofs.lemmas.Bool.Decides.{nat_tests}
+use Rattle.std.proofs.lemmas.List.Elements.{All-map, All-cons, All-nil, All-tail}
+use Rattle.std.proofs.lemmas.List.Sums.{sum_by-cons}
+use Rattle.rd_base.specs.Elements.{ends_once}
+use Rattle.rd_base.specs.declared.element.Element.{Element}
+use Rattle.rd_text.specs.Texts.{IsText}
+use Rattle.rd_ucd.specs.Data.{Data}
+use Rattle.rd_ucd.specs.declared.spans.Span.{Span}
+use Rattle.rd_objects.specs.Things.{ObjectLists}
+use Rattle.rd_props.specs.Buffers.{BufferValue}
+use Rattle.rd_props.specs.Seen.{Seen}
+use Rattle.rd_items.specs.Blocks.{blocks_of, Adjoin, IsBlock}
+use Rattle.rd_items.specs.Readings.{reading, IsReading}
+use Rattle.rd_items.specs.Pieces.{Scene, scene_in}
+use Rattle.rd_items.specs.Items.{items_of}
+use Rattle.rd_items.specs.Covers.{Tile, CoverWhereTheyGive}
+use Rattle.rd_matrix.specs.Blocks.{StandFrom, first_start, end_from}
+use Rattle.rd_matrix.specs.Columns.{covers}
+use Rattle.rd_matrix.specs.Held.{in_range}
+use Rattle.rd_matrix.specs.Sources.{IsSource, AreRowsOf}
+use Rattle.rd_matrix.specs.declared.block.Block.{Block}
+use Rattle.rd_rows.specs.declared.begin.Begin.{Begin}
+use Rattle.rd_rows.specs.declared.cutting.Cutting.{Cutting}
+use Rattle.rd_rows.specs.Laws.{seen_rows, ends_last, begins_of, range_of, ranges_of}
+use Rattle.rd_rows.specs.Leads.{HasQuietLeads}
+use Rattle.rd_rows.specs.Rows.{rows_of}
+use Rattle.rd_rows.specs.Shapes.{ShapeValues}
+use Rattle.rd_stack.specs.Lines.{line_elements}
+use Rattle.rd_blocks.specs.Bases.{block_in, blocks_in}
+use Rattle.rd_blocks.specs.Rows.{block_cutting, block_rows}
+use Rattle.rd_blocks.specs.Sources.{text_source}
+use Rattle.rd_blocks.proofs.Turns.{LevelsEach}
+use Rattle.rd_blocks.proofs.Gives.{CharactersGive}
+use Rattle.rd_blocks.proofs.Within.{items-within}
+use Rattle.rd_blocks.proofs.Ranges.{LiesWithin, line-once, line-within}
+use Rattle.rd_blocks.proofs.Bases.{base-low}
+use Rattle.rd_blocks.proofs.Quiet.{PrefixesOpen, quiet-cutting}
+
+-- what lower layers promise
+pub record Lower : Type 0 where
+  pub levels : LevelsEach
+  pub characters : CharactersGive
+  pub prefixes : PrefixesOpen
+  pub listed : (s : BufferValue) → s.text.begin ≤ s.text.end → (k : ℕ) (b : ℕ × ℕ) → slice_get (blocks_of s) k ≡ Some b → IsBlock s b.0 b.1
+  pub adjoin : (s : BufferValue) → s.text.begin ≤ s.text.end → Adjoin s.text.begin (s.text.end + 1) (blocks_of s)
+  pub read : (s : BufferValue) (objects : ObjectLists) (p : ℕ) → p ≤ s.text.end → IsReading s.settings.invisible (reading s objects p)
+  pub size : (s : BufferValue) (objects : ObjectLists) (from to : ℕ) → IsBlock s from to → from + length (reading s objects from) ≡ to
+  pub tile : (scene : Scene) (es : List Seen) → IsReading scene.parts.settings.invisible es → Tile 0 (length es) (items_of scene es)
+  pub give : (scene : Scene) (es : List Seen) → IsReading scene.parts.settings.invisible es → CoverWhereTheyGive scene (items_of scene es)
+  pub ends : (scene : Scene) (base : ℕ) (es : List Seen) → IsReading scene.parts.settings.invisible es → ends_once (line_elements scene base es) ≡ true
+  pub last : (c : Cutting) (es : List Element) → HasQuietLeads c → IsTrue (ends_once es) → IsTrue (ends_last (seen_rows (rows_of c es)))
+  pub begun : (c : Cutting) (es : List Element) → HasQuietLeads c → IsTrue (ends_once es) → map range_of (begins_of (seen_rows (rows_of c es))) ≡ ranges_of None es
+
+-- the blocks
+
+some-is : {X : Type 0} (a b : X) → Some a ≡ Some b → a ≡ b
+some-is a b h = cc
+
+true-is : (b : Bool) → b ≡ true → IsTrue b
+true-is true h = refl
+true-is false h = cc
+
+later-less : (from to : ℕ) (c : ℕ × ℕ) (bs : List (ℕ × ℕ)) → Adjoin from to (c ∷ bs) → from < to
+later-less from to c [] h = let a = h.0 in let b = h.1 in let e = h.2 in omega (arith, a, b, e)
+later-less from to c (d ∷ ds) h = let a = h.0 in let b = h.1 in let rest = later-less c.1 to d ds h.2 in omega (arith, a, b, rest)
+
+stand-map : (classes : List Span) (s : BufferValue) (from to : ℕ) (bs : List (ℕ × ℕ)) → Adjoin from to bs → StandFrom from (map (block_in classes s) bs)
+stand-map classes s from to [] h = tt
+stand-map classes s from to (b ∷ bs) h = (h.0, h.1, stand-map classes s b.1 to bs h.2)
+
+pub first-is : (classes : List Span) (s : BufferValue) (from to : ℕ) (bs : List (ℕ × ℕ)) → Adjoin from to bs → from < to → first_start (map (block_in classes s) bs) ≡ from
+first-is classes s from to [] h less = absurd (omega (arith, h, less))
+first-is classes s from to (b ∷ bs) h less = h.0
+
+pub end-is : (classes : List Span) (s : BufferValue) (from to other : ℕ) (bs : List (ℕ × ℕ)) → Adjoin from to bs → from < to → end_from other (map (block_in classes s) bs) ≡ to
+end-is classes s from to other [] h less = absurd (omega (arith, h, less))
+end-is classes s from to other (b ∷ []) h less = h.2
+end-is classes s from to other (b ∷ c ∷ bs) h less = end-is classes s b.1 to b.1 (c ∷ bs) h.2 (later-less b.1 to c bs h.2)
+
+some-map : (classes : List Span) (s : BufferValue) (from to : ℕ) (bs : List (ℕ × ℕ)) → Adjoin from to bs → from < to → 0 < length (map (block_in classes s) bs)
+some-map classes s from to [] h less = absurd (omega (arith, h, less))
+some-map classes s from to (b ∷ bs) h less = omega arith
+
+-- the pair of a block of the list
+pub record IsListed (classes : List Span) (s : BufferValue) (k : ℕ) (b : Block) : Type 0 where
+  pub pair : ℕ × ℕ
+  pub at : slice_get (blocks_of s) k ≡ Some pair
+  pub is : b ≡ block_in classes s pair
+
+pair-at : (classes : List Span) (s : BufferValue) (bs : List (ℕ × ℕ)) (k : ℕ) (b : Block) → slice_get (map (block_in classes s) bs) k ≡ Some b → (p : ℕ × ℕ) × (slice_get bs k ≡ Some p) × (b ≡ block_in classes s p)
+pair-at classes s [] k b h = absurd cc
+pair-at classes s (p ∷ ps) zero b h = (p, refl, some-is b (block_in classes s p) (sym h))
+pair-at classes s (p ∷ ps) (suc k) b h = pair-at classes s ps k b h
+
+pub listed-at : (classes : List Span) (s : BufferValue) (k : ℕ) (b : Block) → slice_get (blocks_in classes s) k ≡ Some b → IsListed classes s k b
+listed-at classes s k b h = let found = pair-at classes s (blocks_of s) k b h in record { pair = found.0; at = found.1; is = found.2 }
+
+-- the rows
+
+count-cons : {X : Type 0} (p : X → Bool) (x : X) (xs : List X) → count_by p (x ∷ xs) ≡ cond (p x) 1 0 + count_by p xs
+count-cons p x xs = sum_by-cons (λ y. cond (p y) 1 0) x xs
+
+count-same : (p : Begin → Bool) (q : ℕ × ℕ → Bool) (bs : List Begin) → ((b : Begin) → p b ≡ q (range_of b)) → count_by p bs ≡ count_by q (map range_of bs)
+count-same p q [] h = refl
+count-same p q (b ∷ bs) h = count-cons p b bs ∙ (rw (h b, count-same p q bs h) refl ∙ sym (count-cons q (range_of b) (map range_of bs)))
+
+moved-le : (b : Bool) (start f k : ℕ) → nat_le f k ≡ b → nat_le (start + f) (start + k) ≡ b
+moved-le true start f k h = grind (arith, nat_tests)
+moved-le false start f k h = grind (arith, nat_tests)
+
+moved-lt : (b : Bool) (start k t : ℕ) → nat_lt k t ≡ b → nat_lt (start + k) (start + t) ≡ b
+moved-lt true start k t h = grind (arith, nat_tests)
+moved-lt false start k t h = grind (arith, nat_tests)
+
+covers-moved : (start k : ℕ) (b : Begin) → covers start (start + k) b ≡ in_range k (range_of b)
+covers-moved start k b = rw (moved-le (nat_le b.from k) start b.from k refl, moved-lt (nat_lt k b.to) start k b.to refl) refl
+
+inside-all : (start end size : ℕ) (bs : List Begin) → start + size ≡ end → All (LiesWithin size) (map range_of bs) → All (λ b. (b.from ≤ b.to) × (start + b.to ≤ end)) bs
+inside-all start end size [] e all = All-nil (λ (b : Begin). (b.from ≤ b.to) × (start + b.to ≤ end))
+inside-all start end size (b ∷ bs) e all =
+    let here = all 0 (range_of b) (omega arith) in
+    let order : b.from ≤ b.to = here.0 in
+    let within : b.to ≤ size = here.1 in
+    All-cons (λ (x : Begin). (x.from ≤ x.to) × (start + x.to ≤ end)) b bs (order, omega (arith, e, within))
+    (inside-all start end size bs e (All-tail (LiesWithin size) (range_of b) (map range_of bs) all))
+
+-- the rows of what is read of a block
+rows-right : Lower → (scene : Scene) (base start end : ℕ) (shape : ShapeValues) (es : List Seen) → IsReading scene.parts.settings.invisible es → start + length es ≡ end
+    → AreRowsOf start end (seen_rows (block_rows scene base shape es))
+rows-right low scene base start end shape es is size =
+    let cutting = block_cutting scene base shape es in
+    let line = line_elements scene base es in
+    let quiet = quiet-cutting low.prefixes scene base shape es in
+    let ends : IsTrue (ends_once line) = true-is (ends_once line) (low.ends scene base es is) in
+    let begun = low.begun cutting line quiet ends in
+    let tile = low.tile scene es is in
+    let give = low.give scene es is in
+    let begins = begins_of (seen_rows (rows_of cutting line)) in
+    record {
+      ends = low.last cutting line quiet ends;
+      inside = inside-all start end (length es) begins size (subst (All (LiesWithin (length es))) (sym begun) (line-within scene base (length es) (items_of scene es) tile (items-within (length es) scene es (omega arith))));
+      once = λ point from below.
+          let at : point ≡ start + (point - start) = omega (arith, from) in
+          let less : point - start < length es = omega (arith, from, below, size) in
+          ap (λ p. count_by (covers start p) begins) at
+          ∙ count-same (covers start (start + (point - start))) (in_range (point - start)) begins (covers-moved start (point - start))
+          ∙ ap (count_by (in_range (point - start))) begun
+          ∙ line-once low.levels low.characters scene base (length es) (point - start) (items_of scene es) tile give less;
+    }
+
+pub source-right : Lower → (s : BufferValue) (objects : ObjectLists) (files : Data) → IsText s.text → IsSource (text_source s objects files)
+source-right low s objects files right =
+    let order = right.ordered in
+    let classes = files.classes in
+    let adjoin = low.adjoin s order in
+    let less : s.text.begin < s.text.end + 1 = omega (arith, order) in
+    record {
+      blocks = record {
+        some = some-map classes s s.text.begin (s.text.end + 1) (blocks_of s) adjoin less;
+        stand = subst (λ n. StandFrom n (blocks_in classes s)) (sym (first-is classes s s.text.begin (s.text.end + 1) (blocks_of s) adjoin less)) (stand-map classes s s.text.begin (s.text.end + 1) (blocks_of s) adjoin);
+        bases = All-map (λ (b : Block). b.base ≤ 1) (block_in classes s) (blocks_of s) (λ k d inside. base-low classes s (get_or (blocks_of s) k d).0);
+      };
+      rows = λ b shape among good.
+          let found = listed-at classes s among.0 b among.1 in
+          let block = low.listed s order among.0 found.pair found.at in
+          let last = block.last in
+          let some = block.some in
+          subst (λ (x : Block). AreRowsOf x.start x.end ((text_source s objects files).rows_of x shape)) (sym found.is)
+          (rows-right low (scene_in s.settings objects files) (block_in classes s found.pair).base found.pair.0 found.pair.1 shape (reading s objects found.pair.0)
+          (low.read s objects found.pair.0 (omega (arith, last, some))) (low.size s objects found.pair.0 found.pair.1 block));
+    }

@@ -1,0 +1,18 @@
+use Rattle.rd_blocks.proofs.Sources.{source-right}
+use Rattle.rd_blocks.proofs.laws.buffers_are_sources.Goals as goal
+
+pub returns : goal.returns
+returns c = source-right (record {
+  levels = c.lines_have_a_level_each.ensures;
+  characters = c.elements_are_sound.ensures.some;
+  prefixes = c.prefixes_end_no_line.ensures;
+  listed = c.blocks_are_listed.ensures.blocks;
+  adjoin = c.blocks_are_listed.ensures.adjoin;
+  read = c.blocks_are_read_whole.ensures.reading;
+  size = c.blocks_are_read_whole.ensures.length;
+  tile = c.items_cover_their_block.ensures.tile;
+  give = c.items_cover_their_block.ensures.give;
+  ends = c.lines_end_once.ensures;
+  last = c.rows_behind_quiet_prefixes.ensures.last;
+  begun = c.rows_behind_quiet_prefixes.ensures.begun;
+})

@@ -1,0 +1,4 @@
+pub mod Bases
+pub mod Rows
+pub mod Sources
+pub mod Examples

@@ -1,0 +1,45 @@
+//! The definitions on worked examples. These functions have no body: what they promise is computed from the definitions.
+ghost use Rattle.std.specs.Prelude.{◌≡◌, ◌∷◌, ◌++◌, [], true, false, pos, Some, None};
+ghost use Rattle.rd_base.specs.Faces.{plain};
+ghost use Rattle.rd_base.specs.Glyphs.{blanks};
+ghost use Rattle.rd_base.specs.declared.settings.Direction.TheVariants.{Auto, Left, Right};
+ghost use Rattle.rd_rows.specs.Examples.{text};
+ghost use Rattle.rd_rows.specs.Shapes.{ShapeValues};
+ghost use Rattle.rd_blocks.specs.Examples.{buffer, two_lines, with_prefixes, prefixed, with_marks, arrows, no_objects, marks, cut_by, going_on, bases_of, cells_of};
+
+/// Two blocks of which the second has a letter that is read from the right, and the same with other settings of the direction.
+fn blocks_with_their_bases()
+    ensures text { bases_of (two_lines true Auto) ≡ record { start = 1; end = 3; base = 0 } ∷ record { start = 3; end = 5; base = 0 } ∷ [] }
+    ensures right { bases_of (two_lines true Right) ≡ record { start = 1; end = 3; base = 1 } ∷ record { start = 3; end = 5; base = 1 } ∷ [] }
+    ensures off { bases_of (two_lines false Right) ≡ record { start = 1; end = 3; base = 0 } ∷ record { start = 3; end = 5; base = 0 } ∷ [] }
+    ensures empty { bases_of (buffer []) ≡ record { start = 1; end = 2; base = 0 } ∷ [] }
+    ensures last { bases_of (buffer (97 ∷ 10 ∷ [])) ≡ record { start = 1; end = 3; base = 0 } ∷ record { start = 3; end = 4; base = 0 } ∷ [] }
+{}
+
+/// A line that is read from the right edge: two letters, a blank and 12.
+fn a_row_from_the_right_edge()
+    ensures { cells_of (cut_by 0) (buffer (114 ∷ 116 ∷ 32 ∷ 49 ∷ 50 ∷ [])) no_objects (record { start = 1; end = 7; base = 1 }) ≡ (blanks 7 plain ++ text (49 ∷ 50 ∷ 32 ∷ 116 ∷ 114 ∷ [])) ∷ [] }
+{}
+
+/// Sixteen letters that are scrolled by three columns, and by none.
+fn a_row_scrolled_sideways()
+    ensures scrolled { cells_of (cut_by 3) (buffer (97 ∷ 98 ∷ 99 ∷ 100 ∷ 101 ∷ 102 ∷ 103 ∷ 104 ∷ 105 ∷ 106 ∷ 107 ∷ 108 ∷ 109 ∷ 110 ∷ 111 ∷ 112 ∷ [])) no_objects (record { start = 1; end = 18; base = 0 }) ≡ text (36 ∷ 101 ∷ 102 ∷ 103 ∷ 104 ∷ 105 ∷ 106 ∷ 107 ∷ 108 ∷ 109 ∷ 110 ∷ 36 ∷ []) ∷ [] }
+    ensures whole { cells_of (cut_by 0) (buffer (97 ∷ 98 ∷ 99 ∷ 100 ∷ 101 ∷ 102 ∷ 103 ∷ 104 ∷ 105 ∷ 106 ∷ 107 ∷ 108 ∷ 109 ∷ 110 ∷ 111 ∷ 112 ∷ [])) no_objects (record { start = 1; end = 18; base = 0 }) ≡ text (97 ∷ 98 ∷ 99 ∷ 100 ∷ 101 ∷ 102 ∷ 103 ∷ 104 ∷ 105 ∷ 106 ∷ 107 ∷ 36 ∷ []) ∷ [] }
+{}
+
+/// Twelve letters behind the settings' prefixes; the same where the first letter has a line prefix of its own; and an empty block,
+/// which has the setting's prefix alone.
+fn rows_behind_prefixes()
+    ensures settings { cells_of going_on (with_prefixes (97 ∷ 98 ∷ 99 ∷ 100 ∷ 101 ∷ 102 ∷ 103 ∷ 104 ∷ 105 ∷ 106 ∷ 107 ∷ 108 ∷ [])) arrows (record { start = 1; end = 14; base = 0 }) ≡ text (62 ∷ 32 ∷ 97 ∷ 98 ∷ 99 ∷ 100 ∷ 101 ∷ 102 ∷ 103 ∷ 104 ∷ 105 ∷ 92 ∷ []) ∷ (text (43 ∷ 32 ∷ 106 ∷ 107 ∷ 108 ∷ []) ++ blanks 7 plain) ∷ [] }
+    ensures first { cells_of going_on (prefixed 1) arrows (record { start = 1; end = 4; base = 0 }) ≡ (text (43 ∷ 32 ∷ 97 ∷ 98 ∷ []) ++ blanks 8 plain) ∷ [] }
+    ensures second { cells_of going_on (prefixed 2) arrows (record { start = 1; end = 4; base = 0 }) ≡ (text (62 ∷ 32 ∷ 97 ∷ 98 ∷ []) ++ blanks 8 plain) ∷ [] }
+    ensures empty { cells_of going_on (with_prefixes []) arrows (record { start = 1; end = 2; base = 0 }) ≡ (text (62 ∷ 32 ∷ []) ++ blanks 10 plain) ∷ [] }
+{}
+
+/// Twelve letters of a line that goes on, from either edge, with a backslash, a slash and the mark of a table.
+fn marks_of_rows_that_go_on()
+    ensures left { cells_of going_on (buffer (97 ∷ 98 ∷ 99 ∷ 100 ∷ 101 ∷ 102 ∷ 103 ∷ 104 ∷ 105 ∷ 106 ∷ 107 ∷ 108 ∷ [])) no_objects (record { start = 1; end = 14; base = 0 }) ≡ text (97 ∷ 98 ∷ 99 ∷ 100 ∷ 101 ∷ 102 ∷ 103 ∷ 104 ∷ 105 ∷ 106 ∷ 107 ∷ 92 ∷ []) ∷ (text (108 ∷ []) ++ blanks 11 plain) ∷ [] }
+    ensures right { cells_of going_on (buffer (114 ∷ 114 ∷ 114 ∷ 114 ∷ 114 ∷ 114 ∷ 114 ∷ 114 ∷ 114 ∷ 114 ∷ 114 ∷ 114 ∷ [])) no_objects (record { start = 1; end = 14; base = 1 }) ≡ text (47 ∷ 114 ∷ 114 ∷ 114 ∷ 114 ∷ 114 ∷ 114 ∷ 114 ∷ 114 ∷ 114 ∷ 114 ∷ 114 ∷ []) ∷ (blanks 11 plain ++ text (114 ∷ [])) ∷ [] }
+    ensures table { cells_of going_on (with_marks (97 ∷ 98 ∷ 99 ∷ 100 ∷ 101 ∷ 102 ∷ 103 ∷ 104 ∷ 105 ∷ 106 ∷ 107 ∷ 108 ∷ [])) marks (record { start = 1; end = 14; base = 0 }) ≡ text (97 ∷ 98 ∷ 99 ∷ 100 ∷ 101 ∷ 102 ∷ 103 ∷ 104 ∷ 105 ∷ 106 ∷ 107 ∷ 38 ∷ []) ∷ (text (108 ∷ []) ++ blanks 11 plain) ∷ [] }
+    ensures cut { cells_of (cut_by 0) (with_marks (97 ∷ 98 ∷ 99 ∷ 100 ∷ 101 ∷ 102 ∷ 103 ∷ 104 ∷ 105 ∷ 106 ∷ 107 ∷ 108 ∷ [])) marks (record { start = 1; end = 14; base = 0 }) ≡ text (97 ∷ 98 ∷ 99 ∷ 100 ∷ 101 ∷ 102 ∷ 103 ∷ 104 ∷ 105 ∷ 106 ∷ 107 ∷ 43 ∷ []) ∷ [] }
+{}
