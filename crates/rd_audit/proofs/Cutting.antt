@@ -1,0 +1,169 @@
+-- Pieces of bytes, as the code finds them.
+use Rattle.std.proofs.Common.{◌≡◌, ◌≢◌, ◌==◌, ℕ, zero, suc, ◌+◌, ◌-◌, ◌<◌, ◌≤◌, Bool, true, false, if◌then◌else◌, Option, None, Some, option_map, List, [], ◌∷◌, ◌++◌, length, get_or, take, drop, refl, sym, ap, ◌∙◌, arith, append_assoc, append-nil, Bor}
+use Rattle.std.specs.Prelude.{MatchOption}
+use Rattle.std.proofs.lemmas.Bool.Decides.{nat_tests}
+use Rattle.std.proofs.lemmas.List.{drop_more, take_more, drop_all, drop-drop, length-drop}
+use Rattle.rd_io.specs.Lines.{lines_of, in_front}
+use Rattle.rd_audit.specs.Cuts.{stripped, cut, cut_last_or, cut_last, pieces}
+
+eq_yes : (a b : ℕ) → a ≡ b → (a == b) ≡ true
+eq_yes a b e = grind (arith, nat_tests)
+
+eq_no : (a b : ℕ) → a ≢ b → (a == b) ≡ false
+eq_no a b e = grind (arith, nat_tests)
+
+eq_told : (a b : ℕ) → (a == b) ≡ true → a ≡ b
+eq_told a b e = grind (arith, nat_tests)
+
+-- ---- a front
+
+pub stripped-behind : (f s rest : List ℕ) → s ≡ f ++ rest → Some rest ≡ stripped f s
+stripped-behind [] s rest e = ap Some (sym e)
+stripped-behind (x ∷ f) s rest e =
+    stripped-behind f (f ++ rest) rest refl
+    ∙ sym (ap (λ t. if t then stripped f (f ++ rest) else None) (eq_yes x x refl))
+    ∙ sym (ap (stripped (x ∷ f)) e)
+
+stripped-none_at : (x b : ℕ) (f s : List ℕ) (t : Bool) → (b == x) ≡ t → ((rest : List ℕ) → b ∷ s ≢ x ∷ (f ++ rest))
+    → (((rest : List ℕ) → s ≢ f ++ rest) → None ≡ stripped f s) → None ≡ (if t then stripped f s else None)
+stripped-none_at x b f s true test none so = so (λ rest e. none rest (ap (λ c. c ∷ s) (eq_told b x test) ∙ ap (λ l. x ∷ l) e))
+stripped-none_at x b f s false test none so = refl
+
+pub stripped-none : (f s : List ℕ) → ((rest : List ℕ) → s ≢ f ++ rest) → None ≡ stripped f s
+stripped-none [] s none = absurd (none s refl)
+stripped-none (x ∷ f) [] none = refl
+stripped-none (x ∷ f) (b ∷ s) none = stripped-none_at x b f s (b == x) refl none (stripped-none f s)
+
+pub stripped-is : (f s : List ℕ) (r : Option (Bor (List ℕ))) → MatchOption r ((rest : List ℕ) → s ≢ f ++ rest) (λ x. s ≡ f ++ x.now)
+    → option_map (λ x. x.now) r ≡ stripped f s
+stripped-is f s None m = stripped-none f s m
+stripped-is f s (Some x) m = stripped-behind f s x.now m
+
+-- ---- the first of a byte
+
+abbrev cut_here : List ℕ → Option (List ℕ × List ℕ)
+cut_here bs = Some ([], bs)
+
+-- what was cut, behind these bytes
+abbrev pub behind : List ℕ → Option (List ℕ × List ℕ) → Option (List ℕ × List ℕ)
+behind front None = None
+behind front (Some parts) = Some (front ++ parts.0, parts.1)
+
+behind-step : (front : List ℕ) (b : ℕ) (o : Option (List ℕ × List ℕ)) → behind (front ++ b ∷ []) o ≡ behind front (option_map (λ parts. (b ∷ parts.0, parts.1)) o)
+behind-step front b None = refl
+behind-step front b (Some parts) = ap (λ l. Some (l, parts.1)) (append_assoc front (b ∷ []) parts.0)
+
+pub behind-none : (o : Option (List ℕ × List ℕ)) → behind [] o ≡ o
+behind-none None = refl
+behind-none (Some parts) = refl
+
+cut-yes : (byte b : ℕ) (bs : List ℕ) → b ≡ byte → cut byte (b ∷ bs) ≡ Some ([], bs)
+cut-yes byte b bs e = ap (λ t. if t then Some ([], bs) else option_map (λ parts. (b ∷ parts.0, parts.1)) (cut byte bs)) (eq_yes b byte e)
+
+cut-no : (byte b : ℕ) (bs : List ℕ) → b ≢ byte → cut byte (b ∷ bs) ≡ option_map (λ parts. (b ∷ parts.0, parts.1)) (cut byte bs)
+cut-no byte b bs e = ap (λ t. if t then Some ([], bs) else option_map (λ parts. (b ∷ parts.0, parts.1)) (cut byte bs)) (eq_no b byte e)
+
+pub cut-here : (byte i : ℕ) (bs : List ℕ) → i < length bs → get_or bs i 0 ≡ byte → behind (take i bs) (cut byte (drop i bs)) ≡ cut byte bs
+    → Some (take i bs, drop 1 (drop i bs)) ≡ cut byte bs
+cut-here byte i bs less found inv =
+    let head : drop i bs ≡ get_or bs i 0 ∷ drop (i + 1) bs = drop_more bs i 0 less in
+    let tail : drop 1 (drop i bs) ≡ drop (i + 1) bs = ap (drop 1) head in
+    ap (λ l. Some (take i bs, l)) tail
+    ∙ ap (λ l. Some (l, drop (i + 1) bs)) (sym (append-nil (take i bs)))
+    ∙ sym (ap (behind (take i bs)) (ap (cut byte) head ∙ cut-yes byte (get_or bs i 0) (drop (i + 1) bs) found))
+    ∙ inv
+
+pub cut-on : (byte i : ℕ) (bs : List ℕ) → i < length bs → get_or bs i 0 ≢ byte → behind (take i bs) (cut byte (drop i bs)) ≡ cut byte bs
+    → behind (take (i + 1) bs) (cut byte (drop (i + 1) bs)) ≡ cut byte bs
+cut-on byte i bs less other inv =
+    ap (λ l. behind l (cut byte (drop (i + 1) bs))) (take_more bs i 0 less)
+    ∙ behind-step (take i bs) (get_or bs i 0) (cut byte (drop (i + 1) bs))
+    ∙ sym (ap (behind (take i bs)) (ap (cut byte) (drop_more bs i 0 less) ∙ cut-no byte (get_or bs i 0) (drop (i + 1) bs) other))
+    ∙ inv
+
+pub cut-end : (byte i : ℕ) (bs : List ℕ) → length bs ≤ i → behind (take i bs) (cut byte (drop i bs)) ≡ cut byte bs → None ≡ cut byte bs
+cut-end byte i bs past inv = sym (ap (λ l. behind (take i bs) (cut byte l)) (drop_all i bs past)) ∙ inv
+
+pub rest-shorter : (i : ℕ) (bs : List ℕ) → i < length bs → length (drop 1 (drop i bs)) < length bs
+rest-shorter i bs less = omega (arith, length-drop 1 (drop i bs), length-drop i bs)
+
+pub rest-behind : (i : ℕ) (bs : List ℕ) → i < length bs → drop 1 (drop i bs) ≡ drop (length bs - length (drop 1 (drop i bs))) bs
+rest-behind i bs less =
+    let size : i + 1 ≡ length bs - length (drop 1 (drop i bs)) = omega (arith, length-drop 1 (drop i bs), length-drop i bs, less) in
+    drop-drop 1 i bs ∙ ap (λ k. drop k bs) size
+
+-- ---- the last of it
+
+pub last-here : (byte i : ℕ) (bs : List ℕ) → i < length bs → get_or bs i 0 ≡ byte → cut_last byte (drop (suc i) bs) ≡ None
+    → Some (take i bs, drop 1 (drop i bs)) ≡ cut_last byte bs
+last-here byte i [] less found none = absurd (omega (arith, less))
+last-here byte zero (b ∷ bs) less found none =
+    sym (ap (cut_last_or byte b bs) none ∙ ap (λ t. if t then Some ([], bs) else None) (eq_yes b byte found))
+last-here byte (suc i) (b ∷ bs) less found none = ap (cut_last_or byte b bs) (last-here byte i bs (omega (arith, less)) found none)
+
+last-no : (byte b : ℕ) (bs : List ℕ) → b ≢ byte → cut_last byte bs ≡ None → cut_last byte (b ∷ bs) ≡ None
+last-no byte b bs other none = ap (cut_last_or byte b bs) none ∙ ap (λ t. if t then Some ([], bs) else None) (eq_no b byte other)
+
+pub last-on : (byte i : ℕ) (bs : List ℕ) → i < length bs → get_or bs i 0 ≢ byte → cut_last byte (drop (suc i) bs) ≡ None → cut_last byte (drop i bs) ≡ None
+last-on byte i bs less other none =
+    let after : i + 1 ≡ suc i = omega arith in
+    ap (cut_last byte) (drop_more bs i 0 less ∙ ap (λ k. get_or bs i 0 ∷ drop k bs) after) ∙ last-no byte (get_or bs i 0) (drop (suc i) bs) other none
+
+-- ---- lines and pieces
+
+abbrev front_of : List ℕ → Option (List ℕ × List ℕ) → List ℕ
+front_of a None = a
+front_of a (Some parts) = parts.0
+
+abbrev back_of : List ℕ → Option (List ℕ × List ℕ) → List ℕ
+back_of b None = b
+back_of b (Some parts) = parts.1
+
+joined-as : (a b f k : List ℕ) (lines : List ℕ → List (List ℕ)) → ◌≡◌ {A = Option (List ℕ × List ℕ)} (Some (a, b)) (Some (f, k)) → a ∷ lines b ≡ f ∷ lines k
+joined-as a b f k lines e =
+    ap (λ l. l ∷ lines b) (ap (λ x. front_of a x) e) ∙ ap (λ l. f ∷ lines l) (ap (λ x. back_of b x) e)
+
+lines-cut_at : (b : ℕ) (bs f k : List ℕ) (t : Bool) (o : Option (List ℕ × List ℕ)) → ((f' k' : List ℕ) → o ≡ Some (f', k') → lines_of bs ≡ f' ∷ lines_of k')
+    → (if t then cut_here bs else option_map (λ parts. (b ∷ parts.0, parts.1)) o) ≡ Some (f, k)
+    → (if t then [] ∷ lines_of bs else in_front b (lines_of bs)) ≡ f ∷ lines_of k
+lines-cut_at b bs f k true o so e = joined-as [] bs f k lines_of e
+lines-cut_at b bs f k false None so e = absurd (cc)
+lines-cut_at b bs f k false (Some parts) so e = ap (in_front b) (so parts.0 parts.1 refl) ∙ joined-as (b ∷ parts.0) parts.1 f k lines_of e
+
+pub lines-cut : (bs f k : List ℕ) → cut 10 bs ≡ Some (f, k) → lines_of bs ≡ f ∷ lines_of k
+lines-cut [] f k e = absurd (cc)
+lines-cut (b ∷ bs) f k e = lines-cut_at b bs f k (b == 10) (cut 10 bs) (lines-cut bs) e
+
+lines-uncut_at : (b : ℕ) (bs : List ℕ) (t : Bool) (o : Option (List ℕ × List ℕ)) → (o ≡ None → 0 < length bs → lines_of bs ≡ bs ∷ [])
+    → (if t then cut_here bs else option_map (λ parts. (b ∷ parts.0, parts.1)) o) ≡ None
+    → (if t then [] ∷ lines_of bs else in_front b (lines_of bs)) ≡ (b ∷ bs) ∷ []
+lines-uncut_at b bs true o so e = absurd (cc)
+lines-uncut_at b [] false None so e = refl
+lines-uncut_at b (c ∷ bs) false None so e = ap (in_front b) (so refl (omega arith))
+lines-uncut_at b bs false (Some parts) so e = absurd (cc)
+
+pub lines-uncut : (bs : List ℕ) → cut 10 bs ≡ None → 0 < length bs → lines_of bs ≡ bs ∷ []
+lines-uncut [] e some = absurd (omega (arith, some))
+lines-uncut (b ∷ bs) e some = lines-uncut_at b bs (b == 10) (cut 10 bs) (lines-uncut bs) e
+
+pieces-cut_at : (byte b : ℕ) (bs f k : List ℕ) (t : Bool) (o : Option (List ℕ × List ℕ)) → ((f' k' : List ℕ) → o ≡ Some (f', k') → pieces byte bs ≡ f' ∷ pieces byte k')
+    → (if t then cut_here bs else option_map (λ parts. (b ∷ parts.0, parts.1)) o) ≡ Some (f, k)
+    → (if t then [] ∷ pieces byte bs else in_front b (pieces byte bs)) ≡ f ∷ pieces byte k
+pieces-cut_at byte b bs f k true o so e = joined-as [] bs f k (pieces byte) e
+pieces-cut_at byte b bs f k false None so e = absurd (cc)
+pieces-cut_at byte b bs f k false (Some parts) so e = ap (in_front b) (so parts.0 parts.1 refl) ∙ joined-as (b ∷ parts.0) parts.1 f k (pieces byte) e
+
+pub pieces-cut : (byte : ℕ) (bs f k : List ℕ) → cut byte bs ≡ Some (f, k) → pieces byte bs ≡ f ∷ pieces byte k
+pieces-cut byte [] f k e = absurd (cc)
+pieces-cut byte (b ∷ bs) f k e = pieces-cut_at byte b bs f k (b == byte) (cut byte bs) (pieces-cut byte bs) e
+
+pieces-uncut_at : (byte b : ℕ) (bs : List ℕ) (t : Bool) (o : Option (List ℕ × List ℕ)) → (o ≡ None → pieces byte bs ≡ bs ∷ [])
+    → (if t then cut_here bs else option_map (λ parts. (b ∷ parts.0, parts.1)) o) ≡ None
+    → (if t then [] ∷ pieces byte bs else in_front b (pieces byte bs)) ≡ (b ∷ bs) ∷ []
+pieces-uncut_at byte b bs true o so e = absurd (cc)
+pieces-uncut_at byte b bs false None so e = ap (in_front b) (so refl)
+pieces-uncut_at byte b bs false (Some parts) so e = absurd (cc)
+
+pub pieces-uncut : (byte : ℕ) (bs : List ℕ) → cut byte bs ≡ None → pieces byte bs ≡ bs ∷ []
+pieces-uncut byte [] e = refl
+pieces-uncut byte (b ∷ bs) e = pieces-uncut_at byte b bs (b == byte) (cut byte bs) (pieces-uncut byte bs) e

@@ -1,0 +1,9 @@
+mod Comparing
+mod Cutting
+mod Groups
+mod Judging
+mod Painting
+mod Runs
+mod Shapes
+mod Streams
+mod Texts

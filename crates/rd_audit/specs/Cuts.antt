@@ -1,0 +1,31 @@
+-- Pieces of bytes.
+use Rattle.std.specs.Prelude.{ℕ, ◌==◌, Bool, if◌then◌else◌, List, [], ◌∷◌, Option, None, Some, option_map, is_some}
+use Rattle.rd_io.specs.Lines.{in_front}
+
+-- what stands behind these bytes, where the others begin with them
+abbrev pub stripped : List ℕ → List ℕ → Option (List ℕ)
+stripped [] bytes = Some bytes
+stripped (f ∷ fs) [] = None
+stripped (f ∷ fs) (b ∷ bs) = if b == f then stripped fs bs else None
+
+abbrev pub begins_with : List ℕ → List ℕ → Bool
+begins_with front bytes = is_some (stripped front bytes)
+
+-- what stands before the first of a byte, and what stands behind it
+abbrev pub cut : ℕ → List ℕ → Option (List ℕ × List ℕ)
+cut byte [] = None
+cut byte (b ∷ bs) = if b == byte then Some ([], bs) else option_map (λ parts. (b ∷ parts.0, parts.1)) (cut byte bs)
+
+-- the same by the last of it
+abbrev pub cut_last_or : ℕ → ℕ → List ℕ → Option (List ℕ × List ℕ) → Option (List ℕ × List ℕ)
+cut_last_or byte b bs None = if b == byte then Some ([], bs) else None
+cut_last_or byte b bs (Some parts) = Some (b ∷ parts.0, parts.1)
+
+abbrev pub cut_last : ℕ → List ℕ → Option (List ℕ × List ℕ)
+cut_last byte [] = None
+cut_last byte (b ∷ bs) = cut_last_or byte b bs (cut_last byte bs)
+
+-- the pieces before, between and behind a byte
+abbrev pub pieces : ℕ → List ℕ → List (List ℕ)
+pieces byte [] = [] ∷ []
+pieces byte (b ∷ bs) = if b == byte then [] ∷ pieces byte bs else in_front b (pieces byte bs)

@@ -1,0 +1,28 @@
+-- Numbers in decimal.
+use Rattle.std.specs.Prelude.{ℕ, ◌+◌, ◌-◌, ◌*◌, ◌==◌, nat_le, ◌&&◌, if◌then◌else◌, List, [], ◌∷◌, Option, None, Some}
+
+-- the number of a digit
+abbrev pub digit : ℕ → Option ℕ
+digit byte = if nat_le 48 byte && nat_le byte 57 then Some (byte - 48) else None
+
+-- one of a first digit that is not 0
+abbrev pub lead : ℕ → Option ℕ
+lead byte = if byte == 48 then None else digit byte
+
+-- a number with one more digit
+abbrev pub longer : Option ℕ → Option ℕ → Option ℕ
+longer (Some n) (Some d) = Some (10 * n + d)
+longer n d = None
+
+-- The number that bytes say in decimal, without leading zeros. One of more than three digits is told as none: no screen has such a
+-- place, and no face such a number.
+abbrev pub number_of : List ℕ → Option ℕ
+number_of (a ∷ []) = digit a
+number_of (a ∷ b ∷ []) = longer (lead a) (digit b)
+number_of (a ∷ b ∷ c ∷ []) = longer (longer (lead a) (digit b)) (digit c)
+number_of bytes = None
+
+-- two numbers, where there are both
+abbrev pub both : Option ℕ → Option ℕ → Option (ℕ × ℕ)
+both (Some m) (Some n) = Some (m, n)
+both m n = None
