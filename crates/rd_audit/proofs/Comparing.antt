@@ -22,7 +22,7 @@ pub column-on : (i : ℕ) (d : Cell) (cells : List Cell) (others : List (Option 
 column-on i d cells others whole less at inv =
     let there = known-within i (get_or cells i d) others at (cases_lt i (length others)) in
     sym (ap₂ (λ xs ys. other_column i xs ys) (drop_more cells i d less) (drop_more others i None there)
-      ∙ ap (λ t. if t then other_column (i + 1) (drop (i + 1) cells) (drop (i + 1) others) else Some i) at)
+    ∙ ap (λ t. if t then other_column (i + 1) (drop (i + 1) cells) (drop (i + 1) others) else Some i) at)
     ∙ inv
 
 pub column-more : (i : ℕ) (cells : List Cell) (others : List (Option Cell)) (whole : Option ℕ) → i ≤ length cells → length cells ≤ i → length cells < length others

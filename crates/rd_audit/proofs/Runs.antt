@@ -1,5 +1,5 @@
 -- The pieces of a row's runs, read one after the other.
-use Rattle.std.proofs.Common.{◌≡◌, ℕ, Option, None, Some, option_and_then, List, ap}
+use Rattle.std.proofs.Common.{◌≡◌, ℕ, None, Some, option_and_then, List, ap}
 use Rattle.rd_base.specs.Faces.{Attributes}
 use Rattle.rd_base.specs.declared.cell.Cell.{Cell}
 use Rattle.rd_audit.proofs.Cutting.{pieces-cut, pieces-uncut}

@@ -1,10 +1,9 @@
 -- Rows of one width.
-use Rattle.std.proofs.Common.{◌≡◌, ℕ, ◌+◌, ◌<◌, ◌≤◌, ◌==◌, nat_le, nat_lt, ◌&&◌, Bool, true, false, if◌then◌else◌, Option, None, Some, option_and_then, option_map, is_some, unwrap_or, Result, Err, List, [], ◌∷◌, ◌++◌, length, refl, sym, ap, subst, ◌∙◌, arith, true≢false, length-append}
-use Rattle.std.specs.Prelude.{All}
+use Rattle.std.proofs.Common.{◌≡◌, ℕ, ◌+◌, ◌<◌, ◌≤◌, nat_lt, Bool, true, false, if◌then◌else◌, Option, None, Some, option_and_then, option_map, is_some, unwrap_or, Result, Err, List, [], ◌∷◌, ◌++◌, length, refl, sym, ap, subst, ◌∙◌, arith, true≢false, length-append}
 use Rattle.std.proofs.lemmas.Bool.Decides.{nat_tests}
 use Rattle.std.proofs.lemmas.List.Elements.{All-nil, All-cons, All-push}
 use Rattle.rd_base.specs.declared.cell.Cell.{Cell}
-use Rattle.rd_term.specs.Pictures.{Picture, IsGrid, width_of}
+use Rattle.rd_term.specs.Pictures.{Picture}
 use Rattle.rd_audit.specs.Dumps.{picture_from, ended_by}
 use Rattle.rd_audit.specs.Results.{IsShape}
 use Rattle.rd_audit.specs.Rows.{is_row, is_as_wide, next_row, row_cells, cursor_place}
@@ -55,6 +54,6 @@ picture-on first rows next cells lines more line whole split row found push inv 
     ap (λ r. picture_from (first + length r) r more) push
     ∙ ap (λ k. picture_from k (rows ++ cells ∷ []) more) size
     ∙ sym (ap (picture_from n rows) split
-      ∙ ap (λ t. if t then unwrap_or (option_map (λ x. picture_from (n + 1) (rows ++ x ∷ []) more) (next_row rows line)) (Err n) else ended_by n rows (cursor_place rows line)) row
-      ∙ ap (λ o. unwrap_or (option_map (λ x. picture_from (n + 1) (rows ++ x ∷ []) more) o) (Err n)) found)
+    ∙ ap (λ t. if t then unwrap_or (option_map (λ x. picture_from (n + 1) (rows ++ x ∷ []) more) (next_row rows line)) (Err n) else ended_by n rows (cursor_place rows line)) row
+    ∙ ap (λ o. unwrap_or (option_map (λ x. picture_from (n + 1) (rows ++ x ∷ []) more) o) (Err n)) found)
     ∙ inv

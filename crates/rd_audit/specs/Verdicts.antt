@@ -1,11 +1,11 @@
 -- What an audit answers, and when.
-use Rattle.std.specs.Prelude.{◌≡◌, ◌≢◌, ℕ, ◌+◌, ◌<◌, ◌≤◌, ◌⊎◌, Bool, true, false, if◌then◌else◌, List, [], ◌∷◌, ◌++◌, length, map, Option, None, Some, IfSome, Result, Ok, Err, codes, decimal, String, string_bytes}
+use Rattle.std.specs.Prelude.{◌≡◌, ◌≢◌, ℕ, ◌+◌, ◌<◌, ◌≤◌, ◌⊎◌, Bool, true, false, if◌then◌else◌, List, [], ◌∷◌, ◌++◌, length, map, Option, None, Some, IfSome, Ok, Err, codes, decimal, String, string_bytes}
 use Rattle.std.specs.Global.{Global}
 use Rattle.std.specs.Io.KnownBytes.{Appends, IsAtEnd}
 use Rattle.rd_base.specs.Equals.{same_cell}
 use Rattle.rd_base.specs.declared.cell.Cell.{Cell}
 use Rattle.rd_base.specs.declared.limits.TheConstants.{FILE_BYTES}
-use Rattle.rd_io.specs.Devices.{Rose, AppendsFront}
+use Rattle.rd_io.specs.Devices.{AppendsFront}
 use Rattle.rd_term.specs.Pictures.{Picture, width_of}
 use Rattle.rd_term.specs.Terminals.{Tty, Shows, unknown, feed_bytes}
 use Rattle.rd_audit.specs.Dumps.{dump_in}
@@ -94,6 +94,26 @@ JudgesFile verdict told bytes left = (dump : Picture) × ((file : List ℕ) × I
 abbrev pub Comes : Verdict → List (List ℕ) → (List ℕ → Option (List ℕ)) → List ℕ → Option (List ℕ) → Type 0
 Comes Usage words told bytes left = (length words ≢ 1) × (bytes ≡ [])
 Comes verdict words told bytes left = (name : List ℕ) × (words ≡ name ∷ []) × JudgesFile verdict (told name) bytes left
+
+-- the only word names a file with a dump, and the stream has no byte too many
+pub record IsSound (words : List (List ℕ)) (told : List ℕ → Option (List ℕ)) (left : Option (List ℕ)) : Type 0 where
+  pub name : List ℕ
+  pub file : List ℕ
+  pub dump : Picture
+  pub stream : List ℕ
+  pub word : words ≡ name ∷ []
+  pub contents : told name ≡ Some file
+  pub small : length file ≤ FILE_BYTES
+  pub good : dump_in file ≡ Ok dump
+  pub bytes : left ≡ Some stream
+  pub short : length stream ≤ STREAM_BYTES
+
+-- yes, or no, or that memory was wanting
+abbrev pub IsJudged : Verdict → Type 0
+IsJudged Yes = Unit {0}
+IsJudged (No difference) = Unit {0}
+IsJudged NoMemory = Unit {0}
+IsJudged verdict = ⊥
 
 -- ---- what is told
 

@@ -6,7 +6,7 @@ ghost use Rattle.rd_base.specs.declared.limits.TheConstants.{FILE_BYTES};
 ghost use Rattle.rd_term.specs.Pictures.{width_of};
 ghost use Rattle.rd_term.specs.Terminals.{unknown};
 ghost use Rattle.rd_audit.specs.Results.{IsShape, JudgesBytes, picture_in};
-ghost use Rattle.rd_audit.specs.Verdicts.{Answers, Comes, JudgesFile, JudgesDump, texts};
+ghost use Rattle.rd_audit.specs.Verdicts.{Answers, Comes, JudgesFile, JudgesDump, IsSound, IsJudged, texts};
 
 use crate::compare::answer;
 use crate::dump::{Dump, DumpFault, read_dump};
@@ -25,7 +25,8 @@ use std::alloc::Global;
 ///
 /// `answers` says when each verdict comes and what was written then. ReadFault comes only where the count of `stream` or that of the
 /// file's name rose, WriteFault only where that of `report` did, and then a front of the line was written that would have come. Want
-/// of memory may come at any time. The cost is linear in the bytes of the file and of the stream.
+/// of memory may come at any time. With one word, a file with a dump and a stream that is not too long, and where no count
+/// rose, nothing else comes besides yes and no (`complete`). The cost is linear in the bytes of the file and of the stream.
 pub fn audit<S: Source, F: Files, R: Sink>(
     alloc: Global,
     words: Vec<String>,
@@ -38,6 +39,10 @@ pub fn audit<S: Source, F: Files, R: Sink>(
     ensures read { result ≡ Verdict.ReadFault → Rose (S.faults stream.old) (S.faults stream.new)
         ⊎ ((name : List ℕ) × (texts words.items ≡ name ∷ []) × Rose (F.faults files.old name) (F.faults files.new name)) }
     ensures write { result ≡ Verdict.WriteFault → Rose (R.faults report.old) (R.faults report.new) }
+    ensures complete { IsSound (texts words.items) (F.contents files.old) (S.left stream.old)
+        → IsJudged result ⊎ ((Rose (S.faults stream.old) (S.faults stream.new)
+        ⊎ ((name : List ℕ) × (texts words.items ≡ name ∷ []) × Rose (F.faults files.old name) (F.faults files.new name)))
+        ⊎ Rose (R.faults report.old) (R.faults report.new)) }
     ensures stream { S.faults stream.old ≤ S.faults stream.new }
     ensures files { (name : List ℕ) → F.faults files.old name ≤ F.faults files.new name }
     ensures contents { (name : List ℕ) → F.contents files.new name ≡ F.contents files.old name }

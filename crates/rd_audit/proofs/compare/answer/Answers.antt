@@ -1,4 +1,4 @@
-use Rattle.std.proofs.Common.{sym, rules}
+use Rattle.std.proofs.Common.{rules}
 use Rattle.rd_audit.proofs.Comparing.{rows-same}
 use Rattle.rd_audit.proofs.compare.answer.Goals as goal
 

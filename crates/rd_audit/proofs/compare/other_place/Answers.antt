@@ -1,4 +1,4 @@
-use Rattle.std.proofs.Common.{◌≡◌, ◌<◌, ◌≤◌, length, arith}
+use Rattle.std.proofs.Common.{◌<◌, ◌≤◌, length, arith}
 use Rattle.rd_audit.proofs.Comparing.{place-missing, place-more}
 use Rattle.rd_audit.proofs.compare.other_place.Goals as goal
 

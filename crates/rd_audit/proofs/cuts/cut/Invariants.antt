@@ -1,4 +1,4 @@
-use Rattle.std.proofs.Common.{◌≡◌, ℕ, ◌-◌, ◌≤◌, length, take, drop}
+use Rattle.std.proofs.Common.{◌≡◌, ◌-◌, ◌≤◌, length, take, drop}
 use Rattle.rd_audit.specs.Cuts.{cut}
 use Rattle.rd_audit.proofs.Cutting.{behind}
 use Rattle.rd_audit.proofs.cuts.cut.Given as goal

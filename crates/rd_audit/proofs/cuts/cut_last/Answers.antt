@@ -1,4 +1,4 @@
-use Rattle.std.proofs.Common.{◌≡◌, ◌≢◌, ◌<◌, ◌-◌, suc, None, drop, get_or, length, rules, ap, ap₂, sym, ◌∙◌, arith}
+use Rattle.std.proofs.Common.{◌≡◌, ◌<◌, ◌-◌, suc, None, drop, length, rules, ap, sym, ◌∙◌, arith}
 use Rattle.rd_audit.specs.Cuts.{cut_last}
 use Rattle.rd_audit.proofs.Cutting.{last-here}
 use Rattle.rd_audit.proofs.cuts.cut_last.Goals as goal

@@ -1,4 +1,4 @@
-use Rattle.std.proofs.Common.{◌≡◌, ℕ, ◌≤◌, length, drop, None}
+use Rattle.std.proofs.Common.{◌≡◌, ◌≤◌, length, drop, None}
 use Rattle.rd_audit.specs.Cuts.{cut_last}
 use Rattle.rd_audit.proofs.cuts.cut_last.Given as goal
 

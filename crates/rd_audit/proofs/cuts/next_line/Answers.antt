@@ -1,4 +1,4 @@
-use Rattle.std.proofs.Common.{◌≡◌, ◌∷◌, ◌<◌, length, ap₂, sym, ◌∙◌, arith, rules}
+use Rattle.std.proofs.Common.{◌∷◌, ◌<◌, length, ap₂, sym, ◌∙◌, arith, rules}
 use Rattle.std.proofs.lemmas.List.{take_all, drop_all}
 use Rattle.rd_io.specs.Lines.{lines_of}
 use Rattle.rd_audit.proofs.Cutting.{lines-cut, lines-uncut}

@@ -1,4 +1,4 @@
-use Rattle.std.proofs.Common.{◌≡◌, ℕ, ◌+◌, ◌-◌, ◌≤◌, None, option_map, IfSome, length, drop}
+use Rattle.std.proofs.Common.{◌≡◌, ◌+◌, ◌-◌, ◌≤◌, None, option_map, IfSome, length, drop}
 use Rattle.rd_io.specs.Lines.{lines_of}
 use Rattle.rd_audit.specs.Dumps.{last_group}
 use Rattle.rd_audit.specs.Results.{marked}

@@ -1,4 +1,4 @@
-use Rattle.std.proofs.Common.{◌≡◌, ℕ, ◌+◌, [], length}
+use Rattle.std.proofs.Common.{◌≡◌, ◌+◌, [], length}
 use Rattle.rd_io.specs.Lines.{lines_of}
 use Rattle.rd_audit.specs.Dumps.{picture_from}
 use Rattle.rd_audit.specs.Results.{IsShape}
