@@ -5,6 +5,7 @@ use Rattle.rd_base.specs.declared.element.Extent.{Extent}
 use Rattle.rd_base.specs.declared.element.Extent.TheVariants.{Fixed, Tab, Column}
 use Rattle.rd_base.specs.declared.element.Look.{Look}
 use Rattle.rd_base.specs.declared.element.Look.TheVariants.{Blank, Glyph, RowEnd, LineEnd}
+use Rattle.rd_base.specs.declared.limits.TheConstants.{TAB_COLUMNS}
 use Rattle.rd_base.specs.declared.memory.Memory.{Memory}
 
 -- an element with this look and this extent is sound: a glyph has its 1 to 3 columns, ends have none, stretches are blank
@@ -15,7 +16,7 @@ IsSoundLook RowEnd (Fixed n) = n ≡ 0
 IsSoundLook RowEnd _ = ⊥
 IsSoundLook LineEnd (Fixed n) = n ≡ 0
 IsSoundLook LineEnd _ = ⊥
-IsSoundLook Blank (Tab t) = (1 ≤ t) × (t ≤ 32)
+IsSoundLook Blank (Tab t) = (1 ≤ t) × (t ≤ TAB_COLUMNS)
 IsSoundLook Blank _ = Unit {0}
 
 abbrev pub IsSound : Element → Type 0

@@ -30,17 +30,71 @@ pub const FACES: u32 = 1_024;
 /// Display tables made in one run.
 pub const TABLES: u32 = 64;
 
+/// Runs of faces and display specs that are given with a string.
+pub const STRING_RUNS: u32 = 256;
+
+/// Entries of a display table.
+pub const TABLE_ENTRIES: u32 = 256;
+
+/// Glyph characters of an entry of a display table, and of an ellipsis.
+pub const ENTRY_GLYPHS: u32 = 16;
+
 /// Columns from one stop of a tab to the next.
 pub const TAB_COLUMNS: u8 = 32;
+
+/// The greatest atom, by which text is invisible.
+pub const ATOMS: u32 = 65_535;
+
+/// Atoms in a buffer's list of what is invisible.
+pub const INVISIBLE_ATOMS: u32 = 256;
+
+/// The greatest priority of an overlay; the least is as far below 0.
+pub const PRIORITY: i32 = 1_000_000;
 
 /// Windows that live at one time.
 pub const WINDOWS: u32 = 64;
 
+/// The least columns of a frame.
+pub const LEAST_FRAME_COLUMNS: u32 = 12;
+
 /// Columns of the frame, so of a screen, a window and a row.
 pub const FRAME_COLUMNS: u32 = 400;
 
+/// The least rows of a frame.
+pub const LEAST_FRAME_ROWS: u32 = 2;
+
 /// Rows of the frame, so of a screen and a window.
 pub const FRAME_ROWS: u32 = 200;
+
+/// The least columns of a window's text.
+pub const LEAST_TEXT_COLUMNS: u32 = 10;
+
+/// Columns of the line numbers beside a window's text.
+pub const NUMBER_COLUMNS: u32 = 10;
+
+/// Columns of the margin strings beside a window's text.
+pub const STRING_COLUMNS: u32 = 20;
+
+/// The greatest row of a block at which a window can be made to start.
+pub const START_ROW: u32 = 1_000_000;
+
+/// Rows that one op scrolls, up or down.
+pub const SCROLL_ROWS: u32 = 1_000_000;
+
+/// Rows that wait to be scrolled, up or down.
+pub const PENDING_ROWS: u32 = 1_000_000_000;
+
+/// Columns that a window can be scrolled sideways.
+pub const HSCROLL_COLUMNS: u32 = 1_000_000;
+
+/// Rows of the scroll margin.
+pub const SCROLL_MARGIN: u32 = 200;
+
+/// Rows up to which a window is scrolled without putting point in its middle.
+pub const SCROLL_CONSERVATIVELY: u32 = 100;
+
+/// Characters of a mode line's format, and of the echo area's text.
+pub const PLAIN_CHARACTERS: u32 = 4_096;
 
 /// Bytes in a line of a script, its newline not counted.
 pub const LINE_BYTES: u32 = 1_048_576;

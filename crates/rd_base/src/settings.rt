@@ -38,6 +38,7 @@ pub struct Settings {
 impl Model for Settings {
     ghost use Rattle.std.specs.Prelude.{ℕ, ◌≤◌};
     ghost use Rattle.rd_base.specs.Settings.{SettingValues};
+    ghost use Rattle.rd_base.specs.declared.limits.TheConstants.{TAB_COLUMNS};
 
     ghost Value = { SettingValues };
 
@@ -54,7 +55,7 @@ impl Model for Settings {
       read_only = s.read_only;
     } };
 
-    ghost invariant = { λ s. (1 ≤ s.tab_width) × (s.tab_width ≤ 32) };
+    ghost invariant = { λ s. (1 ≤ s.tab_width) × (s.tab_width ≤ TAB_COLUMNS) };
 }
 
 impl Settings {

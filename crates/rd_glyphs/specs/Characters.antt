@@ -11,6 +11,7 @@ use Rattle.rd_base.specs.declared.element.Element.{Element}
 use Rattle.rd_base.specs.declared.element.Extent.{Extent}
 use Rattle.rd_base.specs.declared.element.Extent.TheVariants.{Fixed, Tab, Column}
 use Rattle.rd_base.specs.Elements.{IsSound}
+use Rattle.rd_base.specs.declared.limits.TheConstants.{TAB_COLUMNS}
 use Rattle.rd_base.specs.declared.element.Look.{Look}
 use Rattle.rd_base.specs.declared.element.Look.TheVariants as look
 use Rattle.rd_base.specs.declared.element.Origin.{Origin}
@@ -141,7 +142,7 @@ ShowsColumns s = Unit {0}
 -- an extent of 1 to 3 columns, or that of a tab
 abbrev pub IsShort : Extent → Type 0
 IsShort (Fixed n) = (1 ≤ n) × (n ≤ 3)
-IsShort (Tab t) = (1 ≤ t) × (t ≤ 32)
+IsShort (Tab t) = (1 ≤ t) × (t ≤ TAB_COLUMNS)
 IsShort (Column n) = ⊥
 
 -- what an element of a character always is
@@ -151,7 +152,7 @@ IsShortElement e = IsSound e × IsShort e.extent
 -- what the elements of a character depend on is sound: the table holds glyph characters, and a tab has 1 to 32 columns
 pub record AreSoundParts (parts : PartValues) : Type 0 where
   pub table : IfSome parts.table (λ table. IsTable table)
-  pub tab : (1 ≤ parts.settings.tab_width) × (parts.settings.tab_width ≤ 32)
+  pub tab : (1 ≤ parts.settings.tab_width) × (parts.settings.tab_width ≤ TAB_COLUMNS)
 
 -- an element of this face and this origin
 abbrev pub HasOrigin : Attributes → Origin → Element → Type 0

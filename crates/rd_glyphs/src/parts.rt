@@ -1,5 +1,6 @@
 //! The elements of a character.
 ghost use Rattle.std.specs.Prelude.{◌≡◌, ◌≤◌, ◌∷◌, [], map, length, All, None, IsTrue, IsOk, IfOk};
+ghost use Rattle.rd_base.specs.declared.limits.TheConstants.{TAB_COLUMNS};
 ghost use Rattle.rd_base.specs.Elements.{AreSound};
 ghost use Rattle.rd_base.specs.Glyphs.{IsMeasuredLook, AreMeasured};
 ghost use Rattle.rd_objects.specs.Tables.{is_glyph_text};
@@ -155,7 +156,7 @@ fn of_tab(
     face: Face,
     origin: Origin,
 ) -> Result<SmallVec<Element, 4>, Memory>
-    requires { (1 ≤ stop) × (stop ≤ 32) }
+    requires { (1 ≤ stop) × (stop ≤ TAB_COLUMNS) }
     ensures value { IfOk result (λ elements. elements.items ≡ tab_of stop face origin ∷ []) }
     ensures shape { IfOk result (λ elements. All IsShortElement elements.items) }
     ensures measured { IfOk result (λ elements. AreMeasured elements.items) }

@@ -1,6 +1,7 @@
 -- Display tables.
 use Rattle.std.specs.Prelude.{◌≡◌, ℕ, nat_le, nat_lt, ◌==◌, Bool, not, ◌&&◌, ◌||◌, IsTrue, if◌then◌else◌, List, [], ◌∷◌, length, All, Option, None, Some}
 use Rattle.std.specs.List.{list_all}
+use Rattle.rd_base.specs.declared.limits.TheConstants.{ENTRY_GLYPHS}
 use Rattle.rd_base.specs.Chars.{is_scalar}
 use Rattle.rd_base.specs.declared.cell.Glyph.{Glyph}
 use Rattle.rd_objects.specs.declared.run.Slot.{Slot}
@@ -38,7 +39,7 @@ has_no_glyph code = is_control code || (columns code == 0)
 
 -- at most 16 glyph characters
 abbrev pub is_glyph_text : List Glyph → Bool
-is_glyph_text text = nat_le (length text) 16 && list_all is_glyph_character text
+is_glyph_text text = nat_le (length text) ENTRY_GLYPHS && list_all is_glyph_character text
 
 -- one glyph character of one column
 abbrev pub is_slot_glyph : Glyph → Bool

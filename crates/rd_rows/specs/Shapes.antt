@@ -1,6 +1,6 @@
 -- Shapes, as contracts see them.
 use Rattle.std.specs.Prelude.{ℕ, ◌-◌, ◌≤◌, ◌||◌, Bool, true, false, nat_lt}
-use Rattle.rd_base.specs.declared.limits.TheConstants.{FRAME_COLUMNS}
+use Rattle.rd_base.specs.declared.limits.TheConstants.{FRAME_COLUMNS, LEAST_TEXT_COLUMNS}
 use Rattle.rd_base.specs.declared.settings.Wrap.{Wrap}
 use Rattle.rd_base.specs.declared.settings.Wrap.TheVariants.{Truncate, Word}
 
@@ -11,7 +11,7 @@ pub record ShapeValues : Type 0 where
 
 -- a window's rows have 10 to 400 columns
 pub record IsShape (shape : ShapeValues) : Type 0 where
-  pub least : 10 ≤ shape.width
+  pub least : LEAST_TEXT_COLUMNS ≤ shape.width
   pub most : shape.width ≤ FRAME_COLUMNS
 
 -- the columns before the last one, which is kept for a mark
