@@ -4,3 +4,4 @@ mod FromLeft
 mod Lasts
 mod Lengths
 mod Sequences
+pub mod Turns

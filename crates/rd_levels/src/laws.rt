@@ -1,5 +1,5 @@
 //! What the levels and turns of lines always are.
-ghost use Rattle.std.specs.Prelude.{◌≡◌, ℕ, Bool, true, List, [], ◌∷◌, ◌++◌, length, replicate};
+ghost use Rattle.std.specs.Prelude.{◌≡◌, ℕ, ◌<◌, ◌==◌, Bool, true, List, [], ◌∷◌, ◌++◌, length, replicate, count_by};
 ghost use Rattle.rd_base.specs.declared.class.Class.{Class};
 ghost use Rattle.rd_base.specs.declared.class.Class.TheVariants.{B};
 ghost use Rattle.rd_ucd.specs.declared.spans.BracketEntry.{BracketEntry};
@@ -20,4 +20,10 @@ pub fn lines_have_a_level_each()
 /// A separator of paragraphs at the end of a line, as the ender of a block is, comes last in visual order. The call does nothing.
 pub fn enders_come_last()
     ensures { (entries : List BracketEntry) (reorder : Bool) (base : ℕ) (classes : List Class) (codes : List ℕ) → ComesLast (turns_of entries reorder base (classes ++ B ∷ []) codes) (length classes) }
+{}
+
+/// Each place of a line, counted from 0, comes exactly once in the line's visual order. The call does nothing.
+pub fn each_place_has_one_turn()
+    ensures { (entries : List BracketEntry) (reorder : Bool) (base : ℕ) (classes : List Class) (codes : List ℕ) (place : ℕ)
+        → place < length classes → count_by (λ t. place == t.index) (turns_of entries reorder base classes codes) ≡ 1 }
 {}

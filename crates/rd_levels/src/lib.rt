@@ -9,5 +9,7 @@ mod laws;
 mod turn;
 
 pub use cache::LevelCache;
-pub use laws::{enders_come_last, lines_have_a_level_each, lines_read_from_the_left};
+pub use laws::{
+    each_place_has_one_turn, enders_come_last, lines_have_a_level_each, lines_read_from_the_left,
+};
 pub use turn::{Turn, turns_of};

@@ -1,3 +1,4 @@
 mod Places
 mod Turned
 mod Steps
+pub mod Once
