@@ -9,7 +9,7 @@ use Rattle.rd_overlays.specs.Overlays.{overlay_at, place_of, covers, starts, end
 use Rattle.rd_overlays.specs.Listings.{listed_priority}
 use Rattle.rd_objects.specs.Things.{ObjectLists}
 use Rattle.rd_props.specs.Buffers.{BufferValue}
-use Rattle.rd_props.specs.Stops.{IsNextStop}
+use Rattle.rd_props.specs.Stops.{IsNextStop, LookAlike}
 use Rattle.rd_props.specs.Values.{effective}
 use Rattle.rd_props.specs.Faces.{face_at}
 use Rattle.rd_props.specs.Strings.{strings_at}
@@ -74,7 +74,7 @@ module _ (agree : ListingsAgree) (s : BufferValue) (p stop q : ℕ) (next : IsNe
       let first = below p s.text.end (omega arith) in
       rw (here, first, same, property)
 
-  pub appearance-same : (objects : ObjectLists) → appearance_in (seen_at s objects q) ≡ appearance_in (seen_at s objects p)
+  appearance-same : (objects : ObjectLists) → appearance_in (seen_at s objects q) ≡ appearance_in (seen_at s objects p)
   appearance-same objects = λ i. record {
     display = value-same Display i;
     invisible = value-same Invisible i;
@@ -93,5 +93,11 @@ module _ (agree : ListingsAgree) (s : BufferValue) (p stop q : ℕ) (next : IsNe
       agree (ends q) (ends q) s.overlays [] (λ k.
       slot-none (ends q) (overlay_at s.overlays k) (λ o lives. ends-not q o (λ e. next.no_edge q later before (k, o, lives, inr e))))
 
-  pub strings-none : strings_at s q ≡ []
+  strings-none : strings_at s q ≡ []
   strings-none = let first = none-start in let last = none-end in rw (first, last)
+
+pub look-alike : ListingsAgree → (s : BufferValue) (objects : ObjectLists) (p stop : ℕ) → IsNextStop s p stop → LookAlike s objects p stop
+look-alike agree s objects p stop next = record {
+  appearance = λ q later before. appearance-same agree s p stop q next later before objects;
+  strings = λ q later before. strings-none agree s p stop q next later before;
+}

@@ -12,3 +12,4 @@ pub mod Editing
 pub mod Between
 pub mod Replacing
 pub mod Names
+pub mod Sees

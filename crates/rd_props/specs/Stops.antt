@@ -1,8 +1,12 @@
 -- How far nothing changes.
-use Rattle.std.specs.Prelude.{◌≡◌, ◌⊎◌, ℕ, ◌<◌, ◌≤◌, min, List, Option, None, Some}
+use Rattle.std.specs.Prelude.{◌≡◌, ◌⊎◌, ℕ, ◌<◌, ◌≤◌, min, List, [], Option, None, Some}
 use Rattle.rd_overlays.specs.declared.overlay.Overlay.{Overlay}
 use Rattle.rd_overlays.specs.Overlays.{overlay_at}
+use Rattle.rd_objects.specs.Things.{ObjectLists}
+use Rattle.rd_props.specs.Appearance.{appearance_in}
 use Rattle.rd_props.specs.Buffers.{BufferValue, values_of}
+use Rattle.rd_props.specs.Seen.{seen_at}
+use Rattle.rd_props.specs.Strings.{strings_at}
 
 -- every text property has the same value at two positions
 abbrev pub AreSame : BufferValue → ℕ → ℕ → Type 0
@@ -24,6 +28,11 @@ pub record IsNextStop (s : BufferValue) (pos stop : ℕ) : Type 0 where
   pub same : (p : ℕ) → pos < p → p < stop → AreSame s p pos
   pub no_edge : (p : ℕ) → pos < p → p < stop → HasEdge s.overlays p → ⊥
   pub reason : stop < s.text.end → Differs s stop pos ⊎ HasEdge s.overlays stop
+
+-- the positions behind one and before another look like it, and no string of an overlay stands at them
+pub record LookAlike (s : BufferValue) (objects : ObjectLists) (pos stop : ℕ) : Type 0 where
+  pub appearance : (p : ℕ) → pos < p → p < stop → appearance_in (seen_at s objects p) ≡ appearance_in (seen_at s objects pos)
+  pub strings : (p : ℕ) → pos < p → p < stop → strings_at s p ≡ []
 
 -- the first edge of an overlay behind a position, and the end where there is none before it
 pub record IsFirstEdge (slots : List (Option Overlay)) (end pos stop : ℕ) : Type 0 where

@@ -11,8 +11,7 @@ ghost use Rattle.rd_props.specs.Shown.{hidden};
 ghost use Rattle.rd_objects.specs.Things.{ObjectLists};
 ghost use Rattle.rd_props.specs.Strings.{strings_at};
 ghost use Rattle.rd_props.specs.Seen.{seen_at, hidden_seen};
-ghost use Rattle.rd_props.specs.Appearance.{appearance_in};
-ghost use Rattle.rd_props.specs.Stops.{IsNextStop};
+ghost use Rattle.rd_props.specs.Stops.{IsNextStop, LookAlike};
 ghost use Rattle.rd_props.specs.declared.hiding.Hidden.TheVariants.{No, Plain, Ellipsis};
 ghost use Rattle.rd_props.specs.Laws.{Gives, IsGreatest};
 ghost use Rattle.rd_props.specs.Examples.{three_characters, coloured, two_faces, meeting, partly_invisible};
@@ -38,8 +37,7 @@ pub fn what_is_seen_says_what_is_hidden()
 /// Between a position and the next stop behind it no value changes, nor the face, and no string of an overlay stands there. The call
 /// does nothing.
 pub fn nothing_changes_before_the_next_stop()
-    ensures appearance { (s : BufferValue) (objects : ObjectLists) (pos stop p : ℕ) → IsNextStop s pos stop → pos < p → p < stop → appearance_in (seen_at s objects p) ≡ appearance_in (seen_at s objects pos) }
-    ensures strings { (s : BufferValue) (pos stop p : ℕ) → IsNextStop s pos stop → pos < p → p < stop → strings_at s p ≡ [] }
+    ensures { (s : BufferValue) (objects : ObjectLists) (pos stop : ℕ) → IsNextStop s pos stop → LookAlike s objects pos stop }
 {
     listings_agree();
 }

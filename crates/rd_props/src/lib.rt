@@ -27,7 +27,7 @@ pub use laws::{
     atoms_that_hide, effective_values_are_the_greatest_overlays, faces_that_merge,
     nothing_changes_before_the_next_stop, strings_that_meet, what_is_seen_says_what_is_hidden,
 };
-pub use made::edits_keep_what_is_made;
+pub use made::{edits_keep_what_is_made, made_objects_alone_are_seen};
 pub use shown::hidden;
 pub use state::{BufferState, View};
 pub use stops::next_stop;
