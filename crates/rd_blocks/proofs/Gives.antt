@@ -20,8 +20,10 @@ use Rattle.rd_items.specs.Pieces.{Scene, gives_element, give_elements, string_gi
 use Rattle.rd_items.specs.Items.{kind_gives}
 use Rattle.rd_items.specs.declared.item.ItemKind.{ItemKind}
 use Rattle.rd_items.specs.declared.item.ItemKind.TheVariants as item
+use Rattle.rd_levels.proofs.Turns.{total_in, each-turn}
 use Rattle.rd_levels.specs.Turns.{turns_of}
 use Rattle.rd_levels.specs.declared.turn.Turn.{Turn}
+use Rattle.rd_order.proofs.Once.{is_place, once-at-least}
 use Rattle.rd_stack.specs.Strings.{place_of, run_heads, ends_row, part_of, part_joins, part_class, part_code, shown_by, shown_at, in_order, row, row_end, rows_from}
 use Rattle.rd_stack.specs.Shown.{kind_elements, inner_elements, inner}
 use Rattle.rd_stack.specs.Lines.{ellipsis_glyphs, outer_by}
@@ -30,7 +32,6 @@ use Rattle.rd_stack.specs.declared.part.Part.{Part}
 use Rattle.rd_stack.specs.declared.part.Shown.{Shown}
 use Rattle.rd_stack.specs.declared.part.PartKind.{PartKind}
 use Rattle.rd_stack.specs.declared.part.PartKind.TheVariants as kind
-use Rattle.rd_blocks.proofs.Turns.{LevelsEach, total_in, is_place, each-turn, once-at-least}
 
 -- the law of characters that give an element
 abbrev pub CharactersGive : Type 0
@@ -129,14 +130,14 @@ gives-at : (s : Scene) (xs : List Part) → some_gives s xs ≡ true → GivesAt
 gives-at s [] h = absurd (let q : false ≡ true = h in cc)
 gives-at s (x ∷ xs) h = gives-by s x xs (or-parts (part_gives s x.kind) (some_gives s xs) h) (gives-at s xs)
 
-order-some : LevelsEach → CharactersGive → (s : Scene) (base : ℕ) (origin : Origin) (xs : List Part) → some_gives s xs ≡ true → 1 ≤ length (flat_map (inner_elements s origin) (in_order s base xs))
-order-some levels law s base origin xs h =
+order-some : CharactersGive → (s : Scene) (base : ℕ) (origin : Origin) (xs : List Part) → some_gives s xs ≡ true → 1 ≤ length (flat_map (inner_elements s origin) (in_order s base xs))
+order-some law s base origin xs h =
     let found = gives-at s xs h in
     let turns = turns_of s.brackets s.parts.settings.reorder base (map part_class xs) (map part_code xs) in
     let size : length (map part_class xs) ≡ length xs = length-map xs part_class in
     let within = found.within in
     let there : 1 ≤ total_in (is_place found.place) turns =
-    let each = each-turn levels s.brackets s.parts.settings.reorder base (map part_class xs) (map part_code xs) (is_place found.place) in
+    let each = each-turn s.brackets s.parts.settings.reorder base (map part_class xs) (map part_code xs) (is_place found.place) in
     let once = once-at-least found.place 0 (length (map part_class xs)) (omega arith) (omega (arith, size, within)) in
     omega (arith, each, once) in
     turn-some (inner_elements s origin) (shown_at xs) found.place turns there
@@ -206,15 +207,15 @@ go-on : (s : Scene) (xs : List Part) (text : TextValue) (under : Attributes) (i 
 go-on s xs text under i is e (inl h) = inl (gives-append s xs (part_of s (bare_place text under i) ∷ []) (inl h))
 go-on s xs text under i is e (inr h) = go-by s xs text under i is e (or-parts (gives_element s.parts.table (get_or text.chars i 0)) (char_gives s text is) h)
 
-rows-some : LevelsEach → CharactersGive → (s : Scene) (base : ℕ) (origin : Origin) (text : TextValue) (under : Attributes) (xs : List Part) (is : List ℕ)
+rows-some : CharactersGive → (s : Scene) (base : ℕ) (origin : Origin) (text : TextValue) (under : Attributes) (xs : List Part) (is : List ℕ)
     → (some_gives s xs ≡ true) ⊎ (char_gives s text is ≡ true) → 1 ≤ length (flat_map (inner_elements s origin) (rows_from s base xs (map (bare_place text under) is)))
-rows-some levels law s base origin text under xs [] (inl h) = order-some levels law s base origin (joined part_joins xs) (joined-gives s xs h)
-rows-some levels law s base origin text under xs [] (inr h) = absurd (let q : false ≡ true = h in cc)
-rows-some levels law s base origin text under xs (i ∷ is) h =
+rows-some law s base origin text under xs [] (inl h) = order-some law s base origin (joined part_joins xs) (joined-gives s xs h)
+rows-some law s base origin text under xs [] (inr h) = absurd (let q : false ≡ true = h in cc)
+rows-some law s base origin text under xs (i ∷ is) h =
     let p = bare_place text under i in
     rows-by (ends_row p) (inner_elements s origin) (row s base xs ++ row_end p.face ∷ rows_from s base [] (map (bare_place text under) is)) (rows_from s base (xs ++ part_of s p ∷ []) (map (bare_place text under) is))
     (λ e. back-more (inner_elements s origin) (row s base xs) (row_end p.face ∷ rows_from s base [] (map (bare_place text under) is)) (omega arith))
-    (λ e. rows-some levels law s base origin text under (xs ++ part_of s p ∷ []) is (go-on s xs text under i is e h))
+    (λ e. rows-some law s base origin text under (xs ++ part_of s p ∷ []) is (go-on s xs text under i is e h))
 
 get-behind : (front : List ℕ) (c : ℕ) (cs : List ℕ) → get_or (front ++ c ∷ cs) (length front) 0 ≡ c
 get-behind [] c cs = refl
@@ -241,12 +242,12 @@ chars-at s text (c ∷ cs) front is h =
     chars-by s text c cs (length front) (get-at front c cs text.chars is) (or-parts (gives_element s.parts.table c) (give_elements s.parts.table cs) h)
     (λ k. subst (λ n. char_gives s text (range_with_len n (length cs)) ≡ true) (size-more front c) (chars-at s text cs (front ++ c ∷ []) (is ∙ one-behind front c cs) k))
 
-string-some : LevelsEach → CharactersGive → (s : Scene) (base : ℕ) (origin : Origin) (under : Attributes) (text : Option TextValue) → string_gives s.parts.table text ≡ true → 1 ≤ length (inner s base origin under text)
-string-some levels law s base origin under None h = absurd (let q : false ≡ true = h in cc)
-string-some levels law s base origin under (Some text) h =
+string-some : CharactersGive → (s : Scene) (base : ℕ) (origin : Origin) (under : Attributes) (text : Option TextValue) → string_gives s.parts.table text ≡ true → 1 ≤ length (inner s base origin under text)
+string-some law s base origin under None h = absurd (let q : false ≡ true = h in cc)
+string-some law s base origin under (Some text) h =
     let size : length text.chars ≡ length text.chars - 0 = omega arith in
     subst (λ (ps : List Place). 1 ≤ length (flat_map (inner_elements s origin) (rows_from s base [] ps))) (sym (bare-heads text under (range_with_len 0 (length text.chars - 0))))
-    (rows-some levels law s base origin text under [] (range_with_len 0 (length text.chars - 0)) (inr (subst (λ n. char_gives s text (range_with_len 0 n) ≡ true) size (chars-at s text text.chars [] refl h))))
+    (rows-some law s base origin text under [] (range_with_len 0 (length text.chars - 0)) (inr (subst (λ n. char_gives s text (range_with_len 0 n) ≡ true) size (chars-at s text text.chars [] refl h))))
 
 -- what an item shows
 
@@ -259,12 +260,12 @@ ellipsis-some : (table : Option TableValue) (face : Attributes) (origin : Origin
 ellipsis-some None face origin h = let e : 1 ≤ 3 = omega arith in e
 ellipsis-some (Some table) face origin h = glyphs-some table.ellipsis face origin h
 
-pub item-some : LevelsEach → CharactersGive → (s : Scene) (base : ℕ) (k : ItemKind) (odd : Bool) (face : Attributes) (origin : Origin) → kind_gives s k ≡ true → 1 ≤ length (outer_by s base k false odd face origin)
-item-some levels law s base (item.Char c) odd face origin h = law s.parts c odd face origin (not-true (is_empty_entry (entry_of s.parts.table c)) h)
-item-some levels law s base (item.Marked g) odd face origin h = omega arith
-item-some levels law s base (item.Text n) odd face origin h = string-some levels law s base origin face (slice_get s.objects.strings n) h
-item-some levels law s base (item.Space (Text n)) odd face origin h = absurd (let q : false ≡ true = h in cc)
-item-some levels law s base (item.Space (Width n)) odd face origin h = omega arith
-item-some levels law s base (item.Space (Align n)) odd face origin h = omega arith
-item-some levels law s base item.Ellipsis odd face origin h = ellipsis-some s.parts.table face origin h
-item-some levels law s base item.Ender odd face origin h = omega arith
+pub item-some : CharactersGive → (s : Scene) (base : ℕ) (k : ItemKind) (odd : Bool) (face : Attributes) (origin : Origin) → kind_gives s k ≡ true → 1 ≤ length (outer_by s base k false odd face origin)
+item-some law s base (item.Char c) odd face origin h = law s.parts c odd face origin (not-true (is_empty_entry (entry_of s.parts.table c)) h)
+item-some law s base (item.Marked g) odd face origin h = omega arith
+item-some law s base (item.Text n) odd face origin h = string-some law s base origin face (slice_get s.objects.strings n) h
+item-some law s base (item.Space (Text n)) odd face origin h = absurd (let q : false ≡ true = h in cc)
+item-some law s base (item.Space (Width n)) odd face origin h = omega arith
+item-some law s base (item.Space (Align n)) odd face origin h = omega arith
+item-some law s base item.Ellipsis odd face origin h = ellipsis-some s.parts.table face origin h
+item-some law s base item.Ender odd face origin h = omega arith

@@ -1,4 +1,3 @@
-mod Turns
 mod Origins
 mod Gives
 mod Within

@@ -14,12 +14,13 @@ use Rattle.rd_items.specs.Pieces.{Scene}
 use Rattle.rd_items.specs.Items.{kind_gives}
 use Rattle.rd_items.specs.Covers.{Tile, CoverWhereTheyGive}
 use Rattle.rd_items.specs.declared.item.Item.{Item}
+use Rattle.rd_levels.proofs.Turns.{total_in, each-turn}
 use Rattle.rd_levels.specs.declared.turn.Turn.{Turn}
 use Rattle.rd_matrix.specs.Held.{in_range}
+use Rattle.rd_order.proofs.Once.{total, is_place, once-at-most}
 use Rattle.rd_rows.specs.Laws.{ranges_of}
 use Rattle.rd_rows.specs.Placing.{is_item}
 use Rattle.rd_stack.specs.Lines.{outer_by, outer, origin_of, item_elements, item_class, item_code, item_turns, line_of_items}
-use Rattle.rd_blocks.proofs.Turns.{LevelsEach, total, total_in, is_place, each-turn, once-at-most}
 use Rattle.rd_blocks.proofs.Origins.{AreOf, item-of}
 use Rattle.rd_blocks.proofs.Gives.{CharactersGive, item-some}
 
@@ -237,23 +238,23 @@ and-parts false b c h e = absurd (let q : false ≡ true = h in cc)
 less-true : (a b : ℕ) → a < b → nat_lt a b ≡ true
 less-true a b h = grind (arith, nat_tests)
 
-pub item-has : LevelsEach → CharactersGive → (s : Scene) (base k : ℕ) (x : Item) → nat_lt x.from x.to ≡ (not x.overlay && kind_gives s x.kind) → HasElements s base (in_range k) x
-item-has levels law s base k x covers = λ odd origin held.
+pub item-has : CharactersGive → (s : Scene) (base k : ℕ) (x : Item) → nat_lt x.from x.to ≡ (not x.overlay && kind_gives s x.kind) → HasElements s base (in_range k) x
+item-has law s base k x covers = λ odd origin held.
     let less = less-true x.from x.to (holds-less k (range_of_item x) held) in
     let parts = and-parts (nat_lt x.from x.to) x.overlay (kind_gives s x.kind) less covers in
     subst (λ (b : Bool). 1 ≤ length (outer_by s base x.kind b odd x.face origin)) (sym parts.0)
-    (item-some levels law s base x.kind odd x.face origin parts.1)
+    (item-some law s base x.kind odd x.face origin parts.1)
 
 -- the items of a line: each offset is in the range of exactly one
-pub line-once : LevelsEach → CharactersGive → (s : Scene) (base size k : ℕ) (items : List Item) → Tile 0 size items → CoverWhereTheyGive s items → k < size
+pub line-once : CharactersGive → (s : Scene) (base size k : ℕ) (items : List Item) → Tile 0 size items → CoverWhereTheyGive s items → k < size
     → count_by (in_range k) (ranges_of None (line_of_items s base items)) ≡ 1
-line-once levels law s base size k items tile give below =
+line-once law s base size k items tile give below =
     let ts = item_turns s base items in
     let classes = map item_class items in
     let codes = map item_code items in
-    let each = each-turn levels s.brackets s.parts.settings.reorder base classes codes in
+    let each = each-turn s.brackets s.parts.settings.reorder base classes codes in
     let once : (i : ℕ) → total_in (is_place i) ts ≤ 1 = λ i. let all = each (is_place i) in let most = once-at-most i 0 (length classes) in omega (arith, all, most) in
-    counted s base (in_range k) items None ts (λ i x at. item-has levels law s base k x (all-at (λ (y : Item). nat_lt y.from y.to ≡ (not y.overlay && kind_gives s y.kind)) items i x give at)) once tt
+    counted s base (in_range k) items None ts (λ i x at. item-has law s base k x (all-at (λ (y : Item). nat_lt y.from y.to ≡ (not y.overlay && kind_gives s y.kind)) items i x give at)) once tt
     ∙ each (hit (in_range k) items)
     ∙ ap (λ n. total (hit (in_range k) items) (range_with_len 0 n)) (length-map items item_class)
     ∙ hits (in_range k) items

@@ -32,7 +32,6 @@ use Rattle.rd_stack.specs.Lines.{line_elements}
 use Rattle.rd_blocks.specs.Bases.{block_in, blocks_in}
 use Rattle.rd_blocks.specs.Rows.{block_cutting, block_rows}
 use Rattle.rd_blocks.specs.Sources.{text_source}
-use Rattle.rd_blocks.proofs.Turns.{LevelsEach}
 use Rattle.rd_blocks.proofs.Gives.{CharactersGive}
 use Rattle.rd_blocks.proofs.Within.{items-within}
 use Rattle.rd_blocks.proofs.Ranges.{LiesWithin, line-once, line-within}
@@ -41,7 +40,6 @@ use Rattle.rd_blocks.proofs.Quiet.{PrefixesOpen, quiet-cutting}
 
 -- what lower layers promise
 pub record Lower : Type 0 where
-  pub levels : LevelsEach
   pub characters : CharactersGive
   pub prefixes : PrefixesOpen
   pub listed : (s : BufferValue) → s.text.begin ≤ s.text.end → (k : ℕ) (b : ℕ × ℕ) → slice_get (blocks_of s) k ≡ Some b → IsBlock s b.0 b.1
@@ -148,7 +146,7 @@ rows-right low scene base start end shape es is size =
           ap (λ p. count_by (covers start p) begins) at
           ∙ count-same (covers start (start + (point - start))) (in_range (point - start)) begins (covers-moved start (point - start))
           ∙ ap (count_by (in_range (point - start))) begun
-          ∙ line-once low.levels low.characters scene base (length es) (point - start) (items_of scene es) tile give less;
+          ∙ line-once low.characters scene base (length es) (point - start) (items_of scene es) tile give less;
     }
 
 pub source-right : Lower → (s : BufferValue) (objects : ObjectLists) (files : Data) → IsText s.text → IsSource (text_source s objects files)

@@ -9,7 +9,6 @@ ghost use Rattle.rd_blocks.specs.Sources.{text_source};
 
 use rd_glyphs::elements_are_sound;
 use rd_items::{blocks_are_listed, blocks_are_read_whole, items_cover_their_block};
-use rd_levels::lines_have_a_level_each;
 use rd_rows::rows_behind_quiet_prefixes;
 use rd_stack::{lines_end_once, prefixes_end_no_line};
 
@@ -24,7 +23,6 @@ pub fn buffers_are_sources()
     items_cover_their_block();
     rows_behind_quiet_prefixes();
     elements_are_sound();
-    lines_have_a_level_each();
     lines_end_once();
     prefixes_end_no_line();
 }

@@ -3,7 +3,6 @@ use Rattle.rd_blocks.proofs.laws.buffers_are_sources.Goals as goal
 
 pub returns : goal.returns
 returns c = source-right (record {
-  levels = c.lines_have_a_level_each.ensures;
   characters = c.elements_are_sound.ensures.some;
   prefixes = c.prefixes_end_no_line.ensures;
   listed = c.blocks_are_listed.ensures.blocks;
