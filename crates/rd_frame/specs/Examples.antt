@@ -1,0 +1,78 @@
+-- Frames that the worked examples speak of.
+use Rattle.std.specs.Prelude.{ℕ, ◌==◌, if◌then◌else◌, false, List, [], ◌∷◌, ◌++◌, map, codes, Option, None, Some, true}
+use Rattle.rd_base.specs.Cells.{single}
+use Rattle.rd_base.specs.Faces.{Attributes, plain}
+use Rattle.rd_base.specs.declared.cell.Cell.{Cell}
+use Rattle.rd_base.specs.declared.cell.Cell.TheVariants.{Blank, First}
+use Rattle.rd_tree.specs.Windows.{Windows, Window, Split}
+use Rattle.rd_tree.specs.declared.placed.Placed.{Placed}
+use Rattle.rd_tree.specs.declared.side.Side.TheVariants.{Below, Right}
+use Rattle.rd_frame.specs.Panes.{GlyphRow, PaneValues, border_cell}
+use Rattle.rd_frame.specs.Frames.{FrameValues}
+
+-- a letter of a text in a face, where a space is a blank
+abbrev pub letter : Attributes → ℕ → Cell
+letter face code = if code == 32 then Blank face else First (single code 1) face
+
+abbrev pub letters : List ℕ → List Cell
+letters text = map (letter plain) text
+
+-- the same in the face of mode lines
+abbrev pub inverted : List ℕ → List Cell
+inverted text = map (letter (record plain { inverse = true })) text
+
+-- a glyph row of two texts
+abbrev pub glyphs : List ℕ → List ℕ → GlyphRow
+glyphs margin text = record { margin = letters margin; text = letters text }
+
+-- three lines of a text in a window, with a mode line
+abbrev pub three_lines : List ℕ → List ℕ → List ℕ → PaneValues
+three_lines first second third = record {
+  rows = glyphs [] first ∷ glyphs [] second ∷ glyphs [] third ∷ [];
+  border = border_cell None;
+  mode_line = inverted (codes "main 3 27%  ");
+}
+
+-- two windows side by side on a frame of 24 columns and 5 rows: the left one has a border
+abbrev pub beside_each_other : FrameValues
+beside_each_other = record {
+  tree = record { windows = Split Right 12 (Window 0 true 0) (Window 1 true 0); width = 24; height = 4; made = 2 };
+  panes = λ window.
+      if window.number == 0
+      then three_lines (codes "3          ") (codes "4          ") (codes "5          ")
+      else three_lines (codes "3           ") (codes "4           ") (codes "5           ");
+  echo = letters (codes "                        ");
+  selected = 0;
+  cursor = Some (0, 0);
+}
+
+-- a row behind its margins, in a window whose mode line is of dashes where it shows one
+abbrev pub one_line : List ℕ → List ℕ → PaneValues
+one_line margin text = record { rows = glyphs margin text ∷ []; border = border_cell None; mode_line = inverted (codes "--------------") }
+
+-- a window above another, which is selected, has a margin string and shows no cursor
+abbrev pub above_another : FrameValues
+above_another = record {
+  tree = record { windows = Split Below 2 (Window 0 true 0) (Window 1 false 3); width = 14; height = 4; made = 2 };
+  panes = λ window. if window.number == 0 then one_line [] (codes "top           ") else one_line (codes ">> ") (codes "ab         ");
+  echo = letters (codes "saved         ");
+  selected = 1;
+  cursor = None;
+}
+
+-- two lines behind their numbers, in a window of 16 columns and 3 rows
+abbrev pub two_numbers : PaneValues
+two_numbers = record {
+  rows = glyphs (codes "  1 ") (codes "a           ") ∷ glyphs (codes "  2 ") (codes "b           ") ∷ [];
+  border = border_cell None;
+  mode_line = [];
+}
+
+abbrev pub numbered_lines : FrameValues
+numbered_lines = record {
+  tree = record { windows = Window 0 false 4; width = 16; height = 3; made = 1 };
+  panes = λ window. two_numbers;
+  echo = letters (codes "                ");
+  selected = 0;
+  cursor = Some (0, 0);
+}

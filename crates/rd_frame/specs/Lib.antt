@@ -1,0 +1,6 @@
+pub mod Panes
+pub mod Frames
+pub mod Fits
+pub mod Paints
+pub mod Held
+pub mod Examples

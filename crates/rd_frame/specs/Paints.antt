@@ -1,0 +1,26 @@
+-- Screens over which rectangles are painted.
+use Rattle.std.specs.Prelude.{ℕ, List, [], ◌∷◌, ◌++◌, take, drop}
+use Rattle.rd_tree.specs.declared.placed.Placed.{Placed}
+use Rattle.rd_tree.specs.declared.rect.Rect.{Rect}
+use Rattle.rd_term.specs.Pictures.{written_over}
+
+-- rows with others over them, from a column on and from the first row down
+abbrev pub laid_over : {C : Type 0} → ℕ → List (List C) → List (List C) → List (List C)
+laid_over column [] rows = rows
+laid_over column (new ∷ news) [] = []
+laid_over column (new ∷ news) (row ∷ rows) = written_over column new row ∷ laid_over column news rows
+
+-- the rows of a screen with others in place of those of a rectangle
+abbrev pub with_rectangle : {C : Type 0} → Rect → List (List C) → List (List C) → List (List C)
+with_rectangle rect news rows = take rect.y rows ++ laid_over rect.x news (drop rect.y rows)
+
+-- the rows of a screen over which windows are painted, one after the other
+abbrev pub painted : {C : Type 0} → (Placed → List (List C)) → List Placed → List (List C) → List (List C)
+painted rows_of [] rows = rows
+painted rows_of (window ∷ windows) rows = painted rows_of windows (with_rectangle window.rect (rows_of window) rows)
+
+-- the rows of a screen with others in place of its last, which is the echo area
+abbrev pub with_echo : {C : Type 0} → List C → List (List C) → List (List C)
+with_echo echo [] = []
+with_echo echo (row ∷ []) = echo ∷ []
+with_echo echo (row ∷ next ∷ rows) = row ∷ with_echo echo (next ∷ rows)
