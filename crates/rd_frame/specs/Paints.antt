@@ -10,9 +10,13 @@ laid_over column [] rows = rows
 laid_over column (new ∷ news) [] = []
 laid_over column (new ∷ news) (row ∷ rows) = written_over column new row ∷ laid_over column news rows
 
+-- the same from a row on
+abbrev pub laid_from : {C : Type 0} → ℕ → ℕ → List (List C) → List (List C) → List (List C)
+laid_from row column news rows = take row rows ++ laid_over column news (drop row rows)
+
 -- the rows of a screen with others in place of those of a rectangle
 abbrev pub with_rectangle : {C : Type 0} → Rect → List (List C) → List (List C) → List (List C)
-with_rectangle rect news rows = take rect.y rows ++ laid_over rect.x news (drop rect.y rows)
+with_rectangle rect news rows = laid_from rect.y rect.x news rows
 
 -- the rows of a screen over which windows are painted, one after the other
 abbrev pub painted : {C : Type 0} → (Placed → List (List C)) → List Placed → List (List C) → List (List C)

@@ -1,5 +1,5 @@
 //! The definitions on worked examples.
-ghost use Rattle.std.specs.Prelude.{◌≡◌, ◌∷◌, [], codes, None, Some};
+ghost use Rattle.std.specs.Prelude.{ℕ, ◌≡◌, ◌∷◌, [], codes, None, Some};
 ghost use Rattle.rd_base.specs.Cells.{single};
 ghost use Rattle.rd_base.specs.Faces.{plain};
 ghost use Rattle.rd_base.specs.declared.cell.Cell.TheVariants.{Blank, First};
@@ -12,15 +12,15 @@ ghost use Rattle.rd_frame.specs.Paints.{with_rectangle, with_echo};
 /// The left window has a border beside its text and none beside its mode line, the right one reaches the frame's edge.
 fn windows_side_by_side()
     ensures screen { frame_picture beside_each_other ≡ record {
-        rows =
-            letters (codes "3          |3           ")
-            ∷ letters (codes "4          |4           ")
-            ∷ letters (codes "5          |5           ")
-            ∷ inverted (codes "main 3 27%  main 3 27%  ")
-            ∷ blank_row 24
-            ∷ [];
-        row = 0;
-        column = 0;
+      rows =
+          letters (codes "3          |3           ")
+          ∷ letters (codes "4          |4           ")
+          ∷ letters (codes "5          |5           ")
+          ∷ inverted (codes "main 3 27%  main 3 27%  ")
+          ∷ blank_row 24
+          ∷ [];
+      row = 0;
+      column = 0;
     } }
     ensures selected { frame_picture (record beside_each_other { selected = 1; cursor = Some (2, 1) }) ≡ record (frame_picture beside_each_other) { row = 2; column = 13 } }
 {}
@@ -28,24 +28,24 @@ fn windows_side_by_side()
 /// The numbers of lines stand left of the text and move the cursor; the row below the last is blank.
 fn numbers_beside_lines()
     ensures { frame_picture numbered_lines ≡ record {
-        rows = letters (codes "  1 a           ") ∷ letters (codes "  2 b           ") ∷ blank_row 16 ∷ blank_row 16 ∷ [];
-        row = 0;
-        column = 4;
+      rows = letters (codes "  1 a           ") ∷ letters (codes "  2 b           ") ∷ blank_row 16 ∷ blank_row 16 ∷ [];
+      row = 0;
+      column = 4;
     } }
 {}
 
 /// The selected window has no cursor, so that of the screen stands at the first cell of its text, behind its margins.
 fn a_window_above_another()
     ensures { frame_picture above_another ≡ record {
-        rows =
-            letters (codes "top           ")
-            ∷ inverted (codes "--------------")
-            ∷ letters (codes ">> ab         ")
-            ∷ blank_row 14
-            ∷ letters (codes "saved         ")
-            ∷ [];
-        row = 2;
-        column = 3;
+      rows =
+          letters (codes "top           ")
+          ∷ inverted (codes "--------------")
+          ∷ letters (codes ">> ab         ")
+          ∷ blank_row 14
+          ∷ letters (codes "saved         ")
+          ∷ [];
+      row = 2;
+      column = 3;
     } }
 {}
 
@@ -58,6 +58,6 @@ fn borders()
 
 /// A rectangle of two columns and two rows is painted over three rows of four, and an echo area over the last row.
 fn rectangles_are_painted()
-    ensures rectangle { with_rectangle (record { x = 1; y = 1; width = 2; height = 2 }) ((5 ∷ 6 ∷ []) ∷ (7 ∷ 8 ∷ []) ∷ []) ((0 ∷ 1 ∷ 2 ∷ 3 ∷ []) ∷ (0 ∷ 1 ∷ 2 ∷ 3 ∷ []) ∷ (0 ∷ 1 ∷ 2 ∷ 3 ∷ []) ∷ []) ≡ (0 ∷ 1 ∷ 2 ∷ 3 ∷ []) ∷ (0 ∷ 5 ∷ 6 ∷ 3 ∷ []) ∷ (0 ∷ 7 ∷ 8 ∷ 3 ∷ []) ∷ [] }
-    ensures echo { with_echo (9 ∷ 9 ∷ []) ((0 ∷ 1 ∷ []) ∷ (2 ∷ 3 ∷ []) ∷ []) ≡ (0 ∷ 1 ∷ []) ∷ (9 ∷ 9 ∷ []) ∷ [] }
+    ensures rectangle { with_rectangle {C = ℕ} (record { x = 1; y = 1; width = 2; height = 2 }) ((5 ∷ 6 ∷ []) ∷ (7 ∷ 8 ∷ []) ∷ []) ((0 ∷ 1 ∷ 2 ∷ 3 ∷ []) ∷ (0 ∷ 1 ∷ 2 ∷ 3 ∷ []) ∷ (0 ∷ 1 ∷ 2 ∷ 3 ∷ []) ∷ []) ≡ (0 ∷ 1 ∷ 2 ∷ 3 ∷ []) ∷ (0 ∷ 5 ∷ 6 ∷ 3 ∷ []) ∷ (0 ∷ 7 ∷ 8 ∷ 3 ∷ []) ∷ [] }
+    ensures echo { with_echo {C = ℕ} (9 ∷ 9 ∷ []) ((0 ∷ 1 ∷ []) ∷ (2 ∷ 3 ∷ []) ∷ []) ≡ (0 ∷ 1 ∷ []) ∷ (9 ∷ 9 ∷ []) ∷ [] }
 {}
