@@ -1,4 +1,5 @@
 mod All
+mod Colours
 mod Ends
 mod Fill
 mod Fitting

@@ -1,5 +1,6 @@
 //! What holds of the rows of every line.
-ghost use Rattle.std.specs.Prelude.{◌≡◌, ◌≤◌, ℕ, List, map, IsTrue, None};
+ghost use Rattle.std.specs.Prelude.{◌≡◌, ◌≤◌, ℕ, List, map, All, IsTrue, None};
+ghost use Rattle.rd_base.specs.Cells.{HasColours, IsColoured};
 ghost use Rattle.rd_base.specs.declared.cell.Glyph.{Glyph};
 ghost use Rattle.rd_base.specs.declared.element.Element.{Element};
 ghost use Rattle.rd_base.specs.Elements.{AreSound, ends_once};
@@ -43,4 +44,12 @@ pub fn rows_are_whole()
         → 2 ≤ shape.width → shape.width ≤ FRAME_COLUMNS → IsMeasuredPrefix first → IsMeasuredPrefix wrap → IsMark truncation → IsMark continuation
         → IsMeasuredCutting (cutting_of shape base first wrap truncation continuation) }
     ensures rows { (c : Cutting) (es : List Element) → IsMeasuredCutting c → AreSound es → AreMeasured es → AreWhole c.shape.width (rows_of c es) }
+{}
+
+/// In the rows of elements whose faces have their colours in range, behind prefixes of such elements, each cell has its colours in
+/// range: marks, and what no element fills, are plain. It has no body.
+pub fn rows_are_coloured()
+    ensures { (shape : ShapeValues) (base : ℕ) (first wrap : List Element) (truncation continuation : Glyph) (es : List Element)
+        → All (λ e. HasColours e.face) first → All (λ e. HasColours e.face) wrap → All (λ e. HasColours e.face) es
+        → All (λ r. All IsColoured r.row.cells) (rows_of (cutting_of shape base first wrap truncation continuation) es) }
 {}

@@ -17,7 +17,8 @@ mod spot;
 
 pub use begin::Begin;
 pub use laws::{
-    prefixes_stand_before_lines, rows_are_whole, rows_behind_quiet_prefixes, rows_of_every_line,
+    prefixes_stand_before_lines, rows_are_coloured, rows_are_whole, rows_behind_quiet_prefixes,
+    rows_of_every_line,
 };
 pub use maker::RowMaker;
 pub use row::Row;

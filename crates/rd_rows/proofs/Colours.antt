@@ -1,0 +1,141 @@
+-- In the rows of elements whose colours are in their range each cell has such colours.
+use Rattle.std.proofs.Common.{ℕ, zero, suc, ◌+◌, ◌-◌, ◌&&◌, min, max, nat_le, nat_lt, Bool, true, false, if◌then◌else◌, List, [], ◌∷◌, ◌++◌, length, drop, flat_map, replicate, All, subst, arith, Option, None, Some}
+use Rattle.std.proofs.lemmas.List.Elements.{All-nil, All-cons, All-tail, All-append, All-replicate}
+use Rattle.rd_base.specs.Cells.{HasColours, IsColoured}
+use Rattle.rd_base.specs.Faces.{Attributes, plain}
+use Rattle.rd_base.specs.Glyphs.{is_space, blanks, glyph_cells}
+use Rattle.rd_base.specs.declared.cell.Cell.{Cell}
+use Rattle.rd_base.specs.declared.cell.Cell.TheVariants.{Blank, First, Rest}
+use Rattle.rd_base.specs.declared.cell.Glyph.{Glyph}
+use Rattle.rd_base.specs.declared.element.Element.{Element}
+use Rattle.rd_rows.specs.declared.cutting.Cutting.{Cutting}
+use Rattle.rd_rows.specs.declared.spot.Placed.{Placed}
+use Rattle.rd_rows.specs.declared.spot.Spot.{Spot}
+use Rattle.rd_rows.specs.Cuts.{cut_row}
+use Rattle.rd_rows.specs.Mirrors.{mirror_image, leading_rests}
+use Rattle.rd_rows.specs.Placing.{glyph_in, line_start, next_row, placed_at, behind, place_all, columns_of, width_at}
+use Rattle.rd_rows.specs.Prefixes.{fitted}
+use Rattle.rd_rows.specs.Rows.{whole_cells, seen, seen_in, mark, front_mark, scrolled, filled, last_cell, from_edge, row_of, rows_within, rows_of, cutting_of}
+use Rattle.rd_rows.specs.Shapes.{ShapeValues, room, truncates}
+use Rattle.rd_rows.proofs.Ends.{All-left, All-right}
+use Rattle.rd_rows.proofs.Splits.{cut-is}
+
+-- placed elements whose colours are in their range
+abbrev HaveColours : List Placed → Type 0
+HaveColours [] = Unit {0}
+HaveColours (p ∷ ps) = HasColours p.element.face × HaveColours ps
+
+either : {X : Type 0} (P : X → Type 0) (b : Bool) (x y : X) → P x → P y → P (if b then x else y)
+either P true x y h k = h
+either P false x y h k = k
+
+plain-coloured : HasColours plain
+plain-coloured = record { fg = omega arith; bg = omega arith }
+
+blanks-coloured : (n : ℕ) (face : Attributes) → HasColours face → All IsColoured (blanks n face)
+blanks-coloured n face h = All-replicate IsColoured n (Blank face) h
+
+with-rests : (cell : Cell) (n : ℕ) → IsColoured cell → All IsColoured (cell ∷ replicate n Rest)
+with-rests cell n h = All-cons IsColoured cell (replicate n Rest) h (All-replicate IsColoured n Rest tt)
+
+one-coloured : (cell : Cell) → IsColoured cell → All IsColoured (cell ∷ [])
+one-coloured cell h = All-cons IsColoured cell [] h (All-nil IsColoured)
+
+-- the cells of an element
+
+glyph-coloured : (columns : ℕ) (g : Glyph) (face : Attributes) → HasColours face → All IsColoured (glyph_cells columns g face)
+glyph-coloured columns g face h = either (All IsColoured) (is_space g) _ _ (blanks-coloured columns face h) (with-rests (First g face) (columns - 1) h)
+
+whole-coloured : (columns : ℕ) (glyph : Option Glyph) (face : Attributes) → HasColours face → All IsColoured (whole_cells columns glyph face)
+whole-coloured columns None face h = blanks-coloured columns face h
+whole-coloured columns (Some g) face h = glyph-coloured columns g face h
+
+seen-coloured : (from to : ℕ) (p : Placed) → HasColours p.element.face → All IsColoured (seen from to p)
+seen-coloured from to p h =
+    either (All IsColoured) (nat_le from p.start && nat_le (p.start + p.columns) to) _ _
+    (whole-coloured p.columns (glyph_in p.element.look) p.element.face h)
+    (blanks-coloured (min to (p.start + p.columns) - max from p.start) p.element.face h)
+
+all-coloured : (from to : ℕ) (ps : List Placed) → HaveColours ps → All IsColoured (flat_map (seen from to) ps)
+all-coloured from to [] h = All-nil IsColoured
+all-coloured from to (p ∷ ps) h =
+    All-append IsColoured (seen from to p) (flat_map (seen from to) ps) (seen-coloured from to p h.0) (all-coloured from to ps h.1)
+
+-- the cells of a row
+
+mark-coloured : (g : Glyph) → IsColoured (mark g)
+mark-coloured g = either IsColoured (is_space g) _ _ plain-coloured plain-coloured
+
+front-coloured : (c : Cutting) (used : ℕ) → All IsColoured (front_mark c used)
+front-coloured c used =
+    either (All IsColoured) (nat_lt 0 c.shape.hscroll && nat_lt 0 used) _ _ (one-coloured (mark c.truncation) (mark-coloured c.truncation)) (All-nil IsColoured)
+
+last-coloured : (c : Cutting) (used : ℕ) (continued : Bool) → IsColoured (last_cell c used continued)
+last-coloured c used continued =
+    either IsColoured (truncates c.shape) _ _
+    (either IsColoured (nat_lt (c.shape.hscroll + room c.shape) used) _ _ (mark-coloured c.truncation) plain-coloured)
+    (either IsColoured continued _ _ (mark-coloured c.continuation) plain-coloured)
+
+mirror-coloured : (cells : List Cell) → All IsColoured cells → All IsColoured (mirror_image cells)
+mirror-coloured [] h = h
+mirror-coloured (Rest ∷ cells) h = mirror-coloured cells (All-tail IsColoured Rest cells h)
+mirror-coloured (Blank f ∷ cells) h =
+    All-append IsColoured (mirror_image cells) (Blank f ∷ replicate (leading_rests cells) Rest)
+    (mirror-coloured cells (All-tail IsColoured (Blank f) cells h)) (with-rests (Blank f) (leading_rests cells) (h zero (Blank f) (omega arith)))
+mirror-coloured (First g f ∷ cells) h =
+    All-append IsColoured (mirror_image cells) (First g f ∷ replicate (leading_rests cells) Rest)
+    (mirror-coloured cells (All-tail IsColoured (First g f) cells h)) (with-rests (First g f) (leading_rests cells) (h zero (First g f) (omega arith)))
+
+edge-coloured : (reversed : Bool) (cells : List Cell) → All IsColoured cells → All IsColoured (from_edge reversed cells)
+edge-coloured true cells h = mirror-coloured cells h
+edge-coloured false cells h = h
+
+row-coloured : (c : Cutting) (used : ℕ) (continued : Bool) (ps : List Placed) → HaveColours ps → All IsColoured (row_of c used continued ps).cells
+row-coloured c used continued ps h =
+    let body : List Cell = scrolled c used ps in
+    let last : List Cell = last_cell c used continued ∷ [] in
+    let cells = All-append IsColoured (front_mark c used) (flat_map (seen_in c.shape) ps) (front-coloured c used) (all-coloured _ _ ps h) in
+    let rest = blanks-coloured (room c.shape - length body) plain plain-coloured in
+    edge-coloured c.reversed (filled (room c.shape) body ++ last)
+    (All-append IsColoured (filled (room c.shape) body) last
+    (All-append IsColoured body (blanks (room c.shape - length body) plain) cells rest) (one-coloured _ (last-coloured c used continued)))
+
+-- the rows of a line
+
+placed-coloured : (shape : ShapeValues) (spot : Spot) (xs : List Element) → All (λ e. HasColours e.face) xs → HaveColours (place_all shape spot xs)
+placed-coloured shape spot [] h = tt
+placed-coloured shape spot (x ∷ xs) h =
+    (h zero x (omega arith), placed-coloured shape (behind spot (placed_at shape spot x)) xs (All-tail (λ e. HasColours e.face) x xs h))
+
+colours-append : (ps qs : List Placed) → HaveColours ps → HaveColours qs → HaveColours (ps ++ qs)
+colours-append [] qs h k = k
+colours-append (p ∷ ps) qs h k = (h.0, colours-append ps qs h.1 k)
+
+fitted-coloured : (limit column : ℕ) (es : List Element) → All (λ e. HasColours e.face) es → HaveColours (fitted limit column es)
+fitted-coloured limit column [] h = tt
+fitted-coloured limit column (e ∷ es) h =
+    either HaveColours (nat_le (column + width_at e.extent column) limit) _ []
+    (h zero e (omega arith), fitted-coloured limit (column + width_at e.extent column) es (All-tail (λ x. HasColours x.face) e es h)) tt
+
+rows-coloured : (n : ℕ) (c : Cutting) (lead : List Placed) (spot : Spot) (es : List Element) → HaveColours c.first → HaveColours c.wrap → HaveColours lead
+    → All (λ e. HasColours e.face) es → All (λ r. All IsColoured r.row.cells) (rows_within n c lead spot es)
+rows-coloured zero c lead spot es first wrap one h = All-nil (λ r. All IsColoured r.row.cells)
+rows-coloured (suc n) c lead spot [] first wrap one h = All-nil (λ r. All IsColoured r.row.cells)
+rows-coloured (suc n) c lead spot (e ∷ es) first wrap one h =
+    let start = next_row (columns_of lead) spot in
+    let cut = cut_row c.shape start (e ∷ es) in
+    let is = cut-is c.shape start e es in
+    let rest : List Element = drop (length cut.elements) (e ∷ es) in
+    let both = subst (All (λ x. HasColours x.face)) is.parts h in
+    All-cons (λ r. All IsColoured r.row.cells) _ _
+    (row-coloured c _ cut.marked (lead ++ place_all c.shape start cut.elements)
+    (colours-append lead (place_all c.shape start cut.elements) one (placed-coloured c.shape start cut.elements (All-left (λ x. HasColours x.face) cut.elements rest both))))
+    (rows-coloured n c _ _ rest first wrap (either HaveColours cut.ended c.first c.wrap first wrap) (All-right (λ x. HasColours x.face) cut.elements rest both))
+
+pub line-coloured : (shape : ShapeValues) (base : ℕ) (first wrap : List Element) (truncation continuation : Glyph) (es : List Element)
+    → All (λ e. HasColours e.face) first → All (λ e. HasColours e.face) wrap → All (λ e. HasColours e.face) es
+    → All (λ r. All IsColoured r.row.cells) (rows_of (cutting_of shape base first wrap truncation continuation) es)
+line-coloured shape base first wrap truncation continuation es h k all =
+    let c : Cutting = cutting_of shape base first wrap truncation continuation in
+    let lead = fitted-coloured _ 0 first h in
+    rows-coloured (length es) c c.first line_start es lead (fitted-coloured _ 0 wrap k) lead all
