@@ -1,6 +1,7 @@
 pub mod Alike
 pub mod Edges
 pub mod Changes
+mod Colours
 pub mod Lasts
 pub mod Greatest
 pub mod Newness

@@ -1,5 +1,6 @@
 //! Laws of the definitions, for the layers above.
 ghost use Rattle.std.specs.Prelude.{◌≡◌, ◌<◌, ℕ, [], ◌∷◌, None, Some, true, false};
+ghost use Rattle.rd_base.specs.Cells.{HasColours};
 ghost use Rattle.rd_base.specs.Faces.{plain};
 ghost use Rattle.rd_base.specs.declared.settings.Invisible.TheVariants.{Every, Listed};
 ghost use Rattle.rd_overlays.specs.declared.overlay.Overlay.{Overlay};
@@ -8,6 +9,7 @@ ghost use Rattle.rd_props.specs.Buffers.{BufferValue, property};
 ghost use Rattle.rd_props.specs.Values.{effective};
 ghost use Rattle.rd_props.specs.Faces.{face_at};
 ghost use Rattle.rd_props.specs.Shown.{hidden};
+ghost use Rattle.rd_objects.specs.Sound.{AreObjects};
 ghost use Rattle.rd_objects.specs.Things.{ObjectLists};
 ghost use Rattle.rd_props.specs.Strings.{strings_at};
 ghost use Rattle.rd_props.specs.Seen.{seen_at, hidden_seen};
@@ -32,6 +34,11 @@ pub fn effective_values_are_the_greatest_overlays()
 /// Whether a position is hidden depends on what is seen there and on the buffer's setting alone. The call does nothing.
 pub fn what_is_seen_says_what_is_hidden()
     ensures { (s : BufferValue) (objects : ObjectLists) (pos : ℕ) → hidden s pos ≡ hidden_seen s.settings.invisible (seen_at s objects pos) }
+{}
+
+/// The colours of each position's face are in their range where those of all faces that were made are. The call does nothing.
+pub fn merged_faces_have_their_colours()
+    ensures { (s : BufferValue) (objects : ObjectLists) (pos : ℕ) → AreObjects objects → HasColours (face_at s objects pos) }
 {}
 
 /// Between a position and the next stop behind it no value changes, nor the face, and no string of an overlay stands there. The call
