@@ -1,8 +1,8 @@
 -- Objects that are made change no item of what names none of them.
-use Rattle.std.proofs.Common.{◌≡◌, ℕ, ◌+◌, ◌<◌, List, [], ◌∷◌, ◌++◌, length, Option, Some, None, IfSome, refl, ap, ◌∙◌, arith}
-use Rattle.std.specs.Prelude.{zero, suc, slice_get}
+use Rattle.std.proofs.Common.{◌≡◌, ℕ, ◌+◌, ◌-◌, ◌<◌, Bool, true, false, if◌then◌else◌, List, [], ◌∷◌, ◌++◌, length, Option, Some, None, IfSome, refl, ap, ◌∙◌, arith}
+use Rattle.std.specs.Prelude.{zero, suc, slice_get, All}
 use Rattle.std.specs.Option.{unwrap_or, option_and_then}
-use Rattle.std.proofs.lemmas.List.Elements.{All-head, All-tail, All-get_or}
+use Rattle.std.proofs.lemmas.List.Elements.{All-nil, All-cons, All-head, All-tail, All-get_or}
 use Rattle.std.proofs.lemmas.Option.{unwrap_or-slice_get}
 use Rattle.rd_base.specs.Faces.{Attributes}
 use Rattle.rd_base.specs.Settings.{SettingValues}
@@ -13,14 +13,16 @@ use Rattle.rd_objects.specs.declared.run.Spec.TheVariants.{Text, Width, Align}
 use Rattle.rd_objects.specs.Sound.{NamesMade, IsClosed, GoesOn, Extends}
 use Rattle.rd_objects.specs.Things.{ObjectLists}
 use Rattle.rd_glyphs.specs.Marks.{joined}
-use Rattle.rd_props.specs.Seen.{Seen}
+use Rattle.rd_props.specs.Buffers.{BufferValue}
+use Rattle.rd_props.specs.Made.{AreMade, SettingsMade, SeesMade}
+use Rattle.rd_props.specs.Seen.{Seen, seen_at}
 use Rattle.rd_props.specs.declared.hiding.Hidden.{Hidden}
 use Rattle.rd_props.specs.declared.hiding.Hidden.TheVariants.{No, Plain, Ellipsis}
 use Rattle.rd_items.specs.declared.piece.Piece.{Piece}
-use Rattle.rd_items.specs.Readings.{showing_of}
+use Rattle.rd_items.specs.Readings.{ends_block, showing_of, reading_from, reading}
 use Rattle.rd_items.specs.Pieces.{Scene, table_in, scene_in, string_pieces, spec_in, spec_piece, open_piece, char_piece, piece_by, piece_at, run_in, pieces_from}
 use Rattle.rd_items.specs.Items.{piece_joins, covering, items_of}
-use Rattle.rd_items.specs.Growing.{SeesMade, ReadsMade, HasMade, without_flags, GoesOnFrom}
+use Rattle.rd_items.specs.Growing.{ReadsMade, without_flags, GoesOnFrom}
 
 -- ---- lists that go on
 
@@ -37,13 +39,13 @@ same-option old new None goes made = refl
 same-option old new (Some n) goes made = same-element old new n goes made
 
 -- the table of settings
-pub same-table : (o n : ObjectLists) (settings : SettingValues) → Extends o n → HasMade o settings → table_in n settings.table ≡ table_in o settings.table
+pub same-table : (o n : ObjectLists) (settings : SettingValues) → Extends o n → SettingsMade o settings → table_in n settings.table ≡ table_in o settings.table
 same-table o n settings extends made = same-option o.tables n.tables settings.table extends.tables made.table
 
 same-number : (a b : SettingValues) → without_flags b ≡ without_flags a → b.table ≡ a.table
 same-number a b same = ap (λ (s : SettingValues). s.table) same
 
-pub scenes-go-on : (o n : ObjectLists) (a b : SettingValues) (files : Data) → Extends o n → HasMade o a → without_flags b ≡ without_flags a → GoesOnFrom (scene_in a o files) (scene_in b n files)
+pub scenes-go-on : (o n : ObjectLists) (a b : SettingValues) (files : Data) → Extends o n → SettingsMade o a → without_flags b ≡ without_flags a → GoesOnFrom (scene_in a o files) (scene_in b n files)
 scenes-go-on o n a b files extends made same = record {
   objects = extends;
   table = ap (table_in n) (same-number a b same) ∙ same-table o n a extends made;
@@ -55,7 +57,7 @@ scenes-go-on o n a b files extends made same = record {
 
 -- ---- pieces
 
-spec-named : (o : ObjectLists) (n : ℕ) → IsClosed o → n < length o.specs → NamesMade (length o.strings) (spec_in o n)
+pub spec-named : (o : ObjectLists) (n : ℕ) → IsClosed o → n < length o.specs → NamesMade (length o.strings) (spec_in o n)
 spec-named o n closed made = rw (unwrap_or-slice_get o.specs n (Width 0)) (All-get_or (NamesMade (length o.strings)) o.specs n (Width 0) made closed.specs)
 
 module _ (old new : Scene) (goes : GoesOnFrom old new) (closed : IsClosed old.objects) where
@@ -108,3 +110,23 @@ module _ (old new : Scene) (goes : GoesOnFrom old new) (closed : IsClosed old.ob
 -- the items of what is read
 pub same-items : (old new : Scene) (es : List Seen) → GoesOnFrom old new → IsClosed old.objects → ReadsMade old.objects es → items_of new es ≡ items_of old es
 same-items old new es goes closed made = ap (λ (xs : List Piece). covering 0 (joined piece_joins xs)) (same-pieces old new goes closed 0 0 es made)
+
+-- ---- what is read of a buffer
+
+-- what is known of what is seen at a position
+abbrev AreSeen : Type 0
+AreSeen = (s : BufferValue) (objects : ObjectLists) (p : ℕ) → AreMade s objects → SeesMade objects (seen_at s objects p)
+
+none-or : {X : Type 0} (P : X → Type 0) (t : Bool) (xs : List X) → All P xs → All P (if t then [] else xs)
+none-or {X} P true xs all = All-nil P
+none-or {X} P false xs all = all
+
+from-made : AreSeen → (s : BufferValue) (objects : ObjectLists) (n p : ℕ) → AreMade s objects → ReadsMade objects (reading_from s objects n p)
+from-made seen s objects zero p made = All-cons (SeesMade objects) (seen_at s objects p) [] (seen s objects p made) (All-nil (SeesMade objects))
+from-made seen s objects (suc n) p made =
+    let rest = if ends_block s p then [] else reading_from s objects n (suc p) in
+    All-cons (SeesMade objects) (seen_at s objects p) rest (seen s objects p made)
+    (none-or (SeesMade objects) (ends_block s p) (reading_from s objects n (suc p)) (from-made seen s objects n (suc p) made))
+
+pub reads-made : AreSeen → (s : BufferValue) (objects : ObjectLists) (p : ℕ) → AreMade s objects → ReadsMade objects (reading s objects p)
+reads-made seen s objects p made = from-made seen s objects (s.text.end - p) p made

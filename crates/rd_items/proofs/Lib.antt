@@ -3,6 +3,7 @@ mod Chains
 mod Growing
 mod Listing
 mod Measured
+mod Naming
 mod Newlines
 mod Reach
 mod Runs

@@ -1,27 +1,27 @@
 -- Scenes that show alike what is read, since no object that it names has changed.
-use Rattle.std.specs.Prelude.{◌≡◌, ◌<◌, false, List, length, All, IfSome}
+use Rattle.std.specs.Prelude.{◌≡◌, ◌<◌, false, List, length, All}
 use Rattle.rd_base.specs.Settings.{SettingValues}
 use Rattle.rd_objects.specs.Sound.{Extends}
 use Rattle.rd_objects.specs.Things.{ObjectLists}
+use Rattle.rd_props.specs.Made.{SeesMade}
 use Rattle.rd_props.specs.Seen.{Seen}
 use Rattle.rd_items.specs.Pieces.{Scene}
-
--- each spec and each string that is named at a position was made
-pub record SeesMade (o : ObjectLists) (seen : Seen) : Type 0 where
-  pub display : IfSome seen.display (λ number. number < length o.specs)
-  pub line_prefix : IfSome seen.line_prefix (λ number. number < length o.strings)
-  pub wrap_prefix : IfSome seen.wrap_prefix (λ number. number < length o.strings)
-  pub strings : All (λ n. n < length o.strings) seen.strings
+use Rattle.rd_items.specs.declared.item.Item.{Item}
+use Rattle.rd_items.specs.declared.item.ItemKind.{ItemKind}
+use Rattle.rd_items.specs.declared.item.ItemKind.TheVariants as kind
 
 -- each spec and each string that is named in what is read was made
 abbrev pub ReadsMade : ObjectLists → List Seen → Type 0
 ReadsMade o es = All (SeesMade o) es
 
--- the table and the prefixes of settings were made
-pub record HasMade (o : ObjectLists) (settings : SettingValues) : Type 0 where
-  pub table : IfSome settings.table (λ number. number < length o.tables)
-  pub line_prefix : IfSome settings.line_prefix (λ number. number < length o.strings)
-  pub wrap_prefix : IfSome settings.wrap_prefix (λ number. number < length o.strings)
+-- the string that an item shows was made
+abbrev pub ShowsMade : ObjectLists → ItemKind → Type 0
+ShowsMade o (kind.Text number) = number < length o.strings
+ShowsMade o k = Unit {0}
+
+-- each string that items show was made
+abbrev pub ShowMade : ObjectLists → List Item → Type 0
+ShowMade o items = All (λ item. ShowsMade o item.kind) items
 
 -- settings without the two flags that no line depends on
 abbrev pub without_flags : SettingValues → SettingValues

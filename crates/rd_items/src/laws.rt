@@ -5,15 +5,17 @@ ghost use Rattle.rd_ucd.specs.Data.{Data};
 ghost use Rattle.rd_objects.specs.Sound.{IsClosed, Extends};
 ghost use Rattle.rd_objects.specs.Things.{ObjectLists};
 ghost use Rattle.rd_props.specs.Buffers.{BufferValue};
+ghost use Rattle.rd_props.specs.Made.{AreMade, SettingsMade};
 ghost use Rattle.rd_props.specs.Seen.{Seen};
 ghost use Rattle.rd_items.specs.Readings.{reading, IsReading, HaveCodes};
 ghost use Rattle.rd_items.specs.Blocks.{blocks_of, Adjoin, IsBlock};
 ghost use Rattle.rd_items.specs.Pieces.{Scene, table_in, scene_in};
 ghost use Rattle.rd_items.specs.Items.{items_of, AreMeasuredItems};
 ghost use Rattle.rd_items.specs.Covers.{Tile, CoverWhereTheyGive, EndOnce};
-ghost use Rattle.rd_items.specs.Growing.{ReadsMade, HasMade, without_flags, GoesOnFrom};
+ghost use Rattle.rd_items.specs.Growing.{ReadsMade, ShowMade, without_flags, GoesOnFrom};
 
 use rd_glyphs::marks_join_measured_glyphs;
+use rd_props::made_objects_alone_are_seen;
 
 /// The blocks of a text are those of its list, which stand one behind the other from the beginning of the accessible text to its
 /// end, which counts as a position. It has no body: what it promises is proved of the definitions.
@@ -60,6 +62,15 @@ pub fn items_are_measured()
 /// has no body: what it promises is proved of the definitions.
 pub fn objects_that_are_made_change_no_item()
     ensures items { (old new : Scene) (es : List Seen) → GoesOnFrom old new → IsClosed old.objects → ReadsMade old.objects es → items_of new es ≡ items_of old es }
-    ensures table { (o n : ObjectLists) (settings : SettingValues) → Extends o n → HasMade o settings → table_in n settings.table ≡ table_in o settings.table }
-    ensures scenes { (o n : ObjectLists) (a b : SettingValues) (files : Data) → Extends o n → HasMade o a → without_flags b ≡ without_flags a → GoesOnFrom (scene_in a o files) (scene_in b n files) }
+    ensures table { (o n : ObjectLists) (settings : SettingValues) → Extends o n → SettingsMade o settings → table_in n settings.table ≡ table_in o settings.table }
+    ensures scenes { (o n : ObjectLists) (a b : SettingValues) (files : Data) → Extends o n → SettingsMade o a → without_flags b ≡ without_flags a → GoesOnFrom (scene_in a o files) (scene_in b n files) }
 {}
+
+/// In a buffer whose properties and overlays name made objects alone, what is read of a block names made objects alone; and the items
+/// of what names made objects alone show strings alone that were made, where no spec names another. The call does nothing.
+pub fn made_objects_alone_are_read()
+    ensures reading { (s : BufferValue) (objects : ObjectLists) (p : ℕ) → AreMade s objects → ReadsMade objects (reading s objects p) }
+    ensures items { (scene : Scene) (es : List Seen) → IsClosed scene.objects → ReadsMade scene.objects es → ShowMade scene.objects (items_of scene es) }
+{
+    made_objects_alone_are_seen();
+}
