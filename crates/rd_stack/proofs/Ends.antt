@@ -102,8 +102,12 @@ text-open s base true origin face (Some text) =
     open-each (middle_elements s base origin) (λ x. middle-part-open s base origin x.kind x.face x.odd) (string_parts s base true text face)
 text-open s base false origin face text = inner-open s base origin face text
 
+-- what holds of each element holds of each before the first end of a row
+pub before-each : (P : Element → Type 0) (es : List Element) → All P es → All P (before_row_end es)
+before-each P [] each = each
+before-each P (e ∷ es) each =
+    either P (is_row_end e.look) [] (e ∷ before_row_end es) (All-nil P)
+    (All-cons P e (before_row_end es) (each 0 e (omega arith)) (before-each P es (λ k d inside. each (suc k) d (omega arith))))
+
 pub before-open : (es : List Element) → AreOpen es → AreOpen (before_row_end es)
-before-open [] each = each
-before-open (e ∷ es) each =
-    either IsOpen (is_row_end e.look) [] (e ∷ before_row_end es) (All-nil IsOpen)
-    (All-cons IsOpen e (before_row_end es) (each 0 e (omega arith)) (before-open es (λ k d inside. each (suc k) d (omega arith))))
+before-open es each = before-each IsOpen es each

@@ -10,3 +10,10 @@ mod Ends
 mod Enders
 mod LineEnds
 mod Measures
+mod Joined
+mod TurnCounts
+mod Good
+mod Parts
+mod Holds
+mod Sound
+mod Codes

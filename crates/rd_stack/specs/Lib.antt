@@ -2,6 +2,7 @@ pub mod Ahead
 pub mod Strings
 pub mod Shown
 pub mod Lines
+pub mod Limits
 pub mod Steps
 pub mod Walks
 pub mod Examples

@@ -1,8 +1,9 @@
 -- The elements of a line.
-use Rattle.std.specs.Prelude.{ℕ, Bool, if◌then◌else◌, List, [], ◌∷◌, map, replicate, slice_get, Option, None, Some, unwrap_or}
+use Rattle.std.specs.Prelude.{ℕ, Bool, if◌then◌else◌, List, [], ◌∷◌, map, replicate, slice_get, Option, None, Some, unwrap_or, All, IsTrue}
 use Rattle.std.specs.List.{flat_map}
 use Rattle.rd_base.specs.Faces.{Attributes}
 use Rattle.rd_base.specs.Cells.{single}
+use Rattle.rd_base.specs.Chars.{is_code}
 use Rattle.rd_base.specs.declared.class.Class.{Class}
 use Rattle.rd_base.specs.declared.cell.Glyph.{Glyph}
 use Rattle.rd_base.specs.declared.element.Element.{Element}
@@ -69,3 +70,11 @@ line_of_items s base items = flat_map (item_elements s base items) (item_turns s
 -- the line of a block, by what is read of it: its items in visual order, each as its elements
 abbrev pub line_elements : Scene → ℕ → List Seen → List Element
 line_elements s base seen = line_of_items s base (items_of s seen)
+
+-- a character that an item shows has a code
+abbrev pub IsCodedKind : ItemKind → Type 0
+IsCodedKind (kind.Char c) = IsTrue (is_code c)
+IsCodedKind k = Unit {0}
+
+abbrev pub AreCodedItems : List Item → Type 0
+AreCodedItems items = All (λ item. IsCodedKind item.kind) items

@@ -1,14 +1,25 @@
 //! What holds of all lines, proved of the definitions.
-ghost use Rattle.std.specs.Prelude.{◌≡◌, ℕ, List, true};
-ghost use Rattle.rd_base.specs.Elements.{ends_once};
+ghost use Rattle.std.specs.Prelude.{◌≡◌, ◌≤◌, ◌<◌, ◌*◌, ◌^◌, ℕ, List, length, true};
+ghost use Rattle.rd_base.specs.declared.limits.TheConstants.{TAB_COLUMNS};
+ghost use Rattle.rd_base.specs.Elements.{AreSound, columns_at_most, ends_once};
+ghost use Rattle.rd_base.specs.Glyphs.{AreMeasured};
+ghost use Rattle.rd_base.specs.Settings.{SettingValues};
+ghost use Rattle.rd_ucd.specs.Data.{Data};
+ghost use Rattle.rd_objects.specs.Sound.{AreCodes, AreObjects};
+ghost use Rattle.rd_objects.specs.Things.{ObjectLists};
+ghost use Rattle.rd_glyphs.specs.Characters.{AreSoundParts};
+ghost use Rattle.rd_props.specs.Buffers.{BufferValue};
 ghost use Rattle.rd_props.specs.Seen.{Seen};
-ghost use Rattle.rd_items.specs.Readings.{IsReading};
-ghost use Rattle.rd_items.specs.Pieces.{Scene};
+ghost use Rattle.rd_items.specs.Readings.{IsReading, HaveCodes, reading};
+ghost use Rattle.rd_items.specs.Pieces.{Scene, scene_in};
+ghost use Rattle.rd_items.specs.Items.{items_of, AreMeasuredItems};
 ghost use Rattle.rd_stack.specs.Shown.{prefix, AreOpen};
-ghost use Rattle.rd_stack.specs.Lines.{line_elements};
+ghost use Rattle.rd_stack.specs.Lines.{line_elements, AreCodedItems};
+ghost use Rattle.rd_stack.specs.Limits.{AreFew, AreRightWithin, most_columns, most_inner_columns, most_middle_columns};
 
-use rd_items::items_cover_their_block;
-use rd_levels::enders_come_last;
+use rd_glyphs::{elements_are_sound, glyph_texts_are_sound, marks_join_measured_glyphs};
+use rd_items::{items_are_measured, items_cover_their_block};
+use rd_levels::{enders_come_last, lines_have_a_level_each};
 
 /// The last element of a block's line is the line's end, and no other is. The call does nothing.
 pub fn lines_end_once()
@@ -18,7 +29,54 @@ pub fn lines_end_once()
     enders_come_last();
 }
 
+/// The elements of a line are sound and measured, where the objects and what characters depend on are sound and the items are measured
+/// and coded. They take at most the columns of so many overlays' strings as there are items. The call does nothing.
+pub fn lines_of_items_are_sound()
+    ensures { (scene : Scene) (base : ℕ) (es : List Seen) → AreObjects scene.objects → AreSoundParts scene.parts → AreMeasuredItems (items_of scene es) → AreCodedItems (items_of scene es) → AreRightWithin (length (items_of scene es) * most_middle_columns) (line_elements scene base es) }
+{
+    elements_are_sound();
+    glyph_texts_are_sound();
+    marks_join_measured_glyphs();
+    lines_have_a_level_each();
+}
+
+/// The elements of a line are sound, and its glyphs have the columns that Unicode gives them, where the objects are sound, a tab has 1
+/// to 32 columns and each character that is read has a code. They take fewer than 2^60 columns, a tab counted as its stop's width and a
+/// stretch up to a column as that column, where no more is read than a text and its overlays have. The call does nothing.
+pub fn lines_are_sound()
+    ensures sound { (scene : Scene) (base : ℕ) (es : List Seen) → AreObjects scene.objects → AreSoundParts scene.parts → HaveCodes es → AreSound (line_elements scene base es) }
+    ensures measured { (scene : Scene) (base : ℕ) (es : List Seen) → AreObjects scene.objects → AreSoundParts scene.parts → HaveCodes es → AreMeasured (line_elements scene base es) }
+    ensures most { (scene : Scene) (base : ℕ) (es : List Seen) → AreObjects scene.objects → AreSoundParts scene.parts → HaveCodes es → AreFew es → columns_at_most (line_elements scene base es) ≤ most_columns }
+    ensures columns { (scene : Scene) (base : ℕ) (es : List Seen) → AreObjects scene.objects → AreSoundParts scene.parts → HaveCodes es → AreFew es → columns_at_most (line_elements scene base es) < 2 ^ 60 }
+{
+    lines_of_items_are_sound();
+    items_are_measured();
+}
+
 /// No element of a prefix ends the line. The call does nothing.
 pub fn prefixes_end_no_line()
     ensures { (scene : Scene) (base number : ℕ) → AreOpen (prefix scene base number) }
+{}
+
+/// The elements of a prefix are sound, and its glyphs have the columns that Unicode gives them, where the objects are sound and a tab
+/// has 1 to 32 columns. They take at most the columns of a display string. The call does nothing.
+pub fn prefixes_are_sound()
+    ensures sound { (scene : Scene) (base number : ℕ) → AreObjects scene.objects → AreSoundParts scene.parts → AreSound (prefix scene base number) }
+    ensures measured { (scene : Scene) (base number : ℕ) → AreObjects scene.objects → AreSoundParts scene.parts → AreMeasured (prefix scene base number) }
+    ensures columns { (scene : Scene) (base number : ℕ) → AreObjects scene.objects → AreSoundParts scene.parts → columns_at_most (prefix scene base number) ≤ most_inner_columns }
+{
+    elements_are_sound();
+    glyph_texts_are_sound();
+    marks_join_measured_glyphs();
+    lines_have_a_level_each();
+}
+
+/// What is read of a buffer has codes where its characters have. The call does nothing.
+pub fn readings_have_codes()
+    ensures { (s : BufferValue) (objects : ObjectLists) (p : ℕ) → AreCodes s.text.text → HaveCodes (reading s objects p) }
+{}
+
+/// What the elements of characters depend on is sound where the objects are and a tab has 1 to 32 columns. The call does nothing.
+pub fn scenes_are_sound()
+    ensures { (settings : SettingValues) (objects : ObjectLists) (files : Data) → AreObjects objects → 1 ≤ settings.tab_width → settings.tab_width ≤ TAB_COLUMNS → AreSoundParts (scene_in settings objects files).parts }
 {}

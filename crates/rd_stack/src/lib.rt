@@ -19,6 +19,9 @@ mod string;
 mod string_steps;
 mod walker;
 
-pub use laws::{lines_end_once, prefixes_end_no_line};
+pub use laws::{
+    lines_are_sound, lines_end_once, prefixes_are_sound, prefixes_end_no_line, readings_have_codes,
+    scenes_are_sound,
+};
 pub use prefix::string_line;
 pub use walker::Walker;

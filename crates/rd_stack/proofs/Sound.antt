@@ -1,0 +1,270 @@
+-- The elements of strings and of items of sound objects are sound and measured, and take few columns.
+use Rattle.std.proofs.Common.{◌≡◌, ℕ, ◌+◌, ◌*◌, ◌≤◌, ◌^◌, ◌<◌, Bool, true, false, IsTrue, List, [], ◌∷◌, length, map, Option, None, Some, All, IfSome, refl, subst, ◌∙◌, arith}
+use Rattle.std.specs.Prelude.{slice_get, slice_index_or, replicate, if◌then◌else◌, unwrap_or}
+use Rattle.std.specs.List.{flat_map, AllByRecursion}
+use Rattle.std.proofs.Math.Nat.{mul-le-mul_right}
+use Rattle.std.proofs.lemmas.List.{length-map}
+use Rattle.std.proofs.lemmas.List.Elements.{All-nil, All-cons, All-from_recursion, recursion_from_All}
+use Rattle.unicode_width.specs.Width.{char_width}
+use Rattle.rd_base.specs.Cells.{single}
+use Rattle.rd_base.specs.Chars.{is_code}
+use Rattle.rd_base.specs.Elements.{AreSound, columns_at_most}
+use Rattle.rd_base.specs.Faces.{Attributes, plain}
+use Rattle.rd_base.specs.Glyphs.{IsMeasured, AreMeasured}
+use Rattle.rd_base.specs.declared.cell.Glyph.{Glyph}
+use Rattle.rd_base.specs.declared.element.Element.{Element}
+use Rattle.rd_base.specs.declared.element.Extent.TheVariants.{Fixed, Column}
+use Rattle.rd_base.specs.declared.element.Look.TheVariants as look
+use Rattle.rd_base.specs.declared.element.Origin.{Origin}
+use Rattle.rd_base.specs.declared.limits.TheConstants.{SPACE_COLUMNS, STRING_CHARACTERS}
+use Rattle.rd_objects.specs.Sound.{AreObjects, IsString}
+use Rattle.rd_objects.specs.Tables.{TableValue, IsTable, is_glyph_text}
+use Rattle.rd_objects.specs.Texts.{TextValue}
+use Rattle.rd_objects.specs.Things.{ObjectLists, IsSmallSpec}
+use Rattle.rd_objects.specs.declared.run.Spec.{Spec}
+use Rattle.rd_objects.specs.declared.run.Spec.TheVariants.{Text, Width, Align}
+use Rattle.rd_glyphs.specs.Characters.{PartValues, AreSoundParts, element_of, elements_of, glyph_elements}
+use Rattle.rd_items.specs.Pieces.{Scene, table_in, IsMeasuredKind}
+use Rattle.rd_items.specs.Items.{items_of, AreMeasuredItems}
+use Rattle.rd_items.specs.Readings.{HaveCodes}
+use Rattle.rd_items.specs.declared.item.Item.{Item}
+use Rattle.rd_items.specs.declared.item.ItemKind.{ItemKind}
+use Rattle.rd_items.specs.declared.item.ItemKind.TheVariants as item
+use Rattle.rd_props.specs.Seen.{Seen}
+use Rattle.rd_levels.specs.declared.turn.Turn.{Turn}
+use Rattle.rd_stack.specs.Strings.{string_parts}
+use Rattle.rd_stack.specs.Shown.{space_elements, kind_elements, inner_elements, inner, middle_by, middle_elements, middle, before_row_end, is_row_end, outside, prefix, IsRight}
+use Rattle.rd_stack.specs.Lines.{ellipsis_glyphs, text_elements, outer_by, outer, origin_of, item_elements, item_class, item_code, item_turns, line_of_items, line_elements, IsCodedKind, AreCodedItems}
+use Rattle.rd_stack.specs.Limits.{AreFew, AreRightWithin, most_inner_columns, most_middle_columns, most_columns}
+use Rattle.rd_stack.specs.declared.part.Shown.{Shown}
+use Rattle.rd_stack.specs.declared.part.PartKind.{PartKind}
+use Rattle.rd_stack.specs.declared.part.PartKind.TheVariants as kind
+use Rattle.rd_stack.proofs.Ends.{before-each}
+use Rattle.rd_stack.proofs.Good.{both-right, good-nil, good-one, good-more, good-each, found}
+use Rattle.rd_stack.proofs.Holds.{Gives, items-hold, items-few}
+use Rattle.rd_stack.proofs.Parts.{MarkLaws, IsFitKind, IsFitShown, AreFit, spec-small, string-fit}
+use Rattle.rd_stack.proofs.TurnCounts.{LevelsLaw, turns-count}
+
+-- what is known of the elements of characters and of glyph characters
+pub record GlyphLaws : Type 0 where
+  pub sound : (parts : PartValues) (ch : ℕ) (odd : Bool) (face : Attributes) (origin : Origin) → AreSoundParts parts → IsTrue (is_code ch) → AreSound (elements_of parts ch odd face origin)
+  pub measured : (parts : PartValues) (ch : ℕ) (odd : Bool) (face : Attributes) (origin : Origin) → AreSoundParts parts → IsTrue (is_code ch) → AreMeasured (elements_of parts ch odd face origin)
+  pub columns : (parts : PartValues) (ch : ℕ) (odd : Bool) (face : Attributes) (origin : Origin) → AreSoundParts parts → IsTrue (is_code ch) → columns_at_most (elements_of parts ch odd face origin) ≤ 48
+  pub text_sound : (face : Attributes) (origin : Origin) (text : List Glyph) → IsTrue (is_glyph_text text) → AreSound (glyph_elements face origin text)
+  pub text_measured : (face : Attributes) (origin : Origin) (text : List Glyph) → IsTrue (is_glyph_text text) → AreMeasured (glyph_elements face origin text)
+  pub text_columns : (face : Attributes) (origin : Origin) (text : List Glyph) → IsTrue (is_glyph_text text) → columns_at_most (glyph_elements face origin text) ≤ 48
+
+-- what an item of a line of sound objects shows
+abbrev IsFitItem : ItemKind → Type 0
+IsFitItem (item.Char c) = IsTrue (is_code c)
+IsFitItem (item.Marked g) = IsMeasured g
+IsFitItem (item.Space spec) = IsSmallSpec spec
+IsFitItem k = Unit {0}
+
+abbrev IsSmallItem : ItemKind → Type 0
+IsSmallItem (item.Space spec) = IsSmallSpec spec
+IsSmallItem k = Unit {0}
+
+-- ---- tables
+
+dots-fit : IsTrue (is_glyph_text (replicate 3 (single 46 1)))
+unfolding char_width
+dots-fit = refl
+
+text-or : (text : Option (List Glyph)) → ((t : List Glyph) → text ≡ Some t → IsTrue (is_glyph_text t)) → IsTrue (is_glyph_text (unwrap_or text (replicate 3 (single 46 1))))
+text-or None is = dots-fit
+text-or (Some t) is = is t refl
+
+ellipsis-fit : (table : Option TableValue) → IfSome table (λ t. IsTable t) → IsTrue (is_glyph_text (ellipsis_glyphs table))
+ellipsis-fit None is = dots-fit
+ellipsis-fit (Some t) is = text-or t.ellipsis is.ellipsis
+
+pub table-sound : (o : ObjectLists) → AreObjects o → (number : Option ℕ) → IfSome (table_in o number) (λ t. IsTable t)
+table-sound o sound None = tt
+table-sound o sound (Some n) = found (λ (t : TableValue). IsTable t) o.tables n sound.tables
+
+-- ---- items
+
+item-fit : (k : ItemKind) → IsMeasuredKind k → IsCodedKind k → IsSmallItem k → IsFitItem k
+item-fit (item.Char c) measured coded small = coded
+item-fit (item.Marked g) measured coded small = measured
+item-fit (item.Text n) measured coded small = tt
+item-fit (item.Space spec) measured coded small = small
+item-fit item.Ellipsis measured coded small = tt
+item-fit item.Ender measured coded small = tt
+
+all-read : (es : List Seen) → AllByRecursion (λ (e : Seen). IfSome e.character (λ c. Unit {0})) es
+all-read [] = tt
+all-read (e ∷ es) = (any e.character, all-read es) where
+  any : (c : Option ℕ) → IfSome c (λ n. Unit {0})
+  any None = tt
+  any (Some n) = tt
+
+small-gives : (s : Scene) → AreObjects s.objects → Gives (λ class k. IsSmallItem k) (λ c. Unit {0}) s
+small-gives s sound = record {
+  string = λ n. tt;
+  space = λ number spec is. subst IsSmallSpec is (spec-small s.objects sound number);
+  char = λ class c code. tt;
+  marked = λ class g. tt;
+  ellipsis = tt;
+  ender = tt;
+}
+
+items-small : (s : Scene) → AreObjects s.objects → (es : List Seen) → All (λ (i : Item). IsSmallItem i.kind) (items_of s es)
+items-small s sound es =
+    All-from_recursion (λ (i : Item). IsSmallItem i.kind) (items_of s es)
+    (items-hold (λ class k. IsSmallItem k) (λ c. Unit {0}) s (small-gives s sound) es (all-read es))
+
+coded-gives : (s : Scene) → Gives (λ class k. IsCodedKind k) (λ c. IsTrue (is_code c)) s
+coded-gives s = record {
+  string = λ n. tt;
+  space = λ number spec is. tt;
+  char = λ class c code. code;
+  marked = λ class g. tt;
+  ellipsis = tt;
+  ender = tt;
+}
+
+-- the items of what has codes
+pub items-coded : (s : Scene) (es : List Seen) → HaveCodes es → AreCodedItems (items_of s es)
+items-coded s es codes =
+    All-from_recursion (λ (i : Item). IsCodedKind i.kind) (items_of s es)
+    (items-hold (λ class k. IsCodedKind k) (λ c. IsTrue (is_code c)) s (coded-gives s) es (recursion_from_All (λ (e : Seen). IfSome e.character (λ c. IsTrue (is_code c))) es codes))
+
+-- ---- elements of one part
+
+glyph-good : (most : ℕ) (g : Glyph) (face : Attributes) (origin : Origin) → IsMeasured g → 3 ≤ most → AreRightWithin most (element_of face origin (look.Glyph g) ∷ [])
+glyph-good most g face origin measured room =
+    let few = measured.few in
+    good-one most (element_of face origin (look.Glyph g)) (refl, measured.some, few) measured (omega (arith, few, room))
+
+space-good : (spec : Spec) (face : Attributes) (origin : Origin) → IsSmallSpec spec → AreRightWithin SPACE_COLUMNS (space_elements spec face origin)
+space-good (Text n) face origin small = good-nil SPACE_COLUMNS
+space-good (Width n) face origin small = good-one SPACE_COLUMNS (record { extent = Fixed n; look = look.Blank; face = face; origin = origin }) tt tt small
+space-good (Align n) face origin small = good-one SPACE_COLUMNS (record { extent = Column n; look = look.Blank; face = face; origin = origin }) tt tt small
+
+char-good : GlyphLaws → (parts : PartValues) → AreSoundParts parts → (c : ℕ) (odd : Bool) (face : Attributes) (origin : Origin) → IsTrue (is_code c) → AreRightWithin 48 (elements_of parts c odd face origin)
+char-good laws parts sound c odd face origin code =
+    record { right = both-right (elements_of parts c odd face origin) (laws.sound parts c odd face origin sound code) (laws.measured parts c odd face origin sound code); few = laws.columns parts c odd face origin sound code }
+
+text-good : GlyphLaws → (face : Attributes) (origin : Origin) (text : List Glyph) → IsTrue (is_glyph_text text) → AreRightWithin 48 (glyph_elements face origin text)
+text-good laws face origin text is =
+    record { right = both-right (glyph_elements face origin text) (laws.text_sound face origin text is) (laws.text_measured face origin text is); few = laws.text_columns face origin text is }
+
+-- ---- columns
+
+pub few-columns : (s : Scene) (es : List Seen) (columns : ℕ) → AreFew es → columns ≤ length (items_of s es) * most_middle_columns → columns ≤ most_columns
+few-columns s es columns few own = let items = items-few s es in omega (arith, items, few, own)
+
+pub below : (columns : ℕ) → columns ≤ most_columns → columns < 2 ^ 60
+below columns few = omega (arith, few)
+
+-- ---- elements before the end of a row
+
+fewer : (b : Bool) (e : Element) (es more : List Element) → columns_at_most es ≤ columns_at_most more → columns_at_most (if b then [] else e ∷ es) ≤ columns_at_most (e ∷ more)
+fewer true e es more less = omega arith
+fewer false e es more less = omega (arith, less)
+
+before-few : (es : List Element) → columns_at_most (before_row_end es) ≤ columns_at_most es
+before-few [] = omega arith
+before-few (e ∷ es) = fewer (is_row_end e.look) e (before_row_end es) es (before-few es)
+
+module _ (laws : GlyphLaws) (marks : MarkLaws) (levels : LevelsLaw) (s : Scene) (base : ℕ) (sound : AreObjects s.objects) (parts : AreSoundParts s.parts) where
+  part-good : (k : PartKind) (face : Attributes) (odd : Bool) (origin : Origin) → IsFitKind k → AreRightWithin SPACE_COLUMNS (kind_elements s k face odd origin)
+  part-good (kind.Char c) face odd origin fit = good-more 48 SPACE_COLUMNS (elements_of s.parts c odd face origin) (omega arith) (char-good laws s.parts parts c odd face origin fit)
+  part-good (kind.Marked g) face odd origin fit = glyph-good SPACE_COLUMNS g face origin fit (omega arith)
+  part-good (kind.Replaced spec) face odd origin fit = space-good spec face origin fit
+  part-good kind.RowEnd face odd origin fit = good-one SPACE_COLUMNS (element_of face origin look.RowEnd) refl tt (omega arith)
+
+  -- ---- strings
+
+  many : (n most : ℕ) (es : List Element) → n ≤ STRING_CHARACTERS → AreRightWithin (n * most) es → AreRightWithin (STRING_CHARACTERS * most) es
+  many n most es few good = good-more (n * most) (STRING_CHARACTERS * most) es (mul-le-mul_right most few) good
+
+  inner-good : (origin : Origin) (under : Attributes) (text : Option TextValue) → IfSome text (λ t. IsString t) → AreRightWithin most_inner_columns (inner s base origin under text)
+  inner-good origin under None is = good-nil most_inner_columns
+  inner-good origin under (Some text) is =
+      let xs = string_parts s base false text under in
+      let fit = string-fit marks levels s base sound false text under is in
+      many (length xs) SPACE_COLUMNS (inner s base origin under (Some text)) fit.few
+      (good-each (inner_elements s origin) IsFitShown SPACE_COLUMNS (λ x own. part-good x.kind x.face x.odd origin own) xs fit.each)
+
+  string-at : (n : ℕ) → IfSome (slice_get s.objects.strings n) (λ t. IsString t)
+  string-at n = found (λ (t : TextValue). IsString t) s.objects.strings n sound.strings
+
+  inner-part : (k : PartKind) (face : Attributes) (odd : Bool) (origin : Origin) → IsFitKind k → AreRightWithin most_inner_columns (kind_elements s k face odd origin)
+  inner-part k face odd origin fit = good-more SPACE_COLUMNS most_inner_columns (kind_elements s k face odd origin) (omega arith) (part-good k face odd origin fit)
+
+  middle-part : (origin : Origin) (k : PartKind) (face : Attributes) (odd : Bool) → IsFitKind k → AreRightWithin most_inner_columns (middle_by s base origin k face odd)
+  middle-part origin (kind.Replaced (Text n)) face odd fit = inner-good origin face (slice_get s.objects.strings n) (string-at n)
+  middle-part origin (kind.Replaced (Width n)) face odd fit = inner-part (kind.Replaced (Width n)) face odd origin fit
+  middle-part origin (kind.Replaced (Align n)) face odd fit = inner-part (kind.Replaced (Align n)) face odd origin fit
+  middle-part origin (kind.Char c) face odd fit = inner-part (kind.Char c) face odd origin fit
+  middle-part origin (kind.Marked g) face odd fit = inner-part (kind.Marked g) face odd origin fit
+  middle-part origin kind.RowEnd face odd fit = inner-part kind.RowEnd face odd origin fit
+
+  middle-good : (origin : Origin) (under : Attributes) (text : Option TextValue) → IfSome text (λ t. IsString t) → AreRightWithin most_middle_columns (middle s base origin under text)
+  middle-good origin under None is = good-nil most_middle_columns
+  middle-good origin under (Some text) is =
+      let xs = string_parts s base true text under in
+      let fit = string-fit marks levels s base sound true text under is in
+      many (length xs) most_inner_columns (middle s base origin under (Some text)) fit.few
+      (good-each (middle_elements s base origin) IsFitShown most_inner_columns (λ x own. middle-part origin x.kind x.face x.odd own) xs fit.each)
+
+  -- ---- items
+
+  in-line : (few : ℕ) (es : List Element) → few ≤ most_middle_columns → AreRightWithin few es → AreRightWithin most_middle_columns es
+  in-line few es room good = good-more few most_middle_columns es room good
+
+  string-good : (overlay : Bool) (origin : Origin) (face : Attributes) (n : ℕ) → AreRightWithin most_middle_columns (text_elements s base overlay origin face (slice_get s.objects.strings n))
+  string-good true origin face n = middle-good origin face (slice_get s.objects.strings n) (string-at n)
+  string-good false origin face n =
+      let text = slice_get s.objects.strings n in
+      in-line most_inner_columns (inner s base origin face text) (omega arith) (inner-good origin face text (string-at n))
+
+  kind-good : (k : ItemKind) (overlay odd : Bool) (face : Attributes) (origin : Origin) → IsFitItem k → AreRightWithin most_middle_columns (outer_by s base k overlay odd face origin)
+  kind-good (item.Char c) overlay odd face origin fit = in-line 48 (elements_of s.parts c odd face origin) (omega arith) (char-good laws s.parts parts c odd face origin fit)
+  kind-good (item.Marked g) overlay odd face origin fit = glyph-good most_middle_columns g face origin fit (omega arith)
+  kind-good (item.Text n) overlay odd face origin fit = string-good overlay origin face n
+  kind-good (item.Space spec) overlay odd face origin fit = in-line SPACE_COLUMNS (space_elements spec face origin) (omega arith) (space-good spec face origin fit)
+  kind-good item.Ellipsis overlay odd face origin fit =
+      let glyphs = ellipsis_glyphs s.parts.table in
+      in-line 48 (glyph_elements face origin glyphs) (omega arith) (text-good laws face origin glyphs (ellipsis-fit s.parts.table parts.table))
+  kind-good item.Ender overlay odd face origin fit = good-one most_middle_columns (element_of face origin look.LineEnd) refl tt (omega arith)
+
+  outer-good : (turn : Turn) (x : Option Item) → IfSome x (λ (i : Item). IsFitItem i.kind) → AreRightWithin most_middle_columns (outer s base turn x)
+  outer-good turn None fit = good-nil most_middle_columns
+  outer-good turn (Some x) fit = kind-good x.kind x.overlay turn.odd x.face (origin_of turn.index x) fit
+
+  -- a line of fit items
+  pub line-good : (items : List Item) → All (λ (i : Item). IsFitItem i.kind) items → AreRightWithin (length items * most_middle_columns) (line_of_items s base items)
+  line-good items fit =
+      let turns = item_turns s base items in
+      let reorder = s.parts.settings.reorder in
+      let count : length turns ≡ length items = turns-count levels s.brackets reorder base (map item_class items) (map item_code items) ∙ length-map items item_class in
+      let each : AllByRecursion (λ (t : Turn). Unit {0}) turns = any turns in
+      good-more (length turns * most_middle_columns) (length items * most_middle_columns) (line_of_items s base items) (omega (arith, count))
+      (good-each (item_elements s base items) (λ (t : Turn). Unit {0}) most_middle_columns
+      (λ t own. outer-good t (slice_get items t.index) (found (λ (i : Item). IsFitItem i.kind) items t.index fit)) turns each) where
+        any : (ts : List Turn) → AllByRecursion (λ (t : Turn). Unit {0}) ts
+        any [] = tt
+        any (t ∷ ts) = (tt, any ts)
+
+  -- the line of what is read, where its items are measured and coded
+  pub read-good : (es : List Seen) → AreMeasuredItems (items_of s es) → AreCodedItems (items_of s es) → AreRightWithin (length (items_of s es) * most_middle_columns) (line_elements s base es)
+  read-good es measured coded =
+      let small = items-small s sound es in
+      line-good (items_of s es) (λ k d inside. item-fit (slice_index_or (items_of s es) k d).kind (measured k d inside) (coded k d inside) (small k d inside))
+
+  -- ---- prefixes
+
+  before-good : (most : ℕ) (es : List Element) → AreRightWithin most es → AreRightWithin most (before_row_end es)
+  before-good most es good =
+      let own = good.few in
+      let less = before-few es in
+      record { right = before-each IsRight es good.right; few = omega (arith, own, less) }
+
+  pub prefix-good : (number : ℕ) → AreRightWithin most_inner_columns (prefix s base number)
+  prefix-good number =
+      let text = slice_get s.objects.strings number in
+      before-good most_inner_columns (inner s base outside plain text) (inner-good outside plain text (string-at number))
