@@ -17,3 +17,4 @@ mod Parts
 mod Holds
 mod Sound
 mod Codes
+mod Stays

@@ -4,6 +4,7 @@
 
 mod examples;
 mod few;
+mod growth;
 mod laws;
 mod line;
 mod line_steps;
@@ -19,6 +20,7 @@ mod string;
 mod string_steps;
 mod walker;
 
+pub use growth::objects_that_are_made_change_no_line;
 pub use laws::{
     lines_are_sound, lines_end_once, prefixes_are_sound, prefixes_end_no_line, readings_have_codes,
     scenes_are_sound,

@@ -1,0 +1,280 @@
+-- Objects that are made later change no element of a line that names none of them.
+use Rattle.std.proofs.Common.{◌≡◌, ℕ, ◌-◌, ◌<◌, Bool, true, false, if◌then◌else◌, List, [], ◌∷◌, ◌++◌, length, Option, None, Some, All, IfSome, refl, ap, ◌∙◌}
+use Rattle.std.specs.Prelude.{map, slice_get, option_map, unwrap_or}
+use Rattle.std.specs.List.{flat_map, range_with_len}
+use Rattle.std.proofs.lemmas.List.Elements.{All-nil, All-cons, All-append, All-head, All-tail}
+use Rattle.rd_base.specs.Faces.{Attributes, plain}
+use Rattle.rd_base.specs.Settings.{SettingValues}
+use Rattle.rd_base.specs.declared.cell.Glyph.{Glyph}
+use Rattle.rd_base.specs.declared.element.Element.{Element}
+use Rattle.rd_base.specs.declared.element.Origin.{Origin}
+use Rattle.rd_objects.specs.declared.run.Spec.{Spec}
+use Rattle.rd_objects.specs.declared.run.Spec.TheVariants.{Text, Width, Align}
+use Rattle.rd_objects.specs.Sound.{IsClosed}
+use Rattle.rd_objects.specs.Tables.{TableValue}
+use Rattle.rd_objects.specs.Texts.{TextValue, spec_of}
+use Rattle.rd_objects.specs.Things.{ObjectLists}
+use Rattle.rd_objects.proofs.Soundness.{same_strings, same_specs, named_specs, named_strings}
+use Rattle.rd_glyphs.specs.Characters.{entry_of, elements_by, elements_of}
+use Rattle.rd_glyphs.specs.Joining.{base_of, mark_of}
+use Rattle.rd_glyphs.specs.Marks.{marked_glyph, joined_from, joined}
+use Rattle.rd_props.specs.Seen.{Seen}
+use Rattle.rd_items.specs.Growing.{ShowsMade, ShowMade, GoesOnFrom}
+use Rattle.rd_items.specs.Items.{items_of}
+use Rattle.rd_items.specs.Pieces.{Scene, spec_in, same_spec}
+use Rattle.rd_items.specs.declared.item.Item.{Item}
+use Rattle.rd_items.specs.declared.item.ItemKind.{ItemKind}
+use Rattle.rd_items.specs.declared.item.ItemKind.TheVariants as item
+use Rattle.rd_levels.specs.declared.turn.Turn.{Turn}
+use Rattle.rd_stack.specs.Lines.{text_elements, outer_by, outer, item_elements, item_turns, line_of_items, line_elements, origin_of}
+use Rattle.rd_stack.specs.Shown.{kind_elements, inner_elements, inner, middle_by, middle_elements, middle, before_row_end, outside, prefix}
+use Rattle.rd_stack.specs.Strings.{place_of, places_from, run_heads, ends_row, part_by, part_of, part_joins, shown_by, shown_at, row, row_end, rows_from, string_parts}
+use Rattle.rd_stack.specs.declared.part.Part.{Part}
+use Rattle.rd_stack.specs.declared.part.PartKind.{PartKind}
+use Rattle.rd_stack.specs.declared.part.PartKind.TheVariants as kind
+use Rattle.rd_stack.specs.declared.part.Place.{Place}
+use Rattle.rd_stack.specs.declared.part.Shown.{Shown}
+use Rattle.rd_stack.proofs.Lists.{all-at}
+
+-- ---- lists and options
+
+if-value : (P : ℕ → Type 0) (o : Option ℕ) → ((v : ℕ) → o ≡ Some v → P v) → IfSome o P
+if-value P None all = tt
+if-value P (Some v) all = all v refl
+
+chosen : {X : Type 0} (P : X → Type 0) (t : Bool) (xs ys : List X) → All P xs → All P ys → All P (if t then xs else ys)
+chosen P true xs ys these those = these
+chosen P false xs ys these those = those
+
+one : {X : Type 0} (P : X → Type 0) (x : X) → P x → All P (x ∷ [])
+one P x is = All-cons P x [] is (All-nil P)
+
+found-by : {X : Type 0} (P : X → Type 0) (xs : List X) (i : ℕ) (found : Option X) → All P xs → slice_get xs i ≡ found → IfSome found P
+found-by P xs i None all e = tt
+found-by P xs i (Some x) all e = all-at P xs i x all e
+
+-- two functions that give the same of each element of which something holds
+flat-same : {X A : Type 0} (P : X → Type 0) (f g : X → List A) (xs : List X) → ((x : X) → P x → f x ≡ g x) → All P xs → flat_map f xs ≡ flat_map g xs
+flat-same P f g [] same all = refl
+flat-same {X} {A} P f g (x ∷ xs) same all =
+    ap (λ (ys : List A). ys ++ flat_map f xs) (same x (All-head P x xs all)) ∙ ap (λ (ys : List A). g x ++ ys) (flat-same P f g xs same (All-tail P x xs all))
+
+flat-each : {X A : Type 0} (f g : X → List A) (xs : List X) → ((x : X) → f x ≡ g x) → flat_map f xs ≡ flat_map g xs
+flat-each f g [] same = refl
+flat-each {X} {A} f g (x ∷ xs) same =
+    ap (λ (ys : List A). ys ++ flat_map f xs) (same x) ∙ ap (λ (ys : List A). g x ++ ys) (flat-each f g xs same)
+
+-- ---- what the parts of strings name
+
+-- the string that a part shows was made
+abbrev PartMade : ObjectLists → PartKind → Type 0
+PartMade o (kind.Replaced (Text number)) = number < length o.strings
+PartMade o k = Unit {0}
+
+module _ (s : Scene) (closed : IsClosed s.objects) where
+  abbrev IsFine : Part → Type 0
+  IsFine x = PartMade s.objects x.kind
+
+  abbrev IsFineShown : Shown → Type 0
+  IsFineShown x = PartMade s.objects x.kind
+
+  spec-fine : (n : ℕ) (found : Option Spec) → slice_get s.objects.specs n ≡ found → PartMade s.objects (kind.Replaced (unwrap_or found (Width 0)))
+  spec-fine n None e = tt
+  spec-fine n (Some (Text m)) e = named_strings s.objects n m closed e
+  spec-fine n (Some (Width m)) e = tt
+  spec-fine n (Some (Align m)) e = tt
+
+  by-fine : (o : Option ℕ) (p : Place) → IsFine (part_by s (option_map (spec_in s.objects) o) p)
+  by-fine None p = tt
+  by-fine (Some n) p = spec-fine n (slice_get s.objects.specs n) refl
+
+  joins-by : (h x : Part) (xs : List Part) → IsFine h → IsFine x → ((k : Part) → IsFine k → All IsFine (joined_from part_joins k xs)) → (glyph : Option Glyph) → marked_glyph (base_of h.joining) (mark_of x.joining) ≡ glyph
+      → All IsFine (joined_from part_joins h (x ∷ xs))
+  joins-by h x xs held next rest None e = rw e (All-cons IsFine h (joined_from part_joins x xs) held (rest x next))
+  joins-by h x xs held next rest (Some g) e = rw e (rest _ tt)
+
+  joins : (h : Part) (xs : List Part) → IsFine h → All IsFine xs → All IsFine (joined_from part_joins h xs)
+  joins h [] held all = one IsFine h held
+  joins h (x ∷ xs) held all =
+      joins-by h x xs held (All-head IsFine x xs all) (λ k fine. joins k xs fine (All-tail IsFine x xs all)) (marked_glyph (base_of h.joining) (mark_of x.joining)) refl
+
+  joins-all : (xs : List Part) → All IsFine xs → All IsFine (joined part_joins xs)
+  joins-all [] all = all
+  joins-all (x ∷ xs) all = joins x xs (All-head IsFine x xs all) (All-tail IsFine x xs all)
+
+  shown-fine : (odd : Bool) (found : Option Part) → IfSome found IsFine → All IsFineShown (shown_by odd found)
+  shown-fine odd None fine = All-nil IsFineShown
+  shown-fine odd (Some x) fine = one IsFineShown (record { kind = x.kind; face = x.face; odd = odd }) fine
+
+  turns-fine : (xs : List Part) (turns : List Turn) → All IsFine xs → All IsFineShown (flat_map (shown_at xs) turns)
+  turns-fine xs [] all = All-nil IsFineShown
+  turns-fine xs (turn ∷ turns) all =
+      All-append IsFineShown (shown_at xs turn) (flat_map (shown_at xs) turns)
+      (shown-fine turn.odd (slice_get xs turn.index) (found-by IsFine xs turn.index (slice_get xs turn.index) all refl)) (turns-fine xs turns all)
+
+  row-fine : (base : ℕ) (xs : List Part) → All IsFine xs → All IsFineShown (row s base xs)
+  row-fine base xs all = turns-fine (joined part_joins xs) _ (joins-all xs all)
+
+  rows-fine : (base : ℕ) (xs : List Part) (ps : List Place) → All IsFine xs → All IsFineShown (rows_from s base xs ps)
+  rows-fine base xs [] all = row-fine base xs all
+  rows-fine base xs (p ∷ ps) all =
+      chosen IsFineShown (ends_row p) (row s base xs ++ row_end p.face ∷ rows_from s base [] ps) (rows_from s base (xs ++ part_of s p ∷ []) ps)
+      (All-append IsFineShown (row s base xs) (row_end p.face ∷ rows_from s base [] ps) (row-fine base xs all)
+      (All-cons IsFineShown (row_end p.face) (rows_from s base [] ps) tt (rows-fine base [] ps (All-nil IsFine))))
+      (rows-fine base (xs ++ part_of s p ∷ []) ps (All-append IsFine xs (part_of s p ∷ []) all (one IsFine (part_of s p) (by-fine p.spec p))))
+
+-- ---- what stays
+
+module _ (old new : Scene) (goes : GoesOnFrom old new) (closed : IsClosed old.objects) where
+  ctl : new.parts.settings.ctl_arrow ≡ old.parts.settings.ctl_arrow
+  ctl = ap (λ (s : SettingValues). s.ctl_arrow) goes.settings
+
+  tab : new.parts.settings.tab_width ≡ old.parts.settings.tab_width
+  tab = ap (λ (s : SettingValues). s.tab_width) goes.settings
+
+  reorder : new.parts.settings.reorder ≡ old.parts.settings.reorder
+  reorder = ap (λ (s : SettingValues). s.reorder) goes.settings
+
+  elements-by : (entry : Option (List Glyph)) (c : ℕ) (odd : Bool) (face : Attributes) (origin : Origin) → elements_by entry new.parts c odd face origin ≡ elements_by entry old.parts c odd face origin
+  elements-by (Some text) c odd face origin = refl
+  elements-by None c odd face origin = rw (goes.table, ctl, tab, goes.classes, goes.mirrors)
+
+  same-elements : (c : ℕ) (odd : Bool) (face : Attributes) (origin : Origin) → elements_of new.parts c odd face origin ≡ elements_of old.parts c odd face origin
+  same-elements c odd face origin =
+      ap (λ (t : Option TableValue). elements_by (entry_of t c) new.parts c odd face origin) goes.table ∙ elements-by (entry_of old.parts.table c) c odd face origin
+
+  same-kind : (k : PartKind) (face : Attributes) (odd : Bool) (origin : Origin) → kind_elements new k face odd origin ≡ kind_elements old k face odd origin
+  same-kind (kind.Char c) face odd origin = same-elements c odd face origin
+  same-kind (kind.Marked g) face odd origin = refl
+  same-kind (kind.Replaced spec) face odd origin = refl
+  same-kind kind.RowEnd face odd origin = refl
+
+  -- ---- the parts of strings
+
+  -- the spec of a place was made
+  abbrev IsMade : Place → Type 0
+  IsMade p = IfSome p.spec (λ n. n < length old.objects.specs)
+
+  same-named : (o : Option ℕ) → IfSome o (λ n. n < length old.objects.specs) → option_map (spec_in new.objects) o ≡ option_map (spec_in old.objects) o
+  same-named None made = refl
+  same-named (Some n) made = ap (λ (x : Option Spec). Some (unwrap_or x (Width 0))) (same_specs old.objects new.objects n goes.objects made)
+
+  same-by : (spec : Option Spec) (p : Place) → part_by new spec p ≡ part_by old spec p
+  same-by None p = rw (goes.table, ctl, goes.classes)
+  same-by (Some spec) p = refl
+
+  same-part : (p : Place) → IsMade p → part_of new p ≡ part_of old p
+  same-part p made = ap (λ (o : Option Spec). part_by new o p) (same-named p.spec made) ∙ same-by (option_map (spec_in old.objects) p.spec) p
+
+  same-row : (base : ℕ) (xs : List Part) → row new base xs ≡ row old base xs
+  same-row base xs = rw (goes.brackets, reorder)
+
+  rows-by : (ends : Bool) (base : ℕ) (xs : List Part) (p : Place) (ps : List Place) → IsMade p → ((ys : List Part) → rows_from new base ys ps ≡ rows_from old base ys ps)
+      → (if ends then row new base xs ++ row_end p.face ∷ rows_from new base [] ps else rows_from new base (xs ++ part_of new p ∷ []) ps)
+      ≡ (if ends then row old base xs ++ row_end p.face ∷ rows_from old base [] ps else rows_from old base (xs ++ part_of old p ∷ []) ps)
+  rows-by true base xs p ps made rest =
+      ap (λ (ys : List Shown). ys ++ row_end p.face ∷ rows_from new base [] ps) (same-row base xs)
+      ∙ ap (λ (ys : List Shown). row old base xs ++ row_end p.face ∷ ys) (rest [])
+  rows-by false base xs p ps made rest =
+      ap (λ (x : Part). rows_from new base (xs ++ x ∷ []) ps) (same-part p made) ∙ rest (xs ++ part_of old p ∷ [])
+
+  same-rows : (base : ℕ) (xs : List Part) (ps : List Place) → All IsMade ps → rows_from new base xs ps ≡ rows_from old base xs ps
+  same-rows base xs [] made = same-row base xs
+  same-rows base xs (p ∷ ps) made = rows-by (ends_row p) base xs p ps (All-head IsMade p ps made) (λ ys. same-rows base ys ps (All-tail IsMade p ps made))
+
+  heads-made : (before : Option ℕ) (ps : List Place) → All IsMade ps → All IsMade (run_heads before ps)
+  heads-made before [] made = made
+  heads-made before (p ∷ ps) made =
+      All-append IsMade (if same_spec before p.spec then [] else p ∷ []) (run_heads p.spec ps)
+      (chosen IsMade (same_spec before p.spec) [] (p ∷ []) (All-nil IsMade) (one IsMade p (All-head IsMade p ps made)))
+      (heads-made p.spec ps (All-tail IsMade p ps made))
+
+  -- a string that was made
+  module _ (number : ℕ) (text : TextValue) (found : slice_get old.objects.strings number ≡ Some text) where
+    spec-made : (replaced : Bool) (i : ℕ) → IfSome (if replaced then spec_of text i else None) (λ n. n < length old.objects.specs)
+    spec-made true i = if-value (λ n. n < length old.objects.specs) (spec_of text i) (λ v h. named_specs old.objects number i v text closed found h)
+    spec-made false i = tt
+
+    places-made : (replaced : Bool) (under : Attributes) (ns : List ℕ) → All IsMade (map (place_of replaced text under) ns)
+    places-made replaced under [] = All-nil IsMade
+    places-made replaced under (n ∷ ns) = All-cons IsMade (place_of replaced text under n) (map (place_of replaced text under) ns) (spec-made replaced n) (places-made replaced under ns)
+
+    same-string : (base : ℕ) (replaced : Bool) (under : Attributes) → string_parts new base replaced text under ≡ string_parts old base replaced text under
+    same-string base replaced under =
+        same-rows base [] (run_heads None (places_from replaced text under 0))
+        (heads-made None (places_from replaced text under 0) (places-made replaced under (range_with_len 0 (length text.chars - 0))))
+
+    text-inner : (base : ℕ) (origin : Origin) (under : Attributes) → inner new base origin under (Some text) ≡ inner old base origin under (Some text)
+    text-inner base origin under =
+        ap (λ (xs : List Shown). flat_map (inner_elements new origin) xs) (same-string base false under)
+        ∙ flat-each (inner_elements new origin) (inner_elements old origin) (string_parts old base false text under) (λ x. same-kind x.kind x.face x.odd origin)
+
+  inner-by : (number : ℕ) (found : Option TextValue) (base : ℕ) (origin : Origin) (under : Attributes) → slice_get old.objects.strings number ≡ found
+      → inner new base origin under found ≡ inner old base origin under found
+  inner-by number None base origin under e = refl
+  inner-by number (Some text) base origin under e = text-inner number text e base origin under
+
+  same-inner : (number base : ℕ) (origin : Origin) (under : Attributes) → number < length old.objects.strings
+      → inner new base origin under (slice_get new.objects.strings number) ≡ inner old base origin under (slice_get old.objects.strings number)
+  same-inner number base origin under made =
+      ap (λ (t : Option TextValue). inner new base origin under t) (same_strings old.objects new.objects number goes.objects made)
+      ∙ inner-by number (slice_get old.objects.strings number) base origin under refl
+
+  same-middle-part : (base : ℕ) (origin : Origin) (k : PartKind) (face : Attributes) (odd : Bool) → PartMade old.objects k → middle_by new base origin k face odd ≡ middle_by old base origin k face odd
+  same-middle-part base origin (kind.Char c) face odd made = same-elements c odd face origin
+  same-middle-part base origin (kind.Marked g) face odd made = refl
+  same-middle-part base origin (kind.Replaced (Text n)) face odd made = same-inner n base origin face made
+  same-middle-part base origin (kind.Replaced (Width n)) face odd made = refl
+  same-middle-part base origin (kind.Replaced (Align n)) face odd made = refl
+  same-middle-part base origin kind.RowEnd face odd made = refl
+
+  middle-by : (number : ℕ) (found : Option TextValue) (base : ℕ) (origin : Origin) (under : Attributes) → slice_get old.objects.strings number ≡ found
+      → middle new base origin under found ≡ middle old base origin under found
+  middle-by number None base origin under e = refl
+  middle-by number (Some text) base origin under e =
+      ap (λ (xs : List Shown). flat_map (middle_elements new base origin) xs) (same-string number text e base true under)
+      ∙ flat-same (IsFineShown old closed) (middle_elements new base origin) (middle_elements old base origin) (string_parts old base true text under)
+      (λ x made. same-middle-part base origin x.kind x.face x.odd made)
+      (rows-fine old closed base [] (run_heads None (places_from true text under 0)) (All-nil (IsFine old closed)))
+
+  same-middle : (number base : ℕ) (origin : Origin) (under : Attributes) → number < length old.objects.strings
+      → middle new base origin under (slice_get new.objects.strings number) ≡ middle old base origin under (slice_get old.objects.strings number)
+  same-middle number base origin under made =
+      ap (λ (t : Option TextValue). middle new base origin under t) (same_strings old.objects new.objects number goes.objects made)
+      ∙ middle-by number (slice_get old.objects.strings number) base origin under refl
+
+  -- ---- the items of a line
+
+  same-text : (overlay : Bool) (number base : ℕ) (origin : Origin) (face : Attributes) → number < length old.objects.strings
+      → text_elements new base overlay origin face (slice_get new.objects.strings number) ≡ text_elements old base overlay origin face (slice_get old.objects.strings number)
+  same-text true number base origin face made = same-middle number base origin face made
+  same-text false number base origin face made = same-inner number base origin face made
+
+  same-outer : (base : ℕ) (k : ItemKind) (overlay odd : Bool) (face : Attributes) (origin : Origin) → ShowsMade old.objects k → outer_by new base k overlay odd face origin ≡ outer_by old base k overlay odd face origin
+  same-outer base (item.Char c) overlay odd face origin made = same-elements c odd face origin
+  same-outer base (item.Marked g) overlay odd face origin made = refl
+  same-outer base (item.Text n) overlay odd face origin made = same-text overlay n base origin face made
+  same-outer base (item.Space spec) overlay odd face origin made = refl
+  same-outer base item.Ellipsis overlay odd face origin made = rw goes.table
+  same-outer base item.Ender overlay odd face origin made = refl
+
+  same-item : (base : ℕ) (turn : Turn) (found : Option Item) → IfSome found (λ i. ShowsMade old.objects i.kind) → outer new base turn found ≡ outer old base turn found
+  same-item base turn None made = refl
+  same-item base turn (Some i) made = same-outer base i.kind i.overlay turn.odd i.face (origin_of turn.index i) made
+
+  same-turns : (base : ℕ) (items : List Item) → item_turns new base items ≡ item_turns old base items
+  same-turns base items = rw (goes.brackets, reorder)
+
+  same-line : (base : ℕ) (items : List Item) → ShowMade old.objects items → line_of_items new base items ≡ line_of_items old base items
+  same-line base items made =
+      ap (λ (turns : List Turn). flat_map (item_elements new base items) turns) (same-turns base items)
+      ∙ flat-each (item_elements new base items) (item_elements old base items) (item_turns old base items)
+      (λ turn. same-item base turn (slice_get items turn.index) (found-by (λ (i : Item). ShowsMade old.objects i.kind) items turn.index (slice_get items turn.index) made refl))
+
+  -- the line of what names made objects alone
+  pub line-stays : (base : ℕ) (es : List Seen) → items_of new es ≡ items_of old es → ShowMade old.objects (items_of old es) → line_elements new base es ≡ line_elements old base es
+  line-stays base es same made = ap (λ (items : List Item). line_of_items new base items) same ∙ same-line base (items_of old es) made
+
+  -- the prefix that is a string which was made
+  pub prefix-stays : (base number : ℕ) → number < length old.objects.strings → prefix new base number ≡ prefix old base number
+  prefix-stays base number made = ap (λ (es : List Element). before_row_end es) (same-inner number base outside plain made)
