@@ -39,14 +39,14 @@ cursor_or_first None = (0, 0)
 cursor_or_first (Some place) = place
 
 -- the cursor of the frame is that of the selected window
-abbrev pub cursor_of : Option Placed → Option (ℕ × ℕ) → ℕ × ℕ
-cursor_of None cursor = (0, 0)
-cursor_of (Some window) cursor = on_frame window (cursor_or_first cursor)
+abbrev pub frame_cursor : Option Placed → Option (ℕ × ℕ) → ℕ × ℕ
+frame_cursor None cursor = (0, 0)
+frame_cursor (Some window) cursor = on_frame window (cursor_or_first cursor)
 
 -- the target screen of the frame
 abbrev pub frame_picture : FrameValues → Picture
 frame_picture f = record {
   rows = frame_rows f;
-  row = (cursor_of (selected_window f) f.cursor).0;
-  column = (cursor_of (selected_window f) f.cursor).1;
+  row = (frame_cursor (selected_window f) f.cursor).0;
+  column = (frame_cursor (selected_window f) f.cursor).1;
 }

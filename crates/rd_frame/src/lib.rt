@@ -2,3 +2,15 @@
 #![tactic(auto)]
 
 mod examples;
+mod frame;
+mod laws;
+mod pane;
+mod window;
+
+pub use frame::{paint_echo, place_cursor};
+pub use laws::{
+    borders_are_whole, frames_are_pictures, windows_are_painted_in_order,
+    windows_fill_their_rectangles,
+};
+pub use pane::{Pane, body_height, body_width, border_cell};
+pub use window::paint_window;

@@ -1,0 +1,4 @@
+mod Filling
+mod Painting
+mod Screens
+mod Whole

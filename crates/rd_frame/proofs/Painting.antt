@@ -1,0 +1,257 @@
+-- Rectangles that are painted one after the other.
+use Rattle.std.proofs.Common.{◌≡◌, ℕ, zero, suc, ◌+◌, ◌-◌, ◌<◌, ◌≤◌, min, List, [], ◌∷◌, ◌++◌, length, take, drop, get_or, refl, sym, ◌∙◌, ap, arith, append_assoc, length-append}
+use Rattle.std.specs.Prelude.{slice_set}
+use Rattle.std.specs.List.{All, AllByRecursion}
+use Rattle.std.proofs.lemmas.List.{append-nil, length-take, length-take-le, length-drop, take_at, drop_at, drop-drop, drop_all}
+use Rattle.std.proofs.lemmas.List.Elements.{recursion_from_All, All-from_recursion, All-append, All-get_or}
+use Rattle.rd_term.specs.Pictures.{row_at, with_cells, written_over, IsGrid}
+use Rattle.rd_tree.specs.declared.placed.Placed.{Placed}
+use Rattle.rd_tree.specs.declared.rect.Rect.{Rect}
+use Rattle.rd_tree.specs.declared.side.Side.{Side}
+use Rattle.rd_tree.specs.declared.side.Side.TheVariants.{Below, Right}
+use Rattle.rd_tree.specs.Windows.{Windows, Window, Split, HasRoom, first_part, second_part, placed}
+use Rattle.rd_tree.specs.Calls.{frame}
+use Rattle.rd_tree.specs.Compositions.{beside, both_parts, composed, HasSize, FillTheirRectangles}
+use Rattle.rd_tree.proofs.Composing.{all_front, all_back, composed-size, filled_first, filled_second}
+use Rattle.rd_tree.proofs.Rooms.{room_within}
+use Rattle.rd_frame.specs.Paints.{laid_over, with_rectangle, painted, with_echo}
+
+-- ---- a row
+
+-- cells behind cells that were written
+pub written-behind : {C : Type 0} (column at : ℕ) (first second row : List C) → column ≤ length row → at ≡ column + length first → written_over at second (written_over column first row) ≡ written_over column (first ++ second) row
+written-behind {C = C} column at first second row inside e =
+    let front = take column row in
+    let rest = drop (column + length first) row in
+    let n : length front ≡ column = length-take-le column row inside in
+    let m : length (front ++ first) ≡ at = length-append front first ∙ omega arith in
+    let written : front ++ (first ++ rest) ≡ (front ++ first) ++ rest = sym (append_assoc front first rest) in
+    let before : take at (written_over column first row) ≡ front ++ first = ap (take at) written ∙ take_at (front ++ first) rest at m in
+    let skip : drop (at + length second) (written_over column first row) ≡ drop (column + length (first ++ second)) row
+    = ap (drop (at + length second)) written
+    ∙ (sym (drop-drop (length second) at ((front ++ first) ++ rest))
+    ∙ (ap (drop (length second)) (drop_at (front ++ first) rest at m)
+    ∙ (drop-drop (length second) (column + length first) row
+    ∙ (let k : column + length first + length second ≡ column + length (first ++ second) = omega (arith, length-append first second) in ap (λ (j : ℕ). drop j row) k)))) in
+    let behind = drop (column + length (first ++ second)) row in
+    ap (λ (xs : List C). xs ++ (second ++ drop (at + length second) (written_over column first row))) before
+    ∙ (ap (λ (xs : List C). (front ++ first) ++ (second ++ xs)) skip
+    ∙ (append_assoc front first (second ++ behind) ∙ ap (λ (xs : List C). front ++ xs) (sym (append_assoc first second behind))))
+
+-- the columns of a row that is written over, where the cells have room
+pub written-length : {C : Type 0} (column : ℕ) (cells row : List C) → column + length cells ≤ length row → length (written_over column cells row) ≡ length row
+written-length column cells row room =
+    length-append (take column row) (cells ++ drop (column + length cells) row)
+    ∙ omega (arith, length-take column row, length-append cells (drop (column + length cells) row), length-drop (column + length cells) row)
+
+-- it gets no shorter
+pub written-at_least : {C : Type 0} (n column : ℕ) (cells row : List C) → n ≤ length row → n ≤ length (written_over column cells row)
+written-at_least n column cells row h =
+    omega (
+      arith,
+      length-append (take column row) (cells ++ drop (column + length cells) row),
+      length-take column row,
+      length-append cells (drop (column + length cells) row),
+      length-drop (column + length cells) row,
+    )
+
+-- a whole row is written anew
+pub written-whole : {C : Type 0} (cells row : List C) → length row ≡ length cells → written_over 0 cells row ≡ cells
+written-whole {C = C} cells row e = ap (λ (xs : List C). cells ++ xs) (drop_all (0 + length cells) row (omega arith)) ∙ append-nil cells
+
+-- ---- rows
+
+-- rows laid over others from a row on
+abbrev pub laid_at : {C : Type 0} → ℕ → ℕ → List (List C) → List (List C) → List (List C)
+laid_at zero column news rows = laid_over column news rows
+laid_at (suc y) column news [] = []
+laid_at (suc y) column news (row ∷ rows) = row ∷ laid_at y column news rows
+
+over-none : {C : Type 0} (column : ℕ) (news : List (List C)) → laid_over column news [] ≡ []
+over-none column [] = refl
+over-none column (new ∷ news) = refl
+
+pub at-rectangle : {C : Type 0} (y column : ℕ) (news rows : List (List C)) → take y rows ++ laid_over column news (drop y rows) ≡ laid_at y column news rows
+at-rectangle zero column news rows = refl
+at-rectangle (suc y) column news [] = over-none column news
+at-rectangle {C = C} (suc y) column news (row ∷ rows) = ap (λ (xs : List (List C)). row ∷ xs) (at-rectangle y column news rows)
+
+-- rows that have at least so many columns
+abbrev pub AreWide : {C : Type 0} → ℕ → List (List C) → Type 0
+AreWide n rows = AllByRecursion (λ row. n ≤ length row) rows
+
+pub narrower : {C : Type 0} (n m : ℕ) (rows : List (List C)) → m ≤ n → AreWide n rows → AreWide m rows
+narrower n m [] less h = tt
+narrower n m (row ∷ rows) less h = (let a = h.0 in omega arith, narrower n m rows less h.1)
+
+pub just-wide : {C : Type 0} (n : ℕ) (rows : List (List C)) → AllByRecursion (λ row. length row ≡ n) rows → AreWide n rows
+just-wide n [] h = tt
+just-wide n (row ∷ rows) h = (let a = h.0 in omega arith, just-wide n rows h.1)
+
+over-wide : {C : Type 0} (n column : ℕ) (news rows : List (List C)) → AreWide n rows → AreWide n (laid_over column news rows)
+over-wide n column [] rows h = h
+over-wide n column (new ∷ news) [] h = tt
+over-wide n column (new ∷ news) (row ∷ rows) h = (written-at_least n column new row h.0, over-wide n column news rows h.1)
+
+pub at-wide : {C : Type 0} (n y column : ℕ) (news rows : List (List C)) → AreWide n rows → AreWide n (laid_at y column news rows)
+at-wide n zero column news rows h = over-wide n column news rows h
+at-wide n (suc y) column news [] h = tt
+at-wide n (suc y) column news (row ∷ rows) h = (h.0, at-wide n y column news rows h.1)
+
+-- rows beside rows that were laid
+over-beside : {C : Type 0} (column at w : ℕ) (lefts rights rows : List (List C)) → at ≡ column + w → length lefts ≡ length rights → AllByRecursion (λ row. length row ≡ w) lefts → AreWide column rows
+    → laid_over at rights (laid_over column lefts rows) ≡ laid_over column (beside lefts rights) rows
+over-beside column at w [] [] rows e n l h = refl
+over-beside column at w [] (right ∷ rights) rows e n l h = absurd (omega arith)
+over-beside column at w (left ∷ lefts) [] rows e n l h = absurd (omega arith)
+over-beside column at w (left ∷ lefts) (right ∷ rights) [] e n l h = refl
+over-beside column at w (left ∷ lefts) (right ∷ rights) (row ∷ rows) e n l h =
+    let first : written_over at right (written_over column left row) ≡ written_over column (left ++ right) row = let k = l.0 in written-behind column at left right row h.0 (omega arith) in
+    let rest = over-beside column at w lefts rights rows e (omega arith) l.1 h.1 in
+    rw (first, rest) refl
+
+pub at-beside : {C : Type 0} (y column at w : ℕ) (lefts rights rows : List (List C)) → at ≡ column + w → length lefts ≡ length rights → AllByRecursion (λ row. length row ≡ w) lefts → AreWide column rows
+    → laid_at y at rights (laid_at y column lefts rows) ≡ laid_at y column (beside lefts rights) rows
+at-beside zero column at w lefts rights rows e n l h = over-beside column at w lefts rights rows e n l h
+at-beside (suc y) column at w lefts rights [] e n l h = refl
+at-beside {C = C} (suc y) column at w lefts rights (row ∷ rows) e n l h = ap (λ (xs : List (List C)). row ∷ xs) (at-beside y column at w lefts rights rows e n l h.1)
+
+-- rows below rows that were laid
+over-below : {C : Type 0} (column : ℕ) (tops rests rows : List (List C)) → laid_at (length tops) column rests (laid_over column tops rows) ≡ laid_over column (tops ++ rests) rows
+over-below column [] rests rows = refl
+over-below column (top ∷ tops) rests [] = refl
+over-below {C = C} column (top ∷ tops) rests (row ∷ rows) = ap (λ (xs : List (List C)). written_over column top row ∷ xs) (over-below column tops rests rows)
+
+pub at-below : {C : Type 0} (y at column : ℕ) (tops rests rows : List (List C)) → at ≡ y + length tops → laid_at at column rests (laid_at y column tops rows) ≡ laid_at y column (tops ++ rests) rows
+at-below zero at column tops rests rows e = let s : at ≡ length tops = omega arith in rw s (over-below column tops rests rows)
+at-below (suc y) zero column tops rests rows e = absurd (omega arith)
+at-below (suc y) (suc at) column tops rests [] e = refl
+at-below {C = C} (suc y) (suc at) column tops rests (row ∷ rows) e = ap (λ (xs : List (List C)). row ∷ xs) (at-below y at column tops rests rows (omega arith))
+
+-- one row
+pub at-row : {C : Type 0} (y column : ℕ) (new : List C) (rows : List (List C)) → laid_at y column (new ∷ []) rows ≡ with_cells rows y column new
+at-row zero column new [] = refl
+at-row zero column new (row ∷ rows) = refl
+at-row (suc y) column new [] = refl
+at-row {C = C} (suc y) column new (row ∷ rows) = ap (λ (xs : List (List C)). row ∷ xs) (at-row y column new rows)
+
+-- one row more
+pub at-more : {C : Type 0} (y at column : ℕ) (news : List (List C)) (new : List C) (rows : List (List C)) → at ≡ y + length news → with_cells (laid_at y column news rows) at column new ≡ laid_at y column (news ++ new ∷ []) rows
+at-more y at column news new rows e = sym (at-row at column new (laid_at y column news rows)) ∙ at-below y at column news (new ∷ []) rows e
+
+-- cells behind cells in one row
+pub cells-behind : {C : Type 0} (rows : List (List C)) (row column at : ℕ) (first second : List C) → column ≤ length (row_at rows row) → at ≡ column + length first
+    → with_cells (with_cells rows row column first) row at second ≡ with_cells rows row column (first ++ second)
+cells-behind [] row column at first second inside e = refl
+cells-behind {C = C} (top ∷ rows) zero column at first second inside e = ap (λ (r : List C). r ∷ rows) (written-behind column at first second top inside e)
+cells-behind {C = C} (top ∷ rows) (suc row) column at first second inside e = ap (λ (xs : List (List C)). top ∷ xs) (cells-behind rows row column at first second inside e)
+
+-- ---- sizes
+
+pub cells-length : {C : Type 0} (rows : List (List C)) (row column : ℕ) (cells : List C) → length (with_cells rows row column cells) ≡ length rows
+cells-length [] row column cells = refl
+cells-length (top ∷ rows) zero column cells = refl
+cells-length (top ∷ rows) (suc row) column cells = ap suc (cells-length rows row column cells)
+
+over-length : {C : Type 0} (column : ℕ) (news rows : List (List C)) → length (laid_over column news rows) ≡ length rows
+over-length column [] rows = refl
+over-length column (new ∷ news) [] = refl
+over-length column (new ∷ news) (row ∷ rows) = ap suc (over-length column news rows)
+
+pub at-length : {C : Type 0} (y column : ℕ) (news rows : List (List C)) → length (laid_at y column news rows) ≡ length rows
+at-length zero column news rows = over-length column news rows
+at-length (suc y) column news [] = refl
+at-length (suc y) column news (row ∷ rows) = ap suc (at-length y column news rows)
+
+over-grid : {C : Type 0} (w n column : ℕ) (news rows : List (List C)) → AllByRecursion (λ row. length row ≡ w) rows → AllByRecursion (λ row. length row ≡ n) news → column + n ≤ w → AllByRecursion (λ row. length row ≡ w) (laid_over column news rows)
+over-grid w n column [] rows h k room = h
+over-grid w n column (new ∷ news) [] h k room = tt
+over-grid w n column (new ∷ news) (row ∷ rows) h k room =
+    (let a = h.0 in let b = k.0 in written-length column new row (omega arith) ∙ h.0, over-grid w n column news rows h.1 k.1 room)
+
+pub at-grid : {C : Type 0} (w n y column : ℕ) (news rows : List (List C)) → AllByRecursion (λ row. length row ≡ w) rows → AllByRecursion (λ row. length row ≡ n) news → column + n ≤ w → AllByRecursion (λ row. length row ≡ w) (laid_at y column news rows)
+at-grid w n zero column news rows h k room = over-grid w n column news rows h k room
+at-grid w n (suc y) column news [] h k room = tt
+at-grid w n (suc y) column news (row ∷ rows) h k room = (h.0, at-grid w n y column news rows h.1 k room)
+
+-- ---- windows
+
+painted-both : {C : Type 0} (rows_of : Placed → List (List C)) (first second : List Placed) (rows : List (List C)) → painted rows_of (first ++ second) rows ≡ painted rows_of second (painted rows_of first rows)
+painted-both rows_of [] second rows = refl
+painted-both rows_of (window ∷ first) second rows = painted-both rows_of first second (with_rectangle window.rect (rows_of window) rows)
+
+-- windows that are painted in order show what they compose
+pub painted-composed : {C : Type 0} (rows_of : Placed → List (List C)) (windows : Windows) (rect : Rect) (rows : List (List C)) → HasRoom windows rect → FillTheirRectangles rows_of (placed windows rect) → AreWide (rect.x + rect.width) rows
+    → painted rows_of (placed windows rect) rows ≡ laid_at rect.y rect.x (composed rows_of windows rect) rows
+painted-composed rows_of (Window number mode margins) rect rows h f wide = at-rectangle rect.y rect.x (rows_of (record { number = number; mode = mode; margins = margins; rect = rect })) rows
+painted-composed rows_of (Split Right size first second) rect rows h f wide =
+    let a = first_part Right size rect in
+    let b = second_part Right size rect in
+    let within = room_within Right size first second rect h in
+    let lefts = composed rows_of first a in
+    let rights = composed rows_of second b in
+    let left_size = composed-size rows_of first a h.0 (filled_first rows_of Right size first second rect f) in
+    let right_size = composed-size rows_of second b h.1 (filled_second rows_of Right size first second rect f) in
+    let one : painted rows_of (placed first a) rows ≡ laid_at rect.y rect.x lefts rows
+    = painted-composed rows_of first a rows h.0 (filled_first rows_of Right size first second rect f) (narrower (rect.x + rect.width) (rect.x + size) rows (omega arith) wide) in
+    let two : painted rows_of (placed second b) (laid_at rect.y rect.x lefts rows) ≡ laid_at rect.y (rect.x + size) rights (laid_at rect.y rect.x lefts rows)
+    = painted-composed rows_of second b (laid_at rect.y rect.x lefts rows) h.1 (filled_second rows_of Right size first second rect f)
+    (at-wide (rect.x + size + (rect.width - size)) rect.y rect.x lefts rows (narrower (rect.x + rect.width) (rect.x + size + (rect.width - size)) rows (omega arith) wide)) in
+    painted-both rows_of (placed first a) (placed second b) rows
+    ∙ (ap (painted rows_of (placed second b)) one
+    ∙ (two
+    ∙ at-beside rect.y rect.x (rect.x + size) size lefts rights rows refl (left_size.0 ∙ sym right_size.0) (recursion_from_All (λ row. length row ≡ size) lefts left_size.1) (narrower (rect.x + rect.width) rect.x rows (omega arith) wide)))
+painted-composed rows_of (Split Below size first second) rect rows h f wide =
+    let a = first_part Below size rect in
+    let b = second_part Below size rect in
+    let tops = composed rows_of first a in
+    let rests = composed rows_of second b in
+    let top_size = composed-size rows_of first a h.0 (filled_first rows_of Below size first second rect f) in
+    let one : painted rows_of (placed first a) rows ≡ laid_at rect.y rect.x tops rows
+    = painted-composed rows_of first a rows h.0 (filled_first rows_of Below size first second rect f) wide in
+    let two : painted rows_of (placed second b) (laid_at rect.y rect.x tops rows) ≡ laid_at (rect.y + size) rect.x rests (laid_at rect.y rect.x tops rows)
+    = painted-composed rows_of second b (laid_at rect.y rect.x tops rows) h.1 (filled_second rows_of Below size first second rect f) (at-wide (rect.x + rect.width) rect.y rect.x tops rows wide) in
+    painted-both rows_of (placed first a) (placed second b) rows
+    ∙ (ap (painted rows_of (placed second b)) one
+    ∙ (two
+    ∙ at-below rect.y (rect.y + size) rect.x tops rests rows (let n = top_size.0 in omega arith)))
+
+-- ---- a whole screen
+
+over-whole : {C : Type 0} (w : ℕ) (news rows : List (List C)) → length news ≤ length rows → AllByRecursion (λ row. length row ≡ w) news → AllByRecursion (λ row. length row ≡ w) rows → laid_over 0 news rows ≡ news ++ drop (length news) rows
+over-whole w [] rows few h k = refl
+over-whole w (new ∷ news) [] few h k = absurd (omega arith)
+over-whole w (new ∷ news) (row ∷ rows) few h k =
+    let first : written_over 0 new row ≡ new = written-whole new row (k.0 ∙ sym h.0) in
+    let rest = over-whole w news rows (omega arith) h.1 k.1 in
+    rw (first, rest) refl
+
+echo-last : {C : Type 0} (echo last : List C) (rows : List (List C)) → with_echo echo (rows ++ last ∷ []) ≡ rows ++ echo ∷ []
+echo-last echo last [] = refl
+echo-last echo last (row ∷ []) = refl
+echo-last {C = C} echo last (row ∷ next ∷ rows) = ap (λ (xs : List (List C)). row ∷ xs) (echo-last echo last (next ∷ rows))
+
+one-left : {C : Type 0} (rows : List (List C)) → length rows ≡ 1 → (last : List C) × (rows ≡ last ∷ [])
+one-left [] e = absurd (omega arith)
+one-left (row ∷ []) e = (row, refl)
+one-left (row ∷ next ∷ rows) e = absurd (omega arith)
+
+pub echo-length : {C : Type 0} (echo : List C) (rows : List (List C)) → length (with_echo echo rows) ≡ length rows
+echo-length echo [] = refl
+echo-length echo (row ∷ []) = refl
+echo-length echo (row ∷ next ∷ rows) = ap suc (echo-length echo (next ∷ rows))
+
+-- where windows fill all rows but the last, nothing is left of what was there
+pub painted-whole : {C : Type 0} (rows_of : Placed → List (List C)) (windows : Windows) (width height : ℕ) (echo : List C) (rows : List (List C))
+    → HasRoom windows (frame width height) → FillTheirRectangles rows_of (placed windows (frame width height)) → HasSize width (height + 1) rows
+    → with_echo echo (painted rows_of (placed windows (frame width height)) rows) ≡ composed rows_of windows (frame width height) ++ echo ∷ []
+painted-whole {C = C} rows_of windows width height echo rows room fill size =
+    let news = composed rows_of windows (frame width height) in
+    let filled = composed-size rows_of windows (frame width height) room fill in
+    let each : AllByRecursion (λ (row : List C). length row ≡ width) rows = recursion_from_All (λ row. length row ≡ width) rows size.1 in
+    let count = filled.0 in
+    let rest = one-left (drop (length news) rows) (length-drop (length news) rows ∙ (let k = size.0 in omega arith)) in
+    let over : painted rows_of (placed windows (frame width height)) rows ≡ news ++ drop (length news) rows
+    = painted-composed rows_of windows (frame width height) rows room fill (narrower width (0 + width) rows (omega arith) (just-wide width rows each))
+    ∙ over-whole width news rows (let k = size.0 in omega arith) (recursion_from_All (λ row. length row ≡ width) news filled.1) each in
+    ap (with_echo echo) (over ∙ ap (λ (xs : List (List C)). news ++ xs) rest.1) ∙ echo-last echo rest.0 news

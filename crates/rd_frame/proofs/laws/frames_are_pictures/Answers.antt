@@ -1,0 +1,37 @@
+use Rattle.std.proofs.Common.{◌≡◌, ℕ, ◌+◌, ◌<◌, List, length, sym, arith}
+use Rattle.std.specs.Prelude.{All, IfSome}
+use Rattle.rd_base.specs.Cells.{AreColoured, IsColoured}
+use Rattle.rd_base.specs.Glyphs.{IsRowAfter}
+use Rattle.rd_term.specs.Pictures.{IsOfSize, IsWellFormed}
+use Rattle.rd_tree.specs.Calls.{frame_of}
+use Rattle.rd_tree.specs.Places.{StandsIn}
+use Rattle.rd_frame.specs.Frames.{FrameValues, rows_of, frame_rows, selected_window, frame_picture}
+use Rattle.rd_frame.specs.Fits.{FitsFrame, IsWholeFrame, IsColouredFrame}
+use Rattle.rd_frame.proofs.Filling.{frame-filled, frame-size, frame-width, some-stands, echo-each, windows-each}
+use Rattle.rd_frame.proofs.Whole.{both-whole, blanks-whole, both-coloured, blanks-coloured}
+use Rattle.rd_frame.proofs.laws.frames_are_pictures.Goals as goal
+
+pub returns : goal.returns
+returns c = record { size = size; whole = whole; coloured = coloured } where
+  size : (f : FrameValues) → FitsFrame f → IsOfSize f.tree.width (f.tree.height + 1) (frame_picture f)
+  size f fits =
+      let tiles = c.windows_tile_their_rectangle.ensures in
+      let filled = frame-filled f (tiles.room f.tree.windows (frame_of f.tree) fits.room) fits in
+      let rows = c.frames_are_composed.ensures.size (rows_of f) f.tree.windows (frame_of f.tree) fits.room filled in
+      frame-size f rows (some-stands f (selected_window f) (λ window e. tiles.inside f.selected f.tree.windows (frame_of f.tree) window fits.room e)) fits
+
+  whole : (f : FrameValues) → FitsFrame f → IsWholeFrame f → IsWellFormed (frame_picture f)
+  whole f fits each =
+      let s = size f fits in
+      let w = frame-width f s in
+      let rows = c.frames_are_composed.ensures.whole (rows_of f) f.tree.windows (frame_of f.tree) (windows-each (IsRowAfter 0) both-whole blanks-whole f each) in
+      record {
+        glyphs = echo-each (IsRowAfter 0) f rows each.echo;
+        row = let n = s.rows in let r = s.row in omega arith;
+        column = let k = s.column in omega (arith, w);
+      }
+
+  coloured : (f : FrameValues) → IsColouredFrame f → AreColoured (frame_rows f)
+  coloured f each =
+      let rows = c.frames_are_composed.ensures.coloured (rows_of f) f.tree.windows (frame_of f.tree) (windows-each (All IsColoured) both-coloured blanks-coloured f each) in
+      echo-each (All IsColoured) f rows each.echo
