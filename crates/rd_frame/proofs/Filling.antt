@@ -1,15 +1,15 @@
 -- What a window and a frame show fills them.
-use Rattle.std.proofs.Common.{◌≡◌, ℕ, zero, suc, ◌+◌, ◌-◌, ◌<◌, ◌≤◌, Bool, true, false, Option, None, Some, List, [], ◌∷◌, ◌++◌, length, get_or, refl, sym, ◌∙◌, ap, arith, length-append}
+use Rattle.std.proofs.Common.{◌≡◌, ℕ, ◌+◌, ◌-◌, ◌<◌, ◌≤◌, Bool, true, false, Option, None, Some, List, [], ◌∷◌, ◌++◌, length, get_or, refl, ◌∙◌, ap, arith, length-append}
 use Rattle.std.specs.Prelude.{map, replicate, if◌then◌else◌, IfSome, is_some}
 use Rattle.std.specs.List.{All, AllByRecursion}
 use Rattle.std.proofs.lemmas.List.{length-map, length-replicate}
 use Rattle.std.proofs.lemmas.List.Elements.{recursion_from_All, All-from_recursion, All-nil, All-cons, All-append, All-map, All-replicate, All-weaker}
 use Rattle.rd_base.specs.declared.cell.Cell.{Cell}
 use Rattle.rd_term.specs.Pictures.{blank, blank_row, width_of, IsGrid, IsOfSize}
-use Rattle.rd_tree.specs.Calls.{frame, frame_of}
+use Rattle.rd_tree.specs.Calls.{frame_of}
 use Rattle.rd_tree.specs.Compositions.{composed, HasSize, FillTheirRectangles}
 use Rattle.rd_tree.specs.Places.{AllHaveRoom, StandsIn}
-use Rattle.rd_tree.specs.Windows.{HasRoom, placed, columns_for, rows_for}
+use Rattle.rd_tree.specs.Windows.{placed, columns_for, rows_for}
 use Rattle.rd_tree.specs.declared.placed.Placed.{Placed}
 use Rattle.rd_frame.specs.Panes.{GlyphRow, PaneValues, has_border, body_width, body_height, row_cells, body_rows, bordered, mode_line_row, window_rows}
 use Rattle.rd_frame.specs.Frames.{FrameValues, rows_of, frame_rows, selected_window, on_frame, cursor_or_first, frame_cursor, frame_picture}
@@ -161,7 +161,7 @@ pub some-stands : (f : FrameValues) (selected : Option Placed) → ((window : Pl
 some-stands f None h = tt
 some-stands f (Some window) h = h window refl
 
-width-kept : {A : Type 0} (width : ℕ) (rows : List (List A)) → 0 < length rows → IsGrid width rows → width_of rows ≡ width
+pub width-kept : {A : Type 0} (width : ℕ) (rows : List (List A)) → 0 < length rows → IsGrid width rows → width_of rows ≡ width
 width-kept width [] some h = absurd (omega arith)
 width-kept width (row ∷ rows) some h = h 0 [] (omega arith)
 

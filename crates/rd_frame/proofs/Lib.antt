@@ -1,4 +1,5 @@
 mod Filling
 mod Painting
 mod Screens
+mod Turns
 mod Whole

@@ -1,18 +1,16 @@
 -- Rectangles that are painted one after the other.
-use Rattle.std.proofs.Common.{◌≡◌, ℕ, zero, suc, ◌+◌, ◌-◌, ◌<◌, ◌≤◌, min, List, [], ◌∷◌, ◌++◌, length, take, drop, get_or, refl, sym, ◌∙◌, ap, arith, append_assoc, length-append}
-use Rattle.std.specs.Prelude.{slice_set}
-use Rattle.std.specs.List.{All, AllByRecursion}
+use Rattle.std.proofs.Common.{◌≡◌, ℕ, zero, suc, ◌+◌, ◌-◌, ◌≤◌, List, [], ◌∷◌, ◌++◌, length, take, drop, refl, sym, ◌∙◌, ap, arith, append_assoc, length-append}
+use Rattle.std.specs.List.{AllByRecursion}
 use Rattle.std.proofs.lemmas.List.{append-nil, length-take, length-take-le, length-drop, take_at, drop_at, drop-drop, drop_all}
-use Rattle.std.proofs.lemmas.List.Elements.{recursion_from_All, All-from_recursion, All-append, All-get_or}
-use Rattle.rd_term.specs.Pictures.{row_at, with_cells, written_over, IsGrid}
+use Rattle.std.proofs.lemmas.List.Elements.{recursion_from_All}
+use Rattle.rd_term.specs.Pictures.{row_at, with_cells, written_over}
 use Rattle.rd_tree.specs.declared.placed.Placed.{Placed}
 use Rattle.rd_tree.specs.declared.rect.Rect.{Rect}
-use Rattle.rd_tree.specs.declared.side.Side.{Side}
 use Rattle.rd_tree.specs.declared.side.Side.TheVariants.{Below, Right}
 use Rattle.rd_tree.specs.Windows.{Windows, Window, Split, HasRoom, first_part, second_part, placed}
 use Rattle.rd_tree.specs.Calls.{frame}
-use Rattle.rd_tree.specs.Compositions.{beside, both_parts, composed, HasSize, FillTheirRectangles}
-use Rattle.rd_tree.proofs.Composing.{all_front, all_back, composed-size, filled_first, filled_second}
+use Rattle.rd_tree.specs.Compositions.{beside, composed, HasSize, FillTheirRectangles}
+use Rattle.rd_tree.proofs.Composing.{composed-size, filled_first, filled_second}
 use Rattle.rd_tree.proofs.Rooms.{room_within}
 use Rattle.rd_frame.specs.Paints.{laid_over, with_rectangle, painted, with_echo}
 
@@ -148,11 +146,6 @@ cells-behind {C = C} (top ∷ rows) (suc row) column at first second inside e = 
 
 -- ---- sizes
 
-pub cells-length : {C : Type 0} (rows : List (List C)) (row column : ℕ) (cells : List C) → length (with_cells rows row column cells) ≡ length rows
-cells-length [] row column cells = refl
-cells-length (top ∷ rows) zero column cells = refl
-cells-length (top ∷ rows) (suc row) column cells = ap suc (cells-length rows row column cells)
-
 over-length : {C : Type 0} (column : ℕ) (news rows : List (List C)) → length (laid_over column news rows) ≡ length rows
 over-length column [] rows = refl
 over-length column (new ∷ news) [] = refl
@@ -235,11 +228,6 @@ one-left : {C : Type 0} (rows : List (List C)) → length rows ≡ 1 → (last :
 one-left [] e = absurd (omega arith)
 one-left (row ∷ []) e = (row, refl)
 one-left (row ∷ next ∷ rows) e = absurd (omega arith)
-
-pub echo-length : {C : Type 0} (echo : List C) (rows : List (List C)) → length (with_echo echo rows) ≡ length rows
-echo-length echo [] = refl
-echo-length echo (row ∷ []) = refl
-echo-length echo (row ∷ next ∷ rows) = ap suc (echo-length echo (next ∷ rows))
 
 -- where windows fill all rows but the last, nothing is left of what was there
 pub painted-whole : {C : Type 0} (rows_of : Placed → List (List C)) (windows : Windows) (width height : ℕ) (echo : List C) (rows : List (List C))

@@ -1,5 +1,5 @@
 -- Rows in which each glyph stands whole, and rows of colours in their range.
-use Rattle.std.proofs.Common.{rules, tests, ◌≡◌, ℕ, zero, suc, ◌-◌, ◌≤◌, Bool, true, false, Some, List, [], ◌∷◌, ◌++◌, refl, sym, ◌∙◌, ap, arith}
+use Rattle.std.proofs.Common.{rules, tests, ◌≡◌, ℕ, zero, suc, ◌-◌, Bool, true, false, Some, List, [], ◌∷◌, ◌++◌, refl, arith}
 use Rattle.std.specs.Prelude.{if◌then◌else◌}
 use Rattle.std.specs.List.{All}
 use Rattle.std.proofs.lemmas.List.{get_or-replicate}
@@ -7,7 +7,7 @@ use Rattle.std.proofs.lemmas.List.Elements.{All-nil, All-cons, All-append, All-r
 use Rattle.unicode_width.specs.Width.{char_width}
 use Rattle.rd_base.specs.Cells.{HasColours, IsColoured, single}
 use Rattle.rd_base.specs.Faces.{plain}
-use Rattle.rd_base.specs.Glyphs.{is_space, IsGood, IsMeasured, IsRowAfter}
+use Rattle.rd_base.specs.Glyphs.{is_space, IsGood, IsRowAfter}
 use Rattle.rd_base.specs.declared.cell.Cell.{Cell}
 use Rattle.rd_base.specs.declared.cell.Cell.TheVariants.{Blank, First, Rest}
 use Rattle.rd_base.specs.declared.cell.Glyph.{Glyph}

@@ -1,11 +1,10 @@
 -- Frames that the worked examples speak of.
-use Rattle.std.specs.Prelude.{ℕ, ◌==◌, if◌then◌else◌, false, List, [], ◌∷◌, ◌++◌, map, codes, Option, None, Some, true}
+use Rattle.std.specs.Prelude.{ℕ, ◌==◌, if◌then◌else◌, false, List, [], ◌∷◌, map, codes, None, Some, true}
 use Rattle.rd_base.specs.Cells.{single}
 use Rattle.rd_base.specs.Faces.{Attributes, plain}
 use Rattle.rd_base.specs.declared.cell.Cell.{Cell}
 use Rattle.rd_base.specs.declared.cell.Cell.TheVariants.{Blank, First}
-use Rattle.rd_tree.specs.Windows.{Windows, Window, Split}
-use Rattle.rd_tree.specs.declared.placed.Placed.{Placed}
+use Rattle.rd_tree.specs.Windows.{Window, Split}
 use Rattle.rd_tree.specs.declared.side.Side.TheVariants.{Below, Right}
 use Rattle.rd_frame.specs.Panes.{GlyphRow, PaneValues, border_cell}
 use Rattle.rd_frame.specs.Frames.{FrameValues}

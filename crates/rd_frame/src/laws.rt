@@ -1,5 +1,5 @@
 //! What holds of all frames.
-ghost use Rattle.std.specs.Prelude.{ℕ, ◌≡◌, ◌+◌, ◌≤◌, ◌++◌, ◌∷◌, [], List, All, Option, Some, None};
+ghost use Rattle.std.specs.Prelude.{ℕ, ◌≡◌, ◌+◌, ◌≤◌, ◌++◌, ◌∷◌, [], List, All, Option, Some, None, slice_get};
 ghost use Rattle.rd_base.specs.Cells.{AreColoured, IsColoured};
 ghost use Rattle.rd_base.specs.Glyphs.{IsRowAfter};
 ghost use Rattle.rd_base.specs.declared.cell.Cell.{Cell};
@@ -8,13 +8,14 @@ ghost use Rattle.rd_rows.specs.Whole.{IsMark};
 ghost use Rattle.rd_term.specs.Pictures.{IsGrid, IsOfSize, IsWellFormed};
 ghost use Rattle.rd_tree.specs.Calls.{frame_of};
 ghost use Rattle.rd_tree.specs.Compositions.{composed, HasSize, FillTheirRectangles};
-ghost use Rattle.rd_tree.specs.Windows.{Windows, HasRoom, placed, columns_for, rows_for};
+ghost use Rattle.rd_tree.specs.Windows.{Windows, HasRoom, placed, window_at, columns_for, rows_for};
 ghost use Rattle.rd_tree.specs.declared.placed.Placed.{Placed};
 ghost use Rattle.rd_tree.specs.declared.rect.Rect.{Rect};
 ghost use Rattle.rd_frame.specs.Panes.{PaneValues, border_cell, window_rows};
 ghost use Rattle.rd_frame.specs.Frames.{FrameValues, rows_of, frame_rows, frame_picture};
 ghost use Rattle.rd_frame.specs.Fits.{FitsWindow, FitsFrame, EachPart, IsWholeFrame, IsColouredFrame};
 ghost use Rattle.rd_frame.specs.Paints.{with_rectangle, painted, with_echo};
+ghost use Rattle.rd_frame.specs.Turns.{IsTurn};
 
 use rd_tree::{frames_are_composed, windows_tile_their_rectangle};
 
@@ -51,6 +52,14 @@ pub fn frames_are_pictures()
 pub fn windows_are_painted_in_order()
     ensures composed { (rows_of : Placed → List (List Cell)) (windows : Windows) (rect : Rect) (width : ℕ) (rows : List (List Cell)) → HasRoom windows rect → FillTheirRectangles rows_of (placed windows rect) → IsGrid width rows → rect.x + rect.width ≤ width → painted rows_of (placed windows rect) rows ≡ with_rectangle rect (composed rows_of windows rect) rows }
     ensures rows { (f : FrameValues) (rows : List (List Cell)) → FitsFrame f → HasSize f.tree.width (f.tree.height + 1) rows → with_echo f.echo (painted (rows_of f) (placed f.tree.windows (frame_of f.tree)) rows) ≡ frame_rows f }
+{
+    windows_tile_their_rectangle();
+}
+
+/// Where some windows of a frame are still to be painted over the rows of a screen, from a place of their order on, the window at that
+/// place can be painted, and leaves those behind it. The call does nothing.
+pub fn windows_are_painted_in_turn()
+    ensures { (f : FrameValues) (i number : ℕ) (window : Placed) (rows : List (List Cell)) → FitsFrame f → HasSize f.tree.width (f.tree.height + 1) rows → window_at number f.tree.windows (frame_of f.tree) ≡ Some window → slice_get (placed f.tree.windows (frame_of f.tree)) i ≡ Some window → IsTurn f i window rows }
 {
     windows_tile_their_rectangle();
 }

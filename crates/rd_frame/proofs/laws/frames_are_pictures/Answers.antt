@@ -1,10 +1,9 @@
-use Rattle.std.proofs.Common.{◌≡◌, ℕ, ◌+◌, ◌<◌, List, length, sym, arith}
-use Rattle.std.specs.Prelude.{All, IfSome}
+use Rattle.std.proofs.Common.{◌+◌, arith}
+use Rattle.std.specs.Prelude.{All}
 use Rattle.rd_base.specs.Cells.{AreColoured, IsColoured}
 use Rattle.rd_base.specs.Glyphs.{IsRowAfter}
 use Rattle.rd_term.specs.Pictures.{IsOfSize, IsWellFormed}
 use Rattle.rd_tree.specs.Calls.{frame_of}
-use Rattle.rd_tree.specs.Places.{StandsIn}
 use Rattle.rd_frame.specs.Frames.{FrameValues, rows_of, frame_rows, selected_window, frame_picture}
 use Rattle.rd_frame.specs.Fits.{FitsFrame, IsWholeFrame, IsColouredFrame}
 use Rattle.rd_frame.proofs.Filling.{frame-filled, frame-size, frame-width, some-stands, echo-each, windows-each}

@@ -1,4 +1,4 @@
-use Rattle.std.specs.Prelude.{ℕ, All}
+use Rattle.std.specs.Prelude.{All}
 use Rattle.rd_base.specs.Cells.{IsColoured}
 use Rattle.rd_base.specs.Glyphs.{IsRowAfter}
 use Rattle.rd_frame.proofs.Filling.{window-size, window-each}
