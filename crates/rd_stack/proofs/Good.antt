@@ -42,11 +42,11 @@ good-each f P most each (x ∷ xs) all =
     good-more (most + length xs * most) (suc (length xs) * most) (f x ++ flat_map f xs) (omega (arith, product))
     (good-append most (length xs * most) (f x) (flat_map f xs) (each x all.0) (good-each f P most each xs all.1))
 
-found-by : {X : Type 0} (P : X → Type 0) (xs : List X) (i : ℕ) → AllByRecursion P xs → IfSome (slice_get xs i) P
+-- what holds of each of a list holds of the one at a place
+pub found-by : {X : Type 0} (P : X → Type 0) (xs : List X) (i : ℕ) → AllByRecursion P xs → IfSome (slice_get xs i) P
 found-by P [] i all = tt
 found-by P (x ∷ xs) zero all = all.0
 found-by P (x ∷ xs) (suc i) all = found-by P xs i all.1
 
--- what holds of each of a list holds of the one at a place
 pub found : {X : Type 0} (P : X → Type 0) (xs : List X) (i : ℕ) → All P xs → IfSome (slice_get xs i) P
 found P xs i all = found-by P xs i (recursion_from_All P xs all)

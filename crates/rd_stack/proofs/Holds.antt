@@ -24,7 +24,7 @@ use Rattle.rd_items.specs.declared.item.ItemKind.TheVariants as kind
 use Rattle.rd_items.specs.declared.piece.Piece.{Piece}
 use Rattle.rd_stack.specs.Limits.{strings_in}
 use Rattle.rd_stack.proofs.Joined.{joined-few}
-use Rattle.rd_stack.proofs.Parts.{all-append}
+use Rattle.rd_stack.proofs.Lists.{all-append}
 
 -- what holds of whatever a position can give, where its character is one of these
 pub record Gives (R : Class → ItemKind → Type 0) (C : ℕ → Type 0) (s : Scene) : Type 0 where
@@ -92,6 +92,14 @@ module _ (R : Class → ItemKind → Type 0) (C : ℕ → Type 0) (s : Scene) (g
   pub items-hold : (es : List Seen) → AllByRecursion (λ (e : Seen). IfSome e.character C) es → AllByRecursion (λ (i : Item). R i.class i.kind) (items_of s es)
   items-hold es codes =
       covering-holds 0 (joined piece_joins (pieces_from s 0 0 es)) (joined-all piece_joins Holds grows (pieces_from s 0 0 es) (pieces-hold 0 0 es codes))
+
+-- whatever is read
+pub all-read : (es : List Seen) → AllByRecursion (λ (e : Seen). IfSome e.character (λ c. Unit {0})) es
+all-read [] = tt
+all-read (e ∷ es) = (any e.character, all-read es) where
+  any : (c : Option ℕ) → IfSome c (λ n. Unit {0})
+  any None = tt
+  any (Some n) = tt
 
 -- ---- how many there are
 

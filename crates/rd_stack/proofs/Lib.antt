@@ -9,7 +9,6 @@ mod Prefixes
 mod Ends
 mod Enders
 mod LineEnds
-mod Measures
 mod Joined
 mod TurnCounts
 mod Good

@@ -1,7 +1,7 @@
 -- The last element of a line is its end, and no other is.
 use Rattle.std.proofs.Common.{◌≡◌, ℕ, zero, suc, ◌<◌, Bool, true, false, List, [], ◌∷◌, ◌++◌, length, All, refl, sym, subst, ap, ap₂, ◌∙◌, append-nil, arith}
 use Rattle.std.specs.Prelude.{not, ◌&&◌, map, slice_get, Some}
-use Rattle.std.specs.List.{flat_map}
+use Rattle.std.specs.List.{flat_map, AllByRecursion}
 use Rattle.std.proofs.lemmas.Grind.{flat_map-append}
 use Rattle.std.proofs.lemmas.List.{map-append, length-map}
 use Rattle.std.proofs.lemmas.List.Elements.{All-nil, All-append}
@@ -24,7 +24,7 @@ use Rattle.rd_items.specs.declared.item.ItemKind.TheVariants as item
 use Rattle.rd_stack.specs.Shown.{AreOpen}
 use Rattle.rd_stack.specs.Lines.{ellipsis_glyphs, outer_by, outer, origin_of, item_elements, item_class, item_code, item_turns, line_of_items}
 use Rattle.rd_stack.proofs.Ends.{open-one, glyphs-open, character-open, space-open, text-open}
-use Rattle.rd_stack.proofs.Enders.{Each, EndsAsB, IsFineItem}
+use Rattle.rd_stack.proofs.Enders.{EndsAsB}
 
 -- elements of which none ends the line, and one that does
 ends-append : (es : List Element) (e : Element) → AreOpen es → is_line_end e.look ≡ true → ends_once (es ++ e ∷ []) ≡ true
@@ -33,7 +33,7 @@ ends-append (x ∷ []) e each is = ap₂ (λ a b. not a && b) (each 0 x (omega a
 ends-append (x ∷ y ∷ ys) e each is =
     ap₂ (λ a b. not a && b) (each 0 x (omega arith)) (ends-append (y ∷ ys) e (λ k d inside. each (suc k) d (omega arith)) is)
 
-ender-class : (class : Class) (k : ItemKind) → is_ender_kind k ≡ true → EndsAsB class (Some k) → class ≡ B
+ender-class : (class : Class) (k : ItemKind) → is_ender_kind k ≡ true → EndsAsB class k → class ≡ B
 ender-class class item.Ender is fine = fine
 ender-class class (item.Char c) is fine = absurd (let q : false ≡ true = is in cc)
 ender-class class (item.Marked g) is fine = absurd (let q : false ≡ true = is in cc)
@@ -48,9 +48,9 @@ record Ended (items : List Item) : Type 0 where
   whole : items ≡ front ++ last ∷ []
   ends : is_ender_kind last.kind ≡ true
   class : last.class ≡ B
-  others : Each (λ (x : Item). is_ender_kind x.kind ≡ false) front
+  others : AllByRecursion (λ (x : Item). is_ender_kind x.kind ≡ false) front
 
-ended : (items : List Item) → EndOnce items → Each IsFineItem items → Ended items
+ended : (items : List Item) → EndOnce items → AllByRecursion (λ (x : Item). EndsAsB x.class x.kind) items → Ended items
 ended [] once fine = absurd once
 ended (x ∷ []) once fine = record { front = []; last = x; whole = refl; ends = once; class = ender-class x.class x.kind once fine.0; others = tt }
 ended (x ∷ y ∷ xs) once fine =
@@ -74,7 +74,7 @@ module _ (s : Scene) (base : ℕ) where
   kind-ends (item.Space spec) overlay odd face origin is = absurd (let q : false ≡ true = is in cc)
   kind-ends item.Ellipsis overlay odd face origin is = absurd (let q : false ≡ true = is in cc)
 
-  open-at : (front : List Item) (last : Item) (turn : Turn) → Each (λ (x : Item). is_ender_kind x.kind ≡ false) front → (i : ℕ) → i < length front → AreOpen (outer s base turn (slice_get (front ++ last ∷ []) i))
+  open-at : (front : List Item) (last : Item) (turn : Turn) → AllByRecursion (λ (x : Item). is_ender_kind x.kind ≡ false) front → (i : ℕ) → i < length front → AreOpen (outer s base turn (slice_get (front ++ last ∷ []) i))
   open-at [] last turn each i inside = absurd (omega arith)
   open-at (x ∷ xs) last turn each zero inside = kind-open x.kind x.overlay turn.odd x.face (origin_of turn.index x) each.0
   open-at (x ∷ xs) last turn each (suc i) inside = open-at xs last turn each.1 i (omega arith)
@@ -83,7 +83,7 @@ module _ (s : Scene) (base : ℕ) where
   end-at [] last turn = refl
   end-at (x ∷ xs) last turn = end-at xs last turn
 
-  front-open : (front : List Item) (last : Item) (turns : List Turn) (n : ℕ) → n ≡ length front → Each (λ (x : Item). is_ender_kind x.kind ≡ false) front → All (λ (t : Turn). t.index < n) turns
+  front-open : (front : List Item) (last : Item) (turns : List Turn) (n : ℕ) → n ≡ length front → AllByRecursion (λ (x : Item). is_ender_kind x.kind ≡ false) front → All (λ (t : Turn). t.index < n) turns
       → AreOpen (flat_map (item_elements s base (front ++ last ∷ [])) turns)
   front-open front last [] n size each low = All-nil (λ (e : Element). is_line_end e.look ≡ false)
   front-open front last (t ∷ ts) n size each low =
@@ -92,7 +92,7 @@ module _ (s : Scene) (base : ℕ) where
       (open-at front last t each t.index (omega arith))
       (front-open front last ts n size each (λ k d inside. low (suc k) d (omega arith)))
 
-  turned-ends : (front : List Item) (last : Item) (turns : List Turn) (n : ℕ) → n ≡ length front → is_ender_kind last.kind ≡ true → Each (λ (x : Item). is_ender_kind x.kind ≡ false) front → ComesLast turns n
+  turned-ends : (front : List Item) (last : Item) (turns : List Turn) (n : ℕ) → n ≡ length front → is_ender_kind last.kind ≡ true → AllByRecursion (λ (x : Item). is_ender_kind x.kind ≡ false) front → ComesLast turns n
       → ends_once (flat_map (item_elements s base (front ++ last ∷ [])) turns) ≡ true
   turned-ends front last turns n size ends each comes =
       let f = item_elements s base (front ++ last ∷ []) in
@@ -106,7 +106,7 @@ module _ (s : Scene) (base : ℕ) where
       ∙ ends-append (flat_map f comes.front) end (front-open front last comes.front n size each comes.others) refl
 
   pub line-ends : ((entries : List BracketEntry) (reorder : Bool) (base : ℕ) (classes : List Class) (codes : List ℕ) → ComesLast (turns_of entries reorder base (classes ++ B ∷ []) codes) (length classes))
-      → (items : List Item) → EndOnce items → Each IsFineItem items → ends_once (line_of_items s base items) ≡ true
+      → (items : List Item) → EndOnce items → AllByRecursion (λ (x : Item). EndsAsB x.class x.kind) items → ends_once (line_of_items s base items) ≡ true
   line-ends law items once fine =
       let e = ended items once fine in
       let classes : map item_class items ≡ map item_class e.front ++ B ∷ [] =

@@ -29,7 +29,8 @@ use Rattle.rd_stack.specs.declared.part.Part.{Part}
 use Rattle.rd_stack.specs.declared.part.Shown.{Shown}
 use Rattle.rd_stack.specs.declared.part.PartKind.{PartKind}
 use Rattle.rd_stack.specs.declared.part.PartKind.TheVariants as kind
-use Rattle.rd_stack.proofs.Good.{found}
+use Rattle.rd_stack.proofs.Good.{found-by, found}
+use Rattle.rd_stack.proofs.Lists.{all-append}
 use Rattle.rd_stack.proofs.Joined.{joined-few}
 use Rattle.rd_stack.proofs.TurnCounts.{LevelsLaw, turns-count}
 
@@ -60,10 +61,6 @@ IsFitPlace p = IsTrue (is_code p.ch)
 pub record AreFit (most : ℕ) (xs : List Shown) : Type 0 where
   pub each : AllByRecursion IsFitShown xs
   pub few : length xs ≤ most
-
-pub all-append : {X : Type 0} (P : X → Type 0) (xs ys : List X) → AllByRecursion P xs → AllByRecursion P ys → AllByRecursion P (xs ++ ys)
-all-append P [] ys these those = those
-all-append P (x ∷ xs) ys these those = (these.0, all-append P xs ys these.1 those)
 
 fit-more : (few most : ℕ) (xs : List Shown) → few ≤ most → AreFit few xs → AreFit most xs
 fit-more few most xs less fit = let own = fit.few in record { each = fit.each; few = omega (arith, less, own) }
@@ -112,17 +109,12 @@ module _ (laws : MarkLaws) (levels : LevelsLaw) (s : Scene) (base : ℕ) (sound 
   shown-fit odd None fit = record { each = tt; few = omega arith }
   shown-fit odd (Some x) fit = record { each = (fit.0, tt); few = omega arith }
 
-  part-at : (xs : List Part) (i : ℕ) → AllByRecursion IsFitPart xs → IfSome (slice_get xs i) IsFitPart
-  part-at [] i all = tt
-  part-at (x ∷ xs) zero all = all.0
-  part-at (x ∷ xs) (suc i) all = part-at xs i all.1
-
   turned-fit : (xs : List Part) (turns : List Turn) → AllByRecursion IsFitPart xs → AreFit (length turns) (flat_map (shown_at xs) turns)
   turned-fit xs [] all = record { each = tt; few = omega arith }
   turned-fit xs (t ∷ ts) all =
       let sum : 1 + length ts ≤ suc (length ts) = omega arith in
       fit-more (1 + length ts) (suc (length ts)) (shown_at xs t ++ flat_map (shown_at xs) ts) sum
-      (fit-append 1 (length ts) (shown_at xs t) (flat_map (shown_at xs) ts) (shown-fit t.odd (slice_get xs t.index) (part-at xs t.index all)) (turned-fit xs ts all))
+      (fit-append 1 (length ts) (shown_at xs t) (flat_map (shown_at xs) ts) (shown-fit t.odd (slice_get xs t.index) (found-by IsFitPart xs t.index all)) (turned-fit xs ts all))
 
   row-fit : (xs : List Part) → AllByRecursion IsFitPart xs → AreFit (length xs) (row s base xs)
   row-fit xs all =

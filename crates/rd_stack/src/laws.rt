@@ -29,10 +29,12 @@ pub fn lines_end_once()
     enders_come_last();
 }
 
-/// The elements of a line are sound and measured, where the objects and what characters depend on are sound and the items are measured
-/// and coded. They take at most the columns of so many overlays' strings as there are items. The call does nothing.
-pub fn lines_of_items_are_sound()
-    ensures { (scene : Scene) (base : ℕ) (es : List Seen) → AreObjects scene.objects → AreSoundParts scene.parts → AreMeasuredItems (items_of scene es) → AreCodedItems (items_of scene es) → AreRightWithin (length (items_of scene es) * most_middle_columns) (line_elements scene base es) }
+/// The elements of a line and of a prefix are sound and measured, where the objects and what characters depend on are sound, and the
+/// items of the line are measured and coded. A line takes at most the columns of so many overlays' strings as there are items, and a
+/// prefix those of a display string. The call does nothing.
+pub fn elements_are_right()
+    ensures line { (scene : Scene) (base : ℕ) (es : List Seen) → AreObjects scene.objects → AreSoundParts scene.parts → AreMeasuredItems (items_of scene es) → AreCodedItems (items_of scene es) → AreRightWithin (length (items_of scene es) * most_middle_columns) (line_elements scene base es) }
+    ensures prefix { (scene : Scene) (base number : ℕ) → AreObjects scene.objects → AreSoundParts scene.parts → AreRightWithin most_inner_columns (prefix scene base number) }
 {
     elements_are_sound();
     glyph_texts_are_sound();
@@ -49,7 +51,7 @@ pub fn lines_are_sound()
     ensures most { (scene : Scene) (base : ℕ) (es : List Seen) → AreObjects scene.objects → AreSoundParts scene.parts → HaveCodes es → AreFew es → columns_at_most (line_elements scene base es) ≤ most_columns }
     ensures columns { (scene : Scene) (base : ℕ) (es : List Seen) → AreObjects scene.objects → AreSoundParts scene.parts → HaveCodes es → AreFew es → columns_at_most (line_elements scene base es) < 2 ^ 60 }
 {
-    lines_of_items_are_sound();
+    elements_are_right();
     items_are_measured();
 }
 
@@ -65,10 +67,7 @@ pub fn prefixes_are_sound()
     ensures measured { (scene : Scene) (base number : ℕ) → AreObjects scene.objects → AreSoundParts scene.parts → AreMeasured (prefix scene base number) }
     ensures columns { (scene : Scene) (base number : ℕ) → AreObjects scene.objects → AreSoundParts scene.parts → columns_at_most (prefix scene base number) ≤ most_inner_columns }
 {
-    elements_are_sound();
-    glyph_texts_are_sound();
-    marks_join_measured_glyphs();
-    lines_have_a_level_each();
+    elements_are_right();
 }
 
 /// What is read of a buffer has codes where its characters have. The call does nothing.

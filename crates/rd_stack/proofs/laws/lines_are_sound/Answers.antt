@@ -15,7 +15,7 @@ pub returns : goal.returns
 returns c =
     let whole : (scene : Scene) (base : ℕ) (es : List Seen) → AreObjects scene.objects → AreSoundParts scene.parts → HaveCodes es
     → AreRightWithin (length (items_of scene es) * most_middle_columns) (line_elements scene base es) = λ scene base es sound parts codes.
-    c.lines_of_items_are_sound.ensures scene base es sound parts (c.items_are_measured.ensures scene es codes) (items-coded scene es codes) in
+    c.elements_are_right.ensures.line scene base es sound parts (c.items_are_measured.ensures scene es codes) (items-coded scene es codes) in
     record {
       sound = λ scene base es sound parts codes. right-sound (line_elements scene base es) (whole scene base es sound parts codes).right;
       measured = λ scene base es sound parts codes. right-measured (line_elements scene base es) (whole scene base es sound parts codes).right;
