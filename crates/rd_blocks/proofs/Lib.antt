@@ -6,3 +6,6 @@ mod Bases
 mod Quiet
 mod Sources
 mod Steps
+mod Listed
+mod Prefixes
+mod Made

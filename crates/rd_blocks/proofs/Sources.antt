@@ -57,7 +57,7 @@ pub record Lower : Type 0 where
 some-is : {X : Type 0} (a b : X) → Some a ≡ Some b → a ≡ b
 some-is a b h = cc
 
-true-is : (b : Bool) → b ≡ true → IsTrue b
+pub true-is : (b : Bool) → b ≡ true → IsTrue b
 true-is true h = refl
 true-is false h = cc
 

@@ -1,9 +1,10 @@
 //! What holds of the blocks of every buffer and of their rows, proved of the definitions.
 ghost use Rattle.std.specs.Prelude.{ℕ};
-ghost use Rattle.rd_text.specs.Texts.{IsText};
+ghost use Rattle.rd_text.specs.Texts.{IsText, IsAccessible};
 ghost use Rattle.rd_ucd.specs.Data.{Data};
 ghost use Rattle.rd_objects.specs.Things.{ObjectLists};
 ghost use Rattle.rd_props.specs.Buffers.{BufferValue};
+ghost use Rattle.rd_matrix.specs.Blocks.{IsWithin};
 ghost use Rattle.rd_matrix.specs.Sources.{IsSource};
 ghost use Rattle.rd_blocks.specs.Sources.{text_source};
 
@@ -25,4 +26,11 @@ pub fn buffers_are_sources()
     elements_are_sound();
     lines_end_once();
     prefixes_end_no_line();
+}
+
+/// Each accessible position of a buffer, and the end of its accessible text, lies within its blocks. The call does nothing.
+pub fn accessible_positions_lie_in_blocks()
+    ensures { (s : BufferValue) (objects : ObjectLists) (files : Data) (pos : ℕ) → IsAccessible s.text pos → IsWithin pos (text_source s objects files).blocks }
+{
+    blocks_are_listed();
 }

@@ -1,7 +1,11 @@
 //! The blocks of a buffer and their rows: the source from which windows are laid out, as definitions and the law that it is one.
 #![tactic(auto)]
 
+mod base;
+mod blocks;
 mod examples;
 mod laws;
+mod rows;
 
-pub use laws::buffers_are_sources;
+pub use blocks::Blocks;
+pub use laws::{accessible_positions_lie_in_blocks, buffers_are_sources};

@@ -1,0 +1,164 @@
+-- A block of a buffer stands in the list of its blocks, and those behind and before it are found by where they start and end.
+use Rattle.std.proofs.Common.{◌≡◌, ℕ, suc, ◌+◌, ◌-◌, ◌<◌, ◌≤◌, true, List, inl, inr, None, Some, refl, ap, sym, subst, ◌∙◌, arith}
+use Rattle.std.specs.Prelude.{slice_get}
+use Rattle.std.specs.Option.{option_map}
+use Rattle.std.proofs.lemmas.Bool.{cases_lt}
+use Rattle.std.proofs.lemmas.Option.{slice_get-map}
+use Rattle.rd_text.specs.Texts.{IsText, IsAccessible}
+use Rattle.rd_ucd.specs.declared.spans.Span.{Span}
+use Rattle.rd_props.specs.Buffers.{BufferValue}
+use Rattle.rd_items.specs.Blocks.{blocks_of, Adjoin, StartsBlock, IsBlock, IsBlockAt, is_shown_newline}
+use Rattle.rd_matrix.specs.Blocks.{IsAmong, IsWithin, HoldsPosition, block_before}
+use Rattle.rd_matrix.specs.declared.block.Block.{Block}
+use Rattle.rd_blocks.specs.Bases.{block_base, block_in, blocks_in}
+use Rattle.rd_blocks.proofs.Sources.{first-is, end-is, listed-at}
+
+-- what the layer below says of a buffer's blocks
+pub record AreListed (s : BufferValue) : Type 0 where
+  pub order : s.text.begin ≤ s.text.end
+  pub blocks : (k : ℕ) (b : ℕ × ℕ) → slice_get (blocks_of s) k ≡ Some b → IsBlock s b.0 b.1
+  pub every : (from to : ℕ) → IsBlock s from to → (k : ℕ) × (slice_get (blocks_of s) k ≡ Some (from, to))
+  pub adjoin : Adjoin s.text.begin (s.text.end + 1) (blocks_of s)
+
+-- and of their order
+pub record AreInOrder (s : BufferValue) : Type 0 where
+  pub next : (k a b c : ℕ) → slice_get (blocks_of s) k ≡ Some (a, b) → IsBlock s b c → slice_get (blocks_of s) (k + 1) ≡ Some (b, c)
+  pub last : (k a : ℕ) → slice_get (blocks_of s) k ≡ Some (a, s.text.end + 1) → slice_get (blocks_of s) (k + 1) ≡ None
+  pub prev : (k a b c : ℕ) → slice_get (blocks_of s) k ≡ Some (b, c) → IsBlock s a b → (j : ℕ) × (k ≡ j + 1) × (slice_get (blocks_of s) j ≡ Some (a, b))
+  pub first : (k c : ℕ) → slice_get (blocks_of s) k ≡ Some (s.text.begin, c) → k ≡ 0
+
+pub are-listed : ((s : BufferValue) → s.text.begin ≤ s.text.end → (k : ℕ) (b : ℕ × ℕ) → slice_get (blocks_of s) k ≡ Some b → IsBlock s b.0 b.1)
+    → ((s : BufferValue) (from to : ℕ) → IsBlock s from to → (k : ℕ) × (slice_get (blocks_of s) k ≡ Some (from, to)))
+    → ((s : BufferValue) → s.text.begin ≤ s.text.end → Adjoin s.text.begin (s.text.end + 1) (blocks_of s))
+    → (s : BufferValue) → IsText s.text → AreListed s
+are-listed blocks every adjoin s right = record { order = right.ordered; blocks = blocks s right.ordered; every = every s; adjoin = adjoin s right.ordered }
+
+pub are-in-order : ((s : BufferValue) (k a b c : ℕ) → slice_get (blocks_of s) k ≡ Some (a, b) → IsBlock s b c → slice_get (blocks_of s) (k + 1) ≡ Some (b, c))
+    → ((s : BufferValue) (k a : ℕ) → s.text.begin ≤ s.text.end → slice_get (blocks_of s) k ≡ Some (a, s.text.end + 1) → slice_get (blocks_of s) (k + 1) ≡ None)
+    → ((s : BufferValue) (k a b c : ℕ) → slice_get (blocks_of s) k ≡ Some (b, c) → IsBlock s a b → (j : ℕ) × (k ≡ j + 1) × (slice_get (blocks_of s) j ≡ Some (a, b)))
+    → ((s : BufferValue) (k c : ℕ) → s.text.begin ≤ s.text.end → slice_get (blocks_of s) k ≡ Some (s.text.begin, c) → k ≡ 0)
+    → (s : BufferValue) → IsText s.text → AreInOrder s
+are-in-order next last prev first s right = record {
+  next = next s;
+  last = λ k a. last s k a right.ordered;
+  prev = prev s;
+  first = λ k c. first s k c right.ordered;
+}
+
+-- where a block ends before the end of the text, another starts
+pub starts-behind : (s : BufferValue) (from to : ℕ) → IsBlock s from to → to ≤ s.text.end → IsAccessible s.text to × StartsBlock s to
+starts-behind s from to block within =
+    let first = block.first in
+    let some = block.some in (
+      (omega (arith, first, some), within),
+      (elim block.ends as (λ _. StartsBlock s to) [
+        | inl end ↦ absurd (omega (arith, end, within))
+        | inr newline ↦ inr newline
+      ]),
+    )
+
+-- where a block starts behind the beginning of the text, a newline is shown before it
+pub newline-before : (s : BufferValue) (from to : ℕ) → IsBlock s from to → (from ≡ s.text.begin → ⊥) → (s.text.begin < from) × (from ≤ s.text.end) × (is_shown_newline s (from - 1) ≡ true)
+newline-before s from to block later =
+    let first = block.first in
+    let some = block.some in
+    let last = block.last in
+    let less : s.text.begin < from = elim (cases_lt s.text.begin from) as (λ _. s.text.begin < from) [
+      | inl less ↦ less
+      | inr none ↦ absurd (later (omega (arith, none, first)))
+    ] in (
+      less,
+      omega (arith, some, last),
+      (elim block.begins as (λ _. is_shown_newline s (from - 1) ≡ true) [
+        | inl begin ↦ absurd (later begin)
+        | inr newline ↦ newline
+      ]),
+    )
+
+module _ (classes : List Span) (s : BufferValue) where
+  block-is : (start end base : ℕ) → base ≡ block_base classes s start → (let b : Block = record { start = start; end = end; base = base } in b) ≡ block_in classes s (start, end)
+  block-is start end base h = ap (λ (n : ℕ). let b : Block = record { start = start; end = end; base = n } in b) h
+
+  at-place : (k : ℕ) (pair : ℕ × ℕ) → slice_get (blocks_of s) k ≡ Some pair → slice_get (blocks_in classes s) k ≡ Some (block_in classes s pair)
+  at-place k pair h = slice_get-map (block_in classes s) (blocks_of s) k ∙ ap (option_map (block_in classes s)) h
+
+  none-at : (k : ℕ) → slice_get (blocks_of s) k ≡ None → slice_get (blocks_in classes s) k ≡ None
+  none-at k h = slice_get-map (block_in classes s) (blocks_of s) k ∙ ap (option_map (block_in classes s)) h
+
+  -- a position of the blocks is accessible, or the end
+  pub within-accessible : AreListed s → (pos : ℕ) → IsWithin pos (blocks_in classes s) → IsAccessible s.text pos
+  within-accessible listed pos within =
+      let order = listed.order in
+      let less : s.text.begin < s.text.end + 1 = omega (arith, order) in
+      let first = first-is classes s s.text.begin (s.text.end + 1) (blocks_of s) listed.adjoin less in
+      let last = end-is classes s s.text.begin (s.text.end + 1) 0 (blocks_of s) listed.adjoin less in
+      let low = within.0 in
+      let high = within.1 in
+      (omega (arith, first, low), omega (arith, last, high))
+
+  pub accessible-within : Adjoin s.text.begin (s.text.end + 1) (blocks_of s) → (pos : ℕ) → IsAccessible s.text pos → IsWithin pos (blocks_in classes s)
+  accessible-within adjoin pos at =
+      let low = at.0 in
+      let high = at.1 in
+      let less : s.text.begin < s.text.end + 1 = omega (arith, low, high) in
+      let first = first-is classes s s.text.begin (s.text.end + 1) (blocks_of s) adjoin less in
+      let last = end-is classes s s.text.begin (s.text.end + 1) 0 (blocks_of s) adjoin less in
+      (omega (arith, first, low), omega (arith, last, high))
+
+  -- the block at a position is the one of the list that holds it
+  pub holds-position : AreListed s → (pos start end base : ℕ) → IsBlockAt s pos start end → base ≡ block_base classes s start
+      → HoldsPosition pos (blocks_in classes s) (record { start = start; end = end; base = base })
+  holds-position listed pos start end base at level =
+      let found = listed.every start end at.block in
+      record {
+        among = (found.0, at-place found.0 (start, end) found.1 ∙ ap (λ (b : Block). Some b) (sym (block-is start end base level)));
+        from = at.before;
+        below = at.behind;
+      }
+
+  -- each of the list is a block of the buffer
+  pub among-block : AreListed s → (b : Block) → IsAmong (blocks_in classes s) b → IsBlock s b.start b.end
+  among-block listed b among =
+      let found = listed-at classes s among.0 b among.1 in
+      subst (λ (x : Block). IsBlock s x.start x.end) (sym found.is) (listed.blocks among.0 found.pair found.at)
+
+  pub among-base : (b : Block) → IsAmong (blocks_in classes s) b → b.base ≡ block_base classes s b.start
+  among-base b among =
+      let found = listed-at classes s among.0 b among.1 in
+      subst (λ (x : Block). x.base ≡ block_base classes s x.start) (sym found.is) refl
+
+  -- the block behind one
+  pub next-block : AreInOrder s → (b : Block) (end base : ℕ) → IsBlock s b.end end → base ≡ block_base classes s b.end → (k : ℕ) → slice_get (blocks_in classes s) k ≡ Some b
+      → Some (let c : Block = record { start = b.end; end = end; base = base } in c) ≡ slice_get (blocks_in classes s) (k + 1)
+  next-block ordered b end base block level k at =
+      let found = listed-at classes s k b at in
+      let is : b.end ≡ found.pair.1 = ap (λ (x : Block). x.end) found.is in
+      let next = ordered.next k found.pair.0 found.pair.1 end found.at (subst (λ (n : ℕ). IsBlock s n end) is block) in
+      ap (λ (c : Block). Some c) (block-is b.end end base level ∙ ap (λ (n : ℕ). block_in classes s (n, end)) is) ∙ sym (at-place (k + 1) (found.pair.1, end) next)
+
+  pub next-none : AreListed s → AreInOrder s → (b : Block) → s.text.end < b.end → (k : ℕ) → slice_get (blocks_in classes s) k ≡ Some b → None ≡ slice_get (blocks_in classes s) (k + 1)
+  next-none listed ordered b past k at =
+      let found = listed-at classes s k b at in
+      let is : b.end ≡ found.pair.1 = ap (λ (x : Block). x.end) found.is in
+      let block = listed.blocks k found.pair found.at in
+      let last = block.last in
+      let end : found.pair.1 ≡ s.text.end + 1 = omega (arith, is, past, last) in
+      sym (none-at (k + 1) (ordered.last k found.pair.0 (found.at ∙ ap (λ (n : ℕ). Some (found.pair.0, n)) end)))
+
+  -- the block before one
+  pub prev-block : AreInOrder s → (b : Block) (start base : ℕ) → IsBlock s start b.start → base ≡ block_base classes s start → (k : ℕ) → slice_get (blocks_in classes s) k ≡ Some b
+      → Some (let c : Block = record { start = start; end = b.start; base = base } in c) ≡ block_before (blocks_in classes s) k
+  prev-block ordered b start base block level k at =
+      let found = listed-at classes s k b at in
+      let is : b.start ≡ found.pair.0 = ap (λ (x : Block). x.start) found.is in
+      let before = ordered.prev k start found.pair.0 found.pair.1 found.at (subst (λ (n : ℕ). IsBlock s start n) is block) in
+      let one : k ≡ suc before.0 = omega (arith, before.1) in
+      ap (λ (c : Block). Some c) (block-is start b.start base level ∙ ap (λ (n : ℕ). block_in classes s (start, n)) is)
+      ∙ (sym (at-place before.0 (start, found.pair.0) before.2) ∙ ap (block_before (blocks_in classes s)) (sym one))
+
+  pub prev-none : AreInOrder s → (b : Block) → b.start ≡ s.text.begin → (k : ℕ) → slice_get (blocks_in classes s) k ≡ Some b → None ≡ block_before (blocks_in classes s) k
+  prev-none ordered b begins k at =
+      let found = listed-at classes s k b at in
+      let is : b.start ≡ found.pair.0 = ap (λ (x : Block). x.start) found.is in
+      let first : found.pair.0 ≡ s.text.begin = sym is ∙ begins in
+      ap (block_before (blocks_in classes s)) (sym (ordered.first k found.pair.1 (found.at ∙ ap (λ (n : ℕ). Some (n, found.pair.1)) first)))

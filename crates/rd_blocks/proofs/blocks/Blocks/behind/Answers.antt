@@ -1,0 +1,54 @@
+use Rattle.std.proofs.Common.{◌≡◌, ◌+◌, ◌≤◌, ℕ, None, Some, sym, subst, arith}
+use Rattle.std.specs.Prelude.{slice_get}
+use Rattle.rd_props.specs.Buffers.{meaning}
+use Rattle.rd_props.specs.declared.state.View.{View}
+use Rattle.rd_matrix.specs.Blocks.{IsAmong}
+use Rattle.rd_matrix.specs.declared.block.Block.{Block}
+use Rattle.rd_blocks.specs.Sources.{source_of}
+use Rattle.rd_blocks.proofs.Listed.{are-listed, are-in-order, among-block, starts-behind, next-block, next-none}
+use Rattle.rd_blocks.proofs.blocks.Blocks.behind.Goals as goal
+
+pub returns-then-end-start-clause-next : goal.returns-then-end-start-clause-next
+returns-then-end-start-clause-next c =
+    let x = c.self.inside.view in
+    let law = c.blocks_are_listed.ensures in
+    let order = c.blocks_are_in_order.ensures in
+    let s = meaning x.state.now in
+    let b = c.args.block.now in
+    let right = c.end.ensures.right in
+    let value = c.end.ensures.value in
+    let past = c.if-end-start.true in
+    subst (λ (w : View). (k : ℕ) → slice_get (source_of w).blocks k ≡ Some b → None ≡ slice_get (source_of w).blocks (k + 1)) c.self.view_is
+    (next-none x.classes.now s (are-listed law.blocks law.every law.adjoin s right) (are-in-order order.next order.last order.prev order.first s right) b (omega (arith, value, past)))
+
+pub block_from-requires-clause-accessible : goal.block_from-requires-clause-accessible
+block_from-requires-clause-accessible c =
+    let x = c.self.inside.view in
+    let law = c.blocks_are_listed.ensures in
+    let s = meaning x.state.now in
+    let b = c.args.block.now in
+    let value = c.end.ensures.value in
+    let within = c.if-end-start.false in
+    let block = among-block x.classes.now s (are-listed law.blocks law.every law.adjoin s c.end.ensures.right) b (subst (λ (w : View). IsAmong (source_of w).blocks b) (sym c.self.view_is) c.requires) in
+    (starts-behind s b.start b.end block (omega (arith, value, within))).0
+
+pub block_from-requires-clause-start : goal.block_from-requires-clause-start
+block_from-requires-clause-start c =
+    let x = c.self.inside.view in
+    let law = c.blocks_are_listed.ensures in
+    let s = meaning x.state.now in
+    let b = c.args.block.now in
+    let value = c.end.ensures.value in
+    let within = c.if-end-start.false in
+    let block = among-block x.classes.now s (are-listed law.blocks law.every law.adjoin s c.end.ensures.right) b (subst (λ (w : View). IsAmong (source_of w).blocks b) (sym c.self.view_is) c.requires) in
+    (starts-behind s b.start b.end block (omega (arith, value, within))).1
+
+pub returns-clause-next : goal.returns-clause-next
+returns-clause-next c =
+    let x = c.self.inside.view in
+    let order = c.blocks_are_in_order.ensures in
+    let s = meaning x.state.now in
+    let b = c.args.block.now in
+    let next : Block = record { start = b.end; end = c.in_ok-end.end; base = c.base_of-base.result } in
+    subst (λ (w : View). (k : ℕ) → slice_get (source_of w).blocks k ≡ Some b → Some next ≡ slice_get (source_of w).blocks (k + 1)) c.self.view_is
+    (next-block x.classes.now s (are-in-order order.next order.last order.prev order.first s c.end.ensures.right) b c.in_ok-end.end c.base_of-base.result c.in_ok-end.ensures c.base_of-base.ensures.base)

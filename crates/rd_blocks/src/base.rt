@@ -1,0 +1,69 @@
+//! The base levels of blocks that are asked for one after the other.
+ghost use Rattle.std.specs.Prelude.{◌≡◌, ◌≤◌, IfSome};
+ghost use Rattle.rd_text.specs.Texts.{IsAccessible};
+ghost use Rattle.rd_para.specs.Known.{IsKnown};
+ghost use Rattle.rd_props.specs.Buffers.{meaning};
+ghost use Rattle.rd_blocks.specs.Bases.{block_base};
+
+use rd_base::{Direction, Pos};
+use rd_para::{Paragraph, next_line, paragraph_at};
+use rd_props::View;
+
+/// The base level of a block that starts at a position. Where the text decides it, it is that of the position's paragraph, which is
+/// then the one that is known. The paragraph that was known is gone on with, line by line, where it reaches `near`, a position before
+/// the block or its start, and so a paragraph is asked for once, however many of its blocks are asked for in order.
+pub(crate) fn base_of(view: View, known: &mut Option<Paragraph>, near: Pos, start: Pos) -> u8
+    requires known { IfSome known.old (λ p. IsKnown view.classes.now view.state.now.text p) }
+    requires place { IsAccessible view.state.now.text start }
+    ensures known { IfSome known.new (λ p. IsKnown view.entry.classes.now view.entry.state.now.text p) }
+    ensures base { result ≡ block_base view.entry.classes.now (meaning view.entry.state.now) start }
+{
+    let state = view.state;
+    let settings = &state.settings;
+    if !settings.reorder {
+        return 0;
+    }
+    match settings.direction {
+        Direction::Auto => {
+            let paragraph = paragraph_of(view, *known, near, start);
+            *known = Some(paragraph);
+            paragraph.base
+        }
+        Direction::Left => 0,
+        Direction::Right => 1,
+    }
+}
+
+/// The paragraph of a position: the one that is known, further, where it reaches `near`, and else the one that is found.
+fn paragraph_of(view: View, known: Option<Paragraph>, near: Pos, pos: Pos) -> Paragraph
+    requires known { IfSome known (λ p. IsKnown view.classes.now view.state.now.text p) }
+    requires place { IsAccessible view.state.now.text pos }
+    ensures known { IsKnown view.entry.classes.now view.entry.state.now.text result }
+    ensures from { result.from ≤ pos }
+    ensures to { pos ≤ result.to }
+{
+    let state = view.state;
+    match known {
+        Some(paragraph) if paragraph.from <= pos && near <= paragraph.to => {
+            further(view, paragraph, pos)
+        }
+        _ => paragraph_at(&state.text, view.classes, pos),
+    }
+}
+
+/// A paragraph that is known, or one of those behind it, so far that it holds a position.
+fn further(view: View, known: Paragraph, pos: Pos) -> Paragraph
+    requires known { IsKnown view.classes.now view.state.now.text known }
+    requires from { known.from ≤ pos }
+    requires place { IsAccessible view.state.now.text pos }
+    ensures known { IsKnown view.entry.classes.now view.entry.state.now.text result }
+    ensures from { result.from ≤ pos }
+    ensures to { pos ≤ result.to }
+{
+    let state = view.state;
+    let mut paragraph = known;
+    while paragraph.to < pos {
+        paragraph = next_line(&state.text, view.classes, &paragraph);
+    }
+    paragraph
+}

@@ -1,0 +1,130 @@
+//! The rows of a block of a buffer.
+ghost use Rattle.std.specs.Prelude.{◌≡◌, ◌+◌, ◌^◌, ◌<◌, ◌≤◌, length, IfOk, IsTrue};
+ghost use Rattle.std.specs.Option.{option_or};
+ghost use Rattle.rd_base.specs.declared.element.Element.{Element};
+ghost use Rattle.rd_text.specs.Texts.{IsAccessible};
+ghost use Rattle.rd_objects.specs.declared.run.Slot.{Slot};
+ghost use Rattle.rd_glyphs.specs.Characters.{slot_or};
+ghost use Rattle.rd_props.specs.Buffers.{meaning};
+ghost use Rattle.rd_props.specs.Values.{effective, is_single};
+ghost use Rattle.rd_items.specs.Pieces.{scene_of};
+ghost use Rattle.rd_items.specs.Readings.{reading};
+ghost use Rattle.rd_rows.specs.Copies.{shown_rows};
+ghost use Rattle.rd_rows.specs.Laws.{seen_rows};
+ghost use Rattle.rd_rows.specs.Prefixes.{IsPrefix};
+ghost use Rattle.rd_rows.specs.Rows.{weight_of};
+ghost use Rattle.rd_blocks.specs.Rows.{block_rows, line_prefix, wrap_prefix, prefix_elements, truncation_mark, continuation_mark};
+
+use rd_base::{Element, Glyph, ListOf, Memory, Pos, Steps};
+use rd_items::parts_of;
+use rd_matrix::Block;
+use rd_objects::Slot;
+use rd_overlays::Kind;
+use rd_props::{View, effective};
+use rd_rows::{Row, RowMaker, Shape};
+use rd_stack::{Walker, string_line};
+use std::alloc::Global;
+use std::sync::ledger::Ledger;
+
+/// The rows of a block at a shape: its line, cut behind the prefixes that are effective at its first position. A step is counted for
+/// each element that is placed in them.
+pub(crate) fn rows_of<L: Ledger>(
+    alloc: Global,
+    view: View,
+    block: &Block,
+    shape: Shape,
+    steps: &mut Steps<L>,
+) -> Result<Vec<Row>, Memory>
+    requires place { IsAccessible view.state.now.text block.now.start }
+    requires base { block.now.base ≤ 1 }
+    ensures rows { IfOk result (λ rows. shown_rows rows.items ≡ seen_rows (block_rows (scene_of view.entry) block.now.base shape (reading (meaning view.entry.state.now) view.entry.objects.now block.now.start))) }
+    ensures few { IfOk result (λ rows. length rows.items < 2 ^ 32) }
+    ensures steps { steps.new ≤ steps.old + weight_of (block_rows (scene_of view.entry) block.now.base shape (reading (meaning view.entry.state.now) view.entry.objects.now block.now.start)) }
+{
+    let first = line_prefix(alloc, &view, block)?;
+    let wrap = wrap_prefix(alloc, &view, block)?;
+    let mut line = Walker::start(alloc, view, block.start, block.base)?;
+    let maker = RowMaker::new(
+        alloc,
+        shape,
+        block.base,
+        first.as_slice(),
+        wrap.as_slice(),
+        truncation_mark(&view),
+        continuation_mark(&view, block.base),
+    )?;
+    maker.make_all(&mut line, steps)
+}
+
+/// The elements of the prefix of a block's first row, and of each of its rows behind a row end.
+fn line_prefix(alloc: Global, view: &View, block: &Block) -> Result<ListOf<Element>, Memory>
+    requires place { IsAccessible view.now.state.now.text block.now.start }
+    requires base { block.now.base ≤ 1 }
+    ensures value { IfOk result (λ elements. elements ≡ line_prefix (scene_of view.now) block.now.base (reading (meaning view.now.state.now) view.now.objects.now block.now.start)) }
+    ensures prefix { IfOk result (λ elements. IsPrefix elements) }
+{
+    let state = view.state;
+    let settings = &state.settings;
+    let own = effective(alloc, view, block.start, Kind::LinePrefix)?;
+    prefix_elements(alloc, view, own.or(settings.line_prefix), block.base)
+}
+
+/// The elements of the prefix of a block's other rows.
+fn wrap_prefix(alloc: Global, view: &View, block: &Block) -> Result<ListOf<Element>, Memory>
+    requires place { IsAccessible view.now.state.now.text block.now.start }
+    requires base { block.now.base ≤ 1 }
+    ensures value { IfOk result (λ elements. elements ≡ wrap_prefix (scene_of view.now) block.now.base (reading (meaning view.now.state.now) view.now.objects.now block.now.start)) }
+    ensures prefix { IfOk result (λ elements. IsPrefix elements) }
+{
+    let state = view.state;
+    let settings = &state.settings;
+    let own = effective(alloc, view, block.start, Kind::WrapPrefix)?;
+    prefix_elements(alloc, view, own.or(settings.wrap_prefix), block.base)
+}
+
+/// The elements of the prefix of a number, and none without one.
+fn prefix_elements(
+    alloc: Global,
+    view: &View,
+    number: Option<u32>,
+    base: u8,
+) -> Result<ListOf<Element>, Memory>
+    requires { base ≤ 1 }
+    ensures value { IfOk result (λ elements. elements ≡ prefix_elements (scene_of view.now) base number) }
+    ensures prefix { IfOk result (λ elements. IsPrefix elements) }
+{
+    match number {
+        None => Ok(ListOf::new(alloc)),
+        Some(number) => string_line(alloc, view, number, base),
+    }
+}
+
+/// The mark of a truncated row.
+fn truncation_mark(view: &View) -> Glyph
+    ensures value { result ≡ truncation_mark (scene_of view.now) }
+    ensures columns { result.width ≡ 1 }
+{
+    mark(view, Slot::Truncation, '$')
+}
+
+/// The mark of a continued row, in a line of this base.
+fn continuation_mark(view: &View, base: u8) -> Glyph
+    ensures value { result ≡ continuation_mark (scene_of view.now) base }
+    ensures columns { result.width ≡ 1 }
+{
+    mark(view, Slot::Continuation, if base == 1 { '/' } else { '\\' })
+}
+
+/// The glyph of a slot of the buffer's table, and where it has none this character of one column.
+fn mark(view: &View, slot: Slot, default: char) -> Glyph
+    ensures value { result ≡ slot_or slot (scene_of view.now).parts.table default }
+    ensures columns { result.width ≡ 1 }
+{
+    let parts = parts_of(view);
+    if let Some(table) = parts.table {
+        if let Some(glyph) = table.slot(slot) {
+            return glyph;
+        }
+    }
+    Glyph::single(default as u32, 1)
+}
