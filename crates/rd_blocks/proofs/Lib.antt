@@ -9,3 +9,4 @@ mod Steps
 mod Listed
 mod Prefixes
 mod Made
+mod Local

@@ -5,7 +5,9 @@ mod base;
 mod blocks;
 mod examples;
 mod laws;
+mod locality;
 mod rows;
 
 pub use blocks::Blocks;
 pub use laws::{accessible_positions_lie_in_blocks, buffers_are_sources};
+pub use locality::rows_are_local;

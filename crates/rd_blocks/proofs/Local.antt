@@ -1,0 +1,79 @@
+-- The rows of a block depend on what is read of it alone.
+use Rattle.std.proofs.Common.{◌≡◌, ℕ, ◌<◌, List, [], ◌∷◌, length, Option, None, Some, IfSome, refl, sym, ap, ◌∙◌}
+use Rattle.std.specs.Option.{option_or}
+use Rattle.std.proofs.lemmas.List.Elements.{All-head}
+use Rattle.rd_base.specs.Settings.{SettingValues}
+use Rattle.rd_ucd.specs.Data.{Data}
+use Rattle.rd_objects.specs.Sound.{IsClosed, Extends}
+use Rattle.rd_objects.specs.Things.{ObjectLists}
+use Rattle.rd_props.specs.Buffers.{BufferValue}
+use Rattle.rd_props.specs.Made.{AreMade, SettingsMade, SeesMade}
+use Rattle.rd_props.specs.Seen.{Seen}
+use Rattle.rd_items.specs.Growing.{ReadsMade, without_flags, GoesOnFrom}
+use Rattle.rd_items.specs.Pieces.{Scene, scene_in}
+use Rattle.rd_items.specs.Readings.{reading}
+use Rattle.rd_matrix.specs.declared.block.Block.{Block}
+use Rattle.rd_rows.specs.Rows.{cutting_of, rows_of}
+use Rattle.rd_rows.specs.Shapes.{ShapeValues}
+use Rattle.rd_stack.specs.Lines.{line_elements}
+use Rattle.rd_stack.specs.Shown.{prefix}
+use Rattle.rd_blocks.specs.Rows.{line_prefix_of, wrap_prefix_of, prefix_elements, line_prefix, wrap_prefix, truncation_mark, continuation_mark, block_cutting, block_rows}
+use Rattle.rd_blocks.specs.Sources.{rows_in}
+
+-- what is known of scenes in which objects were made
+pub record GrowthLaws : Type 0 where
+  pub read : (s : BufferValue) (objects : ObjectLists) (p : ℕ) → AreMade s objects → ReadsMade objects (reading s objects p)
+  pub scenes : (o n : ObjectLists) (a b : SettingValues) (files : Data) → Extends o n → SettingsMade o a → without_flags b ≡ without_flags a → GoesOnFrom (scene_in a o files) (scene_in b n files)
+  pub lines : (old new : Scene) (base : ℕ) (es : List Seen) → GoesOnFrom old new → IsClosed old.objects → ReadsMade old.objects es → line_elements new base es ≡ line_elements old base es
+  pub prefixes : (old new : Scene) (base number : ℕ) → GoesOnFrom old new → IsClosed old.objects → number < length old.objects.strings → prefix new base number ≡ prefix old base number
+
+either : (P : ℕ → Type 0) (first setting : Option ℕ) → IfSome first P → IfSome setting P → IfSome (option_or first setting) P
+either P None setting a b = b
+either P (Some n) setting a b = a
+
+module _ (laws : GrowthLaws) (old new : Scene) (goes : GoesOnFrom old new) (closed : IsClosed old.objects) (settings : SettingsMade old.objects old.parts.settings) where
+  abbrev IsString : ℕ → Type 0
+  IsString n = n < length old.objects.strings
+
+  line-made : (es : List Seen) → ReadsMade old.objects es → IfSome (line_prefix_of old.parts.settings.line_prefix es) IsString
+  line-made [] made = settings.line_prefix
+  line-made (e ∷ es) made = either IsString e.line_prefix old.parts.settings.line_prefix (All-head (SeesMade old.objects) e es made).line_prefix settings.line_prefix
+
+  wrap-made : (es : List Seen) → ReadsMade old.objects es → IfSome (wrap_prefix_of old.parts.settings.wrap_prefix es) IsString
+  wrap-made [] made = settings.wrap_prefix
+  wrap-made (e ∷ es) made = either IsString e.wrap_prefix old.parts.settings.wrap_prefix (All-head (SeesMade old.objects) e es made).wrap_prefix settings.wrap_prefix
+
+  same-prefix : (base : ℕ) (number : Option ℕ) → IfSome number IsString → prefix_elements new base number ≡ prefix_elements old base number
+  same-prefix base None made = refl
+  same-prefix base (Some n) made = laws.prefixes old new base n goes closed made
+
+  same-line-prefix : (base : ℕ) (es : List Seen) → ReadsMade old.objects es → line_prefix new base es ≡ line_prefix old base es
+  same-line-prefix base es made =
+      ap (λ (s : SettingValues). prefix_elements new base (line_prefix_of s.line_prefix es)) goes.settings ∙ same-prefix base (line_prefix_of old.parts.settings.line_prefix es) (line-made es made)
+
+  same-wrap-prefix : (base : ℕ) (es : List Seen) → ReadsMade old.objects es → wrap_prefix new base es ≡ wrap_prefix old base es
+  same-wrap-prefix base es made =
+      ap (λ (s : SettingValues). prefix_elements new base (wrap_prefix_of s.wrap_prefix es)) goes.settings ∙ same-prefix base (wrap_prefix_of old.parts.settings.wrap_prefix es) (wrap-made es made)
+
+  same-truncation : truncation_mark new ≡ truncation_mark old
+  same-truncation = rw goes.table
+
+  same-continuation : (base : ℕ) → continuation_mark new base ≡ continuation_mark old base
+  same-continuation base = rw goes.table
+
+  same-cutting : (base : ℕ) (shape : ShapeValues) (es : List Seen) → ReadsMade old.objects es → block_cutting new base shape es ≡ block_cutting old base shape es
+  same-cutting base shape es made = λ i.
+      cutting_of shape base (same-line-prefix base es made i) (same-wrap-prefix base es made i) (same-truncation i) (same-continuation base i)
+
+  pub same-rows : (base : ℕ) (shape : ShapeValues) (es : List Seen) → ReadsMade old.objects es → block_rows new base shape es ≡ block_rows old base shape es
+  same-rows base shape es made = λ i. rows_of (same-cutting base shape es made i) (laws.lines old new base es goes closed made i)
+
+pub rows-local : GrowthLaws → (old new : BufferValue) (made objects : ObjectLists) (files : Data) (a b : Block) (shape : ShapeValues) → without_flags new.settings ≡ without_flags old.settings → IsClosed made → AreMade old made → Extends made objects
+    → a.base ≡ b.base → reading old made a.start ≡ reading new objects b.start → rows_in new objects files b shape ≡ rows_in old made files a shape
+rows-local laws old new made objects files a b shape settings closed named extends bases reads =
+    let goes = laws.scenes made objects old.settings new.settings files extends named.settings settings in
+    let old_scene = scene_in old.settings made files in
+    let new_scene = scene_in new.settings objects files in
+    ap (λ (es : List Seen). block_rows new_scene b.base shape es) (sym reads)
+    ∙ ap (λ (base : ℕ). block_rows new_scene base shape (reading old made a.start)) (sym bases)
+    ∙ same-rows laws old_scene new_scene goes closed named.settings a.base shape (reading old made a.start) (laws.read old made a.start named)
