@@ -1,9 +1,11 @@
 //! What holds of all frames.
-ghost use Rattle.std.specs.Prelude.{ℕ, ◌≡◌, ◌+◌, ◌≤◌, ◌++◌, ◌∷◌, [], List, All, Option, Some, None, slice_get};
+ghost use Rattle.std.specs.Prelude.{ℕ, ◌≡◌, ◌+◌, ◌≤◌, ◌++◌, ◌∷◌, [], List, All, Option, Some, None, length, map, slice_get};
 ghost use Rattle.rd_base.specs.Cells.{AreColoured, IsColoured};
 ghost use Rattle.rd_base.specs.Glyphs.{IsRowAfter};
 ghost use Rattle.rd_base.specs.declared.cell.Cell.{Cell};
 ghost use Rattle.rd_base.specs.declared.cell.Glyph.{Glyph};
+ghost use Rattle.rd_matrix.specs.Entries.{EntryMeaning, shown_entries};
+ghost use Rattle.rd_matrix.specs.declared.matrix.Entry.{Entry};
 ghost use Rattle.rd_rows.specs.Whole.{IsMark};
 ghost use Rattle.rd_term.specs.Pictures.{IsGrid, IsOfSize, IsWellFormed};
 ghost use Rattle.rd_tree.specs.Calls.{frame_of};
@@ -13,6 +15,7 @@ ghost use Rattle.rd_tree.specs.declared.placed.Placed.{Placed};
 ghost use Rattle.rd_tree.specs.declared.rect.Rect.{Rect};
 ghost use Rattle.rd_frame.specs.Panes.{PaneValues, border_cell, window_rows};
 ghost use Rattle.rd_frame.specs.Frames.{FrameValues, rows_of, frame_rows, frame_picture};
+ghost use Rattle.rd_frame.specs.Held.{glyph_rows, glyph_row};
 ghost use Rattle.rd_frame.specs.Fits.{FitsWindow, FitsFrame, EachPart, IsWholeFrame, IsColouredFrame};
 ghost use Rattle.rd_frame.specs.Paints.{with_rectangle, painted, with_echo};
 ghost use Rattle.rd_frame.specs.Turns.{IsTurn};
@@ -63,3 +66,10 @@ pub fn windows_are_painted_in_turn()
 {
     windows_tile_their_rectangle();
 }
+
+/// The glyph rows of a matrix are those of what is seen of its rows, where a list has the margins of each, and where the rows have no
+/// margins and there is no list. The call does nothing.
+pub fn panes_show_their_matrix()
+    ensures margins { (margin_of : EntryMeaning → List Cell) (es : List Entry) → glyph_rows (map margin_of (shown_entries es)) es ≡ map (glyph_row margin_of) (shown_entries es) }
+    ensures none { (margin_of : EntryMeaning → List Cell) (es : List Entry) → All (λ e. length (margin_of e) ≡ 0) (shown_entries es) → glyph_rows [] es ≡ map (glyph_row margin_of) (shown_entries es) }
+{}
