@@ -9,6 +9,7 @@ mod Prefixes
 mod Ends
 mod Enders
 mod LineEnds
+mod Measures
 mod Joined
 mod TurnCounts
 mod Good

@@ -1,17 +1,39 @@
 -- A line of letters that are read from the left.
-use Rattle.std.proofs.Common.{◌≡◌, ℕ, zero, suc, true, List, length, replicate, refl, ap, ◌∙◌}
+use Rattle.std.proofs.Common.{◌≡◌, ℕ, zero, suc, ◌-◌, Bool, true, List, [], ◌∷◌, ◌++◌, length, take, replicate, refl, ap, subst, ◌∙◌, arith}
+use Rattle.std.specs.Prelude.{Result, IfOk}
 use Rattle.std.proofs.lemmas.List.{length-replicate}
 use Rattle.rd_base.specs.declared.class.Class.{Class}
 use Rattle.rd_base.specs.declared.class.Class.TheVariants.{L}
+use Rattle.rd_base.specs.declared.memory.Memory.{Memory}
 use Rattle.rd_ucd.specs.declared.spans.BracketEntry.{BracketEntry}
 use Rattle.rd_levels.specs.Levels.{are_leveled, line_levels}
+use Rattle.rd_levels.specs.Turns.{turns_of}
+use Rattle.rd_stack.specs.Ahead.{Ahead}
 
 letters-leveled : (n : ℕ) → are_leveled (replicate n L) ≡ true
 letters-leveled zero = refl
 letters-leveled (suc n) = letters-leveled n
+
+-- an empty list that is filled up with letters
+pub letters-fill : (old : List Class) (m n : ℕ) → old ≡ [] → m ≡ n → take m old ++ replicate (m - length old) L ≡ replicate n L
+letters-fill [] zero n none size = ap (λ k. replicate k L) size
+letters-fill [] (suc m) n none size = let e : suc m - 0 ≡ n = omega (arith, size) in ap (λ k. replicate k L) e
+letters-fill (c ∷ cs) m n none size = let e : suc (length cs) ≡ 0 = ap length none in absurd (omega (arith, e))
 
 pub letters-flat : ((entries : List BracketEntry) (classes : List Class) (codes : List ℕ) → are_leveled classes ≡ true → line_levels entries 0 classes codes ≡ replicate (length classes) 0)
     → (entries : List BracketEntry) (letters : List Class) (codes : List ℕ) (n : ℕ) → letters ≡ replicate n L → line_levels entries 0 letters codes ≡ replicate n 0
 letters-flat law entries letters codes n same =
     ap (λ cs. line_levels entries 0 cs codes) same ∙ law entries (replicate n L) codes (letters-leveled n)
     ∙ ap (λ k. replicate k 0) (length-replicate n L)
+
+module _ (result : Result Ahead Memory) where
+  -- the turns of a line by what its classes and codes are
+  pub if-turns : (entries : List BracketEntry) (a b : Bool) (base : ℕ) (xs ys : List Class) (us vs : List ℕ) → a ≡ b → xs ≡ ys → us ≡ vs
+      → IfOk result (λ order. order.turns ≡ turns_of entries a base xs us) → IfOk result (λ order. order.turns ≡ turns_of entries b base ys vs)
+  if-turns entries a b base xs ys us vs same classes codes known =
+      subst (λ (r : Bool). IfOk result (λ order. order.turns ≡ turns_of entries r base ys vs)) same
+      (subst (λ (cs : List Class). IfOk result (λ order. order.turns ≡ turns_of entries a base cs vs)) classes
+      (subst (λ (cs : List ℕ). IfOk result (λ order. order.turns ≡ turns_of entries a base xs cs)) codes known))
+
+  pub if-places : (m n : ℕ) → m ≡ n → IfOk result (λ order. order.places ≡ m) → IfOk result (λ order. order.places ≡ n)
+  if-places m n same known = subst (λ (k : ℕ). IfOk result (λ order. order.places ≡ k)) same known

@@ -1,11 +1,12 @@
 -- The elements of a prefix.
-use Rattle.std.proofs.Common.{◌≡◌, ℕ, Bool, true, false, List, [], ◌∷◌, Option, None, Some, arith, refl, sym, ap, ◌∙◌}
+use Rattle.std.proofs.Common.{◌≡◌, ℕ, Bool, true, false, List, [], ◌∷◌, ◌++◌, Option, None, Some, arith, refl, sym, subst, ap, ◌∙◌, append_assoc, append-nil}
 use Rattle.std.proofs.lemmas.List.Elements.{All-cons}
-use Rattle.std.specs.Prelude.{if◌then◌else◌, slice_get, unwrap_or}
+use Rattle.std.specs.Prelude.{if◌then◌else◌, slice_get, unwrap_or, Ok, IfSome}
+use Rattle.rd_base.specs.Elements.{Takes}
 use Rattle.rd_base.specs.declared.element.Element.{Element}
 use Rattle.rd_base.specs.Faces.{plain}
 use Rattle.rd_items.specs.Pieces.{Scene}
-use Rattle.rd_stack.specs.Shown.{inner, outside, prefix, is_row_end, before_row_end, AreOpen, AreRight, AreInside, AreOfOneRow}
+use Rattle.rd_stack.specs.Shown.{inner, outside, prefix, is_row_end, before_row_end, AreOpen, IsRight, AreRight, AreInside, AreOfOneRow}
 use Rattle.rd_stack.specs.Steps.{text_steps, elements_in}
 use Rattle.rd_stack.proofs.Elements.{text-elements}
 
@@ -17,6 +18,31 @@ one-first e es false here rest = All-cons (λ (x : Element). is_row_end x.look �
 pub of-one-row : (es : List Element) → AreOfOneRow (before_row_end es)
 of-one-row [] = λ k d inside. absurd (omega arith)
 of-one-row (e ∷ es) = one-first e (before_row_end es) (is_row_end e.look) refl (of-one-row es)
+
+-- ---- the row that is taken element by element
+
+pub took : (found : Option Element) (e : Element) (old new : List Element) → found ≡ Some e → Takes (Ok found) old new → old ≡ e ∷ new
+took found e old new is takes = subst (λ (x : Option Element). Takes (Ok x) old new) is takes
+
+took-none : (found : Option Element) (old new : List Element) → found ≡ None → Takes (Ok found) old new → old ≡ []
+took-none found old new is takes = (subst (λ (x : Option Element). Takes (Ok x) old new) is takes).0
+
+pub took-right : (found : Option Element) (e : Element) → found ≡ Some e → IfSome found (λ (x : Element). IsRight x) → IsRight e
+took-right found e is right = subst (λ (x : Option Element). IfSome x (λ (y : Element). IsRight y)) is right
+
+pub row-goes : (out more : List Element) (e : Element) (old new whole : List Element) → more ≡ out ++ e ∷ [] → old ≡ e ∷ new → is_row_end e.look ≡ false
+    → out ++ before_row_end old ≡ whole → more ++ before_row_end new ≡ whole
+row-goes out more e old new whole pushed taken here all =
+    let rest = before_row_end new in
+    ap (λ l. l ++ rest) pushed ∙ append_assoc out (e ∷ []) rest
+    ∙ sym (ap (λ l. out ++ before_row_end l) taken ∙ ap (λ b. out ++ (if b then [] else e ∷ rest)) here) ∙ all
+
+pub row-stops : (out : List Element) (e : Element) (old new whole : List Element) → old ≡ e ∷ new → is_row_end e.look ≡ true → out ++ before_row_end old ≡ whole → out ≡ whole
+row-stops out e old new whole taken here all =
+    sym (ap (λ l. out ++ before_row_end l) taken ∙ ap (λ b. out ++ (if b then [] else e ∷ before_row_end new)) here ∙ append-nil out) ∙ all
+
+pub row-ends : (found : Option Element) (out old new whole : List Element) → found ≡ None → Takes (Ok found) old new → out ++ before_row_end old ≡ whole → out ≡ whole
+row-ends found out old new whole is takes all = sym (ap (λ l. out ++ before_row_end l) (took-none found old new is takes) ∙ append-nil out) ∙ all
 
 module _ (s : Scene) (base number : ℕ) (found : Option (List (List Element))) (made : unwrap_or found [] ≡ text_steps s base false outside plain (slice_get s.objects.strings number)) where
   pub prefix-none : found ≡ None → [] ≡ prefix s base number

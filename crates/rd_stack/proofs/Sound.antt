@@ -1,5 +1,5 @@
 -- The elements of strings and of items of sound objects are sound and measured, and take few columns.
-use Rattle.std.proofs.Common.{◌≡◌, ℕ, ◌+◌, ◌*◌, ◌≤◌, ◌^◌, ◌<◌, Bool, true, false, IsTrue, List, [], ◌∷◌, length, map, Option, None, Some, All, IfSome, refl, subst, ap, ◌∙◌, arith}
+use Rattle.std.proofs.Common.{◌≡◌, ℕ, ◌+◌, ◌*◌, ◌≤◌, ◌^◌, ◌<◌, Bool, true, false, IsTrue, List, [], ◌∷◌, length, map, Option, None, Some, All, IfSome, refl, subst, ◌∙◌, arith}
 use Rattle.std.specs.Prelude.{slice_get, slice_index_or, replicate, if◌then◌else◌, unwrap_or}
 use Rattle.std.specs.List.{flat_map, AllByRecursion}
 use Rattle.std.proofs.Math.Nat.{mul-le-mul_right}
@@ -35,7 +35,7 @@ use Rattle.rd_levels.specs.declared.turn.Turn.{Turn}
 use Rattle.rd_stack.specs.Strings.{string_parts}
 use Rattle.rd_stack.specs.Shown.{space_elements, kind_elements, inner_elements, inner, middle_by, middle_elements, middle, before_row_end, is_row_end, outside, prefix, IsRight}
 use Rattle.rd_stack.specs.Lines.{ellipsis_glyphs, text_elements, outer_by, outer, origin_of, item_elements, item_class, item_code, item_turns, line_of_items, line_elements, IsCodedKind, AreCodedItems}
-use Rattle.rd_stack.specs.Limits.{AreFew, AreRightWithin, most_items, most_inner_columns, most_middle_columns, most_columns}
+use Rattle.rd_stack.specs.Limits.{AreFew, AreRightWithin, most_inner_columns, most_middle_columns, most_columns}
 use Rattle.rd_stack.specs.declared.part.Shown.{Shown}
 use Rattle.rd_stack.specs.declared.part.PartKind.{PartKind}
 use Rattle.rd_stack.specs.declared.part.PartKind.TheVariants as kind
@@ -261,12 +261,3 @@ module _ (laws : GlyphLaws) (marks : MarkLaws) (levels : LevelsLaw) (s : Scene) 
   prefix-good number =
       let text = slice_get s.objects.strings number in
       before-good most_inner_columns (inner s base outside plain text) (inner-good outside plain text (string-at number))
-
--- the line of items of a buffer, of which this is known
-module _ (law : (scene : Scene) (base : ℕ) (es : List Seen) → AreObjects scene.objects → AreSoundParts scene.parts → AreMeasuredItems (items_of scene es) → AreCodedItems (items_of scene es) → AreRightWithin (length (items_of scene es) * most_middle_columns) (line_elements scene base es)) where
-  pub known-good : (s : Scene) (base : ℕ) (es : List Seen) (items : List Item) → items ≡ items_of s es → AreObjects s.objects → AreSoundParts s.parts
-      → AreMeasuredItems items → AreCodedItems items → length items ≤ most_items → AreRightWithin most_columns (line_elements s base es)
-  known-good s base es items is sound parts measured coded few =
-      let whole = law s base es sound parts (subst AreMeasuredItems is measured) (subst AreCodedItems is coded) in
-      let size : length items ≡ length (items_of s es) = ap length is in
-      good-more (length (items_of s es) * most_middle_columns) most_columns (line_elements s base es) (omega (arith, size, few)) whole

@@ -1,10 +1,9 @@
 -- How many items and columns a line has at most, by the limits of texts, overlays, strings and specs.
 use Rattle.std.specs.Prelude.{ℕ, ◌+◌, ◌*◌, ◌≤◌, List, [], ◌∷◌, length}
-use Rattle.rd_base.specs.declared.limits.TheConstants.{OVERLAYS, SPACE_COLUMNS, STRING_CHARACTERS, TAB_COLUMNS, TEXT_CHARACTERS}
+use Rattle.rd_base.specs.declared.limits.TheConstants.{OVERLAYS, SPACE_COLUMNS, STRING_CHARACTERS, TEXT_CHARACTERS}
 use Rattle.rd_base.specs.declared.element.Element.{Element}
 use Rattle.rd_base.specs.Elements.{columns_at_most}
 use Rattle.rd_props.specs.Seen.{Seen}
-use Rattle.rd_items.specs.Pieces.{Scene}
 use Rattle.rd_stack.specs.Shown.{AreRight}
 
 -- how many strings of overlays stand before the positions that are read
@@ -36,7 +35,3 @@ most_columns = most_items * most_middle_columns
 pub record AreRightWithin (most : ℕ) (es : List Element) : Type 0 where
   pub right : AreRight es
   pub few : columns_at_most es ≤ most
-
--- a tab stands up to the next of stops that are 1 to 32 columns apart
-abbrev pub HasTabStops : Scene → Type 0
-HasTabStops s = (1 ≤ s.parts.settings.tab_width) × (s.parts.settings.tab_width ≤ TAB_COLUMNS)

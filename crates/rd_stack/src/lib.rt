@@ -9,6 +9,7 @@ mod laws;
 mod line;
 mod line_steps;
 mod marks;
+mod measure;
 mod nesting;
 mod order;
 mod part;

@@ -1,19 +1,14 @@
 //! Blocks that are being walked through.
-ghost use Rattle.std.specs.Prelude.{◌≡◌, ◌≤◌, ◌<◌, map, length, IfOk, OnOk};
+ghost use Rattle.std.specs.Prelude.{◌≡◌, ◌≤◌, ◌<◌, map, length, IfOk};
 ghost use Rattle.rd_items.specs.Pieces.{scene_of};
-ghost use Rattle.rd_stack.specs.Lines.{item_class, item_code, item_turns, IsCodedKind, AreCodedItems};
-ghost use Rattle.rd_stack.specs.Limits.{HasTabStops};
+ghost use Rattle.rd_stack.specs.Lines.{item_class, item_code, item_turns};
 
 use crate::order::Order;
-use rd_base::limits::{OVERLAYS, TEXT_CHARACTERS};
 use rd_base::{Class, ListOf, Memory};
-use rd_items::{ItemKind, Items};
+use rd_items::Items;
 use rd_props::View;
 use std::alloc::Global;
 use std::marker::Model;
-
-/// Items of a line: one for each position of a text, its end included, and both strings of each overlay.
-const MOST_ITEMS: u32 = TEXT_CHARACTERS + 1 + 2 * OVERLAYS;
 
 /// The items of a block that are left in a line of this base. Contracts see the steps that are left.
 #[derive(Drop)]
@@ -39,15 +34,13 @@ impl<'a> Model for LineFrame<'a> {
 }
 
 impl<'a> LineFrame<'a> {
-    ghost use Rattle.std.specs.Prelude.{◌≡◌, ◌≤◌, length, IfOk, OnOk};
+    ghost use Rattle.std.specs.Prelude.{◌≡◌, ◌≤◌, [], IfOk};
     ghost use Rattle.rd_items.specs.Pieces.{scene_of};
     ghost use Rattle.rd_items.specs.Items.{AreMeasuredItems};
-    ghost use Rattle.rd_stack.specs.Lines.{item_turns, AreCodedItems};
-    ghost use Rattle.rd_stack.specs.Limits.{most_items, HasTabStops};
+    ghost use Rattle.rd_stack.specs.Lines.{item_turns};
     ghost use Rattle.rd_stack.specs.Steps.{line_left};
 
-    /// All items of a block. More items than a text and its overlays have, which no buffer makes, have no other answer than want of
-    /// memory.
+    /// All items of a block.
     pub fn new(
         alloc: Global,
         view: View<'a>,
@@ -56,14 +49,8 @@ impl<'a> LineFrame<'a> {
     ) -> Result<LineFrame<'a>, Memory>
         requires base { base ≤ 1 }
         requires measured { AreMeasuredItems items }
-        ensures value { IfOk result (λ f. f ≡ line_left (scene_of view.entry) base items (item_turns (scene_of view.entry) base items)) }
-        ensures coded { OnOk result (AreCodedItems items) }
-        ensures few { OnOk result (length items ≤ most_items) }
-        ensures tab { OnOk result (HasTabStops (scene_of view.entry)) }
+        ensures { IfOk result (λ f. f ≡ line_left (scene_of view.entry) base items (item_turns (scene_of view.entry) base items)) }
     {
-        if items.len() > MOST_ITEMS {
-            return Err(Memory);
-        }
         let order = order_of_items(alloc, &view, base, &items)?;
         Ok(LineFrame {
             view,
@@ -80,8 +67,6 @@ fn order_of_items(alloc: Global, view: &View, base: u8, items: &Items) -> Result
     ensures turns { IfOk result (λ order. order.turns ≡ item_turns (scene_of view.now) base items.now) }
     ensures places { IfOk result (λ order. order.places ≡ length items.now) }
     ensures few { length items.now < 4294967296 }
-    ensures coded { OnOk result (AreCodedItems items.now) }
-    ensures tab { OnOk result (HasTabStops (scene_of view.now)) }
 {
     let classes = classes_of(alloc, items)?;
     let codes = codes_of(alloc, items)?;
@@ -112,23 +97,12 @@ fn classes_of(alloc: Global, items: &Items) -> Result<ListOf<Class>, Memory>
 
 /// The codes by which items may be brackets.
 fn codes_of(alloc: Global, items: &Items) -> Result<ListOf<u32>, Memory>
-    ensures codes { IfOk result (λ codes. codes ≡ map item_code items.now) }
-    ensures coded { OnOk result (AreCodedItems items.now) }
+    ensures { IfOk result (λ codes. codes ≡ map item_code items.now) }
 {
     let mut codes = ListOf::with_room(alloc, items.len() as usize)?;
     for i in 0..items.len() {
         let item = items.item(i);
-        has_code(item.kind);
         codes.push(item.kind.bracket_code())?;
     }
     Ok(codes)
-}
-
-/// Each character that an item shows has a code. The call does nothing.
-fn has_code(kind: ItemKind)
-    ensures { IsCodedKind kind }
-{
-    if let ItemKind::Char(ch) = kind {
-        let _code = ch.code();
-    }
 }

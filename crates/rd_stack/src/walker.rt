@@ -2,8 +2,9 @@
 ghost use Rattle.std.specs.Prelude.{◌≡◌, ◌≤◌, ◌<◌, IfOk, OnOk};
 
 use crate::few::Few;
-use crate::laws::{elements_are_right, lines_end_once};
+use crate::laws::lines_end_once;
 use crate::line::LineFrame;
+use crate::measure::measure;
 use crate::step::{Frame, Step};
 use crate::string::StringFrame;
 use rd_base::{Element, Elements, Memory, Pos};
@@ -26,7 +27,6 @@ impl<'a> Walker<'a> {
     ghost use Rattle.rd_base.specs.Elements.{Takes, AreSound, columns_at_most, ends_once};
     ghost use Rattle.rd_base.specs.Glyphs.{AreMeasured};
     ghost use Rattle.rd_text.specs.Texts.{IsAccessible};
-    ghost use Rattle.rd_objects.specs.Sound.{AreObjects};
     ghost use Rattle.rd_props.specs.Buffers.{meaning};
     ghost use Rattle.rd_items.specs.Pieces.{scene_of};
     ghost use Rattle.rd_items.specs.Readings.{reading};
@@ -38,21 +38,32 @@ impl<'a> Walker<'a> {
 
     /// The elements of the line of the block that starts at a position, in a line of this base. They are those of its items in
     /// visual order from the reading edge: a character's, a space, the glyphs of an ellipsis, those of a display string or of an
-    /// overlay's string; the last of them and no other is the line's end. Where the objects are sound, as those within their limits are,
-    /// each is sound, its glyphs have the columns that Unicode gives them, and all take fewer than 2^60 columns, a tab counted as its
-    /// stop's width and a stretch up to a column as that column.
+    /// overlay's string; the last of them and no other is the line's end. Each is sound, and its glyphs have the columns that Unicode
+    /// gives them. They take fewer than 2^60 columns, a tab counted as its stop's width and a stretch up to a column as that column; a
+    /// line of more, which no objects within their limits make, has no other answer than want of memory. To know so much the line is
+    /// walked through once before.
     pub fn start(alloc: Global, view: View<'a>, start: Pos, base: u8) -> Result<Walker<'a>, Memory>
         requires place { IsAccessible view.state.now.text start }
         requires base { base ≤ 1 }
         ensures left { IfOk result (λ walker. ⟦<Walker<'a> as Elements>⟧.left walker ≡ line_elements (scene_of view.entry) base (reading (meaning view.entry.state.now) view.entry.objects.now start)) }
-        ensures sound { AreObjects view.entry.objects.now → IfOk result (λ walker. AreSound (⟦<Walker<'a> as Elements>⟧.left walker)) }
-        ensures measured { AreObjects view.entry.objects.now → IfOk result (λ walker. AreMeasured (⟦<Walker<'a> as Elements>⟧.left walker)) }
-        ensures columns { AreObjects view.entry.objects.now → IfOk result (λ walker. columns_at_most (⟦<Walker<'a> as Elements>⟧.left walker) < 2 ^ 60) }
+        ensures sound { IfOk result (λ walker. AreSound (⟦<Walker<'a> as Elements>⟧.left walker)) }
+        ensures measured { IfOk result (λ walker. AreMeasured (⟦<Walker<'a> as Elements>⟧.left walker)) }
+        ensures columns { IfOk result (λ walker. columns_at_most (⟦<Walker<'a> as Elements>⟧.left walker) < 2 ^ 60) }
         ensures ends { IfOk result (λ walker. ends_once (⟦<Walker<'a> as Elements>⟧.left walker) ≡ true) }
     {
         blocks_are_read_whole();
         lines_end_once();
-        elements_are_right();
+        let mut first = Walker::of_block(alloc, view, start, base)?;
+        measure(alloc, &mut first)?;
+        Walker::of_block(alloc, view, start, base)
+    }
+
+    /// The elements of the line of the block that starts at a position.
+    fn of_block(alloc: Global, view: View<'a>, start: Pos, base: u8) -> Result<Walker<'a>, Memory>
+        requires place { IsAccessible view.state.now.text start }
+        requires base { base ≤ 1 }
+        ensures left { IfOk result (λ walker. walk_left walker.few walker.frames.items ≡ line_elements (scene_of view.entry) base (reading (meaning view.entry.state.now) view.entry.objects.now start)) }
+    {
         let items = Items::new(alloc, &view, start)?;
         let line = LineFrame::new(alloc, view, base, items)?;
         Walker::from_frame(alloc, Frame::Line(line))
