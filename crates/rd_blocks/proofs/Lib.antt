@@ -10,3 +10,6 @@ mod Listed
 mod Prefixes
 mod Made
 mod Local
+mod SameReading
+mod EntryBlocks
+mod KeptRows

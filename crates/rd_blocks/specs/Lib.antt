@@ -2,3 +2,4 @@ pub mod Bases
 pub mod Rows
 pub mod Sources
 pub mod Examples
+pub mod Kept

@@ -10,4 +10,4 @@ mod rows;
 
 pub use blocks::Blocks;
 pub use laws::{accessible_positions_lie_in_blocks, buffers_are_sources};
-pub use locality::rows_are_local;
+pub use locality::{kept_rows_are_fresh, rows_are_local};

@@ -1,5 +1,6 @@
-//! That the rows of a block depend on what is read of it alone.
-ghost use Rattle.std.specs.Prelude.{◌≡◌};
+//! That the rows of a block depend on what is read of it alone, so that older rows can be kept.
+ghost use Rattle.std.specs.Prelude.{◌≡◌, ℕ, List, take, drop};
+ghost use Rattle.rd_text.specs.Texts.{IsText};
 ghost use Rattle.rd_ucd.specs.Data.{Data};
 ghost use Rattle.rd_objects.specs.Sound.{IsClosed, Extends};
 ghost use Rattle.rd_objects.specs.Things.{ObjectLists};
@@ -7,11 +8,23 @@ ghost use Rattle.rd_props.specs.Buffers.{BufferValue};
 ghost use Rattle.rd_props.specs.Made.{AreMade};
 ghost use Rattle.rd_items.specs.Growing.{without_flags};
 ghost use Rattle.rd_items.specs.Readings.{reading};
+ghost use Rattle.rd_matrix.specs.Entries.{shown_entries};
+ghost use Rattle.rd_matrix.specs.Sources.{SourceValues, rows_at};
 ghost use Rattle.rd_matrix.specs.declared.block.Block.{Block};
-ghost use Rattle.rd_rows.specs.Shapes.{ShapeValues};
-ghost use Rattle.rd_blocks.specs.Sources.{rows_in};
+ghost use Rattle.rd_matrix.specs.declared.matrix.Entry.{Entry};
+ghost use Rattle.rd_reuse.specs.Changes.{all};
+ghost use Rattle.rd_reuse.specs.Keeping.{AreRight};
+ghost use Rattle.rd_reuse.specs.declared.change.Change.{Change};
+ghost use Rattle.rd_rows.specs.Shapes.{ShapeValues, IsShape};
+ghost use Rattle.rd_blocks.specs.Kept.{Follows, AreRowsAt};
+ghost use Rattle.rd_blocks.specs.Sources.{rows_in, text_source};
 
-use rd_items::{made_objects_alone_are_read, objects_that_are_made_change_no_item};
+use crate::laws::buffers_are_sources;
+use rd_items::{
+    blocks_are_listed, blocks_are_read_whole, made_objects_alone_are_read,
+    objects_that_are_made_change_no_item,
+};
+use rd_reuse::all_keeps_no_block;
 use rd_stack::objects_that_are_made_change_no_line;
 
 /// Two blocks have equal rows at a shape where the same is read of them, their base levels and the settings are the same, but for the
@@ -26,4 +39,23 @@ pub fn rows_are_local()
     made_objects_alone_are_read();
     objects_that_are_made_change_no_item();
     objects_that_are_made_change_no_line();
+}
+
+/// Rows of an older state of a buffer that its blocks keep are the rows that they have now, where the change since is right: through
+/// base levels that flip, hidden and replaced runs and strings across the change, and blocks that join or split. Where anything may have
+/// changed no block keeps any. Rows that stand one behind the other in a text are rows of it. The call does nothing.
+pub fn kept_rows_are_fresh()
+    ensures changed { (old new : BufferValue) (made objects : ObjectLists) (files : Data) (change : Change) (shape : ShapeValues) (rows : List Entry)
+        → IsText old.text → IsText new.text → IsShape shape → Follows old made new objects change → AreRowsAt (text_source old made files) shape rows
+        → AreRight (text_source new objects files) rows change shape }
+    ensures all { (s : BufferValue) (objects : ObjectLists) (files : Data) (shape : ShapeValues) (rows : List Entry)
+        → IsText s.text → AreRight (text_source s objects files) rows all shape }
+    ensures rows { (m : SourceValues) (shape : ShapeValues) (rows : List Entry) (first height : ℕ)
+        → shown_entries rows ≡ take height (drop first (rows_at m shape)) → AreRowsAt m shape rows }
+{
+    all_keeps_no_block();
+    blocks_are_listed();
+    blocks_are_read_whole();
+    buffers_are_sources();
+    rows_are_local();
 }

@@ -1,0 +1,147 @@
+-- Where the same is seen at the positions of a block, the same is read of it.
+use Rattle.std.proofs.Common.{◌≡◌, ◌⊎◌, inl, inr, ℕ, zero, suc, ◌+◌, ◌-◌, ◌<◌, ◌≤◌, Bool, true, false, ◌&&◌, if◌then◌else◌, List, [], ◌∷◌, refl, sym, ap, subst, ◌∙◌, arith}
+use Rattle.std.specs.Prelude.{pos, ◌-ℤ◌, nat_lt}
+use Rattle.std.proofs.lemmas.Bool.{and_parts, cases_lt}
+use Rattle.std.proofs.lemmas.Bool.Decides.{nat_tests}
+use Rattle.std.proofs.lemmas.Int.{ints}
+use Rattle.rd_base.specs.declared.settings.Invisible.{Invisible}
+use Rattle.rd_objects.specs.Things.{ObjectLists}
+use Rattle.rd_props.specs.Agreement.{IsSame, Unchanged}
+use Rattle.rd_props.specs.Buffers.{BufferValue}
+use Rattle.rd_props.specs.Seen.{Seen, seen_at}
+use Rattle.rd_items.specs.Blocks.{is_shown_newline, EndsBlock, IsBlock}
+use Rattle.rd_items.specs.Readings.{is_ender, ends_block, reading_from, reading, IsReading}
+use Rattle.rd_reuse.specs.declared.change.Change.{Change}
+
+-- what is known of readings
+abbrev pub AreRead : Type 0
+AreRead = (s : BufferValue) (objects : ObjectLists) (p : ℕ) → p ≤ s.text.end → IsReading s.settings.invisible (reading s objects p)
+
+if-true : {A : Type 0} (test : Bool) (a b : A) → test ≡ true → (if test then a else b) ≡ a
+if-true true a b e = refl
+if-true false a b e = cc
+
+if-false : {A : Type 0} (test : Bool) (a b : A) → test ≡ false → (if test then a else b) ≡ b
+if-false true a b e = cc
+if-false false a b e = refl
+
+last-part : (a b : Bool) → a ≡ true → (a && b) ≡ false → b ≡ false
+last-part true b e f = f
+last-part false b e f = cc
+
+not-both : (b : Bool) → b ≡ true → b ≡ false → ⊥
+not-both true e f = cc
+not-both false e f = cc
+
+-- ---- what is read from a position on
+
+reads-one : (s : BufferValue) (o : ObjectLists) (n p : ℕ) → ends_block s p ≡ true → reading_from s o n p ≡ seen_at s o p ∷ []
+reads-one s o zero p e = refl
+reads-one s o (suc n) p e = ap (λ (es : List Seen). seen_at s o p ∷ es) (if-true (ends_block s p) [] (reading_from s o n (suc p)) e)
+
+reads-more : (s : BufferValue) (o : ObjectLists) (n p : ℕ) → ends_block s p ≡ false → reading_from s o (suc n) p ≡ seen_at s o p ∷ reading_from s o n (suc p)
+reads-more s o n p e = ap (λ (es : List Seen). seen_at s o p ∷ es) (if-false (ends_block s p) [] (reading_from s o n (suc p)) e)
+
+reading-more : (s : BufferValue) (o : ObjectLists) (p : ℕ) → p < s.text.end → ends_block s p ≡ false → reading s o p ≡ seen_at s o p ∷ reading s o (suc p)
+reading-more s o p less goes =
+    let size : s.text.end - p ≡ suc (s.text.end - suc p) = omega arith in
+    ap (λ (n : ℕ). reading_from s o n p) size ∙ reads-more s o (s.text.end - suc p) p goes
+
+-- the end of the accessible text ends a block
+end-ends : AreRead → (s : BufferValue) (o : ObjectLists) → ends_block s s.text.end ≡ true
+end-ends read s o =
+    let none : s.text.end - s.text.end ≡ 0 = omega arith in
+    let whole : IsReading s.settings.invisible (reading_from s o 0 s.text.end) =
+    subst (λ (n : ℕ). IsReading s.settings.invisible (reading_from s o n s.text.end)) none (read s o s.text.end (omega arith)) in
+    whole
+
+before-end : AreRead → (s : BufferValue) (o : ObjectLists) (p : ℕ) → p ≤ s.text.end → ends_block s p ≡ false → p < s.text.end
+before-end read s o p within goes = by-place (cases_lt p s.text.end) where
+  by-place : (p < s.text.end) ⊎ (s.text.end ≤ p) → p < s.text.end
+  by-place (inl less) = less
+  by-place (inr more) =
+      let here : s.text.end ≡ p = omega arith in
+      absurd (not-both (ends_block s p) (sym (ap (ends_block s) here) ∙ end-ends read s o) goes)
+
+-- ---- two readings
+
+-- the same is seen from two positions on, before a block ends with the position before another
+pub record SeenAlike (old : BufferValue) (made : ObjectLists) (new : BufferValue) (objects : ObjectLists) (x y to : ℕ) : Type 0 where
+  pub same : (p q : ℕ) → x ≤ p → p + y ≡ q + x → q < to → IsSame old made p new objects q
+  pub goes : (q : ℕ) → y ≤ q → suc q < to → ends_block new q ≡ false
+  pub ends : (q : ℕ) → suc q ≡ to → ends_block new q ≡ true
+
+module _ (read : AreRead) (old : BufferValue) (made : ObjectLists) (new : BufferValue) (objects : ObjectLists) (setting : old.settings.invisible ≡ new.settings.invisible) where
+  same-ends : (x y : ℕ) → IsSame old made x new objects y → ends_block old x ≡ ends_block new y
+  same-ends x y same =
+      let first : is_ender old.settings.invisible (seen_at old made x) ≡ is_ender old.settings.invisible (seen_at new objects y) = ap (is_ender old.settings.invisible) same.agree in
+      let last : is_ender old.settings.invisible (seen_at new objects y) ≡ is_ender new.settings.invisible (seen_at new objects y) = ap (λ (i : Invisible). is_ender i (seen_at new objects y)) setting in
+      first ∙ last
+
+  pub same-reading : (m x y to : ℕ) → to ≡ y + suc m → SeenAlike old made new objects x y to → reading old made x ≡ reading new objects y
+  same-reading zero x y to size alike =
+      let here = alike.same x y (omega arith) (omega arith) (omega arith) in
+      let last = alike.ends y (omega arith) in
+      reads-one old made (old.text.end - x) x (same-ends x y here ∙ last) ∙ ap (λ (e : Seen). e ∷ []) here.agree
+      ∙ sym (reads-one new objects (new.text.end - y) y last)
+  same-reading (suc m) x y to size alike =
+      let here = alike.same x y (omega arith) (omega arith) (omega arith) in
+      let goes = alike.goes y (omega arith) (omega arith) in
+      let before = same-ends x y here ∙ goes in
+      let rest = same-reading m (suc x) (suc y) to (omega arith) (record {
+        same = λ p q a e b. alike.same p q (omega arith) (omega arith) b;
+        goes = λ q a b. alike.goes q (omega arith) b;
+        ends = alike.ends;
+      }) in
+      reading-more old made x (before-end read old made x here.old_within before) before
+      ∙ ap (λ (e : Seen). e ∷ reading old made (suc x)) here.agree
+      ∙ ap (λ (es : List Seen). seen_at new objects y ∷ es) rest
+      ∙ sym (reading-more new objects y (before-end read new objects y here.new_within goes) goes)
+
+  -- ---- a block outside a change
+
+  module _ (c : Change) (unchanged : Unchanged old made new objects c.head c.tail c.added) (from to : ℕ) (block : IsBlock new from to) where
+    inside-goes : (q : ℕ) → from ≤ q → suc q < to → ends_block new q ≡ false
+    inside-goes q low less =
+        let last = block.last in
+        let inside : nat_lt q new.text.end ≡ true = grind (arith, nat_tests) in
+        last-part (nat_lt q new.text.end) (ends_block new q) inside (block.inside q low less)
+
+    last-ends : (q : ℕ) → suc q ≡ to → ends_block new q ≡ true
+    last-ends q here = by-end block.ends where
+      by-end : EndsBlock new to → ends_block new q ≡ true
+      by-end (inl end) =
+          let place : q ≡ new.text.end = omega arith in
+          ap (ends_block new) place ∙ end-ends read new objects
+      by-end (inr newline) =
+          let place : to - 1 ≡ q = omega arith in
+          let shown : is_shown_newline new q ≡ true = ap (is_shown_newline new) (sym place) ∙ newline in
+          (and_parts (nat_lt q new.text.end) (ends_block new q) shown).1
+
+    length-of : suc from ≤ to → to ≡ from + suc (to - suc from)
+    length-of some = omega arith
+
+    -- before the change
+    pub reads-before : to ≤ c.head → reading old made from ≡ reading new objects from
+    reads-before below =
+        same-reading (to - suc from) from from to (length-of block.some) (record {
+          same = λ p q a e b.
+              let here : q ≡ p = omega arith in
+              let first = block.first in
+              let last = block.last in
+              subst (λ (r : ℕ). IsSame old made r new objects q) here (unchanged.before q (omega arith) (omega arith) (inr (omega arith)));
+          goes = inside-goes;
+          ends = last-ends;
+        })
+
+    -- behind the change
+    pub reads-behind : (x : ℕ) → c.tail ≤ from → pos from -ℤ pos x ≡ c.added → reading old made x ≡ reading new objects from
+    reads-behind x above moved =
+        same-reading (to - suc from) x from to (length-of block.some) (record {
+          same = λ p q a e b.
+              let first = block.first in
+              let last = block.last in
+              unchanged.behind p q (omega arith) (omega arith) (omega (arith, ints, moved, e)) (inr (omega arith));
+          goes = inside-goes;
+          ends = last-ends;
+        })
