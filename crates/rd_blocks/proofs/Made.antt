@@ -1,5 +1,5 @@
 -- The rows that are made of a block's line.
-use Rattle.std.proofs.Common.{◌≡◌, ◌+◌, ◌<◌, ◌^◌, ℕ, true, List, refl, ◌∙◌, arith}
+use Rattle.std.proofs.Common.{◌≡◌, ◌<◌, ◌^◌, ℕ, true, List, refl, ◌∙◌, arith}
 use Rattle.std.proofs.lemmas.Simd.{map-map}
 use Rattle.rd_base.specs.Elements.{AreSound, columns_at_most, ends_once}
 use Rattle.rd_base.specs.declared.cell.Glyph.{Glyph}
@@ -10,7 +10,7 @@ use Rattle.rd_rows.specs.declared.cutting.Cutting.{Cutting}
 use Rattle.rd_rows.specs.Copies.{shown_rows, made_rows}
 use Rattle.rd_rows.specs.Laws.{seen_rows}
 use Rattle.rd_rows.specs.Left.{MakerValues}
-use Rattle.rd_rows.specs.Lines.{IsFresh, Asks, rows_left, columns_held}
+use Rattle.rd_rows.specs.Lines.{IsFresh, Asks, rows_left}
 use Rattle.rd_rows.specs.Rows.{LaidRow, cutting_of}
 use Rattle.rd_rows.specs.Shapes.{ShapeValues}
 use Rattle.rd_stack.specs.Lines.{line_elements}

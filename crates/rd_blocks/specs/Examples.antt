@@ -43,6 +43,18 @@ two_lines reorder direction =
     let s = buffer (97 ∷ 10 ∷ 114 ∷ []) in
     record s { settings = record opening { reorder = reorder; direction = direction } }
 
+-- a text of which one position is invisible
+abbrev pub hidden_at : ℕ → List ℕ → BufferValue
+hidden_at at chars =
+    let s = buffer chars in
+    record s { properties = values_of ([] ∷ [] ∷ put_once at (at + 1) 1 ∷ []) }
+
+-- a text of which the positions from one to another are accessible
+abbrev pub narrowed_to : ℕ → ℕ → List ℕ → BufferValue
+narrowed_to begin end chars =
+    let s = buffer chars in
+    record s { text = record { text = chars; begin = begin; end = end } }
+
 abbrev pub no_objects : ObjectLists
 no_objects = nothing_made
 

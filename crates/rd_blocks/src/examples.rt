@@ -5,7 +5,7 @@ ghost use Rattle.rd_base.specs.Glyphs.{blanks};
 ghost use Rattle.rd_base.specs.declared.settings.Direction.TheVariants.{Auto, Left, Right};
 ghost use Rattle.rd_rows.specs.Examples.{text};
 ghost use Rattle.rd_rows.specs.Shapes.{ShapeValues};
-ghost use Rattle.rd_blocks.specs.Examples.{buffer, two_lines, with_prefixes, prefixed, with_marks, arrows, no_objects, marks, cut_by, going_on, bases_of, cells_of};
+ghost use Rattle.rd_blocks.specs.Examples.{buffer, two_lines, hidden_at, narrowed_to, with_prefixes, prefixed, with_marks, arrows, no_objects, marks, cut_by, going_on, bases_of, cells_of};
 
 /// Two blocks of which the second has a letter that is read from the right, and the same with other settings of the direction.
 fn blocks_with_their_bases()
@@ -14,6 +14,14 @@ fn blocks_with_their_bases()
     ensures off { bases_of (two_lines false Right) ≡ record { start = 1; end = 3; base = 0 } ∷ record { start = 3; end = 5; base = 0 } ∷ [] }
     ensures empty { bases_of (buffer []) ≡ record { start = 1; end = 2; base = 0 } ∷ [] }
     ensures last { bases_of (buffer (97 ∷ 10 ∷ [])) ≡ record { start = 1; end = 3; base = 0 } ∷ record { start = 3; end = 4; base = 0 } ∷ [] }
+{}
+
+/// Lines whose direction the text decides: 12 and r in one paragraph, a line without characters behind it, and an a in the next. A
+/// newline that is hidden ends no block, and of a text of which only a part is accessible there are the blocks of that part.
+fn blocks_of_paragraphs()
+    ensures levels { bases_of (buffer (49 ∷ 50 ∷ 10 ∷ 114 ∷ 10 ∷ 10 ∷ 97 ∷ [])) ≡ record { start = 1; end = 4; base = 1 } ∷ record { start = 4; end = 6; base = 1 } ∷ record { start = 6; end = 7; base = 1 } ∷ record { start = 7; end = 9; base = 0 } ∷ [] }
+    ensures hidden { bases_of (hidden_at 2 (114 ∷ 10 ∷ 97 ∷ 10 ∷ 97 ∷ [])) ≡ record { start = 1; end = 5; base = 1 } ∷ record { start = 5; end = 7; base = 1 } ∷ [] }
+    ensures narrowed { bases_of (narrowed_to 3 4 (114 ∷ 10 ∷ 97 ∷ 10 ∷ 97 ∷ [])) ≡ record { start = 3; end = 5; base = 0 } ∷ [] }
 {}
 
 /// A line that is read from the right edge: two letters, a blank and 12.
