@@ -13,3 +13,4 @@ mod Local
 mod SameReading
 mod EntryBlocks
 mod KeptRows
+mod Leading

@@ -3,3 +3,4 @@ pub mod Rows
 pub mod Sources
 pub mod Examples
 pub mod Kept
+pub mod Leads

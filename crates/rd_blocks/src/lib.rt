@@ -3,11 +3,13 @@
 
 mod base;
 mod blocks;
+mod changes;
 mod examples;
 mod laws;
 mod locality;
 mod rows;
 
 pub use blocks::Blocks;
+pub use changes::changes_lead_on;
 pub use laws::{accessible_positions_lie_in_blocks, buffers_are_sources};
 pub use locality::{kept_rows_are_fresh, rows_are_local};

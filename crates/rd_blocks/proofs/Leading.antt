@@ -1,0 +1,77 @@
+-- Changes of edits, and changes that are joined, lead from one state to a later one.
+use Rattle.std.proofs.Common.{◌≡◌, inl, inr, ℕ, ◌+◌, ◌≤◌, min, max, nat_le, Bool, true, false, ◌&&◌, ◌||◌, if◌then◌else◌, refl, ap, ◌∙◌, arith}
+use Rattle.std.specs.Prelude.{ℤ, pos, negsuc, ◌+ℤ◌, ◌-ℤ◌, ◌≤ℤ◌}
+use Rattle.std.proofs.lemmas.Int.{ints}
+use Rattle.rd_objects.specs.Sound.{IsClosed, Extends}
+use Rattle.rd_objects.specs.Things.{ObjectLists}
+use Rattle.rd_props.specs.Agreement.{Unchanged, IsEdited}
+use Rattle.rd_props.specs.Buffers.{BufferValue}
+use Rattle.rd_props.specs.Made.{AreMade}
+use Rattle.rd_items.specs.Growing.{without_flags}
+use Rattle.rd_reuse.specs.Changes.{all, change_of, edit, is_all, is_small, join, moved, none}
+use Rattle.rd_reuse.specs.declared.change.Change.{Change}
+use Rattle.rd_blocks.specs.Leads.{Leads, LeadsTo}
+
+-- what is known of changes
+pub record ChangeLaws : Type 0 where
+  pub itself : (o : ObjectLists) → Extends o o
+  pub further : (old middle new : ObjectLists) → Extends old middle → Extends middle new → Extends old new
+  pub joins : (old middle new : BufferValue) (a b c : ObjectLists) (head later_head tail later_tail joined : ℕ) (added later_added : ℤ) → Unchanged old a middle b head tail added → Unchanged middle b new c later_head later_tail later_added
+      → (pos middle.text.begin +ℤ later_added) ≤ℤ pos (max middle.text.begin later_tail) → (pos tail +ℤ later_added) ≤ℤ pos joined → later_tail ≤ joined → Unchanged old a new c (min head later_head) joined (added +ℤ later_added)
+  pub first_all : (c : Change) → join all c ≡ all
+  pub last_all : (c : Change) → join c all ≡ all
+
+-- where nothing changed
+pub leads-none : (old new : BufferValue) (made objects : ObjectLists) → IsClosed made → AreMade old made → without_flags new.settings ≡ without_flags old.settings → Extends made objects
+    → Unchanged old made new objects 4294967295 0 (pos 0) → LeadsTo old made new objects none
+leads-none old new made objects closed named settings extends same = inr (record {
+  follows = record { settings = settings; closed = closed; named = named; extends = extends; unchanged = same };
+  inside = omega (arith, ints);
+})
+
+pub leads-edited : ChangeLaws → (old new : BufferValue) (objects : ObjectLists) (from removed added : ℕ) → old.text.begin ≤ from → IsClosed objects → AreMade old objects → without_flags new.settings ≡ without_flags old.settings
+    → IsEdited old objects new objects from removed added → LeadsTo old objects new objects (edit from removed added)
+leads-edited laws old new objects from removed added low closed named settings edited = by (nat_le (from + added + 1) 4294967295 && is_small (pos added -ℤ pos removed)) where
+  by : (t : Bool) → LeadsTo old objects new objects (if t then record { head = from; tail = from + added + 1; added = pos added -ℤ pos removed } else all)
+  by true = inr (record {
+    follows = record { settings = settings; closed = closed; named = named; extends = laws.itself objects; unchanged = edited };
+    inside = omega (arith, ints);
+  })
+  by false = inl refl
+
+moved-least : (d : ℤ) (tail : ℕ) → (pos tail +ℤ d) ≤ℤ pos (moved d tail)
+moved-least (pos n) tail = omega (arith, ints)
+moved-least (negsuc n) tail = omega (arith, ints)
+
+both-inside : (begin next : ℕ) (tail later_tail moved_tail : ℕ) (d e : ℤ) → next ≡ begin → (pos begin +ℤ d) ≤ℤ pos (max begin tail) → (pos next +ℤ e) ≤ℤ pos (max next later_tail) → (pos tail +ℤ e) ≤ℤ pos moved_tail
+    → (pos begin +ℤ (d +ℤ e)) ≤ℤ pos (max begin (max moved_tail later_tail))
+both-inside begin next tail later_tail moved_tail d e same first last least = omega (arith, ints)
+
+module _ (laws : ChangeLaws) (first second third : BufferValue) (a b c : ObjectLists) (change later : Change) where
+  both-lead : Leads first a second b change → Leads second b third c later → LeadsTo first a third c (join change later)
+  both-lead one two = by-all (is_all change || is_all later) where
+    by-range : (t : Bool) → LeadsTo first a third c (if t then record { head = min change.head later.head; tail = max (moved later.added change.tail) later.tail; added = change.added +ℤ later.added } else all)
+    by-range false = inl refl
+    by-range true =
+        let least = moved-least later.added change.tail in
+        let last = two.inside in
+        inr (record {
+          follows = record {
+            settings = two.follows.settings ∙ one.follows.settings;
+            closed = one.follows.closed;
+            named = one.follows.named;
+            extends = laws.further a b c one.follows.extends two.follows.extends;
+            unchanged = laws.joins first second third a b c change.head later.head change.tail later.tail (max (moved later.added change.tail) later.tail) change.added later.added one.follows.unchanged two.follows.unchanged last
+                (omega (arith, ints, least)) (omega arith);
+          };
+          inside = both-inside first.text.begin second.text.begin change.tail later.tail (moved later.added change.tail) change.added later.added one.follows.unchanged.begin one.inside last least;
+        })
+
+    by-all : (t : Bool) → LeadsTo first a third c (if t then all else change_of (min change.head later.head) (max (moved later.added change.tail) later.tail) (change.added +ℤ later.added))
+    by-all true = inl refl
+    by-all false = by-range (nat_le (max (moved later.added change.tail) later.tail) 4294967295 && is_small (change.added +ℤ later.added))
+
+  pub leads-joined : LeadsTo first a second b change → LeadsTo second b third c later → LeadsTo first a third c (join change later)
+  leads-joined (inl any) two = inl (ap (λ (x : Change). join x later) any ∙ laws.first_all later)
+  leads-joined (inr one) (inl any) = inl (ap (λ (x : Change). join change x) any ∙ laws.last_all change)
+  leads-joined (inr one) (inr two) = both-lead one two
