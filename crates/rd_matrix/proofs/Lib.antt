@@ -1,2 +1,3 @@
 mod Below
 mod HeldLemmas
+pub mod Counting

@@ -3,4 +3,5 @@ pub mod Columns
 pub mod Cursors
 pub mod Entries
 pub mod Held
+pub mod Rows
 pub mod Sources

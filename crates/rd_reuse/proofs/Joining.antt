@@ -1,14 +1,14 @@
 -- Changes that are joined with none and with all.
-use Rattle.std.proofs.Common.{◌≡◌, ℕ, ◌+◌, ◌^◌, ◌<◌, ◌≤◌, min, max, nat_le, inl, inr, Bool, true, false, ◌&&◌, ◌||◌, ◌==◌, if◌then◌else◌, List, ℤ, pos, ◌+ℤ◌, refl, sym, ap, ◌∙◌, arith}
+use Rattle.std.proofs.Common.{◌≡◌, ℕ, zero, suc, ◌+◌, ◌-◌, ◌^◌, ◌<◌, ◌≤◌, min, max, nat_le, inl, inr, Bool, true, false, cond, ltb, ◌&&◌, ◌||◌, ◌==◌, if◌then◌else◌, List, ℤ, pos, negsuc, ◌+ℤ◌, ◌-ℤ◌, refl, sym, ap, ◌∙◌, arith}
 use Rattle.std.proofs.Math.IntN.{+ℤ_idl, +ℤ_idr}
-use Rattle.std.proofs.lemmas.Bool.{and_from, and_left, and_parts, cases_Bool, eqb-true, le-leb, lt-leb, true≢false}
+use Rattle.std.proofs.lemmas.Bool.{and_from, and_left, and_parts, cases_Bool, eqb-true, le-leb, leb-true, lt-leb, true≢false}
 use Rattle.std.specs.Cmp.{signed_Decides}
 use Rattle.std.specs.Ordering.{int_eq}
 use Rattle.rd_matrix.specs.Blocks.{IsAmong, first_start}
 use Rattle.rd_matrix.specs.Sources.{SourceValues, IsSource}
 use Rattle.rd_matrix.specs.declared.block.Block.{Block}
 use Rattle.rd_matrix.specs.declared.matrix.Entry.{Entry}
-use Rattle.rd_reuse.specs.Changes.{IsChange, all, change_of, is_all, is_small, join, moved, none}
+use Rattle.rd_reuse.specs.Changes.{IsChange, all, change_of, edit, is_all, is_small, join, moved, none}
 use Rattle.rd_reuse.specs.Keeping.{AreRight, are_whole, is_kept, is_outside, taken}
 use Rattle.rd_reuse.specs.declared.change.Change.{Change}
 use Rattle.rd_reuse.proofs.Places.{later-start}
@@ -67,6 +67,35 @@ none-first c is low =
           ap (joined (min 4294967295 c.head) (max (moved c.added 0) c.tail) (pos 0 +ℤ c.added)) part
           ∙ made c (min 4294967295 c.head) (max (moved c.added 0) c.tail) (pos 0 +ℤ c.added) is head tail (+ℤ_idl c.added)
     ]
+
+-- an edit adds no more than what stands before its tail
+
+either-low : (t : Bool) (up down a : ℕ) → down ≤ a → moved (cond t (negsuc up) (pos down)) 0 ≤ a
+either-low true up down a low = omega arith
+either-low false up down a low = omega (arith, low)
+
+moved-minus : (a r : ℕ) → moved (pos a -ℤ pos r) 0 ≤ a
+moved-minus a zero = omega arith
+moved-minus a (suc r) = either-low (ltb a (suc r)) (suc r - suc a) (a - suc r) a (omega arith)
+
+low-by : (b : Bool) (head tail : ℕ) (added : ℤ) → moved added 0 ≤ tail
+    → moved (if b then record { head = head; tail = tail; added = added } else all).added 0 ≤ (if b then record { head = head; tail = tail; added = added } else all).tail
+low-by true head tail added low = low
+low-by false head tail added low = omega arith
+
+pub edit-low : (from removed added : ℕ) → moved (edit from removed added).added 0 ≤ (edit from removed added).tail
+edit-low from removed added =
+    let low = moved-minus added removed in
+    low-by (nat_le (from + added + 1) 4294967295 && is_small (pos added -ℤ pos removed)) from (from + added + 1) (pos added -ℤ pos removed) (omega (arith, low))
+
+change-by : (b : Bool) (head tail : ℕ) (added : ℤ) → (nat_le tail 4294967295 && is_small added) ≡ b → head ≤ 4294967295 → IsChange (if b then record { head = head; tail = tail; added = added } else all)
+change-by true head tail added e low =
+    let both = and_parts (nat_le tail 4294967295) (is_small added) e in
+    record { head = low; tail = leb-true tail 4294967295 both.0; added = both.1 }
+change-by false head tail added e low = record { head = omega arith; tail = omega arith; added = refl }
+
+pub edit-is : (from removed added : ℕ) → from ≤ 4294967295 → IsChange (edit from removed added)
+edit-is from removed added low = change-by (nat_le (from + added + 1) 4294967295 && is_small (pos added -ℤ pos removed)) from (from + added + 1) (pos added -ℤ pos removed) refl low
 
 pub none-kept : (old : List Entry) (b : Block) → b.start < b.end → b.end < 2 ^ 32 → is_kept old all b ≡ false
 none-kept old b some small =

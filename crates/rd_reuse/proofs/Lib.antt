@@ -1,6 +1,6 @@
 mod Joining
-mod Lists
-mod Places
+pub mod Lists
+pub mod Places
 mod Placing
 mod Taking
 mod Walking

@@ -1,10 +1,10 @@
 -- Blocks and their rows, by place.
 use Rattle.std.proofs.Common.{◌≡◌, ℕ, zero, suc, ◌+◌, ◌-◌, ◌<◌, ◌≤◌, inl, inr, List, [], ◌∷◌, ◌++◌, length, option_map, Option, None, Some, refl, sym, ap, ◌∙◌, subst, arith}
 use Rattle.std.proofs.lemmas.Bool.{cases_lt}
-use Rattle.std.proofs.lemmas.Grind.{flat_map-append}
 use Rattle.std.proofs.lemmas.List.{length-append}
 use Rattle.std.specs.List.{slice_get}
 use Rattle.rd_base.specs.declared.settings.Anchor.{Anchor}
+use Rattle.rd_matrix.proofs.Counting.{all-append, count-cons, length-numbered}
 use Rattle.rd_matrix.specs.Blocks.{IsWithin, StandFrom, end_from, first_start}
 use Rattle.rd_matrix.specs.Entries.{EntryMeaning, all_rows, entries_of, numbered}
 use Rattle.rd_matrix.specs.Sources.{SourceValues, IsSource, rows_at}
@@ -14,23 +14,13 @@ use Rattle.rd_reuse.proofs.Lists.{at-left, at-right, at-seam}
 use Rattle.rd_rows.specs.Rows.{RowMeaning}
 use Rattle.rd_rows.specs.Shapes.{ShapeValues}
 
-pub length-numbered : (start number : ℕ) (rows : List RowMeaning) → length (numbered start number rows) ≡ length rows
-length-numbered start number [] = refl
-length-numbered start number (r ∷ rows) = ap suc (length-numbered start (number + 1) rows)
-
-pub count-cons : (rows : Block → List RowMeaning) (b : Block) (bs : List Block) → length (all_rows rows (b ∷ bs)) ≡ length (rows b) + length (all_rows rows bs)
-count-cons rows b bs = length-append (entries_of rows b) (all_rows rows bs) ∙ ap (λ n. n + length (all_rows rows bs)) (length-numbered b.start 0 (rows b))
-
-pub all-append : (rows : Block → List RowMeaning) (xs ys : List Block) → all_rows rows (xs ++ ys) ≡ all_rows rows xs ++ all_rows rows ys
-all-append rows xs ys = flat_map-append (entries_of rows) xs ys
-
 pub count-last : (rows : Block → List RowMeaning) (xs : List Block) (b : Block) → length (all_rows rows (xs ++ b ∷ [])) ≡ length (all_rows rows xs) + length (rows b)
 count-last rows xs b =
     let whole = ap length (all-append rows xs (b ∷ [])) ∙ length-append (all_rows rows xs) (all_rows rows (b ∷ [])) in
     let last = count-cons rows b [] in
     omega (arith, whole, last)
 
-numbered-at : (start number k : ℕ) (rows : List RowMeaning) (e : EntryMeaning) → slice_get (numbered start number rows) k ≡ Some e
+pub numbered-at : (start number k : ℕ) (rows : List RowMeaning) (e : EntryMeaning) → slice_get (numbered start number rows) k ≡ Some e
     → (k < length rows) × (e.start ≡ start) × (e.number ≡ number + k)
 numbered-at start number k [] e h = absurd cc
 numbered-at start number zero (r ∷ rows) e h =
@@ -54,7 +44,7 @@ pub record Found (rows : Block → List RowMeaning) (bs : List Block) (start row
   pub inside : row < length (rows block)
   pub place : length (all_rows rows before) + row ≡ k
 
-entry-found : (rows : Block → List RowMeaning) (bs : List Block) (k : ℕ) (e : EntryMeaning) → slice_get (all_rows rows bs) k ≡ Some e → Found rows bs e.start e.number k
+pub entry-found : (rows : Block → List RowMeaning) (bs : List Block) (k : ℕ) (e : EntryMeaning) → slice_get (all_rows rows bs) k ≡ Some e → Found rows bs e.start e.number k
 entry-found rows [] k e h = absurd cc
 entry-found rows (b ∷ bs) k e h =
     let size = length-numbered b.start 0 (rows b) in
@@ -115,11 +105,11 @@ holding from place (x ∷ before) after b d zero stand starts at low high =
     absurd (omega (arith, ends, later, starts, high))
 holding from place (x ∷ before) after b d (suc j) stand starts at low high = holding x.end place before after b d j stand.2 starts at low high
 
-stand-le : (from : ℕ) (bs : List Block) → StandFrom from bs → from ≤ end_from from bs
+pub stand-le : (from : ℕ) (bs : List Block) → StandFrom from bs → from ≤ end_from from bs
 stand-le from [] h = omega arith
 stand-le from (b ∷ bs) h = let start = h.0 in let some = h.1 in let rest = stand-le b.end bs h.2 in omega (arith, start, some, rest)
 
-below-end : (from last k : ℕ) (bs : List Block) (b : Block) → StandFrom from bs → slice_get bs k ≡ Some b → b.end ≤ end_from last bs
+pub below-end : (from last k : ℕ) (bs : List Block) (b : Block) → StandFrom from bs → slice_get bs k ≡ Some b → b.end ≤ end_from last bs
 below-end from last k [] b h i = absurd cc
 below-end from last zero (a ∷ bs) b h i = let same : a ≡ b = cc in subst (λ (x : Block). x.end ≤ end_from a.end bs) same (stand-le a.end bs h.2)
 below-end from last (suc k) (a ∷ bs) b h i = below-end a.end a.end k bs b h.2 i

@@ -1,21 +1,24 @@
 -- The walk from the anchor's block down, in which rows are laid out until there are enough.
-use Rattle.std.proofs.Common.{◌≡◌, ℕ, zero, suc, ◌+◌, ◌-◌, ◌<◌, ◌≤◌, Bool, true, false, min, max, if◌then◌else◌, List, [], ◌∷◌, ◌++◌, length, take, drop, slice_get, All, option_map, Option, None, Some, refl, sym, ap, ◌∙◌, subst, arith}
-use Rattle.std.proofs.lemmas.Bool.{lt-ltb}
+use Rattle.std.proofs.Common.{◌≡◌, ℕ, zero, suc, ◌+◌, ◌-◌, ◌<◌, ◌≤◌, Bool, true, false, if◌then◌else◌, List, [], ◌∷◌, ◌++◌, length, take, drop, slice_get, All, option_map, Option, None, Some, refl, sym, ap, ◌∙◌, subst, arith}
+use Rattle.std.proofs.lemmas.Bool.Decides.{nat_tests}
 use Rattle.std.proofs.lemmas.List.{append-nil, append_assoc, drop-map, length-append, length-drop, length-map, length-take, map-append, take-map}
 use Rattle.std.proofs.lemmas.List.Elements.{All-append, All-drop, All-nil, All-take}
 use Rattle.std.proofs.lemmas.Option.{slice_get-map}
+use Rattle.std.specs.List.{list_any, range_with_len}
 use Rattle.rd_base.specs.declared.settings.Anchor.{Anchor}
+use Rattle.rd_matrix.proofs.Counting.{all-append, any-range, costs-behind, costs-here, length-numbered}
 use Rattle.rd_matrix.specs.Blocks.{HoldsPosition, IsAmong, StandFrom, first_start}
 use Rattle.rd_matrix.specs.Entries.{EntryMeaning, all_rows, entries_of, numbered, shown_entries, shown_entry}
+use Rattle.rd_matrix.specs.Rows.{blocks_with}
 use Rattle.rd_matrix.specs.Sources.{SourceValues, IsSource, costs_of, rows_at}
 use Rattle.rd_matrix.specs.declared.block.Block.{Block}
 use Rattle.rd_matrix.specs.declared.matrix.Entry.{Entry}
 use Rattle.rd_reuse.specs.Keeping.{copied_rows, entry_under, fresh_cost, is_kept, taken, taken_from, up_to_end}
 use Rattle.rd_reuse.specs.Laying.{placed}
-use Rattle.rd_reuse.specs.Views.{IsCopied, Names, blocks_in_view, fresh_costs, is_in_view}
+use Rattle.rd_reuse.specs.Views.{IsCopied, Names, fresh_costs, is_in_view}
 use Rattle.rd_reuse.specs.declared.change.Change.{Change}
 use Rattle.rd_reuse.proofs.Lists.{at-seam, behind-seam, drop-behind, filled-more, filled-size}
-use Rattle.rd_reuse.proofs.Places.{all-append, anchor-found, count-cons, count-last, holding, later-start, length-numbered}
+use Rattle.rd_reuse.proofs.Places.{anchor-found, count-last, holding, later-start}
 use Rattle.rd_reuse.proofs.Placing.{all-placed, none-left, shown-placed}
 use Rattle.rd_rows.specs.Copies.{RowValues, copied, shown_rows}
 use Rattle.rd_rows.specs.Laws.{ends_last}
@@ -33,38 +36,13 @@ pub record Walk (m : SourceValues) (old : List Entry) (c : Change) (shape : Shap
   pub room : length (shown_entries rows) ≤ most
   pub done : shown_entries rows ++ take (most - length (shown_entries rows)) (drop first (all_rows (λ b. m.rows_of b shape) (block ∷ after))) ≡ take most (drop place (rows_at m shape))
   pub copies : All (IsCopied old c m.blocks) rows
-  pub paid : steps + costs_of (fresh_cost m old c shape) (blocks_in_view (λ b. m.rows_of b shape) place (place + most) (length (all_rows (λ b. m.rows_of b shape) before)) (block ∷ after))
+  pub paid : steps + costs_of (fresh_cost m old c shape) (blocks_with (is_in_view place (place + most)) (λ b. m.rows_of b shape) (length (all_rows (λ b. m.rows_of b shape) before)) (block ∷ after))
       ≤ base + fresh_costs m old c shape place (place + most)
 
--- costs of the blocks of a list that are in view
-
-costs-in : (rows : Block → List RowMeaning) (cost : Block → ℕ) (from to first : ℕ) (b : Block) (bs : List Block) → is_in_view from to first (length (rows b)) ≡ true
-    → costs_of cost (blocks_in_view rows from to first (b ∷ bs)) ≡ cost b + costs_of cost (blocks_in_view rows from to (first + length (rows b)) bs)
-costs-in rows cost from to first b bs e =
-    ap (λ (t : Bool). costs_of cost (if t then b ∷ blocks_in_view rows from to (first + length (rows b)) bs else blocks_in_view rows from to (first + length (rows b)) bs)) e
-
-costs-if : (cost : Block → ℕ) (b : Block) (bs : List Block) (t : Bool) → costs_of cost bs ≤ costs_of cost (if t then b ∷ bs else bs)
-costs-if cost b bs true = omega arith
-costs-if cost b bs false = omega arith
-
-costs-behind : (rows : Block → List RowMeaning) (cost : Block → ℕ) (from to first : ℕ) (before bs : List Block)
-    → costs_of cost (blocks_in_view rows from to (first + length (all_rows rows before)) bs) ≤ costs_of cost (blocks_in_view rows from to first (before ++ bs))
-costs-behind rows cost from to first [] bs =
-    let same : first + 0 ≡ first = omega arith in
-    let e = ap (λ n. costs_of cost (blocks_in_view rows from to n bs)) same in
-    omega (arith, e)
-costs-behind rows cost from to first (x ∷ before) bs =
-    let rest = costs-behind rows cost from to (first + length (rows x)) before bs in
-    let count = count-cons rows x before in
-    let place : first + length (all_rows rows (x ∷ before)) ≡ (first + length (rows x)) + length (all_rows rows before) = omega (arith, count) in
-    let e = ap (λ n. costs_of cost (blocks_in_view rows from to n bs)) place in
-    let here = costs-if cost x (blocks_in_view rows from to (first + length (rows x)) (before ++ bs)) (is_in_view from to first (length (rows x))) in
-    omega (arith, rest, e, here)
-
-in-view : (place most begins first count there : ℕ) → begins + first ≡ place + there → there < most → first < count → is_in_view place (place + most) begins count ≡ true
+in-view : (place most begins first count there : ℕ) → begins + first ≡ place + there → there < most → first < count → list_any (is_in_view place (place + most)) (range_with_len begins count) ≡ true
 in-view place most begins first count there at low inside =
-    let both : max begins place < min (begins + count) (place + most) = omega (arith, at, low, inside) in
-    lt-ltb (max begins place) (min (begins + count) (place + most)) both
+    let here : is_in_view place (place + most) (begins + first) ≡ true = grind (arith, nat_tests) in
+    any-range (is_in_view place (place + most)) begins count (begins + first) (omega arith) (omega (arith, inside)) here
 
 -- the walk begins
 
@@ -80,10 +58,10 @@ begins m old c shape anchor place most base block source holds is =
     let count = found.place in
     let pieces : m.blocks ≡ found.before ++ block ∷ found.after = found.pieces ∙ ap (λ b. found.before ++ b ∷ found.after) (sym same) in
     let all = ap (all_rows rows) pieces ∙ all-append rows found.before (block ∷ found.after) in
-    let behind = costs-behind rows (fresh_cost m old c shape) place (place + most) 0 found.before (block ∷ found.after) in
+    let behind = costs-behind (is_in_view place (place + most)) rows (fresh_cost m old c shape) 0 found.before (block ∷ found.after) in
     let place-in : 0 + length (all_rows rows found.before) ≡ length (all_rows rows found.before) = omega arith in
-    let e = ap (λ n. costs_of (fresh_cost m old c shape) (blocks_in_view rows place (place + most) n (block ∷ found.after))) place-in in
-    let whole = ap (λ bs. costs_of (fresh_cost m old c shape) (blocks_in_view rows place (place + most) 0 bs)) pieces in
+    let e = ap (λ n. costs_of (fresh_cost m old c shape) (blocks_with (is_in_view place (place + most)) rows n (block ∷ found.after))) place-in in
+    let whole = ap (λ bs. costs_of (fresh_cost m old c shape) (blocks_with (is_in_view place (place + most)) rows 0 bs)) pieces in
     let left : most - 0 ≡ most = omega arith in
     record {
       before = found.before;
@@ -179,12 +157,12 @@ module _ {m : SourceValues} {old : List Entry} {c : Change} {shape : ShapeValues
   -- what its rows cost
   pub costs : length (shown_entries rows) < most
       → steps + fresh_cost m old c shape block
-      + costs_of (fresh_cost m old c shape) (blocks_in_view (λ b. m.rows_of b shape) place (place + most) (length (all_rows (λ b. m.rows_of b shape) w.before) + length (m.rows_of block shape)) w.after)
+      + costs_of (fresh_cost m old c shape) (blocks_with (is_in_view place (place + most)) (λ b. m.rows_of b shape) (length (all_rows (λ b. m.rows_of b shape) w.before) + length (m.rows_of block shape)) w.after)
       ≤ base + fresh_costs m old c shape place (place + most)
   costs low =
       let paid = w.paid in
       let view = in-view place most (length (all_rows (λ b. m.rows_of b shape) w.before)) first (length (m.rows_of block shape)) (length (shown_entries rows)) (w.at low) low w.inside in
-      let here = costs-in (λ b. m.rows_of b shape) (fresh_cost m old c shape) place (place + most) (length (all_rows (λ b. m.rows_of b shape) w.before)) block w.after view in
+      let here = costs-here (is_in_view place (place + most)) (λ b. m.rows_of b shape) (fresh_cost m old c shape) (length (all_rows (λ b. m.rows_of b shape) w.before)) block w.after view in
       omega (arith, paid, here)
 
   abbrev grown : List RowValues → List Entry
@@ -269,8 +247,8 @@ module _ {m : SourceValues} {old : List Entry} {c : Change} {shape : ShapeValues
       let up = size.0 in
       let last = count-last R w.before block in
       let paid = costs low' in
-      let cost-at = ap (λ n. costs_of (fresh_cost m old c shape) (blocks_in_view R place (place + most) n w.after)) last in
-      let cost-of = ap (λ bs. costs_of (fresh_cost m old c shape) (blocks_in_view R place (place + most) (length (all_rows R (w.before ++ block ∷ []))) bs)) first-is.is in
+      let cost-at = ap (λ n. costs_of (fresh_cost m old c shape) (blocks_with (is_in_view place (place + most)) R n w.after)) last in
+      let cost-of = ap (λ bs. costs_of (fresh_cost m old c shape) (blocks_with (is_in_view place (place + most)) R (length (all_rows R (w.before ++ block ∷ []))) bs)) first-is.is in
       record {
         before = w.before ++ block ∷ [];
         after = first-is.rest;

@@ -1,15 +1,15 @@
 -- The rows in view from an anchor on, what they cost, and how often they were copied.
-use Rattle.std.specs.Prelude.{◌≡◌, ℕ, ◌+◌, min, max, nat_lt, Bool, true, if◌then◌else◌, List, [], ◌∷◌, length, Some, option_map, slice_get}
+use Rattle.std.specs.Prelude.{◌≡◌, ℕ, ◌&&◌, nat_le, nat_lt, Bool, true, List, Some, option_map, slice_get}
 use Rattle.rd_base.specs.declared.settings.Anchor.{Anchor}
 use Rattle.rd_matrix.specs.Blocks.{IsAmong}
 use Rattle.rd_matrix.specs.Entries.{EntryMeaning}
+use Rattle.rd_matrix.specs.Rows.{blocks_with}
 use Rattle.rd_matrix.specs.Sources.{SourceValues, costs_of}
 use Rattle.rd_matrix.specs.declared.block.Block.{Block}
 use Rattle.rd_matrix.specs.declared.matrix.Entry.{Entry}
 use Rattle.rd_reuse.specs.Keeping.{entry_under, fresh_cost, is_kept}
 use Rattle.rd_reuse.specs.declared.change.Change.{Change}
 use Rattle.rd_rows.specs.Copies.{copied}
-use Rattle.rd_rows.specs.Rows.{RowMeaning}
 use Rattle.rd_rows.specs.Shapes.{ShapeValues}
 
 -- the block and the number of a row
@@ -20,20 +20,13 @@ anchor_of e = record { pos = e.start; row = e.number }
 abbrev pub Names : Anchor → List EntryMeaning → ℕ → Type 0
 Names anchor rows place = option_map anchor_of (slice_get rows place) ≡ Some anchor
 
--- whether one of so many rows from a place on stands in view, which has the rows from one place up to another
-abbrev pub is_in_view : ℕ → ℕ → ℕ → ℕ → Bool
-is_in_view from to first count = nat_lt (max first from) (min (first + count) to)
-
--- the blocks that have a row in view, where the first of their rows stands at a place
-abbrev pub blocks_in_view : (Block → List RowMeaning) → ℕ → ℕ → ℕ → List Block → List Block
-blocks_in_view rows from to first [] = []
-blocks_in_view rows from to first (b ∷ bs) =
-    let rest = blocks_in_view rows from to (first + length (rows b)) bs in
-    if is_in_view from to first (length (rows b)) then b ∷ rest else rest
+-- whether the row at a place stands in view, which has the rows from one place up to another
+abbrev pub is_in_view : ℕ → ℕ → ℕ → Bool
+is_in_view from to place = nat_le from place && nat_lt place to
 
 -- what the blocks cost together that have a row in view and do not keep their older rows
 abbrev pub fresh_costs : SourceValues → List Entry → Change → ShapeValues → ℕ → ℕ → ℕ
-fresh_costs m old c shape from to = costs_of (fresh_cost m old c shape) (blocks_in_view (λ b. m.rows_of b shape) from to 0 m.blocks)
+fresh_costs m old c shape from to = costs_of (fresh_cost m old c shape) (blocks_with (is_in_view from to) (λ b. m.rows_of b shape) 0 m.blocks)
 
 -- a row of a block that keeps its rows was copied once more than the older row from which it comes
 abbrev pub IsCopied : List Entry → Change → List Block → Entry → Type 0

@@ -5,7 +5,7 @@ ghost use Rattle.rd_matrix.specs.Blocks.{IsAmong, IsWithin};
 ghost use Rattle.rd_matrix.specs.Sources.{SourceValues, IsSource, rows_at};
 ghost use Rattle.rd_matrix.specs.declared.block.Block.{Block};
 ghost use Rattle.rd_matrix.specs.declared.matrix.Entry.{Entry};
-ghost use Rattle.rd_reuse.specs.Changes.{IsChange, all, join, moved, none};
+ghost use Rattle.rd_reuse.specs.Changes.{IsChange, all, edit, join, moved, none};
 ghost use Rattle.rd_reuse.specs.Keeping.{AreRight, fresh_cost, is_kept, kept_source};
 ghost use Rattle.rd_reuse.specs.Views.{Names};
 ghost use Rattle.rd_reuse.specs.declared.change.Change.{Change};
@@ -17,10 +17,16 @@ pub fn joined_with_all()
     ensures last { (c : Change) → join c all ≡ all }
 {}
 
-/// Joined with none a change stays as it is: before it, where no more was added than what stands before the tail.
+/// Joined with none a change stays as it is: before it, where no more was added than what stands before the tail, as in each edit.
 pub fn joined_with_none()
     ensures first { (c : Change) → IsChange c → moved c.added 0 ≤ c.tail → join none c ≡ c }
     ensures last { (c : Change) → IsChange c → join c none ≡ c }
+{}
+
+/// The change of an edit adds no more than what stands before its tail, so joined with none before it, it stays as it is.
+pub fn edits_add_less_than_stands_before()
+    ensures change { (from removed added : ℕ) → from < 2 ^ 32 → IsChange (edit from removed added) }
+    ensures low { (from removed added : ℕ) → moved (edit from removed added).added 0 ≤ (edit from removed added).tail }
 {}
 
 /// Where anything may have changed no block keeps its older rows, whatever these are.

@@ -7,6 +7,7 @@ use Rattle.std.proofs.lemmas.List.{length-append}
 use Rattle.std.proofs.lemmas.List.Folds.{list_any-append, list_any_none}
 use Rattle.std.specs.List.{list_any}
 use Rattle.rd_base.specs.declared.settings.Anchor.{Anchor}
+use Rattle.rd_matrix.proofs.Counting.{all-append, count-cons, length-numbered}
 use Rattle.rd_matrix.specs.Blocks.{IsAmong, StandFrom, end_from}
 use Rattle.rd_matrix.specs.Columns.{covers}
 use Rattle.rd_matrix.specs.Entries.{all_rows, entries_of, numbered}
@@ -17,16 +18,6 @@ use Rattle.rd_rows.specs.declared.begin.Begin.{Begin}
 use Rattle.rd_start.specs.Chosen.{anchor_row, begins_item, row_in_block}
 use Rattle.rd_start.proofs.Lists.{one-passes}
 use Rattle.rd_start.proofs.Tests.{range-parts}
-
-pub length-numbered : (start number : ℕ) (rows : List RowMeaning) → length (numbered start number rows) ≡ length rows
-length-numbered start number [] = refl
-length-numbered start number (r ∷ rows) = ap suc (length-numbered start (number + 1) rows)
-
-pub count-cons : (rows : Block → List RowMeaning) (b : Block) (bs : List Block) → length (all_rows rows (b ∷ bs)) ≡ length (rows b) + length (all_rows rows bs)
-count-cons rows b bs = length-append (entries_of rows b) (all_rows rows bs) ∙ ap (λ n. n + length (all_rows rows bs)) (length-numbered b.start 0 (rows b))
-
-pub all-append : (rows : Block → List RowMeaning) (xs ys : List Block) → all_rows rows (xs ++ ys) ≡ all_rows rows xs ++ all_rows rows ys
-all-append rows xs ys = flat_map-append (entries_of rows) xs ys
 
 pub count-append : (rows : Block → List RowMeaning) (xs ys : List Block) → length (all_rows rows (xs ++ ys)) ≡ length (all_rows rows xs) + length (all_rows rows ys)
 count-append rows xs ys = ap length (all-append rows xs ys) ∙ length-append (all_rows rows xs) (all_rows rows ys)

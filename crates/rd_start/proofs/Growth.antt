@@ -3,6 +3,7 @@ use Rattle.std.proofs.Common.{◌≡◌, ℕ, ◌+◌, ◌-◌, ◌^◌, ◌<◌
 use Rattle.std.proofs.lemmas.List.{append-nil, append_assoc, length-append, length-map, map-append}
 use Rattle.std.proofs.lemmas.Option.{slice_get-get_or}
 use Rattle.std.specs.List.{slice_get}
+use Rattle.rd_matrix.proofs.Counting.{all-append, any-range, count-cons, length-numbered}
 use Rattle.rd_matrix.specs.Blocks.{IsAmong, block_before}
 use Rattle.rd_matrix.specs.Entries.{all_rows, entries_of}
 use Rattle.rd_matrix.specs.Sources.{SourceValues}
@@ -10,9 +11,9 @@ use Rattle.rd_matrix.specs.declared.block.Block.{Block}
 use Rattle.rd_start.specs.Strips.{HaveRows, IsPaidOf, IsStripOf, all_costs, cost_in, count_in, home_row, line_of, rows_in}
 use Rattle.rd_start.specs.declared.strip.Line.{Line}
 use Rattle.rd_start.specs.declared.strip.Sweep.{Sweep}
-use Rattle.rd_start.proofs.Blocks.{all-append, count-append, count-cons, length-numbered, some-row}
+use Rattle.rd_start.proofs.Blocks.{count-append, some-row}
 use Rattle.rd_start.proofs.Costs.{costs-more, costs-piece, have-more}
-use Rattle.rd_start.proofs.Lists.{Ends, any-range, each-append, ends, slice_get-behind, slice_get-front}
+use Rattle.rd_start.proofs.Lists.{Ends, each-append, ends, slice_get-behind, slice_get-front}
 
 -- the place of a strip's last block, and the block behind it
 pub record LastPlace (bs after : List Block) (last : Block) : Type 0 where

@@ -50,15 +50,6 @@ pub neither : (a b : Bool) → (a || b) ≡ false → (a ≡ false) × (b ≡ fa
 neither true b e = absurd cc
 neither false b e = (refl, e)
 
--- a test that passes at a number passes in each list of numbers that has it
-pub any-range : (p : ℕ → Bool) (from n k : ℕ) → from ≤ k → k < from + n → p k ≡ true → list_any p (range_with_len from n) ≡ true
-any-range p from zero k low high e = absurd (omega arith)
-any-range p from (suc n) k low high e =
-    elim (cases_eq from k) [
-      | inl here ↦ ap (λ b. b || list_any p (range_with_len (from + 1) n)) (ap p here ∙ e)
-      | inr other ↦ ap (λ b. p from || b) (any-range p (from + 1) n k (omega arith) (omega arith) e) ∙ or-true (p from)
-    ]
-
 -- the first element that passes, behind elements that don't, and among elements of which one does
 pub first-behind : {X : Type 0} (p : X → Bool) (xs ys : List X) → list_any p xs ≡ false → position_or_len p (xs ++ ys) ≡ length xs + position_or_len p ys
 first-behind p [] ys none = sym (zero-add (position_or_len p ys))

@@ -6,10 +6,11 @@ use Rattle.std.specs.Prelude.{IfOk, MatchResult, is_some}
 use Rattle.rd_base.specs.declared.memory.Memory.{Memory}
 use Rattle.rd_base.specs.declared.settings.Anchor.{Anchor}
 use Rattle.rd_matrix.specs.Entries.{EntryMeaning, all_rows}
-use Rattle.rd_matrix.specs.Sources.{SourceValues, rows_at}
+use Rattle.rd_matrix.specs.Rows.{blocks_with}
+use Rattle.rd_matrix.specs.Sources.{SourceValues, costs_of, rows_at}
 use Rattle.rd_rows.specs.Shapes.{ShapeValues}
 use Rattle.rd_start.specs.Chosen.{anchor_at, chosen_of, forced_point, places_of, row_of}
-use Rattle.rd_start.specs.Near.{costs_with, is_near, near_costs}
+use Rattle.rd_start.specs.Near.{is_near, near_costs}
 use Rattle.rd_start.specs.Starts.{around, centred, following, moved, scrolled, suits}
 use Rattle.rd_start.specs.Strips.{HasPoint, IsFor, IsPaid, IsStrip, BeginsAbove, Between, all_costs, centred_chosen, count_in, first_row, home_row, moved_row, point_row, rows_in}
 use Rattle.rd_start.specs.declared.strip.Strip.{Strip}
@@ -182,7 +183,7 @@ pub points-same : (m : SourceValues) (a b : Sweep) → b.point ≡ a.point → b
 points-same m a b e f = ap (λ p. row_of p (rows_at m b.shape)) e ∙ ap (λ (x : ShapeValues). row_of a.point (rows_at m x)) f
 
 pub costs-same : (kind : ℕ → Bool) (m : SourceValues) (a b : Sweep) → b.shape ≡ a.shape → all_costs kind m b ≡ all_costs kind m a
-costs-same kind m a b f = ap (λ (x : ShapeValues). costs_with kind (λ c. m.rows_of c x) (λ c. m.cost_of c x) 0 m.blocks) f
+costs-same kind m a b f = ap (λ (x : ShapeValues). costs_of (λ c. m.cost_of c x) (blocks_with kind (λ c. m.rows_of c x) 0 m.blocks)) f
 
 -- the rows above point's
 pub asks-above : (kind : ℕ → Bool) (m : SourceValues) (s : Strip) (w : Wanted) (point row half : ℕ) → IsStrip m s → row < length s.lines.items → first_row m s + row ≡ point_row m s.sweep → half ≤ w.height

@@ -5,11 +5,11 @@ use Rattle.std.proofs.lemmas.Option.{slice_get-map, slice_get_read}
 use Rattle.std.specs.Option.{option_map}
 use Rattle.rd_rows.specs.Copies.{RowValues, shown_rows}
 use Rattle.std.specs.List.{slice_get}
+use Rattle.rd_matrix.proofs.Counting.{length-numbered}
 use Rattle.rd_matrix.specs.Entries.{EntryMeaning, numbered}
 use Rattle.rd_rows.specs.Rows.{RowMeaning}
 use Rattle.rd_start.specs.Strips.{line_of}
 use Rattle.rd_start.specs.declared.strip.Line.{Line}
-use Rattle.rd_start.proofs.Blocks.{length-numbered}
 
 numbered-at : (start number k : ℕ) (rows : List RowMeaning) (r : RowMeaning) (d : EntryMeaning) → slice_get rows k ≡ Some r
     → get_or (numbered start number rows) k d ≡ record { start = start; number = number + k; row = r }

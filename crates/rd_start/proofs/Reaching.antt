@@ -2,6 +2,7 @@
 use Rattle.std.proofs.Common.{◌≡◌, ℕ, ◌+◌, ◌-◌, ◌<◌, ◌≤◌, inr, Bool, min, List, [], ◌∷◌, ◌++◌, length, map, Option, None, Some, sym, ap, subst, ◌∙◌, arith}
 use Rattle.std.proofs.lemmas.List.{append_assoc, length-append, length-map}
 use Rattle.std.specs.List.{slice_get}
+use Rattle.rd_matrix.proofs.Counting.{count-cons, length-numbered}
 use Rattle.rd_matrix.specs.Blocks.{IsAmong, block_before}
 use Rattle.rd_matrix.specs.Entries.{all_rows, entries_of, numbered}
 use Rattle.rd_matrix.specs.Sources.{SourceValues}
@@ -11,7 +12,7 @@ use Rattle.rd_start.specs.Strips.{IsAbove, IsBelow, IsPaid, IsPaidOf, IsStrip, I
 use Rattle.rd_start.specs.declared.strip.Line.{Line}
 use Rattle.rd_start.specs.declared.strip.Strip.{Strip}
 use Rattle.rd_start.specs.declared.strip.Sweep.{Sweep}
-use Rattle.rd_start.proofs.Blocks.{count-append, count-cons, length-numbered}
+use Rattle.rd_start.proofs.Blocks.{count-append}
 use Rattle.rd_start.proofs.Growth.{affords, affords-pieces, before-none, before-some, first-place, head-of, last-place, none-behind, paid-above, paid-below, pieces-above, pieces-below, some-of, strip-above, strip-below}
 use Rattle.rd_start.proofs.Lists.{slice_get-behind}
 use Rattle.rd_start.proofs.Rows.{total-is}

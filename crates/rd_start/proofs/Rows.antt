@@ -3,6 +3,7 @@ use Rattle.std.proofs.Common.{◌≡◌, ℕ, ◌+◌, ◌<◌, ◌≤◌, ◌�
 use Rattle.std.proofs.lemmas.Bool.{cases_Bool, le-ltb, leb-false, leb-true, lt-ltb, ltb-false, ltb-true}
 use Rattle.std.proofs.lemmas.List.{length-append, length-map}
 use Rattle.std.specs.List.{list_any, position, position_or_len, slice_get}
+use Rattle.rd_matrix.proofs.Counting.{all-append}
 use Rattle.rd_matrix.specs.Blocks.{end_from, first_start}
 use Rattle.rd_matrix.specs.Entries.{EntryMeaning, all_rows}
 use Rattle.rd_matrix.specs.Sources.{SourceValues, IsSource}
@@ -13,7 +14,7 @@ use Rattle.rd_start.specs.Chosen.{begins_item}
 use Rattle.rd_start.specs.Strips.{IsStripOf, count_in, home_row, line_of, point_row, rows_in}
 use Rattle.rd_start.specs.declared.strip.Line.{Line}
 use Rattle.rd_start.specs.declared.strip.Sweep.{Sweep}
-use Rattle.rd_start.proofs.Blocks.{Fit, all-append, any-fit, end-append, fit, fit-back, fit-front}
+use Rattle.rd_start.proofs.Blocks.{Fit, any-fit, end-append, fit, fit-back, fit-front}
 use Rattle.rd_start.proofs.Tests.{above-range, below-range, in-range}
 use Rattle.rd_start.proofs.Lists.{first-among, first-behind, first-inside, first-mapped, first-none}
 

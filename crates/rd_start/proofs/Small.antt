@@ -3,6 +3,7 @@ use Rattle.std.proofs.Common.{◌≡◌, ℕ, ◌+◌, ◌-◌, ◌^◌, ◌<◌
 use Rattle.std.proofs.lemmas.Bool.{cases_Bool, ltb-true}
 use Rattle.std.proofs.lemmas.List.{length-map}
 use Rattle.std.specs.List.{AllByRecursion, flat_map, fold}
+use Rattle.rd_matrix.proofs.Counting.{all-append}
 use Rattle.rd_matrix.specs.Entries.{EntryMeaning, all_rows, entries_of, numbered}
 use Rattle.rd_matrix.specs.Sources.{SourceValues, begins_of}
 use Rattle.rd_matrix.specs.declared.block.Block.{Block}
@@ -12,7 +13,7 @@ use Rattle.rd_start.specs.Chosen.{first_covered, first_positions, positions_of}
 use Rattle.rd_start.specs.Strips.{IsStrip, first_row, line_of, rows_in, span_of}
 use Rattle.rd_start.specs.declared.span.Span.{Span}
 use Rattle.rd_start.specs.declared.strip.Strip.{Strip}
-use Rattle.rd_start.proofs.Blocks.{Fit, all-append}
+use Rattle.rd_start.proofs.Blocks.{Fit}
 use Rattle.rd_start.proofs.Lists.{each-append, each-drop, each-from, each-take}
 use Rattle.rd_start.proofs.Places.{rows-between}
 use Rattle.rd_start.proofs.Rows.{bounds}

@@ -1,7 +1,8 @@
 -- The rows near a window's old start, its new start and point, and the blocks that have such a row.
 use Rattle.std.specs.Prelude.{ℕ, ◌+◌, min, max, nat_lt, nat_le, Bool, ◌&&◌, ◌||◌, if◌then◌else◌, List, [], ◌∷◌, length}
 use Rattle.std.specs.List.{list_any, range_with_len}
-use Rattle.rd_matrix.specs.Sources.{SourceValues}
+use Rattle.rd_matrix.specs.Rows.{blocks_with}
+use Rattle.rd_matrix.specs.Sources.{SourceValues, costs_of}
 use Rattle.rd_matrix.specs.declared.block.Block.{Block}
 use Rattle.rd_rows.specs.Rows.{RowMeaning}
 use Rattle.rd_rows.specs.Shapes.{ShapeValues}
@@ -24,13 +25,6 @@ is_near w at k =
     then nat_le at.old k && nat_lt k (at.old + w.height)
     else is_within w.conservatively (w.conservatively + w.height) at.old k || is_within w.height w.height at.point k
 
--- the sum of the costs of the blocks that have a row of a kind, where the first of their rows has a number
-abbrev pub costs_with : (ℕ → Bool) → (Block → List RowMeaning) → (Block → ℕ) → ℕ → List Block → ℕ
-costs_with kind rows cost first [] = 0
-costs_with kind rows cost first (b ∷ bs) =
-    (if list_any kind (range_with_len first (length (rows b))) then cost b else 0)
-    + costs_with kind rows cost (first + length (rows b)) bs
-
 -- the sum of the costs of a source's blocks that have a row near a window
 abbrev pub near_costs : SourceValues → ShapeValues → Wanted → ℕ
-near_costs m shape w = costs_with (is_near w (places_of m shape w)) (λ b. m.rows_of b shape) (λ b. m.cost_of b shape) 0 m.blocks
+near_costs m shape w = costs_of (λ b. m.cost_of b shape) (blocks_with (is_near w (places_of m shape w)) (λ b. m.rows_of b shape) 0 m.blocks)

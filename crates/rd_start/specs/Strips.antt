@@ -4,12 +4,12 @@ use Rattle.std.specs.Prelude.{◌≡◌, ℕ, ◌+◌, ◌-◌, ◌^◌, ◌<◌
 use Rattle.std.specs.List.{AllByRecursion, fold, list_any, position, range_with_len}
 use Rattle.rd_matrix.specs.Blocks.{IsWithin}
 use Rattle.rd_matrix.specs.Entries.{EntryMeaning, all_rows, numbered}
+use Rattle.rd_matrix.specs.Rows.{blocks_with}
 use Rattle.rd_matrix.specs.Sources.{SourceValues, IsSource, costs_of, rows_at}
 use Rattle.rd_matrix.specs.declared.block.Block.{Block}
 use Rattle.rd_rows.specs.Rows.{RowMeaning}
 use Rattle.rd_rows.specs.Shapes.{ShapeValues, IsShape}
 use Rattle.rd_start.specs.Chosen.{anchor_at, anchor_row, begins_item, places_of, positions_of, row_of}
-use Rattle.rd_start.specs.Near.{costs_with}
 use Rattle.rd_start.specs.Starts.{centred, moved}
 use Rattle.rd_start.specs.declared.strip.Line.{Line}
 use Rattle.rd_start.specs.declared.wanted.Chosen.{Chosen}
@@ -86,7 +86,7 @@ moved_row m sweep rows = min (moved rows (home_row m sweep)) (count_in m sweep m
 
 -- the costs of all blocks that have a row of a kind
 abbrev pub all_costs : (ℕ → Bool) → SourceValues → Sweep → ℕ
-all_costs kind m sweep = costs_with kind (rows_in m sweep) (cost_in m sweep) 0 m.blocks
+all_costs kind m sweep = costs_of (cost_in m sweep) (blocks_with kind (rows_in m sweep) 0 m.blocks)
 
 -- the blocks of a strip each have a row of a kind, and cost no less than the steps that were taken since there were `base`
 pub record IsPaidOf (kind : ℕ → Bool) (base : ℕ) (m : SourceValues) (sweep : Sweep) (bs : List Block) (at steps : ℕ) : Type 0 where

@@ -1,0 +1,57 @@
+-- The rows of blocks, counted, and what the blocks cost that have rows of a kind.
+use Rattle.std.proofs.Common.{◌≡◌, ℕ, zero, suc, ◌+◌, ◌<◌, ◌≤◌, inl, inr, Bool, true, false, ◌||◌, if◌then◌else◌, List, [], ◌∷◌, ◌++◌, length, refl, ap, ◌∙◌, arith}
+use Rattle.std.proofs.Math.Bool.{or-true}
+use Rattle.std.proofs.lemmas.Bool.{cases_eq}
+use Rattle.std.proofs.lemmas.Grind.{flat_map-append}
+use Rattle.std.proofs.lemmas.List.{length-append}
+use Rattle.std.specs.List.{list_any, range_with_len}
+use Rattle.rd_matrix.specs.Entries.{all_rows, entries_of, numbered}
+use Rattle.rd_matrix.specs.Rows.{blocks_with}
+use Rattle.rd_matrix.specs.Sources.{costs_of}
+use Rattle.rd_matrix.specs.declared.block.Block.{Block}
+use Rattle.rd_rows.specs.Rows.{RowMeaning}
+
+pub length-numbered : (start number : ℕ) (rows : List RowMeaning) → length (numbered start number rows) ≡ length rows
+length-numbered start number [] = refl
+length-numbered start number (r ∷ rows) = ap suc (length-numbered start (number + 1) rows)
+
+pub count-cons : (rows : Block → List RowMeaning) (b : Block) (bs : List Block) → length (all_rows rows (b ∷ bs)) ≡ length (rows b) + length (all_rows rows bs)
+count-cons rows b bs = length-append (entries_of rows b) (all_rows rows bs) ∙ ap (λ n. n + length (all_rows rows bs)) (length-numbered b.start 0 (rows b))
+
+pub all-append : (rows : Block → List RowMeaning) (xs ys : List Block) → all_rows rows (xs ++ ys) ≡ all_rows rows xs ++ all_rows rows ys
+all-append rows xs ys = flat_map-append (entries_of rows) xs ys
+
+-- a test that passes at a number passes in each list of numbers that has it
+pub any-range : (p : ℕ → Bool) (from n k : ℕ) → from ≤ k → k < from + n → p k ≡ true → list_any p (range_with_len from n) ≡ true
+any-range p from zero k low high e = absurd (omega arith)
+any-range p from (suc n) k low high e =
+    elim (cases_eq from k) [
+      | inl here ↦ ap (λ b. b || list_any p (range_with_len (from + 1) n)) (ap p here ∙ e)
+      | inr other ↦ ap (λ b. p from || b) (any-range p (from + 1) n k (omega arith) (omega arith) e) ∙ or-true (p from)
+    ]
+
+-- the costs of a block that has a row of a kind, and of those behind it
+pub costs-here : (kind : ℕ → Bool) (rows : Block → List RowMeaning) (cost : Block → ℕ) (first : ℕ) (b : Block) (bs : List Block)
+    → list_any kind (range_with_len first (length (rows b))) ≡ true
+    → costs_of cost (blocks_with kind rows first (b ∷ bs)) ≡ cost b + costs_of cost (blocks_with kind rows (first + length (rows b)) bs)
+costs-here kind rows cost first b bs e =
+    ap (λ (t : Bool). costs_of cost (if t then b ∷ blocks_with kind rows (first + length (rows b)) bs else blocks_with kind rows (first + length (rows b)) bs)) e
+
+costs-if : (cost : Block → ℕ) (b : Block) (bs : List Block) (t : Bool) → costs_of cost bs ≤ costs_of cost (if t then b ∷ bs else bs)
+costs-if cost b bs true = omega arith
+costs-if cost b bs false = omega arith
+
+-- blocks cost no more than these and those before them
+pub costs-behind : (kind : ℕ → Bool) (rows : Block → List RowMeaning) (cost : Block → ℕ) (first : ℕ) (before bs : List Block)
+    → costs_of cost (blocks_with kind rows (first + length (all_rows rows before)) bs) ≤ costs_of cost (blocks_with kind rows first (before ++ bs))
+costs-behind kind rows cost first [] bs =
+    let same : first + 0 ≡ first = omega arith in
+    let e = ap (λ n. costs_of cost (blocks_with kind rows n bs)) same in
+    omega (arith, e)
+costs-behind kind rows cost first (x ∷ before) bs =
+    let rest = costs-behind kind rows cost (first + length (rows x)) before bs in
+    let count = count-cons rows x before in
+    let place : first + length (all_rows rows (x ∷ before)) ≡ (first + length (rows x)) + length (all_rows rows before) = omega (arith, count) in
+    let e = ap (λ n. costs_of cost (blocks_with kind rows n bs)) place in
+    let here = costs-if cost x (blocks_with kind rows (first + length (rows x)) (before ++ bs)) (list_any kind (range_with_len first (length (rows x)))) in
+    omega (arith, rest, e, here)
