@@ -4,3 +4,4 @@ pub mod Sources
 pub mod Examples
 pub mod Kept
 pub mod Leads
+pub mod KeptExamples

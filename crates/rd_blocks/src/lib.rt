@@ -5,6 +5,7 @@ mod base;
 mod blocks;
 mod changes;
 mod examples;
+mod keeping;
 mod laws;
 mod locality;
 mod rows;
