@@ -1,11 +1,11 @@
 -- An op that a line says is in form.
-use Rattle.std.proofs.Common.{◌≡◌, ℕ, suc, ◌≤◌, ◌&&◌, Bool, true, false, pos, List, [], ◌∷◌, length, Option, None, Some, Result, Ok, Err, IsTrue, refl, sym, ap, subst, ◌∙◌, arith, unwrap_or, option_and_then, option_map, if◌then◌else◌, nat_le, chars, is_some, true≢false, codes}
+use Rattle.std.proofs.Common.{◌≡◌, ℕ, suc, ◌≤◌, ◌&&◌, Bool, true, false, ℤ, pos, List, [], ◌∷◌, length, Option, None, Some, Result, Ok, Err, IsTrue, refl, sym, ap, subst, ◌∙◌, arith, unwrap_or, option_and_then, option_map, if◌then◌else◌, nat_le, chars, is_some, true≢false, codes}
 use Rattle.std.proofs.lemmas.Bool.Decides.{nat_tests}
 use Rattle.std.proofs.lemmas.List.Elements.{All-nil, All-cons}
 use Rattle.std.specs.Prelude.{All}
 use Rattle.serde_json.specs.Data.{Data, Items, no_items, item, Members}
 use Rattle.serde_json.specs.Find.{get_member, as_number, as_u64, as_i64, as_bool, as_str, as_array, as_object}
-use Rattle.rd_base.specs.declared.limits.TheConstants.{FRAME_COLUMNS, FRAME_ROWS, SPACE_COLUMNS, TAB_COLUMNS}
+use Rattle.rd_base.specs.declared.limits.TheConstants.{ATOMS, INVISIBLE_ATOMS, FRAME_COLUMNS, FRAME_ROWS, LEAST_FRAME_COLUMNS, LEAST_FRAME_ROWS, PRIORITY, STRING_RUNS, TABLE_ENTRIES, SPACE_COLUMNS, TAB_COLUMNS}
 use Rattle.rd_base.specs.declared.settings.Invisible.{Invisible}
 use Rattle.rd_base.specs.declared.settings.Invisible.TheVariants.{Every, Listed}
 use Rattle.rd_objects.specs.declared.run.RunKind.{RunKind}
@@ -235,7 +235,7 @@ list-finds most kind P finds = record {
 
 -- ---- settings and objects
 
-near-finds : (most : ℕ) → Finds (signed most) (λ z. IsTrue (is_near_zero most z))
+near-finds : (most : ℤ) → Finds (signed most) (λ z. IsTrue (is_near_zero most z))
 near-finds most = record { found = λ d z e. kept_if-found (is_near_zero most) (option_and_then as_i64 (as_number d)) z e }
 
 glyph_text-finds : Finds glyph_text (λ t. IsTrue (is_glyph_text t))
@@ -260,12 +260,12 @@ invisible-some (Some true) o x so e = let same : Every ≡ x = cc in subst IsInv
 invisible-some (Some false) o x so e = absurd (none≢some x e)
 invisible-some None o x so e = let y = map-some Listed o x e in subst IsInvisible y.2 (so y.0 y.1)
 
-pairs-finds : Finds (list_of 256 (two_items (within 0 65535) as_bool)) (λ pairs. IsInvisible (Listed pairs))
-pairs-finds = list-finds 256 (two_items (within 0 65535) as_bool) (λ pair. pair.0 ≤ 65535)
-    (record { found = λ d x e. ((two-finds (within 0 65535) as_bool _ _ (within-finds 0 65535) (any-finds as_bool)).found d x e).0.1 })
+pairs-finds : Finds (list_of INVISIBLE_ATOMS (two_items (within 0 ATOMS) as_bool)) (λ pairs. IsInvisible (Listed pairs))
+pairs-finds = list-finds INVISIBLE_ATOMS (two_items (within 0 ATOMS) as_bool) (λ pair. pair.0 ≤ ATOMS)
+    (record { found = λ d x e. ((two-finds (within 0 ATOMS) as_bool _ _ (within-finds 0 ATOMS) (any-finds as_bool)).found d x e).0.1 })
 
 invisible-finds : Finds invisible IsInvisible
-invisible-finds = record { found = λ d x e. invisible-some (as_bool d) (list_of 256 (two_items (within 0 65535) as_bool) d) x (pairs-finds.found d) e }
+invisible-finds = record { found = λ d x e. invisible-some (as_bool d) (list_of INVISIBLE_ATOMS (two_items (within 0 ATOMS) as_bool) d) x (pairs-finds.found d) e }
 
 any-gives : {T : Type 0} (key : List ℕ) (kind : Data → Option T) → Gives (required key kind) (λ x. Unit {0})
 any-gives key kind = required-gives key kind _ (any-finds kind)
@@ -305,7 +305,7 @@ range_of_name f from to so =
     (λ x h. so x.0 x.1.0 x.1.1 h.0 h.1.0 h.1.1)
 
 row-gives : (n : name.Name) → Gives (row n) IsInForm
-row-gives names.Frame = made-gives _ _ _ (both-gives _ _ _ _ (range_field (codes "width") 12 FRAME_COLUMNS) (range_field (codes "height") 2 FRAME_ROWS)) (λ x h. (h.0.0, h.0.1, h.1.0, h.1.1))
+row-gives names.Frame = made-gives _ _ _ (both-gives _ _ _ _ (range_field (codes "width") LEAST_FRAME_COLUMNS FRAME_COLUMNS) (range_field (codes "height") LEAST_FRAME_ROWS FRAME_ROWS)) (λ x h. (h.0.0, h.0.1, h.1.0, h.1.1))
 row-gives names.Buffer = made-gives _ _ _ (name_field (codes "name")) (λ x h. h)
 row-gives names.Insert = made-gives _ _ _ (both-gives _ _ _ _ (name_field (codes "buffer")) (both-gives _ _ _ _ (whole_field (codes "pos")) (text_field (codes "text")))) (λ x h. (h.0, h.1.0, h.1.1))
 row-gives names.TypeText = made-gives _ _ _ (text_field (codes "text")) (λ x h. h)
@@ -314,7 +314,7 @@ row-gives names.Narrow = range_of_name ops.Narrow (codes "from") (codes "to") (�
 row-gives names.Widen = made-gives _ _ _ (name_field (codes "buffer")) (λ x h. h)
 row-gives names.Overlay = made-gives _ _ _
     (both-gives _ _ _ _ (name_field (codes "buffer")) (both-gives _ _ _ _ (whole_field (codes "from")) (both-gives _ _ _ _ (whole_field (codes "to"))
-    (both-gives _ _ _ _ (defaulted-gives (pos 0) (codes "priority") (signed 1000000) (λ z. IsTrue (is_near_zero 1000000 z)) (near-finds 1000000) refl)
+    (both-gives _ _ _ _ (defaulted-gives (pos 0) (codes "priority") (signed PRIORITY) (λ z. IsTrue (is_near_zero PRIORITY z)) (near-finds PRIORITY) refl)
     (both-gives _ _ _ _ (flag-gives (codes "front")) (flag-gives (codes "rear")))))))
     (λ x h. (h.0, h.1.0, h.1.1.0, h.1.1.1.0))
 row-gives names.OverlayMove = made-gives _ _ _
@@ -325,7 +325,7 @@ row-gives names.Setting = made-gives _ _ _
     (both-gives _ _ _ _ (name_field (codes "buffer")) (then_by-gives (required (codes "name") (word setting_words)) (codes "value" ∷ []) value_of_setting IsSettingInForm value-gives))
     (λ x h. (h.0, h.1))
 row-gives names.AddString = made-gives _ _ _
-    (both-gives _ _ _ _ (text_field (codes "text")) (defaulted-gives [] (codes "runs") (list_of 256 run) _ (list-finds 256 run IsRunInForm run-finds) (omega arith, All-nil _)))
+    (both-gives _ _ _ _ (text_field (codes "text")) (defaulted-gives [] (codes "runs") (list_of STRING_RUNS run) _ (list-finds STRING_RUNS run IsRunInForm run-finds) (omega arith, All-nil _)))
     (λ x h. (h.0, h.1.0, h.1.1))
 row-gives names.AddSpec = made-gives _ _ _ (then_by-gives (required (codes "kind") (word spec_words)) (codes "value" ∷ []) spec_value IsSpecInForm spec-gives) (λ x h. h)
 row-gives names.AddFace = made-gives _ _ _
@@ -333,7 +333,7 @@ row-gives names.AddFace = made-gives _ _ _
     (both-gives _ _ _ _ (flag-gives (codes "bold")) (both-gives _ _ _ _ (flag-gives (codes "underline")) (flag-gives (codes "inverse"))))))
     (λ x h. (h.0, h.1.0))) (λ x h. h)
 row-gives names.AddTable = made-gives _ _ _
-    (both-gives _ _ _ _ (defaulted-gives [] (codes "entries") (list_of 256 entry) _ (list-finds 256 entry IsEntryInForm entry-finds) (omega arith, All-nil _))
+    (both-gives _ _ _ _ (defaulted-gives [] (codes "entries") (list_of TABLE_ENTRIES entry) _ (list-finds TABLE_ENTRIES entry IsEntryInForm entry-finds) (omega arith, All-nil _))
     (both-gives _ _ _ _ (slot-gives (codes "truncation")) (both-gives _ _ _ _ (slot-gives (codes "continuation")) (both-gives _ _ _ _ (slot-gives (codes "escape"))
     (both-gives _ _ _ _ (slot-gives (codes "control"))
     (both-gives _ _ _ _ (optional-gives (codes "ellipsis") glyph_text _ IsEllipsis glyph_text-finds tt (λ t h. h)) (slot-gives (codes "border"))))))))

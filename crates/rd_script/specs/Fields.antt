@@ -22,7 +22,7 @@ abbrev pub whole : Data → Option ℕ
 whole = within 0 18446744073709551615
 
 -- a whole number that may be below 0, from one of this size below 0 up to the same above
-abbrev pub signed : ℕ → Data → Option ℤ
+abbrev pub signed : ℤ → Data → Option ℤ
 signed most d = option_and_then (kept_if (is_near_zero most)) (option_and_then as_i64 (as_number d))
 
 -- a text, as the list of its characters

@@ -54,7 +54,7 @@ face = made face_of (both (defaulted 8 (codes "fg") (within 0 7)) (both (default
 
 -- ---- display tables
 
--- at most 16 glyph characters
+-- so many glyph characters as an entry may show
 abbrev pub glyph_text : Data → Option (List ℕ)
 glyph_text d = option_and_then (kept_if is_glyph_text) (option_map chars (as_str d))
 

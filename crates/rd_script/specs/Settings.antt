@@ -2,7 +2,7 @@
 use Rattle.std.specs.Prelude.{ℕ, Bool, true, false, List, [], ◌∷◌, Option, None, Some, option_map, codes}
 use Rattle.serde_json.specs.Data.{Data}
 use Rattle.serde_json.specs.Find.{as_bool}
-use Rattle.rd_base.specs.declared.limits.TheConstants.{TAB_COLUMNS}
+use Rattle.rd_base.specs.declared.limits.TheConstants.{ATOMS, INVISIBLE_ATOMS, TAB_COLUMNS}
 use Rattle.rd_base.specs.declared.settings.Direction.{Direction}
 use Rattle.rd_base.specs.declared.settings.Direction.TheVariants as directions
 use Rattle.rd_base.specs.declared.settings.Invisible.{Invisible}
@@ -36,7 +36,7 @@ invisible_by (Some false) pairs = None
 invisible_by None pairs = option_map Listed pairs
 
 abbrev pub invisible : Data → Option Invisible
-invisible d = invisible_by (as_bool d) (list_of 256 (two_items (within 0 65535) as_bool) d)
+invisible d = invisible_by (as_bool d) (list_of INVISIBLE_ATOMS (two_items (within 0 ATOMS) as_bool) d)
 
 -- the value of each setting
 abbrev pub value_of : SettingName → Fields Setting

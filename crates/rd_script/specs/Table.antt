@@ -1,7 +1,7 @@
 -- The table of ops: their names, and for each the fields in order.
 use Rattle.std.specs.Prelude.{ℕ, ℤ, pos, Bool, false, List, [], ◌∷◌, ◌++◌, map, Option, codes}
 use Rattle.serde_json.specs.Find.{as_bool}
-use Rattle.rd_base.specs.declared.limits.TheConstants.{FRAME_COLUMNS, FRAME_ROWS}
+use Rattle.rd_base.specs.declared.limits.TheConstants.{FRAME_COLUMNS, FRAME_ROWS, LEAST_FRAME_COLUMNS, LEAST_FRAME_ROWS, PRIORITY, STRING_RUNS, TABLE_ENTRIES}
 use Rattle.rd_base.specs.declared.settings.Wrap.{Wrap}
 use Rattle.rd_base.specs.declared.settings.Wrap.TheVariants.{Truncate, Continue}
 use Rattle.rd_script.specs.declared.fault.OpFault.TheVariants.{NotBuilt}
@@ -55,11 +55,11 @@ wrap_modes = (codes "truncate", Truncate) ∷ (codes "continue", Continue) ∷ [
 
 -- the priority of an overlay and its flags
 abbrev pub overlay_manner : Fields (ℤ × (Bool × Bool))
-overlay_manner = both (defaulted (pos 0) (codes "priority") (signed 1000000)) (both (defaulted false (codes "front") as_bool) (defaulted false (codes "rear") as_bool))
+overlay_manner = both (defaulted (pos 0) (codes "priority") (signed PRIORITY)) (both (defaulted false (codes "front") as_bool) (defaulted false (codes "rear") as_bool))
 
 -- the fields of each op, in order, and the op that they say
 abbrev pub row : name.Name → Fields op.Op
-row names.Frame = made (λ f. ops.Frame f.0 f.1) (both (required (codes "width") (within 12 FRAME_COLUMNS)) (required (codes "height") (within 2 FRAME_ROWS)))
+row names.Frame = made (λ f. ops.Frame f.0 f.1) (both (required (codes "width") (within LEAST_FRAME_COLUMNS FRAME_COLUMNS)) (required (codes "height") (within LEAST_FRAME_ROWS FRAME_ROWS)))
 row names.Buffer = made ops.Buffer (required (codes "name") buffer_name)
 row names.Insert = made (λ f. ops.Insert f.0 f.1.0 f.1.1)
     (both (required (codes "buffer") buffer_name) (both (required (codes "pos") whole) (required (codes "text") text)))
@@ -75,11 +75,11 @@ row names.OverlayMove = made (λ f. ops.OverlayMove f.0 f.1.0 f.1.1.0 f.1.1.1)
     (both (required (codes "buffer") buffer_name) (both (required (codes "overlay") whole) (both (required (codes "from") whole) (required (codes "to") whole))))
 row names.OverlayDrop = made (λ f. ops.OverlayDrop f.0 f.1) (both (required (codes "buffer") buffer_name) (required (codes "overlay") whole))
 row names.Setting = made (λ f. ops.Setting f.0 f.1) (both (required (codes "buffer") buffer_name) setting)
-row names.AddString = made (λ f. ops.AddString f.0 f.1) (both (required (codes "text") text) (defaulted [] (codes "runs") (list_of 256 run)))
+row names.AddString = made (λ f. ops.AddString f.0 f.1) (both (required (codes "text") text) (defaulted [] (codes "runs") (list_of STRING_RUNS run)))
 row names.AddSpec = made ops.AddSpec spec
 row names.AddFace = made ops.AddFace face
 row names.AddTable = made (λ f. ops.AddTable f.0 f.1.0 f.1.1.0 f.1.1.1.0 f.1.1.1.1.0 f.1.1.1.1.1.0 f.1.1.1.1.1.1)
-    (both (defaulted [] (codes "entries") (list_of 256 entry)) (both (slot_field (codes "truncation")) (both (slot_field (codes "continuation"))
+    (both (defaulted [] (codes "entries") (list_of TABLE_ENTRIES entry)) (both (slot_field (codes "truncation")) (both (slot_field (codes "continuation"))
     (both (slot_field (codes "escape")) (both (slot_field (codes "control")) (both (optional (codes "ellipsis") glyph_text) (slot_field (codes "border"))))))))
 row names.Remove = made ops.Remove (required (codes "window") whole)
 row names.Show = made (λ f. ops.Show f.0 f.1) (both (required (codes "window") whole) (required (codes "buffer") buffer_name))

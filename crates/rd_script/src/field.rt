@@ -11,7 +11,7 @@ ghost use Rattle.rd_script.specs.Table.{wrap_modes};
 
 use crate::buffer_name::BufferName;
 use crate::fault::OpFault;
-use rd_base::limits::NAME_CHARACTERS;
+use rd_base::limits::{NAME_CHARACTERS, PRIORITY};
 use rd_base::{Ch, ListOf, Memory, Wrap};
 use serde_json::{Map, Value};
 use std::alloc::Global;
@@ -81,7 +81,7 @@ pub fn whole_if_any(alloc: Global, members: &Members, key: &str) -> Result<Optio
 
 /// A priority of an overlay, and 0 where the member is absent or null.
 pub fn priority(alloc: Global, members: &Members, key: &str) -> Result<i32, OpFault>
-    ensures { IsRead result ((defaulted (pos 0) key.now (signed 1000000)).taken (members_view members.now.entries)) }
+    ensures { IsRead result ((defaulted (pos 0) key.now (signed PRIORITY)).taken (members_view members.now.entries)) }
 {
     match present(members, key) {
         Some(value) => good(alloc, key, signed_number(value)),
@@ -214,12 +214,12 @@ pub fn number_within(value: &Value, least: u32, greatest: u32) -> Option<u32>
     }
 }
 
-/// A value's number, where it is a whole one from -1,000,000 to 1,000,000.
+/// A value's number, where it is a whole one that an overlay may have as its priority.
 fn signed_number(value: &Value) -> Option<i32>
-    ensures { result ≡ signed 1000000 (view value.now) }
+    ensures { result ≡ signed PRIORITY (view value.now) }
 {
     match value.as_i64() {
-        Some(n) if -1_000_000 <= n && n <= 1_000_000 => Some(n as i32),
+        Some(n) if -(PRIORITY as i64) <= n && n <= PRIORITY as i64 => Some(n as i32),
         _ => None,
     }
 }

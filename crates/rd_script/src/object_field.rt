@@ -13,34 +13,28 @@ use crate::field::{
 };
 use crate::item::{Item, list};
 use crate::object::{OpEntry, OpRun, OpSpec, SpecName};
-use rd_base::limits::SPACE_COLUMNS;
+use rd_base::limits::{ENTRY_GLYPHS, SPACE_COLUMNS, STRING_RUNS, TABLE_ENTRIES};
 use rd_base::{Ch, Face, ListOf, Memory};
 use rd_objects::{RunKind, columns, glyph_character};
 use serde_json::Value;
 use std::alloc::Global;
 
-/// The most runs of a string, and the most entries of a table.
-const MOST_ITEMS: usize = 256;
-
-/// The most glyph characters that an entry shows.
-const MOST_GLYPHS: usize = 16;
-
 /// A string's runs, none where the member is absent or null.
 pub fn runs(alloc: Global, members: &Members, key: &str) -> Result<ListOf<OpRun>, OpFault>
-    ensures { IsRead result ((defaulted [] key.now (list_of 256 run)).taken (members_view members.now.entries)) }
+    ensures { IsRead result ((defaulted [] key.now (list_of STRING_RUNS run)).taken (members_view members.now.entries)) }
 {
     match present(members, key) {
-        Some(value) => good(alloc, key, list(alloc, value, MOST_ITEMS)?),
+        Some(value) => good(alloc, key, list(alloc, value, STRING_RUNS as usize)?),
         None => Ok(ListOf::new(alloc)),
     }
 }
 
 /// A table's entries, none where the member is absent or null.
 pub fn entries(alloc: Global, members: &Members, key: &str) -> Result<ListOf<OpEntry>, OpFault>
-    ensures { IsRead result ((defaulted [] key.now (list_of 256 entry)).taken (members_view members.now.entries)) }
+    ensures { IsRead result ((defaulted [] key.now (list_of TABLE_ENTRIES entry)).taken (members_view members.now.entries)) }
 {
     match present(members, key) {
-        Some(value) => good(alloc, key, list(alloc, value, MOST_ITEMS)?),
+        Some(value) => good(alloc, key, list(alloc, value, TABLE_ENTRIES as usize)?),
         None => Ok(ListOf::new(alloc)),
     }
 }
@@ -154,7 +148,7 @@ fn only_slot(text: &[Ch]) -> Option<Ch>
 fn is_glyph_text(text: &[Ch]) -> bool
     ensures { result ≡ is_glyph_text text.now }
 {
-    text.len() <= MOST_GLYPHS && are_glyphs(text)
+    text.len() <= ENTRY_GLYPHS as usize && are_glyphs(text)
 }
 
 /// Whether each character of a text is a glyph character.

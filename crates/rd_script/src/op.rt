@@ -3,6 +3,8 @@ use crate::buffer_name::BufferName;
 use crate::object::{OpEntry, OpRun, OpSpec};
 use crate::setting::Setting;
 use rd_base::{Ch, Face, ListOf, Wrap};
+use rd_overlays::Kind;
+use rd_tree::Side;
 
 /// One op. Buffers are told by name; windows, overlays and objects by number; positions count from 1, and `to` is one past the last
 /// position.
@@ -23,6 +25,12 @@ pub enum Op {
         pos: u64,
         text: ListOf<Ch>,
     },
+    /// Puts raw bytes of 128 to 255 in before a position.
+    InsertRaw {
+        buffer: BufferName,
+        pos: u64,
+        bytes: ListOf<u8>,
+    },
     /// Puts a text in at the selected window's point, which moves behind it.
     TypeText {
         text: ListOf<Ch>,
@@ -42,6 +50,15 @@ pub enum Op {
     /// Makes the whole text accessible.
     Widen {
         buffer: BufferName,
+    },
+    /// Gives the text of a range another value of a kind: the number of a face, of a display spec or of a string, or an atom. None
+    /// takes the property away. The kind is not `Before` or `After`, which overlays alone have.
+    Put {
+        buffer: BufferName,
+        from: u64,
+        to: u64,
+        kind: Kind,
+        value: Option<u64>,
     },
     /// Makes an overlay without values. Text put in at its start moves the start where `front` is set, and text put in at its end
     /// moves the end where `rear` is set.
@@ -64,6 +81,14 @@ pub enum Op {
     OverlayDrop {
         buffer: BufferName,
         overlay: u64,
+    },
+    /// Gives an overlay another value of a kind, and None takes it away. The values are as for text, and strings for `Before` and
+    /// `After`.
+    OverlayPut {
+        buffer: BufferName,
+        overlay: u64,
+        kind: Kind,
+        value: Option<u64>,
     },
     /// Sets a setting of a buffer.
     Setting {
@@ -94,8 +119,18 @@ pub enum Op {
         ellipsis: Option<ListOf<Ch>>,
         border: Option<Ch>,
     },
+    /// Splits a window, which keeps so many rows or columns: the new window is below it or to its right.
+    Split {
+        window: u64,
+        side: Side,
+        size: u64,
+    },
     /// Takes a window away.
     Remove {
+        window: u64,
+    },
+    /// Selects a window.
+    Select {
         window: u64,
     },
     /// Shows a buffer in a window.
@@ -108,13 +143,70 @@ pub enum Op {
         window: u64,
         pos: u64,
     },
+    /// Lets a window's view start at a row, counted from 0, of the line that begins at a position.
+    Start {
+        window: u64,
+        pos: u64,
+        row: u32,
+    },
+    /// Scrolls a window by so many rows: down its text, or up where the number is below 0.
+    Scroll {
+        window: u64,
+        rows: i64,
+    },
+    /// Scrolls a window sideways, by so many columns from its text's edge.
+    Hscroll {
+        window: u64,
+        columns: u32,
+    },
     /// Says what becomes of a window's lines that are longer than a row.
     Wrap {
         window: u64,
         mode: Wrap,
     },
+    /// Gives a window's mode line a format, and None takes the mode line away.
+    ModeLine {
+        window: u64,
+        format: Option<ListOf<Ch>>,
+    },
+    /// Says how many rows stand between point and a view's edges, and up to how many rows a view is scrolled to show point.
+    Scrolling {
+        margin: u32,
+        conservatively: u32,
+    },
+    /// Shows a text in the echo area.
+    Echo {
+        text: ListOf<Ch>,
+    },
     /// Shows the frame, and stops after so many changed rows where a number is given.
     Redisplay {
         stop: Option<u32>,
+    },
+    /// Says whether the terminal may shift rows.
+    Shift {
+        on: bool,
+    },
+    /// Moves a window's point by one character as it is seen: to the right, or to the left.
+    Go {
+        window: u64,
+        right: bool,
+    },
+    /// Moves a window's point to what is shown in a row and a column of its text, both from 0.
+    Hit {
+        window: u64,
+        row: u32,
+        column: u32,
+    },
+    /// Gives a window margins of so many columns: for line numbers, and for margin strings.
+    Margin {
+        window: u64,
+        numbers: u32,
+        strings: u32,
+    },
+    /// Gives an overlay a margin string, and None takes it away.
+    MarginPut {
+        buffer: BufferName,
+        overlay: u64,
+        string: Option<u64>,
     },
 }

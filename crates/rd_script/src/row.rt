@@ -13,7 +13,7 @@ use crate::name::Name;
 use crate::object_field::{entries, face, glyph_text_if_any, runs, slot, spec};
 use crate::op::Op;
 use crate::setting_field::setting;
-use rd_base::limits::{FRAME_COLUMNS, FRAME_ROWS};
+use rd_base::limits::{FRAME_COLUMNS, FRAME_ROWS, LEAST_FRAME_COLUMNS, LEAST_FRAME_ROWS};
 use std::alloc::Global;
 
 /// Reads the fields of an op, in the order of its row.
@@ -64,8 +64,8 @@ fn read_frame(alloc: Global, members: &Members) -> Result<Op, OpFault>
     ensures { IsRead result ((row names.Frame).taken (members_view members.now.entries)) }
 {
     Ok(Op::Frame {
-        width: within(alloc, members, "width", 12, FRAME_COLUMNS)?,
-        height: within(alloc, members, "height", 2, FRAME_ROWS)?,
+        width: within(alloc, members, "width", LEAST_FRAME_COLUMNS, FRAME_COLUMNS)?,
+        height: within(alloc, members, "height", LEAST_FRAME_ROWS, FRAME_ROWS)?,
     })
 }
 

@@ -9,13 +9,10 @@ use crate::fault::OpFault;
 use crate::field::{Members, bad, flag, good, member, number_within, whole_if_any, within, word};
 use crate::item::{Item, list};
 use crate::setting::{Setting, SettingName};
-use rd_base::limits::TAB_COLUMNS;
+use rd_base::limits::{ATOMS, INVISIBLE_ATOMS, TAB_COLUMNS};
 use rd_base::{Direction, Invisible, Memory};
 use serde_json::Value;
 use std::alloc::Global;
-
-/// The most pairs that say which invisible text is hidden.
-const MOST_PAIRS: usize = 256;
 
 /// A setting's name, and then its value.
 pub fn setting(alloc: Global, members: &Members) -> Result<Setting, OpFault>
@@ -78,7 +75,7 @@ fn invisible_of(alloc: Global, value: &Value) -> Result<Option<Invisible>, Memor
     match value.as_bool() {
         Some(true) => Ok(Some(Invisible::Every)),
         Some(false) => Ok(None),
-        None => match list(alloc, value, MOST_PAIRS)? {
+        None => match list(alloc, value, INVISIBLE_ATOMS as usize)? {
             Some(pairs) => Ok(Some(Invisible::Listed(pairs))),
             None => Ok(None),
         },
@@ -88,9 +85,10 @@ fn invisible_of(alloc: Global, value: &Value) -> Result<Option<Invisible>, Memor
 /// A pair of an atom and whether an ellipsis stands for its text.
 impl Item for (u32, bool) {
     ghost use Rattle.serde_json.specs.Find.{as_bool};
+    ghost use Rattle.rd_base.specs.declared.limits.TheConstants.{ATOMS};
     ghost use Rattle.rd_script.specs.Fields.{within, two_items};
 
-    ghost kind = { two_items (within 0 65535) as_bool };
+    ghost kind = { two_items (within 0 ATOMS) as_bool };
 
     fn of(_alloc: Global, value: &Value) -> Result<Option<(u32, bool)>, Memory> {
         match value.as_array() {
@@ -102,10 +100,10 @@ impl Item for (u32, bool) {
 
 /// The pair that items say.
 fn pair_of(items: &[Value]) -> Option<(u32, bool)>
-    ensures { result ≡ two_items_of (within 0 65535) as_bool (items_view items.now) }
+    ensures { result ≡ two_items_of (within 0 ATOMS) as_bool (items_view items.now) }
 {
     match items {
-        [atom, flag] => Some((number_within(atom, 0, 65_535)?, flag.as_bool()?)),
+        [atom, flag] => Some((number_within(atom, 0, ATOMS)?, flag.as_bool()?)),
         _ => None,
     }
 }
