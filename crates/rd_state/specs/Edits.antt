@@ -1,15 +1,19 @@
--- What an op does to one buffer, and where the positions in it move.
-use Rattle.std.specs.Prelude.{ℕ, ◌+◌, ◌-◌, nat_lt, nat_le, ◌==◌, ◌&&◌, ◌||◌, Bool, is_some, if◌then◌else◌, ℤ, Option, Some, None, Result, Ok, Err, List, [], ◌∷◌, ◌++◌, length, map, take, drop, replicate, min, max}
+-- What an op does to what one buffer holds.
+use Rattle.std.specs.Prelude.{ℕ, ◌+◌, nat_lt, nat_le, ◌&&◌, ◌||◌, Bool, true, is_some, if◌then◌else◌, ℤ, Option, Some, None, Result, Ok, Err, List, [], ◌∷◌, ◌++◌, length, map}
 use Rattle.rd_base.specs.declared.limits.TheConstants.{OVERLAYS}
 use Rattle.rd_base.specs.Settings.{SettingValues}
 use Rattle.rd_text.specs.Texts.{TextValue, most_characters, inserted, deleted, narrowed, widened}
-use Rattle.rd_overlays.specs.Overlays.{overlay_at, new_overlay, moved, dropped, slot_grown, slot_shrunk}
-use Rattle.rd_script.specs.Forms.{each}
+use Rattle.rd_overlays.specs.declared.overlay.Kind.{Kind}
+use Rattle.rd_overlays.specs.declared.overlay.Kind.TheVariants.{Face, Display, Invisible, LinePrefix, WrapPrefix, Before, After}
+use Rattle.rd_overlays.specs.Overlays.{overlay_at, new_overlay, moved, dropped, given, slot_grown, slot_shrunk}
+use Rattle.rd_objects.specs.Things.{ObjectLists}
+use Rattle.rd_props.specs.Edits.{opened, closed, put_on}
+use Rattle.rd_margins.specs.Marks as marks
 use Rattle.rd_script.specs.declared.setting.Setting.{Setting}
-use Rattle.rd_script.specs.declared.setting.Setting.TheVariants.{TabWidth, CtlArrow, Direction, Reorder, Table, Invisible, LinePrefix, WrapPrefix, Modified, ReadOnly}
+use Rattle.rd_script.specs.declared.setting.Setting.TheVariants as setting
 use Rattle.rd_state.specs.declared.refused.Refused.{Refused}
-use Rattle.rd_state.specs.declared.refused.Refused.TheVariants.{NoOverlay, OutOfRange, TextTooLarge, TooManyOverlays}
-use Rattle.rd_state.specs.States.{BufferValue}
+use Rattle.rd_state.specs.declared.refused.Refused.TheVariants.{NoObject, NoOverlay, OutOfRange, TextTooLarge, TooManyOverlays}
+use Rattle.rd_state.specs.States.{ContentValue, value_in, values_on}
 
 -- ---- tests
 
@@ -29,116 +33,128 @@ is_range_of_all t from to = nat_le 1 from && nat_le from to && nat_le to (length
 abbrev pub has_room : TextValue → List ℕ → Bool
 has_room t new = nat_le (length t.text + length new) most_characters
 
--- a character that is built: a newline, or one from space to tilde
-abbrev pub is_built_character : ℕ → Bool
-is_built_character c = (c == 10) || (nat_le 32 c && nat_le c 126)
+-- whether the object of a number was made, of which there are so many, or none is named
+abbrev pub is_made : ℕ → Option ℕ → Bool
+is_made count None = true
+is_made count (Some number) = nat_lt number count
 
-abbrev pub is_built : List ℕ → Bool
-is_built text = each is_built_character text
+-- the same of the object that a value of a kind names; an atom names none
+abbrev pub is_value_made : ObjectLists → Kind → Option ℕ → Bool
+is_value_made objects Face value = is_made (length objects.faces) value
+is_value_made objects Display value = is_made (length objects.specs) value
+is_value_made objects Invisible value = true
+is_value_made objects LinePrefix value = is_made (length objects.strings) value
+is_value_made objects WrapPrefix value = is_made (length objects.strings) value
+is_value_made objects Before value = is_made (length objects.strings) value
+is_value_made objects After value = is_made (length objects.strings) value
 
--- ---- the values of a text property, one for each character
+-- the same of the object that a setting names
+abbrev pub is_setting_made : ObjectLists → Setting → Bool
+is_setting_made objects (setting.Table number) = is_made (length objects.tables) number
+is_setting_made objects (setting.LinePrefix number) = is_made (length objects.strings) number
+is_setting_made objects (setting.WrapPrefix number) = is_made (length objects.strings) number
+is_setting_made objects setting = true
 
--- so many characters without a value behind the first ones
-abbrev pub spread : ℕ → ℕ → List (Option ℕ) → List (Option ℕ)
-spread at count values = take at values ++ replicate count None ++ drop at values
-
--- the characters from one place to another, that one not included, taken out
-abbrev pub cut : ℕ → ℕ → List (Option ℕ) → List (Option ℕ)
-cut from to values = take from values ++ drop to values
-
--- ---- one buffer
+-- ---- the text
 
 -- the settings after an edit, which sets `modified` where it changed anything
 abbrev pub marked : Bool → SettingValues → SettingValues
 marked changed s = record s { modified = changed || s.modified }
 
 -- a buffer with a text put in before a position: the new characters have no properties, and what stands behind them moves
-abbrev pub grown : BufferValue → ℕ → List ℕ → BufferValue
-grown b pos new = record {
-  name = b.name;
-  text = inserted b.text pos new;
-  properties = map (spread (pos - 1) (length new)) b.properties;
-  overlays = map (slot_grown pos (length new)) b.overlays;
-  settings = marked (nat_lt 0 (length new)) b.settings;
+abbrev pub grown : ContentValue → ℕ → List ℕ → ContentValue
+grown c pos new = record c {
+  text = inserted c.text pos new;
+  properties = values_on (inserted c.text pos new) (opened (value_in c.properties) pos (length new));
+  overlays = map (slot_grown pos (length new)) c.overlays;
+  settings = marked (nat_lt 0 (length new)) c.settings;
 }
 
-abbrev pub insertion : BufferValue → ℕ → List ℕ → Result BufferValue Refused
-insertion b pos new = if is_accessible b.text pos
-    then (if has_room b.text new then Ok (grown b pos new) else Err TextTooLarge)
-    else Err OutOfRange
+abbrev pub insertion : ℕ → List ℕ → ContentValue → Result ContentValue Refused
+insertion pos new c = if is_accessible c.text pos then (if has_room c.text new then Ok (grown c pos new) else Err TextTooLarge) else Err OutOfRange
 
 -- a buffer with a range taken away
-abbrev pub shrunk : BufferValue → ℕ → ℕ → BufferValue
-shrunk b from to = record {
-  name = b.name;
-  text = deleted b.text from to;
-  properties = map (cut (from - 1) (to - 1)) b.properties;
-  overlays = map (slot_shrunk from to) b.overlays;
-  settings = marked (nat_lt from to) b.settings;
+abbrev pub shrunk : ContentValue → ℕ → ℕ → ContentValue
+shrunk c from to = record c {
+  text = deleted c.text from to;
+  properties = values_on (deleted c.text from to) (closed (value_in c.properties) from to);
+  overlays = map (slot_shrunk from to) c.overlays;
+  settings = marked (nat_lt from to) c.settings;
 }
 
-abbrev pub deletion : BufferValue → ℕ → ℕ → Result BufferValue Refused
-deletion b from to = if is_accessible_range b.text from to then Ok (shrunk b from to) else Err OutOfRange
+abbrev pub deletion : ℕ → ℕ → ContentValue → Result ContentValue Refused
+deletion from to c = if is_accessible_range c.text from to then Ok (shrunk c from to) else Err OutOfRange
 
-abbrev pub narrowing : BufferValue → ℕ → ℕ → Result BufferValue Refused
-narrowing b from to = if is_range_of_all b.text from to then Ok (record b { text = narrowed b.text from to }) else Err OutOfRange
+abbrev pub narrowing : ℕ → ℕ → ContentValue → Result ContentValue Refused
+narrowing from to c = if is_range_of_all c.text from to then Ok (record c { text = narrowed c.text from to }) else Err OutOfRange
 
-abbrev pub widening : BufferValue → Result BufferValue Refused
-widening b = Ok (record b { text = widened b.text })
+abbrev pub widening : ContentValue → Result ContentValue Refused
+widening c = Ok (record c { text = widened c.text })
 
--- ---- the overlays of one buffer
+-- ---- the properties and the overlays
+
+-- a text property with another value from one position up to another
+abbrev pub property_putting : ObjectLists → ℕ → ℕ → Kind → Option ℕ → ContentValue → Result ContentValue Refused
+property_putting objects from to kind value c =
+    if is_accessible_range c.text from to
+    then (if is_value_made objects kind value
+    then Ok (record c { properties = values_on c.text (put_on (value_in c.properties) kind from to value) })
+    else Err NoObject)
+    else Err OutOfRange
 
 -- how many overlays can be made in a buffer
 abbrev pub most_overlays : ℕ
 most_overlays = OVERLAYS
 
 -- one more overlay, without values
-abbrev pub overlay_making : BufferValue → ℕ → ℕ → ℤ → Bool → Bool → Result BufferValue Refused
-overlay_making b from to priority front rear = if is_range_of_all b.text from to
-    then (if nat_le most_overlays (length b.overlays)
+abbrev pub overlay_making : ℕ → ℕ → ℤ → Bool → Bool → ContentValue → Result ContentValue Refused
+overlay_making from to priority front rear c =
+    if is_range_of_all c.text from to
+    then (if nat_le most_overlays (length c.overlays)
     then Err TooManyOverlays
-    else Ok (record b { overlays = b.overlays ++ Some (new_overlay from to priority front rear) ∷ [] }))
+    else Ok (record c { overlays = c.overlays ++ Some (new_overlay from to priority front rear) ∷ [] }))
     else Err OutOfRange
 
 -- an overlay with another range
-abbrev pub overlay_moving : BufferValue → ℕ → ℕ → ℕ → Result BufferValue Refused
-overlay_moving b number from to = if is_some (overlay_at b.overlays number)
-    then (if is_range_of_all b.text from to then Ok (record b { overlays = moved b.overlays number from to }) else Err OutOfRange)
+abbrev pub overlay_moving : ℕ → ℕ → ℕ → ContentValue → Result ContentValue Refused
+overlay_moving number from to c =
+    if is_some (overlay_at c.overlays number)
+    then (if is_range_of_all c.text from to then Ok (record c { overlays = moved c.overlays number from to }) else Err OutOfRange)
     else Err NoOverlay
 
 -- an overlay taken away
-abbrev pub overlay_dropping : BufferValue → ℕ → Result BufferValue Refused
-overlay_dropping b number = if is_some (overlay_at b.overlays number)
-    then Ok (record b { overlays = dropped b.overlays number })
+abbrev pub overlay_dropping : ℕ → ContentValue → Result ContentValue Refused
+overlay_dropping number c =
+    if is_some (overlay_at c.overlays number) then Ok (record c { overlays = dropped c.overlays number }) else Err NoOverlay
+
+-- an overlay with another value of a kind
+abbrev pub overlay_putting : ObjectLists → ℕ → Kind → Option ℕ → ContentValue → Result ContentValue Refused
+overlay_putting objects number kind value c =
+    if is_some (overlay_at c.overlays number)
+    then (if is_value_made objects kind value then Ok (record c { overlays = given c.overlays number kind value }) else Err NoObject)
     else Err NoOverlay
 
--- ---- the settings of one buffer
+-- an overlay with another margin string
+abbrev pub mark_putting : ObjectLists → ℕ → Option ℕ → ContentValue → Result ContentValue Refused
+mark_putting objects number string c =
+    if is_some (overlay_at c.overlays number)
+    then (if is_made (length objects.strings) string then Ok (record c { marks = marks.marked c.marks number string }) else Err NoObject)
+    else Err NoOverlay
+
+-- ---- the settings
 
 abbrev pub with_setting : Setting → SettingValues → SettingValues
-with_setting (TabWidth n) s = record s { tab_width = n }
-with_setting (CtlArrow flag) s = record s { ctl_arrow = flag }
-with_setting (Direction direction) s = record s { direction = direction }
-with_setting (Reorder flag) s = record s { reorder = flag }
-with_setting (Table number) s = record s { table = number }
-with_setting (Invisible invisible) s = record s { invisible = invisible }
-with_setting (LinePrefix number) s = record s { line_prefix = number }
-with_setting (WrapPrefix number) s = record s { wrap_prefix = number }
-with_setting (Modified flag) s = record s { modified = flag }
-with_setting (ReadOnly flag) s = record s { read_only = flag }
+with_setting (setting.TabWidth n) s = record s { tab_width = n }
+with_setting (setting.CtlArrow flag) s = record s { ctl_arrow = flag }
+with_setting (setting.Direction direction) s = record s { direction = direction }
+with_setting (setting.Reorder flag) s = record s { reorder = flag }
+with_setting (setting.Table number) s = record s { table = number }
+with_setting (setting.Invisible invisible) s = record s { invisible = invisible }
+with_setting (setting.LinePrefix number) s = record s { line_prefix = number }
+with_setting (setting.WrapPrefix number) s = record s { wrap_prefix = number }
+with_setting (setting.Modified flag) s = record s { modified = flag }
+with_setting (setting.ReadOnly flag) s = record s { read_only = flag }
 
-abbrev pub setting_putting : BufferValue → Setting → Result BufferValue Refused
-setting_putting b setting = Ok (record b { settings = with_setting setting b.settings })
-
--- ---- positions
-
--- what stands past the place of an insertion moves by its length, and what stands at the place stays
-abbrev pub after_insertion : ℕ → ℕ → ℕ → ℕ
-after_insertion pos count p = if nat_lt pos p then p + count else p
-
--- what stands in a range that is deleted goes to its beginning, and what stands behind it moves back by its length
-abbrev pub after_deletion : ℕ → ℕ → ℕ → ℕ
-after_deletion from to p = if nat_lt p from then p else (if nat_lt p to then from else p - (to - from))
-
--- the nearest position of a range, its end included
-abbrev pub brought_into : ℕ → ℕ → ℕ → ℕ
-brought_into from to p = max from (min p to)
+abbrev pub setting_putting : ObjectLists → Setting → ContentValue → Result ContentValue Refused
+setting_putting objects setting c =
+    if is_setting_made objects setting then Ok (record c { settings = with_setting setting c.settings }) else Err NoObject

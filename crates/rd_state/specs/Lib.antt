@@ -1,7 +1,12 @@
 pub mod Answers
+pub mod Changes
 pub mod Edits
-pub mod Fitting
+pub mod Effects
+pub mod Examples
+pub mod Held
 pub mod Making
+pub mod Moves
 pub mod States
 pub mod Steps
-pub mod Values
+pub mod Valid
+pub mod Windows

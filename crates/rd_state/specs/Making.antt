@@ -1,12 +1,11 @@
 -- The objects that ops make.
-use Rattle.std.specs.Prelude.{ℕ, List, [], ◌∷◌, ◌++◌, map, option_map, Option, None, Some, Result, Ok, Err, length}
+use Rattle.std.specs.Prelude.{ℕ, List, map, option_map, Option, None, Some, Result, Ok, Err, length}
 use Rattle.rd_base.specs.declared.limits.TheConstants.{FACES, TABLES}
 use Rattle.rd_base.specs.Cells.{single}
 use Rattle.rd_base.specs.Faces.{Attributes}
 use Rattle.rd_base.specs.declared.cell.Glyph.{Glyph}
 use Rattle.rd_objects.specs.Tables.{TableValue}
-use Rattle.rd_objects.specs.Texts.{text_of}
-use Rattle.rd_objects.specs.Things.{ObjectLists, string_fault, spec_fault, full_fault}
+use Rattle.rd_objects.specs.Things.{ObjectLists, string_fault, spec_fault, full_fault, string_added, spec_added, face_added, table_added}
 use Rattle.rd_objects.specs.Widths.{columns}
 use Rattle.rd_objects.specs.declared.fault.ObjectFault.{ObjectFault}
 use Rattle.rd_objects.specs.declared.fault.ObjectFault.TheVariants as faults
@@ -38,8 +37,7 @@ abbrev pub run_of : OpRun → Run
 run_of run = record { from = run.from; to = run.to; kind = run.kind; value = run.value }
 
 abbrev pub string_making : ObjectLists → List ℕ → List OpRun → Result ObjectLists Refused
-string_making o text runs =
-    unless_fault (string_fault o text (map run_of runs)) (record o { strings = o.strings ++ text_of text (map run_of runs) o.faces ∷ [] })
+string_making o text runs = unless_fault (string_fault o text (map run_of runs)) (string_added o text (map run_of runs))
 
 abbrev pub spec_of : OpSpec → Spec
 spec_of (ops.Text n) = Text n
@@ -47,10 +45,10 @@ spec_of (ops.Width n) = Width n
 spec_of (ops.Align n) = Align n
 
 abbrev pub spec_making : ObjectLists → OpSpec → Result ObjectLists Refused
-spec_making o spec = unless_fault (spec_fault o (spec_of spec)) (record o { specs = o.specs ++ spec_of spec ∷ [] })
+spec_making o spec = unless_fault (spec_fault o (spec_of spec)) (spec_added o (spec_of spec))
 
 abbrev pub face_making : ObjectLists → Attributes → Result ObjectLists Refused
-face_making o face = unless_fault (full_fault FACES (length o.faces)) (record o { faces = o.faces ++ face ∷ [] })
+face_making o face = unless_fault (full_fault FACES (length o.faces)) (face_added o face)
 
 -- a glyph character in its own columns
 abbrev pub glyph_of : ℕ → Glyph
@@ -60,7 +58,7 @@ abbrev pub entry_of : OpEntry → Entry
 entry_of entry = record { code = entry.code; text = map glyph_of entry.text }
 
 abbrev pub table_making : ObjectLists → TableValue → Result ObjectLists Refused
-table_making o table = unless_fault (full_fault TABLES (length o.tables)) (record o { tables = o.tables ++ table ∷ [] })
+table_making o table = unless_fault (full_fault TABLES (length o.tables)) (table_added o table)
 
 abbrev pub table_of : List OpEntry → Option ℕ → Option ℕ → Option ℕ → Option ℕ → Option (List ℕ) → Option ℕ → TableValue
 table_of entries truncation continuation escape control ellipsis border = record {

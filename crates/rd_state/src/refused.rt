@@ -1,8 +1,10 @@
 //! Why an op is refused.
 use rd_base::Memory;
+use rd_modeline::FormatFault;
 use rd_objects::ObjectFault;
 use rd_overlays::OverlayFault;
 use rd_text::TextFault;
+use rd_tree::TreeFault;
 use thiserror::Error;
 
 /// Why an op is refused.
@@ -35,18 +37,27 @@ pub enum Refused {
     /// There are 64 buffers.
     #[error("too many buffers")]
     TooManyBuffers,
+    /// 64 windows live, or 4,294,967,295 were made.
+    #[error("too many windows")]
+    TooManyWindows,
     /// 65,536 overlays were made in the buffer.
     #[error("too many overlays")]
     TooManyOverlays,
     /// As many objects of the sort were made as there may be: 4,096 strings, 4,096 display specs, 1,024 faces, 64 tables.
     #[error("too many objects")]
     TooManyObjects,
+    /// A window would have fewer columns or rows than it needs.
+    #[error("too small")]
+    TooSmall,
     /// The window is the only one.
     #[error("last window")]
     LastWindow,
-    /// The text has a character that cannot be shown yet: another than a newline and those from space to tilde.
-    #[error("not built")]
-    NotBuilt,
+    /// At this place of the format, counted from 0 in characters, stands a `%` that no code follows. It is the first such place.
+    #[error("bad format at {0}")]
+    BadFormat(u64),
+    /// The window was not laid out since what it shows may have changed. It comes from the session alone, which holds the layouts.
+    #[error("not shown")]
+    NotShown,
     /// There was no memory.
     #[error("no memory")]
     Memory,
@@ -107,6 +118,37 @@ impl From<OverlayFault> for Refused {
             OverlayFault::OutOfRange => Refused::OutOfRange,
             OverlayFault::TooMany => Refused::TooManyOverlays,
             OverlayFault::Memory => Refused::Memory,
+        }
+    }
+}
+
+impl From<TreeFault> for Refused {
+    ghost use Rattle.std.specs.Prelude.{◌≡◌};
+    ghost use Rattle.rd_state.specs.Steps.{refused_tree};
+
+    ghost from_gives = { λ fault e. e ≡ refused_tree fault };
+
+    fn from(fault: TreeFault) -> Refused {
+        match fault {
+            TreeFault::NoWindow => Refused::NoWindow,
+            TreeFault::TooSmall => Refused::TooSmall,
+            TreeFault::TooMany => Refused::TooManyWindows,
+            TreeFault::LastWindow => Refused::LastWindow,
+            TreeFault::Memory => Refused::Memory,
+        }
+    }
+}
+
+impl From<FormatFault> for Refused {
+    ghost use Rattle.std.specs.Prelude.{◌≡◌};
+    ghost use Rattle.rd_state.specs.Answers.{refused_format};
+
+    ghost from_gives = { λ fault e. e ≡ refused_format fault };
+
+    fn from(fault: FormatFault) -> Refused {
+        match fault {
+            FormatFault::BadFormat(column) => Refused::BadFormat(column),
+            FormatFault::Memory => Refused::Memory,
         }
     }
 }

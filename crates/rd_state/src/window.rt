@@ -1,14 +1,19 @@
 //! A window's view of a buffer.
-use rd_base::{Anchor, Pos, Wrap};
+use rd_base::{Anchor, Ch, ListOf, Pos, Wrap};
 
-/// A window: the number of its buffer, its point there, where its view begins, whether that was asked for by an op, how many
-/// columns it is scrolled to the left, and what becomes of lines that are longer than a row.
-#[derive(Clone, Copy, Debug, PartialEq, Eq)]
+/// A window: the number of its buffer, its point there, and where its view begins; whether that was asked for by an op, and how many
+/// rows wait to be scrolled, up where the number is below 0; how many columns it is scrolled sideways, and what becomes of lines that
+/// are longer than a row; the format of its mode line, where it has one; and the columns of its line numbers and of its margin strings.
+#[derive(Drop)]
 pub struct WindowState {
     pub buffer: u32,
     pub point: Pos,
     pub anchor: Anchor,
     pub forced: bool,
+    pub pending: i64,
     pub hscroll: u32,
     pub wrap: Wrap,
+    pub format: Option<ListOf<Ch>>,
+    pub numbers: u32,
+    pub strings: u32,
 }

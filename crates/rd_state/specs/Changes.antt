@@ -1,0 +1,35 @@
+-- What an op leaves of what is shown, by its effect.
+use Rattle.std.specs.Prelude.{◌≡◌, ◌≢◌, ℕ, ◌+◌, ℤ, pos, ◌-ℤ◌, false, min, max}
+use Rattle.rd_base.specs.Settings.{SettingValues}
+use Rattle.rd_objects.specs.Things.{ObjectLists}
+use Rattle.rd_props.specs.Agreement.{Unchanged}
+use Rattle.rd_state.specs.declared.effect.Effect.{Effect}
+use Rattle.rd_state.specs.declared.effect.Effect.TheVariants.{Nothing, Edit, Moved, All, Window}
+use Rattle.rd_state.specs.States.{ContentValue, seen}
+
+-- settings without the two flags that no line depends on
+abbrev pub without_flags : SettingValues → SettingValues
+without_flags settings = record settings { modified = false; read_only = false }
+
+-- a buffer before and behind an op: the same is seen before `head`, and from `tail` on where it stood before so many positions were
+-- added, and the settings are the same but for the two flags
+pub record Stays (old : ContentValue) (old_objects : ObjectLists) (new : ContentValue) (new_objects : ObjectLists) (head tail : ℕ) (added : ℤ) : Type 0 where
+  pub seen : Unchanged (seen old) old_objects (seen new) new_objects head tail added
+  pub settings : without_flags new.settings ≡ without_flags old.settings
+
+-- all of it is the same
+abbrev pub StaysWhole : ContentValue → ObjectLists → ContentValue → ObjectLists → Type 0
+StaysWhole old old_objects new new_objects = (head tail : ℕ) → Stays old old_objects new new_objects head tail (pos 0)
+
+-- What an effect leaves of the buffer with a number. The position just behind an edit counts as changed, since the strings of
+-- overlays can move there.
+abbrev pub Leaves : Effect → ℕ → ContentValue → ObjectLists → ContentValue → ObjectLists → Type 0
+Leaves Nothing k old old_objects new new_objects = StaysWhole old old_objects new new_objects
+Leaves (Edit i from removed added) k old old_objects new new_objects =
+    (k ≡ i → Stays old old_objects new new_objects from (from + added + 1) (pos added -ℤ pos removed))
+    × (k ≢ i → StaysWhole old old_objects new new_objects)
+Leaves (Moved i before after) k old old_objects new new_objects =
+    (k ≡ i → Stays old old_objects new new_objects (min before.0 after.0) (max before.1 after.1 + 1) (pos 0))
+    × (k ≢ i → StaysWhole old old_objects new new_objects)
+Leaves (All i) k old old_objects new new_objects = k ≢ i → StaysWhole old old_objects new new_objects
+Leaves (Window window) k old old_objects new new_objects = StaysWhole old old_objects new new_objects

@@ -1,0 +1,30 @@
+-- Where the points and the views of windows move when the text that they show changes.
+use Rattle.std.specs.Prelude.{ℕ, ◌+◌, ◌-◌, nat_lt, ◌==◌, if◌then◌else◌, min, max}
+use Rattle.rd_state.specs.declared.moves.Move.{Move}
+use Rattle.rd_state.specs.declared.moves.Move.TheVariants.{Inserted, Deleted, Narrowed}
+use Rattle.rd_state.specs.declared.window.WindowState.{WindowState}
+
+-- what stands past the place of an insertion moves by its length, and what stands at the place stays
+abbrev pub after_insertion : ℕ → ℕ → ℕ → ℕ
+after_insertion pos count p = if nat_lt pos p then p + count else p
+
+-- what stands in a range that is deleted goes to its beginning, and what stands behind it moves back by its length
+abbrev pub after_deletion : ℕ → ℕ → ℕ → ℕ
+after_deletion from to p = if nat_lt p from then p else (if nat_lt p to then from else p - (to - from))
+
+-- the nearest position of a range, its end included
+abbrev pub brought_into : ℕ → ℕ → ℕ → ℕ
+brought_into from to p = max from (min p to)
+
+abbrev pub place_after : Move → ℕ → ℕ
+place_after (Inserted pos count) p = after_insertion pos count p
+place_after (Deleted from to) p = after_deletion from to p
+place_after (Narrowed from to) p = brought_into from to p
+
+-- a window whose point and view move with the text
+abbrev pub moved : Move → WindowState → WindowState
+moved how w = record w { point = place_after how w.point; anchor = record { pos = place_after how w.anchor.pos; row = w.anchor.row } }
+
+-- the same where the window shows the buffer with this number
+abbrev pub moved_in : ℕ → Move → ℕ × WindowState → ℕ × WindowState
+moved_in buffer how e = if e.1.buffer == buffer then (e.0, moved how e.1) else e

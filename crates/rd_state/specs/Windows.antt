@@ -1,0 +1,52 @@
+-- The windows of a state by their numbers, and what the tree says of each.
+use Rattle.std.specs.Prelude.{◌≡◌, ℕ, ◌+◌, ◌==◌, Bool, is_some, if◌then◌else◌, Option, None, Some, List, [], ◌∷◌, slice_get, unwrap_or}
+use Rattle.std.specs.List.{position_or_len}
+use Rattle.std.specs.Option.{option_or}
+use Rattle.rd_tree.specs.Windows.{Windows, Window, Split}
+use Rattle.rd_state.specs.declared.window.WindowState.{WindowState}
+use Rattle.rd_state.specs.States.{BufferValue, ContentValue, StateValue, new_content, opening_window}
+
+-- the window with a number, where it lives
+abbrev pub window_of : ℕ → List (ℕ × WindowState) → Option WindowState
+window_of number [] = None
+window_of number (e ∷ rest) = if e.0 == number then Some e.1 else window_of number rest
+
+-- the place of the window with a number, and the count of windows where it does not live
+abbrev pub place_in : ℕ → List (ℕ × WindowState) → ℕ
+place_in number windows = position_or_len (λ e. e.0 == number) windows
+
+-- the windows where the one with a number became another
+abbrev pub with_window : ℕ → (WindowState → WindowState) → List (ℕ × WindowState) → List (ℕ × WindowState)
+with_window number f [] = []
+with_window number f (e ∷ rest) = if e.0 == number then (e.0, f e.1) ∷ rest else e ∷ with_window number f rest
+
+-- the windows but for the one with a number
+abbrev pub without_window : ℕ → List (ℕ × WindowState) → List (ℕ × WindowState)
+without_window number [] = []
+without_window number (e ∷ rest) = if e.0 == number then rest else e ∷ without_window number rest
+
+-- no number stands twice
+abbrev pub AreApart : List (ℕ × WindowState) → Type 0
+AreApart [] = Unit {0}
+AreApart (e ∷ rest) = (window_of e.0 rest ≡ None) × AreApart rest
+
+-- whether the window with a number shows a mode line, and the columns of its margins, where the tree has it
+abbrev pub leaf_at : ℕ → Windows → Option (Bool × ℕ)
+leaf_at number (Window n mode margins) = if n == number then Some (mode, margins) else None
+leaf_at number (Split side size first second) = option_or (leaf_at number first) (leaf_at number second)
+
+-- the same as the window says it: it shows a mode line where it has a format for it
+abbrev pub leaf_of : WindowState → Bool × ℕ
+leaf_of w = (is_some w.format, w.numbers + w.strings)
+
+-- the selected window; one that is selected always lives
+abbrev pub selected_window : StateValue → WindowState
+selected_window s = unwrap_or (window_of s.selected s.windows) opening_window
+
+abbrev pub content_in : Option BufferValue → ContentValue
+content_in None = new_content
+content_in (Some b) = b.content
+
+-- what the buffer that a window shows holds; a window always shows one that was made
+abbrev pub shown_content : StateValue → WindowState → ContentValue
+shown_content s w = content_in (slice_get s.buffers w.buffer)
