@@ -16,9 +16,9 @@ use Rattle.rd_script.specs.declared.op.Op.{Op}
 use Rattle.rd_script.specs.declared.fault.OpFault.TheVariants.{NotBuilt}
 use Rattle.rd_play.specs.declared.status.ScriptFault.{ScriptFault}
 use Rattle.rd_play.specs.declared.status.ScriptFault.TheVariants as faults
-use Rattle.rd_state.specs.States.{StateValue, opening}
-use Rattle.rd_state.specs.Steps.{step}
-use Rattle.rd_state.specs.declared.refused.Refused.{Refused}
+use Rattle.rd_ascii.specs.States.{StateValue, opening}
+use Rattle.rd_ascii.specs.Steps.{step}
+use Rattle.rd_ascii.specs.declared.refused.Refused.{Refused}
 use Rattle.rd_session.specs.Redisplay.{Laid, laid_out}
 use Rattle.rd_session.specs.Sessions.{IsBuilt, is_frame}
 use Rattle.rd_play.specs.Runs.{Turn, Standing, Effect, World, opened, turn, after, terminal_after, ShowsEach, effect, effect_of_reading, effect_by, asked, is_blank, stepped, quiet, refused, unshown, redisplayed}

@@ -9,9 +9,9 @@ use Rattle.rd_io.specs.declared.lines.LineFault.TheVariants as reader
 use Rattle.rd_script.specs.Reading.{reading}
 use Rattle.rd_script.specs.declared.fault.OpFault.{OpFault}
 use Rattle.rd_script.specs.declared.op.Op.{Op}
-use Rattle.rd_state.specs.States.{StateValue}
-use Rattle.rd_state.specs.Steps.{step}
-use Rattle.rd_state.specs.declared.refused.Refused.{Refused}
+use Rattle.rd_ascii.specs.States.{StateValue}
+use Rattle.rd_ascii.specs.Steps.{step}
+use Rattle.rd_ascii.specs.declared.refused.Refused.{Refused}
 use Rattle.rd_play.specs.Acts.{Acts, Stopped, turn_of, ended_by, halted_by}
 use Rattle.rd_play.specs.Ends.{Sunk, sunk, Took, Broke, AreFirst, Begins, lines_in, IsBad, IsInHand}
 use Rattle.rd_play.specs.Runs.{Turn, Standing, Effect, World, opened, run, turn, after, effect, effect_of_reading, effect_by, asked, is_blank, stepped}

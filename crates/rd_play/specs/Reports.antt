@@ -3,8 +3,8 @@ use Rattle.std.specs.Prelude.{ℕ, if◌then◌else◌, List, [], ◌∷◌, ◌
 use Rattle.rd_base.specs.Chars.{is_scalar}
 use Rattle.rd_script.specs.declared.fault.OpFault.{OpFault}
 use Rattle.rd_script.specs.declared.fault.OpFault.TheVariants as ops
-use Rattle.rd_state.specs.declared.refused.Refused.{Refused}
-use Rattle.rd_state.specs.declared.refused.Refused.TheVariants as refusals
+use Rattle.rd_ascii.specs.declared.refused.Refused.{Refused}
+use Rattle.rd_ascii.specs.declared.refused.Refused.TheVariants as refusals
 use Rattle.rd_play.specs.declared.status.ScriptFault.{ScriptFault}
 use Rattle.rd_play.specs.declared.status.ScriptFault.TheVariants as faults
 use Rattle.rd_play.specs.declared.status.Status.{Status}

@@ -11,9 +11,9 @@ use Rattle.rd_script.specs.declared.fault.OpFault.{OpFault}
 use Rattle.rd_script.specs.declared.fault.OpFault.TheVariants.{NotBuilt}
 use Rattle.rd_script.specs.declared.op.Op.{Op}
 use Rattle.rd_script.specs.declared.op.Op.TheVariants.{Redisplay}
-use Rattle.rd_state.specs.States.{StateValue, opening}
-use Rattle.rd_state.specs.Steps.{step}
-use Rattle.rd_state.specs.declared.refused.Refused.{Refused}
+use Rattle.rd_ascii.specs.States.{StateValue, opening}
+use Rattle.rd_ascii.specs.Steps.{step}
+use Rattle.rd_ascii.specs.declared.refused.Refused.{Refused}
 use Rattle.rd_session.specs.Facts.{facts_of}
 use Rattle.rd_session.specs.Redisplay.{Laid, laid_out}
 use Rattle.rd_session.specs.Sessions.{is_frame}

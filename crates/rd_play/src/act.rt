@@ -3,7 +3,7 @@ ghost use Rattle.std.specs.Prelude.{◌≡◌, ℕ, ◌≤◌, ◌<◌, ◌++◌
 ghost use Rattle.rd_io.specs.Devices.{Rose, Writes};
 ghost use Rattle.rd_script.specs.Forms.{IsInForm};
 ghost use Rattle.rd_script.specs.Reading.{reading};
-ghost use Rattle.rd_state.specs.Steps.{step};
+ghost use Rattle.rd_ascii.specs.Steps.{step};
 ghost use Rattle.rd_session.specs.Facts.{facts_of};
 ghost use Rattle.rd_session.specs.Redisplay.{laid_out};
 ghost use Rattle.rd_play.specs.Acts.{Acts, IsTold, standing, turn_of};
@@ -20,7 +20,7 @@ use rd_base::{Memory, Steps};
 use rd_io::{Failed, Sink};
 use rd_script::{Op, OpFault, print_dump, read_op};
 use rd_session::{Outcome, Session};
-use rd_state::Refused;
+use rd_ascii::Refused;
 use std::alloc::Global;
 use std::sync::ledger::Ledger;
 

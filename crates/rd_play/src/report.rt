@@ -8,7 +8,7 @@ use itoa::Buffer;
 use rd_base::Ch;
 use rd_io::{Failed, Sink, write_whole};
 use rd_script::OpFault;
-use rd_state::Refused;
+use rd_ascii::Refused;
 
 /// Writes pieces, one behind the other.
 fn tell<R: Sink>(report: &mut R, pieces: &[&[u8]]) -> Result<(), Failed>

@@ -3,7 +3,7 @@ ghost use Rattle.std.specs.Prelude.{◌≡◌};
 ghost use Rattle.rd_play.specs.Statuses.{code_of};
 
 use rd_script::OpFault;
-use rd_state::Refused;
+use rd_ascii::Refused;
 
 /// Why a line of a script is bad.
 #[derive(Debug, Drop)]

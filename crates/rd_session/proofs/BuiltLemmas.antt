@@ -8,16 +8,16 @@ use Rattle.rd_script.specs.declared.op.Op.TheVariants as ops
 use Rattle.rd_script.specs.Forms.{each}
 use Rattle.rd_script.specs.declared.setting.Setting.{Setting}
 use Rattle.rd_objects.specs.Things.{ObjectLists}
-use Rattle.rd_state.specs.declared.refused.Refused.{Refused}
-use Rattle.rd_state.specs.declared.refused.Refused.TheVariants.{NoWindow, NoObject, NameTaken, TooManyBuffers, LastWindow, NotBuilt, OutOfRange, TextTooLarge}
-use Rattle.rd_state.specs.declared.window.WindowState.{WindowState}
-use Rattle.rd_state.specs.States.{BufferValue, StateValue, IsValid, new_buffer, main_name, most_buffers, number_of, opening}
-use Rattle.rd_state.specs.Edits.{is_accessible, is_built_character, is_built, is_accessible_range, is_range_of_all, has_room, grown, shrunk, insertion, deletion, narrowing, widening, overlay_making, overlay_moving, overlay_dropping, setting_putting, after_insertion, after_deletion, brought_into}
-use Rattle.rd_state.specs.Steps.{moved_in, changed, replaced, with_objects, names_made, with, in_buffer, with_point, making, typing, showing, pointing, step}
-use Rattle.rd_state.specs.Making.{string_making, spec_making, face_making, table_making, table_of}
-use Rattle.rd_state.proofs.Edits.{if-ok, if-not}
-use Rattle.rd_state.proofs.Replacing.{KeepsText, making-keeps, moving-keeps, dropping-keeps, putting-keeps}
-use Rattle.rd_state.proofs.Keeping.{get-set}
+use Rattle.rd_ascii.specs.declared.refused.Refused.{Refused}
+use Rattle.rd_ascii.specs.declared.refused.Refused.TheVariants.{NoWindow, NoObject, NameTaken, TooManyBuffers, LastWindow, NotBuilt, OutOfRange, TextTooLarge}
+use Rattle.rd_ascii.specs.declared.window.WindowState.{WindowState}
+use Rattle.rd_ascii.specs.States.{BufferValue, StateValue, IsValid, new_buffer, main_name, most_buffers, number_of, opening}
+use Rattle.rd_ascii.specs.Edits.{is_accessible, is_built_character, is_built, is_accessible_range, is_range_of_all, has_room, grown, shrunk, insertion, deletion, narrowing, widening, overlay_making, overlay_moving, overlay_dropping, setting_putting, after_insertion, after_deletion, brought_into}
+use Rattle.rd_ascii.specs.Steps.{moved_in, changed, replaced, with_objects, names_made, with, in_buffer, with_point, making, typing, showing, pointing, step}
+use Rattle.rd_ascii.specs.Making.{string_making, spec_making, face_making, table_making, table_of}
+use Rattle.rd_ascii.proofs.Edits.{if-ok, if-not}
+use Rattle.rd_ascii.proofs.Replacing.{KeepsText, making-keeps, moving-keeps, dropping-keeps, putting-keeps}
+use Rattle.rd_ascii.proofs.Keeping.{get-set}
 use Rattle.rd_session.specs.Sessions.{IsBuilt, is_frame}
 
 -- ---- texts
@@ -256,6 +256,22 @@ step-stays s t (ops.Wrap window mode) h other =
 step-stays s t (ops.Redisplay stop) h other =
     let same : s ≡ t = cc (h) in
     subst (Stays s) same (record { wide = refl; high = refl; texts = λ old. old })
+step-stays s t (ops.InsertRaw name place bytes) h other = absurd (cc)
+step-stays s t (ops.Put name from to kind value) h other = absurd (cc)
+step-stays s t (ops.OverlayPut name overlay kind value) h other = absurd (cc)
+step-stays s t (ops.Split window side size) h other = absurd (cc)
+step-stays s t (ops.Select window) h other = absurd (cc)
+step-stays s t (ops.Start window place row) h other = absurd (cc)
+step-stays s t (ops.Scroll window rows) h other = absurd (cc)
+step-stays s t (ops.Hscroll window columns) h other = absurd (cc)
+step-stays s t (ops.ModeLine window format) h other = absurd (cc)
+step-stays s t (ops.Scrolling margin conservatively) h other = absurd (cc)
+step-stays s t (ops.Echo text) h other = absurd (cc)
+step-stays s t (ops.Shift on) h other = absurd (cc)
+step-stays s t (ops.Go window right) h other = absurd (cc)
+step-stays s t (ops.Hit window row column) h other = absurd (cc)
+step-stays s t (ops.Margin window numbers strings) h other = absurd (cc)
+step-stays s t (ops.MarginPut name overlay string) h other = absurd (cc)
 
 pub step-frame : (s t : StateValue) (op : Op) → step s op ≡ Ok t → is_frame op ≡ false → (t.width ≡ s.width) × (t.height ≡ s.height)
 step-frame s t op h other = let stays = step-stays s t op h other in (stays.wide, stays.high)
@@ -288,6 +304,22 @@ step-texts s t (ops.Show window name) h old = (step-stays s t (ops.Show window n
 step-texts s t (ops.Point window pos) h old = (step-stays s t (ops.Point window pos) h refl).texts old
 step-texts s t (ops.Wrap window mode) h old = (step-stays s t (ops.Wrap window mode) h refl).texts old
 step-texts s t (ops.Redisplay stop) h old = (step-stays s t (ops.Redisplay stop) h refl).texts old
+step-texts s t (ops.InsertRaw name place bytes) h old = (step-stays s t (ops.InsertRaw name place bytes) h refl).texts old
+step-texts s t (ops.Put name from to kind value) h old = (step-stays s t (ops.Put name from to kind value) h refl).texts old
+step-texts s t (ops.OverlayPut name overlay kind value) h old = (step-stays s t (ops.OverlayPut name overlay kind value) h refl).texts old
+step-texts s t (ops.Split window side size) h old = (step-stays s t (ops.Split window side size) h refl).texts old
+step-texts s t (ops.Select window) h old = (step-stays s t (ops.Select window) h refl).texts old
+step-texts s t (ops.Start window place row) h old = (step-stays s t (ops.Start window place row) h refl).texts old
+step-texts s t (ops.Scroll window rows) h old = (step-stays s t (ops.Scroll window rows) h refl).texts old
+step-texts s t (ops.Hscroll window columns) h old = (step-stays s t (ops.Hscroll window columns) h refl).texts old
+step-texts s t (ops.ModeLine window format) h old = (step-stays s t (ops.ModeLine window format) h refl).texts old
+step-texts s t (ops.Scrolling margin conservatively) h old = (step-stays s t (ops.Scrolling margin conservatively) h refl).texts old
+step-texts s t (ops.Echo text) h old = (step-stays s t (ops.Echo text) h refl).texts old
+step-texts s t (ops.Shift on) h old = (step-stays s t (ops.Shift on) h refl).texts old
+step-texts s t (ops.Go window right) h old = (step-stays s t (ops.Go window right) h refl).texts old
+step-texts s t (ops.Hit window row column) h old = (step-stays s t (ops.Hit window row column) h refl).texts old
+step-texts s t (ops.Margin window numbers strings) h old = (step-stays s t (ops.Margin window numbers strings) h refl).texts old
+step-texts s t (ops.MarginPut name overlay string) h old = (step-stays s t (ops.MarginPut name overlay string) h refl).texts old
 
 pub step-built : (s t : StateValue) (op : Op) → (IsValid s → IsValid t) → IsBuilt s → step s op ≡ Ok t → IsBuilt t
 step-built s t op valid built h = record { valid = valid built.valid; texts = step-texts s t op h built.texts }

@@ -8,10 +8,10 @@ use Rattle.rd_base.specs.declared.cell.Cell.{Cell}
 use Rattle.rd_base.specs.declared.settings.Anchor.{Anchor}
 use Rattle.rd_session.specs.Shown.{cursor_of}
 use Rattle.rd_matrix.specs.declared.matrix.Entry.{Entry}
-use Rattle.rd_state.specs.Edits.{is_built}
-use Rattle.rd_state.specs.States.{BufferValue, StateValue, IsValid}
-use Rattle.rd_state.specs.Steps.{settled}
-use Rattle.rd_state.specs.declared.window.WindowState.{WindowState}
+use Rattle.rd_ascii.specs.Edits.{is_built}
+use Rattle.rd_ascii.specs.States.{BufferValue, StateValue, IsValid}
+use Rattle.rd_ascii.specs.Steps.{settled}
+use Rattle.rd_ascii.specs.declared.window.WindowState.{WindowState}
 use Rattle.rd_term.specs.Pictures.{blank, blank_row, IsGrid, IsOfSize}
 use Rattle.rd_text.specs.Texts.{TextValue, IsText, IsAccessible}
 use Rattle.rd_session.specs.Blocks.{blocks_of}

@@ -6,9 +6,9 @@ use Rattle.std.proofs.lemmas.List.Elements.{recursion_from_All}
 use Rattle.rd_base.specs.declared.cell.Cell.{Cell}
 use Rattle.rd_base.specs.declared.settings.Anchor.{Anchor}
 use Rattle.rd_matrix.specs.declared.matrix.Entry.{Entry}
-use Rattle.rd_state.specs.States.{BufferValue, StateValue}
-use Rattle.rd_state.specs.Steps.{settled}
-use Rattle.rd_state.specs.declared.window.WindowState.{WindowState}
+use Rattle.rd_ascii.specs.States.{BufferValue, StateValue}
+use Rattle.rd_ascii.specs.Steps.{settled}
+use Rattle.rd_ascii.specs.declared.window.WindowState.{WindowState}
 use Rattle.rd_term.specs.Pictures.{Picture, IsOfSize, width_of}
 use Rattle.rd_text.specs.Texts.{TextValue, IsAccessible}
 use Rattle.rd_update.specs.Plans.{HaveOneSize, sent_of}

@@ -9,7 +9,7 @@ use Rattle.rd_matrix.specs.declared.matrix.Entry.{Entry}
 use Rattle.rd_rows.specs.Rows.{LaidRow}
 use Rattle.rd_rows.specs.Shapes.{ShapeValues}
 use Rattle.rd_script.specs.Forms.{each}
-use Rattle.rd_state.specs.Edits.{is_built, is_built_character}
+use Rattle.rd_ascii.specs.Edits.{is_built, is_built_character}
 use Rattle.rd_text.specs.Texts.{TextValue, IsText, between}
 use Rattle.rd_session.specs.Blocks.{BlockValue, in_front, blocks_from, blocks_of}
 use Rattle.rd_session.specs.Layout.{made, numbered, line_rows, block_rows, text_rows, view_of}

@@ -5,8 +5,8 @@ use Rattle.rd_base.specs.declared.settings.Anchor.{Anchor}
 use Rattle.rd_session.specs.Shown.{cursor_of}
 use Rattle.rd_matrix.specs.declared.matrix.Entry.{Entry}
 use Rattle.rd_rows.specs.Shapes.{ShapeValues}
-use Rattle.rd_state.specs.States.{BufferValue, StateValue}
-use Rattle.rd_state.specs.Steps.{settled}
+use Rattle.rd_ascii.specs.States.{BufferValue, StateValue}
+use Rattle.rd_ascii.specs.Steps.{settled}
 use Rattle.rd_term.specs.Pictures.{Picture, blank_row}
 use Rattle.rd_text.specs.Texts.{TextValue, no_text}
 use Rattle.rd_session.specs.Blocks.{blocks_of}

@@ -5,11 +5,11 @@ use Rattle.rd_io.specs.Devices.{AppendsFront}
 use Rattle.rd_matrix.specs.declared.matrix.Entry.{Entry}
 use Rattle.rd_script.specs.declared.op.Op.{Op}
 use Rattle.rd_script.specs.declared.op.Op.TheVariants.{Frame}
-use Rattle.rd_state.specs.Edits.{is_built}
-use Rattle.rd_state.specs.States.{BufferValue, StateValue, IsValid, number_of, opening}
-use Rattle.rd_state.specs.Steps.{step}
-use Rattle.rd_state.specs.declared.refused.Refused.{Refused}
-use Rattle.rd_state.specs.declared.refused.Refused.TheVariants.{Memory}
+use Rattle.rd_ascii.specs.Edits.{is_built}
+use Rattle.rd_ascii.specs.States.{BufferValue, StateValue, IsValid, number_of, opening}
+use Rattle.rd_ascii.specs.Steps.{step}
+use Rattle.rd_ascii.specs.declared.refused.Refused.{Refused}
+use Rattle.rd_ascii.specs.declared.refused.Refused.TheVariants.{Memory}
 use Rattle.rd_term.specs.Pictures.{Picture, width_of}
 use Rattle.rd_update.specs.Laws.{IsSound}
 use Rattle.rd_update.specs.Updates.{update}

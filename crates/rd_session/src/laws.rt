@@ -2,15 +2,15 @@
 ghost use Rattle.std.specs.Prelude.{◌≡◌, false, Ok};
 ghost use Rattle.rd_script.specs.declared.op.Op.{Op};
 ghost use Rattle.rd_script.specs.Forms.{IsInForm};
-ghost use Rattle.rd_state.specs.States.{StateValue, opening};
-ghost use Rattle.rd_state.specs.Steps.{step};
+ghost use Rattle.rd_ascii.specs.States.{StateValue, opening};
+ghost use Rattle.rd_ascii.specs.Steps.{step};
 ghost use Rattle.rd_term.specs.Pictures.{IsOfSize};
 ghost use Rattle.rd_update.specs.Laws.{IsSound};
 ghost use Rattle.rd_session.specs.Plain.{ArePlain};
 ghost use Rattle.rd_session.specs.Redisplay.{laid_out};
 ghost use Rattle.rd_session.specs.Sessions.{IsBuilt, is_frame};
 
-use rd_state::{settling_keeps_states, steps_keep_states};
+use rd_ascii::{settling_keeps_states, steps_keep_states};
 
 /// The opening is valid and its texts have only characters that can be shown; an op in form that is accepted leads from such a
 /// state to such a state, and none but a frame op changes the frame's size. The call does nothing.

@@ -3,7 +3,7 @@ ghost use Rattle.std.specs.Prelude.{◌≡◌, ◌≤◌, ◌==◌, if◌then◌
 ghost use Rattle.rd_session.specs.Shown.{cursor_of};
 ghost use Rattle.rd_io.specs.Devices.{Rose};
 ghost use Rattle.rd_script.specs.Forms.{IsInForm};
-ghost use Rattle.rd_state.specs.Answers.{IsApplied};
+ghost use Rattle.rd_ascii.specs.Answers.{IsApplied};
 ghost use Rattle.rd_update.specs.Plans.{planned};
 ghost use Rattle.rd_session.specs.Facts.{facts_of, place_of};
 ghost use Rattle.rd_session.specs.Redisplay.{anchor_of, laid_out, shown_text};
@@ -19,7 +19,7 @@ use rd_io::Sink;
 use rd_matrix::Matrix;
 use rd_rows::Shape;
 use rd_script::{Op, WindowFacts};
-use rd_state::{Refused, State, WindowState};
+use rd_ascii::{Refused, State, WindowState};
 use rd_term::Screen;
 use rd_text::Buffer;
 use rd_tree::Rect;

@@ -1,5 +1,5 @@
 use Rattle.std.proofs.Common.{◌≡◌, ℕ, ◌∙◌, ap, subst, sym, arith}
-use Rattle.rd_state.specs.declared.window.WindowState.{WindowState}
+use Rattle.rd_ascii.specs.declared.window.WindowState.{WindowState}
 use Rattle.rd_text.specs.Texts.{IsText, IsAccessible}
 use Rattle.rd_update.specs.Laws.{IsSound}
 use Rattle.rd_update.specs.Plans.{HaveOneSize, planned, shown}

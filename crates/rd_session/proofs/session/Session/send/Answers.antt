@@ -1,6 +1,6 @@
 use Rattle.std.proofs.Common.{◌≡◌, ℕ, Option, refl, Some, None, ◌∙◌, ap, subst, sym, arith}
 use Rattle.std.specs.Io.KnownBytes.{Appends}
-use Rattle.rd_state.specs.States.{StateValue}
+use Rattle.rd_ascii.specs.States.{StateValue}
 use Rattle.rd_text.specs.Texts.{IsAccessible}
 use Rattle.rd_term.specs.Pictures.{Picture}
 use Rattle.rd_update.specs.Plans.{HaveOneSize, sent_of}

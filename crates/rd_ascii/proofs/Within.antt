@@ -1,0 +1,270 @@
+-- Overlays and values of properties that lie in a text, and still do after an edit of it.
+use Rattle.std.proofs.Common.{◌≡◌, ℕ, zero, suc, ◌+◌, ◌-◌, ◌<◌, ◌≤◌, ◌⊎◌, ◌++◌, inl, inr, ◌==◌, ◌&&◌, ◌||◌, Bool, true, false, if◌then◌else◌, nat_lt, nat_le, Option, None, Some, Err, List, [], ◌∷◌, length, map, take, drop, set, sym, ap, subst, refl, ◌∙◌, arith, length-append, length-drop}
+use Rattle.std.proofs.lemmas.Bool.{ltb-true, ltb-false, leb-false}
+use Rattle.std.proofs.lemmas.Bool.Decides.{nat_tests}
+use Rattle.std.proofs.lemmas.List.{length-take, length-map, length-set}
+use Rattle.rd_text.specs.Texts.{TextValue, IsText, IsAccessible, inserted, deleted}
+use Rattle.rd_text.specs.Answers.{IsAccessibleRange}
+use Rattle.rd_overlays.specs.declared.overlay.Overlay.{Overlay}
+use Rattle.rd_overlays.specs.Overlays.{live, overlay_at, make_fault, moved, Makes, slot_changed, slot_grown, slot_shrunk, grown, shrunk, after_deletion, AllFit, SlotFits}
+use Rattle.rd_base.specs.Settings.{SettingValues}
+use Rattle.rd_overlays.specs.declared.fault.OverlayFault.{OverlayFault}
+use Rattle.rd_overlays.specs.declared.fault.OverlayFault.TheVariants.{NoOverlay, OutOfRange, TooMany, Memory}
+use Rattle.rd_props.specs.Buffers as props
+use Rattle.rd_ascii.specs.Edits.{is_range_of_all}
+use Rattle.rd_ascii.specs.States.{IsOverlayIn, IsWithin}
+use Rattle.rd_ascii.specs.Values.{opened, closed}
+
+-- ---- overlays
+
+-- each overlay lies in a text of so many characters
+abbrev pub AreIn : ℕ → List (Option Overlay) → Type 0
+AreIn size slots = (number : ℕ) (o : Overlay) → overlay_at slots number ≡ Some o → IsOverlayIn size o
+
+slot-fits : (size pos n : ℕ) (slot : Option Overlay) → size + 1 + n < 4294967296 → ((o : Overlay) → slot ≡ Some o → IsOverlayIn size o) → SlotFits pos n slot
+slot-fits size pos n None room h = tt
+slot-fits size pos n (Some o) room h =
+    let in_text = h o refl in
+    let ordered = in_text.ordered in
+    let last = in_text.last in
+    (λ _. omega arith, λ _. omega arith)
+
+pub all-fit : (slots : List (Option Overlay)) (size pos n : ℕ) → size + 1 + n < 4294967296 → AreIn size slots → AllFit pos n slots
+all-fit slots size pos n room h number slot at = slot-fits size pos n slot room (λ o is. h number o (ap live at ∙ is))
+
+-- what stands at a number after each overlay was changed
+changed-at : (change : Overlay → Overlay) (slots : List (Option Overlay)) (number : ℕ) → overlay_at (map (slot_changed change) slots) number ≡ slot_changed change (overlay_at slots number)
+changed-at change [] number = refl
+changed-at change (slot ∷ slots) zero = refl
+changed-at change (slot ∷ slots) (suc number) = changed-at change slots number
+
+slot-in : (size to : ℕ) (change : Overlay → Overlay) (slot : Option Overlay) (o : Overlay) → slot_changed change slot ≡ Some o
+    → ((p : Overlay) → slot ≡ Some p → IsOverlayIn size p) → ((p : Overlay) → IsOverlayIn size p → IsOverlayIn to (change p)) → IsOverlayIn to o
+slot-in size to change None o is old new = absurd (cc)
+slot-in size to change (Some p) o is old new = let same : change p ≡ o = cc in subst (IsOverlayIn to) same (new p (old p refl))
+
+-- overlays that are changed each in its text
+changed-in : (size to : ℕ) (change : Overlay → Overlay) (slots : List (Option Overlay)) → AreIn size slots
+    → ((p : Overlay) → IsOverlayIn size p → IsOverlayIn to (change p)) → AreIn to (map (slot_changed change) slots)
+changed-in size to change slots old new number o is =
+    slot-in size to change (overlay_at slots number) o (sym (changed-at change slots number) ∙ is) (old number) new
+
+moved_by : (t : Bool) (p n : ℕ) → (p ≤ (if t then p + n else p)) × ((if t then p + n else p) ≤ p + n)
+moved_by true p n = (omega arith, omega arith)
+moved_by false p n = (omega arith, omega arith)
+
+grown-in : (size pos n : ℕ) (o : Overlay) → IsOverlayIn size o → IsOverlayIn (size + n) (grown pos n o)
+grown-in size pos n o h =
+    let from = moved_by (nat_lt pos o.from || ((o.from == pos) && o.front)) o.from n in
+    let to = moved_by (nat_lt pos o.to || ((o.to == pos) && o.rear)) o.to n in
+    let first = h.first in
+    let ordered = h.ordered in
+    let last = h.last in
+    record { first = omega arith; ordered = omega arith; last = omega arith }
+
+moved_back : (t u : Bool) (from to p : ℕ) → nat_lt p from ≡ t → nat_lt p to ≡ u → from ≤ to
+    → let q = if t then p else (if u then from else p - (to - from)) in (q ≤ p) × (p ≤ q + (to - from))
+moved_back true u from to p ht hu h = (omega arith, omega arith)
+moved_back false true from to p ht hu h =
+    let behind = ltb-false p from ht in
+    let before = ltb-true p to hu in
+    (omega arith, omega arith)
+moved_back false false from to p ht hu h = (omega arith, omega arith)
+
+moved_back-less : (from to p q : ℕ) → from ≤ to → p ≤ q → after_deletion from to p ≤ after_deletion from to q
+moved_back-less from to p q h less = grind (arith, nat_tests)
+
+shrunk-in : (size from to : ℕ) (o : Overlay) → 1 ≤ from → from ≤ to → to ≤ size + 1 → IsOverlayIn size o → IsOverlayIn (size - (to - from)) (shrunk from to o)
+shrunk-in size from to o one h within is =
+    let first = is.first in
+    let ordered = is.ordered in
+    let last = is.last in
+    let start = moved_back (nat_lt o.from from) (nat_lt o.from to) from to o.from refl refl h in
+    record {
+      first = grind (arith, nat_tests);
+      ordered = moved_back-less from to o.from o.to h ordered;
+      last = grind (arith, nat_tests);
+    }
+
+-- ---- values
+
+-- where a position with a value stood before
+came_from : (t u : Bool) (f : ℕ → ℕ → Option ℕ) (pos n kind p value : ℕ) → nat_lt p pos ≡ t → nat_lt p (pos + n) ≡ u
+    → (if t then f kind p else (if u then None else f kind (p - n))) ≡ Some value → (q : ℕ) × (f kind q ≡ Some value) × (q ≤ p) × (p ≤ q + n)
+came_from true u f pos n kind p value ht hu h = (p, h, omega arith, omega arith)
+came_from false true f pos n kind p value ht hu h = absurd (cc)
+came_from false false f pos n kind p value ht hu h = (p - n, h, omega arith, omega arith)
+
+closed-kind : (t : Bool) (f : ℕ → ℕ → Option ℕ) (from to kind p value : ℕ) → ((k q v : ℕ) → f k q ≡ Some v → k < 5)
+    → (if t then f kind p else f kind (p + (to - from))) ≡ Some value → kind < 5
+closed-kind true f from to kind p value old h = old kind p value h
+closed-kind false f from to kind p value old h = old kind (p + (to - from)) value h
+
+closed-first : (t : Bool) (f : ℕ → ℕ → Option ℕ) (from to kind p value : ℕ) → nat_lt p from ≡ t → 1 ≤ from → ((q v : ℕ) → f kind q ≡ Some v → 1 ≤ q)
+    → (if t then f kind p else f kind (p + (to - from))) ≡ Some value → 1 ≤ p
+closed-first true f from to kind p value ht one old h = old p value h
+closed-first false f from to kind p value ht one old h = let behind = ltb-false p from ht in omega arith
+
+closed-last : (t : Bool) (f : ℕ → ℕ → Option ℕ) (size from to kind p value : ℕ) → nat_lt p from ≡ t → from ≤ to → to ≤ size + 1 → ((q v : ℕ) → f kind q ≡ Some v → q ≤ size)
+    → (if t then f kind p else f kind (p + (to - from))) ≡ Some value → p ≤ size - (to - from)
+closed-last true f size from to kind p value ht less within old h = let before = ltb-true p from ht in omega arith
+closed-last false f size from to kind p value ht less within old h = let last = old (p + (to - from)) value h in omega arith
+
+-- ---- buffers
+
+pub length-grown : (xs new : List ℕ) (i : ℕ) → i ≤ length xs → length (take i xs ++ new ++ drop i xs) ≡ length xs + length new
+length-grown xs new i h =
+    let outer = length-append (take i xs ++ new) (drop i xs) in
+    let inner = length-append (take i xs) new in
+    let front = length-take i xs in
+    let back = length-drop i xs in
+    omega (arith, outer, inner, front, back)
+
+pub length-shrunk : (xs : List ℕ) (i j : ℕ) → i ≤ j → j ≤ length xs → length (take i xs ++ drop j xs) ≡ length xs - (j - i)
+length-shrunk xs i j p q =
+    let outer = length-append (take i xs) (drop j xs) in
+    let front = length-take i xs in
+    let back = length-drop j xs in
+    omega (arith, outer, front, back)
+
+-- a buffer with characters put in
+pub grown-within : (b c : props.BufferValue) (pos : ℕ) (new : List ℕ) → IsText b.text → IsWithin b → IsAccessible b.text pos
+    → c.text ≡ inserted b.text pos new → ((kind p : ℕ) → c.properties kind p ≡ opened b.properties pos (length new) kind p)
+    → c.overlays ≡ map (slot_grown pos (length new)) b.overlays → IsWithin c
+grown-within b c pos new text within at same values overlays =
+    let n = length new in
+    let last = text.last in
+    let size : length c.text.text ≡ length b.text.text + n = ap (λ t. length t.text) same ∙ length-grown b.text.text new (pos - 1) (omega (arith, at.1)) in
+    let came : (kind p value : ℕ) → c.properties kind p ≡ Some value → (q : ℕ) × (b.properties kind q ≡ Some value) × (q ≤ p) × (p ≤ q + n)
+    = λ kind p value h. came_from (nat_lt p pos) (nat_lt p (pos + n)) b.properties pos n kind p value refl refl (sym (values kind p) ∙ h) in
+    record {
+      kinds = λ kind p value h. within.kinds kind (came kind p value h).0 value (came kind p value h).1;
+      first = λ kind p value h.
+          let from = came kind p value h in
+          let one = within.first kind from.0 value from.1 in
+          omega (arith, from.2, one);
+      last = λ kind p value h.
+          let from = came kind p value h in
+          let most = within.last kind from.0 value from.1 in
+          omega (arith, from.3, most, size);
+      few = subst (λ xs. length xs ≤ 65536) (sym overlays) (rw length-map within.few);
+      overlays = subst (λ s. AreIn s c.overlays) (sym size) (subst (AreIn (length b.text.text + n)) (sym overlays)
+          (changed-in (length b.text.text) (length b.text.text + n) (grown pos n) b.overlays within.overlays (grown-in (length b.text.text) pos n)));
+    }
+
+-- a buffer with a range taken away
+pub shrunk-within : (b c : props.BufferValue) (from to : ℕ) → IsText b.text → IsWithin b → IsAccessibleRange b.text from to
+    → c.text ≡ deleted b.text from to → ((kind p : ℕ) → c.properties kind p ≡ closed b.properties from to kind p)
+    → c.overlays ≡ map (slot_shrunk from to) b.overlays → IsWithin c
+shrunk-within b c from to text within at same values overlays =
+    let begin = text.first in
+    let end = text.last in
+    let low = at.first in
+    let ordered = at.ordered in
+    let high = at.last in
+    let one : 1 ≤ from = omega arith in
+    let most : to ≤ length b.text.text + 1 = omega arith in
+    let cut : length c.text.text ≡ length b.text.text - (to - 1 - (from - 1))
+    = ap (λ t. length t.text) same ∙ length-shrunk b.text.text (from - 1) (to - 1) (omega arith) (omega arith) in
+    let size : length c.text.text ≡ length b.text.text - (to - from) = omega (arith, cut) in
+    record {
+      kinds = λ kind p value h. closed-kind (nat_lt p from) b.properties from to kind p value within.kinds (sym (values kind p) ∙ h);
+      first = λ kind p value h. closed-first (nat_lt p from) b.properties from to kind p value refl one (within.first kind) (sym (values kind p) ∙ h);
+      last = λ kind p value h.
+          let least = closed-last (nat_lt p from) b.properties (length b.text.text) from to kind p value refl ordered most (within.last kind) (sym (values kind p) ∙ h) in
+          omega (arith, least, size);
+      few = subst (λ xs. length xs ≤ 65536) (sym overlays) (rw length-map within.few);
+      overlays = subst (λ s. AreIn s c.overlays) (sym size) (subst (AreIn (length b.text.text - (to - from))) (sym overlays)
+          (changed-in (length b.text.text) (length b.text.text - (to - from)) (shrunk from to) b.overlays within.overlays
+          (λ o. shrunk-in (length b.text.text) from to o one ordered most)));
+    }
+
+-- a buffer whose characters, values and overlays are the same
+pub same-within : (b c : props.BufferValue) → IsWithin b → c.text.text ≡ b.text.text → ((kind p : ℕ) → c.properties kind p ≡ b.properties kind p)
+    → c.overlays ≡ b.overlays → IsWithin c
+same-within b c within same values overlays = record {
+  kinds = λ kind p value h. within.kinds kind p value (sym (values kind p) ∙ h);
+  first = λ kind p value h. within.first kind p value (sym (values kind p) ∙ h);
+  last = λ kind p value h. subst (λ t. p ≤ length t) (sym same) (within.last kind p value (sym (values kind p) ∙ h));
+  few = subst (λ xs. length xs ≤ 65536) (sym overlays) within.few;
+  overlays = subst (λ t. AreIn (length t) c.overlays) (sym same) (subst (AreIn (length b.text.text)) (sym overlays) within.overlays);
+}
+
+-- ---- one overlay more, or another
+
+at-end : (slots : List (Option Overlay)) (o : Overlay) (number : ℕ) (p : Overlay) → overlay_at (slots ++ Some o ∷ []) number ≡ Some p
+    → (overlay_at slots number ≡ Some p) ⊎ (o ≡ p)
+at-end [] o zero p h = inr (cc)
+at-end [] o (suc number) p h = absurd (cc)
+at-end (slot ∷ slots) o zero p h = inl h
+at-end (slot ∷ slots) o (suc number) p h = at-end slots o number p h
+
+after-set : (slots : List (Option Overlay)) (i : ℕ) (slot : Option Overlay) (number : ℕ) (p : Overlay) → overlay_at (set slots i slot) number ≡ Some p
+    → (overlay_at slots number ≡ Some p) ⊎ (slot ≡ Some p)
+after-set [] i slot number p h = inl h
+after-set (s ∷ slots) zero slot zero p h = inr h
+after-set (s ∷ slots) zero slot (suc number) p h = inl h
+after-set (s ∷ slots) (suc i) slot zero p h = inl h
+after-set (s ∷ slots) (suc i) slot (suc number) p h = after-set slots i slot number p h
+
+in-range : (t : TextValue) (from to : ℕ) (o : Overlay) → is_range_of_all t from to ≡ true → o.from ≡ from → o.to ≡ to → IsOverlayIn (length t.text) o
+in-range t from to o h f g = record { first = grind (arith, nat_tests); ordered = grind (arith, nat_tests); last = grind (arith, nat_tests) }
+
+pub not-made : (e : OverlayFault) (fault : Option OverlayFault) (old new : List (Option Overlay)) (o : Overlay) → Makes (Err e) fault old new o → new ≡ old
+not-made NoOverlay fault old new o h = h.1
+not-made OutOfRange fault old new o h = h.1
+not-made TooMany fault old new o h = h.1
+not-made Memory fault old new o h = h
+
+room-left : (a b : Bool) (n from to : ℕ) → nat_lt to from ≡ a → nat_le 65536 n ≡ b → (if a then Some OutOfRange else (if b then Some TooMany else None)) ≡ None → n < 65536
+room-left true b n from to ha hb h = absurd (cc)
+room-left false true n from to ha hb h = absurd (cc)
+room-left false false n from to ha hb h = leb-false 65536 n hb
+
+pub made-within : (b : props.BufferValue) (overlays : List (Option Overlay)) (settings : SettingValues) (from to : ℕ) (o : Overlay) → IsWithin b
+    → is_range_of_all b.text from to ≡ true → make_fault b.overlays from to ≡ None → o.from ≡ from → o.to ≡ to → overlays ≡ b.overlays ++ Some o ∷ []
+    → IsWithin (record b { overlays = overlays; settings = settings })
+made-within b overlays settings from to o within range none f g is =
+    let few = within.few in
+    let room = room-left (nat_lt to from) (nat_le 65536 (length b.overlays)) (length b.overlays) from to refl refl none in
+    let new : AreIn (length b.text.text) (b.overlays ++ Some o ∷ []) = λ number p h. elim (at-end b.overlays o number p h) [
+      | inl old ↦ within.overlays number p old
+      | inr same ↦ subst (IsOverlayIn (length b.text.text)) same (in-range b.text from to o range f g)
+    ] in
+    record {
+      kinds = within.kinds;
+      first = within.first;
+      last = within.last;
+      few = subst (λ xs. length xs ≤ 65536) (sym is) (omega (arith, room, length-append b.overlays (Some o ∷ [])));
+      overlays = subst (AreIn (length b.text.text)) (sym is) new;
+    }
+
+-- what is put at a number lies in the text
+pub put-within : (b : props.BufferValue) (overlays : List (Option Overlay)) (settings : SettingValues) (number : ℕ) (slot : Option Overlay) → IsWithin b
+    → ((p : Overlay) → slot ≡ Some p → IsOverlayIn (length b.text.text) p) → overlays ≡ set b.overlays number slot
+    → IsWithin (record b { overlays = overlays; settings = settings })
+put-within b overlays settings number slot within new is =
+    let all : AreIn (length b.text.text) (set b.overlays number slot) = λ k p h. elim (after-set b.overlays number slot k p h) [
+      | inl old ↦ within.overlays k p old
+      | inr here ↦ new p here
+    ] in
+    record {
+      kinds = within.kinds;
+      first = within.first;
+      last = within.last;
+      few = subst (λ xs. length xs ≤ 65536) (sym is) (rw length-set within.few);
+      overlays = subst (AreIn (length b.text.text)) (sym is) all;
+    }
+
+moved-in : (t : TextValue) (from to : ℕ) (slot : Option Overlay) (p : Overlay) → is_range_of_all t from to ≡ true
+    → slot_changed (λ overlay. record overlay { from = from; to = to }) slot ≡ Some p → IsOverlayIn (length t.text) p
+moved-in t from to None p range h = absurd (cc)
+moved-in t from to (Some o) p range h =
+    let same : record o { from = from; to = to } ≡ p = cc in
+    subst (IsOverlayIn (length t.text)) same (in-range t from to (record o { from = from; to = to }) range refl refl)
+
+pub moved-within : (b : props.BufferValue) (overlays : List (Option Overlay)) (settings : SettingValues) (number from to : ℕ) → IsWithin b
+    → is_range_of_all b.text from to ≡ true → overlays ≡ moved b.overlays number from to → IsWithin (record b { overlays = overlays; settings = settings })
+moved-within b overlays settings number from to within range is =
+    put-within b overlays settings number (slot_changed (λ overlay. record overlay { from = from; to = to }) (overlay_at b.overlays number)) within
+    (λ p h. moved-in b.text from to (overlay_at b.overlays number) p range h) is

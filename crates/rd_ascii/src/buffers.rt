@@ -1,0 +1,147 @@
+//! The buffers by name, in order of making, and the ops on the buffer with a number.
+ghost use Rattle.std.specs.Prelude.{◌≡◌, ◌<◌, ◌++◌, ◌∷◌, [], Ok, None, Some, IfOk, IfErr, OnOk, OnErr, length, slice_get};
+ghost use Rattle.rd_ascii.specs.declared.refused.Refused.TheVariants.{NoBuffer, NoOverlay};
+ghost use Rattle.rd_ascii.specs.States.{BufferValue, buffers_of, new_buffer, number_of};
+ghost use Rattle.rd_ascii.specs.Edits.{insertion, deletion, narrowing, widening, overlay_making, overlay_moving, overlay_dropping, setting_putting};
+ghost use Rattle.rd_overlays.specs.Overlays.{overlay_at};
+ghost use Rattle.rd_script.specs.Forms.{IsSettingInForm};
+ghost use Rattle.rd_ascii.specs.Answers.{ChangesAt};
+ghost use Rattle.rd_ascii.specs.Fitting.{IsFitting};
+
+use crate::content::Content;
+use crate::refused::Refused;
+use indexmap::IndexMap;
+use rd_base::{Ch, Memory};
+use rd_overlays::Overlay;
+use rd_script::{BufferName, Setting};
+use rd_text::Buffer;
+
+/// The buffers by name, in order of making.
+pub(crate) type Buffers = IndexMap<String, Content>;
+
+/// The number of the buffer with a name, which is refused where no buffer has it.
+pub(crate) fn find(buffers: &Buffers, name: &str) -> Result<usize, Refused>
+    ensures found { IfOk result (λ i. i ≡ number_of name.now (buffers_of buffers.now.entries)) }
+    ensures within { IfOk result (λ i. i < length (buffers_of buffers.now.entries)) }
+    ensures absent { OnErr result (number_of name.now (buffers_of buffers.now.entries) ≡ length (buffers_of buffers.now.entries)) }
+    ensures refused { IfErr result (λ e. e ≡ NoBuffer) }
+{
+    match buffers.get_index_of(name) {
+        Some(i) => Ok(i),
+        None => Err(Refused::NoBuffer),
+    }
+}
+
+/// The text of the buffer with a number.
+pub(crate) fn text_at(buffers: &Buffers, i: usize) -> &Buffer
+    requires { i < length (buffers_of buffers.now.entries) }
+    ensures { (b : BufferValue) × (slice_get (buffers_of buffers.now.entries) i ≡ Some b) × (result.now ≡ b.text) }
+{
+    &buffers[i].state().text
+}
+
+/// Adds an empty buffer under a name that no buffer has.
+pub(crate) fn add(buffers: &mut Buffers, name: BufferName) -> Result<(), Memory>
+    requires { number_of name (buffers_of buffers.old.entries) ≡ length (buffers_of buffers.old.entries) }
+    ensures ok { OnOk result (buffers_of buffers.new.entries ≡ buffers_of buffers.old.entries ++ new_buffer name ∷ []) }
+    ensures err { OnErr result (buffers_of buffers.new.entries ≡ buffers_of buffers.old.entries) }
+{
+    let buffer = Content::new(*buffers.allocator())?;
+    buffers.insert(name.into_string(), buffer)?;
+    Ok(())
+}
+
+/// Puts a text in before a position of the buffer with a number.
+pub(crate) fn insert_at(
+    buffers: &mut Buffers,
+    i: usize,
+    pos: u64,
+    new: &[Ch],
+) -> Result<(), Refused>
+    requires { i < length (buffers_of buffers.old.entries) }
+    ensures { ChangesAt result (λ b. insertion b pos new.now) i (buffers_of buffers.old.entries) (buffers_of buffers.new.entries) }
+{
+    buffers[i].insert(pos, new)
+}
+
+/// Takes a range of the buffer with a number away.
+pub(crate) fn delete_at(buffers: &mut Buffers, i: usize, from: u64, to: u64) -> Result<(), Refused>
+    requires { i < length (buffers_of buffers.old.entries) }
+    ensures { ChangesAt result (λ b. deletion b from to) i (buffers_of buffers.old.entries) (buffers_of buffers.new.entries) }
+{
+    buffers[i].delete(from, to)
+}
+
+/// Makes a range of the buffer with a number the accessible one.
+pub(crate) fn narrow_at(buffers: &mut Buffers, i: usize, from: u64, to: u64) -> Result<(), Refused>
+    requires { i < length (buffers_of buffers.old.entries) }
+    ensures { ChangesAt result (λ b. narrowing b from to) i (buffers_of buffers.old.entries) (buffers_of buffers.new.entries) }
+{
+    buffers[i].narrow(from, to)
+}
+
+/// Makes the whole text of the buffer with a number accessible.
+pub(crate) fn widen_at(buffers: &mut Buffers, i: usize)
+    requires { i < length (buffers_of buffers.old.entries) }
+    ensures { ChangesAt (Ok tt) widening i (buffers_of buffers.old.entries) (buffers_of buffers.new.entries) }
+{
+    buffers[i].widen();
+}
+
+/// The overlay with a number in the buffer with a number, which is refused where none lives.
+pub(crate) fn overlay_at(buffers: &Buffers, i: usize, number: u64) -> Result<Overlay, Refused>
+    requires { i < length (buffers_of buffers.now.entries) }
+    ensures found { IfOk result (λ overlay. (b : BufferValue) × (slice_get (buffers_of buffers.now.entries) i ≡ Some b) × (overlay_at b.overlays number ≡ Some overlay)) }
+    ensures absent { OnErr result ((b : BufferValue) × (slice_get (buffers_of buffers.now.entries) i ≡ Some b) × (overlay_at b.overlays number ≡ None)) }
+    ensures refused { IfErr result (λ e. e ≡ NoOverlay) }
+{
+    buffers[i].overlay(number)
+}
+
+/// Makes an overlay without values in the buffer with a number.
+pub(crate) fn make_overlay_at(
+    buffers: &mut Buffers,
+    i: usize,
+    from: u64,
+    to: u64,
+    priority: i32,
+    front: bool,
+    rear: bool,
+) -> Result<(), Refused>
+    requires { i < length (buffers_of buffers.old.entries) }
+    ensures { ChangesAt result (λ b. overlay_making b from to priority front rear) i (buffers_of buffers.old.entries) (buffers_of buffers.new.entries) }
+{
+    buffers[i].make_overlay(from, to, priority, front, rear)
+}
+
+/// Gives an overlay of the buffer with a number another range.
+pub(crate) fn move_overlay_at(
+    buffers: &mut Buffers,
+    i: usize,
+    number: u64,
+    from: u64,
+    to: u64,
+) -> Result<(), Refused>
+    requires { i < length (buffers_of buffers.old.entries) }
+    ensures { ChangesAt result (λ b. overlay_moving b number from to) i (buffers_of buffers.old.entries) (buffers_of buffers.new.entries) }
+{
+    buffers[i].move_overlay(number, from, to)
+}
+
+/// Takes an overlay of the buffer with a number away.
+pub(crate) fn drop_overlay_at(buffers: &mut Buffers, i: usize, number: u64) -> Result<(), Refused>
+    requires { i < length (buffers_of buffers.old.entries) }
+    ensures { ChangesAt result (λ b. overlay_dropping b number) i (buffers_of buffers.old.entries) (buffers_of buffers.new.entries) }
+{
+    buffers[i].drop_overlay(number)
+}
+
+/// Sets a setting of the buffer with a number.
+pub(crate) fn set_at(buffers: &mut Buffers, i: usize, setting: Setting)
+    requires made { i < length (buffers_of buffers.old.entries) }
+    requires form { IsSettingInForm setting }
+    requires numbers { IsFitting setting }
+    ensures { ChangesAt (Ok tt) (λ b. setting_putting b setting) i (buffers_of buffers.old.entries) (buffers_of buffers.new.entries) }
+{
+    buffers[i].set(setting);
+}
