@@ -7,8 +7,19 @@ use Rattle.serde_json.specs.Find.{get_member, as_str, as_object}
 use Rattle.serde_json.specs.Read.{read}
 use Rattle.rd_script.specs.declared.fault.OpFault.{OpFault}
 use Rattle.rd_script.specs.declared.fault.OpFault.TheVariants.{NotJson, NotObject, NoSuchOp, NotBuilt, Memory}
+use Rattle.rd_overlays.specs.declared.overlay.Kind.{Kind}
 use Rattle.rd_script.specs.declared.name.Name.{Name}
 use Rattle.rd_script.specs.declared.name.Name.TheVariants as names
+use Rattle.rd_script.specs.declared.name.TextOp.{TextOp}
+use Rattle.rd_script.specs.declared.name.TextOp.TheVariants as texts
+use Rattle.rd_script.specs.declared.name.PropertyOp.{PropertyOp}
+use Rattle.rd_script.specs.declared.name.PropertyOp.TheVariants as properties
+use Rattle.rd_script.specs.declared.name.ObjectOp.{ObjectOp}
+use Rattle.rd_script.specs.declared.name.ObjectOp.TheVariants as objects
+use Rattle.rd_script.specs.declared.name.WindowOp.{WindowOp}
+use Rattle.rd_script.specs.declared.name.WindowOp.TheVariants as windows
+use Rattle.rd_script.specs.declared.name.ScreenOp.{ScreenOp}
+use Rattle.rd_script.specs.declared.name.ScreenOp.TheVariants as screens
 use Rattle.rd_script.specs.declared.object.SpecName.{SpecName}
 use Rattle.rd_script.specs.declared.object.SpecName.TheVariants as spec_names
 use Rattle.rd_script.specs.declared.op.Op.{Op}
@@ -16,9 +27,11 @@ use Rattle.rd_script.specs.declared.setting.SettingName.{SettingName}
 use Rattle.rd_script.specs.declared.setting.SettingName.TheVariants as setting_names
 use Rattle.rd_script.specs.Fields.{Fields, or_bad, required_of, present, optional_of, required, optional, defaulted, and_then, both, made, then_by}
 use Rattle.rd_script.specs.Objects.{spec_value}
-use Rattle.rd_script.specs.Reading.{reading, reading_name, reading_members, reading_fields, json_of, or_fault, closed, extra_key, unless_extra, is_built, built}
+use Rattle.rd_script.specs.Properties.{property, property_value}
+use Rattle.rd_script.specs.Reading.{reading, parsing, reading_name, reading_members, reading_shown, reading_row, parsing_members, object_of, json_of, or_fault, closed, extra_key, unless_extra}
 use Rattle.rd_script.specs.Settings.{value_of}
-use Rattle.rd_script.specs.Table.{row, name_of}
+use Rattle.rd_script.specs.Table.{row, text_row, property_row, object_row, window_row, screen_row, buffer_field, number_field, window_field, overlay_field, range_fields, stretch_fields, overlay_manner, name_of}
+use Rattle.rd_script.specs.Unshown.{is_unknown, is_unshown, shown_name, is_shown, shown_op}
 
 -- what is said is no want of memory
 abbrev IsFree : {T : Type 0} → Result T OpFault → Type 0
@@ -90,31 +103,69 @@ two k l a b = both-free _ _ (required-free k a) (required-free l b)
 three : {A B C : Type 0} (k l m : List ℕ) (a : Data → Option A) (b : Data → Option B) (c : Data → Option C) → AreFree (both (required k a) (both (required l b) (required m c)))
 three k l m a b c = both-free _ _ (required-free k a) (two l m b c)
 
-row-free : (n : Name) → AreFree (row n)
-row-free names.Frame = made-free _ _ (two _ _ _ _)
-row-free names.Buffer = made-free _ _ (required-free _ _)
-row-free names.Insert = made-free _ _ (three _ _ _ _ _ _)
-row-free names.TypeText = made-free _ _ (required-free _ _)
-row-free names.Delete = made-free _ _ (three _ _ _ _ _ _)
-row-free names.Narrow = made-free _ _ (three _ _ _ _ _ _)
-row-free names.Widen = made-free _ _ (required-free _ _)
-row-free names.Overlay = made-free _ _ (both-free _ _ (required-free _ _) (both-free _ _ (required-free _ _) (both-free _ _ (required-free _ _)
+property-free : (of : Data → Option Kind) → AreFree (property of)
+property-free of = then_by-free _ _ property_value (required-free _ _) (λ kind. made-free _ _ (optional-free _ _))
+
+stretch-free : AreFree stretch_fields
+stretch-free = three _ _ _ _ _ _
+
+manner-free : AreFree overlay_manner
+manner-free = both-free _ _ (defaulted-free _ _ _) (both-free _ _ (defaulted-free _ _ _) (defaulted-free _ _ _))
+
+text-free : (op : TextOp) → AreFree (text_row op)
+text-free texts.Buffer = made-free _ _ (required-free _ _)
+text-free texts.Insert = made-free _ _ (three _ _ _ _ _ _)
+text-free texts.InsertRaw = made-free _ _ (three _ _ _ _ _ _)
+text-free texts.Type = made-free _ _ (required-free _ _)
+text-free texts.Delete = made-free _ _ stretch-free
+text-free texts.Narrow = made-free _ _ stretch-free
+text-free texts.Widen = made-free _ _ (required-free _ _)
+
+properties-free : (op : PropertyOp) → AreFree (property_row op)
+properties-free properties.Put = made-free _ _ (both-free _ _ stretch-free (property-free _))
+properties-free properties.Overlay = made-free _ _ (both-free _ _ stretch-free manner-free)
+properties-free properties.OverlayMove = made-free _ _ (both-free _ _ (required-free _ _) (three _ _ _ _ _ _))
+properties-free properties.OverlayDrop = made-free _ _ (two _ _ _ _)
+properties-free properties.OverlayPut = made-free _ _ (both-free _ _ (required-free _ _) (both-free _ _ (required-free _ _) (property-free _)))
+properties-free properties.MarginPut = made-free _ _ (both-free _ _ (required-free _ _) (both-free _ _ (required-free _ _) (optional-free _ _)))
+properties-free properties.Setting = made-free _ _ (both-free _ _ (required-free _ _) (then_by-free _ _ value_of (required-free _ _) value-free))
+
+object-free : (op : ObjectOp) → AreFree (object_row op)
+object-free objects.String = made-free _ _ (both-free _ _ (required-free _ _) (defaulted-free _ _ _))
+object-free objects.Spec = made-free _ _ (then_by-free _ _ spec_value (required-free _ _) spec-free)
+object-free objects.Face = made-free _ _ (made-free _ _ (both-free _ _ (defaulted-free _ _ _) (both-free _ _ (defaulted-free _ _ _)
     (both-free _ _ (defaulted-free _ _ _) (both-free _ _ (defaulted-free _ _ _) (defaulted-free _ _ _))))))
-row-free names.OverlayMove = made-free _ _ (both-free _ _ (required-free _ _) (three _ _ _ _ _ _))
-row-free names.OverlayDrop = made-free _ _ (two _ _ _ _)
-row-free names.Setting = made-free _ _ (both-free _ _ (required-free _ _) (then_by-free _ _ value_of (required-free _ _) value-free))
-row-free names.AddString = made-free _ _ (both-free _ _ (required-free _ _) (defaulted-free _ _ _))
-row-free names.AddSpec = made-free _ _ (then_by-free _ _ spec_value (required-free _ _) spec-free)
-row-free names.AddFace = made-free _ _ (made-free _ _ (both-free _ _ (defaulted-free _ _ _) (both-free _ _ (defaulted-free _ _ _)
-    (both-free _ _ (defaulted-free _ _ _) (both-free _ _ (defaulted-free _ _ _) (defaulted-free _ _ _))))))
-row-free names.AddTable = made-free _ _ (both-free _ _ (defaulted-free _ _ _) (both-free _ _ (optional-free _ _) (both-free _ _ (optional-free _ _)
+object-free objects.Table = made-free _ _ (both-free _ _ (defaulted-free _ _ _) (both-free _ _ (optional-free _ _) (both-free _ _ (optional-free _ _)
     (both-free _ _ (optional-free _ _) (both-free _ _ (optional-free _ _) (both-free _ _ (optional-free _ _) (optional-free _ _)))))))
-row-free names.Remove = made-free _ _ (required-free _ _)
-row-free names.Show = made-free _ _ (two _ _ _ _)
-row-free names.Point = made-free _ _ (two _ _ _ _)
-row-free names.Wrap = made-free _ _ (two _ _ _ _)
-row-free names.Redisplay = made-free _ _ (optional-free _ _)
-row-free names.Unbuilt = record { free = λ ms e. cc }
+
+window-free : (op : WindowOp) → AreFree (window_row op)
+window-free windows.Split = made-free _ _ (three _ _ _ _ _ _)
+window-free windows.Remove = made-free _ _ (required-free _ _)
+window-free windows.Select = made-free _ _ (required-free _ _)
+window-free windows.Show = made-free _ _ (two _ _ _ _)
+window-free windows.Point = made-free _ _ (two _ _ _ _)
+window-free windows.Start = made-free _ _ (three _ _ _ _ _ _)
+window-free windows.Scroll = made-free _ _ (two _ _ _ _)
+window-free windows.Hscroll = made-free _ _ (two _ _ _ _)
+window-free windows.Wrap = made-free _ _ (two _ _ _ _)
+window-free windows.ModeLine = made-free _ _ (both-free _ _ (required-free _ _) (optional-free _ _))
+window-free windows.Go = made-free _ _ (two _ _ _ _)
+window-free windows.Hit = made-free _ _ (three _ _ _ _ _ _)
+window-free windows.Margin = made-free _ _ (three _ _ _ _ _ _)
+
+screen-free : (op : ScreenOp) → AreFree (screen_row op)
+screen-free screens.Frame = made-free _ _ (two _ _ _ _)
+screen-free screens.Scrolling = made-free _ _ (two _ _ _ _)
+screen-free screens.Echo = made-free _ _ (required-free _ _)
+screen-free screens.Redisplay = made-free _ _ (optional-free _ _)
+screen-free screens.Shift = made-free _ _ (required-free _ _)
+
+row-free : (n : Name) → AreFree (row n)
+row-free (names.Text op) = text-free op
+row-free (names.Property op) = properties-free op
+row-free (names.Object op) = object-free op
+row-free (names.Window op) = window-free op
+row-free (names.Screen op) = screen-free op
 
 or_fault-free : {T : Type 0} (fault : OpFault) (o : Option T) → (fault ≡ Memory → ⊥) → IsFree (or_fault fault o)
 or_fault-free fault None h = λ e. h (cc)
@@ -124,26 +175,39 @@ unless_extra-free : (key : Option (List ℕ)) (op : Op) → IsFree (unless_extra
 unless_extra-free None op = ok-free op
 unless_extra-free (Some key) op = λ e. cc
 
-built-free : (b : Bool) (op : Op) → IsFree (if b then Ok op else Err NotBuilt)
-built-free true op = ok-free op
-built-free false op = λ e. cc
-
-fields-free : (ms : Members) (n : Name) → IsFree (reading_fields ms (row n))
-fields-free ms n =
-    and_then-free built (and_then (closed (codes "op" ∷ (row n).keys) ms) ((row n).taken ms)) (λ op. built-free (is_built op) op)
-    (and_then-free (closed (codes "op" ∷ (row n).keys) ms) ((row n).taken ms)
-    (λ op. unless_extra-free (extra_key (codes "op" ∷ (row n).keys) ms) op) ((row-free n).free ms))
+row-is_free : (ms : Members) (n : Name) → IsFree (reading_row ms n)
+row-is_free ms n = and_then-free (closed (codes "op" ∷ (row n).keys) ms) ((row n).taken ms)
+    (λ op. unless_extra-free (extra_key (codes "op" ∷ (row n).keys) ms) op) ((row-free n).free ms)
 
 name-free : (ms : Members) → IsFree (reading_name ms)
 name-free ms = and_then-free (λ text. or_fault NoSuchOp (name_of text)) (required_of (codes "op") as_str (get_member (codes "op") ms))
     (λ text. or_fault-free NoSuchOp (name_of text) (λ e. cc)) (required_of-free (codes "op") as_str (get_member (codes "op") ms))
 
-members-free : (ms : Members) → IsFree (reading_members ms)
-members-free ms = and_then-free (λ n. reading_fields ms (row n)) (reading_name ms) (fields-free ms) (name-free ms)
+object_of-free : (line : List ℕ) → IsFree (object_of line)
+object_of-free line = and_then-free (λ d. or_fault NotObject (as_object d)) (json_of line)
+    (λ d. or_fault-free NotObject (as_object d) (λ e. cc)) (or_fault-free NotJson (if is_utf8 line then read line else None) (λ e. cc))
+
+pub parsing-free : (line : List ℕ) → IsFree (parsing line)
+unfolding parsing
+parsing-free line = and_then-free parsing_members (object_of line)
+    (λ ms. and_then-free (reading_row ms) (reading_name ms) (row-is_free ms) (name-free ms)) (object_of-free line)
+
+-- ---- what no session shows yet
+
+shown_op-free : (b : Bool) (op : Op) → IsFree (if b then Ok op else Err NotBuilt)
+shown_op-free true op = ok-free op
+shown_op-free false op = λ e. cc
+
+name_by-free : (unknown unshown : Bool) (n : Name) → IsFree (if unknown then Err NoSuchOp else if unshown then Err NotBuilt else Ok n)
+name_by-free true unshown n = λ e. cc
+name_by-free false true n = λ e. cc
+name_by-free false false n = ok-free n
+
+shown-free : (ms : Members) (n : Name) → IsFree (reading_shown ms n)
+shown-free ms n = and_then-free shown_op (and_then (reading_row ms) (shown_name n)) (λ op. shown_op-free (is_shown op) op)
+    (and_then-free (reading_row ms) (shown_name n) (row-is_free ms) (name_by-free (is_unknown n) (is_unshown n) n))
 
 pub reading-free : (line : List ℕ) → IsFree (reading line)
 unfolding reading
-reading-free line =
-    and_then-free (λ d. and_then reading_members (or_fault NotObject (as_object d))) (json_of line)
-    (λ d. and_then-free reading_members (or_fault NotObject (as_object d)) members-free (or_fault-free NotObject (as_object d) (λ e. cc)))
-    (or_fault-free NotJson (if is_utf8 line then read line else None) (λ e. cc))
+reading-free line = and_then-free reading_members (object_of line)
+    (λ ms. and_then-free (reading_shown ms) (reading_name ms) (shown-free ms) (name-free ms)) (object_of-free line)

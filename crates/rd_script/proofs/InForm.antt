@@ -1,11 +1,11 @@
 -- An op that a line says is in form.
-use Rattle.std.proofs.Common.{◌≡◌, ℕ, suc, ◌≤◌, ◌&&◌, Bool, true, false, ℤ, pos, List, [], ◌∷◌, length, Option, None, Some, Result, Ok, Err, IsTrue, refl, sym, ap, subst, ◌∙◌, arith, unwrap_or, option_and_then, option_map, if◌then◌else◌, nat_le, chars, is_some, true≢false, codes}
+use Rattle.std.proofs.Common.{◌≡◌, ℕ, suc, ◌≤◌, ◌<◌, ◌-◌, ◌&&◌, Bool, true, false, ℤ, pos, List, [], ◌∷◌, length, Option, None, Some, Result, Ok, Err, IsTrue, refl, sym, ap, subst, ◌∙◌, arith, unwrap_or, option_and_then, option_map, if◌then◌else◌, nat_le, chars, is_some, true≢false, codes}
 use Rattle.std.proofs.lemmas.Bool.Decides.{nat_tests}
 use Rattle.std.proofs.lemmas.List.Elements.{All-nil, All-cons}
 use Rattle.std.specs.Prelude.{All}
 use Rattle.serde_json.specs.Data.{Data, Items, no_items, item, Members}
 use Rattle.serde_json.specs.Find.{get_member, as_number, as_u64, as_i64, as_bool, as_str, as_array, as_object}
-use Rattle.rd_base.specs.declared.limits.TheConstants.{ATOMS, INVISIBLE_ATOMS, FRAME_COLUMNS, FRAME_ROWS, LEAST_FRAME_COLUMNS, LEAST_FRAME_ROWS, PRIORITY, STRING_RUNS, TABLE_ENTRIES, SPACE_COLUMNS, TAB_COLUMNS}
+use Rattle.rd_base.specs.declared.limits.TheConstants.{ATOMS, HSCROLL_COLUMNS, INVISIBLE_ATOMS, NUMBER_COLUMNS, SCROLL_CONSERVATIVELY, SCROLL_MARGIN, SCROLL_ROWS, START_ROW, STRING_COLUMNS, FRAME_COLUMNS, FRAME_ROWS, LEAST_FRAME_COLUMNS, LEAST_FRAME_ROWS, PRIORITY, STRING_RUNS, TABLE_ENTRIES, SPACE_COLUMNS, TAB_COLUMNS}
 use Rattle.rd_base.specs.declared.settings.Invisible.{Invisible}
 use Rattle.rd_base.specs.declared.settings.Invisible.TheVariants.{Every, Listed}
 use Rattle.rd_objects.specs.declared.run.RunKind.{RunKind}
@@ -14,18 +14,32 @@ use Rattle.rd_script.specs.declared.object.SpecName.TheVariants as spec_names
 use Rattle.rd_script.specs.declared.setting.SettingName.{SettingName}
 use Rattle.rd_script.specs.declared.setting.SettingName.TheVariants as setting_names
 use Rattle.rd_script.specs.declared.fault.OpFault.{OpFault}
-use Rattle.rd_script.specs.declared.fault.OpFault.TheVariants.{NotObject, NotBuilt}
+use Rattle.rd_script.specs.declared.fault.OpFault.TheVariants.{NotBuilt}
 use Rattle.rd_script.specs.declared.op.Op.{Op}
 use Rattle.rd_script.specs.declared.op.Op.TheVariants as ops
-use Rattle.rd_script.specs.declared.name.Name as name
+use Rattle.rd_script.specs.declared.name.Name.{Name}
 use Rattle.rd_script.specs.declared.name.Name.TheVariants as names
-use Rattle.rd_script.specs.Forms.{is_buffer_name, is_text, is_glyph_text, is_slot, IsWhole, IsStop, IsNumber, IsInvisible, IsSettingInForm, IsSpecInForm, IsRunInForm, IsEntryInForm, IsSlot, IsEllipsis, IsInForm}
-use Rattle.rd_script.specs.Fields.{Fields, kept_if, within, whole, signed, text, buffer_name, word, items_count, consed, each_item, list_of, pair_of, two_items_of, two_items, four_items_of, four_items, or_bad, required_of, present, optional_of, required, optional, defaulted, and_then, both, made, then_by}
+use Rattle.rd_script.specs.declared.name.TextOp.{TextOp}
+use Rattle.rd_script.specs.declared.name.TextOp.TheVariants as texts
+use Rattle.rd_script.specs.declared.name.PropertyOp.{PropertyOp}
+use Rattle.rd_script.specs.declared.name.PropertyOp.TheVariants as properties
+use Rattle.rd_script.specs.declared.name.ObjectOp.{ObjectOp}
+use Rattle.rd_script.specs.declared.name.ObjectOp.TheVariants as objects
+use Rattle.rd_script.specs.declared.name.WindowOp.{WindowOp}
+use Rattle.rd_script.specs.declared.name.WindowOp.TheVariants as windows
+use Rattle.rd_script.specs.declared.name.ScreenOp.{ScreenOp}
+use Rattle.rd_script.specs.declared.name.ScreenOp.TheVariants as screens
+use Rattle.rd_overlays.specs.declared.overlay.Kind.{Kind}
+use Rattle.rd_overlays.specs.declared.overlay.Kind.TheVariants as kinds
+use Rattle.rd_script.specs.Forms.{is_buffer_name, is_text, is_plain_text, is_text_kind, IsRawByte, IsFormat, IsPropertyValue, is_glyph_text, is_slot, IsWhole, IsStop, IsNumber, IsInvisible, IsSettingInForm, IsSpecInForm, IsRunInForm, IsEntryInForm, IsSlot, IsEllipsis, IsInForm}
+use Rattle.rd_script.specs.Fields.{Fields, kept_if, within, whole, signed, text, plain_text, items_of, buffer_name, word, items_count, consed, each_item, list_of, pair_of, two_items_of, two_items, four_items_of, four_items, or_bad, required_of, present, optional_of, required, optional, defaulted, and_then, both, made, then_by}
 use Rattle.rd_script.specs.Numbers.{is_near_zero}
 use Rattle.rd_script.specs.Objects.{run_kinds, run_of, run, spec_names as spec_words, spec_value, face_of, glyph_text, only, slot, entry_of, entry, slot_field}
 use Rattle.rd_script.specs.Settings.{setting_names as setting_words, direction_names, invisible_by, invisible, value_of as value_of_setting}
-use Rattle.rd_script.specs.Reading.{reading, reading_name, reading_members, reading_fields, closed, extra_key, unless_extra, is_built, built, or_fault, json_of}
-use Rattle.rd_script.specs.Table.{row, wrap_modes}
+use Rattle.rd_script.specs.Properties.{overlay_kind, text_kind, greatest_value, property_value, property}
+use Rattle.rd_script.specs.Reading.{reading, parsing, reading_name, reading_row, reading_shown, reading_members, parsing_members, object_of, closed, extra_key, unless_extra}
+use Rattle.rd_script.specs.Table.{row, text_row, property_row, object_row, window_row, screen_row, buffer_field, number_field, window_field, overlay_field, range_fields, stretch_fields, overlay_manner, split_sides, ways, wrap_modes}
+use Rattle.rd_script.specs.Unshown.{shown_name, is_shown, shown_op}
 
 -- what fields give has this
 record Gives {T : Type 0} (fields : Fields T) (P : T → Type 0) : Type 0 where
@@ -296,84 +310,167 @@ flag-gives key = defaulted-gives false key as_bool _ (any-finds as_bool) tt
 
 -- ---- rows
 
-range_of_name : (f : List ℕ → ℕ → ℕ → Op) (from to : List ℕ)
-    → ((b : List ℕ) (m n : ℕ) → IsTrue (is_buffer_name b) → IsWhole m → IsWhole n → IsInForm (f b m n))
-    → Gives (made (λ x. f x.0 x.1.0 x.1.1) (both (required (codes "buffer") buffer_name) (both (required from whole) (required to whole)))) IsInForm
-range_of_name f from to so =
-    made-gives (λ x. f x.0 x.1.0 x.1.1) _ (λ x. IsTrue (is_buffer_name x.0) × (IsWhole x.1.0 × IsWhole x.1.1))
-    (both-gives _ _ _ (λ x. IsWhole x.0 × IsWhole x.1) (name_field (codes "buffer")) (both-gives _ _ _ _ (whole_field from) (whole_field to)))
-    (λ x h. so x.0 x.1.0 x.1.1 h.0 h.1.0 h.1.1)
+plain_text-finds : Finds plain_text (λ t. IsTrue (is_plain_text t))
+plain_text-finds = record { found = λ d t e. kept_if-found is_plain_text (option_map chars (as_str d)) t e }
 
-row-gives : (n : name.Name) → Gives (row n) IsInForm
-row-gives names.Frame = made-gives _ _ _ (both-gives _ _ _ _ (range_field (codes "width") LEAST_FRAME_COLUMNS FRAME_COLUMNS) (range_field (codes "height") LEAST_FRAME_ROWS FRAME_ROWS)) (λ x h. (h.0.0, h.0.1, h.1.0, h.1.1))
-row-gives names.Buffer = made-gives _ _ _ (name_field (codes "name")) (λ x h. h)
-row-gives names.Insert = made-gives _ _ _ (both-gives _ _ _ _ (name_field (codes "buffer")) (both-gives _ _ _ _ (whole_field (codes "pos")) (text_field (codes "text")))) (λ x h. (h.0, h.1.0, h.1.1))
-row-gives names.TypeText = made-gives _ _ _ (text_field (codes "text")) (λ x h. h)
-row-gives names.Delete = range_of_name ops.Delete (codes "from") (codes "to") (λ b m n hb hm hn. (hb, hm, hn))
-row-gives names.Narrow = range_of_name ops.Narrow (codes "from") (codes "to") (λ b m n hb hm hn. (hb, hm, hn))
-row-gives names.Widen = made-gives _ _ _ (name_field (codes "buffer")) (λ x h. h)
-row-gives names.Overlay = made-gives _ _ _
-    (both-gives _ _ _ _ (name_field (codes "buffer")) (both-gives _ _ _ _ (whole_field (codes "from")) (both-gives _ _ _ _ (whole_field (codes "to"))
-    (both-gives _ _ _ _ (defaulted-gives (pos 0) (codes "priority") (signed PRIORITY) (λ z. IsTrue (is_near_zero PRIORITY z)) (near-finds PRIORITY) refl)
-    (both-gives _ _ _ _ (flag-gives (codes "front")) (flag-gives (codes "rear")))))))
-    (λ x h. (h.0, h.1.0, h.1.1.0, h.1.1.1.0))
-row-gives names.OverlayMove = made-gives _ _ _
+raw_bytes-finds : Finds (items_of (within 128 255)) (λ bytes. All IsRawByte bytes)
+raw_bytes-finds = record {
+  found = λ d xs e.
+      let ds = bound (each_item (within 128 255)) (as_array d) xs e in
+      (each-some (within 128 255) IsRawByte (within-finds 128 255) ds.0 xs ds.2).1;
+}
+
+-- a value below a number
+below-finds : (most end : ℕ) → most < end → Finds (within 0 most) (λ n. n < end)
+below-finds most end less = record { found = λ d n e. let h = (within-finds 0 most).found d n e in let up = h.1 in omega (arith, up, less) }
+
+to_field : (key : List ℕ) (most : ℕ) → Gives (required key (within 0 most)) (λ n. n ≤ most)
+to_field key most = required-gives key (within 0 most) _ (record { found = λ d n e. ((within-finds 0 most).found d n e).1 })
+
+property_value-form : (kind : Kind) (value : Option ℕ) → ((n : ℕ) → value ≡ Some n → n ≤ greatest_value kind) → IsPropertyValue kind value
+property_value-form kind None h = tt
+property_value-form kinds.Face (Some n) h = h n refl
+property_value-form kinds.Display (Some n) h = h n refl
+property_value-form kinds.Invisible (Some n) h = h n refl
+property_value-form kinds.LinePrefix (Some n) h = h n refl
+property_value-form kinds.WrapPrefix (Some n) h = h n refl
+property_value-form kinds.Before (Some n) h = h n refl
+property_value-form kinds.After (Some n) h = h n refl
+
+abbrev AtMost : ℕ → Option ℕ → Type 0
+AtMost most o = (n : ℕ) → o ≡ Some n → n ≤ most
+
+value-at_most : (most : ℕ) → Gives (optional (codes "value") (within 0 most)) (AtMost most)
+value-at_most most = optional-gives (codes "value") (within 0 most) (λ n. n ≤ most) (AtMost most)
+    (record { found = λ d n e. ((within-finds 0 most).found d n e).1 }) (λ n e. absurd (none≢some n e)) (λ y h n e. subst (λ z. z ≤ most) (ap (λ o. unwrap_or o y) e) h)
+
+-- a kind and its value
+property-gives : (of : Data → Option Kind) (P : Kind → Type 0) → Finds of P → Gives (property of) (λ x. P x.0 × IsPropertyValue x.0 x.1)
+property-gives of P finds = record {
+  given = λ ms x e.
+      let first = and_then-ok (λ kind. (property_value kind).taken ms) ((required (codes "kind") of).taken ms) x e in
+      let kind = (required-gives (codes "kind") of P finds).given ms first.0 first.1 in
+      let value = (made-as (λ value. (first.0, value)) (optional (codes "value") (within 0 (greatest_value first.0))) (AtMost (greatest_value first.0))
+      (λ y. P y.0 × IsPropertyValue y.0 y.1) (value-at_most (greatest_value first.0)) (λ v h. (kind, property_value-form first.0 v h))) in
+      value.given ms x first.2;
+}
+
+text_kind-finds : Finds text_kind (λ kind. IsTrue (is_text_kind kind))
+text_kind-finds = record { found = λ d kind e. kept_if-found is_text_kind (overlay_kind d) kind e }
+
+stretch-gives : Gives stretch_fields (λ x. IsTrue (is_buffer_name x.0) × (IsWhole x.1.0 × IsWhole x.1.1))
+stretch-gives = both-gives _ _ _ (λ x. IsWhole x.0 × IsWhole x.1) (name_field (codes "buffer")) (both-gives _ _ _ _ (whole_field (codes "from")) (whole_field (codes "to")))
+
+manner-gives : Gives overlay_manner (λ x. IsTrue (is_near_zero PRIORITY x.0) × (Unit {0} × Unit {0}))
+manner-gives = both-gives _ _ _ (λ x. Unit {0} × Unit {0}) (defaulted-gives (pos 0) (codes "priority") (signed PRIORITY) (λ z. IsTrue (is_near_zero PRIORITY z)) (near-finds PRIORITY) refl)
+    (both-gives _ _ _ _ (flag-gives (codes "front")) (flag-gives (codes "rear")))
+
+text-gives : (op : TextOp) → Gives (text_row op) IsInForm
+text-gives texts.Buffer = made-gives _ _ _ (name_field (codes "name")) (λ x h. h)
+text-gives texts.Insert = made-gives _ _ _ (both-gives _ _ _ _ (name_field (codes "buffer")) (both-gives _ _ _ _ (whole_field (codes "pos")) (text_field (codes "text")))) (λ x h. (h.0, h.1.0, h.1.1))
+text-gives texts.InsertRaw = made-gives _ _ _ (both-gives _ _ _ _ (name_field (codes "buffer")) (both-gives _ _ _ _ (whole_field (codes "pos"))
+    (required-gives (codes "bytes") (items_of (within 128 255)) _ raw_bytes-finds))) (λ x h. (h.0, h.1.0, h.1.1))
+text-gives texts.Type = made-gives _ _ _ (text_field (codes "text")) (λ x h. h)
+text-gives texts.Delete = made-gives _ _ _ stretch-gives (λ x h. (h.0, h.1.0, h.1.1))
+text-gives texts.Narrow = made-gives _ _ _ stretch-gives (λ x h. (h.0, h.1.0, h.1.1))
+text-gives texts.Widen = made-gives _ _ _ (name_field (codes "buffer")) (λ x h. h)
+
+properties-give : (op : PropertyOp) → Gives (property_row op) IsInForm
+properties-give properties.Put = made-gives _ _ _ (both-gives _ _ _ _ stretch-gives (property-gives text_kind (λ kind. IsTrue (is_text_kind kind)) text_kind-finds))
+    (λ x h. (h.0.0, h.0.1.0, h.0.1.1, h.1.0, h.1.1))
+properties-give properties.Overlay = made-gives _ _ _ (both-gives _ _ _ _ stretch-gives manner-gives) (λ x h. (h.0.0, h.0.1.0, h.0.1.1, h.1.0))
+properties-give properties.OverlayMove = made-gives _ _ _
     (both-gives _ _ _ _ (name_field (codes "buffer")) (both-gives _ _ _ _ (whole_field (codes "overlay")) (both-gives _ _ _ _ (whole_field (codes "from")) (whole_field (codes "to")))))
     (λ x h. (h.0, h.1.0, h.1.1.0, h.1.1.1))
-row-gives names.OverlayDrop = made-gives _ _ _ (both-gives _ _ _ _ (name_field (codes "buffer")) (whole_field (codes "overlay"))) (λ x h. (h.0, h.1))
-row-gives names.Setting = made-gives _ _ _
+properties-give properties.OverlayDrop = made-gives _ _ _ (both-gives _ _ _ _ (name_field (codes "buffer")) (whole_field (codes "overlay"))) (λ x h. (h.0, h.1))
+properties-give properties.OverlayPut = made-gives _ _ _
+    (both-gives _ _ _ _ (name_field (codes "buffer")) (both-gives _ _ _ _ (whole_field (codes "overlay")) (property-gives overlay_kind (λ kind. Unit {0}) (any-finds overlay_kind))))
+    (λ x h. (h.0, h.1.0, h.1.1.1))
+properties-give properties.MarginPut = made-gives _ _ _
+    (both-gives _ _ _ _ (name_field (codes "buffer")) (both-gives _ _ _ _ (whole_field (codes "overlay")) (number-gives (codes "string")))) (λ x h. (h.0, h.1.0, h.1.1))
+properties-give properties.Setting = made-gives _ _ _
     (both-gives _ _ _ _ (name_field (codes "buffer")) (then_by-gives (required (codes "name") (word setting_words)) (codes "value" ∷ []) value_of_setting IsSettingInForm value-gives))
     (λ x h. (h.0, h.1))
-row-gives names.AddString = made-gives _ _ _
+
+object-gives : (op : ObjectOp) → Gives (object_row op) IsInForm
+object-gives objects.String = made-gives _ _ _
     (both-gives _ _ _ _ (text_field (codes "text")) (defaulted-gives [] (codes "runs") (list_of STRING_RUNS run) _ (list-finds STRING_RUNS run IsRunInForm run-finds) (omega arith, All-nil _)))
     (λ x h. (h.0, h.1.0, h.1.1))
-row-gives names.AddSpec = made-gives _ _ _ (then_by-gives (required (codes "kind") (word spec_words)) (codes "value" ∷ []) spec_value IsSpecInForm spec-gives) (λ x h. h)
-row-gives names.AddFace = made-gives _ _ _
+object-gives objects.Spec = made-gives _ _ _ (then_by-gives (required (codes "kind") (word spec_words)) (codes "value" ∷ []) spec_value IsSpecInForm spec-gives) (λ x h. h)
+object-gives objects.Face = made-gives _ _ _
     (made-as face_of _ _ (λ f. (f.fg ≤ 8) × (f.bg ≤ 8)) (both-gives _ _ _ _ (colour-gives (codes "fg")) (both-gives _ _ _ _ (colour-gives (codes "bg"))
     (both-gives _ _ _ _ (flag-gives (codes "bold")) (both-gives _ _ _ _ (flag-gives (codes "underline")) (flag-gives (codes "inverse"))))))
     (λ x h. (h.0, h.1.0))) (λ x h. h)
-row-gives names.AddTable = made-gives _ _ _
+object-gives objects.Table = made-gives _ _ _
     (both-gives _ _ _ _ (defaulted-gives [] (codes "entries") (list_of TABLE_ENTRIES entry) _ (list-finds TABLE_ENTRIES entry IsEntryInForm entry-finds) (omega arith, All-nil _))
     (both-gives _ _ _ _ (slot-gives (codes "truncation")) (both-gives _ _ _ _ (slot-gives (codes "continuation")) (both-gives _ _ _ _ (slot-gives (codes "escape"))
     (both-gives _ _ _ _ (slot-gives (codes "control"))
     (both-gives _ _ _ _ (optional-gives (codes "ellipsis") glyph_text _ IsEllipsis glyph_text-finds tt (λ t h. h)) (slot-gives (codes "border"))))))))
     (λ x h. (h.0.0, h.0.1, h.1.0, h.1.1.0, h.1.1.1.0, h.1.1.1.1.0, h.1.1.1.1.1.0, h.1.1.1.1.1.1))
-row-gives names.Remove = made-gives _ _ _ (whole_field (codes "window")) (λ x h. h)
-row-gives names.Show = made-gives _ _ _ (both-gives _ _ _ _ (whole_field (codes "window")) (name_field (codes "buffer"))) (λ x h. h)
-row-gives names.Point = made-gives _ _ _ (both-gives _ _ _ _ (whole_field (codes "window")) (whole_field (codes "pos"))) (λ x h. h)
-row-gives names.Wrap = made-gives _ _ _ (both-gives _ _ _ _ (whole_field (codes "window")) (required-gives (codes "mode") (word wrap_modes) _ (any-finds (word wrap_modes)))) (λ x h. h.0)
-row-gives names.Redisplay = made-gives _ _ IsStop (optional-gives (codes "stop") (within 0 FRAME_ROWS) _ IsStop (within-finds 0 FRAME_ROWS) tt (λ y h. h.1)) (λ x h. h)
-row-gives names.Unbuilt = record { given = λ ms op e. absurd (err≢ok NotBuilt op e) }
+
+window-gives : (op : WindowOp) → Gives (window_row op) IsInForm
+window-gives windows.Split = made-gives _ _ _ (both-gives _ _ _ _ (whole_field (codes "window")) (both-gives _ _ _ _ (any-gives (codes "side") (word split_sides)) (whole_field (codes "size")))) (λ x h. (h.0, h.1.1))
+window-gives windows.Remove = made-gives _ _ _ (whole_field (codes "window")) (λ x h. h)
+window-gives windows.Select = made-gives _ _ _ (whole_field (codes "window")) (λ x h. h)
+window-gives windows.Show = made-gives _ _ _ (both-gives _ _ _ _ (whole_field (codes "window")) (name_field (codes "buffer"))) (λ x h. h)
+window-gives windows.Point = made-gives _ _ _ (both-gives _ _ _ _ (whole_field (codes "window")) (whole_field (codes "pos"))) (λ x h. h)
+window-gives windows.Start = made-gives _ _ _ (both-gives _ _ _ _ (whole_field (codes "window")) (both-gives _ _ _ _ (whole_field (codes "pos")) (to_field (codes "row") START_ROW))) (λ x h. (h.0, h.1.0, h.1.1))
+window-gives windows.Scroll = made-gives _ _ _ (both-gives _ _ _ _ (whole_field (codes "window"))
+    (required-gives (codes "rows") (signed (pos SCROLL_ROWS)) _ (near-finds (pos SCROLL_ROWS)))) (λ x h. h)
+window-gives windows.Hscroll = made-gives _ _ _ (both-gives _ _ _ _ (whole_field (codes "window")) (to_field (codes "columns") HSCROLL_COLUMNS)) (λ x h. h)
+window-gives windows.Wrap = made-gives _ _ _ (both-gives _ _ _ _ (whole_field (codes "window")) (any-gives (codes "mode") (word wrap_modes))) (λ x h. h.0)
+window-gives windows.ModeLine = made-gives _ _ _ (both-gives _ _ _ _ (whole_field (codes "window"))
+    (optional-gives (codes "format") plain_text _ IsFormat plain_text-finds tt (λ t h. h))) (λ x h. h)
+window-gives windows.Go = made-gives _ _ _ (both-gives _ _ _ _ (whole_field (codes "window")) (any-gives (codes "side") (word ways))) (λ x h. h.0)
+window-gives windows.Hit = made-gives _ _ _ (both-gives _ _ _ _ (whole_field (codes "window"))
+    (both-gives _ _ _ _ (required-gives (codes "row") (within 0 (FRAME_ROWS - 1)) _ (below-finds (FRAME_ROWS - 1) FRAME_ROWS (omega arith)))
+    (required-gives (codes "column") (within 0 (FRAME_COLUMNS - 1)) _ (below-finds (FRAME_COLUMNS - 1) FRAME_COLUMNS (omega arith))))) (λ x h. (h.0, h.1.0, h.1.1))
+window-gives windows.Margin = made-gives _ _ _ (both-gives _ _ _ _ (whole_field (codes "window"))
+    (both-gives _ _ _ _ (to_field (codes "numbers") NUMBER_COLUMNS) (to_field (codes "strings") STRING_COLUMNS))) (λ x h. (h.0, h.1.0, h.1.1))
+
+screen-gives : (op : ScreenOp) → Gives (screen_row op) IsInForm
+screen-gives screens.Frame = made-gives _ _ _ (both-gives _ _ _ _ (range_field (codes "width") LEAST_FRAME_COLUMNS FRAME_COLUMNS) (range_field (codes "height") LEAST_FRAME_ROWS FRAME_ROWS)) (λ x h. (h.0.0, h.0.1, h.1.0, h.1.1))
+screen-gives screens.Scrolling = made-gives _ _ _ (both-gives _ _ _ _ (to_field (codes "margin") SCROLL_MARGIN) (to_field (codes "conservatively") SCROLL_CONSERVATIVELY)) (λ x h. h)
+screen-gives screens.Echo = made-gives _ _ _ (required-gives (codes "text") plain_text _ plain_text-finds) (λ x h. h)
+screen-gives screens.Redisplay = made-gives _ _ IsStop (optional-gives (codes "stop") (within 0 FRAME_ROWS) _ IsStop (within-finds 0 FRAME_ROWS) tt (λ y h. h.1)) (λ x h. h)
+screen-gives screens.Shift = made-gives _ _ _ (any-gives (codes "on") as_bool) (λ x h. h)
+
+row-gives : (n : Name) → Gives (row n) IsInForm
+row-gives (names.Text op) = text-gives op
+row-gives (names.Property op) = properties-give op
+row-gives (names.Object op) = object-gives op
+row-gives (names.Window op) = window-gives op
+row-gives (names.Screen op) = screen-gives op
 
 -- ---- lines
-
-built-if : (b : Bool) (op x : Op) → (if b then Ok op else Err NotBuilt) ≡ Ok x → op ≡ x
-built-if true op x e = ok-same op x e
-built-if false op x e = absurd (err≢ok NotBuilt x e)
-
-built-same : (op x : Op) → built op ≡ Ok x → op ≡ x
-built-same op x e = built-if (is_built op) op x e
 
 unless_extra-same : (key : Option (List ℕ)) (op x : Op) → unless_extra key op ≡ Ok x → op ≡ x
 unless_extra-same None op x e = ok-same op x e
 unless_extra-same (Some key) op x e = absurd (err≢ok _ x e)
 
-reading_fields-in_form : (ms : Members) (n : name.Name) (op : Op) → reading_fields ms (row n) ≡ Ok op → IsInForm op
-reading_fields-in_form ms n op e =
-    let last = and_then-ok built (and_then (closed (codes "op" ∷ (row n).keys) ms) ((row n).taken ms)) op e in
-    let read = and_then-ok (closed (codes "op" ∷ (row n).keys) ms) ((row n).taken ms) last.0 last.1 in
-    let same = unless_extra-same (extra_key (codes "op" ∷ (row n).keys) ms) read.0 last.0 read.2 ∙ built-same last.0 op last.2 in
-    subst IsInForm same ((row-gives n).given ms read.0 read.1)
-
-reading_members-in_form : (ms : Members) (op : Op) → reading_members ms ≡ Ok op → IsInForm op
-reading_members-in_form ms op e =
-    let named = and_then-ok (λ n. reading_fields ms (row n)) (reading_name ms) op e in
-    reading_fields-in_form ms named.0 op named.2
+reading_row-in_form : (ms : Members) (n : Name) (op : Op) → reading_row ms n ≡ Ok op → IsInForm op
+reading_row-in_form ms n op e =
+    let read = and_then-ok (closed (codes "op" ∷ (row n).keys) ms) ((row n).taken ms) op e in
+    subst IsInForm (unless_extra-same (extra_key (codes "op" ∷ (row n).keys) ms) read.0 op read.2) ((row-gives n).given ms read.0 read.1)
 
 -- an op that a line says is in form
+pub parsing-in_form : (line : List ℕ) (op : Op) → parsing line ≡ Ok op → IsInForm op
+unfolding parsing
+parsing-in_form line op e =
+    let object = and_then-ok parsing_members (object_of line) op e in
+    let named = and_then-ok (reading_row object.0) (reading_name object.0) op object.2 in
+    reading_row-in_form object.0 named.0 op named.2
+
+shown-if : (b : Bool) (op x : Op) → (if b then Ok op else Err NotBuilt) ≡ Ok x → op ≡ x
+shown-if true op x e = ok-same op x e
+shown-if false op x e = absurd (err≢ok NotBuilt x e)
+
+-- and so is one that is shown
 pub reading-in_form : (line : List ℕ) (op : Op) → reading line ≡ Ok op → IsInForm op
 unfolding reading
 reading-in_form line op e =
-    let json = and_then-ok (λ d. and_then reading_members (or_fault NotObject (as_object d))) (json_of line) op e in
-    let object = and_then-ok reading_members (or_fault NotObject (as_object json.0)) op json.2 in
-    reading_members-in_form object.0 op object.2
+    let object = and_then-ok reading_members (object_of line) op e in
+    let named = and_then-ok (reading_shown object.0) (reading_name object.0) op object.2 in
+    let last = and_then-ok shown_op (and_then (reading_row object.0) (shown_name named.0)) op named.2 in
+    let read = and_then-ok (reading_row object.0) (shown_name named.0) last.0 last.1 in
+    subst IsInForm (shown-if (is_shown last.0) last.0 op last.2) (reading_row-in_form object.0 read.0 last.0 read.2)

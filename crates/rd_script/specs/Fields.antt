@@ -5,7 +5,7 @@ use Rattle.serde_json.specs.Data.{Data, Items, no_items, item, Members}
 use Rattle.serde_json.specs.Find.{get_member, as_null, as_number, as_u64, as_i64, as_str, as_array}
 use Rattle.rd_script.specs.declared.fault.OpFault.{OpFault}
 use Rattle.rd_script.specs.declared.fault.OpFault.TheVariants.{Missing, BadField, Memory}
-use Rattle.rd_script.specs.Forms.{is_text, is_buffer_name}
+use Rattle.rd_script.specs.Forms.{is_text, is_plain_text, is_buffer_name}
 use Rattle.rd_script.specs.Numbers.{is_near_zero}
 
 -- ---- kinds of values
@@ -28,6 +28,10 @@ signed most d = option_and_then (kept_if (is_near_zero most)) (option_and_then a
 -- a text, as the list of its characters
 abbrev pub text : Data → Option (List ℕ)
 text d = option_and_then (kept_if is_text) (option_map chars (as_str d))
+
+-- a text that a mode line or the echo area can show
+abbrev pub plain_text : Data → Option (List ℕ)
+plain_text d = option_and_then (kept_if is_plain_text) (option_map chars (as_str d))
 
 -- a buffer's name, as its bytes in UTF-8
 abbrev pub buffer_name : Data → Option (List ℕ)
@@ -61,6 +65,10 @@ each_item kind (item d ds) = consed (kind d) (each_item kind ds)
 -- an array of at most so many items of a kind
 abbrev pub list_of : {T : Type 0} → ℕ → (Data → Option T) → Data → Option (List T)
 list_of most kind d = option_and_then (each_item kind) (option_and_then (kept_if (λ ds. nat_le (items_count ds) most)) (as_array d))
+
+-- an array of items of a kind
+abbrev pub items_of : {T : Type 0} → (Data → Option T) → Data → Option (List T)
+items_of kind d = option_and_then (each_item kind) (as_array d)
 
 -- two values, where there are both
 abbrev pub pair_of : {A B : Type 0} → Option A → Option B → Option (A × B)
@@ -141,10 +149,6 @@ then_by first keys second = record {
   keys = first.keys ++ keys;
   taken = λ ms. and_then (λ a. (second a).taken ms) (first.taken ms);
 }
-
--- no key, and always this fault
-abbrev pub refused : {T : Type 0} → OpFault → Fields T
-refused fault = record { keys = []; taken = λ ms. Err fault }
 
 -- ---- answers
 

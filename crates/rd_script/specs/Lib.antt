@@ -1,9 +1,9 @@
-pub mod Dumps
 pub mod Fields
 pub mod Forms
 pub mod Numbers
 pub mod Objects
-pub mod Prints
+pub mod Properties
 pub mod Reading
 pub mod Settings
 pub mod Table
+pub mod Unshown

@@ -1,18 +1,16 @@
 -- What a line of a script says: an op, or the first fault.
-use Rattle.std.specs.Prelude.{ℕ, ◌||◌, Bool, true, false, bytes_eq, if◌then◌else◌, List, [], ◌∷◌, Option, None, Some, Result, Ok, Err, codes}
+use Rattle.std.specs.Prelude.{ℕ, ◌||◌, Bool, false, bytes_eq, if◌then◌else◌, List, [], ◌∷◌, Option, None, Some, Result, Ok, Err, codes}
 use Rattle.std.specs.Str.{chars, is_utf8}
 use Rattle.serde_json.specs.Data.{Data, Members, no_members, member}
 use Rattle.serde_json.specs.Find.{get_member, as_object, as_str}
 use Rattle.serde_json.specs.Read.{read}
 use Rattle.rd_script.specs.declared.fault.OpFault.{OpFault}
-use Rattle.rd_script.specs.declared.fault.OpFault.TheVariants.{NotJson, NotObject, NoSuchOp, Extra, NotBuilt}
+use Rattle.rd_script.specs.declared.fault.OpFault.TheVariants.{NotJson, NotObject, NoSuchOp, Extra}
 use Rattle.rd_script.specs.declared.name.Name.{Name}
 use Rattle.rd_script.specs.declared.op.Op.{Op}
-use Rattle.rd_script.specs.declared.op.Op.TheVariants.{Setting as SetSetting, Redisplay}
-use Rattle.rd_script.specs.declared.setting.Setting.{Setting}
-use Rattle.rd_script.specs.declared.setting.Setting.TheVariants as settings
 use Rattle.rd_script.specs.Fields.{Fields, and_then, required_of}
 use Rattle.rd_script.specs.Table.{name_of, row}
+use Rattle.rd_script.specs.Unshown.{shown_name, shown_op}
 
 abbrev pub or_fault : {T : Type 0} → OpFault → Option T → Result T OpFault
 or_fault fault None = Err fault
@@ -43,31 +41,31 @@ unless_extra (Some key) op = Err (Extra (chars key))
 abbrev pub closed : List (List ℕ) → Members → Op → Result Op OpFault
 closed keys ms op = unless_extra (extra_key keys ms) op
 
--- the settings and the ops of which each part is built
-abbrev pub is_built_setting : Setting → Bool
-is_built_setting (settings.TabWidth n) = true
-is_built_setting (settings.CtlArrow flag) = true
-is_built_setting (settings.Modified flag) = true
-is_built_setting (settings.ReadOnly flag) = true
-is_built_setting setting = false
-
-abbrev pub is_built : Op → Bool
-is_built (SetSetting buffer setting) = is_built_setting setting
-is_built (Redisplay (Some n)) = false
-is_built op = true
-
--- an op in form, unless a part of it is not built
-abbrev pub built : Op → Result Op OpFault
-built op = if is_built op then Ok op else Err NotBuilt
-
 -- an op by the fields of its row, beside which there is only the key `op`
 abbrev pub reading_fields : Members → Fields Op → Result Op OpFault
-reading_fields ms fields = and_then built (and_then (closed (codes "op" ∷ fields.keys) ms) (fields.taken ms))
+reading_fields ms fields = and_then (closed (codes "op" ∷ fields.keys) ms) (fields.taken ms)
+
+abbrev pub reading_row : Members → Name → Result Op OpFault
+reading_row ms name = reading_fields ms (row name)
+
+-- the object that a line is
+abbrev pub object_of : List ℕ → Result Members OpFault
+object_of line = and_then (λ d. or_fault NotObject (as_object d)) (json_of line)
 
 -- what an object says
-abbrev pub reading_members : Members → Result Op OpFault
-reading_members ms = and_then (λ name. reading_fields ms (row name)) (reading_name ms)
+abbrev pub parsing_members : Members → Result Op OpFault
+parsing_members ms = and_then (reading_row ms) (reading_name ms)
 
 -- what a line says
+unfoldable pub parsing : List ℕ → Result Op OpFault
+parsing line = and_then parsing_members (object_of line)
+
+-- the same, unless the session does not show it yet
+abbrev pub reading_shown : Members → Name → Result Op OpFault
+reading_shown ms name = and_then shown_op (and_then (reading_row ms) (shown_name name))
+
+abbrev pub reading_members : Members → Result Op OpFault
+reading_members ms = and_then (reading_shown ms) (reading_name ms)
+
 unfoldable pub reading : List ℕ → Result Op OpFault
-reading line = and_then (λ d. and_then reading_members (or_fault NotObject (as_object d))) (json_of line)
+reading line = and_then reading_members (object_of line)

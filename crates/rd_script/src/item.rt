@@ -1,48 +1,89 @@
 //! Arrays in a value, item by item.
 ghost use Rattle.std.specs.Prelude.{◌≡◌, IfOk};
 ghost use Rattle.serde_json.specs.View.{view, items_view};
-ghost use Rattle.rd_script.specs.Fields.{each_item, list_of};
+ghost use Rattle.rd_script.specs.Fields.{each_item};
 
+use crate::form::{Form, number_within};
 use rd_base::{ListOf, Memory};
 use serde_json::Value;
 use std::alloc::Global;
 
-/// What an item of an array may be.
-pub trait Item: Sized + Drop {
-    ghost use Rattle.std.specs.Prelude.{◌≡◌, IfOk, Option};
-    ghost use Rattle.serde_json.specs.Data.{Data};
-    ghost use Rattle.serde_json.specs.View.{view};
-
-    // what a value is, where it is of this kind
-    ghost kind: { Data → Option Self };
-
-    /// What a value is, and None where it is of another kind.
-    fn of(alloc: Global, value: &Value) -> Result<Option<Self>, Memory>
-        ensures { IfOk result (λ found. found ≡ kind (view value.now)) };
+/// An array of at most so many items of a form.
+#[derive(Drop)]
+pub struct AtMost<F> {
+    pub most: u32,
+    pub of: F,
 }
 
-/// The items of an array that has at most so many, and None where the value is no such array.
-pub fn list<T: Item>(alloc: Global, value: &Value, most: usize) -> Result<Option<ListOf<T>>, Memory>
-    ensures { IfOk result (λ found. found ≡ list_of most T.kind (view value.now)) }
-{
-    match value.as_array() {
-        Some(items) => {
-            if most < items.len() {
-                return Ok(None);
+impl<F: Form> Form for AtMost<F> {
+    ghost use Rattle.rd_script.specs.Fields.{list_of};
+
+    type Said = ListOf<F::Said>;
+
+    ghost kind = { λ s. list_of s.most (F.kind s.of) };
+
+    fn read(&self, alloc: Global, value: &Value) -> Result<Option<ListOf<F::Said>>, Memory> {
+        match value.as_array() {
+            Some(items) => {
+                if (self.most as usize) < items.len() {
+                    return Ok(None);
+                }
+                each(alloc, items.as_slice(), &self.of)
             }
-            each(alloc, items.as_slice())
+            None => Ok(None),
         }
-        None => Ok(None),
     }
 }
 
-/// What each item is, and None where one is of another kind.
-fn each<T: Item>(alloc: Global, items: &[Value]) -> Result<Option<ListOf<T>>, Memory>
-    ensures { IfOk result (λ found. found ≡ each_item T.kind (items_view items.now)) }
+/// An array of raw bytes, each of which is no ASCII character.
+#[derive(Drop)]
+pub struct RawBytes;
+
+impl Form for RawBytes {
+    ghost use Rattle.rd_script.specs.Fields.{within, items_of};
+
+    type Said = ListOf<u8>;
+
+    ghost kind = { λ _. items_of (within 128 255) };
+
+    fn read(&self, alloc: Global, value: &Value) -> Result<Option<ListOf<u8>>, Memory> {
+        match value.as_array() {
+            Some(items) => each(alloc, items.as_slice(), &RawByte),
+            None => Ok(None),
+        }
+    }
+}
+
+/// A byte that is no ASCII character.
+#[derive(Drop)]
+struct RawByte;
+
+impl Form for RawByte {
+    ghost use Rattle.rd_script.specs.Fields.{within};
+
+    type Said = u8;
+
+    ghost kind = { λ _. within 128 255 };
+
+    fn read(&self, _alloc: Global, value: &Value) -> Result<Option<u8>, Memory> {
+        match number_within(value, 128, 255) {
+            Some(byte) => Ok(Some(byte as u8)),
+            None => Ok(None),
+        }
+    }
+}
+
+/// What each item says, and None where one is of another form.
+fn each<F: Form>(
+    alloc: Global,
+    items: &[Value],
+    form: &F,
+) -> Result<Option<ListOf<F::Said>>, Memory>
+    ensures { IfOk result (λ found. found ≡ each_item (F.kind form.now) (items_view items.now)) }
 {
     let mut list = ListOf::new(alloc);
     for item in items {
-        match T::of(alloc, item)? {
+        match form.read(alloc, item)? {
             Some(found) => list.push(found)?,
             None => return Ok(None),
         }

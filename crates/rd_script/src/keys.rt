@@ -1,4 +1,4 @@
-//! The keys of each op.
+//! The keys that an object has beside those of its op.
 ghost use Rattle.std.specs.Prelude.{◌≡◌, ◌∷◌, codes, map, option_map};
 ghost use Rattle.serde_json.specs.View.{members_view};
 ghost use Rattle.rd_script.specs.Fields.{IsRead};
@@ -6,9 +6,11 @@ ghost use Rattle.rd_script.specs.Reading.{closed, extra_key, is_among};
 ghost use Rattle.rd_script.specs.Table.{row};
 
 use crate::fault::OpFault;
-use crate::field::{Members, characters};
+use crate::field::Members;
 use crate::name::Name;
 use crate::op::Op;
+use crate::row::keys;
+use crate::text_form::characters;
 use std::alloc::Global;
 
 /// An op, unless its object has a key that it does not have.
@@ -51,40 +53,4 @@ fn is_among(keys: &[&str], key: &str) -> bool
         }
     }
     false
-}
-
-/// The keys of an op beside `op`, in the order of its fields.
-fn keys(name: Name) -> &'static [&'static str]
-    ensures { map (λ key. key.now) result.now ≡ (row name).keys }
-{
-    match name {
-        Name::Frame => &["width", "height"],
-        Name::Buffer => &["name"],
-        Name::Insert => &["buffer", "pos", "text"],
-        Name::TypeText => &["text"],
-        Name::Delete | Name::Narrow => &["buffer", "from", "to"],
-        Name::Widen => &["buffer"],
-        Name::Overlay => &["buffer", "from", "to", "priority", "front", "rear"],
-        Name::OverlayMove => &["buffer", "overlay", "from", "to"],
-        Name::OverlayDrop => &["buffer", "overlay"],
-        Name::Setting => &["buffer", "name", "value"],
-        Name::AddString => &["text", "runs"],
-        Name::AddSpec => &["kind", "value"],
-        Name::AddFace => &["fg", "bg", "bold", "underline", "inverse"],
-        Name::AddTable => &[
-            "entries",
-            "truncation",
-            "continuation",
-            "escape",
-            "control",
-            "ellipsis",
-            "border",
-        ],
-        Name::Remove => &["window"],
-        Name::Show => &["window", "buffer"],
-        Name::Point => &["window", "pos"],
-        Name::Wrap => &["window", "mode"],
-        Name::Redisplay => &["stop"],
-        Name::Unbuilt => &[],
-    }
 }

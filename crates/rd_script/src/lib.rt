@@ -1,29 +1,36 @@
-//! The ops of a script, one line an op in JSON, and the dump of what is shown.
+//! The ops of a script, one line an op in JSON. The dump of what is shown is named here again.
 #![tactic(auto)]
 
 mod buffer_name;
-mod dump;
 mod examples;
 mod fault;
 mod field;
+mod form;
 mod item;
 mod keys;
 mod name;
 mod object;
-mod object_field;
+mod object_form;
+mod object_row;
 mod op;
-mod piece;
-mod print;
+mod place_field;
+mod property_form;
+mod property_row;
 mod read;
 mod row;
-mod runs;
+mod screen_row;
 mod setting;
 mod setting_field;
+mod text_form;
+mod text_row;
+mod unshown;
+mod window_row;
+mod word;
 
 pub use buffer_name::BufferName;
-pub use dump::{WindowFacts, print_dump};
 pub use fault::OpFault;
 pub use object::{OpEntry, OpRun, OpSpec};
 pub use op::Op;
-pub use read::read_op;
+pub use rd_dump::{WindowFacts, print_dump};
+pub use read::{parse_op, read_op};
 pub use setting::Setting;

@@ -1,8 +1,5 @@
 //! What the ops that make objects say.
-ghost use Rattle.std.specs.Prelude.{◌≡◌};
-ghost use Rattle.rd_script.specs.Fields.{beside};
-ghost use Rattle.rd_script.specs.Objects.{spec_names};
-
+use crate::word::Named;
 use rd_base::{Ch, ListOf};
 use rd_objects::RunKind;
 
@@ -31,18 +28,19 @@ pub enum OpSpec {
 }
 
 /// What a display spec is.
-#[derive(Clone, Copy, Debug, PartialEq, Eq)]
+#[derive(Clone, Copy)]
 pub enum SpecName {
     Text,
     Width,
     Align,
 }
 
-impl SpecName {
-    /// What a text names, and None where it names none.
-    pub fn of(text: &str) -> Option<SpecName>
-        ensures { result ≡ beside spec_names text.now }
-    {
+impl Named for SpecName {
+    ghost use Rattle.rd_script.specs.Objects.{spec_names};
+
+    ghost names = { spec_names };
+
+    fn named(text: &str) -> Option<SpecName> {
         match text {
             "string" => Some(SpecName::Text),
             "width" => Some(SpecName::Width),

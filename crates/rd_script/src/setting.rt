@@ -1,8 +1,5 @@
 //! The settings of a buffer, as an op says them.
-ghost use Rattle.std.specs.Prelude.{◌≡◌};
-ghost use Rattle.rd_script.specs.Fields.{beside};
-ghost use Rattle.rd_script.specs.Settings.{setting_names};
-
+use crate::word::Named;
 use rd_base::{Direction, Invisible};
 
 /// A setting and its new value. Tables and strings are told by number.
@@ -31,7 +28,7 @@ pub enum Setting {
 }
 
 /// Which setting an op sets.
-#[derive(Clone, Copy, Debug, PartialEq, Eq)]
+#[derive(Clone, Copy)]
 pub enum SettingName {
     TabWidth,
     CtlArrow,
@@ -45,11 +42,12 @@ pub enum SettingName {
     ReadOnly,
 }
 
-impl SettingName {
-    /// The setting that a text names, and None where it names none.
-    pub fn of(text: &str) -> Option<SettingName>
-        ensures { result ≡ beside setting_names text.now }
-    {
+impl Named for SettingName {
+    ghost use Rattle.rd_script.specs.Settings.{setting_names};
+
+    ghost names = { setting_names };
+
+    fn named(text: &str) -> Option<SettingName> {
         match text {
             "tab_width" => Some(SettingName::TabWidth),
             "ctl_arrow" => Some(SettingName::CtlArrow),

@@ -7,4 +7,4 @@ use Rattle.rd_script.proofs.item.each.Given as goal
 -- what was found, and then what is left
 abbrev pub invariant-loop-item : goal.invariant-loop-item
 invariant-loop-item g l =
-    joined l.list (each_item g.T.Item.kind (items_view (drop l.item-index l.items))) ≡ each_item g.T.Item.kind (items_view l.items)
+    joined l.list (each_item (g.F.Form.kind l.fn.form) (items_view (drop l.item-index l.items))) ≡ each_item (g.F.Form.kind l.fn.form) (items_view l.items)

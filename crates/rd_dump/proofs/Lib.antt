@@ -1,0 +1,2 @@
+mod OnePass
+pub mod Writing

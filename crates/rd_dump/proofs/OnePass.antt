@@ -1,0 +1,149 @@
+-- The runs of faces, found in one pass.
+use Rattle.std.proofs.Common.{◌≡◌, ℕ, suc, ◌+◌, ◌-◌, ◌<◌, ◌||◌, length, drop, get_or, Option, Result, is_some, codes, decimal, Bool, true, false, if◌then◌else◌, List, [], ◌∷◌, ◌++◌, refl, sym, ap, ◌∙◌, subst, arith, append-nil, true≢false}
+use Rattle.std.proofs.lemmas.Bool.Decides.{nat_tests}
+use Rattle.rd_base.specs.Faces.{Attributes, plain}
+use Rattle.rd_base.specs.Equals.{same_face}
+use Rattle.rd_base.proofs.Equals.{face-told, face-itself}
+use Rattle.rd_dump.specs.Dumps.{joined, runs_of, run_text, runs_text, ended_text, faces_of, face_after, pieces, numbers_text, number_text, numbers_behind, rows_text, row_line}
+use Rattle.std.proofs.Math.Seq.{drop-cons}
+use Rattle.std.specs.Result.{IsErr}
+use Rattle.rd_dump.specs.Prints.{Prints}
+use Rattle.rd_dump.proofs.Writing.{Going, going-stop}
+use Rattle.rd_base.specs.declared.cell.Cell.{Cell}
+
+-- a run of a face from `first` up to `column` that may go on, and then these faces
+abbrev pub open_text : ℕ → ℕ → Attributes → List Attributes → List ℕ
+open_text first column face [] = run_text first column face
+open_text first column face (next ∷ faces) = if same_face next face then open_text first (column + 1) face faces else run_text first column face ++ open_text column (column + 1) next faces
+
+if_true : {A : Type 0} (b : Bool) (x y : A) → b ≡ true → (if b then x else y) ≡ x
+if_true true x y e = refl
+if_true false x y e = absurd (true≢false (sym e))
+
+if_false : {A : Type 0} (b : Bool) (x y : A) → b ≡ false → (if b then x else y) ≡ y
+if_false true x y e = absurd (true≢false e)
+if_false false x y e = refl
+
+-- more columns of a face before joined runs of it
+joined-more_at : (m n : ℕ) (face : Attributes) (run : ℕ × Attributes) (runs : List (ℕ × Attributes)) (same : Bool)
+    → joined m face (if same then (n + run.0, face) ∷ runs else (n, face) ∷ run ∷ runs) ≡ (if same then (m + n + run.0, face) ∷ runs else (m + n, face) ∷ run ∷ runs)
+joined-more_at m n face run runs true =
+    let sum : m + (n + run.0) ≡ m + n + run.0 = omega arith in
+    if_true (same_face face face) _ _ (face-itself face) ∙ ap (λ k. (k, face) ∷ runs) sum
+joined-more_at m n face run runs false = if_true (same_face face face) _ _ (face-itself face)
+
+joined-more : (m n : ℕ) (face : Attributes) (runs : List (ℕ × Attributes)) → joined m face (joined n face runs) ≡ joined (m + n) face runs
+joined-more m n face [] = if_true (same_face face face) _ _ (face-itself face)
+joined-more m n face (run ∷ runs) = joined-more_at m n face run runs (same_face face run.1)
+
+-- columns of another face before joined runs
+joined-other_at : (m n : ℕ) (face next : Attributes) (run : ℕ × Attributes) (runs : List (ℕ × Attributes)) (same : Bool) → same_face face next ≡ false
+    → joined m face (if same then (n + run.0, next) ∷ runs else (n, next) ∷ run ∷ runs) ≡ (m, face) ∷ (if same then (n + run.0, next) ∷ runs else (n, next) ∷ run ∷ runs)
+joined-other_at m n face next run runs true other = if_false (same_face face next) _ _ other
+joined-other_at m n face next run runs false other = if_false (same_face face next) _ _ other
+
+joined-other : (m n : ℕ) (face next : Attributes) (runs : List (ℕ × Attributes)) → same_face face next ≡ false → joined m face (joined n next runs) ≡ (m, face) ∷ joined n next runs
+joined-other m n face next [] other = if_false (same_face face next) _ _ other
+joined-other m n face next (run ∷ runs) other = joined-other_at m n face next run runs (same_face next run.1) other
+
+told_apart : (f g : Attributes) (same : Bool) → same_face g f ≡ same → same_face f g ≡ false → same ≡ false
+told_apart f g true e other =
+    let alike : same_face f g ≡ true = subst (λ h. same_face f h ≡ true) (sym (face-told g f e)) (face-itself f) in
+    absurd (true≢false (sym alike ∙ other))
+told_apart f g false e other = refl
+
+-- one step of a pass over the faces
+open_text-step : (first n : ℕ) (face next : Attributes) (faces : List Attributes) (same : Bool) → same_face next face ≡ same
+    → open_text first (first + (n + 1)) face faces ≡ runs_text first (joined (n + 1) face (runs_of faces))
+    → open_text (first + n) (first + n + 1) next faces ≡ runs_text (first + n) (joined 1 next (runs_of faces))
+    → (if same then open_text first (first + n + 1) face faces else run_text first (first + n) face ++ open_text (first + n) (first + n + 1) next faces)
+    ≡ runs_text first (joined n face (joined 1 next (runs_of faces)))
+open_text-step first n face next faces true e on other =
+    let turned : next ≡ face = face-told next face e in
+    let moved : first + n + 1 ≡ first + (n + 1) = omega arith in
+    ap (λ k. open_text first k face faces) moved ∙ on
+    ∙ sym (ap (runs_text first) (joined-more n 1 face (runs_of faces))) ∙ ap (λ f. runs_text first (joined n face (joined 1 f (runs_of faces)))) (sym turned)
+open_text-step first n face next faces false e on other =
+    ap (λ l. run_text first (first + n) face ++ l) other
+    ∙ sym (ap (runs_text first) (joined-other n 1 face next (runs_of faces) (told_apart next face (same_face face next) refl e)))
+
+-- one pass finds the runs
+pub open_text-runs : (first n : ℕ) (face : Attributes) (faces : List Attributes) → open_text first (first + n) face faces ≡ runs_text first (joined n face (runs_of faces))
+open_text-runs first n face [] = sym (append-nil (run_text first (first + n) face))
+open_text-runs first n face (next ∷ faces) =
+    open_text-step first n face next faces (same_face next face) refl (open_text-runs first (n + 1) face faces) (open_text-runs (first + n) 1 next faces)
+
+-- no column of the plain face before the runs of faces adds nothing
+before_plain_at : (run : ℕ × Attributes) (runs : List (ℕ × Attributes)) (same : Bool) → same_face plain run.1 ≡ same
+    → runs_text 0 (if same then (0 + run.0, plain) ∷ runs else (0, plain) ∷ run ∷ runs) ≡ runs_text 0 (run ∷ runs)
+before_plain_at run runs true e =
+    let sum : 0 + (0 + run.0) ≡ 0 + run.0 = omega arith in
+    ap (λ k. run_text 0 k plain ++ runs_text k runs) sum ∙ ap (λ f. run_text 0 (0 + run.0) f ++ runs_text (0 + run.0) runs) (face-told plain run.1 e)
+before_plain_at run runs false e = refl
+
+before_plain : (runs : List (ℕ × Attributes)) → runs_text 0 (joined 0 plain runs) ≡ runs_text 0 runs
+before_plain [] = refl
+before_plain (run ∷ runs) = before_plain_at run runs (same_face plain run.1) refl
+
+-- a row's runs, found in one pass
+pub open_text-row : (faces : List Attributes) → open_text 0 0 plain faces ≡ runs_text 0 (runs_of faces)
+open_text-row faces = open_text-runs 0 0 plain faces ∙ before_plain (runs_of faces)
+
+-- a cell's step of the pass
+open-step_at : (first column : ℕ) (face next : Attributes) (cells : List Cell) (same : Bool) → same_face next face ≡ same
+    → (if same then open_text first (column + 1) face (faces_of next cells) else run_text first column face ++ open_text column (column + 1) next (faces_of next cells))
+    ≡ (if same then [] else run_text first column face)
+    ++ open_text (if same then first else column) (column + 1) (if same then face else next) (faces_of (if same then face else next) cells)
+open-step_at first column face next cells true e = ap (λ f. open_text first (column + 1) face (faces_of f cells)) (face-told next face e)
+open-step_at first column face next cells false e = refl
+
+pub open-step : (first column first' : ℕ) (face next face' : Attributes) (cells : List Cell)
+    → first' ≡ (if same_face next face then first else column) → face' ≡ (if same_face next face then face else next)
+    → open_text first column face (next ∷ faces_of next cells) ≡ ended_text first column face next ++ open_text first' (column + 1) face' (faces_of face' cells)
+open-step first column first' face next face' cells p q =
+    open-step_at first column face next cells (same_face next face) refl
+    ∙ ap (λ k. ended_text first column face next ++ open_text k (column + 1) (if same_face next face then face else next) (faces_of (if same_face next face then face else next) cells)) (sym p)
+    ∙ ap (λ f. ended_text first column face next ++ open_text first' (column + 1) f (faces_of f cells)) (sym q)
+
+pub run_text-shown : (first end : ℕ) (face : Attributes) → same_face face plain ≡ false
+    → pieces (codes " " ∷ decimal first ∷ codes "-" ∷ decimal (end - 1) ∷ []) ++ numbers_text face ≡ run_text first end face
+run_text-shown first end face e = sym (if_false (same_face face plain) [] _ e)
+
+-- what is left of a row, by its next cell
+pub runs-step : (first column first' i : ℕ) (face next face' : Attributes) (cell : Cell) (cells : List Cell) → i < length cells → cell ≡ get_or cells i cell → next ≡ face_after face cell
+    → first' ≡ (if same_face next face then first else column) → face' ≡ (if same_face next face then face else next)
+    → open_text first column face (faces_of face (drop i cells)) ≡ ended_text first column face next ++ open_text first' (column + 1) face' (faces_of face' (drop (i + 1) cells))
+runs-step first column first' i face next face' cell cells less is of p q =
+    let after : suc i ≡ i + 1 = omega arith in
+    let head : drop i cells ≡ cell ∷ drop (i + 1) cells =
+    drop-cons cells i cell less ∙ ap (λ x. x ∷ drop (suc i) cells) (sym is) ∙ ap (λ k. cell ∷ drop k cells) after in
+    ap (λ l. open_text first column face (faces_of face l)) head
+    ∙ ap (λ f. open_text first column face (f ∷ faces_of f (drop (i + 1) cells))) (sym of)
+    ∙ open-step first column first' face next face' (drop (i + 1) cells) p q
+
+-- what is left of a face's numbers, by the next one
+pub numbers-step : (any now : Bool) (i : ℕ) (number : Option ℕ) (numbers : List (Option ℕ)) → i < length numbers → number ≡ get_or numbers i number → now ≡ (any || is_some number)
+    → numbers_behind any (drop i numbers) ≡ number_text any number ++ numbers_behind now (drop (i + 1) numbers)
+numbers-step any now i number numbers less is of =
+    let after : suc i ≡ i + 1 = omega arith in
+    let head : drop i numbers ≡ number ∷ drop (i + 1) numbers =
+    drop-cons numbers i number less ∙ ap (λ x. x ∷ drop (suc i) numbers) (sym is) ∙ ap (λ k. number ∷ drop k numbers) after in
+    ap (numbers_behind any) head ∙ ap (λ b. number_text any number ++ numbers_behind b (drop (i + 1) numbers)) (sym of)
+
+-- what is left of the rows, by the next one
+pub rows-step : (rows : List (List Cell)) (i : ℕ) → i < length rows → rows_text i (drop i rows) ≡ row_line i (get_or rows i []) ++ rows_text (i + 1) (drop (i + 1) rows)
+rows-step rows i less =
+    let after : suc i ≡ i + 1 = omega arith in
+    ap (rows_text i) (drop-cons rows i [] less) ∙ ap (λ k. row_line i (get_or rows i []) ++ rows_text (i + 1) (drop k rows)) after
+
+-- a run's text, where the last column is told by an equation
+pub run_text-last : (first end last : ℕ) (face : Attributes) → same_face face plain ≡ false → last ≡ end - 1
+    → pieces (codes " " ∷ decimal first ∷ codes "-" ∷ decimal last ∷ []) ++ numbers_text face ≡ run_text first end face
+run_text-last first end last face shown is =
+    ap (λ n. pieces (codes " " ∷ decimal first ∷ codes "-" ∷ decimal n ∷ []) ++ numbers_text face) is ∙ run_text-shown first end face shown
+
+-- the next number failed
+pub numbers-failed : {U F : Type 0} (a b c : Option (List ℕ)) (f g h : ℕ) (all : List ℕ) (any : Bool) (i : ℕ) (number : Option ℕ) (numbers : List (Option ℕ)) (s : Result U F)
+    → Prints b c g h (number_text any number) s → Going a b f g all (numbers_behind any (drop i numbers)) → i < length numbers → IsErr s → number ≡ get_or numbers i number → Prints a c f h all s
+numbers-failed a b c f g h all any i number numbers s p going less bad is =
+    going-stop a b c f g h all _ (number_text any number) _ s going (numbers-step any (any || is_some number) i number numbers less is refl) p bad

@@ -1,0 +1,116 @@
+-- Texts that are written piece by piece.
+use Rattle.std.proofs.Common.{◌≡◌, ℕ, suc, ◌+◌, ◌≤◌, ◌<◌, inl, inr, List, [], ◌++◌, length, take, Option, Result, Ok, Err, true≢false, refl, sym, ap, ◌∙◌, subst, append_assoc, append-nil, arith, length-append, drop, get_or}
+use Rattle.std.specs.Result.{IsErr}
+use Rattle.std.specs.Io.KnownBytes.{Appends}
+use Rattle.std.proofs.KnownBytes.{Appends-nil, Appends-trans}
+use Rattle.std.proofs.lemmas.List.{take-append-le}
+use Rattle.std.proofs.Math.Seq.{take-append-add, drop-cons}
+use Rattle.std.specs.List.{flat_map}
+use Rattle.rd_io.specs.Devices.{Rose, AppendsFront, Writes}
+use Rattle.rd_io.proofs.Bytes.{rose-after}
+use Rattle.rd_dump.specs.Prints.{Prints}
+
+front-before : (a b : Option (List ℕ)) (xs ys : List ℕ) → AppendsFront a b xs → AppendsFront a b (xs ++ ys)
+front-before a b xs ys front =
+    let n = front.0 in
+    (n, omega (arith, front.1, length-append xs ys), subst (Appends a b) (sym (take-append-le n xs ys front.1)) front.2)
+
+front-after : (a b c : Option (List ℕ)) (xs ys : List ℕ) → Appends a b xs → AppendsFront b c ys → AppendsFront a c (xs ++ ys)
+front-after a b c xs ys p front =
+    let n = front.0 in
+    (length xs + n, omega (arith, front.1, length-append xs ys), subst (Appends a c) (sym (take-append-add xs ys n)) (Appends-trans a b c xs (take n ys) p front.2))
+
+-- a writer that failed, as the answer of the one that called it
+pub prints-fail : {T E U F : Type 0} (a b : Option (List ℕ)) (f g : ℕ) (xs : List ℕ) (e : E) (s : Result U F) → Prints {T = T} {E = E} a b f g xs (Err e) → IsErr s → Prints a b f g xs s
+prints-fail a b f g xs e (Ok u) p bad = absurd (true≢false (sym bad))
+prints-fail a b f g xs e (Err d) p bad = record { whole = tt; front = p.front; never_falls = p.never_falls; failed = p.failed }
+
+-- what was to come behind it
+pub prints-stop : {U F : Type 0} (a b : Option (List ℕ)) (f g : ℕ) (xs ys : List ℕ) (s : Result U F) → Prints a b f g xs s → IsErr s → Prints a b f g (xs ++ ys) s
+prints-stop a b f g xs ys (Ok u) p bad = absurd (true≢false (sym bad))
+prints-stop a b f g xs ys (Err d) p bad = record { whole = tt; front = front-before a b xs ys p.front; never_falls = p.never_falls; failed = p.failed }
+
+-- one writer and then another
+pub prints-then : {T E U F : Type 0} (a b c : Option (List ℕ)) (f g h : ℕ) (xs ys : List ℕ) (t : T) (s : Result U F)
+    → Prints {T = T} {E = E} a b f g xs (Ok t) → Prints b c g h ys s → Prints a c f h (xs ++ ys) s
+prints-then a b c f g h xs ys t (Ok u) p q =
+    record { whole = Appends-trans a b c xs ys p.whole q.whole; front = tt; never_falls = omega (arith, p.never_falls, q.never_falls); failed = tt }
+prints-then a b c f g h xs ys t (Err d) p q =
+    record { whole = tt; front = front-after a b c xs ys p.whole q.front; never_falls = omega (arith, p.never_falls, q.never_falls); failed = rose-after f g h p.never_falls q.failed }
+
+-- a text of which a front was written, and what is left
+pub record Going (a b : Option (List ℕ)) (f g : ℕ) (all rest : List ℕ) : Type 0 where
+  pub done : List ℕ
+  pub split : all ≡ done ++ rest
+  pub printed : Appends a b done
+  pub never_falls : f ≤ g
+
+pub going-start : (a : Option (List ℕ)) (f : ℕ) (all : List ℕ) → Going a a f f all all
+going-start a f all = record { done = []; split = refl; printed = Appends-nil a; never_falls = omega arith }
+
+-- the next piece was written
+pub going-on : {T E : Type 0} (a b c : Option (List ℕ)) (f g h : ℕ) (all rest piece more : List ℕ) (t : T)
+    → Going a b f g all rest → rest ≡ piece ++ more → Prints {T = T} {E = E} b c g h piece (Ok t) → Going a c f h all more
+going-on a b c f g h all rest piece more t going e p = record {
+  done = going.done ++ piece;
+  split = going.split ∙ ap (λ l. going.done ++ l) e ∙ sym (append_assoc going.done piece more);
+  printed = Appends-trans a b c going.done piece going.printed p.whole;
+  never_falls = omega (arith, going.never_falls, p.never_falls);
+}
+
+-- what is left is written by another
+pub going-last : {U F : Type 0} (a b c : Option (List ℕ)) (f g h : ℕ) (all rest : List ℕ) (s : Result U F)
+    → Going a b f g all rest → Prints b c g h rest s → Prints a c f h all s
+going-last {U} {F} a b c f g h all rest s going p =
+    subst (λ l. Prints a c f h l s) (sym going.split)
+    (prints-then {T = Unit {0}} {E = F} a b c f g h going.done rest tt s (record { whole = going.printed; front = tt; never_falls = going.never_falls; failed = tt }) p)
+
+-- the next piece failed
+pub going-stop : {U F : Type 0} (a b c : Option (List ℕ)) (f g h : ℕ) (all rest piece more : List ℕ) (s : Result U F)
+    → Going a b f g all rest → rest ≡ piece ++ more → Prints b c g h piece s → IsErr s → Prints a c f h all s
+going-stop a b c f g h all rest piece more s going e p bad =
+    going-last a b c f g h all rest s going (subst (λ l. Prints b c g h l s) (sym e) (prints-stop b c g h piece more s p bad))
+
+-- nothing is left
+pub going-end : {U F : Type 0} (a b : Option (List ℕ)) (f g : ℕ) (all rest : List ℕ) (u : U) → Going a b f g all rest → rest ≡ [] → Prints {T = U} {E = F} a b f g all (Ok u)
+going-end a b f g all rest u going e =
+    let same : going.done ≡ all = sym (append-nil going.done) ∙ ap (λ l. going.done ++ l) (sym e) ∙ sym going.split in
+    record { whole = subst (Appends a b) same going.printed; front = tt; never_falls = going.never_falls; failed = tt }
+
+-- the text of what is left of a list, by its next element
+pub flat-step : {A : Type 0} (f : A → List ℕ) (xs : List A) (i : ℕ) (d : A) → i < length xs → flat_map f (drop i xs) ≡ f (get_or xs i d) ++ flat_map f (drop (i + 1) xs)
+flat-step f xs i d less =
+    let next : suc i ≡ i + 1 = omega arith in
+    ap (flat_map f) (drop-cons xs i d less) ∙ ap (λ k. f (get_or xs i d) ++ flat_map f (drop k xs)) next
+
+-- an element's text was written in a loop over a list
+pub going-each : {A T E : Type 0} (f : A → List ℕ) (xs : List A) (i : ℕ) (d : A) (a b c : Option (List ℕ)) (k l m : ℕ) (all : List ℕ) (t : T)
+    → i < length xs → Going a b k l all (flat_map f (drop i xs)) → Prints {T = T} {E = E} b c l m (f (get_or xs i d)) (Ok t) → Going a c k m all (flat_map f (drop (i + 1) xs))
+going-each f xs i d a b c k l m all t less going p = going-on a b c k l m all _ (f (get_or xs i d)) _ t going (flat-step f xs i d less) p
+
+-- it failed there
+pub going-failed : {A T E U F : Type 0} (f : A → List ℕ) (xs : List A) (i : ℕ) (d : A) (a b c : Option (List ℕ)) (k l m : ℕ) (all : List ℕ) (e : E) (s : Result U F)
+    → i < length xs → Going a b k l all (flat_map f (drop i xs)) → Prints {T = T} {E = E} b c l m (f (get_or xs i d)) (Err e) → IsErr s → Prints a c k m all s
+going-failed f xs i d a b c k l m all e s less going p bad =
+    going-stop a b c k l m all _ (f (get_or xs i d)) (flat_map f (drop (i + 1) xs)) s going (flat-step f xs i d less) (prints-fail b c l m (f (get_or xs i d)) e s p bad) bad
+
+-- the same for an element that is told by an equation
+pub going-item : {A T E : Type 0} (f : A → List ℕ) (xs : List A) (i : ℕ) (d x : A) (a b c : Option (List ℕ)) (k l m : ℕ) (all : List ℕ) (t : T)
+    → i < length xs → Going a b k l all (flat_map f (drop i xs)) → Prints {T = T} {E = E} b c l m (f x) (Ok t) → x ≡ get_or xs i d → Going a c k m all (flat_map f (drop (i + 1) xs))
+going-item {A} {T} {E} f xs i d x a b c k l m all t less going p is =
+    going-each f xs i d a b c k l m all t less going (subst (λ y. Prints {T = T} {E = E} b c l m (f y) (Ok t)) is p)
+
+pub failed-item : {A T E U F : Type 0} (f : A → List ℕ) (xs : List A) (i : ℕ) (d x : A) (a b c : Option (List ℕ)) (k l m : ℕ) (all : List ℕ) (e : E) (s : Result U F)
+    → i < length xs → Going a b k l all (flat_map f (drop i xs)) → Prints {T = T} {E = E} b c l m (f x) (Err e) → IsErr s → x ≡ get_or xs i d → Prints a c k m all s
+failed-item {A} {T} {E} {U} {F} f xs i d x a b c k l m all e s less going p bad is =
+    going-failed {A = A} {T = T} {E = E} f xs i d a b c k l m all e s less going (subst (λ y. Prints {T = T} {E = E} b c l m (f y) (Err e)) is p) bad
+
+-- the same text in other words
+pub prints-as : {T E : Type 0} (a b : Option (List ℕ)) (f g : ℕ) (xs ys : List ℕ) (s : Result T E) → xs ≡ ys → Prints a b f g xs s → Prints a b f g ys s
+prints-as a b f g xs ys s e p = subst (λ l. Prints a b f g l s) e p
+
+pub writes-of : {T E : Type 0} (a b : Option (List ℕ)) (f g : ℕ) (xs : List ℕ) (s : Result T E) → Prints a b f g xs s → Writes a b xs s
+writes-of a b f g xs s p = record { whole = p.whole; front = p.front }
+
+pub going-start-as : (a : Option (List ℕ)) (f : ℕ) (all rest : List ℕ) → all ≡ rest → Going a a f f all rest
+going-start-as a f all rest e = record { done = []; split = e; printed = Appends-nil a; never_falls = omega arith }

@@ -1,0 +1,11 @@
+use Rattle.rd_dump.proofs.Writing.{prints-then, prints-stop, prints-fail, writes-of}
+use Rattle.rd_dump.proofs.dump.print_dump.Goals as goal
+
+pub returns-in_err-print_rows-clause-bytes : goal.returns-in_err-print_rows-clause-bytes
+returns-in_err-print_rows-clause-bytes g c =
+    let bad = c.from_residual-in_err-print_rows.ensures.0 in
+    writes-of _ _ _ _ _ _ (prints-stop _ _ _ _ _ _ _ (prints-then _ _ _ _ _ _ _ _ _ _ c.in_ok-print_windows.ensures (prints-fail _ _ _ _ _ _ _ c.in_err-print_rows.ensures bad)) bad)
+
+pub returns-clause-bytes : goal.returns-clause-bytes
+returns-clause-bytes g c =
+    writes-of _ _ _ _ _ _ (prints-then _ _ _ _ _ _ _ _ _ _ (prints-then _ _ _ _ _ _ _ _ _ _ c.in_ok-print_windows.ensures c.in_ok-print_rows.ensures) c.print_cursor.ensures)

@@ -1,0 +1,148 @@
+-- The text of a dump.
+use Rattle.std.specs.Prelude.{ℕ, ◌+◌, ◌-◌, ◌==◌, ◌||◌, Bool, false, if◌then◌else◌, List, [], ◌∷◌, ◌++◌, take, Option, None, Some, is_some, codes}
+use Rattle.std.specs.Fmt.{decimal}
+use Rattle.std.specs.List.{flat_map}
+use Rattle.rd_base.specs.Chars.{encoded}
+use Rattle.rd_base.specs.Equals.{same_face}
+use Rattle.rd_base.specs.Faces.{Attributes, plain}
+use Rattle.rd_base.specs.declared.cell.Glyph.{Glyph}
+use Rattle.rd_base.specs.declared.cell.Cell.{Cell}
+use Rattle.rd_base.specs.declared.cell.Cell.TheVariants.{Blank, First, Rest}
+use Rattle.rd_term.specs.Pictures.{Picture}
+use Rattle.rd_dump.specs.declared.dump.WindowFacts.{WindowFacts}
+use Rattle.rd_dump.specs.declared.print.Part.{Part}
+use Rattle.rd_dump.specs.declared.print.Part.TheVariants.{Text, Number}
+
+abbrev pub newline : List ℕ
+newline = 10 ∷ []
+
+-- ---- the parts of a line
+
+abbrev pub part_text : Part → List ℕ
+part_text (Text text) = text.now
+part_text (Number n) = decimal n
+
+abbrev pub parts_text : List Part → List ℕ
+parts_text parts = flat_map part_text parts
+
+-- pieces of a text, one after the other
+abbrev pub pieces : List (List ℕ) → List ℕ
+pieces [] = []
+pieces (text ∷ texts) = text ++ pieces texts
+
+-- ---- windows
+
+-- a cursor's row and column, to the end of the line
+abbrev pub place_text : Option (ℕ × ℕ) → List ℕ
+place_text None = codes "none\n"
+place_text (Some place) = pieces (decimal place.0 ∷ codes "," ∷ decimal place.1 ∷ newline ∷ [])
+
+-- a window: its number, its place and size, its start, its point and its cursor
+abbrev pub window_line : WindowFacts → List ℕ
+window_line w = pieces (
+    codes "window " ∷ decimal w.window
+    ∷ codes " at " ∷ decimal w.rect.y ∷ codes "," ∷ decimal w.rect.x
+    ∷ codes " size " ∷ decimal w.rect.width ∷ codes "x" ∷ decimal w.rect.height
+    ∷ codes " start " ∷ decimal w.start.pos ∷ codes "." ∷ decimal w.start.row
+    ∷ codes " point " ∷ decimal w.point
+    ∷ codes " cursor " ∷ []) ++ place_text w.cursor
+
+abbrev pub windows_text : List WindowFacts → List ℕ
+windows_text windows = flat_map window_line windows
+
+-- ---- the text of a row
+
+-- a character and its marks
+abbrev pub glyph_text : Glyph → List ℕ
+glyph_text g = encoded g.base ++ flat_map encoded (take g.count g.marks)
+
+-- a space for a blank, and nothing for a later column of a glyph
+abbrev pub cell_text : Cell → List ℕ
+cell_text (Blank face) = codes " "
+cell_text (First g face) = glyph_text g
+cell_text Rest = []
+
+abbrev pub cells_text : List Cell → List ℕ
+cells_text cells = flat_map cell_text cells
+
+-- ---- the runs of faces
+
+-- the face of a cell behind one of this face: a later column of a glyph has that of its first
+abbrev pub face_after : Attributes → Cell → Attributes
+face_after before (Blank face) = face
+face_after before (First g face) = face
+face_after before Rest = before
+
+-- the faces of cells, of which the first stands behind one of this face
+abbrev pub faces_of : Attributes → List Cell → List Attributes
+faces_of before [] = []
+faces_of before (cell ∷ cells) = face_after before cell ∷ faces_of (face_after before cell) cells
+
+-- so many columns of a face before these runs, each of which is a number of columns and their face
+abbrev pub joined : ℕ → Attributes → List (ℕ × Attributes) → List (ℕ × Attributes)
+joined n face [] = (n, face) ∷ []
+joined n face (run ∷ runs) = if same_face face run.1 then (n + run.0, face) ∷ runs else (n, face) ∷ run ∷ runs
+
+-- the maximal runs of equal faces
+abbrev pub runs_of : List Attributes → List (ℕ × Attributes)
+runs_of [] = []
+runs_of (face ∷ faces) = joined 1 face (runs_of faces)
+
+-- ---- a face's numbers
+
+abbrev pub flag_number : Bool → ℕ → Option ℕ
+flag_number flag number = if flag then Some number else None
+
+abbrev pub colour_number : ℕ → ℕ → Option ℕ
+colour_number colour base = if colour == 8 then None else Some (base + colour)
+
+-- 1 bold, 4 underline, 7 inverse, 30 and the colour of the character, 40 and the colour behind it
+abbrev pub numbers_of_face : Attributes → List (Option ℕ)
+numbers_of_face f = flag_number f.bold 1 ∷ flag_number f.underline 4 ∷ flag_number f.inverse 7 ∷ colour_number f.fg 30 ∷ colour_number f.bg 40 ∷ []
+
+-- a number, behind `;` where there are others before it and else behind `:`
+abbrev pub number_text : Bool → Option ℕ → List ℕ
+number_text any None = []
+number_text any (Some n) = pieces ((if any then codes ";" else codes ":") ∷ decimal n ∷ [])
+
+abbrev pub numbers_behind : Bool → List (Option ℕ) → List ℕ
+numbers_behind any [] = []
+numbers_behind any (number ∷ numbers) = number_text any number ++ numbers_behind (any || is_some number) numbers
+
+-- the numbers of a face that there are, `:` before the first one and `;` before each other one
+abbrev pub numbers_text : Attributes → List ℕ
+numbers_text f = numbers_behind false (numbers_of_face f)
+
+-- a run from a column up to one that it does not hold, by its first and last column; a plain one has no text
+abbrev pub run_text : ℕ → ℕ → Attributes → List ℕ
+run_text first end face = if same_face face plain then [] else pieces (codes " " ∷ decimal first ∷ codes "-" ∷ decimal (end - 1) ∷ []) ++ numbers_text face
+
+-- the text of a run that ends where the next column has another face
+abbrev pub ended_text : ℕ → ℕ → Attributes → Attributes → List ℕ
+ended_text first column face next = if same_face next face then [] else run_text first column face
+
+-- runs, of which the first begins in this column
+abbrev pub runs_text : ℕ → List (ℕ × Attributes) → List ℕ
+runs_text column [] = []
+runs_text column (run ∷ runs) = run_text column (column + run.0) run.1 ++ runs_text (column + run.0) runs
+
+abbrev pub runs_of_row : List Cell → List ℕ
+runs_of_row cells = runs_text 0 (runs_of (faces_of plain cells))
+
+-- ---- rows, and the whole dump
+
+-- a row: its text between two bytes `|`, and its runs that are not plain
+abbrev pub row_line : ℕ → List Cell → List ℕ
+row_line row cells = pieces (codes "row " ∷ decimal row ∷ codes " |" ∷ []) ++ cells_text cells ++ codes "|" ++ runs_of_row cells ++ newline
+
+-- rows, of which the first has this number
+abbrev pub rows_text : ℕ → List (List Cell) → List ℕ
+rows_text row [] = []
+rows_text row (cells ∷ rows) = row_line row cells ++ rows_text (row + 1) rows
+
+abbrev pub cursor_line : Picture → List ℕ
+cursor_line picture = codes "cursor " ++ place_text (Some (picture.row, picture.column))
+
+-- a line for each window, a line for each row of the screen, and a line for its cursor
+abbrev pub dump_text : Picture → List WindowFacts → List ℕ
+dump_text picture windows = windows_text windows ++ rows_text 0 picture.rows ++ cursor_line picture

@@ -1,0 +1,214 @@
+//! The dump of a screen and of the windows on it.
+ghost use Rattle.std.specs.Prelude.{◌≡◌, ◌≤◌, OnErr, take};
+ghost use Rattle.std.specs.List.{flat_map};
+ghost use Rattle.rd_base.specs.Chars.{encoded};
+ghost use Rattle.rd_io.specs.Devices.{Rose, Writes};
+ghost use Rattle.rd_dump.specs.Dumps.{dump_text, windows_text, window_line, place_text, cursor_line, rows_text, row_line, cells_text, cell_text, glyph_text};
+ghost use Rattle.rd_dump.specs.Prints.{Prints};
+
+use crate::piece::Piece;
+use crate::print::{Part, print_bytes, print_character, print_parts};
+use crate::runs::print_runs;
+use rd_base::{Anchor, Cell, Glyph, Pos};
+use rd_io::{Failed, Sink};
+use rd_term::Screen;
+use rd_tree::Rect;
+
+/// What a dump says of a window: its number, its rectangle, the start of its view, its point, and the row and column of its
+/// cursor in it, from 0.
+#[derive(Clone, Copy, Debug, PartialEq, Eq)]
+pub struct WindowFacts {
+    pub window: u32,
+    pub rect: Rect,
+    pub start: Anchor,
+    pub point: Pos,
+    pub cursor: Option<(u32, u32)>,
+}
+
+/// Writes the dump of a screen: a line for each window in the order given, a line for each row of the screen, and a line for its
+/// cursor. It takes no memory, and a line is one write where it has at most 8,192 bytes. After a failure a front of the dump was
+/// written.
+pub fn print_dump<K: Sink>(
+    sink: &mut K,
+    screen: &Screen,
+    windows: &[WindowFacts],
+) -> Result<(), Failed>
+    ensures bytes { Writes (K.written sink.old) (K.written sink.new) (dump_text screen.now windows.now) result }
+    ensures never_falls { K.faults sink.old ≤ K.faults sink.new }
+    ensures failed { OnErr result (Rose (K.faults sink.old) (K.faults sink.new)) }
+{
+    print_windows(sink, windows)?;
+    print_rows(sink, screen)?;
+    print_cursor(sink, screen)
+}
+
+/// Writes a line for each window.
+fn print_windows<K: Sink>(sink: &mut K, windows: &[WindowFacts]) -> Result<(), Failed>
+    ensures { Prints (K.written sink.old) (K.written sink.new) (K.faults sink.old) (K.faults sink.new) (windows_text windows.now) result }
+{
+    for facts in windows {
+        print_window(sink, facts)?;
+    }
+    Ok(())
+}
+
+/// Writes the line of a window, in one piece.
+fn print_window<K: Sink>(sink: &mut K, facts: &WindowFacts) -> Result<(), Failed>
+    ensures { Prints (K.written sink.old) (K.written sink.new) (K.faults sink.old) (K.faults sink.new) (window_line facts.now) result }
+{
+    let mut piece = Piece::new();
+    match print_window_parts(&mut piece, facts) {
+        Ok(()) => print_bytes(sink, piece.bytes()),
+        Err(_full) => print_window_parts(sink, facts),
+    }
+}
+
+/// Writes the parts of a window's line.
+fn print_window_parts<K: Sink>(sink: &mut K, facts: &WindowFacts) -> Result<(), Failed>
+    ensures { Prints (K.written sink.old) (K.written sink.new) (K.faults sink.old) (K.faults sink.new) (window_line facts.now) result }
+{
+    let parts = [
+        Part::Text("window "),
+        Part::Number(facts.window as u64),
+        Part::Text(" at "),
+        Part::Number(facts.rect.y as u64),
+        Part::Text(","),
+        Part::Number(facts.rect.x as u64),
+        Part::Text(" size "),
+        Part::Number(facts.rect.width as u64),
+        Part::Text("x"),
+        Part::Number(facts.rect.height as u64),
+        Part::Text(" start "),
+        Part::Number(facts.start.pos as u64),
+        Part::Text("."),
+        Part::Number(facts.start.row as u64),
+        Part::Text(" point "),
+        Part::Number(facts.point as u64),
+        Part::Text(" cursor "),
+    ];
+    print_parts(sink, &parts)?;
+    print_place(sink, facts.cursor)
+}
+
+/// Writes the place of a cursor, and the end of its line.
+fn print_place<K: Sink>(sink: &mut K, place: Option<(u32, u32)>) -> Result<(), Failed>
+    ensures { Prints (K.written sink.old) (K.written sink.new) (K.faults sink.old) (K.faults sink.new) (place_text place) result }
+{
+    match place {
+        Some((row, column)) => print_parts(
+            sink,
+            &[
+                Part::Number(row as u64),
+                Part::Text(","),
+                Part::Number(column as u64),
+                Part::Text("\n"),
+            ],
+        ),
+        None => print_parts(sink, &[Part::Text("none\n")]),
+    }
+}
+
+/// Writes the line of a screen's cursor, in one piece.
+fn print_cursor<K: Sink>(sink: &mut K, screen: &Screen) -> Result<(), Failed>
+    ensures { Prints (K.written sink.old) (K.written sink.new) (K.faults sink.old) (K.faults sink.new) (cursor_line screen.now) result }
+{
+    let mut piece = Piece::new();
+    match print_cursor_parts(&mut piece, screen) {
+        Ok(()) => print_bytes(sink, piece.bytes()),
+        Err(_full) => print_cursor_parts(sink, screen),
+    }
+}
+
+/// Writes the parts of the cursor's line.
+fn print_cursor_parts<K: Sink>(sink: &mut K, screen: &Screen) -> Result<(), Failed>
+    ensures { Prints (K.written sink.old) (K.written sink.new) (K.faults sink.old) (K.faults sink.new) (cursor_line screen.now) result }
+{
+    print_parts(sink, &[Part::Text("cursor ")])?;
+    print_place(sink, Some(screen.cursor()))
+}
+
+/// Writes a line for each row of a screen.
+fn print_rows<K: Sink>(sink: &mut K, screen: &Screen) -> Result<(), Failed>
+    ensures { Prints (K.written sink.old) (K.written sink.new) (K.faults sink.old) (K.faults sink.new) (rows_text 0 screen.now.rows) result }
+{
+    for row in 0..screen.height() {
+        print_row(sink, row, screen.row(row))?;
+    }
+    Ok(())
+}
+
+/// Writes the line of a row, in one piece where it fits into one.
+fn print_row<K: Sink>(sink: &mut K, row: u32, cells: &[Cell]) -> Result<(), Failed>
+    ensures { Prints (K.written sink.old) (K.written sink.new) (K.faults sink.old) (K.faults sink.new) (row_line row cells.now) result }
+{
+    let mut piece = Piece::new();
+    match print_row_parts(&mut piece, row, cells) {
+        Ok(()) => print_bytes(sink, piece.bytes()),
+        Err(_full) => print_row_parts(sink, row, cells),
+    }
+}
+
+/// Writes the parts of a row's line: its text between two bytes `|`, and the runs of its faces.
+fn print_row_parts<K: Sink>(sink: &mut K, row: u32, cells: &[Cell]) -> Result<(), Failed>
+    ensures { Prints (K.written sink.old) (K.written sink.new) (K.faults sink.old) (K.faults sink.new) (row_line row cells.now) result }
+{
+    print_parts(
+        sink,
+        &[
+            Part::Text("row "),
+            Part::Number(row as u64),
+            Part::Text(" |"),
+        ],
+    )?;
+    print_cells(sink, cells)?;
+    print_parts(sink, &[Part::Text("|")])?;
+    print_runs(sink, cells)?;
+    print_parts(sink, &[Part::Text("\n")])
+}
+
+/// Writes the text of cells.
+fn print_cells<K: Sink>(sink: &mut K, cells: &[Cell]) -> Result<(), Failed>
+    ensures { Prints (K.written sink.old) (K.written sink.new) (K.faults sink.old) (K.faults sink.new) (cells_text cells.now) result }
+{
+    for cell in cells {
+        print_cell(sink, cell)?;
+    }
+    Ok(())
+}
+
+/// Writes the text of a cell.
+fn print_cell<K: Sink>(sink: &mut K, cell: &Cell) -> Result<(), Failed>
+    ensures { Prints (K.written sink.old) (K.written sink.new) (K.faults sink.old) (K.faults sink.new) (cell_text cell.now) result }
+{
+    match cell {
+        Cell::Blank(_face) => print_parts(sink, &[Part::Text(" ")]),
+        Cell::First(glyph, _face) => print_glyph(sink, glyph),
+        Cell::Rest => Ok(()),
+    }
+}
+
+/// Writes a character and its marks.
+fn print_glyph<K: Sink>(sink: &mut K, glyph: &Glyph) -> Result<(), Failed>
+    ensures { Prints (K.written sink.old) (K.written sink.new) (K.faults sink.old) (K.faults sink.new) (glyph_text glyph.now) result }
+{
+    print_character(sink, glyph.base)?;
+    print_marks(sink, marks_of(glyph))
+}
+
+/// The marks that count.
+fn marks_of(glyph: &Glyph) -> &[u32]
+    ensures { result.now ≡ take glyph.now.count glyph.now.marks }
+{
+    let count = (glyph.count as usize).min(6);
+    &glyph.marks[..count]
+}
+
+/// Writes marks.
+fn print_marks<K: Sink>(sink: &mut K, marks: &[u32]) -> Result<(), Failed>
+    ensures { Prints (K.written sink.old) (K.written sink.new) (K.faults sink.old) (K.faults sink.new) (flat_map encoded marks.now) result }
+{
+    for mark in marks {
+        print_character(sink, *mark)?;
+    }
+    Ok(())
+}

@@ -1,0 +1,52 @@
+//! Writing texts and numbers to a sink, without taking memory.
+ghost use Rattle.std.specs.Prelude.{◌≡◌};
+ghost use Rattle.rd_base.specs.Chars.{encoded};
+ghost use Rattle.rd_dump.specs.Dumps.{part_text, parts_text};
+ghost use Rattle.rd_dump.specs.Prints.{Prints};
+
+use itoa::Buffer;
+use rd_io::{Failed, Sink, write_whole};
+
+/// A piece of a line: a text, or a number in decimal.
+#[derive(Clone, Copy)]
+pub enum Part<'a> {
+    Text(&'a str),
+    Number(u64),
+}
+
+/// Writes the parts of a line one after the other.
+pub fn print_parts<K: Sink>(sink: &mut K, parts: &[Part]) -> Result<(), Failed>
+    ensures { Prints (K.written sink.old) (K.written sink.new) (K.faults sink.old) (K.faults sink.new) (parts_text parts.now) result }
+{
+    for part in parts {
+        print_part(sink, part)?;
+    }
+    Ok(())
+}
+
+/// Writes a part.
+fn print_part<K: Sink>(sink: &mut K, part: &Part) -> Result<(), Failed>
+    ensures { Prints (K.written sink.old) (K.written sink.new) (K.faults sink.old) (K.faults sink.new) (part_text part.now) result }
+{
+    match part {
+        Part::Text(text) => print_bytes(sink, text.as_bytes()),
+        Part::Number(number) => print_bytes(sink, Buffer::new().format(*number).as_bytes()),
+    }
+}
+
+/// Writes a character's code as UTF-8.
+pub fn print_character<K: Sink>(sink: &mut K, code: u32) -> Result<(), Failed>
+    ensures { Prints (K.written sink.old) (K.written sink.new) (K.faults sink.old) (K.faults sink.new) (encoded code) result }
+{
+    match char::from_u32(code) {
+        Some(c) => print_bytes(sink, c.encode_utf8(&mut [0; 4]).as_bytes()),
+        None => Ok(()),
+    }
+}
+
+/// Writes bytes.
+pub fn print_bytes<K: Sink>(sink: &mut K, bytes: &[u8]) -> Result<(), Failed>
+    ensures { Prints (K.written sink.old) (K.written sink.new) (K.faults sink.old) (K.faults sink.new) bytes.now result }
+{
+    write_whole(sink, bytes)
+}

@@ -1,0 +1,149 @@
+//! The runs of cells of one face in a row.
+ghost use Rattle.std.specs.Prelude.{◌≡◌, ◌-◌, ◌<◌, IfOk, if◌then◌else◌, ◌||◌, is_some};
+ghost use Rattle.rd_base.specs.Equals.{same_face};
+ghost use Rattle.rd_dump.specs.Dumps.{face_after, runs_of_row, run_text, ended_text, numbers_text, number_text, numbers_of_face, flag_number, colour_number};
+ghost use Rattle.rd_dump.specs.Prints.{Prints};
+
+use crate::print::{Part, print_parts};
+use rd_base::{Cell, Face};
+use rd_io::{Failed, Sink};
+
+/// A run that may go on: its first column, from 0, and its face.
+#[derive(Clone, Copy)]
+pub struct Run {
+    pub first: usize,
+    pub face: Face,
+}
+
+/// Writes each maximal run of cells of one face that is not plain: its first and last column, from 0, and the face's numbers.
+pub fn print_runs<K: Sink>(sink: &mut K, cells: &[Cell]) -> Result<(), Failed>
+    ensures { Prints (K.written sink.old) (K.written sink.new) (K.faults sink.old) (K.faults sink.new) (runs_of_row cells.now) result }
+{
+    let mut run = Run {
+        first: 0,
+        face: Face::PLAIN,
+    };
+    let mut column = 0;
+    for cell in cells {
+        run = print_ended(sink, run, column, face_after(run.face, cell))?;
+        column += 1;
+    }
+    print_run(sink, run.first, column, run.face)
+}
+
+/// Writes a run where the next column has another face, and answers the run that the column is in.
+fn print_ended<K: Sink>(sink: &mut K, run: Run, column: usize, next: Face) -> Result<Run, Failed>
+    ensures text { Prints (K.written sink.old) (K.written sink.new) (K.faults sink.old) (K.faults sink.new) (ended_text run.first column run.face next) result }
+    ensures first { IfOk result (λ now. now.first ≡ (if same_face next run.face then run.first else column)) }
+    ensures face { IfOk result (λ now. now.face ≡ (if same_face next run.face then run.face else next)) }
+{
+    if is_same(next, run.face) {
+        return Ok(run);
+    }
+    print_run(sink, run.first, column, run.face)?;
+    Ok(Run {
+        first: column,
+        face: next,
+    })
+}
+
+/// The face of a cell behind one of this face: a later column of a glyph has that of its first.
+fn face_after(before: Face, cell: &Cell) -> Face
+    ensures { result ≡ face_after before cell.now }
+{
+    match cell {
+        Cell::Blank(face) | Cell::First(_, face) => *face,
+        Cell::Rest => before,
+    }
+}
+
+/// Whether two faces are the same.
+fn is_same(face: Face, other: Face) -> bool
+    ensures { result ≡ same_face face other }
+{
+    face == other
+}
+
+/// Writes the run from a column on, of which `end` is the column behind, unless its face is plain.
+fn print_run<K: Sink>(sink: &mut K, first: usize, end: usize, face: Face) -> Result<(), Failed>
+    ensures { Prints (K.written sink.old) (K.written sink.new) (K.faults sink.old) (K.faults sink.new) (run_text first end face) result }
+{
+    if is_same(face, Face::PLAIN) {
+        return Ok(());
+    }
+    let parts = [
+        Part::Text(" "),
+        Part::Number(first as u64),
+        Part::Text("-"),
+        Part::Number(last_before(end) as u64),
+    ];
+    print_parts(sink, &parts)?;
+    print_numbers(sink, face)
+}
+
+/// The last column of a run that ends before a column.
+fn last_before(end: usize) -> usize
+    ensures { result ≡ end - 1 }
+{
+    end.saturating_sub(1)
+}
+
+/// A face's numbers, by what they stand for: 1 bold, 4 underline, 7 inverse, 30 and the colour of the character, 40 and the
+/// colour behind it.
+fn numbers_of_face(face: Face) -> [Option<u32>; 5]
+    ensures { result ≡ numbers_of_face face }
+{
+    [
+        flag_number(face.bold, 1),
+        flag_number(face.underline, 4),
+        flag_number(face.inverse, 7),
+        colour_number(face.fg, 30),
+        colour_number(face.bg, 40),
+    ]
+}
+
+/// The number of a flag that is set.
+fn flag_number(flag: bool, number: u32) -> Option<u32>
+    ensures { result ≡ flag_number flag number }
+{
+    if flag { Some(number) } else { None }
+}
+
+/// The number of a colour that is not none.
+fn colour_number(colour: u8, base: u32) -> Option<u32>
+    requires { base < 1000 }
+    ensures { result ≡ colour_number colour base }
+{
+    if colour == 8 {
+        None
+    } else {
+        Some(base + colour as u32)
+    }
+}
+
+/// Writes a face's numbers, `:` before the first one and `;` before each other one.
+fn print_numbers<K: Sink>(sink: &mut K, face: Face) -> Result<(), Failed>
+    ensures { Prints (K.written sink.old) (K.written sink.new) (K.faults sink.old) (K.faults sink.new) (numbers_text face) result }
+{
+    let numbers = numbers_of_face(face);
+    let mut any = false;
+    for number in numbers {
+        any = print_number(sink, any, number)?;
+    }
+    Ok(())
+}
+
+/// Writes a number behind the others of its face, if there are any, and answers whether there is any now.
+fn print_number<K: Sink>(sink: &mut K, any: bool, number: Option<u32>) -> Result<bool, Failed>
+    ensures text { Prints (K.written sink.old) (K.written sink.new) (K.faults sink.old) (K.faults sink.new) (number_text any number) result }
+    ensures any { IfOk result (λ now. now ≡ (any || is_some number)) }
+{
+    match number {
+        Some(n) => {
+            let lead = if any { ";" } else { ":" };
+            print_parts(sink, &[Part::Text(lead), Part::Number(n as u64)])?;
+            Ok(true)
+        }
+        None => Ok(any),
+    }
+}

@@ -1,8 +1,0 @@
-use Rattle.std.proofs.Common.{ap}
-use Rattle.std.specs.List.{flat_map}
-use Rattle.rd_base.specs.Chars.{encoded}
-use Rattle.rd_script.proofs.Writing.{prints-then, prints-as}
-use Rattle.rd_script.proofs.dump.print_glyph.Goals as goal
-
-pub returns : goal.returns
-returns g c = prints-then _ _ _ _ _ _ _ _ _ _ c.in_ok-print_character.ensures (prints-as _ _ _ _ _ _ _ (ap (flat_map encoded) c.marks_of.ensures) c.print_marks.ensures)

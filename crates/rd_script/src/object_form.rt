@@ -1,0 +1,96 @@
+//! The forms of what the ops that make objects say.
+ghost use Rattle.std.specs.Prelude.{◌≡◌, IfOk, option_map};
+ghost use Rattle.serde_json.specs.View.{view, items_view};
+ghost use Rattle.rd_script.specs.Fields.{whole, within, word, pair_of, two_items_of, four_items_of};
+ghost use Rattle.rd_script.specs.Objects.{run_of, run_kinds, entry_of, glyph_text};
+
+use crate::form::{Form, number_within};
+use crate::object::{OpEntry, OpRun};
+use crate::text_form::GlyphText;
+use crate::word::Named;
+use rd_base::{Ch, ListOf, Memory};
+use rd_objects::RunKind;
+use serde_json::Value;
+use std::alloc::Global;
+
+/// A run: where it begins and ends, its kind, and the number of its face or display spec.
+#[derive(Drop)]
+pub struct Run;
+
+impl Form for Run {
+    ghost use Rattle.rd_script.specs.Objects.{run};
+
+    type Said = OpRun;
+
+    ghost kind = { λ _. run };
+
+    fn read(&self, _alloc: Global, value: &Value) -> Result<Option<OpRun>, Memory> {
+        match value.as_array() {
+            Some(items) => Ok(run_of(items.as_slice())),
+            None => Ok(None),
+        }
+    }
+}
+
+/// The run that items say.
+fn run_of(items: &[Value]) -> Option<OpRun>
+    ensures { result ≡ option_map run_of (four_items_of whole whole (word run_kinds) whole (items_view items.now)) }
+{
+    match items {
+        [from, to, kind, value] => Some(OpRun {
+            from: from.as_u64()?,
+            to: to.as_u64()?,
+            kind: run_kind(kind)?,
+            value: value.as_u64()?,
+        }),
+        _ => None,
+    }
+}
+
+/// The kind of a run that a value names.
+fn run_kind(value: &Value) -> Option<RunKind>
+    ensures { result ≡ word run_kinds (view value.now) }
+{
+    RunKind::named(value.as_str()?)
+}
+
+/// An entry of a display table: a code, and what is shown in its place.
+#[derive(Drop)]
+pub struct Entry;
+
+impl Form for Entry {
+    ghost use Rattle.rd_script.specs.Objects.{entry};
+
+    type Said = OpEntry;
+
+    ghost kind = { λ _. entry };
+
+    fn read(&self, alloc: Global, value: &Value) -> Result<Option<OpEntry>, Memory> {
+        match value.as_array() {
+            Some(items) => entry_of(alloc, items.as_slice()),
+            None => Ok(None),
+        }
+    }
+}
+
+/// The entry that items say.
+fn entry_of(alloc: Global, items: &[Value]) -> Result<Option<OpEntry>, Memory>
+    ensures { IfOk result (λ found. found ≡ option_map entry_of (two_items_of (within 0 1114111) glyph_text (items_view items.now))) }
+{
+    if items.len() != 2 {
+        return Ok(None);
+    }
+    let code = number_within(&items[0], 0, 1_114_111);
+    let text = GlyphText.read(alloc, &items[1])?;
+    Ok(entry_parts(code, text))
+}
+
+/// The entry of these parts, where there are both.
+fn entry_parts(code: Option<u32>, text: Option<ListOf<Ch>>) -> Option<OpEntry>
+    ensures { result ≡ option_map entry_of (pair_of code text) }
+{
+    Some(OpEntry {
+        code: code?,
+        text: text?,
+    })
+}

@@ -1,0 +1,115 @@
+//! Words that stand for something.
+use rd_base::{Direction, Wrap};
+use rd_objects::RunKind;
+use rd_overlays::Kind;
+use rd_tree::Side;
+
+/// What words may stand for.
+pub trait Named: Sized + Drop {
+    ghost use Rattle.std.specs.Prelude.{ℕ, List, ◌≡◌};
+    ghost use Rattle.rd_script.specs.Fields.{beside};
+
+    // the words, each with what it stands for
+    ghost names: { List (List ℕ × Self) };
+
+    /// What a text stands for, and None where it is none of the words.
+    fn named(text: &str) -> Option<Self>
+        ensures { result ≡ beside names text.now };
+}
+
+/// A way to go in a line as it is seen: to the right, or to the left.
+#[derive(Clone, Copy)]
+pub struct Way {
+    pub right: bool,
+}
+
+impl Named for Way {
+    ghost use Rattle.rd_script.specs.Table.{ways};
+
+    ghost names = { ways };
+
+    fn named(text: &str) -> Option<Way> {
+        match text {
+            "left" => Some(Way { right: false }),
+            "right" => Some(Way { right: true }),
+            _ => None,
+        }
+    }
+}
+
+impl Named for Wrap {
+    ghost use Rattle.rd_script.specs.Table.{wrap_modes};
+
+    ghost names = { wrap_modes };
+
+    fn named(text: &str) -> Option<Wrap> {
+        match text {
+            "truncate" => Some(Wrap::Truncate),
+            "continue" => Some(Wrap::Continue),
+            "word" => Some(Wrap::Word),
+            _ => None,
+        }
+    }
+}
+
+impl Named for Side {
+    ghost use Rattle.rd_script.specs.Table.{split_sides};
+
+    ghost names = { split_sides };
+
+    fn named(text: &str) -> Option<Side> {
+        match text {
+            "below" => Some(Side::Below),
+            "right" => Some(Side::Right),
+            _ => None,
+        }
+    }
+}
+
+impl Named for Kind {
+    ghost use Rattle.rd_script.specs.Properties.{kind_names};
+
+    ghost names = { kind_names };
+
+    fn named(text: &str) -> Option<Kind> {
+        match text {
+            "face" => Some(Kind::Face),
+            "display" => Some(Kind::Display),
+            "invisible" => Some(Kind::Invisible),
+            "line_prefix" => Some(Kind::LinePrefix),
+            "wrap_prefix" => Some(Kind::WrapPrefix),
+            "before" => Some(Kind::Before),
+            "after" => Some(Kind::After),
+            _ => None,
+        }
+    }
+}
+
+impl Named for Direction {
+    ghost use Rattle.rd_script.specs.Settings.{direction_names};
+
+    ghost names = { direction_names };
+
+    fn named(text: &str) -> Option<Direction> {
+        match text {
+            "auto" => Some(Direction::Auto),
+            "left" => Some(Direction::Left),
+            "right" => Some(Direction::Right),
+            _ => None,
+        }
+    }
+}
+
+impl Named for RunKind {
+    ghost use Rattle.rd_script.specs.Objects.{run_kinds};
+
+    ghost names = { run_kinds };
+
+    fn named(text: &str) -> Option<RunKind> {
+        match text {
+            "face" => Some(RunKind::Face),
+            "display" => Some(RunKind::Display),
+            _ => None,
+        }
+    }
+}
