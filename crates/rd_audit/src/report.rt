@@ -1,6 +1,6 @@
 //! The line of a verdict, written without memory.
 ghost use Rattle.std.specs.Prelude.{◌≡◌, decimal};
-ghost use Rattle.rd_script.specs.Prints.{Prints};
+ghost use Rattle.rd_dump.specs.Prints.{Prints};
 ghost use Rattle.rd_audit.specs.Verdicts.{line_of, difference_line, cell_line, bad_line};
 
 use crate::verdict::{Difference, Verdict};

@@ -4,9 +4,9 @@ use Rattle.std.specs.List.{list_all}
 use Rattle.rd_term.specs.Pictures.{Picture}
 use Rattle.rd_term.specs.Terminals.{Tty, unknown, feed_bytes, Shows}
 use Rattle.rd_update.specs.Updates.{update}
-use Rattle.rd_script.specs.Dumps.{dump_text}
+use Rattle.rd_dump.specs.Dumps.{dump_text}
 use Rattle.rd_script.specs.Reading.{reading}
-use Rattle.rd_script.specs.declared.dump.WindowFacts.{WindowFacts}
+use Rattle.rd_dump.specs.declared.dump.WindowFacts.{WindowFacts}
 use Rattle.rd_script.specs.declared.fault.OpFault.{OpFault}
 use Rattle.rd_script.specs.declared.fault.OpFault.TheVariants.{NotBuilt}
 use Rattle.rd_script.specs.declared.op.Op.{Op}

@@ -2,7 +2,7 @@
 use Rattle.std.specs.Prelude.{List}
 use Rattle.rd_session.specs.Shown.{cursor_of}
 use Rattle.rd_matrix.specs.declared.matrix.Entry.{Entry}
-use Rattle.rd_script.specs.declared.dump.WindowFacts.{WindowFacts}
+use Rattle.rd_dump.specs.declared.dump.WindowFacts.{WindowFacts}
 use Rattle.rd_ascii.specs.States.{StateValue}
 use Rattle.rd_tree.specs.declared.rect.Rect.{Rect}
 use Rattle.rd_session.specs.Redisplay.{text_height}

@@ -1,4 +1,4 @@
-use Rattle.rd_script.proofs.Writing.{prints-then, prints-stop, prints-fail}
+use Rattle.rd_dump.proofs.Writing.{prints-then, prints-stop, prints-fail}
 use Rattle.rd_audit.proofs.report.tell_cell.Goals as goal
 
 pub returns-in_err-write_text : goal.returns-in_err-write_text

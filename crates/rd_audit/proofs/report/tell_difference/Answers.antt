@@ -1,5 +1,5 @@
 use Rattle.std.proofs.Common.{sym, ap}
-use Rattle.rd_script.proofs.Writing.{prints-as}
+use Rattle.rd_dump.proofs.Writing.{prints-as}
 use Rattle.rd_audit.specs.Verdicts.{difference_line}
 use Rattle.rd_audit.proofs.report.tell_difference.Goals as goal
 
