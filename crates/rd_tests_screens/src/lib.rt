@@ -6,6 +6,7 @@
 #[cfg(test)]
 mod claims;
 #[cfg(test)]
+mod generate;
 mod io;
 #[cfg(test)]
 mod script;

@@ -2,7 +2,7 @@
 use crate::claims::assert_of;
 use rd_base::{Ch, ListOf, Wrap};
 use rd_objects::RunKind;
-use rd_script::{Op, OpFault, OpRun, OpSpec, Setting, read_op};
+use rd_script::{Op, OpFault, OpRun, OpSpec, Setting, parse_op, read_op};
 use std::alloc::Global;
 use std::test::Fail;
 
@@ -116,7 +116,7 @@ fn each_field_has_its_form(rt: HostRuntime) {
         (r#"{"op":"point","window":0,"pos":1E0}"#, "pos"),
         (r#"{"op":"point","window":0,"pos":1,"pos":-1}"#, "pos"),
         (r#"{"op":"wrap","window":{},"mode":"truncate"}"#, "window"),
-        (r#"{"op":"wrap","window":0,"mode":"word"}"#, "mode"),
+        (r#"{"op":"wrap","window":0,"mode":"words"}"#, "mode"),
         (r#"{"op":"redisplay","stop":201}"#, "stop"),
         (
             r#"{"op":"overlay","buffer":"a","from":1,"to":1,"priority":1000001}"#,
@@ -232,6 +232,12 @@ fn the_first_fault_is_told(rt: HostRuntime) {
             "mode",
         ),
         (r#"{"op":"redisplay","stop":200}"#, "NotBuilt", ""),
+        (
+            r#"{"op":"wrap","window":0,"mode":"word"}"#,
+            "NotBuilt",
+            "",
+        ),
+        (r#"{"op":"margin","window":-1}"#, "NoSuchOp", ""),
         (
             r#"{"op":"setting","buffer":"x","name":"table"}"#,
             "NotBuilt",
@@ -450,4 +456,53 @@ fn each_op_is_read(rt: HostRuntime) {
     ] {
         assert_of(&rt, line, reads(rt.alloc(), line, number));
     }
+}
+
+#[test]
+fn each_unshown_op_is_parsed(rt: HostRuntime) {
+    for line in [
+        r#"{"op":"insert_raw","buffer":"a","pos":1,"bytes":[128,255]}"#,
+        r#"{"op":"put","buffer":"a","from":1,"to":2,"kind":"line_prefix","value":0}"#,
+        r#"{"op":"overlay_put","buffer":"a","overlay":0,"kind":"before"}"#,
+        r#"{"op":"setting","buffer":"a","name":"direction","value":"auto"}"#,
+        r#"{"op":"table","ellipsis":"……………………","border":"│"}"#,
+        r#"{"op":"split","window":0,"side":"below","size":18446744073709551615}"#,
+        r#"{"op":"select","window":1}"#,
+        r#"{"op":"start","window":0,"pos":1,"row":0}"#,
+        r#"{"op":"scroll","window":0,"rows":-1000000}"#,
+        r#"{"op":"hscroll","window":0,"columns":1000000}"#,
+        r#"{"op":"wrap","window":0,"mode":"word"}"#,
+        r#"{"op":"mode_line","window":0,"format":"%-"}"#,
+        r#"{"op":"scrolling","margin":0,"conservatively":100}"#,
+        r#"{"op":"echo","text":"é"}"#,
+        r#"{"op":"redisplay","stop":200}"#,
+        r#"{"op":"shift","on":false}"#,
+        r#"{"op":"go","window":0,"side":"left"}"#,
+        r#"{"op":"hit","window":0,"row":0,"column":0}"#,
+        r#"{"op":"margin","window":0,"numbers":0,"strings":20}"#,
+        r#"{"op":"margin_put","buffer":"a","overlay":0,"string":null}"#,
+    ] {
+        assert_of(&rt, line, parse_op(rt.alloc(), line.as_bytes()).is_ok());
+        assert_of(&rt, line, read_op(rt.alloc(), line.as_bytes()).is_err());
+    }
+}
+
+/// A line that shows so many letters in the echo area.
+fn echoed(alloc: Global, letters: usize) -> Result<Vec<u8>, Fail> {
+    let mut line = Vec::new(alloc);
+    line.extend_from_slice(b"{\"op\":\"echo\",\"text\":\"")?;
+    for _i in 0..letters {
+        line.push(b'a')?;
+    }
+    line.extend_from_slice(b"\"}")?;
+    Ok(line)
+}
+
+#[test]
+fn echoes_have_4096_characters(rt: HostRuntime) -> Result<(), Fail> {
+    let longest = echoed(rt.alloc(), 4096)?;
+    assert!(rt; parse_op(rt.alloc(), longest.as_slice()).is_ok());
+    let longer = echoed(rt.alloc(), 4097)?;
+    assert!(rt; parse_op(rt.alloc(), longer.as_slice()).is_err());
+    Ok(())
 }

@@ -1,0 +1,39 @@
+//! The generated script.
+use rd_generate::generated;
+use rd_script::{Op, parse_op};
+use std::alloc::Global;
+use std::test::Fail;
+
+/// How many characters an op puts in, and whether it shows the frame.
+fn weight(op: &Op) -> (usize, bool) {
+    match op {
+        Op::Insert { text, .. } | Op::TypeText { text } => (text.len(), false),
+        Op::Redisplay { .. } => (0, true),
+        _ => (0, false),
+    }
+}
+
+/// How many characters and redisplays the script of a number has, and None where a line is no op.
+fn counted(alloc: Global, number: u32) -> Result<Option<(usize, usize, usize)>, Fail> {
+    let lines = generated(alloc, number)?;
+    let mut characters: usize = 0;
+    let mut redisplays: usize = 0;
+    for line in lines.as_slice() {
+        match parse_op(alloc, line.as_slice()) {
+            Ok(op) => {
+                let (some, shows) = weight(&op);
+                characters = characters.saturating_add(some);
+                redisplays = redisplays.saturating_add(shows as usize);
+            }
+            Err(_fault) => return Ok(None),
+        }
+    }
+    Ok(Some((lines.len(), redisplays, characters)))
+}
+
+#[test]
+fn the_script_of_seven_has_605_lines(rt: HostRuntime) -> Result<(), Fail> {
+    assert!(rt; counted(rt.alloc(), 7)? == Some((605, 301, 75_220)));
+    assert!(rt; counted(rt.alloc(), 2_147_483_647)? == Some((605, 301, 75_220)));
+    Ok(())
+}
