@@ -1,0 +1,211 @@
+-- The first row of a source, and its last one.
+use Rattle.std.proofs.Common.{◌≡◌, ℕ, zero, suc, ◌+◌, ◌-◌, ◌<◌, ◌≤◌, Bool, true, false, not, ◌&&◌, ◌==◌, leb, List, [], ◌∷◌, ◌++◌, length, min, take, drop, slice_get, option_map, Option, None, Some, refl, sym, ap, ap₂, ◌∙◌, subst, arith}
+use Rattle.std.specs.Option.{is_none}
+use Rattle.std.proofs.Math.Dec.{eqb-suc-zero}
+use Rattle.std.proofs.lemmas.Bool.{and_parts, le-leb, lt-leb}
+use Rattle.std.proofs.lemmas.List.{append_assoc, length-append, length-drop, length-map, length-take}
+use Rattle.std.proofs.lemmas.Option.{slice_get-map}
+use Rattle.rd_base.specs.declared.settings.Anchor.{Anchor}
+use Rattle.rd_matrix.proofs.Counting.{all-append, count-cons, length-numbered}
+use Rattle.rd_matrix.specs.Blocks.{HoldsPosition, StandFrom, block_before, first_start}
+use Rattle.rd_matrix.specs.Entries.{EntryMeaning, all_rows, entries_of, numbered, shown_entries, shown_entry}
+use Rattle.rd_matrix.specs.Sources.{SourceValues, IsSource, rows_at}
+use Rattle.rd_matrix.specs.declared.block.Block.{Block}
+use Rattle.rd_matrix.specs.declared.matrix.Entry.{Entry}
+use Rattle.rd_reuse.specs.Views.{Names, anchor_of}
+use Rattle.rd_reuse.proofs.Lists.{at-left, at-right, at-seam, behind-seam}
+use Rattle.rd_reuse.proofs.Places.{Found, anchor-found, holding}
+use Rattle.rd_rows.specs.Laws.{ends_last}
+use Rattle.rd_rows.specs.Rows.{RowMeaning}
+use Rattle.rd_rows.specs.Shapes.{ShapeValues, IsShape}
+
+-- ---- the rows of a block
+
+some-row : (rows : List RowMeaning) → ends_last rows ≡ true → 0 < length rows
+some-row [] e = absurd cc
+some-row (r ∷ rows) e = omega arith
+
+row-in : (start number k : ℕ) (rows : List RowMeaning) (e : EntryMeaning) → slice_get (numbered start number rows) k ≡ Some e → slice_get rows k ≡ Some e.row
+row-in start number k [] e h = absurd cc
+row-in start number zero (r ∷ rows) e h =
+    let same : record { start = start; number = number; row = r } ≡ e = cc in
+    ap (λ (x : EntryMeaning). Some x.row) same
+row-in start number (suc k) (r ∷ rows) e h = row-in start (number + 1) k rows e h
+
+-- the row that ends a block is its last, and each other has one behind it
+last-of : (rows : List RowMeaning) (k : ℕ) (r : RowMeaning) → ends_last rows ≡ true → slice_get rows k ≡ Some r → r.ends_block ≡ true → suc k ≡ length rows
+last-of [] k r e at ends = absurd cc
+last-of (x ∷ []) zero r e at ends = refl
+last-of (x ∷ []) (suc k) r e at ends = absurd cc
+last-of (x ∷ y ∷ rows) zero r e at ends =
+    let same : x ≡ r = cc in
+    let flag : x.ends_block ≡ true = ap (λ (z : RowMeaning). z.ends_block) same ∙ ends in
+    let no : ends_last (x ∷ y ∷ rows) ≡ false = ap (λ b. not b && ends_last (y ∷ rows)) flag in
+    absurd cc
+last-of (x ∷ y ∷ rows) (suc k) r e at ends = let rest = last-of (y ∷ rows) k r ((and_parts (not x.ends_block) (ends_last (y ∷ rows)) e).1) at ends in omega (arith, rest)
+
+before-last : (rows : List RowMeaning) (k : ℕ) (r : RowMeaning) → ends_last rows ≡ true → slice_get rows k ≡ Some r → r.ends_block ≡ false → suc k < length rows
+before-last [] k r e at goes = absurd cc
+before-last (x ∷ []) zero r e at goes =
+    let same : x ≡ r = cc in
+    let flag : x.ends_block ≡ false = ap (λ (z : RowMeaning). z.ends_block) same ∙ goes in
+    absurd cc
+before-last (x ∷ []) (suc k) r e at goes = absurd cc
+before-last (x ∷ y ∷ rows) zero r e at goes = omega arith
+before-last (x ∷ y ∷ rows) (suc k) r e at goes = let rest = before-last (y ∷ rows) k r ((and_parts (not x.ends_block) (ends_last (y ∷ rows)) e).1) at goes in omega (arith, rest)
+
+-- ---- places in lists
+
+-- a test and its opposite
+pub opposite : (a b : Bool) → a ≡ not b → b ≡ not a
+opposite a true e = sym (ap not e)
+opposite a false e = sym (ap not e)
+
+not-zero : (n : ℕ) → 0 < n → (n == 0) ≡ false
+not-zero zero some = absurd (omega arith)
+not-zero (suc n) some = eqb-suc-zero n
+
+taken-at : {X : Type 0} (n : ℕ) (xs : List X) (i : ℕ) → i < n → slice_get (take n xs) i ≡ slice_get xs i
+taken-at zero xs i low = absurd (omega arith)
+taken-at (suc n) [] i low = refl
+taken-at (suc n) (x ∷ xs) zero low = refl
+taken-at (suc n) (x ∷ xs) (suc i) low = taken-at n xs i (omega arith)
+
+dropped-at : {X : Type 0} (k : ℕ) (xs : List X) (i : ℕ) → slice_get (drop k xs) i ≡ slice_get xs (k + i)
+dropped-at zero xs i = let same : 0 + i ≡ i = omega arith in sym (ap (slice_get xs) same)
+dropped-at (suc k) [] i = refl
+dropped-at (suc k) (x ∷ xs) i =
+    let same : suc k + i ≡ suc (k + i) = omega arith in
+    dropped-at k xs i ∙ sym (ap (slice_get (x ∷ xs)) same)
+
+some-here : {X : Type 0} (xs : List X) (k : ℕ) → k < length xs → is_none (slice_get xs k) ≡ false
+some-here [] k low = absurd (omega arith)
+some-here (x ∷ xs) zero low = refl
+some-here (x ∷ xs) (suc k) low = some-here xs k (omega arith)
+
+-- ---- the blocks of a source
+
+module _ {m : SourceValues} {shape : ShapeValues} (source : IsSource m) (is : IsShape shape) where
+  -- the rows of each block
+  abbrev rows_in : Block → List RowMeaning
+  rows_in b = m.rows_of b shape
+
+  each-ends : (before after : List Block) (b : Block) → m.blocks ≡ before ++ b ∷ after → ends_last (rows_in b) ≡ true
+  each-ends before after b pieces =
+      (source.rows b shape (length before, ap (λ bs. slice_get bs (length before)) pieces ∙ at-seam before b after) is).ends
+
+  -- there is a row before a block that is not the first, and one behind a block that is not the last
+  row-before : (x : Block) (xs after : List Block) (b : Block) → m.blocks ≡ (x ∷ xs) ++ b ∷ after → 0 < length (all_rows rows_in (x ∷ xs))
+  row-before x xs after b pieces =
+      let some = some-row (rows_in x) (each-ends [] (xs ++ b ∷ after) x pieces) in
+      let count = count-cons rows_in x xs in
+      omega (arith, some, count)
+
+  row-behind : (before xs : List Block) (b x : Block) → m.blocks ≡ before ++ b ∷ x ∷ xs → 0 < length (all_rows rows_in (x ∷ xs))
+  row-behind before xs b x pieces =
+      let some = some-row (rows_in x) (each-ends (before ++ b ∷ []) xs x (pieces ∙ sym (append_assoc before (b ∷ []) (x ∷ xs)))) in
+      let count = count-cons rows_in x xs in
+      omega (arith, some, count)
+
+  -- the block that holds a position at which a block starts is that block
+  same-block : (start row k : ℕ) (f : Found rows_in m.blocks start row k) (block : Block) → HoldsPosition start m.blocks block → block ≡ f.block
+  same-block start row k f block holds =
+      holding (first_start m.blocks) start f.before f.after f.block block holds.among.0 (subst (StandFrom (first_start m.blocks)) f.pieces source.blocks.stand) f.starts
+      (sym (ap (λ bs. slice_get bs holds.among.0) f.pieces) ∙ holds.among.1) holds.from holds.below
+
+  at-block : (start row k : ℕ) (f : Found rows_in m.blocks start row k) (block : Block) → HoldsPosition start m.blocks block → slice_get m.blocks (length f.before) ≡ Some block
+  at-block start row k f block holds =
+      ap (λ bs. slice_get bs (length f.before)) f.pieces ∙ at-seam f.before f.block f.after ∙ ap Some (sym (same-block start row k f block holds))
+
+  first-by : (before after : List Block) (b : Block) (o : Option Block) (place : ℕ) → m.blocks ≡ before ++ b ∷ after → o ≡ block_before m.blocks (length before)
+      → length (all_rows rows_in before) ≡ place → is_none o ≡ (place == 0)
+  first-by [] after b o place pieces at count = ap is_none at ∙ ap (λ n. n == 0) count
+  first-by (x ∷ xs) after b o place pieces at count =
+      let some = row-before x xs after b pieces in
+      let size = length-append (x ∷ xs) (b ∷ after) in
+      ap is_none (at ∙ ap (λ bs. slice_get bs (length xs)) pieces) ∙ some-here ((x ∷ xs) ++ b ∷ after) (length xs) (omega (arith, size)) ∙ sym (not-zero place (omega (arith, some, count)))
+
+  -- the first row of a block is that of the source exactly where no block is before it
+  pub first-row : (anchor : Anchor) (place : ℕ) (block : Block) (o : Option Block) → Names anchor (rows_at m shape) place → HoldsPosition anchor.pos m.blocks block
+      → ((k : ℕ) → slice_get m.blocks k ≡ Some block → o ≡ block_before m.blocks k) → anchor.row ≡ 0 → is_none o ≡ (place == 0)
+  first-row anchor place block o named holds gives none =
+      let f = anchor-found rows_in m.blocks place anchor named in
+      let count = f.place in
+      first-by f.before f.after f.block o place f.pieces (gives (length f.before) (at-block anchor.pos anchor.row place f block holds)) (omega (arith, count, none))
+
+  -- the row of a block with its number
+  row-found : (k : ℕ) (e : EntryMeaning) (f : Found rows_in m.blocks e.start e.number k) → slice_get (rows_at m shape) k ≡ Some e → slice_get (rows_in f.block) e.number ≡ Some e.row
+  row-found k e f at =
+      let size = length-numbered f.block.start 0 (rows_in f.block) in
+      let inside = f.inside in
+      let whole : rows_at m shape ≡ all_rows rows_in f.before ++ (entries_of rows_in f.block ++ all_rows rows_in f.after) =
+      ap (all_rows rows_in) f.pieces ∙ all-append rows_in f.before (f.block ∷ f.after) in
+      row-in f.block.start 0 e.number (rows_in f.block) e
+      (sym (ap₂ slice_get whole (sym f.place) ∙ at-right (all_rows rows_in f.before) (entries_of rows_in f.block ++ all_rows rows_in f.after) e.number
+      ∙ at-left (entries_of rows_in f.block) (all_rows rows_in f.after) e.number (omega (arith, size, inside))) ∙ at)
+
+  total : (k : ℕ) (e : EntryMeaning) (f : Found rows_in m.blocks e.start e.number k)
+      → length (rows_at m shape) ≡ length (all_rows rows_in f.before) + (length (rows_in f.block) + length (all_rows rows_in f.after))
+  total k e f =
+      ap length (ap (all_rows rows_in) f.pieces ∙ all-append rows_in f.before (f.block ∷ f.after)) ∙ length-append (all_rows rows_in f.before) (all_rows rows_in (f.block ∷ f.after))
+      ∙ ap (λ n. length (all_rows rows_in f.before) + n) (count-cons rows_in f.block f.after)
+
+  last-by : (before after : List Block) (b : Block) (o : Option Block) (k n : ℕ) → m.blocks ≡ before ++ b ∷ after → o ≡ slice_get m.blocks (length before + 1)
+      → n ≡ suc k + length (all_rows rows_in after) → is_none o ≡ leb n (suc k)
+  last-by before [] b o k n pieces at count =
+      ap is_none (at ∙ ap (λ bs. slice_get bs (length before + 1)) pieces ∙ behind-seam before b []) ∙ sym (le-leb n (suc k) (omega (arith, count)))
+  last-by before (x ∷ xs) b o k n pieces at count =
+      let some = row-behind before xs b x pieces in
+      ap is_none (at ∙ ap (λ bs. slice_get bs (length before + 1)) pieces ∙ behind-seam before b (x ∷ xs)) ∙ sym (lt-leb n (suc k) (omega (arith, count, some)))
+
+  -- a row that ends its block is the last of the source exactly where no block is behind it
+  pub last-row : (k : ℕ) (e : EntryMeaning) (block : Block) (o : Option Block) → slice_get (rows_at m shape) k ≡ Some e → HoldsPosition e.start m.blocks block
+      → ((j : ℕ) → slice_get m.blocks j ≡ Some block → o ≡ slice_get m.blocks (j + 1)) → e.row.ends_block ≡ true → is_none o ≡ leb (length (rows_at m shape)) (suc k)
+  last-row k e block o at holds gives ends =
+      let f = anchor-found rows_in m.blocks k (anchor_of e) (ap (option_map anchor_of) at) in
+      let last = last-of (rows_in f.block) e.number e.row (each-ends f.before f.after f.block f.pieces) (row-found k e f at) ends in
+      let count = total k e f in
+      let place = f.place in
+      last-by f.before f.after f.block o k (length (rows_at m shape)) f.pieces (gives (length f.before) (at-block e.start e.number k f block holds)) (omega (arith, last, count, place))
+
+  -- a row that ends no block is not the last
+  pub going-on : (k : ℕ) (e : EntryMeaning) → slice_get (rows_at m shape) k ≡ Some e → e.row.ends_block ≡ false → suc k < length (rows_at m shape)
+  going-on k e at goes =
+      let f = anchor-found rows_in m.blocks k (anchor_of e) (ap (option_map anchor_of) at) in
+      let more = before-last (rows_in f.block) e.number e.row (each-ends f.before f.after f.block f.pieces) (row-found k e f at) goes in
+      let count = total k e f in
+      let place = f.place in
+      omega (arith, more, count, place)
+
+-- an anchor that names no first row of a block does not name that of the source
+pub inner-row : (rows : Block → List RowMeaning) (bs : List Block) (anchor : Anchor) (place : ℕ) → Names anchor (all_rows rows bs) place → 0 < anchor.row → (place == 0) ≡ false
+inner-row rows bs anchor place named some =
+    let f = anchor-found rows bs place anchor named in
+    let count = f.place in
+    not-zero place (omega (arith, count, some))
+
+-- the row at a place of a view
+pub in-view : {X : Type 0} (xs : List X) (place height i : ℕ) → i < height → slice_get (take height (drop place xs)) i ≡ slice_get xs (place + i)
+in-view xs place height i low = taken-at height (drop place xs) i low ∙ dropped-at place xs i
+
+-- the row of an entry of a view
+view-at : (es : List Entry) (rows : List EntryMeaning) (place height i : ℕ) (e : Entry) → shown_entries es ≡ take height (drop place rows) → slice_get es i ≡ Some e → i < height
+    → slice_get rows (place + i) ≡ Some (shown_entry e)
+view-at es rows place height i e same at low =
+    sym (in-view rows place height i low) ∙ sym (ap (λ xs. slice_get xs i) same) ∙ slice_get-map shown_entry es i ∙ ap (option_map shown_entry) at
+
+-- the last row of a view of so many rows
+pub view-end : {i : ℕ} (es : List Entry) (rows : List EntryMeaning) (place height : ℕ) (e : Entry) → shown_entries es ≡ take height (drop place rows) → slice_get es i ≡ Some e → suc i ≡ height
+    → slice_get rows (place + (height - 1)) ≡ Some (shown_entry e)
+view-end {i} es rows place height e same at last =
+    let n : place + i ≡ place + (height - 1) = omega (arith, last) in
+    sym (ap (slice_get rows) n) ∙ view-at es rows place height i e same at (omega (arith, last))
+
+-- how many rows are in view
+pub view-size : (es : List Entry) (rows : List EntryMeaning) (place height : ℕ) → shown_entries es ≡ take height (drop place rows) → length es ≡ min height (length rows - place)
+view-size es rows place height same =
+    sym (length-map es shown_entry) ∙ ap length same ∙ length-take height (drop place rows) ∙ ap (min height) (length-drop place rows)
+
+-- an entry names its row
+pub entry-named : (rows : List EntryMeaning) (k : ℕ) (e : EntryMeaning) → slice_get rows k ≡ Some e → Names (anchor_of e) rows k
+entry-named rows k e at = ap (option_map anchor_of) at

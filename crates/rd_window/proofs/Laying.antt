@@ -1,0 +1,60 @@
+-- The row at which a window starts, and the rows in view from there.
+use Rattle.std.proofs.Common.{◌≡◌, ℕ, zero, suc, ◌+◌, ◌-◌, ◌*◌, ◌<◌, ◌≤◌, List, [], ◌∷◌, length, take, drop, slice_get, option_map, Some, refl, sym, ap, ◌∙◌, subst, arith}
+use Rattle.std.proofs.lemmas.List.{length-drop, length-map, length-take}
+use Rattle.rd_matrix.specs.Entries.{EntryMeaning, shown_entries, shown_entry}
+use Rattle.rd_matrix.specs.Sources.{SourceValues, rows_at}
+use Rattle.rd_matrix.specs.declared.matrix.Entry.{Entry}
+use Rattle.rd_reuse.specs.Views.{Names, anchor_of, fresh_costs}
+use Rattle.rd_reuse.specs.declared.change.Change.{Change}
+use Rattle.rd_rows.specs.Shapes.{ShapeValues}
+use Rattle.rd_start.specs.Chosen.{anchor_at, chosen_of}
+use Rattle.rd_start.specs.Near.{near_costs}
+use Rattle.rd_start.specs.declared.wanted.Chosen.{Chosen}
+use Rattle.rd_start.specs.declared.wanted.Wanted.{Wanted}
+use Rattle.rd_window.specs.Views.{rows_in_view, start_row}
+use Rattle.rd_window.proofs.Near.{view-costs}
+
+named-at : (rows : List EntryMeaning) (k : ℕ) → k < length rows → option_map anchor_of (slice_get rows k) ≡ Some (anchor_at rows k)
+named-at [] k low = absurd (omega arith)
+named-at (e ∷ rows) zero low = refl
+named-at (e ∷ rows) (suc k) low = named-at rows k (omega arith)
+
+-- the chosen start names its row
+pub start-named : (m : SourceValues) (shape : ShapeValues) (w : Wanted) → start_row m shape w < length (rows_at m shape)
+    → Names (chosen_of m shape w).anchor (rows_at m shape) (start_row m shape w)
+start-named m shape w low = named-at (rows_at m shape) (start_row m shape w) low
+
+-- a row is in view
+pub some-in-view : (m : SourceValues) (shape : ShapeValues) (w : Wanted) → 1 ≤ w.height → start_row m shape w < length (rows_at m shape) → 0 < length (rows_in_view m shape w)
+some-in-view m shape w some low =
+    let taken = length-take w.height (drop (start_row m shape w) (rows_at m shape)) in
+    let left = length-drop (start_row m shape w) (rows_at m shape) in
+    omega (arith, taken, left, some, low)
+
+-- ---- over a source that a call has left as it was
+
+-- the start that was chosen names its row
+pub chosen-named : (m : SourceValues) (shape : ShapeValues) (w : Wanted) (chosen : Chosen) → start_row m shape w < length (rows_at m shape) → chosen ≡ chosen_of m shape w
+    → Names chosen.anchor (rows_at m shape) (start_row m shape w)
+chosen-named m shape w chosen low is = subst (λ (x : Chosen). Names x.anchor (rows_at m shape) (start_row m shape w)) (sym is) (start-named m shape w low)
+
+-- what a call says of the source that it was given it says of the source as it was
+pub at-source : (P : SourceValues → Type 0) (m n : SourceValues) → n ≡ m → P n → P m
+at-source P m n same told = subst P same told
+
+pub back-at-source : (P : SourceValues → Type 0) (m n : SourceValues) → n ≡ m → P m → P n
+back-at-source P m n same told = subst P (sym same) told
+
+-- the steps of both calls
+pub spent : (m : SourceValues) (old : List Entry) (c : Change) (shape : ShapeValues) (w : Wanted) (before chosen laid : ℕ)
+    → chosen ≤ before + 2 * near_costs m shape w → laid ≤ chosen + fresh_costs m old c shape (start_row m shape w) (start_row m shape w + w.height) → laid ≤ before + 3 * near_costs m shape w
+spent m old c shape w before chosen laid first second =
+    let less = view-costs m old c shape w in
+    omega (arith, first, second, less)
+
+-- there is a row in view
+pub some-laid : (m : SourceValues) (shape : ShapeValues) (w : Wanted) (es : List Entry) → 1 ≤ w.height → start_row m shape w < length (rows_at m shape) → shown_entries es ≡ rows_in_view m shape w → 0 < length es
+some-laid m shape w es some low same =
+    let count = sym (length-map es shown_entry) ∙ ap length same in
+    let there = some-in-view m shape w some low in
+    omega (arith, count, there)

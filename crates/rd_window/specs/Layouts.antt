@@ -1,0 +1,64 @@
+-- The last layout of a window, and how much of it can be kept.
+use Rattle.std.specs.Prelude.{◌≡◌, ℕ, ◌*◌, Bool, true, false, not, ◌==◌, ◌&&◌, if◌then◌else◌, List, [], All, Option, None, Some, pos}
+use Rattle.std.specs.Ordering.{int_eq}
+use Rattle.rd_matrix.specs.Entries.{shown_entries}
+use Rattle.rd_matrix.specs.Sources.{SourceValues}
+use Rattle.rd_matrix.specs.declared.matrix.Entry.{Entry}
+use Rattle.rd_reuse.specs.Changes.{all, none}
+use Rattle.rd_reuse.specs.Keeping.{is_same_shape, kept_source}
+use Rattle.rd_reuse.specs.Views.{IsCopied}
+use Rattle.rd_reuse.specs.declared.change.Change.{Change}
+use Rattle.rd_rows.specs.Shapes.{ShapeValues}
+use Rattle.rd_start.specs.Chosen.{places_of}
+use Rattle.rd_start.specs.Near.{near_costs}
+use Rattle.rd_start.specs.Starts.{suits}
+use Rattle.rd_start.specs.declared.wanted.Wanted.{Wanted}
+use Rattle.rd_window.specs.Views.{rows_in_view}
+use Rattle.rd_window.specs.declared.layout.Layout.{Layout}
+
+-- the rows of a last layout that can be kept at a shape: none where it has another one
+abbrev pub older_rows : Option Layout → ShapeValues → List Entry
+older_rows None shape = []
+older_rows (Some l) shape = if is_same_shape l.shape shape then l.matrix else []
+
+-- what changed since a last layout
+abbrev pub change_since : Option Layout → Change
+change_since None = all
+change_since (Some l) = l.change
+
+-- the source of a window's rows, where a block costs nothing that keeps the rows of the last layout
+abbrev pub kept_by : Option Layout → SourceValues → ShapeValues → SourceValues
+kept_by last m shape = kept_source m (older_rows last shape) (change_since last) shape
+
+-- whether nothing changed
+abbrev pub is_none : Change → Bool
+is_none c = (c.head == 4294967295) && (c.tail == 0) && int_eq c.added (pos 0)
+
+-- whether a layout is still that of a window: nothing changed since, its start was not set by command, and it has the layout's shape,
+-- height and ways of scrolling
+abbrev pub is_current : Layout → ShapeValues → Wanted → Bool
+is_current l shape w =
+    is_none l.change && not w.forced && is_same_shape l.shape shape && (l.height == w.height) && (l.margin == w.margin)
+    && (l.conservatively == w.conservatively)
+
+-- whether a window's last layout is still right, and its start suits point: then the cursor alone moves
+abbrev pub rests : Option Layout → SourceValues → ShapeValues → Wanted → Bool
+rests None m shape w = false
+rests (Some l) m shape w = is_current l shape w && suits w (places_of m shape w) (places_of m shape w).old
+
+-- how many elements may be placed for a window: three times the weights of the blocks that have a row near it and do not keep
+-- those of its last layout, and none where the cursor alone moves
+abbrev pub allowance : Option Layout → SourceValues → ShapeValues → Wanted → ℕ
+allowance last m shape w = if rests last m shape w then 0 else 3 * near_costs (kept_by last m shape) shape w
+
+-- a window's new layout: its rows in view, and how they were laid out. Where the cursor alone moves the rows stay, their copies too,
+-- and else each row of a block that keeps its rows was copied once more
+pub record IsLaidOut (last : Option Layout) (m : SourceValues) (shape : ShapeValues) (w : Wanted) (new : Layout) : Type 0 where
+  pub rows : shown_entries new.matrix ≡ rows_in_view m shape w
+  pub shape_is : new.shape ≡ shape
+  pub height : new.height ≡ w.height
+  pub margin : new.margin ≡ w.margin
+  pub conservatively : new.conservatively ≡ w.conservatively
+  pub change : new.change ≡ none
+  pub stays : rests last m shape w ≡ true → new.matrix ≡ older_rows last shape
+  pub copies : rests last m shape w ≡ false → All (IsCopied (older_rows last shape) (change_since last) m.blocks) new.matrix

@@ -1,0 +1,17 @@
+//! The last layout of a window.
+
+use rd_matrix::Matrix;
+use rd_reuse::Change;
+use rd_rows::Shape;
+
+/// The rows that a window showed at its last redisplay; by which shape, in how many rows, and with which margin and distance of
+/// scrolling they were laid out; and what changed since.
+#[derive(Drop)]
+pub struct Layout {
+    pub matrix: Matrix,
+    pub shape: Shape,
+    pub height: u32,
+    pub margin: u32,
+    pub conservatively: u32,
+    pub change: Change,
+}
