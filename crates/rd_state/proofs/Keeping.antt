@@ -1,13 +1,26 @@
--- Each step leads from a valid state to a valid one.
-use Rattle.std.proofs.Common.{◌≡◌, ◌≢◌, ℕ, zero, suc, ◌⊎◌, inl, inr, ◌==◌, Bool, true, false, if◌then◌else◌, Option, None, Some, Result, Ok, Err, List, [], ◌∷◌, set, subst, sym, ap, refl, ◌∙◌, arith}
-use Rattle.std.proofs.lemmas.Bool.{eqb-true, eqb-false}
+-- What stays valid where one part of a state becomes another.
+use Rattle.std.proofs.Common.{◌≡◌, ◌≢◌, ℕ, zero, suc, ◌+◌, ◌<◌, ◌≤◌, ◌⊎◌, inl, inr, ◌==◌, Bool, true, false, is_some, if◌then◌else◌, Option, None, Some, List, [], ◌∷◌, ◌++◌, length, map, set, get_or, subst, sym, ap, refl, ◌∙◌, arith, length-append}
+use Rattle.std.proofs.lemmas.Bool.{eqb-true, eqb-false, cases_eq}
 use Rattle.std.proofs.lemmas.List.{length-set}
-use Rattle.std.specs.Prelude.{slice_get, slice_set}
-use Rattle.rd_text.specs.Texts.{IsText, IsAccessible}
-use Rattle.rd_state.specs.declared.refused.Refused.{Refused}
+use Rattle.std.proofs.lemmas.List.Sums.{fails_before_first}
+use Rattle.std.proofs.lemmas.Option.{slice_get_within, get_or_from_slice_get}
+use Rattle.std.proofs.lemmas.Slice.Eq.{bytes_eq-Decides}
+use Rattle.std.specs.Prelude.{slice_get, slice_set, option_map, IsTrue, IsSome}
+use Rattle.std.specs.Str.{bytes_eq}
+use Rattle.rd_text.specs.Texts.{IsText, IsAccessible, no_text}
+use Rattle.rd_objects.specs.Things.{ObjectLists}
+use Rattle.rd_script.specs.Forms.{is_buffer_name}
+use Rattle.rd_tree.specs.Calls as tree
+use Rattle.rd_tree.specs.Windows.{Windows}
+use Rattle.rd_state.specs.declared.moves.Move.{Move}
 use Rattle.rd_state.specs.declared.window.WindowState.{WindowState}
-use Rattle.rd_state.specs.States.{BufferValue, StateValue, number_of, AreToldByName, AreTexts, IsShowing, IsValid}
-use Rattle.rd_state.specs.Steps.{moved, moved_in, changed, with, in_buffer}
+use Rattle.rd_state.specs.States.{BufferValue, ContentValue, StateValue, new_buffer, new_content, number_of}
+use Rattle.rd_state.specs.Windows.{window_of, with_window, without_window, AreApart, leaf_at, leaf_of}
+use Rattle.rd_state.specs.Valid.{most_buffers, AreToldByName, AreBuffers, IsContent, IsWindow, AreWindows}
+use Rattle.rd_state.specs.Moves.{place_after, moved, moved_in}
+use Rattle.rd_state.proofs.ByNumber.{Entry, each_by, window-each, apart-each, get-each, window-same, window-other, apart-with, get-with, get-end, window-at}
+
+-- ---- buffers
 
 -- what stands at a place of a list after a write
 pub get-set : {X : Type 0} (xs : List X) (i k : ℕ) (c b : X) → slice_get (set xs i c) k ≡ Some b
@@ -21,6 +34,10 @@ get-set (x ∷ xs) (suc i) (suc k) c b h = elim (get-set xs i k c b h) [
   | inr p ↦ inr (λ e. p.0 (omega arith), p.1)
 ]
 
+-- a buffer that holds something else
+abbrev pub holding : BufferValue → ContentValue → BufferValue
+holding b content = record b { content = content }
+
 told-set : (bs : List BufferValue) (i : ℕ) (b c : BufferValue) → AreToldByName bs → slice_get bs i ≡ Some b → c.name ≡ b.name → AreToldByName (set bs i c)
 told-set bs i b c told at same j k x y hx hy e = elim (get-set bs i j c x hx) [
   | inl p ↦ elim (get-set bs i k c y hy) [
@@ -33,77 +50,181 @@ told-set bs i b c told at same j k x y hx hy e = elim (get-set bs i j c x hx) [
   ]
 ]
 
-texts-set : (bs : List BufferValue) (i : ℕ) (c : BufferValue) → AreTexts bs → IsText c.text → AreTexts (set bs i c)
-texts-set bs i c texts new k x hx = elim (get-set bs i k c x hx) [
-  | inl p ↦ subst (λ z. IsText z.text) (sym p.1) new
-  | inr p ↦ texts k x p.1
-]
-
-showing-moved : (bs : List BufferValue) (w : WindowState) (i : ℕ) (b c : BufferValue) (f : ℕ → ℕ) (t : Bool) → (w.buffer == i) ≡ t
-    → IsShowing bs w → slice_get bs i ≡ Some b → ((p : ℕ) → IsAccessible b.text p → IsAccessible c.text (f p))
-    → IsShowing (set bs i c) (if t then moved f w else w)
-showing-moved bs w i b c f true e shown at moves =
-    let same = eqb-true w.buffer i e in
-    let here : slice_get bs w.buffer ≡ Some b = ap (slice_get bs) same ∙ at in
-    let is : (x : BufferValue) → slice_get (set bs i c) w.buffer ≡ Some x → c ≡ x = λ x hx. elim (get-set bs i w.buffer c x hx) [
-      | inl p ↦ sym p.1
-      | inr p ↦ absurd (p.0 same)
-    ] in
-    record {
-      made = rw length-set shown.made;
-      point = λ x hx. subst (λ z. IsAccessible z.text (f w.point)) (is x hx) (moves w.point (shown.point b here));
-      anchor = λ x hx. subst (λ z. IsAccessible z.text (f w.anchor.pos)) (is x hx) (moves w.anchor.pos (shown.anchor b here));
-    }
-showing-moved bs w i b c f false e shown at moves =
-    let other = eqb-false w.buffer i e in
-    let is : (x : BufferValue) → slice_get (set bs i c) w.buffer ≡ Some x → slice_get bs w.buffer ≡ Some x = λ x hx. elim (get-set bs i w.buffer c x hx) [
-      | inl p ↦ absurd (other p.0)
-      | inr p ↦ p.1
-    ] in
-    record {
-      made = rw length-set shown.made;
-      point = λ x hx. shown.point x (is x hx);
-      anchor = λ x hx. shown.anchor x (is x hx);
-    }
-
--- a buffer that becomes another under its name, in a way that keeps its positions accessible
-pub changed-valid : (s : StateValue) (i : ℕ) (b c : BufferValue) (f : ℕ → ℕ) → IsValid s → slice_get s.buffers i ≡ Some b
-    → c.name ≡ b.name → IsText c.text → ((p : ℕ) → IsAccessible b.text p → IsAccessible c.text (f p))
-    → IsValid (record s { buffers = slice_set s.buffers i c; window = moved_in i f s.window })
-changed-valid s i b c f v at same new moves = record {
+pub buffers-replaced : (o : ObjectLists) (bs : List BufferValue) (i : ℕ) (b : BufferValue) (c : ContentValue) → AreBuffers o bs → slice_get bs i ≡ Some b → IsContent o c
+    → AreBuffers o (slice_set bs i (holding b c))
+buffers-replaced o bs i b c v at new = record {
   few = rw length-set v.few;
-  told = told-set s.buffers i b c v.told at same;
-  texts = texts-set s.buffers i c v.texts new;
-  objects = v.objects;
-  shown = showing-moved s.buffers s.window i b c f (s.window.buffer == i) refl v.shown at moves;
-  frame = v.frame;
+  told = told-set bs i b (holding b c) v.told at refl;
+  names = λ k x hx. elim (get-set bs i k (holding b c) x hx) [
+    | inl p ↦ subst (λ (z : BufferValue). IsTrue (is_buffer_name z.name)) (sym p.1) (v.names i b at)
+    | inr p ↦ v.names k x p.1
+  ];
+  contents = λ k x hx. elim (get-set bs i k (holding b c) x hx) [
+    | inl p ↦ subst (λ (z : BufferValue). IsContent o z.content) (sym p.1) new
+    | inr p ↦ v.contents k x p.1
+  ];
 }
 
--- what an edit of one buffer keeps
-pub record Keeps (g : BufferValue → Result BufferValue Refused) (f : ℕ → ℕ) : Type 0 where
-  pub name : (b c : BufferValue) → g b ≡ Ok c → c.name ≡ b.name
-  pub text : (b c : BufferValue) → IsText b.text → g b ≡ Ok c → IsText c.text
-  pub moves : (b c : BufferValue) → IsText b.text → g b ≡ Ok c → (p : ℕ) → IsAccessible b.text p → IsAccessible c.text (f p)
+-- no buffer before the number has the name
+none_named : (name : List ℕ) (bs : List BufferValue) (k : ℕ) (b : BufferValue) → k < number_of name bs → slice_get bs k ≡ Some b → name ≡ b.name → ⊥
+none_named name bs k b p at e =
+    let fails = fails_before_first (λ z. bytes_eq name z.name) bs k b p in
+    let here : get_or bs k b ≡ b = get_or_from_slice_get bs k b b at in
+    let no : bytes_eq name b.name ≡ false = ap (λ z. bytes_eq name z.name) (sym here) ∙ fails in
+    grind (arith, bytes_eq-Decides name b.name, no, e)
 
-pub kept-valid : (s : StateValue) (i : ℕ) (b c : BufferValue) (f : ℕ → ℕ) (g : BufferValue → Result BufferValue Refused)
-    → IsValid s → Keeps g f → slice_get s.buffers i ≡ Some b → g b ≡ Ok c → IsValid (record s { buffers = slice_set s.buffers i c; window = moved_in i f s.window })
-kept-valid s i b c f g v k at is =
-    let old = v.texts i b at in
-    changed-valid s i b c f v at (k.name b c is) (k.text b c old is) (k.moves b c old is)
+told-append : (bs : List BufferValue) (name : List ℕ) → AreToldByName bs → length bs ≤ number_of name bs → AreToldByName (bs ++ new_buffer name ∷ [])
+told-append bs name told free j k x y hx hy e = elim (get-end bs (new_buffer name) j x hx) [
+  | inl p ↦ elim (get-end bs (new_buffer name) k y hy) [
+    | inl q ↦ told j k x y p q e
+    | inr q ↦ absurd (none_named name bs j x (omega (arith, slice_get_within bs j x p, free)) p (sym (ap (λ z. z.name) q.1) ∙ sym e))
+  ]
+  | inr p ↦ elim (get-end bs (new_buffer name) k y hy) [
+    | inl q ↦ absurd (none_named name bs k y (omega (arith, slice_get_within bs k y q, free)) q (sym (ap (λ z. z.name) p.1) ∙ e))
+    | inr q ↦ p.0 ∙ sym q.0
+  ]
+]
 
-done-valid : (s t : StateValue) (i : ℕ) (b : BufferValue) (f : ℕ → ℕ) (g : BufferValue → Result BufferValue Refused) (r : Result BufferValue Refused)
-    → IsValid s → Keeps g f → slice_get s.buffers i ≡ Some b → g b ≡ r → changed s i f r ≡ Ok t → IsValid t
-done-valid s t i b f g (Err e) v k at is h = absurd (cc)
-done-valid s t i b f g (Ok c) v k at is h =
-    let e : record s { buffers = slice_set s.buffers i c; window = moved_in i f s.window } ≡ t = cc in
-    subst IsValid e (kept-valid s i b c f g v k at is)
+pub buffers-appended : (o : ObjectLists) (bs : List BufferValue) (name : List ℕ) → AreBuffers o bs → IsContent o new_content → IsTrue (is_buffer_name name)
+    → length bs < most_buffers → length bs ≤ number_of name bs → AreBuffers o (bs ++ new_buffer name ∷ [])
+buffers-appended o bs name v new form room free = record {
+  few = omega (arith, room, length-append bs (new_buffer name ∷ []));
+  told = told-append bs name v.told free;
+  names = λ k x hx. elim (get-end bs (new_buffer name) k x hx) [
+    | inl p ↦ v.names k x p
+    | inr p ↦ subst (λ (z : BufferValue). IsTrue (is_buffer_name z.name)) (sym p.1) form
+  ];
+  contents = λ k x hx. elim (get-end bs (new_buffer name) k x hx) [
+    | inl p ↦ v.contents k x p
+    | inr p ↦ subst (λ (z : BufferValue). IsContent o z.content) (sym p.1) new
+  ];
+}
 
-found-valid : (s t : StateValue) (i : ℕ) (o : Option BufferValue) (f : ℕ → ℕ) (g : BufferValue → Result BufferValue Refused)
-    → IsValid s → Keeps g f → slice_get s.buffers i ≡ o → with o (λ b. changed s i f (g b)) ≡ Ok t → IsValid t
-found-valid s t i None f g v k at h = absurd (cc)
-found-valid s t i (Some b) f g v k at h = done-valid s t i b f g (g b) v k at refl h
+-- ---- windows over other buffers
 
-pub in_buffer-valid : (s t : StateValue) (name : List ℕ) (f : ℕ → ℕ) (g : BufferValue → Result BufferValue Refused)
-    → IsValid s → Keeps g f → in_buffer s name (λ i b. changed s i f (g b)) ≡ Ok t → IsValid t
-in_buffer-valid s t name f g v k h =
-    found-valid s t (number_of name s.buffers) (slice_get s.buffers (number_of name s.buffers)) f g v k refl h
+-- a window of buffers is one of others where each position that counts is accessible there
+pub window-over : (bs cs : List BufferValue) (w : WindowState) → length bs ≤ length cs
+    → ((c : BufferValue) → slice_get cs w.buffer ≡ Some c → (b : BufferValue) × (slice_get bs w.buffer ≡ Some b) × ((p : ℕ) → IsAccessible b.content.text p → IsAccessible c.content.text p))
+    → IsWindow bs w → IsWindow cs w
+window-over bs cs w more old v = record {
+  made = let made = v.made in omega arith;
+  point = λ c h. let o = old c h in o.2 w.point (v.point o.0 o.1);
+  anchor = λ c h. let o = old c h in o.2 w.anchor.pos (v.anchor o.0 o.1);
+  pending = v.pending;
+  hscroll = v.hscroll;
+  format = v.format;
+  numbers = v.numbers;
+  strings = v.strings;
+}
+
+windows-over : (bs cs : List BufferValue) (c : tree.Configuration) (ws : List Entry) (n : ℕ) → ((w : WindowState) → IsWindow bs w → IsWindow cs w) → AreWindows bs c ws n → AreWindows cs c ws n
+windows-over bs cs c ws n keep v = record {
+  tree = v.tree;
+  leaves = v.leaves;
+  apart = v.apart;
+  each = λ k e h. keep e.1 (v.each k e h);
+  selected = v.selected;
+}
+
+pub windows-appended : (bs : List BufferValue) (name : List ℕ) (c : tree.Configuration) (ws : List Entry) (n : ℕ) → AreWindows bs c ws n → AreWindows (bs ++ new_buffer name ∷ []) c ws n
+windows-appended bs name c ws n v =
+    windows-over bs (bs ++ new_buffer name ∷ []) c ws n (λ w o.
+    let made = o.made in
+    window-over bs (bs ++ new_buffer name ∷ []) w (omega (arith, length-append bs (new_buffer name ∷ [])))
+    (λ x h. elim (get-end bs (new_buffer name) w.buffer x h) [ inl p ↦ (x, p, λ p a. a) | inr p ↦ absurd (omega (arith, p.0)) ]) o) v
+
+-- where a position of one buffer and each position of the others go
+pub windows-replaced : (bs : List BufferValue) (i : ℕ) (b : BufferValue) (d : ContentValue) (c : tree.Configuration) (ws : List Entry) (n : ℕ) → slice_get bs i ≡ Some b
+    → ((p : ℕ) → IsAccessible b.content.text p → IsAccessible d.text p) → AreWindows bs c ws n → AreWindows (slice_set bs i (holding b d)) c ws n
+windows-replaced bs i b d c ws n at keep v =
+    windows-over bs (slice_set bs i (holding b d)) c ws n (λ w o.
+    window-over bs (slice_set bs i (holding b d)) w (rw length-set (omega arith))
+    (λ x h. elim (get-set bs i w.buffer (holding b d) x h) [
+      | inl p ↦ (b, ap (slice_get bs) p.0 ∙ at, λ q a. subst (λ (z : BufferValue). IsAccessible z.content.text q) (sym p.1) (keep q a))
+      | inr p ↦ (x, p.1, λ q a. a)
+    ]) o) v
+
+moved-window : (bs : List BufferValue) (i : ℕ) (b : BufferValue) (d : ContentValue) (how : Move) (w : WindowState) (t : Bool) → (w.buffer == i) ≡ t → slice_get bs i ≡ Some b
+    → ((p : ℕ) → IsAccessible b.content.text p → IsAccessible d.text (place_after how p)) → IsWindow bs w
+    → IsWindow (slice_set bs i (holding b d)) (if t then moved how w else w)
+moved-window bs i b d how w true e at keep v =
+    let same = eqb-true w.buffer i e in
+    let here : slice_get bs w.buffer ≡ Some b = ap (slice_get bs) same ∙ at in
+    let is : (x : BufferValue) → slice_get (slice_set bs i (holding b d)) w.buffer ≡ Some x → holding b d ≡ x
+    = λ x hx. elim (get-set bs i w.buffer (holding b d) x hx) [ inl p ↦ sym p.1 | inr p ↦ absurd (p.0 same) ] in
+    record {
+      made = rw length-set v.made;
+      point = λ x hx. subst (λ (z : BufferValue). IsAccessible z.content.text (place_after how w.point)) (is x hx) (keep w.point (v.point b here));
+      anchor = λ x hx. subst (λ (z : BufferValue). IsAccessible z.content.text (place_after how w.anchor.pos)) (is x hx) (keep w.anchor.pos (v.anchor b here));
+      pending = v.pending;
+      hscroll = v.hscroll;
+      format = v.format;
+      numbers = v.numbers;
+      strings = v.strings;
+    }
+moved-window bs i b d how w false e at keep v =
+    let other = eqb-false w.buffer i e in
+    window-over bs (slice_set bs i (holding b d)) w (rw length-set (omega arith))
+    (λ x h. elim (get-set bs i w.buffer (holding b d) x h) [ inl p ↦ absurd (other p.0) | inr p ↦ (x, p.1, λ q a. a) ]) v
+
+-- a window after a move in a buffer
+abbrev pub moved_by : ℕ → Move → WindowState → WindowState
+moved_by i how w = if w.buffer == i then moved how w else w
+
+leaf-moved : (t : Bool) (how : Move) (w : WindowState) → leaf_of (if t then moved how w else w) ≡ leaf_of w
+leaf-moved true how w = refl
+leaf-moved false how w = refl
+
+map-map : {X Y Z : Type 0} (f : X → Y) (g : Y → Z) (h : X → Z) (o : Option X) → ((x : X) → g (f x) ≡ h x) → option_map g (option_map f o) ≡ option_map h o
+map-map f g h None e = refl
+map-map f g h (Some x) e = ap (λ z. Some z) (e x)
+
+is_some-map : {X Y : Type 0} (f : X → Y) (o : Option X) → IsSome o → IsSome (option_map f o)
+is_some-map f None h = h
+is_some-map f (Some x) h = h
+
+pub windows-moved : (bs : List BufferValue) (i : ℕ) (b : BufferValue) (d : ContentValue) (how : Move) (c : tree.Configuration) (ws : List Entry) (n : ℕ) → slice_get bs i ≡ Some b
+    → ((p : ℕ) → IsAccessible b.content.text p → IsAccessible d.text (place_after how p)) → AreWindows bs c ws n
+    → AreWindows (slice_set bs i (holding b d)) c (map (moved_in i how) ws) n
+windows-moved bs i b d how c ws n at keep v =
+    let f = moved_by i how in
+    record {
+      tree = v.tree;
+      leaves = λ k. v.leaves k ∙ sym (ap (option_map leaf_of) (window-each k f ws) ∙ map-map f leaf_of leaf_of (window_of k ws) (λ w. leaf-moved (w.buffer == i) how w));
+      apart = apart-each f ws v.apart;
+      each = λ k e h.
+          let came = get-each f ws k e h in
+          subst (λ (x : Entry). IsWindow (slice_set bs i (holding b d)) x.1) (sym came.2)
+          (moved-window bs i b d how came.0.1 (came.0.1.buffer == i) refl at keep (v.each k came.0 came.1));
+      selected = subst IsSome (sym (window-each n f ws)) (is_some-map f (window_of n ws) v.selected);
+    }
+
+-- ---- one window
+
+-- a window that becomes another with the mode line and the margins that the tree has then
+pub windows-changed : (bs : List BufferValue) (c d : tree.Configuration) (ws : List Entry) (n number : ℕ) (f : WindowState → WindowState) → tree.IsValid d
+    → leaf_at number d.windows ≡ option_map (λ w. leaf_of (f w)) (window_of number ws)
+    → ((k : ℕ) → k ≢ number → leaf_at k d.windows ≡ leaf_at k c.windows)
+    → ((w : WindowState) → window_of number ws ≡ Some w → IsWindow bs w → IsWindow bs (f w)) → AreWindows bs c ws n → AreWindows bs d (with_window number f ws) n
+windows-changed bs c d ws n number f valid here others keep v = record {
+  tree = valid;
+  leaves = λ k. elim (cases_eq k number) [
+    | inl p ↦
+        ap (λ (x : ℕ). leaf_at x d.windows) p
+        ∙ (here ∙ (sym (map-map f leaf_of (λ w. leaf_of (f w)) (window_of number ws) (λ w. refl))
+        ∙ (sym (ap (option_map leaf_of) (window-same number f ws)) ∙ ap (λ (x : ℕ). option_map leaf_of (window_of x (with_window number f ws))) (sym p))))
+    | inr q ↦ others k q ∙ (v.leaves k ∙ sym (ap (option_map leaf_of) (window-other number k f ws q)))
+  ];
+  apart = apart-with number f ws v.apart;
+  each = λ k e h. elim (get-with number f ws k e h) [
+    | inl p ↦ v.each k e p
+    | inr p ↦
+        let found = window-at number ws k p.0 v.apart p.1 p.3 in
+        subst (λ (x : Entry). IsWindow bs x.1) (sym p.2) (keep p.0.1 found (v.each k p.0 p.1))
+  ];
+  selected = elim (cases_eq n number) [
+    | inl p ↦ subst (λ (x : ℕ). IsSome (window_of x (with_window number f ws))) (sym p)
+        (subst IsSome (sym (window-same number f ws)) (is_some-map f (window_of number ws) (subst (λ (x : ℕ). IsSome (window_of x ws)) p v.selected)))
+    | inr q ↦ subst IsSome (sym (window-other number n f ws q)) v.selected
+  ];
+}

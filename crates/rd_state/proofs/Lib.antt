@@ -1,12 +1,16 @@
-mod ByName
-mod Changing
-pub mod Edits
-mod Finding
-mod Glyphs
-pub mod Keeping
-pub mod Opening
-mod Making
-pub mod Replacing
+mod AllSteps
+mod Below
+mod ByNumber
+mod Contents
+mod Keeping
+mod Leaves
+mod Leaving
+mod Naming
+mod Opening
+mod Outcomes
+mod Showing
+mod Slots
 mod Stepping
-pub mod Tables
-pub mod Within
+mod Tables
+mod Tests
+mod Within

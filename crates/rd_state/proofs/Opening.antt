@@ -6,7 +6,7 @@ use Rattle.std.proofs.lemmas.List.{get_or-set_same, get_or-set_other, get_or_def
 use Rattle.std.specs.Prelude.{is_err, OnOk, OnErr}
 use Rattle.rd_spans.specs.Values.{value_at, opened_at, closed_at}
 use Rattle.rd_props.specs.Buffers.{values_of}
-use Rattle.rd_state.specs.Values.{opened, closed}
+use Rattle.rd_props.specs.Edits.{opened, closed}
 
 -- ---- choices
 

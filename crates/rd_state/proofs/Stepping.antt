@@ -1,261 +1,245 @@
--- A step leads from a valid state to a valid one, op by op.
-use Rattle.std.proofs.Common.{◌≡◌, ℕ, zero, suc, ◌+◌, ◌<◌, ◌≤◌, ◌⊎◌, inl, inr, ◌==◌, Bool, true, false, if◌then◌else◌, Option, None, Some, Result, Ok, Err, List, [], ◌∷◌, ◌++◌, length, set, get_or, subst, sym, ap, refl, ◌∙◌, arith, length-append}
-use Rattle.std.proofs.lemmas.Bool.{ltb-false, leb-false}
-use Rattle.std.proofs.lemmas.List.Sums.{fails_before_first}
-use Rattle.std.proofs.lemmas.Option.{slice_get_within, get_or_from_slice_get}
-use Rattle.std.proofs.lemmas.Slice.Eq.{bytes_eq-Decides}
-use Rattle.std.specs.Str.{bytes_eq}
-use Rattle.std.specs.Prelude.{slice_get, slice_set, nat_lt, nat_le}
-use Rattle.rd_text.specs.Texts.{IsText, IsAccessible, no_text}
-use Rattle.rd_script.specs.declared.op.Op.{Op}
-use Rattle.rd_script.specs.declared.op.Op.TheVariants as ops
-use Rattle.rd_script.specs.Forms.{IsInForm}
+-- A step leads from a valid state to a valid one: the ops on buffers and on objects.
+use Rattle.std.proofs.Common.{◌≡◌, ◌≢◌, ℕ, zero, suc, ◌+◌, ◌-◌, ◌<◌, ◌≤◌, ◌==◌, ◌&&◌, ◌||◌, Bool, true, false, is_some, if◌then◌else◌, nat_lt, nat_le, ℤ, Option, None, Some, Result, Ok, Err, List, [], ◌∷◌, ◌++◌, length, map, min, max, subst, sym, ap, refl, ◌∙◌, arith, IsTrue}
+use Rattle.std.proofs.lemmas.Bool.{and_parts, ltb-true, ltb-false, leb-true, leb-false}
+use Rattle.std.proofs.lemmas.Bool.Decides.{nat_tests}
+use Rattle.std.proofs.lemmas.List.Elements.{All-nil, All-cons, All-map, All-weaker}
+use Rattle.std.specs.Prelude.{All, slice_get, slice_set}
+use Rattle.rd_base.specs.Chars.{is_scalar, is_code}
+use Rattle.rd_text.specs.Texts.{TextValue, IsText, IsAccessible, most_characters, inserted, no_text}
+use Rattle.rd_text.specs.Answers.{IsAccessibleRange, IsRangeOfAll}
+use Rattle.rd_overlays.specs.declared.overlay.Kind.{Kind}
+use Rattle.rd_overlays.specs.Overlays as overlays
+use Rattle.rd_overlays.specs.Overlays.{overlay_at, new_overlay}
+use Rattle.rd_objects.specs.Things.{ObjectLists}
+use Rattle.rd_objects.specs.Sound.{AreCodes}
+use Rattle.rd_props.specs.Made.{SettingsMade}
+use Rattle.rd_script.specs.Forms.{each, is_text, is_text_kind, is_buffer_name, IsRawByte, IsSettingInForm}
+use Rattle.rd_script.specs.declared.setting.Setting.{Setting}
+use Rattle.rd_script.specs.declared.setting.Setting.TheVariants as settings
+use Rattle.rd_state.specs.declared.moves.Move.{Move}
+use Rattle.rd_state.specs.declared.moves.Move.TheVariants.{Inserted, Deleted, Narrowed}
 use Rattle.rd_state.specs.declared.refused.Refused.{Refused}
-use Rattle.rd_state.specs.declared.refused.Refused.TheVariants.{NoWindow, NameTaken, TooManyBuffers, LastWindow, NotBuilt, OutOfRange}
+use Rattle.rd_state.specs.declared.refused.Refused.TheVariants.{NoBuffer, NoObject, NoOverlay, NameTaken, OutOfRange, TextTooLarge, TooManyBuffers, TooManyOverlays}
 use Rattle.rd_state.specs.declared.window.WindowState.{WindowState}
-use Rattle.rd_state.specs.States.{BufferValue, StateValue, new_buffer, most_buffers, number_of, AreToldByName, AreTexts, IsShowing, IsValid}
-use Rattle.rd_state.specs.Edits.{is_accessible, is_built, insertion, after_insertion, after_deletion, brought_into, deletion, narrowing, widening, overlay_making, overlay_moving, overlay_dropping}
-use Rattle.rd_state.specs.Steps.{moved, moved_in, changed, with, in_buffer, making, typing, showing, pointing, with_point, step}
-use Rattle.rd_state.specs.Answers.{ChangesAt}
-use Rattle.rd_state.proofs.Keeping.{Keeps, get-set, kept-valid, in_buffer-valid}
-use Rattle.rd_state.specs.Making.{string_making, spec_making, face_making, table_making, table_of}
-use Rattle.rd_state.proofs.Making.{string-few, spec-few, face-few, table-few, objects-valid}
-use Rattle.rd_state.proofs.Replacing.{in_buffer-replaced, making-keeps, moving-keeps, dropping-keeps, setting-valid}
-use Rattle.rd_state.proofs.Edits.{if-ok, if-not, is_accessible-means, insertion-means, insertion-keeps, deletion-keeps, narrowing-keeps, widening-keeps}
+use Rattle.rd_state.specs.States.{BufferValue, ContentValue, StateValue, new_buffer, new_content, number_of}
+use Rattle.rd_state.specs.Valid.{most_buffers, AreBuffers, AreWindows, IsContent, IsValid}
+use Rattle.rd_state.specs.Edits.{is_accessible, is_accessible_range, is_range_of_all, has_room, is_made, is_value_made, is_setting_made, most_overlays, grown, shrunk, insertion, deletion, narrowing, widening, property_putting, overlay_making, overlay_moving, overlay_dropping, overlay_putting, mark_putting, setting_putting}
+use Rattle.rd_state.specs.Moves.{after_insertion, after_deletion, brought_into, place_after, moved_in}
+use Rattle.rd_state.specs.Steps.{with_found, in_buffer, replaced, moving, edited, edited_moving, inserting, making, raw_text}
+use Rattle.rd_state.proofs.Below.{TextLaws, MadeLaws}
+use Rattle.rd_state.proofs.Contents.{grown-valid, shrunk-valid, narrowed-valid, widened-valid, put-valid, made-valid, moved-valid, dropped-valid, given-valid, with_property, with_overlays}
+use Rattle.rd_state.proofs.Keeping.{holding, buffers-replaced, buffers-appended, windows-appended, windows-replaced, windows-moved}
+use Rattle.rd_state.proofs.Tests.{if-ok, if-not, is_accessible-means, is_accessible_range-means, is_range_of_all-means}
 
--- ---- a new buffer
+-- ---- texts
 
-get-append : {X : Type 0} (xs : List X) (y : X) (k : ℕ) (b : X) → slice_get (xs ++ y ∷ []) k ≡ Some b
-    → (slice_get xs k ≡ Some b) ⊎ ((k ≡ length xs) × (b ≡ y))
-get-append [] y zero b h = inr (refl, cc)
-get-append [] y (suc k) b h = absurd (cc)
-get-append (x ∷ xs) y zero b h = inl h
-get-append (x ∷ xs) y (suc k) b h = elim (get-append xs y k b h) [
-  | inl p ↦ inl p
-  | inr p ↦ inr (omega (arith, p.0), p.1)
-]
+or-true : (a b : Bool) → a ≡ true → (a || b) ≡ true
+or-true true b h = refl
+or-true false b h = absurd (cc)
 
--- no buffer before the number has the name
-none_named : (name : List ℕ) (bs : List BufferValue) (k : ℕ) (b : BufferValue) → k < number_of name bs → slice_get bs k ≡ Some b → name ≡ b.name → ⊥
-none_named name bs k b p at e =
-    let fails = fails_before_first (λ z. bytes_eq name z.name) bs k b p in
-    let here : get_or bs k b ≡ b = get_or_from_slice_get bs k b b at in
-    let no : bytes_eq name b.name ≡ false = ap (λ z. bytes_eq name z.name) (sym here) ∙ fails in
-    grind (arith, bytes_eq-Decides name b.name, no, e)
+or-second : (a b : Bool) → b ≡ true → (a || b) ≡ true
+or-second true b h = refl
+or-second false b h = h
 
-told-append : (bs : List BufferValue) (name : List ℕ) → AreToldByName bs → length bs ≤ number_of name bs → AreToldByName (bs ++ new_buffer name ∷ [])
-told-append bs name told free j k x y hx hy e = elim (get-append bs (new_buffer name) j x hx) [
-  | inl p ↦ elim (get-append bs (new_buffer name) k y hy) [
-    | inl q ↦ told j k x y p q e
-    | inr q ↦
-        let within = slice_get_within bs j x p in
-        let named : name ≡ x.name = sym (ap (λ z. z.name) q.1) ∙ sym e in
-        absurd (none_named name bs j x (omega arith) p named)
-  ]
-  | inr p ↦ elim (get-append bs (new_buffer name) k y hy) [
-    | inl q ↦
-        let within = slice_get_within bs k y q in
-        let named : name ≡ y.name = sym (ap (λ z. z.name) p.1) ∙ e in
-        absurd (none_named name bs k y (omega arith) q named)
-    | inr q ↦ p.0 ∙ sym q.0
-  ]
-]
+pub text-codes : (text : List ℕ) → is_text text ≡ true → AreCodes text
+text-codes [] h = All-nil (λ (c : ℕ). IsTrue (is_code c))
+text-codes (c ∷ cs) h =
+    let parts = and_parts (is_scalar c) (each is_scalar cs) h in
+    All-cons (λ (x : ℕ). IsTrue (is_code x)) c cs (or-true (is_scalar c) _ parts.0) (text-codes cs parts.1)
 
-no_text-is_text : IsText no_text
-no_text-is_text = record { first = omega arith; ordered = omega arith; last = omega arith; short = omega arith }
+raw-code : (byte : ℕ) → IsRawByte byte → is_code (1114112 + byte) ≡ true
+raw-code byte h =
+    let low = h.0 in
+    let high = h.1 in
+    or-second (is_scalar (1114112 + byte)) (nat_le 1114240 (1114112 + byte) && nat_lt (1114112 + byte) 1114368) (grind (arith, nat_tests))
 
-texts-append : (bs : List BufferValue) (name : List ℕ) → AreTexts bs → AreTexts (bs ++ new_buffer name ∷ [])
-texts-append bs name texts k x hx = elim (get-append bs (new_buffer name) k x hx) [
-  | inl p ↦ texts k x p
-  | inr p ↦ subst (λ z. IsText z.text) (sym p.1) no_text-is_text
-]
+pub raw-codes : (bytes : List ℕ) → All IsRawByte bytes → AreCodes (raw_text bytes)
+raw-codes bytes h =
+    All-map (λ (x : ℕ). IsTrue (is_code x)) (λ byte. 1114112 + byte) bytes
+    (All-weaker IsRawByte (λ byte. IsTrue (is_code (1114112 + byte))) raw-code bytes h)
 
-shown-append : (bs : List BufferValue) (name : List ℕ) (w : WindowState) → IsShowing bs w → IsShowing (bs ++ new_buffer name ∷ []) w
-shown-append bs name w shown =
-    let made = shown.made in
-    let old : (b : BufferValue) → slice_get (bs ++ new_buffer name ∷ []) w.buffer ≡ Some b → slice_get bs w.buffer ≡ Some b
-    = λ b h. elim (get-append bs (new_buffer name) w.buffer b h) [ inl p ↦ p | inr p ↦ absurd (omega (arith, p.0)) ] in
-    record {
-      made = omega (arith, length-append bs (new_buffer name ∷ []));
-      point = λ b h. shown.point b (old b h);
-      anchor = λ b h. shown.anchor b (old b h);
-    }
+-- ---- positions
 
-pub appended-valid : (s : StateValue) (name : List ℕ) → IsValid s → length s.buffers < most_buffers → length s.buffers ≤ number_of name s.buffers
-    → IsValid (record s { buffers = s.buffers ++ new_buffer name ∷ [] })
-appended-valid s name v room free = record {
-  few = omega (arith, room, length-append s.buffers (new_buffer name ∷ []));
-  told = told-append s.buffers name v.told free;
-  texts = texts-append s.buffers name v.texts;
+moved_by : (t : Bool) (low high p n : ℕ) → low ≤ p → p ≤ high → (low ≤ (if t then p + n else p)) × ((if t then p + n else p) ≤ high + n)
+moved_by true low high p n a b = (omega arith, omega arith)
+moved_by false low high p n a b = (omega arith, omega arith)
+
+moved_back : (t u : Bool) (low high p from to : ℕ) → nat_lt p from ≡ t → nat_lt p to ≡ u → low ≤ from → from ≤ to → to ≤ high → low ≤ p → p ≤ high
+    → let q = if t then p else (if u then from else p - (to - from)) in (low ≤ q) × (q ≤ high - (to - from))
+moved_back true u low high p from to ht hu a b c d e =
+    let before = ltb-true p from ht in
+    (d, omega arith)
+moved_back false true low high p from to ht hu a b c d e = (a, omega arith)
+moved_back false false low high p from to ht hu a b c d e =
+    let behind = ltb-false p to hu in
+    (omega arith, omega arith)
+
+-- ---- one buffer
+
+-- what an edit of a buffer of a valid state leaves: a valid buffer, in which positions that went on are accessible
+abbrev pub Keeps : ObjectLists → (ℕ → ℕ) → (ContentValue → Result ContentValue Refused) → Type 0
+Keeps o f edit = (c d : ContentValue) → IsContent o c → edit c ≡ Ok d → IsContent o d × ((p : ℕ) → IsAccessible c.text p → IsAccessible d.text (f p))
+
+-- a state with another buffer and other windows
+with_parts : (s : StateValue) (bs : List BufferValue) (ws : List (ℕ × WindowState)) → IsValid s → AreBuffers s.objects bs → AreWindows bs s.tree ws s.selected → IsValid (record s { buffers = bs; windows = ws })
+with_parts s bs ws v a b = record {
+  buffers = a;
   objects = v.objects;
-  shown = shown-append s.buffers name s.window v.shown;
+  closed = v.closed;
+  windows = b;
   frame = v.frame;
+  margin = v.margin;
+  conservatively = v.conservatively;
+  echo = v.echo;
 }
 
-making-valid : (s t : StateValue) (name : List ℕ) → IsValid s → making s name ≡ Ok t → IsValid t
-making-valid s t name v h =
-    let made : StateValue = record s { buffers = s.buffers ++ new_buffer name ∷ [] } in
-    let outer = if-not (nat_lt (number_of name s.buffers) (length s.buffers)) (if nat_le most_buffers (length s.buffers) then Err TooManyBuffers else Ok made) NameTaken t h in
-    let inner = if-not (nat_le most_buffers (length s.buffers)) (Ok made) TooManyBuffers t outer.1 in
-    let free = ltb-false (number_of name s.buffers) (length s.buffers) outer.0 in
-    let room = leb-false most_buffers (length s.buffers) inner.0 in
-    let same : made ≡ t = cc (inner.1) in
-    subst IsValid same (appended-valid s name v room free)
+replaced-done : (s t : StateValue) (i : ℕ) (b : BufferValue) (edit : ContentValue → Result ContentValue Refused) (r : Result ContentValue Refused) → IsValid s
+    → Keeps s.objects (λ p. p) edit → slice_get s.buffers i ≡ Some b → edit b.content ≡ r → replaced s i b r ≡ Ok t → IsValid t
+replaced-done s t i b edit (Err e) v k at is h = absurd (cc)
+replaced-done s t i b edit (Ok d) v k at is h =
+    let bs = slice_set s.buffers i (holding b d) in
+    let same : record s { buffers = bs } ≡ t = cc (h) in
+    let kept = k b.content d (v.buffers.contents i b at) is in
+    subst IsValid same (with_parts s bs s.windows v (buffers-replaced s.objects s.buffers i b d v.buffers at kept.0)
+    (windows-replaced s.buffers i b d s.tree s.windows s.selected at kept.1 v.windows))
 
--- ---- the window
+pub moving-done : (s t : StateValue) (i : ℕ) (b : BufferValue) (how : Move) (edit : ContentValue → Result ContentValue Refused) (r : Result ContentValue Refused) → IsValid s
+    → Keeps s.objects (place_after how) edit → slice_get s.buffers i ≡ Some b → edit b.content ≡ r → moving i how (replaced s i b r) ≡ Ok t → IsValid t
+moving-done s t i b how edit (Err e) v k at is h = absurd (cc)
+moving-done s t i b how edit (Ok d) v k at is h =
+    let bs = slice_set s.buffers i (holding b d) in
+    let ws = map (moved_in i how) s.windows in
+    let same : record s { buffers = bs; windows = ws } ≡ t = cc (h) in
+    let kept = k b.content d (v.buffers.contents i b at) is in
+    subst IsValid same (with_parts s bs ws v (buffers-replaced s.objects s.buffers i b d v.buffers at kept.0)
+    (windows-moved s.buffers i b d how s.tree s.windows s.selected at kept.1 v.windows))
 
--- another view of the buffers
-viewed-valid : (s : StateValue) (w : WindowState) → IsValid s → IsShowing s.buffers w → IsValid (record s { window = w })
-viewed-valid s w v shown = record { few = v.few; told = v.told; texts = v.texts; objects = v.objects; shown = shown; frame = v.frame }
+replaced-found : (s t : StateValue) (i : ℕ) (o : Option BufferValue) (edit : ContentValue → Result ContentValue Refused) → IsValid s → Keeps s.objects (λ p. p) edit
+    → slice_get s.buffers i ≡ o → with_found NoBuffer o (λ b. replaced s i b (edit b.content)) ≡ Ok t → IsValid t
+replaced-found s t i None edit v k at h = absurd (cc)
+replaced-found s t i (Some b) edit v k at h = replaced-done s t i b edit (edit b.content) v k at refl h
 
-one_there : {X : Type 0} (xs : List X) (i : ℕ) (b c : X) → slice_get xs i ≡ Some b → slice_get xs i ≡ Some c → b ≡ c
-one_there xs i b c h k = cc
+moving-found : (s t : StateValue) (i : ℕ) (o : Option BufferValue) (how : Move) (edit : ContentValue → Result ContentValue Refused) → IsValid s → Keeps s.objects (place_after how) edit
+    → slice_get s.buffers i ≡ o → with_found NoBuffer o (λ b. moving i how (replaced s i b (edit b.content))) ≡ Ok t → IsValid t
+moving-found s t i None how edit v k at h = absurd (cc)
+moving-found s t i (Some b) how edit v k at h = moving-done s t i b how edit (edit b.content) v k at refl h
 
-shown-found : (s t : StateValue) (i : ℕ) (o : Option BufferValue) → IsValid s → slice_get s.buffers i ≡ o → with o (showing s i) ≡ Ok t → IsValid t
-shown-found s t i None v at h = absurd (cc)
-shown-found s t i (Some b) v at h =
-    let w : WindowState = record s.window { buffer = i; point = b.text.begin; anchor = record { pos = b.text.begin; row = 0 }; forced = false } in
-    let same : record s { window = w } ≡ t = cc in
-    let here : (x : BufferValue) → slice_get s.buffers i ≡ Some x → IsAccessible x.text b.text.begin
-    = λ x hx. subst (λ z. IsAccessible z.text b.text.begin) (one_there s.buffers i b x at hx) (omega arith, (v.texts i b at).ordered) in
-    subst IsValid same (viewed-valid s w v (record { made = slice_get_within s.buffers i b at; point = here; anchor = here }))
+pub edited-valid : (s t : StateValue) (name : List ℕ) (edit : ContentValue → Result ContentValue Refused) → IsValid s → Keeps s.objects (λ p. p) edit → edited s name edit ≡ Ok t → IsValid t
+edited-valid s t name edit v k h = replaced-found s t (number_of name s.buffers) (slice_get s.buffers (number_of name s.buffers)) edit v k refl h
 
-showing-valid : (s t : StateValue) (name : List ℕ) → IsValid s → in_buffer s name (showing s) ≡ Ok t → IsValid t
-showing-valid s t name v h = shown-found s t (number_of name s.buffers) (slice_get s.buffers (number_of name s.buffers)) v refl h
+pub edited_moving-valid : (s t : StateValue) (name : List ℕ) (how : Move) (edit : ContentValue → Result ContentValue Refused) → IsValid s → Keeps s.objects (place_after how) edit
+    → edited_moving s name how edit ≡ Ok t → IsValid t
+edited_moving-valid s t name how edit v k h = moving-found s t (number_of name s.buffers) (slice_get s.buffers (number_of name s.buffers)) how edit v k refl h
 
--- the point elsewhere
-pointed-valid : (s : StateValue) (pos : ℕ) → IsValid s → ((b : BufferValue) → slice_get s.buffers s.window.buffer ≡ Some b → IsAccessible b.text pos)
-    → IsValid (record s { window = record s.window { point = pos } })
-pointed-valid s pos v here =
-    viewed-valid s (record s.window { point = pos }) v (record { made = v.shown.made; point = here; anchor = v.shown.anchor })
+-- ---- what each edit means
 
-pointed-found : (s t : StateValue) (pos : ℕ) (o : Option BufferValue) → IsValid s → slice_get s.buffers s.window.buffer ≡ o
-    → with o (λ b. if is_accessible b.text pos then Ok (record s { window = record s.window { point = pos } }) else Err OutOfRange) ≡ Ok t → IsValid t
-pointed-found s t pos None v at h = absurd (cc)
-pointed-found s t pos (Some b) v at h =
-    let new : StateValue = record s { window = record s.window { point = pos } } in
-    let parts = if-ok (is_accessible b.text pos) (Ok new) OutOfRange t h in
-    let same : new ≡ t = cc (parts.1) in
-    let accessible = is_accessible-means b.text pos parts.0 in
-    subst IsValid same (pointed-valid s pos v (λ x hx. subst (λ z. IsAccessible z.text pos) (one_there s.buffers s.window.buffer b x at hx) accessible))
+pub insertion-means : (pos : ℕ) (new : List ℕ) (c d : ContentValue) → insertion pos new c ≡ Ok d
+    → IsAccessible c.text pos × (length c.text.text + length new ≤ most_characters) × (grown c pos new ≡ d)
+insertion-means pos new c d h =
+    let made = grown c pos new in
+    let outer = if-ok (is_accessible c.text pos) (if has_room c.text new then Ok made else Err TextTooLarge) OutOfRange d h in
+    let inner = if-ok (has_room c.text new) (Ok made) TextTooLarge d outer.1 in
+    let same : made ≡ d = cc (inner.1) in
+    (is_accessible-means c.text pos outer.0, leb-true (length c.text.text + length new) most_characters inner.0, same)
 
-pointing-valid : (s t : StateValue) (pos : ℕ) → IsValid s → pointing s pos ≡ Ok t → IsValid t
-pointing-valid s t pos v h = pointed-found s t pos (slice_get s.buffers s.window.buffer) v refl h
+pub insertion-keeps : (texts : TextLaws) (made : MadeLaws) (o : ObjectLists) (pos : ℕ) (new : List ℕ) → AreCodes new → Keeps o (place_after (Inserted pos (length new))) (insertion pos new)
+insertion-keeps texts made o pos new codes c d v h =
+    let m = insertion-means pos new c d h in
+    (
+      subst (IsContent o) m.2 (grown-valid texts made o c pos new v codes m.0 m.1),
+      λ p a. subst (λ (x : ContentValue). IsAccessible x.text (after_insertion pos (length new) p)) m.2 (moved_by (nat_lt pos p) c.text.begin c.text.end p (length new) a.0 a.1),
+    )
 
--- ---- typing
+pub deletion-means : (from to : ℕ) (c d : ContentValue) → deletion from to c ≡ Ok d → IsAccessibleRange c.text from to × (shrunk c from to ≡ d)
+deletion-means from to c d h =
+    let made = shrunk c from to in
+    let parts = if-ok (is_accessible_range c.text from to) (Ok made) OutOfRange d h in
+    let same : made ≡ d = cc (parts.1) in
+    (is_accessible_range-means c.text from to parts.0, same)
 
-moved-buffer : (t : Bool) (f : ℕ → ℕ) (w : WindowState) → (if t then moved f w else w).buffer ≡ w.buffer
-moved-buffer true f w = refl
-moved-buffer false f w = refl
+pub deletion-keeps : (texts : TextLaws) (made : MadeLaws) (o : ObjectLists) (from to : ℕ) → Keeps o (place_after (Deleted from to)) (deletion from to)
+deletion-keeps texts made o from to c d v h =
+    let m = deletion-means from to c d h in
+    let at = m.0 in
+    let low = at.first in
+    let ordered = at.ordered in
+    let high = at.last in
+    (
+      subst (IsContent o) m.1 (shrunk-valid texts made o c from to v at),
+      λ p a. subst (λ (x : ContentValue). IsAccessible x.text (after_deletion from to p)) m.1
+          (moved_back (nat_lt p from) (nat_lt p to) c.text.begin c.text.end p from to refl refl low ordered high a.0 a.1),
+    )
 
-typed-done : (s t : StateValue) (b : BufferValue) (new : List ℕ) (r : Result BufferValue Refused) → IsValid s
-    → slice_get s.buffers s.window.buffer ≡ Some b → insertion b s.window.point new ≡ r
-    → with_point (s.window.point + length new) (changed s s.window.buffer (after_insertion s.window.point (length new)) r) ≡ Ok t → IsValid t
-typed-done s t b new (Err e) v at is h = absurd (cc)
-typed-done s t b new (Ok c) v at is h =
-    let f : ℕ → ℕ = after_insertion s.window.point (length new) in
-    let i = s.window.buffer in
-    let u : StateValue = record s { buffers = slice_set s.buffers i c; window = moved_in i f s.window } in
-    let p = s.window.point + length new in
-    let same : record u { window = record u.window { point = p } } ≡ t = cc (h) in
-    let m = insertion-means b s.window.point new c is in
-    let valid : IsValid u = kept-valid s i b c f (λ x. insertion x s.window.point new) v (insertion-keeps s.window.point new) at is in
-    let end : IsAccessible c.text p = subst (λ z. IsAccessible z.text p) m.2 (omega (arith, m.0.0), omega (arith, m.0.1)) in
-    let here : (x : BufferValue) → slice_get (set s.buffers i c) (moved_in i f s.window).buffer ≡ Some x → IsAccessible x.text p
-    = λ x hx. elim (get-set s.buffers i i c x (ap (slice_get (set s.buffers i c)) (sym (moved-buffer (s.window.buffer == i) f s.window)) ∙ hx)) [
-      | inl q ↦ subst (λ z. IsAccessible z.text p) (sym q.1) end
-      | inr q ↦ absurd (q.0 refl)
-    ] in
-    subst IsValid same (pointed-valid u p valid here)
+brought : (from to p : ℕ) → from ≤ to → (from ≤ max from (min p to)) × (max from (min p to) ≤ to)
+brought from to p h = (omega arith, omega arith)
 
-typed-found : (s t : StateValue) (new : List ℕ) (o : Option BufferValue) → IsValid s → slice_get s.buffers s.window.buffer ≡ o
-    → with_point (s.window.point + length new) (with o (λ b. changed s s.window.buffer (after_insertion s.window.point (length new)) (insertion b s.window.point new))) ≡ Ok t
-    → IsValid t
-typed-found s t new None v at h = absurd (cc)
-typed-found s t new (Some b) v at h = typed-done s t b new (insertion b s.window.point new) v at refl h
+pub narrowing-means : (from to : ℕ) (c d : ContentValue) → narrowing from to c ≡ Ok d → IsRangeOfAll c.text from to × (record c { text = record { text = c.text.text; begin = from; end = to } } ≡ d)
+narrowing-means from to c d h =
+    let made : ContentValue = record c { text = record { text = c.text.text; begin = from; end = to } } in
+    let parts = if-ok (is_range_of_all c.text from to) (Ok made) OutOfRange d h in
+    let same : made ≡ d = cc (parts.1) in
+    (is_range_of_all-means c.text from to parts.0, same)
 
-pub typing-valid : (s t : StateValue) (new : List ℕ) → IsValid s → typing s new ≡ Ok t → IsValid t
-typing-valid s t new v h = typed-found s t new (slice_get s.buffers s.window.buffer) v refl h
+pub narrowing-keeps : (texts : TextLaws) (o : ObjectLists) (from to : ℕ) → Keeps o (place_after (Narrowed from to)) (narrowing from to)
+narrowing-keeps texts o from to c d v h =
+    let m = narrowing-means from to c d h in
+    let at = m.0 in
+    let ordered = at.ordered in
+    (
+      subst (IsContent o) m.1 (narrowed-valid texts o c from to v at),
+      λ p a. subst (λ (x : ContentValue). IsAccessible x.text (brought_into from to p)) m.1 (brought from to p ordered),
+    )
 
--- ---- all
+pub widening-keeps : (texts : TextLaws) (o : ObjectLists) → Keeps o (λ p. p) widening
+widening-keeps texts o c d v h =
+    let made : ContentValue = record c { text = record { text = c.text.text; begin = 1; end = length c.text.text + 1 } } in
+    let same : made ≡ d = cc (h) in
+    let first = v.text.first in
+    let last = v.text.last in
+    (
+      subst (IsContent o) same (widened-valid texts o c v),
+      λ p a. let low = a.0 in let high = a.1 in subst (λ (x : ContentValue). IsAccessible x.text p) same (omega arith, omega arith),
+    )
 
-pub step-valid : (s t : StateValue) (op : Op) → IsValid s → IsInForm op → step s op ≡ Ok t → IsValid t
-unfolding step
-step-valid s t (ops.Frame width height) v form h =
-    let same : record s { width = width; height = height } ≡ t = cc in
-    let new : IsValid (record s { width = width; height = height }) = record {
-      few = v.few;
-      told = v.told;
-      texts = v.texts;
-      objects = v.objects;
-      shown = v.shown;
-      frame = record { wide = form.0; narrow = form.1; high = form.2; low = form.3 };
-    } in
-    subst IsValid same new
-step-valid s t (ops.Buffer name) v form h = making-valid s t name v h
-step-valid s t (ops.Insert name pos text) v form h =
-    in_buffer-valid s t name (after_insertion pos (length text)) (λ b. insertion b pos text) v (insertion-keeps pos text)
-    (if-ok (is_built text) (in_buffer s name (λ i b. changed s i (after_insertion pos (length text)) (insertion b pos text))) NotBuilt t h).1
-step-valid s t (ops.TypeText text) v form h = typing-valid s t text v (if-ok (is_built text) (typing s text) NotBuilt t h).1
-step-valid s t (ops.Delete name from to) v form h =
-    in_buffer-valid s t name (after_deletion from to) (λ b. deletion b from to) v (deletion-keeps from to) h
-step-valid s t (ops.Narrow name from to) v form h =
-    in_buffer-valid s t name (brought_into from to) (λ b. narrowing b from to) v (narrowing-keeps from to) h
-step-valid s t (ops.Widen name) v form h = in_buffer-valid s t name (λ p. p) widening v widening-keeps h
-step-valid s t (ops.Overlay name from to priority front rear) v form h =
-    in_buffer-replaced s t name (λ b. overlay_making b from to priority front rear) v (making-keeps from to priority front rear) h
-step-valid s t (ops.OverlayMove name overlay from to) v form h =
-    in_buffer-replaced s t name (λ b. overlay_moving b overlay from to) v (moving-keeps overlay from to) h
-step-valid s t (ops.OverlayDrop name overlay) v form h = in_buffer-replaced s t name (λ b. overlay_dropping b overlay) v (dropping-keeps overlay) h
-step-valid s t (ops.Setting name setting) v form h = setting-valid s t name setting v h
-step-valid s t (ops.AddString text runs) v form h = objects-valid s t (string_making s.objects text runs) v (λ p. string-few s.objects p text runs v.objects) h
-step-valid s t (ops.AddSpec spec) v form h = objects-valid s t (spec_making s.objects spec) v (λ p. spec-few s.objects p spec v.objects) h
-step-valid s t (ops.AddFace face) v form h = objects-valid s t (face_making s.objects face) v (λ p. face-few s.objects p face v.objects) h
-step-valid s t (ops.AddTable entries truncation continuation escape control ellipsis border) v form h =
-    let table = table_of entries truncation continuation escape control ellipsis border in
-    objects-valid s t (table_making s.objects table) v (λ p. table-few s.objects p table v.objects) h
-step-valid s t (ops.Remove window) v form h =
-    let parts = if-ok (window == 0) (Err LastWindow) NoWindow t h in
-    absurd (cc (parts.1))
-step-valid s t (ops.Show window name) v form h =
-    showing-valid s t name v (if-ok (window == 0) (in_buffer s name (showing s)) NoWindow t h).1
-step-valid s t (ops.Point window pos) v form h = pointing-valid s t pos v (if-ok (window == 0) (pointing s pos) NoWindow t h).1
-step-valid s t (ops.Wrap window mode) v form h =
-    let w : WindowState = record s.window { wrap = mode } in
-    let parts = if-ok (window == 0) (Ok (record s { window = w })) NoWindow t h in
-    let same : record s { window = w } ≡ t = cc (parts.1) in
-    subst IsValid same (viewed-valid s w v (record { made = v.shown.made; point = v.shown.point; anchor = v.shown.anchor }))
-step-valid s t (ops.Redisplay stop) v form h = let same : s ≡ t = cc in subst IsValid same v
+-- an edit that leaves the text
+pub text-kept : (o : ObjectLists) (c made d : ContentValue) → ◌≡◌ {A = Result ContentValue Refused} (Ok made) (Ok d) → made.text ≡ c.text → IsContent o made
+    → IsContent o d × ((p : ℕ) → IsAccessible c.text p → IsAccessible d.text p)
+text-kept o c made d h text v =
+    let same : made ≡ d = cc (h) in
+    (subst (IsContent o) same v, λ p a. subst (λ (x : TextValue). IsAccessible x p) (sym text ∙ ap (λ (x : ContentValue). x.text) same) a)
 
--- ---- as the calls make them
+pub put-keeps : (made : MadeLaws) (o : ObjectLists) (from to : ℕ) (kind : Kind) (value : Option ℕ) → is_text_kind kind ≡ true → Keeps o (λ p. p) (property_putting o from to kind value)
+put-keeps made o from to kind value is c d v h =
+    let new = with_property c from to kind value in
+    let outer = if-ok (is_accessible_range c.text from to) (if is_value_made o kind value then Ok new else Err NoObject) OutOfRange d h in
+    let inner = if-ok (is_value_made o kind value) (Ok new) NoObject d outer.1 in
+    text-kept o c new d inner.1 refl (put-valid made o c from to kind value v is (is_accessible_range-means c.text from to outer.0) inner.0)
 
--- the list after an edit of one buffer and the window that moved with it
-pub at-valid : (s : StateValue) (i : ℕ) (f : ℕ → ℕ) (g : BufferValue → Result BufferValue Refused) (bs : List BufferValue) (w : WindowState)
-    → IsValid s → Keeps g f → ChangesAt (Ok tt) g i s.buffers bs → w ≡ moved_in i f s.window
-    → IsValid (record { buffers = bs; objects = s.objects; window = w; width = s.width; height = s.height })
-at-valid s i f g bs w v k (b, c, at, gives, is) e =
-    let new = kept-valid s i b c f g v k at gives in
-    subst (λ xs. IsValid (record s { buffers = xs; window = w })) (sym is)
-    (subst (λ x. IsValid (record s { buffers = slice_set s.buffers i c; window = x })) (sym e) new)
+pub making-keeps : (made : MadeLaws) (o : ObjectLists) (from to : ℕ) (priority : ℤ) (front rear : Bool) → Keeps o (λ p. p) (overlay_making from to priority front rear)
+making-keeps made o from to priority front rear c d v h =
+    let new = with_overlays c (c.overlays ++ Some (new_overlay from to priority front rear) ∷ []) in
+    let all = nat_le most_overlays (length c.overlays) in
+    let outer = if-ok (is_range_of_all c.text from to) (if all then Err TooManyOverlays else Ok new) OutOfRange d h in
+    let inner = if-not all (Ok new) TooManyOverlays d outer.1 in
+    text-kept o c new d inner.1 refl (made-valid made o c from to priority front rear v outer.0 (is_range_of_all-means c.text from to outer.0) inner.0)
 
--- the list after a text was typed and the window whose point went behind it
-pub typed-valid : (s : StateValue) (new : List ℕ) (bs : List BufferValue) (w : WindowState)
-    → IsValid s → ChangesAt (Ok tt) (λ b. insertion b s.window.point new) s.window.buffer s.buffers bs
-    → w ≡ moved_in s.window.buffer (after_insertion s.window.point (length new)) s.window
-    → IsValid (record { buffers = bs; objects = s.objects; window = record w { point = s.window.point + length new }; width = s.width; height = s.height })
-typed-valid s new bs w v (b, c, at, gives, is) e =
-    let i = s.window.buffer in
-    let p = s.window.point + length new in
-    let x : WindowState = moved_in i (after_insertion s.window.point (length new)) s.window in
-    let t : StateValue = record s { buffers = slice_set s.buffers i c; window = record x { point = p } } in
-    let done : IsValid t = typed-done s t b new (Ok c) v at gives refl in
-    subst (λ xs. IsValid (record s { buffers = xs; window = record w { point = p } })) (sym is)
-    (subst (λ y. IsValid (record s { buffers = slice_set s.buffers i c; window = record y { point = p } })) (sym e) done)
+pub moving-keeps : (made : MadeLaws) (o : ObjectLists) (number from to : ℕ) → Keeps o (λ p. p) (overlay_moving number from to)
+moving-keeps made o number from to c d v h =
+    let new = with_overlays c (overlays.moved c.overlays number from to) in
+    let in_range = is_range_of_all c.text from to in
+    let outer = if-ok (is_some (overlay_at c.overlays number)) (if in_range then Ok new else Err OutOfRange) NoOverlay d h in
+    let inner = if-ok in_range (Ok new) OutOfRange d outer.1 in
+    text-kept o c new d inner.1 refl (moved-valid made o c number from to v inner.0)
 
-pub moved-nowhere : (t : Bool) (w : WindowState) → w ≡ (if t then moved (λ p. p) w else w)
-moved-nowhere true w = refl
-moved-nowhere false w = refl
+pub dropping-keeps : (made : MadeLaws) (o : ObjectLists) (number : ℕ) → Keeps o (λ p. p) (overlay_dropping number)
+dropping-keeps made o number c d v h =
+    let new = with_overlays c (overlays.dropped c.overlays number) in
+    let outer = if-ok (is_some (overlay_at c.overlays number)) (Ok new) NoOverlay d h in
+    text-kept o c new d outer.1 refl (dropped-valid made o c number v)
 
--- the list as it was, after a call that changed none of it
-pub unchanged-valid : (s : StateValue) (bs : List BufferValue) → IsValid s → bs ≡ s.buffers → IsValid (record { buffers = bs; objects = s.objects; window = s.window; width = s.width; height = s.height })
-unchanged-valid s bs v e = subst (λ xs. IsValid (record s { buffers = xs })) (sym e) v
+pub giving-keeps : (made : MadeLaws) (o : ObjectLists) (number : ℕ) (kind : Kind) (value : Option ℕ) → Keeps o (λ p. p) (overlay_putting o number kind value)
+giving-keeps made o number kind value c d v h =
+    let new = with_overlays c (overlays.given c.overlays number kind value) in
+    let outer = if-ok (is_some (overlay_at c.overlays number)) (if is_value_made o kind value then Ok new else Err NoObject) NoOverlay d h in
+    let inner = if-ok (is_value_made o kind value) (Ok new) NoObject d outer.1 in
+    text-kept o c new d inner.1 refl (given-valid made o c number kind value v inner.0)

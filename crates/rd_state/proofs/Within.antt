@@ -12,8 +12,8 @@ use Rattle.rd_overlays.specs.declared.fault.OverlayFault.{OverlayFault}
 use Rattle.rd_overlays.specs.declared.fault.OverlayFault.TheVariants.{NoOverlay, OutOfRange, TooMany, Memory}
 use Rattle.rd_props.specs.Buffers as props
 use Rattle.rd_state.specs.Edits.{is_range_of_all}
-use Rattle.rd_state.specs.States.{IsOverlayIn, IsWithin}
-use Rattle.rd_state.specs.Values.{opened, closed}
+use Rattle.rd_state.specs.Valid.{IsOverlayIn, IsWithin}
+use Rattle.rd_props.specs.Edits.{opened, closed}
 
 -- ---- overlays
 

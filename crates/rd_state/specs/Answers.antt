@@ -43,7 +43,7 @@ refused_format format_faults.Memory = Memory
 
 -- What a call that changes one thing answers, where this is said of it: the thing that was said. A refusal is the one that was said or
 -- want of memory, and leaves the thing as it was.
-abbrev pub Answers : {T : Type 0} → Result Unit Refused → Result T Refused → T → T → Type 0
+abbrev pub Answers : {X T : Type 0} → Result X Refused → Result T Refused → T → T → Type 0
 Answers (Ok _) said old new = said ≡ Ok new
 Answers (Err refused) said old new = (new ≡ old) × (refused ≢ Memory → said ≡ Err refused)
 

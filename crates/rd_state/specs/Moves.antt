@@ -27,4 +27,4 @@ moved how w = record w { point = place_after how w.point; anchor = record { pos 
 
 -- the same where the window shows the buffer with this number
 abbrev pub moved_in : ℕ → Move → ℕ × WindowState → ℕ × WindowState
-moved_in buffer how e = if e.1.buffer == buffer then (e.0, moved how e.1) else e
+moved_in buffer how e = (e.0, if e.1.buffer == buffer then moved how e.1 else e.1)

@@ -1,26 +1,16 @@
-//! The state of a session: buffers, the window that shows one of them, and the frame's size; and what one op does to it.
+//! The state of a session: buffers, the objects that they name, the windows that show them, and the frame's size; and what one op
+//! makes of it, or why it is refused. As definitions, with laws of every op: states stay valid, and what an op leaves as it was.
 #![tactic(auto)]
 
-mod buffer;
-mod buffers;
-mod built;
-mod content;
 mod effect;
 mod examples;
 mod laws;
 mod moves;
-mod objects;
-mod overlay;
 mod refused;
-mod setting;
-mod state;
-mod table;
-mod values;
 mod window;
 
 pub use effect::Effect;
-pub use laws::{settling_keeps_states, steps_keep_states};
-pub use rd_props::BufferState;
+pub use laws::{ops_leave_the_rest, settling_keeps_states, steps_keep_states, windows_are_leaves};
+pub use moves::Move;
 pub use refused::Refused;
-pub use state::State;
 pub use window::WindowState;

@@ -1,0 +1,265 @@
+-- A step leads from a valid state to a valid one, op by op.
+use Rattle.std.proofs.Common.{◌≡◌, ◌≢◌, ℕ, zero, suc, ◌+◌, ◌-◌, ◌≤◌, inl, inr, ◌==◌, Bool, true, false, if◌then◌else◌, pos, ◌+ℤ◌, map, IsTrue, Option, None, Some, Result, Ok, Err, List, [], ◌∷◌, length, subst, sym, ap, refl, ◌∙◌, arith}
+use Rattle.std.proofs.lemmas.Bool.{cases_eq}
+use Rattle.std.specs.Prelude.{slice_get, slice_set, option_map}
+use Rattle.std.specs.Str.{chars}
+use Rattle.rd_base.specs.declared.settings.Anchor.{Anchor}
+use Rattle.rd_text.specs.Texts.{TextValue, IsAccessible}
+use Rattle.rd_objects.specs.Sound.{AreCodes}
+use Rattle.rd_objects.specs.Things.{nothing_made}
+use Rattle.rd_script.specs.declared.op.Op.{Op}
+use Rattle.rd_script.specs.declared.op.Op.TheVariants as ops
+use Rattle.rd_script.specs.Forms.{IsInForm, is_buffer_name}
+use Rattle.rd_state.specs.declared.moves.Move.TheVariants.{Inserted, Deleted, Narrowed}
+use Rattle.rd_state.specs.declared.refused.Refused.{Refused}
+use Rattle.rd_state.specs.declared.effect.Effect.{Effect}
+use Rattle.rd_state.specs.Answers.{Applies}
+use Rattle.rd_state.specs.declared.window.WindowState.{WindowState}
+use Rattle.rd_state.specs.States.{BufferValue, ContentValue, StateValue, opening, main_name, opening_window, new_buffer}
+use Rattle.rd_state.specs.Windows.{window_of, with_window, leaf_of}
+use Rattle.rd_state.proofs.ByNumber.{window-each}
+use Rattle.rd_state.proofs.Keeping.{holding, moved_by, get-set}
+use Rattle.rd_state.specs.Valid.{IsContent, IsWindow, IsValid}
+use Rattle.rd_state.specs.Edits.{insertion, deletion, narrowing, widening, property_putting, overlay_making, overlay_moving, overlay_dropping, overlay_putting, mark_putting, setting_putting}
+use Rattle.rd_state.specs.Making.{table_of}
+use Rattle.rd_state.specs.Moves.{moved, moved_in}
+use Rattle.rd_state.specs.Steps.{with_found, replaced, moving, changing, typing, raw_text, held, step, settled}
+use Rattle.rd_state.proofs.Below.{TextLaws, MadeLaws, ObjectLaws, GrowLaws, TreeLaws}
+use Rattle.rd_state.proofs.Naming.{setting-keeps, mark-keeps, string-valid, spec-valid, face-valid, table-valid, making-valid, new-valid}
+use Rattle.rd_state.proofs.Showing.{set-valid, found-ok, buffer-ok, setting-valid, placing-valid, point-keeps, start-keeps, look-keeps, scroll-keeps, showing-valid, splitting-valid, removing-valid, resizing-valid, selecting-valid, mode_lining-valid, margining-valid, with_windows}
+use Rattle.rd_state.proofs.Slots.{table-right}
+use Rattle.rd_state.proofs.Stepping.{Keeps, text-codes, raw-codes, edited-valid, edited_moving-valid, moving-done, insertion-keeps, insertion-means, deletion-keeps, narrowing-keeps, widening-keeps, put-keeps, making-keeps, moving-keeps, dropping-keeps, giving-keeps}
+
+-- the laws of all layers below
+pub record Laws : Type 0 where
+  pub texts : TextLaws
+  pub made : MadeLaws
+  pub objects : ObjectLaws
+  pub grow : GrowLaws
+  pub trees : TreeLaws
+
+-- ---- typing
+
+-- a state in which the selected window's point is another accessible position
+pointed-valid : (s t : StateValue) (number place : ℕ) → IsValid s
+    → ((w : WindowState) (b : BufferValue) → window_of number s.windows ≡ Some w → slice_get s.buffers w.buffer ≡ Some b → IsAccessible b.content.text place)
+    → record s { windows = with_window number (λ old. record old { point = place }) s.windows } ≡ t → IsValid t
+pointed-valid s t number place v at is =
+    set-valid s t number (λ old. record old { point = place }) v (λ w. refl) (λ w found old. point-keeps s.buffers place w old (λ b h. at w b found h)) (ap (λ (x : StateValue). Ok x) is)
+
+typed-place : (t : TextValue) (p n : ℕ) → IsAccessible t p → (t.begin ≤ p + n) × (p + n ≤ t.end + n)
+typed-place t p n at = let low = at.0 in let high = at.1 in (omega arith, omega arith)
+
+-- a window that was moved shows what it showed
+pub moved-buffer : (t : Bool) (f : WindowState → WindowState) (w : WindowState) → ((x : WindowState) → (f x).buffer ≡ x.buffer) → (if t then f w else w).buffer ≡ w.buffer
+moved-buffer true f w h = h w
+moved-buffer false f w h = refl
+
+typed-done : (laws : Laws) (s t : StateValue) (w : WindowState) (b : BufferValue) (new : List ℕ) (r : Result ContentValue Refused) → IsValid s → AreCodes new
+    → window_of s.selected s.windows ≡ Some w → slice_get s.buffers w.buffer ≡ Some b → insertion w.point new b.content ≡ r
+    → changing s.selected (λ old. record old { point = w.point + length new }) (moving w.buffer (Inserted w.point (length new)) (replaced s w.buffer b r)) ≡ Ok t → IsValid t
+typed-done laws s t w b new (Err e) v codes found at is h = absurd (cc)
+typed-done laws s t w b new (Ok d) v codes found at is h =
+    let how = Inserted w.point (length new) in
+    let i = w.buffer in
+    let place = w.point + length new in
+    let u : StateValue = record s { buffers = slice_set s.buffers i (holding b d); windows = map (moved_in i how) s.windows } in
+    let valid : IsValid u = moving-done s u i b how (insertion w.point new) (Ok d) v (insertion-keeps laws.texts laws.made s.objects w.point new codes) at is refl in
+    let m = insertion-means w.point new b.content d is in
+    let end : IsAccessible d.text place = subst (λ (x : ContentValue). IsAccessible x.text place) m.2 (typed-place b.content.text w.point (length new) m.0) in
+    let same : record u { windows = with_window s.selected (λ old. record old { point = place }) u.windows } ≡ t = cc (h) in
+    pointed-valid u t s.selected place valid
+    (λ x c there hc.
+    let was : option_map (moved_by i how) (window_of s.selected s.windows) ≡ Some x = sym (window-each s.selected (moved_by i how) s.windows) ∙ there in
+    let is_x : moved_by i how w ≡ x = cc (sym (ap (option_map (moved_by i how)) found) ∙ was) in
+    let shows : x.buffer ≡ i = sym (ap (λ (y : WindowState). y.buffer) is_x) ∙ moved-buffer (w.buffer == i) (moved how) w (λ y. refl) in
+    elim (get-set s.buffers i x.buffer (holding b d) c hc) [
+      | inl q ↦ subst (λ (z : BufferValue). IsAccessible z.content.text place) (sym q.1) end
+      | inr q ↦ absurd (q.0 shows)
+    ])
+    same
+
+typing-valid : (laws : Laws) (s t : StateValue) (new : List ℕ) → IsValid s → AreCodes new → typing s new ≡ Ok t → IsValid t
+typing-valid laws s t new v codes h =
+    let w = found-ok s t s.selected _ h in
+    let b = buffer-ok t (slice_get s.buffers w.0.buffer) _ w.2 in
+    typed-done laws s t w.0 b.0 new (insertion w.0.point new b.0.content) v codes w.1 b.1 refl b.2
+
+-- ---- all ops
+
+pub step-valid : (laws : Laws) (s t : StateValue) (op : Op) → IsValid s → IsInForm op → step s op ≡ Ok t → IsValid t
+unfolding step
+step-valid laws s t (ops.Frame width height) v form h = resizing-valid laws.trees s t width height v form.0 form.1 form.2 form.3 h
+step-valid laws s t (ops.Buffer name) v form h = making-valid s t name v form h
+step-valid laws s t (ops.Insert name place text) v form h =
+    edited_moving-valid s t name (Inserted place (length text)) (insertion place text) v (insertion-keeps laws.texts laws.made s.objects place text (text-codes text form.2)) h
+step-valid laws s t (ops.InsertRaw name place bytes) v form h =
+    let text = raw_text bytes in
+    edited_moving-valid s t name (Inserted place (length text)) (insertion place text) v (insertion-keeps laws.texts laws.made s.objects place text (raw-codes bytes form.2)) h
+step-valid laws s t (ops.TypeText text) v form h = typing-valid laws s t text v (text-codes text form) h
+step-valid laws s t (ops.Delete name from to) v form h = edited_moving-valid s t name (Deleted from to) (deletion from to) v (deletion-keeps laws.texts laws.made s.objects from to) h
+step-valid laws s t (ops.Narrow name from to) v form h = edited_moving-valid s t name (Narrowed from to) (narrowing from to) v (narrowing-keeps laws.texts s.objects from to) h
+step-valid laws s t (ops.Widen name) v form h = edited-valid s t name widening v (widening-keeps laws.texts s.objects) h
+step-valid laws s t (ops.Put name from to kind value) v form h =
+    edited-valid s t name (property_putting s.objects from to kind value) v (put-keeps laws.made s.objects from to kind value form.3) h
+step-valid laws s t (ops.Overlay name from to priority front rear) v form h =
+    edited-valid s t name (overlay_making from to priority front rear) v (making-keeps laws.made s.objects from to priority front rear) h
+step-valid laws s t (ops.OverlayMove name overlay from to) v form h = edited-valid s t name (overlay_moving overlay from to) v (moving-keeps laws.made s.objects overlay from to) h
+step-valid laws s t (ops.OverlayDrop name overlay) v form h = edited-valid s t name (overlay_dropping overlay) v (dropping-keeps laws.made s.objects overlay) h
+step-valid laws s t (ops.OverlayPut name overlay kind value) v form h =
+    edited-valid s t name (overlay_putting s.objects overlay kind value) v (giving-keeps laws.made s.objects overlay kind value) h
+step-valid laws s t (ops.Setting name value) v form h = edited-valid s t name (setting_putting s.objects value) v (setting-keeps s.objects value form.1) h
+step-valid laws s t (ops.AddString text runs) v form h = string-valid laws.made laws.objects laws.grow s t text runs v (text-codes text form.0) h
+step-valid laws s t (ops.AddSpec spec) v form h = spec-valid laws.made laws.objects laws.grow s t spec v form h
+step-valid laws s t (ops.AddFace face) v form h = face-valid laws.made laws.objects laws.grow s t face v (record { fg = form.0; bg = form.1 }) h
+step-valid laws s t (ops.AddTable entries truncation continuation escape control ellipsis border) v form h =
+    table-valid laws.made laws.objects laws.grow s t (table_of entries truncation continuation escape control ellipsis border) v
+    (table-right entries truncation continuation escape control ellipsis border form.1 form.2 form.3 form.4 form.5 form.6 form.7) h
+step-valid laws s t (ops.Split window side size) v form h = splitting-valid laws.trees s t window side size v h
+step-valid laws s t (ops.Remove window) v form h = removing-valid laws.trees s t window v h
+step-valid laws s t (ops.Select window) v form h = selecting-valid s t window v h
+step-valid laws s t (ops.Show window name) v form h = showing-valid s t window name v h
+step-valid laws s t (ops.Point window place) v form h =
+    placing-valid s t window place (λ old. record old { point = place }) v (λ w. refl) (λ w old at. point-keeps s.buffers place w old at) h
+step-valid laws s t (ops.Start window place row) v form h =
+    placing-valid s t window place (λ old. record old { anchor = record { pos = place; row = row }; forced = true; pending = pos 0 }) v (λ w. refl)
+    (λ w old at. start-keeps s.buffers place row w old at) h
+step-valid laws s t (ops.Scroll window rows) v form h =
+    setting-valid s t window (λ old. record old { forced = true; pending = held (old.pending +ℤ rows) }) v (λ w. refl) (λ w found old. scroll-keeps s.buffers (w.pending +ℤ rows) w old) h
+step-valid laws s t (ops.Hscroll window columns) v form h =
+    setting-valid s t window (λ old. record old { hscroll = columns }) v (λ w. refl)
+    (λ w found old. look-keeps s.buffers w (record w { hscroll = columns }) refl refl refl old.pending form.1 old.format old.numbers old.strings old) h
+step-valid laws s t (ops.Wrap window mode) v form h =
+    setting-valid s t window (λ old. record old { wrap = mode }) v (λ w. refl)
+    (λ w found old. look-keeps s.buffers w (record w { wrap = mode }) refl refl refl old.pending old.hscroll old.format old.numbers old.strings old) h
+step-valid laws s t (ops.ModeLine window format) v form h = mode_lining-valid laws.trees s t window format v form.1 h
+step-valid laws s t (ops.Scrolling margin conservatively) v form h =
+    let same : record s { margin = margin; conservatively = conservatively } ≡ t = cc (h) in
+    subst IsValid same (record {
+      buffers = v.buffers;
+      objects = v.objects;
+      closed = v.closed;
+      windows = v.windows;
+      frame = v.frame;
+      margin = form.0;
+      conservatively = form.1;
+      echo = v.echo;
+    })
+step-valid laws s t (ops.Echo text) v form h =
+    let same : record s { echo = text } ≡ t = cc (h) in
+    subst IsValid same (record {
+      buffers = v.buffers;
+      objects = v.objects;
+      closed = v.closed;
+      windows = v.windows;
+      frame = v.frame;
+      margin = v.margin;
+      conservatively = v.conservatively;
+      echo = form;
+    })
+step-valid laws s t (ops.Redisplay stop) v form h = let same : s ≡ t = cc (h) in subst IsValid same v
+step-valid laws s t (ops.Shift on) v form h =
+    let same : record s { shifting = on } ≡ t = cc (h) in
+    subst IsValid same (record {
+      buffers = v.buffers;
+      objects = v.objects;
+      closed = v.closed;
+      windows = v.windows;
+      frame = v.frame;
+      margin = v.margin;
+      conservatively = v.conservatively;
+      echo = v.echo;
+    })
+step-valid laws s t (ops.Go window right) v form h = let same : s ≡ t = cc (h) in subst IsValid same v
+step-valid laws s t (ops.Hit window row column) v form h = let same : s ≡ t = cc (h) in subst IsValid same v
+step-valid laws s t (ops.Margin window numbers strings) v form h = margining-valid laws.trees s t window numbers strings v form.1 form.2 h
+step-valid laws s t (ops.MarginPut name overlay string) v form h = edited-valid s t name (mark_putting s.objects overlay string) v (mark-keeps s.objects overlay string) h
+
+-- ---- settling
+
+pub settled-valid : (s : StateValue) (number : ℕ) (anchor : Anchor) (point : ℕ) → IsValid s
+    → ((w : WindowState) (b : BufferValue) → window_of number s.windows ≡ Some w → slice_get s.buffers w.buffer ≡ Some b → IsAccessible b.content.text anchor.pos × IsAccessible b.content.text point)
+    → IsValid (settled s number anchor point)
+settled-valid s number anchor point v at =
+    set-valid s (settled s number anchor point) number (λ old. record old { anchor = anchor; point = point; forced = false; pending = pos 0 }) v (λ w. refl)
+    (λ w found old. record {
+      made = old.made;
+      point = λ b h. (at w b found h).1;
+      anchor = λ b h. (at w b found h).0;
+      pending = refl;
+      hscroll = old.hscroll;
+      format = old.format;
+      numbers = old.numbers;
+      strings = old.strings;
+    }) refl
+
+-- ---- the opening
+
+main-named : IsTrue (is_buffer_name main_name)
+unfolding chars
+main-named = refl
+
+main-apart : (j k : ℕ) (a b : BufferValue) → slice_get (new_buffer main_name ∷ []) j ≡ Some a → slice_get (new_buffer main_name ∷ []) k ≡ Some b → a.name ≡ b.name → j ≡ k
+main-apart zero zero a b h g e = refl
+main-apart zero (suc k) a b h g e = absurd (cc)
+main-apart (suc j) k a b h g e = absurd (cc)
+
+only-main : (P : BufferValue → Type 0) → P (new_buffer main_name) → (k : ℕ) (b : BufferValue) → slice_get (new_buffer main_name ∷ []) k ≡ Some b → P b
+only-main P h zero b is = let same : new_buffer main_name ≡ b = cc in subst P same h
+only-main P h (suc k) b is = absurd (cc)
+
+opening-shown : (b : BufferValue) → slice_get (new_buffer main_name ∷ []) 0 ≡ Some b → IsAccessible b.content.text 1
+opening-shown b h = only-main (λ x. IsAccessible x.content.text 1) (omega arith, omega arith) 0 b h
+
+opening-looks : IsWindow (new_buffer main_name ∷ []) opening_window
+opening-looks = record {
+  made = omega arith;
+  point = opening-shown;
+  anchor = opening-shown;
+  pending = refl;
+  hscroll = omega arith;
+  format = tt;
+  numbers = omega arith;
+  strings = omega arith;
+}
+
+opening-windows : (k : ℕ) (e : ℕ × WindowState) → slice_get ((0, opening_window) ∷ []) k ≡ Some e → IsWindow (new_buffer main_name ∷ []) e.1
+opening-windows zero e h =
+    let same : (0, opening_window) ≡ e = cc in
+    subst (λ (x : ℕ × WindowState). IsWindow (new_buffer main_name ∷ []) x.1) same opening-looks
+opening-windows (suc k) e h = absurd (cc)
+
+opening-leaf : (t : Bool) → (if t then Some (leaf_of opening_window) else None) ≡ option_map leaf_of (if t then Some opening_window else None)
+opening-leaf true = refl
+opening-leaf false = refl
+
+pub opening-valid : (laws : Laws) → IsValid opening
+opening-valid laws = record {
+  buffers = record {
+    few = omega arith;
+    told = main-apart;
+    names = only-main (λ b. IsTrue (is_buffer_name b.name)) main-named;
+    contents = only-main (λ b. IsContent nothing_made b.content) (new-valid nothing_made);
+  };
+  objects = laws.objects.sound_nothing;
+  closed = laws.objects.closed_nothing;
+  windows = record {
+    tree = laws.trees.opening 80 23 (omega arith) (omega arith) (omega arith) (omega arith);
+    leaves = λ number. opening-leaf (0 == number);
+    apart = (refl, tt);
+    each = opening-windows;
+    selected = refl;
+  };
+  frame = record { wide = omega arith; narrow = omega arith; high = omega arith; low = omega arith; columns = refl; rows = omega arith };
+  margin = omega arith;
+  conservatively = omega arith;
+  echo = refl;
+}
+
+-- ---- answers
+
+-- what a call that applies an op leaves is valid
+pub applied-valid : (result : Result Effect Refused) (op : Op) (old new : StateValue) → ((s t : StateValue) (op : Op) → IsValid s → IsInForm op → step s op ≡ Ok t → IsValid t) → IsValid old → IsInForm op
+    → Applies result op old new → IsValid new
+applied-valid (Ok effect) op old new law v form said = law old new op v form said.0
+applied-valid (Err refused) op old new law v form said = subst IsValid (sym said.0) v

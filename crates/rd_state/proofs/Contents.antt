@@ -1,0 +1,297 @@
+-- What a buffer holds stays valid through each edit of it, and what each edit is in the terms of properties and overlays.
+use Rattle.std.proofs.Common.{◌≡◌, ℕ, zero, suc, ◌+◌, ◌-◌, ◌<◌, ◌≤◌, ◌==◌, ◌&&◌, ◌++◌, ◌⊎◌, inl, inr, Bool, true, false, is_some, if◌then◌else◌, nat_lt, nat_le, ℤ, Option, None, Some, Result, Ok, Err, List, [], ◌∷◌, length, map, take, drop, set, get_or, replicate, subst, sym, ap, refl, ◌∙◌, arith, length-append, IsTrue}
+use Rattle.std.proofs.lemmas.Bool.{and_parts, leb-true, ltb-true, eqb-true, leb-false}
+use Rattle.std.proofs.lemmas.Bool.Decides.{nat_tests}
+use Rattle.std.proofs.lemmas.List.{length-set}
+use Rattle.std.proofs.lemmas.List.Elements.{All-append, All-take, All-drop, All-nil}
+use Rattle.std.specs.FinMap as finite
+use Rattle.std.specs.Prelude.{IfSome}
+use Rattle.rd_base.specs.Chars.{is_code}
+use Rattle.rd_base.specs.Settings.{SettingValues}
+use Rattle.rd_text.specs.Texts.{TextValue, IsText, IsAccessible, most_characters, inserted, deleted, narrowed, widened}
+use Rattle.rd_text.specs.Answers.{IsAccessibleRange, IsRangeOfAll}
+use Rattle.rd_overlays.specs.declared.overlay.Overlay.{Overlay}
+use Rattle.rd_overlays.specs.declared.overlay.Kind.{Kind}
+use Rattle.rd_overlays.specs.declared.overlay.Kind.TheVariants as kinds
+use Rattle.rd_overlays.specs.Overlays.{overlay_at, new_overlay, place_of, slot_grown, slot_shrunk, slot_changed, moved, dropped, given}
+use Rattle.rd_objects.specs.Sound.{AreCodes, Extends}
+use Rattle.rd_objects.specs.Things.{ObjectLists}
+use Rattle.rd_props.specs.Buffers as props
+use Rattle.rd_props.specs.Edits.{opened, closed, put_on, IsInsertion, IsDeletion, IsPut, HasOverlays}
+use Rattle.rd_props.specs.Made.{IsMade, SettingsMade, AreMade}
+use Rattle.rd_props.specs.Values.{value_of}
+use Rattle.rd_margins.specs.Marks as marks
+use Rattle.rd_script.specs.Forms.{is_text_kind}
+use Rattle.rd_state.specs.States.{ContentValue, new_content, seen, values_on, value_in}
+use Rattle.rd_state.specs.Valid.{IsOverlayIn, IsWithin, IsContent}
+use Rattle.rd_state.specs.Edits.{is_range_of_all, is_made, is_value_made, is_setting_made, marked, grown, shrunk, with_setting}
+use Rattle.rd_state.proofs.Below.{TextLaws, MadeLaws}
+use Rattle.rd_state.proofs.Opening.{chosen, passed}
+use Rattle.rd_state.proofs.Tables.{AreAlike, value-in-table}
+use Rattle.rd_state.proofs.Within.{grown-within, shrunk-within, same-within, made-within, put-within, moved-within}
+
+-- ---- values over another text
+
+-- values that lie in a text are those of their lists
+listed-alike : (b : props.BufferValue) → IsWithin b → AreAlike (value_in (values_on b.text b.properties)) b.properties
+listed-alike b within = value-in-table (length b.text.text) b.properties within.kinds within.first within.last
+
+-- a buffer with the lists of its values
+abbrev listed_values : props.BufferValue → props.BufferValue
+listed_values b = record b { properties = value_in (values_on b.text b.properties) }
+
+listed-within : (b : props.BufferValue) → IsWithin b → IsWithin (listed_values b)
+listed-within b within = same-within b (listed_values b) within refl (listed-alike b within) refl
+
+-- ---- insertion
+
+-- a buffer with its values as they are opened
+abbrev opened_values : ContentValue → ℕ → List ℕ → props.BufferValue
+opened_values c pos new = record {
+  text = inserted c.text pos new;
+  properties = opened (value_in c.properties) pos (length new);
+  overlays = map (slot_grown pos (length new)) c.overlays;
+  settings = marked (nat_lt 0 (length new)) c.settings;
+}
+
+opened-within : (c : ContentValue) (pos : ℕ) (new : List ℕ) → IsText c.text → IsWithin (seen c) → IsAccessible c.text pos → IsWithin (opened_values c pos new)
+opened-within c pos new text within at = grown-within (seen c) (opened_values c pos new) pos new text within at refl (λ kind p. refl) refl
+
+pub grown-is : (c : ContentValue) (pos : ℕ) (new : List ℕ) → IsText c.text → IsWithin (seen c) → IsAccessible c.text pos → IsInsertion (seen c) (seen (grown c pos new)) pos new
+grown-is c pos new text within at = record {
+  text = refl;
+  properties = listed-alike (opened_values c pos new) (opened-within c pos new text within at);
+  overlays = refl;
+}
+
+settings-kept : (o : ObjectLists) (s t : SettingValues) → t.table ≡ s.table → t.line_prefix ≡ s.line_prefix → t.wrap_prefix ≡ s.wrap_prefix → SettingsMade o s → SettingsMade o t
+settings-kept o s t a b d h = record {
+  table = subst (λ (x : Option ℕ). IfSome x (λ number. number < length o.tables)) (sym a) h.table;
+  line_prefix = subst (λ (x : Option ℕ). IfSome x (λ number. number < length o.strings)) (sym b) h.line_prefix;
+  wrap_prefix = subst (λ (x : Option ℕ). IfSome x (λ number. number < length o.strings)) (sym d) h.wrap_prefix;
+}
+
+pub grown-valid : (texts : TextLaws) (made : MadeLaws) (o : ObjectLists) (c : ContentValue) (pos : ℕ) (new : List ℕ) → IsContent o c → AreCodes new → IsAccessible c.text pos
+    → length c.text.text + length new ≤ most_characters → IsContent o (grown c pos new)
+grown-valid texts made o c pos new v codes at room =
+    let code = λ (x : ℕ). IsTrue (is_code x) in
+    record {
+      text = texts.inserted c.text pos new v.text at room;
+      characters = All-append code (take (pos - 1) c.text.text ++ new) (drop (pos - 1) c.text.text)
+          (All-append code (take (pos - 1) c.text.text) new (All-take code (pos - 1) c.text.text v.characters) codes) (All-drop code (pos - 1) c.text.text v.characters);
+      within = listed-within (opened_values c pos new) (opened-within c pos new v.text v.within at);
+      least_tab = v.least_tab;
+      most_tab = v.most_tab;
+      names = made.inserted (seen c) (seen (grown c pos new)) o pos new v.names (settings-kept o c.settings (marked (nat_lt 0 (length new)) c.settings) refl refl refl v.names.settings)
+          (grown-is c pos new v.text v.within at);
+      marks = v.marks;
+    }
+
+-- ---- deletion
+
+abbrev closed_values : ContentValue → ℕ → ℕ → props.BufferValue
+closed_values c from to = record {
+  text = deleted c.text from to;
+  properties = closed (value_in c.properties) from to;
+  overlays = map (slot_shrunk from to) c.overlays;
+  settings = marked (nat_lt from to) c.settings;
+}
+
+closed-within : (c : ContentValue) (from to : ℕ) → IsText c.text → IsWithin (seen c) → IsAccessibleRange c.text from to → IsWithin (closed_values c from to)
+closed-within c from to text within at = shrunk-within (seen c) (closed_values c from to) from to text within at refl (λ kind p. refl) refl
+
+pub shrunk-is : (c : ContentValue) (from to : ℕ) → IsText c.text → IsWithin (seen c) → IsAccessibleRange c.text from to → IsDeletion (seen c) (seen (shrunk c from to)) from to
+shrunk-is c from to text within at = record {
+  text = refl;
+  properties = listed-alike (closed_values c from to) (closed-within c from to text within at);
+  overlays = refl;
+}
+
+pub shrunk-valid : (texts : TextLaws) (made : MadeLaws) (o : ObjectLists) (c : ContentValue) (from to : ℕ) → IsContent o c → IsAccessibleRange c.text from to → IsContent o (shrunk c from to)
+shrunk-valid texts made o c from to v at =
+    let code = λ (x : ℕ). IsTrue (is_code x) in
+    record {
+      text = texts.deleted c.text from to v.text at;
+      characters = All-append code (take (from - 1) c.text.text) (drop (to - 1) c.text.text) (All-take code (from - 1) c.text.text v.characters) (All-drop code (to - 1) c.text.text v.characters);
+      within = listed-within (closed_values c from to) (closed-within c from to v.text v.within at);
+      least_tab = v.least_tab;
+      most_tab = v.most_tab;
+      names = made.deleted (seen c) (seen (shrunk c from to)) o from to v.names (settings-kept o c.settings (marked (nat_lt from to) c.settings) refl refl refl v.names.settings)
+          (shrunk-is c from to v.text v.within at);
+      marks = v.marks;
+    }
+
+-- ---- the accessible range
+
+range-valid : (o : ObjectLists) (c : ContentValue) (t : TextValue) → IsContent o c → IsText t → t.text ≡ c.text.text → IsContent o (record c { text = t })
+range-valid o c t v text same = record {
+  text = text;
+  characters = subst AreCodes (sym same) v.characters;
+  within = same-within (seen c) (seen (record c { text = t })) v.within same (λ kind p. refl) refl;
+  least_tab = v.least_tab;
+  most_tab = v.most_tab;
+  names = record { properties = v.names.properties; overlays = v.names.overlays; settings = v.names.settings };
+  marks = v.marks;
+}
+
+pub narrowed-valid : (texts : TextLaws) (o : ObjectLists) (c : ContentValue) (from to : ℕ) → IsContent o c → IsRangeOfAll c.text from to → IsContent o (record c { text = narrowed c.text from to })
+narrowed-valid texts o c from to v at = range-valid o c (narrowed c.text from to) v (texts.narrowed c.text from to v.text at) refl
+
+pub widened-valid : (texts : TextLaws) (o : ObjectLists) (c : ContentValue) → IsContent o c → IsContent o (record c { text = widened c.text })
+widened-valid texts o c v = range-valid o c (widened c.text) v (texts.widened c.text v.text) refl
+
+-- ---- properties
+
+text-place : (kind : Kind) → is_text_kind kind ≡ true → place_of kind < 5
+text-place kinds.Face h = omega arith
+text-place kinds.Display h = omega arith
+text-place kinds.Invisible h = omega arith
+text-place kinds.LinePrefix h = omega arith
+text-place kinds.WrapPrefix h = omega arith
+text-place kinds.Before h = absurd (cc)
+text-place kinds.After h = absurd (cc)
+
+abbrev put_values : ContentValue → ℕ → ℕ → Kind → Option ℕ → props.BufferValue
+put_values c from to kind value = record (seen c) { properties = put_on (value_in c.properties) kind from to value }
+
+-- where a value on a range came from
+put-came : (t u w : Bool) (a : Option ℕ) (value : Option ℕ) (v : ℕ) → (if t && (u && w) then value else a) ≡ Some v → ((t ≡ true) × (u ≡ true) × (w ≡ true)) ⊎ (a ≡ Some v)
+put-came true true true a value v h = inl (refl, refl, refl)
+put-came true true false a value v h = inr h
+put-came true false w a value v h = inr h
+put-came false u w a value v h = inr h
+
+put-values-within : (c : ContentValue) (from to : ℕ) (kind : Kind) (value : Option ℕ) → IsText c.text → IsWithin (seen c) → is_text_kind kind ≡ true → IsAccessibleRange c.text from to
+    → IsWithin (put_values c from to kind value)
+put-values-within c from to kind value text within is at =
+    let first = text.first in
+    let last = text.last in
+    let low = at.first in
+    let high = at.last in
+    let came = λ (k p v : ℕ) (h : put_on (value_in c.properties) kind from to value k p ≡ Some v). put-came (k == place_of kind) (nat_le from p) (nat_lt p to) (value_in c.properties k p) value v h in
+    record {
+      kinds = λ k p v h. elim (came k p v h) [
+        | inl q ↦ subst (λ (x : ℕ). x < 5) (sym (eqb-true k (place_of kind) q.0)) (text-place kind is)
+        | inr q ↦ within.kinds k p v q
+      ];
+      first = λ k p v h. elim (came k p v h) [
+        | inl q ↦ let from_p = leb-true from p q.1 in omega arith
+        | inr q ↦ within.first k p v q
+      ];
+      last = λ k p v h. elim (came k p v h) [
+        | inl q ↦ let p_to = ltb-true p to q.2 in omega arith
+        | inr q ↦ within.last k p v q
+      ];
+      few = within.few;
+      overlays = within.overlays;
+    }
+
+-- a buffer with another property on a range
+abbrev pub with_property : ContentValue → ℕ → ℕ → Kind → Option ℕ → ContentValue
+with_property c from to kind value = record c { properties = values_on c.text (put_on (value_in c.properties) kind from to value) }
+
+pub put-is : (c : ContentValue) (from to : ℕ) (kind : Kind) (value : Option ℕ) → IsText c.text → IsWithin (seen c) → is_text_kind kind ≡ true → IsAccessibleRange c.text from to
+    → IsPut (seen c) (seen (with_property c from to kind value)) kind from to value
+put-is c from to kind value text within is at = record {
+  text = refl;
+  properties = listed-alike (put_values c from to kind value) (put-values-within c from to kind value text within is at);
+  overlays = refl;
+}
+
+made-number : (count : ℕ) (value : Option ℕ) (v : ℕ) → is_made count value ≡ true → value ≡ Some v → v < count
+made-number count None v h e = absurd (cc)
+made-number count (Some n) v h e = let same : n ≡ v = cc in subst (λ (x : ℕ). x < count) same (ltb-true n count h)
+
+pub value-made : (o : ObjectLists) (kind : Kind) (value : Option ℕ) → is_value_made o kind value ≡ true → (v : ℕ) → value ≡ Some v → IsMade o kind v
+value-made o kinds.Face value h v e = made-number (length o.faces) value v h e
+value-made o kinds.Display value h v e = made-number (length o.specs) value v h e
+value-made o kinds.Invisible value h v e = tt
+value-made o kinds.LinePrefix value h v e = made-number (length o.strings) value v h e
+value-made o kinds.WrapPrefix value h v e = made-number (length o.strings) value v h e
+value-made o kinds.Before value h v e = made-number (length o.strings) value v h e
+value-made o kinds.After value h v e = made-number (length o.strings) value v h e
+
+pub put-valid : (made : MadeLaws) (o : ObjectLists) (c : ContentValue) (from to : ℕ) (kind : Kind) (value : Option ℕ) → IsContent o c → is_text_kind kind ≡ true
+    → IsAccessibleRange c.text from to → is_value_made o kind value ≡ true → IsContent o (with_property c from to kind value)
+put-valid made o c from to kind value v is at numbered = record {
+  text = v.text;
+  characters = v.characters;
+  within = listed-within (put_values c from to kind value) (put-values-within c from to kind value v.text v.within is at);
+  least_tab = v.least_tab;
+  most_tab = v.most_tab;
+  names = made.put (seen c) (seen (with_property c from to kind value)) o kind from to value v.names v.names.settings (value-made o kind value numbered) (put-is c from to kind value v.text v.within is at);
+  marks = v.marks;
+}
+
+-- ---- overlays
+
+not-behind : (from to : ℕ) → from ≤ to → nat_lt to from ≡ false
+not-behind from to h = grind (arith, nat_tests)
+
+-- a buffer with other overlays
+abbrev pub with_overlays : ContentValue → List (Option Overlay) → ContentValue
+with_overlays c overlays = record c { overlays = overlays }
+
+pub overlays-are : (c : ContentValue) (overlays : List (Option Overlay)) → HasOverlays (seen c) (seen (with_overlays c overlays)) overlays
+overlays-are c overlays = record { text = refl; properties = λ kind p. refl; overlays = refl }
+
+overlays-valid : (o : ObjectLists) (c : ContentValue) (overlays : List (Option Overlay)) → IsContent o c → IsWithin (seen (with_overlays c overlays)) → AreMade (seen (with_overlays c overlays)) o
+    → IsContent o (with_overlays c overlays)
+overlays-valid o c overlays v within names = record {
+  text = v.text;
+  characters = v.characters;
+  within = within;
+  least_tab = v.least_tab;
+  most_tab = v.most_tab;
+  names = names;
+  marks = v.marks;
+}
+
+no-value : (kind : Kind) (from to : ℕ) (priority : ℤ) (front rear : Bool) (v : ℕ) → value_of kind (Some (new_overlay from to priority front rear)) ≡ Some v → ⊥
+no-value kinds.Face from to priority front rear v h = cc
+no-value kinds.Display from to priority front rear v h = cc
+no-value kinds.Invisible from to priority front rear v h = cc
+no-value kinds.LinePrefix from to priority front rear v h = cc
+no-value kinds.WrapPrefix from to priority front rear v h = cc
+no-value kinds.Before from to priority front rear v h = cc
+no-value kinds.After from to priority front rear v h = cc
+
+pub made-valid : (made : MadeLaws) (o : ObjectLists) (c : ContentValue) (from to : ℕ) (priority : ℤ) (front rear : Bool) → IsContent o c → is_range_of_all c.text from to ≡ true
+    → IsRangeOfAll c.text from to → nat_le 65536 (length c.overlays) ≡ false → IsContent o (with_overlays c (c.overlays ++ Some (new_overlay from to priority front rear) ∷ []))
+made-valid made o c from to priority front rear v test range room =
+    let overlay = new_overlay from to priority front rear in
+    let all = c.overlays ++ Some overlay ∷ [] in
+    let ordered = range.ordered in
+    let none = passed (nat_lt to from) _ _ (not-behind from to ordered) ∙ passed (nat_le 65536 (length c.overlays)) _ _ room in
+    overlays-valid o c all v (made-within (seen c) all c.settings from to overlay v.within test none refl refl refl)
+    (made.made (seen c) (seen (with_overlays c all)) o overlay v.names v.names.settings (λ kind x h. absurd (no-value kind from to priority front rear x h)) (overlays-are c all))
+
+pub moved-valid : (made : MadeLaws) (o : ObjectLists) (c : ContentValue) (number from to : ℕ) → IsContent o c → is_range_of_all c.text from to ≡ true
+    → IsContent o (with_overlays c (moved c.overlays number from to))
+moved-valid made o c number from to v test =
+    let all = moved c.overlays number from to in
+    overlays-valid o c all v (moved-within (seen c) all c.settings number from to v.within test refl)
+    (made.moved (seen c) (seen (with_overlays c all)) o number from to v.names v.names.settings (overlays-are c all))
+
+pub dropped-valid : (made : MadeLaws) (o : ObjectLists) (c : ContentValue) (number : ℕ) → IsContent o c → IsContent o (with_overlays c (dropped c.overlays number))
+dropped-valid made o c number v =
+    let all = dropped c.overlays number in
+    overlays-valid o c all v (put-within (seen c) all c.settings number None v.within (λ p h. absurd (cc)) refl)
+    (made.dropped (seen c) (seen (with_overlays c all)) o number v.names v.names.settings (overlays-are c all))
+
+given-in : (size : ℕ) (kind : Kind) (value : Option ℕ) (slot : Option Overlay) (p : Overlay) → ((q : Overlay) → slot ≡ Some q → IsOverlayIn size q)
+    → slot_changed (λ overlay. record overlay { values = set overlay.values (place_of kind) value }) slot ≡ Some p → IsOverlayIn size p
+given-in size kind value None p old h = absurd (cc)
+given-in size kind value (Some q) p old h =
+    let same : record q { values = set q.values (place_of kind) value } ≡ p = cc in
+    let is = old q refl in
+    subst (IsOverlayIn size) same (record { first = is.first; ordered = is.ordered; last = is.last })
+
+pub given-valid : (made : MadeLaws) (o : ObjectLists) (c : ContentValue) (number : ℕ) (kind : Kind) (value : Option ℕ) → IsContent o c → is_value_made o kind value ≡ true
+    → IsContent o (with_overlays c (given c.overlays number kind value))
+given-valid made o c number kind value v numbered =
+    let all = given c.overlays number kind value in
+    let slot = slot_changed (λ overlay. record overlay { values = set overlay.values (place_of kind) value }) (overlay_at c.overlays number) in
+    overlays-valid o c all v
+    (put-within (seen c) all c.settings number slot v.within (λ p h. given-in (length c.text.text) kind value (overlay_at c.overlays number) p (λ q e. v.within.overlays number q e) h) refl)
+    (made.given (seen c) (seen (with_overlays c all)) o number kind value v.names v.names.settings (value-made o kind value numbered) (overlays-are c all))

@@ -1,0 +1,302 @@
+-- What a window tree says of its windows, and how it changes.
+use Rattle.std.proofs.Common.{◌≡◌, ◌≢◌, ℕ, zero, suc, ◌+◌, ◌<◌, ◌≤◌, ◌==◌, ◌||◌, Bool, true, false, is_some, if◌then◌else◌, Option, None, Some, List, [], ◌∷◌, ◌++◌, subst, sym, ap, refl, ◌∙◌, arith}
+use Rattle.std.proofs.lemmas.Bool.{cases_eq, eqb-true}
+use Rattle.std.specs.Prelude.{option_map}
+use Rattle.std.specs.Option.{option_or}
+use Rattle.rd_tree.specs.declared.placed.Placed.{Placed}
+use Rattle.rd_tree.specs.declared.rect.Rect.{Rect}
+use Rattle.rd_tree.specs.declared.side.Side.{Side}
+use Rattle.rd_tree.specs.Windows.{Windows, Window, Split, first_part, second_part, first_size, placed, of_number, window_at, holds, resized, replaced, halves, split_at, with_mode, with_margins, is_window, is_single, sibling, removed, first_leaf, times}
+use Rattle.rd_state.specs.Windows.{leaf_at}
+use Rattle.rd_state.proofs.Opening.{chosen, passed}
+use Rattle.rd_state.proofs.ByNumber.{eq-true, eq-false}
+
+abbrev pub Leaf : Type 0
+Leaf = Bool × ℕ
+
+-- ---- options
+
+or-none : {X : Type 0} (o : Option X) → option_or o None ≡ o
+or-none None = refl
+or-none (Some x) = refl
+
+map-same : {X : Type 0} (o : Option X) → option_map (λ x. x) o ≡ o
+map-same None = refl
+map-same (Some x) = refl
+
+is_some-or : {X : Type 0} (o p : Option X) → is_some (option_or o p) ≡ (is_some o || is_some p)
+is_some-or None p = refl
+is_some-or (Some x) p = refl
+
+is_some-if : {X : Type 0} (t : Bool) (x : X) → is_some (if t then Some x else None) ≡ t
+is_some-if true x = refl
+is_some-if false x = refl
+
+pub none-if : {X : Type 0} (o : Option X) → is_some o ≡ false → o ≡ None
+none-if None h = refl
+none-if (Some x) h = absurd (cc)
+
+or-some : {X : Type 0} (o p : Option X) → is_some o ≡ true → option_or o p ≡ o
+or-some None p h = absurd (cc)
+or-some (Some x) p h = refl
+
+map-or-some : {X Y : Type 0} (f : X → Y) (o p : Option X) (q : Option Y) → is_some o ≡ true → option_or (option_map f o) q ≡ option_map f (option_or o p)
+map-or-some f None p q h = absurd (cc)
+map-or-some f (Some x) p q h = refl
+
+none-both : {X : Type 0} (o p : Option X) → option_or o p ≡ None → (o ≡ None) × (p ≡ None)
+none-both None p h = (refl, h)
+none-both (Some x) p h = absurd (cc)
+
+count-none : (t : Bool) → ◌≡◌ {A = ℕ} (if t then 1 else 0) 0 → t ≡ false
+count-none true h = absurd (omega arith)
+count-none false h = refl
+
+count-one : (t : Bool) → t ≡ true → 1 ≤ (if t then 1 else 0)
+count-one true h = omega arith
+count-one false h = absurd (cc)
+
+held-or : (a b : Bool) (m n : ℕ) → (a || b) ≡ true → (a ≡ true → 1 ≤ m) → (b ≡ true → 1 ≤ n) → 1 ≤ m + n
+held-or true b m n h f g = omega (arith, f refl)
+held-or false true m n h f g = omega (arith, g refl)
+held-or false false m n h f g = absurd (cc)
+
+-- ---- finding
+
+pub is_some-leaf : (n : ℕ) (ws : Windows) → is_some (leaf_at n ws) ≡ holds n ws
+is_some-leaf n (Window m mode margins) = is_some-if (m == n) (mode, margins)
+is_some-leaf n (Split side size first second) =
+    is_some-or (leaf_at n first) (leaf_at n second)
+    ∙ (ap (λ (t : Bool). t || is_some (leaf_at n second)) (is_some-leaf n first) ∙ ap (λ (t : Bool). holds n first || t) (is_some-leaf n second))
+
+pub leaf-none : (n : ℕ) (ws : Windows) → holds n ws ≡ false → leaf_at n ws ≡ None
+leaf-none n ws h = none-if (leaf_at n ws) (is_some-leaf n ws ∙ h)
+
+leaf-some : (n : ℕ) (ws : Windows) → holds n ws ≡ true → is_some (leaf_at n ws) ≡ true
+leaf-some n ws h = is_some-leaf n ws ∙ h
+
+leaf-past : (n m : ℕ) (mode : Bool) (margins : ℕ) → m ≢ n → leaf_at n (Window m mode margins) ≡ None
+leaf-past n m mode margins h = passed (m == n) (Some (mode, margins)) None (eq-false m n h)
+
+leaf-here : (n m : ℕ) (mode : Bool) (margins : ℕ) → m ≡ n → leaf_at n (Window m mode margins) ≡ Some (mode, margins)
+leaf-here n m mode margins h = chosen (m == n) (Some (mode, margins)) None (eq-true m n h)
+
+or-first : (n : ℕ) (first second : Windows) → holds n first ≡ true → option_or (leaf_at n first) (leaf_at n second) ≡ leaf_at n first
+or-first n first second h = or-some (leaf_at n first) (leaf_at n second) (leaf-some n first h)
+
+or-second : (n : ℕ) (first second : Windows) → holds n first ≡ false → option_or (leaf_at n first) (leaf_at n second) ≡ leaf_at n second
+or-second n first second h = ap (λ (o : Option Leaf). option_or o (leaf_at n second)) (leaf-none n first h)
+
+-- the windows of one of two trees
+either-leaf : (k : ℕ) (t : Bool) (a b : Windows) (x : Option Leaf) → (t ≡ true → leaf_at k a ≡ x) → (t ≡ false → leaf_at k b ≡ x) → leaf_at k (if t then a else b) ≡ x
+either-leaf k true a b x h g = h refl
+either-leaf k false a b x h g = g refl
+
+-- ---- what is placed
+
+abbrev facts : Placed → Leaf
+facts p = (p.mode, p.margins)
+
+front-or : (t : Bool) (x : Placed) (a b c : Option Placed) → c ≡ option_or a b → (if t then Some x else c) ≡ option_or (if t then Some x else a) b
+front-or true x a b c h = refl
+front-or false x a b c h = h
+
+of_number-append : (n : ℕ) (xs ys : List Placed) → of_number n (xs ++ ys) ≡ option_or (of_number n xs) (of_number n ys)
+of_number-append n [] ys = refl
+of_number-append n (x ∷ xs) ys = front-or (x.number == n) x (of_number n xs) (of_number n ys) (of_number n (xs ++ ys)) (of_number-append n xs ys)
+
+map-or : {X Y : Type 0} (f : X → Y) (o p : Option X) → option_map f (option_or o p) ≡ option_or (option_map f o) (option_map f p)
+map-or f None p = refl
+map-or f (Some x) p = refl
+
+map-if : (t : Bool) (x : Placed) → option_map facts (if t then Some x else None) ≡ (if t then Some (facts x) else None)
+map-if true x = refl
+map-if false x = refl
+
+leaf-placed : (n : ℕ) (ws : Windows) (rect : Rect) → option_map facts (of_number n (placed ws rect)) ≡ leaf_at n ws
+leaf-placed n (Window m mode margins) rect = map-if (m == n) (record { number = m; mode = mode; margins = margins; rect = rect })
+leaf-placed n (Split side size first second) rect =
+    let a = placed first (first_part side size rect) in
+    let b = placed second (second_part side size rect) in
+    ap (option_map facts) (of_number-append n a b)
+    ∙ (map-or facts (of_number n a) (of_number n b)
+    ∙ (ap (λ (o : Option Leaf). option_or o (option_map facts (of_number n b))) (leaf-placed n first (first_part side size rect))
+    ∙ ap (option_or (leaf_at n first)) (leaf-placed n second (second_part side size rect))))
+
+pub placed-leaf : (n : ℕ) (ws : Windows) (rect : Rect) (p : Placed) → window_at n ws rect ≡ Some p → leaf_at n ws ≡ Some (p.mode, p.margins)
+placed-leaf n ws rect p h = sym (leaf-placed n ws rect) ∙ ap (option_map facts) h
+
+-- ---- sharing anew
+
+pub leaf-resized : (n : ℕ) (ws : Windows) (rect : Rect) → leaf_at n (resized ws rect) ≡ leaf_at n ws
+leaf-resized n (Window m mode margins) rect = refl
+leaf-resized n (Split side size first second) rect =
+    let new = first_size side size second rect in
+    ap (λ (o : Option Leaf). option_or o (leaf_at n (resized second (second_part side new rect)))) (leaf-resized n first (first_part side new rect))
+    ∙ ap (option_or (leaf_at n first)) (leaf-resized n second (second_part side new rect))
+
+-- ---- something else in place of a window
+
+pub leaf-other : (n k : ℕ) (other : Bool → ℕ → Windows) (ws : Windows) → k ≢ n → ((mode : Bool) (margins : ℕ) → leaf_at k (other mode margins) ≡ None)
+    → leaf_at k (replaced n other ws) ≡ leaf_at k ws
+leaf-other n k other (Window m mode margins) ne none = either-leaf k (m == n) (other mode margins) (Window m mode margins) (leaf_at k (Window m mode margins))
+    (λ h. none mode margins ∙ sym (leaf-past k m mode margins (λ p. ne (sym p ∙ eqb-true m n h)))) (λ h. refl)
+leaf-other n k other (Split side size first second) ne none =
+    either-leaf k (holds n first) (Split side size (replaced n other first) second) (Split side size first (replaced n other second))
+    (option_or (leaf_at k first) (leaf_at k second))
+    (λ h. ap (λ (o : Option Leaf). option_or o (leaf_at k second)) (leaf-other n k other first ne none))
+    (λ h. ap (option_or (leaf_at k first)) (leaf-other n k other second ne none))
+
+pub leaf-same : (n : ℕ) (other : Bool → ℕ → Windows) (g : Leaf → Leaf) (ws : Windows) → ((mode : Bool) (margins : ℕ) → leaf_at n (other mode margins) ≡ Some (g (mode, margins)))
+    → leaf_at n (replaced n other ws) ≡ option_map g (leaf_at n ws)
+leaf-same n other g (Window m mode margins) gives = either-leaf n (m == n) (other mode margins) (Window m mode margins) (option_map g (leaf_at n (Window m mode margins)))
+    (λ h. gives mode margins ∙ sym (ap (option_map g) (leaf-here n m mode margins (eqb-true m n h))))
+    (λ h. let past = passed (m == n) (Some (mode, margins)) None h in past ∙ sym (ap (option_map g) past))
+leaf-same n other g (Split side size first second) gives =
+    either-leaf n (holds n first) (Split side size (replaced n other first) second) (Split side size first (replaced n other second))
+    (option_map g (option_or (leaf_at n first) (leaf_at n second)))
+    (λ h. ap (λ (o : Option Leaf). option_or o (leaf_at n second)) (leaf-same n other g first gives)
+    ∙ map-or-some g (leaf_at n first) (leaf_at n second) (leaf_at n second) (leaf-some n first h))
+    (λ h. ap (option_or (leaf_at n first)) (leaf-same n other g second gives)
+    ∙ (ap (λ (o : Option Leaf). option_or o (option_map g (leaf_at n second))) (leaf-none n first h)
+    ∙ sym (ap (option_map g) (or-second n first second h))))
+
+-- ---- splits
+
+no-half : (n k : ℕ) (side : Side) (size new : ℕ) (mode : Bool) (margins : ℕ) → k ≢ n → k ≢ new → leaf_at k (halves n side size new mode margins) ≡ None
+no-half n k side size new mode margins ne far =
+    ap (λ (o : Option Leaf). option_or o (leaf_at k (Window new mode margins))) (leaf-past k n mode margins (λ p. ne (sym p))) ∙ leaf-past k new mode margins (λ p. far (sym p))
+
+pub split-other : (n k : ℕ) (side : Side) (size new : ℕ) (ws : Windows) → k ≢ n → k ≢ new → leaf_at k (split_at n side size new ws) ≡ leaf_at k ws
+split-other n k side size new ws ne far = leaf-other n k (halves n side size new) ws ne (λ mode margins. no-half n k side size new mode margins ne far)
+
+pub split-same : (n : ℕ) (side : Side) (size new : ℕ) (ws : Windows) → leaf_at n (split_at n side size new ws) ≡ leaf_at n ws
+split-same n side size new ws =
+    leaf-same n (halves n side size new) (λ x. x) ws
+    (λ mode margins. ap (λ (o : Option Leaf). option_or o (leaf_at n (Window new mode margins))) (leaf-here n n mode margins refl))
+    ∙ map-same (leaf_at n ws)
+
+new-half : (n : ℕ) (side : Side) (size new : ℕ) (mode : Bool) (margins : ℕ) → n ≢ new → leaf_at new (halves n side size new mode margins) ≡ Some (mode, margins)
+new-half n side size new mode margins ne =
+    ap (λ (o : Option Leaf). option_or o (leaf_at new (Window new mode margins))) (leaf-past new n mode margins ne) ∙ leaf-here new new mode margins refl
+
+pub split-new : (n : ℕ) (side : Side) (size new : ℕ) (ws : Windows) → n ≢ new → leaf_at new ws ≡ None → leaf_at new (split_at n side size new ws) ≡ leaf_at n ws
+split-new n side size new (Window m mode margins) ne none =
+    either-leaf new (m == n) (halves n side size new mode margins) (Window m mode margins) (leaf_at n (Window m mode margins))
+    (λ h. new-half n side size new mode margins ne ∙ sym (leaf-here n m mode margins (eqb-true m n h)))
+    (λ h. none ∙ sym (passed (m == n) (Some (mode, margins)) None h))
+split-new n side size new (Split s z first second) ne none =
+    let parts = none-both (leaf_at new first) (leaf_at new second) none in
+    either-leaf new (holds n first) (Split s z (split_at n side size new first) second) (Split s z first (split_at n side size new second))
+    (option_or (leaf_at n first) (leaf_at n second))
+    (λ h. ap (λ (o : Option Leaf). option_or o (leaf_at new second)) (split-new n side size new first ne parts.0)
+    ∙ (ap (option_or (leaf_at n first)) parts.1 ∙ (or-none (leaf_at n first) ∙ sym (or-first n first second h))))
+    (λ h. ap (option_or (leaf_at new first)) (split-new n side size new second ne parts.1)
+    ∙ (ap (λ (o : Option Leaf). option_or o (leaf_at n second)) parts.0 ∙ sym (or-second n first second h)))
+
+-- ---- removals
+
+pub leaf-times : (n : ℕ) (ws : Windows) → times n ws ≡ 0 → holds n ws ≡ false
+leaf-times n (Window m mode margins) h = count-none (m == n) h
+leaf-times n (Split side size first second) h =
+    ap (λ (t : Bool). t || holds n second) (leaf-times n first (omega arith)) ∙ leaf-times n second (omega arith)
+
+once-held : (n : ℕ) (ws : Windows) → holds n ws ≡ true → 1 ≤ times n ws
+once-held n (Window m mode margins) h = count-one (m == n) h
+once-held n (Split side size first second) h = held-or (holds n first) (holds n second) (times n first) (times n second) h (once-held n first) (once-held n second)
+
+-- one window alone, by its number
+alone : (n : ℕ) (ws : Windows) → is_window n ws ≡ true → holds n ws ≡ true
+alone n (Window m mode margins) h = h
+alone n (Split side size first second) h = absurd (cc)
+
+alone-other : (n k : ℕ) (ws : Windows) → is_window n ws ≡ true → k ≢ n → leaf_at k ws ≡ None
+alone-other n k (Window m mode margins) h ne = leaf-past k m mode margins (λ p. ne (sym p ∙ eqb-true m n h))
+alone-other n k (Split side size first second) h ne = absurd (cc)
+
+not-alone : (n : ℕ) (ws : Windows) → is_window n ws ≡ false → holds n ws ≡ true → is_single ws ≡ false
+not-alone n (Window m mode margins) h g = absurd (cc)
+not-alone n (Split side size first second) h g = refl
+
+pub removed-other : (n k : ℕ) (ws : Windows) (rect : Rect) → k ≢ n → leaf_at k (removed n ws rect) ≡ leaf_at k ws
+removed-other n k (Window m mode margins) rect ne = refl
+removed-other n k (Split side size first second) rect ne =
+    let whole = option_or (leaf_at k first) (leaf_at k second) in
+    let in_first = Split side size (removed n first (first_part side size rect)) second in
+    let in_second = Split side size first (removed n second (second_part side size rect)) in
+    let inner = if holds n first then in_first else in_second in
+    let outer = if is_window n second then resized first rect else inner in
+    either-leaf k (is_window n first) (resized second rect) outer whole
+    (λ h. leaf-resized k second rect ∙ sym (ap (λ (o : Option Leaf). option_or o (leaf_at k second)) (alone-other n k first h ne)))
+    (λ h. either-leaf k (is_window n second) (resized first rect) inner whole
+    (λ g. leaf-resized k first rect ∙ (sym (or-none (leaf_at k first)) ∙ sym (ap (option_or (leaf_at k first)) (alone-other n k second g ne))))
+    (λ g. either-leaf k (holds n first) in_first in_second whole
+    (λ f. ap (λ (o : Option Leaf). option_or o (leaf_at k second)) (removed-other n k first (first_part side size rect) ne))
+    (λ f. ap (option_or (leaf_at k first)) (removed-other n k second (second_part side size rect) ne))))
+
+held-second : (a b : Bool) → (a || b) ≡ true → a ≡ false → b ≡ true
+held-second true b h g = absurd (cc)
+held-second false b h g = h
+
+pub removed-same : (n : ℕ) (ws : Windows) (rect : Rect) → times n ws ≤ 1 → holds n ws ≡ true → is_single ws ≡ false → leaf_at n (removed n ws rect) ≡ None
+removed-same n (Window m mode margins) rect once held many = absurd (cc)
+removed-same n (Split side size first second) rect once held many =
+    let in_first = Split side size (removed n first (first_part side size rect)) second in
+    let in_second = Split side size first (removed n second (second_part side size rect)) in
+    let inner = if holds n first then in_first else in_second in
+    let outer = if is_window n second then resized first rect else inner in
+    let not_second : holds n first ≡ true → leaf_at n second ≡ None = λ f. leaf-none n second (leaf-times n second (omega (arith, once-held n first f))) in
+    let not_first : holds n second ≡ true → leaf_at n first ≡ None = λ f. leaf-none n first (leaf-times n first (omega (arith, once-held n second f))) in
+    either-leaf n (is_window n first) (resized second rect) outer None
+    (λ h. leaf-resized n second rect ∙ not_second (alone n first h))
+    (λ h. either-leaf n (is_window n second) (resized first rect) inner None
+    (λ g. leaf-resized n first rect ∙ not_first (alone n second g))
+    (λ g. either-leaf n (holds n first) in_first in_second None
+    (λ f. ap (λ (o : Option Leaf). option_or o (leaf_at n second)) (removed-same n first (first_part side size rect) (omega arith) f (not-alone n first h f)) ∙ not_second f)
+    (λ f.
+    let other = held-second (holds n first) (holds n second) held f in
+    ap (λ (o : Option Leaf). option_or o (leaf_at n (removed n second (second_part side size rect)))) (not_first other)
+    ∙ removed-same n second (second_part side size rect) (omega arith) other (not-alone n second g other))))
+
+-- ---- the heir
+
+first-held : (ws : Windows) → is_some (leaf_at (first_leaf ws) ws) ≡ true
+first-held (Window m mode margins) = ap (λ (o : Option Leaf). is_some o) (leaf-here m m mode margins refl)
+first-held (Split side size first second) =
+    ap (λ (o : Option Leaf). is_some o) (or-some (leaf_at (first_leaf first) first) (leaf_at (first_leaf first) second) (first-held first)) ∙ first-held first
+
+resized-held : (ws : Windows) (rect : Rect) → is_some (leaf_at (first_leaf ws) (resized ws rect)) ≡ true
+resized-held ws rect = ap (λ (o : Option Leaf). is_some o) (leaf-resized (first_leaf ws) ws rect) ∙ first-held ws
+
+or-held : (o p : Option Leaf) → is_some p ≡ true → is_some (option_or o p) ≡ true
+or-held None p h = h
+or-held (Some x) p h = refl
+
+held-or-first : (o p : Option Leaf) → is_some o ≡ true → is_some (option_or o p) ≡ true
+held-or-first None p h = absurd (cc)
+held-or-first (Some x) p h = refl
+
+heir-by : (t : Bool) (a b : Windows) (x y : Windows) → (t ≡ true → is_some (leaf_at (first_leaf x) a) ≡ true) → (t ≡ false → is_some (leaf_at (first_leaf y) b) ≡ true)
+    → is_some (leaf_at (first_leaf (if t then x else y)) (if t then a else b)) ≡ true
+heir-by true a b x y h g = h refl
+heir-by false a b x y h g = g refl
+
+pub heir-held : (n : ℕ) (ws : Windows) (rect : Rect) → holds n ws ≡ true → is_single ws ≡ false → is_some (leaf_at (first_leaf (sibling n ws)) (removed n ws rect)) ≡ true
+heir-held n (Window m mode margins) rect held many = absurd (cc)
+heir-held n (Split side size first second) rect held many =
+    let in_first = Split side size (removed n first (first_part side size rect)) second in
+    let in_second = Split side size first (removed n second (second_part side size rect)) in
+    let inner = if holds n first then in_first else in_second in
+    let outer = if is_window n second then resized first rect else inner in
+    let far = if holds n first then sibling n first else sibling n second in
+    heir-by (is_window n first) (resized second rect) outer second (if is_window n second then first else far)
+    (λ h. resized-held second rect)
+    (λ h. heir-by (is_window n second) (resized first rect) inner first far
+    (λ g. resized-held first rect)
+    (λ g. heir-by (holds n first) in_first in_second (sibling n first) (sibling n second)
+    (λ f. held-or-first (leaf_at (first_leaf (sibling n first)) (removed n first (first_part side size rect))) (leaf_at (first_leaf (sibling n first)) second)
+    (heir-held n first (first_part side size rect) f (not-alone n first h f)))
+    (λ f.
+    let other = held-second (holds n first) (holds n second) held f in
+    or-held (leaf_at (first_leaf (sibling n second)) first) (leaf_at (first_leaf (sibling n second)) (removed n second (second_part side size rect)))
+    (heir-held n second (second_part side size rect) other (not-alone n second g other)))))

@@ -1,0 +1,255 @@
+-- A step leads from a valid state to a valid one: settings, margin strings, objects and new buffers.
+use Rattle.std.proofs.Common.{◌≡◌, ℕ, zero, suc, ◌+◌, ◌<◌, ◌≤◌, Bool, true, false, is_some, cond, if◌then◌else◌, nat_lt, nat_le, Option, None, Some, Result, Ok, Err, List, [], ◌∷◌, ◌++◌, length, map, subst, sym, ap, refl, ◌∙◌, arith, length-append, IsTrue}
+use Rattle.std.proofs.lemmas.Bool.{ltb-true, ltb-false, leb-false}
+use Rattle.std.proofs.lemmas.List.Elements.{All-nil}
+use Rattle.std.specs.Cmp.{nat_cmp_total}
+use Rattle.std.specs.FinMap as finite
+use Rattle.std.specs.FinMap.{get, get-insert, get-remove, get-empty}
+use Rattle.std.specs.Ordering.{nat_cmp, eq_by_cmp}
+use Rattle.std.specs.Prelude.{IfSome, slice_get}
+use Rattle.rd_base.specs.Cells.{HasColours}
+use Rattle.rd_base.specs.Chars.{is_code}
+use Rattle.rd_base.specs.Faces.{Attributes}
+use Rattle.rd_base.specs.Settings.{SettingValues}
+use Rattle.rd_base.specs.declared.limits.TheConstants.{FACES, TABLES}
+use Rattle.rd_text.specs.Texts.{IsText, no_text}
+use Rattle.rd_overlays.specs.Overlays.{overlay_at, place_of}
+use Rattle.rd_objects.specs.Sound.{AreCodes, AreObjects, IsClosed, Extends, GoesOn}
+use Rattle.rd_objects.specs.Tables.{TableValue, IsTable}
+use Rattle.rd_objects.specs.Things.{ObjectLists, string_fault, spec_fault, full_fault, string_added, spec_added, face_added, table_added, IsSmallSpec}
+use Rattle.rd_objects.specs.declared.fault.ObjectFault.{ObjectFault}
+use Rattle.rd_props.specs.Buffers as props
+use Rattle.rd_props.specs.Made.{SettingsMade, AreMade}
+use Rattle.rd_margins.specs.Marks.{MarkValues, marked}
+use Rattle.rd_script.specs.Forms.{IsSettingInForm, IsSpecInForm, is_buffer_name}
+use Rattle.rd_script.specs.declared.object.OpRun.{OpRun}
+use Rattle.rd_script.specs.declared.object.OpSpec.{OpSpec}
+use Rattle.rd_script.specs.declared.object.OpSpec.TheVariants as specs
+use Rattle.rd_script.specs.declared.setting.Setting.{Setting}
+use Rattle.rd_script.specs.declared.setting.Setting.TheVariants as setting
+use Rattle.rd_state.specs.declared.refused.Refused.{Refused}
+use Rattle.rd_state.specs.declared.refused.Refused.TheVariants.{NoObject, NoOverlay, NameTaken, TooManyBuffers}
+use Rattle.rd_state.specs.States.{BufferValue, ContentValue, StateValue, seen, value_in, values_on, new_buffer, new_content, number_of}
+use Rattle.rd_state.specs.Valid.{most_buffers, AreBuffers, IsContent, IsValid}
+use Rattle.rd_state.specs.Edits.{is_made, is_setting_made, mark_putting, setting_putting, with_setting}
+use Rattle.rd_state.specs.Making.{unless_fault, run_of, spec_of, string_making, spec_making, face_making, table_making}
+use Rattle.rd_state.specs.Steps.{with_objects, making}
+use Rattle.rd_state.proofs.Below.{MadeLaws, ObjectLaws, GrowLaws}
+use Rattle.rd_state.proofs.ByNumber.{some-none}
+use Rattle.rd_state.proofs.Keeping.{buffers-appended, windows-appended}
+use Rattle.rd_state.proofs.Stepping.{Keeps, text-kept}
+use Rattle.rd_state.proofs.Tables.{nothing-within}
+use Rattle.rd_state.proofs.Tests.{if-ok, if-not}
+
+-- ---- settings
+
+number-made : (count : ℕ) (number : Option ℕ) → is_made count number ≡ true → IfSome number (λ n. n < count)
+number-made count None h = tt
+number-made count (Some n) h = ltb-true n count h
+
+with_settings-made : (o : ObjectLists) (value : Setting) (s : SettingValues) → is_setting_made o value ≡ true → SettingsMade o s → SettingsMade o (with_setting value s)
+with_settings-made o (setting.TabWidth n) s h v = record { table = v.table; line_prefix = v.line_prefix; wrap_prefix = v.wrap_prefix }
+with_settings-made o (setting.CtlArrow flag) s h v = record { table = v.table; line_prefix = v.line_prefix; wrap_prefix = v.wrap_prefix }
+with_settings-made o (setting.Direction direction) s h v = record { table = v.table; line_prefix = v.line_prefix; wrap_prefix = v.wrap_prefix }
+with_settings-made o (setting.Reorder flag) s h v = record { table = v.table; line_prefix = v.line_prefix; wrap_prefix = v.wrap_prefix }
+with_settings-made o (setting.Table number) s h v = record { table = number-made (length o.tables) number h; line_prefix = v.line_prefix; wrap_prefix = v.wrap_prefix }
+with_settings-made o (setting.Invisible invisible) s h v = record { table = v.table; line_prefix = v.line_prefix; wrap_prefix = v.wrap_prefix }
+with_settings-made o (setting.LinePrefix number) s h v = record { table = v.table; line_prefix = number-made (length o.strings) number h; wrap_prefix = v.wrap_prefix }
+with_settings-made o (setting.WrapPrefix number) s h v = record { table = v.table; line_prefix = v.line_prefix; wrap_prefix = number-made (length o.strings) number h }
+with_settings-made o (setting.Modified flag) s h v = record { table = v.table; line_prefix = v.line_prefix; wrap_prefix = v.wrap_prefix }
+with_settings-made o (setting.ReadOnly flag) s h v = record { table = v.table; line_prefix = v.line_prefix; wrap_prefix = v.wrap_prefix }
+
+abbrev IsTab : SettingValues → Type 0
+IsTab s = (1 ≤ s.tab_width) × (s.tab_width ≤ 32)
+
+with_setting-tab : (value : Setting) (s : SettingValues) → IsSettingInForm value → IsTab s → IsTab (with_setting value s)
+with_setting-tab (setting.TabWidth n) s form h = (form.0, form.1)
+with_setting-tab (setting.CtlArrow flag) s form h = h
+with_setting-tab (setting.Direction direction) s form h = h
+with_setting-tab (setting.Reorder flag) s form h = h
+with_setting-tab (setting.Table number) s form h = h
+with_setting-tab (setting.Invisible invisible) s form h = h
+with_setting-tab (setting.LinePrefix number) s form h = h
+with_setting-tab (setting.WrapPrefix number) s form h = h
+with_setting-tab (setting.Modified flag) s form h = h
+with_setting-tab (setting.ReadOnly flag) s form h = h
+
+pub setting-keeps : (o : ObjectLists) (value : Setting) → IsSettingInForm value → Keeps o (λ p. p) (setting_putting o value)
+setting-keeps o value form c d v h =
+    let new : ContentValue = record c { settings = with_setting value c.settings } in
+    let parts = if-ok (is_setting_made o value) (Ok new) NoObject d h in
+    let tab = with_setting-tab value c.settings form (v.least_tab, v.most_tab) in
+    text-kept o c new d parts.1 refl (record {
+      text = v.text;
+      characters = v.characters;
+      within = record { kinds = v.within.kinds; first = v.within.first; last = v.within.last; few = v.within.few; overlays = v.within.overlays };
+      least_tab = tab.0;
+      most_tab = tab.1;
+      names = record { properties = v.names.properties; overlays = v.names.overlays; settings = with_settings-made o value c.settings parts.0 v.names.settings };
+      marks = v.marks;
+    })
+
+-- ---- margin strings
+
+cond-some : (t : Bool) (w old : Option ℕ) (x : ℕ) (P : Type 0) → cond t w old ≡ Some x → (w ≡ Some x → P) → (old ≡ Some x → P) → P
+cond-some true w old x P h f g = f h
+cond-some false w old x P h f g = g h
+
+mark-made : (count : ℕ) (m : MarkValues) (number : ℕ) (string : Option ℕ) → is_made count string ≡ true → ((k x : ℕ) → get m k ≡ Some x → x < count)
+    → (k x : ℕ) → get (marked m number string) k ≡ Some x → x < count
+mark-made count m number None made old k x h =
+    cond-some (eq_by_cmp nat_cmp k number) None (get m k) x (x < count) (sym (get-remove nat_cmp_total m number k) ∙ h) (λ e. absurd (cc)) (old k x)
+mark-made count m number (Some n) made old k x h =
+    cond-some (eq_by_cmp nat_cmp k number) (Some n) (get m k) x (x < count) (sym (get-insert nat_cmp_total m number n k) ∙ h)
+    (λ e. let same : n ≡ x = cc in subst (λ (y : ℕ). y < count) same (ltb-true n count made)) (old k x)
+
+pub mark-keeps : (o : ObjectLists) (number : ℕ) (string : Option ℕ) → Keeps o (λ p. p) (mark_putting o number string)
+mark-keeps o number string c d v h =
+    let new : ContentValue = record c { marks = marked c.marks number string } in
+    let outer = if-ok (is_some (overlay_at c.overlays number)) (if is_made (length o.strings) string then Ok new else Err NoObject) NoOverlay d h in
+    let inner = if-ok (is_made (length o.strings) string) (Ok new) NoObject d outer.1 in
+    text-kept o c new d inner.1 refl (record {
+      text = v.text;
+      characters = v.characters;
+      within = v.within;
+      least_tab = v.least_tab;
+      most_tab = v.most_tab;
+      names = v.names;
+      marks = mark-made (length o.strings) c.marks number string inner.0 v.marks;
+    })
+
+-- ---- objects
+
+longer : {X : Type 0} (old new : List X) → GoesOn old new → length old ≤ length new
+longer old new (more, is) = omega (arith, ap length is, length-append old more)
+
+content-extended : (made : MadeLaws) (o p : ObjectLists) (c : ContentValue) → Extends o p → IsContent o c → IsContent p c
+content-extended made o p c more v =
+    let size = longer o.strings p.strings more.strings in
+    record {
+      text = v.text;
+      characters = v.characters;
+      within = v.within;
+      least_tab = v.least_tab;
+      most_tab = v.most_tab;
+      names = made.extended (seen c) o p v.names more;
+      marks = λ k x h. let old = v.marks k x h in omega arith;
+    }
+
+-- other objects, that go on from those that there were
+objects-done : (made : MadeLaws) (s t : StateValue) (p : ObjectLists) → IsValid s → AreObjects p → IsClosed p → Extends s.objects p → record s { objects = p } ≡ t → IsValid t
+objects-done made s t p v sound closed more same = subst IsValid same (record {
+  buffers = record {
+    few = v.buffers.few;
+    told = v.buffers.told;
+    names = v.buffers.names;
+    contents = λ k b h. content-extended made s.objects p b.content more (v.buffers.contents k b h);
+  };
+  objects = sound;
+  closed = closed;
+  windows = v.windows;
+  frame = v.frame;
+  margin = v.margin;
+  conservatively = v.conservatively;
+  echo = v.echo;
+})
+
+pub made-none : (fault : Option ObjectFault) (made p : ObjectLists) → unless_fault fault made ≡ Ok p → (fault ≡ None) × (made ≡ p)
+made-none None made p h = (refl, cc)
+made-none (Some fault) made p h = absurd (cc)
+
+with_objects-valid : (made : MadeLaws) (s t : StateValue) (fault : Option ObjectFault) (added : ObjectLists) (r : Result ObjectLists Refused) → IsValid s → unless_fault fault added ≡ r
+    → (fault ≡ None → AreObjects added) → (fault ≡ None → IsClosed added) → Extends s.objects added → with_objects s r ≡ Ok t → IsValid t
+with_objects-valid made s t fault added (Err e) v is sound closed more h = absurd (cc)
+with_objects-valid made s t fault added (Ok p) v is sound closed more h =
+    let m = made-none fault added p is in
+    let same : record s { objects = p } ≡ t = cc (h) in
+    objects-done made s t added v (sound m.0) (closed m.0) more (ap (λ (x : ObjectLists). record s { objects = x }) m.1 ∙ same)
+
+pub string-valid : (made : MadeLaws) (laws : ObjectLaws) (grow : GrowLaws) (s t : StateValue) (text : List ℕ) (runs : List OpRun) → IsValid s → AreCodes text
+    → with_objects s (string_making s.objects text runs) ≡ Ok t → IsValid t
+string-valid made laws grow s t text runs v codes h =
+    let rs = map run_of runs in
+    with_objects-valid made s t (string_fault s.objects text rs) (string_added s.objects text rs) (string_making s.objects text runs) v refl
+    (λ none. laws.sound_string s.objects text rs codes none v.objects) (λ none. laws.closed_string s.objects text rs none v.closed) (grow.string s.objects text rs) h
+
+small-spec : (spec : OpSpec) → IsSpecInForm spec → IsSmallSpec (spec_of spec)
+small-spec (specs.Text n) form = tt
+small-spec (specs.Width n) form = form
+small-spec (specs.Align n) form = form
+
+pub spec-valid : (made : MadeLaws) (laws : ObjectLaws) (grow : GrowLaws) (s t : StateValue) (spec : OpSpec) → IsValid s → IsSpecInForm spec → with_objects s (spec_making s.objects spec) ≡ Ok t → IsValid t
+spec-valid made laws grow s t spec v form h =
+    let x = spec_of spec in
+    with_objects-valid made s t (spec_fault s.objects x) (spec_added s.objects x) (spec_making s.objects spec) v refl
+    (λ none. laws.sound_spec s.objects x (small-spec spec form) none v.objects) (λ none. laws.closed_spec s.objects x none v.closed) (grow.spec s.objects x) h
+
+pub face-valid : (made : MadeLaws) (laws : ObjectLaws) (grow : GrowLaws) (s t : StateValue) (face : Attributes) → IsValid s → HasColours face → with_objects s (face_making s.objects face) ≡ Ok t → IsValid t
+face-valid made laws grow s t face v form h =
+    with_objects-valid made s t (full_fault FACES (length s.objects.faces)) (face_added s.objects face) (face_making s.objects face) v refl
+    (λ none. laws.sound_face s.objects face form none v.objects) (λ none. laws.closed_face s.objects face v.closed) (grow.face s.objects face) h
+
+pub table-valid : (made : MadeLaws) (laws : ObjectLaws) (grow : GrowLaws) (s t : StateValue) (table : TableValue) → IsValid s → IsTable table → with_objects s (table_making s.objects table) ≡ Ok t → IsValid t
+table-valid made laws grow s t table v form h =
+    with_objects-valid made s t (full_fault TABLES (length s.objects.tables)) (table_added s.objects table) (table_making s.objects table) v refl
+    (λ none. laws.sound_table s.objects table form none v.objects) (λ none. laws.closed_table s.objects table v.closed) (grow.table s.objects table) h
+
+-- ---- a new buffer
+
+no_text-is_text : IsText no_text
+no_text-is_text = record { first = omega arith; ordered = omega arith; last = omega arith; short = omega arith }
+
+no-mark : (k x : ℕ) → get (finite.empty {X = ℕ} {R = nat_cmp}) k ≡ Some x → ⊥
+no-mark k x h = let none = get-empty {X = ℕ} nat_cmp k in cc
+
+-- lists of nothing have no value
+none-in : (kind p : ℕ) → value_in (values_on no_text props.no_values) kind p ≡ None
+none-in kind zero = refl
+none-in zero (suc p) = refl
+none-in (suc zero) (suc p) = refl
+none-in (suc (suc zero)) (suc p) = refl
+none-in (suc (suc (suc zero))) (suc p) = refl
+none-in (suc (suc (suc (suc zero)))) (suc p) = refl
+none-in (suc (suc (suc (suc (suc kind))))) (suc p) = refl
+
+empty-seen : seen new_content ≡ props.new_buffer
+empty-seen = λ i. record {
+  text = no_text;
+  properties = λ kind p. none-in kind p i;
+  overlays = [];
+  settings = props.new_buffer.settings;
+}
+
+pub new-valid : (o : ObjectLists) → IsContent o new_content
+new-valid o = record {
+  text = no_text-is_text;
+  characters = All-nil (λ (c : ℕ). IsTrue (is_code c));
+  within = nothing-within (seen new_content) empty-seen;
+  least_tab = omega arith;
+  most_tab = omega arith;
+  names = record {
+    properties = λ kind p value h. absurd (some-none value _ h (none-in (place_of kind) p));
+    overlays = λ number value kind overlay h e. absurd (cc);
+    settings = record { table = tt; line_prefix = tt; wrap_prefix = tt };
+  };
+  marks = λ k x h. absurd (no-mark k x h);
+}
+
+pub making-valid : (s t : StateValue) (name : List ℕ) → IsValid s → IsTrue (is_buffer_name name) → making s name ≡ Ok t → IsValid t
+making-valid s t name v form h =
+    let made : StateValue = record s { buffers = s.buffers ++ new_buffer name ∷ [] } in
+    let outer = if-not (nat_lt (number_of name s.buffers) (length s.buffers)) (if nat_le most_buffers (length s.buffers) then Err TooManyBuffers else Ok made) NameTaken t h in
+    let inner = if-not (nat_le most_buffers (length s.buffers)) (Ok made) TooManyBuffers t outer.1 in
+    let free = ltb-false (number_of name s.buffers) (length s.buffers) outer.0 in
+    let room = leb-false most_buffers (length s.buffers) inner.0 in
+    let same : made ≡ t = cc (inner.1) in
+    subst IsValid same (record {
+      buffers = buffers-appended s.objects s.buffers name v.buffers (new-valid s.objects) form room free;
+      objects = v.objects;
+      closed = v.closed;
+      windows = windows-appended s.buffers name s.tree s.windows s.selected v.windows;
+      frame = v.frame;
+      margin = v.margin;
+      conservatively = v.conservatively;
+      echo = v.echo;
+    })

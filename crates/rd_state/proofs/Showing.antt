@@ -1,0 +1,480 @@
+-- A step leads from a valid state to a valid one: windows and the frame.
+use Rattle.std.proofs.Common.{◌≡◌, ◌≢◌, ℕ, zero, suc, ◌+◌, ◌-◌, ◌<◌, ◌≤◌, inl, inr, ◌==◌, ◌&&◌, ◌||◌, Bool, true, false, is_some, cond, if◌then◌else◌, nat_le, nat_lt, ℤ, pos, negsuc, Option, None, Some, Result, Ok, Err, List, [], ◌∷◌, ◌++◌, length, subst, sym, ap, refl, ◌∙◌, arith, IsTrue}
+use Rattle.std.proofs.lemmas.Bool.{cases_eq, eqb-false, ltb-true, ltb-false}
+use Rattle.std.proofs.lemmas.Bool.Decides.{nat_tests}
+use Rattle.std.specs.Int.{int_max}
+use Rattle.std.proofs.lemmas.Int.{ints}
+use Rattle.std.proofs.lemmas.Option.{slice_get_within}
+use Rattle.std.specs.Option.{option_or}
+use Rattle.std.specs.Prelude.{slice_get, option_map, IsSome, IfSome}
+use Rattle.rd_base.specs.declared.limits.TheConstants.{PENDING_ROWS}
+use Rattle.rd_text.specs.Texts.{IsText, IsAccessible}
+use Rattle.rd_modeline.specs.Formats.{fault_in, pieces_of}
+use Rattle.rd_script.specs.Forms.{IsFormat}
+use Rattle.rd_script.specs.Numbers.{is_near_zero}
+use Rattle.rd_tree.specs.Calls as tree
+use Rattle.rd_tree.specs.Calls.{Configuration, frame_of, is_full, split_to, changed_to, split_tree, remove_tree, resize_tree, mode_tree, margins_tree}
+use Rattle.rd_tree.specs.Windows.{Windows, Window, fits, holds, is_single, split_at, removed, resized, with_mode, with_margins, columns_needed, rows_needed, first_leaf, sibling, times}
+use Rattle.rd_tree.specs.declared.fault.TreeFault.{TreeFault}
+use Rattle.rd_tree.specs.declared.fault.TreeFault.TheVariants as tree_faults
+use Rattle.rd_tree.specs.declared.side.Side.{Side}
+use Rattle.rd_state.specs.declared.refused.Refused.{Refused}
+use Rattle.rd_state.specs.declared.refused.Refused.TheVariants.{NoWindow, NoBuffer, OutOfRange, BadFormat}
+use Rattle.rd_state.specs.declared.window.WindowState.{WindowState}
+use Rattle.rd_state.specs.States.{BufferValue, StateValue, number_of}
+use Rattle.rd_state.specs.Windows.{window_of, with_window, without_window, leaf_at, leaf_of}
+use Rattle.rd_state.specs.Valid.{IsWindow, AreWindows, IsFrame, IsGoodFormat, IsValid}
+use Rattle.rd_state.specs.Edits.{is_accessible}
+use Rattle.rd_state.specs.Steps.{with_found, in_buffer, in_window, in_shown, changing, on_tree, refused_tree, splitting, removing, showing, placing, setting, held, format_fault, unless_bad, mode_lining, margining}
+use Rattle.rd_state.proofs.Below.{TreeLaws}
+use Rattle.rd_state.proofs.ByNumber.{Entry, window-end, apart-end, get-end, window-gone, window-left, apart-without, get-without, get-window, some-none, eq-true, eq-false}
+use Rattle.rd_state.proofs.Keeping.{windows-changed}
+use Rattle.rd_state.proofs.Opening.{chosen, passed}
+use Rattle.rd_state.proofs.Leaves.{Leaf, is_some-leaf, leaf-none, leaf-resized, leaf-same, leaf-other, split-same, split-other, split-new, removed-same, removed-other, heir-held, leaf-times}
+use Rattle.rd_state.proofs.Tests.{if-ok, if-not, is_accessible-means}
+
+-- ---- what the calls of the tree mean
+
+pub mode-means : (c d : Configuration) (n : ℕ) (shown : Bool) → mode_tree c n shown ≡ Ok d → record c { windows = with_mode n shown c.windows } ≡ d
+unfolding mode_tree
+mode-means c d n shown h =
+    let new : Configuration = record c { windows = with_mode n shown c.windows } in
+    let outer = if-ok (holds n c.windows) (changed_to c (with_mode n shown c.windows)) tree_faults.NoWindow d h in
+    let inner = if-ok (fits (with_mode n shown c.windows) (frame_of c)) (Ok new) tree_faults.TooSmall d outer.1 in
+    cc (inner.1)
+
+pub margins-means : (c d : Configuration) (n columns : ℕ) → margins_tree c n columns ≡ Ok d → record c { windows = with_margins n columns c.windows } ≡ d
+unfolding margins_tree
+margins-means c d n columns h =
+    let new : Configuration = record c { windows = with_margins n columns c.windows } in
+    let outer = if-ok (holds n c.windows) (changed_to c (with_margins n columns c.windows)) tree_faults.NoWindow d h in
+    let inner = if-ok (fits (with_margins n columns c.windows) (frame_of c)) (Ok new) tree_faults.TooSmall d outer.1 in
+    cc (inner.1)
+
+pub split-means : (c d : Configuration) (n : ℕ) (side : Side) (size : ℕ) → split_tree c n side size ≡ Ok d
+    → (holds n c.windows ≡ true) × (record c { windows = split_at n side size c.made c.windows; made = suc c.made } ≡ d)
+unfolding split_tree
+split-means c d n side size h =
+    let ws = split_at n side size c.made c.windows in
+    let new : Configuration = record c { windows = ws; made = suc c.made } in
+    let outer = if-ok (holds n c.windows) (split_to c ws) tree_faults.NoWindow d h in
+    let middle = if-ok (fits ws (frame_of c)) (if is_full c then Err tree_faults.TooMany else Ok new) tree_faults.TooSmall d outer.1 in
+    let inner = if-not (is_full c) (Ok new) tree_faults.TooMany d middle.1 in
+    (outer.0, cc (inner.1))
+
+pub remove-means : (c d : Configuration) (n : ℕ) → remove_tree c n ≡ Ok d
+    → (holds n c.windows ≡ true) × (is_single c.windows ≡ false) × (record c { windows = removed n c.windows (frame_of c) } ≡ d)
+unfolding remove_tree
+remove-means c d n h =
+    let new : Configuration = record c { windows = removed n c.windows (frame_of c) } in
+    let outer = if-ok (holds n c.windows) (if is_single c.windows then Err tree_faults.LastWindow else Ok new) tree_faults.NoWindow d h in
+    let inner = if-not (is_single c.windows) (Ok new) tree_faults.LastWindow d outer.1 in
+    (outer.0, inner.0, cc (inner.1))
+
+pub resize-means : (c d : Configuration) (width height : ℕ) → resize_tree c width height ≡ Ok d
+    → record c { windows = resized c.windows (tree.frame width height); width = width; height = height } ≡ d
+unfolding resize_tree
+resize-means c d width height h =
+    let new : Configuration = record c { windows = resized c.windows (tree.frame width height); width = width; height = height } in
+    let parts = if-ok (nat_le (columns_needed c.windows) width && nat_le (rows_needed c.windows) height) (Ok new) tree_faults.TooSmall d h in
+    cc (parts.1)
+
+-- ---- states with other windows
+
+pub with_windows : (s : StateValue) (c : Configuration) (ws : List Entry) (n : ℕ) → IsValid s → AreWindows s.buffers c ws n → c.width ≡ s.tree.width → c.height ≡ s.tree.height
+    → IsValid (record s { tree = c; windows = ws; selected = n })
+with_windows s c ws n v w wide high = record {
+  buffers = v.buffers;
+  objects = v.objects;
+  closed = v.closed;
+  windows = w;
+  frame = record {
+    wide = v.frame.wide;
+    narrow = v.frame.narrow;
+    high = v.frame.high;
+    low = v.frame.low;
+    columns = wide ∙ v.frame.columns;
+    rows = ap (λ (x : ℕ). x + 1) high ∙ v.frame.rows;
+  };
+  margin = v.margin;
+  conservatively = v.conservatively;
+  echo = v.echo;
+}
+
+option-same : {X Y : Type 0} (f g : X → Y) (o : Option X) → ((x : X) → f x ≡ g x) → option_map f o ≡ option_map g o
+option-same f g None h = refl
+option-same f g (Some x) h = ap (λ y. Some y) (h x)
+
+-- one window becomes another, and the tree stays
+windows-set : (bs : List BufferValue) (c : Configuration) (ws : List Entry) (n number : ℕ) (f : WindowState → WindowState) → ((w : WindowState) → leaf_of (f w) ≡ leaf_of w)
+    → ((w : WindowState) → window_of number ws ≡ Some w → IsWindow bs w → IsWindow bs (f w)) → AreWindows bs c ws n → AreWindows bs c (with_window number f ws) n
+windows-set bs c ws n number f same keep v =
+    windows-changed bs c c ws n number f v.tree (v.leaves number ∙ option-same leaf_of (λ w. leaf_of (f w)) (window_of number ws) (λ w. sym (same w))) (λ k q. refl) keep v
+
+pub set-valid : (s t : StateValue) (number : ℕ) (f : WindowState → WindowState) → IsValid s → ((w : WindowState) → leaf_of (f w) ≡ leaf_of w)
+    → ((w : WindowState) → window_of number s.windows ≡ Some w → IsWindow s.buffers w → IsWindow s.buffers (f w)) → changing number f (Ok s) ≡ Ok t → IsValid t
+set-valid s t number f v same keep h =
+    let is : record s { windows = with_window number f s.windows } ≡ t = cc (h) in
+    subst IsValid is (with_windows s s.tree (with_window number f s.windows) s.selected v (windows-set s.buffers s.tree s.windows s.selected number f same keep v.windows) refl refl)
+
+in_window-ok : (s t : StateValue) (o : Option WindowState) (f : WindowState → Result StateValue Refused) → with_found NoWindow o f ≡ Ok t → (w : WindowState) × (o ≡ Some w) × (f w ≡ Ok t)
+in_window-ok s t None f h = absurd (cc)
+in_window-ok s t (Some w) f h = (w, refl, h)
+
+pub found-ok : (s t : StateValue) (number : ℕ) (f : WindowState → Result StateValue Refused) → in_window s number f ≡ Ok t → (w : WindowState) × (window_of number s.windows ≡ Some w) × (f w ≡ Ok t)
+found-ok s t number f h = in_window-ok s t (window_of number s.windows) f h
+
+pub buffer-ok : (t : StateValue) (o : Option BufferValue) (f : BufferValue → Result StateValue Refused) → with_found NoBuffer o f ≡ Ok t → (b : BufferValue) × (o ≡ Some b) × (f b ≡ Ok t)
+buffer-ok t None f h = absurd (cc)
+buffer-ok t (Some b) f h = (b, refl, h)
+
+pub setting-valid : (s t : StateValue) (number : ℕ) (f : WindowState → WindowState) → IsValid s → ((w : WindowState) → leaf_of (f w) ≡ leaf_of w)
+    → ((w : WindowState) → window_of number s.windows ≡ Some w → IsWindow s.buffers w → IsWindow s.buffers (f w)) → setting s number f ≡ Ok t → IsValid t
+setting-valid s t number f v same keep h = set-valid s t number f v same keep (found-ok s t number (λ w. changing number f (Ok s)) h).2
+
+-- ---- points and views
+
+one-there : {X : Type 0} (xs : List X) (i : ℕ) (b c : X) → slice_get xs i ≡ Some b → slice_get xs i ≡ Some c → b ≡ c
+one-there xs i b c h k = cc
+
+same-window : (n : ℕ) (ws : List Entry) (w v : WindowState) → window_of n ws ≡ Some w → window_of n ws ≡ Some v → w ≡ v
+same-window n ws w v h k = cc
+
+pub placing-valid : (s t : StateValue) (number place : ℕ) (f : WindowState → WindowState) → IsValid s → ((w : WindowState) → leaf_of (f w) ≡ leaf_of w)
+    → ((w : WindowState) → IsWindow s.buffers w → ((b : BufferValue) → slice_get s.buffers w.buffer ≡ Some b → IsAccessible b.content.text place) → IsWindow s.buffers (f w))
+    → placing s number place f ≡ Ok t → IsValid t
+placing-valid s t number place f v same keep h =
+    let w = found-ok s t number _ h in
+    let b = buffer-ok t (slice_get s.buffers w.0.buffer) _ w.2 in
+    let parts = if-ok (is_accessible b.0.content.text place) (changing number f (Ok s)) OutOfRange t b.2 in
+    let at = is_accessible-means b.0.content.text place parts.0 in
+    set-valid s t number f v same
+    (λ x found old. keep x old (λ c hc.
+    let is : w.0 ≡ x = same-window number s.windows w.0 x w.1 found in
+    let here : slice_get s.buffers w.0.buffer ≡ Some c = ap (λ (y : WindowState). slice_get s.buffers y.buffer) is ∙ hc in
+    subst (λ (z : BufferValue). IsAccessible z.content.text place) (one-there s.buffers w.0.buffer b.0 c b.1 here) at))
+    parts.1
+
+none-pending : IsTrue (is_near_zero (pos PENDING_ROWS) (pos 0))
+none-pending = refl
+
+pub point-keeps : (bs : List BufferValue) (place : ℕ) (w : WindowState) → IsWindow bs w → ((b : BufferValue) → slice_get bs w.buffer ≡ Some b → IsAccessible b.content.text place)
+    → IsWindow bs (record w { point = place })
+point-keeps bs place w v at = record {
+  made = v.made;
+  point = at;
+  anchor = v.anchor;
+  pending = v.pending;
+  hscroll = v.hscroll;
+  format = v.format;
+  numbers = v.numbers;
+  strings = v.strings;
+}
+
+pub start-keeps : (bs : List BufferValue) (place row : ℕ) (w : WindowState) → IsWindow bs w → ((b : BufferValue) → slice_get bs w.buffer ≡ Some b → IsAccessible b.content.text place)
+    → IsWindow bs (record w { anchor = record { pos = place; row = row }; forced = true; pending = pos 0 })
+start-keeps bs place row w v at = record {
+  made = v.made;
+  point = v.point;
+  anchor = at;
+  pending = none-pending;
+  hscroll = v.hscroll;
+  format = v.format;
+  numbers = v.numbers;
+  strings = v.strings;
+}
+
+-- another window of the same buffer with the same positions
+pub look-keeps : (bs : List BufferValue) (w x : WindowState) → x.buffer ≡ w.buffer → x.point ≡ w.point → x.anchor ≡ w.anchor → IsTrue (is_near_zero (pos PENDING_ROWS) x.pending)
+    → x.hscroll ≤ 1000000 → IfSome x.format IsGoodFormat → x.numbers ≤ 10 → x.strings ≤ 20 → IsWindow bs w → IsWindow bs x
+look-keeps bs w x buffer point anchor pending hscroll format numbers strings v = record {
+  made = subst (λ (i : ℕ). i < length bs) (sym buffer) v.made;
+  point = λ b h. subst (IsAccessible b.content.text) (sym point) (v.point b (ap (slice_get bs) (sym buffer) ∙ h));
+  anchor = λ b h. subst (λ a. IsAccessible b.content.text a.pos) (sym anchor) (v.anchor b (ap (slice_get bs) (sym buffer) ∙ h));
+  pending = pending;
+  hscroll = hscroll;
+  format = format;
+  numbers = numbers;
+  strings = strings;
+}
+
+held-above : (t : Bool) (n : ℕ) → nat_lt n 1000000000 ≡ t → IsTrue (is_near_zero (pos 1000000000) (int_max (negsuc 999999999) (cond t (pos n) (pos 1000000000))))
+held-above true n h = let less = ltb-true n 1000000000 h in grind (arith, ints, nat_tests)
+held-above false n h = refl
+
+held-below : (t : Bool) (n : ℕ) → nat_lt 999999999 n ≡ t → IsTrue (is_near_zero (pos 1000000000) (cond t (negsuc 999999999) (negsuc n)))
+held-below true n h = refl
+held-below false n h = let less = ltb-false 999999999 n h in grind (arith, ints, nat_tests)
+
+held-small : (rows : ℤ) → IsTrue (is_near_zero (pos PENDING_ROWS) (held rows))
+held-small (pos n) = held-above (nat_lt n 1000000000) n refl
+held-small (negsuc n) = held-below (nat_lt 999999999 n) n refl
+
+pub scroll-keeps : (bs : List BufferValue) (rows : ℤ) (w : WindowState) → IsWindow bs w → IsWindow bs (record w { forced = true; pending = held rows })
+scroll-keeps bs rows w v =
+    look-keeps bs w (record w { forced = true; pending = held rows }) refl refl refl (held-small rows) v.hscroll v.format v.numbers v.strings v
+
+-- a buffer shown from its beginning
+pub shown-keeps : (s : StateValue) (i : ℕ) (b : BufferValue) (w : WindowState) → IsValid s → slice_get s.buffers i ≡ Some b → IsWindow s.buffers w
+    → IsWindow s.buffers (record w { buffer = i; point = b.content.text.begin; anchor = record { pos = b.content.text.begin; row = 0 }; forced = false; pending = pos 0 })
+shown-keeps s i b w v at old =
+    let text = (v.buffers.contents i b at).text in
+    let ordered = text.ordered in
+    let here : (x : BufferValue) → slice_get s.buffers i ≡ Some x → IsAccessible x.content.text b.content.text.begin
+    = λ x hx. subst (λ (z : BufferValue). IsAccessible z.content.text b.content.text.begin) (one-there s.buffers i b x at hx) (omega arith, ordered) in
+    record {
+      made = slice_get_within s.buffers i b at;
+      point = here;
+      anchor = here;
+      pending = none-pending;
+      hscroll = old.hscroll;
+      format = old.format;
+      numbers = old.numbers;
+      strings = old.strings;
+    }
+
+pub showing-valid : (s t : StateValue) (number : ℕ) (name : List ℕ) → IsValid s → showing s number name ≡ Ok t → IsValid t
+showing-valid s t number name v h =
+    let w = found-ok s t number _ h in
+    let i = number_of name s.buffers in
+    let b = buffer-ok t (slice_get s.buffers i) _ w.2 in
+    set-valid s t number _ v (λ x. refl) (λ x found old. shown-keeps s i b.0 x v b.1 old) b.2
+
+-- ---- the tree
+
+pub on_tree-ok : (r : Result Configuration TreeFault) (f : Configuration → StateValue) (t : StateValue) → on_tree r f ≡ Ok t → (d : Configuration) × (r ≡ Ok d) × (f d ≡ t)
+on_tree-ok (Err fault) f t h = absurd (cc)
+on_tree-ok (Ok d) f t h = (d, refl, cc)
+
+pub changing-ok : (number : ℕ) (f : WindowState → WindowState) (r : Result StateValue Refused) (t : StateValue) → changing number f r ≡ Ok t
+    → (u : StateValue) × (r ≡ Ok u) × (record u { windows = with_window number f u.windows } ≡ t)
+changing-ok number f (Err e) t h = absurd (cc)
+changing-ok number f (Ok u) t h = (u, refl, cc)
+
+pub unless-ok : (o : Option ℕ) (r : Result StateValue Refused) (t : StateValue) → unless_bad o r ≡ Ok t → (o ≡ None) × (r ≡ Ok t)
+unless-ok None r t h = (refl, h)
+unless-ok (Some column) r t h = absurd (cc)
+
+good-format : (format : Option (List ℕ)) → IsFormat format → format_fault format ≡ None → IfSome format IsGoodFormat
+good-format None form h = tt
+good-format (Some text) form h = record { plain = form; good = h }
+
+map-twice : {X Y Z : Type 0} (f : X → Y) (g : Y → Z) (h : X → Z) (o : Option X) → ((x : X) → g (f x) ≡ h x) → option_map g (option_map f o) ≡ option_map h o
+map-twice f g h None e = refl
+map-twice f g h (Some x) e = ap (λ z. Some z) (e x)
+
+-- one window
+abbrev tree_window : ℕ → Bool → ℕ → Windows
+tree_window number mode margins = Window number mode margins
+
+-- a state with another tree and another window
+pub retold : (s : StateValue) (d : Configuration) (number : ℕ) (f : WindowState → WindowState) (g : Leaf → Leaf) → IsValid s → tree.IsValid d → d.width ≡ s.tree.width → d.height ≡ s.tree.height
+    → leaf_at number d.windows ≡ option_map g (leaf_at number s.tree.windows) → ((w : WindowState) → g (leaf_of w) ≡ leaf_of (f w))
+    → ((k : ℕ) → k ≢ number → leaf_at k d.windows ≡ leaf_at k s.tree.windows) → ((w : WindowState) → IsWindow s.buffers w → IsWindow s.buffers (f w))
+    → IsValid (record s { tree = d; windows = with_window number f s.windows })
+retold s d number f g v valid wide high here gives others keep =
+    with_windows s d (with_window number f s.windows) s.selected v
+    (windows-changed s.buffers s.tree d s.windows s.selected number f valid
+    (here ∙ (ap (option_map g) (v.windows.leaves number) ∙ map-twice leaf_of g (λ w. leaf_of (f w)) (window_of number s.windows) gives)) others (λ w found old. keep w old) v.windows)
+    wide high
+
+mode-leaf : (n k : ℕ) (shown : Bool) (margins : ℕ) → k ≢ n → leaf_at k (tree_window n shown margins) ≡ None
+mode-leaf n k shown margins ne = passed (n == k) (Some (shown, margins)) None (eq-false n k (λ p. ne (sym p)))
+
+here-leaf : (n : ℕ) (shown : Bool) (margins : ℕ) → leaf_at n (tree_window n shown margins) ≡ Some (shown, margins)
+here-leaf n shown margins = chosen (n == n) (Some (shown, margins)) None (eq-true n n refl)
+
+pub mode_lining-valid : (laws : TreeLaws) (s t : StateValue) (number : ℕ) (format : Option (List ℕ)) → IsValid s → IsFormat format → mode_lining s number format ≡ Ok t → IsValid t
+mode_lining-valid laws s t number format v form h =
+    let w = found-ok s t number _ h in
+    let good = unless-ok (format_fault format) _ t w.2 in
+    let f : WindowState → WindowState = λ old. record old { format = format } in
+    let u = changing-ok number f _ t good.1 in
+    let d = on_tree-ok (mode_tree s.tree number (is_some format)) _ u.0 u.1 in
+    let is = mode-means s.tree d.0 number (is_some format) d.1 in
+    let new : Configuration = record s.tree { windows = with_mode number (is_some format) s.tree.windows } in
+    let valid = laws.mode s.tree d.0 number (is_some format) v.windows.tree d.1 in
+    let made = retold s new number f (λ x. (is_some format, x.1)) v (subst tree.IsValid (sym is) valid) refl refl
+        (leaf-same number (λ _ margins. tree_window number (is_some format) margins) (λ x. (is_some format, x.1)) s.tree.windows (λ mode margins. here-leaf number (is_some format) margins))
+        (λ x. refl) (λ k q. leaf-other number k (λ _ margins. tree_window number (is_some format) margins) s.tree.windows q (λ mode margins. mode-leaf number k (is_some format) margins q))
+        (λ x old. look-keeps s.buffers x (record x { format = format }) refl refl refl old.pending old.hscroll (good-format format form good.0) old.numbers old.strings old) in
+    let end : record s { tree = new; windows = with_window number f s.windows } ≡ t
+    = ap (λ (x : Configuration). record s { tree = x; windows = with_window number f s.windows }) is
+        ∙ (ap (λ (x : StateValue). record x { windows = with_window number f x.windows }) d.2 ∙ u.2) in
+    subst IsValid end made
+
+pub margining-valid : (laws : TreeLaws) (s t : StateValue) (number numbers strings : ℕ) → IsValid s → numbers ≤ 10 → strings ≤ 20 → margining s number numbers strings ≡ Ok t → IsValid t
+margining-valid laws s t number numbers strings v few some h =
+    let w = found-ok s t number _ h in
+    let f : WindowState → WindowState = λ old. record old { numbers = numbers; strings = strings } in
+    let u = changing-ok number f _ t w.2 in
+    let d = on_tree-ok (margins_tree s.tree number (numbers + strings)) _ u.0 u.1 in
+    let is = margins-means s.tree d.0 number (numbers + strings) d.1 in
+    let new : Configuration = record s.tree { windows = with_margins number (numbers + strings) s.tree.windows } in
+    let valid = laws.margins s.tree d.0 number (numbers + strings) v.windows.tree d.1 in
+    let made = retold s new number f (λ x. (x.0, numbers + strings)) v (subst tree.IsValid (sym is) valid) refl refl
+        (leaf-same number (λ mode _. tree_window number mode (numbers + strings)) (λ x. (x.0, numbers + strings)) s.tree.windows (λ mode margins. here-leaf number mode (numbers + strings)))
+        (λ x. refl) (λ k q. leaf-other number k (λ mode _. tree_window number mode (numbers + strings)) s.tree.windows q (λ mode margins. mode-leaf number k mode (numbers + strings) q))
+        (λ x old. look-keeps s.buffers x (record x { numbers = numbers; strings = strings }) refl refl refl old.pending old.hscroll old.format few some old) in
+    let end : record s { tree = new; windows = with_window number f s.windows } ≡ t
+    = ap (λ (x : Configuration). record s { tree = x; windows = with_window number f s.windows }) is
+        ∙ (ap (λ (x : StateValue). record x { windows = with_window number f x.windows }) d.2 ∙ u.2) in
+    subst IsValid end made
+
+-- ---- splits
+
+-- a window that lived before is told as before
+split-old : (number k : ℕ) (side : Side) (size made : ℕ) (ws : Windows) → k ≢ made → leaf_at k (split_at number side size made ws) ≡ leaf_at k ws
+split-old number k side size made ws q = elim (cases_eq k number) [
+  | inl p ↦ ap (λ (x : ℕ). leaf_at x (split_at number side size made ws)) p ∙ (split-same number side size made ws ∙ ap (λ (x : ℕ). leaf_at x ws) (sym p))
+  | inr n ↦ split-other number k side size made ws n q
+]
+
+or-left : {X : Type 0} (o : Option X) → option_or o None ≡ o
+or-left None = refl
+or-left (Some x) = refl
+
+some-or : {X : Type 0} (o p : Option X) → is_some o ≡ true → is_some (option_or o p) ≡ true
+some-or None p h = absurd (cc)
+some-or (Some x) p h = refl
+
+map-none : {X Y : Type 0} (f : X → Y) (o : Option X) → option_map f o ≡ None → o ≡ None
+map-none f None h = refl
+map-none f (Some x) h = absurd (cc)
+
+unmade : (s : StateValue) → IsValid s → window_of s.tree.made s.windows ≡ None
+unmade s v =
+    let none = leaf-none s.tree.made s.tree.windows (leaf-times s.tree.made s.tree.windows (v.windows.tree.known s.tree.made (omega arith))) in
+    map-none leaf_of (window_of s.tree.made s.windows) (sym (v.windows.leaves s.tree.made) ∙ none)
+
+split-windows : (s : StateValue) (d : Configuration) (number : ℕ) (side : Side) (size : ℕ) (w copy : WindowState) → IsValid s → tree.IsValid d
+    → d.windows ≡ split_at number side size s.tree.made s.tree.windows → window_of number s.windows ≡ Some w → leaf_of copy ≡ leaf_of w → IsWindow s.buffers copy
+    → AreWindows s.buffers d (s.windows ++ (s.tree.made, copy) ∷ []) s.selected
+split-windows s d number side size w copy v valid is found leaf new =
+    let made = s.tree.made in
+    let fresh = unmade s v in
+    let other : number ≢ made = λ p. absurd (some-none w (window_of made s.windows) (ap (λ (k : ℕ). window_of k s.windows) (sym p) ∙ found) fresh) in
+    record {
+      tree = valid;
+      leaves = λ k. elim (cases_eq k made) [
+        | inl p ↦
+            ap (λ (x : ℕ). leaf_at x d.windows) p ∙ (ap (leaf_at made) is
+            ∙ (split-new number side size made s.tree.windows other (v.windows.leaves made ∙ ap (option_map leaf_of) fresh)
+            ∙ (v.windows.leaves number ∙ (ap (option_map leaf_of) found ∙ (ap (λ (x : Leaf). Some x) (sym leaf)
+            ∙ sym (ap (option_map leaf_of) (window-end k s.windows (made, copy)
+            ∙ (ap (λ (o : Option WindowState). option_or o (if made == k then Some copy else None)) (ap (λ (x : ℕ). window_of x s.windows) p ∙ fresh)
+            ∙ chosen (made == k) (Some copy) None (eq-true made k (sym p))))))))))
+        | inr q ↦
+            ap (leaf_at k) is ∙ (split-old number k side size made s.tree.windows q
+            ∙ (v.windows.leaves k ∙ sym (ap (option_map leaf_of) (window-end k s.windows (made, copy)
+            ∙ (ap (option_or (window_of k s.windows)) (passed (made == k) (Some copy) None (eq-false made k (λ p. q (sym p)))) ∙ or-left (window_of k s.windows))))))
+      ];
+      apart = apart-end s.windows (made, copy) v.windows.apart fresh;
+      each = λ k e h. elim (get-end s.windows (made, copy) k e h) [
+        | inl p ↦ v.windows.each k e p
+        | inr p ↦ subst (λ (x : Entry). IsWindow s.buffers x.1) (sym p.1) new
+      ];
+      selected = subst IsSome (sym (window-end s.selected s.windows (made, copy))) (some-or (window_of s.selected s.windows) _ v.windows.selected);
+    }
+
+copy-keeps : (bs : List BufferValue) (w : WindowState) → IsWindow bs w → IsWindow bs (record w { forced = false; pending = pos 0 })
+copy-keeps bs w v = look-keeps bs w (record w { forced = false; pending = pos 0 }) refl refl refl none-pending v.hscroll v.format v.numbers v.strings v
+
+pub window-valid : (s : StateValue) (number : ℕ) (w : WindowState) → IsValid s → window_of number s.windows ≡ Some w → IsWindow s.buffers w
+window-valid s number w v found = let at = get-window number s.windows w found in v.windows.each at.0 (number, w) at.1
+
+pub splitting-valid : (laws : TreeLaws) (s t : StateValue) (number : ℕ) (side : Side) (size : ℕ) → IsValid s → splitting s number side size ≡ Ok t → IsValid t
+splitting-valid laws s t number side size v h =
+    let w = found-ok s t number _ h in
+    let d = on_tree-ok (split_tree s.tree number side size) _ t w.2 in
+    let is = split-means s.tree d.0 number side size d.1 in
+    let valid = laws.split s.tree d.0 number side size v.windows.tree d.1 in
+    let copy : WindowState = record w.0 { forced = false; pending = pos 0 } in
+    let ws = s.windows ++ (s.tree.made, copy) ∷ [] in
+    let new = split-windows s d.0 number side size w.0 copy v valid (sym (ap (λ (x : Configuration). x.windows) is.1)) w.1 refl (copy-keeps s.buffers w.0 (window-valid s number w.0 v w.1)) in
+    subst IsValid d.2 (with_windows s d.0 ws s.selected v new (sym (ap (λ (x : Configuration). x.width) is.1)) (sym (ap (λ (x : Configuration). x.height) is.1)))
+
+-- ---- removals
+
+some-window : (o : Option WindowState) → is_some (option_map leaf_of o) ≡ true → IsSome o
+some-window None h = absurd (cc)
+some-window (Some w) h = refl
+
+selected-after : (t : Bool) (heir old : ℕ) (ws : List Entry) → (t ≡ true → IsSome (window_of heir ws)) → (t ≡ false → IsSome (window_of old ws)) → IsSome (window_of (if t then heir else old) ws)
+selected-after true heir old ws h g = h refl
+selected-after false heir old ws h g = g refl
+
+removed-windows : (s : StateValue) (d : Configuration) (number : ℕ) (w : WindowState) → IsValid s → tree.IsValid d → holds number s.tree.windows ≡ true → is_single s.tree.windows ≡ false
+    → d.windows ≡ removed number s.tree.windows (frame_of s.tree) → window_of number s.windows ≡ Some w
+    → AreWindows s.buffers d (without_window number s.windows) (if s.selected == number then first_leaf (sibling number s.tree.windows) else s.selected)
+removed-windows s d number w v valid there many is found =
+    let heir = first_leaf (sibling number s.tree.windows) in
+    let left = without_window number s.windows in
+    let leaves : (k : ℕ) → leaf_at k d.windows ≡ option_map leaf_of (window_of k left) = λ k. elim (cases_eq k number) [
+      | inl p ↦
+          ap (λ (x : ℕ). leaf_at x d.windows) p ∙ (ap (leaf_at number) is
+          ∙ (removed-same number s.tree.windows (frame_of s.tree) (v.windows.tree.once number) there many
+          ∙ sym (ap (option_map leaf_of) (ap (λ (x : ℕ). window_of x left) p ∙ window-gone number s.windows v.windows.apart))))
+      | inr q ↦
+          ap (leaf_at k) is ∙ (removed-other number k s.tree.windows (frame_of s.tree) q
+          ∙ (v.windows.leaves k ∙ sym (ap (option_map leaf_of) (window-left number k s.windows q))))
+    ] in
+    record {
+      tree = valid;
+      leaves = leaves;
+      apart = apart-without number s.windows v.windows.apart;
+      each = λ k e h. let at = get-without number s.windows k e h in v.windows.each at.0 e at.1;
+      selected = selected-after (s.selected == number) heir s.selected left
+          (λ h. some-window (window_of heir left) (sym (ap (λ (o : Option Leaf). is_some o) (leaves heir)) ∙ (ap (λ (x : Windows). is_some (leaf_at heir x)) is ∙ heir-held number s.tree.windows (frame_of s.tree) there many)))
+          (λ h. subst IsSome (sym (window-left number s.selected s.windows (eqb-false s.selected number h))) v.windows.selected);
+    }
+
+pub removing-valid : (laws : TreeLaws) (s t : StateValue) (number : ℕ) → IsValid s → removing s number ≡ Ok t → IsValid t
+removing-valid laws s t number v h =
+    let w = found-ok s t number _ h in
+    let d = on_tree-ok (remove_tree s.tree number) _ t w.2 in
+    let is = remove-means s.tree d.0 number d.1 in
+    let valid = laws.remove s.tree d.0 number v.windows.tree d.1 in
+    let chosen = if s.selected == number then first_leaf (sibling number s.tree.windows) else s.selected in
+    let new = removed-windows s d.0 number w.0 v valid is.0 is.1 (sym (ap (λ (x : Configuration). x.windows) is.2)) w.1 in
+    subst IsValid d.2 (with_windows s d.0 (without_window number s.windows) chosen v new (sym (ap (λ (x : Configuration). x.width) is.2)) (sym (ap (λ (x : Configuration). x.height) is.2)))
+
+-- ---- the frame
+
+pub resizing-valid : (laws : TreeLaws) (s t : StateValue) (width height : ℕ) → IsValid s → 12 ≤ width → width ≤ 400 → 2 ≤ height → height ≤ 200
+    → on_tree (resize_tree s.tree width (height - 1)) (λ c. record s { tree = c; width = width; height = height }) ≡ Ok t → IsValid t
+resizing-valid laws s t width height v wide narrow high low h =
+    let d = on_tree-ok (resize_tree s.tree width (height - 1)) _ t h in
+    let is = resize-means s.tree d.0 width (height - 1) d.1 in
+    let valid = laws.resize s.tree d.0 width (height - 1) narrow (omega arith) v.windows.tree d.1 in
+    let columns : d.0.width ≡ width = sym (ap (λ (x : Configuration). x.width) is) in
+    let rows : d.0.height ≡ height - 1 = sym (ap (λ (x : Configuration). x.height) is) in
+    let shapes : d.0.windows ≡ resized s.tree.windows (tree.frame width (height - 1)) = sym (ap (λ (x : Configuration). x.windows) is) in
+    subst IsValid d.2 (record {
+      buffers = v.buffers;
+      objects = v.objects;
+      closed = v.closed;
+      windows = record {
+        tree = valid;
+        leaves = λ k. ap (leaf_at k) shapes ∙ (leaf-resized k s.tree.windows (tree.frame width (height - 1)) ∙ v.windows.leaves k);
+        apart = v.windows.apart;
+        each = v.windows.each;
+        selected = v.windows.selected;
+      };
+      frame = record { wide = wide; narrow = narrow; high = high; low = low; columns = columns; rows = omega (arith, rows) };
+      margin = v.margin;
+      conservatively = v.conservatively;
+      echo = v.echo;
+    })
+
+pub selecting-valid : (s t : StateValue) (number : ℕ) → IsValid s → in_window s number (λ w. Ok (record s { selected = number })) ≡ Ok t → IsValid t
+selecting-valid s t number v h =
+    let w = found-ok s t number _ h in
+    let same : record s { selected = number } ≡ t = cc (w.2) in
+    subst IsValid same (with_windows s s.tree s.windows number v (record {
+      tree = v.windows.tree;
+      leaves = v.windows.leaves;
+      apart = v.windows.apart;
+      each = v.windows.each;
+      selected = ap (λ (o : Option WindowState). is_some o) w.1;
+    }) refl refl)
