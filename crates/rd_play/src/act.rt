@@ -15,12 +15,12 @@ use crate::halt::Halt;
 use crate::report::{tell_no_memory, tell_shown};
 use crate::status::ScriptFault;
 use crate::windows::Windows;
+use rd_ascii::Refused;
 use rd_base::limits::LINES;
 use rd_base::{Memory, Steps};
 use rd_io::{Failed, Sink};
 use rd_script::{Op, OpFault, print_dump, read_op};
 use rd_session::{Outcome, Session};
-use rd_ascii::Refused;
 use std::alloc::Global;
 use std::sync::ledger::Ledger;
 

@@ -5,10 +5,10 @@ ghost use Rattle.rd_play.specs.Reports.{shown_line, no_memory_line, last_line, k
 
 use crate::status::{ScriptFault, Status};
 use itoa::Buffer;
+use rd_ascii::Refused;
 use rd_base::Ch;
 use rd_io::{Failed, Sink, write_whole};
 use rd_script::OpFault;
-use rd_ascii::Refused;
 
 /// Writes pieces, one behind the other.
 fn tell<R: Sink>(report: &mut R, pieces: &[&[u8]]) -> Result<(), Failed>

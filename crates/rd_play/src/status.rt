@@ -2,8 +2,8 @@
 ghost use Rattle.std.specs.Prelude.{◌≡◌};
 ghost use Rattle.rd_play.specs.Statuses.{code_of};
 
-use rd_script::OpFault;
 use rd_ascii::Refused;
+use rd_script::OpFault;
 
 /// Why a line of a script is bad.
 #[derive(Debug, Drop)]

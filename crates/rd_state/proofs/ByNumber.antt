@@ -81,12 +81,15 @@ one-further n j e rest w q p = record {
 found-by : (n i : ℕ) (ws : List Entry) → i ≡ place_in n ws → i < length ws → (w : WindowState) × IsPlace n i ws w
 found-by n i [] is less = absurd (omega arith)
 found-by n zero (e ∷ rest) is less = elim (cases_eq e.0 n) [
-  | inl p ↦ (e.1, record {
-    at = λ k. Some (p k, e.1);
-    window = window-here n e rest p;
-    changed = λ f. ap (λ (m : ℕ). (m, f e.1) ∷ rest) (sym p) ∙ sym (with-here n f e rest p);
-    removed = sym (without-here n e rest p);
-  })
+  | inl p ↦ (
+    e.1,
+    record {
+      at = λ k. Some (p k, e.1);
+      window = window-here n e rest p;
+      changed = λ f. ap (λ (m : ℕ). (m, f e.1) ∷ rest) (sym p) ∙ sym (with-here n f e rest p);
+      removed = sym (without-here n e rest p);
+    },
+  )
   | inr q ↦ absurd (omega (arith, place-there n e rest q, is))
 ]
 found-by n (suc j) (e ∷ rest) is less = elim (cases_eq e.0 n) [
@@ -224,8 +227,7 @@ apart-end [] e h none = (refl, tt)
 apart-end (x ∷ rest) e h none =
     let other : x.0 ≢ e.0 = λ p. some-none x.1 (window_of e.0 (x ∷ rest)) (window-here e.0 x rest p) none in
     let further : window_of e.0 rest ≡ None = sym (window-there e.0 x rest other) ∙ none in
-    let past : (if e.0 == x.0 then Some e.1 else None) ≡ None = passed (e.0 == x.0) (Some e.1) None (eq-false e.0 x.0 (λ p. other (sym p))) in
-    (
+    let past : (if e.0 == x.0 then Some e.1 else None) ≡ None = passed (e.0 == x.0) (Some e.1) None (eq-false e.0 x.0 (λ p. other (sym p))) in (
       window-end x.0 rest e ∙ (ap (λ (o : Option WindowState). option_or o (if e.0 == x.0 then Some e.1 else None)) h.0 ∙ past),
       apart-end rest e h.1 further,
     )

@@ -115,11 +115,14 @@ stays-dropped laws o number c d v h =
     let new = with_overlays c (overlays.dropped c.overlays number) in
     let outer = if-ok (is_some (overlay_at c.overlays number)) (Ok new) NoOverlay d h in
     let there = some-of (overlay_at c.overlays number) outer.0 in
-    let same : new ≡ d = cc (outer.1) in
-    (there.0, there.1, subst (StaysAround o there.0.from there.0.to c) same (record {
-      seen = laws.dropped (seen c) (seen new) o number there.0 there.1 (ordered o c v number there.0 there.1) (overlays-are c (overlays.dropped c.overlays number));
-      settings = refl;
-    }))
+    let same : new ≡ d = cc (outer.1) in (
+      there.0,
+      there.1,
+      subst (StaysAround o there.0.from there.0.to c) same (record {
+        seen = laws.dropped (seen c) (seen new) o number there.0 there.1 (ordered o c v number there.0 there.1) (overlays-are c (overlays.dropped c.overlays number));
+        settings = refl;
+      }),
+    )
 
 pub stays-given : (laws : LeaveLaws) (o : ObjectLists) (number : ℕ) (kind : Kind) (value : Option ℕ) (c d : ContentValue) → IsContent o c → overlay_putting o number kind value c ≡ Ok d
     → AroundOverlay o number c d
@@ -128,11 +131,14 @@ stays-given laws o number kind value c d v h =
     let outer = if-ok (is_some (overlay_at c.overlays number)) (if is_value_made o kind value then Ok new else Err NoObject) NoOverlay d h in
     let inner = if-ok (is_value_made o kind value) (Ok new) NoObject d outer.1 in
     let there = some-of (overlay_at c.overlays number) outer.0 in
-    let same : new ≡ d = cc (inner.1) in
-    (there.0, there.1, subst (StaysAround o there.0.from there.0.to c) same (record {
-      seen = laws.given (seen c) (seen new) o number there.0 kind value there.1 (ordered o c v number there.0 there.1) (overlays-are c (overlays.given c.overlays number kind value));
-      settings = refl;
-    }))
+    let same : new ≡ d = cc (inner.1) in (
+      there.0,
+      there.1,
+      subst (StaysAround o there.0.from there.0.to c) same (record {
+        seen = laws.given (seen c) (seen new) o number there.0 kind value there.1 (ordered o c v number there.0 there.1) (overlays-are c (overlays.given c.overlays number kind value));
+        settings = refl;
+      }),
+    )
 
 -- what happens around both ranges of an overlay
 abbrev pub AroundBoth : ObjectLists → ℕ → ℕ → ℕ → ContentValue → ContentValue → Type 0
@@ -146,11 +152,14 @@ stays-moved laws o number from to c d v h =
     let inner = if-ok in_range (Ok new) OutOfRange d outer.1 in
     let there = some-of (overlay_at c.overlays number) outer.0 in
     let range = is_range_of_all-means c.text from to inner.0 in
-    let same : new ≡ d = cc (inner.1) in
-    (there.0, there.1, subst (λ (x : ContentValue). Stays c o x o (min there.0.from from) (max there.0.to to + 1) (pos 0)) same (record {
-      seen = laws.moved (seen c) (seen new) o number from to there.0 there.1 (ordered o c v number there.0 there.1) range.ordered (overlays-are c (overlays.moved c.overlays number from to));
-      settings = refl;
-    }))
+    let same : new ≡ d = cc (inner.1) in (
+      there.0,
+      there.1,
+      subst (λ (x : ContentValue). Stays c o x o (min there.0.from from) (max there.0.to to + 1) (pos 0)) same (record {
+        seen = laws.moved (seen c) (seen new) o number from to there.0 there.1 (ordered o c v number there.0 there.1) range.ordered (overlays-are c (overlays.moved c.overlays number from to));
+        settings = refl;
+      }),
+    )
 
 pub stays-marked : (laws : LeaveLaws) (o : ObjectLists) (number : ℕ) (string : Option ℕ) (c d : ContentValue) → mark_putting o number string c ≡ Ok d → StaysWhole c o d o
 stays-marked laws o number string c d h =

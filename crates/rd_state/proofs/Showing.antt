@@ -295,12 +295,12 @@ mode_lining-valid laws s t number format v form h =
     let new : Configuration = record s.tree { windows = with_mode number (is_some format) s.tree.windows } in
     let valid = laws.mode s.tree d.0 number (is_some format) v.windows.tree d.1 in
     let made = retold s new number f (λ x. (is_some format, x.1)) v (subst tree.IsValid (sym is) valid) refl refl
-        (leaf-same number (λ _ margins. tree_window number (is_some format) margins) (λ x. (is_some format, x.1)) s.tree.windows (λ mode margins. here-leaf number (is_some format) margins))
-        (λ x. refl) (λ k q. leaf-other number k (λ _ margins. tree_window number (is_some format) margins) s.tree.windows q (λ mode margins. mode-leaf number k (is_some format) margins q))
-        (λ x old. look-keeps s.buffers x (record x { format = format }) refl refl refl old.pending old.hscroll (good-format format form good.0) old.numbers old.strings old) in
+    (leaf-same number (λ _ margins. tree_window number (is_some format) margins) (λ x. (is_some format, x.1)) s.tree.windows (λ mode margins. here-leaf number (is_some format) margins))
+    (λ x. refl) (λ k q. leaf-other number k (λ _ margins. tree_window number (is_some format) margins) s.tree.windows q (λ mode margins. mode-leaf number k (is_some format) margins q))
+    (λ x old. look-keeps s.buffers x (record x { format = format }) refl refl refl old.pending old.hscroll (good-format format form good.0) old.numbers old.strings old) in
     let end : record s { tree = new; windows = with_window number f s.windows } ≡ t
     = ap (λ (x : Configuration). record s { tree = x; windows = with_window number f s.windows }) is
-        ∙ (ap (λ (x : StateValue). record x { windows = with_window number f x.windows }) d.2 ∙ u.2) in
+    ∙ (ap (λ (x : StateValue). record x { windows = with_window number f x.windows }) d.2 ∙ u.2) in
     subst IsValid end made
 
 pub margining-valid : (laws : TreeLaws) (s t : StateValue) (number numbers strings : ℕ) → IsValid s → numbers ≤ 10 → strings ≤ 20 → margining s number numbers strings ≡ Ok t → IsValid t
@@ -313,12 +313,12 @@ margining-valid laws s t number numbers strings v few some h =
     let new : Configuration = record s.tree { windows = with_margins number (numbers + strings) s.tree.windows } in
     let valid = laws.margins s.tree d.0 number (numbers + strings) v.windows.tree d.1 in
     let made = retold s new number f (λ x. (x.0, numbers + strings)) v (subst tree.IsValid (sym is) valid) refl refl
-        (leaf-same number (λ mode _. tree_window number mode (numbers + strings)) (λ x. (x.0, numbers + strings)) s.tree.windows (λ mode margins. here-leaf number mode (numbers + strings)))
-        (λ x. refl) (λ k q. leaf-other number k (λ mode _. tree_window number mode (numbers + strings)) s.tree.windows q (λ mode margins. mode-leaf number k mode (numbers + strings) q))
-        (λ x old. look-keeps s.buffers x (record x { numbers = numbers; strings = strings }) refl refl refl old.pending old.hscroll old.format few some old) in
+    (leaf-same number (λ mode _. tree_window number mode (numbers + strings)) (λ x. (x.0, numbers + strings)) s.tree.windows (λ mode margins. here-leaf number mode (numbers + strings)))
+    (λ x. refl) (λ k q. leaf-other number k (λ mode _. tree_window number mode (numbers + strings)) s.tree.windows q (λ mode margins. mode-leaf number k mode (numbers + strings) q))
+    (λ x old. look-keeps s.buffers x (record x { numbers = numbers; strings = strings }) refl refl refl old.pending old.hscroll old.format few some old) in
     let end : record s { tree = new; windows = with_window number f s.windows } ≡ t
     = ap (λ (x : Configuration). record s { tree = x; windows = with_window number f s.windows }) is
-        ∙ (ap (λ (x : StateValue). record x { windows = with_window number f x.windows }) d.2 ∙ u.2) in
+    ∙ (ap (λ (x : StateValue). record x { windows = with_window number f x.windows }) d.2 ∙ u.2) in
     subst IsValid end made
 
 -- ---- splits

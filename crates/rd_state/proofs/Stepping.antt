@@ -144,8 +144,7 @@ insertion-means pos new c d h =
 
 pub insertion-keeps : (texts : TextLaws) (made : MadeLaws) (o : ObjectLists) (pos : ℕ) (new : List ℕ) → AreCodes new → Keeps o (place_after (Inserted pos (length new))) (insertion pos new)
 insertion-keeps texts made o pos new codes c d v h =
-    let m = insertion-means pos new c d h in
-    (
+    let m = insertion-means pos new c d h in (
       subst (IsContent o) m.2 (grown-valid texts made o c pos new v codes m.0 m.1),
       λ p a. subst (λ (x : ContentValue). IsAccessible x.text (after_insertion pos (length new) p)) m.2 (moved_by (nat_lt pos p) c.text.begin c.text.end p (length new) a.0 a.1),
     )
@@ -163,8 +162,7 @@ deletion-keeps texts made o from to c d v h =
     let at = m.0 in
     let low = at.first in
     let ordered = at.ordered in
-    let high = at.last in
-    (
+    let high = at.last in (
       subst (IsContent o) m.1 (shrunk-valid texts made o c from to v at),
       λ p a. subst (λ (x : ContentValue). IsAccessible x.text (after_deletion from to p)) m.1
           (moved_back (nat_lt p from) (nat_lt p to) c.text.begin c.text.end p from to refl refl low ordered high a.0 a.1),
@@ -184,8 +182,7 @@ pub narrowing-keeps : (texts : TextLaws) (o : ObjectLists) (from to : ℕ) → K
 narrowing-keeps texts o from to c d v h =
     let m = narrowing-means from to c d h in
     let at = m.0 in
-    let ordered = at.ordered in
-    (
+    let ordered = at.ordered in (
       subst (IsContent o) m.1 (narrowed-valid texts o c from to v at),
       λ p a. subst (λ (x : ContentValue). IsAccessible x.text (brought_into from to p)) m.1 (brought from to p ordered),
     )
@@ -195,8 +192,7 @@ widening-keeps texts o c d v h =
     let made : ContentValue = record c { text = record { text = c.text.text; begin = 1; end = length c.text.text + 1 } } in
     let same : made ≡ d = cc (h) in
     let first = v.text.first in
-    let last = v.text.last in
-    (
+    let last = v.text.last in (
       subst (IsContent o) same (widened-valid texts o c v),
       λ p a. let low = a.0 in let high = a.1 in subst (λ (x : ContentValue). IsAccessible x.text p) same (omega arith, omega arith),
     )

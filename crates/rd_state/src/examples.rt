@@ -15,17 +15,7 @@ ghost use Rattle.rd_state.specs.Steps.{step};
 ghost use Rattle.rd_state.specs.Examples.{after, told, shown_text};
 
 /// A text is put in and narrowed: the point is brought into the range, and stays there when the whole text is accessible again.
-#[tactic(
-    auto,
-    unfolding(
-        crate::specs::Steps::step,
-        rd_tree::specs::Calls::split_tree,
-        rd_tree::specs::Calls::remove_tree,
-        rd_tree::specs::Calls::resize_tree,
-        rd_tree::specs::Calls::mode_tree,
-        rd_tree::specs::Calls::margins_tree
-    )
-)]
+#[tactic(auto, unfolding(crate::specs::Steps::step, rd_tree::specs::Calls::split_tree, rd_tree::specs::Calls::remove_tree, rd_tree::specs::Calls::resize_tree, rd_tree::specs::Calls::mode_tree, rd_tree::specs::Calls::margins_tree))]
 fn narrowing_brings_points_in()
     ensures text { told shown_text (after (Insert main_name 1 (codes "abcde") ∷ Narrow main_name 2 5 ∷ [])) ≡ Ok (record { text = codes "abcde"; begin = 2; end = 5 }) }
     ensures point { told (λ s. (selected_window s).point) (after (Insert main_name 1 (codes "abcde") ∷ Narrow main_name 2 5 ∷ Widen main_name ∷ [])) ≡ Ok 2 }
@@ -33,17 +23,7 @@ fn narrowing_brings_points_in()
 {}
 
 /// What typing moves, and that what stands at the place of an insertion stays.
-#[tactic(
-    auto,
-    unfolding(
-        crate::specs::Steps::step,
-        rd_tree::specs::Calls::split_tree,
-        rd_tree::specs::Calls::remove_tree,
-        rd_tree::specs::Calls::resize_tree,
-        rd_tree::specs::Calls::mode_tree,
-        rd_tree::specs::Calls::margins_tree
-    )
-)]
+#[tactic(auto, unfolding(crate::specs::Steps::step, rd_tree::specs::Calls::split_tree, rd_tree::specs::Calls::remove_tree, rd_tree::specs::Calls::resize_tree, rd_tree::specs::Calls::mode_tree, rd_tree::specs::Calls::margins_tree))]
 fn points_move_with_the_text()
     ensures typed { told (λ s. (selected_window s).point) (after (TypeText (codes "abc") ∷ [])) ≡ Ok 4 }
     ensures stays { told (λ s. (selected_window s).point) (after (TypeText (codes "abc") ∷ Insert main_name 4 (codes "d") ∷ [])) ≡ Ok 4 }
@@ -56,17 +36,7 @@ fn points_move_with_the_text()
 {}
 
 /// Refusals, each the first of its op's.
-#[tactic(
-    auto,
-    unfolding(
-        crate::specs::Steps::step,
-        rd_tree::specs::Calls::split_tree,
-        rd_tree::specs::Calls::remove_tree,
-        rd_tree::specs::Calls::resize_tree,
-        rd_tree::specs::Calls::mode_tree,
-        rd_tree::specs::Calls::margins_tree
-    )
-)]
+#[tactic(auto, unfolding(crate::specs::Steps::step, rd_tree::specs::Calls::split_tree, rd_tree::specs::Calls::remove_tree, rd_tree::specs::Calls::resize_tree, rd_tree::specs::Calls::mode_tree, rd_tree::specs::Calls::margins_tree))]
 fn refusals_come_in_order()
     ensures name { after (Buffer main_name ∷ []) ≡ Err NameTaken }
     ensures buffer { after (Show 0 (codes "x") ∷ []) ≡ Err NoBuffer }
@@ -86,17 +56,7 @@ fn refusals_come_in_order()
 {}
 
 /// A window is split, and its part removed.
-#[tactic(
-    auto,
-    unfolding(
-        crate::specs::Steps::step,
-        rd_tree::specs::Calls::split_tree,
-        rd_tree::specs::Calls::remove_tree,
-        rd_tree::specs::Calls::resize_tree,
-        rd_tree::specs::Calls::mode_tree,
-        rd_tree::specs::Calls::margins_tree
-    )
-)]
+#[tactic(auto, unfolding(crate::specs::Steps::step, rd_tree::specs::Calls::split_tree, rd_tree::specs::Calls::remove_tree, rd_tree::specs::Calls::resize_tree, rd_tree::specs::Calls::mode_tree, rd_tree::specs::Calls::margins_tree))]
 fn windows_are_split_and_removed()
     ensures heir { told (λ s. s.selected) (after (Frame 24 6 ∷ Split 0 Right 11 ∷ Remove 0 ∷ [])) ≡ Ok 1 }
     ensures left { told (λ s. leaves s.tree.windows) (after (Frame 24 6 ∷ Split 0 Right 11 ∷ Remove 0 ∷ [])) ≡ Ok (1 ∷ []) }

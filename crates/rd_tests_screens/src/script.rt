@@ -232,11 +232,7 @@ fn the_first_fault_is_told(rt: HostRuntime) {
             "mode",
         ),
         (r#"{"op":"redisplay","stop":200}"#, "NotBuilt", ""),
-        (
-            r#"{"op":"wrap","window":0,"mode":"word"}"#,
-            "NotBuilt",
-            "",
-        ),
+        (r#"{"op":"wrap","window":0,"mode":"word"}"#, "NotBuilt", ""),
         (r#"{"op":"margin","window":-1}"#, "NoSuchOp", ""),
         (
             r#"{"op":"setting","buffer":"x","name":"table"}"#,

@@ -1,8 +1,8 @@
 //! States on plain cases.
 use crate::claims::{assert_at, assert_of};
+use rd_ascii::{Effect, Refused, State, WindowState};
 use rd_base::{Anchor, Wrap};
 use rd_script::{Op, read_op};
-use rd_ascii::{Effect, Refused, State, WindowState};
 use std::alloc::{AllocError, Global};
 use std::test::Fail;
 
