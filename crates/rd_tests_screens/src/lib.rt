@@ -7,6 +7,7 @@
 mod claims;
 #[cfg(test)]
 mod generate;
+#[cfg(test)]
 mod io;
 #[cfg(test)]
 mod script;
