@@ -5,7 +5,7 @@ use Rattle.rd_play.specs.declared.act.Run.{Run}
 use Rattle.rd_play.specs.Reports.{last_line}
 use Rattle.rd_play.specs.Words.{dumps}
 use Rattle.rd_play.specs.Runs.{Turn, Standing, Effect, opened, run, effect}
-use Rattle.rd_play.specs.Ends.{Sunk, Took, Broke, Comes, IsInHand}
+use Rattle.rd_play.specs.Ends.{Drawn, Sunk, Took, Broke, Comes, IsInHand}
 use Rattle.rd_play.specs.declared.halt.Halt.{Halt}
 use Rattle.rd_play.specs.declared.halt.Halt.TheVariants as halts
 use Rattle.rd_play.specs.declared.halt.Stop.{Stop}
@@ -42,16 +42,17 @@ Acts (Err halts.ScreenBroke) does after screen report =
 Acts (Err halts.ReportBroke) does after screen report =
     (starved : Bool) × ((does false).shown ≡ true) × Took screen (does starved).sent × Broke report [] (does starved).told
 
--- what was written before the last line of the report
-abbrev pub Stopped : Stop → Option Bool → List Turn → List ℕ → Option (List ℕ) → Sunk → Sunk → Type 0
-Stopped (stops.Ends status lines) mode turns bytes left screen report =
-    Comes mode status turns bytes left × (lines ≡ length turns) × Took screen (run (opened (dumps mode)) turns).sent × Took report (run (opened (dumps mode)) turns).told
-Stopped stops.ScreenBroke mode turns bytes left screen report =
-    (line : List ℕ) × IsInHand (dumps mode) turns line bytes left × Broke screen (run (opened (dumps mode)) turns).sent (effect (run (opened (dumps mode)) turns).now (turn_of line false)).sent
-    × Took report (run (opened (dumps mode)) turns).told
-Stopped stops.ReportBroke mode turns bytes left screen report =
-    (t : Turn) × IsInHand (dumps mode) turns t.line bytes left × Took screen ((run (opened (dumps mode)) turns).sent ++ (effect (run (opened (dumps mode)) turns).now t).sent)
-    × Broke report (run (opened (dumps mode)) turns).told (effect (run (opened (dumps mode)) turns).now t).told
+-- What was written before the last line of the report. Where the words are not known no line is run, so none breaks.
+abbrev pub Stopped : Stop → Option Bool → List Turn → List ℕ → Drawn → Sunk → Sunk → Type 0
+Stopped (stops.Ends status lines) mode turns bytes source screen report =
+    Comes mode status turns bytes source × (lines ≡ length turns) × Took screen (run (opened (dumps mode)) turns).sent × Took report (run (opened (dumps mode)) turns).told
+Stopped stop None turns bytes source screen report = ⊥
+Stopped stops.ScreenBroke (Some dump) turns bytes source screen report =
+    (line : List ℕ) × IsInHand dump turns line bytes source.left × Broke screen (run (opened dump) turns).sent (effect (run (opened dump) turns).now (turn_of line false)).sent
+    × Took report (run (opened dump) turns).told
+Stopped stops.ReportBroke (Some dump) turns bytes source screen report =
+    (t : Turn) × IsInHand dump turns t.line bytes source.left × Took screen ((run (opened dump) turns).sent ++ (effect (run (opened dump) turns).now t).sent)
+    × Broke report (run (opened dump) turns).told (effect (run (opened dump) turns).now t).told
 
 -- a line was told, and this status is answered, or the report broke
 abbrev pub Tells : Status → List ℕ → Status → Sunk → Type 0
@@ -76,8 +77,3 @@ halted_by (halts.Bad fault) lines = stops.Ends (BadScript (lines + 1) fault) (li
 halted_by halts.NoMemory lines = stops.Ends NoMemory lines
 halted_by halts.ScreenBroke lines = stops.ScreenBroke
 halted_by halts.ReportBroke lines = stops.ReportBroke
-
--- a run ended because the source failed
-abbrev pub IsReadFault : Stop → Type 0
-IsReadFault (stops.Ends ReadFault lines) = Unit {0}
-IsReadFault stop = ⊥

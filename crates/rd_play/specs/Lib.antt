@@ -1,4 +1,5 @@
 pub mod Acts
+pub mod Alike
 pub mod Ends
 pub mod Reports
 pub mod Runs
