@@ -1,6 +1,10 @@
+pub mod Acting
+pub mod Alike
 pub mod Ending
 pub mod Headline
 pub mod Reading
 pub mod Running
+pub mod Scripts
 pub mod Telling
+pub mod Turns
 pub mod Validity

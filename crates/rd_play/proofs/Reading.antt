@@ -6,11 +6,12 @@ use Rattle.std.proofs.KnownBytes.{Consumes-nil, Consumes-trans}
 use Rattle.rd_io.specs.Lines.{Reading, Answers, GivesWhole, GivesLast, GivesNone, IsUnbroken, lines_of, joined, last_of, unread}
 use Rattle.rd_io.specs.declared.lines.LineFault.{LineFault}
 use Rattle.rd_io.proofs.Cuts.{lines-joined}
-use Rattle.rd_play.specs.Ends.{AreFirst}
+use Rattle.rd_play.specs.Ends.{AreFirst, AreInLimits}
 
 pub record HasRead (lines : List (List ℕ)) (bytes : List ℕ) (l0 l1 : Option (List ℕ)) (r : Reading) : Type 0 where
   pub taken : Consumes l0 l1 bytes
   pub unbroken : AllByRecursion IsUnbroken lines
+  pub short : AllByRecursion (λ line. length line ≤ 1048576) lines
   pub split : r.ended ≡ false → bytes ≡ joined lines ++ r.held
   pub over : r.ended ≡ true → (lines_of bytes ≡ lines) × IsAtEnd l1
   pub count : r.given ≡ length lines
@@ -20,7 +21,7 @@ pub record HasRead (lines : List (List ℕ)) (bytes : List ℕ) (l0 l1 : Option 
 -- a reader that has read nothing
 pub read-nothing : (l : Option (List ℕ)) (r : Reading) → r ≡ unread → HasRead [] [] l l r
 read-nothing l r e =
-    let at : HasRead [] [] l l unread = record { taken = Consumes-nil l; unbroken = tt; split = λ p. refl; over = λ p. absurd (let q : false ≡ true = p in cc); count = refl; few = omega arith; clear = refl } in
+    let at : HasRead [] [] l l unread = record { taken = Consumes-nil l; unbroken = tt; short = tt; split = λ p. refl; over = λ p. absurd (let q : false ≡ true = p in cc); count = refl; few = omega arith; clear = refl } in
     subst (HasRead [] [] l l) (sym e) at
 
 -- ---- one more line
@@ -54,6 +55,7 @@ read-whole : (lines : List (List ℕ)) (bytes more : List ℕ) (l0 l1 l2 : Optio
 read-whole lines bytes more l0 l1 l2 old new h p off g = record {
   taken = Consumes-trans l0 l1 l2 bytes more h.taken p;
   unbroken = all-push IsUnbroken lines new.line h.unbroken g.line.unbroken;
+  short = all-push (λ line. length line ≤ 1048576) lines new.line h.short g.line.short;
   split = λ q. come lines bytes old.held more (h.split off) ∙ ap (λ l. joined lines ++ l) g.split ∙ sym (joined-push lines new.line new.held);
   over = λ q. absurd (not-over new.ended g.goes_on q);
   count = let a = h.count in let b = g.line.count in omega (arith, length-push lines new.line);
@@ -66,6 +68,7 @@ read-last : (lines : List (List ℕ)) (bytes more : List ℕ) (l0 l1 l2 : Option
 read-last lines bytes more l0 l1 l2 old new h p off g = record {
   taken = Consumes-trans l0 l1 l2 bytes more h.taken p;
   unbroken = all-push IsUnbroken lines new.line h.unbroken g.line.unbroken;
+  short = all-push (λ line. length line ≤ 1048576) lines new.line h.short g.line.short;
   split = λ q. absurd (not-over new.ended q g.ended);
   over = λ q. (
     ap lines_of (come lines bytes old.held more (h.split off) ∙ ap (λ l. joined lines ++ l) g.split) ∙ lines-joined lines new.line h.unbroken g.line.unbroken
@@ -86,10 +89,14 @@ pub line-given : (old new : Reading) (more : List ℕ) (l2 : Option (List ℕ)) 
 line-given old new more l2 (inl g) = (g.line.count, g.line.few)
 line-given old new more l2 (inr g) = (g.line.count, g.line.few)
 
+-- the lines given pass no limit
+pub in-limits : (lines : List (List ℕ)) (bytes : List ℕ) (l0 l1 : Option (List ℕ)) (r : Reading) → HasRead lines bytes l0 l1 r → AreInLimits lines
+in-limits lines bytes l0 l1 r h = record { short = h.short; few = let a = h.few in let b = h.count in omega arith }
+
 -- the lines given are the first ones of the bytes taken
 first-if : (b : Bool) (lines : List (List ℕ)) (bytes : List ℕ) (l0 l1 : Option (List ℕ)) (r : Reading) → r.ended ≡ b → HasRead lines bytes l0 l1 r → AreFirst lines bytes l1
-first-if false lines bytes l0 l1 r e h = inl (r.held, (h.unbroken, h.split e))
-first-if true lines bytes l0 l1 r e h = inr (h.over e)
+first-if false lines bytes l0 l1 r e h = (in-limits lines bytes l0 l1 r h, inl (r.held, (h.unbroken, h.split e)))
+first-if true lines bytes l0 l1 r e h = (in-limits lines bytes l0 l1 r h, inr (h.over e))
 
 pub are-first : (lines : List (List ℕ)) (bytes : List ℕ) (l0 l1 : Option (List ℕ)) (r : Reading) → HasRead lines bytes l0 l1 r → AreFirst lines bytes l1
 are-first lines bytes l0 l1 r h = first-if r.ended lines bytes l0 l1 r refl h

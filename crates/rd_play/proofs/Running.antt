@@ -1,9 +1,10 @@
 -- A run, one line after another, against what was read and written.
-use Rattle.std.proofs.Common.{◌≡◌, ℕ, ◌+◌, ◌<◌, ◌≤◌, inl, inr, Bool, true, false, List, [], ◌∷◌, ◌++◌, length, Option, None, Some, is_some, if◌then◌else◌, Result, Ok, Err, refl, sym, ap, ◌∙◌, subst, append-nil, arith, length-append}
-use Rattle.std.proofs.lemmas.List.{map-append}
+use Rattle.std.proofs.Common.{◌≡◌, ℕ, ◌+◌, ◌<◌, ◌≤◌, ◌⊎◌, inl, inr, Bool, true, false, List, [], ◌∷◌, ◌++◌, length, Option, None, Some, if◌then◌else◌, Result, Ok, Err, refl, sym, ap, ◌∙◌, subst, append-nil, arith}
 use Rattle.std.specs.Io.KnownBytes.{Consumes, Appends}
 use Rattle.std.proofs.KnownBytes.{Appends-nil, Appends-trans, Consumes-nil, Consumes-trans}
+use Rattle.rd_io.specs.Devices.{Rose}
 use Rattle.rd_io.specs.Lines.{Reading, Answers, Cause}
+use Rattle.rd_io.proofs.Bytes.{rose-after}
 use Rattle.rd_io.specs.declared.lines.LineFault.{LineFault}
 use Rattle.rd_io.specs.declared.lines.LineFault.TheVariants as reader
 use Rattle.rd_script.specs.Reading.{reading}
@@ -13,41 +14,18 @@ use Rattle.rd_ascii.specs.States.{StateValue}
 use Rattle.rd_ascii.specs.Steps.{step}
 use Rattle.rd_ascii.specs.declared.refused.Refused.{Refused}
 use Rattle.rd_play.specs.Acts.{Acts, Stopped, turn_of, ended_by, halted_by}
-use Rattle.rd_play.specs.Ends.{Sunk, sunk, Took, Broke, AreFirst, Begins, lines_in, IsBad, IsInHand}
-use Rattle.rd_play.specs.Runs.{Turn, Standing, Effect, World, opened, run, turn, after, effect, effect_of_reading, effect_by, asked, is_blank, stepped}
+use Rattle.rd_play.specs.Ends.{Drawn, drawn, Sunk, sunk, Took, Broke, AreFirst, AreInLimits, GoesOn, lines_in, IsBad, IsInHand}
+use Rattle.rd_play.specs.Runs.{Turn, Standing, Effect, World, opened, run, after, effect, effect_of_reading, effect_by, asked, is_blank, stepped}
 use Rattle.rd_play.specs.declared.halt.Halt.{Halt}
 use Rattle.rd_play.specs.declared.halt.Halt.TheVariants as halts
 use Rattle.rd_play.specs.declared.halt.Stop.{Stop}
 use Rattle.rd_play.specs.declared.halt.Stop.TheVariants as stops
 use Rattle.rd_play.specs.declared.status.Status.TheVariants as statuses
-use Rattle.rd_play.proofs.Reading.{HasRead, read-line, line-given, are-first, read-over, come}
+use Rattle.rd_play.proofs.Reading.{HasRead, read-line, line-given, in-limits, are-first, read-over, come}
 use Rattle.rd_play.proofs.Telling.{broke-after}
+use Rattle.rd_play.proofs.Turns.{lines-length, lines-push, turns-push, run-push, turn-goes}
 
--- ---- runs
-
-pub run-push : (w : World) (ts : List Turn) (t : Turn) → run w (ts ++ t ∷ []) ≡ turn (run w ts) t
-run-push w [] t = refl
-run-push w (u ∷ us) t = run-push (turn w u) us t
-
-goes-if : (b : Bool) (w v : World) → b ≡ false → (if b then w else v) ≡ v
-goes-if false w v e = refl
-goes-if true w v e = absurd (let q : true ≡ false = e in cc)
-
-no-fault : (w : World) → w.fault ≡ None → is_some w.fault ≡ false
-no-fault w e = ap is_some e
-
-pub turn-goes : (w : World) (t : Turn) → w.fault ≡ None → turn w t ≡ after w (effect w.now t)
-turn-goes w t e = goes-if (is_some w.fault) w (after w (effect w.now t)) (no-fault w e)
-
-pub lines-push : (ts : List Turn) (t : Turn) → lines_in (ts ++ t ∷ []) ≡ lines_in ts ++ t.line ∷ []
-lines-push ts t = map-append (λ (u : Turn). u.line) ts (t ∷ [])
-
-lines-length : (ts : List Turn) → length (lines_in ts) ≡ length ts
-lines-length [] = refl
-lines-length (t ∷ ts) = omega (arith, lines-length ts)
-
-turns-push : (ts : List Turn) (t : Turn) → length (ts ++ t ∷ []) ≡ length ts + 1
-turns-push ts t = omega (arith, length-append ts (t ∷ []))
+-- ---- the count of lines
 
 -- each line counts
 step-counts : (place : Standing) (op : Op) (r : Result StateValue Refused) → (stepped place op r).now.lines ≡ place.lines + 1
@@ -91,7 +69,7 @@ Running dump l0 l1 r place screen report = (turns : List Turn) × (bytes : List 
 -- a line was read, and is to be run
 pub record IsHanded (dump : Bool) (turns : List Turn) (bytes : List ℕ) (l0 l1 : Option (List ℕ)) (r : Reading) (place : Standing) (screen report : Sunk) : Type 0 where
   pub read : HasRead (lines_in turns ++ r.line ∷ []) bytes l0 l1 r
-  pub before : (rest : List ℕ) × Begins (lines_in turns) bytes rest
+  pub before : (rest : List ℕ) × GoesOn turns bytes rest
   pub ran : HasRun dump turns place screen report
   pub counted : place.lines ≡ length turns
   pub few : place.lines < 1000000
@@ -111,7 +89,7 @@ handed dump l0 l1 l2 old new place screen report h off p =
       bytes ++ more,
       record {
         read = read-line (lines_in turns) bytes more l0 l1 l2 old new m.read p.1 off p.2;
-        before = (old.held ++ more, (m.read.unbroken, come (lines_in turns) bytes old.held more (m.read.split off)));
+        before = (old.held ++ more, (in-limits (lines_in turns) bytes l0 l1 old m.read, (m.read.unbroken, come (lines_in turns) bytes old.held more (m.read.split off))));
         ran = m.ran;
         counted = m.counted;
         few = let a = m.read.count in let b = m.counted in let c = line.1 in omega (arith, lines-length turns);
@@ -162,58 +140,69 @@ ran-line dump l0 l1 r line place next s0 s1 s2 p0 p1 p2 m0 m1 m2 n0 n1 n2 same h
 
 -- ---- how a run ends
 
-abbrev pub Halts : Stop → Bool → Option (List ℕ) → Option (List ℕ) → Sunk → Sunk → Type 0
-Halts stop dump l0 l1 screen report = (turns : List Turn) × (bytes : List ℕ) × Consumes l0 l1 bytes × Stopped stop (Some dump) turns bytes l1 screen report
+abbrev pub Halts : Stop → Bool → Option (List ℕ) → Drawn → Sunk → Sunk → Type 0
+Halts stop dump l0 source screen report = (turns : List Turn) × (bytes : List ℕ) × Consumes l0 source.left bytes × Stopped stop (Some dump) turns bytes source screen report
 
-pub halts-as : (s t : Stop) (dump : Bool) (l0 l1 : Option (List ℕ)) (screen report : Sunk) → s ≡ t → Halts t dump l0 l1 screen report → Halts s dump l0 l1 screen report
-halts-as s t dump l0 l1 screen report e h = subst (λ x. Halts x dump l0 l1 screen report) (sym e) h
+pub halts-as : (s t : Stop) (dump : Bool) (l0 : Option (List ℕ)) (source : Drawn) (screen report : Sunk) → s ≡ t → Halts t dump l0 source screen report → Halts s dump l0 source screen report
+halts-as s t dump l0 source screen report e h = subst (λ x. Halts x dump l0 source screen report) (sym e) h
 
 -- no memory for the first line
-pub no-memory : (dump : Bool) (l s p : Option (List ℕ)) (m n : ℕ) → Halts (stops.Ends statuses.NoMemory 0) dump l l (sunk s s m m) (sunk p p n n)
-no-memory dump l s p m n = ([], [], Consumes-nil l, ((refl, ([], (tt, refl))), refl, Appends-nil s, Appends-nil p))
+pub no-memory : (dump : Bool) (l s p : Option (List ℕ)) (q m n : ℕ) → Halts (stops.Ends statuses.NoMemory 0) dump l (drawn l q q) (sunk s s m m) (sunk p p n n)
+no-memory dump l s p q m n =
+    let none : AreInLimits [] = record { short = tt; few = omega arith } in
+    ([], [], Consumes-nil l, ((refl, ([], (none, (tt, refl)))), refl, Appends-nil s, Appends-nil p))
 
 -- no line is left
-pub ends-done : (dump : Bool) (l0 l1 l2 : Option (List ℕ)) (old new : Reading) (place : Standing) (screen report : Sunk) → Running dump l0 l1 old place screen report → (old.ended ≡ true → l2 ≡ l1)
+pub ends-done : (dump : Bool) (l0 l1 l2 : Option (List ℕ)) (q0 q1 : ℕ) (old new : Reading) (place : Standing) (screen report : Sunk) → Running dump l0 l1 old place screen report → (old.ended ≡ true → l2 ≡ l1)
     → (more : List ℕ) × Consumes l1 l2 more × Answers (Ok false) old new more l2
-    → Halts (stops.Ends statuses.Done place.lines) dump l0 l2 screen report
-ends-done dump l0 l1 l2 old new place screen report h same p =
+    → Halts (stops.Ends statuses.Done place.lines) dump l0 (drawn l2 q0 q1) screen report
+ends-done dump l0 l1 l2 q0 q1 old new place screen report h same p =
     let k = h.2 in
     let o = read-over (lines_in h.0) h.1 p.0 l0 l1 l2 old new k.read p.1 same p.2 in
-    (h.0, h.1 ++ p.0, o.0, ((k.ran.whole, o.1, o.2), k.counted, k.ran.sent, k.ran.told))
+    (h.0, h.1 ++ p.0, o.0, ((k.ran.whole, in-limits (lines_in h.0) h.1 l0 l1 old k.read, o.1, o.2), k.counted, k.ran.sent, k.ran.told))
+
+-- a line may still begin behind so many
+may-begin : (given n : ℕ) (rest : List ℕ) → given ≡ n → (given < 1000000) ⊎ (rest ≡ []) → (n < 1000000) ⊎ (rest ≡ [])
+may-begin given n rest e (inl few) = inl (omega arith)
+may-begin given n rest e (inr none) = inr none
 
 -- the reader answers a fault
-fault-comes : (dump : Bool) (fault : LineFault) (turns : List Turn) (place : Standing) (bytes rest : List ℕ) (left : Option (List ℕ)) (old : Reading) (screen report : Sunk) → HasRun dump turns place screen report
-    → Begins (lines_in turns) bytes rest → old.given ≡ length turns → old.given ≤ 1000000 → place.lines ≡ length turns → Cause fault old.given rest
-    → Stopped (ended_by fault place.lines) (Some dump) turns bytes left screen report
-fault-comes dump reader.Failed turns place bytes rest left old screen report r e count few lines c = ((r.whole, (rest, e, c.0)), lines, r.sent, r.told)
-fault-comes dump reader.TooLong turns place bytes rest left old screen report r e count few lines c =
-    (inr (record { ran = r.whole; at = omega arith; over = (rest, e, c.1, c.2) }), lines, r.sent, r.told)
-fault-comes dump reader.TooMany turns place bytes rest left old screen report r e count few lines c =
-    let least = c.0 in (inr (record { ran = r.whole; at = omega arith; over = (rest, e, c.1, omega arith) }), lines, r.sent, r.told)
-fault-comes dump reader.Memory turns place bytes rest left old screen report r e count few lines c = ((r.whole, (rest, e)), lines, r.sent, r.told)
+fault-comes : (dump : Bool) (fault : LineFault) (turns : List Turn) (place : Standing) (bytes rest : List ℕ) (source : Drawn) (old : Reading) (screen report : Sunk) → HasRun dump turns place screen report
+    → GoesOn turns bytes rest → old.given ≡ length turns → old.given ≤ 1000000 → place.lines ≡ length turns → (fault ≡ reader.Failed → Rose source.faults_before source.faults_after)
+    → Cause fault old.given rest → Stopped (ended_by fault place.lines) (Some dump) turns bytes source screen report
+fault-comes dump reader.Failed turns place bytes rest source old screen report r e count few lines rose c =
+    ((r.whole, rose refl, (rest, e, (c.0, c.1, may-begin old.given (length turns) rest count c.2))), lines, r.sent, r.told)
+fault-comes dump reader.TooLong turns place bytes rest source old screen report r e count few lines rose c =
+    let less = c.0 in (inr (record { ran = r.whole; at = omega arith; over = (rest, e, omega arith, c.1, c.2) }), lines, r.sent, r.told)
+fault-comes dump reader.TooMany turns place bytes rest source old screen report r e count few lines rose c =
+    let least = c.0 in (inr (record { ran = r.whole; at = omega arith; over = (rest, e, omega arith, c.1) }), lines, r.sent, r.told)
+fault-comes dump reader.Memory turns place bytes rest source old screen report r e count few lines rose c = ((r.whole, (rest, e)), lines, r.sent, r.told)
 
-pub ends-fault : (dump : Bool) (l0 l1 l2 : Option (List ℕ)) (old new : Reading) (fault : LineFault) (place : Standing) (screen report : Sunk) → Running dump l0 l1 old place screen report → old.ended ≡ false
+pub ends-fault : (dump : Bool) (l0 l1 l2 : Option (List ℕ)) (q0 q1 q2 : ℕ) (old new : Reading) (fault : LineFault) (result : Result Bool LineFault) (place : Standing) (screen report : Sunk)
+    → Running dump l0 l1 old place screen report → old.ended ≡ false → result ≡ Err fault → q0 ≤ q1 → (result ≡ Err reader.Failed → Rose q1 q2)
     → (more : List ℕ) × Consumes l1 l2 more × Answers (Err fault) old new more l2
-    → Halts (ended_by fault place.lines) dump l0 l2 screen report
-ends-fault dump l0 l1 l2 old new fault place screen report h off p =
+    → Halts (ended_by fault place.lines) dump l0 (drawn l2 q0 q2) screen report
+ends-fault dump l0 l1 l2 q0 q1 q2 old new fault result place screen report h off is before rose p =
     let turns = h.0 in
     let bytes = h.1 in
     let k = h.2 in
-    let more = p.0 in (
+    let more = p.0 in
+    let goes : GoesOn turns (bytes ++ more) (old.held ++ more) =
+    (in-limits (lines_in turns) bytes l0 l1 old k.read, (k.read.unbroken, come (lines_in turns) bytes old.held more (k.read.split off))) in
+    let failed : fault ≡ reader.Failed → Rose q0 q2 = λ e. rose-after q0 q1 q2 before (rose (is ∙ ap (λ f. Err f) e)) in (
       turns,
       bytes ++ more,
       Consumes-trans l0 l1 l2 bytes more k.read.taken p.1,
-      fault-comes dump fault turns place (bytes ++ more) (old.held ++ more) l2 old screen report k.ran (k.read.unbroken, come (lines_in turns) bytes old.held more (k.read.split off))
-          (k.read.count ∙ lines-length turns) k.read.few k.counted p.2.0,
+      fault-comes dump fault turns place (bytes ++ more) (old.held ++ more) (drawn l2 q0 q2) old screen report k.ran goes (k.read.count ∙ lines-length turns) k.read.few k.counted failed p.2.0,
     )
 
 -- the run halts at a line
-pub ends-halt : (dump : Bool) (l0 l1 : Option (List ℕ)) (r : Reading) (line : List ℕ) (halt : Halt) (place next : Standing) (s0 s1 s2 p0 p1 p2 : Option (List ℕ)) (m0 m1 m2 n0 n1 n2 : ℕ)
+pub ends-halt : (dump : Bool) (l0 l1 : Option (List ℕ)) (q0 q1 : ℕ) (r : Reading) (line : List ℕ) (halt : Halt) (place next : Standing) (s0 s1 s2 p0 p1 p2 : Option (List ℕ)) (m0 m1 m2 n0 n1 n2 : ℕ)
     → line ≡ r.line → m0 ≤ m1 → n0 ≤ n1
     → Handed dump l0 l1 r place (sunk s0 s1 m0 m1) (sunk p0 p1 n0 n1)
     → Acts (Err halt) (λ starved. effect place (turn_of line starved)) next (sunk s1 s2 m1 m2) (sunk p1 p2 n1 n2)
-    → Halts (halted_by halt place.lines) dump l0 l1 (sunk s0 s2 m0 m2) (sunk p0 p2 n0 n2)
-ends-halt dump l0 l1 r line (halts.Bad fault) place next s0 s1 s2 p0 p1 p2 m0 m1 m2 n0 n1 n2 same m n h a =
+    → Halts (halted_by halt place.lines) dump l0 (drawn l1 q0 q1) (sunk s0 s2 m0 m2) (sunk p0 p2 n0 n2)
+ends-halt dump l0 l1 q0 q1 r line (halts.Bad fault) place next s0 s1 s2 p0 p1 p2 m0 m1 m2 n0 n1 n2 same m n h a =
     let turns = h.0 in
     let k = h.2 in
     let t = turn_of line false in
@@ -224,6 +213,10 @@ ends-halt dump l0 l1 r line (halts.Bad fault) place next s0 s1 s2 p0 p1 p2 m0 m1
     let read_is : lines_in turns ++ r.line ∷ [] ≡ lines_in (turns ++ t ∷ []) = ap (λ x. lines_in turns ++ x ∷ []) (sym same) ∙ sym (lines-push turns t) in
     let count : place.lines + 1 ≡ length (turns ++ t ∷ []) = ap (λ i. i + 1) k.counted ∙ sym (turns-push turns t) in
     let bad : IsBad dump fault (place.lines + 1) (turns ++ t ∷ []) h.1 l1 = record {
+      others = turns;
+      last = t;
+      split = refl;
+      ran = k.ran.whole;
       ended = ap (λ (x : World). x.fault) world ∙ a.0;
       at = count;
       lines = subst (λ ls. AreFirst ls h.1 l1) read_is (are-first (lines_in turns ++ r.line ∷ []) h.1 l0 l1 r k.read);
@@ -238,7 +231,7 @@ ends-halt dump l0 l1 r line (halts.Bad fault) place next s0 s1 s2 p0 p1 p2 m0 m1
         subst (Appends p0 p2) (sym (ap (λ (x : World). x.told) world)) (Appends-trans p0 p1 p2 w.told e.told k.ran.told a.2),
       ),
     )
-ends-halt dump l0 l1 r line halts.NoMemory place next s0 s1 s2 p0 p1 p2 m0 m1 m2 n0 n1 n2 same m n h a =
+ends-halt dump l0 l1 q0 q1 r line halts.NoMemory place next s0 s1 s2 p0 p1 p2 m0 m1 m2 n0 n1 n2 same m n h a =
     let k = h.2 in
     let w = run (opened dump) h.0 in (
       h.0,
@@ -251,7 +244,7 @@ ends-halt dump l0 l1 r line halts.NoMemory place next s0 s1 s2 p0 p1 p2 m0 m1 m2
         subst (Appends p0 p2) (append-nil w.told) (Appends-trans p0 p1 p2 w.told [] k.ran.told a.1),
       ),
     )
-ends-halt dump l0 l1 r line halts.ScreenBroke place next s0 s1 s2 p0 p1 p2 m0 m1 m2 n0 n1 n2 same m n h a =
+ends-halt dump l0 l1 q0 q1 r line halts.ScreenBroke place next s0 s1 s2 p0 p1 p2 m0 m1 m2 n0 n1 n2 same m n h a =
     let k = h.2 in
     let w = run (opened dump) h.0 in
     let t = turn_of line false in
@@ -271,7 +264,7 @@ ends-halt dump l0 l1 r line halts.ScreenBroke place next s0 s1 s2 p0 p1 p2 m0 m1
         subst (Appends p0 p2) (append-nil w.told) (Appends-trans p0 p1 p2 w.told [] k.ran.told a.2),
       ),
     )
-ends-halt dump l0 l1 r line halts.ReportBroke place next s0 s1 s2 p0 p1 p2 m0 m1 m2 n0 n1 n2 same m n h a =
+ends-halt dump l0 l1 q0 q1 r line halts.ReportBroke place next s0 s1 s2 p0 p1 p2 m0 m1 m2 n0 n1 n2 same m n h a =
     let k = h.2 in
     let w = run (opened dump) h.0 in
     let t = turn_of line a.0 in

@@ -1,9 +1,8 @@
 //! The run over the lines of a source.
 ghost use Rattle.std.specs.Prelude.{◌≡◌, ℕ, ◌≤◌, ◌<◌, List, Some};
 ghost use Rattle.std.specs.Io.KnownBytes.{Consumes};
-ghost use Rattle.rd_io.specs.Devices.{Rose};
-ghost use Rattle.rd_play.specs.Acts.{Stopped, ended_by, halted_by, IsReadFault};
-ghost use Rattle.rd_play.specs.Ends.{sunk};
+ghost use Rattle.rd_play.specs.Acts.{Stopped, ended_by, halted_by};
+ghost use Rattle.rd_play.specs.Ends.{drawn, sunk};
 ghost use Rattle.rd_play.specs.Runs.{Turn};
 
 use crate::act::Run;
@@ -25,13 +24,12 @@ pub fn run_script<S: Source, K: Sink, R: Sink, L: Ledger>(
     steps: &mut Steps<L>,
 ) -> Stop
     ensures stopped { (turns : List Turn) × (bytes : List ℕ) × Consumes (S.left script.old) (S.left script.new) bytes
-        × Stopped result (Some dumps) turns bytes (S.left script.new)
+        × Stopped result (Some dumps) turns bytes (drawn (S.left script.new) (S.faults script.old) (S.faults script.new))
         (sunk (K.written screen.old) (K.written screen.new) (K.faults screen.old) (K.faults screen.new))
         (sunk (R.written report.old) (R.written report.new) (R.faults report.old) (R.faults report.new)) }
     ensures script { S.faults script.old ≤ S.faults script.new }
     ensures screen { K.faults screen.old ≤ K.faults screen.new }
     ensures report { R.faults report.old ≤ R.faults report.new }
-    ensures failed { IsReadFault result → Rose (S.faults script.old) (S.faults script.new) }
 {
     let Ok(mut lines) = Lines::new(alloc) else {
         return Stop::Ends(Status::NoMemory, 0);

@@ -269,42 +269,40 @@ fn played_from<S: Source>(
     calls: Calls,
 ) -> Result<Trace, Fail> {
     let words = words_of(alloc, words)?;
-    let screen = sink(alloc, calls.screen)?;
-    let report = sink(alloc, calls.report)?;
-    Ok(traced::<Brand, S>(Blank::new(1), alloc, words, script, screen, report))
+    let mut screen = sink(alloc, calls.screen)?;
+    let mut report = sink(alloc, calls.report)?;
+    let code = answered::<Brand, S>(
+        Blank::new(1),
+        alloc,
+        words,
+        script,
+        &mut screen,
+        &mut report,
+    );
+    Ok(Trace {
+        screen,
+        report,
+        code,
+    })
 }
 
-/// Runs the script that a source gives over sinks.
-fn traced<L: Ledger, S: Source>(
+/// Runs the script that a source gives over sinks, and answers the exit status.
+fn answered<L: Ledger, S: Source>(
     blank: Blank,
     alloc: Global,
     words: Vec<String>,
     script: &mut S,
-    screen: MemSink,
-    report: MemSink,
-) -> Trace
+    screen: &mut MemSink,
+    report: &mut MemSink,
+) -> u8
     requires name { blank.name ≡ L.name }
     requires parts { blank.parts ≡ L.parts }
     requires some { 0 < L.parts }
 {
     let mut files = MemFiles::new(Vec::new(alloc));
-    let mut screen = screen;
-    let mut report = report;
     let mut steps = Steps::<L>::new(blank);
-    let status = play(
-        alloc,
-        words,
-        script,
-        &mut files,
-        &mut screen,
-        &mut report,
-        &mut steps,
-    );
-    Trace {
-        screen,
-        report,
-        code: status.code(),
-    }
+    let status = play(alloc, words, script, &mut files, screen, report, &mut steps);
+    status.code()
 }
 
 /// Asserts what a run left.
@@ -351,22 +349,34 @@ fn faults_end_a_run(rt: HostRuntime) -> Result<(), Fail> {
     Ok(())
 }
 
-/// Words of a command line, and what the first script then reports and answers.
-const WORDS: [(&'static str, &'static [u8], u8); 2] = [
-    ("--help", b"usage: redisplay [--dump]\n", 2),
-    (
-        "--dump",
-        b"2: shown 0 rows\nwindow 0 at 0,0 size 12x1 start 1.0 point 1 cursor 0,0\nrow 0 |            |\nrow 1 |            |\ncursor 0,0\ndone 2 lines\n",
-        0,
-    ),
+/// A word of a command line, and what the first script then sends, reports and answers.
+struct Word {
+    word: &'static str,
+    sent: &'static [u8],
+    told: &'static [u8],
+    code: u8,
+}
+
+const WORDS: [Word; 2] = [
+    Word {
+        word: "--help",
+        sent: b"",
+        told: b"usage: redisplay [--dump]\n",
+        code: 2,
+    },
+    Word {
+        word: "--dump",
+        sent: b"\x1b[0m\x1b[2J\x1b[1;1H",
+        told: b"2: shown 0 rows\nwindow 0 at 0,0 size 12x1 start 1.0 point 1 cursor 0,0\nrow 0 |            |\nrow 1 |            |\ncursor 0,0\ndone 2 lines\n",
+        code: 0,
+    },
 ];
 
 #[test]
 fn words_are_known(rt: HostRuntime) -> Result<(), Fail> {
-    for (word, report, code) in &WORDS {
-        let run = played(rt.alloc(), &[*word], CASES[0].script, NONE)?;
-        assert_eq!(rt; run.report.bytes(), *report);
-        assert_eq!(rt; run.code, *code);
+    for given in &WORDS {
+        let run = played(rt.alloc(), &[given.word], CASES[0].script, NONE)?;
+        assert_trace(&rt, &run, given.sent, given.told, given.code);
     }
     Ok(())
 }

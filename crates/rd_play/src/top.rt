@@ -3,7 +3,7 @@ ghost use Rattle.std.specs.Prelude.{◌≡◌, ℕ, ◌≤◌, Bool, Some, List}
 ghost use Rattle.std.specs.Io.KnownBytes.{Consumes};
 ghost use Rattle.rd_io.specs.Devices.{Rose};
 ghost use Rattle.rd_play.specs.Acts.{Finishes, Tells};
-ghost use Rattle.rd_play.specs.Ends.{Ended, EndsWell, IsValidScript, sunk};
+ghost use Rattle.rd_play.specs.Ends.{Ended, EndsWell, IsValidScript, drawn, sunk};
 ghost use Rattle.rd_play.specs.Reports.{last_line};
 ghost use Rattle.rd_play.specs.Runs.{Turn, opened, ShowsEach};
 ghost use Rattle.rd_play.specs.Words.{dumps, mode_of, texts};
@@ -43,7 +43,7 @@ pub fn play<S: Source, F: Files, K: Sink, R: Sink, L: Ledger>(
     steps: &mut Steps<L>,
 ) -> Status
     ensures ran { (turns : List Turn) × (bytes : List ℕ) × Consumes (S.left script.old) (S.left script.new) bytes
-        × Ended (mode_of (texts words.items)) result turns bytes (S.left script.new)
+        × Ended (mode_of (texts words.items)) result turns bytes (drawn (S.left script.new) (S.faults script.old) (S.faults script.new))
         (sunk (K.written screen.old) (K.written screen.new) (K.faults screen.old) (K.faults screen.new))
         (sunk (R.written report.old) (R.written report.new) (R.faults report.old) (R.faults report.new))
         × ShowsEach (opened (dumps (mode_of (texts words.items)))) turns }
