@@ -1,3 +1,8 @@
+mod Counts
 mod Covered
 mod Items
+mod Listing
+mod Neighbours
+mod Steps
+mod Undoing
 mod Within

@@ -1,13 +1,34 @@
 -- The items of a row begin in columns of its window.
-use Rattle.std.proofs.Common.{◌≡◌, ℕ, zero, suc, ◌-◌, ◌<◌, ◌≤◌, min, Bool, true, false, List, [], ◌∷◌, ◌++◌, All, refl, arith}
-use Rattle.std.specs.Prelude.{flat_map, drop, length, if◌then◌else◌}
+use Rattle.std.proofs.Common.{◌≡◌, ℕ, zero, suc, ◌+◌, ◌-◌, ◌<◌, ◌≤◌, ◌&&◌, min, max, nat_le, nat_lt, Bool, true, false, List, [], ◌∷◌, ◌++◌, All, Option, None, Some, refl, subst, arith, length-append}
+use Rattle.std.specs.Prelude.{flat_map, drop, length, if◌then◌else◌, replicate, slice_get}
+use Rattle.std.proofs.lemmas.List.{length-replicate}
 use Rattle.std.proofs.lemmas.List.Elements.{All-append, All-cons, All-nil}
+use Rattle.std.proofs.lemmas.Option.{get_or_from_slice_get, slice_get_within}
+use Rattle.rd_base.specs.Faces.{Attributes, plain}
+use Rattle.rd_base.specs.Glyphs.{blanks, is_space}
+use Rattle.rd_base.specs.declared.cell.Cell.{Cell}
+use Rattle.rd_base.specs.declared.cell.Cell.TheVariants.{Blank, First, Rest}
+use Rattle.rd_base.specs.declared.cell.Glyph.{Glyph}
 use Rattle.rd_base.specs.declared.element.Element.{Element}
 use Rattle.rd_rows.specs.Cuts.{cut_row}
-use Rattle.rd_rows.specs.Placing.{next_row, next_line, place_all, behind_all, columns_of}
-use Rattle.rd_rows.specs.Rows.{LaidRow, begin_of, laid, rows_of, rows_within}
+use Rattle.rd_ucd.specs.Data.{Data}
+use Rattle.rd_objects.specs.Things.{ObjectLists}
+use Rattle.rd_props.specs.Buffers.{BufferValue}
+use Rattle.rd_items.specs.Pieces.{scene_in}
+use Rattle.rd_items.specs.Readings.{reading}
+use Rattle.rd_stack.specs.Lines.{line_elements}
+use Rattle.rd_matrix.specs.Entries.{EntryMeaning, all_rows, entries_of, numbered}
+use Rattle.rd_matrix.specs.declared.block.Block.{Block}
+use Rattle.rd_blocks.specs.Bases.{blocks_in}
+use Rattle.rd_blocks.specs.Rows.{block_cutting}
+use Rattle.rd_blocks.specs.Sources.{text_source}
+use Rattle.rd_visual.specs.Hits.{AreRowsAt}
+use Rattle.rd_rows.specs.Laws.{seen_rows}
+use Rattle.rd_rows.specs.Mirrors.{leading_rests, mirror_image}
+use Rattle.rd_rows.specs.Placing.{glyph_in, next_row, next_line, place_all, behind_all, columns_of}
+use Rattle.rd_rows.specs.Rows.{LaidRow, RowMeaning, begin_of, filled, first_seen, from_edge, front_mark, laid, last_cell, mark, row_of, rows_of, rows_within, scrolled, seen, seen_in, whole_cells}
 use Rattle.rd_rows.specs.Placing.{line_start}
-use Rattle.rd_rows.specs.Shapes.{ShapeValues, room}
+use Rattle.rd_rows.specs.Shapes.{IsShape, ShapeValues, room, truncates}
 use Rattle.rd_rows.specs.declared.begin.Begin.{Begin}
 use Rattle.rd_rows.specs.declared.cutting.Cutting.{Cutting}
 use Rattle.rd_rows.specs.declared.spot.Placed.{Placed}
@@ -42,3 +63,152 @@ within-low (suc n) c lead spot (e ∷ es) some =
 
 pub rows-low : (c : Cutting) (es : List Element) → 1 ≤ c.shape.width → All (λ r. All (λ b. b.column < c.shape.width) r.row.begins) (rows_of c es)
 rows-low c es some = within-low (length es) c c.first line_start es some
+
+-- no row has fewer cells than the window has columns
+
+leading-append : (xs ys : List Cell) → leading_rests xs ≡ 0 → leading_rests ys ≡ 0 → leading_rests (xs ++ ys) ≡ 0
+leading-append [] ys none more = more
+leading-append (Rest ∷ xs) ys none more = absurd (omega (arith, none))
+leading-append (Blank f ∷ xs) ys none more = refl
+leading-append (First g f ∷ xs) ys none more = refl
+
+leading-blanks : (n : ℕ) (f : Attributes) → leading_rests (blanks n f) ≡ 0
+leading-blanks zero f = refl
+leading-blanks (suc n) f = refl
+
+leading-either : (b : Bool) (xs ys : List Cell) → leading_rests xs ≡ 0 → leading_rests ys ≡ 0 → leading_rests (if b then xs else ys) ≡ 0
+leading-either true xs ys none more = none
+leading-either false xs ys none more = more
+
+leading-whole : (n : ℕ) (g : Option Glyph) (f : Attributes) → leading_rests (whole_cells n g f) ≡ 0
+leading-whole n None f = leading-blanks n f
+leading-whole n (Some g) f = leading-either (is_space g) (blanks n f) (First g f ∷ replicate (n - 1) Rest) (leading-blanks n f) refl
+
+leading-seen : (from to : ℕ) (p : Placed) → leading_rests (seen from to p) ≡ 0
+leading-seen from to p =
+    leading-either (nat_le from p.start && nat_le (p.start + p.columns) to)
+    (whole_cells p.columns (glyph_in p.element.look) p.element.face) (blanks (min to (p.start + p.columns) - max from p.start) p.element.face)
+    (leading-whole p.columns (glyph_in p.element.look) p.element.face) (leading-blanks (min to (p.start + p.columns) - max from p.start) p.element.face)
+
+leading-all : (shape : ShapeValues) (ps : List Placed) → leading_rests (flat_map (seen_in shape) ps) ≡ 0
+leading-all shape [] = refl
+leading-all shape (p ∷ ps) = leading-append (seen_in shape p) (flat_map (seen_in shape) ps) (leading-seen (first_seen shape) (shape.hscroll + room shape) p) (leading-all shape ps)
+
+leading-cell : (b : Bool) (g : Glyph) (xs : List Cell) → leading_rests ((if b then Blank plain else First g plain) ∷ xs) ≡ 0
+leading-cell true g xs = refl
+leading-cell false g xs = refl
+
+leading-mark : (g : Glyph) (xs : List Cell) → leading_rests (mark g ∷ xs) ≡ 0
+leading-mark g xs = leading-cell (is_space g) g xs
+
+leading-front : (c : Cutting) (used : ℕ) → leading_rests (front_mark c used) ≡ 0
+leading-front c used = leading-either (nat_lt 0 c.shape.hscroll && nat_lt 0 used) (mark c.truncation ∷ []) [] (leading-mark c.truncation []) refl
+
+leading-end-by : (b : Bool) (g : Glyph) → leading_rests ((if b then mark g else Blank plain) ∷ []) ≡ 0
+leading-end-by true g = leading-mark g []
+leading-end-by false g = refl
+
+leading-end : (t : Bool) (c : Cutting) (used : ℕ) (continued : Bool) → truncates c.shape ≡ t → leading_rests (last_cell c used continued ∷ []) ≡ 0
+leading-end true c used continued e = rw e (leading-end-by (nat_lt (c.shape.hscroll + room c.shape) used) c.truncation)
+leading-end false c used continued e = rw e (leading-end-by continued c.continuation)
+
+mirror-size : (cells : List Cell) → length (mirror_image cells) + leading_rests cells ≡ length cells
+mirror-size [] = refl
+mirror-size (Rest ∷ cells) = let e = mirror-size cells in omega (arith, e)
+mirror-size (Blank f ∷ cells) =
+    let e = mirror-size cells in
+    let a = length-append (mirror_image cells) (Blank f ∷ replicate (leading_rests cells) Rest) in
+    let n = length-replicate (leading_rests cells) Rest in
+    omega (arith, e, a, n)
+mirror-size (First g f ∷ cells) =
+    let e = mirror-size cells in
+    let a = length-append (mirror_image cells) (First g f ∷ replicate (leading_rests cells) Rest) in
+    let n = length-replicate (leading_rests cells) Rest in
+    omega (arith, e, a, n)
+
+edge-size : (b : Bool) (cells : List Cell) → leading_rests cells ≡ 0 → length (from_edge b cells) ≡ length cells
+edge-size true cells none = let e = mirror-size cells in omega (arith, e, none)
+edge-size false cells none = refl
+
+row-wide : (c : Cutting) (used : ℕ) (continued : Bool) (ps : List Placed) → c.shape.width ≤ length (row_of c used continued ps).cells
+row-wide c used continued ps =
+    let cells = scrolled c used ps in
+    let fill = blanks (room c.shape - length cells) plain in
+    let end = last_cell c used continued ∷ [] in
+    let leads = leading-append (front_mark c used) (flat_map (seen_in c.shape) ps) (leading-front c used) (leading-all c.shape ps) in
+    let filled-leads = leading-append cells fill leads (leading-blanks (room c.shape - length cells) plain) in
+    let size = edge-size c.reversed (filled (room c.shape) cells ++ end) (leading-append (filled (room c.shape) cells) end filled-leads (leading-end (truncates c.shape) c used continued refl)) in
+    let whole = length-append (filled (room c.shape) cells) end in
+    let two = length-append cells fill in
+    let blank = length-replicate (room c.shape - length cells) (Blank plain) in
+    omega (arith, size, whole, two, blank)
+
+-- so each item begins in a column of its row
+
+abbrev pub Fits : RowMeaning → Type 0
+Fits row = All (λ b. b.column < length row.cells) row.begins
+
+row-fits : (c : Cutting) (used : ℕ) (continued : Bool) (ps : List Placed) → 1 ≤ c.shape.width → Fits (row_of c used continued ps)
+row-fits c used continued ps some =
+    let wide = row-wide c used continued ps in
+    λ k b inside. let low = begins-low c.shape ps some k b inside in omega (arith, wide, low)
+
+-- the rows of a buffer, each with its place
+
+abbrev FitsEach : List EntryMeaning → Type 0
+FitsEach [] = Unit {0}
+FitsEach (e ∷ es) = Fits e.row × FitsEach es
+
+fits-append : (xs ys : List EntryMeaning) → FitsEach xs → FitsEach ys → FitsEach (xs ++ ys)
+fits-append [] ys these those = those
+fits-append (x ∷ xs) ys these those = (these.0, fits-append xs ys these.1 those)
+
+fits-behind : (xs ys : List EntryMeaning) → FitsEach (xs ++ ys) → FitsEach ys
+fits-behind [] ys all = all
+fits-behind (x ∷ xs) ys all = fits-behind xs ys all.1
+
+fits-front : (xs ys : List EntryMeaning) → FitsEach (xs ++ ys) → FitsEach xs
+fits-front [] ys all = tt
+fits-front (x ∷ xs) ys all = (all.0, fits-front xs ys all.1)
+
+fits-at : (es : List EntryMeaning) (k : ℕ) (e : EntryMeaning) → FitsEach es → slice_get es k ≡ Some e → Fits e.row
+fits-at [] k e all there = absurd cc
+fits-at (x ∷ xs) zero e all there = let same : x ≡ e = cc in subst (λ (y : EntryMeaning). Fits y.row) same all.0
+fits-at (x ∷ xs) (suc k) e all there = fits-at xs k e all.1 there
+
+line-fits : (n start number : ℕ) (c : Cutting) (lead : List Placed) (spot : Spot) (es : List Element) → 1 ≤ c.shape.width → FitsEach (numbered start number (seen_rows (rows_within n c lead spot es)))
+line-fits zero start number c lead spot es some = tt
+line-fits (suc n) start number c lead spot [] some = tt
+line-fits (suc n) start number c lead spot (e ∷ es) some =
+    let from = next_row (columns_of lead) spot in
+    let cut = cut_row c.shape from (e ∷ es) in
+    let ps = place_all c.shape from cut.elements in
+    let end = behind_all from ps in (
+      row-fits c end.used cut.marked (lead ++ ps) some,
+      line-fits n start (number + 1) c (if cut.ended then c.first else c.wrap) (if cut.ended then next_line end else end) (drop (length cut.elements) (e ∷ es)) some,
+    )
+
+blocks-fit : (s : BufferValue) (objects : ObjectLists) (files : Data) (shape : ShapeValues) (bs : List Block) → 1 ≤ shape.width
+    → FitsEach (all_rows (λ b. (text_source s objects files).rows_of b shape) bs)
+blocks-fit s objects files shape [] some = tt
+blocks-fit s objects files shape (b ∷ bs) some =
+    let es = reading s objects b.start in
+    let scene = scene_in s.settings objects files in
+    let cutting = block_cutting scene b.base shape es in
+    let line = line_elements scene b.base es in
+    fits-append (entries_of (λ x. (text_source s objects files).rows_of x shape) b) (all_rows (λ x. (text_source s objects files).rows_of x shape) bs)
+    (line-fits (length line) b.start 0 cutting cutting.first line_start line some) (blocks-fit s objects files shape bs some)
+
+pub entry-fits : (s : BufferValue) (objects : ObjectLists) (files : Data) (shape : ShapeValues) (es : List EntryMeaning) (k : ℕ) (e : EntryMeaning) → IsShape shape
+    → AreRowsAt (text_source s objects files) shape es → slice_get es k ≡ Some e → Fits e.row
+entry-fits s objects files shape es k e is rows there =
+    let least = is.least in
+    let all = blocks-fit s objects files shape (blocks_in files.classes s) (omega (arith, least)) in
+    let mine = subst FitsEach rows.rows all in
+    fits-at es k e (fits-front es rows.below (fits-behind rows.above (es ++ rows.below) mine)) there
+
+pub item-fits : (s : BufferValue) (objects : ObjectLists) (files : Data) (shape : ShapeValues) (es : List EntryMeaning) (row : ℕ) (e : EntryMeaning) (k : ℕ) (b : Begin) → IsShape shape
+    → AreRowsAt (text_source s objects files) shape es → slice_get es row ≡ Some e → slice_get e.row.begins k ≡ Some b → b.column < length e.row.cells
+item-fits s objects files shape es row e k b is rows there place =
+    let fits = entry-fits s objects files shape es row e is rows there in
+    subst (λ (x : Begin). x.column < length e.row.cells) (get_or_from_slice_get e.row.begins k b b place) (fits k b (slice_get_within e.row.begins k b place))

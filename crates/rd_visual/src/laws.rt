@@ -1,4 +1,4 @@
-//! Laws of hits, over rows of every source.
+//! Laws of hits, over rows of every source, and of motion.
 ghost use Rattle.std.specs.Prelude.{◌≡◌, ℕ, ◌+◌, ◌<◌, ◌≤◌, true, List, length, All, count_by, slice_get, Some};
 ghost use Rattle.rd_base.specs.declared.element.Element.{Element};
 ghost use Rattle.rd_matrix.specs.Columns.{covers};
@@ -9,7 +9,19 @@ ghost use Rattle.rd_rows.specs.Rows.{rows_of};
 ghost use Rattle.rd_rows.specs.Shapes.{ShapeValues, IsShape};
 ghost use Rattle.rd_rows.specs.declared.begin.Begin.{Begin};
 ghost use Rattle.rd_rows.specs.declared.cutting.Cutting.{Cutting};
+ghost use Rattle.rd_text.specs.Texts.{IsText, IsAccessible};
+ghost use Rattle.rd_ucd.specs.Data.{Data};
+ghost use Rattle.rd_objects.specs.Things.{ObjectLists};
+ghost use Rattle.rd_props.specs.Buffers.{BufferValue};
+ghost use Rattle.rd_matrix.specs.Blocks.{IsAmong};
+ghost use Rattle.rd_matrix.specs.declared.block.Block.{Block};
+ghost use Rattle.rd_blocks.specs.Bases.{blocks_in};
+ghost use Rattle.rd_blocks.specs.Sources.{text_source};
+ghost use Rattle.rd_visual.specs.Motion.{all_ranges, backward, base_in, block_ranges, forward, holds, least, left_of, right_of};
 ghost use Rattle.rd_visual.specs.Hits.{AreRowsAt, begins_at, hit_in, reading_column};
+
+use rd_blocks::buffers_are_sources;
+use rd_items::{blocks_are_listed, blocks_are_read_whole, items_cover_their_block};
 
 /// Where a cell shows a position, the item of that position begins in a cell of the same row, which shows that position too.
 pub fn a_hit_comes_back()
@@ -19,17 +31,48 @@ pub fn a_hit_comes_back()
 {}
 
 /// The cell in which the item of a position begins, and no other item that covers a position, shows the least position of that
-/// item.
+/// item, in rows of each buffer.
 pub fn a_cell_shows_its_item()
-    ensures { (m : SourceValues) (shape : ShapeValues) (es : List EntryMeaning) (row column point : ℕ) (e : EntryMeaning) (k : ℕ) (b : Begin)
-        → IsSource m → IsShape shape → AreRowsAt m shape es
+    ensures { (s : BufferValue) (objects : ObjectLists) (files : Data) (shape : ShapeValues) (es : List EntryMeaning) (row column point : ℕ) (e : EntryMeaning) (k : ℕ) (b : Begin)
+        → IsText s.text → IsShape shape → AreRowsAt (text_source s objects files) shape es
         → cursor_in point es ≡ Some (row, column)
-        → slice_get es row ≡ Some e → slice_get e.row.begins k ≡ Some b → covers e.start point b ≡ true → b.column < length e.row.cells
+        → slice_get es row ≡ Some e → slice_get e.row.begins k ≡ Some b → covers e.start point b ≡ true
         → count_by (begins_at (reading_column e.row column)) e.row.begins ≤ 1
         → hit_in es row column ≡ Some (e.start + b.from) }
-{}
+{
+    buffers_are_sources();
+}
 
 /// Each item of a line begins in a column of its row's window, whatever the line is and however it is cut.
 pub fn items_begin_in_the_window()
     ensures { (c : Cutting) (line : List Element) → 1 ≤ c.shape.width → All (λ r. All (λ b. b.column < c.shape.width) r.row.begins) (rows_of c line) }
 {}
+
+/// Each accessible position, and the accessible end, is covered by exactly one of the items among which one moves, and it is one of
+/// the block that holds it.
+pub fn ranges_cover_once()
+    ensures every { (s : BufferValue) (objects : ObjectLists) (files : Data) (pos : ℕ) → IsText s.text → IsAccessible s.text pos → count_by (holds pos) (all_ranges s objects files) ≡ 1 }
+    ensures block { (s : BufferValue) (objects : ObjectLists) (files : Data) (b : Block) (pos : ℕ) → IsText s.text → IsAmong (blocks_in files.classes s) b
+        → b.start ≤ pos → pos < b.end → count_by (holds pos) (block_ranges s objects files b) ≡ 1 }
+{
+    blocks_are_listed();
+    blocks_are_read_whole();
+    items_cover_their_block();
+}
+
+/// A step forward and a step backward, in either order, lead to the least position of the item from which they began. So left undoes
+/// right, and right left, wherever both blocks have one base level.
+pub fn left_undoes_right()
+    ensures forward { (s : BufferValue) (objects : ObjectLists) (files : Data) (pos next : ℕ) → IsText s.text
+        → forward s objects files pos ≡ Some next → backward s objects files next ≡ least pos (all_ranges s objects files) }
+    ensures backward { (s : BufferValue) (objects : ObjectLists) (files : Data) (pos next : ℕ) → IsText s.text
+        → backward s objects files pos ≡ Some next → forward s objects files next ≡ least pos (all_ranges s objects files) }
+    ensures right { (s : BufferValue) (objects : ObjectLists) (files : Data) (pos next : ℕ) → IsText s.text → base_in s files next ≡ base_in s files pos
+        → right_of s objects files pos ≡ Some next → left_of s objects files next ≡ least pos (all_ranges s objects files) }
+    ensures left { (s : BufferValue) (objects : ObjectLists) (files : Data) (pos next : ℕ) → IsText s.text → base_in s files next ≡ base_in s files pos
+        → left_of s objects files pos ≡ Some next → right_of s objects files next ≡ least pos (all_ranges s objects files) }
+{
+    blocks_are_listed();
+    blocks_are_read_whole();
+    items_cover_their_block();
+}

@@ -1,9 +1,16 @@
-//! Which position a cell of a window shows, and in which cell a position is shown.
+//! Which position a cell of a window shows, and in which cell a position is shown; and motion from item to item in visual order.
 #![tactic(auto)]
 
 mod examples;
 mod hits;
 mod laws;
+mod motion;
+mod range;
+mod ranges;
 
 pub use hits::{cell_of, position_at};
-pub use laws::{a_cell_shows_its_item, a_hit_comes_back, items_begin_in_the_window};
+pub use laws::{
+    a_cell_shows_its_item, a_hit_comes_back, items_begin_in_the_window, left_undoes_right,
+    ranges_cover_once,
+};
+pub use motion::{left, right};

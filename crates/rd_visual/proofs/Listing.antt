@@ -1,0 +1,176 @@
+-- Lists that are given element by element.
+use Rattle.std.proofs.Common.{◌≡◌, ℕ, zero, suc, ◌+◌, ◌-◌, ◌<◌, ◌≤◌, nat_lt, Bool, true, false, cond, List, [], ◌∷◌, ◌++◌, length, map, All, drop, Option, None, Some, refl, sym, ap, subst, ◌∙◌, append_assoc, arith, inl, inr}
+use Rattle.std.specs.Prelude.{slice_get, if◌then◌else◌}
+use Rattle.std.specs.List.{range_with_len}
+use Rattle.std.proofs.lemmas.Bool.Decides.{nat_tests}
+use Rattle.std.proofs.lemmas.List.{length-drop, length-map}
+use Rattle.std.proofs.lemmas.List.Elements.{All-cons, All-nil}
+use Rattle.std.proofs.lemmas.Option.{get_or_from_slice_get, slice_get_within}
+use Rattle.rd_base.specs.declared.class.Class.{Class}
+use Rattle.rd_props.specs.Seen.{Seen}
+use Rattle.rd_items.specs.Covers.{Tile}
+use Rattle.rd_items.specs.Items.{items_of}
+use Rattle.rd_items.specs.Pieces.{Scene}
+use Rattle.rd_items.specs.declared.item.Item.{Item}
+use Rattle.rd_levels.specs.Turns.{turns_of}
+use Rattle.rd_levels.specs.declared.turn.Turn.{Turn}
+use Rattle.rd_levels.proofs.Turns.{total_in, each-turn}
+use Rattle.rd_order.proofs.Once.{total}
+use Rattle.rd_stack.specs.Lines.{item_class, item_code, item_turns}
+use Rattle.rd_visual.specs.Motion.{before, behind, holds, first, last, range_by, ranges_in_turn, ranges_of}
+use Rattle.rd_visual.specs.declared.range.Range.{Range}
+use Rattle.rd_visual.proofs.Neighbours.{behind-skip, before-skip}
+
+-- what stands at an index heads what is left
+pub drop-at : {X : Type 0} (i : ℕ) (xs : List X) (x : X) → slice_get xs i ≡ Some x → drop i xs ≡ x ∷ drop (i + 1) xs
+drop-at i [] x there = absurd cc
+drop-at zero (y ∷ ys) x there = let same : y ≡ x = cc in ap (λ z. z ∷ ys) same
+drop-at (suc i) (y ∷ ys) x there = let on : suc i + 1 ≡ suc (i + 1) = omega arith in drop-at i ys x there ∙ ap (λ n. x ∷ drop n (y ∷ ys)) (sym on)
+
+pub all-at : {X : Type 0} (P : X → Type 0) (xs : List X) (i : ℕ) (x : X) → All P xs → slice_get xs i ≡ Some x → P x
+all-at P xs i x all there = subst P (get_or_from_slice_get xs i x x there) (all i x (slice_get_within xs i x there))
+
+-- one more of a list by a function
+pub maps-next : {X A : Type 0} (f : X → A) (xs : List X) (i : ℕ) (x : X) (out more whole : List A) → slice_get xs i ≡ Some x → more ≡ out ++ f x ∷ [] → out ++ map f (drop i xs) ≡ whole
+    → more ++ map f (drop (i + 1) xs) ≡ whole
+maps-next f xs i x out more whole found given all =
+    let rest = map f (drop (i + 1) xs) in
+    ap (λ l. l ++ rest) given ∙ append_assoc out (f x ∷ []) rest ∙ sym (ap (λ l. out ++ map f l) (drop-at i xs x found)) ∙ all
+
+-- the range of one more item
+pub turns-next : (start : ℕ) (items : List Item) (ts : List Turn) (i : ℕ) (t : Turn) (x : Item) (out more whole : List Range) → slice_get ts i ≡ Some t → slice_get items t.index ≡ Some x
+    → more ≡ out ++ range_by start (Some x) → out ++ ranges_in_turn start items (drop i ts) ≡ whole → more ++ ranges_in_turn start items (drop (i + 1) ts) ≡ whole
+turns-next start items ts i t x out more whole turn item given all =
+    let rest = ranges_in_turn start items (drop (i + 1) ts) in
+    ap (λ l. l ++ rest) given ∙ append_assoc out (range_by start (Some x)) rest
+    ∙ ap (λ (o : Option Item). out ++ (range_by start o ++ rest)) (sym item)
+    ∙ sym (ap (λ l. out ++ ranges_in_turn start items l) (drop-at i ts t turn)) ∙ all
+
+-- each turn has the place of an item
+
+abbrev outside : ℕ → ℕ → ℕ
+outside n i = cond (nat_lt i n) 0 1
+
+none-outside : (n a m : ℕ) → a + m ≤ n → total (outside n) (range_with_len a m) ≡ 0
+none-outside n a zero few = refl
+none-outside n a (suc m) few =
+    let inside : nat_lt a n ≡ true = grind (arith, nat_tests) in
+    let here : outside n a ≡ 0 = rw inside refl in
+    let rest = none-outside n (a + 1) m (omega (arith, few)) in
+    omega (arith, here, rest)
+
+inside-by : (b : Bool) (n i rest : ℕ) → nat_lt i n ≡ b → cond b 0 1 + rest ≡ 0 → i < n
+inside-by true n i rest e h = grind (arith, nat_tests)
+inside-by false n i rest e h = absurd (omega (arith, h))
+
+turns-inside : (n : ℕ) (ts : List Turn) → total_in (outside n) ts ≡ 0 → All (λ (t : Turn). t.index < n) ts
+turns-inside n [] none = All-nil (λ (t : Turn). t.index < n)
+turns-inside n (t ∷ ts) none =
+    All-cons (λ (u : Turn). u.index < n) t ts (inside-by (nat_lt t.index n) n t.index (total_in (outside n) ts) refl none) (turns-inside n ts (omega (arith, none)))
+
+pub turns-within : (scene : Scene) (base : ℕ) (items : List Item) → All (λ (t : Turn). t.index < length items) (item_turns scene base items)
+turns-within scene base items =
+    let size = length-map items item_class in
+    let each = each-turn scene.brackets scene.parts.settings.reorder base (map item_class items) (map item_code items) (outside (length items)) in
+    let none = none-outside (length items) 0 (length (map item_class items)) (omega (arith, size)) in
+    turns-inside (length items) (item_turns scene base items) (each ∙ none)
+
+pub same-turns : (scene : Scene) (base : ℕ) (items : List Item) (classes : List Class) (codes : List ℕ) (ts : List Turn) → classes ≡ map item_class items → codes ≡ map item_code items
+    → ts ≡ turns_of scene.brackets scene.parts.settings.reorder base classes codes → ts ≡ item_turns scene base items
+same-turns scene base items classes codes ts c d e =
+    e ∙ (ap (λ xs. turns_of scene.brackets scene.parts.settings.reorder base xs codes) c ∙ ap (turns_of scene.brackets scene.parts.settings.reorder base (map item_class items)) d)
+
+pub ranges-same : (scene : Scene) (start base : ℕ) (es : List Seen) (items : List Item) (ts : List Turn) → items ≡ items_of scene es → ts ≡ item_turns scene base items
+    → ranges_in_turn start items ts ≡ ranges_of scene start base es
+ranges-same scene start base es items ts e d =
+    ap (ranges_in_turn start items) d ∙ ap (λ xs. ranges_in_turn start xs (item_turns scene base xs)) e
+
+-- items of a block end within it, where they cover a position
+
+tile-order : (since to : ℕ) (items : List Item) → Tile since to items → since ≤ to
+tile-order since to [] tile = omega (arith, tile)
+tile-order since to (x ∷ xs) (inl empty) = tile-order since to xs empty.1
+tile-order since to (x ∷ xs) (inr next) = let at = next.0 in let some = next.1 in let rest = tile-order x.to to xs next.2 in omega (arith, at, some, rest)
+
+pub tile-fits : (start limit since to : ℕ) (items : List Item) → Tile since to items → start + to < limit → All (λ (x : Item). x.from < x.to → start + x.to < limit) items
+tile-fits start limit since to [] tile low = All-nil (λ (x : Item). x.from < x.to → start + x.to < limit)
+tile-fits start limit since to (x ∷ xs) (inl empty) low =
+    let same = empty.0 in
+    All-cons (λ (y : Item). y.from < y.to → start + y.to < limit) x xs (λ some. absurd (omega (arith, same, some))) (tile-fits start limit since to xs empty.1 low)
+tile-fits start limit since to (x ∷ xs) (inr next) low =
+    let rest = tile-order x.to to xs next.2 in
+    All-cons (λ (y : Item). y.from < y.to → start + y.to < limit) x xs (λ some. omega (arith, rest, low)) (tile-fits start limit x.to to xs next.2 low)
+
+-- neighbours, found by their place
+
+pub behind-on : (pos place : ℕ) (rs : List Range) (r : Range) (found : Option ℕ) → 1 ≤ place → slice_get rs (place - 1) ≡ Some r → holds pos r ≡ false
+    → behind pos (drop (place - 1) rs) ≡ found → behind pos (drop (place + 1 - 1) rs) ≡ found
+behind-on pos place rs r found some there out all =
+    let on : place + 1 - 1 ≡ (place - 1) + 1 = omega (arith, some) in
+    ap (λ n. behind pos (drop n rs)) on ∙ sym (ap (behind pos) (drop-at (place - 1) rs r there) ∙ behind-skip pos r (drop ((place - 1) + 1) rs) out) ∙ all
+
+pub behind-here : (pos place : ℕ) (rs : List Range) (r next : Range) (found : Option ℕ) → 1 ≤ place → slice_get rs (place - 1) ≡ Some r → slice_get rs place ≡ Some next → holds pos r ≡ true
+    → behind pos (drop (place - 1) rs) ≡ found → Some next.from ≡ found
+behind-here pos place rs r next found some there beside here all =
+    let on : (place - 1) + 1 ≡ place = omega (arith, some) in
+    sym (ap (behind pos) (drop-at (place - 1) rs r there ∙ ap (λ l. r ∷ l) (ap (λ n. drop n rs) on ∙ drop-at place rs next beside))
+    ∙ ap (λ (t : Bool). if t then Some next.from else behind pos (next ∷ drop (place + 1) rs)) here) ∙ all
+
+short-behind : (pos : ℕ) (rs : List Range) → length rs ≤ 1 → behind pos rs ≡ None
+short-behind pos [] few = refl
+short-behind pos (r ∷ []) few = refl
+short-behind pos (r ∷ next ∷ rs) few = absurd (omega (arith, few))
+
+pub behind-past : (pos place : ℕ) (rs : List Range) (found : Option ℕ) → length rs ≤ place → behind pos (drop (place - 1) rs) ≡ found → None ≡ found
+behind-past pos place rs found past all =
+    let size = length-drop (place - 1) rs in
+    sym (short-behind pos (drop (place - 1) rs) (omega (arith, size, past))) ∙ all
+
+before-on : (pos place : ℕ) (rs : List Range) (r next : Range) (found : Option ℕ) → 1 ≤ place → slice_get rs (place - 1) ≡ Some r → slice_get rs place ≡ Some next → holds pos next ≡ false
+    → before pos (drop (place - 1) rs) ≡ found → before pos (drop (place + 1 - 1) rs) ≡ found
+before-on pos place rs r next found some there beside out all =
+    let on : place + 1 - 1 ≡ place = omega arith in
+    let behind-one : (place - 1) + 1 ≡ place = omega (arith, some) in
+    ap (λ n. before pos (drop n rs)) on ∙ ap (before pos) (drop-at place rs next beside)
+    ∙ sym (ap (before pos) (drop-at (place - 1) rs r there ∙ ap (λ l. r ∷ l) (ap (λ n. drop n rs) behind-one ∙ drop-at place rs next beside))
+    ∙ before-skip pos r (next ∷ drop (place + 1) rs) out) ∙ all
+
+pub within-some : {X : Type 0} (xs : List X) (j : ℕ) → j < length xs → (x : X) × (slice_get xs j ≡ Some x)
+within-some [] j low = absurd (omega (arith, low))
+within-some (x ∷ xs) zero low = (x, refl)
+within-some (x ∷ xs) (suc j) low = within-some xs j (omega (arith, low))
+
+pub before-next : (pos place : ℕ) (rs : List Range) (next : Range) (found : Option ℕ) → 1 ≤ place → slice_get rs place ≡ Some next → holds pos next ≡ false
+    → before pos (drop (place - 1) rs) ≡ found → before pos (drop (place + 1 - 1) rs) ≡ found
+before-next pos place rs next found some beside out all =
+    let inside = slice_get_within rs place next beside in
+    let one = within-some rs (place - 1) (omega (arith, inside)) in
+    before-on pos place rs one.0 next found some one.1 beside out all
+
+pub before-here : (pos place : ℕ) (rs : List Range) (r next : Range) (found : Option ℕ) → 1 ≤ place → slice_get rs (place - 1) ≡ Some r → slice_get rs place ≡ Some next → holds pos next ≡ true
+    → before pos (drop (place - 1) rs) ≡ found → Some r.from ≡ found
+before-here pos place rs r next found some there beside here all =
+    let behind-one : (place - 1) + 1 ≡ place = omega (arith, some) in
+    sym (ap (before pos) (drop-at (place - 1) rs r there ∙ ap (λ l. r ∷ l) (ap (λ n. drop n rs) behind-one ∙ drop-at place rs next beside))
+    ∙ ap (λ (t : Bool). if t then Some r.from else before pos (next ∷ drop (place + 1) rs)) here) ∙ all
+
+short-before : (pos : ℕ) (rs : List Range) → length rs ≤ 1 → before pos rs ≡ None
+short-before pos [] few = refl
+short-before pos (r ∷ []) few = refl
+short-before pos (r ∷ next ∷ rs) few = absurd (omega (arith, few))
+
+pub before-past : (pos place : ℕ) (rs : List Range) (found : Option ℕ) → length rs ≤ place → before pos (drop (place - 1) rs) ≡ found → None ≡ found
+before-past pos place rs found past all =
+    let size = length-drop (place - 1) rs in
+    sym (short-before pos (drop (place - 1) rs) (omega (arith, size, past))) ∙ all
+
+pub first-at : (rs : List Range) (r : Range) → slice_get rs 0 ≡ Some r → Some r.from ≡ first rs
+first-at [] r there = absurd cc
+first-at (x ∷ rs) r there = let same : x ≡ r = cc in ap (λ (y : Range). Some y.from) (sym same)
+
+pub last-at : (rs : List Range) (r : Range) (place : ℕ) → place + 1 ≡ length rs → slice_get rs place ≡ Some r → Some r.from ≡ last rs
+last-at [] r place size there = absurd cc
+last-at (x ∷ []) r zero size there = let same : x ≡ r = cc in ap (λ (y : Range). Some y.from) (sym same)
+last-at (x ∷ []) r (suc place) size there = absurd (omega (arith, size))
+last-at (x ∷ y ∷ rs) r zero size there = absurd (omega (arith, size))
+last-at (x ∷ y ∷ rs) r (suc place) size there = last-at (y ∷ rs) r place (omega (arith, size)) there

@@ -1,0 +1,262 @@
+-- Neighbours in a list of ranges.
+use Rattle.std.proofs.Common.{◌≡◌, ℕ, ◌+◌, ◌<◌, ◌≤◌, Bool, true, false, cond, if◌then◌else◌, List, [], ◌∷◌, ◌++◌, Option, None, Some, refl, sym, ap, subst, ◌∙◌, arith}
+use Rattle.std.specs.Prelude.{count_by}
+use Rattle.std.proofs.lemmas.Bool.Decides.{nat_tests}
+use Rattle.std.proofs.lemmas.List.Sums.{sum_by-append}
+use Rattle.rd_visual.specs.Motion.{before, behind, holds, first, last, least}
+use Rattle.rd_visual.specs.declared.range.Range.{Range}
+use Rattle.rd_visual.proofs.Items.{count-cons}
+
+-- each range has a position
+abbrev pub AreSome : List Range → Type 0
+AreSome [] = Unit {0}
+AreSome (r ∷ rs) = (r.from < r.to) × AreSome rs
+
+pub count-append : (pos : ℕ) (xs ys : List Range) → count_by (holds pos) (xs ++ ys) ≡ count_by (holds pos) xs + count_by (holds pos) ys
+count-append pos xs ys = sum_by-append (λ (r : Range). cond (holds pos r) 1 0) xs ys
+
+covers-first : (r : Range) → r.from < r.to → holds r.from r ≡ true
+covers-first r some = grind (arith, nat_tests)
+
+one-by : (b : Bool) (n : ℕ) → cond b 1 0 + n ≤ 1 → 1 ≤ n → b ≡ false
+one-by true n few some = absurd (omega (arith, few, some))
+one-by false n few some = refl
+
+-- where one behind it holds a position this one doesn't
+other : (pos : ℕ) (r : Range) (rs : List Range) → count_by (holds pos) (r ∷ rs) ≤ 1 → 1 ≤ count_by (holds pos) rs → holds pos r ≡ false
+other pos r rs few some = let e = count-cons (holds pos) r rs in one-by (holds pos r) (count_by (holds pos) rs) (omega (arith, e, few)) some
+
+here-by : (b : Bool) (n : ℕ) → b ≡ true → 1 ≤ cond b 1 0 + n
+here-by true n h = omega arith
+here-by false n h = absurd (let q : false ≡ true = h in cc)
+
+pub counted-here : (pos : ℕ) (r : Range) (rs : List Range) → holds pos r ≡ true → 1 ≤ count_by (holds pos) (r ∷ rs)
+counted-here pos r rs h = let e = count-cons (holds pos) r rs in let one = here-by (holds pos r) (count_by (holds pos) rs) h in omega (arith, e, one)
+
+pub counted-behind : (pos : ℕ) (r : Range) (rs : List Range) → 1 ≤ count_by (holds pos) rs → 1 ≤ count_by (holds pos) (r ∷ rs)
+counted-behind pos r rs h = let e = count-cons (holds pos) r rs in omega (arith, e, h)
+
+none-by : (b : Bool) (n : ℕ) → cond b 1 0 + n ≡ 0 → (b ≡ false) × (n ≡ 0)
+none-by true n h = absurd (omega (arith, h))
+none-by false n h = (refl, omega (arith, h))
+
+pub none-here : (pos : ℕ) (r : Range) (rs : List Range) → count_by (holds pos) (r ∷ rs) ≡ 0 → (holds pos r ≡ false) × (count_by (holds pos) rs ≡ 0)
+none-here pos r rs h = let e = count-cons (holds pos) r rs in none-by (holds pos r) (count_by (holds pos) rs) (omega (arith, e, h))
+
+pub fewer : (pos : ℕ) (r : Range) (rs : List Range) → count_by (holds pos) (r ∷ rs) ≤ 1 → count_by (holds pos) rs ≤ 1
+fewer pos r rs few = let e = count-cons (holds pos) r rs in omega (arith, e, few)
+
+-- the one that is found behind, and before, is one of the list
+
+behind-by : (b : Bool) (q : ℕ) (next : Range) (rs : List Range) (found : Option ℕ) → next.from < next.to → (if b then Some next.from else found) ≡ Some q
+    → (found ≡ Some q → 1 ≤ count_by (holds q) rs) → 1 ≤ count_by (holds q) (next ∷ rs)
+behind-by true q next rs found some h later = let same : next.from ≡ q = cc in subst (λ (k : ℕ). 1 ≤ count_by (holds k) (next ∷ rs)) same (counted-here next.from next rs (covers-first next some))
+behind-by false q next rs found some h later = counted-behind q next rs (later h)
+
+behind-one : (pos q : ℕ) (r : Range) (rs : List Range) → AreSome rs → behind pos (r ∷ rs) ≡ Some q → 1 ≤ count_by (holds q) rs
+behind-one pos q r [] some h = absurd cc
+behind-one pos q r (next ∷ rs) some h = behind-by (holds pos r) q next rs (behind pos (next ∷ rs)) some.0 h (λ e. behind-one pos q next rs some.1 e)
+
+before-by : (b : Bool) (pos q : ℕ) (r next : Range) (rs : List Range) (found : Option ℕ) → holds pos next ≡ b → r.from < r.to → (if b then Some r.from else found) ≡ Some q
+    → (found ≡ Some q → (1 ≤ count_by (holds q) (next ∷ rs)) × (1 ≤ count_by (holds pos) rs))
+    → (1 ≤ count_by (holds q) (r ∷ next ∷ rs)) × (1 ≤ count_by (holds pos) (next ∷ rs))
+before-by true pos q r next rs found e some h later =
+    let same : r.from ≡ q = cc in
+    (subst (λ (k : ℕ). 1 ≤ count_by (holds k) (r ∷ next ∷ rs)) same (counted-here r.from r (next ∷ rs) (covers-first r some)), counted-here pos next rs e)
+before-by false pos q r next rs found e some h later =
+    let both = later h in
+    (counted-behind q r (next ∷ rs) both.0, counted-behind pos next rs both.1)
+
+pub before-one : (pos q : ℕ) (r : Range) (rs : List Range) → AreSome (r ∷ rs) → before pos (r ∷ rs) ≡ Some q → (1 ≤ count_by (holds q) (r ∷ rs)) × (1 ≤ count_by (holds pos) rs)
+before-one pos q r [] some h = absurd cc
+before-one pos q r (next ∷ rs) some h =
+    before-by (holds pos next) pos q r next rs (before pos (next ∷ rs)) refl some.0 h (λ e. before-one pos q next rs some.1 e)
+
+-- a step forward and a step backward
+
+abbrev pub CoverOnce : List Range → Type 0
+CoverOnce rs = (pos : ℕ) → count_by (holds pos) rs ≤ 1
+
+rest-once : (r : Range) (rs : List Range) → CoverOnce (r ∷ rs) → CoverOnce rs
+rest-once r rs once = λ pos. fewer pos r rs (once pos)
+
+back-by : (b : Bool) (pos q : ℕ) (r next : Range) (rs : List Range) → holds pos r ≡ b → next.from < next.to → AreSome rs → CoverOnce (next ∷ rs)
+    → (if b then Some next.from else behind pos (next ∷ rs)) ≡ Some q → (behind pos (next ∷ rs) ≡ Some q → before q (next ∷ rs) ≡ least pos (next ∷ rs))
+    → before q (r ∷ next ∷ rs) ≡ (if b then Some r.from else least pos (next ∷ rs))
+back-by true pos q r next rs e some more once h later =
+    let same : next.from ≡ q = cc in
+    ap (λ (t : Bool). if t then Some r.from else before q (next ∷ rs)) (subst (λ (k : ℕ). holds k next ≡ true) same (covers-first next some))
+back-by false pos q r next rs e some more once h later =
+    let out = other q next rs (once q) (behind-one pos q next rs more h) in
+    ap (λ (t : Bool). if t then Some r.from else before q (next ∷ rs)) out ∙ later h
+
+pub back-again : (pos q : ℕ) (rs : List Range) → AreSome rs → CoverOnce rs → behind pos rs ≡ Some q → before q rs ≡ least pos rs
+back-again pos q [] some once h = absurd cc
+back-again pos q (r ∷ []) some once h = absurd cc
+back-again pos q (r ∷ next ∷ rs) some once h =
+    back-by (holds pos r) pos q r next rs refl some.1.0 some.1.1 (rest-once r (next ∷ rs) once) h
+    (λ e. back-again pos q (next ∷ rs) some.1 (rest-once r (next ∷ rs) once) e)
+
+on-by : (b : Bool) (pos q : ℕ) (r next : Range) (rs : List Range) → holds pos next ≡ b → r.from < r.to → AreSome (next ∷ rs) → CoverOnce (r ∷ next ∷ rs)
+    → (if b then Some r.from else before pos (next ∷ rs)) ≡ Some q → (before pos (next ∷ rs) ≡ Some q → behind q (next ∷ rs) ≡ least pos (next ∷ rs))
+    → behind q (r ∷ next ∷ rs) ≡ least pos (r ∷ next ∷ rs)
+on-by true pos q r next rs e some more once h later =
+    let same : r.from ≡ q = cc in
+    let here : holds q r ≡ true = subst (λ (k : ℕ). holds k r ≡ true) same (covers-first r some) in
+    let out = other pos r (next ∷ rs) (once pos) (counted-here pos next rs e) in
+    ap (λ (t : Bool). if t then Some next.from else behind q (next ∷ rs)) here
+    ∙ sym (ap (λ (t : Bool). if t then Some r.from else least pos (next ∷ rs)) out ∙ ap (λ (t : Bool). if t then Some next.from else least pos rs) e)
+on-by false pos q r next rs e some more once h later =
+    let both = before-one pos q next rs more h in
+    let out = other q r (next ∷ rs) (once q) both.0 in
+    let other-one = other pos r (next ∷ rs) (once pos) (counted-behind pos next rs both.1) in
+    ap (λ (t : Bool). if t then Some next.from else behind q (next ∷ rs)) out ∙ later h
+    ∙ sym (ap (λ (t : Bool). if t then Some r.from else least pos (next ∷ rs)) other-one)
+
+pub on-again : (pos q : ℕ) (rs : List Range) → AreSome rs → CoverOnce rs → before pos rs ≡ Some q → behind q rs ≡ least pos rs
+on-again pos q [] some once h = absurd cc
+on-again pos q (r ∷ []) some once h = absurd cc
+on-again pos q (r ∷ next ∷ rs) some once h =
+    on-by (holds pos next) pos q r next rs refl some.0 some.1 once h
+    (λ e. on-again pos q (next ∷ rs) some.1 (rest-once r (next ∷ rs) once) e)
+
+-- seams: the ranges of earlier blocks, of one block, and of later ones
+
+skip-by : (b : Bool) (next : Range) (found : Option ℕ) → b ≡ false → (if b then Some next.from else found) ≡ found
+skip-by true next found h = absurd (let q : true ≡ false = h in cc)
+skip-by false next found h = refl
+
+pub behind-skip : (pos : ℕ) (r : Range) (rs : List Range) → holds pos r ≡ false → behind pos (r ∷ rs) ≡ behind pos rs
+behind-skip pos r [] h = refl
+behind-skip pos r (next ∷ rs) h = skip-by (holds pos r) next (behind pos (next ∷ rs)) h
+
+pub behind-front : (pos : ℕ) (front rs : List Range) → count_by (holds pos) front ≡ 0 → behind pos (front ++ rs) ≡ behind pos rs
+behind-front pos [] rs none = refl
+behind-front pos (r ∷ front) rs none =
+    let both = none-here pos r front none in
+    behind-skip pos r (front ++ rs) both.0 ∙ behind-front pos front rs both.1
+
+some-by : (b : Bool) (q : ℕ) (next : Range) (found more : Option ℕ) → (if b then Some next.from else found) ≡ Some q → (found ≡ Some q → more ≡ Some q) → (if b then Some next.from else more) ≡ Some q
+some-by true q next found more h later = h
+some-by false q next found more h later = later h
+
+pub behind-some : (pos q : ℕ) (rs back : List Range) → behind pos rs ≡ Some q → behind pos (rs ++ back) ≡ Some q
+behind-some pos q [] back h = absurd cc
+behind-some pos q (r ∷ []) back h = absurd cc
+behind-some pos q (r ∷ next ∷ rs) back h =
+    some-by (holds pos r) q next (behind pos (next ∷ rs)) (behind pos (next ∷ rs ++ back)) h (λ e. behind-some pos q (next ∷ rs) back e)
+
+last-holds : (b : Bool) → 1 ≤ cond b 1 0 + 0 → b ≡ true
+last-holds true h = refl
+last-holds false h = absurd (omega (arith, h))
+
+behind-end : (pos : ℕ) (r : Range) (back : List Range) → holds pos r ≡ true → behind pos (r ∷ back) ≡ first back
+behind-end pos r [] h = refl
+behind-end pos r (next ∷ back) h = ap (λ (t : Bool). if t then Some next.from else behind pos (next ∷ back)) h
+
+none-there : (b : Bool) (pos : ℕ) (next : Range) (n : ℕ) (found more there : Option ℕ) → (if b then Some next.from else found) ≡ None → 1 ≤ cond b 1 0 + n
+    → (found ≡ None → 1 ≤ n → more ≡ there) → (if b then Some next.from else more) ≡ there
+none-there true pos next n found more there h some later = absurd cc
+none-there false pos next n found more there h some later = later h (omega (arith, some))
+
+pub behind-none : (pos : ℕ) (rs back : List Range) → behind pos rs ≡ None → 1 ≤ count_by (holds pos) rs → behind pos (rs ++ back) ≡ first back
+behind-none pos [] back h some = absurd (omega (arith, some))
+behind-none pos (r ∷ []) back h some =
+    let e = count-cons (holds pos) r [] in
+    behind-end pos r back (last-holds (holds pos r) (omega (arith, e, some)))
+behind-none pos (r ∷ next ∷ rs) back h some =
+    let e = count-cons (holds pos) r (next ∷ rs) in
+    none-there (holds pos r) pos next (count_by (holds pos) (next ∷ rs)) (behind pos (next ∷ rs)) (behind pos (next ∷ rs ++ back)) (first back) h (omega (arith, e, some))
+    (λ g more. behind-none pos (next ∷ rs) back g more)
+
+-- whether the first of these ranges has the position
+abbrev pub covers_first : ℕ → List Range → Bool
+covers_first pos [] = false
+covers_first pos (r ∷ rs) = holds pos r
+
+pub before-skip : (pos : ℕ) (r : Range) (rs : List Range) → covers_first pos rs ≡ false → before pos (r ∷ rs) ≡ before pos rs
+before-skip pos r [] h = refl
+before-skip pos r (next ∷ rs) h = skip-by (holds pos next) r (before pos (next ∷ rs)) h
+
+first-front : (pos : ℕ) (front rs : List Range) → count_by (holds pos) front ≡ 0 → covers_first pos rs ≡ false → covers_first pos (front ++ rs) ≡ false
+first-front pos [] rs none h = h
+first-front pos (r ∷ front) rs none h = (none-here pos r front none).0
+
+before-front : (pos : ℕ) (front rs : List Range) → count_by (holds pos) front ≡ 0 → covers_first pos rs ≡ false → before pos (front ++ rs) ≡ before pos rs
+before-front pos [] rs none h = refl
+before-front pos (r ∷ front) rs none h =
+    let both = none-here pos r front none in
+    before-skip pos r (front ++ rs) (first-front pos front rs both.1 h) ∙ before-front pos front rs both.1 h
+
+before-more : (pos q : ℕ) (rs back : List Range) → before pos rs ≡ Some q → before pos (rs ++ back) ≡ Some q
+before-more pos q [] back h = absurd cc
+before-more pos q (r ∷ []) back h = absurd cc
+before-more pos q (r ∷ next ∷ rs) back h =
+    some-by (holds pos next) q r (before pos (next ∷ rs)) (before pos (next ∷ rs ++ back)) h (λ e. before-more pos q (next ∷ rs) back e)
+
+not-first : (pos q : ℕ) (rs back : List Range) → AreSome rs → count_by (holds pos) rs ≤ 1 → before pos rs ≡ Some q → covers_first pos (rs ++ back) ≡ false
+not-first pos q [] back some few h = absurd cc
+not-first pos q (r ∷ rs) back some few h = other pos r rs few (before-one pos q r rs some h).1
+
+pub before-some : (pos q : ℕ) (front rs back : List Range) → AreSome rs → count_by (holds pos) front ≡ 0 → count_by (holds pos) rs ≤ 1 → before pos rs ≡ Some q → before pos (front ++ (rs ++ back)) ≡ Some q
+before-some pos q front rs back some none few h =
+    before-front pos front (rs ++ back) none (not-first pos q rs back some few h) ∙ before-more pos q rs back h
+
+before-none-behind : (pos : ℕ) (r : Range) (rs : List Range) → count_by (holds pos) rs ≡ 0 → before pos (r ∷ rs) ≡ None
+before-none-behind pos r [] none = refl
+before-none-behind pos r (next ∷ rs) none =
+    let both = none-here pos next rs none in
+    skip-by (holds pos next) r (before pos (next ∷ rs)) both.0 ∙ before-none-behind pos next rs both.1
+
+-- where none is before the one that covers a position it is the first
+first-by : (b : Bool) (r : Range) (c : Bool) (n : ℕ) (found : Option ℕ) → (if b then Some r.from else found) ≡ None → 1 ≤ cond c 1 0 + (cond b 1 0 + n)
+    → (found ≡ None → 1 ≤ n → b ≡ true) → c ≡ true
+first-by true r c n found h some later = absurd cc
+first-by false r true n found h some later = refl
+first-by false r false n found h some later = absurd (let q : false ≡ true = later h (omega (arith, some)) in cc)
+
+is-first : (pos : ℕ) (r : Range) (rs : List Range) → before pos (r ∷ rs) ≡ None → 1 ≤ count_by (holds pos) (r ∷ rs) → holds pos r ≡ true
+is-first pos r [] h some = let e = count-cons (holds pos) r [] in last-holds (holds pos r) (omega (arith, e, some))
+is-first pos r (next ∷ rs) h some =
+    let e = count-cons (holds pos) r (next ∷ rs) in
+    let f = count-cons (holds pos) next rs in
+    first-by (holds pos next) r (holds pos r) (count_by (holds pos) rs) (before pos (next ∷ rs)) h (omega (arith, e, f, some))
+    (λ g more. is-first pos next rs g (counted-behind pos next rs more))
+
+last-before : (pos : ℕ) (front : List Range) (r : Range) (rs : List Range) → count_by (holds pos) front ≡ 0 → holds pos r ≡ true → count_by (holds pos) rs ≡ 0
+    → before pos (front ++ (r ∷ rs)) ≡ last front
+last-before pos [] r rs none here behind = before-none-behind pos r rs behind
+last-before pos (f ∷ []) r rs none here behind = ap (λ (t : Bool). if t then Some f.from else before pos (r ∷ rs)) here
+last-before pos (f ∷ g ∷ front) r rs none here behind =
+    let both = none-here pos f (g ∷ front) none in
+    let out = (none-here pos g front both.1).0 in
+    skip-by (holds pos g) f (before pos (g ∷ front ++ (r ∷ rs))) out ∙ last-before pos (g ∷ front) r rs both.1 here behind
+
+only-by : (b : Bool) (n : ℕ) → b ≡ true → cond b 1 0 + n ≡ 1 → n ≡ 0
+only-by true n h one = omega (arith, one)
+only-by false n h one = absurd (let q : false ≡ true = h in cc)
+
+pub before-none : (pos : ℕ) (front rs back : List Range) → count_by (holds pos) front ≡ 0 → count_by (holds pos) rs ≡ 1 → count_by (holds pos) back ≡ 0 → before pos rs ≡ None
+    → before pos (front ++ (rs ++ back)) ≡ last front
+before-none pos front [] back none one later h = absurd (omega (arith, one))
+before-none pos front (r ∷ rs) back none one later h =
+    let here = is-first pos r rs h (omega (arith, one)) in
+    let e = count-cons (holds pos) r rs in
+    let rest = only-by (holds pos r) (count_by (holds pos) rs) here (omega (arith, e, one)) in
+    let all = count-append pos rs back in
+    last-before pos front r (rs ++ back) none here (omega (arith, rest, all, later))
+
+-- the first and the last of ranges of several blocks
+pub first-append : (xs ys : List Range) (pos : ℕ) → 1 ≤ count_by (holds pos) xs → first (xs ++ ys) ≡ first xs
+first-append [] ys pos some = absurd (omega (arith, some))
+first-append (x ∷ xs) ys pos some = refl
+
+last-cons : (x : Range) (ys : List Range) (pos : ℕ) → 1 ≤ count_by (holds pos) ys → last (x ∷ ys) ≡ last ys
+last-cons x [] pos some = absurd (omega (arith, some))
+last-cons x (y ∷ ys) pos some = refl
+
+pub last-append : (xs ys : List Range) (pos : ℕ) → 1 ≤ count_by (holds pos) ys → last (xs ++ ys) ≡ last ys
+last-append [] ys pos some = refl
+last-append (x ∷ xs) ys pos some =
+    let all = count-append pos xs ys in
+    last-cons x (xs ++ ys) pos (omega (arith, all, some)) ∙ last-append xs ys pos some
