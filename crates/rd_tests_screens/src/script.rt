@@ -461,7 +461,6 @@ fn each_unshown_op_is_parsed(rt: HostRuntime) {
         r#"{"op":"put","buffer":"a","from":1,"to":2,"kind":"line_prefix","value":0}"#,
         r#"{"op":"overlay_put","buffer":"a","overlay":0,"kind":"before"}"#,
         r#"{"op":"setting","buffer":"a","name":"direction","value":"auto"}"#,
-        r#"{"op":"table","ellipsis":"……………………","border":"│"}"#,
         r#"{"op":"split","window":0,"side":"below","size":18446744073709551615}"#,
         r#"{"op":"select","window":1}"#,
         r#"{"op":"start","window":0,"pos":1,"row":0}"#,
