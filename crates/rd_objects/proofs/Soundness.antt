@@ -19,7 +19,7 @@ use Rattle.rd_objects.specs.declared.run.Spec.TheVariants.{Text, Width, Align}
 use Rattle.rd_objects.specs.Texts.{TextValue, with_face, with_spec, face_runs, spec_runs, text_of, later, covers, face_in, spec_in, face_of, spec_of}
 use Rattle.rd_objects.specs.Tables.{TableValue, IsTable}
 use Rattle.rd_objects.specs.Things.{ObjectLists, nothing_made, is_numbered, is_made, is_inside, string_fault, is_spec_made, spec_fault, full_fault, string_added, spec_added, face_added, table_added, IsSmallSpec}
-use Rattle.rd_objects.specs.Sound.{AreCodes, IsString, AreObjects, NamesMade, IsClosed, GoesOn, Extends}
+use Rattle.rd_objects.specs.Sound.{AreCodes, IsString, AreObjects, NamesMade, IsClosed, AreRight, GoesOn, Extends}
 
 -- what an answer without a fault tells
 no_fault : (wrong : Bool) (fault : ObjectFault) (rest : Option ObjectFault) → (if wrong then Some fault else rest) ≡ None → (wrong ≡ false) × (rest ≡ None)
@@ -306,3 +306,19 @@ string_made o chars runs made inside short few =
 
 pub spec_made : (o : ObjectLists) (spec : Spec) → is_spec_made o spec ≡ true → length o.specs < 4096 → spec_fault o spec ≡ None
 spec_made o spec made few = let q : nat_le 4096 (length o.specs) ≡ false = grind (arith, nat_tests) in rw (made, q) refl
+
+-- what all objects keep, where one more is made
+pub nothing_right : AreRight nothing_made
+nothing_right = record { sound = nothing_sound; closed = nothing_closed }
+
+pub string_right : (o : ObjectLists) (chars : List ℕ) (runs : List Run) → AreCodes chars → string_fault o chars runs ≡ None → AreRight o → AreRight (string_added o chars runs)
+string_right o chars runs codes e right = record { sound = string_keeps o chars runs codes e right.sound; closed = string_closed o chars runs e right.closed }
+
+pub spec_right : (o : ObjectLists) (spec : Spec) → IsSmallSpec spec → spec_fault o spec ≡ None → AreRight o → AreRight (spec_added o spec)
+spec_right o spec small e right = record { sound = spec_keeps o spec small e right.sound; closed = spec_closed o spec e right.closed }
+
+pub face_right : (o : ObjectLists) (face : Attributes) → HasColours face → full_fault 1024 (length o.faces) ≡ None → AreRight o → AreRight (face_added o face)
+face_right o face colours e right = record { sound = face_keeps o face colours e right.sound; closed = face_closed o face right.closed }
+
+pub table_right : (o : ObjectLists) (table : TableValue) → IsTable table → full_fault 64 (length o.tables) ≡ None → AreRight o → AreRight (table_added o table)
+table_right o table is e right = record { sound = table_keeps o table is e right.sound; closed = table_closed o table right.closed }

@@ -40,6 +40,11 @@ pub record IsClosed (o : ObjectLists) : Type 0 where
   pub strings : All (λ text. All (λ run. run.spec < length o.specs) text.specs) o.strings
   pub specs : All (NamesMade (length o.strings)) o.specs
 
+-- what all objects always keep: each is sound, and what it names was made
+pub record AreRight (o : ObjectLists) : Type 0 where
+  pub sound : AreObjects o
+  pub closed : IsClosed o
+
 -- a list that goes on where another ends
 abbrev pub GoesOn : {X : Type 0} → List X → List X → Type 0
 GoesOn {X} old new = (more : List X) × (new ≡ old ++ more)

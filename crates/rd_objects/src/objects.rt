@@ -3,6 +3,7 @@ ghost use Rattle.std.specs.Prelude.{◌≡◌, length};
 ghost use Rattle.std.specs.List.{list_all};
 ghost use Rattle.rd_base.specs.Cells.{HasColours};
 ghost use Rattle.rd_objects.specs.Things.{is_numbered, is_inside};
+ghost use Rattle.rd_objects.specs.Sound.{AreCodes};
 
 use crate::fault::ObjectFault;
 use crate::run::{Run, RunKind, Spec};
@@ -25,16 +26,19 @@ pub struct Objects {
 
 impl Model for Objects {
     ghost use Rattle.rd_objects.specs.Things.{ObjectLists};
+    ghost use Rattle.rd_objects.specs.Sound.{AreRight};
 
     ghost Value = { ObjectLists };
 
     ghost view = { λ o. record { strings = o.strings; specs = o.specs; faces = o.faces; tables = o.tables } };
+
+    ghost invariant = { λ o. AreRight (record { strings = o.strings; specs = o.specs; faces = o.faces; tables = o.tables }) };
 }
 
 impl Objects {
     ghost use Rattle.std.specs.Prelude.{◌≡◌, ◌≤◌, length, Some, None, IfOk, MatchOption, slice_get};
     ghost use Rattle.rd_objects.specs.Things.{nothing_made, is_spec_made, string_fault, spec_fault, full_fault, string_added, spec_added, face_added, table_added, IsSmallSpec, Adds};
-    ghost use Rattle.rd_objects.specs.Sound.{AreCodes, AreObjects, IsClosed, Extends};
+    ghost use Rattle.rd_objects.specs.Sound.{AreObjects, IsClosed, Extends};
 
     /// No object. It takes no memory.
     pub fn new(alloc: Global) -> Result<Objects, Memory>
@@ -51,11 +55,9 @@ impl Objects {
 
     /// Makes a string of these characters and runs, and answers its number. The first of these faults counts: a run names a
     /// face or a spec that was not made, a run doesn't lie in the string, the string has more than 4,096 characters, 4,096
-    /// strings were made. It costs a copy of the characters and the runs.
+    /// strings were made. It costs a look at each character and a copy of the characters and the runs.
     pub fn add_string(&mut self, text: &[Ch], runs: &[Run]) -> Result<u32, ObjectFault>
         ensures adds { Adds result (string_fault self.old text.now runs.now) (length self.old.strings) self.old self.new (string_added self.old text.now runs.now) }
-        ensures sound { AreCodes text.now → AreObjects self.old → AreObjects self.new }
-        ensures closed { IsClosed self.old → IsClosed self.new }
         ensures extends { Extends self.old self.new }
     {
         if !are_made(runs, self.faces.len(), self.specs.len()) {
@@ -70,6 +72,7 @@ impl Objects {
         if self.strings.len() >= STRINGS as usize {
             return Err(ObjectFault::TooMany);
         }
+        have_codes(text);
         let number = self.strings.len() as u32;
         let text = Text::new(self.alloc, text, runs, self.faces.as_slice())?;
         self.strings.push(text)?;
@@ -81,8 +84,6 @@ impl Objects {
     pub fn add_spec(&mut self, spec: Spec) -> Result<u32, ObjectFault>
         requires { IsSmallSpec spec }
         ensures adds { Adds result (spec_fault self.old spec) (length self.old.specs) self.old self.new (spec_added self.old spec) }
-        ensures sound { AreObjects self.old → AreObjects self.new }
-        ensures closed { IsClosed self.old → IsClosed self.new }
         ensures extends { Extends self.old self.new }
     {
         if !self.names_made(spec) {
@@ -99,8 +100,6 @@ impl Objects {
     /// Makes a face, and answers its number. The fault is that 1,024 faces were made. It costs one step.
     pub fn add_face(&mut self, face: Face) -> Result<u32, ObjectFault>
         ensures adds { Adds result (full_fault FACES (length self.old.faces)) (length self.old.faces) self.old self.new (face_added self.old face) }
-        ensures sound { AreObjects self.old → AreObjects self.new }
-        ensures closed { IsClosed self.old → IsClosed self.new }
         ensures extends { Extends self.old self.new }
     {
         if self.faces.len() >= FACES as usize {
@@ -115,8 +114,6 @@ impl Objects {
     /// Makes a display table, and answers its number. The fault is that 64 tables were made. It costs one step.
     pub fn add_table(&mut self, table: Table) -> Result<u32, ObjectFault>
         ensures adds { Adds result (full_fault TABLES (length self.old.tables)) (length self.old.tables) self.old self.new (table_added self.old table) }
-        ensures sound { AreObjects self.old → AreObjects self.new }
-        ensures closed { IsClosed self.old → IsClosed self.new }
         ensures extends { Extends self.old self.new }
     {
         if self.tables.len() >= TABLES as usize {
@@ -172,6 +169,14 @@ impl Objects {
         }
     }
 
+    /// All objects are sound, there are no more than there may be, and what they name was made. The call does nothing.
+    pub fn stays_right(&self)
+        ensures sound { AreObjects self.now }
+        ensures closed { IsClosed self.now }
+    {
+        let _strings = &self.strings;
+    }
+
     /// Whether the string that a spec names was made.
     fn names_made(&self, spec: Spec) -> bool
         ensures { result ≡ is_spec_made self.now spec }
@@ -188,6 +193,15 @@ fn keeps_colours(face: Face)
     ensures { HasColours face }
 {
     let _colour = face.fg;
+}
+
+/// Each character is a scalar value or a raw byte. The call looks at each and does nothing.
+fn have_codes(text: &[Ch])
+    ensures { AreCodes text.now }
+{
+    for ch in text {
+        ch.code();
+    }
 }
 
 /// Whether each run names a face or a spec among so many.
