@@ -36,6 +36,7 @@ impl Model for Overlays {
 
 impl Overlays {
     ghost use Rattle.std.specs.Prelude.{◌≡◌, ◌≤◌, ◌++◌, ◌∷◌, [], length, map, Some, None, IfOk, MatchOption};
+    ghost use Rattle.rd_base.specs.declared.limits.TheConstants.{OVERLAYS};
     ghost use Rattle.rd_overlays.specs.Overlays.{overlay_at, new_overlay, make_fault, number_fault, move_fault, dropped, moved, given, Makes, Moves, Answers, covering, starting, ending, next_edge, AllFit, slot_grown, slot_shrunk};
 
     /// No overlay.
@@ -46,6 +47,13 @@ impl Overlays {
             alloc,
             slots: Store::new(alloc),
         })
+    }
+
+    /// There are at most 65,536 overlays. The call does nothing.
+    pub fn stays_few(&self)
+        ensures { length self.now ≤ OVERLAYS }
+    {
+        let _slots = &self.slots;
     }
 
     /// Makes an overlay without values from `from` to `to - 1`, and answers its number, which is the count of those made so far.

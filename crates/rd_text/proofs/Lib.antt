@@ -1,3 +1,4 @@
+mod Coded
 pub mod Keeping
 mod Moves
 mod Openings

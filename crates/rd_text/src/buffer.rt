@@ -1,5 +1,6 @@
 //! A text that is edited in place.
-ghost use Rattle.std.specs.Prelude.{◌≡◌, ◌≤◌, ◌++◌, IfOk, OnOk, OnErr, length, take, drop};
+ghost use Rattle.std.specs.Prelude.{◌≡◌, ◌≤◌, ◌++◌, IfOk, OnOk, OnErr, length, take, drop, All, IsTrue};
+ghost use Rattle.rd_base.specs.Chars.{is_code};
 ghost use Rattle.rd_text.specs.Texts.{no_text, IsText, IsAccessible, IsParagraphStart, widened, char_at, next_newline, prev_newline, prev_ink, line_of};
 ghost use Rattle.rd_text.specs.Answers.{Inserts, Deletes, Narrows};
 
@@ -63,6 +64,15 @@ impl Buffer {
         ensures right { IsText self.now }
     {
         self.chars.len() as u32
+    }
+
+    /// The accessible range lies in the text, which isn't too long, and each character is a scalar value or a raw byte. The call does
+    /// nothing.
+    pub fn stays_valid(&self)
+        ensures text { IsText self.now }
+        ensures codes { All (λ c. IsTrue (is_code c)) self.now.text }
+    {
+        let _chars = &self.chars;
     }
 
     /// Puts characters in before a position from the accessible beginning to the accessible end, both included, and else
