@@ -1,19 +1,20 @@
 -- The last layout of a window, and how much of it can be kept.
-use Rattle.std.specs.Prelude.{◌≡◌, ℕ, ◌*◌, Bool, true, false, not, ◌==◌, ◌&&◌, if◌then◌else◌, List, [], All, Option, None, Some, pos}
+use Rattle.std.specs.Prelude.{◌≡◌, ℕ, ◌+◌, ◌*◌, nat_le, Bool, true, false, not, ◌==◌, ◌&&◌, if◌then◌else◌, List, [], length, take, drop, All, Option, None, Some, pos}
 use Rattle.std.specs.Ordering.{int_eq}
+use Rattle.rd_base.specs.declared.settings.Anchor.{Anchor}
 use Rattle.rd_matrix.specs.Entries.{shown_entries}
-use Rattle.rd_matrix.specs.Sources.{SourceValues}
+use Rattle.rd_matrix.specs.Sources.{SourceValues, rows_at}
 use Rattle.rd_matrix.specs.declared.matrix.Entry.{Entry}
 use Rattle.rd_reuse.specs.Changes.{all, none}
 use Rattle.rd_reuse.specs.Keeping.{is_same_shape, kept_source}
 use Rattle.rd_reuse.specs.Views.{IsCopied}
 use Rattle.rd_reuse.specs.declared.change.Change.{Change}
 use Rattle.rd_rows.specs.Shapes.{ShapeValues}
-use Rattle.rd_start.specs.Chosen.{places_of}
+use Rattle.rd_start.specs.Chosen.{anchor_row, places_of}
 use Rattle.rd_start.specs.Near.{near_costs}
 use Rattle.rd_start.specs.Starts.{suits}
 use Rattle.rd_start.specs.declared.wanted.Wanted.{Wanted}
-use Rattle.rd_window.specs.Views.{rows_in_view}
+use Rattle.rd_window.specs.Views.{has_first_row, has_last_row, rows_in_view}
 use Rattle.rd_window.specs.declared.layout.Layout.{Layout}
 
 -- the rows of a last layout that can be kept at a shape: none where it has another one
@@ -51,6 +52,23 @@ rests (Some l) m shape w = is_current l shape w && suits w (places_of m shape w)
 abbrev pub allowance : Option Layout → SourceValues → ShapeValues → Wanted → ℕ
 allowance last m shape w = if rests last m shape w then 0 else 3 * near_costs (kept_by last m shape) shape w
 
+-- What a last layout shows of a source is still what a window shows of it from the row of an anchor on: its rows are those in view from
+-- there, and it knows whether these have the first row and the last one of the text.
+pub record Stands (m : SourceValues) (anchor : Anchor) (l : Layout) : Type 0 where
+  pub rows : shown_entries l.matrix ≡ take l.height (drop (anchor_row (λ b. m.rows_of b l.shape) anchor m.blocks) (rows_at m l.shape))
+  pub top : l.top ≡ (anchor_row (λ b. m.rows_of b l.shape) anchor m.blocks == 0)
+  pub bottom : l.bottom ≡ nat_le (length (rows_at m l.shape)) (anchor_row (λ b. m.rows_of b l.shape) anchor m.blocks + l.height)
+
+-- a window's last layout stands where nothing changed since it was made, and its start was not set by command since
+abbrev pub StandsUnchanged : Option Layout → SourceValues → Bool → Anchor → Type 0
+StandsUnchanged None m forced anchor = Unit {0}
+StandsUnchanged (Some l) m forced anchor = is_none l.change ≡ true → forced ≡ false → Stands m anchor l
+
+-- the layout that a window has after it was laid out: the new one, and the last one where there is no new one
+abbrev pub layout_after : Option Layout → Option Layout → Option Layout
+layout_after last None = last
+layout_after last (Some new) = Some new
+
 -- a window's new layout: its rows in view, and how they were laid out. Where the cursor alone moves the rows stay, their copies too,
 -- and else each row of a block that keeps its rows was copied once more
 pub record IsLaidOut (last : Option Layout) (m : SourceValues) (shape : ShapeValues) (w : Wanted) (new : Layout) : Type 0 where
@@ -59,6 +77,8 @@ pub record IsLaidOut (last : Option Layout) (m : SourceValues) (shape : ShapeVal
   pub height : new.height ≡ w.height
   pub margin : new.margin ≡ w.margin
   pub conservatively : new.conservatively ≡ w.conservatively
+  pub top : new.top ≡ has_first_row m shape w
+  pub bottom : new.bottom ≡ has_last_row m shape w
   pub change : new.change ≡ none
   pub stays : rests last m shape w ≡ true → new.matrix ≡ older_rows last shape
   pub copies : rests last m shape w ≡ false → All (IsCopied (older_rows last shape) (change_since last) m.blocks) new.matrix

@@ -1,12 +1,23 @@
 //! Laws of the definitions, for the layers above.
-ghost use Rattle.std.specs.Prelude.{[]};
-ghost use Rattle.rd_matrix.specs.Sources.{SourceValues};
+ghost use Rattle.std.specs.Prelude.{[], Option};
+ghost use Rattle.rd_matrix.specs.Blocks.{IsWithin};
+ghost use Rattle.rd_matrix.specs.Sources.{IsSource, SourceValues};
 ghost use Rattle.rd_reuse.specs.Keeping.{AreRight};
 ghost use Rattle.rd_reuse.specs.declared.change.Change.{Change};
-ghost use Rattle.rd_rows.specs.Shapes.{ShapeValues};
+ghost use Rattle.rd_rows.specs.Shapes.{IsShape, ShapeValues};
+ghost use Rattle.rd_start.specs.Chosen.{chosen_of};
+ghost use Rattle.rd_start.specs.declared.wanted.Wanted.{Wanted};
+ghost use Rattle.rd_window.specs.Layouts.{IsLaidOut, Stands};
+ghost use Rattle.rd_window.specs.declared.layout.Layout.{Layout};
 
 /// Without older rows no block keeps any, whatever changed, so that each window can be laid out without an older layout. The call does
 /// nothing.
 pub fn no_rows_are_kept()
     ensures { (m : SourceValues) (c : Change) (shape : ShapeValues) → AreRight m [] c shape }
+{}
+
+/// The layout that a window has after it was laid out stands for the start that was chosen. The call does nothing.
+pub fn new_layouts_stand()
+    ensures { (last : Option Layout) (m : SourceValues) (shape : ShapeValues) (w : Wanted) (new : Layout) → IsSource m → IsShape shape → IsWithin w.point m.blocks
+        → IsLaidOut last m shape w new → Stands m (chosen_of m shape w).anchor new }
 {}

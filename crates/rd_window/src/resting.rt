@@ -1,0 +1,120 @@
+//! Whether the last layout of a window is still right.
+ghost use Rattle.std.specs.Prelude.{◌≡◌};
+ghost use Rattle.rd_reuse.specs.Keeping.{is_same_shape, is_same_wrap};
+ghost use Rattle.rd_start.specs.Starts.{margin_of};
+ghost use Rattle.rd_window.specs.Layouts.{is_none};
+
+use crate::layout::Layout;
+use rd_base::{Anchor, Pos, Wrap};
+use rd_matrix::Matrix;
+use rd_reuse::Change;
+use rd_rows::Shape;
+use rd_start::{Chosen, Wanted};
+
+impl Layout {
+    ghost use Rattle.std.specs.Prelude.{◌≡◌, ◌<◌, Some, [], length};
+    ghost use Rattle.rd_matrix.specs.Blocks.{IsWithin};
+    ghost use Rattle.rd_matrix.specs.Entries.{shown_entries};
+    ghost use Rattle.rd_matrix.specs.Sources.{IsSource, SourceValues};
+    ghost use Rattle.rd_rows.specs.Shapes.{IsShape};
+    ghost use Rattle.rd_start.specs.Chosen.{anchor_at, places_of};
+    ghost use Rattle.rd_start.specs.Starts.{suits};
+    ghost use Rattle.rd_window.specs.Layouts.{Stands, StandsUnchanged, is_current, older_rows, rests};
+
+    /// Whether it is still a window's layout, whose start suits point: then the cursor alone moves. It reads the layout alone, at no
+    /// step and without memory.
+    pub(crate) fn rests(&self, shape: Shape, wanted: Wanted) -> bool
+        ensures { (m : SourceValues) → IsSource m → IsWithin wanted.point m.blocks → StandsUnchanged (Some self.now) m wanted.forced wanted.anchor
+            → result ≡ rests (Some self.now) m shape wanted }
+    {
+        if !self.is_current(shape, wanted) {
+            return false;
+        }
+        self.suits(wanted)
+    }
+
+    /// Whether nothing changed since, the start was not set by command, and the window has the layout's shape, height and ways of
+    /// scrolling.
+    fn is_current(&self, shape: Shape, wanted: Wanted) -> bool
+        ensures { result ≡ is_current self.now shape wanted }
+    {
+        is_none(self.change)
+            && !wanted.forced
+            && is_same_shape(self.shape, shape)
+            && self.height == wanted.height
+            && self.margin == wanted.margin
+            && self.conservatively == wanted.conservatively
+    }
+
+    /// Whether point is in view, and as far from the view's edges as is wanted.
+    fn suits(&self, wanted: Wanted) -> bool
+        ensures { (m : SourceValues) → IsSource m → IsShape self.now.shape → IsWithin wanted.point m.blocks → self.now.height ≡ wanted.height → Stands m wanted.anchor self.now
+            → result ≡ suits wanted (places_of m self.now.shape wanted) (places_of m self.now.shape wanted).old }
+    {
+        let Some((row, _)) = self.matrix.cursor(wanted.point) else {
+            return false;
+        };
+        let above = if self.top { 0 } else { margin_of(wanted) };
+        let below = if self.bottom { 0 } else { margin_of(wanted) };
+        above <= row && row as u64 + below as u64 < wanted.height as u64
+    }
+
+    /// Its rows, where it has a shape, and else those of another matrix, which has none.
+    pub(crate) fn rows_at<'a>(&'a self, none: &'a Matrix, shape: Shape) -> &'a Matrix
+        requires { none.now ≡ [] }
+        ensures { result.now ≡ older_rows (Some self.now) shape }
+    {
+        if is_same_shape(self.shape, shape) {
+            &self.matrix
+        } else {
+            none
+        }
+    }
+
+    /// Its start, and point as it is wanted.
+    pub(crate) fn chosen(&self, wanted: Wanted) -> Chosen
+        requires { 0 < length self.now.matrix }
+        ensures { result ≡ record { anchor = anchor_at (shown_entries self.now.matrix) 0; point = wanted.point } }
+    {
+        let first = self.matrix.entry(0);
+        Chosen {
+            anchor: Anchor {
+                pos: first.start,
+                row: first.number,
+            },
+            point: wanted.point,
+        }
+    }
+}
+
+/// The rows that are wanted above and below point's, at most a quarter of the window's.
+fn margin_of(wanted: Wanted) -> u32
+    ensures { result ≡ margin_of wanted }
+{
+    wanted.margin.min(wanted.height / 4)
+}
+
+/// Whether nothing changed.
+fn is_none(change: Change) -> bool
+    ensures { result ≡ is_none change }
+{
+    change.head == Pos::MAX && change.tail == 0 && change.added == 0
+}
+
+/// Whether two shapes are one.
+fn is_same_shape(a: Shape, b: Shape) -> bool
+    ensures { result ≡ is_same_shape a b }
+{
+    a.width == b.width && a.hscroll == b.hscroll && is_same_wrap(a.wrap, b.wrap)
+}
+
+fn is_same_wrap(a: Wrap, b: Wrap) -> bool
+    ensures { result ≡ is_same_wrap a b }
+{
+    match (a, b) {
+        (Wrap::Truncate, Wrap::Truncate) => true,
+        (Wrap::Continue, Wrap::Continue) => true,
+        (Wrap::Word, Wrap::Word) => true,
+        _ => false,
+    }
+}
