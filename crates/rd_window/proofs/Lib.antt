@@ -1,3 +1,5 @@
 mod Near
 mod Ends
 mod Laying
+mod Points
+mod Standing

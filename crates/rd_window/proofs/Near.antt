@@ -96,7 +96,7 @@ near-point w at k free moves low high =
     rw free (rw moves (ap (λ b. is_within w.conservatively (w.conservatively + w.height) at.old k || b) (within w.height w.height at.point k low high)
     ∙ or-true (is_within w.conservatively (w.conservatively + w.height) at.old k)))
 
-follows-old : (w : Wanted) (at : Places) → suits w at at.old ≡ true → (far : ℕ) → find (suits w at) (around at.old far) ≡ Some at.old
+pub follows-old : (w : Wanted) (at : Places) → suits w at at.old ≡ true → (far : ℕ) → find (suits w at) (around at.old far) ≡ Some at.old
 follows-old w at stays zero = rw stays refl
 follows-old w at stays (suc far) =
     find-append (suits w at) (around at.old far) (both_at at.old (suc far))

@@ -1,2 +1,3 @@
-pub mod Views
+pub mod Examples
 pub mod Layouts
+pub mod Views

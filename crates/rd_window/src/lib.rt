@@ -2,6 +2,7 @@
 #![tactic(auto)]
 
 mod again;
+mod examples;
 mod laws;
 mod layout;
 mod resting;

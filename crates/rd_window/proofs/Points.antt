@@ -1,0 +1,223 @@
+-- Where the item that covers a point begins, among all rows of a source and in a view.
+use Rattle.std.proofs.Common.{◌≡◌, ℕ, zero, suc, ◌+◌, ◌-◌, ◌<◌, ◌≤◌, inl, inr, Bool, true, false, ◌||◌, ◌&&◌, leb, ltb, List, [], ◌∷◌, ◌++◌, length, take, drop, slice_get, option_map, Option, None, Some, refl, sym, ap, ◌∙◌, subst, arith, zero-add}
+use Rattle.std.proofs.Math.Bool.{or-true}
+use Rattle.std.proofs.lemmas.Bool.{cases_Bool, cases_lt}
+use Rattle.std.specs.List.{count_by, find, list_any, position_or_len}
+use Rattle.rd_matrix.specs.Blocks.{IsWithin, end_from, first_start}
+use Rattle.rd_matrix.specs.Columns.{column_in, covers, shown_column}
+use Rattle.rd_matrix.specs.Cursors.{column_shown, cursor_in, or_below}
+use Rattle.rd_matrix.specs.Entries.{EntryMeaning, all_rows, entries_of, numbered}
+use Rattle.rd_matrix.specs.Sources.{AreRowsOf, IsSource, SourceValues, begins_of, rows_at}
+use Rattle.rd_matrix.specs.declared.block.Block.{Block}
+use Rattle.rd_rows.specs.Rows.{RowMeaning}
+use Rattle.rd_rows.specs.Shapes.{IsShape, ShapeValues}
+use Rattle.rd_rows.specs.declared.begin.Begin.{Begin}
+use Rattle.rd_start.specs.Chosen.{begins_item, places_of, row_of}
+use Rattle.rd_start.specs.declared.wanted.Wanted.{Wanted}
+use Rattle.rd_start.proofs.Blocks.{Fit, any-block, any-fit, fit}
+use Rattle.rd_start.proofs.Lists.{first-inside, none-counted}
+use Rattle.rd_start.proofs.Rows.{end-any}
+use Rattle.rd_start.proofs.Tests.{above-range, below-range, in-range, range-parts}
+use Rattle.rd_window.proofs.Ends.{in-view}
+
+-- ---- counts
+
+count-append : {X : Type 0} (p : X → Bool) (xs ys : List X) → count_by p (xs ++ ys) ≡ count_by p xs + count_by p ys
+count-append p [] ys = sym (zero-add (count_by p ys))
+count-append p (x ∷ xs) ys =
+    let rest = count-append p xs ys in
+    elim (cases_Bool (p x)) [
+      | inl here ↦ rw here (omega (arith, rest))
+      | inr here ↦ rw here (omega (arith, rest))
+    ]
+
+some-counted : {X : Type 0} (p : X → Bool) (xs : List X) → list_any p xs ≡ true → 1 ≤ count_by p xs
+some-counted p [] some = absurd cc
+some-counted p (x ∷ xs) some =
+    elim (cases_Bool (p x)) [
+      | inl here ↦ rw here (omega arith)
+      | inr here ↦
+          let later : list_any p xs ≡ true = sym (ap (λ b. b || list_any p xs) here) ∙ some in
+          let rest = some-counted p xs later in
+          rw here (omega (arith, rest))
+    ]
+
+passes-any : {X : Type 0} (p : X → Bool) (xs : List X) (k : ℕ) (x : X) → slice_get xs k ≡ Some x → p x ≡ true → list_any p xs ≡ true
+passes-any p [] k x at here = absurd cc
+passes-any p (y ∷ xs) zero x at here = let same : y ≡ x = cc in ap (λ b. b || list_any p xs) (ap p same ∙ here)
+passes-any p (y ∷ xs) (suc k) x at here = ap (λ b. p y || b) (passes-any p xs k x at here) ∙ or-true (p y)
+
+-- where at most one element passes, its place is that of the first
+one-position : {X : Type 0} (p : X → Bool) (xs : List X) (k : ℕ) (x : X) → count_by p xs ≤ 1 → slice_get xs k ≡ Some x → p x ≡ true → position_or_len p xs ≡ k
+one-position p [] k x one at here = absurd cc
+one-position p (y ∷ xs) zero x one at here = let same : y ≡ x = cc in let first : p y ≡ true = ap p same ∙ here in rw first refl
+one-position p (y ∷ xs) (suc k) x one at here =
+    let some = some-counted p xs (passes-any p xs k x at here) in
+    elim (cases_Bool (p y)) [
+      | inl first ↦ let count : count_by p (y ∷ xs) ≡ 1 + count_by p xs = rw first refl in absurd (omega (arith, count, some, one))
+      | inr other ↦
+          let count : count_by p (y ∷ xs) ≡ count_by p xs = rw other refl in
+          let rest = one-position p xs k x (omega (arith, count, one)) at here in
+          rw other (omega (arith, rest))
+    ]
+
+at-position : {X : Type 0} (p : X → Bool) (xs : List X) → list_any p xs ≡ true → (x : X) × (slice_get xs (position_or_len p xs) ≡ Some x) × (p x ≡ true)
+at-position p [] some = absurd cc
+at-position p (y ∷ xs) some =
+    elim (cases_Bool (p y)) as (λ _. (x : _) × (slice_get (y ∷ xs) (position_or_len p (y ∷ xs)) ≡ Some x) × (p x ≡ true)) [
+      | inl here ↦ let place : position_or_len p (y ∷ xs) ≡ 0 = rw here refl in (y, ap (slice_get (y ∷ xs)) place, here)
+      | inr other ↦
+          let later : list_any p xs ≡ true = sym (ap (λ b. b || list_any p xs) other) ∙ some in
+          let rest = at-position p xs later in
+          let place : position_or_len p (y ∷ xs) ≡ suc (position_or_len p xs) = rw other (omega arith) in
+          (rest.0, ap (slice_get (y ∷ xs)) place ∙ rest.1, rest.2)
+    ]
+
+-- ---- one row of a source has the beginning
+
+rows-counted : (point start number : ℕ) (rows : List RowMeaning) → count_by (begins_item point) (numbered start number rows) ≤ count_by (covers start point) (begins_of rows)
+rows-counted point start number [] = omega arith
+rows-counted point start number (r ∷ rows) =
+    let rest = rows-counted point start (number + 1) rows in
+    let sum : count_by (covers start point) (begins_of (r ∷ rows)) ≡ count_by (covers start point) r.begins + count_by (covers start point) (begins_of rows) =
+    count-append (covers start point) r.begins (begins_of rows) in
+    elim (cases_Bool (list_any (covers start point) r.begins)) [
+      | inl here ↦ let some = some-counted (covers start point) r.begins here in rw here (omega (arith, rest, sum, some))
+      | inr here ↦ rw here (omega (arith, rest, sum))
+    ]
+
+block-counted : (point start end : ℕ) (rows : List RowMeaning) → AreRowsOf start end rows → count_by (begins_item point) (numbered start 0 rows) ≤ 1
+block-counted point start end rows h =
+    elim (cases_Bool (leb start point && ltb point end)) [
+      | inl here ↦
+          let inside = range-parts start end point here in
+          let one = h.once point inside.0 inside.1 in
+          let less = rows-counted point start 0 rows in
+          omega (arith, one, less)
+      | inr out ↦ let none = none-counted (begins_item point) (numbered start 0 rows) (any-block point start end rows h ∙ out) in omega (arith, none)
+    ]
+
+fit-counted : (rows : Block → List RowMeaning) (from point : ℕ) (bs : List Block) → Fit rows from bs → count_by (begins_item point) (all_rows rows bs) ≤ 1
+fit-counted rows from point [] h = omega arith
+fit-counted rows from point (b ∷ bs) h =
+    let sum : count_by (begins_item point) (all_rows rows (b ∷ bs)) ≡ count_by (begins_item point) (entries_of rows b) + count_by (begins_item point) (all_rows rows bs) =
+    count-append (begins_item point) (entries_of rows b) (all_rows rows bs) in
+    elim (cases_lt point b.end) [
+      | inl low ↦
+          let here = block-counted point b.start b.end (rows b) h.2 in
+          let none = none-counted (begins_item point) (all_rows rows bs) (any-fit rows b.end point bs h.3 ∙ below-range b.end (end_from b.end bs) point low) in
+          omega (arith, sum, here, none)
+      | inr high ↦
+          let rest = fit-counted rows b.end point bs h.3 in
+          let none = none-counted (begins_item point) (entries_of rows b) (any-block point b.start b.end (rows b) h.2 ∙ above-range b.start b.end point high) in
+          omega (arith, sum, rest, none)
+    ]
+
+-- ---- the cursor of a list of rows
+
+column-some : (start point : ℕ) (bs : List Begin) (c : ℕ) → column_in start point bs ≡ Some c → list_any (covers start point) bs ≡ true
+column-some start point [] c e = absurd cc
+column-some start point (b ∷ bs) c e =
+    elim (cases_Bool (covers start point b)) [
+      | inl here ↦ ap (λ t. t || list_any (covers start point) bs) here
+      | inr other ↦
+          let rest : column_in start point (b ∷ bs) ≡ column_in start point bs = rw other refl in
+          ap (λ t. covers start point b || t) (column-some start point bs c (sym rest ∙ e)) ∙ or-true (covers start point b)
+    ]
+
+column-none : (start point : ℕ) (bs : List Begin) → column_in start point bs ≡ None → list_any (covers start point) bs ≡ false
+column-none start point [] e = refl
+column-none start point (b ∷ bs) e =
+    elim (cases_Bool (covers start point b)) [
+      | inl here ↦ let some : column_in start point (b ∷ bs) ≡ Some b.column = rw here refl in absurd cc
+      | inr other ↦
+          let rest : column_in start point (b ∷ bs) ≡ column_in start point bs = rw other refl in
+          ap (λ t. t || list_any (covers start point) bs) other ∙ column-none start point bs (sym rest ∙ e)
+    ]
+
+begins-some : (point : ℕ) (e : EntryMeaning) (o : Option ℕ) (c : ℕ) → column_in e.start point e.row.begins ≡ o → option_map (shown_column e.row) o ≡ Some c → begins_item point e ≡ true
+begins-some point e None c at h = absurd cc
+begins-some point e (Some k) c at h = column-some e.start point e.row.begins k at
+
+begins-none : (point : ℕ) (e : EntryMeaning) (o : Option ℕ) → column_in e.start point e.row.begins ≡ o → option_map (shown_column e.row) o ≡ None → begins_item point e ≡ false
+begins-none point e None at h = column-none e.start point e.row.begins at
+begins-none point e (Some k) at h = absurd cc
+
+-- the row at a place has the beginning
+abbrev HasBeginning : ℕ → List EntryMeaning → ℕ → Type 0
+HasBeginning point es row = (e : EntryMeaning) × (slice_get es row ≡ Some e) × (begins_item point e ≡ true)
+
+cursor-by : (point : ℕ) (e : EntryMeaning) (es : List EntryMeaning) (here : Option ℕ) (below : Option (ℕ × ℕ)) (place : ℕ × ℕ) → column_shown point e ≡ here
+    → ((p : ℕ × ℕ) → below ≡ Some p → HasBeginning point es p.0) → or_below here below ≡ Some place → HasBeginning point (e ∷ es) place.0
+cursor-by point e es (Some c) below place here later at =
+    let same : (0, c) ≡ place = cc in
+    let row : place.0 ≡ 0 = sym (ap (λ (p : ℕ × ℕ). p.0) same) in
+    (e, ap (slice_get (e ∷ es)) row, begins-some point e (column_in e.start point e.row.begins) c refl here)
+cursor-by point e es None None place here later at = absurd cc
+cursor-by point e es None (Some p) place here later at =
+    let same : (p.0 + 1, p.1) ≡ place = cc in
+    let row : place.0 ≡ suc p.0 = sym (ap (λ (q : ℕ × ℕ). q.0) same) ∙ omega arith in
+    let found = later p refl in
+    (found.0, ap (slice_get (e ∷ es)) row ∙ found.1, found.2)
+
+cursor-row : (point : ℕ) (es : List EntryMeaning) (place : ℕ × ℕ) → cursor_in point es ≡ Some place → HasBeginning point es place.0
+cursor-row point [] place at = absurd cc
+cursor-row point (e ∷ es) place at = cursor-by point e es (column_shown point e) (cursor_in point es) place refl (λ p below. cursor-row point es p below) at
+
+neither-some : (here : Option ℕ) (below : Option (ℕ × ℕ)) → or_below here below ≡ None → (here ≡ None) × (below ≡ None)
+neither-some (Some c) below at = absurd cc
+neither-some None (Some p) at = absurd cc
+neither-some None None at = (refl, refl)
+
+cursor-none : (point : ℕ) (es : List EntryMeaning) → cursor_in point es ≡ None → list_any (begins_item point) es ≡ false
+cursor-none point [] at = refl
+cursor-none point (e ∷ es) at =
+    let both = neither-some (column_shown point e) (cursor_in point es) at in
+    let here = begins-none point e (column_in e.start point e.row.begins) refl both.0 in
+    ap (λ t. t || list_any (begins_item point) es) here ∙ cursor-none point es both.1
+
+-- ---- in a view
+
+got-below : {X : Type 0} (xs : List X) (k : ℕ) (x : X) → slice_get xs k ≡ Some x → k < length xs
+got-below [] k x at = absurd cc
+got-below (y ∷ xs) zero x at = omega arith
+got-below (y ∷ xs) (suc k) x at = let rest = got-below xs k x at in omega (arith, rest)
+
+taken-below : {X : Type 0} (n : ℕ) (xs : List X) (k : ℕ) (x : X) → slice_get (take n xs) k ≡ Some x → k < n
+taken-below zero xs k x at = absurd cc
+taken-below (suc n) [] k x at = absurd cc
+taken-below (suc n) (y ∷ xs) zero x at = omega arith
+taken-below (suc n) (y ∷ xs) (suc k) x at = let rest = taken-below n xs k x at in omega (arith, rest)
+
+module _ {m : SourceValues} {shape : ShapeValues} (w : Wanted) (source : IsSource m) (is : IsShape shape) where
+  pub rows-fit : Fit (λ b. m.rows_of b shape) (first_start m.blocks) m.blocks
+  rows-fit = fit (λ b. m.rows_of b shape) (first_start m.blocks) m.blocks source.blocks.stand (λ b k. source.rows b shape k is)
+
+  -- point's row, where a view shows it
+  pub point-shown : (i height : ℕ) (place : ℕ × ℕ) → cursor_in w.point (take height (drop i (rows_at m shape))) ≡ Some place
+      → ((places_of m shape w).point ≡ i + place.0) × (place.0 < height) × (i + place.0 < length (rows_at m shape))
+  point-shown i height place at =
+      let rows = rows_at m shape in
+      let found = cursor-row w.point (take height (drop i rows)) place at in
+      let low = taken-below height (drop i rows) place.0 found.0 found.1 in
+      let there = sym (in-view rows i height place.0 low) ∙ found.1 in
+      let one = fit-counted (λ b. m.rows_of b shape) (first_start m.blocks) w.point m.blocks rows-fit in
+      (one-position (begins_item w.point) rows (i + place.0) found.0 one there found.2, low, got-below rows (i + place.0) found.0 there)
+
+  some-begins : IsWithin w.point m.blocks → list_any (begins_item w.point) (rows_at m shape) ≡ true
+  some-begins within =
+      let start = first_start m.blocks in
+      let high = subst (λ n. w.point < n) (end-any 0 start m.blocks source.blocks.some) within.1 in
+      any-fit (λ b. m.rows_of b shape) start w.point m.blocks rows-fit ∙ in-range start (end_from start m.blocks) w.point within.0 high
+
+  -- and where it does not
+  pub point-hidden : (i height : ℕ) → IsWithin w.point m.blocks → cursor_in w.point (take height (drop i (rows_at m shape))) ≡ None
+      → i ≤ (places_of m shape w).point → (places_of m shape w).point < i + height → false ≡ true
+  point-hidden i height within at low high =
+      let rows = rows_at m shape in
+      let row = row_of w.point rows in
+      let found = at-position (begins_item w.point) rows (some-begins within) in
+      let k : ℕ = row - i in
+      let there : i + k ≡ row = omega (arith, low) in
+      let shown = in-view rows i height k (omega (arith, low, high)) ∙ ap (slice_get rows) there ∙ found.1 in
+      sym (cursor-none w.point (take height (drop i rows)) at) ∙ passes-any (begins_item w.point) (take height (drop i rows)) k found.0 shown found.2

@@ -1,0 +1,226 @@
+-- A window that rests on its last layout, and a new layout that stands.
+use Rattle.std.proofs.Common.{◌≡◌, ℕ, ◌+◌, ◌-◌, ◌<◌, ◌≤◌, inl, inr, Bool, true, false, not, if◌then◌else◌, ◌==◌, ◌&&◌, leb, ltb, min, List, [], ◌∷◌, ◌++◌, All, length, take, drop, slice_get, Option, Some, pos, ℤ, refl, sym, ap, ap₂, ◌∙◌, subst, arith}
+use Rattle.std.specs.Ordering.{int_eq}
+use Rattle.std.specs.Option.{unwrap_or}
+use Rattle.std.proofs.lemmas.Bool.{and_parts, cases_Bool, eq-eqb, eqb-true, leb-true, lt-ltb, ltb-true}
+use Rattle.std.proofs.lemmas.Bool.Decides.{Decides-int_eq, nat_tests}
+use Rattle.rd_base.specs.declared.settings.Anchor.{Anchor}
+use Rattle.rd_matrix.specs.Blocks.{IsWithin, first_start}
+use Rattle.rd_matrix.specs.Entries.{EntryMeaning, all_rows, shown_entries}
+use Rattle.rd_matrix.specs.Sources.{IsSource, SourceValues, rows_at}
+use Rattle.rd_matrix.specs.declared.block.Block.{Block}
+use Rattle.rd_matrix.specs.declared.matrix.Entry.{Entry}
+use Rattle.rd_reuse.specs.Changes.{none}
+use Rattle.rd_reuse.specs.Keeping.{is_same_shape}
+use Rattle.rd_reuse.specs.Views.{IsCopied, Names}
+use Rattle.rd_reuse.specs.declared.change.Change.{Change}
+use Rattle.rd_reuse.proofs.Places.{anchor-found}
+use Rattle.rd_reuse.proofs.Taking.{same-shape}
+use Rattle.rd_rows.specs.Rows.{RowMeaning}
+use Rattle.rd_rows.specs.Shapes.{IsShape, ShapeValues}
+use Rattle.rd_start.specs.Chosen.{anchor_at, anchor_from, anchor_row, chosen_of, places_of, point_from, row_in_block}
+use Rattle.rd_start.specs.Starts.{Places, centred, following, is_inside, margin_of, scrolled, suits, wanted_above, wanted_below}
+use Rattle.rd_start.specs.declared.wanted.Chosen.{Chosen}
+use Rattle.rd_start.specs.declared.wanted.Wanted.{Wanted}
+use Rattle.rd_start.proofs.Blocks.{Fit, anchor-skips, fit-back}
+use Rattle.rd_start.proofs.Inside.{start-inside}
+use Rattle.rd_window.specs.Layouts.{IsLaidOut, Stands, StandsUnchanged, change_since, is_current, is_none, older_rows, rests}
+use Rattle.rd_window.specs.Views.{has_first_row, has_last_row, rows_in_view, start_row}
+use Rattle.rd_window.specs.declared.layout.Layout.{Layout}
+use Rattle.rd_window.proofs.Ends.{in-view, opposite}
+use Rattle.rd_window.proofs.Laying.{some-laid, start-named}
+use Rattle.rd_window.proofs.Near.{follows-old}
+use Rattle.rd_window.proofs.Points.{rows-fit}
+
+-- ---- what a current layout is
+
+equal-changes : (a b : Change) → a.head ≡ b.head → a.tail ≡ b.tail → a.added ≡ b.added → a ≡ b
+equal-changes a b head tail added =
+    ap (λ (x : ℕ). record { head = x; tail = a.tail; added = a.added }) head
+    ∙ (ap (λ (x : ℕ). record { head = b.head; tail = x; added = a.added }) tail
+    ∙ ap (λ (x : ℤ). record { head = b.head; tail = b.tail; added = x }) added)
+
+none-is : (c : Change) → is_none c ≡ true → c ≡ none
+none-is c e =
+    let both = and_parts ((c.head == 4294967295) && (c.tail == 0)) (int_eq c.added (pos 0)) e in
+    let ends = and_parts (c.head == 4294967295) (c.tail == 0) both.0 in
+    equal-changes c none (eqb-true c.head 4294967295 ends.0) (eqb-true c.tail 0 ends.1) ((Decides-int_eq c.added (pos 0)).0 both.1)
+
+pub record IsCurrent (l : Layout) (shape : ShapeValues) (w : Wanted) : Type 0 where
+  pub unchanged : is_none l.change ≡ true
+  pub free : w.forced ≡ false
+  pub shapes : is_same_shape l.shape shape ≡ true
+  pub height : l.height ≡ w.height
+  pub margin : l.margin ≡ w.margin
+  pub conservatively : l.conservatively ≡ w.conservatively
+
+pub current : (l : Layout) (shape : ShapeValues) (w : Wanted) → is_current l shape w ≡ true → IsCurrent l shape w
+current l shape w e =
+    let unchanged = is_none l.change in
+    let free = not w.forced in
+    let shapes = is_same_shape l.shape shape in
+    let height = l.height == w.height in
+    let margin = l.margin == w.margin in
+    let far = l.conservatively == w.conservatively in
+    let five = and_parts (unchanged && free && shapes && height && margin) far e in
+    let four = and_parts (unchanged && free && shapes && height) margin five.0 in
+    let three = and_parts (unchanged && free && shapes) height four.0 in
+    let two = and_parts (unchanged && free) shapes three.0 in
+    let one = and_parts unchanged free two.0 in
+    record {
+      unchanged = one.0;
+      free = opposite true w.forced (sym one.1);
+      shapes = two.1;
+      height = eqb-true l.height w.height three.1;
+      margin = eqb-true l.margin w.margin four.1;
+      conservatively = eqb-true l.conservatively w.conservatively five.1;
+    }
+
+-- ---- whether its start suits
+
+pub suits-shown : (w : Wanted) (at : Places) (row above below : ℕ) → at.point ≡ at.old + row → at.old < at.count → above ≡ wanted_above w at.old → below ≡ wanted_below w at.count at.old
+    → (leb above row && ltb (row + below) w.height) ≡ suits w at at.old
+suits-shown w at row above below place low up down =
+    let inside = lt-ltb at.old at.count low in
+    let tests : (leb (at.old + above) at.point && leb (at.point + below + 1) (at.old + w.height)) ≡ (leb above row && ltb (row + below) w.height) = grind (arith, nat_tests, place) in
+    sym (ap (λ b. b && is_inside w.height (wanted_above w at.old) (wanted_below w at.count at.old) at.old at.point) inside
+    ∙ (sym (ap₂ (λ (a b : ℕ). leb (at.old + a) at.point && leb (at.point + b + 1) (at.old + w.height)) up down) ∙ tests))
+
+pub suits-hidden : (w : Wanted) (at : Places) → (at.old ≤ at.point → at.point < at.old + w.height → false ≡ true) → suits w at at.old ≡ false
+suits-hidden w at out =
+    let above = wanted_above w at.old in
+    let below = wanted_below w at.count at.old in
+    elim (cases_Bool (suits w at at.old)) [
+      | inl fits ↦
+          let both = and_parts (ltb at.old at.count) (is_inside w.height above below at.old at.point) fits in
+          let inside = and_parts (leb (at.old + above) at.point) (leb (at.point + below + 1) (at.old + w.height)) both.1 in
+          let low = leb-true (at.old + above) at.point inside.0 in
+          let high = leb-true (at.point + below + 1) (at.old + w.height) inside.1 in
+          let never : false ≡ true = out (omega (arith, low)) (omega (arith, high)) in
+          absurd cc
+      | inr not_there ↦ not_there
+    ]
+
+-- how many rows are wanted above and below point's, as a layout knows it
+pub above-known : (w : Wanted) (l : Layout) (i : ℕ) → l.top ≡ (i == 0) → (if l.top then 0 else margin_of w) ≡ wanted_above w i
+above-known w l i known = ap (λ b. if b then 0 else margin_of w) known
+
+pub below-known : (w : Wanted) (l : Layout) (count i : ℕ) → l.height ≡ w.height → l.bottom ≡ leb count (i + l.height) → (if l.bottom then 0 else margin_of w) ≡ wanted_below w count i
+below-known w l count i height known = ap (λ b. if b then 0 else margin_of w) (known ∙ ap (λ n. leb count (i + n)) height)
+
+-- ---- a window that rests
+
+pub record Rests (l : Layout) (m : SourceValues) (shape : ShapeValues) (w : Wanted) : Type 0 where
+  pub current : IsCurrent l shape w
+  pub fits : suits w (places_of m shape w) (places_of m shape w).old ≡ true
+  pub stands : Stands m w.anchor l
+
+pub rests-parts : (l : Layout) (m : SourceValues) (shape : ShapeValues) (w : Wanted) → rests (Some l) m shape w ≡ true → StandsUnchanged (Some l) m w.forced w.anchor → Rests l m shape w
+rests-parts l m shape w e stands =
+    let both = and_parts (is_current l shape w) (suits w (places_of m shape w) (places_of m shape w).old) e in
+    let now = current l shape w both.0 in
+    record { current = now; fits = both.1; stands = stands now.unchanged now.free }
+
+-- it starts where it started
+start-stays : (l : Layout) (m : SourceValues) (shape : ShapeValues) (w : Wanted) → Rests l m shape w → start_row m shape w ≡ (places_of m shape w).old
+start-stays l m shape w r =
+    let at = places_of m shape w in
+    ap (λ (b : Bool). if b then scrolled w at else following w at) r.current.free ∙ ap (λ o. unwrap_or o (centred w at)) (follows-old w at r.fits w.conservatively)
+
+rows-stay : (l : Layout) (m : SourceValues) (shape : ShapeValues) (w : Wanted) → Rests l m shape w → shown_entries l.matrix ≡ rows_in_view m shape w
+rows-stay l m shape w r =
+    r.stands.rows
+    ∙ (ap (λ (s : ShapeValues). take l.height (drop (anchor_row (λ b. m.rows_of b s) w.anchor m.blocks) (rows_at m s))) (same-shape l.shape shape r.current.shapes)
+    ∙ (ap (λ (n : ℕ). take n (drop (places_of m shape w).old (rows_at m shape))) r.current.height
+    ∙ sym (ap (λ (n : ℕ). take w.height (drop n (rows_at m shape))) (start-stays l m shape w r))))
+
+top-stays : (l : Layout) (m : SourceValues) (shape : ShapeValues) (w : Wanted) → Rests l m shape w → l.top ≡ has_first_row m shape w
+top-stays l m shape w r =
+    r.stands.top
+    ∙ (ap (λ (s : ShapeValues). anchor_row (λ b. m.rows_of b s) w.anchor m.blocks == 0) (same-shape l.shape shape r.current.shapes)
+    ∙ sym (ap (λ (n : ℕ). n == 0) (start-stays l m shape w r)))
+
+bottom-stays : (l : Layout) (m : SourceValues) (shape : ShapeValues) (w : Wanted) → Rests l m shape w → l.bottom ≡ has_last_row m shape w
+bottom-stays l m shape w r =
+    r.stands.bottom
+    ∙ (ap (λ (s : ShapeValues). leb (length (rows_at m s)) (anchor_row (λ b. m.rows_of b s) w.anchor m.blocks + l.height)) (same-shape l.shape shape r.current.shapes)
+    ∙ (ap (λ (n : ℕ). leb (length (rows_at m shape)) ((places_of m shape w).old + n)) r.current.height
+    ∙ sym (ap (λ (n : ℕ). leb (length (rows_at m shape)) (n + w.height)) (start-stays l m shape w r))))
+
+-- it has a row
+pub some-stay : (l : Layout) (m : SourceValues) (shape : ShapeValues) (w : Wanted) → 1 ≤ w.height → Rests l m shape w → 0 < length l.matrix
+some-stay l m shape w some r =
+    let at = places_of m shape w in
+    let start = start-stays l m shape w r in
+    let inside = ltb-true at.old at.count (and_parts (ltb at.old at.count) (is_inside w.height (wanted_above w at.old) (wanted_below w at.count at.old) at.old at.point) r.fits).0 in
+    some-laid m shape w l.matrix some (omega (arith, start, inside)) (rows-stay l m shape w r)
+
+-- the start is that of its first row, and point stays
+pub chosen-stays : (l : Layout) (m : SourceValues) (shape : ShapeValues) (w : Wanted) → 1 ≤ w.height → Rests l m shape w
+    → record { anchor = anchor_at (shown_entries l.matrix) 0; point = w.point } ≡ chosen_of m shape w
+chosen-stays l m shape w some r =
+    let at = places_of m shape w in
+    let rows = rows_at m shape in
+    let start = start_row m shape w in
+    let same : start + 0 ≡ start = omega arith in
+    let first : anchor_at (shown_entries l.matrix) 0 ≡ anchor_at rows start =
+    ap (λ (es : List EntryMeaning). anchor_at es 0) (rows-stay l m shape w r) ∙ ap anchor_from (in-view rows start w.height 0 (omega (arith, some)) ∙ ap (slice_get rows) same) in
+    let point : w.point ≡ point_from w at start rows = sym (ap (λ (b : Bool). point_from (record w { forced = b }) at start rows) r.current.free) in
+    ap₂ (λ (a : Anchor) (p : ℕ). record { anchor = a; point = p }) first point
+
+pub laid-resting : (l : Layout) (m : SourceValues) (shape : ShapeValues) (w : Wanted) → rests (Some l) m shape w ≡ true → Rests l m shape w → IsLaidOut (Some l) m shape w l
+laid-resting l m shape w resting r = record {
+  rows = rows-stay l m shape w r;
+  shape_is = same-shape l.shape shape r.current.shapes;
+  height = r.current.height;
+  margin = r.current.margin;
+  conservatively = r.current.conservatively;
+  top = top-stays l m shape w r;
+  bottom = bottom-stays l m shape w r;
+  change = none-is l.change r.current.unchanged;
+  stays = λ e. sym (ap (λ (b : Bool). if b then l.matrix else []) r.current.shapes);
+  copies = λ e. let never : true ≡ false = sym resting ∙ e in absurd cc;
+}
+
+-- ---- a new layout stands
+
+-- an anchor that names a row has that row
+anchor-place : (m : SourceValues) (shape : ShapeValues) (w : Wanted) (anchor : Anchor) (k : ℕ) → IsSource m → IsShape shape → Names anchor (rows_at m shape) k
+    → anchor_row (λ b. m.rows_of b shape) anchor m.blocks ≡ k
+anchor-place m shape w anchor k source is named =
+    let rows : Block → List RowMeaning = λ b. m.rows_of b shape in
+    let from = first_start m.blocks in
+    let f = anchor-found rows m.blocks k anchor named in
+    let whole = subst (Fit rows from) f.pieces (rows-fit w source is) in
+    let here = fit-back rows from f.before (f.block ∷ f.after) whole in
+    let starts = f.starts in
+    let some = here.1 in
+    let inside = f.inside in
+    let skips = anchor-skips rows anchor from f.before f.after f.block whole (omega (arith, starts)) (omega (arith, starts, some)) in
+    let held : min anchor.row (length (rows f.block) - 1) ≡ anchor.row = omega (arith, inside) in
+    let inner : row_in_block anchor f.block.start (rows f.block) ≡ anchor.row =
+    ap (λ (b : Bool). if b then min anchor.row (length (rows f.block) - 1) else 0) (eq-eqb anchor.pos f.block.start (sym starts)) ∙ held in
+    ap (anchor_row rows anchor) f.pieces ∙ (skips ∙ (ap (λ (n : ℕ). length (all_rows rows f.before) + n) inner ∙ f.place))
+
+pub stands-new : (last : Option Layout) (m : SourceValues) (shape : ShapeValues) (w : Wanted) (new : Layout) → IsSource m → IsShape shape → IsWithin w.point m.blocks → IsLaidOut last m shape w new
+    → Stands m (chosen_of m shape w).anchor new
+stands-new last m shape w new source is within laid =
+    let anchor = (chosen_of m shape w).anchor in
+    let start = start_row m shape w in
+    let place = anchor-place m shape w anchor start source is (start-named m shape w (start-inside m shape w source is within)) in
+    record {
+      rows =
+          laid.rows
+          ∙ (sym (ap (λ (n : ℕ). take w.height (drop n (rows_at m shape))) place)
+          ∙ (sym (ap (λ (n : ℕ). take n (drop (anchor_row (λ b. m.rows_of b shape) anchor m.blocks) (rows_at m shape))) laid.height)
+          ∙ sym (ap (λ (s : ShapeValues). take new.height (drop (anchor_row (λ b. m.rows_of b s) anchor m.blocks) (rows_at m s))) laid.shape_is)));
+      top =
+          laid.top
+          ∙ (sym (ap (λ (n : ℕ). n == 0) place)
+          ∙ sym (ap (λ (s : ShapeValues). anchor_row (λ b. m.rows_of b s) anchor m.blocks == 0) laid.shape_is));
+      bottom =
+          laid.bottom
+          ∙ (sym (ap (λ (n : ℕ). leb (length (rows_at m shape)) (n + w.height)) place)
+          ∙ (sym (ap (λ (n : ℕ). leb (length (rows_at m shape)) (anchor_row (λ b. m.rows_of b shape) anchor m.blocks + n)) laid.height)
+          ∙ sym (ap (λ (s : ShapeValues). leb (length (rows_at m s)) (anchor_row (λ b. m.rows_of b s) anchor m.blocks + new.height)) laid.shape_is)));
+    }

@@ -1,0 +1,33 @@
+-- Three lines and their layouts, for worked examples.
+use Rattle.std.specs.Prelude.{ℕ, ◌+◌, ◌-◌, true, List, [], ◌∷◌, ◌++◌, map}
+use Rattle.rd_matrix.specs.Entries.{EntryMeaning}
+use Rattle.rd_matrix.specs.Sources.{SourceValues, rows_at}
+use Rattle.rd_matrix.specs.declared.matrix.Entry.{Entry}
+use Rattle.rd_reuse.specs.declared.change.Change.{Change}
+use Rattle.rd_start.specs.Examples.{items_from, last_row, short_lines, twelve_columns}
+use Rattle.rd_window.specs.declared.layout.Layout.{Layout}
+
+-- the lines `a` and `b`, and a third one of so many positions, its end too; each is one row, of as many elements as it has positions
+abbrev pub three_lines : ℕ → SourceValues
+three_lines count = record {
+  blocks = short_lines 1 2 ++ record { start = 5; end = 5 + count; base = 0 } ∷ [];
+  rows_of = λ b shape. last_row (items_from 0 (b.end - b.start)) ∷ [];
+  cost_of = λ b shape. b.end - b.start;
+}
+
+-- a row as it was laid out
+abbrev pub laid_before : EntryMeaning → Entry
+laid_before e = record { start = e.start; number = e.number; row = record { shown = e.row; copies = 0 } }
+
+-- the layout of a window of three rows that shows `a`, `b` and `c`, since which so much changed
+abbrev pub three_rows : Change → Layout
+three_rows change = record {
+  matrix = map laid_before (rows_at (three_lines 2) twelve_columns);
+  shape = twelve_columns;
+  height = 3;
+  margin = 0;
+  conservatively = 0;
+  top = true;
+  bottom = true;
+  change = change;
+}
