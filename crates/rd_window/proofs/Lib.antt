@@ -1,5 +1,5 @@
 mod Near
 mod Ends
-mod Laying
+mod Starting
 mod Points
 mod Standing

@@ -1,9 +1,11 @@
 -- Where the item that covers a point begins, among all rows of a source and in a view.
-use Rattle.std.proofs.Common.{◌≡◌, ℕ, zero, suc, ◌+◌, ◌-◌, ◌<◌, ◌≤◌, inl, inr, Bool, true, false, ◌||◌, ◌&&◌, leb, ltb, List, [], ◌∷◌, ◌++◌, length, take, drop, slice_get, option_map, Option, None, Some, refl, sym, ap, ◌∙◌, subst, arith, zero-add}
+use Rattle.std.proofs.Common.{◌≡◌, ℕ, zero, suc, ◌+◌, ◌-◌, ◌<◌, ◌≤◌, inl, inr, Bool, true, false, ◌||◌, ◌&&◌, leb, ltb, All, List, [], ◌∷◌, ◌++◌, length, take, drop, slice_get, option_map, Option, None, Some, refl, sym, ap, ◌∙◌, subst, arith, zero-add}
 use Rattle.std.proofs.Math.Bool.{or-true}
-use Rattle.std.proofs.lemmas.Bool.{cases_Bool, cases_lt}
+use Rattle.std.proofs.lemmas.Bool.{and_from, and_left, and_parts, and_right, cases_Bool, cases_lt, le-leb, le-ltb, leb-true, lt-leb, lt-ltb, ltb-true}
+use Rattle.std.proofs.lemmas.Bool.Decides.{nat_tests}
+use Rattle.std.proofs.lemmas.List.Folds.{list_any-append, list_any_none}
 use Rattle.std.specs.List.{count_by, find, list_any, position_or_len}
-use Rattle.rd_matrix.specs.Blocks.{IsWithin, end_from, first_start}
+use Rattle.rd_matrix.specs.Blocks.{IsAmong, IsWithin, StandFrom, end_from, first_start}
 use Rattle.rd_matrix.specs.Columns.{column_in, covers, shown_column}
 use Rattle.rd_matrix.specs.Cursors.{column_shown, cursor_in, or_below}
 use Rattle.rd_matrix.specs.Entries.{EntryMeaning, all_rows, entries_of, numbered}
@@ -14,10 +16,6 @@ use Rattle.rd_rows.specs.Shapes.{IsShape, ShapeValues}
 use Rattle.rd_rows.specs.declared.begin.Begin.{Begin}
 use Rattle.rd_start.specs.Chosen.{begins_item, places_of, row_of}
 use Rattle.rd_start.specs.declared.wanted.Wanted.{Wanted}
-use Rattle.rd_start.proofs.Blocks.{Fit, any-block, any-fit, fit}
-use Rattle.rd_start.proofs.Lists.{first-inside, none-counted}
-use Rattle.rd_start.proofs.Rows.{end-any}
-use Rattle.rd_start.proofs.Tests.{above-range, below-range, in-range, range-parts}
 use Rattle.rd_window.proofs.Ends.{in-view}
 
 -- ---- counts
@@ -73,6 +71,97 @@ at-position p (y ∷ xs) some =
           (rest.0, ap (slice_get (y ∷ xs)) place ∙ rest.1, rest.2)
     ]
 
+none-counted : {X : Type 0} (p : X → Bool) (xs : List X) → list_any p xs ≡ false → count_by p xs ≡ 0
+none-counted p [] none = refl
+none-counted p (x ∷ xs) none =
+    elim (cases_Bool (p x)) [
+      | inl here ↦ let some : list_any p (x ∷ xs) ≡ true = ap (λ b. b || list_any p xs) here in absurd cc
+      | inr here ↦
+          let rest : list_any p xs ≡ false = sym (ap (λ b. b || list_any p xs) here) ∙ none in
+          rw here (none-counted p xs rest)
+    ]
+
+one-passes : {X : Type 0} (p : X → Bool) (xs : List X) → count_by p xs ≡ 1 → list_any p xs ≡ true
+one-passes p xs one =
+    elim (cases_Bool (list_any p xs)) [
+      | inl some ↦ some
+      | inr none ↦ let count = none-counted p xs none in absurd (omega (arith, count, one))
+    ]
+
+-- ---- ranges, as tests
+
+in-range : (from to k : ℕ) → from ≤ k → k < to → (leb from k && ltb k to) ≡ true
+in-range from to k low high = and_from (leb from k) (ltb k to) (le-leb from k low) (lt-ltb k to high)
+
+below-range : (from to k : ℕ) → k < from → (leb from k && ltb k to) ≡ false
+below-range from to k low = and_left (leb from k) (ltb k to) (lt-leb from k low)
+
+above-range : (from to k : ℕ) → to ≤ k → (leb from k && ltb k to) ≡ false
+above-range from to k high = and_right (leb from k) (ltb k to) (le-ltb k to high)
+
+range-parts : (from to k : ℕ) → (leb from k && ltb k to) ≡ true → (from ≤ k) × (k < to)
+range-parts from to k e = let both = and_parts (leb from k) (ltb k to) e in (leb-true from k both.0, ltb-true k to both.1)
+
+-- ---- which rows have the beginning
+
+any-numbered : (point start number : ℕ) (rows : List RowMeaning) → list_any (begins_item point) (numbered start number rows) ≡ list_any (covers start point) (begins_of rows)
+any-numbered point start number [] = refl
+any-numbered point start number (r ∷ rows) =
+    ap (λ b. list_any (covers start point) r.begins || b) (any-numbered point start (number + 1) rows)
+    ∙ sym (list_any-append (covers start point) r.begins (begins_of rows))
+
+none-covers : (start end point : ℕ) (bs : List Begin) → All (λ b. (b.from ≤ b.to) × (start + b.to ≤ end)) bs → (leb start point && ltb point end) ≡ false
+    → list_any (covers start point) bs ≡ false
+none-covers start end point bs inside out = list_any_none (covers start point) bs (λ k d below.
+    let h = inside k d below in
+    grind (arith, nat_tests, h.0, h.1))
+
+-- a row of the block that holds the position
+any-block : (point start end : ℕ) (rows : List RowMeaning) → AreRowsOf start end rows → list_any (begins_item point) (numbered start 0 rows) ≡ (leb start point && ltb point end)
+any-block point start end rows h =
+    any-numbered point start 0 rows
+    ∙ elim (cases_Bool (leb start point && ltb point end)) [
+      | inl here ↦
+          let inside = range-parts start end point here in
+          one-passes (covers start point) (begins_of rows) (h.once point inside.0 inside.1) ∙ sym here
+      | inr out ↦ none-covers start end point (begins_of rows) h.inside out ∙ sym out
+    ]
+
+-- the rows of each of the blocks
+abbrev pub HaveRows : (Block → List RowMeaning) → List Block → Type 0
+HaveRows rows bs = (b : Block) → IsAmong bs b → AreRowsOf b.start b.end (rows b)
+
+rest-have : (rows : Block → List RowMeaning) (b : Block) (bs : List Block) → HaveRows rows (b ∷ bs) → HaveRows rows bs
+rest-have rows b bs each = λ c k. each c (suc k.0, k.1)
+
+any-later : (rows : Block → List RowMeaning) (from point : ℕ) (bs : List Block) → StandFrom from bs → HaveRows rows bs → point < from → list_any (begins_item point) (all_rows rows bs) ≡ false
+any-later rows from point [] stand each low = refl
+any-later rows from point (b ∷ bs) stand each low =
+    let starts = stand.0 in
+    let some = stand.1 in
+    let here = any-block point b.start b.end (rows b) (each b (0, refl)) ∙ below-range b.start b.end point (omega (arith, starts, low)) in
+    list_any-append (begins_item point) (entries_of rows b) (all_rows rows bs)
+    ∙ (ap (λ t. t || list_any (begins_item point) (all_rows rows bs)) here ∙ any-later rows b.end point bs stand.2 (rest-have rows b bs each) (omega (arith, starts, some, low)))
+
+any-here : (rows : Block → List RowMeaning) (from point : ℕ) (bs : List Block) → StandFrom from bs → HaveRows rows bs → from ≤ point → point < end_from from bs
+    → list_any (begins_item point) (all_rows rows bs) ≡ true
+any-here rows from point [] stand each low high = absurd (omega (arith, low, high))
+any-here rows from point (b ∷ bs) stand each low high =
+    let starts = stand.0 in
+    let whole = list_any-append (begins_item point) (entries_of rows b) (all_rows rows bs) in
+    elim (cases_lt point b.end) [
+      | inl inside ↦
+          let here = any-block point b.start b.end (rows b) (each b (0, refl)) ∙ in-range b.start b.end point (omega (arith, starts, low)) inside in
+          whole ∙ ap (λ t. t || list_any (begins_item point) (all_rows rows bs)) here
+      | inr later ↦
+          whole ∙ (ap (λ t. list_any (begins_item point) (entries_of rows b) || t) (any-here rows b.end point bs stand.2 (rest-have rows b bs each) later high)
+          ∙ or-true (list_any (begins_item point) (entries_of rows b)))
+    ]
+
+end-any : (x y : ℕ) (bs : List Block) → 0 < length bs → end_from x bs ≡ end_from y bs
+end-any x y [] some = absurd (omega arith)
+end-any x y (b ∷ bs) some = refl
+
 -- ---- one row of a source has the beginning
 
 rows-counted : (point start number : ℕ) (rows : List RowMeaning) → count_by (begins_item point) (numbered start number rows) ≤ count_by (covers start point) (begins_of rows)
@@ -97,19 +186,21 @@ block-counted point start end rows h =
       | inr out ↦ let none = none-counted (begins_item point) (numbered start 0 rows) (any-block point start end rows h ∙ out) in omega (arith, none)
     ]
 
-fit-counted : (rows : Block → List RowMeaning) (from point : ℕ) (bs : List Block) → Fit rows from bs → count_by (begins_item point) (all_rows rows bs) ≤ 1
-fit-counted rows from point [] h = omega arith
-fit-counted rows from point (b ∷ bs) h =
+blocks-counted : (rows : Block → List RowMeaning) (from point : ℕ) (bs : List Block) → StandFrom from bs → HaveRows rows bs → count_by (begins_item point) (all_rows rows bs) ≤ 1
+blocks-counted rows from point [] stand each = omega arith
+blocks-counted rows from point (b ∷ bs) stand each =
     let sum : count_by (begins_item point) (all_rows rows (b ∷ bs)) ≡ count_by (begins_item point) (entries_of rows b) + count_by (begins_item point) (all_rows rows bs) =
     count-append (begins_item point) (entries_of rows b) (all_rows rows bs) in
+    let own = each b (0, refl) in
+    let others = rest-have rows b bs each in
     elim (cases_lt point b.end) [
       | inl low ↦
-          let here = block-counted point b.start b.end (rows b) h.2 in
-          let none = none-counted (begins_item point) (all_rows rows bs) (any-fit rows b.end point bs h.3 ∙ below-range b.end (end_from b.end bs) point low) in
+          let here = block-counted point b.start b.end (rows b) own in
+          let none = none-counted (begins_item point) (all_rows rows bs) (any-later rows b.end point bs stand.2 others low) in
           omega (arith, sum, here, none)
       | inr high ↦
-          let rest = fit-counted rows b.end point bs h.3 in
-          let none = none-counted (begins_item point) (entries_of rows b) (any-block point b.start b.end (rows b) h.2 ∙ above-range b.start b.end point high) in
+          let rest = blocks-counted rows b.end point bs stand.2 others in
+          let none = none-counted (begins_item point) (entries_of rows b) (any-block point b.start b.end (rows b) own ∙ above-range b.start b.end point high) in
           omega (arith, sum, rest, none)
     ]
 
@@ -190,8 +281,8 @@ taken-below (suc n) (y ∷ xs) zero x at = omega arith
 taken-below (suc n) (y ∷ xs) (suc k) x at = let rest = taken-below n xs k x at in omega (arith, rest)
 
 module _ {m : SourceValues} {shape : ShapeValues} (w : Wanted) (source : IsSource m) (is : IsShape shape) where
-  pub rows-fit : Fit (λ b. m.rows_of b shape) (first_start m.blocks) m.blocks
-  rows-fit = fit (λ b. m.rows_of b shape) (first_start m.blocks) m.blocks source.blocks.stand (λ b k. source.rows b shape k is)
+  have-rows : HaveRows (λ b. m.rows_of b shape) m.blocks
+  have-rows = λ b k. source.rows b shape k is
 
   -- point's row, where a view shows it
   pub point-shown : (i height : ℕ) (place : ℕ × ℕ) → cursor_in w.point (take height (drop i (rows_at m shape))) ≡ Some place
@@ -201,14 +292,14 @@ module _ {m : SourceValues} {shape : ShapeValues} (w : Wanted) (source : IsSourc
       let found = cursor-row w.point (take height (drop i rows)) place at in
       let low = taken-below height (drop i rows) place.0 found.0 found.1 in
       let there = sym (in-view rows i height place.0 low) ∙ found.1 in
-      let one = fit-counted (λ b. m.rows_of b shape) (first_start m.blocks) w.point m.blocks rows-fit in
+      let one = blocks-counted (λ b. m.rows_of b shape) (first_start m.blocks) w.point m.blocks source.blocks.stand have-rows in
       (one-position (begins_item w.point) rows (i + place.0) found.0 one there found.2, low, got-below rows (i + place.0) found.0 there)
 
   some-begins : IsWithin w.point m.blocks → list_any (begins_item w.point) (rows_at m shape) ≡ true
   some-begins within =
       let start = first_start m.blocks in
       let high = subst (λ n. w.point < n) (end-any 0 start m.blocks source.blocks.some) within.1 in
-      any-fit (λ b. m.rows_of b shape) start w.point m.blocks rows-fit ∙ in-range start (end_from start m.blocks) w.point within.0 high
+      any-here (λ b. m.rows_of b shape) start w.point m.blocks source.blocks.stand have-rows within.0 high
 
   -- and where it does not
   pub point-hidden : (i height : ℕ) → IsWithin w.point m.blocks → cursor_in w.point (take height (drop i (rows_at m shape))) ≡ None

@@ -1,36 +1,36 @@
 -- A window that rests on its last layout, and a new layout that stands.
-use Rattle.std.proofs.Common.{◌≡◌, ℕ, ◌+◌, ◌-◌, ◌<◌, ◌≤◌, inl, inr, Bool, true, false, not, if◌then◌else◌, ◌==◌, ◌&&◌, leb, ltb, min, List, [], ◌∷◌, ◌++◌, All, length, take, drop, slice_get, Option, Some, pos, ℤ, refl, sym, ap, ap₂, ◌∙◌, subst, arith}
+use Rattle.std.proofs.Common.{◌≡◌, ℕ, ◌+◌, ◌-◌, ◌<◌, ◌≤◌, inl, inr, Bool, true, false, not, if◌then◌else◌, ◌==◌, ◌&&◌, leb, ltb, min, List, [], ◌∷◌, ◌++◌, All, length, take, drop, slice_get, Option, Some, pos, ℤ, refl, sym, ap, ap₂, ◌∙◌, subst, arith, zero-add}
 use Rattle.std.specs.Ordering.{int_eq}
 use Rattle.std.specs.Option.{unwrap_or}
-use Rattle.std.proofs.lemmas.Bool.{and_parts, cases_Bool, eq-eqb, eqb-true, leb-true, lt-ltb, ltb-true}
+use Rattle.std.proofs.lemmas.Bool.{and_parts, cases_Bool, eq-eqb, eqb-true, le-ltb, leb-true, lt-ltb, ltb-true}
 use Rattle.std.proofs.lemmas.Bool.Decides.{Decides-int_eq, nat_tests}
 use Rattle.rd_base.specs.declared.settings.Anchor.{Anchor}
-use Rattle.rd_matrix.specs.Blocks.{IsWithin, first_start}
+use Rattle.rd_base.specs.declared.settings.Wrap.{Wrap}
+use Rattle.rd_base.specs.declared.settings.Wrap.TheVariants.{Truncate, Continue, Word}
+use Rattle.rd_matrix.specs.Blocks.{StandFrom, first_start}
+use Rattle.rd_matrix.proofs.Counting.{count-cons}
 use Rattle.rd_matrix.specs.Entries.{EntryMeaning, all_rows, shown_entries}
 use Rattle.rd_matrix.specs.Sources.{IsSource, SourceValues, rows_at}
 use Rattle.rd_matrix.specs.declared.block.Block.{Block}
 use Rattle.rd_matrix.specs.declared.matrix.Entry.{Entry}
 use Rattle.rd_reuse.specs.Changes.{none}
-use Rattle.rd_reuse.specs.Keeping.{is_same_shape}
+use Rattle.rd_reuse.specs.Keeping.{is_same_shape, is_same_wrap}
 use Rattle.rd_reuse.specs.Views.{IsCopied, Names}
 use Rattle.rd_reuse.specs.declared.change.Change.{Change}
-use Rattle.rd_reuse.proofs.Places.{anchor-found}
-use Rattle.rd_reuse.proofs.Taking.{same-shape}
+use Rattle.rd_reuse.proofs.Lists.{at-seam}
+use Rattle.rd_reuse.proofs.Places.{anchor-found, later-start}
 use Rattle.rd_rows.specs.Rows.{RowMeaning}
-use Rattle.rd_rows.specs.Shapes.{IsShape, ShapeValues}
+use Rattle.rd_rows.specs.Shapes.{ShapeValues}
 use Rattle.rd_start.specs.Chosen.{anchor_at, anchor_from, anchor_row, chosen_of, places_of, point_from, row_in_block}
 use Rattle.rd_start.specs.Starts.{Places, centred, following, is_inside, margin_of, scrolled, suits, wanted_above, wanted_below}
 use Rattle.rd_start.specs.declared.wanted.Chosen.{Chosen}
 use Rattle.rd_start.specs.declared.wanted.Wanted.{Wanted}
-use Rattle.rd_start.proofs.Blocks.{Fit, anchor-skips, fit-back}
-use Rattle.rd_start.proofs.Inside.{start-inside}
 use Rattle.rd_window.specs.Layouts.{IsLaidOut, Stands, StandsUnchanged, change_since, is_current, is_none, older_rows, rests}
 use Rattle.rd_window.specs.Views.{has_first_row, has_last_row, rows_in_view, start_row}
 use Rattle.rd_window.specs.declared.layout.Layout.{Layout}
 use Rattle.rd_window.proofs.Ends.{in-view, opposite}
-use Rattle.rd_window.proofs.Laying.{some-laid, start-named}
+use Rattle.rd_window.proofs.Starting.{some-laid, start-named}
 use Rattle.rd_window.proofs.Near.{follows-old}
-use Rattle.rd_window.proofs.Points.{rows-fit}
 
 -- ---- what a current layout is
 
@@ -45,6 +45,29 @@ none-is c e =
     let both = and_parts ((c.head == 4294967295) && (c.tail == 0)) (int_eq c.added (pos 0)) e in
     let ends = and_parts (c.head == 4294967295) (c.tail == 0) both.0 in
     equal-changes c none (eqb-true c.head 4294967295 ends.0) (eqb-true c.tail 0 ends.1) ((Decides-int_eq c.added (pos 0)).0 both.1)
+
+same-wrap : (a b : Wrap) → is_same_wrap a b ≡ true → a ≡ b
+same-wrap Truncate Truncate e = refl
+same-wrap Truncate Continue e = cc
+same-wrap Truncate Word e = cc
+same-wrap Continue Truncate e = cc
+same-wrap Continue Continue e = refl
+same-wrap Continue Word e = cc
+same-wrap Word Truncate e = cc
+same-wrap Word Continue e = cc
+same-wrap Word Word e = refl
+
+equal-shapes : (a b : ShapeValues) → a.width ≡ b.width → a.wrap ≡ b.wrap → a.hscroll ≡ b.hscroll → a ≡ b
+equal-shapes a b width wrap hscroll =
+    ap (λ (x : ℕ). record { width = x; wrap = a.wrap; hscroll = a.hscroll }) width
+    ∙ (ap (λ (x : Wrap). record { width = b.width; wrap = x; hscroll = a.hscroll }) wrap
+    ∙ ap (λ (x : ℕ). record { width = b.width; wrap = b.wrap; hscroll = x }) hscroll)
+
+pub same-shape : (a b : ShapeValues) → is_same_shape a b ≡ true → a ≡ b
+same-shape a b e =
+    let both = and_parts ((a.width == b.width) && (a.hscroll == b.hscroll)) (is_same_wrap a.wrap b.wrap) e in
+    let numbers = and_parts (a.width == b.width) (a.hscroll == b.hscroll) both.0 in
+    equal-shapes a b (eqb-true a.width b.width numbers.0) (same-wrap a.wrap b.wrap both.1) (eqb-true a.hscroll b.hscroll numbers.1)
 
 pub record IsCurrent (l : Layout) (shape : ShapeValues) (w : Wanted) : Type 0 where
   pub unchanged : is_none l.change ≡ true
@@ -184,17 +207,28 @@ laid-resting l m shape w resting r = record {
 
 -- ---- a new layout stands
 
+-- the row of an anchor is one of the block that holds its position
+anchor-skips : (rows : Block → List RowMeaning) (anchor : Anchor) (from : ℕ) (before after : List Block) (b : Block) → StandFrom from (before ++ b ∷ after)
+    → b.start ≤ anchor.pos → anchor.pos < b.end → anchor_row rows anchor (before ++ b ∷ after) ≡ length (all_rows rows before) + row_in_block anchor b.start (rows b)
+anchor-skips rows anchor from [] after b stand low high =
+    let here = lt-ltb anchor.pos b.end high in
+    rw here (sym (zero-add (row_in_block anchor b.start (rows b))))
+anchor-skips rows anchor from (x ∷ before) after b stand low high =
+    let start = (later-start x.end (length before) (before ++ b ∷ after) b stand.2 (at-seam before b after)).0 in
+    let later = le-ltb anchor.pos x.end (omega (arith, start, low)) in
+    let rest = anchor-skips rows anchor x.end before after b stand.2 low high in
+    let count = count-cons rows x before in
+    rw later (omega (arith, rest, count))
+
 -- an anchor that names a row has that row
-anchor-place : (m : SourceValues) (shape : ShapeValues) (w : Wanted) (anchor : Anchor) (k : ℕ) → IsSource m → IsShape shape → Names anchor (rows_at m shape) k
-    → anchor_row (λ b. m.rows_of b shape) anchor m.blocks ≡ k
-anchor-place m shape w anchor k source is named =
+anchor-place : (m : SourceValues) (shape : ShapeValues) (anchor : Anchor) (k : ℕ) → IsSource m → Names anchor (rows_at m shape) k → anchor_row (λ b. m.rows_of b shape) anchor m.blocks ≡ k
+anchor-place m shape anchor k source named =
     let rows : Block → List RowMeaning = λ b. m.rows_of b shape in
     let from = first_start m.blocks in
     let f = anchor-found rows m.blocks k anchor named in
-    let whole = subst (Fit rows from) f.pieces (rows-fit w source is) in
-    let here = fit-back rows from f.before (f.block ∷ f.after) whole in
+    let whole = subst (StandFrom from) f.pieces source.blocks.stand in
+    let some = (later-start from (length f.before) (f.before ++ f.block ∷ f.after) f.block whole (at-seam f.before f.block f.after)).1 in
     let starts = f.starts in
-    let some = here.1 in
     let inside = f.inside in
     let skips = anchor-skips rows anchor from f.before f.after f.block whole (omega (arith, starts)) (omega (arith, starts, some)) in
     let held : min anchor.row (length (rows f.block) - 1) ≡ anchor.row = omega (arith, inside) in
@@ -202,12 +236,12 @@ anchor-place m shape w anchor k source is named =
     ap (λ (b : Bool). if b then min anchor.row (length (rows f.block) - 1) else 0) (eq-eqb anchor.pos f.block.start (sym starts)) ∙ held in
     ap (anchor_row rows anchor) f.pieces ∙ (skips ∙ (ap (λ (n : ℕ). length (all_rows rows f.before) + n) inner ∙ f.place))
 
-pub stands-new : (last : Option Layout) (m : SourceValues) (shape : ShapeValues) (w : Wanted) (new : Layout) → IsSource m → IsShape shape → IsWithin w.point m.blocks → IsLaidOut last m shape w new
+pub stands-new : (last : Option Layout) (m : SourceValues) (shape : ShapeValues) (w : Wanted) (new : Layout) → IsSource m → start_row m shape w < length (rows_at m shape) → IsLaidOut last m shape w new
     → Stands m (chosen_of m shape w).anchor new
-stands-new last m shape w new source is within laid =
+stands-new last m shape w new source low laid =
     let anchor = (chosen_of m shape w).anchor in
     let start = start_row m shape w in
-    let place = anchor-place m shape w anchor start source is (start-named m shape w (start-inside m shape w source is within)) in
+    let place = anchor-place m shape anchor start source (start-named m shape w low) in
     record {
       rows =
           laid.rows

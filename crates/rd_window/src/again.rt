@@ -53,9 +53,9 @@ pub fn lay_out_again<B: BlockSource + Drop, L: Ledger>(
     ensures chosen { IfOk result (λ laying. laying.chosen ≡ chosen_of (B.meaning source) shape wanted) }
     ensures top { IfOk result (λ laying. laying.top ≡ has_first_row (B.meaning source) shape wanted) }
     ensures bottom { IfOk result (λ laying. laying.bottom ≡ has_last_row (B.meaning source) shape wanted) }
-    ensures layout { IfOk result (λ laying. IfSome (layout_after (option_map (λ l. l.now) last) laying.anew) (λ new. IsLaidOut (option_map (λ l. l.now) last) (B.meaning source) shape wanted new)) }
-    ensures anew { IfOk result (λ laying. is_some laying.anew ≡ not (rests (option_map (λ l. l.now) last) (B.meaning source) shape wanted)) }
-    ensures steps { steps.new ≤ steps.old + allowance (option_map (λ l. l.now) last) (B.meaning source) shape wanted }
+    ensures layout { IfOk result (λ laying. IfSome (layout_after (option_map (λ l. l.now) last.entry) laying.anew) (λ new. IsLaidOut (option_map (λ l. l.now) last.entry) (B.meaning source) shape wanted new)) }
+    ensures anew { IfOk result (λ laying. is_some laying.anew ≡ not (rests (option_map (λ l. l.now) last.entry) (B.meaning source) shape wanted)) }
+    ensures steps { steps.new ≤ steps.old + allowance (option_map (λ l. l.now) last.entry) (B.meaning source) shape wanted }
 {
     if let Some(layout) = last {
         if layout.rests(shape, wanted) {
@@ -100,9 +100,9 @@ fn lay_out_anew<B: BlockSource + Drop, L: Ledger>(
     ensures chosen { IfOk result (λ laying. laying.chosen ≡ chosen_of (B.meaning source) shape wanted) }
     ensures top { IfOk result (λ laying. laying.top ≡ has_first_row (B.meaning source) shape wanted) }
     ensures bottom { IfOk result (λ laying. laying.bottom ≡ has_last_row (B.meaning source) shape wanted) }
-    ensures layout { IfOk result (λ laying. IfSome laying.anew (λ new. IsLaidOut (option_map (λ l. l.now) last) (B.meaning source) shape wanted new)) }
+    ensures layout { IfOk result (λ laying. IfSome laying.anew (λ new. IsLaidOut (option_map (λ l. l.now) last.entry) (B.meaning source) shape wanted new)) }
     ensures anew { IfOk result (λ laying. is_some laying.anew ≡ true) }
-    ensures steps { steps.new ≤ steps.old + allowance (option_map (λ l. l.now) last) (B.meaning source) shape wanted }
+    ensures steps { steps.new ≤ steps.old + allowance (option_map (λ l. l.now) last.entry) (B.meaning source) shape wanted }
 {
     let none = Matrix::new(alloc)?;
     let older = older_rows(last, &none, shape);
@@ -114,7 +114,7 @@ fn lay_out_anew<B: BlockSource + Drop, L: Ledger>(
 /// The rows of a last layout that can be kept at a shape, and else those of another matrix, which has none.
 fn older_rows<'a>(last: Option<&'a Layout>, none: &'a Matrix, shape: Shape) -> &'a Matrix
     requires { none.now ≡ [] }
-    ensures { result.now ≡ older_rows (option_map (λ l. l.now) last) shape }
+    ensures { result.now ≡ older_rows (option_map (λ l. l.now) last.entry) shape }
 {
     match last {
         Some(layout) => layout.rows_at(none, shape),
@@ -124,7 +124,7 @@ fn older_rows<'a>(last: Option<&'a Layout>, none: &'a Matrix, shape: Shape) -> &
 
 /// What changed since a last layout.
 fn change_since(last: Option<&Layout>) -> Change
-    ensures { result ≡ change_since (option_map (λ l. l.now) last) }
+    ensures { result ≡ change_since (option_map (λ l. l.now) last.entry) }
 {
     match last {
         Some(layout) => layout.change,

@@ -56,7 +56,7 @@ impl Layout {
         };
         let above = if self.top { 0 } else { margin_of(wanted) };
         let below = if self.bottom { 0 } else { margin_of(wanted) };
-        above <= row && row as u64 + below as u64 < wanted.height as u64
+        above <= row && u64::from(row) + u64::from(below) < u64::from(wanted.height)
     }
 
     /// Its rows, where it has a shape, and else those of another matrix, which has none.

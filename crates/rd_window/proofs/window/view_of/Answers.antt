@@ -8,7 +8,7 @@ use Rattle.rd_reuse.specs.Views.{IsCopied, Names, fresh_costs}
 use Rattle.rd_rows.specs.Shapes.{IsShape, ShapeValues}
 use Rattle.rd_start.specs.Near.{near_costs}
 use Rattle.rd_window.specs.Views.{rows_in_view, start_row}
-use Rattle.rd_window.proofs.Laying.{at-source, back-at-source, chosen-named, some-laid, spent}
+use Rattle.rd_window.proofs.Starting.{at-source, back-at-source, chosen-named, some-laid, spent}
 use Rattle.rd_window.proofs.window.view_of.Goals as goal
 
 pub relay-requires-clause-right : goal.relay-requires-clause-right
