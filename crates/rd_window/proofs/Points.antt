@@ -1,8 +1,9 @@
 -- Where the item that covers a point begins, among all rows of a source and in a view.
-use Rattle.std.proofs.Common.{◌≡◌, ℕ, zero, suc, ◌+◌, ◌-◌, ◌<◌, ◌≤◌, inl, inr, Bool, true, false, ◌||◌, ◌&&◌, leb, ltb, All, List, [], ◌∷◌, ◌++◌, length, take, drop, slice_get, option_map, Option, None, Some, refl, sym, ap, ◌∙◌, subst, arith, zero-add}
+use Rattle.std.proofs.Common.{◌≡◌, ℕ, zero, suc, ◌+◌, ◌-◌, ◌<◌, ◌≤◌, inl, inr, Bool, true, false, cond, ◌||◌, ◌&&◌, leb, ltb, All, List, [], ◌∷◌, ◌++◌, length, take, drop, slice_get, option_map, Option, None, Some, refl, sym, ap, ◌∙◌, subst, arith, zero-add}
 use Rattle.std.proofs.Math.Bool.{or-true}
 use Rattle.std.proofs.lemmas.Bool.{and_from, and_left, and_parts, and_right, cases_Bool, cases_lt, le-leb, le-ltb, leb-true, lt-leb, lt-ltb, ltb-true}
 use Rattle.std.proofs.lemmas.Bool.Decides.{nat_tests}
+use Rattle.std.proofs.lemmas.List.Sums.{sum_by-append}
 use Rattle.std.proofs.lemmas.List.Folds.{list_any-append, list_any_none}
 use Rattle.std.specs.List.{count_by, find, list_any, position_or_len}
 use Rattle.rd_matrix.specs.Blocks.{IsAmong, IsWithin, StandFrom, end_from, first_start}
@@ -21,23 +22,21 @@ use Rattle.rd_window.proofs.Ends.{in-view}
 -- ---- counts
 
 count-append : {X : Type 0} (p : X → Bool) (xs ys : List X) → count_by p (xs ++ ys) ≡ count_by p xs + count_by p ys
-count-append p [] ys = sym (zero-add (count_by p ys))
-count-append p (x ∷ xs) ys =
-    let rest = count-append p xs ys in
-    elim (cases_Bool (p x)) [
-      | inl here ↦ rw here (omega (arith, rest))
-      | inr here ↦ rw here (omega (arith, rest))
-    ]
+count-append p xs ys = sum_by-append (λ x. cond (p x) 1 0) xs ys
+
+count-first : {X : Type 0} (p : X → Bool) (x : X) (xs : List X) (b : Bool) → p x ≡ b → count_by p (x ∷ xs) ≡ cond b 1 0 + count_by p xs
+count-first p x xs b here = count-append p (x ∷ []) xs ∙ (ap (λ n. n + count_by p xs) (zero-add (cond (p x) 1 0)) ∙ ap (λ t. cond t 1 0 + count_by p xs) here)
 
 some-counted : {X : Type 0} (p : X → Bool) (xs : List X) → list_any p xs ≡ true → 1 ≤ count_by p xs
 some-counted p [] some = absurd cc
 some-counted p (x ∷ xs) some =
     elim (cases_Bool (p x)) [
-      | inl here ↦ rw here (omega arith)
+      | inl here ↦ let count = count-first p x xs true here in omega (arith, count)
       | inr here ↦
           let later : list_any p xs ≡ true = sym (ap (λ b. b || list_any p xs) here) ∙ some in
           let rest = some-counted p xs later in
-          rw here (omega (arith, rest))
+          let count = count-first p x xs false here in
+          omega (arith, rest, count)
     ]
 
 passes-any : {X : Type 0} (p : X → Bool) (xs : List X) (k : ℕ) (x : X) → slice_get xs k ≡ Some x → p x ≡ true → list_any p xs ≡ true
@@ -52,9 +51,9 @@ one-position p (y ∷ xs) zero x one at here = let same : y ≡ x = cc in let fi
 one-position p (y ∷ xs) (suc k) x one at here =
     let some = some-counted p xs (passes-any p xs k x at here) in
     elim (cases_Bool (p y)) [
-      | inl first ↦ let count : count_by p (y ∷ xs) ≡ 1 + count_by p xs = rw first refl in absurd (omega (arith, count, some, one))
+      | inl first ↦ let count = count-first p y xs true first in absurd (omega (arith, count, some, one))
       | inr other ↦
-          let count : count_by p (y ∷ xs) ≡ count_by p xs = rw other refl in
+          let count = count-first p y xs false other in
           let rest = one-position p xs k x (omega (arith, count, one)) at here in
           rw other (omega (arith, rest))
     ]
@@ -167,12 +166,19 @@ end-any x y (b ∷ bs) some = refl
 rows-counted : (point start number : ℕ) (rows : List RowMeaning) → count_by (begins_item point) (numbered start number rows) ≤ count_by (covers start point) (begins_of rows)
 rows-counted point start number [] = omega arith
 rows-counted point start number (r ∷ rows) =
+    let e : EntryMeaning = record { start = start; number = number; row = r } in
+    let behind = numbered start (number + 1) rows in
     let rest = rows-counted point start (number + 1) rows in
     let sum : count_by (covers start point) (begins_of (r ∷ rows)) ≡ count_by (covers start point) r.begins + count_by (covers start point) (begins_of rows) =
     count-append (covers start point) r.begins (begins_of rows) in
     elim (cases_Bool (list_any (covers start point) r.begins)) [
-      | inl here ↦ let some = some-counted (covers start point) r.begins here in rw here (omega (arith, rest, sum, some))
-      | inr here ↦ rw here (omega (arith, rest, sum))
+      | inl here ↦
+          let some = some-counted (covers start point) r.begins here in
+          let count : count_by (begins_item point) (e ∷ behind) ≡ 1 + count_by (begins_item point) behind = count-first (begins_item point) e behind true here in
+          omega (arith, rest, sum, some, count)
+      | inr here ↦
+          let count : count_by (begins_item point) (e ∷ behind) ≡ 0 + count_by (begins_item point) behind = count-first (begins_item point) e behind false here in
+          omega (arith, rest, sum, count)
     ]
 
 block-counted : (point start end : ℕ) (rows : List RowMeaning) → AreRowsOf start end rows → count_by (begins_item point) (numbered start 0 rows) ≤ 1

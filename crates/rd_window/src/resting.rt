@@ -1,5 +1,5 @@
 //! Whether the last layout of a window is still right.
-ghost use Rattle.std.specs.Prelude.{◌≡◌};
+ghost use Rattle.std.specs.Prelude.{◌≡◌, ◌+◌, ◌&&◌, nat_le, nat_lt};
 ghost use Rattle.rd_reuse.specs.Keeping.{is_same_shape, is_same_wrap};
 ghost use Rattle.rd_start.specs.Starts.{margin_of};
 ghost use Rattle.rd_window.specs.Layouts.{is_none};
@@ -12,13 +12,13 @@ use rd_rows::Shape;
 use rd_start::{Chosen, Wanted};
 
 impl Layout {
-    ghost use Rattle.std.specs.Prelude.{◌≡◌, ◌<◌, Some, [], length};
+    ghost use Rattle.std.specs.Prelude.{◌≡◌, ◌<◌, if◌then◌else◌, Some, [], length};
     ghost use Rattle.rd_matrix.specs.Blocks.{IsWithin};
     ghost use Rattle.rd_matrix.specs.Entries.{shown_entries};
     ghost use Rattle.rd_matrix.specs.Sources.{IsSource, SourceValues};
     ghost use Rattle.rd_rows.specs.Shapes.{IsShape};
     ghost use Rattle.rd_start.specs.Chosen.{anchor_at, places_of};
-    ghost use Rattle.rd_start.specs.Starts.{suits};
+    ghost use Rattle.rd_start.specs.Starts.{margin_of, suits};
     ghost use Rattle.rd_window.specs.Layouts.{Stands, StandsUnchanged, is_current, older_rows, rests};
 
     /// Whether it is still a window's layout, whose start suits point: then the cursor alone moves. It reads the layout alone, at no
@@ -54,9 +54,23 @@ impl Layout {
         let Some((row, _)) = self.matrix.cursor(wanted.point) else {
             return false;
         };
-        let above = if self.top { 0 } else { margin_of(wanted) };
-        let below = if self.bottom { 0 } else { margin_of(wanted) };
-        above <= row && u64::from(row) + u64::from(below) < u64::from(wanted.height)
+        let above = self.wanted_above(wanted);
+        let below = self.wanted_below(wanted);
+        is_inside(wanted.height, above, below, row)
+    }
+
+    /// The rows that are wanted above point's.
+    fn wanted_above(&self, wanted: Wanted) -> u32
+        ensures { result ≡ (if self.now.top then 0 else margin_of wanted) }
+    {
+        if self.top { 0 } else { margin_of(wanted) }
+    }
+
+    /// The rows that are wanted below point's.
+    fn wanted_below(&self, wanted: Wanted) -> u32
+        ensures { result ≡ (if self.now.bottom then 0 else margin_of wanted) }
+    {
+        if self.bottom { 0 } else { margin_of(wanted) }
     }
 
     /// Its rows, where it has a shape, and else those of another matrix, which has none.
@@ -92,6 +106,13 @@ fn margin_of(wanted: Wanted) -> u32
     ensures { result ≡ margin_of wanted }
 {
     wanted.margin.min(wanted.height / 4)
+}
+
+/// Whether a row in view has so many rows above it and so many below it, where so many rows are in view.
+fn is_inside(height: u32, above: u32, below: u32, row: u32) -> bool
+    ensures { result ≡ (nat_le above row && nat_lt (row + below) height) }
+{
+    above <= row && u64::from(row) + u64::from(below) < u64::from(height)
 }
 
 /// Whether nothing changed.
