@@ -157,13 +157,13 @@ rows-stay l m shape w r =
     ∙ (ap (λ (n : ℕ). take n (drop (places_of m shape w).old (rows_at m shape))) r.current.height
     ∙ sym (ap (λ (n : ℕ). take w.height (drop n (rows_at m shape))) (start-stays l m shape w r))))
 
-top-stays : (l : Layout) (m : SourceValues) (shape : ShapeValues) (w : Wanted) → Rests l m shape w → l.top ≡ has_first_row m shape w
+pub top-stays : (l : Layout) (m : SourceValues) (shape : ShapeValues) (w : Wanted) → Rests l m shape w → l.top ≡ has_first_row m shape w
 top-stays l m shape w r =
     r.stands.top
     ∙ (ap (λ (s : ShapeValues). anchor_row (λ b. m.rows_of b s) w.anchor m.blocks == 0) (same-shape l.shape shape r.current.shapes)
     ∙ sym (ap (λ (n : ℕ). n == 0) (start-stays l m shape w r)))
 
-bottom-stays : (l : Layout) (m : SourceValues) (shape : ShapeValues) (w : Wanted) → Rests l m shape w → l.bottom ≡ has_last_row m shape w
+pub bottom-stays : (l : Layout) (m : SourceValues) (shape : ShapeValues) (w : Wanted) → Rests l m shape w → l.bottom ≡ has_last_row m shape w
 bottom-stays l m shape w r =
     r.stands.bottom
     ∙ (ap (λ (s : ShapeValues). leb (length (rows_at m s)) (anchor_row (λ b. m.rows_of b s) w.anchor m.blocks + l.height)) (same-shape l.shape shape r.current.shapes)
