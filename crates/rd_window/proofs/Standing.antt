@@ -1,5 +1,5 @@
 -- A window that rests on its last layout, and a new layout that stands.
-use Rattle.std.proofs.Common.{◌≡◌, ℕ, ◌+◌, ◌-◌, ◌<◌, ◌≤◌, inl, inr, Bool, true, false, not, if◌then◌else◌, ◌==◌, ◌&&◌, leb, ltb, min, List, [], ◌∷◌, ◌++◌, All, length, take, drop, slice_get, Option, Some, pos, ℤ, refl, sym, ap, ap₂, ◌∙◌, subst, arith, zero-add}
+use Rattle.std.proofs.Common.{◌≡◌, ℕ, ◌+◌, ◌-◌, ◌<◌, ◌≤◌, inl, inr, Bool, true, false, not, if◌then◌else◌, ◌==◌, ◌&&◌, leb, ltb, min, List, [], ◌∷◌, ◌++◌, length, take, drop, slice_get, Option, Some, pos, ℤ, refl, sym, ap, ap₂, ◌∙◌, subst, arith, zero-add}
 use Rattle.std.specs.Ordering.{int_eq}
 use Rattle.std.specs.Option.{unwrap_or}
 use Rattle.std.proofs.lemmas.Bool.{and_parts, cases_Bool, eq-eqb, eqb-true, le-ltb, leb-true, lt-ltb, ltb-true}
@@ -12,10 +12,9 @@ use Rattle.rd_matrix.proofs.Counting.{count-cons}
 use Rattle.rd_matrix.specs.Entries.{EntryMeaning, all_rows, shown_entries}
 use Rattle.rd_matrix.specs.Sources.{IsSource, SourceValues, rows_at}
 use Rattle.rd_matrix.specs.declared.block.Block.{Block}
-use Rattle.rd_matrix.specs.declared.matrix.Entry.{Entry}
 use Rattle.rd_reuse.specs.Changes.{none}
 use Rattle.rd_reuse.specs.Keeping.{is_same_shape, is_same_wrap}
-use Rattle.rd_reuse.specs.Views.{IsCopied, Names}
+use Rattle.rd_reuse.specs.Views.{Names}
 use Rattle.rd_reuse.specs.declared.change.Change.{Change}
 use Rattle.rd_reuse.proofs.Lists.{at-seam}
 use Rattle.rd_reuse.proofs.Places.{anchor-found, later-start}
@@ -23,9 +22,8 @@ use Rattle.rd_rows.specs.Rows.{RowMeaning}
 use Rattle.rd_rows.specs.Shapes.{ShapeValues}
 use Rattle.rd_start.specs.Chosen.{anchor_at, anchor_from, anchor_row, chosen_of, places_of, point_from, row_in_block}
 use Rattle.rd_start.specs.Starts.{Places, centred, following, is_inside, margin_of, scrolled, suits, wanted_above, wanted_below}
-use Rattle.rd_start.specs.declared.wanted.Chosen.{Chosen}
 use Rattle.rd_start.specs.declared.wanted.Wanted.{Wanted}
-use Rattle.rd_window.specs.Layouts.{IsLaidOut, Stands, StandsUnchanged, change_since, is_current, is_none, older_rows, rests}
+use Rattle.rd_window.specs.Layouts.{IsLaidOut, Stands, StandsUnchanged, is_current, is_none, rests}
 use Rattle.rd_window.specs.Views.{has_first_row, has_last_row, rows_in_view, start_row}
 use Rattle.rd_window.specs.declared.layout.Layout.{Layout}
 use Rattle.rd_window.proofs.Ends.{in-view, opposite}

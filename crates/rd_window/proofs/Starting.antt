@@ -1,5 +1,5 @@
 -- The row at which a window starts, and the rows in view from there.
-use Rattle.std.proofs.Common.{◌≡◌, ℕ, zero, suc, ◌+◌, ◌-◌, ◌*◌, ◌<◌, ◌≤◌, List, [], ◌∷◌, length, take, drop, slice_get, option_map, Some, refl, sym, ap, ◌∙◌, subst, arith}
+use Rattle.std.proofs.Common.{◌≡◌, ℕ, zero, suc, ◌+◌, ◌*◌, ◌<◌, ◌≤◌, List, [], ◌∷◌, length, drop, slice_get, option_map, Some, refl, sym, ap, ◌∙◌, subst, arith}
 use Rattle.std.proofs.lemmas.List.{length-drop, length-map, length-take}
 use Rattle.rd_matrix.specs.Entries.{EntryMeaning, shown_entries, shown_entry}
 use Rattle.rd_matrix.specs.Sources.{SourceValues, rows_at}

@@ -69,11 +69,11 @@ pub fn lay_out_again<B: BlockSource + Drop, L: Ledger>(
 fn resting(layout: &Layout, wanted: Wanted) -> Laying
     requires { 0 < length layout.now.matrix }
     ensures { result ≡ record {
-        chosen = record { anchor = anchor_at (shown_entries layout.now.matrix) 0; point = wanted.point };
-        top = layout.now.top;
-        bottom = layout.now.bottom;
-        anew = None;
-      } }
+      chosen = record { anchor = anchor_at (shown_entries layout.now.matrix) 0; point = wanted.point };
+      top = layout.now.top;
+      bottom = layout.now.bottom;
+      anew = None;
+    } }
 {
     Laying {
         chosen: layout.chosen(wanted),
@@ -135,20 +135,20 @@ fn change_since(last: Option<&Layout>) -> Change
 /// What a window shows that was laid out at a shape.
 fn laid_out(view: InView, wanted: Wanted, shape: Shape) -> Laying
     ensures { result ≡ record {
-        chosen = view.chosen;
+      chosen = view.chosen;
+      top = view.top;
+      bottom = view.bottom;
+      anew = Some (record {
+        matrix = view.matrix;
+        shape = shape;
+        height = wanted.height;
+        margin = wanted.margin;
+        conservatively = wanted.conservatively;
         top = view.top;
         bottom = view.bottom;
-        anew = Some (record {
-            matrix = view.matrix;
-            shape = shape;
-            height = wanted.height;
-            margin = wanted.margin;
-            conservatively = wanted.conservatively;
-            top = view.top;
-            bottom = view.bottom;
-            change = none;
-          });
-      } }
+        change = none;
+      });
+    } }
 {
     let layout = Layout {
         matrix: view.matrix,

@@ -1,4 +1,4 @@
-use Rattle.std.proofs.Common.{◌≡◌, ◌∙◌, true, Option, Some, Bor, option_map, sym, ap, subst, arith}
+use Rattle.std.proofs.Common.{◌≡◌, ◌∙◌, true, Option, Some, Bor, option_map, sym, ap, subst}
 use Rattle.std.specs.Prelude.{IfSome}
 use Rattle.rd_window.specs.Layouts.{IsLaidOut, StandsUnchanged, layout_after, rests}
 use Rattle.rd_window.specs.declared.again.Laying.{Laying}

@@ -1,4 +1,4 @@
-use Rattle.std.proofs.Common.{◌≡◌, ℕ, is_some, suc, ◌+◌, ◌-◌, ◌<◌, ◌≤◌, true, false, leb, Option, Some, slice_get, length, min, sym, ap, subst, ◌∙◌, arith}
+use Rattle.std.proofs.Common.{◌≡◌, ℕ, is_some, suc, ◌+◌, ◌-◌, leb, Some, slice_get, length, sym, ap, subst, ◌∙◌, arith}
 use Rattle.std.proofs.lemmas.Bool.{lt-leb}
 use Rattle.rd_matrix.specs.Entries.{shown_entry}
 use Rattle.rd_matrix.specs.Sources.{SourceValues, rows_at}

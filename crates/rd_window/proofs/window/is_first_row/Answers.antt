@@ -1,4 +1,4 @@
-use Rattle.std.proofs.Common.{◌≡◌, ℕ, is_some, Option, Some, slice_get, sym, subst, ◌∙◌, arith}
+use Rattle.std.proofs.Common.{◌≡◌, ℕ, is_some, Some, slice_get, sym, subst, ◌∙◌, arith}
 use Rattle.rd_matrix.specs.Blocks.{block_before}
 use Rattle.rd_matrix.specs.Sources.{SourceValues}
 use Rattle.rd_window.proofs.Ends.{first-row, inner-row, opposite}

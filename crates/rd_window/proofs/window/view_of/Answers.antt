@@ -1,13 +1,11 @@
 use Rattle.std.proofs.Common.{◌≡◌, ℕ, ◌+◌, ◌≤◌, leb, All, length, take, drop, ◌∙◌, arith}
-use Rattle.rd_base.specs.declared.settings.Anchor.{Anchor}
 use Rattle.rd_matrix.specs.Blocks.{IsWithin}
 use Rattle.rd_matrix.specs.Entries.{shown_entries}
 use Rattle.rd_matrix.specs.Sources.{IsSource, SourceValues, rows_at}
 use Rattle.rd_reuse.specs.Keeping.{AreRight}
 use Rattle.rd_reuse.specs.Views.{IsCopied, Names, fresh_costs}
 use Rattle.rd_rows.specs.Shapes.{IsShape, ShapeValues}
-use Rattle.rd_start.specs.Near.{near_costs}
-use Rattle.rd_window.specs.Views.{rows_in_view, start_row}
+use Rattle.rd_window.specs.Views.{start_row}
 use Rattle.rd_window.proofs.Starting.{at-source, back-at-source, chosen-named, some-laid, spent}
 use Rattle.rd_window.proofs.window.view_of.Goals as goal
 

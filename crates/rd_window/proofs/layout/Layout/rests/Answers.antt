@@ -1,4 +1,4 @@
-use Rattle.std.proofs.Common.{◌≡◌, ◌&&◌, ◌∙◌, Bool, sym, ap, subst, arith}
+use Rattle.std.proofs.Common.{◌&&◌, ◌∙◌, Bool, sym, ap, subst, arith}
 use Rattle.rd_rows.specs.Shapes.{IsShape, ShapeValues}
 use Rattle.rd_start.specs.Chosen.{places_of}
 use Rattle.rd_start.specs.Starts.{suits}

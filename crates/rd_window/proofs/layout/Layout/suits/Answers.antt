@@ -1,4 +1,4 @@
-use Rattle.std.proofs.Common.{◌≡◌, ℕ, ◌+◌, ◌<◌, ◌≤◌, leb, ltb, ◌&&◌, true, false, if◌then◌else◌, Option, Some, None, sym, ap, ap₂, ◌∙◌, arith}
+use Rattle.std.proofs.Common.{ℕ, ◌+◌, leb, ltb, ◌&&◌, if◌then◌else◌, sym, ap, ap₂, ◌∙◌, arith}
 use Rattle.rd_matrix.specs.Cursors.{cursor_in}
 use Rattle.rd_start.specs.Chosen.{places_of}
 use Rattle.rd_start.specs.Starts.{margin_of}
