@@ -6,10 +6,10 @@ use Rattle.std.proofs.lemmas.List.{drop_more, take_more, drop_all, drop-drop, le
 use Rattle.rd_io.specs.Lines.{lines_of, in_front}
 use Rattle.rd_audit.specs.Cuts.{stripped, cut, cut_last_or, cut_last, pieces}
 
-eq_yes : (a b : ℕ) → a ≡ b → (a == b) ≡ true
+pub eq_yes : (a b : ℕ) → a ≡ b → (a == b) ≡ true
 eq_yes a b e = grind (arith, nat_tests)
 
-eq_no : (a b : ℕ) → a ≢ b → (a == b) ≡ false
+pub eq_no : (a b : ℕ) → a ≢ b → (a == b) ≡ false
 eq_no a b e = grind (arith, nat_tests)
 
 eq_told : (a b : ℕ) → (a == b) ≡ true → a ≡ b

@@ -1,9 +1,16 @@
 mod Comparing
+mod Covering
 mod Cutting
+mod Decimals
+mod Faces
 mod Groups
 mod Judging
+mod Lacking
+mod Lines
 mod Painting
+mod ReadBack
 mod Runs
 mod Shapes
+mod Spelling
 mod Streams
 mod Texts

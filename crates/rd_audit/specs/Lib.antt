@@ -1,6 +1,7 @@
 pub mod Cuts
 pub mod Dumps
 pub mod Numbers
+pub mod Printed
 pub mod Results
 pub mod Rows
 pub mod Runs

@@ -7,6 +7,7 @@ mod compare;
 mod cuts;
 mod dump;
 mod examples;
+mod law;
 mod number;
 mod report;
 mod row;

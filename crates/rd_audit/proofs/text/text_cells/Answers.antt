@@ -1,7 +1,6 @@
 use Rattle.std.proofs.Common.{◌∙◌, [], None}
-use Rattle.rd_script.proofs.Items.{if-all}
 use Rattle.rd_audit.specs.Texts.{cells_from, text_cells}
-use Rattle.rd_audit.proofs.Texts.{no-text, text-as}
+use Rattle.rd_audit.proofs.Texts.{no-text, text-as, if-all}
 use Rattle.rd_audit.proofs.text.text_cells.Goals as goal
 
 pub returns-in_ok-codes-in-Ok : goal.returns-in_ok-codes-in-Ok

@@ -1,0 +1,223 @@
+-- The numbers of a face, and the run that they stand in, read back.
+use Rattle.std.proofs.Common.{◌≡◌, ◌==◌, ℕ, suc, ◌+◌, ◌-◌, ◌<◌, ◌≤◌, ◌&&◌, ◌||◌, not, nat_lt, nat_le, Bool, true, false, if◌then◌else◌, Option, None, Some, option_and_then, is_some, decimal, List, [], ◌∷◌, ◌++◌, inl, inr, refl, sym, ap, ap₂, subst, ◌∙◌, arith, append_assoc, append-nil, true≢false}
+use Rattle.std.proofs.lemmas.Bool.{cases_eq}
+use Rattle.std.proofs.lemmas.Bool.Decides.{nat_tests}
+use Rattle.rd_base.specs.Cells.{HasColours}
+use Rattle.rd_base.specs.Equals.{same_face}
+use Rattle.rd_base.specs.Faces.{Attributes, plain}
+use Rattle.rd_term.specs.Pens.{is_rendition, dressed}
+use Rattle.rd_dump.specs.Dumps.{flag_number, colour_number, numbers_of_face, number_text, numbers_behind, numbers_text}
+use Rattle.rd_audit.specs.Cuts.{cut, pieces}
+use Rattle.rd_audit.specs.Numbers.{number_of, both}
+use Rattle.rd_audit.specs.Runs.{place_of, comes_behind, with_number, face_from, face_of, span_of, run_by, run_of}
+use Rattle.rd_audit.specs.declared.run.Run.{Run}
+use Rattle.rd_audit.proofs.Decimals.{number-read}
+use Rattle.rd_audit.proofs.Lacking.{lacks, lacks-append, lacks-decimal, is_no_digit, and-both, and-yes, cut-seam, pieces-seam, pieces-one}
+
+-- ---- numbers between semicolons
+
+-- the numbers that there are
+abbrev pub there : List (Option ℕ) → List ℕ
+there [] = []
+there (None ∷ ns) = there ns
+there (Some n ∷ ns) = n ∷ there ns
+
+-- numbers behind others, each behind a semicolon
+abbrev pub more_text : List ℕ → List ℕ
+more_text [] = []
+more_text (n ∷ ns) = 59 ∷ (decimal n ++ more_text ns)
+
+-- numbers, the first behind a colon
+abbrev pub all_text : List ℕ → List ℕ
+all_text [] = []
+all_text (n ∷ ns) = 58 ∷ (decimal n ++ more_text ns)
+
+behind-more : (ns : List (Option ℕ)) → numbers_behind true ns ≡ more_text (there ns)
+behind-more [] = refl
+behind-more (None ∷ ns) = behind-more ns
+behind-more (Some n ∷ ns) =
+    ap (λ l. (59 ∷ l) ++ numbers_behind true ns) (append-nil (decimal n)) ∙ ap (λ l. 59 ∷ (decimal n ++ l)) (behind-more ns)
+
+behind-all : (ns : List (Option ℕ)) → numbers_behind false ns ≡ all_text (there ns)
+behind-all [] = refl
+behind-all (None ∷ ns) = behind-all ns
+behind-all (Some n ∷ ns) =
+    ap (λ l. (58 ∷ l) ++ numbers_behind true ns) (append-nil (decimal n)) ∙ ap (λ l. 58 ∷ (decimal n ++ l)) (behind-more ns)
+
+more-lacks : (byte : ℕ) (ns : List ℕ) → is_no_digit byte ≡ true → not (59 == byte) ≡ true → lacks byte (more_text ns) ≡ true
+more-lacks byte [] p q = refl
+more-lacks byte (n ∷ ns) p q = ap (λ t. t && lacks byte (decimal n ++ more_text ns)) q ∙ lacks-append byte (decimal n) (more_text ns) (lacks-decimal byte n p) (more-lacks byte ns p q)
+
+-- ---- the face of numbers
+
+abbrev AreSmall : List ℕ → Type 0
+AreSmall [] = Unit {0}
+AreSmall (n ∷ ns) = (n < 1000) × AreSmall ns
+
+-- a face with these numbers, where they stand in their order
+abbrev with_numbers : ℕ → Attributes → List ℕ → Option Attributes
+with_numbers place face [] = Some face
+with_numbers place face (n ∷ ns) = if comes_behind place n then with_numbers (place_of n) (dressed n face) ns else None
+
+numbered_at : (place n : ℕ) (face : Attributes) (texts : List (List ℕ)) (t : Bool)
+    → option_and_then (λ (next : ℕ × Attributes). face_from next.0 next.1 texts) (if t then Some (place_of n, dressed n face) else None) ≡ (if t then face_from (place_of n) (dressed n face) texts else None)
+numbered_at place n face texts true = refl
+numbered_at place n face texts false = refl
+
+numbered : (place n : ℕ) (face : Attributes) (texts : List (List ℕ)) → n < 1000
+    → face_from place face (decimal n ∷ texts) ≡ (if comes_behind place n then face_from (place_of n) (dressed n face) texts else None)
+numbered place n face texts small =
+    ap (λ o. option_and_then (λ (next : ℕ × Attributes). face_from next.0 next.1 texts) (option_and_then (λ (m : ℕ). if comes_behind place m then Some (place_of m, dressed m face) else None) o)) (number-read n small)
+    ∙ numbered_at place n face texts (comes_behind place n)
+
+-- the numbers behind a first one
+read-more : (place n : ℕ) (face : Attributes) (ns : List ℕ) → n < 1000 → AreSmall ns
+    → face_from place face (pieces 59 (decimal n ++ more_text ns)) ≡ with_numbers place face (n ∷ ns)
+read-more place n face [] p q =
+    ap (face_from place face) (ap (pieces 59) (append-nil (decimal n)) ∙ pieces-one 59 (decimal n) (lacks-decimal 59 n refl))
+    ∙ numbered place n face [] p
+read-more place n face (m ∷ ns) p q =
+    ap (face_from place face) (pieces-seam 59 (decimal n) (decimal m ++ more_text ns) (lacks-decimal 59 n refl))
+    ∙ numbered place n face (pieces 59 (decimal m ++ more_text ns)) p
+    ∙ ap (λ o. if comes_behind place n then o else None) (read-more (place_of n) m (dressed n face) ns q.0 q.1)
+
+-- ---- the numbers of a face
+
+background : (place : ℕ) (f : Attributes) (colour : ℕ) → f.bg ≡ 8 → nat_lt place 40 ≡ true → colour ≤ 8
+    → with_numbers place f (there (colour_number colour 40 ∷ [])) ≡ Some (record f { bg = colour })
+background place f colour none behind range = elim (cases_eq colour 8) [
+  | inl same ↦
+      let e : f.bg ≡ colour = none ∙ sym same in
+      let t : (colour == 8) ≡ true = grind (arith, nat_tests) in
+      rw t (ap (λ c. Some (record f { bg = c })) e)
+  | inr other ↦
+      let t : (colour == 8) ≡ false = grind (arith, nat_tests) in
+      let a : (40 + colour == 0) ≡ false = grind (arith, nat_tests) in
+      let b : (40 + colour == 1) ≡ false = grind (arith, nat_tests) in
+      let c : (40 + colour == 4) ≡ false = grind (arith, nat_tests) in
+      let d : (40 + colour == 7) ≡ false = grind (arith, nat_tests) in
+      let e : nat_le 30 (40 + colour) ≡ true = grind (arith, nat_tests) in
+      let g : nat_le (40 + colour) 37 ≡ false = grind (arith, nat_tests) in
+      let h : nat_le 40 (40 + colour) ≡ true = grind (arith, nat_tests) in
+      let i : nat_le (40 + colour) 47 ≡ true = grind (arith, nat_tests) in
+      let j : nat_lt (40 + colour) 30 ≡ false = grind (arith, nat_tests) in
+      let k : nat_lt (40 + colour) 40 ≡ false = grind (arith, nat_tests) in
+      let l : 40 + colour - 40 ≡ colour = omega arith in
+      rw (t, a, b, c, d, e, g, h, i, j, k, behind, l) refl
+]
+
+foreground : (place : ℕ) (f : Attributes) (colour other : ℕ) → f.fg ≡ 8 → f.bg ≡ 8 → nat_lt place 30 ≡ true → colour ≤ 8 → other ≤ 8
+    → with_numbers place f (there (colour_number colour 30 ∷ colour_number other 40 ∷ [])) ≡ Some (record f { fg = colour; bg = other })
+foreground place f colour other none none' behind range range' = elim (cases_eq colour 8) [
+  | inl same ↦
+      let e : f.fg ≡ colour = none ∙ sym same in
+      let t : (colour == 8) ≡ true = grind (arith, nat_tests) in
+      let far : nat_lt place 40 ≡ true = grind (arith, nat_tests) in
+      rw t (background place f other none' far range' ∙ ap (λ c. Some (record f { fg = c; bg = other })) e)
+  | inr apart ↦
+      let t : (colour == 8) ≡ false = grind (arith, nat_tests) in
+      let a : (30 + colour == 0) ≡ false = grind (arith, nat_tests) in
+      let b : (30 + colour == 1) ≡ false = grind (arith, nat_tests) in
+      let c : (30 + colour == 4) ≡ false = grind (arith, nat_tests) in
+      let d : (30 + colour == 7) ≡ false = grind (arith, nat_tests) in
+      let e : nat_le 30 (30 + colour) ≡ true = grind (arith, nat_tests) in
+      let g : nat_le (30 + colour) 37 ≡ true = grind (arith, nat_tests) in
+      let j : nat_lt (30 + colour) 30 ≡ false = grind (arith, nat_tests) in
+      let k : nat_lt (30 + colour) 40 ≡ true = grind (arith, nat_tests) in
+      let l : 30 + colour - 30 ≡ colour = omega arith in
+      rw (t, a, b, c, d, e, g, j, k, behind, l) (background 30 (record f { fg = colour }) other none' refl range')
+]
+
+-- the colours behind flags
+coloured : (place : ℕ) (f g : Attributes) → g.fg ≡ 8 → g.bg ≡ 8 → nat_lt place 30 ≡ true → HasColours f → record g { fg = f.fg; bg = f.bg } ≡ f
+    → with_numbers place g (there (colour_number f.fg 30 ∷ colour_number f.bg 40 ∷ [])) ≡ Some f
+coloured place f g p q behind range e = foreground place g f.fg f.bg p q behind range.fg range.bg ∙ ap Some e
+
+abbrev face_by : Bool → Bool → Bool → ℕ → ℕ → Attributes
+face_by bold underline inverse fg bg = record { fg = fg; bg = bg; bold = bold; underline = underline; inverse = inverse }
+
+flags : (bold underline inverse : Bool) (fg bg : ℕ) → fg ≤ 8 → bg ≤ 8
+    → with_numbers 0 plain (there (numbers_of_face (face_by bold underline inverse fg bg))) ≡ Some (face_by bold underline inverse fg bg)
+flags false false false fg bg p q = foreground 0 plain fg bg refl refl refl p q
+flags false false true fg bg p q = foreground 7 (face_by false false true 8 8) fg bg refl refl refl p q
+flags false true false fg bg p q = foreground 4 (face_by false true false 8 8) fg bg refl refl refl p q
+flags false true true fg bg p q = foreground 7 (face_by false true true 8 8) fg bg refl refl refl p q
+flags true false false fg bg p q = foreground 1 (face_by true false false 8 8) fg bg refl refl refl p q
+flags true false true fg bg p q = foreground 7 (face_by true false true 8 8) fg bg refl refl refl p q
+flags true true false fg bg p q = foreground 4 (face_by true true false 8 8) fg bg refl refl refl p q
+flags true true true fg bg p q = foreground 7 (face_by true true true 8 8) fg bg refl refl refl p q
+
+all-small : (bold underline inverse : Bool) (fg bg : ℕ) → fg ≤ 8 → bg ≤ 8 → AreSmall (there (numbers_of_face (face_by bold underline inverse fg bg)))
+all-small bold underline inverse fg bg p q = flag-small bold 1 _ (omega arith) (flag-small underline 4 _ (omega arith) (flag-small inverse 7 _ (omega arith)
+    (colour-small fg 30 _ (omega arith) p (colour-small bg 40 [] (omega arith) q tt))))
+  where
+    flag-small : (flag : Bool) (n : ℕ) (ns : List (Option ℕ)) → n < 1000 → AreSmall (there ns) → AreSmall (there (flag_number flag n ∷ ns))
+    flag-small true n ns less h = (less, h)
+    flag-small false n ns less h = h
+
+    if-small : (t : Bool) (n : ℕ) (ns : List (Option ℕ)) → n < 1000 → AreSmall (there ns) → AreSmall (there ((if t then None else Some n) ∷ ns))
+    if-small true n ns less h = h
+    if-small false n ns less h = (less, h)
+
+    colour-small : (colour base : ℕ) (ns : List (Option ℕ)) → base < 100 → colour ≤ 8 → AreSmall (there ns) → AreSmall (there (colour_number colour base ∷ ns))
+    colour-small colour base ns less range h = if-small (colour == 8) (base + colour) ns (omega (arith, less, range)) h
+
+-- the text of numbers says their face
+abbrev Reads : Attributes → List ℕ → Type 0
+Reads f text = (codes : List ℕ) × (text ≡ 58 ∷ codes) × (face_of codes ≡ Some f)
+
+reads-by : (f : Attributes) (ns : List ℕ) → AreSmall ns → with_numbers 0 plain ns ≡ Some f → same_face f plain ≡ false → Reads f (all_text ns)
+reads-by f [] small e other =
+    let same : plain ≡ f = cc in
+    absurd (true≢false (subst (λ g. true ≡ same_face g plain) same refl ∙ other))
+reads-by f (n ∷ ns) small e other = (decimal n ++ more_text ns, refl, read-more 0 n plain ns small.0 small.1 ∙ e)
+
+numbers-read : (f : Attributes) → HasColours f → same_face f plain ≡ false → Reads f (numbers_text f)
+numbers-read f range other =
+    let ns = there (numbers_of_face f) in
+    let h = reads-by f ns (all-small f.bold f.underline f.inverse f.fg f.bg range.fg range.bg) (flags f.bold f.underline f.inverse f.fg f.bg range.fg range.bg) other in
+    (h.0, behind-all (numbers_of_face f) ∙ h.1, h.2)
+
+-- ---- a run
+
+-- a run's first and last column, and the numbers of its face
+abbrev pub span_text : ℕ → ℕ → List ℕ
+span_text first last = decimal first ++ 45 ∷ decimal last
+
+abbrev pub run_piece : ℕ → ℕ → Attributes → List ℕ
+run_piece first last face = span_text first last ++ numbers_text face
+
+span-read : (first last : ℕ) → first < 1000 → last < 1000 → span_of (span_text first last) ≡ Some (first, last)
+span-read first last p q =
+    ap (option_and_then (λ (parts : List ℕ × List ℕ). both (number_of parts.0) (number_of parts.1))) (cut-seam 45 (decimal first) (decimal last) (lacks-decimal 45 first refl))
+    ∙ ap₂ both (number-read first p) (number-read last q)
+
+-- a byte that is in no run
+abbrev pub is_apart : ℕ → Bool
+is_apart byte = is_no_digit byte && (not (45 == byte) && (not (58 == byte) && not (59 == byte)))
+
+span-lacks : (byte first last : ℕ) → is_no_digit byte ≡ true → not (45 == byte) ≡ true → lacks byte (span_text first last) ≡ true
+span-lacks byte first last p q =
+    lacks-append byte (decimal first) (45 ∷ decimal last) (lacks-decimal byte first p) (and-yes (not (45 == byte)) (lacks byte (decimal last)) q (lacks-decimal byte last p))
+
+all-lacks : (byte : ℕ) (ns : List ℕ) → is_no_digit byte ≡ true → not (58 == byte) ≡ true → not (59 == byte) ≡ true → lacks byte (all_text ns) ≡ true
+all-lacks byte [] p q r = refl
+all-lacks byte (n ∷ ns) p q r =
+    and-yes (not (58 == byte)) (lacks byte (decimal n ++ more_text ns)) q (lacks-append byte (decimal n) (more_text ns) (lacks-decimal byte n p) (more-lacks byte ns p r))
+
+pub piece-lacks : (byte first last : ℕ) (face : Attributes) → is_apart byte ≡ true → lacks byte (run_piece first last face) ≡ true
+piece-lacks byte first last face h =
+    let one = and-both (is_no_digit byte) (not (45 == byte) && (not (58 == byte) && not (59 == byte))) h in
+    let two = and-both (not (45 == byte)) (not (58 == byte) && not (59 == byte)) one.1 in
+    let three = and-both (not (58 == byte)) (not (59 == byte)) two.1 in
+    lacks-append byte (span_text first last) (numbers_text face) (span-lacks byte first last one.0 two.0)
+    (ap (lacks byte) (behind-all (numbers_of_face face)) ∙ all-lacks byte (there (numbers_of_face face)) one.0 three.0 three.1)
+
+-- the run that its text says
+pub run-read : (first last : ℕ) (face : Attributes) → first < 1000 → last < 1000 → HasColours face → same_face face plain ≡ false
+    → run_of (run_piece first last face) ≡ Some (record { first = first; last = last; face = face })
+run-read first last face p q range other =
+    let h = numbers-read face range other in
+    ap (λ l. run_of (span_text first last ++ l)) h.1
+    ∙ ap (option_and_then (λ (parts : List ℕ × List ℕ). run_by (span_of parts.0) (face_of parts.1))) (cut-seam 58 (span_text first last) h.0 (span-lacks 58 first last refl refl))
+    ∙ ap₂ run_by (span-read first last p q) h.2

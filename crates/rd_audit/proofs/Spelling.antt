@@ -1,0 +1,279 @@
+-- The text of a row, read back.
+use Rattle.std.proofs.Common.{◌≡◌, ◌==◌, ℕ, zero, suc, ◌+◌, ◌-◌, ◌/◌, ◌%◌, ◌<◌, ◌≤◌, ◌&&◌, not, nat_lt, nat_le, Bool, true, false, if◌then◌else◌, Option, None, Some, option_and_then, option_map, List, [], ◌∷◌, ◌++◌, length, take, drop, get_or, replicate, map, inl, inr, refl, sym, ap, ap₂, subst, ◌∙◌, arith, true≢false, append_assoc, append-nil, length-append, length-take, length-drop}
+use Rattle.std.specs.Prelude.{slice_index, slice_set}
+use Rattle.std.specs.Char.{encode_utf8}
+use Rattle.std.specs.List.{flat_map}
+use Rattle.std.specs.Str.{IsUtf8, all_scalars, encode_utf8_all, chars, is_utf8}
+use Rattle.std.proofs.lemmas.Bool.{cases_lt, cases_eq}
+use Rattle.std.proofs.lemmas.Bool.Decides.{nat_tests}
+use Rattle.std.proofs.lemmas.Str.{chars-encodes, is_utf8-from_IsUtf8}
+use Rattle.std.proofs.Math.Seq.{set-append_seam, get_or-drop}
+use Rattle.std.proofs.lemmas.List.{replicate-append-replicate, take-append-drop, length-replicate}
+use Rattle.unicode_width.specs.Width.{char_width}
+use Rattle.rd_base.specs.Cells.{single}
+use Rattle.rd_base.specs.Chars.{is_scalar, encoded}
+use Rattle.rd_base.specs.Faces.{Attributes, plain}
+use Rattle.rd_base.specs.Glyphs.{IsMeasured, IsGood, IsRowAfter, glyph_cells, is_space}
+use Rattle.rd_base.specs.declared.cell.Glyph.{Glyph}
+use Rattle.rd_base.specs.declared.cell.Cell.{Cell}
+use Rattle.rd_base.specs.declared.cell.Cell.TheVariants.{Blank, First, Rest}
+use Rattle.rd_term.specs.Characters.{columns_of}
+use Rattle.rd_term.proofs.Measured.{space-columns, base-columns, mark-columns}
+use Rattle.rd_dump.specs.Dumps.{cells_text, cell_text, glyph_text}
+use Rattle.rd_audit.specs.Runs.{with_face}
+use Rattle.rd_audit.specs.Texts.{cells_of, joined, taken, cells_from, text_cells}
+use Rattle.rd_audit.proofs.Lacking.{lacks, lacks-append, and-both, and-yes}
+
+-- the marks of a glyph that count
+abbrev pub marks_of : Glyph → List ℕ
+marks_of g = take g.count g.marks
+
+-- the characters of cells
+abbrev pub codes_of : List Cell → List ℕ
+codes_of [] = []
+codes_of (Blank f ∷ cells) = 32 ∷ codes_of cells
+codes_of (First g f ∷ cells) = g.base ∷ (marks_of g ++ codes_of cells)
+codes_of (Rest ∷ cells) = codes_of cells
+
+-- cells in the plain face
+abbrev pub plainly : List Cell → List Cell
+plainly [] = []
+plainly (cell ∷ cells) = with_face plain cell ∷ plainly cells
+
+-- ---- characters and their bytes
+
+-- a scalar value with columns
+abbrev pub IsShown : ℕ → Type 0
+IsShown code = (is_scalar code ≡ true) × ((width : ℕ) × (columns_of code ≡ Some width))
+
+abbrev pub AreShown : List ℕ → Type 0
+AreShown [] = Unit {0}
+AreShown (code ∷ codes) = IsShown code × AreShown codes
+
+shown-append : (front back : List ℕ) → AreShown front → AreShown back → AreShown (front ++ back)
+shown-append [] back p q = q
+shown-append (code ∷ codes) back p q = (p.0, shown-append codes back p.1 q)
+
+encoded-as : (code : ℕ) → is_scalar code ≡ true → encoded code ≡ encode_utf8 code
+encoded-as code h = ap (λ t. if t then encode_utf8 code else []) h
+
+encodes-append : (front back : List ℕ) → encode_utf8_all (front ++ back) ≡ encode_utf8_all front ++ encode_utf8_all back
+encodes-append [] back = refl
+encodes-append (code ∷ codes) back =
+    ap (λ l. encode_utf8 code ++ l) (encodes-append codes back) ∙ sym (append_assoc (encode_utf8 code) (encode_utf8_all codes) (encode_utf8_all back))
+
+encoded-all : (codes : List ℕ) → AreShown codes → flat_map encoded codes ≡ encode_utf8_all codes
+encoded-all [] h = refl
+encoded-all (code ∷ codes) h = ap₂ (λ x y. x ++ y) (encoded-as code h.0.0) (encoded-all codes h.1)
+
+all-scalar : (codes : List ℕ) → AreShown codes → all_scalars codes ≡ true
+all-scalar [] h = refl
+all-scalar (code ∷ codes) h = let one = h.0.0 in let more = all-scalar codes h.1 in grind (arith, nat_tests)
+
+no-newline : (code width : ℕ) → columns_of code ≡ Some width → (code == 10) ≡ false
+unfolding char_width
+no-newline code width e = elim (cases_eq code 10) [
+  | inl same ↦ absurd (let none : Option ℕ = None in let h : none ≡ Some width = ap columns_of (sym same) ∙ e in cc)
+  | inr other ↦ grind (arith, nat_tests)
+]
+
+-- the bytes of a character but a newline hold none
+encode-lacks : (code : ℕ) → (code == 10) ≡ false → lacks 10 (encode_utf8 code) ≡ true
+unfolding encode_utf8
+encode-lacks code other = elim (cases_lt code 128) [
+  | inl one ↦
+      let t : nat_lt code 128 ≡ true = grind (arith, nat_tests) in
+      rw (t, other) refl
+  | inr past ↦
+      let f : nat_lt code 128 ≡ false = grind (arith, nat_tests) in
+      let a : (192 + code / 64 == 10) ≡ false = grind (arith, nat_tests) in
+      let b : (128 + code % 64 == 10) ≡ false = grind (arith, nat_tests) in
+      let c : (224 + code / 4096 == 10) ≡ false = grind (arith, nat_tests) in
+      let d : (128 + code / 64 % 64 == 10) ≡ false = grind (arith, nat_tests) in
+      let e : (240 + code / 262144 == 10) ≡ false = grind (arith, nat_tests) in
+      let g : (128 + code / 4096 % 64 == 10) ≡ false = grind (arith, nat_tests) in
+      elim (cases_lt code 2048) [
+        | inl two ↦ let t : nat_lt code 2048 ≡ true = grind (arith, nat_tests) in rw (f, t, a, b) refl
+        | inr more ↦
+            let h : nat_lt code 2048 ≡ false = grind (arith, nat_tests) in
+            elim (cases_lt code 65536) [
+              | inl three ↦ let t : nat_lt code 65536 ≡ true = grind (arith, nat_tests) in rw (f, h, t, c, d, b) refl
+              | inr four ↦ let k : nat_lt code 65536 ≡ false = grind (arith, nat_tests) in rw (f, h, k, e, g, d, b) refl
+            ]
+      ]
+]
+
+encodes-lack : (codes : List ℕ) → AreShown codes → lacks 10 (encode_utf8_all codes) ≡ true
+encodes-lack [] h = refl
+encodes-lack (code ∷ codes) h =
+    lacks-append 10 (encode_utf8 code) (encode_utf8_all codes) (encode-lacks code (no-newline code h.0.1.0 h.0.1.1)) (encodes-lack codes h.1)
+
+-- ---- the characters of a row
+
+-- characters of no column
+abbrev pub AreMarks : List ℕ → Type 0
+AreMarks [] = Unit {0}
+AreMarks (mark ∷ marks) = ((is_scalar mark ≡ true) × (columns_of mark ≡ Some 0)) × AreMarks marks
+
+are-marks : (n : ℕ) (marks : List ℕ) → n ≤ length marks
+    → ((k : ℕ) → k < n → (is_scalar (get_or marks k 0) ≡ true) × (columns_of (get_or marks k 0) ≡ Some 0)) → AreMarks (take n marks)
+are-marks zero marks less all = tt
+are-marks (suc n) [] less all = absurd (omega (arith, less))
+are-marks (suc n) (mark ∷ marks) less all = (all 0 (omega arith), are-marks n marks (omega (arith, less)) (λ k lt. all (suc k) (omega (arith, lt))))
+
+pub marks-are : (g : Glyph) → IsMeasured g → AreMarks (marks_of g)
+marks-are g h = are-marks g.count g.marks (omega (arith, h.count, h.places)) (λ k lt. ((h.marks k lt).0, mark-columns g k h lt))
+
+marks-shown : (marks : List ℕ) → AreMarks marks → AreShown marks
+marks-shown [] h = tt
+marks-shown (mark ∷ marks) h = ((h.0.0, (0, h.0.1)), marks-shown marks h.1)
+
+pub row-shown : (due : ℕ) (cells : List Cell) → IsRowAfter due cells → AreShown (codes_of cells)
+row-shown zero [] h = tt
+row-shown zero (Blank f ∷ cells) h = ((refl, (1, space-columns)), row-shown zero cells h)
+row-shown zero (First g f ∷ cells) h = (
+  (h.0.measured.scalar, (g.width, base-columns g h.0.measured)),
+  shown-append (marks_of g) (codes_of cells) (marks-shown (marks_of g) (marks-are g h.0.measured)) (row-shown (g.width - 1) cells h.1),
+)
+row-shown zero (Rest ∷ cells) h = absurd h
+row-shown (suc due) [] h = absurd h
+row-shown (suc due) (Blank f ∷ cells) h = absurd h
+row-shown (suc due) (First g f ∷ cells) h = absurd h
+row-shown (suc due) (Rest ∷ cells) h = row-shown due cells h
+
+-- the bytes of a row's text
+text-of_glyph : (g : Glyph) → IsMeasured g → glyph_text g ≡ encode_utf8 g.base ++ encode_utf8_all (marks_of g)
+text-of_glyph g h = ap₂ (λ x y. x ++ y) (encoded-as g.base h.scalar) (encoded-all (marks_of g) (marks-shown (marks_of g) (marks-are g h)))
+
+pub text-is : (due : ℕ) (cells : List Cell) → IsRowAfter due cells → cells_text cells ≡ encode_utf8_all (codes_of cells)
+unfolding encode_utf8
+text-is zero [] h = refl
+text-is zero (Blank f ∷ cells) h = ap (λ l. 32 ∷ l) (text-is zero cells h)
+text-is zero (First g f ∷ cells) h =
+    ap₂ (λ x y. x ++ y) (text-of_glyph g h.0.measured) (text-is (g.width - 1) cells h.1)
+    ∙ append_assoc (encode_utf8 g.base) (encode_utf8_all (marks_of g)) (encode_utf8_all (codes_of cells))
+    ∙ sym (ap (λ l. encode_utf8 g.base ++ l) (encodes-append (marks_of g) (codes_of cells)))
+text-is zero (Rest ∷ cells) h = absurd h
+text-is (suc due) [] h = absurd h
+text-is (suc due) (Blank f ∷ cells) h = absurd h
+text-is (suc due) (First g f ∷ cells) h = absurd h
+text-is (suc due) (Rest ∷ cells) h = text-is due cells h
+
+pub text-lacks : (cells : List Cell) → IsRowAfter 0 cells → lacks 10 (cells_text cells) ≡ true
+text-lacks cells h = ap (lacks 10) (text-is 0 cells h) ∙ encodes-lack (codes_of cells) (row-shown 0 cells h)
+
+-- ---- marks that are joined again
+
+abbrev glyph_with : ℕ → ℕ → List ℕ → ℕ → Glyph
+glyph_with base width marks count = record { base = base; marks = marks; count = count; width = width }
+
+abbrev marked : Glyph → ℕ → Glyph
+marked g mark = record g { marks = slice_set g.marks g.count mark; count = g.count + 1 }
+
+abbrev with_marks : Glyph → List ℕ → Glyph
+with_marks g [] = g
+with_marks g (mark ∷ marks) = with_marks (marked g mark) marks
+
+marks-read : (front : List Cell) (codes marks : List ℕ) (g : Glyph) → AreMarks marks → g.count + length marks ≤ 6
+    → cells_from front (Some g) (marks ++ codes) ≡ cells_from front (Some (with_marks g marks)) codes
+marks-read front codes [] g h few = refl
+marks-read front codes (mark ∷ marks) g h few =
+    let room : nat_lt g.count 6 ≡ true = grind (arith, nat_tests) in
+    ap (λ o. option_and_then (λ (next : List Cell × Glyph). cells_from next.0 (Some next.1) (marks ++ codes)) (taken front (Some g) mark o)) h.0.1
+    ∙ ap (λ t. option_and_then (λ (next : List Cell × Glyph). cells_from next.0 (Some next.1) (marks ++ codes)) (option_map (λ x. (front, x)) (if t then Some (marked g mark) else None))) room
+    ∙ marks-read front codes marks (marked g mark) h.1 (omega (arith, few))
+
+filled : (base width : ℕ) (done marks places rest : List ℕ) → length places ≡ length marks
+    → with_marks (glyph_with base width (done ++ (places ++ rest)) (length done)) marks ≡ glyph_with base width (done ++ (marks ++ rest)) (length done + length marks)
+filled base width done [] [] rest e = let n : length done ≡ length done + 0 = omega arith in ap (glyph_with base width (done ++ rest)) n
+filled base width done [] (p ∷ ps) rest e = absurd (omega (arith, e))
+filled base width done (m ∷ ms) [] rest e = absurd (omega (arith, e))
+filled base width done (m ∷ ms) (p ∷ ps) rest e =
+    let next = done ++ m ∷ [] in
+    let size : length done + 1 ≡ length next = omega (arith, length-append done (m ∷ [])) in
+    let total : length next + length ms ≡ length done + length (m ∷ ms) = omega (arith, length-append done (m ∷ [])) in
+    ap (λ l. with_marks (glyph_with base width l (length done + 1)) ms)
+    (set-append_seam done p (ps ++ rest) m ∙ sym (append_assoc done (m ∷ []) (ps ++ rest)))
+    ∙ ap (λ n. with_marks (glyph_with base width (next ++ (ps ++ rest)) n) ms) size
+    ∙ filled base width next ms ps rest (omega (arith, e))
+    ∙ ap (λ l. glyph_with base width l (length next + length ms)) (append_assoc done (m ∷ []) (ms ++ rest))
+    ∙ ap (glyph_with base width (done ++ (m ∷ (ms ++ rest)))) total
+
+zeros : (n : ℕ) (xs : List ℕ) → length xs ≡ n → ((k : ℕ) → k < n → get_or xs k 0 ≡ 0) → replicate n 0 ≡ xs
+zeros zero [] e all = refl
+zeros zero (x ∷ xs) e all = absurd (omega (arith, e))
+zeros (suc n) [] e all = absurd (omega (arith, e))
+zeros (suc n) (x ∷ xs) e all = ap₂ (λ y ys. y ∷ ys) (sym (all 0 (omega arith))) (zeros n xs (omega (arith, e)) (λ k lt. all (suc k) (omega (arith, lt))))
+
+-- the places of a glyph's marks: those that count are to be filled
+places-of : (g : Glyph) → IsMeasured g → replicate 6 0 ≡ replicate g.count 0 ++ drop g.count g.marks
+places-of g h =
+    let sum : g.count + (6 - g.count) ≡ 6 = omega (arith, h.count) in
+    let size : length (drop g.count g.marks) ≡ 6 - g.count = omega (arith, length-drop g.count g.marks, h.places) in
+    sym (ap (λ n. replicate n 0) sum) ∙ sym (replicate-append-replicate g.count (6 - g.count) 0)
+    ∙ ap (λ l. replicate g.count 0 ++ l)
+    (zeros (6 - g.count) (drop g.count g.marks) size
+    (λ k lt. get_or-drop g.count g.marks k 0 ∙ h.rest (g.count + k) (omega arith) (omega (arith, lt, h.count))))
+
+pub marks-joined : (g : Glyph) → IsMeasured g → with_marks (single g.base g.width) (marks_of g) ≡ g
+marks-joined g h =
+    let few : length (marks_of g) ≡ g.count = omega (arith, length-take g.count g.marks, h.count, h.places) in
+    let many : length (replicate {A = ℕ} g.count 0) ≡ length (marks_of g) = length-replicate g.count 0 ∙ sym few in
+    let sum : 0 + length (marks_of g) ≡ g.count = omega (arith, few) in
+    ap (λ l. with_marks (glyph_with g.base g.width l 0) (marks_of g)) (places-of g h)
+    ∙ filled g.base g.width [] (marks_of g) (replicate g.count 0) (drop g.count g.marks) many
+    ∙ ap (λ l. glyph_with g.base g.width l (0 + length (marks_of g))) (take-append-drop g.count g.marks)
+    ∙ ap (glyph_with g.base g.width g.marks) sum
+
+-- ---- a row that is read again
+
+rests : (due : ℕ) (cells : List Cell) → IsRowAfter due cells → replicate due Rest ++ drop due (plainly cells) ≡ plainly cells
+rests zero cells h = refl
+rests (suc due) [] h = absurd h
+rests (suc due) (Blank f ∷ cells) h = absurd h
+rests (suc due) (First g f ∷ cells) h = absurd h
+rests (suc due) (Rest ∷ cells) h = ap (λ l. Rest ∷ l) (rests due cells h)
+
+glyph-cells : (g : Glyph) (cells : List Cell) → IsGood g → IsRowAfter (g.width - 1) cells
+    → cells_of (Some g) ++ drop (g.width - 1) (plainly cells) ≡ First g plain ∷ plainly cells
+glyph-cells g cells good h =
+    ap (λ t. (if t then replicate g.width (Blank plain) else First g plain ∷ replicate (g.width - 1) Rest) ++ drop (g.width - 1) (plainly cells)) good.seen
+    ∙ ap (λ l. First g plain ∷ l) (rests (g.width - 1) cells h)
+
+first-taken : (front : List Cell) (held : Option Glyph) (g : Glyph) → IsMeasured g
+    → taken front held g.base (columns_of g.base) ≡ Some (front ++ cells_of held, single g.base g.width)
+first-taken front held g h =
+    let width : g.width ≡ suc (g.width - 1) = omega (arith, h.some) in
+    ap (taken front held g.base) (base-columns g h ∙ ap Some width) ∙ ap (λ w. Some (front ++ cells_of held, single g.base w)) (sym width)
+
+pub row-read : (due : ℕ) (cells : List Cell) → IsRowAfter due cells → (front : List Cell) (held : Option Glyph)
+    → cells_from front held (codes_of cells) ≡ Some (front ++ (cells_of held ++ drop due (plainly cells)))
+row-read zero [] h front held = ap (λ l. Some (front ++ l)) (sym (append-nil (cells_of held)))
+row-read zero (Blank f ∷ cells) h front held =
+    ap (λ o. option_and_then (λ (next : List Cell × Glyph). cells_from next.0 (Some next.1) (codes_of cells)) (taken front held 32 o)) space-columns
+    ∙ row-read zero cells h (front ++ cells_of held) (Some (single 32 1))
+    ∙ ap Some (append_assoc front (cells_of held) (Blank plain ∷ plainly cells))
+row-read zero (First g f ∷ cells) h front held =
+    let few : 0 + length (marks_of g) ≤ 6 = omega (arith, length-take g.count g.marks, h.0.measured.count) in
+    ap (option_and_then (λ (next : List Cell × Glyph). cells_from next.0 (Some next.1) (marks_of g ++ codes_of cells))) (first-taken front held g h.0.measured)
+    ∙ marks-read (front ++ cells_of held) (codes_of cells) (marks_of g) (single g.base g.width) (marks-are g h.0.measured) few
+    ∙ ap (λ x. cells_from (front ++ cells_of held) (Some x) (codes_of cells)) (marks-joined g h.0.measured)
+    ∙ row-read (g.width - 1) cells h.1 (front ++ cells_of held) (Some g)
+    ∙ ap (λ l. Some ((front ++ cells_of held) ++ l)) (glyph-cells g cells h.0 h.1)
+    ∙ ap Some (append_assoc front (cells_of held) (First g plain ∷ plainly cells))
+row-read zero (Rest ∷ cells) h front held = absurd h
+row-read (suc due) [] h front held = absurd h
+row-read (suc due) (Blank f ∷ cells) h front held = absurd h
+row-read (suc due) (First g f ∷ cells) h front held = absurd h
+row-read (suc due) (Rest ∷ cells) h front held = row-read due cells h front held
+
+-- the text of a row says its cells, in the plain face
+pub text-read : (cells : List Cell) → IsRowAfter 0 cells → text_cells (cells_text cells) ≡ Some (plainly cells)
+text-read cells h =
+    let codes = codes_of cells in
+    let bytes = encode_utf8_all codes in
+    let scalars : all_scalars codes ≡ true = all-scalar codes (row-shown 0 cells h) in
+    ap text_cells (text-is 0 cells h)
+    ∙ ap (λ t. if t then cells_from [] None (chars bytes) else None) (is_utf8-from_IsUtf8 bytes (codes, (scalars, refl)))
+    ∙ ap (cells_from [] None) (chars-encodes codes scalars)
+    ∙ row-read 0 cells h [] None
