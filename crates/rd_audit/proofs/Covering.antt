@@ -1,5 +1,5 @@
 -- The runs of faces of a row, read back.
-use Rattle.std.proofs.Common.{◌≡◌, ◌==◌, ℕ, zero, suc, ◌+◌, ◌-◌, ◌<◌, ◌≤◌, ◌&&◌, not, nat_lt, nat_le, Bool, true, false, if◌then◌else◌, Option, None, Some, option_and_then, decimal, List, [], ◌∷◌, ◌++◌, length, take, drop, get_or, refl, sym, ap, ap₂, subst, ◌∙◌, arith, append_assoc, append-nil, length-append, true≢false}
+use Rattle.std.proofs.Common.{◌≡◌, ◌==◌, ℕ, ◌+◌, ◌-◌, ◌<◌, ◌≤◌, ◌&&◌, not, nat_lt, nat_le, Bool, true, false, if◌then◌else◌, None, Some, option_and_then, decimal, List, [], ◌∷◌, ◌++◌, length, refl, sym, ap, ap₂, subst, ◌∙◌, arith, append_assoc, append-nil, length-append, true≢false}
 use Rattle.std.specs.Prelude.{All}
 use Rattle.std.proofs.lemmas.Bool.Decides.{nat_tests}
 use Rattle.std.proofs.lemmas.List.{get_or_past}
@@ -16,9 +16,9 @@ use Rattle.rd_term.specs.Pictures.{blank}
 use Rattle.rd_dump.specs.Dumps.{face_after, faces_of, joined, runs_of, run_text, runs_text, runs_of_row, numbers_text}
 use Rattle.rd_dump.specs.Dumps as dumps
 use Rattle.rd_audit.specs.Cuts.{pieces}
-use Rattle.rd_audit.specs.Runs.{run_of, is_later, is_edge, fits, with_face, faced, painted_by, with_run, painted, runs_over}
+use Rattle.rd_audit.specs.Runs.{is_later, is_edge, fits, with_face, faced, painted_by, with_run, painted, runs_over}
 use Rattle.rd_audit.specs.declared.run.Run.{Run}
-use Rattle.rd_audit.proofs.Faces.{span_text, run_piece, piece-lacks, run-read}
+use Rattle.rd_audit.proofs.Faces.{run_piece, piece-lacks, run-read}
 use Rattle.rd_audit.proofs.Lacking.{lacks, lacks-append, pieces-seam, pieces-one}
 use Rattle.rd_audit.proofs.Spelling.{plainly}
 

@@ -1,16 +1,15 @@
 -- The numbers of a face, and the run that they stand in, read back.
-use Rattle.std.proofs.Common.{◌≡◌, ◌==◌, ℕ, suc, ◌+◌, ◌-◌, ◌<◌, ◌≤◌, ◌&&◌, ◌||◌, not, nat_lt, nat_le, Bool, true, false, if◌then◌else◌, Option, None, Some, option_and_then, is_some, decimal, List, [], ◌∷◌, ◌++◌, inl, inr, refl, sym, ap, ap₂, subst, ◌∙◌, arith, append_assoc, append-nil, true≢false}
+use Rattle.std.proofs.Common.{◌≡◌, ◌==◌, ℕ, ◌+◌, ◌-◌, ◌<◌, ◌≤◌, ◌&&◌, not, nat_lt, nat_le, Bool, true, false, if◌then◌else◌, Option, None, Some, option_and_then, decimal, List, [], ◌∷◌, ◌++◌, inl, inr, refl, sym, ap, ap₂, subst, ◌∙◌, arith, append-nil, true≢false}
 use Rattle.std.proofs.lemmas.Bool.{cases_eq}
 use Rattle.std.proofs.lemmas.Bool.Decides.{nat_tests}
 use Rattle.rd_base.specs.Cells.{HasColours}
 use Rattle.rd_base.specs.Equals.{same_face}
 use Rattle.rd_base.specs.Faces.{Attributes, plain}
-use Rattle.rd_term.specs.Pens.{is_rendition, dressed}
-use Rattle.rd_dump.specs.Dumps.{flag_number, colour_number, numbers_of_face, number_text, numbers_behind, numbers_text}
-use Rattle.rd_audit.specs.Cuts.{cut, pieces}
+use Rattle.rd_term.specs.Pens.{dressed}
+use Rattle.rd_dump.specs.Dumps.{flag_number, colour_number, numbers_of_face, numbers_behind, numbers_text}
+use Rattle.rd_audit.specs.Cuts.{pieces}
 use Rattle.rd_audit.specs.Numbers.{number_of, both}
-use Rattle.rd_audit.specs.Runs.{place_of, comes_behind, with_number, face_from, face_of, span_of, run_by, run_of}
-use Rattle.rd_audit.specs.declared.run.Run.{Run}
+use Rattle.rd_audit.specs.Runs.{place_of, comes_behind, face_from, face_of, span_of, run_by, run_of}
 use Rattle.rd_audit.proofs.Decimals.{number-read}
 use Rattle.rd_audit.proofs.Lacking.{lacks, lacks-append, lacks-decimal, is_no_digit, and-both, and-yes, cut-seam, pieces-seam, pieces-one}
 

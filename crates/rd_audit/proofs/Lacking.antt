@@ -1,8 +1,8 @@
 -- Bytes that lack a byte, and where they are cut by it.
-use Rattle.std.proofs.Common.{◌≡◌, ◌==◌, ℕ, zero, suc, ◌+◌, ◌/◌, ◌%◌, ◌<◌, ◌||◌, ◌&&◌, not, nat_lt, Bool, true, false, if◌then◌else◌, Option, None, Some, option_map, decimal, List, [], ◌∷◌, ◌++◌, refl, sym, ap, ap₂, ◌∙◌, arith, true≢false}
+use Rattle.std.proofs.Common.{◌≡◌, ◌==◌, ℕ, zero, suc, ◌+◌, ◌/◌, ◌%◌, ◌<◌, ◌||◌, ◌&&◌, not, nat_lt, Bool, true, false, if◌then◌else◌, None, Some, option_map, decimal, List, [], ◌∷◌, ◌++◌, refl, sym, ap, ◌∙◌, arith, true≢false}
 use Rattle.std.proofs.lemmas.Bool.Decides.{nat_tests}
 use Rattle.std.specs.Fmt.{digits, digits_onto, digit_glyph}
-use Rattle.rd_io.specs.Lines.{lines_of, in_front}
+use Rattle.rd_io.specs.Lines.{lines_of}
 use Rattle.rd_audit.specs.Cuts.{cut, cut_last_or, cut_last, pieces}
 use Rattle.rd_audit.proofs.Cutting.{eq_yes, lines-cut, pieces-cut, pieces-uncut}
 

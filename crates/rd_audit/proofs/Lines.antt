@@ -1,8 +1,7 @@
 -- The lines of a dump.
-use Rattle.std.proofs.Common.{◌≡◌, ◌==◌, ℕ, ◌+◌, ◌<◌, not, Bool, true, false, if◌then◌else◌, Option, None, Some, decimal, codes, List, [], ◌∷◌, ◌++◌, map, refl, sym, ap, ◌∙◌, append_assoc, append-nil}
+use Rattle.std.proofs.Common.{◌≡◌, ℕ, ◌+◌, true, Option, None, Some, decimal, codes, List, [], ◌∷◌, ◌++◌, map, refl, sym, ap, ◌∙◌, append_assoc}
 use Rattle.std.specs.Prelude.{All}
 use Rattle.std.proofs.lemmas.List.Elements.{All-head, All-tail}
-use Rattle.std.specs.List.{flat_map}
 use Rattle.rd_base.specs.Glyphs.{IsRowAfter}
 use Rattle.rd_base.specs.declared.cell.Cell.{Cell}
 use Rattle.rd_io.specs.Lines.{lines_of}
@@ -10,10 +9,9 @@ use Rattle.rd_term.specs.Pictures.{Picture}
 use Rattle.rd_dump.specs.Dumps.{place_text, window_line, windows_text, cells_text, runs_of_row, row_line, rows_text, cursor_line, newline}
 use Rattle.rd_dump.specs.Dumps as dumps
 use Rattle.rd_dump.specs.declared.dump.WindowFacts.{WindowFacts}
-use Rattle.rd_audit.specs.Rows.{is_row, is_cursor}
 use Rattle.rd_audit.proofs.Covering.{runs-lack}
 use Rattle.rd_audit.proofs.Faces.{piece-lacks}
-use Rattle.rd_audit.proofs.Lacking.{lacks, lacks-append, lacks-decimal, lines-seam, and-yes}
+use Rattle.rd_audit.proofs.Lacking.{lacks, lacks-append, lacks-decimal, lines-seam}
 use Rattle.rd_audit.proofs.Spelling.{text-lacks}
 
 -- bytes that are one line and its newline

@@ -10,7 +10,7 @@ use Rattle.rd_io.specs.Lines.{lines_of, in_front}
 use Rattle.rd_term.specs.Pictures.{Picture, IsGrid, width_of}
 use Rattle.rd_dump.specs.Dumps.{cells_text, runs_of_row, windows_text, rows_text, cursor_line, dump_text}
 use Rattle.rd_dump.specs.declared.dump.WindowFacts.{WindowFacts}
-use Rattle.rd_audit.specs.Cuts.{stripped, cut, cut_last}
+use Rattle.rd_audit.specs.Cuts.{stripped, cut_last}
 use Rattle.rd_audit.specs.Dumps.{or_else, last_group, ended_by, picture_from, picture_of, dump_in}
 use Rattle.rd_audit.specs.Numbers.{number_of, both}
 use Rattle.rd_audit.specs.Printed.{HasDump, HasNoCursor}
@@ -23,7 +23,7 @@ use Rattle.rd_audit.proofs.Decimals.{number-read}
 use Rattle.rd_audit.proofs.Faces.{piece-lacks}
 use Rattle.rd_audit.proofs.Lacking.{cut-seam, last-seam, lacks-decimal}
 use Rattle.rd_audit.proofs.Lines.{row_body, row_bodies, cursor_body, window_body, AreWhole, line-first, cursor-line, rows-lines, windows-lines}
-use Rattle.rd_audit.proofs.Spelling.{plainly, text-read}
+use Rattle.rd_audit.proofs.Spelling.{text-read}
 
 -- ---- the line of a row
 

@@ -1,9 +1,9 @@
 -- The text of a row, read back.
-use Rattle.std.proofs.Common.{◌≡◌, ◌==◌, ℕ, zero, suc, ◌+◌, ◌-◌, ◌/◌, ◌%◌, ◌<◌, ◌≤◌, ◌&&◌, not, nat_lt, nat_le, Bool, true, false, if◌then◌else◌, Option, None, Some, option_and_then, option_map, List, [], ◌∷◌, ◌++◌, length, take, drop, get_or, replicate, map, inl, inr, refl, sym, ap, ap₂, subst, ◌∙◌, arith, true≢false, append_assoc, append-nil, length-append, length-take, length-drop}
-use Rattle.std.specs.Prelude.{slice_index, slice_set}
+use Rattle.std.proofs.Common.{◌≡◌, ◌==◌, ℕ, zero, suc, ◌+◌, ◌-◌, ◌/◌, ◌%◌, ◌<◌, ◌≤◌, nat_lt, true, false, if◌then◌else◌, Option, None, Some, option_and_then, option_map, List, [], ◌∷◌, ◌++◌, length, take, drop, get_or, replicate, inl, inr, refl, sym, ap, ap₂, ◌∙◌, arith, append_assoc, append-nil, length-append, length-take, length-drop}
+use Rattle.std.specs.Prelude.{slice_set}
 use Rattle.std.specs.Char.{encode_utf8}
 use Rattle.std.specs.List.{flat_map}
-use Rattle.std.specs.Str.{IsUtf8, all_scalars, encode_utf8_all, chars, is_utf8}
+use Rattle.std.specs.Str.{all_scalars, encode_utf8_all, chars}
 use Rattle.std.proofs.lemmas.Bool.{cases_lt, cases_eq}
 use Rattle.std.proofs.lemmas.Bool.Decides.{nat_tests}
 use Rattle.std.proofs.lemmas.Str.{chars-encodes, is_utf8-from_IsUtf8}
@@ -12,17 +12,17 @@ use Rattle.std.proofs.lemmas.List.{replicate-append-replicate, take-append-drop,
 use Rattle.unicode_width.specs.Width.{char_width}
 use Rattle.rd_base.specs.Cells.{single}
 use Rattle.rd_base.specs.Chars.{is_scalar, encoded}
-use Rattle.rd_base.specs.Faces.{Attributes, plain}
-use Rattle.rd_base.specs.Glyphs.{IsMeasured, IsGood, IsRowAfter, glyph_cells, is_space}
+use Rattle.rd_base.specs.Faces.{plain}
+use Rattle.rd_base.specs.Glyphs.{IsMeasured, IsGood, IsRowAfter}
 use Rattle.rd_base.specs.declared.cell.Glyph.{Glyph}
 use Rattle.rd_base.specs.declared.cell.Cell.{Cell}
 use Rattle.rd_base.specs.declared.cell.Cell.TheVariants.{Blank, First, Rest}
 use Rattle.rd_term.specs.Characters.{columns_of}
 use Rattle.rd_term.proofs.Measured.{space-columns, base-columns, mark-columns}
-use Rattle.rd_dump.specs.Dumps.{cells_text, cell_text, glyph_text}
+use Rattle.rd_dump.specs.Dumps.{cells_text, glyph_text}
 use Rattle.rd_audit.specs.Runs.{with_face}
-use Rattle.rd_audit.specs.Texts.{cells_of, joined, taken, cells_from, text_cells}
-use Rattle.rd_audit.proofs.Lacking.{lacks, lacks-append, and-both, and-yes}
+use Rattle.rd_audit.specs.Texts.{cells_of, taken, cells_from, text_cells}
+use Rattle.rd_audit.proofs.Lacking.{lacks, lacks-append}
 
 -- the marks of a glyph that count
 abbrev pub marks_of : Glyph → List ℕ
