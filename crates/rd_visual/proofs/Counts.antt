@@ -186,12 +186,16 @@ module _ (laws : Laws) (s : BufferValue) (objects : ObjectLists) (files : Data) 
   abbrev pub items-at : ℕ → List Item
   items-at start = items_of (scene_in s.settings objects files) (reading s objects start)
 
-  -- the items of a block tile it
-  pub block-tile : (start end : ℕ) → IsBlock s start end → Tile 0 (length (reading s objects start)) (items-at start)
-  block-tile start end is =
+  -- what is read of a block
+  pub block-read : (start end : ℕ) → IsBlock s start end → IsReading s.settings.invisible (reading s objects start)
+  block-read start end is =
       let some = is.some in
       let last = is.last in
-      laws.tile (scene_in s.settings objects files) (reading s objects start) (laws.read s objects start (omega (arith, some, last)))
+      laws.read s objects start (omega (arith, some, last))
+
+  -- the items of a block tile it
+  pub block-tile : (start end : ℕ) → IsBlock s start end → Tile 0 (length (reading s objects start)) (items-at start)
+  block-tile start end is = laws.tile (scene_in s.settings objects files) (reading s objects start) (block-read start end is)
 
   block-once : (b : Block) (pos : ℕ) → IsBlock s b.start b.end → b.start ≤ pos → pos < b.end → count_by (holds pos) (block_ranges s objects files b) ≡ 1
   block-once b pos is low high =

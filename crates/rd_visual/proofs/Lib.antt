@@ -1,5 +1,6 @@
 mod Counts
 mod Covered
+mod Enders
 mod Items
 mod Listing
 mod Neighbours

@@ -1,3 +1,4 @@
 pub mod Examples
 pub mod Hits
 pub mod Motion
+pub mod Order

@@ -1,5 +1,5 @@
 //! Laws of hits, over rows of every source, and of motion.
-ghost use Rattle.std.specs.Prelude.{◌≡◌, ℕ, ◌+◌, ◌<◌, ◌≤◌, true, List, length, All, count_by, slice_get, Some};
+ghost use Rattle.std.specs.Prelude.{◌≡◌, ℕ, ◌+◌, ◌<◌, ◌≤◌, Bool, true, List, length, All, count_by, slice_get, Some};
 ghost use Rattle.rd_base.specs.declared.element.Element.{Element};
 ghost use Rattle.rd_matrix.specs.Columns.{covers};
 ghost use Rattle.rd_matrix.specs.Cursors.{cursor_in};
@@ -18,10 +18,13 @@ ghost use Rattle.rd_matrix.specs.declared.block.Block.{Block};
 ghost use Rattle.rd_blocks.specs.Bases.{blocks_in};
 ghost use Rattle.rd_blocks.specs.Sources.{text_source};
 ghost use Rattle.rd_visual.specs.Motion.{all_ranges, backward, base_in, block_ranges, forward, holds, least, left_of, right_of};
+ghost use Rattle.rd_visual.specs.Order.{EndsWithEnder, StandBetween, block_items, ordered_ranges};
+ghost use Rattle.rd_visual.specs.declared.range.Range.{Range};
 ghost use Rattle.rd_visual.specs.Hits.{AreRowsAt, begins_at, hit_in, reading_column};
 
 use rd_blocks::buffers_are_sources;
 use rd_items::{blocks_are_listed, blocks_are_read_whole, items_cover_their_block};
+use rd_levels::enders_come_last;
 
 /// Where a cell shows a position, the item of that position begins in a cell of the same row, which shows that position too.
 pub fn a_hit_comes_back()
@@ -75,4 +78,30 @@ pub fn left_undoes_right()
     blocks_are_listed();
     blocks_are_read_whole();
     items_cover_their_block();
+}
+
+/// The ranges of a block's items in visual order are those in order of position, each as often, and these stand one behind the other
+/// from the block's start to its end.
+pub fn ranges_are_reordered()
+    ensures stand { (s : BufferValue) (objects : ObjectLists) (files : Data) (b : Block) → IsText s.text → IsAmong (blocks_in files.classes s) b
+        → StandBetween b.start b.end (ordered_ranges s objects files b) }
+    ensures same { (s : BufferValue) (objects : ObjectLists) (files : Data) (b : Block) (test : Range → Bool)
+        → count_by test (block_ranges s objects files b) ≡ count_by test (ordered_ranges s objects files b) }
+{
+    blocks_are_listed();
+    blocks_are_read_whole();
+    items_cover_their_block();
+}
+
+/// The last of a block's ranges is that of its ender, in order of position and in visual order too. It ends with the block.
+pub fn enders_have_the_last_range()
+    ensures order { (s : BufferValue) (objects : ObjectLists) (files : Data) (b : Block) → IsText s.text → IsAmong (blocks_in files.classes s) b
+        → EndsWithEnder b.start b.end (block_items s objects files b) (ordered_ranges s objects files b) }
+    ensures visual { (s : BufferValue) (objects : ObjectLists) (files : Data) (b : Block) → IsText s.text → IsAmong (blocks_in files.classes s) b
+        → EndsWithEnder b.start b.end (block_items s objects files b) (block_ranges s objects files b) }
+{
+    blocks_are_listed();
+    blocks_are_read_whole();
+    items_cover_their_block();
+    enders_come_last();
 }

@@ -10,7 +10,7 @@ mod ranges;
 
 pub use hits::{cell_of, position_at};
 pub use laws::{
-    a_cell_shows_its_item, a_hit_comes_back, items_begin_in_the_window, left_undoes_right,
-    ranges_cover_once,
+    a_cell_shows_its_item, a_hit_comes_back, enders_have_the_last_range, items_begin_in_the_window,
+    left_undoes_right, ranges_are_reordered, ranges_cover_once,
 };
 pub use motion::{left, right};
