@@ -2,6 +2,7 @@ pub mod Alike
 pub mod Edges
 pub mod Changes
 mod Colours
+mod Few
 pub mod Lasts
 pub mod Greatest
 pub mod Newness

@@ -1,5 +1,5 @@
 -- The strings of overlays at a position.
-use Rattle.std.specs.Prelude.{ℕ, ◌==◌, Bool, if◌then◌else◌, List, [], ◌∷◌, ◌++◌, reverse, Option, None, Some}
+use Rattle.std.specs.Prelude.{ℕ, zero, suc, ◌+◌, ◌==◌, Bool, if◌then◌else◌, List, [], ◌∷◌, ◌++◌, length, reverse, Option, None, Some}
 use Rattle.std.specs.Option.{option_to_list}
 use Rattle.rd_overlays.specs.declared.overlay.Overlay.{Overlay}
 use Rattle.rd_overlays.specs.declared.overlay.Kind.TheVariants.{Before, After}
@@ -42,3 +42,8 @@ strings_at s pos =
     strings_of Closing s.overlays (reverse (ending pos s.overlays))
     ++ strings_of Between s.overlays (starting pos s.overlays)
     ++ strings_of Opening s.overlays (starting pos s.overlays)
+
+-- how many strings stand at a position and those behind it, so many in all
+abbrev pub strings_within : BufferValue → ℕ → ℕ → ℕ
+strings_within s pos zero = 0
+strings_within s pos (suc n) = length (strings_at s pos) + strings_within s (suc pos) n

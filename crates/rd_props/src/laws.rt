@@ -1,5 +1,5 @@
 //! Laws of the definitions, for the layers above.
-ghost use Rattle.std.specs.Prelude.{◌≡◌, ◌<◌, ℕ, [], ◌∷◌, None, Some, true, false};
+ghost use Rattle.std.specs.Prelude.{◌≡◌, ◌<◌, ◌≤◌, ◌*◌, ℕ, [], ◌∷◌, length, None, Some, true, false};
 ghost use Rattle.rd_base.specs.Cells.{HasColours};
 ghost use Rattle.rd_base.specs.Faces.{plain};
 ghost use Rattle.rd_base.specs.declared.settings.Invisible.TheVariants.{Every, Listed};
@@ -11,7 +11,7 @@ ghost use Rattle.rd_props.specs.Faces.{face_at};
 ghost use Rattle.rd_props.specs.Shown.{hidden};
 ghost use Rattle.rd_objects.specs.Sound.{AreObjects};
 ghost use Rattle.rd_objects.specs.Things.{ObjectLists};
-ghost use Rattle.rd_props.specs.Strings.{strings_at};
+ghost use Rattle.rd_props.specs.Strings.{strings_at, strings_within};
 ghost use Rattle.rd_props.specs.Seen.{seen_at, hidden_seen};
 ghost use Rattle.rd_props.specs.Stops.{IsNextStop, LookAlike};
 ghost use Rattle.rd_props.specs.declared.hiding.Hidden.TheVariants.{No, Plain, Ellipsis};
@@ -39,6 +39,11 @@ pub fn what_is_seen_says_what_is_hidden()
 /// The colours of each position's face are in their range where those of all faces that were made are. The call does nothing.
 pub fn merged_faces_have_their_colours()
     ensures { (s : BufferValue) (objects : ObjectLists) (pos : ℕ) → AreObjects objects → HasColours (face_at s objects pos) }
+{}
+
+/// However many positions are looked at, at most two strings of each overlay that was made stand at them. The call does nothing.
+pub fn overlays_have_two_strings()
+    ensures { (s : BufferValue) (pos n : ℕ) → strings_within s pos n ≤ 2 * length s.overlays }
 {}
 
 /// Between a position and the next stop behind it no value changes, nor the face, and no string of an overlay stands there. The call

@@ -25,8 +25,8 @@ pub use faces::face_at;
 pub use hiding::Hidden;
 pub use laws::{
     atoms_that_hide, effective_values_are_the_greatest_overlays, faces_that_merge,
-    merged_faces_have_their_colours, nothing_changes_before_the_next_stop, strings_that_meet,
-    what_is_seen_says_what_is_hidden,
+    merged_faces_have_their_colours, nothing_changes_before_the_next_stop,
+    overlays_have_two_strings, strings_that_meet, what_is_seen_says_what_is_hidden,
 };
 pub use made::{edits_keep_what_is_made, made_objects_alone_are_seen};
 pub use shown::hidden;

@@ -1,0 +1,169 @@
+-- At so many positions as one likes stand at most two strings of each overlay.
+use Rattle.std.proofs.Common.{◌≡◌, ℕ, zero, suc, ◌+◌, ◌*◌, ◌≤◌, ◌==◌, nat_le, Bool, true, false, if◌then◌else◌, List, [], ◌∷◌, ◌++◌, length, map, reverse, length-append, Option, None, Some, refl, ap, ◌∙◌, arith}
+use Rattle.std.specs.Option.{option_to_list}
+use Rattle.std.proofs.lemmas.Bool.Decides.{nat_tests}
+use Rattle.std.proofs.lemmas.List.{reverse-append}
+use Rattle.rd_overlays.specs.declared.overlay.Overlay.{Overlay}
+use Rattle.rd_overlays.specs.declared.overlay.Kind.TheVariants.{Before, After}
+use Rattle.rd_overlays.specs.Overlays.{overlay_at, starting, ending, precedes, placed, ranked_from, number_of_rank}
+use Rattle.rd_props.specs.Buffers.{BufferValue}
+use Rattle.rd_props.specs.Values.{value_of}
+use Rattle.rd_props.specs.Strings.{is_empty, before_string, after_string, part_in, strings_of, strings_at, strings_within}
+use Rattle.rd_props.specs.declared.strings.Part.{Part}
+use Rattle.rd_props.specs.declared.strings.Part.TheVariants.{Closing, Between, Opening}
+
+-- what numbers weigh together
+abbrev weighed : (ℕ → ℕ) → List ℕ → ℕ
+weighed w [] = 0
+weighed w (n ∷ ns) = w n + weighed w ns
+
+weighed-append : (w : ℕ → ℕ) (xs ys : List ℕ) → weighed w (xs ++ ys) ≡ weighed w xs + weighed w ys
+weighed-append w [] ys = omega arith
+weighed-append w (x ∷ xs) ys = omega (arith, weighed-append w xs ys)
+
+weighed-reverse : (w : ℕ → ℕ) (xs : List ℕ) → weighed w (reverse xs) ≡ weighed w xs
+weighed-reverse w [] = refl
+weighed-reverse w (x ∷ xs) =
+    let turned : weighed w (reverse (x ∷ xs)) ≡ weighed w (reverse xs ++ x ∷ []) = ap (weighed w) (reverse-append (x ∷ []) xs) in
+    let sum = weighed-append w (reverse xs) (x ∷ []) in
+    let rest = weighed-reverse w xs in
+    omega (arith, turned, sum, rest)
+
+-- a number weighs the strings that a part of its overlay has
+abbrev weight : Part → List (Option Overlay) → ℕ → ℕ
+weight part slots number = length (part_in part (overlay_at slots number))
+
+strings-weighed : (part : Part) (slots : List (Option Overlay)) (ns : List ℕ) → length (strings_of part slots ns) ≡ weighed (weight part slots) ns
+strings-weighed part slots [] = refl
+strings-weighed part slots (n ∷ ns) = omega (arith, length-append (part_in part (overlay_at slots n)) (strings_of part slots ns), strings-weighed part slots ns)
+
+-- a listing weighs what the overlays in it weigh
+placed-weighed : (w : ℕ → ℕ) (r : _) (rs : List _) → weighed w (map number_of_rank (placed r rs)) ≡ w r.number + weighed w (map number_of_rank rs)
+placed-weighed w r [] = refl
+placed-weighed w r (x ∷ rs) = by-order (placed-weighed w r rs) (precedes x r) where
+  by-order : weighed w (map number_of_rank (placed r rs)) ≡ w r.number + weighed w (map number_of_rank rs) → (b : Bool)
+      → weighed w (map number_of_rank (if b then x ∷ placed r rs else r ∷ x ∷ rs)) ≡ w r.number + (w x.number + weighed w (map number_of_rank rs))
+  by-order rest true = omega (arith, rest)
+  by-order rest false = refl
+
+-- what the overlays weigh that have an edge at a position
+abbrev slot_at : (Overlay → ℕ) → (ℕ → ℕ) → ℕ → ℕ → Option Overlay → ℕ
+slot_at edge w p n None = 0
+slot_at edge w p n (Some o) = if edge o == p then w n else 0
+
+abbrev all_at : (Overlay → ℕ) → (ℕ → ℕ) → ℕ → ℕ → List (Option Overlay) → ℕ
+all_at edge w p n [] = 0
+all_at edge w p n (slot ∷ slots) = slot_at edge w p n slot + all_at edge w p (suc n) slots
+
+listing-weighed : (edge : Overlay → ℕ) (w : ℕ → ℕ) (p n : ℕ) (slots : List (Option Overlay)) → weighed w (map number_of_rank (ranked_from (λ o. edge o == p) n slots)) ≡ all_at edge w p n slots
+listing-weighed edge w p n [] = refl
+listing-weighed edge w p n (None ∷ slots) = omega (arith, listing-weighed edge w p (suc n) slots)
+listing-weighed edge w p n (Some o ∷ slots) = by-test (listing-weighed edge w p (suc n) slots) (edge o == p) where
+  by-test : weighed w (map number_of_rank (ranked_from (λ o. edge o == p) (suc n) slots)) ≡ all_at edge w p (suc n) slots → (b : Bool)
+      → weighed w (map number_of_rank
+      (if b then placed (record { priority = o.priority; number = n }) (ranked_from (λ o. edge o == p) (suc n) slots) else ranked_from (λ o. edge o == p) (suc n) slots))
+      ≡ (if b then w n else 0) + all_at edge w p (suc n) slots
+  by-test rest true =
+      let more = placed-weighed w (record { priority = o.priority; number = n }) (ranked_from (λ o. edge o == p) (suc n) slots) in
+      omega (arith, more, rest)
+  by-test rest false = omega (arith, rest)
+
+-- what the overlays weigh that have an edge at a position or behind it
+abbrev slot_from : (Overlay → ℕ) → (ℕ → ℕ) → ℕ → ℕ → Option Overlay → ℕ
+slot_from edge w p n None = 0
+slot_from edge w p n (Some o) = if nat_le p (edge o) then w n else 0
+
+abbrev all_from : (Overlay → ℕ) → (ℕ → ℕ) → ℕ → ℕ → List (Option Overlay) → ℕ
+all_from edge w p n [] = 0
+all_from edge w p n (slot ∷ slots) = slot_from edge w p n slot + all_from edge w p (suc n) slots
+
+edge-step : (e p x : ℕ) → (if e == p then x else 0) + (if nat_le (suc p) e then x else 0) ≡ (if nat_le p e then x else 0)
+edge-step e p x = by-tests (e == p) (nat_le (suc p) e) (nat_le p e) refl refl refl where
+  by-tests : (here behind from : Bool) → (e == p) ≡ here → nat_le (suc p) e ≡ behind → nat_le p e ≡ from → (if here then x else 0) + (if behind then x else 0) ≡ (if from then x else 0)
+  by-tests true true from a b c = absurd (grind (arith, nat_tests))
+  by-tests true false true a b c = omega arith
+  by-tests true false false a b c = absurd (grind (arith, nat_tests))
+  by-tests false true true a b c = omega arith
+  by-tests false true false a b c = absurd (grind (arith, nat_tests))
+  by-tests false false true a b c = absurd (grind (arith, nat_tests))
+  by-tests false false false a b c = omega arith
+
+slot-step : (edge : Overlay → ℕ) (w : ℕ → ℕ) (p n : ℕ) (slot : Option Overlay) → slot_at edge w p n slot + slot_from edge w (suc p) n slot ≡ slot_from edge w p n slot
+slot-step edge w p n None = refl
+slot-step edge w p n (Some o) = edge-step (edge o) p (w n)
+
+all-step : (edge : Overlay → ℕ) (w : ℕ → ℕ) (p n : ℕ) (slots : List (Option Overlay)) → all_at edge w p n slots + all_from edge w (suc p) n slots ≡ all_from edge w p n slots
+all-step edge w p n [] = refl
+all-step edge w p n (slot ∷ slots) = omega (arith, slot-step edge w p n slot, all-step edge w p (suc n) slots)
+
+-- an overlay has two strings at most
+slot-least : (edge : Overlay → ℕ) (w : ℕ → ℕ) (p n : ℕ) (slot : Option Overlay) → slot_from edge w p n slot ≤ w n
+slot-least edge w p n None = omega arith
+slot-least edge w p n (Some o) = by-test (nat_le p (edge o)) where
+  by-test : (b : Bool) → (if b then w n else 0) ≤ w n
+  by-test true = omega arith
+  by-test false = omega arith
+
+from-few : (to from : Overlay → ℕ) (a b c : ℕ → ℕ) → ((n : ℕ) → a n + b n + c n ≤ 2) → (p n : ℕ) (slots : List (Option Overlay))
+    → all_from to a p n slots + all_from from b p n slots + all_from from c p n slots ≤ 2 * length slots
+from-few to from a b c two p n [] = omega arith
+from-few to from a b c two p n (slot ∷ slots) =
+    omega (arith, slot-least to a p n slot, slot-least from b p n slot, slot-least from c p n slot, two n, from-few to from a b c two p (suc n) slots)
+
+one : (o : Option ℕ) → length (option_to_list o) ≤ 1
+one None = omega arith
+one (Some x) = omega arith
+
+two : (slots : List (Option Overlay)) (n : ℕ) → weight Closing slots n + weight Between slots n + weight Opening slots n ≤ 2
+two slots n = by-slot (overlay_at slots n) where
+  before : Overlay → List ℕ
+  before o = before_string o
+
+  after : Overlay → List ℕ
+  after o = after_string o
+
+  by-empty : (o : Overlay) (b : Bool) → length (if b then [] else after o) + length (if b then before o ++ after o else []) + length (if b then [] else before o) ≤ 2
+  by-empty o true = omega (arith, length-append (before o) (after o), one (value_of Before (Some o)), one (value_of After (Some o)))
+  by-empty o false = omega (arith, one (value_of Before (Some o)), one (value_of After (Some o)))
+
+  by-slot : (slot : Option Overlay) → length (part_in Closing slot) + length (part_in Between slot) + length (part_in Opening slot) ≤ 2
+  by-slot None = omega arith
+  by-slot (Some o) = by-empty o (is_empty o)
+
+-- the strings of the overlays with an edge at a position or behind it
+abbrev left : BufferValue → ℕ → ℕ
+left s pos =
+    all_from (λ o. o.to) (weight Closing s.overlays) pos 0 s.overlays + all_from (λ o. o.from) (weight Between s.overlays) pos 0 s.overlays
+    + all_from (λ o. o.from) (weight Opening s.overlays) pos 0 s.overlays
+
+strings-left : (s : BufferValue) (pos : ℕ) → length (strings_at s pos) + left s (suc pos) ≡ left s pos
+strings-left s pos =
+    let slots = s.overlays in
+    let to : Overlay → ℕ = λ o. o.to in
+    let from : Overlay → ℕ = λ o. o.from in
+    let closing = strings_of Closing slots (reverse (ending pos slots)) in
+    let between = strings_of Between slots (starting pos slots) in
+    let opening = strings_of Opening slots (starting pos slots) in
+    let all : length (strings_at s pos) ≡ length closing + length between + length opening
+    = length-append (closing ++ between) opening ∙ ap (λ n. n + length opening) (length-append closing between) in
+    let a : length closing ≡ all_at to (weight Closing slots) pos 0 slots
+    = strings-weighed Closing slots (reverse (ending pos slots)) ∙ weighed-reverse (weight Closing slots) (ending pos slots) ∙ listing-weighed to (weight Closing slots) pos 0 slots in
+    let b : length between ≡ all_at from (weight Between slots) pos 0 slots = strings-weighed Between slots (starting pos slots) ∙ listing-weighed from (weight Between slots) pos 0 slots in
+    let c : length opening ≡ all_at from (weight Opening slots) pos 0 slots = strings-weighed Opening slots (starting pos slots) ∙ listing-weighed from (weight Opening slots) pos 0 slots in
+    let here : left s pos ≡ all_from to (weight Closing slots) pos 0 slots + all_from from (weight Between slots) pos 0 slots + all_from from (weight Opening slots) pos 0 slots = refl in
+    let behind : left s (suc pos) ≡ all_from to (weight Closing slots) (suc pos) 0 slots + all_from from (weight Between slots) (suc pos) 0 slots + all_from from (weight Opening slots) (suc pos) 0 slots = refl in
+    let d = all-step to (weight Closing slots) pos 0 slots in
+    let e = all-step from (weight Between slots) pos 0 slots in
+    let f = all-step from (weight Opening slots) pos 0 slots in
+    omega (arith, all, a, b, c, d, e, f, here, behind)
+
+within-left : (s : BufferValue) (pos n : ℕ) → strings_within s pos n ≤ left s pos
+within-left s pos zero = omega arith
+within-left s pos (suc n) = omega (arith, strings-left s pos, within-left s (suc pos) n)
+
+pub within-few : (s : BufferValue) (pos n : ℕ) → strings_within s pos n ≤ 2 * length s.overlays
+within-few s pos n =
+    let slots = s.overlays in
+    let own : left s pos ≤ 2 * length slots = from-few (λ o. o.to) (λ o. o.from) (weight Closing slots) (weight Between slots) (weight Opening slots) (two slots) pos 0 slots in
+    let all = within-left s pos n in
+    omega (arith, own, all)
