@@ -1,5 +1,5 @@
 -- What is read of a text of codes has codes.
-use Rattle.std.proofs.Common.{ℕ, zero, suc, ◌-◌, nat_le, nat_lt, Bool, true, false, IsTrue, List, [], ◌∷◌, Option, None, Some, IfSome}
+use Rattle.std.proofs.Common.{ℕ, zero, suc, ◌-◌, nat_le, nat_lt, Bool, true, false, IsTrue, List, [], ◌∷◌, Option, None, IfSome}
 use Rattle.std.specs.Prelude.{if◌then◌else◌, slice_get}
 use Rattle.std.proofs.lemmas.List.Elements.{All-nil, All-cons}
 use Rattle.rd_base.specs.Chars.{is_code}

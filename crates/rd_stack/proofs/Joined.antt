@@ -1,5 +1,5 @@
 -- Marks that join make a list no longer.
-use Rattle.std.proofs.Common.{ℕ, suc, ◌+◌, ◌≤◌, List, [], ◌∷◌, ◌++◌, length, Option, Some, None, option_map, arith, unwrap_or}
+use Rattle.std.proofs.Common.{suc, ◌≤◌, List, [], ◌∷◌, ◌++◌, length, Option, Some, None, option_map, arith, unwrap_or}
 use Rattle.std.specs.Prelude.{is_some, if◌then◌else◌}
 use Rattle.rd_base.specs.declared.cell.Glyph.{Glyph}
 use Rattle.rd_glyphs.specs.Marks.{Joins, marked_glyph, joined_from, joined}

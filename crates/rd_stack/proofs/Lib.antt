@@ -1,6 +1,5 @@
 mod Lists
 mod Orders
-mod Glyphs
 mod Rows
 mod Walks
 mod Strings
@@ -9,7 +8,6 @@ mod Prefixes
 mod Ends
 mod Enders
 mod LineEnds
-mod Measures
 mod Joined
 mod TurnCounts
 mod Good
@@ -17,4 +15,7 @@ mod Parts
 mod Holds
 mod Sound
 mod Codes
+mod ReadFew
+mod ReadColours
+mod Coloured
 mod Stays

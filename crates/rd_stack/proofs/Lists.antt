@@ -1,9 +1,7 @@
 -- Lists that are given element by element.
 use Rattle.std.proofs.Common.{◌≡◌, ℕ, suc, ◌+◌, ◌-◌, ◌≤◌, ◌<◌, List, [], ◌∷◌, ◌++◌, length, drop, get_or, Option, None, Some, All, sym, ap, subst, ◌∙◌, append_assoc, append-nil, arith, add-one, drop-cons}
-use Rattle.std.specs.Prelude.{map, slice_get, Result, Ok, Err, OnOk}
-use Rattle.std.proofs.lemmas.List.Elements.{All-push}
-use Rattle.rd_base.specs.declared.memory.Memory.{Memory}
-use Rattle.std.specs.List.{flat_map, range_with_len, HoldsAt, AllByRecursion}
+use Rattle.std.specs.Prelude.{map, slice_get}
+use Rattle.std.specs.List.{flat_map, range_with_len, AllByRecursion}
 use Rattle.std.proofs.lemmas.Option.{slice_get_within, slice_get_past, get_or_from_slice_get}
 
 -- what stands at an index heads what is left
@@ -40,15 +38,6 @@ nothing-past f out xs n i none size past =
 -- what holds of all holds of the one at an index
 pub all-at : {X : Type 0} (P : X → Type 0) (xs : List X) (i : ℕ) (x : X) → All P xs → slice_get xs i ≡ Some x → P x
 all-at P xs i x all found = subst P (get_or_from_slice_get xs i x x found) (all i x (slice_get_within xs i x found))
-
--- what holds of the one at an index holds there
-pub holds-at : {X : Type 0} (P : X → Type 0) (xs : List X) (i : ℕ) (x : X) → slice_get xs i ≡ Some x → P x → HoldsAt P xs i
-holds-at P xs i x found own = λ d. subst P (sym (get_or_from_slice_get xs i x d found)) own
-
--- what holds of each holds with one more
-pub all-more : {X : Type 0} (P : X → Type 0) (old new : List X) (x : X) (result : Result (Unit {0}) Memory) → P x → OnOk result (new ≡ old ++ x ∷ []) → All P old → OnOk result (All P new)
-all-more P old new x (Ok u) one made all = subst (All P) (sym made) (All-push P old x all one)
-all-more P old new x (Err e) one made all = made
 
 -- what holds of each of two lists holds of both together
 pub all-append : {X : Type 0} (P : X → Type 0) (xs ys : List X) → AllByRecursion P xs → AllByRecursion P ys → AllByRecursion P (xs ++ ys)

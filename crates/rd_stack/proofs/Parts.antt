@@ -1,5 +1,5 @@
 -- The parts of sound strings.
-use Rattle.std.proofs.Common.{◌≡◌, ℕ, zero, suc, ◌+◌, ◌-◌, ◌≤◌, Bool, true, false, IsTrue, List, [], ◌∷◌, ◌++◌, length, map, Option, None, Some, All, IfSome, refl, subst, ◌∙◌, length-append, arith}
+use Rattle.std.proofs.Common.{◌≡◌, ℕ, zero, suc, ◌+◌, ◌-◌, ◌≤◌, Bool, true, false, IsTrue, List, [], ◌∷◌, ◌++◌, length, map, Option, None, Some, IfSome, refl, subst, ◌∙◌, length-append, arith}
 use Rattle.std.specs.Prelude.{if◌then◌else◌, get_or, slice_get, option_map, unwrap_or}
 use Rattle.std.specs.List.{flat_map, range_with_len, AllByRecursion}
 use Rattle.std.proofs.lemmas.List.{length-map}

@@ -1,12 +1,12 @@
 -- The elements of a prefix.
 use Rattle.std.proofs.Common.{◌≡◌, ℕ, Bool, true, false, List, [], ◌∷◌, ◌++◌, Option, None, Some, arith, refl, sym, subst, ap, ◌∙◌, append_assoc, append-nil}
 use Rattle.std.proofs.lemmas.List.Elements.{All-cons}
-use Rattle.std.specs.Prelude.{if◌then◌else◌, slice_get, unwrap_or, Ok, IfSome}
+use Rattle.std.specs.Prelude.{if◌then◌else◌, slice_get, unwrap_or, Ok}
 use Rattle.rd_base.specs.Elements.{Takes}
 use Rattle.rd_base.specs.declared.element.Element.{Element}
 use Rattle.rd_base.specs.Faces.{plain}
 use Rattle.rd_items.specs.Pieces.{Scene}
-use Rattle.rd_stack.specs.Shown.{inner, outside, prefix, is_row_end, before_row_end, AreOpen, IsRight, AreRight, AreInside, AreOfOneRow}
+use Rattle.rd_stack.specs.Shown.{inner, outside, prefix, is_row_end, before_row_end, AreOpen, AreRight, AreInside, AreOfOneRow}
 use Rattle.rd_stack.specs.Steps.{text_steps, elements_in}
 use Rattle.rd_stack.proofs.Elements.{text-elements}
 
@@ -26,9 +26,6 @@ took found e old new is takes = subst (λ (x : Option Element). Takes (Ok x) old
 
 took-none : (found : Option Element) (old new : List Element) → found ≡ None → Takes (Ok found) old new → old ≡ []
 took-none found old new is takes = (subst (λ (x : Option Element). Takes (Ok x) old new) is takes).0
-
-pub took-right : (found : Option Element) (e : Element) → found ≡ Some e → IfSome found (λ (x : Element). IsRight x) → IsRight e
-took-right found e is right = subst (λ (x : Option Element). IfSome x (λ (y : Element). IsRight y)) is right
 
 pub row-goes : (out more : List Element) (e : Element) (old new whole : List Element) → more ≡ out ++ e ∷ [] → old ≡ e ∷ new → is_row_end e.look ≡ false
     → out ++ before_row_end old ≡ whole → more ++ before_row_end new ≡ whole

@@ -1,10 +1,10 @@
 -- The elements of strings and of items of sound objects are sound and measured, and take few columns.
-use Rattle.std.proofs.Common.{◌≡◌, ℕ, ◌+◌, ◌*◌, ◌≤◌, ◌^◌, ◌<◌, Bool, true, false, IsTrue, List, [], ◌∷◌, length, map, Option, None, Some, All, IfSome, refl, subst, ◌∙◌, arith}
+use Rattle.std.proofs.Common.{◌≡◌, ℕ, ◌*◌, ◌≤◌, ◌^◌, ◌<◌, Bool, true, false, IsTrue, List, [], ◌∷◌, length, map, Option, None, Some, All, IfSome, refl, subst, ◌∙◌, arith}
 use Rattle.std.specs.Prelude.{slice_get, slice_index_or, replicate, if◌then◌else◌, unwrap_or}
-use Rattle.std.specs.List.{flat_map, AllByRecursion}
+use Rattle.std.specs.List.{AllByRecursion}
 use Rattle.std.proofs.Math.Nat.{mul-le-mul_right}
 use Rattle.std.proofs.lemmas.List.{length-map}
-use Rattle.std.proofs.lemmas.List.Elements.{All-nil, All-cons, All-from_recursion, recursion_from_All}
+use Rattle.std.proofs.lemmas.List.Elements.{All-from_recursion, recursion_from_All}
 use Rattle.unicode_width.specs.Width.{char_width}
 use Rattle.rd_base.specs.Cells.{single}
 use Rattle.rd_base.specs.Chars.{is_code}
@@ -36,13 +36,12 @@ use Rattle.rd_stack.specs.Strings.{string_parts}
 use Rattle.rd_stack.specs.Shown.{space_elements, kind_elements, inner_elements, inner, middle_by, middle_elements, middle, before_row_end, is_row_end, outside, prefix, IsRight}
 use Rattle.rd_stack.specs.Lines.{ellipsis_glyphs, text_elements, outer_by, outer, origin_of, item_elements, item_class, item_code, item_turns, line_of_items, line_elements, IsCodedKind, AreCodedItems}
 use Rattle.rd_stack.specs.Limits.{AreFew, AreRightWithin, most_inner_columns, most_middle_columns, most_columns}
-use Rattle.rd_stack.specs.declared.part.Shown.{Shown}
 use Rattle.rd_stack.specs.declared.part.PartKind.{PartKind}
 use Rattle.rd_stack.specs.declared.part.PartKind.TheVariants as kind
 use Rattle.rd_stack.proofs.Ends.{before-each}
 use Rattle.rd_stack.proofs.Good.{both-right, good-nil, good-one, good-more, good-each, found}
 use Rattle.rd_stack.proofs.Holds.{Gives, items-hold, all-read, items-few}
-use Rattle.rd_stack.proofs.Parts.{MarkLaws, IsFitKind, IsFitShown, AreFit, spec-small, string-fit}
+use Rattle.rd_stack.proofs.Parts.{MarkLaws, IsFitKind, IsFitShown, spec-small, string-fit}
 use Rattle.rd_stack.proofs.TurnCounts.{LevelsLaw, turns-count}
 
 -- what is known of the elements of characters and of glyph characters

@@ -1,6 +1,7 @@
 -- The elements of strings.
 use Rattle.std.specs.Prelude.{ℕ, if◌then◌else◌, Bool, true, false, List, [], ◌∷◌, slice_get, Option, None, Some, ◌≡◌, All}
 use Rattle.std.specs.List.{flat_map}
+use Rattle.rd_base.specs.Cells.{HasColours}
 use Rattle.rd_base.specs.Faces.{Attributes, plain}
 use Rattle.rd_base.specs.declared.element.Element.{Element}
 use Rattle.rd_base.specs.declared.element.Extent.TheVariants.{Fixed, Column}
@@ -95,3 +96,7 @@ AreInside es = All IsInside es
 -- elements that end no row
 abbrev pub AreOfOneRow : List Element → Type 0
 AreOfOneRow es = All (λ e. is_row_end e.look ≡ false) es
+
+-- elements whose faces have their colours in range
+abbrev pub AreColoured : List Element → Type 0
+AreColoured es = All (λ e. HasColours e.face) es

@@ -1,5 +1,5 @@
 -- The parts of a string, in the order in which they are shown.
-use Rattle.std.specs.Prelude.{ℕ, ◌+◌, ◌-◌, nat_lt, Bool, false, not, ◌&&◌, is_some, if◌then◌else◌, List, [], ◌∷◌, ◌++◌, length, map, get_or, slice_get, Option, None, Some, option_map, All}
+use Rattle.std.specs.Prelude.{ℕ, ◌+◌, ◌-◌, nat_lt, Bool, false, not, ◌&&◌, is_some, if◌then◌else◌, List, [], ◌∷◌, ◌++◌, length, map, get_or, slice_get, Option, None, Some, option_map}
 use Rattle.std.specs.List.{flat_map, range_with_len}
 use Rattle.rd_base.specs.Faces.{Attributes, over}
 use Rattle.rd_base.specs.declared.class.Class.{Class}
@@ -9,8 +9,7 @@ use Rattle.rd_ucd.specs.Lookup.{class_of}
 use Rattle.rd_objects.specs.Texts.{TextValue, face_of, spec_of}
 use Rattle.rd_objects.specs.declared.run.Spec.{Spec}
 use Rattle.rd_objects.specs.declared.run.Spec.TheVariants.{Text}
-use Rattle.rd_base.specs.Glyphs.{IsMeasured}
-use Rattle.rd_glyphs.specs.Joining.{joining_of, base_of, mark_of, IsMeasuredJoining}
+use Rattle.rd_glyphs.specs.Joining.{joining_of, base_of, mark_of}
 use Rattle.rd_glyphs.specs.Marks.{Joins, joined}
 use Rattle.rd_glyphs.specs.declared.joining.Joining.TheVariants as joining
 use Rattle.rd_items.specs.Pieces.{Scene, spec_in, inner_class, same_spec}
@@ -122,19 +121,3 @@ behind_row s base replaced text under i =
 -- not
 abbrev pub string_parts : Scene → ℕ → Bool → TextValue → Attributes → List Shown
 string_parts s base replaced text under = shown_from s base replaced text under 0
-
--- the glyphs of parts are measured
-abbrev pub IsMeasuredKind : PartKind → Type 0
-IsMeasuredKind (kind.Marked g) = IsMeasured g
-IsMeasuredKind kind = Unit {0}
-
-pub record IsMeasuredPart (x : Part) : Type 0 where
-  pub kind : IsMeasuredKind x.kind
-  pub joining : IsMeasuredJoining x.joining
-
-abbrev pub HoldsPart : Option Part → Type 0
-HoldsPart None = Unit {0}
-HoldsPart (Some x) = IsMeasuredPart x
-
-abbrev pub AreMeasuredParts : List Part → Type 0
-AreMeasuredParts xs = All IsMeasuredPart xs

@@ -1,10 +1,7 @@
 //! The elements of one character, space or end.
-ghost use Rattle.std.specs.Prelude.{◌≡◌, IsTrue};
-ghost use Rattle.rd_base.specs.Glyphs.{IsMeasured};
+ghost use Rattle.std.specs.Prelude.{◌≡◌};
 ghost use Rattle.rd_base.specs.declared.element.Look.TheVariants as look;
-ghost use Rattle.rd_objects.specs.Tables.{is_glyph_character};
 ghost use Rattle.rd_glyphs.specs.Characters.{element_of};
-ghost use Rattle.rd_stack.specs.Shown.{IsRight};
 
 use rd_base::{Ch, Element, Extent, Face, Glyph, Look, Memory, Origin};
 use rd_glyphs::{Parts, expand};
@@ -23,22 +20,17 @@ pub struct Few {
 impl Model for Few {
     ghost use Rattle.std.specs.Prelude.{List, drop};
     ghost use Rattle.rd_base.specs.declared.element.Element.{Element};
-    ghost use Rattle.rd_stack.specs.Shown.{AreRight};
 
     ghost Value = { List Element };
 
     ghost view = { λ few. drop few.given few.elements.items };
-
-    ghost invariant = { λ few. AreRight few.elements.items };
 }
 
 impl Few {
-    ghost use Rattle.std.specs.Prelude.{◌≡◌, ◌∷◌, [], length, map, All, MatchOption, IfSome, IfOk, IsTrue, OnOk};
-    ghost use Rattle.rd_base.specs.Glyphs.{IsMeasured};
+    ghost use Rattle.std.specs.Prelude.{◌≡◌, ◌∷◌, [], length, map, MatchOption, IfOk};
     ghost use Rattle.rd_base.specs.declared.element.Look.TheVariants as look;
-    ghost use Rattle.rd_objects.specs.Tables.{is_glyph_text};
     ghost use Rattle.rd_glyphs.specs.Characters.{element_of, elements_of, glyph_elements};
-    ghost use Rattle.rd_stack.specs.Shown.{space_elements, IsRight, AreRight};
+    ghost use Rattle.rd_stack.specs.Shown.{space_elements};
 
     /// No elements.
     pub fn none(alloc: Global) -> Few
@@ -52,7 +44,6 @@ impl Few {
 
     /// One element.
     fn one(alloc: Global, element: Element) -> Result<Few, Memory>
-        requires { IsRight element }
         ensures { IfOk result (λ few. few ≡ element ∷ []) }
     {
         let elements = SmallVec::from_slice(alloc, &[element])?;
@@ -76,25 +67,23 @@ impl Few {
 
     /// The element of a glyph.
     pub fn of_glyph(alloc: Global, glyph: Glyph, face: Face, origin: Origin) -> Result<Few, Memory>
-        requires { IsMeasured glyph }
         ensures { IfOk result (λ few. few ≡ element_of face origin (look.Glyph glyph) ∷ []) }
     {
         Few::one(alloc, glyph_element(glyph, face, origin))
     }
 
-    /// The elements of glyph characters.
+    /// The elements of glyphs.
     pub fn of_glyphs(
         alloc: Global,
         text: &[Glyph],
         face: Face,
         origin: Origin,
     ) -> Result<Few, Memory>
-        requires { IsTrue (is_glyph_text text.now) }
         ensures { IfOk result (λ few. few ≡ glyph_elements face origin text.now) }
     {
         let mut elements = SmallVec::new(alloc);
         for glyph in text {
-            elements.push(glyph_character(*glyph, face, origin))?;
+            elements.push(glyph_element(*glyph, face, origin))?;
         }
         Ok(Few { elements, given: 0 })
     }
@@ -149,10 +138,9 @@ impl Few {
         )
     }
 
-    /// The next element, and None exactly where none is left. It is sound, and its glyph is measured.
+    /// The next element, and None exactly where none is left.
     pub fn next(&mut self) -> Option<Element>
-        ensures gives { MatchOption result ((self.old ≡ []) × (self.new ≡ [])) (λ e. self.old ≡ e ∷ self.new) }
-        ensures right { IfSome result (λ e. IsRight e) }
+        ensures { MatchOption result ((self.old ≡ []) × (self.new ≡ [])) (λ e. self.old ≡ e ∷ self.new) }
     {
         let elements = self.elements.as_slice();
         if self.given >= elements.len() {
@@ -166,8 +154,7 @@ impl Few {
 
 /// The element of a glyph.
 fn glyph_element(glyph: Glyph, face: Face, origin: Origin) -> Element
-    ensures value { result ≡ element_of face origin (look.Glyph glyph) }
-    ensures right { IsMeasured glyph → IsRight result }
+    ensures { result ≡ element_of face origin (look.Glyph glyph) }
 {
     Element {
         extent: Extent::Fixed(glyph.width as u32),
@@ -175,13 +162,4 @@ fn glyph_element(glyph: Glyph, face: Face, origin: Origin) -> Element
         face,
         origin,
     }
-}
-
-/// The element of a glyph character.
-fn glyph_character(glyph: Glyph, face: Face, origin: Origin) -> Element
-    requires { IsTrue (is_glyph_character glyph) }
-    ensures value { result ≡ element_of face origin (look.Glyph glyph) }
-    ensures right { IsRight result }
-{
-    glyph_element(glyph, face, origin)
 }

@@ -1,9 +1,11 @@
 //! What holds of all lines, proved of the definitions.
-ghost use Rattle.std.specs.Prelude.{◌≡◌, ◌≤◌, ◌<◌, ◌*◌, ◌^◌, ℕ, List, length, true};
-ghost use Rattle.rd_base.specs.declared.limits.TheConstants.{TAB_COLUMNS};
+ghost use Rattle.std.specs.Prelude.{◌≡◌, ◌≤◌, ◌<◌, ◌*◌, ◌^◌, ℕ, List, length, All, true};
+ghost use Rattle.rd_base.specs.declared.limits.TheConstants.{OVERLAYS, TAB_COLUMNS};
+ghost use Rattle.rd_base.specs.Cells.{HasColours};
 ghost use Rattle.rd_base.specs.Elements.{AreSound, columns_at_most, ends_once};
 ghost use Rattle.rd_base.specs.Glyphs.{AreMeasured};
 ghost use Rattle.rd_base.specs.Settings.{SettingValues};
+ghost use Rattle.rd_text.specs.Texts.{IsText, IsAccessible};
 ghost use Rattle.rd_ucd.specs.Data.{Data};
 ghost use Rattle.rd_objects.specs.Sound.{AreCodes, AreObjects};
 ghost use Rattle.rd_objects.specs.Things.{ObjectLists};
@@ -13,13 +15,15 @@ ghost use Rattle.rd_props.specs.Seen.{Seen};
 ghost use Rattle.rd_items.specs.Readings.{IsReading, HaveCodes, reading};
 ghost use Rattle.rd_items.specs.Pieces.{Scene, scene_in};
 ghost use Rattle.rd_items.specs.Items.{items_of, AreMeasuredItems};
-ghost use Rattle.rd_stack.specs.Shown.{prefix, AreOpen};
+ghost use Rattle.rd_stack.specs.Shown.{prefix, AreOpen, AreOfOneRow, AreColoured};
 ghost use Rattle.rd_stack.specs.Lines.{line_elements, AreCodedItems};
 ghost use Rattle.rd_stack.specs.Limits.{AreFew, AreRightWithin, most_columns, most_inner_columns, most_middle_columns};
 
 use rd_glyphs::{elements_are_sound, glyph_texts_are_sound, marks_join_measured_glyphs};
 use rd_items::{items_are_measured, items_cover_their_block};
 use rd_levels::{enders_come_last, lines_have_a_level_each};
+use rd_objects::strings_have_colours;
+use rd_props::{merged_faces_have_their_colours, overlays_have_two_strings};
 
 /// The last element of a block's line is the line's end, and no other is. The call does nothing.
 pub fn lines_end_once()
@@ -61,19 +65,39 @@ pub fn prefixes_end_no_line()
 {}
 
 /// The elements of a prefix are sound, and its glyphs have the columns that Unicode gives them, where the objects are sound and a tab
-/// has 1 to 32 columns. They take at most the columns of a display string. The call does nothing.
+/// has 1 to 32 columns. They take at most the columns of a display string. None of them ends a row. The call does nothing.
 pub fn prefixes_are_sound()
     ensures sound { (scene : Scene) (base number : ℕ) → AreObjects scene.objects → AreSoundParts scene.parts → AreSound (prefix scene base number) }
     ensures measured { (scene : Scene) (base number : ℕ) → AreObjects scene.objects → AreSoundParts scene.parts → AreMeasured (prefix scene base number) }
     ensures columns { (scene : Scene) (base number : ℕ) → AreObjects scene.objects → AreSoundParts scene.parts → columns_at_most (prefix scene base number) ≤ most_inner_columns }
+    ensures row { (scene : Scene) (base number : ℕ) → AreOfOneRow (prefix scene base number) }
 {
     elements_are_right();
+}
+
+/// The faces of a line's elements have their colours in range where those of what is read have, and where the objects are sound; those of
+/// a prefix have where the objects are. What is read of a buffer has such faces. The call does nothing.
+pub fn lines_are_coloured()
+    ensures line { (scene : Scene) (base : ℕ) (es : List Seen) → AreObjects scene.objects → All (λ e. HasColours e.face) es → AreColoured (line_elements scene base es) }
+    ensures prefix { (scene : Scene) (base number : ℕ) → AreObjects scene.objects → AreColoured (prefix scene base number) }
+    ensures reading { (s : BufferValue) (objects : ObjectLists) (p : ℕ) → AreObjects objects → All (λ e. HasColours e.face) (reading s objects p) }
+{
+    merged_faces_have_their_colours();
+    strings_have_colours();
 }
 
 /// What is read of a buffer has codes where its characters have. The call does nothing.
 pub fn readings_have_codes()
     ensures { (s : BufferValue) (objects : ObjectLists) (p : ℕ) → AreCodes s.text.text → HaveCodes (reading s objects p) }
 {}
+
+/// No more is read of a buffer, from an accessible position on, than one position for each character of a text, the end, and both strings
+/// of each overlay. The call does nothing.
+pub fn readings_are_few()
+    ensures { (s : BufferValue) (objects : ObjectLists) (p : ℕ) → IsText s.text → IsAccessible s.text p → length s.overlays ≤ OVERLAYS → AreFew (reading s objects p) }
+{
+    overlays_have_two_strings();
+}
 
 /// What the elements of characters depend on is sound where the objects are and a tab has 1 to 32 columns. The call does nothing.
 pub fn scenes_are_sound()

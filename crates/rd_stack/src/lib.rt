@@ -5,11 +5,11 @@
 mod examples;
 mod few;
 mod growth;
+mod keeping;
 mod laws;
 mod line;
 mod line_steps;
 mod marks;
-mod measure;
 mod nesting;
 mod order;
 mod part;
@@ -22,8 +22,8 @@ mod walker;
 
 pub use growth::objects_that_are_made_change_no_line;
 pub use laws::{
-    lines_are_sound, lines_end_once, prefixes_are_sound, prefixes_end_no_line, readings_have_codes,
-    scenes_are_sound,
+    lines_are_coloured, lines_are_sound, lines_end_once, prefixes_are_sound, prefixes_end_no_line,
+    readings_are_few, readings_have_codes, scenes_are_sound,
 };
 pub use prefix::string_line;
 pub use walker::Walker;

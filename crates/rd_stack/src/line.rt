@@ -23,20 +23,18 @@ impl<'a> Model for LineFrame<'a> {
     ghost use Rattle.std.specs.Prelude.{◌≡◌, List, ◌≤◌, ◌<◌, length};
     ghost use Rattle.rd_base.specs.declared.element.Element.{Element};
     ghost use Rattle.rd_items.specs.Pieces.{scene_of};
-    ghost use Rattle.rd_items.specs.Items.{AreMeasuredItems};
     ghost use Rattle.rd_stack.specs.Steps.{line_left};
 
     ghost Value = { List (List Element) };
 
     ghost view = { λ f. line_left (scene_of f.view) f.base f.items f.order.turns };
 
-    ghost invariant = { λ f. (f.base ≤ 1) × (f.order.places ≡ length f.items) × (length f.items < 4294967296) × AreMeasuredItems f.items };
+    ghost invariant = { λ f. (f.base ≤ 1) × (f.order.places ≡ length f.items) × (length f.items < 4294967296) };
 }
 
 impl<'a> LineFrame<'a> {
     ghost use Rattle.std.specs.Prelude.{◌≡◌, ◌≤◌, [], IfOk};
     ghost use Rattle.rd_items.specs.Pieces.{scene_of};
-    ghost use Rattle.rd_items.specs.Items.{AreMeasuredItems};
     ghost use Rattle.rd_stack.specs.Lines.{item_turns};
     ghost use Rattle.rd_stack.specs.Steps.{line_left};
 
@@ -47,8 +45,7 @@ impl<'a> LineFrame<'a> {
         base: u8,
         items: Items,
     ) -> Result<LineFrame<'a>, Memory>
-        requires base { base ≤ 1 }
-        requires measured { AreMeasuredItems items }
+        requires { base ≤ 1 }
         ensures { IfOk result (λ f. f ≡ line_left (scene_of view.entry) base items (item_turns (scene_of view.entry) base items)) }
     {
         let order = order_of_items(alloc, &view, base, &items)?;

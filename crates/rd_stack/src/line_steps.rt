@@ -1,6 +1,6 @@
 //! The steps of the items of a block.
 ghost use Rattle.std.specs.Prelude.{◌≡◌, ◌≤◌, [], IfOk};
-ghost use Rattle.rd_items.specs.Pieces.{scene_of, IsMeasuredKind};
+ghost use Rattle.rd_items.specs.Pieces.{scene_of};
 ghost use Rattle.rd_glyphs.specs.Characters.{glyph_elements};
 ghost use Rattle.rd_stack.specs.Lines.{ellipsis_glyphs, origin_of};
 ghost use Rattle.rd_stack.specs.Steps.{outer_steps};
@@ -54,8 +54,7 @@ fn step_of<'a>(
     odd: bool,
     origin: Origin,
 ) -> Result<Step<'a>, Memory>
-    requires base { base ≤ 1 }
-    requires measured { IsMeasuredKind item.now.kind }
+    requires { base ≤ 1 }
     ensures { IfOk result (λ step. IsFirst step (outer_steps (scene_of view.entry) base item.now.kind item.now.overlay odd item.now.face origin) []) }
 {
     let face = item.face;

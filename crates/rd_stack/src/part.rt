@@ -2,7 +2,7 @@
 ghost use Rattle.std.specs.Prelude.{◌≡◌, ◌<◌, length};
 ghost use Rattle.rd_objects.specs.Texts.{face_of, spec_of};
 ghost use Rattle.rd_items.specs.Pieces.{scene_of, spec_in, inner_class, same_spec};
-ghost use Rattle.rd_stack.specs.Strings.{place_of, ends_row, spec_class, part_of, kind_code, IsMeasuredPart};
+ghost use Rattle.rd_stack.specs.Strings.{place_of, ends_row, spec_class, part_of, kind_code};
 
 use rd_base::{Ch, Class, Face, Glyph};
 use rd_glyphs::Joining;
@@ -110,8 +110,7 @@ fn inner_class(class: Class) -> Class
 
 /// The part of a place.
 pub fn part_of(view: &View, place: &Place) -> Part
-    ensures value { result ≡ part_of (scene_of view.now) place.now }
-    ensures measured { IsMeasuredPart result }
+    ensures { result ≡ part_of (scene_of view.now) place.now }
 {
     if let Some(number) = place.spec {
         let spec = spec_named(view.objects, number);

@@ -1,9 +1,11 @@
 //! The elements of a prefix.
 ghost use Rattle.std.specs.Prelude.{◌≡◌, ◌≤◌, [], IfOk, OnOk};
 ghost use Rattle.rd_items.specs.Pieces.{scene_of};
-ghost use Rattle.rd_stack.specs.Shown.{prefix, is_row_end, before_row_end, AreRight, AreInside, AreOfOneRow};
+ghost use Rattle.rd_stack.specs.Shown.{prefix, is_row_end, before_row_end, AreInside, AreOfOneRow};
 ghost use Rattle.rd_stack.specs.Walks.{walk_left};
 
+use crate::keeping::view_stays_sound;
+use crate::laws::prefixes_are_sound;
 use crate::step::Frame;
 use crate::string::StringFrame;
 use crate::walker::Walker;
@@ -25,6 +27,8 @@ pub fn string_line(
     ensures inside { IfOk result (λ elements. AreInside elements) }
     ensures row { IfOk result (λ elements. AreOfOneRow elements) }
 {
+    prefixes_are_sound();
+    view_stays_sound(view);
     let outside = Origin {
         item: u32::MAX,
         from: 0,
@@ -43,8 +47,7 @@ pub fn string_line(
 /// Adds the elements before the first end of a row.
 fn put_row(alloc: Global, walker: &mut Walker, elements: &mut ListOf<Element>) -> Result<(), Memory>
     requires { elements.old ≡ [] }
-    ensures value { OnOk result (elements.new ≡ before_row_end (walk_left walker.old.few walker.old.frames.items)) }
-    ensures right { OnOk result (AreRight elements.new) }
+    ensures { OnOk result (elements.new ≡ before_row_end (walk_left walker.old.few walker.old.frames.items)) }
 {
     while let Some(element) = walker.give(alloc)? {
         if is_row_end(element.look) {

@@ -2,7 +2,7 @@
 ghost use Rattle.std.specs.Prelude.{◌≡◌, ◌≤◌, ◌++◌, ◌∷◌, ℕ, List, [], map, length, false, IfOk, OnOk};
 ghost use Rattle.rd_items.specs.Pieces.{scene_of};
 ghost use Rattle.rd_levels.specs.Turns.{turns_of};
-ghost use Rattle.rd_stack.specs.Strings.{ends_row, part_class, part_code, run_heads, row, rows_from, shown_from, behind_row, AreMeasuredParts};
+ghost use Rattle.rd_stack.specs.Strings.{ends_row, part_class, part_code, run_heads, row, rows_from, shown_from, behind_row};
 ghost use Rattle.rd_stack.specs.declared.part.Place.{Place};
 ghost use Rattle.rd_stack.specs.declared.part.Part.{Part};
 
@@ -27,7 +27,6 @@ pub fn read_row(
     requires none { parts.old ≡ [] }
     ensures value { IfOk result (λ end. (base : ℕ) → row (scene_of view.now) base parts.new ++ behind_row (scene_of view.now) base replaced text.now under end ≡ shown_from (scene_of view.now) base replaced text.now under from) }
     ensures end { IfOk result (λ end. end ≤ length text.now.chars) }
-    ensures measured { OnOk result (AreMeasuredParts parts.new) }
 {
     let mut before = None;
     for i in from..text.len() {
@@ -49,8 +48,7 @@ fn put_place(
     parts: &mut ListOf<Part>,
 ) -> Result<(), Memory>
     requires { ends_row place.now ≡ false }
-    ensures value { OnOk result ((base : ℕ) (ps : List Place) → rows_from (scene_of view.now) base parts.new (run_heads place.now.spec ps) ≡ rows_from (scene_of view.now) base parts.old (run_heads before (place.now ∷ ps))) }
-    ensures measured { AreMeasuredParts parts.old → OnOk result (AreMeasuredParts parts.new) }
+    ensures { OnOk result ((base : ℕ) (ps : List Place) → rows_from (scene_of view.now) base parts.new (run_heads place.now.spec ps) ≡ rows_from (scene_of view.now) base parts.old (run_heads before (place.now ∷ ps))) }
 {
     if same_spec(before, place.spec) {
         return Ok(());

@@ -30,14 +30,13 @@ impl<'a> Model for StringFrame<'a> {
     ghost use Rattle.std.specs.Prelude.{◌≡◌, List, ◌≤◌, length};
     ghost use Rattle.rd_base.specs.declared.element.Element.{Element};
     ghost use Rattle.rd_items.specs.Pieces.{scene_of};
-    ghost use Rattle.rd_stack.specs.Strings.{AreMeasuredParts};
     ghost use Rattle.rd_stack.specs.Steps.{string_left};
 
     ghost Value = { List (List Element) };
 
     ghost view = { λ f. string_left (scene_of f.view) f.base f.replaced f.origin f.under f.text.now f.parts f.order.turns f.end };
 
-    ghost invariant = { λ f. (f.base ≤ 1) × (f.end ≤ length f.text.now.chars) × (f.order.places ≡ length f.parts) × AreMeasuredParts f.parts };
+    ghost invariant = { λ f. (f.base ≤ 1) × (f.end ≤ length f.text.now.chars) × (f.order.places ≡ length f.parts) };
 }
 
 impl<'a> StringFrame<'a> {

@@ -1,7 +1,6 @@
 //! The steps of strings.
 ghost use Rattle.std.specs.Prelude.{◌≡◌, ◌≤◌, ◌∷◌, [], slice_get, true, IfOk};
 ghost use Rattle.rd_items.specs.Pieces.{scene_of};
-ghost use Rattle.rd_stack.specs.Strings.{IsMeasuredKind};
 ghost use Rattle.rd_stack.specs.Shown.{kind_elements};
 ghost use Rattle.rd_stack.specs.Steps.{part_steps, text_steps};
 ghost use Rattle.rd_stack.specs.Walks.{IsFirst};
@@ -88,8 +87,7 @@ fn step_of<'a>(
     origin: Origin,
     part: &Shown,
 ) -> Result<Step<'a>, Memory>
-    requires base { base ≤ 1 }
-    requires measured { IsMeasuredKind part.now.kind }
+    requires { base ≤ 1 }
     ensures { IfOk result (λ step. IsFirst step (part_steps (scene_of view.entry) base replaced origin part.now) []) }
 {
     if replaced {
@@ -106,8 +104,7 @@ fn middle_step<'a>(
     origin: Origin,
     part: &Shown,
 ) -> Result<Step<'a>, Memory>
-    requires base { base ≤ 1 }
-    requires measured { IsMeasuredKind part.now.kind }
+    requires { base ≤ 1 }
     ensures { IfOk result (λ step. IsFirst step (part_steps (scene_of view.entry) base true origin part.now) []) }
 {
     match part.kind {
@@ -120,7 +117,6 @@ fn middle_step<'a>(
 
 /// The elements of a part that shows no other string.
 fn few_of(alloc: Global, view: &View, part: &Shown, origin: Origin) -> Result<Few, Memory>
-    requires { IsMeasuredKind part.now.kind }
     ensures { IfOk result (λ few. few ≡ kind_elements (scene_of view.now) part.now.kind part.now.face part.now.odd origin) }
 {
     match part.kind {

@@ -2,9 +2,9 @@
 ghost use Rattle.std.specs.Prelude.{◌≡◌, ◌≤◌, ◌<◌, IfOk, OnOk};
 
 use crate::few::Few;
-use crate::laws::lines_end_once;
+use crate::keeping::{reading_stays_sound, view_stays_sound};
+use crate::laws::{lines_are_sound, lines_end_once};
 use crate::line::LineFrame;
-use crate::measure::measure;
 use crate::step::{Frame, Step};
 use crate::string::StringFrame;
 use rd_base::{Element, Elements, Memory, Pos};
@@ -23,14 +23,13 @@ pub struct Walker<'a> {
 }
 
 impl<'a> Walker<'a> {
-    ghost use Rattle.std.specs.Prelude.{◌≡◌, ◌≤◌, ◌<◌, ◌^◌, ◌∷◌, ◌++◌, [], true, MatchOption, IfOk, IfSome, OnOk};
+    ghost use Rattle.std.specs.Prelude.{◌≡◌, ◌≤◌, ◌<◌, ◌^◌, ◌∷◌, ◌++◌, [], true, MatchOption, IfOk, OnOk};
     ghost use Rattle.rd_base.specs.Elements.{Takes, AreSound, columns_at_most, ends_once};
     ghost use Rattle.rd_base.specs.Glyphs.{AreMeasured};
     ghost use Rattle.rd_text.specs.Texts.{IsAccessible};
     ghost use Rattle.rd_props.specs.Buffers.{meaning};
     ghost use Rattle.rd_items.specs.Pieces.{scene_of};
     ghost use Rattle.rd_items.specs.Readings.{reading};
-    ghost use Rattle.rd_stack.specs.Shown.{IsRight};
     ghost use Rattle.rd_stack.specs.Lines.{line_elements};
     ghost use Rattle.rd_stack.specs.Steps.{elements_in};
     ghost use Rattle.rd_stack.specs.Walks.{frame_left, frames_left, walk_left, given, entered, work};
@@ -39,9 +38,7 @@ impl<'a> Walker<'a> {
     /// The elements of the line of the block that starts at a position, in a line of this base. They are those of its items in
     /// visual order from the reading edge: a character's, a space, the glyphs of an ellipsis, those of a display string or of an
     /// overlay's string; the last of them and no other is the line's end. Each is sound, and its glyphs have the columns that Unicode
-    /// gives them. They take fewer than 2^60 columns, a tab counted as its stop's width and a stretch up to a column as that column; a
-    /// line of more, which no objects within their limits make, has no other answer than want of memory. To know so much the line is
-    /// walked through once before.
+    /// gives them. They take fewer than 2^60 columns, a tab counted as its stop's width and a stretch up to a column as that column.
     pub fn start(alloc: Global, view: View<'a>, start: Pos, base: u8) -> Result<Walker<'a>, Memory>
         requires place { IsAccessible view.state.now.text start }
         requires base { base ≤ 1 }
@@ -53,8 +50,9 @@ impl<'a> Walker<'a> {
     {
         blocks_are_read_whole();
         lines_end_once();
-        let mut first = Walker::of_block(alloc, view, start, base)?;
-        measure(alloc, &mut first)?;
+        lines_are_sound();
+        view_stays_sound(&view);
+        reading_stays_sound(&view, start);
         Walker::of_block(alloc, view, start, base)
     }
 
@@ -83,8 +81,7 @@ impl<'a> Walker<'a> {
 
     /// Takes the next element, and None exactly where none is left.
     pub(crate) fn give(&mut self, alloc: Global) -> Result<Option<Element>, Memory>
-        ensures takes { Takes result (walk_left self.old.few self.old.frames.items) (walk_left self.new.few self.new.frames.items) }
-        ensures right { IfOk result (λ found. IfSome found (λ e. IsRight e)) }
+        ensures { Takes result (walk_left self.old.few self.old.frames.items) (walk_left self.new.few self.new.frames.items) }
     {
         loop {
             if let Some(element) = self.few.next() {

@@ -1,8 +1,6 @@
-use Rattle.std.proofs.Common.{sym, subst, ◌∙◌}
-use Rattle.std.proofs.lemmas.List.Elements.{All-push}
-use Rattle.rd_stack.specs.Shown.{IsRight, AreRight}
+use Rattle.std.proofs.Common.{sym, ◌∙◌}
 use Rattle.rd_stack.specs.Walks.{walk_left}
-use Rattle.rd_stack.proofs.Prefixes.{took, took-right, row-goes, row-stops, row-ends}
+use Rattle.rd_stack.proofs.Prefixes.{took, row-goes, row-stops, row-ends}
 use Rattle.rd_stack.proofs.prefix.put_row.Goals as goal
 
 pub loop-element-preserved : goal.loop-element-preserved
@@ -10,22 +8,18 @@ loop-element-preserved c =
     let e = c.in-Some.element in
     let old = walk_left c.loop-element.walker.few c.loop-element.walker.frames.items in
     let new = walk_left c.give.new.self.few c.give.new.self.frames.items in
-    record {
-      all = row-goes c.loop-element.elements c.push.new.self e old new _ c.in_ok-push.ensures.ok (took c.in_ok-element.field-0 e old new c.in-Some.is c.in_ok-element.ensures.takes)
-          (sym c.is_row_end.ensures ∙ c.if-is_row_end.false) c.loop-element.invariant.all;
-      right = subst AreRight (sym c.in_ok-push.ensures.ok)
-          (All-push IsRight c.loop-element.elements e c.loop-element.invariant.right (took-right c.in_ok-element.field-0 e c.in-Some.is c.in_ok-element.ensures.right));
-    }
+    row-goes c.loop-element.elements c.push.new.self e old new _ c.in_ok-push.ensures.ok (took c.in_ok-element.field-0 e old new c.in-Some.is c.in_ok-element.ensures)
+    (sym c.is_row_end.ensures ∙ c.if-is_row_end.false) c.loop-element.invariant
 
-pub returns-then-is_row_end-clause-value : goal.returns-then-is_row_end-clause-value
-returns-then-is_row_end-clause-value c =
+pub returns-then-is_row_end : goal.returns-then-is_row_end
+returns-then-is_row_end c =
     let e = c.in-Some.element in
     let old = walk_left c.loop-element.walker.few c.loop-element.walker.frames.items in
     let new = walk_left c.give.new.self.few c.give.new.self.frames.items in
-    row-stops c.loop-element.elements e old new _ (took c.in_ok-element.field-0 e old new c.in-Some.is c.in_ok-element.ensures.takes)
-    (sym c.is_row_end.ensures ∙ c.if-is_row_end.true) c.loop-element.invariant.all
+    row-stops c.loop-element.elements e old new _ (took c.in_ok-element.field-0 e old new c.in-Some.is c.in_ok-element.ensures)
+    (sym c.is_row_end.ensures ∙ c.if-is_row_end.true) c.loop-element.invariant
 
-pub returns-clause-value : goal.returns-clause-value
-returns-clause-value c =
+pub returns : goal.returns
+returns c =
     row-ends c.in_ok-element.field-0 c.loop-element.elements (walk_left c.loop-element.walker.few c.loop-element.walker.frames.items) (walk_left c.give.new.self.few c.give.new.self.frames.items) _
-    c.in_default.is c.in_ok-element.ensures.takes c.loop-element.invariant.all
+    c.in_default.is c.in_ok-element.ensures c.loop-element.invariant

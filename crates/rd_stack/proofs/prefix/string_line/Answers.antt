@@ -2,9 +2,10 @@ use Rattle.std.proofs.Common.{sym, subst, ap, ◌∙◌}
 use Rattle.std.specs.Prelude.{slice_get}
 use Rattle.rd_base.specs.Faces.{plain}
 use Rattle.rd_items.specs.Pieces.{scene_of}
-use Rattle.rd_stack.specs.Shown.{inner, outside, before_row_end, AreOpen, AreOfOneRow}
+use Rattle.rd_stack.specs.Shown.{inner, outside, prefix, before_row_end, AreInside, AreOfOneRow}
 use Rattle.rd_stack.proofs.Prefixes.{of-one-row, prefix-none, prefix-some, are-inside}
 use Rattle.rd_stack.proofs.Ends.{inner-open, before-open}
+use Rattle.rd_stack.proofs.Good.{both-right}
 use Rattle.rd_stack.proofs.prefix.string_line.Goals as goal
 
 pub returns-in_default-clause-value : goal.returns-in_default-clause-value
@@ -13,16 +14,20 @@ returns-in_default-clause-value c =
 
 pub returns-clause-value : goal.returns-clause-value
 returns-clause-value c =
-    c.in_ok-put_row.ensures.value
+    c.in_ok-put_row.ensures
     ∙ ap before_row_end
     (c.in_ok-walker.ensures ∙ prefix-some (scene_of c.args.view.now) c.args.base c.args.string c.in_ok-found.found c.in_ok-found.ensures c.in-Some.frame c.in-Some.is)
 
 pub returns-clause-inside : goal.returns-clause-inside
 returns-clause-inside c =
     let s = scene_of c.args.view.now in
-    let es = inner s c.args.base outside plain (slice_get s.objects.strings c.args.string) in
-    are-inside c.put_row.new.elements c.in_ok-put_row.ensures.right
-    (subst AreOpen (sym (returns-clause-value c)) (before-open es (inner-open s c.args.base outside plain (slice_get s.objects.strings c.args.string))))
+    let whole = prefix s c.args.base c.args.string in
+    let objects = c.view_stays_sound.ensures.objects in
+    let parts = c.view_stays_sound.ensures.parts in
+    subst AreInside (sym (returns-clause-value c))
+    (are-inside whole
+    (both-right whole (c.prefixes_are_sound.ensures.sound s c.args.base c.args.string objects parts) (c.prefixes_are_sound.ensures.measured s c.args.base c.args.string objects parts))
+    (before-open (inner s c.args.base outside plain (slice_get s.objects.strings c.args.string)) (inner-open s c.args.base outside plain (slice_get s.objects.strings c.args.string))))
 
 pub returns-clause-row : goal.returns-clause-row
 returns-clause-row c =
