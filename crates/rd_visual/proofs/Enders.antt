@@ -1,5 +1,5 @@
 -- The ender of a block has the last range, in visual order and in order of position.
-use Rattle.std.proofs.Common.{◌≡◌, ◌⊎◌, inl, inr, ℕ, zero, suc, ◌+◌, ◌<◌, ◌≤◌, ◌&&◌, not, nat_lt, Bool, true, false, if◌then◌else◌, List, [], ◌∷◌, ◌++◌, length, map, All, Option, None, Some, IfSome, refl, sym, ap, subst, ◌∙◌, arith, append-nil, append_assoc, true≢false}
+use Rattle.std.proofs.Common.{◌≡◌, inl, inr, ℕ, zero, suc, ◌+◌, ◌<◌, ◌≤◌, ◌&&◌, not, nat_lt, Bool, true, false, if◌then◌else◌, List, [], ◌∷◌, ◌++◌, length, map, All, Option, None, Some, IfSome, refl, sym, ap, subst, ◌∙◌, arith, append-nil, true≢false}
 use Rattle.std.specs.Prelude.{count_by, slice_get}
 use Rattle.std.specs.List.{flat_map, AllByRecursion, range_with_len}
 use Rattle.std.proofs.lemmas.Bool.Decides.{nat_tests}
@@ -7,9 +7,7 @@ use Rattle.std.proofs.lemmas.Grind.{flat_map-append}
 use Rattle.std.proofs.lemmas.List.{map-append, length-map}
 use Rattle.std.proofs.lemmas.List.Sums.{sum_by-append}
 use Rattle.std.proofs.lemmas.List.Elements.{All-nil, All-cons, All-append, All-head, All-tail}
-use Rattle.std.proofs.lemmas.Option.{slice_get_within}
 use Rattle.rd_base.specs.Faces.{Attributes}
-use Rattle.rd_base.specs.declared.cell.Glyph.{Glyph}
 use Rattle.rd_base.specs.declared.class.Class.{Class}
 use Rattle.rd_base.specs.declared.class.Class.TheVariants.{B}
 use Rattle.rd_objects.specs.declared.run.Spec.{Spec}
@@ -23,7 +21,7 @@ use Rattle.rd_props.specs.declared.hiding.Hidden.{Hidden}
 use Rattle.rd_props.specs.declared.hiding.Hidden.TheVariants.{No, Plain, Ellipsis}
 use Rattle.rd_items.specs.Covers.{Tile, CoverWhereTheyGive, EndOnce, is_ender_kind}
 use Rattle.rd_items.specs.Items.{piece_joins, items_by, covered_to, covering, items_of, kind_gives}
-use Rattle.rd_items.specs.Pieces.{Scene, spec_in, string_piece, string_pieces, spec_piece, char_piece, ender_piece, open_piece, unreplaced_piece, piece_by, piece_at, run_in, pieces_from}
+use Rattle.rd_items.specs.Pieces.{Scene, spec_in, string_pieces, spec_piece, char_piece, ender_piece, open_piece, unreplaced_piece, piece_by, piece_at, run_in, pieces_from}
 use Rattle.rd_items.specs.Readings.{showing_of}
 use Rattle.rd_items.specs.declared.item.Item.{Item}
 use Rattle.rd_items.specs.declared.item.ItemKind.{ItemKind}

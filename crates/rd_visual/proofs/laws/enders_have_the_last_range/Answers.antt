@@ -1,10 +1,9 @@
 use Rattle.std.proofs.Common.{ℕ, subst}
-use Rattle.rd_items.specs.Items.{items_of}
 use Rattle.rd_items.specs.Pieces.{scene_in}
 use Rattle.rd_items.specs.Readings.{reading}
 use Rattle.rd_visual.specs.Motion.{block_ranges}
 use Rattle.rd_visual.specs.Order.{EndsWithEnder, block_items, ordered_ranges}
-use Rattle.rd_visual.proofs.Counts.{Laws, is-block, block-tile, block-read}
+use Rattle.rd_visual.proofs.Counts.{Laws, is-block, block-read}
 use Rattle.rd_visual.proofs.Enders.{order-ends, turns-end}
 use Rattle.rd_visual.proofs.laws.enders_have_the_last_range.Goals as goal
 

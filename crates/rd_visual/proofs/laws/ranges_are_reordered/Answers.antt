@@ -1,4 +1,4 @@
-use Rattle.std.proofs.Common.{ℕ, ◌+◌, sym, ap, ◌∙◌, subst, arith, length}
+use Rattle.std.proofs.Common.{ℕ, ◌+◌, subst, arith, length}
 use Rattle.std.specs.Prelude.{◌≡◌}
 use Rattle.rd_items.specs.Pieces.{scene_in}
 use Rattle.rd_items.specs.Readings.{reading}
