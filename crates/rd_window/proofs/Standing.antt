@@ -1,5 +1,5 @@
 -- A window that rests on its last layout, and a new layout that stands.
-use Rattle.std.proofs.Common.{◌≡◌, ℕ, ◌+◌, ◌-◌, ◌<◌, ◌≤◌, inl, inr, Bool, true, false, not, if◌then◌else◌, ◌==◌, ◌&&◌, leb, ltb, min, List, [], ◌∷◌, ◌++◌, length, take, drop, slice_get, Option, Some, pos, ℤ, refl, sym, ap, ap₂, ◌∙◌, subst, arith, zero-add}
+use Rattle.std.proofs.Common.{◌≡◌, ℕ, suc, ◌+◌, ◌-◌, ◌<◌, ◌≤◌, inl, inr, Bool, true, false, not, if◌then◌else◌, ◌==◌, ◌&&◌, leb, ltb, min, List, [], ◌∷◌, ◌++◌, length, take, drop, slice_get, Option, Some, pos, ℤ, refl, sym, ap, ap₂, ◌∙◌, subst, arith, zero-add}
 use Rattle.std.specs.Ordering.{int_eq}
 use Rattle.std.specs.Option.{unwrap_or}
 use Rattle.std.proofs.lemmas.Bool.{and_parts, cases_Bool, eq-eqb, eqb-true, le-ltb, leb-true, lt-ltb, ltb-true}
@@ -7,9 +7,9 @@ use Rattle.std.proofs.lemmas.Bool.Decides.{Decides-int_eq, nat_tests}
 use Rattle.rd_base.specs.declared.settings.Anchor.{Anchor}
 use Rattle.rd_base.specs.declared.settings.Wrap.{Wrap}
 use Rattle.rd_base.specs.declared.settings.Wrap.TheVariants.{Truncate, Continue, Word}
-use Rattle.rd_matrix.specs.Blocks.{StandFrom, first_start}
+use Rattle.rd_matrix.specs.Blocks.{IsAmong, StandFrom, first_start}
 use Rattle.rd_matrix.proofs.Counting.{count-cons}
-use Rattle.rd_matrix.specs.Entries.{EntryMeaning, all_rows, shown_entries}
+use Rattle.rd_matrix.specs.Entries.{EntryMeaning, all_rows, numbered, shown_entries}
 use Rattle.rd_matrix.specs.Sources.{IsSource, SourceValues, rows_at}
 use Rattle.rd_matrix.specs.declared.block.Block.{Block}
 use Rattle.rd_reuse.specs.Changes.{none}
@@ -255,4 +255,30 @@ stands-new last m shape w new source low laid =
           ∙ (sym (ap (λ (n : ℕ). leb (length (rows_at m shape)) (n + w.height)) place)
           ∙ (sym (ap (λ (n : ℕ). leb (length (rows_at m shape)) (anchor_row (λ b. m.rows_of b shape) anchor m.blocks + n)) laid.height)
           ∙ sym (ap (λ (s : ShapeValues). leb (length (rows_at m s)) (anchor_row (λ b. m.rows_of b s) anchor m.blocks + new.height)) laid.shape_is)));
+    }
+
+-- ---- a source with equal rows
+
+same-rows : (f h : Block → List RowMeaning) (bs : List Block) → ((b : Block) → IsAmong bs b → h b ≡ f b) → all_rows h bs ≡ all_rows f bs
+same-rows f h [] each = refl
+same-rows f h (b ∷ bs) each =
+    ap₂ (λ (xs ys : List EntryMeaning). xs ++ ys) (ap (numbered b.start 0) (each b (0, refl))) (same-rows f h bs (λ x k. each x (suc k.0, k.1)))
+
+same-anchor : (f h : Block → List RowMeaning) (anchor : Anchor) (bs : List Block) → ((b : Block) → IsAmong bs b → h b ≡ f b) → anchor_row h anchor bs ≡ anchor_row f anchor bs
+same-anchor f h anchor [] each = refl
+same-anchor f h anchor (b ∷ bs) each =
+    ap₂ (λ (rows : List RowMeaning) (rest : ℕ). if ltb anchor.pos b.end then row_in_block anchor b.start rows else length rows + rest) (each b (0, refl))
+    (same-anchor f h anchor bs (λ x k. each x (suc k.0, k.1)))
+
+pub stands-on : (m n : SourceValues) (anchor : Anchor) (l : Layout) → n.blocks ≡ m.blocks → ((b : Block) → IsAmong m.blocks b → n.rows_of b l.shape ≡ m.rows_of b l.shape) → Stands m anchor l
+    → Stands n anchor l
+stands-on m n anchor l blocks each stands =
+    let f : Block → List RowMeaning = λ b. m.rows_of b l.shape in
+    let h : Block → List RowMeaning = λ b. n.rows_of b l.shape in
+    let rows : rows_at n l.shape ≡ rows_at m l.shape = ap (all_rows h) blocks ∙ same-rows f h m.blocks each in
+    let place : anchor_row h anchor n.blocks ≡ anchor_row f anchor m.blocks = ap (anchor_row h anchor) blocks ∙ same-anchor f h anchor m.blocks each in
+    record {
+      rows = stands.rows ∙ sym (ap₂ (λ (i : ℕ) (es : List EntryMeaning). take l.height (drop i es)) place rows);
+      top = stands.top ∙ sym (ap (λ (i : ℕ). i == 0) place);
+      bottom = stands.bottom ∙ sym (ap₂ (λ (i : ℕ) (es : List EntryMeaning). leb (length es) (i + l.height)) place rows);
     }

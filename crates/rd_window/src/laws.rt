@@ -1,7 +1,9 @@
 //! Laws of the definitions, for the layers above.
-ghost use Rattle.std.specs.Prelude.{[], Option};
-ghost use Rattle.rd_matrix.specs.Blocks.{IsWithin};
+ghost use Rattle.std.specs.Prelude.{◌≡◌, [], Option};
+ghost use Rattle.rd_base.specs.declared.settings.Anchor.{Anchor};
+ghost use Rattle.rd_matrix.specs.Blocks.{IsAmong, IsWithin};
 ghost use Rattle.rd_matrix.specs.Sources.{IsSource, SourceValues};
+ghost use Rattle.rd_matrix.specs.declared.block.Block.{Block};
 ghost use Rattle.rd_reuse.specs.Keeping.{AreRight};
 ghost use Rattle.rd_reuse.specs.declared.change.Change.{Change};
 ghost use Rattle.rd_rows.specs.Shapes.{IsShape, ShapeValues};
@@ -25,3 +27,10 @@ pub fn new_layouts_stand()
 {
     a_start_is_a_row();
 }
+
+/// A layout that stands over a source stands over each one with the same blocks, whose rows are the same at the layout's shape. The
+/// call does nothing.
+pub fn layouts_stand_over_equal_rows()
+    ensures { (m n : SourceValues) (anchor : Anchor) (l : Layout) → n.blocks ≡ m.blocks → ((b : Block) → IsAmong m.blocks b → n.rows_of b l.shape ≡ m.rows_of b l.shape)
+        → Stands m anchor l → Stands n anchor l }
+{}

@@ -9,6 +9,6 @@ mod resting;
 mod window;
 
 pub use again::{Laying, lay_out_again};
-pub use laws::{new_layouts_stand, no_rows_are_kept};
+pub use laws::{layouts_stand_over_equal_rows, new_layouts_stand, no_rows_are_kept};
 pub use layout::Layout;
 pub use window::{InView, lay_out};
