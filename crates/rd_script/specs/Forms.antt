@@ -25,9 +25,9 @@ abbrev pub each : (ℕ → Bool) → List ℕ → Bool
 each f [] = true
 each f (c ∷ cs) = f c && each f cs
 
--- a character that a buffer's name may have: none below 32, none from 127 to 159
+-- a character that a buffer's name may have: a scalar value, none below 32, none from 127 to 159
 abbrev pub is_name_character : ℕ → Bool
-is_name_character c = nat_le 32 c && (nat_lt c 127 || nat_le 160 c)
+is_name_character c = is_scalar c && (nat_le 32 c && (nat_lt c 127 || nat_le 160 c))
 
 -- how many characters a buffer's name may have
 abbrev pub is_name_length : ℕ → Bool
