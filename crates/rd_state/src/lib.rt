@@ -2,6 +2,10 @@
 //! makes of it, or why it is refused. As definitions, with laws of every op: states stay valid, and what an op leaves as it was.
 #![tactic(auto)]
 
+mod buffers;
+mod content;
+mod parts;
+
 mod effect;
 mod examples;
 mod laws;
