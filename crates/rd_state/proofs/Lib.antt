@@ -5,6 +5,7 @@ mod Contents
 mod Keeping
 mod Leaves
 mod Leaving
+mod Mapped
 mod Naming
 mod Opening
 mod Outcomes

@@ -5,6 +5,7 @@ pub mod Effects
 pub mod Examples
 pub mod Held
 pub mod Making
+pub mod Movable
 pub mod Moves
 pub mod States
 pub mod Steps
