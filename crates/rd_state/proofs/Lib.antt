@@ -2,6 +2,7 @@ mod AllSteps
 mod Below
 mod ByNumber
 mod Contents
+mod Finding
 mod Keeping
 mod Leaves
 mod Leaving

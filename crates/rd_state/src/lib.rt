@@ -12,6 +12,7 @@ mod laws;
 mod moves;
 mod refused;
 mod window;
+mod windows;
 
 pub use effect::Effect;
 pub use laws::{ops_leave_the_rest, settling_keeps_states, steps_keep_states, windows_are_leaves};

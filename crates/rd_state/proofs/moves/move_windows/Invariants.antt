@@ -1,6 +1,5 @@
-use Rattle.std.proofs.Common.{◌≡◌, ℕ, ◌≤◌, List, length, map, take, drop, ◌++◌}
+use Rattle.std.proofs.Common.{◌≡◌, map, take, drop, ◌++◌}
 use Rattle.rd_state.specs.Moves.{moved_in}
-use Rattle.rd_state.specs.Movable.{Entry}
 use Rattle.rd_state.proofs.moves.move_windows.Given as goal
 
 abbrev pub invariant-loop-i : goal.invariant-loop-i

@@ -1,0 +1,57 @@
+//! The windows that live, each under its number, in order of making.
+ghost use Rattle.std.specs.Prelude.{◌≡◌, ◌==◌, ◌<◌, length, position, IfOk, IfErr, OnErr, None};
+ghost use Rattle.rd_state.specs.Windows.{place_in, window_of};
+ghost use Rattle.rd_state.specs.declared.refused.Refused.TheVariants.{NoWindow};
+
+use crate::refused::Refused;
+use crate::window::WindowState;
+use rd_base::{Ch, ListOf, Memory};
+use std::alloc::Global;
+
+/// The place of the window with a number, counted from 0. It is refused exactly where the window does not live.
+pub(crate) fn find(windows: &[(u32, WindowState)], number: u64) -> Result<usize, Refused>
+    ensures place { IfOk result (λ i. i ≡ place_in number windows.now) }
+    ensures inside { IfOk result (λ i. i < length windows.now) }
+    ensures absent { OnErr result (window_of number windows.now ≡ None) }
+    ensures refused { IfErr result (λ e. e ≡ NoWindow) }
+{
+    match place_of(windows, number) {
+        Some(i) => Ok(i),
+        None => Err(Refused::NoWindow),
+    }
+}
+
+/// The place of the window with a number, counted from 0.
+fn place_of(windows: &[(u32, WindowState)], number: u64) -> Option<usize>
+    ensures { result ≡ position (λ e. e.0 == number) windows.now }
+{
+    windows.iter().position(|entry| entry.0 as u64 == number)
+}
+
+/// A window with all that another one has.
+pub(crate) fn copy(alloc: Global, window: &WindowState) -> Result<WindowState, Memory>
+    ensures { IfOk result (λ copy. copy ≡ window.now) }
+{
+    Ok(WindowState {
+        buffer: window.buffer,
+        point: window.point,
+        anchor: window.anchor,
+        forced: window.forced,
+        pending: window.pending,
+        hscroll: window.hscroll,
+        wrap: window.wrap,
+        format: copy_format(alloc, &window.format)?,
+        numbers: window.numbers,
+        strings: window.strings,
+    })
+}
+
+/// The same format.
+fn copy_format(alloc: Global, format: &Option<ListOf<Ch>>) -> Result<Option<ListOf<Ch>>, Memory>
+    ensures { IfOk result (λ copy. copy ≡ format.now) }
+{
+    match format {
+        Some(format) => Ok(Some(ListOf::from_slice(alloc, format.as_slice())?)),
+        None => Ok(None),
+    }
+}
