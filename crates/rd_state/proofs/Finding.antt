@@ -1,10 +1,17 @@
 -- Windows found by number.
-use Rattle.std.proofs.Common.{◌≡◌, ℕ, ◌<◌, ◌==◌, Bool, true, false, cond, not, None, Some, List, length, nat_lt, refl, arith, sym, ◌∙◌}
+use Rattle.std.proofs.Common.{◌≡◌, ℕ, ◌<◌, ◌==◌, Bool, true, false, cond, not, None, Some, Result, Ok, List, length, nat_lt, set, get_or, refl, ap, subst, arith, sym, ◌∙◌}
 use Rattle.std.proofs.lemmas.Bool.{ltb-false}
 use Rattle.std.proofs.lemmas.List.Sums.{prefix_len-le-length}
+use Rattle.std.proofs.lemmas.Option.{slice_get-get_or}
+use Rattle.std.specs.List.{remove}
 use Rattle.std.specs.Prelude.{position}
-use Rattle.rd_state.specs.Windows.{window_of, place_in}
-use Rattle.rd_state.proofs.ByNumber.{Entry, absent}
+use Rattle.rd_state.specs.declared.refused.Refused.{Refused}
+use Rattle.rd_state.specs.declared.refused.Refused.TheVariants.{NoWindow}
+use Rattle.rd_state.specs.declared.window.WindowState.{WindowState}
+use Rattle.rd_state.specs.States.{StateValue}
+use Rattle.rd_state.specs.Steps.{with_found, in_window, changing, setting}
+use Rattle.rd_state.specs.Windows.{window_of, place_in, with_window, without_window}
+use Rattle.rd_state.proofs.ByNumber.{Entry, IsPlace, found, absent}
 
 missed : (b : Bool) (n : ℕ) → cond b (Some n) None ≡ None → b ≡ false
 missed true n h = absurd (cc)
@@ -15,3 +22,38 @@ pub nowhere : (number : ℕ) (ws : List Entry) → position (λ e. e.0 == number
 nowhere number ws h =
     let past = ltb-false (place_in number ws) (length ws) (missed (nat_lt (place_in number ws) (length ws)) (place_in number ws) h) in
     absent number ws (omega (arith, past, prefix_len-le-length (λ (e : Entry). not (e.0 == number)) ws))
+
+-- an entry that stands at the place of a number
+pub record IsFound (n i : ℕ) (ws : List Entry) (e : Entry) : Type 0 where
+  pub number : e.0 ≡ n
+  pub window : window_of n ws ≡ Some e.1
+  pub changed : (f : WindowState → WindowState) → set ws i (e.0, f e.1) ≡ with_window n f ws
+  pub removed : remove ws i ≡ without_window n ws
+
+from-place : (n i : ℕ) (ws : List Entry) (w : WindowState) → IsPlace n i ws w → IsFound n i ws (n, w)
+from-place n i ws w p = record { number = refl; window = p.window; changed = p.changed; removed = p.removed }
+
+pub found-entry : (n i : ℕ) (ws : List Entry) (e : Entry) → i ≡ place_in n ws → i < length ws → e ≡ get_or ws i e → IsFound n i ws e
+found-entry n i ws e is less at =
+    let there = found n i ws is less in
+    let same : (n, there.0) ≡ e = cc (sym there.1.at ∙ (slice_get-get_or ws i e less ∙ ap Some (sym at))) in
+    subst (IsFound n i ws) same (from-place n i ws there.0 there.1)
+
+-- what `find` answers, of the windows of a state
+pub found-in : (s : StateValue) (ws : List Entry) (n i : ℕ) (e : Entry) → ws ≡ s.windows → i ≡ place_in n ws → i < length ws → e ≡ get_or s.windows i e → IsFound n i s.windows e
+found-in s ws n i e shown is less at =
+    found-entry n i s.windows e (subst (λ xs. i ≡ place_in n xs) shown is) (subst (λ xs. i < length xs) shown less) at
+
+-- what is done to a window that was found
+pub at-window : (s t : StateValue) (n i : ℕ) (e : Entry) (g : StateValue → WindowState → Result StateValue Refused) → t ≡ s → IsFound n i t.windows e → in_window s n (g s) ≡ g t e.1
+at-window s t n i e g same there =
+    ap (λ x. in_window x n (g x)) (sym same) ∙ ap (λ o. with_found NoWindow o (g t)) there.window
+
+-- a window that becomes another
+pub changes-window : (s t : StateValue) (n i : ℕ) (e : Entry) (f : WindowState → WindowState) → t ≡ s → IsFound n i t.windows e
+    → record s { windows = with_window n f s.windows } ≡ record t { windows = set t.windows i (e.0, f e.1) }
+changes-window s t n i e f same there =
+    ap (λ (x : StateValue). record x { windows = with_window n f x.windows }) (sym same) ∙ ap (λ xs. record t { windows = xs }) (sym (there.changed f))
+
+pub sets-window : (s t : StateValue) (n i : ℕ) (e : Entry) (f : WindowState → WindowState) → t ≡ s → IsFound n i t.windows e → setting s n f ≡ Ok (record t { windows = set t.windows i (e.0, f e.1) })
+sets-window s t n i e f same there = at-window s t n i e (λ x w. changing n f (Ok x)) same there ∙ ap (λ x. Ok x) (changes-window t t n i e f refl there)

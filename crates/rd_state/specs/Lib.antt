@@ -7,6 +7,7 @@ pub mod Held
 pub mod Making
 pub mod Movable
 pub mod Moves
+pub mod Shown
 pub mod States
 pub mod Steps
 pub mod Valid

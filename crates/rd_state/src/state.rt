@@ -8,7 +8,7 @@ ghost use Rattle.rd_state.specs.Windows.{window_of};
 ghost use Rattle.rd_state.specs.Valid.{IsValid};
 ghost use Rattle.rd_state.specs.Steps.{settled};
 ghost use Rattle.rd_state.specs.Answers.{IsApplied, Applies};
-ghost use Rattle.rd_state.specs.Held.{IsShownAt};
+ghost use Rattle.rd_state.specs.Shown.{IsShownAt};
 
 use crate::buffers::{add, find};
 use crate::effect::Effect;

@@ -1,0 +1,96 @@
+//! The ops that change how the windows share the frame.
+ghost use Rattle.rd_script.specs.declared.op.Op.TheVariants.{Split, Remove, ModeLine, Margin};
+ghost use Rattle.rd_script.specs.Forms.{IsInForm};
+ghost use Rattle.rd_state.specs.Answers.{Applies};
+ghost use Rattle.rd_state.specs.Shown.{ChecksFormat};
+ghost use Rattle.rd_state.specs.Steps.{format_fault};
+ghost use Rattle.rd_state.specs.Valid.{IsValid};
+
+use crate::effect::Effect;
+use crate::parts::Parts;
+use crate::refused::Refused;
+use crate::windows::{copy, find};
+use rd_base::{Ch, ListOf};
+use rd_modeline::check;
+use rd_tree::{Side, needs_are_exact, windows_tile_their_rectangle};
+
+impl Parts {
+    /// Splits a window, which keeps so many rows or columns. The new window has all of the old one but what waits to be scrolled.
+    #[tactic(auto, unfolding(crate::specs::Steps::step, crate::specs::Effects::effect_of))]
+    pub(crate) fn split(&mut self, window: u64, side: Side, size: u64) -> Result<Effect, Refused>
+        requires valid { IsValid self.old }
+        ensures { Applies result (Split window side size) self.old self.new }
+    {
+        needs_are_exact();
+        windows_tile_their_rectangle();
+        let i = find(self.windows.as_slice(), window)?;
+        let mut twin = copy(*self.windows.allocator(), &self.windows[i].1)?;
+        twin.forced = false;
+        twin.pending = 0;
+        self.windows.reserve(1)?;
+        let size = size.min(u32::MAX as u64) as u32;
+        let number = self.tree.split(self.windows[i].0, side, size)?;
+        self.windows.push((number, twin))?;
+        Ok(Effect::Nothing)
+    }
+
+    /// Takes a window away. Where it was the selected one, the first window of its sibling is selected.
+    #[tactic(auto, unfolding(crate::specs::Steps::step, crate::specs::Effects::effect_of))]
+    pub(crate) fn remove(&mut self, window: u64) -> Result<Effect, Refused>
+        ensures { Applies result (Remove window) self.old self.new }
+    {
+        let i = find(self.windows.as_slice(), window)?;
+        let number = self.windows[i].0;
+        let heir = self.tree.remove(number)?;
+        self.windows.remove(i);
+        if self.selected == number {
+            self.selected = heir;
+        }
+        Ok(Effect::Nothing)
+    }
+
+    /// Gives a window's mode line a format, or takes the mode line away.
+    #[tactic(auto, unfolding(crate::specs::Steps::step, crate::specs::Effects::effect_of))]
+    pub(crate) fn mode_line(
+        &mut self,
+        window: u64,
+        format: Option<ListOf<Ch>>,
+    ) -> Result<Effect, Refused>
+        ensures { Applies result (ModeLine window format) self.old self.new }
+    {
+        let i = find(self.windows.as_slice(), window)?;
+        check_format(&format)?;
+        self.tree.mode(self.windows[i].0, format.is_some())?;
+        self.windows[i].1.format = format;
+        Ok(Effect::Nothing)
+    }
+
+    /// Gives a window margins of so many columns.
+    #[tactic(auto, unfolding(crate::specs::Steps::step, crate::specs::Effects::effect_of))]
+    pub(crate) fn set_margins(
+        &mut self,
+        window: u64,
+        numbers: u32,
+        strings: u32,
+    ) -> Result<Effect, Refused>
+        requires form { IsInForm (Margin window numbers strings) }
+        ensures { Applies result (Margin window numbers strings) self.old self.new }
+    {
+        let i = find(self.windows.as_slice(), window)?;
+        self.tree.margins(self.windows[i].0, numbers + strings)?;
+        let view = &mut self.windows[i].1;
+        view.numbers = numbers;
+        view.strings = strings;
+        Ok(Effect::Nothing)
+    }
+}
+
+/// Whether a format is good, which is refused with the place of its first bad code.
+fn check_format(format: &Option<ListOf<Ch>>) -> Result<(), Refused>
+    ensures { ChecksFormat result (format_fault format.now) }
+{
+    match format {
+        Some(format) => Ok(check(format.as_slice())?),
+        None => Ok(()),
+    }
+}
