@@ -2,15 +2,26 @@
 //! makes of it, or why it is refused. As definitions, with laws of every op: states stay valid, and what an op leaves as it was.
 #![tactic(auto)]
 
+mod adding;
+mod buffer;
 mod buffers;
 mod content;
-mod parts;
-
+mod editing;
 mod effect;
 mod examples;
 mod laws;
+mod made;
 mod moves;
+mod objects;
+mod overlay;
+mod parts;
+mod property;
+mod putting;
+mod raw;
 mod refused;
+mod setting;
+mod table;
+mod values;
 mod window;
 mod windows;
 

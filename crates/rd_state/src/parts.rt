@@ -33,7 +33,7 @@ impl Model for Parts {
       buffers = buffers_of p.buffers.entries;
       objects = p.objects;
       tree = p.tree;
-      windows = p.windows;
+      windows = p.windows.items;
       selected = p.selected;
       width = p.width;
       height = p.height;

@@ -1,0 +1,137 @@
+//! The ops on the texts of buffers.
+ghost use Rattle.rd_script.specs.Forms.{IsInForm};
+ghost use Rattle.rd_script.specs.declared.op.Op.TheVariants.{Buffer as MakeBuffer, Insert, InsertRaw, TypeText, Delete, Narrow, Widen};
+ghost use Rattle.rd_state.specs.Answers.{Applies};
+ghost use Rattle.rd_state.specs.Valid.{IsValid};
+
+use crate::buffers::{add, delete_at, find, insert_at, narrow_at, widen_at};
+use crate::effect::Effect;
+use crate::moves::{Move, move_windows};
+use crate::parts::Parts;
+use crate::raw::raw_text;
+use crate::refused::Refused;
+use crate::windows;
+use rd_base::Ch;
+use rd_base::limits::BUFFERS;
+use rd_script::BufferName;
+
+/// How many buffers there can be.
+const MOST_BUFFERS: usize = BUFFERS as usize;
+
+impl Parts {
+    /// Makes an empty buffer.
+    #[tactic(auto, unfolding(crate::specs::Steps::step, crate::specs::Effects::effect_of))]
+    pub(crate) fn make_buffer(&mut self, name: BufferName) -> Result<Effect, Refused>
+        requires { IsValid self.old }
+        ensures { Applies result (MakeBuffer name) self.old self.new }
+    {
+        if find(&self.buffers, name.as_str()).is_ok() {
+            return Err(Refused::NameTaken);
+        }
+        if MOST_BUFFERS <= self.buffers.len() {
+            return Err(Refused::TooManyBuffers);
+        }
+        add(&mut self.buffers, name)?;
+        Ok(Effect::Nothing)
+    }
+
+    /// Puts a text in.
+    #[tactic(auto, unfolding(crate::specs::Steps::step, crate::specs::Effects::effect_of))]
+    pub(crate) fn insert(&mut self, name: &str, pos: u64, text: &[Ch]) -> Result<Effect, Refused>
+        requires { IsValid self.old }
+        ensures { Applies result (Insert name.now pos text.now) self.old self.new }
+    {
+        let i = find(&self.buffers, name)?;
+        insert_at(&mut self.buffers, i, pos, text)?;
+        let (buffer, from, added) = (i as u32, pos as u32, text.len() as u32);
+        move_windows(&mut self.windows, buffer, Move::Inserted(from, added));
+        Ok(Effect::Edit {
+            buffer,
+            from,
+            removed: 0,
+            added,
+        })
+    }
+
+    /// Puts raw bytes in.
+    #[tactic(auto, unfolding(crate::specs::Steps::step, crate::specs::Effects::effect_of))]
+    pub(crate) fn insert_raw(
+        &mut self,
+        name: &str,
+        pos: u64,
+        bytes: &[u8],
+    ) -> Result<Effect, Refused>
+        requires valid { IsValid self.old }
+        requires form { IsInForm (InsertRaw name.now pos bytes.now) }
+        ensures { Applies result (InsertRaw name.now pos bytes.now) self.old self.new }
+    {
+        let text = raw_text(*self.buffers.allocator(), bytes)?;
+        self.insert(name, pos, text.as_slice())
+    }
+
+    /// Puts a text in at the selected window's point, which moves behind it.
+    #[tactic(auto, unfolding(crate::specs::Steps::step, crate::specs::Effects::effect_of))]
+    pub(crate) fn type_text(&mut self, text: &[Ch]) -> Result<Effect, Refused>
+        requires { IsValid self.old }
+        ensures { Applies result (TypeText text.now) self.old self.new }
+    {
+        let w = windows::find(self.windows.as_slice(), self.selected as u64)?;
+        let (buffer, from) = (self.windows[w].1.buffer, self.windows[w].1.point);
+        insert_at(&mut self.buffers, buffer as usize, from as u64, text)?;
+        let added = text.len() as u32;
+        move_windows(&mut self.windows, buffer, Move::Inserted(from, added));
+        self.windows[w].1.point = from + added;
+        Ok(Effect::Edit {
+            buffer,
+            from,
+            removed: 0,
+            added,
+        })
+    }
+
+    /// Takes a range away.
+    #[tactic(auto, unfolding(crate::specs::Steps::step, crate::specs::Effects::effect_of))]
+    pub(crate) fn delete(&mut self, name: &str, from: u64, to: u64) -> Result<Effect, Refused>
+        requires { IsValid self.old }
+        ensures { Applies result (Delete name.now from to) self.old self.new }
+    {
+        let i = find(&self.buffers, name)?;
+        delete_at(&mut self.buffers, i, from, to)?;
+        let (buffer, from, to) = (i as u32, from as u32, to as u32);
+        move_windows(&mut self.windows, buffer, Move::Deleted(from, to));
+        Ok(Effect::Edit {
+            buffer,
+            from,
+            removed: to - from,
+            added: 0,
+        })
+    }
+
+    /// Makes a range the accessible one.
+    #[tactic(auto, unfolding(crate::specs::Steps::step, crate::specs::Effects::effect_of))]
+    pub(crate) fn narrow(&mut self, name: &str, from: u64, to: u64) -> Result<Effect, Refused>
+        requires { IsValid self.old }
+        ensures { Applies result (Narrow name.now from to) self.old self.new }
+    {
+        let i = find(&self.buffers, name)?;
+        narrow_at(&mut self.buffers, i, from, to)?;
+        let buffer = i as u32;
+        move_windows(
+            &mut self.windows,
+            buffer,
+            Move::Narrowed(from as u32, to as u32),
+        );
+        Ok(Effect::All { buffer })
+    }
+
+    /// Makes the whole text accessible.
+    #[tactic(auto, unfolding(crate::specs::Steps::step, crate::specs::Effects::effect_of))]
+    pub(crate) fn widen(&mut self, name: &str) -> Result<Effect, Refused>
+        requires { IsValid self.old }
+        ensures { Applies result (Widen name.now) self.old self.new }
+    {
+        let i = find(&self.buffers, name)?;
+        widen_at(&mut self.buffers, i);
+        Ok(Effect::All { buffer: i as u32 })
+    }
+}

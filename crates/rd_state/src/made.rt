@@ -1,0 +1,143 @@
+//! Whether the objects that ops name were made.
+ghost use Rattle.std.specs.Prelude.{◌≡◌, ◌<◌, ℕ, true, None, Some, IfOk, IfErr, OnErr, IfSome, length};
+ghost use Rattle.rd_objects.specs.Sound.{AreObjects};
+ghost use Rattle.rd_script.specs.Forms.{IsPropertyValue};
+ghost use Rattle.rd_state.specs.declared.refused.Refused.TheVariants.{NoObject};
+ghost use Rattle.rd_state.specs.Edits.{is_made, is_value_made, is_setting_made};
+ghost use Rattle.rd_state.specs.Held.{IsFitting};
+
+use crate::refused::Refused;
+use rd_base::limits::STRINGS;
+use rd_objects::Objects;
+use rd_overlays::Kind;
+use rd_script::Setting;
+
+/// No sort of objects has more.
+const MOST_NUMBERS: u64 = STRINGS as u64;
+
+/// The value of a kind in 32 bits, which is refused where it names an object that was not made.
+pub(crate) fn made_value(
+    objects: &Objects,
+    kind: Kind,
+    value: Option<u64>,
+) -> Result<Option<u32>, Refused>
+    requires objects { AreObjects objects.now }
+    requires form { IsPropertyValue kind value }
+    ensures same { IfOk result (λ number. number ≡ value) }
+    ensures made { IfOk result (λ number. is_value_made objects.now kind value ≡ true) }
+    ensures absent { OnErr result (is_value_made objects.now kind value ≡ false) }
+    ensures refused { IfErr result (λ e. e ≡ NoObject) }
+{
+    match value {
+        Some(number) => {
+            if is_value(objects, kind, number) {
+                Ok(Some(number as u32))
+            } else {
+                Err(Refused::NoObject)
+            }
+        }
+        None => Ok(None),
+    }
+}
+
+/// Whether a number is a value of a kind: that of an object that was made, or any atom.
+fn is_value(objects: &Objects, kind: Kind, number: u64) -> bool
+    requires objects { AreObjects objects.now }
+    ensures value { result ≡ is_value_made objects.now kind (Some number) }
+    ensures small { result ≡ true → IsPropertyValue kind (Some number) → number < 4294967296 }
+{
+    match kind {
+        Kind::Face => is_face(objects, number),
+        Kind::Display => is_spec(objects, number),
+        Kind::Invisible => true,
+        Kind::LinePrefix => is_string(objects, number),
+        Kind::WrapPrefix => is_string(objects, number),
+        Kind::Before => is_string(objects, number),
+        Kind::After => is_string(objects, number),
+    }
+}
+
+/// The number of a string in 32 bits, or none, which is refused where no string of the number was made.
+pub(crate) fn made_string(objects: &Objects, number: Option<u64>) -> Result<Option<u32>, Refused>
+    requires { AreObjects objects.now }
+    ensures same { IfOk result (λ string. string ≡ number) }
+    ensures made { IfOk result (λ string. is_made (length objects.now.strings) number ≡ true) }
+    ensures absent { OnErr result (is_made (length objects.now.strings) number ≡ false) }
+    ensures refused { IfErr result (λ e. e ≡ NoObject) }
+{
+    match number {
+        Some(number) => {
+            if is_string(objects, number) {
+                Ok(Some(number as u32))
+            } else {
+                Err(Refused::NoObject)
+            }
+        }
+        None => Ok(None),
+    }
+}
+
+/// Whether the object that a setting names was made.
+pub(crate) fn names_made(objects: &Objects, setting: &Setting) -> bool
+    requires { AreObjects objects.now }
+    ensures value { result ≡ is_setting_made objects.now setting.now }
+    ensures small { result ≡ true → IsFitting setting.now }
+{
+    match setting {
+        Setting::Table(number) => names_table(objects, *number),
+        Setting::LinePrefix(number) => names_string(objects, *number),
+        Setting::WrapPrefix(number) => names_string(objects, *number),
+        _ => true,
+    }
+}
+
+/// Whether a table was made, or none is named.
+fn names_table(objects: &Objects, number: Option<u64>) -> bool
+    requires { AreObjects objects.now }
+    ensures value { result ≡ is_made (length objects.now.tables) number }
+    ensures small { result ≡ true → IfSome number (λ n. n < 4294967296) }
+{
+    match number {
+        Some(n) => n < MOST_NUMBERS && objects.table(n as u32).is_some(),
+        None => true,
+    }
+}
+
+/// Whether a string was made, or none is named.
+fn names_string(objects: &Objects, number: Option<u64>) -> bool
+    requires { AreObjects objects.now }
+    ensures value { result ≡ is_made (length objects.now.strings) number }
+    ensures small { result ≡ true → IfSome number (λ n. n < 4294967296) }
+{
+    match number {
+        Some(n) => is_string(objects, n),
+        None => true,
+    }
+}
+
+/// Whether a string was made.
+fn is_string(objects: &Objects, number: u64) -> bool
+    requires { AreObjects objects.now }
+    ensures value { result ≡ is_made (length objects.now.strings) (Some number) }
+    ensures small { result ≡ true → number < 4294967296 }
+{
+    number < MOST_NUMBERS && objects.string(number as u32).is_some()
+}
+
+/// Whether a face was made.
+pub(crate) fn is_face(objects: &Objects, number: u64) -> bool
+    requires { AreObjects objects.now }
+    ensures value { result ≡ is_made (length objects.now.faces) (Some number) }
+    ensures small { result ≡ true → number < 4294967296 }
+{
+    number < MOST_NUMBERS && objects.face(number as u32).is_some()
+}
+
+/// Whether a display spec was made.
+pub(crate) fn is_spec(objects: &Objects, number: u64) -> bool
+    requires { AreObjects objects.now }
+    ensures value { result ≡ is_made (length objects.now.specs) (Some number) }
+    ensures small { result ≡ true → number < 4294967296 }
+{
+    number < MOST_NUMBERS && objects.spec(number as u32).is_some()
+}

@@ -1,0 +1,159 @@
+//! The ops on the properties, the overlays and the settings of buffers.
+ghost use Rattle.std.specs.Prelude.{◌≡◌, Some};
+ghost use Rattle.rd_script.specs.Forms.{IsInForm};
+ghost use Rattle.rd_script.specs.declared.op.Op.TheVariants.{Put, Overlay as MakeOverlay, OverlayMove, OverlayDrop, OverlayPut, Setting as SetSetting, MarginPut};
+ghost use Rattle.rd_state.specs.Answers.{Applies};
+ghost use Rattle.rd_state.specs.Effects.{restyled, covered_effect};
+ghost use Rattle.rd_state.specs.Valid.{IsValid};
+
+use crate::buffers::{
+    drop_overlay_at, find, make_overlay_at, mark_at, move_overlay_at, overlay_at,
+    put_at, put_on_overlay_at, set_at,
+};
+use crate::effect::Effect;
+use crate::parts::Parts;
+use crate::refused::Refused;
+use rd_base::Pos;
+use rd_overlays::{Kind, Overlay};
+use rd_script::Setting;
+
+impl Parts {
+    /// Gives a text property another value on a range.
+    #[tactic(auto, unfolding(crate::specs::Steps::step, crate::specs::Effects::effect_of))]
+    pub(crate) fn put(
+        &mut self,
+        name: &str,
+        from: u64,
+        to: u64,
+        kind: Kind,
+        value: Option<u64>,
+    ) -> Result<Effect, Refused>
+        requires valid { IsValid self.old }
+        requires form { IsInForm (Put name.now from to kind value) }
+        ensures { Applies result (Put name.now from to kind value) self.old self.new }
+    {
+        let i = find(&self.buffers, name)?;
+        put_at(&mut self.buffers, &self.objects, i, from, to, kind, value)?;
+        Ok(restyled(i as u32, from as u32, to as u32))
+    }
+
+    /// Makes an overlay without values.
+    #[tactic(auto, unfolding(crate::specs::Steps::step, crate::specs::Effects::effect_of))]
+    pub(crate) fn make_overlay(
+        &mut self,
+        name: &str,
+        from: u64,
+        to: u64,
+        priority: i32,
+        front: bool,
+        rear: bool,
+    ) -> Result<Effect, Refused>
+        requires { IsValid self.old }
+        ensures { Applies result (MakeOverlay name.now from to priority front rear) self.old self.new }
+    {
+        let i = find(&self.buffers, name)?;
+        make_overlay_at(&mut self.buffers, i, from, to, priority, front, rear)?;
+        Ok(restyled(i as u32, from as u32, to as u32))
+    }
+
+    /// Gives an overlay another range.
+    #[tactic(auto, unfolding(crate::specs::Steps::step, crate::specs::Effects::effect_of))]
+    pub(crate) fn move_overlay(
+        &mut self,
+        name: &str,
+        number: u64,
+        from: u64,
+        to: u64,
+    ) -> Result<Effect, Refused>
+        requires { IsValid self.old }
+        ensures { Applies result (OverlayMove name.now number from to) self.old self.new }
+    {
+        let i = find(&self.buffers, name)?;
+        let overlay = overlay_at(&self.buffers, i, number)?;
+        move_overlay_at(&mut self.buffers, i, number, from, to)?;
+        Ok(Effect::Moved {
+            buffer: i as u32,
+            before: (overlay.from, overlay.to),
+            after: (from as u32, to as u32),
+        })
+    }
+
+    /// Takes an overlay away.
+    #[tactic(auto, unfolding(crate::specs::Steps::step, crate::specs::Effects::effect_of))]
+    pub(crate) fn drop_overlay(&mut self, name: &str, number: u64) -> Result<Effect, Refused>
+        requires { IsValid self.old }
+        ensures { Applies result (OverlayDrop name.now number) self.old self.new }
+    {
+        let i = find(&self.buffers, name)?;
+        let overlay = overlay_at(&self.buffers, i, number)?;
+        drop_overlay_at(&mut self.buffers, i, number)?;
+        Ok(covered(i as u32, overlay))
+    }
+
+    /// Gives an overlay another value of a kind.
+    #[tactic(auto, unfolding(crate::specs::Steps::step, crate::specs::Effects::effect_of))]
+    pub(crate) fn put_on_overlay(
+        &mut self,
+        name: &str,
+        number: u64,
+        kind: Kind,
+        value: Option<u64>,
+    ) -> Result<Effect, Refused>
+        requires valid { IsValid self.old }
+        requires form { IsInForm (OverlayPut name.now number kind value) }
+        ensures { Applies result (OverlayPut name.now number kind value) self.old self.new }
+    {
+        let i = find(&self.buffers, name)?;
+        let overlay = overlay_at(&self.buffers, i, number)?;
+        put_on_overlay_at(&mut self.buffers, &self.objects, i, number, kind, value)?;
+        Ok(covered(i as u32, overlay))
+    }
+
+    /// Gives an overlay another margin string.
+    #[tactic(auto, unfolding(crate::specs::Steps::step, crate::specs::Effects::effect_of))]
+    pub(crate) fn put_in_margin(
+        &mut self,
+        name: &str,
+        number: u64,
+        string: Option<u64>,
+    ) -> Result<Effect, Refused>
+        requires { IsValid self.old }
+        ensures { Applies result (MarginPut name.now number string) self.old self.new }
+    {
+        let i = find(&self.buffers, name)?;
+        mark_at(&mut self.buffers, &self.objects, i, number, string)?;
+        Ok(Effect::Nothing)
+    }
+
+    /// Sets a setting of a buffer.
+    #[tactic(auto, unfolding(crate::specs::Steps::step, crate::specs::Effects::effect_of))]
+    pub(crate) fn set(&mut self, name: &str, setting: Setting) -> Result<Effect, Refused>
+        requires valid { IsValid self.old }
+        requires form { IsInForm (SetSetting name.now setting) }
+        ensures { Applies result (SetSetting name.now setting) self.old self.new }
+    {
+        let i = find(&self.buffers, name)?;
+        set_at(&mut self.buffers, &self.objects, i, setting)?;
+        Ok(Effect::All { buffer: i as u32 })
+    }
+}
+
+/// The text of a buffer from one position up to another may look otherwise.
+fn restyled(buffer: u32, from: Pos, to: Pos) -> Effect
+    ensures { result ≡ restyled buffer from to }
+{
+    let count = to.saturating_sub(from);
+    Effect::Edit {
+        buffer,
+        from,
+        removed: count,
+        added: count,
+    }
+}
+
+/// The same of the text that an overlay covers.
+fn covered(buffer: u32, overlay: Overlay) -> Effect
+    ensures { result ≡ covered_effect buffer (Some overlay) }
+{
+    restyled(buffer, overlay.from, overlay.to)
+}

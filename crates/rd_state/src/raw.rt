@@ -1,0 +1,30 @@
+//! Raw bytes as characters.
+ghost use Rattle.std.specs.Prelude.{◌≡◌, ◌+◌, ◌≤◌, All, IfOk};
+ghost use Rattle.rd_script.specs.Forms.{IsRawByte};
+ghost use Rattle.rd_state.specs.Steps.{raw_text};
+
+use rd_base::{Ch, ListOf, Memory};
+use std::alloc::Global;
+
+/// The characters of raw bytes.
+pub(crate) fn raw_text(alloc: Global, bytes: &[u8]) -> Result<ListOf<Ch>, Memory>
+    requires { All IsRawByte bytes.now }
+    ensures { IfOk result (λ text. text ≡ raw_text bytes.now) }
+{
+    let mut text = ListOf::new(alloc);
+    for byte in bytes {
+        text.push(raw_character(*byte))?;
+    }
+    Ok(text)
+}
+
+/// The character of a raw byte.
+fn raw_character(byte: u8) -> Ch
+    requires { 128 ≤ byte }
+    ensures { result ≡ 1114112 + byte }
+{
+    match Ch::raw(byte) {
+        Some(ch) => ch,
+        None => unreachable!(),
+    }
+}
