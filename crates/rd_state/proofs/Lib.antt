@@ -1,8 +1,12 @@
 mod AllSteps
 mod Below
+mod ByName
 mod ByNumber
 mod Contents
+mod Edited
+mod Faults
 mod Finding
+mod Glyphs
 mod Keeping
 mod Leaves
 mod Leaving
