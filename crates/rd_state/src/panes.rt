@@ -9,7 +9,7 @@ ghost use Rattle.rd_state.specs.Valid.{IsValid};
 use crate::effect::Effect;
 use crate::parts::Parts;
 use crate::refused::Refused;
-use crate::windows::{copy, find};
+use crate::windows::{add, copy, find, make_room};
 use rd_base::{Ch, ListOf};
 use rd_modeline::check;
 use rd_tree::{Side, needs_are_exact, windows_tile_their_rectangle};
@@ -27,10 +27,10 @@ impl Parts {
         let mut twin = copy(*self.windows.allocator(), &self.windows[i].1)?;
         twin.forced = false;
         twin.pending = 0;
-        self.windows.reserve(1)?;
+        make_room(&mut self.windows)?;
         let size = size.min(u32::MAX as u64) as u32;
         let number = self.tree.split(self.windows[i].0, side, size)?;
-        self.windows.push((number, twin))?;
+        add(&mut self.windows, number, twin);
         Ok(Effect::Nothing)
     }
 

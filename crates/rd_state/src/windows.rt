@@ -1,5 +1,6 @@
 //! The windows that live, each under its number, in order of making.
-ghost use Rattle.std.specs.Prelude.{◌≡◌, ◌==◌, ◌<◌, length, position, IfOk, IfErr, OnErr, None};
+ghost use Rattle.std.specs.Prelude.{◌≡◌, ◌==◌, ◌<◌, length, position, IfOk, IfErr, OnOk, OnErr, None, ◌++◌, ◌∷◌, []};
+ghost use Rattle.std.specs.Vec.{vec_len, vec_capacity};
 ghost use Rattle.rd_state.specs.Windows.{place_in, window_of};
 ghost use Rattle.rd_state.specs.declared.refused.Refused.TheVariants.{NoWindow};
 
@@ -53,5 +54,24 @@ fn copy_format(alloc: Global, format: &Option<ListOf<Ch>>) -> Result<Option<List
     match format {
         Some(format) => Ok(Some(ListOf::from_slice(alloc, format.as_slice())?)),
         None => Ok(None),
+    }
+}
+
+/// Makes room for one more window.
+pub(crate) fn make_room(windows: &mut Vec<(u32, WindowState)>) -> Result<(), Memory>
+    ensures same { windows.new.items ≡ windows.old.items }
+    ensures room { OnOk result (vec_len windows.new < vec_capacity windows.new) }
+{
+    windows.reserve(1)?;
+    Ok(())
+}
+
+/// Adds a window, for which there is room.
+pub(crate) fn add(windows: &mut Vec<(u32, WindowState)>, number: u32, window: WindowState)
+    requires { vec_len windows.old < vec_capacity windows.old }
+    ensures { windows.new.items ≡ windows.old.items ++ (number, window) ∷ [] }
+{
+    if windows.push((number, window)).is_err() {
+        unreachable!()
     }
 }
