@@ -25,9 +25,13 @@ pub(crate) struct Parts {
 }
 
 impl Model for Parts {
-    ghost use Rattle.rd_state.specs.States.{StateValue, buffers_of};
+    ghost use Rattle.std.specs.Coded.{codes};
+    ghost use Rattle.rd_tree.specs.Codes.{configuration_code};
+    ghost use Rattle.rd_state.specs.States.{StateValue, buffers_of, mark_code};
 
     ghost Value = { StateValue };
+
+    ghost coded = { Prim.hlevel (codes, configuration_code, mark_code) };
 
     ghost view = { λ p. record {
       buffers = buffers_of p.buffers.entries;

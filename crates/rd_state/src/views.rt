@@ -145,7 +145,7 @@ fn accessible(buffers: &Buffers, i: usize, pos: u64) -> Result<Pos, Refused>
     ensures refused { IfErr result (λ e. e ≡ OutOfRange) }
 {
     let text = text_at(buffers, i);
-    if pos < text.begin() as u64 || text.end() as u64 < pos {
+    if pos < text.begin() as u64 || (text.end() as u64) < pos {
         return Err(Refused::OutOfRange);
     }
     Ok(pos as u32)
