@@ -21,7 +21,7 @@ const MOST_BUFFERS: usize = BUFFERS as usize;
 impl Parts {
     /// Makes an empty buffer.
     #[tactic(auto, unfolding(crate::specs::Steps::step, crate::specs::Effects::effect_of))]
-    pub(crate) fn make_buffer(&mut self, name: BufferName) -> Result<Effect, Refused>
+    pub(crate) fn make(&mut self, name: BufferName) -> Result<Effect, Refused>
         requires { IsValid self.old }
         ensures { Applies result (MakeBuffer name) self.old self.new }
     {

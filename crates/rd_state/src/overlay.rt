@@ -1,6 +1,6 @@
 //! The ops on the overlays of one buffer.
-ghost use Rattle.std.specs.Prelude.{◌≡◌, ◌<◌, ◌≤◌, ℕ, true, List, Ok, None, Some, IfOk, IfErr, OnErr, length};
-ghost use Rattle.rd_overlays.specs.Overlays.{overlay_at};
+ghost use Rattle.std.specs.Prelude.{◌≡◌, ◌<◌, ◌≤◌, ℕ, true, List, Ok, None, Some, IfOk, IfErr, OnOk, OnErr, length};
+ghost use Rattle.rd_overlays.specs.Overlays.{overlay_at, given};
 ghost use Rattle.rd_props.specs.Buffers.{meaning};
 ghost use Rattle.rd_margins.specs.Marks.{MarkValues};
 ghost use Rattle.rd_state.specs.Held.{content_of};
@@ -11,7 +11,7 @@ ghost use Rattle.rd_state.specs.declared.refused.Refused.TheVariants.{NoOverlay}
 
 use crate::refused::Refused;
 use rd_base::limits::OVERLAYS;
-use rd_overlays::{Overlay, Overlays};
+use rd_overlays::{Kind, Overlay, Overlays};
 use rd_props::BufferState;
 use rd_text::Buffer;
 

@@ -111,7 +111,7 @@ impl Parts {
 
     /// Gives an overlay another margin string.
     #[tactic(auto, unfolding(crate::specs::Steps::step, crate::specs::Effects::effect_of))]
-    pub(crate) fn put_in_margin(
+    pub(crate) fn mark(
         &mut self,
         name: &str,
         number: u64,
