@@ -94,7 +94,7 @@ either-leaf k false a b x h g = g refl
 
 -- ---- what is placed
 
-abbrev facts : Placed → Leaf
+abbrev pub facts : Placed → Leaf
 facts p = (p.mode, p.margins)
 
 front-or : (t : Bool) (x : Placed) (a b c : Option Placed) → c ≡ option_or a b → (if t then Some x else c) ≡ option_or (if t then Some x else a) b
@@ -113,7 +113,7 @@ map-if : (t : Bool) (x : Placed) → option_map facts (if t then Some x else Non
 map-if true x = refl
 map-if false x = refl
 
-leaf-placed : (n : ℕ) (ws : Windows) (rect : Rect) → option_map facts (of_number n (placed ws rect)) ≡ leaf_at n ws
+pub leaf-placed : (n : ℕ) (ws : Windows) (rect : Rect) → option_map facts (of_number n (placed ws rect)) ≡ leaf_at n ws
 leaf-placed n (Window m mode margins) rect = map-if (m == n) (record { number = m; mode = mode; margins = margins; rect = rect })
 leaf-placed n (Split side size first second) rect =
     let a = placed first (first_part side size rect) in

@@ -14,9 +14,11 @@ mod Mapped
 mod Naming
 mod Opening
 mod Outcomes
+mod Panes
 mod Showing
 mod Slots
 mod Stepping
 mod Tables
 mod Tests
+mod Viewing
 mod Within

@@ -14,5 +14,4 @@ IsShownAt s window p = (w : WindowState) (b : BufferValue) → window_of window 
 -- what the call that checks a format answers, where this is the place of its first bad code
 abbrev pub ChecksFormat : {A : Type 0} → Result A Refused → Option ℕ → Type 0
 ChecksFormat (Ok _) fault = fault ≡ None
-ChecksFormat (Err (BadFormat place)) fault = fault ≡ Some place
-ChecksFormat (Err refusal) fault = ⊥
+ChecksFormat (Err e) fault = (place : ℕ) × (e ≡ BadFormat place) × (fault ≡ Some place)

@@ -1,0 +1,205 @@
+-- What the ops leave that change how the windows share the frame.
+use Rattle.std.proofs.Common.{◌≡◌, ◌≢◌, ℕ, ◌+◌, ◌-◌, ◌<◌, ◌≤◌, ◌==◌, ◌&&◌, Bool, true, false, inl, inr, is_some, if◌then◌else◌, nat_le, min, pos, Option, None, Some, Result, Ok, Err, List, [], ◌∷◌, ◌++◌, set, ap, subst, sym, refl, ◌∙◌, arith}
+use Rattle.std.proofs.lemmas.Bool.{cases_lt}
+use Rattle.std.proofs.lemmas.Bool.Decides.{nat_tests}
+use Rattle.std.specs.List.{remove}
+use Rattle.std.specs.Prelude.{IsErr, option_map}
+use Rattle.std.specs.Result.{IsErrAnd}
+use Rattle.rd_script.specs.declared.op.Op.{Op}
+use Rattle.rd_script.specs.declared.op.Op.TheVariants.{Split as SplitWindow}
+use Rattle.rd_tree.specs.Calls.{Configuration, frame_of, is_full, split_to, split_tree, remove_tree, mode_tree, margins_tree, Splits}
+use Rattle.rd_tree.specs.Calls as tree
+use Rattle.rd_tree.specs.Places.{StandsIn}
+use Rattle.rd_tree.specs.Windows.{Windows, HasRoom, fits, first_leaf, halves, holds, sibling, split_at, window_at}
+use Rattle.rd_tree.specs.declared.fault.TreeFault.{TreeFault}
+use Rattle.rd_tree.specs.declared.fault.TreeFault.TheVariants as tree_faults
+use Rattle.rd_tree.specs.declared.placed.Placed.{Placed}
+use Rattle.rd_tree.specs.declared.rect.Rect.{Rect}
+use Rattle.rd_tree.specs.declared.side.Side.{Side}
+use Rattle.rd_tree.specs.declared.side.Side.TheVariants.{Below, Right}
+use Rattle.rd_state.specs.declared.effect.Effect.{Effect}
+use Rattle.rd_state.specs.declared.refused.Refused.{Refused}
+use Rattle.rd_state.specs.declared.refused.Refused.TheVariants.{Memory}
+use Rattle.rd_state.specs.declared.window.WindowState.{WindowState}
+use Rattle.rd_state.specs.Answers.{Applies}
+use Rattle.rd_state.specs.Shown.{ChecksFormat}
+use Rattle.rd_state.specs.States.{StateValue}
+use Rattle.rd_state.specs.Steps.{changing, format_fault, in_window, mode_lining, on_tree, refused_tree, removing, splitting, step, unless_bad}
+use Rattle.rd_state.specs.Windows.{without_window}
+use Rattle.rd_state.proofs.ByNumber.{Entry, eq-true, eq-false}
+use Rattle.rd_state.proofs.Finding.{IsFound, at-window}
+use Rattle.rd_state.proofs.Leaves.{facts, is_some-leaf, leaf-placed}
+use Rattle.rd_state.proofs.Opening.{chosen, passed}
+
+-- ---- refusals
+
+-- a refusal that was said, and that leaves the state as it was
+pub refuses : (r : Result Effect Refused) (op : Op) (s t : StateValue) (e : Refused) → IsErr r → IsErrAnd r (λ x. x ≡ e) → t ≡ s → step s op ≡ Err e → Applies r op s t
+refuses (Ok x) op s t e is and same said = absurd (cc)
+refuses (Err x) op s t e is and same said = (same, λ _. said ∙ ap (λ y. Err y) (sym and))
+
+-- what a window's tree refuses
+pub tree-refuses : (s t : StateValue) (n i : ℕ) (e : Entry) (q : StateValue → Result Configuration TreeFault) (h : StateValue → WindowState → Configuration → StateValue) (fault : TreeFault)
+    → t ≡ s → IsFound n i t.windows e → q t ≡ Err fault → in_window s n (λ w. on_tree (q s) (h s w)) ≡ Err (refused_tree fault)
+tree-refuses s t n i e q h fault same there said =
+    at-window s t n i e (λ x w. on_tree (q x) (h x w)) same there ∙ ap (λ r. on_tree r (h t e.1)) said
+
+-- the same where a window would change with it
+pub tree-refuses-change : (s t : StateValue) (n i : ℕ) (e : Entry) (f : WindowState → WindowState) (q : StateValue → Result Configuration TreeFault) (h : StateValue → Configuration → StateValue)
+    (fault : TreeFault) → t ≡ s → IsFound n i t.windows e → q t ≡ Err fault → in_window s n (λ w. changing n f (on_tree (q s) (h s))) ≡ Err (refused_tree fault)
+tree-refuses-change s t n i e f q h fault same there said =
+    at-window s t n i e (λ x w. changing n f (on_tree (q x) (h x))) same there ∙ ap (λ r. changing n f (on_tree r (h t))) said
+
+-- the tree is asked by the number that stands beside the window
+pub asked : {X : Type 0} (q : ℕ → X) (n i : ℕ) (ws : List Entry) (e : Entry) (x : X) → IsFound n i ws e → q e.0 ≡ x → q n ≡ x
+asked q n i ws e x there said = ap q (sym there.number) ∙ said
+
+-- ---- a window taken away
+
+pub removes-window : (s t : StateValue) (n i : ℕ) (e : Entry) (d : Configuration) (ws : List Entry) (heir : ℕ) → t ≡ s → IsFound n i t.windows e → remove_tree t.tree n ≡ Ok d
+    → ws ≡ remove t.windows i → heir ≡ (if t.selected == n then first_leaf (sibling n t.tree.windows) else t.selected)
+    → removing s n ≡ Ok (record t { tree = d; windows = ws; selected = heir })
+removes-window s t n i e d ws heir same there said is chosen_is =
+    let left : (x : StateValue) (c : Configuration) → StateValue = λ x c. record x {
+      tree = c;
+      windows = without_window n x.windows;
+      selected = if x.selected == n then first_leaf (sibling n x.tree.windows) else x.selected;
+    } in
+    at-window s t n i e (λ x w. on_tree (remove_tree x.tree n) (left x)) same there
+    ∙ (ap (λ r. on_tree r (left t)) said
+    ∙ (ap (λ xs. Ok (record t { tree = d; windows = xs; selected = if t.selected == n then first_leaf (sibling n t.tree.windows) else t.selected })) (sym there.removed ∙ sym is)
+    ∙ ap (λ k. Ok (record t { tree = d; windows = ws; selected = k })) (sym chosen_is)))
+
+pub heir-chosen : (old n e heir : ℕ) (ws : Windows) → e ≡ n → heir ≡ first_leaf (sibling e ws) → old ≡ e → heir ≡ (if old == n then first_leaf (sibling n ws) else old)
+heir-chosen old n e heir ws number is same =
+    is ∙ (ap (λ k. first_leaf (sibling k ws)) number ∙ sym (chosen (old == n) (first_leaf (sibling n ws)) old (eq-true old n (same ∙ number))))
+
+pub heir-passed : (old n e : ℕ) (ws : Windows) → e ≡ n → (old ≡ e → ⊥) → old ≡ (if old == n then first_leaf (sibling n ws) else old)
+heir-passed old n e ws number other = sym (passed (old == n) (first_leaf (sibling n ws)) old (eq-false old n (λ p. other (p ∙ sym number))))
+
+-- ---- a window that changes with the tree
+
+pub changes-with-tree : (s t : StateValue) (n i : ℕ) (e : Entry) (f : WindowState → WindowState) (q : StateValue → Result Configuration TreeFault) (d : Configuration)
+    → t ≡ s → IsFound n i t.windows e → q t ≡ Ok d
+    → in_window s n (λ w. changing n f (on_tree (q s) (λ c. record s { tree = c }))) ≡ Ok (record t { tree = d; windows = set t.windows i (e.0, f e.1) })
+changes-with-tree s t n i e f q d same there said =
+    at-window s t n i e (λ x w. changing n f (on_tree (q x) (λ c. record x { tree = c }))) same there
+    ∙ (ap (λ r. changing n f (on_tree r (λ c. record t { tree = c }))) said ∙ ap (λ xs. Ok (record t { tree = d; windows = xs })) (sym (there.changed f)))
+
+-- ---- splits
+
+no-columns : (margins width size : ℕ) → width ≤ size → nat_le (11 + margins) (width - size) ≡ false
+no-columns margins width size h = grind (arith, nat_tests)
+
+no-rows : (mode : Bool) (height size : ℕ) → height ≤ size → nat_le (if mode then 2 else 1) (height - size) ≡ false
+no-rows true height size h = grind (arith, nat_tests)
+no-rows false height size h = grind (arith, nat_tests)
+
+and-left : (a b : Bool) → a ≡ false → (a && b) ≡ false
+and-left true b h = absurd (cc)
+and-left false b h = refl
+
+and-right : (a b : Bool) → b ≡ false → (a && b) ≡ false
+and-right true b h = h
+and-right false b h = refl
+
+-- a window that keeps all of its rectangle leaves no room for a new one
+too-small : (n size new margins : ℕ) (side : Side) (mode : Bool) (rect : Rect) → rect.width ≤ size → rect.height ≤ size → fits (halves n side size new mode margins) rect ≡ false
+too-small n size new margins Right mode rect wide high = and-right _ _ (and-left _ _ (no-columns margins rect.width size wide))
+too-small n size new margins Below mode rect wide high = and-right _ _ (and-right _ _ (no-rows mode rect.height size high))
+
+abbrev pub SplitLaw : Type 0
+SplitLaw = (number : ℕ) (side : Side) (size new : ℕ) (windows : Windows) (rect : Rect) (window : Placed) → HasRoom windows rect → window_at number windows rect ≡ Some window
+    → fits (split_at number side size new windows) rect ≡ fits (halves number side size new window.mode window.margins) window.rect
+
+abbrev pub InsideLaw : Type 0
+InsideLaw = (number : ℕ) (windows : Windows) (rect : Rect) (window : Placed) → HasRoom windows rect → window_at number windows rect ≡ Some window → StandsIn window rect
+
+placed-held : (o : Option Placed) (held : Bool) → is_some (option_map facts o) ≡ held → held ≡ true → (p : Placed) × (o ≡ Some p)
+placed-held None held is h = absurd (cc)
+placed-held (Some p) held is h = (p, refl)
+
+-- so it does with any size that no frame has
+never-fits : (split : SplitLaw) (inside : InsideLaw) (c : Configuration) (n size new : ℕ) (side : Side) → tree.IsValid c → 400 ≤ size → holds n c.windows ≡ true
+    → fits (split_at n side size new c.windows) (frame_of c) ≡ false
+never-fits split inside c n size new side valid large held =
+    let at = placed-held (window_at n c.windows (frame_of c)) (holds n c.windows) (ap is_some (leaf-placed n c.windows (frame_of c)) ∙ is_some-leaf n c.windows) held in
+    let stands = inside n c.windows (frame_of c) at.0 valid.room at.1 in
+    let within = stands.0 in
+    let wide = within.1 in
+    let high = within.3 in
+    let columns = valid.wide in
+    let rows = valid.high in
+    split n side size new c.windows (frame_of c) at.0 valid.room at.1
+    ∙ too-small n size new at.0.margins side at.0.mode at.0.rect (omega (arith, wide, columns, large)) (omega (arith, high, rows, large))
+
+both-refuse : (held a b full : Bool) (x y : Configuration) → (held ≡ true → a ≡ false) → (held ≡ true → b ≡ false)
+    → ◌≡◌ {A = Result Configuration TreeFault}
+    (if held then (if a then (if full then Err tree_faults.TooMany else Ok x) else Err tree_faults.TooSmall) else Err tree_faults.NoWindow)
+    (if held then (if b then (if full then Err tree_faults.TooMany else Ok y) else Err tree_faults.TooSmall) else Err tree_faults.NoWindow)
+both-refuse false a b full x y f g = refl
+both-refuse true true b full x y f g = absurd (let no : true ≡ false = f refl in cc)
+both-refuse true false true full x y f g = absurd (let no : true ≡ false = g refl in cc)
+both-refuse true false false full x y f g = refl
+
+-- a size of 64 bits is asked for in 32
+pub split-clamped : (split : SplitLaw) (inside : InsideLaw) (c : Configuration) (n size short : ℕ) (side : Side) → tree.IsValid c → short ≡ min size 4294967295
+    → split_tree c n side size ≡ split_tree c n side short
+unfolding split_tree
+split-clamped split inside c n size short side valid is = elim (cases_lt size 4294967296) [
+  | inl less ↦ ap (λ k. split_tree c n side k) (omega (arith, is, less))
+  | inr more ↦
+      both-refuse (holds n c.windows) (fits (split_at n side size c.made c.windows) (frame_of c)) (fits (split_at n side short c.made c.windows) (frame_of c)) (is_full c) _ _
+      (never-fits split inside c n size c.made side valid (omega (arith, more)))
+      (never-fits split inside c n short c.made side valid (omega (arith, is, more)))
+]
+
+pub splits-window : (s t : StateValue) (n i : ℕ) (e : Entry) (side : Side) (size : ℕ) (d : Configuration) (w : WindowState) (made : ℕ) (ws : List Entry) → t ≡ s → IsFound n i t.windows e
+    → split_tree t.tree n side size ≡ Ok d → made ≡ t.tree.made → w ≡ record e.1 { forced = false; pending = pos 0 } → ws ≡ t.windows ++ (made, w) ∷ []
+    → splitting s n side size ≡ Ok (record t { tree = d; windows = ws })
+splits-window s t n i e side size d w made ws same there said number copy is =
+    let twin : WindowState → WindowState = λ x. record x { forced = false; pending = pos 0 } in
+    let after : (x : StateValue) → WindowState → Configuration → StateValue = λ x v c. record x { tree = c; windows = x.windows ++ (x.tree.made, twin v) ∷ [] } in
+    at-window s t n i e (λ x v. on_tree (split_tree x.tree n side size) (after x v)) same there
+    ∙ (ap (λ r. on_tree r (after t e.1)) said
+    ∙ (ap (λ k. Ok (record t { tree = d; windows = t.windows ++ (k, twin e.1) ∷ [] })) (sym number)
+    ∙ (ap (λ v. Ok (record t { tree = d; windows = t.windows ++ (made, v) ∷ [] })) (sym copy) ∙ ap (λ xs. Ok (record t { tree = d; windows = xs })) (sym is))))
+
+split-said : (x : Refused) (fault : TreeFault) (said : Result Configuration TreeFault) (s t u : StateValue) (n i : ℕ) (e : Entry) (side : Side) (size : ℕ) (d : Configuration)
+    → x ≡ refused_tree fault → t ≡ s → IsFound n i t.windows e → split_tree t.tree n side size ≡ said → (d ≡ t.tree) × (said ≡ Err fault) → u ≡ record t { tree = d }
+    → Applies (Err x) (SplitWindow n side size) s u
+unfolding step
+split-said x fault said s t u n i e side size d and same there asks splits leaves =
+    let after : (y : StateValue) → WindowState → Configuration → StateValue = λ y v c. record y { tree = c; windows = y.windows ++ (y.tree.made, record v { forced = false; pending = pos 0 }) ∷ [] } in (
+      leaves ∙ (ap (λ c. record t { tree = c }) splits.0 ∙ same),
+      λ _. tree-refuses s t n i e (λ y. split_tree y.tree n side size) after fault same there (asks ∙ splits.1) ∙ ap (λ y. Err y) (sym and),
+    )
+
+-- a split that the tree refuses, or that finds no memory
+pub split-refused : (r : Result Effect Refused) (fault : TreeFault) (said : Result Configuration TreeFault) (s t u : StateValue) (n i : ℕ) (e : Entry) (side : Side) (size : ℕ) (d : Configuration)
+    → IsErr r → IsErrAnd r (λ x. x ≡ refused_tree fault) → t ≡ s → IsFound n i t.windows e → split_tree t.tree n side size ≡ said → Splits (Err fault) said t.tree d → u ≡ record t { tree = d }
+    → Applies r (SplitWindow n side size) s u
+unfolding step
+split-refused (Ok x) fault said s t u n i e side size d is and same there asks splits leaves = absurd (cc)
+split-refused (Err x) tree_faults.Memory said s t u n i e side size d is and same there asks splits leaves =
+    (leaves ∙ (ap (λ c. record t { tree = c }) splits ∙ same), λ not. absurd (not and))
+split-refused (Err x) tree_faults.NoWindow said s t u n i e side size d is and same there asks splits leaves = split-said x tree_faults.NoWindow said s t u n i e side size d and same there asks splits leaves
+split-refused (Err x) tree_faults.TooSmall said s t u n i e side size d is and same there asks splits leaves = split-said x tree_faults.TooSmall said s t u n i e side size d and same there asks splits leaves
+split-refused (Err x) tree_faults.TooMany said s t u n i e side size d is and same there asks splits leaves = split-said x tree_faults.TooMany said s t u n i e side size d and same there asks splits leaves
+split-refused (Err x) tree_faults.LastWindow said s t u n i e side size d is and same there asks splits leaves = split-said x tree_faults.LastWindow said s t u n i e side size d and same there asks splits leaves
+
+-- ---- mode lines
+
+-- where a format is bad a window's mode line does not change
+pub format-refuses : (s t : StateValue) (n i : ℕ) (e : Entry) (format : Option (List ℕ)) (x : Refused) → t ≡ s → IsFound n i t.windows e → ChecksFormat {A = Unit {0}} (Err x) (format_fault format)
+    → mode_lining s n format ≡ Err x
+format-refuses s t n i e format x same there bad =
+    let done : StateValue → Result StateValue Refused = λ y. changing n (λ old. record old { format = format }) (on_tree (mode_tree y.tree n (is_some format)) (λ c. record y { tree = c })) in
+    at-window s t n i e (λ y w. unless_bad (format_fault format) (done y)) same there
+    ∙ (ap (λ o. unless_bad o (done t)) bad.2 ∙ ap (λ y. Err y) (sym bad.1))
+
+-- where it is good the window changes with the tree
+pub good-format : (s : StateValue) (n : ℕ) (format : Option (List ℕ)) → format_fault format ≡ None
+    → mode_lining s n format ≡ in_window s n (λ w. changing n (λ old. record old { format = format }) (on_tree (mode_tree s.tree n (is_some format)) (λ c. record s { tree = c })))
+good-format s n format good =
+    ap (λ o. in_window s n (λ w. unless_bad o (changing n (λ old. record old { format = format }) (on_tree (mode_tree s.tree n (is_some format)) (λ c. record s { tree = c }))))) good

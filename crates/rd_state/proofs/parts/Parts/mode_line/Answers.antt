@@ -1,0 +1,30 @@
+use Rattle.std.proofs.Common.{◌≡◌, is_some, refl, ap, ◌∙◌}
+use Rattle.rd_script.specs.declared.op.Op.TheVariants.{ModeLine}
+use Rattle.rd_tree.specs.Calls.{mode_tree}
+use Rattle.rd_state.specs.contracts.parts.Parts.{the_view}
+use Rattle.rd_state.specs.declared.window.WindowState.{WindowState}
+use Rattle.rd_state.specs.States.{StateValue}
+use Rattle.rd_state.specs.Effects.{effect_of}
+use Rattle.rd_state.specs.Steps.{refused_tree, step}
+use Rattle.rd_state.proofs.Finding.{found-in}
+use Rattle.rd_state.proofs.Panes.{refuses, tree-refuses-change, asked, changes-with-tree, good-format, format-refuses}
+use Rattle.rd_state.proofs.parts.Parts.mode_line.Goals as goal
+
+pub returns-in_err-mode : goal.returns-in_err-mode
+unfolding step
+returns-in_err-mode c = ?
+
+pub returns : goal.returns
+unfolding step effect_of
+returns c =
+    let t = the_view c.self.inside in
+    let there = found-in t c.as_slice.result.now c.args.window c.in_ok-i.i c.index.result.now c.as_slice.ensures.value c.in_ok-i.ensures.place c.in_ok-i.ensures.inside c.index.ensures in
+    let there_2 = found-in t c.as_slice.result.now c.args.window c.in_ok-i.i c.index_mut.result.now c.as_slice.ensures.value c.in_ok-i.ensures.place c.in_ok-i.ensures.inside c.index_mut.ensures.value in
+    let n = c.args.window in
+    let f : WindowState → WindowState = λ old. record old { format = c.args.format } in
+    (
+      good-format c.args.self.now n c.args.format ? ∙
+      changes-with-tree c.args.self.now t n c.in_ok-i.i c.index_mut.result.now f (λ x. mode_tree x.tree n (is_some c.args.format)) c.mode.new.self c.self.view_is there_2
+      (asked (λ k. mode_tree t.tree k (is_some c.args.format)) n c.in_ok-i.i t.windows c.index.result.now _ there c.in_ok-mode.ensures),
+      refl,
+    )
