@@ -14,7 +14,7 @@ mod Mapped
 mod Naming
 mod Opening
 mod Outcomes
-mod Panes
+mod Sharing
 mod Showing
 mod Slots
 mod Stepping

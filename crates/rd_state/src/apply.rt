@@ -20,7 +20,7 @@ impl Parts {
     {
         match op {
             Op::Frame { width, height } => self.resize(width, height),
-            Op::Buffer { name } => self.make_buffer(name),
+            Op::Buffer { name } => self.make(name),
             Op::Insert { buffer, pos, text } => self.insert(buffer.as_str(), pos, text.as_slice()),
             Op::InsertRaw { buffer, pos, bytes } => {
                 self.insert_raw(buffer.as_str(), pos, bytes.as_slice())
@@ -106,7 +106,7 @@ impl Parts {
                 buffer,
                 overlay,
                 string,
-            } => self.put_in_margin(buffer.as_str(), overlay, string),
+            } => self.mark(buffer.as_str(), overlay, string),
         }
     }
 }

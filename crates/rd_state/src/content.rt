@@ -33,11 +33,14 @@ pub(crate) struct Content {
 
 impl Model for Content {
     ghost use Rattle.rd_props.specs.Buffers.{meaning};
-    ghost use Rattle.rd_state.specs.States.{ContentValue};
+    ghost use Rattle.std.specs.Coded.{codes};
+    ghost use Rattle.rd_state.specs.States.{ContentValue, mark_code};
     ghost use Rattle.rd_state.specs.Held.{content_of};
     ghost use Rattle.rd_state.specs.Valid.{IsWithin};
 
     ghost Value = { ContentValue };
+
+    ghost coded = { Prim.hlevel (codes, mark_code) };
 
     ghost view = { λ c. content_of c.state c.marks };
 

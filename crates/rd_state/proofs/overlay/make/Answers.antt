@@ -1,7 +1,7 @@
 use Rattle.std.proofs.Common.{refl, subst, sym, ◌∙◌, arith}
 use Rattle.rd_overlays.specs.Overlays.{make_fault}
 use Rattle.rd_props.specs.Buffers.{meaning, values_of}
-use Rattle.rd_state.specs.States.{IsWithin}
+use Rattle.rd_state.specs.Valid.{IsWithin}
 use Rattle.rd_state.proofs.Within.{made-within, not-made}
 use Rattle.rd_state.proofs.overlay.make.Goals as goal
 

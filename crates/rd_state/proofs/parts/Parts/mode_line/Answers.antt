@@ -7,7 +7,7 @@ use Rattle.rd_state.specs.States.{StateValue}
 use Rattle.rd_state.specs.Effects.{effect_of}
 use Rattle.rd_state.specs.Steps.{refused_tree, step}
 use Rattle.rd_state.proofs.Finding.{found-in}
-use Rattle.rd_state.proofs.Panes.{refuses, tree-refuses-change, asked, changes-with-tree, good-format, format-refuses}
+use Rattle.rd_state.proofs.Sharing.{refuses, tree-refuses-change, asked, changes-with-tree, good-format, format-refuses}
 use Rattle.rd_state.proofs.parts.Parts.mode_line.Goals as goal
 
 pub returns-in_err-mode : goal.returns-in_err-mode

@@ -9,7 +9,7 @@ use Rattle.rd_state.specs.States.{StateValue}
 use Rattle.rd_state.specs.Effects.{effect_of}
 use Rattle.rd_state.specs.Steps.{refused_tree, step}
 use Rattle.rd_state.proofs.Finding.{found-in}
-use Rattle.rd_state.proofs.Panes.{refuses, tree-refuses, asked, removes-window, heir-chosen, heir-passed}
+use Rattle.rd_state.proofs.Sharing.{refuses, tree-refuses, asked, removes-window, heir-chosen, heir-passed}
 use Rattle.rd_state.proofs.parts.Parts.remove.Goals as goal
 
 pub returns-in_err-heir : goal.returns-in_err-heir

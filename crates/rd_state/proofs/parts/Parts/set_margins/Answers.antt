@@ -7,7 +7,7 @@ use Rattle.rd_state.specs.States.{StateValue}
 use Rattle.rd_state.specs.Effects.{effect_of}
 use Rattle.rd_state.specs.Steps.{refused_tree, step}
 use Rattle.rd_state.proofs.Finding.{found-in}
-use Rattle.rd_state.proofs.Panes.{refuses, tree-refuses-change, asked, changes-with-tree}
+use Rattle.rd_state.proofs.Sharing.{refuses, tree-refuses-change, asked, changes-with-tree}
 use Rattle.rd_state.proofs.parts.Parts.set_margins.Goals as goal
 
 pub returns-in_err-margins : goal.returns-in_err-margins

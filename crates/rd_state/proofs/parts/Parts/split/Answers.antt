@@ -7,7 +7,7 @@ use Rattle.rd_state.specs.States.{StateValue}
 use Rattle.rd_state.specs.Effects.{effect_of}
 use Rattle.rd_state.specs.Steps.{refused_tree, step}
 use Rattle.rd_state.proofs.Finding.{found-in}
-use Rattle.rd_state.proofs.Panes.{refuses, asked, split-clamped, splits-window, split-refused}
+use Rattle.rd_state.proofs.Sharing.{refuses, asked, split-clamped, splits-window, split-refused}
 use Rattle.rd_state.proofs.parts.Parts.split.Goals as goal
 
 pub returns-in_err-number : goal.returns-in_err-number
