@@ -161,14 +161,15 @@ put-came true true false a value v h = inr h
 put-came true false w a value v h = inr h
 put-came false u w a value v h = inr h
 
-put-values-within : (c : ContentValue) (from to : ℕ) (kind : Kind) (value : Option ℕ) → IsText c.text → IsWithin (seen c) → is_text_kind kind ≡ true → IsAccessibleRange c.text from to
-    → IsWithin (put_values c from to kind value)
-put-values-within c from to kind value text within is at =
+-- values lie in their text after a value was put on a range of it
+pub put_on-within : (b : props.BufferValue) (from to : ℕ) (kind : Kind) (value : Option ℕ) → IsText b.text → IsWithin b → is_text_kind kind ≡ true → IsAccessibleRange b.text from to
+    → IsWithin (record b { properties = put_on b.properties kind from to value })
+put_on-within b from to kind value text within is at =
     let first = text.first in
     let last = text.last in
     let low = at.first in
     let high = at.last in
-    let came = λ (k p v : ℕ) (h : put_on (value_in c.properties) kind from to value k p ≡ Some v). put-came (k == place_of kind) (nat_le from p) (nat_lt p to) (value_in c.properties k p) value v h in
+    let came = λ (k p v : ℕ) (h : put_on b.properties kind from to value k p ≡ Some v). put-came (k == place_of kind) (nat_le from p) (nat_lt p to) (b.properties k p) value v h in
     record {
       kinds = λ k p v h. elim (came k p v h) [
         | inl q ↦ subst (λ (x : ℕ). x < 5) (sym (eqb-true k (place_of kind) q.0)) (text-place kind is)
@@ -185,6 +186,10 @@ put-values-within c from to kind value text within is at =
       few = within.few;
       overlays = within.overlays;
     }
+
+put-values-within : (c : ContentValue) (from to : ℕ) (kind : Kind) (value : Option ℕ) → IsText c.text → IsWithin (seen c) → is_text_kind kind ≡ true → IsAccessibleRange c.text from to
+    → IsWithin (put_values c from to kind value)
+put-values-within c from to kind value text within is at = put_on-within (seen c) from to kind value text within is at
 
 -- a buffer with another property on a range
 abbrev pub with_property : ContentValue → ℕ → ℕ → Kind → Option ℕ → ContentValue

@@ -1,5 +1,5 @@
 -- What the ops on a buffer's text and properties leave is what their edits say.
-use Rattle.std.proofs.Common.{◌≡◌, ℕ, ◌+◌, ◌≤◌, ◌==◌, Bool, true, not, if◌then◌else◌, nat_lt, nat_le, Option, Result, Ok, Err, List, length, map, ap, ◌∙◌, arith}
+use Rattle.std.proofs.Common.{◌≡◌, ℕ, ◌+◌, ◌≤◌, ◌==◌, Bool, true, not, if◌then◌else◌, nat_lt, nat_le, Option, Result, Ok, Err, List, length, map, ap, refl, ◌∙◌, arith}
 use Rattle.std.proofs.lemmas.Bool.Decides.{nat_tests}
 use Rattle.rd_text.specs.Texts.{TextValue, IsText, IsAccessible, most_characters, inserted, deleted}
 use Rattle.rd_text.specs.Answers.{IsAccessibleRange}
@@ -14,7 +14,11 @@ use Rattle.rd_state.specs.States.{ContentValue}
 use Rattle.rd_state.specs.Held.{content_of}
 use Rattle.rd_state.specs.Valid.{IsWithin}
 use Rattle.rd_state.specs.Edits.{is_accessible, is_accessible_range, is_value_made, has_room, marked, insertion, deletion, property_putting}
+use Rattle.rd_script.specs.Forms.{is_text_kind}
+use Rattle.rd_state.proofs.Contents.{put_on-within}
 use Rattle.rd_state.proofs.Opening.{chosen}
+use Rattle.rd_state.proofs.Tests.{is_accessible_range-means}
+use Rattle.rd_state.proofs.Within.{same-within}
 use Rattle.rd_state.proofs.Tables.{AreAlike, grown-content, shrunk-content, put-content}
 
 accessible : (t : TextValue) (pos : ℕ) → IsAccessible t pos → is_accessible t pos ≡ true
@@ -54,3 +58,10 @@ putting-is o b spans m kind from to value within range made values =
     chosen (is_accessible_range b.text from to) _ _ range
     ∙ (chosen (is_value_made o kind value) _ _ made
     ∙ ap Ok (put-content b spans m kind from to value within values))
+
+pub putting-within : (b : BufferState) (spans : List (List (Option ℕ))) (kind : Kind) (from to : ℕ) (value : Option ℕ) → IsText b.text → IsWithin (props.meaning b) → is_text_kind kind ≡ true
+    → is_accessible_range b.text from to ≡ true → AreAlike (props.values_of spans) (put_on (props.values_of b.spans) kind from to value) → IsWithin (props.meaning (record b { spans = spans }))
+putting-within b spans kind from to value text within is range values =
+    let put : props.BufferValue = record (props.meaning b) { properties = put_on (props.values_of b.spans) kind from to value } in
+    same-within put (props.meaning (record b { spans = spans }))
+    (put_on-within (props.meaning b) from to kind value text within is (is_accessible_range-means b.text from to range)) refl values refl

@@ -171,9 +171,7 @@ impl Content {
         requires form { IsPropertyValue kind value }
         ensures { Answers result (overlay_putting objects.now number kind value self.old) self.old self.new }
     {
-        find_overlay(&self.state.overlays, number)?;
-        let value = made_value(objects, kind, value)?;
-        give(&mut self.state, number as u32, kind, value)
+        give(&mut self.state, objects, number, kind, value)
     }
 
     /// Gives an overlay another margin string.

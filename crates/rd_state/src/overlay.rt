@@ -1,16 +1,20 @@
 //! The ops on the overlays of one buffer.
-ghost use Rattle.std.specs.Prelude.{◌≡◌, ◌<◌, ◌≤◌, ℕ, true, List, Ok, None, Some, IfOk, IfErr, OnOk, OnErr, length};
-ghost use Rattle.rd_overlays.specs.Overlays.{overlay_at, given};
+ghost use Rattle.std.specs.Prelude.{◌≡◌, ◌<◌, ◌≤◌, ℕ, true, List, Ok, None, Some, IfOk, IfErr, OnErr, length};
+ghost use Rattle.rd_overlays.specs.Overlays.{overlay_at};
+ghost use Rattle.rd_objects.specs.Sound.{AreObjects};
+ghost use Rattle.rd_script.specs.Forms.{IsPropertyValue};
 ghost use Rattle.rd_props.specs.Buffers.{meaning};
 ghost use Rattle.rd_margins.specs.Marks.{MarkValues};
 ghost use Rattle.rd_state.specs.Held.{content_of};
 ghost use Rattle.rd_state.specs.Valid.{IsWithin};
-ghost use Rattle.rd_state.specs.Edits.{is_range_of_all, overlay_making, overlay_moving, overlay_dropping};
+ghost use Rattle.rd_state.specs.Edits.{is_range_of_all, overlay_making, overlay_moving, overlay_dropping, overlay_putting};
 ghost use Rattle.rd_state.specs.Answers.{Answers};
 ghost use Rattle.rd_state.specs.declared.refused.Refused.TheVariants.{NoOverlay};
 
+use crate::made::made_value;
 use crate::refused::Refused;
 use rd_base::limits::OVERLAYS;
+use rd_objects::Objects;
 use rd_overlays::{Kind, Overlay, Overlays};
 use rd_props::BufferState;
 use rd_text::Buffer;
@@ -72,19 +76,23 @@ pub(crate) fn drop_one(buffer: &mut BufferState, number: u64) -> Result<(), Refu
     Ok(())
 }
 
-/// Gives an overlay that lives a value of a kind, or takes its value away.
+/// Gives an overlay another value of a kind, or takes its value away.
 pub(crate) fn give(
     buffer: &mut BufferState,
-    number: u32,
+    objects: &Objects,
+    number: u64,
     kind: Kind,
-    value: Option<u32>,
+    value: Option<u64>,
 ) -> Result<(), Refused>
-    requires { IsWithin (meaning buffer.old) }
+    requires within { IsWithin (meaning buffer.old) }
+    requires objects { AreObjects objects.now }
+    requires form { IsPropertyValue kind value }
     ensures within { IsWithin (meaning buffer.new) }
-    ensures given { OnOk result (buffer.new.overlays ≡ given buffer.old.overlays number kind value) }
-    ensures rest { (buffer.new.text ≡ buffer.old.text) × (buffer.new.spans ≡ buffer.old.spans) × (buffer.new.settings ≡ buffer.old.settings) }
+    ensures changes { (m : MarkValues) → Answers result (overlay_putting objects.now number kind value (content_of buffer.old m)) (content_of buffer.old m) (content_of buffer.new m) }
 {
-    buffer.overlays.set(number, kind, value)?;
+    find_overlay(&buffer.overlays, number)?;
+    let value = made_value(objects, kind, value)?;
+    buffer.overlays.set(number as u32, kind, value)?;
     Ok(())
 }
 

@@ -4,6 +4,7 @@ ghost use Rattle.rd_overlays.specs.Overlays.{place_of};
 ghost use Rattle.rd_props.specs.Buffers.{meaning, values_of};
 ghost use Rattle.rd_props.specs.Edits.{put_on};
 ghost use Rattle.rd_script.specs.Forms.{is_text_kind};
+ghost use Rattle.rd_text.specs.Texts.{IsText};
 ghost use Rattle.rd_state.specs.Edits.{is_accessible_range};
 
 use rd_base::{Memory, Pos};
@@ -31,6 +32,7 @@ pub(crate) fn put_values(
 /// Whether a range lies in the accessible text.
 pub(crate) fn is_accessible_range(text: &Buffer, from: u64, to: u64) -> bool
     ensures value { result ≡ is_accessible_range text.now from to }
+    ensures right { IsText text.now }
     ensures bound { result ≡ true → (from ≤ to) × (to ≤ 4194305) }
 {
     text.begin() as u64 <= from && from <= to && to <= text.end() as u64
