@@ -20,5 +20,6 @@ mod Slots
 mod Stepping
 mod Tables
 mod Tests
+mod Typing
 mod Viewing
 mod Within

@@ -76,7 +76,8 @@ impl Parts {
         ensures { Applies result (TypeText text.now) self.old self.new }
     {
         let w = windows::find(self.windows.as_slice(), self.selected as u64)?;
-        let (buffer, from) = (self.windows[w].1.buffer, self.windows[w].1.point);
+        let window = &self.windows[w].1;
+        let (buffer, from) = (window.buffer, window.point);
         insert_at(&mut self.buffers, buffer as usize, from as u64, text)?;
         let added = text.len() as u32;
         move_windows(&mut self.windows, buffer, Move::Inserted(from, added));

@@ -1,0 +1,95 @@
+-- Texts put in: that the windows can move with them, and what is typed at the selected window's point.
+use Rattle.std.proofs.Common.{◌≡◌, ℕ, ◌+◌, ◌<◌, ◌≤◌, ◌==◌, not, cond, Some, Result, Ok, Err, List, [], ◌∷◌, length, map, set, get_or, sym, ap, subst, refl, ◌∙◌, arith}
+use Rattle.std.proofs.lemmas.List.{length-map}
+use Rattle.std.proofs.lemmas.Option.{slice_get-get_or}
+use Rattle.std.specs.Prelude.{slice_get, slice_set}
+use Rattle.rd_text.specs.Texts.{IsAccessible, most_characters}
+use Rattle.rd_state.specs.declared.moves.Move.{Move}
+use Rattle.rd_state.specs.declared.moves.Move.TheVariants.{Inserted}
+use Rattle.rd_state.specs.declared.refused.Refused.{Refused}
+use Rattle.rd_state.specs.declared.refused.Refused.TheVariants.{NoBuffer}
+use Rattle.rd_state.specs.declared.window.WindowState.{WindowState}
+use Rattle.rd_state.specs.States.{BufferValue, ContentValue, StateValue}
+use Rattle.rd_state.specs.Edits.{insertion}
+use Rattle.rd_state.specs.Held.{AnswersAt}
+use Rattle.rd_state.specs.Movable.{CanMove}
+use Rattle.rd_state.specs.Moves.{moved_in}
+use Rattle.rd_state.specs.Steps.{with_found, in_shown, replaced, moving, changing, typing}
+use Rattle.rd_state.specs.Valid.{IsValid}
+use Rattle.rd_state.specs.Windows.{place_in, with_window}
+use Rattle.rd_state.proofs.ByNumber.{Entry}
+use Rattle.rd_state.proofs.Finding.{IsFound, found-entry, at-window}
+use Rattle.rd_state.proofs.Stepping.{insertion-means}
+
+-- ---- insertions
+
+-- the positions of the windows that show a buffer stay small when a text is put in
+pub can-insert : (s : StateValue) (i place : ℕ) (new : List ℕ) (bs : List BufferValue) → IsValid s → AnswersAt (Ok tt) (insertion place new) i s.buffers bs
+    → (k : ℕ) (e : Entry) → slice_get s.windows k ≡ Some e → CanMove i (Inserted place (length new)) e
+can-insert s i place new bs valid (b, c, at, gives, is) k e there shows =
+    let means = insertion-means place new b.content c gives in
+    let room = means.1 in
+    let window = valid.windows.each k e there in
+    let here : slice_get s.buffers e.1.buffer ≡ Some b = ap (slice_get s.buffers) shows ∙ at in
+    let text = (valid.buffers.contents i b at).text in
+    let last = text.last in
+    let point = (window.point b here).1 in
+    let anchor = (window.anchor b here).1 in
+    (omega arith, omega arith)
+
+-- a window shows a buffer that was made
+pub shows-made : (s : StateValue) (i : ℕ) (e : Entry) → IsValid s → i < length s.windows → e ≡ get_or s.windows i e → e.1.buffer < length s.buffers
+shows-made s i e valid less at = (valid.windows.each i e (slice_get-get_or s.windows i e less ∙ ap Some (sym at))).made
+
+-- ---- typing
+
+-- the place of a number among the windows that moved
+place-moved : (n i : ℕ) (how : Move) (ws : List Entry) → place_in n (map (moved_in i how) ws) ≡ place_in n ws
+place-moved n i how [] = refl
+place-moved n i how (e ∷ ws) = ap (λ k. cond (not (e.0 == n)) (1 + k) 0) (place-moved n i how ws)
+
+-- the selected window among those that moved
+pub found-moved : (n i j : ℕ) (how : Move) (ws moved : List Entry) (e : Entry) → moved ≡ map (moved_in j how) ws → i ≡ place_in n ws → i < length ws → e ≡ get_or moved i e → IsFound n i moved e
+found-moved n i j how ws moved e is place less at =
+    found-entry n i moved e (place ∙ (sym (place-moved n j how ws) ∙ ap (place_in n) (sym is))) (omega (arith, less, ap length is, length-map ws (moved_in j how))) at
+
+-- what is typed in a window
+abbrev typed : StateValue → List ℕ → WindowState → Result StateValue Refused
+typed s new w = in_shown s w (λ b.
+    changing s.selected (λ old. record old { point = w.point + length new })
+    (moving w.buffer (Inserted w.point (length new)) (replaced s w.buffer b (insertion w.point new b.content))))
+
+typed-ok : (s : StateValue) (new : List ℕ) (w : WindowState) (bs : List BufferValue) → AnswersAt (Ok tt) (insertion w.point new) w.buffer s.buffers bs
+    → typed s new w ≡ Ok (record s { buffers = bs; windows = with_window s.selected (λ old. record old { point = w.point + length new }) (map (moved_in w.buffer (Inserted w.point (length new))) s.windows) })
+typed-ok s new w bs (b, c, at, gives, is) =
+    let f : WindowState → WindowState = λ old. record old { point = w.point + length new } in
+    let done : Result ContentValue Refused → Result StateValue Refused = λ r. changing s.selected f (moving w.buffer (Inserted w.point (length new)) (replaced s w.buffer b r)) in
+    ap (λ o. with_found NoBuffer o (λ x. changing s.selected f (moving w.buffer (Inserted w.point (length new)) (replaced s w.buffer x (insertion w.point new x.content))))) at
+    ∙ (ap done gives
+    ∙ ap (λ (xs : List BufferValue). Ok (record s { buffers = xs; windows = with_window s.selected f (map (moved_in w.buffer (Inserted w.point (length new))) s.windows) })) (sym is))
+
+typed-err : (s : StateValue) (new : List ℕ) (w : WindowState) (refused : Refused) → (b : BufferValue) × (slice_get s.buffers w.buffer ≡ Some b) × (insertion w.point new b.content ≡ Err refused)
+    → typed s new w ≡ Err refused
+typed-err s new w refused (b, at, gives) =
+    let f : WindowState → WindowState = λ old. record old { point = w.point + length new } in
+    ap (λ o. with_found NoBuffer o (λ x. changing s.selected f (moving w.buffer (Inserted w.point (length new)) (replaced s w.buffer x (insertion w.point new x.content))))) at
+    ∙ ap (λ r. changing s.selected f (moving w.buffer (Inserted w.point (length new)) (replaced s w.buffer b r))) gives
+
+-- the selected window as it was found, and as it stands among those that moved
+pub typing-ok : (s t : StateValue) (new : List ℕ) (i : ℕ) (e d : Entry) (bs : List BufferValue) (ws : List Entry) → t ≡ s → IsFound t.selected i t.windows e
+    → AnswersAt (Ok tt) (insertion e.1.point new) e.1.buffer t.buffers bs → ws ≡ map (moved_in e.1.buffer (Inserted e.1.point (length new))) t.windows → IsFound t.selected i ws d
+    → typing s new ≡ Ok (record t { buffers = bs; windows = set ws i (d.0, record d.1 { point = e.1.point + length new }) })
+typing-ok s t new i e d bs ws same there inserted moved there_2 =
+    let f : WindowState → WindowState = λ old. record old { point = e.1.point + length new } in
+    sym (ap (λ (x : StateValue). typing x new) same)
+    ∙ (at-window t t t.selected i e (λ x w. typed t new w) refl there
+    ∙ (typed-ok t new e.1 bs inserted
+    ∙ (ap (λ (xs : List Entry). Ok (record t { buffers = bs; windows = with_window t.selected f xs })) (sym moved)
+    ∙ ap (λ (xs : List Entry). Ok (record t { buffers = bs; windows = xs })) (sym (there_2.changed f)))))
+
+pub typing-err : (s t : StateValue) (new : List ℕ) (i : ℕ) (e : Entry) (refused : Refused) → t ≡ s → IsFound t.selected i t.windows e
+    → (b : BufferValue) × (slice_get t.buffers e.1.buffer ≡ Some b) × (insertion e.1.point new b.content ≡ Err refused) → typing s new ≡ Err refused
+typing-err s t new i e refused same there said =
+    sym (ap (λ (x : StateValue). typing x new) same)
+    ∙ (at-window t t t.selected i e (λ x w. typed t new w) refl there
+    ∙ typed-err t new e.1 refused said)
