@@ -2,21 +2,25 @@
 use Rattle.std.proofs.Common.{◌≡◌, ℕ, ◌+◌, ◌<◌, ◌≤◌, ◌==◌, not, cond, Some, Result, Ok, Err, List, [], ◌∷◌, length, map, set, get_or, sym, ap, subst, refl, ◌∙◌, arith}
 use Rattle.std.proofs.lemmas.List.{length-map}
 use Rattle.std.proofs.lemmas.Option.{slice_get-get_or}
-use Rattle.std.specs.Prelude.{slice_get, slice_set}
+use Rattle.std.specs.Prelude.{◌≢◌, IsErr, IsErrAnd, slice_get, slice_set, unwrap_or}
+use Rattle.rd_script.specs.declared.op.Op.{Op}
 use Rattle.rd_text.specs.Texts.{IsAccessible, most_characters}
+use Rattle.rd_state.specs.declared.effect.Effect.{Effect}
 use Rattle.rd_state.specs.declared.moves.Move.{Move}
 use Rattle.rd_state.specs.declared.moves.Move.TheVariants.{Inserted}
 use Rattle.rd_state.specs.declared.refused.Refused.{Refused}
-use Rattle.rd_state.specs.declared.refused.Refused.TheVariants.{NoBuffer}
+use Rattle.rd_state.specs.declared.refused.Refused.TheVariants.{NoBuffer, Memory}
 use Rattle.rd_state.specs.declared.window.WindowState.{WindowState}
-use Rattle.rd_state.specs.States.{BufferValue, ContentValue, StateValue}
+use Rattle.rd_state.specs.States.{BufferValue, ContentValue, StateValue, opening_window}
+use Rattle.rd_state.specs.Answers.{Applies}
 use Rattle.rd_state.specs.Edits.{insertion}
 use Rattle.rd_state.specs.Held.{AnswersAt}
 use Rattle.rd_state.specs.Movable.{CanMove}
 use Rattle.rd_state.specs.Moves.{moved_in}
-use Rattle.rd_state.specs.Steps.{with_found, in_shown, replaced, moving, changing, typing}
+use Rattle.rd_state.specs.Effects.{inserted_effect}
+use Rattle.rd_state.specs.Steps.{with_found, in_shown, replaced, moving, changing, typing, step}
 use Rattle.rd_state.specs.Valid.{IsValid}
-use Rattle.rd_state.specs.Windows.{place_in, with_window}
+use Rattle.rd_state.specs.Windows.{place_in, window_of, with_window, selected_window}
 use Rattle.rd_state.proofs.ByNumber.{Entry}
 use Rattle.rd_state.proofs.Finding.{IsFound, found-entry, at-window}
 use Rattle.rd_state.proofs.Stepping.{insertion-means}
@@ -93,3 +97,17 @@ typing-err s t new i e refused same there said =
     sym (ap (λ (x : StateValue). typing x new) same)
     ∙ (at-window t t t.selected i e (λ x w. typed t new w) refl there
     ∙ typed-err t new e.1 refused said)
+
+-- the effect tells the selected window's buffer and its point
+pub typing-effect : (s t : StateValue) (new : List ℕ) (i : ℕ) (e : Entry) → t ≡ s → IsFound t.selected i t.windows e
+    → inserted_effect e.1.buffer e.1.point new ≡ inserted_effect (selected_window s).buffer (selected_window s).point new
+typing-effect s t new i e same there =
+    let is : e.1 ≡ selected_window s = sym (ap (λ o. unwrap_or o opening_window) there.window) ∙ ap selected_window same in
+    ap (λ (w : WindowState). inserted_effect w.buffer w.point new) is
+
+-- ---- refusals
+
+-- a refusal that was said, or want of memory, that leaves the state as it was
+pub refuses-unless : (r : Result Effect Refused) (op : Op) (s t : StateValue) (e : Refused) → IsErr r → IsErrAnd r (λ x. x ≡ e) → t ≡ s → (e ≢ Memory → step s op ≡ Err e) → Applies r op s t
+refuses-unless (Ok x) op s t e is and same said = absurd (cc)
+refuses-unless (Err x) op s t e is and same said = (same, λ ne. said (λ m. ne (and ∙ m)) ∙ ap (λ y. Err y) (sym and))
