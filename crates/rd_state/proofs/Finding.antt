@@ -1,5 +1,5 @@
 -- Windows found by number.
-use Rattle.std.proofs.Common.{◌≡◌, ℕ, ◌<◌, ◌==◌, Bool, true, false, cond, not, None, Some, Result, Ok, List, length, nat_lt, set, get_or, refl, ap, subst, arith, sym, ◌∙◌}
+use Rattle.std.proofs.Common.{◌≡◌, ℕ, ◌<◌, ◌==◌, Bool, true, false, cond, not, None, Option, Some, Result, Ok, List, length, nat_lt, set, get_or, refl, ap, subst, arith, sym, ◌∙◌}
 use Rattle.std.proofs.lemmas.Bool.{ltb-false}
 use Rattle.std.proofs.lemmas.List.Sums.{prefix_len-le-length}
 use Rattle.std.proofs.lemmas.Option.{slice_get-get_or}
@@ -57,3 +57,13 @@ changes-window s t n i e f same there =
 
 pub sets-window : (s t : StateValue) (n i : ℕ) (e : Entry) (f : WindowState → WindowState) → t ≡ s → IsFound n i t.windows e → setting s n f ≡ Ok (record t { windows = set t.windows i (e.0, f e.1) })
 sets-window s t n i e f same there = at-window s t n i e (λ x w. changing n f (Ok x)) same there ∙ ap (λ x. Ok x) (changes-window t t n i e f refl there)
+
+-- a window that was found stands in an entry
+pub some-found : (s : StateValue) (ws : List Entry) (n i : ℕ) → ws ≡ s.windows → i ≡ place_in n ws → i < length ws → (e : Entry) × IsFound n i s.windows e
+some-found s ws n i shown is less =
+    let there = found n i s.windows (subst (λ xs. i ≡ place_in n xs) shown is) (subst (λ xs. i < length xs) shown less) in
+    ((n, there.0), from-place n i s.windows there.0 there.1)
+
+-- which is one
+pub one-entry : (n i : ℕ) (ws : List Entry) (a b : Entry) → IsFound n i ws a → IsFound n i ws b → a.1 ≡ b.1
+one-entry n i ws a b x y = let same : ◌≡◌ {A = Option WindowState} (Some a.1) (Some b.1) = sym x.window ∙ y.window in cc

@@ -206,7 +206,7 @@ held-below : (t : Bool) (n : ℕ) → nat_lt 999999999 n ≡ t → IsTrue (is_ne
 held-below true n h = refl
 held-below false n h = let less = ltb-false 999999999 n h in grind (arith, ints, nat_tests)
 
-held-small : (rows : ℤ) → IsTrue (is_near_zero (pos PENDING_ROWS) (held rows))
+pub held-small : (rows : ℤ) → IsTrue (is_near_zero (pos PENDING_ROWS) (held rows))
 held-small (pos n) = held-above (nat_lt n 1000000000) n refl
 held-small (negsuc n) = held-below (nat_lt 999999999 n) n refl
 

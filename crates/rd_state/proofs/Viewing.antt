@@ -1,23 +1,30 @@
 -- What the ops on a window's view leave.
-use Rattle.std.proofs.Common.{◌≡◌, ◌≢◌, ℕ, ◌<◌, ◌≤◌, Bool, true, false, if◌then◌else◌, pos, Option, None, Some, Result, Ok, Err, List, length, set, ap, subst, sym, refl, ◌∙◌, arith}
+use Rattle.std.proofs.Common.{◌≡◌, ℕ, ◌<◌, ◌≤◌, ◌&&◌, Bool, true, false, if◌then◌else◌, nat_le, IsTrue, ℤ, pos, ◌+ℤ◌, neg_ℤ, ◌≤ℤ◌, FitsSigned, w64, to_z, of_z, Option, None, Some, Result, Ok, Err, List, length, set, ap, subst, sym, refl, ◌∙◌, arith}
+use Rattle.std.proofs.lemmas.Bool.{and_parts}
+use Rattle.std.proofs.lemmas.Bool.Decides.{nat_tests}
+use Rattle.std.proofs.lemmas.Int.{ints, to_z-of_z}
 use Rattle.std.proofs.lemmas.Option.{slice_get_past}
-use Rattle.std.specs.Prelude.{slice_get}
+use Rattle.std.specs.Prelude.{int_le, slice_get}
+use Rattle.rd_script.specs.Numbers.{is_near_zero}
+use Rattle.rd_text.specs.Texts.{TextValue}
 use Rattle.rd_state.specs.declared.refused.Refused.{Refused}
 use Rattle.rd_state.specs.declared.refused.Refused.TheVariants.{NoBuffer, OutOfRange}
 use Rattle.rd_state.specs.declared.window.WindowState.{WindowState}
 use Rattle.rd_state.specs.Edits.{is_accessible}
 use Rattle.rd_state.specs.States.{BufferValue, StateValue, number_of}
-use Rattle.rd_state.specs.Steps.{changing, in_buffer, in_shown, placing, showing, with_found}
+use Rattle.rd_state.specs.Steps.{changing, held, in_buffer, in_shown, placing, showing, with_found}
 use Rattle.rd_state.specs.Valid.{IsValid}
-use Rattle.rd_state.specs.Windows.{with_window}
 use Rattle.rd_state.proofs.ByNumber.{Entry}
 use Rattle.rd_state.proofs.Finding.{IsFound, at-window}
 use Rattle.rd_state.proofs.Opening.{chosen, passed}
-use Rattle.rd_state.proofs.Showing.{window-valid}
+use Rattle.rd_state.proofs.Showing.{held-small, window-valid}
 
 -- a window that lives shows a buffer that was made
 pub shown-made : (s : StateValue) (n i : ℕ) (e : Entry) → IsValid s → IsFound n i s.windows e → e.1.buffer < length s.buffers
 shown-made s n i e valid there = (window-valid s n e.1 valid there.window).made
+
+pub rows-near : (s : StateValue) (n i : ℕ) (e : Entry) → IsValid s → IsFound n i s.windows e → IsTrue (is_near_zero (pos 1000000000) e.1.pending)
+rows-near s n i e valid there = (window-valid s n e.1 valid there.window).pending
 
 -- ---- a buffer that is shown
 
@@ -57,3 +64,72 @@ place-refused s t n i place e f b same there at outside =
     let done : StateValue → BufferValue → Result StateValue Refused = λ x c. if is_accessible c.content.text place then changing n f (Ok x) else Err OutOfRange in
     at-window s t n i e (λ x w. in_shown x w (done x)) same there
     ∙ (ap (λ o. with_found NoBuffer o (done t)) at ∙ passed (is_accessible b.content.text place) (changing n f (Ok t)) (Err OutOfRange) outside)
+
+before-begin : (t : TextValue) (place begin : ℕ) → begin ≡ t.begin → place < begin → is_accessible t place ≡ false
+before-begin t place begin is less = grind (arith, nat_tests)
+
+behind-end : (t : TextValue) (place end : ℕ) → end ≡ t.end → end < place → is_accessible t place ≡ false
+behind-end t place end is less = grind (arith, nat_tests)
+
+within : (t : TextValue) (place begin end : ℕ) → begin ≡ t.begin → end ≡ t.end → begin ≤ place → place ≤ end → is_accessible t place ≡ true
+within t place begin end is at low high = grind (arith, nat_tests)
+
+-- what `text_at` tells of the buffer with a number
+abbrev pub IsTextAt : List BufferValue → ℕ → TextValue → Type 0
+IsTextAt buffers i t = (b : BufferValue) × (slice_get buffers i ≡ Some b) × (t ≡ b.content.text)
+
+-- whether a position is accessible in it
+abbrev pub TellsAt : List BufferValue → ℕ → ℕ → Bool → Type 0
+TellsAt buffers i place answer = (b : BufferValue) × (slice_get buffers i ≡ Some b) × (is_accessible b.content.text place ≡ answer)
+
+pub tells-before : (buffers : List BufferValue) (i place begin : ℕ) (t : TextValue) → IsTextAt buffers i t → begin ≡ t.begin → place < begin → TellsAt buffers i place false
+tells-before buffers i place begin t at is less = (at.0, at.1, before-begin at.0.content.text place begin (is ∙ ap (λ (x : TextValue). x.begin) at.2) less)
+
+pub tells-behind : (buffers : List BufferValue) (i place end : ℕ) (t : TextValue) → IsTextAt buffers i t → end ≡ t.end → end < place → TellsAt buffers i place false
+tells-behind buffers i place end t at is less = (at.0, at.1, behind-end at.0.content.text place end (is ∙ ap (λ (x : TextValue). x.end) at.2) less)
+
+pub tells-within : (buffers : List BufferValue) (i place begin end : ℕ) (t : TextValue) → IsTextAt buffers i t → begin ≡ t.begin → end ≡ t.end → begin ≤ place → place ≤ end → TellsAt buffers i place true
+tells-within buffers i place begin end t at is too low high = (
+  at.0,
+  at.1,
+  within at.0.content.text place begin end (is ∙ ap (λ (x : TextValue). x.begin) at.2) (too ∙ ap (λ (x : TextValue). x.end) at.2) low high,
+)
+
+-- ---- rows that wait
+
+near-bounds : (most : ℕ) (z : ℤ) → IsTrue (is_near_zero (pos most) z) → (neg_ℤ (pos most) ≤ℤ z) × (z ≤ℤ pos most)
+near-bounds most z h =
+    let parts = and_parts (int_le (neg_ℤ (pos most)) z) (int_le z (pos most)) h in
+    let low = parts.0 in
+    let high = parts.1 in
+    (omega (arith, ints), omega (arith, ints))
+
+near-fits : (most : ℕ) (z : ℤ) → most ≤ 1000000000 → IsTrue (is_near_zero (pos most) z) → FitsSigned w64 z
+near-fits most z small h =
+    let b = near-bounds most z h in
+    let low = b.0 in
+    let high = b.1 in
+    (omega (arith, ints), omega (arith, ints))
+
+near-same : (most : ℕ) (z : ℤ) → most ≤ 1000000000 → IsTrue (is_near_zero (pos most) z) → to_z w64 (of_z w64 z) ≡ z
+near-same most z small h = to_z-of_z w64 z (near-fits most z small h)
+
+-- a window's rows and those of an op make no sum that 64 bits do not hold
+pub rows-fit : (old rows : ℤ) → IsTrue (is_near_zero (pos 1000000000) old) → IsTrue (is_near_zero (pos 1000000) rows) → FitsSigned w64 (to_z w64 (of_z w64 old) +ℤ to_z w64 (of_z w64 rows))
+rows-fit old rows h g =
+    let a = near-bounds 1000000000 old h in
+    let b = near-bounds 1000000 rows g in
+    let low = a.0 in
+    let high = a.1 in
+    let bottom = b.0 in
+    let top = b.1 in
+    let sum : FitsSigned w64 (old +ℤ rows) = (omega (arith, ints), omega (arith, ints)) in
+    subst (λ (x : ℤ). FitsSigned w64 (x +ℤ to_z w64 (of_z w64 rows))) (sym (near-same 1000000000 old (omega arith) h))
+    (subst (λ (x : ℤ). FitsSigned w64 (old +ℤ x)) (sym (near-same 1000000 rows (omega arith) g)) sum)
+
+pub rows-held : (old rows now : ℤ) → IsTrue (is_near_zero (pos 1000000000) old) → IsTrue (is_near_zero (pos 1000000) rows) → now ≡ held (to_z w64 (of_z w64 old) +ℤ to_z w64 (of_z w64 rows))
+    → to_z w64 (of_z w64 now) ≡ held (old +ℤ rows)
+rows-held old rows now h g is =
+    let sum : now ≡ held (old +ℤ rows)
+    = is ∙ (ap (λ (x : ℤ). held (x +ℤ to_z w64 (of_z w64 rows))) (near-same 1000000000 old (omega arith) h) ∙ ap (λ (x : ℤ). held (old +ℤ x)) (near-same 1000000 rows (omega arith) g)) in
+    ap (λ (x : ℤ). to_z w64 (of_z w64 x)) sum ∙ near-same 1000000000 (held (old +ℤ rows)) (omega arith) (held-small (old +ℤ rows))
