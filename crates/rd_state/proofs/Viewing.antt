@@ -109,7 +109,7 @@ near-fits most z small h =
     let b = near-bounds most z h in
     let low = b.0 in
     let high = b.1 in
-    (omega (arith, ints), omega (arith, ints))
+    omega (arith, ints)
 
 near-same : (most : ℕ) (z : ℤ) → most ≤ 1000000000 → IsTrue (is_near_zero (pos most) z) → to_z w64 (of_z w64 z) ≡ z
 near-same most z small h = to_z-of_z w64 z (near-fits most z small h)
@@ -123,13 +123,15 @@ rows-fit old rows h g =
     let high = a.1 in
     let bottom = b.0 in
     let top = b.1 in
-    let sum : FitsSigned w64 (old +ℤ rows) = (omega (arith, ints), omega (arith, ints)) in
+    let sum : FitsSigned w64 (old +ℤ rows) = omega (arith, ints) in
     subst (λ (x : ℤ). FitsSigned w64 (x +ℤ to_z w64 (of_z w64 rows))) (sym (near-same 1000000000 old (omega arith) h))
     (subst (λ (x : ℤ). FitsSigned w64 (old +ℤ x)) (sym (near-same 1000000 rows (omega arith) g)) sum)
 
-pub rows-held : (old rows now : ℤ) → IsTrue (is_near_zero (pos 1000000000) old) → IsTrue (is_near_zero (pos 1000000) rows) → now ≡ held (to_z w64 (of_z w64 old) +ℤ to_z w64 (of_z w64 rows))
+pub rows-held : (old rows now : ℤ) → IsTrue (is_near_zero (pos 1000000000) old) → IsTrue (is_near_zero (pos 1000000) rows) 
+    → now ≡ held (to_z w64 (of_z w64 (to_z w64 (of_z w64 old) +ℤ to_z w64 (of_z w64 rows))))
     → to_z w64 (of_z w64 now) ≡ held (old +ℤ rows)
 rows-held old rows now h g is =
     let sum : now ≡ held (old +ℤ rows)
-    = is ∙ (ap (λ (x : ℤ). held (x +ℤ to_z w64 (of_z w64 rows))) (near-same 1000000000 old (omega arith) h) ∙ ap (λ (x : ℤ). held (old +ℤ x)) (near-same 1000000 rows (omega arith) g)) in
+    = is ∙ (ap held (to_z-of_z w64 (to_z w64 (of_z w64 old) +ℤ to_z w64 (of_z w64 rows)) (rows-fit old rows h g))
+    ∙ (ap (λ (x : ℤ). held (x +ℤ to_z w64 (of_z w64 rows))) (near-same 1000000000 old (omega arith) h) ∙ ap (λ (x : ℤ). held (old +ℤ x)) (near-same 1000000 rows (omega arith) g))) in
     ap (λ (x : ℤ). to_z w64 (of_z w64 x)) sum ∙ near-same 1000000000 (held (old +ℤ rows)) (omega arith) (held-small (old +ℤ rows))
