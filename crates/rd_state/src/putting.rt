@@ -7,8 +7,8 @@ ghost use Rattle.rd_state.specs.Effects.{restyled, covered_effect};
 ghost use Rattle.rd_state.specs.Valid.{IsValid};
 
 use crate::buffers::{
-    drop_overlay_at, find, make_overlay_at, mark_at, move_overlay_at, overlay_at,
-    put_at, put_on_overlay_at, set_at,
+    drop_overlay_at, find, make_overlay_at, mark_at, move_overlay_at, overlay_at, put_at,
+    put_on_overlay_at, set_at,
 };
 use crate::effect::Effect;
 use crate::parts::Parts;

@@ -41,8 +41,7 @@ returns c =
     let there = found-in t c.as_slice.result.now t.selected c.in_ok-w.w e c.as_slice.ensures.value c.in_ok-w.ensures.place c.in_ok-w.ensures.inside c.index.ensures in
     let inside = subst (λ (ws : List Entry). c.in_ok-w.w < length ws) c.as_slice.ensures.value c.in_ok-w.ensures.inside in
     let there_2 = found-moved t.selected c.in_ok-w.w e.1.buffer (Inserted e.1.point (length new)) t.windows c.move_windows.new.windows.items c.index_mut.result.now c.move_windows.ensures
-    (c.in_ok-w.ensures.place ∙ ap (place_in t.selected) c.as_slice.ensures.value) inside c.index_mut.ensures.value in
-    (
+    (c.in_ok-w.ensures.place ∙ ap (place_in t.selected) c.as_slice.ensures.value) inside c.index_mut.ensures.value in (
       typing-ok c.args.self.now t new c.in_ok-w.w e c.index_mut.result.now (buffers_of c.insert_at.new.buffers.entries) c.move_windows.new.windows.items c.self.view_is there
           c.in_ok-insert_at.ensures c.move_windows.ensures there_2,
       typing-effect c.args.self.now t new c.in_ok-w.w e c.self.view_is there,
