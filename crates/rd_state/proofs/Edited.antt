@@ -1,5 +1,5 @@
 -- What the ops on a buffer's text and properties leave is what their edits say.
-use Rattle.std.proofs.Common.{◌≡◌, ℕ, ◌+◌, ◌≤◌, ◌==◌, Bool, true, not, if◌then◌else◌, nat_lt, nat_le, Option, Result, Ok, Err, List, length, map, ap, refl, ◌∙◌, arith}
+use Rattle.std.proofs.Common.{◌≡◌, ℕ, ◌+◌, ◌≤◌, ◌==◌, Bool, true, not, nat_lt, Option, Ok, List, length, map, ap, refl, ◌∙◌, arith}
 use Rattle.std.proofs.lemmas.Bool.Decides.{nat_tests}
 use Rattle.rd_text.specs.Texts.{TextValue, IsText, IsAccessible, most_characters, inserted, deleted}
 use Rattle.rd_text.specs.Answers.{IsAccessibleRange}
@@ -10,7 +10,6 @@ use Rattle.rd_margins.specs.Marks.{MarkValues}
 use Rattle.rd_props.specs.Buffers as props
 use Rattle.rd_props.specs.Edits.{opened, closed, put_on}
 use Rattle.rd_props.specs.declared.state.BufferState.{BufferState}
-use Rattle.rd_state.specs.States.{ContentValue}
 use Rattle.rd_state.specs.Held.{content_of}
 use Rattle.rd_state.specs.Valid.{IsWithin}
 use Rattle.rd_state.specs.Edits.{is_accessible, is_accessible_range, is_value_made, has_room, marked, insertion, deletion, property_putting}

@@ -1,10 +1,9 @@
 -- Texts put in: that the windows can move with them, and what is typed at the selected window's point.
-use Rattle.std.proofs.Common.{◌≡◌, ℕ, ◌+◌, ◌<◌, ◌≤◌, ◌==◌, not, cond, Some, Result, Ok, Err, List, [], ◌∷◌, length, map, set, get_or, sym, ap, subst, refl, ◌∙◌, arith}
+use Rattle.std.proofs.Common.{◌≡◌, ℕ, ◌+◌, ◌<◌, ◌==◌, not, cond, Some, Result, Ok, Err, List, [], ◌∷◌, length, map, set, get_or, sym, ap, refl, ◌∙◌, arith}
 use Rattle.std.proofs.lemmas.List.{length-map}
 use Rattle.std.proofs.lemmas.Option.{slice_get-get_or}
-use Rattle.std.specs.Prelude.{◌≢◌, IsErr, IsErrAnd, slice_get, slice_set, unwrap_or}
+use Rattle.std.specs.Prelude.{◌≢◌, IsErr, IsErrAnd, slice_get, unwrap_or}
 use Rattle.rd_script.specs.declared.op.Op.{Op}
-use Rattle.rd_text.specs.Texts.{IsAccessible, most_characters}
 use Rattle.rd_state.specs.declared.effect.Effect.{Effect}
 use Rattle.rd_state.specs.declared.moves.Move.{Move}
 use Rattle.rd_state.specs.declared.moves.Move.TheVariants.{Inserted}
@@ -20,7 +19,7 @@ use Rattle.rd_state.specs.Moves.{moved_in}
 use Rattle.rd_state.specs.Effects.{inserted_effect}
 use Rattle.rd_state.specs.Steps.{with_found, in_shown, replaced, moving, changing, typing, step}
 use Rattle.rd_state.specs.Valid.{IsValid}
-use Rattle.rd_state.specs.Windows.{place_in, window_of, with_window, selected_window}
+use Rattle.rd_state.specs.Windows.{place_in, with_window, selected_window}
 use Rattle.rd_state.proofs.ByNumber.{Entry}
 use Rattle.rd_state.proofs.Finding.{IsFound, found-entry, at-window}
 use Rattle.rd_state.proofs.Stepping.{insertion-means}

@@ -1,6 +1,6 @@
 use Rattle.std.proofs.Common.{◌≡◌, ◌++◌, ◌∷◌, [], List, ℕ, length, ap, ◌∙◌}
 use Rattle.std.specs.Prelude.{string_bytes}
-use Rattle.rd_state.specs.States.{BufferValue, ContentValue, buffers_of, number_of}
+use Rattle.rd_state.specs.States.{ContentValue, buffers_of, number_of}
 use Rattle.rd_state.proofs.ByName.{added}
 use Rattle.rd_state.proofs.buffers.add.Goals as goal
 

@@ -1,4 +1,4 @@
-use Rattle.std.proofs.Common.{◌≡◌, ◌<◌, List, length, sym, ap, subst, ◌∙◌}
+use Rattle.std.proofs.Common.{◌<◌, List, length, sym, ap, subst, ◌∙◌}
 use Rattle.rd_script.specs.declared.op.Op.TheVariants.{TypeText}
 use Rattle.rd_state.specs.contracts.parts.Parts.{the_view}
 use Rattle.rd_state.specs.declared.moves.Move.TheVariants.{Inserted}
