@@ -12,6 +12,7 @@ ghost use Rattle.rd_state.specs.Shown.{IsShownAt};
 
 use crate::buffers::{add, find};
 use crate::effect::Effect;
+use crate::laws::{settling_keeps_states, steps_keep_states};
 use crate::parts::Parts;
 use crate::refused::Refused;
 use crate::window::WindowState;
@@ -34,10 +35,14 @@ pub struct State {
 }
 
 impl Model for State {
-    ghost use Rattle.rd_state.specs.States.{StateValue};
+    ghost use Rattle.std.specs.Coded.{codes};
+    ghost use Rattle.rd_tree.specs.Codes.{configuration_code};
+    ghost use Rattle.rd_state.specs.States.{StateValue, mark_code};
     ghost use Rattle.rd_state.specs.Valid.{IsValid};
 
     ghost Value = { StateValue };
+
+    ghost coded = { Prim.hlevel (codes, configuration_code, mark_code) };
 
     ghost view = { λ s. s.parts };
 
@@ -50,6 +55,7 @@ impl State {
     pub fn new(alloc: Global) -> Result<State, Memory>
         ensures { IfOk result (λ state. state ≡ opening) }
     {
+        steps_keep_states();
         let mut buffers = IndexMap::new(alloc);
         add(&mut buffers, BufferName::from_str(alloc, "main")?)?;
         let mut windows = Vec::new(alloc);
@@ -83,6 +89,7 @@ impl State {
         requires applied { IsApplied op }
         ensures { Applies result op self.old self.new }
     {
+        steps_keep_states();
         self.parts.apply(op)
     }
 
@@ -94,6 +101,7 @@ impl State {
         requires point { IsShownAt self.old w point }
         ensures { self.new ≡ settled self.old w anchor point }
     {
+        settling_keeps_states();
         self.parts.settle(w, anchor, point);
     }
 
