@@ -127,7 +127,7 @@ rows-fit old rows h g =
     subst (λ (x : ℤ). FitsSigned w64 (x +ℤ to_z w64 (of_z w64 rows))) (sym (near-same 1000000000 old (omega arith) h))
     (subst (λ (x : ℤ). FitsSigned w64 (old +ℤ x)) (sym (near-same 1000000 rows (omega arith) g)) sum)
 
-pub rows-held : (old rows now : ℤ) → IsTrue (is_near_zero (pos 1000000000) old) → IsTrue (is_near_zero (pos 1000000) rows) 
+pub rows-held : (old rows now : ℤ) → IsTrue (is_near_zero (pos 1000000000) old) → IsTrue (is_near_zero (pos 1000000) rows)
     → now ≡ held (to_z w64 (of_z w64 (to_z w64 (of_z w64 old) +ℤ to_z w64 (of_z w64 rows))))
     → to_z w64 (of_z w64 now) ≡ held (old +ℤ rows)
 rows-held old rows now h g is =

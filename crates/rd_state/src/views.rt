@@ -93,11 +93,7 @@ impl Parts {
 
     /// Scrolls a window sideways.
     #[tactic(auto, unfolding(crate::specs::Steps::step, crate::specs::Effects::effect_of))]
-    pub(crate) fn scroll_sideways(
-        &mut self,
-        window: u64,
-        columns: u32,
-    ) -> Result<Effect, Refused>
+    pub(crate) fn scroll_sideways(&mut self, window: u64, columns: u32) -> Result<Effect, Refused>
         ensures { Applies result (Hscroll window columns) self.old self.new }
     {
         let i = find(self.windows.as_slice(), window)?;

@@ -40,10 +40,9 @@ returns c =
     let n = c.args.window in
     let there = found-in t c.as_slice.result.now n c.in_ok-i.i c.index.result.now c.as_slice.ensures.value c.in_ok-i.ensures.place c.in_ok-i.ensures.inside c.index.ensures in
     let there_2 = found-in t c.as_slice.result.now n c.in_ok-i.i c.index_mut.result.now c.as_slice.ensures.value c.in_ok-i.ensures.place c.in_ok-i.ensures.inside c.index_mut.ensures.value in
-    let f : WindowState → WindowState = λ old. record old { format = c.args.format } in
-    (
+    let f : WindowState → WindowState = λ old. record old { format = c.args.format } in (
       good-format c.args.self.now n c.args.format c.in_ok-check_format.ensures
-      ∙ changes-with-tree c.args.self.now t n c.in_ok-i.i c.index_mut.result.now f (λ x. mode_tree x.tree n (is_some c.args.format)) c.mode.new.self c.self.view_is there_2
-      (asked (λ k. mode_tree t.tree k (is_some c.args.format)) n c.in_ok-i.i t.windows c.index.result.now _ there (ap (λ b. mode_tree t.tree c.index.result.now.0 b) (sym c.is_some.ensures) ∙ c.in_ok-mode.ensures)),
+          ∙ changes-with-tree c.args.self.now t n c.in_ok-i.i c.index_mut.result.now f (λ x. mode_tree x.tree n (is_some c.args.format)) c.mode.new.self c.self.view_is there_2
+          (asked (λ k. mode_tree t.tree k (is_some c.args.format)) n c.in_ok-i.i t.windows c.index.result.now _ there (ap (λ b. mode_tree t.tree c.index.result.now.0 b) (sym c.is_some.ensures) ∙ c.in_ok-mode.ensures)),
       refl,
     )

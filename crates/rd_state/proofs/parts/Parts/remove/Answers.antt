@@ -33,11 +33,10 @@ unfolding step effect_of
 returns-then-self-number c =
     let t = the_view c.self.inside in
     let there = found-in t c.as_slice.result.now c.args.window c.in_ok-i.i c.index.result.now c.as_slice.ensures.value c.in_ok-i.ensures.place c.in_ok-i.ensures.inside c.index.ensures in
-    let n = c.args.window in
-    (
+    let n = c.args.window in (
       removes-window c.args.self.now t n c.in_ok-i.i c.index.result.now c.remove.new.self c.remove-2.new.self.items c.in_ok-heir.heir c.self.view_is there
-      (asked (λ k. remove_tree t.tree k) n c.in_ok-i.i t.windows c.index.result.now _ there c.in_ok-heir.ensures.0) c.remove-2.ensures.items
-      (heir-chosen t.selected n c.index.result.now.0 c.in_ok-heir.heir t.tree.windows there.number c.in_ok-heir.ensures.1 c.if-self-number.true),
+          (asked (λ k. remove_tree t.tree k) n c.in_ok-i.i t.windows c.index.result.now _ there c.in_ok-heir.ensures.0) c.remove-2.ensures.items
+          (heir-chosen t.selected n c.index.result.now.0 c.in_ok-heir.heir t.tree.windows there.number c.in_ok-heir.ensures.1 c.if-self-number.true),
       refl,
     )
 
@@ -46,10 +45,9 @@ unfolding step effect_of
 returns-else-self-number c =
     let t = the_view c.self.inside in
     let there = found-in t c.as_slice.result.now c.args.window c.in_ok-i.i c.index.result.now c.as_slice.ensures.value c.in_ok-i.ensures.place c.in_ok-i.ensures.inside c.index.ensures in
-    let n = c.args.window in
-    (
+    let n = c.args.window in (
       removes-window c.args.self.now t n c.in_ok-i.i c.index.result.now c.remove.new.self c.remove-2.new.self.items t.selected c.self.view_is there
-      (asked (λ k. remove_tree t.tree k) n c.in_ok-i.i t.windows c.index.result.now _ there c.in_ok-heir.ensures.0) c.remove-2.ensures.items
-      (heir-passed t.selected n c.index.result.now.0 t.tree.windows there.number c.if-self-number.false),
+          (asked (λ k. remove_tree t.tree k) n c.in_ok-i.i t.windows c.index.result.now _ there c.in_ok-heir.ensures.0) c.remove-2.ensures.items
+          (heir-passed t.selected n c.index.result.now.0 t.tree.windows there.number c.if-self-number.false),
       refl,
     )

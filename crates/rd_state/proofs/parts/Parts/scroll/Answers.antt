@@ -26,10 +26,9 @@ returns c =
     let there = found-in t c.as_slice.result.now n c.in_ok-i.i c.index_mut.result.now c.as_slice.ensures.value c.in_ok-i.ensures.place c.in_ok-i.ensures.inside c.index_mut.ensures.value in
     let valid : IsValid t = subst IsValid (sym c.self.view_is) c.requires.valid in
     let e = c.index_mut.result.now in
-    let f : WindowState → WindowState = λ old. record old { forced = true; pending = held (old.pending +ℤ c.args.rows) } in
-    (
+    let f : WindowState → WindowState = λ old. record old { forced = true; pending = held (old.pending +ℤ c.args.rows) } in (
       sets-window c.args.self.now t n c.in_ok-i.i e f c.self.view_is there
-      ∙ ap (λ (p : ℤ). Ok (record t { windows = set t.windows c.in_ok-i.i (e.0, record e.1 { forced = true; pending = p }) }))
-      (sym (rows-held e.1.pending c.args.rows c.held-view.result (rows-near t n c.in_ok-i.i e valid there) c.requires.form.1 c.held-view.ensures)),
+          ∙ ap (λ (p : ℤ). Ok (record t { windows = set t.windows c.in_ok-i.i (e.0, record e.1 { forced = true; pending = p }) }))
+          (sym (rows-held e.1.pending c.args.rows c.held-view.result (rows-near t n c.in_ok-i.i e valid there) c.requires.form.1 c.held-view.ensures)),
       refl,
     )

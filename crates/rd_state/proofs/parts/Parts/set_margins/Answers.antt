@@ -29,9 +29,8 @@ returns c =
     let there = found-in t c.as_slice.result.now c.args.window c.in_ok-i.i c.index.result.now c.as_slice.ensures.value c.in_ok-i.ensures.place c.in_ok-i.ensures.inside c.index.ensures in
     let there_2 = found-in t c.as_slice.result.now c.args.window c.in_ok-i.i c.index_mut.result.now c.as_slice.ensures.value c.in_ok-i.ensures.place c.in_ok-i.ensures.inside c.index_mut.ensures.value in
     let n = c.args.window in
-    let f : WindowState → WindowState = λ old. record old { numbers = c.args.numbers; strings = c.args.strings } in
-    (
+    let f : WindowState → WindowState = λ old. record old { numbers = c.args.numbers; strings = c.args.strings } in (
       changes-with-tree c.args.self.now t n c.in_ok-i.i c.index_mut.result.now f (λ x. margins_tree x.tree n (c.args.numbers + c.args.strings)) c.margins.new.self c.self.view_is there_2
-      (asked (λ k. margins_tree t.tree k (c.args.numbers + c.args.strings)) n c.in_ok-i.i t.windows c.index.result.now _ there c.in_ok-margins.ensures),
+          (asked (λ k. margins_tree t.tree k (c.args.numbers + c.args.strings)) n c.in_ok-i.i t.windows c.index.result.now _ there c.in_ok-margins.ensures),
       refl,
     )

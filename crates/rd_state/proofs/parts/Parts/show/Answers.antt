@@ -28,9 +28,8 @@ returns c =
     let t = the_view c.self.inside in
     let n = c.args.window in
     let there = found-in t c.as_slice.result.now n c.in_ok-i.i c.index_mut-entry.result.now c.as_slice.ensures.value c.in_ok-i.ensures.place c.in_ok-i.ensures.inside c.index_mut-entry.ensures.value in
-    let b = c.text_at.ensures in
-    (
+    let b = c.text_at.ensures in (
       shows-buffer c.args.self.now t n c.in_ok-i.i c.index_mut-entry.result.now c.args.name.now c.in_ok-buffer.buffer c.begin-begin.result b.0 c.self.view_is there c.in_ok-buffer.ensures.found b.1
-      (c.begin-begin.ensures.value ∙ ap (λ (x : TextValue). x.begin) b.2),
+          (c.begin-begin.ensures.value ∙ ap (λ (x : TextValue). x.begin) b.2),
       ap (λ k. Window k) there.number,
     )

@@ -41,10 +41,9 @@ returns c =
     let asks = split-clamped c.needs_are_exact.ensures.split c.windows_tile_their_rectangle.ensures.inside t.tree n c.args.size short c.args.side valid.windows.tree c.min-size.ensures
     ∙ ap (λ k. split_tree t.tree k c.args.side short) (sym there.number) in
     let first = found-in t c.as_slice.result.now n c.in_ok-i.i c.index.result.now c.as_slice.ensures.value c.in_ok-i.ensures.place c.in_ok-i.ensures.inside c.index.ensures in
-    let twin = record c.in_ok-twin.twin { forced = false; pending = pos 0 } in
-    (
+    let twin = record c.in_ok-twin.twin { forced = false; pending = pos 0 } in (
       splits-window c.args.self.now t n c.in_ok-i.i c.index.result.now c.args.side c.args.size c.split.new.self twin c.in_ok-number.number c.add.new.windows.items c.self.view_is first
-      (asks ∙ c.in_ok-number.ensures.0) c.in_ok-number.ensures.1 (ap (λ (w : WindowState). record w { forced = false; pending = pos 0 }) c.in_ok-twin.ensures)
-      (c.add.ensures ∙ ap (λ (ws : List Entry). ws ++ (c.in_ok-number.number, twin) ∷ []) same),
+          (asks ∙ c.in_ok-number.ensures.0) c.in_ok-number.ensures.1 (ap (λ (w : WindowState). record w { forced = false; pending = pos 0 }) c.in_ok-twin.ensures)
+          (c.add.ensures ∙ ap (λ (ws : List Entry). ws ++ (c.in_ok-number.number, twin) ∷ []) same),
       refl,
     )

@@ -41,9 +41,8 @@ returns c =
     let e = c.index_mut.result.now in
     let f : WindowState → WindowState = λ old. record old { anchor = record { pos = c.args.pos; row = c.args.row }; forced = true; pending = pos 0 } in
     let b = c.in_ok-pos.ensures.exact in
-    let at = subst (λ (w : WindowState). slice_get t.buffers w.buffer ≡ Some b.0) (one-entry n c.in_ok-i.i t.windows c.index.result.now e there there_2) b.1 in
-    (
+    let at = subst (λ (w : WindowState). slice_get t.buffers w.buffer ≡ Some b.0) (one-entry n c.in_ok-i.i t.windows c.index.result.now e there there_2) b.1 in (
       places-window c.args.self.now t n c.in_ok-i.i c.args.pos e f b.0 c.self.view_is there_2 at b.2
-      ∙ ap (λ p. Ok (record t { windows = set t.windows c.in_ok-i.i (e.0, record e.1 { anchor = record { pos = p; row = c.args.row }; forced = true; pending = pos 0 }) })) (sym c.in_ok-pos.ensures.same),
+          ∙ ap (λ p. Ok (record t { windows = set t.windows c.in_ok-i.i (e.0, record e.1 { anchor = record { pos = p; row = c.args.row }; forced = true; pending = pos 0 }) })) (sym c.in_ok-pos.ensures.same),
       refl,
     )

@@ -10,7 +10,7 @@ use Rattle.rd_state.proofs.state.State.settle.Goals as goal
 pub invariant_of-self : goal.invariant_of-self
 invariant_of-self c =
     let accessible : StateValue → Type 0 = λ s.
-        (w : WindowState) (b : BufferValue) → window_of c.args.w s.windows ≡ Some w → slice_get s.buffers w.buffer ≡ Some b
-        → IsAccessible b.content.text c.args.anchor.pos × IsAccessible b.content.text c.args.point in
+    (w : WindowState) (b : BufferValue) → window_of c.args.w s.windows ≡ Some w → slice_get s.buffers w.buffer ≡ Some b
+    → IsAccessible b.content.text c.args.anchor.pos × IsAccessible b.content.text c.args.point in
     let at : accessible c.self.inside.parts = subst accessible (sym c.self.view_is) (λ w b found shown. (c.requires.anchor w b found shown, c.requires.point w b found shown)) in
     subst IsValid (sym c.settle.ensures) (c.settling_keeps_states.ensures c.self.inside.parts c.args.w c.args.anchor c.args.point c.self.invariant at)
