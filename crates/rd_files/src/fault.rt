@@ -1,0 +1,48 @@
+//! What can be wrong with the data files.
+use rd_ucd::UcdFault;
+use thiserror::Error;
+
+/// One of the three data files.
+#[derive(Clone, Copy, Debug, PartialEq, Eq)]
+pub enum DataFile {
+    /// The file of classes, in the form of `UnicodeData.txt`.
+    ClassFile,
+    /// The file of mirrored characters, in the form of `BidiMirroring.txt`.
+    MirrorFile,
+    /// The file of brackets, in the form of `BidiBrackets.txt`.
+    BracketFile,
+}
+
+/// What is wrong with a data file.
+#[derive(Clone, Copy, Debug, Drop, PartialEq, Eq)]
+pub enum DataKind {
+    /// It has more than 8,388,608 bytes.
+    TooLarge,
+    /// A line of it is bad. This is the first one.
+    Bad(UcdFault),
+}
+
+/// A data file that is bad.
+#[derive(Clone, Copy, Debug, Drop, PartialEq, Eq)]
+pub struct BadFile {
+    /// Which it is.
+    pub file: DataFile,
+    /// The number of its first bad line, from 1; 0 where it is too large.
+    pub line: u32,
+    /// What is wrong.
+    pub kind: DataKind,
+}
+
+/// Why the data files were not read.
+#[derive(Clone, Copy, Debug, Drop, PartialEq, Eq, Error)]
+pub enum DataFault {
+    /// A file is bad.
+    #[error("a data file is bad")]
+    Bad(BadFile),
+    /// A file failed, or there is none of its name.
+    #[error("a data file failed")]
+    Read,
+    /// Memory was wanting.
+    #[error("no memory")]
+    Memory,
+}

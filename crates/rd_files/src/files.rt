@@ -1,0 +1,158 @@
+//! The reading of the data files.
+ghost use Rattle.std.specs.Prelude.{◌≡◌, ◌≤◌, ◌<◌, ◌^◌, ℕ, List, option_map};
+ghost use Rattle.rd_files.specs.DataFiles.{FailedAt, FailedAtSome, ReadsBytes, ReadsData, ReadsFile, brackets_in, classes_in, fault_of, line_of, mirrors_in, told_or_empty};
+
+use crate::fault::{BadFile, DataFault, DataFile, DataKind};
+use rd_io::{FileFault, Files, read_file};
+use rd_ucd::{Brackets, Classes, Mirrors, UcdFault};
+use std::alloc::Global;
+
+/// What the three files stand for.
+#[derive(Drop)]
+pub struct DataFiles {
+    /// The classes of characters.
+    pub classes: Classes,
+    /// The mirrored characters.
+    pub mirrors: Mirrors,
+    /// The brackets; none without a bracket file.
+    pub brackets: Brackets,
+}
+
+/// Reads the class file, the mirror file and the bracket file, where there is one, by their names. Each is read whole and judged
+/// before the next one is read, so the first fault in this order is told, whatever the later files are.
+///
+/// `Bad` comes exactly at a file of more than 8,388,608 bytes, with line 0, and at one with a bad line, with the first such line.
+/// `Read` comes only where the count of faults of the file that was to be read rose in the call, as at a file that isn't there.
+/// Want of memory may come at any file. What `files` tells of contents stays the same. The cost is linear in the bytes that are
+/// read, and so is the memory.
+pub fn read_data<F: Files>(
+    alloc: Global,
+    files: &mut F,
+    class_file: &str,
+    mirror_file: &str,
+    bracket_file: Option<&str>,
+) -> Result<DataFiles, DataFault>
+    ensures read { ReadsData (F.contents files.old) (F.faults files.old) (F.faults files.new) (record { class_file = class_file.now; mirror_file = mirror_file.now; bracket_file = option_map (λ name. name.now) bracket_file.entry }) result }
+    ensures contents { (file : List ℕ) → F.contents files.new file ≡ F.contents files.old file }
+    ensures never_falls { (file : List ℕ) → F.faults files.old file ≤ F.faults files.new file }
+{
+    let classes = read_classes(alloc, files, class_file)?;
+    let mirrors = read_mirrors(alloc, files, mirror_file)?;
+    let brackets = read_brackets(alloc, files, bracket_file)?;
+    Ok(DataFiles {
+        classes,
+        mirrors,
+        brackets,
+    })
+}
+
+/// Reads and judges the class file.
+fn read_classes<F: Files>(alloc: Global, files: &mut F, name: &str) -> Result<Classes, DataFault>
+    ensures read { ReadsFile classes_in (F.contents files.old name.now) (FailedAt (F.faults files.old) (F.faults files.new) name.now) result }
+    ensures contents { (file : List ℕ) → F.contents files.new file ≡ F.contents files.old file }
+    ensures never_falls { (file : List ℕ) → F.faults files.old file ≤ F.faults files.new file }
+{
+    let bytes = read_bytes(alloc, files, name, DataFile::ClassFile)?;
+    match Classes::read(alloc, &bytes) {
+        Ok(classes) => Ok(classes),
+        Err(fault) => Err(fault_of(DataFile::ClassFile, fault)),
+    }
+}
+
+/// Reads and judges the mirror file.
+fn read_mirrors<F: Files>(alloc: Global, files: &mut F, name: &str) -> Result<Mirrors, DataFault>
+    ensures read { ReadsFile mirrors_in (F.contents files.old name.now) (FailedAt (F.faults files.old) (F.faults files.new) name.now) result }
+    ensures contents { (file : List ℕ) → F.contents files.new file ≡ F.contents files.old file }
+    ensures never_falls { (file : List ℕ) → F.faults files.old file ≤ F.faults files.new file }
+{
+    let bytes = read_bytes(alloc, files, name, DataFile::MirrorFile)?;
+    match Mirrors::read(alloc, &bytes) {
+        Ok(mirrors) => Ok(mirrors),
+        Err(fault) => Err(fault_of(DataFile::MirrorFile, fault)),
+    }
+}
+
+/// Reads and judges the bracket file, where there is one.
+fn read_brackets<F: Files>(
+    alloc: Global,
+    files: &mut F,
+    name: Option<&str>,
+) -> Result<Brackets, DataFault>
+    ensures read { ReadsFile brackets_in (told_or_empty (F.contents files.old) (option_map (λ n. n.now) name.entry)) (FailedAtSome (F.faults files.old) (F.faults files.new) (option_map (λ n. n.now) name.entry)) result }
+    ensures contents { (file : List ℕ) → F.contents files.new file ≡ F.contents files.old file }
+    ensures never_falls { (file : List ℕ) → F.faults files.old file ≤ F.faults files.new file }
+{
+    match name {
+        Some(name) => read_bracket_file(alloc, files, name),
+        None => Ok(Brackets::none(alloc)),
+    }
+}
+
+/// Reads and judges the bracket file of a name.
+fn read_bracket_file<F: Files>(
+    alloc: Global,
+    files: &mut F,
+    name: &str,
+) -> Result<Brackets, DataFault>
+    ensures read { ReadsFile brackets_in (F.contents files.old name.now) (FailedAt (F.faults files.old) (F.faults files.new) name.now) result }
+    ensures contents { (file : List ℕ) → F.contents files.new file ≡ F.contents files.old file }
+    ensures never_falls { (file : List ℕ) → F.faults files.old file ≤ F.faults files.new file }
+{
+    let bytes = read_bytes(alloc, files, name, DataFile::BracketFile)?;
+    match Brackets::read(alloc, &bytes) {
+        Ok(brackets) => Ok(brackets),
+        Err(fault) => Err(fault_of(DataFile::BracketFile, fault)),
+    }
+}
+
+/// Reads a file whole, without judging it.
+fn read_bytes<F: Files>(
+    alloc: Global,
+    files: &mut F,
+    name: &str,
+    file: DataFile,
+) -> Result<Vec<u8>, DataFault>
+    ensures read { ReadsBytes file (F.contents files.old name.now) (FailedAt (F.faults files.old) (F.faults files.new) name.now) result }
+    ensures contents { (file : List ℕ) → F.contents files.new file ≡ F.contents files.old file }
+    ensures never_falls { (file : List ℕ) → F.faults files.old file ≤ F.faults files.new file }
+{
+    match read_file(alloc, files, name) {
+        Ok(bytes) => Ok(bytes),
+        Err(FileFault::Failed) => Err(DataFault::Read),
+        Err(FileFault::TooLarge) => Err(DataFault::Bad(BadFile {
+            file,
+            line: 0,
+            kind: DataKind::TooLarge,
+        })),
+        Err(FileFault::Memory) => Err(DataFault::Memory),
+    }
+}
+
+/// What a fault of a file's lines is.
+fn fault_of(file: DataFile, fault: UcdFault) -> DataFault
+    requires { line_of fault < 2 ^ 32 }
+    ensures { result ≡ fault_of file fault }
+{
+    match fault {
+        UcdFault::Memory => DataFault::Memory,
+        bad => DataFault::Bad(BadFile {
+            file,
+            line: line_of(bad) as u32,
+            kind: DataKind::Bad(bad),
+        }),
+    }
+}
+
+/// The number of the bad line.
+fn line_of(fault: UcdFault) -> u64
+    ensures { result ≡ line_of fault }
+{
+    match fault {
+        UcdFault::BadLine(n) => n,
+        UcdFault::BadCode(n) => n,
+        UcdFault::BadClass(n) => n,
+        UcdFault::NotAscending(n) => n,
+        UcdFault::BadRange(n) => n,
+        UcdFault::Memory => 0,
+    }
+}

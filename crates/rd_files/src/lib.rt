@@ -1,0 +1,8 @@
+//! The reading of the data files: each read whole and judged, in order.
+#![tactic(auto)]
+
+mod fault;
+mod files;
+
+pub use fault::{BadFile, DataFault, DataFile, DataKind};
+pub use files::{DataFiles, read_data};

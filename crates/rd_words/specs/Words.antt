@@ -1,0 +1,130 @@
+-- The words of the command line, and what they say.
+use Rattle.std.specs.Prelude.{ℕ, ◌&&◌, Bool, true, false, not, if◌then◌else◌, List, [], ◌∷◌, ◌++◌, find, slice_get, Option, None, Some, is_some, option_map, option_and_then, codes}
+use Rattle.std.specs.List.{list_any}
+use Rattle.std.specs.Option.{option_map_or}
+use Rattle.std.specs.Str.{bytes_eq, chars}
+use Rattle.std.specs.Str.Parse.{digits_value, without_leading_plus}
+use Rattle.clap.specs.Lexer.{long_of, strip_byte}
+use Rattle.clap.specs.ValueTests.{is_unsigned_in}
+
+abbrev pub Text : Type 0
+Text = List ℕ
+
+-- what the words can set: three files, the number of a generated script, and that dumps are asked for
+pub data Setting : Type 0 where
+  class_file : Setting
+  mirror_file : Setting
+  bracket_file : Setting
+  generate : Setting
+  dump : Setting
+
+abbrev pub settings : List Setting
+settings = class_file ∷ mirror_file ∷ bracket_file ∷ generate ∷ dump ∷ []
+
+abbrev pub name_of : Setting → Text
+name_of class_file = codes "data"
+name_of mirror_file = codes "mirror"
+name_of bracket_file = codes "brackets"
+name_of generate = codes "generate"
+name_of dump = codes "dump"
+
+abbrev pub named : Text → Option Setting
+named name = find (λ s. bytes_eq (name_of s) name) settings
+
+-- all but the flag have a value
+abbrev pub has_value : Setting → Bool
+has_value dump = false
+has_value s = true
+
+-- one use of a setting, with its value; that of the flag is `true`
+abbrev pub Use : Type 0
+Use = Setting × Text
+
+-- a hyphen and a character behind it: such a word is no value
+abbrev pub is_flag : Text → Bool
+is_flag word = is_some (option_and_then (λ rest. slice_get (chars rest) 0) (strip_byte 45 word))
+
+abbrev pub with_use : Use → Option (List Use) → Option (List Use)
+with_use u us = option_map (λ rest. u ∷ rest) us
+
+-- Uses that begin with a word `--name` or `--name=VALUE`: the value of a setting stands in the word or is the next word, and a flag
+-- has none. What follows is read by `after`, or behind a name whose value is still to come by `awaiting`.
+abbrev pub begun : Option Setting → Option Text → Option (List Use) → (Setting → Option (List Use)) → Option (List Use)
+begun None value after awaiting = None
+begun (Some s) (Some value) after awaiting = if has_value s then with_use (s, value) after else None
+begun (Some s) None after awaiting = if has_value s then awaiting s else with_use (s, codes "true") after
+
+-- a last word `--` says nothing
+abbrev pub last : List Text → Option (List Use)
+last [] = Some []
+last words = None
+
+-- the uses that the words are, where the first word is the value of a setting that waits for it
+abbrev pub uses_from : Option Setting → List Text → Option (List Use)
+uses_from None [] = Some []
+uses_from (Some s) [] = None
+uses_from (Some s) (word ∷ words) = if is_flag word then None else with_use (s, word) (uses_from None words)
+uses_from None (word ∷ words) =
+    if bytes_eq word (45 ∷ 45 ∷ [])
+    then last words
+    else option_and_then (λ p. begun (named p.0) p.1 (uses_from None words) (λ s. uses_from (Some s) words)) (long_of word)
+
+-- the number of a generated script: decimal digits, before which a plus may stand, of at most 2,147,483,647
+abbrev pub is_number : Text → Bool
+is_number text = is_unsigned_in 0 2147483647 text
+
+abbrev pub number_of : Text → Option ℕ
+number_of text = if is_number text then Some (digits_value 10 (without_leading_plus text)) else None
+
+abbrev pub is_of : Setting → Use → Bool
+is_of s u = bytes_eq (name_of u.0) (name_of s)
+
+abbrev pub is_used : Setting → List Use → Bool
+is_used s uses = list_any (is_of s) uses
+
+abbrev pub value_of : Setting → List Use → Option Text
+value_of s uses = option_map (λ u. u.1) (find (is_of s) uses)
+
+-- the flag was used
+abbrev pub is_true : Option Text → Bool
+is_true value = option_map_or (λ text. bytes_eq text (codes "true")) value false
+
+abbrev pub is_in_form : Use → Bool
+is_in_form (generate, text) = is_number text
+is_in_form u = true
+
+-- a use may stand behind others: its setting has no other use, and its value is in form
+abbrev pub fits : List Use → Use → Bool
+fits before u = not (is_used u.0 before) && is_in_form u
+
+-- what the words say
+pub record WordValues : Type 0 where
+  pub class_file : Text
+  pub mirror_file : Text
+  pub bracket_file : Option Text
+  pub generate : Option ℕ
+  pub dumps : Bool
+
+-- the class file and the mirror file have to be named
+abbrev pub values_by : Option Text → Option Text → Option Text → Option Text → Bool → Option WordValues
+values_by (Some classes) (Some mirrors) brackets number dumps = Some (record {
+  class_file = classes;
+  mirror_file = mirrors;
+  bracket_file = brackets;
+  generate = option_and_then number_of number;
+  dumps = dumps;
+})
+values_by classes mirrors brackets number dumps = None
+
+abbrev pub values_in : List Use → Option WordValues
+values_in uses =
+    values_by (value_of class_file uses) (value_of mirror_file uses) (value_of bracket_file uses) (value_of generate uses) (is_true (value_of dump uses))
+
+-- what uses say that stand behind those of `before`
+abbrev pub values_from : List Use → List Use → Option WordValues
+values_from before [] = values_in before
+values_from before (u ∷ uses) = if fits before u then values_from (before ++ u ∷ []) uses else None
+
+-- what the words say, and None where they are faulty
+abbrev pub values_of : List Text → Option WordValues
+values_of words = option_and_then (values_from []) (uses_from None words)

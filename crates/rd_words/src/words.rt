@@ -1,0 +1,147 @@
+//! What the words of the command line say.
+ghost use Rattle.std.specs.Prelude.{◌≡◌, IfOk, option_map, option_and_then};
+ghost use Rattle.clap.specs.Words.{app_of, found_of, rows_of, rule_of};
+ghost use Rattle.rd_words.specs.Words.{is_true, values_of, number_of};
+ghost use Rattle.rd_words.specs.Command.{ReadsWords, command, fault_of, option_of, texts, values_of_rows};
+
+use clap::builder::ValueParser;
+use clap::error::ErrorKind;
+use clap::{Arg, ArgAction, ArgMatches, Command};
+use std::alloc::{AllocError, Global};
+use thiserror::Error;
+
+/// What the words say. The texts are those of the words.
+#[derive(Clone, Copy, Debug, PartialEq, Eq)]
+pub struct Words<'a> {
+    /// The name of the class file.
+    pub class_file: &'a str,
+    /// The name of the mirror file.
+    pub mirror_file: &'a str,
+    /// The name of the bracket file, where there is one.
+    pub bracket_file: Option<&'a str>,
+    /// The number of the generated script that takes the script's place, at most 2,147,483,647.
+    pub generate: Option<u32>,
+    /// Whether dumps are asked for.
+    pub dumps: bool,
+}
+
+/// Why the words were not read.
+#[derive(Clone, Copy, Debug, PartialEq, Eq, Error)]
+pub enum WordsFault {
+    /// They are faulty.
+    #[error("usage: redisplay --data FILE --mirror FILE [--brackets FILE] [--generate N] [--dump]")]
+    Usage,
+    /// Memory was wanting.
+    #[error("no memory")]
+    Memory,
+}
+
+impl From<AllocError> for WordsFault {
+    ghost use Rattle.std.specs.Prelude.{◌≡◌};
+    ghost use Rattle.rd_words.specs.declared.words.WordsFault.TheVariants.{Memory};
+
+    ghost from_gives = { λ _ fault. fault ≡ Memory };
+
+    fn from(_none: AllocError) -> WordsFault {
+        WordsFault::Memory
+    }
+}
+
+/// The greatest number of a generated script.
+const MOST: u64 = 2_147_483_647;
+
+/// Reads the words behind the program's name: `--data FILE` and `--mirror FILE`, and where they are wanted `--brackets FILE`,
+/// `--generate N` and `--dump`, in any order and each at most once. A value may be joined to its name by `=`; a value that is a
+/// word of its own is no flag, so it begins with no hyphen but where it is the hyphen alone. N is 0 to 2,147,483,647 in decimal
+/// digits, before which a plus may stand. A last word `--` says nothing.
+///
+/// `Usage` comes exactly for other words, `--help` among them: where `clap` refuses the words of this command. Want of memory may
+/// come at any words.
+pub fn read_words<'a>(alloc: Global, words: &'a [String]) -> Result<Words<'a>, WordsFault>
+    ensures { ReadsWords result (values_of (texts words.now)) }
+{
+    let command = command(alloc)?;
+    match command.try_get_matches_from(words) {
+        Ok(matches) => words_of(&matches),
+        Err(error) => Err(fault_of(error.kind())),
+    }
+}
+
+/// What an error of this kind is.
+fn fault_of(kind: ErrorKind) -> WordsFault
+    ensures { result ≡ fault_of kind }
+{
+    match kind {
+        ErrorKind::OutOfMemory => WordsFault::Memory,
+        _ => WordsFault::Usage,
+    }
+}
+
+/// The command, of which `--help` is no word.
+fn command<'a>(alloc: Global) -> Result<Command<'a>, AllocError>
+    ensures { IfOk result (λ c. app_of c ≡ command) }
+{
+    Command::new(alloc, "redisplay")
+        .no_binary_name(true)
+        .disable_help_flag(true)
+        .arg(option(alloc, "data").required(true))?
+        .arg(option(alloc, "mirror").required(true))?
+        .arg(option(alloc, "brackets"))?
+        .arg(option(alloc, "generate").value_parser(ValueParser::unsigned(0, MOST)))?
+        .arg(Arg::new(alloc, "dump").long("dump").action(ArgAction::SetTrue))
+}
+
+/// An option that takes a value.
+fn option<'a>(alloc: Global, name: &'a str) -> Arg<'a>
+    ensures rule { rule_of result ≡ option_of name.entry.now }
+    ensures local { result.global ≡ false }
+{
+    Arg::new(alloc, name).long(name).action(ArgAction::Set)
+}
+
+/// What the matches of the command say.
+fn words_of<'a>(matches: &ArgMatches<'a>) -> Result<Words<'a>, WordsFault>
+    ensures { ReadsWords result (values_of_rows (rows_of (found_of matches.now))) }
+{
+    let Some(class_file) = matches.get_str("data") else {
+        return Err(WordsFault::Usage);
+    };
+    let Some(mirror_file) = matches.get_str("mirror") else {
+        return Err(WordsFault::Usage);
+    };
+    Ok(Words {
+        class_file,
+        mirror_file,
+        bracket_file: matches.get_str("brackets"),
+        generate: number_in(matches.get_str("generate")),
+        dumps: is_true(matches.get_str("dump")),
+    })
+}
+
+/// The number that a text is, where it is one.
+fn number_in(text: Option<&str>) -> Option<u32>
+    ensures { result ≡ option_and_then number_of (option_map (λ t. t.now) text.entry) }
+{
+    number_of(text?)
+}
+
+/// The number of a text, and None where it is none that a generated script has.
+fn number_of(text: &str) -> Option<u32>
+    ensures { result ≡ number_of text.now }
+{
+    match text.parse::<u32>() {
+        Ok(number) if number as u64 > MOST => None,
+        Ok(number) => Some(number),
+        Err(_) => None,
+    }
+}
+
+/// Whether the value of the flag says that it was used.
+fn is_true(value: Option<&str>) -> bool
+    ensures { result ≡ is_true (option_map (λ t. t.now) value.entry) }
+{
+    match value {
+        Some(text) => text == "true",
+        None => false,
+    }
+}
