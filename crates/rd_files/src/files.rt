@@ -36,9 +36,18 @@ pub fn read_data<F: Files>(
     ensures contents { (file : List ℕ) → F.contents files.new file ≡ F.contents files.old file }
     ensures never_falls { (file : List ℕ) → F.faults files.old file ≤ F.faults files.new file }
 {
-    let classes = read_classes(alloc, files, class_file)?;
-    let mirrors = read_mirrors(alloc, files, mirror_file)?;
-    let brackets = read_brackets(alloc, files, bracket_file)?;
+    let classes = match read_classes(alloc, files, class_file) {
+        Ok(classes) => classes,
+        Err(fault) => return Err(fault),
+    };
+    let mirrors = match read_mirrors(alloc, files, mirror_file) {
+        Ok(mirrors) => mirrors,
+        Err(fault) => return Err(fault),
+    };
+    let brackets = match read_brackets(alloc, files, bracket_file) {
+        Ok(brackets) => brackets,
+        Err(fault) => return Err(fault),
+    };
     Ok(DataFiles {
         classes,
         mirrors,
@@ -52,7 +61,10 @@ fn read_classes<F: Files>(alloc: Global, files: &mut F, name: &str) -> Result<Cl
     ensures contents { (file : List ℕ) → F.contents files.new file ≡ F.contents files.old file }
     ensures never_falls { (file : List ℕ) → F.faults files.old file ≤ F.faults files.new file }
 {
-    let bytes = read_bytes(alloc, files, name, DataFile::ClassFile)?;
+    let bytes = match read_bytes(alloc, files, name, DataFile::ClassFile) {
+        Ok(bytes) => bytes,
+        Err(unread) => return Err(unread),
+    };
     match Classes::read(alloc, &bytes) {
         Ok(classes) => Ok(classes),
         Err(fault) => Err(fault_of(DataFile::ClassFile, fault)),
@@ -65,7 +77,10 @@ fn read_mirrors<F: Files>(alloc: Global, files: &mut F, name: &str) -> Result<Mi
     ensures contents { (file : List ℕ) → F.contents files.new file ≡ F.contents files.old file }
     ensures never_falls { (file : List ℕ) → F.faults files.old file ≤ F.faults files.new file }
 {
-    let bytes = read_bytes(alloc, files, name, DataFile::MirrorFile)?;
+    let bytes = match read_bytes(alloc, files, name, DataFile::MirrorFile) {
+        Ok(bytes) => bytes,
+        Err(unread) => return Err(unread),
+    };
     match Mirrors::read(alloc, &bytes) {
         Ok(mirrors) => Ok(mirrors),
         Err(fault) => Err(fault_of(DataFile::MirrorFile, fault)),
@@ -98,7 +113,10 @@ fn read_bracket_file<F: Files>(
     ensures contents { (file : List ℕ) → F.contents files.new file ≡ F.contents files.old file }
     ensures never_falls { (file : List ℕ) → F.faults files.old file ≤ F.faults files.new file }
 {
-    let bytes = read_bytes(alloc, files, name, DataFile::BracketFile)?;
+    let bytes = match read_bytes(alloc, files, name, DataFile::BracketFile) {
+        Ok(bytes) => bytes,
+        Err(unread) => return Err(unread),
+    };
     match Brackets::read(alloc, &bytes) {
         Ok(brackets) => Ok(brackets),
         Err(fault) => Err(fault_of(DataFile::BracketFile, fault)),

@@ -1,6 +1,7 @@
 //! The reading of the data files: each read whole and judged, in order.
 #![tactic(auto)]
 
+mod examples;
 mod fault;
 mod files;
 

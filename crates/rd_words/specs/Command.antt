@@ -1,7 +1,7 @@
 -- The command as `clap` is told of it, and what a reader of the words answers.
-use Rattle.std.specs.Prelude.{◌≡◌, Bool, true, false, List, map, Option, None, Some, option_map, codes, String, string_bytes, Result, Ok, Err}
+use Rattle.std.specs.Prelude.{◌≡◌, Bool, true, false, List, [], ◌∷◌, map, Option, None, Some, option_map, codes, String, string_bytes, Result, Ok, Err}
 use Rattle.std.specs.Global.{Global}
-use Rattle.clap.specs.Words.{App, Row, Rule, first_of, new_app, new_rule}
+use Rattle.clap.specs.Words.{App, Kinds, Row, Rule, fault_of as faults_of, first_of, matches_of, new_app, new_rule}
 use Rattle.clap.specs.Simple.{on_top}
 use Rattle.clap.specs.declared.builder.action.ArgAction.TheVariants.{Set, SetTrue}
 use Rattle.clap.specs.declared.builder.action.ArgAction.{ArgAction}
@@ -48,6 +48,15 @@ abbrev pub values_of_rows : List Row → Option WordValues
 values_of_rows rows =
     values_by (first_of (name_of class_file) rows) (first_of (name_of mirror_file) rows) (first_of (name_of bracket_file) rows)
     (first_of (name_of generate) rows) (is_true (first_of (name_of dump) rows))
+
+-- what is said where there is no fault to tell
+abbrev pub without_fault : Kinds → Option WordValues → Option WordValues
+without_fault [] said = said
+without_fault (kind ∷ kinds) said = None
+
+-- what `clap` makes of the words: what its matches say, where it has no fault to tell
+abbrev pub values_by_clap : List Text → Option WordValues
+values_by_clap words = without_fault (faults_of command words) (values_of_rows (matches_of command words))
 
 -- the words as texts
 abbrev pub texts : List (String Global) → List Text

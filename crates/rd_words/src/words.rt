@@ -1,5 +1,5 @@
 //! What the words of the command line say.
-ghost use Rattle.std.specs.Prelude.{◌≡◌, IfOk, option_map, option_and_then};
+ghost use Rattle.std.specs.Prelude.{◌≡◌, false, IfOk, option_map, option_and_then};
 ghost use Rattle.clap.specs.Words.{app_of, found_of, rows_of, rule_of};
 ghost use Rattle.rd_words.specs.Words.{is_true, values_of, number_of};
 ghost use Rattle.rd_words.specs.Command.{ReadsWords, command, fault_of, option_of, texts, values_of_rows};
@@ -88,7 +88,11 @@ fn command<'a>(alloc: Global) -> Result<Command<'a>, AllocError>
         .arg(option(alloc, "mirror").required(true))?
         .arg(option(alloc, "brackets"))?
         .arg(option(alloc, "generate").value_parser(ValueParser::unsigned(0, MOST)))?
-        .arg(Arg::new(alloc, "dump").long("dump").action(ArgAction::SetTrue))
+        .arg(
+            Arg::new(alloc, "dump")
+                .long("dump")
+                .action(ArgAction::SetTrue),
+        )
 }
 
 /// An option that takes a value.

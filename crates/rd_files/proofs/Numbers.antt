@@ -1,0 +1,186 @@
+-- The number of a bad line is at most one more than the bytes of its file.
+use Rattle.std.proofs.Common.{◌≡◌, ◌+◌, ◌<◌, ◌≤◌, ◌^◌, ℕ, suc, ◌==◌, Bool, true, false, List, [], ◌∷◌, ◌++◌, length, count_by, Option, None, Some, Result, Ok, Err, arith, refl, ap}
+use Rattle.std.specs.Prelude.{if◌then◌else◌, nat_lt, slice_index_or}
+use Rattle.std.specs.List.{slice_split}
+use Rattle.std.specs.Option.{option_to_list}
+use Rattle.std.proofs.lemmas.List.Splits.{length-slice_split}
+use Rattle.std.proofs.lemmas.List.Sums.{count_by-le-length}
+use Rattle.rd_base.specs.declared.class.Class.{Class}
+use Rattle.rd_ucd.specs.declared.fault.UcdFault.{UcdFault}
+use Rattle.rd_ucd.specs.declared.fault.UcdFault.TheVariants as ucd
+use Rattle.rd_ucd.specs.declared.spans.Span.{Span}
+use Rattle.rd_ucd.specs.declared.spans.Pair.{Pair}
+use Rattle.rd_ucd.specs.declared.spans.Bracket.{Bracket}
+use Rattle.rd_ucd.specs.declared.spans.BracketEntry.{BracketEntry}
+use Rattle.rd_ucd.specs.declared.listing.Codes.{Codes}
+use Rattle.rd_ucd.specs.declared.entries.Mark.{Mark}
+use Rattle.rd_ucd.specs.declared.entries.Mark.TheVariants.{Alone, First, Last}
+use Rattle.rd_ucd.specs.declared.entries.Entry.{Entry}
+use Rattle.rd_ucd.specs.declared.entries.Opened.{Opened}
+use Rattle.rd_ucd.specs.Codes.{code_of}
+use Rattle.rd_ucd.specs.Pieces.{chomped}
+use Rattle.rd_ucd.specs.Names.{named}
+use Rattle.rd_ucd.specs.Results.{Answers, behind}
+use Rattle.rd_ucd.specs.Lines.{entries_in, fields_of, lines_of, numbered}
+use Rattle.rd_ucd.specs.ClassFile.{classes_of, closes, coded, ended, entry_of, fault_of, is_empty_line, mark_of, opened_by, span_by, spans_from, unless}
+use Rattle.rd_ucd.specs.ListFile.{ascending_from, both, codes_of, counting, is_blank_line, listed_in, trimmed_field}
+use Rattle.rd_ucd.specs.MirrorFile.{mirrors_of, pair_by, pair_of}
+use Rattle.rd_ucd.specs.BracketFile.{bracket_by, bracket_named, bracket_of, bracket_with, brackets_of}
+use Rattle.rd_files.specs.DataFiles.{line_of}
+
+-- a fault has a line up to this one
+abbrev IsWithin : {T : Type 0} → ℕ → Result T UcdFault → Type 0
+IsWithin most (Ok value) = Unit {0}
+IsWithin most (Err fault) = line_of fault ≤ most
+
+-- each entry, too
+abbrev AreWithin : {T : Type 0} → ℕ → List (ℕ × Result T UcdFault) → Type 0
+AreWithin most [] = Unit {0}
+AreWithin most ((n, entry) ∷ entries) = (n ≤ most) × IsWithin most entry × AreWithin most entries
+
+module _ {T : Type 0} (most : ℕ) where
+  entries-within : (passed_over : List ℕ → Bool) (entry : ℕ → List ℕ → Result T UcdFault) → ((n : ℕ) (line : List ℕ) → n ≤ most → IsWithin most (entry n line))
+      → (n : ℕ) (lines : List (List ℕ)) → n + length lines ≤ suc most → AreWithin most (entries_in passed_over entry (numbered n lines))
+  entries-within passed_over entry each n [] fits = tt
+  entries-within passed_over entry each n (line ∷ lines) fits =
+      go (passed_over line) (entries-within passed_over entry each (suc n) lines (omega arith))
+    where
+      low : n ≤ most
+      low = omega arith
+
+      go : (b : Bool) → AreWithin most (entries_in passed_over entry (numbered (suc n) lines))
+          → AreWithin most (if b then entries_in passed_over entry (numbered (suc n) lines) else (n, entry n line) ∷ entries_in passed_over entry (numbered (suc n) lines))
+      go true rest = rest
+      go false rest = (low, each n line low, rest)
+
+  behind-within : (values : List T) (result : Result (List T) UcdFault) → IsWithin most result → IsWithin most (behind values result)
+  behind-within values (Ok more) h = tt
+  behind-within values (Err fault) h = h
+
+  ascending-within : (key : T → ℕ) (least : ℕ) (entries : List (ℕ × Result T UcdFault)) → AreWithin most entries → IsWithin most (ascending_from key least entries)
+  ascending-within key least [] h = tt
+  ascending-within key least ((n, Err fault) ∷ entries) h = h.1
+  ascending-within key least ((n, Ok e) ∷ entries) h =
+      go (nat_lt (key e) least) (behind-within (e ∷ []) (ascending_from key (suc (key e)) entries) (ascending-within key (suc (key e)) entries h.2))
+    where
+      go : (b : Bool) → IsWithin most (behind (e ∷ []) (ascending_from key (suc (key e)) entries))
+          → IsWithin most (if b then Err (ucd.NotAscending n) else behind (e ∷ []) (ascending_from key (suc (key e)) entries))
+      go true rest = h.0
+      go false rest = rest
+
+-- ---- class files
+
+coded-within : (most n : ℕ) (code : Option ℕ) (mark : Mark) (class : Option Class) → n ≤ most → IsWithin most (coded n code mark class)
+coded-within most n None mark class h = h
+coded-within most n (Some code) mark None h = h
+coded-within most n (Some code) mark (Some class) h = tt
+
+entry-within : (most n : ℕ) (line : List ℕ) → n ≤ most → IsWithin most (entry_of n line)
+entry-within most n line h = go (nat_lt 4 (length (fields_of (chomped line))))
+  where
+    fields : List (List ℕ)
+    fields = fields_of (chomped line)
+
+    go : (b : Bool)
+        → IsWithin most (if b then coded n (code_of (slice_index_or fields 0 [])) (mark_of (slice_index_or fields 1 [])) (named (slice_index_or fields 4 [])) else Err (ucd.BadLine n))
+    go true = coded-within most n (code_of (slice_index_or fields 0 [])) (mark_of (slice_index_or fields 1 [])) (named (slice_index_or fields 4 [])) h
+    go false = h
+
+abbrev IsOpenWithin : ℕ → Option Opened → Type 0
+IsOpenWithin most None = Unit {0}
+IsOpenWithin most (Some o) = o.number ≤ most
+
+opened-within : (most n : ℕ) (e : Entry) (mark : Mark) → n ≤ most → IsOpenWithin most (opened_by mark n e)
+opened-within most n e Alone h = tt
+opened-within most n e First h = h
+opened-within most n e Last h = tt
+
+ended-within : (most : ℕ) (opened : Option Opened) → IsOpenWithin most opened → IsWithin most (ended opened)
+ended-within most None h = tt
+ended-within most (Some o) h = h
+
+unless-within : (most n : ℕ) (low closed : Bool) (result : Result (List Span) UcdFault) → n ≤ most → IsWithin most result
+    → IsWithin most (unless (if low then Some (ucd.NotAscending n) else (if closed then None else Some (ucd.BadRange n))) result)
+unless-within most n true closed result h rest = h
+unless-within most n false true result h rest = rest
+unless-within most n false false result h rest = h
+
+spans-within : (most least : ℕ) (opened : Option Opened) (entries : List (ℕ × Result Entry UcdFault)) → AreWithin most entries → IsOpenWithin most opened
+    → IsWithin most (spans_from least opened entries)
+spans-within most least opened [] h o = ended-within most opened o
+spans-within most least opened ((n, Err fault) ∷ entries) h o = h.1
+spans-within most least opened ((n, Ok e) ∷ entries) h o =
+    unless-within most n (nat_lt e.code least) (closes opened e) (behind (option_to_list (span_by e.mark opened e)) (spans_from (suc e.code) (opened_by e.mark n e) entries)) h.0
+    (behind-within most (option_to_list (span_by e.mark opened e)) (spans_from (suc e.code) (opened_by e.mark n e) entries)
+    (spans-within most (suc e.code) (opened_by e.mark n e) entries h.2 (opened-within most n e e.mark h.0)))
+
+-- ---- mirror and bracket files
+
+both-within : (most n : ℕ) (code other : Option ℕ) → n ≤ most → IsWithin most (both n code other)
+both-within most n None other h = h
+both-within most n (Some code) None h = h
+both-within most n (Some code) (Some other) h = tt
+
+codes-within : (most count n : ℕ) (fields : List (List ℕ)) → n ≤ most → IsWithin most (codes_of count n fields)
+codes-within most count n fields h = go (length fields == count)
+  where
+    go : (b : Bool) → IsWithin most (if b then both n (code_of (trimmed_field fields 0)) (code_of (trimmed_field fields 1)) else Err (ucd.BadLine n))
+    go true = both-within most n (code_of (trimmed_field fields 0)) (code_of (trimmed_field fields 1)) h
+    go false = h
+
+pair-within : (most n : ℕ) (fields : List (List ℕ)) → n ≤ most → IsWithin most (pair_of n fields)
+pair-within most n fields h = go (codes_of 2 n fields) (codes-within most 2 n fields h)
+  where
+    go : (r : Result Codes UcdFault) → IsWithin most r → IsWithin most (pair_by r)
+    go (Ok codes) h = tt
+    go (Err fault) h = h
+
+bracket-within : (most n : ℕ) (fields : List (List ℕ)) → n ≤ most → IsWithin most (bracket_of n fields)
+bracket-within most n fields h = go (codes_of 3 n fields) (codes-within most 3 n fields h)
+  where
+    by : (code : ℕ) (bracket : Option Bracket) → IsWithin most (bracket_by n code bracket)
+    by code None = h
+    by code (Some bracket) = tt
+
+    go : (r : Result Codes UcdFault) → IsWithin most r → IsWithin most (bracket_with n r (trimmed_field fields 2))
+    go (Ok codes) h = by codes.code (bracket_named codes.other (trimmed_field fields 2))
+    go (Err fault) h = h
+
+-- ---- whole files
+
+few_lines : (bytes : List ℕ) → 1 + length (slice_split (λ b. b == 10) bytes) ≤ suc (suc (length bytes))
+few_lines bytes =
+    let lines = length-slice_split (λ (b : ℕ). b == 10) bytes in
+    let newlines = count_by-le-length (λ (b : ℕ). b == 10) bytes in
+    omega (arith, lines, newlines)
+
+classes-within : (bytes : List ℕ) → IsWithin (suc (length bytes)) (classes_of bytes)
+classes-within bytes =
+    spans-within (suc (length bytes)) 0 None _
+    (entries-within (suc (length bytes)) is_empty_line entry_of (entry-within (suc (length bytes))) 1 (slice_split (λ b. b == 10) bytes) (few_lines bytes)) tt
+
+listed-within : {T : Type 0} (key : T → ℕ) (of_fields : ℕ → List (List ℕ) → Result T UcdFault) (bytes : List ℕ)
+    → ((most n : ℕ) (fields : List (List ℕ)) → n ≤ most → IsWithin most (of_fields n fields)) → IsWithin (suc (length bytes)) (listed_in key of_fields bytes)
+listed-within key of_fields bytes each =
+    ascending-within (suc (length bytes)) key 0 _
+    (entries-within (suc (length bytes)) is_blank_line (λ n line. of_fields n (fields_of (counting line)))
+    (λ n line low. each (suc (length bytes)) n (fields_of (counting line)) low) 1 (slice_split (λ b. b == 10) bytes) (few_lines bytes))
+
+-- the line of a fault that was answered fits
+fits : {T : Type 0} (right : Result T UcdFault) (bytes : List ℕ) (fault : UcdFault) → length bytes ≤ 8388608 → IsWithin (suc (length bytes)) right
+    → Answers (Err fault) right → line_of fault < 2 ^ 32
+fits right bytes ucd.Memory small within answer = omega arith
+fits right bytes (ucd.BadLine n) small within answer = let low : n ≤ suc (length bytes) = rw answer at within in omega arith
+fits right bytes (ucd.BadCode n) small within answer = let low : n ≤ suc (length bytes) = rw answer at within in omega arith
+fits right bytes (ucd.BadClass n) small within answer = let low : n ≤ suc (length bytes) = rw answer at within in omega arith
+fits right bytes (ucd.NotAscending n) small within answer = let low : n ≤ suc (length bytes) = rw answer at within in omega arith
+fits right bytes (ucd.BadRange n) small within answer = let low : n ≤ suc (length bytes) = rw answer at within in omega arith
+
+pub class_line-fits : (bytes : List ℕ) (fault : UcdFault) → length bytes ≤ 8388608 → Answers (Err fault) (classes_of bytes) → line_of fault < 2 ^ 32
+class_line-fits bytes fault small answer = fits (classes_of bytes) bytes fault small (classes-within bytes) answer
+
+pub mirror_line-fits : (bytes : List ℕ) (fault : UcdFault) → length bytes ≤ 8388608 → Answers (Err fault) (mirrors_of bytes) → line_of fault < 2 ^ 32
+mirror_line-fits bytes fault small answer = fits (mirrors_of bytes) bytes fault small (listed-within (λ pair. pair.code) pair_of bytes pair-within) answer
+
+pub bracket_line-fits : (bytes : List ℕ) (fault : UcdFault) → length bytes ≤ 8388608 → Answers (Err fault) (brackets_of bytes) → line_of fault < 2 ^ 32
+bracket_line-fits bytes fault small answer = fits (brackets_of bytes) bytes fault small (listed-within (λ entry. entry.code) bracket_of bytes bracket-within) answer

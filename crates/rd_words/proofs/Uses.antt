@@ -1,0 +1,247 @@
+-- What one use of a setting does, and what the end of the words finds.
+use Rattle.std.proofs.Common.{◌≡◌, ◌∙◌, ℕ, ◌&&◌, ◌||◌, Bool, true, false, not, List, [], ◌∷◌, ◌++◌, map, Option, None, Some, is_some, option_map, refl, sym, ap}
+use Rattle.std.specs.Prelude.{if◌then◌else◌, find, fold, slice_get, option_and_then, codes}
+use Rattle.std.specs.List.{list_any}
+use Rattle.std.specs.Option.{option_map_or}
+use Rattle.std.specs.Str.{bytes_eq}
+use Rattle.std.proofs.lemmas.List.{map-append, append-nil}
+use Rattle.clap.proofs.WalkLemmas.{find-map, list_any-map}
+use Rattle.clap.specs.Kinds.{Kinds, or_else}
+use Rattle.clap.specs.Facts.{explicit_source}
+use Rattle.clap.specs.Walk.{Held, Row, Rule, arg_by_long, at_row, default_rows, finished, first_of, has_long, has_row, is_empty, more_values, reading_by, settled, takes_values, used, with_default}
+use Rattle.clap.specs.Takes.{is_given}
+use Rattle.clap.specs.Faults.{check_fault, default_fault, defaults_fault, given_default_fault, use_fault}
+use Rattle.clap.specs.declared.error.kind.ErrorKind.{ErrorKind}
+use Rattle.clap.specs.declared.error.kind.ErrorKind.TheVariants as kind
+use Rattle.clap.specs.declared.parser.matches.ValueSource.TheVariants.{CommandLine, DefaultValue}
+use Rattle.rd_words.specs.Words.{Text, Setting, class_file, mirror_file, bracket_file, generate, dump, settings, name_of, named, has_value, Use, is_of, is_true, is_used, is_in_form, is_number, value_of, fits, WordValues, values_by, values_in}
+use Rattle.rd_words.specs.Command.{asked, values_of_rows}
+use Rattle.rd_words.proofs.Turns.{ended, held, is_none, rule, shape, unless}
+
+-- the row of a use
+abbrev pub row : Use → Row
+row u = record {
+  id = name_of u.0;
+  values = u.1 ∷ [];
+  count = None;
+  source = Some CommandLine;
+  reading = reading_by (rule u.0);
+}
+
+abbrev pub rows : List Use → List Row
+rows us = map row us
+
+pub rows-more : (us : List Use) (u : Use) → rows us ++ row u ∷ [] ≡ rows (us ++ u ∷ [])
+rows-more us u = sym (map-append row us (u ∷ []))
+
+has_row-is : (us : List Use) (s : Setting) → has_row (name_of s) (rows us) ≡ is_used s us
+has_row-is us s = sym (list_any-map (λ r. bytes_eq r.id (name_of s)) row us)
+
+-- ---- names
+
+named_in : (ss : List Setting) (name : Text) → find (λ a. not (is_some a.index) && has_long a name) (map rule ss) ≡ option_map rule (find (λ s. bytes_eq (name_of s) name) ss)
+named_in [] name = refl
+named_in (s ∷ ss) name = go (bytes_eq (name_of s) name) (named_in ss name)
+  where
+    go : (b : Bool) → find (λ a. not (is_some a.index) && has_long a name) (map rule ss) ≡ option_map rule (find (λ s. bytes_eq (name_of s) name) ss)
+        → (if true && (b || false) then Some (rule s) else find (λ a. not (is_some a.index) && has_long a name) (map rule ss))
+        ≡ option_map rule (if b then Some s else find (λ s. bytes_eq (name_of s) name) ss)
+    go true rest = refl
+    go false rest = rest
+
+pub named-is : (name : Text) → arg_by_long shape.rules name ≡ option_map rule (named name)
+named-is name = named_in settings name
+
+pub takes_values-is : (s : Setting) → takes_values (rule s) ≡ has_value s
+takes_values-is class_file = refl
+takes_values-is mirror_file = refl
+takes_values-is bracket_file = refl
+takes_values-is generate = refl
+takes_values-is dump = refl
+
+-- ---- one use
+
+kinds-fit : (again good : Bool) (p q : ErrorKind) → is_none (or_else (if again && true then p ∷ [] else []) (or_else (if good then [] else q ∷ []) [])) ≡ (not again && good)
+kinds-fit true good p q = refl
+kinds-fit false true p q = refl
+kinds-fit false false p q = refl
+
+pub value-fits : (us : List Use) (s : Setting) (v : Text) → has_value s ≡ true → is_none (use_fault false (rule s) (v ∷ []) (rows us)) ≡ fits us (s, v)
+value-fits us class_file v e = rw (has_row-is us class_file) (kinds-fit (is_used class_file us) true kind.ArgumentConflict kind.ValueValidation)
+value-fits us mirror_file v e = rw (has_row-is us mirror_file) (kinds-fit (is_used mirror_file us) true kind.ArgumentConflict kind.ValueValidation)
+value-fits us bracket_file v e = rw (has_row-is us bracket_file) (kinds-fit (is_used bracket_file us) true kind.ArgumentConflict kind.ValueValidation)
+value-fits us generate v e = rw (has_row-is us generate) (kinds-fit (is_used generate us) (is_number v) kind.ArgumentConflict kind.ValueValidation)
+value-fits us dump v e = cc
+
+pub flag-fits : (us : List Use) → is_none (use_fault false (rule dump) [] (rows us)) ≡ fits us (dump, codes "true")
+flag-fits us = rw (has_row-is us dump) (kinds-fit (is_used dump us) true kind.ArgumentConflict kind.InvalidValue)
+
+at_row-absent : (id : Text) (change : Row → List Row) (missing rs : List Row) → has_row id rs ≡ false → at_row id change missing rs ≡ rs ++ missing
+at_row-absent id change missing [] e = refl
+at_row-absent id change missing (r ∷ rs) e = go (bytes_eq r.id id) e (at_row-absent id change missing rs)
+  where
+    go : (b : Bool) → (b || has_row id rs) ≡ false → (has_row id rs ≡ false → at_row id change missing rs ≡ rs ++ missing)
+        → (if b then change r ++ rs else r ∷ at_row id change missing rs) ≡ r ∷ (rs ++ missing)
+    go true e rest = cc
+    go false e rest = ap (λ (l : List Row). r ∷ l) (rest e)
+
+-- a first use of an id adds its row
+added : (id : Text) (change : Row → List Row) (new : Row) (rs : List Row) → has_row id rs ≡ false
+    → at_row id change (new ∷ []) (at_row id (λ r. []) [] rs) ≡ rs ++ new ∷ []
+added id change new rs e =
+    ap (λ (l : List Row). at_row id change (new ∷ []) l) (at_row-absent id (λ r. []) [] rs e ∙ append-nil rs)
+    ∙ at_row-absent id change (new ∷ []) rs e
+
+is_new : (us : List Use) (s : Setting) (v : Text) → fits us (s, v) ≡ true → has_row (name_of s) (rows us) ≡ false
+is_new us s v e = has_row-is us s ∙ go (is_used s us) e
+  where
+    go : (b : Bool) → (not b && is_in_form (s, v)) ≡ true → b ≡ false
+    go true e = cc
+    go false e = refl
+
+pub value-used : (us : List Use) (s : Setting) (v : Text) → has_value s ≡ true → fits us (s, v) ≡ true
+    → used (rule s) (v ∷ []) (rows us) ≡ rows (us ++ (s, v) ∷ [])
+value-used us class_file v e f = added (name_of class_file) (more_values CommandLine (v ∷ [])) (row (class_file, v)) (rows us) (is_new us class_file v f) ∙ rows-more us (class_file, v)
+value-used us mirror_file v e f = added (name_of mirror_file) (more_values CommandLine (v ∷ [])) (row (mirror_file, v)) (rows us) (is_new us mirror_file v f) ∙ rows-more us (mirror_file, v)
+value-used us bracket_file v e f = added (name_of bracket_file) (more_values CommandLine (v ∷ [])) (row (bracket_file, v)) (rows us) (is_new us bracket_file v f) ∙ rows-more us (bracket_file, v)
+value-used us generate v e f = added (name_of generate) (more_values CommandLine (v ∷ [])) (row (generate, v)) (rows us) (is_new us generate v f) ∙ rows-more us (generate, v)
+value-used us dump v e f = cc
+
+pub flag-used : (us : List Use) → fits us (dump, codes "true") ≡ true → used (rule dump) [] (rows us) ≡ rows (us ++ (dump, codes "true") ∷ [])
+flag-used us f = added (name_of dump) (more_values CommandLine (codes "true" ∷ [])) (row (dump, codes "true")) (rows us) (is_new us dump (codes "true") f) ∙ rows-more us (dump, codes "true")
+
+-- ---- the end of the words
+
+-- the row of a flag that was not used
+abbrev unused : Row
+unused = record { id = name_of dump; values = codes "false" ∷ []; count = None; source = Some DefaultValue; reading = reading_by (rule dump) }
+
+no_default : (rs : List Row) (s : Setting) → has_value s ≡ true → with_default rs (rule s) ≡ rs
+no_default rs s e = go s (has_row (name_of s) rs) e
+  where
+    go : (s : Setting) (b : Bool) → has_value s ≡ true → (if b then rs else default_rows (name_of s) (reading_by (rule s)) (rule s).defaults rs) ≡ rs
+    go s true e = refl
+    go class_file false e = refl
+    go mirror_file false e = refl
+    go bracket_file false e = refl
+    go generate false e = refl
+    go dump false e = cc
+
+finish-is : (rs : List Row) → fold with_default rs shape.rules ≡ with_default rs (rule dump)
+finish-is rs =
+    ap (λ (l : List Row). with_default (with_default (with_default (with_default l (rule mirror_file)) (rule bracket_file)) (rule generate)) (rule dump)) (no_default rs class_file refl)
+    ∙ (ap (λ (l : List Row). with_default (with_default (with_default l (rule bracket_file)) (rule generate)) (rule dump)) (no_default rs mirror_file refl)
+    ∙ (ap (λ (l : List Row). with_default (with_default l (rule generate)) (rule dump)) (no_default rs bracket_file refl)
+    ∙ ap (λ (l : List Row). with_default l (rule dump)) (no_default rs generate refl)))
+
+-- the rows at the end, by whether the flag was used
+abbrev rows_by : Bool → List Use → List Row
+rows_by b us = if b then rows us else rows us ++ unused ∷ []
+
+finished-is : (us : List Use) → fold with_default (rows us) shape.rules ≡ rows_by (is_used dump us) us
+finished-is us = finish-is (rows us) ∙ go (has_row (name_of dump) (rows us)) refl
+  where
+    go : (b : Bool) → has_row (name_of dump) (rows us) ≡ b
+        → (if b then rows us else default_rows (name_of dump) (reading_by (rule dump)) (codes "false" ∷ []) (rows us)) ≡ rows_by (is_used dump us) us
+    go true e = rw (sym (has_row-is us dump) ∙ e) refl
+    go false e = rw (sym (has_row-is us dump) ∙ e) (at_row-absent (name_of dump) (more_values DefaultValue (codes "false" ∷ [])) (unused ∷ []) (rows us) e)
+
+find-more : (p : Row → Bool) (rs : List Row) (r : Row) → p r ≡ false → find p (rs ++ r ∷ []) ≡ find p rs
+find-more p [] r e = rw e refl
+find-more p (x ∷ xs) r e = ap (λ (o : Option Row). if p x then Some x else o) (find-more p xs r e)
+
+find-last : (p : Row → Bool) (rs : List Row) (r : Row) → p r ≡ true → list_any p rs ≡ false → find p (rs ++ r ∷ []) ≡ Some r
+find-last p [] r e none = rw e refl
+find-last p (x ∷ xs) r e none = go (p x) none (find-last p xs r e)
+  where
+    go : (b : Bool) → (b || list_any p xs) ≡ false → (list_any p xs ≡ false → find p (xs ++ r ∷ []) ≡ Some r)
+        → (if b then Some x else find p (xs ++ r ∷ [])) ≡ Some r
+    go true none rest = cc
+    go false none rest = rest none
+
+find-none : (us : List Use) (s : Setting) → is_used s us ≡ false → find (is_of s) us ≡ None
+find-none [] s e = refl
+find-none (u ∷ us) s e = go (is_of s u) e (find-none us s)
+  where
+    go : (b : Bool) → (b || is_used s us) ≡ false → (is_used s us ≡ false → find (is_of s) us ≡ None)
+        → (if b then Some u else find (is_of s) us) ≡ None
+    go true e rest = cc
+    go false e rest = rest e
+
+-- the row of a setting with a value
+row-is : (us : List Use) (b : Bool) (s : Setting) → has_value s ≡ true → find (λ r. bytes_eq r.id (name_of s)) (rows_by b us) ≡ option_map row (find (is_of s) us)
+row-is us true s e = sym (find-map (λ r. bytes_eq r.id (name_of s)) row us)
+row-is us false s e = find-more (λ r. bytes_eq r.id (name_of s)) (rows us) unused (other s e) ∙ sym (find-map (λ r. bytes_eq r.id (name_of s)) row us)
+  where
+    other : (s : Setting) → has_value s ≡ true → bytes_eq (name_of dump) (name_of s) ≡ false
+    other class_file e = refl
+    other mirror_file e = refl
+    other bracket_file e = refl
+    other generate e = refl
+    other dump e = cc
+
+text-is : (o : Option Use) → option_and_then (λ r. slice_get r.values 0) (option_map row o) ≡ option_map (λ u. u.1) o
+text-is None = refl
+text-is (Some u) = refl
+
+given-by : (o : Option Use) → option_map_or (λ r. explicit_source r.source) (option_map row o) false ≡ is_some (option_map (λ u. u.1) o)
+given-by None = refl
+given-by (Some u) = refl
+
+first-is : (us : List Use) (b : Bool) (s : Setting) → has_value s ≡ true → first_of (name_of s) (rows_by b us) ≡ value_of s us
+first-is us b s e = ap (λ (o : Option Row). option_and_then (λ r. slice_get r.values 0) o) (row-is us b s e) ∙ text-is (find (is_of s) us)
+
+given-is : (us : List Use) (b : Bool) (s : Setting) → has_value s ≡ true → is_given (name_of s) (rows_by b us) ≡ is_some (value_of s us)
+given-is us b s e = ap (λ (o : Option Row). option_map_or (λ r. explicit_source r.source) o false) (row-is us b s e) ∙ given-by (find (is_of s) us)
+
+flag-is : (us : List Use) (b : Bool) → is_used dump us ≡ b → is_true (first_of (name_of dump) (rows_by b us)) ≡ is_true (value_of dump us)
+flag-is us true e =
+    ap is_true (ap (λ (o : Option Row). option_and_then (λ r. slice_get r.values 0) o) (sym (find-map (λ r. bytes_eq r.id (name_of dump)) row us)) ∙ text-is (find (is_of dump) us))
+flag-is us false e =
+    ap (λ (o : Option Row). is_true (option_and_then (λ r. slice_get r.values 0) o)) (find-last (λ r. bytes_eq r.id (name_of dump)) (rows us) unused refl (has_row-is us dump ∙ e))
+    ∙ sym (ap (λ (o : Option Use). is_true (option_map (λ u. u.1) o)) (find-none us dump e))
+
+values-is : (us : List Use) → values_of_rows (rows_by (is_used dump us) us) ≡ values_in us
+values-is us =
+    rw (
+      first-is us (is_used dump us) class_file refl,
+      first-is us (is_used dump us) mirror_file refl,
+      first-is us (is_used dump us) bracket_file refl,
+      first-is us (is_used dump us) generate refl,
+      flag-is us (is_used dump us) refl,
+    ) refl
+
+-- what no default faults
+default-passes : (rs : List Row) (s : Setting) → default_fault rs (rule s) ≡ []
+default-passes rs s = go s (has_row (name_of s) rs)
+  where
+    go : (s : Setting) (b : Bool) → (if b || is_empty (rule s).defaults then [] else given_default_fault (rule s) (rule s).defaults) ≡ []
+    go s true = refl
+    go class_file false = refl
+    go mirror_file false = refl
+    go bracket_file false = refl
+    go generate false = refl
+    go dump false = refl
+
+defaults-pass : (ss : List Setting) (rs : List Row) → defaults_fault rs (map rule ss) ≡ []
+unfolding defaults_fault
+defaults-pass [] rs = refl
+defaults-pass (s ∷ ss) rs = rw (default-passes rs s) (defaults-pass ss (with_default rs (rule s)))
+
+-- the class file and the mirror file are there, or no values are read
+checked : (classes mirrors brackets number : Option Text) (dumps : Bool)
+    → unless (if (true && not (is_some classes)) || ((true && not (is_some mirrors)) || (false || (false || (false || false)))) then kind.MissingRequiredArgument ∷ [] else [])
+    (values_by classes mirrors brackets number dumps)
+    ≡ values_by classes mirrors brackets number dumps
+checked None mirrors brackets number dumps = refl
+checked (Some c) None brackets number dumps = refl
+checked (Some c) (Some m) brackets number dumps = refl
+
+check-is : (us : List Use) (rs : List Row) → rs ≡ rows_by (is_used dump us) us → unless (check_fault shape rs false) (values_of_rows rs) ≡ values_in us
+check-is us rs e =
+    rw (e, values-is us, given-is us (is_used dump us) class_file refl, given-is us (is_used dump us) mirror_file refl)
+    (checked (value_of class_file us) (value_of mirror_file us) (value_of bracket_file us) (value_of generate us) (is_true (value_of dump us)))
+
+pub ended-is : (us : List Use) → ended (held (rows us) None) ≡ values_in us
+ended-is us =
+    rw (defaults-pass settings (rows us)) (check-is us (finished shape.rules (held (rows us) None)) (finished-is us))
