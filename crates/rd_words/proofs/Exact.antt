@@ -1,18 +1,18 @@
 -- The words as `clap` reads them are the words as the definition reads them.
-use Rattle.std.proofs.Common.{◌≡◌, ◌∙◌, ℕ, Bool, true, false, List, [], ◌∷◌, ◌++◌, map, Option, None, Some, option_map, refl, sym, ap}
+use Rattle.std.proofs.Common.{◌≡◌, ◌∙◌, Bool, true, false, List, [], ◌∷◌, ◌++◌, Option, None, Some, option_map, refl, sym, ap}
 use Rattle.std.specs.Prelude.{if◌then◌else◌, option_and_then, codes}
 use Rattle.std.specs.Option.{option_map_or}
 use Rattle.std.specs.Str.{bytes_eq}
 use Rattle.clap.proofs.FaultLemmas.{leaf_fault}
-use Rattle.clap.specs.Kinds.{Kinds, or_else}
+use Rattle.clap.specs.Kinds.{Kinds}
 use Rattle.clap.specs.Lexer.{long_of}
-use Rattle.clap.specs.Walk.{Held, Row, Rule, arg_by_id, arg_by_long, nothing_held, reacted, settled, takes_values, used, walk_from}
+use Rattle.clap.specs.Walk.{Held, Row, Rule, arg_by_id, arg_by_long, nothing_held, reacted, settled, walk_from}
 use Rattle.clap.specs.Simple.{built, matches_of}
 use Rattle.clap.specs.Faults.{fault_of, react_fault, settle_fault, use_fault}
-use Rattle.rd_words.specs.Words.{Text, Setting, class_file, mirror_file, bracket_file, generate, dump, name_of, named, has_value, Use, with_use, begun, last, uses_from, fits, is_flag, WordValues, values_from, values_in, values_of}
+use Rattle.rd_words.specs.Words.{Text, Setting, class_file, mirror_file, bracket_file, generate, dump, name_of, named, has_value, Use, with_use, begun, last, uses_from, fits, is_flag, WordValues, values_from, values_of}
 use Rattle.rd_words.specs.Command.{command, values_of_rows}
-use Rattle.rd_words.proofs.Turns.{awaiting, at_end, ended, held, is_none, later, met, outcome, outcome-is, rule, shape, turn, unless, unless-first, unless-or, waits}
-use Rattle.rd_words.proofs.Uses.{ended-is, flag-fits, flag-used, named-is, rows, takes_values-is, value-fits, value-used}
+use Rattle.rd_words.proofs.Turns.{awaiting, at_end, held, is_none, later, met, outcome, outcome-is, rule, shape, turn, unless, unless-first, waits}
+use Rattle.rd_words.proofs.Uses.{ended-is, flag-fits, flag-used, named-is, rows, value-fits, value-used}
 
 -- what uses say behind these
 abbrev after : List Use → Option (List Use) → Option WordValues

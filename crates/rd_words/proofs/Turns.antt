@@ -1,17 +1,17 @@
 -- How `clap` reads the words of the command, one after the other, and what it makes of them.
-use Rattle.std.proofs.Common.{◌≡◌, ◌∙◌, ℕ, zero, suc, ◌==◌, ◌&&◌, Bool, true, false, List, [], ◌∷◌, ◌++◌, map, length, Option, None, Some, is_some, refl, sym, ap}
+use Rattle.std.proofs.Common.{◌≡◌, ◌∙◌, ℕ, ◌==◌, ◌&&◌, Bool, true, false, List, [], ◌∷◌, length, Option, None, Some, is_some, refl, sym, ap}
 use Rattle.std.proofs.lemmas.Bool.{eqb-true}
 use Rattle.std.specs.Prelude.{if◌then◌else◌, fold, slice_get, option_and_then}
 use Rattle.std.specs.Option.{option_map_or}
 use Rattle.std.specs.Str.{bytes_eq, chars}
 use Rattle.clap.specs.Lexer.{long_of, long_of_rest, short_of, short_of_rest, strip_byte}
 use Rattle.clap.specs.Kinds.{Kinds, or_else}
-use Rattle.clap.specs.Walk.{Held, Outcome, Row, Rule, Step, Walk, after_flag, after_step, bundle, bundle_met, bundle_step, finished, flag_met, idle, long_met, long_or_other, next, option, option_met, plain, plain_word, reacted, settled, settled_rows, short_or_plain, takes_values, trailing, walk_from, walked}
+use Rattle.clap.specs.Walk.{Held, Row, Rule, Step, Walk, after_flag, after_step, bundle_met, bundle_step, finished, flag_met, idle, long_met, long_or_other, option, option_met, plain, plain_word, reacted, settled, settled_rows, short_or_plain, takes_values, trailing, walk_from, walked}
 use Rattle.clap.specs.Walk.{arg_by_long}
 use Rattle.clap.specs.Simple.{Shape, built, filled}
 use Rattle.clap.specs.Faults.{bundle_fault, bundle_step_fault, check_fault, defaults_fault, flag_word_fault, flags_fault, long_fault, option_fault, react_fault, settle_fault, step_fault, turn_fault, walk_fault}
 use Rattle.clap.specs.declared.error.kind.ErrorKind.TheVariants as kind
-use Rattle.rd_words.specs.Words.{Text, Setting, name_of, WordValues, is_flag}
+use Rattle.rd_words.specs.Words.{Text, Setting, WordValues, is_flag}
 use Rattle.rd_words.specs.Command.{asked, command, values_of_rows}
 
 -- the command as it is built

@@ -1,21 +1,21 @@
 -- What one use of a setting does, and what the end of the words finds.
-use Rattle.std.proofs.Common.{◌≡◌, ◌∙◌, ℕ, ◌&&◌, ◌||◌, Bool, true, false, not, List, [], ◌∷◌, ◌++◌, map, Option, None, Some, is_some, option_map, refl, sym, ap}
+use Rattle.std.proofs.Common.{◌≡◌, ◌∙◌, ◌&&◌, ◌||◌, Bool, true, false, not, List, [], ◌∷◌, ◌++◌, map, Option, None, Some, is_some, option_map, refl, sym, ap}
 use Rattle.std.specs.Prelude.{if◌then◌else◌, find, fold, slice_get, option_and_then, codes}
 use Rattle.std.specs.List.{list_any}
 use Rattle.std.specs.Option.{option_map_or}
 use Rattle.std.specs.Str.{bytes_eq}
 use Rattle.std.proofs.lemmas.List.{map-append, append-nil}
 use Rattle.clap.proofs.WalkLemmas.{find-map, list_any-map}
-use Rattle.clap.specs.Kinds.{Kinds, or_else}
+use Rattle.clap.specs.Kinds.{or_else}
 use Rattle.clap.specs.Facts.{explicit_source}
-use Rattle.clap.specs.Walk.{Held, Row, Rule, arg_by_long, at_row, default_rows, finished, first_of, has_long, has_row, is_empty, more_values, reading_by, settled, takes_values, used, with_default}
+use Rattle.clap.specs.Walk.{Row, arg_by_long, at_row, default_rows, finished, first_of, has_long, has_row, is_empty, more_values, reading_by, takes_values, used, with_default}
 use Rattle.clap.specs.Takes.{is_given}
 use Rattle.clap.specs.Faults.{check_fault, default_fault, defaults_fault, given_default_fault, use_fault}
 use Rattle.clap.specs.declared.error.kind.ErrorKind.{ErrorKind}
 use Rattle.clap.specs.declared.error.kind.ErrorKind.TheVariants as kind
 use Rattle.clap.specs.declared.parser.matches.ValueSource.TheVariants.{CommandLine, DefaultValue}
-use Rattle.rd_words.specs.Words.{Text, Setting, class_file, mirror_file, bracket_file, generate, dump, settings, name_of, named, has_value, Use, is_of, is_true, is_used, is_in_form, is_number, value_of, fits, WordValues, values_by, values_in}
-use Rattle.rd_words.specs.Command.{asked, values_of_rows}
+use Rattle.rd_words.specs.Words.{Text, Setting, class_file, mirror_file, bracket_file, generate, dump, settings, name_of, named, has_value, Use, is_of, is_true, is_used, is_in_form, is_number, value_of, fits, values_by, values_in}
+use Rattle.rd_words.specs.Command.{values_of_rows}
 use Rattle.rd_words.proofs.Turns.{ended, held, is_none, rule, shape, unless}
 
 -- the row of a use

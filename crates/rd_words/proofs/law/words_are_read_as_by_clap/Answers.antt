@@ -1,4 +1,4 @@
-use Rattle.std.proofs.Common.{◌≡◌, ◌∙◌, List, [], ◌∷◌, Option, None, refl, sym}
+use Rattle.std.proofs.Common.{◌≡◌, ◌∙◌, [], ◌∷◌, Option, refl, sym}
 use Rattle.clap.specs.Words.{Kinds, fault_of, matches_of}
 use Rattle.rd_words.specs.Words.{WordValues}
 use Rattle.rd_words.specs.Command.{command, values_of_rows, without_fault}

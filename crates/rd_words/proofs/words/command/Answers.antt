@@ -1,6 +1,6 @@
-use Rattle.std.proofs.Common.{rules, ◌≡◌, ◌∙◌, true, refl, ap, ap₂}
+use Rattle.std.proofs.Common.{rules, ◌≡◌, ◌∙◌, true, ap, ap₂}
 use Rattle.std.proofs.lemmas.Result.{IfOk-weaker}
-use Rattle.clap.specs.Words.{App, app_of, rule_of, with_rule}
+use Rattle.clap.specs.Words.{rule_of, with_rule}
 use Rattle.clap.specs.Simple.{app_of_fields, on_top}
 use Rattle.rd_words.specs.Words.{class_file, mirror_file, bracket_file, generate, dump}
 use Rattle.rd_words.specs.Command.{asked}

@@ -1,5 +1,5 @@
-use Rattle.std.proofs.Common.{◌≡◌, ◌⊎◌, ◌∙◌, true, List, [], ◌∷◌, Option, None, Some, Err, map, refl, sym, ap, ap₂, subst, inl, inr}
-use Rattle.clap.specs.Words.{App, Kinds, IsAmong, HasKind, app_of, fault_of as faults_of, found_of, is_simple, is_simple_and_free, matches_of, rows_of}
+use Rattle.std.proofs.Common.{◌≡◌, ◌⊎◌, ◌∙◌, true, List, [], ◌∷◌, Option, None, Err, refl, sym, ap, subst, inl, inr}
+use Rattle.clap.specs.Words.{App, Kinds, IsAmong, HasKind, fault_of as faults_of, found_of, is_simple, is_simple_and_free, matches_of, rows_of}
 use Rattle.clap.proofs.OnLiterals.{clap_on_literals}
 use Rattle.clap.specs.declared.error.kind.ErrorKind.{ErrorKind}
 use Rattle.clap.specs.declared.error.kind.ErrorKind.TheVariants.{OutOfMemory}
@@ -7,7 +7,6 @@ use Rattle.rd_words.specs.Words.{Text, WordValues, values_of}
 use Rattle.rd_words.specs.Command.{ReadsWords, command, fault_of, texts, values_of_rows}
 use Rattle.rd_words.specs.declared.words.WordsFault.{WordsFault}
 use Rattle.rd_words.specs.declared.words.WordsFault.TheVariants.{Usage, Memory}
-use Rattle.rd_words.proofs.Turns.{unless}
 use Rattle.rd_words.proofs.Exact.{exact}
 use Rattle.rd_words.proofs.words.read_words.Goals as goal
 

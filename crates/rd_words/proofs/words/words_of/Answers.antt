@@ -1,9 +1,9 @@
-use Rattle.std.proofs.Common.{◌≡◌, ◌∙◌, ℕ, Bool, List, Option, None, Some, refl, sym, ap}
-use Rattle.std.specs.Prelude.{codes, option_and_then}
+use Rattle.std.proofs.Common.{◌≡◌, ◌∙◌, Bool, Option, None, Some, refl, sym, ap}
+use Rattle.std.specs.Prelude.{codes}
 use Rattle.clap.proofs.WalkLemmas.{first_value-rows}
 use Rattle.clap.specs.Words.{first_of, first_value, found_of, rows_of}
 use Rattle.clap.specs.declared.parser.matches.Found.{Found}
-use Rattle.rd_words.specs.Words.{Text, class_file, mirror_file, bracket_file, generate, dump, name_of, is_true, number_of, WordValues, values_by}
+use Rattle.rd_words.specs.Words.{Text, is_true, values_by}
 use Rattle.rd_words.specs.Command.{values_of_rows}
 use Rattle.rd_words.proofs.words.words_of.Goals as goal
 
