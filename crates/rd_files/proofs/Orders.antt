@@ -1,46 +1,22 @@
 -- The answers of one file, and of the three one after the other.
-use Rattle.std.proofs.Common.{◌≡◌, ◌⊎◌, ◌<◌, ◌≤◌, ◌^◌, ◌-◌, ℕ, zero, suc, Bool, true, false, List, [], ◌∷◌, length, Option, None, Some, Result, Ok, Err, arith, refl, ap, subst, ◌∙◌, inl, inr, le_trans}
-use Rattle.std.specs.Prelude.{if◌then◌else◌, nat_lt, IfSome}
-use Rattle.std.proofs.lemmas.Bool.{le-ltb, lt-ltb}
+use Rattle.std.proofs.Common.{◌≡◌, ◌<◌, ◌≤◌, ℕ, zero, suc, List, [], ◌∷◌, length, Option, None, Some, Result, Ok, Err, arith, refl, ap, subst, inl, inr}
+use Rattle.std.specs.Prelude.{IfSome}
+use Rattle.std.proofs.lemmas.Bool.{lt-ltb}
 use Rattle.rd_io.specs.Devices.{Rose}
 use Rattle.rd_ucd.specs.declared.fault.UcdFault.{UcdFault}
-use Rattle.rd_ucd.specs.declared.fault.UcdFault.TheVariants as ucd
 use Rattle.rd_ucd.specs.declared.spans.Span.{Span}
 use Rattle.rd_ucd.specs.declared.spans.Pair.{Pair}
-use Rattle.rd_ucd.specs.declared.spans.BracketEntry.{BracketEntry}
-use Rattle.rd_ucd.specs.Results.{Answers}
 use Rattle.rd_files.specs.declared.fault.BadFile.{BadFile}
 use Rattle.rd_files.specs.declared.fault.DataFile.{DataFile}
 use Rattle.rd_files.specs.declared.fault.DataFault.{DataFault}
 use Rattle.rd_files.specs.declared.fault.DataFault.TheVariants.{Bad, Read, Memory}
-use Rattle.rd_files.specs.DataFiles.{AreBytes, FailedAt, FailedAtSome, Gives, GivesData, Named, ReadsBytes, ReadsData, ReadsFile, bad, brackets_in, classes_in, data_of, fault_of, judged, mirrors_in, or_bad, told_or_empty, too_large}
+use Rattle.rd_files.specs.DataFiles.{AreBytes, FailedAt, FailedAtSome, Gives, GivesData, Named, ReadsBytes, ReadsData, ReadsFile, brackets_in, classes_in, judged, mirrors_in, told_or_empty, too_large}
 
 -- ---- one file
 
 module _ {T : Type 0} (file : DataFile) (form : List ℕ → Result T UcdFault) where
-  judged-small : (bytes : List ℕ) → length bytes ≤ 8388608 → judged file form bytes ≡ or_bad file (form bytes)
-  judged-small bytes small = rw (le-ltb 8388608 (length bytes) small) refl
-
   judged-large : (bytes : List ℕ) → 8388608 < length bytes → judged file form bytes ≡ Err (too_large file)
   judged-large bytes large = rw (lt-ltb 8388608 (length bytes) large) refl
-
-  pub good : (bytes : List ℕ) (told : Option (List ℕ)) (values : T) → AreBytes bytes told → length bytes ≤ 8388608 → form bytes ≡ Ok values
-      → Gives (judged file form) told (Ok values)
-  good bytes told values is small e = (bytes, is, rw (judged-small bytes small, e) refl)
-
-  faulty : (bytes : List ℕ) (told : Option (List ℕ)) (fault : UcdFault) → AreBytes bytes told → length bytes ≤ 8388608 → form bytes ≡ Err fault
-      → Gives (judged file form) told (Err (bad file fault))
-  faulty bytes told fault is small e = (bytes, is, rw (judged-small bytes small, e) refl)
-
-  -- a fault of the lines
-  pub answered : (bytes : List ℕ) (told : Option (List ℕ)) (Failed : Type 0) (fault : UcdFault) → AreBytes bytes told → length bytes ≤ 8388608
-      → Answers (Err fault) (form bytes) → ReadsFile (judged file form) told Failed (Err (fault_of file fault))
-  answered bytes told Failed ucd.Memory is small e = tt
-  answered bytes told Failed (ucd.BadLine n) is small e = faulty bytes told (ucd.BadLine n) is small e
-  answered bytes told Failed (ucd.BadCode n) is small e = faulty bytes told (ucd.BadCode n) is small e
-  answered bytes told Failed (ucd.BadClass n) is small e = faulty bytes told (ucd.BadClass n) is small e
-  answered bytes told Failed (ucd.NotAscending n) is small e = faulty bytes told (ucd.NotAscending n) is small e
-  answered bytes told Failed (ucd.BadRange n) is small e = faulty bytes told (ucd.BadRange n) is small e
 
   long : (n : ℕ) → (bytes : List ℕ) × (length bytes ≡ n)
   long zero = ([], refl)

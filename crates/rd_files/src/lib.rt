@@ -4,6 +4,8 @@
 mod examples;
 mod fault;
 mod files;
+mod law;
 
 pub use fault::{BadFile, DataFault, DataFile, DataKind};
 pub use files::{DataFiles, read_data};
+pub use law::data_files_are_determined;
