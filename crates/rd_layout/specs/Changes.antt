@@ -2,8 +2,6 @@
 use Rattle.std.specs.Prelude.{ℕ, ◌-◌, ◌==◌, if◌then◌else◌, Option, None, Some, List, map}
 use Rattle.rd_reuse.specs.Changes.{all, edit, join, none}
 use Rattle.rd_reuse.specs.declared.change.Change.{Change}
-use Rattle.rd_script.specs.declared.op.Op.{Op}
-use Rattle.rd_state.specs.Effects.{effect_of}
 use Rattle.rd_state.specs.States.{StateValue}
 use Rattle.rd_state.specs.Windows.{window_of}
 use Rattle.rd_state.specs.declared.effect.Effect.{Effect}
@@ -32,10 +30,10 @@ abbrev pub change_in : Effect → ℕ → Option WindowState → Change
 change_in effect number None = none
 change_in effect number (Some w) = change_by effect number w.buffer
 
--- a last layout since which that changed too
+-- a last layout since which that changed too, of a window of the state behind the op
 abbrev pub later : Effect → StateValue → ℕ × Layout → ℕ × Layout
 later effect s e = (e.0, record e.1 { change = join e.1.change (change_in effect e.0 (window_of e.0 s.windows)) })
 
--- the last layouts behind an op on a state
-abbrev pub layouts_after : StateValue → Op → List (ℕ × Layout) → List (ℕ × Layout)
-layouts_after s op layouts = map (later (effect_of s op) s) layouts
+-- the last layouts behind an op with this effect that led to a state
+abbrev pub layouts_after : Effect → StateValue → List (ℕ × Layout) → List (ℕ × Layout)
+layouts_after effect s layouts = map (later effect s) layouts

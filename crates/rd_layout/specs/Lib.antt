@@ -6,3 +6,6 @@ pub mod Sessions
 pub mod Pointing
 pub mod Redisplays
 pub mod Since
+pub mod Facts
+pub mod Copies
+pub mod Examples

@@ -3,6 +3,7 @@ use Rattle.std.specs.Prelude.{◌≡◌, ◌≢◌, ℕ, Bool, true, false, ◌=
 use Rattle.rd_ucd.specs.Data.{Data}
 use Rattle.rd_script.specs.declared.op.Op.{Op}
 use Rattle.rd_script.specs.declared.op.Op.TheVariants.{Frame, Go, Hit, Redisplay}
+use Rattle.rd_state.specs.Effects.{effect_of}
 use Rattle.rd_state.specs.States.{BufferValue, StateValue, number_of, opening}
 use Rattle.rd_state.specs.Steps.{step}
 use Rattle.rd_state.specs.declared.refused.Refused.{Refused}
@@ -49,7 +50,7 @@ behind v op state = record {
   files = v.files;
   state = state;
   current = if is_frame op then None else v.current;
-  layouts = layouts_after v.state op v.layouts;
+  layouts = layouts_after (effect_of v.state op) state v.layouts;
 }
 
 -- what a call that applies an op does; a refusal leaves all as it was

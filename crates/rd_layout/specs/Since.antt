@@ -1,5 +1,5 @@
 -- What holds of each session: its state is valid, a known screen is the frame's, and the last layouts are still known.
-use Rattle.std.specs.Prelude.{◌≡◌, ℕ, ◌+◌, Option, None, Some, List}
+use Rattle.std.specs.Prelude.{◌≡◌, ℕ, ◌<◌, Option, None, Some}
 use Rattle.rd_ucd.specs.Data.{Data}
 use Rattle.rd_blocks.specs.Kept.{AreRowsAt}
 use Rattle.rd_blocks.specs.Leads.{LeadsTo}
@@ -31,7 +31,9 @@ abbrev pub FitsFrame : Option Picture → StateValue → Type 0
 FitsFrame None s = Unit {0}
 FitsFrame (Some screen) s = IsOfSize s.width s.height screen × IsSound screen
 
+-- the windows of the last layouts were made, if they don't live any more, so that no window that is made later has one of these
 pub record IsSession (v : SessionValue) : Type 0 where
   pub state : IsValid v.state
   pub screen : FitsFrame v.current v.state
+  pub made : (number : ℕ) (l : Layout) → layout_of number v.layouts ≡ Some l → number < v.state.tree.made
   pub layouts : (number : ℕ) (w : WindowState) (l : Layout) → window_of number v.state.windows ≡ Some w → layout_of number v.layouts ≡ Some l → IsKnown v.files v.state w l

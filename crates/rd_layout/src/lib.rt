@@ -2,6 +2,7 @@
 //! layouts of its windows, and what an op and a redisplay make of it.
 #![tactic(auto)]
 
+mod examples;
 mod outcome;
 
 pub use outcome::Outcome;

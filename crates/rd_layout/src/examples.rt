@@ -1,0 +1,75 @@
+//! The definitions on worked examples. They have no body: what they promise is computed from the definitions.
+ghost use Rattle.std.specs.Prelude.{◌≡◌, ◌∷◌, ◌++◌, [], true, false, None, Some, Ok, Err, pos, codes};
+ghost use Rattle.rd_script.specs.declared.op.Op.TheVariants.{Frame, Insert, TypeText, Split, Point, Start, Scroll, ModeLine, Echo, Redisplay, Shift, Go, Hit, Margin};
+ghost use Rattle.rd_tree.specs.declared.side.Side.TheVariants.{Right};
+ghost use Rattle.rd_state.specs.States.{main_name};
+ghost use Rattle.rd_state.specs.declared.refused.Refused.TheVariants.{NoWindow, NotShown};
+ghost use Rattle.rd_layout.specs.Examples.{after, told, bytes_of, each_in_a_line, point_and_cursor};
+ghost use Rattle.rd_layout.specs.Redisplays.{allowed, update_of};
+
+/// Three lines: all of them are new at the first redisplay, nothing is laid out at the second, and at the third only the changed line.
+#[tactic(auto, unfolding(crate::specs::Screens::laid_out, rd_state::specs::Steps::step, rd_state::specs::Effects::effect_of, rd_tree::specs::Calls::split_tree, rd_tree::specs::Calls::resize_tree, rd_tree::specs::Calls::mode_tree, rd_tree::specs::Calls::margins_tree))]
+fn what_is_kept_costs_nothing()
+    ensures first { told allowed (after (Frame 12 4 ∷ Insert main_name 1 (each_in_a_line (codes "abc")) ∷ [])) ≡ Ok 18 }
+    ensures second { told allowed (after (Frame 12 4 ∷ Insert main_name 1 (each_in_a_line (codes "abc")) ∷ Redisplay None ∷ [])) ≡ Ok 0 }
+    ensures third { told allowed (after (Frame 12 4 ∷ Insert main_name 1 (each_in_a_line (codes "abc")) ∷ Redisplay None ∷ Redisplay None ∷ Insert main_name 5 (codes "x") ∷ [])) ≡ Ok 9 }
+{}
+
+/// A redisplay that may send no row clears the screen, and the next one sends what is missing.
+#[tactic(auto, unfolding(crate::specs::Screens::laid_out, rd_state::specs::Steps::step, rd_state::specs::Effects::effect_of, rd_tree::specs::Calls::split_tree, rd_tree::specs::Calls::resize_tree, rd_tree::specs::Calls::mode_tree, rd_tree::specs::Calls::margins_tree))]
+fn a_stopped_redisplay_is_made_good()
+    ensures stopped { told (bytes_of (Some 0)) (after (Frame 12 2 ∷ Insert main_name 1 (codes "abc") ∷ [])) ≡ Ok (27 ∷ codes "[0m" ++ 27 ∷ codes "[2J") }
+    ensures rows { told (λ v. (update_of v (Some 0)).rows) (after (Frame 12 2 ∷ Insert main_name 1 (codes "abc") ∷ [])) ≡ Ok 0 }
+    ensures next { told (bytes_of None) (after (Frame 12 2 ∷ Insert main_name 1 (codes "abc") ∷ Redisplay (Some 0) ∷ [])) ≡ Ok (27 ∷ codes "[1;1Habc" ++ 27 ∷ codes "[1;1H") }
+{}
+
+/// The echo area is the frame's last row.
+#[tactic(auto, unfolding(crate::specs::Screens::laid_out, rd_state::specs::Steps::step, rd_state::specs::Effects::effect_of, rd_tree::specs::Calls::split_tree, rd_tree::specs::Calls::resize_tree, rd_tree::specs::Calls::mode_tree, rd_tree::specs::Calls::margins_tree))]
+fn the_echo_area_is_shown()
+    ensures { told (bytes_of None) (after (Frame 12 2 ∷ Echo (codes "hi") ∷ [])) ≡ Ok (27 ∷ codes "[0m" ++ 27 ∷ codes "[2J" ++ 27 ∷ codes "[2;1Hhi" ++ 27 ∷ codes "[1;1H") }
+{}
+
+/// Ten lines in five rows, scrolled by one: where the terminal may shift rows it moves four of them, and the fifth is sent.
+#[tactic(auto, unfolding(crate::specs::Screens::laid_out, rd_state::specs::Steps::step, rd_state::specs::Effects::effect_of, rd_tree::specs::Calls::split_tree, rd_tree::specs::Calls::resize_tree, rd_tree::specs::Calls::mode_tree, rd_tree::specs::Calls::margins_tree))]
+fn rows_are_shifted()
+    ensures { told (bytes_of None) (after (Frame 12 6 ∷ Insert main_name 1 (each_in_a_line (codes "abcdefghij")) ∷ Shift true ∷ Redisplay None ∷ Scroll 0 (pos 1) ∷ [])) ≡ Ok (27 ∷ codes "[1;5r" ++ 27 ∷ codes "[1;1H" ++ 27 ∷ codes "[1M" ++ 27 ∷ codes "[1;6r" ++ 27 ∷ codes "[5;1Hf" ++ 27 ∷ codes "[1;1H") }
+{}
+
+/// Numbers stand beside two lines. A line that is put before them moves their numbers, which costs nothing, and the last line is kept.
+#[tactic(auto, unfolding(crate::specs::Screens::laid_out, rd_state::specs::Steps::step, rd_state::specs::Effects::effect_of, rd_tree::specs::Calls::split_tree, rd_tree::specs::Calls::resize_tree, rd_tree::specs::Calls::mode_tree, rd_tree::specs::Calls::margins_tree))]
+fn numbers_stand_beside_lines()
+    ensures first { told (bytes_of None) (after (Frame 16 4 ∷ Insert main_name 1 (each_in_a_line (codes "ab")) ∷ Margin 0 4 0 ∷ [])) ≡ Ok (27 ∷ codes "[0m" ++ 27 ∷ codes "[2J" ++ 27 ∷ codes "[1;3H1 a" ++ 27 ∷ codes "[2;3H2 b" ++ 27 ∷ codes "[1;5H") }
+    ensures second { told (bytes_of None) (after (Frame 16 4 ∷ Insert main_name 1 (each_in_a_line (codes "ab")) ∷ Margin 0 4 0 ∷ Redisplay None ∷ Insert main_name 1 (10 ∷ []) ∷ [])) ≡ Ok (27 ∷ codes "[1;5H" ++ 27 ∷ codes "[K" ++ 27 ∷ codes "[2;5Ha" ++ 27 ∷ codes "[3;3H3 b" ++ 27 ∷ codes "[1;5H") }
+    ensures cost { told allowed (after (Frame 16 4 ∷ Insert main_name 1 (each_in_a_line (codes "ab")) ∷ Margin 0 4 0 ∷ Redisplay None ∷ Insert main_name 1 (10 ∷ []) ∷ [])) ≡ Ok 9 }
+{}
+
+/// Hits and steps in a line that is read from the right edge: its letters r and t stand in the last two columns, a blank before them,
+/// and 12 before that.
+#[tactic(auto, unfolding(crate::specs::Screens::laid_out, rd_state::specs::Steps::step, rd_state::specs::Effects::effect_of, rd_tree::specs::Calls::split_tree, rd_tree::specs::Calls::resize_tree, rd_tree::specs::Calls::mode_tree, rd_tree::specs::Calls::margins_tree))]
+fn point_moves_by_what_is_seen()
+    ensures letter { told point_and_cursor (after (Frame 12 2 ∷ TypeText (codes "rt 12") ∷ Redisplay None ∷ Hit 0 0 10 ∷ [])) ≡ Ok (2, Some (0, 10)) }
+    ensures end { told point_and_cursor (after (Frame 12 2 ∷ TypeText (codes "rt 12") ∷ Redisplay None ∷ Hit 0 0 3 ∷ [])) ≡ Ok (6, Some (0, 6)) }
+    ensures right { told point_and_cursor (after (Frame 12 2 ∷ TypeText (codes "rt 12") ∷ Redisplay None ∷ Hit 0 0 3 ∷ Go 0 true ∷ [])) ≡ Ok (4, Some (0, 7)) }
+    ensures further { told point_and_cursor (after (Frame 12 2 ∷ TypeText (codes "rt 12") ∷ Redisplay None ∷ Hit 0 0 3 ∷ Go 0 true ∷ Go 0 true ∷ [])) ≡ Ok (5, Some (0, 8)) }
+    ensures left { told point_and_cursor (after (Frame 12 2 ∷ TypeText (codes "rt 12") ∷ Redisplay None ∷ Hit 0 0 3 ∷ Go 0 true ∷ Go 0 true ∷ Go 0 false ∷ [])) ≡ Ok (4, Some (0, 7)) }
+    ensures none { told point_and_cursor (after (Go 0 false ∷ [])) ≡ Ok (1, None) }
+{}
+
+/// What was not shown, or changed since, is not hit: an edit of nothing is a change too.
+#[tactic(auto, unfolding(crate::specs::Screens::laid_out, rd_state::specs::Steps::step, rd_state::specs::Effects::effect_of, rd_tree::specs::Calls::split_tree, rd_tree::specs::Calls::resize_tree, rd_tree::specs::Calls::mode_tree, rd_tree::specs::Calls::margins_tree))]
+fn what_is_not_shown_is_not_hit()
+    ensures never { after (Hit 0 0 0 ∷ []) ≡ Err NotShown }
+    ensures changed { after (Frame 12 2 ∷ Redisplay None ∷ Insert main_name 1 [] ∷ Hit 0 0 0 ∷ []) ≡ Err NotShown }
+    ensures shape { after (Frame 12 2 ∷ Redisplay None ∷ Frame 13 2 ∷ Hit 0 0 0 ∷ []) ≡ Err NotShown }
+    ensures window { after (Hit 1 0 0 ∷ []) ≡ Err NoWindow }
+    ensures echoed { told point_and_cursor (after (Frame 12 2 ∷ Redisplay None ∷ Echo (codes "hi") ∷ Hit 0 0 0 ∷ [])) ≡ Ok (1, Some (0, 0)) }
+{}
+
+/// Two windows side by side on eight lines, the left one with a border, both with mode lines: a line that is put before what they show
+/// moves their starts, and the mode lines alone are sent.
+#[tactic(auto, unfolding(crate::specs::Screens::laid_out, rd_state::specs::Steps::step, rd_state::specs::Effects::effect_of, rd_tree::specs::Calls::split_tree, rd_tree::specs::Calls::resize_tree, rd_tree::specs::Calls::mode_tree, rd_tree::specs::Calls::margins_tree))]
+fn mode_lines_follow_the_text()
+    ensures bytes { told (bytes_of None) (after (Frame 24 5 ∷ Insert main_name 1 (each_in_a_line (codes "12345678")) ∷ ModeLine 0 (Some (codes "%b %l %p")) ∷ Split 0 Right 12 ∷ Start 0 5 0 ∷ Start 1 5 0 ∷ Point 0 5 ∷ Point 1 5 ∷ Redisplay None ∷ Insert main_name 1 (48 ∷ 10 ∷ []) ∷ []))
+        ≡ Ok (27 ∷ codes "[4;6H" ++ 27 ∷ codes "[0;7m4 36%  main 4 36" ++ 27 ∷ codes "[0m" ++ 27 ∷ codes "[1;1H") }
+    ensures cost { told allowed (after (Frame 24 5 ∷ Insert main_name 1 (each_in_a_line (codes "12345678")) ∷ ModeLine 0 (Some (codes "%b %l %p")) ∷ Split 0 Right 12 ∷ Start 0 5 0 ∷ Start 1 5 0 ∷ Point 0 5 ∷ Point 1 5 ∷ Redisplay None ∷ Insert main_name 1 (48 ∷ 10 ∷ []) ∷ [])) ≡ Ok 0 }
+{}
