@@ -40,6 +40,8 @@ fresh_by files s place (Some w) = (place.number, record {
   height = body_height place;
   margin = s.margin;
   conservatively = s.conservatively;
+  top = (view_in files s w place).top;
+  bottom = (view_in files s w place).bottom;
   change = none;
 }) ∷ []
 

@@ -1,5 +1,6 @@
 -- Sessions on which the definitions are worked out.
-use Rattle.std.specs.Prelude.{ℕ, Option, None, Some, Result, Ok, Err, List, [], ◌∷◌, ◌++◌}
+use Rattle.std.specs.Prelude.{ℕ, Option, None, Some, Result, Ok, Err, List, [], ◌∷◌, slice_get}
+use Rattle.rd_base.specs.declared.cell.Cell.{Cell}
 use Rattle.rd_blocks.specs.Examples.{files}
 use Rattle.rd_script.specs.declared.op.Op.{Op}
 use Rattle.rd_script.specs.declared.op.Op.TheVariants.{Redisplay}
@@ -9,6 +10,7 @@ use Rattle.rd_state.specs.declared.refused.Refused.{Refused}
 use Rattle.rd_layout.specs.Copies.{redisplayed}
 use Rattle.rd_layout.specs.Facts.{cursor_since}
 use Rattle.rd_layout.specs.Redisplays.{update_of}
+use Rattle.rd_layout.specs.Screens.{laid_out}
 use Rattle.rd_layout.specs.Sessions.{SessionValue, behind, layout_of, opened, session_step}
 
 -- the session in which an op led to a state, where it was not refused
@@ -50,3 +52,7 @@ abbrev pub point_and_cursor : SessionValue → ℕ × Option (ℕ × ℕ)
 point_and_cursor v =
     let point = (selected_window v.state).point in
     (point, cursor_since (layout_of v.state.selected v.layouts) point)
+
+-- a row of the target screen
+abbrev pub row_of : ℕ → SessionValue → Option (List Cell)
+row_of row v = slice_get (laid_out v.files v.state).picture.rows row

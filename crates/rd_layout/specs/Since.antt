@@ -6,6 +6,7 @@ use Rattle.rd_blocks.specs.Leads.{LeadsTo}
 use Rattle.rd_blocks.specs.Sources.{text_source}
 use Rattle.rd_objects.specs.Things.{ObjectLists}
 use Rattle.rd_props.specs.Buffers as props
+use Rattle.rd_reuse.specs.Changes.{IsChange}
 use Rattle.rd_rows.specs.Shapes.{IsShape}
 use Rattle.rd_state.specs.States.{StateValue, seen}
 use Rattle.rd_state.specs.Valid.{IsValid}
@@ -14,17 +15,22 @@ use Rattle.rd_state.specs.declared.window.WindowState.{WindowState}
 use Rattle.rd_term.specs.Pictures.{Picture, IsOfSize}
 use Rattle.rd_text.specs.Texts.{IsText}
 use Rattle.rd_update.specs.Laws.{IsSound}
+use Rattle.rd_window.specs.Layouts.{StandsUnchanged}
 use Rattle.rd_window.specs.declared.layout.Layout.{Layout}
 use Rattle.rd_layout.specs.Sessions.{SessionValue, layout_of}
+use Rattle.rd_layout.specs.Windows.{window_source}
 
--- a last layout of a window has rows of an older state of the buffer, and the change since leads from that state to the present one
+-- A last layout of a window has rows of an older state of the buffer, and the change since leads from that state to the present one. Where
+-- nothing changed and the window's start was not set by command, it shows what the window shows from its start on.
 pub record IsKnown (files : Data) (s : StateValue) (w : WindowState) (l : Layout) : Type 0 where
   pub old : props.BufferValue
   pub made : ObjectLists
   pub text : IsText old.text
   pub shape : IsShape l.shape
   pub rows : AreRowsAt (text_source old made files) l.shape l.matrix
+  pub change : IsChange l.change
   pub leads : LeadsTo old made (seen (shown_content s w)) s.objects l.change
+  pub stands : StandsUnchanged (Some l) (window_source files s w) w.forced w.anchor
 
 -- a known screen has the frame's size and is sound
 abbrev pub FitsFrame : Option Picture → StateValue → Type 0

@@ -1,10 +1,11 @@
 //! The definitions on worked examples. They have no body: what they promise is computed from the definitions.
 ghost use Rattle.std.specs.Prelude.{◌≡◌, ◌∷◌, ◌++◌, [], true, false, None, Some, Ok, Err, pos, codes};
 ghost use Rattle.rd_script.specs.declared.op.Op.TheVariants.{Frame, Insert, TypeText, Split, Point, Start, Scroll, ModeLine, Echo, Redisplay, Shift, Go, Hit, Margin};
+ghost use Rattle.rd_frame.specs.Examples.{inverted, letters};
 ghost use Rattle.rd_tree.specs.declared.side.Side.TheVariants.{Right};
 ghost use Rattle.rd_state.specs.States.{main_name};
 ghost use Rattle.rd_state.specs.declared.refused.Refused.TheVariants.{NoWindow, NotShown};
-ghost use Rattle.rd_layout.specs.Examples.{after, told, bytes_of, each_in_a_line, point_and_cursor};
+ghost use Rattle.rd_layout.specs.Examples.{after, told, bytes_of, each_in_a_line, point_and_cursor, row_of};
 ghost use Rattle.rd_layout.specs.Redisplays.{allowed, update_of};
 
 /// Three lines: all of them are new at the first redisplay, nothing is laid out at the second, and at the third only the changed line.
@@ -66,10 +67,10 @@ fn what_is_not_shown_is_not_hit()
 {}
 
 /// Two windows side by side on eight lines, the left one with a border, both with mode lines: a line that is put before what they show
-/// moves their starts, and the mode lines alone are sent.
+/// moves their starts, so that they show what they showed, at no cost, and the mode lines tell another line and another share.
 #[tactic(auto, unfolding(crate::specs::Screens::laid_out, rd_state::specs::Steps::step, rd_state::specs::Effects::effect_of, rd_tree::specs::Calls::split_tree, rd_tree::specs::Calls::resize_tree, rd_tree::specs::Calls::mode_tree, rd_tree::specs::Calls::margins_tree))]
 fn mode_lines_follow_the_text()
-    ensures bytes { told (bytes_of None) (after (Frame 24 5 ∷ Insert main_name 1 (each_in_a_line (codes "12345678")) ∷ ModeLine 0 (Some (codes "%b %l %p")) ∷ Split 0 Right 12 ∷ Start 0 5 0 ∷ Start 1 5 0 ∷ Point 0 5 ∷ Point 1 5 ∷ Redisplay None ∷ Insert main_name 1 (48 ∷ 10 ∷ []) ∷ []))
-        ≡ Ok (27 ∷ codes "[4;6H" ++ 27 ∷ codes "[0;7m4 36%  main 4 36" ++ 27 ∷ codes "[0m" ++ 27 ∷ codes "[1;1H") }
+    ensures text { told (row_of 0) (after (Frame 24 5 ∷ Insert main_name 1 (each_in_a_line (codes "12345678")) ∷ ModeLine 0 (Some (codes "%b %l %p")) ∷ Split 0 Right 12 ∷ Start 0 5 0 ∷ Start 1 5 0 ∷ Point 0 5 ∷ Point 1 5 ∷ Redisplay None ∷ Insert main_name 1 (48 ∷ 10 ∷ []) ∷ [])) ≡ Ok (Some (letters (codes "3          |3           "))) }
+    ensures modes { told (row_of 3) (after (Frame 24 5 ∷ Insert main_name 1 (each_in_a_line (codes "12345678")) ∷ ModeLine 0 (Some (codes "%b %l %p")) ∷ Split 0 Right 12 ∷ Start 0 5 0 ∷ Start 1 5 0 ∷ Point 0 5 ∷ Point 1 5 ∷ Redisplay None ∷ Insert main_name 1 (48 ∷ 10 ∷ []) ∷ [])) ≡ Ok (Some (inverted (codes "main 4 36%  main 4 36%  "))) }
     ensures cost { told allowed (after (Frame 24 5 ∷ Insert main_name 1 (each_in_a_line (codes "12345678")) ∷ ModeLine 0 (Some (codes "%b %l %p")) ∷ Split 0 Right 12 ∷ Start 0 5 0 ∷ Start 1 5 0 ∷ Point 0 5 ∷ Point 1 5 ∷ Redisplay None ∷ Insert main_name 1 (48 ∷ 10 ∷ []) ∷ [])) ≡ Ok 0 }
 {}

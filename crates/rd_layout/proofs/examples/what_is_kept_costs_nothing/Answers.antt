@@ -1,0 +1,21 @@
+use Rattle.std.proofs.Common.{refl}
+use Rattle.std.specs.Char.{encode_utf8}
+use Rattle.std.specs.Fmt.{digits}
+use Rattle.unicode_width.specs.Width.{char_width}
+use Rattle.rd_state.specs.Effects.{effect_of}
+use Rattle.rd_state.specs.Steps.{step}
+use Rattle.rd_tree.specs.Calls.{margins_tree, mode_tree, resize_tree, split_tree}
+use Rattle.rd_layout.specs.Screens.{laid_out}
+use Rattle.rd_layout.proofs.examples.what_is_kept_costs_nothing.Goals as goal
+
+pub returns-clause-first : goal.returns-clause-first
+unfolding char_width digits encode_utf8 effect_of step laid_out margins_tree mode_tree resize_tree split_tree
+returns-clause-first c = refl
+
+pub returns-clause-second : goal.returns-clause-second
+unfolding char_width digits encode_utf8 effect_of step laid_out margins_tree mode_tree resize_tree split_tree
+returns-clause-second c = refl
+
+pub returns-clause-third : goal.returns-clause-third
+unfolding char_width digits encode_utf8 effect_of step laid_out margins_tree mode_tree resize_tree split_tree
+returns-clause-third c = refl
