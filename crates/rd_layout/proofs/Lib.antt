@@ -1,0 +1,14 @@
+pub mod ByNumber
+pub mod Calm
+pub mod Chosen
+pub mod Fitting
+pub mod Keeping
+pub mod Known
+pub mod Leading
+pub mod Over
+pub mod Placed
+pub mod Placing
+pub mod Positions
+pub mod Sending
+pub mod Settling
+pub mod Standing

@@ -34,16 +34,19 @@ made e = record { start = e.start; number = e.number; row = record { shown = e.r
 -- the layout of a window from nothing
 abbrev pub fresh_by : Data → StateValue → Placed → Option WindowState → List (ℕ × Layout)
 fresh_by files s place None = []
-fresh_by files s place (Some w) = (place.number, record {
-  matrix = map made (view_in files s w place).rows;
-  shape = window_shape s w place;
-  height = body_height place;
-  margin = s.margin;
-  conservatively = s.conservatively;
-  top = (view_in files s w place).top;
-  bottom = (view_in files s w place).bottom;
-  change = none;
-}) ∷ []
+fresh_by files s place (Some w) = (
+  place.number,
+  record {
+    matrix = map made (view_in files s w place).rows;
+    shape = window_shape s w place;
+    height = body_height place;
+    margin = s.margin;
+    conservatively = s.conservatively;
+    top = (view_in files s w place).top;
+    bottom = (view_in files s w place).bottom;
+    change = none;
+  },
+) ∷ []
 
 abbrev pub fresh_at : Data → StateValue → Placed → List (ℕ × Layout)
 fresh_at files s place = fresh_by files s place (window_of place.number s.windows)

@@ -9,3 +9,4 @@ pub mod Since
 pub mod Facts
 pub mod Copies
 pub mod Examples
+pub mod Targets

@@ -3,6 +3,10 @@
 #![tactic(auto)]
 
 mod examples;
+mod laws;
 mod outcome;
 
+pub use laws::{
+    redisplays_keep_states, redisplays_lead_on, sessions_stay_known, targets_fit_their_frames,
+};
 pub use outcome::Outcome;

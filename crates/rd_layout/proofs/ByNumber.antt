@@ -1,0 +1,152 @@
+-- Lists of windows by their numbers.
+use Rattle.std.proofs.Common.{◌≡◌, ◌≢◌, ℕ, ◌==◌, inl, inr, Bool, true, false, if◌then◌else◌, Option, None, Some, List, [], ◌∷◌, ◌++◌, ◌<◌, get_or, length, map, sym, ap, refl, ◌∙◌, arith, subst}
+use Rattle.std.proofs.lemmas.Bool.{cases_eq}
+use Rattle.std.proofs.lemmas.Bool.Decides.{nat_tests}
+use Rattle.std.proofs.lemmas.Option.{slice_get-get_or}
+use Rattle.std.specs.Prelude.{option_map, slice_get}
+use Rattle.rd_state.specs.States.{BufferValue, new_buffer}
+use Rattle.rd_state.specs.Moves.{moved_in}
+use Rattle.rd_state.specs.Windows.{AreApart, window_of, with_window, without_window}
+use Rattle.rd_state.specs.declared.moves.Move.{Move}
+use Rattle.rd_state.specs.declared.window.WindowState.{WindowState}
+
+abbrev pub Entry : Type 0
+Entry = ℕ × WindowState
+
+pub eq-true : (a b : ℕ) → a ≡ b → (a == b) ≡ true
+eq-true a b h = grind (arith, nat_tests)
+
+pub eq-false : (a b : ℕ) → a ≢ b → (a == b) ≡ false
+eq-false a b h = grind (arith, nat_tests)
+
+pub chosen : {A : Type 0} (t : Bool) (x y : A) → t ≡ true → (if t then x else y) ≡ x
+chosen true x y h = refl
+chosen false x y h = absurd (cc)
+
+pub passed : {A : Type 0} (t : Bool) (x y : A) → t ≡ false → (if t then x else y) ≡ y
+passed true x y h = absurd (cc)
+passed false x y h = refl
+
+pub window-here : (n : ℕ) (e : Entry) (rest : List Entry) → e.0 ≡ n → window_of n (e ∷ rest) ≡ Some e.1
+window-here n e rest h = chosen (e.0 == n) (Some e.1) (window_of n rest) (eq-true e.0 n h)
+
+pub window-there : (n : ℕ) (e : Entry) (rest : List Entry) → e.0 ≢ n → window_of n (e ∷ rest) ≡ window_of n rest
+window-there n e rest h = passed (e.0 == n) (Some e.1) (window_of n rest) (eq-false e.0 n h)
+
+with-here : (n : ℕ) (f : WindowState → WindowState) (e : Entry) (rest : List Entry) → e.0 ≡ n → with_window n f (e ∷ rest) ≡ (e.0, f e.1) ∷ rest
+with-here n f e rest h = chosen (e.0 == n) _ _ (eq-true e.0 n h)
+
+with-there : (n : ℕ) (f : WindowState → WindowState) (e : Entry) (rest : List Entry) → e.0 ≢ n → with_window n f (e ∷ rest) ≡ e ∷ with_window n f rest
+with-there n f e rest h = passed (e.0 == n) _ _ (eq-false e.0 n h)
+
+without-here : (n : ℕ) (e : Entry) (rest : List Entry) → e.0 ≡ n → without_window n (e ∷ rest) ≡ rest
+without-here n e rest h = chosen (e.0 == n) _ _ (eq-true e.0 n h)
+
+without-there : (n : ℕ) (e : Entry) (rest : List Entry) → e.0 ≢ n → without_window n (e ∷ rest) ≡ e ∷ without_window n rest
+without-there n e rest h = passed (e.0 == n) _ _ (eq-false e.0 n h)
+
+-- ---- a window that lives behind a change lived before it
+
+abbrev pub Lives : ℕ → List Entry → Type 0
+Lives n ws = (w : WindowState) × (window_of n ws ≡ Some w)
+
+lives-here : (n : ℕ) (e : Entry) (rest : List Entry) → e.0 ≡ n → Lives n (e ∷ rest)
+lives-here n e rest h = (e.1, window-here n e rest h)
+
+lives-there : (n : ℕ) (e : Entry) (rest : List Entry) → e.0 ≢ n → Lives n rest → Lives n (e ∷ rest)
+lives-there n e rest h l = (l.0, window-there n e rest h ∙ l.1)
+
+lives-behind : (n : ℕ) (e : Entry) (rest : List Entry) → e.0 ≢ n → Lives n (e ∷ rest) → Lives n rest
+lives-behind n e rest h l = (l.0, sym (window-there n e rest h) ∙ l.1)
+
+pub lives-moved : (i : ℕ) (how : Move) (n : ℕ) (ws : List Entry) → Lives n (map (moved_in i how) ws) → Lives n ws
+lives-moved i how n [] l = l
+lives-moved i how n (e ∷ rest) l = elim (cases_eq e.0 n) [
+  | inl p ↦ lives-here n e rest p
+  | inr q ↦ lives-there n e rest q (lives-moved i how n rest (lives-behind n (moved_in i how e) (map (moved_in i how) rest) q l))
+]
+
+pub lives-with : (m : ℕ) (f : WindowState → WindowState) (n : ℕ) (ws : List Entry) → Lives n (with_window m f ws) → Lives n ws
+lives-with m f n [] l = l
+lives-with m f n (e ∷ rest) l = elim (cases_eq e.0 n) [
+  | inl p ↦ lives-here n e rest p
+  | inr q ↦ elim (cases_eq e.0 m) [
+    | inl r ↦ lives-there n e rest q (lives-behind n (e.0, f e.1) rest q (subst (Lives n) (with-here m f e rest r) l))
+    | inr r ↦ lives-there n e rest q (lives-with m f n rest (lives-behind n e (with_window m f rest) q (subst (Lives n) (with-there m f e rest r) l)))
+  ]
+]
+
+pub lives-without : (m n : ℕ) (ws : List Entry) → Lives n (without_window m ws) → Lives n ws
+lives-without m n [] l = l
+lives-without m n (e ∷ rest) l = elim (cases_eq e.0 n) [
+  | inl p ↦ lives-here n e rest p
+  | inr q ↦ elim (cases_eq e.0 m) [
+    | inl r ↦ lives-there n e rest q (subst (Lives n) (without-here m e rest r) l)
+    | inr r ↦ lives-there n e rest q (lives-without m n rest (lives-behind n e (without_window m rest) q (subst (Lives n) (without-there m e rest r) l)))
+  ]
+]
+
+pub lives-end : (n : ℕ) (d : Entry) (ws : List Entry) → d.0 ≢ n → Lives n (ws ++ d ∷ []) → Lives n ws
+lives-end n d [] h l = lives-behind n d [] h l
+lives-end n d (e ∷ rest) h l = elim (cases_eq e.0 n) [
+  | inl p ↦ lives-here n e rest p
+  | inr q ↦ lives-there n e rest q (lives-end n d rest h (lives-behind n e (rest ++ d ∷ []) q l))
+]
+
+-- ---- a window that became another, and one that went
+
+pub window-with-same : (n : ℕ) (f : WindowState → WindowState) (ws : List Entry) → window_of n (with_window n f ws) ≡ option_map f (window_of n ws)
+window-with-same n f [] = refl
+window-with-same n f (e ∷ rest) = elim (cases_eq e.0 n) [
+  | inl p ↦ ap (window_of n) (with-here n f e rest p) ∙ (window-here n (e.0, f e.1) rest p ∙ sym (ap (option_map f) (window-here n e rest p)))
+  | inr q ↦
+      ap (window_of n) (with-there n f e rest q)
+      ∙ (window-there n e (with_window n f rest) q ∙ (window-with-same n f rest ∙ sym (ap (option_map f) (window-there n e rest q))))
+]
+
+pub window-with-other : (n m : ℕ) (f : WindowState → WindowState) (ws : List Entry) → m ≢ n → window_of m (with_window n f ws) ≡ window_of m ws
+window-with-other n m f [] ne = refl
+window-with-other n m f (e ∷ rest) ne = elim (cases_eq e.0 n) [
+  | inl p ↦
+      let other : e.0 ≢ m = λ r. ne (sym r ∙ p) in
+      ap (window_of m) (with-here n f e rest p) ∙ (window-there m (e.0, f e.1) rest other ∙ sym (window-there m e rest other))
+  | inr q ↦ ap (window_of m) (with-there n f e rest q) ∙ elim (cases_eq e.0 m) [
+    | inl r ↦ window-here m e (with_window n f rest) r ∙ sym (window-here m e rest r)
+    | inr r ↦ window-there m e (with_window n f rest) r ∙ (window-with-other n m f rest ne ∙ sym (window-there m e rest r))
+  ]
+]
+
+pub window-gone : (n : ℕ) (ws : List Entry) → AreApart ws → window_of n (without_window n ws) ≡ None
+window-gone n [] h = refl
+window-gone n (e ∷ rest) h = elim (cases_eq e.0 n) [
+  | inl p ↦ ap (window_of n) (without-here n e rest p) ∙ (ap (λ (k : ℕ). window_of k rest) (sym p) ∙ h.0)
+  | inr q ↦ ap (window_of n) (without-there n e rest q) ∙ (window-there n e (without_window n rest) q ∙ window-gone n rest h.1)
+]
+
+pub window-left : (n m : ℕ) (ws : List Entry) → m ≢ n → window_of m (without_window n ws) ≡ window_of m ws
+window-left n m [] ne = refl
+window-left n m (e ∷ rest) ne = elim (cases_eq e.0 n) [
+  | inl p ↦ ap (window_of m) (without-here n e rest p) ∙ sym (window-there m e rest (λ r. ne (sym r ∙ p)))
+  | inr q ↦ ap (window_of m) (without-there n e rest q) ∙ elim (cases_eq e.0 m) [
+    | inl r ↦ window-here m e (without_window n rest) r ∙ sym (window-here m e rest r)
+    | inr r ↦ window-there m e (without_window n rest) r ∙ (window-left n m rest ne ∙ sym (window-there m e rest r))
+  ]
+]
+
+-- ---- each window became another
+
+-- each window with a number became another
+abbrev pub became : (ℕ → WindowState → WindowState) → Entry → Entry
+became f e = (e.0, f e.0 e.1)
+
+pub window-became : (f : ℕ → WindowState → WindowState) (n : ℕ) (ws : List Entry) → window_of n (map (became f) ws) ≡ option_map (f n) (window_of n ws)
+window-became f n [] = refl
+window-became f n (e ∷ rest) = elim (cases_eq e.0 n) [
+  | inl p ↦ window-here n (became f e) (map (became f) rest) p ∙ (ap (λ k. Some (f k e.1)) p ∙ sym (ap (option_map (f n)) (window-here n e rest p)))
+  | inr q ↦ window-there n (became f e) (map (became f) rest) q ∙ (window-became f n rest ∙ sym (ap (option_map (f n)) (window-there n e rest q)))
+]
+
+-- ---- buffers
+
+pub buffer-there : (bs : List BufferValue) (k : ℕ) → k < length bs → (b : BufferValue) × (slice_get bs k ≡ Some b)
+buffer-there bs k h = (get_or bs k (new_buffer []), slice_get-get_or bs k (new_buffer []) h)

@@ -1,0 +1,393 @@
+-- What an op that tells no change of a window leaves: the window's start, and what is seen of its buffer.
+use Rattle.std.proofs.Common.{◌≡◌, ◌≢◌, ◌⊎◌, inl, inr, ℕ, zero, suc, ◌+◌, ◌-◌, ◌<◌, ◌≤◌, ◌==◌, ◌&&◌, ◌||◌, Bool, true, false, if◌then◌else◌, nat_lt, nat_le, min, max, pos, ◌+ℤ◌, is_some, Option, None, Some, Result, Ok, Err, List, [], ◌∷◌, ◌++◌, length, map, set, sym, ap, refl, subst, ◌∙◌, arith, unwrap_or, true≢false}
+use Rattle.std.proofs.lemmas.Bool.{cases_eq, eqb-true}
+use Rattle.std.proofs.lemmas.Bool.Decides.{nat_tests}
+use Rattle.std.specs.Option.{option_and_then}
+use Rattle.std.specs.Ordering.{int_eq}
+use Rattle.std.specs.Prelude.{ℤ, ◌-ℤ◌, slice_get, slice_set, option_map, IfOk}
+use Rattle.rd_margins.specs.Marks as marks
+use Rattle.rd_objects.specs.Things.{ObjectLists}
+use Rattle.rd_overlays.specs.Overlays.{overlay_at}
+use Rattle.rd_overlays.specs.declared.overlay.Overlay.{Overlay}
+use Rattle.rd_reuse.specs.Changes.{all, change_of, edit, is_all, is_small, join, moved, none}
+use Rattle.rd_reuse.specs.declared.change.Change.{Change}
+use Rattle.rd_script.specs.declared.op.Op.{Op}
+use Rattle.rd_script.specs.declared.op.Op.TheVariants as ops
+use Rattle.rd_state.specs.Edits.{insertion, deletion, narrowing, widening, property_putting, overlay_making, overlay_moving, overlay_dropping, overlay_putting, mark_putting, setting_putting, is_accessible, is_made}
+use Rattle.rd_state.specs.Effects.{covered_effect, effect_of, moved_effect, overlay_in}
+use Rattle.rd_state.specs.Making.{table_of, string_making, spec_making, face_making, table_making}
+use Rattle.rd_state.specs.Moves.{moved as moved_window, moved_in}
+use Rattle.rd_state.specs.States.{BufferValue, ContentValue, StateValue, new_buffer, number_of, opening_window, seen}
+use Rattle.rd_state.specs.Steps.{with_found, edited, edited_moving, replaced, moving, changing, with_objects, on_tree, making, setting, placing, unless_bad, format_fault, held, raw_text, step}
+use Rattle.rd_state.specs.Valid.{most_buffers}
+use Rattle.rd_state.specs.Windows.{AreApart, selected_window, window_of, with_window, without_window}
+use Rattle.rd_state.specs.declared.effect.Effect.{Effect}
+use Rattle.rd_state.specs.declared.effect.Effect.TheVariants.{Nothing, Edit, Moved, All, Window}
+use Rattle.rd_state.specs.declared.moves.Move.{Move}
+use Rattle.rd_state.specs.declared.moves.Move.TheVariants.{Inserted, Deleted, Narrowed}
+use Rattle.rd_state.specs.declared.refused.Refused.{Refused}
+use Rattle.rd_state.specs.declared.refused.Refused.TheVariants.{NoObject, NoOverlay}
+use Rattle.rd_state.specs.declared.window.WindowState.{WindowState}
+use Rattle.rd_tree.specs.Calls.{Configuration, split_tree, remove_tree, resize_tree, mode_tree, margins_tree}
+use Rattle.rd_tree.specs.declared.fault.TreeFault.{TreeFault}
+use Rattle.rd_window.specs.Layouts.{is_none}
+use Rattle.rd_layout.specs.Changes.{change_by, if_shown, restyled}
+use Rattle.rd_layout.proofs.ByNumber.{Entry, chosen, passed, eq-true, eq-false, window-became, window-gone, window-here, window-left, window-there, window-with-other, window-with-same}
+
+-- an effect tells no change of a window that shows a buffer
+abbrev pub Quiet : Effect → ℕ → ℕ → Type 0
+Quiet effect number k = is_none (change_by effect number k) ≡ true
+
+-- ---- changes that are never none
+
+first-of : (a b c : Bool) → (a && b && c) ≡ true → b ≡ true
+first-of true true c h = refl
+first-of true false c h = absurd (cc)
+first-of false b c h = absurd (cc)
+
+no-zero : (tail : ℕ) → 0 < tail → (tail == 0) ≡ true → ⊥
+no-zero tail some h = let is : tail ≡ 0 = eqb-true tail 0 h in absurd (omega (arith, is, some))
+
+ranged-told : (t : Bool) (head tail : ℕ) (added : ℤ) → 0 < tail → is_none (if t then record { head = head; tail = tail; added = added } else all) ≡ true → ⊥
+ranged-told true head tail added some h = no-zero tail some (first-of (head == 4294967295) (tail == 0) (int_eq added (pos 0)) h)
+ranged-told false head tail added some h = absurd (cc)
+
+told : (head tail : ℕ) (added : ℤ) → 0 < tail → is_none (change_of head tail added) ≡ true → ⊥
+told head tail added some h = ranged-told (nat_le tail 4294967295 && is_small added) head tail added some h
+
+-- what is joined with a change that has a tail has one
+pub joined-told : (t : Bool) (c later : Change) → 0 < later.tail
+    → is_none (if t then all else change_of (min c.head later.head) (max (moved later.added c.tail) later.tail) (c.added +ℤ later.added)) ≡ true → ⊥
+joined-told true c later some h = absurd (cc)
+joined-told false c later some h = told (min c.head later.head) (max (moved later.added c.tail) later.tail) (c.added +ℤ later.added) (omega arith) h
+
+pub restyled-tail : (t : Bool) (head tail : ℕ) (added : ℤ) → 0 < tail → 0 < (if t then record { head = head; tail = tail; added = added } else all).tail
+restyled-tail true head tail added some = some
+restyled-tail false head tail added some = omega arith
+
+both-told : (before after : ℕ × ℕ) → is_none (join (restyled before) (restyled after)) ≡ true → ⊥
+both-told before after h =
+    let n = after.1 - after.0 in
+    joined-told (is_all (restyled before) || is_all (restyled after)) (restyled before) (restyled after)
+    (restyled-tail (nat_le (after.0 + n + 1) 4294967295 && is_small (pos n -ℤ pos n)) after.0 (after.0 + n + 1) (pos n -ℤ pos n) (omega arith)) h
+
+-- an effect tells a change of each window that shows a buffer
+abbrev pub Loud : Effect → ℕ → Type 0
+Loud effect i = (number k : ℕ) → k ≡ i → Quiet effect number k → ⊥
+
+shown-told : (i k : ℕ) (change : Change) → k ≡ i → (is_none change ≡ true → ⊥) → is_none (if_shown i k change) ≡ true → ⊥
+shown-told i k change is never h = never (sym (ap is_none (chosen (i == k) change none (eq-true i k (sym is)))) ∙ h)
+
+loud-edit : (i from removed added : ℕ) → Loud (Edit i from removed added) i
+loud-edit i from removed added number k is h = shown-told i k (edit from removed added) is (told from (from + added + 1) (pos added -ℤ pos removed) (omega arith)) h
+
+loud-all : (i : ℕ) → Loud (All i) i
+loud-all i number k is h = shown-told i k all is (λ e. absurd (cc)) h
+
+loud-moved : (i : ℕ) (before after : ℕ × ℕ) → Loud (Moved i before after) i
+loud-moved i before after number k is h = shown-told i k (join (restyled before) (restyled after)) is (both-told before after) h
+
+-- ---- what stays
+
+-- a window that shows what it showed, and starts where it started unless its start is set by command
+abbrev pub Same : WindowState → WindowState → Type 0
+Same old new = (new.buffer ≡ old.buffer) × (new.forced ≡ false → (old.forced ≡ false) × (new.anchor ≡ old.anchor))
+
+-- the buffers and the windows of which an effect tells no change
+pub record Calm (effect : Effect) (s t : StateValue) : Type 0 where
+  pub contents : (number k : ℕ) (b c : BufferValue) → slice_get s.buffers k ≡ Some b → slice_get t.buffers k ≡ Some c → Quiet effect number k → seen c.content ≡ seen b.content
+  pub windows : (number : ℕ) (old new : WindowState) → window_of number s.windows ≡ Some old → window_of number t.windows ≡ Some new → Quiet effect number old.buffer → Same old new
+
+same : (old new : WindowState) → old ≡ new → Same old new
+same old new is = subst (Same old) is (refl, λ h. (h, refl))
+
+one : {A : Type 0} (o : Option A) (x y : A) → o ≡ Some x → o ≡ Some y → x ≡ y
+one o x y h k = cc
+
+-- ---- buffers
+
+abbrev pub Contents : Effect → List BufferValue → List BufferValue → Type 0
+Contents effect bs cs = (number k : ℕ) (b c : BufferValue) → slice_get bs k ≡ Some b → slice_get cs k ≡ Some c → Quiet effect number k → seen c.content ≡ seen b.content
+
+same-content : (b c : BufferValue) → b ≡ c → seen c.content ≡ seen b.content
+same-content b c is = ap (λ (x : BufferValue). seen x.content) (sym is)
+
+contents-same : (effect : Effect) (bs : List BufferValue) → Contents effect bs bs
+contents-same effect bs number k b c hb hc quiet = same-content b c (one (slice_get bs k) b c hb hc)
+
+pushed : (bs : List BufferValue) (x : BufferValue) (k : ℕ) (b : BufferValue) → slice_get bs k ≡ Some b → slice_get (bs ++ x ∷ []) k ≡ Some b
+pushed [] x k b h = absurd (cc)
+pushed (c ∷ cs) x zero b h = h
+pushed (c ∷ cs) x (suc k) b h = pushed cs x k b h
+
+contents-pushed : (effect : Effect) (bs : List BufferValue) (x : BufferValue) → Contents effect bs (bs ++ x ∷ [])
+contents-pushed effect bs x number k b c hb hc quiet = same-content b c (one (slice_get (bs ++ x ∷ []) k) b c (pushed bs x k b hb) hc)
+
+-- what stands at a place of a list after a write
+at-set : (bs : List BufferValue) (i k : ℕ) (x c : BufferValue) → slice_get (set bs i x) k ≡ Some c → ((k ≡ i) × (c ≡ x)) ⊎ ((k ≢ i) × (slice_get bs k ≡ Some c))
+at-set [] i k x c h = absurd (cc)
+at-set (b ∷ bs) zero zero x c h = inl (refl, cc)
+at-set (b ∷ bs) zero (suc k) x c h = inr (λ e. absurd (omega arith), h)
+at-set (b ∷ bs) (suc i) zero x c h = inr (λ e. absurd (omega arith), h)
+at-set (b ∷ bs) (suc i) (suc k) x c h = elim (at-set bs i k x c h) [
+  | inl p ↦ inl (ap suc p.0, p.1)
+  | inr p ↦ inr (λ e. p.0 (omega arith), p.1)
+]
+
+-- one buffer holds something else: the effect tells it, or the same is seen of it
+abbrev pub Kept : Effect → ℕ → ContentValue → ContentValue → Type 0
+Kept effect i old new = Loud effect i ⊎ (seen new ≡ seen old)
+
+contents-set : (effect : Effect) (bs : List BufferValue) (i : ℕ) (x : BufferValue) (content : ContentValue) → slice_get bs i ≡ Some x → Kept effect i x.content content
+    → Contents effect bs (set bs i (record x { content = content }))
+contents-set effect bs i x content at kept number k b c hb hc quiet = elim (at-set bs i k (record x { content = content }) c hc) [
+  | inl p ↦ elim kept [
+    | inl loud ↦ absurd (loud number k p.0 quiet)
+    | inr is ↦
+        let there : b ≡ x = one (slice_get bs i) b x (ap (slice_get bs) (sym p.0) ∙ hb) at in
+        ap (λ (y : BufferValue). seen y.content) p.1 ∙ (is ∙ sym (ap (λ (y : BufferValue). seen y.content) there))
+  ]
+  | inr p ↦ same-content b c (one (slice_get bs k) b c hb p.1)
+]
+
+-- ---- windows
+
+abbrev pub Windows : Effect → List Entry → List Entry → Type 0
+Windows effect ws vs = (number : ℕ) (old new : WindowState) → window_of number ws ≡ Some old → window_of number vs ≡ Some new → Quiet effect number old.buffer → Same old new
+
+windows-same : (effect : Effect) (ws : List Entry) → Windows effect ws ws
+windows-same effect ws number old new h k quiet = same old new (one (window_of number ws) old new h k)
+
+windows-with : (effect : Effect) (ws : List Entry) (n : ℕ) (f : WindowState → WindowState) → ((w : WindowState) → Quiet effect n w.buffer → Same w (f w))
+    → Windows effect ws (with_window n f ws)
+windows-with effect ws n f good number old new h k quiet = elim (cases_eq number n) [
+  | inl p ↦
+      let here : window_of n ws ≡ Some old = ap (λ j. window_of j ws) (sym p) ∙ h in
+      let after : option_map f (window_of n ws) ≡ Some new = sym (window-with-same n f ws) ∙ (ap (λ j. window_of j (with_window n f ws)) (sym p) ∙ k) in
+      let is : f old ≡ new = cc (sym (ap (option_map f) here) ∙ after) in
+      subst (Same old) is (good old (subst (λ j. Quiet effect j old.buffer) p quiet))
+  | inr q ↦ same old new (one (window_of number ws) old new h (sym (window-with-other n number f ws q) ∙ k))
+]
+
+-- a window that moves with the text of a buffer
+abbrev pub moved-by : ℕ → Move → ℕ → WindowState → WindowState
+moved-by i how number w = if w.buffer == i then moved_window how w else w
+
+windows-moved : (effect : Effect) (ws : List Entry) (i : ℕ) (how : Move) → Loud effect i → Windows effect ws (map (moved_in i how) ws)
+windows-moved effect ws i how loud number old new h k quiet =
+    let after : option_map (moved-by i how number) (window_of number ws) ≡ Some new = sym (window-became (moved-by i how) number ws) ∙ k in
+    let is : moved-by i how number old ≡ new = cc (sym (ap (option_map (moved-by i how number)) h) ∙ after) in
+    elim (cases_eq old.buffer i) [
+      | inl p ↦ absurd (loud number old.buffer p quiet)
+      | inr q ↦ same old new (sym (passed (old.buffer == i) (moved_window how old) old (eq-false old.buffer i q)) ∙ is)
+    ]
+
+windows-typed : (effect : Effect) (ws : List Entry) (i : ℕ) (how : Move) (n : ℕ) (f : WindowState → WindowState) (w : WindowState) → Loud effect i → window_of n ws ≡ Some w → w.buffer ≡ i
+    → Windows effect ws (with_window n f (map (moved_in i how) ws))
+windows-typed effect ws i how n f w loud at there number old new h k quiet = elim (cases_eq number n) [
+  | inl p ↦
+      let is : old ≡ w = one (window_of n ws) old w (ap (λ j. window_of j ws) (sym p) ∙ h) at in
+      absurd (loud number old.buffer (ap (λ (x : WindowState). x.buffer) is ∙ there) quiet)
+  | inr q ↦ windows-moved effect ws i how loud number old new h (sym (window-with-other n number f (map (moved_in i how) ws) q) ∙ k) quiet
+]
+
+found-front : (n : ℕ) (ws : List Entry) (e : Entry) (w : WindowState) → window_of n ws ≡ Some w → window_of n (ws ++ e ∷ []) ≡ Some w
+found-front n [] e w h = absurd (cc)
+found-front n (d ∷ ds) e w h = elim (cases_eq d.0 n) [
+  | inl p ↦ window-here n d (ds ++ e ∷ []) p ∙ (sym (window-here n d ds p) ∙ h)
+  | inr q ↦ window-there n d (ds ++ e ∷ []) q ∙ found-front n ds e w (sym (window-there n d ds q) ∙ h)
+]
+
+windows-end : (effect : Effect) (ws : List Entry) (e : Entry) → Windows effect ws (ws ++ e ∷ [])
+windows-end effect ws e number old new h k quiet = same old new (one (window_of number (ws ++ e ∷ [])) old new (found-front number ws e old h) k)
+
+windows-without : (effect : Effect) (ws : List Entry) (n : ℕ) → AreApart ws → Windows effect ws (without_window n ws)
+windows-without effect ws n apart number old new h k quiet = elim (cases_eq number n) [
+  | inl p ↦ absurd (none-some new (sym (window-gone n ws apart) ∙ (ap (λ j. window_of j (without_window n ws)) (sym p) ∙ k)))
+  | inr q ↦ same old new (one (window_of number ws) old new h (sym (window-left n number ws q) ∙ k))
+] where
+  none-some : (w : WindowState) → None ≡ Some w → ⊥
+  none-some w h = absurd (cc)
+
+-- ---- parts of steps
+
+found : {A : Type 0} (refusal : Refused) (o : Option A) (f : A → Result StateValue Refused) (P : StateValue → Type 0) → ((a : A) → o ≡ Some a → IfOk (f a) P) → IfOk (with_found refusal o f) P
+found refusal None f P h = tt
+found refusal (Some a) f P h = h a refl
+
+tested : {A : Type 0} (t : Bool) (a b : Result A Refused) (P : A → Type 0) → IfOk a P → IfOk b P → IfOk (if t then a else b) P
+tested true a b P h g = h
+tested false a b P h g = g
+
+unless : (o : Option ℕ) (r : Result StateValue Refused) (P : StateValue → Type 0) → IfOk r P → IfOk (unless_bad o r) P
+unless None r P h = h
+unless (Some column) r P h = tt
+
+-- the buffers and the windows are the same
+calm : (effect : Effect) (s t : StateValue) → t.buffers ≡ s.buffers → t.windows ≡ s.windows → Calm effect s t
+calm effect s t b w = record {
+  contents = subst (Contents effect s.buffers) (sym b) (contents-same effect s.buffers);
+  windows = subst (Windows effect s.windows) (sym w) (windows-same effect s.windows);
+}
+
+replaced-calm : (effect : Effect) (s : StateValue) (i : ℕ) (b : BufferValue) (r : Result ContentValue Refused) → slice_get s.buffers i ≡ Some b → ((c : ContentValue) → r ≡ Ok c → Kept effect i b.content c)
+    → IfOk (replaced s i b r) (Calm effect s)
+replaced-calm effect s i b (Err refusal) at kept = tt
+replaced-calm effect s i b (Ok c) at kept = record { contents = contents-set effect s.buffers i b c at (kept c refl); windows = windows-same effect s.windows }
+
+moving-calm : (effect : Effect) (s : StateValue) (i : ℕ) (how : Move) (b : BufferValue) (r : Result ContentValue Refused) → slice_get s.buffers i ≡ Some b → Loud effect i
+    → IfOk (moving i how (replaced s i b r)) (Calm effect s)
+moving-calm effect s i how b (Err refusal) at loud = tt
+moving-calm effect s i how b (Ok c) at loud = record { contents = contents-set effect s.buffers i b c at (inl loud); windows = windows-moved effect s.windows i how loud }
+
+typed-calm : (effect : Effect) (s : StateValue) (n : ℕ) (w : WindowState) (how : Move) (f : WindowState → WindowState) (b : BufferValue) (r : Result ContentValue Refused) → window_of n s.windows ≡ Some w
+    → slice_get s.buffers w.buffer ≡ Some b → Loud effect w.buffer → IfOk (changing n f (moving w.buffer how (replaced s w.buffer b r))) (Calm effect s)
+typed-calm effect s n w how f b (Err refusal) lives at loud = tt
+typed-calm effect s n w how f b (Ok c) lives at loud = record {
+  contents = contents-set effect s.buffers w.buffer b c at (inl loud);
+  windows = windows-typed effect s.windows w.buffer how n f w loud lives refl;
+}
+
+edited-calm : (effect : Effect) (s : StateValue) (name : List ℕ) (edit : ContentValue → Result ContentValue Refused)
+    → ((b : BufferValue) (c : ContentValue) → slice_get s.buffers (number_of name s.buffers) ≡ Some b → edit b.content ≡ Ok c → Kept effect (number_of name s.buffers) b.content c)
+    → IfOk (edited s name edit) (Calm effect s)
+edited-calm effect s name edit kept =
+    found _ (slice_get s.buffers (number_of name s.buffers)) _ (Calm effect s)
+    (λ b at. replaced-calm effect s (number_of name s.buffers) b (edit b.content) at (λ c is. kept b c at is))
+
+edited_moving-calm : (effect : Effect) (s : StateValue) (name : List ℕ) (how : Move) (edit : ContentValue → Result ContentValue Refused) → Loud effect (number_of name s.buffers)
+    → IfOk (edited_moving s name how edit) (Calm effect s)
+edited_moving-calm effect s name how edit loud =
+    found _ (slice_get s.buffers (number_of name s.buffers)) _ (Calm effect s) (λ b at. moving-calm effect s (number_of name s.buffers) how b (edit b.content) at loud)
+
+changing-calm : (effect : Effect) (s : StateValue) (n : ℕ) (f : WindowState → WindowState) → ((w : WindowState) → Quiet effect n w.buffer → Same w (f w)) → IfOk (changing n f (Ok s)) (Calm effect s)
+changing-calm effect s n f good = record { contents = contents-same effect s.buffers; windows = windows-with effect s.windows n f good }
+
+setting-calm : (effect : Effect) (s : StateValue) (n : ℕ) (f : WindowState → WindowState) → ((w : WindowState) → Quiet effect n w.buffer → Same w (f w)) → IfOk (setting s n f) (Calm effect s)
+setting-calm effect s n f good = found _ (window_of n s.windows) _ (Calm effect s) (λ w at. changing-calm effect s n f good)
+
+placing-calm : (effect : Effect) (s : StateValue) (n place : ℕ) (f : WindowState → WindowState) → ((w : WindowState) → Quiet effect n w.buffer → Same w (f w)) → IfOk (placing s n place f) (Calm effect s)
+placing-calm effect s n place f good =
+    found _ (window_of n s.windows) _ (Calm effect s)
+    (λ w lives. found _ (slice_get s.buffers w.buffer) _ (Calm effect s) (λ b at. tested (is_accessible b.content.text place) _ _ (Calm effect s) (changing-calm effect s n f good) tt))
+
+objects-calm : (effect : Effect) (s : StateValue) (r : Result ObjectLists Refused) → IfOk (with_objects s r) (Calm effect s)
+objects-calm effect s (Err refusal) = tt
+objects-calm effect s (Ok objects) = calm effect s (record s { objects = objects }) refl refl
+
+tree-calm : (effect : Effect) (s : StateValue) (r : Result Configuration TreeFault) (f : Configuration → StateValue) → ((d : Configuration) → Calm effect s (f d)) → IfOk (on_tree r f) (Calm effect s)
+tree-calm effect s (Err fault) f h = tt
+tree-calm effect s (Ok d) f h = h d
+
+treed-calm : (effect : Effect) (s : StateValue) (r : Result Configuration TreeFault) (n : ℕ) (f : WindowState → WindowState) → ((w : WindowState) → Quiet effect n w.buffer → Same w (f w))
+    → IfOk (changing n f (on_tree r (λ tree. record s { tree = tree }))) (Calm effect s)
+treed-calm effect s (Err fault) n f good = tt
+treed-calm effect s (Ok d) n f good = record { contents = contents-same effect s.buffers; windows = windows-with effect s.windows n f good }
+
+-- ---- overlays
+
+passes : {A : Type 0} (t : Bool) (r : Result A Refused) (e : Refused) (x : A) → (if t then r else Err e) ≡ Ok x → t ≡ true
+passes true r e x h = refl
+passes false r e x h = absurd (cc)
+
+overlay-there : (s : StateValue) (name : List ℕ) (number : ℕ) (b : BufferValue) → slice_get s.buffers (number_of name s.buffers) ≡ Some b → is_some (overlay_at b.content.overlays number) ≡ true
+    → is_some (overlay_in s name number) ≡ true
+overlay-there s name number b at is = ap (λ (o : Option BufferValue). is_some (option_and_then (λ (c : BufferValue). overlay_at c.content.overlays number) o)) at ∙ is
+
+covered-loud : (i : ℕ) (o : Option Overlay) → is_some o ≡ true → Loud (covered_effect i o) i
+covered-loud i None h = absurd (cc)
+covered-loud i (Some o) h = loud-edit i o.from (o.to - o.from) (o.to - o.from)
+
+moved-loud : (i from to : ℕ) (o : Option Overlay) → is_some o ≡ true → Loud (moved_effect i from to o) i
+moved-loud i from to None h = absurd (cc)
+moved-loud i from to (Some o) h = loud-moved i (o.from, o.to) (from, to)
+
+marks-seen : (objects : ObjectLists) (number : ℕ) (string : Option ℕ) (c d : ContentValue) → mark_putting objects number string c ≡ Ok d → seen d ≡ seen c
+marks-seen objects number string c d h = by (is_some (overlay_at c.overlays number)) (is_made (length objects.strings) string) h where
+  by : (t u : Bool) → (if t then (if u then Ok (record c { marks = marks.marked c.marks number string }) else Err NoObject) else Err NoOverlay) ≡ Ok d → seen d ≡ seen c
+  by true true h = let is : record c { marks = marks.marked c.marks number string } ≡ d = cc h in ap seen (sym is)
+  by true false h = absurd (cc)
+  by false u h = absurd (cc)
+
+is-all : is_none all ≡ true → ⊥
+is-all h = absurd (true≢false (sym h))
+
+-- ---- all ops
+
+pub calm-step : (s : StateValue) (op : Op) → AreApart s.windows → IfOk (step s op) (Calm (effect_of s op) s)
+unfolding step effect_of
+calm-step s (ops.Frame width height) apart =
+    tree-calm Nothing s (resize_tree s.tree width (height - 1)) (λ tree. record s { tree = tree; width = width; height = height })
+    (λ d. calm Nothing s (record s { tree = d; width = width; height = height }) refl refl)
+calm-step s (ops.Buffer name) apart =
+    tested (nat_lt (number_of name s.buffers) (length s.buffers)) _ _ (Calm Nothing s) tt
+    (tested (nat_le most_buffers (length s.buffers)) _ _ (Calm Nothing s) tt (record { contents = contents-pushed Nothing s.buffers (new_buffer name); windows = windows-same Nothing s.windows }))
+calm-step s (ops.Insert name place text) apart = edited_moving-calm _ s name (Inserted place (length text)) (insertion place text) (loud-edit (number_of name s.buffers) place 0 (length text))
+calm-step s (ops.InsertRaw name place bytes) apart =
+    edited_moving-calm _ s name (Inserted place (length (raw_text bytes))) (insertion place (raw_text bytes)) (loud-edit (number_of name s.buffers) place 0 (length (raw_text bytes)))
+calm-step s (ops.TypeText text) apart =
+    found _ (window_of s.selected s.windows) _ (Calm (effect_of s (ops.TypeText text)) s)
+    (λ w lives. found _ (slice_get s.buffers w.buffer) _ (Calm (effect_of s (ops.TypeText text)) s)
+    (λ b at. typed-calm (effect_of s (ops.TypeText text)) s s.selected w (Inserted w.point (length text)) (λ old. record old { point = w.point + length text }) b (insertion w.point text b.content) lives at
+    (subst (λ (x : WindowState). Loud (Edit (selected_window s).buffer (selected_window s).point 0 (length text)) x.buffer) (ap (λ (o : Option WindowState). unwrap_or o opening_window) lives)
+    (loud-edit (selected_window s).buffer (selected_window s).point 0 (length text)))))
+calm-step s (ops.Delete name from to) apart = edited_moving-calm _ s name (Deleted from to) (deletion from to) (loud-edit (number_of name s.buffers) from (to - from) 0)
+calm-step s (ops.Narrow name from to) apart = edited_moving-calm _ s name (Narrowed from to) (narrowing from to) (loud-all (number_of name s.buffers))
+calm-step s (ops.Widen name) apart = edited-calm _ s name widening (λ b c at is. inl (loud-all (number_of name s.buffers)))
+calm-step s (ops.Put name from to kind value) apart =
+    edited-calm _ s name (property_putting s.objects from to kind value) (λ b c at is. inl (loud-edit (number_of name s.buffers) from (to - from) (to - from)))
+calm-step s (ops.Overlay name from to priority front rear) apart =
+    edited-calm _ s name (overlay_making from to priority front rear) (λ b c at is. inl (loud-edit (number_of name s.buffers) from (to - from) (to - from)))
+calm-step s (ops.OverlayMove name overlay from to) apart =
+    edited-calm _ s name (overlay_moving overlay from to)
+    (λ b c at is. inl (moved-loud (number_of name s.buffers) from to (overlay_in s name overlay) (overlay-there s name overlay b at (passes (is_some (overlay_at b.content.overlays overlay)) _ _ c is))))
+calm-step s (ops.OverlayDrop name overlay) apart =
+    edited-calm _ s name (overlay_dropping overlay)
+    (λ b c at is. inl (covered-loud (number_of name s.buffers) (overlay_in s name overlay) (overlay-there s name overlay b at (passes (is_some (overlay_at b.content.overlays overlay)) _ _ c is))))
+calm-step s (ops.OverlayPut name overlay kind value) apart =
+    edited-calm _ s name (overlay_putting s.objects overlay kind value)
+    (λ b c at is. inl (covered-loud (number_of name s.buffers) (overlay_in s name overlay) (overlay-there s name overlay b at (passes (is_some (overlay_at b.content.overlays overlay)) _ _ c is))))
+calm-step s (ops.Setting name value) apart = edited-calm _ s name (setting_putting s.objects value) (λ b c at is. inl (loud-all (number_of name s.buffers)))
+calm-step s (ops.AddString text runs) apart = objects-calm Nothing s (string_making s.objects text runs)
+calm-step s (ops.AddSpec spec) apart = objects-calm Nothing s (spec_making s.objects spec)
+calm-step s (ops.AddFace face) apart = objects-calm Nothing s (face_making s.objects face)
+calm-step s (ops.AddTable entries truncation continuation escape control ellipsis border) apart =
+    objects-calm Nothing s (table_making s.objects (table_of entries truncation continuation escape control ellipsis border))
+calm-step s (ops.Split window side size) apart =
+    found _ (window_of window s.windows) _ (Calm Nothing s)
+    (λ w lives. tree-calm Nothing s (split_tree s.tree window side size) _
+    (λ d. record { contents = contents-same Nothing s.buffers; windows = windows-end Nothing s.windows (s.tree.made, record w { forced = false; pending = pos 0 }) }))
+calm-step s (ops.Remove window) apart =
+    found _ (window_of window s.windows) _ (Calm Nothing s)
+    (λ w lives. tree-calm Nothing s (remove_tree s.tree window) _
+    (λ d. record { contents = contents-same Nothing s.buffers; windows = windows-without Nothing s.windows window apart }))
+calm-step s (ops.Select window) apart = found _ (window_of window s.windows) _ (Calm Nothing s) (λ w lives. calm Nothing s (record s { selected = window }) refl refl)
+calm-step s (ops.Show window name) apart =
+    found _ (window_of window s.windows) _ (Calm (Window window) s)
+    (λ w lives. found _ (slice_get s.buffers (number_of name s.buffers)) _ (Calm (Window window) s)
+    (λ b at. changing-calm (Window window) s window _ (λ x quiet. absurd (shown-change window quiet))))
+  where
+    shown-change : (n : ℕ) → is_none (if n == n then all else none) ≡ true → ⊥
+    shown-change n h = is-all (sym (ap is_none (chosen (n == n) all none (eq-true n n refl))) ∙ h)
+calm-step s (ops.Point window place) apart = placing-calm Nothing s window place (λ old. record old { point = place }) (λ w quiet. (refl, λ h. (h, refl)))
+calm-step s (ops.Start window place row) apart =
+    placing-calm Nothing s window place (λ old. record old { anchor = record { pos = place; row = row }; forced = true; pending = pos 0 }) (λ w quiet. (refl, λ h. absurd (cc)))
+calm-step s (ops.Scroll window rows) apart =
+    setting-calm Nothing s window (λ old. record old { forced = true; pending = held (old.pending +ℤ rows) }) (λ w quiet. (refl, λ h. absurd (cc)))
+calm-step s (ops.Hscroll window columns) apart = setting-calm Nothing s window (λ old. record old { hscroll = columns }) (λ w quiet. (refl, λ h. (h, refl)))
+calm-step s (ops.Wrap window mode) apart = setting-calm Nothing s window (λ old. record old { wrap = mode }) (λ w quiet. (refl, λ h. (h, refl)))
+calm-step s (ops.ModeLine window format) apart =
+    found _ (window_of window s.windows) _ (Calm Nothing s)
+    (λ w lives. unless (format_fault format) _ (Calm Nothing s)
+    (treed-calm Nothing s (mode_tree s.tree window (is_some format)) window (λ old. record old { format = format }) (λ x quiet. (refl, λ h. (h, refl)))))
+calm-step s (ops.Scrolling margin conservatively) apart = calm Nothing s (record s { margin = margin; conservatively = conservatively }) refl refl
+calm-step s (ops.Echo text) apart = calm Nothing s (record s { echo = text }) refl refl
+calm-step s (ops.Redisplay stop) apart = calm Nothing s s refl refl
+calm-step s (ops.Shift on) apart = calm Nothing s (record s { shifting = on }) refl refl
+calm-step s (ops.Go window right) apart = calm Nothing s s refl refl
+calm-step s (ops.Hit window row column) apart = calm Nothing s s refl refl
+calm-step s (ops.Margin window numbers strings) apart =
+    found _ (window_of window s.windows) _ (Calm Nothing s)
+    (λ w lives. treed-calm Nothing s (margins_tree s.tree window (numbers + strings)) window (λ old. record old { numbers = numbers; strings = strings }) (λ x quiet. (refl, λ h. (h, refl))))
+calm-step s (ops.MarginPut name overlay string) apart =
+    edited-calm Nothing s name (mark_putting s.objects overlay string) (λ b c at is. inr (marks-seen s.objects overlay string b.content c is))

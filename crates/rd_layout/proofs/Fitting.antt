@@ -1,0 +1,290 @@
+-- What each window of a valid state shows has the sizes of its rectangle.
+use Rattle.std.proofs.Common.{◌≡◌, ◌≢◌, ◌⊎◌, inl, inr, ℕ, zero, suc, ◌+◌, ◌-◌, ◌^◌, ◌<◌, ◌≤◌, ◌==◌, Bool, true, false, is_some, if◌then◌else◌, cond, nat_lt, Option, None, Some, Result, Ok, Err, List, [], ◌∷◌, ◌++◌, length, map, take, drop, sym, ap, refl, subst, ◌∙◌, arith, length-take, length-drop, true≢false}
+use Rattle.std.proofs.lemmas.Bool.{cases_eq}
+use Rattle.std.proofs.lemmas.List.{length-map}
+use Rattle.std.proofs.lemmas.List.Sums.{count_by-le-length}
+use Rattle.std.proofs.lemmas.List.Elements.{All-from_recursion, All-map, All-take, All-drop, recursion_from_All}
+use Rattle.std.specs.List.{All, AllByRecursion, count_by, find}
+use Rattle.std.specs.Option.{option_and_then, option_or}
+use Rattle.std.proofs.lemmas.Option.{get_or_from_slice_get, slice_get_within}
+use Rattle.std.specs.Prelude.{IfSome, IsTrue, option_map, slice_get, slice_index_or}
+use Rattle.rd_base.specs.Chars.{is_code}
+use Rattle.rd_base.specs.Faces.{plain}
+use Rattle.rd_base.specs.declared.element.Element.{Element}
+use Rattle.rd_blocks.specs.Rows.{block_cutting}
+use Rattle.rd_blocks.specs.Sources.{rows_in, text_source}
+use Rattle.rd_items.specs.Pieces.{scene_in}
+use Rattle.rd_items.specs.Readings.{reading}
+use Rattle.rd_stack.specs.Lines.{line_elements}
+use Rattle.rd_rows.specs.declared.cutting.Cutting.{Cutting}
+use Rattle.rd_frame.specs.Fits.{FitsFrame, FitsRow, FitsWindow, IsInBody}
+use Rattle.rd_frame.specs.Panes.{GlyphRow, body_height, body_width}
+use Rattle.rd_frame.specs.Held.{glyph_row}
+use Rattle.rd_glyphs.specs.Lines.{plain_cells}
+use Rattle.rd_margins.specs.Cells.{IsMargin, row_margin}
+use Rattle.rd_margins.specs.Marks.{margin_string}
+use Rattle.rd_margins.specs.declared.rows.Widths.{Widths}
+use Rattle.rd_matrix.specs.Columns.{column_in, covers, shown_column}
+use Rattle.rd_matrix.specs.Cursors.{column_shown, cursor_in, or_below}
+use Rattle.rd_matrix.specs.Entries.{EntryMeaning, all_rows, entries_of, numbered}
+use Rattle.rd_matrix.specs.Sources.{SourceValues, rows_at}
+use Rattle.rd_matrix.specs.declared.block.Block.{Block}
+use Rattle.rd_modeline.specs.Formats.{fault_in, pieces_of}
+use Rattle.rd_modeline.specs.Lines.{line_cells}
+use Rattle.rd_modeline.specs.Values.{FactValues}
+use Rattle.rd_modeline.specs.declared.piece.Piece.{Piece}
+use Rattle.rd_objects.specs.Sound.{AreCodes, AreObjects, IsString}
+use Rattle.rd_objects.specs.Texts.{TextValue}
+use Rattle.rd_objects.specs.Things.{ObjectLists}
+use Rattle.rd_props.specs.Buffers as props
+use Rattle.rd_rows.specs.Rows.{LaidRow, RowMeaning, rows_of}
+use Rattle.rd_rows.specs.Shapes.{IsShape, ShapeValues}
+use Rattle.rd_rows.specs.Whole.{IsWhole}
+use Rattle.rd_rows.specs.declared.begin.Begin.{Begin}
+use Rattle.rd_state.specs.States.{BufferValue, ContentValue, StateValue, seen}
+use Rattle.rd_state.specs.Valid.{IsContent, IsGoodFormat, IsValid, IsWindow}
+use Rattle.rd_state.specs.Windows.{leaf_at, leaf_of, shown_content, window_of}
+use Rattle.rd_state.specs.declared.window.WindowState.{WindowState}
+use Rattle.rd_text.specs.Texts as text
+use Rattle.rd_tree.specs.Calls.{frame_of}
+use Rattle.rd_tree.specs.Windows.{Windows, Window, Split, first_part, of_number, placed, second_part, window_at}
+use Rattle.rd_tree.specs.declared.placed.Placed.{Placed}
+use Rattle.rd_tree.specs.declared.rect.Rect.{Rect}
+use Rattle.rd_ucd.specs.Data.{Data}
+use Rattle.rd_ucd.specs.declared.spans.Span.{Span}
+use Rattle.rd_window.specs.Views.{start_row}
+use Rattle.rd_layout.specs.Panes.{cells_of_pieces, facts_of, margin_of, margin_text, mode_line, pane_of, text_of, widths_of}
+use Rattle.rd_layout.specs.Screens.{cursor_at, cursor_by, frame_in, pane_at, pane_by}
+use Rattle.rd_layout.specs.Windows.{place_of, places, shown_buffer, view_in, wanted_of, window_shape, window_source}
+use Rattle.rd_layout.proofs.ByNumber.{buffer-there}
+use Rattle.rd_layout.proofs.Placed.{PlaceLaws, all-places, number-of}
+use Rattle.rd_layout.proofs.Settling.{ViewLaws, is-shape, shown-is, shown-text}
+
+-- what the layers below say
+pub record FitLaws : Type 0 where
+  pub views : ViewLaws
+  pub places : PlaceLaws
+  pub found : (s : StateValue) (number : ℕ) (w : WindowState) → IsValid s → window_of number s.windows ≡ Some w → IsWindow s.buffers w
+  pub leaf : (number : ℕ) (windows : Windows) (rect : Rect) (window : Placed) → window_at number windows rect ≡ Some window → leaf_at number windows ≡ Some (window.mode, window.margins)
+  pub whole : (s : props.BufferValue) (objects : ObjectLists) (files : Data) (shape : ShapeValues) → AreObjects objects → 1 ≤ s.settings.tab_width → s.settings.tab_width ≤ 32 → AreCodes s.text.text → IsShape shape
+      → All (λ (e : EntryMeaning). IsWhole shape.width e.row) (rows_at (text_source s objects files) shape)
+  pub margin : (classes : List Span) (widths : Widths) (row line : ℕ) (text : List ℕ) → line < 2 ^ 64 → All (λ c. IsTrue (is_code c)) text → IsMargin (widths.numbers + widths.strings) (row_margin classes widths row line text)
+  pub mode_width : (classes : List Span) (facts : FactValues) (width : ℕ) (pieces : List Piece) → length (line_cells classes facts width pieces) ≡ width
+  pub plain_width : (classes : List Span) (width : ℕ) (text : List ℕ) → length (plain_cells classes plain width text) ≡ width
+  pub columns : (s : props.BufferValue) (objects : ObjectLists) (files : Data) (shape : ShapeValues) → IsShape shape → All (λ (e : EntryMeaning). All (λ (b : Begin). b.column < shape.width) e.row.begins) (rows_at (text_source s objects files) shape)
+
+-- ---- what holds of all rows
+
+numbered-hold : (P : RowMeaning → Type 0) (start number : ℕ) (rows : List RowMeaning) → AllByRecursion P rows → AllByRecursion (λ (e : EntryMeaning). P e.row) (numbered start number rows)
+numbered-hold P start number [] h = tt
+numbered-hold P start number (r ∷ rs) h = (h.0, numbered-hold P start (number + 1) rs h.1)
+
+both-hold : (P : EntryMeaning → Type 0) (xs ys : List EntryMeaning) → AllByRecursion P xs → AllByRecursion P ys → AllByRecursion P (xs ++ ys)
+both-hold P [] ys h k = k
+both-hold P (x ∷ xs) ys h k = (h.0, both-hold P xs ys h.1 k)
+
+all-hold : (P : RowMeaning → Type 0) (rows : Block → List RowMeaning) → ((b : Block) → All P (rows b)) → (bs : List Block) → AllByRecursion (λ (e : EntryMeaning). P e.row) (all_rows rows bs)
+all-hold P rows each [] = tt
+all-hold P rows each (b ∷ bs) =
+    both-hold (λ (e : EntryMeaning). P e.row) (entries_of rows b) (all_rows rows bs) (numbered-hold P b.start 0 (rows b) (recursion_from_All P (rows b) (each b))) (all-hold P rows each bs)
+
+pub rows-hold : (P : RowMeaning → Type 0) (m : SourceValues) (shape : ShapeValues) → ((b : Block) → All P (m.rows_of b shape)) → All (λ (e : EntryMeaning). P e.row) (rows_at m shape)
+rows-hold P m shape each = All-from_recursion (λ (e : EntryMeaning). P e.row) (rows_at m shape) (all-hold P (λ b. m.rows_of b shape) each m.blocks)
+
+-- each item begins in a column of its row's window
+pub columns-hold : ((c : Cutting) (line : List Element) → 1 ≤ c.shape.width → All (λ (r : LaidRow). All (λ (b : Begin). b.column < c.shape.width) r.row.begins) (rows_of c line))
+    → (s : props.BufferValue) (objects : ObjectLists) (files : Data) (shape : ShapeValues) → IsShape shape → All (λ (e : EntryMeaning). All (λ (b : Begin). b.column < shape.width) e.row.begins) (rows_at (text_source s objects files) shape)
+columns-hold law s objects files shape is =
+    let least = is.least in
+    rows-hold (λ (r : RowMeaning). All (λ (b : Begin). b.column < shape.width) r.begins) (text_source s objects files) shape
+    (λ b. All-map (λ (r : RowMeaning). All (λ (x : Begin). x.column < shape.width) r.begins) (λ (r : LaidRow). r.row) (rows_in s objects files b shape)
+    (law (block_cutting (scene_in s.settings objects files) b.base shape (reading s objects b.start)) (line_elements (scene_in s.settings objects files) b.base (reading s objects b.start)) (omega arith)))
+
+-- ---- the cursor in a view
+
+found-hold : (P : Begin → Type 0) (test : Begin → Bool) (bs : List Begin) → AllByRecursion P bs → IfSome (find test bs) P
+found-hold P test [] h = tt
+found-hold P test (b ∷ bs) h = by (test b) (found-hold P test bs h.1) where
+  by : (t : Bool) → IfSome (find test bs) P → IfSome (cond t (Some b) (find test bs)) P
+  by true rest = h.0
+  by false rest = rest
+
+column-hold : (o : Option Begin) (row : RowMeaning) (width : ℕ) → length row.cells ≡ width → IfSome o (λ b. b.column < width) → IfSome (option_map (shown_column row) (option_map (λ (b : Begin). b.column) o)) (λ c. c < width)
+column-hold None row width wide h = tt
+column-hold (Some b) row width wide h = by row.reversed where
+  by : (t : Bool) → (if t then length row.cells - 1 - b.column else b.column) < width
+  by true = omega (arith, h, wide)
+  by false = h
+
+below-hold : (here : Option ℕ) (below : Option (ℕ × ℕ)) (count width : ℕ) → IfSome here (λ c. c < width) → IfSome below (λ place. (place.0 < count) × (place.1 < width))
+    → IfSome (or_below here below) (λ place. (place.0 < suc count) × (place.1 < width))
+below-hold (Some c) below count width h k = (omega arith, h)
+below-hold None None count width h k = tt
+below-hold None (Some place) count width h k = let low = k.0 in (omega arith, k.1)
+
+pub cursor-hold : (width point : ℕ) (es : List EntryMeaning) → AllByRecursion (λ (e : EntryMeaning). length e.row.cells ≡ width) es → AllByRecursion (λ (e : EntryMeaning). All (λ (b : Begin). b.column < width) e.row.begins) es
+    → IfSome (cursor_in point es) (λ place. (place.0 < length es) × (place.1 < width))
+cursor-hold width point [] wide columns = tt
+cursor-hold width point (e ∷ es) wide columns =
+    below-hold (column_shown point e) (cursor_in point es) (length es) width
+    (column-hold (find (covers e.start point) e.row.begins) e.row width wide.0
+    (found-hold (λ b. b.column < width) (covers e.start point) e.row.begins (recursion_from_All (λ (b : Begin). b.column < width) e.row.begins columns.0)))
+    (cursor-hold width point es wide.1 columns.1)
+
+-- ---- windows and their leaves
+
+first-by : (t : Bool) (p : Placed) (o u : Option Placed) → (is_some o ≡ true → is_some u ≡ true) → is_some (if t then Some p else o) ≡ true → is_some (if t then Some p else u) ≡ true
+first-by true p o u f h = refl
+first-by false p o u f h = f h
+
+second-by : (t : Bool) (p : Placed) (o : Option Placed) → is_some o ≡ true → is_some (if t then Some p else o) ≡ true
+second-by true p o h = refl
+second-by false p o h = h
+
+some-first : (n : ℕ) (ps qs : List Placed) → is_some (of_number n ps) ≡ true → is_some (of_number n (ps ++ qs)) ≡ true
+some-first n [] qs h = absurd (true≢false (sym h))
+some-first n (p ∷ ps) qs h = first-by (p.number == n) p (of_number n ps) (of_number n (ps ++ qs)) (some-first n ps qs) h
+
+some-second : (n : ℕ) (ps qs : List Placed) → is_some (of_number n qs) ≡ true → is_some (of_number n (ps ++ qs)) ≡ true
+some-second n [] qs h = h
+some-second n (p ∷ ps) qs h = second-by (p.number == n) p (of_number n (ps ++ qs)) (some-second n ps qs h)
+
+split-found : (n : ℕ) (ps qs : List Placed) (o u : Option (Bool × ℕ)) (leaf : Bool × ℕ) → ((x : Bool × ℕ) → o ≡ Some x → is_some (of_number n ps) ≡ true) → ((x : Bool × ℕ) → u ≡ Some x → is_some (of_number n qs) ≡ true)
+    → option_or o u ≡ Some leaf → is_some (of_number n (ps ++ qs)) ≡ true
+split-found n ps qs (Some x) u leaf f g h = some-first n ps qs (f x refl)
+split-found n ps qs None u leaf f g h = some-second n ps qs (g leaf h)
+
+one-found : (t : Bool) (p : Placed) (x leaf : Bool × ℕ) → (if t then Some x else None) ≡ Some leaf → is_some (if t then Some p else None) ≡ true
+one-found true p x leaf h = refl
+one-found false p x leaf h = absurd (cc)
+
+leaf-found : (n : ℕ) (windows : Windows) (rect : Rect) (leaf : Bool × ℕ) → leaf_at n windows ≡ Some leaf → is_some (window_at n windows rect) ≡ true
+leaf-found n (Window number mode margins) rect leaf h = one-found (number == n) (record { number = number; mode = mode; margins = margins; rect = rect }) (mode, margins) leaf h
+leaf-found n (Split side size first second) rect leaf h =
+    split-found n (placed first (first_part side size rect)) (placed second (second_part side size rect)) (leaf_at n first) (leaf_at n second) leaf
+    (λ x is. leaf-found n first (first_part side size rect) x is) (λ x is. leaf-found n second (second_part side size rect) x is) h
+
+some-leaf : (n : ℕ) (o : Option WindowState) (leaf : Bool × ℕ) → option_map leaf_of o ≡ Some leaf → (w : WindowState) × (o ≡ Some w) × (leaf_of w ≡ leaf)
+some-leaf n None leaf h = absurd (cc)
+some-leaf n (Some w) leaf h = (w, refl, cc)
+
+codes-of : (o : Option TextValue) → ((t : TextValue) → o ≡ Some t → AreCodes t.chars) → AreCodes (text_of o)
+codes-of None h = All-from_recursion (λ c. IsTrue (is_code c)) [] tt
+codes-of (Some t) h = h t refl
+
+mode-fits : (laws : FitLaws) (files : Data) (facts : FactValues) (width : ℕ) (format : Option (List ℕ)) → is_some format ≡ true → IfSome format IsGoodFormat → length (mode_line files facts width format) ≡ width
+mode-fits laws files facts width None some good = absurd (cc)
+mode-fits laws files facts width (Some format) some good = by (pieces_of format) good.good where
+  by : (r : Result (List Piece) ℕ) → fault_in r ≡ None → length (cells_of_pieces files facts width r) ≡ width
+  by (Ok ps) h = laws.mode_width files.classes facts width ps
+  by (Err place) h = absurd (cc)
+
+-- ---- one window
+
+line-small : (t : text.TextValue) (pos : ℕ) → text.IsText t → text.line_of t pos < 2 ^ 64
+line-small t pos is =
+    let short = is.short in
+    let count = count_by-le-length text.is_newline (text.between t t.begin pos) in
+    let taken = length-take ((pos - 1) - (t.begin - 1)) (drop (t.begin - 1) t.text) in
+    let dropped = length-drop (t.begin - 1) t.text in
+    omega (arith, count, taken, dropped)
+
+module _ (laws : FitLaws) (files : Data) (s : StateValue) (valid : IsValid s) where
+  pub place-window : (p : Placed) → place_of p.number s ≡ Some p → (w : WindowState) × (window_of p.number s.windows ≡ Some w) × (leaf_of w ≡ (p.mode, p.margins))
+  place-window p at = some-leaf p.number (window_of p.number s.windows) (p.mode, p.margins) (sym (valid.windows.leaves p.number) ∙ laws.leaf p.number s.tree.windows (frame_of s.tree) p at)
+
+  pub shown-right : (w : WindowState) → IsWindow s.buffers w → IsContent s.objects (shown_content s w)
+  shown-right w window =
+      let b = buffer-there s.buffers w.buffer window.made in
+      subst (IsContent s.objects) (sym (shown-is laws.views s valid w b.0 b.1)) (valid.buffers.contents w.buffer b.0 b.1)
+
+  -- what holds of all rows of a window's text holds of those in view
+  pub in-view : (P : EntryMeaning → Type 0) (w : WindowState) (p : Placed) → All P (rows_at (window_source files s w) (window_shape s w p)) → All P (view_in files s w p).rows
+  in-view P w p all = All-take P (body_height p) _ (All-drop P (start_row (window_source files s w) (window_shape s w p) (wanted_of s w p)) _ all)
+
+  pub view-whole : (w : WindowState) (p : Placed) → place_of p.number s ≡ Some p → IsWindow s.buffers w → All (λ (e : EntryMeaning). IsWhole (body_width s.width p) e.row) (view_in files s w p).rows
+  view-whole w p at window =
+      let content = shown-right w window in
+      in-view (λ (e : EntryMeaning). IsWhole (body_width s.width p) e.row) w p
+      (laws.whole (seen (shown_content s w)) s.objects files (window_shape s w p) valid.objects content.least_tab content.most_tab content.characters (is-shape laws.views s valid p.number w p at))
+
+  pub string-codes : (w : WindowState) (start : ℕ) → AreCodes (margin_text s.objects (shown_content s w) start)
+  string-codes w start = codes-of (option_and_then (λ n. slice_get s.objects.strings n) (margin_string (shown_content s w).marks (shown_content s w).overlays start)) (λ t is. (string-of _ t is).chars)
+    where
+      string-of : (o : Option ℕ) (t : TextValue) → option_and_then (λ n. slice_get s.objects.strings n) o ≡ Some t → IsString t
+      string-of None t h = absurd (cc)
+      string-of (Some n) t h = subst IsString (get_or_from_slice_get s.objects.strings n t t h) (valid.objects.strings n t (slice_get_within s.objects.strings n t h))
+
+  pub margin-right : (w : WindowState) (p : Placed) (e : EntryMeaning) → IsWindow s.buffers w → leaf_of w ≡ (p.mode, p.margins)
+      → IsMargin p.margins (margin_of files s.objects (shown_content s w) (widths_of w) e)
+  margin-right w p e window leaf =
+      subst (λ (n : ℕ). IsMargin n (margin_of files s.objects (shown_content s w) (widths_of w) e)) (ap (λ (x : Bool × ℕ). x.1) leaf)
+      (laws.margin files.classes (widths_of w) e.number (text.line_of (shown_content s w).text e.start) (margin_text s.objects (shown_content s w) e.start) (line-small (shown_content s w).text e.start (shown-right w window).text)
+      (string-codes w e.start))
+
+  window-fits : (w : WindowState) (p : Placed) → place_of p.number s ≡ Some p → IsWindow s.buffers w → leaf_of w ≡ (p.mode, p.margins)
+      → FitsWindow s.width (pane_of files s w p (view_in files s w p)) p
+  window-fits w p at window leaf = record {
+    few =
+        let rows = (view_in files s w p).rows in
+        let mapped = length-map rows (glyph_row (margin_of files s.objects (shown_content s w) (widths_of w))) in
+        let taken = length-take (body_height p) (drop (start_row (window_source files s w) (window_shape s w p) (wanted_of s w p)) (rows_at (window_source files s w) (window_shape s w p))) in
+        omega (arith, mapped, taken);
+    rows =
+        let whole = view-whole w p at window in
+        All-map (FitsRow s.width p) (glyph_row (margin_of files s.objects (shown_content s w) (widths_of w))) (view_in files s w p).rows
+        (λ k d less. record { margin = (margin-right w p (slice_index_or (view_in files s w p).rows k d) window leaf).count; text = (whole k d less).wide });
+    mode_line = λ shown. mode-fits laws files (facts_of (shown_buffer s w) (view_in files s w p)) p.rect.width w.format (ap (λ (x : Bool × ℕ). x.0) leaf ∙ shown) window.format;
+  }
+
+  pane-fits : (p : Placed) → place_of p.number s ≡ Some p → FitsWindow s.width (pane_at files s p) p
+  pane-fits p at =
+      let w = place-window p at in
+      subst (λ (o : Option WindowState). FitsWindow s.width (pane_by files s p o) p) (sym w.1) (window-fits w.0 p at (laws.found s p.number w.0 valid w.1) w.2)
+
+  -- ---- the selected window and its cursor
+
+  cursor-fits : (w : WindowState) (p : Placed) → place_of p.number s ≡ Some p → IsWindow s.buffers w → IfSome (cursor_in (view_in files s w p).point (view_in files s w p).rows) (IsInBody s.width p)
+  cursor-fits w p at window =
+      let rows = (view_in files s w p).rows in
+      let whole = view-whole w p at window in
+      let columns = in-view (λ (e : EntryMeaning). All (λ (b : Begin). b.column < body_width s.width p) e.row.begins) w p
+      (laws.columns (seen (shown_content s w)) s.objects files (window_shape s w p) (is-shape laws.views s valid p.number w p at)) in
+      let taken = length-take (body_height p) (drop (start_row (window_source files s w) (window_shape s w p) (wanted_of s w p)) (rows_at (window_source files s w) (window_shape s w p))) in
+      by (length rows) (omega (arith, taken)) (cursor_in (view_in files s w p).point rows)
+      (cursor-hold (body_width s.width p) (view_in files s w p).point rows
+      (recursion_from_All (λ (e : EntryMeaning). length e.row.cells ≡ body_width s.width p) rows (λ k d less. (whole k d less).wide))
+      (recursion_from_All (λ (e : EntryMeaning). All (λ (b : Begin). b.column < body_width s.width p) e.row.begins) rows columns))
+    where
+      by : (count : ℕ) → count ≤ body_height p → (o : Option (ℕ × ℕ)) → IfSome o (λ place. (place.0 < count) × (place.1 < body_width s.width p)) → IfSome o (IsInBody s.width p)
+      by count few None h = tt
+      by count few (Some place) h = let low = h.0 in record { row = omega arith; column = h.1 }
+
+  selected-fits : (o : Option Placed) → place_of s.selected s ≡ o → IfSome o (λ (p : Placed). IfSome (cursor_by files s (window_of s.selected s.windows) o) (IsInBody s.width p))
+  selected-fits None at = tt
+  selected-fits (Some p) at = by (window_of s.selected s.windows) refl where
+    number : p.number ≡ s.selected
+    number = number-of s.selected (places s) p at
+
+    by : (w : Option WindowState) → window_of s.selected s.windows ≡ w → IfSome (cursor_by files s w (Some p)) (IsInBody s.width p)
+    by None is = tt
+    by (Some w) is = cursor-fits w p (ap (λ (n : ℕ). place_of n s) number ∙ at) (laws.found s s.selected w valid is)
+
+  some-of : (o : Option WindowState) → is_some o ≡ true → (w : WindowState) × (o ≡ Some w)
+  some-of None h = absurd (true≢false (sym h))
+  some-of (Some w) h = (w, refl)
+
+  selected-there : is_some (place_of s.selected s) ≡ true
+  selected-there =
+      let w = some-of (window_of s.selected s.windows) valid.windows.selected in
+      leaf-found s.selected s.tree.windows (frame_of s.tree) (leaf_of w.0) (valid.windows.leaves s.selected ∙ ap (option_map leaf_of) w.1)
+
+  pub fits : FitsFrame (frame_in files s)
+  fits = record {
+    room = valid.windows.tree.room;
+    windows = all-places laws.places s valid (λ (p : Placed). FitsWindow s.tree.width (pane_at files s p) p)
+        (λ p at. subst (λ (n : ℕ). FitsWindow n (pane_at files s p) p) (sym valid.frame.columns) (pane-fits p at));
+    echo = laws.plain_width files.classes s.width s.echo ∙ sym valid.frame.columns;
+    selected = selected-there;
+    cursor = subst (λ (n : ℕ). IfSome (place_of s.selected s) (λ (p : Placed). IfSome (cursor_at files s s.selected) (IsInBody n p))) (sym valid.frame.columns) (selected-fits (place_of s.selected s) refl);
+  }

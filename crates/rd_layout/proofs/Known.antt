@@ -1,0 +1,293 @@
+-- The last layouts of a session's windows stay known behind each op.
+use Rattle.std.proofs.Common.{◌≡◌, ◌≢◌, ◌⊎◌, inl, inr, ℕ, ◌<◌, ◌≤◌, ◌==◌, Bool, true, false, if◌then◌else◌, Option, None, Some, Result, Ok, Err, List, [], ◌∷◌, length, map, get_or, sym, ap, refl, subst, subst₂, ◌∙◌, unwrap_or, arith}
+use Rattle.std.proofs.lemmas.Bool.{cases_eq}
+use Rattle.std.specs.Prelude.{slice_get, option_map, IfOk}
+use Rattle.rd_blocks.specs.Leads.{LeadsTo}
+use Rattle.rd_objects.specs.Sound.{Extends}
+use Rattle.rd_objects.specs.Things.{ObjectLists}
+use Rattle.rd_base.specs.declared.settings.Anchor.{Anchor}
+use Rattle.rd_blocks.specs.Sources.{text_source}
+use Rattle.rd_props.specs.Buffers as props
+use Rattle.rd_props.specs.Made.{AreMade}
+use Rattle.rd_text.specs.Texts.{IsText}
+use Rattle.rd_window.specs.Layouts.{Stands, StandsUnchanged, is_none}
+use Rattle.rd_reuse.specs.Changes.{all, join, none}
+use Rattle.rd_reuse.specs.declared.change.Change.{Change}
+use Rattle.rd_matrix.specs.Entries.{shown_entries}
+use Rattle.rd_script.specs.Forms.{IsInForm, IsWhole}
+use Rattle.rd_script.specs.declared.op.Op.{Op}
+use Rattle.rd_script.specs.declared.op.Op.TheVariants as ops
+use Rattle.rd_state.specs.Changes.{Leaves}
+use Rattle.rd_state.specs.Effects.{effect_of}
+use Rattle.rd_state.specs.States.{BufferValue, ContentValue, StateValue, new_buffer, opening, seen}
+use Rattle.rd_state.specs.Steps.{in_window, step, with_found}
+use Rattle.rd_state.specs.Valid.{IsValid, IsWindow}
+use Rattle.rd_state.specs.Windows.{content_in, shown_content, window_of}
+use Rattle.rd_state.specs.declared.effect.Effect.{Effect}
+use Rattle.rd_state.specs.declared.effect.Effect.TheVariants.{Nothing, Edit, Moved, All, Window}
+use Rattle.rd_state.specs.declared.refused.Refused.{Refused}
+use Rattle.rd_state.specs.declared.refused.Refused.TheVariants.{NoWindow, NotShown}
+use Rattle.rd_state.specs.declared.window.WindowState.{WindowState}
+use Rattle.rd_frame.specs.Panes.{body_height}
+use Rattle.rd_tree.specs.declared.placed.Placed.{Placed}
+use Rattle.rd_visual.specs.Hits.{hit_in}
+use Rattle.rd_term.specs.Pictures.{Picture, IsOfSize}
+use Rattle.rd_ucd.specs.Data.{Data}
+use Rattle.rd_window.specs.declared.layout.Layout.{Layout}
+use Rattle.rd_layout.specs.Changes.{change_by, change_in, later, layouts_after}
+use Rattle.rd_layout.specs.Pointing.{hitting_by, is_shown, pointed, stepped_to}
+use Rattle.rd_layout.specs.Sessions.{IsStep, SessionValue, behind, is_frame, layout_of, opened, session_step}
+use Rattle.rd_layout.specs.Since.{FitsFrame, IsKnown, IsSession}
+use Rattle.rd_layout.proofs.Calm.{Calm, Quiet, calm-step}
+use Rattle.rd_layout.proofs.ByNumber.{buffer-there, chosen, passed, eq-true, eq-false}
+use Rattle.rd_layout.proofs.Leading.{effect-leads}
+use Rattle.rd_layout.specs.Windows.{place_of, window_shape, window_source}
+use Rattle.rd_layout.proofs.Over.{OverLaws, first-none, joined-change, joined-none, objects-over}
+use Rattle.rd_layout.proofs.Settling.{ViewLaws}
+use Rattle.rd_layout.proofs.Placing.{has-place, point-whole}
+use Rattle.rd_layout.proofs.Standing.{Goes, goes}
+
+-- what the layers below say
+pub record StepLaws : Type 0 where
+  pub valid : (s t : StateValue) (op : Op) → IsValid s → IsInForm op → step s op ≡ Ok t → IsValid t
+  pub found : (s : StateValue) (number : ℕ) (w : WindowState) → IsValid s → window_of number s.windows ≡ Some w → IsWindow s.buffers w
+  pub contents : (s t : StateValue) (op : Op) (k : ℕ) (b c : BufferValue) → IsValid s → IsInForm op → step s op ≡ Ok t → slice_get s.buffers k ≡ Some b → slice_get t.buffers k ≡ Some c → Leaves (effect_of s op) k b.content s.objects c.content t.objects
+  pub objects : (s t : StateValue) (op : Op) → IsValid s → IsInForm op → step s op ≡ Ok t → Extends s.objects t.objects
+  pub windows : (s t : StateValue) (op : Op) (number : ℕ) (w v : WindowState) → IsValid s → IsInForm op → step s op ≡ Ok t → window_of number s.windows ≡ Some w → window_of number t.windows ≡ Some v → (effect_of s op ≡ Window number → ⊥) → v.buffer ≡ w.buffer
+  pub joined : (first second third : props.BufferValue) (a b c : ObjectLists) (change later : Change) → LeadsTo first a second b change → LeadsTo second b third c later → LeadsTo first a third c (join change later)
+  pub last_all : (c : Change) → join c all ≡ all
+  pub over : OverLaws
+  pub views : ViewLaws
+
+-- ---- layouts by their numbers
+
+abbrev pub Last : Type 0
+Last = ℕ × Layout
+
+pub layout-here : (n : ℕ) (e : Last) (rest : List Last) → e.0 ≡ n → layout_of n (e ∷ rest) ≡ Some e.1
+layout-here n e rest h = chosen (e.0 == n) (Some e.1) (layout_of n rest) (eq-true e.0 n h)
+
+pub layout-there : (n : ℕ) (e : Last) (rest : List Last) → e.0 ≢ n → layout_of n (e ∷ rest) ≡ layout_of n rest
+layout-there n e rest h = passed (e.0 == n) (Some e.1) (layout_of n rest) (eq-false e.0 n h)
+
+-- a layout since which so much more changed
+abbrev pub changed : Change → Layout → Layout
+changed c l = record l { change = join l.change c }
+
+layout-later : (effect : Effect) (t : StateValue) (n : ℕ) (ls : List Last)
+    → layout_of n (layouts_after effect t ls) ≡ option_map (changed (change_in effect n (window_of n t.windows))) (layout_of n ls)
+layout-later effect t n [] = refl
+layout-later effect t n (e ∷ rest) = elim (cases_eq e.0 n) [
+  | inl p ↦
+      layout-here n (later effect t e) (layouts_after effect t rest) p
+      ∙ (ap (λ k. Some (changed (change_in effect k (window_of k t.windows)) e.1)) p
+      ∙ sym (ap (option_map (changed (change_in effect n (window_of n t.windows)))) (layout-here n e rest p)))
+  | inr q ↦
+      layout-there n (later effect t e) (layouts_after effect t rest) q
+      ∙ (layout-later effect t n rest ∙ sym (ap (option_map (changed (change_in effect n (window_of n t.windows)))) (layout-there n e rest q)))
+]
+
+pub mapped : {A B : Type 0} (f : A → B) (o : Option A) (b : B) → option_map f o ≡ Some b → (a : A) × (o ≡ Some a) × (f a ≡ b)
+mapped f None b h = absurd (cc)
+mapped f (Some a) b h = (a, refl, cc)
+
+-- ---- one window behind an op
+
+ok-of : {T E : Type 0} (r : Result T E) (P : T → Type 0) (t : T) → IfOk r P → r ≡ Ok t → P t
+ok-of (Ok x) P t h is = subst P (cc) h
+ok-of (Err e) P t h is = absurd (cc)
+
+-- whether an effect tells of a window itself
+tells : (effect : Effect) (number : ℕ) → (effect ≡ Window number) ⊎ (effect ≡ Window number → ⊥)
+tells (Window n) number = elim (cases_eq n number) [
+  | inl p ↦ inl (ap (λ k. Window k) p)
+  | inr q ↦ inr (λ h. q (cc))
+]
+tells Nothing number = inr (λ h. absurd (cc))
+tells (Edit i from removed added) number = inr (λ h. absurd (cc))
+tells (Moved i before after) number = inr (λ h. absurd (cc))
+tells (All i) number = inr (λ h. absurd (cc))
+
+module _ (laws : StepLaws) (s t : StateValue) (op : Op) (valid : IsValid s) (form : IsInForm op) (is : step s op ≡ Ok t) where
+  same-leads : (k number : ℕ) (w v : WindowState) → w.buffer ≡ k → v.buffer ≡ k → k < length s.buffers → k < length t.buffers
+      → LeadsTo (seen (shown_content s w)) s.objects (seen (shown_content t v)) t.objects (change_by (effect_of s op) number k)
+  same-leads k number w v here there old new =
+      let b = buffer-there s.buffers k old in
+      let c = buffer-there t.buffers k new in
+      let content = valid.buffers.contents k b.0 b.1 in
+      let first : shown_content s w ≡ b.0.content = ap (λ j. content_in (slice_get s.buffers j)) here ∙ ap content_in b.1 in
+      let second : shown_content t v ≡ c.0.content = ap (λ j. content_in (slice_get t.buffers j)) there ∙ ap content_in c.1 in
+      let leads = effect-leads laws.last_all b.0.content c.0.content s.objects t.objects valid.closed content.names (laws.objects s t op valid form is) (effect_of s op) number k
+      (has-place s t valid op is k b.0 b.1) (laws.contents s t op k b.0 c.0 valid form is b.1 c.1) in
+      subst (λ (x : ContentValue). LeadsTo (seen x) s.objects (seen (shown_content t v)) t.objects (change_by (effect_of s op) number k)) (sym first)
+      (subst (λ (y : ContentValue). LeadsTo (seen b.0.content) s.objects (seen y) t.objects (change_by (effect_of s op) number k)) (sym second) leads)
+
+  window-leads : (number : ℕ) (w v : WindowState) → window_of number s.windows ≡ Some w → window_of number t.windows ≡ Some v
+      → LeadsTo (seen (shown_content s w)) s.objects (seen (shown_content t v)) t.objects (change_by (effect_of s op) number v.buffer)
+  window-leads number w v hw hv = elim (tells (effect_of s op) number) [
+    | inl p ↦ inl (ap (λ (e : Effect). change_by e number v.buffer) p ∙ chosen (number == number) all none (eq-true number number refl))
+    | inr q ↦
+        let same = laws.windows s t op number w v valid form is hw hv q in
+        let old = (laws.found s number w valid hw).made in
+        let new = (laws.found t number v (laws.valid s t op valid form is) hv).made in
+        same-leads v.buffer number w v (sym same) refl (subst (λ k. k < length s.buffers) (sym same) old) new
+  ]
+
+  -- an effect that tells of a window itself tells more than none
+  not-itself : (number k : ℕ) → effect_of s op ≡ Window number → change_by (effect_of s op) number k ≡ none → ⊥
+  not-itself number k p h =
+      let all-is-none : all ≡ none = sym (ap (λ (e : Effect). change_by e number k) p ∙ chosen (number == number) all none (eq-true number number refl)) ∙ h in
+      let heads : 0 ≡ 4294967295 = ap (λ (c : Change). c.head) all-is-none in
+      absurd (omega (arith, heads))
+
+  calm-here : Calm (effect_of s op) s t
+  calm-here = ok-of (step s op) (Calm (effect_of s op) s) t (calm-step s op valid.windows.apart) is
+
+  -- a layout since which an effect tells none stands as it stood
+  stands-by : (files : Data) (number : ℕ) (w v : WindowState) (l : Layout) → window_of number s.windows ≡ Some w → window_of number t.windows ≡ Some v → IsKnown files s w l
+      → v.buffer ≡ w.buffer → change_by (effect_of s op) number v.buffer ≡ none → is_none l.change ≡ true → v.forced ≡ false → Stands (window_source files t v) v.anchor l
+  stands-by files number w v l hw hv known same nothing before forced =
+      let window = (laws.found s number w valid hw).made in
+      let behind = (laws.found t number v (laws.valid s t op valid form is) hv).made in
+      let b = buffer-there s.buffers w.buffer window in
+      let c = buffer-there t.buffers v.buffer behind in
+      let content = valid.buffers.contents w.buffer b.0 b.1 in
+      let quiet : Quiet (effect_of s op) number v.buffer = ap is_none nothing in
+      let stay = calm-here.windows number w v hw hv (subst (Quiet (effect_of s op) number) same quiet) in
+      let rest = stay.1 forced in
+      let first : shown_content s w ≡ b.0.content = ap content_in b.1 in
+      let second : shown_content t v ≡ c.0.content = ap content_in c.1 in
+      let there : slice_get t.buffers w.buffer ≡ Some c.0 = ap (slice_get t.buffers) (sym same) ∙ c.1 in
+      let seen-same : seen c.0.content ≡ seen b.0.content = calm-here.contents number w.buffer b.0 c.0 b.1 there (subst (Quiet (effect_of s op) number) same quiet) in
+      let text = subst (λ (x : ContentValue). IsText x.text) (sym first) content.text in
+      let named = subst (λ (x : ContentValue). AreMade (seen x) s.objects) (sym first) content.names in
+      let over = objects-over laws.over (seen (shown_content s w)) s.objects t.objects valid.closed named (laws.objects s t op valid form is) text laws.views files w.anchor l known.shape (known.stands before rest.0) in
+      let one-seen : seen (shown_content s w) ≡ seen (shown_content t v) = ap seen first ∙ (sym seen-same ∙ ap seen (sym second)) in
+      subst₂ (λ (x : props.BufferValue) (a : Anchor). Stands (text_source x t.objects files) a l) one-seen (sym rest.1) over
+
+  stands-behind : (files : Data) (number : ℕ) (w v : WindowState) (l : Layout) → window_of number s.windows ≡ Some w → window_of number t.windows ≡ Some v → IsKnown files s w l
+      → StandsUnchanged (Some (changed (change_by (effect_of s op) number v.buffer) l)) (window_source files t v) v.forced v.anchor
+  stands-behind files number w v l hw hv known unchanged forced =
+      let nothing = joined-none l.change (effect_of s op) number v.buffer unchanged in
+      let before = first-none laws.over l.change (change_by (effect_of s op) number v.buffer) known.change nothing unchanged in
+      let stands : Stands (window_source files t v) v.anchor l = elim (tells (effect_of s op) number) [
+        | inl p ↦ absurd (not-itself number v.buffer p nothing)
+        | inr q ↦ stands-by files number w v l hw hv known (laws.windows s t op number w v valid form is hw hv q) nothing before forced
+      ] in
+      record { rows = stands.rows; top = stands.top; bottom = stands.bottom }
+
+  known-behind : (files : Data) (number : ℕ) (w v : WindowState) (l : Layout) → window_of number s.windows ≡ Some w → window_of number t.windows ≡ Some v → IsKnown files s w l
+      → IsKnown files t v (changed (change_by (effect_of s op) number v.buffer) l)
+  known-behind files number w v l hw hv known = record {
+    old = known.old;
+    made = known.made;
+    text = known.text;
+    shape = known.shape;
+    rows = known.rows;
+    change = joined-change l.change (change_by (effect_of s op) number v.buffer) known.change;
+    stands = stands-behind files number w v l hw hv known;
+    leads = laws.joined known.old (seen (shown_content s w)) (seen (shown_content t v)) known.made s.objects t.objects l.change (change_by (effect_of s op) number v.buffer) known.leads
+        (window-leads number w v hw hv);
+  }
+
+-- ---- a session behind an op
+
+-- the screen of a frame that kept its size
+screen-stays : (framed : Bool) (current : Option Picture) (s t : StateValue) → Goes framed s t → FitsFrame current s → FitsFrame (if framed then None else current) t
+screen-stays true current s t g fits = tt
+screen-stays false None s t g fits = tt
+screen-stays false (Some screen) s t g fits =
+    (subst₂ (λ (w : ℕ) (h : ℕ). IsOfSize w h screen) (sym (g.size refl).0) (sym (g.size refl).1) fits.0, fits.1)
+
+pub stays-session : StepLaws → (v : SessionValue) (op : Op) (t : StateValue) → IsSession v → IsInForm op → step v.state op ≡ Ok t → IsSession (behind v op t)
+stays-session laws v op t session form is = record {
+  state = laws.valid v.state t op session.state form is;
+  screen = screen-stays (is_frame op) v.current v.state t g session.screen;
+  made = λ number l h. le (session.made number _ (earlier number l h).1) g.made;
+  layouts = λ number w l hw hl.
+      let e = earlier number l hl in
+      let old = g.lives number (session.made number e.0 e.1) (w, hw) in
+      subst (IsKnown v.files t w)
+      (ap (λ (o : Option WindowState). changed (change_in (effect_of v.state op) number o) e.0) (sym hw) ∙ e.2)
+      (known-behind laws v.state t op session.state form is v.files number old.0 w e.0 old.1 hw (session.layouts number old.0 e.0 old.1 e.1));
+} where
+  g : Goes (is_frame op) v.state t
+  g = ok-of (step v.state op) (Goes (is_frame op) v.state) t (goes v.state op) is
+
+  le : {a b c : ℕ} → a < b → b ≤ c → a < c
+  le h k = omega arith
+
+  earlier : (number : ℕ) (l : Layout) → layout_of number (layouts_after (effect_of v.state op) t v.layouts) ≡ Some l
+      → (l0 : Layout) × (layout_of number v.layouts ≡ Some l0) × (changed (change_in (effect_of v.state op) number (window_of number t.windows)) l0 ≡ l)
+  earlier number l h = mapped (changed (change_in (effect_of v.state op) number (window_of number t.windows))) (layout_of number v.layouts) l
+      (sym (layout-later (effect_of v.state op) t number v.layouts) ∙ h)
+
+-- ---- the opening, and all ops
+
+pub opened-session : (files : Data) → IsValid opening → IsSession (opened files)
+opened-session files valid = record { state = valid; screen = tt; made = λ number l h. absurd (cc); layouts = λ number w l hw hl. absurd (cc) }
+
+found-window : (s t : StateValue) (window : ℕ) (f : WindowState → Result StateValue Refused) → in_window s window f ≡ Ok t → (w : WindowState) × (f w ≡ Ok t)
+found-window s t window f h = by (window_of window s.windows) h where
+  by : (o : Option WindowState) → with_found NoWindow o f ≡ Ok t → (w : WindowState) × (f w ≡ Ok t)
+  by None h = absurd (cc)
+  by (Some w) h = (w, h)
+
+-- a hit moves point by an op where it is not refused
+hit-moves : (s t : StateValue) (window : ℕ) (w : WindowState) (last : Option Layout) (place : Option Placed) (row column : ℕ) → hitting_by s window w last place row column ≡ Ok t
+    → (to : ℕ) × (step s (ops.Point window to) ≡ Ok t)
+hit-moves s t window w None place row column h = absurd (cc)
+hit-moves s t window w (Some l) None row column h = absurd (cc)
+hit-moves s t window w (Some l) (Some place) row column h = by (is_shown l (window_shape s w place) (body_height place)) h where
+  by : (shown : Bool) → (if shown then pointed s window w l row column else Err NotShown) ≡ Ok t → (to : ℕ) × (step s (ops.Point window to) ≡ Ok t)
+  by true h = (unwrap_or (hit_in (shown_entries l.matrix) row column) w.point, h)
+  by false h = absurd (cc)
+
+pointed-session : StepLaws → (v : SessionValue) (window place : ℕ) (t : StateValue) → IsSession v → IsWhole window → step v.state (ops.Point window place) ≡ Ok t
+    → IsSession (behind v (ops.Point window place) t)
+pointed-session laws v window place t session form is =
+    stays-session laws v (ops.Point window place) t session (form, point-whole v.state t session.state window place is) is
+
+pub step-session : StepLaws → (v : SessionValue) (op : Op) (t : StateValue) → IsSession v → IsInForm op → IsStep op → session_step v op ≡ Ok t → IsSession (behind v op t)
+unfolding effect_of
+step-session laws v (ops.Frame width height) t session form step is = stays-session laws v (ops.Frame width height) t session form is
+step-session laws v (ops.Buffer name) t session form step is = stays-session laws v (ops.Buffer name) t session form is
+step-session laws v (ops.Insert name place text) t session form step is = stays-session laws v (ops.Insert name place text) t session form is
+step-session laws v (ops.InsertRaw name place bytes) t session form step is = stays-session laws v (ops.InsertRaw name place bytes) t session form is
+step-session laws v (ops.TypeText text) t session form step is = stays-session laws v (ops.TypeText text) t session form is
+step-session laws v (ops.Delete name from to) t session form step is = stays-session laws v (ops.Delete name from to) t session form is
+step-session laws v (ops.Narrow name from to) t session form step is = stays-session laws v (ops.Narrow name from to) t session form is
+step-session laws v (ops.Widen name) t session form step is = stays-session laws v (ops.Widen name) t session form is
+step-session laws v (ops.Put name from to kind value) t session form step is = stays-session laws v (ops.Put name from to kind value) t session form is
+step-session laws v (ops.Overlay name from to priority front rear) t session form step is = stays-session laws v (ops.Overlay name from to priority front rear) t session form is
+step-session laws v (ops.OverlayMove name overlay from to) t session form step is = stays-session laws v (ops.OverlayMove name overlay from to) t session form is
+step-session laws v (ops.OverlayDrop name overlay) t session form step is = stays-session laws v (ops.OverlayDrop name overlay) t session form is
+step-session laws v (ops.OverlayPut name overlay kind value) t session form step is = stays-session laws v (ops.OverlayPut name overlay kind value) t session form is
+step-session laws v (ops.Setting name value) t session form step is = stays-session laws v (ops.Setting name value) t session form is
+step-session laws v (ops.AddString text runs) t session form step is = stays-session laws v (ops.AddString text runs) t session form is
+step-session laws v (ops.AddSpec spec) t session form step is = stays-session laws v (ops.AddSpec spec) t session form is
+step-session laws v (ops.AddFace face) t session form step is = stays-session laws v (ops.AddFace face) t session form is
+step-session laws v (ops.AddTable entries truncation continuation escape control ellipsis border) t session form step is = stays-session laws v (ops.AddTable entries truncation continuation escape control ellipsis border) t session form is
+step-session laws v (ops.Split window side size) t session form step is = stays-session laws v (ops.Split window side size) t session form is
+step-session laws v (ops.Remove window) t session form step is = stays-session laws v (ops.Remove window) t session form is
+step-session laws v (ops.Select window) t session form step is = stays-session laws v (ops.Select window) t session form is
+step-session laws v (ops.Show window name) t session form step is = stays-session laws v (ops.Show window name) t session form is
+step-session laws v (ops.Point window place) t session form step is = stays-session laws v (ops.Point window place) t session form is
+step-session laws v (ops.Start window place row) t session form step is = stays-session laws v (ops.Start window place row) t session form is
+step-session laws v (ops.Scroll window rows) t session form step is = stays-session laws v (ops.Scroll window rows) t session form is
+step-session laws v (ops.Hscroll window columns) t session form step is = stays-session laws v (ops.Hscroll window columns) t session form is
+step-session laws v (ops.Wrap window mode) t session form step is = stays-session laws v (ops.Wrap window mode) t session form is
+step-session laws v (ops.ModeLine window format) t session form step is = stays-session laws v (ops.ModeLine window format) t session form is
+step-session laws v (ops.Scrolling margin conservatively) t session form step is = stays-session laws v (ops.Scrolling margin conservatively) t session form is
+step-session laws v (ops.Echo text) t session form step is = stays-session laws v (ops.Echo text) t session form is
+step-session laws v (ops.Redisplay stop) t session form step is = absurd step
+step-session laws v (ops.Shift on) t session form step is = stays-session laws v (ops.Shift on) t session form is
+step-session laws v (ops.Go window right) t session form step is =
+    let w = found-window v.state t window _ is in
+    pointed-session laws v window (stepped_to v.files v.state w.0 right) t session form w.1
+step-session laws v (ops.Hit window row column) t session form step is =
+    let w = found-window v.state t window _ is in
+    let to = hit-moves v.state t window w.0 (layout_of window v.layouts) (place_of window v.state) row column w.1 in
+    pointed-session laws v window to.0 t session form.0 to.1
+step-session laws v (ops.Margin window numbers strings) t session form step is = stays-session laws v (ops.Margin window numbers strings) t session form is
+step-session laws v (ops.MarginPut name overlay string) t session form step is = stays-session laws v (ops.MarginPut name overlay string) t session form is

@@ -1,0 +1,173 @@
+-- A last layout stands over a later state in which nothing changed of what its window shows.
+use Rattle.std.proofs.Common.{◌≡◌, ◌⊎◌, inl, inr, ℕ, zero, suc, ◌+◌, ◌-◌, ◌<◌, ◌≤◌, ◌==◌, ◌&&◌, ◌||◌, min, max, nat_lt, nat_le, Bool, true, false, if◌then◌else◌, pos, ◌+ℤ◌, Option, None, Some, List, [], ◌∷◌, ◌++◌, length, take, drop, sym, ap, refl, subst, subst₂, ◌∙◌, arith}
+use Rattle.std.proofs.lemmas.Bool.{leb-true}
+use Rattle.std.specs.Prelude.{ℤ, ◌-ℤ◌, slice_get}
+use Rattle.rd_base.specs.declared.settings.Anchor.{Anchor}
+use Rattle.rd_blocks.specs.Bases.{blocks_in}
+use Rattle.rd_blocks.specs.Leads.{LeadsTo}
+use Rattle.rd_blocks.specs.Sources.{rows_in, text_source}
+use Rattle.rd_items.specs.Growing.{without_flags}
+use Rattle.rd_items.specs.Readings.{ends_block, reading, reading_from}
+use Rattle.rd_matrix.specs.Blocks.{IsAmong, StandFrom, first_start}
+use Rattle.rd_matrix.specs.Entries.{EntryMeaning, all_rows, numbered, shown_entries}
+use Rattle.rd_matrix.specs.Sources.{IsSource, SourceValues, rows_at}
+use Rattle.rd_matrix.specs.declared.block.Block.{Block}
+use Rattle.rd_objects.specs.Sound.{IsClosed, Extends}
+use Rattle.rd_objects.specs.Things.{ObjectLists}
+use Rattle.rd_props.specs.Buffers.{BufferValue}
+use Rattle.rd_props.specs.Made.{AreMade}
+use Rattle.rd_props.specs.Seen.{Seen, seen_at}
+use Rattle.rd_reuse.specs.Changes.{IsChange, all, change_of, edit, is_all, is_small, join, moved, none}
+use Rattle.rd_reuse.specs.declared.change.Change.{Change}
+use Rattle.rd_rows.specs.Laws.{seen_rows}
+use Rattle.rd_rows.specs.Rows.{RowMeaning}
+use Rattle.rd_rows.specs.Shapes.{IsShape, ShapeValues}
+use Rattle.rd_start.specs.Chosen.{anchor_row, row_in_block}
+use Rattle.rd_state.specs.declared.effect.Effect.{Effect}
+use Rattle.rd_state.specs.declared.effect.Effect.TheVariants.{Nothing, Edit, Moved, All, Window}
+use Rattle.rd_text.specs.Texts.{IsText}
+use Rattle.rd_ucd.specs.Data.{Data}
+use Rattle.rd_window.specs.Layouts.{Stands, is_none}
+use Rattle.rd_window.specs.declared.layout.Layout.{Layout}
+use Rattle.rd_layout.specs.Changes.{change_by, if_shown, restyled}
+use Rattle.rd_layout.proofs.Calm.{joined-told, restyled-tail}
+use Rattle.rd_layout.proofs.Chosen.{block-inside}
+use Rattle.rd_layout.proofs.Settling.{ViewLaws, accessible}
+
+-- what the layers below say
+pub record OverLaws : Type 0 where
+  pub grown : (s : BufferValue) (made objects : ObjectLists) → IsClosed made → AreMade s made → Extends made objects → LeadsTo s made s objects none
+  pub local : (old new : BufferValue) (made objects : ObjectLists) (files : Data) (a b : Block) (shape : ShapeValues) → without_flags new.settings ≡ without_flags old.settings → IsClosed made → AreMade old made → Extends made objects
+      → a.base ≡ b.base → reading old made a.start ≡ reading new objects b.start → rows_in new objects files b shape ≡ rows_in old made files a shape
+  pub last_none : (c : Change) → IsChange c → join c none ≡ c
+
+-- ---- changes
+
+-- what an effect is for a window is none, or has a tail
+shown-tail : (i k : ℕ) (change : Change) → 0 < change.tail → (if_shown i k change ≡ none) ⊎ (0 < (if_shown i k change).tail)
+shown-tail i k change some = by (i == k) where
+  by : (t : Bool) → ((if t then change else none) ≡ none) ⊎ (0 < (if t then change else none).tail)
+  by true = inr some
+  by false = inl refl
+
+edit-tail : (from removed added : ℕ) → 0 < (edit from removed added).tail
+edit-tail from removed added = restyled-tail (nat_le (from + added + 1) 4294967295 && is_small (pos added -ℤ pos removed)) from (from + added + 1) (pos added -ℤ pos removed) (omega arith)
+
+joined-tail : (x y : Change) → 0 < y.tail → 0 < (join x y).tail
+joined-tail x y some = by (is_all x || is_all y) where
+  by : (t : Bool) → 0 < (if t then all else change_of (min x.head y.head) (max (moved y.added x.tail) y.tail) (x.added +ℤ y.added)).tail
+  by true = omega arith
+  by false = restyled-tail (nat_le (max (moved y.added x.tail) y.tail) 4294967295 && is_small (x.added +ℤ y.added)) (min x.head y.head) (max (moved y.added x.tail) y.tail) (x.added +ℤ y.added) (omega arith)
+
+none-or-tail : (effect : Effect) (number k : ℕ) → (change_by effect number k ≡ none) ⊎ (0 < (change_by effect number k).tail)
+none-or-tail Nothing number k = inl refl
+none-or-tail (Edit i from removed added) number k = shown-tail i k (edit from removed added) (edit-tail from removed added)
+none-or-tail (Moved i before after) number k =
+    shown-tail i k (join (restyled before) (restyled after)) (joined-tail (restyled before) (restyled after) (edit-tail after.0 (after.1 - after.0) (after.1 - after.0)))
+none-or-tail (All i) number k = shown-tail i k all (omega arith)
+none-or-tail (Window n) number k = by (n == number) where
+  by : (t : Bool) → ((if t then all else none) ≡ none) ⊎ (0 < (if t then all else none).tail)
+  by true = inr (omega arith)
+  by false = inl refl
+
+-- where nothing changed after a change was joined with that of an effect, the effect tells none
+pub joined-none : (x : Change) (effect : Effect) (number k : ℕ) → is_none (join x (change_by effect number k)) ≡ true → change_by effect number k ≡ none
+joined-none x effect number k h = elim (none-or-tail effect number k) [
+  | inl is ↦ is
+  | inr some ↦ absurd (joined-told (is_all x || is_all (change_by effect number k)) x (change_by effect number k) some h)
+]
+
+all-is-change : IsChange all
+all-is-change = record { head = omega arith; tail = omega arith; added = refl }
+
+pub new-change : IsChange none
+new-change = record { head = omega arith; tail = omega arith; added = refl }
+
+pub joined-change : (x y : Change) → IsChange x → IsChange (join x y)
+joined-change x y is = by (is_all x || is_all y) where
+  ranged : (t u : Bool) → nat_le (max (moved y.added x.tail) y.tail) 4294967295 ≡ t → is_small (x.added +ℤ y.added) ≡ u
+      → IsChange (if t && u then record { head = min x.head y.head; tail = max (moved y.added x.tail) y.tail; added = x.added +ℤ y.added } else all)
+  ranged true true low small = let head = is.head in record { head = omega arith; tail = leb-true (max (moved y.added x.tail) y.tail) 4294967295 low; added = small }
+  ranged true false low small = all-is-change
+  ranged false u low small = all-is-change
+
+  by : (t : Bool) → IsChange (if t then all else change_of (min x.head y.head) (max (moved y.added x.tail) y.tail) (x.added +ℤ y.added))
+  by true = all-is-change
+  by false = ranged (nat_le (max (moved y.added x.tail) y.tail) 4294967295) (is_small (x.added +ℤ y.added)) refl refl
+
+pub first-none : OverLaws → (x y : Change) → IsChange x → y ≡ none → is_none (join x y) ≡ true → is_none x ≡ true
+first-none laws x y is same h = subst (λ (c : Change). is_none c ≡ true) (ap (join x) same ∙ laws.last_none x is) h
+
+-- ---- sources with equal rows
+
+module _ (first second : Block → List RowMeaning) where
+  abbrev pub Alike : List Block → Type 0
+  Alike bs = (k : ℕ) (b : Block) → slice_get bs k ≡ Some b → first b ≡ second b
+
+  same-rows : (bs : List Block) → Alike bs → all_rows first bs ≡ all_rows second bs
+  same-rows [] alike = refl
+  same-rows (b ∷ bs) alike =
+      let here = alike 0 b refl in
+      let behind = same-rows bs (λ k c at. alike (suc k) c at) in
+      λ i. numbered b.start 0 (here i) ++ behind i
+
+  same-anchor : (anchor : Anchor) (bs : List Block) → Alike bs → anchor_row first anchor bs ≡ anchor_row second anchor bs
+  same-anchor anchor [] alike = refl
+  same-anchor anchor (b ∷ bs) alike =
+      let here = alike 0 b refl in
+      let behind = same-anchor anchor bs (λ k c at. alike (suc k) c at) in
+      λ i. if nat_lt anchor.pos b.end then row_in_block anchor b.start (here i) else length (here i) + behind i
+
+stands-over : (m : SourceValues) (other : Block → ShapeValues → List RowMeaning) (anchor : Anchor) (l : Layout) (cost : Block → ShapeValues → ℕ)
+    → ((k : ℕ) (b : Block) → slice_get m.blocks k ≡ Some b → m.rows_of b l.shape ≡ other b l.shape) → Stands m anchor l → Stands (record { blocks = m.blocks; rows_of = other; cost_of = cost }) anchor l
+stands-over m other anchor l cost alike stands =
+    let first : Block → List RowMeaning = λ b. m.rows_of b l.shape in
+    let second : Block → List RowMeaning = λ b. other b l.shape in
+    let rows : all_rows first m.blocks ≡ all_rows second m.blocks = same-rows first second m.blocks alike in
+    let place : anchor_row first anchor m.blocks ≡ anchor_row second anchor m.blocks = same-anchor first second anchor m.blocks alike in
+    record {
+      rows = stands.rows ∙ (λ i. take l.height (drop (place i) (rows i)));
+      top = stands.top ∙ (λ i. place i == 0);
+      bottom = stands.bottom ∙ (λ i. nat_le (length (rows i)) (place i + l.height));
+    }
+
+-- ---- objects that were made since
+
+pub some-block : (from k : ℕ) (bs : List Block) (b : Block) → StandFrom from bs → slice_get bs k ≡ Some b → b.start < b.end
+some-block from k [] b stand at = absurd (cc)
+some-block from zero (c ∷ cs) b stand at = let same : c ≡ b = cc in subst (λ (x : Block). x.start < x.end) same stand.1
+some-block from (suc k) (c ∷ cs) b stand at = some-block c.end k cs b stand.2 at
+
+module _ (laws : OverLaws) (s : BufferValue) (made objects : ObjectLists) (closed : IsClosed made) (named : AreMade s made) (extends : Extends made objects) (text : IsText s.text) where
+  agree : (p : ℕ) → s.text.begin ≤ p → p ≤ s.text.end → seen_at s made p ≡ seen_at s objects p
+  agree p low high = elim (laws.grown s made objects closed named extends) [
+    | inl same ↦ absurd (none-not-all same)
+    | inr leads ↦
+        let last = text.last in
+        let short = text.short in
+        (leads.follows.unchanged.before p low (omega arith) (inl high)).agree
+  ] where
+    none-not-all : none ≡ all → ⊥
+    none-not-all h = let heads : 4294967295 ≡ 0 = ap (λ (c : Change). c.head) h in absurd (omega (arith, heads))
+
+  reads-same : (n p : ℕ) → s.text.begin ≤ p → p + n ≤ s.text.end → reading_from s made n p ≡ reading_from s objects n p
+  reads-same zero p low high = let here = agree p low (omega arith) in λ i. here i ∷ []
+  reads-same (suc n) p low high =
+      let here = agree p low (omega arith) in
+      let behind = reads-same n (suc p) (omega arith) (omega arith) in
+      λ i. here i ∷ (if ends_block s p then [] else behind i)
+
+  same-reading : (p : ℕ) → s.text.begin ≤ p → p ≤ s.text.end → reading s made p ≡ reading s objects p
+  same-reading p low high = reads-same (s.text.end - p) p low (omega arith)
+
+  block-rows : (views : ViewLaws) (files : Data) (shape : ShapeValues) (is : IsShape shape) (k : ℕ) (b : Block) → slice_get (blocks_in files.classes s) k ≡ Some b
+      → seen_rows (rows_in s made files b shape) ≡ seen_rows (rows_in s objects files b shape)
+  block-rows views files shape is k b at =
+      let source = views.source s made files text in
+      let some = some-block (first_start (blocks_in files.classes s)) k (blocks_in files.classes s) b source.blocks.stand at in
+      let inside = accessible views files.classes s b.start text (block-inside (text_source s made files) shape source is b b.start (k, at) (omega arith) some) in
+      ap seen_rows (sym (laws.local s s made objects files b b shape refl closed named extends refl (same-reading b.start inside.0 inside.1)))
+
+  pub objects-over : (views : ViewLaws) (files : Data) (anchor : Anchor) (l : Layout) → IsShape l.shape → Stands (text_source s made files) anchor l → Stands (text_source s objects files) anchor l
+  objects-over views files anchor l is stands =
+      stands-over (text_source s made files) (λ b shape. seen_rows (rows_in s objects files b shape)) anchor l (text_source s objects files).cost_of (block-rows views files l.shape is) stands

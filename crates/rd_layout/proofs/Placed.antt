@@ -1,0 +1,131 @@
+-- The windows of a frame, in their order and by their numbers.
+use Rattle.std.proofs.Common.{◌≡◌, ◌≢◌, ◌⊎◌, inl, inr, ℕ, zero, suc, ◌+◌, ◌-◌, ◌<◌, ◌≤◌, ◌==◌, Bool, true, false, if◌then◌else◌, Option, None, Some, List, [], ◌∷◌, ◌++◌, length, map, get_or, sym, ap, refl, subst, ◌∙◌, arith, nat_le}
+use Rattle.std.proofs.lemmas.Bool.{cases_eq, leb-true, leb-false}
+use Rattle.std.proofs.lemmas.List.Elements.{All-from_get_or, All-from_recursion, recursion_from_All}
+use Rattle.std.proofs.lemmas.Option.{slice_get-get_or, slice_get-map}
+use Rattle.std.specs.List.{All, AllByRecursion, flat_map}
+use Rattle.std.specs.Prelude.{slice_get, option_map}
+use Rattle.rd_frame.specs.Panes.{body_height}
+use Rattle.rd_lineshift.specs.Choices.{AreWithin}
+use Rattle.rd_lineshift.specs.declared.band.Band.{Band}
+use Rattle.rd_state.specs.States.{StateValue}
+use Rattle.rd_state.specs.Valid.{IsValid}
+use Rattle.rd_tree.specs.Calls.{frame_of}
+use Rattle.rd_tree.specs.Places.{StandsIn}
+use Rattle.rd_tree.specs.Windows.{HasRoom, Windows, Window, Split, first_part, leaves, of_number, placed, second_part, times, window_at}
+use Rattle.rd_tree.specs.declared.placed.Placed.{Placed}
+use Rattle.rd_tree.specs.declared.rect.Rect.{Rect}
+use Rattle.rd_tree.specs.declared.side.Side.{Side}
+use Rattle.rd_layout.specs.Redisplays.{band_of, bands_of}
+use Rattle.rd_layout.specs.Windows.{place_of, places}
+use Rattle.rd_layout.proofs.ByNumber.{chosen, passed, eq-true, eq-false}
+
+-- what the tree says
+pub record PlaceLaws : Type 0 where
+  pub inside : (number : ℕ) (windows : Windows) (rect : Rect) (window : Placed) → HasRoom windows rect → window_at number windows rect ≡ Some window → StandsIn window rect
+  pub listed : (windows : Windows) (rect : Rect) → map (λ (window : Placed). window.number) (placed windows rect) ≡ leaves windows
+  pub in_order : (windows : Windows) (rect : Rect) (i number : ℕ) → ((n : ℕ) → times n windows ≤ 1) → slice_get (leaves windows) i ≡ Some number → window_at number windows rect ≡ slice_get (placed windows rect) i
+
+-- ---- a window that is found was made
+
+here : (n : ℕ) (p : Placed) (ps : List Placed) → p.number ≡ n → of_number n (p ∷ ps) ≡ Some p
+here n p ps h = chosen (p.number == n) (Some p) (of_number n ps) (eq-true p.number n h)
+
+there : (n : ℕ) (p : Placed) (ps : List Placed) → p.number ≢ n → of_number n (p ∷ ps) ≡ of_number n ps
+there n p ps h = passed (p.number == n) (Some p) (of_number n ps) (eq-false p.number n h)
+
+pub number-of : (n : ℕ) (ps : List Placed) (p : Placed) → of_number n ps ≡ Some p → p.number ≡ n
+number-of n [] p h = absurd (cc)
+number-of n (q ∷ qs) p h = elim (cases_eq q.number n) [
+  | inl e ↦ let same : q ≡ p = cc (sym (here n q qs e) ∙ h) in sym (ap (λ (x : Placed). x.number) same) ∙ e
+  | inr e ↦ number-of n qs p (sym (there n q qs e) ∙ h)
+]
+
+-- one of two lists has what both have together
+either : (n : ℕ) (ps qs : List Placed) (p : Placed) → of_number n (ps ++ qs) ≡ Some p → (of_number n ps ≡ Some p) ⊎ (of_number n qs ≡ Some p)
+either n [] qs p h = inr h
+either n (x ∷ xs) qs p h = elim (cases_eq x.number n) [
+  | inl e ↦ inl (here n x xs e ∙ (sym (here n x (xs ++ qs) e) ∙ h))
+  | inr e ↦ elim (either n xs qs p (sym (there n x (xs ++ qs) e) ∙ h)) [
+    | inl l ↦ inl (there n x xs e ∙ l)
+    | inr r ↦ inr r
+  ]
+]
+
+once-by : (t : Bool) → t ≡ true → 1 ≤ (if t then 1 else 0)
+once-by true h = omega arith
+once-by false h = absurd (cc)
+
+some-is-none : (p : Placed) → Some p ≡ None → ⊥
+some-is-none p h = absurd (cc)
+
+pub found-once : (n : ℕ) (windows : Windows) (rect : Rect) (p : Placed) → window_at n windows rect ≡ Some p → 1 ≤ times n windows
+found-once n (Window number mode margins) rect p h = elim (cases_eq number n) [
+  | inl e ↦ once-by (number == n) (eq-true number n e)
+  | inr e ↦ absurd (some-is-none p (sym h ∙ there n (record { number = number; mode = mode; margins = margins; rect = rect }) [] e))
+]
+found-once n (Split side size first second) rect p h = elim (either n (placed first (first_part side size rect)) (placed second (second_part side size rect)) p h) [
+  | inl l ↦ let one = found-once n first (first_part side size rect) p l in omega arith
+  | inr r ↦ let one = found-once n second (second_part side size rect) p r in omega arith
+]
+
+-- ---- the windows of a state
+
+module _ (laws : PlaceLaws) (s : StateValue) (valid : IsValid s) where
+  pub placed-at : (i : ℕ) (p : Placed) → slice_get (places s) i ≡ Some p → place_of p.number s ≡ Some p
+  placed-at i p at =
+      let windows = s.tree.windows in
+      let rect = frame_of s.tree in
+      let leaf : slice_get (leaves windows) i ≡ Some p.number =
+      ap (λ (ns : List ℕ). slice_get ns i) (sym (laws.listed windows rect)) ∙ (slice_get-map (λ (window : Placed). window.number) (places s) i ∙ ap (option_map (λ (window : Placed). window.number)) at) in
+      laws.in_order windows rect i p.number valid.windows.tree.once leaf ∙ at
+
+  none : Placed
+  none = record { number = 0; mode = false; margins = 0; rect = record { x = 0; y = 0; width = 0; height = 0 } }
+
+  -- what holds of each window that is found by its number holds of all
+  pub all-places : (P : Placed → Type 0) → ((p : Placed) → place_of p.number s ≡ Some p → P p) → All P (places s)
+  all-places P each = All-from_get_or P (places s) none (λ i less. each (get_or (places s) i none) (placed-at i (get_or (places s) i none) (slice_get-get_or (places s) i none less)))
+
+  pub made-number : (number : ℕ) (p : Placed) → place_of number s ≡ Some p → number < s.tree.made
+  made-number number p at =
+      let one = found-once number s.tree.windows (frame_of s.tree) p at in
+      by (times number s.tree.windows) refl one (nat_le s.tree.made number) refl
+    where
+      by : (n : ℕ) → times number s.tree.windows ≡ n → 1 ≤ n → (t : Bool) → nat_le s.tree.made number ≡ t → number < s.tree.made
+      by n is one true le = let no = valid.windows.tree.known number (leb-true s.tree.made number le) in absurd (omega (arith, is, no, one))
+      by n is one false le = leb-false s.tree.made number le
+
+  -- ---- bands
+
+  abbrev Fits : Placed → Type 0
+  Fits p = p.rect.y + body_height p ≤ s.height
+
+  body-fits : (mode : Bool) (y height frame whole : ℕ) → y + height ≤ frame → frame + 1 ≡ whole → y + (height - (if mode then 1 else 0)) ≤ whole
+  body-fits true y height frame whole h e = omega arith
+  body-fits false y height frame whole h e = omega arith
+
+  place-fits : (p : Placed) → place_of p.number s ≡ Some p → Fits p
+  place-fits p at =
+      let stands = laws.inside p.number s.tree.windows (frame_of s.tree) p valid.windows.tree.room at in
+      let low = stands.0.3 in
+      body-fits p.mode p.rect.y p.rect.height s.tree.height s.height (omega arith) valid.frame.rows
+
+  abbrev InFrame : Band → Type 0
+  InFrame band = band.top + band.height ≤ s.height
+
+  one-band : (p : Placed) (bands : List Band) → Fits p → AllByRecursion InFrame bands → AllByRecursion InFrame (band_of s.width p ++ bands)
+  one-band p bands fits h = by (p.rect.width == s.width) where
+    by : (t : Bool) → AllByRecursion InFrame ((if t then record { top = p.rect.y; height = body_height p } ∷ [] else []) ++ bands)
+    by true = (fits, h)
+    by false = h
+
+  each-band : (ps : List Placed) → AllByRecursion Fits ps → AllByRecursion InFrame (flat_map (band_of s.width) ps)
+  each-band [] h = tt
+  each-band (p ∷ ps) h = one-band p (flat_map (band_of s.width) ps) h.0 (each-band ps h.1)
+
+  pub bands-within : AreWithin s.height (bands_of s)
+  bands-within = by s.shifting where
+    by : (t : Bool) → All InFrame (if t then flat_map (band_of s.width) (places s) else [])
+    by true = All-from_recursion InFrame (flat_map (band_of s.width) (places s)) (each-band (places s) (recursion_from_All Fits (places s) (all-places Fits place-fits)))
+    by false = All-from_recursion InFrame [] tt

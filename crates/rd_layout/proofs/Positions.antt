@@ -1,0 +1,94 @@
+-- The items that begin in the rows of a last layout end at positions.
+use Rattle.std.proofs.Common.{◌≡◌, ℕ, zero, suc, ◌+◌, ◌-◌, ◌^◌, ◌<◌, ◌≤◌, Option, None, Some, List, [], ◌∷◌, ◌++◌, length, map, get_or, sym, ap, refl, subst, ◌∙◌, arith}
+use Rattle.std.proofs.lemmas.List.Elements.{All-from_recursion, All-map, recursion_from_All}
+use Rattle.std.proofs.lemmas.Option.{get_or_from_slice_get, slice_get_within}
+use Rattle.std.specs.List.{All, AllByRecursion}
+use Rattle.std.specs.Prelude.{slice_get, slice_index_or}
+use Rattle.rd_blocks.specs.Kept.{AreRowsAt}
+use Rattle.rd_blocks.specs.Sources.{text_source}
+use Rattle.rd_matrix.specs.Blocks.{IsAmong, first_start}
+use Rattle.rd_matrix.specs.Entries.{EntryMeaning, all_rows, entries_of, numbered, shown_entries, shown_entry}
+use Rattle.rd_matrix.specs.Sources.{IsSource, SourceValues, rows_at}
+use Rattle.rd_matrix.specs.declared.block.Block.{Block}
+use Rattle.rd_matrix.specs.declared.matrix.Entry.{Entry}
+use Rattle.rd_objects.specs.Things.{ObjectLists}
+use Rattle.rd_props.specs.Buffers as props
+use Rattle.rd_rows.specs.Laws.{begins_of}
+use Rattle.rd_rows.specs.Rows.{RowMeaning}
+use Rattle.rd_rows.specs.Shapes.{IsShape, ShapeValues}
+use Rattle.rd_rows.specs.declared.begin.Begin.{Begin}
+use Rattle.rd_state.specs.States.{StateValue}
+use Rattle.rd_state.specs.declared.window.WindowState.{WindowState}
+use Rattle.rd_text.specs.Texts.{IsText}
+use Rattle.rd_ucd.specs.Data.{Data}
+use Rattle.rd_visual.specs.Hits.{AreInPositions, Fits}
+use Rattle.rd_window.specs.declared.layout.Layout.{Layout}
+use Rattle.rd_layout.specs.Since.{IsKnown}
+use Rattle.rd_layout.proofs.Chosen.{InBlock, block-inside}
+use Rattle.rd_layout.proofs.Over.{some-block}
+use Rattle.rd_layout.proofs.Settling.{ViewLaws, accessible}
+
+front : {A : Type 0} (P : A → Type 0) (xs ys : List A) → AllByRecursion P (xs ++ ys) → AllByRecursion P xs
+front P [] ys h = tt
+front P (x ∷ xs) ys h = (h.0, front P xs ys h.1)
+
+rest : {A : Type 0} (P : A → Type 0) (xs ys : List A) → AllByRecursion P (xs ++ ys) → AllByRecursion P ys
+rest P [] ys h = h
+rest P (x ∷ xs) ys h = rest P xs ys h.1
+
+both : {A : Type 0} (P : A → Type 0) (xs ys : List A) → AllByRecursion P xs → AllByRecursion P ys → AllByRecursion P (xs ++ ys)
+both P [] ys h k = k
+both P (x ∷ xs) ys h k = (h.0, both P xs ys h.1 k)
+
+module _ (views : ViewLaws) (s : props.BufferValue) (objects : ObjectLists) (files : Data) (shape : ShapeValues) (text : IsText s.text) (is : IsShape shape) where
+  abbrev m : SourceValues
+  m = text_source s objects files
+
+  source : IsSource m
+  source = views.source s objects files text
+
+  abbrev EntryFits : EntryMeaning → Type 0
+  EntryFits e = All (Fits e.start) e.row.begins
+
+  block-end : (b : Block) → IsAmong m.blocks b → b.end < 2 ^ 32
+  block-end b at =
+      let some = some-block (first_start m.blocks) at.0 m.blocks b source.blocks.stand at.1 in
+      let inside = accessible views files.classes s (b.end - 1) text (block-inside m shape source is b (b.end - 1) at (omega arith) (omega arith)) in
+      let high = inside.1 in
+      let last = text.last in
+      let short = text.short in
+      omega arith
+
+  begins-fit : (b : Block) → b.end < 2 ^ 32 → (xs : List Begin) → AllByRecursion (λ (x : Begin). (x.from ≤ x.to) × (b.start + x.to ≤ b.end)) xs → AllByRecursion (Fits b.start) xs
+  begins-fit b small [] h = tt
+  begins-fit b small (x ∷ xs) h = let high = h.0.1 in (omega arith, begins-fit b small xs h.1)
+
+  numbered-fit : (b : Block) → b.end < 2 ^ 32 → (number : ℕ) (rows : List RowMeaning) → AllByRecursion (λ (x : Begin). (x.from ≤ x.to) × (b.start + x.to ≤ b.end)) (begins_of rows)
+      → AllByRecursion EntryFits (numbered b.start number rows)
+  numbered-fit b small number [] h = tt
+  numbered-fit b small number (r ∷ rs) h =
+      let here = front (λ (x : Begin). (x.from ≤ x.to) × (b.start + x.to ≤ b.end)) r.begins (begins_of rs) h in
+      let behind = rest (λ (x : Begin). (x.from ≤ x.to) × (b.start + x.to ≤ b.end)) r.begins (begins_of rs) h in
+      (All-from_recursion (Fits b.start) r.begins (begins-fit b small r.begins here), numbered-fit b small (number + 1) rs behind)
+
+  all-fit : (bs : List Block) → ((k : ℕ) (b : Block) → slice_get bs k ≡ Some b → IsAmong m.blocks b) → AllByRecursion EntryFits (all_rows (λ b. m.rows_of b shape) bs)
+  all-fit [] among = tt
+  all-fit (b ∷ bs) among =
+      let at = among 0 b refl in
+      both EntryFits (entries_of (λ b. m.rows_of b shape) b) (all_rows (λ b. m.rows_of b shape) bs)
+      (numbered-fit b (block-end b at) 0 (m.rows_of b shape) (recursion_from_All (λ (x : Begin). (x.from ≤ x.to) × (b.start + x.to ≤ b.end)) (begins_of (m.rows_of b shape)) (source.rows b shape at is).inside))
+      (all-fit bs (λ k c h. among (suc k) c h))
+
+  rows-fit : All EntryFits (rows_at m shape)
+  rows-fit = All-from_recursion EntryFits (rows_at m shape) (all-fit m.blocks (λ k b h. (k, h)))
+
+  pub entries-fit : (es : List Entry) → AreRowsAt m shape es → AreInPositions (shown_entries es)
+  entries-fit es at =
+      All-map EntryFits shown_entry es
+      (λ k d less.
+      let e = shown_entry (slice_index_or es k d) in
+      let place = at k d less in
+      subst EntryFits (get_or_from_slice_get (rows_at m shape) place.0 e e place.1) (rows-fit place.0 e (slice_get_within (rows_at m shape) place.0 e place.1)))
+
+pub known-fit : ViewLaws → (files : Data) (s : StateValue) (w : WindowState) (l : Layout) → IsKnown files s w l → AreInPositions (shown_entries l.matrix)
+known-fit views files s w l known = entries-fit views known.old known.made files l.shape known.text known.shape l.matrix known.rows

@@ -1,0 +1,240 @@
+-- A redisplay that is sent leads from a session to a session.
+use Rattle.std.proofs.Common.{◌≡◌, ◌≢◌, inl, inr, ℕ, zero, suc, ◌+◌, ◌<◌, ◌≤◌, ◌==◌, Bool, true, false, if◌then◌else◌, Option, None, Some, List, [], ◌∷◌, length, map, replicate, take, drop, sym, ap, refl, subst, subst₂, ◌∙◌, arith}
+use Rattle.std.proofs.lemmas.Bool.{cases_eq}
+use Rattle.std.proofs.lemmas.List.{length-map, length-replicate}
+use Rattle.std.proofs.lemmas.List.Elements.{All-head, All-map, All-replicate}
+use Rattle.std.specs.List.{All}
+use Rattle.std.specs.Prelude.{IfSome, slice_get, slice_index_or, option_map}
+use Rattle.rd_base.specs.Faces.{plain}
+use Rattle.rd_base.specs.declared.cell.Cell.{Cell}
+use Rattle.rd_blocks.specs.Kept.{AreRowsAt}
+use Rattle.rd_blocks.specs.Leads.{LeadsTo}
+use Rattle.rd_blocks.specs.Sources.{text_source}
+use Rattle.rd_lineshift.specs.Choices.{AreWithin}
+use Rattle.rd_lineshift.specs.Plans.{shifted_update}
+use Rattle.rd_lineshift.specs.declared.band.Band.{Band}
+use Rattle.rd_matrix.specs.Entries.{shown_entries}
+use Rattle.rd_base.specs.declared.settings.Anchor.{Anchor}
+use Rattle.rd_matrix.specs.Blocks.{IsWithin}
+use Rattle.rd_matrix.specs.Sources.{IsSource, SourceValues, rows_at}
+use Rattle.rd_matrix.specs.declared.matrix.Entry.{Entry}
+use Rattle.rd_objects.specs.Sound.{IsClosed, Extends}
+use Rattle.rd_objects.specs.Things.{ObjectLists}
+use Rattle.rd_props.specs.Buffers as props
+use Rattle.rd_props.specs.Made.{AreMade}
+use Rattle.rd_frame.specs.Panes.{body_height}
+use Rattle.rd_reuse.specs.Changes.{IsChange, none}
+use Rattle.rd_reuse.specs.declared.change.Change.{Change}
+use Rattle.rd_rows.specs.Shapes.{IsShape, ShapeValues}
+use Rattle.rd_start.specs.Chosen.{chosen_of}
+use Rattle.rd_start.specs.declared.wanted.Wanted.{Wanted}
+use Rattle.rd_state.specs.States.{BufferValue, ContentValue, StateValue, seen}
+use Rattle.rd_state.specs.Valid.{IsValid, IsWindow}
+use Rattle.rd_state.specs.Windows.{content_in, shown_content, window_of}
+use Rattle.rd_state.specs.declared.window.WindowState.{WindowState}
+use Rattle.rd_term.specs.Pictures.{IsGrid, IsOfSize, IsScreen, Picture, width_of}
+use Rattle.rd_term.specs.Terminals.{Tty, feed_bytes, known, unknown}
+use Rattle.rd_tree.specs.declared.placed.Placed.{Placed}
+use Rattle.rd_ucd.specs.Data.{Data}
+use Rattle.rd_update.specs.Laws.{IsReady, IsSound, IsUpdated}
+use Rattle.rd_update.specs.Plans.{HaveOneSize}
+use Rattle.rd_window.specs.Layouts.{IsLaidOut, Stands}
+use Rattle.rd_window.specs.Views.{start_row}
+use Rattle.rd_window.specs.declared.layout.Layout.{Layout}
+use Rattle.rd_layout.specs.Redisplays.{AreLaidOut, IsLaidOutBy, IsSent, bands_of, update_of}
+use Rattle.rd_layout.specs.Screens.{laid_out, settled_by, settled_state}
+use Rattle.rd_layout.specs.Sessions.{SessionValue, layout_of}
+use Rattle.rd_layout.specs.Since.{FitsFrame, IsKnown, IsSession}
+use Rattle.rd_layout.specs.Windows.{place_of, places, wanted_of, window_shape, window_source}
+use Rattle.rd_layout.proofs.ByNumber.{buffer-there, window-became}
+use Rattle.rd_layout.proofs.Known.{Last, layout-here, layout-there, mapped}
+use Rattle.rd_layout.proofs.Over.{new-change}
+use Rattle.rd_layout.proofs.Placed.{PlaceLaws, bands-within, made-number, placed-at}
+use Rattle.rd_layout.proofs.Settling.{ViewLaws, is-shape, point-within, shown-is, shown-text, state-stays}
+
+-- what the layers below say
+pub record SendLaws : Type 0 where
+  pub places : PlaceLaws
+  pub views : ViewLaws
+  pub read : (width height : ℕ) (current : Option Picture) (target : Picture) (bands : List Band) (limit : Option ℕ) (t : Tty) → IsReady width height current target t → AreWithin height bands
+      → IsUpdated width height (shifted_update current target bands limit) target (feed_bytes t (shifted_update current target bands limit).bytes)
+  pub sound : (current : Option Picture) (target : Picture) (bands : List Band) (limit : Option ℕ) → HaveOneSize current target → IfSome current (λ screen. IsScreen screen × IsSound screen)
+      → AreWithin (length target.rows) bands → IsSound target → IsSound (shifted_update current target bands limit).screen
+  pub rows : (m : SourceValues) (shape : ShapeValues) (rows : List Entry) (first height : ℕ) → shown_entries rows ≡ take height (drop first (rows_at m shape)) → AreRowsAt m shape rows
+  pub grown : (s : props.BufferValue) (made objects : ObjectLists) → IsClosed made → AreMade s made → Extends made objects → LeadsTo s made s objects none
+  pub itself : (o : ObjectLists) → Extends o o
+  pub stand : (last : Option Layout) (m : SourceValues) (shape : ShapeValues) (w : Wanted) (new : Layout) → IsSource m → IsShape shape → IsWithin w.point m.blocks → IsLaidOut last m shape w new → Stands m (chosen_of m shape w).anchor new
+  pub found : (s : StateValue) (number : ℕ) (w : WindowState) → IsValid s → window_of number s.windows ≡ Some w → IsWindow s.buffers w
+
+-- ---- the new current screen
+
+-- a terminal that shows a current screen
+abbrev pub shows : ℕ → ℕ → Option Picture → Tty
+shows width height None = unknown width height
+shows width height (Some screen) = record (unknown width height) { rows = known screen.rows; pen = Some plain }
+
+is-wide : (width : ℕ) (rows : List (List Cell)) → IsGrid width rows → IsGrid width (known rows)
+is-wide width rows each =
+    All-map (λ (row : List (Option Cell)). length row ≡ width) (map Some) rows (λ k d less. length-map (slice_index_or rows k d) Some ∙ each k d less)
+
+module _ (laws : SendLaws) (width height : ℕ) (target : Picture) (bands : List Band) (limit : Option ℕ) (wide : width ≤ 400) (tall : height ≤ 200) (some : 0 < height)
+    (size : IsOfSize width height target) (sound : IsSound target) (within : AreWithin height bands) where
+  abbrev pub Fits : Option Picture → Type 0
+  Fits None = Unit {0}
+  Fits (Some screen) = IsOfSize width height screen × IsSound screen
+
+  ready : (current : Option Picture) → Fits current → IsReady width height current target (shows width height current)
+  ready None fits = record {
+    sure = refl;
+    between = refl;
+    rows = length-replicate height (replicate width None);
+    each = All-replicate (λ (row : List (Option Cell)). length row ≡ width) height (replicate width None) (length-replicate width None);
+    wide = wide;
+    tall = tall;
+    size = size;
+    whole = sound.whole;
+    colours = sound.colours;
+    now = tt;
+  }
+  ready (Some screen) fits = record {
+    sure = refl;
+    between = refl;
+    rows = length-map screen.rows (map Some) ∙ fits.0.rows;
+    each = is-wide width screen.rows fits.0.each;
+    wide = wide;
+    tall = tall;
+    size = size;
+    whole = sound.whole;
+    colours = sound.colours;
+    now = (fits.0, refl, refl);
+  }
+
+  wide-as : (rows : List (List Cell)) → length rows ≡ height → IsGrid width rows → width_of rows ≡ width
+  wide-as [] h each = absurd (omega (arith, h, some))
+  wide-as (row ∷ rows) h each = All-head (λ (r : List Cell). length r ≡ width) row rows each
+
+  one-size : (current : Option Picture) → Fits current → HaveOneSize current target
+  one-size None fits = tt
+  one-size (Some screen) fits =
+      (fits.0.rows ∙ sym size.rows, wide-as screen.rows fits.0.rows fits.0.each ∙ sym (wide-as target.rows size.rows size.each))
+
+  is-screen : (current : Option Picture) → Fits current → IfSome current (λ screen. IsScreen screen × IsSound screen)
+  is-screen None fits = tt
+  is-screen (Some screen) fits =
+      let w = wide-as screen.rows fits.0.rows fits.0.each in (
+        record {
+          size = subst₂ (λ (x : ℕ) (y : ℕ). IsOfSize x y screen) (sym w) (sym fits.0.rows) fits.0;
+          wide = subst (λ (x : ℕ). x ≤ 400) (sym w) wide;
+          tall = subst (λ (x : ℕ). x ≤ 200) (sym fits.0.rows) tall;
+        },
+        fits.1,
+      )
+
+  new-screen : (current : Option Picture) → Fits current → Fits (Some (shifted_update current target bands limit).screen)
+  new-screen current fits = (
+    (laws.read width height current target bands limit (shows width height current) (ready current fits) within).size,
+    laws.sound current target bands limit (one-size current fits) (is-screen current fits) (subst (λ (n : ℕ). AreWithin n bands) (sym size.rows) within) sound,
+  )
+
+-- ---- the new layouts
+
+-- a new layout is that of a window in its place
+found-layout : (v : SessionValue) (n : ℕ) (ps : List Placed) (es : List Last) (l : Layout) → AreLaidOut v ps es → layout_of n es ≡ Some l
+    → (k : ℕ) × (p : Placed) × (slice_get ps k ≡ Some p) × (p.number ≡ n) × IsLaidOutBy v.files v.state (layout_of p.number v.layouts) p (window_of p.number v.state.windows) l
+found-layout v n [] [] l h at = absurd (cc)
+found-layout v n [] (e ∷ es) l h at = absurd h
+found-layout v n (p ∷ ps) [] l h at = absurd h
+found-layout v n (p ∷ ps) (e ∷ es) l h at = elim (cases_eq e.0 n) [
+  | inl q ↦
+      let same : e.1 ≡ l = cc (sym (layout-here n e es q) ∙ at) in
+      (0, p, refl, sym h.0 ∙ q, subst (IsLaidOutBy v.files v.state (layout_of p.number v.layouts) p (window_of p.number v.state.windows)) same h.1)
+  | inr q ↦
+      let rest = found-layout v n ps es l h.2 (sym (layout-there n e es q) ∙ at) in
+      (suc rest.0, rest.1, rest.2, rest.3, rest.4)
+]
+
+laid-of : (files : Data) (s : StateValue) (last : Option Layout) (p : Placed) (o : Option WindowState) (x : WindowState) (l : Layout) → o ≡ Some x → IsLaidOutBy files s last p o l
+    → IsLaidOut last (window_source files s x) (window_shape s x p) (wanted_of s x p) l
+laid-of files s last p o x l is laid = subst (λ (k : Option WindowState). IsLaidOutBy files s last p k l) is laid
+
+module _ (laws : SendLaws) (files : Data) (s : StateValue) (valid : IsValid s) where
+  known-by : (p : Placed) (x w : WindowState) (last : Option Layout) (l : Layout) → place_of p.number s ≡ Some p → IsWindow s.buffers x → settled_by files s x (Some p) ≡ w
+      → IsLaidOut last (window_source files s x) (window_shape s x p) (wanted_of s x p) l → IsKnown files (settled_state files s) w l
+  known-by p x w last l at window settled laid =
+      let same : w.buffer ≡ x.buffer = ap (λ (y : WindowState). y.buffer) (sym settled) in
+      let b = buffer-there s.buffers x.buffer window.made in
+      let m = window_source files s x in
+      let shape = window_shape s x p in
+      let content = valid.buffers.contents x.buffer b.0 b.1 in
+      let named : AreMade (seen (shown_content s x)) s.objects = subst (λ (c : ContentValue). AreMade (seen c) s.objects) (sym (shown-is laws.views s valid x b.0 b.1)) content.names in
+      let here : shown_content (settled_state files s) w ≡ shown_content s x = ap (λ k. content_in (slice_get s.buffers k)) same in
+      record {
+        old = seen (shown_content s x);
+        made = s.objects;
+        text = shown-text laws.views s valid x b.0 b.1;
+        shape = subst IsShape (sym laid.shape_is) (is-shape laws.views s valid p.number x p at);
+        rows = subst (λ (y : ShapeValues). AreRowsAt m y l.matrix) (sym laid.shape_is) (laws.rows m shape l.matrix (start_row m shape (wanted_of s x p)) (body_height p) laid.rows);
+        change = subst IsChange (sym laid.change) new-change;
+        stands = λ unchanged forced. subst₂ (λ (c : ContentValue) (a : Anchor). Stands (text_source (seen c) s.objects files) a l) (sym here) (ap (λ (y : WindowState). y.anchor) settled)
+            (laws.stand last m shape (wanted_of s x p) l (laws.views.source (seen (shown_content s x)) s.objects files (shown-text laws.views s valid x b.0 b.1)) (is-shape laws.views s valid p.number x p at)
+            (point-within laws.views files s valid x b.0 b.1 window) laid);
+        leads = subst₂ (λ (c : ContentValue) (change : Change). LeadsTo (seen (shown_content s x)) s.objects (seen c) s.objects change) (sym here) (sym laid.change)
+            (laws.grown (seen (shown_content s x)) s.objects s.objects valid.closed named (laws.itself s.objects));
+      }
+
+-- ---- the session
+
+module _ (laws : SendLaws) (rows : ℕ) (done : Bool) (stop : Option ℕ) (old new : SessionValue) (before after : Option (List ℕ)) (session : IsSession old) (sent : IsSent rows done stop old new before after)
+    (size : IsOfSize old.state.width old.state.height (laid_out old.files old.state).picture) (sound : IsSound (laid_out old.files old.state).picture) where
+  abbrev s : StateValue
+  s = old.state
+
+  now : new.state ≡ settled_state old.files s
+  unfolding laid_out
+  now = sent.state
+
+  same-windows : (number : ℕ) → window_of number new.state.windows ≡ option_map (λ w. settled_by old.files s w (place_of number s)) (window_of number s.windows)
+  same-windows number = ap (λ (x : StateValue). window_of number x.windows) now ∙ window-became (λ n w. settled_by old.files s w (place_of n s)) number s.windows
+
+  high : 0 < s.height
+  high = let least : 2 ≤ s.height = session.state.frame.high in omega arith
+
+  sent-screen : FitsFrame new.current new.state
+  sent-screen =
+      subst (λ (c : Option Picture). FitsFrame c new.state) (sym sent.current)
+      (subst (λ (x : StateValue). FitsFrame (Some (update_of old stop).screen) x) (sym now)
+      (new-screen laws s.width s.height (laid_out old.files s).picture (bands_of s) stop session.state.frame.narrow session.state.frame.low high size sound
+      (bands-within laws.places s session.state) old.current (fits old.current session.screen)))
+    where
+      fits : (c : Option Picture) → FitsFrame c s → Fits laws s.width s.height (laid_out old.files s).picture (bands_of s) stop session.state.frame.narrow session.state.frame.low high size sound
+          (bands-within laws.places s session.state) c
+      fits None h = h
+      fits (Some screen) h = h
+
+  sent-made : (number : ℕ) (l : Layout) → layout_of number new.layouts ≡ Some l → number < new.state.tree.made
+  sent-made number l at =
+      let found = found-layout old number (places s) new.layouts l sent.layouts at in
+      let p = found.1 in
+      let place = placed-at laws.places s session.state found.0 p found.2 in
+      subst (λ (x : StateValue). number < x.tree.made) (sym now) (subst (λ (k : ℕ). k < s.tree.made) found.3 (made-number laws.places s session.state p.number p place))
+
+  sent-known : (number : ℕ) (w : WindowState) (l : Layout) → window_of number new.state.windows ≡ Some w → layout_of number new.layouts ≡ Some l → IsKnown new.files new.state w l
+  sent-known number w l lives at =
+      let found = found-layout old number (places s) new.layouts l sent.layouts at in
+      let p = found.1 in
+      let place = placed-at laws.places s session.state found.0 p found.2 in
+      let x = mapped (λ w. settled_by old.files s w (place_of number s)) (window_of number s.windows) w (sym (same-windows number) ∙ lives) in
+      let there : window_of p.number s.windows ≡ Some x.0 = ap (λ (k : ℕ). window_of k s.windows) found.3 ∙ x.1 in
+      let laid = laid-of old.files s (layout_of p.number old.layouts) p (window_of p.number s.windows) x.0 l there found.4 in
+      let placed : place_of number s ≡ Some p = ap (λ (k : ℕ). place_of k s) (sym found.3) ∙ place in
+      let settled : settled_by old.files s x.0 (Some p) ≡ w = ap (settled_by old.files s x.0) (sym placed) ∙ x.2 in
+      subst₂ (λ (f : Data) (y : StateValue). IsKnown f y w l) (sym sent.files) (sym now)
+      (known-by laws old.files s session.state p x.0 w (layout_of p.number old.layouts) l place (laws.found s number x.0 session.state x.1) settled laid)
+
+  pub sent-session : IsSession new
+  sent-session = record {
+    state = subst IsValid (sym now) (state-stays laws.views old.files s session.state);
+    screen = sent-screen;
+    made = sent-made;
+    layouts = sent-known;
+  }

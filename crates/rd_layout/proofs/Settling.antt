@@ -1,0 +1,185 @@
+-- A redisplay leaves a valid state valid: the starts and the points that it chooses are accessible.
+use Rattle.std.proofs.Common.{◌≡◌, ℕ, zero, suc, ◌+◌, ◌-◌, ◌<◌, ◌≤◌, nat_lt, Bool, true, false, if◌then◌else◌, pos, Option, None, Some, List, [], ◌∷◌, length, map, sym, ap, refl, subst, ◌∙◌, arith}
+use Rattle.std.proofs.lemmas.Option.{slice_get-map}
+use Rattle.std.specs.Prelude.{IsSome, slice_get, option_map}
+use Rattle.rd_blocks.specs.Bases.{block_in, blocks_in}
+use Rattle.rd_blocks.specs.Sources.{text_source}
+use Rattle.rd_frame.specs.Panes.{body_height, body_width, has_border}
+use Rattle.rd_items.specs.Blocks.{Adjoin, blocks_of}
+use Rattle.rd_matrix.specs.Blocks.{IsWithin, end_from}
+use Rattle.rd_matrix.specs.Sources.{IsSource}
+use Rattle.rd_objects.specs.Things.{ObjectLists}
+use Rattle.rd_props.specs.Buffers as props
+use Rattle.rd_rows.specs.Shapes.{IsShape}
+use Rattle.rd_state.specs.States.{BufferValue, ContentValue, StateValue, seen}
+use Rattle.rd_state.specs.Valid.{AreWindows, IsValid, IsWindow}
+use Rattle.rd_state.specs.Windows.{AreApart, content_in, leaf_of, shown_content, window_of}
+use Rattle.rd_state.specs.declared.window.WindowState.{WindowState}
+use Rattle.rd_text.specs.Texts.{IsAccessible, IsText, TextValue}
+use Rattle.rd_tree.specs.Calls.{frame_of}
+use Rattle.rd_tree.specs.Places.{StandsIn}
+use Rattle.rd_tree.specs.Windows.{HasRoom, Windows, window_at}
+use Rattle.rd_tree.specs.declared.placed.Placed.{Placed}
+use Rattle.rd_tree.specs.declared.rect.Rect.{Rect}
+use Rattle.rd_ucd.specs.Data.{Data}
+use Rattle.rd_ucd.specs.declared.spans.Span.{Span}
+use Rattle.rd_layout.specs.Screens.{laid_out, settled_at, settled_by, settled_state}
+use Rattle.rd_layout.specs.Windows.{place_of, view_in, wanted_of, window_shape, window_source}
+use Rattle.rd_layout.proofs.ByNumber.{Entry, buffer-there, window-became}
+use Rattle.rd_layout.proofs.Chosen.{StartLaws, chosen-anchor, chosen-point}
+
+-- what the layers below say
+pub record ViewLaws : Type 0 where
+  pub source : (s : props.BufferValue) (objects : ObjectLists) (files : Data) → IsText s.text → IsSource (text_source s objects files)
+  pub within : (s : props.BufferValue) (objects : ObjectLists) (files : Data) (pos : ℕ) → IsAccessible s.text pos → IsWithin pos (text_source s objects files).blocks
+  pub adjoin : (s : props.BufferValue) → s.text.begin ≤ s.text.end → Adjoin s.text.begin (s.text.end + 1) (blocks_of s)
+  pub start : StartLaws
+  pub inside : (number : ℕ) (windows : Windows) (rect : Rect) (window : Placed) → HasRoom windows rect → window_at number windows rect ≡ Some window → StandsIn window rect
+
+-- ---- positions of the blocks are accessible
+
+ends-at : (classes : List Span) (s : props.BufferValue) (from to : ℕ) (bs : List (ℕ × ℕ)) → Adjoin from to bs → end_from from (map (block_in classes s) bs) ≡ to
+ends-at classes s from to [] h = h
+ends-at classes s from to (b ∷ bs) h = ends-at classes s b.1 to bs h.2
+
+accessible-by : (classes : List Span) (s : props.BufferValue) (from to p : ℕ) (bs : List (ℕ × ℕ)) → from < to → Adjoin from to bs → IsWithin p (map (block_in classes s) bs) → (from ≤ p) × (p < to)
+accessible-by classes s from to p [] less h at = absurd (omega (arith, h))
+accessible-by classes s from to p (b ∷ bs) less h at =
+    let start = h.0 in
+    let end = ends-at classes s b.1 to bs h.2 in
+    let low = at.0 in
+    let high = at.1 in
+    (omega arith, omega arith)
+
+pub accessible : ViewLaws → (classes : List Span) (s : props.BufferValue) (p : ℕ) → IsText s.text → IsWithin p (blocks_in classes s) → IsAccessible s.text p
+accessible laws classes s p text at =
+    let ordered = text.ordered in
+    let both = accessible-by classes s s.text.begin (s.text.end + 1) p (blocks_of s) (omega arith) (laws.adjoin s text.ordered) at in
+    let low = both.0 in
+    let high = both.1 in
+    (low, omega arith)
+
+-- ---- shapes
+
+shape-fits : (t : Bool) (width margins : ℕ) → 11 + margins ≤ width → width ≤ 400 → (10 ≤ width - margins - (if t then 1 else 0)) × (width - margins - (if t then 1 else 0) ≤ 400)
+shape-fits true width margins least most = (omega arith, omega arith)
+shape-fits false width margins least most = (omega arith, omega arith)
+
+module _ (laws : ViewLaws) (s : StateValue) (valid : IsValid s) where
+  pub stands : (number : ℕ) (place : Placed) → place_of number s ≡ Some place → StandsIn place (frame_of s.tree)
+  stands number place at = laws.inside number s.tree.windows (frame_of s.tree) place valid.windows.tree.room at
+
+  pub is-shape : (number : ℕ) (w : WindowState) (place : Placed) → place_of number s ≡ Some place → IsShape (window_shape s w place)
+  is-shape number w place at =
+      let there = stands number place at in
+      let wide = valid.windows.tree.wide in
+      let right = there.0.1 in
+      let fits = shape-fits (has_border s.width place) place.rect.width place.margins there.1 (omega arith) in
+      record { least = fits.0; most = fits.1 }
+
+  pub shown-is : (w : WindowState) (b : BufferValue) → slice_get s.buffers w.buffer ≡ Some b → shown_content s w ≡ b.content
+  shown-is w b at = ap content_in at
+
+  pub shown-text : (w : WindowState) (b : BufferValue) → slice_get s.buffers w.buffer ≡ Some b → IsText (shown_content s w).text
+  shown-text w b at = subst (λ (c : ContentValue). IsText c.text) (sym (shown-is w b at)) (valid.buffers.contents w.buffer b at).text
+
+module _ (laws : ViewLaws) (files : Data) (s : StateValue) (valid : IsValid s) where
+  pub point-within : (w : WindowState) (b : BufferValue) → slice_get s.buffers w.buffer ≡ Some b → IsWindow s.buffers w → IsWithin w.point (window_source files s w).blocks
+  point-within w b at window =
+      laws.within (seen (shown_content s w)) s.objects files w.point (subst (λ (c : ContentValue). IsAccessible c.text w.point) (sym (shown-is laws s valid w b at)) (window.point b at))
+
+  pub anchor-within : (w : WindowState) (b : BufferValue) → slice_get s.buffers w.buffer ≡ Some b → IsWindow s.buffers w → IsWithin w.anchor.pos (window_source files s w).blocks
+  anchor-within w b at window =
+      laws.within (seen (shown_content s w)) s.objects files w.anchor.pos (subst (λ (c : ContentValue). IsAccessible c.text w.anchor.pos) (sym (shown-is laws s valid w b at)) (window.anchor b at))
+
+  view-accessible : (number : ℕ) (w : WindowState) (place : Placed) (b : BufferValue) → place_of number s ≡ Some place → slice_get s.buffers w.buffer ≡ Some b → IsWindow s.buffers w
+      → IsAccessible b.content.text (view_in files s w place).anchor.pos × IsAccessible b.content.text (view_in files s w place).point
+  view-accessible number w place b there at window =
+      let m = window_source files s w in
+      let shape = window_shape s w place in
+      let wanted = wanted_of s w place in
+      let text = shown-text laws s valid w b at in
+      let source = laws.source (seen (shown_content s w)) s.objects files text in
+      let is = is-shape laws s valid number w place there in
+      let point = point-within w b at window in
+      let first = accessible laws files.classes (seen (shown_content s w)) _ text (chosen-anchor m shape source is laws.start wanted point) in
+      let second = accessible laws files.classes (seen (shown_content s w)) _ text (chosen-point m shape source is wanted point) in (
+        subst (λ (c : ContentValue). IsAccessible c.text (view_in files s w place).anchor.pos) (shown-is laws s valid w b at) first,
+        subst (λ (c : ContentValue). IsAccessible c.text (view_in files s w place).point) (shown-is laws s valid w b at) second,
+      )
+
+  -- the start and the point are accessible in the buffer that is shown
+  pub chosen-accessible : (number : ℕ) (w : WindowState) (place : Placed) → place_of number s ≡ Some place → IsWindow s.buffers w
+      → IsAccessible (shown_content s w).text (view_in files s w place).anchor.pos × IsAccessible (shown_content s w).text (view_in files s w place).point
+  chosen-accessible number w place there window =
+      let b = buffer-there s.buffers w.buffer window.made in
+      let both = view-accessible number w place b.0 there b.1 window in
+      let same = sym (shown-is laws s valid w b.0 b.1) in (
+        subst (λ (c : ContentValue). IsAccessible c.text (view_in files s w place).anchor.pos) same both.0,
+        subst (λ (c : ContentValue). IsAccessible c.text (view_in files s w place).point) same both.1,
+      )
+
+  -- ---- windows
+
+  settled-window : (number : ℕ) (w : WindowState) (place : Option Placed) → place_of number s ≡ place → IsWindow s.buffers w → IsWindow s.buffers (settled_by files s w place)
+  settled-window number w None there window = window
+  settled-window number w (Some place) there window = record {
+    made = window.made;
+    point = λ b at. (view-accessible number w place b there at window).1;
+    anchor = λ b at. (view-accessible number w place b there at window).0;
+    pending = refl;
+    hscroll = window.hscroll;
+    format = window.format;
+    numbers = window.numbers;
+    strings = window.strings;
+  }
+
+  abbrev pub settled : ℕ → WindowState → WindowState
+  settled number w = settled_by files s w (place_of number s)
+
+  same-leaf : (w : WindowState) (place : Option Placed) → leaf_of (settled_by files s w place) ≡ leaf_of w
+  same-leaf w None = refl
+  same-leaf w (Some place) = refl
+
+  same-leaves : (number : ℕ) (o : Option WindowState) → option_map leaf_of (option_map (settled number) o) ≡ option_map leaf_of o
+  same-leaves number None = refl
+  same-leaves number (Some w) = ap (λ leaf. Some leaf) (same-leaf w (place_of number s))
+
+  none-stays : (number : ℕ) (o : Option WindowState) → o ≡ None → option_map (settled number) o ≡ None
+  none-stays number None h = refl
+  none-stays number (Some w) h = absurd (cc)
+
+  some-stays : (number : ℕ) (o : Option WindowState) → IsSome o → IsSome (option_map (settled number) o)
+  some-stays number None h = h
+  some-stays number (Some w) h = refl
+
+  apart-stays : (ws : List Entry) → AreApart ws → AreApart (map (settled_at files s) ws)
+  apart-stays [] h = tt
+  apart-stays (e ∷ rest) h = (window-became settled e.0 rest ∙ none-stays e.0 (window_of e.0 rest) h.0, apart-stays rest h.1)
+
+  mapped : (o : Option Entry) (e : Entry) → option_map (settled_at files s) o ≡ Some e → (d : Entry) × (o ≡ Some d) × (settled_at files s d ≡ e)
+  mapped None e h = absurd (cc)
+  mapped (Some d) e h = (d, refl, cc)
+
+  windows-stay : AreWindows s.buffers s.tree (map (settled_at files s) s.windows) s.selected
+  windows-stay = record {
+    tree = valid.windows.tree;
+    leaves = λ n. valid.windows.leaves n ∙ sym (ap (option_map leaf_of) (window-became settled n s.windows) ∙ same-leaves n (window_of n s.windows));
+    apart = apart-stays s.windows valid.windows.apart;
+    each = λ k e at.
+        let d = mapped (slice_get s.windows k) e (sym (slice_get-map (settled_at files s) s.windows k) ∙ at) in
+        subst (λ (x : Entry). IsWindow s.buffers x.1) d.2 (settled-window d.0.0 d.0.1 (place_of d.0.0 s) refl (valid.windows.each k d.0 d.1));
+    selected = subst IsSome (sym (window-became settled s.selected s.windows)) (some-stays s.selected (window_of s.selected s.windows) valid.windows.selected);
+  }
+
+  pub state-stays : IsValid (settled_state files s)
+  state-stays = record {
+    buffers = valid.buffers;
+    objects = valid.objects;
+    closed = valid.closed;
+    windows = windows-stay;
+    frame = valid.frame;
+    margin = valid.margin;
+    conservatively = valid.conservatively;
+    echo = valid.echo;
+  }

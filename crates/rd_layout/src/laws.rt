@@ -1,0 +1,132 @@
+//! What holds of each session, proved of the definitions.
+ghost use Rattle.std.specs.Prelude.{◌≡◌, ℕ, Bool, List, Option, Some, Ok};
+ghost use Rattle.rd_frame.specs.Fits.{FitsFrame};
+ghost use Rattle.rd_lineshift.specs.Choices.{AreWithin};
+ghost use Rattle.rd_matrix.specs.Entries.{shown_entries};
+ghost use Rattle.rd_reuse.specs.Keeping.{AreRight};
+ghost use Rattle.rd_rows.specs.Shapes.{ShapeValues, IsShape};
+ghost use Rattle.rd_script.specs.Forms.{IsInForm};
+ghost use Rattle.rd_script.specs.declared.op.Op.{Op};
+ghost use Rattle.rd_state.specs.States.{StateValue};
+ghost use Rattle.rd_state.specs.Valid.{IsValid};
+ghost use Rattle.rd_state.specs.Windows.{shown_content, window_of};
+ghost use Rattle.rd_state.specs.declared.window.WindowState.{WindowState};
+ghost use Rattle.rd_term.specs.Pictures.{IsOfSize};
+ghost use Rattle.rd_text.specs.Texts.{IsAccessible};
+ghost use Rattle.rd_tree.specs.declared.placed.Placed.{Placed};
+ghost use Rattle.rd_ucd.specs.Data.{Data};
+ghost use Rattle.rd_update.specs.Laws.{IsSound};
+ghost use Rattle.rd_visual.specs.Hits.{AreInPositions};
+ghost use Rattle.rd_window.specs.Layouts.{StandsUnchanged, change_since, older_rows};
+ghost use Rattle.rd_window.specs.declared.layout.Layout.{Layout};
+ghost use Rattle.rd_layout.specs.Redisplays.{IsSent, bands_of};
+ghost use Rattle.rd_layout.specs.Screens.{frame_in, laid_out};
+ghost use Rattle.rd_layout.specs.Sessions.{IsStep, SessionValue, behind, layout_of, opened, session_step};
+ghost use Rattle.rd_layout.specs.Since.{IsSession};
+ghost use Rattle.rd_layout.specs.Targets.{AreRowsWhole};
+ghost use Rattle.rd_layout.specs.Windows.{place_of, view_in, window_shape, window_source};
+
+use rd_blocks::{
+    accessible_positions_lie_in_blocks, buffers_are_sources, changes_lead_on, kept_rows_are_fresh,
+    rows_are_local,
+};
+use rd_glyphs::plain_lines_are_whole;
+use rd_items::blocks_are_listed;
+use rd_lineshift::{shift_law, shifted_updates_keep_screens_sound};
+use rd_margins::margins_are_whole;
+use rd_modeline::mode_lines_are_whole;
+use rd_objects::extensions_keep_objects;
+use rd_reuse::{an_anchor_of_a_row_is_within, joined_with_all, joined_with_none};
+use rd_start::a_start_is_a_row;
+use rd_state::{ops_leave_the_rest, steps_keep_states, windows_are_leaves};
+use rd_tree::windows_tile_their_rectangle;
+use rd_visual::items_begin_in_the_window;
+use rd_window::{new_layouts_stand, no_rows_are_kept};
+
+/// A redisplay leaves a valid state valid: the starts and the points that it chooses are accessible, and its windows have shapes. The
+/// call does nothing.
+pub fn redisplays_keep_states()
+    ensures state { (files : Data) (s : StateValue) → IsValid s → IsValid (laid_out files s).state }
+    ensures chosen { (files : Data) (s : StateValue) (number : ℕ) (w : WindowState) (place : Placed) → IsValid s → window_of number s.windows ≡ Some w → place_of number s ≡ Some place
+        → IsAccessible (shown_content s w).text (view_in files s w place).anchor.pos × IsAccessible (shown_content s w).text (view_in files s w place).point }
+    ensures shape { (s : StateValue) (number : ℕ) (w : WindowState) (place : Placed) → IsValid s → place_of number s ≡ Some place → IsShape (window_shape s w place) }
+    ensures bands { (s : StateValue) → IsValid s → AreWithin s.height (bands_of s) }
+{
+    a_start_is_a_row();
+    accessible_positions_lie_in_blocks();
+    an_anchor_of_a_row_is_within();
+    blocks_are_listed();
+    buffers_are_sources();
+    windows_are_leaves();
+    windows_tile_their_rectangle();
+}
+
+/// The opening is a session, whatever the data files are, and an op in form leads from a session to a session: its state stays valid,
+/// a known screen the frame's, and what changed since the last layouts is known. So the rows of a last layout that a window's blocks
+/// keep are those that the window has for them, and a last layout since which nothing changed stands, unless the window's start was set
+/// by command; and the items of its rows end at positions. The call does nothing.
+pub fn sessions_stay_known()
+    ensures opened { (files : Data) → IsSession (opened files) }
+    ensures step { (v : SessionValue) (op : Op) (state : StateValue) → IsSession v → IsInForm op → IsStep op → session_step v op ≡ Ok state → IsSession (behind v op state) }
+    ensures kept { (v : SessionValue) (number : ℕ) (w : WindowState) (shape : ShapeValues) → IsSession v → window_of number v.state.windows ≡ Some w
+        → AreRight (window_source v.files v.state w) (older_rows (layout_of number v.layouts) shape) (change_since (layout_of number v.layouts)) shape }
+    ensures stands { (v : SessionValue) (number : ℕ) (w : WindowState) → IsSession v → window_of number v.state.windows ≡ Some w
+        → StandsUnchanged (layout_of number v.layouts) (window_source v.files v.state w) w.forced w.anchor }
+    ensures positions { (v : SessionValue) (number : ℕ) (w : WindowState) (l : Layout) → IsSession v → window_of number v.state.windows ≡ Some w → layout_of number v.layouts ≡ Some l → AreInPositions (shown_entries l.matrix) }
+{
+    a_start_is_a_row();
+    accessible_positions_lie_in_blocks();
+    an_anchor_of_a_row_is_within();
+    blocks_are_listed();
+    buffers_are_sources();
+    changes_lead_on();
+    joined_with_all();
+    joined_with_none();
+    kept_rows_are_fresh();
+    no_rows_are_kept();
+    ops_leave_the_rest();
+    rows_are_local();
+    steps_keep_states();
+    windows_are_leaves();
+    windows_tile_their_rectangle();
+}
+
+/// A redisplay that is sent leads from a session to a session, where its target has the frame's size and is sound. The call does
+/// nothing.
+pub fn redisplays_lead_on()
+    ensures { (rows : ℕ) (done : Bool) (stop : Option ℕ) (old new : SessionValue) (before after : Option (List ℕ)) → IsSession old
+        → IsOfSize old.state.width old.state.height (laid_out old.files old.state).picture → IsSound (laid_out old.files old.state).picture
+        → IsSent rows done stop old new before after → IsSession new }
+{
+    a_start_is_a_row();
+    accessible_positions_lie_in_blocks();
+    an_anchor_of_a_row_is_within();
+    blocks_are_listed();
+    buffers_are_sources();
+    changes_lead_on();
+    extensions_keep_objects();
+    kept_rows_are_fresh();
+    new_layouts_stand();
+    shift_law();
+    shifted_updates_keep_screens_sound();
+    windows_are_leaves();
+    windows_tile_their_rectangle();
+}
+
+/// What each window of a valid state shows has the sizes of its rectangle, and the cursor stands in the selected window's text, where the
+/// rows of texts are whole. The call does nothing.
+pub fn targets_fit_their_frames()
+    ensures { (files : Data) (s : StateValue) → AreRowsWhole → IsValid s → FitsFrame (frame_in files s) }
+{
+    a_start_is_a_row();
+    accessible_positions_lie_in_blocks();
+    an_anchor_of_a_row_is_within();
+    blocks_are_listed();
+    buffers_are_sources();
+    items_begin_in_the_window();
+    margins_are_whole();
+    mode_lines_are_whole();
+    plain_lines_are_whole();
+    windows_are_leaves();
+    windows_tile_their_rectangle();
+}
