@@ -14,3 +14,5 @@ mod SameReading
 mod EntryBlocks
 mod KeptRows
 mod Leading
+mod Marks
+mod WholeRows

@@ -47,7 +47,7 @@ none-ends (e ∷ es) inside row =
     let rest = none-ends es (All-tail IsInside e es inside) (All-tail (λ (x : Element). is_row_end x.look ≡ false) e es row) in
     rw here rest
 
-is-prefix : (es : List Element) → AreInside es → AreOfOneRow es → IsPrefix es
+pub is-prefix : (es : List Element) → AreInside es → AreOfOneRow es → IsPrefix es
 is-prefix es inside row = record { sound = λ k d within. (inside k d within).sound; on = none-ends es inside row }
 
 pub prefix-ok : (r : Result (List Element) Memory) → IfOk r AreInside → IfOk r AreOfOneRow → IfOk r IsPrefix

@@ -1,17 +1,26 @@
 //! What holds of the blocks of every buffer and of their rows, proved of the definitions.
-ghost use Rattle.std.specs.Prelude.{ℕ};
+ghost use Rattle.std.specs.Prelude.{ℕ, ◌≤◌, All};
+ghost use Rattle.rd_base.specs.declared.limits.TheConstants.{TAB_COLUMNS};
+ghost use Rattle.rd_base.specs.Cells.{IsColoured};
 ghost use Rattle.rd_text.specs.Texts.{IsText, IsAccessible};
 ghost use Rattle.rd_ucd.specs.Data.{Data};
+ghost use Rattle.rd_objects.specs.Sound.{AreCodes, AreObjects};
 ghost use Rattle.rd_objects.specs.Things.{ObjectLists};
 ghost use Rattle.rd_props.specs.Buffers.{BufferValue};
+ghost use Rattle.rd_rows.specs.Shapes.{ShapeValues, IsShape};
+ghost use Rattle.rd_rows.specs.Whole.{IsWhole};
+ghost use Rattle.rd_matrix.specs.declared.block.Block.{Block};
 ghost use Rattle.rd_matrix.specs.Blocks.{IsWithin};
-ghost use Rattle.rd_matrix.specs.Sources.{IsSource};
+ghost use Rattle.rd_matrix.specs.Sources.{IsSource, rows_at};
 ghost use Rattle.rd_blocks.specs.Sources.{text_source};
 
 use rd_glyphs::elements_are_sound;
 use rd_items::{blocks_are_listed, blocks_are_read_whole, items_cover_their_block};
-use rd_rows::rows_behind_quiet_prefixes;
-use rd_stack::{lines_end_once, prefixes_end_no_line};
+use rd_rows::{rows_are_coloured, rows_are_whole, rows_behind_quiet_prefixes};
+use rd_stack::{
+    lines_are_coloured, lines_are_sound, lines_end_once, prefixes_are_sound, prefixes_end_no_line,
+    readings_have_codes, scenes_are_sound,
+};
 
 /// Each buffer is a source of blocks, whatever objects and data files there are: it has blocks in order, and the rows of a block
 /// at a shape are at least one, of which the last and no other ends the block; and each position of a block is covered by exactly
@@ -33,4 +42,35 @@ pub fn accessible_positions_lie_in_blocks()
     ensures { (s : BufferValue) (objects : ObjectLists) (files : Data) (pos : ℕ) → IsAccessible s.text pos → IsWithin pos (text_source s objects files).blocks }
 {
     blocks_are_listed();
+}
+
+/// In each row of a block of a buffer, at a shape of 10 to 400 columns, each glyph stands whole, and the row has the shape's columns, where
+/// the objects are sound, a tab has 1 to 32 columns and each character of the text has a code. So it is in the rows of all blocks. The
+/// call does nothing.
+pub fn rows_of_buffers_are_whole()
+    ensures block { (s : BufferValue) (objects : ObjectLists) (files : Data) (b : Block) (shape : ShapeValues)
+        → AreObjects objects → 1 ≤ s.settings.tab_width → s.settings.tab_width ≤ TAB_COLUMNS → AreCodes s.text.text → IsShape shape
+        → All (IsWhole shape.width) ((text_source s objects files).rows_of b shape) }
+    ensures all { (s : BufferValue) (objects : ObjectLists) (files : Data) (shape : ShapeValues)
+        → AreObjects objects → 1 ≤ s.settings.tab_width → s.settings.tab_width ≤ TAB_COLUMNS → AreCodes s.text.text → IsShape shape
+        → All (λ e. IsWhole shape.width e.row) (rows_at (text_source s objects files) shape) }
+{
+    rows_are_whole();
+    lines_are_sound();
+    prefixes_are_sound();
+    prefixes_end_no_line();
+    readings_have_codes();
+    scenes_are_sound();
+}
+
+/// Each cell in the rows of a block of a buffer has its colours in range, where the objects are sound. So it is in the rows of all blocks.
+/// The call does nothing.
+pub fn rows_of_buffers_are_coloured()
+    ensures block { (s : BufferValue) (objects : ObjectLists) (files : Data) (b : Block) (shape : ShapeValues)
+        → AreObjects objects → All (λ r. All IsColoured r.cells) ((text_source s objects files).rows_of b shape) }
+    ensures all { (s : BufferValue) (objects : ObjectLists) (files : Data) (shape : ShapeValues)
+        → AreObjects objects → All (λ e. All IsColoured e.row.cells) (rows_at (text_source s objects files) shape) }
+{
+    rows_are_coloured();
+    lines_are_coloured();
 }

@@ -12,5 +12,8 @@ mod rows;
 
 pub use blocks::Blocks;
 pub use changes::changes_lead_on;
-pub use laws::{accessible_positions_lie_in_blocks, buffers_are_sources};
+pub use laws::{
+    accessible_positions_lie_in_blocks, buffers_are_sources, rows_of_buffers_are_coloured,
+    rows_of_buffers_are_whole,
+};
 pub use locality::{kept_rows_are_fresh, rows_are_local};
