@@ -16,7 +16,6 @@ use crate::laws::{settling_keeps_states, steps_keep_states};
 use crate::parts::Parts;
 use crate::refused::Refused;
 use crate::window::WindowState;
-use crate::windows;
 use indexmap::IndexMap;
 use rd_base::{Anchor, Ch, ListOf, Memory, Pos, Wrap};
 use rd_margins::Marks;
@@ -143,10 +142,7 @@ impl State {
     pub fn window(&self, w: u32) -> Option<&WindowState>
         ensures { option_map (λ v. v.now) result ≡ window_of w self.now.windows }
     {
-        match windows::find(self.parts.windows.as_slice(), w as u64) {
-            Ok(i) => Some(&self.parts.windows[i].1),
-            Err(_absent) => None,
-        }
+        self.parts.window(w)
     }
 
     /// All objects that were made.

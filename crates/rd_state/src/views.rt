@@ -1,5 +1,5 @@
 //! The ops on one window's view: what it shows, and from where on.
-ghost use Rattle.std.specs.Prelude.{◌≡◌, ◌<◌, IfOk, IfErr, IsSome, Some, is_ok, length, slice_get};
+ghost use Rattle.std.specs.Prelude.{◌≡◌, ◌<◌, IfOk, IfErr, IsSome, Some, is_ok, length, option_map, slice_get};
 ghost use Rattle.rd_script.specs.declared.op.Op.TheVariants.{Select, Show, Point, Start, Scroll, Hscroll, Wrap as SetWrap};
 ghost use Rattle.rd_script.specs.Forms.{IsInForm};
 ghost use Rattle.rd_state.specs.declared.refused.Refused.TheVariants.{OutOfRange};
@@ -14,6 +14,7 @@ use crate::buffers::{self, Buffers, text_at};
 use crate::effect::Effect;
 use crate::parts::Parts;
 use crate::refused::Refused;
+use crate::window::WindowState;
 use crate::windows::find;
 use rd_base::limits::PENDING_ROWS;
 use rd_base::{Anchor, Pos, Wrap};
@@ -109,6 +110,16 @@ impl Parts {
         let i = find(self.windows.as_slice(), window)?;
         self.windows[i].1.wrap = mode;
         Ok(Effect::Nothing)
+    }
+
+    /// The window with a number; None exactly where it does not live.
+    pub(crate) fn window(&self, number: u32) -> Option<&WindowState>
+        ensures { option_map (λ w. w.now) result ≡ window_of number self.now.windows }
+    {
+        match find(self.windows.as_slice(), number as u64) {
+            Ok(i) => Some(&self.windows[i].1),
+            Err(_absent) => None,
+        }
     }
 
     /// Sets where the view of a window that lives begins and its point, as a layout found them.

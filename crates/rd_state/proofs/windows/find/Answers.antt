@@ -1,4 +1,3 @@
-use Rattle.std.proofs.Common.{sym, ◌∙◌}
 use Rattle.rd_state.proofs.Finding.{nowhere}
 use Rattle.rd_state.proofs.windows.find.Goals as goal
 

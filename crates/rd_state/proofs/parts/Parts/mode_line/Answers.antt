@@ -1,9 +1,8 @@
-use Rattle.std.proofs.Common.{◌≡◌, is_some, refl, ap, sym, ◌∙◌}
+use Rattle.std.proofs.Common.{is_some, refl, ap, sym, ◌∙◌}
 use Rattle.rd_script.specs.declared.op.Op.TheVariants.{ModeLine}
 use Rattle.rd_tree.specs.Calls.{mode_tree}
 use Rattle.rd_state.specs.contracts.parts.Parts.{the_view}
 use Rattle.rd_state.specs.declared.window.WindowState.{WindowState}
-use Rattle.rd_state.specs.States.{StateValue}
 use Rattle.rd_state.specs.Effects.{effect_of}
 use Rattle.rd_state.specs.Steps.{refused_tree, step}
 use Rattle.rd_state.proofs.Finding.{found-in, some-found}

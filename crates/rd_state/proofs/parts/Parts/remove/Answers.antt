@@ -1,4 +1,4 @@
-use Rattle.std.proofs.Common.{◌≡◌, ◌==◌, if◌then◌else◌, refl, ap, ◌∙◌}
+use Rattle.std.proofs.Common.{◌==◌, if◌then◌else◌, refl, ap, ◌∙◌}
 use Rattle.rd_script.specs.declared.op.Op.TheVariants.{Remove}
 use Rattle.rd_tree.specs.Calls.{Configuration, remove_tree}
 use Rattle.rd_tree.specs.Windows.{first_leaf, sibling}

@@ -1,12 +1,10 @@
-use Rattle.std.proofs.Common.{◌≡◌, Ok, true, ℤ, ◌+ℤ◌, set, subst, refl, ap, sym, ◌∙◌}
+use Rattle.std.proofs.Common.{Ok, true, ℤ, ◌+ℤ◌, set, subst, refl, ap, sym, ◌∙◌}
 use Rattle.rd_state.specs.contracts.parts.Parts.{the_view}
 use Rattle.rd_state.specs.declared.window.WindowState.{WindowState}
-use Rattle.rd_state.specs.States.{StateValue}
 use Rattle.rd_state.specs.Effects.{effect_of}
 use Rattle.rd_state.specs.Steps.{held, step}
 use Rattle.rd_state.specs.Valid.{IsValid}
-use Rattle.rd_state.proofs.Finding.{found-in, some-found, one-entry, sets-window}
-use Rattle.rd_state.proofs.Sharing.{refuses}
+use Rattle.rd_state.proofs.Finding.{found-in, sets-window}
 use Rattle.rd_state.proofs.Viewing.{rows-near, rows-fit, rows-held}
 use Rattle.rd_state.proofs.parts.Parts.scroll.Goals as goal
 

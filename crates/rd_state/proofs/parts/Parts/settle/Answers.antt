@@ -1,9 +1,6 @@
-use Rattle.std.proofs.Common.{◌≡◌, false, pos, sym}
+use Rattle.std.proofs.Common.{false, pos, sym}
 use Rattle.rd_state.specs.contracts.parts.Parts.{the_view}
 use Rattle.rd_state.specs.declared.window.WindowState.{WindowState}
-use Rattle.rd_state.specs.States.{StateValue}
-use Rattle.rd_state.specs.Effects.{effect_of}
-use Rattle.rd_state.specs.Steps.{step}
 use Rattle.rd_state.proofs.Finding.{found-in, changes-window}
 use Rattle.rd_state.proofs.parts.Parts.settle.Goals as goal
 

@@ -1,14 +1,11 @@
-use Rattle.std.proofs.Common.{◌≡◌, Err, refl, ap, sym, ◌∙◌}
+use Rattle.std.proofs.Common.{Err, refl, ap, sym, ◌∙◌}
 use Rattle.rd_script.specs.declared.op.Op.TheVariants.{Show}
 use Rattle.rd_state.specs.declared.effect.Effect.TheVariants.{Window}
 use Rattle.rd_text.specs.Texts.{TextValue}
 use Rattle.rd_state.specs.contracts.parts.Parts.{the_view}
-use Rattle.rd_state.specs.declared.window.WindowState.{WindowState}
-use Rattle.rd_state.specs.States.{StateValue}
 use Rattle.rd_state.specs.Effects.{effect_of}
 use Rattle.rd_state.specs.Steps.{step}
-use Rattle.rd_state.specs.Valid.{IsValid}
-use Rattle.rd_state.proofs.Finding.{found-in, some-found, one-entry, sets-window}
+use Rattle.rd_state.proofs.Finding.{found-in, some-found}
 use Rattle.rd_state.proofs.Sharing.{refuses}
 use Rattle.rd_state.proofs.Viewing.{shows-buffer, shows-none}
 use Rattle.rd_state.proofs.parts.Parts.show.Goals as goal

@@ -1,15 +1,13 @@
-use Rattle.std.proofs.Common.{◌≡◌, false, pos, List, [], ◌∷◌, ◌++◌, get_or, subst, refl, ap, sym, ◌∙◌}
-use Rattle.rd_script.specs.declared.op.Op.TheVariants.{Split}
+use Rattle.std.proofs.Common.{false, pos, List, [], ◌∷◌, ◌++◌, get_or, subst, refl, ap, sym, ◌∙◌}
 use Rattle.rd_tree.specs.Calls.{split_tree}
 use Rattle.rd_state.specs.contracts.parts.Parts.{the_view}
 use Rattle.rd_state.specs.Valid.{IsValid}
 use Rattle.rd_state.proofs.ByNumber.{Entry}
 use Rattle.rd_state.specs.declared.window.WindowState.{WindowState}
-use Rattle.rd_state.specs.States.{StateValue}
 use Rattle.rd_state.specs.Effects.{effect_of}
-use Rattle.rd_state.specs.Steps.{refused_tree, step}
+use Rattle.rd_state.specs.Steps.{step}
 use Rattle.rd_state.proofs.Finding.{found-in}
-use Rattle.rd_state.proofs.Sharing.{refuses, asked, split-clamped, splits-window, split-refused}
+use Rattle.rd_state.proofs.Sharing.{split-clamped, splits-window, split-refused}
 use Rattle.rd_state.proofs.parts.Parts.split.Goals as goal
 
 pub returns-in_err-number : goal.returns-in_err-number

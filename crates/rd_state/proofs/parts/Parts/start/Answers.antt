@@ -3,11 +3,10 @@ use Rattle.std.specs.Prelude.{slice_get}
 use Rattle.rd_script.specs.declared.op.Op.TheVariants.{Start}
 use Rattle.rd_state.specs.contracts.parts.Parts.{the_view}
 use Rattle.rd_state.specs.declared.window.WindowState.{WindowState}
-use Rattle.rd_state.specs.States.{StateValue}
 use Rattle.rd_state.specs.Effects.{effect_of}
 use Rattle.rd_state.specs.Steps.{step}
 use Rattle.rd_state.specs.Valid.{IsValid}
-use Rattle.rd_state.proofs.Finding.{found-in, some-found, one-entry, sets-window}
+use Rattle.rd_state.proofs.Finding.{found-in, one-entry}
 use Rattle.rd_state.proofs.Sharing.{refuses}
 use Rattle.rd_state.proofs.Viewing.{shown-made, places-window, place-refused}
 use Rattle.rd_state.proofs.parts.Parts.start.Goals as goal
