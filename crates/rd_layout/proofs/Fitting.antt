@@ -181,8 +181,16 @@ mode-fits laws files facts width (Some format) some good = by (pieces_of format)
 
 -- ---- one window
 
-line-small : (t : text.TextValue) (pos : ℕ) → text.IsText t → text.line_of t pos < 2 ^ 64
+pub line-small : (t : text.TextValue) (pos : ℕ) → text.IsText t → text.line_of t pos < 2 ^ 32
 line-small t pos is =
+    let short = is.short in
+    let count = count_by-le-length text.is_newline (text.between t t.begin pos) in
+    let taken = length-take ((pos - 1) - (t.begin - 1)) (drop (t.begin - 1) t.text) in
+    let dropped = length-drop (t.begin - 1) t.text in
+    omega (arith, count, taken, dropped)
+
+line-told : (t : text.TextValue) (pos : ℕ) → text.IsText t → text.line_of t pos < 2 ^ 64
+line-told t pos is =
     let short = is.short in
     let count = count_by-le-length text.is_newline (text.between t t.begin pos) in
     let taken = length-take ((pos - 1) - (t.begin - 1)) (drop (t.begin - 1) t.text) in
@@ -219,7 +227,7 @@ module _ (laws : FitLaws) (files : Data) (s : StateValue) (valid : IsValid s) wh
       → IsMargin p.margins (margin_of files s.objects (shown_content s w) (widths_of w) e)
   margin-right w p e window leaf =
       subst (λ (n : ℕ). IsMargin n (margin_of files s.objects (shown_content s w) (widths_of w) e)) (ap (λ (x : Bool × ℕ). x.1) leaf)
-      (laws.margin files.classes (widths_of w) e.number (text.line_of (shown_content s w).text e.start) (margin_text s.objects (shown_content s w) e.start) (line-small (shown_content s w).text e.start (shown-right w window).text)
+      (laws.margin files.classes (widths_of w) e.number (text.line_of (shown_content s w).text e.start) (margin_text s.objects (shown_content s w) e.start) (line-told (shown_content s w).text e.start (shown-right w window).text)
       (string-codes w e.start))
 
   window-fits : (w : WindowState) (p : Placed) → place_of p.number s ≡ Some p → IsWindow s.buffers w → leaf_of w ≡ (p.mode, p.margins)

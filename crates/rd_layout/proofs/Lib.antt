@@ -1,6 +1,7 @@
 pub mod ByNumber
 pub mod Calm
 pub mod Chosen
+pub mod Determined
 pub mod Fitting
 pub mod Keeping
 pub mod Known
@@ -11,4 +12,5 @@ pub mod Placing
 pub mod Positions
 pub mod Sending
 pub mod Settling
+pub mod Soundness
 pub mod Standing

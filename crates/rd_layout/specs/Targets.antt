@@ -1,5 +1,6 @@
 -- What target screens rest on.
 use Rattle.std.specs.Prelude.{ℕ, ◌≤◌, All}
+use Rattle.rd_base.specs.Cells.{IsColoured}
 use Rattle.rd_base.specs.declared.limits.TheConstants.{TAB_COLUMNS}
 use Rattle.rd_blocks.specs.Sources.{text_source}
 use Rattle.rd_matrix.specs.Sources.{rows_at}
@@ -15,3 +16,8 @@ abbrev pub AreRowsWhole : Type 0
 AreRowsWhole = (s : BufferValue) (objects : ObjectLists) (files : Data) (shape : ShapeValues)
     → AreObjects objects → 1 ≤ s.settings.tab_width → s.settings.tab_width ≤ TAB_COLUMNS → AreCodes s.text.text → IsShape shape
     → All (λ e. IsWhole shape.width e.row) (rows_at (text_source s objects files) shape)
+
+-- and each colour is in its range
+abbrev pub AreRowsColoured : Type 0
+AreRowsColoured = (s : BufferValue) (objects : ObjectLists) (files : Data) (shape : ShapeValues)
+    → AreObjects objects → All (λ e. All IsColoured e.row.cells) (rows_at (text_source s objects files) shape)

@@ -19,18 +19,20 @@ ghost use Rattle.rd_update.specs.Laws.{IsSound};
 ghost use Rattle.rd_visual.specs.Hits.{AreInPositions};
 ghost use Rattle.rd_window.specs.Layouts.{StandsUnchanged, change_since, older_rows};
 ghost use Rattle.rd_window.specs.declared.layout.Layout.{Layout};
+ghost use Rattle.rd_layout.specs.Copies.{redisplayed, without_copies};
 ghost use Rattle.rd_layout.specs.Redisplays.{IsSent, bands_of};
 ghost use Rattle.rd_layout.specs.Screens.{frame_in, laid_out};
 ghost use Rattle.rd_layout.specs.Sessions.{IsStep, SessionValue, behind, layout_of, opened, session_step};
 ghost use Rattle.rd_layout.specs.Since.{IsSession};
-ghost use Rattle.rd_layout.specs.Targets.{AreRowsWhole};
+ghost use Rattle.rd_layout.specs.Targets.{AreRowsColoured, AreRowsWhole};
 ghost use Rattle.rd_layout.specs.Windows.{place_of, view_in, window_shape, window_source};
 
 use rd_blocks::{
     accessible_positions_lie_in_blocks, buffers_are_sources, changes_lead_on, kept_rows_are_fresh,
     rows_are_local,
 };
-use rd_glyphs::plain_lines_are_whole;
+use rd_frame::{borders_are_whole, frames_are_pictures};
+use rd_glyphs::{glyph_texts_are_sound, plain_lines_are_whole};
 use rd_items::blocks_are_listed;
 use rd_lineshift::{shift_law, shifted_updates_keep_screens_sound};
 use rd_margins::margins_are_whole;
@@ -113,6 +115,12 @@ pub fn redisplays_lead_on()
     windows_tile_their_rectangle();
 }
 
+/// A redisplay that is sent leaves one session, but for how often rows were copied. The call does nothing.
+pub fn sent_redisplays_are_determined()
+    ensures { (rows : ℕ) (done : Bool) (stop : Option ℕ) (old new : SessionValue) (before after : Option (List ℕ)) → IsSent rows done stop old new before after
+        → without_copies new ≡ redisplayed old stop }
+{}
+
 /// What each window of a valid state shows has the sizes of its rectangle, and the cursor stands in the selected window's text, where the
 /// rows of texts are whole. The call does nothing.
 pub fn targets_fit_their_frames()
@@ -123,6 +131,28 @@ pub fn targets_fit_their_frames()
     an_anchor_of_a_row_is_within();
     blocks_are_listed();
     buffers_are_sources();
+    items_begin_in_the_window();
+    margins_are_whole();
+    mode_lines_are_whole();
+    plain_lines_are_whole();
+    windows_are_leaves();
+    windows_tile_their_rectangle();
+}
+
+/// The target of a redisplay has the frame's size, is well formed and has its colours in range, where the rows of texts are whole and
+/// coloured. The call does nothing.
+pub fn targets_are_sound()
+    ensures size { (files : Data) (s : StateValue) → AreRowsWhole → IsValid s → IsOfSize s.width s.height (laid_out files s).picture }
+    ensures sound { (files : Data) (s : StateValue) → AreRowsWhole → AreRowsColoured → IsValid s → IsSound (laid_out files s).picture }
+{
+    a_start_is_a_row();
+    accessible_positions_lie_in_blocks();
+    an_anchor_of_a_row_is_within();
+    blocks_are_listed();
+    borders_are_whole();
+    buffers_are_sources();
+    frames_are_pictures();
+    glyph_texts_are_sound();
     items_begin_in_the_window();
     margins_are_whole();
     mode_lines_are_whole();

@@ -7,6 +7,7 @@ mod laws;
 mod outcome;
 
 pub use laws::{
-    redisplays_keep_states, redisplays_lead_on, sessions_stay_known, targets_fit_their_frames,
+    redisplays_keep_states, redisplays_lead_on, sent_redisplays_are_determined,
+    sessions_stay_known, targets_are_sound, targets_fit_their_frames,
 };
 pub use outcome::Outcome;

@@ -1,0 +1,199 @@
+-- Each part of a target screen is whole and coloured.
+use Rattle.std.proofs.Common.{◌≡◌, ◌≢◌, ℕ, zero, suc, ◌+◌, ◌-◌, ◌^◌, ◌<◌, ◌≤◌, ◌==◌, ◌&&◌, ◌||◌, Bool, true, false, is_some, nat_le, Option, None, Some, Result, Ok, Err, List, [], ◌∷◌, length, map, sym, ap, refl, subst, subst₂, ◌∙◌, arith, unwrap_or}
+use Rattle.std.proofs.lemmas.Bool.{and_parts, eqb-true}
+use Rattle.std.proofs.lemmas.List.Elements.{All-cons, All-map, All-nil, recursion_from_All}
+use Rattle.std.proofs.lemmas.Option.{get_or_from_slice_get, slice_get_within}
+use Rattle.std.specs.List.{All, list_all}
+use Rattle.std.specs.Option.{option_and_then}
+use Rattle.std.specs.Prelude.{IfSome, IsTrue, slice_get, slice_index_or}
+use Rattle.std.specs.Str.{chars}
+use Rattle.rd_base.specs.Cells.{AreColoured, HasColours, IsColoured}
+use Rattle.rd_base.specs.Chars.{is_code, is_scalar}
+use Rattle.rd_base.specs.Faces.{Attributes, plain}
+use Rattle.rd_base.specs.Glyphs.{AreMeasured, IsMeasuredLook, IsRowAfter}
+use Rattle.rd_base.specs.declared.cell.Cell.{Cell}
+use Rattle.rd_base.specs.declared.cell.Glyph.{Glyph}
+use Rattle.rd_base.specs.declared.element.Element.{Element}
+use Rattle.rd_base.specs.declared.element.Origin.{Origin}
+use Rattle.rd_blocks.specs.Sources.{text_source}
+use Rattle.rd_frame.specs.Fits.{EachPart, EachPartOf, FitsFrame, IsColouredFrame, IsWholeFrame}
+use Rattle.rd_frame.specs.Frames.{FrameValues, frame_picture, frame_rows}
+use Rattle.rd_frame.specs.Held.{glyph_row}
+use Rattle.rd_frame.specs.Panes.{GlyphRow, PaneValues, border_cell}
+use Rattle.rd_glyphs.specs.Characters.{glyph_elements}
+use Rattle.rd_glyphs.specs.Lines.{plain_cells}
+use Rattle.rd_items.specs.Pieces.{table_in}
+use Rattle.rd_matrix.specs.Entries.{EntryMeaning}
+use Rattle.rd_matrix.specs.Sources.{rows_at}
+use Rattle.rd_modeline.specs.Formats.{fault_in, pieces_of}
+use Rattle.rd_modeline.specs.Lines.{line_cells}
+use Rattle.rd_modeline.specs.Values.{AreFacts, FactValues}
+use Rattle.rd_modeline.specs.declared.piece.Piece.{Piece}
+use Rattle.rd_objects.specs.Sound.{AreCodes, AreObjects}
+use Rattle.rd_objects.specs.Tables.{IsTable, TableValue, is_glyph_character, is_glyph_text, is_slot_glyph}
+use Rattle.rd_objects.specs.Things.{ObjectLists}
+use Rattle.rd_props.specs.Buffers as props
+use Rattle.rd_rows.specs.Shapes.{ShapeValues}
+use Rattle.rd_rows.specs.Whole.{IsMark}
+use Rattle.rd_script.specs.Forms.{each, is_buffer_name, is_name_character, is_plain_text}
+use Rattle.rd_state.specs.States.{BufferValue, ContentValue, StateValue, new_buffer, seen}
+use Rattle.rd_state.specs.Valid.{IsGoodFormat, IsValid, IsWindow}
+use Rattle.rd_state.specs.Windows.{leaf_of, shown_content, window_of}
+use Rattle.rd_state.specs.declared.window.WindowState.{WindowState}
+use Rattle.rd_term.specs.Pictures.{IsOfSize, IsWellFormed}
+use Rattle.rd_text.specs.Texts as text
+use Rattle.rd_tree.specs.declared.placed.Placed.{Placed}
+use Rattle.rd_ucd.specs.Data.{Data}
+use Rattle.rd_ucd.specs.declared.spans.Span.{Span}
+use Rattle.rd_update.specs.Laws.{IsSound}
+use Rattle.rd_window.specs.Views.{WindowView}
+use Rattle.rd_layout.specs.Panes.{border_in, border_slot, cells_of_pieces, facts_of, margin_of, mode_line, pane_of, widths_of}
+use Rattle.rd_layout.specs.Screens.{frame_in, laid_out, pane_at, pane_by}
+use Rattle.rd_layout.specs.Windows.{place_of, places, shown_buffer, view_in, window_shape, window_source}
+use Rattle.rd_layout.proofs.ByNumber.{buffer-there}
+use Rattle.rd_layout.proofs.Fitting.{FitLaws, fits, in-view, line-small, margin-right, place-window, shown-right, view-whole}
+use Rattle.rd_layout.proofs.Placed.{all-places}
+
+-- what the layers below say
+pub record SoundLaws : Type 0 where
+  pub fit : FitLaws
+  pub coloured : (s : props.BufferValue) (objects : ObjectLists) (files : Data) (shape : ShapeValues) → AreObjects objects → All (λ (e : EntryMeaning). All IsColoured e.row.cells) (rows_at (text_source s objects files) shape)
+  pub mode_coloured : (classes : List Span) (facts : FactValues) (width : ℕ) (pieces : List Piece) → All IsColoured (line_cells classes facts width pieces)
+  pub mode_whole : (classes : List Span) (facts : FactValues) (width : ℕ) (format : List ℕ) (pieces : List Piece) → AreFacts facts → All (λ c. IsTrue (is_code c)) format → pieces_of format ≡ Ok pieces → IsRowAfter 0 (line_cells classes facts width pieces)
+  pub plain_whole : (classes : List Span) (face : Attributes) (width : ℕ) (text : List ℕ) → All (λ c. IsTrue (is_code c)) text → IsRowAfter 0 (plain_cells classes face width text)
+  pub plain_coloured : (classes : List Span) (face : Attributes) (width : ℕ) (text : List ℕ) → HasColours face → All IsColoured (plain_cells classes face width text)
+  pub bar : IsRowAfter 0 (border_cell None ∷ [])
+  pub slot : (slot : Glyph) → IsMark slot → IsRowAfter 0 (border_cell (Some slot) ∷ [])
+  pub border_coloured : (slot : Option Glyph) → All IsColoured (border_cell slot ∷ [])
+  pub measured : (face : Attributes) (origin : Origin) (text : List Glyph) → IsTrue (is_glyph_text text) → AreMeasured (glyph_elements face origin text)
+  pub whole : (f : FrameValues) → FitsFrame f → IsWholeFrame f → IsWellFormed (frame_picture f)
+  pub frame_coloured : (f : FrameValues) → IsColouredFrame f → AreColoured (frame_rows f)
+
+-- ---- characters
+
+or-true : (a b : Bool) → a ≡ true → (a || b) ≡ true
+or-true true b h = refl
+or-true false b h = absurd (cc)
+
+codes-each : (text : List ℕ) → each is_scalar text ≡ true → AreCodes text
+codes-each [] h = All-nil (λ (c : ℕ). IsTrue (is_code c))
+codes-each (c ∷ cs) h =
+    let parts = and_parts (is_scalar c) (each is_scalar cs) h in
+    All-cons (λ (x : ℕ). IsTrue (is_code x)) c cs (or-true (is_scalar c) _ parts.0) (codes-each cs parts.1)
+
+plain-codes : (text : List ℕ) → IsTrue (is_plain_text text) → AreCodes text
+plain-codes text h = codes-each text (and_parts (each is_scalar text) _ h).0
+
+-- the characters of a buffer's name
+name-each : (cs : List ℕ) → list_all is_name_character cs ≡ true → AreCodes cs
+name-each [] h = All-nil (λ (c : ℕ). IsTrue (is_code c))
+name-each (c ∷ cs) h =
+    let parts = and_parts (is_name_character c) (list_all is_name_character cs) h in
+    All-cons (λ (x : ℕ). IsTrue (is_code x)) c cs (or-true (is_scalar c) _ (and_parts (is_scalar c) _ parts.0).0) (name-each cs parts.1)
+
+name-codes : (name : List ℕ) → IsTrue (is_buffer_name name) → AreCodes (chars name)
+name-codes name h = name-each (chars name) (and_parts _ (list_all is_name_character (chars name)) h).1
+
+-- ---- the border
+
+slot-mark : SoundLaws → (g : Glyph) → IsTrue (is_slot_glyph g) → IsMark g
+slot-mark laws g h =
+    let parts = and_parts (is_glyph_character g) (g.width == 1) h in
+    let one : IsTrue (is_glyph_text (g ∷ [])) = ap (λ (t : Bool). t && true) parts.0 in
+    let origin : Origin = record { item = 0; from = 0; to = 0 } in
+    let all = recursion_from_All (λ (e : Element). IsMeasuredLook e.look) (glyph_elements plain origin (g ∷ [])) (laws.measured plain origin (g ∷ []) one) in
+    record { measured = all.0; columns = eqb-true g.width 1 parts.1 }
+
+border-whole : SoundLaws → (o : Option Glyph) → ((g : Glyph) → o ≡ Some g → IsTrue (is_slot_glyph g)) → IsRowAfter 0 (border_cell o ∷ [])
+border-whole laws None h = laws.bar
+border-whole laws (Some g) h = laws.slot g (slot-mark laws g (h g refl))
+
+module _ (laws : SoundLaws) (files : Data) (s : StateValue) (valid : IsValid s) where
+  slot-right : (c : ContentValue) (g : Glyph) → border_slot s.objects c ≡ Some g → IsTrue (is_slot_glyph g)
+  slot-right c g h = by (table_in s.objects c.settings.table) (table-right c.settings.table) h where
+    table-right : (number : Option ℕ) (t : TableValue) → table_in s.objects number ≡ Some t → IsTable t
+    table-right None t h = absurd (cc)
+    table-right (Some n) t h = subst IsTable (get_or_from_slice_get s.objects.tables n t t h) (valid.objects.tables n t (slice_get_within s.objects.tables n t h))
+
+    by : (o : Option TableValue) → ((t : TableValue) → o ≡ Some t → IsTable t) → border_in o ≡ Some g → IsTrue (is_slot_glyph g)
+    by None f h = absurd (cc)
+    by (Some t) f h = (f t refl).border g h
+
+  -- ---- mode lines
+
+  facts-right : (w : WindowState) (v : WindowView) → IsWindow s.buffers w → AreFacts (facts_of (shown_buffer s w) v)
+  facts-right w v window =
+      let b = buffer-there s.buffers w.buffer window.made in
+      let is : b.0 ≡ shown_buffer s w = sym (ap (λ (o : Option BufferValue). unwrap_or o (new_buffer [])) b.1) in
+      subst (λ (x : BufferValue). AreFacts (facts_of x v)) is
+      (record { name = name-codes b.0.name (valid.buffers.names w.buffer b.0 b.1); line = line-small b.0.content.text v.point (valid.buffers.contents w.buffer b.0 b.1).text })
+
+  mode-whole : (facts : FactValues) (width : ℕ) (format : Option (List ℕ)) → AreFacts facts → IfSome format IsGoodFormat → IsRowAfter 0 (mode_line files facts width format)
+  mode-whole facts width None are good = tt
+  mode-whole facts width (Some format) are good = by (pieces_of format) refl where
+    by : (r : Result (List Piece) ℕ) → pieces_of format ≡ r → IsRowAfter 0 (cells_of_pieces files facts width r)
+    by (Ok ps) is = laws.mode_whole files.classes facts width format ps are (plain-codes format good.plain) is
+    by (Err place) is = tt
+
+  mode-coloured : (facts : FactValues) (width : ℕ) (format : Option (List ℕ)) → All IsColoured (mode_line files facts width format)
+  mode-coloured facts width None = All-nil IsColoured
+  mode-coloured facts width (Some format) = by (pieces_of format) where
+    by : (r : Result (List Piece) ℕ) → All IsColoured (cells_of_pieces files facts width r)
+    by (Ok ps) = laws.mode_coloured files.classes facts width ps
+    by (Err place) = All-nil IsColoured
+
+  -- ---- windows
+
+  whole-part : (w : WindowState) (p : Placed) → place_of p.number s ≡ Some p → IsWindow s.buffers w → leaf_of w ≡ (p.mode, p.margins) → EachPart (IsRowAfter 0) (pane_of files s w p (view_in files s w p)) p
+  whole-part w p at window leaf =
+      let whole = view-whole laws.fit files s valid w p at window in
+      let row = glyph_row (margin_of files s.objects (shown_content s w) (widths_of w)) in
+      record {
+        margins = All-map (λ (r : GlyphRow). IsRowAfter 0 r.margin) row (view_in files s w p).rows (λ k d less. (margin-right laws.fit files s valid w p (slice_index_or (view_in files s w p).rows k d) window leaf).whole);
+        texts = All-map (λ (r : GlyphRow). IsRowAfter 0 r.text) row (view_in files s w p).rows (λ k d less. (whole k d less).whole);
+        border = border-whole laws (border_slot s.objects (shown_content s w)) (slot-right (shown_content s w));
+        mode_line = λ shown. mode-whole (facts_of (shown_buffer s w) (view_in files s w p)) p.rect.width w.format (facts-right w (view_in files s w p) window) window.format;
+      }
+
+  coloured-part : (w : WindowState) (p : Placed) → place_of p.number s ≡ Some p → IsWindow s.buffers w → leaf_of w ≡ (p.mode, p.margins) → EachPart (All IsColoured) (pane_of files s w p (view_in files s w p)) p
+  coloured-part w p at window leaf =
+      let coloured = in-view laws.fit files s valid (λ (e : EntryMeaning). All IsColoured e.row.cells) w p (laws.coloured (seen (shown_content s w)) s.objects files (window_shape s w p) valid.objects) in
+      let row = glyph_row (margin_of files s.objects (shown_content s w) (widths_of w)) in
+      record {
+        margins = All-map (λ (r : GlyphRow). All IsColoured r.margin) row (view_in files s w p).rows (λ k d less. (margin-right laws.fit files s valid w p (slice_index_or (view_in files s w p).rows k d) window leaf).coloured);
+        texts = All-map (λ (r : GlyphRow). All IsColoured r.text) row (view_in files s w p).rows coloured;
+        border = laws.border_coloured (border_slot s.objects (shown_content s w));
+        mode_line = λ shown. mode-coloured (facts_of (shown_buffer s w) (view_in files s w p)) p.rect.width w.format;
+      }
+
+  part-by : (P : List Cell → Type 0) (p : Placed) → place_of p.number s ≡ Some p
+      → ((w : WindowState) → IsWindow s.buffers w → leaf_of w ≡ (p.mode, p.margins) → EachPart P (pane_of files s w p (view_in files s w p)) p) → EachPart P (pane_at files s p) p
+  part-by P p at each =
+      let w = place-window laws.fit files s valid p at in
+      subst (λ (o : Option WindowState). EachPart P (pane_by files s p o) p) (sym w.1) (each w.0 (laws.fit.found s p.number w.0 valid w.1) w.2)
+
+  whole-frame : IsWholeFrame (frame_in files s)
+  whole-frame = record {
+    windows = all-places laws.fit.places s valid (λ (p : Placed). EachPart (IsRowAfter 0) (pane_at files s p) p) (λ p at. part-by (IsRowAfter 0) p at (λ w window leaf. whole-part w p at window leaf));
+    echo = laws.plain_whole files.classes plain s.width s.echo (plain-codes s.echo valid.echo);
+  }
+
+  coloured-frame : IsColouredFrame (frame_in files s)
+  coloured-frame = record {
+    windows = all-places laws.fit.places s valid (λ (p : Placed). EachPart (All IsColoured) (pane_at files s p) p) (λ p at. part-by (All IsColoured) p at (λ w window leaf. coloured-part w p at window leaf));
+    echo = laws.plain_coloured files.classes plain s.width s.echo plain-colours;
+  } where
+    plain-colours : HasColours plain
+    plain-colours = record { fg = omega arith; bg = omega arith }
+
+  -- ---- the target
+
+  pub target-sound : IsSound (laid_out files s).picture
+  unfolding laid_out
+  target-sound = record { whole = laws.whole (frame_in files s) (fits laws.fit files s valid) whole-frame; colours = laws.frame_coloured (frame_in files s) coloured-frame }
+
+pub target-size : FitLaws → ((f : FrameValues) → FitsFrame f → IsOfSize f.tree.width (f.tree.height + 1) (frame_picture f)) → (files : Data) (s : StateValue) → IsValid s
+    → IsOfSize s.width s.height (laid_out files s).picture
+unfolding laid_out
+target-size laws size files s valid =
+    subst₂ (λ (w : ℕ) (h : ℕ). IsOfSize w h (frame_picture (frame_in files s))) valid.frame.columns valid.frame.rows (size (frame_in files s) (fits laws files s valid))
