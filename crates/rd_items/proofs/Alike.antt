@@ -36,6 +36,12 @@ module _ (law : StopLaw) (s : BufferValue) (o : ObjectLists) (p stop : ℕ) (beh
     by-end (inl next) = (law s o p stop next).strings q later before
     by-end (inr end) = absurd (omega arith)
 
+  within-from : p < s.text.end → stop ≤ s.text.end
+  within-from before = by-end behind where
+    by-end : IsStopBehind s p stop → stop ≤ s.text.end
+    by-end (inl next) = next.within
+    by-end (inr end) = absurd (omega arith)
+
   -- the positions up to where a stretch ends
   pub stretch-from : (showing : Showing) → showing ≡ showing_at s o p → IsStretch s o (record { from = p; until = stop; showing = showing })
-  stretch-from showing same = record { alike = alike-from showing same; bare = bare-from }
+  stretch-from showing same = record { within = within-from; alike = alike-from showing same; bare = bare-from }

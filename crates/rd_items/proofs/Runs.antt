@@ -127,18 +127,18 @@ run-jumps s o first showing (suc d) p within alike more =
     let place : p + suc d ≡ suc p + d = omega arith in
     rw place (omega arith)
 
-alike-at : (s : BufferValue) (o : ObjectLists) (stretch : Stretch) (p r : ℕ) → IsStretch s o stretch → stretch.from ≡ p → p ≤ r → r < stretch.until → showing_at s o r ≡ stretch.showing
+alike-at : (s : BufferValue) (o : ObjectLists) (stretch : Stretch) (p r : ℕ) → IsStretch s o stretch → stretch.from ≤ p → p ≤ r → r < stretch.until → showing_at s o r ≡ stretch.showing
 alike-at s o stretch p r is from first before = is.alike r (omega arith) before
 
 -- all positions of a stretch belong to a run, where its first does
-pub stretch-goes-on : (s : BufferValue) (o : ObjectLists) (first : Showing) (stretch : Stretch) (p n : ℕ) → IsStretch s o stretch → stretch.from ≡ p → p < stretch.until → stretch.until ≤ s.text.end → goes_on first stretch.showing ≡ true → p + run_length s.settings.invisible first (reading s o p) ≡ n → stretch.until + run_length s.settings.invisible first (reading s o stretch.until) ≡ n
+pub stretch-goes-on : (s : BufferValue) (o : ObjectLists) (first : Showing) (stretch : Stretch) (p n : ℕ) → IsStretch s o stretch → stretch.from ≤ p → p < stretch.until → stretch.until ≤ s.text.end → goes_on first stretch.showing ≡ true → p + run_length s.settings.invisible first (reading s o p) ≡ n → stretch.until + run_length s.settings.invisible first (reading s o stretch.until) ≡ n
 stretch-goes-on s o first stretch p n is from some within more so-far =
     let place : p + (stretch.until - p) ≡ stretch.until = omega arith in
     let jump = run-jumps s o first stretch.showing (stretch.until - p) p (omega arith) (λ r a b. alike-at s o stretch p r is from a (omega arith)) more in
     rw place at jump ∙ so-far
 
 -- else the run ends before it
-pub stretch-stops : (s : BufferValue) (o : ObjectLists) (first : Showing) (stretch : Stretch) (p n : ℕ) → IsStretch s o stretch → stretch.from ≡ p → p < stretch.until → p < s.text.end → goes_on first stretch.showing ≡ false → p + run_length s.settings.invisible first (reading s o p) ≡ n → p ≡ n
+pub stretch-stops : (s : BufferValue) (o : ObjectLists) (first : Showing) (stretch : Stretch) (p n : ℕ) → IsStretch s o stretch → stretch.from ≤ p → p < stretch.until → p < s.text.end → goes_on first stretch.showing ≡ false → p + run_length s.settings.invisible first (reading s o p) ≡ n → p ≡ n
 stretch-stops s o first stretch p n is from some before none so-far =
     let here : goes_on first (showing_at s o p) ≡ false = ap (goes_on first) (alike-at s o stretch p p is from (omega arith) some) ∙ none in
     let length : run_length s.settings.invisible first (reading s o p) ≡ 0 = ap (run_length s.settings.invisible first) (reading-step s o p before) ∙ rw here in

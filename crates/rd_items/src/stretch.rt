@@ -20,8 +20,10 @@ pub struct Stretch {
 }
 
 impl Stretch {
-    ghost use Rattle.std.specs.Prelude.{◌≡◌};
-    ghost use Rattle.rd_items.specs.Stretches.{holds_later, IsStretchOfAny};
+    ghost use Rattle.std.specs.Prelude.{◌≡◌, ◌<◌, ◌≤◌, OnOk};
+    ghost use Rattle.rd_text.specs.Texts.{IsAccessible};
+    ghost use Rattle.rd_props.specs.Buffers.{meaning};
+    ghost use Rattle.rd_items.specs.Stretches.{holds, IsStretch, IsStretchOfAny};
 
     /// A stretch without positions.
     pub fn nowhere() -> Stretch
@@ -38,11 +40,26 @@ impl Stretch {
         }
     }
 
-    /// Whether a position is one of these, but not the first.
-    pub fn holds_later(&self, pos: Pos) -> bool
-        ensures { result ≡ holds_later self.now pos }
+    /// Whether a position is one of these.
+    fn holds(&self, pos: Pos) -> bool
+        ensures { result ≡ holds self.now pos }
     {
-        self.from < pos && pos < self.until
+        self.from <= pos && pos < self.until
+    }
+
+    /// Becomes the stretch from a position, unless that is one of its own.
+    pub fn reach(&mut self, alloc: Global, view: &View, pos: Pos) -> Result<(), Memory>
+        requires accessible { IsAccessible view.now.state.now.text pos }
+        requires stretch { IsStretch (meaning view.now.state.now) view.now.objects.now self.old }
+        ensures from { OnOk result (self.new.from ≤ pos) }
+        ensures until { OnOk result (pos < self.new.until) }
+        ensures stretch { OnOk result (IsStretch (meaning view.now.state.now) view.now.objects.now self.new) }
+    {
+        if self.holds(pos) {
+            return Ok(());
+        }
+        *self = stretch_at(alloc, view, pos)?;
+        Ok(())
     }
 }
 
@@ -77,11 +94,19 @@ fn stop_behind(view: &View, pos: Pos) -> Pos
     }
 }
 
-/// The first position behind one that doesn't belong to its run.
-pub fn run_end(alloc: Global, view: &View, pos: Pos, showing: &Showing) -> Result<Pos, Memory>
+/// The first position behind one that doesn't belong to its run. The stretch goes on to it, so that no stretch is looked up twice.
+pub fn run_end(
+    alloc: Global,
+    view: &View,
+    stretch: &mut Stretch,
+    pos: Pos,
+    showing: &Showing,
+) -> Result<Pos, Memory>
     requires accessible { IsAccessible view.now.state.now.text pos }
     requires showing { showing.now ≡ showing_at (meaning view.now.state.now) view.now.objects.now pos }
-    ensures { IfOk result (λ to. to ≡ suc pos + run_length view.now.state.now.settings.invisible showing.now (behind (reading (meaning view.now.state.now) view.now.objects.now pos))) }
+    requires stretch { IsStretch (meaning view.now.state.now) view.now.objects.now stretch.old }
+    ensures stretch { IfOk result (λ to. IsStretch (meaning view.now.state.now) view.now.objects.now stretch.new) }
+    ensures end { IfOk result (λ to. to ≡ suc pos + run_length view.now.state.now.settings.invisible showing.now (behind (reading (meaning view.now.state.now) view.now.objects.now pos))) }
 {
     let state = view.state;
     let end = state.text.end();
@@ -90,7 +115,7 @@ pub fn run_end(alloc: Global, view: &View, pos: Pos, showing: &Showing) -> Resul
         return Ok(to);
     }
     while to < end {
-        let stretch = stretch_at(alloc, view, to)?;
+        stretch.reach(alloc, view, to)?;
         if !showing.goes_on(&stretch.showing) {
             return Ok(to);
         }

@@ -9,7 +9,7 @@ ghost use Rattle.rd_items.specs.Pieces.{IsMeasuredPiece};
 use crate::item::{Item, ItemKind};
 use crate::piece::{Piece, piece_at};
 use crate::showing::{Showing, char_at, ends_block};
-use crate::stretch::{Stretch, run_end, stretch_at};
+use crate::stretch::{Stretch, run_end};
 use rd_base::{Face, Glyph, ListOf, Memory, Pos};
 use rd_glyphs::join;
 use rd_props::{View, strings_at};
@@ -159,10 +159,10 @@ impl Walk {
         ensures measured { IsMeasuredWalk self.old.items self.old.held → IfOk result (λ showing. IsMeasuredWalk self.new.items self.new.held) }
         ensures whole { IfOk result (λ showing. (xs : List Piece) → whole self.new.items self.new.since self.new.held xs ≡ whole self.old.items self.old.since self.old.held (string_pieces (pos - start) showing.face (strings_at (meaning view.now.state.now) pos) ++ xs)) }
     {
-        if stretch.holds_later(pos) {
+        stretch.reach(alloc, view, pos)?;
+        if stretch.from < pos {
             return Ok(stretch.showing);
         }
-        *stretch = stretch_at(alloc, view, pos)?;
         let strings = strings_at(alloc, view, pos)?;
         self.put_strings(pos - start, stretch.showing.face, strings.as_slice())?;
         Ok(stretch.showing)
@@ -186,7 +186,7 @@ impl Walk {
         ensures steps { Steps result (meaning view.now.state.now) (scene_of view.now) start pos (whole self.old.items self.old.since self.old.held) (whole self.new.items self.new.since self.new.held) }
     {
         let showing = self.enter(alloc, view, stretch, start, pos)?;
-        let to = run_end(alloc, view, pos, &showing)?;
+        let to = run_end(alloc, view, stretch, pos, &showing)?;
         self.put(piece_at(view, &showing, char_at(view, pos), pos - start, to - start))?;
         if ends_block(view, pos, &showing) {
             return Ok(None);

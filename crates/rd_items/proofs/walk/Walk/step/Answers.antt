@@ -13,7 +13,7 @@ returns-then-ends_block-clause-steps c =
     (whole c.args.self.now.items c.args.self.now.since c.args.self.now.held)
     (whole c.enter.new.self.items c.enter.new.self.since c.enter.new.self.held)
     (whole c.put.new.self.items c.put.new.self.since c.put.new.self.held)
-    (record { strings = c.in_ok-showing.ensures.whole; put = c.in_ok-put.ensures.whole; shown = c.in_ok-showing.ensures.showing; run = c.in_ok-to.ensures; piece = c.piece_at.ensures.value ∙ rw c.char_at.ensures; first = c.requires.behind; last = c.requires.accessible.1 })
+    (record { strings = c.in_ok-showing.ensures.whole; put = c.in_ok-put.ensures.whole; shown = c.in_ok-showing.ensures.showing; run = c.in_ok-to.ensures.end; piece = c.piece_at.ensures.value ∙ rw c.char_at.ensures; first = c.requires.behind; last = c.requires.accessible.1 })
     (sym c.ends_block.ensures ∙ c.if-ends_block.true)
 
 pub returns-clause-steps : goal.returns-clause-steps
@@ -25,5 +25,5 @@ returns-clause-steps c =
     (whole c.args.self.now.items c.args.self.now.since c.args.self.now.held)
     (whole c.enter.new.self.items c.enter.new.self.since c.enter.new.self.held)
     (whole c.put.new.self.items c.put.new.self.since c.put.new.self.held)
-    (record { strings = c.in_ok-showing.ensures.whole; put = c.in_ok-put.ensures.whole; shown = c.in_ok-showing.ensures.showing; run = c.in_ok-to.ensures; piece = c.piece_at.ensures.value ∙ rw c.char_at.ensures; first = c.requires.behind; last = c.requires.accessible.1 })
+    (record { strings = c.in_ok-showing.ensures.whole; put = c.in_ok-put.ensures.whole; shown = c.in_ok-showing.ensures.showing; run = c.in_ok-to.ensures.end; piece = c.piece_at.ensures.value ∙ rw c.char_at.ensures; first = c.requires.behind; last = c.requires.accessible.1 })
     (sym c.ends_block.ensures ∙ c.if-ends_block.false)
