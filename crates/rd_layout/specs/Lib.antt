@@ -9,4 +9,3 @@ pub mod Since
 pub mod Facts
 pub mod Copies
 pub mod Examples
-pub mod Targets

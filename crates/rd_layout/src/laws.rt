@@ -24,12 +24,11 @@ ghost use Rattle.rd_layout.specs.Redisplays.{IsSent, bands_of};
 ghost use Rattle.rd_layout.specs.Screens.{frame_in, laid_out};
 ghost use Rattle.rd_layout.specs.Sessions.{IsStep, SessionValue, behind, layout_of, opened, session_step};
 ghost use Rattle.rd_layout.specs.Since.{IsSession};
-ghost use Rattle.rd_layout.specs.Targets.{AreRowsColoured, AreRowsWhole};
 ghost use Rattle.rd_layout.specs.Windows.{place_of, view_in, window_shape, window_source};
 
 use rd_blocks::{
     accessible_positions_lie_in_blocks, buffers_are_sources, changes_lead_on, kept_rows_are_fresh,
-    rows_are_local,
+    rows_are_local, rows_of_buffers_are_coloured, rows_of_buffers_are_whole,
 };
 use rd_frame::{borders_are_whole, frames_are_pictures};
 use rd_glyphs::{glyph_texts_are_sound, plain_lines_are_whole};
@@ -93,22 +92,29 @@ pub fn sessions_stay_known()
     windows_tile_their_rectangle();
 }
 
-/// A redisplay that is sent leads from a session to a session, where its target has the frame's size and is sound. The call does
-/// nothing.
+/// A redisplay that is sent leads from a session to a session. The call does nothing.
 pub fn redisplays_lead_on()
     ensures { (rows : ℕ) (done : Bool) (stop : Option ℕ) (old new : SessionValue) (before after : Option (List ℕ)) → IsSession old
-        → IsOfSize old.state.width old.state.height (laid_out old.files old.state).picture → IsSound (laid_out old.files old.state).picture
         → IsSent rows done stop old new before after → IsSession new }
 {
     a_start_is_a_row();
     accessible_positions_lie_in_blocks();
     an_anchor_of_a_row_is_within();
     blocks_are_listed();
+    borders_are_whole();
     buffers_are_sources();
     changes_lead_on();
     extensions_keep_objects();
+    frames_are_pictures();
+    glyph_texts_are_sound();
+    items_begin_in_the_window();
     kept_rows_are_fresh();
+    margins_are_whole();
+    mode_lines_are_whole();
     new_layouts_stand();
+    plain_lines_are_whole();
+    rows_of_buffers_are_coloured();
+    rows_of_buffers_are_whole();
     shift_law();
     shifted_updates_keep_screens_sound();
     windows_are_leaves();
@@ -121,10 +127,10 @@ pub fn sent_redisplays_are_determined()
         → without_copies new ≡ redisplayed old stop }
 {}
 
-/// What each window of a valid state shows has the sizes of its rectangle, and the cursor stands in the selected window's text, where the
-/// rows of texts are whole. The call does nothing.
+/// What each window of a valid state shows has the sizes of its rectangle, and the cursor stands in the selected window's text. The call
+/// does nothing.
 pub fn targets_fit_their_frames()
-    ensures { (files : Data) (s : StateValue) → AreRowsWhole → IsValid s → FitsFrame (frame_in files s) }
+    ensures { (files : Data) (s : StateValue) → IsValid s → FitsFrame (frame_in files s) }
 {
     a_start_is_a_row();
     accessible_positions_lie_in_blocks();
@@ -135,15 +141,15 @@ pub fn targets_fit_their_frames()
     margins_are_whole();
     mode_lines_are_whole();
     plain_lines_are_whole();
+    rows_of_buffers_are_whole();
     windows_are_leaves();
     windows_tile_their_rectangle();
 }
 
-/// The target of a redisplay has the frame's size, is well formed and has its colours in range, where the rows of texts are whole and
-/// coloured. The call does nothing.
+/// The target of a redisplay has the frame's size, is well formed and has its colours in range. The call does nothing.
 pub fn targets_are_sound()
-    ensures size { (files : Data) (s : StateValue) → AreRowsWhole → IsValid s → IsOfSize s.width s.height (laid_out files s).picture }
-    ensures sound { (files : Data) (s : StateValue) → AreRowsWhole → AreRowsColoured → IsValid s → IsSound (laid_out files s).picture }
+    ensures size { (files : Data) (s : StateValue) → IsValid s → IsOfSize s.width s.height (laid_out files s).picture }
+    ensures sound { (files : Data) (s : StateValue) → IsValid s → IsSound (laid_out files s).picture }
 {
     a_start_is_a_row();
     accessible_positions_lie_in_blocks();
@@ -157,6 +163,8 @@ pub fn targets_are_sound()
     margins_are_whole();
     mode_lines_are_whole();
     plain_lines_are_whole();
+    rows_of_buffers_are_coloured();
+    rows_of_buffers_are_whole();
     windows_are_leaves();
     windows_tile_their_rectangle();
 }

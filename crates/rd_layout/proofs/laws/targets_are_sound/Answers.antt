@@ -21,13 +21,13 @@ returns-clause-size c =
       listed = c.windows_tile_their_rectangle.ensures.listed;
       in_order = c.windows_tile_their_rectangle.ensures.in_order;
     } in
-    λ files s rows valid.
+    λ files s valid.
     let fit : FitLaws = record {
       views = views;
       places = places;
       found = c.windows_are_leaves.ensures.found;
       leaf = c.windows_are_leaves.ensures.placed;
-      whole = rows;
+      whole = c.rows_of_buffers_are_whole.ensures.all;
       margin = c.margins_are_whole.ensures;
       mode_width = c.mode_lines_are_whole.ensures.width;
       plain_width = λ classes width text. c.plain_lines_are_whole.ensures.width classes plain width text;
@@ -50,13 +50,13 @@ returns-clause-sound c =
       listed = c.windows_tile_their_rectangle.ensures.listed;
       in_order = c.windows_tile_their_rectangle.ensures.in_order;
     } in
-    λ files s rows coloured valid.
+    λ files s valid.
     let fit : FitLaws = record {
       views = views;
       places = places;
       found = c.windows_are_leaves.ensures.found;
       leaf = c.windows_are_leaves.ensures.placed;
-      whole = rows;
+      whole = c.rows_of_buffers_are_whole.ensures.all;
       margin = c.margins_are_whole.ensures;
       mode_width = c.mode_lines_are_whole.ensures.width;
       plain_width = λ classes width text. c.plain_lines_are_whole.ensures.width classes plain width text;
@@ -64,7 +64,7 @@ returns-clause-sound c =
     } in
     let laws : SoundLaws = record {
       fit = fit;
-      coloured = coloured;
+      coloured = c.rows_of_buffers_are_coloured.ensures.all;
       mode_coloured = c.mode_lines_are_whole.ensures.coloured;
       mode_whole = c.mode_lines_are_whole.ensures.whole;
       plain_whole = c.plain_lines_are_whole.ensures.whole;

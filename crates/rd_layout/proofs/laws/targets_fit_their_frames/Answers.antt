@@ -20,13 +20,13 @@ returns c =
       listed = c.windows_tile_their_rectangle.ensures.listed;
       in_order = c.windows_tile_their_rectangle.ensures.in_order;
     } in
-    λ files s rows valid.
+    λ files s valid.
     let laws : FitLaws = record {
       views = views;
       places = places;
       found = c.windows_are_leaves.ensures.found;
       leaf = c.windows_are_leaves.ensures.placed;
-      whole = rows;
+      whole = c.rows_of_buffers_are_whole.ensures.all;
       margin = c.margins_are_whole.ensures;
       mode_width = c.mode_lines_are_whole.ensures.width;
       plain_width = λ classes width text. c.plain_lines_are_whole.ensures.width classes plain width text;
