@@ -82,7 +82,8 @@ impl State {
     /// TextTooLarge, ObjectTooLong, NameTaken, LastWindow, TooSmall where a window would have fewer columns or rows than it needs,
     /// BadFormat with the place of the first bad code, or that there are too many buffers, windows, overlays or objects; and Memory. A
     /// buffer is found by one look-up of its name, and an edit moves the rest of the text once, and goes over the values of each text
-    /// property, over the overlays and over the windows. Ops that only move or take away, and those that set a number, take no memory.
+    /// property, over the overlays and over the windows. Ops that only take away, and those that set a number, take no
+    /// memory; to move an overlay takes some now and then.
     pub fn apply(&mut self, op: Op) -> Result<Effect, Refused>
         requires form { IsInForm op }
         requires applied { IsApplied op }
