@@ -1,10 +1,9 @@
 -- What an op that tells no change of a window leaves: the window's start, and what is seen of its buffer.
-use Rattle.std.proofs.Common.{◌≡◌, ◌≢◌, ◌⊎◌, inl, inr, ℕ, zero, suc, ◌+◌, ◌-◌, ◌<◌, ◌≤◌, ◌==◌, ◌&&◌, ◌||◌, Bool, true, false, if◌then◌else◌, nat_lt, nat_le, min, max, pos, ◌+ℤ◌, is_some, Option, None, Some, Result, Ok, Err, List, [], ◌∷◌, ◌++◌, length, map, set, sym, ap, refl, subst, ◌∙◌, arith, unwrap_or, true≢false}
+use Rattle.std.proofs.Common.{◌≡◌, ◌≢◌, ◌⊎◌, inl, inr, ℕ, zero, suc, ◌+◌, ◌-◌, ◌<◌, ◌==◌, ◌&&◌, ◌||◌, Bool, true, false, if◌then◌else◌, nat_lt, nat_le, min, max, pos, ◌+ℤ◌, is_some, Option, None, Some, Result, Ok, Err, List, [], ◌∷◌, ◌++◌, length, map, set, sym, ap, refl, subst, ◌∙◌, arith, unwrap_or, true≢false}
 use Rattle.std.proofs.lemmas.Bool.{cases_eq, eqb-true}
-use Rattle.std.proofs.lemmas.Bool.Decides.{nat_tests}
 use Rattle.std.specs.Option.{option_and_then}
 use Rattle.std.specs.Ordering.{int_eq}
-use Rattle.std.specs.Prelude.{ℤ, ◌-ℤ◌, slice_get, slice_set, option_map, IfOk}
+use Rattle.std.specs.Prelude.{ℤ, ◌-ℤ◌, slice_get, option_map, IfOk}
 use Rattle.rd_margins.specs.Marks as marks
 use Rattle.rd_objects.specs.Things.{ObjectLists}
 use Rattle.rd_overlays.specs.Overlays.{overlay_at}
@@ -18,7 +17,7 @@ use Rattle.rd_state.specs.Effects.{covered_effect, effect_of, moved_effect, over
 use Rattle.rd_state.specs.Making.{table_of, string_making, spec_making, face_making, table_making}
 use Rattle.rd_state.specs.Moves.{moved as moved_window, moved_in}
 use Rattle.rd_state.specs.States.{BufferValue, ContentValue, StateValue, new_buffer, number_of, opening_window, seen}
-use Rattle.rd_state.specs.Steps.{with_found, edited, edited_moving, replaced, moving, changing, with_objects, on_tree, making, setting, placing, unless_bad, format_fault, held, raw_text, step}
+use Rattle.rd_state.specs.Steps.{with_found, edited, edited_moving, replaced, moving, changing, with_objects, on_tree, setting, placing, unless_bad, format_fault, held, raw_text, step}
 use Rattle.rd_state.specs.Valid.{most_buffers}
 use Rattle.rd_state.specs.Windows.{AreApart, selected_window, window_of, with_window, without_window}
 use Rattle.rd_state.specs.declared.effect.Effect.{Effect}

@@ -1,7 +1,7 @@
 -- A redisplay that is sent leaves one session, but for the copies of rows.
-use Rattle.std.proofs.Common.{◌≡◌, ℕ, Bool, Option, None, Some, List, [], ◌∷◌, ◌++◌, map, sym, ap, refl, ◌∙◌}
+use Rattle.std.proofs.Common.{◌≡◌, ℕ, Bool, Option, None, Some, List, [], ◌∷◌, ◌++◌, map, ap, refl, ◌∙◌}
 use Rattle.std.specs.List.{flat_map}
-use Rattle.rd_matrix.specs.Entries.{EntryMeaning, shown_entries}
+use Rattle.rd_matrix.specs.Entries.{shown_entries}
 use Rattle.rd_matrix.specs.declared.matrix.Entry.{Entry}
 use Rattle.rd_state.specs.Windows.{window_of}
 use Rattle.rd_state.specs.declared.window.WindowState.{WindowState}

@@ -1,10 +1,9 @@
 -- What each window of a valid state shows has the sizes of its rectangle.
-use Rattle.std.proofs.Common.{◌≡◌, ◌≢◌, ◌⊎◌, inl, inr, ℕ, zero, suc, ◌+◌, ◌-◌, ◌^◌, ◌<◌, ◌≤◌, ◌==◌, Bool, true, false, is_some, if◌then◌else◌, cond, nat_lt, Option, None, Some, Result, Ok, Err, List, [], ◌∷◌, ◌++◌, length, map, take, drop, sym, ap, refl, subst, ◌∙◌, arith, length-take, length-drop, true≢false}
-use Rattle.std.proofs.lemmas.Bool.{cases_eq}
+use Rattle.std.proofs.Common.{◌≡◌, ℕ, suc, ◌+◌, ◌-◌, ◌^◌, ◌<◌, ◌≤◌, ◌==◌, Bool, true, false, is_some, if◌then◌else◌, cond, Option, None, Some, Result, Ok, Err, List, [], ◌∷◌, ◌++◌, length, drop, sym, ap, refl, subst, ◌∙◌, arith, length-take, length-drop, true≢false}
 use Rattle.std.proofs.lemmas.List.{length-map}
 use Rattle.std.proofs.lemmas.List.Sums.{count_by-le-length}
 use Rattle.std.proofs.lemmas.List.Elements.{All-from_recursion, All-map, All-take, All-drop, recursion_from_All}
-use Rattle.std.specs.List.{All, AllByRecursion, count_by, find}
+use Rattle.std.specs.List.{All, AllByRecursion, find}
 use Rattle.std.specs.Option.{option_and_then, option_or}
 use Rattle.std.proofs.lemmas.Option.{get_or_from_slice_get, slice_get_within}
 use Rattle.std.specs.Prelude.{IfSome, IsTrue, option_map, slice_get, slice_index_or}
@@ -18,13 +17,13 @@ use Rattle.rd_items.specs.Readings.{reading}
 use Rattle.rd_stack.specs.Lines.{line_elements}
 use Rattle.rd_rows.specs.declared.cutting.Cutting.{Cutting}
 use Rattle.rd_frame.specs.Fits.{FitsFrame, FitsRow, FitsWindow, IsInBody}
-use Rattle.rd_frame.specs.Panes.{GlyphRow, body_height, body_width}
+use Rattle.rd_frame.specs.Panes.{body_height, body_width}
 use Rattle.rd_frame.specs.Held.{glyph_row}
 use Rattle.rd_glyphs.specs.Lines.{plain_cells}
 use Rattle.rd_margins.specs.Cells.{IsMargin, row_margin}
 use Rattle.rd_margins.specs.Marks.{margin_string}
 use Rattle.rd_margins.specs.declared.rows.Widths.{Widths}
-use Rattle.rd_matrix.specs.Columns.{column_in, covers, shown_column}
+use Rattle.rd_matrix.specs.Columns.{covers, shown_column}
 use Rattle.rd_matrix.specs.Cursors.{column_shown, cursor_in, or_below}
 use Rattle.rd_matrix.specs.Entries.{EntryMeaning, all_rows, entries_of, numbered}
 use Rattle.rd_matrix.specs.Sources.{SourceValues, rows_at}
@@ -41,7 +40,7 @@ use Rattle.rd_rows.specs.Rows.{LaidRow, RowMeaning, rows_of}
 use Rattle.rd_rows.specs.Shapes.{IsShape, ShapeValues}
 use Rattle.rd_rows.specs.Whole.{IsWhole}
 use Rattle.rd_rows.specs.declared.begin.Begin.{Begin}
-use Rattle.rd_state.specs.States.{BufferValue, ContentValue, StateValue, seen}
+use Rattle.rd_state.specs.States.{StateValue, seen}
 use Rattle.rd_state.specs.Valid.{IsContent, IsGoodFormat, IsValid, IsWindow}
 use Rattle.rd_state.specs.Windows.{leaf_at, leaf_of, shown_content, window_of}
 use Rattle.rd_state.specs.declared.window.WindowState.{WindowState}
@@ -58,7 +57,7 @@ use Rattle.rd_layout.specs.Screens.{cursor_at, cursor_by, frame_in, pane_at, pan
 use Rattle.rd_layout.specs.Windows.{place_of, places, shown_buffer, view_in, wanted_of, window_shape, window_source}
 use Rattle.rd_layout.proofs.ByNumber.{buffer-there}
 use Rattle.rd_layout.proofs.Placed.{PlaceLaws, all-places, number-of}
-use Rattle.rd_layout.proofs.Settling.{ViewLaws, is-shape, shown-is, shown-text}
+use Rattle.rd_layout.proofs.Settling.{ViewLaws, is-shape, shown-is}
 
 -- what the layers below say
 pub record FitLaws : Type 0 where

@@ -1,5 +1,5 @@
 -- The last layouts of a session's windows stay known behind each op.
-use Rattle.std.proofs.Common.{◌≡◌, ◌≢◌, ◌⊎◌, inl, inr, ℕ, ◌<◌, ◌≤◌, ◌==◌, Bool, true, false, if◌then◌else◌, Option, None, Some, Result, Ok, Err, List, [], ◌∷◌, length, map, get_or, sym, ap, refl, subst, subst₂, ◌∙◌, unwrap_or, arith}
+use Rattle.std.proofs.Common.{◌≡◌, ◌≢◌, ◌⊎◌, inl, inr, ℕ, ◌<◌, ◌≤◌, ◌==◌, Bool, true, false, if◌then◌else◌, Option, None, Some, Result, Ok, Err, List, [], ◌∷◌, length, sym, ap, refl, subst, subst₂, ◌∙◌, unwrap_or, arith}
 use Rattle.std.proofs.lemmas.Bool.{cases_eq}
 use Rattle.std.specs.Prelude.{slice_get, option_map, IfOk}
 use Rattle.rd_blocks.specs.Leads.{LeadsTo}
@@ -19,7 +19,7 @@ use Rattle.rd_script.specs.declared.op.Op.{Op}
 use Rattle.rd_script.specs.declared.op.Op.TheVariants as ops
 use Rattle.rd_state.specs.Changes.{Leaves}
 use Rattle.rd_state.specs.Effects.{effect_of}
-use Rattle.rd_state.specs.States.{BufferValue, ContentValue, StateValue, new_buffer, opening, seen}
+use Rattle.rd_state.specs.States.{BufferValue, ContentValue, StateValue, opening, seen}
 use Rattle.rd_state.specs.Steps.{in_window, step, with_found}
 use Rattle.rd_state.specs.Valid.{IsValid, IsWindow}
 use Rattle.rd_state.specs.Windows.{content_in, shown_content, window_of}

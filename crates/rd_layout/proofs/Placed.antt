@@ -1,5 +1,5 @@
 -- The windows of a frame, in their order and by their numbers.
-use Rattle.std.proofs.Common.{◌≡◌, ◌≢◌, ◌⊎◌, inl, inr, ℕ, zero, suc, ◌+◌, ◌-◌, ◌<◌, ◌≤◌, ◌==◌, Bool, true, false, if◌then◌else◌, Option, None, Some, List, [], ◌∷◌, ◌++◌, length, map, get_or, sym, ap, refl, subst, ◌∙◌, arith, nat_le}
+use Rattle.std.proofs.Common.{◌≡◌, ◌≢◌, ◌⊎◌, inl, inr, ℕ, ◌+◌, ◌-◌, ◌<◌, ◌≤◌, ◌==◌, Bool, true, false, if◌then◌else◌, None, Some, List, [], ◌∷◌, ◌++◌, map, get_or, sym, ap, refl, ◌∙◌, arith, nat_le}
 use Rattle.std.proofs.lemmas.Bool.{cases_eq, leb-true, leb-false}
 use Rattle.std.proofs.lemmas.List.Elements.{All-from_get_or, All-from_recursion, recursion_from_All}
 use Rattle.std.proofs.lemmas.Option.{slice_get-get_or, slice_get-map}
@@ -15,7 +15,6 @@ use Rattle.rd_tree.specs.Places.{StandsIn}
 use Rattle.rd_tree.specs.Windows.{HasRoom, Windows, Window, Split, first_part, leaves, of_number, placed, second_part, times, window_at}
 use Rattle.rd_tree.specs.declared.placed.Placed.{Placed}
 use Rattle.rd_tree.specs.declared.rect.Rect.{Rect}
-use Rattle.rd_tree.specs.declared.side.Side.{Side}
 use Rattle.rd_layout.specs.Redisplays.{band_of, bands_of}
 use Rattle.rd_layout.specs.Windows.{place_of, places}
 use Rattle.rd_layout.proofs.ByNumber.{chosen, passed, eq-true, eq-false}

@@ -1,5 +1,5 @@
 -- Where the edits of accepted ops stand.
-use Rattle.std.proofs.Common.{◌≡◌, ◌⊎◌, inl, inr, ℕ, ◌+◌, ◌-◌, ◌≤◌, ◌&&◌, Bool, true, false, if◌then◌else◌, nat_le, pos, Option, None, Some, Result, Ok, Err, List, length, sym, ap, refl, subst, ◌∙◌, unwrap_or, is_some, arith}
+use Rattle.std.proofs.Common.{◌≡◌, ◌⊎◌, inl, inr, ℕ, ◌+◌, ◌-◌, ◌≤◌, ◌&&◌, Bool, true, false, if◌then◌else◌, nat_le, Option, None, Some, Result, Ok, Err, List, length, sym, ap, refl, subst, ◌∙◌, unwrap_or, is_some, arith}
 use Rattle.std.proofs.lemmas.Bool.{and_parts, leb-true}
 use Rattle.std.specs.Prelude.{slice_get, IfOk}
 use Rattle.std.specs.Option.{option_and_then}
@@ -8,7 +8,7 @@ use Rattle.rd_overlays.specs.declared.overlay.Overlay.{Overlay}
 use Rattle.rd_script.specs.Forms.{IsWhole}
 use Rattle.rd_script.specs.declared.op.Op.{Op}
 use Rattle.rd_script.specs.declared.op.Op.TheVariants as ops
-use Rattle.rd_state.specs.Edits.{is_accessible, is_accessible_range, is_range_of_all, has_room, insertion, deletion, overlay_moving}
+use Rattle.rd_state.specs.Edits.{is_accessible, is_accessible_range, is_range_of_all, insertion, deletion, overlay_moving}
 use Rattle.rd_state.specs.Effects.{covered_effect, effect_of, moved_effect, overlay_in}
 use Rattle.rd_state.specs.States.{BufferValue, ContentValue, StateValue, number_of, opening_window}
 use Rattle.rd_state.specs.Steps.{with_found, in_shown, replaced, moving, changing, edited, edited_moving, inserting, placing, raw_text, step, typing}

@@ -1,10 +1,10 @@
 -- A redisplay leaves a valid state valid: the starts and the points that it chooses are accessible.
-use Rattle.std.proofs.Common.{◌≡◌, ℕ, zero, suc, ◌+◌, ◌-◌, ◌<◌, ◌≤◌, nat_lt, Bool, true, false, if◌then◌else◌, pos, Option, None, Some, List, [], ◌∷◌, length, map, sym, ap, refl, subst, ◌∙◌, arith}
+use Rattle.std.proofs.Common.{◌≡◌, ℕ, ◌+◌, ◌-◌, ◌<◌, ◌≤◌, Bool, true, false, if◌then◌else◌, Option, None, Some, List, [], ◌∷◌, map, sym, ap, refl, subst, ◌∙◌, arith}
 use Rattle.std.proofs.lemmas.Option.{slice_get-map}
 use Rattle.std.specs.Prelude.{IsSome, slice_get, option_map}
 use Rattle.rd_blocks.specs.Bases.{block_in, blocks_in}
 use Rattle.rd_blocks.specs.Sources.{text_source}
-use Rattle.rd_frame.specs.Panes.{body_height, body_width, has_border}
+use Rattle.rd_frame.specs.Panes.{has_border}
 use Rattle.rd_items.specs.Blocks.{Adjoin, blocks_of}
 use Rattle.rd_matrix.specs.Blocks.{IsWithin, end_from}
 use Rattle.rd_matrix.specs.Sources.{IsSource}
@@ -15,7 +15,7 @@ use Rattle.rd_state.specs.States.{BufferValue, ContentValue, StateValue, seen}
 use Rattle.rd_state.specs.Valid.{AreWindows, IsValid, IsWindow}
 use Rattle.rd_state.specs.Windows.{AreApart, content_in, leaf_of, shown_content, window_of}
 use Rattle.rd_state.specs.declared.window.WindowState.{WindowState}
-use Rattle.rd_text.specs.Texts.{IsAccessible, IsText, TextValue}
+use Rattle.rd_text.specs.Texts.{IsAccessible, IsText}
 use Rattle.rd_tree.specs.Calls.{frame_of}
 use Rattle.rd_tree.specs.Places.{StandsIn}
 use Rattle.rd_tree.specs.Windows.{HasRoom, Windows, window_at}
@@ -23,7 +23,7 @@ use Rattle.rd_tree.specs.declared.placed.Placed.{Placed}
 use Rattle.rd_tree.specs.declared.rect.Rect.{Rect}
 use Rattle.rd_ucd.specs.Data.{Data}
 use Rattle.rd_ucd.specs.declared.spans.Span.{Span}
-use Rattle.rd_layout.specs.Screens.{laid_out, settled_at, settled_by, settled_state}
+use Rattle.rd_layout.specs.Screens.{settled_at, settled_by, settled_state}
 use Rattle.rd_layout.specs.Windows.{place_of, view_in, wanted_of, window_shape, window_source}
 use Rattle.rd_layout.proofs.ByNumber.{Entry, buffer-there, window-became}
 use Rattle.rd_layout.proofs.Chosen.{StartLaws, chosen-anchor, chosen-point}

@@ -1,11 +1,10 @@
 -- Each part of a target screen is whole and coloured.
-use Rattle.std.proofs.Common.{◌≡◌, ◌≢◌, ℕ, zero, suc, ◌+◌, ◌-◌, ◌^◌, ◌<◌, ◌≤◌, ◌==◌, ◌&&◌, ◌||◌, Bool, true, false, is_some, nat_le, Option, None, Some, Result, Ok, Err, List, [], ◌∷◌, length, map, sym, ap, refl, subst, subst₂, ◌∙◌, arith, unwrap_or}
+use Rattle.std.proofs.Common.{◌≡◌, ℕ, ◌+◌, ◌==◌, ◌&&◌, ◌||◌, Bool, true, false, Option, None, Some, Result, Ok, Err, List, [], ◌∷◌, sym, ap, refl, subst, subst₂, arith, unwrap_or}
 use Rattle.std.proofs.lemmas.Bool.{and_parts, eqb-true}
 use Rattle.std.proofs.lemmas.List.Elements.{All-cons, All-map, All-nil, recursion_from_All}
 use Rattle.std.proofs.lemmas.Option.{get_or_from_slice_get, slice_get_within}
 use Rattle.std.specs.List.{All, list_all}
-use Rattle.std.specs.Option.{option_and_then}
-use Rattle.std.specs.Prelude.{IfSome, IsTrue, slice_get, slice_index_or}
+use Rattle.std.specs.Prelude.{IfSome, IsTrue, slice_index_or}
 use Rattle.std.specs.Str.{chars}
 use Rattle.rd_base.specs.Cells.{AreColoured, HasColours, IsColoured}
 use Rattle.rd_base.specs.Chars.{is_code, is_scalar}
@@ -16,16 +15,16 @@ use Rattle.rd_base.specs.declared.cell.Glyph.{Glyph}
 use Rattle.rd_base.specs.declared.element.Element.{Element}
 use Rattle.rd_base.specs.declared.element.Origin.{Origin}
 use Rattle.rd_blocks.specs.Sources.{text_source}
-use Rattle.rd_frame.specs.Fits.{EachPart, EachPartOf, FitsFrame, IsColouredFrame, IsWholeFrame}
+use Rattle.rd_frame.specs.Fits.{EachPart, FitsFrame, IsColouredFrame, IsWholeFrame}
 use Rattle.rd_frame.specs.Frames.{FrameValues, frame_picture, frame_rows}
 use Rattle.rd_frame.specs.Held.{glyph_row}
-use Rattle.rd_frame.specs.Panes.{GlyphRow, PaneValues, border_cell}
+use Rattle.rd_frame.specs.Panes.{GlyphRow, border_cell}
 use Rattle.rd_glyphs.specs.Characters.{glyph_elements}
 use Rattle.rd_glyphs.specs.Lines.{plain_cells}
 use Rattle.rd_items.specs.Pieces.{table_in}
 use Rattle.rd_matrix.specs.Entries.{EntryMeaning}
 use Rattle.rd_matrix.specs.Sources.{rows_at}
-use Rattle.rd_modeline.specs.Formats.{fault_in, pieces_of}
+use Rattle.rd_modeline.specs.Formats.{pieces_of}
 use Rattle.rd_modeline.specs.Lines.{line_cells}
 use Rattle.rd_modeline.specs.Values.{AreFacts, FactValues}
 use Rattle.rd_modeline.specs.declared.piece.Piece.{Piece}
@@ -38,10 +37,9 @@ use Rattle.rd_rows.specs.Whole.{IsMark}
 use Rattle.rd_script.specs.Forms.{each, is_buffer_name, is_name_character, is_plain_text}
 use Rattle.rd_state.specs.States.{BufferValue, ContentValue, StateValue, new_buffer, seen}
 use Rattle.rd_state.specs.Valid.{IsGoodFormat, IsValid, IsWindow}
-use Rattle.rd_state.specs.Windows.{leaf_of, shown_content, window_of}
+use Rattle.rd_state.specs.Windows.{leaf_of, shown_content}
 use Rattle.rd_state.specs.declared.window.WindowState.{WindowState}
 use Rattle.rd_term.specs.Pictures.{IsOfSize, IsWellFormed}
-use Rattle.rd_text.specs.Texts as text
 use Rattle.rd_tree.specs.declared.placed.Placed.{Placed}
 use Rattle.rd_ucd.specs.Data.{Data}
 use Rattle.rd_ucd.specs.declared.spans.Span.{Span}
@@ -49,9 +47,9 @@ use Rattle.rd_update.specs.Laws.{IsSound}
 use Rattle.rd_window.specs.Views.{WindowView}
 use Rattle.rd_layout.specs.Panes.{border_in, border_slot, cells_of_pieces, facts_of, margin_of, mode_line, pane_of, widths_of}
 use Rattle.rd_layout.specs.Screens.{frame_in, laid_out, pane_at, pane_by}
-use Rattle.rd_layout.specs.Windows.{place_of, places, shown_buffer, view_in, window_shape, window_source}
+use Rattle.rd_layout.specs.Windows.{place_of, shown_buffer, view_in, window_shape}
 use Rattle.rd_layout.proofs.ByNumber.{buffer-there}
-use Rattle.rd_layout.proofs.Fitting.{FitLaws, fits, in-view, line-small, margin-right, place-window, shown-right, view-whole}
+use Rattle.rd_layout.proofs.Fitting.{FitLaws, fits, in-view, line-small, margin-right, place-window, view-whole}
 use Rattle.rd_layout.proofs.Placed.{all-places}
 
 -- what the layers below say

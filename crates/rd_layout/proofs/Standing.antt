@@ -1,20 +1,20 @@
 -- What each op leaves of the frame's size, and that the windows that live behind it and were made before it lived before it.
-use Rattle.std.proofs.Common.{◌≡◌, ◌≢◌, ℕ, suc, ◌+◌, ◌-◌, ◌<◌, ◌≤◌, ◌==◌, Bool, true, false, if◌then◌else◌, nat_lt, nat_le, pos, ◌+ℤ◌, Option, None, Some, Result, Ok, Err, List, [], ◌∷◌, ◌++◌, length, map, sym, ap, refl, ◌∙◌, arith, is_some, subst, ◌&&◌}
+use Rattle.std.proofs.Common.{◌≡◌, ℕ, ◌+◌, ◌-◌, ◌<◌, ◌≤◌, ◌==◌, Bool, true, false, if◌then◌else◌, nat_lt, nat_le, pos, ◌+ℤ◌, Option, None, Some, Result, Ok, Err, List, [], ◌∷◌, ◌++◌, length, map, sym, refl, arith, is_some, subst, ◌&&◌}
 use Rattle.std.specs.Prelude.{slice_get, slice_set, IfOk}
 use Rattle.rd_objects.specs.Things.{ObjectLists}
 use Rattle.rd_script.specs.declared.op.Op.{Op}
 use Rattle.rd_script.specs.declared.op.Op.TheVariants as ops
-use Rattle.rd_tree.specs.Windows.{first_leaf, sibling, fits, holds, split_at, is_single, removed, with_mode, with_margins, columns_needed, rows_needed, resized}
-use Rattle.rd_tree.specs.Calls.{Configuration, frame, frame_of, is_full, split_tree, remove_tree, resize_tree, mode_tree, margins_tree, split_to, changed_to}
+use Rattle.rd_tree.specs.Windows.{first_leaf, sibling, fits, holds, split_at, is_single, with_mode, with_margins, columns_needed, rows_needed}
+use Rattle.rd_tree.specs.Calls.{Configuration, frame_of, is_full, split_tree, remove_tree, resize_tree, mode_tree, margins_tree}
 use Rattle.rd_tree.specs.declared.fault.TreeFault.{TreeFault}
 use Rattle.rd_tree.specs.declared.side.Side.{Side}
 use Rattle.rd_state.specs.Edits.{insertion, deletion, narrowing, widening, property_putting, overlay_making, overlay_moving, overlay_dropping, overlay_putting, mark_putting, setting_putting, is_accessible}
 use Rattle.rd_state.specs.Making.{table_of, string_making, spec_making, face_making, table_making}
 use Rattle.rd_state.specs.Moves.{moved_in}
 use Rattle.rd_state.specs.States.{BufferValue, ContentValue, StateValue, new_buffer, number_of}
-use Rattle.rd_state.specs.Steps.{with_found, in_buffer, in_window, in_shown, replaced, moving, changing, with_objects, on_tree, making, edited, edited_moving, inserting, typing, splitting, removing, showing, placing, setting, unless_bad, format_fault, mode_lining, margining, held, raw_text, step}
+use Rattle.rd_state.specs.Steps.{with_found, replaced, moving, changing, with_objects, on_tree, making, edited, edited_moving, placing, setting, unless_bad, format_fault, held, raw_text, step}
 use Rattle.rd_state.specs.Valid.{most_buffers}
-use Rattle.rd_state.specs.Windows.{window_of, with_window, without_window}
+use Rattle.rd_state.specs.Windows.{window_of, without_window}
 use Rattle.rd_state.specs.declared.moves.Move.{Move}
 use Rattle.rd_state.specs.declared.moves.Move.TheVariants.{Inserted, Deleted, Narrowed}
 use Rattle.rd_state.specs.declared.refused.Refused.{Refused}

@@ -1,5 +1,5 @@
 -- Sessions on which the definitions are worked out.
-use Rattle.std.specs.Prelude.{ℕ, Option, None, Some, Result, Ok, Err, List, [], ◌∷◌, slice_get}
+use Rattle.std.specs.Prelude.{ℕ, Option, Result, Ok, Err, List, [], ◌∷◌, slice_get}
 use Rattle.rd_base.specs.declared.cell.Cell.{Cell}
 use Rattle.rd_blocks.specs.Examples.{files}
 use Rattle.rd_script.specs.declared.op.Op.{Op}

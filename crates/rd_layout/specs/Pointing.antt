@@ -1,5 +1,5 @@
 -- The ops that move a window's point by what is seen: one step in visual order, and to what a cell shows.
-use Rattle.std.specs.Prelude.{ℕ, Bool, ◌==◌, ◌&&◌, if◌then◌else◌, Option, None, Some, Result, Ok, Err, unwrap_or}
+use Rattle.std.specs.Prelude.{ℕ, Bool, ◌==◌, ◌&&◌, if◌then◌else◌, Option, Some, Result, Err, unwrap_or}
 use Rattle.rd_ucd.specs.Data.{Data}
 use Rattle.rd_matrix.specs.Entries.{shown_entries}
 use Rattle.rd_reuse.specs.Keeping.{is_same_shape}

@@ -1,5 +1,5 @@
 -- Redisplay from nothing: what the rules give for a state, whatever was laid out before.
-use Rattle.std.specs.Prelude.{ℕ, false, pos, Option, None, Some, List, [], map}
+use Rattle.std.specs.Prelude.{ℕ, false, pos, Option, None, Some, [], map}
 use Rattle.rd_base.specs.Faces.{plain}
 use Rattle.rd_ucd.specs.Data.{Data}
 use Rattle.rd_frame.specs.Frames.{FrameValues, frame_picture}

@@ -1,5 +1,5 @@
 -- What one window of a state shows, from nothing.
-use Rattle.std.specs.Prelude.{ℕ, Option, None, Some, List, [], slice_get, unwrap_or}
+use Rattle.std.specs.Prelude.{ℕ, Option, List, [], slice_get, unwrap_or}
 use Rattle.rd_ucd.specs.Data.{Data}
 use Rattle.rd_blocks.specs.Sources.{text_source}
 use Rattle.rd_frame.specs.Panes.{body_width, body_height}
