@@ -1,0 +1,319 @@
+-- The law of two ends: the words, the files, the bytes of the script and the lines that found no memory determine how a run ends.
+use Rattle.std.proofs.Common.{◌≡◌, ℕ, suc, ◌+◌, ◌<◌, ◌≤◌, ◌⊎◌, inl, inr, Bool, List, [], ◌∷◌, ◌++◌, length, drop, Option, None, Some, refl, sym, ap, ◌∙◌, subst, append_assoc, append-nil, arith}
+use Rattle.std.specs.List.{AllByRecursion}
+use Rattle.std.proofs.lemmas.List.{take-append-drop}
+use Rattle.rd_generate.specs.Generated.{script as generated}
+use Rattle.rd_io.specs.Devices.{Rose}
+use Rattle.rd_io.specs.Lines.{lines_of}
+use Rattle.rd_run.specs.Alike.{End, IsUndisturbed, AreStarvedAlike, AreAlike}
+use Rattle.rd_run.specs.Ends.{Drawn, Took, AreAll, AreInLimits, AreScript, Comes, ComesIn, IsBad, IsOver, IsPast, IsWhole, Ran, last_in, lines_in, script_of, sent_in, told_in}
+use Rattle.rd_run.specs.Given.{Given, AreTold, HasFailed}
+use Rattle.rd_run.specs.Runs.{Mode, Turn, World, opened, run, turn}
+use Rattle.rd_run.specs.declared.status.ScriptFault.{ScriptFault}
+use Rattle.rd_run.specs.declared.status.ScriptFault.TheVariants.{TooLong, TooMany, Op, Refused}
+use Rattle.rd_run.specs.declared.status.Status.{Status}
+use Rattle.rd_run.specs.declared.status.Status.TheVariants.{Done, Usage, BadData, BadScript, ReadFault, WriteFault, NoMemory}
+use Rattle.rd_run.proofs.Begun.{AreGivenAlike, flipped, modes-same, not-begun, refused-alike, refuses}
+use Rattle.rd_run.proofs.Scripts.{IsTakenFrom, ends-there, first-lines, goes-on, long-line, more-line}
+use Rattle.rd_run.proofs.Turns.{lines-length, lines-push, turns-push, run-push, run-clear}
+use Rattle.rd_run.proofs.Whole.{whole-of}
+
+-- ---- where a run stops
+
+-- behind n lines this one is too long, or one too many; a generated script has none such
+abbrev pub IsBarred : Option ℕ → ℕ → List ℕ → Status → Type 0
+IsBarred None n line status =
+    ((n < 1000000) × (1048576 < length line) × (status ≡ BadScript (n + 1) TooLong)) ⊎ ((1000000 ≤ n) × (status ≡ BadScript (n + 1) TooMany))
+IsBarred (Some number) n line status = ⊥
+
+-- a line behind n others passes no limit
+abbrev pub IsLet : Option ℕ → ℕ → List ℕ → Type 0
+IsLet None n line = (n < 1000000) × (length line ≤ 1048576)
+IsLet (Some number) n line = Unit {0}
+
+-- a run stops behind its last line, or at one that is barred
+abbrev pub StopsBefore : Option ℕ → ℕ → List (List ℕ) → Status → Type 0
+StopsBefore o n lines status =
+    ((lines ≡ []) × (status ≡ Done)) ⊎ ((line : List ℕ) × (more : List (List ℕ)) × (lines ≡ line ∷ more) × IsBarred o n line status)
+
+-- the line behind n others is bad, and no further one is run
+abbrev pub StopsAt : World → ℕ → List Turn → Status → Type 0
+StopsAt w n ts status = (fault : ScriptFault) × (w.fault ≡ Some fault) × (ts ≡ []) × (status ≡ BadScript (n + 1) fault)
+
+-- a run of these turns over the lines of a script, which is read or generated, stops with a status; it stands behind n lines
+abbrev pub Stops : Option ℕ → World → ℕ → List Turn → List (List ℕ) → Status → Type 0
+Stops o w n [] lines status = StopsBefore o n lines status
+Stops o w n (t ∷ ts) lines status =
+    (more : List (List ℕ)) × (lines ≡ t.line ∷ more) × IsLet o n t.line
+    × (StopsAt (turn w t) n ts status ⊎ (((turn w t).fault ≡ None) × Stops o (turn w t) (n + 1) ts more status))
+
+-- ---- it stops at one place
+
+head-of : (x y : List ℕ) (xs ys : List (List ℕ)) → x ∷ xs ≡ y ∷ ys → x ≡ y
+head-of x y xs ys e = cc
+
+rest-of : (x y : List ℕ) (xs ys : List (List ℕ)) → x ∷ xs ≡ y ∷ ys → xs ≡ ys
+rest-of x y xs ys e = cc
+
+no-line : (lines : List (List ℕ)) (y : List ℕ) (ys : List (List ℕ)) → lines ≡ [] → lines ≡ y ∷ ys → ⊥
+no-line lines y ys p q = let e : [] ≡ y ∷ ys = sym p ∙ q in cc
+
+barred-alike : (o : Option ℕ) (n : ℕ) (line other : List ℕ) (s r : Status) → line ≡ other → IsBarred o n line s → IsBarred o n other r → s ≡ r
+barred-alike None n line other s r e (inl a) (inl b) = a.2 ∙ sym b.2
+barred-alike None n line other s r e (inl a) (inr b) = absurd (let few = a.0 in let many = b.0 in omega arith)
+barred-alike None n line other s r e (inr a) (inl b) = absurd (let few = b.0 in let many = a.0 in omega arith)
+barred-alike None n line other s r e (inr a) (inr b) = a.1 ∙ sym b.1
+barred-alike (Some number) n line other s r e a b = absurd a
+
+before-alike : (o : Option ℕ) (n : ℕ) (lines : List (List ℕ)) (s r : Status) → StopsBefore o n lines s → StopsBefore o n lines r → s ≡ r
+before-alike o n lines s r (inl a) (inl b) = a.1 ∙ sym b.1
+before-alike o n lines s r (inl a) (inr b) = absurd (no-line lines b.0 b.1 a.0 b.2)
+before-alike o n lines s r (inr a) (inl b) = absurd (no-line lines a.0 a.1 b.0 a.2)
+before-alike o n lines s r (inr a) (inr b) = barred-alike o n a.0 b.0 s r (head-of a.0 b.0 a.1 b.1 (sym a.2 ∙ b.2)) a.3 b.3
+
+-- a line that is barred is not run
+not-run : (o : Option ℕ) (n : ℕ) (line other : List ℕ) (s : Status) → line ≡ other → IsBarred o n line s → IsLet o n other → ⊥
+not-run None n line other s e (inl a) passes = let long = a.1 in let short = passes.1 in let same : length line ≡ length other = ap length e in omega arith
+not-run None n line other s e (inr a) passes = let many = a.0 in let few = passes.0 in omega arith
+not-run (Some number) n line other s e a passes = a
+
+-- a run that stops before a line does not run it
+not-further : (o : Option ℕ) (n : ℕ) (line : List ℕ) (more lines : List (List ℕ)) (s : Status) → StopsBefore o n lines s → lines ≡ line ∷ more → IsLet o n line → ⊥
+not-further o n line more lines s (inl a) e passes = no-line lines line more a.0 e
+not-further o n line more lines s (inr a) e passes = not-run o n a.0 line s (head-of a.0 line a.1 more (sym a.2 ∙ e)) a.3 passes
+
+same-fault : (o : Option ScriptFault) (a b : ScriptFault) → o ≡ Some a → o ≡ Some b → a ≡ b
+same-fault o a b p q = let e : Some a ≡ Some b = sym p ∙ q in cc
+
+no-fault : (o : Option ScriptFault) (a : ScriptFault) → o ≡ Some a → o ≡ None → ⊥
+no-fault o a p q = let e : Some a ≡ None = sym p ∙ q in cc
+
+-- behind a line that both have run
+behind-alike : (o : Option ℕ) (w : World) (n : ℕ) (ts us : List Turn) (more : List (List ℕ)) (s r : Status) → (Stops o w (n + 1) ts more s → Stops o w (n + 1) us more r → (ts ≡ us) × (s ≡ r))
+    → StopsAt w n ts s ⊎ ((w.fault ≡ None) × Stops o w (n + 1) ts more s) → StopsAt w n us r ⊎ ((w.fault ≡ None) × Stops o w (n + 1) us more r) → (ts ≡ us) × (s ≡ r)
+behind-alike o w n ts us more s r on (inl a) (inl b) =
+    (a.2 ∙ sym b.2, a.3 ∙ ap (λ fault. BadScript (n + 1) fault) (same-fault w.fault a.0 b.0 a.1 b.1) ∙ sym b.3)
+behind-alike o w n ts us more s r on (inl a) (inr b) = absurd (no-fault w.fault a.0 a.1 b.0)
+behind-alike o w n ts us more s r on (inr a) (inl b) = absurd (no-fault w.fault b.0 b.1 a.0)
+behind-alike o w n ts us more s r on (inr a) (inr b) = on a.1 b.1
+
+abbrev pub turn_of : List ℕ → Bool → Turn
+turn_of line starved = record { line = line; starved = starved }
+
+turn-same : (t u : Turn) → t.line ≡ u.line → t.starved ≡ u.starved → t ≡ u
+turn-same t u p q = ap (λ line. turn_of line t.starved) p ∙ ap (λ starved. turn_of u.line starved) q
+
+stops-alike : (o : Option ℕ) (w : World) (n : ℕ) (ts us : List Turn) (lines : List (List ℕ)) (s r : Status) → AreStarvedAlike ts us → Stops o w n ts lines s → Stops o w n us lines r
+    → (ts ≡ us) × (s ≡ r)
+stops-alike o w n [] [] lines s r h p q = (refl, before-alike o n lines s r p q)
+stops-alike o w n [] (u ∷ us) lines s r h p q = absurd (not-further o n u.line q.0 lines s p q.1 q.2)
+stops-alike o w n (t ∷ ts) [] lines s r h p q = absurd (not-further o n t.line p.0 lines r q p.1 p.2)
+stops-alike o w n (t ∷ ts) (u ∷ us) lines s r h p q =
+    let both : t.line ∷ p.0 ≡ u.line ∷ q.0 = sym p.1 ∙ q.1 in
+    let same : t ≡ u = turn-same t u (head-of t.line u.line p.0 q.0 both) h.0 in
+    let Behind : Turn → List (List ℕ) → Type 0 = λ x more. StopsAt (turn w x) n us r ⊎ (((turn w x).fault ≡ None) × Stops o (turn w x) (n + 1) us more r) in
+    let other : Behind t p.0 = subst (λ x. Behind x p.0) (sym same) (subst (Behind u) (sym (rest-of t.line u.line p.0 q.0 both)) q.3) in
+    let on = behind-alike o (turn w t) n ts us p.0 s r (λ a b. stops-alike o (turn w t) (n + 1) ts us p.0 s r h.1 a b) p.3 other in
+    (ap (λ x. x ∷ ts) same ∙ ap (λ xs. u ∷ xs) on.0, on.1)
+
+-- ---- lines that pass no limit
+
+-- each of these, behind n others
+abbrev pub ArePassed : Option ℕ → ℕ → List Turn → Type 0
+ArePassed o n [] = Unit {0}
+ArePassed o n (t ∷ ts) = IsLet o n t.line × ArePassed o (n + 1) ts
+
+passed-read : (n : ℕ) (ts : List Turn) → AllByRecursion (λ line. length line ≤ 1048576) (lines_in ts) → n + length ts ≤ 1000000 → ArePassed None n ts
+passed-read n [] short few = tt
+passed-read n (t ∷ ts) short few =
+    let less : n < 1000000 = omega arith in
+    let within : n + 1 + length ts ≤ 1000000 = omega arith in
+    ((less, short.0), passed-read (n + 1) ts short.1 within)
+
+passed-generated : (number n : ℕ) (ts : List Turn) → ArePassed (Some number) n ts
+passed-generated number n [] = tt
+passed-generated number n (t ∷ ts) = (tt, passed-generated number (n + 1) ts)
+
+passed-front : (o : Option ℕ) (n : ℕ) (ts us : List Turn) → ArePassed o n (ts ++ us) → ArePassed o n ts
+passed-front o n [] us h = tt
+passed-front o n (t ∷ ts) us h = (h.0, passed-front o (n + 1) ts us h.1)
+
+passed-last : (o : Option ℕ) (n : ℕ) (ts : List Turn) (t : Turn) → ArePassed o n (ts ++ t ∷ []) → IsLet o (n + length ts) t.line
+passed-last o n [] t h = let same : n ≡ n + 0 = omega arith in subst (λ k. IsLet o k t.line) same h.0
+passed-last o n (u ∷ ts) t h =
+    let same : n + 1 + length ts ≡ n + suc (length ts) = omega arith in
+    subst (λ k. IsLet o k t.line) same (passed-last o (n + 1) ts t h.1)
+
+passed-limits : (turns : List Turn) → AreInLimits (lines_in turns) → ArePassed None 0 turns
+passed-limits turns limits =
+    let few : 0 + length turns ≤ 1000000 = (let k = limits.few in omega (arith, lines-length turns)) in
+    passed-read 0 turns limits.short few
+
+-- ---- each status stops the run
+
+-- lines that were run, none of them bad, and then others
+stops-behind : (o : Option ℕ) (w : World) (n : ℕ) (ts us : List Turn) (more : List (List ℕ)) (s : Status) → (run w ts).fault ≡ None → ArePassed o n ts
+    → Stops o (run w ts) (n + length ts) us more s → Stops o w n (ts ++ us) (lines_in ts ++ more) s
+stops-behind o w n [] us more s clear passed h = let same : n + 0 ≡ n = omega arith in subst (λ k. Stops o w k us more s) same h
+stops-behind o w n (t ∷ ts) us more s clear passed h =
+    let same : n + suc (length ts) ≡ n + 1 + length ts = omega arith in
+    let on = stops-behind o (turn w t) (n + 1) ts us more s clear passed.1 (subst (λ k. Stops o (run (turn w t) ts) k us more s) same h) in
+    (lines_in ts ++ more, refl, passed.0, inr (run-clear (turn w t) ts clear, on))
+
+-- all lines that were run are good, and the run stops before the next
+stops-before : (o : Option ℕ) (mode : Mode) (lines : List (List ℕ)) (turns : List Turn) (more : List (List ℕ)) (s : Status) → Ran mode turns → ArePassed o 0 turns
+    → lines ≡ lines_in turns ++ more → StopsBefore o (length turns) more s → Stops o (opened mode) 0 turns lines s
+stops-before o mode lines turns more s clear passed split h =
+    let none : length turns ≡ 0 + length turns = omega arith in
+    let at : Stops o (opened mode) 0 (turns ++ []) (lines_in turns ++ more) s =
+    stops-behind o (opened mode) 0 turns [] more s clear passed (subst (λ k. StopsBefore o k more s) none h) in
+    subst (λ ls. Stops o (opened mode) 0 turns ls s) (sym split) (subst (λ ts. Stops o (opened mode) 0 ts (lines_in turns ++ more) s) (append-nil turns) at)
+
+-- the script was run to its end
+done-stops : (o : Option ℕ) (mode : Mode) (script : List ℕ) (turns : List Turn) (bytes : List ℕ) (left : Option (List ℕ)) → IsTakenFrom script bytes left → Ran mode turns
+    → AreAll o turns bytes left → Stops o (opened mode) 0 turns (script_of o script) Done
+done-stops None mode script turns bytes left p ran all =
+    let whole : lines_of script ≡ lines_in turns ++ [] = ap lines_of (ends-there script bytes left p all.2) ∙ all.1 ∙ sym (append-nil (lines_in turns)) in
+    stops-before None mode (lines_of script) turns [] Done ran (passed-limits turns all.0) whole (inl (refl, refl))
+done-stops (Some number) mode script turns bytes left p ran all =
+    let whole : generated number ≡ lines_in turns ++ [] = sym all.0 ∙ sym (append-nil (lines_in turns)) in
+    stops-before (Some number) mode (generated number) turns [] Done ran (passed-generated number 0 turns) whole (inl (refl, refl))
+
+-- lines that are the first ones pass the limits
+first-passed : (o : Option ℕ) (turns : List Turn) (bytes : List ℕ) (left : Option (List ℕ)) → AreScript o (lines_in turns) bytes left → ArePassed o 0 turns
+first-passed None turns bytes left first = passed-limits turns first.0
+first-passed (Some number) turns bytes left first = passed-generated number 0 turns
+
+pub script-splits : (o : Option ℕ) (script : List ℕ) (lines : List (List ℕ)) (bytes : List ℕ) (left : Option (List ℕ)) → IsTakenFrom script bytes left → AreScript o lines bytes left
+    → (more : List (List ℕ)) × (script_of o script ≡ lines ++ more)
+script-splits None script lines bytes left p first = first-lines lines script bytes left p first
+script-splits (Some number) script lines bytes left p first =
+    let all = generated number in
+    (drop (length lines) all, sym (take-append-drop (length lines) all) ∙ ap (λ front. front ++ drop (length lines) all) (sym first.0))
+
+bad-at : (o : Option ℕ) (mode : Mode) (lines : List (List ℕ)) (fault : ScriptFault) (others : List Turn) (t : Turn) (more : List (List ℕ)) → Ran mode others
+    → (run (opened mode) (others ++ t ∷ [])).fault ≡ Some fault → ArePassed o 0 (others ++ t ∷ []) → lines ≡ lines_in (others ++ t ∷ []) ++ more
+    → Stops o (opened mode) 0 (others ++ t ∷ []) lines (BadScript (length (others ++ t ∷ [])) fault)
+bad-at o mode lines fault others t more clear bad passed split =
+    let w = run (opened mode) others in
+    let status = BadScript (length (others ++ t ∷ [])) fault in
+    let count : length (others ++ t ∷ []) ≡ 0 + length others + 1 = omega (arith, turns-push others t) in
+    let faulty : (turn w t).fault ≡ Some fault = ap (λ (x : World). x.fault) (sym (run-push (opened mode) others t)) ∙ bad in
+    let at : Stops o w (0 + length others) (t ∷ []) (t.line ∷ more) status =
+    (more, refl, passed-last o 0 others t passed, inl (fault, faulty, refl, ap (λ k. BadScript k fault) count)) in
+    let regrouped : lines_in (others ++ t ∷ []) ++ more ≡ lines_in others ++ t.line ∷ more = ap (λ ls. ls ++ more) (lines-push others t) ∙ append_assoc (lines_in others) (t.line ∷ []) more in
+    subst (λ ls. Stops o (opened mode) 0 (others ++ t ∷ []) ls status) (sym (split ∙ regrouped))
+    (stops-behind o (opened mode) 0 others (t ∷ []) (t.line ∷ more) status clear (passed-front o 0 others (t ∷ []) passed) at)
+
+-- a line is bad
+bad-stops : (mode : Mode) (script : List ℕ) (fault : ScriptFault) (number : ℕ) (turns : List Turn) (bytes : List ℕ) (left : Option (List ℕ)) → IsTakenFrom script bytes left
+    → IsBad mode fault number turns bytes left → Stops mode.generated (opened mode) 0 turns (script_of mode.generated script) (BadScript number fault)
+bad-stops mode script fault number turns bytes left p bad =
+    let o = mode.generated in
+    let on = script-splits o script (lines_in turns) bytes left p bad.lines in
+    let split = bad.split in
+    let at : Stops o (opened mode) 0 (bad.others ++ bad.last ∷ []) (script_of o script) (BadScript (length (bad.others ++ bad.last ∷ [])) fault) =
+    bad-at o mode (script_of o script) fault bad.others bad.last on.0 bad.ran (subst (λ ts. (run (opened mode) ts).fault ≡ Some fault) split bad.ended)
+    (subst (λ ts. ArePassed o 0 ts) split (first-passed o turns bytes left bad.lines)) (subst (λ ts. script_of o script ≡ lines_in ts ++ on.0) split on.1) in
+    let here : Stops o (opened mode) 0 turns (script_of o script) (BadScript (length turns) fault) =
+    subst (λ ts. Stops o (opened mode) 0 ts (script_of o script) (BadScript (length ts) fault)) (sym split) at in
+    subst (λ k. Stops o (opened mode) 0 turns (script_of o script) (BadScript k fault)) (sym bad.at) here
+
+-- a line is too long, or one too many
+over-stops : (mode : Mode) (script : List ℕ) (fault : ScriptFault) (number : ℕ) (turns : List Turn) (bytes : List ℕ) (left : Option (List ℕ)) → IsTakenFrom script bytes left
+    → Ran mode turns → number ≡ length turns + 1 → IsOver fault turns bytes → Stops None (opened mode) 0 turns (lines_of script) (BadScript number fault)
+over-stops mode script TooLong number turns bytes left p ran at over =
+    let on = goes-on (lines_in turns) script bytes over.0 left p over.1.1 in
+    let first = long-line 1048576 1048577 over.0 on.0 refl over.3 over.4 in
+    let long : 1048576 < length first.line = let k = first.long in omega arith in
+    stops-before None mode (lines_of script) turns (lines_of (over.0 ++ on.0)) (BadScript number TooLong) ran (passed-limits turns over.1.0) on.1
+    (inr (first.line, first.others, first.split, inl (over.2, long, ap (λ k. BadScript k TooLong) at)))
+over-stops mode script TooMany number turns bytes left p ran at over =
+    let on = goes-on (lines_in turns) script bytes over.0 left p over.1.1 in
+    let first = more-line over.0 on.0 over.3 in
+    let many : 1000000 ≤ length turns = let k = over.2 in omega arith in
+    stops-before None mode (lines_of script) turns (lines_of (over.0 ++ on.0)) (BadScript number TooMany) ran (passed-limits turns over.1.0) on.1
+    (inr (first.line, first.others, first.split, inr (many, ap (λ k. BadScript k TooMany) at)))
+over-stops mode script (Op fault) number turns bytes left p ran at over = absurd over
+over-stops mode script (Refused refused) number turns bytes left p ran at over = absurd over
+
+past-stops : (mode : Mode) (script : List ℕ) (fault : ScriptFault) (number : ℕ) (turns : List Turn) (bytes : List ℕ) (left : Option (List ℕ)) → IsTakenFrom script bytes left
+    → IsPast mode fault number turns bytes → Stops mode.generated (opened mode) 0 turns (script_of mode.generated script) (BadScript number fault)
+past-stops mode script fault number turns bytes left p past =
+    subst (λ o. Stops o (opened mode) 0 turns (script_of o script) (BadScript number fault)) (sym past.read) (over-stops mode script fault number turns bytes left p past.ran past.at past.over)
+
+comes-stops : (mode : Mode) (script : List ℕ) (status : Status) (turns : List Turn) (bytes : List ℕ) (source : Drawn) → IsTakenFrom script bytes source.left
+    → (Rose source.faults_before source.faults_after → ⊥) → (status ≡ NoMemory → ⊥) → ComesIn mode status turns bytes source
+    → Stops mode.generated (opened mode) 0 turns (script_of mode.generated script) status
+comes-stops mode script Done turns bytes source p read found (ran, all) = done-stops mode.generated mode script turns bytes source.left p ran all
+comes-stops mode script Usage turns bytes source p read found c = absurd c
+comes-stops mode script (BadData file number kind) turns bytes source p read found c = absurd c
+comes-stops mode script (BadScript number fault) turns bytes source p read found (inl bad) = bad-stops mode script fault number turns bytes source.left p bad
+comes-stops mode script (BadScript number fault) turns bytes source p read found (inr past) = past-stops mode script fault number turns bytes source.left p past
+comes-stops mode script ReadFault turns bytes source p read found c = absurd (read c.2)
+comes-stops mode script WriteFault turns bytes source p read found c = absurd c
+comes-stops mode script NoMemory turns bytes source p read found c = absurd (found refl)
+
+-- ---- the law
+
+-- a status has come over the bytes of a script, undisturbed
+pub record Came (script : List ℕ) (given : Given) (mode : Option Mode) (status : Status) (turns : List Turn) : Type 0 where
+  pub bytes : List ℕ
+  pub source : Drawn
+  pub taken : IsTakenFrom script bytes source.left
+  pub told : AreTold given
+  pub fetched : HasFailed given → ⊥
+  pub read : Rose source.faults_before source.faults_after → ⊥
+  pub found : status ≡ NoMemory → ⊥
+  pub comes : Comes given mode status turns bytes source
+
+-- both have begun alike, have run the same lines, and have one status
+came-alike : (script : List ℕ) (a b : Given) (m n : Option Mode) (s r : Status) (ts us : List Turn) → AreGivenAlike a b → AreStarvedAlike ts us → Came script a m s ts → Came script b n r us
+    → (m ≡ n) × (ts ≡ us) × (s ≡ r)
+came-alike script a b None None s r ts us h alike p q =
+    let x = refuses a s ts p.bytes p.source p.fetched p.found p.comes in
+    let y = refuses b r us q.bytes q.source q.fetched q.found q.comes in
+    (refl, x.1 ∙ sym y.1, refused-alike a b s r h p.told x.0 y.0)
+came-alike script a b None (Some n) s r ts us h alike p q =
+    absurd (not-begun a b s n h p.told (refuses a s ts p.bytes p.source p.fetched p.found p.comes).0 q.comes.0)
+came-alike script a b (Some m) None s r ts us h alike p q =
+    absurd (not-begun b a r m (flipped a b h) q.told (refuses b r us q.bytes q.source q.fetched q.found q.comes).0 p.comes.0)
+came-alike script a b (Some m) (Some n) s r ts us h alike p q =
+    let same = modes-same a b m n h p.told p.comes.0 q.comes.0 in
+    let other : ComesIn m r us q.bytes q.source = subst (λ k. ComesIn k r us q.bytes q.source) (sym same) q.comes.1 in
+    let both = stops-alike m.generated (opened m) 0 ts us (script_of m.generated script) s r alike (comes-stops m script s ts p.bytes p.source p.taken p.read p.found p.comes.1)
+    (comes-stops m script r us q.bytes q.source q.taken q.read q.found other) in
+    (ap (λ k. Some k) same, both.0, both.1)
+
+whole-end : (script : List ℕ) (e : End) → IsUndisturbed script e → IsWhole e.given e.mode e.status e.turns e.bytes e.source e.screen e.report
+whole-end script e h = whole-of e.given e.mode e.status e.turns e.bytes e.source e.screen e.report h.faultless.sent h.faultless.told h.faultless.ended
+
+came : (script : List ℕ) (e : End) → IsUndisturbed script e → Came script e.given e.mode e.status e.turns
+came script e h = record {
+  bytes = e.bytes;
+  source = e.source;
+  taken = h.faultless.taken;
+  told = h.faultless.files;
+  fetched = h.faultless.fetched;
+  read = h.faultless.read;
+  found = h.found;
+  comes = (whole-end script e h).comes;
+}
+
+abbrev pub all_told : Option Mode → Status → List Turn → List ℕ
+all_told mode status turns = told_in mode turns ++ last_in mode status turns
+
+pub ends-alike : (script : List ℕ) (a b : End) → a.given.words ≡ b.given.words → ((name : List ℕ) → a.given.contents name ≡ b.given.contents name) → IsUndisturbed script a → IsUndisturbed script b
+    → AreStarvedAlike a.turns b.turns → AreAlike a b
+ends-alike script a b words contents p q h =
+    let same = came-alike script a.given b.given a.mode b.mode a.status b.status a.turns b.turns (words, contents) h (came script a p) (came script b q) in
+    let one = whole-end script a p in
+    let other = whole-end script b q in
+    let sent : Took b.screen (sent_in a.mode a.turns) = subst (λ m. Took b.screen (sent_in m a.turns)) (sym same.0) (subst (λ ts. Took b.screen (sent_in b.mode ts)) (sym same.1) other.sent) in
+    let told : Took b.report (all_told a.mode a.status a.turns) = subst (λ m. Took b.report (all_told m a.status a.turns)) (sym same.0)
+    (subst (λ s. Took b.report (all_told b.mode s a.turns)) (sym same.2) (subst (λ ts. Took b.report (all_told b.mode b.status ts)) (sym same.1) other.told)) in
+    record {
+      status = same.2;
+      screen = (sent_in a.mode a.turns, one.sent, sent);
+      report = (all_told a.mode a.status a.turns, one.told, told);
+    }

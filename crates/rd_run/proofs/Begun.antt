@@ -1,0 +1,155 @@
+-- How runs begin: the words, and the files that they name, where these are told, determine it.
+use Rattle.std.proofs.Common.{◌≡◌, ℕ, ◌⊎◌, inl, inr, Bool, true, false, List, [], Option, None, Some, is_some, IfSome, IsSome, Result, Ok, Err, is_ok, refl, sym, ap, ◌∙◌, subst}
+use Rattle.rd_files.specs.DataFiles.{AreBytes, FailedAt, FailedAtSome, GivesData, Named, StopsAtFailed, data_of, told_or_empty}
+use Rattle.rd_files.specs.declared.fault.BadFile.{BadFile}
+use Rattle.rd_files.specs.declared.fault.DataFile.{DataFile}
+use Rattle.rd_files.specs.declared.fault.DataKind.{DataKind}
+use Rattle.rd_ucd.specs.Data.{Data}
+use Rattle.rd_words.specs.Words.{WordValues}
+use Rattle.rd_run.specs.Ends.{Comes, Drawn}
+use Rattle.rd_run.specs.Given.{Given, AreTold, FileFailed, HasFailed, IsBadData, IsMode, names_of}
+use Rattle.rd_run.specs.Runs.{Mode, Turn}
+use Rattle.rd_run.specs.declared.status.Status.{Status}
+use Rattle.rd_run.specs.declared.status.Status.TheVariants.{Done, Usage, BadData, BadScript, ReadFault, WriteFault, NoMemory}
+
+-- the same words are given, and what is told of each file is the same
+abbrev pub AreGivenAlike : Given → Given → Type 0
+AreGivenAlike a b = (a.words ≡ b.words) × ((name : List ℕ) → a.contents name ≡ b.contents name)
+
+pub flipped : (a b : Given) → AreGivenAlike a b → AreGivenAlike b a
+flipped a b h = (sym h.0, λ name. sym (h.1 name))
+
+-- ---- the files
+
+-- bytes that are told are the same
+bytes-same : (one other : Option (List ℕ)) (x y : List ℕ) → one ≡ other → is_some one ≡ true → AreBytes x one → AreBytes y other → x ≡ y
+bytes-same None other x y e told p q = absurd (let k : false ≡ true = told in cc)
+bytes-same (Some f) None x y e told p q = absurd (let k : Some f ≡ None = e in cc)
+bytes-same (Some f) (Some g) x y e told p q =
+    let same : f ≡ g = (let k : Some f ≡ Some g = e in cc) in
+    let first : x ≡ f = p in
+    let second : y ≡ g = q in
+    first ∙ same ∙ sym second
+
+bracket-same : (a b : List ℕ → Option (List ℕ)) (o : Option (List ℕ)) → ((name : List ℕ) → a name ≡ b name) → told_or_empty a o ≡ told_or_empty b o
+bracket-same a b None h = refl
+bracket-same a b (Some name) h = h name
+
+bracket-told : (a : List ℕ → Option (List ℕ)) (o : Option (List ℕ)) → IfSome o (λ name. IsSome (a name)) → is_some (told_or_empty a o) ≡ true
+bracket-told a None h = refl
+bracket-told a (Some name) h = h
+
+data-same : (a b : List ℕ → Option (List ℕ)) (names : Named) (x y : Result Data BadFile) → ((name : List ℕ) → a name ≡ b name) → is_some (a names.class_file) ≡ true → is_some (a names.mirror_file) ≡ true
+    → IfSome names.bracket_file (λ name. IsSome (a name)) → GivesData a names x → GivesData b names y → x ≡ y
+data-same a b names x y h one two three p q =
+    let classes : p.0 ≡ q.0 = bytes-same (a names.class_file) (b names.class_file) p.0 q.0 (h names.class_file) one p.3 q.3 in
+    let mirrors : p.1 ≡ q.1 = bytes-same (a names.mirror_file) (b names.mirror_file) p.1 q.1 (h names.mirror_file) two p.4 q.4 in
+    let brackets : p.2 ≡ q.2 = bytes-same (told_or_empty a names.bracket_file) (told_or_empty b names.bracket_file) p.2 q.2 (bracket-same a b names.bracket_file h)
+    (bracket-told a names.bracket_file three) p.5 q.5 in
+    let same : data_of p.0 p.1 p.2 ≡ data_of q.0 q.1 q.2 = ap (λ c. data_of c p.1 p.2) classes ∙ ap (λ m. data_of q.0 m p.2) mirrors ∙ ap (λ r. data_of q.0 q.1 r) brackets in
+    sym p.6 ∙ same ∙ q.6
+
+words-same : (a b : Given) (w v : WordValues) → a.words ≡ b.words → a.words ≡ Some w → b.words ≡ Some v → w ≡ v
+words-same a b w v e p q = let k : Some w ≡ Some v = sym p ∙ e ∙ q in cc
+
+-- both read the same words, and what their files stand for is the same
+answers-same : (a b : Given) (w v : WordValues) (x y : Result Data BadFile) → AreGivenAlike a b → AreTold a → a.words ≡ Some w → b.words ≡ Some v
+    → GivesData a.contents (names_of w) x → GivesData b.contents (names_of v) y → (w ≡ v) × (x ≡ y)
+answers-same a b w v x y h told p q one other =
+    let same = words-same a b w v h.0 p q in
+    let known = told w p in
+    let moved : GivesData b.contents (names_of w) y = subst (λ u. GivesData b.contents (names_of u) y) (sym same) other in
+    (same, data-same a.contents b.contents (names_of w) x y h.1 known.0 known.1 known.2 one moved)
+
+-- ---- a run that begins
+
+abbrev pub mode_of : Data → Bool → Option ℕ → Mode
+mode_of files dumps generated = record { files = files; dumps = dumps; generated = generated }
+
+abbrev pub files_in : Data → Result Data BadFile → Data
+files_in other (Ok files) = files
+files_in other (Err fault) = other
+
+pub modes-same : (a b : Given) (m n : Mode) → AreGivenAlike a b → AreTold a → IsMode a m → IsMode b n → m ≡ n
+modes-same a b m n h told p q =
+    let both = answers-same a b p.words q.words (Ok m.files) (Ok n.files) h told p.said q.said p.files q.files in
+    let files : m.files ≡ n.files = ap (files_in m.files) both.1 in
+    let dumps : m.dumps ≡ n.dumps = p.dumps ∙ ap (λ (w : WordValues). w.dumps) both.0 ∙ sym q.dumps in
+    let generated : m.generated ≡ n.generated = p.generated ∙ ap (λ (w : WordValues). w.generate) both.0 ∙ sym q.generated in
+    ap (λ f. mode_of f m.dumps m.generated) files ∙ ap (λ d. mode_of n.files d m.generated) dumps ∙ ap (λ g. mode_of n.files n.dumps g) generated
+
+-- ---- one that doesn't
+
+-- the words or the files are refused with a status
+abbrev pub Refuses : Given → Status → Type 0
+Refuses given Usage = given.words ≡ None
+Refuses given (BadData file number kind) = IsBadData given file number kind
+Refuses given status = ⊥
+
+failed-one : (contents : List ℕ → Option (List ℕ)) (before after : List ℕ → ℕ) (w : WordValues) → StopsAtFailed contents before after (names_of w)
+    → FailedAt before after w.class_file ⊎ (FailedAt before after w.mirror_file ⊎ FailedAtSome before after w.bracket_file)
+failed-one contents before after w (inl a) = inl a
+failed-one contents before after w (inr (inl b)) = inr (inl b.1)
+failed-one contents before after w (inr (inr c)) = inr (inr c.2)
+
+pub has-failed : (given : Given) → FileFailed given → HasFailed given
+has-failed given f = (f.words, f.said, failed-one given.contents given.faults_before given.faults_after f.words f.failed)
+
+-- where no file failed and memory was not wanting, a run that has not begun was refused, and no line was run
+pub refuses : (given : Given) (status : Status) (turns : List Turn) (bytes : List ℕ) (source : Drawn) → (HasFailed given → ⊥) → (status ≡ NoMemory → ⊥) → Comes given None status turns bytes source
+    → Refuses given status × (turns ≡ [])
+refuses given Done turns bytes source failed found c = absurd c
+refuses given Usage turns bytes source failed found (words, nothing) = (words, nothing.0)
+refuses given (BadData file number kind) turns bytes source failed found (bad, nothing) = (bad, nothing.0)
+refuses given (BadScript number fault) turns bytes source failed found c = absurd c
+refuses given ReadFault turns bytes source failed found (file, nothing) = absurd (failed (has-failed given file))
+refuses given WriteFault turns bytes source failed found c = absurd c
+refuses given NoMemory turns bytes source failed found c = absurd (found refl)
+
+not-known : (a b : Given) (w : WordValues) → AreGivenAlike a b → a.words ≡ None → b.words ≡ Some w → ⊥
+not-known a b w h p q = let k : None ≡ Some w = sym p ∙ h.0 ∙ q in cc
+
+-- what is refused doesn't begin
+pub not-begun : (a b : Given) (status : Status) (mode : Mode) → AreGivenAlike a b → AreTold a → Refuses a status → IsMode b mode → ⊥
+not-begun a b Done mode h told r m = r
+not-begun a b Usage mode h told r m = not-known a b m.words h r m.said
+not-begun a b (BadData file number kind) mode h told r m =
+    let both = answers-same a b r.words m.words (Err (record { file = file; line = number; kind = kind })) (Ok mode.files) h told r.said m.said r.files m.files in
+    let k : false ≡ true = ap is_ok both.1 in
+    cc
+not-begun a b (BadScript number fault) mode h told r m = r
+not-begun a b ReadFault mode h told r m = r
+not-begun a b WriteFault mode h told r m = r
+not-begun a b NoMemory mode h told r m = r
+
+abbrev pub status_of : Result Data BadFile → Status
+status_of (Ok files) = Done
+status_of (Err fault) = BadData fault.file fault.line fault.kind
+
+bad-same : (a b : Given) (file other : DataFile) (m n : ℕ) (kind reason : DataKind) → AreGivenAlike a b → AreTold a → IsBadData a file m kind → IsBadData b other n reason
+    → BadData file m kind ≡ BadData other n reason
+bad-same a b file other m n kind reason h told p q =
+    let both = answers-same a b p.words q.words (Err (record { file = file; line = m; kind = kind })) (Err (record { file = other; line = n; kind = reason })) h told p.said q.said p.files q.files in
+    ap status_of both.1
+
+-- it is refused with one status
+pub refused-alike : (a b : Given) (s r : Status) → AreGivenAlike a b → AreTold a → Refuses a s → Refuses b r → s ≡ r
+refused-alike a b Usage Usage h told p q = refl
+refused-alike a b Usage (BadData file n kind) h told p q = absurd (not-known a b q.words h p q.said)
+refused-alike a b (BadData file n kind) Usage h told p q = absurd (not-known b a p.words (flipped a b h) q p.said)
+refused-alike a b (BadData file m kind) (BadData other n reason) h told p q = bad-same a b file other m n kind reason h told p q
+refused-alike a b Done r h told p q = absurd p
+refused-alike a b (BadScript n fault) r h told p q = absurd p
+refused-alike a b ReadFault r h told p q = absurd p
+refused-alike a b WriteFault r h told p q = absurd p
+refused-alike a b NoMemory r h told p q = absurd p
+refused-alike a b Usage Done h told p q = absurd q
+refused-alike a b Usage (BadScript n fault) h told p q = absurd q
+refused-alike a b Usage ReadFault h told p q = absurd q
+refused-alike a b Usage WriteFault h told p q = absurd q
+refused-alike a b Usage NoMemory h told p q = absurd q
+refused-alike a b (BadData file m kind) Done h told p q = absurd q
+refused-alike a b (BadData file m kind) (BadScript n fault) h told p q = absurd q
+refused-alike a b (BadData file m kind) ReadFault h told p q = absurd q
+refused-alike a b (BadData file m kind) WriteFault h told p q = absurd q
+refused-alike a b (BadData file m kind) NoMemory h told p q = absurd q

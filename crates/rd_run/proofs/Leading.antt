@@ -1,0 +1,123 @@
+-- A redisplay that is sent leads from a session to a session, whose layouts are those from nothing.
+use Rattle.std.proofs.Common.{◌≡◌, ℕ, Bool, List, [], ◌∷◌, ◌++◌, map, Option, None, Some, refl, sym, ap, ◌∙◌, subst}
+use Rattle.std.proofs.lemmas.List.Elements.{recursion_from_All}
+use Rattle.std.specs.List.{AllByRecursion, flat_map}
+use Rattle.std.specs.Prelude.{option_map}
+use Rattle.rd_frame.specs.Panes.{body_height}
+use Rattle.rd_matrix.specs.Entries.{EntryMeaning, shown_entries}
+use Rattle.rd_matrix.specs.declared.matrix.Entry.{Entry}
+use Rattle.rd_reuse.specs.Changes.{none}
+use Rattle.rd_state.specs.States.{StateValue}
+use Rattle.rd_state.specs.Valid.{IsValid}
+use Rattle.rd_state.specs.Windows.{leaf_at, leaf_of, window_of}
+use Rattle.rd_state.specs.declared.window.WindowState.{WindowState}
+use Rattle.rd_tree.specs.Calls.{frame_of}
+use Rattle.rd_tree.specs.Windows.{Windows, window_at}
+use Rattle.rd_tree.specs.declared.placed.Placed.{Placed}
+use Rattle.rd_tree.specs.declared.rect.Rect.{Rect}
+use Rattle.rd_ucd.specs.Data.{Data}
+use Rattle.rd_window.specs.Layouts.{IsLaidOut}
+use Rattle.rd_window.specs.declared.layout.Layout.{Layout}
+use Rattle.rd_layout.specs.Copies.{fresh_at, fresh_by, made, redisplayed}
+use Rattle.rd_layout.specs.Redisplays.{AreLaidOut, IsLaidOutBy, IsSent, update_of}
+use Rattle.rd_layout.specs.Sessions.{SessionValue}
+use Rattle.rd_layout.specs.Since.{IsSession}
+use Rattle.rd_layout.specs.Windows.{place_of, places, view_in, wanted_of, window_shape, window_source}
+use Rattle.rd_layout.proofs.Placed.{PlaceLaws, all-places}
+
+-- what the layers below say
+pub record LeadLaws : Type 0 where
+  pub places : PlaceLaws
+  pub leaves : (number : ℕ) (windows : Windows) (rect : Rect) (window : Placed) → window_at number windows rect ≡ Some window → leaf_at number windows ≡ Some (window.mode, window.margins)
+  pub lead : (rows : ℕ) (done : Bool) (stop : Option ℕ) (old new : SessionValue) (before after : Option (List ℕ)) → IsSession old
+      → IsSent rows done stop old new before after → IsSession new
+
+-- ---- one window
+
+-- its layout from nothing
+abbrev pub fresh : Data → StateValue → WindowState → Placed → Layout
+fresh files s w place = record {
+  matrix = map made (view_in files s w place).rows;
+  shape = window_shape s w place;
+  height = body_height place;
+  margin = s.margin;
+  conservatively = s.conservatively;
+  top = (view_in files s w place).top;
+  bottom = (view_in files s w place).bottom;
+  change = none;
+}
+
+shown-made : (rows : List EntryMeaning) → shown_entries (map made rows) ≡ rows
+shown-made [] = refl
+shown-made (row ∷ rows) = ap (λ es. row ∷ es) (shown-made rows)
+
+nothing-under : (e : Entry) → None ≡ Some e → ⊥
+nothing-under e h = absurd (cc)
+
+fresh-laid : (files : Data) (s : StateValue) (w : WindowState) (p : Placed)
+    → IsLaidOut None (window_source files s w) (window_shape s w p) (wanted_of s w p) (fresh files s w p)
+fresh-laid files s w p = record {
+  rows = shown-made (view_in files s w p).rows;
+  shape_is = refl;
+  height = refl;
+  margin = refl;
+  conservatively = refl;
+  top = refl;
+  bottom = refl;
+  change = refl;
+  stays = λ rests. absurd (cc);
+  copies = λ rests k d less b o among at kept under. absurd (nothing-under o under);
+}
+
+-- ---- all windows
+
+-- a session in which nothing was laid out
+abbrev pub bare : SessionValue → SessionValue
+bare v = record v { layouts = [] }
+
+bare-session : (v : SessionValue) → IsSession v → IsSession (bare v)
+bare-session v h = record { state = h.state; screen = h.screen; made = λ number l at. absurd (cc); layouts = λ number w l lives at. absurd (cc) }
+
+-- a window that lives
+abbrev pub Lives : StateValue → Placed → Type 0
+Lives s p = (w : WindowState) × (window_of p.number s.windows ≡ Some w)
+
+some-of : (o : Option WindowState) (leaf : Bool × ℕ) → option_map leaf_of o ≡ Some leaf → (w : WindowState) × (o ≡ Some w)
+some-of None leaf h = absurd (let k : None ≡ Some leaf = h in cc)
+some-of (Some w) leaf h = (w, refl)
+
+all-live : (laws : LeadLaws) (s : StateValue) → IsValid s → AllByRecursion (Lives s) (places s)
+all-live laws s valid = recursion_from_All (Lives s) (places s) (all-places laws.places s valid (Lives s) lives) where
+  lives : (p : Placed) → place_of p.number s ≡ Some p → Lives s p
+  lives p at =
+      let leaf = laws.leaves p.number s.tree.windows (frame_of s.tree) p at in
+      some-of (window_of p.number s.windows) (p.mode, p.margins) (sym (valid.windows.leaves p.number) ∙ leaf)
+
+one-laid : (v : SessionValue) (p : Placed) (ps : List Placed) (es : List (ℕ × Layout)) (o : Option WindowState) (w : WindowState) → window_of p.number v.state.windows ≡ o → o ≡ Some w
+    → AreLaidOut (bare v) ps es → AreLaidOut (bare v) (p ∷ ps) (fresh_by v.files v.state p o ++ es)
+one-laid v p ps es None w at lives h = absurd (let k : None ≡ Some w = lives in cc)
+one-laid v p ps es (Some x) w at lives h =
+    let laid : IsLaidOutBy v.files v.state None p (window_of p.number v.state.windows) (fresh v.files v.state x p) =
+    subst (λ o. IsLaidOutBy v.files v.state None p o (fresh v.files v.state x p)) (sym at) (fresh-laid v.files v.state x p) in
+    (refl, laid, h)
+
+all-laid : (v : SessionValue) (ps : List Placed) → AllByRecursion (Lives v.state) ps → AreLaidOut (bare v) ps (flat_map (fresh_at v.files v.state) ps)
+all-laid v [] h = tt
+all-laid v (p ∷ ps) h = one-laid v p ps (flat_map (fresh_at v.files v.state) ps) (window_of p.number v.state.windows) h.0.0 refl h.0.1 (all-laid v ps h.1)
+
+-- ---- the session
+
+sent : (laws : LeadLaws) (v : SessionValue) (stop : Option ℕ) → IsSession v → IsSent (update_of v stop).rows (update_of v stop).done stop (bare v) (redisplayed v stop) None None
+sent laws v stop h = record {
+  files = refl;
+  state = refl;
+  current = refl;
+  layouts = all-laid v (places v.state) (all-live laws v.state h.state);
+  bytes = tt;
+  count = refl;
+  whole = refl;
+}
+
+pub leads-on : (laws : LeadLaws) (v : SessionValue) (stop : Option ℕ) → IsSession v → IsSession (redisplayed v stop)
+leads-on laws v stop h =
+    laws.lead (update_of v stop).rows (update_of v stop).done stop (bare v) (redisplayed v stop) None None (bare-session v h) (sent laws v stop h)

@@ -1,0 +1,9 @@
+pub mod Alike
+pub mod Begun
+pub mod Headline
+pub mod Leading
+pub mod Ops
+pub mod Scripts
+pub mod Turns
+pub mod Validity
+pub mod Whole

@@ -1,0 +1,103 @@
+-- The lines of a script, by the bytes of it that were taken.
+use Rattle.std.proofs.Common.{◌≡◌, ◌≢◌, ℕ, zero, suc, ◌<◌, ◌≤◌, inl, inr, ◌==◌, Bool, true, false, if◌then◌else◌, List, [], ◌∷◌, ◌++◌, length, take, Option, None, Some, refl, sym, ap, ◌∙◌, subst, append_assoc, append-nil, arith, length-append}
+use Rattle.std.specs.List.{AllByRecursion}
+use Rattle.std.proofs.lemmas.Bool.Decides.{nat_tests}
+use Rattle.std.proofs.lemmas.List.{take-append-le}
+use Rattle.std.specs.Io.KnownBytes.{Consumes, IsAtEnd}
+use Rattle.rd_io.specs.Lines.{lines_of, in_front, joined, IsUnbroken}
+use Rattle.rd_io.proofs.Cuts.{lines-whole}
+use Rattle.rd_run.specs.Ends.{Begins, AreFirst}
+
+-- what holds of each of some lines holds of those in front
+pub all-front : (P : List ℕ → Type 0) (xs ys : List (List ℕ)) → AllByRecursion P (xs ++ ys) → AllByRecursion P xs
+all-front P [] ys h = tt
+all-front P (x ∷ xs) ys h = (h.0, all-front P xs ys h.1)
+
+-- what holds of each of some lines holds of one that stands behind others
+pub all-behind : (P : List ℕ → Type 0) (xs : List (List ℕ)) (x : List ℕ) (ys : List (List ℕ)) → AllByRecursion P (xs ++ x ∷ ys) → P x
+all-behind P [] x ys h = h.0
+all-behind P (y ∷ xs) x ys h = all-behind P xs x ys h.1
+
+-- ---- lines
+
+lines-behind : (lines : List (List ℕ)) (rest : List ℕ) → AllByRecursion IsUnbroken lines → lines_of (joined lines ++ rest) ≡ lines ++ lines_of rest
+lines-behind [] rest p = refl
+lines-behind (line ∷ lines) rest p =
+    let regrouped : joined (line ∷ lines) ++ rest ≡ line ++ 10 ∷ (joined lines ++ rest) = simp append_assoc in
+    ap lines_of regrouped ∙ lines-whole line (joined lines ++ rest) p.0 ∙ ap (λ ls. line ∷ ls) (lines-behind lines rest p.1)
+
+-- a first line, which has at least so many bytes
+pub record HasFirst (n : ℕ) (lines : List (List ℕ)) : Type 0 where
+  pub line : List ℕ
+  pub others : List (List ℕ)
+  pub split : lines ≡ line ∷ others
+  pub long : n ≤ length line
+
+longer : (n b : ℕ) (lines : List (List ℕ)) → HasFirst n lines → HasFirst (suc n) (in_front b lines)
+longer n b lines h =
+    let long : suc n ≤ length (b ∷ h.line) = let k = h.long in omega arith in
+    record { line = b ∷ h.line; others = h.others; split = ap (in_front b) h.split; long = long }
+
+alone : (b : ℕ) (lines : List (List ℕ)) → HasFirst 1 (in_front b lines)
+alone b [] = record { line = b ∷ []; others = []; split = refl; long = omega arith }
+alone b (line ∷ lines) = record { line = b ∷ line; others = lines; split = refl; long = omega arith }
+
+not_ten : (b : ℕ) → b ≢ 10 → (b == 10) ≡ false
+not_ten b p = grind (arith, nat_tests)
+
+-- bytes that begin with so many that are no newline have a line that is as long
+first-long : (n : ℕ) (bytes : List ℕ) → suc n ≤ length bytes → IsUnbroken (take (suc n) bytes) → HasFirst (suc n) (lines_of bytes)
+first-long n [] p h = absurd (omega arith)
+first-long zero (b ∷ bs) p h = rw (not_ten b h.0) (alone b (lines_of bs))
+first-long (suc n) (b ∷ bs) p h =
+    let within : suc n ≤ length bs = omega arith in
+    rw (not_ten b h.0) (longer (suc n) b (lines_of bs) (first-long n bs within h.1))
+
+-- a text that is not empty has a line
+some-if : (c : Bool) (b : ℕ) (lines : List (List ℕ)) → 0 < length (if c then [] ∷ lines else in_front b lines)
+some-if true b lines = omega arith
+some-if false b [] = omega arith
+some-if false b (line ∷ lines) = omega arith
+
+some-line : (bytes : List ℕ) → 0 < length bytes → 0 < length (lines_of bytes)
+some-line [] p = p
+some-line (b ∷ bs) p = some-if (b == 10) b (lines_of bs)
+
+first-some : (lines : List (List ℕ)) → 0 < length lines → HasFirst 0 lines
+first-some [] p = absurd (omega arith)
+first-some (line ∷ others) p = record { line = line; others = others; split = refl; long = omega arith }
+
+-- a rest that is not empty begins a line, whatever comes behind it
+pub more-line : (rest more : List ℕ) → 0 < length rest → HasFirst 0 (lines_of (rest ++ more))
+more-line rest more p = first-some (lines_of (rest ++ more)) (some-line (rest ++ more) (omega (arith, length-append rest more)))
+
+-- a rest that has come to be too long begins a line that is too long, whatever comes behind it
+pub long-line : (n m : ℕ) (rest more : List ℕ) → m ≡ suc n → n < length rest → IsUnbroken (take m rest) → HasFirst (suc n) (lines_of (rest ++ more))
+long-line n m rest more e long free =
+    let same : take (suc n) (rest ++ more) ≡ take m rest = let within : suc n ≤ length rest = omega arith in take-append-le (suc n) rest more within ∙ ap (λ k. take k rest) (sym e) in
+    let reach : suc n ≤ length (rest ++ more) = omega (arith, length-append rest more) in
+    first-long n (rest ++ more) reach (subst IsUnbroken (sym same) free)
+
+-- ---- the bytes taken
+
+-- the whole script, where these bytes of it were taken
+abbrev pub IsTakenFrom : List ℕ → List ℕ → Option (List ℕ) → Type 0
+IsTakenFrom script bytes left = Consumes (Some script) left bytes
+
+-- the script goes on as the bytes taken do
+pub goes-on : (lines : List (List ℕ)) (script bytes rest : List ℕ) (left : Option (List ℕ)) → IsTakenFrom script bytes left → Begins lines bytes rest
+    → (more : List ℕ) × (lines_of script ≡ lines ++ lines_of (rest ++ more))
+goes-on lines script bytes rest None p b = absurd p
+goes-on lines script bytes rest (Some more) p b =
+    let whole : script ≡ joined lines ++ (rest ++ more) = p ∙ ap (λ l. l ++ more) b.1 ∙ append_assoc (joined lines) rest more in
+    (more, ap lines_of whole ∙ lines-behind lines (rest ++ more) b.0)
+
+pub ends-there : (script bytes : List ℕ) (left : Option (List ℕ)) → IsTakenFrom script bytes left → IsAtEnd left → script ≡ bytes
+ends-there script bytes None p q = absurd p
+ends-there script bytes (Some more) p q = p ∙ ap (λ l. bytes ++ l) q ∙ append-nil bytes
+
+-- the first lines of the bytes taken are the first of the script
+pub first-lines : (lines : List (List ℕ)) (script bytes : List ℕ) (left : Option (List ℕ)) → IsTakenFrom script bytes left → AreFirst lines bytes left
+    → (more : List (List ℕ)) × (lines_of script ≡ lines ++ more)
+first-lines lines script bytes left p (limits, inl first) = let on = goes-on lines script bytes first.0 left p first.1 in (lines_of (first.0 ++ on.0), on.1)
+first-lines lines script bytes left p (limits, inr all) = ([], ap lines_of (ends-there script bytes left p all.1) ∙ all.0 ∙ sym (append-nil lines))

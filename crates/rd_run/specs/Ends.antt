@@ -1,0 +1,254 @@
+-- How a run ends: when each status comes, and what was then written to the screen and to the report.
+use Rattle.std.specs.Prelude.{◌≡◌, ℕ, ◌+◌, ◌<◌, ◌≤◌, ◌⊎◌, true, false, List, [], ◌∷◌, ◌++◌, length, take, map, Option, None, Some, unwrap_or}
+use Rattle.std.specs.List.{AllByRecursion}
+use Rattle.std.specs.Io.KnownBytes.{Appends, IsAtEnd}
+use Rattle.rd_base.specs.declared.limits.TheConstants.{LINE_BYTES, LINES}
+use Rattle.rd_io.specs.Devices.{Rose}
+use Rattle.rd_io.specs.Lines.{lines_of, joined, IsUnbroken}
+use Rattle.rd_generate.specs.Generated.{script as generated}
+use Rattle.rd_state.specs.States.{main_name}
+use Rattle.rd_state.specs.Windows.{selected_window}
+use Rattle.rd_layout.specs.Sessions.{length_of}
+use Rattle.rd_run.specs.Given.{Given, IsMode, IsBadData, FileFailed}
+use Rattle.rd_run.specs.Reports.{last_line, summary_lines}
+use Rattle.rd_run.specs.Runs.{Mode, Standing, Turn, opened, effect, run, outcome_at, is_sent, ShowsEach}
+use Rattle.rd_run.specs.declared.status.ScriptFault.{ScriptFault}
+use Rattle.rd_run.specs.declared.status.ScriptFault.TheVariants.{TooLong, TooMany}
+use Rattle.rd_run.specs.declared.status.Status.{Status}
+use Rattle.rd_run.specs.declared.status.Status.TheVariants.{Done, Usage, BadData, BadScript, ReadFault, WriteFault, NoMemory}
+
+-- ---- what calls did to the source and to a sink
+
+-- the bytes that the source has left, where they are told, and how often it had and has failed
+pub record Drawn : Type 0 where
+  pub left : Option (List ℕ)
+  pub faults_before : ℕ
+  pub faults_after : ℕ
+
+abbrev pub drawn : Option (List ℕ) → ℕ → ℕ → Drawn
+drawn left faults_before faults_after = record { left = left; faults_before = faults_before; faults_after = faults_after }
+
+-- the bytes that a sink had and has, where they are told, and how often it had and has failed
+pub record Sunk : Type 0 where
+  pub before : Option (List ℕ)
+  pub after : Option (List ℕ)
+  pub faults_before : ℕ
+  pub faults_after : ℕ
+
+abbrev pub sunk : Option (List ℕ) → Option (List ℕ) → ℕ → ℕ → Sunk
+sunk before after faults_before faults_after =
+    record { before = before; after = after; faults_before = faults_before; faults_after = faults_after }
+
+-- these bytes were written to it
+abbrev pub Took : Sunk → List ℕ → Type 0
+Took s bytes = Appends s.before s.after bytes
+
+-- its count of faults rose, and these bytes and then a front of others were written to it
+pub record Broke (s : Sunk) (bytes others : List ℕ) : Type 0 where
+  pub rose : Rose s.faults_before s.faults_after
+  pub front : (n : ℕ) × (n ≤ length others) × Appends s.before s.after (bytes ++ take n others)
+
+-- ---- the lines that were run
+
+abbrev pub lines_in : List Turn → List (List ℕ)
+lines_in turns = map (λ t. t.line) turns
+
+-- lines that a script may have: none is too long, and they are not too many
+pub record AreInLimits (lines : List (List ℕ)) : Type 0 where
+  pub short : AllByRecursion (λ line. length line ≤ LINE_BYTES) lines
+  pub few : length lines ≤ LINES
+
+-- the bytes are these lines, each with its newline, and a rest
+abbrev pub Begins : List (List ℕ) → List ℕ → List ℕ → Type 0
+Begins lines bytes rest = AllByRecursion IsUnbroken lines × (bytes ≡ joined lines ++ rest)
+
+-- the bytes taken from the source are the lines run, which pass no limit, each with its newline, and a rest
+abbrev pub GoesOn : List Turn → List ℕ → List ℕ → Type 0
+GoesOn turns bytes rest = AreInLimits (lines_in turns) × Begins (lines_in turns) bytes rest
+
+-- these lines, which pass no limit, are the first of the bytes taken from the source; the last of them needs no newline where the
+-- source, which has this left, has no byte left
+abbrev pub AreFirst : List (List ℕ) → List ℕ → Option (List ℕ) → Type 0
+AreFirst lines bytes left = AreInLimits lines × (((rest : List ℕ) × Begins lines bytes rest) ⊎ ((lines_of bytes ≡ lines) × IsAtEnd left))
+
+-- ---- when each status comes
+
+-- what has come of a line behind those that were run: it has no newline, is not too long, and begins no line that is one too many
+abbrev pub IsBegun : List Turn → List ℕ → Type 0
+IsBegun turns rest = IsUnbroken rest × (length rest ≤ LINE_BYTES) × ((length turns < LINES) ⊎ (rest ≡ []))
+
+-- a line that is too long, or one too many: nothing of it was run
+abbrev pub IsOver : ScriptFault → List Turn → List ℕ → Type 0
+IsOver TooLong turns bytes =
+    (rest : List ℕ) × GoesOn turns bytes rest × (length turns < LINES) × (LINE_BYTES < length rest) × IsUnbroken (take (LINE_BYTES + 1) rest)
+IsOver TooMany turns bytes = (rest : List ℕ) × GoesOn turns bytes rest × (length turns ≡ LINES) × (0 < length rest)
+IsOver fault turns bytes = ⊥
+
+-- the lines run, and perhaps one in hand, are the first of a generated script, and no byte was taken from the source
+abbrev pub AreFirstOf : ℕ → List (List ℕ) → List ℕ → Type 0
+AreFirstOf number lines bytes = (lines ≡ take (length lines) (generated number)) × (bytes ≡ [])
+
+-- lines are the first ones of a run's script: of the one that is read, or of a generated one
+abbrev pub AreScript : Option ℕ → List (List ℕ) → List ℕ → Option (List ℕ) → Type 0
+AreScript None lines bytes left = AreFirst lines bytes left
+AreScript (Some number) lines bytes left = AreFirstOf number lines bytes
+
+-- lines that have ended are the first ones
+abbrev pub IsTaken : Option ℕ → List Turn → List ℕ → Type 0
+IsTaken None turns bytes = (rest : List ℕ) × GoesOn turns bytes rest
+IsTaken (Some number) turns bytes = AreFirstOf number (lines_in turns) bytes
+
+-- lines are all of the script
+abbrev pub AreAll : Option ℕ → List Turn → List ℕ → Option (List ℕ) → Type 0
+AreAll None turns bytes left = AreInLimits (lines_in turns) × (lines_of bytes ≡ lines_in turns) × IsAtEnd left
+AreAll (Some number) turns bytes left = (lines_in turns ≡ generated number) × (bytes ≡ [])
+
+-- no line was refused
+abbrev pub Ran : Mode → List Turn → Type 0
+Ran mode turns = (run (opened mode) turns).fault ≡ None
+
+-- a line that is bad: it is no op, or its op was refused; it is the last of those that were run, and the first that is bad
+pub record IsBad (mode : Mode) (fault : ScriptFault) (number : ℕ) (turns : List Turn) (bytes : List ℕ) (left : Option (List ℕ)) : Type 0 where
+  pub others : List Turn
+  pub last : Turn
+  pub split : turns ≡ others ++ last ∷ []
+  pub ran : Ran mode others
+  pub ended : (run (opened mode) turns).fault ≡ Some fault
+  pub at : number ≡ length turns
+  pub lines : AreScript mode.generated (lines_in turns) bytes left
+
+-- a line that is too long or one too many; a generated script has none
+pub record IsPast (mode : Mode) (fault : ScriptFault) (number : ℕ) (turns : List Turn) (bytes : List ℕ) : Type 0 where
+  pub ran : Ran mode turns
+  pub at : number ≡ length turns + 1
+  pub over : IsOver fault turns bytes
+  pub read : mode.generated ≡ None
+
+-- no line was run and no byte was taken
+abbrev pub IsNothing : List Turn → List ℕ → Type 0
+IsNothing turns bytes = (turns ≡ []) × (bytes ≡ [])
+
+-- when a status comes that is no write fault, in a run that has begun, for the lines that were run before and the bytes taken from the source
+abbrev pub ComesIn : Mode → Status → List Turn → List ℕ → Drawn → Type 0
+-- the script was run to its end, and each op was accepted
+ComesIn mode Done turns bytes source = Ran mode turns × AreAll mode.generated turns bytes source.left
+ComesIn mode (BadScript number fault) turns bytes source = IsBad mode fault number turns bytes source.left ⊎ IsPast mode fault number turns bytes
+-- the source failed, and the lines that end with a newline among the bytes taken were run
+ComesIn mode ReadFault turns bytes source =
+    Ran mode turns × (mode.generated ≡ None) × Rose source.faults_before source.faults_after × ((rest : List ℕ) × GoesOn turns bytes rest × IsBegun turns rest)
+-- the op in hand was given up
+ComesIn mode NoMemory turns bytes source = Ran mode turns × IsTaken mode.generated turns bytes
+ComesIn mode status turns bytes source = ⊥
+
+-- When a status comes that is no write fault. A run begins where the words are those of the command and the data files were read and are
+-- good; else no line is run.
+abbrev pub Comes : Given → Option Mode → Status → List Turn → List ℕ → Drawn → Type 0
+Comes given None Usage turns bytes source = (given.words ≡ None) × IsNothing turns bytes
+Comes given None (BadData file number kind) turns bytes source = IsBadData given file number kind × IsNothing turns bytes
+Comes given None ReadFault turns bytes source = FileFailed given × IsNothing turns bytes
+Comes given None NoMemory turns bytes source = IsNothing turns bytes
+Comes given None status turns bytes source = ⊥
+Comes given (Some mode) status turns bytes source = IsMode given mode × ComesIn mode status turns bytes source
+
+-- ---- what was written
+
+-- what the lines that were run sent to the screen, and what they told the report
+abbrev pub sent_in : Option Mode → List Turn → List ℕ
+sent_in None turns = []
+sent_in (Some mode) turns = (run (opened mode) turns).sent
+
+abbrev pub told_in : Option Mode → List Turn → List ℕ
+told_in None turns = []
+told_in (Some mode) turns = (run (opened mode) turns).told
+
+-- where the lines that were run may place no more elements than this
+abbrev pub allowed_in : Option Mode → List Turn → ℕ
+allowed_in None turns = 0
+allowed_in (Some mode) turns = (run (opened mode) turns).allowed
+
+-- what is told at the end of a generated script
+abbrev pub summary : Standing → List ℕ
+summary now = summary_lines now.lines now.shown (unwrap_or (length_of main_name now.session.state.buffers) 0) (selected_window now.session.state).anchor
+
+abbrev pub done_of : Option ℕ → Standing → List ℕ
+done_of None now = last_line Done now.lines
+done_of (Some number) now = summary now
+
+-- the last line that a status tells
+abbrev pub last_in : Option Mode → Status → List Turn → List ℕ
+last_in (Some mode) Done turns = done_of mode.generated (run (opened mode) turns).now
+last_in mode status turns = last_line status (length turns)
+
+-- all was written, and behind it the last line of the status
+pub record IsWhole (given : Given) (mode : Option Mode) (status : Status) (turns : List Turn) (bytes : List ℕ) (source : Drawn) (screen report : Sunk) : Type 0 where
+  pub comes : Comes given mode status turns bytes source
+  pub sent : Took screen (sent_in mode turns)
+  pub told : Took report (told_in mode turns ++ last_in mode status turns)
+
+-- a redisplay is the line in hand, behind those that were run
+pub record IsInHand (given : Given) (mode : Mode) (turns : List Turn) (line bytes : List ℕ) (left : Option (List ℕ)) : Type 0 where
+  pub begun : IsMode given mode
+  pub ran : Ran mode turns
+  pub lines : AreScript mode.generated (lines_in turns ++ line ∷ []) bytes left
+  pub shown : is_sent (outcome_at (run (opened mode) turns) (record { line = line; starved = false })) ≡ true
+
+-- the report has `write fault`, or a front of it where the report failed too
+abbrev pub TellsFault : Sunk → List ℕ → List Turn → Type 0
+TellsFault report told turns =
+    Took report (told ++ last_line WriteFault (length turns)) ⊎ Broke report told (last_line WriteFault (length turns))
+
+-- the screen failed at an update
+pub record ScreenBroke (given : Given) (mode : Mode) (turns : List Turn) (line bytes : List ℕ) (source : Drawn) (screen report : Sunk) : Type 0 where
+  pub hand : IsInHand given mode turns line bytes source.left
+  pub sent : Broke screen (run (opened mode) turns).sent (effect (run (opened mode) turns).now (record { line = line; starved = false })).sent
+  pub told : TellsFault report (run (opened mode) turns).told turns
+
+-- The report failed at what a redisplay tells, whose update, where it found memory, was sent whole: the terminal shows it, though
+-- the report does not tell it whole. That of a generated script tells the want of memory alone.
+pub record ReportBroke (given : Given) (mode : Mode) (turns : List Turn) (t : Turn) (bytes : List ℕ) (source : Drawn) (screen report : Sunk) : Type 0 where
+  pub hand : IsInHand given mode turns t.line bytes source.left
+  pub sent : Took screen ((run (opened mode) turns).sent ++ (effect (run (opened mode) turns).now t).sent)
+  pub told : Broke report (run (opened mode) turns).told (effect (run (opened mode) turns).now t).told
+  pub shows : ShowsEach (opened mode) (turns ++ t ∷ [])
+  pub tells : (mode.generated ≡ None) ⊎ (t.starved ≡ true)
+
+-- the report failed at the last line of the status that would have come
+pub record LastBroke (given : Given) (mode : Option Mode) (status : Status) (turns : List Turn) (bytes : List ℕ) (source : Drawn) (screen report : Sunk) : Type 0 where
+  pub comes : Comes given mode status turns bytes source
+  pub sent : Took screen (sent_in mode turns)
+  pub told : Broke report (told_in mode turns) (last_in mode status turns)
+
+-- One of the writes broke, all before it are whole, and nothing was written behind it but `write fault`. Where no run has begun there
+-- is no write but the last line.
+abbrev pub IsBroken : Given → Option Mode → List Turn → List ℕ → Drawn → Sunk → Sunk → Type 0
+IsBroken given None turns bytes source screen report = (status : Status) × LastBroke given None status turns bytes source screen report
+IsBroken given (Some mode) turns bytes source screen report =
+    ((line : List ℕ) × ScreenBroke given mode turns line bytes source screen report)
+    ⊎ (((t : Turn) × ReportBroke given mode turns t bytes source screen report)
+    ⊎ ((status : Status) × LastBroke given (Some mode) status turns bytes source screen report))
+
+-- The run of these lines ended with this status: all was written, or the status is that of a write fault and a write broke.
+abbrev pub Ended : Given → Option Mode → Status → List Turn → List ℕ → Drawn → Sunk → Sunk → Type 0
+Ended given mode status turns bytes source screen report =
+    IsWhole given mode status turns bytes source screen report ⊎ ((status ≡ WriteFault) × IsBroken given mode turns bytes source screen report)
+
+-- behind each redisplay that was shown the terminal shows what the rules give from nothing
+abbrev pub ShowsIn : Option Mode → List Turn → Type 0
+ShowsIn None turns = Unit {0}
+ShowsIn (Some mode) turns = ShowsEach (opened mode) turns
+
+-- ---- scripts without a fault
+
+-- the lines of a run's script, which is read from these bytes or generated
+abbrev pub script_of : Option ℕ → List ℕ → List (List ℕ)
+script_of None script = lines_of script
+script_of (Some number) script = generated number
+
+-- No line of a script that is read is too long or one too many, and each op is accepted, whichever redisplays find memory.
+pub record IsValidScript (mode : Mode) (script : List ℕ) : Type 0 where
+  pub limits : mode.generated ≡ None → AreInLimits (lines_of script)
+  pub accepted : (turns : List Turn) → lines_in turns ≡ script_of mode.generated script → Ran mode turns
+
+-- the run ended well
+abbrev pub EndsWell : Status → Type 0
+EndsWell status = (status ≡ Done) ⊎ (status ≡ NoMemory)

@@ -1,0 +1,7 @@
+pub mod Alike
+pub mod Ends
+pub mod Examples
+pub mod Given
+pub mod Reports
+pub mod Runs
+pub mod Statuses

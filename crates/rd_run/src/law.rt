@@ -1,0 +1,57 @@
+//! The laws of a run.
+ghost use Rattle.std.specs.Prelude.{◌≡◌, ℕ, List};
+ghost use Rattle.rd_run.specs.Alike.{AreAlike, AreStarvedAlike, End, IsFaultless, IsUndisturbed};
+ghost use Rattle.rd_run.specs.Ends.{EndsWell, IsValidScript};
+ghost use Rattle.rd_run.specs.Given.{IsMode};
+ghost use Rattle.rd_run.specs.Runs.{KnowsEach, Mode, ShowsEach, Turn, opened};
+
+use rd_layout::{
+    redisplays_keep_states, redisplays_lead_on, sessions_stay_known, targets_are_sound,
+};
+use rd_lineshift::{shift_law, shifted_updates_reach_their_targets};
+use rd_state::windows_are_leaves;
+use rd_tree::windows_tile_their_rectangle;
+
+/// The headline, over all runs: behind each redisplay that was shown, the written terminal, which reads the bytes since the last
+/// accepted frame, shows exactly what the rules give from nothing for the state before that redisplay. The call does nothing.
+pub fn each_redisplay_is_shown()
+    ensures { (mode : Mode) (turns : List Turn) → ShowsEach (opened mode) turns }
+{
+    redisplays_keep_states();
+    redisplays_lead_on();
+    sessions_stay_known();
+    shift_law();
+    shifted_updates_reach_their_targets();
+    targets_are_sound();
+    windows_are_leaves();
+    windows_tile_their_rectangle();
+}
+
+/// Behind each redisplay that was shown or stopped, with whatever edits between the slices of an update, the current screen is what the
+/// written terminal shows. The call does nothing.
+pub fn each_slice_is_known()
+    ensures { (mode : Mode) (turns : List Turn) → KnowsEach (opened mode) turns }
+{
+    redisplays_keep_states();
+    redisplays_lead_on();
+    sessions_stay_known();
+    shift_law();
+    shifted_updates_reach_their_targets();
+    targets_are_sound();
+    windows_are_leaves();
+    windows_tile_their_rectangle();
+}
+
+/// The run is determined. Take two ends of runs with the same words and the same files over the bytes of one script, in which no device
+/// failed and of which none came for want of memory. Where, of the lines that both have run, the same found no memory, both ends have the
+/// same status, and the same bytes went to both screens and to both reports. The call does nothing.
+pub fn two_runs_of_one_script_end_alike()
+    ensures { (script : List ℕ) (a b : End) → a.given.words ≡ b.given.words → ((name : List ℕ) → a.given.contents name ≡ b.given.contents name)
+        → IsUndisturbed script a → IsUndisturbed script b → AreStarvedAlike a.turns b.turns → AreAlike a b }
+{}
+
+/// Where the words are those of the command, the files are good, each line of the script passes the limits and each op is accepted, a run
+/// in which no device failed ends Done, or for want of memory. The call does nothing.
+pub fn valid_scripts_end_well()
+    ensures { (script : List ℕ) (mode : Mode) (e : End) → IsMode e.given mode → IsValidScript mode script → IsFaultless script e → EndsWell e.status }
+{}

@@ -1,0 +1,12 @@
+//! Runs of scripts, as definitions with laws: what each line does, how a run ends, and that each redisplay that is shown is on the terminal.
+#![tactic(auto)]
+
+mod examples;
+mod law;
+mod status;
+
+pub use law::{
+    each_redisplay_is_shown, each_slice_is_known, two_runs_of_one_script_end_alike,
+    valid_scripts_end_well,
+};
+pub use status::{ScriptFault, Status};
