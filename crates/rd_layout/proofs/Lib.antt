@@ -1,6 +1,7 @@
 pub mod ByNumber
 pub mod Calm
 pub mod Chosen
+pub mod Copying
 pub mod Determined
 pub mod Fitting
 pub mod Keeping

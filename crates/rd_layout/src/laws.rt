@@ -20,7 +20,7 @@ ghost use Rattle.rd_visual.specs.Hits.{AreInPositions};
 ghost use Rattle.rd_window.specs.Layouts.{StandsUnchanged, change_since, older_rows};
 ghost use Rattle.rd_window.specs.declared.layout.Layout.{Layout};
 ghost use Rattle.rd_layout.specs.Copies.{redisplayed, without_copies};
-ghost use Rattle.rd_layout.specs.Redisplays.{IsSent, bands_of};
+ghost use Rattle.rd_layout.specs.Redisplays.{IsSent, allowed, bands_of};
 ghost use Rattle.rd_layout.specs.Screens.{frame_in, laid_out};
 ghost use Rattle.rd_layout.specs.Sessions.{IsStep, SessionValue, behind, layout_of, opened, session_step};
 ghost use Rattle.rd_layout.specs.Since.{IsSession};
@@ -125,6 +125,11 @@ pub fn redisplays_lead_on()
 pub fn sent_redisplays_are_determined()
     ensures { (rows : ℕ) (done : Bool) (stop : Option ℕ) (old new : SessionValue) (before after : Option (List ℕ)) → IsSent rows done stop old new before after
         → without_copies new ≡ redisplayed old stop }
+{}
+
+/// How often rows were copied changes no allowance. The call does nothing.
+pub fn copies_change_no_allowance()
+    ensures { (v : SessionValue) → allowed (without_copies v) ≡ allowed v }
 {}
 
 /// What each window of a valid state shows has the sizes of its rectangle, and the cursor stands in the selected window's text. The call

@@ -7,7 +7,8 @@ mod laws;
 mod outcome;
 
 pub use laws::{
-    redisplays_keep_states, redisplays_lead_on, sent_redisplays_are_determined,
-    sessions_stay_known, targets_are_sound, targets_fit_their_frames,
+    copies_change_no_allowance, redisplays_keep_states, redisplays_lead_on,
+    sent_redisplays_are_determined, sessions_stay_known, targets_are_sound,
+    targets_fit_their_frames,
 };
 pub use outcome::Outcome;
