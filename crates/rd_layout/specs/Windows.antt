@@ -1,5 +1,6 @@
 -- What one window of a state shows, from nothing.
-use Rattle.std.specs.Prelude.{ℕ, Option, List, [], slice_get, unwrap_or}
+use Rattle.std.specs.Prelude.{ℕ, Option, None, Some, List, [], ◌∷◌, slice_get, unwrap_or}
+use Rattle.std.specs.List.{flat_map}
 use Rattle.rd_ucd.specs.Data.{Data}
 use Rattle.rd_blocks.specs.Sources.{text_source}
 use Rattle.rd_frame.specs.Panes.{body_width, body_height}
@@ -7,7 +8,7 @@ use Rattle.rd_matrix.specs.Sources.{SourceValues}
 use Rattle.rd_rows.specs.Shapes.{ShapeValues}
 use Rattle.rd_start.specs.declared.wanted.Wanted.{Wanted}
 use Rattle.rd_state.specs.States.{BufferValue, StateValue, new_buffer, seen}
-use Rattle.rd_state.specs.Windows.{shown_content}
+use Rattle.rd_state.specs.Windows.{shown_content, window_of}
 use Rattle.rd_state.specs.declared.window.WindowState.{WindowState}
 use Rattle.rd_tree.specs.Calls.{frame_of}
 use Rattle.rd_tree.specs.Windows.{placed, window_at}
@@ -49,3 +50,15 @@ window_source files s w = text_source (seen (shown_content s w)) s.objects files
 -- the start, the point and the rows of a window
 abbrev pub view_in : Data → StateValue → WindowState → Placed → WindowView
 view_in files s w place = view_of (window_source files s w) (window_shape s w place) (wanted_of s w place)
+
+-- the view of a window that lives
+abbrev pub views_by : Data → StateValue → Placed → Option WindowState → List WindowView
+views_by files s place None = []
+views_by files s place (Some w) = view_in files s w place ∷ []
+
+abbrev pub views_at : Data → StateValue → Placed → List WindowView
+views_at files s place = views_by files s place (window_of place.number s.windows)
+
+-- the views of all windows, in leaf order
+abbrev pub views_in : Data → StateValue → List WindowView
+views_in files s = flat_map (views_at files s) (places s)

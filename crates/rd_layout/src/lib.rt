@@ -5,6 +5,7 @@
 mod examples;
 mod laws;
 mod outcome;
+mod shown;
 
 pub use laws::{
     copies_change_no_allowance, redisplays_keep_states, redisplays_lead_on,
@@ -12,3 +13,4 @@ pub use laws::{
     targets_fit_their_frames,
 };
 pub use outcome::Outcome;
+pub use shown::ShownWindow;
