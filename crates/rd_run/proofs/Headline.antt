@@ -10,10 +10,10 @@ use Rattle.rd_lineshift.specs.Choices.{AreWithin}
 use Rattle.rd_lineshift.specs.Plans.{shifted_update}
 use Rattle.rd_lineshift.specs.declared.band.Band.{Band}
 use Rattle.rd_script.specs.Forms.{IsInForm}
-use Rattle.rd_script.specs.Reading.{parsing}
+use Rattle.rd_script.specs.Reading.{reading}
 use Rattle.rd_script.specs.declared.fault.OpFault.{OpFault}
 use Rattle.rd_script.specs.declared.op.Op.{Op}
-use Rattle.rd_script.proofs.InForm.{parsing-in_form}
+use Rattle.rd_script.proofs.InForm.{reading-in_form}
 use Rattle.rd_state.specs.States.{StateValue}
 use Rattle.rd_state.specs.Valid.{IsValid}
 use Rattle.rd_state.specs.declared.refused.Refused.{Refused}
@@ -250,16 +250,16 @@ by-goes laws None starved place t op e form h = stepped-goes laws place t op (se
 by-goes laws (Some stop) starved place t op e form h =
     goes-either starved place.session t (unshown place) (redisplayed place stop) (unshown-goes place t h) (redisplayed-goes laws place t stop h)
 
-reading-goes : (laws : RunLaws) (line : List ℕ) (r : Result Op OpFault) → parsing line ≡ r → (starved : Bool) (place : Standing) (t : Tty) → IsAt place.session t
+reading-goes : (laws : RunLaws) (line : List ℕ) (r : Result Op OpFault) → reading line ≡ r → (starved : Bool) (place : Standing) (t : Tty) → IsAt place.session t
     → Goes place.session t (effect_of_reading starved place r)
 reading-goes laws line (Err fault) e starved place t h = refused-goes place t (faults.Op fault) h
-reading-goes laws line (Ok op) e starved place t h = by-goes laws (asked op) starved place t op refl (parsing-in_form line op e) h
+reading-goes laws line (Ok op) e starved place t h = by-goes laws (asked op) starved place t op refl (reading-in_form line op e) h
 
 effect-goes : (laws : RunLaws) (place : Standing) (t : Tty) (u : Turn) → IsAt place.session t → Goes place.session t (effect place u)
 unfolding effect
 effect-goes laws place t u h =
-    goes-either (is_blank u.line) place.session t (quiet place) (effect_of_reading u.starved place (parsing u.line)) (quiet-goes place t h)
-    (reading-goes laws u.line (parsing u.line) refl u.starved place t h)
+    goes-either (is_blank u.line) place.session t (quiet place) (effect_of_reading u.starved place (reading u.line)) (quiet-goes place t h)
+    (reading-goes laws u.line (reading u.line) refl u.starved place t h)
 
 -- ---- all lines
 

@@ -25,7 +25,6 @@ op_kind ops.NoSuchOp = codes "NoSuchOp"
 op_kind (ops.Missing key) = codes "Missing"
 op_kind (ops.BadField key) = codes "BadField"
 op_kind (ops.Extra key) = codes "Extra"
-op_kind ops.NotBuilt = codes "NotBuilt"
 op_kind ops.Memory = codes "Memory"
 
 -- the kind of an op that was refused

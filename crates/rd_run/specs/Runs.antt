@@ -7,7 +7,7 @@ use Rattle.rd_term.specs.Terminals.{Tty, known, unknown, feed_bytes, Shows}
 use Rattle.rd_update.specs.Updates.{Update}
 use Rattle.rd_dump.specs.Dumps.{dump_text}
 use Rattle.rd_dump.specs.declared.dump.WindowFacts.{WindowFacts}
-use Rattle.rd_script.specs.Reading.{parsing}
+use Rattle.rd_script.specs.Reading.{reading}
 use Rattle.rd_script.specs.declared.fault.OpFault.{OpFault}
 use Rattle.rd_script.specs.declared.op.Op.{Op}
 use Rattle.rd_script.specs.declared.op.Op.TheVariants.{Redisplay}
@@ -132,7 +132,7 @@ abbrev pub is_blank : List ℕ → Bool
 is_blank line = list_all (λ b. b == 32 || (b == 9 || b == 13)) line
 
 unfoldable pub effect : Standing → Turn → Effect
-effect now t = if is_blank t.line then quiet now else effect_of_reading t.starved now (parsing t.line)
+effect now t = if is_blank t.line then quiet now else effect_of_reading t.starved now (reading t.line)
 
 -- The run so far: where it stands, the terminal that reads the bytes since the last accepted frame, all bytes sent, the report, how many
 -- elements the redisplays that were begun may place, and the fault of a line that was refused, which ends the run.

@@ -6,7 +6,7 @@ use Rattle.serde_json.specs.Data.{Data, Members}
 use Rattle.serde_json.specs.Find.{get_member, as_str, as_object}
 use Rattle.serde_json.specs.Read.{read}
 use Rattle.rd_script.specs.declared.fault.OpFault.{OpFault}
-use Rattle.rd_script.specs.declared.fault.OpFault.TheVariants.{NotJson, NotObject, NoSuchOp, NotBuilt, Memory}
+use Rattle.rd_script.specs.declared.fault.OpFault.TheVariants.{NotJson, NotObject, NoSuchOp, Memory}
 use Rattle.rd_overlays.specs.declared.overlay.Kind.{Kind}
 use Rattle.rd_script.specs.declared.name.Name.{Name}
 use Rattle.rd_script.specs.declared.name.Name.TheVariants as names
@@ -28,10 +28,9 @@ use Rattle.rd_script.specs.declared.setting.SettingName.TheVariants as setting_n
 use Rattle.rd_script.specs.Fields.{Fields, or_bad, required_of, present, optional_of, required, optional, defaulted, and_then, both, made, then_by}
 use Rattle.rd_script.specs.Objects.{spec_value}
 use Rattle.rd_script.specs.Properties.{property, property_value}
-use Rattle.rd_script.specs.Reading.{reading, parsing, reading_name, reading_members, reading_shown, reading_row, parsing_members, object_of, json_of, or_fault, closed, extra_key, unless_extra}
+use Rattle.rd_script.specs.Reading.{reading, reading_name, reading_row, reading_members, object_of, json_of, or_fault, closed, extra_key, unless_extra}
 use Rattle.rd_script.specs.Settings.{value_of}
 use Rattle.rd_script.specs.Table.{row, text_row, property_row, object_row, window_row, screen_row, buffer_field, number_field, window_field, overlay_field, range_fields, stretch_fields, overlay_manner, name_of}
-use Rattle.rd_script.specs.Unshown.{is_unknown, is_unshown, shown_name, is_shown, shown_op}
 
 -- what is said is no want of memory
 abbrev IsFree : {T : Type 0} → Result T OpFault → Type 0
@@ -187,27 +186,7 @@ object_of-free : (line : List ℕ) → IsFree (object_of line)
 object_of-free line = and_then-free (λ d. or_fault NotObject (as_object d)) (json_of line)
     (λ d. or_fault-free NotObject (as_object d) (λ e. cc)) (or_fault-free NotJson (if is_utf8 line then read line else None) (λ e. cc))
 
-pub parsing-free : (line : List ℕ) → IsFree (parsing line)
-unfolding parsing
-parsing-free line = and_then-free parsing_members (object_of line)
-    (λ ms. and_then-free (reading_row ms) (reading_name ms) (row-is_free ms) (name-free ms)) (object_of-free line)
-
--- ---- what no session shows yet
-
-shown_op-free : (b : Bool) (op : Op) → IsFree (if b then Ok op else Err NotBuilt)
-shown_op-free true op = ok-free op
-shown_op-free false op = λ e. cc
-
-name_by-free : (unknown unshown : Bool) (n : Name) → IsFree (if unknown then Err NoSuchOp else if unshown then Err NotBuilt else Ok n)
-name_by-free true unshown n = λ e. cc
-name_by-free false true n = λ e. cc
-name_by-free false false n = ok-free n
-
-shown-free : (ms : Members) (n : Name) → IsFree (reading_shown ms n)
-shown-free ms n = and_then-free shown_op (and_then (reading_row ms) (shown_name n)) (λ op. shown_op-free (is_shown op) op)
-    (and_then-free (reading_row ms) (shown_name n) (row-is_free ms) (name_by-free (is_unknown n) (is_unshown n) n))
-
 pub reading-free : (line : List ℕ) → IsFree (reading line)
 unfolding reading
 reading-free line = and_then-free reading_members (object_of line)
-    (λ ms. and_then-free (reading_shown ms) (reading_name ms) (shown-free ms) (name-free ms)) (object_of-free line)
+    (λ ms. and_then-free (reading_row ms) (reading_name ms) (row-is_free ms) (name-free ms)) (object_of-free line)

@@ -14,7 +14,6 @@ use Rattle.rd_script.specs.declared.object.SpecName.TheVariants as spec_names
 use Rattle.rd_script.specs.declared.setting.SettingName.{SettingName}
 use Rattle.rd_script.specs.declared.setting.SettingName.TheVariants as setting_names
 use Rattle.rd_script.specs.declared.fault.OpFault.{OpFault}
-use Rattle.rd_script.specs.declared.fault.OpFault.TheVariants.{NotBuilt}
 use Rattle.rd_script.specs.declared.op.Op.{Op}
 use Rattle.rd_script.specs.declared.op.Op.TheVariants as ops
 use Rattle.rd_script.specs.declared.name.Name.{Name}
@@ -37,9 +36,8 @@ use Rattle.rd_script.specs.Numbers.{is_near_zero}
 use Rattle.rd_script.specs.Objects.{run_kinds, run_of, run, spec_names as spec_words, spec_value, face_of, glyph_text, only, slot, entry_of, entry, slot_field}
 use Rattle.rd_script.specs.Settings.{setting_names as setting_words, direction_names, invisible_by, invisible, value_of as value_of_setting}
 use Rattle.rd_script.specs.Properties.{overlay_kind, text_kind, greatest_value, property_value, property}
-use Rattle.rd_script.specs.Reading.{reading, parsing, reading_name, reading_row, reading_shown, reading_members, parsing_members, object_of, closed, extra_key, unless_extra}
+use Rattle.rd_script.specs.Reading.{reading, reading_name, reading_row, reading_members, object_of, closed, extra_key, unless_extra}
 use Rattle.rd_script.specs.Table.{row, text_row, property_row, object_row, window_row, screen_row, buffer_field, number_field, window_field, overlay_field, range_fields, stretch_fields, overlay_manner, split_sides, ways, wrap_modes}
-use Rattle.rd_script.specs.Unshown.{shown_name, is_shown, shown_op}
 
 -- what fields give has this
 record Gives {T : Type 0} (fields : Fields T) (P : T → Type 0) : Type 0 where
@@ -454,23 +452,9 @@ reading_row-in_form ms n op e =
     subst IsInForm (unless_extra-same (extra_key (codes "op" ∷ (row n).keys) ms) read.0 op read.2) ((row-gives n).given ms read.0 read.1)
 
 -- an op that a line says is in form
-pub parsing-in_form : (line : List ℕ) (op : Op) → parsing line ≡ Ok op → IsInForm op
-unfolding parsing
-parsing-in_form line op e =
-    let object = and_then-ok parsing_members (object_of line) op e in
-    let named = and_then-ok (reading_row object.0) (reading_name object.0) op object.2 in
-    reading_row-in_form object.0 named.0 op named.2
-
-shown-if : (b : Bool) (op x : Op) → (if b then Ok op else Err NotBuilt) ≡ Ok x → op ≡ x
-shown-if true op x e = ok-same op x e
-shown-if false op x e = absurd (err≢ok NotBuilt x e)
-
--- and so is one that is shown
 pub reading-in_form : (line : List ℕ) (op : Op) → reading line ≡ Ok op → IsInForm op
 unfolding reading
 reading-in_form line op e =
     let object = and_then-ok reading_members (object_of line) op e in
-    let named = and_then-ok (reading_shown object.0) (reading_name object.0) op object.2 in
-    let last = and_then-ok shown_op (and_then (reading_row object.0) (shown_name named.0)) op named.2 in
-    let read = and_then-ok (reading_row object.0) (shown_name named.0) last.0 last.1 in
-    subst IsInForm (shown-if (is_shown last.0) last.0 op last.2) (reading_row-in_form object.0 read.0 last.0 read.2)
+    let named = and_then-ok (reading_row object.0) (reading_name object.0) op object.2 in
+    reading_row-in_form object.0 named.0 op named.2

@@ -6,4 +6,3 @@ pub mod Properties
 pub mod Reading
 pub mod Settings
 pub mod Table
-pub mod Unshown

@@ -10,7 +10,6 @@ use Rattle.rd_script.specs.declared.name.Name.{Name}
 use Rattle.rd_script.specs.declared.op.Op.{Op}
 use Rattle.rd_script.specs.Fields.{Fields, and_then, required_of}
 use Rattle.rd_script.specs.Table.{name_of, row}
-use Rattle.rd_script.specs.Unshown.{shown_name, shown_op}
 
 abbrev pub or_fault : {T : Type 0} → OpFault → Option T → Result T OpFault
 or_fault fault None = Err fault
@@ -53,19 +52,9 @@ abbrev pub object_of : List ℕ → Result Members OpFault
 object_of line = and_then (λ d. or_fault NotObject (as_object d)) (json_of line)
 
 -- what an object says
-abbrev pub parsing_members : Members → Result Op OpFault
-parsing_members ms = and_then (reading_row ms) (reading_name ms)
+abbrev pub reading_members : Members → Result Op OpFault
+reading_members ms = and_then (reading_row ms) (reading_name ms)
 
 -- what a line says
-unfoldable pub parsing : List ℕ → Result Op OpFault
-parsing line = and_then parsing_members (object_of line)
-
--- the same, unless the session does not show it yet
-abbrev pub reading_shown : Members → Name → Result Op OpFault
-reading_shown ms name = and_then shown_op (and_then (reading_row ms) (shown_name name))
-
-abbrev pub reading_members : Members → Result Op OpFault
-reading_members ms = and_then (reading_shown ms) (reading_name ms)
-
 unfoldable pub reading : List ℕ → Result Op OpFault
 reading line = and_then reading_members (object_of line)

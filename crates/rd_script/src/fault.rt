@@ -2,8 +2,8 @@
 use rd_base::{Ch, ListOf, Memory};
 use thiserror::Error;
 
-/// The first fault of a line, in the order of the checks: the JSON text, the object, the key `op` with its name, an op that is
-/// not built, each field in the order of the op's row, the other keys, and a part of the op that is not built.
+/// The first fault of a line, in the order of the checks: the JSON text, the object, the key `op` with its name, each field in the
+/// order of the op's row, and the other keys.
 #[derive(Debug, Drop, Error)]
 pub enum OpFault {
     /// The bytes are no UTF-8 or no JSON text, or arrays and objects nest more than 127 deep.
@@ -24,9 +24,6 @@ pub enum OpFault {
     /// The first key in byte order that the op does not have.
     #[error("a field too many")]
     Extra(ListOf<Ch>),
-    /// The op, or a part of it, is not built.
-    #[error("not built")]
-    NotBuilt,
     /// The allocator had no room.
     #[error("no memory")]
     Memory,

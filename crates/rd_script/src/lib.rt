@@ -23,7 +23,6 @@ mod setting;
 mod setting_field;
 mod text_form;
 mod text_row;
-mod unshown;
 mod window_row;
 mod word;
 
@@ -32,5 +31,5 @@ pub use fault::OpFault;
 pub use object::{OpEntry, OpRun, OpSpec};
 pub use op::Op;
 pub use rd_dump::{WindowFacts, print_dump};
-pub use read::{parse_op, read_op};
+pub use read::read_op;
 pub use setting::Setting;

@@ -5,7 +5,7 @@ ghost use Rattle.rd_script.specs.declared.fault.OpFault.TheVariants as faults;
 ghost use Rattle.rd_script.specs.declared.op.Op.{Op};
 ghost use Rattle.rd_script.specs.Fields.{IsRead, IsReadAs};
 ghost use Rattle.rd_script.specs.Forms.{IsInForm};
-ghost use Rattle.rd_script.specs.Reading.{reading, parsing, json_of, reading_name, reading_row, reading_members, parsing_members};
+ghost use Rattle.rd_script.specs.Reading.{reading, json_of, reading_name, reading_row, reading_members};
 
 use crate::fault::OpFault;
 use crate::field::{Members, text_of};
@@ -13,12 +13,13 @@ use crate::keys::refuse_extra;
 use crate::name::Name;
 use crate::op::Op;
 use crate::row::read_fields;
-use crate::unshown::{shown_name, shown_op};
 use serde_json::Value;
 use std::alloc::Global;
 
-/// Reads a line of a script, as `parse_op` does, and refuses what no session shows yet: some ops, directly behind those of no such
-/// name, and some parts of ops, behind all other faults.
+/// Reads a line as an op. The value is a JSON object (RFC 8259; of two members with one key the last counts) with the key `op`,
+/// the op's fields and no other key. The fault is the first in this order: no JSON, no object, `op` missing or no text, no op of
+/// that name, each field in the order of its row missing or bad, the first other key in byte order. It costs one reading of the
+/// line.
 #[tactic(auto, unfolding(crate::specs::Reading::reading))]
 pub fn read_op(alloc: Global, line: &[u8]) -> Result<Op, OpFault>
     ensures read { IsRead result (reading line.now) }
@@ -28,23 +29,6 @@ pub fn read_op(alloc: Global, line: &[u8]) -> Result<Op, OpFault>
     let value = read_json(alloc, line)?;
     match value.as_object() {
         Some(members) => read_members(alloc, members),
-        None => Err(OpFault::NotObject),
-    }
-}
-
-/// Reads a line as an op. The value is a JSON object (RFC 8259; of two members with one key the last counts) with the key `op`,
-/// the op's fields and no other key. The fault is the first in this order: no JSON, no object, `op` missing or no text, no op of
-/// that name, each field in the order of its row missing or bad, the first other key in byte order. It costs one reading of the
-/// line.
-#[tactic(auto, unfolding(crate::specs::Reading::parsing))]
-pub fn parse_op(alloc: Global, line: &[u8]) -> Result<Op, OpFault>
-    ensures read { IsRead result (parsing line.now) }
-    ensures form { (op : Op) → parsing line.now ≡ Ok op → IsInForm op }
-    ensures free { parsing line.now ≢ Err faults.Memory }
-{
-    let value = read_json(alloc, line)?;
-    match value.as_object() {
-        Some(members) => parse_members(alloc, members),
         None => Err(OpFault::NotObject),
     }
 }
@@ -66,20 +50,11 @@ fn read_json(alloc: Global, line: &[u8]) -> Result<Value, OpFault>
 }
 
 /// Reads an object as an op.
-fn parse_members(alloc: Global, members: &Members) -> Result<Op, OpFault>
-    ensures { IsRead result (parsing_members (members_view members.now.entries)) }
-{
-    let name = read_name(alloc, members)?;
-    read_row(alloc, members, name)
-}
-
-/// The same, and refuses what no session shows yet.
 fn read_members(alloc: Global, members: &Members) -> Result<Op, OpFault>
     ensures { IsRead result (reading_members (members_view members.now.entries)) }
 {
     let name = read_name(alloc, members)?;
-    let shown = shown_name(name)?;
-    shown_op(read_row(alloc, members, shown)?)
+    read_row(alloc, members, name)
 }
 
 /// Reads which op an object says.

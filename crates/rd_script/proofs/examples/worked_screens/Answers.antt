@@ -2,12 +2,12 @@ use Rattle.std.proofs.Common.{refl}
 use Rattle.std.specs.Prelude.{⊤}
 use Rattle.std.specs.Str.{chars, is_utf8}
 use Rattle.serde_json.proofs.OnLiterals.{serde_json_on_literals}
-use Rattle.rd_script.specs.Reading.{parsing}
+use Rattle.rd_script.specs.Reading.{reading}
 use Rattle.rd_script.proofs.examples.worked_screens.Goals as goal
 
 -- what computes on a line
 unfoldable on_lines : ⊤
-unfolding serde_json_on_literals parsing chars is_utf8
+unfolding serde_json_on_literals reading chars is_utf8
 on_lines = tt
 
 pub returns-clause-frame : goal.returns-clause-frame
