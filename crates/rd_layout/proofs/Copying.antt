@@ -1,8 +1,12 @@
--- How often rows were copied changes no allowance and no op.
-use Rattle.std.proofs.Common.{◌≡◌, inl, inr, ℕ, zero, suc, ◌+◌, ◌*◌, ◌&&◌, Bool, true, false, cond, if◌then◌else◌, Option, None, Some, List, [], ◌∷◌, length, map, sym, ap, refl, ◌∙◌}
+-- How often rows were copied changes no allowance, no op, and nothing that is told.
+use Rattle.std.proofs.Common.{◌≡◌, inl, inr, ℕ, zero, suc, ◌+◌, ◌*◌, ◌&&◌, Bool, true, false, cond, if◌then◌else◌, Option, None, Some, Err, List, [], ◌∷◌, ◌++◌, length, map, sym, ap, refl, ◌∙◌}
 use Rattle.std.proofs.lemmas.Bool.{cases_eq}
 use Rattle.std.proofs.lemmas.List.{length-map}
-use Rattle.std.specs.Prelude.{option_map}
+use Rattle.std.specs.List.{flat_map}
+use Rattle.std.specs.Prelude.{option_map, unwrap_or}
+use Rattle.rd_frame.specs.Panes.{body_height}
+use Rattle.rd_matrix.specs.Cursors.{cursor_in}
+use Rattle.rd_matrix.specs.Entries.{EntryMeaning, shown_entries, shown_entry}
 use Rattle.rd_matrix.specs.Rows.{blocks_with}
 use Rattle.rd_matrix.specs.Sources.{SourceValues, costs_of}
 use Rattle.rd_matrix.specs.declared.block.Block.{Block}
@@ -15,17 +19,27 @@ use Rattle.rd_rows.specs.Shapes.{ShapeValues}
 use Rattle.rd_start.specs.Chosen.{places_of}
 use Rattle.rd_start.specs.Near.{is_near}
 use Rattle.rd_start.specs.declared.wanted.Wanted.{Wanted}
+use Rattle.rd_script.specs.declared.op.Op.{Op}
+use Rattle.rd_script.specs.declared.op.Op.TheVariants as ops
+use Rattle.rd_state.specs.Effects.{effect_of}
 use Rattle.rd_state.specs.States.{StateValue}
+use Rattle.rd_state.specs.Steps.{step, with_found}
 use Rattle.rd_state.specs.Windows.{window_of}
+use Rattle.rd_state.specs.declared.effect.Effect.{Effect}
+use Rattle.rd_state.specs.declared.refused.Refused.TheVariants.{NoWindow, NotShown}
 use Rattle.rd_state.specs.declared.window.WindowState.{WindowState}
 use Rattle.rd_tree.specs.declared.placed.Placed.{Placed}
 use Rattle.rd_ucd.specs.Data.{Data}
+use Rattle.rd_visual.specs.Hits.{hit_in}
 use Rattle.rd_window.specs.Layouts.{allowance, kept_by, older_rows, rests}
 use Rattle.rd_window.specs.declared.layout.Layout.{Layout}
+use Rattle.rd_layout.specs.Changes.{later, layouts_after}
 use Rattle.rd_layout.specs.Copies.{uncopied, uncopied_entry, without_copies}
+use Rattle.rd_layout.specs.Facts.{cursor_since, facts_at, facts_by, facts_of}
+use Rattle.rd_layout.specs.Pointing.{hitting, hitting_by, is_shown}
 use Rattle.rd_layout.specs.Redisplays.{allowance_by, allowances, allowed}
-use Rattle.rd_layout.specs.Sessions.{SessionValue, layout_of}
-use Rattle.rd_layout.specs.Windows.{places, wanted_of, window_shape, window_source}
+use Rattle.rd_layout.specs.Sessions.{SessionValue, behind, layout_of, session_step}
+use Rattle.rd_layout.specs.Windows.{place_of, places, wanted_of, window_shape, window_source}
 use Rattle.rd_layout.proofs.Known.{Last, layout-here, layout-there}
 
 -- ---- older rows
@@ -107,3 +121,94 @@ same-allowances v (p ∷ ps) =
 
 pub same-allowed : (v : SessionValue) → allowed (without_copies v) ≡ allowed v
 same-allowed v = same-allowances v (places v.state)
+
+-- ---- ops
+
+same-shown : (es : List Entry) → shown_entries (map uncopied_entry es) ≡ shown_entries es
+same-shown [] = refl
+same-shown (e ∷ es) = ap (λ (xs : List EntryMeaning). shown_entry e ∷ xs) (same-shown es)
+
+same-pointed : (s : StateValue) (window : ℕ) (w : WindowState) (last : Option Layout) (place : Option Placed) (row column : ℕ)
+    → hitting_by s window w (option_map uncopied last) place row column ≡ hitting_by s window w last place row column
+same-pointed s window w None place row column = refl
+same-pointed s window w (Some l) None row column = refl
+same-pointed s window w (Some l) (Some place) row column =
+    ap (λ (es : List EntryMeaning).
+    if is_shown l (window_shape s w place) (body_height place) then step s (ops.Point window (unwrap_or (hit_in es row column) w.point)) else Err NotShown) (same-shown l.matrix)
+
+same-hitting : (s : StateValue) (window : ℕ) (last : Option Layout) (row column : ℕ) → hitting s window (option_map uncopied last) row column ≡ hitting s window last row column
+same-hitting s window last row column = by (window_of window s.windows) where
+  by : (o : Option WindowState) → with_found NoWindow o (λ w. hitting_by s window w (option_map uncopied last) (place_of window s) row column) ≡ with_found NoWindow o (λ w. hitting_by s window w last (place_of window s) row column)
+  by None = refl
+  by (Some w) = same-pointed s window w last (place_of window s) row column
+
+pub same-step : (v : SessionValue) (op : Op) → session_step (without_copies v) op ≡ session_step v op
+same-step v (ops.Frame width height) = refl
+same-step v (ops.Buffer name) = refl
+same-step v (ops.Insert name place text) = refl
+same-step v (ops.InsertRaw name place bytes) = refl
+same-step v (ops.TypeText text) = refl
+same-step v (ops.Delete name from to) = refl
+same-step v (ops.Narrow name from to) = refl
+same-step v (ops.Widen name) = refl
+same-step v (ops.Put name from to kind value) = refl
+same-step v (ops.Overlay name from to priority front rear) = refl
+same-step v (ops.OverlayMove name overlay from to) = refl
+same-step v (ops.OverlayDrop name overlay) = refl
+same-step v (ops.OverlayPut name overlay kind value) = refl
+same-step v (ops.Setting name value) = refl
+same-step v (ops.AddString text runs) = refl
+same-step v (ops.AddSpec spec) = refl
+same-step v (ops.AddFace face) = refl
+same-step v (ops.AddTable entries truncation continuation escape control ellipsis border) = refl
+same-step v (ops.Split window side size) = refl
+same-step v (ops.Remove window) = refl
+same-step v (ops.Select window) = refl
+same-step v (ops.Show window name) = refl
+same-step v (ops.Point window place) = refl
+same-step v (ops.Start window place row) = refl
+same-step v (ops.Scroll window rows) = refl
+same-step v (ops.Hscroll window columns) = refl
+same-step v (ops.Wrap window mode) = refl
+same-step v (ops.ModeLine window format) = refl
+same-step v (ops.Scrolling margin conservatively) = refl
+same-step v (ops.Echo text) = refl
+same-step v (ops.Redisplay stop) = refl
+same-step v (ops.Shift on) = refl
+same-step v (ops.Go window right) = refl
+same-step v (ops.Hit window row column) =
+    ap (λ (last : Option Layout). hitting v.state window last row column) (same-layout window v.layouts) ∙ same-hitting v.state window (layout_of window v.layouts) row column
+same-step v (ops.Margin window numbers strings) = refl
+same-step v (ops.MarginPut name overlay string) = refl
+
+-- ---- what is behind an op
+
+same-later : (effect : Effect) (s : StateValue) (ls : List Last) → map (λ (e : Last). (e.0, uncopied e.1)) (layouts_after effect s ls) ≡ layouts_after effect s (map (λ (e : Last). (e.0, uncopied e.1)) ls)
+same-later effect s [] = refl
+same-later effect s (e ∷ rest) = ap (λ (xs : List Last). later effect s (e.0, uncopied e.1) ∷ xs) (same-later effect s rest)
+
+pub same-behind : (v : SessionValue) (op : Op) (state : StateValue) → without_copies (behind v op state) ≡ behind (without_copies v) op state
+same-behind v op state = ap (λ (ls : List Last). record (behind v op state) { layouts = ls }) (same-later (effect_of v.state op) state v.layouts)
+
+-- ---- what is told of windows
+
+same-cursor : (last : Option Layout) (point : ℕ) → cursor_since (option_map uncopied last) point ≡ cursor_since last point
+same-cursor None point = refl
+same-cursor (Some l) point = ap (cursor_in point) (same-shown l.matrix)
+
+same-fact : (last : Option Layout) (p : Placed) (o : Option WindowState) → facts_by (option_map uncopied last) p o ≡ facts_by last p o
+same-fact last p None = refl
+same-fact last p (Some w) =
+    ap (λ (c : Option (ℕ × ℕ)). record { window = p.number; rect = p.rect; start = w.anchor; point = w.point; cursor = c } ∷ []) (same-cursor last w.point)
+
+same-places : (v : SessionValue) (ps : List Placed) → flat_map (facts_at (without_copies v)) ps ≡ flat_map (facts_at v) ps
+same-places v [] = refl
+same-places v (p ∷ ps) =
+    let o = window_of p.number v.state.windows in
+    let here : facts_at (without_copies v) p ≡ facts_at v p =
+    ap (λ (last : Option Layout). facts_by last p o) (same-layout p.number v.layouts) ∙ same-fact (layout_of p.number v.layouts) p o in
+    let behind = same-places v ps in
+    λ i. here i ++ behind i
+
+pub same-facts : (v : SessionValue) → facts_of (without_copies v) ≡ facts_of v
+same-facts v = same-places v (places v.state)

@@ -20,6 +20,7 @@ ghost use Rattle.rd_visual.specs.Hits.{AreInPositions};
 ghost use Rattle.rd_window.specs.Layouts.{StandsUnchanged, change_since, older_rows};
 ghost use Rattle.rd_window.specs.declared.layout.Layout.{Layout};
 ghost use Rattle.rd_layout.specs.Copies.{redisplayed, without_copies};
+ghost use Rattle.rd_layout.specs.Facts.{facts_of};
 ghost use Rattle.rd_layout.specs.Redisplays.{IsSent, allowed, bands_of};
 ghost use Rattle.rd_layout.specs.Screens.{frame_in, laid_out};
 ghost use Rattle.rd_layout.specs.Sessions.{IsStep, SessionValue, behind, layout_of, opened, session_step};
@@ -130,6 +131,14 @@ pub fn sent_redisplays_are_determined()
 /// How often rows were copied changes no allowance. The call does nothing.
 pub fn copies_change_no_allowance()
     ensures { (v : SessionValue) → allowed (without_copies v) ≡ allowed v }
+{}
+
+/// How often rows were copied changes neither what an op leads to, nor what a dump tells; and a session behind an op is, but for that, the
+/// one behind the op where no row was copied. The call does nothing.
+pub fn copies_change_no_op()
+    ensures step { (v : SessionValue) (op : Op) → session_step (without_copies v) op ≡ session_step v op }
+    ensures behind { (v : SessionValue) (op : Op) (state : StateValue) → without_copies (behind v op state) ≡ behind (without_copies v) op state }
+    ensures facts { (v : SessionValue) → facts_of (without_copies v) ≡ facts_of v }
 {}
 
 /// What each window of a valid state shows has the sizes of its rectangle, and the cursor stands in the selected window's text. The call

@@ -8,7 +8,7 @@ mod outcome;
 mod shown;
 
 pub use laws::{
-    copies_change_no_allowance, redisplays_keep_states, redisplays_lead_on,
+    copies_change_no_allowance, copies_change_no_op, redisplays_keep_states, redisplays_lead_on,
     sent_redisplays_are_determined, sessions_stay_known, targets_are_sound,
     targets_fit_their_frames,
 };
