@@ -5,7 +5,7 @@ use std::marker::Model;
 
 /// What a window shows: the start and the point that were chosen for it, its rows in view, and whether these have the first row and the
 /// last one of its text.
-#[derive(Clone, Copy)]
+#[derive(Drop)]
 pub struct ShownWindow<'a> {
     pub chosen: Chosen,
     pub matrix: &'a Matrix,
