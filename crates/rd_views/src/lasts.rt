@@ -1,0 +1,23 @@
+//! The last layouts of windows, each under its window's number.
+ghost use Rattle.std.specs.Prelude.{◌≡◌, ◌≢◌, ◌==◌, ℕ, position, unwrap_or};
+ghost use Rattle.rd_layout.specs.Sessions.{layout_of};
+
+use rd_window::Layout;
+use std::mem;
+
+/// The place of the first layout of the window with a number, from 0; None exactly where there is none.
+pub(crate) fn find(layouts: &[(u32, Layout)], window: u32) -> Option<usize>
+    ensures { result ≡ position (λ e. e.0 == window) layouts.now }
+{
+    layouts.iter().position(|entry| entry.0 == window)
+}
+
+/// Exchanges a layout for the last one of the window with a number, where there is one.
+pub(crate) fn exchange(layouts: &mut [(u32, Layout)], window: u32, layout: &mut Layout)
+    ensures taken { layout.new ≡ unwrap_or (layout_of window layouts.old) layout.old }
+    ensures others { (n : ℕ) → n ≢ window → layout_of n layouts.new ≡ layout_of n layouts.old }
+{
+    if let Some(i) = find(layouts, window) {
+        mem::swap(&mut layouts[i].1, layout);
+    }
+}
