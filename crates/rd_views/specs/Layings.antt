@@ -1,8 +1,112 @@
--- What laying out all windows of a session gives.
-use Rattle.std.specs.Prelude.{⊥}
-use Rattle.rd_layout.specs.Sessions.{SessionValue}
+-- What laying out all windows of a session gives, and what is left when it is kept.
+use Rattle.std.specs.Prelude.{◌≡◌, ◌×◌, ℕ, Bool, false, pos, if◌then◌else◌, is_some, Option, None, Some, List, [], ◌∷◌, unwrap_or, IsSome}
+use Rattle.rd_base.specs.declared.settings.Wrap.TheVariants.{Truncate}
+use Rattle.rd_matrix.specs.Entries.{shown_entries}
+use Rattle.rd_reuse.specs.Changes.{none}
+use Rattle.rd_start.specs.Chosen.{chosen_of}
+use Rattle.rd_state.specs.Shown.{IsShownAt}
+use Rattle.rd_state.specs.States.{StateValue}
+use Rattle.rd_state.specs.Steps.{settled}
+use Rattle.rd_state.specs.Windows.{window_of}
+use Rattle.rd_state.specs.declared.window.WindowState.{WindowState}
+use Rattle.rd_tree.specs.declared.placed.Placed.{Placed}
+use Rattle.rd_ucd.specs.Data.{Data}
+use Rattle.rd_window.specs.Layouts.{IsLaidOut}
+use Rattle.rd_window.specs.Views.{WindowView}
+use Rattle.rd_window.specs.declared.again.Laying.{Laying}
+use Rattle.rd_window.specs.declared.layout.Layout.{Layout}
+use Rattle.rd_layout.specs.Sessions.{SessionValue, layout_of}
+use Rattle.rd_layout.specs.Windows.{places, wanted_of, window_shape, window_source}
 use Rattle.rd_views.specs.declared.desired.Desired.{Desired}
+use Rattle.rd_views.specs.declared.desired.LaidWindow.{LaidWindow}
+
+-- ---- one window
+
+-- the layout of a window with no row, which stands where a last layout stays
+abbrev pub no_layout : Layout
+no_layout = record {
+  matrix = [];
+  shape = record { width = 10; wrap = Truncate; hscroll = 0 };
+  height = 0;
+  margin = 0;
+  conservatively = 0;
+  top = false;
+  bottom = false;
+  change = none;
+}
+
+-- the layout at no place
+abbrev pub nobody : ℕ × Layout
+nobody = (0, no_layout)
+
+-- what is held of a window that was laid out
+abbrev pub window_in : Laying → LaidWindow
+window_in laying = record { chosen = laying.chosen; anew = is_some laying.anew }
+
+abbrev pub layout_in : Laying → Layout
+layout_in laying = unwrap_or laying.anew no_layout
+
+-- the layout that a window then has: the new one, or its last one where it was not laid out anew
+abbrev pub layout_taken : Option Layout → LaidWindow → Layout → Layout
+layout_taken last x new = if x.anew then new else unwrap_or last new
+
+-- what is held of a window in its place is what the rules choose for it, under its number
+pub record IsDesiredAt (files : Data) (s : StateValue) (last : Option Layout) (place : Placed) (w : WindowState) (x : LaidWindow) (e : ℕ × Layout) : Type 0 where
+  pub number : e.0 ≡ place.number
+  pub chosen : x.chosen ≡ chosen_of (window_source files s w) (window_shape s w place) (wanted_of s w place)
+  pub layout : IsLaidOut last (window_source files s w) (window_shape s w place) (wanted_of s w place) (layout_taken last x e.1)
+
+abbrev pub IsDesiredBy : Data → StateValue → Option Layout → Placed → Option WindowState → LaidWindow → ℕ × Layout → Type 0
+IsDesiredBy files s last place None x e = ⊥
+IsDesiredBy files s last place (Some w) x e = IsDesiredAt files s last place w x e
+
+-- ---- all windows
+
+-- what is held of the windows at these places, one behind the other
+abbrev pub AreDesired : SessionValue → List Placed → List LaidWindow → List (ℕ × Layout) → Type 0
+AreDesired v [] [] [] = Unit {0}
+AreDesired v (place ∷ places) (x ∷ xs) (e ∷ es) =
+    IsDesiredBy v.files v.state (layout_of place.number v.layouts) place (window_of place.number v.state.windows) x e × AreDesired v places xs es
+AreDesired v _ _ _ = ⊥
 
 -- what laying out the windows of a session gives: for each of them the start and the point that are chosen for it, and its new layout
 abbrev pub IsDesired : SessionValue → Desired → Type 0
-IsDesired v d = ⊥
+IsDesired v d = AreDesired v (places v.state) d.windows d.layouts.items
+
+-- ---- what is shown
+
+-- what a window shows of its layout
+abbrev pub shown_by : LaidWindow → Layout → WindowView
+shown_by x l = record { anchor = x.chosen.anchor; point = x.chosen.point; rows = shown_entries l.matrix; top = l.top; bottom = l.bottom }
+
+-- what each window shows, where these are the last layouts
+abbrev pub views_taken : List (ℕ × Layout) → List LaidWindow → List (ℕ × Layout) → List WindowView
+views_taken lasts (x ∷ xs) (e ∷ es) = shown_by x (layout_taken (layout_of e.0 lasts) x e.1) ∷ views_taken lasts xs es
+views_taken lasts _ _ = []
+
+-- ---- what is kept
+
+-- the layout that a window then has, under its number, where these are the last ones
+abbrev pub taken_at : List (ℕ × Layout) → LaidWindow → ℕ × Layout → ℕ × Layout
+taken_at lasts x e = (e.0, layout_taken (layout_of e.0 lasts) x e.1)
+
+-- the layouts that the windows then have
+abbrev pub layouts_taken : List (ℕ × Layout) → List LaidWindow → List (ℕ × Layout) → List (ℕ × Layout)
+layouts_taken lasts (x ∷ xs) (e ∷ es) = taken_at lasts x e ∷ layouts_taken lasts xs es
+layouts_taken lasts _ _ = []
+
+-- no number stands twice
+abbrev pub AreOnce : List (ℕ × Layout) → Type 0
+AreOnce [] = Unit {0}
+AreOnce (e ∷ es) = (layout_of e.0 es ≡ None) × AreOnce es
+
+-- the state where the windows with these numbers have the starts and the points that were chosen for them
+abbrev pub all_settled : List LaidWindow → List (ℕ × Layout) → StateValue → StateValue
+all_settled (x ∷ xs) (e ∷ es) s = all_settled xs es (settled s e.0 x.chosen.anchor x.chosen.point)
+all_settled _ _ s = s
+
+-- windows that live, with starts and points that are accessible in what they show
+abbrev pub CanSettle : StateValue → List LaidWindow → List (ℕ × Layout) → Type 0
+CanSettle s (x ∷ xs) (e ∷ es) =
+    IsSome (window_of e.0 s.windows) × IsShownAt s e.0 x.chosen.anchor.pos × IsShownAt s e.0 x.chosen.point × CanSettle s xs es
+CanSettle s _ _ = Unit {0}

@@ -1,15 +1,20 @@
 //! What laying out all windows gives, before anything of it is kept.
-ghost use Rattle.std.specs.Prelude.{◌≡◌, ◌+◌, ◌≤◌, IfOk, None};
-ghost use Rattle.rd_layout.specs.Redisplays.{AreLaidOut, allowed};
-ghost use Rattle.rd_layout.specs.Screens.{laid_out};
-ghost use Rattle.rd_layout.specs.Windows.{places, views_in};
-ghost use Rattle.rd_views.specs.Layings.{IsDesired};
+ghost use Rattle.std.specs.Prelude.{◌≡◌, ◌×◌, ℕ, ◌+◌, ◌≤◌, ◌<◌, ◌++◌, ◌∷◌, [], length, slice_get, IfOk, OnOk, Some, unwrap_or};
+ghost use Rattle.rd_layout.specs.Redisplays.{allowed};
+ghost use Rattle.rd_layout.specs.Sessions.{layout_of};
+ghost use Rattle.rd_layout.specs.Windows.{views_in};
+ghost use Rattle.rd_window.specs.declared.layout.Layout.{Layout};
+ghost use Rattle.rd_views.specs.Layings.{IsDesired, layout_in, layout_taken, no_layout, views_taken, window_in};
 
 use crate::views::Views;
-use rd_base::{ListOf, Memory, Steps};
+use rd_base::{ListOf, Memory, Steps, Wrap};
 use rd_layout::ShownWindow;
+use rd_matrix::Matrix;
+use rd_reuse::Change;
+use rd_rows::Shape;
 use rd_start::Chosen;
-use rd_window::Layout;
+use rd_window::{Laying, Layout};
+use std::alloc::Global;
 use std::sync::ledger::Ledger;
 
 /// The start and the point that were chosen for a window, and whether it was laid out anew.
@@ -23,8 +28,24 @@ pub struct LaidWindow {
 /// where its last layout stays. It has all the memory that adopting it takes.
 #[derive(Drop)]
 pub struct Desired {
-    windows: ListOf<LaidWindow>,
-    layouts: Vec<(u32, Layout)>,
+    pub(crate) windows: ListOf<LaidWindow>,
+    pub(crate) layouts: Vec<(u32, Layout)>,
+}
+
+impl Desired {
+    /// Adds what laying out the window with a number gave.
+    fn push(&mut self, alloc: Global, number: u32, laying: Laying) -> Result<(), Memory>
+        ensures windows { OnOk result (self.new.windows ≡ self.old.windows ++ window_in laying ∷ []) }
+        ensures layouts { OnOk result (self.new.layouts.items ≡ self.old.layouts.items ++ (number, layout_in laying) ∷ []) }
+    {
+        self.windows.push(LaidWindow {
+            chosen: laying.chosen,
+            anew: laying.anew.is_some(),
+        })?;
+        let layout = new_layout(alloc, laying.anew)?;
+        self.layouts.push((number, layout))?;
+        Ok(())
+    }
 }
 
 impl Views {
@@ -34,7 +55,17 @@ impl Views {
         ensures desired { IfOk result (λ desired. IsDesired self.now desired) }
         ensures steps { steps.new ≤ steps.old + allowed self.now }
     {
-        Err(Memory)
+        let mut desired = Desired {
+            windows: ListOf::new(self.alloc),
+            layouts: Vec::new(self.alloc),
+        };
+        let mut i = 0;
+        while let Some(place) = self.place(i) {
+            let laying = self.lay_out_window(place, steps)?;
+            desired.push(self.alloc, place.number, laying)?;
+            i += 1;
+        }
+        Ok(desired)
     }
 
     /// What each window shows once it is adopted, in leaf order.
@@ -42,16 +73,68 @@ impl Views {
         requires { IsDesired self.now desired.now }
         ensures { IfOk result (λ windows. windows ≡ views_in self.now.files self.now.state) }
     {
-        Err(Memory)
+        let mut windows = ListOf::with_room(self.alloc, desired.windows.len())?;
+        for i in 0..desired.windows.len() {
+            windows.push(self.shown_at(desired, i))?;
+        }
+        Ok(windows)
     }
 
-    /// Keeps what laying out all windows gave: each window has the start and the point that were chosen for it, and its new layout.
-    /// It takes no memory.
-    pub fn adopt(&mut self, desired: Desired)
-        requires { IsDesired self.old desired }
-        ensures files { self.new.files ≡ self.old.files }
-        ensures state { self.new.state ≡ (laid_out self.old.files self.old.state).state }
-        ensures layouts { AreLaidOut self.old (places self.old.state) self.new.layouts }
-        ensures current { self.new.current ≡ None }
-    {}
+    /// The layout that the window at a place in leaf order then has.
+    fn layout_at<'a>(&'a self, desired: &'a Desired, window: LaidWindow, i: usize) -> &'a Layout
+        requires { i < length desired.now.layouts.items }
+        ensures { (e : ℕ × Layout) → slice_get desired.now.layouts.items i ≡ Some e → result.now ≡ layout_taken (layout_of e.0 self.now.layouts) window e.1 }
+    {
+        let (number, layout) = &desired.layouts[i];
+        if window.anew {
+            return layout;
+        }
+        self.layout(*number).unwrap_or(layout)
+    }
+
+    /// What the window at a place in leaf order shows.
+    fn shown_at<'a>(&'a self, desired: &'a Desired, i: usize) -> ShownWindow<'a>
+        requires window { i < length desired.now.windows }
+        requires layout { i < length desired.now.layouts.items }
+        ensures { slice_get (views_taken self.now.layouts desired.now.windows desired.now.layouts.items) i ≡ Some result }
+    {
+        let window = desired.windows.at(i);
+        let layout = self.layout_at(desired, window, i);
+        ShownWindow {
+            chosen: window.chosen,
+            matrix: &layout.matrix,
+            top: layout.top,
+            bottom: layout.bottom,
+        }
+    }
+}
+
+/// The new layout of a window, or an empty one where its last layout stays.
+fn new_layout(alloc: Global, anew: Option<Layout>) -> Result<Layout, Memory>
+    ensures { IfOk result (λ layout. layout ≡ unwrap_or anew no_layout) }
+{
+    match anew {
+        Some(layout) => Ok(layout),
+        None => no_layout(alloc),
+    }
+}
+
+/// A layout of no row.
+fn no_layout(alloc: Global) -> Result<Layout, Memory>
+    ensures { IfOk result (λ layout. layout ≡ no_layout) }
+{
+    Ok(Layout {
+        matrix: Matrix::new(alloc)?,
+        shape: Shape {
+            width: 10,
+            wrap: Wrap::Truncate,
+            hscroll: 0,
+        },
+        height: 0,
+        margin: 0,
+        conservatively: 0,
+        top: false,
+        bottom: false,
+        change: Change::none(),
+    })
 }

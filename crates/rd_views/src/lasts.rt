@@ -1,7 +1,9 @@
 //! The last layouts of windows, each under its window's number.
-ghost use Rattle.std.specs.Prelude.{◌≡◌, ◌≢◌, ◌==◌, ℕ, position, unwrap_or};
+ghost use Rattle.std.specs.Prelude.{◌≡◌, ◌≢◌, ◌==◌, ℕ, ◌<◌, length, position, slice_index_or, slice_set, unwrap_or};
 ghost use Rattle.rd_layout.specs.Sessions.{layout_of};
+ghost use Rattle.rd_views.specs.Layings.{nobody, taken_at};
 
+use crate::desired::LaidWindow;
 use rd_window::Layout;
 use std::mem;
 
@@ -19,5 +21,22 @@ pub(crate) fn exchange(layouts: &mut [(u32, Layout)], window: u32, layout: &mut 
 {
     if let Some(i) = find(layouts, window) {
         mem::swap(&mut layouts[i].1, layout);
+    }
+}
+
+/// Puts the last layout of a window in place of that at a place, where the window was not laid out anew and has one.
+pub(crate) fn take_last(
+    window: LaidWindow,
+    layouts: &mut [(u32, Layout)],
+    i: usize,
+    lasts: &mut [(u32, Layout)],
+)
+    requires { i < length layouts.old }
+    ensures taken { layouts.new ≡ slice_set layouts.old i (taken_at lasts.old window (slice_index_or layouts.old i nobody)) }
+    ensures others { (n : ℕ) → n ≢ (slice_index_or layouts.old i nobody).0 → layout_of n lasts.new ≡ layout_of n lasts.old }
+{
+    if !window.anew {
+        let number = layouts[i].0;
+        exchange(lasts, number, &mut layouts[i].1);
     }
 }

@@ -1,0 +1,155 @@
+-- What laying out all windows gives, window by window.
+use Rattle.std.proofs.Common.{◌≡◌, ◌≢◌, inl, inr, ℕ, zero, suc, ◌+◌, ◌<◌, ◌≤◌, Bool, true, false, not, is_some, if◌then◌else◌, Option, None, Some, List, [], ◌∷◌, ◌++◌, length, get_or, drop, sym, ap, refl, subst, subst₂, ◌∙◌, arith, append_assoc, append_nil, unwrap_or}
+use Rattle.std.proofs.lemmas.Bool.{cases_eq}
+use Rattle.std.proofs.lemmas.List.{drop_more}
+use Rattle.std.proofs.lemmas.Option.{get_or_from_slice_get, slice_get_within}
+use Rattle.std.specs.List.{flat_map}
+use Rattle.std.specs.Prelude.{IfSome, slice_get}
+use Rattle.rd_start.specs.Chosen.{chosen_of}
+use Rattle.rd_start.specs.declared.chosen.Chosen.{Chosen}
+use Rattle.rd_state.specs.States.{StateValue}
+use Rattle.rd_state.specs.Windows.{window_of}
+use Rattle.rd_state.specs.declared.window.WindowState.{WindowState}
+use Rattle.rd_tree.specs.Windows.{of_number}
+use Rattle.rd_tree.specs.declared.placed.Placed.{Placed}
+use Rattle.rd_ucd.specs.Data.{Data}
+use Rattle.rd_window.specs.Layouts.{IsLaidOut, layout_after, rests}
+use Rattle.rd_window.specs.Views.{WindowView}
+use Rattle.rd_window.specs.declared.again.Laying.{Laying}
+use Rattle.rd_window.specs.declared.layout.Layout.{Layout}
+use Rattle.rd_layout.specs.Redisplays.{AreLaidOut, IsLaidOutBy, allowance_by, allowances}
+use Rattle.rd_layout.specs.Sessions.{SessionValue, layout_of}
+use Rattle.rd_layout.specs.Windows.{places, views_at, views_by, wanted_of, window_shape, window_source}
+use Rattle.rd_layout.proofs.Known.{Last, layout-here, layout-there}
+use Rattle.rd_views.specs.Layings.{AreDesired, AreOnce, IsDesiredAt, IsDesiredBy, layout_in, layout_taken, layouts_taken, no_layout, shown_by, views_taken, window_in}
+use Rattle.rd_views.specs.declared.desired.LaidWindow.{LaidWindow}
+use Rattle.rd_views.proofs.Placing.{AreApart, placed-here, placed-there}
+
+-- ---- one window
+
+no-none : false ≡ true → ⊥
+no-none h = absurd (cc)
+
+module _ (files : Data) (s : StateValue) (place : Placed) (w : WindowState) where
+  abbrev pub IsNew : Option Layout → Layout → Type 0
+  IsNew last new = IsLaidOut last (window_source files s w) (window_shape s w place) (wanted_of s w place) new
+
+  kept-layout : (last anew : Option Layout) → IfSome (layout_after last anew) (IsNew last)
+      → is_some anew ≡ not (rests last (window_source files s w) (window_shape s w place) (wanted_of s w place))
+      → IsNew last (if is_some anew then unwrap_or anew no_layout else unwrap_or last (unwrap_or anew no_layout))
+  kept-layout last (Some new) laid is = laid
+  kept-layout (Some l) None laid is = laid
+  kept-layout None None laid is = absurd (no-none is)
+
+  pub desired-window : (last : Option Layout) (laying : Laying) → laying.chosen ≡ chosen_of (window_source files s w) (window_shape s w place) (wanted_of s w place)
+      → IfSome (layout_after last laying.anew) (IsNew last) → is_some laying.anew ≡ not (rests last (window_source files s w) (window_shape s w place) (wanted_of s w place))
+      → IsDesiredAt files s last place w (window_in laying) (place.number, layout_in laying)
+  desired-window last laying chosen laid is = record { number = refl; chosen = chosen; layout = kept-layout last laying.anew laid is }
+
+-- ---- one window more
+
+-- what is held so far, with what is held of the windows that are left, is what is held of all
+abbrev pub Leads : SessionValue → List Placed → List Placed → List LaidWindow → List Last → Type 0
+Leads v all left xs es = (ys : List LaidWindow) (fs : List Last) → AreDesired v left ys fs → AreDesired v all (xs ++ ys) (es ++ fs)
+
+pub left-at : (ps : List Placed) (i : ℕ) (p : Placed) → slice_get ps i ≡ Some p → drop i ps ≡ p ∷ drop (i + 1) ps
+left-at ps i p at = drop_more ps i p (slice_get_within ps i p at) ∙ ap (λ (q : Placed). q ∷ drop (i + 1) ps) (get_or_from_slice_get ps i p p at)
+
+pub none-left : (ps : List Placed) (i : ℕ) → slice_get ps i ≡ None → drop i ps ≡ []
+none-left [] zero at = refl
+none-left [] (suc i) at = refl
+none-left (p ∷ ps) zero at = absurd (cc)
+none-left (p ∷ ps) (suc i) at = none-left ps i at
+
+pub next-leads : (v : SessionValue) (all : List Placed) (i : ℕ) (p : Placed) (xs : List LaidWindow) (es : List Last) (x : LaidWindow) (e : Last) → slice_get all i ≡ Some p
+    → IsDesiredBy v.files v.state (layout_of p.number v.layouts) p (window_of p.number v.state.windows) x e → Leads v all (drop i all) xs es
+    → Leads v all (drop (i + 1) all) (xs ++ x ∷ []) (es ++ e ∷ [])
+next-leads v all i p xs es x e at one leads ys fs h =
+    subst₂ (λ (us : List LaidWindow) (ws : List Last). AreDesired v all us ws) (sym (append_assoc xs (x ∷ []) ys)) (sym (append_assoc es (e ∷ []) fs))
+    (leads (x ∷ ys) (e ∷ fs) (subst (λ (ps : List Placed). AreDesired v ps (x ∷ ys) (e ∷ fs)) (sym (left-at all i p at)) (one, h)))
+
+pub all-lead : (v : SessionValue) (all : List Placed) (i : ℕ) (xs : List LaidWindow) (es : List Last) → slice_get all i ≡ None → Leads v all (drop i all) xs es → AreDesired v all xs es
+all-lead v all i xs es at leads =
+    subst₂ (λ (us : List LaidWindow) (ws : List Last). AreDesired v all us ws) (append_nil xs) (append_nil es)
+    (leads [] [] (subst (λ (ps : List Placed). AreDesired v ps [] []) (sym (none-left all i at)) tt))
+
+-- ---- the allowance that is left
+
+pub next-left : (v : SessionValue) (all : List Placed) (i : ℕ) (p : Placed) → slice_get all i ≡ Some p
+    → allowances v (drop i all) ≡ allowance_by v.files v.state (layout_of p.number v.layouts) p (window_of p.number v.state.windows) + allowances v (drop (i + 1) all)
+next-left v all i p at = ap (allowances v) (left-at all i p at)
+
+-- ---- what follows
+
+module _ (v : SessionValue) where
+  laid-by : (p : Placed) (o : Option WindowState) (x : LaidWindow) (e : Last) → IsDesiredBy v.files v.state (layout_of p.number v.layouts) p o x e
+      → (e.0 ≡ p.number) × IsLaidOutBy v.files v.state (layout_of p.number v.layouts) p o (layout_taken (layout_of e.0 v.layouts) x e.1)
+  laid-by p None x e h = absurd h
+  laid-by p (Some w) x e h = (
+    h.number,
+    subst (λ (n : ℕ). IsLaidOutBy v.files v.state (layout_of p.number v.layouts) p (Some w) (layout_taken (layout_of n v.layouts) x e.1)) (sym h.number) h.layout,
+  )
+
+  -- the layouts that the windows then have are new ones
+  pub laid-out : (ps : List Placed) (xs : List LaidWindow) (es : List Last) → AreDesired v ps xs es → AreLaidOut v ps (layouts_taken v.layouts xs es)
+  laid-out [] [] [] h = tt
+  laid-out [] [] (e ∷ es) h = absurd h
+  laid-out [] (x ∷ xs) es h = absurd h
+  laid-out (p ∷ ps) [] es h = absurd h
+  laid-out (p ∷ ps) (x ∷ xs) [] h = absurd h
+  laid-out (p ∷ ps) (x ∷ xs) (e ∷ es) h =
+      let one = laid-by p (window_of p.number v.state.windows) x e h.0 in
+      (one.0, one.1, laid-out ps xs es h.1)
+
+  view-by : (p : Placed) (o : Option WindowState) (x : LaidWindow) (e : Last) (rest more : List WindowView) → IsDesiredBy v.files v.state (layout_of p.number v.layouts) p o x e → rest ≡ more
+      → shown_by x (layout_taken (layout_of e.0 v.layouts) x e.1) ∷ rest ≡ views_by v.files v.state p o ++ more
+  view-by p None x e rest more h is = absurd h
+  view-by p (Some w) x e rest more h is =
+      let laid = (laid-by p (Some w) x e h).1 in
+      let chosen = h.chosen in
+      λ i. record { anchor = (chosen i).anchor; point = (chosen i).point; rows = laid.rows i; top = laid.top i; bottom = laid.bottom i } ∷ is i
+
+  -- the windows show what the rules give
+  pub views-are : (ps : List Placed) (xs : List LaidWindow) (es : List Last) → AreDesired v ps xs es → views_taken v.layouts xs es ≡ flat_map (views_at v.files v.state) ps
+  views-are [] [] [] h = refl
+  views-are [] [] (e ∷ es) h = absurd h
+  views-are [] (x ∷ xs) es h = absurd h
+  views-are (p ∷ ps) [] es h = absurd h
+  views-are (p ∷ ps) (x ∷ xs) [] h = absurd h
+  views-are (p ∷ ps) (x ∷ xs) (e ∷ es) h =
+      view-by p (window_of p.number v.state.windows) x e (views_taken v.layouts xs es) (flat_map (views_at v.files v.state) ps) h.0 (views-are ps xs es h.1)
+
+  pub same-count : (ps : List Placed) (xs : List LaidWindow) (es : List Last) → AreDesired v ps xs es → length es ≡ length xs
+  same-count [] [] [] h = refl
+  same-count [] [] (e ∷ es) h = absurd h
+  same-count [] (x ∷ xs) es h = absurd h
+  same-count (p ∷ ps) [] es h = absurd h
+  same-count (p ∷ ps) (x ∷ xs) [] h = absurd h
+  same-count (p ∷ ps) (x ∷ xs) (e ∷ es) h = ap suc (same-count ps xs es h.1)
+
+  number-by : (p : Placed) (o : Option WindowState) (x : LaidWindow) (e : Last) → IsDesiredBy v.files v.state (layout_of p.number v.layouts) p o x e → e.0 ≡ p.number
+  number-by p o x e h = (laid-by p o x e h).0
+
+  gone : (n : ℕ) (ps : List Placed) (xs : List LaidWindow) (es : List Last) → AreDesired v ps xs es → of_number n ps ≡ None → layout_of n es ≡ None
+  gone n [] [] [] h none = refl
+  gone n [] [] (e ∷ es) h none = absurd h
+  gone n [] (x ∷ xs) es h none = absurd h
+  gone n (p ∷ ps) [] es h none = absurd h
+  gone n (p ∷ ps) (x ∷ xs) [] h none = absurd h
+  gone n (p ∷ ps) (x ∷ xs) (e ∷ es) h none =
+      let same = number-by p (window_of p.number v.state.windows) x e h.0 in
+      elim (cases_eq p.number n) [
+        | inl is ↦ absurd (cc (sym (placed-here n p ps is) ∙ none))
+        | inr other ↦ layout-there n e es (λ q. other (sym same ∙ q)) ∙ gone n ps xs es h.1 (sym (placed-there n p ps other) ∙ none)
+      ]
+
+  -- the numbers stand once
+  pub once : (ps : List Placed) (xs : List LaidWindow) (es : List Last) → AreDesired v ps xs es → AreApart ps → AreOnce es
+  once [] [] [] h apart = tt
+  once [] [] (e ∷ es) h apart = absurd h
+  once [] (x ∷ xs) es h apart = absurd h
+  once (p ∷ ps) [] es h apart = absurd h
+  once (p ∷ ps) (x ∷ xs) [] h apart = absurd h
+  once (p ∷ ps) (x ∷ xs) (e ∷ es) h apart =
+      let same = number-by p (window_of p.number v.state.windows) x e h.0 in
+      (ap (λ (n : ℕ). layout_of n es) same ∙ gone p.number ps xs es h.1 apart.0, once ps xs es h.1 apart.1)

@@ -1,0 +1,64 @@
+-- Last layouts, found by the numbers of their windows and exchanged.
+use Rattle.std.proofs.Common.{◌≡◌, ◌≢◌, inl, inr, ℕ, zero, suc, ◌<◌, ◌≤◌, ◌==◌, Bool, true, false, Option, None, Some, List, [], ◌∷◌, length, set, get_or, nat_lt, cond, sym, ap, refl, ◌∙◌, arith}
+use Rattle.std.proofs.lemmas.Bool.{cases_eq, ltb-false}
+use Rattle.std.proofs.lemmas.Bool.Decides.{nat_tests}
+use Rattle.std.proofs.lemmas.List.Quantifiers.{position-Some}
+use Rattle.std.proofs.lemmas.List.Sums.{fails_before_first}
+use Rattle.std.specs.List.{position, position_or_len}
+use Rattle.std.specs.Prelude.{unwrap_or}
+use Rattle.rd_window.specs.declared.layout.Layout.{Layout}
+use Rattle.rd_layout.specs.Sessions.{layout_of}
+use Rattle.rd_layout.proofs.Known.{Last, layout-here, layout-there}
+use Rattle.rd_views.specs.Layings.{nobody}
+
+same-number : (a b : ℕ) → (a == b) ≡ true → a ≡ b
+same-number a b h = grind (arith, nat_tests)
+
+other-number : (a b : ℕ) → (a == b) ≡ false → a ≢ b
+other-number a b h = grind (arith, nat_tests)
+
+-- ---- finding
+
+at-place : (n i : ℕ) (es : List Last) → i < length es → (get_or es i nobody).0 ≡ n → ((k : ℕ) → k < i → (get_or es k nobody).0 ≢ n) → layout_of n es ≡ Some (get_or es i nobody).1
+at-place n i [] less here before = absurd (omega (arith, less))
+at-place n zero (e ∷ es) less here before = layout-here n e es here
+at-place n (suc i) (e ∷ es) less here before =
+    layout-there n e es (before 0 (omega arith)) ∙ at-place n i es (omega (arith, less)) here (λ k lower. before (suc k) (omega arith))
+
+nowhere : (n : ℕ) (es : List Last) → ((k : ℕ) → k < length es → (get_or es k nobody).0 ≢ n) → layout_of n es ≡ None
+nowhere n [] none = refl
+nowhere n (e ∷ es) none = layout-there n e es (none 0 (omega arith)) ∙ nowhere n es (λ k less. none (suc k) (omega arith))
+
+abbrev pub is_of : ℕ → Last → Bool
+is_of n e = e.0 == n
+
+-- what is found at a place
+pub record IsFound (n i : ℕ) (es : List Last) : Type 0 where
+  pub inside : i < length es
+  pub number : (get_or es i nobody).0 ≡ n
+  pub layout : layout_of n es ≡ Some (get_or es i nobody).1
+
+pub found : (n i : ℕ) (es : List Last) → position (is_of n) es ≡ Some i → IsFound n i es
+found n i es at =
+    let p = position-Some (is_of n) es i nobody at in
+    let number = same-number (get_or es i nobody).0 n p.1 in
+    record { inside = p.0; number = number; layout = at-place n i es p.0 number (λ k lower. other-number (get_or es k nobody).0 n (p.2 k lower)) }
+
+missed : (b : Bool) (k : ℕ) → cond b (Some k) None ≡ None → b ≡ false
+missed true k h = absurd (cc)
+missed false k h = refl
+
+pub absent : (n : ℕ) (es : List Last) → position (is_of n) es ≡ None → layout_of n es ≡ None
+absent n es at =
+    let past = ltb-false (position_or_len (is_of n) es) (length es) (missed (nat_lt (position_or_len (is_of n) es) (length es)) (position_or_len (is_of n) es) at) in
+    nowhere n es (λ k less. other-number (get_or es k nobody).0 n (fails_before_first (is_of n) es k nobody (omega (arith, past, less))))
+
+-- ---- exchanging
+
+pub others-stay : (n m i : ℕ) (es : List Last) (l : Layout) → n ≢ m → i < length es → (get_or es i nobody).0 ≡ m → layout_of n (set es i (m, l)) ≡ layout_of n es
+others-stay n m i [] l other less here = absurd (omega (arith, less))
+others-stay n m zero (e ∷ es) l other less here = layout-there n (m, l) es (λ q. other (sym q)) ∙ sym (layout-there n e es (λ q. other (sym q ∙ here)))
+others-stay n m (suc i) (e ∷ es) l other less here = elim (cases_eq e.0 n) [
+  | inl p ↦ layout-here n e (set es i (m, l)) p ∙ sym (layout-here n e es p)
+  | inr q ↦ layout-there n e (set es i (m, l)) q ∙ (others-stay n m i es l other (omega (arith, less)) here ∙ sym (layout-there n e es q))
+]

@@ -1,0 +1,113 @@
+-- What the layout of a window asks of its source and its last layout, and what it answers.
+use Rattle.std.proofs.Common.{◌≡◌, ℕ, ◌+◌, ◌≤◌, not, is_some, Option, Some, Result, Ok, Err, sym, ap, subst, subst₂, ◌∙◌}
+use Rattle.std.specs.Prelude.{IfOk, IfSome}
+use Rattle.rd_base.specs.declared.memory.Memory.{Memory}
+use Rattle.rd_blocks.specs.Sources.{text_source}
+use Rattle.rd_matrix.specs.Blocks.{IsWithin}
+use Rattle.rd_matrix.specs.Sources.{IsSource, SourceValues}
+use Rattle.rd_objects.specs.Things.{ObjectLists}
+use Rattle.rd_props.specs.Buffers as props
+use Rattle.rd_reuse.specs.Keeping.{AreRight}
+use Rattle.rd_rows.specs.Shapes.{ShapeValues}
+use Rattle.rd_start.specs.Chosen.{chosen_of}
+use Rattle.rd_start.specs.declared.wanted.Wanted.{Wanted}
+use Rattle.rd_state.specs.States.{ContentValue, StateValue, seen}
+use Rattle.rd_state.specs.Valid.{IsValid, IsWindow}
+use Rattle.rd_state.specs.Windows.{content_in, shown_content, window_of}
+use Rattle.rd_state.specs.declared.window.WindowState.{WindowState}
+use Rattle.rd_text.specs.Texts.{IsAccessible, IsText}
+use Rattle.rd_tree.specs.declared.placed.Placed.{Placed}
+use Rattle.rd_ucd.specs.Data.{Data}
+use Rattle.rd_window.specs.Layouts.{IsLaidOut, StandsUnchanged, allowance, change_since, layout_after, older_rows, rests}
+use Rattle.rd_window.specs.declared.again.Laying.{Laying}
+use Rattle.rd_window.specs.declared.layout.Layout.{Layout}
+use Rattle.rd_layout.specs.Redisplays.{allowance_by}
+use Rattle.rd_layout.specs.Sessions.{SessionValue, layout_of}
+use Rattle.rd_layout.specs.Since.{IsSession}
+use Rattle.rd_layout.specs.Windows.{wanted_of, window_shape, window_source}
+use Rattle.rd_layout.proofs.ByNumber.{buffer-there}
+use Rattle.rd_views.specs.Layings.{IsDesiredAt, IsDesiredBy, layout_in, window_in}
+use Rattle.rd_views.proofs.Desiring.{desired-window}
+
+-- what the layers below say
+pub record LookLaws : Type 0 where
+  pub source : (s : props.BufferValue) (objects : ObjectLists) (files : Data) → IsText s.text → IsSource (text_source s objects files)
+  pub within : (s : props.BufferValue) (objects : ObjectLists) (files : Data) (pos : ℕ) → IsAccessible s.text pos → IsWithin pos (text_source s objects files).blocks
+  pub kept : (v : SessionValue) (number : ℕ) (w : WindowState) (shape : ShapeValues) → IsSession v → window_of number v.state.windows ≡ Some w
+      → AreRight (window_source v.files v.state w) (older_rows (layout_of number v.layouts) shape) (change_since (layout_of number v.layouts)) shape
+  pub stands : (v : SessionValue) (number : ℕ) (w : WindowState) → IsSession v → window_of number v.state.windows ≡ Some w
+      → StandsUnchanged (layout_of number v.layouts) (window_source v.files v.state w) w.forced w.anchor
+  pub found : (s : StateValue) (number : ℕ) (w : WindowState) → IsValid s → window_of number s.windows ≡ Some w → IsWindow s.buffers w
+
+module _ (laws : LookLaws) (v : SessionValue) (session : IsSession v) (n : ℕ) (w : WindowState) (lives : window_of n v.state.windows ≡ Some w) (m : SourceValues) (source : m ≡ window_source v.files v.state w) where
+  window : IsWindow v.state.buffers w
+  window = laws.found v.state n w session.state lives
+
+  text : IsText (shown_content v.state w).text
+  text =
+      let b = buffer-there v.state.buffers w.buffer window.made in
+      subst (λ (c : ContentValue). IsText c.text) (sym (ap content_in b.1)) (session.state.buffers.contents w.buffer b.0 b.1).text
+
+  point : IsAccessible (shown_content v.state w).text w.point
+  point =
+      let b = buffer-there v.state.buffers w.buffer window.made in
+      subst (λ (c : ContentValue). IsAccessible c.text w.point) (sym (ap content_in b.1)) (window.point b.0 b.1)
+
+  anchor : IsAccessible (shown_content v.state w).text w.anchor.pos
+  anchor =
+      let b = buffer-there v.state.buffers w.buffer window.made in
+      subst (λ (c : ContentValue). IsAccessible c.text w.anchor.pos) (sym (ap content_in b.1)) (window.anchor b.0 b.1)
+
+  pub is-source : IsSource m
+  is-source = subst IsSource (sym source) (laws.source (seen (shown_content v.state w)) v.state.objects v.files text)
+
+  pub anchor-within : IsWithin w.anchor.pos m.blocks
+  anchor-within = subst (λ (k : SourceValues). IsWithin w.anchor.pos k.blocks) (sym source) (laws.within (seen (shown_content v.state w)) v.state.objects v.files w.anchor.pos anchor)
+
+  pub point-within : IsWithin w.point m.blocks
+  point-within = subst (λ (k : SourceValues). IsWithin w.point k.blocks) (sym source) (laws.within (seen (shown_content v.state w)) v.state.objects v.files w.point point)
+
+  pub kept-right : (last : Option Layout) (shape : ShapeValues) → last ≡ layout_of n v.layouts → AreRight m (older_rows last shape) (change_since last) shape
+  kept-right last shape is =
+      subst₂ (λ (k : SourceValues) (l : Option Layout). AreRight k (older_rows l shape) (change_since l) shape) (sym source) (sym is) (laws.kept v n w shape session lives)
+
+  pub last-stands : (last : Option Layout) → last ≡ layout_of n v.layouts → StandsUnchanged last m w.forced w.anchor
+  last-stands last is = subst₂ (λ (k : SourceValues) (l : Option Layout). StandsUnchanged l k w.forced w.anchor) (sym source) (sym is) (laws.stands v n w session lives)
+
+-- what the layout of a window answers
+abbrev pub Laid : Option Layout → SourceValues → ShapeValues → Wanted → Laying → Type 0
+Laid last m shape wanted laying =
+    (laying.chosen ≡ chosen_of m shape wanted) × IfSome (layout_after last laying.anew) (λ new. IsLaidOut last m shape wanted new) × (is_some laying.anew ≡ not (rests last m shape wanted))
+
+module _ (files : Data) (s : StateValue) (place : Placed) (w : WindowState) (last : Option Layout) where
+  abbrev m : SourceValues
+  m = window_source files s w
+
+  abbrev shape : ShapeValues
+  shape = window_shape s w place
+
+  abbrev wanted : Wanted
+  wanted = wanted_of s w place
+
+  laid-here : (laying : Laying) → Laid last m shape wanted laying → IsDesiredAt files s last place w (window_in laying) (place.number, layout_in laying)
+  laid-here laying h = desired-window files s place w last laying h.0 h.1 h.2
+
+  laid-there : (l : Option Layout) (k : SourceValues) (x : ShapeValues) (y : Wanted) (laying : Laying) → l ≡ last → k ≡ m → x ≡ shape → y ≡ wanted → Laid l k x y laying → Laid last m shape wanted laying
+  laid-there l k x y laying a b c d h =
+      subst₂ (λ (o : Option Layout) (q : SourceValues). Laid o q shape wanted laying) a b (subst₂ (λ (z : ShapeValues) (u : Wanted). Laid l k z u laying) c d h)
+
+  pub laid-result : (l : Option Layout) (k : SourceValues) (x : ShapeValues) (y : Wanted) (o : Option WindowState) (result : Result Laying Memory)
+      → l ≡ last → k ≡ m → x ≡ shape → y ≡ wanted → o ≡ Some w
+      → IfOk result (λ laying. laying.chosen ≡ chosen_of k x y) → IfOk result (λ laying. IfSome (layout_after l laying.anew) (λ new. IsLaidOut l k x y new))
+      → IfOk result (λ laying. is_some laying.anew ≡ not (rests l k x y))
+      → IfOk result (λ laying. IsDesiredBy files s last place o (window_in laying) (place.number, layout_in laying))
+  laid-result l k x y o (Err memory) a b c d lives chosen layout anew = tt
+  laid-result l k x y o (Ok laying) a b c d lives chosen layout anew =
+      subst (λ (p : Option WindowState). IsDesiredBy files s last place p (window_in laying) (place.number, layout_in laying)) (sym lives)
+      (laid-here laying (laid-there l k x y laying a b c d (chosen, layout, anew)))
+
+  pub allowed-steps : (l : Option Layout) (k : SourceValues) (x : ShapeValues) (y : Wanted) (o : Option WindowState) (before after : ℕ)
+      → l ≡ last → k ≡ m → x ≡ shape → y ≡ wanted → o ≡ Some w → after ≤ before + allowance l k x y → after ≤ before + allowance_by files s last place o
+  allowed-steps l k x y o before after a b c d lives h =
+      let same : allowance l k x y ≡ allowance last m shape wanted = λ i. allowance (a i) (b i) (c i) (d i) in
+      subst (λ (n : ℕ). after ≤ before + n) (same ∙ sym (ap (allowance_by files s last place) lives)) h

@@ -1,0 +1,274 @@
+-- Settling each window as it was laid out leaves the state that a redisplay leaves.
+use Rattle.std.proofs.Common.{◌≡◌, ◌≢◌, inl, inr, ℕ, suc, ◌==◌, Bool, false, if◌then◌else◌, Option, None, Some, List, [], ◌∷◌, map, sym, ap, refl, subst, subst₂, ◌∙◌, arith}
+use Rattle.std.proofs.lemmas.Bool.{cases_eq}
+use Rattle.std.specs.Prelude.{IsSome, option_map, pos, slice_get}
+use Rattle.rd_start.specs.Chosen.{chosen_of}
+use Rattle.rd_start.specs.declared.chosen.Chosen.{Chosen}
+use Rattle.rd_base.specs.declared.settings.Anchor.{Anchor}
+use Rattle.rd_state.specs.Shown.{IsShownAt}
+use Rattle.rd_state.specs.States.{BufferValue, ContentValue, StateValue}
+use Rattle.rd_state.specs.Steps.{settled}
+use Rattle.rd_state.specs.Valid.{IsValid}
+use Rattle.rd_state.specs.Windows.{AreApart, content_in, shown_content, window_of, with_window}
+use Rattle.rd_state.specs.declared.window.WindowState.{WindowState}
+use Rattle.rd_text.specs.Texts.{IsAccessible}
+use Rattle.rd_tree.specs.Windows.{of_number}
+use Rattle.rd_tree.specs.declared.placed.Placed.{Placed}
+use Rattle.rd_ucd.specs.Data.{Data}
+use Rattle.rd_window.specs.declared.layout.Layout.{Layout}
+use Rattle.rd_layout.specs.Screens.{settled_at, settled_by, settled_state}
+use Rattle.rd_layout.specs.Sessions.{SessionValue, layout_of}
+use Rattle.rd_layout.specs.Windows.{place_of, places, view_in, wanted_of, window_shape, window_source}
+use Rattle.rd_layout.proofs.ByNumber.{Entry, chosen, eq-false, eq-true, passed, window-became, window-here, window-there, window-with-other, window-with-same}
+use Rattle.rd_layout.proofs.Known.{Last, layout-here, layout-there, mapped}
+use Rattle.rd_layout.proofs.Placed.{number-of}
+use Rattle.rd_views.specs.Layings.{AreDesired, AreOnce, CanSettle, IsDesiredBy, all_settled}
+use Rattle.rd_views.specs.declared.desired.LaidWindow.{LaidWindow}
+use Rattle.rd_views.proofs.Placing.{placed-here, placed-there}
+
+-- ---- the windows alone
+
+-- a window with the start and the point that were chosen for it
+abbrev pub settle_to : Chosen → WindowState → WindowState
+settle_to c w = record w { anchor = c.anchor; point = c.point; forced = false; pending = pos 0 }
+
+abbrev pub windows_settled : List LaidWindow → List Last → List Entry → List Entry
+windows_settled (x ∷ xs) (e ∷ es) ws = windows_settled xs es (with_window e.0 (settle_to x.chosen) ws)
+windows_settled _ _ ws = ws
+
+state-is : (xs : List LaidWindow) (es : List Last) (s : StateValue) → all_settled xs es s ≡ record s { windows = windows_settled xs es s.windows }
+state-is [] es s = refl
+state-is (x ∷ xs) [] s = refl
+state-is (x ∷ xs) (e ∷ es) s = state-is xs es (settled s e.0 x.chosen.anchor x.chosen.point)
+
+-- ---- lists of windows that are told apart by their numbers
+
+some-is : {A : Type 0} {a b : A} → Some a ≡ Some b → a ≡ b
+some-is h = cc
+
+no-some : {A : Type 0} {a : A} → Some a ≡ None → ⊥
+no-some h = absurd (cc)
+
+heads : {m n : ℕ} {ms ns : List ℕ} → m ∷ ms ≡ n ∷ ns → (m ≡ n) × (ms ≡ ns)
+heads h = (cc, cc)
+
+none-by-numbers : (n : ℕ) (us ws : List Entry) → map (λ (e : Entry). e.0) us ≡ map (λ (e : Entry). e.0) ws → window_of n us ≡ None → window_of n ws ≡ None
+none-by-numbers n us [] same none = refl
+none-by-numbers n [] (w ∷ ws) same none = absurd (cc)
+none-by-numbers n (u ∷ us) (w ∷ ws) same none =
+    let parts = heads same in
+    elim (cases_eq u.0 n) [
+      | inl p ↦ absurd (no-some (sym (window-here n u us p) ∙ none))
+      | inr q ↦ window-there n w ws (λ r. q (parts.0 ∙ r)) ∙ none-by-numbers n us ws parts.1 (sym (window-there n u us q) ∙ none)
+    ]
+
+same-windows : (us ws : List Entry) → map (λ (e : Entry). e.0) us ≡ map (λ (e : Entry). e.0) ws → AreApart us → ((n : ℕ) → window_of n us ≡ window_of n ws) → us ≡ ws
+same-windows [] [] same apart found = refl
+same-windows [] (w ∷ ws) same apart found = absurd (cc)
+same-windows (u ∷ us) [] same apart found = absurd (cc)
+same-windows (u ∷ us) (w ∷ ws) same apart found =
+    let parts = heads same in
+    let value = some-is (sym (window-here u.0 u us refl) ∙ (found u.0 ∙ window-here u.0 w ws (sym parts.0))) in
+    let gone = none-by-numbers u.0 us ws parts.1 apart.0 in
+    let rest = same-windows us ws parts.1 apart.1 (λ n. elim (cases_eq u.0 n) [
+      | inl p ↦ ap (λ (k : ℕ). window_of k us) (sym p) ∙ (apart.0 ∙ (sym gone ∙ ap (λ (k : ℕ). window_of k ws) p))
+      | inr q ↦ sym (window-there n u us q) ∙ (found n ∙ window-there n w ws (λ r. q (parts.0 ∙ r)))
+    ]) in
+    λ i. (parts.0 i, value i) ∷ rest i
+
+with-numbers : (n : ℕ) (f : WindowState → WindowState) (ws : List Entry) → map (λ (e : Entry). e.0) (with_window n f ws) ≡ map (λ (e : Entry). e.0) ws
+with-numbers n f [] = refl
+with-numbers n f (w ∷ ws) = by (w.0 == n) where
+  by : (t : Bool) → map (λ (e : Entry). e.0) (if t then (w.0, f w.1) ∷ ws else w ∷ with_window n f ws) ≡ w.0 ∷ map (λ (e : Entry). e.0) ws
+  by true = refl
+  by false = ap (λ (ns : List ℕ). w.0 ∷ ns) (with-numbers n f ws)
+
+settled-numbers : (xs : List LaidWindow) (es : List Last) (ws : List Entry) → map (λ (e : Entry). e.0) (windows_settled xs es ws) ≡ map (λ (e : Entry). e.0) ws
+settled-numbers [] es ws = refl
+settled-numbers (x ∷ xs) [] ws = refl
+settled-numbers (x ∷ xs) (e ∷ es) ws = settled-numbers xs es (with_window e.0 (settle_to x.chosen) ws) ∙ with-numbers e.0 (settle_to x.chosen) ws
+
+map-numbers : (f : ℕ → WindowState → WindowState) (ws : List Entry) → map (λ (e : Entry). e.0) (map (λ (e : Entry). (e.0, f e.0 e.1)) ws) ≡ map (λ (e : Entry). e.0) ws
+map-numbers f [] = refl
+map-numbers f (w ∷ ws) = ap (λ (ns : List ℕ). w.0 ∷ ns) (map-numbers f ws)
+
+-- ---- what is found behind
+
+-- what was chosen for the window with a number
+abbrev pub chosen_for : ℕ → List LaidWindow → List Last → Option Chosen
+chosen_for n (x ∷ xs) (e ∷ es) = if e.0 == n then Some x.chosen else chosen_for n xs es
+chosen_for n _ _ = None
+
+abbrev pub settle_found : Option Chosen → Option WindowState → Option WindowState
+settle_found None o = o
+settle_found (Some c) o = option_map (settle_to c) o
+
+chosen-here : (n : ℕ) (x : LaidWindow) (xs : List LaidWindow) (e : Last) (es : List Last) → e.0 ≡ n → chosen_for n (x ∷ xs) (e ∷ es) ≡ Some x.chosen
+chosen-here n x xs e es h = chosen (e.0 == n) (Some x.chosen) (chosen_for n xs es) (eq-true e.0 n h)
+
+chosen-there : (n : ℕ) (x : LaidWindow) (xs : List LaidWindow) (e : Last) (es : List Last) → e.0 ≢ n → chosen_for n (x ∷ xs) (e ∷ es) ≡ chosen_for n xs es
+chosen-there n x xs e es h = passed (e.0 == n) (Some x.chosen) (chosen_for n xs es) (eq-false e.0 n h)
+
+chosen-none : (n : ℕ) (xs : List LaidWindow) (es : List Last) → layout_of n es ≡ None → chosen_for n xs es ≡ None
+chosen-none n [] es none = refl
+chosen-none n (x ∷ xs) [] none = refl
+chosen-none n (x ∷ xs) (e ∷ es) none = elim (cases_eq e.0 n) [
+  | inl p ↦ absurd (no-some (sym (layout-here n e es p) ∙ none))
+  | inr q ↦ chosen-there n x xs e es q ∙ chosen-none n xs es (sym (layout-there n e es q) ∙ none)
+]
+
+found-settled : (n : ℕ) (xs : List LaidWindow) (es : List Last) (ws : List Entry) → AreOnce es → window_of n (windows_settled xs es ws) ≡ settle_found (chosen_for n xs es) (window_of n ws)
+found-settled n [] es ws once = refl
+found-settled n (x ∷ xs) [] ws once = refl
+found-settled n (x ∷ xs) (e ∷ es) ws once =
+    let f = settle_to x.chosen in
+    found-settled n xs es (with_window e.0 f ws) once.1 ∙ elim (cases_eq e.0 n) [
+      | inl p ↦
+          ap (λ (c : Option Chosen). settle_found c (window_of n (with_window e.0 f ws))) (chosen-none n xs es (ap (λ (k : ℕ). layout_of k es) (sym p) ∙ once.0))
+          ∙ (ap (λ (k : ℕ). window_of n (with_window k f ws)) p
+          ∙ (window-with-same n f ws ∙ ap (λ (c : Option Chosen). settle_found c (window_of n ws)) (sym (chosen-here n x xs e es p))))
+      | inr q ↦
+          ap (settle_found (chosen_for n xs es)) (window-with-other e.0 n f ws (λ r. q (sym r)))
+          ∙ ap (λ (c : Option Chosen). settle_found c (window_of n ws)) (sym (chosen-there n x xs e es q))
+    ]
+
+-- ---- what was chosen
+
+module _ (v : SessionValue) where
+  -- what is chosen for a window is what the rules choose for it
+  pub record IsRight (p : Placed) (c : Option Chosen) : Type 0 where
+    pub window : WindowState
+    pub lives : window_of p.number v.state.windows ≡ Some window
+    pub is : c ≡ Some (chosen_of (window_source v.files v.state window) (window_shape v.state window p) (wanted_of v.state window p))
+
+  abbrev pub AreRight : Option Placed → Option Chosen → Type 0
+  AreRight None c = c ≡ None
+  AreRight (Some p) c = IsRight p c
+
+  right-by : (p : Placed) (o : Option WindowState) (x : LaidWindow) (e : Last) → window_of p.number v.state.windows ≡ o → IsDesiredBy v.files v.state (layout_of p.number v.layouts) p o x e
+      → (e.0 ≡ p.number) × IsRight p (Some x.chosen)
+  right-by p None x e is h = absurd h
+  right-by p (Some w) x e is h = (h.number, record { window = w; lives = is; is = ap (λ (c : Chosen). Some c) h.chosen })
+
+  right-chosen : (n : ℕ) (ps : List Placed) (xs : List LaidWindow) (es : List Last) → AreDesired v ps xs es → AreRight (of_number n ps) (chosen_for n xs es)
+  right-chosen n [] [] [] h = refl
+  right-chosen n [] [] (e ∷ es) h = absurd h
+  right-chosen n [] (x ∷ xs) es h = absurd h
+  right-chosen n (p ∷ ps) [] es h = absurd h
+  right-chosen n (p ∷ ps) (x ∷ xs) [] h = absurd h
+  right-chosen n (p ∷ ps) (x ∷ xs) (e ∷ es) h =
+      let one = right-by p (window_of p.number v.state.windows) x e refl h.0 in
+      elim (cases_eq p.number n) [
+        | inl q ↦ subst₂ AreRight (sym (placed-here n p ps q)) (sym (chosen-here n x xs e es (one.0 ∙ q))) one.1
+        | inr q ↦ subst₂ AreRight (sym (placed-there n p ps q)) (sym (chosen-there n x xs e es (λ r. q (sym one.0 ∙ r)))) (right-chosen n ps xs es h.1)
+      ]
+
+  nothing-changes : (o : Option WindowState) → o ≡ option_map (λ w. w) o
+  nothing-changes None = refl
+  nothing-changes (Some w) = refl
+
+  both-settle : (n : ℕ) (o : Option Placed) (c : Option Chosen) → place_of n v.state ≡ o → AreRight o c
+      → settle_found c (window_of n v.state.windows) ≡ option_map (λ w. settled_by v.files v.state w o) (window_of n v.state.windows)
+  both-settle n None c at right = ap (λ (k : Option Chosen). settle_found k (window_of n v.state.windows)) right ∙ nothing-changes (window_of n v.state.windows)
+  both-settle n (Some p) c at right =
+      let lives : window_of n v.state.windows ≡ Some right.window = ap (λ (k : ℕ). window_of k v.state.windows) (sym (number-of n (places v.state) p at)) ∙ right.lives in
+      ap (λ (k : Option Chosen). settle_found k (window_of n v.state.windows)) right.is
+      ∙ (ap (option_map (settle_to (chosen_of (window_source v.files v.state right.window) (window_shape v.state right.window p) (wanted_of v.state right.window p)))) lives
+      ∙ sym (ap (option_map (λ w. settled_by v.files v.state w (Some p))) lives))
+
+  windows-are : (xs : List LaidWindow) (es : List Last) → AreApart v.state.windows → AreOnce es → AreDesired v (places v.state) xs es
+      → windows_settled xs es v.state.windows ≡ map (settled_at v.files v.state) v.state.windows
+  windows-are xs es apart once h =
+      let f = λ (n : ℕ) (w : WindowState). settled_by v.files v.state w (place_of n v.state) in
+      sym (same-windows (map (settled_at v.files v.state) v.state.windows) (windows_settled xs es v.state.windows)
+      (map-numbers f v.state.windows ∙ sym (settled-numbers xs es v.state.windows))
+      (apart-stays f v.state.windows apart)
+      (λ n. window-became f n v.state.windows
+      ∙ (sym (both-settle n (place_of n v.state) (chosen_for n xs es) refl (right-chosen n (places v.state) xs es h)) ∙ sym (found-settled n xs es v.state.windows once))))
+    where
+      apart-stays : (f : ℕ → WindowState → WindowState) (ws : List Entry) → AreApart ws → AreApart (map (λ (e : Entry). (e.0, f e.0 e.1)) ws)
+      apart-stays f [] h = tt
+      apart-stays f (w ∷ ws) h = (none-by-numbers w.0 ws (map (λ (e : Entry). (e.0, f e.0 e.1)) ws) (sym (map-numbers f ws)) h.0, apart-stays f ws h.1)
+
+  -- the state is the one that a redisplay leaves
+  pub state-settled : (xs : List LaidWindow) (es : List Last) → AreApart v.state.windows → AreOnce es → AreDesired v (places v.state) xs es
+      → all_settled xs es v.state ≡ settled_state v.files v.state
+  state-settled xs es apart once h = state-is xs es v.state ∙ ap (λ (ws : List Entry). record v.state { windows = ws }) (windows-are xs es apart once h)
+
+-- ---- windows can be settled
+
+-- a window that is found behind another's settling was there before it, and shows the same buffer
+pub shown-before : (n m : ℕ) (c : Chosen) (ws : List Entry) (w : WindowState) → window_of n (with_window m (settle_to c) ws) ≡ Some w → (u : WindowState) × (window_of n ws ≡ Some u) × (u.buffer ≡ w.buffer)
+shown-before n m c ws w at = elim (cases_eq n m) [
+  | inl p ↦
+      let here : window_of m (with_window m (settle_to c) ws) ≡ Some w = ap (λ (k : ℕ). window_of k (with_window m (settle_to c) ws)) (sym p) ∙ at in
+      let u = mapped (settle_to c) (window_of m ws) w (sym (window-with-same m (settle_to c) ws) ∙ here) in
+      (u.0, ap (λ (k : ℕ). window_of k ws) p ∙ u.1, ap (λ (x : WindowState). x.buffer) u.2)
+  | inr q ↦ (w, sym (window-with-other m n (settle_to c) ws q) ∙ at, refl)
+]
+
+still-there : (c : Chosen) (o : Option WindowState) → IsSome o → IsSome (option_map (settle_to c) o)
+still-there c None h = h
+still-there c (Some w) h = refl
+
+still-lives : (n m : ℕ) (c : Chosen) (ws : List Entry) → IsSome (window_of n ws) → IsSome (window_of n (with_window m (settle_to c) ws))
+still-lives n m c ws h = elim (cases_eq n m) [
+  | inl p ↦
+      subst IsSome (sym (ap (λ (k : ℕ). window_of k (with_window m (settle_to c) ws)) p ∙ window-with-same m (settle_to c) ws))
+      (still-there c (window_of m ws) (subst (λ (k : ℕ). IsSome (window_of k ws)) p h))
+  | inr q ↦ subst IsSome (sym (window-with-other m n (settle_to c) ws q)) h
+]
+
+still-shown : (m : ℕ) (c : Chosen) (s : StateValue) (n p : ℕ) → IsShownAt s n p → IsShownAt (settled s m c.anchor c.point) n p
+still-shown m c s n p h w b at there =
+    let u = shown-before n m c s.windows w at in
+    h u.0 b u.1 (ap (λ (k : ℕ). slice_get s.buffers k) u.2 ∙ there)
+
+pub can-still : (m : ℕ) (c : Chosen) (s : StateValue) (xs : List LaidWindow) (es : List Last) → CanSettle s xs es → CanSettle (settled s m c.anchor c.point) xs es
+can-still m c s [] es h = tt
+can-still m c s (x ∷ xs) [] h = tt
+can-still m c s (x ∷ xs) (e ∷ es) h = (
+  still-lives e.0 m c s.windows h.0,
+  still-shown m c s e.0 x.chosen.anchor.pos h.1,
+  still-shown m c s e.0 x.chosen.point h.2,
+  can-still m c s xs es h.3,
+)
+
+-- what a redisplay chooses is accessible
+abbrev pub Accessible : Data → StateValue → Type 0
+Accessible files s = (number : ℕ) (w : WindowState) (place : Placed) → window_of number s.windows ≡ Some w → place_of number s ≡ Some place
+    → IsAccessible (shown_content s w).text (view_in files s w place).anchor.pos × IsAccessible (shown_content s w).text (view_in files s w place).point
+
+one-shown : (s : StateValue) (n : ℕ) (w : WindowState) (p : ℕ) → window_of n s.windows ≡ Some w → IsAccessible (shown_content s w).text p → IsShownAt s n p
+one-shown s n w p lives h u b at there =
+    let same : w ≡ u = some-is (sym lives ∙ at) in
+    let content : shown_content s w ≡ b.content = ap (λ (x : WindowState). shown_content s x) same ∙ ap content_in there in
+    subst (λ (c : ContentValue). IsAccessible c.text p) content h
+
+module _ (v : SessionValue) (accessible : Accessible v.files v.state) where
+  settles-by : (p : Placed) (o : Option WindowState) (x : LaidWindow) (e : Last) → window_of p.number v.state.windows ≡ o → place_of p.number v.state ≡ Some p
+      → IsDesiredBy v.files v.state (layout_of p.number v.layouts) p o x e
+      → IsSome (window_of e.0 v.state.windows) × IsShownAt v.state e.0 x.chosen.anchor.pos × IsShownAt v.state e.0 x.chosen.point
+  settles-by p None x e is at h = absurd h
+  settles-by p (Some w) x e is at h =
+      let lives : window_of e.0 v.state.windows ≡ Some w = ap (λ (k : ℕ). window_of k v.state.windows) h.number ∙ is in
+      let both = accessible p.number w p is at in (
+        subst IsSome (sym lives) refl,
+        one-shown v.state e.0 w x.chosen.anchor.pos lives (subst (λ (c : Chosen). IsAccessible (shown_content v.state w).text c.anchor.pos) (sym h.chosen) both.0),
+        one-shown v.state e.0 w x.chosen.point lives (subst (λ (c : Chosen). IsAccessible (shown_content v.state w).text c.point) (sym h.chosen) both.1),
+      )
+
+  settles : (ps : List Placed) (xs : List LaidWindow) (es : List Last) → ((k : ℕ) (p : Placed) → slice_get ps k ≡ Some p → place_of p.number v.state ≡ Some p) → AreDesired v ps xs es
+      → CanSettle v.state xs es
+  settles [] [] [] at h = tt
+  settles [] [] (e ∷ es) at h = absurd h
+  settles [] (x ∷ xs) es at h = absurd h
+  settles (p ∷ ps) [] es at h = absurd h
+  settles (p ∷ ps) (x ∷ xs) [] at h = absurd h
+  settles (p ∷ ps) (x ∷ xs) (e ∷ es) at h =
+      let one = settles-by p (window_of p.number v.state.windows) x e refl (at 0 p refl) h.0 in
+      (one.0, one.1, one.2, settles ps xs es (λ k q there. at (suc k) q there) h.1)
+
+  pub can-settle : (xs : List LaidWindow) (es : List Last) → ((k : ℕ) (p : Placed) → slice_get (places v.state) k ≡ Some p → place_of p.number v.state ≡ Some p)
+      → AreDesired v (places v.state) xs es → CanSettle v.state xs es
+  can-settle xs es at h = settles (places v.state) xs es at h

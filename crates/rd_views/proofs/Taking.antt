@@ -1,0 +1,54 @@
+-- The last layouts are put in place of those of windows that were not laid out anew.
+use Rattle.std.proofs.Common.{◌≡◌, ◌≢◌, inl, inr, ℕ, suc, ◌+◌, ◌<◌, ◌≤◌, Option, None, Some, List, [], ◌∷◌, ◌++◌, length, set, get_or, take, drop, sym, ap, refl, subst, ◌∙◌, arith, append_assoc}
+use Rattle.std.proofs.lemmas.Bool.{cases_eq}
+use Rattle.std.proofs.lemmas.List.{drop_more, drop-set-lt, take_more_set}
+use Rattle.rd_window.specs.declared.layout.Layout.{Layout}
+use Rattle.rd_layout.specs.Sessions.{layout_of}
+use Rattle.rd_layout.proofs.Known.{Last, layout-here, layout-there}
+use Rattle.rd_views.specs.Layings.{AreOnce, layout_taken, layouts_taken, nobody, taken_at}
+use Rattle.rd_views.specs.declared.desired.LaidWindow.{LaidWindow}
+
+no-some : {A : Type 0} {a : A} → Some a ≡ None → ⊥
+no-some h = absurd (cc)
+
+-- the last layout of a window that is not among these counts for nothing
+same-taken : (m : ℕ) (lasts others : List Last) (xs : List LaidWindow) (es : List Last) → ((n : ℕ) → n ≢ m → layout_of n others ≡ layout_of n lasts) → layout_of m es ≡ None
+    → layouts_taken others xs es ≡ layouts_taken lasts xs es
+same-taken m lasts others [] es same none = refl
+same-taken m lasts others (x ∷ xs) [] same none = refl
+same-taken m lasts others (x ∷ xs) (e ∷ es) same none = elim (cases_eq e.0 m) [
+  | inl p ↦ absurd (no-some (sym (layout-here m e es p) ∙ none))
+  | inr q ↦
+      let first : layout_of e.0 others ≡ layout_of e.0 lasts = same e.0 q in
+      let rest = same-taken m lasts others xs es same (sym (layout-there m e es q) ∙ none) in
+      λ i. (e.0, layout_taken (first i) x e.1) ∷ rest i
+]
+
+module _ (xs : List LaidWindow) (es : List Last) (i : ℕ) (x : LaidWindow) (there : i < length xs) (at : get_or xs i x ≡ x) (less : i < length es) where
+  abbrev e : Last
+  e = get_or es i nobody
+
+  windows-left : drop i xs ≡ x ∷ drop (i + 1) xs
+  windows-left = drop_more xs i x there ∙ ap (λ (y : LaidWindow). y ∷ drop (i + 1) xs) at
+
+  layouts-left : drop i es ≡ e ∷ drop (i + 1) es
+  layouts-left = drop_more es i nobody less
+
+  behind : (new : Last) → drop (i + 1) (set es i new) ≡ drop (i + 1) es
+  behind new = drop-set-lt (i + 1) es i new (omega arith)
+
+  pub next-once : (new : Last) → AreOnce (drop i es) → AreOnce (drop (i + 1) (set es i new))
+  next-once new once = subst AreOnce (sym (behind new)) (subst AreOnce layouts-left once).1
+
+  pub next-taken : (lasts others : List Last) → AreOnce (drop i es) → ((n : ℕ) → n ≢ e.0 → layout_of n others ≡ layout_of n lasts)
+      → take (i + 1) (set es i (taken_at lasts x e)) ++ layouts_taken others (drop (i + 1) xs) (drop (i + 1) (set es i (taken_at lasts x e)))
+      ≡ take i es ++ layouts_taken lasts (drop i xs) (drop i es)
+  next-taken lasts others once same =
+      let new = taken_at lasts x e in
+      let alone = (subst AreOnce layouts-left once).0 in
+      let rest = same-taken e.0 lasts others (drop (i + 1) xs) (drop (i + 1) es) same alone in
+      let left : layouts_taken others (drop (i + 1) xs) (drop (i + 1) (set es i new)) ≡ layouts_taken lasts (drop (i + 1) xs) (drop (i + 1) es) =
+      ap (layouts_taken others (drop (i + 1) xs)) (behind new) ∙ rest in
+      let front = take_more_set es i new less in
+      (λ j. front j ++ left j) ∙ (append_assoc (take i es) (new ∷ []) (layouts_taken lasts (drop (i + 1) xs) (drop (i + 1) es))
+      ∙ λ j. take i es ++ layouts_taken lasts (sym windows-left j) (sym layouts-left j))

@@ -1,0 +1,81 @@
+//! The layout of one window of a state.
+ghost use Rattle.std.specs.Prelude.{◌≡◌, ◌+◌, ◌≤◌, ◌<◌, IfOk, IfSome, IsSome, Some, slice_get};
+ghost use Rattle.rd_base.specs.declared.limits.TheConstants.{WINDOWS};
+ghost use Rattle.rd_layout.specs.Redisplays.{allowance_by};
+ghost use Rattle.rd_layout.specs.Sessions.{layout_of};
+ghost use Rattle.rd_layout.specs.Windows.{place_of, places, wanted_of};
+ghost use Rattle.rd_state.specs.Windows.{window_of};
+ghost use Rattle.rd_tree.specs.Calls.{frame_of};
+ghost use Rattle.rd_tree.specs.Places.{StandsIn};
+ghost use Rattle.rd_views.specs.Layings.{IsDesiredBy, layout_in, window_in};
+
+use crate::looking::shape_of;
+use crate::views::Views;
+use rd_base::{Memory, Steps};
+use rd_blocks::{Blocks, accessible_positions_lie_in_blocks, buffers_are_sources};
+use rd_frame::body_height;
+use rd_layout::sessions_stay_known;
+use rd_start::Wanted;
+use rd_state::{State, WindowState, windows_are_leaves};
+use rd_tree::{Placed, windows_tile_their_rectangle};
+use rd_window::{Laying, lay_out_again};
+use std::sync::ledger::Ledger;
+
+impl Views {
+    /// The place of the window with a number in leaf order, from 0; None exactly past the last.
+    pub(crate) fn place(&self, i: u32) -> Option<Placed>
+        ensures place { result ≡ slice_get (places self.now.state) i }
+        ensures found { IfSome result (λ place. place_of place.number self.now.state ≡ Some place) }
+        ensures stands { IfSome result (λ place. StandsIn place (frame_of self.now.state.tree)) }
+        ensures few { IsSome result → i < WINDOWS }
+    {
+        windows_tile_their_rectangle();
+        let tree = self.state.tree();
+        tree.stays_valid();
+        let number = tree.leaf(i)?;
+        tree.placed(number)
+    }
+
+    /// Lays out the window in a place over its last layout. The steps that it takes, also where memory is wanting, are at most the
+    /// window's allowance.
+    pub(crate) fn lay_out_window<L: Ledger>(
+        &self,
+        place: Placed,
+        steps: &mut Steps<L>,
+    ) -> Result<Laying, Memory>
+        requires stands { StandsIn place (frame_of self.now.state.tree) }
+        ensures laid { IfOk result (λ laying. IsDesiredBy self.now.files self.now.state (layout_of place.number self.now.layouts) place (window_of place.number self.now.state.windows) (window_in laying) (place.number, layout_in laying)) }
+        ensures steps { steps.new ≤ steps.old + allowance_by self.now.files self.now.state (layout_of place.number self.now.layouts) place (window_of place.number self.now.state.windows) }
+    {
+        accessible_positions_lie_in_blocks();
+        buffers_are_sources();
+        sessions_stay_known();
+        windows_are_leaves();
+        self.stays_known();
+        let Some(window) = self.state.window(place.number) else {
+            return Err(Memory);
+        };
+        let source = Blocks::new(self.look_at(window));
+        let last = self.layout(place.number);
+        let wanted = wanted_of(&self.state, window, place);
+        let shape = shape_of(&self.state, window, place);
+        lay_out_again(self.alloc, source, last, wanted, shape, steps)
+    }
+}
+
+/// What a window in its place wants of its start.
+fn wanted_of(state: &State, window: &WindowState, place: Placed) -> Wanted
+    requires { StandsIn place (frame_of state.now.tree) }
+    ensures { result ≡ wanted_of state.now window.now place }
+{
+    let (margin, conservatively) = state.scrolling();
+    Wanted {
+        anchor: window.anchor,
+        forced: window.forced,
+        pending: window.pending,
+        point: window.point,
+        height: body_height(place),
+        margin,
+        conservatively,
+    }
+}
