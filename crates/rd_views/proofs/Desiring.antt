@@ -1,12 +1,12 @@
 -- What laying out all windows gives, window by window.
-use Rattle.std.proofs.Common.{◌≡◌, ◌≢◌, inl, inr, ℕ, zero, suc, ◌+◌, ◌<◌, ◌≤◌, Bool, true, false, not, is_some, if◌then◌else◌, Option, None, Some, List, [], ◌∷◌, ◌++◌, length, get_or, drop, sym, ap, refl, subst, subst₂, ◌∙◌, arith, append_assoc, append_nil, unwrap_or}
+use Rattle.std.proofs.Common.{◌≡◌, ◌≢◌, inl, inr, ℕ, zero, suc, ◌+◌, ◌<◌, ◌≤◌, Bool, true, false, not, is_some, if◌then◌else◌, Option, None, Some, List, [], ◌∷◌, ◌++◌, length, get_or, drop, sym, ap, refl, subst, subst₂, ◌∙◌, arith, append_assoc, append-nil, unwrap_or}
 use Rattle.std.proofs.lemmas.Bool.{cases_eq}
 use Rattle.std.proofs.lemmas.List.{drop_more}
 use Rattle.std.proofs.lemmas.Option.{get_or_from_slice_get, slice_get_within}
 use Rattle.std.specs.List.{flat_map}
 use Rattle.std.specs.Prelude.{IfSome, slice_get}
 use Rattle.rd_start.specs.Chosen.{chosen_of}
-use Rattle.rd_start.specs.declared.chosen.Chosen.{Chosen}
+use Rattle.rd_start.specs.declared.wanted.Chosen.{Chosen}
 use Rattle.rd_state.specs.States.{StateValue}
 use Rattle.rd_state.specs.Windows.{window_of}
 use Rattle.rd_state.specs.declared.window.WindowState.{WindowState}
@@ -19,8 +19,9 @@ use Rattle.rd_window.specs.declared.again.Laying.{Laying}
 use Rattle.rd_window.specs.declared.layout.Layout.{Layout}
 use Rattle.rd_layout.specs.Redisplays.{AreLaidOut, IsLaidOutBy, allowance_by, allowances}
 use Rattle.rd_layout.specs.Sessions.{SessionValue, layout_of}
-use Rattle.rd_layout.specs.Windows.{places, views_at, views_by, wanted_of, window_shape, window_source}
+use Rattle.rd_layout.specs.Windows.{place_of, places, views_at, views_by, wanted_of, window_shape, window_source}
 use Rattle.rd_layout.proofs.Known.{Last, layout-here, layout-there}
+use Rattle.rd_layout.proofs.Placed.{number-of}
 use Rattle.rd_views.specs.Layings.{AreDesired, AreOnce, IsDesiredAt, IsDesiredBy, layout_in, layout_taken, layouts_taken, no_layout, shown_by, views_taken, window_in}
 use Rattle.rd_views.specs.declared.desired.LaidWindow.{LaidWindow}
 use Rattle.rd_views.proofs.Placing.{AreApart, placed-here, placed-there}
@@ -70,7 +71,7 @@ next-leads v all i p xs es x e at one leads ys fs h =
 
 pub all-lead : (v : SessionValue) (all : List Placed) (i : ℕ) (xs : List LaidWindow) (es : List Last) → slice_get all i ≡ None → Leads v all (drop i all) xs es → AreDesired v all xs es
 all-lead v all i xs es at leads =
-    subst₂ (λ (us : List LaidWindow) (ws : List Last). AreDesired v all us ws) (append_nil xs) (append_nil es)
+    subst₂ (λ (us : List LaidWindow) (ws : List Last). AreDesired v all us ws) (append-nil xs) (append-nil es)
     (leads [] [] (subst (λ (ps : List Placed). AreDesired v ps [] []) (sym (none-left all i at)) tt))
 
 -- ---- the allowance that is left
@@ -153,3 +154,9 @@ module _ (v : SessionValue) where
   once (p ∷ ps) (x ∷ xs) (e ∷ es) h apart =
       let same = number-by p (window_of p.number v.state.windows) x e h.0 in
       (ap (λ (n : ℕ). layout_of n es) same ∙ gone p.number ps xs es h.1 apart.0, once ps xs es h.1 apart.1)
+
+-- ---- a window is found by its number
+
+pub found-here : (s : StateValue) (n : ℕ) (o : Option Placed) → o ≡ place_of n s → IfSome o (λ p. place_of p.number s ≡ Some p)
+found-here s n None is = tt
+found-here s n (Some p) is = ap (λ (k : ℕ). place_of k s) (number-of n (places s) p (sym is)) ∙ sym is

@@ -1,7 +1,9 @@
-mod Adopting
 mod Desiring
-mod Lasts
+mod Finding
+mod Kept
+mod Living
 mod Placing
 mod Premises
 mod Settled
+mod Showing
 mod Taking

@@ -2,11 +2,13 @@
 use Rattle.std.proofs.Common.{◌≡◌, ℕ, ◌+◌, ◌≤◌, not, is_some, Option, Some, Result, Ok, Err, sym, ap, subst, subst₂, ◌∙◌}
 use Rattle.std.specs.Prelude.{IfOk, IfSome}
 use Rattle.rd_base.specs.declared.memory.Memory.{Memory}
-use Rattle.rd_blocks.specs.Sources.{text_source}
+use Rattle.rd_blocks.specs.Sources.{source_of, text_source}
 use Rattle.rd_matrix.specs.Blocks.{IsWithin}
 use Rattle.rd_matrix.specs.Sources.{IsSource, SourceValues}
 use Rattle.rd_objects.specs.Things.{ObjectLists}
 use Rattle.rd_props.specs.Buffers as props
+use Rattle.rd_props.specs.Buffers.{meaning}
+use Rattle.rd_props.specs.declared.state.View.{View}
 use Rattle.rd_reuse.specs.Keeping.{AreRight}
 use Rattle.rd_rows.specs.Shapes.{ShapeValues}
 use Rattle.rd_start.specs.Chosen.{chosen_of}
@@ -18,6 +20,7 @@ use Rattle.rd_state.specs.declared.window.WindowState.{WindowState}
 use Rattle.rd_text.specs.Texts.{IsAccessible, IsText}
 use Rattle.rd_tree.specs.declared.placed.Placed.{Placed}
 use Rattle.rd_ucd.specs.Data.{Data}
+use Rattle.rd_visual.specs.Motion.{files_of}
 use Rattle.rd_window.specs.Layouts.{IsLaidOut, StandsUnchanged, allowance, change_since, layout_after, older_rows, rests}
 use Rattle.rd_window.specs.declared.again.Laying.{Laying}
 use Rattle.rd_window.specs.declared.layout.Layout.{Layout}
@@ -28,6 +31,11 @@ use Rattle.rd_layout.specs.Windows.{wanted_of, window_shape, window_source}
 use Rattle.rd_layout.proofs.ByNumber.{buffer-there}
 use Rattle.rd_views.specs.Layings.{IsDesiredAt, IsDesiredBy, layout_in, window_in}
 use Rattle.rd_views.proofs.Desiring.{desired-window}
+
+-- the source that a look at a buffer gives
+pub source-is : (view : View) (content : props.BufferValue) (objects : ObjectLists) (files : Data) → meaning view.state.now ≡ content → view.objects.now ≡ objects → files_of view ≡ files
+    → source_of view ≡ text_source content objects files
+source-is view content objects files a b c = λ i. text_source (a i) (b i) (c i)
 
 -- what the layers below say
 pub record LookLaws : Type 0 where

@@ -1,9 +1,10 @@
 -- Settling each window as it was laid out leaves the state that a redisplay leaves.
-use Rattle.std.proofs.Common.{◌≡◌, ◌≢◌, inl, inr, ℕ, suc, ◌==◌, Bool, false, if◌then◌else◌, Option, None, Some, List, [], ◌∷◌, map, sym, ap, refl, subst, subst₂, ◌∙◌, arith}
+use Rattle.std.proofs.Common.{◌≡◌, ◌≢◌, inl, inr, ℕ, suc, ◌+◌, ◌<◌, ◌==◌, Bool, true, false, if◌then◌else◌, drop, get_or, length, Option, None, Some, List, [], ◌∷◌, map, sym, ap, refl, subst, subst₂, ◌∙◌, arith}
 use Rattle.std.proofs.lemmas.Bool.{cases_eq}
+use Rattle.std.proofs.lemmas.List.{drop_more}
 use Rattle.std.specs.Prelude.{IsSome, option_map, pos, slice_get}
 use Rattle.rd_start.specs.Chosen.{chosen_of}
-use Rattle.rd_start.specs.declared.chosen.Chosen.{Chosen}
+use Rattle.rd_start.specs.declared.wanted.Chosen.{Chosen}
 use Rattle.rd_base.specs.declared.settings.Anchor.{Anchor}
 use Rattle.rd_state.specs.Shown.{IsShownAt}
 use Rattle.rd_state.specs.States.{BufferValue, ContentValue, StateValue}
@@ -233,6 +234,22 @@ can-still m c s (x ∷ xs) (e ∷ es) h = (
   still-shown m c s e.0 x.chosen.point h.2,
   can-still m c s xs es h.3,
 )
+
+pub first-settles : (s : StateValue) (xs : List LaidWindow) (es : List Last) (i : ℕ) (d : LaidWindow) (f : Last) → i < length xs → i < length es → CanSettle s (drop i xs) (drop i es)
+    → CanSettle s (get_or xs i d ∷ drop (i + 1) xs) (get_or es i f ∷ drop (i + 1) es)
+first-settles s xs es i d f there less can = subst₂ (CanSettle s) (drop_more xs i d there) (drop_more es i f less) can
+
+-- one window more
+pub step-settled : (s new whole : StateValue) (xs : List LaidWindow) (es : List Last) (i : ℕ) (d : LaidWindow) (f : Last) → i < length xs → i < length es → CanSettle s (drop i xs) (drop i es)
+    → new ≡ settled s (get_or es i f).0 (get_or xs i d).chosen.anchor (get_or xs i d).chosen.point → all_settled (drop i xs) (drop i es) s ≡ whole
+    → CanSettle new (drop (i + 1) xs) (drop (i + 1) es) × (all_settled (drop (i + 1) xs) (drop (i + 1) es) new ≡ whole)
+step-settled s new whole xs es i d f there less can is so_far =
+    let x = get_or xs i d in
+    let e = get_or es i f in
+    let first = first-settles s xs es i d f there less can in (
+      subst (λ (t : StateValue). CanSettle t (drop (i + 1) xs) (drop (i + 1) es)) (sym is) (can-still e.0 x.chosen s (drop (i + 1) xs) (drop (i + 1) es) first.3),
+      ap (all_settled (drop (i + 1) xs) (drop (i + 1) es)) is ∙ ((λ j. all_settled (sym (drop_more xs i d there) j) (sym (drop_more es i f less) j) s) ∙ so_far),
+    )
 
 -- what a redisplay chooses is accessible
 abbrev pub Accessible : Data → StateValue → Type 0

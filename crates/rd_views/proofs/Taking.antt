@@ -24,12 +24,15 @@ same-taken m lasts others (x ∷ xs) (e ∷ es) same none = elim (cases_eq e.0 m
       λ i. (e.0, layout_taken (first i) x e.1) ∷ rest i
 ]
 
-module _ (xs : List LaidWindow) (es : List Last) (i : ℕ) (x : LaidWindow) (there : i < length xs) (at : get_or xs i x ≡ x) (less : i < length es) where
+module _ (xs : List LaidWindow) (es : List Last) (i : ℕ) (d : LaidWindow) (there : i < length xs) (less : i < length es) where
+  abbrev x : LaidWindow
+  x = get_or xs i d
+
   abbrev e : Last
   e = get_or es i nobody
 
   windows-left : drop i xs ≡ x ∷ drop (i + 1) xs
-  windows-left = drop_more xs i x there ∙ ap (λ (y : LaidWindow). y ∷ drop (i + 1) xs) at
+  windows-left = drop_more xs i d there
 
   layouts-left : drop i es ≡ e ∷ drop (i + 1) es
   layouts-left = drop_more es i nobody less
@@ -37,10 +40,10 @@ module _ (xs : List LaidWindow) (es : List Last) (i : ℕ) (x : LaidWindow) (the
   behind : (new : Last) → drop (i + 1) (set es i new) ≡ drop (i + 1) es
   behind new = drop-set-lt (i + 1) es i new (omega arith)
 
-  pub next-once : (new : Last) → AreOnce (drop i es) → AreOnce (drop (i + 1) (set es i new))
+  next-once : (new : Last) → AreOnce (drop i es) → AreOnce (drop (i + 1) (set es i new))
   next-once new once = subst AreOnce (sym (behind new)) (subst AreOnce layouts-left once).1
 
-  pub next-taken : (lasts others : List Last) → AreOnce (drop i es) → ((n : ℕ) → n ≢ e.0 → layout_of n others ≡ layout_of n lasts)
+  next-taken : (lasts others : List Last) → AreOnce (drop i es) → ((n : ℕ) → n ≢ e.0 → layout_of n others ≡ layout_of n lasts)
       → take (i + 1) (set es i (taken_at lasts x e)) ++ layouts_taken others (drop (i + 1) xs) (drop (i + 1) (set es i (taken_at lasts x e)))
       ≡ take i es ++ layouts_taken lasts (drop i xs) (drop i es)
   next-taken lasts others once same =
@@ -52,3 +55,13 @@ module _ (xs : List LaidWindow) (es : List Last) (i : ℕ) (x : LaidWindow) (the
       let front = take_more_set es i new less in
       (λ j. front j ++ left j) ∙ (append_assoc (take i es) (new ∷ []) (layouts_taken lasts (drop (i + 1) xs) (drop (i + 1) es))
       ∙ λ j. take i es ++ layouts_taken lasts (sym windows-left j) (sym layouts-left j))
+
+-- one window more
+pub step-taken : (xs : List LaidWindow) (es new : List Last) (i : ℕ) (d : LaidWindow) (lasts others whole : List Last) → i < length xs → i < length es → AreOnce (drop i es)
+    → new ≡ set es i (taken_at lasts (get_or xs i d) (get_or es i nobody)) → ((n : ℕ) → n ≢ (get_or es i nobody).0 → layout_of n others ≡ layout_of n lasts)
+    → take i es ++ layouts_taken lasts (drop i xs) (drop i es) ≡ whole
+    → AreOnce (drop (i + 1) new) × (take (i + 1) new ++ layouts_taken others (drop (i + 1) xs) (drop (i + 1) new) ≡ whole)
+step-taken xs es new i d lasts others whole there less once is same so_far = (
+  subst (λ (fs : List Last). AreOnce (drop (i + 1) fs)) (sym is) (next-once xs es i d there less (taken_at lasts (get_or xs i d) (get_or es i nobody)) once),
+  ap (λ (fs : List Last). take (i + 1) fs ++ layouts_taken others (drop (i + 1) xs) (drop (i + 1) fs)) is ∙ (next-taken xs es i d there less lasts others once same ∙ so_far),
+)

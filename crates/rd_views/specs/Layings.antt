@@ -1,5 +1,5 @@
 -- What laying out all windows of a session gives, and what is left when it is kept.
-use Rattle.std.specs.Prelude.{◌≡◌, ◌×◌, ℕ, Bool, false, pos, if◌then◌else◌, is_some, Option, None, Some, List, [], ◌∷◌, unwrap_or, IsSome}
+use Rattle.std.specs.Prelude.{◌≡◌, ℕ, Bool, false, pos, if◌then◌else◌, is_some, Option, None, Some, List, [], ◌∷◌, unwrap_or, IsSome}
 use Rattle.rd_base.specs.declared.settings.Wrap.TheVariants.{Truncate}
 use Rattle.rd_matrix.specs.Entries.{shown_entries}
 use Rattle.rd_reuse.specs.Changes.{none}
@@ -34,6 +34,10 @@ no_layout = record {
   bottom = false;
   change = none;
 }
+
+-- what is chosen for no window
+abbrev pub nothing_chosen : LaidWindow
+nothing_chosen = record { chosen = record { anchor = record { pos = 0; row = 0 }; point = 0 }; anew = false }
 
 -- the layout at no place
 abbrev pub nobody : ℕ × Layout

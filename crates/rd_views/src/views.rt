@@ -5,6 +5,7 @@ ghost use Rattle.rd_layout.specs.Since.{IsSession};
 
 use crate::lasts::find;
 use rd_base::Memory;
+use rd_layout::sessions_stay_known;
 use rd_state::State;
 use rd_ucd::{Brackets, Classes, Mirrors};
 use rd_window::Layout;
@@ -54,7 +55,15 @@ impl Views {
     ) -> Result<Views, Memory>
         ensures { IfOk result (λ views. views ≡ opened (record { classes = classes; mirrors = mirrors; brackets = brackets })) }
     {
-        Err(Memory)
+        sessions_stay_known();
+        Ok(Views {
+            alloc,
+            classes,
+            mirrors,
+            brackets,
+            state: State::new(alloc)?,
+            layouts: Vec::new(alloc),
+        })
     }
 
     /// The state.
@@ -75,8 +84,10 @@ impl Views {
     pub fn layout(&self, window: u32) -> Option<&Layout>
         ensures { option_map (λ l. l.now) result ≡ layout_of window self.now.layouts }
     {
-        let i = find(self.layouts.as_slice(), window)?;
-        Some(&self.layouts[i].1)
+        match find(self.layouts.as_slice(), window) {
+            Some(i) => Some(&self.layouts[i].1),
+            None => None,
+        }
     }
 
     /// The windows of each session stay known: its state is valid, and what changed since the last layouts is known. The call does

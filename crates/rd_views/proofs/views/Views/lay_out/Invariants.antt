@@ -3,7 +3,7 @@ use Rattle.rd_base.specs.declared.limits.TheConstants.{WINDOWS}
 use Rattle.rd_layout.specs.Redisplays.{allowances, allowed}
 use Rattle.rd_layout.specs.Windows.{places}
 use Rattle.rd_views.proofs.Desiring.{Leads}
-use Rattle.rd_views.proofs.desired.Views.lay_out.Given as goal
+use Rattle.rd_views.proofs.views.Views.lay_out.Given as goal
 
 abbrev pub invariant-loop-place : goal.invariant-loop-place
 invariant-loop-place g l = record {
