@@ -1,18 +1,44 @@
-//! What an op makes of the windows and their last layouts.
-ghost use Rattle.rd_script.specs.Forms.{IsInForm};
+//! The ops, all but the one that shows the frame.
 ghost use Rattle.rd_layout.specs.Sessions.{Applied, IsStep};
+ghost use Rattle.rd_script.specs.Forms.{IsInForm};
+ghost use Rattle.rd_state.specs.Answers.{IsApplied};
 
+use crate::noting::note;
 use crate::views::Views;
+use rd_layout::sessions_stay_known;
 use rd_script::Op;
 use rd_state::Refused;
 
 impl Views {
-    /// Applies one op other than `redisplay`. A refusal is the first that the op meets, or Memory, and leaves all as it was.
+    /// Applies one op other than redisplay: `go` and `hit` move a window's point by what is seen, and every other op is that of the
+    /// state. What an accepted op can have changed is joined to what changed since the last layouts. A refusal is the first that the op
+    /// meets, as `State::apply` tells it; NotShown comes from `hit` alone, where what the window shows may have changed since its last
+    /// layout. It leaves all as it was, and so does Memory, which any op that takes memory may answer.
     pub fn apply(&mut self, op: Op) -> Result<(), Refused>
         requires form { IsInForm op }
         requires step { IsStep op }
         ensures { Applied result op self.old self.new }
     {
-        Err(Refused::Memory)
+        match op {
+            Op::Go { window, right } => self.go(window, right),
+            Op::Hit {
+                window,
+                row,
+                column,
+            } => self.hit(window, row, column),
+            other => self.pass_on(other),
+        }
+    }
+
+    /// Applies one op of the state.
+    pub(crate) fn pass_on(&mut self, op: Op) -> Result<(), Refused>
+        requires form { IsInForm op }
+        requires applied { IsApplied op }
+        ensures { Applied result op self.old self.new }
+    {
+        sessions_stay_known();
+        let effect = self.state.apply(op)?;
+        note(&mut self.layouts, effect, &self.state);
+        Ok(())
     }
 }

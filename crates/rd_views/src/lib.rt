@@ -4,9 +4,12 @@
 mod adopting;
 mod applying;
 mod desired;
+mod facts;
 mod lasts;
 mod laying;
 mod looking;
+mod noting;
+mod pointing;
 mod views;
 
 pub use desired::Desired;
