@@ -80,6 +80,12 @@ pub next-left : (v : SessionValue) (all : List Placed) (i : ℕ) (p : Placed) �
     → allowances v (drop i all) ≡ allowance_by v.files v.state (layout_of p.number v.layouts) p (window_of p.number v.state.windows) + allowances v (drop (i + 1) all)
 next-left v all i p at = ap (allowances v) (left-at all i p at)
 
+pub so-far : (before after a left rest total : ℕ) → before + left ≤ total → left ≡ a + rest → after ≤ before + a → after + rest ≤ total
+so-far before after a left rest total h is g = omega (arith, h, is, g)
+
+pub at-most : (before after a left rest total : ℕ) → before + left ≤ total → left ≡ a + rest → after ≤ before + a → after ≤ total
+at-most before after a left rest total h is g = omega (arith, h, is, g)
+
 -- ---- what follows
 
 module _ (v : SessionValue) where

@@ -79,10 +79,11 @@ same-windows (u ∷ us) (w ∷ ws) same apart found =
 
 with-numbers : (n : ℕ) (f : WindowState → WindowState) (ws : List Entry) → map (λ (e : Entry). e.0) (with_window n f ws) ≡ map (λ (e : Entry). e.0) ws
 with-numbers n f [] = refl
-with-numbers n f (w ∷ ws) = by (w.0 == n) where
-  by : (t : Bool) → map (λ (e : Entry). e.0) (if t then (w.0, f w.1) ∷ ws else w ∷ with_window n f ws) ≡ w.0 ∷ map (λ (e : Entry). e.0) ws
-  by true = refl
-  by false = ap (λ (ns : List ℕ). w.0 ∷ ns) (with-numbers n f ws)
+with-numbers n f (w ∷ ws) = by (w.0 == n) (with-numbers n f ws) where
+  by : (t : Bool) → map (λ (e : Entry). e.0) (with_window n f ws) ≡ map (λ (e : Entry). e.0) ws
+      → map (λ (e : Entry). e.0) (if t then (w.0, f w.1) ∷ ws else w ∷ with_window n f ws) ≡ w.0 ∷ map (λ (e : Entry). e.0) ws
+  by true rest = refl
+  by false rest = ap (λ (ns : List ℕ). w.0 ∷ ns) rest
 
 settled-numbers : (xs : List LaidWindow) (es : List Last) (ws : List Entry) → map (λ (e : Entry). e.0) (windows_settled xs es ws) ≡ map (λ (e : Entry). e.0) ws
 settled-numbers [] es ws = refl
