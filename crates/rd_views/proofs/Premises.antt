@@ -1,5 +1,5 @@
 -- What the layout of a window asks of its source and its last layout, and what it answers.
-use Rattle.std.proofs.Common.{◌≡◌, ℕ, ◌+◌, ◌≤◌, not, is_some, Option, Some, Result, Ok, Err, sym, ap, subst, subst₂, ◌∙◌}
+use Rattle.std.proofs.Common.{◌≡◌, ℕ, ◌+◌, ◌≤◌, not, is_some, Option, None, Some, Result, Ok, Err, sym, ap, subst, subst₂, ◌∙◌}
 use Rattle.std.specs.Prelude.{IfOk, IfSome}
 use Rattle.rd_base.specs.declared.memory.Memory.{Memory}
 use Rattle.rd_blocks.specs.Sources.{source_of, text_source}
@@ -31,6 +31,9 @@ use Rattle.rd_layout.specs.Windows.{wanted_of, window_shape, window_source}
 use Rattle.rd_layout.proofs.ByNumber.{buffer-there}
 use Rattle.rd_views.specs.Layings.{IsDesiredAt, IsDesiredBy, layout_in, window_in}
 use Rattle.rd_views.proofs.Desiring.{desired-window}
+
+pub no-window : {A : Type 0} {a : A} → Some a ≡ None → ⊥
+no-window h = absurd (cc)
 
 -- the source that a look at a buffer gives
 pub source-is : (view : View) (content : props.BufferValue) (objects : ObjectLists) (files : Data) → meaning view.state.now ≡ content → view.objects.now ≡ objects → files_of view ≡ files

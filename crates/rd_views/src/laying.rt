@@ -43,6 +43,7 @@ impl Views {
         place: Placed,
         steps: &mut Steps<L>,
     ) -> Result<Laying, Memory>
+        requires found { place_of place.number self.now.state ≡ Some place }
         requires stands { StandsIn place (frame_of self.now.state.tree) }
         ensures laid { IfOk result (λ laying. IsDesiredBy self.now.files self.now.state (layout_of place.number self.now.layouts) place (window_of place.number self.now.state.windows) (window_in laying) (place.number, layout_in laying)) }
         ensures steps { steps.new ≤ steps.old + allowance_by self.now.files self.now.state (layout_of place.number self.now.layouts) place (window_of place.number self.now.state.windows) }
@@ -53,7 +54,7 @@ impl Views {
         windows_are_leaves();
         self.stays_known();
         let Some(window) = self.state.window(place.number) else {
-            return Err(Memory);
+            unreachable!()
         };
         let source = Blocks::new(self.look_at(window));
         let last = self.layout(place.number);

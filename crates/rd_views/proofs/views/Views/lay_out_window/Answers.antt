@@ -6,8 +6,16 @@ use Rattle.rd_state.specs.States.{seen}
 use Rattle.rd_state.specs.Windows.{shown_content, window_of}
 use Rattle.rd_layout.specs.Sessions.{SessionValue, layout_of}
 use Rattle.rd_layout.specs.Windows.{wanted_of, window_shape, window_source}
-use Rattle.rd_views.proofs.Premises.{LookLaws, allowed-steps, anchor-within, is-source, kept-right, laid-result, point-within, source-is}
+use Rattle.rd_views.proofs.Living.{placed-lives}
+use Rattle.rd_views.proofs.Premises.{LookLaws, allowed-steps, anchor-within, is-source, kept-right, laid-result, no-window, point-within, source-is}
 use Rattle.rd_views.proofs.views.Views.lay_out_window.Goals as goal
+
+pub unreachable-requires : goal.unreachable-requires
+unreachable-requires g c =
+    let v = c.args.self.now in
+    let n = c.args.place.number in
+    let lives = placed-lives c.windows_are_leaves.ensures.placed v.state n c.args.place c.stays_known.ensures.state c.requires.found in
+    no-window (sym lives.1 ∙ sym (c.in_default.ensures ∙ ap (λ (x : SessionValue). window_of n x.state.windows) c.self.view_is))
 
 pub look_at-requires : goal.look_at-requires
 look_at-requires g c =
