@@ -1,18 +1,16 @@
--- The windows of a valid state: in leaf order, and by their numbers.
-use Rattle.std.proofs.Common.{◌≡◌, ℕ, ◌+◌, ◌≤◌, ◌==◌, Bool, true, false, if◌then◌else◌, Option, None, Some, List, [], map, sym, ap, refl, ◌∙◌, arith}
-use Rattle.std.proofs.lemmas.Option.{slice_get-map}
+-- The windows that live in a valid state are the leaves of its tree.
+use Rattle.std.proofs.Common.{◌≡◌, ℕ, ◌+◌, ◌≤◌, ◌==◌, Bool, true, false, if◌then◌else◌, Option, None, Some, sym, ap, refl, ◌∙◌, arith}
 use Rattle.std.specs.Option.{option_or}
-use Rattle.std.specs.Prelude.{slice_get, option_map}
+use Rattle.std.specs.Prelude.{option_map}
 use Rattle.rd_state.specs.States.{StateValue}
 use Rattle.rd_state.specs.Valid.{IsValid}
 use Rattle.rd_state.specs.Windows.{leaf_at, leaf_of, window_of}
 use Rattle.rd_state.specs.declared.window.WindowState.{WindowState}
 use Rattle.rd_tree.specs.Calls.{frame_of}
-use Rattle.rd_tree.specs.Windows.{Windows, Window, Split, leaves, times, window_at}
+use Rattle.rd_tree.specs.Windows.{Windows, Window, Split, times, window_at}
 use Rattle.rd_tree.specs.declared.placed.Placed.{Placed}
 use Rattle.rd_tree.specs.declared.rect.Rect.{Rect}
-use Rattle.rd_layout.specs.Windows.{place_of, places}
-use Rattle.rd_layout.proofs.Placed.{PlaceLaws}
+use Rattle.rd_layout.specs.Windows.{place_of}
 
 -- what the tree says of a window that is placed
 abbrev pub LeafLaw : Type 0
@@ -44,38 +42,12 @@ far-window s number valid far = by (window_of number s.windows) refl where
       let none = valid.windows.tree.known number (omega (arith, few, far)) in
       absurd (omega (arith, one, none))
 
--- ---- the places of the windows
+-- ---- a window that has a place lives
 
 some-leaf : (o : Option WindowState) (leaf : Bool × ℕ) → option_map leaf_of o ≡ Some leaf → (w : WindowState) × (o ≡ Some w)
 some-leaf None leaf h = absurd (cc)
 some-leaf (Some w) leaf h = (w, refl)
 
--- a window that has a place lives
 pub placed-lives : LeafLaw → (s : StateValue) (number : ℕ) (p : Placed) → IsValid s → place_of number s ≡ Some p → (w : WindowState) × (window_of number s.windows ≡ Some w)
 placed-lives law s number p valid at =
     some-leaf (window_of number s.windows) (p.mode, p.margins) (sym (valid.windows.leaves number) ∙ law number s.tree.windows (frame_of s.tree) p at)
-
--- the number of the window at a place in leaf order is that of its leaf
-pub leaf-number : PlaceLaws → (s : StateValue) (i : ℕ) → slice_get (leaves s.tree.windows) i ≡ option_map (λ (p : Placed). p.number) (slice_get (places s) i)
-leaf-number laws s i =
-    ap (λ (ns : List ℕ). slice_get ns i) (sym (laws.listed s.tree.windows (frame_of s.tree))) ∙ slice_get-map (λ (p : Placed). p.number) (places s) i
-
--- and the window is found by it
-pub leaf-place : PlaceLaws → (s : StateValue) (i number : ℕ) → IsValid s → slice_get (leaves s.tree.windows) i ≡ Some number → place_of number s ≡ slice_get (places s) i
-leaf-place laws s i number valid at = laws.in_order s.tree.windows (frame_of s.tree) i number valid.windows.tree.once at
-
-mapped-none : {A B : Type 0} (f : A → B) (o : Option A) → option_map f o ≡ None → o ≡ None
-mapped-none f None h = refl
-mapped-none f (Some a) h = absurd (cc)
-
-mapped-some : {A B : Type 0} (f : A → B) (o : Option A) (b : B) → option_map f o ≡ Some b → (a : A) × (o ≡ Some a)
-mapped-some f None b h = absurd (cc)
-mapped-some f (Some a) b h = (a, refl)
-
--- there is no window behind the last leaf
-pub no-leaf : PlaceLaws → (s : StateValue) (i : ℕ) → slice_get (leaves s.tree.windows) i ≡ None → slice_get (places s) i ≡ None
-no-leaf laws s i h = mapped-none (λ (p : Placed). p.number) (slice_get (places s) i) (sym (leaf-number laws s i) ∙ h)
-
--- each leaf has a place
-pub some-place : PlaceLaws → (s : StateValue) (i number : ℕ) → slice_get (leaves s.tree.windows) i ≡ Some number → (p : Placed) × (slice_get (places s) i ≡ Some p)
-some-place laws s i number h = mapped-some (λ (p : Placed). p.number) (slice_get (places s) i) number (sym (leaf-number laws s i) ∙ h)

@@ -7,7 +7,6 @@ use Rattle.rd_state.specs.Effects.{effect_of}
 use Rattle.rd_state.specs.Steps.{step}
 use Rattle.rd_state.specs.declared.effect.Effect.{Effect}
 use Rattle.rd_term.specs.Pictures.{Picture}
-use Rattle.rd_window.specs.declared.layout.Layout.{Layout}
 use Rattle.rd_layout.specs.Changes.{layouts_after}
 use Rattle.rd_layout.specs.Sessions.{IsStep, SessionValue, behind, is_frame, session_step}
 

@@ -1,5 +1,4 @@
-use Rattle.std.proofs.Common.{◌≡◌, Ok, refl, subst, sym, ◌∙◌}
-use Rattle.rd_state.specs.States.{StateValue}
+use Rattle.std.proofs.Common.{Ok, refl, subst, sym, ◌∙◌}
 use Rattle.rd_layout.specs.Sessions.{Applied, SessionValue}
 use Rattle.rd_layout.specs.Since.{IsSession}
 use Rattle.rd_views.specs.Held.{session_of}
