@@ -8,5 +8,5 @@ use Rattle.rd_layout.specs.Windows.{views_in}
 
 -- by data files with these classes the windows of a state show this, in leaf order
 pub record AreShown (files : Data) (classes : List Span) (s : StateValue) (views : List WindowView) : Type 0 where
-  pub classes : files.classes ≡ classes
-  pub views : views ≡ views_in files s
+  pub known : files.classes ≡ classes
+  pub shown : views ≡ views_in files s

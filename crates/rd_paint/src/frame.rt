@@ -27,6 +27,5 @@ pub fn paint_frame(
     requires { (files : Data) × AreShown files classes.now state.now windows.now }
     ensures { IfOk result (λ screen. (files : Data) → AreShown files classes.now state.now windows.now → screen ≡ (laid_out files state.now).picture) }
 {
-    let _given = (alloc, classes, state, windows);
     Err(Memory)
 }
