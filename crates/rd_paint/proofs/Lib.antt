@@ -1,0 +1,7 @@
+mod Beside
+mod Cursor
+mod Leaves
+mod Panes
+mod Starts
+mod Turning
+mod Whole

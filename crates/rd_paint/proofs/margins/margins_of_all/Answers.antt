@@ -1,0 +1,14 @@
+use Rattle.std.proofs.Common.{◌∙◌}
+use Rattle.rd_layout.specs.Panes.{margin_of}
+use Rattle.rd_paint.specs.Shown.{of_classes}
+use Rattle.rd_paint.proofs.Beside.{all-at, more}
+use Rattle.rd_paint.proofs.Starts.{StartsIn}
+use Rattle.rd_paint.proofs.margins.margins_of_all.Goals as goal
+
+pub beside-requires : goal.beside-requires
+beside-requires c = all-at (StartsIn c.args.content.now.content.text) c.args.matrix.now c.loop-row.row c.entry-entry.result.now c.requires c.entry-entry.ensures
+
+pub loop-row-preserved : goal.loop-row-preserved
+loop-row-preserved c =
+    let f = margin_of (of_classes c.args.classes.now) c.args.objects.now c.args.content.now.content c.args.widths in
+    c.in_ok-push.ensures.items ∙ more f c.args.matrix.now c.loop-row.row c.entry-entry.result.now c.loop-row.lists.items c.in_ok-cells.cells c.entry-entry.ensures c.loop-row.invariant c.in_ok-cells.ensures

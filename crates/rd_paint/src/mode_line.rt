@@ -1,0 +1,90 @@
+//! The mode line of a window.
+ghost use Rattle.std.specs.Prelude.{◌≡◌, IfOk, Some};
+ghost use Rattle.std.specs.Str.{chars};
+ghost use Rattle.rd_layout.specs.Panes.{facts_of, is_whole, mode_line};
+ghost use Rattle.rd_paint.specs.Shown.{IsViewOf, of_classes};
+
+use crate::content::Content;
+use rd_base::{Cell, Ch, ListOf, Memory};
+use rd_layout::ShownWindow;
+use rd_modeline::{Facts, format};
+use rd_text::Buffer;
+use rd_ucd::Classes;
+use std::alloc::Global;
+
+/// The cells of a window's mode line in so many columns, and none where the window has no format for it.
+pub(crate) fn mode_line(
+    alloc: Global,
+    classes: &Classes,
+    content: &Content<'_>,
+    shown: &ShownWindow<'_>,
+    width: u32,
+    text: &Option<ListOf<Ch>>,
+) -> Result<ListOf<Cell>, Memory>
+    requires { IsViewOf content.now.content.text shown.now }
+    ensures { IfOk result (λ cells. cells ≡ mode_line (of_classes classes.now) (facts_of content.now shown.now) width text.now) }
+{
+    match text {
+        Some(text) => formatted(alloc, classes, content, shown, width, text.as_slice()),
+        None => Ok(ListOf::new(alloc)),
+    }
+}
+
+/// The cells of a mode line of a format. A window's format is good, so that only memory can be wanting.
+fn formatted(
+    alloc: Global,
+    classes: &Classes,
+    content: &Content<'_>,
+    shown: &ShownWindow<'_>,
+    width: u32,
+    text: &[Ch],
+) -> Result<ListOf<Cell>, Memory>
+    requires { IsViewOf content.now.content.text shown.now }
+    ensures { IfOk result (λ cells. cells ≡ mode_line (of_classes classes.now) (facts_of content.now shown.now) width (Some text.now)) }
+{
+    let name = characters(alloc, content.name)?;
+    let facts = facts(name.as_slice(), content, shown);
+    match format(alloc, text, classes, &facts, width) {
+        Ok(cells) => Ok(cells),
+        Err(_fault) => Err(Memory),
+    }
+}
+
+/// What a mode line tells of a buffer with a name and of the view of it.
+fn facts<'a>(name: &'a [Ch], content: &Content<'_>, shown: &ShownWindow<'_>) -> Facts<'a>
+    requires name { name.now ≡ chars content.now.name }
+    requires view { IsViewOf content.now.content.text shown.now }
+    ensures { result ≡ facts_of content.now shown.now }
+{
+    let text = &content.buffer.text;
+    let settings = &content.buffer.settings;
+    Facts {
+        name,
+        line: text.line_of(shown.chosen.point),
+        top: shown.top,
+        bottom: shown.bottom,
+        above: shown.chosen.anchor.pos - text.begin(),
+        total: text.end() - text.begin(),
+        modified: settings.modified,
+        read_only: settings.read_only,
+        narrowed: !is_whole(text),
+    }
+}
+
+/// Whether all of a text is accessible.
+fn is_whole(text: &Buffer) -> bool
+    ensures { result ≡ is_whole text.now }
+{
+    text.begin() == 1 && text.end() == text.length() + 1
+}
+
+/// The characters of a name.
+fn characters(alloc: Global, name: &str) -> Result<ListOf<Ch>, Memory>
+    ensures { IfOk result (λ list. list ≡ chars name.now) }
+{
+    let mut list = ListOf::with_room(alloc, name.len())?;
+    for c in name.chars() {
+        list.push(Ch::scalar(c))?;
+    }
+    Ok(list)
+}
