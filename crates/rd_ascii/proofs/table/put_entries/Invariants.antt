@@ -1,7 +1,0 @@
-use Rattle.std.proofs.Common.{◌≡◌, ◌++◌, map, take}
-use Rattle.rd_ascii.specs.Making.{entry_of}
-use Rattle.rd_ascii.proofs.table.put_entries.Given as goal
-
--- the entries so far
-abbrev pub invariant-loop-entry : goal.invariant-loop-entry
-invariant-loop-entry l = l.table ≡ record l.initial.table { entries = l.initial.table.entries ++ map entry_of (take l.entry-index l.entries) }
