@@ -1,0 +1,3 @@
+mod Banding
+mod Fitting
+mod Stepping
