@@ -1,10 +1,9 @@
 -- What is made of each window in leaf order.
-use Rattle.std.proofs.Common.{◌≡◌, ℕ, zero, suc, ◌+◌, ◌<◌, ◌≤◌, Option, None, Some, List, [], ◌∷◌, ◌++◌, length, map, drop, get_or, sym, ap, refl, subst, ◌∙◌, append_assoc, append-nil, arith}
+use Rattle.std.proofs.Common.{◌≡◌, ℕ, zero, suc, ◌+◌, None, Some, List, [], ◌∷◌, ◌++◌, drop, sym, ap, refl, ◌∙◌, append_assoc, append-nil}
 use Rattle.std.proofs.lemmas.List.{drop_more}
-use Rattle.std.proofs.lemmas.Option.{get_or_from_slice_get, slice_get-map, slice_get_within}
+use Rattle.std.proofs.lemmas.Option.{get_or_from_slice_get, slice_get_within}
 use Rattle.std.specs.List.{flat_map}
-use Rattle.std.specs.Prelude.{slice_get, option_map}
-use Rattle.rd_tree.specs.declared.placed.Placed.{Placed}
+use Rattle.std.specs.Prelude.{slice_get}
 
 none-drop : {A : Type 0} (xs : List A) (i : ℕ) → slice_get xs i ≡ None → drop i xs ≡ []
 none-drop [] zero h = refl
@@ -22,16 +21,3 @@ next-made f xs i x made whole at h =
 
 pub all-made : {A B : Type 0} (f : A → List B) (xs : List A) (i : ℕ) (made whole : List B) → slice_get xs i ≡ None → made ++ flat_map f (drop i xs) ≡ whole → made ≡ whole
 all-made f xs i made whole at h = sym (append-nil made) ∙ sym (ap (λ ys. made ++ flat_map f ys) (none-drop xs i at)) ∙ h
-
--- ---- leaves and places
-
-number-none : (o : Option Placed) → option_map (λ (p : Placed). p.number) o ≡ None → o ≡ None
-number-none None h = refl
-number-none (Some p) h = absurd (cc)
-
-pub none-past : (ps : List Placed) (ns : List ℕ) (i : ℕ) → map (λ (p : Placed). p.number) ps ≡ ns → slice_get ns i ≡ None → slice_get ps i ≡ None
-none-past ps ns i same h =
-    number-none (slice_get ps i) (sym (slice_get-map (λ (p : Placed). p.number) ps i) ∙ ap (λ (xs : List ℕ). slice_get xs i) same ∙ h)
-
-pub less-than : (ns : List ℕ) (i n most : ℕ) → length ns ≤ most → slice_get ns i ≡ Some n → i < most
-less-than ns i n most few at = let less = slice_get_within ns i n at in omega arith

@@ -1,12 +1,10 @@
 -- A known screen of the frame's size, and a target of that size.
-use Rattle.std.proofs.Common.{◌≡◌, ℕ, ◌<◌, ◌≤◌, Option, None, Some, List, [], ◌∷◌, length, sym, ◌∙◌, arith}
+use Rattle.std.proofs.Common.{◌≡◌, ℕ, ◌≤◌, Option, None, Some, List, [], ◌∷◌, length, sym, ◌∙◌, arith}
 use Rattle.std.proofs.lemmas.List.Elements.{All-head}
-use Rattle.std.specs.Prelude.{IfSome}
 use Rattle.rd_base.specs.declared.cell.Cell.{Cell}
 use Rattle.rd_layout.specs.Since.{FitsFrame}
 use Rattle.rd_state.specs.States.{StateValue}
 use Rattle.rd_term.specs.Pictures.{IsGrid, IsOfSize, Picture, width_of}
-use Rattle.rd_update.specs.Laws.{IsSound}
 use Rattle.rd_update.specs.Plans.{HaveOneSize}
 
 wide-as : (width height : ℕ) (rows : List (List Cell)) → 2 ≤ height → length rows ≡ height → IsGrid width rows → width_of rows ≡ width
@@ -19,7 +17,3 @@ one-size (Some screen) s target some fits size = (
   fits.0.rows ∙ sym size.rows,
   wide-as s.width s.height screen.rows some fits.0.rows fits.0.each ∙ sym (wide-as s.width s.height target.rows some size.rows size.each),
 )
-
-pub sound-if-known : (current : Option Picture) (s : StateValue) → FitsFrame current s → IfSome current (λ screen. IsSound screen)
-sound-if-known None s fits = tt
-sound-if-known (Some screen) s fits = fits.1

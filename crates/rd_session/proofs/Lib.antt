@@ -1,3 +1,4 @@
 mod Banding
 mod Fitting
+mod Sending
 mod Stepping

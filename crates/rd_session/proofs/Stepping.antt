@@ -1,16 +1,12 @@
 -- What a session with a screen says of the same session without it.
-use Rattle.std.proofs.Common.{◌≡◌, ℕ, ◌+◌, ◌≤◌, ◌<◌, Bool, true, false, if◌then◌else◌, Option, None, Some, Result, Ok, List, [], ◌∷◌, length, sym, ap, refl, subst, ◌∙◌, arith}
+use Rattle.std.proofs.Common.{◌≡◌, if◌then◌else◌, Option, None, Ok, sym, ap, refl, subst, ◌∙◌}
+use Rattle.rd_script.specs.Forms.{IsInForm}
 use Rattle.rd_script.specs.declared.op.Op.{Op}
 use Rattle.rd_script.specs.declared.op.Op.TheVariants as ops
 use Rattle.rd_state.specs.States.{StateValue}
-use Rattle.rd_state.specs.Windows.{window_of}
 use Rattle.rd_term.specs.Pictures.{Picture}
-use Rattle.rd_tree.specs.declared.placed.Placed.{Placed}
-use Rattle.rd_window.specs.declared.layout.Layout.{Layout}
-use Rattle.rd_layout.specs.Redisplays.{AreLaidOut, IsLaidOutBy, allowance_by, allowances, allowed}
-use Rattle.rd_layout.specs.Sessions.{SessionValue, layout_of, session_step}
+use Rattle.rd_layout.specs.Sessions.{Applied, IsStep, SessionValue, behind, is_frame, session_step}
 use Rattle.rd_layout.specs.Since.{IsSession}
-use Rattle.rd_layout.specs.Windows.{places}
 use Rattle.rd_session.specs.Screens.{with_screen}
 
 -- ---- no op reads the screen
@@ -20,23 +16,18 @@ step-same v c (ops.Go window right) = refl
 step-same v c (ops.Hit window row column) = refl
 step-same v c op = refl
 
+-- an op that led to a state leads there over a screen, of which it leaves what it leaves
+pub applied-over : (v w : SessionValue) (c d : Option Picture) (op : Op) → d ≡ (if is_frame op then None else c) → Applied (Ok tt) op v w → Applied (Ok tt) op (with_screen v c) (with_screen w d)
+applied-over v w c d op shows h =
+    (h.0, step-same v c op ∙ h.1, ap (λ (x : SessionValue). with_screen x d) h.2 ∙ ap (λ (screen : Option Picture). with_screen (behind v op h.0) screen) shows)
+
+pub applied-leads : ((v : SessionValue) (op : Op) (state : StateValue) → IsSession v → IsInForm op → IsStep op → session_step v op ≡ Ok state → IsSession (behind v op state))
+    → (v w : SessionValue) (c d : Option Picture) (op : Op) → d ≡ (if is_frame op then None else c) → Applied (Ok tt) op v w → IsSession (with_screen v c) → IsInForm op → IsStep op → IsSession (with_screen w d)
+applied-leads law v w c d op shows h session form step =
+    let over = applied-over v w c d op shows h in
+    subst IsSession (sym over.2) (law (with_screen v c) op over.0 session form step over.1)
+
 -- ---- a session whose screen is unknown
 
 pub unknown : (v : SessionValue) → IsSession v → IsSession (with_screen v None)
 unknown v s = record { state = s.state; screen = tt; made = s.made; layouts = s.layouts }
-
--- ---- no layout reads the screen
-
-allowances-same : (v : SessionValue) (c : Option Picture) (ps : List Placed) → allowances (with_screen v c) ps ≡ allowances v ps
-allowances-same v c [] = refl
-allowances-same v c (p ∷ ps) =
-    ap (λ (n : ℕ). allowance_by v.files v.state (layout_of p.number v.layouts) p (window_of p.number v.state.windows) + n) (allowances-same v c ps)
-
-pub allowed-same : (v : SessionValue) (c : Option Picture) → allowed (with_screen v c) ≡ allowed v
-allowed-same v c = allowances-same v c (places v.state)
-
-pub laid-same : (v : SessionValue) (c : Option Picture) (ps : List Placed) (es : List (ℕ × Layout)) → AreLaidOut v ps es → AreLaidOut (with_screen v c) ps es
-laid-same v c [] [] h = h
-laid-same v c [] (e ∷ es) h = absurd h
-laid-same v c (p ∷ ps) [] h = absurd h
-laid-same v c (p ∷ ps) (e ∷ es) h = (h.0, h.1, laid-same v c ps es h.2)

@@ -1,5 +1,5 @@
 //! A session, and what an op makes of it.
-ghost use Rattle.std.specs.Prelude.{◌≡◌, IfOk};
+ghost use Rattle.std.specs.Prelude.{◌≡◌, if◌then◌else◌, None, IfOk};
 ghost use Rattle.rd_layout.specs.Sessions.{Applied, IsStep, is_frame, opened};
 ghost use Rattle.rd_layout.specs.Since.{IsSession};
 ghost use Rattle.rd_script.specs.Forms.{IsInForm};
@@ -75,9 +75,7 @@ impl Session {
         sessions_stay_known();
         let resizes = is_frame(&op);
         self.views.apply(op)?;
-        if resizes {
-            self.screen = None;
-        }
+        forget_if(resizes, &mut self.screen);
         Ok(())
     }
 
@@ -97,5 +95,14 @@ fn is_frame(op: &Op) -> bool
     match op {
         Op::Frame { .. } => true,
         _ => false,
+    }
+}
+
+/// Makes a screen unknown, where this is so.
+fn forget_if(resized: bool, screen: &mut Option<Screen>)
+    ensures { screen.new ≡ (if resized then None else screen.old) }
+{
+    if resized {
+        *screen = None;
     }
 }

@@ -1,8 +1,7 @@
 use Rattle.std.specs.List.{flat_map}
-use Rattle.std.proofs.Common.{◌≡◌, ◌++◌, ◌+◌, drop, ap, Option, None, Some, slice_get, sym, ◌∙◌}
+use Rattle.std.proofs.Common.{◌≡◌, ◌++◌, ◌+◌, drop, ap, None, Some, slice_get, sym, ◌∙◌}
 use Rattle.rd_tree.specs.Calls.{frame_of}
 use Rattle.rd_tree.specs.Windows.{placed}
-use Rattle.rd_tree.specs.declared.placed.Placed.{Placed}
 use Rattle.rd_layout.specs.Redisplays.{band_of}
 use Rattle.rd_session.proofs.Banding.{all-made, next-made}
 use Rattle.rd_session.proofs.bands.push_bands.Goals as goal
