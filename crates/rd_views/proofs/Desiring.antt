@@ -1,12 +1,11 @@
 -- What laying out all windows gives, window by window.
-use Rattle.std.proofs.Common.{◌≡◌, ◌≢◌, inl, inr, ℕ, zero, suc, ◌+◌, ◌<◌, ◌≤◌, Bool, true, false, not, is_some, if◌then◌else◌, Option, None, Some, List, [], ◌∷◌, ◌++◌, length, get_or, drop, sym, ap, refl, subst, subst₂, ◌∙◌, arith, append_assoc, append-nil, unwrap_or}
+use Rattle.std.proofs.Common.{◌≡◌, inl, inr, ℕ, zero, suc, ◌+◌, ◌≤◌, true, false, not, is_some, if◌then◌else◌, Option, None, Some, List, [], ◌∷◌, ◌++◌, length, drop, sym, ap, refl, subst, subst₂, ◌∙◌, arith, append_assoc, append-nil, unwrap_or}
 use Rattle.std.proofs.lemmas.Bool.{cases_eq}
 use Rattle.std.proofs.lemmas.List.{drop_more}
 use Rattle.std.proofs.lemmas.Option.{get_or_from_slice_get, slice_get_within}
 use Rattle.std.specs.List.{flat_map}
 use Rattle.std.specs.Prelude.{IfSome, slice_get}
 use Rattle.rd_start.specs.Chosen.{chosen_of}
-use Rattle.rd_start.specs.declared.wanted.Chosen.{Chosen}
 use Rattle.rd_state.specs.States.{StateValue}
 use Rattle.rd_state.specs.Windows.{window_of}
 use Rattle.rd_state.specs.declared.window.WindowState.{WindowState}
@@ -20,7 +19,7 @@ use Rattle.rd_window.specs.declared.layout.Layout.{Layout}
 use Rattle.rd_layout.specs.Redisplays.{AreLaidOut, IsLaidOutBy, allowance_by, allowances}
 use Rattle.rd_layout.specs.Sessions.{SessionValue, layout_of}
 use Rattle.rd_layout.specs.Windows.{place_of, places, views_at, views_by, wanted_of, window_shape, window_source}
-use Rattle.rd_layout.proofs.Known.{Last, layout-here, layout-there}
+use Rattle.rd_layout.proofs.Known.{Last, layout-there}
 use Rattle.rd_layout.proofs.Placed.{number-of}
 use Rattle.rd_views.specs.Layings.{AreDesired, AreOnce, IsDesiredAt, IsDesiredBy, layout_in, layout_taken, layouts_taken, no_layout, shown_by, views_taken, window_in}
 use Rattle.rd_views.specs.declared.desired.LaidWindow.{LaidWindow}

@@ -1,5 +1,5 @@
 -- The numbers of the windows of a frame stand once.
-use Rattle.std.proofs.Common.{◌≡◌, ◌≢◌, inl, inr, ℕ, ◌+◌, ◌≤◌, ◌==◌, Option, None, Some, List, [], ◌∷◌, ◌++◌, sym, ap, refl, ◌∙◌, arith}
+use Rattle.std.proofs.Common.{◌≡◌, ◌≢◌, inl, inr, ℕ, ◌≤◌, ◌==◌, Option, None, Some, List, [], ◌∷◌, ◌++◌, sym, refl, ◌∙◌, arith}
 use Rattle.std.proofs.lemmas.Bool.{cases_eq}
 use Rattle.rd_tree.specs.Windows.{Windows, Window, Split, first_part, of_number, placed, second_part, times}
 use Rattle.rd_tree.specs.declared.placed.Placed.{Placed}

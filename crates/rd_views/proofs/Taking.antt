@@ -1,8 +1,7 @@
 -- The last layouts are put in place of those of windows that were not laid out anew.
-use Rattle.std.proofs.Common.{◌≡◌, ◌≢◌, inl, inr, ℕ, suc, ◌+◌, ◌<◌, ◌≤◌, Option, None, Some, List, [], ◌∷◌, ◌++◌, length, set, get_or, take, drop, sym, ap, refl, subst, ◌∙◌, arith, append_assoc}
+use Rattle.std.proofs.Common.{◌≡◌, ◌≢◌, inl, inr, ℕ, ◌+◌, ◌<◌, None, Some, List, [], ◌∷◌, ◌++◌, length, set, get_or, take, drop, sym, ap, refl, subst, ◌∙◌, arith, append_assoc}
 use Rattle.std.proofs.lemmas.Bool.{cases_eq}
 use Rattle.std.proofs.lemmas.List.{drop_more, drop-set-lt, take_more_set}
-use Rattle.rd_window.specs.declared.layout.Layout.{Layout}
 use Rattle.rd_layout.specs.Sessions.{layout_of}
 use Rattle.rd_layout.proofs.Known.{Last, layout-here, layout-there}
 use Rattle.rd_views.specs.Layings.{AreOnce, layout_taken, layouts_taken, nobody, taken_at}

@@ -1,5 +1,5 @@
 -- What laying out all windows of a session gives, and what is left when it is kept.
-use Rattle.std.specs.Prelude.{◌≡◌, ℕ, Bool, false, pos, if◌then◌else◌, is_some, Option, None, Some, List, [], ◌∷◌, unwrap_or, IsSome}
+use Rattle.std.specs.Prelude.{◌≡◌, ℕ, false, if◌then◌else◌, is_some, Option, None, Some, List, [], ◌∷◌, unwrap_or, IsSome}
 use Rattle.rd_base.specs.declared.settings.Wrap.TheVariants.{Truncate}
 use Rattle.rd_matrix.specs.Entries.{shown_entries}
 use Rattle.rd_reuse.specs.Changes.{none}

@@ -1,4 +1,4 @@
-use Rattle.std.proofs.Common.{◌≡◌, ◌<◌, length, sym, subst, arith}
+use Rattle.std.proofs.Common.{◌<◌, length, arith}
 use Rattle.rd_views.specs.Layings.{nothing_chosen}
 use Rattle.rd_views.proofs.Settled.{first-settles, step-settled}
 use Rattle.rd_views.proofs.adopting.settle.Goals as goal

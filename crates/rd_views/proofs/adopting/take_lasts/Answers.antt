@@ -1,6 +1,5 @@
-use Rattle.std.proofs.Common.{◌≡◌, ◌<◌, ◌∙◌, length, ap, arith}
+use Rattle.std.proofs.Common.{◌<◌, ◌∙◌, length, ap, arith}
 use Rattle.std.proofs.lemmas.List.{length-set}
-use Rattle.rd_layout.proofs.Known.{Last}
 use Rattle.rd_views.proofs.Taking.{step-taken}
 use Rattle.rd_views.proofs.adopting.take_lasts.Goals as goal
 

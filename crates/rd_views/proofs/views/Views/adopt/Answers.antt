@@ -6,7 +6,6 @@ use Rattle.rd_layout.specs.Since.{IsSession}
 use Rattle.rd_layout.specs.Windows.{places}
 use Rattle.rd_layout.proofs.Known.{Last}
 use Rattle.rd_layout.proofs.Placed.{PlaceLaws}
-use Rattle.rd_state.specs.States.{StateValue}
 use Rattle.rd_views.proofs.Desiring.{same-count}
 use Rattle.rd_views.proofs.Kept.{adopted, can-as, layouts-as, once-as, state-as}
 use Rattle.rd_views.proofs.views.Views.adopt.Goals as goal

@@ -1,4 +1,4 @@
-use Rattle.std.proofs.Common.{◌≡◌, Option, Some, option_map, sym, ap, subst, ◌∙◌}
+use Rattle.std.proofs.Common.{◌≡◌, Some, option_map, sym, ap, subst, ◌∙◌}
 use Rattle.rd_blocks.specs.Sources.{source_of}
 use Rattle.rd_matrix.specs.Blocks.{IsWithin}
 use Rattle.rd_start.specs.declared.wanted.Wanted.{Wanted}
