@@ -1,6 +1,6 @@
 -- What laying out all windows gives, window by window.
-use Rattle.std.proofs.Common.{◌≡◌, inl, inr, ℕ, zero, suc, ◌+◌, ◌≤◌, true, false, not, is_some, if◌then◌else◌, Option, None, Some, List, [], ◌∷◌, ◌++◌, length, drop, sym, ap, refl, subst, subst₂, ◌∙◌, arith, append_assoc, append-nil, unwrap_or}
-use Rattle.std.proofs.lemmas.Bool.{cases_eq}
+use Rattle.std.proofs.Common.{◌≡◌, inl, inr, ℕ, zero, suc, ◌+◌, ◌≤◌, not, is_some, if◌then◌else◌, Option, None, Some, List, [], ◌∷◌, ◌++◌, length, drop, sym, ap, refl, subst, subst₂, ◌∙◌, arith, append_assoc, append-nil, unwrap_or}
+use Rattle.std.proofs.lemmas.Bool.{cases_eq, false≢true}
 use Rattle.std.proofs.lemmas.List.{drop_more}
 use Rattle.std.proofs.lemmas.Option.{get_or_from_slice_get, slice_get_within}
 use Rattle.std.specs.List.{flat_map}
@@ -27,9 +27,6 @@ use Rattle.rd_views.proofs.Placing.{AreApart, placed-here, placed-there}
 
 -- ---- one window
 
-no-none : false ≡ true → ⊥
-no-none h = absurd (cc)
-
 module _ (files : Data) (s : StateValue) (place : Placed) (w : WindowState) where
   abbrev pub IsNew : Option Layout → Layout → Type 0
   IsNew last new = IsLaidOut last (window_source files s w) (window_shape s w place) (wanted_of s w place) new
@@ -39,7 +36,7 @@ module _ (files : Data) (s : StateValue) (place : Placed) (w : WindowState) wher
       → IsNew last (if is_some anew then unwrap_or anew no_layout else unwrap_or last (unwrap_or anew no_layout))
   kept-layout last (Some new) laid is = laid
   kept-layout (Some l) None laid is = laid
-  kept-layout None None laid is = absurd (no-none is)
+  kept-layout None None laid is = absurd (false≢true is)
 
   pub desired-window : (last : Option Layout) (laying : Laying) → laying.chosen ≡ chosen_of (window_source files s w) (window_shape s w place) (wanted_of s w place)
       → IfSome (layout_after last laying.anew) (IsNew last) → is_some laying.anew ≡ not (rests last (window_source files s w) (window_shape s w place) (wanted_of s w place))

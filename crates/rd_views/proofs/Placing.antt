@@ -1,6 +1,7 @@
 -- The numbers of the windows of a frame stand once.
 use Rattle.std.proofs.Common.{◌≡◌, ◌≢◌, inl, inr, ℕ, ◌≤◌, ◌==◌, Option, None, Some, List, [], ◌∷◌, ◌++◌, sym, refl, ◌∙◌, arith}
 use Rattle.std.proofs.lemmas.Bool.{cases_eq}
+use Rattle.std.proofs.lemmas.Option.{none-some}
 use Rattle.rd_tree.specs.Windows.{Windows, Window, Split, first_part, of_number, placed, second_part, times}
 use Rattle.rd_tree.specs.declared.placed.Placed.{Placed}
 use Rattle.rd_tree.specs.declared.rect.Rect.{Rect}
@@ -18,14 +19,11 @@ abbrev pub AreApart : List Placed → Type 0
 AreApart [] = Unit {0}
 AreApart (p ∷ ps) = (of_number p.number ps ≡ None) × AreApart ps
 
-no-some : {A : Type 0} {a : A} → Some a ≡ None → ⊥
-no-some h = absurd (cc)
-
 -- a number that is in none of two lists is not in both together
 neither : (n : ℕ) (ps qs : List Placed) → of_number n ps ≡ None → of_number n qs ≡ None → of_number n (ps ++ qs) ≡ None
 neither n [] qs h g = g
 neither n (p ∷ ps) qs h g = elim (cases_eq p.number n) [
-  | inl e ↦ absurd (no-some (sym (placed-here n p ps e) ∙ h))
+  | inl e ↦ absurd (none-some p (sym h ∙ placed-here n p ps e))
   | inr e ↦ placed-there n p (ps ++ qs) e ∙ neither n ps qs (sym (placed-there n p ps e) ∙ h) g
 ]
 

@@ -1,5 +1,5 @@
 -- What the layout of a window asks of its source and its last layout, and what it answers.
-use Rattle.std.proofs.Common.{◌≡◌, ℕ, ◌+◌, ◌≤◌, not, is_some, Option, None, Some, Result, Ok, Err, sym, ap, subst, subst₂, ◌∙◌}
+use Rattle.std.proofs.Common.{◌≡◌, ℕ, ◌+◌, ◌≤◌, not, is_some, Option, Some, Result, Ok, Err, sym, ap, subst, subst₂, ◌∙◌}
 use Rattle.std.specs.Prelude.{IfOk, IfSome}
 use Rattle.rd_base.specs.declared.memory.Memory.{Memory}
 use Rattle.rd_blocks.specs.Sources.{source_of, text_source}
@@ -31,9 +31,6 @@ use Rattle.rd_layout.specs.Windows.{wanted_of, window_shape, window_source}
 use Rattle.rd_layout.proofs.ByNumber.{buffer-there}
 use Rattle.rd_views.specs.Layings.{IsDesiredAt, IsDesiredBy, layout_in, window_in}
 use Rattle.rd_views.proofs.Desiring.{desired-window}
-
-pub no-window : {A : Type 0} {a : A} → Some a ≡ None → ⊥
-no-window h = absurd (cc)
 
 -- the source that a look at a buffer gives
 pub source-is : (view : View) (content : props.BufferValue) (objects : ObjectLists) (files : Data) → meaning view.state.now ≡ content → view.objects.now ≡ objects → files_of view ≡ files
@@ -72,11 +69,18 @@ module _ (laws : LookLaws) (v : SessionValue) (session : IsSession v) (n : ℕ) 
   pub is-source : IsSource m
   is-source = subst IsSource (sym source) (laws.source (seen (shown_content v.state w)) v.state.objects v.files text)
 
-  pub anchor-within : IsWithin w.anchor.pos m.blocks
+  anchor-within : IsWithin w.anchor.pos m.blocks
   anchor-within = subst (λ (k : SourceValues). IsWithin w.anchor.pos k.blocks) (sym source) (laws.within (seen (shown_content v.state w)) v.state.objects v.files w.anchor.pos anchor)
 
-  pub point-within : IsWithin w.point m.blocks
+  point-within : IsWithin w.point m.blocks
   point-within = subst (λ (k : SourceValues). IsWithin w.point k.blocks) (sym source) (laws.within (seen (shown_content v.state w)) v.state.objects v.files w.point point)
+
+  -- what is wanted of the window's start is wanted at the window's start and point
+  pub anchor-wanted : (s : StateValue) (place : Placed) (x : Wanted) → x ≡ wanted_of s w place → IsWithin x.anchor.pos m.blocks
+  anchor-wanted s place x is = subst (λ (y : Wanted). IsWithin y.anchor.pos m.blocks) (sym is) anchor-within
+
+  pub point-wanted : (s : StateValue) (place : Placed) (x : Wanted) → x ≡ wanted_of s w place → IsWithin x.point m.blocks
+  point-wanted s place x is = subst (λ (y : Wanted). IsWithin y.point m.blocks) (sym is) point-within
 
   pub kept-right : (last : Option Layout) (shape : ShapeValues) → last ≡ layout_of n v.layouts → AreRight m (older_rows last shape) (change_since last) shape
   kept-right last shape is =

@@ -2,6 +2,7 @@
 use Rattle.std.proofs.Common.{◌≡◌, ◌≢◌, inl, inr, ℕ, suc, ◌+◌, ◌<◌, ◌==◌, Bool, true, false, if◌then◌else◌, drop, get_or, length, Option, None, Some, List, [], ◌∷◌, map, sym, ap, refl, subst, subst₂, ◌∙◌}
 use Rattle.std.proofs.lemmas.Bool.{cases_eq}
 use Rattle.std.proofs.lemmas.List.{drop_more}
+use Rattle.std.proofs.lemmas.Option.{none-some, same_Some}
 use Rattle.std.specs.Prelude.{IsSome, option_map, pos, slice_get}
 use Rattle.rd_start.specs.Chosen.{chosen_of}
 use Rattle.rd_start.specs.declared.wanted.Chosen.{Chosen}
@@ -41,12 +42,6 @@ state-is (x ∷ xs) (e ∷ es) s = state-is xs es (settled s e.0 x.chosen.anchor
 
 -- ---- lists of windows that are told apart by their numbers
 
-some-is : {A : Type 0} {a b : A} → Some a ≡ Some b → a ≡ b
-some-is h = cc
-
-no-some : {A : Type 0} {a : A} → Some a ≡ None → ⊥
-no-some h = absurd (cc)
-
 heads : {m n : ℕ} {ms ns : List ℕ} → m ∷ ms ≡ n ∷ ns → (m ≡ n) × (ms ≡ ns)
 heads h = (cc, cc)
 
@@ -56,7 +51,7 @@ none-by-numbers n [] (w ∷ ws) same none = absurd (cc)
 none-by-numbers n (u ∷ us) (w ∷ ws) same none =
     let parts = heads same in
     elim (cases_eq u.0 n) [
-      | inl p ↦ absurd (no-some (sym (window-here n u us p) ∙ none))
+      | inl p ↦ absurd (none-some u.1 (sym none ∙ window-here n u us p))
       | inr q ↦ window-there n w ws (λ r. q (parts.0 ∙ r)) ∙ none-by-numbers n us ws parts.1 (sym (window-there n u us q) ∙ none)
     ]
 
@@ -66,7 +61,7 @@ same-windows [] (w ∷ ws) same apart found = absurd (cc)
 same-windows (u ∷ us) [] same apart found = absurd (cc)
 same-windows (u ∷ us) (w ∷ ws) same apart found =
     let parts = heads same in
-    let value = some-is (sym (window-here u.0 u us refl) ∙ (found u.0 ∙ window-here u.0 w ws (sym parts.0))) in
+    let value = same_Some u.1 w.1 (sym (window-here u.0 u us refl) ∙ (found u.0 ∙ window-here u.0 w ws (sym parts.0))) in
     let gone = none-by-numbers u.0 us ws parts.1 apart.0 in
     let rest = same-windows us ws parts.1 apart.1 (λ n. elim (cases_eq u.0 n) [
       | inl p ↦ ap (λ (k : ℕ). window_of k us) (sym p) ∙ (apart.0 ∙ (sym gone ∙ ap (λ (k : ℕ). window_of k ws) p))
@@ -112,7 +107,7 @@ chosen-none : (n : ℕ) (xs : List LaidWindow) (es : List Last) → layout_of n 
 chosen-none n [] es none = refl
 chosen-none n (x ∷ xs) [] none = refl
 chosen-none n (x ∷ xs) (e ∷ es) none = elim (cases_eq e.0 n) [
-  | inl p ↦ absurd (no-some (sym (layout-here n e es p) ∙ none))
+  | inl p ↦ absurd (none-some e.1 (sym none ∙ layout-here n e es p))
   | inr q ↦ chosen-there n x xs e es q ∙ chosen-none n xs es (sym (layout-there n e es q) ∙ none)
 ]
 
@@ -256,7 +251,7 @@ Accessible files s = (number : ℕ) (w : WindowState) (place : Placed) → windo
 
 one-shown : (s : StateValue) (n : ℕ) (w : WindowState) (p : ℕ) → window_of n s.windows ≡ Some w → IsAccessible (shown_content s w).text p → IsShownAt s n p
 one-shown s n w p lives h u b at there =
-    let same : w ≡ u = some-is (sym lives ∙ at) in
+    let same : w ≡ u = same_Some w u (sym lives ∙ at) in
     let content : shown_content s w ≡ b.content = ap (λ (x : WindowState). shown_content s x) same ∙ ap content_in there in
     subst (λ (c : ContentValue). IsAccessible c.text p) content h
 

@@ -1,14 +1,12 @@
 -- The last layouts are put in place of those of windows that were not laid out anew.
-use Rattle.std.proofs.Common.{◌≡◌, ◌≢◌, inl, inr, ℕ, ◌+◌, ◌<◌, None, Some, List, [], ◌∷◌, ◌++◌, length, set, get_or, take, drop, sym, ap, refl, subst, ◌∙◌, arith, append_assoc}
+use Rattle.std.proofs.Common.{◌≡◌, ◌≢◌, inl, inr, ℕ, ◌+◌, ◌<◌, None, List, [], ◌∷◌, ◌++◌, length, set, get_or, take, drop, sym, ap, refl, subst, ◌∙◌, arith, append_assoc}
 use Rattle.std.proofs.lemmas.Bool.{cases_eq}
 use Rattle.std.proofs.lemmas.List.{drop_more, drop-set-lt, take_more_set}
+use Rattle.std.proofs.lemmas.Option.{none-some}
 use Rattle.rd_layout.specs.Sessions.{layout_of}
 use Rattle.rd_layout.proofs.Known.{Last, layout-here, layout-there}
 use Rattle.rd_views.specs.Layings.{AreOnce, layout_taken, layouts_taken, nobody, taken_at}
 use Rattle.rd_views.specs.declared.desired.LaidWindow.{LaidWindow}
-
-no-some : {A : Type 0} {a : A} → Some a ≡ None → ⊥
-no-some h = absurd (cc)
 
 -- the last layout of a window that is not among these counts for nothing
 same-taken : (m : ℕ) (lasts others : List Last) (xs : List LaidWindow) (es : List Last) → ((n : ℕ) → n ≢ m → layout_of n others ≡ layout_of n lasts) → layout_of m es ≡ None
@@ -16,7 +14,7 @@ same-taken : (m : ℕ) (lasts others : List Last) (xs : List LaidWindow) (es : L
 same-taken m lasts others [] es same none = refl
 same-taken m lasts others (x ∷ xs) [] same none = refl
 same-taken m lasts others (x ∷ xs) (e ∷ es) same none = elim (cases_eq e.0 m) [
-  | inl p ↦ absurd (no-some (sym (layout-here m e es p) ∙ none))
+  | inl p ↦ absurd (none-some e.1 (sym none ∙ layout-here m e es p))
   | inr q ↦
       let first : layout_of e.0 others ≡ layout_of e.0 lasts = same e.0 q in
       let rest = same-taken m lasts others xs es same (sym (layout-there m e es q) ∙ none) in

@@ -1,13 +1,12 @@
 use Rattle.std.proofs.Common.{◌≡◌, Some, option_map, sym, ap, subst, ◌∙◌}
+use Rattle.std.proofs.lemmas.Option.{none-some}
 use Rattle.rd_blocks.specs.Sources.{source_of}
-use Rattle.rd_matrix.specs.Blocks.{IsWithin}
-use Rattle.rd_start.specs.declared.wanted.Wanted.{Wanted}
-use Rattle.rd_state.specs.States.{seen}
+use Rattle.rd_state.specs.States.{StateValue, seen}
 use Rattle.rd_state.specs.Windows.{shown_content, window_of}
 use Rattle.rd_layout.specs.Sessions.{SessionValue, layout_of}
 use Rattle.rd_layout.specs.Windows.{wanted_of, window_shape, window_source}
 use Rattle.rd_views.proofs.Living.{placed-lives}
-use Rattle.rd_views.proofs.Premises.{LookLaws, allowed-steps, anchor-within, is-source, kept-right, laid-result, no-window, point-within, source-is}
+use Rattle.rd_views.proofs.Premises.{LookLaws, allowed-steps, anchor-wanted, is-source, kept-right, laid-result, point-wanted, source-is}
 use Rattle.rd_views.proofs.views.Views.lay_out_window.Goals as goal
 
 pub unreachable-requires : goal.unreachable-requires
@@ -15,7 +14,7 @@ unreachable-requires g c =
     let v = c.args.self.now in
     let n = c.args.place.number in
     let lives = placed-lives c.windows_are_leaves.ensures.placed v.state n c.args.place c.stays_known.ensures.state c.requires.found in
-    no-window (sym lives.1 ∙ sym (c.in_default.ensures ∙ ap (λ (x : SessionValue). window_of n x.state.windows) c.self.view_is))
+    none-some lives.0 (c.in_default.ensures ∙ (ap (λ (x : SessionValue). window_of n x.state.windows) c.self.view_is ∙ lives.1))
 
 pub look_at-requires : goal.look_at-requires
 look_at-requires g c =
@@ -77,7 +76,7 @@ lay_out_again-requires-clause-anchor g c =
     let m = source_of c.new-source.result in
     let source : m ≡ window_source v.files v.state w =
     c.new-source.ensures ∙ source-is c.look_at.result (seen (shown_content v.state w)) v.state.objects v.files c.look_at.ensures.content c.look_at.ensures.objects c.look_at.ensures.files in
-    subst (λ (x : Wanted). IsWithin x.anchor.pos m.blocks) (sym c.wanted_of-wanted.ensures) (anchor-within laws v c.stays_known.ensures n w lives m source)
+    anchor-wanted laws v c.stays_known.ensures n w lives m source c.self.inside.state c.args.place c.wanted_of-wanted.result c.wanted_of-wanted.ensures
 
 pub lay_out_again-requires-clause-point : goal.lay_out_again-requires-clause-point
 lay_out_again-requires-clause-point g c =
@@ -95,7 +94,7 @@ lay_out_again-requires-clause-point g c =
     let m = source_of c.new-source.result in
     let source : m ≡ window_source v.files v.state w =
     c.new-source.ensures ∙ source-is c.look_at.result (seen (shown_content v.state w)) v.state.objects v.files c.look_at.ensures.content c.look_at.ensures.objects c.look_at.ensures.files in
-    subst (λ (x : Wanted). IsWithin x.point m.blocks) (sym c.wanted_of-wanted.ensures) (point-within laws v c.stays_known.ensures n w lives m source)
+    point-wanted laws v c.stays_known.ensures n w lives m source c.self.inside.state c.args.place c.wanted_of-wanted.result c.wanted_of-wanted.ensures
 
 pub returns-clause-laid : goal.returns-clause-laid
 returns-clause-laid g c =
@@ -107,8 +106,9 @@ returns-clause-laid g c =
     let m = source_of c.new-source.result in
     let source : m ≡ window_source v.files v.state w =
     c.new-source.ensures ∙ source-is c.look_at.result (seen (shown_content v.state w)) v.state.objects v.files c.look_at.ensures.content c.look_at.ensures.objects c.look_at.ensures.files in
-    let shape : c.shape_of-shape.result ≡ window_shape v.state w place = c.shape_of-shape.ensures ∙ ap (λ (x : SessionValue). window_shape x.state w place) c.self.view_is in
-    let wanted : c.wanted_of-wanted.result ≡ wanted_of v.state w place = c.wanted_of-wanted.ensures ∙ ap (λ (x : SessionValue). wanted_of x.state w place) c.self.view_is in
+    let state : c.self.inside.state ≡ v.state = ap (λ (x : SessionValue). x.state) c.self.view_is in
+    let shape : c.shape_of-shape.result ≡ window_shape v.state w place = subst (λ (s : StateValue). c.shape_of-shape.result ≡ window_shape s w place) state c.shape_of-shape.ensures in
+    let wanted : c.wanted_of-wanted.result ≡ wanted_of v.state w place = subst (λ (s : StateValue). c.wanted_of-wanted.result ≡ wanted_of s w place) state c.wanted_of-wanted.ensures in
     laid-result v.files v.state place w (layout_of n v.layouts) (option_map (λ l. l.now) c.layout-last.result) m c.shape_of-shape.result c.wanted_of-wanted.result (window_of n v.state.windows)
     c.lay_out_again.result c.layout-last.ensures source shape wanted lives c.lay_out_again.ensures.chosen c.lay_out_again.ensures.layout c.lay_out_again.ensures.anew
 
@@ -122,7 +122,8 @@ returns-clause-steps g c =
     let m = source_of c.new-source.result in
     let source : m ≡ window_source v.files v.state w =
     c.new-source.ensures ∙ source-is c.look_at.result (seen (shown_content v.state w)) v.state.objects v.files c.look_at.ensures.content c.look_at.ensures.objects c.look_at.ensures.files in
-    let shape : c.shape_of-shape.result ≡ window_shape v.state w place = c.shape_of-shape.ensures ∙ ap (λ (x : SessionValue). window_shape x.state w place) c.self.view_is in
-    let wanted : c.wanted_of-wanted.result ≡ wanted_of v.state w place = c.wanted_of-wanted.ensures ∙ ap (λ (x : SessionValue). wanted_of x.state w place) c.self.view_is in
+    let state : c.self.inside.state ≡ v.state = ap (λ (x : SessionValue). x.state) c.self.view_is in
+    let shape : c.shape_of-shape.result ≡ window_shape v.state w place = subst (λ (s : StateValue). c.shape_of-shape.result ≡ window_shape s w place) state c.shape_of-shape.ensures in
+    let wanted : c.wanted_of-wanted.result ≡ wanted_of v.state w place = subst (λ (s : StateValue). c.wanted_of-wanted.result ≡ wanted_of s w place) state c.wanted_of-wanted.ensures in
     allowed-steps v.files v.state place w (layout_of n v.layouts) (option_map (λ l. l.now) c.layout-last.result) m c.shape_of-shape.result c.wanted_of-wanted.result (window_of n v.state.windows)
     c.args.steps.now c.lay_out_again.new.steps c.layout-last.ensures source shape wanted lives c.lay_out_again.ensures.steps
