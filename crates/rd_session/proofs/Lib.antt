@@ -1,4 +1,3 @@
 mod Banding
 mod Fitting
-mod Sending
-mod Stepping
+mod Leading

@@ -15,7 +15,8 @@ use rd_views::Views;
 use std::alloc::Global;
 use std::marker::Model;
 
-/// The state of the editor, the last layouts of its windows, and what the screen shows where that is known.
+/// The state of the editor, the last layouts of its windows, and what the screen shows where that is known. `nothing` is lent as the
+/// rows of a window that was not laid out yet.
 #[derive(Drop)]
 pub struct Session {
     pub(crate) alloc: Global,
@@ -98,7 +99,7 @@ fn is_frame(op: &Op) -> bool
     }
 }
 
-/// Makes a screen unknown, where this is so.
+/// Makes a screen unknown, where its frame was resized.
 fn forget_if(resized: bool, screen: &mut Option<Screen>)
     ensures { screen.new ≡ (if resized then None else screen.old) }
 {

@@ -1,6 +1,6 @@
 use Rattle.std.proofs.Common.{◌≡◌, if◌then◌else◌, None, ap, ◌∙◌}
 use Rattle.rd_layout.specs.Sessions.{is_frame}
-use Rattle.rd_session.proofs.Stepping.{applied-leads}
+use Rattle.rd_session.proofs.Leading.{applied-leads}
 use Rattle.rd_session.proofs.session.Session.apply.Goals as goal
 
 pub invariant_of-self-2 : goal.invariant_of-self-2

@@ -1,5 +1,5 @@
 use Rattle.rd_session.specs.Screens.{with_screen}
-use Rattle.rd_session.proofs.Sending.{redisplay-leads}
+use Rattle.rd_session.proofs.Leading.{redisplay-leads}
 use Rattle.rd_session.proofs.session.Session.redisplay.Goals as goal
 
 pub invariant_of-self : goal.invariant_of-self
