@@ -1,17 +1,20 @@
 -- The end of a run: its last line.
-use Rattle.std.proofs.Common.{◌≡◌, ℕ, ◌≤◌, inl, inr, Bool, List, [], ◌∷◌, ◌++◌, length, take, Option, None, Some, refl, sym, ◌∙◌, subst, append-nil, arith}
-use Rattle.std.specs.Io.KnownBytes.{Appends}
-use Rattle.std.proofs.KnownBytes.{Appends-nil, Appends-trans}
+use Rattle.std.proofs.Common.{◌≡◌, ℕ, ◌+◌, ◌≤◌, ◌⊎◌, inl, inr, Bool, List, [], ◌∷◌, ◌++◌, length, take, Option, None, Some, Result, Ok, Err, refl, sym, ap, ◌∙◌, subst, append-nil, arith}
+use Rattle.std.specs.Io.KnownBytes.{Appends, Consumes}
+use Rattle.std.proofs.KnownBytes.{Appends-nil, Appends-trans, Consumes-nil}
 use Rattle.rd_io.specs.Devices.{Rose}
-use Rattle.rd_play.specs.Acts.{Stopped, Finishes, Tells}
-use Rattle.rd_play.specs.Ends.{Drawn, Sunk, sunk, Took, Broke, Comes, Ended, IsWhole, IsBroken, ScreenBroke, ReportBroke, LastBroke}
-use Rattle.rd_play.specs.Reports.{last_line}
-use Rattle.rd_play.specs.Runs.{Turn, opened, run, ShowsEach}
-use Rattle.rd_play.specs.Words.{dumps}
+use Rattle.rd_run.specs.Alike.{End, IsFaultless}
+use Rattle.rd_run.specs.Ends.{Broke, Comes, Drawn, Ended, EndsWell, IsBroken, IsValidScript, IsWhole, LastBroke, ReportBroke, ScreenBroke, Sunk, Took, last_in, sent_in, sunk, told_in}
+use Rattle.rd_run.specs.Given.{AreTold, Given, HasFailed, IsMode}
+use Rattle.rd_run.specs.Reports.{last_line}
+use Rattle.rd_run.specs.Runs.{KnowsEach, Mode, ShowsEach, Turn, opened, run}
+use Rattle.rd_run.specs.declared.status.Status.{Status}
+use Rattle.rd_run.specs.declared.status.Status.TheVariants.{BadData, BadScript, Done, NoMemory, ReadFault, Usage, WriteFault}
+use Rattle.rd_run.proofs.Begun.{has-failed}
+use Rattle.rd_play.specs.Acts.{Finishes, SpentBy, Stopped, Tells, summary_of}
+use Rattle.rd_play.specs.Played.{Played, Spent}
 use Rattle.rd_play.specs.declared.halt.Stop.{Stop}
 use Rattle.rd_play.specs.declared.halt.Stop.TheVariants as stops
-use Rattle.rd_play.specs.declared.status.Status.{Status}
-use Rattle.rd_play.specs.declared.status.Status.TheVariants.{Done, Usage, BadScript, ReadFault, WriteFault, NoMemory}
 use Rattle.rd_play.proofs.Telling.{broke-after}
 
 later : {m n o : ℕ} → Rose m n → n ≤ o → Rose m o
@@ -25,109 +28,162 @@ broke-before a b c m n o bytes more h q none = record {
   front = (h.front.0, h.front.1, subst (Appends a c) (append-nil (bytes ++ take h.front.0 more)) (Appends-trans a b c (bytes ++ take h.front.0 more) [] h.front.2 none));
 }
 
-last-broke : (mode : Option Bool) (status : Status) (turns : List Turn) (bytes : List ℕ) (source : Drawn) (screen report : Sunk) → LastBroke mode status turns bytes source screen report
-    → IsBroken mode turns bytes source screen report
-last-broke None status turns bytes source screen report h = (status, h)
-last-broke (Some dump) status turns bytes source screen report h = inr (inr (status, h))
+last-broke : (given : Given) (mode : Option Mode) (status : Status) (turns : List Turn) (bytes : List ℕ) (source : Drawn) (screen report : Sunk) → LastBroke given mode status turns bytes source screen report
+    → IsBroken given mode turns bytes source screen report
+last-broke given None status turns bytes source screen report h = (status, h)
+last-broke given (Some mode) status turns bytes source screen report h = inr (inr (status, h))
 
 -- the last line of a status, behind the lines that were run
-told-last : (mode : Option Bool) (status : Status) (turns : List Turn) (bytes : List ℕ) (source : Drawn) (screen : Sunk) (result : Status) (lines : ℕ) (p0 p1 p2 : Option (List ℕ)) (n0 n1 n2 : ℕ)
-    → Comes mode status turns bytes source → lines ≡ length turns → Took screen (run (opened (dumps mode)) turns).sent → Took (sunk p0 p1 n0 n1) (run (opened (dumps mode)) turns).told → n0 ≤ n1
-    → Tells status (last_line status lines) result (sunk p1 p2 n1 n2) → Ended mode result turns bytes source screen (sunk p0 p2 n0 n2)
-told-last mode status turns bytes source screen result lines p0 p1 p2 n0 n1 n2 comes count sent told n (inl (same, line)) =
-    let told_last : Appends p1 p2 (last_line status (length turns)) = subst (λ k. Appends p1 p2 (last_line status k)) count line in
-    let whole : IsWhole mode status turns bytes source screen (sunk p0 p2 n0 n2) = record {
+told-last : (given : Given) (mode : Option Mode) (status : Status) (turns : List Turn) (bytes : List ℕ) (source : Drawn) (screen : Sunk) (result : Status) (line : List ℕ) (p0 p1 p2 : Option (List ℕ)) (n0 n1 n2 : ℕ)
+    → Comes given mode status turns bytes source → last_in mode status turns ≡ line → Took screen (sent_in mode turns) → Took (sunk p0 p1 n0 n1) (told_in mode turns) → n0 ≤ n1
+    → Tells status line result (sunk p1 p2 n1 n2) → Ended given mode result turns bytes source screen (sunk p0 p2 n0 n2)
+told-last given mode status turns bytes source screen result line p0 p1 p2 n0 n1 n2 comes same sent told n (inl (is, took)) =
+    let told_last : Appends p1 p2 (last_in mode status turns) = subst (Appends p1 p2) (sym same) took in
+    let whole : IsWhole given mode status turns bytes source screen (sunk p0 p2 n0 n2) = record {
       comes = comes;
       sent = sent;
-      told = Appends-trans p0 p1 p2 (run (opened (dumps mode)) turns).told (last_line status (length turns)) told told_last;
+      told = Appends-trans p0 p1 p2 (told_in mode turns) (last_in mode status turns) told told_last;
     } in
-    subst (λ r. Ended mode r turns bytes source screen (sunk p0 p2 n0 n2)) (sym same) (inl whole)
-told-last mode status turns bytes source screen result lines p0 p1 p2 n0 n1 n2 comes count sent told n (inr (same, broke)) =
-    let last : LastBroke mode status turns bytes source screen (sunk p0 p2 n0 n2) = record {
+    subst (λ r. Ended given mode r turns bytes source screen (sunk p0 p2 n0 n2)) (sym is) (inl whole)
+told-last given mode status turns bytes source screen result line p0 p1 p2 n0 n1 n2 comes same sent told n (inr (is, broke)) =
+    let last : LastBroke given mode status turns bytes source screen (sunk p0 p2 n0 n2) = record {
       comes = comes;
       sent = sent;
-      told = subst (λ k. Broke (sunk p0 p2 n0 n2) (run (opened (dumps mode)) turns).told (last_line status k)) count
-          (broke-after p0 p1 p2 n0 n1 n2 (run (opened (dumps mode)) turns).told (last_line status lines) told n broke);
+      told = subst (Broke (sunk p0 p2 n0 n2) (told_in mode turns)) (sym same) (broke-after p0 p1 p2 n0 n1 n2 (told_in mode turns) line told n broke);
     } in
-    inr (same, last-broke mode status turns bytes source screen (sunk p0 p2 n0 n2) last)
+    inr (is, last-broke given mode status turns bytes source screen (sunk p0 p2 n0 n2) last)
 
 -- the headline, over all runs
 abbrev pub ShowsAlways : Type 0
-ShowsAlways = (dump : Bool) (turns : List Turn) → ShowsEach (opened dump) turns
+ShowsAlways = (mode : Mode) (turns : List Turn) → ShowsEach (opened mode) turns
 
-pub ended : (stop : Stop) (mode : Option Bool) (turns : List Turn) (bytes : List ℕ) (source : Drawn) (screen : Sunk) (result : Status) (p0 p1 p2 : Option (List ℕ)) (n0 n1 n2 : ℕ)
-    → ShowsAlways → Stopped stop mode turns bytes source screen (sunk p0 p1 n0 n1) → n0 ≤ n1 → n1 ≤ n2 → Finishes stop result (sunk p1 p2 n1 n2) → Ended mode result turns bytes source screen (sunk p0 p2 n0 n2)
-ended (stops.Ends status lines) mode turns bytes source screen result p0 p1 p2 n0 n1 n2 law h m n f =
-    told-last mode status turns bytes source screen result lines p0 p1 p2 n0 n1 n2 h.0 h.1 h.2 h.3 m f
-ended stops.ScreenBroke None turns bytes source screen result p0 p1 p2 n0 n1 n2 law h m n f = absurd h
-ended stops.ScreenBroke (Some dump) turns bytes source screen result p0 p1 p2 n0 n1 n2 law h m n (inl (same, line)) =
-    let w = run (opened dump) turns in
-    let broke : ScreenBroke dump turns h.0 bytes source screen (sunk p0 p2 n0 n2) = record {
+pub ended : (stop : Stop) (given : Given) (mode : Option Mode) (turns : List Turn) (bytes : List ℕ) (source : Drawn) (screen : Sunk) (result : Status) (p0 p1 p2 : Option (List ℕ)) (n0 n1 n2 : ℕ)
+    → ShowsAlways → Stopped stop given mode turns bytes source screen (sunk p0 p1 n0 n1) → n0 ≤ n1 → n1 ≤ n2 → Finishes stop result (sunk p1 p2 n1 n2)
+    → Ended given mode result turns bytes source screen (sunk p0 p2 n0 n2)
+ended (stops.Ends status lines) given mode turns bytes source screen result p0 p1 p2 n0 n1 n2 law h m n f =
+    told-last given mode status turns bytes source screen result (last_line status lines) p0 p1 p2 n0 n1 n2 h.0 h.1 h.2 h.3 m f
+ended (stops.Sums s) given mode turns bytes source screen result p0 p1 p2 n0 n1 n2 law h m n f =
+    told-last given mode Done turns bytes source screen result (summary_of s) p0 p1 p2 n0 n1 n2 h.0 h.1 h.2 h.3 m f
+ended stops.ScreenBroke given None turns bytes source screen result p0 p1 p2 n0 n1 n2 law h m n f = absurd h
+ended stops.ScreenBroke given (Some mode) turns bytes source screen result p0 p1 p2 n0 n1 n2 law h m n (inl (same, line)) =
+    let w = run (opened mode) turns in
+    let broke : ScreenBroke given mode turns h.0 bytes source screen (sunk p0 p2 n0 n2) = record {
       hand = h.1;
       sent = h.2;
       told = inl (Appends-trans p0 p1 p2 w.told (last_line WriteFault (length turns)) h.3 line);
     } in
     inr (same, inl (h.0, broke))
-ended stops.ScreenBroke (Some dump) turns bytes source screen result p0 p1 p2 n0 n1 n2 law h m n (inr (same, front)) =
-    let w = run (opened dump) turns in
-    let broke : ScreenBroke dump turns h.0 bytes source screen (sunk p0 p2 n0 n2) = record {
+ended stops.ScreenBroke given (Some mode) turns bytes source screen result p0 p1 p2 n0 n1 n2 law h m n (inr (same, front)) =
+    let w = run (opened mode) turns in
+    let broke : ScreenBroke given mode turns h.0 bytes source screen (sunk p0 p2 n0 n2) = record {
       hand = h.1;
       sent = h.2;
       told = inr (broke-after p0 p1 p2 n0 n1 n2 w.told (last_line WriteFault (length turns)) h.3 m front);
     } in
     inr (same, inl (h.0, broke))
-ended stops.ReportBroke None turns bytes source screen result p0 p1 p2 n0 n1 n2 law h m n f = absurd h
-ended stops.ReportBroke (Some dump) turns bytes source screen result p0 p1 p2 n0 n1 n2 law h m n f =
-    let broke : ReportBroke dump turns h.0 bytes source screen (sunk p0 p2 n0 n2) = record {
+ended stops.ReportBroke given None turns bytes source screen result p0 p1 p2 n0 n1 n2 law h m n f = absurd h
+ended stops.ReportBroke given (Some mode) turns bytes source screen result p0 p1 p2 n0 n1 n2 law h m n f =
+    let broke : ReportBroke given mode turns h.0 bytes source screen (sunk p0 p2 n0 n2) = record {
       hand = h.1;
       sent = h.2;
       told = broke-before p0 p1 p2 n0 n1 n2 _ _ h.3 n f.1;
-      shows = law dump (turns ++ h.0 ∷ []);
+      shows = law mode (turns ++ h.0 ∷ []);
+      tells = h.4;
     } in
     inr (f.0, inr (inl (h.0, broke)))
 
--- what holds of the run of each stop holds of it under any mode that says as much
-pub as-mode : (stop : Stop) (mode : Option Bool) (dump : Bool) (turns : List Turn) (bytes : List ℕ) (source : Drawn) (screen report : Sunk) → mode ≡ Some dump
-    → Stopped stop (Some dump) turns bytes source screen report → Stopped stop mode turns bytes source screen report
-as-mode stop mode dump turns bytes source screen report e h = subst (λ m. Stopped stop m turns bytes source screen report) (sym e) h
+-- ---- the steps
 
--- words that are not known
-pub not-known : (mode : Option Bool) (source : Drawn) (s p : Option (List ℕ)) (m n : ℕ) → mode ≡ None → Stopped (stops.Ends Usage 0) mode [] [] source (sunk s s m m) (sunk p p n n)
-not-known mode source s p m n e =
-    let at : Stopped (stops.Ends Usage 0) None [] [] source (sunk s s m m) (sunk p p n n) = ((refl, refl), refl, Appends-nil s, Appends-nil p) in
-    subst (λ x. Stopped (stops.Ends Usage 0) x [] [] source (sunk s s m m) (sunk p p n n)) (sym e) at
+write-fault : (result : Status) (line : List ℕ) (report : Sunk) → Tells WriteFault line result report → result ≡ WriteFault
+write-fault result line report (inl (same, took)) = same
+write-fault result line report (inr (same, broke)) = same
+
+pub spent : (stop : Stop) (given : Given) (mode : Option Mode) (turns : List Turn) (bytes : List ℕ) (left : Option (List ℕ)) (result : Status) (report : Sunk) (c0 c1 : ℕ)
+    → SpentBy stop given mode turns bytes left c0 c1 → Finishes stop result report → Spent given mode result turns bytes left c0 c1
+spent (stops.Ends status lines) given mode turns bytes left result report c0 c1 h f = inl h
+spent (stops.Sums s) given mode turns bytes left result report c0 c1 h f = inl h
+spent stops.ScreenBroke given mode turns bytes left result report c0 c1 h f = inr (write-fault result (last_line WriteFault 0) report f, h)
+spent stops.ReportBroke given mode turns bytes left result report c0 c1 h f = inr (f.0, h)
+
+-- ---- the whole
+
+abbrev pub KnowsAlways : Type 0
+KnowsAlways = (mode : Mode) (turns : List Turn) → KnowsEach (opened mode) turns
+
+-- a run that has begun
+pub played : (stop : Stop) (given : Given) (mode : Mode) (l0 : Option (List ℕ)) (source : Drawn) (screen : Sunk) (result : Status) (p0 p1 p2 : Option (List ℕ)) (n0 n1 n2 c0 c1 : ℕ)
+    → ShowsAlways → KnowsAlways → n0 ≤ n1 → n1 ≤ n2
+    → (turns : List Turn) × (bytes : List ℕ) × Consumes l0 source.left bytes × Stopped stop given (Some mode) turns bytes source screen (sunk p0 p1 n0 n1)
+    × SpentBy stop given (Some mode) turns bytes source.left c0 c1
+    → Finishes stop result (sunk p1 p2 n1 n2) → Played given result l0 source screen (sunk p0 p2 n0 n2) c0 c1
+played stop given mode l0 source screen result p0 p1 p2 n0 n1 n2 c0 c1 shows knows m n h f = (
+  Some mode,
+  h.0,
+  h.1,
+  h.2,
+  ended stop given (Some mode) h.0 h.1 source screen result p0 p1 p2 n0 n1 n2 shows h.3 m n f,
+  shows mode h.0,
+  knows mode h.0,
+  spent stop given (Some mode) h.0 h.1 source.left result (sunk p1 p2 n1 n2) c0 c1 h.4 f,
+)
+
+last-none : (status : Status) → last_in None status [] ≡ last_line status 0
+last-none status = refl
+
+-- one that has not
+pub unplayed : (status : Status) (given : Given) (l : Option (List ℕ)) (q : ℕ) (s : Option (List ℕ)) (m : ℕ) (result : Status) (p0 p1 : Option (List ℕ)) (n0 n1 c : ℕ) → ShowsAlways → n0 ≤ n1
+    → ((source : Drawn) → Comes given None status [] [] source) → Finishes (stops.Ends status 0) result (sunk p0 p1 n0 n1)
+    → Played given result l (record { left = l; faults_before = q; faults_after = q }) (sunk s s m m) (sunk p0 p1 n0 n1) c c
+unplayed status given l q s m result p0 p1 n0 n1 c shows n comes f =
+    let source : Drawn = record { left = l; faults_before = q; faults_after = q } in
+    let none : n0 ≤ n0 = omega arith in
+    let same : c ≤ c + 0 = omega arith in (
+      None,
+      [],
+      [],
+      Consumes-nil l,
+      ended (stops.Ends status 0) given None [] [] source (sunk s s m m) result p0 p0 p1 n0 n0 n1 shows (comes source, last-none status, Appends-nil s, Appends-nil p0) none n f,
+      tt,
+      tt,
+      inl same,
+    )
 
 -- ---- what an end says
 
--- a write broke where a sink failed
-not-broken : (mode : Option Bool) (turns : List Turn) (bytes : List ℕ) (source : Drawn) (screen report : Sunk) → (Rose screen.faults_before screen.faults_after → ⊥)
-    → (Rose report.faults_before report.faults_after → ⊥) → IsBroken mode turns bytes source screen report → ⊥
-not-broken None turns bytes source screen report s r (status, broke) = r broke.told.rose
-not-broken (Some dump) turns bytes source screen report s r (inl (line, broke)) = s broke.sent.rose
-not-broken (Some dump) turns bytes source screen report s r (inr (inl (t, broke))) = r broke.told.rose
-not-broken (Some dump) turns bytes source screen report s r (inr (inr (status, broke))) = r broke.told.rose
+in-rose : (mode : Mode) (turns : List Turn) (bytes : List ℕ) (source : Drawn) (given : Given) → Comes given (Some mode) ReadFault turns bytes source → Rose source.faults_before source.faults_after
+in-rose mode turns bytes source given c = c.1.2
 
--- where no sink failed all was written
-pub whole-of : (mode : Option Bool) (status : Status) (turns : List Turn) (bytes : List ℕ) (source : Drawn) (screen report : Sunk) → (Rose screen.faults_before screen.faults_after → ⊥)
-    → (Rose report.faults_before report.faults_after → ⊥) → Ended mode status turns bytes source screen report → IsWhole mode status turns bytes source screen report
-whole-of mode status turns bytes source screen report s r (inl whole) = whole
-whole-of mode status turns bytes source screen report s r (inr (same, broken)) = absurd (not-broken mode turns bytes source screen report s r broken)
+comes-read : (given : Given) (mode : Option Mode) (turns : List Turn) (bytes : List ℕ) (source : Drawn) → Comes given mode ReadFault turns bytes source
+    → Rose source.faults_before source.faults_after ⊎ HasFailed given
+comes-read given None turns bytes source c = inr (has-failed given c.0)
+comes-read given (Some mode) turns bytes source c = inl (in-rose mode turns bytes source given c)
 
-comes-read : (mode : Option Bool) (turns : List Turn) (bytes : List ℕ) (source : Drawn) → Comes mode ReadFault turns bytes source → Rose source.faults_before source.faults_after
-comes-read None turns bytes source c = absurd c
-comes-read (Some dump) turns bytes source c = c.1
+-- a read fault comes where the source failed, or a file that the words name
+pub read-rose : (given : Given) (mode : Option Mode) (status : Status) (turns : List Turn) (bytes : List ℕ) (source : Drawn) (screen report : Sunk) → Ended given mode status turns bytes source screen report
+    → status ≡ ReadFault → Rose source.faults_before source.faults_after ⊎ HasFailed given
+read-rose given mode status turns bytes source screen report (inl whole) e = comes-read given mode turns bytes source (subst (λ s. Comes given mode s turns bytes source) e whole.comes)
+read-rose given mode status turns bytes source screen report (inr (same, broken)) e = absurd (let q : WriteFault ≡ ReadFault = sym same ∙ e in cc)
 
--- a read fault comes where the source failed
-pub read-rose : (mode : Option Bool) (status : Status) (turns : List Turn) (bytes : List ℕ) (source : Drawn) (screen report : Sunk) → Ended mode status turns bytes source screen report → status ≡ ReadFault
-    → Rose source.faults_before source.faults_after
-read-rose mode status turns bytes source screen report (inl whole) e = comes-read mode turns bytes source (subst (λ s. Comes mode s turns bytes source) e whole.comes)
-read-rose mode status turns bytes source screen report (inr (same, broken)) e = absurd (let q : WriteFault ≡ ReadFault = sym same ∙ e in cc)
+pub played-read : (given : Given) (result : Status) (l0 : Option (List ℕ)) (source : Drawn) (screen report : Sunk) (c0 c1 : ℕ) → Played given result l0 source screen report c0 c1 → result ≡ ReadFault
+    → Rose source.faults_before source.faults_after ⊎ HasFailed given
+played-read given result l0 source screen report c0 c1 p e = read-rose given p.0 result p.1 p.2 source screen report p.4 e
 
--- where the words are not known the status says so
-pub comes-unknown : (status : Status) (turns : List Turn) (bytes : List ℕ) (source : Drawn) → Comes None status turns bytes source → (turns ≡ []) × (status ≡ Usage)
-comes-unknown Done turns bytes source c = absurd c
-comes-unknown Usage turns bytes source c = (c.0, refl)
-comes-unknown (BadScript number fault) turns bytes source c = absurd c
-comes-unknown ReadFault turns bytes source c = absurd c
-comes-unknown WriteFault turns bytes source c = absurd c
-comes-unknown NoMemory turns bytes source c = absurd c
+-- a run over a valid script ends well
+abbrev pub EndWell : Type 0
+EndWell = (script : List ℕ) (mode : Mode) (e : End) → IsMode e.given mode → IsValidScript mode script → IsFaultless script e → EndsWell e.status
+
+pub played-well : (law : EndWell) (given : Given) (result : Status) (l0 : Option (List ℕ)) (source : Drawn) (screen report : Sunk) (c0 c1 : ℕ) (mode : Mode) (script : List ℕ)
+    → Played given result l0 source screen report c0 c1 → IsMode given mode → AreTold given → l0 ≡ Some script → IsValidScript mode script → (HasFailed given → ⊥)
+    → (Rose source.faults_before source.faults_after → ⊥) → (Rose screen.faults_before screen.faults_after → ⊥) → (Rose report.faults_before report.faults_after → ⊥) → EndsWell result
+played-well law given result l0 source screen report c0 c1 mode script p begun files left valid fetched read sent told =
+    let e : End = record { given = given; mode = p.0; status = result; turns = p.1; bytes = p.2; source = source; screen = screen; report = report } in
+    let whole : IsFaultless script e = record {
+      taken = subst (λ l. Consumes l source.left p.2) left p.3;
+      ended = p.4;
+      files = files;
+      fetched = fetched;
+      read = read;
+      sent = sent;
+      told = told;
+    } in
+    law script mode e begun valid whole

@@ -1,10 +1,9 @@
 pub mod Acting
-pub mod Alike
+pub mod Collecting
 pub mod Ending
-pub mod Headline
+pub mod Making
+pub mod Opening
 pub mod Reading
 pub mod Running
-pub mod Scripts
+pub mod Taking
 pub mod Telling
-pub mod Turns
-pub mod Validity

@@ -6,7 +6,7 @@ use Rattle.std.proofs.KnownBytes.{Consumes-nil, Consumes-trans}
 use Rattle.rd_io.specs.Lines.{Reading, Answers, GivesWhole, GivesLast, GivesNone, IsUnbroken, lines_of, joined, last_of, unread}
 use Rattle.rd_io.specs.declared.lines.LineFault.{LineFault}
 use Rattle.rd_io.proofs.Cuts.{lines-joined}
-use Rattle.rd_play.specs.Ends.{AreFirst, AreInLimits}
+use Rattle.rd_run.specs.Ends.{AreFirst, AreInLimits}
 
 pub record HasRead (lines : List (List ℕ)) (bytes : List ℕ) (l0 l1 : Option (List ℕ)) (r : Reading) : Type 0 where
   pub taken : Consumes l0 l1 bytes

@@ -1,22 +1,21 @@
 -- What writes do to a sink, one after another.
-use Rattle.std.proofs.Common.{drop-cons, false, true, if◌then◌else◌, codes, OnErr, Result, Ok, Err, IsErr, ◌≡◌, ℕ, ◌+◌, ◌<◌, ◌≤◌, inl, inr, List, [], ◌∷◌, ◌++◌, length, take, drop, get_or, Option, None, Some, refl, sym, ap, ◌∙◌, subst, append_assoc, append-nil, arith, length-append, take-append-drop, flat_map, add-one}
+use Rattle.std.proofs.Common.{codes, decimal, drop-cons, false, true, Result, Ok, Err, IsErr, ◌≡◌, ℕ, ◌+◌, ◌<◌, ◌≤◌, List, [], ◌∷◌, ◌++◌, length, take, drop, get_or, Option, sym, ap, ◌∙◌, subst, append_assoc, append-nil, arith, length-append, take-append-drop, flat_map, add-one}
 use Rattle.std.proofs.Math.Seq.{take-append_seam}
 use Rattle.std.proofs.lemmas.List.Concat.{flat_map-append}
 use Rattle.std.specs.Io.KnownBytes.{Appends}
 use Rattle.std.proofs.KnownBytes.{Appends-trans}
-use Rattle.rd_io.specs.Devices.{Rose, AppendsFront, Writes}
+use Rattle.rd_io.specs.Devices.{AppendsFront, Writes}
 use Rattle.rd_io.proofs.Bytes.{rose-after}
-use Rattle.rd_io.specs.declared.traits.Failed.{Failed}
-use Rattle.rd_session.specs.Facts.{facts_of}
-use Rattle.rd_session.specs.Redisplay.{Laid}
-use Rattle.rd_session.specs.Sessions.{SessionValue}
-use Rattle.rd_update.specs.Updates.{update}
-use Rattle.rd_play.specs.Acts.{Acts, IsTold}
-use Rattle.rd_play.specs.Ends.{sunk, Broke}
-use Rattle.rd_play.specs.Reports.{last_line, key_part, shown_line}
-use Rattle.rd_play.specs.Runs.{Standing, dump_lines, redisplayed, unshown}
-use Rattle.rd_play.specs.declared.halt.Halt.{Halt}
-use Rattle.rd_play.specs.declared.status.Status.{Status}
+use Rattle.rd_run.specs.Ends.{sunk, Broke}
+use Rattle.rd_run.specs.Reports.{key_part, last_line, op_key, part_of, refused_part}
+use Rattle.rd_run.specs.declared.status.ScriptFault.{ScriptFault}
+use Rattle.rd_run.specs.declared.status.ScriptFault.TheVariants as faults
+use Rattle.rd_run.specs.declared.status.Status.{Status}
+use Rattle.rd_script.specs.declared.fault.OpFault.{OpFault}
+use Rattle.rd_state.specs.declared.refused.Refused.{Refused}
+use Rattle.rd_state.specs.declared.refused.Refused.TheVariants.{BadFormat}
+use Rattle.rd_play.specs.Acts.{summary_of}
+use Rattle.rd_play.specs.declared.halt.Summary.{Summary}
 
 -- a front of the bytes
 pub front-of : (a c : Option (List ℕ)) (bytes front rest : List ℕ) → bytes ≡ front ++ rest → Appends a c front → AppendsFront a c bytes
@@ -76,10 +75,10 @@ pub pieces-broke-at : (X T E : Type 0) (f : X → List ℕ) (xs : List X) (i : �
     → Appends a b (flat_map f (take i xs)) → AppendsFront b c (f x) → Writes a c (flat_map f xs) r
 pieces-broke-at X T E f xs i x r a b c within h e p q = pieces-broke X T E f xs i x r a b c within h p (subst (λ y. AppendsFront b c (f y)) e q)
 
--- the bytes of the pieces that say where a line is bad
-pub kind-bytes : (number kind shown named : List ℕ) → number ≡ shown → kind ≡ named
-    → codes "script:" ++ (number ++ (codes ": " ++ (kind ++ []))) ≡ codes "script:" ++ (shown ++ (codes ": " ++ named))
-kind-bytes number kind shown named p q = ap (λ l. codes "script:" ++ (number ++ (codes ": " ++ l))) (append-nil kind ∙ q) ∙ ap (λ l. codes "script:" ++ (l ++ (codes ": " ++ named))) p
+-- the bytes of the pieces that say where a fault stands
+pub located-bytes : (word number shown kind : List ℕ) → number ≡ shown
+    → word ++ (58 ∷ (number ++ (58 ∷ 32 ∷ (kind ++ [])))) ≡ word ++ (58 ∷ (shown ++ (58 ∷ 32 ∷ kind)))
+located-bytes word number shown kind p = ap (λ l. word ++ (58 ∷ (number ++ (58 ∷ 32 ∷ l)))) (append-nil kind) ∙ ap (λ l. word ++ (58 ∷ (l ++ (58 ∷ 32 ∷ kind)))) p
 
 -- other bytes that are the same
 pub writes-same : (T E : Type 0) (r : Result T E) (a c : Option (List ℕ)) (xs ys : List ℕ) → xs ≡ ys → Writes a c xs r → Writes a c ys r
@@ -91,24 +90,22 @@ last-told T E r a c s t lines e h = subst (λ x. Writes a c (last_line x lines) 
 pub key-told : (T E : Type 0) (r : Result T E) (a c : Option (List ℕ)) (o p : Option (List ℕ)) → o ≡ p → Writes a c (key_part p) r → Writes a c (key_part o) r
 key-told T E r a c o p e h = subst (λ x. Writes a c (key_part x) r) (sym e) h
 
--- a redisplay was shown, and the report was told of it or broke
-pub shown-acts : (answer : Result Unit Failed) (result : Result Unit Halt) (place : Standing) (laid : Laid) (new : SessionValue) (rows : ℕ) (s0 s1 r0 r1 : Option (List ℕ)) (m0 m1 n0 n1 : ℕ)
-    → IsTold answer result
-    → new ≡ record { state = laid.state; current = Some (update place.current laid.picture None).screen; matrix = laid.view }
-    → rows ≡ (update place.current laid.picture None).rows
-    → Appends s0 s1 (update place.current laid.picture None).bytes
-    → Writes r0 r1 (shown_line (place.lines + 1) rows ++ dump_lines place.dumps new.current (facts_of new.state new.matrix)) answer
-    → OnErr answer (Rose n0 n1)
-    → Acts result (λ starved. if starved then unshown place else redisplayed place laid)
-    (record { dumps = place.dumps; state = new.state; current = new.current; lines = place.lines + 1 }) (sunk s0 s1 m0 m1) (sunk r0 r1 n0 n1)
-shown-acts (Ok x) result place laid new rows s0 s1 r0 r1 m0 m1 n0 n1 told becomes count sent writes rose =
-    let After : SessionValue → Standing = λ s. record { dumps = place.dumps; state = s.state; current = s.current; lines = place.lines + 1 } in
-    let Told : SessionValue → ℕ → Type 0 = λ s k. Appends r0 r1 (shown_line (place.lines + 1) k ++ dump_lines place.dumps s.current (facts_of s.state s.matrix)) in
-    let Whole : Result Unit Halt → Type 0 = λ r. Acts r (λ starved. if starved then unshown place else redisplayed place laid) (After new) (sunk s0 s1 m0 m1) (sunk r0 r1 n0 n1) in
-    subst Whole (sym told) (false, refl, ap After becomes, sent, subst (λ t. Told t (update place.current laid.picture None).rows) becomes (subst (Told new) count writes.whole))
-shown-acts (Err x) result place laid new rows s0 s1 r0 r1 m0 m1 n0 n1 told becomes count sent writes rose =
-    let After : SessionValue → Standing = λ s. record { dumps = place.dumps; state = s.state; current = s.current; lines = place.lines + 1 } in
-    let Told : SessionValue → ℕ → Type 0 = λ s k. AppendsFront r0 r1 (shown_line (place.lines + 1) k ++ dump_lines place.dumps s.current (facts_of s.state s.matrix)) in
-    let Whole : Result Unit Halt → Type 0 = λ r. Acts r (λ starved. if starved then unshown place else redisplayed place laid) (After new) (sunk s0 s1 m0 m1) (sunk r0 r1 n0 n1) in
-    let front = subst (λ t. Told t (update place.current laid.picture None).rows) becomes (subst (Told new) count writes.front) in
-    subst Whole (sym told) (false, refl, sent, record { rose = rose; front = front })
+-- what stands behind the kind of a line that is no op, and of an op that was refused
+pub op-told : (T E : Type 0) (r : Result T E) (a c : Option (List ℕ)) (fault : ScriptFault) (of : OpFault) (key : Option (List ℕ)) → fault ≡ faults.Op of → key ≡ op_key of → Writes a c (key_part key) r
+    → Writes a c (part_of fault) r
+op-told T E r a c fault of key e k h = subst (λ f. Writes a c (part_of f) r) (sym e) (subst (λ x. Writes a c (key_part x) r) k h)
+
+pub refused-told : (T E : Type 0) (r : Result T E) (a c : Option (List ℕ)) (fault : ScriptFault) (refused : Refused) → fault ≡ faults.Refused refused → Writes a c (refused_part refused) r
+    → Writes a c (part_of fault) r
+refused-told T E r a c fault refused e h = subst (λ f. Writes a c (part_of f) r) (sym e) h
+
+pub column-told : (T E : Type 0) (r : Result T E) (a c : Option (List ℕ)) (refused : Refused) (column : ℕ) (shown : List ℕ) → refused ≡ BadFormat column → shown ≡ decimal column
+    → Writes a c (32 ∷ (shown ++ [])) r → Writes a c (refused_part refused) r
+column-told T E r a c refused column shown e same h =
+    subst (λ f. Writes a c (refused_part f) r) (sym e) (writes-same T E r a c (32 ∷ (shown ++ [])) (32 ∷ decimal column) (ap (λ l. 32 ∷ l) (append-nil shown ∙ same)) h)
+
+-- the bytes of a summary's pieces
+pub summary-bytes : (a b c d e : List ℕ) (s : Summary) → a ≡ decimal s.lines → b ≡ decimal s.shown → c ≡ decimal s.characters → d ≡ decimal s.start.pos → e ≡ decimal s.start.row
+    → codes "lines " ++ (a ++ (codes "\nredisplays " ++ (b ++ (codes "\ncharacters " ++ (c ++ (codes "\nstart " ++ (d ++ (46 ∷ (e ++ codes "\n"))))))))) ≡ summary_of s
+summary-bytes a b c d e s p q r t u =
+    λ i. codes "lines " ++ (p i ++ (codes "\nredisplays " ++ (q i ++ (codes "\ncharacters " ++ (r i ++ (codes "\nstart " ++ (t i ++ (46 ∷ (u i ++ codes "\n")))))))))

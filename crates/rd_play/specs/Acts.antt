@@ -1,58 +1,114 @@
 -- What the steps of a run do, by what they answer.
-use Rattle.std.specs.Prelude.{◌≡◌, ℕ, ◌+◌, ◌⊎◌, Bool, true, false, List, [], ◌++◌, length, Option, None, Some, Result, Ok, Err}
+use Rattle.std.specs.Prelude.{◌≡◌, ℕ, ◌+◌, ◌≤◌, ◌⊎◌, Bool, true, false, List, [], ◌++◌, length, Option, None, Some, Result, Ok, Err}
+use Rattle.rd_files.specs.declared.fault.DataFault.{DataFault}
+use Rattle.rd_files.specs.declared.fault.DataFault.TheVariants as data_faults
+use Rattle.rd_io.specs.declared.lines.LineFault.{LineFault}
+use Rattle.rd_io.specs.declared.lines.LineFault.TheVariants as reader
 use Rattle.rd_io.specs.declared.traits.Failed.{Failed}
+use Rattle.rd_layout.specs.Copies.{without_copies}
+use Rattle.rd_run.specs.Ends.{Broke, Comes, Drawn, IsInHand, Sunk, Took, allowed_in, last_in, sent_in, told_in}
+use Rattle.rd_run.specs.Given.{Given, IsMode}
+use Rattle.rd_run.specs.Reports.{last_line, summary_lines}
+use Rattle.rd_run.specs.Runs.{Effect, Mode, Standing, Turn, effect, is_sent, opened, run}
+use Rattle.rd_run.specs.declared.status.ScriptFault.TheVariants.{TooLong, TooMany}
+use Rattle.rd_run.specs.declared.status.Status.{Status}
+use Rattle.rd_run.specs.declared.status.Status.TheVariants.{BadData, BadScript, Done, NoMemory, ReadFault, WriteFault}
+use Rattle.rd_ucd.specs.Data.{Data}
+use Rattle.rd_words.specs.Words.{WordValues}
+use Rattle.rd_play.specs.Played.{SpentInHand, turn_of}
 use Rattle.rd_play.specs.declared.act.Run.{Run}
-use Rattle.rd_play.specs.Reports.{last_line}
-use Rattle.rd_play.specs.Words.{dumps}
-use Rattle.rd_play.specs.Runs.{Turn, Standing, Effect, opened, run, effect}
-use Rattle.rd_play.specs.Ends.{Drawn, Sunk, Took, Broke, Comes, IsInHand}
 use Rattle.rd_play.specs.declared.halt.Halt.{Halt}
 use Rattle.rd_play.specs.declared.halt.Halt.TheVariants as halts
 use Rattle.rd_play.specs.declared.halt.Stop.{Stop}
 use Rattle.rd_play.specs.declared.halt.Stop.TheVariants as stops
-use Rattle.rd_play.specs.declared.status.Status.{Status}
-use Rattle.rd_play.specs.declared.status.Status.TheVariants.{BadScript, ReadFault, WriteFault, NoMemory}
-use Rattle.rd_play.specs.declared.status.ScriptFault.TheVariants.{TooLong, TooMany}
-use Rattle.rd_io.specs.declared.lines.LineFault.{LineFault}
-use Rattle.rd_io.specs.declared.lines.LineFault.TheVariants as reader
+use Rattle.rd_play.specs.declared.halt.Summary.{Summary}
 
--- where a run stands
+-- ---- where a run stands
+
+abbrev pub mode_of : Run → Mode
+mode_of r = record { files = r.session.files; dumps = r.dumps; generated = r.generated }
+
+-- where a run stands, however often the rows of its last layouts were copied
 abbrev pub standing : Run → Standing
-standing r = record { dumps = r.dumps; state = r.session.state; current = r.session.current; lines = r.lines }
+standing r = record { mode = mode_of r; session = without_copies r.session; lines = r.lines; shown = r.shown }
+
+-- no line of it was run
+abbrev pub IsNew : Run → Type 0
+IsNew r = standing r ≡ (opened (mode_of r)).now
+
+-- a run begins by what is given, or a status comes before the first line
+abbrev pub Begins : Result Run Status → Given → Type 0
+Begins (Ok r) given = IsMode given (mode_of r) × IsNew r
+Begins (Err status) given = (source : Drawn) → Comes given None status [] [] source
+
+-- the status that tells of a fault of the data files
+abbrev pub status_of : DataFault → Status
+status_of (data_faults.Bad bad) = BadData bad.file bad.line bad.kind
+status_of data_faults.Read = ReadFault
+status_of data_faults.Memory = NoMemory
+
+-- a run of no line over data files, as the words ask for it, or want of memory
+abbrev pub IsOpened : Result Run Status → Data → WordValues → Type 0
+IsOpened (Ok r) files words = (mode_of r ≡ record { files = files; dumps = words.dumps; generated = words.generate }) × IsNew r
+IsOpened (Err status) files words = status ≡ NoMemory
+
+-- ---- a line
 
 -- a report that failed ends the run
 abbrev pub IsTold : Result Unit Failed → Result Unit Halt → Type 0
 IsTold (Ok _) result = result ≡ Ok tt
 IsTold (Err _) result = result ≡ Err halts.ReportBroke
 
--- a line as the run has it
-abbrev pub turn_of : List ℕ → Bool → Turn
-turn_of line starved = record { line = line; starved = starved }
+-- the report is told of a redisplay: each one of a script that is read, and one without memory of a generated script
+abbrev pub IsToldOf : Option ℕ → Bool → Type 0
+IsToldOf generated starved = (generated ≡ None) ⊎ (starved ≡ true)
 
--- What a line did, whose effect is this, where it found memory for its redisplay and where it did not. `after` is where the run
+-- What a line did, whose effect is this, where it found memory for its redisplay and where it did not. `next` is where the run
 -- then stands.
 abbrev pub Acts : Result Unit Halt → (Bool → Effect) → Standing → Sunk → Sunk → Type 0
-Acts (Ok _) does after screen report =
-    (starved : Bool) × ((does starved).fault ≡ None) × (after ≡ (does starved).now) × Took screen (does starved).sent × Took report (does starved).told
-Acts (Err (halts.Bad fault)) does after screen report =
+Acts (Ok _) does next screen report =
+    (starved : Bool) × ((does starved).fault ≡ None) × (next ≡ (does starved).now) × Took screen (does starved).sent × Took report (does starved).told
+Acts (Err (halts.Bad fault)) does next screen report =
     ((does false).fault ≡ Some fault) × Took screen (does false).sent × Took report (does false).told
-Acts (Err halts.NoMemory) does after screen report = Took screen [] × Took report []
-Acts (Err halts.ScreenBroke) does after screen report =
-    ((does false).shown ≡ true) × Broke screen [] (does false).sent × Took report []
-Acts (Err halts.ReportBroke) does after screen report =
-    (starved : Bool) × ((does false).shown ≡ true) × Took screen (does starved).sent × Broke report [] (does starved).told
+Acts (Err halts.NoMemory) does next screen report = Took screen [] × Took report []
+Acts (Err halts.ScreenBroke) does next screen report =
+    (is_sent (does false).outcome ≡ true) × Broke screen [] (does false).sent × Took report []
+Acts (Err halts.ReportBroke) does next screen report = (starved : Bool) × (is_sent (does false).outcome ≡ true) × Took screen (does starved).sent
+    × Broke report [] (does starved).told × IsToldOf (does starved).now.mode.generated starved
 
--- What was written before the last line of the report. Where the words are not known no line is run, so none breaks.
-abbrev pub Stopped : Stop → Option Bool → List Turn → List ℕ → Drawn → Sunk → Sunk → Type 0
-Stopped (stops.Ends status lines) mode turns bytes source screen report =
-    Comes mode status turns bytes source × (lines ≡ length turns) × Took screen (run (opened (dumps mode)) turns).sent × Took report (run (opened (dumps mode)) turns).told
-Stopped stop None turns bytes source screen report = ⊥
-Stopped stops.ScreenBroke (Some dump) turns bytes source screen report =
-    (line : List ℕ) × IsInHand dump turns line bytes source.left × Broke screen (run (opened dump) turns).sent (effect (run (opened dump) turns).now (turn_of line false)).sent
-    × Took report (run (opened dump) turns).told
-Stopped stops.ReportBroke (Some dump) turns bytes source screen report =
-    (t : Turn) × IsInHand dump turns t.line bytes source.left × Took screen ((run (opened dump) turns).sent ++ (effect (run (opened dump) turns).now t).sent)
-    × Broke report (run (opened dump) turns).told (effect (run (opened dump) turns).now t).told
+-- how many elements a line placed, whose effect is this: none where memory ended the run
+abbrev pub Places : Result Unit Halt → Effect → ℕ → ℕ → Type 0
+Places (Ok _) e before after = after ≤ before + e.allowed
+Places (Err (halts.Bad fault)) e before after = after ≤ before + e.allowed
+Places (Err halts.NoMemory) e before after = after ≤ before
+Places (Err halts.ScreenBroke) e before after = after ≤ before + e.allowed
+Places (Err halts.ReportBroke) e before after = after ≤ before + e.allowed
+
+-- ---- the end
+
+abbrev pub summary_of : Summary → List ℕ
+summary_of s = summary_lines s.lines s.shown s.characters s.start
+
+-- What was written before the last line of the report. Where no run has begun no line is run, so none breaks.
+abbrev pub Stopped : Stop → Given → Option Mode → List Turn → List ℕ → Drawn → Sunk → Sunk → Type 0
+Stopped (stops.Ends status lines) given mode turns bytes source screen report =
+    Comes given mode status turns bytes source × (last_in mode status turns ≡ last_line status lines) × Took screen (sent_in mode turns) × Took report (told_in mode turns)
+Stopped (stops.Sums s) given mode turns bytes source screen report =
+    Comes given mode Done turns bytes source × (last_in mode Done turns ≡ summary_of s) × Took screen (sent_in mode turns) × Took report (told_in mode turns)
+Stopped stop given None turns bytes source screen report = ⊥
+Stopped stops.ScreenBroke given (Some mode) turns bytes source screen report =
+    (line : List ℕ) × IsInHand given mode turns line bytes source.left
+    × Broke screen (run (opened mode) turns).sent (effect (run (opened mode) turns).now (turn_of line false)).sent × Took report (run (opened mode) turns).told
+Stopped stops.ReportBroke given (Some mode) turns bytes source screen report =
+    (t : Turn) × IsInHand given mode turns t.line bytes source.left × Took screen ((run (opened mode) turns).sent ++ (effect (run (opened mode) turns).now t).sent)
+    × Broke report (run (opened mode) turns).told (effect (run (opened mode) turns).now t).told × IsToldOf mode.generated t.starved
+
+-- how many elements were placed by then
+abbrev pub SpentBy : Stop → Given → Option Mode → List Turn → List ℕ → Option (List ℕ) → ℕ → ℕ → Type 0
+SpentBy (stops.Ends status lines) given mode turns bytes left before after = after ≤ before + allowed_in mode turns
+SpentBy (stops.Sums s) given mode turns bytes left before after = after ≤ before + allowed_in mode turns
+SpentBy stops.ScreenBroke given mode turns bytes left before after = SpentInHand given mode turns bytes left before after
+SpentBy stops.ReportBroke given mode turns bytes left before after = SpentInHand given mode turns bytes left before after
 
 -- a line was told, and this status is answered, or the report broke
 abbrev pub Tells : Status → List ℕ → Status → Sunk → Type 0
@@ -61,6 +117,7 @@ Tells status line result report = ((result ≡ status) × Took report line) ⊎ 
 -- the last line was told, where that may be
 abbrev pub Finishes : Stop → Status → Sunk → Type 0
 Finishes (stops.Ends status lines) result report = Tells status (last_line status lines) result report
+Finishes (stops.Sums s) result report = Tells Done (summary_of s) result report
 Finishes stops.ScreenBroke result report = Tells WriteFault (last_line WriteFault 0) result report
 Finishes stops.ReportBroke result report = (result ≡ WriteFault) × Took report []
 

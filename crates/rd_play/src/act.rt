@@ -1,53 +1,70 @@
 //! What one line does.
-ghost use Rattle.std.specs.Prelude.{◌≡◌, ℕ, ◌≤◌, ◌<◌, ◌++◌, Some, Ok, IfOk, OnErr, if◌then◌else◌};
+ghost use Rattle.std.specs.Prelude.{◌≡◌, ℕ, ◌≤◌, ◌<◌, ◌++◌, [], false, None, Some, List, Ok, IfOk, OnErr, Option, if◌then◌else◌, is_some, unwrap_or};
 ghost use Rattle.rd_io.specs.Devices.{Rose, Writes};
+ghost use Rattle.rd_layout.specs.Copies.{without_copies};
+ghost use Rattle.rd_layout.specs.Facts.{facts_of};
+ghost use Rattle.rd_layout.specs.Sessions.{length_of, session_step};
+ghost use Rattle.rd_state.specs.States.{main_name};
+ghost use Rattle.rd_state.specs.Windows.{selected_window};
+ghost use Rattle.rd_play.specs.Acts.{Acts, IsNew, IsTold, Places, mode_of, standing, summary_of};
+ghost use Rattle.rd_play.specs.Played.{turn_of};
+ghost use Rattle.rd_run.specs.Ends.{summary, sunk};
+ghost use Rattle.rd_run.specs.Reports.{shown_line, stopped_line};
+ghost use Rattle.rd_run.specs.Runs.{asked, dump_lines, effect, effect_of_op, is_blank, redisplayed, stepped, unshown};
 ghost use Rattle.rd_script.specs.Forms.{IsInForm};
-ghost use Rattle.rd_script.specs.Reading.{reading};
-ghost use Rattle.rd_ascii.specs.Steps.{step};
-ghost use Rattle.rd_session.specs.Facts.{facts_of};
-ghost use Rattle.rd_session.specs.Redisplay.{laid_out};
-ghost use Rattle.rd_play.specs.Acts.{Acts, IsTold, standing, turn_of};
-ghost use Rattle.rd_play.specs.Ends.{sunk};
-ghost use Rattle.rd_play.specs.Reports.{shown_line};
-ghost use Rattle.rd_play.specs.Runs.{asked, dump_lines, effect, effect_of_op, is_blank, opened, redisplayed, stepped, unshown};
 
-use crate::halt::Halt;
-use crate::report::{tell_no_memory, tell_shown};
-use crate::status::ScriptFault;
+use crate::halt::{Halt, Summary};
+use crate::report::{tell_no_memory, tell_shown, tell_stopped};
 use crate::windows::Windows;
-use rd_ascii::Refused;
 use rd_base::limits::LINES;
-use rd_base::{Memory, Steps};
+use rd_base::{Anchor, Memory, Steps};
+use rd_files::DataFiles;
 use rd_io::{Failed, Sink};
+use rd_layout::{
+    Outcome, copies_change_no_allowance, copies_change_no_op, sent_redisplays_are_determined,
+};
+use rd_run::ScriptFault;
 use rd_script::{Op, OpFault, print_dump, read_op};
-use rd_session::{Outcome, Session};
+use rd_session::Session;
+use rd_state::Refused;
 use std::alloc::Global;
 use std::sync::ledger::Ledger;
 
-/// A run: whether dumps are asked for, the session, room for what a dump says of the windows, and how many lines were run.
+/// A run: whether dumps are asked for, the number of a generated script where it stands in place of the one that is read, the
+/// session, room for what a dump says of the windows, and how many lines were run and redisplays shown.
 #[derive(Drop)]
 pub struct Run {
-    dumps: bool,
-    session: Session,
-    windows: Windows,
+    pub dumps: bool,
+    pub generated: Option<u32>,
+    pub session: Session,
+    pub windows: Windows,
     pub lines: u32,
+    pub shown: u32,
 }
 
 impl Run {
-    /// A run of no line.
-    pub fn new(alloc: Global, dumps: bool) -> Result<Run, Memory>
-        ensures { IfOk result (λ run. standing run ≡ (opened dumps).now) }
+    /// A run of no line, over the data files.
+    pub fn new(
+        alloc: Global,
+        files: DataFiles,
+        dumps: bool,
+        generated: Option<u32>,
+    ) -> Result<Run, Memory>
+        ensures mode { IfOk result (λ run. mode_of run ≡ record { files = record { classes = files.classes; mirrors = files.mirrors; brackets = files.brackets }; dumps = dumps; generated = generated }) }
+        ensures begun { IfOk result (λ run. IsNew run) }
     {
         Ok(Run {
             dumps,
-            session: Session::new(alloc)?,
+            generated,
+            session: Session::new(alloc, files.classes, files.mirrors, files.brackets)?,
             windows: Windows::new(alloc)?,
             lines: 0,
+            shown: 0,
         })
     }
 
     /// Runs one line. A redisplay's bytes are sent before the report is told of it.
-    #[tactic(auto, unfolding(crate::specs::Runs::effect))]
+    #[tactic(auto, unfolding(rd_run::specs::Runs::effect))]
     pub fn line<K: Sink, R: Sink, L: Ledger>(
         &mut self,
         alloc: Global,
@@ -56,10 +73,13 @@ impl Run {
         report: &mut R,
         steps: &mut Steps<L>,
     ) -> Result<(), Halt>
-        requires { self.old.lines < LINES }
+        requires few { self.old.lines < LINES }
+        requires counted { self.old.shown ≤ self.old.lines }
         ensures acts { Acts result (λ starved. effect (standing self.old) (turn_of line.now starved)) (standing self.new)
             (sunk (K.written screen.old) (K.written screen.new) (K.faults screen.old) (K.faults screen.new))
             (sunk (R.written report.old) (R.written report.new) (R.faults report.old) (R.faults report.new)) }
+        ensures places { Places result (effect (standing self.old) (turn_of line.now false)) steps.old steps.new }
+        ensures counted { self.new.shown ≤ self.new.lines }
         ensures screen { K.faults screen.old ≤ K.faults screen.new }
         ensures report { R.faults report.old ≤ R.faults report.new }
     {
@@ -83,36 +103,33 @@ impl Run {
         steps: &mut Steps<L>,
     ) -> Result<(), Halt>
         requires few { self.old.lines < LINES }
+        requires counted { self.old.shown ≤ self.old.lines }
         requires form { IsInForm op }
         ensures acts { Acts result (λ starved. effect_of_op starved (standing self.old) op) (standing self.new)
             (sunk (K.written screen.old) (K.written screen.new) (K.faults screen.old) (K.faults screen.new))
             (sunk (R.written report.old) (R.written report.new) (R.faults report.old) (R.faults report.new)) }
+        ensures places { Places result (effect_of_op false (standing self.old) op) steps.old steps.new }
+        ensures counted { self.new.shown ≤ self.new.lines }
         ensures screen { K.faults screen.old ≤ K.faults screen.new }
         ensures report { R.faults report.old ≤ R.faults report.new }
     {
         match asked(&op) {
-            None => self.apply(op, screen, report),
-            Some(None) => self.show(screen, report, steps),
-            Some(Some(_)) => Err(Halt::Bad(ScriptFault::Op(OpFault::NotBuilt))),
+            None => self.apply(op),
+            Some(stop) => self.show(stop, screen, report, steps),
         }
     }
 
     /// Applies an op other than redisplay.
-    fn apply<K: Sink, R: Sink>(
-        &mut self,
-        op: Op,
-        screen: &mut K,
-        report: &mut R,
-    ) -> Result<(), Halt>
+    fn apply(&mut self, op: Op) -> Result<(), Halt>
         requires few { self.old.lines < LINES }
+        requires counted { self.old.shown ≤ self.old.lines }
         requires form { IsInForm op }
         requires applied { asked op ≡ None }
-        ensures acts { Acts result (λ starved. stepped (standing self.old) op (step self.old.session.state op)) (standing self.new)
-            (sunk (K.written screen.old) (K.written screen.new) (K.faults screen.old) (K.faults screen.new))
-            (sunk (R.written report.old) (R.written report.new) (R.faults report.old) (R.faults report.new)) }
-        ensures screen { K.faults screen.old ≤ K.faults screen.new }
-        ensures report { R.faults report.old ≤ R.faults report.new }
+        ensures acts { (sent told : Option (List ℕ)) (m n : ℕ) → Acts result (λ starved. stepped (standing self.old) op (session_step (without_copies self.old.session) op)) (standing self.new)
+            (sunk sent sent m m) (sunk told told n n) }
+        ensures counted { self.new.shown ≤ self.new.lines }
     {
+        copies_change_no_op();
         match self.session.apply(op) {
             Ok(()) => {
                 self.lines += 1;
@@ -123,34 +140,104 @@ impl Run {
         }
     }
 
-    /// Redisplays, and tells the report of it.
+    /// Redisplays, up to so many rows where a stop is given, and tells the report of it.
     fn show<K: Sink, R: Sink, L: Ledger>(
         &mut self,
+        stop: Option<u32>,
         screen: &mut K,
         report: &mut R,
         steps: &mut Steps<L>,
     ) -> Result<(), Halt>
-        requires { self.old.lines < LINES }
-        ensures acts { Acts result (λ starved. if starved then unshown (standing self.old) else redisplayed (standing self.old) (laid_out self.old.session.state))
-            (standing self.new)
+        requires few { self.old.lines < LINES }
+        requires counted { self.old.shown ≤ self.old.lines }
+        ensures acts { Acts result (λ starved. if starved then unshown (standing self.old) else redisplayed (standing self.old) stop) (standing self.new)
             (sunk (K.written screen.old) (K.written screen.new) (K.faults screen.old) (K.faults screen.new))
             (sunk (R.written report.old) (R.written report.new) (R.faults report.old) (R.faults report.new)) }
+        ensures places { Places result (redisplayed (standing self.old) stop) steps.old steps.new }
+        ensures counted { self.new.shown ≤ self.new.lines }
         ensures screen { K.faults screen.old ≤ K.faults screen.new }
         ensures report { R.faults report.old ≤ R.faults report.new }
     {
+        copies_change_no_allowance();
+        copies_change_no_op();
+        sent_redisplays_are_determined();
         self.lines += 1;
-        match self.session.redisplay(screen, None, steps) {
-            Outcome::Shown(rows) => told(tell_redisplay(
+        match self.session.redisplay(screen, stop, steps) {
+            Outcome::Shown(rows) => {
+                self.shown += 1;
+                told(self.tell_shown(report, rows))
+            }
+            Outcome::Stopped(rows) => told(self.tell_stopped(report, rows)),
+            Outcome::NoMemory => told(tell_no_memory(report, self.lines)),
+            Outcome::WriteFault => Err(Halt::ScreenBroke),
+        }
+    }
+
+    /// Tells that the redisplay of the last line was shown, with its dump where that is asked for; a generated script tells nothing.
+    fn tell_shown<R: Sink>(&mut self, report: &mut R, rows: u32) -> Result<(), Failed>
+        ensures bytes { Writes (R.written report.old) (R.written report.new) (if is_some self.old.generated then []
+            else shown_line self.old.lines rows ++ dump_lines self.old.dumps self.old.session.current (facts_of self.old.session)) result }
+        ensures never_falls { R.faults report.old ≤ R.faults report.new }
+        ensures failed { OnErr result (Rose (R.faults report.old) (R.faults report.new)) }
+        ensures read { OnErr result (self.old.generated ≡ None) }
+        ensures same { standing self.new ≡ standing self.old }
+    {
+        match self.generated {
+            Some(_) => Ok(()),
+            None => tell_redisplay(
                 report,
                 &self.session,
                 &mut self.windows,
                 self.dumps,
                 self.lines,
                 rows,
-            )),
-            Outcome::NoMemory => told(tell_no_memory(report, self.lines)),
-            Outcome::WriteFault => Err(Halt::ScreenBroke),
+            ),
         }
+    }
+
+    /// Tells that the redisplay of the last line was stopped; a generated script tells nothing.
+    fn tell_stopped<R: Sink>(&self, report: &mut R, rows: u32) -> Result<(), Failed>
+        ensures bytes { Writes (R.written report.old) (R.written report.new) (if is_some self.now.generated then [] else stopped_line self.now.lines rows) result }
+        ensures never_falls { R.faults report.old ≤ R.faults report.new }
+        ensures failed { OnErr result (Rose (R.faults report.old) (R.faults report.new)) }
+        ensures read { OnErr result (self.now.generated ≡ None) }
+    {
+        match self.generated {
+            Some(_) => Ok(()),
+            None => tell_stopped(report, self.lines, rows),
+        }
+    }
+
+    /// What is told at the end of a generated script.
+    pub fn summary(&self) -> Summary
+        ensures { summary_of result ≡ summary (standing self.now) }
+    {
+        Summary {
+            lines: self.lines,
+            shown: self.shown,
+            characters: characters_of(&self.session),
+            start: start_of(&self.session),
+        }
+    }
+}
+
+/// How many characters the buffer `main` has.
+fn characters_of(session: &Session) -> u32
+    ensures { result ≡ unwrap_or (length_of main_name session.now.state.buffers) 0 }
+{
+    match session.length("main") {
+        Some(characters) => characters,
+        None => 0,
+    }
+}
+
+/// Where the selected window starts.
+fn start_of(session: &Session) -> Anchor
+    ensures { result ≡ (selected_window session.now.state).anchor }
+{
+    match session.start(session.selected()) {
+        Some(start) => start,
+        None => Anchor { pos: 1, row: 0 },
     }
 }
 
@@ -164,7 +251,7 @@ fn tell_redisplay<R: Sink>(
     rows: u32,
 ) -> Result<(), Failed>
     ensures bytes { Writes (R.written report.old) (R.written report.new)
-        (shown_line number rows ++ dump_lines dumps session.now.current (facts_of session.now.state session.now.matrix)) result }
+        (shown_line number rows ++ dump_lines dumps session.now.current (facts_of session.now)) result }
     ensures never_falls { R.faults report.old ≤ R.faults report.new }
     ensures failed { OnErr result (Rose (R.faults report.old) (R.faults report.new)) }
 {
@@ -173,15 +260,14 @@ fn tell_redisplay<R: Sink>(
 }
 
 /// Writes the dump of the screen where it is asked for.
-#[tactic(auto, unfolding(crate::specs::Runs::dump_lines))]
+#[tactic(auto, unfolding(rd_run::specs::Runs::dump_lines))]
 fn tell_dump<R: Sink>(
     report: &mut R,
     session: &Session,
     windows: &mut Windows,
     dumps: bool,
 ) -> Result<(), Failed>
-    ensures bytes { Writes (R.written report.old) (R.written report.new)
-        (dump_lines dumps session.now.current (facts_of session.now.state session.now.matrix)) result }
+    ensures bytes { Writes (R.written report.old) (R.written report.new) (dump_lines dumps session.now.current (facts_of session.now)) result }
     ensures never_falls { R.faults report.old ≤ R.faults report.new }
     ensures failed { OnErr result (Rose (R.faults report.old) (R.faults report.new)) }
 {

@@ -1,5 +1,6 @@
 //! Why a run goes no further.
-use crate::status::{ScriptFault, Status};
+use rd_base::Anchor;
+use rd_run::{ScriptFault, Status};
 
 /// Why a line was not run to its end.
 #[derive(Debug, Drop)]
@@ -14,10 +15,25 @@ pub enum Halt {
     ReportBroke,
 }
 
-/// What ends a run: a status that the report is still to be told, with how many lines were run, or a sink that failed.
+/// What is told at the end of a generated script.
+#[derive(Clone, Copy, Debug, Drop)]
+pub struct Summary {
+    /// How many lines were run.
+    pub lines: u32,
+    /// How many redisplays were shown.
+    pub shown: u32,
+    /// How many characters the buffer `main` has.
+    pub characters: u32,
+    /// Where the selected window starts.
+    pub start: Anchor,
+}
+
+/// What ends a run: a status that the report is still to be told, with how many lines were run; the end of a generated script; or
+/// a sink that failed.
 #[derive(Debug, Drop)]
 pub enum Stop {
     Ends(Status, u32),
+    Sums(Summary),
     ScreenBroke,
     ReportBroke,
 }

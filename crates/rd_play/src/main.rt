@@ -1,13 +1,12 @@
-//! Runs a script from standard input: the terminal's bytes go to standard output, the report to standard error, and the status ends
-//! the process. With the word `--dump` the report has a dump behind each redisplay.
+//! Runs a script: standard input is the script, the terminal's bytes go to standard output, the report to standard error, and the
+//! status ends the process. The words name the data files; with `--generate N` a script that is made from N takes the place of
+//! standard input, which is not read, and with `--dump` the report has a dump behind each redisplay.
 #![tactic(auto)]
 
 mod act;
 mod halt;
-mod law;
 mod report;
 mod run;
-mod status;
 mod top;
 mod windows;
 
@@ -15,6 +14,7 @@ ghost use Rattle.std.specs.Prelude.{◌≡◌, ◌<◌};
 
 use rd_base::Steps;
 use rd_io::{HostFiles, StdSink, StdSource};
+use std::alloc::Global;
 use std::marker::Brand;
 use std::process::ExitCode;
 use std::sync::ledger::{Blank, Ledger};
@@ -30,10 +30,9 @@ fn start<L: Ledger>(rt: &HostRuntime, blank: Blank) -> io::Result<u8>
     requires parts { blank.parts ≡ L.parts }
     requires some { 0 < L.parts }
 {
-    let words = env::args(rt)?.skip(1).collect(rt.alloc())?;
     let status = top::play(
         rt.alloc(),
-        words,
+        words(rt)?,
         &mut StdSource::new(rt.stdin()),
         &mut HostFiles::new(rt),
         &mut StdSink::new(rt.stdout()),
@@ -41,6 +40,22 @@ fn start<L: Ledger>(rt: &HostRuntime, blank: Blank) -> io::Result<u8>
         &mut Steps::<L>::new(blank),
     );
     Ok(status.code())
+}
+
+/// The words behind the program's name. In the place of words of which one is no UTF-8 stands an empty word, which is as faulty.
+fn words(rt: &HostRuntime) -> io::Result<Vec<String>> {
+    match env::args(rt) {
+        Ok(args) => Ok(args.skip(1).collect(rt.alloc())?),
+        Err(fault) if fault.kind() == io::ErrorKind::InvalidData => faulty(rt.alloc()),
+        Err(fault) => Err(fault),
+    }
+}
+
+/// An empty word.
+fn faulty(alloc: Global) -> io::Result<Vec<String>> {
+    let mut words = Vec::new(alloc);
+    words.push(String::new(alloc))?;
+    Ok(words)
 }
 
 #[cfg(test)]

@@ -1,14 +1,22 @@
 //! The lines of the report, written without memory.
-ghost use Rattle.std.specs.Prelude.{◌≡◌, ℕ, ◌≤◌, ◌++◌, OnErr, flat_map, option_map, codes, decimal};
+ghost use Rattle.std.specs.Prelude.{◌≡◌, ℕ, ◌≤◌, ◌++◌, OnErr, flat_map, option_map, codes};
 ghost use Rattle.rd_io.specs.Devices.{Rose, Writes};
-ghost use Rattle.rd_play.specs.Reports.{shown_line, no_memory_line, last_line, kind_of, key_of, op_kind, op_key, refused_kind, key_part, bytes_of, bytes_of_character};
+ghost use Rattle.rd_play.specs.Acts.{summary_of};
+ghost use Rattle.rd_run.specs.Reports.{bytes_of, bytes_of_character, data_kind, file_word, key_part, kind_of, last_line, located, no_memory_line, op_key, op_kind, part_of, refused_kind, refused_part, shown_line, stopped_line, ucd_kind};
 
-use crate::status::{ScriptFault, Status};
+use crate::halt::Summary;
 use itoa::Buffer;
-use rd_ascii::Refused;
 use rd_base::Ch;
+use rd_files::{DataFile, DataKind};
 use rd_io::{Failed, Sink, write_whole};
+use rd_run::{ScriptFault, Status};
 use rd_script::OpFault;
+use rd_state::Refused;
+use rd_ucd::UcdFault;
+
+/// What is told where the words are not those of the command.
+const USAGE: &[u8] =
+    b"usage: redisplay --data FILE --mirror FILE [--brackets FILE] [--generate N] [--dump]\n";
 
 /// Writes pieces, one behind the other.
 fn tell<R: Sink>(report: &mut R, pieces: &[&[u8]]) -> Result<(), Failed>
@@ -33,6 +41,19 @@ pub fn tell_shown<R: Sink>(report: &mut R, number: u32, rows: u32) -> Result<(),
     let number = first.format(number).as_bytes();
     let rows = second.format(rows).as_bytes();
     tell(report, &[number, b": shown ", rows, b" rows\n"])
+}
+
+/// Tells that a redisplay was stopped, and how many rows were sent.
+pub fn tell_stopped<R: Sink>(report: &mut R, number: u32, rows: u32) -> Result<(), Failed>
+    ensures bytes { Writes (R.written report.old) (R.written report.new) (stopped_line number rows) result }
+    ensures never_falls { R.faults report.old ≤ R.faults report.new }
+    ensures failed { OnErr result (Rose (R.faults report.old) (R.faults report.new)) }
+{
+    let mut first = Buffer::new();
+    let mut second = Buffer::new();
+    let number = first.format(number).as_bytes();
+    let rows = second.format(rows).as_bytes();
+    tell(report, &[number, b": stopped ", rows, b" rows\n"])
 }
 
 /// Tells that a redisplay found no memory.
@@ -71,7 +92,6 @@ fn op_kind(fault: &OpFault) -> &'static [u8]
         OpFault::Missing(_) => b"Missing",
         OpFault::BadField(_) => b"BadField",
         OpFault::Extra(_) => b"Extra",
-        OpFault::NotBuilt => b"NotBuilt",
         OpFault::Memory => b"Memory",
     }
 }
@@ -90,27 +110,94 @@ fn refused_kind(refused: Refused) -> &'static [u8]
         Refused::TextTooLarge => b"TextTooLarge",
         Refused::ObjectTooLong => b"ObjectTooLong",
         Refused::TooManyBuffers => b"TooManyBuffers",
+        Refused::TooManyWindows => b"TooManyWindows",
         Refused::TooManyOverlays => b"TooManyOverlays",
         Refused::TooManyObjects => b"TooManyObjects",
+        Refused::TooSmall => b"TooSmall",
         Refused::LastWindow => b"LastWindow",
-        Refused::NotBuilt => b"NotBuilt",
+        Refused::BadFormat(_) => b"BadFormat",
+        Refused::NotShown => b"NotShown",
         Refused::Memory => b"Memory",
     }
 }
 
-/// The key that a fault tells.
-fn key_of(fault: &ScriptFault) -> Option<&[Ch]>
-    ensures { option_map (λ key. key.now) result ≡ key_of fault.now }
+/// The name of a data file.
+fn file_word(file: DataFile) -> &'static [u8]
+    ensures { result.now ≡ file_word file }
+{
+    match file {
+        DataFile::ClassFile => b"data",
+        DataFile::MirrorFile => b"mirror",
+        DataFile::BracketFile => b"brackets",
+    }
+}
+
+/// The name of what is wrong with a data file.
+fn data_kind(kind: DataKind) -> &'static [u8]
+    ensures { result.now ≡ data_kind kind }
+{
+    match kind {
+        DataKind::TooLarge => b"TooLarge",
+        DataKind::Bad(fault) => ucd_kind(fault),
+    }
+}
+
+/// The name of the kind of a bad line of a data file.
+fn ucd_kind(fault: UcdFault) -> &'static [u8]
+    ensures { result.now ≡ ucd_kind fault }
 {
     match fault {
-        ScriptFault::Op(OpFault::Missing(key)) => Some(key.as_slice()),
-        ScriptFault::Op(OpFault::BadField(key)) => Some(key.as_slice()),
-        ScriptFault::Op(OpFault::Extra(key)) => Some(key.as_slice()),
+        UcdFault::BadLine(_) => b"BadLine",
+        UcdFault::BadCode(_) => b"BadCode",
+        UcdFault::BadClass(_) => b"BadClass",
+        UcdFault::NotAscending(_) => b"NotAscending",
+        UcdFault::BadRange(_) => b"BadRange",
+        UcdFault::Memory => b"Memory",
+    }
+}
+
+/// The key that a fault tells.
+fn op_key(fault: &OpFault) -> Option<&[Ch]>
+    ensures { option_map (λ key. key.now) result ≡ op_key fault.now }
+{
+    match fault {
+        OpFault::Missing(key) => Some(key.as_slice()),
+        OpFault::BadField(key) => Some(key.as_slice()),
+        OpFault::Extra(key) => Some(key.as_slice()),
         _ => None,
     }
 }
 
-/// Writes the key of a fault behind a space, where there is one.
+/// Writes what stands behind the kind of a fault: the key of a field or the column of a bad format, behind a space.
+fn tell_part<R: Sink>(report: &mut R, fault: &ScriptFault) -> Result<(), Failed>
+    ensures bytes { Writes (R.written report.old) (R.written report.new) (part_of fault.now) result }
+    ensures never_falls { R.faults report.old ≤ R.faults report.new }
+    ensures failed { OnErr result (Rose (R.faults report.old) (R.faults report.new)) }
+{
+    match fault {
+        ScriptFault::Op(fault) => tell_key(report, op_key(fault)),
+        ScriptFault::Refused(refused) => tell_column(report, *refused),
+        ScriptFault::TooLong => Ok(()),
+        ScriptFault::TooMany => Ok(()),
+    }
+}
+
+/// Writes the column of a bad format behind a space.
+fn tell_column<R: Sink>(report: &mut R, refused: Refused) -> Result<(), Failed>
+    ensures bytes { Writes (R.written report.old) (R.written report.new) (refused_part refused) result }
+    ensures never_falls { R.faults report.old ≤ R.faults report.new }
+    ensures failed { OnErr result (Rose (R.faults report.old) (R.faults report.new)) }
+{
+    match refused {
+        Refused::BadFormat(column) => {
+            let mut buffer = Buffer::new();
+            tell(report, &[b" ", buffer.format(column).as_bytes()])
+        }
+        _ => Ok(()),
+    }
+}
+
+/// Writes the key of a field behind a space, where there is one.
 fn tell_key<R: Sink>(report: &mut R, key: Option<&[Ch]>) -> Result<(), Failed>
     ensures bytes { Writes (R.written report.old) (R.written report.new) (key_part (option_map (λ key. key.now) key.entry)) result }
     ensures never_falls { R.faults report.old ≤ R.faults report.new }
@@ -152,34 +239,54 @@ fn tell_character<R: Sink>(report: &mut R, ch: Ch) -> Result<(), Failed>
     }
 }
 
-/// Tells that a line is bad.
-fn tell_bad<R: Sink>(report: &mut R, number: u32, fault: &ScriptFault) -> Result<(), Failed>
-    ensures bytes { (lines : ℕ) → Writes (R.written report.old) (R.written report.new) (last_line (Status.BadScript number fault.now) lines) result }
-    ensures never_falls { R.faults report.old ≤ R.faults report.new }
-    ensures failed { OnErr result (Rose (R.faults report.old) (R.faults report.new)) }
-{
-    tell_kind(report, number, fault)?;
-    tell_end(report, key_of(fault))
-}
-
-/// Writes where a line is bad, and the kind of its fault.
-fn tell_kind<R: Sink>(report: &mut R, number: u32, fault: &ScriptFault) -> Result<(), Failed>
-    ensures bytes { Writes (R.written report.old) (R.written report.new) (codes "script:" ++ (decimal number ++ (codes ": " ++ kind_of fault.now))) result }
+/// Writes where a fault stands, and its kind.
+fn tell_located<R: Sink>(
+    report: &mut R,
+    word: &[u8],
+    number: u32,
+    kind: &[u8],
+) -> Result<(), Failed>
+    ensures bytes { Writes (R.written report.old) (R.written report.new) (located word.now number kind.now) result }
     ensures never_falls { R.faults report.old ≤ R.faults report.new }
     ensures failed { OnErr result (Rose (R.faults report.old) (R.faults report.new)) }
 {
     let mut buffer = Buffer::new();
     let number = buffer.format(number).as_bytes();
-    tell(report, &[b"script:", number, b": ", kind_of(fault)])
+    tell(report, &[word, b":", number, b": ", kind])
 }
 
-/// Writes the key of a fault behind a space, where there is one, and the newline.
-fn tell_end<R: Sink>(report: &mut R, key: Option<&[Ch]>) -> Result<(), Failed>
-    ensures bytes { Writes (R.written report.old) (R.written report.new) (key_part (option_map (λ key. key.now) key.entry) ++ codes "\n") result }
+/// Tells that a line of the script is bad.
+fn tell_bad<R: Sink>(report: &mut R, number: u32, fault: &ScriptFault) -> Result<(), Failed>
+    ensures bytes { (lines : ℕ) → Writes (R.written report.old) (R.written report.new) (last_line (Status.BadScript number fault.now) lines) result }
     ensures never_falls { R.faults report.old ≤ R.faults report.new }
     ensures failed { OnErr result (Rose (R.faults report.old) (R.faults report.new)) }
 {
-    tell_key(report, key)?;
+    tell_located(report, b"script", number, kind_of(fault))?;
+    tell_end(report, fault)
+}
+
+/// Writes what stands behind the kind of a fault, and the newline.
+fn tell_end<R: Sink>(report: &mut R, fault: &ScriptFault) -> Result<(), Failed>
+    ensures bytes { Writes (R.written report.old) (R.written report.new) (part_of fault.now ++ codes "\n") result }
+    ensures never_falls { R.faults report.old ≤ R.faults report.new }
+    ensures failed { OnErr result (Rose (R.faults report.old) (R.faults report.new)) }
+{
+    tell_part(report, fault)?;
+    write_whole(report, b"\n")
+}
+
+/// Tells that a data file is bad.
+fn tell_bad_data<R: Sink>(
+    report: &mut R,
+    file: DataFile,
+    number: u32,
+    kind: DataKind,
+) -> Result<(), Failed>
+    ensures bytes { (lines : ℕ) → Writes (R.written report.old) (R.written report.new) (last_line (Status.BadData file number kind) lines) result }
+    ensures never_falls { R.faults report.old ≤ R.faults report.new }
+    ensures failed { OnErr result (Rose (R.faults report.old) (R.faults report.new)) }
+{
+    tell_located(report, file_word(file), number, data_kind(kind))?;
     write_whole(report, b"\n")
 }
 
@@ -194,6 +301,33 @@ fn tell_done<R: Sink>(report: &mut R, lines: u32) -> Result<(), Failed>
     tell(report, &[b"done ", lines, b" lines\n"])
 }
 
+/// Tells what stands at the end of a generated script.
+pub fn tell_summary<R: Sink>(report: &mut R, summary: Summary) -> Result<(), Failed>
+    ensures bytes { Writes (R.written report.old) (R.written report.new) (summary_of summary) result }
+    ensures never_falls { R.faults report.old ≤ R.faults report.new }
+    ensures failed { OnErr result (Rose (R.faults report.old) (R.faults report.new)) }
+{
+    let mut lines = Buffer::new();
+    let mut shown = Buffer::new();
+    let mut characters = Buffer::new();
+    let mut pos = Buffer::new();
+    let mut row = Buffer::new();
+    let pieces = [
+        b"lines ",
+        lines.format(summary.lines).as_bytes(),
+        b"\nredisplays ",
+        shown.format(summary.shown).as_bytes(),
+        b"\ncharacters ",
+        characters.format(summary.characters).as_bytes(),
+        b"\nstart ",
+        pos.format(summary.start.pos).as_bytes(),
+        b".",
+        row.format(summary.start.row).as_bytes(),
+        b"\n",
+    ];
+    tell(report, &pieces)
+}
+
 /// Tells how the run ended, behind so many lines of the script.
 pub fn tell_last<R: Sink>(report: &mut R, status: &Status, lines: u32) -> Result<(), Failed>
     ensures bytes { Writes (R.written report.old) (R.written report.new) (last_line status.now lines) result }
@@ -202,7 +336,8 @@ pub fn tell_last<R: Sink>(report: &mut R, status: &Status, lines: u32) -> Result
 {
     match status {
         Status::Done => tell_done(report, lines),
-        Status::Usage => write_whole(report, b"usage: redisplay [--dump]\n"),
+        Status::Usage => write_whole(report, USAGE),
+        Status::BadData(file, number, kind) => tell_bad_data(report, *file, *number, *kind),
         Status::BadScript(number, fault) => tell_bad(report, *number, fault),
         Status::ReadFault => write_whole(report, b"read fault\n"),
         Status::WriteFault => write_whole(report, b"write fault\n"),

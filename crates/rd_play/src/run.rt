@@ -1,40 +1,43 @@
-//! The run over the lines of a source.
-ghost use Rattle.std.specs.Prelude.{◌≡◌, ℕ, ◌≤◌, ◌<◌, List, Some};
+//! The run over the lines of a source, and over those of a generated script.
+ghost use Rattle.std.specs.Prelude.{◌≡◌, ℕ, ◌≤◌, ◌<◌, [], length, List, None, Option, Some};
 ghost use Rattle.std.specs.Io.KnownBytes.{Consumes};
-ghost use Rattle.rd_play.specs.Acts.{Stopped, ended_by, halted_by};
-ghost use Rattle.rd_play.specs.Ends.{drawn, sunk};
-ghost use Rattle.rd_play.specs.Runs.{Turn};
+ghost use Rattle.rd_generate.specs.Generated.{script};
+ghost use Rattle.rd_play.specs.Acts.{IsNew, SpentBy, Stopped, ended_by, halted_by, mode_of};
+ghost use Rattle.rd_run.specs.Ends.{drawn, sunk};
+ghost use Rattle.rd_run.specs.Given.{Given, IsMode};
+ghost use Rattle.rd_run.specs.Runs.{Turn};
 
 use crate::act::Run;
 use crate::halt::{Halt, Stop};
-use crate::status::{ScriptFault, Status};
-use rd_base::Steps;
 use rd_base::limits::LINES;
+use rd_base::{ListOf, Steps};
+use rd_generate::generated;
 use rd_io::{LineFault, Lines, Sink, Source};
+use rd_run::{ScriptFault, Status};
 use std::alloc::Global;
 use std::sync::ledger::Ledger;
 
 /// Runs the lines of a script, one after another, until one ends the run or none is left.
 pub fn run_script<S: Source, K: Sink, R: Sink, L: Ledger>(
     alloc: Global,
-    dumps: bool,
+    run: &mut Run,
     script: &mut S,
     screen: &mut K,
     report: &mut R,
     steps: &mut Steps<L>,
 ) -> Stop
-    ensures stopped { (turns : List Turn) × (bytes : List ℕ) × Consumes (S.left script.old) (S.left script.new) bytes
-        × Stopped result (Some dumps) turns bytes (drawn (S.left script.new) (S.faults script.old) (S.faults script.new))
+    requires read { run.old.generated ≡ None }
+    requires begun { IsNew run.old }
+    ensures stopped { (given : Given) → IsMode given (mode_of run.old) → (turns : List Turn) × (bytes : List ℕ) × Consumes (S.left script.old) (S.left script.new) bytes
+        × Stopped result given (Some (mode_of run.old)) turns bytes (drawn (S.left script.new) (S.faults script.old) (S.faults script.new))
         (sunk (K.written screen.old) (K.written screen.new) (K.faults screen.old) (K.faults screen.new))
-        (sunk (R.written report.old) (R.written report.new) (R.faults report.old) (R.faults report.new)) }
+        (sunk (R.written report.old) (R.written report.new) (R.faults report.old) (R.faults report.new))
+        × SpentBy result given (Some (mode_of run.old)) turns bytes (S.left script.new) steps.old steps.new }
     ensures script { S.faults script.old ≤ S.faults script.new }
     ensures screen { K.faults screen.old ≤ K.faults screen.new }
     ensures report { R.faults report.old ≤ R.faults report.new }
 {
     let Ok(mut lines) = Lines::new(alloc) else {
-        return Stop::Ends(Status::NoMemory, 0);
-    };
-    let Ok(mut run) = Run::new(alloc, dumps) else {
         return Stop::Ends(Status::NoMemory, 0);
     };
     'each_line: loop {
@@ -49,6 +52,60 @@ pub fn run_script<S: Source, K: Sink, R: Sink, L: Ledger>(
             Err(halt) => return halted_by(halt, before),
         }
     }
+}
+
+/// Runs the lines of the script that is made from a number, one after another, until one ends the run or none is left.
+pub fn run_generated<K: Sink, R: Sink, L: Ledger>(
+    alloc: Global,
+    number: u32,
+    run: &mut Run,
+    screen: &mut K,
+    report: &mut R,
+    steps: &mut Steps<L>,
+) -> Stop
+    requires generated { run.old.generated ≡ Some number }
+    requires begun { IsNew run.old }
+    ensures stopped { (given : Given) (left : Option (List ℕ)) (faults : ℕ) → IsMode given (mode_of run.old) → (turns : List Turn)
+        × Stopped result given (Some (mode_of run.old)) turns [] (drawn left faults faults)
+        (sunk (K.written screen.old) (K.written screen.new) (K.faults screen.old) (K.faults screen.new))
+        (sunk (R.written report.old) (R.written report.new) (R.faults report.old) (R.faults report.new))
+        × SpentBy result given (Some (mode_of run.old)) turns [] left steps.old steps.new }
+    ensures screen { K.faults screen.old ≤ K.faults screen.new }
+    ensures report { R.faults report.old ≤ R.faults report.new }
+{
+    match generated(alloc, number) {
+        Ok(lines) => run_lines(alloc, lines.as_slice(), run, screen, report, steps),
+        Err(_) => Stop::Ends(Status::NoMemory, 0),
+    }
+}
+
+/// Runs the lines of a generated script, which are given whole.
+fn run_lines<K: Sink, R: Sink, L: Ledger>(
+    alloc: Global,
+    lines: &[ListOf<u8>],
+    run: &mut Run,
+    screen: &mut K,
+    report: &mut R,
+    steps: &mut Steps<L>,
+) -> Stop
+    requires few { length lines.now ≤ LINES }
+    requires begun { IsNew run.old }
+    ensures stopped { (given : Given) (number : ℕ) (left : Option (List ℕ)) (faults : ℕ) → IsMode given (mode_of run.old) → run.old.generated ≡ Some number → lines.now ≡ script number → (turns : List Turn)
+        × Stopped result given (Some (mode_of run.old)) turns [] (drawn left faults faults)
+        (sunk (K.written screen.old) (K.written screen.new) (K.faults screen.old) (K.faults screen.new))
+        (sunk (R.written report.old) (R.written report.new) (R.faults report.old) (R.faults report.new))
+        × SpentBy result given (Some (mode_of run.old)) turns [] left steps.old steps.new }
+    ensures screen { K.faults screen.old ≤ K.faults screen.new }
+    ensures report { R.faults report.old ≤ R.faults report.new }
+{
+    'each_line: for line in lines {
+        let before = run.lines;
+        match run.line(alloc, line.as_slice(), screen, report, steps) {
+            Ok(()) => {}
+            Err(halt) => return halted_by(halt, before),
+        }
+    }
+    Stop::Sums(run.summary())
 }
 
 /// How a run ends whose reader answers a fault, behind so many lines.

@@ -70,14 +70,18 @@ const CASES: [Case; 8] = [
 ];
 
 /// Scripts that are refused before they show anything, and the report.
-const REFUSED: [(&'static [u8], &'static [u8]); 12] = [
+const REFUSED: [(&'static [u8], &'static [u8]); 13] = [
     (
         b"{\"op\":\"insert\",\"buffer\":\"main\",\"pos\":2,\"text\":\"a\"}",
         b"script:1: OutOfRange\n",
     ),
     (
-        b"{\"op\":\"insert\",\"buffer\":\"main\",\"pos\":1,\"text\":\"\\u00e9\"}",
-        b"script:1: NotBuilt\n",
+        b"{\"op\":\"mode_line\",\"window\":0,\"format\":\"a%q\"}",
+        b"script:1: BadFormat 1\n",
+    ),
+    (
+        b"{\"op\":\"hit\",\"window\":0,\"row\":0,\"column\":0}",
+        b"script:1: NotShown\n",
     ),
     (
         b"{\"op\":\"buffer\",\"name\":\"main\"}",
@@ -230,6 +234,26 @@ impl Source for OneByOne {
     }
 }
 
+/// A class file and a mirror file.
+const CLASSES: &[u8] =
+    b"0000;<control>;Cc;0;BN\n0009;<control>;Cc;0;S\n000A;<control>;Cc;0;B\n0020;SPACE;Zs;0;WS\n0028;LEFT PARENTHESIS;Ps;0;ON\n0029;RIGHT PARENTHESIS;Pe;0;ON\n0030;<Digit, First>;Nd;0;EN\n0039;<Digit, Last>;Nd;0;EN\n05D0;<Hebrew, First>;Lo;0;R\n05EA;<Hebrew, Last>;Lo;0;R\n";
+
+const MIRRORS: &[u8] = b"0028; 0029\n0029; 0028\n";
+
+/// Files in memory of the names D and M.
+fn files(alloc: Global, classes: &[u8], mirrors: &[u8]) -> Result<MemFiles, Fail> {
+    let mut files = Vec::new(alloc);
+    files.push((
+        String::from_str(alloc, "D")?,
+        Vec::from_slice(alloc, classes)?,
+    ))?;
+    files.push((
+        String::from_str(alloc, "M")?,
+        Vec::from_slice(alloc, mirrors)?,
+    ))?;
+    Ok(MemFiles::new(files))
+}
+
 /// A source in memory, of whose calls the one of a number fails.
 fn source(alloc: Global, script: &[u8], call: u64) -> Result<MemSource, Fail> {
     let calls = Vec::from_slice(alloc, &[call])?;
@@ -242,9 +266,12 @@ fn sink(alloc: Global, call: u64) -> Result<MemSink, Fail> {
     Ok(MemSink::with_room(alloc, 4096)?.failing(calls))
 }
 
-/// The words of a command line.
+/// The words of a command line, behind those that name the data files.
 fn words_of(alloc: Global, words: &[&str]) -> Result<Vec<String>, Fail> {
     let mut given = Vec::new(alloc);
+    for word in ["--data", "D", "--mirror", "M"] {
+        given.push(String::from_str(alloc, word)?)?;
+    }
     for word in words {
         given.push(String::from_str(alloc, word)?)?;
     }
@@ -269,6 +296,7 @@ fn played_from<S: Source>(
     calls: Calls,
 ) -> Result<Trace, Fail> {
     let words = words_of(alloc, words)?;
+    let mut files = files(alloc, CLASSES, MIRRORS)?;
     let mut screen = sink(alloc, calls.screen)?;
     let mut report = sink(alloc, calls.report)?;
     let code = answered::<Brand, S>(
@@ -276,6 +304,7 @@ fn played_from<S: Source>(
         alloc,
         words,
         script,
+        &mut files,
         &mut screen,
         &mut report,
     );
@@ -292,6 +321,7 @@ fn answered<L: Ledger, S: Source>(
     alloc: Global,
     words: Vec<String>,
     script: &mut S,
+    files: &mut MemFiles,
     screen: &mut MemSink,
     report: &mut MemSink,
 ) -> u8
@@ -299,9 +329,8 @@ fn answered<L: Ledger, S: Source>(
     requires parts { blank.parts ≡ L.parts }
     requires some { 0 < L.parts }
 {
-    let mut files = MemFiles::new(Vec::new(alloc));
     let mut steps = Steps::<L>::new(blank);
-    let status = play(alloc, words, script, &mut files, screen, report, &mut steps);
+    let status = play(alloc, words, script, files, screen, report, &mut steps);
     status.code()
 }
 
@@ -349,34 +378,76 @@ fn faults_end_a_run(rt: HostRuntime) -> Result<(), Fail> {
     Ok(())
 }
 
-/// A word of a command line, and what the first script then sends, reports and answers.
-struct Word {
-    word: &'static str,
+/// Words behind those that name the data files, and what the first script then sends, reports and answers.
+struct Words {
+    words: &'static [&'static str],
     sent: &'static [u8],
     told: &'static [u8],
     code: u8,
 }
 
-const WORDS: [Word; 2] = [
-    Word {
-        word: "--help",
+const WORDS: [Words; 4] = [
+    Words {
+        words: &["--help"],
         sent: b"",
-        told: b"usage: redisplay [--dump]\n",
+        told: b"usage: redisplay --data FILE --mirror FILE [--brackets FILE] [--generate N] [--dump]\n",
         code: 2,
     },
-    Word {
-        word: "--dump",
+    Words {
+        words: &["--dump"],
         sent: b"\x1b[0m\x1b[2J\x1b[1;1H",
         told: b"2: shown 0 rows\nwindow 0 at 0,0 size 12x1 start 1.0 point 1 cursor 0,0\nrow 0 |            |\nrow 1 |            |\ncursor 0,0\ndone 2 lines\n",
         code: 0,
+    },
+    Words {
+        words: &["--brackets", "none"],
+        sent: b"",
+        told: b"read fault\n",
+        code: 5,
+    },
+    Words {
+        words: &["--brackets", "D"],
+        sent: b"",
+        told: b"brackets:1: BadLine\n",
+        code: 3,
     },
 ];
 
 #[test]
 fn words_are_known(rt: HostRuntime) -> Result<(), Fail> {
     for given in &WORDS {
-        let run = played(rt.alloc(), &[given.word], CASES[0].script, NONE)?;
+        let run = played(rt.alloc(), given.words, CASES[0].script, NONE)?;
         assert_trace(&rt, &run, given.sent, given.told, given.code);
     }
+    Ok(())
+}
+
+/// What the script that is made from 7 reports.
+const SUMMARY: &[u8] = b"lines 605\nredisplays 301\ncharacters 75220\nstart 27645.0\n";
+
+/// Runs the script that is made from 7, and answers the report and the status.
+fn generated(alloc: Global) -> Result<(MemSink, u8), Fail> {
+    let words = words_of(alloc, &["--generate", "7"])?;
+    let mut script = source(alloc, b"{}", 1)?;
+    let mut files = files(alloc, CLASSES, MIRRORS)?;
+    let mut screen = MemSink::with_room(alloc, 4_194_304)?;
+    let mut report = sink(alloc, 0)?;
+    let code = answered::<Brand, MemSource>(
+        Blank::new(1),
+        alloc,
+        words,
+        &mut script,
+        &mut files,
+        &mut screen,
+        &mut report,
+    );
+    Ok((report, code))
+}
+
+#[test]
+fn a_generated_script_is_summed_up(rt: HostRuntime) -> Result<(), Fail> {
+    let (report, code) = generated(rt.alloc())?;
+    assert_eq!(rt; report.bytes(), SUMMARY);
+    assert_eq!(rt; code, 0);
     Ok(())
 }

@@ -1,38 +1,52 @@
 //! The top call.
-ghost use Rattle.std.specs.Prelude.{◌≡◌, ℕ, ◌≤◌, Bool, Some, List};
+ghost use Rattle.std.specs.Prelude.{◌≡◌, ℕ, ◌≤◌, ◌⊎◌, IsSome, Option, Some, List};
 ghost use Rattle.std.specs.Io.KnownBytes.{Consumes};
 ghost use Rattle.rd_io.specs.Devices.{Rose};
-ghost use Rattle.rd_play.specs.Acts.{Finishes, Tells};
-ghost use Rattle.rd_play.specs.Ends.{Ended, EndsWell, IsValidScript, drawn, sunk};
-ghost use Rattle.rd_play.specs.Reports.{last_line};
-ghost use Rattle.rd_play.specs.Runs.{Turn, opened, ShowsEach};
-ghost use Rattle.rd_play.specs.Words.{dumps, mode_of, texts};
+ghost use Rattle.rd_files.specs.DataFiles.{meaning as files_meaning};
+ghost use Rattle.rd_play.specs.Acts.{Begins, Finishes, IsOpened, IsNew, SpentBy, Stopped, Tells, mode_of, status_of, summary_of};
+ghost use Rattle.rd_play.specs.Played.{Played, given};
+ghost use Rattle.rd_run.specs.Ends.{EndsWell, IsValidScript, drawn, sunk};
+ghost use Rattle.rd_run.specs.Given.{AreTold, Given, HasFailed, IsMode};
+ghost use Rattle.rd_run.specs.Reports.{last_line};
+ghost use Rattle.rd_run.specs.Runs.{Mode, Turn};
+ghost use Rattle.rd_words.specs.Command.{meaning, texts};
+ghost use Rattle.rd_words.specs.Words.{WordValues, values_of};
 
-use crate::halt::Stop;
-use crate::law::each_redisplay_is_shown;
-use crate::report::tell_last;
-use crate::run::run_script;
-use crate::status::Status;
+use crate::act::Run;
+use crate::halt::{Stop, Summary};
+use crate::report::{tell_last, tell_summary};
+use crate::run::{run_generated, run_script};
 use rd_base::Steps;
+use rd_files::{DataFault, DataFiles, read_data};
 use rd_io::{Files, Sink, Source};
+use rd_run::{Status, each_redisplay_is_shown, each_slice_is_known, valid_scripts_end_well};
+use rd_words::{Words, WordsFault, read_words};
 use std::alloc::Global;
 use std::sync::ledger::Ledger;
 
 /// Runs a script from its bytes to the terminal's bytes and the report.
 ///
-/// `words` are those after the program's name: none, or `--dump`, by which each redisplay that is shown is followed by its dump in
-/// the report. Other words give Usage, and nothing is read. The lines of the script are run in turn and count from 1. A line of
-/// only spaces, tabs and bytes 13 is passed over. The first line that is too long, one too many, no op, or refused gives BadScript.
+/// `words` are those after the program's name: `--data FILE` and `--mirror FILE`, and where they are wanted `--brackets FILE`,
+/// `--generate N` and `--dump`, by which each redisplay that is shown is followed by its dump in the report. Other words give Usage,
+/// and nothing is read. Then the files of these names are read from `files` in this order, each whole; the first bad line of one, or
+/// that it is too large, gives BadData. The lines of `script` are run in turn and count from 1. With `--generate N` those of the
+/// script that is made from N take their place, and `script` is not read; then the report tells of no redisplay but one without
+/// memory, and at the end how many lines were run, how many redisplays shown, how many characters `main` has and where the selected
+/// window starts. A line of only spaces, tabs and bytes 13 is passed over. The first line that is too long, one too many, no op, or
+/// refused gives BadScript.
+///
 /// A redisplay sends its bytes to `screen` before the report is told of it. One that finds no memory is reported, and the run goes
 /// on; want of memory anywhere else gives NoMemory, and nothing of the op in hand stands. ReadFault comes only where the count of
-/// `script` rose, and WriteFault only where that of `screen` or `report` did. After a fault of the screen the report still gets its
-/// last line, and after one of the report nothing more is written. `files` is not called. No line of the report takes memory.
+/// `script` rose, or that of a file that the words name, and WriteFault only where that of `screen` or `report` did. After a fault
+/// of the screen the report still gets its last line, and after one of the report nothing more is written. No line of the report
+/// takes memory.
 ///
-/// `ran` says of the lines run and the bytes taken when each status comes, what was written then, and that behind each redisplay
-/// that was shown the written terminal shows what the rules give from nothing. `complete` says that a script without a bad line,
-/// where no count rose, ends Done or NoMemory.
+/// `ran` says of the lines run and the bytes taken when each status comes, what was written then, that behind each redisplay that
+/// was shown the written terminal shows what the rules give from nothing, that behind each that was shown or stopped the current
+/// screen is what the terminal shows, and that the steps rise by no more than the redisplays that were begun may place. `complete`
+/// says that under valid words, over good files that are told, a script without a bad line ends Done or NoMemory, where no count rose.
 ///
-/// Each line is read once; what a redisplay costs is told by `Session::redisplay`.
+/// Each file and each line is read once.
 pub fn play<S: Source, F: Files, K: Sink, R: Sink, L: Ledger>(
     alloc: Global,
     words: Vec<String>,
@@ -42,44 +56,164 @@ pub fn play<S: Source, F: Files, K: Sink, R: Sink, L: Ledger>(
     report: &mut R,
     steps: &mut Steps<L>,
 ) -> Status
-    ensures ran { (turns : List Turn) × (bytes : List ℕ) × Consumes (S.left script.old) (S.left script.new) bytes
-        × Ended (mode_of (texts words.items)) result turns bytes (drawn (S.left script.new) (S.faults script.old) (S.faults script.new))
+    ensures ran { Played (given (values_of (texts words.items)) (F.contents files.old) (F.faults files.old) (F.faults files.new)) result (S.left script.old)
+        (drawn (S.left script.new) (S.faults script.old) (S.faults script.new))
         (sunk (K.written screen.old) (K.written screen.new) (K.faults screen.old) (K.faults screen.new))
-        (sunk (R.written report.old) (R.written report.new) (R.faults report.old) (R.faults report.new))
-        × ShowsEach (opened (dumps (mode_of (texts words.items)))) turns }
-    ensures complete { (dump : Bool) (bytes : List ℕ) → mode_of (texts words.items) ≡ Some dump → S.left script.old ≡ Some bytes → IsValidScript dump bytes
+        (sunk (R.written report.old) (R.written report.new) (R.faults report.old) (R.faults report.new)) steps.old steps.new }
+    ensures complete { (mode : Mode) (bytes : List ℕ) → IsMode (given (values_of (texts words.items)) (F.contents files.old) (F.faults files.old) (F.faults files.new)) mode
+        → AreTold (given (values_of (texts words.items)) (F.contents files.old) (F.faults files.old) (F.faults files.new))
+        → S.left script.old ≡ Some bytes → IsValidScript mode bytes
+        → ¬ HasFailed (given (values_of (texts words.items)) (F.contents files.old) (F.faults files.old) (F.faults files.new))
         → ¬ Rose (S.faults script.old) (S.faults script.new) → ¬ Rose (K.faults screen.old) (K.faults screen.new)
         → ¬ Rose (R.faults report.old) (R.faults report.new) → EndsWell result }
-    ensures read { result ≡ Status.ReadFault → Rose (S.faults script.old) (S.faults script.new) }
+    ensures read { result ≡ Status.ReadFault → Rose (S.faults script.old) (S.faults script.new)
+        ⊎ HasFailed (given (values_of (texts words.items)) (F.contents files.old) (F.faults files.old) (F.faults files.new)) }
+    ensures unread { (w : WordValues) → values_of (texts words.items) ≡ Some w → IsSome w.generate → script.new ≡ script.old }
     ensures script { S.faults script.old ≤ S.faults script.new }
+    ensures contents { (file : List ℕ) → F.contents files.new file ≡ F.contents files.old file }
+    ensures files { (file : List ℕ) → F.faults files.old file ≤ F.faults files.new file }
     ensures screen { K.faults screen.old ≤ K.faults screen.new }
     ensures report { R.faults report.old ≤ R.faults report.new }
-    ensures files { files.new ≡ files.old }
+{
+    valid_scripts_end_well();
+    play_words(
+        alloc,
+        words.as_slice(),
+        script,
+        files,
+        screen,
+        report,
+        steps,
+    )
+}
+
+/// Does what `play` does, over words that are lent.
+fn play_words<S: Source, F: Files, K: Sink, R: Sink, L: Ledger>(
+    alloc: Global,
+    words: &[String],
+    script: &mut S,
+    files: &mut F,
+    screen: &mut K,
+    report: &mut R,
+    steps: &mut Steps<L>,
+) -> Status
+    ensures ran { Played (given (values_of (texts words.now)) (F.contents files.old) (F.faults files.old) (F.faults files.new)) result (S.left script.old)
+        (drawn (S.left script.new) (S.faults script.old) (S.faults script.new))
+        (sunk (K.written screen.old) (K.written screen.new) (K.faults screen.old) (K.faults screen.new))
+        (sunk (R.written report.old) (R.written report.new) (R.faults report.old) (R.faults report.new)) steps.old steps.new }
+    ensures unread { (w : WordValues) → values_of (texts words.now) ≡ Some w → IsSome w.generate → script.new ≡ script.old }
+    ensures script { S.faults script.old ≤ S.faults script.new }
+    ensures contents { (file : List ℕ) → F.contents files.new file ≡ F.contents files.old file }
+    ensures files { (file : List ℕ) → F.faults files.old file ≤ F.faults files.new file }
+    ensures screen { K.faults screen.old ≤ K.faults screen.new }
+    ensures report { R.faults report.old ≤ R.faults report.new }
 {
     each_redisplay_is_shown();
-    match mode_of(words.as_slice()) {
-        Some(dumps) => {
-            let stop = run_script(alloc, dumps, script, screen, report, steps);
-            finish(report, stop)
-        }
-        None => finish(report, Stop::Ends(Status::Usage, 0)),
+    match begun(alloc, words, files) {
+        Ok(mut run) => run_whole(alloc, &mut run, script, screen, report, steps),
+        Err(status) => finish(report, Stop::Ends(status, 0)),
     }
 }
 
-/// Whether dumps are asked for; None where the words are not known.
-fn mode_of(words: &[String]) -> Option<bool>
-    ensures { result ≡ mode_of (texts words.now) }
+/// Reads the words and the files that they name, and answers a run of no line, or the status that comes before the first line.
+fn begun<F: Files>(alloc: Global, words: &[String], files: &mut F) -> Result<Run, Status>
+    ensures begins { Begins result (given (values_of (texts words.now)) (F.contents files.old) (F.faults files.old) (F.faults files.new)) }
+    ensures contents { (file : List ℕ) → F.contents files.new file ≡ F.contents files.old file }
+    ensures never_falls { (file : List ℕ) → F.faults files.old file ≤ F.faults files.new file }
 {
-    match words {
-        [] => Some(false),
-        [word] => {
-            if word.as_str() == "--dump" {
-                Some(true)
-            } else {
-                None
-            }
-        }
-        _ => None,
+    match read_words(alloc, words) {
+        Ok(words) => begun_with(alloc, &words, files),
+        Err(WordsFault::Usage) => Err(Status::Usage),
+        Err(WordsFault::Memory) => Err(Status::NoMemory),
+    }
+}
+
+/// Reads the files that the words name, and answers a run of no line, or the status that comes before the first line.
+fn begun_with<F: Files>(alloc: Global, words: &Words, files: &mut F) -> Result<Run, Status>
+    ensures begins { Begins result (given (Some (meaning words.now)) (F.contents files.old) (F.faults files.old) (F.faults files.new)) }
+    ensures contents { (file : List ℕ) → F.contents files.new file ≡ F.contents files.old file }
+    ensures never_falls { (file : List ℕ) → F.faults files.old file ≤ F.faults files.new file }
+{
+    match read_data(
+        alloc,
+        files,
+        words.class_file,
+        words.mirror_file,
+        words.bracket_file,
+    ) {
+        Ok(data) => new_run(alloc, data, words),
+        Err(fault) => Err(status_of(fault)),
+    }
+}
+
+/// The status that tells of a fault of the data files.
+fn status_of(fault: DataFault) -> Status
+    ensures { result ≡ status_of fault }
+{
+    match fault {
+        DataFault::Bad(bad) => Status::BadData(bad.file, bad.line, bad.kind),
+        DataFault::Read => Status::ReadFault,
+        DataFault::Memory => Status::NoMemory,
+    }
+}
+
+/// A run of no line over the data files, as the words ask for it.
+fn new_run(alloc: Global, files: DataFiles, words: &Words) -> Result<Run, Status>
+    ensures { IsOpened result (files_meaning files) (meaning words.now) }
+{
+    match Run::new(alloc, files, words.dumps, words.generate) {
+        Ok(run) => Ok(run),
+        Err(_) => Err(Status::NoMemory),
+    }
+}
+
+/// Runs the lines of the script that is read, or of a generated one in its place, and tells the last line.
+fn run_whole<S: Source, K: Sink, R: Sink, L: Ledger>(
+    alloc: Global,
+    run: &mut Run,
+    script: &mut S,
+    screen: &mut K,
+    report: &mut R,
+    steps: &mut Steps<L>,
+) -> Status
+    requires { IsNew run.old }
+    ensures played { (given : Given) → IsMode given (mode_of run.old) → Played given result (S.left script.old) (drawn (S.left script.new) (S.faults script.old) (S.faults script.new))
+        (sunk (K.written screen.old) (K.written screen.new) (K.faults screen.old) (K.faults screen.new))
+        (sunk (R.written report.old) (R.written report.new) (R.faults report.old) (R.faults report.new)) steps.old steps.new }
+    ensures unread { IsSome run.old.generated → script.new ≡ script.old }
+    ensures script { S.faults script.old ≤ S.faults script.new }
+    ensures screen { K.faults screen.old ≤ K.faults screen.new }
+    ensures report { R.faults report.old ≤ R.faults report.new }
+{
+    each_redisplay_is_shown();
+    each_slice_is_known();
+    let stop = run_all(alloc, run, script, screen, report, steps);
+    finish(report, stop)
+}
+
+/// Runs the lines of the script that is read, or of a generated one in its place.
+fn run_all<S: Source, K: Sink, R: Sink, L: Ledger>(
+    alloc: Global,
+    run: &mut Run,
+    script: &mut S,
+    screen: &mut K,
+    report: &mut R,
+    steps: &mut Steps<L>,
+) -> Stop
+    requires { IsNew run.old }
+    ensures stopped { (given : Given) → IsMode given (mode_of run.old) → (turns : List Turn) × (bytes : List ℕ) × Consumes (S.left script.old) (S.left script.new) bytes
+        × Stopped result given (Some (mode_of run.old)) turns bytes (drawn (S.left script.new) (S.faults script.old) (S.faults script.new))
+        (sunk (K.written screen.old) (K.written screen.new) (K.faults screen.old) (K.faults screen.new))
+        (sunk (R.written report.old) (R.written report.new) (R.faults report.old) (R.faults report.new))
+        × SpentBy result given (Some (mode_of run.old)) turns bytes (S.left script.new) steps.old steps.new }
+    ensures unread { IsSome run.old.generated → script.new ≡ script.old }
+    ensures script { S.faults script.old ≤ S.faults script.new }
+    ensures screen { K.faults screen.old ≤ K.faults screen.new }
+    ensures report { R.faults report.old ≤ R.faults report.new }
+{
+    match run.generated {
+        Some(number) => run_generated(alloc, number, run, screen, report, steps),
+        None => run_script(alloc, run, script, screen, report, steps),
     }
 }
 
@@ -90,6 +224,7 @@ fn finish<R: Sink>(report: &mut R, stop: Stop) -> Status
 {
     match stop {
         Stop::Ends(status, lines) => tell_status(report, status, lines),
+        Stop::Sums(summary) => tell_sums(report, summary),
         Stop::ScreenBroke => tell_status(report, Status::WriteFault, 0),
         Stop::ReportBroke => Status::WriteFault,
     }
@@ -102,6 +237,17 @@ fn tell_status<R: Sink>(report: &mut R, status: Status, lines: u32) -> Status
 {
     match tell_last(report, &status, lines) {
         Ok(()) => status,
+        Err(_) => Status::WriteFault,
+    }
+}
+
+/// Tells what stands at the end of a generated script, and answers that it was run, or the write fault where the report fails.
+fn tell_sums<R: Sink>(report: &mut R, summary: Summary) -> Status
+    ensures tells { Tells Status.Done (summary_of summary) result (sunk (R.written report.old) (R.written report.new) (R.faults report.old) (R.faults report.new)) }
+    ensures report { R.faults report.old ≤ R.faults report.new }
+{
+    match tell_summary(report, summary) {
+        Ok(()) => Status::Done,
         Err(_) => Status::WriteFault,
     }
 }

@@ -1,8 +1,8 @@
 //! What a dump says of the windows.
-ghost use Rattle.std.specs.Prelude.{◌≡◌, ◌≤◌, ◌∷◌, []};
+ghost use Rattle.std.specs.Prelude.{◌≡◌, ◌≤◌};
 ghost use Rattle.std.specs.Vec.{vec_capacity};
 ghost use Rattle.rd_base.specs.declared.limits.TheConstants.{WINDOWS};
-ghost use Rattle.rd_session.specs.Facts.{facts_of};
+ghost use Rattle.rd_layout.specs.Facts.{facts_of};
 
 use rd_base::Memory;
 use rd_base::limits::WINDOWS;
@@ -31,10 +31,23 @@ impl Windows {
 
     /// What a dump says of the windows of a session, in leaf order.
     pub fn of(&mut self, session: &Session) -> &[WindowFacts]
-        ensures { result.now ≡ facts_of session.now.state session.now.matrix ∷ [] }
+        ensures { result.now ≡ facts_of session.now }
     {
-        self.facts.clear();
-        self.facts.push_reserved(session.facts());
+        collect(&mut self.facts, session);
         self.facts.as_slice()
+    }
+}
+
+/// Puts what a dump says of the windows of a session in the place of what a list had, which has room for all windows.
+fn collect(list: &mut Vec<WindowFacts>, session: &Session)
+    requires { WINDOWS ≤ vec_capacity list.old }
+    ensures facts { list.new.items ≡ facts_of session.now }
+    ensures room { WINDOWS ≤ vec_capacity list.new }
+{
+    list.clear();
+    let mut i = 0;
+    'each_window: while let Some(facts) = session.facts(i) {
+        list.push_reserved(facts);
+        i += 1;
     }
 }

@@ -1,5 +1,5 @@
 use Rattle.std.proofs.Common.{refl, ap, List, ℕ, [], ◌∷◌, option_map, Some, Bor}
-use Rattle.rd_play.specs.Reports.{bytes_of}
+use Rattle.rd_run.specs.Reports.{bytes_of}
 use Rattle.rd_play.proofs.Telling.{writes-then, key-told}
 use Rattle.rd_play.proofs.report.tell_key.Goals as goal
 

@@ -9,3 +9,6 @@ returns-in-BadScript-clause-bytes g c = last-told _ _ c.tell_bad.result _ _ c.ar
 
 pub returns-in-ReadFault-clause-bytes : goal.returns-in-ReadFault-clause-bytes
 returns-in-ReadFault-clause-bytes g c = last-told _ _ c.write_whole-in-ReadFault.result _ _ c.args.status.now _ c.args.lines c.in-ReadFault.is c.write_whole-in-ReadFault.ensures.bytes
+
+pub returns-in-BadData-clause-bytes : goal.returns-in-BadData-clause-bytes
+returns-in-BadData-clause-bytes g c = last-told _ _ c.tell_bad_data.result _ _ c.args.status.now _ c.args.lines c.in-BadData.is (c.tell_bad_data.ensures.bytes c.args.lines)

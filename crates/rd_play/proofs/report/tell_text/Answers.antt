@@ -1,4 +1,4 @@
-use Rattle.rd_play.specs.Reports.{bytes_of_character}
+use Rattle.rd_run.specs.Reports.{bytes_of_character}
 use Rattle.rd_play.proofs.Telling.{pieces-broke-at}
 use Rattle.rd_play.proofs.report.tell_text.Goals as goal
 

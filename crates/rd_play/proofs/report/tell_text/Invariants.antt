@@ -1,6 +1,6 @@
 use Rattle.std.proofs.Common.{◌≤◌, take}
 use Rattle.std.specs.Io.KnownBytes.{Appends}
-use Rattle.rd_play.specs.Reports.{bytes_of}
+use Rattle.rd_run.specs.Reports.{bytes_of}
 use Rattle.rd_play.proofs.report.tell_text.Given as goal
 
 abbrev pub invariant-loop-ch : goal.invariant-loop-ch

@@ -1,55 +1,19 @@
-use Rattle.std.proofs.Common.{◌≡◌, ◌≤◌, ℕ, Some, None, List, [], sym, ap, ◌∙◌, String, arith}
+use Rattle.std.proofs.Common.{List, String, subst}
 use Rattle.std.specs.Global.{Global}
-use Rattle.std.proofs.KnownBytes.{Consumes-nil}
-use Rattle.rd_play.specs.Words.{dumps, mode_of, texts}
-use Rattle.rd_play.specs.declared.halt.Stop.TheVariants as stops
-use Rattle.rd_play.specs.declared.status.Status.TheVariants.{Usage}
-use Rattle.rd_play.proofs.Ending.{ended, as-mode, not-known, read-rose}
-use Rattle.rd_play.proofs.Validity.{ends-well}
+use Rattle.rd_run.specs.Ends.{drawn, sunk}
+use Rattle.rd_words.specs.Command.{texts}
+use Rattle.rd_words.specs.Words.{values_of}
+use Rattle.rd_play.specs.Played.{Played, given}
+use Rattle.rd_play.proofs.Ending.{played-well}
 use Rattle.rd_play.proofs.top.play.Goals as goal
 
-pub returns-in-Some-clause-ran : goal.returns-in-Some-clause-ran
-returns-in-Some-clause-ran g c =
-    let run = c.run_script-stop.ensures in
-    let mode = mode_of (texts c.args.words.items) in
-    let mode_is : mode ≡ Some c.in-Some.dumps = sym (c.in-Some.ensures ∙ ap (λ (words : List (String Global)). mode_of (texts words)) c.as_slice.ensures.value) in (
-      run.stopped.0,
-      run.stopped.1,
-      run.stopped.2,
-      ended c.run_script-stop.result mode run.stopped.0 run.stopped.1 _ _ c.finish.result _ _ _ _ _ _ c.each_redisplay_is_shown.ensures
-          (as-mode c.run_script-stop.result mode c.in-Some.dumps run.stopped.0 run.stopped.1 _ _ _ mode_is run.stopped.3) run.report c.finish.ensures.report c.finish.ensures.finishes,
-      c.each_redisplay_is_shown.ensures (dumps mode) run.stopped.0,
-    )
-
-pub returns-clause-ran : goal.returns-clause-ran
-returns-clause-ran g c =
-    let mode = mode_of (texts c.args.words.items) in
-    let mode_is : mode ≡ None = sym (c.in-None.ensures ∙ ap (λ (words : List (String Global)). mode_of (texts words)) c.as_slice.ensures.value) in
-    let none : ℕ = g.R.Sink.faults c.args.report.now in
-    let same : none ≤ none = omega arith in (
-      [],
-      [],
-      Consumes-nil _,
-      ended (stops.Ends Usage 0) mode [] [] _ _ c.finish-in-None.result _ _ _ _ _ _ c.each_redisplay_is_shown.ensures (not-known mode _ _ _ (g.K.Sink.faults c.args.screen.now) none mode_is) same
-          c.finish-in-None.ensures.report c.finish-in-None.ensures.finishes,
-      tt,
-    )
-
-pub returns-in-Some-clause-complete : goal.returns-in-Some-clause-complete
-returns-in-Some-clause-complete g c = λ dump bytes known told valid script_whole screen_whole report_whole.
-    let run = c.run_script-stop.ensures in
-    let mode = mode_of (texts c.args.words.items) in
-    let mode_is : mode ≡ Some c.in-Some.dumps = sym (c.in-Some.ensures ∙ ap (λ (words : List (String Global)). mode_of (texts words)) c.as_slice.ensures.value) in
-    ends-well mode dump bytes _ c.finish.result run.stopped.0 run.stopped.1 _ _ _ known told valid run.stopped.2 script_whole screen_whole report_whole
-    (ended c.run_script-stop.result mode run.stopped.0 run.stopped.1 _ _ c.finish.result _ _ _ _ _ _ c.each_redisplay_is_shown.ensures
-    (as-mode c.run_script-stop.result mode c.in-Some.dumps run.stopped.0 run.stopped.1 _ _ _ mode_is run.stopped.3) run.report c.finish.ensures.report c.finish.ensures.finishes)
-
-pub returns-in-Some-clause-read : goal.returns-in-Some-clause-read
-returns-in-Some-clause-read g c = λ fault.
-    let run = c.run_script-stop.ensures in
-    let mode = mode_of (texts c.args.words.items) in
-    let mode_is : mode ≡ Some c.in-Some.dumps = sym (c.in-Some.ensures ∙ ap (λ (words : List (String Global)). mode_of (texts words)) c.as_slice.ensures.value) in
-    read-rose mode c.finish.result run.stopped.0 run.stopped.1 _ _ _
-    (ended c.run_script-stop.result mode run.stopped.0 run.stopped.1 _ _ c.finish.result _ _ _ _ _ _ c.each_redisplay_is_shown.ensures
-    (as-mode c.run_script-stop.result mode c.in-Some.dumps run.stopped.0 run.stopped.1 _ _ _ mode_is run.stopped.3) run.report c.finish.ensures.report c.finish.ensures.finishes)
-    fault
+pub returns-clause-complete : goal.returns-clause-complete
+returns-clause-complete g c mode bytes begun told left valid fetched read sent tells =
+    let drawn_by = drawn (g.S.Source.left c.play_words.new.script) (g.S.Source.faults c.args.script.now) (g.S.Source.faults c.play_words.new.script) in
+    let screen = sunk (g.K.Sink.written c.args.screen.now) (g.K.Sink.written c.play_words.new.screen) (g.K.Sink.faults c.args.screen.now) (g.K.Sink.faults c.play_words.new.screen) in
+    let report = sunk (g.R.Sink.written c.args.report.now) (g.R.Sink.written c.play_words.new.report) (g.R.Sink.faults c.args.report.now) (g.R.Sink.faults c.play_words.new.report) in
+    let given_by = λ (words : List (String Global)). given (values_of (texts words)) (g.F.Files.contents c.args.files.now) (g.F.Files.faults c.args.files.now) (g.F.Files.faults c.play_words.new.files) in
+    let ran : Played (given_by c.args.words.items) c.play_words.result (g.S.Source.left c.args.script.now) drawn_by screen report c.args.steps.now c.play_words.new.steps =
+    subst (λ words. Played (given_by words) c.play_words.result (g.S.Source.left c.args.script.now) drawn_by screen report c.args.steps.now c.play_words.new.steps) c.as_slice.ensures.value c.play_words.ensures.ran in
+    played-well c.valid_scripts_end_well.ensures (given_by c.args.words.items) c.play_words.result (g.S.Source.left c.args.script.now) drawn_by screen report c.args.steps.now c.play_words.new.steps mode bytes ran begun told left
+    valid fetched read sent tells

@@ -1,0 +1,42 @@
+-- What a call of `play` promises: how the run ended, what the terminal shows, and what it cost.
+use Rattle.std.specs.Prelude.{◌≡◌, ℕ, ◌+◌, ◌≤◌, ◌⊎◌, Bool, false, List, [], ◌∷◌, ◌++◌, Option, None, Some}
+use Rattle.std.specs.Io.KnownBytes.{Consumes}
+use Rattle.rd_run.specs.Ends.{Drawn, Ended, IsInHand, ShowsIn, Sunk, allowed_in}
+use Rattle.rd_run.specs.Given.{Given}
+use Rattle.rd_run.specs.Runs.{KnowsEach, Mode, Turn, opened}
+use Rattle.rd_run.specs.declared.status.Status.{Status}
+use Rattle.rd_run.specs.declared.status.Status.TheVariants.{WriteFault}
+use Rattle.rd_words.specs.Words.{WordValues}
+
+-- what a run is given, part by part
+abbrev pub given : Option WordValues → (List ℕ → Option (List ℕ)) → (List ℕ → ℕ) → (List ℕ → ℕ) → Given
+given words contents faults_before faults_after =
+    record { words = words; contents = contents; faults_before = faults_before; faults_after = faults_after }
+
+-- behind each redisplay that was shown or stopped the current screen is what the terminal shows
+abbrev pub KnowsIn : Option Mode → List Turn → Type 0
+KnowsIn None turns = Unit {0}
+KnowsIn (Some mode) turns = KnowsEach (opened mode) turns
+
+-- a line, where its redisplay finds memory or not
+abbrev pub turn_of : List ℕ → Bool → Turn
+turn_of line starved = record { line = line; starved = starved }
+
+-- a redisplay is the line in hand behind those that were run, and no more elements were placed than all these may place
+abbrev pub SpentInHand : Given → Option Mode → List Turn → List ℕ → Option (List ℕ) → ℕ → ℕ → Type 0
+SpentInHand given None turns bytes left before after = ⊥
+SpentInHand given (Some mode) turns bytes left before after =
+    (line : List ℕ) × IsInHand given mode turns line bytes left × (after ≤ before + allowed_in (Some mode) (turns ++ turn_of line false ∷ []))
+
+-- The counts of the steps before and behind a run, which ended with a status: no more elements were placed than the redisplays of the
+-- lines that were run may place, and where a write broke at a redisplay, than these and that one may.
+abbrev pub Spent : Given → Option Mode → Status → List Turn → List ℕ → Option (List ℕ) → ℕ → ℕ → Type 0
+Spent given mode status turns bytes left before after =
+    (after ≤ before + allowed_in mode turns) ⊎ ((status ≡ WriteFault) × SpentInHand given mode turns bytes left before after)
+
+-- A run under what is given ended with this status: for some lines that were run and bytes that were taken from the source, what was
+-- written is theirs; behind each redisplay that was shown the terminal shows what the rules give from nothing, and behind each that was
+-- shown or stopped the current screen; and the counts of the steps before and behind it are no further apart than the redisplays allow.
+abbrev pub Played : Given → Status → Option (List ℕ) → Drawn → Sunk → Sunk → ℕ → ℕ → Type 0
+Played given result before source screen report from to = (mode : Option Mode) × (turns : List Turn) × (bytes : List ℕ) × Consumes before source.left bytes
+    × Ended given mode result turns bytes source screen report × ShowsIn mode turns × KnowsIn mode turns × Spent given mode result turns bytes source.left from to
