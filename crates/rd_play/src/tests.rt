@@ -18,7 +18,7 @@ struct Case {
     code: u8,
 }
 
-const CASES: [Case; 8] = [
+const CASES: [Case; 9] = [
     Case {
         script: b"{\"op\":\"frame\",\"width\":12,\"height\":2}\n{\"op\":\"redisplay\"}\n",
         screen: b"\x1b[0m\x1b[2J\x1b[1;1H",
@@ -59,6 +59,12 @@ const CASES: [Case; 8] = [
         script: b"{\"op\":\"frame\",\"width\":12,\"height\":3}\n{\"op\":\"insert\",\"buffer\":\"main\",\"pos\":1,\"text\":\"ab\\ncd\"}\n{\"op\":\"narrow\",\"buffer\":\"main\",\"from\":2,\"to\":5}\n{\"op\":\"redisplay\"}\n{\"op\":\"widen\",\"buffer\":\"main\"}\n{\"op\":\"redisplay\"}\n",
         screen: b"\x1b[0m\x1b[2J\x1b[1;1Hb\x1b[2;1Hc\x1b[1;1H\x1b[1;1Hab\x1b[2;2Hd\x1b[1;2H",
         report: b"4: shown 2 rows\n6: shown 2 rows\ndone 6 lines\n",
+        code: 0,
+    },
+    Case {
+        script: b"{\"op\":\"frame\",\"width\":12,\"height\":6}\n{\"op\":\"insert\",\"buffer\":\"main\",\"pos\":1,\"text\":\"a\\nb\\nc\\nd\\ne\"}\n{\"op\":\"redisplay\",\"stop\":2}\n{\"op\":\"insert\",\"buffer\":\"main\",\"pos\":1,\"text\":\"X\"}\n{\"op\":\"redisplay\"}\n",
+        screen: b"\x1b[0m\x1b[2J\x1b[1;1Ha\x1b[2;1Hb\x1b[1;1HXa\x1b[3;1Hc\x1b[4;1Hd\x1b[5;1He\x1b[1;1H",
+        report: b"3: stopped 2 rows\n5: shown 4 rows\ndone 5 lines\n",
         code: 0,
     },
     Case {
