@@ -1,53 +1,29 @@
 -- What the line of an op does.
-use Rattle.std.proofs.Common.{◌≡◌, ◌≢◌, ℕ, ◌+◌, ◌≤◌, inl, inr, Bool, true, false, List, [], ◌++◌, Option, None, Some, is_some, if◌then◌else◌, OnErr, Result, Ok, Err, refl, sym, ap, ◌∙◌, subst, arith}
+use Rattle.std.proofs.Common.{◌≡◌, ℕ, ◌+◌, inl, inr, Bool, true, false, List, [], ◌++◌, Option, None, Some, is_some, if◌then◌else◌, OnErr, Result, Ok, Err, refl, sym, ap, ◌∙◌, subst}
 use Rattle.std.specs.Io.KnownBytes.{Appends}
 use Rattle.std.proofs.KnownBytes.{Appends-nil}
-use Rattle.rd_dump.specs.declared.dump.WindowFacts.{WindowFacts}
 use Rattle.rd_io.specs.Devices.{AppendsFront, Rose, Writes}
 use Rattle.rd_io.specs.declared.traits.Failed.{Failed}
 use Rattle.rd_layout.specs.Copies.{redisplayed as redisplayed_session, without_copies}
 use Rattle.rd_layout.specs.Facts.{facts_of}
-use Rattle.rd_layout.specs.Redisplays.{allowed, update_of}
-use Rattle.rd_layout.specs.Sessions.{Applied, SessionValue, behind, session_step}
+use Rattle.rd_layout.specs.Redisplays.{update_of}
+use Rattle.rd_layout.specs.Sessions.{SessionValue, session_step}
 use Rattle.rd_run.specs.Ends.{Sunk, sunk}
 use Rattle.rd_run.specs.Reports.{no_memory_line, shown_line, stopped_line}
 use Rattle.rd_run.specs.Runs.{Effect, Standing, asked, dump_lines, effect_by, effect_of_op, is_sent, outcome_of, redisplayed, stepped, told_of, unshown}
-use Rattle.rd_run.specs.declared.status.ScriptFault.TheVariants as faults
 use Rattle.rd_script.specs.declared.op.Op.{Op}
-use Rattle.rd_state.specs.States.{StateValue}
-use Rattle.rd_state.specs.declared.refused.Refused.{Refused}
-use Rattle.rd_state.specs.declared.refused.Refused.TheVariants.{Memory}
-use Rattle.rd_term.specs.Pictures.{Picture}
-use Rattle.rd_ucd.specs.Data.{Data}
 use Rattle.rd_update.specs.Updates.{Update}
-use Rattle.rd_play.specs.Acts.{Acts, IsTold, IsToldOf, Places}
+use Rattle.rd_play.specs.Acts.{Acts, IsTold}
 use Rattle.rd_play.specs.declared.halt.Halt.{Halt}
 use Rattle.rd_play.specs.declared.halt.Halt.TheVariants as halts
 
--- how often rows were copied changes no op, and nothing that is told
-pub record CopyLaws : Type 0 where
-  pub step : (v : SessionValue) (op : Op) → session_step (without_copies v) op ≡ session_step v op
-  pub behind : (v : SessionValue) (op : Op) (state : StateValue) → without_copies (behind v op state) ≡ behind (without_copies v) op state
-  pub facts : (v : SessionValue) → facts_of (without_copies v) ≡ facts_of v
+-- how often rows were copied changes nothing that is told
+abbrev pub CopyLaw : Type 0
+CopyLaw = (v : SessionValue) → facts_of (without_copies v) ≡ facts_of v
 
 -- where a run stands, part by part
 abbrev pub stand : Bool → Option ℕ → ℕ → ℕ → SessionValue → Standing
 stand dumps generated lines shown v = record { mode = record { files = v.files; dumps = dumps; generated = generated }; session = without_copies v; lines = lines; shown = shown }
-
--- ---- places
-
--- no element was placed
-pub places-none : (result : Result Unit Halt) (e : Effect) (n : ℕ) → Places result e n n
-places-none (Ok x) e n = omega arith
-places-none (Err (halts.Bad fault)) e n = omega arith
-places-none (Err halts.NoMemory) e n = omega arith
-places-none (Err halts.ScreenBroke) e n = omega arith
-places-none (Err halts.ReportBroke) e n = omega arith
-
--- a redisplay that was told, or whose report broke
-pub places-told : (answer : Result Unit Failed) (result : Result Unit Halt) (e : Effect) (m n : ℕ) → IsTold answer result → n ≤ m + e.allowed → Places result e m n
-places-told (Ok x) result e m n told h = subst (λ r. Places r e m n) (sym told) h
-places-told (Err x) result e m n told h = subst (λ r. Places r e m n) (sym told) h
 
 -- ---- which op it is
 
@@ -57,35 +33,11 @@ pub redisplay-acts : (result : Result Unit Halt) (place next : Standing) (op : O
 redisplay-acts result place next op screen report answer stop p q h =
     subst (λ o. Acts result (λ starved. effect_by o starved place op) next screen report) (sym (sym p ∙ q)) h
 
-pub redisplay-places : (result : Result Unit Halt) (place : Standing) (op : Op) (m n : ℕ) (answer : Option (Option ℕ)) (stop : Option ℕ) → answer ≡ asked op → answer ≡ Some stop
-    → Places result (redisplayed place stop) m n → Places result (effect_of_op false place op) m n
-redisplay-places result place op m n answer stop p q h = subst (λ o. Places result (effect_by o false place op) m n) (sym (sym p ∙ q)) h
-
 -- another op
 pub step-acts : (result : Result Unit Halt) (place next : Standing) (op : Op) (screen report : Sunk) (answer : Option (Option ℕ)) → answer ≡ asked op → answer ≡ None
     → Acts result (λ starved. stepped place op (session_step place.session op)) next screen report → Acts result (λ starved. effect_of_op starved place op) next screen report
 step-acts result place next op screen report answer p q h =
     subst (λ o. Acts result (λ starved. effect_by o starved place op) next screen report) (sym (sym p ∙ q)) h
-
--- ---- an op
-
-pub applied-acts : (laws : CopyLaws) (dumps : Bool) (generated : Option ℕ) (lines shown : ℕ) (old new : SessionValue) (op : Op) (s p : Option (List ℕ)) (m n : ℕ) → Applied (Ok tt) op old new
-    → Acts (Ok tt) (λ starved. stepped (stand dumps generated lines shown old) op (session_step (without_copies old) op)) (stand dumps generated (lines + 1) shown new) (sunk s s m m) (sunk p p n n)
-applied-acts laws dumps generated lines shown old new op s p m n (state, steps, becomes) =
-    let place = stand dumps generated lines shown old in
-    let next = stand dumps generated (lines + 1) shown new in
-    let session : without_copies new ≡ behind (without_copies old) op state = ap without_copies becomes ∙ laws.behind old op state in
-    let files : new.files ≡ old.files = ap (λ (v : SessionValue). v.files) becomes in
-    let now : next ≡ (stepped place op (Ok state)).now =
-    λ i. record { mode = record { files = files i; dumps = dumps; generated = generated }; session = session i; lines = lines + 1; shown = shown } in
-    subst (λ (r : Result StateValue Refused). Acts (Ok tt) (λ starved. stepped place op r) next (sunk s s m m) (sunk p p n n)) (sym (laws.step old op ∙ steps))
-    (false, refl, now, Appends-nil s, Appends-nil p)
-
-pub refused-acts : (laws : CopyLaws) (place next : Standing) (old new : SessionValue) (op : Op) (refused : Refused) (s p : Option (List ℕ)) (m n : ℕ) → Applied (Err refused) op old new → refused ≢ Memory
-    → Acts (Err (halts.Bad (faults.Refused refused))) (λ starved. stepped place op (session_step (without_copies old) op)) next (sunk s s m m) (sunk p p n n)
-refused-acts laws place next old new op refused s p m n h found =
-    subst (λ (r : Result StateValue Refused). Acts (Err (halts.Bad (faults.Refused refused))) (λ starved. stepped place op r) next (sunk s s m m) (sunk p p n n))
-    (sym (laws.step old op ∙ h.1 found)) (refl, Appends-nil s, Appends-nil p)
 
 -- ---- a redisplay
 
@@ -115,33 +67,33 @@ counts-as shown done d e = ap (λ x. if x then shown + 1 else shown) (sym e)
 pub acts-next : (result : Result Unit Halt) (does : Bool → Effect) (next same : Standing) (screen report : Sunk) → next ≡ same → Acts result does same screen report → Acts result does next screen report
 acts-next result does next same screen report e h = subst (λ n. Acts result does n screen report) (sym e) h
 
-told-same : (laws : CopyLaws) (dumps : Bool) (generated : Option ℕ) (number rows : ℕ) (old new : SessionValue) (stop : Option ℕ) → without_copies new ≡ redisplayed_session old stop → rows ≡ (update_of old stop).rows
+told-same : (law : CopyLaw) (dumps : Bool) (generated : Option ℕ) (number rows : ℕ) (old new : SessionValue) (stop : Option ℕ) → without_copies new ≡ redisplayed_session old stop → rows ≡ (update_of old stop).rows
     → sent_lines dumps generated (update_of old stop).done number rows new
     ≡ told_of (record { files = old.files; dumps = dumps; generated = generated }) number (update_of old stop) (redisplayed_session old stop)
-told-same laws dumps generated number rows old new stop same count =
+told-same law dumps generated number rows old new stop same count =
     let u = update_of old stop in
     let current : new.current ≡ (redisplayed_session old stop).current = ap (λ (v : SessionValue). v.current) same in
-    let facts : facts_of new ≡ facts_of (redisplayed_session old stop) = sym (laws.facts new) ∙ ap facts_of same in
+    let facts : facts_of new ≡ facts_of (redisplayed_session old stop) = sym (law new) ∙ ap facts_of same in
     λ i. if is_some generated then [] else if u.done then shown_line number (count i) ++ dump_lines dumps (current i) (facts i) else stopped_line number (count i)
 
 -- it was sent as far as it goes, and the report was told of it or broke
-pub sent-acts : (laws : CopyLaws) (answer : Result Unit Failed) (result : Result Unit Halt) (dumps : Bool) (generated : Option ℕ) (lines shown seen : ℕ) (old new : SessionValue) (stop : Option ℕ) (rows : ℕ)
+pub sent-acts : (law : CopyLaw) (answer : Result Unit Failed) (result : Result Unit Halt) (dumps : Bool) (generated : Option ℕ) (lines shown seen : ℕ) (old new : SessionValue) (stop : Option ℕ) (rows : ℕ)
     (s0 s1 r0 r1 : Option (List ℕ)) (m0 m1 n0 n1 : ℕ) → IsTold answer result → without_copies new ≡ redisplayed_session old stop → new.files ≡ old.files → rows ≡ (update_of old stop).rows
     → Appends s0 s1 (update_of old stop).bytes → seen ≡ (if (update_of old stop).done then shown + 1 else shown)
     → Writes r0 r1 (sent_lines dumps generated (update_of old stop).done (lines + 1) rows new) answer → OnErr answer (Rose n0 n1) → OnErr answer (generated ≡ None)
     → Acts result (λ starved. if starved then unshown (stand dumps generated lines shown old) else redisplayed (stand dumps generated lines shown old) stop) (stand dumps generated (lines + 1) seen new)
     (sunk s0 s1 m0 m1) (sunk r0 r1 n0 n1)
-sent-acts laws (Ok x) result dumps generated lines shown seen old new stop rows s0 s1 r0 r1 m0 m1 n0 n1 told same files count sent counts writes rose read =
+sent-acts law (Ok x) result dumps generated lines shown seen old new stop rows s0 s1 r0 r1 m0 m1 n0 n1 told same files count sent counts writes rose read =
     let place = stand dumps generated lines shown old in
     let next = stand dumps generated (lines + 1) seen new in
     let now : next ≡ (redisplayed place stop).now =
     λ i. record { mode = record { files = files i; dumps = dumps; generated = generated }; session = same i; lines = lines + 1; shown = counts i } in
     subst (λ (r : Result Unit Halt). Acts r (λ starved. if starved then unshown place else redisplayed place stop) next (sunk s0 s1 m0 m1) (sunk r0 r1 n0 n1)) (sym told)
-    (false, refl, now, sent, subst (Appends r0 r1) (told-same laws dumps generated (lines + 1) rows old new stop same count) writes.whole)
-sent-acts laws (Err x) result dumps generated lines shown seen old new stop rows s0 s1 r0 r1 m0 m1 n0 n1 told same files count sent counts writes rose read =
+    (false, refl, now, sent, subst (Appends r0 r1) (told-same law dumps generated (lines + 1) rows old new stop same count) writes.whole)
+sent-acts law (Err x) result dumps generated lines shown seen old new stop rows s0 s1 r0 r1 m0 m1 n0 n1 told same files count sent counts writes rose read =
     let place = stand dumps generated lines shown old in
     let next = stand dumps generated (lines + 1) seen new in
-    let front = subst (AppendsFront r0 r1) (told-same laws dumps generated (lines + 1) rows old new stop same count) writes.front in
+    let front = subst (AppendsFront r0 r1) (told-same law dumps generated (lines + 1) rows old new stop same count) writes.front in
     subst (λ (r : Result Unit Halt). Acts r (λ starved. if starved then unshown place else redisplayed place stop) next (sunk s0 s1 m0 m1) (sunk r0 r1 n0 n1)) (sym told)
     (false, is-sent (update_of old stop), sent, record { rose = rose; front = front }, inl read)
 

@@ -1,5 +1,5 @@
 -- The end of a run: its last line.
-use Rattle.std.proofs.Common.{◌≡◌, ℕ, ◌+◌, ◌≤◌, ◌⊎◌, inl, inr, Bool, List, [], ◌∷◌, ◌++◌, length, take, Option, None, Some, Result, Ok, Err, refl, sym, ap, ◌∙◌, subst, append-nil, arith}
+use Rattle.std.proofs.Common.{◌≡◌, ℕ, ◌+◌, ◌≤◌, inl, inr, List, [], ◌∷◌, ◌++◌, length, take, Option, None, Some, refl, sym, subst, append-nil, arith}
 use Rattle.std.specs.Io.KnownBytes.{Appends, Consumes}
 use Rattle.std.proofs.KnownBytes.{Appends-nil, Appends-trans, Consumes-nil}
 use Rattle.rd_io.specs.Devices.{Rose}
@@ -9,8 +9,7 @@ use Rattle.rd_run.specs.Given.{AreTold, Given, HasFailed, IsMode}
 use Rattle.rd_run.specs.Reports.{last_line}
 use Rattle.rd_run.specs.Runs.{KnowsEach, Mode, ShowsEach, Turn, opened, run}
 use Rattle.rd_run.specs.declared.status.Status.{Status}
-use Rattle.rd_run.specs.declared.status.Status.TheVariants.{BadData, BadScript, Done, NoMemory, ReadFault, Usage, WriteFault}
-use Rattle.rd_run.proofs.Begun.{has-failed}
+use Rattle.rd_run.specs.declared.status.Status.TheVariants.{Done, WriteFault}
 use Rattle.rd_play.specs.Acts.{Finishes, SpentBy, Stopped, Tells, summary_of}
 use Rattle.rd_play.specs.Played.{Played, Spent}
 use Rattle.rd_play.specs.declared.halt.Stop.{Stop}
@@ -147,26 +146,6 @@ unplayed status given l q s m result p0 p1 n0 n1 c shows n comes f =
       tt,
       inl same,
     )
-
--- ---- what an end says
-
-in-rose : (mode : Mode) (turns : List Turn) (bytes : List ℕ) (source : Drawn) (given : Given) → Comes given (Some mode) ReadFault turns bytes source → Rose source.faults_before source.faults_after
-in-rose mode turns bytes source given c = c.1.2
-
-comes-read : (given : Given) (mode : Option Mode) (turns : List Turn) (bytes : List ℕ) (source : Drawn) → Comes given mode ReadFault turns bytes source
-    → Rose source.faults_before source.faults_after ⊎ HasFailed given
-comes-read given None turns bytes source c = inr (has-failed given c.0)
-comes-read given (Some mode) turns bytes source c = inl (in-rose mode turns bytes source given c)
-
--- a read fault comes where the source failed, or a file that the words name
-pub read-rose : (given : Given) (mode : Option Mode) (status : Status) (turns : List Turn) (bytes : List ℕ) (source : Drawn) (screen report : Sunk) → Ended given mode status turns bytes source screen report
-    → status ≡ ReadFault → Rose source.faults_before source.faults_after ⊎ HasFailed given
-read-rose given mode status turns bytes source screen report (inl whole) e = comes-read given mode turns bytes source (subst (λ s. Comes given mode s turns bytes source) e whole.comes)
-read-rose given mode status turns bytes source screen report (inr (same, broken)) e = absurd (let q : WriteFault ≡ ReadFault = sym same ∙ e in cc)
-
-pub played-read : (given : Given) (result : Status) (l0 : Option (List ℕ)) (source : Drawn) (screen report : Sunk) (c0 c1 : ℕ) → Played given result l0 source screen report c0 c1 → result ≡ ReadFault
-    → Rose source.faults_before source.faults_after ⊎ HasFailed given
-played-read given result l0 source screen report c0 c1 p e = read-rose given p.0 result p.1 p.2 source screen report p.4 e
 
 -- a run over a valid script ends well
 abbrev pub EndWell : Type 0

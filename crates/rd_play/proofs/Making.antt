@@ -1,5 +1,5 @@
 -- A run over the lines of a generated script.
-use Rattle.std.proofs.Common.{◌≡◌, ℕ, ◌+◌, ◌<◌, ◌≤◌, false, List, [], ◌∷◌, ◌++◌, get_or, length, take, Option, None, Some, Result, Ok, Err, refl, sym, ap, ◌∙◌, subst, add-one, arith, length-append}
+use Rattle.std.proofs.Common.{◌≡◌, ℕ, ◌+◌, ◌<◌, ◌≤◌, false, List, [], ◌∷◌, ◌++◌, get_or, length, take, Option, Some, Ok, Err, refl, sym, ap, ◌∙◌, subst, arith}
 use Rattle.std.proofs.Math.Seq.{take-length}
 use Rattle.std.proofs.lemmas.List.{length-take-le, take_more}
 use Rattle.rd_generate.specs.Generated.{hundreds, script, shown}
@@ -7,7 +7,7 @@ use Rattle.rd_run.specs.Ends.{AreAll, AreFirstOf, AreScript, Drawn, IsTaken, Sun
 use Rattle.rd_run.specs.Given.{Given, IsMode}
 use Rattle.rd_run.specs.Runs.{Mode, Standing, Turn, effect, opened, run}
 use Rattle.rd_run.specs.declared.status.Status.TheVariants as statuses
-use Rattle.rd_run.proofs.Turns.{lines-length, lines-push}
+use Rattle.rd_run.proofs.Turns.{lines-push}
 use Rattle.rd_play.specs.Acts.{Acts, Places, halted_by, summary_of}
 use Rattle.rd_play.specs.Played.{turn_of}
 use Rattle.rd_play.specs.declared.halt.Halt.{Halt}
@@ -110,11 +110,3 @@ makes-done given mode number lines i left q s place screen report c0 c1 begun ma
       ),
       k.spent,
     )
-
--- a line that is in hand is one of so many
-pub making-few : (mode : Mode) (lines : List (List ℕ)) (i n : ℕ) (place : Standing) (screen report : Sunk) (c0 c1 : ℕ) → Making mode lines i place screen report c0 c1 → i < length lines → length lines ≤ n → place.lines < n
-making-few mode lines i n place screen report c0 c1 h within few =
-    let upto : i ≤ length lines = omega arith in
-    let count : length h.0 ≡ i = sym (lines-length h.0) ∙ ap length h.1.made ∙ length-take-le i lines upto in
-    let lines_are = h.1.ran.counted in
-    omega arith

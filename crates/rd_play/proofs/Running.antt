@@ -1,32 +1,22 @@
 -- A run, one line after another, against what was read and written.
-use Rattle.std.proofs.Common.{◌≡◌, ℕ, ◌+◌, ◌<◌, ◌≤◌, ◌⊎◌, inl, inr, Bool, true, false, List, [], ◌∷◌, ◌++◌, length, take, Option, None, Some, is_some, if◌then◌else◌, Result, Ok, Err, refl, sym, ap, ◌∙◌, subst, append-nil, arith}
-use Rattle.std.specs.Io.KnownBytes.{Consumes, Appends}
-use Rattle.std.proofs.KnownBytes.{Appends-nil, Appends-trans, Consumes-nil, Consumes-trans}
-use Rattle.rd_generate.specs.Generated.{script as generated}
-use Rattle.rd_io.specs.Devices.{Rose}
-use Rattle.rd_io.specs.Lines.{Reading, Answers, Cause}
-use Rattle.rd_io.proofs.Bytes.{rose-after}
-use Rattle.rd_io.specs.declared.lines.LineFault.{LineFault}
-use Rattle.rd_io.specs.declared.lines.LineFault.TheVariants as reader
+use Rattle.std.proofs.Common.{◌≡◌, ℕ, ◌+◌, ◌≤◌, inl, Bool, true, false, List, [], ◌∷◌, ◌++◌, length, Option, None, Some, is_some, if◌then◌else◌, Result, Ok, Err, refl, sym, ap, ◌∙◌, subst, append-nil, arith}
+use Rattle.std.specs.Io.KnownBytes.{Appends}
+use Rattle.std.proofs.KnownBytes.{Appends-nil, Appends-trans}
 use Rattle.rd_layout.specs.Sessions.{session_step}
 use Rattle.rd_script.specs.Reading.{reading}
 use Rattle.rd_script.specs.declared.fault.OpFault.{OpFault}
 use Rattle.rd_script.specs.declared.op.Op.{Op}
 use Rattle.rd_state.specs.States.{StateValue}
 use Rattle.rd_state.specs.declared.refused.Refused.{Refused}
-use Rattle.rd_run.specs.Ends.{Drawn, drawn, Sunk, sunk, Took, Broke, AreFirst, AreFirstOf, AreInLimits, AreScript, GoesOn, IsTaken, allowed_in, last_in, lines_in, IsBad, IsInHand}
+use Rattle.rd_run.specs.Ends.{Drawn, drawn, Sunk, sunk, Took, Broke, AreScript, IsTaken, allowed_in, lines_in, IsBad, IsInHand}
 use Rattle.rd_run.specs.Given.{Given, IsMode}
-use Rattle.rd_run.specs.Reports.{last_line}
-use Rattle.rd_run.specs.Runs.{Mode, Turn, Standing, Effect, World, opened, run, after, effect, effect_of_reading, effect_by, asked, is_blank, is_sent, outcome_at, stepped}
-use Rattle.rd_run.specs.declared.status.Status.TheVariants as statuses
-use Rattle.rd_run.proofs.Turns.{lines-length, lines-push, turns-push, run-push, turn-goes}
-use Rattle.rd_play.specs.Acts.{Acts, IsToldOf, Places, SpentBy, Stopped, ended_by, halted_by}
+use Rattle.rd_run.specs.Runs.{Mode, Turn, Standing, Effect, World, opened, run, after, effect, effect_of_reading, effect_by, asked, is_blank, is_sent, stepped}
+use Rattle.rd_run.proofs.Turns.{lines-push, turns-push, run-push, turn-goes}
+use Rattle.rd_play.specs.Acts.{Acts, IsToldOf, Places, SpentBy, Stopped, halted_by}
 use Rattle.rd_play.specs.Played.{turn_of}
 use Rattle.rd_play.specs.declared.halt.Halt.{Halt}
 use Rattle.rd_play.specs.declared.halt.Halt.TheVariants as halts
 use Rattle.rd_play.specs.declared.halt.Stop.{Stop}
-use Rattle.rd_play.specs.declared.halt.Stop.TheVariants as stops
-use Rattle.rd_play.proofs.Reading.{HasRead, read-line, line-given, in-limits, are-first, read-over, come}
 use Rattle.rd_play.proofs.Telling.{broke-after}
 
 -- ---- each line

@@ -1,9 +1,9 @@
 -- A run over the lines of a source, against the bytes that were taken from it.
 use Rattle.std.proofs.Common.{◌≡◌, ℕ, ◌+◌, ◌<◌, ◌≤◌, ◌⊎◌, inl, inr, Bool, true, false, List, [], ◌∷◌, ◌++◌, length, Option, None, Some, Result, Ok, Err, refl, sym, ap, ◌∙◌, subst, arith}
-use Rattle.std.specs.Io.KnownBytes.{Consumes, Appends, IsAtEnd}
+use Rattle.std.specs.Io.KnownBytes.{Consumes}
 use Rattle.std.proofs.KnownBytes.{Appends-nil, Consumes-nil, Consumes-trans}
 use Rattle.rd_io.specs.Devices.{Rose}
-use Rattle.rd_io.specs.Lines.{Reading, Answers, Cause, lines_of}
+use Rattle.rd_io.specs.Lines.{Reading, Answers, Cause}
 use Rattle.rd_io.proofs.Bytes.{rose-after}
 use Rattle.rd_io.specs.declared.lines.LineFault.{LineFault}
 use Rattle.rd_io.specs.declared.lines.LineFault.TheVariants as reader
@@ -19,7 +19,7 @@ use Rattle.rd_play.specs.declared.halt.Halt.{Halt}
 use Rattle.rd_play.specs.declared.halt.Stop.{Stop}
 use Rattle.rd_play.specs.declared.halt.Stop.TheVariants as stops
 use Rattle.rd_play.proofs.Reading.{HasRead, read-line, line-given, in-limits, are-first, read-over, come}
-use Rattle.rd_play.proofs.Running.{HasRun, Halts, halts-at, has-begun, has-run}
+use Rattle.rd_play.proofs.Running.{HasRun, halts-at, has-begun, has-run}
 
 pub record IsRunning (mode : Mode) (turns : List Turn) (bytes : List ℕ) (l0 l1 : Option (List ℕ)) (r : Reading) (place : Standing) (screen report : Sunk) (c0 c1 : ℕ) : Type 0 where
   pub read : HasRead (lines_in turns) bytes l0 l1 r
@@ -178,7 +178,3 @@ ends-halt given mode l0 l1 q0 q1 r line halt place next s0 s1 s2 p0 p1 p2 m0 m1 
     let stop = halts-at given mode turns line h.1 l1 q0 q1 halt place next s0 s1 s2 p0 p1 p2 m0 m1 m2 n0 n1 n2 c0 c1 c2 begun m n k.ran
     (subst (λ x. AreScript x (lines_in turns ++ line ∷ []) h.1 l1) (sym read) lines) (taken mode.generated turns h.1 read k.before) a places in
     (stop.0, h.1, k.read.taken, stop.1, stop.2)
-
--- the lines that were run are no more than a script may have
-pub running-few : (mode : Mode) (l0 l1 : Option (List ℕ)) (r : Reading) (place : Standing) (screen report : Sunk) (c0 c1 : ℕ) → Running mode l0 l1 r place screen report c0 c1 → place.lines ≤ 1000000
-running-few mode l0 l1 r place screen report c0 c1 h = let a = h.2.read.count in let b = h.2.read.few in let d = h.2.ran.counted in omega (arith, lines-length h.0)

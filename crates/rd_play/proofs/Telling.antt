@@ -7,13 +7,8 @@ use Rattle.std.proofs.KnownBytes.{Appends-trans}
 use Rattle.rd_io.specs.Devices.{AppendsFront, Writes}
 use Rattle.rd_io.proofs.Bytes.{rose-after}
 use Rattle.rd_run.specs.Ends.{sunk, Broke}
-use Rattle.rd_run.specs.Reports.{key_part, last_line, op_key, part_of, refused_part}
-use Rattle.rd_run.specs.declared.status.ScriptFault.{ScriptFault}
-use Rattle.rd_run.specs.declared.status.ScriptFault.TheVariants as faults
+use Rattle.rd_run.specs.Reports.{key_part, last_line}
 use Rattle.rd_run.specs.declared.status.Status.{Status}
-use Rattle.rd_script.specs.declared.fault.OpFault.{OpFault}
-use Rattle.rd_state.specs.declared.refused.Refused.{Refused}
-use Rattle.rd_state.specs.declared.refused.Refused.TheVariants.{BadFormat}
 use Rattle.rd_play.specs.Acts.{summary_of}
 use Rattle.rd_play.specs.declared.halt.Summary.{Summary}
 
@@ -89,20 +84,6 @@ last-told T E r a c s t lines e h = subst (λ x. Writes a c (last_line x lines) 
 
 pub key-told : (T E : Type 0) (r : Result T E) (a c : Option (List ℕ)) (o p : Option (List ℕ)) → o ≡ p → Writes a c (key_part p) r → Writes a c (key_part o) r
 key-told T E r a c o p e h = subst (λ x. Writes a c (key_part x) r) (sym e) h
-
--- what stands behind the kind of a line that is no op, and of an op that was refused
-pub op-told : (T E : Type 0) (r : Result T E) (a c : Option (List ℕ)) (fault : ScriptFault) (of : OpFault) (key : Option (List ℕ)) → fault ≡ faults.Op of → key ≡ op_key of → Writes a c (key_part key) r
-    → Writes a c (part_of fault) r
-op-told T E r a c fault of key e k h = subst (λ f. Writes a c (part_of f) r) (sym e) (subst (λ x. Writes a c (key_part x) r) k h)
-
-pub refused-told : (T E : Type 0) (r : Result T E) (a c : Option (List ℕ)) (fault : ScriptFault) (refused : Refused) → fault ≡ faults.Refused refused → Writes a c (refused_part refused) r
-    → Writes a c (part_of fault) r
-refused-told T E r a c fault refused e h = subst (λ f. Writes a c (part_of f) r) (sym e) h
-
-pub column-told : (T E : Type 0) (r : Result T E) (a c : Option (List ℕ)) (refused : Refused) (column : ℕ) (shown : List ℕ) → refused ≡ BadFormat column → shown ≡ decimal column
-    → Writes a c (32 ∷ (shown ++ [])) r → Writes a c (refused_part refused) r
-column-told T E r a c refused column shown e same h =
-    subst (λ f. Writes a c (refused_part f) r) (sym e) (writes-same T E r a c (32 ∷ (shown ++ [])) (32 ∷ decimal column) (ap (λ l. 32 ∷ l) (append-nil shown ∙ same)) h)
 
 -- the bytes of a summary's pieces
 pub summary-bytes : (a b c d e : List ℕ) (s : Summary) → a ≡ decimal s.lines → b ≡ decimal s.shown → c ≡ decimal s.characters → d ≡ decimal s.start.pos → e ≡ decimal s.start.row

@@ -1,5 +1,5 @@
 -- What the steps of a run do, by what they answer.
-use Rattle.std.specs.Prelude.{◌≡◌, ℕ, ◌+◌, ◌≤◌, ◌⊎◌, Bool, true, false, List, [], ◌++◌, length, Option, None, Some, Result, Ok, Err}
+use Rattle.std.specs.Prelude.{◌≡◌, ℕ, ◌+◌, ◌≤◌, ◌⊎◌, Bool, true, false, List, [], ◌++◌, Option, None, Some, Result, Ok, Err}
 use Rattle.rd_files.specs.declared.fault.DataFault.{DataFault}
 use Rattle.rd_files.specs.declared.fault.DataFault.TheVariants as data_faults
 use Rattle.rd_io.specs.declared.lines.LineFault.{LineFault}

@@ -34,12 +34,12 @@ use std::sync::ledger::Ledger;
 /// session, room for what a dump says of the windows, and how many lines were run and redisplays shown.
 #[derive(Drop)]
 pub struct Run {
-    pub dumps: bool,
+    dumps: bool,
     pub generated: Option<u32>,
-    pub session: Session,
-    pub windows: Windows,
+    session: Session,
+    windows: Windows,
     pub lines: u32,
-    pub shown: u32,
+    shown: u32,
 }
 
 impl Run {

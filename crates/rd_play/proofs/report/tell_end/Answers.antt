@@ -1,6 +1,6 @@
 use Rattle.std.proofs.Common.{refl, [], ◌∷◌, ◌++◌}
 use Rattle.rd_run.specs.Reports.{part_of}
-use Rattle.rd_play.proofs.Telling.{writes-broke, writes-then}
+use Rattle.rd_play.proofs.Telling.{writes-then}
 use Rattle.rd_play.proofs.report.tell_end.Goals as goal
 
 pub returns-clause-bytes : goal.returns-clause-bytes

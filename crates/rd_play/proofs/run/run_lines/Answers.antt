@@ -1,7 +1,7 @@
-use Rattle.std.proofs.Common.{◌≡◌, ◌∙◌, ◌≤◌, length, ap, arith}
+use Rattle.std.proofs.Common.{◌≡◌, ◌∙◌, length, ap, arith}
 use Rattle.rd_run.specs.Runs.{Standing}
 use Rattle.rd_play.specs.Acts.{halted_by, mode_of, standing}
-use Rattle.rd_play.proofs.Making.{begun, halts-as, made-line, makes-done, makes-halt, making-few}
+use Rattle.rd_play.proofs.Making.{begun, halts-as, made-line, makes-done, makes-halt}
 use Rattle.rd_play.proofs.run.run_lines.Goals as goal
 
 pub each_line-init : goal.each_line-init

@@ -1,8 +1,7 @@
-use Rattle.std.proofs.Common.{ap, sym, ◌+◌, Bool, true, false}
+use Rattle.std.proofs.Common.{◌+◌, true, false}
 use Rattle.rd_layout.specs.Redisplays.{update_of}
-use Rattle.rd_layout.specs.Sessions.{SessionValue}
 use Rattle.rd_play.specs.Acts.{standing}
-use Rattle.rd_play.proofs.Acting.{CopyLaws, acts-next, broke-acts, counts-as, sent-acts, shown-lines, stand, starved-acts, stopped-lines}
+use Rattle.rd_play.proofs.Acting.{acts-next, broke-acts, counts-as, sent-acts, shown-lines, stand, starved-acts, stopped-lines}
 use Rattle.rd_play.proofs.Telling.{writes-same}
 use Rattle.rd_play.proofs.act.Run.show.Goals as goal
 
@@ -11,10 +10,9 @@ returns-in-Shown-clause-acts g c =
     let self = c.args.self.now in
     let new = c.redisplay.new.self in
     let h = c.in-Shown.ensures.redisplayed in
-    let laws : CopyLaws = record { step = c.copies_change_no_op.ensures.step; behind = c.copies_change_no_op.ensures.behind; facts = c.copies_change_no_op.ensures.facts } in
     let u = update_of self.session c.args.stop in
     acts-next c.told.result _ (standing c.tell_shown.new.self) (stand self.dumps self.generated (self.lines + 1) (self.shown + 1) new) _ _ c.tell_shown.ensures.same
-    (sent-acts laws c.tell_shown.result c.told.result self.dumps self.generated self.lines self.shown (self.shown + 1) self.session new c.args.stop c.in-Shown.rows _ _ _ _ _ _ _ _ c.told.ensures
+    (sent-acts c.copies_change_no_op.ensures.facts c.tell_shown.result c.told.result self.dumps self.generated self.lines self.shown (self.shown + 1) self.session new c.args.stop c.in-Shown.rows _ _ _ _ _ _ _ _ c.told.ensures
     (c.sent_redisplays_are_determined.ensures c.in-Shown.rows true c.args.stop self.session new _ _ h) h.files h.count h.bytes (counts-as self.shown u.done true h.whole)
     (writes-same _ _ c.tell_shown.result _ _ _ _ (shown-lines self.dumps self.generated u.done (self.lines + 1) c.in-Shown.rows new h.whole) c.tell_shown.ensures.bytes) c.tell_shown.ensures.failed
     c.tell_shown.ensures.read)
@@ -24,9 +22,8 @@ returns-in-Stopped-clause-acts g c =
     let self = c.args.self.now in
     let new = c.redisplay.new.self in
     let h = c.in-Stopped.ensures.redisplayed in
-    let laws : CopyLaws = record { step = c.copies_change_no_op.ensures.step; behind = c.copies_change_no_op.ensures.behind; facts = c.copies_change_no_op.ensures.facts } in
     let u = update_of self.session c.args.stop in
-    sent-acts laws c.tell_stopped.result c.told-in-Stopped.result self.dumps self.generated self.lines self.shown self.shown self.session new c.args.stop c.in-Stopped.rows _ _ _ _ _ _ _ _ c.told-in-Stopped.ensures
+    sent-acts c.copies_change_no_op.ensures.facts c.tell_stopped.result c.told-in-Stopped.result self.dumps self.generated self.lines self.shown self.shown self.session new c.args.stop c.in-Stopped.rows _ _ _ _ _ _ _ _ c.told-in-Stopped.ensures
     (c.sent_redisplays_are_determined.ensures c.in-Stopped.rows false c.args.stop self.session new _ _ h) h.files h.count h.bytes (counts-as self.shown u.done false h.whole)
     (writes-same _ _ c.tell_stopped.result _ _ _ _ (stopped-lines self.dumps self.generated u.done (self.lines + 1) c.in-Stopped.rows new h.whole) c.tell_stopped.ensures.bytes) c.tell_stopped.ensures.failed
     c.tell_stopped.ensures.read
