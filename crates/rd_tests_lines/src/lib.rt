@@ -27,3 +27,5 @@ mod scenery;
 mod stack;
 #[cfg(test)]
 mod starts;
+#[cfg(test)]
+mod visual;

@@ -22,7 +22,17 @@ pub struct Scenery {
 impl Scenery {
     /// A buffer and objects, with no data.
     pub fn new(alloc: Global, state: BufferState, objects: Objects) -> Result<Scenery, Fail> {
-        let (classes, mirrors) = no_data(alloc)?;
+        Scenery::with_classes(alloc, state, objects, b"")
+    }
+
+    /// A buffer and objects, with the classes of a file and no other data.
+    pub fn with_classes(
+        alloc: Global,
+        state: BufferState,
+        objects: Objects,
+        file: &[u8],
+    ) -> Result<Scenery, Fail> {
+        let (classes, mirrors) = data(alloc, file)?;
         Ok(Scenery {
             state,
             objects,
@@ -52,7 +62,7 @@ pub fn is_accessible(view: &View, pos: Pos) -> bool
     state.text.begin() <= pos && pos <= state.text.end()
 }
 
-/// Data of no character.
-fn no_data(alloc: Global) -> Result<(Classes, Mirrors), Fail> {
-    Ok((Classes::read(alloc, b"")?, Mirrors::read(alloc, b"")?))
+/// The classes of a file, and no mirror.
+fn data(alloc: Global, file: &[u8]) -> Result<(Classes, Mirrors), Fail> {
+    Ok((Classes::read(alloc, file)?, Mirrors::read(alloc, b"")?))
 }

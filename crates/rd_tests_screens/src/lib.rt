@@ -10,6 +10,10 @@ mod generate;
 #[cfg(test)]
 mod io;
 #[cfg(test)]
+mod refused;
+#[cfg(test)]
+mod scene;
+#[cfg(test)]
 mod script;
 #[cfg(test)]
 mod state;

@@ -1,0 +1,332 @@
+//! The rows of a buffer's blocks; motion from item to item as they are seen; and what cells show.
+ghost use Rattle.std.specs.Prelude.{◌≡◌, ◌<◌, IfOk, OnOk, All};
+ghost use Rattle.std.specs.Bool.{OnTrue};
+ghost use Rattle.rd_text.specs.Texts.{IsAccessible};
+ghost use Rattle.rd_matrix.specs.Entries.{shown_entries};
+ghost use Rattle.rd_visual.specs.Hits.{AreInPositions, Fits};
+
+use crate::claims::assert_at;
+use crate::scenery::{Scenery, is_accessible};
+use rd_base::{Cell, Ch, ListOf, Memory, Pos, Steps, Wrap};
+use rd_blocks::{Blocks, accessible_positions_lie_in_blocks};
+use rd_matrix::{BlockSource, Entry, Matrix};
+use rd_objects::Objects;
+use rd_props::{BufferState, View};
+use rd_rows::{Begin, Row, Shape};
+use rd_visual::{cell_of, left, position_at, right};
+use std::alloc::Global;
+use std::marker::Brand;
+use std::sync::ledger::{Blank, Ledger};
+use std::test::Fail;
+
+/// The classes of a blank, of two digits and of three letters that are read from the right. Other letters have class L.
+const CLASSES: &'static [u8] =
+    b"0020;;;;WS\n0031;;;;EN\n0032;;;;EN\n05D0;;;;R\n05D1;;;;R\n05D2;;;;R\n";
+
+/// The characters of a text.
+fn characters(alloc: Global, text: &str) -> Result<ListOf<Ch>, Memory> {
+    let mut list = ListOf::new(alloc);
+    for c in text.chars() {
+        list.push(Ch::scalar(c))?;
+    }
+    Ok(list)
+}
+
+/// A buffer with a text.
+fn buffer(alloc: Global, text: &[Ch]) -> Result<BufferState, Fail> {
+    let mut state = BufferState::new(alloc)?;
+    state.text.insert(1, text)?;
+    Ok(state)
+}
+
+/// A buffer with a text, and the classes above.
+fn scenery(alloc: Global, text: &str) -> Result<Scenery, Fail> {
+    let list = characters(alloc, text)?;
+    let state = buffer(alloc, list.as_slice())?;
+    Scenery::with_classes(alloc, state, Objects::new(alloc)?, CLASSES)
+}
+
+/// Where a step to the right or to the left leads from a position, and 0 where it leads nowhere.
+fn step(alloc: Global, view: &View, pos: Pos, to_right: bool) -> Result<Pos, Memory> {
+    if !is_accessible(view, pos) {
+        return Ok(0);
+    }
+    if to_right {
+        Ok(right(alloc, view, pos)?.unwrap_or(0))
+    } else {
+        Ok(left(alloc, view, pos)?.unwrap_or(0))
+    }
+}
+
+/// Whether a step from a position leads there.
+fn leads(alloc: Global, view: &View, pos: Pos, to_right: bool, wanted: Pos) -> bool {
+    match step(alloc, view, pos, to_right) {
+        Ok(found) => found == wanted,
+        Err(_) => false,
+    }
+}
+
+/// In the line `aאבb`, in an empty one, in the line `א12`, which is read from the right edge, and at the end: each position, and where a
+/// step to the right and one to the left lead.
+const STEPS: [(Pos, Pos, Pos); 11] = [
+    (1, 3, 0),
+    (3, 2, 1),
+    (2, 4, 3),
+    (4, 5, 2),
+    (5, 6, 4),
+    (6, 7, 5),
+    (7, 6, 9),
+    (9, 7, 8),
+    (8, 9, 10),
+    (10, 8, 11),
+    (11, 10, 0),
+];
+
+#[test]
+fn steps_follow_what_is_seen(rt: HostRuntime) -> Result<(), Fail> {
+    let scenery = scenery(rt.alloc(), "a\u{5d0}\u{5d1}b\n\n\u{5d0}12\n")?;
+    let view = scenery.view();
+    for (pos, to_right, to_left) in &STEPS {
+        assert_at(&rt, *pos, leads(rt.alloc(), &view, *pos, true, *to_right));
+        assert_at(&rt, *pos, leads(rt.alloc(), &view, *pos, false, *to_left));
+    }
+    Ok(())
+}
+
+#[test]
+fn no_step_leaves_an_empty_text(rt: HostRuntime) -> Result<(), Fail> {
+    let scenery = scenery(rt.alloc(), "")?;
+    let view = scenery.view();
+    assert!(rt; leads(rt.alloc(), &view, 1, true, 0) && leads(rt.alloc(), &view, 1, false, 0));
+    Ok(())
+}
+
+/// The rows of the block that holds a position, in a window of twelve columns.
+fn rows_at<L: Ledger>(
+    alloc: Global,
+    view: &View,
+    pos: Pos,
+    wrap: Wrap,
+    blank: Blank,
+) -> Result<Vec<Row>, Memory>
+    requires place { IsAccessible view.now.state.now.text pos }
+    requires name { blank.name ≡ L.name }
+    requires parts { blank.parts ≡ L.parts }
+    requires some { 0 < L.parts }
+{
+    accessible_positions_lie_in_blocks();
+    let mut steps = Steps::<L>::new(blank);
+    let mut source = Blocks::new(*view);
+    let block = source.block_of(alloc, pos)?;
+    let shape = Shape {
+        width: 12,
+        wrap,
+        hscroll: 0,
+    };
+    source.rows(alloc, &block, shape, &mut steps)
+}
+
+/// The same, and no row where the position is not accessible.
+fn rows_of<L: Ledger>(
+    alloc: Global,
+    view: &View,
+    pos: Pos,
+    wrap: Wrap,
+    blank: Blank,
+) -> Result<Vec<Row>, Memory>
+    requires name { blank.name ≡ L.name }
+    requires parts { blank.parts ≡ L.parts }
+    requires some { 0 < L.parts }
+{
+    if !is_accessible(view, pos) {
+        return Ok(Vec::new(alloc));
+    }
+    rows_at::<L>(alloc, view, pos, wrap, blank)
+}
+
+/// Whether a cell shows a character of one column.
+fn is_shown(cell: Cell, c: char) -> bool {
+    match cell {
+        Cell::First(glyph, _face) => glyph.base == c as u32,
+        Cell::Blank(_face) => c == ' ',
+        _ => false,
+    }
+}
+
+/// Whether cells show these characters, each of one column.
+fn show(cells: &[Cell], text: &str) -> bool {
+    let mut i = 0;
+    for c in text.chars() {
+        if i >= cells.len() || !is_shown(cells[i], c) {
+            return false;
+        }
+        i += 1;
+    }
+    i == cells.len()
+}
+
+/// Whether rows show these texts.
+fn are_shown(rows: &[Row], texts: &[&str]) -> bool {
+    if rows.len() != texts.len() {
+        return false;
+    }
+    for (row, text) in rows.iter().zip(texts) {
+        if !show(row.cells(), text) {
+            return false;
+        }
+    }
+    true
+}
+
+/// Whether the first block of a look is shown as these texts.
+fn shows<L: Ledger>(alloc: Global, view: &View, wrap: Wrap, texts: &[&str], blank: Blank) -> bool
+    requires name { blank.name ≡ L.name }
+    requires parts { blank.parts ≡ L.parts }
+    requires some { 0 < L.parts }
+{
+    match rows_of::<L>(alloc, view, 1, wrap, blank) {
+        Ok(rows) => are_shown(rows.as_slice(), texts),
+        Err(_) => false,
+    }
+}
+
+#[test]
+fn long_lines_are_cut(rt: HostRuntime) -> Result<(), Fail> {
+    let scenery = scenery(rt.alloc(), "the quick brown\nfox")?;
+    let view = scenery.view();
+    let cut = ["the quick b$"];
+    let continued = ["the quick b\\", "rown        "];
+    let by_words = ["the quick   ", "brown       "];
+    assert!(rt; shows::<Brand>(rt.alloc(), &view, Wrap::Truncate, &cut, Blank::new(1)));
+    assert!(rt; shows::<Brand>(rt.alloc(), &view, Wrap::Continue, &continued, Blank::new(1)));
+    assert!(rt; shows::<Brand>(rt.alloc(), &view, Wrap::Word, &by_words, Blank::new(1)));
+    Ok(())
+}
+
+/// Whether each of these items of a block that starts at a position ends at a position.
+fn fit(start: Pos, begins: &[Begin]) -> bool
+    ensures { OnTrue result (All (Fits start) begins.now) }
+{
+    begins
+        .iter()
+        .all(|begin| start.checked_add(begin.to).is_some())
+}
+
+/// Adds a row of a block that starts at a position, where its items end at positions and there are few rows.
+fn add(matrix: &mut Matrix, start: Pos, row: Row) -> Result<(), Memory>
+    requires { AreInPositions (shown_entries matrix.old) }
+    ensures { OnOk result (AreInPositions (shown_entries matrix.new)) }
+{
+    let number = matrix.len();
+    if number >= 100 || !fit(start, row.begins()) {
+        return Ok(());
+    }
+    matrix.push(Entry {
+        start,
+        number: number as u32,
+        row,
+    })
+}
+
+/// Rows of a block that starts at a position, one below the other.
+fn matrix_of(alloc: Global, start: Pos, rows: Vec<Row>) -> Result<Matrix, Memory>
+    ensures { IfOk result (λ matrix. AreInPositions (shown_entries matrix)) }
+{
+    let mut matrix = Matrix::new(alloc)?;
+    for row in rows {
+        add(&mut matrix, start, row)?;
+    }
+    Ok(matrix)
+}
+
+/// The rows of the first block of a look.
+fn first_rows<L: Ledger>(
+    alloc: Global,
+    view: &View,
+    wrap: Wrap,
+    blank: Blank,
+) -> Result<Matrix, Memory>
+    requires name { blank.name ≡ L.name }
+    requires parts { blank.parts ≡ L.parts }
+    requires some { 0 < L.parts }
+    ensures { IfOk result (λ matrix. AreInPositions (shown_entries matrix)) }
+{
+    let rows = rows_of::<L>(alloc, view, 1, wrap, blank)?;
+    matrix_of(alloc, 1, rows)
+}
+
+/// Whether a cell of the rows shows a position, and 0 where it shows none.
+fn hits(matrix: &Matrix, row: u32, column: u32, pos: Pos) -> bool
+    requires { AreInPositions (shown_entries matrix.now) }
+{
+    position_at(matrix, row, column).unwrap_or(0) == pos
+}
+
+/// Whether the item of a position begins in a cell of the rows.
+fn begins(matrix: &Matrix, pos: Pos, row: u32, column: u32) -> bool {
+    match cell_of(matrix, pos) {
+        Some(cell) => cell == (row, column),
+        None => false,
+    }
+}
+
+/// The columns of the row of `אב 12`, which is read from the right edge, each with the position that it shows.
+const COLUMNS: [(u32, Pos); 13] = [
+    (0, 6),
+    (1, 6),
+    (2, 6),
+    (3, 6),
+    (4, 6),
+    (5, 6),
+    (6, 6),
+    (7, 4),
+    (8, 5),
+    (9, 3),
+    (10, 2),
+    (11, 1),
+    (12, 0),
+];
+
+/// Whether each cell of that row shows its position.
+fn are_hit(matrix: &Matrix) -> bool
+    requires { AreInPositions (shown_entries matrix.now) }
+{
+    for (column, pos) in &COLUMNS {
+        if !hits(matrix, 0, *column, *pos) {
+            return false;
+        }
+    }
+    hits(matrix, 1, 11, 0)
+}
+
+/// Whether each position of that row begins in the last of the cells from the left that show it.
+fn are_found(matrix: &Matrix) -> bool {
+    for (column, pos) in &COLUMNS[6..12] {
+        if !begins(matrix, *pos, 0, *column) {
+            return false;
+        }
+    }
+    !matrix.shows(7)
+}
+
+/// Whether cells and positions of the first block of a look answer to each other so.
+fn answer<L: Ledger>(alloc: Global, view: &View, blank: Blank) -> bool
+    requires name { blank.name ≡ L.name }
+    requires parts { blank.parts ≡ L.parts }
+    requires some { 0 < L.parts }
+{
+    match first_rows::<L>(alloc, view, Wrap::Truncate, blank) {
+        Ok(matrix) => are_hit(&matrix) && are_found(&matrix),
+        Err(_) => false,
+    }
+}
+
+#[test]
+fn cells_show_positions(rt: HostRuntime) -> Result<(), Fail> {
+    let scenery = scenery(rt.alloc(), "\u{5d0}\u{5d1} 12")?;
+    let view = scenery.view();
+    assert!(rt; answer::<Brand>(rt.alloc(), &view, Blank::new(1)));
+    assert!(rt; leads(rt.alloc(), &view, 6, true, 4) && leads(rt.alloc(), &view, 4, true, 5));
+    assert!(rt; leads(rt.alloc(), &view, 5, false, 4));
+    Ok(())
+}

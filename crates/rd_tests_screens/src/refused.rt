@@ -1,0 +1,633 @@
+//! What states refuse, and which refusal comes first.
+use crate::claims::assert_of;
+use crate::scene::{answer, applied, is_accepted, is_done, is_scene, refuses, scene};
+use rd_script::Op;
+use rd_state::{Effect, Refused, State};
+use rd_tree::Side;
+use std::alloc::{AllocError, Global};
+use std::process::Abort;
+use std::test::Fail;
+
+/// Lines that the scene refuses, and why, by the rows of the ops. Where a line has more than one cause, the first of the row is told.
+const REFUSALS: [(&'static str, Refused); 81] = [
+    (
+        r#"{"op":"frame","width":26,"height":12}"#,
+        Refused::TooSmall,
+    ),
+    (r#"{"op":"frame","width":60,"height":2}"#, Refused::TooSmall),
+    (r#"{"op":"buffer","name":"é"}"#, Refused::NameTaken),
+    (
+        r#"{"op":"insert","buffer":"x","pos":9,"text":"é"}"#,
+        Refused::NoBuffer,
+    ),
+    (
+        r#"{"op":"insert","buffer":"main","pos":1,"text":"a"}"#,
+        Refused::OutOfRange,
+    ),
+    (
+        r#"{"op":"insert","buffer":"main","pos":7,"text":""}"#,
+        Refused::OutOfRange,
+    ),
+    (
+        r#"{"op":"insert","buffer":"main","pos":4294967298,"text":"a"}"#,
+        Refused::OutOfRange,
+    ),
+    (
+        r#"{"op":"insert_raw","buffer":"Main","pos":9,"bytes":[128]}"#,
+        Refused::NoBuffer,
+    ),
+    (
+        r#"{"op":"insert_raw","buffer":"main","pos":0,"bytes":[]}"#,
+        Refused::OutOfRange,
+    ),
+    (
+        r#"{"op":"delete","buffer":"x","from":9,"to":1}"#,
+        Refused::NoBuffer,
+    ),
+    (
+        r#"{"op":"delete","buffer":"main","from":1,"to":3}"#,
+        Refused::OutOfRange,
+    ),
+    (
+        r#"{"op":"delete","buffer":"main","from":2,"to":7}"#,
+        Refused::OutOfRange,
+    ),
+    (
+        r#"{"op":"delete","buffer":"main","from":4,"to":3}"#,
+        Refused::OutOfRange,
+    ),
+    (
+        r#"{"op":"narrow","buffer":"mai","from":0,"to":1}"#,
+        Refused::NoBuffer,
+    ),
+    (
+        r#"{"op":"narrow","buffer":"main","from":0,"to":1}"#,
+        Refused::OutOfRange,
+    ),
+    (
+        r#"{"op":"narrow","buffer":"main","from":1,"to":8}"#,
+        Refused::OutOfRange,
+    ),
+    (
+        r#"{"op":"narrow","buffer":"main","from":3,"to":2}"#,
+        Refused::OutOfRange,
+    ),
+    (r#"{"op":"widen","buffer":"e"}"#, Refused::NoBuffer),
+    (
+        r#"{"op":"put","buffer":"x","from":9,"to":9,"kind":"face","value":9}"#,
+        Refused::NoBuffer,
+    ),
+    (
+        r#"{"op":"put","buffer":"main","from":1,"to":2,"kind":"face","value":9}"#,
+        Refused::OutOfRange,
+    ),
+    (
+        r#"{"op":"put","buffer":"main","from":5,"to":7,"kind":"invisible"}"#,
+        Refused::OutOfRange,
+    ),
+    (
+        r#"{"op":"put","buffer":"main","from":2,"to":2,"kind":"face","value":1}"#,
+        Refused::NoObject,
+    ),
+    (
+        r#"{"op":"put","buffer":"main","from":2,"to":3,"kind":"display","value":1}"#,
+        Refused::NoObject,
+    ),
+    (
+        r#"{"op":"put","buffer":"main","from":2,"to":3,"kind":"line_prefix","value":4294967296}"#,
+        Refused::NoObject,
+    ),
+    (
+        r#"{"op":"put","buffer":"main","from":2,"to":3,"kind":"wrap_prefix","value":1}"#,
+        Refused::NoObject,
+    ),
+    (
+        r#"{"op":"overlay","buffer":"x","from":0,"to":1}"#,
+        Refused::NoBuffer,
+    ),
+    (
+        r#"{"op":"overlay","buffer":"main","from":0,"to":1}"#,
+        Refused::OutOfRange,
+    ),
+    (
+        r#"{"op":"overlay","buffer":"main","from":3,"to":2}"#,
+        Refused::OutOfRange,
+    ),
+    (
+        r#"{"op":"overlay","buffer":"main","from":7,"to":8}"#,
+        Refused::OutOfRange,
+    ),
+    (
+        r#"{"op":"overlay_move","buffer":"x","overlay":1,"from":0,"to":9}"#,
+        Refused::NoBuffer,
+    ),
+    (
+        r#"{"op":"overlay_move","buffer":"main","overlay":1,"from":0,"to":9}"#,
+        Refused::NoOverlay,
+    ),
+    (
+        r#"{"op":"overlay_move","buffer":"main","overlay":2,"from":2,"to":3}"#,
+        Refused::NoOverlay,
+    ),
+    (
+        r#"{"op":"overlay_move","buffer":"main","overlay":0,"from":4,"to":3}"#,
+        Refused::OutOfRange,
+    ),
+    (
+        r#"{"op":"overlay_move","buffer":"main","overlay":0,"from":1,"to":8}"#,
+        Refused::OutOfRange,
+    ),
+    (
+        r#"{"op":"overlay_drop","buffer":"x","overlay":0}"#,
+        Refused::NoBuffer,
+    ),
+    (
+        r#"{"op":"overlay_drop","buffer":"é","overlay":0}"#,
+        Refused::NoOverlay,
+    ),
+    (
+        r#"{"op":"overlay_drop","buffer":"main","overlay":4294967296}"#,
+        Refused::NoOverlay,
+    ),
+    (
+        r#"{"op":"overlay_put","buffer":"x","overlay":1,"kind":"face","value":9}"#,
+        Refused::NoBuffer,
+    ),
+    (
+        r#"{"op":"overlay_put","buffer":"main","overlay":1,"kind":"face","value":9}"#,
+        Refused::NoOverlay,
+    ),
+    (
+        r#"{"op":"overlay_put","buffer":"main","overlay":0,"kind":"face","value":1}"#,
+        Refused::NoObject,
+    ),
+    (
+        r#"{"op":"overlay_put","buffer":"main","overlay":0,"kind":"after","value":1}"#,
+        Refused::NoObject,
+    ),
+    (
+        r#"{"op":"margin_put","buffer":"x","overlay":1,"string":9}"#,
+        Refused::NoBuffer,
+    ),
+    (
+        r#"{"op":"margin_put","buffer":"main","overlay":1,"string":9}"#,
+        Refused::NoOverlay,
+    ),
+    (
+        r#"{"op":"margin_put","buffer":"main","overlay":0,"string":1}"#,
+        Refused::NoObject,
+    ),
+    (
+        r#"{"op":"setting","buffer":"x","name":"table","value":9}"#,
+        Refused::NoBuffer,
+    ),
+    (
+        r#"{"op":"setting","buffer":"main","name":"table","value":1}"#,
+        Refused::NoObject,
+    ),
+    (
+        r#"{"op":"setting","buffer":"main","name":"line_prefix","value":1}"#,
+        Refused::NoObject,
+    ),
+    (
+        r#"{"op":"setting","buffer":"main","name":"wrap_prefix","value":18446744073709551615}"#,
+        Refused::NoObject,
+    ),
+    (
+        r#"{"op":"string","text":"ab","runs":[[0,3,"face",0],[1,2,"face",1]]}"#,
+        Refused::NoObject,
+    ),
+    (
+        r#"{"op":"string","text":"ab","runs":[[0,1,"display",1]]}"#,
+        Refused::NoObject,
+    ),
+    (
+        r#"{"op":"string","text":"ab","runs":[[1,3,"face",0]]}"#,
+        Refused::OutOfRange,
+    ),
+    (
+        r#"{"op":"string","text":"ab","runs":[[2,1,"display",0]]}"#,
+        Refused::OutOfRange,
+    ),
+    (
+        r#"{"op":"spec","kind":"string","value":1}"#,
+        Refused::NoObject,
+    ),
+    (
+        r#"{"op":"split","window":2,"side":"below","size":0}"#,
+        Refused::NoWindow,
+    ),
+    (
+        r#"{"op":"split","window":0,"side":"right","size":10}"#,
+        Refused::TooSmall,
+    ),
+    (
+        r#"{"op":"split","window":0,"side":"right","size":20}"#,
+        Refused::TooSmall,
+    ),
+    (
+        r#"{"op":"split","window":0,"side":"below","size":1}"#,
+        Refused::TooSmall,
+    ),
+    (
+        r#"{"op":"split","window":1,"side":"below","size":11}"#,
+        Refused::TooSmall,
+    ),
+    (
+        r#"{"op":"split","window":1,"side":"right","size":15}"#,
+        Refused::TooSmall,
+    ),
+    (
+        r#"{"op":"split","window":1,"side":"below","size":18446744073709551615}"#,
+        Refused::TooSmall,
+    ),
+    (r#"{"op":"remove","window":2}"#, Refused::NoWindow),
+    (r#"{"op":"remove","window":4294967296}"#, Refused::NoWindow),
+    (r#"{"op":"select","window":3}"#, Refused::NoWindow),
+    (r#"{"op":"select","window":4294967297}"#, Refused::NoWindow),
+    (
+        r#"{"op":"show","window":2,"buffer":"x"}"#,
+        Refused::NoWindow,
+    ),
+    (
+        r#"{"op":"show","window":0,"buffer":"x"}"#,
+        Refused::NoBuffer,
+    ),
+    (r#"{"op":"point","window":2,"pos":9}"#, Refused::NoWindow),
+    (r#"{"op":"point","window":0,"pos":1}"#, Refused::OutOfRange),
+    (r#"{"op":"point","window":1,"pos":5}"#, Refused::OutOfRange),
+    (
+        r#"{"op":"point","window":0,"pos":4294967298}"#,
+        Refused::OutOfRange,
+    ),
+    (
+        r#"{"op":"start","window":2,"pos":9,"row":0}"#,
+        Refused::NoWindow,
+    ),
+    (
+        r#"{"op":"start","window":0,"pos":7,"row":1000000}"#,
+        Refused::OutOfRange,
+    ),
+    (r#"{"op":"scroll","window":2,"rows":1}"#, Refused::NoWindow),
+    (
+        r#"{"op":"hscroll","window":2,"columns":1}"#,
+        Refused::NoWindow,
+    ),
+    (
+        r#"{"op":"wrap","window":2,"mode":"continue"}"#,
+        Refused::NoWindow,
+    ),
+    (
+        r#"{"op":"mode_line","window":2,"format":"%"}"#,
+        Refused::NoWindow,
+    ),
+    (
+        r#"{"op":"mode_line","window":0,"format":"é%1234b%"}"#,
+        Refused::BadFormat(1),
+    ),
+    (
+        r#"{"op":"mode_line","window":1,"format":"%b%3%"}"#,
+        Refused::BadFormat(2),
+    ),
+    (
+        r#"{"op":"margin","window":2,"numbers":10,"strings":20}"#,
+        Refused::NoWindow,
+    ),
+    (
+        r#"{"op":"margin","window":0,"numbers":0,"strings":20}"#,
+        Refused::TooSmall,
+    ),
+    (
+        r#"{"op":"margin","window":1,"numbers":10,"strings":20}"#,
+        Refused::TooSmall,
+    ),
+];
+
+/// Asserts that the scene refuses each of these lines for its cause, and stays as it is.
+fn assert_kept(rt: &impl Abort, state: &mut State, alloc: Global) {
+    for (line, refused) in &REFUSALS {
+        let kept = refuses(state, alloc, line, *refused) && is_scene(state);
+        assert_of(rt, line, kept);
+    }
+}
+
+#[test]
+fn ops_are_refused(rt: HostRuntime) -> Result<(), Fail> {
+    let mut state = scene(rt.alloc())?;
+    assert_kept(&rt, &mut state, rt.alloc());
+    Ok(())
+}
+
+/// Asserts that a state refuses each line of a table for its cause.
+fn assert_refused(rt: &impl Abort, state: &mut State, alloc: Global, table: &[(&str, Refused)]) {
+    for (line, refused) in table {
+        assert_of(rt, line, refuses(state, alloc, line, *refused));
+    }
+}
+
+/// Lines that the opening state refuses in a frame of 12 columns and 2 rows, where the one window has 1 row, and why.
+const IN_THE_LEAST_FRAME: [(&'static str, Refused); 7] = [
+    (r#"{"op":"remove","window":1}"#, Refused::NoWindow),
+    (r#"{"op":"remove","window":0}"#, Refused::LastWindow),
+    (
+        r#"{"op":"mode_line","window":0,"format":"%"}"#,
+        Refused::BadFormat(0),
+    ),
+    (
+        r#"{"op":"mode_line","window":0,"format":""}"#,
+        Refused::TooSmall,
+    ),
+    (
+        r#"{"op":"margin","window":0,"numbers":1,"strings":1}"#,
+        Refused::TooSmall,
+    ),
+    (
+        r#"{"op":"split","window":0,"side":"below","size":0}"#,
+        Refused::TooSmall,
+    ),
+    (
+        r#"{"op":"split","window":0,"side":"right","size":6}"#,
+        Refused::TooSmall,
+    ),
+];
+
+/// Asserts what the opening state refuses in the least frame, and that it has room for one column of margin strings.
+fn assert_unshared(rt: &impl Abort, state: &mut State, alloc: Global) {
+    let frame = r#"{"op":"frame","width":12,"height":2}"#;
+    assert!(rt; is_accepted(state, alloc, frame));
+    assert_refused(rt, state, alloc, &IN_THE_LEAST_FRAME);
+    let margin = r#"{"op":"margin","window":0,"numbers":0,"strings":1}"#;
+    assert!(rt; is_accepted(state, alloc, margin));
+}
+
+#[test]
+fn one_row_is_not_shared(rt: HostRuntime) -> Result<(), Fail> {
+    let mut state = State::new(rt.alloc())?;
+    assert_unshared(&rt, &mut state, rt.alloc());
+    Ok(())
+}
+
+/// Whether a state accepts a line so many times.
+fn repeats(state: &mut State, alloc: Global, line: &str, count: u32) -> bool {
+    for _i in 0..count {
+        if !is_accepted(state, alloc, line) {
+            return false;
+        }
+    }
+    true
+}
+
+/// A line with so many characters `a` behind its first part.
+fn filled(alloc: Global, front: &str, count: usize) -> Result<String, AllocError> {
+    let mut line = String::from_str(alloc, front)?;
+    for _i in 0..count {
+        line.push('a')?;
+    }
+    line.push_str(r#""}"#)?;
+    Ok(line)
+}
+
+/// What a state answers to such a line; None also where there was no memory for it.
+fn answer_filled(
+    state: &mut State,
+    alloc: Global,
+    front: &str,
+    count: usize,
+) -> Option<Result<Effect, Refused>> {
+    match filled(alloc, front, count) {
+        Ok(line) => answer(state, alloc, line.as_str()),
+        Err(_) => None,
+    }
+}
+
+/// Whether a state accepts a buffer whose name is so many characters `a`.
+fn makes_buffer(state: &mut State, alloc: Global, count: usize) -> bool {
+    is_done(answer_filled(state, alloc, r#"{"op":"buffer","name":""#, count))
+}
+
+/// Whether a state accepts 63 buffers, whose names have 1 to 63 characters.
+fn makes_buffers(state: &mut State, alloc: Global) -> bool {
+    for count in 1..64 {
+        if !makes_buffer(state, alloc, count) {
+            return false;
+        }
+    }
+    true
+}
+
+/// What a state of 64 buffers refuses.
+const WITH_ALL_BUFFERS: [(&'static str, Refused); 2] = [
+    (r#"{"op":"buffer","name":"aa"}"#, Refused::NameTaken),
+    (r#"{"op":"buffer","name":"b"}"#, Refused::TooManyBuffers),
+];
+
+/// Asserts that a state takes 63 buffers more, and refuses another.
+fn assert_64_buffers(rt: &impl Abort, state: &mut State, alloc: Global) {
+    assert!(rt; makes_buffers(state, alloc));
+    assert_refused(rt, state, alloc, &WITH_ALL_BUFFERS);
+    assert!(rt; state.name(63).is_some() && state.name(64).is_none());
+}
+
+#[test]
+fn there_are_64_buffers(rt: HostRuntime) -> Result<(), Fail> {
+    let mut state = State::new(rt.alloc())?;
+    assert_64_buffers(&rt, &mut state, rt.alloc());
+    Ok(())
+}
+
+/// Whether a state splits a window, which keeps three rows.
+fn splits(state: &mut State, window: u32) -> bool {
+    is_done(applied(
+        state,
+        Op::Split {
+            window: window as u64,
+            side: Side::Below,
+            size: 3,
+        },
+    ))
+}
+
+/// Whether a state splits so many windows, each of which the one before made.
+fn splits_each(state: &mut State, count: u32) -> bool {
+    for window in 0..count {
+        if !splits(state, window) {
+            return false;
+        }
+    }
+    true
+}
+
+/// What a state of 64 windows refuses, the last of which has ten rows.
+const WITH_ALL_WINDOWS: [(&'static str, Refused); 3] = [
+    (
+        r#"{"op":"split","window":64,"side":"below","size":3}"#,
+        Refused::NoWindow,
+    ),
+    (
+        r#"{"op":"split","window":63,"side":"below","size":10}"#,
+        Refused::TooSmall,
+    ),
+    (
+        r#"{"op":"split","window":63,"side":"below","size":3}"#,
+        Refused::TooManyWindows,
+    ),
+];
+
+/// Asserts that a state takes 63 windows more, and refuses another.
+fn assert_64_windows(rt: &impl Abort, state: &mut State, alloc: Global) {
+    let frame = r#"{"op":"frame","width":400,"height":200}"#;
+    assert!(rt; is_accepted(state, alloc, frame) && splits_each(state, 63));
+    assert_refused(rt, state, alloc, &WITH_ALL_WINDOWS);
+    assert!(rt; state.window(63).is_some() && state.window(64).is_none());
+}
+
+#[test]
+fn there_are_64_windows(rt: HostRuntime) -> Result<(), Fail> {
+    let mut state = State::new(rt.alloc())?;
+    assert_64_windows(&rt, &mut state, rt.alloc());
+    Ok(())
+}
+
+/// What a state with all objects refuses.
+const WITH_ALL_OBJECTS: [(&'static str, Refused); 7] = [
+    (
+        r#"{"op":"string","text":"a","runs":[[1,2,"face",1024]]}"#,
+        Refused::NoObject,
+    ),
+    (
+        r#"{"op":"string","text":"a","runs":[[0,2,"face",1023]]}"#,
+        Refused::OutOfRange,
+    ),
+    (r#"{"op":"string","text":""}"#, Refused::TooManyObjects),
+    (
+        r#"{"op":"spec","kind":"string","value":4096}"#,
+        Refused::NoObject,
+    ),
+    (
+        r#"{"op":"spec","kind":"align","value":0}"#,
+        Refused::TooManyObjects,
+    ),
+    (r#"{"op":"face"}"#, Refused::TooManyObjects),
+    (r#"{"op":"table"}"#, Refused::TooManyObjects),
+];
+
+/// Whether a state refuses a string of so many characters `a` for a cause.
+fn refuses_string(state: &mut State, alloc: Global, count: usize, refused: Refused) -> bool {
+    answer_filled(state, alloc, r#"{"op":"string","text":""#, count) == Some(Err(refused))
+}
+
+/// Whether a state accepts as many objects of each sort as there may be.
+fn makes_objects(state: &mut State, alloc: Global) -> bool {
+    let string = r#"{"op":"string","text":"a","runs":[[0,1,"face",1023]]}"#;
+    let spec = r#"{"op":"spec","kind":"string","value":4095}"#;
+    repeats(state, alloc, r#"{"op":"face","bg":7}"#, 1024)
+        && repeats(state, alloc, r#"{"op":"table"}"#, 64)
+        && repeats(state, alloc, string, 4096)
+        && repeats(state, alloc, spec, 4096)
+}
+
+/// Asserts that a string can be too long, with and without all objects, and how many objects there are.
+fn assert_all_objects(rt: &impl Abort, state: &mut State, alloc: Global) {
+    assert!(rt; refuses_string(state, alloc, 4097, Refused::ObjectTooLong));
+    assert!(rt; makes_objects(state, alloc));
+    assert_refused(rt, state, alloc, &WITH_ALL_OBJECTS);
+    assert!(rt; refuses_string(state, alloc, 4097, Refused::ObjectTooLong));
+    assert!(rt; refuses_string(state, alloc, 4096, Refused::TooManyObjects));
+}
+
+#[test]
+fn objects_are_limited(rt: HostRuntime) -> Result<(), Fail> {
+    let mut state = State::new(rt.alloc())?;
+    assert_all_objects(&rt, &mut state, rt.alloc());
+    Ok(())
+}
+
+/// What a state refuses whose first buffer had all its overlays.
+const WITH_ALL_OVERLAYS: [(&'static str, Refused); 3] = [
+    (
+        r#"{"op":"overlay","buffer":"mai","from":1,"to":1}"#,
+        Refused::NoBuffer,
+    ),
+    (
+        r#"{"op":"overlay","buffer":"main","from":1,"to":2}"#,
+        Refused::OutOfRange,
+    ),
+    (
+        r#"{"op":"overlay","buffer":"main","from":1,"to":1}"#,
+        Refused::TooManyOverlays,
+    ),
+];
+
+/// Asserts that a state takes 65,536 overlays, and refuses another even where one was taken away.
+fn assert_65_536_overlays(rt: &impl Abort, state: &mut State, alloc: Global) {
+    let overlay = r#"{"op":"overlay","buffer":"main","from":1,"to":1}"#;
+    assert!(rt; repeats(state, alloc, overlay, 65_536));
+    let gone = r#"{"op":"overlay_drop","buffer":"main","overlay":65535}"#;
+    assert!(rt; is_accepted(state, alloc, gone));
+    assert_refused(rt, state, alloc, &WITH_ALL_OVERLAYS);
+}
+
+#[test]
+fn there_are_65_536_overlays(rt: HostRuntime) -> Result<(), Fail> {
+    let mut state = State::new(rt.alloc())?;
+    assert_65_536_overlays(&rt, &mut state, rt.alloc());
+    Ok(())
+}
+
+/// Whether a state types so many characters `a`.
+fn types(state: &mut State, alloc: Global, count: usize) -> bool {
+    is_done(answer_filled(state, alloc, r#"{"op":"type","text":""#, count))
+}
+
+/// Whether a state types so many characters, part by part.
+fn types_each(state: &mut State, alloc: Global, counts: &[usize]) -> bool {
+    for count in counts {
+        if !types(state, alloc, *count) {
+            return false;
+        }
+    }
+    true
+}
+
+/// What a state refuses whose first buffer holds the longest text.
+const WITH_ALL_CHARACTERS: [(&'static str, Refused); 7] = [
+    (r#"{"op":"type","text":"a"}"#, Refused::TextTooLarge),
+    (
+        r#"{"op":"insert","buffer":"x","pos":0,"text":"a"}"#,
+        Refused::NoBuffer,
+    ),
+    (
+        r#"{"op":"insert","buffer":"main","pos":0,"text":"a"}"#,
+        Refused::OutOfRange,
+    ),
+    (
+        r#"{"op":"insert","buffer":"main","pos":4194306,"text":"a"}"#,
+        Refused::OutOfRange,
+    ),
+    (
+        r#"{"op":"insert","buffer":"main","pos":4194305,"text":"a"}"#,
+        Refused::TextTooLarge,
+    ),
+    (
+        r#"{"op":"insert_raw","buffer":"main","pos":0,"bytes":[128]}"#,
+        Refused::OutOfRange,
+    ),
+    (
+        r#"{"op":"insert_raw","buffer":"main","pos":1,"bytes":[128]}"#,
+        Refused::TextTooLarge,
+    ),
+];
+
+/// Asserts that a state takes a text of 4,194,304 characters and no longer one.
+fn assert_all_characters(rt: &impl Abort, state: &mut State, alloc: Global) {
+    let counts = [1_048_000, 1_048_000, 1_048_000, 1_048_000, 2_304, 0];
+    assert!(rt; types_each(state, alloc, &counts));
+    assert_refused(rt, state, alloc, &WITH_ALL_CHARACTERS);
+}
+
+#[test]
+fn texts_have_4_194_304_characters(rt: HostRuntime) -> Result<(), Fail> {
+    let mut state = State::new(rt.alloc())?;
+    assert_all_characters(&rt, &mut state, rt.alloc());
+    Ok(())
+}
