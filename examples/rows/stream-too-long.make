@@ -1,0 +1,2 @@
+# spaces, one too many
+head -c 16777217 /dev/zero | tr '\0' ' '
