@@ -12,8 +12,10 @@ mod windows;
 
 ghost use Rattle.std.specs.Prelude.{◌≡◌, ◌<◌};
 
+use crate::top::{play, tell_status};
 use rd_base::Steps;
 use rd_io::{HostFiles, StdSink, StdSource};
+use rd_run::Status;
 use std::alloc::Global;
 use std::marker::Brand;
 use std::process::ExitCode;
@@ -21,28 +23,33 @@ use std::sync::ledger::{Blank, Ledger};
 use std::{env, io};
 
 fn main(rt: HostRuntime) -> io::Result<ExitCode> {
-    Ok(ExitCode::from(start::<Brand>(&rt, Blank::new(1))?))
+    Ok(ExitCode::from(start::<Brand>(&rt, Blank::new(1))))
 }
 
 /// Runs the script on a new ledger, and answers the exit status.
-fn start<L: Ledger>(rt: &HostRuntime, blank: Blank) -> io::Result<u8>
+fn start<L: Ledger>(rt: &HostRuntime, blank: Blank) -> u8
     requires name { blank.name ≡ L.name }
     requires parts { blank.parts ≡ L.parts }
     requires some { 0 < L.parts }
 {
-    let status = top::play(
-        rt.alloc(),
-        words(rt)?,
-        &mut StdSource::new(rt.stdin()),
-        &mut HostFiles::new(rt),
-        &mut StdSink::new(rt.stdout()),
-        &mut StdSink::new(rt.stderr()),
-        &mut Steps::<L>::new(blank),
-    );
-    Ok(status.code())
+    let mut report = StdSink::new(rt.stderr());
+    let status = match words(rt) {
+        Ok(words) => play(
+            rt.alloc(),
+            words,
+            &mut StdSource::new(rt.stdin()),
+            &mut HostFiles::new(rt),
+            &mut StdSink::new(rt.stdout()),
+            &mut report,
+            &mut Steps::<L>::new(blank),
+        ),
+        Err(_starved) => tell_status(&mut report, Status::NoMemory, 0),
+    };
+    status.code()
 }
 
-/// The words behind the program's name. In the place of words of which one is no UTF-8 stands an empty word, which is as faulty.
+/// The words behind the program's name; where they can't be had memory was wanting. In the place of words of which one is no UTF-8 stands
+/// an empty word, which is as faulty.
 fn words(rt: &HostRuntime) -> io::Result<Vec<String>> {
     match env::args(rt) {
         Ok(args) => Ok(args.skip(1).collect(rt.alloc())?),

@@ -231,7 +231,7 @@ fn finish<R: Sink>(report: &mut R, stop: Stop) -> Status
 }
 
 /// Tells the last line, and answers its status, or the write fault where the report fails.
-fn tell_status<R: Sink>(report: &mut R, status: Status, lines: u32) -> Status
+pub fn tell_status<R: Sink>(report: &mut R, status: Status, lines: u32) -> Status
     ensures tells { Tells status (last_line status lines) result (sunk (R.written report.old) (R.written report.new) (R.faults report.old) (R.faults report.new)) }
     ensures report { R.faults report.old ≤ R.faults report.new }
 {
