@@ -1,4 +1,7 @@
 //! Scripts from their bytes to the screen, the report and the status.
+
+mod devices;
+
 ghost use Rattle.std.specs.Prelude.{◌≡◌, ◌<◌};
 
 use crate::top::play;
@@ -132,86 +135,20 @@ const REFUSED: [(&'static [u8], &'static [u8]); 13] = [
 #[derive(Clone, Copy)]
 struct Calls {
     source: u64,
+    files: u64,
     screen: u64,
     report: u64,
 }
 
 const NONE: Calls = Calls {
     source: 0,
+    files: 0,
     screen: 0,
     report: 0,
 };
 
-/// The calls that are to fail, and what is then sent, reported and answered, for the first script.
-struct Fault {
-    calls: Calls,
-    sent: &'static [u8],
-    told: &'static [u8],
-    code: u8,
-}
-
-const FAULTS: [Fault; 6] = [
-    Fault {
-        calls: Calls {
-            source: 1,
-            screen: 0,
-            report: 0,
-        },
-        sent: b"",
-        told: b"read fault\n",
-        code: 5,
-    },
-    Fault {
-        calls: Calls {
-            source: 2,
-            screen: 0,
-            report: 0,
-        },
-        sent: b"\x1b[0m\x1b[2J\x1b[1;1H",
-        told: b"2: shown 0 rows\nread fault\n",
-        code: 5,
-    },
-    Fault {
-        calls: Calls {
-            source: 0,
-            screen: 1,
-            report: 0,
-        },
-        sent: b"",
-        told: b"write fault\n",
-        code: 6,
-    },
-    Fault {
-        calls: Calls {
-            source: 0,
-            screen: 1,
-            report: 1,
-        },
-        sent: b"",
-        told: b"",
-        code: 6,
-    },
-    Fault {
-        calls: Calls {
-            source: 0,
-            screen: 0,
-            report: 2,
-        },
-        sent: b"\x1b[0m\x1b[2J\x1b[1;1H",
-        told: b"2",
-        code: 6,
-    },
-    Fault {
-        calls: Calls {
-            source: 0,
-            screen: 0,
-            report: 5,
-        },
-        sent: b"\x1b[0m\x1b[2J\x1b[1;1H",
-        told: b"2: shown 0 rows\n",
-        code: 6,
-    },
-];
+/// Room that is enough for the bytes of a screen or of a report here.
+const AMPLE: u64 = 4096;
 
 /// What a run left.
 #[derive(Drop)]
@@ -246,18 +183,19 @@ const CLASSES: &[u8] =
 
 const MIRRORS: &[u8] = b"0028; 0029\n0029; 0028\n";
 
-/// Files in memory of the names D and M.
-fn files(alloc: Global, classes: &[u8], mirrors: &[u8]) -> Result<MemFiles, Fail> {
+/// Files in memory of the names D and M, of whose fetches the one of a number fails.
+fn files(alloc: Global, call: u64) -> Result<MemFiles, Fail> {
     let mut files = Vec::new(alloc);
     files.push((
         String::from_str(alloc, "D")?,
-        Vec::from_slice(alloc, classes)?,
+        Vec::from_slice(alloc, CLASSES)?,
     ))?;
     files.push((
         String::from_str(alloc, "M")?,
-        Vec::from_slice(alloc, mirrors)?,
+        Vec::from_slice(alloc, MIRRORS)?,
     ))?;
-    Ok(MemFiles::new(files))
+    let calls = Vec::from_slice(alloc, &[call])?;
+    Ok(MemFiles::new(files).failing(calls))
 }
 
 /// A source in memory, of whose calls the one of a number fails.
@@ -266,10 +204,10 @@ fn source(alloc: Global, script: &[u8], call: u64) -> Result<MemSource, Fail> {
     Ok(MemSource::new(Vec::from_slice(alloc, script)?).failing(calls))
 }
 
-/// A sink in memory, of whose calls the one of a number fails.
-fn sink(alloc: Global, call: u64) -> Result<MemSink, Fail> {
+/// A sink in memory with so much room, of whose calls the one of a number fails.
+fn sink(alloc: Global, room: u64, call: u64) -> Result<MemSink, Fail> {
     let calls = Vec::from_slice(alloc, &[call])?;
-    Ok(MemSink::with_room(alloc, 4096)?.failing(calls))
+    Ok(MemSink::with_room(alloc, room)?.failing(calls))
 }
 
 /// The words of a command line, behind those that name the data files.
@@ -290,21 +228,23 @@ fn played(alloc: Global, words: &[&str], script: &[u8], calls: Calls) -> Result<
         alloc,
         words,
         &mut source(alloc, script, calls.source)?,
+        AMPLE,
         calls,
     )
 }
 
-/// Runs the script that a source gives, on a new ledger.
+/// Runs the script that a source gives over a screen with so much room, on a new ledger.
 fn played_from<S: Source>(
     alloc: Global,
     words: &[&str],
     script: &mut S,
+    room: u64,
     calls: Calls,
 ) -> Result<Trace, Fail> {
     let words = words_of(alloc, words)?;
-    let mut files = files(alloc, CLASSES, MIRRORS)?;
-    let mut screen = sink(alloc, calls.screen)?;
-    let mut report = sink(alloc, calls.report)?;
+    let mut files = files(alloc, calls.files)?;
+    let mut screen = sink(alloc, room, calls.screen)?;
+    let mut report = sink(alloc, AMPLE, calls.report)?;
     let code = answered::<Brand, S>(
         Blank::new(1),
         alloc,
@@ -363,7 +303,7 @@ fn scripts_are_run(rt: HostRuntime) -> Result<(), Fail> {
 /// Runs a script that comes byte by byte.
 fn played_slowly(alloc: Global, script: &[u8]) -> Result<Trace, Fail> {
     let source = source(alloc, script, 0)?;
-    played_from(alloc, &[], &mut OneByOne { source }, NONE)
+    played_from(alloc, &[], &mut OneByOne { source }, AMPLE, NONE)
 }
 
 #[test]
@@ -371,15 +311,6 @@ fn a_script_may_come_byte_by_byte(rt: HostRuntime) -> Result<(), Fail> {
     for case in &CASES {
         let run = played_slowly(rt.alloc(), case.script)?;
         assert_trace(&rt, &run, case.screen, case.report, case.code);
-    }
-    Ok(())
-}
-
-#[test]
-fn faults_end_a_run(rt: HostRuntime) -> Result<(), Fail> {
-    for fault in &FAULTS {
-        let run = played(rt.alloc(), &[], CASES[0].script, fault.calls)?;
-        assert_trace(&rt, &run, fault.sent, fault.told, fault.code);
     }
     Ok(())
 }
@@ -435,9 +366,9 @@ const SUMMARY: &[u8] = b"lines 605\nredisplays 301\ncharacters 75220\nstart 2764
 fn generated(alloc: Global) -> Result<(MemSink, u8), Fail> {
     let words = words_of(alloc, &["--generate", "7"])?;
     let mut script = source(alloc, b"{}", 1)?;
-    let mut files = files(alloc, CLASSES, MIRRORS)?;
+    let mut files = files(alloc, 0)?;
     let mut screen = MemSink::with_room(alloc, 4_194_304)?;
-    let mut report = sink(alloc, 0)?;
+    let mut report = sink(alloc, AMPLE, 0)?;
     let code = answered::<Brand, MemSource>(
         Blank::new(1),
         alloc,
