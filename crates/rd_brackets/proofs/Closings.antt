@@ -6,7 +6,7 @@ use Rattle.std.proofs.lemmas.Bool.Decides.{Decides-eqb, nat_tests}
 use Rattle.rd_base.specs.declared.class.Class.{Class}
 use Rattle.rd_base.specs.declared.class.Class.TheVariants.{NSM, ON}
 use Rattle.rd_brackets.specs.Pairs.{closing_of}
-use Rattle.rd_brackets.specs.Sides.{with_pairs, became, followed, side_taken, with_marks}
+use Rattle.rd_brackets.specs.Sides.{n0_with_pairs, became, followed, side_taken, n0_with_marks}
 use Rattle.rd_brackets.specs.declared.matching.Pair.{Pair}
 
 unlike : (a b : ℕ) → a < b → (a == b) ≡ false
@@ -41,7 +41,7 @@ close-more p ps a (suc n) (suc j) at inside =
     (close-more p ps (a + 1) n j (omega arith) (omega arith))
 
 -- without pairs the types stay
-pub none-taken : (embedding sos : Class) (a k n : ℕ) (ts : List Class) → with_pairs embedding sos a (map (closing_of []) (range_with_len k n)) ts ≡ ts
+pub none-taken : (embedding sos : Class) (a k n : ℕ) (ts : List Class) → n0_with_pairs embedding sos a (map (closing_of []) (range_with_len k n)) ts ≡ ts
 none-taken embedding sos a k zero ts = refl
 none-taken embedding sos a k (suc n) ts = none-taken embedding sos (suc a) (k + 1) n ts
 
@@ -57,8 +57,8 @@ taken-none : (c t : Class) → side_taken None c t t ≡ None
 taken-none c t = ap (λ b. if b then Some t else followed None c t) (became-same t) ∙ follows-none c t
 
 -- and so do marks
-pub none-marked : (cs ts : List Class) → with_marks None cs ts ts ≡ ts
+pub none-marked : (cs ts : List Class) → n0_with_marks None cs ts ts ≡ ts
 none-marked [] ts = refl
 none-marked (c ∷ cs) [] = refl
 none-marked (c ∷ cs) (t ∷ ts) =
-    ap (λ side. unwrap_or side t ∷ with_marks side cs ts ts) (taken-none c t) ∙ ap (λ l. t ∷ l) (none-marked cs ts)
+    ap (λ side. unwrap_or side t ∷ n0_with_marks side cs ts ts) (taken-none c t) ∙ ap (λ l. t ∷ l) (none-marked cs ts)

@@ -9,8 +9,8 @@ use Rattle.rd_base.specs.declared.class.Class.TheVariants.{L, ON}
 use Rattle.rd_base.specs.declared.line.Seq.{Seq}
 use Rattle.rd_ucd.specs.declared.spans.BracketEntry.{BracketEntry}
 use Rattle.rd_resolve.specs.Places.{types_at, put_at}
-use Rattle.rd_brackets.specs.Pairs.{role_of, roles, pairs_from, pairs_of, closings}
-use Rattle.rd_brackets.specs.Sides.{with_pairs, with_marks, bracket_types, codes_at, embedding_of, brackets_in}
+use Rattle.rd_brackets.specs.Pairs.{bd14_bd15_role, roles, bd16_pairs_from, bd16_pairs_of, closings}
+use Rattle.rd_brackets.specs.Sides.{n0_with_pairs, n0_with_marks, n0_bracket_types, codes_at, embedding_of, n0_brackets_in}
 use Rattle.rd_brackets.specs.Matchings.{all_pairs}
 use Rattle.rd_brackets.specs.declared.role.Role.{Role}
 use Rattle.rd_brackets.specs.declared.role.Role.TheVariants.{Other}
@@ -22,11 +22,11 @@ use Rattle.rd_brackets.proofs.Closings.{none-taken, none-marked}
 -- what is left begins with the role that was read
 pub roles-read : (entries : List BracketEntry) (is : List ℕ) (k i : ℕ) (ts : List Class) (codes : List ℕ) (class : Class) → k < length is → slice_get is k ≡ Some i
     → slice_get ts i ≡ Some class
-    → roles entries (types_at (drop k is) ts) (codes_at (drop k is) codes) ≡ role_of entries class (get_or codes i 0) ∷ roles entries (types_at (drop (k + 1) is) ts) (codes_at (drop (k + 1) is) codes)
+    → roles entries (types_at (drop k is) ts) (codes_at (drop k is) codes) ≡ bd14_bd15_role entries class (get_or codes i 0) ∷ roles entries (types_at (drop (k + 1) is) ts) (codes_at (drop (k + 1) is) codes)
 roles-read entries is k i ts codes class within read here =
     let front : drop k is ≡ i ∷ drop (k + 1) is = drop_more is k i within ∙ ap (λ j. j ∷ drop (k + 1) is) (get_or_from_slice_get is k i i read) in
     ap (λ js. roles entries (types_at js ts) (codes_at js codes)) front
-    ∙ ap (λ c. role_of entries c (get_or codes i 0) ∷ roles entries (types_at (drop (k + 1) is) ts) (codes_at (drop (k + 1) is) codes)) (get_or_from_slice_get ts i class L here)
+    ∙ ap (λ c. bd14_bd15_role entries c (get_or codes i 0) ∷ roles entries (types_at (drop (k + 1) is) ts) (codes_at (drop (k + 1) is) codes)) (get_or_from_slice_get ts i class L here)
 
 module _ (old new : Matching) (place : ℕ) (role : Role) (goes_on : Bool)
     (added : (rs : List Role) → all_pairs old place (role ∷ rs) ≡ (if goes_on then all_pairs new (suc place) rs else None)) where
@@ -36,9 +36,9 @@ module _ (old new : Matching) (place : ℕ) (role : Role) (goes_on : Bool)
       ap (λ n. all_pairs new n rs) next ∙ sym (added rs ∙ ap (λ b. if b then all_pairs new (suc place) rs else None) on)
       ∙ sym (ap (all_pairs old place) read) ∙ is
 
-  pub no-pairs : goes_on ≡ false → (all rs whole : List Role) → all ≡ role ∷ rs → all_pairs old place all ≡ pairs_from 0 [] whole → pairs_of whole ≡ []
+  pub no-pairs : goes_on ≡ false → (all rs whole : List Role) → all ≡ role ∷ rs → all_pairs old place all ≡ bd16_pairs_from 0 [] whole → bd16_pairs_of whole ≡ []
   no-pairs off all rs whole read is =
-      let none : pairs_from 0 [] whole ≡ None = sym is ∙ ap (all_pairs old place) read ∙ added rs ∙ ap (λ b. if b then all_pairs new (suc place) rs else None) off in
+      let none : bd16_pairs_from 0 [] whole ≡ None = sym is ∙ ap (all_pairs old place) read ∙ added rs ∙ ap (λ b. if b then all_pairs new (suc place) rs else None) off in
       ap (λ o. unwrap_or o []) none
 
 -- a list of nothing, filled up
@@ -67,11 +67,11 @@ put-same (i ∷ is) ts = ap (put_at is (types_at is ts)) (set-get_or ts i L) ∙
 
 -- without pairs the types of the line stay
 pub without-pairs : (entries : List BracketEntry) (embedding sos : Class) (is : List ℕ) (cs : List Class) (codes : List ℕ) (ts : List Class)
-    → pairs_of (roles entries (types_at is ts) codes) ≡ [] → put_at is (bracket_types entries embedding sos cs codes (types_at is ts)) ts ≡ ts
+    → bd16_pairs_of (roles entries (types_at is ts) codes) ≡ [] → put_at is (n0_bracket_types entries embedding sos cs codes (types_at is ts)) ts ≡ ts
 without-pairs entries embedding sos is cs codes ts none =
     let us = types_at is ts in
-    ap (λ pairs. put_at is (with_marks None cs us (with_pairs embedding sos 0 (closings pairs (length us)) us)) ts) none
-    ∙ ap (λ vs. put_at is (with_marks None cs us vs) ts) (none-taken embedding sos 0 0 (length us) us)
+    ap (λ pairs. put_at is (n0_with_marks None cs us (n0_with_pairs embedding sos 0 (closings pairs (length us)) us)) ts) none
+    ∙ ap (λ vs. put_at is (n0_with_marks None cs us vs) ts) (none-taken embedding sos 0 0 (length us) us)
     ∙ ap (λ vs. put_at is vs ts) (none-marked cs us)
     ∙ put-same is ts
 
@@ -81,17 +81,17 @@ empty-told (p ∷ ps) told =
     let some : (suc (length ps) == 0) ≡ false = grind (arith, nat_tests) in
     absurd (cc)
 
-no-role : (t : Class) (code : ℕ) → role_of [] t code ≡ Other
+no-role : (t : Class) (code : ℕ) → bd14_bd15_role [] t code ≡ Other
 no-role ON code = refl
 no-role t code = refl
 
-no-roles : (place : ℕ) (os : List Opened) (ts : List Class) (codes : List ℕ) → pairs_from place os (roles [] ts codes) ≡ Some []
+no-roles : (place : ℕ) (os : List Opened) (ts : List Class) (codes : List ℕ) → bd16_pairs_from place os (roles [] ts codes) ≡ Some []
 no-roles place os [] codes = refl
 no-roles place os (t ∷ ts) [] = refl
-no-roles place os (t ∷ ts) (code ∷ codes) = ap (λ r. pairs_from place os (r ∷ roles [] ts codes)) (no-role t code) ∙ no-roles (suc place) os ts codes
+no-roles place os (t ∷ ts) (code ∷ codes) = ap (λ r. bd16_pairs_from place os (r ∷ roles [] ts codes)) (no-role t code) ∙ no-roles (suc place) os ts codes
 
 -- without brackets there are no pairs
-pub without-brackets : (cs : List Class) (codes levels : List ℕ) (s : Seq) (ts : List Class) → brackets_in [] cs codes levels s ts ≡ ts
+pub without-brackets : (cs : List Class) (codes levels : List ℕ) (s : Seq) (ts : List Class) → n0_brackets_in [] cs codes levels s ts ≡ ts
 without-brackets cs codes levels s ts =
     let is = s.indexes in
     without-pairs [] (embedding_of is levels) s.sos is (types_at is cs) (codes_at is codes) ts

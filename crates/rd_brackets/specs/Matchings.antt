@@ -1,6 +1,6 @@
 -- How one walk over a sequence keeps the brackets that stand open and the pairs that it found.
 use Rattle.std.specs.Prelude.{◌≡◌, ℕ, ◌<◌, ◌≤◌, Bool, true, false, List, ◌∷◌, ◌++◌, length, take, reverse, slice_index_or, All, Option, None, Some, option_map}
-use Rattle.rd_brackets.specs.Pairs.{opener, below, pairs_from}
+use Rattle.rd_brackets.specs.Pairs.{opener, below, bd16_pairs_from}
 use Rattle.rd_brackets.specs.declared.role.Role.{Role}
 use Rattle.rd_brackets.specs.declared.matching.Opened.{Opened}
 use Rattle.rd_brackets.specs.declared.matching.Pair.{Pair}
@@ -8,7 +8,7 @@ use Rattle.rd_brackets.specs.declared.matching.Matching.{Matching}
 
 -- the pairs of the whole sequence, where these roles are left from a place on
 abbrev pub all_pairs : Matching → ℕ → List Role → Option (List Pair)
-all_pairs m place rs = option_map (λ pairs. m.pairs ++ pairs) (pairs_from place (reverse m.opened) rs)
+all_pairs m place rs = option_map (λ pairs. m.pairs ++ pairs) (bd16_pairs_from place (reverse m.opened) rs)
 
 -- what stands open and what is paired stands before a place
 abbrev pub AreOpenedBefore : ℕ → List Opened → Type 0

@@ -21,18 +21,18 @@ role_by code None = Other
 role_by code (Some (Opens partner)) = Opening (canonical partner)
 role_by code (Some (Closes partner)) = Closing code
 
--- BD14, BD15: what a character is to this rule, by its type and its code. Only where its type is ON it is a bracket: an opening one,
+-- BD14, BD15: what a character is to rule N0, by its type and its code. Only where its type is ON it is a bracket: an opening one,
 -- with the code that closes it, or a closing one, with its own code
-abbrev pub role_of : List BracketEntry → Class → ℕ → Role
-role_of entries ON code = role_by (canonical code) (bracket_in entries (canonical code))
-role_of entries c code = Other
+abbrev pub bd14_bd15_role : List BracketEntry → Class → ℕ → Role
+bd14_bd15_role entries ON code = role_by (canonical code) (bracket_in entries (canonical code))
+bd14_bd15_role entries c code = Other
 
 abbrev pub roles : List BracketEntry → List Class → List ℕ → List Role
 roles entries [] codes = []
 roles entries (t ∷ ts) [] = []
-roles entries (t ∷ ts) (code ∷ codes) = role_of entries t code ∷ roles entries ts codes
+roles entries (t ∷ ts) (code ∷ codes) = bd14_bd15_role entries t code ∷ roles entries ts codes
 
--- where the opening bracket stands that a code closes: the entries are looked at from the top of the stack, which is the first of the
+-- for BD16, where the opening bracket stands that a code closes: the entries are looked at from the top of the stack, which is the first of the
 -- list
 abbrev pub opener : ℕ → List Opened → Option ℕ
 opener code [] = None
@@ -43,7 +43,7 @@ abbrev pub below : ℕ → List Opened → List Opened
 below code [] = []
 below code (o ∷ os) = if o.partner == code then os else below code os
 
--- the stack behind a closing bracket: that entry and all above it are gone; where there is none, nothing changes
+-- for BD16, the stack behind a closing bracket: that entry and all above it are gone; where there is none, nothing changes
 abbrev pub closed : ℕ → List Opened → List Opened
 closed code os = if is_some (opener code os) then below code os else os
 
@@ -53,17 +53,17 @@ pair_at (Some opening) place = record { opening = opening; closing = place } ∷
 
 -- BD16: the pairs among the roles from a place on, where these brackets are open, in the order of their closing brackets; None where
 -- a bracket opens while 63 stand open
-abbrev pub pairs_from : ℕ → List Opened → List Role → Option (List Pair)
-pairs_from place os [] = Some []
-pairs_from place os (Other ∷ rs) = pairs_from (suc place) os rs
-pairs_from place os (Opening partner ∷ rs) =
-    if nat_lt (length os) 63 then pairs_from (suc place) (record { place = place; partner = partner } ∷ os) rs else None
-pairs_from place os (Closing code ∷ rs) =
-    option_map (λ pairs. pair_at (opener code os) place ++ pairs) (pairs_from (suc place) (closed code os) rs)
+abbrev pub bd16_pairs_from : ℕ → List Opened → List Role → Option (List Pair)
+bd16_pairs_from place os [] = Some []
+bd16_pairs_from place os (Other ∷ rs) = bd16_pairs_from (suc place) os rs
+bd16_pairs_from place os (Opening partner ∷ rs) =
+    if nat_lt (length os) 63 then bd16_pairs_from (suc place) (record { place = place; partner = partner } ∷ os) rs else None
+bd16_pairs_from place os (Closing code ∷ rs) =
+    option_map (λ pairs. pair_at (opener code os) place ++ pairs) (bd16_pairs_from (suc place) (closed code os) rs)
 
--- the pairs of a sequence. Where a bracket opens while 63 stand open there is none at all, which is a choice of this project
-abbrev pub pairs_of : List Role → List Pair
-pairs_of rs = unwrap_or (pairs_from 0 [] rs) []
+-- BD16: the pairs of a sequence. Where a bracket opens while 63 stand open there is none at all, which is a choice of this project
+abbrev pub bd16_pairs_of : List Role → List Pair
+bd16_pairs_of rs = unwrap_or (bd16_pairs_from 0 [] rs) []
 
 -- where the pair closes that opens at a place
 abbrev pub closing_of : List Pair → ℕ → Option ℕ

@@ -1,11 +1,11 @@
-//! The bracket pairs of a sequence.
+//! The bracket pairs of a sequence (UAX 9 BD16).
 ghost use Rattle.std.specs.Prelude.{◌≡◌, ◌<◌, All, IfOk, length};
 ghost use Rattle.rd_resolve.specs.Places.{types_at};
-ghost use Rattle.rd_brackets.specs.Pairs.{roles, pairs_of};
+ghost use Rattle.rd_brackets.specs.Pairs.{roles, bd16_pairs_of};
 ghost use Rattle.rd_brackets.specs.Sides.{codes_at};
 ghost use Rattle.rd_brackets.specs.Matchings.{ArePairsBefore, IsLastClosed};
 
-use crate::role::{Role, role_of};
+use crate::role::{Role, bd14_bd15_role};
 use rd_base::{Line, ListOf, Memory, Seq};
 use rd_ucd::Brackets;
 use std::alloc::Global;
@@ -34,9 +34,9 @@ pub struct Matching {
     pub pairs: ListOf<Pair>,
 }
 
-/// The pairs of a sequence in the order of their closing brackets (UAX 9 BD16), and none at all where a bracket opens while 63
+/// BD16: the pairs of a sequence in the order of their closing brackets, and none at all where a bracket opens while 63
 /// stand open. The cost is linear in the sequence, since at most 63 brackets are looked at for one that closes.
-pub fn pairs_of(
+pub fn bd16_pairs_of(
     alloc: Global,
     line: &Line,
     seq: &Seq,
@@ -45,7 +45,7 @@ pub fn pairs_of(
 ) -> Result<ListOf<Pair>, Memory>
     requires within { All (λ i. i < length line.now.classes) seq.now.indexes }
     requires codes { length codes.now ≡ length line.now.classes }
-    ensures pairs { IfOk result (λ pairs. pairs ≡ pairs_of (roles brackets.now (types_at seq.now.indexes line.now.types) (codes_at seq.now.indexes codes.now))) }
+    ensures pairs { IfOk result (λ pairs. pairs ≡ bd16_pairs_of (roles brackets.now (types_at seq.now.indexes line.now.types) (codes_at seq.now.indexes codes.now))) }
     ensures within { IfOk result (λ pairs. ArePairsBefore (length seq.now.indexes) pairs) }
 {
     let mut matching = Matching {
@@ -54,7 +54,7 @@ pub fn pairs_of(
     };
     for place in 0..seq.indexes.len() {
         let i = seq.indexes.at(place) as usize;
-        let role = role_of(brackets, line.types.at(i), codes[i]);
+        let role = bd14_bd15_role(brackets, line.types.at(i), codes[i]);
         if !matching.add(place, role)? {
             return Ok(ListOf::new(alloc));
         }

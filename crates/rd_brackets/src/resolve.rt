@@ -1,13 +1,13 @@
-//! Rule N0 of UAX 9 over a sequence.
+//! Rule N0 of UAX 9 over an isolating run sequence.
 ghost use Rattle.std.specs.Prelude.{◌≡◌, ◌<◌, length, All, AllPairs, IfSome, IfOk, OnOk, OnErr, None};
 ghost use Rattle.rd_base.specs.Lines.{KeepsClasses};
 ghost use Rattle.rd_resolve.specs.Places.{types_at, put_at};
 ghost use Rattle.rd_brackets.specs.Pairs.{closings};
-ghost use Rattle.rd_brackets.specs.Sides.{brackets_in, embedding_of, with_marks};
+ghost use Rattle.rd_brackets.specs.Sides.{n0_brackets_in, embedding_of, n0_with_marks};
 ghost use Rattle.rd_brackets.specs.Matchings.{ArePairsBefore};
 
-use crate::matching::{Pair, pairs_of};
-use crate::sides::{side_taken, take_pairs};
+use crate::matching::{Pair, bd16_pairs_of};
+use crate::sides::{n0_take_pairs, side_taken};
 use rd_base::{Class, Line, ListOf, Memory, Seq};
 use rd_ucd::Brackets;
 use std::alloc::Global;
@@ -29,20 +29,20 @@ pub fn pair(
     requires within { All (λ i. i < length line.old.classes) seq.now.indexes }
     requires ascend { AllPairs (λ i j. i < j) seq.now.indexes }
     requires codes { length codes.now ≡ length line.old.classes }
-    ensures types { OnOk result (line.new.types ≡ brackets_in brackets.now line.old.classes codes.now line.old.levels seq.now line.old.types) }
+    ensures types { OnOk result (line.new.types ≡ n0_brackets_in brackets.now line.old.classes codes.now line.old.levels seq.now line.old.types) }
     ensures err { OnErr result (line.new.types ≡ line.old.types) }
     ensures levels { line.new.levels ≡ line.old.levels }
     ensures rest { KeepsClasses line.old line.new }
 {
-    let pairs = pairs_of(alloc, line, seq, codes, brackets)?;
+    let pairs = bd16_pairs_of(alloc, line, seq, codes, brackets)?;
     if pairs.is_empty() {
         return Ok(());
     }
     let closings = closings(alloc, pairs.as_slice(), seq.indexes.len())?;
     let mut types = types_at(alloc, line, seq)?;
     let embedding = embedding_of(line, seq);
-    take_pairs(embedding, seq.sos, closings.as_slice(), &mut types);
-    put_types(line, seq, types.as_slice());
+    n0_take_pairs(embedding, seq.sos, closings.as_slice(), &mut types);
+    n0_put_types(line, seq, types.as_slice());
     Ok(())
 }
 
@@ -86,14 +86,14 @@ fn types_at(alloc: Global, line: &Line, seq: &Seq) -> Result<ListOf<Class>, Memo
     Ok(types)
 }
 
-/// Gives the characters of a sequence the types that they have after the pairs, and the marks behind brackets that took a direction
+/// The end of N0: gives the characters of a sequence the types that they have after the pairs, and the marks behind brackets that took a direction
 /// that one.
-fn put_types(line: &mut Line, seq: &Seq, types: &[Class])
+fn n0_put_types(line: &mut Line, seq: &Seq, types: &[Class])
     requires within { All (λ i. i < length line.old.classes) seq.now.indexes }
     requires ascend { AllPairs (λ i j. i < j) seq.now.indexes }
     requires count { length types.now ≡ length seq.now.indexes }
     ensures types { line.new.types ≡ put_at seq.now.indexes
-        (with_marks None (types_at seq.now.indexes line.old.classes) (types_at seq.now.indexes line.old.types) types.now) line.old.types }
+        (n0_with_marks None (types_at seq.now.indexes line.old.classes) (types_at seq.now.indexes line.old.types) types.now) line.old.types }
     ensures levels { line.new.levels ≡ line.old.levels }
     ensures rest { KeepsClasses line.old line.new }
 {

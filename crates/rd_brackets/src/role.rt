@@ -1,6 +1,6 @@
-//! Which characters are brackets.
+//! Which characters are brackets (UAX 9 BD14, BD15).
 ghost use Rattle.std.specs.Prelude.{◌≡◌};
-ghost use Rattle.rd_brackets.specs.Pairs.{canonical, role_by, role_of};
+ghost use Rattle.rd_brackets.specs.Pairs.{canonical, role_by, bd14_bd15_role};
 
 use rd_base::Class;
 use rd_ucd::{Bracket, Brackets};
@@ -16,9 +16,9 @@ pub enum Role {
     Closing(u32),
 }
 
-/// What a character is to rule N0, by its type and its code: only where its type is ON it is a bracket (UAX 9 BD14, BD15).
-pub fn role_of(brackets: &Brackets, class: Class, code: u32) -> Role
-    ensures { result ≡ role_of brackets.now class code }
+/// BD14, BD15: what a character is to rule N0, by its type and its code. Only where its type is ON it is a bracket.
+pub fn bd14_bd15_role(brackets: &Brackets, class: Class, code: u32) -> Role
+    ensures { result ≡ bd14_bd15_role brackets.now class code }
 {
     match class {
         Class::ON => {
@@ -29,6 +29,7 @@ pub fn role_of(brackets: &Brackets, class: Class, code: u32) -> Role
     }
 }
 
+/// What a character is whose code is listed so, or nowhere.
 fn role_by(code: u32, bracket: Option<Bracket>) -> Role
     ensures { result ≡ role_by code bracket }
 {

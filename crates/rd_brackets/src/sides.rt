@@ -1,15 +1,15 @@
-//! The directions that the pairs of a sequence take.
+//! The directions that the pairs of a sequence take (UAX 9 N0).
 ghost use Rattle.std.specs.Prelude.{◌≡◌, ◌<◌, ◌≤◌, take, length, suc, None, Some, All, IfSome};
-ghost use Rattle.rd_brackets.specs.Sides.{counts_as, holds, opposite, last_side, pair_side, between, with_pair, with_pairs, became, followed, side_taken};
+ghost use Rattle.rd_brackets.specs.Sides.{counts_as, holds, opposite, last_side, n0_pair_side, between, n0_with_pair, n0_with_pairs, became, followed, side_taken};
 
 use rd_base::{Class, ListOf};
 
-/// Takes each pair of a sequence, in the order of the opening brackets, where for each place it is told where the pair closes that
+/// N0: takes each pair of a sequence, in the order of the opening brackets, where for each place it is told where the pair closes that
 /// opens there. Each pair whose content decides takes one direction.
 ///
 /// The content of a pair is looked through for it alone: as at most 63 brackets stand open at a time, the cost is linear in the
 /// sequence. What stands before an opening bracket is looked through back to the last strong type, and then the bracket is one itself.
-pub fn take_pairs(
+pub fn n0_take_pairs(
     embedding: Class,
     sos: Class,
     closings: &[Option<usize>],
@@ -17,18 +17,18 @@ pub fn take_pairs(
 )
     requires count { length closings.now ≡ length types.old }
     requires within { All (λ closing. IfSome closing (λ place. place < length types.old)) closings.now }
-    ensures types { types.new ≡ with_pairs embedding sos 0 closings.now types.old }
+    ensures types { types.new ≡ n0_with_pairs embedding sos 0 closings.now types.old }
     ensures count { length types.new ≡ length types.old }
 {
     for opening in 0..closings.len() {
         if let Some(closing) = closings[opening] {
-            take_pair(embedding, sos, opening, closing, types);
+            n0_take_pair(embedding, sos, opening, closing, types);
         }
     }
 }
 
-/// Takes a pair.
-fn take_pair(
+/// N0: both brackets of a pair take its direction, if it has one.
+fn n0_take_pair(
     embedding: Class,
     sos: Class,
     opening: usize,
@@ -37,17 +37,17 @@ fn take_pair(
 )
     requires opening { opening < length types.old }
     requires closing { closing < length types.old }
-    ensures types { types.new ≡ with_pair embedding sos opening closing types.old }
+    ensures types { types.new ≡ n0_with_pair embedding sos opening closing types.old }
     ensures count { length types.new ≡ length types.old }
 {
-    if let Some(side) = pair_side(embedding, sos, opening, closing, types.as_slice()) {
+    if let Some(side) = n0_pair_side(embedding, sos, opening, closing, types.as_slice()) {
         types.set(opening, side);
         types.set(closing, side);
     }
 }
 
-/// The direction that both brackets of a pair take, if they take one.
-fn pair_side(
+/// N0 b, c and d: the direction that both brackets of a pair take, if they take one.
+fn n0_pair_side(
     embedding: Class,
     sos: Class,
     opening: usize,
@@ -56,15 +56,18 @@ fn pair_side(
 ) -> Option<Class>
     requires opening { opening < length types.now }
     requires closing { closing < length types.now }
-    ensures { result ≡ pair_side embedding (last_side sos (take opening types.now)) (between opening closing types.now) }
+    ensures { result ≡ n0_pair_side embedding (last_side sos (take opening types.now)) (between opening closing types.now) }
 {
+    // N0 b: the embedding direction stands inside.
     if holds(embedding, opening, closing, types) {
         return Some(embedding);
     }
+    // N0 d: nothing strong stands inside.
     let other = opposite(embedding);
     if !holds(other, opening, closing, types) {
         return None;
     }
+    // N0 c: the opposite direction stands inside, and counts where it stands before the pair too.
     if counts_as(other, last_side(sos, opening, types)) {
         return Some(other);
     }
@@ -125,7 +128,7 @@ fn opposite(side: Class) -> Class
     }
 }
 
-/// The direction that a character took by the pairs, or takes as a mark behind one that did: by that of the character before it,
+/// For the end of N0, the direction that a character took by the pairs, or takes as a mark behind one that did: by that of the character before it,
 /// its class, and its types before and after the pairs.
 pub fn side_taken(side: Option<Class>, class: Class, before: Class, after: Class) -> Option<Class>
     ensures { result ≡ side_taken side class before after }
@@ -147,7 +150,7 @@ fn became(before: Class, after: Class) -> bool
     }
 }
 
-/// The direction that a mark takes.
+/// The direction that a mark takes: that of the bracket before it, or of the mark before it that took one.
 fn followed(side: Option<Class>, class: Class, after: Class) -> Option<Class>
     ensures { result ≡ followed side class after }
 {

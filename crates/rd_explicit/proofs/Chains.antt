@@ -7,11 +7,11 @@ use Rattle.rd_base.specs.declared.class.Class.{Class}
 use Rattle.rd_base.specs.declared.line.Seq.{Seq}
 use Rattle.rd_explicit.specs.declared.links.Link.{Link}
 use Rattle.rd_explicit.specs.declared.links.First.{First}
-use Rattle.rd_explicit.specs.Follow.{follower, side}
-use Rattle.rd_explicit.specs.Isolates.{matching, content}
+use Rattle.rd_explicit.specs.Follow.{bd13_follower, x10_level_behind}
+use Rattle.rd_explicit.specs.Isolates.{bd9_matching_pdi, content}
 use Rattle.rd_explicit.specs.Links.{link_at, chain, chain_end, chained, gathered, sequences_from, first_of, beginning, without_beginning}
-use Rattle.rd_explicit.specs.Sequences.{Item, item_at, first_level, partner_of, matter, level_runs, begins, continued, others, joined, end_type, sequence}
-use Rattle.rd_explicit.proofs.Groups.{joined-step}
+use Rattle.rd_explicit.specs.Sequences.{Item, item_at, first_level, partner_of, x9_items, bd7_level_runs, begins, continued, others, bd13_joined_runs, x10_eos, sequence}
+use Rattle.rd_explicit.proofs.Groups.{bd13_joined_runs-step}
 
 abbrev pub starts : ℕ → List ℕ → Bool
 starts p [] = false
@@ -54,12 +54,12 @@ continued-indexes p (g ∷ gs) = rw (begins-same p g)
       | false ↦ continued-indexes p gs
     ])
 
-continued-end : (x : Item) (p : Option ℕ) (gs : List (List Item)) → end_type (x ∷ continued p gs) ≡ rest_end (end_type (x ∷ [])) p (map sequence gs)
+continued-end : (x : Item) (p : Option ℕ) (gs : List (List Item)) → x10_eos (x ∷ continued p gs) ≡ rest_end (x10_eos (x ∷ [])) p (map sequence gs)
 continued-end x p [] = refl
 continued-end x None (g ∷ gs) = continued-end x None gs
 continued-end x (Some p) ([] ∷ gs) = continued-end x (Some p) gs
 continued-end x (Some p) ((y ∷ ys) ∷ gs) =
-    elim (p == y.index) as (λ b. end_type (x ∷ (if b then y ∷ ys else continued (Some p) gs)) ≡ (if b then end_type (y ∷ ys) else rest_end (end_type (x ∷ [])) (Some p) (map sequence gs))) [
+    elim (p == y.index) as (λ b. x10_eos (x ∷ (if b then y ∷ ys else continued (Some p) gs)) ≡ (if b then x10_eos (y ∷ ys) else rest_end (x10_eos (x ∷ [])) (Some p) (map sequence gs))) [
       | true ↦ refl
       | false ↦ continued-end x (Some p) gs
     ]
@@ -177,43 +177,43 @@ one_more : (i n : ℕ) (o : Option First) → FirstWithin (i + 1) n o → FirstW
 one_more i n None h = tt
 one_more i n (Some y) h = (omega arith, omega arith)
 
-first-within : (base : ℕ) (cs : List Class) (ls : List ℕ) (b i : ℕ) → FirstWithin i (length cs) (first_of (matter base b i cs ls))
+first-within : (base : ℕ) (cs : List Class) (ls : List ℕ) (b i : ℕ) → FirstWithin i (length cs) (first_of (x9_items base b i cs ls))
 first-within base [] ls b i = tt
 first-within base (c ∷ cs) [] b i = tt
 first-within base (c ∷ cs) (l ∷ ls) b i =
-    elim (is_removed c) as (λ r. FirstWithin i (suc (length cs)) (first_of (if r then matter base b (i + 1) cs ls else item_at base b i c cs l (matter base l (i + 1) cs ls) ∷ matter base l (i + 1) cs ls))) [
+    elim (is_removed c) as (λ r. FirstWithin i (suc (length cs)) (first_of (if r then x9_items base b (i + 1) cs ls else item_at base b i c cs l (x9_items base l (i + 1) cs ls) ∷ x9_items base l (i + 1) cs ls))) [
       | true ↦ one_more i (length cs) _ (first-within base cs ls b (i + 1))
       | false ↦ (omega arith, omega arith)
     ]
 
-matching-within : (i a n : ℕ) → Within i n (if nat_lt a n then Some (i + a) else None)
-matching-within i a n = elim (cases_Bool (nat_lt a n)) [
+bd9_matching_pdi-within : (i a n : ℕ) → Within i n (if nat_lt a n then Some (i + a) else None)
+bd9_matching_pdi-within i a n = elim (cases_Bool (nat_lt a n)) [
   | inl t ↦ let less : a < n = ltb-true a n t in rw t (omega arith, omega arith)
   | inr f ↦ rw f tt
 ]
 
 partner-within : (i : ℕ) (c : Class) (cs : List Class) → Within (i + 1) (length cs) (partner_of i c cs)
-partner-within i c cs = elim (is_initiator c) as (λ b. Within (i + 1) (length cs) (if b then matching (i + 1) cs else None)) [
-  | true ↦ matching-within (i + 1) (length (content cs)) (length cs)
+partner-within i c cs = elim (is_initiator c) as (λ b. Within (i + 1) (length cs) (if b then bd9_matching_pdi (i + 1) cs else None)) [
+  | true ↦ bd9_matching_pdi-within (i + 1) (length (content cs)) (length cs)
   | false ↦ tt
 ]
 
-follower-in : (i n l : ℕ) (o : Option First) (partner : Option ℕ) → FirstWithin i n o → Within i n partner → Within i n (follower o l partner)
-follower-in i n l None partner first within = within
-follower-in i n l (Some y) partner first within = elim (l == y.level) as (λ b. Within i n (if b then Some y.index else partner)) [
+bd13_follower-in : (i n l : ℕ) (o : Option First) (partner : Option ℕ) → FirstWithin i n o → Within i n partner → Within i n (bd13_follower o l partner)
+bd13_follower-in i n l None partner first within = within
+bd13_follower-in i n l (Some y) partner first within = elim (l == y.level) as (λ b. Within i n (if b then Some y.index else partner)) [
   | true ↦ first
   | false ↦ within
 ]
 
-pub follower-within : (base : ℕ) (c : Class) (cs : List Class) (ls : List ℕ) (b i l : ℕ)
-    → Within (i + 1) (length cs) (follower (first_of (matter base b (i + 1) cs ls)) l (partner_of i c cs))
-follower-within base c cs ls b i l =
-    follower-in (i + 1) (length cs) l _ _ (first-within base cs ls b (i + 1)) (partner-within i c cs)
+pub bd13_follower-within : (base : ℕ) (c : Class) (cs : List Class) (ls : List ℕ) (b i l : ℕ)
+    → Within (i + 1) (length cs) (bd13_follower (first_of (x9_items base b (i + 1) cs ls)) l (partner_of i c cs))
+bd13_follower-within base c cs ls b i l =
+    bd13_follower-in (i + 1) (length cs) l _ _ (first-within base cs ls b (i + 1)) (partner-within i c cs)
 
-side-is : (xs : List Item) (base : ℕ) (u : Bool) → side (first_of xs) base u ≡ (if u then base else first_level base xs)
-side-is [] base true = refl
-side-is [] base false = refl
-side-is (x ∷ xs) base u = refl
+x10_level_behind-is : (xs : List Item) (base : ℕ) (u : Bool) → x10_level_behind (first_of xs) base u ≡ (if u then base else first_level base xs)
+x10_level_behind-is [] base true = refl
+x10_level_behind-is [] base false = refl
+x10_level_behind-is (x ∷ xs) base u = refl
 
 same_seq : (is js : List ℕ) (sos e f : Class) → is ≡ js → e ≡ f
     → (let a : Seq = record { indexes = is; sos = sos; eos = e } in let b : Seq = record { indexes = js; sos = sos; eos = f } in a ≡ b)
@@ -224,27 +224,27 @@ pub gathered-step : (base before i : ℕ) (c : Class) (cs : List Class) (l : ℕ
     → length ls ≡ length cs → length ks ≡ length cs
     → gathered l (i + 1) cs ls ks (drop (i + 1) all) ≡ sequences_from base l (i + 1) cs ls
     → is_removed c ≡ false
-    → f ≡ follower (first_of (matter base l (i + 1) cs ls)) l (partner_of i c cs)
+    → f ≡ bd13_follower (first_of (x9_items base l (i + 1) cs ls)) l (partner_of i c cs)
     → k.next ≡ beginning f all
-    → k.eos ≡ direction_of (max l (side (first_of (matter base l (i + 1) cs ls)) base (is_initiator c && is_none (partner_of i c cs))))
+    → k.eos ≡ direction_of (max l (x10_level_behind (first_of (x9_items base l (i + 1) cs ls)) base (is_initiator c && is_none (partner_of i c cs))))
     → gathered before i (c ∷ cs) (l ∷ ls) (k ∷ ks) (true ∷ drop (i + 1) (without_beginning f all)) ≡ sequences_from base before i (c ∷ cs) (l ∷ ls)
 gathered-step base before i c cs l ls k ks all f same_ls same_ks ih stays follows next eos =
-    let xs = matter base l (i + 1) cs ls in
+    let xs = x9_items base l (i + 1) cs ls in
     let x = item_at base before i c cs l xs in
-    let G = joined (level_runs xs) in
-    let within : Within (i + 1) (length cs) f = rw follows (follower-within base c cs ls l i l) in
+    let G = bd13_joined_runs (bd7_level_runs xs) in
+    let within : Within (i + 1) (length cs) f = rw follows (bd13_follower-within base c cs ls l i l) in
     let g = goes cs ls ks all l (i + 1) f same_ls same_ks within in
-    let one : direction_of (max x.level x.after) ≡ k.eos = sym (eos ∙ ap (λ a. direction_of (max l a)) (side-is xs base (is_initiator c && is_none (partner_of i c cs)))) in
+    let one : direction_of (max x.level x.after) ≡ k.eos = sym (eos ∙ ap (λ a. direction_of (max l a)) (x10_level_behind-is xs base (is_initiator c && is_none (partner_of i c cs)))) in
     let indexes : map (λ (y : Item). y.index) (continued f G) ≡ chain (i + 1) k.next ks =
     continued-indexes f G ∙ ap (rest_indexes f) (sym ih) ∙ g.indexes ∙ ap (λ n. chain (i + 1) n ks) (sym next) in
-    let ends : end_type (x ∷ continued f G) ≡ chain_end k.eos (i + 1) k.next ks =
-    continued-end x f G ∙ ap (rest_end (end_type (x ∷ [])) f) (sym ih) ∙ g.ends (end_type (x ∷ [])) ∙ ap (λ n. chain_end (end_type (x ∷ [])) (i + 1) n ks) (sym next)
+    let ends : x10_eos (x ∷ continued f G) ≡ chain_end k.eos (i + 1) k.next ks =
+    continued-end x f G ∙ ap (rest_end (x10_eos (x ∷ [])) f) (sym ih) ∙ g.ends (x10_eos (x ∷ [])) ∙ ap (λ n. chain_end (x10_eos (x ∷ [])) (i + 1) n ks) (sym next)
     ∙ ap (λ e. chain_end e (i + 1) k.next ks) one in
     let head : sequence (x ∷ continued f G) ≡ chained before i l k ks = same_seq _ _ (direction_of (max l before)) _ _ (ap (λ is. i ∷ is) indexes) ends in
     let tail : map sequence (others f G) ≡ gathered l (i + 1) cs ls ks (drop (i + 1) (without_beginning f all)) =
     others-map f G ∙ ap (others_seq f) (sym ih) ∙ sym g.others in
-    let whole : map sequence (joined (level_runs (x ∷ xs))) ≡ chained before i l k ks ∷ gathered l (i + 1) cs ls ks (drop (i + 1) (without_beginning f all)) =
-    ap (map sequence) (joined-step x xs) ∙ ap (λ q. map sequence ((x ∷ continued q G) ∷ others q G)) (sym follows) ∙ ap₂ ◌∷◌ head tail in
+    let whole : map sequence (bd13_joined_runs (bd7_level_runs (x ∷ xs))) ≡ chained before i l k ks ∷ gathered l (i + 1) cs ls ks (drop (i + 1) (without_beginning f all)) =
+    ap (map sequence) (bd13_joined_runs-step x xs) ∙ ap (λ q. map sequence ((x ∷ continued q G) ∷ others q G)) (sym follows) ∙ ap₂ ◌∷◌ head tail in
     rw stays (sym whole)
 
 -- links are followed past what lies between

@@ -9,10 +9,10 @@ use Rattle.rd_base.specs.declared.class.Class.TheVariants.{L}
 use Rattle.rd_explicit.specs.declared.links.Link.{Link}
 use Rattle.rd_explicit.specs.declared.links.First.{First}
 use Rattle.rd_explicit.specs.declared.links.Links.{Links}
-use Rattle.rd_explicit.specs.Follow.{follower, side}
+use Rattle.rd_explicit.specs.Follow.{bd13_follower, x10_level_behind}
 use Rattle.rd_explicit.specs.Links.{link_at, chain, chain_end, gathered, seq_at, Joins, LeadsOn, unmatched, first_of, beginning, without_beginning}
-use Rattle.rd_explicit.specs.Sequences.{partner_of, matter}
-use Rattle.rd_explicit.proofs.Chains.{gathered-step, follower-within, Within, chain-on, end-on}
+use Rattle.rd_explicit.specs.Sequences.{partner_of, x9_items}
+use Rattle.rd_explicit.proofs.Chains.{gathered-step, bd13_follower-within, Within, chain-on, end-on}
 use Rattle.rd_explicit.proofs.Walks.{drop-read}
 
 length-without : (f : Option ℕ) (bs : List Bool) → length (without_beginning f bs) ≡ length bs
@@ -40,8 +40,8 @@ module _ (base i : ℕ) (classes : List Class) (levels : List ℕ) (c : Class) (
       }
 
   pub joins-item : (partner f : Option ℕ) (k : Link) → is_removed c ≡ false → partner ≡ partner_of i c (drop (i + 1) classes)
-      → f ≡ follower old.first l partner → k.next ≡ beginning f old.begins
-      → k.eos ≡ direction_of (max l (side old.first base (is_initiator c && is_none partner)))
+      → f ≡ bd13_follower old.first l partner → k.next ≡ beginning f old.begins
+      → k.eos ≡ direction_of (max l (x10_level_behind old.first base (is_initiator c && is_none partner)))
       → new.links ≡ set old.links i k → new.begins ≡ set (without_beginning f old.begins) i true
       → (let item : First = record { index = i; level = l } in new.first ≡ Some item)
       → Joins base i (drop i classes) (drop i levels) new
@@ -53,10 +53,10 @@ module _ (base i : ℕ) (classes : List Class) (levels : List ℕ) (c : Class) (
       let at_links : drop i new.links ≡ k ∷ drop (i + 1) old.links = ap (drop i) links ∙ drop-set old.links i k (omega arith) in
       let at_begins : drop i new.begins ≡ true ∷ drop (i + 1) (without_beginning f old.begins) =
       ap (drop i) begins ∙ drop-set (without_beginning f old.begins) i true (omega (arith, length-without f old.begins)) in
-      let behind : f ≡ follower (first_of (matter base l (i + 1) cs ls)) l (partner_of i c cs) =
-      follows ∙ ap₂ (λ o p. follower o l p) (sym (joins.first l)) matches in
-      let ends : k.eos ≡ direction_of (max l (side (first_of (matter base l (i + 1) cs ls)) base (is_initiator c && is_none (partner_of i c cs)))) =
-      eos ∙ ap₂ (λ o p. direction_of (max l (side o base (is_initiator c && is_none p)))) (sym (joins.first l)) matches in
+      let behind : f ≡ bd13_follower (first_of (x9_items base l (i + 1) cs ls)) l (partner_of i c cs) =
+      follows ∙ ap₂ (λ o p. bd13_follower o l p) (sym (joins.first l)) matches in
+      let ends : k.eos ≡ direction_of (max l (x10_level_behind (first_of (x9_items base l (i + 1) cs ls)) base (is_initiator c && is_none (partner_of i c cs)))) =
+      eos ∙ ap₂ (λ o p. direction_of (max l (x10_level_behind o base (is_initiator c && is_none p)))) (sym (joins.first l)) matches in
       record {
         sequences = λ before. rw (at_class, at_level, at_links, at_begins)
             (gathered-step base before i c cs l ls k (drop (i + 1) old.links) old.begins f
@@ -73,13 +73,13 @@ placed i n m (Some w) h fits = (omega arith, omega arith)
 -- where the next item of a sequence may lie
 pub follows-within : (base i l : ℕ) (c : Class) (classes : List Class) (levels : List ℕ) (old : Links) (partner f : Option ℕ)
     → i < length classes → Joins base (i + 1) (drop (i + 1) classes) (drop (i + 1) levels) old
-    → partner ≡ partner_of i c (drop (i + 1) classes) → f ≡ follower old.first l partner
+    → partner ≡ partner_of i c (drop (i + 1) classes) → f ≡ bd13_follower old.first l partner
     → IfSome f (λ w. (i < w) × (w < length classes))
 follows-within base i l c classes levels old partner f within joins matches follows =
     let cs = drop (i + 1) classes in
-    let behind : f ≡ follower (first_of (matter base l (i + 1) cs (drop (i + 1) levels))) l (partner_of i c cs) =
-    follows ∙ ap₂ (λ o p. follower o l p) (sym (joins.first l)) matches in
-    let w : Within (i + 1) (length cs) f = rw behind (follower-within base c cs (drop (i + 1) levels) l i l) in
+    let behind : f ≡ bd13_follower (first_of (x9_items base l (i + 1) cs (drop (i + 1) levels))) l (partner_of i c cs) =
+    follows ∙ ap₂ (λ o p. bd13_follower o l p) (sym (joins.first l)) matches in
+    let w : Within (i + 1) (length cs) f = rw behind (bd13_follower-within base c cs (drop (i + 1) levels) l i l) in
     placed i (length classes) (length cs) f w (omega (arith, length-drop (i + 1) classes))
 
 pub beginning-within : (i n : ℕ) (f : Option ℕ) (bs : List Bool) → IfSome f (λ w. (i < w) × (w < n)) → IfSome (beginning f bs) (λ w. (i < w) × (w < n))

@@ -1,4 +1,4 @@
--- Explicit levels (UAX 9, rules X1 to X8).
+-- Explicit levels (UAX 9, rules X1 to X8). Each rule is a definition here; `after` and `given` say which rule a class takes.
 use Rattle.std.specs.Prelude.{ℕ, ◌+◌, ◌-◌, ◌%◌, ◌==◌, ◌≤◌, nat_le, nat_lt, Bool, true, false, ◌&&◌, if◌then◌else◌, List, [], ◌∷◌, length, map, Option, None, Some}
 use Rattle.rd_base.specs.Classes.{is_removed, strong_level}
 use Rattle.rd_base.specs.declared.class.Class.{Class}
@@ -13,9 +13,9 @@ abbrev pub top : List Entry → Entry
 top [] = record { level = 0; direction = None; isolate = false }
 top (e ∷ es) = e
 
--- X1
-abbrev pub start : ℕ → State
-start base = record { stack = record { level = base; direction = None; isolate = false } ∷ []; overflow_isolates = 0; overflow_embeddings = 0; valid_isolates = 0 }
+-- X1: the state before a line: a stack of one entry with the base level, and nothing counted
+abbrev pub x1_start : ℕ → State
+x1_start base = record { stack = record { level = base; direction = None; isolate = false } ∷ []; overflow_isolates = 0; overflow_embeddings = 0; valid_isolates = 0 }
 
 -- the least odd level above another, and the least even one
 abbrev pub odd_above : ℕ → ℕ
@@ -28,81 +28,119 @@ even_above level = if level % 2 == 0 then level + 2 else level + 1
 abbrev pub is_valid : ℕ → State → Bool
 is_valid level s = nat_le level 125 && (s.overflow_isolates == 0 && s.overflow_embeddings == 0)
 
--- X2 to X5: an embedding, or an override, at a level
+-- for X2 to X5, an embedding, or an override, at a level
 abbrev pub embedded : ℕ → Option Class → State → State
 embedded level direction s =
     if is_valid level s then record s { stack = record { level = level; direction = direction; isolate = false } ∷ s.stack }
     else if s.overflow_isolates == 0 then record s { overflow_embeddings = s.overflow_embeddings + 1 }
     else s
 
--- X5a, X5b: an isolate at a level
+-- X2: RLE opens an embedding at the next odd level
+abbrev pub x2_right_to_left_embedding : State → State
+x2_right_to_left_embedding s = embedded (odd_above (top s.stack).level) None s
+
+-- X3: LRE opens an embedding at the next even level
+abbrev pub x3_left_to_right_embedding : State → State
+x3_left_to_right_embedding s = embedded (even_above (top s.stack).level) None s
+
+-- X4: RLO opens an override to R at the next odd level
+abbrev pub x4_right_to_left_override : State → State
+x4_right_to_left_override s = embedded (odd_above (top s.stack).level) (Some R) s
+
+-- X5: LRO opens an override to L at the next even level
+abbrev pub x5_left_to_right_override : State → State
+x5_left_to_right_override s = embedded (even_above (top s.stack).level) (Some L) s
+
+-- for X5a to X5c, an isolate at a level
 abbrev pub isolated : ℕ → State → State
 isolated level s =
     if is_valid level s then record s { stack = record { level = level; direction = None; isolate = true } ∷ s.stack; valid_isolates = s.valid_isolates + 1 }
     else record s { overflow_isolates = s.overflow_isolates + 1 }
 
--- whether P2 and P3 found a level, and it is 1
+-- X5a: RLI opens an isolate at the next odd level
+abbrev pub x5a_right_to_left_isolate : State → State
+x5a_right_to_left_isolate s = isolated (odd_above (top s.stack).level) s
+
+-- X5b: LRI opens an isolate at the next even level
+abbrev pub x5b_left_to_right_isolate : State → State
+x5b_left_to_right_isolate s = isolated (even_above (top s.stack).level) s
+
+-- for X5c, whether P2 and P3 found a level, and it is 1
 abbrev pub is_level_one : Option ℕ → Bool
 is_level_one None = false
 is_level_one (Some level) = level == 1
 
--- X5c: whether P2 and P3 find the level 1 in what an FSI isolates, of the classes after it
-abbrev pub starts_right : List Class → Bool
-starts_right cs = is_level_one (strong_level 0 (content cs))
+-- for X5c, whether P2 and P3 find the level 1 in what an FSI isolates, of the classes after it
+abbrev pub x5c_starts_right : List Class → Bool
+x5c_starts_right cs = is_level_one (strong_level 0 (content cs))
 
--- without the entries above the topmost isolate and without that isolate; the entry of X1 always stays
-abbrev pub below_isolate : List Entry → List Entry
-below_isolate (e ∷ f ∷ es) = if e.isolate then f ∷ es else below_isolate (f ∷ es)
-below_isolate es = es
+-- X5c: FSI, with these classes after it, is taken as RLI where what it isolates starts right, else as LRI
+abbrev pub x5c_first_strong_isolate : State → List Class → State
+x5c_first_strong_isolate s cs = if x5c_starts_right cs then x5a_right_to_left_isolate s else x5b_left_to_right_isolate s
 
--- X6a
-abbrev pub after_pdi : State → State
-after_pdi s =
+-- for X6a, a stack without the entries above the topmost isolate and without that isolate; the entry of X1 always stays
+abbrev pub x6a_below_isolate : List Entry → List Entry
+x6a_below_isolate (e ∷ f ∷ es) = if e.isolate then f ∷ es else x6a_below_isolate (f ∷ es)
+x6a_below_isolate es = es
+
+-- X6a: PDI closes the overflow isolate that was opened last, else the isolate that was opened last and all embeddings in it; where no
+-- isolate is open, nothing changes
+abbrev pub x6a_pop_directional_isolate : State → State
+x6a_pop_directional_isolate s =
     if nat_lt 0 s.overflow_isolates then record s { overflow_isolates = s.overflow_isolates - 1 }
     else if s.valid_isolates == 0 then s
-    else record s { stack = below_isolate s.stack; overflow_embeddings = 0; valid_isolates = s.valid_isolates - 1 }
+    else record s { stack = x6a_below_isolate s.stack; overflow_embeddings = 0; valid_isolates = s.valid_isolates - 1 }
 
--- without the last entry, unless it is an isolate or the only one
-abbrev pub below_embedding : List Entry → List Entry
-below_embedding (e ∷ f ∷ es) = if e.isolate then e ∷ f ∷ es else f ∷ es
-below_embedding es = es
+-- for X7, a stack without its last entry, unless that is an isolate or the only one
+abbrev pub x7_below_embedding : List Entry → List Entry
+x7_below_embedding (e ∷ f ∷ es) = if e.isolate then e ∷ f ∷ es else f ∷ es
+x7_below_embedding es = es
 
--- X7
-abbrev pub after_pdf : State → State
-after_pdf s =
+-- X7: PDF closes the overflow embedding that was opened last, else the embedding that was opened last, if it is not outside an isolate
+abbrev pub x7_pop_directional_format : State → State
+x7_pop_directional_format s =
     if nat_lt 0 s.overflow_isolates then s
     else if nat_lt 0 s.overflow_embeddings then record s { overflow_embeddings = s.overflow_embeddings - 1 }
-    else record s { stack = below_embedding s.stack }
+    else record s { stack = x7_below_embedding s.stack }
 
 -- The state after a class: X2 to X5 in turn, X5a, X5b and X5c, X6a, X7. The classes after it serve X5c alone. Every other class
 -- leaves the state as it was (X6), also B: that B inside a line ends neither embeddings nor isolates is a choice of this project.
 abbrev pub after : State → Class → List Class → State
-after s RLE cs = embedded (odd_above (top s.stack).level) None s
-after s LRE cs = embedded (even_above (top s.stack).level) None s
-after s RLO cs = embedded (odd_above (top s.stack).level) (Some R) s
-after s LRO cs = embedded (even_above (top s.stack).level) (Some L) s
-after s RLI cs = isolated (odd_above (top s.stack).level) s
-after s LRI cs = isolated (even_above (top s.stack).level) s
-after s FSI cs = isolated (if starts_right cs then odd_above (top s.stack).level else even_above (top s.stack).level) s
-after s PDI cs = after_pdi s
-after s PDF cs = after_pdf s
+after s RLE cs = x2_right_to_left_embedding s
+after s LRE cs = x3_left_to_right_embedding s
+after s RLO cs = x4_right_to_left_override s
+after s LRO cs = x5_left_to_right_override s
+after s RLI cs = x5a_right_to_left_isolate s
+after s LRI cs = x5b_left_to_right_isolate s
+after s FSI cs = x5c_first_strong_isolate s cs
+after s PDI cs = x6a_pop_directional_isolate s
+after s PDF cs = x7_pop_directional_format s
 after s c cs = s
 
--- the level of an entry, and its override, where it has one, as type (X5a to X6a)
-abbrev pub overridden : Option Class → Class → Class
-overridden None c = c
-overridden (Some direction) c = direction
+-- for X6, the type that an entry's override gives a class, where it has one
+abbrev pub x6_override : Option Class → Class → Class
+x6_override None c = c
+x6_override (Some direction) c = direction
 
-abbrev pub under : Entry → Class → Given
-under e c = record { level = e.level; class = overridden e.direction c }
+-- X6: a character takes the level of the last entry, and its override, where it has one, as type. So do those of X5a to X6a.
+abbrev pub x6_level_and_override : Entry → Class → Given
+x6_level_and_override e c = record { level = e.level; class = x6_override e.direction c }
 
--- The level and the type of a class, where the line's base level and the state before it are known. X8: B has the base. What X9
--- takes out keeps its class and has the base; that is a choice of this project, since nothing reads it before the levels of
--- removed characters are set. A PDI has what the state after it says.
+-- X8: B has the level of the base
+abbrev pub x8_paragraph_separator : ℕ → Given
+x8_paragraph_separator base = record { level = base; class = B }
+
+-- X9: what is taken out keeps its class and has the base; that is a choice of this project, since nothing reads it before the levels
+-- of removed characters are set
+abbrev pub x9_removed : ℕ → Class → Given
+x9_removed base c = record { level = base; class = c }
+
+-- The level and the type of a class, where the line's base level and the state before it are known. A PDI has what the state after
+-- it says.
 abbrev pub given : ℕ → State → Class → List Class → Given
-given base s B cs = record { level = base; class = B }
-given base s PDI cs = under (top (after s PDI cs).stack) PDI
-given base s c cs = if is_removed c then record { level = base; class = c } else under (top s.stack) c
+given base s B cs = x8_paragraph_separator base
+given base s PDI cs = x6_level_and_override (top (after s PDI cs).stack) PDI
+given base s c cs = if is_removed c then x9_removed base c else x6_level_and_override (top s.stack) c
 
 -- the levels and types of the classes that are left, from a state on
 abbrev pub explicit_from : ℕ → State → List Class → List Given
@@ -111,7 +149,7 @@ explicit_from base s (c ∷ cs) = given base s c cs ∷ explicit_from base (afte
 
 -- X1 to X8 over a line
 abbrev pub explicit_of : ℕ → List Class → List Given
-explicit_of base cs = explicit_from base (start base) cs
+explicit_of base cs = explicit_from base (x1_start base) cs
 
 abbrev pub levels_of : List Given → List ℕ
 levels_of gs = map (λ g. g.level) gs

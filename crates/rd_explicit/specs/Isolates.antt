@@ -17,6 +17,6 @@ inside (c ∷ cs) depth = c ∷ inside cs depth
 abbrev pub content : List Class → List Class
 content cs = inside cs zero
 
--- the index of the PDI that matches an isolate initiator, where the class after the initiator has index i
-abbrev pub matching : ℕ → List Class → Option ℕ
-matching i cs = if nat_lt (length (content cs)) (length cs) then Some (i + length (content cs)) else None
+-- BD9: the index of the PDI that matches an isolate initiator, where the class after the initiator has index i
+abbrev pub bd9_matching_pdi : ℕ → List Class → Option ℕ
+bd9_matching_pdi i cs = if nat_lt (length (content cs)) (length cs) then Some (i + length (content cs)) else None

@@ -5,7 +5,7 @@ use Rattle.rd_base.specs.Classes.{is_removed, direction_of}
 use Rattle.rd_base.specs.declared.class.Class.{Class}
 use Rattle.rd_base.specs.declared.class.Class.TheVariants.{L, LRI, RLI, FSI, PDI}
 use Rattle.rd_base.specs.declared.line.Seq.{Seq}
-use Rattle.rd_explicit.specs.Sequences.{Item, matter, level_runs, joined, sequence}
+use Rattle.rd_explicit.specs.Sequences.{Item, x9_items, bd7_level_runs, bd13_joined_runs, sequence}
 use Rattle.rd_explicit.specs.declared.links.Link.{Link}
 use Rattle.rd_explicit.specs.declared.links.First.{First}
 use Rattle.rd_explicit.specs.declared.links.Links.{Links}
@@ -42,7 +42,7 @@ gathered before i (c ∷ cs) (l ∷ ls) (k ∷ ks) (b ∷ bs) =
 
 -- the sequences of the items from index i on
 abbrev pub sequences_from : ℕ → ℕ → ℕ → List Class → List ℕ → List Seq
-sequences_from base before i cs ls = map sequence (joined (level_runs (matter base before i cs ls)))
+sequences_from base before i cs ls = map sequence (bd13_joined_runs (bd7_level_runs (x9_items base before i cs ls)))
 
 -- the indexes of the PDIs that no initiator of these classes matches, the first one first
 abbrev pub tail_of : List ℕ → List ℕ
@@ -95,5 +95,5 @@ pub record KeepsLinks (old new : Links) : Type 0 where
 -- what is kept once the classes from index i on are done
 pub record Joins (base i : ℕ) (cs : List Class) (ls : List ℕ) (s : Links) : Type 0 where
   pub sequences : (before : ℕ) → gathered before i cs ls (drop i s.links) (drop i s.begins) ≡ sequences_from base before i cs ls
-  pub first : (before : ℕ) → first_of (matter base before i cs ls) ≡ s.first
+  pub first : (before : ℕ) → first_of (x9_items base before i cs ls) ≡ s.first
   pub pdis : s.pdis ≡ reverse (unmatched i cs)

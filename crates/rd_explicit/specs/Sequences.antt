@@ -4,7 +4,7 @@ use Rattle.rd_base.specs.Classes.{is_removed, is_initiator, direction_of}
 use Rattle.rd_base.specs.declared.class.Class.{Class}
 use Rattle.rd_base.specs.declared.class.Class.TheVariants.{L}
 use Rattle.rd_base.specs.declared.line.Seq.{Seq}
-use Rattle.rd_explicit.specs.Isolates.{matching}
+use Rattle.rd_explicit.specs.Isolates.{bd9_matching_pdi}
 
 -- An item of what X9 leaves of a line: its index and level; where its matching PDI is, if it is an isolate initiator that has one
 -- (BD9); and the levels that X10 looks at beside it. Before it that is the level of the item before it, or the base where there is
@@ -16,9 +16,9 @@ pub record Item : Type 0 where
   pub before : ℕ
   pub after : ℕ
 
--- where the PDI is that matches a class at an index, the classes after it being cs
+-- BD9: where the PDI is that matches a class at an index, the classes after it being cs
 abbrev pub partner_of : ℕ → Class → List Class → Option ℕ
-partner_of i c cs = if is_initiator c then matching (i + 1) cs else None
+partner_of i c cs = if is_initiator c then bd9_matching_pdi (i + 1) cs else None
 
 -- the level of the first item, or the base
 abbrev pub first_level : ℕ → List Item → ℕ
@@ -36,25 +36,27 @@ item_at base before i c cs level xs = record {
 
 -- X9: the items of the classes and levels from index i on, the item before them having a level or there being none and the base
 -- in its place
-abbrev pub matter : ℕ → ℕ → ℕ → List Class → List ℕ → List Item
-matter base before i [] ls = []
-matter base before i (c ∷ cs) [] = []
-matter base before i (c ∷ cs) (l ∷ ls) =
-    if is_removed c then matter base before (i + 1) cs ls
-    else item_at base before i c cs l (matter base l (i + 1) cs ls) ∷ matter base l (i + 1) cs ls
+abbrev pub x9_items : ℕ → ℕ → ℕ → List Class → List ℕ → List Item
+x9_items base before i [] ls = []
+x9_items base before i (c ∷ cs) [] = []
+x9_items base before i (c ∷ cs) (l ∷ ls) =
+    if is_removed c then x9_items base before (i + 1) cs ls
+    else item_at base before i c cs l (x9_items base l (i + 1) cs ls) ∷ x9_items base l (i + 1) cs ls
 
--- BD7: an item belongs to the run after it where that has its level
+-- for BD7, whether the run after an item has its level
 abbrev pub has_level : ℕ → List Item → Bool
 has_level l [] = false
 has_level l (y ∷ ys) = l == y.level
 
+-- BD7: an item belongs to the run after it where that has its level, and begins one of its own else
 abbrev pub with_item : Item → List (List Item) → List (List Item)
 with_item x [] = (x ∷ []) ∷ []
 with_item x (r ∷ rs) = if has_level x.level r then (x ∷ r) ∷ rs else (x ∷ []) ∷ r ∷ rs
 
-abbrev pub level_runs : List Item → List (List Item)
-level_runs [] = []
-level_runs (x ∷ xs) = with_item x (level_runs xs)
+-- BD7: the level runs of items
+abbrev pub bd7_level_runs : List Item → List (List Item)
+bd7_level_runs [] = []
+bd7_level_runs (x ∷ xs) = with_item x (bd7_level_runs xs)
 
 -- where the PDI is that matches the last item of a run
 abbrev pub last_partner : List Item → Option ℕ
@@ -80,24 +82,24 @@ others p (s ∷ ss) = if begins p s then ss else s ∷ others p ss
 -- BD13: a run whose last item is an isolate initiator goes before the run that begins with the matching PDI, if there is one. For an
 -- initiator that has a match and ends its run there always is one, unless a B, which has the base level, stands inside the isolate.
 -- The sequences are in the order of their first items.
-abbrev pub joined : List (List Item) → List (List Item)
-joined [] = []
-joined (run ∷ runs) = (run ++ continued (last_partner run) (joined runs)) ∷ others (last_partner run) (joined runs)
+abbrev pub bd13_joined_runs : List (List Item) → List (List Item)
+bd13_joined_runs [] = []
+bd13_joined_runs (run ∷ runs) = (run ++ continued (last_partner run) (bd13_joined_runs runs)) ∷ others (last_partner run) (bd13_joined_runs runs)
 
--- X10: the type at the end of a sequence
-abbrev pub end_type : List Item → Class
-end_type [] = L
-end_type (x ∷ []) = direction_of (max x.level x.after)
-end_type (x ∷ y ∷ ys) = end_type (y ∷ ys)
+-- X10: eos, the type at the end of a sequence: the direction of the higher of its last item's level and the level after it
+abbrev pub x10_eos : List Item → Class
+x10_eos [] = L
+x10_eos (x ∷ []) = direction_of (max x.level x.after)
+x10_eos (x ∷ y ∷ ys) = x10_eos (y ∷ ys)
 
--- X10: the type at its start
-abbrev pub start_type : List Item → Class
-start_type [] = L
-start_type (x ∷ xs) = direction_of (max x.level x.before)
+-- X10: sos, the type at its start: the direction of the higher of its first item's level and the level before it
+abbrev pub x10_sos : List Item → Class
+x10_sos [] = L
+x10_sos (x ∷ xs) = direction_of (max x.level x.before)
 
 abbrev pub sequence : List Item → Seq
-sequence xs = record { indexes = map (λ x. x.index) xs; sos = start_type xs; eos = end_type xs }
+sequence xs = record { indexes = map (λ x. x.index) xs; sos = x10_sos xs; eos = x10_eos xs }
 
 -- the isolating run sequences of a line
 abbrev pub sequences_of : ℕ → List Class → List ℕ → List Seq
-sequences_of base cs ls = map sequence (joined (level_runs (matter base base 0 cs ls)))
+sequences_of base cs ls = map sequence (bd13_joined_runs (bd7_level_runs (x9_items base base 0 cs ls)))

@@ -1,14 +1,14 @@
-//! What an isolate isolates (UAX 9 BD9, X5c).
+//! What an FSI isolates (UAX 9 BD9, X5c).
 ghost use Rattle.std.specs.Prelude.{◌≡◌, ◌<◌, ◌^◌, length};
-ghost use Rattle.rd_explicit.specs.Explicit.{starts_right};
+ghost use Rattle.rd_explicit.specs.Explicit.{x5c_starts_right};
 
 use rd_base::Class;
 
-/// Whether the first L, R or AL of what an FSI isolates, outside further isolates, is R or AL (X5c). `rest` are the classes after
+/// For X5c, whether the first L, R or AL of what an FSI isolates, outside further isolates, is R or AL. `rest` are the classes after
 /// the FSI. It reads no further than that character or the matching PDI.
-pub fn starts_right(rest: &[Class]) -> bool
+pub fn x5c_starts_right(rest: &[Class]) -> bool
     requires { length rest.now < 2 ^ 32 }
-    ensures { result ≡ starts_right rest.now }
+    ensures { result ≡ x5c_starts_right rest.now }
 {
     let mut depth = 0u32;
     for class in rest {

@@ -1,4 +1,4 @@
-//! Rules X1 to X8 of UAX 9 over a line.
+//! Rules X1 to X8 of UAX 9 over a line. The rules themselves stand in `state`.
 ghost use Rattle.std.specs.Prelude.{◌≡◌, ◌≤◌, All};
 ghost use Rattle.rd_base.specs.Lines.{KeepsClasses};
 ghost use Rattle.rd_explicit.specs.Explicit.{explicit_of, levels_of, types_of};
@@ -19,7 +19,7 @@ pub fn explicit(line: &mut Line)
     ensures low { All (λ l. l ≤ 125) line.new.levels }
 {
     let base = line.base;
-    let mut state = State::new(base);
+    let mut state = State::x1_start(base);
     for i in 0..line.len() {
         let class = line.classes.at(i);
         let (_, rest) = line.classes.as_slice().split_at(i + 1);

@@ -1,7 +1,8 @@
-//! The links of isolating run sequences, made in one walk from a line's end.
+//! The links of isolating run sequences, made in one walk from a line's end: which PDI matches an initiator (UAX 9 BD9), what comes after
+//! an item in its sequence (BD13), and the type at a sequence's end (X10).
 ghost use Rattle.std.specs.Prelude.{◌≡◌, ◌<◌, ◌≤◌, ◌+◌, ◌^◌, ◌∷◌, [], length, drop, reverse, max, OnOk, OnErr, IfOk, Some, None, if◌then◌else◌, slice_index_or, is_none, ◌&&◌};
 ghost use Rattle.rd_base.specs.Classes.{is_initiator};
-ghost use Rattle.rd_explicit.specs.Follow.{follower, side};
+ghost use Rattle.rd_explicit.specs.Follow.{bd13_follower, x10_level_behind};
 
 use rd_base::{Class, Line, ListOf, Memory, Seq};
 use std::alloc::Global;
@@ -62,7 +63,7 @@ impl Links {
         })
     }
 
-    /// The index of the PDI that matches a class, if that is an isolate initiator and has one. A PDI itself waits from then on.
+    /// BD9: the index of the PDI that matches a class, if that is an isolate initiator and has one. A PDI itself waits from then on.
     fn partner(&mut self, class: Class, i: usize) -> Result<Option<u32>, Memory>
         requires { i < 2 ^ 32 }
         ensures partner { (cs : List Class) → self.old.pdis ≡ reverse (unmatched (i + 1) cs) → IfOk result (λ p. p ≡ partner_of i class cs) }
@@ -96,7 +97,7 @@ impl Links {
         None
     }
 
-    /// Takes the class at index i, those behind it being done.
+    /// Takes the class at index i, those behind it being done. What X9 takes out stands in no sequence.
     fn step(&mut self, line: &Line, i: usize) -> Result<(), Memory>
         requires within { i < length line.now.classes }
         requires begins { length self.old.begins ≡ length line.now.classes }
@@ -115,8 +116,8 @@ impl Links {
             self.begins.set(i, false);
             return Ok(());
         }
-        let next = self.join(follower(self.first, level, partner));
-        let after = side(self.first, line.base, is_unmatched(class, partner));
+        let next = self.join(bd13_follower(self.first, level, partner));
+        let after = x10_level_behind(self.first, line.base, is_unmatched(class, partner));
         self.begins.set(i, true);
         self.links.set(
             i,
@@ -179,10 +180,10 @@ fn is_unmatched(class: Class, partner: Option<u32>) -> bool
     class.is_initiator() && partner.is_none()
 }
 
-/// The item that comes after one in its sequence, if that begins a sequence: the item after it where that has its level, else the
+/// BD13: the item that comes after one in its sequence, if that begins a sequence: the item after it where that has its level, else the
 /// matching PDI.
-fn follower(first: Option<First>, level: u8, partner: Option<u32>) -> Option<u32>
-    ensures { result ≡ follower first level partner }
+fn bd13_follower(first: Option<First>, level: u8, partner: Option<u32>) -> Option<u32>
+    ensures { result ≡ bd13_follower first level partner }
 {
     match first {
         Some(next) if next.level == level => Some(next.index),
@@ -190,10 +191,10 @@ fn follower(first: Option<First>, level: u8, partner: Option<u32>) -> Option<u32
     }
 }
 
-/// The level that the end of a sequence is compared with: that of the item after its last one, if there is one and the last one is no
+/// For X10, the level that the end of a sequence is compared with: that of the item after its last one, if there is one and the last one is no
 /// unmatched initiator, else the base.
-fn side(first: Option<First>, base: u8, unmatched: bool) -> u8
-    ensures { result ≡ side first base unmatched }
+fn x10_level_behind(first: Option<First>, base: u8, unmatched: bool) -> u8
+    ensures { result ≡ x10_level_behind first base unmatched }
 {
     match first {
         Some(next) if !unmatched => next.level,

@@ -1,4 +1,4 @@
-//! Isolating run sequences of a line.
+//! Isolating run sequences of a line (UAX 9 BD13, X9, X10).
 ghost use Rattle.std.specs.Prelude.{◌≡◌, ◌<◌, ◌^◌, ◌++◌, ◌∷◌, [], length, max, All, AllPairs, IfOk, OnOk, if◌then◌else◌, slice_index_or, false};
 ghost use Rattle.rd_base.specs.Classes.{is_removed, direction_of};
 ghost use Rattle.rd_explicit.specs.Sequences.{sequences_of};
@@ -23,7 +23,7 @@ pub fn sequences(alloc: Global, line: &Line) -> Result<ListOf<Seq>, Memory>
     let mut before = line.base;
     for i in 0..line.len() {
         let level = line.levels.at(i);
-        add_sequence(alloc, &links, i, sos(level, before), &mut found)?;
+        add_sequence(alloc, &links, i, x10_sos(level, before), &mut found)?;
         before = level_before_next(line.classes.at(i), level, before);
     }
     Ok(found)
@@ -49,14 +49,14 @@ fn add_sequence(
     Ok(())
 }
 
-/// The type at the start of a sequence (X10): the direction of the higher of its first item's level and that of the item before it.
-fn sos(level: u8, before: u8) -> Class
+/// X10: the type at the start of a sequence is the direction of the higher of its first item's level and that of the item before it.
+fn x10_sos(level: u8, before: u8) -> Class
     ensures { result ≡ direction_of (max level before) }
 {
     Class::of_level(level.max(before))
 }
 
-/// The level of the last item up to a character, where it was known before it.
+/// For X10, the level of the last item that X9 leaves up to a character, where it was known before it.
 fn level_before_next(class: Class, level: u8, before: u8) -> u8
     ensures { result ≡ (if is_removed class then before else level) }
 {

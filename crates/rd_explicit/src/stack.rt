@@ -1,6 +1,6 @@
 //! The directional status stack of UAX 9, section 3.3.2.
 ghost use Rattle.std.specs.Prelude.{◌≡◌, ◌<◌, ◌≤◌, ◌+◌, ◌∷◌, [], length};
-ghost use Rattle.rd_explicit.specs.Explicit.{top, below_isolate, below_embedding};
+ghost use Rattle.rd_explicit.specs.Explicit.{top, x6a_below_isolate, x7_below_embedding};
 
 use rd_base::Class;
 use std::marker::Model;
@@ -75,9 +75,9 @@ impl Stack {
         self.entries[self.depth]
     }
 
-    /// Takes the entries above the topmost isolate and that isolate away. The first entry always stays.
+    /// For X6a, takes the entries above the topmost isolate and that isolate away. The first entry always stays.
     pub fn close_isolate(&mut self)
-        ensures { self.new ≡ below_isolate self.old }
+        ensures { self.new ≡ x6a_below_isolate self.old }
     {
         while self.len() > 1 {
             let entry = self.pop();
@@ -87,9 +87,9 @@ impl Stack {
         }
     }
 
-    /// Takes the last entry away, unless it is an isolate or the only one.
+    /// For X7, takes the last entry away, unless it is an isolate or the only one.
     pub fn close_embedding(&mut self)
-        ensures { self.new ≡ below_embedding self.old }
+        ensures { self.new ≡ x7_below_embedding self.old }
     {
         if self.len() > 1 && !self.top().isolate {
             self.pop();

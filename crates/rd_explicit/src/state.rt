@@ -1,8 +1,9 @@
-//! One step of rules X2 to X8 of UAX 9.
+//! Rules X1 to X8 of UAX 9, each a method of the state that the rules keep or a function, and the step that says which rule a class
+//! takes.
 ghost use Rattle.std.specs.Prelude.{◌≡◌, ◌<◌, ◌≤◌, ◌+◌, ◌^◌, ◌||◌, ◌&&◌, ◌==◌, length, if◌then◌else◌};
-ghost use Rattle.rd_explicit.specs.Explicit.{start, top, odd_above, even_above, is_valid, embedded, isolated, after_pdi, after_pdf, after, given, under, starts_right, Rises, IsCounted, CountsOn};
+ghost use Rattle.rd_explicit.specs.Explicit.{x1_start, top, odd_above, even_above, is_valid, embedded, x2_right_to_left_embedding, x3_left_to_right_embedding, x4_right_to_left_override, x5_left_to_right_override, isolated, x5a_right_to_left_isolate, x5b_left_to_right_isolate, x5c_starts_right, x5c_first_strong_isolate, x6_level_and_override, x6a_pop_directional_isolate, x7_pop_directional_format, x8_paragraph_separator, x9_removed, after, given, Rises, IsCounted, CountsOn};
 
-use crate::isolate::starts_right;
+use crate::isolate::x5c_starts_right;
 use crate::stack::{Entry, Stack};
 use rd_base::Class;
 
@@ -23,10 +24,10 @@ pub struct State {
 }
 
 impl State {
-    /// The state before the first character of a line (X1).
-    pub fn new(base: u8) -> State
+    /// X1: before the first character of a line the stack has one entry with the base level, and nothing is counted.
+    pub fn x1_start(base: u8) -> State
         requires { base ≤ 1 }
-        ensures start { result ≡ start base }
+        ensures start { result ≡ x1_start base }
         ensures rises { Rises result.stack }
     {
         State {
@@ -48,7 +49,64 @@ impl State {
         level <= 125 && self.overflow_isolates == 0 && self.overflow_embeddings == 0
     }
 
-    /// An embedding, or an override, at a level above the last entry's (X2 to X5).
+    /// X2: an RLE opens an embedding at the next odd level.
+    fn x2_right_to_left_embedding(&mut self)
+        requires rises { Rises self.old.stack }
+        requires some { 0 < length self.old.stack }
+        requires counted { IsCounted 4294967294 self.old }
+        ensures state { self.new ≡ x2_right_to_left_embedding self.old }
+        ensures rises { Rises self.new.stack }
+        ensures some { 0 < length self.new.stack }
+        ensures counts { CountsOn self.old self.new }
+    {
+        let level = odd_above(self.stack.top().level);
+        self.embed(level, None);
+    }
+
+    /// X3: an LRE opens an embedding at the next even level.
+    fn x3_left_to_right_embedding(&mut self)
+        requires rises { Rises self.old.stack }
+        requires some { 0 < length self.old.stack }
+        requires counted { IsCounted 4294967294 self.old }
+        ensures state { self.new ≡ x3_left_to_right_embedding self.old }
+        ensures rises { Rises self.new.stack }
+        ensures some { 0 < length self.new.stack }
+        ensures counts { CountsOn self.old self.new }
+    {
+        let level = even_above(self.stack.top().level);
+        self.embed(level, None);
+    }
+
+    /// X4: an RLO opens an override to R at the next odd level.
+    fn x4_right_to_left_override(&mut self)
+        requires rises { Rises self.old.stack }
+        requires some { 0 < length self.old.stack }
+        requires counted { IsCounted 4294967294 self.old }
+        ensures state { self.new ≡ x4_right_to_left_override self.old }
+        ensures rises { Rises self.new.stack }
+        ensures some { 0 < length self.new.stack }
+        ensures counts { CountsOn self.old self.new }
+    {
+        let level = odd_above(self.stack.top().level);
+        self.embed(level, Some(Class::R));
+    }
+
+    /// X5: an LRO opens an override to L at the next even level.
+    fn x5_left_to_right_override(&mut self)
+        requires rises { Rises self.old.stack }
+        requires some { 0 < length self.old.stack }
+        requires counted { IsCounted 4294967294 self.old }
+        ensures state { self.new ≡ x5_left_to_right_override self.old }
+        ensures rises { Rises self.new.stack }
+        ensures some { 0 < length self.new.stack }
+        ensures counts { CountsOn self.old self.new }
+    {
+        let level = even_above(self.stack.top().level);
+        self.embed(level, Some(Class::L));
+    }
+
+    /// For X2 to X5, an embedding, or an override, at a level above the last entry's. Where it would be too deep, or in what has
+    /// overflowed, it overflows.
     fn embed(&mut self, level: u8, direction: Option<Class>)
         requires above { (top self.old.stack).level < level }
         requires rises { Rises self.old.stack }
@@ -70,7 +128,55 @@ impl State {
         }
     }
 
-    /// An isolate at a level above the last entry's (X5a, X5b).
+    /// X5a: an RLI opens an isolate at the next odd level.
+    fn x5a_right_to_left_isolate(&mut self)
+        requires rises { Rises self.old.stack }
+        requires some { 0 < length self.old.stack }
+        requires counted { IsCounted 4294967294 self.old }
+        ensures state { self.new ≡ x5a_right_to_left_isolate self.old }
+        ensures rises { Rises self.new.stack }
+        ensures some { 0 < length self.new.stack }
+        ensures counts { CountsOn self.old self.new }
+    {
+        let level = odd_above(self.stack.top().level);
+        self.isolate(level);
+    }
+
+    /// X5b: an LRI opens an isolate at the next even level.
+    fn x5b_left_to_right_isolate(&mut self)
+        requires rises { Rises self.old.stack }
+        requires some { 0 < length self.old.stack }
+        requires counted { IsCounted 4294967294 self.old }
+        ensures state { self.new ≡ x5b_left_to_right_isolate self.old }
+        ensures rises { Rises self.new.stack }
+        ensures some { 0 < length self.new.stack }
+        ensures counts { CountsOn self.old self.new }
+    {
+        let level = even_above(self.stack.top().level);
+        self.isolate(level);
+    }
+
+    /// X5c: an FSI, with these classes after it, is taken as an RLI or as an LRI by the first strong character of what it isolates.
+    /// It looks at them only where nothing has overflowed, since the level that it wants counts only then.
+    fn x5c_first_strong_isolate(&mut self, rest: &[Class])
+        requires short { length rest.now < 2 ^ 32 }
+        requires rises { Rises self.old.stack }
+        requires some { 0 < length self.old.stack }
+        requires counted { IsCounted 4294967294 self.old }
+        ensures state { self.new ≡ x5c_first_strong_isolate self.old rest.now }
+        ensures rises { Rises self.new.stack }
+        ensures some { 0 < length self.new.stack }
+        ensures counts { CountsOn self.old self.new }
+    {
+        if self.overflow_isolates == 0 && self.overflow_embeddings == 0 && x5c_starts_right(rest) {
+            self.x5a_right_to_left_isolate();
+        } else {
+            self.x5b_left_to_right_isolate();
+        }
+    }
+
+    /// For X5a to X5c, an isolate at a level above the last entry's. Where it would be too deep, or in what has overflowed, it
+    /// overflows.
     fn isolate(&mut self, level: u8)
         requires above { (top self.old.stack).level < level }
         requires rises { Rises self.old.stack }
@@ -93,11 +199,12 @@ impl State {
         }
     }
 
-    /// A PDI (X6a).
-    fn close_isolate(&mut self)
+    /// X6a: a PDI closes the overflow isolate that was opened last, else the isolate that was opened last and all embeddings in it.
+    /// Where no isolate is open nothing changes.
+    fn x6a_pop_directional_isolate(&mut self)
         requires rises { Rises self.old.stack }
         requires some { 0 < length self.old.stack }
-        ensures state { self.new ≡ after_pdi self.old }
+        ensures state { self.new ≡ x6a_pop_directional_isolate self.old }
         ensures rises { Rises self.new.stack }
         ensures some { 0 < length self.new.stack }
         ensures counts { CountsOn self.old self.new }
@@ -111,11 +218,12 @@ impl State {
         }
     }
 
-    /// A PDF (X7).
-    fn close_embedding(&mut self)
+    /// X7: a PDF closes the overflow embedding that was opened last, else the embedding that was opened last, where it stands in the
+    /// same isolate.
+    fn x7_pop_directional_format(&mut self)
         requires rises { Rises self.old.stack }
         requires some { 0 < length self.old.stack }
-        ensures state { self.new ≡ after_pdf self.old }
+        ensures state { self.new ≡ x7_pop_directional_format self.old }
         ensures rises { Rises self.new.stack }
         ensures some { 0 < length self.new.stack }
         ensures counts { CountsOn self.old self.new }
@@ -130,27 +238,7 @@ impl State {
         }
     }
 
-    /// An FSI with these classes after it (X5c). It looks at them only where nothing has overflowed, since the level that it
-    /// wants counts only then.
-    fn isolate_first_strong(&mut self, rest: &[Class])
-        requires short { length rest.now < 2 ^ 32 }
-        requires rises { Rises self.old.stack }
-        requires some { 0 < length self.old.stack }
-        requires counted { IsCounted 4294967294 self.old }
-        ensures state { self.new ≡ after self.old Class.FSI rest.now }
-        ensures rises { Rises self.new.stack }
-        ensures some { 0 < length self.new.stack }
-        ensures counts { CountsOn self.old self.new }
-    {
-        let level = self.stack.top().level;
-        if self.overflow_isolates == 0 && self.overflow_embeddings == 0 && starts_right(rest) {
-            self.isolate(odd_above(level));
-        } else {
-            self.isolate(even_above(level));
-        }
-    }
-
-    /// Takes one character, with these classes after it, and says its level and type.
+    /// Takes one character, with these classes after it, and says its level and type: by the rule of its class.
     pub fn step(&mut self, base: u8, class: Class, rest: &[Class]) -> Given
         requires short { length rest.now < 2 ^ 32 }
         requires rises { Rises self.old.stack }
@@ -165,30 +253,30 @@ impl State {
     {
         let entry = self.stack.top();
         match class {
-            Class::B | Class::BN => return Given { level: base, class },
-            Class::RLE => self.embed(odd_above(entry.level), None),
-            Class::LRE => self.embed(even_above(entry.level), None),
-            Class::RLO => self.embed(odd_above(entry.level), Some(Class::R)),
-            Class::LRO => self.embed(even_above(entry.level), Some(Class::L)),
-            Class::RLI => self.isolate(odd_above(entry.level)),
-            Class::LRI => self.isolate(even_above(entry.level)),
-            Class::FSI => self.isolate_first_strong(rest),
+            Class::RLE => self.x2_right_to_left_embedding(),
+            Class::LRE => self.x3_left_to_right_embedding(),
+            Class::RLO => self.x4_right_to_left_override(),
+            Class::LRO => self.x5_left_to_right_override(),
+            Class::RLI => self.x5a_right_to_left_isolate(),
+            Class::LRI => self.x5b_left_to_right_isolate(),
+            Class::FSI => self.x5c_first_strong_isolate(rest),
             Class::PDI => {
-                self.close_isolate();
-                return under(self.stack.top(), class);
+                self.x6a_pop_directional_isolate();
+                return x6_level_and_override(self.stack.top(), class);
             }
-            Class::PDF => self.close_embedding(),
+            Class::PDF => self.x7_pop_directional_format(),
+            Class::B => return x8_paragraph_separator(base),
             _ => {}
         }
         if class.is_removed() {
-            Given { level: base, class }
+            x9_removed(base, class)
         } else {
-            under(entry, class)
+            x6_level_and_override(entry, class)
         }
     }
 }
 
-/// The least odd level above another.
+/// The least odd level above another (X2, X4, X5a).
 fn odd_above(level: u8) -> u8
     requires { level ≤ 125 }
     ensures odd { result ≡ odd_above level }
@@ -197,7 +285,7 @@ fn odd_above(level: u8) -> u8
     if level % 2 == 0 { level + 1 } else { level + 2 }
 }
 
-/// The least even level above another.
+/// The least even level above another (X3, X5, X5b).
 fn even_above(level: u8) -> u8
     requires { level ≤ 125 }
     ensures even { result ≡ even_above level }
@@ -206,12 +294,29 @@ fn even_above(level: u8) -> u8
     if level % 2 == 0 { level + 2 } else { level + 1 }
 }
 
-/// What an entry says of a class: its level, and its override, where it has one, as type.
-fn under(entry: Entry, class: Class) -> Given
-    ensures { result ≡ under entry class }
+/// X6: a character takes the level of the last entry, and its override, where it has one, as type. So do those of X5a to X6a.
+fn x6_level_and_override(entry: Entry, class: Class) -> Given
+    ensures { result ≡ x6_level_and_override entry class }
 {
     Given {
         level: entry.level,
         class: entry.direction.unwrap_or(class),
     }
+}
+
+/// X8: a paragraph separator takes the level of the base.
+fn x8_paragraph_separator(base: u8) -> Given
+    ensures { result ≡ x8_paragraph_separator base }
+{
+    Given {
+        level: base,
+        class: Class::B,
+    }
+}
+
+/// X9: what the rule takes out keeps its class and has the base (a choice of this project).
+fn x9_removed(base: u8, class: Class) -> Given
+    ensures { result ≡ x9_removed base class }
+{
+    Given { level: base, class }
 }

@@ -1,4 +1,4 @@
 mod Places
-mod Turned
+mod Reversals
 mod Steps
 pub mod Once

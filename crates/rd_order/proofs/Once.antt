@@ -3,7 +3,7 @@ use Rattle.std.proofs.Common.{◌≡◌, ℕ, zero, suc, ◌+◌, ◌-◌, ◌<�
 use Rattle.std.specs.Prelude.{if◌then◌else◌, slice_index}
 use Rattle.std.specs.List.{range_with_len}
 use Rattle.std.proofs.lemmas.Bool.Decides.{nat_tests}
-use Rattle.rd_order.specs.Order.{turned, turned_down, highest, visual_order}
+use Rattle.rd_order.specs.Order.{l2_reversed, l2_reversed_down, highest, l2_visual_order}
 
 -- the sum of a number for each of these places
 abbrev pub total : (ℕ → ℕ) → List ℕ → ℕ
@@ -18,23 +18,23 @@ either : (f : ℕ → ℕ) (b : Bool) (xs ys : List ℕ) (n : ℕ) → total f x
 either f true xs ys n h k = h
 either f false xs ys n h k = k
 
-total-turned : (f : ℕ → ℕ) (levels : List ℕ) (k : ℕ) (run is : List ℕ) → total f (turned levels k run is) ≡ total f run + total f is
-total-turned f levels k run [] = omega arith
-total-turned f levels k run (i ∷ is) =
-    let more = total-turned f levels k (i ∷ run) is in
-    let fresh = total-turned f levels k [] is in
-    let cut = total-append f run (i ∷ turned levels k [] is) in
-    either f (nat_le k (slice_index levels i)) (turned levels k (i ∷ run) is) (run ++ (i ∷ turned levels k [] is)) (total f run + total f (i ∷ is))
+total-l2_reversed : (f : ℕ → ℕ) (levels : List ℕ) (k : ℕ) (run is : List ℕ) → total f (l2_reversed levels k run is) ≡ total f run + total f is
+total-l2_reversed f levels k run [] = omega arith
+total-l2_reversed f levels k run (i ∷ is) =
+    let more = total-l2_reversed f levels k (i ∷ run) is in
+    let fresh = total-l2_reversed f levels k [] is in
+    let cut = total-append f run (i ∷ l2_reversed levels k [] is) in
+    either f (nat_le k (slice_index levels i)) (l2_reversed levels k (i ∷ run) is) (run ++ (i ∷ l2_reversed levels k [] is)) (total f run + total f (i ∷ is))
     (omega (arith, more)) (omega (arith, fresh, cut))
 
-total-down : (f : ℕ → ℕ) (levels : List ℕ) (base n : ℕ) (is : List ℕ) → total f (turned_down levels base n is) ≡ total f is
+total-down : (f : ℕ → ℕ) (levels : List ℕ) (base n : ℕ) (is : List ℕ) → total f (l2_reversed_down levels base n is) ≡ total f is
 total-down f levels base zero is = refl
 total-down f levels base (suc n) is =
     let none : 0 + total f is ≡ total f is = omega arith in
-    total-down f levels base n (turned levels (base + suc n) [] is) ∙ (total-turned f levels (base + suc n) [] is ∙ none)
+    total-down f levels base n (l2_reversed levels (base + suc n) [] is) ∙ (total-l2_reversed f levels (base + suc n) [] is ∙ none)
 
 -- the places of a line's visual order are all of the line's
-pub total-order : (f : ℕ → ℕ) (base : ℕ) (levels : List ℕ) → total f (visual_order base levels) ≡ total f (range_with_len 0 (length levels))
+pub total-order : (f : ℕ → ℕ) (base : ℕ) (levels : List ℕ) → total f (l2_visual_order base levels) ≡ total f (range_with_len 0 (length levels))
 total-order f base levels = total-down f levels base (highest levels - base) (range_with_len 0 (length levels))
 
 -- one place

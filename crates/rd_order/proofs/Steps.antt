@@ -4,10 +4,10 @@ use Rattle.std.specs.Prelude.{slice_get}
 use Rattle.std.proofs.lemmas.Bool.{cases_lt, cases_eq}
 use Rattle.std.proofs.lemmas.Bool.Decides.{nat_tests}
 use Rattle.std.proofs.lemmas.Option.{slice_get_within, slice_get-get_or, slice_get_past}
-use Rattle.rd_order.specs.Order.{highest, visual_order}
+use Rattle.rd_order.specs.Order.{highest, l2_visual_order}
 use Rattle.rd_order.specs.Places.{AreHigh, BeginsLow, IsRun, Comes, IsNextTo, IsBeside}
 use Rattle.rd_order.proofs.Places.{same_run, comes_of, Comes-within, Comes-source}
-use Rattle.rd_order.proofs.Turned.{visual_order-length, visual_order-comes, highest-bounds}
+use Rattle.rd_order.proofs.Reversals.{l2_visual_order-length, l2_visual_order-comes, highest-bounds}
 
 -- levels above a place's own leave it
 climb : (f : ℕ → ℕ) (n base m j p q : ℕ) → f q ≤ base + m → Comes f n base m p q → Comes f n base (j + m) p q
@@ -34,7 +34,7 @@ descend f n base m (suc j) p q low c =
 
 -- the order at a place that what stands at q comes to
 pub shows : (base m p q : ℕ) (levels : List ℕ) → (0 < m → base + m ≤ get_or levels q 0) → get_or levels q 0 ≤ base + m → q < length levels
-    → Comes (λ i. get_or levels i 0) (length levels) base m p q → slice_get (visual_order base levels) p ≡ Some q
+    → Comes (λ i. get_or levels i 0) (length levels) base m p q → slice_get (l2_visual_order base levels) p ≡ Some q
 shows base m p q levels high low within c =
     let f : ℕ → ℕ = λ i. get_or levels i 0 in
     let most = highest-bounds levels q within in
@@ -46,21 +46,21 @@ shows base m p q levels high low within c =
     let C : ℕ → Type 0 = λ k. Comes f (length levels) base k p q in
     let whole = subst C e (climb f (length levels) base m (total - m) p q low c) in
     let p_within = Comes-source f (length levels) base m p q c within in
-    let size = visual_order-length base levels in
-    slice_get-get_or (visual_order base levels) p 0 (omega arith) ∙ ap Some (visual_order-comes base levels p q p_within whole)
+    let size = l2_visual_order-length base levels in
+    slice_get-get_or (l2_visual_order base levels) p 0 (omega arith) ∙ ap Some (l2_visual_order-comes base levels p q p_within whole)
 
 -- what the order gives is an index of the line
-pub gives-within : (base p q : ℕ) (levels : List ℕ) → slice_get (visual_order base levels) p ≡ Some q → (p < length levels) × (q < length levels)
+pub gives-within : (base p q : ℕ) (levels : List ℕ) → slice_get (l2_visual_order base levels) p ≡ Some q → (p < length levels) × (q < length levels)
 gives-within base p q levels at =
     let f : ℕ → ℕ = λ i. get_or levels i 0 in
     let n = length levels in
     let total = highest levels - base in
-    let size = visual_order-length base levels in
-    let inside = slice_get_within (visual_order base levels) p q at in
+    let size = l2_visual_order-length base levels in
+    let inside = slice_get_within (l2_visual_order base levels) p q at in
     let p_within : p < n = omega arith in
     let found = comes_of f n base total p p_within in
-    let there = visual_order-comes base levels p found.0 p_within found.1 in
-    let said = slice_get-get_or (visual_order base levels) p 0 inside in
+    let there = l2_visual_order-comes base levels p found.0 p_within found.1 in
+    let said = slice_get-get_or (l2_visual_order base levels) p 0 inside in
     let whole_at : Some q ≡ Some found.0 = sym at ∙ said ∙ ap Some there in
     let same : found.0 ≡ q = cc in
     let found_within = Comes-within f n base total p found.0 found.1 p_within in
@@ -68,17 +68,17 @@ gives-within base p q levels at =
 
 -- where an index stands in the order, what stands there after the reversals above its own level
 pub known : (base p q : ℕ) (levels : List ℕ) (m : ℕ) → get_or levels q 0 ≤ base + m → (0 < m → base + m ≤ get_or levels q 0)
-    → slice_get (visual_order base levels) p ≡ Some q → Comes (λ i. get_or levels i 0) (length levels) base m p q
+    → slice_get (l2_visual_order base levels) p ≡ Some q → Comes (λ i. get_or levels i 0) (length levels) base m p q
 known base p q levels m low high at =
     let f : ℕ → ℕ = λ i. get_or levels i 0 in
     let n = length levels in
     let total = highest levels - base in
-    let size = visual_order-length base levels in
-    let inside = slice_get_within (visual_order base levels) p q at in
+    let size = l2_visual_order-length base levels in
+    let inside = slice_get_within (l2_visual_order base levels) p q at in
     let p_within : p < n = omega arith in
     let found = comes_of f n base total p p_within in
-    let there = visual_order-comes base levels p found.0 p_within found.1 in
-    let said = slice_get-get_or (visual_order base levels) p 0 inside in
+    let there = l2_visual_order-comes base levels p found.0 p_within found.1 in
+    let said = slice_get-get_or (l2_visual_order base levels) p 0 inside in
     let whole_at : Some q ≡ Some found.0 = sym at ∙ said ∙ ap Some there in
     let same : found.0 ≡ q = cc in
     let C : ℕ → Type 0 = λ i. Comes f n base total p i in
@@ -224,9 +224,9 @@ left_at f n base level outer a b p q r up fall run low_before low_after from to 
 
 -- at the end of the line in the direction of the base nothing is left
 pub last : (base m p q : ℕ) (levels : List ℕ) → m ≡ 0 → Comes (λ i. get_or levels i 0) (length levels) base m p q
-    → IsBeside (λ i. get_or levels i 0) (length levels) base m q None → slice_get (visual_order base levels) (p + 1) ≡ None
+    → IsBeside (λ i. get_or levels i 0) (length levels) base m q None → slice_get (l2_visual_order base levels) (p + 1) ≡ None
 last base m p q levels e c none =
-    let size = visual_order-length base levels in
+    let size = l2_visual_order-length base levels in
     let C : ℕ → Type 0 = λ k. Comes (λ i. get_or levels i 0) (length levels) base k p q in
     let at : q ≡ p = subst C e c in
     let past : length levels ≤ suc q = elim (cases_lt (suc q) (length levels)) [
@@ -236,4 +236,4 @@ last base m p q levels e c none =
           let no = (none (suc q) next less).0 in absurd (omega arith)
       | inr more ↦ more
     ] in
-    slice_get_past (visual_order base levels) (p + 1) (omega arith)
+    slice_get_past (l2_visual_order base levels) (p + 1) (omega arith)

@@ -1,4 +1,4 @@
-//! Maximal runs of indexes at a level or above.
+//! Maximal runs of indexes at a level or above, which rule L2 of UAX 9 reverses.
 ghost use Rattle.std.specs.Prelude.{◌≡◌, ◌+◌, ◌-◌, ◌<◌, ◌≤◌, ◌%◌, ◌==◌, if◌then◌else◌, length, slice_index};
 ghost use Rattle.rd_order.specs.Places.{IsRun, AreHigh, BeginsLow};
 

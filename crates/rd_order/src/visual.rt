@@ -1,11 +1,11 @@
-//! The walk through a line in visual order.
+//! The walk through a line in visual order: rule L2 of UAX 9, one index after the other, without a list that is reversed.
 ghost use Rattle.std.specs.Prelude.{◌≡◌, ℕ, suc, ◌+◌, ◌-◌, ◌<◌, ◌≤◌, ◌⊎◌, length, slice_index, slice_get, Some};
-ghost use Rattle.rd_order.specs.Order.{visual_order};
+ghost use Rattle.rd_order.specs.Order.{l2_visual_order};
 ghost use Rattle.rd_order.specs.Places.{Comes, IsBeside};
 
 use crate::run::{Run, around};
 
-/// A walk through the indexes of a line in visual order, from the reading edge. It holds the next index and no list.
+/// A walk through the indexes of a line in visual order (L2), from the reading edge. It holds the next index and no list.
 #[derive(Clone, Copy, Debug)]
 pub struct Visual {
     base: u8,
@@ -15,7 +15,7 @@ pub struct Visual {
 
 impl Visual {
     ghost use Rattle.std.specs.Prelude.{◌≡◌, ◌≤◌, ℕ, length, List, [], ◌∷◌, MatchOption};
-    ghost use Rattle.rd_order.specs.Order.{visual_order};
+    ghost use Rattle.rd_order.specs.Order.{l2_visual_order};
     ghost use Rattle.rd_order.specs.Walks.{left, IsWalkOf};
 
     /// A walk through a line of these embedding levels, from the reading edge: the left edge at base 0, the right edge at
@@ -23,7 +23,7 @@ impl Visual {
     pub fn start(levels: &[u8], base: u8) -> Visual
         requires { base ≤ 1 }
         ensures walk { IsWalkOf result levels.now }
-        ensures left { left result levels.now ≡ visual_order base levels.now }
+        ensures left { left result levels.now ≡ l2_visual_order base levels.now }
     {
         Visual {
             base,
@@ -50,7 +50,7 @@ impl Visual {
 
 /// The first index of the visual order, if there is one.
 fn first(levels: &[u8], base: u8) -> Option<usize>
-    ensures { result ≡ slice_get (visual_order base levels.now) 0 }
+    ensures { result ≡ slice_get (l2_visual_order base levels.now) 0 }
 {
     if levels.is_empty() {
         return None;
@@ -61,7 +61,7 @@ fn first(levels: &[u8], base: u8) -> Option<usize>
 /// The index that follows `index` in visual order, and None where it is the last.
 fn following(levels: &[u8], base: u8, index: usize) -> Option<usize>
     requires { index < length levels.now }
-    ensures { (p : ℕ) → slice_get (visual_order base levels.now) p ≡ Some index → slice_get (visual_order base levels.now) (p + 1) ≡ result }
+    ensures { (p : ℕ) → slice_get (l2_visual_order base levels.now) p ≡ Some index → slice_get (l2_visual_order base levels.now) (p + 1) ≡ result }
 {
     let mut level = levels[index].max(base);
     let mut place = index;
@@ -122,7 +122,7 @@ fn settled(levels: &[u8], base: u8, level: u8, place: usize) -> usize
     requires base { base ≤ level }
     requires place { place < length levels.now }
     requires high { base < level → level ≤ slice_index levels.now place }
-    ensures { (p : ℕ) → Comes (slice_index levels.now) (length levels.now) base (level - base) p place → slice_get (visual_order base levels.now) p ≡ Some result }
+    ensures { (p : ℕ) → Comes (slice_index levels.now) (length levels.now) base (level - base) p place → slice_get (l2_visual_order base levels.now) p ≡ Some result }
 {
     let mut level = level;
     let mut place = place;

@@ -1,3 +1,4 @@
 pub mod Places
 pub mod Raising
-pub mod Runs
+pub mod Resetting
+pub mod WeakSteps

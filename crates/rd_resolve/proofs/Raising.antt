@@ -1,12 +1,12 @@
--- Steps of the walks over a line's levels.
-use Rattle.std.proofs.Common.{◌≡◌, ℕ, ◌+◌, ◌<◌, ◌≤◌, Bool, true, false, ◌||◌, ◌&&◌, if◌then◌else◌, List, [], ◌∷◌, ◌++◌, length, take, drop, set, get_or, slice_get, Some, All, refl, ap, ap₂, sym, ◌∙◌, add-zero, arith}
-use Rattle.std.proofs.lemmas.List.{drop_more, drop-set, drop-set-lt, drop-drop, take_more_set, take-set, take-take, get_or-drop, get_or-take, append_assoc}
+-- One step of the walk that raises a line's levels (I1, I2).
+use Rattle.std.proofs.Common.{◌≡◌, ℕ, ◌+◌, ◌<◌, ◌≤◌, Bool, true, false, if◌then◌else◌, List, [], ◌∷◌, ◌++◌, length, take, drop, set, get_or, slice_get, Some, All, refl, ap, ap₂, sym, ◌∙◌, add-zero, arith}
+use Rattle.std.proofs.lemmas.List.{drop_more, drop-set-lt, drop-drop, take_more_set, get_or-drop, append_assoc}
 use Rattle.std.proofs.lemmas.Option.{get_or_from_slice_get}
 use Rattle.rd_base.specs.Classes.{is_removed}
 use Rattle.rd_base.specs.declared.class.Class.{Class}
-use Rattle.rd_resolve.specs.Implicit.{raised, i1_i2, kept, is_separator, is_white, resets, l1}
+use Rattle.rd_resolve.specs.Implicit.{raised, i1_i2, kept}
 
-drop-read : {X : Type 0} (xs : List X) (i : ℕ) (x : X) → i < length xs → slice_get xs i ≡ Some x → drop i xs ≡ x ∷ drop (i + 1) xs
+pub drop-read : {X : Type 0} (xs : List X) (i : ℕ) (x : X) → i < length xs → slice_get xs i ≡ Some x → drop i xs ≡ x ∷ drop (i + 1) xs
 drop-read xs i x within read = drop_more xs i x within ∙ ap (λ y. y ∷ drop (i + 1) xs) (get_or_from_slice_get xs i x x read)
 
 front : (xs : List ℕ) (i : ℕ) → get_or (drop i xs) 0 0 ≡ get_or xs i 0
@@ -43,29 +43,3 @@ raise-step before v i cs ts ls all c t l within same_ts same_ls read_c read_t re
     let fits : i < length ls = omega arith in
     ap (λ f. f ++ kept v (drop (i + 1) cs) (i1_i2 (drop (i + 1) ts) (drop (i + 1) ls))) (take_more_set ls i v fits)
     ∙ append_assoc (take i ls) (v ∷ []) _ ∙ ap (λ r. take i ls ++ r) (sym whole) ∙ h
-
--- rule L1, one character nearer to the front
-module _ (base i j : ℕ) (cs : List Class) (ls old : List ℕ) (c : Class) (l v : ℕ) (white now : Bool)
-    (next : j + 1 ≡ i) (within : i ≤ length cs) (same_ls : length ls ≡ length cs) (same_old : length old ≡ length cs)
-    (read_c : slice_get cs j ≡ Some c) (read_l : slice_get ls j ≡ Some l)
-    (was : white ≡ resets (drop i cs)) (is : now ≡ (is_separator c || (is_white c && white))) (given : v ≡ (if now then base else l))
-    (done : drop i ls ≡ l1 base (drop i cs) (drop i old)) (left : take i ls ≡ take i old) where
-  at_cs : drop j cs ≡ c ∷ drop i cs
-  at_cs = drop-read cs j c (omega arith) read_c ∙ ap (λ n. c ∷ drop n cs) next
-
-  pub white-step : now ≡ resets (drop j cs)
-  white-step = rw at_cs (is ∙ ap (λ b. is_separator c || (is_white c && b)) was)
-
-  at_old : drop j old ≡ l ∷ drop i old
-  at_old =
-      let e : get_or old j 0 ≡ l = sym (get_or-take i old j 0 (omega arith)) ∙ ap (λ zs. get_or zs j 0) (sym left) ∙ get_or-take i ls j 0 (omega arith) ∙ get_or_from_slice_get ls j l 0 read_l in
-      drop_more old j 0 (omega arith) ∙ ap₂ (λ x n. x ∷ drop n old) e next
-
-  pub reset-step : drop j (set ls j v) ≡ l1 base (drop j cs) (drop j old)
-  reset-step =
-      let fits : j < length ls = omega arith in
-      let head : v ≡ (if resets (c ∷ drop i cs) then base else l) = given ∙ ap (λ (b : Bool). if b then base else l) (white-step ∙ ap resets at_cs) in
-      drop-set ls j v fits ∙ ap₂ (λ x n. x ∷ drop n ls) head next ∙ ap (λ r. (if resets (c ∷ drop i cs) then base else l) ∷ r) done ∙ sym (ap₂ (λ ds ms. l1 base ds ms) at_cs at_old)
-
-  pub front-step : take j (set ls j v) ≡ take j old
-  front-step = take-set ls j v ∙ sym (take-take j i ls (omega arith)) ∙ ap (take j) left ∙ take-take j i old (omega arith)

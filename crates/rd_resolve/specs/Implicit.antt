@@ -5,22 +5,24 @@ use Rattle.rd_base.specs.declared.class.Class.{Class}
 use Rattle.rd_base.specs.declared.class.Class.TheVariants.{L, R, EN, AN, B, S, WS, PDI}
 
 -- I1: at an even level, R goes up one level and AN and EN go up two
-abbrev pub even_raised : ℕ → Class → ℕ
-even_raised level R = level + 1
-even_raised level AN = level + 2
-even_raised level EN = level + 2
-even_raised level c = level
+abbrev pub i1_even_levels : ℕ → Class → ℕ
+i1_even_levels level R = level + 1
+i1_even_levels level AN = level + 2
+i1_even_levels level EN = level + 2
+i1_even_levels level c = level
 
 -- I2: at an odd level, L, EN and AN go up one level
-abbrev pub odd_raised : ℕ → Class → ℕ
-odd_raised level L = level + 1
-odd_raised level EN = level + 1
-odd_raised level AN = level + 1
-odd_raised level c = level
+abbrev pub i2_odd_levels : ℕ → Class → ℕ
+i2_odd_levels level L = level + 1
+i2_odd_levels level EN = level + 1
+i2_odd_levels level AN = level + 1
+i2_odd_levels level c = level
 
+-- I1 at an even level, I2 at an odd one
 abbrev pub raised : ℕ → Class → ℕ
-raised level c = if level % 2 == 0 then even_raised level c else odd_raised level c
+raised level c = if level % 2 == 0 then i1_even_levels level c else i2_odd_levels level c
 
+-- I1 and I2 over a line
 abbrev pub i1_i2 : List Class → List ℕ → List ℕ
 i1_i2 [] ls = ls
 i1_i2 (c ∷ cs) [] = []
@@ -33,26 +35,29 @@ kept before [] ls = ls
 kept before (c ∷ cs) [] = []
 kept before (c ∷ cs) (l ∷ ls) = if is_removed c then before ∷ kept before cs ls else l ∷ kept l cs ls
 
--- L1: whether the base is taken by the first of these characters, by their classes: it is a separator, or begins a run of white
--- space, isolate formatting characters and what X9 took out that ends at a separator or at the line's end
+-- for L1, what ends a segment or a paragraph
 abbrev pub is_separator : Class → Bool
 is_separator S = true
 is_separator B = true
 is_separator c = false
 
+-- for L1, white space, isolate formatting characters and what X9 took out
 abbrev pub is_white : Class → Bool
 is_white WS = true
 is_white PDI = true
 is_white c = is_initiator c || is_removed c
 
-abbrev pub resets : List Class → Bool
-resets [] = true
-resets (c ∷ cs) = is_separator c || (is_white c && resets cs)
+-- L1: whether the base is taken by the first of these characters, by their classes: it is a separator, or begins a run of white space
+-- that ends at a separator or at the line's end
+abbrev pub l1_resets : List Class → Bool
+l1_resets [] = true
+l1_resets (c ∷ cs) = is_separator c || (is_white c && l1_resets cs)
 
+-- L1 over a line with a base level
 abbrev pub l1 : ℕ → List Class → List ℕ → List ℕ
 l1 base [] ls = ls
 l1 base (c ∷ cs) [] = []
-l1 base (c ∷ cs) (l ∷ ls) = (if resets (c ∷ cs) then base else l) ∷ l1 base cs ls
+l1 base (c ∷ cs) (l ∷ ls) = (if l1_resets (c ∷ cs) then base else l) ∷ l1 base cs ls
 
 -- the levels of a line after I1, I2 and L1, by its classes, types and levels
 abbrev pub implicit_levels : ℕ → List Class → List Class → List ℕ → List ℕ

@@ -3,6 +3,7 @@
 
 mod neutral_walk;
 mod raise;
+mod reset;
 mod weak_walk;
 
 pub use neutral_walk::neutral;

@@ -1,14 +1,13 @@
-//! Rules N1 and N2 of UAX 9 in one walk over a sequence.
+//! Rules N1 and N2 of UAX 9 in one walk over an isolating run sequence. Each rule is a function here.
 ghost use Rattle.std.specs.Prelude.{◌≡◌, ◌<◌, ◌∷◌, length, All, AllPairs, IfSome, if◌then◌else◌};
-ghost use Rattle.rd_base.specs.Classes.{direction_of};
 ghost use Rattle.rd_base.specs.Lines.{KeepsClasses};
-ghost use Rattle.rd_resolve.specs.Neutral.{is_neutral, side, following, agreed, n1, n2, neutral_types};
+ghost use Rattle.rd_resolve.specs.Neutral.{is_neutral, n1_side, n1_following, n1_surrounding_direction, n1, n2_embedding_direction, neutral_types};
 ghost use Rattle.rd_resolve.specs.Places.{types_at, levels_at, put_at};
 ghost use Rattle.rd_resolve.specs.Walks.{SideIs};
 
 use rd_base::{Class, Line, Seq};
 
-/// The direction before a character, and, within a run of neutrals, the one behind it.
+/// What N1 knows at a character: the direction before it, and, within a run of neutrals, the one behind the run.
 #[derive(Clone, Copy)]
 pub struct Sides {
     pub before: Class,
@@ -18,7 +17,7 @@ pub struct Sides {
 /// Gives the neutrals of an isolating run sequence the types that rules N1 and N2 of UAX 9 make of theirs. The sequence's indexes
 /// ascend and lie within the line.
 ///
-/// One walk; a run of neutrals is looked through once. The cost is linear in the sequence.
+/// One walk does both rules; a run of neutrals is looked through once. The cost is linear in the sequence.
 pub fn neutral(line: &mut Line, seq: &Seq)
     requires within { All (λ i. i < length line.old.classes) seq.now.indexes }
     requires ascend { AllPairs (λ i j. i < j) seq.now.indexes }
@@ -42,48 +41,48 @@ pub fn neutral(line: &mut Line, seq: &Seq)
 }
 
 impl Sides {
-    /// The type that the rules give the next character, with these indexes behind it.
+    /// The type that N1 and N2 give the next character, with these indexes behind it.
     fn step(&mut self, eos: Class, class: Class, level: u8, types: &[Class], rest: &[u32]) -> Class
         requires within { All (λ i. i < length types.now) rest.now }
         requires run { SideIs self.old.run eos (class ∷ types_at rest.now types.now) }
         ensures first { n1 self.old.before eos (class ∷ types_at rest.now types.now)
-            ≡ (if is_neutral class then agreed self.old.before (following eos (types_at rest.now types.now)) class else class) ∷ n1 self.new.before eos (types_at rest.now types.now) }
-        ensures second { result ≡ (let first = if is_neutral class then agreed self.old.before (following eos (types_at rest.now types.now)) class else class in
-            if is_neutral first then direction_of level else first) }
+            ≡ (if is_neutral class then n1_surrounding_direction self.old.before (n1_following eos (types_at rest.now types.now)) class else class) ∷ n1 self.new.before eos (types_at rest.now types.now) }
+        ensures second { result ≡ n2_embedding_direction (if is_neutral class then n1_surrounding_direction self.old.before (n1_following eos (types_at rest.now types.now)) class else class) level }
         ensures run { SideIs self.new.run eos (types_at rest.now types.now) }
     {
         if !is_neutral(class) {
-            self.before = side(class);
+            self.before = n1_side(class);
             self.run = None;
             return class;
         }
-        let after = self.after(eos, types, rest);
+        let after = self.n1_after(eos, types, rest);
         self.run = Some(after);
-        leveled(agreed(self.before, after, class), level)
+        let after_n1 = n1_surrounding_direction(self.before, after, class);
+        n2_embedding_direction(after_n1, level)
     }
 
-    /// The direction behind the run of neutrals that a character belongs to, which is looked through only where it begins.
-    fn after(&self, eos: Class, types: &[Class], rest: &[u32]) -> Class
+    /// For N1, the direction behind the run of neutrals that a character belongs to. The run is looked through only where it begins.
+    fn n1_after(&self, eos: Class, types: &[Class], rest: &[u32]) -> Class
         requires within { All (λ i. i < length types.now) rest.now }
         requires run { SideIs self.now.run eos (types_at rest.now types.now) }
-        ensures { result ≡ following eos (types_at rest.now types.now) }
+        ensures { result ≡ n1_following eos (types_at rest.now types.now) }
     {
         match self.run {
             Some(after) => after,
-            None => following(eos, types, rest),
+            None => n1_following(eos, types, rest),
         }
     }
 }
 
-/// The direction of the first character at these indexes that is not neutral, else that at the sequence's end.
-fn following(eos: Class, types: &[Class], rest: &[u32]) -> Class
+/// For N1, the direction of the first character at these indexes that is not neutral, else that at the sequence's end.
+fn n1_following(eos: Class, types: &[Class], rest: &[u32]) -> Class
     requires { All (λ i. i < length types.now) rest.now }
-    ensures { result ≡ following eos (types_at rest.now types.now) }
+    ensures { result ≡ n1_following eos (types_at rest.now types.now) }
 {
     for i in rest {
         let class = types[*i as usize];
         if !is_neutral(class) {
-            return side(class);
+            return n1_side(class);
         }
     }
     eos
@@ -100,9 +99,9 @@ fn is_neutral(class: Class) -> bool
     }
 }
 
-/// The direction of a type that is not neutral.
-fn side(class: Class) -> Class
-    ensures { result ≡ side class }
+/// For N1, the direction of a type that is not neutral: EN and AN count as R.
+fn n1_side(class: Class) -> Class
+    ensures { result ≡ n1_side class }
 {
     match class {
         Class::L => Class::L,
@@ -110,9 +109,9 @@ fn side(class: Class) -> Class
     }
 }
 
-/// N1, with the directions before and behind.
-fn agreed(before: Class, after: Class, class: Class) -> Class
-    ensures { result ≡ agreed before after class }
+/// N1: a neutral whose run stands between equal directions takes that direction. It takes the directions before and behind the run.
+fn n1_surrounding_direction(before: Class, after: Class, class: Class) -> Class
+    ensures { result ≡ n1_surrounding_direction before after class }
 {
     match (before, after) {
         (Class::L, Class::L) => Class::L,
@@ -121,9 +120,9 @@ fn agreed(before: Class, after: Class, class: Class) -> Class
     }
 }
 
-/// N2.
-fn leveled(class: Class, level: u8) -> Class
-    ensures { result ≡ (if is_neutral class then direction_of level else class) }
+/// N2: a neutral that N1 left takes the direction of its level.
+fn n2_embedding_direction(class: Class, level: u8) -> Class
+    ensures { result ≡ n2_embedding_direction class level }
 {
     if is_neutral(class) {
         Class::of_level(level)

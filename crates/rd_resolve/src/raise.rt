@@ -1,9 +1,10 @@
-//! Rules I1, I2 and L1 of UAX 9 over a line.
-ghost use Rattle.std.specs.Prelude.{◌≡◌, ◌≤◌, ◌+◌, ◌||◌, ◌&&◌, All, if◌then◌else◌};
+//! Rules I1 and I2 of UAX 9 over a line, and the levels of what rule X9 took out.
+ghost use Rattle.std.specs.Prelude.{◌≡◌, ◌≤◌, ◌+◌, All, if◌then◌else◌};
 ghost use Rattle.rd_base.specs.Classes.{is_removed};
 ghost use Rattle.rd_base.specs.Lines.{KeepsClasses};
-ghost use Rattle.rd_resolve.specs.Implicit.{raised, i1_i2, kept, is_separator, is_white, resets, l1, implicit_levels, even_raised, odd_raised};
+ghost use Rattle.rd_resolve.specs.Implicit.{raised, i1_i2, kept, implicit_levels, i1_even_levels, i2_odd_levels};
 
+use crate::reset::l1_reset;
 use rd_base::{Class, Line};
 
 /// Gives the characters of a line their levels by the types that the rules before made (UAX 9, rules I1 and I2). What rule X9 took out
@@ -18,7 +19,7 @@ pub fn implicit(line: &mut Line)
     ensures rest { KeepsClasses line.old line.new }
 {
     raise(line);
-    reset(line);
+    l1_reset(line);
 }
 
 /// Rules I1 and I2, and the levels of what X9 took out.
@@ -36,39 +37,22 @@ fn raise(line: &mut Line)
     }
 }
 
-/// Rule L1, from the line's end.
-fn reset(line: &mut Line)
-    ensures levels { line.new.levels ≡ l1 line.old.base line.old.classes line.old.levels }
-    ensures types { line.new.types ≡ line.old.types }
-    ensures rest { KeepsClasses line.old line.new }
-{
-    let base = line.base;
-    let mut white = true;
-    let mut i = line.len();
-    while i > 0 {
-        i -= 1;
-        white = resets(line.classes.at(i), white);
-        let level = reset_level(white, base, line.levels.at(i));
-        line.set_level(i, level);
-    }
-}
-
-/// I1 and I2.
+/// I1 at an even level, I2 at an odd one.
 fn raised(level: u8, class: Class) -> u8
     requires { level ≤ 125 }
     ensures { result ≡ raised level class }
 {
     if level % 2 == 0 {
-        even_raised(level, class)
+        i1_even_levels(level, class)
     } else {
-        odd_raised(level, class)
+        i2_odd_levels(level, class)
     }
 }
 
-/// I1.
-fn even_raised(level: u8, class: Class) -> u8
+/// I1: at an even level, R goes up one level, and AN and EN go up two.
+fn i1_even_levels(level: u8, class: Class) -> u8
     requires { level ≤ 125 }
-    ensures { result ≡ even_raised level class }
+    ensures { result ≡ i1_even_levels level class }
 {
     match class {
         Class::R => level + 1,
@@ -77,10 +61,10 @@ fn even_raised(level: u8, class: Class) -> u8
     }
 }
 
-/// I2.
-fn odd_raised(level: u8, class: Class) -> u8
+/// I2: at an odd level, L, EN and AN go up one level.
+fn i2_odd_levels(level: u8, class: Class) -> u8
     requires { level ≤ 125 }
-    ensures { result ≡ odd_raised level class }
+    ensures { result ≡ i2_odd_levels level class }
 {
     match class {
         Class::L | Class::EN | Class::AN => level + 1,
@@ -93,22 +77,4 @@ fn kept(class: Class, before: u8, own: u8) -> u8
     ensures { result ≡ (if is_removed class then before else own) }
 {
     if class.is_removed() { before } else { own }
-}
-
-/// L1, where it is known whether it resets what is behind.
-fn resets(class: Class, behind: bool) -> bool
-    ensures { result ≡ (is_separator class || (is_white class && behind)) }
-{
-    match class {
-        Class::S | Class::B => true,
-        Class::WS | Class::PDI => behind,
-        _ => behind && (class.is_initiator() || class.is_removed()),
-    }
-}
-
-/// The base where L1 says so, else the level.
-fn reset_level(white: bool, base: u8, level: u8) -> u8
-    ensures { result ≡ (if white then base else level) }
-{
-    if white { base } else { level }
 }

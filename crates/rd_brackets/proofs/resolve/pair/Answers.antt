@@ -15,8 +15,8 @@ returns-then-is_empty-clause-types c =
     sym (without-pairs c.args.brackets.now (embedding_of is line.levels) c.args.seq.now.sos is (types_at is line.classes) (codes_at is c.args.codes.now) line.types
     (sym c.in_ok-pairs.ensures.pairs ∙ none))
 
-pub take_pairs-requires-clause-count : goal.take_pairs-requires-clause-count
-take_pairs-requires-clause-count c =
+pub n0_take_pairs-requires-clause-count : goal.n0_take_pairs-requires-clause-count
+n0_take_pairs-requires-clause-count c =
     let is = c.args.seq.now.indexes in
     ap length (c.as_slice-2.ensures ∙ c.in_ok-closings.ensures.value)
     ∙ length-map-range_with_len (closing_of c.as_slice.result.now) 0 c.len.result

@@ -1,7 +1,6 @@
 use Rattle.std.proofs.Common.{◌≡◌, ◌<◌, ◌+◌, ◌∷◌, if◌then◌else◌, length, drop, ap, ap₂, sym, ◌∙◌, arith}
 use Rattle.std.proofs.lemmas.Option.{get_or_from_slice_get}
-use Rattle.rd_base.specs.Classes.{direction_of}
-use Rattle.rd_resolve.specs.Neutral.{is_neutral, agreed, following, n1, n2}
+use Rattle.rd_resolve.specs.Neutral.{is_neutral, n1_surrounding_direction, n1_following, n1, n2_embedding_direction, n2}
 use Rattle.rd_resolve.specs.Places.{types_at, levels_at, put_at}
 use Rattle.rd_resolve.specs.Walks.{SideIs}
 use Rattle.rd_resolve.proofs.Places.{types-read, levels-read, types-kept, put-step}
@@ -47,9 +46,9 @@ loop-k-preserved c =
     ap₂ (λ js us. types_at js us) (c.split_at.ensures.back ∙ ap (drop (k + 1)) c.as_slice.ensures) c.as_slice-in-loop-k.ensures in
     let read = types-read is k i within c.at-i.ensures ts class c.at-class.ensures in
     let read_level = levels-read is k i within c.at-i.ensures ls level c.at-level.ensures in
-    let first : n1 before eos (class ∷ T) ≡ (if is_neutral class then agreed before (following eos T) class else class) ∷ n1 new eos T =
+    let first : n1 before eos (class ∷ T) ≡ (if is_neutral class then n1_surrounding_direction before (n1_following eos T) class else class) ∷ n1 new eos T =
     rw behind at c.step-given.ensures.first in
-    let second : given ≡ (let x = if is_neutral class then agreed before (following eos T) class else class in if is_neutral x then direction_of level else x) =
+    let second : given ≡ n2_embedding_direction (if is_neutral class then n1_surrounding_direction before (n1_following eos T) class else class) level =
     rw behind at c.step-given.ensures.second in
     let step : n2 (n1 before eos (class ∷ T)) (level ∷ LS) ≡ given ∷ n2 (n1 new eos T) LS =
     ap (λ us. n2 us (level ∷ LS)) first ∙ ap (λ v. v ∷ n2 (n1 new eos T) LS) (sym second) in

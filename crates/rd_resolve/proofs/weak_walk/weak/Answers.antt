@@ -40,7 +40,7 @@ loop-k-preserved c =
     ap (λ us. weak_left c.loop-k.before (c.at-class.result ∷ us)) (sym behind) ∙ c.step-given.ensures.left ∙ ap (λ us. given ∷ weak_left c.step-given.new.self us) behind in
     let stays : types_at (drop (k + 1) is) c.set_type.new.self.types ≡ types_at (drop (k + 1) is) ts =
     ap (types_at (drop (k + 1) is)) c.set_type.ensures.types ∙ types-kept is k i within c.at-i.ensures c.requires.ascend ts given in
-    let run : RunIs c.step-given.new.self.run c.step-given.new.self (types_at (drop (k + 1) is) ts) = rw behind at c.step-given.ensures.run in
+    let run : RunIs c.step-given.new.self.w5_run c.step-given.new.self (types_at (drop (k + 1) is) ts) = rw behind at c.step-given.ensures.run in
     record {
       left = ap₂ (λ us vs. put_at (drop (k + 1) is) (weak_left c.step-given.new.self us) vs) stays c.set_type.ensures.types
           ∙ sym (put-step is k i within c.at-i.ensures given _ ts)

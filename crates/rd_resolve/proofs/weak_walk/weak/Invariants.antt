@@ -10,7 +10,7 @@ abbrev pub invariant-loop-k : goal.invariant-loop-k
 invariant-loop-k l = record {
   left : put_at (drop l.k l.seq.indexes) (weak_left l.before (types_at (drop l.k l.seq.indexes) l.line.types)) l.line.types
       ≡ put_at l.seq.indexes (weak_types l.seq.sos (types_at l.seq.indexes l.fn.line.types)) l.fn.line.types;
-  run : RunIs l.before.run l.before (types_at (drop l.k l.seq.indexes) l.line.types);
+  run : RunIs l.before.w5_run l.before (types_at (drop l.k l.seq.indexes) l.line.types);
   levels : l.line.levels ≡ l.fn.line.levels;
   keeps : KeepsClasses l.fn.line l.line;
 }

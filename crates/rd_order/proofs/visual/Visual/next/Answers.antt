@@ -2,7 +2,7 @@ use Rattle.std.proofs.Common.{◌≡◌, ℕ, ◌+◌, Some, sym, ◌∙◌, ap,
 use Rattle.std.specs.Prelude.{slice_get}
 use Rattle.std.proofs.lemmas.Option.{get_or_from_slice_get, slice_get_within}
 use Rattle.std.proofs.lemmas.List.{drop_more}
-use Rattle.rd_order.specs.Order.{visual_order}
+use Rattle.rd_order.specs.Order.{l2_visual_order}
 use Rattle.rd_order.proofs.Steps.{gives-within}
 use Rattle.rd_order.proofs.visual.Visual.next.Goals as goal
 
@@ -21,7 +21,7 @@ returns-clause-walk c =
 
 pub returns-clause-gives : goal.returns-clause-gives
 returns-clause-gives c =
-    from_place (visual_order c.args.self.now.base c.args.levels.now) c.args.self.now.given c.in_ok-place.place (sym c.requires.place ∙ c.in_ok-place.was)
+    from_place (l2_visual_order c.args.self.now.base c.args.levels.now) c.args.self.now.given c.in_ok-place.place (sym c.requires.place ∙ c.in_ok-place.was)
 
 pub returns-clause-within : goal.returns-clause-within
 returns-clause-within c = (gives-within c.args.self.now.base c.args.self.now.given c.in_ok-place.place c.args.levels.now (sym c.requires.place ∙ c.in_ok-place.was)).1

@@ -1,53 +1,53 @@
 use Rattle.std.proofs.Common.{◌≡◌, ◌||◌, false, unwrap_or, ap, ap₂, sym, ◌∙◌}
 use Rattle.rd_resolve.specs.Places.{types_at}
-use Rattle.rd_resolve.specs.Weak.{strong_after, arabic, right, between, first_type, is_en, ended, separated, latin, w1, w2, w3}
-use Rattle.rd_resolve.specs.Walks.{run_ends, run_of}
-use Rattle.rd_resolve.proofs.Runs.{mark_of, strong_of, own_of, number_of, end_of, weak-step, run-known, run-is, et-mark, et-own, et-strong, assembled}
+use Rattle.rd_resolve.specs.Weak.{strong_after, w2_european_numbers_after_arabic, w3_arabic_letters, w4_separators, first_type, is_en, w5_terminators, w6_remaining_separators, w7_latin_numbers, w1, w2, w3}
+use Rattle.rd_resolve.specs.Walks.{w5_run_ends, w5_run_of}
+use Rattle.rd_resolve.proofs.WeakSteps.{w1_type, strong_type, w3_type, w4_type, w5_type, weak-step, w5-run-known, w5-run-is, w1_type-et, w3_type-et, strong_type-et, assembled}
 use Rattle.rd_resolve.proofs.weak_walk.Before.step.Goals as goal
 
-pub run_ends-run-requires-clause-run : goal.run_ends-run-requires-clause-run
-run_ends-run-requires-clause-run c =
+pub w5_run_ends-run-requires-clause-run : goal.w5_run_ends-run-requires-clause-run
+w5_run_ends-run-requires-clause-run c =
     let b = c.args.self.now in
     let cs = types_at c.args.rest.now c.args.types.now in
-    let mark : c.marked-mark.result ≡ mark_of b c.args.class cs = c.marked-mark.ensures in
-    let strong : c.strong_after-strong.result ≡ strong_of b c.args.class cs = c.strong_after-strong.ensures ∙ ap (strong_after b.strong) mark in
-    let own : c.right-own.result ≡ own_of b c.args.class cs = c.right-own.ensures ∙ ap right (c.arabic.ensures ∙ ap (arabic b.strong) mark) in
-    let next : c.next_type.result ≡ first_type (w3 (w2 (strong_of b c.args.class cs) (w1 (mark_of b c.args.class cs) cs))) =
-    c.next_type.ensures ∙ ap₂ (λ m s. first_type (w3 (w2 s (w1 m cs)))) mark strong in
-    let number : c.between-number.result ≡ number_of b c.args.class cs = c.between-number.ensures ∙ ap₂ (λ o n. between b.separated o n) own next in
-    λ e. run-known b.run b c.args.class cs c.requires.run (sym number ∙ e)
+    let after_w1 : c.w1_nonspacing_marks-after_w1.result ≡ w1_type b c.args.class cs = c.w1_nonspacing_marks-after_w1.ensures in
+    let strong : c.strong_after-strong.result ≡ strong_type b c.args.class cs = c.strong_after-strong.ensures ∙ ap (strong_after b.w2_strong) after_w1 in
+    let after_w3 : c.w3_arabic_letters-after_w3.result ≡ w3_type b c.args.class cs = c.w3_arabic_letters-after_w3.ensures ∙ ap w3_arabic_letters (c.w2_european_numbers_after_arabic-after_w2.ensures ∙ ap (w2_european_numbers_after_arabic b.w2_strong) after_w1) in
+    let next : c.w4_next_type-next.result ≡ first_type (w3 (w2 (strong_type b c.args.class cs) (w1 (w1_type b c.args.class cs) cs))) =
+    c.w4_next_type-next.ensures ∙ ap₂ (λ m s. first_type (w3 (w2 s (w1 m cs)))) after_w1 strong in
+    let after_w4 : c.w4_separators-after_w4.result ≡ w4_type b c.args.class cs = c.w4_separators-after_w4.ensures ∙ ap₂ (λ o n. w4_separators b.w4_before o n) after_w3 next in
+    λ e. w5-run-known b.w5_run b c.args.class cs c.requires.run (sym after_w4 ∙ e)
 
 pub returns-clause-left : goal.returns-clause-left
 returns-clause-left c =
     let b = c.args.self.now in
     let cs = types_at c.args.rest.now c.args.types.now in
-    let mark : c.marked-mark.result ≡ mark_of b c.args.class cs = c.marked-mark.ensures in
-    let strong : c.strong_after-strong.result ≡ strong_of b c.args.class cs = c.strong_after-strong.ensures ∙ ap (strong_after b.strong) mark in
-    let own : c.right-own.result ≡ own_of b c.args.class cs = c.right-own.ensures ∙ ap right (c.arabic.ensures ∙ ap (arabic b.strong) mark) in
-    let next : c.next_type.result ≡ first_type (w3 (w2 (strong_of b c.args.class cs) (w1 (mark_of b c.args.class cs) cs))) =
-    c.next_type.ensures ∙ ap₂ (λ m s. first_type (w3 (w2 s (w1 m cs)))) mark strong in
-    let number : c.between-number.result ≡ number_of b c.args.class cs = c.between-number.ensures ∙ ap₂ (λ o n. between b.separated o n) own next in
-    let run : c.run_ends-run.result ≡ run_of (number_of b c.args.class cs) (run_ends b.strong cs) =
-    c.run_ends-run.ensures ∙ ap (λ n. run_of n (run_ends b.strong cs)) number in
-    let end : c.ended-end.result ≡ end_of b c.args.class cs =
-    c.ended-end.ensures ∙ ap₂ (λ r n. ended r n) (c.beside.ensures ∙ ap (λ r. b.number || unwrap_or r false) run) number in
-    let other : c.separated-other.result ≡ separated (end_of b c.args.class cs) = c.separated-other.ensures ∙ ap separated end in
-    assembled _ _ _ _ _ _ _ _ _ _ _ _ cs _ (weak-step b c.args.class cs c.run_ends-run.result)
-    (c.latin-given.ensures ∙ ap (latin b.direction) other)
-    (c.strong_after-self.ensures ∙ ap (strong_after b.direction) other)
-    (c.is_en-self.ensures ∙ ap is_en end) own strong mark
+    let after_w1 : c.w1_nonspacing_marks-after_w1.result ≡ w1_type b c.args.class cs = c.w1_nonspacing_marks-after_w1.ensures in
+    let strong : c.strong_after-strong.result ≡ strong_type b c.args.class cs = c.strong_after-strong.ensures ∙ ap (strong_after b.w2_strong) after_w1 in
+    let after_w3 : c.w3_arabic_letters-after_w3.result ≡ w3_type b c.args.class cs = c.w3_arabic_letters-after_w3.ensures ∙ ap w3_arabic_letters (c.w2_european_numbers_after_arabic-after_w2.ensures ∙ ap (w2_european_numbers_after_arabic b.w2_strong) after_w1) in
+    let next : c.w4_next_type-next.result ≡ first_type (w3 (w2 (strong_type b c.args.class cs) (w1 (w1_type b c.args.class cs) cs))) =
+    c.w4_next_type-next.ensures ∙ ap₂ (λ m s. first_type (w3 (w2 s (w1 m cs)))) after_w1 strong in
+    let after_w4 : c.w4_separators-after_w4.result ≡ w4_type b c.args.class cs = c.w4_separators-after_w4.ensures ∙ ap₂ (λ o n. w4_separators b.w4_before o n) after_w3 next in
+    let run : c.w5_run_ends-run.result ≡ w5_run_of (w4_type b c.args.class cs) (w5_run_ends b.w2_strong cs) =
+    c.w5_run_ends-run.ensures ∙ ap (λ n. w5_run_of n (w5_run_ends b.w2_strong cs)) after_w4 in
+    let after_w5 : c.w5_terminators-after_w5.result ≡ w5_type b c.args.class cs =
+    c.w5_terminators-after_w5.ensures ∙ ap₂ (λ r n. w5_terminators r n) (c.w5_beside.ensures ∙ ap (λ r. b.w5_number || unwrap_or r false) run) after_w4 in
+    let after_w6 : c.w6_remaining_separators-after_w6.result ≡ w6_remaining_separators (w5_type b c.args.class cs) = c.w6_remaining_separators-after_w6.ensures ∙ ap w6_remaining_separators after_w5 in
+    assembled _ _ _ _ _ _ _ _ _ _ _ _ cs _ (weak-step b c.args.class cs c.w5_run_ends-run.result)
+    (c.w7_latin_numbers-given.ensures ∙ ap (w7_latin_numbers b.w7_strong) after_w6)
+    (c.strong_after-self.ensures ∙ ap (strong_after b.w7_strong) after_w6)
+    (c.is_en-self.ensures ∙ ap is_en after_w5) after_w3 strong after_w1
 
 pub returns-clause-run : goal.returns-clause-run
 returns-clause-run c =
     let b = c.args.self.now in
     let cs = types_at c.args.rest.now c.args.types.now in
-    let mark : c.marked-mark.result ≡ mark_of b c.args.class cs = c.marked-mark.ensures in
-    let strong : c.strong_after-strong.result ≡ strong_of b c.args.class cs = c.strong_after-strong.ensures ∙ ap (strong_after b.strong) mark in
-    let own : c.right-own.result ≡ own_of b c.args.class cs = c.right-own.ensures ∙ ap right (c.arabic.ensures ∙ ap (arabic b.strong) mark) in
-    let next : c.next_type.result ≡ first_type (w3 (w2 (strong_of b c.args.class cs) (w1 (mark_of b c.args.class cs) cs))) =
-    c.next_type.ensures ∙ ap₂ (λ m s. first_type (w3 (w2 s (w1 m cs)))) mark strong in
-    let number : c.between-number.result ≡ number_of b c.args.class cs = c.between-number.ensures ∙ ap₂ (λ o n. between b.separated o n) own next in
-    let run : c.run_ends-run.result ≡ run_of (number_of b c.args.class cs) (run_ends b.strong cs) =
-    c.run_ends-run.ensures ∙ ap (λ n. run_of n (run_ends b.strong cs)) number in
-    run-is c.run_ends-run.result (number_of b c.args.class cs) (run_ends b.strong cs) _ cs run
-    (λ e. (mark ∙ et-mark b c.args.class cs e, own ∙ et-own b c.args.class cs e, ap (λ s. run_ends s cs) (sym (strong ∙ et-strong b c.args.class cs e))))
+    let after_w1 : c.w1_nonspacing_marks-after_w1.result ≡ w1_type b c.args.class cs = c.w1_nonspacing_marks-after_w1.ensures in
+    let strong : c.strong_after-strong.result ≡ strong_type b c.args.class cs = c.strong_after-strong.ensures ∙ ap (strong_after b.w2_strong) after_w1 in
+    let after_w3 : c.w3_arabic_letters-after_w3.result ≡ w3_type b c.args.class cs = c.w3_arabic_letters-after_w3.ensures ∙ ap w3_arabic_letters (c.w2_european_numbers_after_arabic-after_w2.ensures ∙ ap (w2_european_numbers_after_arabic b.w2_strong) after_w1) in
+    let next : c.w4_next_type-next.result ≡ first_type (w3 (w2 (strong_type b c.args.class cs) (w1 (w1_type b c.args.class cs) cs))) =
+    c.w4_next_type-next.ensures ∙ ap₂ (λ m s. first_type (w3 (w2 s (w1 m cs)))) after_w1 strong in
+    let after_w4 : c.w4_separators-after_w4.result ≡ w4_type b c.args.class cs = c.w4_separators-after_w4.ensures ∙ ap₂ (λ o n. w4_separators b.w4_before o n) after_w3 next in
+    let run : c.w5_run_ends-run.result ≡ w5_run_of (w4_type b c.args.class cs) (w5_run_ends b.w2_strong cs) =
+    c.w5_run_ends-run.ensures ∙ ap (λ n. w5_run_of n (w5_run_ends b.w2_strong cs)) after_w4 in
+    w5-run-is c.w5_run_ends-run.result (w4_type b c.args.class cs) (w5_run_ends b.w2_strong cs) _ cs run
+    (λ e. (after_w1 ∙ w1_type-et b c.args.class cs e, after_w3 ∙ w3_type-et b c.args.class cs e, ap (λ s. w5_run_ends s cs) (sym (strong ∙ strong_type-et b c.args.class cs e))))

@@ -6,7 +6,7 @@ use Rattle.std.proofs.lemmas.List.{get_or_append_left, get_or-append-add, get_or
 use Rattle.std.proofs.lemmas.List.FromFn.{length-range_with_len, get_or-range_with_len}
 use Rattle.std.specs.List.{range_with_len}
 use mathlib.Core.List.{reverse}
-use Rattle.rd_order.specs.Order.{turned, turned_down, highest, visual_order}
+use Rattle.rd_order.specs.Order.{l2_reversed, l2_reversed_down, highest, l2_visual_order}
 use Rattle.rd_order.specs.Places.{AreHigh, BeginsLow, IsRun, Moves, Comes}
 use Rattle.rd_order.proofs.Places.{Agree, Comes-agree, Comes-within, moves_of}
 
@@ -14,11 +14,11 @@ use Rattle.rd_order.proofs.Places.{Agree, Comes-agree, Comes-within, moves_of}
 abbrev pub level_in : List ℕ → List ℕ → ℕ → ℕ
 level_in levels xs p = get_or levels (get_or xs p 0) 0
 
-pub turned-length : (levels : List ℕ) (k : ℕ) (run xs : List ℕ) → length (turned levels k run xs) ≡ length run + length xs
-turned-length levels k run [] = omega arith
-turned-length levels k run (x ∷ xs) = elim (leb k (get_or levels x 0)) as (λ v. length (if v then turned levels k (x ∷ run) xs else run ++ (x ∷ turned levels k [] xs)) ≡ length run + length (x ∷ xs)) [
-  | true ↦ turned-length levels k (x ∷ run) xs ∙ omega arith
-  | false ↦ length-append run (x ∷ turned levels k [] xs) ∙ (let e = turned-length levels k [] xs in omega arith)
+pub l2_reversed-length : (levels : List ℕ) (k : ℕ) (run xs : List ℕ) → length (l2_reversed levels k run xs) ≡ length run + length xs
+l2_reversed-length levels k run [] = omega arith
+l2_reversed-length levels k run (x ∷ xs) = elim (leb k (get_or levels x 0)) as (λ v. length (if v then l2_reversed levels k (x ∷ run) xs else run ++ (x ∷ l2_reversed levels k [] xs)) ≡ length run + length (x ∷ xs)) [
+  | true ↦ l2_reversed-length levels k (x ∷ run) xs ∙ omega arith
+  | false ↦ length-append run (x ∷ l2_reversed levels k [] xs) ∙ (let e = l2_reversed-length levels k [] xs in omega arith)
 ]
 
 -- an element behind the one at a seam
@@ -99,19 +99,19 @@ at_low levels k back run x ys q r same here low (inr t) =
     absurd (omega arith)
 
 -- one reversal brings what stands at r to q
-pub turned-moves : (levels : List ℕ) (k : ℕ) (run xs ys : List ℕ) → ys ≡ reverse run ++ xs → AreHigh (level_in levels ys) k 0 (length run)
-    → (q r : ℕ) → q < length ys → Moves (level_in levels ys) (length ys) k q r → get_or (turned levels k run xs) q 0 ≡ get_or ys r 0
-turned-moves levels k run [] ys e high q r within moves =
+pub l2_reversed-moves : (levels : List ℕ) (k : ℕ) (run xs ys : List ℕ) → ys ≡ reverse run ++ xs → AreHigh (level_in levels ys) k 0 (length run)
+    → (q r : ℕ) → q < length ys → Moves (level_in levels ys) (length ys) k q r → get_or (l2_reversed levels k run xs) q 0 ≡ get_or ys r 0
+l2_reversed-moves levels k run [] ys e high q r within moves =
     let size : length ys ≡ length run = ap length e ∙ length-append (reverse run) [] ∙ (let l = length-reverse run in omega arith) in
     let at : suc (q + r) ≡ length run = first_run (level_in levels ys) (length ys) k (length run) q r high (omega arith) (λ less. absurd (omega arith)) (omega arith) moves in
     held run [] q r at ∙ ap (λ (zs : List ℕ). get_or zs r 0) (sym e)
-turned-moves levels k run (x ∷ xs) ys e high q r within moves =
+l2_reversed-moves levels k run (x ∷ xs) ys e high q r within moves =
     let size : length ys ≡ suc (length run + length xs) = ap length e ∙ length-append (reverse run) (x ∷ xs) ∙ (let l = length-reverse run in omega arith) in
     let turn = length-reverse run in
     let here : get_or ys (length run) 0 ≡ x = ap (λ (zs : List ℕ). get_or zs (length run) 0) e ∙ at_seam (reverse run) x xs (length run) (sym turn) in
     let after : (p : ℕ) → get_or ys (length run + suc p) 0 ≡ get_or xs p 0 = λ p. ap (λ (zs : List ℕ). get_or zs (length run + suc p) 0) e ∙ behind (reverse run) x xs (length run + suc p) p (omega arith) in
     let same_here : level_in levels ys (length run) ≡ get_or levels x 0 = ap (λ (i : ℕ). get_or levels i 0) here in
-    let W : Bool → Type 0 = λ v. get_or (if v then turned levels k (x ∷ run) xs else run ++ (x ∷ turned levels k [] xs)) q 0 ≡ get_or ys r 0 in
+    let W : Bool → Type 0 = λ v. get_or (if v then l2_reversed levels k (x ∷ run) xs else run ++ (x ∷ l2_reversed levels k [] xs)) q 0 ≡ get_or ys r 0 in
     elim (cases_lt (get_or levels x 0) k) as (λ _. W (leb k (get_or levels x 0))) [
       | inr more ↦
           let more_high : AreHigh (level_in levels ys) k 0 (suc (length run)) = λ p from to. elim (cases_eq (length run) p) [
@@ -119,15 +119,15 @@ turned-moves levels k run (x ∷ xs) ys e high q r within moves =
             | inr other ↦ high p from (omega arith)
           ] in
           let joined : ys ≡ reverse (x ∷ run) ++ xs = e ∙ sym (append_assoc (reverse run) (x ∷ []) xs) ∙ ap (λ (zs : List ℕ). zs ++ xs) (sym (reverse-append (x ∷ []) run)) in
-          subst W (sym (le-leb k (get_or levels x 0) more)) (turned-moves levels k (x ∷ run) xs ys joined more_high q r within moves)
+          subst W (sym (le-leb k (get_or levels x 0) more)) (l2_reversed-moves levels k (x ∷ run) xs ys joined more_high q r within moves)
       | inl less ↦
           let low : level_in levels ys (length run) < k = subst (λ (v : ℕ). v < k) (sym same_here) less in
-          let goal : get_or (run ++ (x ∷ turned levels k [] xs)) q 0 ≡ get_or ys r 0 = elim (cases_lt q (length run)) [
+          let goal : get_or (run ++ (x ∷ l2_reversed levels k [] xs)) q 0 ≡ get_or ys r 0 = elim (cases_lt q (length run)) [
             | inl front ↦
                 let at = first_run (level_in levels ys) (length ys) k (length run) q r high (omega arith) (λ _. low) front moves in
-                get_or_append_left run (x ∷ turned levels k [] xs) 0 q front ∙ held run (x ∷ xs) q r at ∙ ap (λ (zs : List ℕ). get_or zs r 0) (sym e)
+                get_or_append_left run (x ∷ l2_reversed levels k [] xs) 0 q front ∙ held run (x ∷ xs) q r at ∙ ap (λ (zs : List ℕ). get_or zs r 0) (sym e)
             | inr rest ↦ elim (cases_eq (length run) q) [
-              | inl same ↦ at_low levels k (turned levels k [] xs) run x ys q r same here low moves
+              | inl same ↦ at_low levels k (l2_reversed levels k [] xs) run x ys q r same here low moves
               | inr other ↦
                   let p = q - suc (length run) in
                   let place : q ≡ length run + suc p = omega arith in
@@ -135,8 +135,8 @@ turned-moves levels k run (x ∷ xs) ys e high q r within moves =
                   let found = shifted (level_in levels ys) (level_in levels xs) (length ys) (length xs) k (length run) p r
                   (λ j. ap (λ (i : ℕ). get_or levels i 0) (after j)) low size (subst M place moves) in
                   let s = found.0 in
-                  let inner = turned-moves levels k [] xs xs refl (λ j from to. absurd (omega arith)) p s (omega arith) found.2 in
-                  behind run x (turned levels k [] xs) q p place ∙ inner ∙ sym (after s) ∙ ap (λ (j : ℕ). get_or ys j 0) (sym found.1)
+                  let inner = l2_reversed-moves levels k [] xs xs refl (λ j from to. absurd (omega arith)) p s (omega arith) found.2 in
+                  behind run x (l2_reversed levels k [] xs) q p place ∙ inner ∙ sym (after s) ∙ ap (λ (j : ℕ). get_or ys j 0) (sym found.1)
             ]
           ] in
           subst W (sym (lt-leb k (get_or levels x 0) less)) goal
@@ -153,39 +153,39 @@ agree_by f g n k j p r below same (inr t) =
     ((λ h. omega arith), (λ h. absurd (omega arith)))
 
 -- a reversal changes no place's height below its own level
-turned-agree : (levels : List ℕ) (k : ℕ) (xs : List ℕ) → Agree (level_in levels xs) (level_in levels (turned levels k [] xs)) (length xs) k
-turned-agree levels k xs j p below within =
+l2_reversed-agree : (levels : List ℕ) (k : ℕ) (xs : List ℕ) → Agree (level_in levels xs) (level_in levels (l2_reversed levels k [] xs)) (length xs) k
+l2_reversed-agree levels k xs j p below within =
     let m = moves_of (level_in levels xs) (length xs) k p within in
-    let at = turned-moves levels k [] xs xs refl (λ i from to. absurd (omega arith)) p m.0 within m.1 in
-    let same : level_in levels (turned levels k [] xs) p ≡ level_in levels xs m.0 = ap (λ (i : ℕ). get_or levels i 0) at in
-    agree_by (level_in levels xs) (level_in levels (turned levels k [] xs)) (length xs) k j p m.0 below same m.1
+    let at = l2_reversed-moves levels k [] xs xs refl (λ i from to. absurd (omega arith)) p m.0 within m.1 in
+    let same : level_in levels (l2_reversed levels k [] xs) p ≡ level_in levels xs m.0 = ap (λ (i : ℕ). get_or levels i 0) at in
+    agree_by (level_in levels xs) (level_in levels (l2_reversed levels k [] xs)) (length xs) k j p m.0 below same m.1
 
 -- all reversals bring what stands at q to p
-pub turned_down-comes : (levels : List ℕ) (base n : ℕ) (xs : List ℕ) (p q : ℕ) → p < length xs → Comes (level_in levels xs) (length xs) base n p q
-    → get_or (turned_down levels base n xs) p 0 ≡ get_or xs q 0
-turned_down-comes levels base zero xs p q within c = ap (λ (j : ℕ). get_or xs j 0) (sym c)
-turned_down-comes levels base (suc n) xs p q within (r, c, moves) =
+pub l2_reversed_down-comes : (levels : List ℕ) (base n : ℕ) (xs : List ℕ) (p q : ℕ) → p < length xs → Comes (level_in levels xs) (length xs) base n p q
+    → get_or (l2_reversed_down levels base n xs) p 0 ≡ get_or xs q 0
+l2_reversed_down-comes levels base zero xs p q within c = ap (λ (j : ℕ). get_or xs j 0) (sym c)
+l2_reversed_down-comes levels base (suc n) xs p q within (r, c, moves) =
     let k = base + suc n in
-    let ys = turned levels k [] xs in
-    let size : length xs ≡ length ys = let e = turned-length levels k [] xs in omega arith in
-    let on_ys : Comes (level_in levels ys) (length xs) base n p r = Comes-agree (level_in levels xs) (level_in levels ys) (length xs) k base n p r (turned-agree levels k xs) (omega arith) within c in
+    let ys = l2_reversed levels k [] xs in
+    let size : length xs ≡ length ys = let e = l2_reversed-length levels k [] xs in omega arith in
+    let on_ys : Comes (level_in levels ys) (length xs) base n p r = Comes-agree (level_in levels xs) (level_in levels ys) (length xs) k base n p r (l2_reversed-agree levels k xs) (omega arith) within c in
     let C : ℕ → Type 0 = λ len. Comes (level_in levels ys) len base n p r in
-    let low = turned_down-comes levels base n ys p r (omega arith) (subst C size on_ys) in
+    let low = l2_reversed_down-comes levels base n ys p r (omega arith) (subst C size on_ys) in
     let r_within = Comes-within (level_in levels xs) (length xs) base n p r c within in
-    low ∙ turned-moves levels k [] xs xs refl (λ i from to. absurd (omega arith)) r q r_within moves
+    low ∙ l2_reversed-moves levels k [] xs xs refl (λ i from to. absurd (omega arith)) r q r_within moves
 
-pub turned_down-length : (levels : List ℕ) (base n : ℕ) (xs : List ℕ) → length (turned_down levels base n xs) ≡ length xs
-turned_down-length levels base zero xs = refl
-turned_down-length levels base (suc n) xs =
-    turned_down-length levels base n (turned levels (base + suc n) [] xs) ∙ turned-length levels (base + suc n) [] xs ∙ omega arith
+pub l2_reversed_down-length : (levels : List ℕ) (base n : ℕ) (xs : List ℕ) → length (l2_reversed_down levels base n xs) ≡ length xs
+l2_reversed_down-length levels base zero xs = refl
+l2_reversed_down-length levels base (suc n) xs =
+    l2_reversed_down-length levels base n (l2_reversed levels (base + suc n) [] xs) ∙ l2_reversed-length levels (base + suc n) [] xs ∙ omega arith
 
-pub visual_order-length : (base : ℕ) (levels : List ℕ) → length (visual_order base levels) ≡ length levels
-visual_order-length base levels = turned_down-length levels base (highest levels - base) (range_with_len 0 (length levels)) ∙ length-range_with_len 0 (length levels)
+pub l2_visual_order-length : (base : ℕ) (levels : List ℕ) → length (l2_visual_order base levels) ≡ length levels
+l2_visual_order-length base levels = l2_reversed_down-length levels base (highest levels - base) (range_with_len 0 (length levels)) ∙ length-range_with_len 0 (length levels)
 
 -- the whole order at a place
-pub visual_order-comes : (base : ℕ) (levels : List ℕ) (p q : ℕ) → p < length levels
-    → Comes (λ i. get_or levels i 0) (length levels) base (highest levels - base) p q → get_or (visual_order base levels) p 0 ≡ q
-visual_order-comes base levels p q within c =
+pub l2_visual_order-comes : (base : ℕ) (levels : List ℕ) (p q : ℕ) → p < length levels
+    → Comes (λ i. get_or levels i 0) (length levels) base (highest levels - base) p q → get_or (l2_visual_order base levels) p 0 ≡ q
+l2_visual_order-comes base levels p q within c =
     let n = length levels in
     let m = highest levels - base in
     let xs = range_with_len 0 n in
@@ -195,7 +195,7 @@ visual_order-comes base levels p q within c =
     let agree : Agree (λ i. get_or levels i 0) (level_in levels xs) n (base + m) = λ k i below less. let e = same i less in ((λ h. omega arith), (λ h. omega arith)) in
     let on_xs = Comes-agree (λ i. get_or levels i 0) (level_in levels xs) n (base + m) base m p q agree (omega arith) within c in
     let C : ℕ → Type 0 = λ len. Comes (level_in levels xs) len base m p q in
-    turned_down-comes levels base m xs p q (omega arith) (subst C (sym size) on_xs) ∙ at q (Comes-within (λ i. get_or levels i 0) n base m p q c within)
+    l2_reversed_down-comes levels base m xs p q (omega arith) (subst C (sym size) on_xs) ∙ at q (Comes-within (λ i. get_or levels i 0) n base m p q c within)
 
 pub highest-bounds : (levels : List ℕ) (i : ℕ) → i < length levels → get_or levels i 0 ≤ highest levels
 highest-bounds (level ∷ levels) zero within = omega arith

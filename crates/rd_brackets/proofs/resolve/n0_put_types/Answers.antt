@@ -4,8 +4,8 @@ use Rattle.std.proofs.lemmas.List.{drop_more}
 use Rattle.rd_base.specs.declared.class.Class.TheVariants.{L}
 use Rattle.rd_resolve.specs.Places.{types_at, put_at}
 use Rattle.rd_resolve.proofs.Places.{types-read, types-kept, put-step}
-use Rattle.rd_brackets.specs.Sides.{with_marks}
-use Rattle.rd_brackets.proofs.resolve.put_types.Goals as goal
+use Rattle.rd_brackets.specs.Sides.{n0_with_marks}
+use Rattle.rd_brackets.proofs.resolve.n0_put_types.Goals as goal
 
 pub loop-place-preserved : goal.loop-place-preserved
 loop-place-preserved c =
@@ -27,15 +27,15 @@ loop-place-preserved c =
     let stays : types_at (drop (k + 1) is) c.set_type.new.self.types ≡ T =
     ap (types_at (drop (k + 1) is)) c.set_type.ensures.types ∙ types-kept is k i within c.at-i.ensures c.requires.ascend line.types c.unwrap_or.result in
     let stays_classes : types_at (drop (k + 1) is) c.set_type.new.self.classes ≡ C = ap (types_at (drop (k + 1) is)) c.set_type.ensures.rest.classes in
-    let marked : with_marks c.loop-place.side (types_at (drop k is) line.classes) (types_at (drop k is) line.types) (drop k given)
-    ≡ c.unwrap_or.result ∷ with_marks side C T (drop (k + 1) given) =
-    ap₂ (λ cs bs. with_marks c.loop-place.side cs bs (drop k given)) classes types
-    ∙ ap (with_marks c.loop-place.side (c.at.result ∷ C) (c.at-before.result ∷ T)) rest
-    ∙ ap (λ s. unwrap_or s after ∷ with_marks s C T (drop (k + 1) given)) (sym c.side_taken-side.ensures)
-    ∙ ap (λ t. t ∷ with_marks side C T (drop (k + 1) given)) (sym c.unwrap_or.ensures) in
+    let marked : n0_with_marks c.loop-place.side (types_at (drop k is) line.classes) (types_at (drop k is) line.types) (drop k given)
+    ≡ c.unwrap_or.result ∷ n0_with_marks side C T (drop (k + 1) given) =
+    ap₂ (λ cs bs. n0_with_marks c.loop-place.side cs bs (drop k given)) classes types
+    ∙ ap (n0_with_marks c.loop-place.side (c.at.result ∷ C) (c.at-before.result ∷ T)) rest
+    ∙ ap (λ s. unwrap_or s after ∷ n0_with_marks s C T (drop (k + 1) given)) (sym c.side_taken-side.ensures)
+    ∙ ap (λ t. t ∷ n0_with_marks side C T (drop (k + 1) given)) (sym c.unwrap_or.ensures) in
     record {
-      left = ap₂ (λ cs bs. put_at (drop (k + 1) is) (with_marks side cs bs (drop (k + 1) given)) c.set_type.new.self.types) stays_classes stays
-          ∙ ap (put_at (drop (k + 1) is) (with_marks side C T (drop (k + 1) given))) c.set_type.ensures.types
+      left = ap₂ (λ cs bs. put_at (drop (k + 1) is) (n0_with_marks side cs bs (drop (k + 1) given)) c.set_type.new.self.types) stays_classes stays
+          ∙ ap (put_at (drop (k + 1) is) (n0_with_marks side C T (drop (k + 1) given))) c.set_type.ensures.types
           ∙ sym (put-step is k i within c.at-i.ensures c.unwrap_or.result _ line.types)
           ∙ ap (λ vs. put_at (drop k is) vs line.types) (sym marked)
           ∙ inv.left;
