@@ -5,9 +5,9 @@ use Rattle.std.proofs.lemmas.List.{length-set}
 use Rattle.rd_base.specs.declared.class.Class.{Class}
 use Rattle.rd_base.specs.declared.class.Class.TheVariants.{L, R, AL, EN, ES, ET, AN, CS, NSM, B, S, WS, ON, LRI, RLI, FSI, PDI}
 use Rattle.rd_ucd.specs.declared.spans.BracketEntry.{BracketEntry}
-use Rattle.rd_resolve.specs.Weak.{marked, w1, strong_after, w2, right, w3, between, first_type, w4, is_en, comes_en, ended, w5, separated, w6, latin, w7, weak_types}
-use Rattle.rd_resolve.specs.Neutral.{side, following, agreed, n1, n2, neutral_types}
-use Rattle.rd_brackets.specs.Pairs.{roles, pairs_of, closings}
+use Rattle.rd_resolve.specs.Weak.{w1_nonspacing_marks, w1, strong_after, w2, w3_arabic_letters, w3, w4_separators, first_type, w4, is_en, w5_comes_en, w5_terminators, w5, w6_remaining_separators, w6, w7_latin_numbers, w7, weak_types}
+use Rattle.rd_resolve.specs.Neutral.{n1_side, n1_following, n1_surrounding_direction, n1, n2, neutral_types}
+use Rattle.rd_brackets.specs.Pairs.{roles, bd16_pairs_of, closings}
 use Rattle.rd_brackets.specs.Sides as sides
 use Rattle.rd_levels.proofs.Each.{Each}
 
@@ -69,17 +69,17 @@ IsFew c = is_few c ≡ true
 abbrev pub IsCalm : Class → Type 0
 IsCalm c = is_calm c ≡ true
 
-marked-plain : (before c : Class) → IsPlain before → IsItem c → IsPlain (marked before c)
-marked-plain LRI NSM p q = absurd (cc)
-marked-plain RLI NSM p q = absurd (cc)
-marked-plain FSI NSM p q = absurd (cc)
-marked-plain PDI NSM p q = absurd (cc)
-marked-plain before NSM p q = p
-marked-plain before c p q = q
+w1_nonspacing_marks-plain : (before c : Class) → IsPlain before → IsItem c → IsPlain (w1_nonspacing_marks before c)
+w1_nonspacing_marks-plain LRI NSM p q = absurd (cc)
+w1_nonspacing_marks-plain RLI NSM p q = absurd (cc)
+w1_nonspacing_marks-plain FSI NSM p q = absurd (cc)
+w1_nonspacing_marks-plain PDI NSM p q = absurd (cc)
+w1_nonspacing_marks-plain before NSM p q = p
+w1_nonspacing_marks-plain before c p q = q
 
 w1-plain : (before : Class) (cs : List Class) → IsPlain before → Each IsItem cs → Each IsPlain (w1 before cs)
 w1-plain before [] p qs = tt
-w1-plain before (c ∷ cs) p qs = let m = marked-plain before c p qs.0 in (m, w1-plain (marked before c) cs m qs.1)
+w1-plain before (c ∷ cs) p qs = let m = w1_nonspacing_marks-plain before c p qs.0 in (m, w1-plain (w1_nonspacing_marks before c) cs m qs.1)
 
 strong-plain : (c : Class) → IsPlain c → strong_after L c ≡ L
 strong-plain R p = absurd (cc)
@@ -90,45 +90,45 @@ w2-same : (cs : List Class) → Each IsPlain cs → w2 L cs ≡ cs
 w2-same [] ps = refl
 w2-same (c ∷ cs) ps = ap (λ s. c ∷ w2 s cs) (strong-plain c ps.0) ∙ ap (λ l. c ∷ l) (w2-same cs ps.1)
 
-right-plain : (c : Class) → IsPlain c → right c ≡ c
-right-plain AL p = absurd (cc)
-right-plain c p = refl
+w3_arabic_letters-plain : (c : Class) → IsPlain c → w3_arabic_letters c ≡ c
+w3_arabic_letters-plain AL p = absurd (cc)
+w3_arabic_letters-plain c p = refl
 
 w3-same : (cs : List Class) → Each IsPlain cs → w3 cs ≡ cs
 w3-same [] ps = refl
-w3-same (c ∷ cs) ps = ap₂ (λ (t : Class) (l : List Class). t ∷ l) (right-plain c ps.0) (w3-same cs ps.1)
+w3-same (c ∷ cs) ps = ap₂ (λ (t : Class) (l : List Class). t ∷ l) (w3_arabic_letters-plain c ps.0) (w3-same cs ps.1)
 
-between-plain : (before c next : Class) → IsPlain before → IsPlain c → IsPlain (between before c next)
-between-plain EN ES EN p q = refl
-between-plain EN CS EN p q = refl
-between-plain AN CS AN p q = absurd (cc)
-between-plain before c next p q = q
+w4_separators-plain : (before c next : Class) → IsPlain before → IsPlain c → IsPlain (w4_separators before c next)
+w4_separators-plain EN ES EN p q = refl
+w4_separators-plain EN CS EN p q = refl
+w4_separators-plain AN CS AN p q = absurd (cc)
+w4_separators-plain before c next p q = q
 
 w4-plain : (before : Class) (cs : List Class) → IsPlain before → Each IsPlain cs → Each IsPlain (w4 before cs)
 w4-plain before [] p qs = tt
-w4-plain before (c ∷ cs) p qs = (between-plain before c (first_type cs) p qs.0, w4-plain c cs qs.0 qs.1)
+w4-plain before (c ∷ cs) p qs = (w4_separators-plain before c (first_type cs) p qs.0, w4-plain c cs qs.0 qs.1)
 
-ended-plain : (b : Bool) (c : Class) → IsPlain c → IsPlain (ended b c)
-ended-plain true ET p = refl
-ended-plain b c p = p
+w5_terminators-plain : (b : Bool) (c : Class) → IsPlain c → IsPlain (w5_terminators b c)
+w5_terminators-plain true ET p = refl
+w5_terminators-plain b c p = p
 
 w5-plain : (en : Bool) (cs : List Class) → Each IsPlain cs → Each IsPlain (w5 en cs)
 w5-plain en [] ps = tt
-w5-plain en (c ∷ cs) ps = (ended-plain (en || comes_en cs) c ps.0, w5-plain (is_en (ended (en || comes_en cs) c)) cs ps.1)
+w5-plain en (c ∷ cs) ps = (w5_terminators-plain (en || w5_comes_en cs) c ps.0, w5-plain (is_en (w5_terminators (en || w5_comes_en cs) c)) cs ps.1)
 
-separated-few : (c : Class) → IsPlain c → IsFew (separated c)
-separated-few ES p = refl
-separated-few ET p = refl
-separated-few CS p = refl
-separated-few c p = p
+w6_remaining_separators-few : (c : Class) → IsPlain c → IsFew (w6_remaining_separators c)
+w6_remaining_separators-few ES p = refl
+w6_remaining_separators-few ET p = refl
+w6_remaining_separators-few CS p = refl
+w6_remaining_separators-few c p = p
 
 w6-few : (cs : List Class) → Each IsPlain cs → Each IsFew (w6 cs)
 w6-few [] ps = tt
-w6-few (c ∷ cs) ps = (separated-few c ps.0, w6-few cs ps.1)
+w6-few (c ∷ cs) ps = (w6_remaining_separators-few c ps.0, w6-few cs ps.1)
 
-latin-calm : (c : Class) → IsFew c → IsCalm (latin L c)
-latin-calm EN p = refl
-latin-calm c p = p
+w7_latin_numbers-calm : (c : Class) → IsFew c → IsCalm (w7_latin_numbers L c)
+w7_latin_numbers-calm EN p = refl
+w7_latin_numbers-calm c p = p
 
 strong-few : (c : Class) → IsFew c → strong_after L c ≡ L
 strong-few R p = absurd (cc)
@@ -138,7 +138,7 @@ strong-few c p = refl
 w7-calm : (strong : Class) (cs : List Class) → strong ≡ L → Each IsFew cs → Each IsCalm (w7 strong cs)
 w7-calm strong [] is ps = tt
 w7-calm strong (c ∷ cs) is ps =
-    (subst (λ s. IsCalm (latin s c)) (sym is) (latin-calm c ps.0), w7-calm (strong_after strong c) cs (ap (λ s. strong_after s c) is ∙ strong-few c ps.0) ps.1)
+    (subst (λ s. IsCalm (w7_latin_numbers s c)) (sym is) (w7_latin_numbers-calm c ps.0), w7-calm (strong_after strong c) cs (ap (λ s. strong_after s c) is ∙ strong-few c ps.0) ps.1)
 
 -- the types after the weak rules
 pub weak-calm : (cs : List Class) → Each IsItem cs → Each IsCalm (weak_types L cs)
@@ -181,8 +181,8 @@ either-calm : (a : Bool) (x : Option Class) → IsCalmSide x → IsCalmSide (if 
 either-calm true x p = refl
 either-calm false x p = p
 
-side-calm : (before : Class) (ts : List Class) → Each IsCalm ts → IsCalmSide (sides.pair_side L before ts)
-side-calm before ts ps =
+n0_pair_side-calm : (before : Class) (ts : List Class) → Each IsCalm ts → IsCalmSide (sides.n0_pair_side L before ts)
+n0_pair_side-calm before ts ps =
     let S : Option Class = Some (if sides.counts_as R before then R else L) in
     either-calm (sides.holds L ts) (if sides.holds R ts then S else None)
     (subst (λ b. IsCalmSide (if b then S else None)) (sym (holds-absent ts ps)) tt)
@@ -191,13 +191,13 @@ both-calm : (side : Option Class) (a b : ℕ) (ts : List Class) → IsCalmSide s
 both-calm None a b ts p ps = ps
 both-calm (Some t) a b ts p ps = set-calm b (set ts a t) t p (set-calm a ts t p ps)
 
-pairs-calm : (sos : Class) (place : ℕ) (cs : List (Option ℕ)) (ts : List Class) → Each IsCalm ts → Each IsCalm (sides.with_pairs L sos place cs ts)
-pairs-calm sos place [] ts ps = ps
-pairs-calm sos place (None ∷ cs) ts ps = pairs-calm sos (suc place) cs ts ps
-pairs-calm sos place (Some closing ∷ cs) ts ps =
-    pairs-calm sos (suc place) cs (sides.with_pair L sos place closing ts)
-    (both-calm (sides.pair_side L (sides.last_side sos (take place ts)) (sides.between place closing ts)) place closing ts
-    (side-calm (sides.last_side sos (take place ts)) (sides.between place closing ts) (take-calm (closing - suc place) (drop (suc place) ts) (drop-calm (suc place) ts ps))) ps)
+n0_with_pairs-calm : (sos : Class) (place : ℕ) (cs : List (Option ℕ)) (ts : List Class) → Each IsCalm ts → Each IsCalm (sides.n0_with_pairs L sos place cs ts)
+n0_with_pairs-calm sos place [] ts ps = ps
+n0_with_pairs-calm sos place (None ∷ cs) ts ps = n0_with_pairs-calm sos (suc place) cs ts ps
+n0_with_pairs-calm sos place (Some closing ∷ cs) ts ps =
+    n0_with_pairs-calm sos (suc place) cs (sides.n0_with_pair L sos place closing ts)
+    (both-calm (sides.n0_pair_side L (sides.last_side sos (take place ts)) (sides.between place closing ts)) place closing ts
+    (n0_pair_side-calm (sides.last_side sos (take place ts)) (sides.between place closing ts) (take-calm (closing - suc place) (drop (suc place) ts) (drop-calm (suc place) ts ps))) ps)
 
 followed-calm : (side : Option Class) (c t : Class) → IsCalmSide side → IsCalmSide (sides.followed side c t)
 followed-calm side NSM ON p = p
@@ -211,37 +211,37 @@ unwrapped-calm : (side : Option Class) (t : Class) → IsCalmSide side → IsCal
 unwrapped-calm None t p q = q
 unwrapped-calm (Some u) t p q = p
 
-marks-calm : (side : Option Class) (cs bs ts : List Class) → IsCalmSide side → Each IsCalm ts → Each IsCalm (sides.with_marks side cs bs ts)
-marks-calm side [] bs ts p ps = ps
-marks-calm side (c ∷ cs) [] ts p ps = ps
-marks-calm side (c ∷ cs) (b ∷ bs) [] p ps = tt
-marks-calm side (c ∷ cs) (b ∷ bs) (t ∷ ts) p ps =
+n0_with_marks-calm : (side : Option Class) (cs bs ts : List Class) → IsCalmSide side → Each IsCalm ts → Each IsCalm (sides.n0_with_marks side cs bs ts)
+n0_with_marks-calm side [] bs ts p ps = ps
+n0_with_marks-calm side (c ∷ cs) [] ts p ps = ps
+n0_with_marks-calm side (c ∷ cs) (b ∷ bs) [] p ps = tt
+n0_with_marks-calm side (c ∷ cs) (b ∷ bs) (t ∷ ts) p ps =
     let next = choice-calm (sides.became b t) t (sides.followed side c t) ps.0 (followed-calm side c t p) in
-    (unwrapped-calm (sides.side_taken side c b t) t next ps.0, marks-calm (sides.side_taken side c b t) cs bs ts next ps.1)
+    (unwrapped-calm (sides.side_taken side c b t) t next ps.0, n0_with_marks-calm (sides.side_taken side c b t) cs bs ts next ps.1)
 
 -- the types after the paired brackets
-pub brackets-calm : (entries : List BracketEntry) (sos : Class) (cs : List Class) (codes : List ℕ) (ts : List Class) → Each IsCalm ts → Each IsCalm (sides.bracket_types entries L sos cs codes ts)
-brackets-calm entries sos cs codes ts ps =
-    marks-calm None cs ts (sides.with_pairs L sos 0 (closings (pairs_of (roles entries ts codes)) (length ts)) ts) tt
-    (pairs-calm sos 0 (closings (pairs_of (roles entries ts codes)) (length ts)) ts ps)
+pub n0_bracket_types-calm : (entries : List BracketEntry) (sos : Class) (cs : List Class) (codes : List ℕ) (ts : List Class) → Each IsCalm ts → Each IsCalm (sides.n0_bracket_types entries L sos cs codes ts)
+n0_bracket_types-calm entries sos cs codes ts ps =
+    n0_with_marks-calm None cs ts (sides.n0_with_pairs L sos 0 (closings (bd16_pairs_of (roles entries ts codes)) (length ts)) ts) tt
+    (n0_with_pairs-calm sos 0 (closings (bd16_pairs_of (roles entries ts codes)) (length ts)) ts ps)
 
 -- every neutral stands between L and L
-following-left : (cs : List Class) → Each IsCalm cs → following L cs ≡ L
-following-left [] ps = refl
-following-left (L ∷ cs) ps = refl
-following-left (B ∷ cs) ps = following-left cs ps.1
-following-left (S ∷ cs) ps = following-left cs ps.1
-following-left (WS ∷ cs) ps = following-left cs ps.1
-following-left (ON ∷ cs) ps = following-left cs ps.1
-following-left (c ∷ cs) ps = absurd (let p = ps.0 in cc)
+n1_following-left : (cs : List Class) → Each IsCalm cs → n1_following L cs ≡ L
+n1_following-left [] ps = refl
+n1_following-left (L ∷ cs) ps = refl
+n1_following-left (B ∷ cs) ps = n1_following-left cs ps.1
+n1_following-left (S ∷ cs) ps = n1_following-left cs ps.1
+n1_following-left (WS ∷ cs) ps = n1_following-left cs ps.1
+n1_following-left (ON ∷ cs) ps = n1_following-left cs ps.1
+n1_following-left (c ∷ cs) ps = absurd (let p = ps.0 in cc)
 
 n1-left : (cs : List Class) → Each IsCalm cs → n1 L L cs ≡ replicate (length cs) L
 n1-left [] ps = refl
 n1-left (L ∷ cs) ps = ap (λ l. L ∷ l) (n1-left cs ps.1)
-n1-left (B ∷ cs) ps = ap₂ (λ d l. agreed L d B ∷ l) (following-left cs ps.1) (n1-left cs ps.1)
-n1-left (S ∷ cs) ps = ap₂ (λ d l. agreed L d S ∷ l) (following-left cs ps.1) (n1-left cs ps.1)
-n1-left (WS ∷ cs) ps = ap₂ (λ d l. agreed L d WS ∷ l) (following-left cs ps.1) (n1-left cs ps.1)
-n1-left (ON ∷ cs) ps = ap₂ (λ d l. agreed L d ON ∷ l) (following-left cs ps.1) (n1-left cs ps.1)
+n1-left (B ∷ cs) ps = ap₂ (λ d l. n1_surrounding_direction L d B ∷ l) (n1_following-left cs ps.1) (n1-left cs ps.1)
+n1-left (S ∷ cs) ps = ap₂ (λ d l. n1_surrounding_direction L d S ∷ l) (n1_following-left cs ps.1) (n1-left cs ps.1)
+n1-left (WS ∷ cs) ps = ap₂ (λ d l. n1_surrounding_direction L d WS ∷ l) (n1_following-left cs ps.1) (n1-left cs ps.1)
+n1-left (ON ∷ cs) ps = ap₂ (λ d l. n1_surrounding_direction L d ON ∷ l) (n1_following-left cs ps.1) (n1-left cs ps.1)
 n1-left (c ∷ cs) ps = absurd (let p = ps.0 in cc)
 
 n2-left : (n : ℕ) (ls : List ℕ) → n2 (replicate n L) ls ≡ replicate n L
@@ -256,7 +256,7 @@ neutral-left cs ls ps = ap (λ l. n2 l ls) (n1-left cs ps) ∙ n2-left (length c
 -- all these rules keep the number of types
 w1-length : (before : Class) (cs : List Class) → length (w1 before cs) ≡ length cs
 w1-length before [] = refl
-w1-length before (c ∷ cs) = ap (λ n. suc n) (w1-length (marked before c) cs)
+w1-length before (c ∷ cs) = ap (λ n. suc n) (w1-length (w1_nonspacing_marks before c) cs)
 
 w2-length : (strong : Class) (cs : List Class) → length (w2 strong cs) ≡ length cs
 w2-length strong [] = refl
@@ -272,7 +272,7 @@ w4-length before (c ∷ cs) = ap (λ n. suc n) (w4-length c cs)
 
 w5-length : (en : Bool) (cs : List Class) → length (w5 en cs) ≡ length cs
 w5-length en [] = refl
-w5-length en (c ∷ cs) = ap (λ n. suc n) (w5-length (is_en (ended (en || comes_en cs) c)) cs)
+w5-length en (c ∷ cs) = ap (λ n. suc n) (w5-length (is_en (w5_terminators (en || w5_comes_en cs) c)) cs)
 
 w6-length : (cs : List Class) → length (w6 cs) ≡ length cs
 w6-length [] = refl
@@ -291,20 +291,20 @@ both-length : (side : Option Class) (a b : ℕ) (ts : List Class) → length (si
 both-length None a b ts = refl
 both-length (Some t) a b ts = length-set (set ts a t) b t ∙ length-set ts a t
 
-pairs-length : (embedding sos : Class) (place : ℕ) (cs : List (Option ℕ)) (ts : List Class) → length (sides.with_pairs embedding sos place cs ts) ≡ length ts
-pairs-length embedding sos place [] ts = refl
-pairs-length embedding sos place (None ∷ cs) ts = pairs-length embedding sos (suc place) cs ts
-pairs-length embedding sos place (Some closing ∷ cs) ts =
-    pairs-length embedding sos (suc place) cs (sides.with_pair embedding sos place closing ts)
-    ∙ both-length (sides.pair_side embedding (sides.last_side sos (take place ts)) (sides.between place closing ts)) place closing ts
+n0_with_pairs-length : (embedding sos : Class) (place : ℕ) (cs : List (Option ℕ)) (ts : List Class) → length (sides.n0_with_pairs embedding sos place cs ts) ≡ length ts
+n0_with_pairs-length embedding sos place [] ts = refl
+n0_with_pairs-length embedding sos place (None ∷ cs) ts = n0_with_pairs-length embedding sos (suc place) cs ts
+n0_with_pairs-length embedding sos place (Some closing ∷ cs) ts =
+    n0_with_pairs-length embedding sos (suc place) cs (sides.n0_with_pair embedding sos place closing ts)
+    ∙ both-length (sides.n0_pair_side embedding (sides.last_side sos (take place ts)) (sides.between place closing ts)) place closing ts
 
-marks-length : (side : Option Class) (cs bs ts : List Class) → length (sides.with_marks side cs bs ts) ≡ length ts
-marks-length side [] bs ts = refl
-marks-length side (c ∷ cs) [] ts = refl
-marks-length side (c ∷ cs) (b ∷ bs) [] = refl
-marks-length side (c ∷ cs) (b ∷ bs) (t ∷ ts) = ap (λ n. suc n) (marks-length (sides.side_taken side c b t) cs bs ts)
+n0_with_marks-length : (side : Option Class) (cs bs ts : List Class) → length (sides.n0_with_marks side cs bs ts) ≡ length ts
+n0_with_marks-length side [] bs ts = refl
+n0_with_marks-length side (c ∷ cs) [] ts = refl
+n0_with_marks-length side (c ∷ cs) (b ∷ bs) [] = refl
+n0_with_marks-length side (c ∷ cs) (b ∷ bs) (t ∷ ts) = ap (λ n. suc n) (n0_with_marks-length (sides.side_taken side c b t) cs bs ts)
 
-pub brackets-length : (entries : List BracketEntry) (embedding sos : Class) (cs : List Class) (codes : List ℕ) (ts : List Class) → length (sides.bracket_types entries embedding sos cs codes ts) ≡ length ts
-brackets-length entries embedding sos cs codes ts =
-    marks-length None cs ts (sides.with_pairs embedding sos 0 (closings (pairs_of (roles entries ts codes)) (length ts)) ts)
-    ∙ pairs-length embedding sos 0 (closings (pairs_of (roles entries ts codes)) (length ts)) ts
+pub n0_bracket_types-length : (entries : List BracketEntry) (embedding sos : Class) (cs : List Class) (codes : List ℕ) (ts : List Class) → length (sides.n0_bracket_types entries embedding sos cs codes ts) ≡ length ts
+n0_bracket_types-length entries embedding sos cs codes ts =
+    n0_with_marks-length None cs ts (sides.n0_with_pairs embedding sos 0 (closings (bd16_pairs_of (roles entries ts codes)) (length ts)) ts)
+    ∙ n0_with_pairs-length embedding sos 0 (closings (bd16_pairs_of (roles entries ts codes)) (length ts)) ts

@@ -8,24 +8,24 @@ use Rattle.rd_base.specs.declared.class.Class.{Class}
 use Rattle.rd_base.specs.declared.class.Class.TheVariants.{L, BN, LRE, LRO, RLE, RLO, PDF, LRI, RLI, FSI, PDI}
 use Rattle.rd_base.specs.declared.line.Seq.{Seq}
 use Rattle.rd_ucd.specs.declared.spans.BracketEntry.{BracketEntry}
-use Rattle.rd_explicit.specs.Explicit.{start, after, given, explicit_from, levels_of, types_of}
-use Rattle.rd_explicit.specs.Sequences.{Item, partner_of, first_level, item_at, matter, has_level, with_item, level_runs, joined, start_type, end_type, sequence, sequences_of}
+use Rattle.rd_explicit.specs.Explicit.{x1_start, after, given, explicit_from, levels_of, types_of}
+use Rattle.rd_explicit.specs.Sequences.{Item, partner_of, first_level, item_at, x9_items, has_level, with_item, bd7_level_runs, bd13_joined_runs, x10_sos, x10_eos, sequence, sequences_of}
 use Rattle.rd_explicit.specs.declared.state.State.{State}
 use Rattle.rd_explicit.specs.declared.state.Given.{Given}
 use Rattle.rd_resolve.specs.Places.{types_at, levels_at, put_at}
 use Rattle.rd_resolve.specs.Weak.{weak_types}
 use Rattle.rd_resolve.specs.Neutral.{neutral_types}
-use Rattle.rd_resolve.specs.Implicit.{even_raised, i1_i2, kept, resets, l1, implicit_levels}
-use Rattle.rd_brackets.specs.Sides.{bracket_types, codes_at, embedding_of}
+use Rattle.rd_resolve.specs.Implicit.{i1_even_levels, i1_i2, kept, l1_resets, l1, implicit_levels}
+use Rattle.rd_brackets.specs.Sides.{n0_bracket_types, codes_at, embedding_of}
 use Rattle.rd_levels.specs.Levels.{resolved_in, resolved, line_levels, is_leveled, are_leveled}
 use Rattle.rd_levels.proofs.Each.{Each}
-use Rattle.rd_levels.proofs.Calm.{IsItem, IsCalm, weak-calm, weak-length, brackets-calm, brackets-length, neutral-left}
+use Rattle.rd_levels.proofs.Calm.{IsItem, IsCalm, weak-calm, weak-length, n0_bracket_types-calm, n0_bracket_types-length, neutral-left}
 
 abbrev IsLeveled : Class → Type 0
 IsLeveled c = is_leveled c ≡ true
 
 -- the explicit levels are 0, and the types the classes
-after-leveled : (c : Class) (cs : List Class) → IsLeveled c → after (start 0) c cs ≡ start 0
+after-leveled : (c : Class) (cs : List Class) → IsLeveled c → after (x1_start 0) c cs ≡ x1_start 0
 after-leveled RLE cs h = absurd (cc)
 after-leveled LRE cs h = absurd (cc)
 after-leveled RLO cs h = absurd (cc)
@@ -37,14 +37,14 @@ after-leveled PDI cs h = absurd (cc)
 after-leveled PDF cs h = absurd (cc)
 after-leveled c cs h = refl
 
-given-leveled : (c : Class) (cs : List Class) → IsLeveled c → let g : Given = record { level = 0; class = c } in given 0 (start 0) c cs ≡ g
+given-leveled : (c : Class) (cs : List Class) → IsLeveled c → let g : Given = record { level = 0; class = c } in given 0 (x1_start 0) c cs ≡ g
 given-leveled PDI cs h = absurd (cc)
 given-leveled c cs h = refl
 
 abbrev zero_givens : List Class → List Given
 zero_givens cs = map (λ c. record { level = 0; class = c }) cs
 
-explicit-leveled : (s : State) (cs : List Class) → s ≡ start 0 → are_leveled cs ≡ true → explicit_from 0 s cs ≡ zero_givens cs
+explicit-leveled : (s : State) (cs : List Class) → s ≡ x1_start 0 → are_leveled cs ≡ true → explicit_from 0 s cs ≡ zero_givens cs
 explicit-leveled s [] is h = refl
 explicit-leveled s (c ∷ cs) is h =
     let parts = and_parts (is_leveled c) (are_leveled cs) h in
@@ -80,41 +80,41 @@ item-zero i c cs xs zs = record {
   after = either-zero (is_initiator c && is_none (partner_of i c cs)) (first_level 0 xs) (first-zero xs zs);
 }
 
-abbrev all_matter : ℕ → List Class → List Item
-all_matter i cs = matter 0 0 i cs (replicate (length cs) 0)
+abbrev all_items : ℕ → List Class → List Item
+all_items i cs = x9_items 0 0 i cs (replicate (length cs) 0)
 
 either-each : (b : Bool) (xs ys : List Item) (P : Item → Type 0) → Each P xs → Each P ys → Each P (if b then xs else ys)
 either-each true xs ys P these those = these
 either-each false xs ys P these those = those
 
-matter-zero : (i : ℕ) (cs : List Class) → Each IsZero (all_matter i cs)
-matter-zero i [] = tt
-matter-zero i (c ∷ cs) =
-    let rest = matter-zero (i + 1) cs in
-    either-each (is_removed c) (all_matter (i + 1) cs) (item_at 0 0 i c cs 0 (all_matter (i + 1) cs) ∷ all_matter (i + 1) cs) IsZero
-    rest (item-zero i c cs (all_matter (i + 1) cs) rest, rest)
+x9_items-zero : (i : ℕ) (cs : List Class) → Each IsZero (all_items i cs)
+x9_items-zero i [] = tt
+x9_items-zero i (c ∷ cs) =
+    let rest = x9_items-zero (i + 1) cs in
+    either-each (is_removed c) (all_items (i + 1) cs) (item_at 0 0 i c cs 0 (all_items (i + 1) cs) ∷ all_items (i + 1) cs) IsZero
+    rest (item-zero i c cs (all_items (i + 1) cs) rest, rest)
 
 -- so there is one level run, and one sequence
 has-zero : (x y : Item) (ys : List Item) → IsZero x → IsZero y → has_level x.level (y ∷ ys) ≡ true
 has-zero x y ys p q = ap₂ (λ (m n : ℕ). m == n) p.level q.level
 
-one-run : (x : Item) (xs : List Item) → Each IsZero (x ∷ xs) → level_runs (x ∷ xs) ≡ (x ∷ xs) ∷ []
+one-run : (x : Item) (xs : List Item) → Each IsZero (x ∷ xs) → bd7_level_runs (x ∷ xs) ≡ (x ∷ xs) ∷ []
 one-run x [] zs = refl
 one-run x (y ∷ ys) zs =
     ap (with_item x) (one-run y ys zs.1)
     ∙ ap (λ b. if b then (x ∷ y ∷ ys) ∷ [] else (x ∷ []) ∷ (y ∷ ys) ∷ []) (has-zero x y ys zs.0 zs.1.0)
 
-one-sequence : (x : Item) (xs : List Item) → Each IsZero (x ∷ xs) → map sequence (joined (level_runs (x ∷ xs))) ≡ sequence (x ∷ xs) ∷ []
+one-sequence : (x : Item) (xs : List Item) → Each IsZero (x ∷ xs) → map sequence (bd13_joined_runs (bd7_level_runs (x ∷ xs))) ≡ sequence (x ∷ xs) ∷ []
 one-sequence x xs zs =
-    ap (λ rs. map sequence (joined rs)) (one-run x xs zs) ∙ ap (λ s. sequence s ∷ []) (append-nil (x ∷ xs))
+    ap (λ rs. map sequence (bd13_joined_runs rs)) (one-run x xs zs) ∙ ap (λ s. sequence s ∷ []) (append-nil (x ∷ xs))
 
-start-left : (x : Item) (xs : List Item) → IsZero x → start_type (x ∷ xs) ≡ L
-start-left x xs z = ap₂ (λ (m n : ℕ). direction_of (max m n)) z.level z.before
+x10_sos-left : (x : Item) (xs : List Item) → IsZero x → x10_sos (x ∷ xs) ≡ L
+x10_sos-left x xs z = ap₂ (λ (m n : ℕ). direction_of (max m n)) z.level z.before
 
-end-left : (xs : List Item) → Each IsZero xs → end_type xs ≡ L
-end-left [] zs = refl
-end-left (x ∷ []) zs = ap₂ (λ (m n : ℕ). direction_of (max m n)) zs.0.level zs.0.after
-end-left (x ∷ y ∷ ys) zs = end-left (y ∷ ys) zs.1
+x10_eos-left : (xs : List Item) → Each IsZero xs → x10_eos xs ≡ L
+x10_eos-left [] zs = refl
+x10_eos-left (x ∷ []) zs = ap₂ (λ (m n : ℕ). direction_of (max m n)) zs.0.level zs.0.after
+x10_eos-left (x ∷ y ∷ ys) zs = x10_eos-left (y ∷ ys) zs.1
 
 -- the index of each class that X9 leaves is one of an item, and the others are BN
 abbrev In : ℕ → List ℕ → Type 0
@@ -125,7 +125,7 @@ abbrev indexes : List Item → List ℕ
 indexes xs = map (λ (x : Item). x.index) xs
 
 abbrev IsFlat : Class → Type 0
-IsFlat t = even_raised 0 t ≡ 0
+IsFlat t = i1_even_levels 0 t ≡ 0
 
 abbrev Covered : List ℕ → ℕ → Class → Type 0
 Covered is i t = IsFlat t ⊎ In i is
@@ -137,12 +137,12 @@ further is j i k t e (inr member) = inr (inr (subst (λ m. In m is) e member))
 same-place : (is : List ℕ) (i k : ℕ) (t : Class) → i ≡ k → Covered is i t → Covered is k t
 same-place is i k t e h = subst (λ m. Covered is m t) e h
 
-covered : (i : ℕ) (cs : List Class) → are_leveled cs ≡ true → (j : ℕ) → j < length cs → Covered (indexes (all_matter i cs)) (i + j) (get_or cs j L)
+covered : (i : ℕ) (cs : List Class) → are_leveled cs ≡ true → (j : ℕ) → j < length cs → Covered (indexes (all_items i cs)) (i + j) (get_or cs j L)
 covered i [] h j inside = absurd (omega arith)
 covered i (BN ∷ cs) h zero inside = inl refl
 covered i (BN ∷ cs) h (suc j) inside =
     let e : i + 1 + j ≡ i + suc j = omega arith in
-    same-place (indexes (all_matter (i + 1) cs)) (i + 1 + j) (i + suc j) (get_or cs j L) e (covered (i + 1) cs h j (omega arith))
+    same-place (indexes (all_items (i + 1) cs)) (i + 1 + j) (i + suc j) (get_or cs j L) e (covered (i + 1) cs h j (omega arith))
 covered i (LRE ∷ cs) h j inside = absurd (cc)
 covered i (RLE ∷ cs) h j inside = absurd (cc)
 covered i (LRO ∷ cs) h j inside = absurd (cc)
@@ -152,7 +152,7 @@ covered i (c ∷ cs) h zero inside = let e : i + 0 ≡ i = omega arith in inr (i
 covered i (c ∷ cs) h (suc j) inside =
     let e : i + 1 + j ≡ i + suc j = omega arith in
     let parts = and_parts (is_leveled c) (are_leveled cs) h in
-    further (indexes (all_matter (i + 1) cs)) i (i + 1 + j) (i + suc j) (get_or cs j L) e (covered (i + 1) cs parts.1 j (omega arith))
+    further (indexes (all_items (i + 1) cs)) i (i + 1 + j) (i + suc j) (get_or cs j L) e (covered (i + 1) cs parts.1 j (omega arith))
 
 leveled-item : (c : Class) → IsLeveled c → is_removed c ≡ false → IsItem c
 leveled-item BN h other = absurd (cc)
@@ -170,7 +170,7 @@ module _ (whole : List Class) where
         sym (drop-drop 1 i whole) ∙ ap (drop 1) e,
       )
 
-  items-at : (i : ℕ) (cs : List Class) → drop i whole ≡ cs → are_leveled cs ≡ true → Each IsItemAt (all_matter i cs)
+  items-at : (i : ℕ) (cs : List Class) → drop i whole ≡ cs → are_leveled cs ≡ true → Each IsItemAt (all_items i cs)
   items-at i [] at h = tt
   items-at i (BN ∷ cs) at h = items-at (i + 1) cs (next-at i BN cs at).1 h
   items-at i (LRE ∷ cs) at h = absurd (cc)
@@ -252,7 +252,7 @@ module _ (entries : List BracketEntry) (cs : List Class) (codes : List ℕ) (lev
   abbrev zeros : List ℕ
   zeros = replicate (length cs) 0
 
-  module _ (x : Item) (xs : List Item) (whole : all_matter 0 cs ≡ x ∷ xs) where
+  module _ (x : Item) (xs : List Item) (whole : all_items 0 cs ≡ x ∷ xs) where
     abbrev is : List ℕ
     is = indexes (x ∷ xs)
 
@@ -260,13 +260,13 @@ module _ (entries : List BracketEntry) (cs : List Class) (codes : List ℕ) (lev
     s = sequence (x ∷ xs)
 
     are-zero : Each IsZero (x ∷ xs)
-    are-zero = subst (Each IsZero) whole (matter-zero 0 cs)
+    are-zero = subst (Each IsZero) whole (x9_items-zero 0 cs)
 
     sos-left : s.sos ≡ L
-    sos-left = start-left x xs are-zero.0
+    sos-left = x10_sos-left x xs are-zero.0
 
     eos-left : s.eos ≡ L
-    eos-left = end-left (x ∷ xs) are-zero
+    eos-left = x10_eos-left (x ∷ xs) are-zero
 
     abbrev after_weak : List Class
     after_weak = weak_types s.sos (types_at is cs)
@@ -292,19 +292,19 @@ module _ (entries : List BracketEntry) (cs : List Class) (codes : List ℕ) (lev
     embedding-left = ap direction_of (zero-at (length cs) x.index)
 
     abbrev after_brackets : List Class
-    after_brackets = bracket_types entries (embedding_of is zeros) s.sos (types_at is cs) (codes_at is codes) (types_at is weak_line)
+    after_brackets = n0_bracket_types entries (embedding_of is zeros) s.sos (types_at is cs) (codes_at is codes) (types_at is weak_line)
 
     brackets-are-calm : Each IsCalm after_brackets
     brackets-are-calm =
-        subst (λ e. Each IsCalm (bracket_types entries e s.sos (types_at is cs) (codes_at is codes) (types_at is weak_line))) (sym embedding-left)
-        (brackets-calm entries s.sos (types_at is cs) (codes_at is codes) (types_at is weak_line) weak-line-calm)
+        subst (λ e. Each IsCalm (n0_bracket_types entries e s.sos (types_at is cs) (codes_at is codes) (types_at is weak_line))) (sym embedding-left)
+        (n0_bracket_types-calm entries s.sos (types_at is cs) (codes_at is codes) (types_at is weak_line) weak-line-calm)
 
     abbrev bracket_line : List Class
     bracket_line = put_at is after_brackets weak_line
 
     bracket-line-calm : Each IsCalm (types_at is bracket_line)
     bracket-line-calm =
-        let size = brackets-length entries (embedding_of is zeros) s.sos (types_at is cs) (codes_at is codes) (types_at is weak_line) in
+        let size = n0_bracket_types-length entries (embedding_of is zeros) s.sos (types_at is cs) (codes_at is codes) (types_at is weak_line) in
         let count = types-size weak_line in
         types-each IsCalm refl is bracket_line (λ j member. put-covers IsCalm refl is after_brackets weak_line (omega arith) brackets-are-calm j (inr member))
 
@@ -320,7 +320,7 @@ module _ (entries : List BracketEntry) (cs : List Class) (codes : List ℕ) (lev
     start-covered j = elim (cases_lt j (length cs)) [
       | inl inside ↦
           let e : 0 + j ≡ j = omega arith in
-          subst (λ l. Covered (indexes l) j (get_or cs j L)) whole (same-place (indexes (all_matter 0 cs)) (0 + j) j (get_or cs j L) e (covered 0 cs leveled j inside))
+          subst (λ l. Covered (indexes l) j (get_or cs j L)) whole (same-place (indexes (all_items 0 cs)) (0 + j) j (get_or cs j L) e (covered 0 cs leveled j inside))
       | inr past ↦ inl (subst IsFlat (sym (get_or_past cs j L past)) refl)
     ]
 
@@ -336,18 +336,18 @@ module _ (entries : List BracketEntry) (cs : List Class) (codes : List ℕ) (lev
 
     flat-sequence : Each IsFlat (resolved entries cs codes zeros (sequences_of 0 cs zeros) cs)
     flat-sequence =
-        subst (λ ss. Each IsFlat (resolved entries cs codes zeros ss cs)) (sym (ap (λ l. map sequence (joined (level_runs l))) whole ∙ one-sequence x xs are-zero)) one-flat
+        subst (λ ss. Each IsFlat (resolved entries cs codes zeros ss cs)) (sym (ap (λ l. map sequence (bd13_joined_runs (bd7_level_runs l))) whole ∙ one-sequence x xs are-zero)) one-flat
 
-  flat-nothing : all_matter 0 cs ≡ [] → Each IsFlat (resolved entries cs codes zeros (sequences_of 0 cs zeros) cs)
+  flat-nothing : all_items 0 cs ≡ [] → Each IsFlat (resolved entries cs codes zeros (sequences_of 0 cs zeros) cs)
   flat-nothing none =
-      subst (λ ss. Each IsFlat (resolved entries cs codes zeros ss cs)) (sym (ap (λ l. map sequence (joined (level_runs l))) none))
+      subst (λ ss. Each IsFlat (resolved entries cs codes zeros ss cs)) (sym (ap (λ l. map sequence (bd13_joined_runs (bd7_level_runs l))) none))
       (each-place IsFlat refl cs (λ j. elim (cases_lt j (length cs)) [
         | inl inside ↦
             elim (subst (λ l. Covered (indexes l) (0 + j) (get_or cs j L)) none (covered 0 cs leveled j inside)) [ inl flat ↦ flat | inr member ↦ absurd member ]
         | inr past ↦ subst IsFlat (sym (get_or_past cs j L past)) refl
       ]))
 
-  flat-by : (xs : List Item) → all_matter 0 cs ≡ xs → Each IsFlat (resolved entries cs codes zeros (sequences_of 0 cs zeros) cs)
+  flat-by : (xs : List Item) → all_items 0 cs ≡ xs → Each IsFlat (resolved entries cs codes zeros (sequences_of 0 cs zeros) cs)
   flat-by [] is_whole = flat-nothing is_whole
   flat-by (x ∷ xs) is_whole = flat-sequence x xs is_whole
 
@@ -368,7 +368,7 @@ kept-zero (suc n) (c ∷ cs) = same-either (is_removed c) (0 ∷ kept 0 cs (repl
 l1-zero : (n : ℕ) (cs : List Class) → l1 0 cs (replicate n 0) ≡ replicate n 0
 l1-zero n [] = refl
 l1-zero zero (c ∷ cs) = refl
-l1-zero (suc n) (c ∷ cs) = ap₂ (λ (l : ℕ) (ls : List ℕ). l ∷ ls) (same-either (resets (c ∷ cs)) 0) (l1-zero n cs)
+l1-zero (suc n) (c ∷ cs) = ap₂ (λ (l : ℕ) (ls : List ℕ). l ∷ ls) (same-either (l1_resets (c ∷ cs)) 0) (l1-zero n cs)
 
 implicit-zero : (n : ℕ) (cs ts : List Class) → Each IsFlat ts → implicit_levels 0 cs ts (replicate n 0) ≡ replicate n 0
 implicit-zero n cs ts flat = ap (λ ls. l1 0 cs (kept 0 cs ls)) (raised-zero n ts flat) ∙ ap (l1 0 cs) (kept-zero n cs) ∙ l1-zero n cs
@@ -376,8 +376,8 @@ implicit-zero n cs ts flat = ap (λ ls. l1 0 cs (kept 0 cs ls)) (raised-zero n t
 pub from-left : (entries : List BracketEntry) (cs : List Class) (codes : List ℕ) → are_leveled cs ≡ true → line_levels entries 0 cs codes ≡ replicate (length cs) 0
 from-left entries cs codes leveled =
     let n = length cs in
-    let gs = explicit-leveled (start 0) cs refl leveled in
+    let gs = explicit-leveled (x1_start 0) cs refl leveled in
     let ls = ap levels_of gs ∙ givens-levels cs in
     let ts = ap types_of gs ∙ givens-types cs in
     ap₂ (λ ms us. implicit_levels 0 cs (resolved entries cs codes ms (sequences_of 0 cs ms) us) ms) ls ts
-    ∙ implicit-zero n cs (resolved entries cs codes (replicate n 0) (sequences_of 0 cs (replicate n 0)) cs) (flat-by entries cs codes leveled (all_matter 0 cs) refl)
+    ∙ implicit-zero n cs (resolved entries cs codes (replicate n 0) (sequences_of 0 cs (replicate n 0)) cs) (flat-by entries cs codes leveled (all_items 0 cs) refl)

@@ -6,7 +6,7 @@ use Rattle.std.specs.List.{range_with_len}
 use Rattle.std.proofs.lemmas.Bool.Decides.{nat_tests}
 use Rattle.rd_base.specs.declared.class.Class.{Class}
 use Rattle.rd_base.specs.declared.class.Class.TheVariants.{B}
-use Rattle.rd_order.specs.Order.{turned, turned_down, highest, visual_order}
+use Rattle.rd_order.specs.Order.{l2_reversed, l2_reversed_down, highest, l2_visual_order}
 use Rattle.rd_levels.specs.Turns.{levels_with, turn_of, turns_by, turns_of, ComesLast}
 use Rattle.rd_levels.specs.declared.turn.Turn.{Turn}
 use Rattle.rd_ucd.specs.declared.spans.BracketEntry.{BracketEntry}
@@ -20,22 +20,22 @@ either-last false n x y u v these those = those
 low-last : (b : Bool) (run : List ℕ) (n : ℕ) (x : List ℕ) → b ≡ false → (if b then x else run ++ n ∷ []) ≡ run ++ n ∷ []
 low-last b run n x low = ap (λ t. if t then x else run ++ n ∷ []) low
 
-turned-last : (levels : List ℕ) (k : ℕ) (run is : List ℕ) (n : ℕ) → slice_index levels n < k → turned levels k run (is ++ n ∷ []) ≡ turned levels k run is ++ n ∷ []
-turned-last levels k run [] n low =
+l2_reversed-last : (levels : List ℕ) (k : ℕ) (run is : List ℕ) (n : ℕ) → slice_index levels n < k → l2_reversed levels k run (is ++ n ∷ []) ≡ l2_reversed levels k run is ++ n ∷ []
+l2_reversed-last levels k run [] n low =
     let below : nat_le k (slice_index levels n) ≡ false = grind (arith, nat_tests) in
-    low-last (nat_le k (slice_index levels n)) run n (turned levels k (n ∷ run) []) below
-turned-last levels k run (i ∷ is) n low =
+    low-last (nat_le k (slice_index levels n)) run n (l2_reversed levels k (n ∷ run) []) below
+l2_reversed-last levels k run (i ∷ is) n low =
     either-last (nat_le k (slice_index levels i)) n
-    (turned levels k (i ∷ run) (is ++ n ∷ [])) (run ++ i ∷ turned levels k [] (is ++ n ∷ []))
-    (turned levels k (i ∷ run) is) (run ++ i ∷ turned levels k [] is)
-    (turned-last levels k (i ∷ run) is n low)
-    (ap (λ l. run ++ i ∷ l) (turned-last levels k [] is n low) ∙ sym (append_assoc run (i ∷ turned levels k [] is) (n ∷ [])))
+    (l2_reversed levels k (i ∷ run) (is ++ n ∷ [])) (run ++ i ∷ l2_reversed levels k [] (is ++ n ∷ []))
+    (l2_reversed levels k (i ∷ run) is) (run ++ i ∷ l2_reversed levels k [] is)
+    (l2_reversed-last levels k (i ∷ run) is n low)
+    (ap (λ l. run ++ i ∷ l) (l2_reversed-last levels k [] is n low) ∙ sym (append_assoc run (i ∷ l2_reversed levels k [] is) (n ∷ [])))
 
-turned_down-last : (levels : List ℕ) (base m : ℕ) (is : List ℕ) (n : ℕ) → slice_index levels n ≤ base → turned_down levels base m (is ++ n ∷ []) ≡ turned_down levels base m is ++ n ∷ []
-turned_down-last levels base zero is n low = refl
-turned_down-last levels base (suc m) is n low =
-    ap (turned_down levels base m) (turned-last levels (base + suc m) [] is n (omega arith))
-    ∙ turned_down-last levels base m (turned levels (base + suc m) [] is) n low
+l2_reversed_down-last : (levels : List ℕ) (base m : ℕ) (is : List ℕ) (n : ℕ) → slice_index levels n ≤ base → l2_reversed_down levels base m (is ++ n ∷ []) ≡ l2_reversed_down levels base m is ++ n ∷ []
+l2_reversed_down-last levels base zero is n low = refl
+l2_reversed_down-last levels base (suc m) is n low =
+    ap (l2_reversed_down levels base m) (l2_reversed-last levels (base + suc m) [] is n (omega arith))
+    ∙ l2_reversed_down-last levels base m (l2_reversed levels (base + suc m) [] is) n low
 
 range-last : (a n : ℕ) → range_with_len a (suc n) ≡ range_with_len a n ++ (a + n) ∷ []
 range-last a zero = ap (λ k. k ∷ []) (omega arith)
@@ -43,29 +43,29 @@ range-last a (suc n) =
     let same : a + 1 + n ≡ a + suc n = omega arith in
     ap (λ l. a ∷ l) (range-last (a + 1) n) ∙ ap (λ k. a ∷ range_with_len (a + 1) n ++ k ∷ []) same
 
-pub order-last : (base n : ℕ) (levels : List ℕ) → length levels ≡ suc n → slice_index levels n ≤ base → visual_order base levels ≡ turned_down levels base (highest levels - base) (range_with_len 0 n) ++ n ∷ []
+pub order-last : (base n : ℕ) (levels : List ℕ) → length levels ≡ suc n → slice_index levels n ≤ base → l2_visual_order base levels ≡ l2_reversed_down levels base (highest levels - base) (range_with_len 0 n) ++ n ∷ []
 order-last base n levels size low =
     let same : 0 + n ≡ n = omega arith in
-    ap (λ k. turned_down levels base (highest levels - base) (range_with_len 0 k)) size
-    ∙ ap (turned_down levels base (highest levels - base)) (range-last 0 n)
-    ∙ ap (λ k. turned_down levels base (highest levels - base) (range_with_len 0 n ++ k ∷ [])) same
-    ∙ turned_down-last levels base (highest levels - base) (range_with_len 0 n) n low
+    ap (λ k. l2_reversed_down levels base (highest levels - base) (range_with_len 0 k)) size
+    ∙ ap (l2_reversed_down levels base (highest levels - base)) (range-last 0 n)
+    ∙ ap (λ k. l2_reversed_down levels base (highest levels - base) (range_with_len 0 n ++ k ∷ [])) same
+    ∙ l2_reversed_down-last levels base (highest levels - base) (range_with_len 0 n) n low
 
 either-below : (b : Bool) (n : ℕ) (x y : List ℕ) → Each (λ (i : ℕ). i < n) x → Each (λ (i : ℕ). i < n) y → Each (λ (i : ℕ). i < n) (if b then x else y)
 either-below true n x y these those = these
 either-below false n x y these those = those
 
-turned-below : (levels : List ℕ) (k n : ℕ) (run is : List ℕ) → Each (λ (i : ℕ). i < n) run → Each (λ (i : ℕ). i < n) is → Each (λ (i : ℕ). i < n) (turned levels k run is)
-turned-below levels k n run [] these those = these
-turned-below levels k n run (i ∷ is) these those =
-    either-below (nat_le k (slice_index levels i)) n (turned levels k (i ∷ run) is) (run ++ i ∷ turned levels k [] is)
-    (turned-below levels k n (i ∷ run) is (those.0, these) those.1)
-    (each-append (λ (j : ℕ). j < n) run (i ∷ turned levels k [] is) these (those.0, turned-below levels k n [] is tt those.1))
+l2_reversed-below : (levels : List ℕ) (k n : ℕ) (run is : List ℕ) → Each (λ (i : ℕ). i < n) run → Each (λ (i : ℕ). i < n) is → Each (λ (i : ℕ). i < n) (l2_reversed levels k run is)
+l2_reversed-below levels k n run [] these those = these
+l2_reversed-below levels k n run (i ∷ is) these those =
+    either-below (nat_le k (slice_index levels i)) n (l2_reversed levels k (i ∷ run) is) (run ++ i ∷ l2_reversed levels k [] is)
+    (l2_reversed-below levels k n (i ∷ run) is (those.0, these) those.1)
+    (each-append (λ (j : ℕ). j < n) run (i ∷ l2_reversed levels k [] is) these (those.0, l2_reversed-below levels k n [] is tt those.1))
 
-turned_down-below : (levels : List ℕ) (base m n : ℕ) (is : List ℕ) → Each (λ (i : ℕ). i < n) is → Each (λ (i : ℕ). i < n) (turned_down levels base m is)
-turned_down-below levels base zero n is each = each
-turned_down-below levels base (suc m) n is each =
-    turned_down-below levels base m n (turned levels (base + suc m) [] is) (turned-below levels (base + suc m) n [] is tt each)
+l2_reversed_down-below : (levels : List ℕ) (base m n : ℕ) (is : List ℕ) → Each (λ (i : ℕ). i < n) is → Each (λ (i : ℕ). i < n) (l2_reversed_down levels base m is)
+l2_reversed_down-below levels base zero n is each = each
+l2_reversed_down-below levels base (suc m) n is each =
+    l2_reversed_down-below levels base m n (l2_reversed levels (base + suc m) [] is) (l2_reversed-below levels (base + suc m) n [] is tt each)
 
 range-below : (a n m : ℕ) → a + n ≤ m → Each (λ (i : ℕ). i < m) (range_with_len a n)
 range-below a zero m few = tt
@@ -78,8 +78,8 @@ turns-below levels n (i ∷ is) each = (each.0, turns-below levels n is each.1)
 -- the turns of a line whose last place has the base level, or a lower one
 last-turn : (base n : ℕ) (levels : List ℕ) → length levels ≡ suc n → slice_index levels n ≤ base → ComesLast (turns_by base levels) n
 last-turn base n levels size low =
-    let before = turned_down levels base (highest levels - base) (range_with_len 0 n) in
-    let below = turned_down-below levels base (highest levels - base) n (range_with_len 0 n) (range-below 0 n n (omega arith)) in
+    let before = l2_reversed_down levels base (highest levels - base) (range_with_len 0 n) in
+    let below = l2_reversed_down-below levels base (highest levels - base) n (range_with_len 0 n) (range-below 0 n n (omega arith)) in
     record {
       front = map (turn_of levels) before;
       last = turn_of levels n;

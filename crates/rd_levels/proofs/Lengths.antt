@@ -6,14 +6,14 @@ use Rattle.rd_base.specs.Classes.{is_removed}
 use Rattle.rd_base.specs.declared.class.Class.{Class}
 use Rattle.rd_base.specs.declared.class.Class.TheVariants.{B}
 use Rattle.rd_base.specs.declared.line.Seq.{Seq}
-use Rattle.rd_explicit.specs.Explicit.{explicit_from, explicit_of, levels_of, types_of, after, start}
+use Rattle.rd_explicit.specs.Explicit.{explicit_from, explicit_of, levels_of, types_of, after, x1_start}
 use Rattle.rd_explicit.specs.declared.state.State.{State}
 use Rattle.rd_explicit.specs.declared.state.Given.{Given}
 use Rattle.rd_explicit.specs.Sequences.{sequences_of}
 use Rattle.rd_resolve.specs.Places.{put_at}
 use Rattle.rd_resolve.specs.Implicit.{i1_i2, kept, l1}
 use Rattle.rd_ucd.specs.declared.spans.BracketEntry.{BracketEntry}
-use Rattle.rd_brackets.specs.Sides.{brackets_in}
+use Rattle.rd_brackets.specs.Sides.{n0_brackets_in}
 use Rattle.rd_levels.specs.Levels.{weak_in, resolved_in, resolved, line_levels}
 use Rattle.rd_levels.specs.Turns.{levels_with}
 
@@ -30,7 +30,7 @@ resolved-length : (entries : List BracketEntry) (cs : List Class) (codes levels 
 resolved-length entries cs codes levels [] ts = refl
 resolved-length entries cs codes levels (s ∷ ss) ts =
     resolved-length entries cs codes levels ss (resolved_in entries cs codes levels s ts)
-    ∙ put_at-length s.indexes _ (brackets_in entries cs codes levels s (weak_in s ts))
+    ∙ put_at-length s.indexes _ (n0_brackets_in entries cs codes levels s (weak_in s ts))
     ∙ put_at-length s.indexes _ (weak_in s ts)
     ∙ put_at-length s.indexes _ ts
 
@@ -78,7 +78,7 @@ module _ (entries : List BracketEntry) (base : ℕ) where
       let ls = levels_of gs in
       let found = sequences_of base cs ls in
       let us = resolved entries cs codes ls found ts in
-      let all : length gs ≡ length cs = explicit-length base (start base) cs in
+      let all : length gs ≡ length cs = explicit-length base (x1_start base) cs in
       let types : length ts ≡ length gs = length-map gs (λ (g : Given). g.class) in
       let levels : length ls ≡ length gs = length-map gs (λ (g : Given). g.level) in
       let more : length us ≡ length ts = resolved-length entries cs codes ls found ts in

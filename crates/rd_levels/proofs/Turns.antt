@@ -6,7 +6,7 @@ use Rattle.std.proofs.lemmas.List.{length-replicate}
 use Rattle.std.proofs.lemmas.List.Sums.{sum_by-cons}
 use Rattle.rd_base.specs.declared.class.Class.{Class}
 use Rattle.rd_ucd.specs.declared.spans.BracketEntry.{BracketEntry}
-use Rattle.rd_order.specs.Order.{visual_order}
+use Rattle.rd_order.specs.Order.{l2_visual_order}
 use Rattle.rd_order.proofs.Once.{total, total-order, is_place, once-at-most, once-at-least}
 use Rattle.rd_levels.specs.Turns.{levels_with, turn_of, turns_of}
 use Rattle.rd_levels.specs.declared.turn.Turn.{Turn}
@@ -29,7 +29,7 @@ pub each-turn : (entries : List BracketEntry) (reorder : Bool) (base : ℕ) (cla
     → total_in f (turns_of entries reorder base classes codes) ≡ total f (range_with_len 0 (length classes))
 each-turn entries reorder base classes codes f =
     let levels = levels_with entries reorder base classes codes in
-    in-turns f levels (visual_order base levels)
+    in-turns f levels (l2_visual_order base levels)
     ∙ total-order f base levels
     ∙ ap (λ n. total f (range_with_len 0 n)) (as-long entries reorder base classes codes)
 

@@ -10,7 +10,7 @@ use Rattle.rd_resolve.specs.Places.{types_at, levels_at, put_at}
 use Rattle.rd_resolve.specs.Weak.{weak_types}
 use Rattle.rd_resolve.specs.Neutral.{neutral_types}
 use Rattle.rd_resolve.specs.Implicit.{implicit_levels}
-use Rattle.rd_brackets.specs.Sides.{brackets_in}
+use Rattle.rd_brackets.specs.Sides.{n0_brackets_in}
 
 -- the types of a line once W1 to W7, and N1 and N2, are applied to a sequence
 abbrev pub weak_in : Seq → List Class → List Class
@@ -21,7 +21,7 @@ neutral_in levels s ts = put_at s.indexes (neutral_types s.sos s.eos (types_at s
 
 -- the types of a line once W1 to W7, N0, N1 and N2 are applied to a sequence, by the brackets and the line's classes, codes and levels
 abbrev pub resolved_in : List BracketEntry → List Class → List ℕ → List ℕ → Seq → List Class → List Class
-resolved_in entries cs codes levels s ts = neutral_in levels s (brackets_in entries cs codes levels s (weak_in s ts))
+resolved_in entries cs codes levels s ts = neutral_in levels s (n0_brackets_in entries cs codes levels s (weak_in s ts))
 
 -- X10: the types of a line once these rules are applied to each of its sequences, one after another
 abbrev pub resolved : List BracketEntry → List Class → List ℕ → List ℕ → List Seq → List Class → List Class

@@ -2,7 +2,7 @@
 use Rattle.std.specs.Prelude.{◌≡◌, ℕ, ◌%◌, ◌<◌, ◌==◌, [], ◌∷◌, ◌++◌, All, Bool, if◌then◌else◌, List, length, map, replicate, slice_index}
 use Rattle.rd_base.specs.declared.class.Class.{Class}
 use Rattle.rd_ucd.specs.declared.spans.BracketEntry.{BracketEntry}
-use Rattle.rd_order.specs.Order.{visual_order}
+use Rattle.rd_order.specs.Order.{l2_visual_order}
 use Rattle.rd_levels.specs.Levels.{line_levels}
 use Rattle.rd_levels.specs.declared.turn.Turn.{Turn}
 
@@ -15,7 +15,7 @@ turn_of levels i = record { index = i; odd = slice_index levels i % 2 == 1 }
 
 -- places of these levels in visual order, each with whether its level is odd
 abbrev pub turns_by : ℕ → List ℕ → List Turn
-turns_by base levels = map (turn_of levels) (visual_order base levels)
+turns_by base levels = map (turn_of levels) (l2_visual_order base levels)
 
 -- the places of a line of these classes and codes in visual order
 abbrev pub turns_of : List BracketEntry → Bool → ℕ → List Class → List ℕ → List Turn

@@ -1,4 +1,4 @@
-//! The rules of UAX 9 over a line, in turn.
+//! The rules of UAX 9 over a line, in turn: X1 to X10, W1 to W7, N0 to N2, I1, I2 and L1.
 ghost use Rattle.std.specs.Prelude.{◌≡◌, ◌<◌, ◌≤◌, ◌^◌, length, All, AllPairs, OnOk};
 ghost use Rattle.rd_base.specs.Lines.{KeepsClasses};
 ghost use Rattle.rd_levels.specs.Levels.{resolved, line_levels, is_leveled, are_leveled};
@@ -28,14 +28,18 @@ pub fn fill_line(
     if base == 0 && are_leveled(classes) {
         return Ok(());
     }
+    // X1 to X8
     explicit(line);
+    // X9 and X10
     let found = sequences(alloc, line)?;
+    // W1 to W7, N0, N1 and N2
     resolve(alloc, line, codes, brackets, &found)?;
+    // I1, I2 and L1
     implicit(line);
     Ok(())
 }
 
-/// The weak rules, the paired brackets and the neutral rules over each of these sequences.
+/// The weak rules (W1 to W7), the paired brackets (N0) and the neutral rules (N1, N2) over each of these sequences, one after another.
 fn resolve(
     alloc: Global,
     line: &mut Line,

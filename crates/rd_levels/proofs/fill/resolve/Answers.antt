@@ -1,5 +1,5 @@
 use Rattle.std.proofs.Common.{◌≡◌, ◌<◌, ◌+◌, length, drop, ap, ap₂, sym, ◌∙◌, arith}
-use Rattle.rd_brackets.specs.Sides.{brackets_in}
+use Rattle.rd_brackets.specs.Sides.{n0_brackets_in}
 use Rattle.rd_levels.specs.Levels.{resolved, resolved_in, weak_in, neutral_in}
 use Rattle.rd_levels.proofs.Sequences.{resolved-step}
 use Rattle.rd_levels.proofs.fill.resolve.Goals as goal
@@ -18,10 +18,10 @@ loop-k-preserved c =
     let within : k < length found = omega (arith, c.loop-k-test.true, c.len-k-end.ensures) in
     let weak_levels = c.weak.ensures.levels ∙ inv.levels in
     let weak_classes = c.weak.ensures.rest.classes ∙ inv.keeps.classes in
-    let paired : c.pair.new.line.types ≡ brackets_in entries classes codes levels s (weak_in s ts) =
+    let paired : c.pair.new.line.types ≡ n0_brackets_in entries classes codes levels s (weak_in s ts) =
     c.in_ok-pair.ensures.types
-    ∙ ap₂ (λ cs ls. brackets_in entries cs codes ls s c.weak.new.line.types) weak_classes weak_levels
-    ∙ ap (brackets_in entries classes codes levels s) c.weak.ensures.types in
+    ∙ ap₂ (λ cs ls. n0_brackets_in entries cs codes ls s c.weak.new.line.types) weak_classes weak_levels
+    ∙ ap (n0_brackets_in entries classes codes levels s) c.weak.ensures.types in
     let given : c.neutral.new.line.types ≡ resolved_in entries classes codes levels s ts =
     c.neutral.ensures.types ∙ ap₂ (λ ls us. neutral_in ls s us) (c.pair.ensures.levels ∙ weak_levels) paired in
     record {
