@@ -1,4 +1,4 @@
--- Where each pair closes, by the place where it opens.
+-- Where each pair closes, by the place where it opens (N0).
 use Rattle.std.proofs.Common.{◌≡◌, ℕ, zero, suc, ◌+◌, ◌<◌, ◌==◌, false, List, [], ◌∷◌, set, Option, None, Some, refl, sym, ap, ap₂, ◌∙◌, arith}
 use Rattle.std.specs.Prelude.{if◌then◌else◌, map, replicate, unwrap_or}
 use Rattle.std.specs.List.{range_with_len}

@@ -1,4 +1,5 @@
-//! Paired brackets: rule N0 of UAX 9, the Unicode bidirectional algorithm, over one isolating run sequence.
+//! Paired brackets: rule N0 of UAX 9, the Unicode bidirectional algorithm, over one isolating run sequence. BD14 and BD15 stand in
+//! `role`, BD16 in `matching`, and N0 in `sides` and `resolve`.
 #![tactic(auto)]
 
 mod examples;

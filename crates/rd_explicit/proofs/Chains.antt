@@ -1,4 +1,4 @@
--- The links from an index on, against the isolating run sequences of the items there.
+-- The links from an index on, against the isolating run sequences of the items there (BD13, X10).
 use Rattle.std.proofs.Common.{◌≡◌, ℕ, zero, suc, ◌+◌, ◌-◌, ◌<◌, ◌≤◌, ◌==◌, nat_lt, max, Bool, true, false, ◌&&◌, if◌then◌else◌, List, [], ◌∷◌, length, map, drop, set, get_or, Option, None, Some, All, is_none, refl, ap, ap₂, sym, ◌∙◌, inl, inr, arith}
 use Rattle.std.proofs.lemmas.List.{get_or-drop, drop-set-add, set-get_or, drop-drop, length-drop}
 use Rattle.std.proofs.lemmas.Bool.{cases_Bool, eq-eqb, ne_eqb, ltb-true}

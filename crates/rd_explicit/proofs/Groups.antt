@@ -1,4 +1,4 @@
--- One item more before the isolating run sequences of the items behind it.
+-- One item more before the isolating run sequences of the items behind it (BD7, BD13).
 use Rattle.std.proofs.Common.{◌≡◌, ◌==◌, Bool, true, false, if◌then◌else◌, List, [], ◌∷◌, Some, refl}
 use Rattle.std.proofs.lemmas.Bool.{eq-eqb}
 use Rattle.rd_explicit.specs.Follow.{bd13_follower}

@@ -1,4 +1,4 @@
--- One step of the walk from a line's end.
+-- One step of the walk from a line's end, which links the items that X9 leaves (BD13, X10).
 use Rattle.std.proofs.Common.{◌≡◌, ℕ, ◌+◌, ◌<◌, ◌≤◌, max, Bool, true, false, ◌&&◌, List, [], ◌∷◌, ◌++◌, length, drop, set, get_or, reverse, slice_get, Option, None, Some, IfSome, is_none, if◌then◌else◌, refl, ap, ap₂, sym, ◌∙◌, inl, inr, arith}
 use Rattle.std.proofs.lemmas.List.{drop-set, drop_more, append-nil, append_assoc, length-drop, length-set, get_or-set_same, get_or-set_other}
 use Rattle.std.proofs.lemmas.Option.{get_or_from_slice_get}

@@ -1,4 +1,4 @@
--- The PDIs that wait for their initiators, against the matching by nesting.
+-- The PDIs that wait for their initiators, against the matching by nesting (BD9).
 use Rattle.std.proofs.Common.{◌≡◌, ℕ, zero, suc, ◌+◌, ◌<◌, ◌≤◌, nat_lt, if◌then◌else◌, List, [], ◌∷◌, ◌++◌, length, reverse, Option, None, Some, MatchOption, refl, ap, sym, ◌∙◌, add-zero, inl, inr, arith}
 use Rattle.std.proofs.lemmas.List.{same_from_push, length-append, reverse-append}
 use Rattle.std.proofs.lemmas.Bool.{cases_Bool, ltb-true, ltb-false, lt-ltb, le-ltb}

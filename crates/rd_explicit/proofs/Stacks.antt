@@ -1,19 +1,19 @@
--- Stacks: what closing an isolate leaves.
+-- Stacks: what closing an isolate leaves (X6a).
 use Rattle.std.proofs.Common.{◌≡◌, ◌<◌, ◌≤◌, if◌then◌else◌, true, false, List, [], ◌∷◌, length, refl, arith}
-use Rattle.rd_explicit.specs.declared.stack.Entry.{Entry}
+use Rattle.rd_explicit.specs.declared.stack.DirectionalStatus.{DirectionalStatus}
 use Rattle.rd_explicit.specs.Explicit.{x6a_below_isolate, Rises}
 
-pub x6a_below_isolate-short : (es : List Entry) → length es ≤ 1 → x6a_below_isolate es ≡ es
+pub x6a_below_isolate-short : (es : List DirectionalStatus) → length es ≤ 1 → x6a_below_isolate es ≡ es
 x6a_below_isolate-short [] h = refl
 x6a_below_isolate-short (e ∷ []) h = refl
 x6a_below_isolate-short (e ∷ f ∷ es) h = absurd (omega arith)
 
-pub x6a_below_isolate-step : (e : Entry) (es : List Entry) → 0 < length es
+pub x6a_below_isolate-step : (e : DirectionalStatus) (es : List DirectionalStatus) → 0 < length es
     → x6a_below_isolate (e ∷ es) ≡ (if e.isolate then es else x6a_below_isolate es)
 x6a_below_isolate-step e [] h = absurd (omega arith)
 x6a_below_isolate-step e (f ∷ es) h = refl
 
-pub x6a_below_isolate-rises : (es : List Entry) → Rises es → Rises (x6a_below_isolate es)
+pub x6a_below_isolate-rises : (es : List DirectionalStatus) → Rises es → Rises (x6a_below_isolate es)
 x6a_below_isolate-rises [] r = r
 x6a_below_isolate-rises (e ∷ []) r = r
 x6a_below_isolate-rises (e ∷ f ∷ es) r =
@@ -22,7 +22,7 @@ x6a_below_isolate-rises (e ∷ f ∷ es) r =
       | false ↦ x6a_below_isolate-rises (f ∷ es) r.2
     ]
 
-pub x6a_below_isolate-some : (es : List Entry) → 0 < length es → 0 < length (x6a_below_isolate es)
+pub x6a_below_isolate-some : (es : List DirectionalStatus) → 0 < length es → 0 < length (x6a_below_isolate es)
 x6a_below_isolate-some [] r = r
 x6a_below_isolate-some (e ∷ []) r = r
 x6a_below_isolate-some (e ∷ f ∷ es) r =

@@ -4,12 +4,12 @@ use Rattle.rd_base.specs.Classes.{is_removed, strong_level}
 use Rattle.rd_base.specs.declared.class.Class.{Class}
 use Rattle.rd_base.specs.declared.class.Class.TheVariants.{L, R, B, LRE, LRO, RLE, RLO, PDF, LRI, RLI, FSI, PDI}
 use Rattle.rd_explicit.specs.Isolates.{content}
-use Rattle.rd_explicit.specs.declared.stack.Entry.{Entry}
+use Rattle.rd_explicit.specs.declared.stack.DirectionalStatus.{DirectionalStatus}
 use Rattle.rd_explicit.specs.declared.state.State.{State}
 use Rattle.rd_explicit.specs.declared.state.Given.{Given}
 
 -- the last entry, which is the first of the list; a stack is never empty
-abbrev pub top : List Entry → Entry
+abbrev pub top : List DirectionalStatus → DirectionalStatus
 top [] = record { level = 0; direction = None; isolate = false }
 top (e ∷ es) = e
 
@@ -79,7 +79,7 @@ abbrev pub x5c_first_strong_isolate : State → List Class → State
 x5c_first_strong_isolate s cs = if x5c_starts_right cs then x5a_right_to_left_isolate s else x5b_left_to_right_isolate s
 
 -- for X6a, a stack without the entries above the topmost isolate and without that isolate; the entry of X1 always stays
-abbrev pub x6a_below_isolate : List Entry → List Entry
+abbrev pub x6a_below_isolate : List DirectionalStatus → List DirectionalStatus
 x6a_below_isolate (e ∷ f ∷ es) = if e.isolate then f ∷ es else x6a_below_isolate (f ∷ es)
 x6a_below_isolate es = es
 
@@ -92,7 +92,7 @@ x6a_pop_directional_isolate s =
     else record s { stack = x6a_below_isolate s.stack; overflow_embeddings = 0; valid_isolates = s.valid_isolates - 1 }
 
 -- for X7, a stack without its last entry, unless that is an isolate or the only one
-abbrev pub x7_below_embedding : List Entry → List Entry
+abbrev pub x7_below_embedding : List DirectionalStatus → List DirectionalStatus
 x7_below_embedding (e ∷ f ∷ es) = if e.isolate then e ∷ f ∷ es else f ∷ es
 x7_below_embedding es = es
 
@@ -123,7 +123,7 @@ x6_override None c = c
 x6_override (Some direction) c = direction
 
 -- X6: a character takes the level of the last entry, and its override, where it has one, as type. So do those of X5a to X6a.
-abbrev pub x6_level_and_override : Entry → Class → Given
+abbrev pub x6_level_and_override : DirectionalStatus → Class → Given
 x6_level_and_override e c = record { level = e.level; class = x6_override e.direction c }
 
 -- X8: B has the level of the base
@@ -158,7 +158,7 @@ abbrev pub types_of : List Given → List Class
 types_of gs = map (λ g. g.class) gs
 
 -- what keeps a stack within its bounds: an entry's level is at least the number of entries below it, and at most max_depth
-abbrev pub Rises : List Entry → Type 0
+abbrev pub Rises : List DirectionalStatus → Type 0
 Rises [] = Unit {0}
 Rises (e ∷ es) = (length es ≤ e.level) × (e.level ≤ 125) × Rises es
 

@@ -1,5 +1,6 @@
 //! Explicit levels and isolating run sequences: rules X1 to X10 of UAX 9, the Unicode bidirectional algorithm, over the classes
-//! of one line.
+//! of one line. X1 to X8 stand in `state`, over the `stack`, and `levels` applies them; X9 and X10, with BD9 and BD13, in `links` and
+//! `runs`.
 #![tactic(auto)]
 
 mod isolate;

@@ -5,9 +5,9 @@ ghost use Rattle.rd_explicit.specs.Explicit.{top, x6a_below_isolate, x7_below_em
 use rd_base::Class;
 use std::marker::Model;
 
-/// A level with the type that an override gives, where there is one, and whether an isolate made the entry.
+/// An entry of the stack: a level with the type that an override gives, where there is one, and whether an isolate made the entry.
 #[derive(Clone, Copy)]
-pub struct Entry {
+pub struct DirectionalStatus {
     pub level: u8,
     pub direction: Option<Class>,
     pub isolate: bool,
@@ -16,15 +16,15 @@ pub struct Entry {
 /// The stack, in the room of a fixed array. Contracts see the list of its entries, the last one first.
 #[derive(Drop)]
 pub struct Stack {
-    entries: [Entry; 127],
+    entries: [DirectionalStatus; 127],
     depth: usize,
 }
 
 impl Model for Stack {
     ghost use Rattle.std.specs.Prelude.{◌≡◌, ◌<◌, ◌≤◌, List, length, take, reverse};
-    ghost use Rattle.rd_explicit.specs.declared.stack.Entry.{Entry};
+    ghost use Rattle.rd_explicit.specs.declared.stack.DirectionalStatus.{DirectionalStatus};
 
-    ghost Value = { List Entry };
+    ghost Value = { List DirectionalStatus };
 
     ghost view = { λ s. reverse (take s.depth s.entries) };
 
@@ -33,7 +33,7 @@ impl Model for Stack {
 
 impl Stack {
     /// A stack of one entry.
-    pub fn new(entry: Entry) -> Stack
+    pub fn new(entry: DirectionalStatus) -> Stack
         ensures { result ≡ entry ∷ [] }
     {
         Stack {
@@ -51,14 +51,14 @@ impl Stack {
     }
 
     /// The last entry.
-    pub fn top(&self) -> Entry
+    pub fn top(&self) -> DirectionalStatus
         ensures { result ≡ top self.now }
     {
         self.entries[self.depth - 1]
     }
 
     /// Adds an entry.
-    pub fn push(&mut self, entry: Entry)
+    pub fn push(&mut self, entry: DirectionalStatus)
         requires { length self.old < 127 }
         ensures { self.new ≡ entry ∷ self.old }
     {
@@ -67,7 +67,7 @@ impl Stack {
     }
 
     /// Takes the last entry away.
-    pub fn pop(&mut self) -> Entry
+    pub fn pop(&mut self) -> DirectionalStatus
         requires { 1 < length self.old }
         ensures { self.old ≡ result ∷ self.new }
     {

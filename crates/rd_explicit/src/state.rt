@@ -4,7 +4,7 @@ ghost use Rattle.std.specs.Prelude.{◌≡◌, ◌<◌, ◌≤◌, ◌+◌, ◌^
 ghost use Rattle.rd_explicit.specs.Explicit.{x1_start, top, odd_above, even_above, is_valid, embedded, x2_right_to_left_embedding, x3_left_to_right_embedding, x4_right_to_left_override, x5_left_to_right_override, isolated, x5a_right_to_left_isolate, x5b_left_to_right_isolate, x5c_starts_right, x5c_first_strong_isolate, x6_level_and_override, x6a_pop_directional_isolate, x7_pop_directional_format, x8_paragraph_separator, x9_removed, after, given, Rises, IsCounted, CountsOn};
 
 use crate::isolate::x5c_starts_right;
-use crate::stack::{Entry, Stack};
+use crate::stack::{DirectionalStatus, Stack};
 use rd_base::Class;
 
 /// The level and the type that the explicit rules give a character.
@@ -31,7 +31,7 @@ impl State {
         ensures rises { Rises result.stack }
     {
         State {
-            stack: Stack::new(Entry {
+            stack: Stack::new(DirectionalStatus {
                 level: base,
                 direction: None,
                 isolate: false,
@@ -118,7 +118,7 @@ impl State {
         ensures counts { CountsOn self.old self.new }
     {
         if self.is_valid(level) {
-            self.stack.push(Entry {
+            self.stack.push(DirectionalStatus {
                 level,
                 direction,
                 isolate: false,
@@ -188,7 +188,7 @@ impl State {
         ensures counts { CountsOn self.old self.new }
     {
         if self.is_valid(level) {
-            self.stack.push(Entry {
+            self.stack.push(DirectionalStatus {
                 level,
                 direction: None,
                 isolate: true,
@@ -295,7 +295,7 @@ fn even_above(level: u8) -> u8
 }
 
 /// X6: a character takes the level of the last entry, and its override, where it has one, as type. So do those of X5a to X6a.
-fn x6_level_and_override(entry: Entry, class: Class) -> Given
+fn x6_level_and_override(entry: DirectionalStatus, class: Class) -> Given
     ensures { result ≡ x6_level_and_override entry class }
 {
     Given {

@@ -1,4 +1,4 @@
--- The weak, bracket and neutral rules over a sequence at level 0 without anything that is read from the right.
+-- The weak rules (W1 to W7), N0, and the neutral rules (N1, N2) over a sequence at level 0 without anything that is read from the right.
 use Rattle.std.proofs.Common.{◌≡◌, ℕ, zero, suc, ◌-◌, Bool, true, false, ◌||◌, List, [], ◌∷◌, length, take, drop, set, replicate, Option, None, Some, refl, sym, ap, ap₂, subst, ◌∙◌}
 use Rattle.std.specs.Prelude.{if◌then◌else◌, unwrap_or}
 use Rattle.std.proofs.lemmas.List.{length-set}
@@ -6,7 +6,7 @@ use Rattle.rd_base.specs.declared.class.Class.{Class}
 use Rattle.rd_base.specs.declared.class.Class.TheVariants.{L, R, AL, EN, ES, ET, AN, CS, NSM, B, S, WS, ON, LRI, RLI, FSI, PDI}
 use Rattle.rd_ucd.specs.declared.spans.BracketEntry.{BracketEntry}
 use Rattle.rd_resolve.specs.Weak.{w1_nonspacing_marks, w1, strong_after, w2, w3_arabic_letters, w3, w4_separators, first_type, w4, is_en, w5_comes_en, w5_terminators, w5, w6_remaining_separators, w6, w7_latin_numbers, w7, weak_types}
-use Rattle.rd_resolve.specs.Neutral.{n1_side, n1_following, n1_surrounding_direction, n1, n2, neutral_types}
+use Rattle.rd_resolve.specs.Neutral.{n1_following, n1_surrounding_direction, n1, n2, neutral_types}
 use Rattle.rd_brackets.specs.Pairs.{roles, bd16_pairs_of, closings}
 use Rattle.rd_brackets.specs.Sides as sides
 use Rattle.rd_levels.proofs.Each.{Each}

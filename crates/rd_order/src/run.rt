@@ -2,15 +2,15 @@
 ghost use Rattle.std.specs.Prelude.{◌≡◌, ◌+◌, ◌-◌, ◌<◌, ◌≤◌, ◌%◌, ◌==◌, if◌then◌else◌, length, slice_index};
 ghost use Rattle.rd_order.specs.Places.{IsRun, AreHigh, BeginsLow};
 
-/// The indexes from `start` to `end - 1`, none of which has a level below `lowest`.
+/// A run that L2 reverses: the indexes from `start` to `end - 1`, none of which has a level below `lowest`.
 #[derive(Clone, Copy)]
-pub struct Run {
+pub struct ReversedRun {
     pub start: usize,
     pub end: usize,
     pub lowest: u8,
 }
 
-impl Run {
+impl ReversedRun {
     /// Where an index of the run comes to stand when the run is turned round so many times.
     pub fn turned(&self, place: usize, times: u8) -> usize
         requires from { self.now.start ≤ place }
@@ -27,7 +27,7 @@ impl Run {
 
 /// The maximal run at `level` or above around an index of that level or above. It costs a look at each index of the run and
 /// at the two beside it.
-pub fn around(levels: &[u8], level: u8, place: usize) -> Run
+pub fn around(levels: &[u8], level: u8, place: usize) -> ReversedRun
     requires place { place < length levels.now }
     requires level { level ≤ slice_index levels.now place }
     ensures run { IsRun (slice_index levels.now) (length levels.now) level result.start result.end }
@@ -40,7 +40,7 @@ pub fn around(levels: &[u8], level: u8, place: usize) -> Run
 }
 
 /// The part of the run around an index that ends with this index.
-fn back(levels: &[u8], level: u8, place: usize) -> Run
+fn back(levels: &[u8], level: u8, place: usize) -> ReversedRun
     requires place { place < length levels.now }
     requires level { level ≤ slice_index levels.now place }
     ensures high { AreHigh (slice_index levels.now) result.lowest result.start result.end }
@@ -55,7 +55,7 @@ fn back(levels: &[u8], level: u8, place: usize) -> Run
         start -= 1;
         lowest = lowest.min(levels[start]);
     }
-    Run {
+    ReversedRun {
         start,
         end: place + 1,
         lowest,
@@ -63,7 +63,7 @@ fn back(levels: &[u8], level: u8, place: usize) -> Run
 }
 
 /// The whole run, from the part of it that ends somewhere inside.
-fn ahead(levels: &[u8], level: u8, part: Run) -> Run
+fn ahead(levels: &[u8], level: u8, part: ReversedRun) -> ReversedRun
     requires high { AreHigh (slice_index levels.now) part.lowest part.start part.end }
     requires before { BeginsLow (slice_index levels.now) level part.start }
     requires up { level ≤ part.lowest }
@@ -81,7 +81,7 @@ fn ahead(levels: &[u8], level: u8, part: Run) -> Run
         lowest = lowest.min(levels[end]);
         end += 1;
     }
-    Run {
+    ReversedRun {
         start: part.start,
         end,
         lowest,

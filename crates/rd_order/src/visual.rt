@@ -3,7 +3,7 @@ ghost use Rattle.std.specs.Prelude.{◌≡◌, ℕ, suc, ◌+◌, ◌-◌, ◌<�
 ghost use Rattle.rd_order.specs.Order.{l2_visual_order};
 ghost use Rattle.rd_order.specs.Places.{Comes, IsBeside};
 
-use crate::run::{Run, around};
+use crate::run::{ReversedRun, around};
 
 /// A walk through the indexes of a line in visual order (L2), from the reading edge. It holds the next index and no list.
 #[derive(Clone, Copy, Debug)]
@@ -98,7 +98,7 @@ fn neighbour(levels: &[u8], level: u8, base: u8, place: usize) -> Option<usize>
 }
 
 /// The highest level of the two indexes beside a run, at least the base.
-fn highest_beside(levels: &[u8], base: u8, run: &Run) -> u8
+fn highest_beside(levels: &[u8], base: u8, run: &ReversedRun) -> u8
     requires order { run.now.start < run.now.end }
     requires end { run.now.end ≤ length levels.now }
     ensures base { base ≤ result }

@@ -1,4 +1,5 @@
-//! The types and levels that rules W1 to W7, N1, N2, I1, I2 and L1 of UAX 9, the Unicode bidirectional algorithm, give.
+//! The types and levels that rules W1 to W7, N1, N2, I1, I2 and L1 of UAX 9, the Unicode bidirectional algorithm, give: W1 to W7 in
+//! `weak_walk`, N1 and N2 in `neutral_walk`, I1 and I2 in `raise`, L1 in `reset`.
 #![tactic(auto)]
 
 mod neutral_walk;
