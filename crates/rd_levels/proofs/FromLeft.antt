@@ -17,7 +17,7 @@ use Rattle.rd_resolve.specs.Weak.{weak_types}
 use Rattle.rd_resolve.specs.Neutral.{neutral_types}
 use Rattle.rd_resolve.specs.Implicit.{i1_even_levels, i1_i2, kept, l1_resets, l1, implicit_levels}
 use Rattle.rd_brackets.specs.Sides.{n0_bracket_types, codes_at, embedding_of}
-use Rattle.rd_levels.specs.Levels.{resolved_in, resolved, line_levels, is_leveled, are_leveled}
+use Rattle.rd_levels.specs.Levels.{resolved_in, x10_resolved, line_levels, is_leveled, are_leveled}
 use Rattle.rd_levels.proofs.Each.{Each}
 use Rattle.rd_levels.proofs.Calm.{IsItem, IsCalm, weak-calm, weak-length, n0_bracket_types-calm, n0_bracket_types-length, neutral-left}
 
@@ -334,20 +334,20 @@ module _ (entries : List BracketEntry) (cs : List Class) (codes : List ℕ) (lev
         (put-stays IsFlat refl is is after_brackets weak_line (members is) j
         (put-stays IsFlat refl is is after_weak cs (members is) j (start-covered j))))
 
-    flat-sequence : Each IsFlat (resolved entries cs codes zeros (sequences_of 0 cs zeros) cs)
+    flat-sequence : Each IsFlat (x10_resolved entries cs codes zeros (sequences_of 0 cs zeros) cs)
     flat-sequence =
-        subst (λ ss. Each IsFlat (resolved entries cs codes zeros ss cs)) (sym (ap (λ l. map sequence (bd13_joined_runs (bd7_level_runs l))) whole ∙ one-sequence x xs are-zero)) one-flat
+        subst (λ ss. Each IsFlat (x10_resolved entries cs codes zeros ss cs)) (sym (ap (λ l. map sequence (bd13_joined_runs (bd7_level_runs l))) whole ∙ one-sequence x xs are-zero)) one-flat
 
-  flat-nothing : all_items 0 cs ≡ [] → Each IsFlat (resolved entries cs codes zeros (sequences_of 0 cs zeros) cs)
+  flat-nothing : all_items 0 cs ≡ [] → Each IsFlat (x10_resolved entries cs codes zeros (sequences_of 0 cs zeros) cs)
   flat-nothing none =
-      subst (λ ss. Each IsFlat (resolved entries cs codes zeros ss cs)) (sym (ap (λ l. map sequence (bd13_joined_runs (bd7_level_runs l))) none))
+      subst (λ ss. Each IsFlat (x10_resolved entries cs codes zeros ss cs)) (sym (ap (λ l. map sequence (bd13_joined_runs (bd7_level_runs l))) none))
       (each-place IsFlat refl cs (λ j. elim (cases_lt j (length cs)) [
         | inl inside ↦
             elim (subst (λ l. Covered (indexes l) (0 + j) (get_or cs j L)) none (covered 0 cs leveled j inside)) [ inl flat ↦ flat | inr member ↦ absurd member ]
         | inr past ↦ subst IsFlat (sym (get_or_past cs j L past)) refl
       ]))
 
-  flat-by : (xs : List Item) → all_items 0 cs ≡ xs → Each IsFlat (resolved entries cs codes zeros (sequences_of 0 cs zeros) cs)
+  flat-by : (xs : List Item) → all_items 0 cs ≡ xs → Each IsFlat (x10_resolved entries cs codes zeros (sequences_of 0 cs zeros) cs)
   flat-by [] is_whole = flat-nothing is_whole
   flat-by (x ∷ xs) is_whole = flat-sequence x xs is_whole
 
@@ -379,5 +379,5 @@ from-left entries cs codes leveled =
     let gs = explicit-leveled (x1_start 0) cs refl leveled in
     let ls = ap levels_of gs ∙ givens-levels cs in
     let ts = ap types_of gs ∙ givens-types cs in
-    ap₂ (λ ms us. implicit_levels 0 cs (resolved entries cs codes ms (sequences_of 0 cs ms) us) ms) ls ts
-    ∙ implicit-zero n cs (resolved entries cs codes (replicate n 0) (sequences_of 0 cs (replicate n 0)) cs) (flat-by entries cs codes leveled (all_items 0 cs) refl)
+    ap₂ (λ ms us. implicit_levels 0 cs (x10_resolved entries cs codes ms (sequences_of 0 cs ms) us) ms) ls ts
+    ∙ implicit-zero n cs (x10_resolved entries cs codes (replicate n 0) (sequences_of 0 cs (replicate n 0)) cs) (flat-by entries cs codes leveled (all_items 0 cs) refl)

@@ -14,7 +14,7 @@ use Rattle.rd_resolve.specs.Places.{put_at}
 use Rattle.rd_resolve.specs.Implicit.{i1_i2, kept, l1}
 use Rattle.rd_ucd.specs.declared.spans.BracketEntry.{BracketEntry}
 use Rattle.rd_brackets.specs.Sides.{n0_brackets_in}
-use Rattle.rd_levels.specs.Levels.{weak_in, resolved_in, resolved, line_levels}
+use Rattle.rd_levels.specs.Levels.{weak_in, resolved_in, x10_resolved, line_levels}
 use Rattle.rd_levels.specs.Turns.{levels_with}
 
 explicit-length : (base : ℕ) (s : State) (cs : List Class) → length (explicit_from base s cs) ≡ length cs
@@ -26,10 +26,10 @@ put_at-length [] cs ts = refl
 put_at-length (i ∷ is) [] ts = refl
 put_at-length (i ∷ is) (c ∷ cs) ts = put_at-length is cs (slice_set ts i c) ∙ length-set ts i c
 
-resolved-length : (entries : List BracketEntry) (cs : List Class) (codes levels : List ℕ) (ss : List Seq) (ts : List Class) → length (resolved entries cs codes levels ss ts) ≡ length ts
-resolved-length entries cs codes levels [] ts = refl
-resolved-length entries cs codes levels (s ∷ ss) ts =
-    resolved-length entries cs codes levels ss (resolved_in entries cs codes levels s ts)
+x10_resolved-length : (entries : List BracketEntry) (cs : List Class) (codes levels : List ℕ) (ss : List Seq) (ts : List Class) → length (x10_resolved entries cs codes levels ss ts) ≡ length ts
+x10_resolved-length entries cs codes levels [] ts = refl
+x10_resolved-length entries cs codes levels (s ∷ ss) ts =
+    x10_resolved-length entries cs codes levels ss (resolved_in entries cs codes levels s ts)
     ∙ put_at-length s.indexes _ (n0_brackets_in entries cs codes levels s (weak_in s ts))
     ∙ put_at-length s.indexes _ (weak_in s ts)
     ∙ put_at-length s.indexes _ ts
@@ -69,7 +69,7 @@ module _ (entries : List BracketEntry) (base : ℕ) where
   levels-before cs codes =
       let ts = types_of (explicit_of base cs) in
       let ls = levels_of (explicit_of base cs) in
-      kept base cs (i1_i2 (resolved entries cs codes ls (sequences_of base cs ls) ts) ls)
+      kept base cs (i1_i2 (x10_resolved entries cs codes ls (sequences_of base cs ls) ts) ls)
 
   before-length : (cs : List Class) (codes : List ℕ) → length (levels-before cs codes) ≡ length cs
   before-length cs codes =
@@ -77,11 +77,11 @@ module _ (entries : List BracketEntry) (base : ℕ) where
       let ts = types_of gs in
       let ls = levels_of gs in
       let found = sequences_of base cs ls in
-      let us = resolved entries cs codes ls found ts in
+      let us = x10_resolved entries cs codes ls found ts in
       let all : length gs ≡ length cs = explicit-length base (x1_start base) cs in
       let types : length ts ≡ length gs = length-map gs (λ (g : Given). g.class) in
       let levels : length ls ≡ length gs = length-map gs (λ (g : Given). g.level) in
-      let more : length us ≡ length ts = resolved-length entries cs codes ls found ts in
+      let more : length us ≡ length ts = x10_resolved-length entries cs codes ls found ts in
       let raise : length (i1_i2 us ls) ≡ length ls = raised-length us ls (omega arith) in
       let keep : length (kept base cs (i1_i2 us ls)) ≡ length (i1_i2 us ls) = kept-length base cs (i1_i2 us ls) (omega arith) in
       keep ∙ raise ∙ levels ∙ all

@@ -12,10 +12,11 @@ use Rattle.rd_resolve.specs.Neutral.{neutral_types}
 use Rattle.rd_resolve.specs.Implicit.{implicit_levels}
 use Rattle.rd_brackets.specs.Sides.{n0_brackets_in}
 
--- the types of a line once W1 to W7, and N1 and N2, are applied to a sequence
+-- W1 to W7: the types of a line once they are applied to a sequence
 abbrev pub weak_in : Seq → List Class → List Class
 weak_in s ts = put_at s.indexes (weak_types s.sos (types_at s.indexes ts)) ts
 
+-- N1 and N2: the types of a line once they are applied to a sequence
 abbrev pub neutral_in : List ℕ → Seq → List Class → List Class
 neutral_in levels s ts = put_at s.indexes (neutral_types s.sos s.eos (types_at s.indexes ts) (levels_at s.indexes levels)) ts
 
@@ -24,14 +25,14 @@ abbrev pub resolved_in : List BracketEntry → List Class → List ℕ → List 
 resolved_in entries cs codes levels s ts = neutral_in levels s (n0_brackets_in entries cs codes levels s (weak_in s ts))
 
 -- X10: the types of a line once these rules are applied to each of its sequences, one after another
-abbrev pub resolved : List BracketEntry → List Class → List ℕ → List ℕ → List Seq → List Class → List Class
-resolved entries cs codes levels [] ts = ts
-resolved entries cs codes levels (s ∷ ss) ts = resolved entries cs codes levels ss (resolved_in entries cs codes levels s ts)
+abbrev pub x10_resolved : List BracketEntry → List Class → List ℕ → List ℕ → List Seq → List Class → List Class
+x10_resolved entries cs codes levels [] ts = ts
+x10_resolved entries cs codes levels (s ∷ ss) ts = x10_resolved entries cs codes levels ss (resolved_in entries cs codes levels s ts)
 
 -- I1, I2 and L1 after those, where the explicit levels are known
 abbrev pub levels_from : List BracketEntry → ℕ → List Class → List ℕ → List Class → List ℕ → List ℕ
 levels_from entries base cs codes ts levels =
-    implicit_levels base cs (resolved entries cs codes levels (sequences_of base cs levels) ts) levels
+    implicit_levels base cs (x10_resolved entries cs codes levels (sequences_of base cs levels) ts) levels
 
 -- the level of each character of a line with a base level, by the brackets and the classes and codes of the characters
 abbrev pub line_levels : List BracketEntry → ℕ → List Class → List ℕ → List ℕ

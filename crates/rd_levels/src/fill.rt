@@ -1,7 +1,7 @@
 //! The rules of UAX 9 over a line, in turn: X1 to X10, W1 to W7, N0 to N2, I1, I2 and L1.
 ghost use Rattle.std.specs.Prelude.{◌≡◌, ◌<◌, ◌≤◌, ◌^◌, length, All, AllPairs, OnOk};
 ghost use Rattle.rd_base.specs.Lines.{KeepsClasses};
-ghost use Rattle.rd_levels.specs.Levels.{resolved, line_levels, is_leveled, are_leveled};
+ghost use Rattle.rd_levels.specs.Levels.{x10_resolved, line_levels, is_leveled, are_leveled};
 
 use rd_base::{Class, Line, ListOf, Memory, Seq};
 use rd_brackets::pair;
@@ -33,14 +33,15 @@ pub fn fill_line(
     // X9 and X10
     let found = sequences(alloc, line)?;
     // W1 to W7, N0, N1 and N2
-    resolve(alloc, line, codes, brackets, &found)?;
+    x10_resolve(alloc, line, codes, brackets, &found)?;
     // I1, I2 and L1
     implicit(line);
     Ok(())
 }
 
-/// The weak rules (W1 to W7), the paired brackets (N0) and the neutral rules (N1, N2) over each of these sequences, one after another.
-fn resolve(
+/// X10: the weak rules (W1 to W7), the paired brackets (N0) and the neutral rules (N1, N2) over each of these sequences, one after
+/// another.
+fn x10_resolve(
     alloc: Global,
     line: &mut Line,
     codes: &[u32],
@@ -50,7 +51,7 @@ fn resolve(
     requires within { All (λ seq. All (λ i. i < length line.old.classes) seq.indexes) found.now }
     requires ascend { All (λ seq. AllPairs (λ i j. i < j) seq.indexes) found.now }
     requires codes { length codes.now ≡ length line.old.classes }
-    ensures types { OnOk result (line.new.types ≡ resolved brackets.now line.old.classes codes.now line.old.levels found.now line.old.types) }
+    ensures types { OnOk result (line.new.types ≡ x10_resolved brackets.now line.old.classes codes.now line.old.levels found.now line.old.types) }
     ensures levels { line.new.levels ≡ line.old.levels }
     ensures rest { KeepsClasses line.old line.new }
 {

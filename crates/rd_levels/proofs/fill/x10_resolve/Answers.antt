@@ -1,8 +1,8 @@
 use Rattle.std.proofs.Common.{◌≡◌, ◌<◌, ◌+◌, length, drop, ap, ap₂, sym, ◌∙◌, arith}
 use Rattle.rd_brackets.specs.Sides.{n0_brackets_in}
-use Rattle.rd_levels.specs.Levels.{resolved, resolved_in, weak_in, neutral_in}
-use Rattle.rd_levels.proofs.Sequences.{resolved-step}
-use Rattle.rd_levels.proofs.fill.resolve.Goals as goal
+use Rattle.rd_levels.specs.Levels.{x10_resolved, resolved_in, weak_in, neutral_in}
+use Rattle.rd_levels.proofs.Sequences.{x10_resolved-step}
+use Rattle.rd_levels.proofs.fill.x10_resolve.Goals as goal
 
 pub loop-k-preserved : goal.loop-k-preserved
 loop-k-preserved c =
@@ -25,8 +25,8 @@ loop-k-preserved c =
     let given : c.neutral.new.line.types ≡ resolved_in entries classes codes levels s ts =
     c.neutral.ensures.types ∙ ap₂ (λ ls us. neutral_in ls s us) (c.pair.ensures.levels ∙ weak_levels) paired in
     record {
-      types = ap (resolved entries classes codes levels (drop (k + 1) found)) given
-          ∙ sym (resolved-step entries classes codes levels found k s ts within c.get-seq.ensures) ∙ inv.types;
+      types = ap (x10_resolved entries classes codes levels (drop (k + 1) found)) given
+          ∙ sym (x10_resolved-step entries classes codes levels found k s ts within c.get-seq.ensures) ∙ inv.types;
       levels = c.neutral.ensures.levels ∙ c.pair.ensures.levels ∙ weak_levels;
       keeps = record {
         classes = c.neutral.ensures.rest.classes ∙ c.pair.ensures.rest.classes ∙ weak_classes;
