@@ -11,6 +11,7 @@ mod moves;
 mod overlay;
 mod overlays;
 mod store;
+mod way;
 
 pub use fault::OverlayFault;
 pub use laws::{
