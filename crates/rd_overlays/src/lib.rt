@@ -20,3 +20,4 @@ pub use laws::{
 };
 pub use overlay::{Kind, Overlay};
 pub use overlays::Overlays;
+pub use way::Way;

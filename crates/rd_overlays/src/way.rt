@@ -4,9 +4,10 @@ ghost use Rattle.rd_overlays.specs.Overlays.{closer, nearer, is_on, reached};
 
 use rd_base::Pos;
 
-/// Which start or end is looked for: the next behind a position, or the last that is not behind it.
+/// Which start or end is looked for: the next behind a position, or the last up to it. The meaning of `next_edge` and of `last_edge`
+/// is one, and this is what differs.
 #[derive(Clone, Copy, Debug, PartialEq, Eq)]
-pub(crate) enum Way {
+pub enum Way {
     Next,
     Last,
 }
