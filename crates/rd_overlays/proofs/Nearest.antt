@@ -1,6 +1,6 @@
--- The least edge behind a position, over blocks that are passed over.
-use Rattle.std.proofs.Common.{◌≡◌, ℕ, zero, suc, ◌+◌, ◌-◌, ◌<◌, ◌≤◌, min, Bool, true, false, if◌then◌else◌, List, [], ◌∷◌, length, get_or, drop, Option, None, Some, refl, sym, ap, ◌∙◌, arith}
-use Rattle.std.specs.Prelude.{slice_get, nat_lt}
+-- The nearest edge from a position, over blocks that are passed over.
+use Rattle.std.proofs.Common.{◌≡◌, ℕ, zero, suc, ◌+◌, ◌-◌, ◌<◌, ◌≤◌, min, max, Bool, true, false, if◌then◌else◌, List, [], ◌∷◌, length, get_or, drop, Option, None, Some, refl, sym, ap, ◌∙◌, arith}
+use Rattle.std.specs.Prelude.{slice_get, nat_lt, nat_le}
 use Rattle.std.proofs.lemmas.Bool.Decides.{nat_tests}
 use Rattle.std.specs.List.{All}
 use Rattle.std.specs.List.Sorted.{IsPermutation}
@@ -9,116 +9,157 @@ use Rattle.std.proofs.lemmas.List.Sorted.{All-permutation, IsPermutation-sym}
 use Rattle.std.proofs.lemmas.Option.{slice_get-get_or}
 use Rattle.rd_overlays.specs.declared.overlay.Overlay.{Overlay}
 use Rattle.rd_overlays.specs.declared.bounds.Bounds.{Bounds}
-use Rattle.rd_overlays.specs.Overlays.{overlay_at, lesser, beyond, slot_edge, next_edge}
+use Rattle.rd_overlays.specs.declared.way.Way.{Way}
+use Rattle.rd_overlays.specs.declared.way.Way.TheVariants.{Next, Last}
+use Rattle.rd_overlays.specs.Overlays.{overlay_at, closer, nearer, is_on, reached, slot_edge, nearest_edge}
 use Rattle.rd_overlays.specs.Bounds.{SlotHolds}
 use Rattle.rd_overlays.specs.Listings.{edge_in}
 use Rattle.rd_overlays.proofs.Moving.{drop-from}
 
-pub lesser-none : (a : Option ℕ) → lesser a None ≡ a
-lesser-none None = refl
-lesser-none (Some x) = refl
+pub nearer-none : (way : Way) (a : Option ℕ) → nearer way a None ≡ a
+nearer-none way None = refl
+nearer-none way (Some x) = refl
 
-lesser-assoc : (a b c : Option ℕ) → lesser (lesser a b) c ≡ lesser a (lesser b c)
-lesser-assoc None b c = refl
-lesser-assoc (Some x) None c = refl
-lesser-assoc (Some x) (Some y) None = refl
-lesser-assoc (Some x) (Some y) (Some z) = let e : min (min x y) z ≡ min x (min y z) = omega arith in ap Some e
+closer-assoc : (way : Way) (x y z : ℕ) → closer way (closer way x y) z ≡ closer way x (closer way y z)
+closer-assoc Next x y z = omega arith
+closer-assoc Last x y z = omega arith
 
-not-beyond : (pos edge : ℕ) → edge ≤ pos → beyond pos edge ≡ None
-not-beyond pos edge p =
-    let e : nat_lt pos edge ≡ false = grind (arith, nat_tests) in
-    ap (λ (b : Bool). if b then Some edge else None) e
+closer-comm : (way : Way) (x y : ℕ) → closer way x y ≡ closer way y x
+closer-comm Next x y = omega arith
+closer-comm Last x y = omega arith
 
-pub none_behind : (pos : ℕ) (b : Bounds) (least : Option ℕ) (slot : Option Overlay) → b.high ≤ pos → SlotHolds b slot → lesser least (slot_edge pos slot) ≡ least
-none_behind pos b least None p h = lesser-none least
-none_behind pos b least (Some o) p h =
+closer-same : (way : Way) (x : ℕ) → closer way x x ≡ x
+closer-same Next x = omega arith
+closer-same Last x = omega arith
+
+nearer-assoc : (way : Way) (a b c : Option ℕ) → nearer way (nearer way a b) c ≡ nearer way a (nearer way b c)
+nearer-assoc way None b c = refl
+nearer-assoc way (Some x) None c = refl
+nearer-assoc way (Some x) (Some y) None = refl
+nearer-assoc way (Some x) (Some y) (Some z) = ap Some (closer-assoc way x y z)
+
+nearer-comm : (way : Way) (a b : Option ℕ) → nearer way a b ≡ nearer way b a
+nearer-comm way None b = sym (nearer-none way b)
+nearer-comm way (Some x) None = refl
+nearer-comm way (Some x) (Some y) = ap Some (closer-comm way x y)
+
+nearer-same : (way : Way) (a : Option ℕ) → nearer way a a ≡ a
+nearer-same way None = refl
+nearer-same way (Some x) = ap Some (closer-same way x)
+
+-- ---- what bounds tell
+
+off : (way : Way) (pos edge : ℕ) → is_on way pos edge ≡ false → reached way pos edge ≡ None
+off way pos edge e = ap (λ (b : Bool). if b then Some edge else None) e
+
+neither-on : (way : Way) (pos : ℕ) (nearest : Option ℕ) (o : Overlay) → is_on way pos o.from ≡ false → is_on way pos o.to ≡ false → nearer way nearest (slot_edge way pos (Some o)) ≡ nearest
+neither-on way pos nearest o from to =
+    ap (λ (e : Option ℕ). nearer way nearest (nearer way e (reached way pos o.to))) (off way pos o.from from)
+    ∙ (ap (λ (e : Option ℕ). nearer way nearest (nearer way None e)) (off way pos o.to to) ∙ nearer-none way nearest)
+
+pub none_ahead : (pos : ℕ) (b : Bounds) (least : Option ℕ) (slot : Option Overlay) → b.high ≤ pos → SlotHolds b slot → nearer Next least (slot_edge Next pos slot) ≡ least
+none_ahead pos b least None p h = nearer-none Next least
+none_ahead pos b least (Some o) p h =
     let from_high = h.from_high in
     let to_high = h.to_high in
-    let from = not-beyond pos o.from (omega arith) in
-    let to = not-beyond pos o.to (omega arith) in
-    ap (λ (e : Option ℕ). lesser least (lesser e (beyond pos o.to))) from
-    ∙ (ap (λ (e : Option ℕ). lesser least (lesser None e)) to ∙ lesser-none least)
+    let from : nat_lt pos o.from ≡ false = grind (arith, nat_tests) in
+    let to : nat_lt pos o.to ≡ false = grind (arith, nat_tests) in
+    neither-on Next pos least o from to
 
-as_low : (x from to : ℕ) (a b : Bool) → x ≤ from → x ≤ to → lesser (Some x) (lesser (if a then Some from else None) (if b then Some to else None)) ≡ Some x
-as_low x from to true true p q = let e : min x (min from to) ≡ x = omega arith in ap Some e
-as_low x from to true false p q = let e : min x from ≡ x = omega arith in ap Some e
-as_low x from to false true p q = let e : min x to ≡ x = omega arith in ap Some e
-as_low x from to false false p q = refl
+pub none_back : (pos : ℕ) (b : Bounds) (greatest : Option ℕ) (slot : Option Overlay) → pos < b.low → SlotHolds b slot → nearer Last greatest (slot_edge Last pos slot) ≡ greatest
+none_back pos b greatest None p h = nearer-none Last greatest
+none_back pos b greatest (Some o) p h =
+    let low_from = h.low_from in
+    let low_to = h.low_to in
+    let from : nat_le o.from pos ≡ false = grind (arith, nat_tests) in
+    let to : nat_le o.to pos ≡ false = grind (arith, nat_tests) in
+    neither-on Last pos greatest o from to
 
-pub none_lesser : (pos x : ℕ) (b : Bounds) (slot : Option Overlay) → x ≤ b.low → SlotHolds b slot → lesser (Some x) (slot_edge pos slot) ≡ Some x
+-- two edges of which neither is closer than a place
+stays : (way : Way) (x from to : ℕ) (a b : Bool) → closer way x from ≡ x → closer way x to ≡ x → nearer way (Some x) (nearer way (if a then Some from else None) (if b then Some to else None)) ≡ Some x
+stays way x from to true true p q = ap Some (sym (closer-assoc way x from to) ∙ (ap (λ (k : ℕ). closer way k to) p ∙ q))
+stays way x from to true false p q = ap Some p
+stays way x from to false true p q = ap Some q
+stays way x from to false false p q = refl
+
+pub none_lesser : (pos x : ℕ) (b : Bounds) (slot : Option Overlay) → x ≤ b.low → SlotHolds b slot → nearer Next (Some x) (slot_edge Next pos slot) ≡ Some x
 none_lesser pos x b None p h = refl
 none_lesser pos x b (Some o) p h =
     let low_from = h.low_from in
     let low_to = h.low_to in
-    as_low x o.from o.to (nat_lt pos o.from) (nat_lt pos o.to) (omega arith) (omega arith)
+    stays Next x o.from o.to (nat_lt pos o.from) (nat_lt pos o.to) (omega arith) (omega arith)
 
-lesser-comm : (a b : Option ℕ) → lesser a b ≡ lesser b a
-lesser-comm None b = sym (lesser-none b)
-lesser-comm (Some x) None = refl
-lesser-comm (Some x) (Some y) = let e : min x y ≡ min y x = omega arith in ap Some e
+pub none_greater : (pos x : ℕ) (b : Bounds) (slot : Option Overlay) → b.high ≤ x → SlotHolds b slot → nearer Last (Some x) (slot_edge Last pos slot) ≡ Some x
+none_greater pos x b None p h = refl
+none_greater pos x b (Some o) p h =
+    let from_high = h.from_high in
+    let to_high = h.to_high in
+    stays Last x o.from o.to (nat_le o.from pos) (nat_le o.to pos) (omega arith) (omega arith)
 
-lesser-same : (a : Option ℕ) → lesser a a ≡ a
-lesser-same None = refl
-lesser-same (Some x) = let e : min x x ≡ x = omega arith in ap Some e
+-- ---- the order of the overlays says nothing for their nearest edge
 
--- no edge of these stands before the first
-abbrev NoneBefore : ℕ → Option ℕ → Option Overlay → Type 0
-NoneBefore pos least slot = lesser least (slot_edge pos slot) ≡ least
+-- no edge of these is nearer than the first
+abbrev NoneNearer : Way → ℕ → Option ℕ → Option Overlay → Type 0
+NoneNearer way pos nearest slot = nearer way nearest (slot_edge way pos slot) ≡ nearest
 
-still-none : (pos : ℕ) (a f : Option ℕ) (slot : Option Overlay) → NoneBefore pos f slot → NoneBefore pos (lesser a f) slot
-still-none pos a f slot e = lesser-assoc a f (slot_edge pos slot) ∙ ap (lesser a) e
+module _ (way : Way) (pos : ℕ) where
+  still-none : (a f : Option ℕ) (slot : Option Overlay) → NoneNearer way pos f slot → NoneNearer way pos (nearer way a f) slot
+  still-none a f slot e = nearer-assoc way a f (slot_edge way pos slot) ∙ ap (nearer way a) e
 
-none-first : (a f : Option ℕ) → lesser (lesser a f) a ≡ lesser a f
-none-first a f = lesser-assoc a f a ∙ (ap (lesser a) (lesser-comm f a) ∙ (sym (lesser-assoc a a f) ∙ ap (λ (e : Option ℕ). lesser e f) (lesser-same a)))
+  none-first : (a f : Option ℕ) → nearer way (nearer way a f) a ≡ nearer way a f
+  none-first a f =
+      nearer-assoc way a f a
+      ∙ (ap (nearer way a) (nearer-comm way f a) ∙ (sym (nearer-assoc way a a f) ∙ ap (λ (e : Option ℕ). nearer way e f) (nearer-same way a)))
 
-least-of : (pos : ℕ) (slots : List (Option Overlay)) → All (NoneBefore pos (next_edge pos slots)) slots
-least-of pos [] = All-nil (NoneBefore pos None)
-least-of pos (s ∷ ss) =
-    let whole = lesser (slot_edge pos s) (next_edge pos ss) in
-    All-cons (NoneBefore pos whole) s ss (none-first (slot_edge pos s) (next_edge pos ss))
-    (All-weaker (NoneBefore pos (next_edge pos ss)) (NoneBefore pos whole) (still-none pos (slot_edge pos s) (next_edge pos ss)) ss (least-of pos ss))
+  nearest-of : (slots : List (Option Overlay)) → All (NoneNearer way pos (nearest_edge way pos slots)) slots
+  nearest-of [] = All-nil (NoneNearer way pos None)
+  nearest-of (s ∷ ss) =
+      let whole = nearer way (slot_edge way pos s) (nearest_edge way pos ss) in
+      All-cons (NoneNearer way pos whole) s ss (none-first (slot_edge way pos s) (nearest_edge way pos ss))
+      (All-weaker (NoneNearer way pos (nearest_edge way pos ss)) (NoneNearer way pos whole) (still-none (slot_edge way pos s) (nearest_edge way pos ss)) ss (nearest-of ss))
 
-below-least : (pos : ℕ) (least : Option ℕ) (slots : List (Option Overlay)) → All (NoneBefore pos least) slots → lesser least (next_edge pos slots) ≡ least
-below-least pos least [] h = lesser-none least
-below-least pos least (s ∷ ss) h =
-    sym (lesser-assoc least (slot_edge pos s) (next_edge pos ss))
-    ∙ (ap (λ (e : Option ℕ). lesser e (next_edge pos ss)) (All-head (NoneBefore pos least) s ss h)
-    ∙ below-least pos least ss (All-tail (NoneBefore pos least) s ss h))
+  past-nearest : (nearest : Option ℕ) (slots : List (Option Overlay)) → All (NoneNearer way pos nearest) slots → nearer way nearest (nearest_edge way pos slots) ≡ nearest
+  past-nearest nearest [] h = nearer-none way nearest
+  past-nearest nearest (s ∷ ss) h =
+      sym (nearer-assoc way nearest (slot_edge way pos s) (nearest_edge way pos ss))
+      ∙ (ap (λ (e : Option ℕ). nearer way e (nearest_edge way pos ss)) (All-head (NoneNearer way pos nearest) s ss h)
+      ∙ past-nearest nearest ss (All-tail (NoneNearer way pos nearest) s ss h))
 
--- the order of the overlays says nothing for their least edge
-pub same-edge : (pos : ℕ) (xs ys : List (Option Overlay)) → IsPermutation xs ys → next_edge pos ys ≡ next_edge pos xs
-same-edge pos xs ys h =
-    let a = next_edge pos xs in
-    let b = next_edge pos ys in
-    let ab = below-least pos a ys (All-permutation (NoneBefore pos a) xs ys h (least-of pos xs)) in
-    let ba = below-least pos b xs (All-permutation (NoneBefore pos b) ys xs (IsPermutation-sym xs ys h) (least-of pos ys)) in
-    sym ba ∙ (lesser-comm b a ∙ ab)
+  pub same-edge : (xs ys : List (Option Overlay)) → IsPermutation xs ys → nearest_edge way pos ys ≡ nearest_edge way pos xs
+  same-edge xs ys h =
+      let a = nearest_edge way pos xs in
+      let b = nearest_edge way pos ys in
+      let ab = past-nearest a ys (All-permutation (NoneNearer way pos a) xs ys h (nearest-of xs)) in
+      let ba = past-nearest b xs (All-permutation (NoneNearer way pos b) ys xs (IsPermutation-sym xs ys h) (nearest-of ys)) in
+      sym ba ∙ (nearer-comm way b a ∙ ab)
 
-pub one_more : (pos n : ℕ) (s : List (Option Overlay)) (numbers : List ℕ) (k : ℕ) (least new : Option ℕ) → slice_get numbers n ≡ Some k
-    → new ≡ lesser least (slot_edge pos (overlay_at s k)) → lesser new (edge_in pos s (drop (n + 1) numbers)) ≡ lesser least (edge_in pos s (drop n numbers))
-one_more pos n s numbers k least new at is =
-    let rest = edge_in pos s (drop (n + 1) numbers) in
-    ap (λ (e : Option ℕ). lesser e rest) is
-    ∙ (lesser-assoc least (slot_edge pos (overlay_at s k)) rest
-    ∙ ap (lesser least) (sym (ap (edge_in pos s) (drop-from numbers n k at))))
+  -- ---- a search along an order of the overlays
 
-skip-by : (pos : ℕ) (s : List (Option Overlay)) (numbers : List ℕ) (least : Option ℕ) (d n i : ℕ) → i ≡ d + n → i ≤ length numbers
-    → ((j k : ℕ) → n ≤ j → j < i → slice_get numbers j ≡ Some k → lesser least (slot_edge pos (overlay_at s k)) ≡ least)
-    → lesser least (edge_in pos s (drop i numbers)) ≡ lesser least (edge_in pos s (drop n numbers))
-skip-by pos s numbers least zero n i e within idle =
-    let q : i ≡ n = omega arith in
-    ap (λ (k : ℕ). lesser least (edge_in pos s (drop k numbers))) q
-skip-by pos s numbers least (suc d) n i e within idle =
-    let p : n < length numbers = omega arith in
-    let here : n < i = omega arith in
-    let next : i ≡ d + (n + 1) = omega arith in
-    let at = slice_get-get_or numbers n 0 p in
-    skip-by pos s numbers least d (n + 1) i next within (λ j k low high is. idle j k (omega arith) high is)
-    ∙ one_more pos n s numbers (get_or numbers n 0) least least at (sym (idle n (get_or numbers n 0) (omega arith) here at))
+  pub one_more : (n : ℕ) (s : List (Option Overlay)) (numbers : List ℕ) (k : ℕ) (nearest new : Option ℕ) → slice_get numbers n ≡ Some k
+      → new ≡ nearer way nearest (slot_edge way pos (overlay_at s k)) → nearer way new (edge_in way pos s (drop (n + 1) numbers)) ≡ nearer way nearest (edge_in way pos s (drop n numbers))
+  one_more n s numbers k nearest new at is =
+      let rest = edge_in way pos s (drop (n + 1) numbers) in
+      ap (λ (e : Option ℕ). nearer way e rest) is
+      ∙ (nearer-assoc way nearest (slot_edge way pos (overlay_at s k)) rest
+      ∙ ap (nearer way nearest) (sym (ap (edge_in way pos s) (drop-from numbers n k at))))
 
-pub skipped : (pos : ℕ) (s : List (Option Overlay)) (numbers : List ℕ) (least : Option ℕ) (n i : ℕ) → n ≤ i → i ≤ length numbers
-    → ((j k : ℕ) → n ≤ j → j < i → slice_get numbers j ≡ Some k → lesser least (slot_edge pos (overlay_at s k)) ≡ least)
-    → lesser least (edge_in pos s (drop i numbers)) ≡ lesser least (edge_in pos s (drop n numbers))
-skipped pos s numbers least n i p within idle =
-    let e : i ≡ (i - n) + n = omega arith in
-    skip-by pos s numbers least (i - n) n i e within idle
+  skip-by : (s : List (Option Overlay)) (numbers : List ℕ) (nearest : Option ℕ) (d n i : ℕ) → i ≡ d + n → i ≤ length numbers
+      → ((j k : ℕ) → n ≤ j → j < i → slice_get numbers j ≡ Some k → NoneNearer way pos nearest (overlay_at s k))
+      → nearer way nearest (edge_in way pos s (drop i numbers)) ≡ nearer way nearest (edge_in way pos s (drop n numbers))
+  skip-by s numbers nearest zero n i e within idle =
+      let q : i ≡ n = omega arith in
+      ap (λ (k : ℕ). nearer way nearest (edge_in way pos s (drop k numbers))) q
+  skip-by s numbers nearest (suc d) n i e within idle =
+      let p : n < length numbers = omega arith in
+      let here : n < i = omega arith in
+      let next : i ≡ d + (n + 1) = omega arith in
+      let at = slice_get-get_or numbers n 0 p in
+      skip-by s numbers nearest d (n + 1) i next within (λ j k low high is. idle j k (omega arith) high is)
+      ∙ one_more n s numbers (get_or numbers n 0) nearest nearest at (sym (idle n (get_or numbers n 0) (omega arith) here at))
+
+  pub skipped : (s : List (Option Overlay)) (numbers : List ℕ) (nearest : Option ℕ) (n i : ℕ) → n ≤ i → i ≤ length numbers
+      → ((j k : ℕ) → n ≤ j → j < i → slice_get numbers j ≡ Some k → NoneNearer way pos nearest (overlay_at s k))
+      → nearer way nearest (edge_in way pos s (drop i numbers)) ≡ nearer way nearest (edge_in way pos s (drop n numbers))
+  skipped s numbers nearest n i p within idle =
+      let e : i ≡ (i - n) + n = omega arith in
+      skip-by s numbers nearest (i - n) n i e within idle

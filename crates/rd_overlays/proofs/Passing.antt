@@ -8,7 +8,8 @@ use Rattle.std.proofs.lemmas.List.Sorted.{IsPermutation-append_left, IsPermutati
 use Rattle.std.proofs.lemmas.Option.{slice_get-get_or}
 use Rattle.rd_overlays.specs.declared.overlay.Overlay.{Overlay}
 use Rattle.rd_overlays.specs.declared.bounds.Bounds.{Bounds}
-use Rattle.rd_overlays.specs.Overlays.{live, overlay_at, next_edge}
+use Rattle.rd_overlays.specs.declared.way.Way.{Way}
+use Rattle.rd_overlays.specs.Overlays.{live, overlay_at, nearest_edge}
 use Rattle.rd_overlays.specs.Listings.{edge_in}
 use Rattle.rd_overlays.specs.Bounds.{passed, IsBounded, IsIndex}
 use Rattle.rd_overlays.proofs.Bounding.{slice_get-front}
@@ -94,13 +95,13 @@ all-by all a (s ∷ rest) e =
     ap (λ (o : Option Overlay). o ∷ map (overlay_at all) (range_with_len (a + 1) (length rest))) (ap live at)
     ∙ ap (λ (os : List (Option Overlay)). s ∷ os) (all-by all (a + 1) rest next)
 
-pub edge-of_all : (pos : ℕ) (slots : List (Option Overlay)) (order : List ℕ) → length order ≤ length slots → IsPermutation (range_with_len 0 (length order)) order
-    → edge_in pos slots (passed order (length slots)) ≡ next_edge pos slots
-edge-of_all pos slots order size whole =
+pub edge-of_all : (way : Way) (pos : ℕ) (slots : List (Option Overlay)) (order : List ℕ) → length order ≤ length slots → IsPermutation (range_with_len 0 (length order)) order
+    → edge_in way pos slots (passed order (length slots)) ≡ nearest_edge way pos slots
+edge-of_all way pos slots order size whole =
     let numbers = range_with_len 0 (length slots) in
     let now = passed order (length slots) in
     let shuffled = IsPermutation-map (overlay_at slots) numbers now (passed-whole slots order size whole) in
-    same-edge pos (map (overlay_at slots) numbers) (map (overlay_at slots) now) shuffled ∙ ap (next_edge pos) (all-by slots 0 slots refl)
+    same-edge way pos (map (overlay_at slots) numbers) (map (overlay_at slots) now) shuffled ∙ ap (nearest_edge way pos) (all-by slots 0 slots refl)
 
 pub built-index : (slots : List (Option Overlay)) (numbers sorted order : List ℕ) (bounds : List Bounds) → numbers ≡ range_with_len 0 (length slots)
     → IsPermutation numbers sorted → order ≡ sorted → IsBounded slots order bounds → IsIndex slots order bounds

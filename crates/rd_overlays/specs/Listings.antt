@@ -3,7 +3,8 @@ use Rattle.std.specs.Prelude.{◌≡◌, ℕ, ℤ, suc, ◌<◌, ◌↔◌, Bool
 use Rattle.std.specs.List.{Contains}
 use Rattle.rd_overlays.specs.declared.overlay.Overlay.{Overlay}
 use Rattle.rd_overlays.specs.declared.listing.Rank.{Rank}
-use Rattle.rd_overlays.specs.Overlays.{overlay_at, precedes, next_edge}
+use Rattle.rd_overlays.specs.declared.way.Way.{Way}
+use Rattle.rd_overlays.specs.Overlays.{overlay_at, precedes, nearest_edge}
 
 abbrev pub Passes : (Overlay → Bool) → Option Overlay → Type 0
 Passes test None = ⊥
@@ -43,6 +44,6 @@ abbrev pub found_in : (Overlay → Bool) → List (Option Overlay) → List ℕ 
 found_in test slots [] = []
 found_in test slots (number ∷ numbers) = found_in test slots numbers ++ rank_at test number (overlay_at slots number)
 
--- the least edge of the overlays of these numbers behind a position
-abbrev pub edge_in : ℕ → List (Option Overlay) → List ℕ → Option ℕ
-edge_in pos slots numbers = next_edge pos (map (overlay_at slots) numbers)
+-- the nearest edge of the overlays of these numbers on the way from a position
+abbrev pub edge_in : Way → ℕ → List (Option Overlay) → List ℕ → Option ℕ
+edge_in way pos slots numbers = nearest_edge way pos (map (overlay_at slots) numbers)

@@ -1,5 +1,5 @@
 -- The overlays of a buffer as a list: each stands at its number, and nothing stands where one was dropped.
-use Rattle.std.specs.Prelude.{◌≡◌, ℕ, suc, ◌+◌, ◌-◌, ◌<◌, ◌≤◌, min, ℤ, nat_le, nat_lt, ◌==◌, Bool, ◌&&◌, ◌||◌, if◌then◌else◌, is_some, List, [], ◌∷◌, ◌++◌, length, map, replicate, slice_get, slice_set, Option, None, Some, Result, Ok, Err, ⊤}
+use Rattle.std.specs.Prelude.{◌≡◌, ℕ, suc, ◌+◌, ◌-◌, ◌<◌, ◌≤◌, min, max, ℤ, nat_le, nat_lt, ◌==◌, Bool, ◌&&◌, ◌||◌, if◌then◌else◌, is_some, List, [], ◌∷◌, ◌++◌, length, map, replicate, slice_get, slice_set, Option, None, Some, Result, Ok, Err, ⊤}
 use Rattle.std.specs.Ordering.{is_lt, ordering_then, int_cmp, nat_cmp}
 use Rattle.rd_base.specs.declared.limits.TheConstants.{OVERLAYS}
 use Rattle.rd_overlays.specs.declared.fault.OverlayFault.{OverlayFault}
@@ -10,6 +10,8 @@ use Rattle.rd_overlays.specs.declared.overlay.Kind.TheVariants.{Face, Display, I
 use Rattle.rd_overlays.specs.declared.overlay.Meeting.{Meeting}
 use Rattle.rd_overlays.specs.declared.overlay.Meeting.TheVariants.{Covers, Starts, Ends}
 use Rattle.rd_overlays.specs.declared.listing.Rank.{Rank}
+use Rattle.rd_overlays.specs.declared.way.Way.{Way}
+use Rattle.rd_overlays.specs.declared.way.Way.TheVariants.{Next, Last}
 
 abbrev pub live : Option (Option Overlay) → Option Overlay
 live (Some slot) = slot
@@ -129,23 +131,42 @@ starting pos slots = numbers_of (starts pos) slots
 abbrev pub ending : ℕ → List (Option Overlay) → List ℕ
 ending pos slots = numbers_of (ends pos) slots
 
-abbrev pub lesser : Option ℕ → Option ℕ → Option ℕ
-lesser None b = b
-lesser (Some x) None = Some x
-lesser (Some x) (Some y) = Some (min x y)
+-- the closer of two places on the way to an edge: on the way to the next the lesser, and back to the last the greater
+abbrev pub closer : Way → ℕ → ℕ → ℕ
+closer Next x y = min x y
+closer Last x y = max x y
 
--- an edge where it stands after a position
-abbrev pub beyond : ℕ → ℕ → Option ℕ
-beyond pos edge = if nat_lt pos edge then Some edge else None
+-- the same where they may be missing
+abbrev pub nearer : Way → Option ℕ → Option ℕ → Option ℕ
+nearer way None b = b
+nearer way (Some x) None = Some x
+nearer way (Some x) (Some y) = Some (closer way x y)
 
-abbrev pub slot_edge : ℕ → Option Overlay → Option ℕ
-slot_edge pos None = None
-slot_edge pos (Some overlay) = lesser (beyond pos overlay.from) (beyond pos overlay.to)
+-- a place stands on the way from a position: behind it, or on the way back not behind it
+abbrev pub is_on : Way → ℕ → ℕ → Bool
+is_on Next pos place = nat_lt pos place
+is_on Last pos place = nat_le place pos
+
+-- an edge where it stands on the way
+abbrev pub reached : Way → ℕ → ℕ → Option ℕ
+reached way pos edge = if is_on way pos edge then Some edge else None
+
+abbrev pub slot_edge : Way → ℕ → Option Overlay → Option ℕ
+slot_edge way pos None = None
+slot_edge way pos (Some overlay) = nearer way (reached way pos overlay.from) (reached way pos overlay.to)
+
+-- the nearest start or end on the way from a position
+abbrev pub nearest_edge : Way → ℕ → List (Option Overlay) → Option ℕ
+nearest_edge way pos [] = None
+nearest_edge way pos (slot ∷ slots) = nearer way (slot_edge way pos slot) (nearest_edge way pos slots)
 
 -- the least start or end after a position
 abbrev pub next_edge : ℕ → List (Option Overlay) → Option ℕ
-next_edge pos [] = None
-next_edge pos (slot ∷ slots) = lesser (slot_edge pos slot) (next_edge pos slots)
+next_edge pos slots = nearest_edge Next pos slots
+
+-- the greatest start or end at a position or before it
+abbrev pub last_edge : ℕ → List (Option Overlay) → Option ℕ
+last_edge pos slots = nearest_edge Last pos slots
 
 -- where a start or an end stands after an insertion of n characters: one behind the position moves, and one at it where it is told to
 abbrev pub after_insertion : ℕ → ℕ → Bool → ℕ → ℕ

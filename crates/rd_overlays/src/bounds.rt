@@ -1,10 +1,12 @@
 //! Bounds of the edges of some overlays.
 ghost use Rattle.std.specs.Prelude.{◌≡◌, Option, ◌≤◌, IsTrue};
 ghost use Rattle.rd_overlays.specs.declared.overlay.Overlay.{Overlay};
-ghost use Rattle.rd_overlays.specs.Overlays.{lesser, slot_edge};
+ghost use Rattle.rd_overlays.specs.Overlays.{nearer, slot_edge};
+ghost use Rattle.rd_overlays.specs.declared.way.Way.TheVariants.{Next, Last};
 ghost use Rattle.rd_overlays.specs.Bounds.{SlotHolds, bounds_grown, bounds_shrunk};
 
 use crate::overlay::{Overlay, after_deletion};
+use crate::way::Way;
 use rd_base::Pos;
 
 /// The least and the greatest place where a start or an end of some overlays can stand.
@@ -56,9 +58,19 @@ pub(crate) fn bounds_shrunk(from: Pos, to: Pos, bounds: Bounds) -> Bounds
     }
 }
 
-/// Whether none of the overlays within the bounds has an edge that stands behind a position and before the least so far.
-pub(crate) fn has_no_lesser_edge(bounds: Bounds, pos: Pos, least: Option<Pos>) -> bool
-    ensures { IsTrue result → (slot : Option Overlay) → SlotHolds bounds slot → lesser least (slot_edge pos slot) ≡ least }
+/// Whether none of the overlays within the bounds has an edge on the way from a position that is nearer than the nearest so far.
+pub(crate) fn has_no_nearer_edge(bounds: Bounds, way: Way, pos: Pos, nearest: Option<Pos>) -> bool
+    ensures { IsTrue result → (slot : Option Overlay) → SlotHolds bounds slot → nearer way nearest (slot_edge way pos slot) ≡ nearest }
+{
+    match way {
+        Way::Next => has_no_edge_ahead(bounds, pos, nearest),
+        Way::Last => has_no_edge_back(bounds, pos, nearest),
+    }
+}
+
+/// The same on the way to the next edge.
+fn has_no_edge_ahead(bounds: Bounds, pos: Pos, least: Option<Pos>) -> bool
+    ensures { IsTrue result → (slot : Option Overlay) → SlotHolds bounds slot → nearer Next least (slot_edge Next pos slot) ≡ least }
 {
     if bounds.high <= pos {
         return true;
@@ -66,5 +78,18 @@ pub(crate) fn has_no_lesser_edge(bounds: Bounds, pos: Pos, least: Option<Pos>) -
     match least {
         None => false,
         Some(edge) => edge <= bounds.low,
+    }
+}
+
+/// The same on the way back to the last edge.
+fn has_no_edge_back(bounds: Bounds, pos: Pos, greatest: Option<Pos>) -> bool
+    ensures { IsTrue result → (slot : Option Overlay) → SlotHolds bounds slot → nearer Last greatest (slot_edge Last pos slot) ≡ greatest }
+{
+    if pos < bounds.low {
+        return true;
+    }
+    match greatest {
+        None => false,
+        Some(edge) => bounds.high <= edge,
     }
 }

@@ -6,8 +6,9 @@ ghost use Rattle.rd_overlays.specs.declared.overlay.Overlay.{Overlay};
 ghost use Rattle.rd_overlays.specs.declared.bounds.Bounds.{Bounds};
 ghost use Rattle.rd_overlays.specs.Bounds.{SlotHolds, IsBounded, IsBoundedTo, IsIndex, IsWidened};
 
-use crate::bounds::{Bounds, has_no_lesser_edge, widened};
+use crate::bounds::{Bounds, has_no_nearer_edge, widened};
 use crate::overlay::{Overlay, overlay_at};
+use crate::way::Way;
 use rd_base::limits::OVERLAYS;
 use rd_base::{ListOf, Memory, Pos};
 use std::alloc::Global;
@@ -27,7 +28,7 @@ pub(crate) struct Index {
 impl Index {
     ghost use Rattle.std.specs.Prelude.{◌≡◌, ℕ, ◌<◌, ◌≤◌, ◌*◌, [], List, Option, Some, length, slice_get};
     ghost use Rattle.rd_overlays.specs.declared.overlay.Overlay.{Overlay};
-    ghost use Rattle.rd_overlays.specs.Overlays.{overlay_at, lesser, slot_edge};
+    ghost use Rattle.rd_overlays.specs.Overlays.{overlay_at, nearer, slot_edge};
     ghost use Rattle.rd_overlays.specs.Bounds.{IsAway, IsBounded, passed};
 
     /// The index of no overlay.
@@ -85,18 +86,18 @@ impl Index {
         place
     }
 
-    /// The place up to which a search for an edge behind a position, before the least so far, can go at once.
-    pub(crate) fn skip_edges(&self, place: usize, pos: Pos, least: Option<Pos>) -> usize
+    /// The place up to which a search for an edge that is nearer to a position than the nearest so far can go at once.
+    pub(crate) fn skip_edges(&self, place: usize, way: Way, pos: Pos, nearest: Option<Pos>) -> usize
         requires { length self.now.order ≤ length self.now.bounds * 256 }
         ensures low { place ≤ result }
         ensures high { place < result → result ≤ length self.now.order }
-        ensures idle { (slots : List (Option Overlay)) (k number : ℕ) → IsBounded slots self.now.order self.now.bounds → place ≤ k → k < result → slice_get (passed self.now.order (length slots)) k ≡ Some number → lesser least (slot_edge pos (overlay_at slots number)) ≡ least }
+        ensures idle { (slots : List (Option Overlay)) (k number : ℕ) → IsBounded slots self.now.order self.now.bounds → place ≤ k → k < result → slice_get (passed self.now.order (length slots)) k ≡ Some number → nearer way nearest (slot_edge way pos (overlay_at slots number)) ≡ nearest }
     {
         if self.order.len() <= place {
             return place;
         }
         let block = place / BLOCK;
-        if has_no_lesser_edge(self.bounds.at(block), pos, least) {
+        if has_no_nearer_edge(self.bounds.at(block), way, pos, nearest) {
             return self.order.len().min((block * BLOCK).saturating_add(BLOCK));
         }
         place

@@ -1,7 +1,7 @@
 //! Laws of the definitions, for the layers above.
 ghost use Rattle.std.specs.Prelude.{ℕ, ◌≡◌, ◌≤◌, Bool, true, false, ℤ, pos, ◌∷◌, [], List, Option, Some, None};
 ghost use Rattle.rd_overlays.specs.declared.overlay.Overlay.{Overlay};
-ghost use Rattle.rd_overlays.specs.Overlays.{overlay_at, new_overlay, grown, shrunk, numbers_of, covering, starting, ending, next_edge};
+ghost use Rattle.rd_overlays.specs.Overlays.{overlay_at, new_overlay, grown, shrunk, numbers_of, covering, starting, ending, next_edge, last_edge};
 ghost use Rattle.rd_overlays.specs.Listings.{HoldsExactly, Ascends, listed_priority};
 
 /// Every edit leaves a start that isn't behind its end. The call does nothing.
@@ -27,6 +27,7 @@ pub fn overlays_that_meet()
     ensures starting { starting 2 (Some (new_overlay 1 2 (pos 1) false false) ∷ None ∷ Some (new_overlay 2 3 (pos 1) false false) ∷ Some (new_overlay 2 3 (pos 1) false false) ∷ Some (new_overlay 2 2 (pos 0) false false) ∷ []) ≡ 4 ∷ 2 ∷ 3 ∷ [] }
     ensures ending { ending 2 (Some (new_overlay 1 2 (pos 1) false false) ∷ Some (new_overlay 1 2 (pos 2) false false) ∷ Some (new_overlay 2 3 (pos 1) false false) ∷ Some (new_overlay 2 2 (pos 0) false false) ∷ []) ≡ 3 ∷ 0 ∷ 1 ∷ [] }
     ensures next { next_edge 2 (Some (new_overlay 1 2 (pos 1) false false) ∷ None ∷ Some (new_overlay 2 7 (pos 1) false false) ∷ Some (new_overlay 5 9 (pos 1) false false) ∷ []) ≡ Some 5 }
+    ensures last { last_edge 4 (Some (new_overlay 1 2 (pos 1) false false) ∷ None ∷ Some (new_overlay 2 7 (pos 1) false false) ∷ Some (new_overlay 5 9 (pos 1) false false) ∷ []) ≡ Some 2 }
 {}
 
 /// A listing of the overlays that pass a test, as those that cover a position, start there or end there, holds exactly the

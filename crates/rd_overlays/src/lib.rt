@@ -11,6 +11,7 @@ mod moves;
 mod overlay;
 mod overlays;
 mod store;
+mod way;
 
 pub use fault::OverlayFault;
 pub use laws::{
@@ -19,3 +20,4 @@ pub use laws::{
 };
 pub use overlay::{Kind, Overlay};
 pub use overlays::Overlays;
+pub use way::Way;

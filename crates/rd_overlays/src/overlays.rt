@@ -1,9 +1,10 @@
 //! All overlays of a buffer.
-use crate::edges::next_edge;
+use crate::edges::nearest_edge;
 use crate::fault::OverlayFault;
 use crate::listing::listed;
 use crate::overlay::{Kind, Meeting, Overlay, overlay_at};
 use crate::store::Store;
+use crate::way::Way;
 use rd_base::limits::OVERLAYS;
 use rd_base::{ListOf, Memory, Pos};
 use std::alloc::Global;
@@ -37,7 +38,7 @@ impl Model for Overlays {
 impl Overlays {
     ghost use Rattle.std.specs.Prelude.{◌≡◌, ◌≤◌, ◌++◌, ◌∷◌, [], length, map, Some, None, IfOk, MatchOption};
     ghost use Rattle.rd_base.specs.declared.limits.TheConstants.{OVERLAYS};
-    ghost use Rattle.rd_overlays.specs.Overlays.{overlay_at, new_overlay, make_fault, number_fault, move_fault, dropped, moved, given, Makes, Moves, Answers, covering, starting, ending, next_edge, AllFit, slot_grown, slot_shrunk};
+    ghost use Rattle.rd_overlays.specs.Overlays.{overlay_at, new_overlay, make_fault, number_fault, move_fault, dropped, moved, given, Makes, Moves, Answers, covering, starting, ending, next_edge, last_edge, AllFit, slot_grown, slot_shrunk};
 
     /// No overlay.
     pub fn new(alloc: Global) -> Result<Overlays, Memory>
@@ -185,7 +186,16 @@ impl Overlays {
     pub fn next_edge(&self, pos: Pos) -> Option<Pos>
         ensures { result ≡ next_edge pos self.now }
     {
-        next_edge(&self.slots, pos)
+        nearest_edge(&self.slots, Way::Next, pos)
+    }
+
+    /// The greatest start or end at a position or before it, and None where there is none. Costs a pass over the bounds of all
+    /// blocks, over each block in which a start or an end may stand there and behind the greatest of the blocks so far, and over
+    /// the overlays in no block.
+    pub fn last_edge(&self, pos: Pos) -> Option<Pos>
+        ensures { result ≡ last_edge pos self.now }
+    {
+        nearest_edge(&self.slots, Way::Last, pos)
     }
 
     /// Moves the overlays with `n` characters that were inserted at a position. A start or an end behind the position moves; a

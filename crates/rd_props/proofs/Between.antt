@@ -1,5 +1,5 @@
--- Between a position and its next stop nothing changes.
-use Rattle.std.proofs.Common.{◌≡◌, ◌⊎◌, inl, inr, ℕ, ◌<◌, ◌≤◌, Bool, true, false, if◌then◌else◌, List, [], Option, None, Some, refl, ap, arith}
+-- Between a position and its next stop nothing changes, nor from the last stop up to a position.
+use Rattle.std.proofs.Common.{◌≡◌, ◌⊎◌, inl, inr, ℕ, ◌+◌, ◌<◌, ◌≤◌, Bool, true, false, if◌then◌else◌, List, [], Option, None, Some, refl, sym, ap, ◌∙◌, arith}
 use Rattle.std.specs.Prelude.{nat_lt}
 use Rattle.std.proofs.lemmas.Bool.Decides.{nat_tests}
 use Rattle.rd_overlays.specs.declared.overlay.Overlay.{Overlay}
@@ -9,7 +9,7 @@ use Rattle.rd_overlays.specs.Overlays.{overlay_at, place_of, covers, starts, end
 use Rattle.rd_overlays.specs.Listings.{listed_priority}
 use Rattle.rd_objects.specs.Things.{ObjectLists}
 use Rattle.rd_props.specs.Buffers.{BufferValue}
-use Rattle.rd_props.specs.Stops.{IsNextStop, LookAlike}
+use Rattle.rd_props.specs.Stops.{AreSame, HasEdge, IsNextStop, IsLastStop, LookAlike}
 use Rattle.rd_props.specs.Values.{effective}
 use Rattle.rd_props.specs.Faces.{face_at}
 use Rattle.rd_props.specs.Strings.{strings_at}
@@ -41,7 +41,14 @@ ends-not q o differs = grind (arith, nat_tests)
 below : (a b : ℕ) → a < b → nat_lt a b ≡ true
 below a b less = grind (arith, nat_tests)
 
-module _ (agree : ListingsAgree) (s : BufferValue) (p stop q : ℕ) (next : IsNextStop s p stop) (later : p < q) (before : q < stop) where
+-- behind a position and before another no text property has another value than there, and no overlay starts or ends; none of these
+-- is the end of the accessible text
+record IsQuiet (s : BufferValue) (p stop : ℕ) : Type 0 where
+  within : stop ≤ s.text.end
+  same : (q : ℕ) → p < q → q < stop → AreSame s q p
+  no_edge : (q : ℕ) → p < q → q < stop → HasEdge s.overlays q → ⊥
+
+module _ (agree : ListingsAgree) (s : BufferValue) (p stop q : ℕ) (next : IsQuiet s p stop) (later : p < q) (before : q < stop) where
   -- the edges of an overlay that lives don't stand between the two positions
   outside : (k : ℕ) (o : Overlay) → overlay_at s.overlays k ≡ Some o → ((o.from ≤ p) ⊎ (q < o.from)) × ((o.to ≤ p) ⊎ (q < o.to))
   outside k o lives =
@@ -96,8 +103,21 @@ module _ (agree : ListingsAgree) (s : BufferValue) (p stop q : ℕ) (next : IsNe
   strings-none : strings_at s q ≡ []
   strings-none = let first = none-start in let last = none-end in rw (first, last)
 
-pub look-alike : ListingsAgree → (s : BufferValue) (objects : ObjectLists) (p stop : ℕ) → IsNextStop s p stop → LookAlike s objects p stop
-look-alike agree s objects p stop next = record {
+quiet-alike : ListingsAgree → (s : BufferValue) (objects : ObjectLists) (p stop : ℕ) → IsQuiet s p stop → LookAlike s objects p stop
+quiet-alike agree s objects p stop next = record {
   appearance = λ q later before. appearance-same agree s p stop q next later before objects;
   strings = λ q later before. strings-none agree s p stop q next later before;
 }
+
+pub look-alike : ListingsAgree → (s : BufferValue) (objects : ObjectLists) (p stop : ℕ) → IsNextStop s p stop → LookAlike s objects p stop
+look-alike agree s objects p stop next =
+    quiet-alike agree s objects p stop (record { within = next.within; same = next.same; no_edge = next.no_edge })
+
+pub look-alike-back : ListingsAgree → (s : BufferValue) (objects : ObjectLists) (p stop : ℕ) → p < s.text.end → IsLastStop s p stop → LookAlike s objects stop (p + 1)
+look-alike-back agree s objects p stop inside last =
+    let before = last.before in
+    quiet-alike agree s objects stop (p + 1) (record {
+      within = omega arith;
+      same = λ q later up kind. last.same q (omega arith) (omega arith) kind ∙ sym (last.same stop (omega arith) before kind);
+      no_edge = λ q later up. last.no_edge q later (omega arith);
+    })

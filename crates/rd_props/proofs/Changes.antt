@@ -1,10 +1,10 @@
--- The first change of some properties behind a position.
-use Rattle.std.proofs.Common.{◌≡◌, inl, inr, ℕ, zero, suc, ◌+◌, ◌<◌, ◌≤◌, min, List, [], ◌∷◌, drop, length, get_or, Option, None, Some, refl, sym, ap, subst, ◌∙◌, arith}
+-- The first change of some properties behind a position, and the first place that has its values.
+use Rattle.std.proofs.Common.{◌≡◌, inl, inr, ℕ, zero, suc, ◌+◌, ◌-◌, ◌<◌, ◌≤◌, min, max, List, [], ◌∷◌, drop, length, get_or, Option, None, Some, refl, sym, ap, subst, ◌∙◌, arith}
 use Rattle.std.proofs.lemmas.Bool.{cases_lt}
 use Rattle.std.proofs.lemmas.List.{drop_more}
-use Rattle.rd_spans.specs.Values.{value_at, IsNextChange}
+use Rattle.rd_spans.specs.Values.{value_at, IsNextChange, IsFirstAlike}
 use Rattle.rd_props.specs.Buffers.{BufferValue, values_of}
-use Rattle.rd_props.specs.Stops.{ValuesDiffer, ValuesAgree, HasEdge, IsFirstEdge, IsFirstChange, IsNextStop, sooner}
+use Rattle.rd_props.specs.Stops.{ValuesDiffer, ValuesAgree, HasEdge, IsFirstEdge, IsLastEdge, IsFirstChange, IsFirstSame, IsNextStop, IsLastStop, sooner}
 
 same-cons : (values : List (Option ℕ)) (spans : List (List (Option ℕ))) (p q : ℕ) → value_at values p ≡ value_at values q → ValuesAgree spans p q → ValuesAgree (values ∷ spans) p q
 same-cons values spans p q here rest zero = here
@@ -58,12 +58,63 @@ first-stop s spans pos edge stop first next =
       ];
     }
 
+-- a list of properties from one on
+from-one : (spans : List (List (Option ℕ))) (i j : ℕ) (values : List (Option ℕ)) → i ≡ j + 1 → i ≤ length spans → values ≡ get_or spans j values → values ∷ drop i spans ≡ drop j spans
+from-one spans i j values next within at =
+    let here : drop j spans ≡ get_or spans j values ∷ drop (j + 1) spans = drop_more spans j values (omega arith) in
+    ap (λ (x : List (Option ℕ)). x ∷ drop i spans) at ∙ (ap (λ (k : ℕ). get_or spans j values ∷ drop k spans) next ∙ sym here)
+
 pub from-back : (spans : List (List (Option ℕ))) (i j end pos stop new : ℕ) (values : List (Option ℕ)) (o : Option ℕ) → end < 4294967296 → i ≡ j + 1 → i ≤ length spans
     → values ≡ get_or spans j values → IsNextChange values pos o → IsFirstChange (drop i spans) end pos stop → new ≡ sooner stop o
     → IsFirstChange (drop j spans) end pos new
 from-back spans i j end pos stop new values o small next within at change first is =
-    let here : drop j spans ≡ get_or spans j values ∷ drop (j + 1) spans = drop_more spans j values (omega arith) in
-    let there : values ∷ drop i spans ≡ drop j spans = ap (λ (x : List (Option ℕ)). x ∷ drop i spans) at ∙ (ap (λ (k : ℕ). get_or spans j values ∷ drop k spans) next ∙ sym here) in
     let P : List (List (Option ℕ)) → Type 0 = λ xs. IsFirstChange xs end pos new in
     let Q : ℕ → Type 0 = λ x. IsFirstChange (values ∷ drop i spans) end pos x in
-    subst P there (subst Q (sym is) (one-more values (drop i spans) end pos stop o small first change))
+    subst P (from-one spans i j values next within at) (subst Q (sym is) (one-more values (drop i spans) end pos stop o small first change))
+
+-- ---- back to the first place with a position's values
+
+pub all-same : (begin pos : ℕ) → begin ≤ pos → IsFirstSame [] begin pos begin
+all-same begin pos p = record { within = omega arith; before = p; same = λ q l m kind. refl; reason = λ l. absurd (omega arith) }
+
+one-same : (values : List (Option ℕ)) (spans : List (List (Option ℕ))) (begin pos stop first : ℕ) → IsFirstSame spans begin pos stop → IsFirstAlike values pos first
+    → IsFirstSame (values ∷ spans) begin pos (max stop first)
+one-same values spans begin pos stop first so-far alike =
+    let within = so-far.within in
+    let before = so-far.before in
+    let there = alike.before in
+    let P : ℕ → Type 0 = λ x. ValuesDiffer (values ∷ spans) (x - 1) pos in
+    record {
+      within = omega arith;
+      before = omega arith;
+      same = λ p l m. same-cons values spans p pos (alike.same p (omega arith) m) (so-far.same p (omega arith) m);
+      reason = λ l. elim (cases_lt stop first) [
+        | inl less ↦ let e : first ≡ max stop first = omega arith in subst P e (0, alike.reason (omega arith))
+        | inr more ↦ let e : stop ≡ max stop first = omega arith in subst P e (differs-cons values spans (stop - 1) pos (so-far.reason (omega arith)))
+      ];
+    }
+
+pub same-back : (spans : List (List (Option ℕ))) (i j begin pos stop new first : ℕ) (values : List (Option ℕ)) → i ≡ j + 1 → i ≤ length spans
+    → values ≡ get_or spans j values → IsFirstAlike values pos first → IsFirstSame (drop i spans) begin pos stop → new ≡ max stop first
+    → IsFirstSame (drop j spans) begin pos new
+same-back spans i j begin pos stop new first values next within at alike so-far is =
+    let P : List (List (Option ℕ)) → Type 0 = λ xs. IsFirstSame xs begin pos new in
+    let Q : ℕ → Type 0 = λ x. IsFirstSame (values ∷ drop i spans) begin pos x in
+    subst P (from-one spans i j values next within at) (subst Q (sym is) (one-same values (drop i spans) begin pos stop first so-far alike))
+
+pub last-stop : (s : BufferValue) (spans : List (List (Option ℕ))) (pos edge stop : ℕ) → IsLastEdge s.overlays s.text.begin pos edge
+    → IsFirstSame spans edge pos stop → IsLastStop (record s { properties = values_of spans }) pos stop
+last-stop s spans pos edge stop last first =
+    let edge_within = last.within in
+    let within = first.within in
+    let P : ℕ → Type 0 = HasEdge s.overlays in
+    record {
+      within = omega arith;
+      before = first.before;
+      same = first.same;
+      no_edge = λ p l m h. last.no_edge p (omega arith) m h;
+      reason = λ l. elim (cases_lt edge stop) [
+        | inl less ↦ inl (first.reason less)
+        | inr more ↦ let e : edge ≡ stop = omega arith in inr (subst P e (last.reason (omega arith)))
+      ];
+    }

@@ -1,54 +1,86 @@
--- The first edge of an overlay behind a position.
-use Rattle.std.proofs.Common.{◌≡◌, ◌⊎◌, inl, inr, ℕ, zero, suc, ◌<◌, ◌≤◌, min, Bool, true, false, if◌then◌else◌, List, [], ◌∷◌, Option, None, Some, refl, sym, subst, arith}
-use Rattle.std.specs.Prelude.{nat_lt}
+-- The first edge of an overlay behind a position, and the last up to it.
+use Rattle.std.proofs.Common.{◌≡◌, ◌⊎◌, inl, inr, ℕ, zero, suc, ◌<◌, ◌≤◌, min, max, Bool, true, false, if◌then◌else◌, List, [], ◌∷◌, Option, None, Some, refl, sym, subst, arith}
+use Rattle.std.specs.Prelude.{nat_lt, nat_le}
 use Rattle.std.proofs.lemmas.Bool.{cases_lt}
 use Rattle.std.proofs.lemmas.Bool.Decides.{nat_tests}
 use Rattle.rd_overlays.specs.declared.overlay.Overlay.{Overlay}
-use Rattle.rd_overlays.specs.Overlays.{lesser, beyond, slot_edge, next_edge}
-use Rattle.rd_props.specs.Stops.{HasEdge, IsFirstEdge, sooner}
+use Rattle.rd_overlays.specs.declared.way.Way.{Way}
+use Rattle.rd_overlays.specs.declared.way.Way.TheVariants.{Next, Last}
+use Rattle.rd_overlays.specs.Overlays.{closer, nearer, is_on, reached, slot_edge, nearest_edge, next_edge, last_edge}
+use Rattle.rd_props.specs.Stops.{HasEdge, IsFirstEdge, IsLastEdge, sooner, later}
 
--- the least place behind a position that has a property, where there is one
-abbrev IsLeast : (ℕ → Type 0) → ℕ → Option ℕ → Type 0
-IsLeast Has pos None = (p : ℕ) → pos < p → Has p → ⊥
-IsLeast Has pos (Some q) = (pos < q) × Has q × ((p : ℕ) → pos < p → p < q → Has p → ⊥)
+-- a place stands on the way from a position
+abbrev IsOn : Way → ℕ → ℕ → Type 0
+IsOn Next pos p = pos < p
+IsOn Last pos p = p ≤ pos
 
-least-same : (Has Other : ℕ → Type 0) (pos : ℕ) (o : Option ℕ) → ((p : ℕ) → Has p → Other p) → ((p : ℕ) → Other p → Has p) → IsLeast Has pos o → IsLeast Other pos o
-least-same Has Other pos None to from least = λ p l h. least p l (from p h)
-least-same Has Other pos (Some q) to from least = (least.0, to q least.1, λ p l m h. least.2 p l m (from p h))
+-- a place is met before another on the way
+abbrev IsCloser : Way → ℕ → ℕ → Type 0
+IsCloser Next p q = p < q
+IsCloser Last p q = q < p
+
+-- the nearest place on the way from a position that has a property, where there is one
+abbrev IsNearest : Way → (ℕ → Type 0) → ℕ → Option ℕ → Type 0
+IsNearest way Has pos None = (p : ℕ) → IsOn way pos p → Has p → ⊥
+IsNearest way Has pos (Some q) = IsOn way pos q × Has q × ((p : ℕ) → IsOn way pos p → IsCloser way p q → Has p → ⊥)
+
+nearest-same : (way : Way) (Has Other : ℕ → Type 0) (pos : ℕ) (o : Option ℕ) → ((p : ℕ) → Has p → Other p) → ((p : ℕ) → Other p → Has p) → IsNearest way Has pos o → IsNearest way Other pos o
+nearest-same way Has Other pos None to from nearest = λ p l h. nearest p l (from p h)
+nearest-same way Has Other pos (Some q) to from nearest = (nearest.0, to q nearest.1, λ p l m h. nearest.2 p l m (from p h))
 
 abbrev Either : (ℕ → Type 0) → (ℕ → Type 0) → ℕ → Type 0
 Either Has Other p = Has p ⊎ Other p
 
-lesser-least : (Has Other : ℕ → Type 0) (pos : ℕ) (a b : Option ℕ) → IsLeast Has pos a → IsLeast Other pos b → IsLeast (Either Has Other) pos (lesser a b)
-lesser-least Has Other pos None None f g = λ p l h. elim h [ inl x ↦ f p l x | inr y ↦ g p l y ]
-lesser-least Has Other pos None (Some y) f g = (g.0, inr g.1, λ p l m h. elim h [ inl u ↦ f p l u | inr v ↦ g.2 p l m v ])
-lesser-least Has Other pos (Some x) None f g = (f.0, inl f.1, λ p l m h. elim h [ inl u ↦ f.2 p l m u | inr v ↦ g p l v ])
-lesser-least Has Other pos (Some x) (Some y) f g =
-    let below = f.0 in
-    let under = g.0 in
+closer-one : (way : Way) (x y : ℕ) → (x ≡ closer way x y) ⊎ (y ≡ closer way x y)
+closer-one Next x y = elim (cases_lt x y) [ inl less ↦ inl (omega arith) | inr more ↦ inr (omega arith) ]
+closer-one Last x y = elim (cases_lt x y) [ inl less ↦ inr (omega arith) | inr more ↦ inl (omega arith) ]
+
+closer-on : (way : Way) (pos x y : ℕ) → IsOn way pos x → IsOn way pos y → IsOn way pos (closer way x y)
+closer-on Next pos x y f g = omega arith
+closer-on Last pos x y f g = omega arith
+
+closer-than : (way : Way) (p x y : ℕ) → IsCloser way p (closer way x y) → IsCloser way p x × IsCloser way p y
+closer-than Next p x y less = (omega arith, omega arith)
+closer-than Last p x y less = (omega arith, omega arith)
+
+nearer-nearest : (way : Way) (Has Other : ℕ → Type 0) (pos : ℕ) (a b : Option ℕ) → IsNearest way Has pos a → IsNearest way Other pos b → IsNearest way (Either Has Other) pos (nearer way a b)
+nearer-nearest way Has Other pos None None f g = λ p l h. elim h [ inl x ↦ f p l x | inr y ↦ g p l y ]
+nearer-nearest way Has Other pos None (Some y) f g = (g.0, inr g.1, λ p l m h. elim h [ inl u ↦ f p l u | inr v ↦ g.2 p l m v ])
+nearer-nearest way Has Other pos (Some x) None f g = (f.0, inl f.1, λ p l m h. elim h [ inl u ↦ f.2 p l m u | inr v ↦ g p l v ])
+nearer-nearest way Has Other pos (Some x) (Some y) f g =
     let Goal : ℕ → Type 0 = Either Has Other in (
-      omega arith,
-      elim (cases_lt x y) [
-        | inl less ↦ let e : x ≡ min x y = omega arith in subst Goal e (inl f.1)
-        | inr more ↦ let e : y ≡ min x y = omega arith in subst Goal e (inr g.1)
-      ],
-      λ p l m h. elim h [ inl u ↦ f.2 p l (omega arith) u | inr v ↦ g.2 p l (omega arith) v ],
+      closer-on way pos x y f.0 g.0,
+      elim (closer-one way x y) [ inl e ↦ subst Goal e (inl f.1) | inr e ↦ subst Goal e (inr g.1) ],
+      λ p l m h. let less = closer-than way p x y m in elim h [ inl u ↦ f.2 p l less.0 u | inr v ↦ g.2 p l less.1 v ],
     )
 
-beyond-by : (pos place : ℕ) (t : Bool) → nat_lt pos place ≡ t → IsLeast (λ p. place ≡ p) pos (if t then Some place else None)
-beyond-by pos place true e = (grind (arith, nat_tests), refl, λ p l m h. omega arith)
-beyond-by pos place false e = λ p l h. let q : place ≤ pos = grind (arith, nat_tests) in omega arith
+on-way : (way : Way) (pos place : ℕ) → is_on way pos place ≡ true → IsOn way pos place
+on-way Next pos place e = grind (arith, nat_tests)
+on-way Last pos place e = grind (arith, nat_tests)
 
-beyond-least : (pos place : ℕ) → IsLeast (λ p. place ≡ p) pos (beyond pos place)
-beyond-least pos place = beyond-by pos place (nat_lt pos place) refl
+off-way : (way : Way) (pos place p : ℕ) → is_on way pos place ≡ false → place ≡ p → IsOn way pos p → ⊥
+off-way Next pos place p e same on = let q : place ≤ pos = grind (arith, nat_tests) in omega arith
+off-way Last pos place p e same on = let q : pos < place = grind (arith, nat_tests) in omega arith
+
+not-closer : (way : Way) (p q : ℕ) → q ≡ p → IsCloser way p q → ⊥
+not-closer Next p q same less = omega arith
+not-closer Last p q same less = omega arith
+
+reached-by : (way : Way) (pos place : ℕ) (t : Bool) → is_on way pos place ≡ t → IsNearest way (λ p. place ≡ p) pos (if t then Some place else None)
+reached-by way pos place true e = (on-way way pos place e, refl, λ p l m h. not-closer way p place h m)
+reached-by way pos place false e = λ p l h. off-way way pos place p e h l
+
+reached-nearest : (way : Way) (pos place : ℕ) → IsNearest way (λ p. place ≡ p) pos (reached way pos place)
+reached-nearest way pos place = reached-by way pos place (is_on way pos place) refl
 
 abbrev SlotHasEdge : Option Overlay → ℕ → Type 0
 SlotHasEdge None p = ⊥
 SlotHasEdge (Some o) p = (o.from ≡ p) ⊎ (o.to ≡ p)
 
-slot-least : (pos : ℕ) (slot : Option Overlay) → IsLeast (SlotHasEdge slot) pos (slot_edge pos slot)
-slot-least pos None = λ p l h. h
-slot-least pos (Some o) = lesser-least (λ p. o.from ≡ p) (λ p. o.to ≡ p) pos (beyond pos o.from) (beyond pos o.to) (beyond-least pos o.from) (beyond-least pos o.to)
+slot-nearest : (way : Way) (pos : ℕ) (slot : Option Overlay) → IsNearest way (SlotHasEdge slot) pos (slot_edge way pos slot)
+slot-nearest way pos None = λ p l h. h
+slot-nearest way pos (Some o) =
+    nearer-nearest way (λ p. o.from ≡ p) (λ p. o.to ≡ p) pos (reached way pos o.from) (reached way pos o.to) (reached-nearest way pos o.from) (reached-nearest way pos o.to)
 
 slot-first : (slot : Option Overlay) (slots : List (Option Overlay)) (p : ℕ) → SlotHasEdge slot p → HasEdge (slot ∷ slots) p
 slot-first None slots p h = absurd h
@@ -68,25 +100,42 @@ edge-uncons slot slots p (suc number, o, at, h) = inr (number, o, at, h)
 no-edge : (p : ℕ) → HasEdge [] p → ⊥
 no-edge p (number, o, at, h) = absurd (cc)
 
-list-least : (pos : ℕ) (slots : List (Option Overlay)) → IsLeast (HasEdge slots) pos (next_edge pos slots)
-list-least pos [] = λ p l h. no-edge p h
-list-least pos (slot ∷ slots) =
-    least-same (Either (SlotHasEdge slot) (HasEdge slots)) (HasEdge (slot ∷ slots)) pos (next_edge pos (slot ∷ slots)) (edge-cons slot slots) (edge-uncons slot slots)
-    (lesser-least (SlotHasEdge slot) (HasEdge slots) pos (slot_edge pos slot) (next_edge pos slots) (slot-least pos slot) (list-least pos slots))
+list-nearest : (way : Way) (pos : ℕ) (slots : List (Option Overlay)) → IsNearest way (HasEdge slots) pos (nearest_edge way pos slots)
+list-nearest way pos [] = λ p l h. no-edge p h
+list-nearest way pos (slot ∷ slots) =
+    nearest-same way (Either (SlotHasEdge slot) (HasEdge slots)) (HasEdge (slot ∷ slots)) pos (nearest_edge way pos (slot ∷ slots)) (edge-cons slot slots) (edge-uncons slot slots)
+    (nearer-nearest way (SlotHasEdge slot) (HasEdge slots) pos (slot_edge way pos slot) (nearest_edge way pos slots) (slot-nearest way pos slot) (list-nearest way pos slots))
 
-least-first : (slots : List (Option Overlay)) (end pos : ℕ) (o : Option ℕ) → pos < end → IsLeast (HasEdge slots) pos o → IsFirstEdge slots end pos (sooner end o)
-least-first slots end pos None p least = record { later = p; within = omega arith; no_edge = λ q l m h. least q l h; reason = λ l. absurd (omega arith) }
-least-first slots end pos (Some q) p least =
-    let below = least.0 in
+first-by : (slots : List (Option Overlay)) (end pos : ℕ) (o : Option ℕ) → pos < end → IsNearest Next (HasEdge slots) pos o → IsFirstEdge slots end pos (sooner end o)
+first-by slots end pos None p nearest = record { later = p; within = omega arith; no_edge = λ q l m h. nearest q l h; reason = λ l. absurd (omega arith) }
+first-by slots end pos (Some q) p nearest =
+    let below = nearest.0 in
     record {
       later = omega arith;
       within = omega arith;
-      no_edge = λ r l m h. least.2 r l (omega arith) h;
-      reason = λ l. let e : q ≡ min end q = omega arith in let P : ℕ → Type 0 = HasEdge slots in subst P e least.1;
+      no_edge = λ r l m h. nearest.2 r l (omega arith) h;
+      reason = λ l. let e : q ≡ min end q = omega arith in let P : ℕ → Type 0 = HasEdge slots in subst P e nearest.1;
+    }
+
+last-by : (slots : List (Option Overlay)) (begin pos : ℕ) (o : Option ℕ) → begin ≤ pos → IsNearest Last (HasEdge slots) pos o → IsLastEdge slots begin pos (later begin o)
+last-by slots begin pos None p nearest = record { within = omega arith; before = p; no_edge = λ q l m h. nearest q m h; reason = λ l. absurd (omega arith) }
+last-by slots begin pos (Some q) p nearest =
+    let below = nearest.0 in
+    record {
+      within = omega arith;
+      before = omega arith;
+      no_edge = λ r l m h. nearest.2 r m (omega arith) h;
+      reason = λ l. let e : q ≡ max begin q = omega arith in let P : ℕ → Type 0 = HasEdge slots in subst P e nearest.1;
     }
 
 pub first-edge : (slots : List (Option Overlay)) (end pos stop : ℕ) (o : Option ℕ) → pos < end → o ≡ next_edge pos slots → stop ≡ sooner end o → IsFirstEdge slots end pos stop
 first-edge slots end pos stop o p e is =
     let P : ℕ → Type 0 = IsFirstEdge slots end pos in
     let Q : Option ℕ → Type 0 = λ x. IsFirstEdge slots end pos (sooner end x) in
-    subst P (sym is) (subst Q (sym e) (least-first slots end pos (next_edge pos slots) p (list-least pos slots)))
+    subst P (sym is) (subst Q (sym e) (first-by slots end pos (next_edge pos slots) p (list-nearest Next pos slots)))
+
+pub last-edge : (slots : List (Option Overlay)) (begin pos stop : ℕ) (o : Option ℕ) → begin ≤ pos → o ≡ last_edge pos slots → stop ≡ later begin o → IsLastEdge slots begin pos stop
+last-edge slots begin pos stop o p e is =
+    let P : ℕ → Type 0 = IsLastEdge slots begin pos in
+    let Q : Option ℕ → Type 0 = λ x. IsLastEdge slots begin pos (later begin x) in
+    subst P (sym is) (subst Q (sym e) (last-by slots begin pos (last_edge pos slots) p (list-nearest Last pos slots)))

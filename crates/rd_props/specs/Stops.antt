@@ -1,5 +1,5 @@
 -- How far nothing changes.
-use Rattle.std.specs.Prelude.{◌≡◌, ◌⊎◌, ℕ, ◌<◌, ◌≤◌, min, List, [], Option, None, Some}
+use Rattle.std.specs.Prelude.{◌≡◌, ◌⊎◌, ℕ, ◌-◌, ◌<◌, ◌≤◌, min, max, List, [], Option, None, Some}
 use Rattle.rd_overlays.specs.declared.overlay.Overlay.{Overlay}
 use Rattle.rd_overlays.specs.Overlays.{overlay_at}
 use Rattle.rd_objects.specs.Things.{ObjectLists}
@@ -29,6 +29,15 @@ pub record IsNextStop (s : BufferValue) (pos stop : ℕ) : Type 0 where
   pub no_edge : (p : ℕ) → pos < p → p < stop → HasEdge s.overlays p → ⊥
   pub reason : stop < s.text.end → Differs s stop pos ⊎ HasEdge s.overlays stop
 
+-- the last place up to a position where a text property changes from the place before or an overlay starts or ends, and the
+-- beginning of the accessible text where there is none behind it
+pub record IsLastStop (s : BufferValue) (pos stop : ℕ) : Type 0 where
+  pub within : s.text.begin ≤ stop
+  pub before : stop ≤ pos
+  pub same : (p : ℕ) → stop ≤ p → p ≤ pos → AreSame s p pos
+  pub no_edge : (p : ℕ) → stop < p → p ≤ pos → HasEdge s.overlays p → ⊥
+  pub reason : s.text.begin < stop → Differs s (stop - 1) pos ⊎ HasEdge s.overlays stop
+
 -- the positions behind one and before another look like it, and no string of an overlay stands at them
 pub record LookAlike (s : BufferValue) (objects : ObjectLists) (pos stop : ℕ) : Type 0 where
   pub appearance : (p : ℕ) → pos < p → p < stop → appearance_in (seen_at s objects p) ≡ appearance_in (seen_at s objects pos)
@@ -40,6 +49,13 @@ pub record IsFirstEdge (slots : List (Option Overlay)) (end pos stop : ℕ) : Ty
   pub within : stop ≤ end
   pub no_edge : (p : ℕ) → pos < p → p < stop → HasEdge slots p → ⊥
   pub reason : stop < end → HasEdge slots stop
+
+-- the last edge of an overlay up to a position, and a beginning where there is none behind it
+pub record IsLastEdge (slots : List (Option Overlay)) (begin pos stop : ℕ) : Type 0 where
+  pub within : begin ≤ stop
+  pub before : stop ≤ pos
+  pub no_edge : (p : ℕ) → stop < p → p ≤ pos → HasEdge slots p → ⊥
+  pub reason : begin < stop → HasEdge slots stop
 
 -- some of these properties has other values at two positions
 abbrev pub ValuesDiffer : List (List (Option ℕ)) → ℕ → ℕ → Type 0
@@ -56,7 +72,19 @@ pub record IsFirstChange (spans : List (List (Option ℕ))) (end pos stop : ℕ)
   pub same : (p : ℕ) → pos < p → p < stop → ValuesAgree spans p pos
   pub reason : stop < end → ValuesDiffer spans stop pos
 
+-- the first place up to a position from which on each of them has the position's value, and a beginning where there is none behind it
+pub record IsFirstSame (spans : List (List (Option ℕ))) (begin pos stop : ℕ) : Type 0 where
+  pub within : begin ≤ stop
+  pub before : stop ≤ pos
+  pub same : (p : ℕ) → stop ≤ p → p ≤ pos → ValuesAgree spans p pos
+  pub reason : begin < stop → ValuesDiffer spans (stop - 1) pos
+
 -- the lesser of a place and one that may be missing
 abbrev pub sooner : ℕ → Option ℕ → ℕ
 sooner stop None = stop
 sooner stop (Some other) = min stop other
+
+-- the greater of a place and one that may be missing
+abbrev pub later : ℕ → Option ℕ → ℕ
+later stop None = stop
+later stop (Some other) = max stop other

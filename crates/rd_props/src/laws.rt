@@ -1,5 +1,5 @@
 //! Laws of the definitions, for the layers above.
-ghost use Rattle.std.specs.Prelude.{◌≡◌, ◌<◌, ◌≤◌, ◌*◌, ℕ, [], ◌∷◌, length, None, Some, true, false};
+ghost use Rattle.std.specs.Prelude.{◌≡◌, ◌<◌, ◌≤◌, ◌*◌, ◌+◌, ℕ, [], ◌∷◌, length, None, Some, true, false};
 ghost use Rattle.rd_base.specs.Cells.{HasColours};
 ghost use Rattle.rd_base.specs.Faces.{plain};
 ghost use Rattle.rd_base.specs.declared.settings.Invisible.TheVariants.{Every, Listed};
@@ -13,7 +13,7 @@ ghost use Rattle.rd_objects.specs.Sound.{AreObjects};
 ghost use Rattle.rd_objects.specs.Things.{ObjectLists};
 ghost use Rattle.rd_props.specs.Strings.{strings_at, strings_within};
 ghost use Rattle.rd_props.specs.Seen.{seen_at, hidden_seen};
-ghost use Rattle.rd_props.specs.Stops.{IsNextStop, LookAlike};
+ghost use Rattle.rd_props.specs.Stops.{IsNextStop, IsLastStop, LookAlike};
 ghost use Rattle.rd_props.specs.declared.hiding.Hidden.TheVariants.{No, Plain, Ellipsis};
 ghost use Rattle.rd_props.specs.Laws.{Gives, IsGreatest};
 ghost use Rattle.rd_props.specs.Examples.{three_characters, coloured, two_faces, meeting, partly_invisible};
@@ -50,6 +50,14 @@ pub fn overlays_have_two_strings()
 /// does nothing.
 pub fn nothing_changes_before_the_next_stop()
     ensures { (s : BufferValue) (objects : ObjectLists) (pos stop : ℕ) → IsNextStop s pos stop → LookAlike s objects pos stop }
+{
+    listings_agree();
+}
+
+/// From the last stop up to a position before the end no value changes, nor the face, and no string of an overlay stands there but at
+/// the stop. The call does nothing.
+pub fn nothing_changes_behind_the_last_stop()
+    ensures { (s : BufferValue) (objects : ObjectLists) (pos stop : ℕ) → pos < s.text.end → IsLastStop s pos stop → LookAlike s objects stop (pos + 1) }
 {
     listings_agree();
 }

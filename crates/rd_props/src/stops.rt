@@ -1,7 +1,7 @@
 //! How far nothing changes.
 ghost use Rattle.std.specs.Prelude.{◌≡◌, ◌<◌, ◌≤◌};
 ghost use Rattle.rd_props.specs.Buffers.{meaning};
-ghost use Rattle.rd_props.specs.Stops.{IsNextStop, IsFirstEdge, IsFirstChange, sooner};
+ghost use Rattle.rd_props.specs.Stops.{IsNextStop, IsLastStop, IsFirstEdge, IsLastEdge, IsFirstChange, IsFirstSame, sooner, later};
 
 use crate::state::View;
 use rd_base::Pos;
@@ -15,6 +15,16 @@ fn sooner(stop: Pos, other: Option<Pos>) -> Pos
     match other {
         None => stop,
         Some(other) => stop.min(other),
+    }
+}
+
+/// The greater of a place and one that may be missing.
+fn later(stop: Pos, other: Option<Pos>) -> Pos
+    ensures { result ≡ later stop other }
+{
+    match other {
+        None => stop,
+        Some(other) => stop.max(other),
     }
 }
 
@@ -53,4 +63,39 @@ pub fn next_stop(view: &View, pos: Pos) -> Pos
     let state = view.state;
     let edge = first_edge(&state.overlays, pos, state.text.end());
     first_change(&state.spans, pos, edge)
+}
+
+/// The last place up to a position where an overlay starts or ends, from a beginning on.
+fn last_edge(overlays: &Overlays, pos: Pos, begin: Pos) -> Pos
+    requires { begin ≤ pos }
+    ensures { IsLastEdge overlays.now begin pos result }
+{
+    later(begin, overlays.last_edge(pos))
+}
+
+/// The first place up to a position from which on each of these properties has the position's value, from a beginning on.
+fn first_same(spans: &[Spans], pos: Pos, begin: Pos) -> Pos
+    requires { begin ≤ pos }
+    ensures { IsFirstSame spans.now begin pos result }
+{
+    let mut stop = begin;
+    let mut i = spans.len();
+    while 0 < i {
+        i -= 1;
+        stop = stop.max(spans[i].first_alike(pos));
+    }
+    stop
+}
+
+/// The greatest position up to an accessible one at which a text property has another value than right before it or an overlay
+/// starts or ends, and the beginning of the accessible text where there is none behind it. It costs what `next_stop` costs, on the way
+/// back.
+pub fn last_stop(view: &View, pos: Pos) -> Pos
+    requires first { view.now.state.now.text.begin ≤ pos }
+    requires last { pos < view.now.state.now.text.end }
+    ensures { IsLastStop (meaning view.now.state.now) pos result }
+{
+    let state = view.state;
+    let edge = last_edge(&state.overlays, pos, state.text.begin());
+    first_same(&state.spans, pos, edge)
 }

@@ -1,5 +1,5 @@
 -- A value for each position: a list from position 0 on. A position that it does not reach has none.
-use Rattle.std.specs.Prelude.{◌≡◌, ℕ, ◌+◌, ◌-◌, ◌<◌, nat_lt, nat_le, ◌&&◌, if◌then◌else◌, List, length, slice_index_or, Option, None, Some}
+use Rattle.std.specs.Prelude.{◌≡◌, ℕ, ◌+◌, ◌-◌, ◌<◌, ◌≤◌, nat_lt, nat_le, ◌&&◌, if◌then◌else◌, List, length, slice_index_or, Option, None, Some}
 
 -- the value of a position
 abbrev pub value_at : List (Option ℕ) → ℕ → Option ℕ
@@ -28,6 +28,12 @@ IsNextChange values p None = (q : ℕ) → p < q → q < 4294967296 → value_at
 IsNextChange values p (Some q) =
     (p < q) × (q < 4294967296) × (value_at values q ≡ value_at values p → ⊥)
     × ((r : ℕ) → p < r → r < q → value_at values r ≡ value_at values p)
+
+-- the first of the positions up to one that all have its value
+pub record IsFirstAlike (values : List (Option ℕ)) (p first : ℕ) : Type 0 where
+  pub before : first ≤ p
+  pub same : (q : ℕ) → first ≤ q → q ≤ p → value_at values q ≡ value_at values p
+  pub reason : 0 < first → value_at values (first - 1) ≡ value_at values p → ⊥
 
 -- the list reaches no further than to the last position with a value
 abbrev pub IsTrimmed : List (Option ℕ) → Type 0

@@ -1,7 +1,7 @@
 //! Both sides of the gap, and the edits at it.
 ghost use Rattle.std.specs.Prelude.{◌≡◌, ℕ, ◌+◌, ◌-◌, ◌<◌, ◌≤◌, ◌++◌, true, false, length, replicate, None, OnOk};
 ghost use Rattle.std.specs.Vec.{vec_capacity};
-ghost use Rattle.rd_spans.specs.Values.{value_at, put_at, opened_at, closed_at, CanMove, IsNextChange};
+ghost use Rattle.rd_spans.specs.Values.{value_at, put_at, opened_at, closed_at, CanMove, IsNextChange, IsFirstAlike};
 ghost use Rattle.rd_spans.specs.Sides.{values_of, Rises, size_of, needs, joined, GapMoved, AreSides};
 
 use crate::run::Run;
@@ -27,26 +27,27 @@ pub(crate) fn value_of(front: &[Run], back: &[Run], pos: u64) -> Option<u32>
     None
 }
 
-/// A later position up to which no value differs from that of a position.
-pub(crate) fn same_up_to(front: &[Run], back: &[Run], pos: u64) -> u64
+/// The positions around one that no value differs from its own: the first, and one past the last.
+pub(crate) fn same_around(front: &[Run], back: &[Run], pos: u64) -> (u64, u64)
     requires front_order { Rises 0 front.now }
     requires back_order { Rises 0 back.now }
     requires bound { pos < 4294967296 }
     requires few { size_of front.now + size_of back.now ≤ 4294967296 }
-    ensures later { pos < result }
-    ensures few { result ≤ 4294967296 }
-    ensures same { (p : ℕ) → pos ≤ p → p < result → value_at (joined front.now back.now) p ≡ value_at (joined front.now back.now) pos }
+    ensures first { result.0 ≤ pos }
+    ensures later { pos < result.1 }
+    ensures few { result.1 ≤ 4294967296 }
+    ensures same { (p : ℕ) → result.0 ≤ p → p < result.1 → value_at (joined front.now back.now) p ≡ value_at (joined front.now back.now) pos }
 {
     let gap = side::size(front);
     if pos < gap {
-        return side::run_at(front, pos).1;
+        return side::run_at(front, pos);
     }
     let end = gap + side::size(back);
     if pos < end {
-        let (first, _last) = side::run_at(back, end - 1 - pos);
-        return end - first;
+        let (first, last) = side::run_at(back, end - 1 - pos);
+        return (end - last, end - first);
     }
-    side::LIMIT
+    (end, side::LIMIT)
 }
 
 /// The first position behind one whose value differs from that of the one.
@@ -58,14 +59,33 @@ pub(crate) fn next_other(front: &[Run], back: &[Run], pos: u64) -> Option<u32>
     ensures { IsNextChange (joined front.now back.now) pos result }
 {
     let value = value_of(front, back, pos);
-    let mut next = same_up_to(front, back, pos);
+    let mut next = same_around(front, back, pos).1;
     while next < side::LIMIT {
         if !side::same_value(value_of(front, back, next), value) {
             return Some(next as u32);
         }
-        next = same_up_to(front, back, next);
+        next = same_around(front, back, next).1;
     }
     None
+}
+
+/// The first of the positions up to one that all have its value.
+pub(crate) fn first_alike(front: &[Run], back: &[Run], pos: u64) -> u32
+    requires front_order { Rises 0 front.now }
+    requires back_order { Rises 0 back.now }
+    requires bound { pos < 4294967296 }
+    requires few { size_of front.now + size_of back.now ≤ 4294967296 }
+    ensures { IsFirstAlike (joined front.now back.now) pos result }
+{
+    let value = value_of(front, back, pos);
+    let mut from = same_around(front, back, pos).0;
+    while 0 < from {
+        if !side::same_value(value_of(front, back, from - 1), value) {
+            return from as u32;
+        }
+        from = same_around(front, back, from - 1).0;
+    }
+    0
 }
 
 /// Makes room for an edit, which adds at most three runs.

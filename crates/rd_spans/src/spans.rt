@@ -27,7 +27,7 @@ impl Model for Spans {
 
 impl Spans {
     ghost use Rattle.std.specs.Prelude.{◌≡◌, ℕ, ◌≤◌, [], OnOk, OnErr, IfOk};
-    ghost use Rattle.rd_spans.specs.Values.{value_at, put_at, opened_at, closed_at, CanMove, IsNextChange, IsTrimmed};
+    ghost use Rattle.rd_spans.specs.Values.{value_at, put_at, opened_at, closed_at, CanMove, IsNextChange, IsFirstAlike, IsTrimmed};
 
     /// No position has a value.
     pub fn new(alloc: Global) -> Result<Spans, Memory>
@@ -72,6 +72,14 @@ impl Spans {
         ensures { IsNextChange self.now pos result }
     {
         gap::next_other(self.front.as_slice(), self.back.as_slice(), pos as u64)
+    }
+
+    /// The first of the positions up to `pos` that all have its value. Costs a binary search for each run back to there, which is one
+    /// but at the place of the last edit.
+    pub fn first_alike(&self, pos: Pos) -> Pos
+        ensures { IsFirstAlike self.now pos result }
+    {
+        gap::first_alike(self.front.as_slice(), self.back.as_slice(), pos as u64)
     }
 
     /// Opens `n` positions without a value at `pos`; what stands at `pos` or later moves on by `n`. Costs a step for each run between

@@ -3,11 +3,11 @@ use Rattle.rd_overlays.specs.declared.overlay.Overlay.{Overlay}
 use Rattle.rd_overlays.specs.Bounds.{passed}
 use Rattle.rd_overlays.specs.Listings.{edge_in}
 use Rattle.rd_overlays.proofs.Passing.{edge-of_all}
-use Rattle.rd_overlays.proofs.edges.next_edge.Goals as goal
+use Rattle.rd_overlays.proofs.edges.nearest_edge.Goals as goal
 
 pub returns : goal.returns
 returns c =
     let order = c.index.result.now.order in
-    c.next_edge_by.ensures
-    ∙ (ap (λ (slots : List (Option Overlay)). edge_in c.args.pos slots (passed order (length slots))) c.as_slice.ensures
-    ∙ edge-of_all c.args.pos c.args.store.now order c.index.ensures.size c.index.ensures.whole)
+    c.nearest_edge_by.ensures
+    ∙ (ap (λ (slots : List (Option Overlay)). edge_in c.args.way c.args.pos slots (passed order (length slots))) c.as_slice.ensures
+    ∙ edge-of_all c.args.way c.args.pos c.args.store.now order c.index.ensures.size c.index.ensures.whole)

@@ -1,10 +1,10 @@
 use Rattle.std.proofs.Common.{◌≡◌, ◌≤◌, ℕ, List, length, sym, ap, ◌∙◌, arith}
-use Rattle.rd_overlays.specs.Overlays.{lesser, slot_edge}
+use Rattle.rd_overlays.specs.Overlays.{nearer, slot_edge}
 use Rattle.rd_overlays.specs.Bounds.{passed}
 use Rattle.rd_overlays.specs.Listings.{edge_in}
-use Rattle.rd_overlays.proofs.Nearest.{lesser-none, one_more, skipped}
+use Rattle.rd_overlays.proofs.Nearest.{nearer-none, one_more, skipped}
 use Rattle.rd_overlays.proofs.Passing.{drop-all, passed-size}
-use Rattle.rd_overlays.proofs.edges.next_edge_by.Goals as goal
+use Rattle.rd_overlays.proofs.edges.nearest_edge_by.Goals as goal
 
 pub loop-place-preserved-then-place-next : goal.loop-place-preserved-then-place-next
 loop-place-preserved-then-place-next c =
@@ -18,9 +18,9 @@ loop-place-preserved-then-place-next c =
     let inside : next ≤ length numbers = omega (arith, high, whole, size) in
     record {
       within = omega (arith, high, whole);
-      least = skipped c.args.pos slots numbers c.loop-place.least c.loop-place.place next c.skip_edges-next.ensures.low inside
+      nearest = skipped c.args.way c.args.pos slots numbers c.loop-place.nearest c.loop-place.place next c.skip_edges-next.ensures.low inside
           (λ j k low high at. c.skip_edges-next.ensures.idle slots j k c.requires.index.bounded low high at)
-          ∙ c.loop-place.invariant.least;
+          ∙ c.loop-place.invariant.nearest;
     }
 
 pub loop-place-preserved : goal.loop-place-preserved
@@ -31,10 +31,10 @@ loop-place-preserved c =
     let more = c.loop-place-test.true in
     record {
       within = omega (arith, more);
-      least = one_more c.args.pos place slots numbers c.number_at-number.result c.loop-place.least c.lesser-least.result
+      nearest = one_more c.args.way c.args.pos place slots numbers c.number_at-number.result c.loop-place.nearest c.nearer-nearest.result
           (c.number_at-number.ensures (length slots) more)
-          (c.lesser-least.ensures ∙ ap (lesser c.loop-place.least) (c.slot_edge.ensures ∙ ap (slot_edge c.args.pos) c.overlay_at.ensures.value))
-          ∙ c.loop-place.invariant.least;
+          (c.nearer-nearest.ensures ∙ ap (nearer c.args.way c.loop-place.nearest) (c.slot_edge.ensures ∙ ap (slot_edge c.args.way c.args.pos) c.overlay_at.ensures.value))
+          ∙ c.loop-place.invariant.nearest;
     }
 
 pub returns : goal.returns
@@ -47,5 +47,5 @@ returns c =
     let done = c.loop-place-test.false in
     let whole = passed-size order (length slots) c.requires.index.size in
     let size : length numbers ≡ place = omega (arith, within, done, whole) in
-    sym (lesser-none c.loop-place.least)
-    ∙ (ap (λ (ks : List ℕ). lesser c.loop-place.least (edge_in c.args.pos slots ks)) (sym (drop-all numbers place size)) ∙ c.loop-place.invariant.least)
+    sym (nearer-none c.args.way c.loop-place.nearest)
+    ∙ (ap (λ (ks : List ℕ). nearer c.args.way c.loop-place.nearest (edge_in c.args.way c.args.pos slots ks)) (sym (drop-all numbers place size)) ∙ c.loop-place.invariant.nearest)
