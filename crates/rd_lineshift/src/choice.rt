@@ -69,9 +69,7 @@ fn gaining(best: Option<Priced>, rows: u32) -> Option<Shift>
 
 /// The numbers of the rows of two screens of one size.
 fn number_rows(current: &Screen, target: &Screen) -> Numbered
-    requires size { HaveOneSize (Some current.now) target.now }
-    requires current { IsSound current.now }
-    requires target { IsSound target.now }
+    requires { HaveOneSize (Some current.now) target.now }
     ensures old { result.old ≡ map (number_in target.now.rows) current.now.rows }
     ensures new { result.new ≡ map (number_in target.now.rows) target.now.rows }
     ensures blank { result.blank ≡ number_in target.now.rows (blank_row (width_of target.now.rows)) }

@@ -1,66 +1,28 @@
-//! Rows of sound screens that are compared and numbered.
-ghost use Rattle.std.specs.Prelude.{◌≡◌, ◌+◌, ◌*◌, ◌<◌, ◌≤◌, All, length, map, not};
-ghost use Rattle.rd_base.specs.Cells.{IsSmall};
-ghost use Rattle.rd_base.specs.Equals.{same_cell};
+//! Rows of screens that are compared and numbered.
+ghost use Rattle.std.specs.Prelude.{◌≡◌, ◌+◌, ◌*◌, ◌<◌, ◌≤◌, length, map, not};
 ghost use Rattle.rd_term.specs.Pictures.{width_of, row_at, blank_row};
-ghost use Rattle.rd_update.specs.Laws.{IsSound};
 ghost use Rattle.rd_update.specs.Plans.{HaveOneSize};
 ghost use Rattle.rd_update.specs.Updates.{differs, differing as differing_rows};
 ghost use Rattle.rd_lineshift.specs.Numbers.{number_in, print_from, mixed};
 
 use crate::numbers::Numbers;
-use rd_base::{Cell, Face, good_cells_are_small};
+use rd_base::{Cell, Face};
 use rd_term::Screen;
+use rd_update::differ;
 
-/// The cells of a row of a sound screen.
+/// The cells of a row of a screen.
 fn cells_of(screen: &Screen, row: u32) -> &[Cell]
-    requires row { row < length screen.now.rows }
-    requires sound { IsSound screen.now }
+    requires { row < length screen.now.rows }
     ensures cells { result.now ≡ row_at screen.now.rows row }
     ensures width { length result.now ≡ width_of screen.now.rows }
-    ensures small { All IsSmall result.now }
 {
-    good_cells_are_small();
     let _width = screen.width();
     screen.row(row)
 }
 
-/// Whether two small cells are the same.
-fn is_same(old: &Cell, new: &Cell) -> bool
-    requires old { IsSmall old.now }
-    requires new { IsSmall new.now }
-    ensures { result ≡ same_cell old.now new.now }
-{
-    let (old, new) = (old.words(), new.words());
-    if old[0] != new[0] {
-        return false;
-    }
-    if old[1] != new[1] {
-        return false;
-    }
-    old[2] == new[2]
-}
-
-/// Whether two rows of one width differ.
-fn differ(old: &[Cell], new: &[Cell]) -> bool
-    requires length { length old.now ≡ length new.now }
-    requires old { All IsSmall old.now }
-    requires new { All IsSmall new.now }
-    ensures { result ≡ differs old.now new.now }
-{
-    for i in 0..new.len() {
-        if !is_same(&old[i], &new[i]) {
-            return true;
-        }
-    }
-    false
-}
-
 /// How many rows of two screens of one size differ.
 pub(crate) fn differing(current: &Screen, target: &Screen) -> u32
-    requires size { HaveOneSize (Some current.now) target.now }
-    requires current { IsSound current.now }
-    requires target { IsSound target.now }
+    requires { HaveOneSize (Some current.now) target.now }
     ensures { result ≡ differing_rows current.now.rows target.now.rows }
 {
     let mut count = 0;
@@ -106,8 +68,6 @@ pub(crate) fn prints_of(screen: &Screen) -> Numbers
 /// Whether two rows of one width are the same, by their prints and, where these are equal, by their cells.
 fn is_row(old: &[Cell], old_print: u64, new: &[Cell], new_print: u64) -> bool
     requires length { length old.now ≡ length new.now }
-    requires old { All IsSmall old.now }
-    requires new { All IsSmall new.now }
     requires old_print { old_print ≡ print_from 0 old.now }
     requires new_print { new_print ≡ print_from 0 new.now }
     ensures { result ≡ not (differs old.now new.now) }
@@ -121,10 +81,8 @@ fn is_row(old: &[Cell], old_print: u64, new: &[Cell], new_print: u64) -> bool
 /// The number of the first row of the target that is the same as a row of its width, and the target's height where none is. The
 /// rows are compared where their prints are equal.
 fn number_of(target: &Screen, prints: &Numbers, row: &[Cell]) -> u64
-    requires target { IsSound target.now }
     requires prints { prints.now ≡ map (print_from 0) target.now.rows }
     requires width { length row.now ≡ width_of target.now.rows }
-    requires row { All IsSmall row.now }
     ensures { result ≡ number_in target.now.rows row.now }
 {
     let print = print_of(row);
@@ -139,8 +97,6 @@ fn number_of(target: &Screen, prints: &Numbers, row: &[Cell]) -> u64
 
 /// The numbers of a screen's rows by the target's.
 pub(crate) fn numbers_of(target: &Screen, prints: &Numbers, screen: &Screen) -> Numbers
-    requires target { IsSound target.now }
-    requires screen { IsSound screen.now }
     requires size { HaveOneSize (Some screen.now) target.now }
     requires prints { prints.now ≡ map (print_from 0) target.now.rows }
     ensures { result ≡ map (number_in target.now.rows) screen.now.rows }
@@ -164,11 +120,9 @@ pub(crate) fn first(blanks: &[Cell], width: u32) -> &[Cell]
 
 /// The number of a blank row by the target's.
 pub(crate) fn number_of_blank(target: &Screen, prints: &Numbers) -> u64
-    requires target { IsSound target.now }
-    requires prints { prints.now ≡ map (print_from 0) target.now.rows }
+    requires { prints.now ≡ map (print_from 0) target.now.rows }
     ensures { result ≡ number_in target.now.rows (blank_row (width_of target.now.rows)) }
 {
-    good_cells_are_small();
     let blanks = [Cell::Blank(Face::PLAIN); 400];
     number_of(target, prints, first(&blanks, target.width()))
 }

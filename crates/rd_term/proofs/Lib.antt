@@ -5,4 +5,3 @@ pub mod Feeding
 pub mod Measured
 pub mod Putting
 pub mod Shapes
-pub mod Writing

@@ -1,6 +1,7 @@
 //! A screen of cells, and the terminal that a program writes to: what it shows, by the bytes that it was fed.
 #![tactic(auto)]
 
+mod cells;
 mod character;
 mod control;
 mod examples;

@@ -1,8 +1,6 @@
 //! Rows of equal width.
-ghost use Rattle.std.specs.Prelude.{◌≡◌, ◌+◌, ◌-◌, ◌≤◌, ◌++◌, IfOk, length, take, drop, replicate};
-ghost use Rattle.rd_term.specs.Pictures.{written_over};
+ghost use Rattle.std.specs.Prelude.{◌≡◌, ◌-◌, ◌≤◌, ◌++◌, IfOk, length, take, drop, replicate};
 
-use rd_base::limits::FRAME_COLUMNS;
 use rd_base::{ListOf, Memory};
 use std::alloc::Global;
 
@@ -39,16 +37,5 @@ pub(crate) fn fill<T: Copy + Drop>(row: &mut ListOf<T>, from: usize, to: usize, 
 {
     for i in from..to {
         row.set(i, value);
-    }
-}
-
-/// Puts these values in place of a row's from a column on.
-pub(crate) fn write_over<T: Copy + Drop>(row: &mut ListOf<T>, column: usize, values: &[T])
-    requires room { column + length values.now ≤ length row.old }
-    requires narrow { length row.old ≤ FRAME_COLUMNS }
-    ensures { row.new ≡ written_over column values.now row.old }
-{
-    for i in 0..values.len() {
-        row.set(column + i, values[i]);
     }
 }

@@ -2,16 +2,16 @@
 ghost use Rattle.std.specs.Prelude.{◌≡◌, ◌+◌, ◌<◌, ◌≤◌, IfOk, length};
 ghost use Rattle.rd_term.specs.Pictures.{IsScreen, blank_picture, width_of, row_at, cell_at, with_cell, with_cells};
 
-use crate::rows::{filled, write_over};
+use crate::cells::{Row, blank_rows};
 use rd_base::limits::{FRAME_COLUMNS, FRAME_ROWS};
-use rd_base::{Cell, Face, ListOf, Memory};
+use rd_base::{Cell, Memory};
 use std::alloc::Global;
 use std::marker::Model;
 
 /// Up to 200 rows of one width, up to 400 columns, and a cursor on them. Rows and columns count from 0.
 #[derive(Drop)]
 pub struct Screen {
-    rows: Vec<ListOf<Cell>>,
+    rows: Vec<Row>,
     row: u32,
     column: u32,
 }
@@ -36,7 +36,7 @@ impl Screen {
         ensures { IfOk result (λ screen. screen ≡ blank_picture width height) }
     {
         Ok(Screen {
-            rows: filled(alloc, width, height, Cell::Blank(Face::PLAIN))?,
+            rows: blank_rows(alloc, width, height)?,
             row: 0,
             column: 0,
         })
@@ -47,7 +47,7 @@ impl Screen {
         ensures value { result ≡ width_of self.now.rows }
         ensures screen { IsScreen self.now }
     {
-        self.rows[0].len() as u32
+        self.rows[0].as_slice().len() as u32
     }
 
     /// How many rows there are.
@@ -71,7 +71,7 @@ impl Screen {
         requires column { column < width_of self.now.rows }
         ensures { result ≡ cell_at self.now.rows row column }
     {
-        self.rows[row as usize].at(column as usize)
+        self.rows[row as usize].as_slice()[column as usize]
     }
 
     /// Puts another cell at a place on the screen.
@@ -90,7 +90,8 @@ impl Screen {
         requires room { column + length cells.now ≤ width_of self.old.rows }
         ensures { self.new ≡ record self.old { rows = with_cells self.old.rows row column cells.now } }
     {
-        write_over(&mut self.rows[row as usize], column as usize, cells);
+        let old = &mut self.rows[row as usize];
+        old.put(column as usize, cells);
     }
 
     /// The cursor's row and column.

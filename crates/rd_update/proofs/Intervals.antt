@@ -42,7 +42,7 @@ behind-here false zero x y e le = absurd (omega arith)
 behind-here false (suc n) x y e le = absurd (omega arith)
 
 -- from the end of the differences on cells are the same
-behind-last : (k : ℕ) (d : Cell) (old new : List Cell) → length old ≡ length new → k < length new → end_of_differences old new ≤ k → same_cell (get_or old k d) (get_or new k d) ≡ true
+pub behind-last : (k : ℕ) (d : Cell) (old new : List Cell) → length old ≡ length new → k < length new → end_of_differences old new ≤ k → same_cell (get_or old k d) (get_or new k d) ≡ true
 behind-last k d [] [] n lt le = absurd (omega arith)
 behind-last k d [] (y ∷ ys) n lt le = absurd (cc)
 behind-last k d (x ∷ xs) [] n lt le = absurd (cc)
@@ -72,7 +72,7 @@ last-differs-step false (suc e) zero x y d xs ys s h p = absurd (omega arith)
 last-differs-step true (suc e) (suc j) x y d xs ys s h p = h j (omega arith)
 last-differs-step false (suc e) (suc j) x y d xs ys s h p = h j (omega arith)
 
-last-differs : (d : Cell) (old new : List Cell) (j : ℕ) → suc j ≡ end_of_differences old new → same_cell (get_or old j d) (get_or new j d) ≡ false
+pub last-differs : (d : Cell) (old new : List Cell) (j : ℕ) → suc j ≡ end_of_differences old new → same_cell (get_or old j d) (get_or new j d) ≡ false
 last-differs d [] [] j p = absurd (omega arith)
 last-differs d [] (y ∷ ys) j p = absurd (omega arith)
 last-differs d (x ∷ xs) [] j p = absurd (omega arith)

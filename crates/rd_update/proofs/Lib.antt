@@ -1,3 +1,4 @@
+pub mod Comparing
 pub mod Dressing
 pub mod Feeding
 pub mod Intervals

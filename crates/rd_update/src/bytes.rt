@@ -3,9 +3,9 @@ ghost use Rattle.std.specs.Prelude.{◌≡◌, ◌<◌, ◌++◌, length, OnOk, 
 ghost use Rattle.std.specs.List.{flat_map};
 ghost use Rattle.rd_base.specs.Faces.{plain};
 ghost use Rattle.rd_base.specs.Chars.{encoded};
-ghost use Rattle.rd_update.specs.Updates.{move as move_bytes, text_of_glyph, renditions, number_if, parameter, dress, text_of_cell, face_of, text_by, pen_behind, row_bytes, first_difference as first_column, end_of_differences as end_column, used as used_of};
+ghost use Rattle.rd_update.specs.Updates.{move as move_bytes, text_of_glyph, renditions, number_if, parameter, dress, text_of_cell, face_of, text_by, pen_behind, row_bytes, first_difference as first_column, end_of_differences as end_column};
 
-use crate::span::{Columns, interval, is_face};
+use crate::span::{Columns, interval, same_face, used};
 use itoa::Buffer;
 use rd_base::{Cell, Face, Glyph, ListOf, Memory};
 
@@ -24,14 +24,13 @@ pub(crate) fn push_move(bytes: &mut ListOf<u8>, row: u32, column: u32) -> Result
     Ok(())
 }
 
-/// Adds the bytes of a row that differs in these columns. From the column `used` on it becomes blank and plain.
+/// Adds the bytes of a row that differs in these columns. From where it becomes blank and plain to its end it is erased in one.
 pub(crate) fn push_row(
     bytes: &mut ListOf<u8>,
     row: u32,
     old: &[Cell],
     new: &[Cell],
     differing: Columns,
-    used: usize,
 ) -> Result<(), Memory>
     requires row { row < 65535 }
     requires width { length new.now < 65535 }
@@ -39,11 +38,10 @@ pub(crate) fn push_row(
     requires differ { 0 < end_column old.now new.now }
     requires from { differing.from ≡ first_column old.now new.now }
     requires end { differing.end ≡ end_column old.now new.now }
-    requires used { used ≡ used_of new.now }
     ensures { OnOk result (bytes.new ≡ bytes.old ++ row_bytes row old.now new.now) }
 {
     let sent = interval(differing, old, new);
-    let blank_from = sent.from.max(used);
+    let blank_from = sent.from.max(used(new));
     let to = sent.end.min(blank_from);
     push_move(bytes, row, sent.from as u32)?;
     let pen = push_text(bytes, &new[sent.from..to])?;
@@ -122,7 +120,7 @@ fn push_code(bytes: &mut ListOf<u8>, code: u32) -> Result<(), Memory>
 fn push_dress(bytes: &mut ListOf<u8>, pen: Face, face: Face) -> Result<(), Memory>
     ensures { OnOk result (bytes.new ≡ bytes.old ++ dress pen face) }
 {
-    if is_face(pen, face) {
+    if same_face(pen, face) {
         return Ok(());
     }
     bytes.extend_from_slice(b"\x1b[0")?;

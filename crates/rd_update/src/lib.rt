@@ -13,3 +13,4 @@ pub use law::{
     updates_reach_their_targets,
 };
 pub use plan::{Plan, Sent, WriteFault};
+pub use span::differ;

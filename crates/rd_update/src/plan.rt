@@ -8,7 +8,7 @@ ghost use Rattle.rd_update.specs.Laws.{IsSound};
 ghost use Rattle.rd_update.specs.Plans.{Prepared, planned, shown, HaveOneSize, sent_of, parts_from, old_row as old_row_of, IsRowOf, no_part, front_within, part_if, bytes_if};
 
 use crate::bytes::{push_move, push_row};
-use crate::span::{Room, differences, end_of_differences};
+use crate::span::{Room, differences};
 use rd_base::limits::{FRAME_COLUMNS, FRAME_ROWS};
 use rd_base::{Cell, Face, ListOf, Memory, good_cells_are_small};
 use rd_io::{Sink, write_whole};
@@ -201,7 +201,7 @@ fn old_row<'a>(current: Option<&'a Screen>, blank: &'a [Cell], row: u32) -> &'a 
     }
 }
 
-/// Adds the bytes of a row, if it differs, and where they begin. `blank` is a blank row of its width.
+/// Adds the bytes of a row, if it differs, and where they begin.
 fn push_part(
     bytes: &mut ListOf<u8>,
     parts: &mut ListOf<Part>,
@@ -209,12 +209,10 @@ fn push_part(
     row: u32,
     old: &[Cell],
     new: &[Cell],
-    blank: &[Cell],
 ) -> Result<(), Memory>
     requires row { row < 65535 }
     requires width { length new.now ≤ FRAME_COLUMNS }
     requires length { length old.now ≡ length new.now }
-    requires blank { blank.now ≡ blank_row (length new.now) }
     requires old { All IsSmall old.now }
     requires new { All IsSmall new.now }
     ensures bytes { OnOk result (bytes.new ≡ bytes.old ++ bytes_if (differs old.now new.now) (row_bytes row old.now new.now)) }
@@ -227,8 +225,7 @@ fn push_part(
         row,
         start: bytes.len(),
     })?;
-    let used = end_of_differences(room, blank, new);
-    push_row(bytes, row, old, new, differing, used)
+    push_row(bytes, row, old, new, differing)
 }
 
 /// Adds the bytes of each row that differs, and where they begin. `blank` is a blank row of the target's width.
@@ -252,7 +249,7 @@ fn push_parts(
     for row in 0..target.height() {
         let old = old_row(current, blank, row);
         let new = sound_cells_of(target, row);
-        push_part(bytes, parts, &mut room, row, old, new, blank)?;
+        push_part(bytes, parts, &mut room, row, old, new)?;
     }
     Ok(())
 }

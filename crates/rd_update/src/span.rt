@@ -1,8 +1,9 @@
 //! Where two rows differ.
 ghost use Rattle.std.specs.Prelude.{◌≡◌, ◌+◌, ◌<◌, ◌≤◌, ◌||◌, All, length, drop};
 ghost use Rattle.rd_base.specs.Cells.{IsSmall};
-ghost use Rattle.rd_base.specs.Equals.{same_face};
-ghost use Rattle.rd_update.specs.Updates.{first_difference as first_column, end_of_differences as end_column, is_rest, goes_on, begin_before, going_on, begin_of, end_of};
+ghost use Rattle.rd_base.specs.Equals.{same_cell, same_face};
+ghost use Rattle.rd_term.specs.Pictures.{blank};
+ghost use Rattle.rd_update.specs.Updates.{first_difference as first_column, end_of_differences as end_column, used as used_of, differs, is_rest, goes_on, begin_before, going_on, begin_of, end_of};
 ghost use Rattle.rd_update.specs.Words.{differing_columns};
 
 use crate::words::RowWords;
@@ -34,17 +35,22 @@ impl Room {
 }
 
 /// Whether two faces are the same.
-pub(crate) fn is_face(a: Face, b: Face) -> bool
+pub(crate) fn same_face(a: Face, b: Face) -> bool
     ensures { result ≡ same_face a b }
 {
-    a.fg == b.fg
-        && a.bg == b.bg
-        && a.bold == b.bold
-        && a.underline == b.underline
-        && a.inverse == b.inverse
+    a == b
 }
 
-/// The columns from the first to the last one at which two rows of one width differ. None exactly where they do not.
+/// Whether two rows of one width differ. The first cell that differs ends the comparison.
+pub fn differ(old: &[Cell], new: &[Cell]) -> bool
+    requires { length old.now ≡ length new.now }
+    ensures { result ≡ differs old.now new.now }
+{
+    old != new
+}
+
+/// The columns from the first to the last one at which two rows of one width differ. None exactly where they do not. Only of rows that
+/// differ are there words.
 pub(crate) fn differences(room: &mut Room, old: &[Cell], new: &[Cell]) -> Option<Columns>
     requires length { length old.now ≡ length new.now }
     requires narrow { length new.now ≤ FRAME_COLUMNS }
@@ -52,6 +58,9 @@ pub(crate) fn differences(room: &mut Room, old: &[Cell], new: &[Cell]) -> Option
     requires new { All IsSmall new.now }
     ensures { result ≡ differing_columns old.now new.now }
 {
+    if !differ(old, new) {
+        return None;
+    }
     room.old.read(old);
     room.new.read(new);
     let (old, new) = (room.old.as_slice(), room.new.as_slice());
@@ -64,17 +73,24 @@ pub(crate) fn differences(room: &mut Room, old: &[Cell], new: &[Cell]) -> Option
     }
 }
 
-/// The column after the last one at which two rows of one width differ, and 0 where they do not.
-pub(crate) fn end_of_differences(room: &mut Room, old: &[Cell], new: &[Cell]) -> usize
-    requires length { length old.now ≡ length new.now }
-    requires narrow { length new.now ≤ FRAME_COLUMNS }
-    requires old { All IsSmall old.now }
-    requires new { All IsSmall new.now }
-    ensures { result ≡ end_column old.now new.now }
+/// The first column from which a row is blank and plain to its end.
+pub(crate) fn used(row: &[Cell]) -> usize
+    ensures { result ≡ used_of row.now }
 {
-    match differences(room, old, new) {
-        Some(columns) => columns.end,
-        None => 0,
+    let mut end = row.len();
+    while end > 0 && is_clear(&row[end - 1]) {
+        end -= 1;
+    }
+    end
+}
+
+/// Whether a cell is blank and plain.
+fn is_clear(cell: &Cell) -> bool
+    ensures { result ≡ same_cell blank cell.now }
+{
+    match cell {
+        Cell::Blank(face) => same_face(Face::PLAIN, *face),
+        _ => false,
     }
 }
 

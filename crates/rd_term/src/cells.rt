@@ -1,0 +1,77 @@
+//! The cells of a screen's rows.
+ghost use Rattle.std.specs.Prelude.{◌≡◌, ◌+◌, ◌<◌, ◌≤◌, IfOk, length, replicate, slice_set};
+ghost use Rattle.rd_term.specs.Pictures.{blank_row, written_over};
+
+use rd_base::{Cell, Face, Memory};
+use std::alloc::Global;
+use std::marker::Model;
+
+/// A row of cells, many of which are written in one.
+#[derive(Drop)]
+pub(crate) struct Row {
+    cells: Vec<Cell>,
+}
+
+impl Model for Row {
+    ghost use Rattle.std.specs.Prelude.{List};
+    ghost use Rattle.rd_base.specs.declared.cell.Cell.{Cell};
+
+    ghost Value = { List Cell };
+
+    ghost view = { λ r. r.cells.items };
+}
+
+impl Row {
+    /// A row of these cells.
+    fn of(alloc: Global, cells: &[Cell]) -> Result<Row, Memory>
+        ensures { IfOk result (λ row. row ≡ cells.now) }
+    {
+        Ok(Row {
+            cells: Vec::from_slice(alloc, cells)?,
+        })
+    }
+
+    /// A row of plain blanks.
+    fn blank(alloc: Global, columns: u32) -> Result<Row, Memory>
+        ensures { IfOk result (λ row. row ≡ blank_row columns) }
+    {
+        let mut cells = Vec::new(alloc);
+        cells.resize(columns as usize, Cell::Blank(Face::PLAIN))?;
+        Ok(Row { cells })
+    }
+
+    /// The cells as a slice.
+    pub(crate) fn as_slice(&self) -> &[Cell]
+        ensures { result.now ≡ self.now }
+    {
+        self.cells.as_slice()
+    }
+
+    /// Puts another cell into a column.
+    pub(crate) fn set(&mut self, column: usize, cell: Cell)
+        requires { column < length self.old }
+        ensures { self.new ≡ slice_set self.old column cell }
+    {
+        self.cells[column] = cell;
+    }
+
+    /// Puts other cells in place of those from a column on.
+    pub(crate) fn put(&mut self, column: usize, cells: &[Cell])
+        requires { column + length cells.now ≤ length self.old }
+        ensures { self.new ≡ written_over column cells.now self.old }
+    {
+        self.cells[column..column + cells.len()].copy_from_slice(cells);
+    }
+}
+
+/// So many rows of plain blanks.
+pub(crate) fn blank_rows(alloc: Global, columns: u32, rows: u32) -> Result<Vec<Row>, Memory>
+    ensures { IfOk result (λ made. made.items ≡ replicate rows (blank_row columns)) }
+{
+    let blank = Row::blank(alloc, columns)?;
+    let mut made = Vec::with_capacity(alloc, rows as usize)?;
+    for count in 0..rows {
+        made.push(Row::of(alloc, blank.as_slice())?)?;
+    }
+    Ok(made)
+}
