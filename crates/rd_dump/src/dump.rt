@@ -6,11 +6,10 @@ ghost use Rattle.rd_io.specs.Devices.{Rose, Writes};
 ghost use Rattle.rd_dump.specs.Dumps.{dump_text, windows_text, window_line, place_text, cursor_line, rows_text, row_line, cells_text, cell_text, glyph_text};
 ghost use Rattle.rd_dump.specs.Prints.{Prints};
 
-use crate::piece::Piece;
 use crate::print::{Part, print_bytes, print_character, print_parts};
 use crate::runs::print_runs;
 use rd_base::{Anchor, Cell, Glyph, Pos};
-use rd_io::{Failed, Sink};
+use rd_io::{Failed, Piece, Sink};
 use rd_term::Screen;
 use rd_tree::Rect;
 

@@ -3,7 +3,6 @@
 
 mod dump;
 mod examples;
-mod piece;
 mod print;
 mod runs;
 

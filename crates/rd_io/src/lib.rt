@@ -1,4 +1,5 @@
-//! Sources, files and sinks of bytes, in memory and of the system, each with a count of its faults; and the lines of a source.
+//! Sources, files and sinks of bytes, in memory and of the system, each with a count of its faults; the lines of a source; and a piece
+//! of fixed size, in which a text is made.
 #![tactic(auto)]
 
 mod calls;
@@ -10,6 +11,7 @@ mod lines;
 mod memory_files;
 mod memory_sink;
 mod memory_source;
+mod piece;
 mod traits;
 
 pub use file::{FileFault, read_file};
@@ -18,4 +20,5 @@ pub use lines::{LineFault, Lines, lines_are_cut_at_newlines};
 pub use memory_files::MemFiles;
 pub use memory_sink::MemSink;
 pub use memory_source::MemSource;
+pub use piece::Piece;
 pub use traits::{Failed, Files, Sink, Source, write_whole};

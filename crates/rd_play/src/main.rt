@@ -5,10 +5,13 @@
 
 mod act;
 mod halt;
+mod last_line;
+mod names;
 mod report;
 mod run;
 mod top;
 mod windows;
+mod writing;
 
 ghost use Rattle.std.specs.Prelude.{◌≡◌, ◌<◌};
 

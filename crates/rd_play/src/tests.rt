@@ -1,6 +1,7 @@
 //! Scripts from their bytes to the screen, the report and the status.
 
 mod devices;
+mod every_op;
 
 ghost use Rattle.std.specs.Prelude.{◌≡◌, ◌<◌};
 

@@ -1,5 +1,5 @@
 use Rattle.rd_play.proofs.Telling.{pieces-broke}
-use Rattle.rd_play.proofs.report.tell.Goals as goal
+use Rattle.rd_play.proofs.writing.put.Goals as goal
 
 pub returns-in_err-write_whole-clause-bytes : goal.returns-in_err-write_whole-clause-bytes
 returns-in_err-write_whole-clause-bytes g c =

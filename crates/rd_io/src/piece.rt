@@ -1,8 +1,8 @@
 //! A piece of fixed size, in which a text is made that is then written at once.
 ghost use Rattle.std.specs.Prelude.{◌≡◌, [], Some};
 
+use crate::traits::{Failed, Sink};
 use arrayvec::ArrayVec;
-use rd_io::{Failed, Sink};
 
 /// The most bytes of a piece.
 const ROOM: usize = 8192;
