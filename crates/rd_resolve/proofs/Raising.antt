@@ -1,5 +1,5 @@
 -- One step of the walk that raises a line's levels (I1, I2).
-use Rattle.std.proofs.Common.{◌≡◌, ℕ, ◌+◌, ◌<◌, ◌≤◌, Bool, true, false, if◌then◌else◌, List, [], ◌∷◌, ◌++◌, length, take, drop, set, get_or, slice_get, Some, All, refl, ap, ap₂, sym, ◌∙◌, add-zero, arith}
+use Rattle.std.proofs.Common.{◌≡◌, ℕ, ◌+◌, ◌<◌, ◌≤◌, true, false, if◌then◌else◌, List, [], ◌∷◌, ◌++◌, length, take, drop, set, get_or, slice_get, Some, All, refl, ap, sym, ◌∙◌, add-zero, arith}
 use Rattle.std.proofs.lemmas.List.{drop_more, drop-set-lt, drop-drop, take_more_set, get_or-drop, append_assoc}
 use Rattle.std.proofs.lemmas.Option.{get_or_from_slice_get}
 use Rattle.rd_base.specs.Classes.{is_removed}
