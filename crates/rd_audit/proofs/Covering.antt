@@ -13,11 +13,11 @@ use Rattle.rd_base.specs.declared.cell.Cell.{Cell}
 use Rattle.rd_base.specs.declared.cell.Cell.TheVariants.{Blank, First, Rest}
 use Rattle.rd_base.proofs.Equals.{face-told, face-itself}
 use Rattle.rd_term.specs.Pictures.{blank}
-use Rattle.rd_dump.specs.Dumps.{face_after, faces_of, joined, runs_of, run_text, runs_text, runs_of_row, numbers_text}
+use Rattle.rd_dump.specs.Dumps.{face_after, faces_of, with_columns, runs_of, run_text, runs_text, runs_of_row, numbers_text}
 use Rattle.rd_dump.specs.Dumps as dumps
 use Rattle.rd_audit.specs.Cuts.{pieces}
 use Rattle.rd_audit.specs.Runs.{is_later, is_edge, fits, with_face, faced, painted_by, with_run, painted, runs_over}
-use Rattle.rd_audit.specs.declared.run.Run.{Run}
+use Rattle.rd_audit.specs.declared.run.SaidFaceRun.{SaidFaceRun}
 use Rattle.rd_audit.proofs.Faces.{run_piece, piece-lacks, run-read}
 use Rattle.rd_audit.proofs.Lacking.{lacks, lacks-append, pieces-seam, pieces-one}
 use Rattle.rd_audit.proofs.Spelling.{plainly}
@@ -53,7 +53,7 @@ headed_at : (n : ℕ) (face : Attributes) (run : Stretch) (runs : List Stretch) 
 headed_at n face run runs true = face-itself face
 headed_at n face run runs false = face-itself face
 
-headed : (n : ℕ) (face : Attributes) (runs : List Stretch) → is_headed face (joined n face runs) ≡ true
+headed : (n : ℕ) (face : Attributes) (runs : List Stretch) → is_headed face (with_columns n face runs) ≡ true
 headed n face [] = face-itself face
 headed n face (run ∷ runs) = headed_at n face run runs (same_face face run.1)
 
@@ -65,7 +65,7 @@ covers-more_at cell face run runs cells false e own range start h =
     (cell ∷ [], cells, refl, refl, omega arith, (own, tt), range, start refl, h)
 
 covers-more : (cell : Cell) (face : Attributes) (runs : List Stretch) (cells : List Cell) → with_face face cell ≡ cell → HasColours face
-    → (is_headed face runs ≡ false → is_start cells ≡ true) → Covers runs cells → Covers (joined 1 face runs) (cell ∷ cells)
+    → (is_headed face runs ≡ false → is_start cells ≡ true) → Covers runs cells → Covers (with_columns 1 face runs) (cell ∷ cells)
 covers-more cell face [] cells own range start h = (cell ∷ [], [], ap (λ l. cell ∷ l) h, refl, omega arith, (own, tt), range, refl, refl)
 covers-more cell face (run ∷ runs) cells own range start h = covers-more_at cell face run runs cells (same_face face run.1) refl own range start h
 
@@ -186,7 +186,7 @@ edge-seam done [] h = ap (λ c. not (is_later c)) (get_or_past (done ++ []) (len
 edge-seam done (cell ∷ cells) h =
     ap (λ c. not (is_later c)) (get_or-append_seam done (with_face plain cell) (plainly cells) blank) ∙ ap not (later-alike cell) ∙ h
 
-abbrev run_at : ℕ → ℕ → Attributes → Run
+abbrev run_at : ℕ → ℕ → Attributes → SaidFaceRun
 run_at first last face = record { first = first; last = last; face = face }
 
 fits-there : (from n : ℕ) (face : Attributes) (done front back : List Cell) → from ≤ length done → length front ≡ n → 0 < n → is_start (front ++ back) ≡ true → is_start back ≡ true
@@ -222,7 +222,7 @@ run-there : (from n : ℕ) (face : Attributes) (done front back : List Cell) →
 run-there from n face done front back less small size some own range other start next =
     let cells = done ++ plainly (front ++ back) in
     let run = run_at (length done) (length done + n - 1) face in
-    ap (option_and_then (λ (r : Run). if fits from cells r then Some (r.last + 1, painted_by r cells) else None))
+    ap (option_and_then (λ (r : SaidFaceRun). if fits from cells r then Some (r.last + 1, painted_by r cells) else None))
     (run-read (length done) (length done + n - 1) face (omega (arith, small)) (omega (arith, small)) range other)
     ∙ ap (λ t. if t then Some (run.last + 1, painted_by run cells) else None) (fits-there from n face done front back less size some start next)
     ∙ ap (λ l. Some (run.last + 1, l)) (painted-there n face done front back size some own)

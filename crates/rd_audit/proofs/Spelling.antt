@@ -215,8 +215,8 @@ places-of g h =
     (zeros (6 - g.count) (drop g.count g.marks) size
     (λ k lt. get_or-drop g.count g.marks k 0 ∙ h.rest (g.count + k) (omega arith) (omega (arith, lt, h.count))))
 
-pub marks-joined : (g : Glyph) → IsMeasured g → with_marks (single g.base g.width) (marks_of g) ≡ g
-marks-joined g h =
+pub marks-joined_glyph : (g : Glyph) → IsMeasured g → with_marks (single g.base g.width) (marks_of g) ≡ g
+marks-joined_glyph g h =
     let few : length (marks_of g) ≡ g.count = omega (arith, length-take g.count g.marks, h.count, h.places) in
     let many : length (replicate {A = ℕ} g.count 0) ≡ length (marks_of g) = length-replicate g.count 0 ∙ sym few in
     let sum : 0 + length (marks_of g) ≡ g.count = omega (arith, few) in
@@ -257,7 +257,7 @@ row-read zero (First g f ∷ cells) h front held =
     let few : 0 + length (marks_of g) ≤ 6 = omega (arith, length-take g.count g.marks, h.0.measured.count) in
     ap (option_and_then (λ (next : List Cell × Glyph). cells_from next.0 (Some next.1) (marks_of g ++ codes_of cells))) (first-taken front held g h.0.measured)
     ∙ marks-read (front ++ cells_of held) (codes_of cells) (marks_of g) (single g.base g.width) (marks-are g h.0.measured) few
-    ∙ ap (λ x. cells_from (front ++ cells_of held) (Some x) (codes_of cells)) (marks-joined g h.0.measured)
+    ∙ ap (λ x. cells_from (front ++ cells_of held) (Some x) (codes_of cells)) (marks-joined_glyph g h.0.measured)
     ∙ row-read (g.width - 1) cells h.1 (front ++ cells_of held) (Some g)
     ∙ ap (λ l. Some ((front ++ cells_of held) ++ l)) (glyph-cells g cells h.0 h.1)
     ∙ ap Some (append_assoc front (cells_of held) (First g plain ∷ plainly cells))

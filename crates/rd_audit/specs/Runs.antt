@@ -7,7 +7,7 @@ use Rattle.rd_term.specs.Pens.{is_rendition, dressed}
 use Rattle.rd_term.specs.Pictures.{blank}
 use Rattle.rd_audit.specs.Cuts.{cut, pieces}
 use Rattle.rd_audit.specs.Numbers.{number_of, both}
-use Rattle.rd_audit.specs.declared.run.Run.{Run}
+use Rattle.rd_audit.specs.declared.run.SaidFaceRun.{SaidFaceRun}
 
 -- the place of a face's number among the others: bold, underline, inverse, the colour of the character, the colour behind it
 abbrev pub place_of : ℕ → ℕ
@@ -34,12 +34,12 @@ face_of bytes = face_from 0 plain (pieces 59 bytes)
 abbrev pub span_of : List ℕ → Option (ℕ × ℕ)
 span_of bytes = option_and_then (λ parts. both (number_of parts.0) (number_of parts.1)) (cut 45 bytes)
 
-abbrev pub run_by : Option (ℕ × ℕ) → Option Attributes → Option Run
+abbrev pub run_by : Option (ℕ × ℕ) → Option Attributes → Option SaidFaceRun
 run_by (Some span) (Some face) = Some (record { first = span.0; last = span.1; face = face })
 run_by span face = None
 
 -- `A-B:CODES`
-abbrev pub run_of : List ℕ → Option Run
+abbrev pub run_of : List ℕ → Option SaidFaceRun
 run_of bytes = option_and_then (λ parts. run_by (span_of parts.0) (face_of parts.1)) (cut 58 bytes)
 
 -- whether no character goes on in a column from the one before
@@ -51,7 +51,7 @@ abbrev pub is_edge : List Cell → ℕ → Bool
 is_edge cells column = not (is_later (slice_index_or cells column blank))
 
 -- whether a run stands in a row, from this column on, and cuts no character
-abbrev pub fits : ℕ → List Cell → Run → Bool
+abbrev pub fits : ℕ → List Cell → SaidFaceRun → Bool
 fits from cells run =
     nat_le from run.first && nat_le run.first run.last && nat_lt run.last (length cells) && is_edge cells run.first && is_edge cells (run.last + 1)
 
@@ -67,7 +67,7 @@ faced (suc n) face [] = []
 faced (suc n) face (cell ∷ cells) = with_face face cell ∷ faced n face cells
 
 -- cells with a run's face
-abbrev pub painted_by : Run → List Cell → List Cell
+abbrev pub painted_by : SaidFaceRun → List Cell → List Cell
 painted_by run cells = take run.first cells ++ faced (run.last + 1 - run.first) run.face (drop run.first cells)
 
 -- the next run, which stands from this column on: the column behind it, and the cells with it

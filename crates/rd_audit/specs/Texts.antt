@@ -14,15 +14,15 @@ cells_of None = []
 cells_of (Some g) = glyph_cells g.width g plain
 
 -- a glyph with one more mark, where it has fewer than six
-abbrev pub joined : Glyph → ℕ → Option Glyph
-joined g code = if nat_lt g.count 6 then Some (record g { marks = slice_set g.marks g.count code; count = g.count + 1 }) else None
+abbrev pub joined_glyph : Glyph → ℕ → Option Glyph
+joined_glyph g code = if nat_lt g.count 6 then Some (record g { marks = slice_set g.marks g.count code; count = g.count + 1 }) else None
 
 -- One more character behind cells and a glyph that may be joined yet: the cells before the glyph that may be joined then, and that
 -- glyph. A character of no column joins the glyph, and does not come first. A control has no columns, and is no character of a text.
 abbrev pub taken : List Cell → Option Glyph → ℕ → Option ℕ → Option (List Cell × Glyph)
 taken cells held code None = None
 taken cells None code (Some zero) = None
-taken cells (Some g) code (Some zero) = option_map (λ h. (cells, h)) (joined g code)
+taken cells (Some g) code (Some zero) = option_map (λ h. (cells, h)) (joined_glyph g code)
 taken cells held code (Some (suc columns)) = Some (cells ++ cells_of held, single code (suc columns))
 
 -- cells, those of a glyph that may be joined yet, and those of the characters behind it

@@ -86,19 +86,19 @@ fn is_known(cell: &Cell, shown: Option<Cell>) -> bool
     ensures { result ≡ is_known cell.now shown }
 {
     match shown {
-        Some(other) => is_same_cell(&other, cell),
+        Some(other) => same_cell(&other, cell),
         None => false,
     }
 }
 
 /// Whether two cells are the same.
-fn is_same_cell(cell: &Cell, other: &Cell) -> bool
+fn same_cell(cell: &Cell, other: &Cell) -> bool
     ensures { result ≡ same_cell cell.now other.now }
 {
     match (cell, other) {
-        (Cell::Blank(face), Cell::Blank(under)) => is_same_face(*face, *under),
+        (Cell::Blank(face), Cell::Blank(under)) => same_face(*face, *under),
         (Cell::First(glyph, face), Cell::First(under, back)) => {
-            is_same_glyph(glyph, under) && is_same_face(*face, *back)
+            same_glyph(glyph, under) && same_face(*face, *back)
         }
         (Cell::Rest, Cell::Rest) => true,
         _ => false,
@@ -106,14 +106,14 @@ fn is_same_cell(cell: &Cell, other: &Cell) -> bool
 }
 
 /// Whether two glyphs are the same.
-fn is_same_glyph(glyph: &Glyph, other: &Glyph) -> bool
+fn same_glyph(glyph: &Glyph, other: &Glyph) -> bool
     ensures { result ≡ same_glyph glyph.now other.now }
 {
     *glyph == *other
 }
 
 /// Whether two faces are the same.
-fn is_same_face(face: Face, other: Face) -> bool
+fn same_face(face: Face, other: Face) -> bool
     ensures { result ≡ same_face face other }
 {
     face == other

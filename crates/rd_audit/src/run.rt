@@ -10,7 +10,7 @@ use rd_base::{Cell, Face, ListOf};
 
 /// A run: its first and its last column, from 0, and its face.
 #[derive(Clone, Copy)]
-pub struct Run {
+pub struct SaidFaceRun {
     pub first: u32,
     pub last: u32,
     pub face: Face,
@@ -59,14 +59,14 @@ fn with_run(from: u32, cells: &mut ListOf<Cell>, text: &[u8]) -> Option<u32>
 }
 
 /// The run of a text.
-fn run_of(text: &[u8]) -> Option<Run>
+fn run_of(text: &[u8]) -> Option<SaidFaceRun>
     ensures value { result ≡ run_of text.now }
     ensures bound { IfSome result (λ run. run.last < 1000) }
 {
     let (span, codes) = cut(b':', text)?;
     let (first, last) = span_of(span)?;
     let face = face_of(codes)?;
-    Some(Run { first, last, face })
+    Some(SaidFaceRun { first, last, face })
 }
 
 /// The first and the last column.
@@ -166,7 +166,7 @@ fn dressed(n: u32, face: Face) -> Face
 }
 
 /// Whether a run stands in a row, from this column on, and cuts no character.
-fn fits(from: u32, cells: &[Cell], run: &Run) -> bool
+fn fits(from: u32, cells: &[Cell], run: &SaidFaceRun) -> bool
     requires { run.now.last < 1000 }
     ensures value { result ≡ fits from cells.now run.now }
     ensures within { result ≡ true → (run.now.first ≤ run.now.last) × (run.now.last < length cells.now) }
@@ -189,7 +189,7 @@ fn is_edge(cells: &[Cell], column: usize) -> bool
 }
 
 /// Gives the cells of a run its face.
-fn paint(cells: &mut ListOf<Cell>, run: &Run)
+fn paint(cells: &mut ListOf<Cell>, run: &SaidFaceRun)
     requires order { run.now.first ≤ run.now.last }
     requires within { run.now.last < length cells.old }
     ensures { cells.new ≡ painted_by run.now cells.old }

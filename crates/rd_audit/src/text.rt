@@ -2,7 +2,7 @@
 ghost use Rattle.std.specs.Prelude.{◌≡◌, ◌++◌, ◌≤◌, [], IfOk, OnOk, IfSome, None, option_map};
 ghost use Rattle.std.specs.Str.{chars};
 ghost use Rattle.rd_term.specs.Characters.{columns_of};
-ghost use Rattle.rd_audit.specs.Texts.{cells_of, joined, taken, cells_from, text_cells};
+ghost use Rattle.rd_audit.specs.Texts.{cells_of, joined_glyph, taken, cells_from, text_cells};
 
 use rd_base::{Cell, Face, Glyph, ListOf, Memory};
 use std::alloc::Global;
@@ -55,7 +55,7 @@ fn take(cells: &mut ListOf<Cell>, held: Option<Glyph>, code: char) -> Result<Opt
     match columns_of(code) {
         None => Ok(None),
         Some(0) => match held {
-            Some(glyph) => Ok(joined(glyph, code)),
+            Some(glyph) => Ok(joined_glyph(glyph, code)),
             None => Ok(None),
         },
         Some(columns) => {
@@ -76,8 +76,8 @@ fn columns_of(code: char) -> Option<u8>
 }
 
 /// A glyph with one more mark, where it has fewer than six.
-fn joined(glyph: Glyph, code: char) -> Option<Glyph>
-    ensures { result ≡ joined glyph code }
+fn joined_glyph(glyph: Glyph, code: char) -> Option<Glyph>
+    ensures { result ≡ joined_glyph glyph code }
 {
     if glyph.count < 6 {
         let mut marks = glyph.marks;

@@ -4,7 +4,7 @@ use Rattle.std.proofs.lemmas.Bool.Decides.{nat_tests}
 use Rattle.rd_base.specs.Faces.{Attributes, plain}
 use Rattle.rd_base.specs.Equals.{same_face}
 use Rattle.rd_base.proofs.Equals.{face-told, face-itself}
-use Rattle.rd_dump.specs.Dumps.{joined, runs_of, run_text, runs_text, ended_text, faces_of, face_after, pieces, numbers_text, number_text, numbers_behind, rows_text, row_line}
+use Rattle.rd_dump.specs.Dumps.{with_columns, runs_of, run_text, runs_text, ended_text, faces_of, face_after, pieces, numbers_text, number_text, numbers_behind, rows_text, row_line}
 use Rattle.std.proofs.Math.Seq.{drop-cons}
 use Rattle.std.specs.Result.{IsErr}
 use Rattle.rd_dump.specs.Prints.{Prints}
@@ -25,26 +25,26 @@ if_false true x y e = absurd (true≢false e)
 if_false false x y e = refl
 
 -- more columns of a face before joined runs of it
-joined-more_at : (m n : ℕ) (face : Attributes) (run : ℕ × Attributes) (runs : List (ℕ × Attributes)) (same : Bool)
-    → joined m face (if same then (n + run.0, face) ∷ runs else (n, face) ∷ run ∷ runs) ≡ (if same then (m + n + run.0, face) ∷ runs else (m + n, face) ∷ run ∷ runs)
-joined-more_at m n face run runs true =
+with_columns-more_at : (m n : ℕ) (face : Attributes) (run : ℕ × Attributes) (runs : List (ℕ × Attributes)) (same : Bool)
+    → with_columns m face (if same then (n + run.0, face) ∷ runs else (n, face) ∷ run ∷ runs) ≡ (if same then (m + n + run.0, face) ∷ runs else (m + n, face) ∷ run ∷ runs)
+with_columns-more_at m n face run runs true =
     let sum : m + (n + run.0) ≡ m + n + run.0 = omega arith in
     if_true (same_face face face) _ _ (face-itself face) ∙ ap (λ k. (k, face) ∷ runs) sum
-joined-more_at m n face run runs false = if_true (same_face face face) _ _ (face-itself face)
+with_columns-more_at m n face run runs false = if_true (same_face face face) _ _ (face-itself face)
 
-joined-more : (m n : ℕ) (face : Attributes) (runs : List (ℕ × Attributes)) → joined m face (joined n face runs) ≡ joined (m + n) face runs
-joined-more m n face [] = if_true (same_face face face) _ _ (face-itself face)
-joined-more m n face (run ∷ runs) = joined-more_at m n face run runs (same_face face run.1)
+with_columns-more : (m n : ℕ) (face : Attributes) (runs : List (ℕ × Attributes)) → with_columns m face (with_columns n face runs) ≡ with_columns (m + n) face runs
+with_columns-more m n face [] = if_true (same_face face face) _ _ (face-itself face)
+with_columns-more m n face (run ∷ runs) = with_columns-more_at m n face run runs (same_face face run.1)
 
 -- columns of another face before joined runs
-joined-other_at : (m n : ℕ) (face next : Attributes) (run : ℕ × Attributes) (runs : List (ℕ × Attributes)) (same : Bool) → same_face face next ≡ false
-    → joined m face (if same then (n + run.0, next) ∷ runs else (n, next) ∷ run ∷ runs) ≡ (m, face) ∷ (if same then (n + run.0, next) ∷ runs else (n, next) ∷ run ∷ runs)
-joined-other_at m n face next run runs true other = if_false (same_face face next) _ _ other
-joined-other_at m n face next run runs false other = if_false (same_face face next) _ _ other
+with_columns-other_at : (m n : ℕ) (face next : Attributes) (run : ℕ × Attributes) (runs : List (ℕ × Attributes)) (same : Bool) → same_face face next ≡ false
+    → with_columns m face (if same then (n + run.0, next) ∷ runs else (n, next) ∷ run ∷ runs) ≡ (m, face) ∷ (if same then (n + run.0, next) ∷ runs else (n, next) ∷ run ∷ runs)
+with_columns-other_at m n face next run runs true other = if_false (same_face face next) _ _ other
+with_columns-other_at m n face next run runs false other = if_false (same_face face next) _ _ other
 
-joined-other : (m n : ℕ) (face next : Attributes) (runs : List (ℕ × Attributes)) → same_face face next ≡ false → joined m face (joined n next runs) ≡ (m, face) ∷ joined n next runs
-joined-other m n face next [] other = if_false (same_face face next) _ _ other
-joined-other m n face next (run ∷ runs) other = joined-other_at m n face next run runs (same_face next run.1) other
+with_columns-other : (m n : ℕ) (face next : Attributes) (runs : List (ℕ × Attributes)) → same_face face next ≡ false → with_columns m face (with_columns n next runs) ≡ (m, face) ∷ with_columns n next runs
+with_columns-other m n face next [] other = if_false (same_face face next) _ _ other
+with_columns-other m n face next (run ∷ runs) other = with_columns-other_at m n face next run runs (same_face next run.1) other
 
 told_apart : (f g : Attributes) (same : Bool) → same_face g f ≡ same → same_face f g ≡ false → same ≡ false
 told_apart f g true e other =
@@ -54,21 +54,21 @@ told_apart f g false e other = refl
 
 -- one step of a pass over the faces
 open_text-step : (first n : ℕ) (face next : Attributes) (faces : List Attributes) (same : Bool) → same_face next face ≡ same
-    → open_text first (first + (n + 1)) face faces ≡ runs_text first (joined (n + 1) face (runs_of faces))
-    → open_text (first + n) (first + n + 1) next faces ≡ runs_text (first + n) (joined 1 next (runs_of faces))
+    → open_text first (first + (n + 1)) face faces ≡ runs_text first (with_columns (n + 1) face (runs_of faces))
+    → open_text (first + n) (first + n + 1) next faces ≡ runs_text (first + n) (with_columns 1 next (runs_of faces))
     → (if same then open_text first (first + n + 1) face faces else run_text first (first + n) face ++ open_text (first + n) (first + n + 1) next faces)
-    ≡ runs_text first (joined n face (joined 1 next (runs_of faces)))
+    ≡ runs_text first (with_columns n face (with_columns 1 next (runs_of faces)))
 open_text-step first n face next faces true e on other =
     let turned : next ≡ face = face-told next face e in
     let moved : first + n + 1 ≡ first + (n + 1) = omega arith in
     ap (λ k. open_text first k face faces) moved ∙ on
-    ∙ sym (ap (runs_text first) (joined-more n 1 face (runs_of faces))) ∙ ap (λ f. runs_text first (joined n face (joined 1 f (runs_of faces)))) (sym turned)
+    ∙ sym (ap (runs_text first) (with_columns-more n 1 face (runs_of faces))) ∙ ap (λ f. runs_text first (with_columns n face (with_columns 1 f (runs_of faces)))) (sym turned)
 open_text-step first n face next faces false e on other =
     ap (λ l. run_text first (first + n) face ++ l) other
-    ∙ sym (ap (runs_text first) (joined-other n 1 face next (runs_of faces) (told_apart next face (same_face face next) refl e)))
+    ∙ sym (ap (runs_text first) (with_columns-other n 1 face next (runs_of faces) (told_apart next face (same_face face next) refl e)))
 
 -- one pass finds the runs
-pub open_text-runs : (first n : ℕ) (face : Attributes) (faces : List Attributes) → open_text first (first + n) face faces ≡ runs_text first (joined n face (runs_of faces))
+pub open_text-runs : (first n : ℕ) (face : Attributes) (faces : List Attributes) → open_text first (first + n) face faces ≡ runs_text first (with_columns n face (runs_of faces))
 open_text-runs first n face [] = sym (append-nil (run_text first (first + n) face))
 open_text-runs first n face (next ∷ faces) =
     open_text-step first n face next faces (same_face next face) refl (open_text-runs first (n + 1) face faces) (open_text-runs (first + n) 1 next faces)
@@ -81,7 +81,7 @@ before_plain_at run runs true e =
     ap (λ k. run_text 0 k plain ++ runs_text k runs) sum ∙ ap (λ f. run_text 0 (0 + run.0) f ++ runs_text (0 + run.0) runs) (face-told plain run.1 e)
 before_plain_at run runs false e = refl
 
-before_plain : (runs : List (ℕ × Attributes)) → runs_text 0 (joined 0 plain runs) ≡ runs_text 0 runs
+before_plain : (runs : List (ℕ × Attributes)) → runs_text 0 (with_columns 0 plain runs) ≡ runs_text 0 runs
 before_plain [] = refl
 before_plain (run ∷ runs) = before_plain_at run runs (same_face plain run.1) refl
 

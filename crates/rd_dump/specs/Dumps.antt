@@ -79,14 +79,14 @@ faces_of before [] = []
 faces_of before (cell ∷ cells) = face_after before cell ∷ faces_of (face_after before cell) cells
 
 -- so many columns of a face before these runs, each of which is a number of columns and their face
-abbrev pub joined : ℕ → Attributes → List (ℕ × Attributes) → List (ℕ × Attributes)
-joined n face [] = (n, face) ∷ []
-joined n face (run ∷ runs) = if same_face face run.1 then (n + run.0, face) ∷ runs else (n, face) ∷ run ∷ runs
+abbrev pub with_columns : ℕ → Attributes → List (ℕ × Attributes) → List (ℕ × Attributes)
+with_columns n face [] = (n, face) ∷ []
+with_columns n face (run ∷ runs) = if same_face face run.1 then (n + run.0, face) ∷ runs else (n, face) ∷ run ∷ runs
 
 -- the maximal runs of equal faces
 abbrev pub runs_of : List Attributes → List (ℕ × Attributes)
 runs_of [] = []
-runs_of (face ∷ faces) = joined 1 face (runs_of faces)
+runs_of (face ∷ faces) = with_columns 1 face (runs_of faces)
 
 -- ---- a face's numbers
 

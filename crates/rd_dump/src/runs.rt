@@ -10,7 +10,7 @@ use rd_io::{Failed, Sink};
 
 /// A run that may go on: its first column, from 0, and its face.
 #[derive(Clone, Copy)]
-pub struct Run {
+pub struct OpenFaceRun {
     pub first: usize,
     pub face: Face,
 }
@@ -19,7 +19,7 @@ pub struct Run {
 pub fn print_runs<K: Sink>(sink: &mut K, cells: &[Cell]) -> Result<(), Failed>
     ensures { Prints (K.written sink.old) (K.written sink.new) (K.faults sink.old) (K.faults sink.new) (runs_of_row cells.now) result }
 {
-    let mut run = Run {
+    let mut run = OpenFaceRun {
         first: 0,
         face: Face::PLAIN,
     };
@@ -32,16 +32,16 @@ pub fn print_runs<K: Sink>(sink: &mut K, cells: &[Cell]) -> Result<(), Failed>
 }
 
 /// Writes a run where the next column has another face, and answers the run that the column is in.
-fn print_ended<K: Sink>(sink: &mut K, run: Run, column: usize, next: Face) -> Result<Run, Failed>
+fn print_ended<K: Sink>(sink: &mut K, run: OpenFaceRun, column: usize, next: Face) -> Result<OpenFaceRun, Failed>
     ensures text { Prints (K.written sink.old) (K.written sink.new) (K.faults sink.old) (K.faults sink.new) (ended_text run.first column run.face next) result }
     ensures first { IfOk result (λ now. now.first ≡ (if same_face next run.face then run.first else column)) }
     ensures face { IfOk result (λ now. now.face ≡ (if same_face next run.face then run.face else next)) }
 {
-    if is_same(next, run.face) {
+    if same_face(next, run.face) {
         return Ok(run);
     }
     print_run(sink, run.first, column, run.face)?;
-    Ok(Run {
+    Ok(OpenFaceRun {
         first: column,
         face: next,
     })
@@ -58,7 +58,7 @@ fn face_after(before: Face, cell: &Cell) -> Face
 }
 
 /// Whether two faces are the same.
-fn is_same(face: Face, other: Face) -> bool
+fn same_face(face: Face, other: Face) -> bool
     ensures { result ≡ same_face face other }
 {
     face == other
@@ -68,7 +68,7 @@ fn is_same(face: Face, other: Face) -> bool
 fn print_run<K: Sink>(sink: &mut K, first: usize, end: usize, face: Face) -> Result<(), Failed>
     ensures { Prints (K.written sink.old) (K.written sink.new) (K.faults sink.old) (K.faults sink.new) (run_text first end face) result }
 {
-    if is_same(face, Face::PLAIN) {
+    if same_face(face, Face::PLAIN) {
         return Ok(());
     }
     let parts = [

@@ -15,7 +15,7 @@ use Rattle.rd_ucd.specs.declared.spans.BracketEntry.{BracketEntry}
 use Rattle.rd_ucd.specs.declared.listing.Codes.{Codes}
 use Rattle.rd_ucd.specs.declared.entries.Mark.{Mark}
 use Rattle.rd_ucd.specs.declared.entries.Mark.TheVariants.{Alone, First, Last}
-use Rattle.rd_ucd.specs.declared.entries.Entry.{Entry}
+use Rattle.rd_ucd.specs.declared.entries.DataEntry.{DataEntry}
 use Rattle.rd_ucd.specs.declared.entries.Opened.{Opened}
 use Rattle.rd_ucd.specs.Codes.{code_of}
 use Rattle.rd_ucd.specs.Pieces.{chomped}
@@ -90,7 +90,7 @@ abbrev IsOpenWithin : ℕ → Option Opened → Type 0
 IsOpenWithin most None = Unit {0}
 IsOpenWithin most (Some o) = o.number ≤ most
 
-opened-within : (most n : ℕ) (e : Entry) (mark : Mark) → n ≤ most → IsOpenWithin most (opened_by mark n e)
+opened-within : (most n : ℕ) (e : DataEntry) (mark : Mark) → n ≤ most → IsOpenWithin most (opened_by mark n e)
 opened-within most n e Alone h = tt
 opened-within most n e First h = h
 opened-within most n e Last h = tt
@@ -105,7 +105,7 @@ unless-within most n true closed result h rest = h
 unless-within most n false true result h rest = rest
 unless-within most n false false result h rest = h
 
-spans-within : (most least : ℕ) (opened : Option Opened) (entries : List (ℕ × Result Entry UcdFault)) → AreWithin most entries → IsOpenWithin most opened
+spans-within : (most least : ℕ) (opened : Option Opened) (entries : List (ℕ × Result DataEntry UcdFault)) → AreWithin most entries → IsOpenWithin most opened
     → IsWithin most (spans_from least opened entries)
 spans-within most least opened [] h o = ended-within most opened o
 spans-within most least opened ((n, Err fault) ∷ entries) h o = h.1

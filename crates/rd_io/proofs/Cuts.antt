@@ -4,7 +4,7 @@ use Rattle.std.specs.List.{AllByRecursion, position_from}
 use Rattle.std.specs.Prelude.{position}
 use Rattle.std.proofs.lemmas.Bool.Decides.{nat_tests}
 use Rattle.std.proofs.lemmas.Iterator.Adapters.{position_from-zero}
-use Rattle.rd_io.specs.Lines.{IsUnbroken, lines_of, joined, last_of}
+use Rattle.rd_io.specs.Lines.{IsUnbroken, lines_of, text_of_lines, last_of}
 use Rattle.rd_io.specs.Pieces.{BreaksAt}
 
 pub unbroken-append : (xs ys : List ℕ) → IsUnbroken xs → IsUnbroken ys → IsUnbroken (xs ++ ys)
@@ -68,8 +68,8 @@ lines-rest [] p = refl
 lines-rest (b ∷ []) p = rw (not_ten_test b p.0) refl
 lines-rest (b ∷ c ∷ cs) p = rw (not_ten_test b p.0, lines-rest (c ∷ cs) p.1) refl
 
-pub lines-joined : (lines : List (List ℕ)) (rest : List ℕ) → AllByRecursion IsUnbroken lines → IsUnbroken rest → lines_of (joined lines ++ rest) ≡ lines ++ last_of rest
-lines-joined [] rest p q = lines-rest rest q
-lines-joined (line ∷ lines) rest p q =
-    let regrouped : joined (line ∷ lines) ++ rest ≡ line ++ 10 ∷ (joined lines ++ rest) = simp append_assoc in
-    ap lines_of regrouped ∙ lines-whole line (joined lines ++ rest) p.0 ∙ ap (λ ls. line ∷ ls) (lines-joined lines rest p.1 q)
+pub lines-text_of_lines : (lines : List (List ℕ)) (rest : List ℕ) → AllByRecursion IsUnbroken lines → IsUnbroken rest → lines_of (text_of_lines lines ++ rest) ≡ lines ++ last_of rest
+lines-text_of_lines [] rest p q = lines-rest rest q
+lines-text_of_lines (line ∷ lines) rest p q =
+    let regrouped : text_of_lines (line ∷ lines) ++ rest ≡ line ++ 10 ∷ (text_of_lines lines ++ rest) = simp append_assoc in
+    ap lines_of regrouped ∙ lines-whole line (text_of_lines lines ++ rest) p.0 ∙ ap (λ ls. line ∷ ls) (lines-text_of_lines lines rest p.1 q)

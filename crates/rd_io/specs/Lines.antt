@@ -26,8 +26,8 @@ last_of [] = []
 last_of (b ∷ bs) = (b ∷ bs) ∷ []
 
 -- lines, each with its newline
-abbrev pub joined : List (List ℕ) → List ℕ
-joined lines = flat_map (λ line. line ++ 10 ∷ []) lines
+abbrev pub text_of_lines : List (List ℕ) → List ℕ
+text_of_lines lines = flat_map (λ line. line ++ 10 ∷ []) lines
 
 -- The state of a reader of lines: the bytes that it took from the source and has not given in lines, the line that it lends,
 -- how many lines it gave, whether it has met the end of the source, and the fault that it answers from then on.

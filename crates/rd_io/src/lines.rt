@@ -3,7 +3,7 @@ ghost use Rattle.std.specs.Prelude.{◌≡◌, ◌≢◌, ◌≤◌, ◌+◌, �
 ghost use Rattle.std.specs.List.{AllByRecursion};
 ghost use Rattle.std.specs.Io.KnownBytes.{Consumes};
 ghost use Rattle.rd_io.specs.Devices.{Rose};
-ghost use Rattle.rd_io.specs.Lines.{Answers, lines_of, joined, IsUnbroken, last_of};
+ghost use Rattle.rd_io.specs.Lines.{Answers, lines_of, text_of_lines, IsUnbroken, last_of};
 ghost use Rattle.rd_io.specs.Pieces.{BreaksAt, IsLeft, PutsPiece, TakesPiece, Gathers};
 
 use crate::chunk::Chunk;
@@ -228,5 +228,5 @@ fn position_of_newline(bytes: &[u8]) -> Option<usize>
 /// the rest where it is not empty.
 pub fn lines_are_cut_at_newlines()
     ensures { (lines : List (List ℕ)) (rest : List ℕ) → AllByRecursion IsUnbroken lines → IsUnbroken rest
-        → lines_of (joined lines ++ rest) ≡ lines ++ last_of rest }
+        → lines_of (text_of_lines lines ++ rest) ≡ lines ++ last_of rest }
 {}

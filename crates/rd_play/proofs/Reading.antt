@@ -3,16 +3,16 @@ use Rattle.std.proofs.Common.{◌≡◌, ℕ, ◌+◌, ◌<◌, ◌≤◌, inl, 
 use Rattle.std.specs.List.{AllByRecursion}
 use Rattle.std.specs.Io.KnownBytes.{Consumes, IsAtEnd}
 use Rattle.std.proofs.KnownBytes.{Consumes-nil, Consumes-trans}
-use Rattle.rd_io.specs.Lines.{Reading, Answers, GivesWhole, GivesLast, GivesNone, IsUnbroken, lines_of, joined, last_of, unread}
+use Rattle.rd_io.specs.Lines.{Reading, Answers, GivesWhole, GivesLast, GivesNone, IsUnbroken, lines_of, text_of_lines, last_of, unread}
 use Rattle.rd_io.specs.declared.lines.LineFault.{LineFault}
-use Rattle.rd_io.proofs.Cuts.{lines-joined}
+use Rattle.rd_io.proofs.Cuts.{lines-text_of_lines}
 use Rattle.rd_run.specs.Ends.{AreFirst, AreInLimits}
 
 pub record HasRead (lines : List (List ℕ)) (bytes : List ℕ) (l0 l1 : Option (List ℕ)) (r : Reading) : Type 0 where
   pub taken : Consumes l0 l1 bytes
   pub unbroken : AllByRecursion IsUnbroken lines
   pub short : AllByRecursion (λ line. length line ≤ 1048576) lines
-  pub split : r.ended ≡ false → bytes ≡ joined lines ++ r.held
+  pub split : r.ended ≡ false → bytes ≡ text_of_lines lines ++ r.held
   pub over : r.ended ≡ true → (lines_of bytes ≡ lines) × IsAtEnd l1
   pub count : r.given ≡ length lines
   pub few : r.given ≤ 1000000
@@ -30,10 +30,10 @@ all-push : (P : List ℕ → Type 0) (xs : List (List ℕ)) (x : List ℕ) → A
 all-push P [] x p q = (q, tt)
 all-push P (y ∷ ys) x p q = (p.0, all-push P ys x p.1 q)
 
-joined-push : (lines : List (List ℕ)) (line rest : List ℕ) → joined (lines ++ line ∷ []) ++ rest ≡ joined lines ++ (line ++ 10 ∷ rest)
-joined-push [] line rest = simp append_assoc
-joined-push (l ∷ ls) line rest =
-    append_assoc (l ++ 10 ∷ []) (joined (ls ++ line ∷ [])) rest ∙ ap (λ x. (l ++ 10 ∷ []) ++ x) (joined-push ls line rest) ∙ sym (append_assoc (l ++ 10 ∷ []) (joined ls) (line ++ 10 ∷ rest))
+text_of_lines-push : (lines : List (List ℕ)) (line rest : List ℕ) → text_of_lines (lines ++ line ∷ []) ++ rest ≡ text_of_lines lines ++ (line ++ 10 ∷ rest)
+text_of_lines-push [] line rest = simp append_assoc
+text_of_lines-push (l ∷ ls) line rest =
+    append_assoc (l ++ 10 ∷ []) (text_of_lines (ls ++ line ∷ [])) rest ∙ ap (λ x. (l ++ 10 ∷ []) ++ x) (text_of_lines-push ls line rest) ∙ sym (append_assoc (l ++ 10 ∷ []) (text_of_lines ls) (line ++ 10 ∷ rest))
 
 last-some : (line : List ℕ) → 0 < length line → last_of line ≡ line ∷ []
 last-some [] p = absurd (omega arith)
@@ -47,8 +47,8 @@ pub not-over : (b : Bool) → b ≡ false → b ≡ true → ⊥
 not-over b p q = cc
 
 -- the bytes that came behind the lines so far
-pub come : (lines : List (List ℕ)) (bytes held more : List ℕ) → bytes ≡ joined lines ++ held → bytes ++ more ≡ joined lines ++ (held ++ more)
-come lines bytes held more e = ap (λ l. l ++ more) e ∙ append_assoc (joined lines) held more
+pub come : (lines : List (List ℕ)) (bytes held more : List ℕ) → bytes ≡ text_of_lines lines ++ held → bytes ++ more ≡ text_of_lines lines ++ (held ++ more)
+come lines bytes held more e = ap (λ l. l ++ more) e ∙ append_assoc (text_of_lines lines) held more
 
 read-whole : (lines : List (List ℕ)) (bytes more : List ℕ) (l0 l1 l2 : Option (List ℕ)) (old new : Reading) → HasRead lines bytes l0 l1 old → Consumes l1 l2 more → old.ended ≡ false
     → GivesWhole old new more → HasRead (lines ++ new.line ∷ []) (bytes ++ more) l0 l2 new
@@ -56,7 +56,7 @@ read-whole lines bytes more l0 l1 l2 old new h p off g = record {
   taken = Consumes-trans l0 l1 l2 bytes more h.taken p;
   unbroken = all-push IsUnbroken lines new.line h.unbroken g.line.unbroken;
   short = all-push (λ line. length line ≤ 1048576) lines new.line h.short g.line.short;
-  split = λ q. come lines bytes old.held more (h.split off) ∙ ap (λ l. joined lines ++ l) g.split ∙ sym (joined-push lines new.line new.held);
+  split = λ q. come lines bytes old.held more (h.split off) ∙ ap (λ l. text_of_lines lines ++ l) g.split ∙ sym (text_of_lines-push lines new.line new.held);
   over = λ q. absurd (not-over new.ended g.goes_on q);
   count = let a = h.count in let b = g.line.count in omega (arith, length-push lines new.line);
   few = let a = g.line.few in let b = g.line.count in omega arith;
@@ -71,7 +71,7 @@ read-last lines bytes more l0 l1 l2 old new h p off g = record {
   short = all-push (λ line. length line ≤ 1048576) lines new.line h.short g.line.short;
   split = λ q. absurd (not-over new.ended q g.ended);
   over = λ q. (
-    ap lines_of (come lines bytes old.held more (h.split off) ∙ ap (λ l. joined lines ++ l) g.split) ∙ lines-joined lines new.line h.unbroken g.line.unbroken
+    ap lines_of (come lines bytes old.held more (h.split off) ∙ ap (λ l. text_of_lines lines ++ l) g.split) ∙ lines-text_of_lines lines new.line h.unbroken g.line.unbroken
         ∙ ap (λ l. lines ++ l) (last-some new.line g.some),
     g.end,
   );
@@ -111,7 +111,7 @@ pub read-over-open : (lines : List (List ℕ)) (bytes more : List ℕ) (l0 l1 l2
     → GivesNone old new more l2 → Consumes l0 l2 (bytes ++ more) × (lines_of (bytes ++ more) ≡ lines) × IsAtEnd l2
 read-over-open lines bytes more l0 l1 l2 old new h p off g = (
   Consumes-trans l0 l1 l2 bytes more h.taken p,
-  ap lines_of (come lines bytes old.held more (h.split off) ∙ ap (λ l. joined lines ++ l) g.split) ∙ lines-joined lines [] h.unbroken tt ∙ append-nil lines,
+  ap lines_of (come lines bytes old.held more (h.split off) ∙ ap (λ l. text_of_lines lines ++ l) g.split) ∙ lines-text_of_lines lines [] h.unbroken tt ∙ append-nil lines,
   g.end off,
 )
 

@@ -16,8 +16,8 @@ use Rattle.rd_props.specs.Buffers.{BufferValue}
 use Rattle.rd_props.specs.Values.{value_of, last_value, effective}
 use Rattle.rd_props.specs.Faces.{face_of, laid_over, face_at}
 use Rattle.rd_props.specs.Strings.{is_empty, part_of, part_in, strings_of}
-use Rattle.rd_props.specs.declared.strings.Part.{Part}
-use Rattle.rd_props.specs.declared.strings.Part.TheVariants.{Closing, Between, Opening}
+use Rattle.rd_props.specs.declared.strings.StringPlace.{StringPlace}
+use Rattle.rd_props.specs.declared.strings.StringPlace.TheVariants.{Closing, Between, Opening}
 use Rattle.rd_props.specs.Seen.{accessible_char, Agree}
 
 -- what a position sees of an overlay, wherever it stands
@@ -66,12 +66,12 @@ listing-same listings f g a b alike =
 abbrev value_by : Kind → Mark → Option ℕ
 value_by kind m = get_or m.values (place_of kind) None
 
-abbrev part_by : Part → Mark → List ℕ
+abbrev part_by : StringPlace → Mark → List ℕ
 part_by Closing m = if m.empty then [] else option_to_list (value_by After m)
 part_by Between m = if m.empty then option_to_list (value_by Before m) ++ option_to_list (value_by After m) else []
 part_by Opening m = if m.empty then [] else option_to_list (value_by Before m)
 
-part-by : (part : Part) (o : Overlay) → part_of part o ≡ part_by part (mark_of o)
+part-by : (part : StringPlace) (o : Overlay) → part_of part o ≡ part_by part (mark_of o)
 part-by Closing o = refl
 part-by Between o = refl
 part-by Opening o = refl
@@ -88,7 +88,7 @@ no-mark o false e same = absurd (cc)
 -- an overlay that is listed, and the one that stands at its number in another list
 record GivesSame (s t : Option Overlay) : Type 0 where
   value : (kind : Kind) → value_of kind s ≡ value_of kind t
-  part : (part : Part) → part_in part s ≡ part_in part t
+  part : (part : StringPlace) → part_in part s ≡ part_in part t
 
 slots-give : (f g : Overlay → Bool) (s t : Option Overlay) → Passes f s → picked f s ≡ picked g t → GivesSame s t
 slots-give f g None t pass same = absurd pass
@@ -136,7 +136,7 @@ module _ (a b : List (Option Overlay)) where
       faces-same objects ns (over (face_of objects (value_of Face (overlay_at a n))) face) (λ m h. same m (later-contained n m ns h))
       ∙ ap (λ (o : Option ℕ). laid_over objects b ns (over (face_of objects o) face)) here
 
-  strings-same : (part : Part) (ns : List ℕ) → GiveSame a b ns → strings_of part a ns ≡ strings_of part b ns
+  strings-same : (part : StringPlace) (ns : List ℕ) → GiveSame a b ns → strings_of part a ns ≡ strings_of part b ns
   strings-same part [] same = refl
   strings-same part (n ∷ ns) same =
       let rest = strings-same part ns (λ m h. same m (later-contained n m ns h)) in
@@ -163,12 +163,12 @@ module _ (listings : AreListings) (x y : ℕ) (a b : List (Option Overlay)) (see
   faces-agree objects face =
       faces-same a b objects (covering x a) face covering-gives ∙ ap (λ (ns : List ℕ). laid_over objects b ns face) covering-same
 
-  starts-agree : (part : Part) → strings_of part a (starting x a) ≡ strings_of part b (starting y b)
+  starts-agree : (part : StringPlace) → strings_of part a (starting x a) ≡ strings_of part b (starting y b)
   starts-agree part =
       strings-same a b part (starting x a) (listing-gives listings (starts x) (starts y) a b see.starts)
       ∙ ap (strings_of part b) (listing-same listings (starts x) (starts y) a b see.starts)
 
-  ends-agree : (part : Part) → strings_of part a (reverse (ending x a)) ≡ strings_of part b (reverse (ending y b))
+  ends-agree : (part : StringPlace) → strings_of part a (reverse (ending x a)) ≡ strings_of part b (reverse (ending y b))
   ends-agree part =
       let gives = listing-gives listings (ends x) (ends y) a b see.ends in
       strings-same a b part (reverse (ending x a)) (λ n h. gives n (turned-contained n (ending x a) h))

@@ -9,8 +9,8 @@ use Rattle.rd_overlays.specs.Overlays.{overlay_at, starting, ending, precedes, p
 use Rattle.rd_props.specs.Buffers.{BufferValue}
 use Rattle.rd_props.specs.Values.{value_of}
 use Rattle.rd_props.specs.Strings.{is_empty, before_string, after_string, part_in, strings_of, strings_at, strings_within}
-use Rattle.rd_props.specs.declared.strings.Part.{Part}
-use Rattle.rd_props.specs.declared.strings.Part.TheVariants.{Closing, Between, Opening}
+use Rattle.rd_props.specs.declared.strings.StringPlace.{StringPlace}
+use Rattle.rd_props.specs.declared.strings.StringPlace.TheVariants.{Closing, Between, Opening}
 
 -- what numbers weigh together
 abbrev weighed : (ℕ → ℕ) → List ℕ → ℕ
@@ -30,10 +30,10 @@ weighed-reverse w (x ∷ xs) =
     omega (arith, turned, sum, rest)
 
 -- a number weighs the strings that a part of its overlay has
-abbrev weight : Part → List (Option Overlay) → ℕ → ℕ
+abbrev weight : StringPlace → List (Option Overlay) → ℕ → ℕ
 weight part slots number = length (part_in part (overlay_at slots number))
 
-strings-weighed : (part : Part) (slots : List (Option Overlay)) (ns : List ℕ) → length (strings_of part slots ns) ≡ weighed (weight part slots) ns
+strings-weighed : (part : StringPlace) (slots : List (Option Overlay)) (ns : List ℕ) → length (strings_of part slots ns) ≡ weighed (weight part slots) ns
 strings-weighed part slots [] = refl
 strings-weighed part slots (n ∷ ns) = omega (arith, length-append (part_in part (overlay_at slots n)) (strings_of part slots ns), strings-weighed part slots ns)
 

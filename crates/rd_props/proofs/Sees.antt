@@ -11,8 +11,8 @@ use Rattle.rd_objects.specs.Things.{ObjectLists}
 use Rattle.rd_props.specs.Buffers.{BufferValue, property}
 use Rattle.rd_props.specs.Values.{value_of, last_value, effective}
 use Rattle.rd_props.specs.Strings.{is_empty, before_string, after_string, part_of, part_in, strings_of, strings_at}
-use Rattle.rd_props.specs.declared.strings.Part.{Part}
-use Rattle.rd_props.specs.declared.strings.Part.TheVariants.{Closing, Between, Opening}
+use Rattle.rd_props.specs.declared.strings.StringPlace.{StringPlace}
+use Rattle.rd_props.specs.declared.strings.StringPlace.TheVariants.{Closing, Between, Opening}
 use Rattle.rd_props.specs.Seen.{seen_at}
 use Rattle.rd_props.specs.Made.{IsMade, AreMade, SeesMade}
 
@@ -66,17 +66,17 @@ module _ (s : BufferValue) (objects : ObjectLists) (made : AreMade s objects) wh
   after-made : (number : ℕ) (o : Overlay) → overlay_at s.overlays number ≡ Some o → All IsString (after_string o)
   after-made number o lives = listed IsString (value_of After (Some o)) (if-value IsString (value_of After (Some o)) (λ v h. made.overlays number v After o lives h))
 
-  part-made : (part : Part) (number : ℕ) (o : Overlay) → overlay_at s.overlays number ≡ Some o → All IsString (part_of part o)
+  part-made : (part : StringPlace) (number : ℕ) (o : Overlay) → overlay_at s.overlays number ≡ Some o → All IsString (part_of part o)
   part-made Closing number o lives = chosen IsString (is_empty o) [] (after_string o) (All-nil IsString) (after-made number o lives)
   part-made Between number o lives =
       chosen IsString (is_empty o) (before_string o ++ after_string o) [] (All-append IsString (before_string o) (after_string o) (before-made number o lives) (after-made number o lives)) (All-nil IsString)
   part-made Opening number o lives = chosen IsString (is_empty o) [] (before_string o) (All-nil IsString) (before-made number o lives)
 
-  in-made : (part : Part) (number : ℕ) (slot : Option Overlay) → overlay_at s.overlays number ≡ slot → All IsString (part_in part slot)
+  in-made : (part : StringPlace) (number : ℕ) (slot : Option Overlay) → overlay_at s.overlays number ≡ slot → All IsString (part_in part slot)
   in-made part number None lives = All-nil IsString
   in-made part number (Some o) lives = part-made part number o lives
 
-  strings-made : (part : Part) (numbers : List ℕ) → All IsString (strings_of part s.overlays numbers)
+  strings-made : (part : StringPlace) (numbers : List ℕ) → All IsString (strings_of part s.overlays numbers)
   strings-made part [] = All-nil IsString
   strings-made part (number ∷ numbers) =
       All-append IsString (part_in part (overlay_at s.overlays number)) (strings_of part s.overlays numbers)

@@ -5,8 +5,8 @@ use Rattle.rd_overlays.specs.declared.overlay.Overlay.{Overlay}
 use Rattle.rd_overlays.specs.declared.overlay.Kind.TheVariants.{Before, After}
 use Rattle.rd_overlays.specs.Overlays.{overlay_at, starting, ending}
 use Rattle.rd_props.specs.Buffers.{BufferValue}
-use Rattle.rd_props.specs.declared.strings.Part.{Part}
-use Rattle.rd_props.specs.declared.strings.Part.TheVariants.{Closing, Between, Opening}
+use Rattle.rd_props.specs.declared.strings.StringPlace.{StringPlace}
+use Rattle.rd_props.specs.declared.strings.StringPlace.TheVariants.{Closing, Between, Opening}
 use Rattle.rd_props.specs.Values.{value_of}
 
 -- an overlay that covers nothing
@@ -21,17 +21,17 @@ after_string overlay = option_to_list (value_of After (Some overlay))
 
 -- what an overlay puts behind the text that it covers, what it puts where it covers nothing, and what it puts before the text
 -- that it covers
-abbrev pub part_of : Part → Overlay → List ℕ
+abbrev pub part_of : StringPlace → Overlay → List ℕ
 part_of Closing overlay = if is_empty overlay then [] else after_string overlay
 part_of Between overlay = if is_empty overlay then before_string overlay ++ after_string overlay else []
 part_of Opening overlay = if is_empty overlay then [] else before_string overlay
 
-abbrev pub part_in : Part → Option Overlay → List ℕ
+abbrev pub part_in : StringPlace → Option Overlay → List ℕ
 part_in part None = []
 part_in part (Some overlay) = part_of part overlay
 
 -- what these overlays put, one after the other
-abbrev pub strings_of : Part → List (Option Overlay) → List ℕ → List ℕ
+abbrev pub strings_of : StringPlace → List (Option Overlay) → List ℕ → List ℕ
 strings_of part slots [] = []
 strings_of part slots (number ∷ numbers) = part_in part (overlay_at slots number) ++ strings_of part slots numbers
 

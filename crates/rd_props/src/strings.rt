@@ -14,7 +14,7 @@ use std::alloc::Global;
 /// Which of its strings an overlay puts at a position: its after-string behind the text that it covers, both where it covers
 /// nothing, its before-string before the text that it covers.
 #[derive(Clone, Copy, Debug, PartialEq, Eq)]
-enum Part {
+enum StringPlace {
     Closing,
     Between,
     Opening,
@@ -46,13 +46,13 @@ fn add_both(strings: &mut ListOf<u32>, overlay: &Overlay) -> Result<(), Memory>
 }
 
 /// Adds the strings of one overlay.
-fn add_part(strings: &mut ListOf<u32>, part: Part, overlay: &Overlay) -> Result<(), Memory>
+fn add_part(strings: &mut ListOf<u32>, part: StringPlace, overlay: &Overlay) -> Result<(), Memory>
     ensures { OnOk result (strings.new ≡ strings.old ++ part_of part overlay.now) }
 {
     match (part, is_empty(overlay)) {
-        (Part::Between, true) => add_both(strings, overlay),
-        (Part::Closing, false) => add(strings, overlay.values[Kind::After as usize]),
-        (Part::Opening, false) => add(strings, overlay.values[Kind::Before as usize]),
+        (StringPlace::Between, true) => add_both(strings, overlay),
+        (StringPlace::Closing, false) => add(strings, overlay.values[Kind::After as usize]),
+        (StringPlace::Opening, false) => add(strings, overlay.values[Kind::Before as usize]),
         _ => Ok(()),
     }
 }
@@ -60,7 +60,7 @@ fn add_part(strings: &mut ListOf<u32>, part: Part, overlay: &Overlay) -> Result<
 /// Adds the strings of the overlay of a number.
 fn add_strings(
     strings: &mut ListOf<u32>,
-    part: Part,
+    part: StringPlace,
     overlays: &Overlays,
     number: u32,
 ) -> Result<(), Memory>
@@ -75,7 +75,7 @@ fn add_strings(
 /// Adds the strings of these overlays, from the first to the last.
 fn add_forward(
     strings: &mut ListOf<u32>,
-    part: Part,
+    part: StringPlace,
     overlays: &Overlays,
     numbers: &[u32],
 ) -> Result<(), Memory>
@@ -90,7 +90,7 @@ fn add_forward(
 /// Adds the strings of these overlays, from the last to the first.
 fn add_backward(
     strings: &mut ListOf<u32>,
-    part: Part,
+    part: StringPlace,
     overlays: &Overlays,
     numbers: &[u32],
 ) -> Result<(), Memory>
@@ -118,8 +118,8 @@ pub fn strings_at(alloc: Global, view: &View, pos: Pos) -> Result<ListOf<u32>, M
     let ending = overlays.ending(pos)?;
     let starting = overlays.starting(pos)?;
     let mut strings = ListOf::new(alloc);
-    add_backward(&mut strings, Part::Closing, overlays, ending.as_slice())?;
-    add_forward(&mut strings, Part::Between, overlays, starting.as_slice())?;
-    add_forward(&mut strings, Part::Opening, overlays, starting.as_slice())?;
+    add_backward(&mut strings, StringPlace::Closing, overlays, ending.as_slice())?;
+    add_forward(&mut strings, StringPlace::Between, overlays, starting.as_slice())?;
+    add_forward(&mut strings, StringPlace::Opening, overlays, starting.as_slice())?;
     Ok(strings)
 }

@@ -4,7 +4,7 @@ use Rattle.std.specs.List.{AllByRecursion}
 use Rattle.std.proofs.lemmas.Bool.Decides.{nat_tests}
 use Rattle.std.proofs.lemmas.List.{take-append-le}
 use Rattle.std.specs.Io.KnownBytes.{Consumes, IsAtEnd}
-use Rattle.rd_io.specs.Lines.{lines_of, in_front, joined, IsUnbroken}
+use Rattle.rd_io.specs.Lines.{lines_of, in_front, text_of_lines, IsUnbroken}
 use Rattle.rd_io.proofs.Cuts.{lines-whole}
 use Rattle.rd_run.specs.Ends.{Begins, AreFirst}
 
@@ -20,11 +20,11 @@ all-behind P (y ∷ xs) x ys h = all-behind P xs x ys h.1
 
 -- ---- lines
 
-lines-behind : (lines : List (List ℕ)) (rest : List ℕ) → AllByRecursion IsUnbroken lines → lines_of (joined lines ++ rest) ≡ lines ++ lines_of rest
+lines-behind : (lines : List (List ℕ)) (rest : List ℕ) → AllByRecursion IsUnbroken lines → lines_of (text_of_lines lines ++ rest) ≡ lines ++ lines_of rest
 lines-behind [] rest p = refl
 lines-behind (line ∷ lines) rest p =
-    let regrouped : joined (line ∷ lines) ++ rest ≡ line ++ 10 ∷ (joined lines ++ rest) = simp append_assoc in
-    ap lines_of regrouped ∙ lines-whole line (joined lines ++ rest) p.0 ∙ ap (λ ls. line ∷ ls) (lines-behind lines rest p.1)
+    let regrouped : text_of_lines (line ∷ lines) ++ rest ≡ line ++ 10 ∷ (text_of_lines lines ++ rest) = simp append_assoc in
+    ap lines_of regrouped ∙ lines-whole line (text_of_lines lines ++ rest) p.0 ∙ ap (λ ls. line ∷ ls) (lines-behind lines rest p.1)
 
 -- a first line, which has at least so many bytes
 pub record HasFirst (n : ℕ) (lines : List (List ℕ)) : Type 0 where
@@ -89,7 +89,7 @@ pub goes-on : (lines : List (List ℕ)) (script bytes rest : List ℕ) (left : O
     → (more : List ℕ) × (lines_of script ≡ lines ++ lines_of (rest ++ more))
 goes-on lines script bytes rest None p b = absurd p
 goes-on lines script bytes rest (Some more) p b =
-    let whole : script ≡ joined lines ++ (rest ++ more) = p ∙ ap (λ l. l ++ more) b.1 ∙ append_assoc (joined lines) rest more in
+    let whole : script ≡ text_of_lines lines ++ (rest ++ more) = p ∙ ap (λ l. l ++ more) b.1 ∙ append_assoc (text_of_lines lines) rest more in
     (more, ap lines_of whole ∙ lines-behind lines (rest ++ more) b.0)
 
 pub ends-there : (script bytes : List ℕ) (left : Option (List ℕ)) → IsTakenFrom script bytes left → IsAtEnd left → script ≡ bytes

@@ -4,7 +4,7 @@ use Rattle.std.specs.List.{AllByRecursion}
 use Rattle.std.specs.Io.KnownBytes.{Appends, IsAtEnd}
 use Rattle.rd_base.specs.declared.limits.TheConstants.{LINE_BYTES, LINES}
 use Rattle.rd_io.specs.Devices.{Rose}
-use Rattle.rd_io.specs.Lines.{lines_of, joined, IsUnbroken}
+use Rattle.rd_io.specs.Lines.{lines_of, text_of_lines, IsUnbroken}
 use Rattle.rd_generate.specs.Generated.{script as generated}
 use Rattle.rd_state.specs.States.{main_name}
 use Rattle.rd_state.specs.Windows.{selected_window}
@@ -60,7 +60,7 @@ pub record AreInLimits (lines : List (List ℕ)) : Type 0 where
 
 -- the bytes are these lines, each with its newline, and a rest
 abbrev pub Begins : List (List ℕ) → List ℕ → List ℕ → Type 0
-Begins lines bytes rest = AllByRecursion IsUnbroken lines × (bytes ≡ joined lines ++ rest)
+Begins lines bytes rest = AllByRecursion IsUnbroken lines × (bytes ≡ text_of_lines lines ++ rest)
 
 -- the bytes taken from the source are the lines run, which pass no limit, each with its newline, and a rest
 abbrev pub GoesOn : List Turn → List ℕ → List ℕ → Type 0

@@ -15,9 +15,9 @@ use std::alloc::Global;
 
 /// A run: where it begins and ends, its kind, and the number of its face or display spec.
 #[derive(Drop)]
-pub struct Run;
+pub struct RunForm;
 
-impl Form for Run {
+impl Form for RunForm {
     ghost use Rattle.rd_script.specs.Objects.{run};
 
     type Said = OpRun;
@@ -56,9 +56,9 @@ fn run_kind(value: &Value) -> Option<RunKind>
 
 /// An entry of a display table: a code, and what is shown in its place.
 #[derive(Drop)]
-pub struct Entry;
+pub struct EntryForm;
 
-impl Form for Entry {
+impl Form for EntryForm {
     ghost use Rattle.rd_script.specs.Objects.{entry};
 
     type Said = OpEntry;

@@ -12,7 +12,7 @@ use crate::form::{Flag, Form, Within};
 use crate::item::AtMost;
 use crate::name::ObjectOp;
 use crate::object::{OpSpec, SpecName};
-use crate::object_form::{Entry, Run};
+use crate::object_form::{EntryForm, RunForm};
 use crate::op::Op;
 use crate::text_form::{GlyphText, Slot, Text};
 use rd_base::limits::{SPACE_COLUMNS, STRING_RUNS, TABLE_ENTRIES};
@@ -26,7 +26,7 @@ pub fn read_object(alloc: Global, members: &Members, op: ObjectOp) -> Result<Op,
     match op {
         ObjectOp::String => Ok(Op::AddString {
             text: required(alloc, members, "text", &Text)?,
-            runs: some_items(alloc, members, "runs", STRING_RUNS, Run)?,
+            runs: some_items(alloc, members, "runs", STRING_RUNS, RunForm)?,
         }),
         ObjectOp::Spec => Ok(Op::AddSpec {
             spec: spec(alloc, members)?,
@@ -63,7 +63,7 @@ fn read_table(alloc: Global, members: &Members) -> Result<Op, OpFault>
     ensures { IsRead result ((object_row objects.Table).taken (members_view members.now.entries)) }
 {
     Ok(Op::AddTable {
-        entries: some_items(alloc, members, "entries", TABLE_ENTRIES, Entry)?,
+        entries: some_items(alloc, members, "entries", TABLE_ENTRIES, EntryForm)?,
         truncation: slot(alloc, members, "truncation")?,
         continuation: slot(alloc, members, "continuation")?,
         escape: slot(alloc, members, "escape")?,

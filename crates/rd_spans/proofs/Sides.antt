@@ -4,9 +4,9 @@ use Rattle.std.specs.Prelude.{is_some, min, nat_lt, nat_eq, slice_get, slice_ind
 use Rattle.std.proofs.lemmas.Bool.Decides.{nat_tests}
 use Rattle.std.proofs.lemmas.Bool.{eqb-true, eq-eqb, lt-ltb, le-ltb, cases_lt}
 use Rattle.std.proofs.lemmas.List.{replicate-append-replicate, length-replicate, take_all, length-reverse, reverse-append, get_or_append_left, get_or-append_right, get_or-replicate, get_or_past, get_or-reverse, take-append-le}
-use Rattle.rd_spans.specs.declared.run.Run.{Run}
+use Rattle.rd_spans.specs.declared.run.ValueRun.{ValueRun}
 use Rattle.rd_spans.specs.Values.{value_at, IsTrimmed}
-use Rattle.rd_spans.specs.Sides.{values_from, values_of, Rises, reach, size_of, value_in, top, same_value, has_value, meet, needs, joined, AreMoved, GapMoved}
+use Rattle.rd_spans.specs.Sides.{values_from, values_of, Rises, reach, size_of, value_in, top, same_value, has_value, meet, needs, values_of_both, AreMoved, GapMoved}
 
 -- values
 
@@ -22,70 +22,70 @@ same_value-refl (Some a) = eq-eqb a a refl
 
 -- runs and a last one
 
-pub reach-push : (k : ℕ) (rs : List Run) (r : Run) → reach k (rs ++ r ∷ []) ≡ r.end
+pub reach-push : (k : ℕ) (rs : List ValueRun) (r : ValueRun) → reach k (rs ++ r ∷ []) ≡ r.end
 reach-push k [] r = refl
 reach-push k (q ∷ rs) r = reach-push q.end rs r
 
-pub reach-least : (k : ℕ) (rs : List Run) → Rises k rs → k ≤ reach k rs
+pub reach-least : (k : ℕ) (rs : List ValueRun) → Rises k rs → k ≤ reach k rs
 reach-least k [] h = omega arith
 reach-least k (r ∷ rs) h = omega (arith, h.0, reach-least r.end rs h.1)
 
-pub rises-push : (k : ℕ) (rs : List Run) (r : Run) → Rises k rs → reach k rs < r.end → Rises k (rs ++ r ∷ [])
+pub rises-push : (k : ℕ) (rs : List ValueRun) (r : ValueRun) → Rises k rs → reach k rs < r.end → Rises k (rs ++ r ∷ [])
 rises-push k [] r h p = (p, tt)
 rises-push k (q ∷ rs) r h p = (h.0, rises-push q.end rs r h.1 p)
 
-pub rises-parts : (k : ℕ) (rs : List Run) (r : Run) → Rises k (rs ++ r ∷ []) → Rises k rs × (reach k rs < r.end)
+pub rises-parts : (k : ℕ) (rs : List ValueRun) (r : ValueRun) → Rises k (rs ++ r ∷ []) → Rises k rs × (reach k rs < r.end)
 rises-parts k [] r h = (tt, h.0)
 rises-parts k (q ∷ rs) r h = let rest = rises-parts q.end rs r h.1 in ((h.0, rest.0), rest.1)
 
-pub values-push : (k : ℕ) (rs : List Run) (r : Run) → values_from k (rs ++ r ∷ []) ≡ values_from k rs ++ replicate (r.end - reach k rs) r.value
+pub values-push : (k : ℕ) (rs : List ValueRun) (r : ValueRun) → values_from k (rs ++ r ∷ []) ≡ values_from k rs ++ replicate (r.end - reach k rs) r.value
 values-push k [] r = append-nil (replicate (r.end - k) r.value)
 values-push k (q ∷ rs) r = rw (values-push q.end rs r, append_assoc) refl
 
-pub top-push : (rs : List Run) (r : Run) → top (rs ++ r ∷ []) ≡ Some r
+pub top-push : (rs : List ValueRun) (r : ValueRun) → top (rs ++ r ∷ []) ≡ Some r
 top-push [] r = refl
 top-push (q ∷ []) r = refl
 top-push (q ∷ (s ∷ rs)) r = top-push (s ∷ rs) r
 
-length-push : (rs : List Run) (r : Run) → length (rs ++ r ∷ []) ≡ length rs + 1
+length-push : (rs : List ValueRun) (r : ValueRun) → length (rs ++ r ∷ []) ≡ length rs + 1
 length-push rs r = length-append rs (r ∷ [])
 
-pub length-values : (k : ℕ) (rs : List Run) → Rises k rs → length (values_from k rs) + k ≡ reach k rs
+pub length-values : (k : ℕ) (rs : List ValueRun) → Rises k rs → length (values_from k rs) + k ≡ reach k rs
 length-values k [] h = omega arith
 length-values k (r ∷ rs) h =
     omega (arith, length-append (replicate (r.end - k) r.value) (values_from r.end rs), length-replicate (r.end - k) r.value, length-values r.end rs h.1, h.0)
 
-pub size-values : (rs : List Run) → Rises 0 rs → length (values_of rs) ≡ size_of rs
+pub size-values : (rs : List ValueRun) → Rises 0 rs → length (values_of rs) ≡ size_of rs
 size-values rs h = omega (arith, length-values 0 rs h)
 
-pub few-runs : (k : ℕ) (rs : List Run) → Rises k rs → length rs + k ≤ reach k rs
+pub few-runs : (k : ℕ) (rs : List ValueRun) → Rises k rs → length rs + k ≤ reach k rs
 few-runs k [] h = omega arith
 few-runs k (r ∷ rs) h = omega (arith, few-runs r.end rs h.1, h.0)
 
 -- the last run is the one at the last place
-pub last-top : (rs : List Run) → slice_get rs (length rs - 1) ≡ top rs
+pub last-top : (rs : List ValueRun) → slice_get rs (length rs - 1) ≡ top rs
 last-top [] = refl
 last-top (r ∷ []) = refl
 last-top (r ∷ (q ∷ rs)) =
     let e : length (r ∷ (q ∷ rs)) - 1 ≡ suc (length (q ∷ rs) - 1) = omega arith in
     ap (λ (i : ℕ). slice_get (r ∷ (q ∷ rs)) i) e ∙ last-top (q ∷ rs)
 
-pub size-top : (rs : List Run) (r : Run) → top rs ≡ Some r → (k : ℕ) → reach k rs ≡ r.end
+pub size-top : (rs : List ValueRun) (r : ValueRun) → top rs ≡ Some r → (k : ℕ) → reach k rs ≡ r.end
 size-top [] r e k = absurd (cc)
-size-top (q ∷ []) r e k = let s : q ≡ r = cc in ap (λ (x : Run). x.end) s
+size-top (q ∷ []) r e k = let s : q ≡ r = cc in ap (λ (x : ValueRun). x.end) s
 size-top (q ∷ (s ∷ rs)) r e k = size-top (s ∷ rs) r e q.end
 
-pub size-none : (rs : List Run) → top rs ≡ None → rs ≡ []
+pub size-none : (rs : List ValueRun) → top rs ≡ None → rs ≡ []
 size-none [] e = refl
 size-none (q ∷ []) e = absurd (cc)
 size-none (q ∷ (s ∷ rs)) e = absurd (none-there (s ∷ rs) s rs refl e) where
-  none-there : (xs : List Run) (y : Run) (ys : List Run) → xs ≡ y ∷ ys → top xs ≡ None → ⊥
+  none-there : (xs : List ValueRun) (y : ValueRun) (ys : List ValueRun) → xs ≡ y ∷ ys → top xs ≡ None → ⊥
   none-there xs y [] e n = let t : top (y ∷ []) ≡ None = rw e at n in cc
   none-there xs y (z ∷ zs) e n = none-there (z ∷ zs) z zs refl (rw e at n)
 
 -- the value of a place
 
-pub value_in-values : (k : ℕ) (rs : List Run) (p : ℕ) → Rises k rs → k ≤ p → value_at (values_from k rs) (p - k) ≡ value_in rs p
+pub value_in-values : (k : ℕ) (rs : List ValueRun) (p : ℕ) → Rises k rs → k ≤ p → value_at (values_from k rs) (p - k) ≡ value_in rs p
 value_in-values k [] p h low = refl
 value_in-values k (r ∷ rs) p h low =
     let here = replicate (r.end - k) r.value in
@@ -101,10 +101,10 @@ value_in-values k (r ∷ rs) p h low =
           (get_or-append_right here rest (r.end - k) (p - k) None long (omega arith) ∙ (ap (value_at rest) e ∙ value_in-values r.end rs p h.1 more))
     ]
 
-pub value-of-place : (rs : List Run) (p : ℕ) → Rises 0 rs → value_at (values_of rs) p ≡ value_in rs p
+pub value-of-place : (rs : List ValueRun) (p : ℕ) → Rises 0 rs → value_at (values_of rs) p ≡ value_in rs p
 value-of-place rs p h = let e : p ≡ p - 0 = omega arith in ap (value_at (values_of rs)) e ∙ value_in-values 0 rs p h (omega arith)
 
-pub rises-ends : (k : ℕ) (es : List Run) (i j : ℕ) (d : Run) → Rises k es → i ≤ j → j < length es → (k < (slice_index_or es i d).end) × ((slice_index_or es i d).end ≤ (slice_index_or es j d).end)
+pub rises-ends : (k : ℕ) (es : List ValueRun) (i j : ℕ) (d : ValueRun) → Rises k es → i ≤ j → j < length es → (k < (slice_index_or es i d).end) × ((slice_index_or es i d).end ≤ (slice_index_or es j d).end)
 rises-ends k [] i j d h p q = absurd (omega arith)
 rises-ends k (r ∷ rs) zero zero d h p q = (h.0, omega arith)
 rises-ends k (r ∷ rs) zero (suc j) d h p q = let rest = rises-ends r.end rs j j d h.1 (omega arith) (omega arith) in (h.0, omega (arith, rest.0))
@@ -112,44 +112,44 @@ rises-ends k (r ∷ rs) (suc i) zero d h p q = absurd (omega arith)
 rises-ends k (r ∷ rs) (suc i) (suc j) d h p q = let rest = rises-ends r.end rs i j d h.1 (omega arith) (omega arith) in (omega (arith, rest.0, h.0), rest.1)
 
 -- the first run that ends behind a place gives its value
-pub found-run : (es : List Run) (i p : ℕ) (r : Run) → ((k : ℕ) (d : Run) → k < i → (slice_index_or es k d).end ≤ p) → p < r.end → i < length es → slice_index_or es i r ≡ r → value_in es p ≡ r.value
+pub found-run : (es : List ValueRun) (i p : ℕ) (r : ValueRun) → ((k : ℕ) (d : ValueRun) → k < i → (slice_index_or es k d).end ≤ p) → p < r.end → i < length es → slice_index_or es i r ≡ r → value_in es p ≡ r.value
 found-run [] i p r below high h e = absurd (omega arith)
 found-run (q ∷ es) zero p r below high h e = let s : q ≡ r = e in rw (s, lt-ltb p r.end high) refl
 found-run (q ∷ es) (suc i) p r below high h e =
     rw (le-ltb p q.end (below 0 q (omega arith))) (found-run es i p r (λ k d l. below (suc k) d (omega arith)) high (omega arith) e)
 
-pub found-none : (es : List Run) (p : ℕ) → ((k : ℕ) (d : Run) → k < length es → (slice_index_or es k d).end ≤ p) → value_in es p ≡ None
+pub found-none : (es : List ValueRun) (p : ℕ) → ((k : ℕ) (d : ValueRun) → k < length es → (slice_index_or es k d).end ≤ p) → value_in es p ≡ None
 found-none [] p below = refl
 found-none (q ∷ es) p below = rw (le-ltb p q.end (below 0 q (omega arith))) (found-none es p (λ k d l. below (suc k) d (omega arith)))
 
 -- a run's end, and the end of the one before it
-pub end-at : (k : ℕ) (es : List Run) (i : ℕ) (d : Run) → Rises k es → i < length es → (slice_index_or es i d).end ≤ reach k es
+pub end-at : (k : ℕ) (es : List ValueRun) (i : ℕ) (d : ValueRun) → Rises k es → i < length es → (slice_index_or es i d).end ≤ reach k es
 end-at k [] i d h p = absurd (omega arith)
 end-at k (r ∷ rs) zero d h p = reach-least r.end rs h.1
 end-at k (r ∷ rs) (suc i) d h p = end-at r.end rs i d h.1 (omega arith)
 
-rises-take : (k : ℕ) (rs : List Run) (i : ℕ) → Rises k rs → Rises k (take i rs)
+rises-take : (k : ℕ) (rs : List ValueRun) (i : ℕ) → Rises k rs → Rises k (take i rs)
 rises-take k rs zero h = tt
 rises-take k [] (suc i) h = tt
 rises-take k (r ∷ rs) (suc i) h = (h.0, rises-take r.end rs i h.1)
 
-pub end-before : (k : ℕ) (es : List Run) (i : ℕ) (d : Run) → Rises k es → i < length es → (reach k (take i es) < (slice_index_or es i d).end) × ((j : ℕ) (c : Run) → j < i → (slice_index_or es j c).end ≤ reach k (take i es))
+pub end-before : (k : ℕ) (es : List ValueRun) (i : ℕ) (d : ValueRun) → Rises k es → i < length es → (reach k (take i es) < (slice_index_or es i d).end) × ((j : ℕ) (c : ValueRun) → j < i → (slice_index_or es j c).end ≤ reach k (take i es))
 end-before k [] i d h p = absurd (omega arith)
 end-before k (r ∷ rs) zero d h p = (h.0, λ j c q. absurd (omega arith))
 end-before k (r ∷ rs) (suc i) d h p =
     let rest = end-before r.end rs i d h.1 (omega arith) in
     (rest.0, below k r rs i h rest.1) where
-      below : (k : ℕ) (r : Run) (rs : List Run) (i : ℕ) → Rises k (r ∷ rs) → ((j : ℕ) (c : Run) → j < i → (slice_index_or rs j c).end ≤ reach r.end (take i rs)) → (j : ℕ) (c : Run) → j < suc i → (slice_index_or (r ∷ rs) j c).end ≤ reach r.end (take i rs)
+      below : (k : ℕ) (r : ValueRun) (rs : List ValueRun) (i : ℕ) → Rises k (r ∷ rs) → ((j : ℕ) (c : ValueRun) → j < i → (slice_index_or rs j c).end ≤ reach r.end (take i rs)) → (j : ℕ) (c : ValueRun) → j < suc i → (slice_index_or (r ∷ rs) j c).end ≤ reach r.end (take i rs)
       below k r rs i h rest zero c q = reach-least r.end (take i rs) (rises-take r.end rs i h.1)
       below k r rs i h rest (suc j) c q = rest j c (omega arith)
 
-pub reach-before : (k : ℕ) (es : List Run) (i p : ℕ) → k ≤ p → ((j : ℕ) (c : Run) → j < i → (slice_index_or es j c).end ≤ p) → reach k (take i es) ≤ p
+pub reach-before : (k : ℕ) (es : List ValueRun) (i p : ℕ) → k ≤ p → ((j : ℕ) (c : ValueRun) → j < i → (slice_index_or es j c).end ≤ p) → reach k (take i es) ≤ p
 reach-before k es zero p low below = low
 reach-before k [] (suc i) p low below = low
 reach-before k (r ∷ rs) (suc i) p low below = reach-before r.end rs i p (below 0 r (omega arith)) (λ j c q. below (suc j) c (omega arith))
 
 -- each place of a run has its value
-pub same-run : (es : List Run) (i p q : ℕ) (d : Run) → Rises 0 es → i < length es → size_of (take i es) ≤ p → p < (slice_index_or es i d).end → size_of (take i es) ≤ q → q < (slice_index_or es i d).end → value_at (values_of es) p ≡ value_at (values_of es) q
+pub same-run : (es : List ValueRun) (i p q : ℕ) (d : ValueRun) → Rises 0 es → i < length es → size_of (take i es) ≤ p → p < (slice_index_or es i d).end → size_of (take i es) ≤ q → q < (slice_index_or es i d).end → value_at (values_of es) p ≡ value_at (values_of es) q
 same-run es i p q d h l a b c e =
     let r = slice_index_or es i d in
     let before = (end-before 0 es i d h l).1 in
@@ -157,22 +157,22 @@ same-run es i p q d h l a b c e =
     value-of-place es p h
     ∙ (found-run es i p r (λ k x m. omega (arith, before k x m)) b l here
     ∙ (sym (found-run es i q r (λ k x m. omega (arith, before k x m)) e l here) ∙ sym (value-of-place es q h))) where
-      default-same : (es : List Run) (i : ℕ) (r d : Run) → i < length es → slice_index_or es i r ≡ slice_index_or es i d
+      default-same : (es : List ValueRun) (i : ℕ) (r d : ValueRun) → i < length es → slice_index_or es i r ≡ slice_index_or es i d
       default-same [] i r d l = absurd (omega arith)
       default-same (x ∷ es) zero r d l = refl
       default-same (x ∷ es) (suc i) r d l = default-same es i r d (omega arith)
 
 -- a run is opened at its end, or a new one begins
-pub has-top : (rs : List Run) (r : Run) (value : Option ℕ) → has_value (top (rs ++ r ∷ [])) value ≡ same_value r.value value
+pub has-top : (rs : List ValueRun) (r : ValueRun) (value : Option ℕ) → has_value (top (rs ++ r ∷ [])) value ≡ same_value r.value value
 has-top rs r value = rw (top-push rs r) refl
 
-pub opened-values : (rs : List Run) (r : Run) (value : Option ℕ) → same_value r.value value ≡ true → values_of (rs ++ r ∷ []) ≡ values_of rs ++ replicate (size_of (rs ++ r ∷ []) - size_of rs) value
+pub opened-values : (rs : List ValueRun) (r : ValueRun) (value : Option ℕ) → same_value r.value value ≡ true → values_of (rs ++ r ∷ []) ≡ values_of rs ++ replicate (size_of (rs ++ r ∷ []) - size_of rs) value
 opened-values rs r value e = rw (reach-push 0 rs r, ← same_value-true r.value value e) (values-push 0 rs r)
 
-pub longer-values : (old new : List Run) (end n : ℕ) (value : Option ℕ) → values_of old ≡ values_of new ++ replicate (size_of old - size_of new) value → size_of new ≤ size_of old → end ≡ size_of old + n
+pub longer-values : (old new : List ValueRun) (end n : ℕ) (value : Option ℕ) → values_of old ≡ values_of new ++ replicate (size_of old - size_of new) value → size_of new ≤ size_of old → end ≡ size_of old + n
     → values_of (new ++ record { end = end; value = value } ∷ []) ≡ values_of old ++ replicate n value
 longer-values old new end n value e less is =
-    let run : Run = record { end = end; value = value } in
+    let run : ValueRun = record { end = end; value = value } in
     let long : end - size_of new ≡ (size_of old - size_of new) + n = omega arith in
     values-push 0 new run
     ∙ (ap (λ (m : ℕ). values_of new ++ replicate m value) long
@@ -181,52 +181,52 @@ longer-values old new end n value e less is =
     ∙ ap (λ (vs : List (Option ℕ)). vs ++ replicate n value) (sym e))))
 
 -- the search for a place
-pub size-below : (k : ℕ) (es : List Run) (p : ℕ) → ((j : ℕ) (d : Run) → j < length es → (slice_index_or es j d).end ≤ p) → k ≤ p → reach k es ≤ p
+pub size-below : (k : ℕ) (es : List ValueRun) (p : ℕ) → ((j : ℕ) (d : ValueRun) → j < length es → (slice_index_or es j d).end ≤ p) → k ≤ p → reach k es ≤ p
 size-below k [] p below low = low
 size-below k (r ∷ rs) p below low = size-below r.end rs p (λ j d l. below (suc j) d (omega arith)) (below 0 r (omega arith))
 
-pub found-within : (es : List Run) (i p : ℕ) → ((k : ℕ) (d : Run) → k < i → (slice_index_or es k d).end < p + 1) → p < size_of es → i < length es
+pub found-within : (es : List ValueRun) (i p : ℕ) → ((k : ℕ) (d : ValueRun) → k < i → (slice_index_or es k d).end < p + 1) → p < size_of es → i < length es
 found-within es i p below within =
     elim (cases_lt i (length es)) [
       | inl less ↦ less
       | inr more ↦ absurd (omega (arith, size-below 0 es p (λ j d l. omega (arith, below j d (omega arith))) (omega arith)))
     ]
 
-pub found-some : (es : List Run) (i p : ℕ) (r : Run) → Rises 0 es → ((k : ℕ) (d : Run) → k < i → (slice_index_or es k d).end < p + 1) → ((k : ℕ) (d : Run) → i ≤ k → k < length es → p + 1 ≤ (slice_index_or es k d).end)
+pub found-some : (es : List ValueRun) (i p : ℕ) (r : ValueRun) → Rises 0 es → ((k : ℕ) (d : ValueRun) → k < i → (slice_index_or es k d).end < p + 1) → ((k : ℕ) (d : ValueRun) → i ≤ k → k < length es → p + 1 ≤ (slice_index_or es k d).end)
     → i < length es → r ≡ slice_index_or es i r → r.value ≡ value_at (values_of es) p
 found-some es i p r h below behind l e =
     let reaches : p + 1 ≤ (slice_index_or es i r).end = behind i r (omega arith) l in
     let high : p < r.end = rw e (omega arith) in
     sym (value-of-place es p h ∙ found-run es i p r (λ k d q. omega (arith, below k d q)) high l (sym e))
 
-pub found-past : (es : List Run) (i p : ℕ) → Rises 0 es → ((k : ℕ) (d : Run) → k < i → (slice_index_or es k d).end < p + 1) → length es ≤ i → None ≡ value_at (values_of es) p
+pub found-past : (es : List ValueRun) (i p : ℕ) → Rises 0 es → ((k : ℕ) (d : ValueRun) → k < i → (slice_index_or es k d).end < p + 1) → length es ≤ i → None ≡ value_at (values_of es) p
 found-past es i p h below past = sym (value-of-place es p h ∙ found-none es p (λ k d q. omega (arith, below k d (omega arith))))
 
-pub size-last : (rs : List Run) (r : Run) → Some r ≡ slice_get rs (length rs - 1) → r.end ≡ size_of rs
+pub size-last : (rs : List ValueRun) (r : ValueRun) → Some r ≡ slice_get rs (length rs - 1) → r.end ≡ size_of rs
 size-last rs r e = sym (size-top rs r (sym (last-top rs) ∙ sym e) 0)
 
 -- what is left where the last run is taken
-pub popped-rises : (old rs : List Run) (r : Run) → old ≡ rs ++ r ∷ [] → Rises 0 old → Rises 0 rs × ((size_of rs < r.end) × (size_of old ≡ r.end))
+pub popped-rises : (old rs : List ValueRun) (r : ValueRun) → old ≡ rs ++ r ∷ [] → Rises 0 old → Rises 0 rs × ((size_of rs < r.end) × (size_of old ≡ r.end))
 popped-rises old rs r e h =
     let parts = rises-parts 0 rs r (subst (Rises 0) e h) in
     (parts.0, (parts.1, ap size_of e ∙ reach-push 0 rs r))
 
-pub popped-values : (old rs : List Run) (r : Run) → old ≡ rs ++ r ∷ [] → values_of old ≡ values_of rs ++ replicate (r.end - size_of rs) r.value
+pub popped-values : (old rs : List ValueRun) (r : ValueRun) → old ≡ rs ++ r ∷ [] → values_of old ≡ values_of rs ++ replicate (r.end - size_of rs) r.value
 popped-values old rs r e = ap values_of e ∙ values-push 0 rs r
 
-pub popped-has : (old rs : List Run) (r : Run) (value : Option ℕ) → old ≡ rs ++ r ∷ [] → has_value (top old) value ≡ same_value r.value value
-popped-has old rs r value e = ap (λ (x : List Run). has_value (top x) value) e ∙ has-top rs r value
+pub popped-has : (old rs : List ValueRun) (r : ValueRun) (value : Option ℕ) → old ≡ rs ++ r ∷ [] → has_value (top old) value ≡ same_value r.value value
+popped-has old rs r value e = ap (λ (x : List ValueRun). has_value (top x) value) e ∙ has-top rs r value
 
-pub popped-length : (old rs : List Run) (r : Run) → old ≡ rs ++ r ∷ [] → length old ≡ length rs + 1
+pub popped-length : (old rs : List ValueRun) (r : ValueRun) → old ≡ rs ++ r ∷ [] → length old ≡ length rs + 1
 popped-length old rs r e = ap length e ∙ length-push rs r
 
-pub kept-count : (old rs : List Run) (r : Run) (value : Option ℕ) → old ≡ rs ++ r ∷ [] → same_value r.value value ≡ false → length (rs ++ r ∷ []) + (if has_value (top old) value then 1 else 0) ≡ length old
+pub kept-count : (old rs : List ValueRun) (r : ValueRun) (value : Option ℕ) → old ≡ rs ++ r ∷ [] → same_value r.value value ≡ false → length (rs ++ r ∷ []) + (if has_value (top old) value then 1 else 0) ≡ length old
 kept-count old rs r value e f = rw (popped-has old rs r value e, f, ← e) (omega arith)
 
-pub taken-count : (old rs : List Run) (r : Run) (value : Option ℕ) → old ≡ rs ++ r ∷ [] → same_value r.value value ≡ true → length rs + (if has_value (top old) value then 1 else 0) ≡ length old
+pub taken-count : (old rs : List ValueRun) (r : ValueRun) (value : Option ℕ) → old ≡ rs ++ r ∷ [] → same_value r.value value ≡ true → length rs + (if has_value (top old) value then 1 else 0) ≡ length old
 taken-count old rs r value e f = rw (popped-has old rs r value e, f) (sym (popped-length old rs r e))
 
-pub taken-values : (old rs : List Run) (r : Run) (value : Option ℕ) → old ≡ rs ++ r ∷ [] → same_value r.value value ≡ true → values_of old ≡ values_of rs ++ replicate (size_of old - size_of rs) value
+pub taken-values : (old rs : List ValueRun) (r : ValueRun) (value : Option ℕ) → old ≡ rs ++ r ∷ [] → same_value r.value value ≡ true → values_of old ≡ values_of rs ++ replicate (size_of old - size_of rs) value
 taken-values old rs r value e f = rw e (opened-values rs r value f)
 
 -- two sides
@@ -240,18 +240,18 @@ same_value-swap None (Some b) = refl
 same_value-swap (Some a) None = refl
 same_value-swap (Some a) (Some b) = same_nat-swap a b
 
-meet-run : (run : Run) (o : Option Run) → meet (Some run) o ≡ has_value o run.value
+meet-run : (run : ValueRun) (o : Option ValueRun) → meet (Some run) o ≡ has_value o run.value
 meet-run run None = refl
 meet-run run (Some r) = same_value-swap run.value r.value
 
-meet-swap : (a b : Option Run) → meet a b ≡ meet b a
+meet-swap : (a b : Option ValueRun) → meet a b ≡ meet b a
 meet-swap None None = refl
 meet-swap None (Some b) = refl
 meet-swap (Some a) None = refl
 meet-swap (Some a) (Some b) = same_value-swap a.value b.value
 
 -- a last run with a value meets whatever has the value
-meet-value : (a b : Option Run) (value : Option ℕ) → has_value b value ≡ true → meet a b ≡ has_value a value
+meet-value : (a b : Option ValueRun) (value : Option ℕ) → has_value b value ≡ true → meet a b ≡ has_value a value
 meet-value a None value h = absurd (cc)
 meet-value a (Some r) value h = ap (has_value a) (same_value-true r.value value h)
 
@@ -259,11 +259,11 @@ pub one-at-most : (b : Bool) → (if b then 0 else 1) ≤ 1
 one-at-most true = omega arith
 one-at-most false = omega arith
 
-pub needs-swap : (a b : List Run) → needs a b ≡ needs b a
+pub needs-swap : (a b : List ValueRun) → needs a b ≡ needs b a
 needs-swap a b = rw (meet-swap (top a) (top b)) (omega arith)
 
 -- the gap moves by a part of a run
-pub moved-needs : (old rs to from_new to_new : List Run) (r : Run) (rest moved : ℕ) → old ≡ rs ++ r ∷ [] → 0 < moved
+pub moved-needs : (old rs to from_new to_new : List ValueRun) (r : ValueRun) (rest moved : ℕ) → old ≡ rs ++ r ∷ [] → 0 < moved
     → (rest ≡ 0 → from_new ≡ rs) → length from_new ≤ length rs + (if has_value (top rs) r.value then 0 else 1) → (0 < rest → has_value (top from_new) r.value ≡ true)
     → length to_new ≤ length to + (if has_value (top to) r.value then 0 else 1) → (0 < moved → has_value (top to_new) r.value ≡ true)
     → needs from_new to_new ≤ needs old to
@@ -291,9 +291,9 @@ reverse-same (suc n) a =
     ap reverse (sym one)
     ∙ (reverse-append (replicate 1 a) (replicate n a) ∙ (ap (λ (vs : List (Option ℕ)). vs ++ reverse (replicate 1 a)) (reverse-same n a) ∙ more))
 
-pub moved-joined : (old rs to from_new to_new : List Run) (r : Run) (rest moved : ℕ) → old ≡ rs ++ r ∷ [] → rest + moved ≡ r.end - size_of rs
-    → values_of from_new ≡ values_of rs ++ replicate rest r.value → values_of to_new ≡ values_of to ++ replicate moved r.value → joined from_new to_new ≡ joined old to
-moved-joined old rs to from_new to_new r rest moved e all from_values to_values =
+pub moved-values_of_both : (old rs to from_new to_new : List ValueRun) (r : ValueRun) (rest moved : ℕ) → old ≡ rs ++ r ∷ [] → rest + moved ≡ r.end - size_of rs
+    → values_of from_new ≡ values_of rs ++ replicate rest r.value → values_of to_new ≡ values_of to ++ replicate moved r.value → values_of_both from_new to_new ≡ values_of_both old to
+moved-values_of_both old rs to from_new to_new r rest moved e all from_values to_values =
     let a = values_of rs in
     let b = reverse (values_of to) in
     let whole : values_of old ≡ a ++ (replicate rest r.value ++ replicate moved r.value) =
@@ -311,19 +311,19 @@ turn-turn [] = refl
 turn-turn (x ∷ xs) =
     ap reverse (reverse-append (x ∷ []) xs) ∙ (reverse-append (reverse xs) (x ∷ []) ∙ ap (λ (vs : List (Option ℕ)). x ∷ vs) (turn-turn xs))
 
-joined-swap : (front back : List Run) → joined front back ≡ reverse (joined back front)
-joined-swap front back =
+values_of_both-swap : (front back : List ValueRun) → values_of_both front back ≡ reverse (values_of_both back front)
+values_of_both-swap front back =
     sym (reverse-append (values_of back) (reverse (values_of front)) ∙ ap (λ (vs : List (Option ℕ)). vs ++ reverse (values_of back)) (turn-turn (values_of front)))
 
-pub moved-swap : (front back front_new back_new : List Run) → AreMoved back front back_new front_new → AreMoved front back front_new back_new
+pub moved-swap : (front back front_new back_new : List ValueRun) → AreMoved back front back_new front_new → AreMoved front back front_new back_new
 moved-swap front back front_new back_new m = record {
-  same = joined-swap front_new back_new ∙ (ap reverse m.same ∙ sym (joined-swap front back));
+  same = values_of_both-swap front_new back_new ∙ (ap reverse m.same ∙ sym (values_of_both-swap front back));
   from_rises = m.to_rises;
   to_rises = m.from_rises;
   needs = rw (needs-swap front_new back_new, needs-swap front back) m.needs;
 }
 
-pub moved-further : (from to from_mid to_mid from_new to_new : List Run) → AreMoved from to from_mid to_mid → AreMoved from_mid to_mid from_new to_new → AreMoved from to from_new to_new
+pub moved-further : (from to from_mid to_mid from_new to_new : List ValueRun) → AreMoved from to from_mid to_mid → AreMoved from_mid to_mid from_new to_new → AreMoved from to from_new to_new
 moved-further from to from_mid to_mid from_new to_new a b = record {
   same = b.same ∙ a.same;
   from_rises = b.from_rises;
@@ -331,12 +331,12 @@ moved-further from to from_mid to_mid from_new to_new a b = record {
   needs = omega (arith, a.needs, b.needs);
 }
 
-pub moved-nowhere : (from to : List Run) → Rises 0 from → Rises 0 to → AreMoved from to from to
+pub moved-nowhere : (from to : List ValueRun) → Rises 0 from → Rises 0 to → AreMoved from to from to
 moved-nowhere from to a b = record { same = refl; from_rises = a; to_rises = b; needs = omega arith }
 
 -- the last run is cut
-pub cut-lighter : (old rs new : List Run) (r : Run) (n : ℕ) → old ≡ rs ++ r ∷ [] → (n ≡ 0 → new ≡ rs) → length new ≤ length rs + (if has_value (top rs) r.value then 0 else 1)
-    → (0 < n → has_value (top new) r.value ≡ true) → (other : List Run) → needs other new ≤ needs other old
+pub cut-lighter : (old rs new : List ValueRun) (r : ValueRun) (n : ℕ) → old ≡ rs ++ r ∷ [] → (n ≡ 0 → new ≡ rs) → length new ≤ length rs + (if has_value (top rs) r.value then 0 else 1)
+    → (0 < n → has_value (top new) r.value ≡ true) → (other : List ValueRun) → needs other new ≤ needs other old
 cut-lighter old rs new r n e none count has other =
     let before : needs other old ≡ length other + (length rs + 1) + (if has_value (top other) r.value then 0 else 1) =
     rw (e, top-push rs r, length-push rs r) refl in
@@ -350,7 +350,7 @@ cut-lighter old rs new r n e none count has other =
           omega (arith, before, long, one-at-most (meet (top other) (top new)))
     ]
 
-pub cut-values : (old rs new : List Run) (r : Run) (end : ℕ) → old ≡ rs ++ r ∷ [] → Rises 0 old → end < size_of old → values_of new ≡ values_of rs ++ replicate (end - size_of rs) r.value
+pub cut-values : (old rs new : List ValueRun) (r : ValueRun) (end : ℕ) → old ≡ rs ++ r ∷ [] → Rises 0 old → end < size_of old → values_of new ≡ values_of rs ++ replicate (end - size_of rs) r.value
     → take end (values_of new) ≡ take end (values_of old)
 cut-values old rs new r end e h below is =
     let p = popped-rises old rs r e h in
@@ -365,7 +365,7 @@ cut-values old rs new r end e h below is =
     ∙ (sym (append_assoc (values_of rs) (replicate (end - size_of rs) r.value) more) ∙ ap (λ (vs : List (Option ℕ)). vs ++ more) (sym is)))) in
     sym (ap (take end) whole ∙ take-append-le end (values_of new) more (omega arith))
 
-pub cut-whole : (new old : List Run) (end : ℕ) → Rises 0 new → size_of new ≡ end → take end (values_of new) ≡ take end (values_of old) → values_of new ≡ take end (values_of old)
+pub cut-whole : (new old : List ValueRun) (end : ℕ) → Rises 0 new → size_of new ≡ end → take end (values_of new) ≡ take end (values_of old) → values_of new ≡ take end (values_of old)
 cut-whole new old end h e is = sym (take_all end (values_of new) (omega (arith, size-values new h))) ∙ is
 
 -- the last runs without a value are taken
@@ -384,15 +384,15 @@ nothing-more xs n value p none =
             | inr more ↦ get_or_past (replicate n value) i None (omega (arith, length-replicate n value))
           ]
 
-pub trim-values : (old rs : List Run) (r : Run) (p : ℕ) → old ≡ rs ++ r ∷ [] → r.value ≡ None → value_at (values_of rs) p ≡ value_at (values_of old) p
+pub trim-values : (old rs : List ValueRun) (r : ValueRun) (p : ℕ) → old ≡ rs ++ r ∷ [] → r.value ≡ None → value_at (values_of rs) p ≡ value_at (values_of old) p
 trim-values old rs r p e none =
     let more = replicate (r.end - size_of rs) r.value in
     sym (ap (λ (vs : List (Option ℕ)). value_at vs p) (popped-values old rs r e) ∙ nothing-more (values_of rs) (r.end - size_of rs) r.value p none)
 
-pub trim-lighter : (old rs : List Run) (r : Run) (other : List Run) → old ≡ rs ++ r ∷ [] → needs rs other ≤ needs old other
+pub trim-lighter : (old rs : List ValueRun) (r : ValueRun) (other : List ValueRun) → old ≡ rs ++ r ∷ [] → needs rs other ≤ needs old other
 trim-lighter old rs r other e = omega (arith, popped-length old rs r e, one-at-most (meet (top rs) (top other)))
 
-pub trimmed-last : (rs : List Run) (r : Run) → Rises 0 (rs ++ r ∷ []) → (r.value ≡ None → ⊥) → IsTrimmed (values_of (rs ++ r ∷ []))
+pub trimmed-last : (rs : List ValueRun) (r : ValueRun) → Rises 0 (rs ++ r ∷ []) → (r.value ≡ None → ⊥) → IsTrimmed (values_of (rs ++ r ∷ []))
 trimmed-last rs r h some p is none =
     let parts = rises-parts 0 rs r h in
     let long : length (values_of (rs ++ r ∷ [])) ≡ r.end = size-values (rs ++ r ∷ []) h ∙ reach-push 0 rs r in
@@ -404,22 +404,22 @@ trimmed-last rs r h some p is none =
     some (sym last ∙ none)
 
 -- both sides together
-pub joined-front : (front back : List Run) (p : ℕ) → Rises 0 front → p < size_of front → value_at (joined front back) p ≡ value_at (values_of front) p
-joined-front front back p h l = get_or_append_left (values_of front) (reverse (values_of back)) None p (omega (arith, size-values front h))
+pub values_of_both-front : (front back : List ValueRun) (p : ℕ) → Rises 0 front → p < size_of front → value_at (values_of_both front back) p ≡ value_at (values_of front) p
+values_of_both-front front back p h l = get_or_append_left (values_of front) (reverse (values_of back)) None p (omega (arith, size-values front h))
 
-pub joined-back : (front back : List Run) (p : ℕ) → Rises 0 front → Rises 0 back → size_of front ≤ p → p < size_of front + size_of back → value_at (joined front back) p ≡ value_at (values_of back) (size_of front + size_of back - 1 - p)
-joined-back front back p h k low high =
+pub values_of_both-back : (front back : List ValueRun) (p : ℕ) → Rises 0 front → Rises 0 back → size_of front ≤ p → p < size_of front + size_of back → value_at (values_of_both front back) p ≡ value_at (values_of back) (size_of front + size_of back - 1 - p)
+values_of_both-back front back p h k low high =
     let b = values_of back in
     let e : length b - 1 - (p - size_of front) ≡ size_of front + size_of back - 1 - p = omega (arith, size-values back k) in
     get_or-append_right (values_of front) (reverse b) (size_of front) p None (size-values front h) low
     ∙ (get_or-reverse b (p - size_of front) None (omega (arith, size-values back k)) ∙ ap (value_at b) e)
 
-pub length-joined : (front back : List Run) → Rises 0 front → Rises 0 back → length (joined front back) ≡ size_of front + size_of back
-length-joined front back h k =
+pub length-values_of_both : (front back : List ValueRun) → Rises 0 front → Rises 0 back → length (values_of_both front back) ≡ size_of front + size_of back
+length-values_of_both front back h k =
     omega (arith, length-append (values_of front) (reverse (values_of back)), length-reverse (values_of back), size-values front h, size-values back k)
 
-pub joined-past : (front back : List Run) (p : ℕ) → Rises 0 front → Rises 0 back → size_of front + size_of back ≤ p → value_at (joined front back) p ≡ None
-joined-past front back p h k past = get_or_past (joined front back) p None (omega (arith, length-joined front back h k))
+pub values_of_both-past : (front back : List ValueRun) (p : ℕ) → Rises 0 front → Rises 0 back → size_of front + size_of back ≤ p → value_at (values_of_both front back) p ≡ None
+values_of_both-past front back p h k past = get_or_past (values_of_both front back) p None (omega (arith, length-values_of_both front back h k))
 
 pub some-value : (o : Option ℕ) → is_some o ≡ true → o ≡ None → ⊥
 some-value None h e = cc
@@ -435,5 +435,5 @@ not-same a b h e =
     let k : true ≡ false = sym (same_value-refl b) ∙ g in absurd (cc)
 
 -- the gap is where it was to be
-pub gap-moved : (front back a b : List Run) (pos : ℕ) → AreMoved front back a b → size_of a + size_of b ≡ size_of front + size_of back → size_of a ≡ min pos (size_of front + size_of back) → GapMoved front back a b pos
+pub gap-moved : (front back a b : List ValueRun) (pos : ℕ) → AreMoved front back a b → size_of a + size_of b ≡ size_of front + size_of back → size_of a ≡ min pos (size_of front + size_of back) → GapMoved front back a b pos
 gap-moved front back a b pos m size gap = record { same = m.same; front_rises = m.from_rises; back_rises = m.to_rises; needs = m.needs; size = size; gap = gap }

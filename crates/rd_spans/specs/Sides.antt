@@ -1,37 +1,37 @@
 -- How the values are kept: runs on both sides of a gap. Each run reaches from the end of the one before it to its own. The runs behind the
 -- gap count from the last position with a value backwards.
 use Rattle.std.specs.Prelude.{◌≡◌, ℕ, ◌+◌, ◌-◌, ◌<◌, ◌≤◌, nat_lt, nat_eq, Bool, true, false, if◌then◌else◌, List, [], ◌∷◌, ◌++◌, length, min, replicate, reverse, Option, None, Some}
-use Rattle.rd_spans.specs.declared.run.Run.{Run}
+use Rattle.rd_spans.specs.declared.run.ValueRun.{ValueRun}
 use Rattle.rd_spans.specs.Values.{IsTrimmed}
 
 -- the values that runs give the places from one on
-abbrev pub values_from : ℕ → List Run → List (Option ℕ)
+abbrev pub values_from : ℕ → List ValueRun → List (Option ℕ)
 values_from k [] = []
 values_from k (r ∷ rs) = replicate (r.end - k) r.value ++ values_from r.end rs
 
-abbrev pub values_of : List Run → List (Option ℕ)
+abbrev pub values_of : List ValueRun → List (Option ℕ)
 values_of runs = values_from 0 runs
 
 -- each run ends behind the one before it
-abbrev pub Rises : ℕ → List Run → Type 0
+abbrev pub Rises : ℕ → List ValueRun → Type 0
 Rises k [] = Unit {0}
 Rises k (r ∷ rs) = (k < r.end) × Rises r.end rs
 
 -- where the last run ends
-abbrev pub reach : ℕ → List Run → ℕ
+abbrev pub reach : ℕ → List ValueRun → ℕ
 reach k [] = k
 reach k (r ∷ rs) = reach r.end rs
 
-abbrev pub size_of : List Run → ℕ
+abbrev pub size_of : List ValueRun → ℕ
 size_of runs = reach 0 runs
 
 -- the value of the first run that ends behind a place
-abbrev pub value_in : List Run → ℕ → Option ℕ
+abbrev pub value_in : List ValueRun → ℕ → Option ℕ
 value_in [] p = None
 value_in (r ∷ rs) p = if nat_lt p r.end then r.value else value_in rs p
 
 -- the last run
-abbrev pub top : List Run → Option Run
+abbrev pub top : List ValueRun → Option ValueRun
 top [] = None
 top (r ∷ []) = Some r
 top (r ∷ (q ∷ rs)) = top (q ∷ rs)
@@ -42,33 +42,33 @@ same_value (Some a) (Some b) = nat_eq a b
 same_value a b = false
 
 -- whether a run that may be there has a value
-abbrev pub has_value : Option Run → Option ℕ → Bool
+abbrev pub has_value : Option ValueRun → Option ℕ → Bool
 has_value None value = false
 has_value (Some r) value = same_value r.value value
 
 -- whether two runs that may be there have one value
-abbrev pub meet : Option Run → Option Run → Bool
+abbrev pub meet : Option ValueRun → Option ValueRun → Bool
 meet a None = false
 meet a (Some r) = has_value a r.value
 
 -- how many runs each side needs room for, wherever the gap moves: all of both, and one more unless the gap stands inside a run
-abbrev pub needs : List Run → List Run → ℕ
+abbrev pub needs : List ValueRun → List ValueRun → ℕ
 needs front back = length front + length back + (if meet (top front) (top back) then 0 else 1)
 
 -- the values of both sides together
-abbrev pub joined : List Run → List Run → List (Option ℕ)
-joined front back = values_of front ++ reverse (values_of back)
+abbrev pub values_of_both : List ValueRun → List ValueRun → List (Option ℕ)
+values_of_both front back = values_of front ++ reverse (values_of back)
 
 -- runs went from the end of one side to the end of the other
-pub record AreMoved (from to from_new to_new : List Run) : Type 0 where
-  pub same : joined from_new to_new ≡ joined from to
+pub record AreMoved (from to from_new to_new : List ValueRun) : Type 0 where
+  pub same : values_of_both from_new to_new ≡ values_of_both from to
   pub from_rises : Rises 0 from_new
   pub to_rises : Rises 0 to_new
   pub needs : needs from_new to_new ≤ needs from to
 
 -- the gap moved to a position, or to the end where that comes before
-pub record GapMoved (front back front_new back_new : List Run) (pos : ℕ) : Type 0 where
-  pub same : joined front_new back_new ≡ joined front back
+pub record GapMoved (front back front_new back_new : List ValueRun) (pos : ℕ) : Type 0 where
+  pub same : values_of_both front_new back_new ≡ values_of_both front back
   pub front_rises : Rises 0 front_new
   pub back_rises : Rises 0 back_new
   pub needs : needs front_new back_new ≤ needs front back
@@ -76,10 +76,10 @@ pub record GapMoved (front back front_new back_new : List Run) (pos : ℕ) : Typ
   pub gap : size_of front_new ≡ min pos (size_of front + size_of back)
 
 -- what both sides always keep, where they have so much room
-pub record AreSides (front back : List Run) (front_room back_room : ℕ) : Type 0 where
+pub record AreSides (front back : List ValueRun) (front_room back_room : ℕ) : Type 0 where
   pub front_rises : Rises 0 front
   pub back_rises : Rises 0 back
   pub few : size_of front + size_of back ≤ 4294967296
-  pub trimmed : IsTrimmed (joined front back)
+  pub trimmed : IsTrimmed (values_of_both front back)
   pub front_holds : needs front back ≤ front_room
   pub back_holds : needs front back ≤ back_room

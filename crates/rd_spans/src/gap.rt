@@ -2,19 +2,19 @@
 ghost use Rattle.std.specs.Prelude.{◌≡◌, ℕ, ◌+◌, ◌-◌, ◌<◌, ◌≤◌, ◌++◌, true, false, length, replicate, None, OnOk};
 ghost use Rattle.std.specs.Vec.{vec_capacity};
 ghost use Rattle.rd_spans.specs.Values.{value_at, put_at, opened_at, closed_at, CanMove, IsNextChange, IsFirstAlike};
-ghost use Rattle.rd_spans.specs.Sides.{values_of, Rises, size_of, needs, joined, GapMoved, AreSides};
+ghost use Rattle.rd_spans.specs.Sides.{values_of, Rises, size_of, needs, values_of_both, GapMoved, AreSides};
 
-use crate::run::Run;
+use crate::run::ValueRun;
 use crate::side;
 use rd_base::Memory;
 
 /// The value of a position.
-pub(crate) fn value_of(front: &[Run], back: &[Run], pos: u64) -> Option<u32>
+pub(crate) fn value_of(front: &[ValueRun], back: &[ValueRun], pos: u64) -> Option<u32>
     requires front_order { Rises 0 front.now }
     requires back_order { Rises 0 back.now }
     requires bound { pos < 4294967296 }
     requires few { size_of front.now + size_of back.now ≤ 4294967296 }
-    ensures { result ≡ value_at (joined front.now back.now) pos }
+    ensures { result ≡ value_at (values_of_both front.now back.now) pos }
 {
     let gap = side::size(front);
     if pos < gap {
@@ -28,7 +28,7 @@ pub(crate) fn value_of(front: &[Run], back: &[Run], pos: u64) -> Option<u32>
 }
 
 /// The positions around one that no value differs from its own: the first, and one past the last.
-pub(crate) fn same_around(front: &[Run], back: &[Run], pos: u64) -> (u64, u64)
+pub(crate) fn same_around(front: &[ValueRun], back: &[ValueRun], pos: u64) -> (u64, u64)
     requires front_order { Rises 0 front.now }
     requires back_order { Rises 0 back.now }
     requires bound { pos < 4294967296 }
@@ -36,7 +36,7 @@ pub(crate) fn same_around(front: &[Run], back: &[Run], pos: u64) -> (u64, u64)
     ensures first { result.0 ≤ pos }
     ensures later { pos < result.1 }
     ensures few { result.1 ≤ 4294967296 }
-    ensures same { (p : ℕ) → result.0 ≤ p → p < result.1 → value_at (joined front.now back.now) p ≡ value_at (joined front.now back.now) pos }
+    ensures same { (p : ℕ) → result.0 ≤ p → p < result.1 → value_at (values_of_both front.now back.now) p ≡ value_at (values_of_both front.now back.now) pos }
 {
     let gap = side::size(front);
     if pos < gap {
@@ -51,12 +51,12 @@ pub(crate) fn same_around(front: &[Run], back: &[Run], pos: u64) -> (u64, u64)
 }
 
 /// The first position behind one whose value differs from that of the one.
-pub(crate) fn next_other(front: &[Run], back: &[Run], pos: u64) -> Option<u32>
+pub(crate) fn next_other(front: &[ValueRun], back: &[ValueRun], pos: u64) -> Option<u32>
     requires front_order { Rises 0 front.now }
     requires back_order { Rises 0 back.now }
     requires bound { pos < 4294967296 }
     requires few { size_of front.now + size_of back.now ≤ 4294967296 }
-    ensures { IsNextChange (joined front.now back.now) pos result }
+    ensures { IsNextChange (values_of_both front.now back.now) pos result }
 {
     let value = value_of(front, back, pos);
     let mut next = same_around(front, back, pos).1;
@@ -70,12 +70,12 @@ pub(crate) fn next_other(front: &[Run], back: &[Run], pos: u64) -> Option<u32>
 }
 
 /// The first of the positions up to one that all have its value.
-pub(crate) fn first_alike(front: &[Run], back: &[Run], pos: u64) -> u32
+pub(crate) fn first_alike(front: &[ValueRun], back: &[ValueRun], pos: u64) -> u32
     requires front_order { Rises 0 front.now }
     requires back_order { Rises 0 back.now }
     requires bound { pos < 4294967296 }
     requires few { size_of front.now + size_of back.now ≤ 4294967296 }
-    ensures { IsFirstAlike (joined front.now back.now) pos result }
+    ensures { IsFirstAlike (values_of_both front.now back.now) pos result }
 {
     let value = value_of(front, back, pos);
     let mut from = same_around(front, back, pos).0;
@@ -89,7 +89,7 @@ pub(crate) fn first_alike(front: &[Run], back: &[Run], pos: u64) -> u32
 }
 
 /// Makes room for an edit, which adds at most three runs.
-pub(crate) fn make_room(front: &mut Vec<Run>, back: &mut Vec<Run>) -> Result<(), Memory>
+pub(crate) fn make_room(front: &mut Vec<ValueRun>, back: &mut Vec<ValueRun>) -> Result<(), Memory>
     requires few { length front.old.items + length back.old.items ≤ 4294967296 }
     ensures front { front.new.items ≡ front.old.items }
     ensures back { back.new.items ≡ back.old.items }
@@ -104,7 +104,7 @@ pub(crate) fn make_room(front: &mut Vec<Run>, back: &mut Vec<Run>) -> Result<(),
 }
 
 /// Moves the gap to a position, or to the end where that comes before.
-fn move_to(front: &mut Vec<Run>, back: &mut Vec<Run>, pos: u64)
+fn move_to(front: &mut Vec<ValueRun>, back: &mut Vec<ValueRun>, pos: u64)
     requires front_order { Rises 0 front.old.items }
     requires back_order { Rises 0 back.old.items }
     requires few { size_of front.old.items + size_of back.old.items ≤ 4294967296 }
@@ -123,7 +123,7 @@ fn move_to(front: &mut Vec<Run>, back: &mut Vec<Run>, pos: u64)
 }
 
 /// Adds positions without a value behind the front up to `from`, and positions with a value from there up to `to`.
-fn fill(front: &mut Vec<Run>, from: u64, to: u64, value: Option<u32>)
+fn fill(front: &mut Vec<ValueRun>, from: u64, to: u64, value: Option<u32>)
     requires order { Rises 0 front.old.items }
     requires reached { size_of front.old.items ≤ from }
     requires ordered { from ≤ to }
@@ -141,7 +141,7 @@ fn fill(front: &mut Vec<Run>, from: u64, to: u64, value: Option<u32>)
 }
 
 /// Whether nothing with a value would stand behind the front.
-fn ends_there(back: &[Run], value: Option<u32>) -> bool
+fn ends_there(back: &[ValueRun], value: Option<u32>) -> bool
     ensures yes { result ≡ true → (value ≡ None) × (length back.now ≡ 0) }
     ensures no { result ≡ false → length back.now ≡ 0 → value ≡ None → ⊥ }
 {
@@ -149,14 +149,14 @@ fn ends_there(back: &[Run], value: Option<u32>) -> bool
 }
 
 /// Puts a value on the positions from `from` up to `to`, where there is room for three more runs.
-pub(crate) fn put(front: &mut Vec<Run>, back: &mut Vec<Run>, from: u64, to: u64, value: Option<u32>)
+pub(crate) fn put(front: &mut Vec<ValueRun>, back: &mut Vec<ValueRun>, from: u64, to: u64, value: Option<u32>)
     requires sides { AreSides front.old.items back.old.items (vec_capacity front.old) (vec_capacity back.old) }
     requires front_more { length front.old.items + length back.old.items + 4 ≤ vec_capacity front.old }
     requires back_more { length front.old.items + length back.old.items + 4 ≤ vec_capacity back.old }
     requires some { from < to }
     requires bound { to ≤ 4294967296 }
     ensures sides { AreSides front.new.items back.new.items (vec_capacity front.new) (vec_capacity back.new) }
-    ensures values { (p : ℕ) → value_at (joined front.new.items back.new.items) p ≡ put_at (joined front.old.items back.old.items) from to value p }
+    ensures values { (p : ℕ) → value_at (values_of_both front.new.items back.new.items) p ≡ put_at (values_of_both front.old.items back.old.items) from to value p }
 {
     move_to(front, back, from);
     side::cut(back, to - from);
@@ -168,13 +168,13 @@ pub(crate) fn put(front: &mut Vec<Run>, back: &mut Vec<Run>, from: u64, to: u64,
 }
 
 /// Opens `n` positions without a value at a position, where there is room for three more runs.
-pub(crate) fn open(front: &mut Vec<Run>, back: &mut Vec<Run>, pos: u64, n: u64)
+pub(crate) fn open(front: &mut Vec<ValueRun>, back: &mut Vec<ValueRun>, pos: u64, n: u64)
     requires sides { AreSides front.old.items back.old.items (vec_capacity front.old) (vec_capacity back.old) }
     requires front_more { length front.old.items + length back.old.items + 4 ≤ vec_capacity front.old }
     requires back_more { length front.old.items + length back.old.items + 4 ≤ vec_capacity back.old }
-    requires bound { CanMove (joined front.old.items back.old.items) n }
+    requires bound { CanMove (values_of_both front.old.items back.old.items) n }
     ensures sides { AreSides front.new.items back.new.items (vec_capacity front.new) (vec_capacity back.new) }
-    ensures values { (p : ℕ) → value_at (joined front.new.items back.new.items) p ≡ opened_at (joined front.old.items back.old.items) pos n p }
+    ensures values { (p : ℕ) → value_at (values_of_both front.new.items back.new.items) p ≡ opened_at (values_of_both front.old.items back.old.items) pos n p }
 {
     move_to(front, back, pos);
     if !back.is_empty() {
@@ -183,11 +183,11 @@ pub(crate) fn open(front: &mut Vec<Run>, back: &mut Vec<Run>, pos: u64, n: u64)
 }
 
 /// Takes the positions from `from` up to `to` away.
-pub(crate) fn close(front: &mut Vec<Run>, back: &mut Vec<Run>, from: u64, to: u64)
+pub(crate) fn close(front: &mut Vec<ValueRun>, back: &mut Vec<ValueRun>, from: u64, to: u64)
     requires sides { AreSides front.old.items back.old.items (vec_capacity front.old) (vec_capacity back.old) }
     requires ordered { from ≤ to }
     ensures sides { AreSides front.new.items back.new.items (vec_capacity front.new) (vec_capacity back.new) }
-    ensures values { (p : ℕ) → value_at (joined front.new.items back.new.items) p ≡ closed_at (joined front.old.items back.old.items) from to p }
+    ensures values { (p : ℕ) → value_at (values_of_both front.new.items back.new.items) p ≡ closed_at (values_of_both front.old.items back.old.items) from to p }
 {
     move_to(front, back, from);
     side::cut(back, to - from);

@@ -1,17 +1,17 @@
 //! The runs on one side of the gap, of which the last stands at the gap.
 ghost use Rattle.std.specs.Prelude.{◌≡◌, ℕ, ◌+◌, ◌-◌, ◌<◌, ◌≤◌, ◌++◌, length, take, replicate, min, true, if◌then◌else◌, slice_index_or, List};
 ghost use Rattle.std.specs.Vec.{vec_capacity};
-ghost use Rattle.rd_spans.specs.declared.run.Run.{Run};
+ghost use Rattle.rd_spans.specs.declared.run.ValueRun.{ValueRun};
 ghost use Rattle.rd_spans.specs.Values.{value_at, IsTrimmed};
 ghost use Rattle.rd_spans.specs.Sides.{values_of, Rises, size_of, top, same_value, has_value, needs, AreMoved};
 
-use crate::run::Run;
+use crate::run::ValueRun;
 
 /// One past the greatest place.
 pub(crate) const LIMIT: u64 = 4_294_967_296;
 
 /// How many places runs cover.
-pub(crate) fn size(runs: &[Run]) -> u64
+pub(crate) fn size(runs: &[ValueRun]) -> u64
     ensures { result ≡ size_of runs.now }
 {
     match runs.last() {
@@ -31,17 +31,17 @@ pub(crate) fn same_value(a: Option<u32>, b: Option<u32>) -> bool
 }
 
 /// The place of the first run that ends at `end` or later, by a binary search.
-fn first_reaching(runs: &[Run], end: u64) -> usize
+fn first_reaching(runs: &[ValueRun], end: u64) -> usize
     requires { Rises 0 runs.now }
     ensures bound { result ≤ length runs.now }
-    ensures before { (k : ℕ) (d : Run) → k < result → (slice_index_or runs.now k d).end < end }
-    ensures behind { (k : ℕ) (d : Run) → result ≤ k → k < length runs.now → end ≤ (slice_index_or runs.now k d).end }
+    ensures before { (k : ℕ) (d : ValueRun) → k < result → (slice_index_or runs.now k d).end < end }
+    ensures behind { (k : ℕ) (d : ValueRun) → result ≤ k → k < length runs.now → end ≤ (slice_index_or runs.now k d).end }
 {
     runs.partition_point(|run| run.end < end)
 }
 
 /// The value of a place, by a binary search.
-pub(crate) fn value_in(runs: &[Run], place: u64) -> Option<u32>
+pub(crate) fn value_in(runs: &[ValueRun], place: u64) -> Option<u32>
     requires order { Rises 0 runs.now }
     requires bound { place < LIMIT }
     ensures { result ≡ value_at (values_of runs.now) place }
@@ -54,7 +54,7 @@ pub(crate) fn value_in(runs: &[Run], place: u64) -> Option<u32>
 }
 
 /// The run that holds a place: the first of its places, and one past the last.
-pub(crate) fn run_at(runs: &[Run], place: u64) -> (u64, u64)
+pub(crate) fn run_at(runs: &[ValueRun], place: u64) -> (u64, u64)
     requires order { Rises 0 runs.now }
     requires bound { place < LIMIT }
     requires within { place < size_of runs.now }
@@ -67,7 +67,7 @@ pub(crate) fn run_at(runs: &[Run], place: u64) -> (u64, u64)
 }
 
 /// Where the run in front of a run ends.
-fn end_before(runs: &[Run], i: usize) -> u64
+fn end_before(runs: &[ValueRun], i: usize) -> u64
     requires { i ≤ length runs.now }
     ensures { result ≡ size_of (take i runs.now) }
 {
@@ -75,7 +75,7 @@ fn end_before(runs: &[Run], i: usize) -> u64
 }
 
 /// Takes the last run away where it has this value.
-fn open_end(runs: &mut Vec<Run>, value: Option<u32>)
+fn open_end(runs: &mut Vec<ValueRun>, value: Option<u32>)
     requires order { Rises 0 runs.old.items }
     ensures values { values_of runs.old.items ≡ values_of runs.new.items ++ replicate (size_of runs.old.items - size_of runs.new.items) value }
     ensures order { Rises 0 runs.new.items }
@@ -92,7 +92,7 @@ fn open_end(runs: &mut Vec<Run>, value: Option<u32>)
 }
 
 /// Adds `n` places with a value behind the runs, which have room for one more.
-pub(crate) fn push(runs: &mut Vec<Run>, n: u64, value: Option<u32>)
+pub(crate) fn push(runs: &mut Vec<ValueRun>, n: u64, value: Option<u32>)
     requires order { Rises 0 runs.old.items }
     requires room { length runs.old.items < vec_capacity runs.old }
     requires bound { size_of runs.old.items + n ≤ 4294967296 }
@@ -109,12 +109,12 @@ pub(crate) fn push(runs: &mut Vec<Run>, n: u64, value: Option<u32>)
     }
     let end = size(runs) + n;
     open_end(runs, value);
-    runs.push_reserved(Run { end, value });
+    runs.push_reserved(ValueRun { end, value });
 }
 
 /// Moves at most `most` places, all of one run or a part of it, from the end of one side to the end of the other, and answers how
 /// many.
-fn move_run(from: &mut Vec<Run>, to: &mut Vec<Run>, most: u64) -> u64
+fn move_run(from: &mut Vec<ValueRun>, to: &mut Vec<ValueRun>, most: u64) -> u64
     requires from_order { Rises 0 from.old.items }
     requires to_order { Rises 0 to.old.items }
     requires some { 0 < most }
@@ -140,7 +140,7 @@ fn move_run(from: &mut Vec<Run>, to: &mut Vec<Run>, most: u64) -> u64
 }
 
 /// Moves so many places, or all that there are, from the end of one side to the end of the other.
-pub(crate) fn shift(from: &mut Vec<Run>, to: &mut Vec<Run>, count: u64)
+pub(crate) fn shift(from: &mut Vec<ValueRun>, to: &mut Vec<ValueRun>, count: u64)
     requires from_order { Rises 0 from.old.items }
     requires to_order { Rises 0 to.old.items }
     requires from_room { needs from.old.items to.old.items ≤ vec_capacity from.old }
@@ -162,7 +162,7 @@ pub(crate) fn shift(from: &mut Vec<Run>, to: &mut Vec<Run>, count: u64)
 }
 
 /// Takes the last run away, but for its places below `end`.
-fn cut_run(runs: &mut Vec<Run>, end: u64)
+fn cut_run(runs: &mut Vec<ValueRun>, end: u64)
     requires order { Rises 0 runs.old.items }
     requires bound { end < size_of runs.old.items }
     requires few { size_of runs.old.items ≤ 4294967296 }
@@ -171,7 +171,7 @@ fn cut_run(runs: &mut Vec<Run>, end: u64)
     ensures order { Rises 0 runs.new.items }
     ensures enough { end ≤ size_of runs.new.items }
     ensures less { size_of runs.new.items < size_of runs.old.items }
-    ensures lighter { (other : List Run) → needs other runs.new.items ≤ needs other runs.old.items }
+    ensures lighter { (other : List ValueRun) → needs other runs.new.items ≤ needs other runs.old.items }
     ensures room { vec_capacity runs.new ≡ vec_capacity runs.old }
     ensures count { length runs.new.items ≤ length runs.old.items }
 {
@@ -183,14 +183,14 @@ fn cut_run(runs: &mut Vec<Run>, end: u64)
 }
 
 /// Takes the last `n` places away.
-pub(crate) fn cut(runs: &mut Vec<Run>, n: u64)
+pub(crate) fn cut(runs: &mut Vec<ValueRun>, n: u64)
     requires order { Rises 0 runs.old.items }
     requires few { size_of runs.old.items ≤ 4294967296 }
     requires room { length runs.old.items ≤ vec_capacity runs.old }
     ensures values { values_of runs.new.items ≡ take (size_of runs.old.items - n) (values_of runs.old.items) }
     ensures order { Rises 0 runs.new.items }
     ensures size { size_of runs.new.items ≡ size_of runs.old.items - n }
-    ensures lighter { (other : List Run) → needs other runs.new.items ≤ needs other runs.old.items }
+    ensures lighter { (other : List ValueRun) → needs other runs.new.items ≤ needs other runs.old.items }
     ensures room { vec_capacity runs.new ≡ vec_capacity runs.old }
     ensures count { length runs.new.items ≤ length runs.old.items }
 {
@@ -201,14 +201,14 @@ pub(crate) fn cut(runs: &mut Vec<Run>, n: u64)
 }
 
 /// Takes the runs without a value at the end away.
-pub(crate) fn trim(runs: &mut Vec<Run>)
+pub(crate) fn trim(runs: &mut Vec<ValueRun>)
     requires order { Rises 0 runs.old.items }
     requires room { length runs.old.items ≤ vec_capacity runs.old }
     ensures values { (p : ℕ) → value_at (values_of runs.new.items) p ≡ value_at (values_of runs.old.items) p }
     ensures order { Rises 0 runs.new.items }
     ensures trimmed { IsTrimmed (values_of runs.new.items) }
     ensures less { size_of runs.new.items ≤ size_of runs.old.items }
-    ensures lighter { (other : List Run) → needs runs.new.items other ≤ needs runs.old.items other }
+    ensures lighter { (other : List ValueRun) → needs runs.new.items other ≤ needs runs.old.items other }
     ensures room { vec_capacity runs.new ≡ vec_capacity runs.old }
 {
     while let Some(run) = runs.pop() {

@@ -1,6 +1,6 @@
 //! A value for each position of a text.
 use crate::gap;
-use crate::run::Run;
+use crate::run::ValueRun;
 use rd_base::{Memory, Pos};
 use std::alloc::Global;
 use std::marker::Model;
@@ -9,18 +9,18 @@ use std::marker::Model;
 /// run too. An edit moves the gap to its place, and leaves the runs behind it as they are.
 #[derive(Drop)]
 pub struct Spans {
-    front: Vec<Run>,
-    back: Vec<Run>,
+    front: Vec<ValueRun>,
+    back: Vec<ValueRun>,
 }
 
 impl Model for Spans {
     ghost use Rattle.std.specs.Prelude.{ℕ, List, Option};
     ghost use Rattle.std.specs.Vec.{vec_capacity};
-    ghost use Rattle.rd_spans.specs.Sides.{joined, AreSides};
+    ghost use Rattle.rd_spans.specs.Sides.{values_of_both, AreSides};
 
     ghost Value = { List (Option ℕ) };
 
-    ghost view = { λ s. joined s.front.items s.back.items };
+    ghost view = { λ s. values_of_both s.front.items s.back.items };
 
     ghost invariant = { λ s. AreSides s.front.items s.back.items (vec_capacity s.front) (vec_capacity s.back) };
 }

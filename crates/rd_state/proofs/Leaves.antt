@@ -6,7 +6,7 @@ use Rattle.std.specs.Option.{option_or}
 use Rattle.rd_tree.specs.declared.placed.Placed.{Placed}
 use Rattle.rd_tree.specs.declared.rect.Rect.{Rect}
 use Rattle.rd_tree.specs.declared.side.Side.{Side}
-use Rattle.rd_tree.specs.Windows.{Windows, Window, Split, first_part, second_part, first_size, placed, of_number, window_at, holds, resized, replaced, halves, split_at, with_mode, with_margins, is_window, is_single, sibling, removed, first_leaf, times}
+use Rattle.rd_tree.specs.Windows.{Windows, Window, Split, first_part, second_part, first_size, placed, of_number, window_at, holds, resized, replaced, halves, split_at, with_mode, with_margins, is_leaf_of, is_single, sibling, removed, first_leaf, times}
 use Rattle.rd_state.specs.Windows.{leaf_at}
 use Rattle.rd_state.proofs.Opening.{chosen, passed}
 use Rattle.rd_state.proofs.ByNumber.{eq-true, eq-false}
@@ -206,15 +206,15 @@ once-held n (Window m mode margins) h = count-one (m == n) h
 once-held n (Split side size first second) h = held-or (holds n first) (holds n second) (times n first) (times n second) h (once-held n first) (once-held n second)
 
 -- one window alone, by its number
-alone : (n : ℕ) (ws : Windows) → is_window n ws ≡ true → holds n ws ≡ true
+alone : (n : ℕ) (ws : Windows) → is_leaf_of n ws ≡ true → holds n ws ≡ true
 alone n (Window m mode margins) h = h
 alone n (Split side size first second) h = absurd (cc)
 
-alone-other : (n k : ℕ) (ws : Windows) → is_window n ws ≡ true → k ≢ n → leaf_at k ws ≡ None
+alone-other : (n k : ℕ) (ws : Windows) → is_leaf_of n ws ≡ true → k ≢ n → leaf_at k ws ≡ None
 alone-other n k (Window m mode margins) h ne = leaf-past k m mode margins (λ p. ne (sym p ∙ eqb-true m n h))
 alone-other n k (Split side size first second) h ne = absurd (cc)
 
-not-alone : (n : ℕ) (ws : Windows) → is_window n ws ≡ false → holds n ws ≡ true → is_single ws ≡ false
+not-alone : (n : ℕ) (ws : Windows) → is_leaf_of n ws ≡ false → holds n ws ≡ true → is_single ws ≡ false
 not-alone n (Window m mode margins) h g = absurd (cc)
 not-alone n (Split side size first second) h g = refl
 
@@ -225,10 +225,10 @@ removed-other n k (Split side size first second) rect ne =
     let in_first = Split side size (removed n first (first_part side size rect)) second in
     let in_second = Split side size first (removed n second (second_part side size rect)) in
     let inner = if holds n first then in_first else in_second in
-    let outer = if is_window n second then resized first rect else inner in
-    either-leaf k (is_window n first) (resized second rect) outer whole
+    let outer = if is_leaf_of n second then resized first rect else inner in
+    either-leaf k (is_leaf_of n first) (resized second rect) outer whole
     (λ h. leaf-resized k second rect ∙ sym (ap (λ (o : Option Leaf). option_or o (leaf_at k second)) (alone-other n k first h ne)))
-    (λ h. either-leaf k (is_window n second) (resized first rect) inner whole
+    (λ h. either-leaf k (is_leaf_of n second) (resized first rect) inner whole
     (λ g. leaf-resized k first rect ∙ (sym (or-none (leaf_at k first)) ∙ sym (ap (option_or (leaf_at k first)) (alone-other n k second g ne))))
     (λ g. either-leaf k (holds n first) in_first in_second whole
     (λ f. ap (λ (o : Option Leaf). option_or o (leaf_at k second)) (removed-other n k first (first_part side size rect) ne))
@@ -244,12 +244,12 @@ removed-same n (Split side size first second) rect once held many =
     let in_first = Split side size (removed n first (first_part side size rect)) second in
     let in_second = Split side size first (removed n second (second_part side size rect)) in
     let inner = if holds n first then in_first else in_second in
-    let outer = if is_window n second then resized first rect else inner in
+    let outer = if is_leaf_of n second then resized first rect else inner in
     let not_second : holds n first ≡ true → leaf_at n second ≡ None = λ f. leaf-none n second (leaf-times n second (omega (arith, once-held n first f))) in
     let not_first : holds n second ≡ true → leaf_at n first ≡ None = λ f. leaf-none n first (leaf-times n first (omega (arith, once-held n second f))) in
-    either-leaf n (is_window n first) (resized second rect) outer None
+    either-leaf n (is_leaf_of n first) (resized second rect) outer None
     (λ h. leaf-resized n second rect ∙ not_second (alone n first h))
-    (λ h. either-leaf n (is_window n second) (resized first rect) inner None
+    (λ h. either-leaf n (is_leaf_of n second) (resized first rect) inner None
     (λ g. leaf-resized n first rect ∙ not_first (alone n second g))
     (λ g. either-leaf n (holds n first) in_first in_second None
     (λ f. ap (λ (o : Option Leaf). option_or o (leaf_at n second)) (removed-same n first (first_part side size rect) (omega arith) f (not-alone n first h f)) ∙ not_second f)
@@ -287,11 +287,11 @@ heir-held n (Split side size first second) rect held many =
     let in_first = Split side size (removed n first (first_part side size rect)) second in
     let in_second = Split side size first (removed n second (second_part side size rect)) in
     let inner = if holds n first then in_first else in_second in
-    let outer = if is_window n second then resized first rect else inner in
+    let outer = if is_leaf_of n second then resized first rect else inner in
     let far = if holds n first then sibling n first else sibling n second in
-    heir-by (is_window n first) (resized second rect) outer second (if is_window n second then first else far)
+    heir-by (is_leaf_of n first) (resized second rect) outer second (if is_leaf_of n second then first else far)
     (λ h. resized-held second rect)
-    (λ h. heir-by (is_window n second) (resized first rect) inner first far
+    (λ h. heir-by (is_leaf_of n second) (resized first rect) inner first far
     (λ g. resized-held first rect)
     (λ g. heir-by (holds n first) in_first in_second (sibling n first) (sibling n second)
     (λ f. held-or-first (leaf_at (first_leaf (sibling n first)) (removed n first (first_part side size rect))) (leaf_at (first_leaf (sibling n first)) second)

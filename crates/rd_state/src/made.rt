@@ -47,13 +47,13 @@ fn is_value(objects: &Objects, kind: Kind, number: u64) -> bool
     ensures small { result ≡ true → IsPropertyValue kind (Some number) → number < 4294967296 }
 {
     match kind {
-        Kind::Face => is_face(objects, number),
-        Kind::Display => is_spec(objects, number),
+        Kind::Face => is_made_face(objects, number),
+        Kind::Display => is_made_spec(objects, number),
         Kind::Invisible => true,
-        Kind::LinePrefix => is_string(objects, number),
-        Kind::WrapPrefix => is_string(objects, number),
-        Kind::Before => is_string(objects, number),
-        Kind::After => is_string(objects, number),
+        Kind::LinePrefix => is_made_string(objects, number),
+        Kind::WrapPrefix => is_made_string(objects, number),
+        Kind::Before => is_made_string(objects, number),
+        Kind::After => is_made_string(objects, number),
     }
 }
 
@@ -67,7 +67,7 @@ pub(crate) fn made_string(objects: &Objects, number: Option<u64>) -> Result<Opti
 {
     match number {
         Some(number) => {
-            if is_string(objects, number) {
+            if is_made_string(objects, number) {
                 Ok(Some(number as u32))
             } else {
                 Err(Refused::NoObject)
@@ -110,13 +110,13 @@ fn names_string(objects: &Objects, number: Option<u64>) -> bool
     ensures small { result ≡ true → IfSome number (λ n. n < 4294967296) }
 {
     match number {
-        Some(n) => is_string(objects, n),
+        Some(n) => is_made_string(objects, n),
         None => true,
     }
 }
 
 /// Whether a string was made.
-fn is_string(objects: &Objects, number: u64) -> bool
+fn is_made_string(objects: &Objects, number: u64) -> bool
     requires { AreObjects objects.now }
     ensures value { result ≡ is_made (length objects.now.strings) (Some number) }
     ensures small { result ≡ true → number < 4294967296 }
@@ -125,7 +125,7 @@ fn is_string(objects: &Objects, number: u64) -> bool
 }
 
 /// Whether a face was made.
-pub(crate) fn is_face(objects: &Objects, number: u64) -> bool
+pub(crate) fn is_made_face(objects: &Objects, number: u64) -> bool
     requires { AreObjects objects.now }
     ensures value { result ≡ is_made (length objects.now.faces) (Some number) }
     ensures small { result ≡ true → number < 4294967296 }
@@ -134,7 +134,7 @@ pub(crate) fn is_face(objects: &Objects, number: u64) -> bool
 }
 
 /// Whether a display spec was made.
-pub(crate) fn is_spec(objects: &Objects, number: u64) -> bool
+pub(crate) fn is_made_spec(objects: &Objects, number: u64) -> bool
     requires { AreObjects objects.now }
     ensures value { result ≡ is_made (length objects.now.specs) (Some number) }
     ensures small { result ≡ true → number < 4294967296 }

@@ -5,7 +5,7 @@ use Rattle.std.proofs.lemmas.Bool.Decides.{nat_tests}
 use Rattle.rd_tree.specs.declared.rect.Rect.{Rect}
 use Rattle.rd_tree.specs.declared.side.Side.{Side}
 use Rattle.rd_tree.specs.declared.placed.Placed.{Placed}
-use Rattle.rd_tree.specs.Windows.{Windows, Window, Split, columns_for, rows_for, first_part, second_part, HasRoom, fits, first_size, resized, placed, window_at, holds, replaced, is_window, is_single, removed}
+use Rattle.rd_tree.specs.Windows.{Windows, Window, Split, columns_for, rows_for, first_part, second_part, HasRoom, fits, first_size, resized, placed, window_at, holds, replaced, is_leaf_of, is_single, removed}
 use Rattle.rd_tree.proofs.Rooms.{or_else, of_number-append, first_needs, second_needs, first_parts-first, room_first_parts, resized_room}
 
 pub and_left : (a b : Bool) → (a && b) ≡ true → a ≡ true
@@ -110,20 +110,20 @@ resized_same f sum (Split side size first second) rect =
     let b = second_part side new rect in
     omega (arith, sum side new (resized first a) (resized second b), sum side size first second, resized_same f sum first a, resized_same f sum second b)
 
-window_has : (f : Windows → ℕ) (w d : ℕ) → ((n : ℕ) (mode : Bool) (margins : ℕ) → (n == w) ≡ true → f (Window n mode margins) ≡ d) → (windows : Windows) → is_window w windows ≡ true → f windows ≡ d
+window_has : (f : Windows → ℕ) (w d : ℕ) → ((n : ℕ) (mode : Bool) (margins : ℕ) → (n == w) ≡ true → f (Window n mode margins) ≡ d) → (windows : Windows) → is_leaf_of w windows ≡ true → f windows ≡ d
 window_has f w d leaf (Window n mode margins) e = leaf n mode margins e
 window_has f w d leaf (Split side size first second) e = absurd (false≢true e)
 
-pub not_single : (w : ℕ) (windows : Windows) → is_window w windows ≡ false → holds w windows ≡ true → is_single windows ≡ false
+pub not_single : (w : ℕ) (windows : Windows) → is_leaf_of w windows ≡ false → holds w windows ≡ true → is_single windows ≡ false
 not_single w (Window n mode margins) p e = absurd (false≢true (sym p ∙ e))
 not_single w (Split side size first second) p e = refl
 
 pub removed_less : (f : Windows → ℕ) (w d : ℕ) → IsSum f → ((n : ℕ) (mode : Bool) (margins : ℕ) → (n == w) ≡ true → f (Window n mode margins) ≡ d) → (windows : Windows) (rect : Rect) → holds w windows ≡ true → is_single windows ≡ false → f (removed w windows rect) + d ≡ f windows
 removed_less f w d sum leaf (Window n mode margins) rect e s = absurd (false≢true (sym s))
 removed_less f w d sum leaf (Split side size first second) rect e s =
-    elim (bool_cases (is_window w first)) [
+    elim (bool_cases (is_leaf_of w first)) [
       | inl p ↦ rw p (omega (arith, sum side size first second, resized_same f sum second rect, window_has f w d leaf first p))
-      | inr p ↦ elim (bool_cases (is_window w second)) [
+      | inr p ↦ elim (bool_cases (is_leaf_of w second)) [
         | inl q ↦ rw (p, q) (omega (arith, sum side size first second, resized_same f sum first rect, window_has f w d leaf second q))
         | inr q ↦ elim (bool_cases (holds w first)) [
           | inl h ↦ rw (p, q, h) (omega (arith, sum side size first second, sum side size (removed w first (first_part side size rect)) second, removed_less f w d sum leaf first (first_part side size rect) h (not_single w first p h)))
@@ -139,9 +139,9 @@ pub removed_room : (w : ℕ) (windows : Windows) (rect : Rect) → HasRoom windo
 removed_room w (Window n mode margins) rect h = h
 removed_room w (Split side size first second) rect h =
     let parts = first_parts-first side size first second (room_first_parts (Split side size first second) rect h) in
-    elim (bool_cases (is_window w first)) [
+    elim (bool_cases (is_leaf_of w first)) [
       | inl p ↦ rw p (resized_room second rect parts.1 (second_needs side size first second rect h))
-      | inr p ↦ elim (bool_cases (is_window w second)) [
+      | inr p ↦ elim (bool_cases (is_leaf_of w second)) [
         | inl q ↦ rw (p, q) (resized_room first rect parts.0 (first_needs side size first second rect h))
         | inr q ↦ elim (bool_cases (holds w first)) [
           | inl k ↦ rw (p, q, k) (removed_room w first (first_part side size rect) h.0, h.1)

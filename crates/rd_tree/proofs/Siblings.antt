@@ -3,7 +3,7 @@ use Rattle.std.proofs.Common.{◌≡◌, ℕ, ◌≤◌, Bool, true, false, ◌|
 use Rattle.std.specs.Prelude.{is_some}
 use Rattle.rd_tree.specs.declared.rect.Rect.{Rect}
 use Rattle.rd_tree.specs.declared.placed.Placed.{Placed}
-use Rattle.rd_tree.specs.Windows.{Windows, Window, Split, first_part, second_part, resized, window_at, holds, is_window, sibling, removed, times}
+use Rattle.rd_tree.specs.Windows.{Windows, Window, Split, first_part, second_part, resized, window_at, holds, is_leaf_of, sibling, removed, times}
 use Rattle.rd_tree.specs.Places.{shared_place}
 use Rattle.rd_tree.proofs.Rooms.{or_else}
 use Rattle.rd_tree.proofs.Keeping.{bool_cases, found_held}
@@ -20,9 +20,9 @@ true_or a b e = rw e refl
 sibling_held : (v n : ℕ) (windows : Windows) → holds v (sibling n windows) ≡ true → holds v windows ≡ true
 sibling_held v n (Window number mode margins) e = e
 sibling_held v n (Split side size first second) e =
-    elim (bool_cases (is_window n first)) [
+    elim (bool_cases (is_leaf_of n first)) [
       | inl p ↦ or_true (holds v first) (holds v second) (rw p at e)
-      | inr p ↦ elim (bool_cases (is_window n second)) [
+      | inr p ↦ elim (bool_cases (is_leaf_of n second)) [
         | inl q ↦ true_or (holds v first) (holds v second) (rw (p, q) at e)
         | inr q ↦ elim (bool_cases (holds n first)) [
           | inl h ↦ true_or (holds v first) (holds v second) (sibling_held v n first (rw (p, q, h) at e))
@@ -41,9 +41,9 @@ removed_sibling v n (Window number mode margins) rect once e = refl
 removed_sibling v n (Split side size first second) rect once e =
     let a = first_part side size rect in
     let b = second_part side size rect in
-    elim (bool_cases (is_window n first)) [
+    elim (bool_cases (is_leaf_of n first)) [
       | inl p ↦ rw p refl
-      | inr p ↦ elim (bool_cases (is_window n second)) [
+      | inr p ↦ elim (bool_cases (is_leaf_of n second)) [
         | inl q ↦ rw (p, q) refl
         | inr q ↦ elim (bool_cases (holds n first)) [
           | inl h ↦

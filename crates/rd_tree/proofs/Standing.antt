@@ -6,7 +6,7 @@ use Rattle.rd_tree.specs.declared.rect.Rect.{Rect}
 use Rattle.rd_tree.specs.declared.side.Side.{Side}
 use Rattle.rd_tree.specs.declared.side.Side.TheVariants.{Below, Right}
 use Rattle.rd_tree.specs.declared.placed.Placed.{Placed}
-use Rattle.rd_tree.specs.Windows.{Windows, Window, Split, first_part, second_part, HasRoom, first_size, resized, leaves, placed, of_number, window_at, holds, replaced, is_window, is_single, sibling, removed, times}
+use Rattle.rd_tree.specs.Windows.{Windows, Window, Split, first_part, second_part, HasRoom, first_size, resized, leaves, placed, of_number, window_at, holds, replaced, is_leaf_of, is_single, sibling, removed, times}
 use Rattle.rd_tree.specs.Calls.{Configuration, IsValid, frame_of, rect_of_placed}
 use Rattle.rd_tree.specs.Places.{is_from, lies_in, one_if, windows_with, AllHaveRoom, in_place_of, without, is_among, IsWithin, StandsIn, LiesIn}
 use Rattle.rd_tree.proofs.Rooms.{rows_for-some, room_needs, room_within, or_else, of_number-append}
@@ -181,11 +181,11 @@ without-back n (x ∷ xs) ys e =
       | inr p ↦ rw p (ap (λ (zs : List ℕ). x ∷ zs) (without-back n xs ys (rw p at e)))
     ]
 
-window_without : (n : ℕ) (windows : Windows) (numbers : List ℕ) → is_window n windows ≡ true → without n (leaves windows ++ numbers) ≡ numbers
+window_without : (n : ℕ) (windows : Windows) (numbers : List ℕ) → is_leaf_of n windows ≡ true → without n (leaves windows ++ numbers) ≡ numbers
 window_without n (Window number mode margins) numbers e = rw e refl
 window_without n (Split side size first second) numbers e = absurd (cc)
 
-window_held : (n : ℕ) (windows : Windows) → is_window n windows ≡ true → holds n windows ≡ true
+window_held : (n : ℕ) (windows : Windows) → is_leaf_of n windows ≡ true → holds n windows ≡ true
 window_held n (Window number mode margins) e = e
 window_held n (Split side size first second) e = absurd (cc)
 
@@ -212,9 +212,9 @@ held_behind n first second e p = rw p at e
 pub removed_leaves : (n : ℕ) (windows : Windows) (rect : Rect) → times n windows ≤ 1 → holds n windows ≡ true → is_single windows ≡ false → leaves (removed n windows rect) ≡ without n (leaves windows)
 removed_leaves n (Window number mode margins) rect once e s = absurd (cc)
 removed_leaves n (Split side size first second) rect once e s =
-    elim (bool_cases (is_window n first)) [
+    elim (bool_cases (is_leaf_of n first)) [
       | inl p ↦ rw (p, resized_leaves second rect, window_without n first (leaves second) p) refl
-      | inr p ↦ elim (bool_cases (is_window n second)) [
+      | inr p ↦ elim (bool_cases (is_leaf_of n second)) [
         | inl q ↦
             let away : is_among n (leaves first) ≡ false = sym (held_among n first) ∙ once_in_first n first second once (window_held n second q) in
             rw (p, q, resized_leaves first rect, without-back n (leaves first) (leaves second) away)
@@ -236,7 +236,7 @@ removed_leaves n (Split side size first second) rect once e s =
 pub not_found : (v : ℕ) (windows : Windows) (rect : Rect) → holds v windows ≡ false → window_at v windows rect ≡ None
 not_found v windows rect e = none_of (window_at v windows rect) (found_held v windows rect ∙ e)
 
-other_window : (v n : ℕ) (windows : Windows) → is_window n windows ≡ true → (v == n) ≡ false → holds v windows ≡ false
+other_window : (v n : ℕ) (windows : Windows) → is_leaf_of n windows ≡ true → (v == n) ≡ false → holds v windows ≡ false
 other_window v n (Window number mode margins) e d = grind (arith, nat_tests)
 other_window v n (Split side size first second) e d = absurd (cc)
 
@@ -252,11 +252,11 @@ removed_others v n (Window number mode margins) rect d e = refl
 removed_others v n (Split side size first second) rect d e =
     let a = first_part side size rect in
     let b = second_part side size rect in
-    elim (bool_cases (is_window n first)) [
+    elim (bool_cases (is_leaf_of n first)) [
       | inl p ↦
           let away : holds v second ≡ false = rw p at e in
           rw p (not_found v (resized second rect) rect (resized_held v second rect ∙ away) ∙ sym (neither_found v side size first second rect (other_window v n first p d) away))
-      | inr p ↦ elim (bool_cases (is_window n second)) [
+      | inr p ↦ elim (bool_cases (is_leaf_of n second)) [
         | inl q ↦
             let away : holds v first ≡ false = rw (p, q) at e in
             rw (p, q) (not_found v (resized first rect) rect (resized_held v first rect ∙ away) ∙ sym (neither_found v side size first second rect away (other_window v n second q d)))

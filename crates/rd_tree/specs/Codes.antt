@@ -28,14 +28,14 @@ parts (Window number mode margins) = inl (number, (mode, margins)) ∷ []
 parts (Split side size first second) = parts first ++ (parts second ++ inr (size, is_right side) ∷ [])
 
 -- the last two of what was made so far are joined
-abbrev pub joined : ℕ → Bool → List Windows → List Windows
-joined size side (second ∷ first ∷ rest) = Split (side_of side) size first second ∷ rest
-joined size side few = few
+abbrev pub split_of_last : ℕ → Bool → List Windows → List Windows
+split_of_last size side (second ∷ first ∷ rest) = Split (side_of side) size first second ∷ rest
+split_of_last size side few = few
 
 abbrev pub made_onto : List Part → List Windows → List Windows
 made_onto [] done = done
 made_onto (inl window ∷ rest) done = made_onto rest (Window window.0 window.1.0 window.1.1 ∷ done)
-made_onto (inr split ∷ rest) done = made_onto rest (joined split.0 split.1 done)
+made_onto (inr split ∷ rest) done = made_onto rest (split_of_last split.0 split.1 done)
 
 abbrev pub top : List Windows → Windows
 top [] = Window 0 false 0
@@ -47,7 +47,7 @@ from_parts ps = top (made_onto ps [])
 pub made_onto-append : (ps qs : List Part) (done : List Windows) → made_onto (ps ++ qs) done ≡ made_onto qs (made_onto ps done)
 made_onto-append [] qs done = refl
 made_onto-append (inl window ∷ ps) qs done = made_onto-append ps qs (Window window.0 window.1.0 window.1.1 ∷ done)
-made_onto-append (inr split ∷ ps) qs done = made_onto-append ps qs (joined split.0 split.1 done)
+made_onto-append (inr split ∷ ps) qs done = made_onto-append ps qs (split_of_last split.0 split.1 done)
 
 pub made_onto-parts : (windows : Windows) (done : List Windows) → made_onto (parts windows) done ≡ windows ∷ done
 made_onto-parts (Window number mode margins) done = refl

@@ -3,7 +3,7 @@ use Rattle.std.specs.Prelude.{ℕ, ◌+◌, ◌≤◌, Bool, false, if◌then◌
 use Rattle.rd_base.specs.declared.limits.TheConstants.{FRAME_COLUMNS, FRAME_ROWS}
 use Rattle.rd_tree.specs.declared.rect.Rect.{Rect}
 use Rattle.rd_tree.specs.declared.placed.Placed.{Placed}
-use Rattle.rd_tree.specs.Windows.{Windows, Window, Split, columns_for, rows_for, first_part, second_part, holds, is_window}
+use Rattle.rd_tree.specs.Windows.{Windows, Window, Split, columns_for, rows_for, first_part, second_part, holds, is_leaf_of}
 
 -- whether a place is one of so many from the first on
 abbrev pub is_from : ℕ → ℕ → ℕ → Bool
@@ -58,8 +58,8 @@ is_among number (n ∷ numbers) = n == number || is_among number numbers
 abbrev pub shared_place : ℕ → Windows → Rect → Rect
 shared_place number (Window n mode margins) rect = rect
 shared_place number (Split side size first second) rect =
-    if is_window number first
+    if is_leaf_of number first
     then rect
-    else (if is_window number second
+    else (if is_leaf_of number second
     then rect
     else (if holds number first then shared_place number first (first_part side size rect) else shared_place number second (second_part side size rect)))

@@ -130,9 +130,9 @@ abbrev pub with_margins : ℕ → ℕ → Windows → Windows
 with_margins number columns windows = replaced number (λ mode _. Window number mode columns) windows
 
 -- whether this is one window alone, with the number
-abbrev pub is_window : ℕ → Windows → Bool
-is_window number (Window n mode margins) = n == number
-is_window number (Split side size first second) = false
+abbrev pub is_leaf_of : ℕ → Windows → Bool
+is_leaf_of number (Window n mode margins) = n == number
+is_leaf_of number (Split side size first second) = false
 
 -- whether it is one window alone
 abbrev pub is_single : Windows → Bool
@@ -143,15 +143,15 @@ is_single (Split side size first second) = false
 abbrev pub sibling : ℕ → Windows → Windows
 sibling number (Window n mode margins) = Window n mode margins
 sibling number (Split side size first second) =
-    if is_window number first then second else (if is_window number second then first else (if holds number first then sibling number first else sibling number second))
+    if is_leaf_of number first then second else (if is_leaf_of number second then first else (if holds number first then sibling number first else sibling number second))
 
 -- the windows without the window with a number: its sibling takes the rectangle of both
 abbrev pub removed : ℕ → Windows → Rect → Windows
 removed number (Window n mode margins) rect = Window n mode margins
 removed number (Split side size first second) rect =
-    if is_window number first
+    if is_leaf_of number first
     then resized second rect
-    else (if is_window number second
+    else (if is_leaf_of number second
     then resized first rect
     else (if holds number first
     then Split side size (removed number first (first_part side size rect)) second

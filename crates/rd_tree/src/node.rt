@@ -1,6 +1,6 @@
 //! The nodes of a window tree.
 ghost use Rattle.std.specs.Prelude.{◌≡◌, ◌≤◌, ◌<◌, ◌++◌, length, slice_get, OnOk, OnErr};
-ghost use Rattle.rd_tree.specs.Windows.{HasRoom, InFrame, NeedsMet, FirstPartsFit, columns_needed, rows_needed, first_size, resized, leaves, placed, window_at, holds, is_window, is_single, first_leaf, sibling, removed, split_at, with_mode, with_margins};
+ghost use Rattle.rd_tree.specs.Windows.{HasRoom, InFrame, NeedsMet, FirstPartsFit, columns_needed, rows_needed, first_size, resized, leaves, placed, window_at, holds, is_leaf_of, is_single, first_leaf, sibling, removed, split_at, with_mode, with_margins};
 ghost use Rattle.rd_tree.specs.Shapes.{shape};
 ghost use Rattle.rd_tree.specs.Compositions.{composed, row_at, FillTheirRectangles};
 
@@ -137,8 +137,8 @@ impl Node {
     }
 
     /// Whether it is one window alone, with this number.
-    fn is_window(&self, window: u32) -> bool
-        ensures { result ≡ is_window window (shape self.now) }
+    fn is_leaf_of(&self, window: u32) -> bool
+        ensures { result ≡ is_leaf_of window (shape self.now) }
     {
         match self {
             Node::Leaf { number, .. } => *number == window,
@@ -336,10 +336,10 @@ impl Node {
             second,
         } = self
         {
-            if first.is_window(window) {
+            if first.is_leaf_of(window) {
                 let rest = second.take();
                 self.give_way(rest, rect);
-            } else if second.is_window(window) {
+            } else if second.is_leaf_of(window) {
                 let rest = first.take();
                 self.give_way(rest, rect);
             } else if first.holds(window) {
@@ -357,9 +357,9 @@ impl Node {
         match self {
             Node::Leaf { number, .. } => *number,
             Node::Split { first, second, .. } => {
-                if first.is_window(window) {
+                if first.is_leaf_of(window) {
                     second.first_leaf()
-                } else if second.is_window(window) {
+                } else if second.is_leaf_of(window) {
                     first.first_leaf()
                 } else if first.holds(window) {
                     first.heir(window)

@@ -7,7 +7,7 @@ use Rattle.rd_ucd.specs.declared.fault.UcdFault.TheVariants.{BadLine, BadCode, B
 use Rattle.rd_ucd.specs.declared.spans.Span.{Span}
 use Rattle.rd_ucd.specs.declared.entries.Mark.{Mark}
 use Rattle.rd_ucd.specs.declared.entries.Mark.TheVariants.{Alone, First, Last}
-use Rattle.rd_ucd.specs.declared.entries.Entry.{Entry}
+use Rattle.rd_ucd.specs.declared.entries.DataEntry.{DataEntry}
 use Rattle.rd_ucd.specs.declared.entries.Opened.{Opened}
 use Rattle.rd_ucd.specs.Pieces.{chomped}
 use Rattle.rd_ucd.specs.Lines.{lines_of, fields_of, entries_in}
@@ -19,13 +19,13 @@ use Rattle.rd_ucd.specs.Names.{named, same_class}
 abbrev pub mark_of : List ℕ → Mark
 mark_of name = if ends_with nat_eq name (codes ", First>") then First else (if ends_with nat_eq name (codes ", Last>") then Last else Alone)
 
-abbrev pub coded : ℕ → Option ℕ → Mark → Option Class → Result Entry UcdFault
+abbrev pub coded : ℕ → Option ℕ → Mark → Option Class → Result DataEntry UcdFault
 coded n None mark class = Err (BadCode n)
 coded n (Some code) mark None = Err (BadClass n)
 coded n (Some code) mark (Some class) = Ok (record { code = code; mark = mark; class = class })
 
 -- the entry of line n, by its fields: the code, the name and, behind two others, the class
-abbrev pub entry_of_fields : ℕ → List (List ℕ) → Result Entry UcdFault
+abbrev pub entry_of_fields : ℕ → List (List ℕ) → Result DataEntry UcdFault
 entry_of_fields n fields =
     if nat_lt 4 (length fields)
     then coded n (code_of (slice_index_or fields 0 [])) (mark_of (slice_index_or fields 1 [])) (named (slice_index_or fields 4 []))
@@ -36,7 +36,7 @@ abbrev pub is_empty_line : List ℕ → Bool
 is_empty_line line = length (chomped line) == 0
 
 -- the entry of line n
-abbrev pub entry_of : ℕ → List ℕ → Result Entry UcdFault
+abbrev pub entry_of : ℕ → List ℕ → Result DataEntry UcdFault
 entry_of n line = entry_of_fields n (fields_of (chomped line))
 
 abbrev pub is_last : Mark → Bool
@@ -44,23 +44,23 @@ is_last Last = true
 is_last mark = false
 
 -- behind a First stands a Last of the same class, and a Last stands nowhere else
-abbrev pub closes : Option Opened → Entry → Bool
+abbrev pub closes : Option Opened → DataEntry → Bool
 closes None e = not (is_last e.mark)
 closes (Some o) e = is_last e.mark && same_class o.class e.class
 
 -- the fault of an entry that was read, behind an entry whose code is below `least`, and maybe behind a First
-abbrev pub fault_of : ℕ → Option Opened → ℕ → Entry → Option UcdFault
+abbrev pub fault_of : ℕ → Option Opened → ℕ → DataEntry → Option UcdFault
 fault_of least opened n e =
     if nat_lt e.code least then Some (NotAscending n) else (if closes opened e then None else Some (BadRange n))
 
 -- the range that an entry gives: its one code, or all codes from the First to this Last
-abbrev pub span_by : Mark → Option Opened → Entry → Option Span
+abbrev pub span_by : Mark → Option Opened → DataEntry → Option Span
 span_by Alone opened e = Some (record { first = e.code; last = e.code; class = e.class })
 span_by First opened e = None
 span_by Last None e = None
 span_by Last (Some o) e = Some (record { first = o.code; last = e.code; class = e.class })
 
-abbrev pub opened_by : Mark → ℕ → Entry → Option Opened
+abbrev pub opened_by : Mark → ℕ → DataEntry → Option Opened
 opened_by First n e = Some (record { number = n; code = e.code; class = e.class })
 opened_by mark n e = None
 
@@ -74,7 +74,7 @@ unless None result = result
 unless (Some fault) result = Err fault
 
 -- the ranges that entries stand for, or the first fault among them
-abbrev pub spans_from : ℕ → Option Opened → List (ℕ × Result Entry UcdFault) → Result (List Span) UcdFault
+abbrev pub spans_from : ℕ → Option Opened → List (ℕ × Result DataEntry UcdFault) → Result (List Span) UcdFault
 spans_from least opened [] = ended opened
 spans_from least opened ((n, Err fault) ∷ entries) = Err fault
 spans_from least opened ((n, Ok e) ∷ entries) =

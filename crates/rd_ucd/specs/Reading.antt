@@ -3,7 +3,7 @@ use Rattle.std.specs.Prelude.{◌≡◌, ℕ, ◌<◌, List, ◌∷◌, length, 
 use Rattle.rd_ucd.specs.declared.fault.UcdFault.{UcdFault}
 use Rattle.rd_ucd.specs.declared.fault.UcdFault.TheVariants.{Memory}
 use Rattle.rd_ucd.specs.declared.spans.Span.{Span}
-use Rattle.rd_ucd.specs.declared.entries.Entry.{Entry}
+use Rattle.rd_ucd.specs.declared.entries.DataEntry.{DataEntry}
 use Rattle.rd_ucd.specs.declared.reader.Reader.{Reader}
 use Rattle.rd_ucd.specs.Lookup.{IsAscending}
 use Rattle.rd_ucd.specs.Lines.{entries_in}
@@ -20,14 +20,14 @@ pub record IsReading (reader : Reader) : Type 0 where
   pub opened : IfSome reader.opened (λ o. (o.code < reader.least) × AreSpansBelow o.code reader.spans)
 
 -- what the file stands for, where these entries are left, or these lines
-abbrev pub whole : Reader → List (ℕ × Result Entry UcdFault) → Result (List Span) UcdFault
+abbrev pub whole : Reader → List (ℕ × Result DataEntry UcdFault) → Result (List Span) UcdFault
 whole reader entries = behind reader.spans (spans_from reader.least reader.opened entries)
 
 abbrev pub whole_lines : Reader → List (ℕ × List ℕ) → Result (List Span) UcdFault
 whole_lines reader lines = whole reader (entries_in is_empty_line entry_of lines)
 
 -- taking an entry changes nothing in the whole, whatever follows
-abbrev pub TakesEntry : {T : Type 0} → Result T UcdFault → Reader → Reader → ℕ → Entry → Type 0
-TakesEntry (Ok _) old new n e = (entries : List (ℕ × Result Entry UcdFault)) → whole old ((n, Ok e) ∷ entries) ≡ whole new entries
+abbrev pub TakesEntry : {T : Type 0} → Result T UcdFault → Reader → Reader → ℕ → DataEntry → Type 0
+TakesEntry (Ok _) old new n e = (entries : List (ℕ × Result DataEntry UcdFault)) → whole old ((n, Ok e) ∷ entries) ≡ whole new entries
 TakesEntry (Err Memory) old new n e = Unit {0}
-TakesEntry (Err fault) old new n e = (entries : List (ℕ × Result Entry UcdFault)) → whole old ((n, Ok e) ∷ entries) ≡ Err fault
+TakesEntry (Err fault) old new n e = (entries : List (ℕ × Result DataEntry UcdFault)) → whole old ((n, Ok e) ∷ entries) ≡ Err fault

@@ -19,7 +19,7 @@ pub enum Mark {
 
 /// A line of the file that was read.
 #[derive(Clone, Copy, Debug)]
-pub struct Entry {
+pub struct DataEntry {
     pub code: u32,
     pub mark: Mark,
     pub class: Class,
@@ -34,7 +34,7 @@ pub struct Opened {
 }
 
 /// Reads a line, which is not empty, of this number.
-pub fn read_entry(line: &[u8], number: u64) -> Result<Entry, UcdFault>
+pub fn read_entry(line: &[u8], number: u64) -> Result<DataEntry, UcdFault>
     ensures value { result ≡ entry_of_fields number (fields_of line.now) }
     ensures bound { IfOk result (λ entry. entry.code ≤ 1114111) }
 {
@@ -53,7 +53,7 @@ pub fn read_entry(line: &[u8], number: u64) -> Result<Entry, UcdFault>
     let Some(class) = class_named(class) else {
         return Err(UcdFault::BadClass(number));
     };
-    Ok(Entry {
+    Ok(DataEntry {
         code,
         mark: mark_in(name),
         class,

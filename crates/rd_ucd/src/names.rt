@@ -44,7 +44,7 @@ pub fn class_named(name: &[u8]) -> Option<Class>
 }
 
 /// Whether two classes are one.
-pub fn is_same(a: Class, b: Class) -> bool
+pub fn same_class(a: Class, b: Class) -> bool
     ensures { result ≡ same_class a b }
 {
     name_of_class(a) == name_of_class(b)

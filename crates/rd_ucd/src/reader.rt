@@ -2,10 +2,10 @@
 ghost use Rattle.std.specs.Prelude.{◌≡◌, ◌++◌, OnOk, OnErr, option_to_list};
 ghost use Rattle.rd_ucd.specs.ClassFile.{fault_of, span_by, opened_by, closes};
 
-use crate::entries::{Entry, Mark, Opened, read_entry};
+use crate::entries::{DataEntry, Mark, Opened, read_entry};
 use crate::fault::UcdFault;
 use crate::lines::LineReader;
-use crate::names::is_same;
+use crate::names::same_class;
 use crate::pieces::without_return;
 use crate::spans::Span;
 use rd_base::{ListOf, Memory};
@@ -38,7 +38,7 @@ impl Reader {
     }
 
     /// Takes the entry of a line.
-    fn take(&mut self, number: u64, entry: Entry) -> Result<(), UcdFault>
+    fn take(&mut self, number: u64, entry: DataEntry) -> Result<(), UcdFault>
         requires reading { IsReading self.old }
         requires code { entry.code ≤ 1114111 }
         ensures reading { IsReading self.new }
@@ -76,7 +76,7 @@ impl LineReader for Reader {
 }
 
 /// The fault of an entry among those before it.
-fn fault(least: u32, opened: Option<Opened>, number: u64, entry: Entry) -> Option<UcdFault>
+fn fault(least: u32, opened: Option<Opened>, number: u64, entry: DataEntry) -> Option<UcdFault>
     ensures { result ≡ fault_of least opened number entry }
 {
     if entry.code < least {
@@ -89,11 +89,11 @@ fn fault(least: u32, opened: Option<Opened>, number: u64, entry: Entry) -> Optio
 }
 
 /// Whether an entry stands behind a First exactly where it is a Last of the same class.
-fn is_in_place(opened: Option<Opened>, entry: Entry) -> bool
+fn is_in_place(opened: Option<Opened>, entry: DataEntry) -> bool
     ensures { result ≡ closes opened entry }
 {
     match (opened, entry.mark) {
-        (Some(first), Mark::Last) => is_same(first.class, entry.class),
+        (Some(first), Mark::Last) => same_class(first.class, entry.class),
         (Some(_), _) => false,
         (None, Mark::Last) => false,
         (None, _) => true,
@@ -101,7 +101,7 @@ fn is_in_place(opened: Option<Opened>, entry: Entry) -> bool
 }
 
 /// The range that an entry gives.
-fn span(opened: Option<Opened>, entry: Entry) -> Option<Span>
+fn span(opened: Option<Opened>, entry: DataEntry) -> Option<Span>
     ensures { result ≡ span_by entry.mark opened entry }
 {
     let first = match entry.mark {
@@ -117,7 +117,7 @@ fn span(opened: Option<Opened>, entry: Entry) -> Option<Span>
 }
 
 /// What an entry leaves to be closed.
-fn opened(number: u64, entry: Entry) -> Option<Opened>
+fn opened(number: u64, entry: DataEntry) -> Option<Opened>
     ensures { result ≡ opened_by entry.mark number entry }
 {
     match entry.mark {

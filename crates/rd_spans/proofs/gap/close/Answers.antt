@@ -1,6 +1,6 @@
 use Rattle.std.proofs.Common.{◌-◌, List, ℕ, Option, arith, ap, subst, sym, ◌∙◌}
 use Rattle.rd_spans.specs.Values.{value_at, closed_at, IsTrimmed}
-use Rattle.rd_spans.proofs.Edits.{IsCut, at-gap, not-empty, is-empty, nothing-left, joined-none, close-values, close-trimmed}
+use Rattle.rd_spans.proofs.Edits.{IsCut, at-gap, not-empty, is-empty, nothing-left, values_of_both-none, close-values, close-trimmed}
 use Rattle.rd_spans.proofs.gap.close.Goals as goal
 
 pub returns-then-is_empty-clause-values : goal.returns-then-is_empty-clause-values
@@ -13,9 +13,9 @@ returns-then-is_empty-clause-values c =
     let k : IsCut b c.cut.new.runs.items (c.args.to - c.args.from) = record { rises = c.cut.ensures.order; values = c.cut.ensures.values; size = c.cut.ensures.size } in
     let nothing = nothing-left d.items c.cut.ensures.order (is-empty d.items d.len d.ok.0 (sym c.is_empty.ensures ∙ c.if-is_empty.true)) in
     λ p.
-    ap (λ (xs : List (Option ℕ)). value_at xs p) (joined-none c.trim.new.runs.items d.items nothing)
+    ap (λ (xs : List (Option ℕ)). value_at xs p) (values_of_both-none c.trim.new.runs.items d.items nothing)
     ∙ (c.trim.ensures.values p
-    ∙ (ap (λ (xs : List (Option ℕ)). value_at xs p) (sym (joined-none a d.items nothing))
+    ∙ (ap (λ (xs : List (Option ℕ)). value_at xs p) (sym (values_of_both-none a d.items nothing))
     ∙ (close-values a b d.items c.args.from c.args.to g c.requires.ordered k p ∙ ap (λ (xs : List (Option ℕ)). closed_at xs c.args.from c.args.to p) m.same)))
 
 pub returns-else-is_empty-clause-sides : goal.returns-else-is_empty-clause-sides

@@ -1,7 +1,7 @@
 use Rattle.std.proofs.Common.{◌-◌, List, ℕ, Option, arith, ap, subst, sym, ◌∙◌}
 use Rattle.rd_spans.specs.Values.{value_at, put_at, IsTrimmed}
-use Rattle.rd_spans.specs.Sides.{joined}
-use Rattle.rd_spans.proofs.Edits.{IsCut, at-gap, nothing-left, length-none, size-none, joined-none, put-filled, put-nothing, put-trimmed, needs-most, needs-least}
+use Rattle.rd_spans.specs.Sides.{values_of_both}
+use Rattle.rd_spans.proofs.Edits.{IsCut, at-gap, nothing-left, length-none, size-none, values_of_both-none, put-filled, put-nothing, put-trimmed, needs-most, needs-least}
 use Rattle.rd_spans.proofs.gap.put.Goals as goal
 
 pub returns-then-ends_there-clause-values : goal.returns-then-ends_there-clause-values
@@ -17,10 +17,10 @@ returns-then-ends_there-clause-values c =
     let nothing = nothing-left d c.cut.ensures.order there.1 in
     let none = size-none d c.cut.ensures.order there.1 in
     λ p.
-    ap (λ (xs : List (Option ℕ)). value_at xs p) (joined-none c.trim.new.runs.items d nothing)
+    ap (λ (xs : List (Option ℕ)). value_at xs p) (values_of_both-none c.trim.new.runs.items d nothing)
     ∙ (c.trim.ensures.values p
     ∙ (put-nothing a b d c.args.from c.args.to g c.requires.some k none p
-    ∙ (ap (λ (v : Option ℕ). put_at (joined a b) c.args.from c.args.to v p) (sym there.0)
+    ∙ (ap (λ (v : Option ℕ). put_at (values_of_both a b) c.args.from c.args.to v p) (sym there.0)
     ∙ ap (λ (xs : List (Option ℕ)). put_at xs c.args.from c.args.to c.args.value p) m.same)))
 
 pub returns-else-ends_there-clause-values : goal.returns-else-ends_there-clause-values

@@ -1,6 +1,6 @@
 use Rattle.std.proofs.Common.{◌≡◌, ◌-◌, ◌+◌, arith}
 use Rattle.rd_spans.specs.Sides.{size_of}
-use Rattle.rd_spans.proofs.Sides.{popped-rises, moved-needs, moved-joined}
+use Rattle.rd_spans.proofs.Sides.{popped-rises, moved-needs, moved-values_of_both}
 use Rattle.rd_spans.proofs.side.move_run.Goals as goal
 
 pub overflow_sub-all : goal.overflow_sub-all
@@ -31,7 +31,7 @@ returns-clause-moved c =
     let rest = c.in-Some.run'.end - c.size.result - c.min-moved.result in
     let all : rest + c.min-moved.result ≡ c.in-Some.run'.end - size_of c.pop.new.self.items = omega (arith, p.1.0, c.min-moved.ensures, start) in
     record {
-      same = moved-joined c.args.from.now.items c.pop.new.self.items c.args.to.now.items c.push.new.runs.items c.push-2.new.runs.items c.in-Some.run' rest c.min-moved.result
+      same = moved-values_of_both c.args.from.now.items c.pop.new.self.items c.args.to.now.items c.push.new.runs.items c.push-2.new.runs.items c.in-Some.run' rest c.min-moved.result
           c.in-Some.ensures.items all c.push.ensures.values c.push-2.ensures.values;
       from_rises = c.push.ensures.order;
       to_rises = c.push-2.ensures.order;

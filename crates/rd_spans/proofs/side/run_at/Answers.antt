@@ -1,5 +1,5 @@
 use Rattle.std.proofs.Common.{arith, None}
-use Rattle.rd_spans.specs.declared.run.Run.{Run}
+use Rattle.rd_spans.specs.declared.run.ValueRun.{ValueRun}
 use Rattle.rd_spans.proofs.Sides.{found-within, reach-before, end-at, same-run}
 use Rattle.rd_spans.proofs.side.run_at.Goals as goal
 
@@ -14,14 +14,14 @@ returns-clause-first c =
 pub returns-clause-last : goal.returns-clause-last
 returns-clause-last c =
     let l = found-within c.args.runs.now c.first_reaching-i.result c.args.place c.first_reaching-i.ensures.before c.requires.within in
-    let d : Run = record { end = 0; value = None } in
+    let d : ValueRun = record { end = 0; value = None } in
     let reaches = c.first_reaching-i.ensures.behind c.first_reaching-i.result d (omega arith) l in
     (omega arith, end-at 0 c.args.runs.now c.first_reaching-i.result d c.requires.order l)
 
 pub returns-clause-same : goal.returns-clause-same
 returns-clause-same c =
     let l = found-within c.args.runs.now c.first_reaching-i.result c.args.place c.first_reaching-i.ensures.before c.requires.within in
-    let d : Run = record { end = 0; value = None } in
+    let d : ValueRun = record { end = 0; value = None } in
     let reaches = c.first_reaching-i.ensures.behind c.first_reaching-i.result d (omega arith) l in
     let before = c.first_reaching-i.ensures.before in
     let first = reach-before 0 c.args.runs.now c.first_reaching-i.result c.args.place (omega arith) (λ j x m. omega (arith, before j x m)) in

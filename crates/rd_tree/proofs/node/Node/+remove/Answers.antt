@@ -17,19 +17,19 @@ give_way-requires-clause-needs t c =
     let room = rw c.in-Split.is at c.requires.room in
     rw (c.take-rest.ensures, c.deref_mut.ensures.value) (second_needs s.side s.size (shape s.first.value) (shape s.second.value) c.args.rect room)
 
-pub give_way-requires-then-is_window-2-clause-parts : goal.give_way-requires-then-is_window-2-clause-parts
-give_way-requires-then-is_window-2-clause-parts t c =
+pub give_way-requires-then-is_leaf_of-2-clause-parts : goal.give_way-requires-then-is_leaf_of-2-clause-parts
+give_way-requires-then-is_leaf_of-2-clause-parts t c =
     let s = c.in-Split in
     let a = shape s.first.value in
     let b = shape s.second.value in
     let room = rw c.in-Split.is at c.requires.room in
-    rw (c.take-rest-then-is_window-2.ensures, c.deref_mut-then-is_window-2.ensures.value) (first_parts-first s.side s.size a b (room_first_parts (Split s.side s.size a b) c.args.rect room)).0
+    rw (c.take-rest-then-is_leaf_of-2.ensures, c.deref_mut-then-is_leaf_of-2.ensures.value) (first_parts-first s.side s.size a b (room_first_parts (Split s.side s.size a b) c.args.rect room)).0
 
-pub give_way-requires-then-is_window-2-clause-needs : goal.give_way-requires-then-is_window-2-clause-needs
-give_way-requires-then-is_window-2-clause-needs t c =
+pub give_way-requires-then-is_leaf_of-2-clause-needs : goal.give_way-requires-then-is_leaf_of-2-clause-needs
+give_way-requires-then-is_leaf_of-2-clause-needs t c =
     let s = c.in-Split in
     let room = rw c.in-Split.is at c.requires.room in
-    rw (c.take-rest-then-is_window-2.ensures, c.deref_mut-then-is_window-2.ensures.value) (first_needs s.side s.size (shape s.first.value) (shape s.second.value) c.args.rect room)
+    rw (c.take-rest-then-is_leaf_of-2.ensures, c.deref_mut-then-is_leaf_of-2.ensures.value) (first_needs s.side s.size (shape s.first.value) (shape s.second.value) c.args.rect room)
 
 pub remove-requires : goal.remove-requires
 remove-requires t c =
