@@ -20,7 +20,7 @@ entered step = []
 -- a step is the first of the steps that are left: the element that it gives alone, the few that it lists, and then those of a string
 -- that is entered for it. Where it ends none is left
 abbrev pub IsStep : Step → List Element → List (List Element) → List (List Element) → Type 0
-IsStep Ends few old new = old ≡ []
+IsStep Ends few old new = (old ≡ []) × (few ≡ [])
 IsStep step few old new = old ≡ (given step ++ few) ∷ (entered step ++ new)
 
 -- what a frame has still to give

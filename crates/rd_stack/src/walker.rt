@@ -102,12 +102,17 @@ impl<'a> Walker<'a> {
         ensures work { IfOk result (λ found. work self.new.frames.items < work self.old.frames.items) }
     {
         match self.step(alloc)? {
-            Step::Ends => self.leave(),
-            Step::Gives(element) => return Ok(Some(element)),
-            Step::Lists => {}
-            Step::Enters(entrance) => self.enter(alloc, &entrance)?,
+            Step::Ends => {
+                self.leave();
+                Ok(None)
+            }
+            Step::Gives(element) => Ok(Some(element)),
+            Step::Lists => Ok(None),
+            Step::Enters(entrance) => {
+                self.enter(alloc, &entrance)?;
+                Ok(None)
+            }
         }
-        Ok(None)
     }
 
     /// Takes a step of the innermost frame, in its place.
