@@ -1,5 +1,5 @@
 -- A walk as frames that are stepped in turn.
-use Rattle.std.specs.Prelude.{◌≡◌, ℕ, ◌+◌, ◌*◌, List, [], ◌∷◌, ◌++◌, length, Option, None, Some}
+use Rattle.std.specs.Prelude.{◌≡◌, ℕ, ◌+◌, ◌*◌, List, [], ◌∷◌, ◌++◌, length}
 use Rattle.rd_base.specs.declared.element.Element.{Element}
 use Rattle.rd_stack.specs.Steps.{elements_in}
 use Rattle.rd_stack.specs.declared.step.Step.{Step}
