@@ -113,12 +113,14 @@ abbrev pub slot_or : Slot → Option TableValue → ℕ → Glyph
 slot_or slot None code = single code 1
 slot_or slot (Some table) code = unwrap_or (slot_of slot table) (single code 1)
 
+-- how a character is shown that no table shows and that is no tab
+abbrev pub own_shown : PartValues → ℕ → Bool → Shown
+own_shown parts ch odd = mirrored parts.mirrors odd (shown_as parts.settings.ctl_arrow (class_of parts.classes ch) ch)
+
 -- the looks of a character that no table shows and that is no tab: the slots are a backslash and a circumflex where the table
 -- has none
 abbrev pub own_looks : PartValues → ℕ → Bool → List Look
-own_looks parts ch odd =
-    looks_of (slot_or Escape parts.table 92) (slot_or Control parts.table 94)
-    (mirrored parts.mirrors odd (shown_as parts.settings.ctl_arrow (class_of parts.classes ch) ch))
+own_looks parts ch odd = looks_of (slot_or Escape parts.table 92) (slot_or Control parts.table 94) (own_shown parts ch odd)
 
 -- the elements of a character whose entry in the table is given
 abbrev pub elements_by : Option (List Glyph) → PartValues → ℕ → Bool → Attributes → Origin → List Element
@@ -129,6 +131,11 @@ elements_by None parts ch odd face origin =
 -- the elements of a character, at an odd level or not
 abbrev pub elements_of : PartValues → ℕ → Bool → Attributes → Origin → List Element
 elements_of parts ch odd face origin = elements_by (entry_of parts.table ch) parts ch odd face origin
+
+-- what stands alone in a list
+abbrev pub only : {X : Type 0} → List X → Option X
+only (x ∷ []) = Some x
+only xs = None
 
 -- a look of 1 to 3 columns
 abbrev pub TakesColumns : Look → Type 0

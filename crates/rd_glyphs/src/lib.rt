@@ -6,6 +6,7 @@ mod examples;
 mod joining;
 mod laws;
 mod looks;
+mod only;
 mod parts;
 mod plain;
 mod shown;

@@ -2,7 +2,8 @@
 ghost use Rattle.std.specs.Prelude.{◌≡◌, ◌≤◌, All, length};
 ghost use Rattle.rd_base.specs.Cells.{single};
 ghost use Rattle.rd_base.specs.Glyphs.{IsMeasured};
-ghost use Rattle.rd_glyphs.specs.Characters.{narrow, digit, on_blank, looks_of, look_columns, TakesColumns, ShowsColumns};
+ghost use Rattle.rd_base.specs.declared.cell.Glyph.{Glyph};
+ghost use Rattle.rd_glyphs.specs.Characters.{narrow, digit, on_blank, looks_of, only, look_columns, TakesColumns, ShowsColumns};
 ghost use Rattle.rd_glyphs.specs.Joining.{IsMark};
 
 use crate::shown::Shown;
@@ -112,6 +113,18 @@ pub fn looks_of(escape: Glyph, control: Glyph, shown: Shown) -> Looks
         Shown::Space => Looks::one(Look::Blank),
         Shown::Mark(code) => Looks::one(Look::Glyph(on_blank(code))),
         Shown::Itself(code, width) => Looks::one(Look::Glyph(Glyph::single(code, width))),
+    }
+}
+
+/// What is put for a character where that is one look, and None where it is several.
+pub fn only_look(shown: Shown) -> Option<Look>
+    ensures { (escape control : Glyph) → result ≡ only (looks_of escape control shown) }
+{
+    match shown {
+        Shown::Caret(_) | Shown::Octal(_) => None,
+        Shown::Space => Some(Look::Blank),
+        Shown::Mark(code) => Some(Look::Glyph(on_blank(code))),
+        Shown::Itself(code, width) => Some(Look::Glyph(Glyph::single(code, width))),
     }
 }
 

@@ -7,7 +7,7 @@ ghost use Rattle.rd_objects.specs.Tables.{is_glyph_text};
 ghost use Rattle.rd_glyphs.specs.Characters.{element_of, glyph_elements, tab_of, entry_of, elements_of, TakesColumns, IsShort, IsShortElement};
 
 use crate::looks::{Looks, look_columns, looks_of};
-use crate::shown::{mirrored, shown_as};
+use crate::shown::{Shown, mirrored, shown_as};
 use rd_base::{Ch, Element, Extent, Face, Glyph, Look, Memory, Origin, Settings};
 use rd_objects::{Slot, Table};
 use rd_ucd::{Classes, Mirrors};
@@ -41,8 +41,9 @@ impl<'a> Model for Parts<'a> {
 
 impl<'a> Parts<'a> {
     ghost use Rattle.std.specs.Prelude.{◌≡◌, ◌<◌, ◌≤◌, length, All, MatchOption, IfSome, IsTrue, None, Some};
+    ghost use Rattle.rd_base.specs.Chars.{is_code};
     ghost use Rattle.rd_base.specs.Glyphs.{IsMeasured, IsMeasuredLook};
-    ghost use Rattle.rd_glyphs.specs.Characters.{AreSoundParts, entry_of, slot_or, own_looks, TakesColumns};
+    ghost use Rattle.rd_glyphs.specs.Characters.{AreSoundParts, entry_of, slot_or, own_shown, own_looks, TakesColumns, ShowsColumns};
     ghost use Rattle.rd_objects.specs.Tables.{is_glyph_text};
 
     /// The table holds glyph characters, and a tab has 1 to 32 columns. The call does nothing.
@@ -82,6 +83,18 @@ impl<'a> Parts<'a> {
         }
     }
 
+    /// How a character is shown that no table shows and that is no tab.
+    pub(crate) fn shown(&self, ch: Ch, odd: bool) -> Shown
+        ensures value { result ≡ own_shown self.now ch odd }
+        ensures columns { ShowsColumns result }
+        ensures code { IsTrue (is_code ch) }
+    {
+        let class = self.classes.class(ch);
+        let settings = self.settings;
+        let upright = shown_as(settings.ctl_arrow, class, ch.code());
+        mirrored(self.mirrors, odd, upright)
+    }
+
     /// The looks of a character that no table shows and that is no tab.
     fn own_looks(&self, ch: Ch, odd: bool) -> Looks
         ensures value { result ≡ own_looks self.now ch odd }
@@ -89,14 +102,10 @@ impl<'a> Parts<'a> {
         ensures measured { All IsMeasuredLook result }
         ensures count { length result ≤ 4 }
     {
-        let class = self.classes.class(ch);
-        let settings = self.settings;
-        let upright = shown_as(settings.ctl_arrow, class, ch.code());
-        let shown = mirrored(self.mirrors, odd, upright);
         looks_of(
             self.slot(Slot::Escape, '\\' as u32),
             self.slot(Slot::Control, '^' as u32),
-            shown,
+            self.shown(ch, odd),
         )
     }
 }
@@ -138,12 +147,24 @@ pub fn expand(
 }
 
 /// The element of a look.
-fn element_of(look: Look, face: Face, origin: Origin) -> Element
+pub(crate) fn element_of(look: Look, face: Face, origin: Origin) -> Element
     ensures { result ≡ element_of face origin look }
 {
     Element {
         extent: Extent::Fixed(look_columns(look) as u32),
         look,
+        face,
+        origin,
+    }
+}
+
+/// The element of a tab.
+pub(crate) fn tab_element(stop: u8, face: Face, origin: Origin) -> Element
+    ensures { result ≡ tab_of stop face origin }
+{
+    Element {
+        extent: Extent::Tab(stop as u32),
+        look: Look::Blank,
         face,
         origin,
     }
@@ -162,12 +183,7 @@ fn of_tab(
     ensures measured { IfOk result (λ elements. AreMeasured elements.items) }
     ensures inline { IsOk result }
 {
-    let tab = Element {
-        extent: Extent::Tab(stop as u32),
-        look: Look::Blank,
-        face,
-        origin,
-    };
+    let tab = tab_element(stop, face, origin);
     Ok(SmallVec::from_slice(alloc, &[tab])?)
 }
 

@@ -1,5 +1,5 @@
 -- The steps of a string, row by row.
-use Rattle.std.proofs.Common.{◌≡◌, ℕ, Bool, true, false, List, [], ◌∷◌, ◌++◌, refl, sym, ap, ◌∙◌, append-nil, arith}
+use Rattle.std.proofs.Common.{◌≡◌, ℕ, Bool, true, false, List, [], ◌∷◌, ◌++◌, refl, sym, ap, ◌∙◌, arith}
 use Rattle.std.specs.Prelude.{◌+◌, ◌<◌, length, nat_lt, if◌then◌else◌, map}
 use Rattle.std.proofs.lemmas.Bool.Decides.{nat_tests}
 use Rattle.std.specs.List.{flat_map}
@@ -15,10 +15,7 @@ use Rattle.rd_levels.specs.Turns.{turns_of}
 use Rattle.rd_levels.specs.declared.turn.Turn.{Turn}
 use Rattle.rd_stack.specs.Strings.{part_joins, part_class, part_code, place_of, in_order, row, row_end, shown_from, behind_row}
 use Rattle.rd_stack.specs.Steps.{part_steps, string_left}
-use Rattle.rd_stack.specs.Walks.{IsFirst}
 use Rattle.rd_stack.specs.declared.part.Part.{Part}
-use Rattle.rd_stack.specs.declared.step.Step.{Step}
-use Rattle.rd_stack.specs.declared.step.Step.TheVariants.{Gives, Enters}
 
 -- a string of which a row was read
 pub string-starts : (s : Scene) (base : ℕ) (replaced : Bool) (origin : Origin) (under : Attributes) (text : TextValue) (read parts : List Part) (turns : List Turn) (end from : ℕ)
@@ -32,21 +29,16 @@ string-starts s base replaced origin under text read parts turns end from made o
     ∙ ap (λ xs. steps (in_order s base xs ++ behind)) made
     ∙ ap steps all
 
--- a first step stays the first where more follow
-pub first-of-more : (step : Step) (steps rest : List (List Element)) → IsFirst step steps [] → IsFirst step (steps ++ rest) rest
-first-of-more (Gives es) steps rest first = ap (λ l. l ++ rest) first
-first-of-more (Enters inner) steps rest first = ap (λ l. l ++ rest) first ∙ ap (λ l. [] ∷ (l ++ rest)) (append-nil inner)
-
 row-end-steps : (s : Scene) (base : ℕ) (replaced : Bool) (origin : Origin) (face : Attributes) → part_steps s base replaced origin (row_end face) ≡ (element_of face origin look.RowEnd ∷ []) ∷ []
 row-end-steps s base true origin face = refl
 row-end-steps s base false origin face = refl
 
 -- a row ends, and the next begins
-pub row-over : (s : Scene) (base : ℕ) (replaced : Bool) (origin : Origin) (under face : Attributes) (text : TextValue) (parts : List Part) (turns : List Turn) (i n : ℕ) (end : List Element) (next : List (List Element))
-    → turns ≡ [] → n ≡ length text.chars → i < n → face ≡ (place_of replaced text under i).face → end ≡ element_of face origin look.RowEnd ∷ []
+pub row-over : (s : Scene) (base : ℕ) (replaced : Bool) (origin : Origin) (under face : Attributes) (text : TextValue) (parts : List Part) (turns : List Turn) (i n : ℕ) (end : Element) (few : List Element) (next : List (List Element))
+    → turns ≡ [] → n ≡ length text.chars → i < n → face ≡ (place_of replaced text under i).face → end ≡ element_of face origin look.RowEnd → few ≡ []
     → next ≡ flat_map (part_steps s base replaced origin) (shown_from s base replaced text under (i + 1))
-    → string_left s base replaced origin under text parts turns i ≡ end ∷ next
-row-over s base replaced origin under face text parts turns i n end next none size inside here ends begins =
+    → string_left s base replaced origin under text parts turns i ≡ (end ∷ few) ∷ next
+row-over s base replaced origin under face text parts turns i n end few next none size inside here ends empty begins =
     let steps = part_steps s base replaced origin in
     let place = place_of replaced text under i in
     let behind = shown_from s base replaced text under (i + 1) in
@@ -55,5 +47,6 @@ row-over s base replaced origin under face text parts turns i n end next none si
     ∙ ap (λ t. flat_map steps (if t then row_end place.face ∷ behind else [])) inner
     ∙ ap (λ l. l ++ flat_map steps behind) (row-end-steps s base replaced origin place.face)
     ∙ sym (ap (λ f. (element_of f origin look.RowEnd ∷ []) ∷ flat_map steps behind) here)
-    ∙ sym (ap (λ l. l ∷ flat_map steps behind) ends)
-    ∙ sym (ap (λ l. end ∷ l) begins)
+    ∙ sym (ap (λ e. (e ∷ []) ∷ flat_map steps behind) ends)
+    ∙ sym (ap (λ l. (end ∷ l) ∷ flat_map steps behind) empty)
+    ∙ sym (ap (λ l. (end ∷ few) ∷ l) begins)

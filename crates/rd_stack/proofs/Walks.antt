@@ -1,84 +1,118 @@
 -- The frames of a walk, step by step.
-use Rattle.std.proofs.Common.{◌≡◌, suc, ◌+◌, ◌*◌, ◌<◌, List, [], ◌∷◌, ◌++◌, length, sym, subst, ap, ap₂, ◌∙◌, append_assoc, append-nil, length-append, arith}
-use Rattle.std.specs.Prelude.{Option, None, Some, Result, Ok, Err, OnOk}
+use Rattle.std.proofs.Common.{◌≡◌, ℕ, suc, ◌+◌, ◌-◌, ◌<◌, ◌≤◌, List, [], ◌∷◌, ◌++◌, length, take, refl, sym, subst, ap, ap₂, ◌∙◌, append_assoc, append-nil, length-append, arith}
+use Rattle.std.proofs.lemmas.List.{take_all, take_more, take_more_set, length-set}
+use Rattle.std.proofs.lemmas.Grind.{common_steps}
+use Rattle.std.specs.Prelude.{slice_index_or, slice_set, unwrap_or, Option, Some, Result, Ok, Err, IfOk}
 use Rattle.rd_base.specs.declared.element.Element.{Element}
 use Rattle.rd_base.specs.declared.memory.Memory.{Memory}
 use Rattle.rd_stack.specs.Steps.{elements_in}
-use Rattle.rd_stack.specs.Walks.{IsFirst, IsNext, frame_left, frames_left, walk_left, given, entered, work}
+use Rattle.rd_stack.specs.Walks.{IsStep, StepsInnermost, frame_left, frames_left, walk_left, work}
 use Rattle.rd_stack.specs.declared.step.Step.{Step}
-use Rattle.rd_stack.specs.declared.step.Step.TheVariants.{Gives, Enters}
+use Rattle.rd_stack.specs.declared.step.Step.TheVariants.{Ends, Gives, Lists, Enters}
 use Rattle.rd_stack.specs.declared.step.Frame.{Frame}
-use Rattle.rd_stack.specs.declared.step.Frame.TheVariants as frame
 
 -- the innermost frame comes first
 pub innermost-first : (fs : List Frame) (f : Frame) → frames_left (fs ++ f ∷ []) ≡ frame_left f ++ frames_left fs
 innermost-first [] f = sym (append-nil (frame_left f))
 innermost-first (g ∷ fs) f = ap (λ l. l ++ frame_left g) (innermost-first fs f) ∙ append_assoc (frame_left f) (frames_left fs) (frame_left g)
 
--- what is left behind a step
-pub stepped : (step : Step) (f g : Frame) (fs : List Frame) → IsFirst step (frame_left f) (frame_left g)
-    → walk_left (given step) (entered step (fs ++ g ∷ [])) ≡ elements_in (frames_left (fs ++ f ∷ []))
-stepped (Gives es) f g fs first =
-    let rest = frames_left fs in
-    ap (λ l. es ++ elements_in l) (innermost-first fs g)
-    ∙ sym (ap (λ l. elements_in (l ++ rest)) first)
-    ∙ sym (ap elements_in (innermost-first fs f))
-stepped (Enters inner) f g fs first =
-    let rest = frames_left fs in
-    ap elements_in (innermost-first (fs ++ g ∷ []) (frame.Text inner))
-    ∙ ap (λ l. elements_in (inner ++ l)) (innermost-first fs g)
-    ∙ ap elements_in (sym (append_assoc inner (frame_left g) rest))
-    ∙ sym (ap (λ l. elements_in (l ++ rest)) first)
-    ∙ sym (ap elements_in (innermost-first fs f))
+all-but-last : (fs : List Frame) (f : Frame) → take (length (fs ++ f ∷ []) - 1) (fs ++ f ∷ []) ≡ fs
+all-but-last fs f = grind (arith, common_steps)
 
-added : (fs : List Frame) (f : Frame) → work (fs ++ f ∷ []) ≡ 2 * (length (frame_left f) + length (frames_left fs)) + (length fs + 1)
-added fs f =
-    let left : length (frames_left (fs ++ f ∷ [])) ≡ length (frame_left f) + length (frames_left fs) = ap length (innermost-first fs f) ∙ length-append (frame_left f) (frames_left fs) in
-    let more : length (fs ++ f ∷ []) ≡ length fs + 1 = length-append fs (f ∷ []) in
-    ap₂ (λ a b. 2 * a + b) left more
+-- ---- a step of the innermost frame
 
--- there is less work behind a step
-pub stepped-less : (step : Step) (f g : Frame) (fs : List Frame) → IsFirst step (frame_left f) (frame_left g)
-    → work (entered step (fs ++ g ∷ [])) < work (fs ++ f ∷ [])
-stepped-less (Gives es) f g fs first =
-    let before = added fs f in
-    let after = added fs g in
-    let one : length (frame_left f) ≡ suc (length (frame_left g)) = ap length first in
-    omega arith
-stepped-less (Enters inner) f g fs first =
-    let before = added fs f in
-    let after = added (fs ++ g ∷ []) (frame.Text inner) in
-    let middle : length (frames_left (fs ++ g ∷ [])) ≡ length (frame_left g) + length (frames_left fs) = ap length (innermost-first fs g) ∙ length-append (frame_left g) (frames_left fs) in
-    let more : length (fs ++ g ∷ []) ≡ length fs + 1 = length-append fs (g ∷ []) in
-    let one : length (frame_left f) ≡ suc (length inner + length (frame_left g)) = ap length first ∙ ap (λ n. suc n) (length-append inner (frame_left g)) in
+as-long : (fs : List Frame) (n : ℕ) (g : Frame) → length fs ≡ suc n → length (slice_set fs n g) ≤ n + 1
+as-long fs n g size =
+    let same : length (slice_set fs n g) ≡ length fs = length-set fs n g in
     omega arith
 
--- a frame that ends
-pub ended : (f : Frame) (fs : List Frame) → frame_left f ≡ [] → elements_in (frames_left fs) ≡ elements_in (frames_left (fs ++ f ∷ []))
-ended f fs none = sym (ap elements_in (innermost-first fs f) ∙ ap (λ l. elements_in (l ++ frames_left fs)) none)
+-- the last of the frames is stepped in its place
+pub in-place : (result : Result Step Memory) (fs : List Frame) (n : ℕ) (few : List Element) (f g : Frame) → length fs ≡ suc n → f ≡ slice_index_or fs n f
+    → IfOk result (λ step. IsStep step few (frame_left f) (frame_left g)) → IfOk result (λ step. StepsInnermost step few fs (slice_set fs n g))
+in-place (Ok step) fs n few f g size here first = record {
+  outer = take n fs;
+  before = f;
+  after = g;
+  was = sym (take_all (n + 1) fs (omega arith)) ∙ take_more fs n f (omega arith) ∙ ap (λ x. take n fs ++ x ∷ []) (sym here);
+  is = sym (take_all (n + 1) (slice_set fs n g) (as-long fs n g size)) ∙ take_more_set fs n g (omega arith);
+  takes = first;
+}
+in-place (Err e) fs n few f g size here first = first
 
-pub ended-less : (f : Frame) (fs : List Frame) → frame_left f ≡ [] → work fs < work (fs ++ f ∷ [])
-ended-less f fs none =
-    let before = added fs f in
-    let nothing : length (frame_left f) ≡ 0 = ap length none in
-    omega arith
+module _ (step : Step) (few : List Element) (old new : List Frame) (stands : StepsInnermost step few old new) where
+  abbrev before : List (List Element)
+  before = frame_left stands.before
 
--- what a walk has to give once the step of a frame is taken
-pub taken : (result : Result (Unit {0}) Memory) (step : Step) (f g : Frame) (fs : List Frame) (few : List Element) (frames : List Frame)
-    → OnOk result (few ≡ given step) → OnOk result (frames ≡ entered step (fs ++ g ∷ [])) → IsFirst step (frame_left f) (frame_left g)
-    → OnOk result (walk_left few frames ≡ elements_in (frames_left (fs ++ f ∷ [])))
-taken (Ok u) step f g fs few frames gives stands first =
-    ap₂ (λ a b. walk_left a b) gives stands ∙ stepped step f g fs first
-taken (Err e) step f g fs few frames gives stands first = gives
+  abbrev after : List (List Element)
+  after = frame_left stands.after
 
-pub taken-less : (result : Result (Unit {0}) Memory) (step : Step) (f g : Frame) (fs : List Frame) (frames : List Frame)
-    → OnOk result (frames ≡ entered step (fs ++ g ∷ [])) → IsFirst step (frame_left f) (frame_left g)
-    → OnOk result (work frames < work (fs ++ f ∷ []))
-taken-less (Ok u) step f g fs frames stands first = subst (λ (l : List Frame). work l < work (fs ++ f ∷ [])) (sym stands) (stepped-less step f g fs first)
-taken-less (Err e) step f g fs frames stands first = stands
+  takes : (known : Step) → step ≡ known → IsStep known few before after
+  takes known is = subst (λ (x : Step). IsStep x few before after) is stands.takes
 
-pub first-is : (found : Option Step) (step : Step) (old new : List (List Element)) → found ≡ Some step → IsNext found old new → IsFirst step old new
-first-is found step old new is next = subst (λ (x : Option Step). IsNext x old new) is next
+  left-before : frames_left old ≡ before ++ frames_left stands.outer
+  left-before = ap frames_left stands.was ∙ innermost-first stands.outer stands.before
 
-pub none-is : (found : Option Step) (old new : List (List Element)) → found ≡ None → IsNext found old new → old ≡ []
-none-is found old new is next = (subst (λ (x : Option Step). IsNext x old new) is next).0
+  left-after : frames_left new ≡ after ++ frames_left stands.outer
+  left-after = ap frames_left stands.is ∙ innermost-first stands.outer stands.after
+
+  -- the steps of the frames begin with what the innermost gives
+  begins : (gives : List Element) (inner : List (List Element)) → before ≡ gives ∷ (inner ++ after) → frames_left old ≡ gives ∷ (inner ++ frames_left new)
+  begins gives inner first =
+      let rest = frames_left stands.outer in
+      left-before
+      ∙ ap (λ l. l ++ rest) first
+      ∙ ap (λ l. gives ∷ l) (append_assoc inner after rest ∙ sym (ap (λ l. inner ++ l) left-after))
+
+  -- there is less work where a step is taken, though a string is entered for it
+  less : (gives : List Element) (inner : List (List Element)) (more : List Frame) → before ≡ gives ∷ (inner ++ after) → frames_left more ≡ inner ++ frames_left new
+      → length more ≤ length new + 1 → work more < work old
+  less gives inner more first left few-more =
+      let one : length (frames_left old) ≡ suc (length inner + length (frames_left new)) = ap length (begins gives inner first) ∙ ap (λ n. suc n) (length-append inner (frames_left new)) in
+      let same : length (frames_left more) ≡ length inner + length (frames_left new) = ap length left ∙ length-append inner (frames_left new) in
+      let these : length old ≡ length stands.outer + 1 = ap length stands.was ∙ length-append stands.outer (stands.before ∷ []) in
+      let those : length new ≡ length stands.outer + 1 = ap length stands.is ∙ length-append stands.outer (stands.after ∷ []) in
+      omega arith
+
+  pub gives-left : (e : Element) → step ≡ Gives e → elements_in (frames_left old) ≡ e ∷ walk_left few new
+  gives-left e is = ap elements_in (begins (e ∷ few) [] (takes (Gives e) is))
+
+  pub gives-less : (e : Element) → step ≡ Gives e → work new < work old
+  gives-less e is = less (e ∷ few) [] new (takes (Gives e) is) refl (omega arith)
+
+  pub lists-left : step ≡ Lists → elements_in (frames_left old) ≡ walk_left few new
+  lists-left is = ap elements_in (begins few [] (takes Lists is))
+
+  pub lists-less : step ≡ Lists → work new < work old
+  lists-less is = less few [] new (takes Lists is) refl (omega arith)
+
+  pub enters-left : (inner : List (List Element)) (few-now : List Element) (more : List Frame) → step ≡ Enters inner → few-now ≡ few → frames_left more ≡ inner ++ frames_left new
+      → elements_in (frames_left old) ≡ walk_left few-now more
+  enters-left inner few-now more is same left =
+      ap elements_in (begins few inner (takes (Enters inner) is))
+      ∙ sym (ap₂ (λ es steps. es ++ elements_in steps) same left)
+
+  pub enters-less : (inner : List (List Element)) (more : List Frame) → step ≡ Enters inner → frames_left more ≡ inner ++ frames_left new
+      → length more ≤ length new + 1 → work more < work old
+  enters-less inner more is left few-more = less few inner more (takes (Enters inner) is) left few-more
+
+  outer-is : (fewer : List Frame) → fewer ≡ take (length new - 1) new → fewer ≡ stands.outer
+  outer-is fewer cut = cut ∙ subst (λ (l : List Frame). take (length l - 1) l ≡ stands.outer) (sym stands.is) (all-but-last stands.outer stands.after)
+
+  ends-same : (fewer : List Frame) → step ≡ Ends → fewer ≡ take (length new - 1) new → frames_left old ≡ frames_left fewer
+  ends-same fewer is cut = left-before ∙ ap (λ l. l ++ frames_left stands.outer) (takes Ends is).0 ∙ sym (ap frames_left (outer-is fewer cut))
+
+  pub ends-left : (few-now : List Element) (fewer : List Frame) → step ≡ Ends → few-now ≡ few → fewer ≡ take (length new - 1) new
+      → elements_in (frames_left old) ≡ walk_left few-now fewer
+  ends-left few-now fewer is same cut =
+      ap elements_in (ends-same fewer is cut) ∙ sym (ap (λ es. walk_left es fewer) (same ∙ (takes Ends is).1))
+
+  pub ends-less : (fewer : List Frame) → step ≡ Ends → fewer ≡ take (length new - 1) new → work fewer < work old
+  ends-less fewer is cut =
+      let same : length (frames_left old) ≡ length (frames_left fewer) = ap length (ends-same fewer is cut) in
+      let one : length old ≡ length stands.outer + 1 = ap length stands.was ∙ length-append stands.outer (stands.before ∷ []) in
+      let less-by-one : length fewer ≡ length stands.outer = ap length (outer-is fewer cut) in
+      omega arith
+
+-- the string that was opened
+pub opened : (found : Option (List (List Element))) (all inner : List (List Element)) → unwrap_or found [] ≡ all → found ≡ Some inner → inner ≡ all
+opened found all inner made is = ap (λ f. unwrap_or f []) (sym is) ∙ made

@@ -1,21 +1,27 @@
 -- A walk as frames that are stepped in turn.
-use Rattle.std.specs.Prelude.{◌≡◌, ℕ, ◌+◌, ◌*◌, List, [], ◌∷◌, ◌++◌, length, Option, None, Some}
+use Rattle.std.specs.Prelude.{◌≡◌, ℕ, ◌+◌, ◌*◌, List, [], ◌∷◌, ◌++◌, length}
 use Rattle.rd_base.specs.declared.element.Element.{Element}
 use Rattle.rd_stack.specs.Steps.{elements_in}
 use Rattle.rd_stack.specs.declared.step.Step.{Step}
-use Rattle.rd_stack.specs.declared.step.Step.TheVariants.{Gives, Enters}
+use Rattle.rd_stack.specs.declared.step.Step.TheVariants.{Ends, Gives, Enters}
 use Rattle.rd_stack.specs.declared.step.Frame.{Frame}
 use Rattle.rd_stack.specs.declared.step.Frame.TheVariants as frame
 
--- a step is the first of the steps that are left: its elements, or nothing, and then those of a string that is entered for it
-abbrev pub IsFirst : Step → List (List Element) → List (List Element) → Type 0
-IsFirst (Gives es) old new = old ≡ es ∷ new
-IsFirst (Enters inner) old new = old ≡ [] ∷ (inner ++ new)
+-- the element that a step gives alone
+abbrev pub given : Step → List Element
+given (Gives e) = e ∷ []
+given step = []
 
--- what a frame answers for its next step, by the steps that are left before and after it
-abbrev pub IsNext : Option Step → List (List Element) → List (List Element) → Type 0
-IsNext None old new = (old ≡ []) × (new ≡ [])
-IsNext (Some step) old new = IsFirst step old new
+-- the steps of the string that a step enters
+abbrev pub entered : Step → List (List Element)
+entered (Enters inner) = inner
+entered step = []
+
+-- a step is the first of the steps that are left: the element that it gives alone, the few that it lists, and then those of a string
+-- that is entered for it. Where it ends none is left
+abbrev pub IsStep : Step → List Element → List (List Element) → List (List Element) → Type 0
+IsStep Ends few old new = (old ≡ []) × (few ≡ [])
+IsStep step few old new = old ≡ (given step ++ few) ∷ (entered step ++ new)
 
 -- what a frame has still to give
 abbrev pub frame_left : Frame → List (List Element)
@@ -32,14 +38,14 @@ frames_left (f ∷ fs) = frames_left fs ++ frame_left f
 abbrev pub walk_left : List Element → List Frame → List Element
 walk_left few frames = few ++ elements_in (frames_left frames)
 
--- what a step gives at once, and the frames behind it
-abbrev pub given : Step → List Element
-given (Gives es) = es
-given (Enters inner) = []
-
-abbrev pub entered : Step → List Frame → List Frame
-entered (Gives es) frames = frames
-entered (Enters inner) frames = frames ++ frame.Text inner ∷ []
+-- a step of the last of the frames
+pub record StepsInnermost (step : Step) (few : List Element) (old new : List Frame) : Type 0 where
+  pub outer : List Frame
+  pub before : Frame
+  pub after : Frame
+  pub was : old ≡ outer ++ before ∷ []
+  pub is : new ≡ outer ++ after ∷ []
+  pub takes : IsStep step few (frame_left before) (frame_left after)
 
 -- how often frames can still be stepped
 abbrev pub work : List Frame → ℕ

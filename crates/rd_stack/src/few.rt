@@ -1,11 +1,9 @@
-//! The elements of one character, space or end.
+//! A few elements that are given in turn.
 ghost use Rattle.std.specs.Prelude.{◌≡◌};
-ghost use Rattle.rd_base.specs.declared.element.Look.TheVariants as look;
-ghost use Rattle.rd_glyphs.specs.Characters.{element_of};
 
-use rd_base::{Ch, Element, Extent, Face, Glyph, Look, Memory, Origin};
+use crate::alone::glyph_element;
+use rd_base::{Ch, Element, Face, Glyph, Memory, Origin};
 use rd_glyphs::{Parts, expand};
-use rd_objects::Spec;
 use smallvec::SmallVec;
 use std::alloc::Global;
 use std::marker::Model;
@@ -27,10 +25,8 @@ impl Model for Few {
 }
 
 impl Few {
-    ghost use Rattle.std.specs.Prelude.{◌≡◌, ◌∷◌, [], length, map, MatchOption, IfOk};
-    ghost use Rattle.rd_base.specs.declared.element.Look.TheVariants as look;
-    ghost use Rattle.rd_glyphs.specs.Characters.{element_of, elements_of, glyph_elements};
-    ghost use Rattle.rd_stack.specs.Shown.{space_elements};
+    ghost use Rattle.std.specs.Prelude.{◌≡◌, ◌∷◌, [], MatchOption, OnOk};
+    ghost use Rattle.rd_glyphs.specs.Characters.{elements_of, glyph_elements};
 
     /// No elements.
     pub fn none(alloc: Global) -> Few
@@ -42,100 +38,40 @@ impl Few {
         }
     }
 
-    /// One element.
-    fn one(alloc: Global, element: Element) -> Result<Few, Memory>
-        ensures { IfOk result (λ few. few ≡ element ∷ []) }
-    {
-        let elements = SmallVec::from_slice(alloc, &[element])?;
-        Ok(Few { elements, given: 0 })
-    }
-
-    /// The elements of a character, at an odd level or not.
-    pub fn of_char(
+    /// Becomes the elements of a character, at an odd level or not.
+    pub fn put_char(
+        &mut self,
         alloc: Global,
         parts: &Parts,
         ch: Ch,
         odd: bool,
         face: Face,
         origin: Origin,
-    ) -> Result<Few, Memory>
-        ensures { IfOk result (λ few. few ≡ elements_of parts.now ch odd face origin) }
+    ) -> Result<(), Memory>
+        ensures { OnOk result (self.new ≡ elements_of parts.now ch odd face origin) }
     {
-        let elements = expand(alloc, parts, ch, odd, face, origin)?;
-        Ok(Few { elements, given: 0 })
+        self.elements = expand(alloc, parts, ch, odd, face, origin)?;
+        self.given = 0;
+        Ok(())
     }
 
-    /// The element of a glyph.
-    pub fn of_glyph(alloc: Global, glyph: Glyph, face: Face, origin: Origin) -> Result<Few, Memory>
-        ensures { IfOk result (λ few. few ≡ element_of face origin (look.Glyph glyph) ∷ []) }
-    {
-        Few::one(alloc, glyph_element(glyph, face, origin))
-    }
-
-    /// The elements of glyphs.
-    pub fn of_glyphs(
+    /// Becomes the elements of glyphs.
+    pub fn put_glyphs(
+        &mut self,
         alloc: Global,
         text: &[Glyph],
         face: Face,
         origin: Origin,
-    ) -> Result<Few, Memory>
-        ensures { IfOk result (λ few. few ≡ glyph_elements face origin text.now) }
+    ) -> Result<(), Memory>
+        ensures { OnOk result (self.new ≡ glyph_elements face origin text.now) }
     {
         let mut elements = SmallVec::new(alloc);
         for glyph in text {
             elements.push(glyph_element(*glyph, face, origin))?;
         }
-        Ok(Few { elements, given: 0 })
-    }
-
-    /// The space of a spec; a spec of a string has none.
-    pub fn of_space(alloc: Global, spec: Spec, face: Face, origin: Origin) -> Result<Few, Memory>
-        ensures { IfOk result (λ few. few ≡ space_elements spec face origin) }
-    {
-        let extent = match spec {
-            Spec::Text(_) => return Ok(Few::none(alloc)),
-            Spec::Width(columns) => Extent::Fixed(columns),
-            Spec::Align(column) => Extent::Column(column),
-        };
-        Few::one(
-            alloc,
-            Element {
-                extent,
-                look: Look::Blank,
-                face,
-                origin,
-            },
-        )
-    }
-
-    /// The end of a row.
-    pub fn of_row_end(alloc: Global, face: Face, origin: Origin) -> Result<Few, Memory>
-        ensures { IfOk result (λ few. few ≡ element_of face origin look.RowEnd ∷ []) }
-    {
-        Few::one(
-            alloc,
-            Element {
-                extent: Extent::Fixed(0),
-                look: Look::RowEnd,
-                face,
-                origin,
-            },
-        )
-    }
-
-    /// The end of the line.
-    pub fn of_line_end(alloc: Global, face: Face, origin: Origin) -> Result<Few, Memory>
-        ensures { IfOk result (λ few. few ≡ element_of face origin look.LineEnd ∷ []) }
-    {
-        Few::one(
-            alloc,
-            Element {
-                extent: Extent::Fixed(0),
-                look: Look::LineEnd,
-                face,
-                origin,
-            },
-        )
+        self.elements = elements;
+        self.given = 0;
+        Ok(())
     }
 
     /// The next element, and None exactly where none is left.
@@ -149,17 +85,5 @@ impl Few {
         let element = elements[self.given];
         self.given += 1;
         Some(element)
-    }
-}
-
-/// The element of a glyph.
-fn glyph_element(glyph: Glyph, face: Face, origin: Origin) -> Element
-    ensures { result ≡ element_of face origin (look.Glyph glyph) }
-{
-    Element {
-        extent: Extent::Fixed(glyph.width as u32),
-        look: Look::Glyph(glyph),
-        face,
-        origin,
     }
 }

@@ -2,6 +2,8 @@
 //! in a line, and a display string in an overlay's string, and no deeper.
 #![tactic(auto)]
 
+mod alone;
+mod entrance;
 mod examples;
 mod few;
 mod growth;
@@ -15,6 +17,7 @@ mod order;
 mod part;
 mod prefix;
 mod row;
+mod showing;
 mod step;
 mod string;
 mod string_steps;

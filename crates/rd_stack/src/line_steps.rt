@@ -1,36 +1,38 @@
 //! The steps of the items of a block.
-ghost use Rattle.std.specs.Prelude.{◌≡◌, ◌≤◌, [], IfOk};
+ghost use Rattle.std.specs.Prelude.{◌≡◌, ◌≤◌, [], IfOk, OnOk};
 ghost use Rattle.rd_items.specs.Pieces.{scene_of};
 ghost use Rattle.rd_glyphs.specs.Characters.{glyph_elements};
 ghost use Rattle.rd_stack.specs.Lines.{ellipsis_glyphs, origin_of};
 ghost use Rattle.rd_stack.specs.Steps.{outer_steps};
-ghost use Rattle.rd_stack.specs.Walks.{IsFirst};
+ghost use Rattle.rd_stack.specs.Walks.{IsStep};
 
+use crate::alone::{glyph_element, line_end};
+use crate::entrance::Entrance;
 use crate::few::Few;
 use crate::line::LineFrame;
+use crate::showing::{char_step, space_step};
 use crate::step::Step;
-use crate::string_steps::enter;
 use rd_base::{Face, Glyph, Memory, Origin};
 use rd_items::{Item, ItemKind, parts_of};
 use rd_props::View;
 use std::alloc::Global;
 
 impl<'a> LineFrame<'a> {
-    ghost use Rattle.std.specs.Prelude.{IfOk};
-    ghost use Rattle.rd_stack.specs.Walks.{IsNext};
+    ghost use Rattle.std.specs.Prelude.{◌≡◌, [], IfOk};
+    ghost use Rattle.rd_stack.specs.Walks.{IsStep};
 
-    /// Takes the next step, and None exactly where none is left.
-    pub fn step(&mut self, alloc: Global) -> Result<Option<Step<'a>>, Memory>
-        ensures { IfOk result (λ step. IsNext step self.old self.new) }
+    /// Takes the next step.
+    pub fn step(&mut self, alloc: Global, few: &mut Few) -> Result<Step<'a>, Memory>
+        requires { few.old ≡ [] }
+        ensures { IfOk result (λ step. IsStep step few.new self.old self.new) }
     {
         let Some(turn) = self.order.next() else {
-            return Ok(None);
+            return Ok(Step::Ends);
         };
         let number = turn.index as u32;
         let item = self.items.item(number);
         let origin = origin_of(number, item);
-        let step = step_of(alloc, self.view, self.base, item, turn.odd, origin)?;
-        Ok(Some(step))
+        step_of(alloc, &self.view, self.base, item, turn.odd, origin, few)
     }
 }
 
@@ -48,41 +50,53 @@ fn origin_of(number: u32, item: &Item) -> Origin
 /// The step of an item, at an odd level or not.
 fn step_of<'a>(
     alloc: Global,
-    view: View<'a>,
+    view: &View<'a>,
     base: u8,
     item: &Item,
     odd: bool,
     origin: Origin,
+    few: &mut Few,
 ) -> Result<Step<'a>, Memory>
-    requires { base ≤ 1 }
-    ensures { IfOk result (λ step. IsFirst step (outer_steps (scene_of view.entry) base item.now.kind item.now.overlay odd item.now.face origin) []) }
+    requires base { base ≤ 1 }
+    requires few { few.old ≡ [] }
+    ensures { IfOk result (λ step. IsStep step few.new (outer_steps (scene_of view.now) base item.now.kind item.now.overlay odd item.now.face origin) []) }
 {
     let face = item.face;
-    let few = match item.kind {
-        ItemKind::Text(number) => {
-            return enter(alloc, view, base, item.overlay, origin, face, number);
+    match item.kind {
+        ItemKind::Text(number) => Ok(Step::Enters(Entrance {
+            view: *view,
+            base,
+            replaced: item.overlay,
+            origin,
+            under: face,
+            number,
+        })),
+        ItemKind::Char(ch) => char_step(alloc, view, ch, odd, face, origin, few),
+        ItemKind::Marked(glyph) => Ok(Step::Gives(glyph_element(glyph, face, origin))),
+        ItemKind::Space(spec) => Ok(space_step(spec, face, origin)),
+        ItemKind::Ellipsis => {
+            put_ellipsis(alloc, view, face, origin, few)?;
+            Ok(Step::Lists)
         }
-        ItemKind::Char(ch) => {
-            let parts = parts_of(&view);
-            Few::of_char(alloc, &parts, ch, odd, face, origin)?
-        }
-        ItemKind::Marked(glyph) => Few::of_glyph(alloc, glyph, face, origin)?,
-        ItemKind::Space(spec) => Few::of_space(alloc, spec, face, origin)?,
-        ItemKind::Ellipsis => ellipsis(alloc, &view, face, origin)?,
-        ItemKind::Ender => Few::of_line_end(alloc, face, origin)?,
-    };
-    Ok(Step::Gives(few))
+        ItemKind::Ender => Ok(Step::Gives(line_end(face, origin))),
+    }
 }
 
-/// The glyphs of an ellipsis: those of the table, and three dots where it has none.
-fn ellipsis(alloc: Global, view: &View, face: Face, origin: Origin) -> Result<Few, Memory>
-    ensures { IfOk result (λ few. few ≡ glyph_elements face origin (ellipsis_glyphs (scene_of view.now).parts.table)) }
+/// Lists the glyphs of an ellipsis: those of the table, and three dots where it has none.
+fn put_ellipsis(
+    alloc: Global,
+    view: &View,
+    face: Face,
+    origin: Origin,
+    few: &mut Few,
+) -> Result<(), Memory>
+    ensures { OnOk result (few.new ≡ glyph_elements face origin (ellipsis_glyphs (scene_of view.now).parts.table)) }
 {
     let parts = parts_of(view);
     if let Some(table) = parts.table {
         if let Some(text) = table.ellipsis() {
-            return Few::of_glyphs(alloc, text, face, origin);
+            return few.put_glyphs(alloc, text, face, origin);
         }
     }
-    Few::of_glyphs(alloc, &[Glyph::single('.' as u32, 1); 3], face, origin)
+    few.put_glyphs(alloc, &[Glyph::single('.' as u32, 1); 3], face, origin)
 }

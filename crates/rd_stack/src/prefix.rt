@@ -4,10 +4,10 @@ ghost use Rattle.rd_items.specs.Pieces.{scene_of};
 ghost use Rattle.rd_stack.specs.Shown.{prefix, is_row_end, before_row_end, AreInside, AreOfOneRow};
 ghost use Rattle.rd_stack.specs.Walks.{walk_left};
 
+use crate::entrance::Entrance;
 use crate::keeping::view_stays_sound;
 use crate::laws::prefixes_are_sound;
 use crate::step::Frame;
-use crate::string::StringFrame;
 use crate::walker::Walker;
 use rd_base::{Element, Face, ListOf, Look, Memory, Origin};
 use rd_props::View;
@@ -34,8 +34,16 @@ pub fn string_line(
         from: 0,
         to: 0,
     };
+    let entrance = Entrance {
+        view: *view,
+        base,
+        replaced: false,
+        origin: outside,
+        under: Face::PLAIN,
+        number: string,
+    };
     let mut elements = ListOf::new(alloc);
-    let found = StringFrame::of_number(alloc, *view, base, false, outside, Face::PLAIN, string)?;
+    let found = entrance.open(alloc)?;
     let Some(frame) = found else {
         return Ok(elements);
     };

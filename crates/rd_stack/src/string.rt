@@ -40,11 +40,11 @@ impl<'a> Model for StringFrame<'a> {
 }
 
 impl<'a> StringFrame<'a> {
-    ghost use Rattle.std.specs.Prelude.{◌≡◌, ◌≤◌, [], length, slice_get, unwrap_or, OnOk, IfOk};
+    ghost use Rattle.std.specs.Prelude.{◌≡◌, ◌≤◌, length, IfOk};
     ghost use Rattle.std.specs.List.{flat_map};
     ghost use Rattle.rd_items.specs.Pieces.{scene_of};
     ghost use Rattle.rd_stack.specs.Strings.{shown_from};
-    ghost use Rattle.rd_stack.specs.Steps.{part_steps, text_steps};
+    ghost use Rattle.rd_stack.specs.Steps.{part_steps};
 
     /// A string of which the row that begins at a place is walked through first.
     pub fn from_place(
@@ -76,29 +76,5 @@ impl<'a> StringFrame<'a> {
             order,
             end,
         })
-    }
-
-    /// The string of a number, where one was made, from its beginning.
-    pub fn of_number(
-        alloc: Global,
-        view: View<'a>,
-        base: u8,
-        replaced: bool,
-        origin: Origin,
-        under: Face,
-        number: u32,
-    ) -> Result<Option<StringFrame<'a>>, Memory>
-        requires { base ≤ 1 }
-        ensures { IfOk result (λ found. unwrap_or found [] ≡ text_steps (scene_of view.entry) base replaced origin under (slice_get view.entry.objects.now.strings number)) }
-    {
-        match view.objects.string(number) {
-            None => Ok(None),
-            Some(text) => {
-                let frame = StringFrame::from_place(
-                    alloc, view, base, replaced, origin, under, text, 0,
-                )?;
-                Ok(Some(frame))
-            }
-        }
     }
 }

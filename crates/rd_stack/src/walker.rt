@@ -1,12 +1,11 @@
 //! The walk over the elements of a line.
-ghost use Rattle.std.specs.Prelude.{◌≡◌, ◌≤◌, ◌<◌, IfOk, OnOk};
 
+use crate::entrance::Entrance;
 use crate::few::Few;
 use crate::keeping::{reading_stays_sound, view_stays_sound};
 use crate::laws::{lines_are_sound, lines_end_once};
 use crate::line::LineFrame;
 use crate::step::{Frame, Step};
-use crate::string::StringFrame;
 use rd_base::{Element, Elements, Memory, Pos};
 use rd_items::{Items, blocks_are_read_whole};
 use rd_props::View;
@@ -23,7 +22,7 @@ pub struct Walker<'a> {
 }
 
 impl<'a> Walker<'a> {
-    ghost use Rattle.std.specs.Prelude.{◌≡◌, ◌≤◌, ◌<◌, ◌^◌, ◌∷◌, ◌++◌, [], true, MatchOption, IfOk, OnOk};
+    ghost use Rattle.std.specs.Prelude.{◌≡◌, ◌≤◌, ◌<◌, ◌^◌, ◌+◌, ◌-◌, ◌++◌, [], length, take, option_to_list, true, IfOk, OnOk};
     ghost use Rattle.rd_base.specs.Elements.{Takes, AreSound, columns_at_most, ends_once};
     ghost use Rattle.rd_base.specs.Glyphs.{AreMeasured};
     ghost use Rattle.rd_text.specs.Texts.{IsAccessible};
@@ -32,8 +31,7 @@ impl<'a> Walker<'a> {
     ghost use Rattle.rd_items.specs.Readings.{reading};
     ghost use Rattle.rd_stack.specs.Lines.{line_elements};
     ghost use Rattle.rd_stack.specs.Steps.{elements_in};
-    ghost use Rattle.rd_stack.specs.Walks.{frame_left, frames_left, walk_left, given, entered, work};
-    ghost use Rattle.rd_stack.specs.declared.step.Frame.TheVariants as frame;
+    ghost use Rattle.rd_stack.specs.Walks.{StepsInnermost, frame_left, frames_left, walk_left, work};
 
     /// The elements of the line of the block that starts at a position, in a line of this base. They are those of its items in
     /// visual order from the reading edge: a character's, a space, the glyphs of an ellipsis, those of a display string or of an
@@ -87,62 +85,66 @@ impl<'a> Walker<'a> {
             if let Some(element) = self.few.next() {
                 return Ok(Some(element));
             }
-            let Some(innermost) = self.frames.pop() else {
+            if self.frames.is_empty() {
                 return Ok(None);
-            };
-            self.advance(alloc, innermost)?;
+            }
+            if let Some(element) = self.advance(alloc)? {
+                return Ok(Some(element));
+            }
         }
     }
 
-    /// Takes a step of the innermost frame, which was taken out.
-    fn advance(&mut self, alloc: Global, innermost: Frame<'a>) -> Result<(), Memory>
-        requires { self.old.few ≡ [] }
-        ensures left { OnOk result (walk_left self.new.few self.new.frames.items ≡ elements_in (frames_left (self.old.frames.items ++ innermost.entry ∷ []))) }
-        ensures work { OnOk result (work self.new.frames.items < work (self.old.frames.items ++ innermost.entry ∷ [])) }
+    /// Takes a step of the innermost frame, and answers the element that it gives alone.
+    fn advance(&mut self, alloc: Global) -> Result<Option<Element>, Memory>
+        requires few { self.old.few ≡ [] }
+        requires frames { 0 < length self.old.frames.items }
+        ensures left { IfOk result (λ found. elements_in (frames_left self.old.frames.items) ≡ option_to_list found ++ walk_left self.new.few self.new.frames.items) }
+        ensures work { IfOk result (λ found. work self.new.frames.items < work self.old.frames.items) }
     {
-        match innermost {
-            Frame::Ended => Ok(()),
-            Frame::Line(line) => self.advance_line(alloc, line),
-            Frame::Text(text) => self.advance_text(alloc, text),
+        match self.step(alloc)? {
+            Step::Ends => {
+                self.leave();
+                Ok(None)
+            }
+            Step::Gives(element) => Ok(Some(element)),
+            Step::Lists => Ok(None),
+            Step::Enters(entrance) => {
+                self.enter(alloc, &entrance)?;
+                Ok(None)
+            }
         }
     }
 
-    /// Takes a step of a line, which was taken out.
-    fn advance_line(&mut self, alloc: Global, line: LineFrame<'a>) -> Result<(), Memory>
-        requires { self.old.few ≡ [] }
-        ensures left { OnOk result (walk_left self.new.few self.new.frames.items ≡ elements_in (frames_left (self.old.frames.items ++ frame.Line line.entry ∷ []))) }
-        ensures work { OnOk result (work self.new.frames.items < work (self.old.frames.items ++ frame.Line line.entry ∷ [])) }
+    /// Takes a step of the innermost frame, in its place.
+    fn step(&mut self, alloc: Global) -> Result<Step<'a>, Memory>
+        requires few { self.old.few ≡ [] }
+        requires frames { 0 < length self.old.frames.items }
+        ensures { IfOk result (λ step. StepsInnermost step self.new.few self.old.frames.items self.new.frames.items) }
     {
-        let mut line = line;
-        match line.step(alloc)? {
-            None => Ok(()),
-            Some(step) => self.take(Frame::Line(line), step),
+        let innermost = self.frames.len() - 1;
+        match self.frames.get_mut(innermost) {
+            Some(frame) => frame.step(alloc, &mut self.few),
+            None => Ok(Step::Ends),
         }
     }
 
-    /// Takes a step of a string, which was taken out.
-    fn advance_text(&mut self, alloc: Global, text: StringFrame<'a>) -> Result<(), Memory>
-        requires { self.old.few ≡ [] }
-        ensures left { OnOk result (walk_left self.new.few self.new.frames.items ≡ elements_in (frames_left (self.old.frames.items ++ frame.Text text.entry ∷ []))) }
-        ensures work { OnOk result (work self.new.frames.items < work (self.old.frames.items ++ frame.Text text.entry ∷ [])) }
+    /// Leaves the innermost frame.
+    fn leave(&mut self)
+        requires { 0 < length self.old.frames.items }
+        ensures few { self.new.few ≡ self.old.few }
+        ensures frames { self.new.frames.items ≡ take (length self.old.frames.items - 1) self.old.frames.items }
     {
-        let mut text = text;
-        match text.step(alloc)? {
-            None => Ok(()),
-            Some(step) => self.take(Frame::Text(text), step),
-        }
+        self.frames.truncate(self.frames.len() - 1);
     }
 
-    /// Puts a frame back, with what its step gives or enters.
-    fn take(&mut self, stepped: Frame<'a>, step: Step<'a>) -> Result<(), Memory>
-        requires { self.old.few ≡ [] }
-        ensures few { OnOk result (self.new.few ≡ given step.entry) }
-        ensures frames { OnOk result (self.new.frames.items ≡ entered step.entry (self.old.frames.items ++ stepped.entry ∷ [])) }
+    /// Enters a string.
+    fn enter(&mut self, alloc: Global, entrance: &Entrance<'a>) -> Result<(), Memory>
+        ensures few { self.new.few ≡ self.old.few }
+        ensures left { OnOk result (frames_left self.new.frames.items ≡ entrance.now ++ frames_left self.old.frames.items) }
+        ensures count { OnOk result (length self.new.frames.items ≤ length self.old.frames.items + 1) }
     {
-        self.frames.push(stepped)?;
-        match step {
-            Step::Gives(few) => self.few = few,
-            Step::Enters(inner) => self.frames.push(Frame::Text(inner))?,
+        if let Some(inner) = entrance.open(alloc)? {
+            self.frames.push(Frame::Text(inner))?;
         }
         Ok(())
     }
