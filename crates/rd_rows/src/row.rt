@@ -7,7 +7,7 @@ use std::alloc::Global;
 use std::marker::Model;
 
 /// A row of cells, with the items that begin in it. It can be had from [`crate::RowMaker::next_row`], as a copy of another
-/// row, and blank.
+/// row, which is counted or not, and blank.
 #[derive(Drop)]
 pub struct Row {
     alloc: Global,

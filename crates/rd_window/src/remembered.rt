@@ -1,8 +1,9 @@
 //! A source that remembers the rows that it was asked for.
-ghost use Rattle.std.specs.Prelude.{◌≡◌, ◌^◌, ◌<◌, All, length, IfOk, IfSome};
+ghost use Rattle.std.specs.Prelude.{◌≡◌, ◌^◌, ◌<◌, true, All, length, slice_index_or, IfOk, IfSome};
 ghost use Rattle.rd_matrix.specs.Sources.{IsSource, SourceValues};
 ghost use Rattle.rd_rows.specs.Copies.{shown_rows};
-ghost use Rattle.rd_window.specs.Remembering.{IsLaid};
+ghost use Rattle.rd_window.specs.Remembering.{IsLaid, is_of};
+ghost use Rattle.rd_window.specs.declared.remembered.LaidBlock.{LaidBlock};
 
 use rd_base::{Memory, Pos, Steps};
 use rd_matrix::{Block, BlockSource};
@@ -105,18 +106,27 @@ impl LaidBlock {
     }
 }
 
-/// Takes the rows of a block at a shape out of those that are remembered; None where they are not among them. Blocks are mostly asked
-/// for in the order in which they were remembered, so the first is looked at first.
+/// Takes the rows of a block at a shape out of those that are remembered; None where they are not among them.
 fn recall(laid: &mut VecDeque<LaidBlock>, block: &Block, shape: Shape) -> Option<Vec<Row>>
     ensures source { (m : SourceValues) → All (IsLaid m) laid.old.items → IfSome result (λ _. IsSource m) }
     ensures rows { (m : SourceValues) → All (IsLaid m) laid.old.items → IfSome result (λ rows. shown_rows rows.items ≡ m.rows_of block.now shape) }
     ensures few { (m : SourceValues) → All (IsLaid m) laid.old.items → IfSome result (λ rows. length rows.items < 2 ^ 32) }
     ensures left { (m : SourceValues) → All (IsLaid m) laid.old.items → All (IsLaid m) laid.new.items }
 {
+    let place = place_of(laid, block, shape)?;
+    let found = laid.remove(place)?;
+    Some(found.rows)
+}
+
+/// The place of the rows of a block at a shape among those that are remembered. Blocks are mostly asked for in the order in which they
+/// were remembered, so it is mostly the first.
+fn place_of(laid: &VecDeque<LaidBlock>, block: &Block, shape: Shape) -> Option<usize>
+    ensures within { IfSome result (λ place. place < length laid.now.items) }
+    ensures there { IfSome result (λ place. (other : LaidBlock) → is_of block.now shape (slice_index_or laid.now.items place other) ≡ true) }
+{
     for place in 0..laid.len() {
         if laid[place].is_of(block, shape) {
-            let found = laid.remove(place)?;
-            return Some(found.rows);
+            return Some(place);
         }
     }
     None
