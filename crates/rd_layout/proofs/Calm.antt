@@ -8,7 +8,7 @@ use Rattle.rd_margins.specs.Marks as marks
 use Rattle.rd_objects.specs.Things.{ObjectLists}
 use Rattle.rd_overlays.specs.Overlays.{overlay_at}
 use Rattle.rd_overlays.specs.declared.overlay.Overlay.{Overlay}
-use Rattle.rd_reuse.specs.Changes.{all, change_of, edit, is_all, is_small, join, moved, none}
+use Rattle.rd_reuse.specs.Changes.{all, change_of, edit, is_all, is_none, is_small, join, moved, none}
 use Rattle.rd_reuse.specs.declared.change.Change.{Change}
 use Rattle.rd_script.specs.declared.op.Op.{Op}
 use Rattle.rd_script.specs.declared.op.Op.TheVariants as ops
@@ -29,7 +29,6 @@ use Rattle.rd_state.specs.declared.refused.Refused.TheVariants.{NoObject, NoOver
 use Rattle.rd_state.specs.declared.window.WindowState.{WindowState}
 use Rattle.rd_tree.specs.Calls.{Configuration, split_tree, remove_tree, resize_tree, mode_tree, margins_tree}
 use Rattle.rd_tree.specs.declared.fault.TreeFault.{TreeFault}
-use Rattle.rd_window.specs.Layouts.{is_none}
 use Rattle.rd_layout.specs.Changes.{change_by, if_shown, restyled}
 use Rattle.rd_layout.proofs.ByNumber.{Entry, chosen, passed, eq-true, eq-false, window-became, window-gone, window-here, window-left, window-there, window-with-other, window-with-same}
 

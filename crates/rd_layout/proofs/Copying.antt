@@ -11,11 +11,11 @@ use Rattle.rd_matrix.specs.Rows.{blocks_with}
 use Rattle.rd_matrix.specs.Sources.{SourceValues, costs_of}
 use Rattle.rd_matrix.specs.declared.block.Block.{Block}
 use Rattle.rd_matrix.specs.declared.matrix.Entry.{Entry}
-use Rattle.rd_reuse.specs.Keeping.{are_whole, entry_under, is_kept, is_outside, is_same_shape, is_under, taken, taken_from, up_to_end}
+use Rattle.rd_reuse.specs.Keeping.{are_whole, entry_under, is_kept, is_outside, is_under, taken, taken_from, up_to_end}
 use Rattle.rd_reuse.specs.declared.change.Change.{Change}
 use Rattle.rd_rows.specs.Copies.{RowValues, shown_rows}
 use Rattle.rd_rows.specs.Rows.{RowMeaning}
-use Rattle.rd_rows.specs.Shapes.{ShapeValues}
+use Rattle.rd_rows.specs.Shapes.{ShapeValues, is_same_shape}
 use Rattle.rd_start.specs.Chosen.{places_of}
 use Rattle.rd_start.specs.Near.{is_near}
 use Rattle.rd_start.specs.declared.wanted.Wanted.{Wanted}

@@ -1,8 +1,5 @@
 -- The rows of a known layout that the blocks of its window keep are the rows that they have now.
-use Rattle.std.proofs.Common.{◌≡◌, inl, inr, ℕ, ◌==◌, ◌&&◌, Bool, true, false, if◌then◌else◌, Option, None, Some, List, [], sym, ap, refl, subst, arith}
-use Rattle.std.proofs.lemmas.Bool.Decides.{nat_tests}
-use Rattle.rd_base.specs.declared.settings.Wrap.{Wrap}
-use Rattle.rd_base.specs.declared.settings.Wrap.TheVariants.{Truncate, Continue, Word}
+use Rattle.std.proofs.Common.{◌≡◌, inl, inr, ℕ, Bool, true, false, if◌then◌else◌, Option, None, Some, List, [], sym, ap, refl, subst}
 use Rattle.rd_blocks.specs.Kept.{AreRowsAt, Follows}
 use Rattle.rd_blocks.specs.Sources.{text_source}
 use Rattle.rd_matrix.specs.Sources.{SourceValues}
@@ -10,9 +7,10 @@ use Rattle.rd_matrix.specs.declared.matrix.Entry.{Entry}
 use Rattle.rd_objects.specs.Things.{ObjectLists}
 use Rattle.rd_props.specs.Buffers as props
 use Rattle.rd_reuse.specs.Changes.{all}
-use Rattle.rd_reuse.specs.Keeping.{AreRight, is_same_shape, is_same_wrap}
+use Rattle.rd_reuse.specs.Keeping.{AreRight}
 use Rattle.rd_reuse.specs.declared.change.Change.{Change}
-use Rattle.rd_rows.specs.Shapes.{IsShape, ShapeValues}
+use Rattle.rd_rows.specs.Shapes.{IsShape, ShapeValues, is_same_shape}
+use Rattle.rd_rows.proofs.SameShapes.{same-shape}
 use Rattle.rd_state.specs.States.{ContentValue, StateValue, seen}
 use Rattle.rd_state.specs.Valid.{IsValid, IsWindow}
 use Rattle.rd_state.specs.Windows.{content_in, shown_content, window_of}
@@ -33,36 +31,6 @@ pub record KeptLaws : Type 0 where
       → AreRight (text_source new objects files) rows change shape
   pub all : (s : props.BufferValue) (objects : ObjectLists) (files : Data) (shape : ShapeValues) (rows : List Entry) → IsText s.text → AreRight (text_source s objects files) rows all shape
   pub none : (m : SourceValues) (c : Change) (shape : ShapeValues) → AreRight m [] c shape
-
--- ---- shapes
-
-same-wrap : (x y : Wrap) → is_same_wrap x y ≡ true → x ≡ y
-same-wrap Truncate Truncate h = refl
-same-wrap Truncate Continue h = absurd (cc)
-same-wrap Truncate Word h = absurd (cc)
-same-wrap Continue Truncate h = absurd (cc)
-same-wrap Continue Continue h = refl
-same-wrap Continue Word h = absurd (cc)
-same-wrap Word Truncate h = absurd (cc)
-same-wrap Word Continue h = absurd (cc)
-same-wrap Word Word h = refl
-
-same-number : (a b : ℕ) → (a == b) ≡ true → a ≡ b
-same-number a b h = grind (arith, nat_tests)
-
-three-said : (x y z : Bool) → (x && y && z) ≡ true → (x ≡ true) × (y ≡ true) × (z ≡ true)
-three-said true true true h = (refl, refl, refl)
-three-said true true false h = absurd (cc)
-three-said true false z h = absurd (cc)
-three-said false y z h = absurd (cc)
-
-pub same-shape : (a b : ShapeValues) → is_same_shape a b ≡ true → a ≡ b
-same-shape a b h =
-    let parts = three-said (a.width == b.width) (a.hscroll == b.hscroll) (is_same_wrap a.wrap b.wrap) h in
-    let width = same-number a.width b.width parts.0 in
-    let hscroll = same-number a.hscroll b.hscroll parts.1 in
-    let wrap = same-wrap a.wrap b.wrap parts.2 in
-    λ i. record { width = width i; wrap = wrap i; hscroll = hscroll i }
 
 -- ---- rows
 

@@ -10,8 +10,8 @@ use Rattle.rd_blocks.specs.Sources.{text_source}
 use Rattle.rd_props.specs.Buffers as props
 use Rattle.rd_props.specs.Made.{AreMade}
 use Rattle.rd_text.specs.Texts.{IsText}
-use Rattle.rd_window.specs.Layouts.{Stands, StandsUnchanged, is_none}
-use Rattle.rd_reuse.specs.Changes.{all, join, none}
+use Rattle.rd_window.specs.Layouts.{Stands, StandsUnchanged}
+use Rattle.rd_reuse.specs.Changes.{all, is_none, join, none}
 use Rattle.rd_reuse.specs.declared.change.Change.{Change}
 use Rattle.rd_matrix.specs.Entries.{shown_entries}
 use Rattle.rd_script.specs.Forms.{IsInForm, IsWhole}

@@ -17,7 +17,7 @@ use Rattle.rd_objects.specs.Things.{ObjectLists}
 use Rattle.rd_props.specs.Buffers.{BufferValue}
 use Rattle.rd_props.specs.Made.{AreMade}
 use Rattle.rd_props.specs.Seen.{seen_at}
-use Rattle.rd_reuse.specs.Changes.{IsChange, all, change_of, edit, is_all, is_small, join, moved, none}
+use Rattle.rd_reuse.specs.Changes.{IsChange, all, change_of, edit, is_all, is_none, is_small, join, moved, none}
 use Rattle.rd_reuse.specs.declared.change.Change.{Change}
 use Rattle.rd_rows.specs.Laws.{seen_rows}
 use Rattle.rd_rows.specs.Rows.{RowMeaning}
@@ -27,7 +27,7 @@ use Rattle.rd_state.specs.declared.effect.Effect.{Effect}
 use Rattle.rd_state.specs.declared.effect.Effect.TheVariants.{Nothing, Edit, Moved, All, Window}
 use Rattle.rd_text.specs.Texts.{IsText}
 use Rattle.rd_ucd.specs.Data.{Data}
-use Rattle.rd_window.specs.Layouts.{Stands, is_none}
+use Rattle.rd_window.specs.Layouts.{Stands}
 use Rattle.rd_window.specs.declared.layout.Layout.{Layout}
 use Rattle.rd_layout.specs.Changes.{change_by, if_shown, restyled}
 use Rattle.rd_layout.proofs.Calm.{joined-told, restyled-tail}

@@ -2,8 +2,8 @@
 use Rattle.std.specs.Prelude.{ℕ, Bool, ◌==◌, ◌&&◌, if◌then◌else◌, Option, Some, Result, Err, unwrap_or}
 use Rattle.rd_ucd.specs.Data.{Data}
 use Rattle.rd_matrix.specs.Entries.{shown_entries}
-use Rattle.rd_reuse.specs.Keeping.{is_same_shape}
-use Rattle.rd_rows.specs.Shapes.{ShapeValues}
+use Rattle.rd_reuse.specs.Changes.{is_none}
+use Rattle.rd_rows.specs.Shapes.{ShapeValues, is_same_shape}
 use Rattle.rd_state.specs.States.{StateValue, seen}
 use Rattle.rd_state.specs.Steps.{in_window, step}
 use Rattle.rd_state.specs.Windows.{shown_content}
@@ -15,7 +15,6 @@ use Rattle.rd_frame.specs.Panes.{body_height}
 use Rattle.rd_tree.specs.declared.placed.Placed.{Placed}
 use Rattle.rd_visual.specs.Hits.{hit_in}
 use Rattle.rd_visual.specs.Motion.{left_of, right_of}
-use Rattle.rd_window.specs.Layouts.{is_none}
 use Rattle.rd_window.specs.declared.layout.Layout.{Layout}
 use Rattle.rd_layout.specs.Windows.{place_of, window_shape}
 

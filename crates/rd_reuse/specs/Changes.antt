@@ -7,6 +7,10 @@ use Rattle.rd_reuse.specs.declared.change.Change.{Change}
 abbrev pub none : Change
 none = record { head = 4294967295; tail = 0; added = pos 0 }
 
+-- whether nothing changed
+abbrev pub is_none : Change → Bool
+is_none c = (c.head == 4294967295) && (c.tail == 0) && int_eq c.added (pos 0)
+
 -- anything may have changed
 abbrev pub all : Change
 all = record { head = 0; tail = 4294967295; added = pos 0 }

@@ -1,9 +1,7 @@
 -- Which blocks keep the rows that they have in an older layout, and which rows these are.
-use Rattle.std.specs.Prelude.{◌≡◌, ℕ, zero, suc, ◌+◌, nat_le, Bool, true, false, not, ◌==◌, ◌&&◌, ◌||◌, if◌then◌else◌, List, [], ◌∷◌, length, map, Option, None, Some, find, pos, ◌-ℤ◌}
+use Rattle.std.specs.Prelude.{◌≡◌, ℕ, zero, suc, ◌+◌, nat_le, Bool, true, not, ◌==◌, ◌&&◌, ◌||◌, if◌then◌else◌, List, [], ◌∷◌, length, map, Option, None, Some, find, pos, ◌-ℤ◌}
 use Rattle.std.specs.List.{list_all}
 use Rattle.std.specs.Ordering.{int_eq}
-use Rattle.rd_base.specs.declared.settings.Wrap.{Wrap}
-use Rattle.rd_base.specs.declared.settings.Wrap.TheVariants.{Truncate, Continue, Word}
 use Rattle.rd_matrix.specs.Blocks.{IsAmong}
 use Rattle.rd_matrix.specs.Sources.{SourceValues}
 use Rattle.rd_matrix.specs.declared.block.Block.{Block}
@@ -12,7 +10,7 @@ use Rattle.rd_reuse.specs.declared.change.Change.{Change}
 use Rattle.rd_rows.specs.Copies.{RowValues, copied, shown_rows}
 use Rattle.rd_rows.specs.Laws.{ends_last}
 use Rattle.rd_rows.specs.Rows.{RowMeaning}
-use Rattle.rd_rows.specs.Shapes.{ShapeValues}
+use Rattle.rd_rows.specs.Shapes.{ShapeValues, is_same_shape}
 
 -- whether all that a block covers, its ender too, is below the head, or the block starts at the tail or later
 abbrev pub is_outside : Change → Block → Bool
@@ -69,15 +67,6 @@ AreRight m old c shape = (b : Block) → IsAmong m.blocks b → is_kept old c b 
 -- what the rows of a block cost where those that it keeps cost nothing
 abbrev pub fresh_cost : SourceValues → List Entry → Change → ShapeValues → Block → ℕ
 fresh_cost m old c shape b = if is_kept old c b then 0 else m.cost_of b shape
-
-abbrev pub is_same_wrap : Wrap → Wrap → Bool
-is_same_wrap Truncate Truncate = true
-is_same_wrap Continue Continue = true
-is_same_wrap Word Word = true
-is_same_wrap a b = false
-
-abbrev pub is_same_shape : ShapeValues → ShapeValues → Bool
-is_same_shape a b = (a.width == b.width) && (a.hscroll == b.hscroll) && is_same_wrap a.wrap b.wrap
 
 -- a source whose blocks keep their older rows at the shape that these have
 abbrev pub kept_source : SourceValues → List Entry → Change → ShapeValues → SourceValues

@@ -14,7 +14,7 @@ pub struct Change {
 
 impl Change {
     ghost use Rattle.std.specs.Prelude.{◌≡◌, ◌+ℤ◌, min, max};
-    ghost use Rattle.rd_reuse.specs.Changes.{none, all, is_all, change_of, edit, join, moved};
+    ghost use Rattle.rd_reuse.specs.Changes.{none, all, is_none, is_all, change_of, edit, join, moved};
     ghost use Rattle.rd_reuse.specs.Keeping.{is_outside, started_at};
 
     /// Nothing changed.
@@ -75,6 +75,13 @@ impl Change {
             tail: tail as Pos,
             added,
         }
+    }
+
+    /// Whether nothing changed.
+    pub fn is_none(self) -> bool
+        ensures { result ≡ is_none self }
+    {
+        self.head == Pos::MAX && self.tail == 0 && self.added == 0
     }
 
     /// Whether anything may have changed.

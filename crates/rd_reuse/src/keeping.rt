@@ -1,12 +1,12 @@
 //! Blocks that keep their older rows.
 ghost use Rattle.std.specs.Prelude.{◌≡◌, ◌+◌, ◌^◌, ◌<◌, ◌≤◌, true, length, map, option_map, IfOk, slice_get};
 ghost use Rattle.rd_matrix.specs.Blocks.{IsAmong};
-ghost use Rattle.rd_reuse.specs.Keeping.{AreRight, are_whole, copied_rows, entry_under, fresh_cost, has_base, is_kept, is_under, is_same_shape, is_same_wrap, taken};
+ghost use Rattle.rd_reuse.specs.Keeping.{AreRight, are_whole, copied_rows, entry_under, fresh_cost, has_base, is_kept, is_under, taken};
 ghost use Rattle.rd_rows.specs.Copies.{shown_rows};
 ghost use Rattle.rd_matrix.specs.declared.matrix.Entry.{Entry};
 
 use crate::change::Change;
-use rd_base::{Memory, Pos, Steps, Wrap};
+use rd_base::{Memory, Pos, Steps};
 use rd_matrix::{Block, BlockSource, Entry, Matrix};
 use rd_rows::{Row, Shape};
 use std::alloc::Global;
@@ -107,22 +107,4 @@ fn is_under(entry: &Entry, change: Change, start: Pos, number: usize) -> bool
     ensures { result ≡ is_under change start number entry.now }
 {
     change.started_at(start, entry.start) && entry.number as usize == number
-}
-
-/// Whether two shapes are one.
-pub fn is_same_shape(a: Shape, b: Shape) -> bool
-    ensures { result ≡ is_same_shape a b }
-{
-    a.width == b.width && a.hscroll == b.hscroll && is_same_wrap(a.wrap, b.wrap)
-}
-
-fn is_same_wrap(a: Wrap, b: Wrap) -> bool
-    ensures { result ≡ is_same_wrap a b }
-{
-    match (a, b) {
-        (Wrap::Truncate, Wrap::Truncate) => true,
-        (Wrap::Continue, Wrap::Continue) => true,
-        (Wrap::Word, Wrap::Word) => true,
-        _ => false,
-    }
 }

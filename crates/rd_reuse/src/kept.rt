@@ -1,7 +1,7 @@
 //! A source whose blocks keep their older rows.
 
 use crate::change::Change;
-use crate::keeping::{copies, is_kept, is_same_shape};
+use crate::keeping::{copies, is_kept};
 use rd_base::{Memory, Pos, Steps};
 use rd_matrix::{Block, BlockSource, Matrix};
 use rd_rows::{Row, Shape};
@@ -106,7 +106,7 @@ impl<B: BlockSource> BlockSource for Kept<'_, B> {
         shape: Shape,
         steps: &mut Steps<L>,
     ) -> Result<Vec<Row>, Memory> {
-        if !is_same_shape(shape, self.shape) || !is_kept(self.older, self.change, block) {
+        if !shape.is_same(self.shape) || !is_kept(self.older, self.change, block) {
             return self.source.rows(alloc, block, shape, steps);
         }
         self.ask(alloc, block)?;

@@ -6,6 +6,7 @@ mod Fitting
 pub mod LineLaws
 mod Made
 mod Mirroring
+pub mod SameShapes
 pub mod Splits
 mod Stands
 mod Waiting

@@ -2,20 +2,17 @@
 ghost use Rattle.std.specs.Prelude.{◌≡◌, ◌&&◌, ◌<◌, IfErr, IfOk, OnErr, None, length, option_map};
 ghost use Rattle.rd_layout.specs.Pointing.{going, hitting, is_shown, stepped_to};
 ghost use Rattle.rd_layout.specs.Sessions.{Applied, layout_of};
-ghost use Rattle.rd_reuse.specs.Keeping.{is_same_shape, is_same_wrap};
 ghost use Rattle.rd_script.specs.declared.op.Op.TheVariants.{Go, Hit};
 ghost use Rattle.rd_state.specs.Valid.{IsWindow};
 ghost use Rattle.rd_state.specs.Windows.{window_of};
 ghost use Rattle.rd_state.specs.declared.refused.Refused.TheVariants.{NoWindow};
 ghost use Rattle.rd_views.specs.Answers.{Points};
-ghost use Rattle.rd_window.specs.Layouts.{is_none};
 
 use crate::looking::shape_of;
 use crate::views::Views;
-use rd_base::{Memory, Pos, Wrap};
+use rd_base::{Memory, Pos};
 use rd_frame::body_height;
 use rd_layout::sessions_stay_known;
-use rd_reuse::Change;
 use rd_rows::Shape;
 use rd_script::Op;
 use rd_state::{Refused, State, WindowState, windows_are_leaves};
@@ -117,30 +114,5 @@ fn number_of(state: &State, window: u64) -> Result<u32, Refused>
 fn is_shown(layout: &Layout, shape: Shape, height: u32) -> bool
     ensures { result ≡ is_shown layout.now shape height }
 {
-    is_none(layout.change) && is_same_shape(layout.shape, shape) && layout.height == height
-}
-
-/// Whether nothing changed.
-fn is_none(change: Change) -> bool
-    ensures { result ≡ is_none change }
-{
-    change.head == Pos::MAX && change.tail == 0 && change.added == 0
-}
-
-/// Whether two shapes are one.
-fn is_same_shape(a: Shape, b: Shape) -> bool
-    ensures { result ≡ is_same_shape a b }
-{
-    a.width == b.width && a.hscroll == b.hscroll && is_same_wrap(a.wrap, b.wrap)
-}
-
-fn is_same_wrap(a: Wrap, b: Wrap) -> bool
-    ensures { result ≡ is_same_wrap a b }
-{
-    match (a, b) {
-        (Wrap::Truncate, Wrap::Truncate) => true,
-        (Wrap::Continue, Wrap::Continue) => true,
-        (Wrap::Word, Wrap::Word) => true,
-        _ => false,
-    }
+    layout.change.is_none() && layout.shape.is_same(shape) && layout.height == height
 }

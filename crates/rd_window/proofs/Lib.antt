@@ -3,3 +3,4 @@ mod Ends
 mod Starting
 mod Points
 mod Standing
+mod Remembering

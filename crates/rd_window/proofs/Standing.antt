@@ -5,25 +5,23 @@ use Rattle.std.specs.Option.{unwrap_or}
 use Rattle.std.proofs.lemmas.Bool.{and_parts, cases_Bool, eq-eqb, eqb-true, le-ltb, leb-true, lt-ltb, ltb-true}
 use Rattle.std.proofs.lemmas.Bool.Decides.{Decides-int_eq, nat_tests}
 use Rattle.rd_base.specs.declared.settings.Anchor.{Anchor}
-use Rattle.rd_base.specs.declared.settings.Wrap.{Wrap}
-use Rattle.rd_base.specs.declared.settings.Wrap.TheVariants.{Truncate, Continue, Word}
 use Rattle.rd_matrix.specs.Blocks.{IsAmong, StandFrom, first_start}
 use Rattle.rd_matrix.proofs.Counting.{count-cons}
 use Rattle.rd_matrix.specs.Entries.{EntryMeaning, all_rows, numbered, shown_entries}
 use Rattle.rd_matrix.specs.Sources.{IsSource, SourceValues, rows_at}
 use Rattle.rd_matrix.specs.declared.block.Block.{Block}
-use Rattle.rd_reuse.specs.Changes.{none}
-use Rattle.rd_reuse.specs.Keeping.{is_same_shape, is_same_wrap}
+use Rattle.rd_reuse.specs.Changes.{is_none, none}
 use Rattle.rd_reuse.specs.Views.{Names}
 use Rattle.rd_reuse.specs.declared.change.Change.{Change}
 use Rattle.rd_reuse.proofs.Lists.{at-seam}
 use Rattle.rd_reuse.proofs.Places.{anchor-found, later-start}
 use Rattle.rd_rows.specs.Rows.{RowMeaning}
-use Rattle.rd_rows.specs.Shapes.{ShapeValues}
+use Rattle.rd_rows.specs.Shapes.{ShapeValues, is_same_shape}
+use Rattle.rd_rows.proofs.SameShapes.{same-shape}
 use Rattle.rd_start.specs.Chosen.{anchor_at, anchor_from, anchor_row, chosen_of, places_of, point_from, row_in_block}
 use Rattle.rd_start.specs.Starts.{Places, centred, following, is_inside, margin_of, scrolled, suits, wanted_above, wanted_below}
 use Rattle.rd_start.specs.declared.wanted.Wanted.{Wanted}
-use Rattle.rd_window.specs.Layouts.{IsLaidOut, Stands, StandsUnchanged, is_current, is_none, rests}
+use Rattle.rd_window.specs.Layouts.{IsLaidOut, Stands, StandsUnchanged, is_current, rests}
 use Rattle.rd_window.specs.Views.{has_first_row, has_last_row, rows_in_view, start_row}
 use Rattle.rd_window.specs.declared.layout.Layout.{Layout}
 use Rattle.rd_window.proofs.Ends.{in-view, opposite}
@@ -43,29 +41,6 @@ none-is c e =
     let both = and_parts ((c.head == 4294967295) && (c.tail == 0)) (int_eq c.added (pos 0)) e in
     let ends = and_parts (c.head == 4294967295) (c.tail == 0) both.0 in
     equal-changes c none (eqb-true c.head 4294967295 ends.0) (eqb-true c.tail 0 ends.1) ((Decides-int_eq c.added (pos 0)).0 both.1)
-
-same-wrap : (a b : Wrap) → is_same_wrap a b ≡ true → a ≡ b
-same-wrap Truncate Truncate e = refl
-same-wrap Truncate Continue e = cc
-same-wrap Truncate Word e = cc
-same-wrap Continue Truncate e = cc
-same-wrap Continue Continue e = refl
-same-wrap Continue Word e = cc
-same-wrap Word Truncate e = cc
-same-wrap Word Continue e = cc
-same-wrap Word Word e = refl
-
-equal-shapes : (a b : ShapeValues) → a.width ≡ b.width → a.wrap ≡ b.wrap → a.hscroll ≡ b.hscroll → a ≡ b
-equal-shapes a b width wrap hscroll =
-    ap (λ (x : ℕ). record { width = x; wrap = a.wrap; hscroll = a.hscroll }) width
-    ∙ (ap (λ (x : Wrap). record { width = b.width; wrap = x; hscroll = a.hscroll }) wrap
-    ∙ ap (λ (x : ℕ). record { width = b.width; wrap = b.wrap; hscroll = x }) hscroll)
-
-pub same-shape : (a b : ShapeValues) → is_same_shape a b ≡ true → a ≡ b
-same-shape a b e =
-    let both = and_parts ((a.width == b.width) && (a.hscroll == b.hscroll)) (is_same_wrap a.wrap b.wrap) e in
-    let numbers = and_parts (a.width == b.width) (a.hscroll == b.hscroll) both.0 in
-    equal-shapes a b (eqb-true a.width b.width numbers.0) (same-wrap a.wrap b.wrap both.1) (eqb-true a.hscroll b.hscroll numbers.1)
 
 pub record IsCurrent (l : Layout) (shape : ShapeValues) (w : Wanted) : Type 0 where
   pub unchanged : is_none l.change ≡ true

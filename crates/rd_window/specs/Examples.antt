@@ -1,8 +1,10 @@
 -- Three lines and their layouts, for worked examples.
-use Rattle.std.specs.Prelude.{ℕ, ◌+◌, ◌-◌, true, [], ◌∷◌, ◌++◌, map}
+use Rattle.std.specs.Prelude.{ℕ, ◌+◌, ◌-◌, true, if◌then◌else◌, List, [], ◌∷◌, ◌++◌, map}
 use Rattle.rd_matrix.specs.Entries.{EntryMeaning}
 use Rattle.rd_matrix.specs.Sources.{SourceValues, rows_at}
+use Rattle.rd_matrix.specs.declared.block.Block.{Block}
 use Rattle.rd_matrix.specs.declared.matrix.Entry.{Entry}
+use Rattle.rd_reuse.specs.Keeping.{copied_rows, is_kept, taken}
 use Rattle.rd_reuse.specs.declared.change.Change.{Change}
 use Rattle.rd_start.specs.Examples.{items_from, last_row, short_lines, twelve_columns}
 use Rattle.rd_window.specs.declared.layout.Layout.{Layout}
@@ -31,3 +33,10 @@ three_rows change = record {
   bottom = true;
   change = change;
 }
+
+-- how often the rows of a block were copied that keeps those of this layout, since which so much changed: none of a block that keeps
+-- none
+abbrev pub copies_kept : Change → Block → List ℕ
+copies_kept c b =
+    let old = (three_rows c).matrix in
+    if is_kept old c b then map (λ r. r.copies) (copied_rows (taken old c b.start)) else []

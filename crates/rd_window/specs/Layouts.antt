@@ -1,15 +1,14 @@
 -- The last layout of a window, and how much of it can be kept.
-use Rattle.std.specs.Prelude.{◌≡◌, ℕ, ◌+◌, ◌*◌, nat_le, Bool, true, false, not, ◌==◌, ◌&&◌, if◌then◌else◌, List, [], length, take, drop, All, Option, None, Some, pos}
-use Rattle.std.specs.Ordering.{int_eq}
+use Rattle.std.specs.Prelude.{◌≡◌, ℕ, ◌+◌, ◌*◌, nat_le, Bool, true, false, not, ◌==◌, ◌&&◌, if◌then◌else◌, List, [], length, take, drop, All, Option, None, Some}
 use Rattle.rd_base.specs.declared.settings.Anchor.{Anchor}
 use Rattle.rd_matrix.specs.Entries.{shown_entries}
 use Rattle.rd_matrix.specs.Sources.{SourceValues, rows_at}
 use Rattle.rd_matrix.specs.declared.matrix.Entry.{Entry}
-use Rattle.rd_reuse.specs.Changes.{all, none}
-use Rattle.rd_reuse.specs.Keeping.{is_same_shape, kept_source}
+use Rattle.rd_reuse.specs.Changes.{all, is_none, none}
+use Rattle.rd_reuse.specs.Keeping.{kept_source}
 use Rattle.rd_reuse.specs.Views.{IsCopied}
 use Rattle.rd_reuse.specs.declared.change.Change.{Change}
-use Rattle.rd_rows.specs.Shapes.{ShapeValues}
+use Rattle.rd_rows.specs.Shapes.{ShapeValues, is_same_shape}
 use Rattle.rd_start.specs.Chosen.{anchor_row, places_of}
 use Rattle.rd_start.specs.Near.{near_costs}
 use Rattle.rd_start.specs.Starts.{suits}
@@ -30,10 +29,6 @@ change_since (Some l) = l.change
 -- the source of a window's rows, where a block costs nothing that keeps the rows of the last layout
 abbrev pub kept_by : Option Layout → SourceValues → ShapeValues → SourceValues
 kept_by last m shape = kept_source m (older_rows last shape) (change_since last) shape
-
--- whether nothing changed
-abbrev pub is_none : Change → Bool
-is_none c = (c.head == 4294967295) && (c.tail == 0) && int_eq c.added (pos 0)
 
 -- whether a layout is still that of a window: nothing changed since, its start was not set by command, and it has the layout's shape,
 -- height and ways of scrolling

@@ -1,3 +1,4 @@
 pub mod Examples
 pub mod Layouts
+pub mod Remembering
 pub mod Views

@@ -5,6 +5,7 @@ mod again;
 mod examples;
 mod laws;
 mod layout;
+mod remembered;
 mod resting;
 mod window;
 

@@ -1,13 +1,10 @@
 //! Whether the last layout of a window is still right.
 ghost use Rattle.std.specs.Prelude.{◌≡◌, ◌+◌, ◌&&◌, nat_le, nat_lt};
-ghost use Rattle.rd_reuse.specs.Keeping.{is_same_shape, is_same_wrap};
 ghost use Rattle.rd_start.specs.Starts.{margin_of};
-ghost use Rattle.rd_window.specs.Layouts.{is_none};
 
 use crate::layout::Layout;
-use rd_base::{Anchor, Pos, Wrap};
+use rd_base::Anchor;
 use rd_matrix::Matrix;
-use rd_reuse::Change;
 use rd_rows::Shape;
 use rd_start::{Chosen, Wanted};
 
@@ -38,9 +35,9 @@ impl Layout {
     fn is_current(&self, shape: Shape, wanted: Wanted) -> bool
         ensures { result ≡ is_current self.now shape wanted }
     {
-        is_none(self.change)
+        self.change.is_none()
             && !wanted.forced
-            && is_same_shape(self.shape, shape)
+            && self.shape.is_same(shape)
             && self.height == wanted.height
             && self.margin == wanted.margin
             && self.conservatively == wanted.conservatively
@@ -78,7 +75,7 @@ impl Layout {
         requires { none.now ≡ [] }
         ensures { result.now ≡ older_rows (Some self.now) shape }
     {
-        if is_same_shape(self.shape, shape) {
+        if self.shape.is_same(shape) {
             &self.matrix
         } else {
             none
@@ -113,29 +110,4 @@ fn is_inside(height: u32, above: u32, below: u32, row: u32) -> bool
     ensures { result ≡ (nat_le above row && nat_lt (row + below) height) }
 {
     above <= row && u64::from(row) + u64::from(below) < u64::from(height)
-}
-
-/// Whether nothing changed.
-fn is_none(change: Change) -> bool
-    ensures { result ≡ is_none change }
-{
-    change.head == Pos::MAX && change.tail == 0 && change.added == 0
-}
-
-/// Whether two shapes are one.
-fn is_same_shape(a: Shape, b: Shape) -> bool
-    ensures { result ≡ is_same_shape a b }
-{
-    a.width == b.width && a.hscroll == b.hscroll && is_same_wrap(a.wrap, b.wrap)
-}
-
-fn is_same_wrap(a: Wrap, b: Wrap) -> bool
-    ensures { result ≡ is_same_wrap a b }
-{
-    match (a, b) {
-        (Wrap::Truncate, Wrap::Truncate) => true,
-        (Wrap::Continue, Wrap::Continue) => true,
-        (Wrap::Word, Wrap::Word) => true,
-        _ => false,
-    }
 }

@@ -10,6 +10,7 @@ ghost use Rattle.rd_start.specs.Chosen.{chosen_of};
 ghost use Rattle.rd_start.specs.Near.{near_costs};
 ghost use Rattle.rd_window.specs.Views.{has_first_row, has_last_row, rows_in_view, start_row};
 
+use crate::remembered::Remembered;
 use rd_base::{Anchor, Memory, Steps};
 use rd_matrix::{BlockSource, Matrix};
 use rd_reuse::{Change, Kept, an_anchor_of_a_row_is_within, relay};
@@ -67,7 +68,8 @@ pub fn lay_out<B: BlockSource + Drop, L: Ledger>(
     ensures copies { IfOk result (λ view. All (IsCopied old.now change (B.meaning source).blocks) view.matrix) }
     ensures steps { steps.new ≤ steps.old + 3 * near_costs (kept_source (B.meaning source) old.now change shape) shape wanted }
 {
-    let mut kept = Kept::new(source, old, change, shape);
+    let remembered = Remembered::new(alloc, source);
+    let mut kept = Kept::new(remembered, old, change, shape);
     view_of(alloc, &mut kept, old, change, wanted, shape, steps)
 }
 

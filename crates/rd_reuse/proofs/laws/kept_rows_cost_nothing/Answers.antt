@@ -1,6 +1,6 @@
 use Rattle.std.proofs.Common.{Bool, if◌then◌else◌, ap}
 use Rattle.rd_reuse.specs.Keeping.{fresh_cost}
-use Rattle.rd_reuse.proofs.Taking.{shape-itself}
+use Rattle.rd_rows.proofs.SameShapes.{shape-itself}
 use Rattle.rd_reuse.proofs.laws.kept_rows_cost_nothing.Goals as goal
 
 pub returns : goal.returns

@@ -2,8 +2,9 @@ use Rattle.std.proofs.Common.{◌≡◌, ap, subst, sym, ◌∙◌}
 use Rattle.std.proofs.lemmas.Result.{IfOk-weaker}
 use Rattle.rd_matrix.specs.Blocks.{IsAmong}
 use Rattle.rd_reuse.specs.Keeping.{copied_rows, taken}
-use Rattle.rd_reuse.proofs.Taking.{kept-parts, same-shape, shown-copied}
+use Rattle.rd_reuse.proofs.Taking.{kept-parts, shown-copied}
 use Rattle.rd_rows.specs.Copies.{shown_rows}
+use Rattle.rd_rows.proofs.SameShapes.{same-shape}
 use Rattle.rd_reuse.proofs.kept.KeptBlockSource.rows.Goals as goal
 
 pub returns-clause-rows : goal.returns-clause-rows
@@ -17,7 +18,7 @@ returns-clause-rows g c =
     let change : l.change ≡ k.change = behind.2 ∙ (c.ask.ensures.change ∙ sym before.2) in
     let among = subst (λ s. IsAmong (g.B.BlockSource.meaning s).blocks b) (sym before.0) c.requires in
     let right = c.self.invariant.0 b among (sym c.is_kept.ensures ∙ c.if-not-is_kept.false) in
-    let shape = same-shape c.args.shape k.shape (sym c.is_same_shape.ensures ∙ c.if-not-is_same_shape.false) in
+    let shape = same-shape c.args.shape k.shape (sym c.is_same.ensures ∙ c.if-not-is_same.false) in
     IfOk-weaker c.copies.result (λ found. found.items ≡ copied_rows (taken l.older.now l.change b.start))
     (λ found. shown_rows found.items ≡ (g.B.BlockSource.meaning c.args.self.now.0).rows_of b c.args.shape)
     (λ found h.

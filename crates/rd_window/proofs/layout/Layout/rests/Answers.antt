@@ -1,8 +1,9 @@
 use Rattle.std.proofs.Common.{◌&&◌, ◌∙◌, Bool, sym, ap, subst, arith}
 use Rattle.rd_rows.specs.Shapes.{IsShape, ShapeValues}
+use Rattle.rd_rows.proofs.SameShapes.{same-shape}
 use Rattle.rd_start.specs.Chosen.{places_of}
 use Rattle.rd_start.specs.Starts.{suits}
-use Rattle.rd_window.proofs.Standing.{current, same-shape}
+use Rattle.rd_window.proofs.Standing.{current}
 use Rattle.rd_window.proofs.layout.Layout.rests.Goals as goal
 
 pub returns : goal.returns
