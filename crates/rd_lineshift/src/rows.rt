@@ -66,7 +66,7 @@ pub(crate) fn prints_of(screen: &Screen) -> Numbers
 }
 
 /// Whether two rows of one width are the same, by their prints and, where these are equal, by their cells.
-fn is_row(old: &[Cell], old_print: u64, new: &[Cell], new_print: u64) -> bool
+fn same_row(old: &[Cell], old_print: u64, new: &[Cell], new_print: u64) -> bool
     requires length { length old.now ≡ length new.now }
     requires old_print { old_print ≡ print_from 0 old.now }
     requires new_print { new_print ≡ print_from 0 new.now }
@@ -88,7 +88,7 @@ fn number_of(target: &Screen, prints: &Numbers, row: &[Cell]) -> u64
     let print = print_of(row);
     let prints = prints.as_slice();
     for i in 0..target.height() {
-        if is_row(cells_of(target, i), prints[i as usize], row, print) {
+        if same_row(cells_of(target, i), prints[i as usize], row, print) {
             return i as u64;
         }
     }

@@ -8,11 +8,11 @@ use std::marker::Model;
 
 /// A row of cells, many of which are written in one.
 #[derive(Drop)]
-pub(crate) struct Row {
+pub(crate) struct ScreenRow {
     cells: Vec<Cell>,
 }
 
-impl Model for Row {
+impl Model for ScreenRow {
     ghost use Rattle.std.specs.Prelude.{List};
     ghost use Rattle.rd_base.specs.declared.cell.Cell.{Cell};
 
@@ -21,23 +21,23 @@ impl Model for Row {
     ghost view = { λ r. r.cells.items };
 }
 
-impl Row {
+impl ScreenRow {
     /// A row of these cells.
-    fn of(alloc: Global, cells: &[Cell]) -> Result<Row, Memory>
+    fn of(alloc: Global, cells: &[Cell]) -> Result<ScreenRow, Memory>
         ensures { IfOk result (λ row. row ≡ cells.now) }
     {
-        Ok(Row {
+        Ok(ScreenRow {
             cells: Vec::from_slice(alloc, cells)?,
         })
     }
 
     /// A row of plain blanks.
-    fn blank(alloc: Global, columns: u32) -> Result<Row, Memory>
+    fn blank(alloc: Global, columns: u32) -> Result<ScreenRow, Memory>
         ensures { IfOk result (λ row. row ≡ blank_row columns) }
     {
         let mut cells = Vec::new(alloc);
         cells.resize(columns as usize, Cell::Blank(Face::PLAIN))?;
-        Ok(Row { cells })
+        Ok(ScreenRow { cells })
     }
 
     /// The cells as a slice.
@@ -65,13 +65,13 @@ impl Row {
 }
 
 /// So many rows of plain blanks.
-pub(crate) fn blank_rows(alloc: Global, columns: u32, rows: u32) -> Result<Vec<Row>, Memory>
+pub(crate) fn blank_rows(alloc: Global, columns: u32, rows: u32) -> Result<Vec<ScreenRow>, Memory>
     ensures { IfOk result (λ made. made.items ≡ replicate rows (blank_row columns)) }
 {
-    let blank = Row::blank(alloc, columns)?;
+    let blank = ScreenRow::blank(alloc, columns)?;
     let mut made = Vec::with_capacity(alloc, rows as usize)?;
     for count in 0..rows {
-        made.push(Row::of(alloc, blank.as_slice())?)?;
+        made.push(ScreenRow::of(alloc, blank.as_slice())?)?;
     }
     Ok(made)
 }

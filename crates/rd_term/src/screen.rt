@@ -2,7 +2,7 @@
 ghost use Rattle.std.specs.Prelude.{◌≡◌, ◌+◌, ◌<◌, ◌≤◌, IfOk, length};
 ghost use Rattle.rd_term.specs.Pictures.{IsScreen, blank_picture, width_of, row_at, cell_at, with_cell, with_cells};
 
-use crate::cells::{Row, blank_rows};
+use crate::cells::{ScreenRow, blank_rows};
 use rd_base::limits::{FRAME_COLUMNS, FRAME_ROWS};
 use rd_base::{Cell, Memory};
 use std::alloc::Global;
@@ -11,7 +11,7 @@ use std::marker::Model;
 /// Up to 200 rows of one width, up to 400 columns, and a cursor on them. Rows and columns count from 0.
 #[derive(Drop)]
 pub struct Screen {
-    rows: Vec<Row>,
+    rows: Vec<ScreenRow>,
     row: u32,
     column: u32,
 }

@@ -68,8 +68,8 @@ pub used-here : (row : List Cell) (k : ℕ) → k < length row → used row ≤ 
 used-here row k lt le e = elim (cases_lt k (used row)) [
   | inl more ↦ omega (arith, le, more)
   | inr ge ↦ absurd (
-    let f =
-    ap (λ c. same_cell c (get_or row k blank)) (sym (get_or-replicate (length row) k blank blank lt))
-    ∙ behind-last k blank (blank_row (length row)) row (length-replicate (length row) blank) lt ge in
-    cc)
+      let f =
+      ap (λ c. same_cell c (get_or row k blank)) (sym (get_or-replicate (length row) k blank blank lt))
+      ∙ behind-last k blank (blank_row (length row)) row (length-replicate (length row) blank) lt ge in
+      cc)
 ]

@@ -8,7 +8,7 @@ use Rattle.rd_base.specs.declared.cell.Cell.{Cell}
 use Rattle.rd_term.specs.Pictures.{Picture, IsGrid, blank_row, width_of, with_cell}
 use Rattle.rd_update.specs.Updates.{differs, row_bytes, rows_bytes, rows_after, allows, less_one, differing, within, is_done, blank_like, start, opening, update, move}
 use Rattle.rd_update.specs.Plans.{Prepared, parts_from, planned, sent_of, ArePartsOf, no_part, front_if, front_within, part_if, bytes_if, old_row, HaveOneSize}
-use Rattle.rd_update.specs.declared.plan.Part.{Part}
+use Rattle.rd_update.specs.declared.plan.ChangedRow.{ChangedRow}
 use Rattle.rd_update.specs.declared.plan.Sent.{Sent}
 
 -- ---- one list over another, up to a place
@@ -42,7 +42,7 @@ width-cell (row ∷ rows) (suc r) c v = refl
 
 -- ---- the parts
 
-parts-count : (d : Bool) (row at : ℕ) (more other : List Part) (n : ℕ) → length more ≡ n → length other ≡ n
+parts-count : (d : Bool) (row at : ℕ) (more other : List ChangedRow) (n : ℕ) → length more ≡ n → length other ≡ n
     → length (if d then (record { row = row; start = at }) ∷ more else other) ≡ (if d then suc n else n)
 parts-count true row at more other n p q = ap suc p
 parts-count false row at more other n p q = q
@@ -289,7 +289,7 @@ parts-chosen true row at bytes more rb os ns a m =
     let n : length more ≡ at + length rb = ap length m ∙ length-append bytes rb ∙ ap (λ k. k + length rb) (sym a) in
     ap (λ k. (record { row = row; start = at }) ∷ parts_from (row + 1) k os ns) n
 
-pub parts-step : (olds news : List (List Cell)) (row : ℕ) (o n : List Cell) (bytes more : List ℕ) (parts longer whole : List Part)
+pub parts-step : (olds news : List (List Cell)) (row : ℕ) (o n : List Cell) (bytes more : List ℕ) (parts longer whole : List ChangedRow)
     → row < length olds → row < length news → o ≡ get_or olds row [] → n ≡ get_or news row []
     → more ≡ bytes ++ bytes_if (differs o n) (row_bytes row o n)
     → longer ≡ parts ++ part_if (differs o n) row (length bytes)
@@ -327,7 +327,7 @@ few-differ [] (n ∷ ns) = omega arith
 few-differ (o ∷ os) [] = omega arith
 few-differ (o ∷ os) (n ∷ ns) = few-step (differs o n) (differing os ns) (length ns) (few-differ os ns)
 
-within-step : (d : Bool) (row at n : ℕ) (rb rest : List ℕ) (more other : List Part)
+within-step : (d : Bool) (row at n : ℕ) (rb rest : List ℕ) (more other : List ChangedRow)
     → (at + length rb + length rest ≤ n → AllByRecursion (λ part. part.start ≤ n) more) → (at + length rest ≤ n → AllByRecursion (λ part. part.start ≤ n) other)
     → at + length (if not d then rest else if allows None then rb ++ rest else []) ≤ n
     → AllByRecursion (λ part. part.start ≤ n) (if d then (record { row = row; start = at }) ∷ more else other)
@@ -352,7 +352,7 @@ parts-of current target few =
     let bytes = (planned current target).bytes in
     record {
       few = omega (arith, length-parts 0 at old.rows target.rows, few-differ old.rows target.rows);
-      each = All-from_recursion (λ (part : Part). part.start ≤ length (planned current target).bytes) (parts_from 0 at old.rows target.rows) (parts-within 0 at (length bytes) old.rows target.rows (omega arith));
+      each = All-from_recursion (λ (part : ChangedRow). part.start ≤ length (planned current target).bytes) (parts_from 0 at old.rows target.rows) (parts-within 0 at (length bytes) old.rows target.rows (omega arith));
     }
 
 -- ---- blank rows
@@ -382,10 +382,10 @@ stopped-less current target sent limit e done =
 
 -- ---- what is prepared
 
-prepared-same : (a b : List ℕ) (c d : List Part) → a ≡ b → c ≡ d → let x : Prepared = record { bytes = a; parts = c } in let y : Prepared = record { bytes = b; parts = d } in x ≡ y
+prepared-same : (a b : List ℕ) (c d : List ChangedRow) → a ≡ b → c ≡ d → let x : Prepared = record { bytes = a; parts = c } in let y : Prepared = record { bytes = b; parts = d } in x ≡ y
 prepared-same a b c d e f = cc
 
-pub planned-made : (current : Option Picture) (target : Picture) (begun more bytes : List ℕ) (none parts : List Part) (row column : ℕ)
+pub planned-made : (current : Option Picture) (target : Picture) (begun more bytes : List ℕ) (none parts : List ChangedRow) (row column : ℕ)
     → begun ≡ opening current → more ≡ begun ++ rows_bytes 0 None (start current target).rows target.rows
     → none ≡ [] → parts ≡ none ++ parts_from 0 (length begun) (start current target).rows target.rows
     → row ≡ target.row → column ≡ target.column → bytes ≡ more ++ move row column

@@ -5,16 +5,16 @@ use Rattle.rd_base.specs.declared.limits.TheConstants.{FRAME_ROWS}
 use Rattle.rd_base.specs.declared.cell.Cell.{Cell}
 use Rattle.rd_term.specs.Pictures.{Picture, width_of, row_at}
 use Rattle.rd_update.specs.Updates.{differs, row_bytes, start, opening, Update, update}
-use Rattle.rd_update.specs.declared.plan.Part.{Part}
+use Rattle.rd_update.specs.declared.plan.ChangedRow.{ChangedRow}
 use Rattle.rd_update.specs.declared.plan.Sent.{Sent}
 
 -- the bytes of the whole update; and of each row that differs its number, and how many bytes stand before it
 pub record Prepared : Type 0 where
   pub bytes : List ℕ
-  pub parts : List Part
+  pub parts : List ChangedRow
 
 -- the rows that differ, where so many bytes stand before the first one given, which is the row of this number
-abbrev pub parts_from : ℕ → ℕ → List (List Cell) → List (List Cell) → List Part
+abbrev pub parts_from : ℕ → ℕ → List (List Cell) → List (List Cell) → List ChangedRow
 parts_from row at (old ∷ olds) (new ∷ news) =
     if differs old new then (record { row = row; start = at }) ∷ parts_from (row + 1) (at + length (row_bytes row old new)) olds news
     else parts_from (row + 1) at olds news
@@ -51,11 +51,11 @@ IsRowOf None width row = Unit {0}
 IsRowOf (Some current) width row = (row < length current.rows) × (width_of current.rows ≡ width)
 
 -- at most 200 parts, each of which begins within the bytes
-pub record ArePartsOf (bytes : List ℕ) (parts : List Part) : Type 0 where
+pub record ArePartsOf (bytes : List ℕ) (parts : List ChangedRow) : Type 0 where
   pub few : length parts ≤ FRAME_ROWS
   pub each : All (λ part. part.start ≤ length bytes) parts
 
-abbrev pub no_part : Part
+abbrev pub no_part : ChangedRow
 no_part = record { row = 0; start = 0 }
 
 -- how many bytes are sent under a limit, and what is told then
@@ -68,7 +68,7 @@ front_within plan None = front_if false plan 0
 front_within plan (Some limit) = front_if (nat_lt limit (length plan.parts)) plan limit
 
 -- what stands for the row of the number in a list of parts
-abbrev pub part_if : Bool → ℕ → ℕ → List Part
+abbrev pub part_if : Bool → ℕ → ℕ → List ChangedRow
 part_if differ row at = if differ then (record { row = row; start = at }) ∷ [] else []
 
 abbrev pub bytes_if : Bool → List ℕ → List ℕ

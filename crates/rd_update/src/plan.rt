@@ -19,7 +19,7 @@ use thiserror::Error;
 
 /// The number of a row that differs, from 0, and how many bytes stand before it.
 #[derive(Clone, Copy)]
-pub(crate) struct Part {
+pub(crate) struct ChangedRow {
     row: u32,
     start: usize,
 }
@@ -40,7 +40,7 @@ pub struct WriteFault;
 #[derive(Drop)]
 pub struct Plan {
     bytes: ListOf<u8>,
-    parts: ListOf<Part>,
+    parts: ListOf<ChangedRow>,
 }
 
 impl Model for Plan {
@@ -204,7 +204,7 @@ fn old_row<'a>(current: Option<&'a Screen>, blank: &'a [Cell], row: u32) -> &'a 
 /// Adds the bytes of a row, if it differs, and where they begin.
 fn push_part(
     bytes: &mut ListOf<u8>,
-    parts: &mut ListOf<Part>,
+    parts: &mut ListOf<ChangedRow>,
     room: &mut Room,
     row: u32,
     old: &[Cell],
@@ -221,7 +221,7 @@ fn push_part(
     let Some(differing) = differences(room, old, new) else {
         return Ok(());
     };
-    parts.push(Part {
+    parts.push(ChangedRow {
         row,
         start: bytes.len(),
     })?;
@@ -231,7 +231,7 @@ fn push_part(
 /// Adds the bytes of each row that differs, and where they begin. `blank` is a blank row of the target's width.
 fn push_parts(
     bytes: &mut ListOf<u8>,
-    parts: &mut ListOf<Part>,
+    parts: &mut ListOf<ChangedRow>,
     current: Option<&Screen>,
     target: &Screen,
     blank: &[Cell],

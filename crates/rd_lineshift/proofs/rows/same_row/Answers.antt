@@ -1,6 +1,6 @@
 use Rattle.std.proofs.Common.{◌∙◌, sym}
 use Rattle.rd_lineshift.proofs.Sameness.{prints-apart}
-use Rattle.rd_lineshift.proofs.rows.is_row.Goals as goal
+use Rattle.rd_lineshift.proofs.rows.same_row.Goals as goal
 
 pub returns-then-old_print-new_print : goal.returns-then-old_print-new_print
 returns-then-old_print-new_print c =
