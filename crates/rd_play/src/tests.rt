@@ -148,8 +148,40 @@ const NONE: Calls = Calls {
     report: 0,
 };
 
+/// The calls of which one read fails.
+fn read(call: u64) -> Calls {
+    Calls {
+        source: call,
+        ..NONE
+    }
+}
+
+/// The calls of which one fetch fails.
+fn fetch(call: u64) -> Calls {
+    Calls {
+        files: call,
+        ..NONE
+    }
+}
+
+/// The calls of which one write of the screen fails.
+fn send(call: u64) -> Calls {
+    Calls {
+        screen: call,
+        ..NONE
+    }
+}
+
+/// The calls of which one write of the report fails.
+fn tell(call: u64) -> Calls {
+    Calls {
+        report: call,
+        ..NONE
+    }
+}
+
 /// Room that is enough for the bytes of a screen or of a report here.
-const AMPLE: u64 = 4096;
+const AMPLE: u64 = 16_384;
 
 /// What a run left.
 #[derive(Drop)]
@@ -299,6 +331,31 @@ fn scripts_are_run(rt: HostRuntime) -> Result<(), Fail> {
         assert_trace(&rt, &run, b"", report, 4);
     }
     Ok(())
+}
+
+/// A text that has so many letters between two others.
+fn with_letters(alloc: Global, front: &[u8], count: usize, back: &[u8]) -> Result<Vec<u8>, Fail> {
+    let mut text = Vec::from_slice(alloc, front)?;
+    for _i in 0..count {
+        text.push(b'k')?;
+    }
+    text.extend_from_slice(back)?;
+    Ok(text)
+}
+
+/// Asserts that a key of so many letters, which the op does not have, is told whole.
+fn assert_key(rt: &impl Abort, alloc: Global, count: usize) -> Result<(), Fail> {
+    let script = with_letters(alloc, b"{\"op\":\"redisplay\",\"", count, b"\":1}\n")?;
+    let told = with_letters(alloc, b"script:1: Extra ", count, b"\n")?;
+    let run = played(alloc, &[], script.as_slice(), NONE)?;
+    assert_trace(rt, &run, b"", told.as_slice(), 4);
+    Ok(())
+}
+
+#[test]
+fn a_key_may_be_longer_than_a_piece(rt: HostRuntime) -> Result<(), Fail> {
+    assert_key(&rt, rt.alloc(), 8_175)?;
+    assert_key(&rt, rt.alloc(), 8_176)
 }
 
 /// Runs a script that comes byte by byte.
