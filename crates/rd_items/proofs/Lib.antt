@@ -1,6 +1,7 @@
 mod Alike
 mod Chains
 mod Growing
+mod Holding
 mod Listing
 mod Measured
 mod Naming
