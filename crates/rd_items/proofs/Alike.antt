@@ -1,11 +1,10 @@
 -- Positions up to the next stop are shown alike, and so are those from the last.
-use Rattle.std.proofs.Common.{◌≡◌, ◌⊎◌, inl, inr, ℕ, ◌+◌, ◌-◌, ◌<◌, ◌≤◌, [], sym, ap, ◌∙◌, arith}
+use Rattle.std.proofs.Common.{◌≡◌, ◌⊎◌, inl, inr, ℕ, ◌+◌, ◌-◌, ◌<◌, ◌≤◌, sym, ap, ◌∙◌, arith}
 use Rattle.rd_base.specs.declared.settings.Invisible.{Invisible}
 use Rattle.rd_objects.specs.Things.{ObjectLists}
 use Rattle.rd_props.specs.Appearance.{hidden_by}
 use Rattle.rd_props.specs.Buffers.{BufferValue}
 use Rattle.rd_props.specs.Stops.{IsNextStop, IsLastStop, LookAlike}
-use Rattle.rd_props.specs.Strings.{strings_at}
 use Rattle.rd_props.specs.declared.appearance.Appearance.{Appearance}
 use Rattle.rd_items.specs.Readings.{showing_at}
 use Rattle.rd_items.specs.Stretches.{IsStretch, IsStopBehind}

@@ -1,7 +1,6 @@
 mod Alike
 mod Chains
 mod Growing
-mod Holding
 mod Listing
 mod Measured
 mod Naming
