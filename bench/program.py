@@ -30,7 +30,7 @@ REDISPLAY = b'{"op":"redisplay"}'
 Run = collections.namedtuple("Run", "status screen report seconds peak")
 
 
-def op(name, **fields):
+def op(name, /, **fields):
     """A line of a script. `from_` stands for the field `from`."""
     return json.dumps({"op": name, **{key.rstrip("_"): it for key, it in fields.items()}}, separators=(",", ":")).encode()
 
