@@ -71,10 +71,12 @@ def run(lines, words=WORDS):
 
 
 def read_report(pipe, report, told):
-    for line in itertools.chain(iter(pipe.readline, b""), [None]):
-        with told:
-            report.append(line and line.rstrip(b"\n"))
-            told.notify()
+    """Gathers the lines of a report, and None at its end."""
+    with pipe:
+        for line in itertools.chain(iter(pipe.readline, b""), [None]):
+            with told:
+                report.append(line and line.rstrip(b"\n"))
+                told.notify()
 
 
 def send(lines, pipe):
