@@ -14,7 +14,7 @@ use Rattle.rd_run.specs.Runs.{Mode}
 use Rattle.rd_run.specs.declared.status.Status.{Status}
 use Rattle.rd_run.specs.declared.status.Status.TheVariants.{Usage}
 use Rattle.rd_play.specs.Acts.{Begins, IsOpened, status_of}
-use Rattle.rd_play.specs.Played.{given}
+use Rattle.rd_play.specs.Devices.{given}
 use Rattle.rd_play.specs.declared.act.Run.{Run}
 
 -- the bytes of files, and how often the file of a name failed

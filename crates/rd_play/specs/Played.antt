@@ -1,17 +1,12 @@
 -- What a call of `play` promises: how the run ended, what the terminal shows, and what it cost.
 use Rattle.std.specs.Prelude.{◌≡◌, ℕ, ◌+◌, ◌≤◌, ◌⊎◌, Bool, false, List, [], ◌∷◌, ◌++◌, Option, None, Some}
 use Rattle.std.specs.Io.KnownBytes.{Consumes}
-use Rattle.rd_run.specs.Ends.{Drawn, Ended, IsInHand, ShowsIn, Sunk, allowed_in}
-use Rattle.rd_run.specs.Given.{Given}
+use Rattle.rd_io.specs.Devices.{Rose}
+use Rattle.rd_run.specs.Ends.{Drawn, Ended, EndsWell, IsInHand, IsValidScript, ShowsIn, Sunk, allowed_in}
+use Rattle.rd_run.specs.Given.{AreTold, Given, HasFailed, IsMode}
 use Rattle.rd_run.specs.Runs.{KnowsEach, Mode, Turn, opened}
 use Rattle.rd_run.specs.declared.status.Status.{Status}
-use Rattle.rd_run.specs.declared.status.Status.TheVariants.{WriteFault}
-use Rattle.rd_words.specs.Words.{WordValues}
-
--- what a run is given, part by part
-abbrev pub given : Option WordValues → (List ℕ → Option (List ℕ)) → (List ℕ → ℕ) → (List ℕ → ℕ) → Given
-given words contents faults_before faults_after =
-    record { words = words; contents = contents; faults_before = faults_before; faults_after = faults_after }
+use Rattle.rd_run.specs.declared.status.Status.TheVariants.{ReadFault, WriteFault}
 
 -- behind each redisplay that was shown or stopped the current screen is what the terminal shows
 abbrev pub KnowsIn : Option Mode → List Turn → Type 0
@@ -40,3 +35,13 @@ Spent given mode status turns bytes left before after =
 abbrev pub Played : Given → Status → Option (List ℕ) → Drawn → Sunk → Sunk → ℕ → ℕ → Type 0
 Played given result before source screen report from to = (mode : Option Mode) × (turns : List Turn) × (bytes : List ℕ) × Consumes before source.left bytes
     × Ended given mode result turns bytes source screen report × ShowsIn mode turns × KnowsIn mode turns × Spent given mode result turns bytes source.left from to
+
+-- Under valid words, over good files that are told, a script that is told and has no bad line ended done, or without memory, unless a count rose.
+abbrev pub Completes : Given → Status → Option (List ℕ) → Drawn → Sunk → Sunk → Type 0
+Completes given result before source screen report =
+    (mode : Mode) (bytes : List ℕ) → IsMode given mode → AreTold given → before ≡ Some bytes → IsValidScript mode bytes → ¬ HasFailed given
+    → ¬ Rose source.faults_before source.faults_after → ¬ Rose screen.faults_before screen.faults_after → ¬ Rose report.faults_before report.faults_after → EndsWell result
+
+-- a read fault is answered only where the count of the source rose, or that of a file which the words name
+abbrev pub HasReadFault : Given → Status → Drawn → Type 0
+HasReadFault given result source = result ≡ ReadFault → Rose source.faults_before source.faults_after ⊎ HasFailed given

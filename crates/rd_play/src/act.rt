@@ -7,6 +7,7 @@ ghost use Rattle.rd_layout.specs.Sessions.{length_of, session_step};
 ghost use Rattle.rd_state.specs.States.{main_name};
 ghost use Rattle.rd_state.specs.Windows.{selected_window};
 ghost use Rattle.rd_play.specs.Acts.{Acts, IsNew, IsTold, Places, mode_of, standing, summary_of};
+ghost use Rattle.rd_play.specs.Devices.{sunk_by};
 ghost use Rattle.rd_play.specs.Played.{turn_of};
 ghost use Rattle.rd_run.specs.Ends.{summary, sunk};
 ghost use Rattle.rd_run.specs.Reports.{shown_line, stopped_line};
@@ -76,8 +77,7 @@ impl Run {
         requires few { self.old.lines < LINES }
         requires counted { self.old.shown ≤ self.old.lines }
         ensures acts { Acts result (λ starved. effect (standing self.old) (turn_of line.now starved)) (standing self.new)
-            (sunk (K.written screen.old) (K.written screen.new) (K.faults screen.old) (K.faults screen.new))
-            (sunk (R.written report.old) (R.written report.new) (R.faults report.old) (R.faults report.new)) }
+            (sunk_by K.written K.faults screen.old screen.new) (sunk_by R.written R.faults report.old report.new) }
         ensures places { Places result (effect (standing self.old) (turn_of line.now false)) steps.old steps.new }
         ensures counted { self.new.shown ≤ self.new.lines }
         ensures screen { K.faults screen.old ≤ K.faults screen.new }
@@ -106,8 +106,7 @@ impl Run {
         requires counted { self.old.shown ≤ self.old.lines }
         requires form { IsInForm op }
         ensures acts { Acts result (λ starved. effect_of_op starved (standing self.old) op) (standing self.new)
-            (sunk (K.written screen.old) (K.written screen.new) (K.faults screen.old) (K.faults screen.new))
-            (sunk (R.written report.old) (R.written report.new) (R.faults report.old) (R.faults report.new)) }
+            (sunk_by K.written K.faults screen.old screen.new) (sunk_by R.written R.faults report.old report.new) }
         ensures places { Places result (effect_of_op false (standing self.old) op) steps.old steps.new }
         ensures counted { self.new.shown ≤ self.new.lines }
         ensures screen { K.faults screen.old ≤ K.faults screen.new }
@@ -151,8 +150,7 @@ impl Run {
         requires few { self.old.lines < LINES }
         requires counted { self.old.shown ≤ self.old.lines }
         ensures acts { Acts result (λ starved. if starved then unshown (standing self.old) else redisplayed (standing self.old) stop) (standing self.new)
-            (sunk (K.written screen.old) (K.written screen.new) (K.faults screen.old) (K.faults screen.new))
-            (sunk (R.written report.old) (R.written report.new) (R.faults report.old) (R.faults report.new)) }
+            (sunk_by K.written K.faults screen.old screen.new) (sunk_by R.written R.faults report.old report.new) }
         ensures places { Places result (redisplayed (standing self.old) stop) steps.old steps.new }
         ensures counted { self.new.shown ≤ self.new.lines }
         ensures screen { K.faults screen.old ≤ K.faults screen.new }

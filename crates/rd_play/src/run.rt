@@ -3,7 +3,8 @@ ghost use Rattle.std.specs.Prelude.{◌≡◌, ℕ, ◌≤◌, ◌<◌, [], leng
 ghost use Rattle.std.specs.Io.KnownBytes.{Consumes};
 ghost use Rattle.rd_generate.specs.Generated.{script};
 ghost use Rattle.rd_play.specs.Acts.{IsNew, SpentBy, Stopped, ended_by, halted_by, mode_of};
-ghost use Rattle.rd_run.specs.Ends.{drawn, sunk};
+ghost use Rattle.rd_play.specs.Devices.{drawn_by, sunk_by};
+ghost use Rattle.rd_run.specs.Ends.{drawn};
 ghost use Rattle.rd_run.specs.Given.{Given, IsMode};
 ghost use Rattle.rd_run.specs.Runs.{Turn};
 
@@ -29,9 +30,7 @@ pub fn run_script<S: Source, K: Sink, R: Sink, L: Ledger>(
     requires read { run.old.generated ≡ None }
     requires begun { IsNew run.old }
     ensures stopped { (given : Given) → IsMode given (mode_of run.old) → (turns : List Turn) × (bytes : List ℕ) × Consumes (S.left script.old) (S.left script.new) bytes
-        × Stopped result given (Some (mode_of run.old)) turns bytes (drawn (S.left script.new) (S.faults script.old) (S.faults script.new))
-        (sunk (K.written screen.old) (K.written screen.new) (K.faults screen.old) (K.faults screen.new))
-        (sunk (R.written report.old) (R.written report.new) (R.faults report.old) (R.faults report.new))
+        × Stopped result given (Some (mode_of run.old)) turns bytes (drawn_by S.left S.faults script.old script.new) (sunk_by K.written K.faults screen.old screen.new) (sunk_by R.written R.faults report.old report.new)
         × SpentBy result given (Some (mode_of run.old)) turns bytes (S.left script.new) steps.old steps.new }
     ensures script { S.faults script.old ≤ S.faults script.new }
     ensures screen { K.faults screen.old ≤ K.faults screen.new }
@@ -67,8 +66,7 @@ pub fn run_generated<K: Sink, R: Sink, L: Ledger>(
     requires begun { IsNew run.old }
     ensures stopped { (given : Given) (left : Option (List ℕ)) (faults : ℕ) → IsMode given (mode_of run.old) → (turns : List Turn)
         × Stopped result given (Some (mode_of run.old)) turns [] (drawn left faults faults)
-        (sunk (K.written screen.old) (K.written screen.new) (K.faults screen.old) (K.faults screen.new))
-        (sunk (R.written report.old) (R.written report.new) (R.faults report.old) (R.faults report.new))
+        (sunk_by K.written K.faults screen.old screen.new) (sunk_by R.written R.faults report.old report.new)
         × SpentBy result given (Some (mode_of run.old)) turns [] left steps.old steps.new }
     ensures screen { K.faults screen.old ≤ K.faults screen.new }
     ensures report { R.faults report.old ≤ R.faults report.new }
@@ -92,8 +90,7 @@ fn run_lines<K: Sink, R: Sink, L: Ledger>(
     requires begun { IsNew run.old }
     ensures stopped { (given : Given) (number : ℕ) (left : Option (List ℕ)) (faults : ℕ) → IsMode given (mode_of run.old) → run.old.generated ≡ Some number → lines.now ≡ script number → (turns : List Turn)
         × Stopped result given (Some (mode_of run.old)) turns [] (drawn left faults faults)
-        (sunk (K.written screen.old) (K.written screen.new) (K.faults screen.old) (K.faults screen.new))
-        (sunk (R.written report.old) (R.written report.new) (R.faults report.old) (R.faults report.new))
+        (sunk_by K.written K.faults screen.old screen.new) (sunk_by R.written R.faults report.old report.new)
         × SpentBy result given (Some (mode_of run.old)) turns [] left steps.old steps.new }
     ensures screen { K.faults screen.old ≤ K.faults screen.new }
     ensures report { R.faults report.old ≤ R.faults report.new }

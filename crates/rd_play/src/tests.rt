@@ -149,7 +149,7 @@ const NONE: Calls = Calls {
 };
 
 /// Room that is enough for the bytes of a screen or of a report here.
-const AMPLE: u64 = 4096;
+const AMPLE: u64 = 16_384;
 
 /// What a run left.
 #[derive(Drop)]
@@ -299,6 +299,31 @@ fn scripts_are_run(rt: HostRuntime) -> Result<(), Fail> {
         assert_trace(&rt, &run, b"", report, 4);
     }
     Ok(())
+}
+
+/// A text that has so many letters between two others.
+fn with_letters(alloc: Global, front: &[u8], count: usize, back: &[u8]) -> Result<Vec<u8>, Fail> {
+    let mut text = Vec::from_slice(alloc, front)?;
+    for _i in 0..count {
+        text.push(b'k')?;
+    }
+    text.extend_from_slice(back)?;
+    Ok(text)
+}
+
+/// Asserts that a key of so many letters, which the op does not have, is told whole.
+fn assert_key(rt: &impl Abort, alloc: Global, count: usize) -> Result<(), Fail> {
+    let script = with_letters(alloc, b"{\"op\":\"redisplay\",\"", count, b"\":1}\n")?;
+    let told = with_letters(alloc, b"script:1: Extra ", count, b"\n")?;
+    let run = played(alloc, &[], script.as_slice(), NONE)?;
+    assert_trace(rt, &run, b"", told.as_slice(), 4);
+    Ok(())
+}
+
+#[test]
+fn a_key_may_be_longer_than_a_piece(rt: HostRuntime) -> Result<(), Fail> {
+    assert_key(&rt, rt.alloc(), 8_175)?;
+    assert_key(&rt, rt.alloc(), 8_176)
 }
 
 /// Runs a script that comes byte by byte.

@@ -1,14 +1,13 @@
 //! The top call.
-ghost use Rattle.std.specs.Prelude.{◌≡◌, ℕ, ◌≤◌, ◌⊎◌, IsSome, Option, Some, List};
+ghost use Rattle.std.specs.Prelude.{◌≡◌, ℕ, ◌≤◌, IsSome, Some, List};
 ghost use Rattle.std.specs.Io.KnownBytes.{Consumes};
-ghost use Rattle.rd_io.specs.Devices.{Rose};
 ghost use Rattle.rd_files.specs.DataFiles.{meaning as files_meaning};
 ghost use Rattle.rd_play.specs.Acts.{Begins, Finishes, IsOpened, IsNew, SpentBy, Stopped, Tells, mode_of, status_of, summary_of};
-ghost use Rattle.rd_play.specs.Played.{Played, given};
-ghost use Rattle.rd_run.specs.Ends.{EndsWell, IsValidScript, drawn, sunk};
-ghost use Rattle.rd_run.specs.Given.{AreTold, Given, HasFailed, IsMode};
+ghost use Rattle.rd_play.specs.Devices.{drawn_by, given_by, sunk_by};
+ghost use Rattle.rd_play.specs.Played.{Completes, HasReadFault, Played};
+ghost use Rattle.rd_run.specs.Given.{Given, IsMode};
 ghost use Rattle.rd_run.specs.Reports.{last_line};
-ghost use Rattle.rd_run.specs.Runs.{Mode, Turn};
+ghost use Rattle.rd_run.specs.Runs.{Turn};
 ghost use Rattle.rd_words.specs.Command.{meaning, texts};
 ghost use Rattle.rd_words.specs.Words.{WordValues, values_of};
 
@@ -56,18 +55,11 @@ pub fn play<S: Source, F: Files, K: Sink, R: Sink, L: Ledger>(
     report: &mut R,
     steps: &mut Steps<L>,
 ) -> Status
-    ensures ran { Played (given (values_of (texts words.items)) (F.contents files.old) (F.faults files.old) (F.faults files.new)) result (S.left script.old)
-        (drawn (S.left script.new) (S.faults script.old) (S.faults script.new))
-        (sunk (K.written screen.old) (K.written screen.new) (K.faults screen.old) (K.faults screen.new))
-        (sunk (R.written report.old) (R.written report.new) (R.faults report.old) (R.faults report.new)) steps.old steps.new }
-    ensures complete { (mode : Mode) (bytes : List ℕ) → IsMode (given (values_of (texts words.items)) (F.contents files.old) (F.faults files.old) (F.faults files.new)) mode
-        → AreTold (given (values_of (texts words.items)) (F.contents files.old) (F.faults files.old) (F.faults files.new))
-        → S.left script.old ≡ Some bytes → IsValidScript mode bytes
-        → ¬ HasFailed (given (values_of (texts words.items)) (F.contents files.old) (F.faults files.old) (F.faults files.new))
-        → ¬ Rose (S.faults script.old) (S.faults script.new) → ¬ Rose (K.faults screen.old) (K.faults screen.new)
-        → ¬ Rose (R.faults report.old) (R.faults report.new) → EndsWell result }
-    ensures read { result ≡ Status.ReadFault → Rose (S.faults script.old) (S.faults script.new)
-        ⊎ HasFailed (given (values_of (texts words.items)) (F.contents files.old) (F.faults files.old) (F.faults files.new)) }
+    ensures ran { Played (given_by (values_of (texts words.items)) F.contents F.faults files.old files.new) result (S.left script.old)
+        (drawn_by S.left S.faults script.old script.new) (sunk_by K.written K.faults screen.old screen.new) (sunk_by R.written R.faults report.old report.new) steps.old steps.new }
+    ensures complete { Completes (given_by (values_of (texts words.items)) F.contents F.faults files.old files.new) result (S.left script.old)
+        (drawn_by S.left S.faults script.old script.new) (sunk_by K.written K.faults screen.old screen.new) (sunk_by R.written R.faults report.old report.new) }
+    ensures read { HasReadFault (given_by (values_of (texts words.items)) F.contents F.faults files.old files.new) result (drawn_by S.left S.faults script.old script.new) }
     ensures unread { (w : WordValues) → values_of (texts words.items) ≡ Some w → IsSome w.generate → script.new ≡ script.old }
     ensures script { S.faults script.old ≤ S.faults script.new }
     ensures contents { (file : List ℕ) → F.contents files.new file ≡ F.contents files.old file }
@@ -97,10 +89,8 @@ fn play_words<S: Source, F: Files, K: Sink, R: Sink, L: Ledger>(
     report: &mut R,
     steps: &mut Steps<L>,
 ) -> Status
-    ensures ran { Played (given (values_of (texts words.now)) (F.contents files.old) (F.faults files.old) (F.faults files.new)) result (S.left script.old)
-        (drawn (S.left script.new) (S.faults script.old) (S.faults script.new))
-        (sunk (K.written screen.old) (K.written screen.new) (K.faults screen.old) (K.faults screen.new))
-        (sunk (R.written report.old) (R.written report.new) (R.faults report.old) (R.faults report.new)) steps.old steps.new }
+    ensures ran { Played (given_by (values_of (texts words.now)) F.contents F.faults files.old files.new) result (S.left script.old)
+        (drawn_by S.left S.faults script.old script.new) (sunk_by K.written K.faults screen.old screen.new) (sunk_by R.written R.faults report.old report.new) steps.old steps.new }
     ensures unread { (w : WordValues) → values_of (texts words.now) ≡ Some w → IsSome w.generate → script.new ≡ script.old }
     ensures script { S.faults script.old ≤ S.faults script.new }
     ensures contents { (file : List ℕ) → F.contents files.new file ≡ F.contents files.old file }
@@ -117,7 +107,7 @@ fn play_words<S: Source, F: Files, K: Sink, R: Sink, L: Ledger>(
 
 /// Reads the words and the files that they name, and answers a run of no line, or the status that comes before the first line.
 fn begun<F: Files>(alloc: Global, words: &[String], files: &mut F) -> Result<Run, Status>
-    ensures begins { Begins result (given (values_of (texts words.now)) (F.contents files.old) (F.faults files.old) (F.faults files.new)) }
+    ensures begins { Begins result (given_by (values_of (texts words.now)) F.contents F.faults files.old files.new) }
     ensures contents { (file : List ℕ) → F.contents files.new file ≡ F.contents files.old file }
     ensures never_falls { (file : List ℕ) → F.faults files.old file ≤ F.faults files.new file }
 {
@@ -130,7 +120,7 @@ fn begun<F: Files>(alloc: Global, words: &[String], files: &mut F) -> Result<Run
 
 /// Reads the files that the words name, and answers a run of no line, or the status that comes before the first line.
 fn begun_with<F: Files>(alloc: Global, words: &Words, files: &mut F) -> Result<Run, Status>
-    ensures begins { Begins result (given (Some (meaning words.now)) (F.contents files.old) (F.faults files.old) (F.faults files.new)) }
+    ensures begins { Begins result (given_by (Some (meaning words.now)) F.contents F.faults files.old files.new) }
     ensures contents { (file : List ℕ) → F.contents files.new file ≡ F.contents files.old file }
     ensures never_falls { (file : List ℕ) → F.faults files.old file ≤ F.faults files.new file }
 {
@@ -177,9 +167,7 @@ fn run_whole<S: Source, K: Sink, R: Sink, L: Ledger>(
     steps: &mut Steps<L>,
 ) -> Status
     requires { IsNew run.old }
-    ensures played { (given : Given) → IsMode given (mode_of run.old) → Played given result (S.left script.old) (drawn (S.left script.new) (S.faults script.old) (S.faults script.new))
-        (sunk (K.written screen.old) (K.written screen.new) (K.faults screen.old) (K.faults screen.new))
-        (sunk (R.written report.old) (R.written report.new) (R.faults report.old) (R.faults report.new)) steps.old steps.new }
+    ensures played { (given : Given) → IsMode given (mode_of run.old) → Played given result (S.left script.old) (drawn_by S.left S.faults script.old script.new) (sunk_by K.written K.faults screen.old screen.new) (sunk_by R.written R.faults report.old report.new) steps.old steps.new }
     ensures unread { IsSome run.old.generated → script.new ≡ script.old }
     ensures script { S.faults script.old ≤ S.faults script.new }
     ensures screen { K.faults screen.old ≤ K.faults screen.new }
@@ -202,9 +190,7 @@ fn run_all<S: Source, K: Sink, R: Sink, L: Ledger>(
 ) -> Stop
     requires { IsNew run.old }
     ensures stopped { (given : Given) → IsMode given (mode_of run.old) → (turns : List Turn) × (bytes : List ℕ) × Consumes (S.left script.old) (S.left script.new) bytes
-        × Stopped result given (Some (mode_of run.old)) turns bytes (drawn (S.left script.new) (S.faults script.old) (S.faults script.new))
-        (sunk (K.written screen.old) (K.written screen.new) (K.faults screen.old) (K.faults screen.new))
-        (sunk (R.written report.old) (R.written report.new) (R.faults report.old) (R.faults report.new))
+        × Stopped result given (Some (mode_of run.old)) turns bytes (drawn_by S.left S.faults script.old script.new) (sunk_by K.written K.faults screen.old screen.new) (sunk_by R.written R.faults report.old report.new)
         × SpentBy result given (Some (mode_of run.old)) turns bytes (S.left script.new) steps.old steps.new }
     ensures unread { IsSome run.old.generated → script.new ≡ script.old }
     ensures script { S.faults script.old ≤ S.faults script.new }
@@ -219,7 +205,7 @@ fn run_all<S: Source, K: Sink, R: Sink, L: Ledger>(
 
 /// Tells the last line, unless the report failed before.
 fn finish<R: Sink>(report: &mut R, stop: Stop) -> Status
-    ensures finishes { Finishes stop result (sunk (R.written report.old) (R.written report.new) (R.faults report.old) (R.faults report.new)) }
+    ensures finishes { Finishes stop result (sunk_by R.written R.faults report.old report.new) }
     ensures report { R.faults report.old ≤ R.faults report.new }
 {
     match stop {
@@ -232,7 +218,7 @@ fn finish<R: Sink>(report: &mut R, stop: Stop) -> Status
 
 /// Tells the last line, and answers its status, or the write fault where the report fails.
 pub fn tell_status<R: Sink>(report: &mut R, status: Status, lines: u32) -> Status
-    ensures tells { Tells status (last_line status lines) result (sunk (R.written report.old) (R.written report.new) (R.faults report.old) (R.faults report.new)) }
+    ensures tells { Tells status (last_line status lines) result (sunk_by R.written R.faults report.old report.new) }
     ensures report { R.faults report.old ≤ R.faults report.new }
 {
     match tell_last(report, &status, lines) {
@@ -243,7 +229,7 @@ pub fn tell_status<R: Sink>(report: &mut R, status: Status, lines: u32) -> Statu
 
 /// Tells what stands at the end of a generated script, and answers that it was run, or the write fault where the report fails.
 fn tell_sums<R: Sink>(report: &mut R, summary: Summary) -> Status
-    ensures tells { Tells Status.Done (summary_of summary) result (sunk (R.written report.old) (R.written report.new) (R.faults report.old) (R.faults report.new)) }
+    ensures tells { Tells Status.Done (summary_of summary) result (sunk_by R.written R.faults report.old report.new) }
     ensures report { R.faults report.old ≤ R.faults report.new }
 {
     match tell_summary(report, summary) {

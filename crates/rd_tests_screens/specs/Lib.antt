@@ -1,1 +1,2 @@
 pub mod Panes
+pub mod Positions

@@ -10,3 +10,12 @@ pub fn assert_of(rt: &impl Abort, line: &str, holds: bool) {
 pub fn assert_at(rt: &impl Abort, pos: u32, holds: bool) {
     assert!(rt; holds, "at {pos}");
 }
+
+/// Asserts what is to hold of each row of a table, which is a line and a word that belongs to it.
+pub fn assert_each<F: Fn(&str, &str) -> bool>(rt: &impl Abort, table: &[(&str, &str)], holds: F)
+    requires { F.IsAlwaysCallable holds }
+{
+    for (line, word) in table {
+        assert_of(rt, line, holds(line, word));
+    }
+}

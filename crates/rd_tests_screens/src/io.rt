@@ -1,11 +1,12 @@
 //! Sources, files, sinks and lines on plain cases, at their limits, and over the system's streams and files.
 use crate::claims::assert_of;
 use rd_io::{
-    Failed, FileFault, Files, HostFiles, LineFault, Lines, MemFiles, MemSink, MemSource, Source,
-    StdSink, StdSource, read_file, write_whole,
+    Failed, FileFault, Files, HostFiles, LineFault, Lines, MemFiles, MemSink, MemSource, Piece,
+    Sink, Source, StdSink, StdSource, read_file, write_whole,
 };
 use std::alloc::Global;
 use std::fs;
+use std::process::Abort;
 use std::test::Fail;
 
 /// A source in memory, of whose calls those with these numbers fail.
@@ -134,6 +135,21 @@ fn a_sink_takes_what_fits(rt: HostRuntime) -> Result<(), Fail> {
         (b"c", Ok(())),
     ];
     assert!(rt; takes(&mut broken, &writes, b"ac"));
+    Ok(())
+}
+
+/// Asserts that a piece holds these bytes and then no more.
+fn assert_full(rt: &impl Abort, bytes: &[u8]) {
+    let mut piece = Piece::new();
+    assert!(rt; write_whole(&mut piece, bytes).is_ok());
+    assert!(rt; piece.write(b"x").is_err());
+    assert!(rt; piece.bytes() == bytes);
+}
+
+#[test]
+fn a_piece_holds_8_192_bytes(rt: HostRuntime) -> Result<(), Fail> {
+    let bytes = letters(rt.alloc(), 8192)?;
+    assert_full(&rt, bytes.as_slice());
     Ok(())
 }
 

@@ -1,7 +1,13 @@
 //! States, and what ops make of them.
+ghost use Rattle.std.specs.Prelude.{◌≡◌, IsSome, true};
+ghost use Rattle.rd_state.specs.Shown.{IsShownAt};
+ghost use Rattle.rd_state.specs.Windows.{window_of};
+ghost use Rattle.rd_tests_screens.specs.Positions.{HasPosition};
+
 use crate::claims::assert_of;
 use crate::scene::{accepts, is_accepted, is_scene, ops, runs};
-use rd_state::State;
+use rd_base::Anchor;
+use rd_state::{State, WindowState};
 use std::alloc::Global;
 use std::process::Abort;
 use std::test::Fail;
@@ -120,5 +126,68 @@ fn points_move_with_the_text(rt: HostRuntime) -> Result<(), Fail> {
     ] {
         assert_of(&rt, line, points_after(rt.alloc(), line)? == Some(points));
     }
+    Ok(())
+}
+
+/// Whether a buffer has a position that is accessible.
+fn has_position(state: &State, buffer: u32, pos: u32) -> bool
+    ensures { result ≡ true → HasPosition state.now buffer pos }
+{
+    match state.buffer(buffer) {
+        Some(buffer) => buffer.text.begin() <= pos && pos <= buffer.text.end(),
+        None => false,
+    }
+}
+
+/// Whether a window lives, and a position is accessible in the buffer that it shows.
+fn shows(state: &State, number: u32, pos: u32) -> bool
+    ensures lives { result ≡ true → IsSome (window_of number state.now.windows) }
+    ensures shown { result ≡ true → IsShownAt state.now number pos }
+{
+    match state.window(number) {
+        Some(window) => has_position(state, window.buffer, pos),
+        None => false,
+    }
+}
+
+/// Settles a window where it lives and the buffer that it shows has both positions, and answers whether that is so.
+fn settles(state: &mut State, number: u32, anchor: Anchor, point: u32) -> bool {
+    if shows(state, number, anchor.pos) && shows(state, number, point) {
+        state.settle(number, anchor, point);
+        return true;
+    }
+    false
+}
+
+/// Whether a window's view begins at a position and a row, whether by command, and how many rows wait to be scrolled.
+fn views(window: Option<&WindowState>, anchor: Anchor, forced: bool, pending: i64) -> bool {
+    match window {
+        Some(window) => {
+            (window.anchor.pos, window.anchor.row) == (anchor.pos, anchor.row)
+                && window.forced == forced
+                && window.pending == pending
+        }
+        None => false,
+    }
+}
+
+/// Asserts that settling one of two windows that wait to be scrolled ends its wait, and leaves the other one.
+fn assert_settled(rt: &impl Abort, state: &mut State, alloc: Global) {
+    let first = r#"{"op":"scroll","window":0,"rows":3}"#;
+    let second = r#"{"op":"scroll","window":1,"rows":-4}"#;
+    let opening = Anchor { pos: 1, row: 0 };
+    let settled = Anchor { pos: 2, row: 5 };
+    assert!(rt; runs(state, alloc, &TWINS) && runs(state, alloc, &[first, second]));
+    assert!(rt; views(state.window(0), opening, true, 3));
+    assert!(rt; settles(state, 0, settled, 6));
+    assert!(rt; views(state.window(0), settled, false, 0));
+    assert!(rt; views(state.window(1), opening, true, -4));
+    assert!(rt; points(state) == Some((6, 2)));
+}
+
+#[test]
+fn a_window_is_settled(rt: HostRuntime) -> Result<(), Fail> {
+    let mut state = State::new(rt.alloc())?;
+    assert_settled(&rt, &mut state, rt.alloc());
     Ok(())
 }

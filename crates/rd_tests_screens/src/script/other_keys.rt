@@ -1,0 +1,49 @@
+//! Lines with keys that the op does not have.
+use super::ops::OPS;
+use super::{faults, has_fault};
+use crate::claims::assert_each;
+use std::alloc::{AllocError, Global};
+
+/// Lines with such keys, and the first of them in byte order.
+const EXTRA: [(&'static str, &'static str); 7] = [
+    (r#"{"op":"buffer","name":"a","buffer":"a"}"#, "buffer"),
+    (r#"{"op":"widen","y":1,"buffer":"a","x":1}"#, "x"),
+    (r#"{"op":"widen","b":1,"buffer":"a","é":1,"a":null}"#, "a"),
+    (r#"{"op":"widen","buffer":"a","é":1}"#, "é"),
+    (r#"{"op":"widen","buffer":"a","":1}"#, ""),
+    (
+        r#"{"op":"wrap","window":0,"mode":"continue","Mode":1}"#,
+        "Mode",
+    ),
+    (r#"{"op":"redisplay","stop":0,"x":1}"#, "x"),
+];
+
+#[test]
+fn the_first_other_key_is_told(rt: HostRuntime) {
+    assert_each(
+        &rt,
+        &EXTRA,
+        |line, key| faults(rt.alloc(), line, "Extra", key),
+    );
+}
+
+/// A line with one member more.
+fn with_member(alloc: Global, line: &[u8]) -> Result<Vec<u8>, AllocError> {
+    let mut more = Vec::new(alloc);
+    more.extend_from_slice(&line[..line.len().saturating_sub(1)])?;
+    more.extend_from_slice(b",\"other\":1}")?;
+    Ok(more)
+}
+
+/// Whether a line with one member more is refused for its key.
+fn takes_no_other(alloc: Global, line: &str) -> bool {
+    match with_member(alloc, line.as_bytes()) {
+        Ok(more) => has_fault(alloc, more.as_slice(), "Extra", "other"),
+        Err(_) => false,
+    }
+}
+
+#[test]
+fn no_op_takes_another_key(rt: HostRuntime) {
+    assert_each(&rt, &OPS, |line, _name| takes_no_other(rt.alloc(), line));
+}
