@@ -148,6 +148,38 @@ const NONE: Calls = Calls {
     report: 0,
 };
 
+/// The calls of which one read fails.
+fn read(call: u64) -> Calls {
+    Calls {
+        source: call,
+        ..NONE
+    }
+}
+
+/// The calls of which one fetch fails.
+fn fetch(call: u64) -> Calls {
+    Calls {
+        files: call,
+        ..NONE
+    }
+}
+
+/// The calls of which one write of the screen fails.
+fn send(call: u64) -> Calls {
+    Calls {
+        screen: call,
+        ..NONE
+    }
+}
+
+/// The calls of which one write of the report fails.
+fn tell(call: u64) -> Calls {
+    Calls {
+        report: call,
+        ..NONE
+    }
+}
+
 /// Room that is enough for the bytes of a screen or of a report here.
 const AMPLE: u64 = 16_384;
 

@@ -1,6 +1,8 @@
 //! Runs whose devices fail: the script, the files, the screen or the report, at each of their calls.
 
-use super::{CASES, Calls, NONE, Trace, assert_trace, played, played_from, source};
+use super::{
+    CASES, Calls, NONE, Trace, assert_trace, fetch, played, played_from, read, send, source, tell,
+};
 use std::alloc::Global;
 use std::test::Fail;
 
@@ -97,38 +99,6 @@ const PAIRS: [(Calls, &'static [u8], &'static [u8], u8); 4] = [
         6,
     ),
 ];
-
-/// The calls of which one read fails.
-fn read(call: u64) -> Calls {
-    Calls {
-        source: call,
-        ..NONE
-    }
-}
-
-/// The calls of which one fetch fails.
-pub fn fetch(call: u64) -> Calls {
-    Calls {
-        files: call,
-        ..NONE
-    }
-}
-
-/// The calls of which one write of the screen fails.
-pub fn send(call: u64) -> Calls {
-    Calls {
-        screen: call,
-        ..NONE
-    }
-}
-
-/// The calls of which one write of the report fails.
-pub fn tell(call: u64) -> Calls {
-    Calls {
-        report: call,
-        ..NONE
-    }
-}
 
 #[test]
 fn each_read_may_fail(rt: HostRuntime) -> Result<(), Fail> {

@@ -1,7 +1,9 @@
 //! A script with every op whose devices fail at each of their calls.
 
-use super::devices::{fetch, send, tell};
-use super::{AMPLE, Calls, NONE, OneByOne, Trace, assert_trace, played, played_from, source};
+use super::{
+    AMPLE, Calls, NONE, OneByOne, Trace, assert_trace, fetch, played, played_from, send, source,
+    tell,
+};
 use std::alloc::Global;
 use std::process::Abort;
 use std::test::Fail;
