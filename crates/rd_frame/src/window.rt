@@ -70,6 +70,20 @@ fn paint_below(screen: &mut Screen, window: Placed, border: &Cell, from: u32)
     ensures columns { width_of screen.new.rows ≡ width_of screen.old.rows }
     ensures rows { length screen.new.rows ≡ length screen.old.rows }
 {
+    if from == body_height(window) {
+        return;
+    }
+    paint_blanks(screen, window, border, from);
+}
+
+/// Paints blank rows of a window's text, from one on, out of as many blank cells as the widest row has.
+fn paint_blanks(screen: &mut Screen, window: Placed, border: &Cell, from: u32)
+    requires stands { StandsOn window screen.old.rows }
+    requires from { from ≤ body_height window }
+    ensures painted { screen.new ≡ record screen.old { rows = laid_from (window.rect.y + from) window.rect.x (map (bordered (width_of screen.old.rows) window border.now) (replicate (body_height window - from) (blank_row (window.margins + body_width (width_of screen.old.rows) window)))) screen.old.rows } }
+    ensures columns { width_of screen.new.rows ≡ width_of screen.old.rows }
+    ensures rows { length screen.new.rows ≡ length screen.old.rows }
+{
     let blanks = [Cell::Blank(Face::PLAIN); 400];
     let blank = first(&blanks, window.margins + body_width(screen.width(), window));
     for row in from..body_height(window) {

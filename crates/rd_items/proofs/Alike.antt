@@ -1,47 +1,59 @@
--- Positions up to the next stop are shown alike.
-use Rattle.std.proofs.Common.{◌≡◌, ◌⊎◌, inl, inr, ℕ, ◌<◌, ◌≤◌, [], sym, ap, ◌∙◌, arith}
+-- Positions up to the next stop are shown alike, and so are those from the last.
+use Rattle.std.proofs.Common.{◌≡◌, ◌⊎◌, inl, inr, ℕ, ◌+◌, ◌-◌, ◌<◌, ◌≤◌, sym, ap, ◌∙◌, arith}
 use Rattle.rd_base.specs.declared.settings.Invisible.{Invisible}
 use Rattle.rd_objects.specs.Things.{ObjectLists}
 use Rattle.rd_props.specs.Appearance.{hidden_by}
 use Rattle.rd_props.specs.Buffers.{BufferValue}
-use Rattle.rd_props.specs.Stops.{IsNextStop, LookAlike}
-use Rattle.rd_props.specs.Strings.{strings_at}
+use Rattle.rd_props.specs.Stops.{IsNextStop, IsLastStop, LookAlike}
 use Rattle.rd_props.specs.declared.appearance.Appearance.{Appearance}
 use Rattle.rd_items.specs.Readings.{showing_at}
 use Rattle.rd_items.specs.Stretches.{IsStretch, IsStopBehind}
 use Rattle.rd_items.specs.declared.showing.Showing.{Showing}
 
--- what is known of the positions before the next stop
-abbrev StopLaw : Type 0
-StopLaw = (s : BufferValue) (objects : ObjectLists) (pos stop : ℕ) → IsNextStop s pos stop → LookAlike s objects pos stop
-
 -- how a position that looks like this is shown
 abbrev shown_as : Invisible → Appearance → Showing
 shown_as setting a = record { display = a.display; hidden = hidden_by setting a; face = a.face }
 
-module _ (law : StopLaw) (s : BufferValue) (o : ObjectLists) (p stop : ℕ) (behind : IsStopBehind s p stop) where
-  alike-from : (showing : Showing) → showing ≡ showing_at s o p → (q : ℕ) → p ≤ q → q < stop → showing_at s o q ≡ showing
-  alike-from showing same q first before = by-place behind (split p q first) where
-    split : (p q : ℕ) → p ≤ q → (q ≡ p) ⊎ (p < q)
-    split p q first = grind arith
+module _ (s : BufferValue) (o : ObjectLists) (first stop : ℕ) (look : LookAlike s o first stop) where
+  -- the positions up to a stop are shown as the first is
+  as-first : (q : ℕ) → first ≤ q → q < stop → showing_at s o q ≡ showing_at s o first
+  as-first q low before = by-place (split low) where
+    split : first ≤ q → (q ≡ first) ⊎ (first < q)
+    split low = grind arith
 
-    by-place : IsStopBehind s p stop → (q ≡ p) ⊎ (p < q) → showing_at s o q ≡ showing
-    by-place behind (inl e) = rw e (sym same)
-    by-place (inl next) (inr later) = ap (shown_as s.settings.invisible) ((law s o p stop next).appearance q later before) ∙ sym same
-    by-place (inr end) (inr later) = absurd (omega arith)
+    by-place : (q ≡ first) ⊎ (first < q) → showing_at s o q ≡ showing_at s o first
+    by-place (inl e) = rw e
+    by-place (inr later) = ap (shown_as s.settings.invisible) (look.appearance q later before)
 
-  bare-from : (q : ℕ) → p < q → q < stop → strings_at s q ≡ []
-  bare-from q later before = by-end behind where
-    by-end : IsStopBehind s p stop → strings_at s q ≡ []
-    by-end (inl next) = (law s o p stop next).strings q later before
-    by-end (inr end) = absurd (omega arith)
+  -- and as any of them
+  alike-stretch : (p : ℕ) (showing : Showing) → first ≤ p → p < stop → (first < s.text.end → stop ≤ s.text.end) → showing ≡ showing_at s o p → IsStretch s o (record { from = first; until = stop; showing = showing })
+  alike-stretch p showing low before within same = record {
+    within = within;
+    alike = λ q a b. as-first q a b ∙ (sym (as-first p low before) ∙ sym same);
+    bare = look.strings;
+  }
 
-  within-from : p < s.text.end → stop ≤ s.text.end
-  within-from before = by-end behind where
-    by-end : IsStopBehind s p stop → stop ≤ s.text.end
-    by-end (inl next) = next.within
-    by-end (inr end) = absurd (omega arith)
+-- what is known of the positions before the next stop
+abbrev StopLaw : Type 0
+StopLaw = (s : BufferValue) (objects : ObjectLists) (pos stop : ℕ) → IsNextStop s pos stop → LookAlike s objects pos stop
 
-  -- the positions up to where a stretch ends
-  pub stretch-from : (showing : Showing) → showing ≡ showing_at s o p → IsStretch s o (record { from = p; until = stop; showing = showing })
-  stretch-from showing same = record { within = within-from; alike = alike-from showing same; bare = bare-from }
+-- the positions up to where a stretch from a position ends
+pub stretch-from : StopLaw → (s : BufferValue) (o : ObjectLists) (p stop : ℕ) → IsStopBehind s p stop → (showing : Showing) → showing ≡ showing_at s o p → IsStretch s o (record { from = p; until = stop; showing = showing })
+stretch-from law s o p stop (inl next) showing same =
+    let later = next.later in
+    alike-stretch s o p stop (law s o p stop next) p showing (omega arith) later (λ less. next.within) same
+stretch-from law s o p stop (inr end) showing same =
+    let one = end.1 in
+    alike-stretch s o p stop (record { appearance = λ q later before. absurd (omega arith); strings = λ q later before. absurd (omega arith) }) p showing (omega arith) (omega arith) (λ less. absurd (omega arith)) same
+
+-- what is known of the positions from the last stop on
+abbrev LastLaw : Type 0
+LastLaw = (s : BufferValue) (objects : ObjectLists) (pos stop : ℕ) → pos < s.text.end → IsLastStop s pos stop → LookAlike s objects stop (pos + 1)
+
+-- the positions from where a stretch before a position begins
+pub stretch-before : LastLaw → (s : BufferValue) (o : ObjectLists) (until from : ℕ) → s.text.begin < until → until ≤ s.text.end → IsLastStop s (until - 1) from → (showing : Showing) → showing ≡ showing_at s o (until - 1) → IsStretch s o (record { from = from; until = until; showing = showing })
+stretch-before law s o until from low high last showing same =
+    let before = last.before in
+    let place : until - 1 + 1 ≡ until = omega arith in
+    let look = rw place at (law s o (until - 1) from (omega arith) last) in
+    alike-stretch s o from until look (until - 1) showing before (omega arith) (λ less. high) same

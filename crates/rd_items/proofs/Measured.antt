@@ -20,8 +20,14 @@ use Rattle.rd_items.specs.declared.piece.Piece.{Piece}
 use Rattle.rd_items.specs.declared.item.Item.{Item}
 use Rattle.rd_items.specs.declared.item.ItemKind.{ItemKind}
 use Rattle.rd_items.specs.Readings.{showing_of, HaveCodes}
-use Rattle.rd_items.specs.Pieces.{Scene, string_pieces, string_piece, spec_in, spec_piece, open_piece, char_piece, ender_piece, piece_by, piece_at, run_in, pieces_from, IsMeasuredKind, IsMeasuredPiece}
+use Rattle.rd_items.specs.Pieces.{Scene, string_pieces, string_piece, spec_in, spec_piece, open_piece, char_piece, ender_piece, piece_by, piece_at, run_in, pieces_from, IsMeasuredKind}
 use Rattle.rd_items.specs.Items.{piece_joins, items_by, item_of, covered_to, covering, items_of, AreMeasuredItems}
+
+-- the glyphs of a piece are measured, and its mark is one
+record IsMeasuredPiece (x : Piece) : Type 0 where
+  kind : IfSome x.kind IsMeasuredKind
+  base : IfSome x.base (λ g. IsMeasured g)
+  mark : IfSome x.mark (λ code. IsMark code)
 
 abbrev AreMeasuredPieces : List Piece → Type 0
 AreMeasuredPieces xs = All IsMeasuredPiece xs

@@ -2,11 +2,11 @@
 use Rattle.std.proofs.Common.{◌≡◌, ◌⊎◌, inl, inr, ℕ, ◌+◌, ◌-◌, ◌<◌, ◌≤◌, Bool, true, false, not, List, length, get_or, reverse, Some, refl, sym, ap, ◌∙◌, arith}
 use Rattle.std.specs.Prelude.{suc, nat_lt, nat_le, ◌&&◌}
 use Rattle.std.specs.List.{position_or_len, suffix_len}
-use Rattle.std.proofs.lemmas.Bool.{not-true}
+use Rattle.std.proofs.lemmas.Bool.{not-true, not-false}
 use Rattle.std.proofs.lemmas.Bool.Decides.{nat_tests}
-use Rattle.std.proofs.lemmas.List.{get_or-reverse}
+use Rattle.std.proofs.lemmas.List.{length-reverse, get_or-reverse}
 use Rattle.std.proofs.lemmas.List.Edits.{length-between, get_or-between}
-use Rattle.std.proofs.lemmas.List.Sums.{passes_at_first, fails_before_first, prefix_len-le-length, prefix_len_passes, suffix_len-le-length}
+use Rattle.std.proofs.lemmas.List.Sums.{passes_at_first, fails_before_first, prefix_len-le-length, prefix_len_passes, prefix_len_stops, suffix_len-le-length}
 use Rattle.std.proofs.lemmas.Option.{slice_get-get_or}
 use Rattle.rd_text.specs.Texts.{IsText, is_newline, between, next_newline, prev_newline}
 use Rattle.rd_objects.specs.Things.{ObjectLists}
@@ -123,13 +123,22 @@ module _ (s : BufferValue) (right : IsText s.text) where
       (not-true _ (ap (λ (c : ℕ). not (is_newline c)) (sym (at s.text.begin pos q (omega arith) (omega arith) b))
       ∙ passes (λ c. not (is_newline c)) xs (q - s.text.begin) (omega arith) (omega arith)))
 
-  -- one step back, over a newline that is not shown
-  pub step-back : (from pos : ℕ) → s.text.begin < from → from ≤ pos → pos ≤ s.text.end → AreInside s from pos → is_shown_newline s (from - 1) ≡ false → AreInside s (prev_newline s.text (from - 1)) pos
-  step-back from pos low order high inside none =
-      let there = prev-inside (from - 1) (omega arith) (omega arith) in
-      let place : suc (from - 1) ≡ from = omega arith in
-      both-inside s (prev_newline s.text (from - 1)) (from - 1) pos there
-      (both-inside s (from - 1) from pos (rw place at (one-inside s (from - 1) none)) inside)
+  stops : (p : ℕ → Bool) (xs : List ℕ) → suffix_len p xs < length xs → p (get_or xs (length xs - 1 - suffix_len p xs) 0) ≡ false
+  stops p xs less =
+      let all = length-reverse xs in
+      ap p (sym (get_or-reverse xs (suffix_len p xs) 0 less)) ∙ prefix_len_stops p (reverse xs) 0 (omega arith)
+
+  -- it is a newline
+  pub prev-newline : (pos : ℕ) → s.text.begin ≤ pos → pos ≤ s.text.end → s.text.begin < prev_newline s.text pos → ends_line (accessible_char s.text (prev_newline s.text pos - 1)) ≡ true
+  prev-newline pos low high some =
+      let xs = between s.text s.text.begin pos in
+      let all = size s.text.begin pos (omega arith) low high in
+      let k : ℕ = prev_newline s.text pos - 1 in
+      let place : length xs - 1 - suffix_len (λ c. not (is_newline c)) xs ≡ k - s.text.begin = omega arith in
+      let none = stops (λ c. not (is_newline c)) xs (omega arith) in
+      ap ends_line (here k (omega arith) (omega arith))
+      ∙ (ap is_newline (sym (at s.text.begin pos k (omega arith) (omega arith) (omega arith)))
+      ∙ (ap (λ (n : ℕ). is_newline (get_or xs n 0)) (sym place) ∙ not-false _ none))
 
 -- a stretch that is replaced or hidden has no shown newline
 closed-inside : (s : BufferValue) (o : ObjectLists) (stretch : Stretch) → IsStretch s o stretch → is_open stretch.showing ≡ false → AreInside s stretch.from stretch.until
@@ -144,9 +153,16 @@ step-on s o stretch pos newline right is from some within low order closed insid
     let there = next-inside s right stretch.until (omega arith) within in
     both-inside s pos newline (next_newline s.text stretch.until) inside (both-inside s newline stretch.until (next_newline s.text stretch.until) over there)
 
+-- one step back, over such a stretch
+pub step-back : (s : BufferValue) (o : ObjectLists) (stretch : Stretch) (from pos : ℕ) → IsText s.text → IsStretch s o stretch → stretch.until ≡ from → s.text.begin ≤ stretch.from → stretch.from < from → from ≤ pos → pos ≤ s.text.end → is_open stretch.showing ≡ false → AreInside s from pos → AreInside s (prev_newline s.text stretch.from) pos
+step-back s o stretch from pos right is until low some order high closed inside =
+    let over = rw until at (closed-inside s o stretch is closed) in
+    let there = prev-inside s right stretch.from low (omega arith) in
+    both-inside s (prev_newline s.text stretch.from) stretch.from pos there (both-inside s stretch.from from pos over inside)
+
 -- a newline that is neither replaced nor hidden
-pub open-newline : (s : BufferValue) (o : ObjectLists) (stretch : Stretch) (newline : ℕ) → IsStretch s o stretch → stretch.from ≡ newline → newline < stretch.until → newline < s.text.end → is_open stretch.showing ≡ true → ends_line (accessible_char s.text newline) ≡ true → is_shown_newline s newline ≡ true
+pub open-newline : (s : BufferValue) (o : ObjectLists) (stretch : Stretch) (newline : ℕ) → IsStretch s o stretch → stretch.from ≤ newline → newline < stretch.until → newline < s.text.end → is_open stretch.showing ≡ true → ends_line (accessible_char s.text newline) ≡ true → is_shown_newline s newline ≡ true
 open-newline s o stretch newline is from some inside shown ends =
-    let here : is_open (showing_at s o newline) ≡ true = ap is_open (is.alike newline (omega arith) some) ∙ shown in
+    let here : is_open (showing_at s o newline) ≡ true = ap is_open (is.alike newline from some) ∙ shown in
     let before : nat_lt newline s.text.end ≡ true = grind (arith, nat_tests) in
     both-hold _ _ before (both-hold _ _ here ends)

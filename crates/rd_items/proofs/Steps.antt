@@ -1,6 +1,6 @@
 -- One step over the positions of a block.
-use Rattle.std.proofs.Common.{◌≡◌, ℕ, ◌+◌, ◌-◌, ◌<◌, ◌≤◌, Bool, true, false, List, [], ◌∷◌, ◌++◌, refl, sym, ap, ◌∙◌, arith}
-use Rattle.std.specs.Prelude.{zero, suc, if◌then◌else◌}
+use Rattle.std.proofs.Common.{◌≡◌, ℕ, ◌+◌, ◌-◌, ◌<◌, ◌≤◌, Bool, true, false, List, [], ◌∷◌, ◌++◌, Option, refl, sym, ap, ◌∙◌, arith}
+use Rattle.std.specs.Prelude.{zero, suc, ◌&&◌, if◌then◌else◌}
 use Rattle.rd_base.specs.declared.settings.Invisible.{Invisible}
 use Rattle.rd_ucd.specs.Data.{Data}
 use Rattle.rd_objects.specs.Things.{ObjectLists}
@@ -10,7 +10,7 @@ use Rattle.rd_props.specs.Seen.{Seen, seen_at, accessible_char}
 use Rattle.rd_items.specs.declared.showing.Showing.{Showing}
 use Rattle.rd_items.specs.declared.piece.Piece.{Piece}
 use Rattle.rd_items.specs.declared.item.Item.{Item}
-use Rattle.rd_items.specs.Readings.{showing_of, showing_at, is_open, ends_block, reading_from, reading, behind}
+use Rattle.rd_items.specs.Readings.{showing_of, showing_at, is_open, ends_line, ends_block, reading_from, reading, behind}
 use Rattle.rd_items.specs.Pieces.{Scene, scene_in, string_pieces, piece_at, goes_on, run_length, pieces_from}
 use Rattle.rd_items.specs.Walks.{pieces_left}
 use Rattle.rd_items.proofs.Reach.{end-ends}
@@ -127,6 +127,10 @@ made : (s : BufferValue) (o : ObjectLists) (d : Data) (start p to : ℕ) (showin
 made s o d start p to showing x before mid after xs is =
     let goes = goes-to s o d start p to showing x before mid after is in
     is.put xs ∙ is.strings (x ∷ xs) ∙ rw (is.piece, is.shown, goes.1)
+
+-- a position that is shown in a way and has a character ends a block exactly where these do
+pub is-ender : (s : BufferValue) (o : ObjectLists) (p : ℕ) (showing : Showing) (ch : Option ℕ) (ends : Bool) → showing ≡ showing_at s o p → ch ≡ accessible_char s.text p → (is_open showing && ends_line ch) ≡ ends → ends_block s p ≡ ends
+is-ender s o p showing ch ends shown here e = rw (shown, here) at e
 
 pub step-ends : (s : BufferValue) (o : ObjectLists) (d : Data) (start p to : ℕ) (showing : Showing) (x : Piece) (before mid after : List Piece → List Item) → IsStep s o d start p to showing x before mid after → ends_block s p ≡ true → after [] ≡ before (pieces_left s (scene s o d) start p)
 step-ends s o d start p to showing x before mid after is ender =

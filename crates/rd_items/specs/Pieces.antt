@@ -1,5 +1,5 @@
 -- The pieces of a block: what its positions give, before marks join and ranges are handed on. Places are offsets in what is read.
-use Rattle.std.specs.Prelude.{ℕ, zero, suc, ◌+◌, ◌==◌, Bool, true, false, not, ◌||◌, ◌&&◌, if◌then◌else◌, List, [], ◌∷◌, ◌++◌, slice_get, map, Option, None, Some, IfSome}
+use Rattle.std.specs.Prelude.{ℕ, zero, suc, ◌+◌, ◌==◌, Bool, true, false, not, ◌||◌, ◌&&◌, if◌then◌else◌, List, [], ◌∷◌, ◌++◌, slice_get, map, Option, None, Some}
 use Rattle.std.specs.Option.{unwrap_or, option_and_then}
 use Rattle.rd_base.specs.declared.class.Class.{Class}
 use Rattle.rd_base.specs.declared.class.Class.TheVariants.{B, S, ON}
@@ -17,7 +17,7 @@ use Rattle.rd_objects.specs.Tables.{TableValue}
 use Rattle.rd_objects.specs.Texts.{TextValue}
 use Rattle.rd_objects.specs.Things.{ObjectLists}
 use Rattle.rd_glyphs.specs.Characters.{PartValues, entry_of}
-use Rattle.rd_glyphs.specs.Joining.{is_empty_entry, joining_of, base_of, mark_of, IsMark}
+use Rattle.rd_glyphs.specs.Joining.{is_empty_entry, joining_of, base_of, mark_of}
 use Rattle.rd_glyphs.specs.declared.joining.Joining.{Joining}
 use Rattle.rd_glyphs.specs.declared.joining.Joining.TheVariants as joining
 use Rattle.rd_props.specs.Buffers.{meaning}
@@ -182,9 +182,3 @@ pieces_from s zero k (e ∷ es) =
 abbrev pub IsMeasuredKind : ItemKind → Type 0
 IsMeasuredKind (kind.Marked g) = IsMeasured g
 IsMeasuredKind kind = Unit {0}
-
--- the glyphs of a piece are measured, and its mark is one
-pub record IsMeasuredPiece (x : Piece) : Type 0 where
-  pub kind : IfSome x.kind IsMeasuredKind
-  pub base : IfSome x.base (λ g. IsMeasured g)
-  pub mark : IfSome x.mark (λ code. IsMark code)

@@ -1,11 +1,11 @@
 -- The walk over the positions of a block that makes its items.
-use Rattle.std.specs.Prelude.{◌≡◌, ℕ, ◌-◌, ◌<◌, ◌≤◌, List, [], ◌++◌, Option, None, Some, IfSome, Result, Ok, Err}
+use Rattle.std.specs.Prelude.{◌≡◌, ℕ, Bool, true, false, ◌-◌, ◌<◌, ◌≤◌, List, [], ◌∷◌, ◌++◌, Option, None, Some, Result, Ok, Err}
 use Rattle.rd_base.specs.declared.memory.Memory.{Memory}
-use Rattle.rd_glyphs.specs.Marks.{with_held}
+use Rattle.rd_glyphs.specs.Marks.{marked, with_held}
 use Rattle.rd_props.specs.Buffers.{BufferValue}
 use Rattle.rd_items.specs.Readings.{reading}
-use Rattle.rd_items.specs.Pieces.{Scene, pieces_from, IsMeasuredPiece}
-use Rattle.rd_items.specs.Items.{piece_joins, covering, AreMeasuredItems}
+use Rattle.rd_items.specs.Pieces.{Scene, pieces_from}
+use Rattle.rd_items.specs.Items.{piece_joins, covering}
 use Rattle.rd_items.specs.declared.item.Item.{Item}
 use Rattle.rd_items.specs.declared.piece.Piece.{Piece}
 
@@ -25,7 +25,12 @@ Steps (Ok (Some next)) s scene start p before after =
     (p < next) × (next ≤ s.text.end) × (after (pieces_left s scene start next) ≡ before (pieces_left s scene start p))
 Steps (Err stop) s scene start p before after = Unit {0}
 
--- the glyphs of the items that are made are measured, and so are those of the piece that is held
-pub record IsMeasuredWalk (items : List Item) (held : Option Piece) : Type 0 where
-  pub made : AreMeasuredItems items
-  pub last : IfSome held IsMeasuredPiece
+-- whether the mark of the next piece joins one, which is changed then alone
+abbrev pub TakesMark : Bool → Piece → Piece → Piece → Type 0
+TakesMark true old new next = marked piece_joins old next ≡ Some new
+TakesMark false old new next = (marked piece_joins old next ≡ None) × (new ≡ old)
+
+-- the same of a piece that may be held
+abbrev pub TakesMarkIn : Bool → Option Piece → Option Piece → Piece → Type 0
+TakesMarkIn true old new next = (xs : List Piece) → with_held piece_joins new xs ≡ with_held piece_joins old (next ∷ xs)
+TakesMarkIn false old new next = (new ≡ old) × ((held : Piece) → old ≡ Some held → marked piece_joins held next ≡ None)

@@ -4,23 +4,13 @@ ghost use Rattle.rd_text.specs.Texts.{IsAccessible};
 ghost use Rattle.rd_props.specs.Buffers.{meaning};
 ghost use Rattle.rd_items.specs.Blocks.{is_shown_newline, StartsBlock, IsBlock, IsBlockAt, IsLastStart, IsFirstEnd};
 
-use crate::showing::{ends_block, showing_at};
-use crate::stretch::stretch_at;
+use crate::stretch::{stretch_at, stretch_before};
 use rd_base::{Memory, Pos};
 use rd_props::View;
 use std::alloc::Global;
 
-/// Whether an accessible position before the end has a newline that is neither replaced nor hidden.
-fn is_shown_newline(alloc: Global, view: &View, pos: Pos) -> Result<bool, Memory>
-    requires first { view.now.state.now.text.begin ≤ pos }
-    requires last { pos < view.now.state.now.text.end }
-    ensures { IfOk result (λ shown. shown ≡ is_shown_newline (meaning view.now.state.now) pos) }
-{
-    let showing = showing_at(alloc, view, pos)?;
-    Ok(ends_block(view, pos, &showing))
-}
-
-/// The first position of the block that holds a position. Properties are looked up for newlines alone.
+/// The first position of the block that holds a position. Properties are looked up for newlines alone, and once for all of a
+/// stretch that hides or replaces them.
 fn block_start(alloc: Global, view: &View, pos: Pos) -> Result<Pos, Memory>
     requires { IsAccessible view.now.state.now.text pos }
     ensures { IfOk result (λ from. IsLastStart (meaning view.now.state.now) pos from) }
@@ -29,10 +19,11 @@ fn block_start(alloc: Global, view: &View, pos: Pos) -> Result<Pos, Memory>
     let begin = state.text.begin();
     let mut from = state.text.prev_newline(pos);
     while begin < from {
-        if is_shown_newline(alloc, view, from - 1)? {
+        let before = stretch_before(alloc, view, from)?;
+        if before.showing.is_open() {
             return Ok(from);
         }
-        from = state.text.prev_newline(from - 1);
+        from = state.text.prev_newline(before.from);
     }
     Ok(from)
 }
@@ -57,7 +48,8 @@ fn block_end(alloc: Global, view: &View, pos: Pos) -> Result<Pos, Memory>
 }
 
 /// The block that holds an accessible position, or the end of the accessible text: its first position, and the position behind
-/// its ender. It costs a pass over the block's characters, and a look-up of the properties at its newlines.
+/// its ender. It costs a pass over the block's characters, and a look-up of the properties at its newlines, and once for all of a
+/// stretch that hides or replaces them.
 pub fn block_at(alloc: Global, view: &View, pos: Pos) -> Result<(Pos, Pos), Memory>
     requires { IsAccessible view.now.state.now.text pos }
     ensures { IfOk result (λ block. IsBlockAt (meaning view.now.state.now) pos block.0 block.1) }

@@ -4,7 +4,7 @@ ghost use Rattle.rd_text.specs.Texts.{IsAccessible};
 ghost use Rattle.rd_props.specs.Buffers.{meaning};
 ghost use Rattle.rd_items.specs.Readings.{reading};
 ghost use Rattle.rd_items.specs.Pieces.{scene_of};
-ghost use Rattle.rd_items.specs.Items.{items_of, AreMeasuredItems};
+ghost use Rattle.rd_items.specs.Items.{items_of};
 
 use crate::item::Item;
 use crate::stretch::Stretch;
@@ -37,7 +37,7 @@ impl Items {
     ghost use Rattle.rd_props.specs.Buffers.{meaning};
     ghost use Rattle.rd_items.specs.Readings.{reading};
     ghost use Rattle.rd_items.specs.Pieces.{scene_of};
-    ghost use Rattle.rd_items.specs.Items.{items_of, AreMeasuredItems};
+    ghost use Rattle.rd_items.specs.Items.{items_of};
 
     /// The items of the block that starts at a position, in order of position; of a position inside a block, those from there
     /// on. It costs a look at each of the block's characters, and the look-ups of the properties and of the overlays' strings
@@ -45,7 +45,6 @@ impl Items {
     pub fn new(alloc: Global, view: &View, start: Pos) -> Result<Items, Memory>
         requires { IsAccessible view.now.state.now.text start }
         ensures value { IfOk result (λ items. items ≡ items_of (scene_of view.now) (reading (meaning view.now.state.now) view.now.objects.now start)) }
-        ensures measured { IfOk result (λ items. AreMeasuredItems items) }
     {
         let list = walk_from(alloc, view, start)?;
         if list.len() > u32::MAX as usize {
@@ -70,13 +69,16 @@ impl Items {
     }
 }
 
-/// The items from a position up to the block's ender.
+/// The most items for which a walk has room before its first step.
+const ROOM: u32 = 1024;
+
+/// The items from a position up to the block's ender. There is room at once for those of a line that is not too long.
 fn walk_from(alloc: Global, view: &View, start: Pos) -> Result<ListOf<Item>, Memory>
     requires { IsAccessible view.now.state.now.text start }
     ensures value { IfOk result (λ items. items ≡ items_of (scene_of view.now) (reading (meaning view.now.state.now) view.now.objects.now start)) }
-    ensures measured { IfOk result (λ items. AreMeasuredItems items) }
 {
-    let mut walk = Walk::new(alloc);
+    let line = view.state.text.next_newline(start) - start;
+    let mut walk = Walk::new(alloc, line.min(ROOM) as usize + 1)?;
     let mut stretch = Stretch::nowhere();
     let mut pos = start;
     while let Some(next) = walk.step(alloc, view, &mut stretch, start, pos)? {

@@ -1,8 +1,7 @@
 //! What positions give before marks join and ranges are handed on.
-ghost use Rattle.std.specs.Prelude.{◌≡◌, ◌<◌, option_map, slice_get, IfSome};
-ghost use Rattle.rd_base.specs.Glyphs.{IsMeasured};
-ghost use Rattle.rd_items.specs.Pieces.{scene_of, table_in, spec_in, gives_element, give_elements, string_gives, ellipsis_gives, inner_class, has_element, char_by, spec_piece, open_piece, piece_at, IsMeasuredPiece};
-ghost use Rattle.rd_glyphs.specs.Joining.{base_of, mark_of, IsMark, IsMeasuredJoining};
+ghost use Rattle.std.specs.Prelude.{◌≡◌, ◌<◌, option_map, slice_get};
+ghost use Rattle.rd_items.specs.Pieces.{scene_of, table_in, spec_in, gives_element, give_elements, string_gives, ellipsis_gives, inner_class, has_element, char_by, spec_piece, open_piece, piece_at};
+ghost use Rattle.rd_glyphs.specs.Joining.{base_of, mark_of};
 
 use crate::item::ItemKind;
 use crate::showing::Showing;
@@ -30,8 +29,8 @@ pub struct Piece {
 }
 
 impl Piece {
-    ghost use Rattle.std.specs.Prelude.{◌≡◌, ◌<◌, IfSome};
-    ghost use Rattle.rd_items.specs.Pieces.{piece, string_piece, ender_piece, IsMeasuredKind, IsMeasuredPiece};
+    ghost use Rattle.std.specs.Prelude.{◌≡◌, ◌<◌};
+    ghost use Rattle.rd_items.specs.Pieces.{piece, string_piece, ender_piece};
 
     /// A piece that marks don't join and that is no overlay's string.
     fn new(
@@ -42,8 +41,7 @@ impl Piece {
         at: u32,
         to: u32,
     ) -> Piece
-        ensures value { result ≡ piece class kind face covers at to }
-        ensures measured { IfSome kind IsMeasuredKind → IsMeasuredPiece result }
+        ensures { result ≡ piece class kind face covers at to }
     {
         Piece {
             class,
@@ -60,8 +58,7 @@ impl Piece {
 
     /// An overlay's string before the position at an offset, where the text has this face.
     pub fn string(at: u32, face: Face, number: u32) -> Piece
-        ensures value { result ≡ string_piece at face number }
-        ensures measured { IsMeasuredPiece result }
+        ensures { result ≡ string_piece at face number }
     {
         Piece {
             class: Class::ON,
@@ -79,8 +76,7 @@ impl Piece {
     /// What ends a block.
     fn ender(face: Face, at: u32) -> Piece
         requires { at < 4294967295 }
-        ensures value { result ≡ ender_piece face at }
-        ensures measured { IsMeasuredPiece result }
+        ensures { result ≡ ender_piece face at }
     {
         Piece::new(Class::B, Some(ItemKind::Ender), face, true, at, at + 1)
     }
@@ -164,8 +160,7 @@ fn ellipsis_gives(parts: &Parts) -> bool
 
 /// The piece of text that a spec replaces.
 fn spec_piece(view: &View, spec: Spec, face: Face, at: u32, to: u32) -> Piece
-    ensures value { result ≡ spec_piece (scene_of view.now) spec face at to }
-    ensures measured { IsMeasuredPiece result }
+    ensures { result ≡ spec_piece (scene_of view.now) spec face at to }
 {
     match spec {
         Spec::Text(number) => Piece::new(
@@ -204,8 +199,7 @@ fn has_element(joining: Joining) -> bool
 
 /// The glyph that marks may join.
 fn base_of(joining: Joining) -> Option<Glyph>
-    ensures value { result ≡ base_of joining }
-    ensures measured { IsMeasuredJoining joining → IfSome result (λ g. IsMeasured g) }
+    ensures { result ≡ base_of joining }
 {
     match joining {
         Joining::Base(glyph) => Some(glyph),
@@ -216,8 +210,7 @@ fn base_of(joining: Joining) -> Option<Glyph>
 
 /// The mark that a character is.
 fn mark_of(joining: Joining) -> Option<u32>
-    ensures value { result ≡ mark_of joining }
-    ensures measured { IsMeasuredJoining joining → IfSome result (λ code. IsMark code) }
+    ensures { result ≡ mark_of joining }
 {
     match joining {
         Joining::Mark(code) => Some(code),
@@ -228,8 +221,7 @@ fn mark_of(joining: Joining) -> Option<u32>
 /// The piece of a character of this class.
 fn char_by(joining: Joining, class: Class, face: Face, ch: Ch, at: u32) -> Piece
     requires { at < 4294967295 }
-    ensures value { result ≡ char_by joining class face ch at }
-    ensures measured { IsMeasuredJoining joining → IsMeasuredPiece result }
+    ensures { result ≡ char_by joining class face ch at }
 {
     Piece {
         class: inner_class(class),
@@ -245,10 +237,9 @@ fn char_by(joining: Joining, class: Class, face: Face, ch: Ch, at: u32) -> Piece
 }
 
 /// The piece of a position that is neither replaced nor hidden.
-fn open_piece(view: &View, face: Face, ch: Option<Ch>, at: u32) -> Piece
+fn open_piece(view: &View, face: Face, ch: &Option<Ch>, at: u32) -> Piece
     requires { at < 4294967295 }
-    ensures value { result ≡ open_piece (scene_of view.now) face ch at }
-    ensures measured { IsMeasuredPiece result }
+    ensures { result ≡ open_piece (scene_of view.now) face ch.now at }
 {
     match ch {
         None => Piece::ender(face, at),
@@ -256,17 +247,16 @@ fn open_piece(view: &View, face: Face, ch: Option<Ch>, at: u32) -> Piece
             if ch.code() == 10 {
                 return Piece::ender(face, at);
             }
-            let joining = parts_of(view).joining(ch);
-            char_by(joining, view.classes.class(ch), face, ch, at)
+            let joining = parts_of(view).joining(*ch);
+            char_by(joining, view.classes.class(*ch), face, *ch, at)
         }
     }
 }
 
 /// The piece of the position at an offset, the first of its run, which ends before another.
-pub fn piece_at(view: &View, showing: &Showing, ch: Option<Ch>, at: u32, to: u32) -> Piece
+pub fn piece_at(view: &View, showing: &Showing, ch: &Option<Ch>, at: u32, to: u32) -> Piece
     requires { at < 4294967295 }
-    ensures value { result ≡ piece_at (scene_of view.now) showing.now ch at to }
-    ensures measured { IsMeasuredPiece result }
+    ensures { result ≡ piece_at (scene_of view.now) showing.now ch.now at to }
 {
     let face = showing.face;
     match (showing.display, showing.hidden) {

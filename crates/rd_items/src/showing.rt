@@ -3,7 +3,7 @@ ghost use Rattle.std.specs.Prelude.{◌≡◌, IfOk};
 ghost use Rattle.rd_text.specs.Texts.{IsAccessible};
 ghost use Rattle.rd_props.specs.Buffers.{meaning};
 ghost use Rattle.rd_props.specs.Seen.{accessible_char};
-ghost use Rattle.rd_items.specs.Readings.{showing_at, ends_line, is_hidden, ends_block};
+ghost use Rattle.rd_items.specs.Readings.{showing_at, ends_line, is_hidden};
 ghost use Rattle.rd_items.specs.Pieces.{same_spec};
 
 use rd_base::{Ch, Face, Memory, Pos};
@@ -39,8 +39,8 @@ fn same_spec(a: Option<u32>, b: Option<u32>) -> bool
 }
 
 /// Whether this is a newline, or the end of the accessible text.
-pub fn ends_line(ch: Option<Ch>) -> bool
-    ensures { result ≡ ends_line ch }
+fn ends_line(ch: &Option<Ch>) -> bool
+    ensures { result ≡ ends_line ch.now }
 {
     match ch {
         None => true,
@@ -49,8 +49,8 @@ pub fn ends_line(ch: Option<Ch>) -> bool
 }
 
 impl Showing {
-    ghost use Rattle.std.specs.Prelude.{◌≡◌};
-    ghost use Rattle.rd_items.specs.Readings.{is_open};
+    ghost use Rattle.std.specs.Prelude.{◌≡◌, ◌&&◌};
+    ghost use Rattle.rd_items.specs.Readings.{is_open, ends_line};
     ghost use Rattle.rd_items.specs.Pieces.{goes_on};
 
     /// Whether the text is neither replaced nor hidden.
@@ -58,6 +58,13 @@ impl Showing {
         ensures { result ≡ is_open self.now }
     {
         self.display.is_none() && !is_hidden(self.hidden)
+    }
+
+    /// Whether a position that is shown in this way and has this character, or is the end of the accessible text, ends a block.
+    pub fn ends_block(&self, ch: &Option<Ch>) -> bool
+        ensures { result ≡ (is_open self.now && ends_line ch.now) }
+    {
+        self.is_open() && ends_line(ch)
     }
 
     /// Whether another position belongs to the run of this one.
@@ -93,13 +100,4 @@ pub fn showing_at(alloc: Global, view: &View, pos: Pos) -> Result<Showing, Memor
         hidden: seen.hidden(&settings.invisible),
         face: seen.face,
     })
-}
-
-/// Whether an accessible position, or the end of the accessible text, that is shown in this way ends a block.
-pub fn ends_block(view: &View, pos: Pos, showing: &Showing) -> bool
-    requires accessible { IsAccessible view.now.state.now.text pos }
-    requires showing { showing.now ≡ showing_at (meaning view.now.state.now) view.now.objects.now pos }
-    ensures { result ≡ ends_block (meaning view.now.state.now) pos }
-{
-    showing.is_open() && ends_line(char_at(view, pos))
 }

@@ -8,7 +8,10 @@ ghost use Rattle.rd_items.specs.Pieces.{run_length};
 
 use crate::showing::{Showing, showing_at};
 use rd_base::{Face, Memory, Pos};
-use rd_props::{Hidden, View, next_stop, nothing_changes_before_the_next_stop};
+use rd_props::{
+    Hidden, View, last_stop, next_stop, nothing_changes_before_the_next_stop,
+    nothing_changes_behind_the_last_stop,
+};
 use std::alloc::Global;
 
 /// How the positions from `from` to `until - 1` are shown; no string stands before any of them but the first.
@@ -77,6 +80,25 @@ pub fn stretch_at(alloc: Global, view: &View, pos: Pos) -> Result<Stretch, Memor
     Ok(Stretch {
         from: pos,
         until: stop_behind(view, pos),
+        showing,
+    })
+}
+
+/// The stretch before a position behind the beginning of the accessible text, from where a property changes or an overlay starts or
+/// ends up to that position, which is not one of its own.
+pub fn stretch_before(alloc: Global, view: &View, until: Pos) -> Result<Stretch, Memory>
+    requires first { view.now.state.now.text.begin < until }
+    requires last { until ≤ view.now.state.now.text.end }
+    ensures within { IfOk result (λ stretch. view.now.state.now.text.begin ≤ stretch.from) }
+    ensures some { IfOk result (λ stretch. stretch.from < until) }
+    ensures last { IfOk result (λ stretch. stretch.until ≡ until) }
+    ensures shown { IfOk result (λ stretch. IsStretch (meaning view.now.state.now) view.now.objects.now stretch) }
+{
+    nothing_changes_behind_the_last_stop();
+    let showing = showing_at(alloc, view, until - 1)?;
+    Ok(Stretch {
+        from: last_stop(view, until - 1),
+        until,
         showing,
     })
 }

@@ -1,14 +1,12 @@
 //! The walk over a block: marks join, and ranges are handed on.
-ghost use Rattle.std.specs.Prelude.{◌≡◌, IfSome};
-ghost use Rattle.rd_base.specs.Glyphs.{IsMeasured};
-ghost use Rattle.rd_glyphs.specs.Joining.{IsMark};
-ghost use Rattle.rd_glyphs.specs.Marks.{marked_glyph, marked};
-ghost use Rattle.rd_items.specs.Items.{piece_joins, item_of};
-ghost use Rattle.rd_items.specs.Pieces.{IsMeasuredPiece};
+ghost use Rattle.std.specs.Prelude.{◌≡◌};
+ghost use Rattle.rd_glyphs.specs.Marks.{marked_glyph};
+ghost use Rattle.rd_items.specs.Items.{item_of};
+ghost use Rattle.rd_items.specs.Walks.{TakesMark};
 
 use crate::item::{Item, ItemKind};
 use crate::piece::{Piece, piece_at};
-use crate::showing::{Showing, char_at, ends_block};
+use crate::showing::{Showing, char_at};
 use crate::stretch::{Stretch, run_end};
 use rd_base::{Face, Glyph, ListOf, Memory, Pos};
 use rd_glyphs::join;
@@ -24,34 +22,27 @@ pub struct Walk {
 }
 
 /// The glyph that a mark joins, with the mark, where it joins it.
-fn marked_glyph(base: Option<Glyph>, mark: Option<u32>) -> Option<Glyph>
-    ensures value { result ≡ marked_glyph base mark }
-    ensures measured { IfSome base (λ g. IsMeasured g) → IfSome mark (λ code. IsMark code) → IfSome result (λ g. IsMeasured g) }
+fn marked_glyph(base: &Option<Glyph>, mark: Option<u32>) -> Option<Glyph>
+    ensures { result ≡ marked_glyph base.now mark }
 {
     match (base, mark) {
-        (Some(glyph), Some(code)) => join(glyph, code),
+        (Some(glyph), Some(code)) => join(*glyph, code),
         _ => None,
     }
 }
 
-/// A piece with the mark of the next, where it joins it.
-fn marked(held: &Piece, next: &Piece) -> Option<Piece>
-    ensures value { result ≡ marked piece_joins held.now next.now }
-    ensures measured { IsMeasuredPiece held.now → IsMeasuredPiece next.now → IfSome result IsMeasuredPiece }
+/// Whether the mark of the next piece joins one, which then stands up to the mark's end.
+fn takes_mark(held: &mut Piece, next: &Piece) -> bool
+    ensures { TakesMark result held.old held.new next.now }
 {
-    match marked_glyph(held.base, next.mark) {
-        Some(glyph) => Some(Piece {
-            kind: Some(ItemKind::Marked(glyph)),
-            base: Some(glyph),
-            to: next.to,
-            class: held.class,
-            face: held.face,
-            overlay: held.overlay,
-            covers: held.covers,
-            at: held.at,
-            mark: held.mark,
-        }),
-        None => None,
+    match marked_glyph(&held.base, next.mark) {
+        None => false,
+        Some(glyph) => {
+            held.kind = Some(ItemKind::Marked(glyph));
+            held.base = Some(glyph);
+            held.to = next.to;
+            true
+        }
     }
 }
 
@@ -75,35 +66,34 @@ fn item_of(since: u32, piece: &Piece, kind: ItemKind) -> Item
 }
 
 impl Walk {
-    ghost use Rattle.std.specs.Prelude.{◌≡◌, ◌≤◌, ◌-◌, ◌∷◌, [], ◌++◌, List, None, OnOk, IfOk};
+    ghost use Rattle.std.specs.Prelude.{◌≡◌, ◌≤◌, ◌-◌, ◌∷◌, [], ◌++◌, List, None, OnOk, IfOk, MatchOption};
     ghost use Rattle.rd_text.specs.Texts.{IsAccessible};
     ghost use Rattle.rd_props.specs.Buffers.{meaning};
     ghost use Rattle.rd_props.specs.Strings.{strings_at};
     ghost use Rattle.rd_items.specs.Readings.{showing_at};
     ghost use Rattle.rd_items.specs.Stretches.{IsStretch};
-    ghost use Rattle.rd_items.specs.Items.{items_by, covered_to, AreMeasuredItems};
-    ghost use Rattle.rd_items.specs.Walks.{whole, Steps, IsMeasuredWalk};
-    ghost use Rattle.rd_items.specs.Pieces.{scene_of, string_pieces, IsMeasuredPiece};
+    ghost use Rattle.rd_items.specs.Items.{items_by, covered_to};
+    ghost use Rattle.rd_items.specs.Walks.{whole, Steps, TakesMarkIn};
+    ghost use Rattle.rd_items.specs.Pieces.{scene_of, string_pieces};
     ghost use Rattle.rd_items.specs.declared.piece.Piece.{Piece};
 
-    /// A walk before its first step.
-    pub fn new(alloc: Global) -> Walk
-        ensures items { result.items ≡ [] }
-        ensures since { result.since ≡ 0 }
-        ensures held { result.held ≡ None }
+    /// A walk before its first step, with room for so many items.
+    pub fn new(alloc: Global, room: usize) -> Result<Walk, Memory>
+        ensures items { IfOk result (λ walk. walk.items ≡ []) }
+        ensures since { IfOk result (λ walk. walk.since ≡ 0) }
+        ensures held { IfOk result (λ walk. walk.held ≡ None) }
     {
-        Walk {
-            items: ListOf::new(alloc),
+        Ok(Walk {
+            items: ListOf::with_room(alloc, room)?,
             since: 0,
             held: None,
-        }
+        })
     }
 
     /// Makes the item of a piece.
     fn give(&mut self, piece: &Piece) -> Result<(), Memory>
         ensures items { OnOk result (self.new.items ≡ self.old.items ++ items_by piece.now.kind self.old.since piece.now) }
         ensures since { OnOk result (self.new.since ≡ covered_to self.old.since piece.now) }
-        ensures measured { AreMeasuredItems self.old.items → IsMeasuredPiece piece.now → OnOk result (AreMeasuredItems self.new.items) }
     {
         if let Some(kind) = piece.kind {
             self.items.push(item_of(self.since, piece, kind))?;
@@ -114,26 +104,34 @@ impl Walk {
         Ok(())
     }
 
+    /// Whether the mark of a piece joins the piece that is held.
+    fn takes_mark(&mut self, piece: &Piece) -> bool
+        ensures items { self.new.items ≡ self.old.items }
+        ensures since { self.new.since ≡ self.old.since }
+        ensures held { TakesMarkIn result self.old.held self.new.held piece.now }
+    {
+        match &mut self.held {
+            None => false,
+            Some(held) => takes_mark(held, piece),
+        }
+    }
+
     /// Adds a piece.
     pub fn put(&mut self, piece: Piece) -> Result<(), Memory>
-        requires { IsMeasuredPiece piece }
-        ensures measured { IsMeasuredWalk self.old.items self.old.held → OnOk result (IsMeasuredWalk self.new.items self.new.held) }
-        ensures whole { OnOk result ((xs : List Piece) → whole self.new.items self.new.since self.new.held xs ≡ whole self.old.items self.old.since self.old.held (piece ∷ xs)) }
+        ensures { OnOk result ((xs : List Piece) → whole self.new.items self.new.since self.new.held xs ≡ whole self.old.items self.old.since self.old.held (piece ∷ xs)) }
     {
-        let mut next = piece;
-        if let Some(held) = self.held.take() {
-            match marked(&held, &piece) {
-                Some(longer) => next = longer,
-                None => self.give(&held)?,
-            }
+        if self.takes_mark(&piece) {
+            return Ok(());
         }
-        self.held = Some(next);
+        if let Some(held) = self.held.take() {
+            self.give(&held)?;
+        }
+        self.held = Some(piece);
         Ok(())
     }
 
     /// Adds the strings of overlays before the position at an offset, where the text has this face.
     fn put_strings(&mut self, at: u32, face: Face, numbers: &[u32]) -> Result<(), Memory>
-        ensures measured { IsMeasuredWalk self.old.items self.old.held → OnOk result (IsMeasuredWalk self.new.items self.new.held) }
         ensures whole { OnOk result ((xs : List Piece) → whole self.new.items self.new.since self.new.held xs ≡ whole self.old.items self.old.since self.old.held (string_pieces at face numbers.now ++ xs)) }
     {
         for number in numbers {
@@ -156,7 +154,6 @@ impl Walk {
         requires stretch { IsStretch (meaning view.now.state.now) view.now.objects.now stretch.old }
         ensures showing { IfOk result (λ showing. showing ≡ showing_at (meaning view.now.state.now) view.now.objects.now pos) }
         ensures stretch { IfOk result (λ showing. IsStretch (meaning view.now.state.now) view.now.objects.now stretch.new) }
-        ensures measured { IsMeasuredWalk self.old.items self.old.held → IfOk result (λ showing. IsMeasuredWalk self.new.items self.new.held) }
         ensures whole { IfOk result (λ showing. (xs : List Piece) → whole self.new.items self.new.since self.new.held xs ≡ whole self.old.items self.old.since self.old.held (string_pieces (pos - start) showing.face (strings_at (meaning view.now.state.now) pos) ++ xs)) }
     {
         stretch.reach(alloc, view, pos)?;
@@ -182,13 +179,13 @@ impl Walk {
         requires behind { start ≤ pos }
         requires stretch { IsStretch (meaning view.now.state.now) view.now.objects.now stretch.old }
         ensures stretch { IfOk result (λ next. IsStretch (meaning view.now.state.now) view.now.objects.now stretch.new) }
-        ensures measured { IsMeasuredWalk self.old.items self.old.held → IfOk result (λ next. IsMeasuredWalk self.new.items self.new.held) }
         ensures steps { Steps result (meaning view.now.state.now) (scene_of view.now) start pos (whole self.old.items self.old.since self.old.held) (whole self.new.items self.new.since self.new.held) }
     {
         let showing = self.enter(alloc, view, stretch, start, pos)?;
         let to = run_end(alloc, view, stretch, pos, &showing)?;
-        self.put(piece_at(view, &showing, char_at(view, pos), pos - start, to - start))?;
-        if ends_block(view, pos, &showing) {
+        let ch = char_at(view, pos);
+        self.put(piece_at(view, &showing, &ch, pos - start, to - start))?;
+        if showing.ends_block(&ch) {
             return Ok(None);
         }
         Ok(Some(to))
@@ -197,7 +194,6 @@ impl Walk {
     /// The items, when no piece is left.
     pub fn finish(self) -> Result<ListOf<Item>, Memory>
         ensures value { IfOk result (λ items. items ≡ whole self.items self.since self.held []) }
-        ensures measured { IsMeasuredWalk self.items self.held → IfOk result (λ items. AreMeasuredItems items) }
     {
         let mut walk = self;
         if let Some(held) = walk.held.take() {

@@ -1,7 +1,8 @@
 -- Rows that are numbered, so that equal rows have equal numbers.
-use Rattle.std.specs.Prelude.{ℕ, suc, ◌+◌, ◌*◌, ◌%◌, ◌^◌, ◌==◌, nat_le, if◌then◌else◌, List, [], ◌∷◌, Option, None, Some, slice_index}
-use Rattle.rd_base.specs.Cells.{words_of}
+use Rattle.std.specs.Prelude.{ℕ, suc, ◌+◌, ◌*◌, ◌%◌, ◌^◌, ◌==◌, nat_le, if◌then◌else◌, List, [], ◌∷◌, Option, None, Some}
+use Rattle.rd_base.specs.Faces.{Attributes}
 use Rattle.rd_base.specs.declared.cell.Cell.{Cell}
+use Rattle.rd_base.specs.declared.cell.Cell.TheVariants.{Blank, First, Rest}
 use Rattle.rd_update.specs.Updates.{differs}
 use Rattle.rd_lineshift.specs.Shifts.{shifted_rows}
 use Rattle.rd_lineshift.specs.declared.band.Shift.{Shift}
@@ -12,16 +13,23 @@ abbrev pub number_in : List (List Cell) → List Cell → ℕ
 number_in [] row = 0
 number_in (x ∷ xs) row = if differs x row then suc (number_in xs row) else 0
 
--- a row's print, a number made of the words of its cells: rows of different prints differ
+-- a number made of a cell's character and colours
+abbrev pub colours_number : Attributes → ℕ
+colours_number f = f.fg + 9 * f.bg
+
+abbrev pub cell_number : Cell → ℕ
+cell_number Rest = 0
+cell_number (Blank f) = 1 + 3 * colours_number f
+cell_number (First g f) = 2 + 3 * (colours_number f + 81 * g.base)
+
+-- a print with one more number
 abbrev pub mixed : ℕ → ℕ → ℕ
-mixed print word = (print * 1099511628211 % 2 ^ 64 + word) % 2 ^ 64
+mixed print number = (print * 1099511628211 % 2 ^ 64 + number) % 2 ^ 64
 
-abbrev pub print_with : ℕ → List ℕ → ℕ
-print_with print words = mixed (mixed (mixed print (slice_index words 0)) (slice_index words 1)) (slice_index words 2)
-
+-- a row's print, made of the numbers of its cells: rows of different prints differ
 abbrev pub print_from : ℕ → List Cell → ℕ
 print_from print [] = print
-print_from print (cell ∷ cells) = print_from (print_with print (words_of cell)) cells
+print_from print (cell ∷ cells) = print_from (mixed print (cell_number cell)) cells
 
 -- at how many places two lists of numbers differ
 abbrev pub unlike : List ℕ → List ℕ → ℕ

@@ -78,8 +78,8 @@ fn number_rows(current: &Screen, target: &Screen) -> Numbered
     let _width = target.width();
     let prints = prints_of(target);
     Numbered {
-        old: numbers_of(target, &prints, current),
-        new: numbers_of(target, &prints, target),
+        old: numbers_of(target, &prints, current, &prints_of(current)),
+        new: numbers_of(target, &prints, target, &prints),
         blank: number_of_blank(target, &prints),
     }
 }

@@ -3,7 +3,7 @@ ghost use Rattle.std.specs.Prelude.{◌≡◌, ◌+◌, ◌*◌, ◌<◌, ◌≤
 ghost use Rattle.rd_term.specs.Pictures.{width_of, row_at, blank_row};
 ghost use Rattle.rd_update.specs.Plans.{HaveOneSize};
 ghost use Rattle.rd_update.specs.Updates.{differs, differing as differing_rows};
-ghost use Rattle.rd_lineshift.specs.Numbers.{number_in, print_from, mixed};
+ghost use Rattle.rd_lineshift.specs.Numbers.{cell_number, colours_number, number_in, print_from, mixed};
 
 use crate::numbers::Numbers;
 use rd_base::{Cell, Face};
@@ -34,21 +34,39 @@ pub(crate) fn differing(current: &Screen, target: &Screen) -> u32
     count
 }
 
-/// A row's print with one more word.
-fn mix(print: u64, word: u64) -> u64
-    ensures { result ≡ mixed print word }
+/// A number made of a face's colours.
+fn colours_number(face: Face) -> u64
+    ensures value { result ≡ colours_number face }
+    ensures bound { result ≤ 80 }
 {
-    print.wrapping_mul(1_099_511_628_211).wrapping_add(word)
+    face.fg as u64 + 9 * face.bg as u64
 }
 
-/// A row's print.
+/// A number made of a cell's character and colours.
+fn cell_number(cell: &Cell) -> u64
+    ensures { result ≡ cell_number cell.now }
+{
+    match cell {
+        Cell::Rest => 0,
+        Cell::Blank(face) => 1 + 3 * colours_number(*face),
+        Cell::First(glyph, face) => 2 + 3 * (colours_number(*face) + 81 * glyph.base as u64),
+    }
+}
+
+/// A row's print with one more number.
+fn mix(print: u64, number: u64) -> u64
+    ensures { result ≡ mixed print number }
+{
+    print.wrapping_mul(1_099_511_628_211).wrapping_add(number)
+}
+
+/// A row's print: those of rows that are the same are equal.
 fn print_of(cells: &[Cell]) -> u64
     ensures { result ≡ print_from 0 cells.now }
 {
     let mut print = 0;
     for i in 0..cells.len() {
-        let words = cells[i].words();
-        print = mix(mix(mix(print, words[0]), words[1]), words[2]);
+        print = mix(print, cell_number(&cells[i]));
     }
     print
 }
@@ -78,14 +96,14 @@ fn same_row(old: &[Cell], old_print: u64, new: &[Cell], new_print: u64) -> bool
     !differ(old, new)
 }
 
-/// The number of the first row of the target that is the same as a row of its width, and the target's height where none is. The
-/// rows are compared where their prints are equal.
-fn number_of(target: &Screen, prints: &Numbers, row: &[Cell]) -> u64
+/// The number of the first row of the target that is the same as a row of its width, which has a print, and the target's height where
+/// none is. The rows are compared where their prints are equal.
+fn number_of(target: &Screen, prints: &Numbers, row: &[Cell], print: u64) -> u64
     requires prints { prints.now ≡ map (print_from 0) target.now.rows }
     requires width { length row.now ≡ width_of target.now.rows }
+    requires print { print ≡ print_from 0 row.now }
     ensures { result ≡ number_in target.now.rows row.now }
 {
-    let print = print_of(row);
     let prints = prints.as_slice();
     for i in 0..target.height() {
         if same_row(cells_of(target, i), prints[i as usize], row, print) {
@@ -95,16 +113,24 @@ fn number_of(target: &Screen, prints: &Numbers, row: &[Cell]) -> u64
     target.height() as u64
 }
 
-/// The numbers of a screen's rows by the target's.
-pub(crate) fn numbers_of(target: &Screen, prints: &Numbers, screen: &Screen) -> Numbers
+/// The numbers of a screen's rows by the target's. Both have their prints.
+pub(crate) fn numbers_of(
+    target: &Screen,
+    prints: &Numbers,
+    screen: &Screen,
+    own_prints: &Numbers,
+) -> Numbers
     requires size { HaveOneSize (Some screen.now) target.now }
     requires prints { prints.now ≡ map (print_from 0) target.now.rows }
+    requires own_prints { own_prints.now ≡ map (print_from 0) screen.now.rows }
     ensures { result ≡ map (number_in target.now.rows) screen.now.rows }
 {
     let _width = screen.width();
+    let own_prints = own_prints.as_slice();
     let mut numbers = Numbers::none();
     for row in 0..screen.height() {
-        numbers.push(number_of(target, prints, cells_of(screen, row)));
+        let print = own_prints[row as usize];
+        numbers.push(number_of(target, prints, cells_of(screen, row), print));
     }
     numbers
 }
@@ -124,5 +150,6 @@ pub(crate) fn number_of_blank(target: &Screen, prints: &Numbers) -> u64
     ensures { result ≡ number_in target.now.rows (blank_row (width_of target.now.rows)) }
 {
     let blanks = [Cell::Blank(Face::PLAIN); 400];
-    number_of(target, prints, first(&blanks, target.width()))
+    let blank = first(&blanks, target.width());
+    number_of(target, prints, blank, print_of(blank))
 }

@@ -1,6 +1,4 @@
 //! The shape of a window's rows.
-ghost use Rattle.std.specs.Prelude.{◌≡◌};
-ghost use Rattle.rd_rows.specs.Shapes.{is_same_wrap};
 
 use rd_base::Wrap;
 use rd_base::limits::FRAME_COLUMNS;
@@ -37,20 +35,6 @@ impl Shape {
     pub fn is_same(self, other: Shape) -> bool
         ensures { result ≡ is_same_shape self other }
     {
-        self.width == other.width
-            && self.hscroll == other.hscroll
-            && is_same_wrap(self.wrap, other.wrap)
-    }
-}
-
-/// Whether longer lines come to the same in both.
-fn is_same_wrap(a: Wrap, b: Wrap) -> bool
-    ensures { result ≡ is_same_wrap a b }
-{
-    match (a, b) {
-        (Wrap::Truncate, Wrap::Truncate) => true,
-        (Wrap::Continue, Wrap::Continue) => true,
-        (Wrap::Word, Wrap::Word) => true,
-        _ => false,
+        self == other
     }
 }

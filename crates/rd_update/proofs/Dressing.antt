@@ -1,18 +1,16 @@
 -- What renditions do to the pen.
-use Rattle.std.proofs.Common.{◌≡◌, if◌then◌else◌, ℕ, ◌+◌, ◌-◌, ◌<◌, ◌≤◌, ◌==◌, ◌&&◌, Bool, true, false, not, nat_lt, nat_le, List, [], ◌∷◌, ◌++◌, length, Option, None, Some, inl, inr, refl, ap, ◌∙◌, arith, append_assoc}
-use Rattle.std.specs.Fmt.{decimal}
-use Rattle.std.specs.List.{flat_map, AllByRecursion}
+use Rattle.std.proofs.Common.{◌≡◌, if◌then◌else◌, ℕ, ◌+◌, ◌-◌, ◌<◌, ◌≤◌, ◌==◌, ◌&&◌, Bool, true, false, not, nat_lt, nat_le, List, [], ◌++◌, length, Option, None, Some, inl, inr, refl, ap, ◌∙◌, arith}
+use Rattle.std.specs.List.{AllByRecursion}
 use Rattle.std.proofs.lemmas.Bool.{cases_eq}
 use Rattle.std.proofs.lemmas.Bool.Decides.{nat_tests}
 use Rattle.std.proofs.lemmas.List.{length-append}
 use Rattle.rd_base.specs.Cells.{HasColours}
 use Rattle.rd_base.specs.Faces.{Attributes, plain}
 use Rattle.rd_term.specs.Pens.{is_rendition, are_renditions, dressed, pen_by}
-use Rattle.rd_term.specs.Terminals.{Tty, feed_byte, feed_bytes, dress as dress_pen}
+use Rattle.rd_term.specs.Terminals.{Tty, feed_bytes}
 use Rattle.rd_term.proofs.Encoded.{Rows, standing}
-use Rattle.rd_term.proofs.Feeding.{feed_bytes-append}
 use Rattle.rd_base.specs.Equals.{same_face}
-use Rattle.rd_update.specs.Updates.{number_if, renditions, parameter, rendition, dress}
+use Rattle.rd_update.specs.Updates.{number_if, renditions, rendition, dress}
 use Rattle.rd_update.proofs.Sequences.{parameters_fed}
 use Rattle.rd_base.proofs.Equals.{face-told}
 

@@ -3,14 +3,13 @@ use Rattle.std.proofs.Common.{◌≡◌, if◌then◌else◌, ℕ, ◌+◌, ◌<
 use Rattle.std.specs.List.{AllByRecursion}
 use Rattle.std.proofs.lemmas.List.Elements.{recursion_from_All, All-from_recursion}
 use Rattle.std.proofs.lemmas.List.{length-map, get_or-map, length-replicate}
-use Rattle.rd_base.specs.Faces.{Attributes, plain}
+use Rattle.rd_base.specs.Faces.{plain}
 use Rattle.rd_base.specs.Glyphs.{IsRowAfter}
 use Rattle.rd_base.specs.declared.cell.Cell.{Cell}
 use Rattle.rd_term.specs.Pictures.{Picture, blank, blank_row, IsOfSize}
 use Rattle.rd_base.specs.Cells.{IsColoured}
 use Rattle.rd_term.specs.Terminals.{Tty, feed_bytes, known}
 use Rattle.rd_term.specs.Shifts.{cleared}
-use Rattle.rd_term.specs.declared.reading.Reading.{Reading}
 use Rattle.rd_term.specs.declared.reading.Reading.TheVariants.{Between}
 use Rattle.rd_update.specs.Updates.{move, repaint, rows_bytes, rows_after, blank_like, start, opening, update, is_done, differing}
 use Rattle.rd_update.specs.Laws.{IsReady, IsUpdated}

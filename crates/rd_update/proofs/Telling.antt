@@ -1,11 +1,11 @@
 -- The words of two rows tell where their cells differ.
-use Rattle.std.proofs.Common.{◌≡◌, inl, inr, if◌then◌else◌, cond, ◌*◌, ℕ, zero, suc, ◌+◌, ◌-◌, ◌/◌, ◌<◌, ◌≤◌, ◌==◌, ◌&&◌, not, nat_lt, Bool, true, false, List, [], ◌∷◌, ◌++◌, length, get_or, None, Some, refl, sym, ap, ap₂, subst, ◌∙◌, arith, take, append_assoc, append-nil}
+use Rattle.std.proofs.Common.{◌≡◌, inl, inr, if◌then◌else◌, cond, ◌*◌, ℕ, zero, suc, ◌+◌, ◌-◌, ◌/◌, ◌<◌, ◌≤◌, ◌==◌, ◌&&◌, not, nat_lt, Bool, true, false, List, [], ◌∷◌, ◌++◌, length, get_or, All, Option, None, Some, refl, sym, ap, ap₂, subst, ◌∙◌, arith, take, append_assoc, append-nil}
 use Rattle.std.specs.List.{AllByRecursion, position_or_len, suffix_len}
 use Rattle.std.specs.Prelude.{zip}
 use Rattle.std.proofs.lemmas.Bool.{and_parts, cases_eq}
 use Rattle.std.proofs.lemmas.Bool.Decides.{nat_tests, Decides-eqb}
 use Rattle.std.proofs.lemmas.List.{take_more}
-use Rattle.std.proofs.lemmas.List.Elements.{All-append, All-from_recursion}
+use Rattle.std.proofs.lemmas.List.Elements.{All-append, All-from_recursion, recursion_from_All}
 use Rattle.std.proofs.lemmas.List.Sums.{suffix_len_is}
 use Rattle.rd_lanes.specs.Kernels.{differs as words_differ, first_difference as first_word, last_difference as last_word}
 use Rattle.rd_base.specs.Cells.{words_of, IsSmall, AreOnlyOf}
@@ -13,7 +13,7 @@ use Rattle.rd_base.specs.Equals.{same_cell}
 use Rattle.rd_base.specs.declared.cell.Cell.{Cell}
 use Rattle.rd_base.specs.declared.cell.Cell.TheVariants.{Blank, First, Rest}
 use Rattle.rd_update.specs.Updates.{first_difference, end_before, end_of_differences}
-use Rattle.rd_update.specs.Words.{row_words, AreTold, differing_columns}
+use Rattle.rd_update.specs.Words.{row_words, AreTold, columns_from, columns_of_words, differing_columns}
 use Rattle.rd_update.specs.declared.span.Columns.{Columns}
 use Rattle.rd_base.proofs.Equals.{cell-told, cell-itself}
 use Rattle.rd_update.proofs.Spans.{first_before, end_within}
@@ -179,7 +179,7 @@ none-chosen false n e = refl
 columns-same : (a b c d : ℕ) → a ≡ c → b ≡ d → let x : Columns = record { from = a; end = b } in let y : Columns = record { from = c; end = d } in x ≡ y
 columns-same a b c d p q = cc
 
-pub columns-some : (xs ys : List Cell) → length xs ≡ length ys → AllByRecursion IsTold xs → AllByRecursion IsSmall ys
+columns-some : (xs ys : List Cell) → length xs ≡ length ys → AllByRecursion IsTold xs → AllByRecursion IsSmall ys
     → (first last : ℕ) → Some first ≡ first_word (row_words xs) (row_words ys) → Some last ≡ last_word (row_words xs) (row_words ys)
     → let found : Columns = record { from = first / 3; end = last / 3 + 1 } in Some found ≡ differing_columns xs ys
 columns-some xs ys n p q first last f l =
@@ -200,7 +200,7 @@ columns-some xs ys n p q first last f l =
 none-differ : (xs ys : List Cell) → end_of_differences xs ys ≡ 0 → None ≡ differing_columns xs ys
 none-differ xs ys e = rw e refl
 
-pub columns-none-last : (xs ys : List Cell) → length xs ≡ length ys → AllByRecursion IsTold xs → AllByRecursion IsSmall ys
+columns-none-last : (xs ys : List Cell) → length xs ≡ length ys → AllByRecursion IsTold xs → AllByRecursion IsSmall ys
     → None ≡ last_word (row_words xs) (row_words ys) → None ≡ differing_columns xs ys
 columns-none-last xs ys n p q l =
     let ps = zip (row_words xs) (row_words ys) in
@@ -208,7 +208,7 @@ columns-none-last xs ys n p q l =
     let ge : length (zip (row_words xs) (row_words ys)) ≤ suffix_len (λ p. not (words_differ p)) (zip (row_words xs) (row_words ys)) = grind (arith, nat_tests) in
     none-differ xs ys (omega (arith, end-suffix ps, end-le ps, ge, end-words xs ys n p q))
 
-pub columns-none-first : (xs ys : List Cell) → length xs ≡ length ys → AllByRecursion IsTold xs → AllByRecursion IsSmall ys
+columns-none-first : (xs ys : List Cell) → length xs ≡ length ys → AllByRecursion IsTold xs → AllByRecursion IsSmall ys
     → None ≡ first_word (row_words xs) (row_words ys) → None ≡ differing_columns xs ys
 columns-none-first xs ys n p q f =
     let ps = zip (row_words xs) (row_words ys) in
@@ -220,27 +220,40 @@ columns-none-first xs ys n p q f =
       | inr some ↦ absurd (omega (arith, first, end_within xs ys, first_before xs ys (omega (arith, some))))
     ]
 
+length-row : (cells : List Cell) → length (row_words cells) ≡ 3 * length cells
+length-row [] = omega arith
+length-row (x ∷ cells) = ap (λ ws. length (ws ++ row_words cells)) (three-words x) ∙ omega (arith, length-row cells)
+
+columns-chosen : (xs ys : List Cell) → length xs ≡ length ys → AllByRecursion IsTold xs → AllByRecursion IsSmall ys
+    → (first last : Option ℕ) → first ≡ first_word (row_words xs) (row_words ys) → last ≡ last_word (row_words xs) (row_words ys) → columns_from first last ≡ differing_columns xs ys
+columns-chosen xs ys n p q (Some first) (Some last) f l = columns-some xs ys n p q first last f l
+columns-chosen xs ys n p q (Some first) None f l = columns-none-last xs ys n p q l
+columns-chosen xs ys n p q None last f l = columns-none-first xs ys n p q f
+
+-- the words tell the columns
+pub columns-told : (xs ys : List Cell) (olds news : List ℕ) → length xs ≡ length ys → olds ≡ row_words xs → news ≡ row_words ys
+    → AreTold xs → All IsSmall xs → All IsSmall ys → columns_of_words olds news ≡ differing_columns xs ys
+columns-told xs ys olds news n a b told small other =
+    let each = recursion_from_All IsTold xs (λ k d lt. (small k d lt, told k d lt)) in
+    ap₂ columns_of_words a b
+    ∙ columns-chosen xs ys n each (recursion_from_All IsSmall ys other) (first_word (row_words xs) (row_words ys)) (last_word (row_words xs) (row_words ys)) refl refl
+
+-- as many words for rows as wide
+pub words-even : (xs ys : List Cell) (olds news : List ℕ) → length xs ≡ length ys → olds ≡ row_words xs → news ≡ row_words ys → length olds ≡ length news
+words-even xs ys olds news n a b = ap length a ∙ length-row xs ∙ ap (λ k. 3 * k) n ∙ sym (ap length b ∙ length-row ys)
+
 -- ---- words that are read one after another
 
 row_words-append : (xs : List Cell) (x : Cell) → row_words (xs ++ x ∷ []) ≡ row_words xs ++ words_of x
 row_words-append [] x = append-nil (words_of x)
 row_words-append (y ∷ xs) x = ap (λ ws. words_of y ++ ws) (row_words-append xs x) ∙ sym (append_assoc (words_of y) (row_words xs) (words_of x))
 
-pub length-row : (cells : List Cell) → length (row_words cells) ≡ 3 * length cells
-length-row [] = omega arith
-length-row (x ∷ cells) = ap (λ ws. length (ws ++ row_words cells)) (three-words x) ∙ omega (arith, length-row cells)
-
--- three more words
-pub read-more : (cells : List Cell) (i : ℕ) (x : Cell) (words before one two three : List ℕ) → i < length cells → x ≡ get_or cells i x → words ≡ words_of x
-    → before ≡ row_words (take i cells) → one ≡ before ++ get_or words 0 0 ∷ [] → two ≡ one ++ get_or words 1 0 ∷ [] → three ≡ two ++ get_or words 2 0 ∷ []
-    → three ≡ row_words (take (i + 1) cells)
-read-more cells i x words before one two three lt here w b p q r =
-    let ws = row_words (take i cells) in
-    let first = p ∙ ap (λ xs. xs ++ get_or words 0 0 ∷ []) b ∙ ap (λ xs. ws ++ get_or xs 0 0 ∷ []) w in
-    let second = q ∙ ap (λ xs. xs ++ get_or words 1 0 ∷ []) first ∙ append_assoc ws (word x 0 ∷ []) (get_or words 1 0 ∷ []) ∙ ap (λ xs. ws ++ (word x 0 ∷ get_or xs 1 0 ∷ [])) w in
-    let third = r ∙ ap (λ xs. xs ++ get_or words 2 0 ∷ []) second ∙ append_assoc ws (word x 0 ∷ word x 1 ∷ []) (get_or words 2 0 ∷ []) ∙ ap (λ xs. ws ++ (word x 0 ∷ word x 1 ∷ get_or xs 2 0 ∷ [])) w in
-    third
-    ∙ ap (λ xs. ws ++ xs) (sym (three-words x))
+-- the words of one more cell
+pub read-more : (cells : List Cell) (i : ℕ) (x : Cell) (words before after : List ℕ) → i < length cells → x ≡ get_or cells i x → words ≡ words_of x
+    → before ≡ row_words (take i cells) → after ≡ before ++ words → after ≡ row_words (take (i + 1) cells)
+read-more cells i x words before after lt here w b e =
+    e
+    ∙ ap₂ (λ ws vs. ws ++ vs) b w
     ∙ sym (row_words-append (take i cells) x)
     ∙ ap (λ y. row_words (take i cells ++ y ∷ [])) here
     ∙ ap row_words (sym (take_more cells i x lt))

@@ -8,7 +8,8 @@ ghost use Rattle.rd_update.specs.Laws.{IsSound};
 ghost use Rattle.rd_update.specs.Plans.{Prepared, planned, shown, HaveOneSize, sent_of, parts_from, old_row as old_row_of, IsRowOf, no_part, front_within, part_if, bytes_if};
 
 use crate::bytes::{push_move, push_row};
-use crate::span::{Room, differences};
+use crate::span::differences;
+use crate::words::PairWords;
 use rd_base::limits::{FRAME_COLUMNS, FRAME_ROWS};
 use rd_base::{Cell, Face, ListOf, Memory, good_cells_are_small};
 use rd_io::{Sink, write_whole};
@@ -63,11 +64,17 @@ impl Plan {
         requires target { IsSound target.now }
         ensures { IfOk result (λ plan. plan ≡ planned (shown current.entry) target.now) }
     {
-        let blanks = [Cell::Blank(Face::PLAIN); 400];
-        let blank = first(&blanks, target.width());
+        let blank = blank_cells(alloc, target.width())?;
         let mut bytes = opening(alloc, current)?;
         let mut parts = ListOf::new(alloc);
-        push_parts(&mut bytes, &mut parts, current, target, blank)?;
+        push_parts(
+            alloc,
+            &mut bytes,
+            &mut parts,
+            current,
+            target,
+            blank.as_slice(),
+        )?;
         let (row, column) = target.cursor();
         push_move(&mut bytes, row, column)?;
         Ok(Plan { bytes, parts })
@@ -153,6 +160,15 @@ fn opening(alloc: Global, current: Option<&Screen>) -> Result<ListOf<u8>, Memory
     }
 }
 
+/// The cells of a blank row.
+fn blank_cells(alloc: Global, width: u32) -> Result<ListOf<Cell>, Memory>
+    ensures { IfOk result (λ cells. cells ≡ blank_row width) }
+{
+    let mut cells = ListOf::new(alloc);
+    cells.resize(width as usize, Cell::Blank(Face::PLAIN))?;
+    Ok(cells)
+}
+
 /// So many of 400 blank cells.
 fn first(blanks: &[Cell], width: u32) -> &[Cell]
     requires blanks { blanks.now ≡ blank_row 400 }
@@ -205,7 +221,7 @@ fn old_row<'a>(current: Option<&'a Screen>, blank: &'a [Cell], row: u32) -> &'a 
 fn push_part(
     bytes: &mut ListOf<u8>,
     parts: &mut ListOf<ChangedRow>,
-    room: &mut Room,
+    words: &mut PairWords,
     row: u32,
     old: &[Cell],
     new: &[Cell],
@@ -218,7 +234,7 @@ fn push_part(
     ensures bytes { OnOk result (bytes.new ≡ bytes.old ++ bytes_if (differs old.now new.now) (row_bytes row old.now new.now)) }
     ensures parts { OnOk result (parts.new ≡ parts.old ++ part_if (differs old.now new.now) row (length bytes.old)) }
 {
-    let Some(differing) = differences(room, old, new) else {
+    let Some(differing) = differences(words, old, new)? else {
         return Ok(());
     };
     parts.push(ChangedRow {
@@ -230,6 +246,7 @@ fn push_part(
 
 /// Adds the bytes of each row that differs, and where they begin. `blank` is a blank row of the target's width.
 fn push_parts(
+    alloc: Global,
     bytes: &mut ListOf<u8>,
     parts: &mut ListOf<ChangedRow>,
     current: Option<&Screen>,
@@ -245,11 +262,11 @@ fn push_parts(
     ensures few { length target.now.rows ≤ FRAME_ROWS }
 {
     let _width = target.width();
-    let mut room = Room::new();
+    let mut words = PairWords::none(alloc);
     for row in 0..target.height() {
         let old = old_row(current, blank, row);
         let new = sound_cells_of(target, row);
-        push_part(bytes, parts, &mut room, row, old, new)?;
+        push_part(bytes, parts, &mut words, row, old, new)?;
     }
     Ok(())
 }

@@ -1,14 +1,13 @@
 //! Where two rows differ.
-ghost use Rattle.std.specs.Prelude.{◌≡◌, ◌+◌, ◌<◌, ◌≤◌, ◌||◌, All, length, drop};
+ghost use Rattle.std.specs.Prelude.{◌≡◌, ◌+◌, ◌<◌, ◌≤◌, ◌||◌, All, IfOk, length, drop};
 ghost use Rattle.rd_base.specs.Cells.{IsSmall};
 ghost use Rattle.rd_base.specs.Equals.{same_cell, same_face};
 ghost use Rattle.rd_term.specs.Pictures.{blank};
 ghost use Rattle.rd_update.specs.Updates.{first_difference as first_column, end_of_differences as end_column, used as used_of, differs, is_rest, goes_on, begin_before, going_on, begin_of, end_of};
-ghost use Rattle.rd_update.specs.Words.{differing_columns};
+ghost use Rattle.rd_update.specs.Words.{columns_of_words, differing_columns};
 
-use crate::words::RowWords;
-use rd_base::limits::FRAME_COLUMNS;
-use rd_base::{Cell, Face};
+use crate::words::{PairWords, read};
+use rd_base::{Cell, Face, Memory};
 use rd_lanes::{first_diff, last_diff};
 
 /// Columns from one to before another.
@@ -16,22 +15,6 @@ use rd_lanes::{first_diff, last_diff};
 pub(crate) struct Columns {
     pub(crate) from: usize,
     pub(crate) end: usize,
-}
-
-/// Room for the words of two rows that are compared.
-#[derive(Drop)]
-pub(crate) struct Room {
-    old: RowWords,
-    new: RowWords,
-}
-
-impl Room {
-    pub(crate) fn new() -> Room {
-        Room {
-            old: RowWords::none(),
-            new: RowWords::none(),
-        }
-    }
 }
 
 /// Whether two faces are the same.
@@ -49,21 +32,32 @@ pub fn differ(old: &[Cell], new: &[Cell]) -> bool
     old != new
 }
 
-/// The columns from the first to the last one at which two rows of one width differ. None exactly where they do not. Only of rows that
-/// differ are there words.
-pub(crate) fn differences(room: &mut Room, old: &[Cell], new: &[Cell]) -> Option<Columns>
+/// The columns from the first to the last one at which two rows of one width differ. None exactly where they do not, and then no words
+/// of them are read.
+pub(crate) fn differences(
+    words: &mut PairWords,
+    old: &[Cell],
+    new: &[Cell],
+) -> Result<Option<Columns>, Memory>
     requires length { length old.now ≡ length new.now }
-    requires narrow { length new.now ≤ FRAME_COLUMNS }
     requires old { All IsSmall old.now }
     requires new { All IsSmall new.now }
-    ensures { result ≡ differing_columns old.now new.now }
+    ensures { IfOk result (λ columns. columns ≡ differing_columns old.now new.now) }
 {
     if !differ(old, new) {
-        return None;
+        return Ok(None);
     }
-    room.old.read(old);
-    room.new.read(new);
-    let (old, new) = (room.old.as_slice(), room.new.as_slice());
+    read(&mut words.old, old)?;
+    read(&mut words.new, new)?;
+    Ok(columns_between(words.old.as_slice(), words.new.as_slice()))
+}
+
+/// The columns from the first to the last one at which two rows differ that have these words, three for each cell. None exactly where
+/// the words are the same.
+fn columns_between(old: &[u64], new: &[u64]) -> Option<Columns>
+    requires { length old.now ≡ length new.now }
+    ensures { result ≡ columns_of_words old.now new.now }
+{
     match (first_diff(old, new), last_diff(old, new)) {
         (Some(first), Some(last)) => Some(Columns {
             from: first / 3,

@@ -1,74 +1,35 @@
-//! The words of a row's cells, by which rows are compared.
-ghost use Rattle.std.specs.Prelude.{◌≡◌, ◌<◌, ◌≤◌, [], ◌∷◌, ◌++◌, length};
+//! The words of rows' cells, by which it is found where rows differ.
+ghost use Rattle.std.specs.Prelude.{◌≡◌, OnOk};
 ghost use Rattle.rd_update.specs.Words.{row_words, AreTold};
 
-use rd_base::Cell;
-use rd_base::limits::FRAME_COLUMNS;
-use std::marker::Model;
+use rd_base::{Cell, ListOf, Memory};
+use std::alloc::Global;
 
-/// Room for the words of up to 400 cells.
+/// The words of two rows that differ. They are read for one pair of rows after the other, so that memory is taken once.
 #[derive(Drop)]
-pub(crate) struct RowWords {
-    places: [u64; 1200],
-    count: usize,
+pub(crate) struct PairWords {
+    pub(crate) old: ListOf<u64>,
+    pub(crate) new: ListOf<u64>,
 }
 
-impl Model for RowWords {
-    ghost use Rattle.std.specs.Prelude.{ℕ, List, take, ◌≤◌};
-
-    ghost Value = { List ℕ };
-
-    ghost view = { λ w. take w.count w.places };
-
-    ghost invariant = { λ w. w.count ≤ 1200 };
+impl PairWords {
+    /// No words, which take no memory.
+    pub(crate) fn none(alloc: Global) -> PairWords {
+        PairWords {
+            old: ListOf::new(alloc),
+            new: ListOf::new(alloc),
+        }
+    }
 }
 
-impl RowWords {
-    /// No word.
-    pub(crate) fn none() -> RowWords
-        ensures { result ≡ [] }
-    {
-        RowWords {
-            places: [0; 1200],
-            count: 0,
-        }
+/// Makes words those of a row's cells.
+pub(crate) fn read(words: &mut ListOf<u64>, cells: &[Cell]) -> Result<(), Memory>
+    ensures words { OnOk result (words.new ≡ row_words cells.now) }
+    ensures told { OnOk result (AreTold cells.now) }
+{
+    words.clear();
+    for cell in cells {
+        words.extend_from_slice(&cell.words())?;
     }
-
-    /// Becomes the words of these cells.
-    pub(crate) fn read(&mut self, cells: &[Cell])
-        requires { length cells.now ≤ FRAME_COLUMNS }
-        ensures words { self.new ≡ row_words cells.now }
-        ensures told { AreTold cells.now }
-    {
-        self.clear();
-        for i in 0..cells.len() {
-            let words = cells[i].words();
-            self.push(words[0]);
-            self.push(words[1]);
-            self.push(words[2]);
-        }
-    }
-
-    /// The words as a slice.
-    pub(crate) fn as_slice(&self) -> &[u64]
-        ensures { result.now ≡ self.now }
-    {
-        &self.places[..self.count]
-    }
-
-    /// Takes all words away.
-    fn clear(&mut self)
-        ensures { self.new ≡ [] }
-    {
-        self.count = 0;
-    }
-
-    /// Adds a word.
-    fn push(&mut self, word: u64)
-        requires { length self.old < 1200 }
-        ensures { self.new ≡ self.old ++ word ∷ [] }
-    {
-        self.places[self.count] = word;
-        self.count += 1;
-    }
+    Ok(())
 }

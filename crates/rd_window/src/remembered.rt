@@ -99,10 +99,7 @@ impl LaidBlock {
     fn is_of(&self, block: &Block, shape: Shape) -> bool
         ensures { result ≡ is_of block.now shape self.now }
     {
-        self.block.start == block.start
-            && self.block.end == block.end
-            && self.block.base == block.base
-            && self.shape.is_same(shape)
+        self.block == *block && self.shape.is_same(shape)
     }
 }
 

@@ -3,7 +3,7 @@ use Rattle.rd_props.specs.Buffers.{meaning}
 use Rattle.rd_items.specs.Readings.{reading}
 use Rattle.rd_items.specs.Pieces.{scene_of}
 use Rattle.rd_items.specs.Items.{items_of}
-use Rattle.rd_items.specs.Walks.{whole, pieces_left, IsMeasuredWalk}
+use Rattle.rd_items.specs.Walks.{whole, pieces_left}
 use Rattle.rd_items.specs.Stretches.{IsStretch}
 use Rattle.rd_items.proofs.items.walk_from.Given as goal
 
@@ -14,7 +14,6 @@ invariant-loop-walk l = record {
   behind : l.start ≤ l.pos;
   whole : whole l.walk.items l.walk.since l.walk.held (pieces_left (meaning l.view.state.now) (scene_of l.view) l.start l.pos) ≡ items_of (scene_of l.view) (reading (meaning l.view.state.now) l.view.objects.now l.start);
   stretch : IsStretch (meaning l.view.state.now) l.view.objects.now l.stretch;
-  measured : IsMeasuredWalk l.walk.items l.walk.held;
 }
 
 abbrev pub decreases-loop-walk : goal.decreases-loop-walk

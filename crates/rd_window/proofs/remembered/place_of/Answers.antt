@@ -1,7 +1,6 @@
-use Rattle.std.proofs.Common.{◌≡◌, true, sym, ap, ◌∙◌, arith}
+use Rattle.std.proofs.Common.{sym, ap, ◌∙◌, arith}
 use Rattle.std.proofs.lemmas.List.{get_or_default}
 use Rattle.rd_window.specs.Remembering.{is_of}
-use Rattle.rd_window.specs.declared.remembered.LaidBlock.{LaidBlock}
 use Rattle.rd_window.proofs.remembered.place_of.Goals as goal
 
 pub returns-then-is_of-clause-there : goal.returns-then-is_of-clause-there

@@ -1,7 +1,7 @@
-use Rattle.std.proofs.Common.{sym, ◌∙◌}
+use Rattle.std.proofs.Common.{true, false, sym, ◌∙◌}
 use Rattle.rd_props.specs.Buffers.{meaning}
 use Rattle.rd_items.specs.Walks.{whole}
-use Rattle.rd_items.proofs.Steps.{step-ends, step-goes}
+use Rattle.rd_items.proofs.Steps.{is-ender, step-ends, step-goes}
 use Rattle.rd_items.proofs.walk.Walk.step.Goals as goal
 
 pub returns-then-ends_block-clause-steps : goal.returns-then-ends_block-clause-steps
@@ -13,8 +13,8 @@ returns-then-ends_block-clause-steps c =
     (whole c.args.self.now.items c.args.self.now.since c.args.self.now.held)
     (whole c.enter.new.self.items c.enter.new.self.since c.enter.new.self.held)
     (whole c.put.new.self.items c.put.new.self.since c.put.new.self.held)
-    (record { strings = c.in_ok-showing.ensures.whole; put = c.in_ok-put.ensures.whole; shown = c.in_ok-showing.ensures.showing; run = c.in_ok-to.ensures.end; piece = c.piece_at.ensures.value ∙ rw c.char_at.ensures; first = c.requires.behind; last = c.requires.accessible.1 })
-    (sym c.ends_block.ensures ∙ c.if-ends_block.true)
+    (record { strings = c.in_ok-showing.ensures.whole; put = c.in_ok-put.ensures; shown = c.in_ok-showing.ensures.showing; run = c.in_ok-to.ensures.end; piece = c.piece_at.ensures ∙ rw c.char_at-ch.ensures; first = c.requires.behind; last = c.requires.accessible.1 })
+    (is-ender (meaning c.args.view.now.state.now) c.args.view.now.objects.now c.args.pos c.in_ok-showing.showing c.char_at-ch.result true c.in_ok-showing.ensures.showing c.char_at-ch.ensures (sym c.ends_block.ensures ∙ c.if-ends_block.true))
 
 pub returns-clause-steps : goal.returns-clause-steps
 returns-clause-steps c =
@@ -25,5 +25,5 @@ returns-clause-steps c =
     (whole c.args.self.now.items c.args.self.now.since c.args.self.now.held)
     (whole c.enter.new.self.items c.enter.new.self.since c.enter.new.self.held)
     (whole c.put.new.self.items c.put.new.self.since c.put.new.self.held)
-    (record { strings = c.in_ok-showing.ensures.whole; put = c.in_ok-put.ensures.whole; shown = c.in_ok-showing.ensures.showing; run = c.in_ok-to.ensures.end; piece = c.piece_at.ensures.value ∙ rw c.char_at.ensures; first = c.requires.behind; last = c.requires.accessible.1 })
-    (sym c.ends_block.ensures ∙ c.if-ends_block.false)
+    (record { strings = c.in_ok-showing.ensures.whole; put = c.in_ok-put.ensures; shown = c.in_ok-showing.ensures.showing; run = c.in_ok-to.ensures.end; piece = c.piece_at.ensures ∙ rw c.char_at-ch.ensures; first = c.requires.behind; last = c.requires.accessible.1 })
+    (is-ender (meaning c.args.view.now.state.now) c.args.view.now.objects.now c.args.pos c.in_ok-showing.showing c.char_at-ch.result false c.in_ok-showing.ensures.showing c.char_at-ch.ensures (sym c.ends_block.ensures ∙ c.if-ends_block.false))

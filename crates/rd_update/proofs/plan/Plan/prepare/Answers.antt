@@ -5,7 +5,7 @@ use Rattle.rd_update.proofs.Parts.{parts-of, planned-made}
 use Rattle.rd_update.proofs.plan.Plan.prepare.Goals as goal
 
 pub push_parts-requires-clause-blank : goal.push_parts-requires-clause-blank
-push_parts-requires-clause-blank c = c.first-blank.ensures ∙ ap blank_row c.width.ensures.value
+push_parts-requires-clause-blank c = c.as_slice.ensures ∙ c.in_ok-blank.ensures ∙ ap blank_row c.width.ensures.value
 
 pub invariant_of-result : goal.invariant_of-result
 invariant_of-result c =

@@ -1,5 +1,5 @@
 use Rattle.std.proofs.Common.{◌<◌, ◌^◌, List, length, refl, sym, ap, ◌∙◌, subst}
-use Rattle.rd_matrix.specs.Sources.{IsSource, SourceValues}
+use Rattle.rd_matrix.specs.Sources.{IsSource}
 use Rattle.rd_rows.specs.Copies.{RowValues, shown_rows}
 use Rattle.rd_window.proofs.Remembering.{more-laid, still-laid}
 use Rattle.rd_window.proofs.remembered.RememberedBlockSource.rows.Goals as goal

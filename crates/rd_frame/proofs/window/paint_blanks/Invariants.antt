@@ -2,7 +2,7 @@ use Rattle.std.specs.Prelude.{◌≡◌, ◌+◌, ◌-◌, length, map, take, re
 use Rattle.rd_term.specs.Pictures.{blank_row, width_of}
 use Rattle.rd_frame.specs.Panes.{body_height, body_width, bordered}
 use Rattle.rd_frame.proofs.Screens.{laid_on}
-use Rattle.rd_frame.proofs.window.paint_below.Given as goal
+use Rattle.rd_frame.proofs.window.paint_blanks.Given as goal
 
 abbrev pub invariant-loop-row : goal.invariant-loop-row
 invariant-loop-row l = record {
