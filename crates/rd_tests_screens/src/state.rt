@@ -130,10 +130,10 @@ fn points_move_with_the_text(rt: HostRuntime) -> Result<(), Fail> {
 }
 
 /// Whether a buffer has a position that is accessible.
-fn has_position(state: &State, buffer: u32, pos: u32) -> bool
-    ensures { result ≡ true → HasPosition state.now buffer pos }
+fn has_position(state: &State, number: u32, pos: u32) -> bool
+    ensures { result ≡ true → HasPosition state.now number pos }
 {
-    match state.buffer(buffer) {
+    match state.buffer(number) {
         Some(buffer) => buffer.text.begin() <= pos && pos <= buffer.text.end(),
         None => false,
     }
