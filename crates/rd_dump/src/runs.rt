@@ -32,7 +32,12 @@ pub fn print_runs<K: Sink>(sink: &mut K, cells: &[Cell]) -> Result<(), Failed>
 }
 
 /// Writes a run where the next column has another face, and answers the run that the column is in.
-fn print_ended<K: Sink>(sink: &mut K, run: OpenFaceRun, column: usize, next: Face) -> Result<OpenFaceRun, Failed>
+fn print_ended<K: Sink>(
+    sink: &mut K,
+    run: OpenFaceRun,
+    column: usize,
+    next: Face,
+) -> Result<OpenFaceRun, Failed>
     ensures text { Prints (K.written sink.old) (K.written sink.new) (K.faults sink.old) (K.faults sink.new) (ended_text run.first column run.face next) result }
     ensures first { IfOk result (λ now. now.first ≡ (if same_face next run.face then run.first else column)) }
     ensures face { IfOk result (λ now. now.face ≡ (if same_face next run.face then run.face else next)) }

@@ -4,14 +4,15 @@ use Rattle.std.specs.Io.KnownBytes.{Appends, Consumes}
 use Rattle.std.proofs.KnownBytes.{Appends-nil, Appends-trans, Consumes-nil}
 use Rattle.rd_io.specs.Devices.{Rose}
 use Rattle.rd_run.specs.Alike.{End, IsFaultless}
-use Rattle.rd_run.specs.Ends.{Broke, Comes, Drawn, Ended, EndsWell, IsBroken, IsValidScript, IsWhole, LastBroke, ReportBroke, ScreenBroke, Sunk, Took, last_in, sent_in, sunk, told_in}
-use Rattle.rd_run.specs.Given.{AreTold, Given, HasFailed, IsMode}
+use Rattle.rd_run.specs.Ends.{Broke, Comes, Drawn, Ended, IsBroken, IsWhole, LastBroke, ReportBroke, ScreenBroke, Sunk, Took, last_in, sent_in, sunk, told_in}
+use Rattle.rd_run.specs.Given.{Given, IsMode}
 use Rattle.rd_run.specs.Reports.{last_line}
 use Rattle.rd_run.specs.Runs.{KnowsEach, Mode, ShowsEach, Turn, opened, run}
+use Rattle.rd_run.specs.Validity.{EndsWell, IsValidScript}
 use Rattle.rd_run.specs.declared.status.Status.{Status}
 use Rattle.rd_run.specs.declared.status.Status.TheVariants.{Done, WriteFault}
 use Rattle.rd_play.specs.Acts.{Finishes, SpentBy, Stopped, Tells, summary_of}
-use Rattle.rd_play.specs.Played.{Played, Spent}
+use Rattle.rd_play.specs.Played.{Completes, Played, Spent}
 use Rattle.rd_play.specs.declared.halt.Stop.{Stop}
 use Rattle.rd_play.specs.declared.halt.Stop.TheVariants as stops
 use Rattle.rd_play.proofs.Telling.{broke-after}
@@ -109,60 +110,67 @@ spent stops.ReportBroke given mode turns bytes left result report c0 c1 h f = in
 abbrev pub KnowsAlways : Type 0
 KnowsAlways = (mode : Mode) (turns : List Turn) → KnowsEach (opened mode) turns
 
--- a run that has begun
-pub played : (stop : Stop) (given : Given) (mode : Mode) (l0 : Option (List ℕ)) (source : Drawn) (screen : Sunk) (result : Status) (p0 p1 p2 : Option (List ℕ)) (n0 n1 n2 c0 c1 : ℕ)
-    → ShowsAlways → KnowsAlways → n0 ≤ n1 → n1 ≤ n2
-    → (turns : List Turn) × (bytes : List ℕ) × Consumes l0 source.left bytes × Stopped stop given (Some mode) turns bytes source screen (sunk p0 p1 n0 n1)
-    × SpentBy stop given (Some mode) turns bytes source.left c0 c1
-    → Finishes stop result (sunk p1 p2 n1 n2) → Played given result l0 source screen (sunk p0 p2 n0 n2) c0 c1
-played stop given mode l0 source screen result p0 p1 p2 n0 n1 n2 c0 c1 shows knows m n h f = (
-  Some mode,
-  h.0,
-  h.1,
-  h.2,
-  ended stop given (Some mode) h.0 h.1 source screen result p0 p1 p2 n0 n1 n2 shows h.3 m n f,
-  shows mode h.0,
-  knows mode h.0,
-  spent stop given (Some mode) h.0 h.1 source.left result (sunk p1 p2 n1 n2) c0 c1 h.4 f,
-)
-
-last-none : (status : Status) → last_in None status [] ≡ last_line status 0
-last-none status = refl
-
--- one that has not
-pub unplayed : (status : Status) (given : Given) (l : Option (List ℕ)) (q : ℕ) (s : Option (List ℕ)) (m : ℕ) (result : Status) (p0 p1 : Option (List ℕ)) (n0 n1 c : ℕ) → ShowsAlways → n0 ≤ n1
-    → ((source : Drawn) → Comes given None status [] [] source) → Finishes (stops.Ends status 0) result (sunk p0 p1 n0 n1)
-    → Played given result l (record { left = l; faults_before = q; faults_after = q }) (sunk s s m m) (sunk p0 p1 n0 n1) c c
-unplayed status given l q s m result p0 p1 n0 n1 c shows n comes f =
-    let source : Drawn = record { left = l; faults_before = q; faults_after = q } in
-    let none : n0 ≤ n0 = omega arith in
-    let same : c ≤ c + 0 = omega arith in (
-      None,
-      [],
-      [],
-      Consumes-nil l,
-      ended (stops.Ends status 0) given None [] [] source (sunk s s m m) result p0 p0 p1 n0 n0 n1 shows (comes source, last-none status, Appends-nil s, Appends-nil p0) none n f,
-      tt,
-      tt,
-      inl same,
-    )
-
 -- a run over a valid script ends well
 abbrev pub EndWell : Type 0
-EndWell = (script : List ℕ) (mode : Mode) (e : End) → IsMode e.given mode → IsValidScript mode script → IsFaultless script e → EndsWell e.status
+EndWell = (script : List ℕ) (mode : Mode) (e : End) → IsMode e.given mode → IsValidScript mode e.turns script → IsFaultless script e → EndsWell e.status
 
-pub played-well : (law : EndWell) (given : Given) (result : Status) (l0 : Option (List ℕ)) (source : Drawn) (screen report : Sunk) (c0 c1 : ℕ) (mode : Mode) (script : List ℕ)
-    → Played given result l0 source screen report c0 c1 → IsMode given mode → AreTold given → l0 ≡ Some script → IsValidScript mode script → (HasFailed given → ⊥)
-    → (Rose source.faults_before source.faults_after → ⊥) → (Rose screen.faults_before screen.faults_after → ⊥) → (Rose report.faults_before report.faults_after → ⊥) → EndsWell result
-played-well law given result l0 source screen report c0 c1 mode script p begun files left valid fetched read sent told =
-    let e : End = record { given = given; mode = p.0; status = result; turns = p.1; bytes = p.2; source = source; screen = screen; report = report } in
+completes : (law : EndWell) (given : Given) (begun : Option Mode) (result : Status) (turns : List Turn) (bytes : List ℕ) (l0 : Option (List ℕ)) (source : Drawn) (screen report : Sunk)
+    → Consumes l0 source.left bytes → Ended given begun result turns bytes source screen report → Completes given result turns l0 source screen report
+completes law given begun result turns bytes l0 source screen report taken ends = λ mode script good files left valid fetched read sent told.
+    let e : End = record { given = given; mode = begun; status = result; turns = turns; bytes = bytes; source = source; screen = screen; report = report } in
     let whole : IsFaultless script e = record {
-      taken = subst (λ l. Consumes l source.left p.2) left p.3;
-      ended = p.4;
+      taken = λ reads. subst (λ l. Consumes l source.left bytes) (left reads) taken;
+      ended = ends;
       files = files;
       fetched = fetched;
       read = read;
       sent = sent;
       told = told;
     } in
-    law script mode e begun valid whole
+    law script mode e good valid whole
+
+-- a run that has begun
+pub played : (stop : Stop) (given : Given) (mode : Mode) (l0 : Option (List ℕ)) (source : Drawn) (screen : Sunk) (result : Status) (p0 p1 p2 : Option (List ℕ)) (n0 n1 n2 c0 c1 : ℕ)
+    → ShowsAlways → KnowsAlways → EndWell → n0 ≤ n1 → n1 ≤ n2
+    → (turns : List Turn) × (bytes : List ℕ) × Consumes l0 source.left bytes × Stopped stop given (Some mode) turns bytes source screen (sunk p0 p1 n0 n1)
+    × SpentBy stop given (Some mode) turns bytes source.left c0 c1
+    → Finishes stop result (sunk p1 p2 n1 n2) → Played given result l0 source screen (sunk p0 p2 n0 n2) c0 c1
+played stop given mode l0 source screen result p0 p1 p2 n0 n1 n2 c0 c1 shows knows well m n h f =
+    let report = sunk p0 p2 n0 n2 in
+    let ends : Ended given (Some mode) result h.0 h.1 source screen report = ended stop given (Some mode) h.0 h.1 source screen result p0 p1 p2 n0 n1 n2 shows h.3 m n f in (
+      Some mode,
+      h.0,
+      h.1,
+      h.2,
+      ends,
+      shows mode h.0,
+      knows mode h.0,
+      spent stop given (Some mode) h.0 h.1 source.left result (sunk p1 p2 n1 n2) c0 c1 h.4 f,
+      completes well given (Some mode) result h.0 h.1 l0 source screen report h.2 ends,
+    )
+
+last-none : (status : Status) → last_in None status [] ≡ last_line status 0
+last-none status = refl
+
+-- one that has not
+pub unplayed : (status : Status) (given : Given) (l : Option (List ℕ)) (q : ℕ) (s : Option (List ℕ)) (m : ℕ) (result : Status) (p0 p1 : Option (List ℕ)) (n0 n1 c : ℕ) → ShowsAlways → EndWell → n0 ≤ n1
+    → ((source : Drawn) → Comes given None status [] [] source) → Finishes (stops.Ends status 0) result (sunk p0 p1 n0 n1)
+    → Played given result l (record { left = l; faults_before = q; faults_after = q }) (sunk s s m m) (sunk p0 p1 n0 n1) c c
+unplayed status given l q s m result p0 p1 n0 n1 c shows well n comes f =
+    let source : Drawn = record { left = l; faults_before = q; faults_after = q } in
+    let screen = sunk s s m m in
+    let report = sunk p0 p1 n0 n1 in
+    let none : n0 ≤ n0 = omega arith in
+    let same : c ≤ c + 0 = omega arith in
+    let ends : Ended given None result [] [] source screen report =
+    ended (stops.Ends status 0) given None [] [] source screen result p0 p0 p1 n0 n0 n1 shows (comes source, last-none status, Appends-nil s, Appends-nil p0) none n f in (
+      None,
+      [],
+      [],
+      Consumes-nil l,
+      ends,
+      tt,
+      tt,
+      inl same,
+      completes well given None result [] [] l source screen report (Consumes-nil l) ends,
+    )

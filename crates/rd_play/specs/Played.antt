@@ -2,9 +2,10 @@
 use Rattle.std.specs.Prelude.{◌≡◌, ℕ, ◌+◌, ◌≤◌, ◌⊎◌, Bool, false, List, [], ◌∷◌, ◌++◌, Option, None, Some}
 use Rattle.std.specs.Io.KnownBytes.{Consumes}
 use Rattle.rd_io.specs.Devices.{Rose}
-use Rattle.rd_run.specs.Ends.{Drawn, Ended, EndsWell, IsInHand, IsValidScript, ShowsIn, Sunk, allowed_in}
-use Rattle.rd_run.specs.Given.{AreTold, Given, HasFailed, IsMode}
+use Rattle.rd_run.specs.Ends.{Drawn, Ended, IsInHand, ShowsIn, Sunk, allowed_in}
+use Rattle.rd_run.specs.Given.{AreTold, Given, HasFailed, IsMode, ReadsScript}
 use Rattle.rd_run.specs.Runs.{KnowsEach, Mode, Turn, opened}
+use Rattle.rd_run.specs.Validity.{EndsWell, IsValidScript}
 use Rattle.rd_run.specs.declared.status.Status.{Status}
 use Rattle.rd_run.specs.declared.status.Status.TheVariants.{ReadFault, WriteFault}
 
@@ -29,18 +30,21 @@ abbrev pub Spent : Given → Option Mode → Status → List Turn → List ℕ �
 Spent given mode status turns bytes left before after =
     (after ≤ before + allowed_in mode turns) ⊎ ((status ≡ WriteFault) × SpentInHand given mode turns bytes left before after)
 
+-- Under valid words, over good files that are told, a run of these turns over a script without a bad line, which is told where it is
+-- read, ended done or for want of memory, unless a count rose.
+abbrev pub Completes : Given → Status → List Turn → Option (List ℕ) → Drawn → Sunk → Sunk → Type 0
+Completes given result turns before source screen report =
+    (mode : Mode) (script : List ℕ) → IsMode given mode → AreTold given → (ReadsScript given → before ≡ Some script) → IsValidScript mode turns script → ¬ HasFailed given
+    → ¬ Rose source.faults_before source.faults_after → ¬ Rose screen.faults_before screen.faults_after → ¬ Rose report.faults_before report.faults_after → EndsWell result
+
 -- A run under what is given ended with this status: for some lines that were run and bytes that were taken from the source, what was
 -- written is theirs; behind each redisplay that was shown the terminal shows what the rules give from nothing, and behind each that was
--- shown or stopped the current screen; and the counts of the steps before and behind it are no further apart than the redisplays allow.
+-- shown or stopped the current screen; the counts of the steps before and behind it are no further apart than the redisplays allow; and
+-- over a script without a bad line it ended well.
 abbrev pub Played : Given → Status → Option (List ℕ) → Drawn → Sunk → Sunk → ℕ → ℕ → Type 0
 Played given result before source screen report from to = (mode : Option Mode) × (turns : List Turn) × (bytes : List ℕ) × Consumes before source.left bytes
     × Ended given mode result turns bytes source screen report × ShowsIn mode turns × KnowsIn mode turns × Spent given mode result turns bytes source.left from to
-
--- Under valid words, over good files that are told, a script that is told and has no bad line ended done, or without memory, unless a count rose.
-abbrev pub Completes : Given → Status → Option (List ℕ) → Drawn → Sunk → Sunk → Type 0
-Completes given result before source screen report =
-    (mode : Mode) (bytes : List ℕ) → IsMode given mode → AreTold given → before ≡ Some bytes → IsValidScript mode bytes → ¬ HasFailed given
-    → ¬ Rose source.faults_before source.faults_after → ¬ Rose screen.faults_before screen.faults_after → ¬ Rose report.faults_before report.faults_after → EndsWell result
+    × Completes given result turns before source screen report
 
 -- a read fault is answered only where the count of the source rose, or that of a file which the words name
 abbrev pub HasReadFault : Given → Status → Drawn → Type 0

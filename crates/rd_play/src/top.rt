@@ -4,7 +4,7 @@ ghost use Rattle.std.specs.Io.KnownBytes.{Consumes};
 ghost use Rattle.rd_files.specs.DataFiles.{meaning as files_meaning};
 ghost use Rattle.rd_play.specs.Acts.{Begins, Finishes, IsOpened, IsNew, SpentBy, Stopped, Tells, mode_of, status_of, summary_of};
 ghost use Rattle.rd_play.specs.Devices.{drawn_by, given_by, sunk_by};
-ghost use Rattle.rd_play.specs.Played.{Completes, HasReadFault, Played};
+ghost use Rattle.rd_play.specs.Played.{HasReadFault, Played};
 ghost use Rattle.rd_run.specs.Given.{Given, IsMode};
 ghost use Rattle.rd_run.specs.Reports.{last_line};
 ghost use Rattle.rd_run.specs.Runs.{Turn};
@@ -42,8 +42,10 @@ use std::sync::ledger::Ledger;
 ///
 /// `ran` says of the lines run and the bytes taken when each status comes, what was written then, that behind each redisplay that
 /// was shown the written terminal shows what the rules give from nothing, that behind each that was shown or stopped the current
-/// screen is what the terminal shows, and that the steps rise by no more than the redisplays that were begun may place. `complete`
-/// says that under valid words, over good files that are told, a script without a bad line ends Done or NoMemory, where no count rose.
+/// screen is what the terminal shows, and that the steps rise by no more than the redisplays that were begun may place. It says too
+/// that under valid words, over good files that are told, a script without a bad line ends Done or NoMemory, where no count rose. A
+/// script has no bad line if each op is accepted for some choice of redisplays without memory that is the run's own as far as it went:
+/// want of memory at a redisplay can make a later hit be refused. It is to be told unless it is generated.
 ///
 /// Each file and each line is read once.
 pub fn play<S: Source, F: Files, K: Sink, R: Sink, L: Ledger>(
@@ -57,8 +59,6 @@ pub fn play<S: Source, F: Files, K: Sink, R: Sink, L: Ledger>(
 ) -> Status
     ensures ran { Played (given_by (values_of (texts words.items)) F.contents F.faults files.old files.new) result (S.left script.old)
         (drawn_by S.left S.faults script.old script.new) (sunk_by K.written K.faults screen.old screen.new) (sunk_by R.written R.faults report.old report.new) steps.old steps.new }
-    ensures complete { Completes (given_by (values_of (texts words.items)) F.contents F.faults files.old files.new) result (S.left script.old)
-        (drawn_by S.left S.faults script.old script.new) (sunk_by K.written K.faults screen.old screen.new) (sunk_by R.written R.faults report.old report.new) }
     ensures read { HasReadFault (given_by (values_of (texts words.items)) F.contents F.faults files.old files.new) result (drawn_by S.left S.faults script.old script.new) }
     ensures unread { (w : WordValues) → values_of (texts words.items) ≡ Some w → IsSome w.generate → script.new ≡ script.old }
     ensures script { S.faults script.old ≤ S.faults script.new }
@@ -67,7 +67,6 @@ pub fn play<S: Source, F: Files, K: Sink, R: Sink, L: Ledger>(
     ensures screen { K.faults screen.old ≤ K.faults screen.new }
     ensures report { R.faults report.old ≤ R.faults report.new }
 {
-    valid_scripts_end_well();
     play_words(
         alloc,
         words.as_slice(),
@@ -99,6 +98,7 @@ fn play_words<S: Source, F: Files, K: Sink, R: Sink, L: Ledger>(
     ensures report { R.faults report.old ≤ R.faults report.new }
 {
     each_redisplay_is_shown();
+    valid_scripts_end_well();
     match begun(alloc, words, files) {
         Ok(mut run) => run_whole(alloc, &mut run, script, screen, report, steps),
         Err(status) => finish(report, Stop::Ends(status, 0)),
@@ -175,6 +175,7 @@ fn run_whole<S: Source, K: Sink, R: Sink, L: Ledger>(
 {
     each_redisplay_is_shown();
     each_slice_is_known();
+    valid_scripts_end_well();
     let stop = run_all(alloc, run, script, screen, report, steps);
     finish(report, stop)
 }

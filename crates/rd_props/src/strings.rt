@@ -118,8 +118,23 @@ pub fn strings_at(alloc: Global, view: &View, pos: Pos) -> Result<ListOf<u32>, M
     let ending = overlays.ending(pos)?;
     let starting = overlays.starting(pos)?;
     let mut strings = ListOf::new(alloc);
-    add_backward(&mut strings, StringPlace::Closing, overlays, ending.as_slice())?;
-    add_forward(&mut strings, StringPlace::Between, overlays, starting.as_slice())?;
-    add_forward(&mut strings, StringPlace::Opening, overlays, starting.as_slice())?;
+    add_backward(
+        &mut strings,
+        StringPlace::Closing,
+        overlays,
+        ending.as_slice(),
+    )?;
+    add_forward(
+        &mut strings,
+        StringPlace::Between,
+        overlays,
+        starting.as_slice(),
+    )?;
+    add_forward(
+        &mut strings,
+        StringPlace::Opening,
+        overlays,
+        starting.as_slice(),
+    )?;
     Ok(strings)
 }

@@ -1,20 +1,23 @@
 -- The law of two ends: the words, the files, the bytes of the script and the lines that found no memory determine how a run ends.
-use Rattle.std.proofs.Common.{◌≡◌, ℕ, suc, ◌+◌, ◌<◌, ◌≤◌, ◌⊎◌, inl, inr, Bool, List, [], ◌∷◌, ◌++◌, length, drop, Option, None, Some, refl, sym, ap, ◌∙◌, subst, append_assoc, append-nil, arith}
+use Rattle.std.proofs.Common.{◌≡◌, ℕ, suc, ◌+◌, ◌<◌, ◌≤◌, ◌⊎◌, inl, inr, List, [], ◌∷◌, ◌++◌, length, drop, Option, None, Some, refl, sym, ap, ◌∙◌, subst, append_assoc, append-nil, arith}
 use Rattle.std.specs.List.{AllByRecursion}
 use Rattle.std.proofs.lemmas.List.{take-append-drop}
 use Rattle.rd_generate.specs.Generated.{script as generated}
 use Rattle.rd_io.specs.Devices.{Rose}
 use Rattle.rd_io.specs.Lines.{lines_of}
-use Rattle.rd_run.specs.Alike.{End, IsUndisturbed, AreStarvedAlike, AreAlike}
-use Rattle.rd_run.specs.Ends.{Drawn, Took, AreAll, AreInLimits, AreScript, Comes, ComesIn, IsBad, IsOver, IsPast, IsWhole, Ran, last_in, lines_in, script_of, sent_in, told_in}
-use Rattle.rd_run.specs.Given.{Given, AreTold, HasFailed}
+use Rattle.rd_run.specs.Alike.{End, IsUndisturbed, AreGivenAlike, AreStarvedAlike, AreStarvedAlikeIn, AreAlike}
+use Rattle.rd_run.specs.Ends.{Drawn, Took, AreAll, AreInLimits, AreScript, Comes, ComesIn, IsBad, IsOver, IsPast, IsWhole, Ran, done_of, last_in, lines_in, sent_in, told_in}
+use Rattle.rd_run.specs.Given.{Given, AreTold, HasFailed, IsMode, ReadsScript}
+use Rattle.rd_run.specs.Reports.{last_line}
 use Rattle.rd_run.specs.Runs.{Mode, Turn, World, opened, run, turn}
+use Rattle.rd_run.specs.Validity.{script_of}
 use Rattle.rd_run.specs.declared.status.ScriptFault.{ScriptFault}
 use Rattle.rd_run.specs.declared.status.ScriptFault.TheVariants.{TooLong, TooMany, Op, Refused}
 use Rattle.rd_run.specs.declared.status.Status.{Status}
 use Rattle.rd_run.specs.declared.status.Status.TheVariants.{Done, Usage, BadData, BadScript, ReadFault, WriteFault, NoMemory}
-use Rattle.rd_run.proofs.Begun.{AreGivenAlike, flipped, modes-same, not-begun, refused-alike, refuses}
-use Rattle.rd_run.proofs.Scripts.{IsTakenFrom, ends-there, first-lines, goes-on, long-line, more-line}
+use Rattle.rd_run.proofs.Begun.{flipped, modes-same, not-begun, refused-alike, refuses}
+use Rattle.rd_run.proofs.Scripts.{IsTakenFrom, IsTakenIn, ends-there, first-lines, goes-on, long-line, more-line}
+use Rattle.rd_run.proofs.Starved.{head-of, rest-of, turn-alike}
 use Rattle.rd_run.proofs.Turns.{lines-length, lines-push, turns-push, run-push, run-clear}
 use Rattle.rd_run.proofs.Whole.{whole-of}
 
@@ -49,12 +52,6 @@ Stops o w n (t ∷ ts) lines status =
 
 -- ---- it stops at one place
 
-head-of : (x y : List ℕ) (xs ys : List (List ℕ)) → x ∷ xs ≡ y ∷ ys → x ≡ y
-head-of x y xs ys e = cc
-
-rest-of : (x y : List ℕ) (xs ys : List (List ℕ)) → x ∷ xs ≡ y ∷ ys → xs ≡ ys
-rest-of x y xs ys e = cc
-
 no-line : (lines : List (List ℕ)) (y : List ℕ) (ys : List (List ℕ)) → lines ≡ [] → lines ≡ y ∷ ys → ⊥
 no-line lines y ys p q = let e : [] ≡ y ∷ ys = sym p ∙ q in cc
 
@@ -88,33 +85,33 @@ same-fault o a b p q = let e : Some a ≡ Some b = sym p ∙ q in cc
 no-fault : (o : Option ScriptFault) (a : ScriptFault) → o ≡ Some a → o ≡ None → ⊥
 no-fault o a p q = let e : Some a ≡ None = sym p ∙ q in cc
 
+-- as many lines were run, and the run stands at the same
+pub record AreRunAlike (w : World) (ts us : List Turn) : Type 0 where
+  pub same : run w ts ≡ run w us
+  pub count : length ts ≡ length us
+
 -- behind a line that both have run
-behind-alike : (o : Option ℕ) (w : World) (n : ℕ) (ts us : List Turn) (more : List (List ℕ)) (s r : Status) → (Stops o w (n + 1) ts more s → Stops o w (n + 1) us more r → (ts ≡ us) × (s ≡ r))
-    → StopsAt w n ts s ⊎ ((w.fault ≡ None) × Stops o w (n + 1) ts more s) → StopsAt w n us r ⊎ ((w.fault ≡ None) × Stops o w (n + 1) us more r) → (ts ≡ us) × (s ≡ r)
+behind-alike : (o : Option ℕ) (w : World) (n : ℕ) (ts us : List Turn) (more : List (List ℕ)) (s r : Status) → (Stops o w (n + 1) ts more s → Stops o w (n + 1) us more r → AreRunAlike w ts us × (s ≡ r))
+    → StopsAt w n ts s ⊎ ((w.fault ≡ None) × Stops o w (n + 1) ts more s) → StopsAt w n us r ⊎ ((w.fault ≡ None) × Stops o w (n + 1) us more r) → AreRunAlike w ts us × (s ≡ r)
 behind-alike o w n ts us more s r on (inl a) (inl b) =
-    (a.2 ∙ sym b.2, a.3 ∙ ap (λ fault. BadScript (n + 1) fault) (same-fault w.fault a.0 b.0 a.1 b.1) ∙ sym b.3)
+    let none : ts ≡ us = a.2 ∙ sym b.2 in
+    (record { same = ap (run w) none; count = ap length none }, a.3 ∙ ap (λ fault. BadScript (n + 1) fault) (same-fault w.fault a.0 b.0 a.1 b.1) ∙ sym b.3)
 behind-alike o w n ts us more s r on (inl a) (inr b) = absurd (no-fault w.fault a.0 a.1 b.0)
 behind-alike o w n ts us more s r on (inr a) (inl b) = absurd (no-fault w.fault b.0 b.1 a.0)
 behind-alike o w n ts us more s r on (inr a) (inr b) = on a.1 b.1
 
-abbrev pub turn_of : List ℕ → Bool → Turn
-turn_of line starved = record { line = line; starved = starved }
-
-turn-same : (t u : Turn) → t.line ≡ u.line → t.starved ≡ u.starved → t ≡ u
-turn-same t u p q = ap (λ line. turn_of line t.starved) p ∙ ap (λ starved. turn_of u.line starved) q
-
-stops-alike : (o : Option ℕ) (w : World) (n : ℕ) (ts us : List Turn) (lines : List (List ℕ)) (s r : Status) → AreStarvedAlike ts us → Stops o w n ts lines s → Stops o w n us lines r
-    → (ts ≡ us) × (s ≡ r)
-stops-alike o w n [] [] lines s r h p q = (refl, before-alike o n lines s r p q)
+stops-alike : (o : Option ℕ) (w : World) (n : ℕ) (ts us : List Turn) (lines : List (List ℕ)) (s r : Status) → AreStarvedAlike w ts us → Stops o w n ts lines s → Stops o w n us lines r
+    → AreRunAlike w ts us × (s ≡ r)
+stops-alike o w n [] [] lines s r h p q = (record { same = refl; count = refl }, before-alike o n lines s r p q)
 stops-alike o w n [] (u ∷ us) lines s r h p q = absurd (not-further o n u.line q.0 lines s p q.1 q.2)
 stops-alike o w n (t ∷ ts) [] lines s r h p q = absurd (not-further o n t.line p.0 lines r q p.1 p.2)
 stops-alike o w n (t ∷ ts) (u ∷ us) lines s r h p q =
     let both : t.line ∷ p.0 ≡ u.line ∷ q.0 = sym p.1 ∙ q.1 in
-    let same : t ≡ u = turn-same t u (head-of t.line u.line p.0 q.0 both) h.0 in
-    let Behind : Turn → List (List ℕ) → Type 0 = λ x more. StopsAt (turn w x) n us r ⊎ (((turn w x).fault ≡ None) × Stops o (turn w x) (n + 1) us more r) in
-    let other : Behind t p.0 = subst (λ x. Behind x p.0) (sym same) (subst (Behind u) (sym (rest-of t.line u.line p.0 q.0 both)) q.3) in
+    let same : turn w t ≡ turn w u = turn-alike w t u (head-of t.line u.line p.0 q.0 both) h.0 in
+    let Behind : World → List (List ℕ) → Type 0 = λ v more. StopsAt v n us r ⊎ ((v.fault ≡ None) × Stops o v (n + 1) us more r) in
+    let other : Behind (turn w t) p.0 = subst (λ v. Behind v p.0) (sym same) (subst (Behind (turn w u)) (sym (rest-of t.line u.line p.0 q.0 both)) q.3) in
     let on = behind-alike o (turn w t) n ts us p.0 s r (λ a b. stops-alike o (turn w t) (n + 1) ts us p.0 s r h.1 a b) p.3 other in
-    (ap (λ x. x ∷ ts) same ∙ ap (λ xs. u ∷ xs) on.0, on.1)
+    (record { same = on.0.same ∙ ap (λ v. run v us) same; count = ap (λ k. suc k) on.0.count }, on.1)
 
 -- ---- lines that pass no limit
 
@@ -170,10 +167,10 @@ stops-before o mode lines turns more s clear passed split h =
     subst (λ ls. Stops o (opened mode) 0 turns ls s) (sym split) (subst (λ ts. Stops o (opened mode) 0 ts (lines_in turns ++ more) s) (append-nil turns) at)
 
 -- the script was run to its end
-done-stops : (o : Option ℕ) (mode : Mode) (script : List ℕ) (turns : List Turn) (bytes : List ℕ) (left : Option (List ℕ)) → IsTakenFrom script bytes left → Ran mode turns
+done-stops : (o : Option ℕ) (mode : Mode) (script : List ℕ) (turns : List Turn) (bytes : List ℕ) (left : Option (List ℕ)) → IsTakenIn o script bytes left → Ran mode turns
     → AreAll o turns bytes left → Stops o (opened mode) 0 turns (script_of o script) Done
 done-stops None mode script turns bytes left p ran all =
-    let whole : lines_of script ≡ lines_in turns ++ [] = ap lines_of (ends-there script bytes left p all.2) ∙ all.1 ∙ sym (append-nil (lines_in turns)) in
+    let whole : lines_of script ≡ lines_in turns ++ [] = ap lines_of (ends-there script bytes left (p refl) all.2) ∙ all.1 ∙ sym (append-nil (lines_in turns)) in
     stops-before None mode (lines_of script) turns [] Done ran (passed-limits turns all.0) whole (inl (refl, refl))
 done-stops (Some number) mode script turns bytes left p ran all =
     let whole : generated number ≡ lines_in turns ++ [] = sym all.0 ∙ sym (append-nil (lines_in turns)) in
@@ -184,9 +181,9 @@ first-passed : (o : Option ℕ) (turns : List Turn) (bytes : List ℕ) (left : O
 first-passed None turns bytes left first = passed-limits turns first.0
 first-passed (Some number) turns bytes left first = passed-generated number 0 turns
 
-pub script-splits : (o : Option ℕ) (script : List ℕ) (lines : List (List ℕ)) (bytes : List ℕ) (left : Option (List ℕ)) → IsTakenFrom script bytes left → AreScript o lines bytes left
+pub script-splits : (o : Option ℕ) (script : List ℕ) (lines : List (List ℕ)) (bytes : List ℕ) (left : Option (List ℕ)) → IsTakenIn o script bytes left → AreScript o lines bytes left
     → (more : List (List ℕ)) × (script_of o script ≡ lines ++ more)
-script-splits None script lines bytes left p first = first-lines lines script bytes left p first
+script-splits None script lines bytes left p first = first-lines lines script bytes left (p refl) first
 script-splits (Some number) script lines bytes left p first =
     let all = generated number in
     (drop (length lines) all, sym (take-append-drop (length lines) all) ∙ ap (λ front. front ++ drop (length lines) all) (sym first.0))
@@ -206,7 +203,7 @@ bad-at o mode lines fault others t more clear bad passed split =
     (stops-behind o (opened mode) 0 others (t ∷ []) (t.line ∷ more) status clear (passed-front o 0 others (t ∷ []) passed) at)
 
 -- a line is bad
-bad-stops : (mode : Mode) (script : List ℕ) (fault : ScriptFault) (number : ℕ) (turns : List Turn) (bytes : List ℕ) (left : Option (List ℕ)) → IsTakenFrom script bytes left
+bad-stops : (mode : Mode) (script : List ℕ) (fault : ScriptFault) (number : ℕ) (turns : List Turn) (bytes : List ℕ) (left : Option (List ℕ)) → IsTakenIn mode.generated script bytes left
     → IsBad mode fault number turns bytes left → Stops mode.generated (opened mode) 0 turns (script_of mode.generated script) (BadScript number fault)
 bad-stops mode script fault number turns bytes left p bad =
     let o = mode.generated in
@@ -237,12 +234,13 @@ over-stops mode script TooMany number turns bytes left p ran at over =
 over-stops mode script (Op fault) number turns bytes left p ran at over = absurd over
 over-stops mode script (Refused refused) number turns bytes left p ran at over = absurd over
 
-past-stops : (mode : Mode) (script : List ℕ) (fault : ScriptFault) (number : ℕ) (turns : List Turn) (bytes : List ℕ) (left : Option (List ℕ)) → IsTakenFrom script bytes left
+past-stops : (mode : Mode) (script : List ℕ) (fault : ScriptFault) (number : ℕ) (turns : List Turn) (bytes : List ℕ) (left : Option (List ℕ)) → IsTakenIn mode.generated script bytes left
     → IsPast mode fault number turns bytes → Stops mode.generated (opened mode) 0 turns (script_of mode.generated script) (BadScript number fault)
 past-stops mode script fault number turns bytes left p past =
-    subst (λ o. Stops o (opened mode) 0 turns (script_of o script) (BadScript number fault)) (sym past.read) (over-stops mode script fault number turns bytes left p past.ran past.at past.over)
+    subst (λ o. Stops o (opened mode) 0 turns (script_of o script) (BadScript number fault)) (sym past.read)
+    (over-stops mode script fault number turns bytes left (p past.read) past.ran past.at past.over)
 
-comes-stops : (mode : Mode) (script : List ℕ) (status : Status) (turns : List Turn) (bytes : List ℕ) (source : Drawn) → IsTakenFrom script bytes source.left
+comes-stops : (mode : Mode) (script : List ℕ) (status : Status) (turns : List Turn) (bytes : List ℕ) (source : Drawn) → IsTakenIn mode.generated script bytes source.left
     → (Rose source.faults_before source.faults_after → ⊥) → (status ≡ NoMemory → ⊥) → ComesIn mode status turns bytes source
     → Stops mode.generated (opened mode) 0 turns (script_of mode.generated script) status
 comes-stops mode script Done turns bytes source p read found (ran, all) = done-stops mode.generated mode script turns bytes source.left p ran all
@@ -256,20 +254,30 @@ comes-stops mode script NoMemory turns bytes source p read found c = absurd (fou
 
 -- ---- the law
 
+-- where the script is read its bytes are told
+pub taken-in : (given : Given) (mode : Mode) (script bytes : List ℕ) (left : Option (List ℕ)) → IsMode given mode → (ReadsScript given → IsTakenFrom script bytes left)
+    → IsTakenIn mode.generated script bytes left
+taken-in given mode script bytes left m taken = λ read. taken (m.words, m.said, sym m.generated ∙ read)
+
 -- a status has come over the bytes of a script, undisturbed
 pub record Came (script : List ℕ) (given : Given) (mode : Option Mode) (status : Status) (turns : List Turn) : Type 0 where
   pub bytes : List ℕ
   pub source : Drawn
-  pub taken : IsTakenFrom script bytes source.left
+  pub taken : ReadsScript given → IsTakenFrom script bytes source.left
   pub told : AreTold given
   pub fetched : HasFailed given → ⊥
   pub read : Rose source.faults_before source.faults_after → ⊥
   pub found : status ≡ NoMemory → ⊥
   pub comes : Comes given mode status turns bytes source
 
--- both have begun alike, have run the same lines, and have one status
-came-alike : (script : List ℕ) (a b : Given) (m n : Option Mode) (s r : Status) (ts us : List Turn) → AreGivenAlike a b → AreStarvedAlike ts us → Came script a m s ts → Came script b n r us
-    → (m ≡ n) × (ts ≡ us) × (s ≡ r)
+-- as many lines were run from the beginning, if any, and the run stands at the same
+abbrev pub HaveRunAlike : Option Mode → List Turn → List Turn → Type 0
+HaveRunAlike None ts us = ts ≡ us
+HaveRunAlike (Some mode) ts us = AreRunAlike (opened mode) ts us
+
+-- both have begun alike, have run alike, and have one status
+came-alike : (script : List ℕ) (a b : Given) (m n : Option Mode) (s r : Status) (ts us : List Turn) → AreGivenAlike a b → AreStarvedAlikeIn m ts us → Came script a m s ts → Came script b n r us
+    → (m ≡ n) × HaveRunAlike m ts us × (s ≡ r)
 came-alike script a b None None s r ts us h alike p q =
     let x = refuses a s ts p.bytes p.source p.fetched p.found p.comes in
     let y = refuses b r us q.bytes q.source q.fetched q.found q.comes in
@@ -281,8 +289,11 @@ came-alike script a b (Some m) None s r ts us h alike p q =
 came-alike script a b (Some m) (Some n) s r ts us h alike p q =
     let same = modes-same a b m n h p.told p.comes.0 q.comes.0 in
     let other : ComesIn m r us q.bytes q.source = subst (λ k. ComesIn k r us q.bytes q.source) (sym same) q.comes.1 in
-    let both = stops-alike m.generated (opened m) 0 ts us (script_of m.generated script) s r alike (comes-stops m script s ts p.bytes p.source p.taken p.read p.found p.comes.1)
-    (comes-stops m script r us q.bytes q.source q.taken q.read q.found other) in
+    let first : IsTakenIn m.generated script p.bytes p.source.left = taken-in a m script p.bytes p.source.left p.comes.0 p.taken in
+    let second : IsTakenIn m.generated script q.bytes q.source.left = subst (λ (k : Mode). IsTakenIn k.generated script q.bytes q.source.left) (sym same)
+    (taken-in b n script q.bytes q.source.left q.comes.0 q.taken) in
+    let both = stops-alike m.generated (opened m) 0 ts us (script_of m.generated script) s r alike (comes-stops m script s ts p.bytes p.source first p.read p.found p.comes.1)
+    (comes-stops m script r us q.bytes q.source second q.read q.found other) in
     (ap (λ k. Some k) same, both.0, both.1)
 
 whole-end : (script : List ℕ) (e : End) → IsUndisturbed script e → IsWhole e.given e.mode e.status e.turns e.bytes e.source e.screen e.report
@@ -300,18 +311,39 @@ came script e h = record {
   comes = (whole-end script e h).comes;
 }
 
+sent-alike : (mode : Option Mode) (ts us : List Turn) → HaveRunAlike mode ts us → sent_in mode ts ≡ sent_in mode us
+sent-alike None ts us h = refl
+sent-alike (Some mode) ts us h = ap (λ (w : World). w.sent) h.same
+
+told-alike : (mode : Option Mode) (ts us : List Turn) → HaveRunAlike mode ts us → told_in mode ts ≡ told_in mode us
+told-alike None ts us h = refl
+told-alike (Some mode) ts us h = ap (λ (w : World). w.told) h.same
+
+last-alike : (mode : Option Mode) (s : Status) (ts us : List Turn) → HaveRunAlike mode ts us → last_in mode s ts ≡ last_in mode s us
+last-alike None s ts us h = ap (λ x. last_in None s x) h
+last-alike (Some mode) Done ts us h = ap (λ (w : World). done_of mode.generated w.now) h.same
+last-alike (Some mode) Usage ts us h = ap (last_line Usage) h.count
+last-alike (Some mode) (BadData file number kind) ts us h = ap (last_line (BadData file number kind)) h.count
+last-alike (Some mode) (BadScript number fault) ts us h = ap (last_line (BadScript number fault)) h.count
+last-alike (Some mode) ReadFault ts us h = ap (last_line ReadFault) h.count
+last-alike (Some mode) WriteFault ts us h = ap (last_line WriteFault) h.count
+last-alike (Some mode) NoMemory ts us h = ap (last_line NoMemory) h.count
+
 abbrev pub all_told : Option Mode → Status → List Turn → List ℕ
 all_told mode status turns = told_in mode turns ++ last_in mode status turns
 
-pub ends-alike : (script : List ℕ) (a b : End) → a.given.words ≡ b.given.words → ((name : List ℕ) → a.given.contents name ≡ b.given.contents name) → IsUndisturbed script a → IsUndisturbed script b
-    → AreStarvedAlike a.turns b.turns → AreAlike a b
-ends-alike script a b words contents p q h =
-    let same = came-alike script a.given b.given a.mode b.mode a.status b.status a.turns b.turns (words, contents) h (came script a p) (came script b q) in
+all-alike : (mode : Option Mode) (s : Status) (ts us : List Turn) → HaveRunAlike mode ts us → all_told mode s ts ≡ all_told mode s us
+all-alike mode s ts us h = ap (λ front. front ++ last_in mode s ts) (told-alike mode ts us h) ∙ ap (λ last. told_in mode us ++ last) (last-alike mode s ts us h)
+
+pub ends-alike : (script : List ℕ) (a b : End) → AreGivenAlike a.given b.given → IsUndisturbed script a → IsUndisturbed script b → AreStarvedAlikeIn a.mode a.turns b.turns → AreAlike a b
+ends-alike script a b given p q h =
+    let same = came-alike script a.given b.given a.mode b.mode a.status b.status a.turns b.turns given h (came script a p) (came script b q) in
     let one = whole-end script a p in
     let other = whole-end script b q in
-    let sent : Took b.screen (sent_in a.mode a.turns) = subst (λ m. Took b.screen (sent_in m a.turns)) (sym same.0) (subst (λ ts. Took b.screen (sent_in b.mode ts)) (sym same.1) other.sent) in
-    let told : Took b.report (all_told a.mode a.status a.turns) = subst (λ m. Took b.report (all_told m a.status a.turns)) (sym same.0)
-    (subst (λ s. Took b.report (all_told b.mode s a.turns)) (sym same.2) (subst (λ ts. Took b.report (all_told b.mode b.status ts)) (sym same.1) other.told)) in
+    let sent : Took b.screen (sent_in a.mode a.turns) =
+    subst (Took b.screen) (sym (sent-alike a.mode a.turns b.turns same.1)) (subst (λ m. Took b.screen (sent_in m b.turns)) (sym same.0) other.sent) in
+    let told : Took b.report (all_told a.mode a.status a.turns) = subst (Took b.report) (sym (all-alike a.mode a.status a.turns b.turns same.1))
+    (subst (λ m. Took b.report (all_told m a.status b.turns)) (sym same.0) (subst (λ s. Took b.report (all_told b.mode s b.turns)) (sym same.2) other.told)) in
     record {
       status = same.2;
       screen = (sent_in a.mode a.turns, one.sent, sent);

@@ -6,18 +6,18 @@ use Rattle.rd_files.specs.declared.fault.DataFile.{DataFile}
 use Rattle.rd_files.specs.declared.fault.DataKind.{DataKind}
 use Rattle.rd_ucd.specs.Data.{Data}
 use Rattle.rd_words.specs.Words.{WordValues}
+use Rattle.rd_run.specs.Alike.{AreGivenAlike, AreToldAlike}
 use Rattle.rd_run.specs.Ends.{Comes, Drawn}
 use Rattle.rd_run.specs.Given.{Given, AreTold, FileFailed, HasFailed, IsBadData, IsMode, names_of}
 use Rattle.rd_run.specs.Runs.{Mode, Turn}
 use Rattle.rd_run.specs.declared.status.Status.{Status}
 use Rattle.rd_run.specs.declared.status.Status.TheVariants.{Done, Usage, BadData, BadScript, ReadFault, WriteFault, NoMemory}
 
--- the same words are given, and what is told of each file is the same
-abbrev pub AreGivenAlike : Given → Given → Type 0
-AreGivenAlike a b = (a.words ≡ b.words) × ((name : List ℕ) → a.contents name ≡ b.contents name)
+pub itself : (given : Given) → AreGivenAlike given given
+itself given = (refl, λ w e. (refl, refl, refl))
 
 pub flipped : (a b : Given) → AreGivenAlike a b → AreGivenAlike b a
-flipped a b h = (sym h.0, λ name. sym (h.1 name))
+flipped a b h = (sym h.0, λ w e. let told = h.1 w (h.0 ∙ e) in (sym told.0, sym told.1, sym told.2))
 
 -- ---- the files
 
@@ -31,20 +31,16 @@ bytes-same (Some f) (Some g) x y e told p q =
     let second : y ≡ g = q in
     first ∙ same ∙ sym second
 
-bracket-same : (a b : List ℕ → Option (List ℕ)) (o : Option (List ℕ)) → ((name : List ℕ) → a name ≡ b name) → told_or_empty a o ≡ told_or_empty b o
-bracket-same a b None h = refl
-bracket-same a b (Some name) h = h name
-
 bracket-told : (a : List ℕ → Option (List ℕ)) (o : Option (List ℕ)) → IfSome o (λ name. IsSome (a name)) → is_some (told_or_empty a o) ≡ true
 bracket-told a None h = refl
 bracket-told a (Some name) h = h
 
-data-same : (a b : List ℕ → Option (List ℕ)) (names : Named) (x y : Result Data BadFile) → ((name : List ℕ) → a name ≡ b name) → is_some (a names.class_file) ≡ true → is_some (a names.mirror_file) ≡ true
+data-same : (a b : List ℕ → Option (List ℕ)) (names : Named) (x y : Result Data BadFile) → AreToldAlike a b names → is_some (a names.class_file) ≡ true → is_some (a names.mirror_file) ≡ true
     → IfSome names.bracket_file (λ name. IsSome (a name)) → GivesData a names x → GivesData b names y → x ≡ y
 data-same a b names x y h one two three p q =
-    let classes : p.0 ≡ q.0 = bytes-same (a names.class_file) (b names.class_file) p.0 q.0 (h names.class_file) one p.3 q.3 in
-    let mirrors : p.1 ≡ q.1 = bytes-same (a names.mirror_file) (b names.mirror_file) p.1 q.1 (h names.mirror_file) two p.4 q.4 in
-    let brackets : p.2 ≡ q.2 = bytes-same (told_or_empty a names.bracket_file) (told_or_empty b names.bracket_file) p.2 q.2 (bracket-same a b names.bracket_file h)
+    let classes : p.0 ≡ q.0 = bytes-same (a names.class_file) (b names.class_file) p.0 q.0 h.0 one p.3 q.3 in
+    let mirrors : p.1 ≡ q.1 = bytes-same (a names.mirror_file) (b names.mirror_file) p.1 q.1 h.1 two p.4 q.4 in
+    let brackets : p.2 ≡ q.2 = bytes-same (told_or_empty a names.bracket_file) (told_or_empty b names.bracket_file) p.2 q.2 h.2
     (bracket-told a names.bracket_file three) p.5 q.5 in
     let same : data_of p.0 p.1 p.2 ≡ data_of q.0 q.1 q.2 = ap (λ c. data_of c p.1 p.2) classes ∙ ap (λ m. data_of q.0 m p.2) mirrors ∙ ap (λ r. data_of q.0 q.1 r) brackets in
     sym p.6 ∙ same ∙ q.6
@@ -59,7 +55,7 @@ answers-same a b w v x y h told p q one other =
     let same = words-same a b w v h.0 p q in
     let known = told w p in
     let moved : GivesData b.contents (names_of w) y = subst (λ u. GivesData b.contents (names_of u) y) (sym same) other in
-    (same, data-same a.contents b.contents (names_of w) x y h.1 known.0 known.1 known.2 one moved)
+    (same, data-same a.contents b.contents (names_of w) x y (h.1 w p) known.0 known.1 known.2 one moved)
 
 -- ---- a run that begins
 

@@ -206,7 +206,7 @@ redisplayed-goes laws place t stop h =
     record {
       at = updated-at v (redisplayed_session v stop) u target (feed_bytes t u.bytes) session (same-frame v.files v.state) refl behind_update;
       shows = λ s. let done = done-of u.done u.rows s in updated-shows w n u target (feed_bytes t u.bytes) (reach done) done behind_update;
-      knows = λ s. behind_update.cells;
+      knows = λ s. (behind_update.sure, behind_update.cells);
     }
 
 -- an op that was accepted

@@ -4,6 +4,7 @@ pub mod Headline
 pub mod Leading
 pub mod Ops
 pub mod Scripts
+pub mod Starved
 pub mod Turns
 pub mod Validity
 pub mod Whole

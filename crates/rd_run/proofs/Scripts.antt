@@ -84,6 +84,10 @@ long-line n m rest more e long free =
 abbrev pub IsTakenFrom : List ℕ → List ℕ → Option (List ℕ) → Type 0
 IsTakenFrom script bytes left = Consumes (Some script) left bytes
 
+-- so they were where the script is read
+abbrev pub IsTakenIn : Option ℕ → List ℕ → List ℕ → Option (List ℕ) → Type 0
+IsTakenIn generated script bytes left = generated ≡ None → IsTakenFrom script bytes left
+
 -- the script goes on as the bytes taken do
 pub goes-on : (lines : List (List ℕ)) (script bytes rest : List ℕ) (left : Option (List ℕ)) → IsTakenFrom script bytes left → Begins lines bytes rest
     → (more : List ℕ) × (lines_of script ≡ lines ++ lines_of (rest ++ more))

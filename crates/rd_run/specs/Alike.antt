@@ -1,12 +1,23 @@
 -- What determines how a run ends.
-use Rattle.std.specs.Prelude.{◌≡◌, ◌≢◌, ℕ, List, [], ◌∷◌, Option, Some}
+use Rattle.std.specs.Prelude.{◌≡◌, ◌≢◌, ℕ, true, is_some, List, [], ◌∷◌, Option, None, Some}
 use Rattle.std.specs.Io.KnownBytes.{Consumes}
+use Rattle.rd_files.specs.DataFiles.{Named, told_or_empty}
 use Rattle.rd_io.specs.Devices.{Rose}
 use Rattle.rd_run.specs.Ends.{Drawn, Sunk, Took, Ended}
-use Rattle.rd_run.specs.Given.{Given, AreTold, HasFailed}
-use Rattle.rd_run.specs.Runs.{Mode, Turn}
+use Rattle.rd_run.specs.Given.{Given, AreTold, HasFailed, ReadsScript, names_of}
+use Rattle.rd_run.specs.Runs.{Mode, Turn, World, opened, outcome_at, turn}
 use Rattle.rd_run.specs.declared.status.Status.{Status}
 use Rattle.rd_run.specs.declared.status.Status.TheVariants.{NoMemory}
+use Rattle.rd_words.specs.Words.{WordValues}
+
+-- what is told of the files that are named is the same
+abbrev pub AreToldAlike : (List ℕ → Option (List ℕ)) → (List ℕ → Option (List ℕ)) → Named → Type 0
+AreToldAlike one other names = (one names.class_file ≡ other names.class_file) × (one names.mirror_file ≡ other names.mirror_file)
+    × (told_or_empty one names.bracket_file ≡ told_or_empty other names.bracket_file)
+
+-- the same words are given, and what is told of the files that they name is the same
+abbrev pub AreGivenAlike : Given → Given → Type 0
+AreGivenAlike a b = (a.words ≡ b.words) × ((w : WordValues) → a.words ≡ Some w → AreToldAlike a.contents b.contents (names_of w))
 
 -- an end of a run: how it began, its status, the lines that were run, the bytes taken from the source, and what was done to each device
 pub record End : Type 0 where
@@ -19,9 +30,10 @@ pub record End : Type 0 where
   pub screen : Sunk
   pub report : Sunk
 
--- a run over the bytes of this script ended so; the files that its words name are told, and no device failed in it
+-- a run over the bytes of this script, which are told where it is read, ended so; the files that its words name are told, and no device
+-- failed in it
 pub record IsFaultless (script : List ℕ) (e : End) : Type 0 where
-  pub taken : Consumes (Some script) e.source.left e.bytes
+  pub taken : ReadsScript e.given → Consumes (Some script) e.source.left e.bytes
   pub ended : Ended e.given e.mode e.status e.turns e.bytes e.source e.screen e.report
   pub files : AreTold e.given
   pub fetched : ¬ HasFailed e.given
@@ -34,11 +46,16 @@ pub record IsUndisturbed (script : List ℕ) (e : End) : Type 0 where
   pub faultless : IsFaultless script e
   pub found : e.status ≢ NoMemory
 
--- of the lines that both have run the same found no memory
-abbrev pub AreStarvedAlike : List Turn → List Turn → Type 0
-AreStarvedAlike [] us = Unit {0}
-AreStarvedAlike (t ∷ ts) [] = Unit {0}
-AreStarvedAlike (t ∷ ts) (u ∷ us) = (t.starved ≡ u.starved) × AreStarvedAlike ts us
+-- of the redisplays that both run from here the same find no memory
+abbrev pub AreStarvedAlike : World → List Turn → List Turn → Type 0
+AreStarvedAlike w [] us = Unit {0}
+AreStarvedAlike w (t ∷ ts) [] = Unit {0}
+AreStarvedAlike w (t ∷ ts) (u ∷ us) = (is_some (outcome_at w t) ≡ true → t.starved ≡ u.starved) × AreStarvedAlike (turn w t) ts us
+
+-- the same of runs from their beginning, where they have begun
+abbrev pub AreStarvedAlikeIn : Option Mode → List Turn → List Turn → Type 0
+AreStarvedAlikeIn None ts us = Unit {0}
+AreStarvedAlikeIn (Some mode) ts us = AreStarvedAlike (opened mode) ts us
 
 -- they have one status, one stream of bytes on the screen, and one report
 pub record AreAlike (a b : End) : Type 0 where

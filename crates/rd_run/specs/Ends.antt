@@ -236,19 +236,3 @@ Ended given mode status turns bytes source screen report =
 abbrev pub ShowsIn : Option Mode → List Turn → Type 0
 ShowsIn None turns = Unit {0}
 ShowsIn (Some mode) turns = ShowsEach (opened mode) turns
-
--- ---- scripts without a fault
-
--- the lines of a run's script, which is read from these bytes or generated
-abbrev pub script_of : Option ℕ → List ℕ → List (List ℕ)
-script_of None script = lines_of script
-script_of (Some number) script = generated number
-
--- No line of a script that is read is too long or one too many, and each op is accepted, whichever redisplays find memory.
-pub record IsValidScript (mode : Mode) (script : List ℕ) : Type 0 where
-  pub limits : mode.generated ≡ None → AreInLimits (lines_of script)
-  pub accepted : (turns : List Turn) → lines_in turns ≡ script_of mode.generated script → Ran mode turns
-
--- the run ended well
-abbrev pub EndsWell : Status → Type 0
-EndsWell status = (status ≡ Done) ⊎ (status ≡ NoMemory)

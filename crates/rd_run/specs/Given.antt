@@ -1,5 +1,5 @@
 -- What a run is given besides the script: the words of the command line, and the files that they name.
-use Rattle.std.specs.Prelude.{◌≡◌, ℕ, ◌⊎◌, List, Option, Some, Ok, Err, IfSome, IsSome}
+use Rattle.std.specs.Prelude.{◌≡◌, ℕ, ◌⊎◌, List, Option, None, Some, Ok, Err, IfSome, IsSome}
 use Rattle.rd_files.specs.DataFiles.{FailedAt, FailedAtSome, GivesData, Named, StopsAtFailed}
 use Rattle.rd_files.specs.declared.fault.DataFile.{DataFile}
 use Rattle.rd_files.specs.declared.fault.DataKind.{DataKind}
@@ -16,6 +16,10 @@ pub record Given : Type 0 where
 
 abbrev pub names_of : WordValues → Named
 names_of w = record { class_file = w.class_file; mirror_file = w.mirror_file; bracket_file = w.bracket_file }
+
+-- the words ask for no generated script: the one that is given is read
+abbrev pub ReadsScript : Given → Type 0
+ReadsScript given = (w : WordValues) × (given.words ≡ Some w) × (w.generate ≡ None)
 
 -- a run begins so: the words are those of the command, and the files that they name are good
 pub record IsMode (given : Given) (mode : Mode) : Type 0 where

@@ -5,3 +5,4 @@ pub mod Given
 pub mod Reports
 pub mod Runs
 pub mod Statuses
+pub mod Validity

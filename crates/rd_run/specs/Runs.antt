@@ -196,10 +196,10 @@ ShowsEach w [] = Unit {0}
 ShowsEach w (t ∷ ts) =
     (is_shown (outcome_at w t) ≡ true → Shows (turn w t).terminal (laid_out w.now.session.files w.now.session.state).picture) × ShowsEach (turn w t) ts
 
--- the current screen is known, and its cells are those of the terminal
+-- the current screen is known, the terminal is not confused, and its cells are those of the screen
 abbrev pub IsOn : Option Picture → Tty → Type 0
 IsOn None terminal = ⊥
-IsOn (Some screen) terminal = terminal.rows ≡ known screen.rows
+IsOn (Some screen) terminal = (terminal.confused ≡ false) × (terminal.rows ≡ known screen.rows)
 
 -- Behind each line whose redisplay was shown or stopped, whatever was edited between its slices, the current screen is what the terminal
 -- shows.

@@ -36,9 +36,11 @@ fn a_generated_run_is_summed_up()
     ensures { summary_lines 605 301 75220 (record { pos = 74001; row = 0 }) ≡ codes "lines 605\nredisplays 301\ncharacters 75220\nstart 74001.0\n" }
 {}
 
-/// A window that was never laid out is not hit.
+/// A window that was never laid out is not hit, and one whose redisplay found no memory was not laid out.
 fn nothing_is_hit_before_a_redisplay()
-    ensures refused { fault_by (Hit 0 0 0) ≡ Some (Refused NotShown) }
+    ensures refused { fault_by false (Hit 0 0 0 ∷ []) ≡ Some (Refused NotShown) }
+    ensures accepted { fault_by false (Frame 12 2 ∷ Redisplay None ∷ Hit 0 0 0 ∷ []) ≡ None }
+    ensures starved { fault_by true (Frame 12 2 ∷ Redisplay None ∷ Hit 0 0 0 ∷ []) ≡ Some (Refused NotShown) }
     ensures line { last_line (BadScript 1 (Refused NotShown)) 1 ≡ codes "script:1: NotShown\n" }
 {}
 

@@ -1,9 +1,9 @@
 //! The laws of a run.
-ghost use Rattle.std.specs.Prelude.{◌≡◌, ℕ, List};
-ghost use Rattle.rd_run.specs.Alike.{AreAlike, AreStarvedAlike, End, IsFaultless, IsUndisturbed};
-ghost use Rattle.rd_run.specs.Ends.{EndsWell, IsValidScript};
+ghost use Rattle.std.specs.Prelude.{ℕ, List};
+ghost use Rattle.rd_run.specs.Alike.{AreAlike, AreGivenAlike, AreStarvedAlikeIn, End, IsFaultless, IsUndisturbed};
 ghost use Rattle.rd_run.specs.Given.{IsMode};
 ghost use Rattle.rd_run.specs.Runs.{KnowsEach, Mode, ShowsEach, Turn, opened};
+ghost use Rattle.rd_run.specs.Validity.{EndsWell, IsValidScript};
 
 use rd_layout::{
     redisplays_keep_states, redisplays_lead_on, sessions_stay_known, targets_are_sound,
@@ -27,8 +27,8 @@ pub fn each_redisplay_is_shown()
     windows_tile_their_rectangle();
 }
 
-/// Behind each redisplay that was shown or stopped, with whatever edits between the slices of an update, the current screen is what the
-/// written terminal shows. The call does nothing.
+/// Behind each redisplay that was shown or stopped, with whatever edits between the slices of an update, the written terminal is not
+/// confused and shows the current screen. The call does nothing.
 pub fn each_slice_is_known()
     ensures { (mode : Mode) (turns : List Turn) → KnowsEach (opened mode) turns }
 {
@@ -42,16 +42,16 @@ pub fn each_slice_is_known()
     windows_tile_their_rectangle();
 }
 
-/// The run is determined. Take two ends of runs with the same words and the same files over the bytes of one script, in which no device
-/// failed and of which none came for want of memory. Where, of the lines that both have run, the same found no memory, both ends have the
-/// same status, and the same bytes went to both screens and to both reports. The call does nothing.
+/// The run is determined. Take two ends of runs with the same words and the same bytes of the files that these name, over the bytes of one
+/// script, in which no device failed and of which none came for want of memory. Where of the redisplays that both have run the same found
+/// no memory, both ends have the same status, and the same bytes went to both screens and to both reports. The call does nothing.
 pub fn two_runs_of_one_script_end_alike()
-    ensures { (script : List ℕ) (a b : End) → a.given.words ≡ b.given.words → ((name : List ℕ) → a.given.contents name ≡ b.given.contents name)
-        → IsUndisturbed script a → IsUndisturbed script b → AreStarvedAlike a.turns b.turns → AreAlike a b }
+    ensures { (script : List ℕ) (a b : End) → AreGivenAlike a.given b.given → IsUndisturbed script a → IsUndisturbed script b
+        → AreStarvedAlikeIn a.mode a.turns b.turns → AreAlike a b }
 {}
 
-/// Where the words are those of the command, the files are good, each line of the script passes the limits and each op is accepted, a run
-/// in which no device failed ends Done, or for want of memory. The call does nothing.
+/// Where the words are those of the command, the files are good, each line of the script passes the limits and each op is accepted, as its
+/// redisplays find memory, a run in which no device failed ends Done, or for want of memory. The call does nothing.
 pub fn valid_scripts_end_well()
-    ensures { (script : List ℕ) (mode : Mode) (e : End) → IsMode e.given mode → IsValidScript mode script → IsFaultless script e → EndsWell e.status }
+    ensures { (script : List ℕ) (mode : Mode) (e : End) → IsMode e.given mode → IsValidScript mode e.turns script → IsFaultless script e → EndsWell e.status }
 {}

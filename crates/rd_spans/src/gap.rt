@@ -149,7 +149,13 @@ fn ends_there(back: &[ValueRun], value: Option<u32>) -> bool
 }
 
 /// Puts a value on the positions from `from` up to `to`, where there is room for three more runs.
-pub(crate) fn put(front: &mut Vec<ValueRun>, back: &mut Vec<ValueRun>, from: u64, to: u64, value: Option<u32>)
+pub(crate) fn put(
+    front: &mut Vec<ValueRun>,
+    back: &mut Vec<ValueRun>,
+    from: u64,
+    to: u64,
+    value: Option<u32>,
+)
     requires sides { AreSides front.old.items back.old.items (vec_capacity front.old) (vec_capacity back.old) }
     requires front_more { length front.old.items + length back.old.items + 4 ≤ vec_capacity front.old }
     requires back_more { length front.old.items + length back.old.items + 4 ≤ vec_capacity back.old }

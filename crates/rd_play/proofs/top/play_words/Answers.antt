@@ -12,4 +12,4 @@ pub returns-in-Err-clause-ran : goal.returns-in-Err-clause-ran
 returns-in-Err-clause-ran g c =
     unplayed c.in-Err.status (given_by (values_of (texts c.args.words.now)) g.F.Files.contents g.F.Files.faults c.args.files.now c.begun.new.files) (g.S.Source.left c.args.script.now)
     (g.S.Source.faults c.args.script.now) (g.K.Sink.written c.args.screen.now) (g.K.Sink.faults c.args.screen.now) c.finish.result (g.R.Sink.written c.args.report.now) (g.R.Sink.written c.finish.new.report)
-    (g.R.Sink.faults c.args.report.now) (g.R.Sink.faults c.finish.new.report) c.args.steps.now c.each_redisplay_is_shown.ensures c.finish.ensures.report c.in-Err.ensures.begins c.finish.ensures.finishes
+    (g.R.Sink.faults c.args.report.now) (g.R.Sink.faults c.finish.new.report) c.args.steps.now c.each_redisplay_is_shown.ensures c.valid_scripts_end_well.ensures c.finish.ensures.report c.in-Err.ensures.begins c.finish.ensures.finishes

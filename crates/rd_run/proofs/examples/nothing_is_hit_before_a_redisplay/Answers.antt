@@ -13,6 +13,14 @@ pub returns-clause-refused : goal.returns-clause-refused
 unfolding char_width digits encode_utf8 effect_of step laid_out margins_tree mode_tree resize_tree split_tree dump_lines
 returns-clause-refused c = refl
 
+pub returns-clause-accepted : goal.returns-clause-accepted
+unfolding char_width digits encode_utf8 effect_of step laid_out margins_tree mode_tree resize_tree split_tree dump_lines
+returns-clause-accepted c = refl
+
+pub returns-clause-starved : goal.returns-clause-starved
+unfolding char_width digits encode_utf8 effect_of step laid_out margins_tree mode_tree resize_tree split_tree dump_lines
+returns-clause-starved c = refl
+
 pub returns-clause-line : goal.returns-clause-line
 unfolding char_width digits encode_utf8 effect_of step laid_out margins_tree mode_tree resize_tree split_tree dump_lines
 returns-clause-line c = refl
