@@ -1,5 +1,8 @@
 pub mod Alike
 pub mod Begun
+pub mod Free
+pub mod FreeFiles
+pub mod FreeSteps
 pub mod Headline
 pub mod Leading
 pub mod Ops
