@@ -16,13 +16,6 @@ fn what_is_kept_costs_nothing()
     ensures third { told allowed (after (Frame 12 4 ∷ Insert main_name 1 (each_in_a_line (codes "abc")) ∷ Redisplay None ∷ Redisplay None ∷ Insert main_name 5 (codes "x") ∷ [])) ≡ Ok 9 }
 {}
 
-/// Seven lines: with a letter before the first that is read from the right its paragraph turns, so that none of the first six lines keeps
-/// its rows, though only one of them was edited; the last line, behind an empty one, keeps its own.
-#[tactic(auto, unfolding(crate::specs::Screens::laid_out, rd_state::specs::Steps::step, rd_state::specs::Effects::effect_of, rd_tree::specs::Calls::split_tree, rd_tree::specs::Calls::resize_tree, rd_tree::specs::Calls::mode_tree, rd_tree::specs::Calls::margins_tree))]
-fn a_paragraph_that_turns_is_laid_out_anew()
-    ensures { told allowed (after (Frame 12 8 ∷ Insert main_name 1 (each_in_a_line (codes "abcde") ++ 10 ∷ 10 ∷ codes "f") ∷ Redisplay None ∷ Insert main_name 1 (codes "r") ∷ [])) ≡ Ok 36 }
-{}
-
 /// A redisplay that may send no row clears the screen, and the next one sends what is missing.
 #[tactic(auto, unfolding(crate::specs::Screens::laid_out, rd_state::specs::Steps::step, rd_state::specs::Effects::effect_of, rd_tree::specs::Calls::split_tree, rd_tree::specs::Calls::resize_tree, rd_tree::specs::Calls::mode_tree, rd_tree::specs::Calls::margins_tree))]
 fn a_stopped_redisplay_is_made_good()

@@ -7,7 +7,7 @@ use std::alloc::Global;
 use std::marker::Model;
 
 /// A row of cells, with the items that begin in it. It can be had from [`crate::RowMaker::next_row`], as a copy of another
-/// row, which is counted or not, and blank.
+/// row, and blank.
 #[derive(Drop)]
 pub struct Row {
     alloc: Global,
@@ -73,28 +73,13 @@ impl Row {
     pub fn copy(&self) -> Result<Row, Memory>
         ensures { IfOk result (λ row. row ≡ record { shown = self.now.shown; copies = copied self.now.copies }) }
     {
-        self.counted(self.copies.saturating_add(1))
-    }
-
-    /// The same row once more, which was copied as often as this one. [`Row::copy`] is for a row that is shown again, and counts;
-    /// this is for one that is remembered until it is asked for, and does not.
-    pub fn duplicate(&self) -> Result<Row, Memory>
-        ensures { IfOk result (λ row. row ≡ self.now) }
-    {
-        self.counted(self.copies)
-    }
-
-    /// A row that shows the same, and was copied so often.
-    fn counted(&self, copies: u32) -> Result<Row, Memory>
-        ensures { IfOk result (λ row. row ≡ record { shown = self.now.shown; copies = copies }) }
-    {
         Ok(Row {
             alloc: self.alloc,
             cells: ListOf::from_slice(self.alloc, self.cells.as_slice())?,
             begins: ListOf::from_slice(self.alloc, self.begins.as_slice())?,
             reversed: self.reversed,
             ends_block: self.ends_block,
-            copies,
+            copies: self.copies.saturating_add(1),
         })
     }
 

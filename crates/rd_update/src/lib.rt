@@ -1,7 +1,8 @@
 //! The bytes that bring a terminal from the current screen to the target screen.
 //!
-//! The current screen is what the terminal shows, the target is what it should show. In Emacs these are the current and the desired matrix of
-//! the frame (`f->current_matrix`, `f->desired_matrix`), and what this crate does is done there by `update_frame` in dispnew.c.
+//! The current screen is what the terminal shows, the target, or desired screen, is what it should show. In Emacs these are the current and
+//! the desired glyph matrix of the frame (`f->current_matrix`, `f->desired_matrix`), and what this crate does is done there by `update_frame`
+//! in dispnew.c.
 //!
 //! What goes in: the current screen, or none where nobody knows it (Emacs: a garbaged frame), and the target, of one size. What comes out: a
 //! `Plan`, which is all bytes of the update and the place in them of each row that differs. `Plan::send` sends it, up to a limit of rows,

@@ -13,13 +13,14 @@ use std::collections::VecDeque;
 use std::marker::Model;
 use std::sync::ledger::Ledger;
 
-/// A source that remembers the rows of a block at a shape when it is asked for them, and hands them out when it is asked again: so a
-/// block whose rows are asked for twice is laid out once. It has its source's blocks, rows and costs, and contracts see it as its
-/// source.
+/// A source that remembers the rows of a block at a shape when it is asked for them: so a block whose rows are asked for twice is laid
+/// out once. It gives copies of the rows that it remembers until it is to hand them out; then it gives these rows themselves, and
+/// remembers no more. It has its source's blocks, rows and costs, and contracts see it as its source.
 #[derive(Drop)]
 pub(crate) struct Remembered<B: BlockSource> {
     source: B,
     laid: VecDeque<LaidBlock>,
+    hands_out: bool,
 }
 
 /// The rows of a block at a shape.
@@ -51,7 +52,15 @@ impl<B: BlockSource> Remembered<B> {
         Remembered {
             source,
             laid: VecDeque::new(alloc),
+            hands_out: false,
         }
+    }
+
+    /// From now on it hands out what it remembers.
+    pub(crate) fn hand_out(&mut self)
+        ensures { self.new ≡ self.old }
+    {
+        self.hands_out = true;
     }
 }
 
@@ -77,17 +86,23 @@ impl<B: BlockSource> BlockSource for Remembered<B> {
         shape: Shape,
         steps: &mut Steps<L>,
     ) -> Result<Vec<Row>, Memory> {
-        if let Some(rows) = recall(&mut self.laid, block, shape) {
-            return Ok(rows);
+        if self.hands_out {
+            if let Some(rows) = recall(&mut self.laid, block, shape) {
+                return Ok(rows);
+            }
+            return self.source.rows(alloc, block, shape, steps);
+        }
+        if let Some(laid) = find(&self.laid, block, shape) {
+            return copies(alloc, laid.rows.as_slice());
         }
         let rows = self.source.rows(alloc, block, shape, steps)?;
-        let laid = LaidBlock {
+        let shown = copies(alloc, rows.as_slice())?;
+        self.laid.push_back(LaidBlock {
             block: *block,
             shape,
-            rows: duplicates(alloc, rows.as_slice())?,
-        };
-        self.laid.push_back(laid)?;
-        Ok(rows)
+            rows,
+        })?;
+        Ok(shown)
     }
 }
 
@@ -115,6 +130,16 @@ fn recall(laid: &mut VecDeque<LaidBlock>, block: &Block, shape: Shape) -> Option
     Some(found.rows)
 }
 
+/// The rows of a block at a shape among those that are remembered.
+fn find<'a>(laid: &'a VecDeque<LaidBlock>, block: &Block, shape: Shape) -> Option<&'a LaidBlock>
+    ensures source { (m : SourceValues) → All (IsLaid m) laid.now.items → IfSome result (λ _. IsSource m) }
+    ensures rows { (m : SourceValues) → All (IsLaid m) laid.now.items → IfSome result (λ found. shown_rows found.now.rows.items ≡ m.rows_of block.now shape) }
+    ensures few { (m : SourceValues) → All (IsLaid m) laid.now.items → IfSome result (λ found. length found.now.rows.items < 2 ^ 32) }
+{
+    let place = place_of(laid, block, shape)?;
+    Some(&laid[place])
+}
+
 /// The place of the rows of a block at a shape among those that are remembered. Blocks are mostly asked for in the order in which they
 /// were remembered, so it is mostly the first.
 fn place_of(laid: &VecDeque<LaidBlock>, block: &Block, shape: Shape) -> Option<usize>
@@ -129,13 +154,14 @@ fn place_of(laid: &VecDeque<LaidBlock>, block: &Block, shape: Shape) -> Option<u
     None
 }
 
-/// The same rows once more.
-fn duplicates(alloc: Global, rows: &[Row]) -> Result<Vec<Row>, Memory>
-    ensures { IfOk result (λ more. more.items ≡ rows.now) }
+/// Copies of rows.
+fn copies(alloc: Global, rows: &[Row]) -> Result<Vec<Row>, Memory>
+    ensures rows { IfOk result (λ more. shown_rows more.items ≡ shown_rows rows.now) }
+    ensures few { IfOk result (λ more. length more.items ≡ length rows.now) }
 {
     let mut more = Vec::with_capacity(alloc, rows.len())?;
     for row in rows {
-        more.push(row.duplicate()?)?;
+        more.push(row.copy()?)?;
     }
     Ok(more)
 }

@@ -68,15 +68,15 @@ pub fn lay_out<B: BlockSource + Drop, L: Ledger>(
     ensures copies { IfOk result (λ view. All (IsCopied old.now change (B.meaning source).blocks) view.matrix) }
     ensures steps { steps.new ≤ steps.old + 3 * near_costs (kept_source (B.meaning source) old.now change shape) shape wanted }
 {
-    let remembered = Remembered::new(alloc, source);
-    let mut kept = Kept::new(remembered, old, change, shape);
-    view_of(alloc, &mut kept, old, change, wanted, shape, steps)
+    let kept = Kept::new(source, old, change, shape);
+    let mut remembered = Remembered::new(alloc, kept);
+    view_of(alloc, &mut remembered, old, change, wanted, shape, steps)
 }
 
 /// What a window shows of a source, whose blocks cost what they cost where they do not keep their older rows.
 fn view_of<B: BlockSource, L: Ledger>(
     alloc: Global,
-    source: &mut B,
+    source: &mut Remembered<B>,
     old: &Matrix,
     change: Change,
     wanted: Wanted,
@@ -97,6 +97,7 @@ fn view_of<B: BlockSource, L: Ledger>(
     a_start_is_a_row();
     an_anchor_of_a_row_is_within();
     let chosen = choose(alloc, source, wanted, shape, steps)?;
+    source.hand_out();
     let matrix = relay(
         alloc,
         source,
