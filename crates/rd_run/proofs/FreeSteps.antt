@@ -162,7 +162,7 @@ session-free v (ops.OverlayMove name overlay from to) = edited-free v.state name
 session-free v (ops.OverlayDrop name overlay) = edited-free v.state name _ (λ c. either-free _ _ _ (ok-free _) (no-free NoOverlay tt))
 session-free v (ops.OverlayPut name overlay kind value) = edited-free v.state name _ (λ c. either-free _ _ _ (either-free _ _ _ (ok-free _) (no-free NoObject tt)) (no-free NoOverlay tt))
 session-free v (ops.Setting name value) = edited-free v.state name _ (λ c. either-free _ _ _ (ok-free _) (no-free NoObject tt))
-session-free v (ops.AddString text runs) = objects-free v.state _ 
+session-free v (ops.AddString text runs) = objects-free v.state _
     (fault-if _ _ _ _ (fault-some faults.NoObject _ tt) (fault-if _ _ _ _ (fault-some faults.OutOfRange _ tt) (fault-if _ _ _ _ (fault-some faults.TooLong _ tt) (fault-if _ _ _ _ (fault-some faults.TooMany _ tt) (fault-none _)))))
 session-free v (ops.AddSpec spec) = objects-free v.state _ (fault-if _ _ _ _ (fault-some faults.NoObject _ tt) (fault-if _ _ _ _ (fault-some faults.TooMany _ tt) (fault-none _)))
 session-free v (ops.AddFace face) = objects-free v.state _ (fault-if _ _ _ _ (fault-some faults.TooMany _ tt) (fault-none _))
