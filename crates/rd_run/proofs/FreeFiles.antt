@@ -1,5 +1,5 @@
 -- No fault of a data file, as the definitions tell it, is want of memory.
-use Rattle.std.proofs.Common.{◌≡◌, ◌≢◌, ℕ, Bool, true, false, if◌then◌else◌, List, [], ◌∷◌, length, nat_lt, option_to_list, slice_index_or, suc, Option, None, Some, Result, Ok, Err, ap, ◌∙◌, subst}
+use Rattle.std.proofs.Common.{◌≡◌, ◌≢◌, ℕ, Bool, true, false, if◌then◌else◌, List, [], ◌∷◌, length, nat_lt, option_to_list, slice_index_or, suc, Option, None, Some, Result, Ok, Err, ap, ◌∙◌}
 use Rattle.rd_base.specs.declared.limits.TheConstants.{FILE_BYTES}
 use Rattle.rd_files.specs.DataFiles.{bad, brackets_in, classes_in, data_of, judged, mirrors_in, or_bad, too_large, whole}
 use Rattle.rd_files.specs.declared.fault.BadFile.{BadFile}
@@ -24,6 +24,7 @@ use Rattle.rd_ucd.specs.declared.spans.Bracket.{Bracket}
 use Rattle.rd_ucd.specs.declared.spans.BracketEntry.{BracketEntry}
 use Rattle.rd_ucd.specs.declared.spans.Pair.{Pair}
 use Rattle.rd_ucd.specs.declared.spans.Span.{Span}
+use Rattle.rd_run.proofs.Faults.{either-lacks, other-lacks}
 
 -- ---- the lines of a file
 
@@ -31,16 +32,11 @@ use Rattle.rd_ucd.specs.declared.spans.Span.{Span}
 abbrev pub ReadsFree : {T : Type 0} → Result T UcdFault → Type 0
 ReadsFree r = r ≢ Err Memory
 
-abbrev pub IsFree : UcdFault → Type 0
-IsFree Memory = ⊥
-IsFree fault = Unit {0}
-
-no-free : {T : Type 0} (fault : UcdFault) → IsFree fault → ReadsFree {T = T} (Err fault)
-no-free fault h = λ e. let same : fault ≡ Memory = cc in subst IsFree same h
+no-free : {T : Type 0} (fault : UcdFault) → fault ≢ Memory → ReadsFree {T = T} (Err fault)
+no-free fault h = other-lacks Memory fault h
 
 either-free : {T : Type 0} (b : Bool) (r s : Result T UcdFault) → ReadsFree r → ReadsFree s → ReadsFree (if b then r else s)
-either-free true r s p q = p
-either-free false r s p q = q
+either-free b r s p q = either-lacks Memory b r s p q
 
 behind-free : {T : Type 0} (values : List T) (r : Result (List T) UcdFault) → ReadsFree r → ReadsFree (behind values r)
 behind-free values (Ok more) h = λ e. cc
@@ -71,7 +67,7 @@ coded-free n (Some code) name (Some class) = λ e. cc
 entry-free : (n : ℕ) (line : List ℕ) → ReadsFree (entry_of n line)
 entry-free n line =
     let fields = fields_of (chomped line) in
-    either-free _ _ _ (coded-free n (code_of (slice_index_or fields 0 [])) (slice_index_or fields 1 []) (named (slice_index_or fields 4 []))) (no-free (BadLine n) tt)
+    either-free _ _ _ (coded-free n (code_of (slice_index_or fields 0 [])) (slice_index_or fields 1 []) (named (slice_index_or fields 4 []))) (no-free (BadLine n) (λ x. cc))
 
 unless-if : (b : Bool) (o p : Option UcdFault) (r : Result (List Span) UcdFault) → ReadsFree (unless o r) → ReadsFree (unless p r) → ReadsFree (unless (if b then o else p) r)
 unless-if true o p r h k = h
@@ -88,8 +84,8 @@ spans-free least opened ((n, Ok e) ∷ entries) h =
     let front = option_to_list (span_by e.mark opened e) in
     let rest = spans_from (suc e.code) (opened_by e.mark n e) entries in
     let free : ReadsFree (behind front rest) = behind-free front rest (spans-free (suc e.code) (opened_by e.mark n e) entries h.1) in
-    unless-if (nat_lt e.code least) (Some (NotAscending n)) (if closes opened e then None else Some (BadRange n)) (behind front rest) (no-free (NotAscending n) tt)
-    (unless-if (closes opened e) None (Some (BadRange n)) (behind front rest) free (no-free (BadRange n) tt))
+    unless-if (nat_lt e.code least) (Some (NotAscending n)) (if closes opened e then None else Some (BadRange n)) (behind front rest) (no-free (NotAscending n) (λ x. cc))
+    (unless-if (closes opened e) None (Some (BadRange n)) (behind front rest) free (no-free (BadRange n) (λ x. cc)))
 
 classes-free : (bytes : List ℕ) → ReadsFree (classes_of bytes)
 classes-free bytes = spans-free 0 None (entries_in is_empty_line entry_of (lines_of bytes)) (entries-free is_empty_line entry_of (lines_of bytes) entry-free)
@@ -99,7 +95,7 @@ classes-free bytes = spans-free 0 None (entries_in is_empty_line entry_of (lines
 ascending-free : {E : Type 0} (key : E → ℕ) (least : ℕ) (entries : List (ℕ × Result E UcdFault)) → AreFree entries → ReadsFree (ascending_from key least entries)
 ascending-free key least [] h = λ e. cc
 ascending-free key least ((n, Err fault) ∷ entries) h = λ e. h.0 (cc)
-ascending-free key least ((n, Ok e) ∷ entries) h = either-free _ _ _ (no-free (NotAscending n) tt) (behind-free _ _ (ascending-free key (suc (key e)) entries h.1))
+ascending-free key least ((n, Ok e) ∷ entries) h = either-free _ _ _ (no-free (NotAscending n) (λ x. cc)) (behind-free (e ∷ []) _ (ascending-free key (suc (key e)) entries h.1))
 
 listed-free : {E : Type 0} (key : E → ℕ) (of_fields : ℕ → List (List ℕ) → Result E UcdFault) (bytes : List ℕ) → ((n : ℕ) (fields : List (List ℕ)) → ReadsFree (of_fields n fields))
     → ReadsFree (listed_in key of_fields bytes)
@@ -113,7 +109,7 @@ both-free n (Some code) None = λ e. cc
 both-free n None other = λ e. cc
 
 codes-free : (count n : ℕ) (fields : List (List ℕ)) → ReadsFree (codes_of count n fields)
-codes-free count n fields = either-free _ _ _ (both-free n _ _) (no-free (BadLine n) tt)
+codes-free count n fields = either-free _ _ _ (both-free n _ _) (no-free (BadLine n) (λ x. cc))
 
 pair-free : (r : _) → ReadsFree r → ReadsFree (pair_by r)
 pair-free (Ok codes) h = λ e. cc

@@ -1,5 +1,6 @@
 pub mod Alike
 pub mod Begun
+pub mod Faults
 pub mod Free
 pub mod FreeFiles
 pub mod FreeSteps
