@@ -56,8 +56,7 @@ def run(lines, words=WORDS):
         reader = threading.Thread(target=read_report, args=(program.stderr, report, told))
         reader.start()
         count = send(lines, program.stdin)
-        with told:
-            told.wait_for(lambda: report and (report[-1] is None or report[-1].startswith(b"%d: " % count)))
+        await_answer(report, told, b"%d: " % count)
         peak = peak_of(program.pid)
         try:
             program.stdin.close()
@@ -77,6 +76,15 @@ def read_report(pipe, report, told):
             with told:
                 report.append(line and line.rstrip(b"\n"))
                 told.notify()
+
+
+def await_answer(report, told, answer):
+    """Waits until a line of the report begins as an answer does, or the report has ended."""
+    seen = 0
+    with told:
+        while not any(it is None or it.startswith(answer) for it in report[seen:]):
+            seen = len(report)
+            told.wait()
 
 
 def send(lines, pipe):
@@ -105,11 +113,10 @@ def shown(lines, words=WORDS):
 
 
 def cost(before, behind, times, tries=3):
-    """Seconds and bytes that each of so many repetitions of lines takes behind others: the least of some tries."""
-    without = [shown(before()) for _ in range(tries)]
-    whole = [shown(itertools.chain(before(), behind * times)) for _ in range(tries)]
-    seconds = min(it.seconds for it in whole) - min(it.seconds for it in without)
-    return max(seconds, 0) / times, (len(whole[0].screen) - len(without[0].screen)) / times
+    """Seconds of processor time that each of so many repetitions of lines takes behind others: the least of some tries."""
+    without = [shown(itertools.chain(before(), [REDISPLAY])) for _ in range(tries)]
+    whole = [shown(itertools.chain(before(), behind * times, [REDISPLAY])) for _ in range(tries)]
+    return max(min(it.seconds for it in whole) - min(it.seconds for it in without), 0) / times
 
 
 def megabytes(count):
