@@ -8,6 +8,7 @@ use Rattle.rd_run.specs.Ends.{Broke, Comes, Drawn, Ended, IsBroken, IsWhole, Las
 use Rattle.rd_run.specs.Given.{Given, IsMode}
 use Rattle.rd_run.specs.Reports.{last_line}
 use Rattle.rd_run.specs.Runs.{KnowsEach, Mode, ShowsEach, Turn, opened, run}
+use Rattle.rd_run.specs.Statuses.{TellsNoMemory}
 use Rattle.rd_run.specs.Validity.{EndsWell, IsValidScript}
 use Rattle.rd_run.specs.declared.status.Status.{Status}
 use Rattle.rd_run.specs.declared.status.Status.TheVariants.{Done, WriteFault}
@@ -174,3 +175,18 @@ unplayed status given l q s m result p0 p1 n0 n1 c shows well n comes f =
       inl same,
       completes well given None result [] [] l source screen report (Consumes-nil l) ends,
     )
+
+-- ---- want of memory
+
+-- want of memory is no kind that a status tells
+abbrev pub KindLaw : Type 0
+KindLaw = (given : Given) (mode : Option Mode) (status : Status) (turns : List Turn) (bytes : List ℕ) (source : Drawn) → Comes given mode status turns bytes source → TellsNoMemory status
+
+ended-free : (law : KindLaw) (given : Given) (mode : Option Mode) (result : Status) (turns : List Turn) (bytes : List ℕ) (source : Drawn) (screen report : Sunk)
+    → Ended given mode result turns bytes source screen report → TellsNoMemory result
+ended-free law given mode result turns bytes source screen report (inl whole) = law given mode result turns bytes source whole.comes
+ended-free law given mode result turns bytes source screen report (inr (same, broken)) = subst TellsNoMemory (sym same) tt
+
+pub played-free : (law : KindLaw) (given : Given) (result : Status) (l0 : Option (List ℕ)) (source : Drawn) (screen report : Sunk) (c0 c1 : ℕ) → Played given result l0 source screen report c0 c1
+    → TellsNoMemory result
+played-free law given result l0 source screen report c0 c1 p = ended-free law given p.0 result p.1 p.2 source screen report p.4

@@ -8,6 +8,7 @@ ghost use Rattle.rd_play.specs.Played.{HasReadFault, Played};
 ghost use Rattle.rd_run.specs.Given.{Given, IsMode};
 ghost use Rattle.rd_run.specs.Reports.{last_line};
 ghost use Rattle.rd_run.specs.Runs.{Turn};
+ghost use Rattle.rd_run.specs.Statuses.{TellsNoMemory};
 ghost use Rattle.rd_words.specs.Command.{meaning, texts};
 ghost use Rattle.rd_words.specs.Words.{WordValues, values_of};
 
@@ -18,7 +19,10 @@ use crate::run::{run_generated, run_script};
 use rd_base::Steps;
 use rd_files::{DataFault, DataFiles, read_data};
 use rd_io::{Files, Sink, Source};
-use rd_run::{Status, each_redisplay_is_shown, each_slice_is_known, valid_scripts_end_well};
+use rd_run::{
+    Status, each_redisplay_is_shown, each_slice_is_known, no_kind_is_want_of_memory,
+    valid_scripts_end_well,
+};
 use rd_words::{Words, WordsFault, read_words};
 use std::alloc::Global;
 use std::sync::ledger::Ledger;
@@ -45,7 +49,8 @@ use std::sync::ledger::Ledger;
 /// screen is what the terminal shows, and that the steps rise by no more than the redisplays that were begun may place. It says too
 /// that under valid words, over good files that are told, a script without a bad line ends Done or NoMemory, where no count rose. A
 /// script has no bad line if each op is accepted for some choice of redisplays without memory that is the run's own as far as it went:
-/// want of memory at a redisplay can make a later hit be refused. It is to be told unless it is generated.
+/// want of memory at a redisplay can make a later hit be refused. It is to be told unless it is generated. `free` says that want of
+/// memory is no kind of a bad data file, nor of an op that is refused.
 ///
 /// Each file and each line is read once.
 pub fn play<S: Source, F: Files, K: Sink, R: Sink, L: Ledger>(
@@ -60,6 +65,7 @@ pub fn play<S: Source, F: Files, K: Sink, R: Sink, L: Ledger>(
     ensures ran { Played (given_by (values_of (texts words.items)) F.contents F.faults files.old files.new) result (S.left script.old)
         (drawn_by S.left S.faults script.old script.new) (sunk_by K.written K.faults screen.old screen.new) (sunk_by R.written R.faults report.old report.new) steps.old steps.new }
     ensures read { HasReadFault (given_by (values_of (texts words.items)) F.contents F.faults files.old files.new) result (drawn_by S.left S.faults script.old script.new) }
+    ensures free { TellsNoMemory result }
     ensures unread { (w : WordValues) → values_of (texts words.items) ≡ Some w → IsSome w.generate → script.new ≡ script.old }
     ensures script { S.faults script.old ≤ S.faults script.new }
     ensures contents { (file : List ℕ) → F.contents files.new file ≡ F.contents files.old file }
@@ -67,6 +73,7 @@ pub fn play<S: Source, F: Files, K: Sink, R: Sink, L: Ledger>(
     ensures screen { K.faults screen.old ≤ K.faults screen.new }
     ensures report { R.faults report.old ≤ R.faults report.new }
 {
+    no_kind_is_want_of_memory();
     play_words(
         alloc,
         words.as_slice(),

@@ -1,5 +1,9 @@
 pub mod Alike
 pub mod Begun
+pub mod Faults
+pub mod Free
+pub mod FreeFiles
+pub mod FreeSteps
 pub mod Headline
 pub mod Leading
 pub mod Ops

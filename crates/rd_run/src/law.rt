@@ -1,9 +1,12 @@
 //! The laws of a run.
-ghost use Rattle.std.specs.Prelude.{ℕ, List};
+ghost use Rattle.std.specs.Prelude.{ℕ, List, Option};
 ghost use Rattle.rd_run.specs.Alike.{AreAlike, AreGivenAlike, AreStarvedAlikeIn, End, IsFaultless, IsUndisturbed};
-ghost use Rattle.rd_run.specs.Given.{IsMode};
+ghost use Rattle.rd_run.specs.Ends.{Comes, Drawn};
+ghost use Rattle.rd_run.specs.Given.{Given, IsMode};
 ghost use Rattle.rd_run.specs.Runs.{KnowsEach, Mode, ShowsEach, Turn, opened};
+ghost use Rattle.rd_run.specs.Statuses.{TellsNoMemory};
 ghost use Rattle.rd_run.specs.Validity.{EndsWell, IsValidScript};
+ghost use Rattle.rd_run.specs.declared.status.Status.{Status};
 
 use rd_layout::{
     redisplays_keep_states, redisplays_lead_on, sessions_stay_known, targets_are_sound,
@@ -54,4 +57,10 @@ pub fn two_runs_of_one_script_end_alike()
 /// redisplays find memory, a run in which no device failed ends Done, or for want of memory. The call does nothing.
 pub fn valid_scripts_end_well()
     ensures { (script : List ℕ) (mode : Mode) (e : End) → IsMode e.given mode → IsValidScript mode e.turns script → IsFaultless script e → EndsWell e.status }
+{}
+
+/// Want of memory is no kind of a bad data file, nor of an op that is refused. The call does nothing.
+pub fn no_kind_is_want_of_memory()
+    ensures { (given : Given) (mode : Option Mode) (status : Status) (turns : List Turn) (bytes : List ℕ) (source : Drawn) → Comes given mode status turns bytes source
+        → TellsNoMemory status }
 {}

@@ -1,0 +1,260 @@
+-- No op is refused for want of memory, as the definitions tell it.
+use Rattle.std.proofs.Common.{◌≡◌, ◌≢◌, ℕ, ◌+◌, ◌-◌, Bool, true, false, if◌then◌else◌, is_some, length, map, nat_le, slice_get, List, Option, None, Some, Result, Ok, Err, refl, ap}
+use Rattle.std.specs.Prelude.{ℤ, pos}
+use Rattle.rd_layout.specs.Pointing.{hitting_by, stepped_to}
+use Rattle.rd_layout.specs.Sessions.{SessionValue, layout_of, session_step}
+use Rattle.rd_layout.specs.Windows.{place_of}
+use Rattle.rd_base.specs.declared.limits.TheConstants.{FACES, SPECS, STRINGS, TABLES}
+use Rattle.rd_objects.specs.Things.{ObjectLists, full_fault, spec_fault, string_fault}
+use Rattle.rd_objects.specs.declared.run.Run.{Run}
+use Rattle.rd_objects.specs.declared.run.Spec.{Spec}
+use Rattle.rd_objects.specs.declared.fault.ObjectFault.{ObjectFault}
+use Rattle.rd_objects.specs.declared.fault.ObjectFault.TheVariants as faults
+use Rattle.rd_script.specs.declared.op.Op.{Op}
+use Rattle.rd_script.specs.declared.op.Op.TheVariants as ops
+use Rattle.rd_script.specs.declared.setting.Setting.{Setting}
+use Rattle.rd_state.specs.Edits.{deletion, is_accessible, insertion, mark_putting, narrowing, overlay_dropping, overlay_making, overlay_moving, overlay_putting, property_putting, setting_putting, widening}
+use Rattle.rd_state.specs.Making.{refused_object, run_of, spec_of, unless_fault}
+use Rattle.rd_state.specs.States.{BufferValue, ContentValue, StateValue, number_of}
+use Rattle.rd_state.specs.Steps.{changing, edited, edited_moving, in_window, inserting, in_buffer, in_shown, making, moving, on_tree, placing, raw_text, refused_tree, replaced, setting, showing, step, typing, unless_bad, with_found, with_objects}
+use Rattle.rd_state.specs.declared.moves.Move.{Move}
+use Rattle.rd_state.specs.declared.moves.Move.TheVariants.{Deleted, Inserted, Narrowed}
+use Rattle.rd_state.specs.declared.refused.Refused.{Refused}
+use Rattle.rd_state.specs.declared.refused.Refused.TheVariants.{Memory, NameTaken, NoBuffer, NoObject, NoOverlay, NoWindow, NotShown, OutOfRange, TextTooLarge, TooManyBuffers, TooManyOverlays}
+use Rattle.rd_state.specs.declared.window.WindowState.{WindowState}
+use Rattle.rd_tree.specs.Calls.{Configuration, changed_to, margins_tree, mode_tree, remove_tree, resize_tree, split_to, split_tree}
+use Rattle.rd_tree.specs.Windows.{Windows, holds, split_at, with_margins, with_mode}
+use Rattle.rd_tree.specs.declared.fault.TreeFault.{TreeFault}
+use Rattle.rd_tree.specs.declared.fault.TreeFault.TheVariants as trees
+use Rattle.rd_tree.specs.declared.placed.Placed.{Placed}
+use Rattle.rd_tree.specs.declared.side.Side.{Side}
+use Rattle.rd_window.specs.declared.layout.Layout.{Layout}
+use Rattle.rd_run.proofs.Faults.{choice-lacks, either-lacks, none-lacks, ok-lacks, other-lacks, some-lacks}
+
+-- what is answered is no want of memory
+abbrev pub AnswersFree : {T : Type 0} → Result T Refused → Type 0
+AnswersFree r = r ≢ Err Memory
+
+ok-free : {T : Type 0} (x : T) → AnswersFree (Ok x)
+ok-free x = ok-lacks Memory x
+
+no-free : {T : Type 0} (refusal : Refused) → refusal ≢ Memory → AnswersFree {T = T} (Err refusal)
+no-free refusal h = other-lacks Memory refusal h
+
+either-free : {T : Type 0} (b : Bool) (r s : Result T Refused) → AnswersFree r → AnswersFree s → AnswersFree (if b then r else s)
+either-free b r s p q = either-lacks Memory b r s p q
+
+found-free : {A B : Type 0} (refusal : Refused) (o : Option A) (f : A → Result B Refused) → refusal ≢ Memory → ((a : A) → AnswersFree (f a)) → AnswersFree (with_found refusal o f)
+found-free refusal None f p h = λ e. p (cc)
+found-free refusal (Some a) f p h = h a
+
+-- what is done to a window that lives
+lives-free : (s : StateValue) (window : ℕ) (f : WindowState → Result StateValue Refused) → ((w : WindowState) → AnswersFree (f w)) → AnswersFree (in_window s window f)
+lives-free s window f h = found-free NoWindow _ f (λ e. cc) h
+
+-- what is done to the buffer with a name, and to the one that a window shows
+named-free : (s : StateValue) (name : List ℕ) (f : ℕ → BufferValue → Result StateValue Refused) → ((i : ℕ) (b : BufferValue) → AnswersFree (f i b)) → AnswersFree (in_buffer s name f)
+named-free s name f h = found-free NoBuffer _ (f (number_of name s.buffers)) (λ e. cc) (h (number_of name s.buffers))
+
+shown-free : (s : StateValue) (w : WindowState) (f : BufferValue → Result StateValue Refused) → ((b : BufferValue) → AnswersFree (f b)) → AnswersFree (in_shown s w f)
+shown-free s w f h = found-free NoBuffer (slice_get s.buffers w.buffer) f (λ e. cc) h
+
+-- ---- buffers
+
+replaced-free : (s : StateValue) (i : ℕ) (b : BufferValue) (r : Result ContentValue Refused) → AnswersFree r → AnswersFree (replaced s i b r)
+replaced-free s i b (Err refusal) h = λ e. h (cc)
+replaced-free s i b (Ok content) h = λ e. cc
+
+moving-free : (i : ℕ) (how : Move) (r : Result StateValue Refused) → AnswersFree r → AnswersFree (moving i how r)
+moving-free i how (Err refusal) h = h
+moving-free i how (Ok s) h = λ e. cc
+
+changing-free : (number : ℕ) (f : WindowState → WindowState) (r : Result StateValue Refused) → AnswersFree r → AnswersFree (changing number f r)
+changing-free number f (Err refusal) h = h
+changing-free number f (Ok s) h = λ e. cc
+
+edited-free : (s : StateValue) (name : List ℕ) (edit : ContentValue → Result ContentValue Refused) → ((c : ContentValue) → AnswersFree (edit c)) → AnswersFree (edited s name edit)
+edited-free s name edit h = named-free s name (λ i b. replaced s i b (edit b.content)) (λ i b. replaced-free s i b (edit b.content) (h b.content))
+
+moved-free : (s : StateValue) (name : List ℕ) (how : Move) (edit : ContentValue → Result ContentValue Refused) → ((c : ContentValue) → AnswersFree (edit c)) → AnswersFree (edited_moving s name how edit)
+moved-free s name how edit h =
+    named-free s name (λ i b. moving i how (replaced s i b (edit b.content))) (λ i b. moving-free i how (replaced s i b (edit b.content)) (replaced-free s i b (edit b.content) (h b.content)))
+
+insertion-free : (place : ℕ) (new : List ℕ) (c : ContentValue) → AnswersFree (insertion place new c)
+insertion-free place new c = either-free _ _ _ (either-free _ _ _ (ok-free _) (no-free TextTooLarge (λ e. cc))) (no-free OutOfRange (λ e. cc))
+
+deletion-free : (from to : ℕ) (c : ContentValue) → AnswersFree (deletion from to c)
+deletion-free from to c = either-free _ _ _ (ok-free _) (no-free OutOfRange (λ e. cc))
+
+narrowing-free : (from to : ℕ) (c : ContentValue) → AnswersFree (narrowing from to c)
+narrowing-free from to c = either-free _ _ _ (ok-free _) (no-free OutOfRange (λ e. cc))
+
+property_putting-free : (objects : ObjectLists) (from to : ℕ) (kind : _) (value : Option ℕ) (c : ContentValue) → AnswersFree (property_putting objects from to kind value c)
+property_putting-free objects from to kind value c = either-free _ _ _ (either-free _ _ _ (ok-free _) (no-free NoObject (λ e. cc))) (no-free OutOfRange (λ e. cc))
+
+overlay_making-free : (from to : ℕ) (priority : ℤ) (front rear : Bool) (c : ContentValue) → AnswersFree (overlay_making from to priority front rear c)
+overlay_making-free from to priority front rear c = either-free _ _ _ (either-free _ _ _ (no-free TooManyOverlays (λ e. cc)) (ok-free _)) (no-free OutOfRange (λ e. cc))
+
+overlay_moving-free : (number from to : ℕ) (c : ContentValue) → AnswersFree (overlay_moving number from to c)
+overlay_moving-free number from to c = either-free _ _ _ (either-free _ _ _ (ok-free _) (no-free OutOfRange (λ e. cc))) (no-free NoOverlay (λ e. cc))
+
+overlay_dropping-free : (number : ℕ) (c : ContentValue) → AnswersFree (overlay_dropping number c)
+overlay_dropping-free number c = either-free _ _ _ (ok-free _) (no-free NoOverlay (λ e. cc))
+
+overlay_putting-free : (objects : ObjectLists) (number : ℕ) (kind : _) (value : Option ℕ) (c : ContentValue) → AnswersFree (overlay_putting objects number kind value c)
+overlay_putting-free objects number kind value c = either-free _ _ _ (either-free _ _ _ (ok-free _) (no-free NoObject (λ e. cc))) (no-free NoOverlay (λ e. cc))
+
+mark_putting-free : (objects : ObjectLists) (number : ℕ) (string : Option ℕ) (c : ContentValue) → AnswersFree (mark_putting objects number string c)
+mark_putting-free objects number string c = either-free _ _ _ (either-free _ _ _ (ok-free _) (no-free NoObject (λ e. cc))) (no-free NoOverlay (λ e. cc))
+
+setting_putting-free : (objects : ObjectLists) (value : Setting) (c : ContentValue) → AnswersFree (setting_putting objects value c)
+setting_putting-free objects value c = either-free _ _ _ (ok-free _) (no-free NoObject (λ e. cc))
+
+making-free : (s : StateValue) (name : List ℕ) → AnswersFree (making s name)
+making-free s name = either-free _ _ _ (no-free NameTaken (λ e. cc)) (either-free _ _ _ (no-free TooManyBuffers (λ e. cc)) (ok-free _))
+
+typing-free : (s : StateValue) (new : List ℕ) → AnswersFree (typing s new)
+typing-free s new =
+    let put : WindowState → BufferValue → Result StateValue Refused = λ w b.
+    changing s.selected (λ old. record old { point = w.point + length new }) (moving w.buffer (Inserted w.point (length new)) (replaced s w.buffer b (insertion w.point new b.content))) in
+    lives-free s s.selected (λ w. in_shown s w (put w)) (λ w. shown-free s w (put w) (λ b.
+    changing-free s.selected (λ old. record old { point = w.point + length new }) (moving w.buffer (Inserted w.point (length new)) (replaced s w.buffer b (insertion w.point new b.content)))
+    (moving-free w.buffer (Inserted w.point (length new)) (replaced s w.buffer b (insertion w.point new b.content)) (replaced-free s w.buffer b (insertion w.point new b.content) (insertion-free w.point new b.content)))))
+
+-- ---- objects
+
+object-free : (fault : ObjectFault) → fault ≢ faults.Memory → refused_object fault ≢ Memory
+object-free faults.TooMany h = λ e. cc
+object-free faults.TooLong h = λ e. cc
+object-free faults.NoObject h = λ e. cc
+object-free faults.OutOfRange h = λ e. cc
+object-free faults.Memory h = λ e. h refl
+
+made-free : (s : StateValue) (o : Option ObjectFault) (made : ObjectLists) → o ≢ Some faults.Memory → AnswersFree (with_objects s (unless_fault o made))
+made-free s None made h = ok-free _
+made-free s (Some fault) made h = no-free (refused_object fault) (object-free fault (λ e. h (ap (λ f. Some f) e)))
+
+full-free : (most made : ℕ) → full_fault most made ≢ Some faults.Memory
+full-free most made = choice-lacks faults.Memory (nat_le most made) (Some faults.TooMany) None (some-lacks faults.Memory faults.TooMany (λ e. cc)) (none-lacks faults.Memory)
+
+string-free : (o : ObjectLists) (text : List ℕ) (runs : List Run) → string_fault o text runs ≢ Some faults.Memory
+string-free o text runs = choice-lacks faults.Memory _ _ _ (some-lacks faults.Memory faults.NoObject (λ e. cc)) (choice-lacks faults.Memory _ _ _ (some-lacks faults.Memory faults.OutOfRange (λ e. cc))
+    (choice-lacks faults.Memory _ _ _ (some-lacks faults.Memory faults.TooLong (λ e. cc)) (full-free STRINGS (length o.strings))))
+
+spec-free : (o : ObjectLists) (spec : Spec) → spec_fault o spec ≢ Some faults.Memory
+spec-free o spec = choice-lacks faults.Memory _ _ _ (some-lacks faults.Memory faults.NoObject (λ e. cc)) (full-free SPECS (length o.specs))
+
+-- ---- windows
+
+refused-free : (fault : TreeFault) → fault ≢ trees.Memory → refused_tree fault ≢ Memory
+refused-free trees.NoWindow h = λ e. cc
+refused-free trees.TooSmall h = λ e. cc
+refused-free trees.TooMany h = λ e. cc
+refused-free trees.LastWindow h = λ e. cc
+refused-free trees.Memory h = λ e. h refl
+
+tree-free : (r : Result Configuration TreeFault) (f : Configuration → StateValue) → r ≢ Err trees.Memory → AnswersFree (on_tree r f)
+tree-free (Ok tree) f h = ok-free (f tree)
+tree-free (Err fault) f h = no-free (refused_tree fault) (refused-free fault (λ e. h (ap (λ x. Err x) e)))
+
+split_to-free : (c : Configuration) (windows : Windows) → split_to c windows ≢ Err trees.Memory
+split_to-free c windows = either-lacks trees.Memory _ _ _ (either-lacks trees.Memory _ _ _ (other-lacks trees.Memory trees.TooMany (λ e. cc)) (ok-lacks trees.Memory _)) (other-lacks trees.Memory trees.TooSmall (λ e. cc))
+
+split-free : (c : Configuration) (window : ℕ) (side : Side) (size : ℕ) → split_tree c window side size ≢ Err trees.Memory
+unfolding split_tree
+split-free c window side size =
+    let windows = split_at window side size c.made c.windows in
+    either-lacks trees.Memory (holds window c.windows) (split_to c windows) (Err trees.NoWindow) (split_to-free c windows) (other-lacks trees.Memory trees.NoWindow (λ e. cc))
+
+remove-free : (c : Configuration) (window : ℕ) → remove_tree c window ≢ Err trees.Memory
+unfolding remove_tree
+remove-free c window = either-lacks trees.Memory _ _ _ (either-lacks trees.Memory _ _ _ (other-lacks trees.Memory trees.LastWindow (λ e. cc)) (ok-lacks trees.Memory _)) (other-lacks trees.Memory trees.NoWindow (λ e. cc))
+
+resize-free : (c : Configuration) (width height : ℕ) → resize_tree c width height ≢ Err trees.Memory
+unfolding resize_tree
+resize-free c width height = either-lacks trees.Memory _ _ _ (ok-lacks trees.Memory _) (other-lacks trees.Memory trees.TooSmall (λ e. cc))
+
+changed-free : (c : Configuration) (windows : Windows) → changed_to c windows ≢ Err trees.Memory
+changed-free c windows = either-lacks trees.Memory _ _ _ (ok-lacks trees.Memory _) (other-lacks trees.Memory trees.TooSmall (λ e. cc))
+
+mode-free : (c : Configuration) (window : ℕ) (shown : Bool) → mode_tree c window shown ≢ Err trees.Memory
+unfolding mode_tree
+mode-free c window shown =
+    let windows = with_mode window shown c.windows in
+    either-lacks trees.Memory (holds window c.windows) (changed_to c windows) (Err trees.NoWindow) (changed-free c windows) (other-lacks trees.Memory trees.NoWindow (λ e. cc))
+
+margins-free : (c : Configuration) (window columns : ℕ) → margins_tree c window columns ≢ Err trees.Memory
+unfolding margins_tree
+margins-free c window columns =
+    let windows = with_margins window columns c.windows in
+    either-lacks trees.Memory (holds window c.windows) (changed_to c windows) (Err trees.NoWindow) (changed-free c windows) (other-lacks trees.Memory trees.NoWindow (λ e. cc))
+
+bad-free : (o : Option ℕ) (r : Result StateValue Refused) → AnswersFree r → AnswersFree (unless_bad o r)
+bad-free None r h = h
+bad-free (Some column) r h = λ e. cc
+
+setting-free : (s : StateValue) (window : ℕ) (f : WindowState → WindowState) → AnswersFree (setting s window f)
+setting-free s window f = lives-free s window _ (λ w. ok-free _)
+
+placing-free : (s : StateValue) (window place : ℕ) (f : WindowState → WindowState) → AnswersFree (placing s window place f)
+placing-free s window place f =
+    let put : BufferValue → Result StateValue Refused = λ b. if is_accessible b.content.text place then changing window f (Ok s) else Err OutOfRange in
+    lives-free s window (λ w. in_shown s w put)
+    (λ w. shown-free s w put (λ b. either-free (is_accessible b.content.text place) (changing window f (Ok s)) (Err OutOfRange) (ok-free _) (no-free OutOfRange (λ e. cc))))
+
+showing-free : (s : StateValue) (window : ℕ) (name : List ℕ) → AnswersFree (showing s window name)
+showing-free s window name =
+    let put : ℕ → BufferValue → Result StateValue Refused = λ i b.
+    let begin = b.content.text.begin in
+    changing window (λ old. record old { buffer = i; point = begin; anchor = record { pos = begin; row = 0 }; forced = false; pending = pos 0 }) (Ok s) in
+    lives-free s window (λ w. in_buffer s name put) (λ w. named-free s name put (λ i b. ok-free _))
+
+point-free : (s : StateValue) (window place : ℕ) → AnswersFree (step s (ops.Point window place))
+unfolding step
+point-free s window place = placing-free s window place _
+
+hit-free : (s : StateValue) (window : ℕ) (w : WindowState) (last : Option Layout) (place : Option Placed) (row column : ℕ) → AnswersFree (hitting_by s window w last place row column)
+hit-free s window w None place row column = λ e. cc
+hit-free s window w (Some l) None row column = λ e. cc
+hit-free s window w (Some l) (Some place) row column = either-free _ _ _ (point-free s window _) (no-free NotShown (λ e. cc))
+
+-- ---- all ops
+
+pub session-free : (v : SessionValue) (op : Op) → AnswersFree (session_step v op)
+unfolding step
+session-free v (ops.Frame width height) = tree-free _ _ (resize-free v.state.tree width (height - 1))
+session-free v (ops.Buffer name) = making-free v.state name
+session-free v (ops.Insert name place text) = moved-free v.state name (Inserted place (length text)) (insertion place text) (insertion-free place text)
+session-free v (ops.InsertRaw name place bytes) = moved-free v.state name (Inserted place (length (raw_text bytes))) (insertion place (raw_text bytes)) (insertion-free place (raw_text bytes))
+session-free v (ops.TypeText text) = typing-free v.state text
+session-free v (ops.Delete name from to) = moved-free v.state name (Deleted from to) (deletion from to) (deletion-free from to)
+session-free v (ops.Narrow name from to) = moved-free v.state name (Narrowed from to) (narrowing from to) (narrowing-free from to)
+session-free v (ops.Widen name) = edited-free v.state name widening (λ c. ok-free _)
+session-free v (ops.Put name from to kind value) = edited-free v.state name (property_putting v.state.objects from to kind value) (property_putting-free v.state.objects from to kind value)
+session-free v (ops.Overlay name from to priority front rear) = edited-free v.state name (overlay_making from to priority front rear) (overlay_making-free from to priority front rear)
+session-free v (ops.OverlayMove name overlay from to) = edited-free v.state name (overlay_moving overlay from to) (overlay_moving-free overlay from to)
+session-free v (ops.OverlayDrop name overlay) = edited-free v.state name (overlay_dropping overlay) (overlay_dropping-free overlay)
+session-free v (ops.OverlayPut name overlay kind value) = edited-free v.state name (overlay_putting v.state.objects overlay kind value) (overlay_putting-free v.state.objects overlay kind value)
+session-free v (ops.Setting name value) = edited-free v.state name (setting_putting v.state.objects value) (setting_putting-free v.state.objects value)
+session-free v (ops.AddString text runs) = made-free v.state _ _ (string-free v.state.objects text (map run_of runs))
+session-free v (ops.AddSpec spec) = made-free v.state _ _ (spec-free v.state.objects (spec_of spec))
+session-free v (ops.AddFace face) = made-free v.state _ _ (full-free FACES (length v.state.objects.faces))
+session-free v (ops.AddTable entries truncation continuation escape control ellipsis border) = made-free v.state _ _ (full-free TABLES (length v.state.objects.tables))
+session-free v (ops.Split window side size) = lives-free v.state window _ (λ w. tree-free _ _ (split-free v.state.tree window side size))
+session-free v (ops.Remove window) = lives-free v.state window _ (λ w. tree-free _ _ (remove-free v.state.tree window))
+session-free v (ops.Select window) = lives-free v.state window _ (λ w. ok-free _)
+session-free v (ops.Show window name) = showing-free v.state window name
+session-free v (ops.Point window place) = placing-free v.state window place _
+session-free v (ops.Start window place row) = placing-free v.state window place _
+session-free v (ops.Scroll window rows) = setting-free v.state window _
+session-free v (ops.Hscroll window columns) = setting-free v.state window _
+session-free v (ops.Wrap window mode) = setting-free v.state window _
+session-free v (ops.ModeLine window format) = lives-free v.state window _ (λ w. bad-free _ _ (changing-free window _ _ (tree-free _ _ (mode-free v.state.tree window (is_some format)))))
+session-free v (ops.Scrolling margin conservatively) = λ e. cc
+session-free v (ops.Echo text) = λ e. cc
+session-free v (ops.Redisplay stop) = λ e. cc
+session-free v (ops.Shift on) = λ e. cc
+session-free v (ops.Go window right) = lives-free v.state window _ (λ w. point-free v.state window (stepped_to v.files v.state w right))
+session-free v (ops.Hit window row column) = lives-free v.state window _ (λ w. hit-free v.state window w (layout_of window v.layouts) (place_of window v.state) row column)
+session-free v (ops.Margin window numbers strings) = lives-free v.state window _ (λ w. changing-free window _ _ (tree-free _ _ (margins-free v.state.tree window (numbers + strings))))
+session-free v (ops.MarginPut name overlay string) = edited-free v.state name (mark_putting v.state.objects overlay string) (mark_putting-free v.state.objects overlay string)
