@@ -1,5 +1,5 @@
 -- Answers that lack a certain fault.
-use Rattle.std.proofs.Common.{◌≡◌, ◌≢◌, Bool, true, false, if◌then◌else◌, Option, None, Some, Result, Ok, Err}
+use Rattle.std.proofs.Common.{◌≢◌, Bool, true, false, if◌then◌else◌, Option, None, Some, Result, Ok, Err}
 
 abbrev pub Lacks : {T F : Type 0} → F → Result T F → Type 0
 Lacks bad r = r ≢ Err bad

@@ -5,13 +5,11 @@ use Rattle.rd_files.specs.DataFiles.{bad, brackets_in, classes_in, data_of, judg
 use Rattle.rd_files.specs.declared.fault.BadFile.{BadFile}
 use Rattle.rd_files.specs.declared.fault.DataFile.{DataFile}
 use Rattle.rd_files.specs.declared.fault.DataFile.TheVariants.{BracketFile, ClassFile, MirrorFile}
-use Rattle.rd_files.specs.declared.fault.DataKind.{DataKind}
 use Rattle.rd_files.specs.declared.fault.DataKind.TheVariants.{Bad, TooLarge}
 use Rattle.rd_base.specs.declared.class.Class.{Class}
 use Rattle.rd_ucd.specs.BracketFile.{bracket_by, bracket_of, bracket_with, brackets_of}
 use Rattle.rd_ucd.specs.ClassFile.{classes_of, closes, coded, ended, entry_of, is_empty_line, mark_of, opened_by, span_by, spans_from, unless}
 use Rattle.rd_ucd.specs.Codes.{code_of}
-use Rattle.rd_ucd.specs.Data.{Data}
 use Rattle.rd_ucd.specs.Lines.{entries_in, fields_of, lines_of}
 use Rattle.rd_ucd.specs.ListFile.{ascending_from, both, codes_of, counting, is_blank_line, listed_in}
 use Rattle.rd_ucd.specs.MirrorFile.{mirrors_of, pair_by, pair_of}

@@ -1,5 +1,5 @@
 -- No op is refused for want of memory, as the definitions tell it.
-use Rattle.std.proofs.Common.{◌≡◌, ◌≢◌, ℕ, ◌+◌, ◌-◌, Bool, true, false, if◌then◌else◌, is_some, length, map, nat_le, slice_get, List, Option, None, Some, Result, Ok, Err, refl, ap}
+use Rattle.std.proofs.Common.{◌≢◌, ℕ, ◌+◌, ◌-◌, Bool, false, if◌then◌else◌, is_some, length, map, nat_le, slice_get, List, Option, None, Some, Result, Ok, Err, refl, ap}
 use Rattle.std.specs.Prelude.{ℤ, pos}
 use Rattle.rd_layout.specs.Pointing.{hitting_by, stepped_to}
 use Rattle.rd_layout.specs.Sessions.{SessionValue, layout_of, session_step}
@@ -16,7 +16,7 @@ use Rattle.rd_script.specs.declared.setting.Setting.{Setting}
 use Rattle.rd_state.specs.Edits.{deletion, is_accessible, insertion, mark_putting, narrowing, overlay_dropping, overlay_making, overlay_moving, overlay_putting, property_putting, setting_putting, widening}
 use Rattle.rd_state.specs.Making.{refused_object, run_of, spec_of, unless_fault}
 use Rattle.rd_state.specs.States.{BufferValue, ContentValue, StateValue, number_of}
-use Rattle.rd_state.specs.Steps.{changing, edited, edited_moving, in_window, inserting, in_buffer, in_shown, making, moving, on_tree, placing, raw_text, refused_tree, replaced, setting, showing, step, typing, unless_bad, with_found, with_objects}
+use Rattle.rd_state.specs.Steps.{changing, edited, edited_moving, in_window, in_buffer, in_shown, making, moving, on_tree, placing, raw_text, refused_tree, replaced, setting, showing, step, typing, unless_bad, with_found, with_objects}
 use Rattle.rd_state.specs.declared.moves.Move.{Move}
 use Rattle.rd_state.specs.declared.moves.Move.TheVariants.{Deleted, Inserted, Narrowed}
 use Rattle.rd_state.specs.declared.refused.Refused.{Refused}
