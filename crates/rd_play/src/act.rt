@@ -297,7 +297,7 @@ fn is_blank(line: &[u8]) -> bool
 }
 
 /// The stop that a redisplay asks for, and None of every other op.
-pub fn asked(op: &Op) -> Option<Option<u32>>
+fn asked(op: &Op) -> Option<Option<u32>>
     ensures { result ≡ asked op.now }
 {
     match op {

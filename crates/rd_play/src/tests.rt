@@ -2,7 +2,6 @@
 
 mod devices;
 mod every_op;
-mod reuse;
 
 ghost use Rattle.std.specs.Prelude.{◌≡◌, ◌<◌};
 
