@@ -1,4 +1,4 @@
-//! What holds of each session, proved of the definitions.
+//! Laws of the definitions: redisplays and ops lead from a session to a session, and every target screen is sound and fits its frame.
 ghost use Rattle.std.specs.Prelude.{◌≡◌, ℕ, Bool, List, Option, Some, Ok};
 ghost use Rattle.rd_frame.specs.Fits.{FitsFrame};
 ghost use Rattle.rd_lineshift.specs.Choices.{AreWithin};

@@ -1,4 +1,4 @@
-//! How a redisplay ends.
+//! `Outcome`, how a redisplay ends.
 
 /// How a redisplay ended.
 #[derive(Clone, Copy, Debug, PartialEq, Eq)]

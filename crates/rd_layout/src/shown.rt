@@ -1,4 +1,4 @@
-//! What a window shows, as the code hands it on.
+//! `ShownWindow`, what a window shows, as rd_views hands it to rd_paint.
 use rd_matrix::Matrix;
 use rd_start::Chosen;
 use std::marker::Model;

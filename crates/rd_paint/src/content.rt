@@ -1,4 +1,4 @@
-//! What is painted of a buffer.
+//! `Content`, what is painted of the buffer that a window shows, beside its rows.
 ghost use Rattle.std.specs.Prelude.{◌≡◌, option_map, slice_get};
 ghost use Rattle.rd_paint.specs.Shown.{painted_of};
 

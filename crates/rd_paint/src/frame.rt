@@ -1,4 +1,4 @@
-//! The screen of a frame.
+//! `paint_frame`: the windows one after the other, the echo area and the cursor.
 ghost use Rattle.std.specs.Prelude.{◌≡◌, ◌+◌, IfOk, OnOk, length};
 ghost use Rattle.rd_frame.specs.Frames.{frame_cursor, rows_of, selected_window};
 ghost use Rattle.rd_frame.specs.Paints.{painted};

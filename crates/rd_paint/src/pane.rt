@@ -1,4 +1,4 @@
-//! A window, painted by what it shows.
+//! One window over its rectangle: its rows behind their margins, its border and its mode line.
 ghost use Rattle.std.specs.Prelude.{◌≡◌, OnOk, length};
 ghost use Rattle.rd_frame.specs.Fits.{FitsWindow, StandsOn};
 ghost use Rattle.rd_frame.specs.Paints.{with_rectangle};

@@ -1,4 +1,5 @@
-//! What one line does.
+//! `Run`, a run in progress, and `Run::line`, which does what one line says: it reads an op, applies it, or redisplays and tells the
+//! report.
 ghost use Rattle.std.specs.Prelude.{◌≡◌, ℕ, ◌≤◌, ◌<◌, ◌++◌, [], false, None, Some, List, Ok, IfOk, OnErr, Option, if◌then◌else◌, is_some, unwrap_or};
 ghost use Rattle.rd_io.specs.Devices.{Rose, Writes};
 ghost use Rattle.rd_layout.specs.Copies.{without_copies};

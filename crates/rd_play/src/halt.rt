@@ -1,4 +1,5 @@
-//! Why a run goes no further.
+//! How a run ends: `Halt`, why a line was not run to its end; `Stop`, what ends the run; `Summary`, what a generated script tells at its
+//! end.
 use rd_base::Anchor;
 use rd_run::{ScriptFault, Status};
 

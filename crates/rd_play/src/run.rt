@@ -1,4 +1,4 @@
-//! The run over the lines of a source, and over those of a generated script.
+//! The run over the lines of a source, and over those of a generated script, up to what stops it.
 ghost use Rattle.std.specs.Prelude.{◌≡◌, ℕ, ◌≤◌, ◌<◌, [], length, List, None, Option, Some};
 ghost use Rattle.std.specs.Io.KnownBytes.{Consumes};
 ghost use Rattle.rd_generate.specs.Generated.{script};

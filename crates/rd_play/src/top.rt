@@ -1,4 +1,8 @@
-//! The top call.
+//! `play`: the words, the data files, the lines of the script, and the last line of the report. Its clause `ran` is the promise of the
+//! README.
+//!
+//! `begun` answers a run of no line, or the status that comes before the first line. `run_all` runs the lines (`run`), each of them by
+//! `Run::line` (`act`), and `finish` tells the last line.
 ghost use Rattle.std.specs.Prelude.{◌≡◌, ℕ, ◌≤◌, IsSome, Some, List};
 ghost use Rattle.std.specs.Io.KnownBytes.{Consumes};
 ghost use Rattle.rd_files.specs.DataFiles.{meaning as files_meaning};

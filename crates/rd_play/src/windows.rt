@@ -1,4 +1,4 @@
-//! What a dump says of the windows.
+//! Room for a dump's facts of all windows, taken before the first line is run.
 ghost use Rattle.std.specs.Prelude.{◌≡◌, ◌≤◌};
 ghost use Rattle.std.specs.Vec.{vec_capacity};
 ghost use Rattle.rd_base.specs.declared.limits.TheConstants.{WINDOWS};

@@ -1,4 +1,4 @@
-//! Writing pieces and texts.
+//! Pieces and texts, written to a sink one behind the other.
 ghost use Rattle.std.specs.Prelude.{◌≤◌, OnErr, flat_map};
 ghost use Rattle.rd_io.specs.Devices.{Rose, Writes};
 ghost use Rattle.rd_run.specs.Reports.{bytes_of, bytes_of_character};

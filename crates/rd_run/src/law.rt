@@ -1,4 +1,4 @@
-//! The laws of a run.
+//! The laws of a run: what the terminal shows behind each redisplay, when two ends are alike, and how runs over valid scripts end.
 ghost use Rattle.std.specs.Prelude.{ℕ, List, Option};
 ghost use Rattle.rd_run.specs.Alike.{AreAlike, AreGivenAlike, AreStarvedAlikeIn, End, IsFaultless, IsUndisturbed};
 ghost use Rattle.rd_run.specs.Ends.{Comes, Drawn};

@@ -1,4 +1,4 @@
-//! How a run ends.
+//! `Status`, how a run ends, with the number that the process exits with, and `ScriptFault`, why a line of a script is bad.
 ghost use Rattle.std.specs.Prelude.{◌≡◌};
 ghost use Rattle.rd_run.specs.Statuses.{code_of};
 

@@ -1,4 +1,4 @@
-//! A session, and what an op makes of it.
+//! `Session`, its parts and its invariant, and what an op makes of it.
 ghost use Rattle.std.specs.Prelude.{◌≡◌, if◌then◌else◌, None, IfOk};
 ghost use Rattle.rd_layout.specs.Sessions.{Applied, IsStep, is_frame, opened};
 ghost use Rattle.rd_layout.specs.Since.{IsSession};

@@ -1,4 +1,4 @@
-//! Every op.
+//! `Parts::apply`: the one match over all ops. Each op's method stands in the module of its subject.
 ghost use Rattle.rd_script.specs.Forms.{IsInForm};
 ghost use Rattle.rd_state.specs.Answers.{IsApplied, Applies};
 ghost use Rattle.rd_state.specs.Valid.{IsValid};

@@ -1,4 +1,4 @@
-//! The ops on one buffer.
+//! The edits of one buffer: its text and the values of its text properties change together.
 ghost use Rattle.std.specs.Prelude.{◌≡◌, ◌+◌, ◌≤◌, ℕ, Some, Ok, OnOk, OnErr, length};
 ghost use Rattle.rd_text.specs.Texts.{inserted, most_characters};
 ghost use Rattle.rd_props.specs.Buffers.{meaning, values_of};

@@ -1,4 +1,4 @@
-//! The buffers by name, in order of making, and the ops on the buffer with a number.
+//! The buffers by name, in order of making, and the ops of `editing` and `putting` on the buffer with a number.
 ghost use Rattle.std.specs.Prelude.{◌≡◌, ◌<◌, ◌++◌, ◌∷◌, [], Ok, None, Some, IfOk, IfErr, IsTrue, OnOk, OnErr, length, slice_get};
 ghost use Rattle.rd_objects.specs.Sound.{AreObjects};
 ghost use Rattle.rd_overlays.specs.Overlays.{overlay_at};

@@ -1,4 +1,5 @@
-//! What a buffer holds, and the ops on it.
+//! `Content`, a buffer with the margin strings of its overlays, whose properties and overlays always lie in its text, and the ops that
+//! keep this.
 ghost use Rattle.std.specs.Prelude.{◌≡◌, Ok, None, Some, IfOk, IfErr, IsTrue, OnErr};
 ghost use Rattle.rd_objects.specs.Sound.{AreObjects};
 ghost use Rattle.rd_overlays.specs.Overlays.{overlay_at};

@@ -1,4 +1,4 @@
-//! The ops on the texts of buffers.
+//! The ops on the texts of buffers by name, as methods of `Parts`. Each moves the windows' points with the text, and tells its effect.
 ghost use Rattle.rd_script.specs.Forms.{IsInForm};
 ghost use Rattle.rd_script.specs.declared.op.Op.TheVariants.{Buffer as MakeBuffer, Insert, InsertRaw, TypeText, Delete, Narrow, Widen};
 ghost use Rattle.rd_state.specs.Answers.{Applies};

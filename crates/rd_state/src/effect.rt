@@ -1,4 +1,4 @@
-//! What an op can have changed.
+//! `Effect`, what an accepted op can have changed of what is shown.
 use rd_base::Pos;
 
 /// What an accepted op can have changed of what is shown.

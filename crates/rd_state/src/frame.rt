@@ -1,4 +1,4 @@
-//! The ops on what belongs to the whole frame.
+//! The ops on what belongs to the whole frame, as methods of `Parts`: its size, scrolling, the echo text, shifts of rows.
 ghost use Rattle.std.specs.Prelude.{◌≡◌};
 ghost use Rattle.rd_script.specs.declared.op.Op.TheVariants.{Frame, Scrolling, Echo, Shift};
 ghost use Rattle.rd_script.specs.Forms.{IsInForm};

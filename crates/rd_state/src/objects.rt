@@ -1,4 +1,4 @@
-//! The ops that make objects.
+//! Strings, display specs, faces and display tables, made as ops say them, with the refusals of each in order.
 ghost use Rattle.std.specs.Prelude.{◌≡◌, ◌<◌, All, IfOk, map, length};
 ghost use Rattle.std.specs.List.{list_all};
 ghost use Rattle.rd_objects.specs.Tables.{TableValue};

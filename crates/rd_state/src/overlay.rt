@@ -1,4 +1,4 @@
-//! The ops on the overlays of one buffer.
+//! The ops on the overlays of one buffer, with the refusals of each in order.
 ghost use Rattle.std.specs.Prelude.{◌≡◌, ◌<◌, ◌≤◌, ℕ, true, List, Ok, None, Some, IfOk, IfErr, OnErr, length};
 ghost use Rattle.rd_overlays.specs.Overlays.{overlay_at};
 ghost use Rattle.rd_objects.specs.Sound.{AreObjects};

@@ -1,4 +1,4 @@
-//! The ops that change how the windows share the frame.
+//! The ops that change how the windows share the frame, as methods of `Parts`: splits, removals, mode lines and margins.
 ghost use Rattle.rd_script.specs.declared.op.Op.TheVariants.{Split, Remove, ModeLine, Margin};
 ghost use Rattle.rd_script.specs.Forms.{IsInForm};
 ghost use Rattle.rd_state.specs.Answers.{Applies};

@@ -1,4 +1,4 @@
-//! The parts of a session's state.
+//! `Parts`, the whole state without its validity.
 use crate::buffers::Buffers;
 use crate::window::WindowState;
 use rd_base::{Ch, ListOf};

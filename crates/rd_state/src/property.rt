@@ -1,4 +1,4 @@
-//! The text properties of one buffer.
+//! One text property of a buffer: its values on a range.
 ghost use Rattle.std.specs.Prelude.{◌≡◌, ◌≤◌, ◌<◌, ℕ, true, IsTrue, OnOk, OnErr, length};
 ghost use Rattle.rd_overlays.specs.Overlays.{place_of};
 ghost use Rattle.rd_props.specs.Buffers.{meaning, values_of};

@@ -1,4 +1,4 @@
-//! The ops on the properties, the overlays and the settings of buffers.
+//! The ops on the properties, the overlays and the settings of buffers by name, as methods of `Parts`. Each tells its effect.
 ghost use Rattle.std.specs.Prelude.{◌≡◌, Some};
 ghost use Rattle.rd_script.specs.Forms.{IsInForm};
 ghost use Rattle.rd_script.specs.declared.op.Op.TheVariants.{Put, Overlay as MakeOverlay, OverlayMove, OverlayDrop, OverlayPut, Setting as SetSetting, MarginPut};

@@ -1,4 +1,4 @@
-//! Why an op is refused.
+//! `Refused`, why an op is refused, and how the refusals of the layers below are told.
 use rd_base::Memory;
 use rd_modeline::FormatFault;
 use rd_objects::ObjectFault;

@@ -1,4 +1,4 @@
-//! The values of the text properties of a buffer, as its text changes.
+//! The values of a buffer's text properties, opened and closed as its text changes.
 ghost use Rattle.std.specs.Prelude.{◌≡◌, ◌+◌, ◌<◌, ◌≤◌, ℕ, nat_lt, Some, OnOk, OnErr, length, if◌then◌else◌};
 ghost use Rattle.rd_props.specs.Buffers.{values_of};
 ghost use Rattle.rd_props.specs.Edits.{opened, closed};

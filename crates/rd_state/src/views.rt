@@ -1,4 +1,4 @@
-//! The ops on one window's view: what it shows, and from where on.
+//! The ops on one window's view, as methods of `Parts`: what it shows, from where on, and how long lines are cut.
 ghost use Rattle.std.specs.Prelude.{◌≡◌, ◌<◌, IfOk, IfErr, IsSome, Some, is_ok, length, option_map, slice_get};
 ghost use Rattle.rd_script.specs.declared.op.Op.TheVariants.{Select, Show, Point, Start, Scroll, Hscroll, Wrap as SetWrap};
 ghost use Rattle.rd_script.specs.Forms.{IsInForm};

@@ -1,4 +1,4 @@
-//! A window's view of a buffer.
+//! `WindowState`, a window: what it shows, and from where on.
 use rd_base::{Anchor, Ch, ListOf, Pos, Wrap};
 
 /// A window: the number of its buffer, its point there, and where its view begins; whether that was asked for by an op, and how many

@@ -1,4 +1,5 @@
-//! What laying out all windows gives, before anything of it is kept.
+//! `Desired`, what laying out all windows gives before anything of it is kept: `lay_out` makes it, `shown` tells what the windows then
+//! show.
 ghost use Rattle.std.specs.Prelude.{◌≡◌, ℕ, ◌+◌, ◌≤◌, ◌<◌, ◌++◌, ◌∷◌, [], length, slice_get, IfOk, OnOk, Some, unwrap_or};
 ghost use Rattle.rd_layout.specs.Redisplays.{allowed};
 ghost use Rattle.rd_layout.specs.Sessions.{layout_of};

@@ -1,4 +1,4 @@
-//! What a window of a state is laid out from.
+//! What a window of a state is laid out from: the view of its buffer, and its shape.
 ghost use Rattle.std.specs.Prelude.{◌≡◌, ◌<◌, length};
 ghost use Rattle.rd_layout.specs.Windows.{window_shape};
 ghost use Rattle.rd_props.specs.Buffers.{meaning};

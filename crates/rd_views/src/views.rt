@@ -1,4 +1,4 @@
-//! The windows of a state with their last layouts.
+//! `Views`, the windows of a state with their last layouts, and what it lends.
 ghost use Rattle.std.specs.Prelude.{◌≡◌, IfOk, option_map};
 ghost use Rattle.rd_layout.specs.Sessions.{layout_of, opened};
 ghost use Rattle.rd_layout.specs.Since.{IsSession};
