@@ -1,5 +1,5 @@
 -- What is never refused for want of memory: a fault of the tree that is said is another.
-use Rattle.std.proofs.Common.{◌≡◌, ℕ, ◌-◌, ◌&&◌, Bool, true, false, if◌then◌else◌, nat_le, Result, Ok, Err, ◌∙◌}
+use Rattle.std.proofs.Common.{◌≡◌, ℕ, ◌&&◌, Bool, true, false, if◌then◌else◌, nat_le, Result, Ok, Err}
 use Rattle.std.specs.Result.{IsErrAnd}
 use Rattle.rd_tree.specs.Calls.{Configuration, frame, frame_of, margins_tree, mode_tree, remove_tree, resize_tree}
 use Rattle.rd_tree.specs.Windows.{columns_needed, fits, holds, is_single, removed, resized, rows_needed, with_margins, with_mode}
