@@ -1,8 +1,9 @@
 //! `Session`, its parts and its invariant, and what an op makes of it.
-ghost use Rattle.std.specs.Prelude.{◌≡◌, if◌then◌else◌, None, IfOk};
+ghost use Rattle.std.specs.Prelude.{◌≡◌, if◌then◌else◌, None, IfOk, IsTrue};
 ghost use Rattle.rd_layout.specs.Sessions.{Applied, IsStep, is_frame, opened};
 ghost use Rattle.rd_layout.specs.Since.{IsSession};
 ghost use Rattle.rd_script.specs.Forms.{IsInForm};
+ghost use Rattle.rd_state.specs.Answers.{takes_memory};
 
 use rd_base::Memory;
 use rd_layout::sessions_stay_known;
@@ -67,12 +68,13 @@ impl Session {
     /// all as it was: NoBuffer, NoWindow, NoOverlay and NoObject where the op names what is not there, OutOfRange for a position or a
     /// range that is not where the op asks it to be, NotShown for a hit in a window whose last layout is not what it shows, TextTooLarge,
     /// ObjectTooLong, NameTaken, LastWindow, TooSmall where a window would have fewer columns or rows than it needs, BadFormat with the
-    /// place of the first bad code, or that there are too many buffers, windows, overlays or objects. Memory may be answered at any time;
-    /// then too nothing has changed.
+    /// place of the first bad code, or that there are too many buffers, windows, overlays or objects. Memory may be answered at any time
+    /// by `go` and by the ops of the state that take memory, as `State::apply` tells them, and by no other; then too nothing has changed.
     pub fn apply(&mut self, op: Op) -> Result<(), Refused>
         requires form { IsInForm op }
         requires applied { IsStep op }
-        ensures { Applied result op self.old self.new }
+        ensures applies { Applied result op self.old self.new }
+        ensures free { result ≡ Err Refused.Memory → IsTrue (takes_memory op) }
     {
         sessions_stay_known();
         let resizes = is_frame(&op);

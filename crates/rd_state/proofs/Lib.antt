@@ -6,6 +6,7 @@ mod Contents
 mod Edited
 mod Faults
 mod Finding
+mod Free
 mod Glyphs
 mod Keeping
 mod Leaves

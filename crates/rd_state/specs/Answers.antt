@@ -1,5 +1,5 @@
 -- What the calls of a state answer, and what they leave.
-use Rattle.std.specs.Prelude.{◌≡◌, ◌≢◌, ℕ, Result, Ok, Err}
+use Rattle.std.specs.Prelude.{◌≡◌, ◌≢◌, ℕ, Bool, true, false, is_some, Result, Ok, Err}
 use Rattle.rd_text.specs.declared.fault.TextFault.{TextFault}
 use Rattle.rd_text.specs.declared.fault.TextFault.TheVariants as faults
 use Rattle.rd_objects.specs.Things.{ObjectLists}
@@ -8,7 +8,7 @@ use Rattle.rd_overlays.specs.declared.fault.OverlayFault.TheVariants as overlay_
 use Rattle.rd_modeline.specs.declared.fault.FormatFault.{FormatFault}
 use Rattle.rd_modeline.specs.declared.fault.FormatFault.TheVariants as format_faults
 use Rattle.rd_script.specs.declared.op.Op.{Op}
-use Rattle.rd_script.specs.declared.op.Op.TheVariants.{Redisplay, Go, Hit}
+use Rattle.rd_script.specs.declared.op.Op.TheVariants.{Buffer, Insert, InsertRaw, TypeText, Put, Overlay as MakeOverlay, OverlayMove, AddString, AddSpec, AddFace, AddTable, Split, Redisplay, Go, Hit, MarginPut}
 use Rattle.rd_state.specs.declared.effect.Effect.{Effect}
 use Rattle.rd_state.specs.declared.refused.Refused.{Refused}
 use Rattle.rd_state.specs.declared.refused.Refused.TheVariants.{NoOverlay, OutOfRange, TextTooLarge, TooManyOverlays, BadFormat, Memory}
@@ -22,6 +22,25 @@ IsApplied (Redisplay stop) = ⊥
 IsApplied (Go window right) = ⊥
 IsApplied (Hit window row column) = ⊥
 IsApplied op = Unit {0}
+
+-- whether an op can take memory; every other op is never refused for want of it
+abbrev pub takes_memory : Op → Bool
+takes_memory (Buffer name) = true
+takes_memory (Insert name place text) = true
+takes_memory (InsertRaw name place bytes) = true
+takes_memory (TypeText text) = true
+takes_memory (Put name from to kind value) = true
+takes_memory (MakeOverlay name from to priority front rear) = true
+takes_memory (OverlayMove name overlay from to) = true
+takes_memory (AddString text runs) = true
+takes_memory (AddSpec spec) = true
+takes_memory (AddFace face) = true
+takes_memory (AddTable entries truncation continuation escape control ellipsis border) = true
+takes_memory (Split window side size) = true
+takes_memory (Redisplay stop) = true
+takes_memory (Go window right) = true
+takes_memory (MarginPut name overlay string) = is_some string
+takes_memory op = false
 
 -- what a fault of an edit of a text is for the op
 abbrev pub refused_by : TextFault → Refused

@@ -1,6 +1,7 @@
 //! `Parts::apply`: the one match over all ops. Each op's method stands in the module of its subject.
+ghost use Rattle.std.specs.Prelude.{◌≡◌, IsTrue};
 ghost use Rattle.rd_script.specs.Forms.{IsInForm};
-ghost use Rattle.rd_state.specs.Answers.{IsApplied, Applies};
+ghost use Rattle.rd_state.specs.Answers.{IsApplied, Applies, takes_memory};
 ghost use Rattle.rd_state.specs.Valid.{IsValid};
 
 use crate::effect::Effect;
@@ -16,7 +17,8 @@ impl Parts {
         requires valid { IsValid self.old }
         requires form { IsInForm op }
         requires applied { IsApplied op }
-        ensures { Applies result op self.old self.new }
+        ensures applies { Applies result op self.old self.new }
+        ensures free { result ≡ Err Refused.Memory → IsTrue (takes_memory op) }
     {
         match op {
             Op::Frame { width, height } => self.resize(width, height),

@@ -1,5 +1,5 @@
 //! The edits of one buffer: its text and the values of its text properties change together.
-ghost use Rattle.std.specs.Prelude.{◌≡◌, ◌+◌, ◌≤◌, ℕ, Some, Ok, OnOk, OnErr, length};
+ghost use Rattle.std.specs.Prelude.{◌≡◌, ◌≢◌, ◌+◌, ◌≤◌, ℕ, Some, Ok, OnOk, OnErr, length};
 ghost use Rattle.rd_text.specs.Texts.{inserted, most_characters};
 ghost use Rattle.rd_props.specs.Buffers.{meaning, values_of};
 ghost use Rattle.rd_margins.specs.Marks.{MarkValues};
@@ -64,6 +64,7 @@ pub(crate) fn delete(buffer: &mut BufferState, from: u64, to: u64) -> Result<(),
     requires { IsWithin (meaning buffer.old) }
     ensures within { IsWithin (meaning buffer.new) }
     ensures changes { (m : MarkValues) → Answers result (deletion from to (content_of buffer.old m)) (content_of buffer.old m) (content_of buffer.new m) }
+    ensures free { result ≢ Err Refused.Memory }
 {
     if from < buffer.text.begin() as u64 || to < from || (buffer.text.end() as u64) < to {
         return Err(Refused::OutOfRange);
@@ -81,6 +82,7 @@ pub(crate) fn narrow(buffer: &mut BufferState, from: u64, to: u64) -> Result<(),
     requires { IsWithin (meaning buffer.old) }
     ensures within { IsWithin (meaning buffer.new) }
     ensures changes { (m : MarkValues) → Answers result (narrowing from to (content_of buffer.old m)) (content_of buffer.old m) (content_of buffer.new m) }
+    ensures free { result ≢ Err Refused.Memory }
 {
     let text = &mut buffer.text;
     if from < 1 || to < from || text.length() as u64 + 1 < to {

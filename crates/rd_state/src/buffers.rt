@@ -1,5 +1,5 @@
 //! The buffers by name, in order of making, and the ops of `editing` and `putting` on the buffer with a number.
-ghost use Rattle.std.specs.Prelude.{◌≡◌, ◌<◌, ◌++◌, ◌∷◌, [], Ok, None, Some, IfOk, IfErr, IsTrue, OnOk, OnErr, length, slice_get};
+ghost use Rattle.std.specs.Prelude.{◌≡◌, ◌≢◌, ◌<◌, ◌++◌, ◌∷◌, [], Ok, None, Some, IfOk, IfErr, IsSome, IsTrue, OnOk, OnErr, length, slice_get};
 ghost use Rattle.rd_objects.specs.Sound.{AreObjects};
 ghost use Rattle.rd_overlays.specs.Overlays.{overlay_at};
 ghost use Rattle.rd_script.specs.Forms.{IsSettingInForm, IsPropertyValue, is_text_kind};
@@ -78,7 +78,8 @@ pub(crate) fn insert_at(
 /// Takes a range of the buffer with a number away.
 pub(crate) fn delete_at(buffers: &mut Buffers, i: usize, from: u64, to: u64) -> Result<(), Refused>
     requires { i < length (buffers_of buffers.old.entries) }
-    ensures { AnswersAt result (deletion from to) i (buffers_of buffers.old.entries) (buffers_of buffers.new.entries) }
+    ensures changes { AnswersAt result (deletion from to) i (buffers_of buffers.old.entries) (buffers_of buffers.new.entries) }
+    ensures free { result ≢ Err Refused.Memory }
 {
     buffers[i].delete(from, to)
 }
@@ -86,7 +87,8 @@ pub(crate) fn delete_at(buffers: &mut Buffers, i: usize, from: u64, to: u64) -> 
 /// Makes a range of the buffer with a number the accessible one.
 pub(crate) fn narrow_at(buffers: &mut Buffers, i: usize, from: u64, to: u64) -> Result<(), Refused>
     requires { i < length (buffers_of buffers.old.entries) }
-    ensures { AnswersAt result (narrowing from to) i (buffers_of buffers.old.entries) (buffers_of buffers.new.entries) }
+    ensures changes { AnswersAt result (narrowing from to) i (buffers_of buffers.old.entries) (buffers_of buffers.new.entries) }
+    ensures free { result ≢ Err Refused.Memory }
 {
     buffers[i].narrow(from, to)
 }
@@ -151,7 +153,8 @@ pub(crate) fn move_overlay_at(
 /// Takes an overlay of the buffer with a number away.
 pub(crate) fn drop_overlay_at(buffers: &mut Buffers, i: usize, number: u64) -> Result<(), Refused>
     requires { i < length (buffers_of buffers.old.entries) }
-    ensures { AnswersAt result (overlay_dropping number) i (buffers_of buffers.old.entries) (buffers_of buffers.new.entries) }
+    ensures changes { AnswersAt result (overlay_dropping number) i (buffers_of buffers.old.entries) (buffers_of buffers.new.entries) }
+    ensures free { result ≢ Err Refused.Memory }
 {
     buffers[i].drop_overlay(number)
 }
@@ -168,7 +171,8 @@ pub(crate) fn put_on_overlay_at(
     requires made { i < length (buffers_of buffers.old.entries) }
     requires objects { AreObjects objects.now }
     requires form { IsPropertyValue kind value }
-    ensures { AnswersAt result (overlay_putting objects.now number kind value) i (buffers_of buffers.old.entries) (buffers_of buffers.new.entries) }
+    ensures changes { AnswersAt result (overlay_putting objects.now number kind value) i (buffers_of buffers.old.entries) (buffers_of buffers.new.entries) }
+    ensures free { result ≢ Err Refused.Memory }
 {
     buffers[i].put_on_overlay(objects, number, kind, value)
 }
@@ -183,7 +187,8 @@ pub(crate) fn mark_at(
 ) -> Result<(), Refused>
     requires made { i < length (buffers_of buffers.old.entries) }
     requires objects { AreObjects objects.now }
-    ensures { AnswersAt result (mark_putting objects.now number string) i (buffers_of buffers.old.entries) (buffers_of buffers.new.entries) }
+    ensures changes { AnswersAt result (mark_putting objects.now number string) i (buffers_of buffers.old.entries) (buffers_of buffers.new.entries) }
+    ensures free { result ≡ Err Refused.Memory → IsSome string }
 {
     buffers[i].mark(objects, number, string)
 }
@@ -198,7 +203,8 @@ pub(crate) fn set_at(
     requires made { i < length (buffers_of buffers.old.entries) }
     requires objects { AreObjects objects.now }
     requires form { IsSettingInForm setting }
-    ensures { AnswersAt result (setting_putting objects.now setting) i (buffers_of buffers.old.entries) (buffers_of buffers.new.entries) }
+    ensures changes { AnswersAt result (setting_putting objects.now setting) i (buffers_of buffers.old.entries) (buffers_of buffers.new.entries) }
+    ensures free { result ≢ Err Refused.Memory }
 {
     buffers[i].set(objects, setting)
 }

@@ -1,6 +1,6 @@
 //! `Content`, a buffer with the margin strings of its overlays, whose properties and overlays always lie in its text, and the ops that
 //! keep this.
-ghost use Rattle.std.specs.Prelude.{◌≡◌, Ok, None, Some, IfOk, IfErr, IsTrue, OnErr};
+ghost use Rattle.std.specs.Prelude.{◌≡◌, ◌≢◌, Ok, None, Some, IfOk, IfErr, IsSome, IsTrue, OnErr};
 ghost use Rattle.rd_objects.specs.Sound.{AreObjects};
 ghost use Rattle.rd_overlays.specs.Overlays.{overlay_at};
 ghost use Rattle.rd_props.specs.Buffers.{meaning};
@@ -82,14 +82,16 @@ impl Content {
 
     /// Takes a range away.
     pub(crate) fn delete(&mut self, from: u64, to: u64) -> Result<(), Refused>
-        ensures { Answers result (deletion from to self.old) self.old self.new }
+        ensures changes { Answers result (deletion from to self.old) self.old self.new }
+        ensures free { result ≢ Err Refused.Memory }
     {
         delete(&mut self.state, from, to)
     }
 
     /// Makes a range the accessible one.
     pub(crate) fn narrow(&mut self, from: u64, to: u64) -> Result<(), Refused>
-        ensures { Answers result (narrowing from to self.old) self.old self.new }
+        ensures changes { Answers result (narrowing from to self.old) self.old self.new }
+        ensures free { result ≢ Err Refused.Memory }
     {
         narrow(&mut self.state, from, to)
     }
@@ -155,7 +157,8 @@ impl Content {
 
     /// Takes an overlay away.
     pub(crate) fn drop_overlay(&mut self, number: u64) -> Result<(), Refused>
-        ensures { Answers result (overlay_dropping number self.old) self.old self.new }
+        ensures changes { Answers result (overlay_dropping number self.old) self.old self.new }
+        ensures free { result ≢ Err Refused.Memory }
     {
         drop_one(&mut self.state, number)
     }
@@ -170,7 +173,8 @@ impl Content {
     ) -> Result<(), Refused>
         requires objects { AreObjects objects.now }
         requires form { IsPropertyValue kind value }
-        ensures { Answers result (overlay_putting objects.now number kind value self.old) self.old self.new }
+        ensures changes { Answers result (overlay_putting objects.now number kind value self.old) self.old self.new }
+        ensures free { result ≢ Err Refused.Memory }
     {
         give(&mut self.state, objects, number, kind, value)
     }
@@ -183,7 +187,8 @@ impl Content {
         string: Option<u64>,
     ) -> Result<(), Refused>
         requires { AreObjects objects.now }
-        ensures { Answers result (mark_putting objects.now number string self.old) self.old self.new }
+        ensures changes { Answers result (mark_putting objects.now number string self.old) self.old self.new }
+        ensures free { result ≡ Err Refused.Memory → IsSome string }
     {
         find_overlay(&self.state.overlays, number)?;
         let string = made_string(objects, string)?;
@@ -195,7 +200,8 @@ impl Content {
     pub(crate) fn set(&mut self, objects: &Objects, setting: Setting) -> Result<(), Refused>
         requires objects { AreObjects objects.now }
         requires form { IsSettingInForm setting }
-        ensures { Answers result (setting_putting objects.now setting self.old) self.old self.new }
+        ensures changes { Answers result (setting_putting objects.now setting self.old) self.old self.new }
+        ensures free { result ≢ Err Refused.Memory }
     {
         if !names_made(objects, &setting) {
             return Err(Refused::NoObject);

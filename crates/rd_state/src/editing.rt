@@ -1,4 +1,5 @@
 //! The ops on the texts of buffers by name, as methods of `Parts`. Each moves the windows' points with the text, and tells its effect.
+ghost use Rattle.std.specs.Prelude.{◌≢◌};
 ghost use Rattle.rd_script.specs.Forms.{IsInForm};
 ghost use Rattle.rd_script.specs.declared.op.Op.TheVariants.{Buffer as MakeBuffer, Insert, InsertRaw, TypeText, Delete, Narrow, Widen};
 ghost use Rattle.rd_state.specs.Answers.{Applies};
@@ -94,7 +95,8 @@ impl Parts {
     #[tactic(auto, unfolding(crate::specs::Steps::step, crate::specs::Effects::effect_of))]
     pub(crate) fn delete(&mut self, name: &str, from: u64, to: u64) -> Result<Effect, Refused>
         requires { IsValid self.old }
-        ensures { Applies result (Delete name.now from to) self.old self.new }
+        ensures applies { Applies result (Delete name.now from to) self.old self.new }
+        ensures free { result ≢ Err Refused.Memory }
     {
         let i = find(&self.buffers, name)?;
         delete_at(&mut self.buffers, i, from, to)?;
@@ -112,7 +114,8 @@ impl Parts {
     #[tactic(auto, unfolding(crate::specs::Steps::step, crate::specs::Effects::effect_of))]
     pub(crate) fn narrow(&mut self, name: &str, from: u64, to: u64) -> Result<Effect, Refused>
         requires { IsValid self.old }
-        ensures { Applies result (Narrow name.now from to) self.old self.new }
+        ensures applies { Applies result (Narrow name.now from to) self.old self.new }
+        ensures free { result ≢ Err Refused.Memory }
     {
         let i = find(&self.buffers, name)?;
         narrow_at(&mut self.buffers, i, from, to)?;
@@ -129,7 +132,8 @@ impl Parts {
     #[tactic(auto, unfolding(crate::specs::Steps::step, crate::specs::Effects::effect_of))]
     pub(crate) fn widen(&mut self, name: &str) -> Result<Effect, Refused>
         requires { IsValid self.old }
-        ensures { Applies result (Widen name.now) self.old self.new }
+        ensures applies { Applies result (Widen name.now) self.old self.new }
+        ensures free { result ≢ Err Refused.Memory }
     {
         let i = find(&self.buffers, name)?;
         widen_at(&mut self.buffers, i);

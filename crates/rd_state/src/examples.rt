@@ -3,13 +3,14 @@ ghost use Rattle.std.specs.Prelude.{◌≡◌, true, false, ◌∷◌, [], None,
 ghost use Rattle.rd_base.specs.declared.settings.Wrap.TheVariants.{Continue};
 ghost use Rattle.rd_overlays.specs.Overlays.{new_overlay, overlay_at};
 ghost use Rattle.rd_overlays.specs.declared.overlay.Kind.TheVariants.{Face};
-ghost use Rattle.rd_script.specs.declared.op.Op.TheVariants.{Frame, Buffer, Insert, InsertRaw, TypeText, Delete, Narrow, Widen, Put, Overlay as MakeOverlay, OverlayMove, OverlayPut, AddFace, Split, Remove, Select, Show, Point, Start, Scroll, Wrap, ModeLine, Echo, Margin, MarginPut};
+ghost use Rattle.rd_script.specs.declared.op.Op.TheVariants.{Frame, Buffer, Insert, InsertRaw, TypeText, Delete, Narrow, Widen, Put, Overlay as MakeOverlay, OverlayMove, OverlayDrop, OverlayPut, AddFace, Split, Remove, Select, Show, Point, Start, Scroll, Wrap, ModeLine, Echo, Margin, MarginPut};
 ghost use Rattle.rd_tree.specs.declared.side.Side.TheVariants.{Below, Right};
 ghost use Rattle.rd_tree.specs.Windows.{leaves};
 ghost use Rattle.rd_state.specs.declared.effect.Effect.TheVariants.{Nothing, Edit, Moved, Window};
 ghost use Rattle.rd_state.specs.declared.refused.Refused.TheVariants.{NoBuffer, NoWindow, NoOverlay, NoObject, OutOfRange, NameTaken, TooSmall, LastWindow, BadFormat};
 ghost use Rattle.rd_state.specs.States.{opening, main_name, value_in};
 ghost use Rattle.rd_state.specs.Windows.{selected_window, shown_content, window_of};
+ghost use Rattle.rd_state.specs.Answers.{takes_memory};
 ghost use Rattle.rd_state.specs.Effects.{effect_of};
 ghost use Rattle.rd_state.specs.Steps.{step};
 ghost use Rattle.rd_state.specs.Examples.{after, told, shown_text};
@@ -75,4 +76,18 @@ fn effects_tell_changes()
     ensures moved { told (λ s. effect_of s (OverlayMove main_name 0 1 2)) (after (TypeText (codes "abc") ∷ MakeOverlay main_name 2 4 (pos 0) false false ∷ [])) ≡ Ok (Moved 0 (2, 4) (1, 2)) }
     ensures shown { told (λ s. effect_of s (Show 0 main_name)) (after []) ≡ Ok (Window 0) }
     ensures echoed { told (λ s. effect_of s (Echo (codes "hi"))) (after []) ≡ Ok Nothing }
+{}
+
+/// Which ops can take memory.
+fn some_ops_take_no_memory()
+    ensures inserted { takes_memory (Insert main_name 1 (codes "a")) ≡ true }
+    ensures deleted { takes_memory (Delete main_name 1 2) ≡ false }
+    ensures narrowed { takes_memory (Narrow main_name 1 2) ≡ false }
+    ensures put { takes_memory (Put main_name 1 2 Face None) ≡ true }
+    ensures moved { takes_memory (OverlayMove main_name 0 1 2) ≡ true }
+    ensures dropped { takes_memory (OverlayDrop main_name 0) ≡ false }
+    ensures split { takes_memory (Split 0 Below 5) ≡ true }
+    ensures removed { takes_memory (Remove 0) ≡ false }
+    ensures marked { takes_memory (MarginPut main_name 0 (Some 0)) ≡ true }
+    ensures unmarked { takes_memory (MarginPut main_name 0 None) ≡ false }
 {}

@@ -1,5 +1,5 @@
 //! The ops on what belongs to the whole frame, as methods of `Parts`: its size, scrolling, the echo text, shifts of rows.
-ghost use Rattle.std.specs.Prelude.{◌≡◌};
+ghost use Rattle.std.specs.Prelude.{◌≢◌};
 ghost use Rattle.rd_script.specs.declared.op.Op.TheVariants.{Frame, Scrolling, Echo, Shift};
 ghost use Rattle.rd_script.specs.Forms.{IsInForm};
 ghost use Rattle.rd_state.specs.Answers.{Applies};
@@ -14,7 +14,8 @@ impl Parts {
     #[tactic(auto, unfolding(crate::specs::Steps::step, crate::specs::Effects::effect_of))]
     pub(crate) fn resize(&mut self, width: u32, height: u32) -> Result<Effect, Refused>
         requires form { IsInForm (Frame width height) }
-        ensures { Applies result (Frame width height) self.old self.new }
+        ensures applies { Applies result (Frame width height) self.old self.new }
+        ensures free { result ≢ Err Refused.Memory }
     {
         self.tree.resize(width, height - 1)?;
         self.width = width;
@@ -29,7 +30,8 @@ impl Parts {
         margin: u32,
         conservatively: u32,
     ) -> Result<Effect, Refused>
-        ensures { Applies result (Scrolling margin conservatively) self.old self.new }
+        ensures applies { Applies result (Scrolling margin conservatively) self.old self.new }
+        ensures free { result ≢ Err Refused.Memory }
     {
         self.margin = margin;
         self.conservatively = conservatively;
@@ -39,7 +41,8 @@ impl Parts {
     /// Shows a text in the echo area.
     #[tactic(auto, unfolding(crate::specs::Steps::step, crate::specs::Effects::effect_of))]
     pub(crate) fn show_echo(&mut self, text: ListOf<Ch>) -> Result<Effect, Refused>
-        ensures { Applies result (Echo text) self.old self.new }
+        ensures applies { Applies result (Echo text) self.old self.new }
+        ensures free { result ≢ Err Refused.Memory }
     {
         self.echo = text;
         Ok(Effect::Nothing)
@@ -48,7 +51,8 @@ impl Parts {
     /// Says whether the terminal may shift rows.
     #[tactic(auto, unfolding(crate::specs::Steps::step, crate::specs::Effects::effect_of))]
     pub(crate) fn set_shifting(&mut self, on: bool) -> Result<Effect, Refused>
-        ensures { Applies result (Shift on) self.old self.new }
+        ensures applies { Applies result (Shift on) self.old self.new }
+        ensures free { result ≢ Err Refused.Memory }
     {
         self.shifting = on;
         Ok(Effect::Nothing)

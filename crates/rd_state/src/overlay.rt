@@ -1,5 +1,5 @@
 //! The ops on the overlays of one buffer, with the refusals of each in order.
-ghost use Rattle.std.specs.Prelude.{◌≡◌, ◌<◌, ◌≤◌, ℕ, true, List, Ok, None, Some, IfOk, IfErr, OnErr, length};
+ghost use Rattle.std.specs.Prelude.{◌≡◌, ◌≢◌, ◌<◌, ◌≤◌, ℕ, true, List, Ok, None, Some, IfOk, IfErr, OnErr, length};
 ghost use Rattle.rd_overlays.specs.Overlays.{overlay_at};
 ghost use Rattle.rd_objects.specs.Sound.{AreObjects};
 ghost use Rattle.rd_script.specs.Forms.{IsPropertyValue};
@@ -70,6 +70,7 @@ pub(crate) fn drop_one(buffer: &mut BufferState, number: u64) -> Result<(), Refu
     requires { IsWithin (meaning buffer.old) }
     ensures within { IsWithin (meaning buffer.new) }
     ensures changes { (m : MarkValues) → Answers result (overlay_dropping number (content_of buffer.old m)) (content_of buffer.old m) (content_of buffer.new m) }
+    ensures free { result ≢ Err Refused.Memory }
 {
     find_overlay(&buffer.overlays, number)?;
     buffer.overlays.drop_one(number as u32)?;
@@ -89,6 +90,7 @@ pub(crate) fn give(
     requires form { IsPropertyValue kind value }
     ensures within { IsWithin (meaning buffer.new) }
     ensures changes { (m : MarkValues) → Answers result (overlay_putting objects.now number kind value (content_of buffer.old m)) (content_of buffer.old m) (content_of buffer.new m) }
+    ensures free { result ≢ Err Refused.Memory }
 {
     find_overlay(&buffer.overlays, number)?;
     let value = made_value(objects, kind, value)?;

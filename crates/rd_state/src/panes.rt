@@ -1,4 +1,5 @@
 //! The ops that change how the windows share the frame, as methods of `Parts`: splits, removals, mode lines and margins.
+ghost use Rattle.std.specs.Prelude.{◌≢◌};
 ghost use Rattle.rd_script.specs.declared.op.Op.TheVariants.{Split, Remove, ModeLine, Margin};
 ghost use Rattle.rd_script.specs.Forms.{IsInForm};
 ghost use Rattle.rd_state.specs.Answers.{Applies};
@@ -37,7 +38,8 @@ impl Parts {
     /// Takes a window away. Where it was the selected one, the first window of its sibling is selected.
     #[tactic(auto, unfolding(crate::specs::Steps::step, crate::specs::Effects::effect_of))]
     pub(crate) fn remove(&mut self, window: u64) -> Result<Effect, Refused>
-        ensures { Applies result (Remove window) self.old self.new }
+        ensures applies { Applies result (Remove window) self.old self.new }
+        ensures free { result ≢ Err Refused.Memory }
     {
         let i = find(self.windows.as_slice(), window)?;
         let number = self.windows[i].0;
@@ -56,7 +58,8 @@ impl Parts {
         window: u64,
         format: Option<ListOf<Ch>>,
     ) -> Result<Effect, Refused>
-        ensures { Applies result (ModeLine window format) self.old self.new }
+        ensures applies { Applies result (ModeLine window format) self.old self.new }
+        ensures free { result ≢ Err Refused.Memory }
     {
         let i = find(self.windows.as_slice(), window)?;
         check_format(&format)?;
@@ -74,7 +77,8 @@ impl Parts {
         strings: u32,
     ) -> Result<Effect, Refused>
         requires form { IsInForm (Margin window numbers strings) }
-        ensures { Applies result (Margin window numbers strings) self.old self.new }
+        ensures applies { Applies result (Margin window numbers strings) self.old self.new }
+        ensures free { result ≢ Err Refused.Memory }
     {
         let i = find(self.windows.as_slice(), window)?;
         self.tree.margins(self.windows[i].0, numbers + strings)?;

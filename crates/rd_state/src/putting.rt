@@ -1,5 +1,5 @@
 //! The ops on the properties, the overlays and the settings of buffers by name, as methods of `Parts`. Each tells its effect.
-ghost use Rattle.std.specs.Prelude.{◌≡◌, Some};
+ghost use Rattle.std.specs.Prelude.{◌≡◌, ◌≢◌, IsSome, Some};
 ghost use Rattle.rd_script.specs.Forms.{IsInForm};
 ghost use Rattle.rd_script.specs.declared.op.Op.TheVariants.{Put, Overlay as MakeOverlay, OverlayMove, OverlayDrop, OverlayPut, Setting as SetSetting, MarginPut};
 ghost use Rattle.rd_state.specs.Answers.{Applies};
@@ -82,7 +82,8 @@ impl Parts {
     #[tactic(auto, unfolding(crate::specs::Steps::step, crate::specs::Effects::effect_of))]
     pub(crate) fn drop_overlay(&mut self, name: &str, number: u64) -> Result<Effect, Refused>
         requires { IsValid self.old }
-        ensures { Applies result (OverlayDrop name.now number) self.old self.new }
+        ensures applies { Applies result (OverlayDrop name.now number) self.old self.new }
+        ensures free { result ≢ Err Refused.Memory }
     {
         let i = find(&self.buffers, name)?;
         let overlay = overlay_at(&self.buffers, i, number)?;
@@ -101,7 +102,8 @@ impl Parts {
     ) -> Result<Effect, Refused>
         requires valid { IsValid self.old }
         requires form { IsInForm (OverlayPut name.now number kind value) }
-        ensures { Applies result (OverlayPut name.now number kind value) self.old self.new }
+        ensures applies { Applies result (OverlayPut name.now number kind value) self.old self.new }
+        ensures free { result ≢ Err Refused.Memory }
     {
         let i = find(&self.buffers, name)?;
         let overlay = overlay_at(&self.buffers, i, number)?;
@@ -118,7 +120,8 @@ impl Parts {
         string: Option<u64>,
     ) -> Result<Effect, Refused>
         requires { IsValid self.old }
-        ensures { Applies result (MarginPut name.now number string) self.old self.new }
+        ensures applies { Applies result (MarginPut name.now number string) self.old self.new }
+        ensures free { result ≡ Err Refused.Memory → IsSome string }
     {
         let i = find(&self.buffers, name)?;
         mark_at(&mut self.buffers, &self.objects, i, number, string)?;
@@ -130,7 +133,8 @@ impl Parts {
     pub(crate) fn set(&mut self, name: &str, setting: Setting) -> Result<Effect, Refused>
         requires valid { IsValid self.old }
         requires form { IsInForm (SetSetting name.now setting) }
-        ensures { Applies result (SetSetting name.now setting) self.old self.new }
+        ensures applies { Applies result (SetSetting name.now setting) self.old self.new }
+        ensures free { result ≢ Err Refused.Memory }
     {
         let i = find(&self.buffers, name)?;
         set_at(&mut self.buffers, &self.objects, i, setting)?;

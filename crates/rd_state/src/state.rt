@@ -1,5 +1,5 @@
 //! A session's state.
-ghost use Rattle.std.specs.Prelude.{◌≡◌, nat_lt, if◌then◌else◌, IfOk, IsSome, None, Some, length, slice_get, option_map};
+ghost use Rattle.std.specs.Prelude.{◌≡◌, nat_lt, if◌then◌else◌, IfOk, IsSome, IsTrue, None, Some, length, slice_get, option_map};
 ghost use Rattle.rd_props.specs.Buffers.{meaning};
 ghost use Rattle.rd_script.specs.Forms.{IsInForm};
 ghost use Rattle.rd_text.specs.Texts.{IsAccessible};
@@ -7,7 +7,7 @@ ghost use Rattle.rd_state.specs.States.{opening, opening_window, number_of, seen
 ghost use Rattle.rd_state.specs.Windows.{window_of};
 ghost use Rattle.rd_state.specs.Valid.{IsValid};
 ghost use Rattle.rd_state.specs.Steps.{settled};
-ghost use Rattle.rd_state.specs.Answers.{IsApplied, Applies};
+ghost use Rattle.rd_state.specs.Answers.{IsApplied, Applies, takes_memory};
 ghost use Rattle.rd_state.specs.Shown.{IsShownAt};
 
 use crate::buffers::{add, find};
@@ -80,14 +80,16 @@ impl State {
     /// changed of what is shown. A refusal is the first that the op meets, and leaves the state as it was: NoBuffer, NoWindow, NoOverlay
     /// and NoObject where the op names what is not there, OutOfRange for a position or a range that is not where the op asks it to be,
     /// TextTooLarge, ObjectTooLong, NameTaken, LastWindow, TooSmall where a window would have fewer columns or rows than it needs,
-    /// BadFormat with the place of the first bad code, or that there are too many buffers, windows, overlays or objects; and Memory. A
-    /// buffer is found by one look-up of its name, and an edit moves the rest of the text once, and goes over the values of each text
-    /// property, over the overlays and over the windows. Ops that only take away, and those that set a number, take no
-    /// memory; to move an overlay takes some now and then.
+    /// BadFormat with the place of the first bad code, or that there are too many buffers, windows, overlays or objects. Memory comes
+    /// only from an op that puts in a text, changes a text property, makes a buffer, an overlay, an object or a window, gives an overlay
+    /// a margin string, or moves an overlay, which takes some now and then; every other op takes none. A buffer is found by one look-up
+    /// of its name, and an edit moves the rest of the text once, and goes over the values of each text property, over the overlays and
+    /// over the windows.
     pub fn apply(&mut self, op: Op) -> Result<Effect, Refused>
         requires form { IsInForm op }
         requires applied { IsApplied op }
-        ensures { Applies result op self.old self.new }
+        ensures applies { Applies result op self.old self.new }
+        ensures free { result ≡ Err Refused.Memory → IsTrue (takes_memory op) }
     {
         steps_keep_states();
         self.parts.apply(op)

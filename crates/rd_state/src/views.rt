@@ -1,5 +1,5 @@
 //! The ops on one window's view, as methods of `Parts`: what it shows, from where on, and how long lines are cut.
-ghost use Rattle.std.specs.Prelude.{◌≡◌, ◌<◌, IfOk, IfErr, IsSome, Some, is_ok, length, option_map, slice_get};
+ghost use Rattle.std.specs.Prelude.{◌≡◌, ◌≢◌, ◌<◌, IfOk, IfErr, IsSome, Some, is_ok, length, option_map, slice_get};
 ghost use Rattle.rd_script.specs.declared.op.Op.TheVariants.{Select, Show, Point, Start, Scroll, Hscroll, Wrap as SetWrap};
 ghost use Rattle.rd_script.specs.Forms.{IsInForm};
 ghost use Rattle.rd_state.specs.declared.refused.Refused.TheVariants.{OutOfRange};
@@ -26,7 +26,8 @@ impl Parts {
     /// Selects a window.
     #[tactic(auto, unfolding(crate::specs::Steps::step, crate::specs::Effects::effect_of))]
     pub(crate) fn select(&mut self, window: u64) -> Result<Effect, Refused>
-        ensures { Applies result (Select window) self.old self.new }
+        ensures applies { Applies result (Select window) self.old self.new }
+        ensures free { result ≢ Err Refused.Memory }
     {
         let i = find(self.windows.as_slice(), window)?;
         self.selected = self.windows[i].0;
@@ -37,7 +38,8 @@ impl Parts {
     #[tactic(auto, unfolding(crate::specs::Steps::step, crate::specs::Effects::effect_of))]
     pub(crate) fn show(&mut self, window: u64, name: &str) -> Result<Effect, Refused>
         requires valid { IsValid self.old }
-        ensures { Applies result (Show window name.now) self.old self.new }
+        ensures applies { Applies result (Show window name.now) self.old self.new }
+        ensures free { result ≢ Err Refused.Memory }
     {
         let i = find(self.windows.as_slice(), window)?;
         let buffer = buffers::find(&self.buffers, name)?;
@@ -55,7 +57,8 @@ impl Parts {
     #[tactic(auto, unfolding(crate::specs::Steps::step, crate::specs::Effects::effect_of))]
     pub(crate) fn move_point(&mut self, window: u64, pos: u64) -> Result<Effect, Refused>
         requires valid { IsValid self.old }
-        ensures { Applies result (Point window pos) self.old self.new }
+        ensures applies { Applies result (Point window pos) self.old self.new }
+        ensures free { result ≢ Err Refused.Memory }
     {
         let i = find(self.windows.as_slice(), window)?;
         let point = accessible(&self.buffers, self.windows[i].1.buffer as usize, pos)?;
@@ -67,7 +70,8 @@ impl Parts {
     #[tactic(auto, unfolding(crate::specs::Steps::step, crate::specs::Effects::effect_of))]
     pub(crate) fn start(&mut self, window: u64, pos: u64, row: u32) -> Result<Effect, Refused>
         requires valid { IsValid self.old }
-        ensures { Applies result (Start window pos row) self.old self.new }
+        ensures applies { Applies result (Start window pos row) self.old self.new }
+        ensures free { result ≢ Err Refused.Memory }
     {
         let i = find(self.windows.as_slice(), window)?;
         let pos = accessible(&self.buffers, self.windows[i].1.buffer as usize, pos)?;
@@ -83,7 +87,8 @@ impl Parts {
     pub(crate) fn scroll(&mut self, window: u64, rows: i64) -> Result<Effect, Refused>
         requires valid { IsValid self.old }
         requires form { IsInForm (Scroll window rows) }
-        ensures { Applies result (Scroll window rows) self.old self.new }
+        ensures applies { Applies result (Scroll window rows) self.old self.new }
+        ensures free { result ≢ Err Refused.Memory }
     {
         let i = find(self.windows.as_slice(), window)?;
         let view = &mut self.windows[i].1;
@@ -95,7 +100,8 @@ impl Parts {
     /// Scrolls a window sideways.
     #[tactic(auto, unfolding(crate::specs::Steps::step, crate::specs::Effects::effect_of))]
     pub(crate) fn scroll_sideways(&mut self, window: u64, columns: u32) -> Result<Effect, Refused>
-        ensures { Applies result (Hscroll window columns) self.old self.new }
+        ensures applies { Applies result (Hscroll window columns) self.old self.new }
+        ensures free { result ≢ Err Refused.Memory }
     {
         let i = find(self.windows.as_slice(), window)?;
         self.windows[i].1.hscroll = columns;
@@ -105,7 +111,8 @@ impl Parts {
     /// Says what becomes of a window's lines that are longer than a row.
     #[tactic(auto, unfolding(crate::specs::Steps::step, crate::specs::Effects::effect_of))]
     pub(crate) fn wrap(&mut self, window: u64, mode: Wrap) -> Result<Effect, Refused>
-        ensures { Applies result (SetWrap window mode) self.old self.new }
+        ensures applies { Applies result (SetWrap window mode) self.old self.new }
+        ensures free { result ≢ Err Refused.Memory }
     {
         let i = find(self.windows.as_slice(), window)?;
         self.windows[i].1.wrap = mode;

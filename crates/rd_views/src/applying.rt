@@ -1,7 +1,8 @@
 //! The ops, all but the one that shows the frame.
+ghost use Rattle.std.specs.Prelude.{◌≡◌, IsTrue};
 ghost use Rattle.rd_layout.specs.Sessions.{Applied, IsStep};
 ghost use Rattle.rd_script.specs.Forms.{IsInForm};
-ghost use Rattle.rd_state.specs.Answers.{IsApplied};
+ghost use Rattle.rd_state.specs.Answers.{IsApplied, takes_memory};
 
 use crate::noting::note;
 use crate::views::Views;
@@ -13,11 +14,12 @@ impl Views {
     /// Applies one op other than redisplay: `go` and `hit` move a window's point by what is seen, and every other op is that of the
     /// state. What an accepted op can have changed is joined to what changed since the last layouts. A refusal is the first that the op
     /// meets, as `State::apply` tells it; NotShown comes from `hit` alone, where what the window shows may have changed since its last
-    /// layout. It leaves all as it was, and so does Memory, which any op that takes memory may answer.
+    /// layout. It leaves all as it was, and so does Memory, which comes only from `go` and from the ops of the state that take memory.
     pub fn apply(&mut self, op: Op) -> Result<(), Refused>
         requires form { IsInForm op }
         requires step { IsStep op }
-        ensures { Applied result op self.old self.new }
+        ensures applies { Applied result op self.old self.new }
+        ensures free { result ≡ Err Refused.Memory → IsTrue (takes_memory op) }
     {
         match op {
             Op::Go { window, right } => self.go(window, right),
@@ -34,7 +36,8 @@ impl Views {
     pub(crate) fn pass_on(&mut self, op: Op) -> Result<(), Refused>
         requires form { IsInForm op }
         requires applied { IsApplied op }
-        ensures { Applied result op self.old self.new }
+        ensures applies { Applied result op self.old self.new }
+        ensures free { result ≡ Err Refused.Memory → IsTrue (takes_memory op) }
     {
         sessions_stay_known();
         let effect = self.state.apply(op)?;

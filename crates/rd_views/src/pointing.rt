@@ -1,5 +1,5 @@
 //! The ops that move a window's point by what is seen.
-ghost use Rattle.std.specs.Prelude.{◌≡◌, ◌&&◌, ◌<◌, IfErr, IfOk, OnErr, None, length, option_map};
+ghost use Rattle.std.specs.Prelude.{◌≡◌, ◌≢◌, ◌&&◌, ◌<◌, IfErr, IfOk, OnErr, None, length, option_map};
 ghost use Rattle.rd_layout.specs.Pointing.{going, hitting, is_shown, stepped_to};
 ghost use Rattle.rd_layout.specs.Sessions.{Applied, layout_of};
 ghost use Rattle.rd_script.specs.declared.op.Op.TheVariants.{Go, Hit};
@@ -36,7 +36,8 @@ impl Views {
     /// Moves a window's point to what is shown in a row and a column of its text, both from 0; point stays where that shows no position.
     /// NoWindow comes exactly where no such window lives, and NotShown where the window may not show its last layout any more.
     pub(crate) fn hit(&mut self, window: u64, row: u32, column: u32) -> Result<(), Refused>
-        ensures { Applied result (Hit window row column) self.old self.new }
+        ensures applies { Applied result (Hit window row column) self.old self.new }
+        ensures free { result ≢ Err Refused.Memory }
     {
         let pos = self.position_shown(window, row, column)?;
         self.pass_on(Op::Point {
@@ -75,7 +76,8 @@ impl Views {
 
     /// The position that is shown in a row and a column of a window's text, and its point where they show none.
     fn position_shown(&self, window: u64, row: u32, column: u32) -> Result<Pos, Refused>
-        ensures { Points result window self.now.state (hitting self.now.state window (layout_of window self.now.layouts) row column) }
+        ensures points { Points result window self.now.state (hitting self.now.state window (layout_of window self.now.layouts) row column) }
+        ensures free { result ≢ Err Refused.Memory }
     {
         sessions_stay_known();
         let number = number_of(&self.state, window)?;

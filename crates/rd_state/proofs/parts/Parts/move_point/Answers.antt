@@ -19,9 +19,9 @@ accessible-requires c =
     let valid : IsValid t = subst IsValid (sym c.self.view_is) c.requires.valid in
     shown-made t n c.in_ok-i.i c.index.result.now valid there
 
-pub returns-in_err-point : goal.returns-in_err-point
+pub returns-in_err-point-clause-applies : goal.returns-in_err-point-clause-applies
 unfolding step
-returns-in_err-point c =
+returns-in_err-point-clause-applies c =
     let t = the_view c.self.inside in
     let n = c.args.window in
     let there = found-in t c.as_slice.result.now n c.in_ok-i.i c.index.result.now c.as_slice.ensures.value c.in_ok-i.ensures.place c.in_ok-i.ensures.inside c.index.ensures in
@@ -30,9 +30,9 @@ returns-in_err-point c =
     refuses c.from_residual-in_err-point.result (Point n c.args.pos) c.args.self.now c.args.self.now c.in_err-point.field-0.0 c.from_residual-in_err-point.ensures.0 c.from_residual-in_err-point.ensures.1 refl
     (place-refused c.args.self.now t n c.in_ok-i.i c.args.pos c.index.result.now f b.0 c.self.view_is there b.1 b.2 ∙ ap (λ e. Err e) (sym c.in_err-point.ensures.refused))
 
-pub returns : goal.returns
+pub returns-clause-applies : goal.returns-clause-applies
 unfolding step effect_of
-returns c =
+returns-clause-applies c =
     let t = the_view c.self.inside in
     let n = c.args.window in
     let there = found-in t c.as_slice.result.now n c.in_ok-i.i c.index.result.now c.as_slice.ensures.value c.in_ok-i.ensures.place c.in_ok-i.ensures.inside c.index.ensures in

@@ -10,11 +10,12 @@ use Rattle.rd_state.specs.Effects.{effect_of}
 use Rattle.rd_state.specs.Steps.{refused_tree, step}
 use Rattle.rd_state.proofs.Finding.{found-in}
 use Rattle.rd_state.proofs.Sharing.{refuses, tree-refuses, asked, removes-window, heir-chosen, heir-passed}
+use Rattle.rd_state.proofs.Free.{remove-free, tree-free}
 use Rattle.rd_state.proofs.parts.Parts.remove.Goals as goal
 
-pub returns-in_err-heir : goal.returns-in_err-heir
+pub returns-in_err-heir-clause-applies : goal.returns-in_err-heir-clause-applies
 unfolding step
-returns-in_err-heir c =
+returns-in_err-heir-clause-applies c =
     let t = the_view c.self.inside in
     let there = found-in t c.as_slice.result.now c.args.window c.in_ok-i.i c.index.result.now c.as_slice.ensures.value c.in_ok-i.ensures.place c.in_ok-i.ensures.inside c.index.ensures in
     let n = c.args.window in
@@ -28,9 +29,9 @@ returns-in_err-heir c =
     (tree-refuses c.args.self.now t n c.in_ok-i.i c.index.result.now (λ x. remove_tree x.tree n) after c.in_err-heir.field-0.0 c.self.view_is there
     (asked (λ k. remove_tree t.tree k) n c.in_ok-i.i t.windows c.index.result.now _ there c.in_err-heir.ensures.1))
 
-pub returns-then-self-number : goal.returns-then-self-number
+pub returns-then-self-number-clause-applies : goal.returns-then-self-number-clause-applies
 unfolding step effect_of
-returns-then-self-number c =
+returns-then-self-number-clause-applies c =
     let t = the_view c.self.inside in
     let there = found-in t c.as_slice.result.now c.args.window c.in_ok-i.i c.index.result.now c.as_slice.ensures.value c.in_ok-i.ensures.place c.in_ok-i.ensures.inside c.index.ensures in
     let n = c.args.window in (
@@ -40,9 +41,9 @@ returns-then-self-number c =
       refl,
     )
 
-pub returns-else-self-number : goal.returns-else-self-number
+pub returns-else-self-number-clause-applies : goal.returns-else-self-number-clause-applies
 unfolding step effect_of
-returns-else-self-number c =
+returns-else-self-number-clause-applies c =
     let t = the_view c.self.inside in
     let there = found-in t c.as_slice.result.now c.args.window c.in_ok-i.i c.index.result.now c.as_slice.ensures.value c.in_ok-i.ensures.place c.in_ok-i.ensures.inside c.index.ensures in
     let n = c.args.window in (
@@ -51,3 +52,8 @@ returns-else-self-number c =
           (heir-passed t.selected n c.index.result.now.0 t.tree.windows there.number c.if-self-number.false),
       refl,
     )
+
+pub returns-in_err-heir-clause-free : goal.returns-in_err-heir-clause-free
+returns-in_err-heir-clause-free c =
+    tree-free c.from_residual-in_err-heir.result _ c.in_err-heir.field-0.0 c.from_residual-in_err-heir.ensures.1 c.in_err-heir.ensures.1
+    (remove-free (the_view c.self.inside).tree c.index.result.now.0)

@@ -16,9 +16,9 @@ overflow_add-view c =
     let valid : IsValid t = subst IsValid (sym c.self.view_is) c.requires.valid in
     rows-fit c.index_mut.result.now.1.pending c.args.rows (rows-near t n c.in_ok-i.i c.index_mut.result.now valid there) c.requires.form.1
 
-pub returns : goal.returns
+pub returns-clause-applies : goal.returns-clause-applies
 unfolding step effect_of
-returns c =
+returns-clause-applies c =
     let t = the_view c.self.inside in
     let n = c.args.window in
     let there = found-in t c.as_slice.result.now n c.in_ok-i.i c.index_mut.result.now c.as_slice.ensures.value c.in_ok-i.ensures.place c.in_ok-i.ensures.inside c.index_mut.ensures.value in

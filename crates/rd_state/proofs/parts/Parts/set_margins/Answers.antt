@@ -7,11 +7,12 @@ use Rattle.rd_state.specs.Effects.{effect_of}
 use Rattle.rd_state.specs.Steps.{refused_tree, step}
 use Rattle.rd_state.proofs.Finding.{found-in}
 use Rattle.rd_state.proofs.Sharing.{refuses, tree-refuses-change, asked, changes-with-tree}
+use Rattle.rd_state.proofs.Free.{margins-free, tree-free}
 use Rattle.rd_state.proofs.parts.Parts.set_margins.Goals as goal
 
-pub returns-in_err-margins : goal.returns-in_err-margins
+pub returns-in_err-margins-clause-applies : goal.returns-in_err-margins-clause-applies
 unfolding step
-returns-in_err-margins c =
+returns-in_err-margins-clause-applies c =
     let t = the_view c.self.inside in
     let there = found-in t c.as_slice.result.now c.args.window c.in_ok-i.i c.index.result.now c.as_slice.ensures.value c.in_ok-i.ensures.place c.in_ok-i.ensures.inside c.index.ensures in
     let n = c.args.window in
@@ -21,9 +22,9 @@ returns-in_err-margins c =
     (tree-refuses-change c.args.self.now t n c.in_ok-i.i c.index.result.now f (λ x. margins_tree x.tree n (c.args.numbers + c.args.strings)) (λ x d. record x { tree = d }) c.in_err-margins.field-0.0 c.self.view_is there
     (asked (λ k. margins_tree t.tree k (c.args.numbers + c.args.strings)) n c.in_ok-i.i t.windows c.index.result.now _ there c.in_err-margins.ensures.1))
 
-pub returns : goal.returns
+pub returns-clause-applies : goal.returns-clause-applies
 unfolding step effect_of
-returns c =
+returns-clause-applies c =
     let t = the_view c.self.inside in
     let there = found-in t c.as_slice.result.now c.args.window c.in_ok-i.i c.index.result.now c.as_slice.ensures.value c.in_ok-i.ensures.place c.in_ok-i.ensures.inside c.index.ensures in
     let there_2 = found-in t c.as_slice.result.now c.args.window c.in_ok-i.i c.index_mut.result.now c.as_slice.ensures.value c.in_ok-i.ensures.place c.in_ok-i.ensures.inside c.index_mut.ensures.value in
@@ -33,3 +34,8 @@ returns c =
           (asked (λ k. margins_tree t.tree k (c.args.numbers + c.args.strings)) n c.in_ok-i.i t.windows c.index.result.now _ there c.in_ok-margins.ensures),
       refl,
     )
+
+pub returns-in_err-margins-clause-free : goal.returns-in_err-margins-clause-free
+returns-in_err-margins-clause-free c =
+    tree-free c.from_residual-in_err-margins.result _ c.in_err-margins.field-0.0 c.from_residual-in_err-margins.ensures.1 c.in_err-margins.ensures.1
+    (margins-free (the_view c.self.inside).tree c.index.result.now.0 (c.args.numbers + c.args.strings))

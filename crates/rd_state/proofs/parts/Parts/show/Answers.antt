@@ -10,18 +10,18 @@ use Rattle.rd_state.proofs.Sharing.{refuses}
 use Rattle.rd_state.proofs.Viewing.{shows-buffer, shows-none}
 use Rattle.rd_state.proofs.parts.Parts.show.Goals as goal
 
-pub returns-in_err-buffer : goal.returns-in_err-buffer
+pub returns-in_err-buffer-clause-applies : goal.returns-in_err-buffer-clause-applies
 unfolding step
-returns-in_err-buffer c =
+returns-in_err-buffer-clause-applies c =
     let t = the_view c.self.inside in
     let n = c.args.window in
     let there = some-found t c.as_slice.result.now n c.in_ok-i.i c.as_slice.ensures.value c.in_ok-i.ensures.place c.in_ok-i.ensures.inside in
     refuses c.from_residual-in_err-buffer.result (Show n c.args.name.now) c.args.self.now c.args.self.now c.in_err-buffer.field-0.0 c.from_residual-in_err-buffer.ensures.0 c.from_residual-in_err-buffer.ensures.1 refl
     (shows-none c.args.self.now t n c.in_ok-i.i there.0 c.args.name.now c.self.view_is there.1 c.in_err-buffer.ensures.absent ∙ ap (λ e. Err e) (sym c.in_err-buffer.ensures.refused))
 
-pub returns : goal.returns
+pub returns-clause-applies : goal.returns-clause-applies
 unfolding step effect_of
-returns c =
+returns-clause-applies c =
     let t = the_view c.self.inside in
     let n = c.args.window in
     let there = found-in t c.as_slice.result.now n c.in_ok-i.i c.index_mut-entry.result.now c.as_slice.ensures.value c.in_ok-i.ensures.place c.in_ok-i.ensures.inside c.index_mut-entry.ensures.value in

@@ -19,9 +19,9 @@ accessible-requires c =
     let valid : IsValid t = subst IsValid (sym c.self.view_is) c.requires.valid in
     shown-made t n c.in_ok-i.i c.index.result.now valid there
 
-pub returns-in_err-pos : goal.returns-in_err-pos
+pub returns-in_err-pos-clause-applies : goal.returns-in_err-pos-clause-applies
 unfolding step
-returns-in_err-pos c =
+returns-in_err-pos-clause-applies c =
     let t = the_view c.self.inside in
     let n = c.args.window in
     let there = found-in t c.as_slice.result.now n c.in_ok-i.i c.index.result.now c.as_slice.ensures.value c.in_ok-i.ensures.place c.in_ok-i.ensures.inside c.index.ensures in
@@ -30,9 +30,9 @@ returns-in_err-pos c =
     refuses c.from_residual-in_err-pos.result (Start n c.args.pos c.args.row) c.args.self.now c.args.self.now c.in_err-pos.field-0.0 c.from_residual-in_err-pos.ensures.0 c.from_residual-in_err-pos.ensures.1 refl
     (place-refused c.args.self.now t n c.in_ok-i.i c.args.pos c.index.result.now f b.0 c.self.view_is there b.1 b.2 ∙ ap (λ e. Err e) (sym c.in_err-pos.ensures.refused))
 
-pub returns : goal.returns
+pub returns-clause-applies : goal.returns-clause-applies
 unfolding step effect_of
-returns c =
+returns-clause-applies c =
     let t = the_view c.self.inside in
     let n = c.args.window in
     let there = found-in t c.as_slice.result.now n c.in_ok-i.i c.index.result.now c.as_slice.ensures.value c.in_ok-i.ensures.place c.in_ok-i.ensures.inside c.index.ensures in
