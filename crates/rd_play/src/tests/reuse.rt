@@ -152,13 +152,7 @@ fn keeps<L: Ledger>(blank: Blank, alloc: Global, script: &[&[u8]]) -> Result<boo
     let mut session = session(alloc)?;
     let mut screen = sink(alloc, AMPLE, 0)?;
     let mut steps = Steps::<L>::new(blank);
-    Ok(all_hold(
-        alloc,
-        &mut session,
-        script,
-        &mut screen,
-        &mut steps,
-    ))
+    Ok(all_hold(alloc, &mut session, script, &mut screen, &mut steps))
 }
 
 /// Whether each line of a script holds, over a new session and on a ledger of its own.
