@@ -298,7 +298,7 @@ fn is_blank(line: &[u8]) -> bool
 }
 
 /// The stop that a redisplay asks for, and None of every other op.
-fn asked(op: &Op) -> Option<Option<u32>>
+pub fn asked(op: &Op) -> Option<Option<u32>>
     ensures { result ≡ asked op.now }
 {
     match op {

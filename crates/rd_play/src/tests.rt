@@ -2,6 +2,7 @@
 
 mod devices;
 mod every_op;
+mod reuse;
 
 ghost use Rattle.std.specs.Prelude.{◌≡◌, ◌<◌};
 
