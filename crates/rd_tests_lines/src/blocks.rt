@@ -52,9 +52,16 @@ pub const SHAPE: Shape = Shape {
     hscroll: 0,
 };
 
-/// A block of so many positions with its line.
-fn held(alloc: Global, start: Pos, size: u32, line: &[Element]) -> Result<HeldBlock, Memory>
+/// A block of so many positions with its line, which is read from an edge by its base level.
+fn held_at(
+    alloc: Global,
+    start: Pos,
+    size: u32,
+    base: u8,
+    line: &[Element],
+) -> Result<HeldBlock, Memory>
     requires start { start ≤ 1000 }
+    requires base { base ≤ 1 }
     requires some { 1 ≤ size }
     requires few { size ≤ 1000 }
     requires sound { AreSound line.now }
@@ -70,7 +77,7 @@ fn held(alloc: Global, start: Pos, size: u32, line: &[Element]) -> Result<HeldBl
     let block = Block {
         start,
         end: start + size,
-        base: 0,
+        base,
     };
     Ok(HeldBlock {
         block,
@@ -80,6 +87,23 @@ fn held(alloc: Global, start: Pos, size: u32, line: &[Element]) -> Result<HeldBl
         truncation: glyph!(36),
         continuation: glyph!(92),
     })
+}
+
+/// A block of so many positions with its line, which is read from the left edge.
+fn held(alloc: Global, start: Pos, size: u32, line: &[Element]) -> Result<HeldBlock, Memory>
+    requires start { start ≤ 1000 }
+    requires some { 1 ≤ size }
+    requires few { size ≤ 1000 }
+    requires sound { AreSound line.now }
+    requires end { IsTrue (ends_once line.now) }
+    requires columns { columns_at_most line.now < 2 ^ 63 }
+    requires covers { IsTrue (covers_each size (ranges_of None line.now)) }
+    requires inside { IsTrue (are_inside size (ranges_of None line.now)) }
+    ensures held { IfOk result IsHeld }
+    ensures start { IfOk result (λ held. held.block.start ≡ start) }
+    ensures end { IfOk result (λ held. held.block.end ≡ start + size) }
+{
+    held_at(alloc, start, size, 0, line)
 }
 
 /// A letter and the line's end.
@@ -129,6 +153,46 @@ fn with_string(alloc: Global, start: Pos) -> Result<HeldBlock, Memory>
         element!(3, 0, 2, 3, Look::LineEnd),
     ];
     held(alloc, start, 3, &line)
+}
+
+/// A letter and the line's end, read from an edge by the base level.
+fn letter_line(alloc: Global, start: Pos, base: u8, code: u32) -> Result<HeldBlock, Memory>
+    requires start { start ≤ 1000 }
+    requires base { base ≤ 1 }
+    ensures held { IfOk result IsHeld }
+    ensures start { IfOk result (λ held. held.block.start ≡ start) }
+{
+    let line = [letter!(0, 0, 1, code), element!(1, 0, 1, 2, Look::LineEnd)];
+    held_at(alloc, start, 2, base, &line)
+}
+
+/// A letter in each of two rows: a string between the letters ends the first of them.
+fn two_rows(alloc: Global, start: Pos, code: u32) -> Result<HeldBlock, Memory>
+    requires start { start ≤ 1000 }
+    ensures held { IfOk result IsHeld }
+    ensures start { IfOk result (λ held. held.block.start ≡ start) }
+{
+    let line = [
+        letter!(0, 0, 1, code),
+        element!(1, 0, 1, 1, Look::RowEnd),
+        letter!(2, 1, 2, code),
+        element!(3, 0, 2, 3, Look::LineEnd),
+    ];
+    held_at(alloc, start, 3, 0, &line)
+}
+
+/// The line that a sign stands for: a small letter alone, the same read from the right edge where the sign is a capital, and a digit
+/// in each of two rows.
+fn line_of(alloc: Global, start: Pos, sign: u8) -> Result<HeldBlock, Memory>
+    requires start { start ≤ 1000 }
+    ensures held { IfOk result IsHeld }
+    ensures start { IfOk result (λ held. held.block.start ≡ start) }
+{
+    match sign {
+        b'0'..=b'9' => two_rows(alloc, start, u32::from(sign)),
+        b'A'..=b'Z' => letter_line(alloc, start, 1, u32::from(sign) + 32),
+        _ => letter_line(alloc, start, 0, u32::from(sign)),
+    }
 }
 
 /// One block alone.
@@ -236,6 +300,24 @@ fn lines_made(alloc: Global, count: u32) -> Result<Made, Memory>
         source,
         end: 1 + 2 * count,
     })
+}
+
+/// The blocks of the lines that signs stand for, at most those that start at position 1000 or before.
+pub fn lines_of(alloc: Global, first: u8, rest: &[u8]) -> Result<Made, Memory>
+    ensures first { IfOk result (λ made. first_start (blocks_held made.source) ≡ 1) }
+    ensures end { IfOk result (λ made. end_from 0 (blocks_held made.source) ≡ made.end) }
+{
+    let line = line_of(alloc, 1, first)?;
+    let mut end = line.block.end;
+    let mut source = single(alloc, line)?;
+    for sign in rest {
+        if end <= 1000 {
+            let line = line_of(alloc, end, *sign)?;
+            end = line.block.end;
+            add(&mut source, line)?;
+        }
+    }
+    Ok(Made { source, end })
 }
 
 /// The count of rows of the first block, and where the block behind it starts.

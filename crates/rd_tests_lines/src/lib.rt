@@ -20,6 +20,8 @@ mod modeline;
 #[cfg(test)]
 mod props;
 #[cfg(test)]
+mod reuse;
+#[cfg(test)]
 mod rows;
 #[cfg(test)]
 mod scenery;

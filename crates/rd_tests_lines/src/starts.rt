@@ -101,7 +101,7 @@ fn forced_starts() -> [Case; 7] {
 }
 
 /// Whether a window stands within a text from position 1 up to its end.
-fn stands(end: Pos, wanted: Wanted) -> bool
+pub fn stands(end: Pos, wanted: Wanted) -> bool
     ensures start { OnTrue result ((1 ≤ wanted.anchor.pos) × (wanted.anchor.pos < end)) }
     ensures point { OnTrue result ((1 ≤ wanted.point) × (wanted.point < end)) }
     ensures height { OnTrue result (1 ≤ wanted.height) }
