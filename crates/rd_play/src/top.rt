@@ -54,7 +54,7 @@ use std::sync::ledger::Ledger;
 /// that under valid words, over good files that are told, a script without a bad line ends Done or NoMemory, where no count rose. A
 /// script has no bad line if each op is accepted for some choice of redisplays without memory that is the run's own as far as it went:
 /// want of memory at a redisplay can make a later hit be refused. It is to be told unless it is generated. `free` says that want of
-/// memory is no kind of a bad data file, nor of an op that is refused.
+/// memory is no kind of a bad data file, nor of a line that is no op, nor of an op that is refused.
 ///
 /// Each file and each line is read once.
 pub fn play<S: Source, F: Files, K: Sink, R: Sink, L: Ledger>(

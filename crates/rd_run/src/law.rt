@@ -12,6 +12,7 @@ use rd_layout::{
     redisplays_keep_states, redisplays_lead_on, sessions_stay_known, targets_are_sound,
 };
 use rd_lineshift::{shift_law, shifted_updates_reach_their_targets};
+use rd_script::no_line_says_want_of_memory;
 use rd_state::windows_are_leaves;
 use rd_tree::windows_tile_their_rectangle;
 
@@ -59,8 +60,10 @@ pub fn valid_scripts_end_well()
     ensures { (script : List ℕ) (mode : Mode) (e : End) → IsMode e.given mode → IsValidScript mode e.turns script → IsFaultless script e → EndsWell e.status }
 {}
 
-/// Want of memory is no kind of a bad data file, nor of an op that is refused. The call does nothing.
+/// Want of memory is no kind of a bad data file, nor of a line that is no op, nor of an op that is refused. The call does nothing.
 pub fn no_kind_is_want_of_memory()
     ensures { (given : Given) (mode : Option Mode) (status : Status) (turns : List Turn) (bytes : List ℕ) (source : Drawn) → Comes given mode status turns bytes source
         → TellsNoMemory status }
-{}
+{
+    no_line_says_want_of_memory();
+}

@@ -8,6 +8,7 @@ mod field;
 mod form;
 mod item;
 mod keys;
+mod law;
 mod name;
 mod object;
 mod object_form;
@@ -28,6 +29,7 @@ mod word;
 
 pub use buffer_name::BufferName;
 pub use fault::OpFault;
+pub use law::no_line_says_want_of_memory;
 pub use object::{OpEntry, OpRun, OpSpec};
 pub use op::Op;
 pub use rd_dump::{WindowFacts, print_dump};
