@@ -1,13 +1,17 @@
 -- When verdicts come, put together from what was read.
-use Rattle.std.proofs.Common.{◌≡◌, ℕ, ◌+◌, ◌<◌, ◌≤◌, ◌⊎◌, inl, inr, List, [], ◌∷◌, length, get_or, Option, None, Some, IfSome, is_some, is_ok, unwrap_or, Ok, Err, refl, sym, ap, subst, ◌∙◌, arith, length-append, true≢false}
-use Rattle.std.specs.Io.KnownBytes.{Consumes}
+use Rattle.std.proofs.Common.{◌≡◌, ◌≢◌, ℕ, ◌+◌, ◌<◌, ◌≤◌, ◌⊎◌, inl, inr, if◌then◌else◌, List, [], ◌∷◌, ◌++◌, length, map, get_or, Option, None, Some, IfSome, is_some, is_ok, unwrap_or, Result, Ok, Err, refl, sym, ap, subst, ◌∙◌, arith, append-nil, length-append, true≢false}
+use Rattle.std.specs.Io.KnownBytes.{Consumes, IsAtEnd}
+use Rattle.rd_base.proofs.Equals.{cell-itself}
+use Rattle.rd_base.specs.declared.cell.Cell.{Cell}
 use Rattle.rd_base.specs.declared.limits.TheConstants.{FILE_BYTES}
 use Rattle.rd_term.specs.Pictures.{Picture, width_of}
-use Rattle.rd_term.specs.Terminals.{Tty, unknown, feed_bytes}
+use Rattle.rd_term.specs.Terminals.{Shows, Tty, unknown, feed_bytes, known}
 use Rattle.rd_audit.specs.Dumps.{dump_in}
-use Rattle.rd_audit.specs.Verdicts.{IsAnswer, IsWholeStream, terminal_after, JudgesDump, JudgesFile, Comes, IsBadFile, IsSound, IsJudged}
+use Rattle.rd_audit.specs.Verdicts.{IsAnswer, IsDifference, other_column, other_place, place_or, IsWholeStream, terminal_after, JudgesDump, JudgesFile, Comes, IsBadFile, IsSound, IsJudged}
 use Rattle.rd_audit.specs.Results.{JudgesBytes}
 use Rattle.rd_audit.specs.declared.verdict.Verdict.{Verdict}
+use Rattle.rd_audit.specs.declared.verdict.Difference.{Difference}
+use Rattle.rd_audit.specs.declared.verdict.Difference.TheVariants as differences
 use Rattle.rd_audit.specs.declared.verdict.Verdict.TheVariants.{Yes, No, Usage, BadDump, TooLong, ReadFault, WriteFault, NoMemory}
 
 by-answer : (v : Verdict) (dump : Picture) (bytes : List ℕ) (left : Option (List ℕ)) → IsWholeStream bytes left → IsAnswer v dump (terminal_after dump bytes) → JudgesDump v dump bytes left
@@ -105,3 +109,56 @@ judged TooLong words told left after bytes Cause Other s c j fault =
 judged ReadFault words told left after bytes Cause Other s c j fault = inr (inl (fault refl))
 judged WriteFault words told left after bytes Cause Other s c j fault = absurd j.2.2.1
 judged NoMemory words told left after bytes Cause Other s c j fault = inl tt
+
+-- ---- a stream that shows the dump gets yes
+
+cells-known : (column : ℕ) (cells : List Cell) → other_column column cells (map Some cells) ≡ None
+cells-known column [] = refl
+cells-known column (cell ∷ cells) = ap (λ t. if t then other_column (column + 1) cells (map Some cells) else Some column) (cell-itself cell) ∙ cells-known (column + 1) cells
+
+rows-known : (row : ℕ) (rows : List (List Cell)) → other_place row rows (known rows) ≡ None
+rows-known row [] = refl
+rows-known row (cells ∷ rows) = ap (λ o. place_or row o (other_place (row + 1) rows (known rows))) (cells-known 0 cells) ∙ rows-known (row + 1) rows
+
+no-difference : (x : Difference) (p : Picture) (t : Tty) → Shows t p → IsDifference x p t → ⊥
+no-difference differences.Confused p t s d = true≢false (sym d ∙ s.sure)
+no-difference (differences.Cell row column) p t s (sure, place) =
+    true≢false (sym (ap is_some (sym (rows-known 0 p.rows) ∙ ap (other_place 0 p.rows) (sym s.cells) ∙ place)))
+no-difference differences.Cursor p t s (sure, place, apart) = apart s.cursor
+
+-- all that a stream has was taken
+taken-all : (left after : Option (List ℕ)) (stream bytes : List ℕ) → left ≡ Some stream → Consumes left after bytes → IsAtEnd after → bytes ≡ stream
+taken-all None after stream bytes e c end = absurd (true≢false (sym (ap is_some e)))
+taken-all (Some xs) None stream bytes e c end = absurd c
+taken-all (Some xs) (Some ys) stream bytes e c end = sym (append-nil bytes) ∙ ap (λ l. bytes ++ l) (sym end) ∙ sym c ∙ same-some xs stream e
+
+file-is : (told : Option (List ℕ)) (file other : List ℕ) → told ≡ Some file → IfSome told (λ bytes. other ≡ bytes) → other ≡ file
+file-is None file other e h = absurd (true≢false (sym (ap is_some e)))
+file-is (Some bytes) file other e h = h ∙ same-some bytes file e
+
+same-dump : (p q : Picture) (r : Result Picture ℕ) → r ≡ Ok p → r ≡ Ok q → p ≡ q
+same-dump p q r e f = let k : Ok p ≡ Ok q = sym e ∙ f in cc
+
+no-no : (x : Difference) (told : Option (List ℕ)) (file stream : List ℕ) (dump : Picture) (left after : Option (List ℕ)) (bytes : List ℕ) → told ≡ Some file → dump_in file ≡ Ok dump → left ≡ Some stream
+    → Shows (terminal_after dump stream) dump → Consumes left after bytes → JudgesFile (No x) told bytes after → ⊥
+no-no x told file stream dump left after bytes t d e s c (other, (found, (small, is), good), ((short, end), differs)) =
+    let same : other ≡ dump = same-dump other dump (dump_in file) (ap dump_in (sym (file-is told file found t is)) ∙ good) d in
+    let all = taken-all left after stream bytes e c end in
+    no-difference x dump (terminal_after dump stream) s (subst (λ b. IsDifference x dump (terminal_after dump b)) all (subst (λ p. IsDifference x p (terminal_after p bytes)) same differs))
+
+neither : {P : Type 0} → ⊥ ⊎ (⊥ ⊎ ⊥) → P
+neither (inl h) = absurd h
+neither (inr (inl h)) = absurd h
+neither (inr (inr h)) = absurd h
+
+pub only-yes : (v : Verdict) (words : List (List ℕ)) (told : List ℕ → Option (List ℕ)) (left after : Option (List ℕ)) (bytes : List ℕ) (s : IsSound words told left)
+    → Shows (terminal_after s.dump s.stream) s.dump → Consumes left after bytes → Comes v words told bytes after → v ≢ ReadFault → v ≢ NoMemory → v ≡ Yes
+only-yes Yes words told left after bytes s shows c j read found = refl
+only-yes (No x) words told left after bytes s shows c (name, e, j) read found =
+    absurd (no-no x (told name) s.file s.stream s.dump left after bytes (told-is words told left name s e) s.good s.bytes shows c j)
+only-yes Usage words told left after bytes s shows c j read found = neither (judged Usage words told left after bytes ⊥ ⊥ s c j (λ e. absurd (cc)))
+only-yes (BadDump n) words told left after bytes s shows c j read found = neither (judged (BadDump n) words told left after bytes ⊥ ⊥ s c j (λ e. absurd (cc)))
+only-yes TooLong words told left after bytes s shows c j read found = neither (judged TooLong words told left after bytes ⊥ ⊥ s c j (λ e. absurd (cc)))
+only-yes ReadFault words told left after bytes s shows c j read found = absurd (read refl)
+only-yes WriteFault words told left after bytes s shows c j read found = neither (judged WriteFault words told left after bytes ⊥ ⊥ s c j (λ e. absurd (cc)))
+only-yes NoMemory words told left after bytes s shows c j read found = absurd (found refl)

@@ -9,6 +9,7 @@ mod Lacking
 mod Lines
 mod Painting
 mod ReadBack
+mod Recorded
 mod Runs
 mod Shapes
 mod Spelling

@@ -2,6 +2,7 @@ pub mod Cuts
 pub mod Dumps
 pub mod Numbers
 pub mod Printed
+pub mod Recorded
 pub mod Results
 pub mod Rows
 pub mod Runs

@@ -1,11 +1,28 @@
-//! What was printed is read back.
-ghost use Rattle.std.specs.Prelude.{◌≡◌, ℕ, ◌<◌, ◌++◌, ◌∷◌, List, Ok, length};
+//! What was printed is read back, and the streams of runs show their dumps.
+ghost use Rattle.std.specs.Prelude.{◌≡◌, ◌≢◌, ℕ, ◌<◌, ◌++◌, ◌∷◌, [], List, Ok, Option, Some, length};
+ghost use Rattle.std.specs.Io.KnownBytes.{Consumes};
 ghost use Rattle.rd_io.specs.Lines.{lines_of};
 ghost use Rattle.rd_term.specs.Pictures.{Picture};
+ghost use Rattle.rd_term.specs.Terminals.{feed_bytes, unknown};
 ghost use Rattle.rd_dump.specs.Dumps.{dump_text};
 ghost use Rattle.rd_dump.specs.declared.dump.WindowFacts.{WindowFacts};
+ghost use Rattle.rd_run.specs.Alike.{End};
+ghost use Rattle.rd_run.specs.Ends.{Ran, Took};
+ghost use Rattle.rd_run.specs.Runs.{Mode, Turn, opened, run};
 ghost use Rattle.rd_audit.specs.Dumps.{dump_in};
 ghost use Rattle.rd_audit.specs.Printed.{HasDump, HasNoCursor};
+ghost use Rattle.rd_audit.specs.Recorded.{IsRecording, recorded};
+ghost use Rattle.rd_audit.specs.Verdicts.{Comes, IsSound};
+ghost use Rattle.rd_audit.specs.declared.verdict.Verdict.{Verdict};
+ghost use Rattle.rd_audit.specs.declared.verdict.Verdict.TheVariants.{NoMemory, ReadFault, Yes};
+
+use rd_layout::{
+    redisplays_keep_states, redisplays_lead_on, sessions_stay_known, targets_are_sound,
+};
+use rd_lineshift::shifted_updates_reach_their_targets;
+use rd_run::each_redisplay_is_shown;
+use rd_state::windows_are_leaves;
+use rd_tree::windows_tile_their_rectangle;
 
 /// A dump that is printed of a sound screen of 12 to 400 columns and 2 to 200 rows is read back as that screen (`alone`), also where
 /// lines follow of which none begins as a cursor's does (`first`). It is the last dump of a report where it stands behind a newline,
@@ -17,3 +34,29 @@ pub fn printed_dumps_are_read_back()
     ensures last { (picture : Picture) (windows : List WindowFacts) (before after : List ℕ) → HasDump picture → 0 < length windows → HasNoCursor (lines_of after)
         → dump_in (before ++ 10 ∷ (dump_text picture windows ++ after)) ≡ Ok picture }
 {}
+
+/// What a run leaves gets yes, where it ran a script with dumps and ended with status 0 and a shown redisplay: the bytes since the last
+/// accepted frame are the end of what the screen took (`screen`), a new terminal that reads them is the one of the run's laws (`terminal`),
+/// the report has a dump (`sound`), and yes comes of both (`yes`). Whatever part of the stream is read, nothing else comes of them but a
+/// read fault and want of memory (`only`). The call does nothing.
+pub fn recorded_runs_get_yes()
+    ensures terminal { (mode : Mode) (turns : List Turn) → Ran mode turns → (run (opened mode) turns).terminal
+        ≡ feed_bytes (unknown (run (opened mode) turns).now.session.state.width (run (opened mode) turns).now.session.state.height) (recorded mode turns) }
+    ensures screen { (e : End) (mode : Mode) (stream file : List ℕ) → IsRecording e mode stream file → (earlier : List ℕ) × Took e.screen (earlier ++ stream) }
+    ensures sound { (e : End) (mode : Mode) (stream file name : List ℕ) (told : List ℕ → Option (List ℕ)) → IsRecording e mode stream file → told name ≡ Some file
+        → IsSound (name ∷ []) told (Some stream) }
+    ensures yes { (e : End) (mode : Mode) (stream file name : List ℕ) (told : List ℕ → Option (List ℕ)) → IsRecording e mode stream file → told name ≡ Some file
+        → Comes Yes (name ∷ []) told stream (Some []) }
+    ensures only { (e : End) (mode : Mode) (stream file name : List ℕ) (told : List ℕ → Option (List ℕ)) (verdict : Verdict) (bytes : List ℕ) (left : Option (List ℕ))
+        → IsRecording e mode stream file → told name ≡ Some file → Consumes (Some stream) left bytes → Comes verdict (name ∷ []) told bytes left
+        → verdict ≢ ReadFault → verdict ≢ NoMemory → verdict ≡ Yes }
+{
+    each_redisplay_is_shown();
+    redisplays_keep_states();
+    redisplays_lead_on();
+    sessions_stay_known();
+    shifted_updates_reach_their_targets();
+    targets_are_sound();
+    windows_are_leaves();
+    windows_tile_their_rectangle();
+}
