@@ -5,6 +5,7 @@ use Rattle.rd_base.specs.Cells.{single}
 use Rattle.rd_base.specs.Settings.{opening}
 use Rattle.rd_base.specs.declared.class.Class.TheVariants.{R, WS, ON}
 use Rattle.rd_base.specs.declared.element.Element.{Element}
+use Rattle.rd_base.specs.declared.element.Extent.{Extent}
 use Rattle.rd_base.specs.declared.element.Look.{Look}
 use Rattle.rd_base.specs.declared.element.Look.TheVariants as look
 use Rattle.rd_base.specs.declared.settings.Invisible.{Invisible}
@@ -33,6 +34,10 @@ plain_look l item from to = element_of plain (record { item = item; from = from;
 -- an element of a character of one column
 abbrev pub letter : ℕ → ℕ → ℕ → ℕ → Element
 letter c item from to = plain_look (look.Glyph (single c 1)) item from to
+
+-- a blank stretch in the plain face, of the item of a number that covers these offsets
+abbrev pub stretch : Extent → ℕ → ℕ → ℕ → Element
+stretch extent item from to = record { extent = extent; look = look.Blank; face = plain; origin = record { item = item; from = from; to = to } }
 
 -- a text with properties and overlays
 abbrev pub buffer : List ℕ → List (List (Option ℕ)) → List (Option Overlay) → Invisible → BufferValue

@@ -1,7 +1,7 @@
 //! Elements that are given alone.
 ghost use Rattle.std.specs.Prelude.{◌≡◌, option_to_list};
 ghost use Rattle.rd_base.specs.declared.element.Look.TheVariants as look;
-ghost use Rattle.rd_glyphs.specs.Characters.{element_of};
+ghost use Rattle.rd_glyphs.specs.Characters.{look_columns, element_of};
 ghost use Rattle.rd_stack.specs.Shown.{space_elements};
 
 use rd_base::{Element, Extent, Face, Glyph, Look, Origin};
@@ -36,25 +36,14 @@ pub fn space_element(spec: Spec, face: Face, origin: Origin) -> Option<Element>
     })
 }
 
-/// The end of a row.
-pub fn row_end(face: Face, origin: Origin) -> Element
-    ensures { result ≡ element_of face origin look.RowEnd }
+/// The element of a look that takes no column: the end of a row, or of the line.
+pub fn end_element(look: Look, face: Face, origin: Origin) -> Element
+    requires { look_columns look ≡ 0 }
+    ensures { result ≡ element_of face origin look }
 {
     Element {
         extent: Extent::Fixed(0),
-        look: Look::RowEnd,
-        face,
-        origin,
-    }
-}
-
-/// The end of the line.
-pub fn line_end(face: Face, origin: Origin) -> Element
-    ensures { result ≡ element_of face origin look.LineEnd }
-{
-    Element {
-        extent: Extent::Fixed(0),
-        look: Look::LineEnd,
+        look,
         face,
         origin,
     }

@@ -1,14 +1,12 @@
 //! The definitions on worked examples.
-ghost use Rattle.std.specs.Prelude.{◌≡◌, ◌∷◌, [], true, false, map, pos};
-ghost use Rattle.rd_base.specs.Faces.{plain};
-ghost use Rattle.rd_base.specs.Cells.{single};
+ghost use Rattle.std.specs.Prelude.{◌≡◌, ◌∷◌, [], true, false};
 ghost use Rattle.rd_base.specs.declared.element.Extent.TheVariants.{Fixed, Column};
-ghost use Rattle.rd_base.specs.declared.element.Look.TheVariants.{Blank, RowEnd, LineEnd, Glyph};
+ghost use Rattle.rd_base.specs.declared.element.Look.TheVariants.{RowEnd, LineEnd};
 ghost use Rattle.rd_base.specs.declared.settings.Invisible.TheVariants.{Every, Listed};
 ghost use Rattle.rd_props.specs.Examples.{put_once, meeting};
-ghost use Rattle.rd_glyphs.specs.Characters.{element_of};
+ghost use Rattle.rd_items.specs.Examples.{no_columns};
 ghost use Rattle.rd_stack.specs.Shown.{prefix};
-ghost use Rattle.rd_stack.specs.Examples.{plain_look, letter, buffer, coloured, outside_letter, six_strings, nested_strings, string_before, red, coloured_strings, arrow, scene, line_at, paired_line_at};
+ghost use Rattle.rd_stack.specs.Examples.{plain_look, letter, stretch, buffer, coloured, outside_letter, six_strings, nested_strings, string_before, red, coloured_strings, arrow, scene, line_at, paired_line_at};
 
 /// A line where five overlays with strings meet between two characters. The call does nothing.
 fn line_where_overlays_meet()
@@ -23,9 +21,15 @@ fn line_with_nested_strings()
     ensures right { let s = buffer (120 ∷ []) ([] ∷ put_once 1 2 1 ∷ []) [] Every in line_at s nested_strings 1 1 ≡ letter 81 0 0 1 ∷ letter 80 0 0 1 ∷ plain_look RowEnd 0 0 1 ∷ letter 82 0 0 1 ∷ plain_look LineEnd 1 1 2 ∷ [] }
 {}
 
-/// A line with a stretch up to a column. The call does nothing.
+/// Lines with a stretch up to a column, behind three characters and behind nine, which have passed it. The call does nothing.
 fn line_with_a_stretch()
-    ensures { let s = buffer (97 ∷ 45 ∷ 100 ∷ []) ([] ∷ put_once 2 3 2 ∷ []) [] Every in line_at s nested_strings 0 1 ≡ letter 97 0 0 1 ∷ record { extent = Column 8; look = Blank; face = plain; origin = record { item = 1; from = 1; to = 2 } } ∷ letter 100 2 2 3 ∷ plain_look LineEnd 3 3 4 ∷ [] }
+    ensures short { let s = buffer (97 ∷ 98 ∷ 99 ∷ 45 ∷ 100 ∷ []) ([] ∷ put_once 4 5 2 ∷ []) [] Every in line_at s nested_strings 0 1 ≡ letter 97 0 0 1 ∷ letter 98 1 1 2 ∷ letter 99 2 2 3 ∷ stretch (Column 8) 3 3 4 ∷ letter 100 4 4 5 ∷ plain_look LineEnd 5 5 6 ∷ [] }
+    ensures passed { let s = buffer (97 ∷ 98 ∷ 99 ∷ 100 ∷ 101 ∷ 102 ∷ 103 ∷ 104 ∷ 105 ∷ 45 ∷ 106 ∷ []) ([] ∷ put_once 10 11 2 ∷ []) [] Every in line_at s nested_strings 0 1 ≡ letter 97 0 0 1 ∷ letter 98 1 1 2 ∷ letter 99 2 2 3 ∷ letter 100 3 3 4 ∷ letter 101 4 4 5 ∷ letter 102 5 5 6 ∷ letter 103 6 6 7 ∷ letter 104 7 7 8 ∷ letter 105 8 8 9 ∷ stretch (Column 8) 9 9 10 ∷ letter 106 10 10 11 ∷ plain_look LineEnd 11 11 12 ∷ [] }
+{}
+
+/// A line whose three characters are replaced by a space of no columns, which stands as one blank element. The call does nothing.
+fn line_of_a_space_of_no_columns()
+    ensures { let s = buffer (97 ∷ 98 ∷ 99 ∷ []) ([] ∷ put_once 1 4 0 ∷ []) [] Every in line_at s no_columns 0 1 ≡ stretch (Fixed 0) 0 0 3 ∷ plain_look LineEnd 1 3 4 ∷ [] }
 {}
 
 /// Lines with hidden text, with an ellipsis and without. The call does nothing.

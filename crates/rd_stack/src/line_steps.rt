@@ -6,13 +6,13 @@ ghost use Rattle.rd_stack.specs.Lines.{ellipsis_glyphs, origin_of};
 ghost use Rattle.rd_stack.specs.Steps.{outer_steps};
 ghost use Rattle.rd_stack.specs.Walks.{IsStep};
 
-use crate::alone::{glyph_element, line_end};
+use crate::alone::{end_element, glyph_element};
 use crate::entrance::Entrance;
 use crate::few::Few;
 use crate::line::LineFrame;
 use crate::showing::{char_step, space_step};
 use crate::step::Step;
-use rd_base::{Face, Glyph, Memory, Origin};
+use rd_base::{Face, Glyph, Look, Memory, Origin};
 use rd_items::{Item, ItemKind, parts_of};
 use rd_props::View;
 use std::alloc::Global;
@@ -78,7 +78,7 @@ fn step_of<'a>(
             put_ellipsis(alloc, view, face, origin, few)?;
             Ok(Step::Lists)
         }
-        ItemKind::Ender => Ok(Step::Gives(line_end(face, origin))),
+        ItemKind::Ender => Ok(Step::Gives(end_element(Look::LineEnd, face, origin))),
     }
 }
 

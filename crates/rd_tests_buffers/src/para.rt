@@ -5,12 +5,22 @@ use rd_text::Buffer;
 use rd_ucd::Classes;
 use std::test::Fail;
 
+/// The class file of small scripts.
+const CLASSES: &[u8] = b"\
+    0000;<control>;Cc;0;BN\n\
+    0009;<control>;Cc;0;S\n\
+    000A;<control>;Cc;0;B\n\
+    0020;SPACE;Zs;0;WS\n\
+    0028;LEFT PARENTHESIS;Ps;0;ON\n\
+    0029;RIGHT PARENTHESIS;Pe;0;ON\n\
+    0030;<Digit, First>;Nd;0;EN\n\
+    0039;<Digit, Last>;Nd;0;EN\n\
+    05D0;<Hebrew, First>;Lo;0;R\n\
+    05EA;<Hebrew, Last>;Lo;0;R\n";
+
 #[test]
 fn paragraphs_have_their_levels(rt: HostRuntime) -> Result<(), Fail> {
-    let classes = Classes::read(
-        rt.alloc(),
-        b"000A;<control>;Cc;0;B\n0030;<Digit, First>;Nd;0;EN\n0039;<Digit, Last>;Nd;0;EN\n05D0;<Hebrew, First>;Lo;0;R\n05EA;<Hebrew, Last>;Lo;0;R\n",
-    )?;
+    let classes = Classes::read(rt.alloc(), CLASSES)?;
     let mut text = Buffer::new(rt.alloc())?;
     let chars = [
         Ch::scalar('1'),
