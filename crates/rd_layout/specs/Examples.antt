@@ -1,12 +1,24 @@
 -- Sessions on which the definitions are worked out.
-use Rattle.std.specs.Prelude.{ℕ, Option, Result, Ok, Err, List, [], ◌∷◌, slice_get}
+use Rattle.std.specs.Prelude.{ℕ, ◌+◌, ◌-◌, true, false, Option, None, Result, Ok, Err, List, [], ◌∷◌, ◌++◌, length, slice_get, codes}
+use Rattle.std.specs.FinMap as map
+use Rattle.rd_base.specs.Faces.{plain}
+use Rattle.rd_base.specs.Glyphs.{blanks}
+use Rattle.rd_base.specs.Settings as settings
 use Rattle.rd_base.specs.declared.cell.Cell.{Cell}
-use Rattle.rd_blocks.specs.Examples.{files}
+use Rattle.rd_blocks.specs.Examples.{cut_by, files}
+use Rattle.rd_matrix.specs.declared.matrix.Entry.{Entry}
+use Rattle.rd_props.specs.Buffers.{no_values}
+use Rattle.rd_reuse.specs.Changes.{edit}
+use Rattle.rd_rows.specs.Examples.{text}
 use Rattle.rd_script.specs.declared.op.Op.{Op}
-use Rattle.rd_script.specs.declared.op.Op.TheVariants.{Redisplay}
-use Rattle.rd_state.specs.States.{StateValue}
+use Rattle.rd_script.specs.declared.op.Op.TheVariants.{Frame, Insert, Redisplay}
+use Rattle.rd_start.specs.Examples.{items_from}
+use Rattle.rd_state.specs.States.{ContentValue, StateValue, main_name, opening, values_on}
 use Rattle.rd_state.specs.Windows.{selected_window}
 use Rattle.rd_state.specs.declared.refused.Refused.{Refused}
+use Rattle.rd_text.specs.Texts.{TextValue}
+use Rattle.rd_tree.specs.Calls as tree
+use Rattle.rd_window.specs.declared.layout.Layout.{Layout}
 use Rattle.rd_layout.specs.Copies.{redisplayed}
 use Rattle.rd_layout.specs.Facts.{cursor_since}
 use Rattle.rd_layout.specs.Redisplays.{update_of}
@@ -56,3 +68,73 @@ point_and_cursor v =
 -- a row of the target screen
 abbrev pub row_of : ℕ → SessionValue → Option (List Cell)
 row_of row v = slice_get (laid_out v.files v.state).picture.rows row
+
+-- ---- a paragraph that turns
+
+-- a session of which the screen is not asked
+abbrev pub unscreened : SessionValue → SessionValue
+unscreened v = record v { current = None }
+
+-- seven lines, of which the sixth is empty, are shown, and a letter that is read from the right is put before them
+abbrev pub turning : List Op
+turning =
+    Frame 12 8 ∷ Insert main_name 1 (each_in_a_line (codes "abcde") ++ 10 ∷ 10 ∷ codes "f") ∷ Redisplay None
+    ∷ Insert main_name 1 (codes "r") ∷ []
+
+abbrev pub whole_text : List ℕ → TextValue
+whole_text chars = record { text = chars; begin = 1; end = length chars + 1 }
+
+-- what a buffer holds that has characters and nothing else, and was edited
+abbrev pub edited : List ℕ → ContentValue
+edited chars = record {
+  text = whole_text chars;
+  properties = values_on (whole_text chars) no_values;
+  overlays = [];
+  settings = record settings.opening { modified = true };
+  marks = map.empty;
+}
+
+-- the row of a line of a few characters, from the left edge, as it was laid out
+abbrev pub line_at : ℕ → List ℕ → Entry
+line_at start chars = record {
+  start = start;
+  number = 0;
+  row = record {
+    shown = record {
+      cells = text chars ++ blanks (12 - length chars) plain;
+      begins = items_from 0 (length chars + 1);
+      reversed = false;
+      ends_block = true;
+    };
+    copies = 0;
+  };
+}
+
+-- the layout that shows the seven lines, since which the letter was put before them
+abbrev pub seven_lines : Layout
+seven_lines = record {
+  matrix =
+      line_at 1 (codes "a") ∷ line_at 3 (codes "b") ∷ line_at 5 (codes "c") ∷ line_at 7 (codes "d") ∷ line_at 9 (codes "e") ∷ line_at 11 []
+      ∷ line_at 12 (codes "f") ∷ [];
+  shape = cut_by 0;
+  height = 7;
+  margin = 0;
+  conservatively = 0;
+  top = true;
+  bottom = true;
+  change = edit 1 0 1;
+}
+
+-- the session in which the letter stands before the lines
+abbrev pub turned : SessionValue
+turned = record {
+  files = files;
+  state = record opening {
+    buffers = record { name = main_name; content = edited (codes "r" ++ each_in_a_line (codes "abcde") ++ 10 ∷ 10 ∷ codes "f") } ∷ [];
+    tree = tree.opening 12 7;
+    width = 12;
+    height = 8;
+  };
+  current = None;
+  layouts = (0, seven_lines) ∷ [];
+}

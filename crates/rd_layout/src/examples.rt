@@ -5,7 +5,7 @@ ghost use Rattle.rd_frame.specs.Examples.{inverted, letters};
 ghost use Rattle.rd_tree.specs.declared.side.Side.TheVariants.{Right};
 ghost use Rattle.rd_state.specs.States.{main_name};
 ghost use Rattle.rd_state.specs.declared.refused.Refused.TheVariants.{NoWindow, NotShown};
-ghost use Rattle.rd_layout.specs.Examples.{after, told, bytes_of, each_in_a_line, point_and_cursor, row_of};
+ghost use Rattle.rd_layout.specs.Examples.{after, told, bytes_of, each_in_a_line, point_and_cursor, row_of, turned, turning, unscreened};
 ghost use Rattle.rd_layout.specs.Redisplays.{allowed, update_of};
 
 /// Three lines: all of them are new at the first redisplay, nothing is laid out at the second, and at the third only the changed line.
@@ -14,6 +14,15 @@ fn what_is_kept_costs_nothing()
     ensures first { told allowed (after (Frame 12 4 ∷ Insert main_name 1 (each_in_a_line (codes "abc")) ∷ [])) ≡ Ok 18 }
     ensures second { told allowed (after (Frame 12 4 ∷ Insert main_name 1 (each_in_a_line (codes "abc")) ∷ Redisplay None ∷ [])) ≡ Ok 0 }
     ensures third { told allowed (after (Frame 12 4 ∷ Insert main_name 1 (each_in_a_line (codes "abc")) ∷ Redisplay None ∷ Redisplay None ∷ Insert main_name 5 (codes "x") ∷ [])) ≡ Ok 9 }
+{}
+
+/// Seven lines: with a letter before the first that is read from the right its paragraph turns, so that none of the first six lines keeps
+/// its rows, though only one of them was edited; the last line, behind an empty one, keeps its own. Three times twelve elements may be
+/// placed: three of the first line, two of each of the next four and one of the empty line.
+#[tactic(auto, unfolding(crate::specs::Screens::laid_out, rd_state::specs::Steps::step, rd_state::specs::Effects::effect_of, rd_tree::specs::Calls::split_tree, rd_tree::specs::Calls::resize_tree, rd_tree::specs::Calls::mode_tree, rd_tree::specs::Calls::margins_tree))]
+fn a_paragraph_that_turns_is_laid_out_anew()
+    ensures session { told unscreened (after turning) ≡ Ok turned }
+    ensures cost { told allowed (after turning) ≡ Ok 36 }
 {}
 
 /// A redisplay that may send no row clears the screen, and the next one sends what is missing.
