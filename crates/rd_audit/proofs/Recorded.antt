@@ -9,10 +9,11 @@ use Rattle.rd_dump.specs.Dumps.{dump_text}
 use Rattle.rd_dump.specs.declared.dump.WindowFacts.{WindowFacts}
 use Rattle.rd_io.specs.Lines.{lines_of}
 use Rattle.rd_layout.proofs.Placed.{all-places}
+use Rattle.rd_layout.specs.Copies.{redisplayed as redisplayed_session}
 use Rattle.rd_layout.specs.Facts.{facts_at, facts_by, facts_of}
 use Rattle.rd_layout.specs.Redisplays.{bands_of, update_of}
 use Rattle.rd_layout.specs.Screens.{laid_out}
-use Rattle.rd_layout.specs.Sessions.{IsStep, SessionValue, behind, is_frame, layout_of, session_step}
+use Rattle.rd_layout.specs.Sessions.{IsStep, SessionValue, behind, is_frame, layout_of, opened as opened_session, session_step}
 use Rattle.rd_layout.specs.Since.{FitsFrame, IsSession}
 use Rattle.rd_layout.specs.Windows.{place_of, places}
 use Rattle.rd_layout.specs.declared.outcome.Outcome.{Outcome}
