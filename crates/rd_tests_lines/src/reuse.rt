@@ -439,7 +439,8 @@ fn is_one_of(entry: &Entry, base: u8, row: &Row) -> bool
 
 /// Whether the older row with a number in a block, if there is one of its base level, is its own.
 fn is_right_at(old: &Matrix, change: Change, block: &Block, number: usize, row: &Row) -> bool
-    ensures { OnTrue result ((e : Entry) → entry_under old.now change block.now.start number ≡ Some e → has_base block.now.base e.row.shown ≡ true → e.row.shown ≡ row.now.shown) }
+    ensures { OnTrue result ((e : Entry) → entry_under old.now change block.now.start number ≡ Some e
+        → has_base block.now.base e.row.shown ≡ true → e.row.shown ≡ row.now.shown) }
 {
     match entry_under(old, change, block.start, number) {
         Some(entry) => is_one_of(entry, block.base, row),
@@ -450,7 +451,8 @@ fn is_right_at(old: &Matrix, change: Change, block: &Block, number: usize, row: 
 /// Whether the older rows of a block are its own, where it keeps them.
 fn is_right(old: &Matrix, change: Change, block: &Block, rows: &[Row]) -> bool
     requires { IsTrue (ends_last (shown_rows rows.now)) }
-    ensures { OnTrue result (is_kept old.now change block.now ≡ true → shown_rows (taken old.now change block.now.start) ≡ shown_rows rows.now) }
+    ensures { OnTrue result (is_kept old.now change block.now ≡ true
+        → shown_rows (taken old.now change block.now.start) ≡ shown_rows rows.now) }
 {
     if !spares(change, block) {
         return true;
