@@ -2,3 +2,4 @@ pub mod Examples
 pub mod Hits
 pub mod Motion
 pub mod Order
+pub mod Ways
