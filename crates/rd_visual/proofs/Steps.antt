@@ -20,8 +20,9 @@ use Rattle.rd_visual.specs.declared.range.Range.{Range}
 use Rattle.rd_visual.specs.declared.way.Way.{Way}
 use Rattle.rd_visual.specs.declared.way.Way.TheVariants.{Forward, Backward}
 use Rattle.rd_visual.proofs.Counts.{block-some}
+use Rattle.rd_visual.proofs.Items.{count-append}
 use Rattle.rd_visual.proofs.Listing.{drop-at, within-some}
-use Rattle.rd_visual.proofs.Neighbours.{AreSome, before-none, before-some, behind-front, behind-none, behind-some, count-append, first-append, last-append}
+use Rattle.rd_visual.proofs.Neighbours.{AreSome, before-none, before-some, behind-front, behind-none, behind-some, first-append, last-append}
 
 -- blocks that stand one behind the other
 
@@ -114,8 +115,8 @@ module _ (f : Block → List Range) (bs : List Block) (pos k : ℕ) (b : Block) 
   apart : (count_by (holds pos) front ≡ 0) × (count_by (holds pos) back ≡ 0)
   apart =
       let all = ap (count_by (holds pos)) whole in
-      let two = count-append pos front (f b ++ back) in
-      let more = count-append pos (f b) back in
+      let two = count-append (holds pos) front (f b ++ back) in
+      let more = count-append (holds pos) (f b) back in
       (omega (arith, every, here, all, two, more), omega (arith, every, here, all, two, more))
 
   forward-end : behind pos (f b) ≡ None → behind pos (flat_map f bs) ≡ first back
@@ -131,7 +132,7 @@ module _ (f : Block → List Range) (bs : List Block) (pos k : ℕ) (b : Block) 
       ap (λ xs. last (flat_map f xs)) (take-next j bs prev at)
       ∙ ap last (flat_map-append f (take j bs) (prev ∷ []))
       ∙ last-append (flat_map f (take j bs)) (flat_map f (prev ∷ [])) p
-      (let one = count-append p (f prev) [] in omega (arith, one, some))
+      (let one = count-append (holds p) (f prev) [] in omega (arith, one, some))
       ∙ ap last (append-nil (f prev))
 
   none-by : (j : ℕ) → j ≤ length bs → block_before bs j ≡ None → last (flat_map f (take j bs)) ≡ None

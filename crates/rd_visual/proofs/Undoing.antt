@@ -2,20 +2,20 @@
 use Rattle.std.proofs.Common.{◌≡◌, ℕ, Some, sym, ap, ◌∙◌}
 use Rattle.rd_ucd.specs.Data.{Data}
 use Rattle.rd_objects.specs.Things.{ObjectLists}
-use Rattle.rd_text.specs.Texts.{IsText}
 use Rattle.rd_props.specs.Buffers.{BufferValue}
 use Rattle.rd_visual.specs.Motion.{all_ranges, base_in, least}
+use Rattle.rd_visual.specs.Tiles.{AreTiled}
 use Rattle.rd_visual.specs.Ways.{opposite, sideways, stepped, way_in}
 use Rattle.rd_visual.specs.declared.way.Way.{Way}
 use Rattle.rd_visual.specs.declared.way.Way.TheVariants.{Forward, Backward}
-use Rattle.rd_visual.proofs.Counts.{Laws, all-some, at-most}
+use Rattle.rd_visual.proofs.Counts.{all-some, at-most}
 use Rattle.rd_visual.proofs.Neighbours.{back-again, on-again}
 use Rattle.rd_visual.proofs.Steps.{opposite-in, sideways-is}
 
-module _ (laws : Laws) (s : BufferValue) (objects : ObjectLists) (files : Data) (text : IsText s.text) where
+module _ (s : BufferValue) (objects : ObjectLists) (files : Data) (are : AreTiled s) where
   pub undo : (way : Way) (pos next : ℕ) → stepped way s objects files pos ≡ Some next → stepped (opposite way) s objects files next ≡ least pos (all_ranges s objects files)
-  undo Forward pos next h = back-again pos next (all_ranges s objects files) (all-some s objects files) (at-most laws s objects files text) h
-  undo Backward pos next h = on-again pos next (all_ranges s objects files) (all-some s objects files) (at-most laws s objects files text) h
+  undo Forward pos next h = back-again pos next (all_ranges s objects files) (all-some s objects files) (at-most s objects files are) h
+  undo Backward pos next h = on-again pos next (all_ranges s objects files) (all-some s objects files) (at-most s objects files are) h
 
   pub undo-side : (way : Way) (pos next : ℕ) → base_in s files next ≡ base_in s files pos → sideways way s objects files pos ≡ Some next
       → sideways (opposite way) s objects files next ≡ least pos (all_ranges s objects files)
