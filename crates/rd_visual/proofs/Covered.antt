@@ -5,7 +5,6 @@ use Rattle.std.specs.Option.{option_map}
 use Rattle.std.proofs.lemmas.Bool.{cases_lt}
 use Rattle.std.proofs.lemmas.Bool.Decides.{nat_tests}
 use Rattle.std.proofs.lemmas.List.Elements.{All-head, All-tail}
-use Rattle.std.proofs.lemmas.List.Sums.{sum_by-append}
 use Rattle.rd_matrix.specs.Blocks.{IsAmong, StandFrom, first_start}
 use Rattle.rd_matrix.specs.Columns.{covers, shown_column}
 use Rattle.rd_matrix.specs.Cursors.{column_shown, cursor_in, or_below}
@@ -18,15 +17,12 @@ use Rattle.rd_rows.specs.Rows.{RowMeaning}
 use Rattle.rd_rows.specs.Shapes.{ShapeValues, IsShape}
 use Rattle.rd_rows.specs.declared.begin.Begin.{Begin}
 use Rattle.rd_visual.specs.Hits.{AreInPositions, AreRowsAt, Fits, begins_at, covers_some, hit_in, item_at, item_of_cell, least_at, reading_column}
-use Rattle.rd_visual.proofs.Items.{count-cons, counted, found-one, found-none, item-again, item-alone, item-column, item-member}
+use Rattle.rd_visual.proofs.Items.{count-append, count-cons, counted, found-one, found-none, item-again, item-alone, item-column, item-member}
 
 -- how many items of these rows cover a position
 abbrev pub count_at : ℕ → List EntryMeaning → ℕ
 count_at point [] = 0
 count_at point (e ∷ es) = count_by (covers e.start point) e.row.begins + count_at point es
-
-pub count-append : {X : Type 0} (p : X → Bool) (xs ys : List X) → count_by p (xs ++ ys) ≡ count_by p xs + count_by p ys
-count-append p xs ys = sum_by-append (λ y. cond (p y) 1 0) xs ys
 
 count-joined : (point : ℕ) (xs ys : List EntryMeaning) → count_at point (xs ++ ys) ≡ count_at point xs + count_at point ys
 count-joined point [] ys = omega arith

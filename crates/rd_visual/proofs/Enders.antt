@@ -1,39 +1,41 @@
 -- The ender of a block has the last range, in visual order and in order of position.
 use Rattle.std.proofs.Common.{◌≡◌, inl, inr, ℕ, zero, suc, ◌+◌, ◌<◌, ◌≤◌, ◌&&◌, not, nat_lt, Bool, true, false, if◌then◌else◌, List, [], ◌∷◌, ◌++◌, length, map, All, Option, None, Some, IfSome, refl, sym, ap, subst, ◌∙◌, arith, append-nil, true≢false}
-use Rattle.std.specs.Prelude.{count_by, slice_get}
-use Rattle.std.specs.List.{flat_map, AllByRecursion, range_with_len}
+use Rattle.std.specs.Prelude.{slice_get}
+use Rattle.std.specs.List.{flat_map, AllByRecursion}
 use Rattle.std.proofs.lemmas.Bool.Decides.{nat_tests}
 use Rattle.std.proofs.lemmas.Grind.{flat_map-append}
 use Rattle.std.proofs.lemmas.List.{map-append, length-map}
-use Rattle.std.proofs.lemmas.List.Sums.{sum_by-append}
 use Rattle.std.proofs.lemmas.List.Elements.{All-nil, All-cons, All-append, All-head, All-tail}
 use Rattle.rd_base.specs.Faces.{Attributes}
 use Rattle.rd_base.specs.declared.class.Class.{Class}
 use Rattle.rd_base.specs.declared.class.Class.TheVariants.{B}
+use Rattle.rd_objects.specs.Things.{ObjectLists}
 use Rattle.rd_objects.specs.declared.run.Spec.{Spec}
 use Rattle.rd_objects.specs.declared.run.Spec.TheVariants.{Text, Width, Align}
 use Rattle.rd_text.specs.Texts.{is_newline}
+use Rattle.rd_ucd.specs.Data.{Data}
 use Rattle.rd_ucd.specs.declared.spans.BracketEntry.{BracketEntry}
 use Rattle.rd_glyphs.specs.Marks.{joined}
 use Rattle.rd_glyphs.proofs.Joined.{Grows, joined-all}
+use Rattle.rd_props.specs.Buffers.{BufferValue}
 use Rattle.rd_props.specs.Seen.{Seen}
 use Rattle.rd_props.specs.declared.hiding.Hidden.{Hidden}
 use Rattle.rd_props.specs.declared.hiding.Hidden.TheVariants.{No, Plain, Ellipsis}
 use Rattle.rd_items.specs.Covers.{Tile, CoverWhereTheyGive, EndOnce, is_ender_kind}
 use Rattle.rd_items.specs.Items.{piece_joins, items_by, covered_to, covering, items_of, kind_gives}
-use Rattle.rd_items.specs.Pieces.{Scene, spec_in, string_pieces, spec_piece, char_piece, ender_piece, open_piece, unreplaced_piece, piece_by, piece_at, run_in, pieces_from}
-use Rattle.rd_items.specs.Readings.{showing_of}
+use Rattle.rd_items.specs.Pieces.{Scene, scene_in, spec_in, string_pieces, spec_piece, char_piece, ender_piece, open_piece, unreplaced_piece, piece_by, piece_at, run_in, pieces_from}
+use Rattle.rd_items.specs.Readings.{reading, showing_of}
 use Rattle.rd_items.specs.declared.item.Item.{Item}
 use Rattle.rd_items.specs.declared.item.ItemKind.{ItemKind}
 use Rattle.rd_items.specs.declared.item.ItemKind.TheVariants as kind
 use Rattle.rd_items.specs.declared.piece.Piece.{Piece}
 use Rattle.rd_levels.specs.Turns.{turns_of, ComesLast}
 use Rattle.rd_levels.specs.declared.turn.Turn.{Turn}
-use Rattle.rd_levels.proofs.Turns.{total_in, each-turn}
-use Rattle.rd_order.proofs.Once.{total}
+use Rattle.rd_matrix.specs.declared.block.Block.{Block}
 use Rattle.rd_stack.specs.Lines.{item_class, item_code, item_turns}
-use Rattle.rd_visual.specs.Motion.{range_by, ranges_in_turn, ranges_of}
-use Rattle.rd_visual.specs.Order.{EndsWithEnder, StandBetween, range_of, ranges_in_order}
+use Rattle.rd_visual.specs.Motion.{range_by, ranges_in_turn}
+use Rattle.rd_visual.specs.Order.{EndsWithEnder, block_items, ordered_ranges, range_of, ranges_in_order}
+use Rattle.rd_visual.specs.Tiles.{IsTiled}
 use Rattle.rd_visual.specs.declared.range.Range.{Range}
 
 -- ---- an ender is a separator of paragraphs, and no overlay's string
@@ -201,106 +203,58 @@ ender-at : (others : List Item) (ender : Item) → slice_get (others ++ ender �
 ender-at [] ender = refl
 ender-at (x ∷ xs) ender = ender-at xs ender
 
-pub order-ends : (scene : Scene) (start : ℕ) (es : List Seen) → EndOnce (items_of scene es) → CoverWhereTheyGive scene (items_of scene es) → Tile 0 (length es) (items_of scene es)
-    → EndsWithEnder start (start + length es) (items_of scene es) (ranges_in_order start (items_of scene es))
-order-ends scene start es once gives tile =
-    let items = items_of scene es in
-    let e = ended scene items once gives (items-end scene es) in
-    let cut = tiled 0 (length es) e.others e.ender (subst (Tile 0 (length es)) e.whole tile) e.some in
-    record {
-      others = e.others;
-      ender = e.ender;
-      listed = e.whole;
-      is = e.is;
-      front = ranges_in_order start e.others;
-      whole = ap (ranges_in_order start) e.whole ∙ flat_map-append (λ x. range_by start (Some x)) e.others (e.ender ∷ [])
-          ∙ ap (λ l. ranges_in_order start e.others ++ l) (append-nil (range_by start (Some e.ender)) ∙ ender-range start e.ender e.some);
-      last = ap (λ n. start + n) cut.0;
-      before = order-before start e.ender.from e.others cut.2;
-    }
-
-abbrev LastLaw : Type 0
+abbrev pub LastLaw : Type 0
 LastLaw = (entries : List BracketEntry) (reorder : Bool) (base : ℕ) (classes : List Class) (codes : List ℕ) → ComesLast (turns_of entries reorder base (classes ++ B ∷ []) codes) (length classes)
 
-pub turns-end : LastLaw → (scene : Scene) (start base : ℕ) (es : List Seen) → EndOnce (items_of scene es) → CoverWhereTheyGive scene (items_of scene es) → Tile 0 (length es) (items_of scene es)
-    → EndsWithEnder start (start + length es) (items_of scene es) (ranges_of scene start base es)
-turns-end law scene start base es once gives tile =
-    let items = items_of scene es in
-    let e = ended scene items once gives (items-end scene es) in
-    let cut = tiled 0 (length es) e.others e.ender (subst (Tile 0 (length es)) e.whole tile) e.some in
-    let fronts = map item_class e.others in
-    let size : length fronts ≡ length e.others = length-map e.others item_class in
-    let classes : map item_class items ≡ fronts ++ B ∷ [] =
-    ap (map item_class) e.whole ∙ map-append item_class e.others (e.ender ∷ []) ∙ ap (λ c. fronts ++ c ∷ []) e.class in
-    let comes : ComesLast (item_turns scene base items) (length fronts) =
-    subst (λ (cs : List Class). ComesLast (turns_of scene.brackets scene.parts.settings.reorder base cs (map item_code items)) (length fronts)) (sym classes)
-    (law scene.brackets scene.parts.settings.reorder base fronts (map item_code items)) in
-    let f : Turn → List Range = λ t. range_by start (slice_get (e.others ++ e.ender ∷ []) t.index) in
-    let place : comes.last.index ≡ length e.others = comes.index ∙ size in
-    let low : All (λ t. t.index < length e.others) comes.front = subst (λ (n : ℕ). All (λ t. t.index < n) comes.front) size comes.others in
-    record {
-      others = e.others;
-      ender = e.ender;
-      listed = e.whole;
-      is = e.is;
-      front = ranges_in_turn start (e.others ++ e.ender ∷ []) comes.front;
-      whole = ap (λ l. ranges_in_turn start l (item_turns scene base items)) e.whole ∙ ap (flat_map f) comes.whole ∙ flat_map-append f comes.front (comes.last ∷ [])
-          ∙ ap (λ l. flat_map f comes.front ++ l)
-          (append-nil (f comes.last) ∙ ap (λ k. range_by start (slice_get (e.others ++ e.ender ∷ []) k)) place ∙ ap (range_by start) (ender-at e.others e.ender) ∙ ender-range start e.ender e.some);
-      last = ap (λ n. start + n) cut.0;
-      before = turns-before start e.ender.from e.others e.ender comes.front cut.2 low;
-    }
+-- a block that its items tile
+module _ (s : BufferValue) (objects : ObjectLists) (files : Data) (b : Block) (tiles : IsTiled s objects files b) where
+  abbrev pub scene : Scene
+  scene = scene_in s.settings objects files
 
--- ---- ranges in order stand one behind the other
+  abbrev pub items : List Item
+  items = block_items s objects files b
 
-stand-by : (b : Bool) (start since to : ℕ) (x : Item) (rest : List Range) → nat_lt x.from x.to ≡ b → x.from ≡ since → since < x.to → StandBetween (start + x.to) to rest
-    → StandBetween (start + since) to ((if b then range_of start x ∷ [] else []) ++ rest)
-stand-by true start since to x rest e at some h = (ap (λ n. start + n) at, omega (arith, at, some), h)
-stand-by false start since to x rest e at some h = absurd (let less : nat_lt x.from x.to ≡ true = grind (arith, nat_tests) in true≢false (sym less ∙ e))
+  e : Ended scene items
+  e = ended scene items tiles.end tiles.give (items-end scene (reading s objects b.start))
 
-skip-by : (b : Bool) (start since to : ℕ) (x : Item) (rest : List Range) → nat_lt x.from x.to ≡ b → x.from ≡ x.to → StandBetween (start + since) to rest
-    → StandBetween (start + since) to ((if b then range_of start x ∷ [] else []) ++ rest)
-skip-by true start since to x rest e empty h = absurd (let less : nat_lt x.from x.to ≡ false = grind (arith, nat_tests) in true≢false (sym e ∙ less))
-skip-by false start since to x rest e empty h = h
+  cut : (e.ender.to ≡ length (reading s objects b.start)) × (0 ≤ e.ender.from) × All (LiesBefore e.ender.from) e.others
+  cut =
+      let size = length (reading s objects b.start) in
+      tiled 0 size e.others e.ender (subst (Tile 0 size) e.whole tiles.tile) e.some
 
-pub order-stands : (start since to : ℕ) (items : List Item) → Tile since to items → StandBetween (start + since) (start + to) (ranges_in_order start items)
-order-stands start since to [] tile = ap (λ n. start + n) tile
-order-stands start since to (x ∷ xs) (inl empty) = skip-by (nat_lt x.from x.to) start since (start + to) x (ranges_in_order start xs) refl empty.0 (order-stands start since to xs empty.1)
-order-stands start since to (x ∷ xs) (inr next) =
-    stand-by (nat_lt x.from x.to) start since (start + to) x (ranges_in_order start xs) refl next.0 next.1 (order-stands start x.to to xs next.2)
+  ends-by : (front ranges : List Range) → ranges ≡ front ++ range_of b.start e.ender ∷ [] → All (EndsBy (b.start + e.ender.from)) front → EndsWithEnder b.start b.end items ranges
+  ends-by front ranges whole before = record {
+    others = e.others;
+    ender = e.ender;
+    listed = e.whole;
+    is = e.is;
+    front = front;
+    whole = whole;
+    last = ap (λ n. b.start + n) cut.0 ∙ tiles.size;
+    before = before;
+  }
 
--- ---- visual order changes the order alone
+  pub order-ends : EndsWithEnder b.start b.end items (ordered_ranges s objects files b)
+  order-ends =
+      ends-by (ranges_in_order b.start e.others) (ranges_in_order b.start items)
+      (ap (ranges_in_order b.start) e.whole ∙ flat_map-append (λ x. range_by b.start (Some x)) e.others (e.ender ∷ [])
+      ∙ ap (λ l. ranges_in_order b.start e.others ++ l) (append-nil (range_by b.start (Some e.ender)) ∙ ender-range b.start e.ender e.some))
+      (order-before b.start e.ender.from e.others cut.2)
 
-abbrev counted : (Range → Bool) → ℕ → Option Item → ℕ
-counted p start o = count_by p (range_by start o)
-
-count-append : (p : Range → Bool) (xs ys : List Range) → count_by p (xs ++ ys) ≡ count_by p xs + count_by p ys
-count-append p xs ys = sum_by-append (λ r. if p r then 1 else 0) xs ys
-
-in-turns : (p : Range → Bool) (start : ℕ) (items : List Item) (ts : List Turn) → count_by p (ranges_in_turn start items ts) ≡ total_in (λ i. counted p start (slice_get items i)) ts
-in-turns p start items [] = refl
-in-turns p start items (t ∷ ts) =
-    count-append p (range_by start (slice_get items t.index)) (ranges_in_turn start items ts)
-    ∙ ap (λ n. counted p start (slice_get items t.index) + n) (in-turns p start items ts)
-
-by-place : (p : Range → Bool) (f : ℕ → ℕ) (start a : ℕ) (items : List Item) → ((i : ℕ) → f (a + i) ≡ counted p start (slice_get items i))
-    → total f (range_with_len a (length items)) ≡ count_by p (ranges_in_order start items)
-by-place p f start a [] same = refl
-by-place p f start a (x ∷ xs) same =
-    let here : f a ≡ counted p start (Some x) = subst (λ k. f k ≡ counted p start (Some x)) (let e : a + 0 ≡ a = omega arith in e) (same 0) in
-    let rest = by-place p f start (a + 1) xs (λ i. subst (λ k. f k ≡ counted p start (slice_get xs i)) (let e : a + suc i ≡ a + 1 + i = omega arith in e) (same (suc i))) in
-    let both = count-append p (range_by start (Some x)) (ranges_in_order start xs) in
-    omega (arith, here, rest, both)
-
-from-none : (f : ℕ → ℕ) (i : ℕ) → f (0 + i) ≡ f i
-from-none f i = let e : 0 + i ≡ i = omega arith in ap f e
-
-pub turns-permute : (p : Range → Bool) (scene : Scene) (start base : ℕ) (es : List Seen)
-    → count_by p (ranges_of scene start base es) ≡ count_by p (ranges_in_order start (items_of scene es))
-turns-permute p scene start base es =
-    let items = items_of scene es in
-    let f : ℕ → ℕ = λ i. counted p start (slice_get items i) in
-    in-turns p start items (item_turns scene base items)
-    ∙ each-turn scene.brackets scene.parts.settings.reorder base (map item_class items) (map item_code items) f
-    ∙ ap (λ n. total f (range_with_len 0 n)) (length-map items item_class)
-    ∙ by-place p f start 0 items (λ i. from-none f i)
+  pub turns-end : LastLaw → (base : ℕ) → EndsWithEnder b.start b.end items (ranges_in_turn b.start items (item_turns scene base items))
+  turns-end law base =
+      let fronts = map item_class e.others in
+      let size : length fronts ≡ length e.others = length-map e.others item_class in
+      let classes : map item_class items ≡ fronts ++ B ∷ [] =
+      ap (map item_class) e.whole ∙ map-append item_class e.others (e.ender ∷ []) ∙ ap (λ c. fronts ++ c ∷ []) e.class in
+      let comes : ComesLast (item_turns scene base items) (length fronts) =
+      subst (λ (cs : List Class). ComesLast (turns_of scene.brackets scene.parts.settings.reorder base cs (map item_code items)) (length fronts)) (sym classes)
+      (law scene.brackets scene.parts.settings.reorder base fronts (map item_code items)) in
+      let f : Turn → List Range = λ t. range_by b.start (slice_get (e.others ++ e.ender ∷ []) t.index) in
+      let place : comes.last.index ≡ length e.others = comes.index ∙ size in
+      let low : All (λ t. t.index < length e.others) comes.front = subst (λ (n : ℕ). All (λ t. t.index < n) comes.front) size comes.others in
+      ends-by (ranges_in_turn b.start (e.others ++ e.ender ∷ []) comes.front) (ranges_in_turn b.start items (item_turns scene base items))
+      (ap (λ l. ranges_in_turn b.start l (item_turns scene base items)) e.whole ∙ ap (flat_map f) comes.whole ∙ flat_map-append f comes.front (comes.last ∷ [])
+      ∙ ap (λ l. flat_map f comes.front ++ l)
+      (append-nil (f comes.last) ∙ ap (λ k. range_by b.start (slice_get (e.others ++ e.ender ∷ []) k)) place ∙ ap (range_by b.start) (ender-at e.others e.ender) ∙ ender-range b.start e.ender e.some))
+      (turns-before b.start e.ender.from e.others e.ender comes.front cut.2 low)

@@ -4,6 +4,7 @@ mod Enders
 mod Items
 mod Listing
 mod Neighbours
+mod Reordered
 mod Steps
 mod Undoing
 mod Within

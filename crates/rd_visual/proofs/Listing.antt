@@ -17,9 +17,11 @@ use Rattle.rd_levels.specs.declared.turn.Turn.{Turn}
 use Rattle.rd_levels.proofs.Turns.{total_in, each-turn}
 use Rattle.rd_order.proofs.Once.{total}
 use Rattle.rd_stack.specs.Lines.{item_class, item_code, item_turns}
-use Rattle.rd_visual.specs.Motion.{before, behind, holds, first, last, range_by, ranges_in_turn, ranges_of}
+use Rattle.rd_visual.specs.Motion.{holds, first, last, range_by, ranges_in_turn, ranges_of}
+use Rattle.rd_visual.specs.Ways.{beside, opposite, origin}
 use Rattle.rd_visual.specs.declared.range.Range.{Range}
-use Rattle.rd_visual.proofs.Neighbours.{behind-skip, before-skip}
+use Rattle.rd_visual.specs.declared.way.Way.{Way}
+use Rattle.rd_visual.specs.declared.way.Way.TheVariants.{Forward, Backward}
 
 -- what stands at an index heads what is left
 pub drop-at : {X : Type 0} (i : ℕ) (xs : List X) (x : X) → slice_get xs i ≡ Some x → drop i xs ≡ x ∷ drop (i + 1) xs
@@ -101,68 +103,88 @@ tile-fits start limit since to (x ∷ xs) (inr next) low =
     let rest = tile-order x.to to xs next.2 in
     All-cons (λ (y : Item). y.from < y.to → start + y.to < limit) x xs (λ some. omega (arith, rest, low)) (tile-fits start limit x.to to xs next.2 low)
 
--- neighbours, found by their place
-
-pub behind-on : (pos place : ℕ) (rs : List Range) (r : Range) (found : Option ℕ) → 1 ≤ place → slice_get rs (place - 1) ≡ Some r → holds pos r ≡ false
-    → behind pos (drop (place - 1) rs) ≡ found → behind pos (drop (place + 1 - 1) rs) ≡ found
-behind-on pos place rs r found some there out all =
-    let on : place + 1 - 1 ≡ (place - 1) + 1 = omega (arith, some) in
-    ap (λ n. behind pos (drop n rs)) on ∙ sym (ap (behind pos) (drop-at (place - 1) rs r there) ∙ behind-skip pos r (drop ((place - 1) + 1) rs) out) ∙ all
-
-pub behind-here : (pos place : ℕ) (rs : List Range) (r next : Range) (found : Option ℕ) → 1 ≤ place → slice_get rs (place - 1) ≡ Some r → slice_get rs place ≡ Some next → holds pos r ≡ true
-    → behind pos (drop (place - 1) rs) ≡ found → Some next.from ≡ found
-behind-here pos place rs r next found some there beside here all =
-    let on : (place - 1) + 1 ≡ place = omega (arith, some) in
-    sym (ap (behind pos) (drop-at (place - 1) rs r there ∙ ap (λ l. r ∷ l) (ap (λ n. drop n rs) on ∙ drop-at place rs next beside))
-    ∙ ap (λ (t : Bool). if t then Some next.from else behind pos (next ∷ drop (place + 1) rs)) here) ∙ all
-
-short-behind : (pos : ℕ) (rs : List Range) → length rs ≤ 1 → behind pos rs ≡ None
-short-behind pos [] few = refl
-short-behind pos (r ∷ []) few = refl
-short-behind pos (r ∷ next ∷ rs) few = absurd (omega (arith, few))
-
-pub behind-past : (pos place : ℕ) (rs : List Range) (found : Option ℕ) → length rs ≤ place → behind pos (drop (place - 1) rs) ≡ found → None ≡ found
-behind-past pos place rs found past all =
-    let size = length-drop (place - 1) rs in
-    sym (short-behind pos (drop (place - 1) rs) (omega (arith, size, past))) ∙ all
-
-before-on : (pos place : ℕ) (rs : List Range) (r next : Range) (found : Option ℕ) → 1 ≤ place → slice_get rs (place - 1) ≡ Some r → slice_get rs place ≡ Some next → holds pos next ≡ false
-    → before pos (drop (place - 1) rs) ≡ found → before pos (drop (place + 1 - 1) rs) ≡ found
-before-on pos place rs r next found some there beside out all =
-    let on : place + 1 - 1 ≡ place = omega arith in
-    let behind-one : (place - 1) + 1 ≡ place = omega (arith, some) in
-    ap (λ n. before pos (drop n rs)) on ∙ ap (before pos) (drop-at place rs next beside)
-    ∙ sym (ap (before pos) (drop-at (place - 1) rs r there ∙ ap (λ l. r ∷ l) (ap (λ n. drop n rs) behind-one ∙ drop-at place rs next beside))
-    ∙ before-skip pos r (next ∷ drop (place + 1) rs) out) ∙ all
+-- the range beside one, found by its place
 
 pub within-some : {X : Type 0} (xs : List X) (j : ℕ) → j < length xs → (x : X) × (slice_get xs j ≡ Some x)
 within-some [] j low = absurd (omega (arith, low))
 within-some (x ∷ xs) zero low = (x, refl)
 within-some (x ∷ xs) (suc j) low = within-some xs j (omega (arith, low))
 
-pub before-next : (pos place : ℕ) (rs : List Range) (next : Range) (found : Option ℕ) → 1 ≤ place → slice_get rs place ≡ Some next → holds pos next ≡ false
-    → before pos (drop (place - 1) rs) ≡ found → before pos (drop (place + 1 - 1) rs) ≡ found
-before-next pos place rs next found some beside out all =
-    let inside = slice_get_within rs place next beside in
-    let one = within-some rs (place - 1) (omega (arith, inside)) in
-    before-on pos place rs one.0 next found some one.1 beside out all
+-- the one of two ranges from which a step leads to the other
+abbrev pub start_of : Way → Range → Range → Range
+start_of Forward r next = r
+start_of Backward r next = next
 
-pub before-here : (pos place : ℕ) (rs : List Range) (r next : Range) (found : Option ℕ) → 1 ≤ place → slice_get rs (place - 1) ≡ Some r → slice_get rs place ≡ Some next → holds pos next ≡ true
-    → before pos (drop (place - 1) rs) ≡ found → Some r.from ≡ found
-before-here pos place rs r next found some there beside here all =
-    let behind-one : (place - 1) + 1 ≡ place = omega (arith, some) in
-    sym (ap (before pos) (drop-at (place - 1) rs r there ∙ ap (λ l. r ∷ l) (ap (λ n. drop n rs) behind-one ∙ drop-at place rs next beside))
-    ∙ ap (λ (t : Bool). if t then Some r.from else before pos (next ∷ drop (place + 1) rs)) here) ∙ all
+pub beside-two : (way : Way) (pos : ℕ) (r next : Range) (rs : List Range)
+    → beside way pos (r ∷ next ∷ rs) ≡ (if holds pos (start_of way r next) then Some (start_of (opposite way) r next).from else beside way pos (next ∷ rs))
+beside-two Forward pos r next rs = refl
+beside-two Backward pos r next rs = refl
 
-short-before : (pos : ℕ) (rs : List Range) → length rs ≤ 1 → before pos rs ≡ None
-short-before pos [] few = refl
-short-before pos (r ∷ []) few = refl
-short-before pos (r ∷ next ∷ rs) few = absurd (omega (arith, few))
+same-some : {X : Type 0} (o : Option X) (x y : X) → o ≡ Some x → o ≡ Some y → x ≡ y
+same-some o x y one other = let e : Some x ≡ Some y = sym one ∙ other in cc
 
-pub before-past : (pos place : ℕ) (rs : List Range) (found : Option ℕ) → length rs ≤ place → before pos (drop (place - 1) rs) ≡ found → None ≡ found
-before-past pos place rs found past all =
+is-start : (way : Way) (place : ℕ) (rs : List Range) (r next x : Range) → slice_get rs (place - 1) ≡ Some r → slice_get rs place ≡ Some next → slice_get rs (origin way place) ≡ Some x → x ≡ start_of way r next
+is-start Forward place rs r next x there on at = same-some (slice_get rs (place - 1)) x r at there
+is-start Backward place rs r next x there on at = same-some (slice_get rs place) x next at on
+
+-- the ranges at a place and at the place before it
+record Pair (place : ℕ) (rs : List Range) : Type 0 where
+  r : Range
+  next : Range
+  there : slice_get rs (place - 1) ≡ Some r
+  on : slice_get rs place ≡ Some next
+  rest : drop place rs ≡ next ∷ drop (place + 1) rs
+  whole : drop (place - 1) rs ≡ r ∷ next ∷ drop (place + 1) rs
+
+pair-at : (place : ℕ) (rs : List Range) → 1 ≤ place → place < length rs → Pair place rs
+pair-at place rs some low =
+    let one = within-some rs (place - 1) (omega (arith, some, low)) in
+    let two = within-some rs place low in
+    let rest = drop-at place rs two.0 two.1 in
+    let on : (place - 1) + 1 ≡ place = omega (arith, some) in
+    record {
+      r = one.0;
+      next = two.0;
+      there = one.1;
+      on = two.1;
+      rest = rest;
+      whole = drop-at (place - 1) rs one.0 one.1 ∙ ap (λ l. one.0 ∷ l) (ap (λ n. drop n rs) on ∙ rest);
+    }
+
+module _ (way : Way) (pos place i : ℕ) (rs : List Range) (x : Range) (found : Option ℕ) (some : 1 ≤ place) (low : place < length rs) (at : i ≡ origin way place) (there : slice_get rs i ≡ Some x) (all : beside way pos (drop (place - 1) rs) ≡ found) where
+  pair : Pair place rs
+  pair = pair-at place rs some low
+
+  start : x ≡ start_of way pair.r pair.next
+  start = is-start way place rs pair.r pair.next x pair.there pair.on (subst (λ (k : ℕ). slice_get rs k ≡ Some x) at there)
+
+  by-start : (if holds pos x then Some (start_of (opposite way) pair.r pair.next).from else beside way pos (pair.next ∷ drop (place + 1) rs)) ≡ found
+  by-start =
+      ap (λ (y : Range). if holds pos y then Some (start_of (opposite way) pair.r pair.next).from else beside way pos (pair.next ∷ drop (place + 1) rs)) start
+      ∙ sym (ap (beside way pos) pair.whole ∙ beside-two way pos pair.r pair.next (drop (place + 1) rs)) ∙ all
+
+  pub beside-here : (j : ℕ) (y : Range) → j ≡ origin (opposite way) place → slice_get rs j ≡ Some y → holds pos x ≡ true → Some y.from ≡ found
+  beside-here j y to other here =
+      ap (λ (z : Range). Some z.from) (is-start (opposite way) place rs pair.r pair.next y pair.there pair.on (subst (λ (k : ℕ). slice_get rs k ≡ Some y) to other))
+      ∙ sym (ap (λ (t : Bool). if t then Some (start_of (opposite way) pair.r pair.next).from else beside way pos (pair.next ∷ drop (place + 1) rs)) here) ∙ by-start
+
+  pub beside-on : holds pos x ≡ false → beside way pos (drop (place + 1 - 1) rs) ≡ found
+  beside-on out =
+      let on : place + 1 - 1 ≡ place = omega arith in
+      ap (λ n. beside way pos (drop n rs)) on ∙ ap (beside way pos) pair.rest
+      ∙ sym (ap (λ (t : Bool). if t then Some (start_of (opposite way) pair.r pair.next).from else beside way pos (pair.next ∷ drop (place + 1) rs)) out) ∙ by-start
+
+short-beside : (way : Way) (pos : ℕ) (rs : List Range) → length rs ≤ 1 → beside way pos rs ≡ None
+short-beside Forward pos [] few = refl
+short-beside Backward pos [] few = refl
+short-beside Forward pos (r ∷ []) few = refl
+short-beside Backward pos (r ∷ []) few = refl
+short-beside way pos (r ∷ next ∷ rs) few = absurd (omega (arith, few))
+
+pub beside-past : (way : Way) (pos place : ℕ) (rs : List Range) (found : Option ℕ) → length rs ≤ place → beside way pos (drop (place - 1) rs) ≡ found → None ≡ found
+beside-past way pos place rs found past all =
     let size = length-drop (place - 1) rs in
-    sym (short-before pos (drop (place - 1) rs) (omega (arith, size, past))) ∙ all
+    sym (short-beside way pos (drop (place - 1) rs) (omega (arith, size, past))) ∙ all
 
 pub first-at : (rs : List Range) (r : Range) → slice_get rs 0 ≡ Some r → Some r.from ≡ first rs
 first-at [] r there = absurd cc

@@ -2,18 +2,14 @@
 use Rattle.std.proofs.Common.{◌≡◌, ℕ, ◌+◌, ◌<◌, ◌≤◌, Bool, true, false, cond, if◌then◌else◌, List, [], ◌∷◌, ◌++◌, Option, None, Some, refl, sym, ap, subst, ◌∙◌, arith}
 use Rattle.std.specs.Prelude.{count_by}
 use Rattle.std.proofs.lemmas.Bool.Decides.{nat_tests}
-use Rattle.std.proofs.lemmas.List.Sums.{sum_by-append}
 use Rattle.rd_visual.specs.Motion.{before, behind, holds, first, last, least}
 use Rattle.rd_visual.specs.declared.range.Range.{Range}
-use Rattle.rd_visual.proofs.Items.{count-cons}
+use Rattle.rd_visual.proofs.Items.{count-append, count-cons}
 
 -- each range has a position
 abbrev pub AreSome : List Range → Type 0
 AreSome [] = Unit {0}
 AreSome (r ∷ rs) = (r.from < r.to) × AreSome rs
-
-pub count-append : (pos : ℕ) (xs ys : List Range) → count_by (holds pos) (xs ++ ys) ≡ count_by (holds pos) xs + count_by (holds pos) ys
-count-append pos xs ys = sum_by-append (λ (r : Range). cond (holds pos r) 1 0) xs ys
 
 covers-first : (r : Range) → r.from < r.to → holds r.from r ≡ true
 covers-first r some = grind (arith, nat_tests)
@@ -243,7 +239,7 @@ before-none pos front (r ∷ rs) back none one later h =
     let here = is-first pos r rs h (omega (arith, one)) in
     let e = count-cons (holds pos) r rs in
     let rest = only-by (holds pos r) (count_by (holds pos) rs) here (omega (arith, e, one)) in
-    let all = count-append pos rs back in
+    let all = count-append (holds pos) rs back in
     last-before pos front r (rs ++ back) none here (omega (arith, rest, all, later))
 
 -- the first and the last of ranges of several blocks
@@ -258,5 +254,5 @@ last-cons x (y ∷ ys) pos some = refl
 pub last-append : (xs ys : List Range) (pos : ℕ) → 1 ≤ count_by (holds pos) ys → last (xs ++ ys) ≡ last ys
 last-append [] ys pos some = refl
 last-append (x ∷ xs) ys pos some =
-    let all = count-append pos xs ys in
+    let all = count-append (holds pos) xs ys in
     last-cons x (xs ++ ys) pos (omega (arith, all, some)) ∙ last-append xs ys pos some

@@ -1,21 +1,28 @@
 -- Steps from block to block.
-use Rattle.std.proofs.Common.{◌≡◌, ℕ, zero, suc, ◌+◌, ◌<◌, ◌≤◌, nat_lt, Bool, true, false, ◌==◌, ◌≢◌, if◌then◌else◌, List, [], ◌∷◌, ◌++◌, length, take, drop, None, Some, refl, sym, ap, subst, ◌∙◌, arith}
+use Rattle.std.proofs.Common.{◌≡◌, ℕ, zero, suc, ◌+◌, ◌<◌, ◌≤◌, nat_lt, Bool, true, false, ◌==◌, if◌then◌else◌, List, [], ◌∷◌, ◌++◌, length, take, drop, Option, None, Some, refl, sym, ap, subst, ◌∙◌, arith}
 use Rattle.std.specs.Prelude.{count_by, slice_get}
 use Rattle.std.specs.List.{flat_map}
-use Rattle.std.proofs.lemmas.Bool.{eqb-true}
 use Rattle.std.proofs.lemmas.Bool.Decides.{nat_tests}
 use Rattle.std.proofs.lemmas.Grind.{flat_map-append}
 use Rattle.std.proofs.lemmas.List.{append-nil}
 use Rattle.std.proofs.lemmas.Option.{slice_get_within}
 use Rattle.rd_ucd.specs.Data.{Data}
 use Rattle.rd_objects.specs.Things.{ObjectLists}
-use Rattle.rd_props.specs.Buffers.{BufferValue}
+use Rattle.rd_text.specs.Texts.{IsText, IsAccessible}
+use Rattle.rd_props.specs.Buffers.{BufferValue, meaning}
+use Rattle.rd_props.specs.declared.state.View.{View}
 use Rattle.rd_matrix.specs.Blocks.{HoldsPosition, IsAmong, StandFrom, block_before, first_start}
 use Rattle.rd_matrix.specs.declared.block.Block.{Block}
-use Rattle.rd_visual.specs.Motion.{backward, base_in, base_of, before, behind, first, forward, holds, last, left_of, right_of}
+use Rattle.rd_blocks.specs.Bases.{blocks_in}
+use Rattle.rd_visual.specs.Motion.{all_ranges, base_in, base_of, before, behind, block_ranges, files_of, first, holds, last, view_blocks, view_ranges}
+use Rattle.rd_visual.specs.Ways.{beside, block_beside, entered, opposite, sideways, stepped, way_in}
 use Rattle.rd_visual.specs.declared.range.Range.{Range}
+use Rattle.rd_visual.specs.declared.way.Way.{Way}
+use Rattle.rd_visual.specs.declared.way.Way.TheVariants.{Forward, Backward}
+use Rattle.rd_visual.proofs.Counts.{block-some}
+use Rattle.rd_visual.proofs.Items.{count-append}
 use Rattle.rd_visual.proofs.Listing.{drop-at, within-some}
-use Rattle.rd_visual.proofs.Neighbours.{AreSome, before-none, before-some, behind-front, behind-none, behind-some, count-append, first-append, last-append}
+use Rattle.rd_visual.proofs.Neighbours.{AreSome, before-none, before-some, behind-front, behind-none, behind-some, first-append, last-append}
 
 -- blocks that stand one behind the other
 
@@ -50,26 +57,28 @@ base-is from (suc k) pos (x ∷ bs) b stand there low high =
 pub base-holds : (bs : List Block) (pos : ℕ) (b : Block) → StandFrom (first_start bs) bs → HoldsPosition pos bs b → base_of bs pos ≡ b.base
 base-holds bs pos b stand h = base-is (first_start bs) h.among.0 pos bs b stand h.among.1 h.from h.below
 
-zero-test : (b : Bool) (n : ℕ) → (n == 0) ≡ b → n ≢ 0 → b ≡ false
-zero-test true n e differs = absurd (differs (eqb-true n 0 e))
-zero-test false n e differs = refl
+-- a step to a side, by the base of the block that holds a position
 
--- right and left by the base of a block
-module _ (s : BufferValue) (objects : ObjectLists) (files : Data) (pos base : ℕ) (is : base_in s files pos ≡ base) where
-  pub right-even : base ≡ 0 → forward s objects files pos ≡ right_of s objects files pos
-  right-even even = sym (ap (λ (n : ℕ). if n == 0 then forward s objects files pos else backward s objects files pos) (is ∙ even))
+step-by : (way : Way) (b : Bool) (s : BufferValue) (objects : ObjectLists) (files : Data) (pos : ℕ)
+    → stepped (if b then way else opposite way) s objects files pos ≡ (if b then stepped way s objects files pos else stepped (opposite way) s objects files pos)
+step-by way true s objects files pos = refl
+step-by way false s objects files pos = refl
 
-  pub left-even : base ≡ 0 → backward s objects files pos ≡ left_of s objects files pos
-  left-even even = sym (ap (λ (n : ℕ). if n == 0 then backward s objects files pos else forward s objects files pos) (is ∙ even))
+pub sideways-is : (way : Way) (s : BufferValue) (objects : ObjectLists) (files : Data) (pos : ℕ) → sideways way s objects files pos ≡ stepped (way_in way (base_in s files pos)) s objects files pos
+sideways-is Forward s objects files pos = sym (step-by Forward (base_in s files pos == 0) s objects files pos)
+sideways-is Backward s objects files pos = sym (step-by Backward (base_in s files pos == 0) s objects files pos)
 
-  odd : base ≢ 0 → (base_in s files pos == 0) ≡ false
-  odd differs = zero-test (base_in s files pos == 0) (base_in s files pos) refl (λ none. differs (sym is ∙ none))
+pub side-step : (way there : Way) (s : BufferValue) (objects : ObjectLists) (files : Data) (pos base : ℕ) → there ≡ way_in way base → base_in s files pos ≡ base
+    → stepped there s objects files pos ≡ sideways way s objects files pos
+side-step way there s objects files pos base is at =
+    ap (λ (w : Way). stepped w s objects files pos) (is ∙ ap (way_in way) (sym at)) ∙ sym (sideways-is way s objects files pos)
 
-  pub right-odd : base ≢ 0 → backward s objects files pos ≡ right_of s objects files pos
-  right-odd differs = sym (ap (λ (t : Bool). if t then forward s objects files pos else backward s objects files pos) (odd differs))
+opposite-by : (way : Way) (b : Bool) → opposite (if b then way else opposite way) ≡ (if b then opposite way else opposite (opposite way))
+opposite-by way true = refl
+opposite-by way false = refl
 
-  pub left-odd : base ≢ 0 → forward s objects files pos ≡ left_of s objects files pos
-  left-odd differs = sym (ap (λ (t : Bool). if t then backward s objects files pos else forward s objects files pos) (odd differs))
+pub opposite-in : (way : Way) (base : ℕ) → opposite (way_in way base) ≡ way_in (opposite way) base
+opposite-in way base = opposite-by way (base == 0)
 
 split-at : {X : Type 0} (k : ℕ) (xs : List X) (x : X) → slice_get xs k ≡ Some x → xs ≡ take k xs ++ x ∷ drop (suc k) xs
 split-at k [] x there = absurd cc
@@ -87,9 +96,10 @@ take-next k [] x there = absurd cc
 take-next zero (y ∷ ys) x there = let same : y ≡ x = cc in ap (λ z. z ∷ []) same
 take-next (suc k) (y ∷ ys) x there = ap (λ zs. y ∷ zs) (take-next k ys x there)
 
-pub among-before : (k : ℕ) (bs : List Block) (prev : Block) → block_before bs k ≡ Some prev → IsAmong bs prev
-among-before zero bs prev at = absurd cc
-among-before (suc k) bs prev at = (k, at)
+among-beside : (way : Way) (k : ℕ) (bs : List Block) (x : Block) → block_beside way bs k ≡ Some x → IsAmong bs x
+among-beside Forward k bs x at = (k + 1, at)
+among-beside Backward zero bs x at = absurd cc
+among-beside Backward (suc k) bs x at = (k, at)
 
 -- the ranges of all blocks, seen from one that holds a position
 module _ (f : Block → List Range) (bs : List Block) (pos k : ℕ) (b : Block) (there : slice_get bs k ≡ Some b) (every : count_by (holds pos) (flat_map f bs) ≡ 1) (here : count_by (holds pos) (f b) ≡ 1) where
@@ -105,33 +115,13 @@ module _ (f : Block → List Range) (bs : List Block) (pos k : ℕ) (b : Block) 
   apart : (count_by (holds pos) front ≡ 0) × (count_by (holds pos) back ≡ 0)
   apart =
       let all = ap (count_by (holds pos)) whole in
-      let two = count-append pos front (f b ++ back) in
-      let more = count-append pos (f b) back in
+      let two = count-append (holds pos) front (f b ++ back) in
+      let more = count-append (holds pos) (f b) back in
       (omega (arith, every, here, all, two, more), omega (arith, every, here, all, two, more))
-
-  pub forward-some : (q : ℕ) → behind pos (f b) ≡ Some q → behind pos (flat_map f bs) ≡ Some q
-  forward-some q found =
-      ap (behind pos) whole ∙ behind-front pos front (f b ++ back) apart.0 ∙ behind-some pos q (f b) back found
 
   forward-end : behind pos (f b) ≡ None → behind pos (flat_map f bs) ≡ first back
   forward-end none =
       ap (behind pos) whole ∙ behind-front pos front (f b ++ back) apart.0 ∙ behind-none pos (f b) back none (omega (arith, here))
-
-  pub forward-next : (p : ℕ) (next : Block) → behind pos (f b) ≡ None → slice_get bs (k + 1) ≡ Some next → count_by (holds p) (f next) ≡ 1 → behind pos (flat_map f bs) ≡ first (f next)
-  forward-next p next none at some =
-      let one : k + 1 ≡ suc k = omega arith in
-      let at' : slice_get bs (suc k) ≡ Some next = subst (λ (j : ℕ). slice_get bs j ≡ Some next) one at in
-      forward-end none ∙ ap (λ xs. first (flat_map f xs)) (drop-at (suc k) bs next at') ∙ first-append (f next) (flat_map f (drop (suc k + 1) bs)) p (omega (arith, some))
-
-  pub forward-last : behind pos (f b) ≡ None → slice_get bs (k + 1) ≡ None → behind pos (flat_map f bs) ≡ None
-  forward-last none at =
-      let one : k + 1 ≡ suc k = omega arith in
-      let at' : slice_get bs (suc k) ≡ None = subst (λ (j : ℕ). slice_get bs j ≡ None) one at in
-      forward-end none ∙ ap (λ xs. first (flat_map f xs)) (drop-none (suc k) bs at')
-
-  pub backward-some : AreSome (f b) → (q : ℕ) → before pos (f b) ≡ Some q → before pos (flat_map f bs) ≡ Some q
-  backward-some some q found =
-      ap (before pos) whole ∙ before-some pos q front (f b) back some apart.0 (omega (arith, here)) found
 
   backward-end : before pos (f b) ≡ None → before pos (flat_map f bs) ≡ last front
   backward-end none = ap (before pos) whole ∙ before-none pos front (f b) back apart.0 here apart.1 none
@@ -142,15 +132,74 @@ module _ (f : Block → List Range) (bs : List Block) (pos k : ℕ) (b : Block) 
       ap (λ xs. last (flat_map f xs)) (take-next j bs prev at)
       ∙ ap last (flat_map-append f (take j bs) (prev ∷ []))
       ∙ last-append (flat_map f (take j bs)) (flat_map f (prev ∷ [])) p
-      (let one = count-append p (f prev) [] in omega (arith, one, some))
+      (let one = count-append (holds p) (f prev) [] in omega (arith, one, some))
       ∙ ap last (append-nil (f prev))
-
-  pub backward-prev : (p : ℕ) (prev : Block) → before pos (f b) ≡ None → block_before bs k ≡ Some prev → count_by (holds p) (f prev) ≡ 1 → before pos (flat_map f bs) ≡ last (f prev)
-  backward-prev p prev none at some = backward-end none ∙ last-by k p prev at some
 
   none-by : (j : ℕ) → j ≤ length bs → block_before bs j ≡ None → last (flat_map f (take j bs)) ≡ None
   none-by zero low at = refl
   none-by (suc j) low at = absurd (let q = within-some bs j (omega (arith, low)) in let x = q.1 in cc)
 
-  pub backward-first : before pos (f b) ≡ None → block_before bs k ≡ None → before pos (flat_map f bs) ≡ None
-  backward-first none at = let inside = slice_get_within bs k b there in backward-end none ∙ none-by k (omega (arith, inside)) at
+  next-at : (o : Option Block) → slice_get bs (k + 1) ≡ o → slice_get bs (suc k) ≡ o
+  next-at o at = let one : k + 1 ≡ suc k = omega arith in subst (λ (j : ℕ). slice_get bs j ≡ o) one at
+
+  within-block : (way : Way) → AreSome (f b) → (q : ℕ) → beside way pos (f b) ≡ Some q → beside way pos (flat_map f bs) ≡ Some q
+  within-block Forward some q found = ap (behind pos) whole ∙ behind-front pos front (f b ++ back) apart.0 ∙ behind-some pos q (f b) back found
+  within-block Backward some q found = ap (before pos) whole ∙ before-some pos q front (f b) back some apart.0 (omega (arith, here)) found
+
+  into-block : (way : Way) (p : ℕ) (x : Block) → beside way pos (f b) ≡ None → block_beside way bs k ≡ Some x → count_by (holds p) (f x) ≡ 1 → beside way pos (flat_map f bs) ≡ entered way (f x)
+  into-block Forward p x none at some =
+      forward-end none ∙ ap (λ xs. first (flat_map f xs)) (drop-at (suc k) bs x (next-at (Some x) at)) ∙ first-append (f x) (flat_map f (drop (suc k + 1) bs)) p (omega (arith, some))
+  into-block Backward p x none at some = backward-end none ∙ last-by k p x at some
+
+  out-of-blocks : (way : Way) → beside way pos (f b) ≡ None → block_beside way bs k ≡ None → beside way pos (flat_map f bs) ≡ None
+  out-of-blocks Forward none at = forward-end none ∙ ap (λ xs. first (flat_map f xs)) (drop-none (suc k) bs (next-at None at))
+  out-of-blocks Backward none at = let inside = slice_get_within bs k b there in backward-end none ∙ none-by k (omega (arith, inside)) at
+
+-- what law says how often a position is covered, in all blocks and in one
+
+abbrev pub EveryOnce : Type 0
+EveryOnce = (s : BufferValue) (objects : ObjectLists) (files : Data) (pos : ℕ) → IsText s.text → IsAccessible s.text pos → count_by (holds pos) (all_ranges s objects files) ≡ 1
+
+abbrev pub BlockOnce : Type 0
+BlockOnce = (s : BufferValue) (objects : ObjectLists) (files : Data) (b : Block) (pos : ℕ) → IsText s.text → IsAmong (blocks_in files.classes s) b
+    → b.start ≤ pos → pos < b.end → count_by (holds pos) (block_ranges s objects files b) ≡ 1
+
+-- a step from a block of a view that holds a position
+module _ (every : EveryOnce) (once : BlockOnce) (v : View) (pos : ℕ) (b : Block) (text : IsText (meaning v.state.now).text) (place : IsAccessible (meaning v.state.now).text pos) (held : HoldsPosition pos (view_blocks v) b) (way : Way) (ranges : List Range) (are : ranges ≡ view_ranges v b) where
+  abbrev pub landing : Option ℕ
+  landing = stepped way (meaning v.state.now) v.objects.now (files_of v) pos
+
+  all : count_by (holds pos) (flat_map (view_ranges v) (view_blocks v)) ≡ 1
+  all = every (meaning v.state.now) v.objects.now (files_of v) pos text place
+
+  within : (x : Block) (p : ℕ) → IsAmong (view_blocks v) x → x.start ≤ p → p < x.end → count_by (holds p) (view_ranges v x) ≡ 1
+  within x p among low high = once (meaning v.state.now) v.objects.now (files_of v) x p text among low high
+
+  mine : count_by (holds pos) (view_ranges v b) ≡ 1
+  mine = within b pos held.among held.from held.below
+
+  beside-is : (o : Option ℕ) → beside way pos ranges ≡ o → beside way pos (view_ranges v b) ≡ o
+  beside-is o is = sym (ap (beside way pos) are) ∙ is
+
+  abbrev pub GivesBeside : List Block → Option Block → Type 0
+  GivesBeside bs other = (k : ℕ) → slice_get bs k ≡ Some b → other ≡ block_beside way bs k
+
+  block-is : (bs : List Block) (other o : Option Block) → bs ≡ view_blocks v → GivesBeside bs other → other ≡ o → block_beside way (view_blocks v) held.among.0 ≡ o
+  block-is bs other o same gives is = sym (subst (λ (xs : List Block). GivesBeside xs other) same gives held.among.0 held.among.1) ∙ is
+
+  pub goes-beside : (q : ℕ) → beside way pos ranges ≡ Some q → Some q ≡ landing
+  goes-beside q found =
+      sym (within-block (view_ranges v) (view_blocks v) pos held.among.0 b held.among.1 all mine way (block-some (meaning v.state.now) v.objects.now (files_of v) b) q (beside-is (Some q) found))
+
+  pub goes-nowhere : (bs : List Block) (other : Option Block) → bs ≡ view_blocks v → GivesBeside bs other → beside way pos ranges ≡ None → other ≡ None → None ≡ landing
+  goes-nowhere bs other same gives none is =
+      sym (out-of-blocks (view_ranges v) (view_blocks v) pos held.among.0 b held.among.1 all mine way (beside-is None none) (block-is bs other None same gives is))
+
+  pub goes-on : (bs : List Block) (other : Option Block) (x : Block) → bs ≡ view_blocks v → GivesBeside bs other → beside way pos ranges ≡ None → other ≡ Some x → StandFrom (first_start bs) bs
+      → entered way (view_ranges v x) ≡ landing
+  goes-on bs other x same gives none is stand =
+      let at = block-is bs other (Some x) same gives is in
+      let among = among-beside way held.among.0 (view_blocks v) x at in
+      let low : x.start ≤ x.start = omega arith in
+      let some = stand-some (first_start (view_blocks v)) among.0 (view_blocks v) x (subst (λ (xs : List Block). StandFrom (first_start xs) xs) same stand) among.1 in
+      sym (into-block (view_ranges v) (view_blocks v) pos held.among.0 b held.among.1 all mine way x.start x (beside-is None none) at (within x x.start among low some))

@@ -1,5 +1,5 @@
 -- Two lines, and the ranges of their items in visual order.
-use Rattle.std.specs.Prelude.{ℕ, ◌+◌, true, List, [], ◌∷◌, map}
+use Rattle.std.specs.Prelude.{ℕ, ◌+◌, Bool, true, false, List, [], ◌∷◌, map}
 use Rattle.rd_base.specs.Faces.{plain}
 use Rattle.rd_base.specs.Glyphs.{blanks}
 use Rattle.rd_props.specs.Buffers.{BufferValue}
@@ -34,19 +34,21 @@ left_block = record { start = 1; end = 6; base = 0 }
 abbrev pub ranges_in : BufferValue → Block → List Range
 ranges_in s b = block_ranges s no_objects files b
 
--- an item of one position, at an offset and in a column of its row
-abbrev pub begin : ℕ → ℕ → Begin
-begin offset column = record { from = offset; to = offset + 1; column = column }
+-- an item, by the offsets from which and to which it covers, and its column
+abbrev pub item : ℕ → ℕ → ℕ → Begin
+item from to column = record { from = from; to = to; column = column }
 
--- the row of the first line in a window of twelve columns
+-- the row of a block that starts at a position, in a window of twelve columns, in which these items begin
+abbrev pub row_of : Bool → ℕ → List Begin → EntryMeaning
+row_of reversed start begins = record { start = start; number = 0; row = record { cells = blanks 12 plain; begins = begins; reversed = reversed; ends_block = true } }
+
+-- the rows of a block that starts at 5, read from the left edge and from the right edge
+abbrev pub row_from_the_left : List Begin → List EntryMeaning
+row_from_the_left begins = row_of false 5 begins ∷ []
+
+abbrev pub row_from_the_right : List Begin → List EntryMeaning
+row_from_the_right begins = row_of true 5 begins ∷ []
+
+-- the row of the first line
 abbrev pub right_row : EntryMeaning
-right_row = record {
-  start = 1;
-  number = 0;
-  row = record {
-    cells = blanks 12 plain;
-    begins = begin 0 0 ∷ begin 1 1 ∷ begin 2 2 ∷ begin 4 3 ∷ begin 3 4 ∷ begin 5 5 ∷ [];
-    reversed = true;
-    ends_block = true;
-  };
-}
+right_row = row_of true 1 (item 0 1 0 ∷ item 1 2 1 ∷ item 2 3 2 ∷ item 4 5 3 ∷ item 3 4 4 ∷ item 5 6 5 ∷ [])

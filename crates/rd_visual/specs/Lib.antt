@@ -2,3 +2,5 @@ pub mod Examples
 pub mod Hits
 pub mod Motion
 pub mod Order
+pub mod Tiles
+pub mod Ways

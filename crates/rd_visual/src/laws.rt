@@ -18,6 +18,7 @@ ghost use Rattle.rd_matrix.specs.declared.block.Block.{Block};
 ghost use Rattle.rd_blocks.specs.Bases.{blocks_in};
 ghost use Rattle.rd_blocks.specs.Sources.{text_source};
 ghost use Rattle.rd_visual.specs.Motion.{all_ranges, backward, base_in, block_ranges, forward, holds, least, left_of, right_of};
+ghost use Rattle.rd_visual.specs.Tiles.{AreTiled};
 ghost use Rattle.rd_visual.specs.Order.{EndsWithEnder, StandBetween, block_items, ordered_ranges};
 ghost use Rattle.rd_visual.specs.declared.range.Range.{Range};
 ghost use Rattle.rd_visual.specs.Hits.{AreRowsAt, begins_at, hit_in, reading_column};
@@ -51,6 +52,15 @@ pub fn items_begin_in_the_window()
     ensures { (c : Cutting) (line : List Element) → 1 ≤ c.shape.width → All (λ r. All (λ b. b.column < c.shape.width) r.row.begins) (rows_of c line) }
 {}
 
+/// The blocks of a text stand one behind the other, and items tile each of them.
+pub fn blocks_are_tiled()
+    ensures { (s : BufferValue) → IsText s.text → AreTiled s }
+{
+    blocks_are_listed();
+    blocks_are_read_whole();
+    items_cover_their_block();
+}
+
 /// Each accessible position, and the accessible end, is covered by exactly one of the items among which one moves, and it is one of
 /// the block that holds it.
 pub fn ranges_cover_once()
@@ -58,9 +68,7 @@ pub fn ranges_cover_once()
     ensures block { (s : BufferValue) (objects : ObjectLists) (files : Data) (b : Block) (pos : ℕ) → IsText s.text → IsAmong (blocks_in files.classes s) b
         → b.start ≤ pos → pos < b.end → count_by (holds pos) (block_ranges s objects files b) ≡ 1 }
 {
-    blocks_are_listed();
-    blocks_are_read_whole();
-    items_cover_their_block();
+    blocks_are_tiled();
 }
 
 /// A step forward and a step backward, in either order, lead to the least position of the item from which they began. So left undoes
@@ -75,9 +83,7 @@ pub fn left_undoes_right()
     ensures left { (s : BufferValue) (objects : ObjectLists) (files : Data) (pos next : ℕ) → IsText s.text → base_in s files next ≡ base_in s files pos
         → left_of s objects files pos ≡ Some next → right_of s objects files next ≡ least pos (all_ranges s objects files) }
 {
-    blocks_are_listed();
-    blocks_are_read_whole();
-    items_cover_their_block();
+    blocks_are_tiled();
 }
 
 /// The ranges of a block's items in visual order are those in order of position, each as often, and these stand one behind the other
@@ -88,9 +94,7 @@ pub fn ranges_are_reordered()
     ensures same { (s : BufferValue) (objects : ObjectLists) (files : Data) (b : Block) (test : Range → Bool)
         → count_by test (block_ranges s objects files b) ≡ count_by test (ordered_ranges s objects files b) }
 {
-    blocks_are_listed();
-    blocks_are_read_whole();
-    items_cover_their_block();
+    blocks_are_tiled();
 }
 
 /// The last of a block's ranges is that of its ender, in order of position and in visual order too. It ends with the block.
@@ -100,8 +104,6 @@ pub fn enders_have_the_last_range()
     ensures visual { (s : BufferValue) (objects : ObjectLists) (files : Data) (b : Block) → IsText s.text → IsAmong (blocks_in files.classes s) b
         → EndsWithEnder b.start b.end (block_items s objects files b) (block_ranges s objects files b) }
 {
-    blocks_are_listed();
-    blocks_are_read_whole();
-    items_cover_their_block();
+    blocks_are_tiled();
     enders_come_last();
 }

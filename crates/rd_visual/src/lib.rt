@@ -7,6 +7,7 @@ mod laws;
 mod motion;
 mod range;
 mod ranges;
+mod way;
 
 pub use hits::{cell_of, position_at};
 pub use laws::{

@@ -1,13 +1,16 @@
 //! Motion in visual order.
-ghost use Rattle.std.specs.Prelude.{◌≡◌, IfOk};
+ghost use Rattle.std.specs.Prelude.{◌≡◌, ℕ, IfOk, slice_get, Some};
 ghost use Rattle.rd_text.specs.Texts.{IsAccessible};
-ghost use Rattle.rd_matrix.specs.Blocks.{HoldsPosition};
+ghost use Rattle.rd_matrix.specs.Blocks.{HoldsPosition, IsAmong};
+ghost use Rattle.rd_matrix.specs.Sources.{IsSource};
 ghost use Rattle.rd_props.specs.Buffers.{meaning};
-ghost use Rattle.rd_visual.specs.Motion.{backward, files_of, forward, left_of, right_of, view_blocks};
+ghost use Rattle.rd_visual.specs.Motion.{files_of, left_of, right_of, view_blocks};
+ghost use Rattle.rd_visual.specs.Ways.{block_beside, sideways, stepped};
 
 use crate::laws::ranges_cover_once;
-use crate::range::{before, behind, first, last};
+use crate::range::{beside, entered};
 use crate::ranges::ranges_of;
+use crate::way::Way;
 use rd_base::{Memory, Pos};
 use rd_blocks::{Blocks, accessible_positions_lie_in_blocks};
 use rd_matrix::{Block, BlockSource};
@@ -24,13 +27,7 @@ pub fn right(alloc: Global, view: &View, pos: Pos) -> Result<Option<Pos>, Memory
     requires { IsAccessible view.now.state.now.text pos }
     ensures { IfOk result (λ found. found ≡ right_of (meaning view.now.state.now) view.now.objects.now (files_of view.now) pos) }
 {
-    accessible_positions_lie_in_blocks();
-    let mut source = Blocks::new(*view);
-    let block = source.block_of(alloc, pos)?;
-    match block.base {
-        0 => step_forward(alloc, view, &mut source, &block, pos),
-        _ => step_backward(alloc, view, &mut source, &block, pos),
-    }
+    sideways(alloc, view, Way::Forward, pos)
 }
 
 /// One step to the left: where a step to the right goes to the item behind it goes to the one before, and where that goes to the
@@ -39,65 +36,69 @@ pub fn left(alloc: Global, view: &View, pos: Pos) -> Result<Option<Pos>, Memory>
     requires { IsAccessible view.now.state.now.text pos }
     ensures { IfOk result (λ found. found ≡ left_of (meaning view.now.state.now) view.now.objects.now (files_of view.now) pos) }
 {
+    sideways(alloc, view, Way::Backward, pos)
+}
+
+/// One step to a side: this way in a block that is read from the left edge, and the other way in one that is read from the right
+/// edge.
+fn sideways(alloc: Global, view: &View, way: Way, pos: Pos) -> Result<Option<Pos>, Memory>
+    requires { IsAccessible view.now.state.now.text pos }
+    ensures { IfOk result (λ found. found ≡ sideways way (meaning view.now.state.now) view.now.objects.now (files_of view.now) pos) }
+{
     accessible_positions_lie_in_blocks();
     let mut source = Blocks::new(*view);
     let block = source.block_of(alloc, pos)?;
-    match block.base {
-        0 => step_backward(alloc, view, &mut source, &block, pos),
-        _ => step_forward(alloc, view, &mut source, &block, pos),
-    }
+    step(
+        alloc,
+        view,
+        &mut source,
+        &block,
+        way.in_block(block.base),
+        pos,
+    )
 }
 
-/// The least position of the item behind the one that covers a position of a block.
-fn step_forward<B: BlockSource>(
+/// The least position of the item to which a step leads from the one that covers a position of a block.
+fn step<B: BlockSource>(
     alloc: Global,
     view: &View,
     source: &mut B,
     block: &Block,
+    way: Way,
     pos: Pos,
 ) -> Result<Option<Pos>, Memory>
     requires source { (B.meaning source.old).blocks ≡ view_blocks view.now }
     requires block { HoldsPosition pos (view_blocks view.now) block.now }
     requires place { IsAccessible view.now.state.now.text pos }
-    ensures { IfOk result (λ found. found ≡ forward (meaning view.now.state.now) view.now.objects.now (files_of view.now) pos) }
+    ensures { IfOk result (λ found. found ≡ stepped way (meaning view.now.state.now) view.now.objects.now (files_of view.now) pos) }
 {
     ranges_cover_once();
     let state = view.state;
     let _begin = state.text.begin();
     let ranges = ranges_of(alloc, view, block)?;
-    if let Some(beside) = behind(&ranges, pos) {
-        return Ok(Some(beside));
+    if let Some(found) = beside(&ranges, way, pos) {
+        return Ok(Some(found));
     }
-    let Some(other) = source.next(alloc, block)? else {
+    let Some(other) = block_beside(alloc, source, block, way)? else {
         return Ok(None);
     };
     let others = ranges_of(alloc, view, &other)?;
-    Ok(first(&others))
+    Ok(entered(&others, way))
 }
 
-/// The least position of the item before the one that covers a position of a block.
-fn step_backward<B: BlockSource>(
+/// The block to which a step leads from one of a source's blocks, and None where this is the last on the way.
+fn block_beside<B: BlockSource>(
     alloc: Global,
-    view: &View,
     source: &mut B,
     block: &Block,
-    pos: Pos,
-) -> Result<Option<Pos>, Memory>
-    requires source { (B.meaning source.old).blocks ≡ view_blocks view.now }
-    requires block { HoldsPosition pos (view_blocks view.now) block.now }
-    requires place { IsAccessible view.now.state.now.text pos }
-    ensures { IfOk result (λ found. found ≡ backward (meaning view.now.state.now) view.now.objects.now (files_of view.now) pos) }
+    way: Way,
+) -> Result<Option<Block>, Memory>
+    requires { IsAmong (B.meaning source.old).blocks block.now }
+    ensures next { IfOk result (λ other. (k : ℕ) → slice_get (B.meaning source.old).blocks k ≡ Some block.now → other ≡ block_beside way (B.meaning source.old).blocks k) }
+    ensures source { IsSource (B.meaning source.old) }
 {
-    ranges_cover_once();
-    let state = view.state;
-    let _begin = state.text.begin();
-    let ranges = ranges_of(alloc, view, block)?;
-    if let Some(beside) = before(&ranges, pos) {
-        return Ok(Some(beside));
+    match way {
+        Way::Forward => source.next(alloc, block),
+        Way::Backward => source.prev(alloc, block),
     }
-    let Some(other) = source.prev(alloc, block)? else {
-        return Ok(None);
-    };
-    let others = ranges_of(alloc, view, &other)?;
-    Ok(last(&others))
 }

@@ -1,7 +1,9 @@
 //! The ranges of items, in a list.
 ghost use Rattle.std.specs.Prelude.{◌≡◌};
-ghost use Rattle.rd_visual.specs.Motion.{before, behind, first, last};
+ghost use Rattle.rd_visual.specs.Motion.{first, last};
+ghost use Rattle.rd_visual.specs.Ways.{beside, entered};
 
+use crate::way::Way;
 use rd_base::{ListOf, Pos};
 
 /// The range of an item: it covers the positions from `from` to `to - 1`.
@@ -23,32 +25,31 @@ impl Range {
     }
 }
 
-/// The least position of the item right behind the one that covers a position, and None where this is the last.
-pub fn behind(ranges: &ListOf<Range>, pos: Pos) -> Option<Pos>
-    ensures { result ≡ behind pos ranges.now }
+/// The least position of the item to which a step leads from the one that covers a position, and None where this is the last on the
+/// way.
+pub fn beside(ranges: &ListOf<Range>, way: Way, pos: Pos) -> Option<Pos>
+    ensures { result ≡ beside way pos ranges.now }
 {
     for place in 1..ranges.len() {
-        if ranges.at(place - 1).holds(pos) {
-            return Some(ranges.at(place).from);
+        if ranges.at(way.origin(place)).holds(pos) {
+            return Some(ranges.at(way.opposite().origin(place)).from);
         }
     }
     None
 }
 
-/// The least position of the item right before the one that covers a position, and None where this is the first.
-pub fn before(ranges: &ListOf<Range>, pos: Pos) -> Option<Pos>
-    ensures { result ≡ before pos ranges.now }
+/// The least position of the item that is the first on the way.
+pub fn entered(ranges: &ListOf<Range>, way: Way) -> Option<Pos>
+    ensures { result ≡ entered way ranges.now }
 {
-    for place in 1..ranges.len() {
-        if ranges.at(place).holds(pos) {
-            return Some(ranges.at(place - 1).from);
-        }
+    match way {
+        Way::Forward => first(ranges),
+        Way::Backward => last(ranges),
     }
-    None
 }
 
 /// The least position of the first item.
-pub fn first(ranges: &ListOf<Range>) -> Option<Pos>
+fn first(ranges: &ListOf<Range>) -> Option<Pos>
     ensures { result ≡ first ranges.now }
 {
     if ranges.is_empty() {
@@ -58,7 +59,7 @@ pub fn first(ranges: &ListOf<Range>) -> Option<Pos>
 }
 
 /// The least position of the last item.
-pub fn last(ranges: &ListOf<Range>) -> Option<Pos>
+fn last(ranges: &ListOf<Range>) -> Option<Pos>
     ensures { result ≡ last ranges.now }
 {
     let place = ranges.len().checked_sub(1)?;

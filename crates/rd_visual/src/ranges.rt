@@ -5,10 +5,11 @@ ghost use Rattle.rd_matrix.specs.Blocks.{IsAmong};
 ghost use Rattle.rd_stack.specs.Lines.{item_class, item_code, item_turns};
 ghost use Rattle.rd_visual.specs.Motion.{range_by, ranges_in_turn, view_blocks, view_ranges};
 
+use crate::laws::blocks_are_tiled;
 use crate::range::Range;
 use rd_base::{Class, ListOf, Memory, Pos};
 use rd_blocks::buffers_are_sources;
-use rd_items::{Item, Items, blocks_are_listed, blocks_are_read_whole, items_cover_their_block};
+use rd_items::{Item, Items};
 use rd_levels::{Turn, turns_of};
 use rd_matrix::Block;
 use rd_props::View;
@@ -20,9 +21,7 @@ pub fn ranges_of(alloc: Global, view: &View, block: &Block) -> Result<ListOf<Ran
     requires { IsAmong (view_blocks view.now) block.now }
     ensures { IfOk result (λ ranges. ranges ≡ view_ranges view.now block.now) }
 {
-    blocks_are_listed();
-    blocks_are_read_whole();
-    items_cover_their_block();
+    blocks_are_tiled();
     buffers_are_sources();
     let state = view.state;
     let _begin = state.text.begin();

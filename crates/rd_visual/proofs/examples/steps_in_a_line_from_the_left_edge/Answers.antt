@@ -6,17 +6,8 @@ pub returns-clause-ranges : goal.returns-clause-ranges
 unfolding char_width
 returns-clause-ranges c = refl
 
-pub returns-clause-into : goal.returns-clause-into
-returns-clause-into c = refl
-
-pub returns-clause-inside : goal.returns-clause-inside
-returns-clause-inside c = refl
-
-pub returns-clause-behind : goal.returns-clause-behind
-returns-clause-behind c = refl
-
-pub returns-clause-end : goal.returns-clause-end
-returns-clause-end c = refl
+pub returns-clause-forward : goal.returns-clause-forward
+returns-clause-forward c = refl
 
 pub returns-clause-base : goal.returns-clause-base
 returns-clause-base c = refl

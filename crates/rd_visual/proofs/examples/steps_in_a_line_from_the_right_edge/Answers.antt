@@ -18,11 +18,5 @@ returns-clause-ranges c = refl
 pub returns-clause-backward : goal.returns-clause-backward
 returns-clause-backward c = refl
 
-pub returns-clause-again : goal.returns-clause-again
-returns-clause-again c = refl
-
 pub returns-clause-forward : goal.returns-clause-forward
 returns-clause-forward c = refl
-
-pub returns-clause-edge : goal.returns-clause-edge
-returns-clause-edge c = refl

@@ -13,14 +13,8 @@ use Rattle.rd_visual.proofs.ranges.ranges_of.Goals as goal
 pub new-requires : goal.new-requires
 new-requires c =
     let v = c.args.view.now in
-    start-in
-    (record {
-      listed = c.blocks_are_listed.ensures.blocks;
-      adjoin = c.blocks_are_listed.ensures.adjoin;
-      read = c.blocks_are_read_whole.ensures.reading;
-      size = c.blocks_are_read_whole.ensures.length;
-      tile = c.items_cover_their_block.ensures.tile;
-    }) (meaning v.state.now) v.objects.now (files_of v) c.begin-begin.ensures.right c.args.block.now c.requires
+    let s = meaning v.state.now in
+    start-in s v.objects.now (files_of v) (c.blocks_are_tiled.ensures s c.begin-begin.ensures.right) c.args.block.now c.requires
 
 pub turns_of_items-requires : goal.turns_of_items-requires
 turns_of_items-requires c =
@@ -31,15 +25,10 @@ turns_of_items-requires c =
 pub in_turn-requires-clause-fits : goal.in_turn-requires-clause-fits
 in_turn-requires-clause-fits c =
     let v = c.args.view.now in
+    let s = meaning v.state.now in
+    let text = c.begin-begin.ensures.right in
     subst (All (λ (x : Item). x.from < x.to → c.args.block.now.start + x.to < 4294967296)) (sym c.in_ok-items.ensures.value)
-    (items-fit
-    (record {
-      listed = c.blocks_are_listed.ensures.blocks;
-      adjoin = c.blocks_are_listed.ensures.adjoin;
-      read = c.blocks_are_read_whole.ensures.reading;
-      size = c.blocks_are_read_whole.ensures.length;
-      tile = c.items_cover_their_block.ensures.tile;
-    }) (meaning v.state.now) v.objects.now (files_of v) c.begin-begin.ensures.right c.args.block.now c.requires)
+    (items-fit s v.objects.now (files_of v) (c.blocks_are_tiled.ensures s text) text c.args.block.now c.requires)
 
 pub returns : goal.returns
 returns c =

@@ -1,0 +1,6 @@
+use Rattle.std.proofs.Common.{◌≡◌, ◌-◌, drop}
+use Rattle.rd_visual.specs.Ways.{beside}
+use Rattle.rd_visual.proofs.range.beside.Given as goal
+
+abbrev pub invariant-loop-place : goal.invariant-loop-place
+invariant-loop-place l = beside l.way l.pos (drop (l.place - 1) l.ranges) ≡ beside l.way l.pos l.ranges

@@ -1,0 +1,46 @@
+//! The two ways of a step in visual order.
+
+/// Where a step leads: to the item behind the one that covers a position, or to the item before it.
+#[derive(Clone, Copy)]
+pub enum Way {
+    Forward,
+    Backward,
+}
+
+impl Way {
+    ghost use Rattle.std.specs.Prelude.{◌≡◌, ◌≤◌};
+    ghost use Rattle.rd_visual.specs.Ways.{opposite, origin, way_in};
+
+    /// The other way.
+    pub fn opposite(self) -> Way
+        ensures { result ≡ opposite self }
+    {
+        match self {
+            Way::Forward => Way::Backward,
+            Way::Backward => Way::Forward,
+        }
+    }
+
+    /// The way in a block of a base level: this one in a block that is read from the left edge, and the other one in a block that is
+    /// read from the right edge.
+    pub fn in_block(self, base: u8) -> Way
+        ensures { result ≡ way_in self base }
+    {
+        match base {
+            0 => self,
+            _ => self.opposite(),
+        }
+    }
+
+    /// Of a place and the place before it, the one from which a step this way leads to the other.
+    pub fn origin(self, place: usize) -> usize
+        requires { 1 ≤ place }
+        ensures value { result ≡ origin self place }
+        ensures within { result ≤ place }
+    {
+        match self {
+            Way::Forward => place - 1,
+            Way::Backward => place,
+        }
+    }
+}
