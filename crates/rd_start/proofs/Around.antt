@@ -10,7 +10,8 @@ use Rattle.rd_matrix.specs.declared.block.Block.{Block}
 use Rattle.rd_rows.specs.Rows.{RowMeaning}
 use Rattle.rd_rows.specs.Shapes.{IsShape}
 use Rattle.rd_start.specs.Chosen.{anchor_row, begins_item, row_in_block}
-use Rattle.rd_start.specs.Strips.{HasPoint, IsAsked, IsBelow, IsPaid, IsPaidOf, IsStrip, IsStripOf, all_costs, cost_in, home_row, line_of, point_row, rows_in}
+use Rattle.rd_start.specs.Strips.{HasPoint, IsAsked, IsPaid, IsPaidOf, IsPushed, IsStrip, IsStripOf, all_costs, cost_in, home_row, line_of, point_row, rows_in}
+use Rattle.rd_start.specs.declared.strip.Edge.TheVariants.{Bottom}
 use Rattle.rd_start.specs.declared.strip.Line.{Line}
 use Rattle.rd_start.specs.declared.strip.Strip.{Strip}
 use Rattle.rd_start.specs.declared.strip.Sweep.{Sweep}
@@ -136,7 +137,7 @@ pub record Made (m : SourceValues) (sweep : Sweep) (b : Block) (empty new : Stri
   pub blocks : empty.blocks.items ≡ []
   pub lines : empty.lines.items ≡ []
   pub home : empty.home ≡ row_in_block sweep.anchor b.start rows
-  pub below : IsBelow empty new b rows
+  pub below : IsPushed Bottom empty new b rows
 
 pub made-sweep : (m : SourceValues) (sweep : Sweep) (b : Block) (empty new : Strip) (rows : List RowMeaning) → Made m sweep b empty new rows → new.sweep ≡ sweep
 made-sweep m sweep b empty new rows h = h.below.sweep ∙ h.sweep_is

@@ -2,16 +2,19 @@
 use Rattle.std.proofs.Common.{◌≡◌, ℕ, ◌+◌, ◌-◌, ◌^◌, ◌<◌, ◌≤◌, Bool, true, List, [], ◌∷◌, ◌++◌, length, map, None, Some, refl, sym, ap, subst, ◌∙◌, arith}
 use Rattle.std.proofs.lemmas.List.{append-nil, append_assoc, length-append, length-map, map-append}
 use Rattle.std.proofs.lemmas.Option.{slice_get-get_or}
-use Rattle.std.specs.List.{slice_get}
-use Rattle.rd_matrix.proofs.Counting.{all-append, any-range, count-cons, length-numbered}
+use Rattle.std.specs.List.{AllByRecursion, slice_get}
+use Rattle.rd_matrix.proofs.Counting.{all-append, any-range, length-numbered}
 use Rattle.rd_matrix.specs.Blocks.{IsAmong, block_before}
-use Rattle.rd_matrix.specs.Entries.{all_rows, entries_of}
+use Rattle.rd_matrix.specs.Entries.{EntryMeaning, all_rows, entries_of}
 use Rattle.rd_matrix.specs.Sources.{SourceValues}
 use Rattle.rd_matrix.specs.declared.block.Block.{Block}
-use Rattle.rd_start.specs.Strips.{HaveRows, IsPaidOf, IsStripOf, all_costs, cost_in, count_in, home_row, line_of, rows_in}
+use Rattle.rd_rows.specs.Rows.{RowMeaning}
+use Rattle.rd_start.specs.Strips.{HaveRows, IsPaidOf, IsStripOf, all_costs, cost_in, count_in, home_row, joined_at, line_of, moved_at, rows_in}
+use Rattle.rd_start.specs.declared.strip.Edge.{Edge}
+use Rattle.rd_start.specs.declared.strip.Edge.TheVariants.{Bottom, Top}
 use Rattle.rd_start.specs.declared.strip.Line.{Line}
 use Rattle.rd_start.specs.declared.strip.Sweep.{Sweep}
-use Rattle.rd_start.proofs.Blocks.{count-append, some-row}
+use Rattle.rd_start.proofs.Blocks.{some-row}
 use Rattle.rd_start.proofs.Costs.{costs-more, costs-piece, have-more}
 use Rattle.rd_start.proofs.Lists.{Ends, each-append, ends, slice_get-behind, slice_get-front}
 
@@ -79,47 +82,50 @@ pub pieces-above : (all before bs after front : List Block) (b : Block) → all 
 pieces-above all before bs after front b pieces is =
     pieces ∙ (ap (λ ys. ys ++ (bs ++ after)) is ∙ append_assoc front (b ∷ []) (bs ++ after))
 
--- below
-pub strip-below : (m : SourceValues) (sweep : Sweep) (bs : List Block) (ls : List Line) (at : ℕ) (b : Block) (rest : List Block) → (h : IsStripOf m sweep bs ls at) → h.after ≡ b ∷ rest
-    → b.end < 2 ^ 32 → IsStripOf m sweep (bs ++ (b ∷ [])) (ls ++ map (line_of sweep.point) (entries_of (rows_in m sweep) b)) at
-strip-below m sweep bs ls at b rest h behind small =
-    let rows = λ (c : Block). rows_in m sweep c in
-    let line = line_of sweep.point in
-    record {
-      source = h.source;
-      shape = h.shape;
-      point = h.point;
-      before = h.before;
-      after = rest;
-      pieces = pieces-below m.blocks h.before bs h.after rest b h.pieces behind;
-      some = omega (arith, length-append bs (b ∷ []));
-      small = each-append (λ (x : Block). x.end < 2 ^ 32) bs (b ∷ []) h.small (small, tt);
-      lines = ap (λ ys. ys ++ map line (entries_of rows b)) h.lines
-          ∙ (sym (map-append line (all_rows rows bs) (entries_of rows b))
-          ∙ ap (map line) (ap (λ ys. all_rows rows bs ++ ys) (sym (append-nil (entries_of rows b))) ∙ sym (all-append rows bs (b ∷ []))));
-      home = h.home;
-      inside = omega (arith, h.inside, length-append ls (map line (entries_of rows b)));
-    }
+-- lists to which more was added at an edge
+pub length-joined : {X : Type 0} (edge : Edge) (xs more : List X) → length (joined_at edge xs more) ≡ length xs + length more
+length-joined Top xs more = let size = length-append more xs in omega (arith, size)
+length-joined Bottom xs more = length-append xs more
 
-pub strip-above : (m : SourceValues) (sweep : Sweep) (bs : List Block) (ls : List Line) (at : ℕ) (b : Block) (front : List Block) → (h : IsStripOf m sweep bs ls at) → h.before ≡ front ++ (b ∷ [])
-    → b.end < 2 ^ 32 → IsStripOf m sweep (b ∷ bs) (map (line_of sweep.point) (entries_of (rows_in m sweep) b) ++ ls) (at + length (rows_in m sweep b))
-strip-above m sweep bs ls at b front h before small =
+each-joined : (P : Block → Type 0) (edge : Edge) (bs : List Block) (b : Block) → AllByRecursion P bs → P b → AllByRecursion P (joined_at edge bs (b ∷ []))
+each-joined P Top bs b all here = (here, all)
+each-joined P Bottom bs b all here = each-append P bs (b ∷ []) all (here, tt)
+
+lines-joined : (edge : Edge) (rows : Block → List RowMeaning) (line : EntryMeaning → Line) (bs : List Block) (ls : List Line) (b : Block) → ls ≡ map line (all_rows rows bs)
+    → joined_at edge ls (map line (entries_of rows b)) ≡ map line (all_rows rows (joined_at edge bs (b ∷ [])))
+lines-joined Top rows line bs ls b lines = ap (λ ys. map line (entries_of rows b) ++ ys) lines ∙ sym (map-append line (entries_of rows b) (all_rows rows bs))
+lines-joined Bottom rows line bs ls b lines =
+    ap (λ ys. ys ++ map line (entries_of rows b)) lines
+    ∙ (sym (map-append line (all_rows rows bs) (entries_of rows b))
+    ∙ ap (map line) (ap (λ ys. all_rows rows bs ++ ys) (sym (append-nil (entries_of rows b))) ∙ sym (all-append rows bs (b ∷ []))))
+
+inside-joined : (edge : Edge) (at count : ℕ) (ls more : List Line) → at < length ls → length more ≡ count → moved_at edge at count < length (joined_at edge ls more)
+inside-joined Top at count ls more inside size = omega (arith, length-append more ls)
+inside-joined Bottom at count ls more inside size = omega (arith, length-append ls more)
+
+pub length-lines : (rows : Block → List RowMeaning) (line : EntryMeaning → Line) (b : Block) → length (map line (entries_of rows b)) ≡ length (rows b)
+length-lines rows line b = length-map (entries_of rows b) line ∙ length-numbered b.start 0 (rows b)
+
+-- one more block at an edge
+pub strip-joined : (edge : Edge) (m : SourceValues) (sweep : Sweep) (bs : List Block) (ls : List Line) (at : ℕ) (b : Block) (before after : List Block) → IsStripOf m sweep bs ls at
+    → m.blocks ≡ before ++ (joined_at edge bs (b ∷ []) ++ after) → count_in m sweep before + moved_at edge at (length (rows_in m sweep b)) ≡ home_row m sweep → b.end < 2 ^ 32
+    → IsStripOf m sweep (joined_at edge bs (b ∷ [])) (joined_at edge ls (map (line_of sweep.point) (entries_of (rows_in m sweep) b))) (moved_at edge at (length (rows_in m sweep b)))
+strip-joined edge m sweep bs ls at b before after h pieces home small =
     let rows = λ (c : Block). rows_in m sweep c in
     let line = line_of sweep.point in
-    let count = ap (λ ys. length (all_rows rows ys)) before ∙ (count-append rows front (b ∷ []) ∙ ap (λ n. length (all_rows rows front) + n) (count-cons rows b [])) in
-    let size = length-map (entries_of rows b) line ∙ length-numbered b.start 0 (rows b) in
+    let size = length-joined edge bs (b ∷ []) in
     record {
       source = h.source;
       shape = h.shape;
       point = h.point;
-      before = front;
-      after = h.after;
-      pieces = pieces-above m.blocks h.before bs h.after front b h.pieces before;
-      some = omega arith;
-      small = (small, h.small);
-      lines = ap (λ ys. map line (entries_of rows b) ++ ys) h.lines ∙ sym (map-append line (entries_of rows b) (all_rows rows bs));
-      home = omega (arith, h.home, count);
-      inside = omega (arith, h.inside, size, length-append (map line (entries_of rows b)) ls);
+      before = before;
+      after = after;
+      pieces = pieces;
+      some = omega (arith, size);
+      small = each-joined (λ (x : Block). x.end < 2 ^ 32) edge bs b h.small small;
+      lines = lines-joined edge rows line bs ls b h.lines;
+      home = home;
+      inside = inside-joined edge at (length (rows b)) ls (map line (entries_of rows b)) h.inside (length-lines rows line b);
     }
 
 -- what was paid for a strip is not more than all blocks with such rows cost

@@ -1,10 +1,9 @@
 -- Places in joined lists, and searches there.
 use Rattle.std.proofs.Common.{◌≡◌, ℕ, zero, suc, ◌+◌, ◌-◌, ◌<◌, ◌≤◌, inl, inr, Bool, true, false, cond, ◌||◌, not, leb, List, [], ◌∷◌, ◌++◌, length, map, take, drop, get_or, Option, None, Some, All, refl, sym, ap, ◌∙◌, arith, zero-add}
-use Rattle.std.proofs.Math.Bool.{or-true}
 use Rattle.std.proofs.Math.Nat.{add-suc, add-zero, suc-add}
 use Rattle.std.proofs.Math.Numerals.{add-one}
-use Rattle.std.proofs.lemmas.Bool.{cases_Bool, cases_eq, le-ltb, leb-true, lt-ltb}
-use Rattle.std.specs.List.{AllByRecursion, find, list_any, position, position_or_len, range_with_len, slice_get, count_by}
+use Rattle.std.proofs.lemmas.Bool.{cases_Bool, le-ltb, leb-true, lt-ltb}
+use Rattle.std.specs.List.{AllByRecursion, find, list_any, position, position_or_len, slice_get, count_by}
 use Rattle.std.proofs.lemmas.List.{drop_more, length-take-le, take-append-drop, take_all}
 use Rattle.std.proofs.lemmas.List.Folds.{find-append}
 use Rattle.std.specs.Option.{option_or}

@@ -12,7 +12,8 @@ use Rattle.rd_rows.specs.Shapes.{ShapeValues}
 use Rattle.rd_start.specs.Chosen.{anchor_at, chosen_of, forced_point, places_of, row_of}
 use Rattle.rd_start.specs.Near.{is_near, near_costs}
 use Rattle.rd_start.specs.Starts.{around, centred, following, moved, scrolled, suits}
-use Rattle.rd_start.specs.Strips.{HasPoint, IsFor, IsPaid, IsStrip, BeginsAbove, Between, all_costs, centred_chosen, count_in, first_row, home_row, moved_row, point_row, rows_in}
+use Rattle.rd_start.specs.Strips.{HasPoint, IsFor, IsPaid, IsStrip, AsksAt, BeginsAbove, Between, all_costs, centred_chosen, count_in, first_row, home_row, moved_row, point_row, rows_in}
+use Rattle.rd_start.specs.declared.strip.Edge.TheVariants.{Bottom, Top}
 use Rattle.rd_start.specs.declared.strip.Strip.{Strip}
 use Rattle.rd_start.specs.declared.strip.Sweep.{Sweep}
 use Rattle.rd_start.specs.declared.wanted.Chosen.{Chosen}
@@ -20,7 +21,6 @@ use Rattle.rd_start.specs.declared.wanted.Wanted.{Wanted}
 use Rattle.rd_start.proofs.Choosing.{chosen-forced, chosen-free, follows-found, follows-none, follows-old}
 use Rattle.rd_start.proofs.NearRows.{forced-near, moving-near, old-near, point-near, view-near}
 use Rattle.rd_start.proofs.Growth.{affords}
-use Rattle.rd_start.proofs.Reaching.{AsksAbove, AsksBelow}
 use Rattle.rd_start.proofs.Rows.{find_point, whereabouts}
 use Rattle.rd_start.proofs.Sides.{point-found}
 use Rattle.rd_start.proofs.Suits.{old-is, point-is}
@@ -36,7 +36,7 @@ pub asks-home : (m : SourceValues) (sweep : Sweep) (w : Wanted) → IsFor w swee
 asks-home m sweep w of some = ap (near_of m sweep w) (sym (old-is m w sweep of)) ∙ old-near w (places_of m sweep.shape w) some
 
 -- the view from the old start
-pub asks-view : (m : SourceValues) (s : Strip) (w : Wanted) → IsStrip m s → IsFor w s.sweep → w.forced ≡ false → AsksBelow (near_of m s.sweep w) m s (s.home + w.height)
+pub asks-view : (m : SourceValues) (s : Strip) (w : Wanted) → IsStrip m s → IsFor w s.sweep → w.forced ≡ false → AsksAt Bottom (near_of m s.sweep w) m s (s.home + w.height)
 asks-view m s w h of free = λ k from to.
     let old = old-is m w s.sweep of in
     let home = h.home in
@@ -49,7 +49,7 @@ moves-old m s w h of moves = ap (suits w (places_of m s.sweep.shape w)) (old-is 
 
 -- as far above the old start as it may be moved
 pub asks-far : (m : SourceValues) (s : Strip) (w : Wanted) → IsStrip m s → IsFor w s.sweep → w.forced ≡ false → suits w (places_of m s.sweep.shape w) (first_row m s + s.home) ≡ false
-    → AsksAbove (near_of m s.sweep w) m s w.conservatively
+    → AsksAt Top (near_of m s.sweep w) m s w.conservatively
 asks-far m s w h of free moves = λ k from to.
     let old = old-is m w s.sweep of in
     let home = h.home in
@@ -57,7 +57,7 @@ asks-far m s w h of free moves = λ k from to.
 
 -- and below it
 pub asks-end : (m : SourceValues) (s new : Strip) (w : Wanted) → IsStrip m s → IsStrip m new → new.sweep ≡ s.sweep → IsFor w s.sweep → w.forced ≡ false
-    → suits w (places_of m s.sweep.shape w) (first_row m s + s.home) ≡ false → AsksBelow (near_of m s.sweep w) m new (new.home + w.conservatively + w.height + 1)
+    → suits w (places_of m s.sweep.shape w) (first_row m s + s.home) ≡ false → AsksAt Bottom (near_of m s.sweep w) m new (new.home + w.conservatively + w.height + 1)
 asks-end m s new w h i e of free moves = λ k from to.
     let old = old-is m w s.sweep of in
     let same = ap (home_row m) e in
@@ -85,7 +85,7 @@ asks-scrolled m sweep w of forced some = λ k from to.
     forced-near w (places_of m sweep.shape w) k forced (omega arith) (omega arith)
 
 pub asks-forced : (m : SourceValues) (sweep : Sweep) (s : Strip) (w : Wanted) (start : ℕ) → IsStrip m s → s.sweep ≡ sweep → IsFor w sweep → w.forced ≡ true → start < length s.lines.items
-    → first_row m s + start ≡ moved_row m sweep w.pending → AsksBelow (near_of m sweep w) m s (start + w.height)
+    → first_row m s + start ≡ moved_row m sweep w.pending → AsksAt Bottom (near_of m sweep w) m s (start + w.height)
 asks-forced m sweep s w start h e of forced inside place = λ k from to.
     let old = old-is m w sweep of in
     let new = scrolled-is m sweep w of in
@@ -187,7 +187,7 @@ costs-same kind m a b f = ap (λ (x : ShapeValues). costs_of (λ c. m.cost_of c 
 
 -- the rows above point's
 pub asks-above : (kind : ℕ → Bool) (m : SourceValues) (s : Strip) (w : Wanted) (point row half : ℕ) → IsStrip m s → row < length s.lines.items → first_row m s + row ≡ point_row m s.sweep → half ≤ w.height
-    → point ≡ point_row m s.sweep → Between kind (point - w.height) (point + 1) → AsksAbove kind m s (s.home + half - row)
+    → point ≡ point_row m s.sweep → Between kind (point - w.height) (point + 1) → AsksAt Top kind m s (s.home + half - row)
 asks-above kind m s w point row half h inside place low same asks = λ k from to.
     let home = h.home in
     asks k (omega arith) (omega arith)
@@ -210,18 +210,6 @@ value-centre m shape s new w place chosen e f point row is =
     row ∙ ap (λ n. n - w.height / 2) (ap (λ p. row_of p (all_rows (rows_in m s.sweep) m.blocks)) point ∙ ap (λ (x : ShapeValues). row_of w.point (rows_at m x)) f) in
     is ∙ (ap (λ (ys : List EntryMeaning). record { anchor = anchor_at ys (first_row m new + place); point = w.point }) rows
     ∙ ap (λ n. record { anchor = anchor_at (rows_at m shape) n; point = w.point }) there)
-
-abbrev pub DownFails : SourceValues → Strip → ℕ → ℕ → ℕ → Type 0
-DownFails m old n steps count = (kind : ℕ → Bool) (base : ℕ) → IsPaid kind base m old n → AsksBelow kind m old count → steps ≤ base + all_costs kind m old.sweep
-
-abbrev pub DownPays : SourceValues → Strip → Strip → ℕ → ℕ → ℕ → Type 0
-DownPays m old new n steps count = (kind : ℕ → Bool) (base : ℕ) → IsPaid kind base m old n → AsksBelow kind m old count → IsPaid kind base m new steps
-
-abbrev pub UpFails : SourceValues → Strip → ℕ → ℕ → ℕ → Type 0
-UpFails m old n steps rows = (kind : ℕ → Bool) (base : ℕ) → IsPaid kind base m old n → AsksAbove kind m old rows → steps ≤ base + all_costs kind m old.sweep
-
-abbrev pub UpPays : SourceValues → Strip → Strip → ℕ → ℕ → ℕ → Type 0
-UpPays m old new n steps rows = (kind : ℕ → Bool) (base : ℕ) → IsPaid kind base m old n → AsksAbove kind m old rows → IsPaid kind base m new steps
 
 -- what was paid, where it may be as much again
 pub pays : (kind : ℕ → Bool) (base : ℕ) (m : SourceValues) (sweep : Sweep) (s : Strip) (steps : ℕ) → s.sweep ≡ sweep → IsPaid kind base m s steps → steps ≤ base + all_costs kind m sweep

@@ -11,8 +11,9 @@ use Rattle.rd_matrix.specs.declared.block.Block.{Block}
 use Rattle.rd_rows.specs.Rows.{RowMeaning}
 use Rattle.rd_rows.specs.Shapes.{IsShape}
 use Rattle.rd_start.specs.Chosen.{begins_item}
-use Rattle.rd_start.specs.Strips.{IsStripOf, count_in, home_row, line_of, point_row, rows_in}
+use Rattle.rd_start.specs.Strips.{IsStrip, IsStripOf, count_in, first_row, home_row, line_of, point_row, rows_in}
 use Rattle.rd_start.specs.declared.strip.Line.{Line}
+use Rattle.rd_start.specs.declared.strip.Strip.{Strip}
 use Rattle.rd_start.specs.declared.strip.Sweep.{Sweep}
 use Rattle.rd_start.proofs.Blocks.{Fit, any-fit, end-append, fit, fit-back, fit-front}
 use Rattle.rd_start.proofs.Tests.{above-range, below-range, in-range}
@@ -59,6 +60,14 @@ total-is m sweep bs ls at h =
     let whole = ap (all_rows rows) h.pieces ∙ (all-append rows h.before (bs ++ h.after) ∙ ap (λ ys. front ++ ys) (all-append rows bs h.after)) in
     let count = ap length h.lines ∙ length-map middle (line_of sweep.point) in
     omega (arith, count, h.home, ap length whole, length-append front (middle ++ back), length-append middle back)
+
+-- a strip's rows are rows of its source
+pub all-inside : (m : SourceValues) (s : Strip) → IsStrip m s → first_row m s + length s.lines.items ≤ count_in m s.sweep m.blocks
+all-inside m s h =
+    let z = parts m s.sweep s.blocks.items s.lines.items s.home h in
+    let from = z.from in
+    let total = z.total in
+    omega arith
 
 abbrev pub find_point : List Line → Option ℕ
 find_point ls = position (λ (line : Line). line.has_point) ls

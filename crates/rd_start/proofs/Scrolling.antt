@@ -1,13 +1,13 @@
 -- A start that is scrolled.
-use Rattle.std.proofs.Common.{◌≡◌, ℕ, ◌+◌, ◌-◌, ◌<◌, ◌≤◌, inl, inr, Bool, true, false, min, max, length, ℤ, pos, negsuc, refl, sym, arith}
+use Rattle.std.proofs.Common.{◌≡◌, ℕ, ◌+◌, ◌-◌, ◌<◌, inl, inr, Bool, true, false, min, max, length, ℤ, pos, negsuc, refl, sym, arith}
 use Rattle.std.specs.Prelude.{int_lt, unsigned_abs}
 use Rattle.std.proofs.lemmas.Bool.{ltb-true, false≢true}
 use Rattle.rd_matrix.specs.Sources.{SourceValues}
 use Rattle.rd_start.specs.Starts.{moved}
-use Rattle.rd_start.specs.Strips.{IsStrip, BeginsAbove, Between, Reaches, count_in, first_row, home_row, moved_row}
+use Rattle.rd_start.specs.Strips.{IsStrip, AsksAt, BeginsAbove, Between, Reaches, first_row, home_row, moved_row}
+use Rattle.rd_start.specs.declared.strip.Edge.TheVariants.{Bottom, Top}
 use Rattle.rd_start.specs.declared.strip.Strip.{Strip}
-use Rattle.rd_start.proofs.Reaching.{AsksAbove, AsksBelow}
-use Rattle.rd_start.proofs.Rows.{parts}
+use Rattle.rd_start.proofs.Rows.{all-inside}
 
 moved-up : (z : ℤ) (row : ℕ) → int_lt z (pos 0) ≡ true → moved z row ≡ row - unsigned_abs z
 moved-up (pos n) row e = absurd (omega (arith, ltb-true n 0 e))
@@ -16,14 +16,6 @@ moved-up (negsuc n) row e = omega arith
 moved-down : (z : ℤ) (row : ℕ) → int_lt z (pos 0) ≡ false → moved z row ≡ row + unsigned_abs z
 moved-down (pos n) row e = refl
 moved-down (negsuc n) row e = absurd (false≢true (sym e))
-
--- a strip's rows are rows of its source
-pub all-inside : (m : SourceValues) (s : Strip) → IsStrip m s → first_row m s + length s.lines.items ≤ count_in m s.sweep m.blocks
-all-inside m s h =
-    let z = parts m s.sweep s.blocks.items s.lines.items s.home h in
-    let from = z.from in
-    let total = z.total in
-    omega arith
 
 pub placed-up : (m : SourceValues) (s : Strip) (z : ℤ) (rows : ℕ) → IsStrip m s → int_lt z (pos 0) ≡ true → rows ≡ unsigned_abs z → BeginsAbove m s rows
     → (s.home - rows < length s.lines.items) × (first_row m s + (s.home - rows) ≡ moved_row m s.sweep z)
@@ -44,7 +36,7 @@ placed-down m s z rows place h low is at reached =
     (omega arith, elim reached [ inl far ↦ omega arith | inr text ↦ omega arith ])
 
 pub asks-up : (kind : ℕ → Bool) (m : SourceValues) (s : Strip) (z : ℤ) (rows : ℕ) → IsStrip m s → int_lt z (pos 0) ≡ true → rows ≡ unsigned_abs z
-    → Between kind (min (home_row m s.sweep) (moved_row m s.sweep z)) (max (home_row m s.sweep) (moved_row m s.sweep z) + 1) → AsksAbove kind m s rows
+    → Between kind (min (home_row m s.sweep) (moved_row m s.sweep z)) (max (home_row m s.sweep) (moved_row m s.sweep z) + 1) → AsksAt Top kind m s rows
 asks-up kind m s z rows h low is asks =
     let row = moved-up z (home_row m s.sweep) low in
     let inside = h.inside in
@@ -53,7 +45,7 @@ asks-up kind m s z rows h low is asks =
     λ k from to. asks k (omega arith) (omega arith)
 
 pub asks-down : (kind : ℕ → Bool) (m : SourceValues) (s : Strip) (z : ℤ) (rows place : ℕ) → IsStrip m s → int_lt z (pos 0) ≡ false → rows ≡ unsigned_abs z → place ≡ s.home + rows
-    → Between kind (min (home_row m s.sweep) (moved_row m s.sweep z)) (max (home_row m s.sweep) (moved_row m s.sweep z) + 1) → AsksBelow kind m s (place + 1)
+    → Between kind (min (home_row m s.sweep) (moved_row m s.sweep z)) (max (home_row m s.sweep) (moved_row m s.sweep z) + 1) → AsksAt Bottom kind m s (place + 1)
 asks-down kind m s z rows place h low is at asks =
     let row = moved-down z (home_row m s.sweep) low in
     let inside = h.inside in

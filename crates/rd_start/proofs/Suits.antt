@@ -1,13 +1,15 @@
 -- Rows of a strip that suit as a start.
-use Rattle.std.proofs.Common.{◌≡◌, ℕ, ◌+◌, ◌-◌, ◌<◌, ◌≤◌, ◌⊎◌, inl, inr, Bool, false, cond, ltb, [], ◌∷◌, length, Option, None, Some, Result, Ok, Err, sym, ap, subst, ◌∙◌, arith}
-use Rattle.std.proofs.lemmas.Bool.{and_right, eq-eqb, le-leb, lt-leb, ne_eqb}
+use Rattle.std.proofs.Common.{◌≡◌, ℕ, ◌+◌, ◌-◌, ◌<◌, ◌≤◌, ◌⊎◌, inl, inr, Bool, true, false, cond, ◌==◌, leb, ltb, [], ◌∷◌, length, Option, None, Some, Result, Ok, Err, refl, sym, ap, subst, ◌∙◌, arith}
+use Rattle.std.proofs.lemmas.Bool.{and_right, eq-eqb, le-leb, lt-leb, ltb-false, ltb-true, ne_eqb}
 use Rattle.std.proofs.lemmas.Bool.Decides.{nat_tests}
-use Rattle.std.specs.List.{find, slice_get}
+use Rattle.std.specs.List.{find}
 use Rattle.rd_matrix.specs.Sources.{SourceValues}
 use Rattle.rd_matrix.specs.declared.block.Block.{Block}
 use Rattle.rd_start.specs.Chosen.{anchor_row, places_of, row_of}
 use Rattle.rd_start.specs.Starts.{above_at, around, both_at, is_inside, margin_of, suits, wanted_above, wanted_below}
-use Rattle.rd_start.specs.Strips.{IsFor, IsStrip, BeginsAbove, Reaches, count_in, first_row, home_row, point_row, rows_in}
+use Rattle.rd_start.specs.Strips.{IsFor, IsStrip, BeginsAbove, EndsAt, Reaches, StandsBeyond, count_in, first_row, hides_edge, home_row, point_row, rows_in, wanted_at}
+use Rattle.rd_start.specs.declared.strip.Edge.{Edge}
+use Rattle.rd_start.specs.declared.strip.Edge.TheVariants.{Bottom, Top}
 use Rattle.rd_matrix.specs.Entries.{all_rows}
 use Rattle.rd_start.specs.declared.strip.Strip.{Strip}
 use Rattle.rd_start.specs.declared.strip.Sweep.{Sweep}
@@ -18,9 +20,8 @@ use Rattle.std.specs.Option.{option_map, option_or}
 use Rattle.std.specs.Prelude.{IfOk}
 use Rattle.rd_base.specs.declared.memory.Memory.{Memory}
 use Rattle.rd_start.proofs.Lists.{find-far, find-kept, find-none}
-use Rattle.rd_start.proofs.Growth.{some-of}
-use Rattle.rd_start.proofs.Reaching.{GivesNext, GivesPrev, above-low, next-of, next-row, no-next, no-prev, prev-of}
-use Rattle.rd_start.proofs.Rows.{find_point}
+use Rattle.rd_start.proofs.Reaching.{more-above, more-below}
+use Rattle.rd_start.proofs.Rows.{all-inside, find_point}
 use Rattle.rd_start.proofs.Sides.{point-lost}
 
 pub old-is : (m : SourceValues) (w : Wanted) (sweep : Sweep) → IsFor w sweep → (places_of m sweep.shape w).old ≡ home_row m sweep
@@ -29,35 +30,47 @@ old-is m w sweep h = ap (λ (a : Anchor). anchor_row (rows_in m sweep) a m.block
 pub point-is : (m : SourceValues) (w : Wanted) (sweep : Sweep) → sweep.point ≡ w.point → (places_of m sweep.shape w).point ≡ point_row m sweep
 point-is m w sweep e = ap (λ p. row_of p (all_rows (rows_in m sweep) m.blocks)) (sym e)
 
-pub above-none : (m : SourceValues) (s : Strip) (w : Wanted) (start : ℕ) (first : Block) → IsStrip m s → start ≡ 0 → slice_get s.blocks.items 0 ≡ Some first → GivesPrev m first None
-    → 0 ≡ wanted_above w (first_row m s + start)
-above-none m s w start first h none at gives =
-    let home = no-prev m s first h at gives in
-    let t = eq-eqb (first_row m s + start) 0 (omega (arith, home, none)) in
+-- the rows that are wanted at an edge of a view: all of the margin where the strip's row there is hidden or a block stands beyond it,
+-- and none where the text ends
+no-margin : (t : Bool) (margin : ℕ) → margin ≡ 0 → margin ≡ cond t 0 margin
+no-margin true margin none = none
+no-margin false margin none = refl
+
+pub wanted-zero : (edge : Edge) (w : Wanted) (count start : ℕ) → margin_of w ≡ 0 → margin_of w ≡ wanted_at edge w count start
+wanted-zero Top w count start none = no-margin (start == 0) (margin_of w) none
+wanted-zero Bottom w count start none = no-margin (leb count (start + w.height)) (margin_of w) none
+
+pub wanted-inside : (edge : Edge) (m : SourceValues) (s : Strip) (w : Wanted) (start : ℕ) → IsStrip m s → hides_edge edge w s start ≡ true
+    → margin_of w ≡ wanted_at edge w (count_in m s.sweep m.blocks) (first_row m s + start)
+wanted-inside Top m s w start h hidden =
+    let low = ltb-true 0 start hidden in
+    let t = ne_eqb (first_row m s + start) 0 (λ e. omega (arith, e, low)) in
+    sym (ap (λ b. cond b 0 (margin_of w)) t)
+wanted-inside Bottom m s w start h hidden =
+    let low = ltb-true (start + w.height) (length s.lines.items) hidden in
+    let all = all-inside m s h in
+    let t = lt-leb (count_in m s.sweep m.blocks) (first_row m s + start + w.height) (omega (arith, low, all)) in
     sym (ap (λ b. cond b 0 (margin_of w)) t)
 
-pub above-some : (m : SourceValues) (s : Strip) (w : Wanted) (start : ℕ) (first b : Block) → IsStrip m s → slice_get s.blocks.items 0 ≡ Some first → GivesPrev m first (Some b)
-    → margin_of w ≡ wanted_above w (first_row m s + start)
-above-some m s w start first b h at gives =
-    let prev = prev-of m s first b h at gives in
-    let low = above-low m s b prev in
-    let some = some-of m s.sweep s.blocks.items s.lines.items s.home b h prev.among in
-    let t = ne_eqb (first_row m s + start) 0 (λ e. omega (arith, e, low, some)) in
+pub wanted-none : (edge : Edge) (m : SourceValues) (s : Strip) (w : Wanted) (start : ℕ) → hides_edge edge w s start ≡ false → EndsAt edge m s
+    → 0 ≡ wanted_at edge w (count_in m s.sweep m.blocks) (first_row m s + start)
+wanted-none Top m s w start shown ends =
+    let low = ltb-false 0 start shown in
+    let t = eq-eqb (first_row m s + start) 0 (omega (arith, low, ends)) in
+    sym (ap (λ b. cond b 0 (margin_of w)) t)
+wanted-none Bottom m s w start shown ends =
+    let low = ltb-false (start + w.height) (length s.lines.items) shown in
+    let t = le-leb (count_in m s.sweep m.blocks) (first_row m s + start + w.height) (omega (arith, low, ends)) in
     sym (ap (λ b. cond b 0 (margin_of w)) t)
 
-pub below-none : (m : SourceValues) (s : Strip) (w : Wanted) (start : ℕ) (last : Block) → IsStrip m s → length s.lines.items ≤ start + w.height
-    → slice_get s.blocks.items (length s.blocks.items - 1) ≡ Some last → GivesNext m last None → 0 ≡ wanted_below w (count_in m s.sweep m.blocks) (first_row m s + start)
-below-none m s w start last h end at gives =
-    let all = no-next m s last h at gives in
-    let t = le-leb (count_in m s.sweep m.blocks) (first_row m s + start + w.height) (omega (arith, all, end)) in
+pub wanted-some : (edge : Edge) (m : SourceValues) (s : Strip) (w : Wanted) (start : ℕ) (b : Block) → IsStrip m s → Reaches m s (start + w.height) → StandsBeyond m s edge b
+    → margin_of w ≡ wanted_at edge w (count_in m s.sweep m.blocks) (first_row m s + start)
+wanted-some Top m s w start b h reached next =
+    let low = more-above m s b h next in
+    let t = ne_eqb (first_row m s + start) 0 (λ e. omega (arith, e, low)) in
     sym (ap (λ b. cond b 0 (margin_of w)) t)
-
-pub below-some : (m : SourceValues) (s : Strip) (w : Wanted) (start : ℕ) (last b : Block) → IsStrip m s → Reaches m s (start + w.height)
-    → slice_get s.blocks.items (length s.blocks.items - 1) ≡ Some last → GivesNext m last (Some b) → margin_of w ≡ wanted_below w (count_in m s.sweep m.blocks) (first_row m s + start)
-below-some m s w start last b h reached at gives =
-    let next = next-of m s last b h at gives in
-    let some = some-of m s.sweep s.blocks.items s.lines.items s.home b h next.among in
-    let more = next-row m s b next some in
+wanted-some Bottom m s w start b h reached next =
+    let more = more-below m s b h next in
     let low : first_row m s + start + w.height < count_in m s.sweep m.blocks = elim reached [ inl far ↦ omega arith | inr all ↦ omega arith ] in
     let t = lt-leb (count_in m s.sweep m.blocks) (first_row m s + start + w.height) (omega arith) in
     sym (ap (λ b. cond b 0 (margin_of w)) t)

@@ -1,10 +1,7 @@
 -- The rows near a window's old start, its new start and point, and the blocks that have such a row.
-use Rattle.std.specs.Prelude.{ℕ, ◌+◌, min, max, nat_lt, nat_le, Bool, ◌&&◌, ◌||◌, if◌then◌else◌, List, [], ◌∷◌, length}
-use Rattle.std.specs.List.{list_any, range_with_len}
+use Rattle.std.specs.Prelude.{ℕ, ◌+◌, min, max, nat_lt, nat_le, Bool, ◌&&◌, ◌||◌, if◌then◌else◌}
 use Rattle.rd_matrix.specs.Rows.{blocks_with}
 use Rattle.rd_matrix.specs.Sources.{SourceValues, costs_of}
-use Rattle.rd_matrix.specs.declared.block.Block.{Block}
-use Rattle.rd_rows.specs.Rows.{RowMeaning}
 use Rattle.rd_rows.specs.Shapes.{ShapeValues}
 use Rattle.rd_start.specs.Chosen.{places_of}
 use Rattle.rd_start.specs.Starts.{Places, suits, scrolled}

@@ -2,7 +2,7 @@
 -- them.
 use Rattle.std.specs.Prelude.{◌≡◌, ℕ, ◌+◌, ◌-◌, ◌^◌, ◌<◌, ◌≤◌, ◌⊎◌, min, max, nat_lt, Bool, true, if◌then◌else◌, List, [], ◌∷◌, ◌++◌, length, map, slice_get, ℤ, Option, None, Some}
 use Rattle.std.specs.List.{AllByRecursion, fold, list_any, position, range_with_len}
-use Rattle.rd_matrix.specs.Blocks.{IsWithin}
+use Rattle.rd_matrix.specs.Blocks.{IsAmong, IsWithin}
 use Rattle.rd_matrix.specs.Entries.{EntryMeaning, all_rows, numbered}
 use Rattle.rd_matrix.specs.Rows.{blocks_with}
 use Rattle.rd_matrix.specs.Sources.{SourceValues, IsSource, costs_of, rows_at}
@@ -10,7 +10,9 @@ use Rattle.rd_matrix.specs.declared.block.Block.{Block}
 use Rattle.rd_rows.specs.Rows.{RowMeaning}
 use Rattle.rd_rows.specs.Shapes.{ShapeValues, IsShape}
 use Rattle.rd_start.specs.Chosen.{anchor_at, anchor_row, begins_item, places_of, positions_of, row_of}
-use Rattle.rd_start.specs.Starts.{centred, moved}
+use Rattle.rd_start.specs.Starts.{centred, moved, wanted_above, wanted_below}
+use Rattle.rd_start.specs.declared.strip.Edge.{Edge}
+use Rattle.rd_start.specs.declared.strip.Edge.TheVariants.{Bottom, Top}
 use Rattle.rd_start.specs.declared.strip.Line.{Line}
 use Rattle.rd_start.specs.declared.wanted.Chosen.{Chosen}
 use Rattle.rd_start.specs.declared.wanted.Wanted.{Wanted}
@@ -96,13 +98,27 @@ pub record IsPaidOf (kind : ℕ → Bool) (base : ℕ) (m : SourceValues) (sweep
 abbrev pub IsPaid : (ℕ → Bool) → ℕ → SourceValues → Strip → ℕ → Type 0
 IsPaid kind base m s steps = IsStrip m s × IsPaidOf kind base m s.sweep s.blocks.items s.home steps
 
+-- how far a strip reaches at an edge: at the top, how many rows stand above its anchor's; at the bottom, how many rows it has
+abbrev pub extent : Edge → Strip → ℕ
+extent Top s = s.home
+extent Bottom s = length s.lines.items
+
+-- the text ends at an edge of a strip
+abbrev pub EndsAt : Edge → SourceValues → Strip → Type 0
+EndsAt Top m s = s.home ≡ home_row m s.sweep
+EndsAt Bottom m s = first_row m s + length s.lines.items ≡ count_in m s.sweep m.blocks
+
+-- a strip reaches so far at an edge, or to the text's end there
+abbrev pub ReachesAt : Edge → SourceValues → Strip → ℕ → Type 0
+ReachesAt edge m s count = (count ≤ extent edge s) ⊎ EndsAt edge m s
+
 -- a strip reaches a row, counted from its first, or ends with the text
 abbrev pub Reaches : SourceValues → Strip → ℕ → Type 0
-Reaches m s row = (row ≤ length s.lines.items) ⊎ (first_row m s + length s.lines.items ≡ count_in m s.sweep m.blocks)
+Reaches m s row = ReachesAt Bottom m s row
 
 -- a strip begins so many rows before its anchor's, or with the text
 abbrev pub BeginsAbove : SourceValues → Strip → ℕ → Type 0
-BeginsAbove m s rows = (rows ≤ s.home) ⊎ (s.home ≡ home_row m s.sweep)
+BeginsAbove m s rows = ReachesAt Top m s rows
 
 -- each number from one up to another is of a kind
 abbrev pub Between : (ℕ → Bool) → ℕ → ℕ → Type 0
@@ -113,20 +129,55 @@ abbrev pub IsAsked : (ℕ → Bool) → SourceValues → Sweep → Type 0
 IsAsked kind m sweep =
     (kind (home_row m sweep) ≡ true) ⊎ ((sweep.anchor.pos ≡ sweep.point) × (kind (point_row m sweep) ≡ true))
 
--- a strip to which a block and its rows were added below, and above
-pub record IsBelow (old new : Strip) (b : Block) (rows : List RowMeaning) : Type 0 where
-  pub small : b.end < 2 ^ 32
-  pub sweep : new.sweep ≡ old.sweep
-  pub home : new.home ≡ old.home
-  pub blocks : new.blocks.items ≡ old.blocks.items ++ b ∷ []
-  pub lines : new.lines.items ≡ old.lines.items ++ map (line_of old.sweep.point) (numbered b.start 0 rows)
+-- the rows of the text that a strip lacks to reach so far at an edge are each of a kind
+abbrev pub AsksAt : Edge → (ℕ → Bool) → SourceValues → Strip → ℕ → Type 0
+AsksAt Top kind m s count = Between kind (home_row m s.sweep - count) (first_row m s)
+AsksAt Bottom kind m s count = Between kind (first_row m s + length s.lines.items) (min (first_row m s + count) (count_in m s.sweep m.blocks))
 
-pub record IsAbove (old new : Strip) (b : Block) (rows : List RowMeaning) : Type 0 where
+-- a list to which more was added at an edge, and the place of one of its elements behind so many
+abbrev pub joined_at : {X : Type 0} → Edge → List X → List X → List X
+joined_at Top xs more = more ++ xs
+joined_at Bottom xs more = xs ++ more
+
+abbrev pub moved_at : Edge → ℕ → ℕ → ℕ
+moved_at Top place count = place + count
+moved_at Bottom place count = place
+
+-- a strip to which a block and its rows were added at an edge
+pub record IsPushed (edge : Edge) (old new : Strip) (b : Block) (rows : List RowMeaning) : Type 0 where
   pub small : b.end < 2 ^ 32
   pub sweep : new.sweep ≡ old.sweep
-  pub home : new.home ≡ old.home + length rows
-  pub blocks : new.blocks.items ≡ b ∷ old.blocks.items
-  pub lines : new.lines.items ≡ map (line_of old.sweep.point) (numbered b.start 0 rows) ++ old.lines.items
+  pub home : new.home ≡ moved_at edge old.home (length rows)
+  pub blocks : new.blocks.items ≡ joined_at edge old.blocks.items (b ∷ [])
+  pub lines : new.lines.items ≡ joined_at edge old.lines.items (map (line_of old.sweep.point) (numbered b.start 0 rows))
+
+-- a strip that rows were added to at an edge
+abbrev pub GrowsAt : Edge → Strip → Strip → Type 0
+GrowsAt Top old new = (length new.lines.items + old.home ≡ length old.lines.items + new.home) × (old.home ≤ new.home)
+GrowsAt Bottom old new = (new.home ≡ old.home) × (length old.lines.items ≤ length new.lines.items)
+
+-- a block stands beyond an edge of a strip, among a source's blocks
+pub record StandsBeyond (m : SourceValues) (s : Strip) (edge : Edge) (b : Block) : Type 0 where
+  pub before : List Block
+  pub after : List Block
+  pub pieces : m.blocks ≡ before ++ (joined_at edge s.blocks.items (b ∷ []) ++ after)
+  pub home : count_in m s.sweep before + moved_at edge s.home (length (rows_in m s.sweep b)) ≡ home_row m s.sweep
+  pub among : IsAmong m.blocks b
+
+-- the block beyond an edge of a strip, and None where the text ends there
+abbrev pub IsBeyond : SourceValues → Strip → Edge → Option Block → Type 0
+IsBeyond m s edge None = EndsAt edge m s
+IsBeyond m s edge (Some b) = StandsBeyond m s edge b
+
+-- whether the view that starts with a row of a strip does not have the strip's row at an edge
+abbrev pub hides_edge : Edge → Wanted → Strip → ℕ → Bool
+hides_edge Top w s start = nat_lt 0 start
+hides_edge Bottom w s start = nat_lt (start + w.height) (length s.lines.items)
+
+-- the rows that are wanted between point's and an edge of the view that starts with a row, of so many
+abbrev pub wanted_at : Edge → Wanted → ℕ → ℕ → ℕ
+wanted_at Top w count start = wanted_above w start
+wanted_at Bottom w count start = wanted_below w count start
 
 -- where point's row is, as seen from the rows from one place up to another
 abbrev pub seen_from : ℕ → ℕ → ℕ → Side

@@ -8,7 +8,7 @@ ghost use Rattle.rd_start.specs.Near.{is_near, near_costs};
 ghost use Rattle.rd_start.specs.Starts.{suits};
 ghost use Rattle.rd_start.specs.Strips.{IsStrip, IsFor, IsPaid, Between, HasPoint, Reaches, all_costs, centred_chosen, first_row, point_row, rows_in};
 
-use crate::strip::{Side, Strip, Sweep};
+use crate::strip::{Edge, Side, Strip, Sweep};
 use crate::view::{home_suits, nearest};
 use crate::wanted::{Chosen, Wanted};
 use rd_base::{Anchor, Memory, Pos, Steps};
@@ -77,7 +77,8 @@ fn forced<B: BlockSource, L: Ledger>(
 {
     let mut strip = strip;
     let start = strip.scroll(alloc, source, wanted, steps)?;
-    strip.reach_down(alloc, source, start + wanted.height as usize, steps)?;
+    let end = start + wanted.height as usize;
+    strip.reach(alloc, source, Edge::Bottom, end, steps)?;
     Ok(Chosen {
         anchor: strip.anchor(start),
         point: forced_point(wanted, &strip, start),
@@ -124,7 +125,7 @@ fn following<B: BlockSource, L: Ledger>(
 {
     let mut strip = strip;
     let end = strip.home() + wanted.height as usize;
-    strip.reach_down(alloc, source, end, steps)?;
+    strip.reach(alloc, source, Edge::Bottom, end, steps)?;
     if home_suits(alloc, source, wanted, &strip)? {
         return Ok(starting_at(wanted, &strip, strip.home()));
     }
@@ -151,9 +152,9 @@ fn moving<B: BlockSource, L: Ledger>(
 {
     let far = wanted.conservatively as usize;
     let mut strip = strip;
-    strip.reach_up(alloc, source, far, steps)?;
+    strip.reach(alloc, source, Edge::Top, far, steps)?;
     let end = strip.home() + far + wanted.height as usize;
-    strip.reach_down(alloc, source, end + 1, steps)?;
+    strip.reach(alloc, source, Edge::Bottom, end + 1, steps)?;
     match nearest(alloc, source, wanted, &strip)? {
         Some(start) => Ok(starting_at(wanted, &strip, start)),
         None => centred(alloc, source, wanted, strip, steps),
@@ -180,7 +181,8 @@ fn centred<B: BlockSource, L: Ledger>(
     let half = wanted.height as usize / 2;
     let home = strip.home();
     let row = row_of_point(&strip);
-    strip.reach_up(alloc, source, (home + half).saturating_sub(row), steps)?;
+    let above = (home + half).saturating_sub(row);
+    strip.reach(alloc, source, Edge::Top, above, steps)?;
     let row = row + (strip.home() - home);
     Ok(starting_at(wanted, &strip, row.saturating_sub(half)))
 }

@@ -41,6 +41,13 @@ pub(crate) struct Strip {
     home: usize,
 }
 
+/// An edge of rows that stand one below the other: above the first of them, or below the last.
+#[derive(Clone, Copy)]
+pub(crate) enum Edge {
+    Top,
+    Bottom,
+}
+
 /// Where point's row is, as seen from rows in view.
 #[derive(Clone, Copy)]
 pub(crate) enum Side {
@@ -86,7 +93,8 @@ impl Strip {
     ghost use Rattle.rd_matrix.specs.Sources.{SourceValues, IsSource};
     ghost use Rattle.rd_rows.specs.Copies.{shown_rows};
     ghost use Rattle.rd_start.specs.Chosen.{anchor_at, first_positions};
-    ghost use Rattle.rd_start.specs.Strips.{IsStrip, IsPaid, IsAsked, HasPoint, IsAbove, IsBelow, Reaches, BeginsAbove, Between, rows_in, count_in, home_row, first_row, moved_row, side_in, all_costs, span_of};
+    ghost use Rattle.rd_start.specs.Strips.{IsStrip, IsPaid, IsAsked, HasPoint, IsPushed, IsBeyond, GrowsAt, ReachesAt, AsksAt, Between, extent, rows_in, count_in, home_row, first_row, moved_row, side_in, all_costs, span_of};
+    ghost use Rattle.rd_start.specs.declared.strip.Edge.TheVariants.{Bottom, Top};
     ghost use Rattle.rd_start.specs.declared.strip.Line.{Line};
 
     /// What it was swept for.
@@ -159,7 +167,7 @@ impl Strip {
     /// Adds a block below the others, and its rows.
     fn push_below(&mut self, block: Block, rows: &[Row]) -> Result<(), Memory>
         requires { length rows.now < 2 ^ 32 }
-        ensures { OnOk result (IsBelow self.old self.new block (shown_rows rows.now)) }
+        ensures { OnOk result (IsPushed Bottom self.old self.new block (shown_rows rows.now)) }
     {
         for number in 0..rows.len() {
             let line = line_of(self.sweep.point, block.start, number as u32, &rows[number]);
@@ -173,7 +181,7 @@ impl Strip {
     fn push_above(&mut self, block: Block, rows: &[Row]) -> Result<(), Memory>
         requires few { length rows.now < 2 ^ 32 }
         requires home { self.old.home < length self.old.lines.items }
-        ensures { OnOk result (IsAbove self.old self.new block (shown_rows rows.now)) }
+        ensures { OnOk result (IsPushed Top self.old self.new block (shown_rows rows.now)) }
     {
         let mut number = rows.len();
         while number > 0 {
@@ -186,40 +194,51 @@ impl Strip {
         Ok(())
     }
 
-    /// Lays out blocks above the others until so many rows stand above the anchor's, or the text begins.
-    pub(crate) fn reach_up<B: BlockSource, L: Ledger>(
-        &mut self,
-        alloc: Global,
-        source: &mut B,
-        rows: usize,
-        steps: &mut Steps<L>,
-    ) -> Result<(), Memory>
-        requires { IsStrip (B.meaning source.old) self.old }
-        ensures stays { B.meaning source.new ≡ B.meaning source.old }
-        ensures strip { OnOk result (IsStrip (B.meaning source.old) self.new) }
-        ensures sweep { OnOk result (self.new.sweep ≡ self.old.sweep) }
-        ensures reached { OnOk result (BeginsAbove (B.meaning source.old) self.new rows) }
-        ensures grows { OnOk result ((length self.new.lines.items + self.old.home ≡ length self.old.lines.items + self.new.home) × (self.old.home ≤ self.new.home)) }
-        ensures paid { (kind : ℕ → Bool) (base : ℕ) → IsPaid kind base (B.meaning source.old) self.old steps.old
-            → Between kind (home_row (B.meaning source.old) self.old.sweep - rows) (first_row (B.meaning source.old) self.old)
-            → MatchResult result (λ _. IsPaid kind base (B.meaning source.old) self.new steps.new)
-            (λ _. steps.new ≤ base + all_costs kind (B.meaning source.old) self.old.sweep) }
+    /// Adds a block at an edge, and its rows.
+    fn push(&mut self, edge: Edge, block: Block, rows: &[Row]) -> Result<(), Memory>
+        requires few { length rows.now < 2 ^ 32 }
+        requires home { self.old.home < length self.old.lines.items }
+        ensures { OnOk result (IsPushed edge self.old self.new block (shown_rows rows.now)) }
     {
-        while self.home < rows {
-            let Some(block) = source.prev(alloc, &self.first())? else {
-                return Ok(());
-            };
-            let rows_above = source.rows(alloc, &block, self.sweep.shape, steps)?;
-            self.push_above(block, rows_above.as_slice())?;
+        match edge {
+            Edge::Top => self.push_above(block, rows),
+            Edge::Bottom => self.push_below(block, rows),
         }
-        Ok(())
     }
 
-    /// Lays out blocks below the others until there are so many rows, or the text ends.
-    pub(crate) fn reach_down<B: BlockSource, L: Ledger>(
+    /// How far it reaches at an edge: at the top, how many rows stand above the anchor's; at the bottom, how many rows it has.
+    fn extent(&self, edge: Edge) -> usize
+        ensures { result ≡ extent edge self.now }
+    {
+        match edge {
+            Edge::Top => self.home,
+            Edge::Bottom => self.lines.len(),
+        }
+    }
+
+    /// The block beyond an edge, and None where the text ends there.
+    pub(crate) fn beyond<B: BlockSource>(
+        &self,
+        alloc: Global,
+        source: &mut B,
+        edge: Edge,
+    ) -> Result<Option<Block>, Memory>
+        requires { IsStrip (B.meaning source.old) self.now }
+        ensures stays { B.meaning source.new ≡ B.meaning source.old }
+        ensures value { IfOk result (λ block. IsBeyond (B.meaning source.old) self.now edge block) }
+    {
+        match edge {
+            Edge::Top => source.prev(alloc, &self.first()),
+            Edge::Bottom => source.next(alloc, &self.last()),
+        }
+    }
+
+    /// Lays out blocks beyond an edge until it reaches so many rows there, or the text ends.
+    pub(crate) fn reach<B: BlockSource, L: Ledger>(
         &mut self,
         alloc: Global,
         source: &mut B,
+        edge: Edge,
         count: usize,
         steps: &mut Steps<L>,
     ) -> Result<(), Memory>
@@ -227,20 +246,19 @@ impl Strip {
         ensures stays { B.meaning source.new ≡ B.meaning source.old }
         ensures strip { OnOk result (IsStrip (B.meaning source.old) self.new) }
         ensures sweep { OnOk result (self.new.sweep ≡ self.old.sweep) }
-        ensures home { OnOk result (self.new.home ≡ self.old.home) }
-        ensures reached { OnOk result (Reaches (B.meaning source.old) self.new count) }
+        ensures grows { OnOk result (GrowsAt edge self.old self.new) }
+        ensures reached { OnOk result (ReachesAt edge (B.meaning source.old) self.new count) }
         ensures paid { (kind : ℕ → Bool) (base : ℕ) → IsPaid kind base (B.meaning source.old) self.old steps.old
-            → Between kind (first_row (B.meaning source.old) self.old + length self.old.lines.items)
-            (min (first_row (B.meaning source.old) self.old + count) (count_in (B.meaning source.old) self.old.sweep (B.meaning source.old).blocks))
+            → AsksAt edge kind (B.meaning source.old) self.old count
             → MatchResult result (λ _. IsPaid kind base (B.meaning source.old) self.new steps.new)
             (λ _. steps.new ≤ base + all_costs kind (B.meaning source.old) self.old.sweep) }
     {
-        while self.lines.len() < count {
-            let Some(block) = source.next(alloc, &self.last())? else {
+        'growing: while self.extent(edge) < count {
+            let Some(block) = self.beyond(alloc, source, edge)? else {
                 return Ok(());
             };
             let rows = source.rows(alloc, &block, self.sweep.shape, steps)?;
-            self.push_below(block, rows.as_slice())?;
+            self.push(edge, block, rows.as_slice())?;
         }
         Ok(())
     }
@@ -267,11 +285,11 @@ impl Strip {
     {
         let rows = wanted.pending.unsigned_abs() as usize;
         if wanted.pending.is_negative() {
-            self.reach_up(alloc, source, rows, steps)?;
+            self.reach(alloc, source, Edge::Top, rows, steps)?;
             return Ok(self.home.saturating_sub(rows));
         }
         let place = self.home + rows;
-        self.reach_down(alloc, source, place + 1, steps)?;
+        self.reach(alloc, source, Edge::Bottom, place + 1, steps)?;
         Ok(place.min(self.lines.len() - 1))
     }
 

@@ -3,10 +3,10 @@ ghost use Rattle.std.specs.Prelude.{◌≡◌, ◌+◌, ◌<◌, ◌≤◌, ◌^
 ghost use Rattle.std.specs.List.{find};
 ghost use Rattle.std.specs.Option.{option_map};
 ghost use Rattle.rd_start.specs.Chosen.{places_of};
-ghost use Rattle.rd_start.specs.Starts.{above_at, around, both_at, is_inside, margin_of, suits, wanted_above, wanted_below};
-ghost use Rattle.rd_start.specs.Strips.{IsStrip, IsFor, Reaches, BeginsAbove, count_in, first_row, point_row};
+ghost use Rattle.rd_start.specs.Starts.{above_at, around, both_at, is_inside, margin_of, suits};
+ghost use Rattle.rd_start.specs.Strips.{IsStrip, IsFor, Reaches, BeginsAbove, count_in, first_row, hides_edge, point_row, wanted_at};
 
-use crate::strip::Strip;
+use crate::strip::{Edge, Strip};
 use crate::wanted::Wanted;
 use rd_base::Memory;
 use rd_matrix::BlockSource;
@@ -29,47 +29,38 @@ fn is_inside(height: usize, above: usize, below: usize, start: usize, row: usize
     start + above <= row && row + below < start + height
 }
 
-/// The rows that are wanted above point's where the view starts with a row of a strip.
-fn wanted_above<B: BlockSource>(
-    alloc: Global,
-    source: &mut B,
-    wanted: Wanted,
-    strip: &Strip,
-    start: usize,
-) -> Result<usize, Memory>
-    requires { IsStrip (B.meaning source.old) strip.now }
-    ensures stays { B.meaning source.new ≡ B.meaning source.old }
-    ensures value { IfOk result (λ rows. rows ≡ wanted_above wanted (first_row (B.meaning source.old) strip.now + start)) }
+/// Whether the view that starts with a row of a strip does not have the strip's row at an edge: its first, or its last one.
+fn hides_edge(wanted: Wanted, strip: &Strip, start: usize, edge: Edge) -> bool
+    requires { start < length strip.now.lines.items }
+    ensures { result ≡ hides_edge edge wanted strip.now start }
 {
-    let margin = margin_of(wanted);
-    if margin == 0 || start > 0 {
-        return Ok(margin);
-    }
-    match source.prev(alloc, &strip.first())? {
-        None => Ok(0),
-        Some(_) => Ok(margin),
+    match edge {
+        Edge::Top => start > 0,
+        Edge::Bottom => start + (wanted.height as usize) < strip.count(),
     }
 }
 
-/// The rows that are wanted below point's where the view starts with a row of a strip, which reaches the view's end.
-fn wanted_below<B: BlockSource>(
+/// The rows that are wanted between point's and an edge of the view that starts with a row of a strip, which reaches the view's end.
+fn wanted_at<B: BlockSource>(
     alloc: Global,
     source: &mut B,
     wanted: Wanted,
     strip: &Strip,
     start: usize,
+    edge: Edge,
 ) -> Result<usize, Memory>
     requires strip { IsStrip (B.meaning source.old) strip.now }
     requires start { start < length strip.now.lines.items }
     requires reached { Reaches (B.meaning source.old) strip.now (start + wanted.height) }
     ensures stays { B.meaning source.new ≡ B.meaning source.old }
-    ensures value { IfOk result (λ rows. rows ≡ wanted_below wanted (count_in (B.meaning source.old) strip.now.sweep (B.meaning source.old).blocks) (first_row (B.meaning source.old) strip.now + start)) }
+    ensures value { IfOk result (λ rows. rows ≡ wanted_at edge wanted (count_in (B.meaning source.old) strip.now.sweep (B.meaning source.old).blocks) (first_row (B.meaning source.old) strip.now + start)) }
 {
     let margin = margin_of(wanted);
-    if margin == 0 || start + (wanted.height as usize) < strip.count() {
+    let hidden = hides_edge(wanted, strip, start, edge);
+    if margin == 0 || hidden {
         return Ok(margin);
     }
-    match source.next(alloc, &strip.last())? {
+    match strip.beyond(alloc, source, edge)? {
         None => Ok(0),
         Some(_) => Ok(margin),
     }
@@ -97,8 +88,8 @@ fn suits<B: BlockSource>(
     if start >= strip.count() {
         return Ok(false);
     }
-    let above = wanted_above(alloc, source, wanted, strip, start)?;
-    let below = wanted_below(alloc, source, wanted, strip, start)?;
+    let above = wanted_at(alloc, source, wanted, strip, start, Edge::Top)?;
+    let below = wanted_at(alloc, source, wanted, strip, start, Edge::Bottom)?;
     Ok(is_inside(wanted.height as usize, above, below, start, row))
 }
 

@@ -1,0 +1,100 @@
+use Rattle.std.proofs.Common.{◌≡◌, ◌<◌, inr, length, None, Some, refl, sym, ap, ◌∙◌, arith}
+use Rattle.rd_matrix.specs.Sources.{SourceValues}
+use Rattle.rd_rows.specs.Copies.{shown_rows}
+use Rattle.rd_start.specs.Strips.{IsStrip, GrowsAt, extent}
+use Rattle.rd_start.proofs.Reaching.{among-same, asked-given, at-source, beyond-given, edge-failed, grown-fails, grown-more, grown-none, grown-pays, grown-smaller, grown-stops, rows-same}
+use Rattle.rd_start.proofs.Results.{nothing-of-err}
+use Rattle.rd_start.proofs.strip.Strip.reach.Goals as goal
+
+pub growing-init : goal.growing-init
+growing-init g c = record {
+  source = refl;
+  grown = grown-none c.args.edge (g.B.BlockSource.meaning c.args.source.now) c.args.self.now c.args.steps.now c.args.count c.requires;
+}
+
+pub beyond-requires : goal.beyond-requires
+beyond-requires g c =
+    let inv = c.growing.invariant in
+    at-source (λ (x : SourceValues). IsStrip x c.growing.self) (g.B.BlockSource.meaning c.growing.source) (g.B.BlockSource.meaning c.args.source.now) (sym inv.source) inv.grown.strip
+
+pub returns-in_err-block-clause-paid : goal.returns-in_err-block-clause-paid
+returns-in_err-block-clause-paid g c =
+    let m = g.B.BlockSource.meaning c.args.source.now in
+    let s = c.growing.self in
+    edge-failed c.args.edge c.from_residual.result m c.args.self.now s c.args.steps.now c.growing.steps c.args.count c.from_residual.ensures.0
+    (grown-stops c.args.edge m c.args.self.now s c.args.steps.now c.growing.steps c.args.count c.growing.invariant.grown)
+
+pub returns-in_default-clause-reached : goal.returns-in_default-clause-reached
+returns-in_default-clause-reached g c =
+    let m = g.B.BlockSource.meaning c.args.source.now in
+    inr (beyond-given c.args.edge m (g.B.BlockSource.meaning c.growing.source) c.growing.self c.in_ok-block.field-0 None c.growing.invariant.source c.in_ok-block.ensures.value c.in_default.is)
+
+pub returns-in_default-clause-paid : goal.returns-in_default-clause-paid
+returns-in_default-clause-paid g c =
+    grown-pays c.args.edge (g.B.BlockSource.meaning c.args.source.now) c.args.self.now c.growing.self c.args.steps.now c.growing.steps c.args.count c.growing.invariant.grown
+
+pub rows-requires : goal.rows-requires
+rows-requires g c =
+    let m = g.B.BlockSource.meaning c.args.source.now in
+    let inv = c.growing.invariant in
+    let next = beyond-given c.args.edge m (g.B.BlockSource.meaning c.growing.source) c.growing.self c.in_ok-block.field-0 (Some c.in-Some.block) inv.source c.in_ok-block.ensures.value c.in-Some.is in
+    among-same m (g.B.BlockSource.meaning c.beyond.new.source) c.in-Some.block (c.beyond.ensures.stays ∙ inv.source) next.among
+
+pub returns-in_err-rows-clause-paid : goal.returns-in_err-rows-clause-paid
+returns-in_err-rows-clause-paid g c =
+    let m = g.B.BlockSource.meaning c.args.source.now in
+    let s = c.growing.self in
+    let inv = c.growing.invariant in
+    let low : extent c.args.edge s < c.args.count = omega arith in
+    let asked = asked-given c.args.edge m (g.B.BlockSource.meaning c.growing.source) (g.B.BlockSource.meaning c.beyond.new.source) s c.growing.steps c.rows.new.steps c.in_ok-block.field-0 c.in-Some.block
+    inv.source c.in_ok-block.ensures.value c.in-Some.is (c.beyond.ensures.stays ∙ inv.source) c.rows.ensures.steps in
+    edge-failed c.args.edge c.from_residual-in_err-rows.result m c.args.self.now s c.args.steps.now c.rows.new.steps c.args.count c.from_residual-in_err-rows.ensures.0
+    (grown-fails c.args.edge m c.args.self.now s c.args.steps.now c.growing.steps c.rows.new.steps c.args.count c.in-Some.block inv.grown asked low)
+
+pub returns-in_err-push-clause-sweep : goal.returns-in_err-push-clause-sweep
+returns-in_err-push-clause-sweep g c =
+    nothing-of-err c.from_residual-in_err-push.result (c.push.new.self.sweep ≡ c.args.self.now.sweep) c.from_residual-in_err-push.ensures.0
+
+pub returns-in_err-push-clause-grows : goal.returns-in_err-push-clause-grows
+returns-in_err-push-clause-grows g c =
+    nothing-of-err c.from_residual-in_err-push.result (GrowsAt c.args.edge c.args.self.now c.push.new.self) c.from_residual-in_err-push.ensures.0
+
+pub returns-in_err-push-clause-paid : goal.returns-in_err-push-clause-paid
+returns-in_err-push-clause-paid g c =
+    let m = g.B.BlockSource.meaning c.args.source.now in
+    let s = c.growing.self in
+    let inv = c.growing.invariant in
+    let low : extent c.args.edge s < c.args.count = omega arith in
+    let asked = asked-given c.args.edge m (g.B.BlockSource.meaning c.growing.source) (g.B.BlockSource.meaning c.beyond.new.source) s c.growing.steps c.rows.new.steps c.in_ok-block.field-0 c.in-Some.block
+    inv.source c.in_ok-block.ensures.value c.in-Some.is (c.beyond.ensures.stays ∙ inv.source) c.rows.ensures.steps in
+    edge-failed c.args.edge c.from_residual-in_err-push.result m c.args.self.now c.push.new.self c.args.steps.now c.rows.new.steps c.args.count c.from_residual-in_err-push.ensures.0
+    (grown-fails c.args.edge m c.args.self.now s c.args.steps.now c.growing.steps c.rows.new.steps c.args.count c.in-Some.block inv.grown asked low)
+
+pub growing-smaller : goal.growing-smaller
+growing-smaller g c =
+    let m = g.B.BlockSource.meaning c.args.source.now in
+    let inv = c.growing.invariant in
+    let next = beyond-given c.args.edge m (g.B.BlockSource.meaning c.growing.source) c.growing.self c.in_ok-block.field-0 (Some c.in-Some.block) inv.source c.in_ok-block.ensures.value c.in-Some.is in
+    let fewer = grown-smaller c.args.edge m c.growing.self c.push.new.self c.in-Some.block (shown_rows c.as_slice.result.now) next c.in_ok-push.ensures in
+    let before = ap (λ (x : SourceValues). length x.blocks) inv.source in
+    let after = ap (λ (x : SourceValues). length x.blocks) (c.rows.ensures.stays ∙ (c.beyond.ensures.stays ∙ inv.source)) in
+    omega (arith, fewer.0, fewer.1, before, after)
+
+pub growing-preserved : goal.growing-preserved
+growing-preserved g c =
+    let m = g.B.BlockSource.meaning c.args.source.now in
+    let s = c.growing.self in
+    let inv = c.growing.invariant in
+    let low : extent c.args.edge s < c.args.count = omega arith in
+    let told = c.beyond.ensures.stays ∙ inv.source in
+    let asked = asked-given c.args.edge m (g.B.BlockSource.meaning c.growing.source) (g.B.BlockSource.meaning c.beyond.new.source) s c.growing.steps c.rows.new.steps c.in_ok-block.field-0 c.in-Some.block
+    inv.source c.in_ok-block.ensures.value c.in-Some.is told c.rows.ensures.steps in
+    let same = rows-same m (g.B.BlockSource.meaning c.beyond.new.source) s.sweep c.in-Some.block (shown_rows c.as_slice.result.now) told (ap shown_rows c.as_slice.ensures.value ∙ c.in_ok-rows.ensures.rows) in
+    record {
+      source = c.rows.ensures.stays ∙ told;
+      grown = grown-more c.args.edge m c.args.self.now s c.push.new.self c.args.steps.now c.growing.steps c.rows.new.steps c.args.count c.in-Some.block (shown_rows c.as_slice.result.now) inv.grown asked low same c.in_ok-push.ensures;
+    }
+
+pub returns-clause-paid : goal.returns-clause-paid
+returns-clause-paid g c =
+    grown-pays c.args.edge (g.B.BlockSource.meaning c.args.source.now) c.args.self.now c.growing.self c.args.steps.now c.growing.steps c.args.count c.growing.invariant.grown
