@@ -1,12 +1,12 @@
-mod Lists
+pub mod Lists
 mod Scrolling
 mod Sides
 mod Small
 mod Spans
 mod Suits
-mod Tests
+pub mod Tests
 mod Around
-mod Blocks
+pub mod Blocks
 mod Results
 mod Rows
 mod Choosing

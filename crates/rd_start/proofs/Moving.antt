@@ -12,15 +12,17 @@ use Rattle.rd_rows.specs.Shapes.{ShapeValues}
 use Rattle.rd_start.specs.Chosen.{anchor_at, chosen_of, forced_point, places_of, row_of}
 use Rattle.rd_start.specs.Near.{is_near, near_costs}
 use Rattle.rd_start.specs.Starts.{around, centred, following, moved, scrolled, suits}
-use Rattle.rd_start.specs.Strips.{HasPoint, IsFor, IsPaid, IsStrip, AsksAt, BeginsAbove, Between, all_costs, centred_chosen, count_in, first_row, home_row, moved_row, point_row, rows_in}
+use Rattle.rd_start.specs.Strips.{HasPoint, IsFor, IsLaidOut, IsPaid, IsStrip, IsUnsuited, AsksAt, BeginsAbove, Between, all_costs, centred_chosen, count_in, first_row, home_row, moved_row, point_row, rows_in}
 use Rattle.rd_start.specs.declared.strip.Edge.TheVariants.{Bottom, Top}
 use Rattle.rd_start.specs.declared.strip.Strip.{Strip}
 use Rattle.rd_start.specs.declared.strip.Sweep.{Sweep}
 use Rattle.rd_start.specs.declared.wanted.Chosen.{Chosen}
 use Rattle.rd_start.specs.declared.wanted.Wanted.{Wanted}
+use Rattle.rd_start.specs.declared.window.Window.{Window}
 use Rattle.rd_start.proofs.Choosing.{chosen-forced, chosen-free, follows-found, follows-none, follows-old}
 use Rattle.rd_start.proofs.NearRows.{forced-near, moving-near, old-near, point-near, view-near}
 use Rattle.rd_start.proofs.Growth.{affords}
+use Rattle.rd_start.proofs.Reaching.{EdgePays}
 use Rattle.rd_start.proofs.Rows.{find_point, whereabouts}
 use Rattle.rd_start.proofs.Sides.{point-found}
 use Rattle.rd_start.proofs.Suits.{old-is, point-is}
@@ -186,10 +188,11 @@ pub costs-same : (kind : ℕ → Bool) (m : SourceValues) (a b : Sweep) → b.sh
 costs-same kind m a b f = ap (λ (x : ShapeValues). costs_of (λ c. m.cost_of c x) (blocks_with kind (λ c. m.rows_of c x) 0 m.blocks)) f
 
 -- the rows above point's
-pub asks-above : (kind : ℕ → Bool) (m : SourceValues) (s : Strip) (w : Wanted) (point row half : ℕ) → IsStrip m s → row < length s.lines.items → first_row m s + row ≡ point_row m s.sweep → half ≤ w.height
-    → point ≡ point_row m s.sweep → Between kind (point - w.height) (point + 1) → AsksAt Top kind m s (s.home + half - row)
-asks-above kind m s w point row half h inside place low same asks = λ k from to.
+pub asks-above : (kind : ℕ → Bool) (m : SourceValues) (old : Sweep) (s : Strip) (w : Wanted) (row half up : ℕ) → IsStrip m s → row < length s.lines.items → first_row m s + row ≡ point_row m s.sweep
+    → half ≤ w.height → up ≡ s.home + half - row → s.sweep.point ≡ old.point → s.sweep.shape ≡ old.shape → Between kind (point_row m old - w.height) (point_row m old + 1) → AsksAt Top kind m s up
+asks-above kind m old s w row half up h inside place low is point shape asks = λ k from to.
     let home = h.home in
+    let same = points-same m old s.sweep point shape in
     asks k (omega arith) (omega arith)
 
 pub centre-place : (m : SourceValues) (s new : Strip) (row half : ℕ) → IsStrip m s → IsStrip m new → new.sweep ≡ s.sweep → row < length s.lines.items → first_row m s + row ≡ point_row m s.sweep
@@ -216,6 +219,46 @@ pub pays : (kind : ℕ → Bool) (base : ℕ) (m : SourceValues) (sweep : Sweep)
 pays kind base m sweep s steps e paid =
     let bound = affords kind base m s.sweep s.blocks.items s.lines.items s.home steps paid.0 paid.1 in
     omega (arith, bound, ap (λ (x : Sweep). all_costs kind m x) e)
+
+-- what was paid for a strip of a window, by the rows near it
+abbrev pub NearPaid : SourceValues → Window → Strip → ℕ → ℕ → Type 0
+NearPaid m win s base steps = IsPaid (near_of m win.strip.sweep win.wanted) base m s steps
+
+-- a window whose strip grew
+pub laid-on : (m : SourceValues) (win : Window) (forced : Bool) (new : Strip) → IsLaidOut m win forced → IsStrip m new → new.sweep ≡ win.strip.sweep
+    → IsLaidOut m (record { wanted = win.wanted; strip = new }) forced
+laid-on m win forced new laid strip same = record { strip = strip; of = subst (IsFor win.wanted) (sym same) laid.of; height = laid.height; kind = laid.kind }
+
+pub unsuited-on : (m : SourceValues) (win : Window) (new : Strip) → IsUnsuited m win → IsStrip m new → new.sweep ≡ win.strip.sweep → IsUnsuited m (record { wanted = win.wanted; strip = new })
+unsuited-on m win new moves strip same =
+    let w = win.wanted in
+    let place = home-is m new strip ∙ (ap (home_row m) same ∙ sym (home-is m win.strip moves.laid.strip)) in
+    record {
+      laid = laid-on m win false new moves.laid strip same;
+      home = ap (λ (x : Sweep). suits w (places_of m x.shape w) (first_row m new + new.home)) same ∙ (ap (suits w (places_of m win.strip.sweep.shape w)) place ∙ moves.home);
+    }
+
+pub begins-on : (m : SourceValues) (s new : Strip) (rows : ℕ) → BeginsAbove m s rows → new.sweep ≡ s.sweep → new.home ≡ s.home → BeginsAbove m new rows
+begins-on m s new rows begins same home =
+    let row = ap (home_row m) same in
+    elim begins [ inl more ↦ inl (omega arith) | inr text ↦ inr (omega arith) ]
+
+-- as far above the old start as it may be moved, and then below it
+pub far-above : (m : SourceValues) (win : Window) (up : Strip) (n steps base : ℕ) → IsUnsuited m win → EdgePays Top m win.strip up n steps win.wanted.conservatively → NearPaid m win win.strip base n
+    → NearPaid m win up base steps
+far-above m win up n steps base moves pays paid =
+    pays (near_of m win.strip.sweep win.wanted) base paid (asks-far m win.strip win.wanted moves.laid.strip moves.laid.of moves.laid.kind moves.home)
+
+pub far-below : (m : SourceValues) (win : Window) (up : Strip) (home : ℕ) → IsUnsuited m win → IsStrip m up → up.sweep ≡ win.strip.sweep → home ≡ up.home
+    → AsksAt Bottom (near_of m win.strip.sweep win.wanted) m up (home + win.wanted.conservatively + win.wanted.height + 1)
+far-below m win up home moves strip same is =
+    subst (λ n. AsksAt Bottom (near_of m win.strip.sweep win.wanted) m up (n + win.wanted.conservatively + win.wanted.height + 1)) (sym is)
+    (asks-end m win.strip up win.wanted moves.laid.strip strip same moves.laid.of moves.laid.kind moves.home)
+
+-- the view from the old start
+pub view-below : (m : SourceValues) (win : Window) (home : ℕ) → IsLaidOut m win false → home ≡ win.strip.home → AsksAt Bottom (near_of m win.strip.sweep win.wanted) m win.strip (home + win.wanted.height)
+view-below m win home laid is =
+    subst (λ n. AsksAt Bottom (near_of m win.strip.sweep win.wanted) m win.strip (n + win.wanted.height)) (sym is) (asks-view m win.strip win.wanted laid.strip laid.of laid.kind)
 
 -- the steps that are left to a window
 abbrev pub WindowPays : SourceValues → ShapeValues → Wanted → Strip → ℕ → ℕ → Type 0

@@ -83,3 +83,15 @@ view-same m s start height end h reached inside is =
           take_all (end - start) rows (omega (arith, all, is, past)) ∙ sym (take_all height rows (omega (arith, all, past)))
       | inr within ↦ ap (λ n. take n rows) (whole-height start height (length s.lines.items) end is within)
     ]
+
+-- the rows of a view, and the span of their positions
+abbrev pub view_of : SourceValues → Strip → ℕ → ℕ → List EntryMeaning
+view_of m s start height = take height (drop (first_row m s + start) (all_rows (rows_in m s.sweep) m.blocks))
+
+abbrev pub Spans : Strip → ℕ → ℕ → Option Span → Type 0
+Spans s from to span = (m : SourceValues) → IsStrip m s → from ≤ to → span ≡ span_of (first_positions (view_of m s from (to - from)))
+
+pub view-spans : (m : SourceValues) (s : Strip) (start height end : ℕ) (span : Option Span) → IsStrip m s → Reaches m s (start + height) → start < length s.lines.items
+    → end ≡ min (start + height) (length s.lines.items) → Spans s start end span → span ≡ span_of (first_positions (view_of m s start height))
+view-spans m s start height end span h reached inside is spans =
+    spans m h (omega arith) ∙ ap (λ (ys : List EntryMeaning). span_of (first_positions ys)) (view-same m s start height end h reached inside is)

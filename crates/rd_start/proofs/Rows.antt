@@ -19,6 +19,12 @@ use Rattle.rd_start.proofs.Blocks.{Fit, any-fit, end-append, fit, fit-back, fit-
 use Rattle.rd_start.proofs.Tests.{above-range, below-range, in-range}
 use Rattle.rd_start.proofs.Lists.{first-among, first-behind, first-inside, first-mapped, first-none}
 
+pub whole-rows : (m : SourceValues) (sweep : Sweep) (bs before after : List Block) → m.blocks ≡ before ++ (bs ++ after)
+    → all_rows (rows_in m sweep) m.blocks ≡ all_rows (rows_in m sweep) before ++ (all_rows (rows_in m sweep) bs ++ all_rows (rows_in m sweep) after)
+whole-rows m sweep bs before after pieces =
+    let rows = λ (b : Block). rows_in m sweep b in
+    ap (all_rows rows) pieces ∙ (all-append rows before (bs ++ after) ∙ ap (λ ys. all_rows rows before ++ ys) (all-append rows bs after))
+
 -- all rows are those before a strip, its own and those behind it
 pub record Parts (m : SourceValues) (sweep : Sweep) (bs : List Block) (ls : List Line) (at : ℕ) : Type 0 where
   pub front : List EntryMeaning
@@ -36,7 +42,7 @@ parts m sweep bs ls at h =
     let front = all_rows rows h.before in
     let middle = all_rows rows bs in
     let back = all_rows rows h.after in
-    let whole = ap (all_rows rows) h.pieces ∙ (all-append rows h.before (bs ++ h.after) ∙ ap (λ ys. front ++ ys) (all-append rows bs h.after)) in
+    let whole = whole-rows m sweep bs h.before h.after h.pieces in
     let count = ap length h.lines ∙ length-map middle (line_of sweep.point) in
     record {
       front = front;
@@ -54,12 +60,9 @@ pub total-is : (m : SourceValues) (sweep : Sweep) (bs : List Block) (ls : List L
     → home_row m sweep + (length ls + length (all_rows (rows_in m sweep) h.after)) ≡ count_in m sweep m.blocks + at
 total-is m sweep bs ls at h =
     let rows = λ (b : Block). rows_in m sweep b in
-    let front = all_rows rows h.before in
-    let middle = all_rows rows bs in
-    let back = all_rows rows h.after in
-    let whole = ap (all_rows rows) h.pieces ∙ (all-append rows h.before (bs ++ h.after) ∙ ap (λ ys. front ++ ys) (all-append rows bs h.after)) in
-    let count = ap length h.lines ∙ length-map middle (line_of sweep.point) in
-    omega (arith, count, h.home, ap length whole, length-append front (middle ++ back), length-append middle back)
+    let whole = whole-rows m sweep bs h.before h.after h.pieces in
+    let count = ap length h.lines ∙ length-map (all_rows rows bs) (line_of sweep.point) in
+    omega (arith, count, h.home, ap length whole, length-append (all_rows rows h.before) (all_rows rows bs ++ all_rows rows h.after), length-append (all_rows rows bs) (all_rows rows h.after))
 
 -- a strip's rows are rows of its source
 pub all-inside : (m : SourceValues) (s : Strip) → IsStrip m s → first_row m s + length s.lines.items ≤ count_in m s.sweep m.blocks
@@ -177,7 +180,7 @@ whereabouts m sweep bs ls at h =
     let front = all_rows rows h.before in
     let middle = all_rows rows bs in
     let back = all_rows rows h.after in
-    let whole = ap (all_rows rows) h.pieces ∙ (all-append rows h.before (bs ++ h.after) ∙ ap (λ ys. front ++ ys) (all-append rows bs h.after)) in
+    let whole = whole-rows m sweep bs h.before h.after h.pieces in
     let row = ap (position_or_len begins) whole in
     let in_front = any-fit rows w.start p h.before w.front in
     let in_middle = any-fit rows w.first p bs w.middle in

@@ -36,7 +36,7 @@ sees-place from to first height row p inside outside place =
       ]
     ]
 
-pub sees : (m : SourceValues) (s : Strip) (from to height : ℕ) → IsStrip m s → Reaches m s (from + height) → from < length s.lines.items → to ≡ min (from + height) (length s.lines.items)
+sees : (m : SourceValues) (s : Strip) (from to height : ℕ) → IsStrip m s → Reaches m s (from + height) → from < length s.lines.items → to ≡ min (from + height) (length s.lines.items)
     → Sees (side_in s from to) (first_row m s + from) height (point_row m s.sweep)
 sees m s from to height h reached inside end =
     let p = point_row m s.sweep in
@@ -65,6 +65,10 @@ sees m s from to height h reached inside end =
             subst (λ (x : Side). Sees x (first_row m s + from) height p) (sym same) (elim reached [ inl far ↦ omega arith | inr all ↦ omega arith ])
       ]
     ]
+
+pub seen : (m : SourceValues) (s : Strip) (from to height : ℕ) (side : Side) → IsStrip m s → Reaches m s (from + height) → from < length s.lines.items → to ≡ min (from + height) (length s.lines.items)
+    → side_in s from to ≡ side → Sees side (first_row m s + from) height (point_row m s.sweep)
+seen m s from to height side h reached inside end is = subst (λ (x : Side). Sees x (first_row m s + from) height (point_row m s.sweep)) is (sees m s from to height h reached inside end)
 
 -- a strip that has point's row, or has not
 pub point-found : (m : SourceValues) (s : Strip) (row : ℕ) → IsStrip m s → find_point s.lines.items ≡ Some row → (row < length s.lines.items) × (first_row m s + row ≡ point_row m s.sweep)

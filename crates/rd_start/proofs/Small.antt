@@ -3,7 +3,6 @@ use Rattle.std.proofs.Common.{◌≡◌, ℕ, ◌+◌, ◌-◌, ◌^◌, ◌<◌
 use Rattle.std.proofs.lemmas.Bool.{cases_Bool, ltb-true}
 use Rattle.std.proofs.lemmas.List.{length-map}
 use Rattle.std.specs.List.{AllByRecursion, flat_map, fold}
-use Rattle.rd_matrix.proofs.Counting.{all-append}
 use Rattle.rd_matrix.specs.Entries.{EntryMeaning, all_rows, entries_of, numbered}
 use Rattle.rd_matrix.specs.Sources.{SourceValues, begins_of}
 use Rattle.rd_matrix.specs.declared.block.Block.{Block}
@@ -15,8 +14,8 @@ use Rattle.rd_start.specs.declared.span.Span.{Span}
 use Rattle.rd_start.specs.declared.strip.Strip.{Strip}
 use Rattle.rd_start.proofs.Blocks.{Fit}
 use Rattle.rd_start.proofs.Lists.{each-append, each-drop, each-from, each-take}
-use Rattle.rd_start.proofs.Places.{rows-between}
-use Rattle.rd_start.proofs.Rows.{bounds}
+use Rattle.rd_start.proofs.Places.{Spans, rows-between}
+use Rattle.rd_start.proofs.Rows.{bounds, whole-rows}
 
 abbrev Inside : ℕ → ℕ → Begin → Type 0
 Inside start end b = (b.from ≤ b.to) × (start + b.to ≤ end)
@@ -94,7 +93,7 @@ span-small m s from to span h low high e =
     let front = all_rows rows h.before in
     let middle = all_rows rows s.blocks.items in
     let back = all_rows rows h.after in
-    let whole = ap (all_rows rows) h.pieces ∙ (all-append rows h.before (s.blocks.items ++ h.after) ∙ ap (λ ys. front ++ ys) (all-append rows s.blocks.items h.after)) in
+    let whole = whole-rows m s.sweep s.blocks.items h.before h.after h.pieces in
     let count = ap length h.lines ∙ length-map middle (line_of s.sweep.point) in
     let home = h.home in
     let small = small-blocks rows w.first s.blocks.items w.middle h.small in
@@ -103,3 +102,7 @@ span-small m s from to span h low high e =
     ∙ ap (λ (ys : List EntryMeaning). take (to - from) (drop (first_row m s + from) ys)) (sym whole) in
     span-below (2 ^ 32) (first_positions (drop from (take to middle))) span (small-positions (2 ^ 32) (drop from (take to middle)) part)
     (e ∙ ap (λ (ys : List EntryMeaning). span_of (first_positions ys)) (sym same))
+
+pub view-small : (m : SourceValues) (s : Strip) (start height end : ℕ) (span : Span) → IsStrip m s → start < length s.lines.items → end ≡ min (start + height) (length s.lines.items) → Spans s start end (Some span)
+    → (span.first < 2 ^ 32) × (span.last < 2 ^ 32)
+view-small m s start height end span h inside is spans = span-small m s start end span h (omega arith) (omega arith) (spans m h (omega arith))

@@ -1,5 +1,5 @@
 -- Rows of a strip that suit as a start.
-use Rattle.std.proofs.Common.{◌≡◌, ℕ, ◌+◌, ◌-◌, ◌<◌, ◌≤◌, ◌⊎◌, inl, inr, Bool, true, false, cond, ◌==◌, leb, ltb, [], ◌∷◌, length, Option, None, Some, Result, Ok, Err, refl, sym, ap, subst, ◌∙◌, arith}
+use Rattle.std.proofs.Common.{◌≡◌, ℕ, ◌+◌, ◌-◌, ◌<◌, ◌≤◌, ◌⊎◌, inl, inr, Bool, true, false, cond, ◌==◌, leb, ltb, List, [], ◌∷◌, length, Option, None, Some, Result, Ok, Err, refl, sym, ap, subst, ◌∙◌, arith}
 use Rattle.std.proofs.lemmas.Bool.{and_right, eq-eqb, le-leb, lt-leb, ltb-false, ltb-true, ne_eqb}
 use Rattle.std.proofs.lemmas.Bool.Decides.{nat_tests}
 use Rattle.std.specs.List.{find}
@@ -7,17 +7,18 @@ use Rattle.rd_matrix.specs.Sources.{SourceValues}
 use Rattle.rd_matrix.specs.declared.block.Block.{Block}
 use Rattle.rd_start.specs.Chosen.{anchor_row, places_of, row_of}
 use Rattle.rd_start.specs.Starts.{above_at, around, both_at, is_inside, margin_of, suits, wanted_above, wanted_below}
-use Rattle.rd_start.specs.Strips.{IsFor, IsStrip, BeginsAbove, EndsAt, Reaches, StandsBeyond, count_in, first_row, hides_edge, home_row, point_row, rows_in, wanted_at}
+use Rattle.rd_start.specs.Strips.{IsFor, IsStrip, BeginsAbove, EndsAt, Reaches, StandsBeyond, count_in, first_row, hides_edge, home_row, point_row, row_at, rows_in, wanted_at}
 use Rattle.rd_start.specs.declared.strip.Edge.{Edge}
 use Rattle.rd_start.specs.declared.strip.Edge.TheVariants.{Bottom, Top}
 use Rattle.rd_matrix.specs.Entries.{all_rows}
 use Rattle.rd_start.specs.declared.strip.Strip.{Strip}
 use Rattle.rd_start.specs.declared.strip.Sweep.{Sweep}
 use Rattle.rd_start.specs.declared.wanted.Wanted.{Wanted}
+use Rattle.rd_start.specs.declared.window.Window.{Window}
 use Rattle.rd_base.specs.declared.settings.Anchor.{Anchor}
 use Rattle.std.proofs.lemmas.List.Folds.{find-append}
 use Rattle.std.specs.Option.{option_map, option_or}
-use Rattle.std.specs.Prelude.{IfOk}
+use Rattle.std.specs.Prelude.{IfOk, IfSome, SomeIff}
 use Rattle.rd_base.specs.declared.memory.Memory.{Memory}
 use Rattle.rd_start.proofs.Lists.{find-far, find-kept, find-none}
 use Rattle.rd_start.proofs.Reaching.{more-above, more-below}
@@ -105,37 +106,84 @@ lost-suits m s w start h of lost reached =
           inr (elim reached [ inl far ↦ omega arith | inr all ↦ omega arith ])
     ])
 
+reaches-less : (m : SourceValues) (s : Strip) (far near : ℕ) → Reaches m s far → near ≤ far → Reaches m s near
+reaches-less m s far near reached low = elim reached [ inl more ↦ inl (omega arith) | inr text ↦ inr text ]
+
 pub lost-nearest : (m : SourceValues) (s : Strip) (w : Wanted) → IsStrip m s → IsFor w s.sweep → find_point s.lines.items ≡ None → BeginsAbove m s w.conservatively
     → Reaches m s (s.home + w.conservatively + w.height + 1) → find (suits w (places_of m s.sweep.shape w)) (around (first_row m s + s.home) w.conservatively) ≡ None
 lost-nearest m s w h of lost begins reached =
     let home = h.home in
     find-none (suits w (places_of m s.sweep.shape w)) (first_row m s + s.home) w.conservatively (λ k low high.
     let from : first_row m s ≤ k = elim begins [ inl far ↦ omega arith | inr all ↦ omega arith ] in
-    unseen w m s.sweep k of.point
-    (elim (point-lost m s h lost) [
-      | inl above ↦ inl (omega arith)
-      | inr below ↦
-          let last = below.0 in
-          let inside = below.1 in
-          inr (elim reached [ inl far ↦ omega arith | inr all ↦ omega arith ])
-    ]))
+    let place : k ≡ first_row m s + (k - first_row m s) = omega arith in
+    ap (suits w (places_of m s.sweep.shape w)) place
+    ∙ lost-suits m s w (k - first_row m s) h of lost (reaches-less m s (s.home + w.conservatively + w.height + 1) (k - first_row m s + w.height) reached (omega arith)))
 
--- where no row suits so far above, the one so far below is asked
+one-found : (p : ℕ → Bool) (row : ℕ) → p row ≡ true → find p (row ∷ []) ≡ Some row
+one-found p row fits = rw fits refl
+
+one-lost : (p : ℕ → Bool) (row : ℕ) → p row ≡ false → find p (row ∷ []) ≡ None
+one-lost p row fails = rw fails refl
+
+-- the row at a place, where it suits
+pub found-row : (p : ℕ → Bool) (first place : ℕ) (o : Option ℕ) → o ≡ Some place → p (first + place) ≡ true → Some (first + place) ≡ find p (row_at first o)
+found-row p first place o is fits = sym (ap (λ (x : Option ℕ). find p (row_at first x)) is ∙ one-found p (first + place) fits)
+
+pub lost-row : (p : ℕ → Bool) (first place : ℕ) (o : Option ℕ) → o ≡ Some place → p (first + place) ≡ false → None ≡ find p (row_at first o)
+lost-row p first place o is fails = sym (ap (λ (x : Option ℕ). find p (row_at first x)) is ∙ one-lost p (first + place) fails)
+
+-- the row so far above the anchor's
+pub place-above : (m : SourceValues) (s : Strip) (far : ℕ) (o : Option ℕ) → SomeIff o (far ≤ s.home) (s.home - far) → IsStrip m s → BeginsAbove m s far
+    → row_at (first_row m s) o ≡ above_at (first_row m s + s.home) far
+place-above m s far None below h begins =
+    let low : s.home < far = omega (arith, below) in
+    let t = lt-leb far (first_row m s + s.home) (elim begins [ inl more ↦ absurd (below more) | inr text ↦ omega arith ]) in
+    sym (ap (λ b. cond b ((first_row m s + s.home - far) ∷ []) []) t)
+place-above m s far (Some place) is h begins =
+    let low = is.0 in
+    let same = is.1 in
+    let t = le-leb far (first_row m s + s.home) (omega arith) in
+    let row : first_row m s + place ≡ first_row m s + s.home - far = omega arith in
+    ap (λ n. n ∷ []) row ∙ sym (ap (λ b. cond b ((first_row m s + s.home - far) ∷ []) []) t)
+
+pub reached-above : (m : SourceValues) (s : Strip) (far height : ℕ) (o : Option ℕ) → SomeIff o (far ≤ s.home) (s.home - far) → Reaches m s (s.home + far + height)
+    → IfSome o (λ place. Reaches m s (place + height))
+reached-above m s far height None below reached = tt
+reached-above m s far height (Some place) is reached =
+    let same = is.1 in
+    reaches-less m s (s.home + far + height) (place + height) reached (omega arith)
+
+-- of the two rows so far from the anchor's the lesser is asked first
+pub at-lesser : (row far x : ℕ) (p : ℕ → Bool) (o : Option ℕ) → o ≡ find p (above_at row far) → o ≡ Some x → Some x ≡ find p (both_at row far)
+at-lesser row far x p o found is =
+    sym (find-append p (above_at row far) ((row + far) ∷ []) ∙ ap (λ r. option_or r (find p ((row + far) ∷ []))) (sym found ∙ is))
+
 at-greater : (row far next : ℕ) (p : ℕ → Bool) (o found : Option ℕ) → o ≡ find p (above_at row far) → o ≡ None → next ≡ row + far → found ≡ find p (next ∷ []) → found ≡ find p (both_at row far)
 at-greater row far next p o found e none same here =
     here ∙ (ap (λ n. find p (n ∷ [])) same
     ∙ sym (find-append p (above_at row far) ((row + far) ∷ []) ∙ ap (λ r. option_or r (find p ((row + far) ∷ []))) (sym e ∙ none)))
 
-pub greater-found : (r : Result (Option ℕ) Memory) (m other : SourceValues) (s : Strip) (w : Wanted) (far next : ℕ) (o : Option ℕ) → other ≡ m
-    → option_map (λ n. first_row m s + n) o ≡ find (suits w (places_of m s.sweep.shape w)) (above_at (first_row m s + s.home) far) → o ≡ None → next ≡ s.home + far
-    → IfOk r (λ f. option_map (λ n. first_row other s + n) f ≡ find (suits w (places_of other s.sweep.shape w)) ((first_row other s + next) ∷ []))
-    → IfOk r (λ f. option_map (λ n. first_row m s + n) f ≡ find (suits w (places_of m s.sweep.shape w)) (both_at (first_row m s + s.home) far))
-greater-found (Ok f) m other s w far next o e value none same told =
-    let here = subst (λ (x : SourceValues). option_map (λ n. first_row x s + n) f ≡ find (suits w (places_of x s.sweep.shape w)) ((first_row x s + next) ∷ [])) e told in
-    let place : first_row m s + next ≡ first_row m s + s.home + far = omega (arith, same) in
-    at-greater (first_row m s + s.home) far (first_row m s + next) (suits w (places_of m s.sweep.shape w)) (option_map (λ n. first_row m s + n) o) (option_map (λ n. first_row m s + n) f)
-    value (ap (option_map (λ n. first_row m s + n)) none) place here
-greater-found (Err x) m other s w far next o e value none same told = tt
+-- what suits among rows, as places of a window's strip
+abbrev pub Finds : SourceValues → Window → Option ℕ → List ℕ → Type 0
+Finds m win o rows = option_map (λ n. first_row m win.strip + n) o ≡ find (suits win.wanted (places_of m win.strip.sweep.shape win.wanted)) rows
+
+pub lesser-found : (m : SourceValues) (win : Window) (far start : ℕ) (o lesser : Option ℕ) → row_at (first_row m win.strip) lesser ≡ above_at (first_row m win.strip + win.strip.home) far
+    → Finds m win o (row_at (first_row m win.strip) lesser) → o ≡ Some start → Finds m win (Some start) (both_at (first_row m win.strip + win.strip.home) far)
+lesser-found m win far start o lesser above found is =
+    let p = suits win.wanted (places_of m win.strip.sweep.shape win.wanted) in
+    let f = λ (n : ℕ). first_row m win.strip + n in
+    at-lesser (first_row m win.strip + win.strip.home) far (first_row m win.strip + start) p (option_map f o) (found ∙ ap (find p) above) (ap (option_map f) is)
+
+pub greater-found : (r : Result (Option ℕ) Memory) (m other : SourceValues) (win : Window) (far next : ℕ) (o lesser : Option ℕ) → other ≡ m
+    → row_at (first_row m win.strip) lesser ≡ above_at (first_row m win.strip + win.strip.home) far → Finds m win o (row_at (first_row m win.strip) lesser) → o ≡ None → next ≡ win.strip.home + far
+    → IfOk r (λ f. Finds other win f (row_at (first_row other win.strip) (Some next))) → IfOk r (λ f. Finds m win f (both_at (first_row m win.strip + win.strip.home) far))
+greater-found (Ok f) m other win far next o lesser e above found none same told =
+    let p = suits win.wanted (places_of m win.strip.sweep.shape win.wanted) in
+    let g = λ (n : ℕ). first_row m win.strip + n in
+    let here = subst (λ (x : SourceValues). Finds x win f (row_at (first_row x win.strip) (Some next))) e told in
+    let place : first_row m win.strip + next ≡ first_row m win.strip + win.strip.home + far = omega (arith, same) in
+    at-greater (first_row m win.strip + win.strip.home) far (first_row m win.strip + next) p (option_map g o) (option_map g f) (found ∙ ap (find p) above) (ap (option_map g) none) place here
+greater-found (Err x) m other win far next o lesser e above found none same told = tt
 
 -- a search by steps
 pub nearest-here : (p : ℕ → Bool) (row step c x : ℕ) → step < c → find p (around row step) ≡ None → Some x ≡ find p (both_at row (step + 1)) → Some x ≡ find p (around row c)

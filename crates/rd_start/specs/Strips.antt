@@ -1,6 +1,6 @@
 -- Words for what the code holds while it chooses: a strip of rows that were laid out. The crate's public contract does not name
 -- them.
-use Rattle.std.specs.Prelude.{◌≡◌, ℕ, ◌+◌, ◌-◌, ◌^◌, ◌<◌, ◌≤◌, ◌⊎◌, min, max, nat_lt, Bool, true, if◌then◌else◌, List, [], ◌∷◌, ◌++◌, length, map, slice_get, ℤ, Option, None, Some}
+use Rattle.std.specs.Prelude.{◌≡◌, ℕ, ◌+◌, ◌-◌, ◌^◌, ◌<◌, ◌≤◌, ◌⊎◌, min, max, nat_lt, Bool, true, false, if◌then◌else◌, List, [], ◌∷◌, ◌++◌, length, map, slice_get, ℤ, Option, None, Some}
 use Rattle.std.specs.List.{AllByRecursion, fold, list_any, position, range_with_len}
 use Rattle.rd_matrix.specs.Blocks.{IsAmong, IsWithin}
 use Rattle.rd_matrix.specs.Entries.{EntryMeaning, all_rows, numbered}
@@ -10,7 +10,7 @@ use Rattle.rd_matrix.specs.declared.block.Block.{Block}
 use Rattle.rd_rows.specs.Rows.{RowMeaning}
 use Rattle.rd_rows.specs.Shapes.{ShapeValues, IsShape}
 use Rattle.rd_start.specs.Chosen.{anchor_at, anchor_row, begins_item, places_of, positions_of, row_of}
-use Rattle.rd_start.specs.Starts.{centred, moved, wanted_above, wanted_below}
+use Rattle.rd_start.specs.Starts.{centred, moved, suits, wanted_above, wanted_below}
 use Rattle.rd_start.specs.declared.strip.Edge.{Edge}
 use Rattle.rd_start.specs.declared.strip.Edge.TheVariants.{Bottom, Top}
 use Rattle.rd_start.specs.declared.strip.Line.{Line}
@@ -21,6 +21,7 @@ use Rattle.rd_start.specs.declared.strip.Side.TheVariants.{Above, Below, Within}
 use Rattle.rd_start.specs.declared.strip.Strip.{Strip}
 use Rattle.rd_start.specs.declared.strip.Sweep.{Sweep}
 use Rattle.rd_start.specs.declared.span.Span.{Span}
+use Rattle.rd_start.specs.declared.window.Window.{Window}
 
 -- the least and the greatest of positions
 abbrev pub span_of : List ℕ → Option Span
@@ -198,6 +199,29 @@ side_in s from to = side_of from to (unseen_from s.sweep.point (slice_get s.bloc
 pub record IsFor (w : Wanted) (sweep : Sweep) : Type 0 where
   pub anchor : sweep.anchor ≡ w.anchor
   pub point : sweep.point ≡ w.point
+
+-- a window's rows are laid out from its old start, and whether its start is forced
+pub record IsLaidOut (m : SourceValues) (window : Window) (forced : Bool) : Type 0 where
+  pub strip : IsStrip m window.strip
+  pub of : IsFor window.wanted window.strip.sweep
+  pub height : 1 ≤ window.wanted.height
+  pub kind : window.wanted.forced ≡ forced
+
+-- a window that follows point, and whose old start does not suit
+pub record IsUnsuited (m : SourceValues) (window : Window) : Type 0 where
+  pub laid : IsLaidOut m window false
+  pub home : suits window.wanted (places_of m window.strip.sweep.shape window.wanted) (first_row m window.strip + window.strip.home) ≡ false
+
+-- a window that follows point, and whose strip has point's row at a place
+pub record ShowsPoint (m : SourceValues) (window : Window) (row : ℕ) : Type 0 where
+  pub laid : IsLaidOut m window false
+  pub inside : row < length window.strip.lines.items
+  pub point : first_row m window.strip + row ≡ point_row m window.strip.sweep
+
+-- the row at a place of a strip that starts with a row
+abbrev pub row_at : ℕ → Option ℕ → List ℕ
+row_at first None = []
+row_at first (Some place) = (first + place) ∷ []
 
 -- a strip has the row in which the item that covers its point begins
 pub record HasPoint (m : SourceValues) (s : Strip) : Type 0 where

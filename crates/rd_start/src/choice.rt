@@ -5,12 +5,12 @@ ghost use Rattle.rd_matrix.specs.Entries.{all_rows};
 ghost use Rattle.rd_matrix.specs.Sources.{SourceValues, IsSource};
 ghost use Rattle.rd_start.specs.Chosen.{anchor_at, chosen_of, forced_point, places_of};
 ghost use Rattle.rd_start.specs.Near.{is_near, near_costs};
-ghost use Rattle.rd_start.specs.Starts.{suits};
-ghost use Rattle.rd_start.specs.Strips.{IsStrip, IsFor, IsPaid, Between, HasPoint, Reaches, all_costs, centred_chosen, first_row, point_row, rows_in};
+ghost use Rattle.rd_start.specs.Strips.{IsStrip, IsLaidOut, IsUnsuited, IsPaid, Between, HasPoint, Reaches, all_costs, centred_chosen, first_row, point_row, rows_in};
 
 use crate::strip::{Edge, Side, Strip, Sweep};
 use crate::view::{home_suits, nearest};
 use crate::wanted::{Chosen, Wanted};
+use crate::window::Window;
 use rd_base::{Anchor, Memory, Pos, Steps};
 use rd_matrix::BlockSource;
 use rd_rows::Shape;
@@ -52,55 +52,52 @@ pub fn choose<B: BlockSource, L: Ledger>(
         shape,
     };
     let strip = Strip::around(alloc, source, sweep, steps)?;
+    let window = Window { wanted, strip };
     if wanted.forced {
-        return forced(alloc, source, wanted, strip, steps);
+        return forced(alloc, source, window, steps);
     }
-    following(alloc, source, wanted, strip, steps)
+    following(alloc, source, window, steps)
 }
 
 /// The start and the point of a window whose start is forced.
 fn forced<B: BlockSource, L: Ledger>(
     alloc: Global,
     source: &mut B,
-    wanted: Wanted,
-    strip: Strip,
+    window: Window,
     steps: &mut Steps<L>,
 ) -> Result<Chosen, Memory>
-    requires strip { IsStrip (B.meaning source.old) strip }
-    requires of { IsFor wanted strip.sweep }
-    requires height { 1 ≤ wanted.height }
-    requires forced { wanted.forced ≡ true }
-    ensures value { IfOk result (λ chosen. chosen ≡ chosen_of (B.meaning source.old) strip.sweep.shape wanted) }
-    ensures steps { (base : ℕ) → IsPaid (is_near wanted (places_of (B.meaning source.old) strip.sweep.shape wanted)) base (B.meaning source.old) strip steps.old
-        → steps.new ≤ base + near_costs (B.meaning source.old) strip.sweep.shape wanted }
+    requires { IsLaidOut (B.meaning source.old) window true }
+    ensures value { IfOk result (λ chosen. chosen ≡ chosen_of (B.meaning source.old) window.strip.sweep.shape window.wanted) }
+    ensures steps { (base : ℕ) → IsPaid (is_near window.wanted (places_of (B.meaning source.old) window.strip.sweep.shape window.wanted)) base (B.meaning source.old) window.strip steps.old
+        → steps.new ≤ base + near_costs (B.meaning source.old) window.strip.sweep.shape window.wanted }
     ensures stays { B.meaning source.new ≡ B.meaning source.old }
 {
-    let mut strip = strip;
-    let start = strip.scroll(alloc, source, wanted, steps)?;
-    let end = start + wanted.height as usize;
-    strip.reach(alloc, source, Edge::Bottom, end, steps)?;
+    let mut window = window;
+    let start = window.strip.scroll(alloc, source, window.wanted, steps)?;
+    let end = start + window.wanted.height as usize;
+    window.strip.reach(alloc, source, Edge::Bottom, end, steps)?;
     Ok(Chosen {
-        anchor: strip.anchor(start),
-        point: forced_point(wanted, &strip, start),
+        anchor: window.strip.anchor(start),
+        point: forced_point(&window, start),
     })
 }
 
 /// Point where a row of a strip is a forced start, and the strip reaches the end of the view from there.
-fn forced_point(wanted: Wanted, strip: &Strip, start: usize) -> Pos
-    requires strip { (m : SourceValues) × IsStrip m strip.now }
-    requires start { start < length strip.now.lines.items }
-    requires height { 1 ≤ wanted.height }
-    ensures { (m : SourceValues) → IsStrip m strip.now → Reaches m strip.now (start + wanted.height)
-        → result ≡ forced_point wanted (first_row m strip.now + start) (point_row m strip.now.sweep)
-        (take wanted.height (drop (first_row m strip.now + start) (all_rows (rows_in m strip.now.sweep) m.blocks))) }
+fn forced_point(window: &Window, start: usize) -> Pos
+    requires strip { (m : SourceValues) × IsStrip m window.now.strip }
+    requires start { start < length window.now.strip.lines.items }
+    requires height { 1 ≤ window.now.wanted.height }
+    ensures { (m : SourceValues) → IsStrip m window.now.strip → Reaches m window.now.strip (start + window.now.wanted.height)
+        → result ≡ forced_point window.now.wanted (first_row m window.now.strip + start) (point_row m window.now.strip.sweep)
+        (take window.now.wanted.height (drop (first_row m window.now.strip + start) (all_rows (rows_in m window.now.strip.sweep) m.blocks))) }
 {
-    let end = (start + wanted.height as usize).min(strip.count());
-    let side = strip.side_of_point(start, end);
-    match strip.span(start, end) {
-        None => wanted.point,
+    let end = (start + window.wanted.height as usize).min(window.strip.count());
+    let side = window.strip.side_of_point(start, end);
+    match window.strip.span(start, end) {
+        None => window.wanted.point,
         Some(span) => match side {
             Side::Above => span.first as Pos,
-            Side::Within => wanted.point,
+            Side::Within => window.wanted.point,
             Side::Below => span.last as Pos,
         },
     }
@@ -110,54 +107,47 @@ fn forced_point(wanted: Wanted, strip: &Strip, start: usize) -> Pos
 fn following<B: BlockSource, L: Ledger>(
     alloc: Global,
     source: &mut B,
-    wanted: Wanted,
-    strip: Strip,
+    window: Window,
     steps: &mut Steps<L>,
 ) -> Result<Chosen, Memory>
-    requires strip { IsStrip (B.meaning source.old) strip }
-    requires of { IsFor wanted strip.sweep }
-    requires height { 1 ≤ wanted.height }
-    requires forced { wanted.forced ≡ false }
-    ensures value { IfOk result (λ chosen. chosen ≡ chosen_of (B.meaning source.old) strip.sweep.shape wanted) }
-    ensures steps { (base : ℕ) → IsPaid (is_near wanted (places_of (B.meaning source.old) strip.sweep.shape wanted)) base (B.meaning source.old) strip steps.old
-        → steps.new ≤ base + 2 * near_costs (B.meaning source.old) strip.sweep.shape wanted }
+    requires { IsLaidOut (B.meaning source.old) window false }
+    ensures value { IfOk result (λ chosen. chosen ≡ chosen_of (B.meaning source.old) window.strip.sweep.shape window.wanted) }
+    ensures steps { (base : ℕ) → IsPaid (is_near window.wanted (places_of (B.meaning source.old) window.strip.sweep.shape window.wanted)) base (B.meaning source.old) window.strip steps.old
+        → steps.new ≤ base + 2 * near_costs (B.meaning source.old) window.strip.sweep.shape window.wanted }
     ensures stays { B.meaning source.new ≡ B.meaning source.old }
 {
-    let mut strip = strip;
-    let end = strip.home() + wanted.height as usize;
-    strip.reach(alloc, source, Edge::Bottom, end, steps)?;
-    if home_suits(alloc, source, wanted, &strip)? {
-        return Ok(starting_at(wanted, &strip, strip.home()));
+    let mut window = window;
+    let end = window.strip.home() + window.wanted.height as usize;
+    window.strip.reach(alloc, source, Edge::Bottom, end, steps)?;
+    if home_suits(alloc, source, &window)? {
+        return Ok(starting_at(&window, window.strip.home()));
     }
-    moving(alloc, source, wanted, strip, steps)
+    moving(alloc, source, window, steps)
 }
 
 /// The start of a window whose old start does not suit.
 fn moving<B: BlockSource, L: Ledger>(
     alloc: Global,
     source: &mut B,
-    wanted: Wanted,
-    strip: Strip,
+    window: Window,
     steps: &mut Steps<L>,
 ) -> Result<Chosen, Memory>
-    requires strip { IsStrip (B.meaning source.old) strip }
-    requires of { IsFor wanted strip.sweep }
-    requires height { 1 ≤ wanted.height }
-    requires forced { wanted.forced ≡ false }
-    requires home { suits wanted (places_of (B.meaning source.old) strip.sweep.shape wanted) (first_row (B.meaning source.old) strip + strip.home) ≡ false }
-    ensures value { IfOk result (λ chosen. chosen ≡ chosen_of (B.meaning source.old) strip.sweep.shape wanted) }
-    ensures steps { (base : ℕ) → IsPaid (is_near wanted (places_of (B.meaning source.old) strip.sweep.shape wanted)) base (B.meaning source.old) strip steps.old
-        → steps.new ≤ base + 2 * near_costs (B.meaning source.old) strip.sweep.shape wanted }
+    requires { IsUnsuited (B.meaning source.old) window }
+    ensures value { IfOk result (λ chosen. chosen ≡ chosen_of (B.meaning source.old) window.strip.sweep.shape window.wanted) }
+    ensures steps { (base : ℕ) → IsPaid (is_near window.wanted (places_of (B.meaning source.old) window.strip.sweep.shape window.wanted)) base (B.meaning source.old) window.strip steps.old
+        → steps.new ≤ base + 2 * near_costs (B.meaning source.old) window.strip.sweep.shape window.wanted }
     ensures stays { B.meaning source.new ≡ B.meaning source.old }
 {
-    let far = wanted.conservatively as usize;
-    let mut strip = strip;
-    strip.reach(alloc, source, Edge::Top, far, steps)?;
-    let end = strip.home() + far + wanted.height as usize;
-    strip.reach(alloc, source, Edge::Bottom, end + 1, steps)?;
-    match nearest(alloc, source, wanted, &strip)? {
-        Some(start) => Ok(starting_at(wanted, &strip, start)),
-        None => centred(alloc, source, wanted, strip, steps),
+    let mut window = window;
+    let far = window.wanted.conservatively as usize;
+    window.strip.reach(alloc, source, Edge::Top, far, steps)?;
+    let end = window.strip.home() + far + window.wanted.height as usize;
+    window
+        .strip
+        .reach(alloc, source, Edge::Bottom, end + 1, steps)?;
+    match nearest(alloc, source, &window)? {
+        Some(start) => Ok(starting_at(&window, start)),
+        None => centred(alloc, source, window, steps),
     }
 }
 
@@ -165,26 +155,27 @@ fn moving<B: BlockSource, L: Ledger>(
 fn centred<B: BlockSource, L: Ledger>(
     alloc: Global,
     source: &mut B,
-    wanted: Wanted,
-    strip: Strip,
+    window: Window,
     steps: &mut Steps<L>,
 ) -> Result<Chosen, Memory>
-    requires strip { IsStrip (B.meaning source.old) strip }
-    requires point { strip.sweep.point ≡ wanted.point }
-    ensures value { IfOk result (λ chosen. chosen ≡ centred_chosen (B.meaning source.old) strip.sweep.shape wanted) }
-    ensures steps { (kind : ℕ → Bool) (base : ℕ) → IsPaid kind base (B.meaning source.old) strip steps.old
-        → Between kind (point_row (B.meaning source.old) strip.sweep - wanted.height) (point_row (B.meaning source.old) strip.sweep + 1)
-        → steps.new ≤ base + 2 * all_costs kind (B.meaning source.old) strip.sweep }
+    requires strip { IsStrip (B.meaning source.old) window.strip }
+    requires point { window.strip.sweep.point ≡ window.wanted.point }
+    ensures value { IfOk result (λ chosen. chosen ≡ centred_chosen (B.meaning source.old) window.strip.sweep.shape window.wanted) }
+    ensures steps { (kind : ℕ → Bool) (base : ℕ) → IsPaid kind base (B.meaning source.old) window.strip steps.old
+        → Between kind (point_row (B.meaning source.old) window.strip.sweep - window.wanted.height) (point_row (B.meaning source.old) window.strip.sweep + 1)
+        → steps.new ≤ base + 2 * all_costs kind (B.meaning source.old) window.strip.sweep }
     ensures stays { B.meaning source.new ≡ B.meaning source.old }
 {
-    let mut strip = with_point(alloc, source, strip, steps)?;
+    let wanted = window.wanted;
+    let strip = with_point(alloc, source, window.strip, steps)?;
+    let mut window = Window { wanted, strip };
     let half = wanted.height as usize / 2;
-    let home = strip.home();
-    let row = row_of_point(&strip);
+    let home = window.strip.home();
+    let row = row_of_point(&window.strip);
     let above = (home + half).saturating_sub(row);
-    strip.reach(alloc, source, Edge::Top, above, steps)?;
-    let row = row + (strip.home() - home);
-    Ok(starting_at(wanted, &strip, row.saturating_sub(half)))
+    window.strip.reach(alloc, source, Edge::Top, above, steps)?;
+    let row = row + (window.strip.home() - home);
+    Ok(starting_at(&window, row.saturating_sub(half)))
 }
 
 /// The place of point's row in a strip that has it.
@@ -220,13 +211,13 @@ fn with_point<B: BlockSource, L: Ledger>(
     Strip::around(alloc, source, Sweep { anchor, ..sweep }, steps)
 }
 
-/// The choice of the row at a place of a strip; point stays.
-fn starting_at(wanted: Wanted, strip: &Strip, place: usize) -> Chosen
-    requires { place < length strip.now.lines.items }
-    ensures { (m : SourceValues) → IsStrip m strip.now → result ≡ record { anchor = anchor_at (all_rows (rows_in m strip.now.sweep) m.blocks) (first_row m strip.now + place); point = wanted.point } }
+/// The choice of the row at a place of a window's strip; point stays.
+fn starting_at(window: &Window, place: usize) -> Chosen
+    requires { place < length window.now.strip.lines.items }
+    ensures { (m : SourceValues) → IsStrip m window.now.strip → result ≡ record { anchor = anchor_at (all_rows (rows_in m window.now.strip.sweep) m.blocks) (first_row m window.now.strip + place); point = window.now.wanted.point } }
 {
     Chosen {
-        anchor: strip.anchor(place),
-        point: wanted.point,
+        anchor: window.strip.anchor(place),
+        point: window.wanted.point,
     }
 }

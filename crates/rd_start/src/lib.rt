@@ -8,7 +8,8 @@
 //! far as the choice needs them.
 //!
 //! 1. `strip`: the block that holds the old start is laid out. The strip grows by whole blocks above and below; of a row it keeps where it
-//!    stands, whether point is in it, and the least and the greatest position at which its items begin.
+//!    stands, whether point is in it, and the least and the greatest position at which its items begin. What the window wants and its
+//!    strip are a `Window`.
 //! 2. `choice::forced`: a start that was set by command is scrolled by the rows that wait, and held to the rows that there are. If point is not
 //!    in view it moves to the first position that begins there, or to the last if its row is below.
 //! 3. `choice::following`: else the old start stays if it suits (`view`): point's row is in view and as far from its first and last row as the
@@ -32,6 +33,7 @@ mod span;
 mod strip;
 mod view;
 mod wanted;
+mod window;
 
 pub use choice::choose;
 pub use laws::a_start_is_a_row;

@@ -15,6 +15,9 @@ use Rattle.rd_matrix.specs.declared.block.Block.{Block}
 use Rattle.rd_rows.specs.Rows.{RowMeaning}
 use Rattle.rd_rows.specs.Shapes.{IsShape, ShapeValues}
 use Rattle.rd_rows.specs.declared.begin.Begin.{Begin}
+use Rattle.rd_start.proofs.Blocks.{any-block}
+use Rattle.rd_start.proofs.Lists.{none-counted}
+use Rattle.rd_start.proofs.Tests.{above-range, below-range, in-range, range-parts}
 use Rattle.rd_start.specs.Chosen.{begins_item, places_of, row_of}
 use Rattle.rd_start.specs.declared.wanted.Wanted.{Wanted}
 use Rattle.rd_window.proofs.Ends.{in-view}
@@ -70,61 +73,7 @@ at-position p (y ∷ xs) some =
           (rest.0, ap (slice_get (y ∷ xs)) place ∙ rest.1, rest.2)
     ]
 
-none-counted : {X : Type 0} (p : X → Bool) (xs : List X) → list_any p xs ≡ false → count_by p xs ≡ 0
-none-counted p [] none = refl
-none-counted p (x ∷ xs) none =
-    elim (cases_Bool (p x)) [
-      | inl here ↦ let some : list_any p (x ∷ xs) ≡ true = ap (λ b. b || list_any p xs) here in absurd cc
-      | inr here ↦
-          let rest : list_any p xs ≡ false = sym (ap (λ b. b || list_any p xs) here) ∙ none in
-          rw here (none-counted p xs rest)
-    ]
-
-one-passes : {X : Type 0} (p : X → Bool) (xs : List X) → count_by p xs ≡ 1 → list_any p xs ≡ true
-one-passes p xs one =
-    elim (cases_Bool (list_any p xs)) [
-      | inl some ↦ some
-      | inr none ↦ let count = none-counted p xs none in absurd (omega (arith, count, one))
-    ]
-
--- ---- ranges, as tests
-
-in-range : (from to k : ℕ) → from ≤ k → k < to → (leb from k && ltb k to) ≡ true
-in-range from to k low high = and_from (leb from k) (ltb k to) (le-leb from k low) (lt-ltb k to high)
-
-below-range : (from to k : ℕ) → k < from → (leb from k && ltb k to) ≡ false
-below-range from to k low = and_left (leb from k) (ltb k to) (lt-leb from k low)
-
-above-range : (from to k : ℕ) → to ≤ k → (leb from k && ltb k to) ≡ false
-above-range from to k high = and_right (leb from k) (ltb k to) (le-ltb k to high)
-
-range-parts : (from to k : ℕ) → (leb from k && ltb k to) ≡ true → (from ≤ k) × (k < to)
-range-parts from to k e = let both = and_parts (leb from k) (ltb k to) e in (leb-true from k both.0, ltb-true k to both.1)
-
 -- ---- which rows have the beginning
-
-any-numbered : (point start number : ℕ) (rows : List RowMeaning) → list_any (begins_item point) (numbered start number rows) ≡ list_any (covers start point) (begins_of rows)
-any-numbered point start number [] = refl
-any-numbered point start number (r ∷ rows) =
-    ap (λ b. list_any (covers start point) r.begins || b) (any-numbered point start (number + 1) rows)
-    ∙ sym (list_any-append (covers start point) r.begins (begins_of rows))
-
-none-covers : (start end point : ℕ) (bs : List Begin) → All (λ b. (b.from ≤ b.to) × (start + b.to ≤ end)) bs → (leb start point && ltb point end) ≡ false
-    → list_any (covers start point) bs ≡ false
-none-covers start end point bs inside out = list_any_none (covers start point) bs (λ k d below.
-    let h = inside k d below in
-    grind (arith, nat_tests, h.0, h.1))
-
--- a row of the block that holds the position
-any-block : (point start end : ℕ) (rows : List RowMeaning) → AreRowsOf start end rows → list_any (begins_item point) (numbered start 0 rows) ≡ (leb start point && ltb point end)
-any-block point start end rows h =
-    any-numbered point start 0 rows
-    ∙ elim (cases_Bool (leb start point && ltb point end)) [
-      | inl here ↦
-          let inside = range-parts start end point here in
-          one-passes (covers start point) (begins_of rows) (h.once point inside.0 inside.1) ∙ sym here
-      | inr out ↦ none-covers start end point (begins_of rows) h.inside out ∙ sym out
-    ]
 
 -- the rows of each of the blocks
 abbrev pub HaveRows : (Block → List RowMeaning) → List Block → Type 0

@@ -1,21 +1,42 @@
-use Rattle.std.proofs.Common.{◌≡◌, inl, refl, subst, arith}
+use Rattle.std.proofs.Common.{◌≡◌, inl, Bool, true, false, refl, sym, subst, arith}
 use Rattle.std.specs.Prelude.{IfOk}
 use Rattle.rd_matrix.specs.Sources.{SourceValues}
 use Rattle.rd_start.specs.Chosen.{chosen_of}
-use Rattle.rd_start.specs.Strips.{IsFor}
+use Rattle.rd_start.specs.Strips.{IsFor, IsLaidOut, IsPaid}
 use Rattle.rd_start.specs.declared.strip.Sweep.{Sweep}
 use Rattle.rd_start.specs.declared.wanted.Chosen.{Chosen}
 use Rattle.rd_start.specs.declared.wanted.Wanted.{Wanted}
+use Rattle.rd_start.specs.declared.window.Window.{Window}
 use Rattle.rd_rows.specs.Shapes.{ShapeValues}
 use Rattle.rd_start.proofs.Moving.{ForcedPays, WindowPays, asks-home, forced-pays, near_of, window-pays}
 use Rattle.rd_start.proofs.Reaching.{at-source}
+use Rattle.rd_start.proofs.choice.choose.Given as given
 use Rattle.rd_start.proofs.choice.choose.Goals as goal
+use Rattle.rd_start.proofs.choice.choose.Goals.{In_ok-strip}
 
 abbrev sweep_of : Wanted → ShapeValues → Sweep
 sweep_of w shape = record { anchor = w.anchor; point = w.point; shape = shape }
 
 is-for : (w : Wanted) (shape : ShapeValues) → IsFor w (sweep_of w shape)
 is-for w shape = record { anchor = refl; point = refl }
+
+-- the window that is laid out
+laid : (g : given.Over) (c : goal.In_ok-strip g) (forced : Bool) → c.args.wanted.forced ≡ forced → IsLaidOut (g.B.BlockSource.meaning c.around.new.source) (record { wanted = c.args.wanted; strip = c.in_ok-strip.strip }) forced
+laid g c forced kind =
+    let w = c.args.wanted in
+    let win : Window = record { wanted = w; strip = c.in_ok-strip.strip } in
+    at-source (λ (x : SourceValues). IsLaidOut x win forced) (g.B.BlockSource.meaning c.around.new.source) (g.B.BlockSource.meaning c.args.source.now) (sym c.around.ensures.stays) (record {
+      strip = c.in_ok-strip.ensures.strip.0;
+      of = subst (IsFor w) (sym c.in_ok-strip.ensures.strip.1) (is-for w c.args.shape);
+      height = c.requires.height;
+      kind = kind;
+    })
+
+pub forced-requires : goal.forced-requires
+forced-requires g c = laid g (goal.at.forced-requires g c).In_ok-strip true c.if-wanted.true
+
+pub following-requires : goal.following-requires
+following-requires g c = laid g (goal.at.following-requires g c).In_ok-strip false c.if-wanted.false
 
 pub returns-in_err-strip-clause-steps : goal.returns-in_err-strip-clause-steps
 returns-in_err-strip-clause-steps g c =
@@ -24,6 +45,15 @@ returns-in_err-strip-clause-steps g c =
     let sweep = sweep_of w c.args.shape in
     let bound = c.in_err-strip.ensures.paid (near_of m sweep w) (inl (asks-home m sweep w (is-for w c.args.shape) c.requires.height)) in
     omega (arith, bound)
+
+-- what was paid for the block of the old start
+had : (g : given.Over) (c : goal.In_ok-strip g)
+    → IsPaid (near_of (g.B.BlockSource.meaning c.args.source.now) (sweep_of c.args.wanted c.args.shape) c.args.wanted) c.args.steps.now (g.B.BlockSource.meaning c.args.source.now) c.in_ok-strip.strip c.around.new.steps
+had g c =
+    let m = g.B.BlockSource.meaning c.args.source.now in
+    let w = c.args.wanted in
+    let sweep = sweep_of w c.args.shape in
+    c.in_ok-strip.ensures.paid (near_of m sweep w) (inl (asks-home m sweep w (is-for w c.args.shape) c.requires.height))
 
 pub returns-then-wanted-clause-value : goal.returns-then-wanted-clause-value
 returns-then-wanted-clause-value g c =
@@ -39,9 +69,8 @@ returns-then-wanted-clause-steps g c =
     let w = c.args.wanted in
     let s = c.in_ok-strip.strip in
     let sweep = sweep_of w c.args.shape in
-    let had = c.in_ok-strip.ensures.paid (near_of m sweep w) (inl (asks-home m sweep w (is-for w c.args.shape) c.requires.height)) in
     let paying = at-source (λ (x : SourceValues). ForcedPays x s.sweep.shape w s c.around.new.steps c.forced.new.steps) m (g.B.BlockSource.meaning c.around.new.source) c.around.ensures.stays c.forced.ensures.steps in
-    let bound = forced-pays m sweep w s c.around.new.steps c.forced.new.steps c.args.steps.now c.in_ok-strip.ensures.strip.1 paying had in
+    let bound = forced-pays m sweep w s c.around.new.steps c.forced.new.steps c.args.steps.now c.in_ok-strip.ensures.strip.1 paying (had g (goal.at.returns-then-wanted-clause-steps g c).In_ok-strip) in
     omega (arith, bound)
 
 pub returns-clause-value : goal.returns-clause-value
@@ -58,6 +87,5 @@ returns-clause-steps g c =
     let w = c.args.wanted in
     let s = c.in_ok-strip.strip in
     let sweep = sweep_of w c.args.shape in
-    let had = c.in_ok-strip.ensures.paid (near_of m sweep w) (inl (asks-home m sweep w (is-for w c.args.shape) c.requires.height)) in
     let paying = at-source (λ (x : SourceValues). WindowPays x s.sweep.shape w s c.around.new.steps c.following.new.steps) m (g.B.BlockSource.meaning c.around.new.source) c.around.ensures.stays c.following.ensures.steps in
-    window-pays m sweep w s c.around.new.steps c.following.new.steps c.args.steps.now c.in_ok-strip.ensures.strip.1 paying had
+    window-pays m sweep w s c.around.new.steps c.following.new.steps c.args.steps.now c.in_ok-strip.ensures.strip.1 paying (had g (goal.at.returns-clause-steps g c).In_ok-strip)

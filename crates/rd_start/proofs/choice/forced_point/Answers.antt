@@ -1,85 +1,68 @@
-use Rattle.std.proofs.Common.{◌≡◌, ◌+◌, ◌≤◌, min, List, length, take, drop, sym, ap, subst, ◌∙◌, arith}
-use Rattle.rd_matrix.specs.Entries.{EntryMeaning, all_rows}
+use Rattle.std.proofs.Common.{◌≡◌, ◌+◌, min, length, None, Option, Some, sym, ◌∙◌, arith}
+use Rattle.rd_matrix.specs.Sources.{SourceValues}
 use Rattle.rd_start.specs.Chosen.{first_positions}
-use Rattle.rd_start.specs.Strips.{first_row, point_row, rows_in, span_of}
+use Rattle.rd_start.specs.Strips.{IsStrip, Reaches, first_row, point_row, span_of}
+use Rattle.rd_start.specs.declared.span.Span.{Span}
 use Rattle.rd_start.specs.declared.strip.Side.{Side}
+use Rattle.rd_start.specs.declared.strip.Side.TheVariants.{Above, Below, Within}
 use Rattle.rd_start.proofs.Choosing.{point-above, point-below, point-kept, point-shown}
-use Rattle.rd_start.proofs.Places.{view-same}
-use Rattle.rd_start.proofs.Sides.{Sees, sees}
-use Rattle.rd_start.proofs.Small.{span-small}
+use Rattle.rd_start.proofs.Places.{Spans, view_of, view-spans}
+use Rattle.rd_start.proofs.Sides.{Sees, seen}
+use Rattle.rd_start.proofs.Small.{view-small}
 use Rattle.rd_start.proofs.choice.forced_point.Goals as goal
+use Rattle.rd_start.proofs.choice.forced_point.Goals.{After-min-end, After-side_of_point-side}
+
+-- the place behind the view's last row
+end : (c : goal.After-min-end) → c.min-end.result ≡ min (c.args.start + c.args.window.now.wanted.height) (length c.args.window.now.strip.lines.items)
+end c = omega (arith, c.min-end.ensures, c.count.ensures.value)
+
+-- where point's row is, and what its view spans
+side : (c : goal.After-side_of_point-side) (there : Side) → c.side_of_point-side.result ≡ there → (m : SourceValues) → IsStrip m c.args.window.now.strip
+    → Reaches m c.args.window.now.strip (c.args.start + c.args.window.now.wanted.height)
+    → Sees there (first_row m c.args.window.now.strip + c.args.start) c.args.window.now.wanted.height (point_row m c.args.window.now.strip.sweep)
+side c there is m h reached =
+    let win = c.args.window.now in
+    seen m win.strip c.args.start c.min-end.result win.wanted.height there h reached c.requires.start (omega (arith, c.min-end.ensures, c.count.ensures.value)) (sym c.side_of_point-side.ensures ∙ is)
+
+spans : (c : goal.After-min-end) (span : Option Span) → Spans c.args.window.now.strip c.args.start c.min-end.result span → (m : SourceValues) → IsStrip m c.args.window.now.strip
+    → Reaches m c.args.window.now.strip (c.args.start + c.args.window.now.wanted.height)
+    → span ≡ span_of (first_positions (view_of m c.args.window.now.strip c.args.start c.args.window.now.wanted.height))
+spans c span is m h reached = let win = c.args.window.now in view-spans m win.strip c.args.start win.wanted.height c.min-end.result span h reached c.requires.start (end c) is
 
 pub overflow_cast-result : goal.overflow_cast-result
 overflow_cast-result c =
-    let s = c.args.strip.now in
-    let m = c.requires.strip.0 in
-    let h = c.requires.strip.1 in
-    let count = c.count.ensures.value in
-    let end : c.min-end.result ≡ min (c.args.start + c.args.wanted.height) (length s.lines.items) = omega (arith, c.min-end.ensures, count) in
-    let inside = c.requires.start in
-    let low : c.args.start ≤ c.min-end.result = omega (arith, end, inside) in
-    let small = span-small m s c.args.start c.min-end.result c.in-Some.span h low (omega (arith, end)) (c.in-Some.ensures m h low) in
-    let here = small.0 in
-    omega arith
+    let win = c.args.window.now in
+    let here = view-small c.requires.strip.0 win.strip c.args.start win.wanted.height c.min-end.result c.in-Some.span c.requires.strip.1 c.requires.start (end (goal.at.overflow_cast-result c).After-min-end) c.in-Some.ensures in
+    omega (arith, here.0)
 
 pub overflow_cast-result-in-Below : goal.overflow_cast-result-in-Below
 overflow_cast-result-in-Below c =
-    let s = c.args.strip.now in
-    let m = c.requires.strip.0 in
-    let h = c.requires.strip.1 in
-    let count = c.count.ensures.value in
-    let end : c.min-end.result ≡ min (c.args.start + c.args.wanted.height) (length s.lines.items) = omega (arith, c.min-end.ensures, count) in
-    let inside = c.requires.start in
-    let low : c.args.start ≤ c.min-end.result = omega (arith, end, inside) in
-    let small = span-small m s c.args.start c.min-end.result c.in-Some.span h low (omega (arith, end)) (c.in-Some.ensures m h low) in
-    let here = small.1 in
-    omega arith
+    let win = c.args.window.now in
+    let here = view-small c.requires.strip.0 win.strip c.args.start win.wanted.height c.min-end.result c.in-Some.span c.requires.strip.1 c.requires.start (end (goal.at.overflow_cast-result-in-Below c).After-min-end) c.in-Some.ensures in
+    omega (arith, here.1)
 
 pub returns-in-None : goal.returns-in-None
 returns-in-None c = λ m h reached.
-    let s = c.args.strip.now in
-    let w = c.args.wanted in
-    let start = c.args.start in
-    let inside = c.requires.start in
-    let end : c.min-end.result ≡ min (start + w.height) (length s.lines.items) = omega (arith, c.min-end.ensures, c.count.ensures.value) in
-    let low : start ≤ c.min-end.result = omega (arith, end, inside) in
-    let view = take w.height (drop (first_row m s + start) (all_rows (rows_in m s.sweep) m.blocks)) in
-    let same = view-same m s start w.height c.min-end.result h reached inside end in
-    point-kept w (first_row m s + start) (point_row m s.sweep) view (c.in-None.ensures m h low ∙ ap (λ (ys : List EntryMeaning). span_of (first_positions ys)) same)
+    let win = c.args.window.now in
+    point-kept win.wanted (first_row m win.strip + c.args.start) (point_row m win.strip.sweep) (view_of m win.strip c.args.start win.wanted.height)
+    (spans (goal.at.returns-in-None c).After-min-end None c.in-None.ensures m h reached)
 
 pub returns-in-Above : goal.returns-in-Above
 returns-in-Above c = λ m h reached.
-    let s = c.args.strip.now in
-    let w = c.args.wanted in
-    let start = c.args.start in
-    let inside = c.requires.start in
-    let end : c.min-end.result ≡ min (start + w.height) (length s.lines.items) = omega (arith, c.min-end.ensures, c.count.ensures.value) in
-    let low : start ≤ c.min-end.result = omega (arith, end, inside) in
-    let view = take w.height (drop (first_row m s + start) (all_rows (rows_in m s.sweep) m.blocks)) in
-    let same = view-same m s start w.height c.min-end.result h reached inside end in
-    let side = subst (λ (x : Side). Sees x (first_row m s + start) w.height (point_row m s.sweep)) (sym c.side_of_point-side.ensures ∙ c.in-Above.is) (sees m s start c.min-end.result w.height h reached inside end) in
-    point-above w (first_row m s + start) (point_row m s.sweep) view c.in-Some.span (c.in-Some.ensures m h low ∙ ap (λ (ys : List EntryMeaning). span_of (first_positions ys)) same) side
+    let win = c.args.window.now in
+    let at = goal.at.returns-in-Above c in
+    point-above win.wanted (first_row m win.strip + c.args.start) (point_row m win.strip.sweep) (view_of m win.strip c.args.start win.wanted.height) c.in-Some.span
+    (spans at.After-min-end (Some c.in-Some.span) c.in-Some.ensures m h reached) (side at.After-side_of_point-side Above c.in-Above.is m h reached)
 
 pub returns-in-Within : goal.returns-in-Within
 returns-in-Within c = λ m h reached.
-    let s = c.args.strip.now in
-    let w = c.args.wanted in
-    let start = c.args.start in
-    let inside = c.requires.start in
-    let end : c.min-end.result ≡ min (start + w.height) (length s.lines.items) = omega (arith, c.min-end.ensures, c.count.ensures.value) in
-    let view = take w.height (drop (first_row m s + start) (all_rows (rows_in m s.sweep) m.blocks)) in
-    let side = subst (λ (x : Side). Sees x (first_row m s + start) w.height (point_row m s.sweep)) (sym c.side_of_point-side.ensures ∙ c.in-Within.is) (sees m s start c.min-end.result w.height h reached inside end) in
-    point-shown w (first_row m s + start) (point_row m s.sweep) view side
+    let win = c.args.window.now in
+    point-shown win.wanted (first_row m win.strip + c.args.start) (point_row m win.strip.sweep) (view_of m win.strip c.args.start win.wanted.height)
+    (side (goal.at.returns-in-Within c).After-side_of_point-side Within c.in-Within.is m h reached)
 
 pub returns-in-Below : goal.returns-in-Below
 returns-in-Below c = λ m h reached.
-    let s = c.args.strip.now in
-    let w = c.args.wanted in
-    let start = c.args.start in
-    let inside = c.requires.start in
-    let end : c.min-end.result ≡ min (start + w.height) (length s.lines.items) = omega (arith, c.min-end.ensures, c.count.ensures.value) in
-    let low : start ≤ c.min-end.result = omega (arith, end, inside) in
-    let view = take w.height (drop (first_row m s + start) (all_rows (rows_in m s.sweep) m.blocks)) in
-    let same = view-same m s start w.height c.min-end.result h reached inside end in
-    let side = subst (λ (x : Side). Sees x (first_row m s + start) w.height (point_row m s.sweep)) (sym c.side_of_point-side.ensures ∙ c.in-Below.is) (sees m s start c.min-end.result w.height h reached inside end) in
-    point-below w (first_row m s + start) (point_row m s.sweep) view c.in-Some.span (c.in-Some.ensures m h low ∙ ap (λ (ys : List EntryMeaning). span_of (first_positions ys)) same) c.requires.height side
+    let win = c.args.window.now in
+    let at = goal.at.returns-in-Below c in
+    point-below win.wanted (first_row m win.strip + c.args.start) (point_row m win.strip.sweep) (view_of m win.strip c.args.start win.wanted.height) c.in-Some.span
+    (spans at.After-min-end (Some c.in-Some.span) c.in-Some.ensures m h reached) c.requires.height (side at.After-side_of_point-side Below c.in-Below.is m h reached)

@@ -1,130 +1,126 @@
-use Rattle.std.proofs.Common.{◌≡◌, ◌+◌, sym, ap, subst, ◌∙◌, arith}
+use Rattle.std.proofs.Common.{◌≡◌, ℕ, ◌+◌, ◌*◌, ◌≤◌, sym, ap, subst, ◌∙◌, arith}
 use Rattle.std.specs.Prelude.{IfOk}
 use Rattle.std.specs.List.{find}
 use Rattle.std.specs.Option.{option_map}
 use Rattle.rd_matrix.specs.Sources.{SourceValues}
 use Rattle.rd_start.specs.Chosen.{places_of}
+use Rattle.rd_start.specs.Near.{near_costs}
 use Rattle.rd_start.specs.Starts.{around, suits}
-use Rattle.rd_start.specs.Strips.{IsStrip, AsksAt, all_costs, centred_chosen, first_row}
+use Rattle.rd_start.specs.Strips.{IsStrip, IsUnsuited, all_costs, centred_chosen, first_row}
 use Rattle.rd_start.specs.declared.strip.Edge.TheVariants.{Bottom}
 use Rattle.rd_start.specs.declared.strip.Sweep.{Sweep}
 use Rattle.rd_start.specs.declared.wanted.Chosen.{Chosen}
+use Rattle.rd_start.specs.declared.window.Window.{Window}
 use Rattle.rd_start.proofs.Reaching.{EdgeFails, EdgePays, at-source}
-use Rattle.rd_start.proofs.Moving.{CentredPays, asks-end, asks-far, asks-point, follows-centre, follows-near, near_of, pays, result-centred, value-free}
+use Rattle.rd_start.proofs.Moving.{CentredPays, NearPaid, asks-far, asks-point, far-above, far-below, follows-centre, follows-near, near_of, pays, result-centred, unsuited-on, value-free}
+use Rattle.rd_start.proofs.choice.moving.Given as given
 use Rattle.rd_start.proofs.choice.moving.Goals as goal
+use Rattle.rd_start.proofs.choice.moving.Goals.{In_ok-reach-2, In_ok-start}
 
 pub returns-in_err-reach-clause-steps : goal.returns-in_err-reach-clause-steps
 returns-in_err-reach-clause-steps g c = λ base paid.
     let m = g.B.BlockSource.meaning c.args.source.now in
-    let w = c.args.wanted in
-    let s = c.args.strip in
-    let bound = c.in_err-reach.ensures.paid (near_of m s.sweep w) base paid (asks-far m s w c.requires.strip c.requires.of c.requires.forced c.requires.home) in
+    let win = c.args.window in
+    let laid = c.requires.laid in
+    let bound = c.in_err-reach.ensures.paid (near_of m win.strip.sweep win.wanted) base paid (asks-far m win.strip win.wanted laid.strip laid.of laid.kind c.requires.home) in
     omega (arith, bound)
 
 pub returns-in_err-reach-2-clause-steps : goal.returns-in_err-reach-2-clause-steps
 returns-in_err-reach-2-clause-steps g c = λ base paid.
     let m = g.B.BlockSource.meaning c.args.source.now in
-    let w = c.args.wanted in
-    let s = c.args.strip in
-    let kind = near_of m s.sweep w in
+    let win = c.args.window in
     let up = c.reach.new.self in
     let same = c.in_ok-reach.ensures.sweep in
-    let strip = c.in_ok-reach.ensures.strip in
-    let count = c.home.result + w.conservatively + w.height + 1 in
-    let had = c.in_ok-reach.ensures.paid kind base paid (asks-far m s w c.requires.strip c.requires.of c.requires.forced c.requires.home) in
-    let asked = subst (λ n. AsksAt Bottom kind m up (n + w.conservatively + w.height + 1)) (sym c.home.ensures) (asks-end m s up w c.requires.strip strip same c.requires.of c.requires.forced c.requires.home) in
+    let count = c.home.result + win.wanted.conservatively + win.wanted.height + 1 in
     let fails = at-source (λ (x : SourceValues). EdgeFails Bottom x up c.reach.new.steps c.reach-2.new.steps count) m (g.B.BlockSource.meaning c.reach.new.source) c.reach.ensures.stays c.in_err-reach-2.ensures.paid in
-    let bound = fails kind base had asked in
-    let costs = ap (λ (x : Sweep). all_costs kind m x) same in
+    let bound = fails (near_of m win.strip.sweep win.wanted) base (far-above m win up c.args.steps.now c.reach.new.steps base c.requires c.in_ok-reach.ensures.paid paid)
+    (far-below m win up c.home.result c.requires c.in_ok-reach.ensures.strip same c.home.ensures) in
+    let costs = ap (λ (x : Sweep). all_costs (near_of m win.strip.sweep win.wanted) m x) same in
     omega (arith, bound, costs)
 
-pub returns-in_err-start-clause-steps : goal.returns-in_err-start-clause-steps
-returns-in_err-start-clause-steps g c = λ base paid.
+-- what was paid once the rows are laid out to which the start may be moved
+laid : (g : given.Over) (c : goal.In_ok-reach-2 g) (base : ℕ) → NearPaid (g.B.BlockSource.meaning c.args.source.now) c.args.window c.args.window.strip base c.args.steps.now
+    → NearPaid (g.B.BlockSource.meaning c.args.source.now) c.args.window c.reach-2.new.self base c.reach-2.new.steps
+laid g c base paid =
     let m = g.B.BlockSource.meaning c.args.source.now in
-    let w = c.args.wanted in
-    let s = c.args.strip in
-    let kind = near_of m s.sweep w in
+    let win = c.args.window in
     let up = c.reach.new.self in
-    let same = c.in_ok-reach.ensures.sweep in
-    let strip = c.in_ok-reach.ensures.strip in
-    let count = c.home.result + w.conservatively + w.height + 1 in
-    let had = c.in_ok-reach.ensures.paid kind base paid (asks-far m s w c.requires.strip c.requires.of c.requires.forced c.requires.home) in
-    let asked = subst (λ n. AsksAt Bottom kind m up (n + w.conservatively + w.height + 1)) (sym c.home.ensures) (asks-end m s up w c.requires.strip strip same c.requires.of c.requires.forced c.requires.home) in
-    let down = c.reach-2.new.self in
-    let both = c.in_ok-reach-2.ensures.sweep ∙ same in
-    let paying = at-source (λ (x : SourceValues). EdgePays Bottom x up down c.reach.new.steps c.reach-2.new.steps count) m (g.B.BlockSource.meaning c.reach.new.source) c.reach.ensures.stays c.in_ok-reach-2.ensures.paid in
-    let has = paying kind base had asked in
-    let bound = pays kind base m s.sweep down c.reach-2.new.steps both has in
+    let count = c.home.result + win.wanted.conservatively + win.wanted.height + 1 in
+    let paying = at-source (λ (x : SourceValues). EdgePays Bottom x up c.reach-2.new.self c.reach.new.steps c.reach-2.new.steps count) m (g.B.BlockSource.meaning c.reach.new.source) c.reach.ensures.stays c.in_ok-reach-2.ensures.paid in
+    paying (near_of m win.strip.sweep win.wanted) base (far-above m win up c.args.steps.now c.reach.new.steps base c.requires c.in_ok-reach.ensures.paid paid)
+    (far-below m win up c.home.result c.requires c.in_ok-reach.ensures.strip c.in_ok-reach.ensures.sweep c.home.ensures)
+
+spent : (g : given.Over) (c : goal.In_ok-reach-2 g) (base : ℕ) → NearPaid (g.B.BlockSource.meaning c.args.source.now) c.args.window c.args.window.strip base c.args.steps.now
+    → c.reach-2.new.steps ≤ base + 2 * near_costs (g.B.BlockSource.meaning c.args.source.now) c.args.window.strip.sweep.shape c.args.window.wanted
+spent g c base paid =
+    let m = g.B.BlockSource.meaning c.args.source.now in
+    let win = c.args.window in
+    let both = c.in_ok-reach-2.ensures.sweep ∙ c.in_ok-reach.ensures.sweep in
+    let bound = pays (near_of m win.strip.sweep win.wanted) base m win.strip.sweep c.reach-2.new.self c.reach-2.new.steps both (laid g c base paid) in
     omega (arith, bound)
+
+strip : (g : given.Over) (c : goal.In_ok-reach-2 g) → IsStrip (g.B.BlockSource.meaning c.args.source.now) c.reach-2.new.self
+strip g c = at-source (λ (x : SourceValues). IsStrip x c.reach-2.new.self) (g.B.BlockSource.meaning c.args.source.now) (g.B.BlockSource.meaning c.reach.new.source) c.reach.ensures.stays c.in_ok-reach-2.ensures.strip
+
+same : (g : given.Over) (c : goal.In_ok-reach-2 g) → c.reach-2.new.self.sweep ≡ c.args.window.strip.sweep
+same g c = c.in_ok-reach-2.ensures.sweep ∙ c.in_ok-reach.ensures.sweep
+
+pub nearest-requires-clause-moves : goal.nearest-requires-clause-moves
+nearest-requires-clause-moves g c =
+    let m = g.B.BlockSource.meaning c.args.source.now in
+    let win : Window = record { wanted = c.args.window.wanted; strip = c.reach-2.new.self } in
+    at-source (λ (x : SourceValues). IsUnsuited x win) (g.B.BlockSource.meaning c.reach-2.new.source) m (sym (c.reach-2.ensures.stays ∙ c.reach.ensures.stays))
+    (unsuited-on m c.args.window c.reach-2.new.self c.requires (strip g (goal.at.nearest-requires-clause-moves g c).In_ok-reach-2) (c.in_ok-reach-2.ensures.sweep ∙ c.in_ok-reach.ensures.sweep))
+
+pub returns-in_err-start-clause-steps : goal.returns-in_err-start-clause-steps
+returns-in_err-start-clause-steps g c = spent g (goal.at.returns-in_err-start-clause-steps g c).In_ok-reach-2
+
+-- the nearest row that suits
+found : (g : given.Over) (c : goal.In_ok-start g) → option_map (λ n. first_row (g.B.BlockSource.meaning c.args.source.now) c.reach-2.new.self + n) c.in_ok-start.field-0
+    ≡ find (suits c.args.window.wanted (places_of (g.B.BlockSource.meaning c.args.source.now) c.args.window.strip.sweep.shape c.args.window.wanted))
+    (around (first_row (g.B.BlockSource.meaning c.args.source.now) c.reach-2.new.self + c.reach-2.new.self.home) c.args.window.wanted.conservatively)
+found g c =
+    let m = g.B.BlockSource.meaning c.args.source.now in
+    let w = c.args.window.wanted in
+    let down = c.reach-2.new.self in
+    let told = at-source (λ (x : SourceValues). option_map (λ n. first_row x down + n) c.in_ok-start.field-0 ≡ find (suits w (places_of x down.sweep.shape w)) (around (first_row x down + down.home) w.conservatively))
+    m (g.B.BlockSource.meaning c.reach-2.new.source) (c.reach-2.ensures.stays ∙ c.reach.ensures.stays) c.in_ok-start.ensures.value in
+    subst (λ (x : Sweep). option_map (λ n. first_row m down + n) c.in_ok-start.field-0 ≡ find (suits w (places_of m x.shape w)) (around (first_row m down + down.home) w.conservatively))
+    (c.in_ok-reach-2.ensures.sweep ∙ c.in_ok-reach.ensures.sweep) told
 
 pub returns-in-Some-clause-value : goal.returns-in-Some-clause-value
 returns-in-Some-clause-value g c =
     let m = g.B.BlockSource.meaning c.args.source.now in
-    let w = c.args.wanted in
-    let s = c.args.strip in
+    let win = c.args.window in
     let down = c.reach-2.new.self in
-    let both = c.in_ok-reach-2.ensures.sweep ∙ c.in_ok-reach.ensures.sweep in
-    let strip = at-source (λ (x : SourceValues). IsStrip x down) m (g.B.BlockSource.meaning c.reach.new.source) c.reach.ensures.stays c.in_ok-reach-2.ensures.strip in
-    let told = at-source (λ (x : SourceValues). option_map (λ n. first_row x down + n) c.in_ok-start.field-0 ≡ find (suits w (places_of x down.sweep.shape w)) (around (first_row x down + down.home) w.conservatively))
-    m (g.B.BlockSource.meaning c.reach-2.new.source) (c.reach-2.ensures.stays ∙ c.reach.ensures.stays) c.in_ok-start.ensures.value in
-    let found = subst (λ (x : Sweep). option_map (λ n. first_row m down + n) c.in_ok-start.field-0 ≡ find (suits w (places_of m x.shape w)) (around (first_row m down + down.home) w.conservatively)) both told in
-    let follows = follows-near m s.sweep down w c.in_ok-start.field-0 c.in-Some.start strip both c.requires.of c.in-Some.is found in
-    value-free m s.sweep down w c.in-Some.start c.starting_at.result both c.requires.forced follows (c.starting_at.ensures m strip)
+    let at = goal.at.returns-in-Some-clause-value g c in
+    let follows = follows-near m win.strip.sweep down win.wanted c.in_ok-start.field-0 c.in-Some.start (strip g at.In_ok-reach-2) (same g at.In_ok-reach-2) c.requires.laid.of c.in-Some.is (found g at.In_ok-start) in
+    value-free m win.strip.sweep down win.wanted c.in-Some.start c.starting_at.result (same g at.In_ok-reach-2) c.requires.laid.kind follows (c.starting_at.ensures m (strip g at.In_ok-reach-2))
 
 pub returns-in-Some-clause-steps : goal.returns-in-Some-clause-steps
-returns-in-Some-clause-steps g c = λ base paid.
-    let m = g.B.BlockSource.meaning c.args.source.now in
-    let w = c.args.wanted in
-    let s = c.args.strip in
-    let kind = near_of m s.sweep w in
-    let up = c.reach.new.self in
-    let same = c.in_ok-reach.ensures.sweep in
-    let strip = c.in_ok-reach.ensures.strip in
-    let count = c.home.result + w.conservatively + w.height + 1 in
-    let had = c.in_ok-reach.ensures.paid kind base paid (asks-far m s w c.requires.strip c.requires.of c.requires.forced c.requires.home) in
-    let asked = subst (λ n. AsksAt Bottom kind m up (n + w.conservatively + w.height + 1)) (sym c.home.ensures) (asks-end m s up w c.requires.strip strip same c.requires.of c.requires.forced c.requires.home) in
-    let down = c.reach-2.new.self in
-    let both = c.in_ok-reach-2.ensures.sweep ∙ same in
-    let paying = at-source (λ (x : SourceValues). EdgePays Bottom x up down c.reach.new.steps c.reach-2.new.steps count) m (g.B.BlockSource.meaning c.reach.new.source) c.reach.ensures.stays c.in_ok-reach-2.ensures.paid in
-    let has = paying kind base had asked in
-    let bound = pays kind base m s.sweep down c.reach-2.new.steps both has in
-    omega (arith, bound)
+returns-in-Some-clause-steps g c = spent g (goal.at.returns-in-Some-clause-steps g c).In_ok-reach-2
 
 pub returns-in-None-clause-value : goal.returns-in-None-clause-value
 returns-in-None-clause-value g c =
     let m = g.B.BlockSource.meaning c.args.source.now in
-    let w = c.args.wanted in
-    let s = c.args.strip in
+    let win = c.args.window in
     let down = c.reach-2.new.self in
-    let both = c.in_ok-reach-2.ensures.sweep ∙ c.in_ok-reach.ensures.sweep in
-    let strip = at-source (λ (x : SourceValues). IsStrip x down) m (g.B.BlockSource.meaning c.reach.new.source) c.reach.ensures.stays c.in_ok-reach-2.ensures.strip in
-    let told = at-source (λ (x : SourceValues). option_map (λ n. first_row x down + n) c.in_ok-start.field-0 ≡ find (suits w (places_of x down.sweep.shape w)) (around (first_row x down + down.home) w.conservatively))
-    m (g.B.BlockSource.meaning c.reach-2.new.source) (c.reach-2.ensures.stays ∙ c.reach.ensures.stays) c.in_ok-start.ensures.value in
-    let found = subst (λ (x : Sweep). option_map (λ n. first_row m down + n) c.in_ok-start.field-0 ≡ find (suits w (places_of m x.shape w)) (around (first_row m down + down.home) w.conservatively)) both told in
-    let follows = follows-centre m s.sweep down w c.in_ok-start.field-0 strip both c.requires.of c.in-None.is found in
-    let centre = at-source (λ (x : SourceValues). IfOk c.centred.result (λ (chosen : Chosen). chosen ≡ centred_chosen x down.sweep.shape w)) m (g.B.BlockSource.meaning c.nearest.new.source)
+    let at = goal.at.returns-in-None-clause-value g c in
+    let follows = follows-centre m win.strip.sweep down win.wanted c.in_ok-start.field-0 (strip g at.In_ok-reach-2) (same g at.In_ok-reach-2) c.requires.laid.of c.in-None.is (found g at.In_ok-start) in
+    let centre = at-source (λ (x : SourceValues). IfOk c.centred.result (λ (chosen : Chosen). chosen ≡ centred_chosen x down.sweep.shape win.wanted)) m (g.B.BlockSource.meaning c.nearest.new.source)
     (c.nearest.ensures.stays ∙ (c.reach-2.ensures.stays ∙ c.reach.ensures.stays)) c.centred.ensures.value in
-    result-centred c.centred.result m s.sweep down w both c.requires.forced follows centre
+    result-centred c.centred.result m win.strip.sweep down win.wanted (same g at.In_ok-reach-2) c.requires.laid.kind follows centre
 
 pub returns-in-None-clause-steps : goal.returns-in-None-clause-steps
 returns-in-None-clause-steps g c = λ base paid.
     let m = g.B.BlockSource.meaning c.args.source.now in
-    let w = c.args.wanted in
-    let s = c.args.strip in
-    let kind = near_of m s.sweep w in
-    let up = c.reach.new.self in
-    let same = c.in_ok-reach.ensures.sweep in
-    let strip = c.in_ok-reach.ensures.strip in
-    let count = c.home.result + w.conservatively + w.height + 1 in
-    let had = c.in_ok-reach.ensures.paid kind base paid (asks-far m s w c.requires.strip c.requires.of c.requires.forced c.requires.home) in
-    let asked = subst (λ n. AsksAt Bottom kind m up (n + w.conservatively + w.height + 1)) (sym c.home.ensures) (asks-end m s up w c.requires.strip strip same c.requires.of c.requires.forced c.requires.home) in
+    let win = c.args.window in
+    let kind = near_of m win.strip.sweep win.wanted in
     let down = c.reach-2.new.self in
-    let both = c.in_ok-reach-2.ensures.sweep ∙ same in
-    let paying = at-source (λ (x : SourceValues). EdgePays Bottom x up down c.reach.new.steps c.reach-2.new.steps count) m (g.B.BlockSource.meaning c.reach.new.source) c.reach.ensures.stays c.in_ok-reach-2.ensures.paid in
-    let has = paying kind base had asked in
-    let taken = c.centred.new.steps in
-    let told = at-source (λ (x : SourceValues). CentredPays x down w c.reach-2.new.steps taken) m (g.B.BlockSource.meaning c.nearest.new.source)
+    let both = c.in_ok-reach-2.ensures.sweep ∙ c.in_ok-reach.ensures.sweep in
+    let has = laid g (goal.at.returns-in-None-clause-steps g c).In_ok-reach-2 base paid in
+    let told = at-source (λ (x : SourceValues). CentredPays x down win.wanted c.reach-2.new.steps c.centred.new.steps) m (g.B.BlockSource.meaning c.nearest.new.source)
     (c.nearest.ensures.stays ∙ (c.reach-2.ensures.stays ∙ c.reach.ensures.stays)) c.centred.ensures.steps in
-    let bound = told kind base has (asks-point m s down w c.requires.strip both c.requires.of c.requires.forced c.requires.home) in
+    let bound = told kind base has (asks-point m win.strip down win.wanted c.requires.laid.strip both c.requires.laid.of c.requires.laid.kind c.requires.home) in
     let costs = ap (λ (x : Sweep). all_costs kind m x) both in
     omega (arith, bound, costs)

@@ -4,7 +4,7 @@ use Rattle.std.specs.Option.{option_map}
 use Rattle.rd_matrix.specs.Sources.{SourceValues}
 use Rattle.rd_start.specs.Chosen.{places_of}
 use Rattle.rd_start.specs.Starts.{both_at, suits}
-use Rattle.rd_start.specs.Strips.{first_row, point_row}
+use Rattle.rd_start.specs.Strips.{ShowsPoint, first_row}
 use Rattle.rd_start.proofs.Reaching.{at-source}
 use Rattle.rd_start.proofs.Sides.{point-found}
 use Rattle.rd_start.proofs.Suits.{lost-nearest, nearest-here, nearest-later}
@@ -12,20 +12,21 @@ use Rattle.rd_start.proofs.view.nearest.Goals as goal
 
 pub returns-in_default-clause-value : goal.returns-in_default-clause-value
 returns-in_default-clause-value g c =
-    sym (lost-nearest (g.B.BlockSource.meaning c.args.source.now) c.args.strip.now c.args.wanted c.requires.strip c.requires.of (sym c.point_row.ensures ∙ c.in_default.is) c.requires.above c.requires.below)
+    sym (lost-nearest (g.B.BlockSource.meaning c.args.source.now) c.args.window.now.strip c.args.window.now.wanted c.requires.moves.laid.strip c.requires.moves.laid.of (sym c.point_row.ensures ∙ c.in_default.is) c.requires.above c.requires.below)
 
-pub suiting_at-requires-clause-point : goal.suiting_at-requires-clause-point
-suiting_at-requires-clause-point g c =
+pub suiting_at-requires-clause-shows : goal.suiting_at-requires-clause-shows
+suiting_at-requires-clause-shows g c =
     let m = g.B.BlockSource.meaning c.args.source.now in
-    let s = c.args.strip.now in
-    let place = point-found m s c.in-Some.row c.requires.strip (sym c.point_row.ensures ∙ c.in-Some.is) in
-    at-source (λ (x : SourceValues). first_row x s + c.in-Some.row ≡ point_row x s.sweep) (g.B.BlockSource.meaning c.loop-step.source) m (sym c.loop-step.invariant.source) place.1
+    let win = c.args.window.now in
+    let place = point-found m win.strip c.in-Some.row c.requires.moves.laid.strip (sym c.point_row.ensures ∙ c.in-Some.is) in
+    at-source (λ (x : SourceValues). ShowsPoint x win c.in-Some.row) (g.B.BlockSource.meaning c.loop-step.source) m (sym c.loop-step.invariant.source)
+    (record { laid = c.requires.moves.laid; inside = place.0; point = place.1 })
 
 pub returns-in-Some-found-clause-value : goal.returns-in-Some-found-clause-value
 returns-in-Some-found-clause-value g c =
     let m = g.B.BlockSource.meaning c.args.source.now in
-    let s = c.args.strip.now in
-    let w = c.args.wanted in
+    let s = c.args.window.now.strip in
+    let w = c.args.window.now.wanted in
     let step = c.loop-step.step in
     let inv = c.loop-step.invariant in
     let low : step < w.conservatively = omega arith in
@@ -37,8 +38,8 @@ returns-in-Some-found-clause-value g c =
 pub loop-step-preserved : goal.loop-step-preserved
 loop-step-preserved g c =
     let m = g.B.BlockSource.meaning c.args.source.now in
-    let s = c.args.strip.now in
-    let w = c.args.wanted in
+    let s = c.args.window.now.strip in
+    let w = c.args.window.now.wanted in
     let step = c.loop-step.step in
     let inv = c.loop-step.invariant in
     let told = at-source (λ (x : SourceValues). option_map (λ n. first_row x s + n) c.in_ok-found.found ≡ find (suits w (places_of x s.sweep.shape w)) (both_at (first_row x s + s.home) (step + 1)))

@@ -8,5 +8,5 @@ use Rattle.rd_start.proofs.view.nearest.Given as goal
 abbrev pub invariant-loop-step : goal.invariant-loop-step
 invariant-loop-step g l = record {
   source : g.B.BlockSource.meaning l.source ≡ g.B.BlockSource.meaning l.fn.source;
-  none : find (suits l.fn.wanted (places_of (g.B.BlockSource.meaning l.fn.source) l.fn.strip.sweep.shape l.fn.wanted)) (around (first_row (g.B.BlockSource.meaning l.fn.source) l.fn.strip + l.fn.strip.home) l.step) ≡ None;
+  none : find (suits l.fn.window.wanted (places_of (g.B.BlockSource.meaning l.fn.source) l.fn.window.strip.sweep.shape l.fn.window.wanted)) (around (first_row (g.B.BlockSource.meaning l.fn.source) l.fn.window.strip + l.fn.window.strip.home) l.step) ≡ None;
 }

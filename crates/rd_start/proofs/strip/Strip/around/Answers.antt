@@ -1,7 +1,9 @@
-use Rattle.std.proofs.Common.{◌+◌, ◌-◌, ◌≤◌, ◌==◌, min, cond, refl, sym, ap, ◌∙◌, arith}
+use Rattle.std.proofs.Common.{ℕ, ◌+◌, ◌-◌, ◌≤◌, Bool, ◌==◌, Result, min, cond, refl, sym, ap, ◌∙◌, arith}
+use Rattle.std.specs.Prelude.{IsErr, MatchResult}
+use Rattle.rd_base.specs.declared.memory.Memory.{Memory}
 use Rattle.rd_rows.specs.Copies.{shown_rows}
 use Rattle.rd_rows.specs.Shapes.{IsShape}
-use Rattle.rd_start.specs.Strips.{IsPaid, all_costs}
+use Rattle.rd_start.specs.Strips.{IsAsked, IsPaid, all_costs}
 use Rattle.rd_start.specs.declared.strip.Strip.{Strip}
 use Rattle.rd_start.proofs.Around.{Made, fails-around, made-paid, made-point, made-strip, made-sweep}
 use Rattle.rd_start.proofs.Pushing.{count-shown}
@@ -9,26 +11,27 @@ use Rattle.rd_start.proofs.Reaching.{cost-same, rows-same}
 use Rattle.rd_start.proofs.Results.{of-err}
 use Rattle.rd_start.proofs.strip.Strip.around.Given as given
 use Rattle.rd_start.proofs.strip.Strip.around.Goals as goal
+use Rattle.rd_start.proofs.strip.Strip.around.Goals.{After-rows}
+
+-- where memory was wanting once the rows of the anchor's block were asked for
+failed : (g : given.Over) (c : goal.After-rows g) (r : Result Strip Memory) → IsErr r → (kind : ℕ → Bool) → IsAsked kind (g.B.BlockSource.meaning c.args.source.now) c.args.sweep
+    → MatchResult r (λ s. IsPaid kind c.args.steps.now (g.B.BlockSource.meaning c.args.source.now) s c.rows.new.steps) (λ _. c.rows.new.steps ≤ c.args.steps.now + all_costs kind (g.B.BlockSource.meaning c.args.source.now) c.args.sweep)
+failed g c r err kind asked =
+    let m = g.B.BlockSource.meaning c.args.source.now in
+    let sweep = c.args.sweep in
+    let n = c.rows.new.steps in
+    let shape : IsShape sweep.shape = record { least = omega arith; most = omega arith } in
+    let cost = cost-same m (g.B.BlockSource.meaning c.block_of.new.self) sweep c.in_ok-block.block n c.args.steps.now c.block_of.ensures.stays c.rows.ensures.steps in
+    of-err r (λ (s : Strip). IsPaid kind c.args.steps.now m s n) (n ≤ c.args.steps.now + all_costs kind m sweep) err
+    (fails-around kind c.args.steps.now m sweep c.in_ok-block.block n c.block_of.ensures.source shape c.in_ok-block.ensures.found asked cost)
 
 pub returns-in_err-rows-clause-paid : goal.returns-in_err-rows-clause-paid
-returns-in_err-rows-clause-paid g c = λ kind asked.
-    let m = g.B.BlockSource.meaning c.args.source.now in
-    let sweep = c.args.sweep in
-    let n = c.rows.new.steps in
-    let shape : IsShape sweep.shape = record { least = omega arith; most = omega arith } in
-    let cost = cost-same m (g.B.BlockSource.meaning c.block_of.new.self) sweep c.in_ok-block.block n c.args.steps.now c.block_of.ensures.stays c.rows.ensures.steps in
-    of-err c.from_residual-in_err-rows.result (λ (s : Strip). IsPaid kind c.args.steps.now m s n) (n ≤ c.args.steps.now + all_costs kind m sweep) c.from_residual-in_err-rows.ensures.0
-    (fails-around kind c.args.steps.now m sweep c.in_ok-block.block n c.block_of.ensures.source shape c.in_ok-block.ensures.found asked cost)
+returns-in_err-rows-clause-paid g c =
+    failed g (goal.at.returns-in_err-rows-clause-paid g c).After-rows c.from_residual-in_err-rows.result c.from_residual-in_err-rows.ensures.0
 
 pub returns-in_err-push_below-clause-paid : goal.returns-in_err-push_below-clause-paid
-returns-in_err-push_below-clause-paid g c = λ kind asked.
-    let m = g.B.BlockSource.meaning c.args.source.now in
-    let sweep = c.args.sweep in
-    let n = c.rows.new.steps in
-    let shape : IsShape sweep.shape = record { least = omega arith; most = omega arith } in
-    let cost = cost-same m (g.B.BlockSource.meaning c.block_of.new.self) sweep c.in_ok-block.block n c.args.steps.now c.block_of.ensures.stays c.rows.ensures.steps in
-    of-err c.from_residual-in_err-push_below.result (λ (s : Strip). IsPaid kind c.args.steps.now m s n) (n ≤ c.args.steps.now + all_costs kind m sweep) c.from_residual-in_err-push_below.ensures.0
-    (fails-around kind c.args.steps.now m sweep c.in_ok-block.block n c.block_of.ensures.source shape c.in_ok-block.ensures.found asked cost)
+returns-in_err-push_below-clause-paid g c =
+    failed g (goal.at.returns-in_err-push_below-clause-paid g c).After-rows c.from_residual-in_err-push_below.result c.from_residual-in_err-push_below.ensures.0
 
 empty : (g : given.Over) → goal.After-drop-rows-2 g → Strip
 empty g c = record { sweep = c.args.sweep; blocks = c.new.result; lines = c.new-2.result; home = c.row_in_block.result }

@@ -21,7 +21,6 @@ loop-number-init c =
 pub loop-number-preserved : goal.loop-number-preserved
 loop-number-preserved c =
     let old = c.args.self.now in
-    let s = c.loop-number.self in
     let k = c.loop-number.number - 1 in
     let r = c.index-rows-number.result in
     let inv = c.loop-number.invariant in
@@ -31,7 +30,7 @@ loop-number-preserved c =
       sweep = inv.sweep;
       home = inv.home;
       blocks = inv.blocks;
-      lines = lines-above old.sweep.point c.args.block.start k (shown_rows c.args.rows.now) r.shown old.lines.items s.lines.items _ c.line_of-line.result
+      lines = lines-above old.sweep.point c.args.block.start k (shown_rows c.args.rows.now) r.shown old.lines.items c.loop-number.self.lines.items _ c.line_of-line.result
           (shown-at c.args.rows.now k r (omega arith) c.index-rows-number.is)
           (c.line_of-line.ensures ∙ ap (λ (x : Sweep). line_of x.point (record { start = c.args.block.start; number = k; row = r.shown })) inv.sweep)
           (inv.lines ∙ ap (λ n. map (line_of old.sweep.point) (drop n (numbered c.args.block.start 0 (shown_rows c.args.rows.now))) ++ old.lines.items) next)

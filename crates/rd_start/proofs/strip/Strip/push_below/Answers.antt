@@ -8,7 +8,6 @@ use Rattle.rd_start.proofs.strip.Strip.push_below.Goals as goal
 pub loop-number-preserved : goal.loop-number-preserved
 loop-number-preserved c =
     let old = c.args.self.now in
-    let s = c.loop-number.self in
     let k = c.loop-number.number in
     let r = c.index-rows-number.result in
     let inv = c.loop-number.invariant in
@@ -16,7 +15,7 @@ loop-number-preserved c =
       sweep = inv.sweep;
       home = inv.home;
       blocks = inv.blocks;
-      lines = lines-below old.sweep.point c.args.block.start k (shown_rows c.args.rows.now) r.shown old.lines.items s.lines.items _ c.line_of-line.result
+      lines = lines-below old.sweep.point c.args.block.start k (shown_rows c.args.rows.now) r.shown old.lines.items c.loop-number.self.lines.items _ c.line_of-line.result
           (shown-at c.args.rows.now k r (omega arith) c.index-rows-number.is)
           (c.line_of-line.ensures ∙ ap (λ (x : Sweep). line_of x.point (record { start = c.args.block.start; number = k; row = r.shown })) inv.sweep)
           inv.lines c.in_ok-push_back.ensures.items;

@@ -2,9 +2,11 @@ use Rattle.std.proofs.Common.{◌≡◌, ◌<◌, inr, length, None, Some, refl,
 use Rattle.rd_matrix.specs.Sources.{SourceValues}
 use Rattle.rd_rows.specs.Copies.{shown_rows}
 use Rattle.rd_start.specs.Strips.{IsStrip, GrowsAt, extent}
-use Rattle.rd_start.proofs.Reaching.{among-same, asked-given, at-source, beyond-given, edge-failed, grown-fails, grown-more, grown-none, grown-pays, grown-smaller, grown-stops, rows-same}
+use Rattle.rd_start.proofs.Reaching.{EdgeFails, among-same, asked-given, at-source, beyond-given, edge-failed, grown-fails, grown-more, grown-none, grown-pays, grown-smaller, grown-stops, rows-same}
 use Rattle.rd_start.proofs.Results.{nothing-of-err}
+use Rattle.rd_start.proofs.strip.Strip.reach.Given as given
 use Rattle.rd_start.proofs.strip.Strip.reach.Goals as goal
+use Rattle.rd_start.proofs.strip.Strip.reach.Goals.{After-rows}
 
 pub growing-init : goal.growing-init
 growing-init g c = record {
@@ -40,16 +42,22 @@ rows-requires g c =
     let next = beyond-given c.args.edge m (g.B.BlockSource.meaning c.growing.source) c.growing.self c.in_ok-block.field-0 (Some c.in-Some.block) inv.source c.in_ok-block.ensures.value c.in-Some.is in
     among-same m (g.B.BlockSource.meaning c.beyond.new.source) c.in-Some.block (c.beyond.ensures.stays ∙ inv.source) next.among
 
-pub returns-in_err-rows-clause-paid : goal.returns-in_err-rows-clause-paid
-returns-in_err-rows-clause-paid g c =
+-- the steps that were taken for the rows of one block more
+fails : (g : given.Over) (c : goal.After-rows g) → EdgeFails c.args.edge (g.B.BlockSource.meaning c.args.source.now) c.args.self.now c.args.steps.now c.rows.new.steps c.args.count
+fails g c =
     let m = g.B.BlockSource.meaning c.args.source.now in
     let s = c.growing.self in
     let inv = c.growing.invariant in
     let low : extent c.args.edge s < c.args.count = omega arith in
     let asked = asked-given c.args.edge m (g.B.BlockSource.meaning c.growing.source) (g.B.BlockSource.meaning c.beyond.new.source) s c.growing.steps c.rows.new.steps c.in_ok-block.field-0 c.in-Some.block
     inv.source c.in_ok-block.ensures.value c.in-Some.is (c.beyond.ensures.stays ∙ inv.source) c.rows.ensures.steps in
-    edge-failed c.args.edge c.from_residual-in_err-rows.result m c.args.self.now s c.args.steps.now c.rows.new.steps c.args.count c.from_residual-in_err-rows.ensures.0
-    (grown-fails c.args.edge m c.args.self.now s c.args.steps.now c.growing.steps c.rows.new.steps c.args.count c.in-Some.block inv.grown asked low)
+    grown-fails c.args.edge m c.args.self.now s c.args.steps.now c.growing.steps c.rows.new.steps c.args.count c.in-Some.block inv.grown asked low
+
+pub returns-in_err-rows-clause-paid : goal.returns-in_err-rows-clause-paid
+returns-in_err-rows-clause-paid g c =
+    let m = g.B.BlockSource.meaning c.args.source.now in
+    edge-failed c.args.edge c.from_residual-in_err-rows.result m c.args.self.now c.growing.self c.args.steps.now c.rows.new.steps c.args.count c.from_residual-in_err-rows.ensures.0
+    (fails g (goal.at.returns-in_err-rows-clause-paid g c).After-rows)
 
 pub returns-in_err-push-clause-sweep : goal.returns-in_err-push-clause-sweep
 returns-in_err-push-clause-sweep g c =
@@ -62,13 +70,8 @@ returns-in_err-push-clause-grows g c =
 pub returns-in_err-push-clause-paid : goal.returns-in_err-push-clause-paid
 returns-in_err-push-clause-paid g c =
     let m = g.B.BlockSource.meaning c.args.source.now in
-    let s = c.growing.self in
-    let inv = c.growing.invariant in
-    let low : extent c.args.edge s < c.args.count = omega arith in
-    let asked = asked-given c.args.edge m (g.B.BlockSource.meaning c.growing.source) (g.B.BlockSource.meaning c.beyond.new.source) s c.growing.steps c.rows.new.steps c.in_ok-block.field-0 c.in-Some.block
-    inv.source c.in_ok-block.ensures.value c.in-Some.is (c.beyond.ensures.stays ∙ inv.source) c.rows.ensures.steps in
     edge-failed c.args.edge c.from_residual-in_err-push.result m c.args.self.now c.push.new.self c.args.steps.now c.rows.new.steps c.args.count c.from_residual-in_err-push.ensures.0
-    (grown-fails c.args.edge m c.args.self.now s c.args.steps.now c.growing.steps c.rows.new.steps c.args.count c.in-Some.block inv.grown asked low)
+    (fails g (goal.at.returns-in_err-push-clause-paid g c).After-rows)
 
 pub growing-smaller : goal.growing-smaller
 growing-smaller g c =
