@@ -8,6 +8,7 @@ pub mod FreeSteps
 pub mod Headline
 pub mod Leading
 pub mod Lines
+pub mod OnRuns
 pub mod Ops
 pub mod Scripts
 pub mod Sizes
