@@ -8,6 +8,7 @@ mod Judging
 mod Lacking
 mod Leaving
 mod Lines
+mod OnDumps
 mod Painting
 mod ReadBack
 mod Recorded

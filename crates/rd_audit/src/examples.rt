@@ -10,6 +10,7 @@ ghost use Rattle.rd_audit.specs.Rows.{place_in};
 ghost use Rattle.rd_audit.specs.Runs.{face_of, run_of};
 
 /// A dump of two rows, of which the last in the file counts, and files whose dump is bad or missing.
+#[tactic(auto, unfolding(crate::proofs::OnDumps::on_dumps))]
 fn worked_files()
     ensures two { dump_in (codes "row 0 |abc         |\nrow 1 |            |\ncursor 0,0\n") ≡ Ok (record {
       rows = (First (single 97 1) plain ∷ First (single 98 1) plain ∷ First (single 99 1) plain ∷ replicate 9 (Blank plain)) ∷ replicate 12 (Blank plain) ∷ [];
