@@ -1,4 +1,5 @@
-//! The laws of a run: what stands behind each of its lines, what the terminal shows behind each redisplay, when two ends are alike, and how runs over valid scripts end.
+//! The laws of a run: what stands behind its lines, what the terminal shows behind each redisplay, when two ends are alike, and how runs
+//! over valid scripts end.
 ghost use Rattle.std.specs.Prelude.{◌≡◌, ℕ, List, Option};
 ghost use Rattle.rd_layout.specs.Since.{IsSession};
 ghost use Rattle.rd_run.specs.Alike.{AreAlike, AreGivenAlike, AreStarvedAlikeIn, End, IsFaultless, IsUndisturbed};
@@ -17,9 +18,9 @@ use rd_script::no_line_says_want_of_memory;
 use rd_state::windows_are_leaves;
 use rd_tree::windows_tile_their_rectangle;
 
-/// Behind any lines of a run stands a session: its state is valid, and a known screen is the frame's and sound (`session`). The run is in the
-/// mode in which it began (`in_mode`), and the next line leads on from there: the frame keeps its size unless a new terminal begins, and
-/// the screen behind a redisplay is known and on the terminal (`leads`). The call does nothing.
+/// Behind any lines of a run stands a session: its state is valid, and a known screen is the frame's and sound (`session`). The run is in
+/// the mode in which it began (`in_mode`). The next line leads on from there: the frame keeps its size unless a new terminal begins, and
+/// the screen behind a redisplay that is shown or stopped is known and on the terminal (`leads`). The call does nothing.
 pub fn a_session_stands_behind_each_line()
     ensures session { (mode : Mode) (turns : List Turn) → IsSession (run (opened mode) turns).now.session }
     ensures in_mode { (mode : Mode) (turns : List Turn) → (run (opened mode) turns).now.mode ≡ mode }
