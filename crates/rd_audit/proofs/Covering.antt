@@ -13,7 +13,7 @@ use Rattle.rd_base.specs.declared.cell.Cell.{Cell}
 use Rattle.rd_base.specs.declared.cell.Cell.TheVariants.{Blank, First, Rest}
 use Rattle.rd_base.proofs.Equals.{face-told, face-itself}
 use Rattle.rd_term.specs.Pictures.{blank}
-use Rattle.rd_dump.specs.Dumps.{face_after, faces_of, with_columns, runs_of, run_text, runs_text, runs_of_row, numbers_text}
+use Rattle.rd_dump.specs.Dumps.{face_after, faces_of, with_columns, runs_of, runs_text, runs_of_row, numbers_text}
 use Rattle.rd_dump.specs.Dumps as dumps
 use Rattle.rd_audit.specs.Cuts.{pieces}
 use Rattle.rd_audit.specs.Runs.{is_later, is_edge, fits, with_face, faced, painted_by, with_run, painted, runs_over}

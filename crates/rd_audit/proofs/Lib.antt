@@ -6,12 +6,15 @@ mod Faces
 mod Groups
 mod Judging
 mod Lacking
+mod Leaving
 mod Lines
+mod OnDumps
 mod Painting
 mod ReadBack
 mod Recorded
 mod Runs
 mod Shapes
+mod Since
 mod Spelling
 mod Streams
 mod Texts

@@ -6,7 +6,7 @@ use Rattle.rd_base.specs.Glyphs.{IsRowAfter}
 use Rattle.rd_base.specs.declared.cell.Cell.{Cell}
 use Rattle.rd_io.specs.Lines.{lines_of}
 use Rattle.rd_term.specs.Pictures.{Picture}
-use Rattle.rd_dump.specs.Dumps.{place_text, window_line, windows_text, cells_text, runs_of_row, row_line, rows_text, cursor_line, newline}
+use Rattle.rd_dump.specs.Dumps.{place_text, window_line, windows_text, cells_text, runs_of_row, row_line, rows_text, cursor_line}
 use Rattle.rd_dump.specs.Dumps as dumps
 use Rattle.rd_dump.specs.declared.dump.WindowFacts.{WindowFacts}
 use Rattle.rd_audit.proofs.Covering.{runs-lack}

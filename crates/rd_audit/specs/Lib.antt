@@ -1,5 +1,6 @@
 pub mod Cuts
 pub mod Dumps
+pub mod Examples
 pub mod Numbers
 pub mod Printed
 pub mod Recorded

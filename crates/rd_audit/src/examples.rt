@@ -1,15 +1,20 @@
-//! The definition of a dump, computed on worked files.
-ghost use Rattle.std.specs.Prelude.{◌≡◌, ◌∷◌, [], ◌++◌, replicate, codes, true, Ok, Err, None, Some};
+//! The definitions of a dump and of a recording, computed on worked files and on a short run.
+ghost use Rattle.std.specs.Prelude.{◌≡◌, ◌∷◌, [], ◌++◌, replicate, codes, true, false, Ok, Err, None, Some};
 ghost use Rattle.rd_base.specs.Cells.{single};
 ghost use Rattle.rd_base.specs.Faces.{plain};
 ghost use Rattle.rd_base.specs.declared.cell.Cell.TheVariants.{Blank, First};
+ghost use Rattle.rd_run.specs.Ends.{last_in, told_in};
+ghost use Rattle.rd_run.specs.declared.status.Status.TheVariants.{Done};
 ghost use Rattle.rd_audit.specs.Cuts.{cut_last};
 ghost use Rattle.rd_audit.specs.Dumps.{dump_in};
+ghost use Rattle.rd_audit.specs.Examples.{report_without_dumps, short_end, short_mode, short_report, short_stream, short_turns};
 ghost use Rattle.rd_audit.specs.Numbers.{number_of};
+ghost use Rattle.rd_audit.specs.Recorded.{IsRecording};
 ghost use Rattle.rd_audit.specs.Rows.{place_in};
 ghost use Rattle.rd_audit.specs.Runs.{face_of, run_of};
 
 /// A dump of two rows, of which the last in the file counts, and files whose dump is bad or missing.
+#[tactic(auto, unfolding(crate::proofs::OnDumps::on_dumps))]
 fn worked_files()
     ensures two { dump_in (codes "row 0 |abc         |\nrow 1 |            |\ncursor 0,0\n") ≡ Ok (record {
       rows = (First (single 97 1) plain ∷ First (single 98 1) plain ∷ First (single 99 1) plain ∷ replicate 9 (Blank plain)) ∷ replicate 12 (Blank plain) ∷ [];
@@ -42,4 +47,12 @@ fn worked_runs()
     ensures none { face_of [] ≡ None }
     ensures zero { number_of (codes "01") ≡ None }
     ensures place { place_in (codes "cursor 10,2") ≡ Some (10, 2) }
+{}
+
+/// The stream and the report of a short run with dumps are a recording. Those of the run without dumps are none: its report has no dump.
+fn worked_recordings()
+    ensures dumped { IsRecording (short_end true short_report) (short_mode true) short_stream short_report }
+    ensures told { told_in (Some (short_mode false)) short_turns ++ last_in (Some (short_mode false)) Done short_turns ≡ report_without_dumps }
+    ensures bare { ¬ IsRecording (short_end false report_without_dumps) (short_mode false) short_stream report_without_dumps }
+    ensures dumpless { dump_in report_without_dumps ≡ Err 0 }
 {}

@@ -16,11 +16,7 @@ ghost use Rattle.rd_audit.specs.Verdicts.{Comes, IsSound};
 ghost use Rattle.rd_audit.specs.declared.verdict.Verdict.{Verdict};
 ghost use Rattle.rd_audit.specs.declared.verdict.Verdict.TheVariants.{NoMemory, ReadFault, Yes};
 
-use rd_layout::{
-    redisplays_keep_states, redisplays_lead_on, sessions_stay_known, targets_are_sound,
-};
-use rd_lineshift::shifted_updates_reach_their_targets;
-use rd_run::each_redisplay_is_shown;
+use rd_run::a_session_stands_behind_each_line;
 use rd_state::windows_are_leaves;
 use rd_tree::windows_tile_their_rectangle;
 
@@ -51,12 +47,7 @@ pub fn recorded_runs_get_yes()
         → IsRecording e mode stream file → told name ≡ Some file → Consumes (Some stream) left bytes → Comes verdict (name ∷ []) told bytes left
         → verdict ≢ ReadFault → verdict ≢ NoMemory → verdict ≡ Yes }
 {
-    each_redisplay_is_shown();
-    redisplays_keep_states();
-    redisplays_lead_on();
-    sessions_stay_known();
-    shifted_updates_reach_their_targets();
-    targets_are_sound();
+    a_session_stands_behind_each_line();
     windows_are_leaves();
     windows_tile_their_rectangle();
 }

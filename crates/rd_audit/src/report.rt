@@ -1,5 +1,5 @@
 //! The line of a verdict, written without memory.
-ghost use Rattle.std.specs.Prelude.{◌≡◌, decimal};
+ghost use Rattle.std.specs.Prelude.{◌≡◌, ◌++◌, codes, decimal};
 ghost use Rattle.rd_dump.specs.Prints.{Prints};
 ghost use Rattle.rd_audit.specs.Verdicts.{line_of, difference_line, cell_line, bad_line};
 
@@ -41,8 +41,7 @@ fn tell_cell<R: Sink>(report: &mut R, row: u32, column: u32) -> Result<(), Faile
     write_text(report, b"no ")?;
     write_number(report, row)?;
     write_text(report, b",")?;
-    write_number(report, column)?;
-    write_text(report, b"\n")
+    end_line(report, column)
 }
 
 /// Writes the line that names a bad line of the file.
@@ -50,6 +49,13 @@ fn tell_bad<R: Sink>(report: &mut R, number: u32) -> Result<(), Failed>
     ensures { Prints (R.written report.old) (R.written report.new) (R.faults report.old) (R.faults report.new) (bad_line number) result }
 {
     write_text(report, b"dump:")?;
+    end_line(report, number)
+}
+
+/// Writes a number with which a line ends.
+fn end_line<R: Sink>(report: &mut R, number: u32) -> Result<(), Failed>
+    ensures { Prints (R.written report.old) (R.written report.new) (R.faults report.old) (R.faults report.new) (decimal number ++ codes "\n") result }
+{
     write_number(report, number)?;
     write_text(report, b"\n")
 }

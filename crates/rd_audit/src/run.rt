@@ -31,6 +31,7 @@ pub fn runs_over(text: &[u8], cells: ListOf<Cell>) -> Option<ListOf<Cell>>
 }
 
 /// The same by the text behind the first space.
+#[tactic(auto, using(crate::proofs::Runs::painted_next))]
 fn painted(cells: ListOf<Cell>, runs: &[u8]) -> Option<ListOf<Cell>>
     ensures { result ≡ painted 0 cells (pieces 32 runs.now) }
 {
@@ -79,6 +80,7 @@ fn span_of(text: &[u8]) -> Option<(u32, u32)>
 }
 
 /// The face of its numbers between semicolons.
+#[tactic(auto, using(crate::proofs::Runs::face_next))]
 fn face_of(codes: &[u8]) -> Option<Face>
     ensures { result ≡ face_of codes.now }
 {

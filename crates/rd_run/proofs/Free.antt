@@ -1,5 +1,5 @@
 -- No status but its own tells of want of memory.
-use Rattle.std.proofs.Common.{◌≡◌, ◌≢◌, ℕ, inl, inr, Bool, true, false, if◌then◌else◌, List, [], ◌∷◌, Option, None, Some, is_some, Result, Ok, Err, ap, ◌∙◌}
+use Rattle.std.proofs.Common.{◌≡◌, ◌≢◌, ℕ, inl, inr, Bool, true, false, if◌then◌else◌, List, [], ◌∷◌, Option, None, Some, is_some, Result, Err, ap, ◌∙◌}
 use Rattle.rd_files.specs.declared.fault.BadFile.{BadFile}
 use Rattle.rd_files.specs.declared.fault.DataFile.{DataFile}
 use Rattle.rd_files.specs.declared.fault.DataKind.{DataKind}
@@ -15,7 +15,7 @@ use Rattle.rd_layout.specs.Sessions.{session_step}
 use Rattle.rd_ucd.specs.declared.fault.UcdFault.TheVariants as ucd
 use Rattle.rd_run.specs.Ends.{Comes, ComesIn, Drawn, IsOver}
 use Rattle.rd_run.specs.Given.{Given, IsBadData}
-use Rattle.rd_run.specs.Runs.{Mode, Standing, Turn, World, after, asked, effect, effect_by, effect_of_reading, is_blank, opened, quiet, run, stepped, turn}
+use Rattle.rd_run.specs.Runs.{Mode, Standing, Turn, World, after, effect, opened, run, turn}
 use Rattle.rd_run.specs.Statuses.{TellsNoMemory}
 use Rattle.rd_run.specs.declared.status.ScriptFault.{ScriptFault}
 use Rattle.rd_run.specs.declared.status.ScriptFault.TheVariants.{Op as NoOp, Refused, TooLong, TooMany}
@@ -24,6 +24,7 @@ use Rattle.rd_run.specs.declared.status.Status.TheVariants.{BadData, BadScript, 
 use Rattle.rd_run.proofs.Faults.{none-lacks}
 use Rattle.rd_run.proofs.FreeFiles.{data-free}
 use Rattle.rd_run.proofs.FreeSteps.{AnswersFree, session-free}
+use Rattle.rd_run.proofs.Effects.{effect-is}
 
 -- ---- runs
 
@@ -38,23 +39,21 @@ IsFreeFault fault = (fault ≢ Some (NoOp op_faults.Memory)) × (fault ≢ Some 
 none-free : IsFreeFault None
 none-free = (none-lacks (NoOp op_faults.Memory), none-lacks (Refused refusals.Memory))
 
-stepped-free : (now : Standing) (op : Op) (r : Result StateValue Refusal) → AnswersFree r → IsFreeFault (stepped now op r).fault
-stepped-free now op (Err refusal) h = (λ e. cc, λ e. h (cc))
-stepped-free now op (Ok state) h = none-free
+unread-free : (r : Result Op OpFault) (fault : OpFault) → r ≡ Err fault → r ≢ Err op_faults.Memory → IsFreeFault (Some (NoOp fault))
+unread-free r fault is h = (λ e. h (cc), λ e. cc)
 
-by-free : (o : Option (Option ℕ)) (starved : Bool) (now : Standing) (op : Op) → IsFreeFault (effect_by o starved now op).fault
-by-free None starved now op = stepped-free now op (session_step now.session op) (session-free now.session op)
-by-free (Some stop) true now op = none-free
-by-free (Some stop) false now op = none-free
-
-line-free : (blank : Bool) (x : Result Op OpFault) (starved : Bool) (now : Standing) → x ≢ Err op_faults.Memory → IsFreeFault (if blank then quiet now else effect_of_reading starved now x).fault
-line-free true x starved now h = none-free
-line-free false (Err fault) starved now h = (λ e. h (cc), λ e. cc)
-line-free false (Ok op) starved now h = by-free (asked op) starved now op
+refused-free : (r : Result StateValue Refusal) (cause : Refusal) → r ≡ Err cause → AnswersFree r → IsFreeFault (Some (Refused cause))
+refused-free r cause is h = (λ e. cc, λ e. h (cc))
 
 effect-free : LineLaw → (now : Standing) (t : Turn) → IsFreeFault (effect now t).fault
-unfolding effect
-effect-free law now t = line-free (is_blank t.line) (reading t.line) t.starved now (law t.line)
+effect-free law now t = effect-is now t (λ e. IsFreeFault e.fault) (record {
+  blank = none-free;
+  unread = λ fault is. unread-free (reading t.line) fault is (law t.line);
+  refusal = λ op cause is. refused-free (session_step now.session op) cause is (session-free now.session op);
+  accepted = λ op state form step is. none-free;
+  starved = none-free;
+  fed = λ stop. none-free;
+})
 
 turn-if : LineLaw → (over : Bool) (w : World) (t : Turn) → IsFreeFault w.fault → IsFreeFault (if over then w else after w (effect w.now t)).fault
 turn-if law true w t h = h

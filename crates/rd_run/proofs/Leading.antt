@@ -3,10 +3,8 @@ use Rattle.std.proofs.Common.{◌≡◌, ℕ, Bool, List, [], ◌∷◌, ◌++�
 use Rattle.std.proofs.lemmas.List.Elements.{recursion_from_All}
 use Rattle.std.specs.List.{AllByRecursion, flat_map}
 use Rattle.std.specs.Prelude.{option_map}
-use Rattle.rd_frame.specs.Panes.{body_height}
 use Rattle.rd_matrix.specs.Entries.{EntryMeaning, shown_entries}
 use Rattle.rd_matrix.specs.declared.matrix.Entry.{Entry}
-use Rattle.rd_reuse.specs.Changes.{none}
 use Rattle.rd_state.specs.States.{StateValue}
 use Rattle.rd_state.specs.Valid.{IsValid}
 use Rattle.rd_state.specs.Windows.{leaf_at, leaf_of, window_of}
@@ -25,27 +23,18 @@ use Rattle.rd_layout.specs.Since.{IsSession}
 use Rattle.rd_layout.specs.Windows.{place_of, places, view_in, wanted_of, window_shape, window_source}
 use Rattle.rd_layout.proofs.Placed.{PlaceLaws, all-places}
 
--- what the layers below say
-pub record LeadLaws : Type 0 where
+-- what the layers below say of the windows of a frame: their places, and that each of them lives
+pub record LiveLaws : Type 0 where
   pub places : PlaceLaws
   pub leaves : (number : ℕ) (windows : Windows) (rect : Rect) (window : Placed) → window_at number windows rect ≡ Some window → leaf_at number windows ≡ Some (window.mode, window.margins)
+
+-- and what they say of redisplays
+pub record LeadLaws : Type 0 where
+  pub live : LiveLaws
   pub lead : (rows : ℕ) (done : Bool) (stop : Option ℕ) (old new : SessionValue) (before after : Option (List ℕ)) → IsSession old
       → IsSent rows done stop old new before after → IsSession new
 
 -- ---- one window
-
--- its layout from nothing
-abbrev pub fresh : Data → StateValue → WindowState → Placed → Layout
-fresh files s w place = record {
-  matrix = map made (view_in files s w place).rows;
-  shape = window_shape s w place;
-  height = body_height place;
-  margin = s.margin;
-  conservatively = s.conservatively;
-  top = (view_in files s w place).top;
-  bottom = (view_in files s w place).bottom;
-  change = none;
-}
 
 shown-made : (rows : List EntryMeaning) → shown_entries (map made rows) ≡ rows
 shown-made [] = refl
@@ -54,20 +43,24 @@ shown-made (row ∷ rows) = ap (λ es. row ∷ es) (shown-made rows)
 nothing-under : (e : Entry) → None ≡ Some e → ⊥
 nothing-under e h = absurd (cc)
 
+-- its layout from nothing
 fresh-laid : (files : Data) (s : StateValue) (w : WindowState) (p : Placed)
-    → IsLaidOut None (window_source files s w) (window_shape s w p) (wanted_of s w p) (fresh files s w p)
-fresh-laid files s w p = record {
-  rows = shown-made (view_in files s w p).rows;
-  shape_is = refl;
-  height = refl;
-  margin = refl;
-  conservatively = refl;
-  top = refl;
-  bottom = refl;
-  change = refl;
-  stays = λ rests. absurd (cc);
-  copies = λ rests k d less b o among at kept under. absurd (nothing-under o under);
-}
+    → AllByRecursion (λ (e : ℕ × Layout). IsLaidOut None (window_source files s w) (window_shape s w p) (wanted_of s w p) e.1) (fresh_by files s p (Some w))
+fresh-laid files s w p = (
+  record {
+    rows = shown-made (view_in files s w p).rows;
+    shape_is = refl;
+    height = refl;
+    margin = refl;
+    conservatively = refl;
+    top = refl;
+    bottom = refl;
+    change = refl;
+    stays = λ rests. absurd (cc);
+    copies = λ rests k d less b o among at kept under. absurd (nothing-under o under);
+  },
+  tt,
+)
 
 -- ---- all windows
 
@@ -86,20 +79,23 @@ some-of : (o : Option WindowState) (leaf : Bool × ℕ) → option_map leaf_of o
 some-of None leaf h = absurd (let k : None ≡ Some leaf = h in cc)
 some-of (Some w) leaf h = (w, refl)
 
-all-live : (laws : LeadLaws) (s : StateValue) → IsValid s → AllByRecursion (Lives s) (places s)
+pub all-live : (laws : LiveLaws) (s : StateValue) → IsValid s → AllByRecursion (Lives s) (places s)
 all-live laws s valid = recursion_from_All (Lives s) (places s) (all-places laws.places s valid (Lives s) lives) where
   lives : (p : Placed) → place_of p.number s ≡ Some p → Lives s p
   lives p at =
       let leaf = laws.leaves p.number s.tree.windows (frame_of s.tree) p at in
       some-of (window_of p.number s.windows) (p.mode, p.margins) (sym (valid.windows.leaves p.number) ∙ leaf)
 
+laid-by : (files : Data) (s : StateValue) (p : Placed) (o : Option WindowState) (w : WindowState) (l : Layout) → o ≡ Some w
+    → IsLaidOut None (window_source files s w) (window_shape s w p) (wanted_of s w p) l → IsLaidOutBy files s None p o l
+laid-by files s p o w l lives h = subst (λ (x : Option WindowState). IsLaidOutBy files s None p x l) (sym lives) h
+
 one-laid : (v : SessionValue) (p : Placed) (ps : List Placed) (es : List (ℕ × Layout)) (o : Option WindowState) (w : WindowState) → window_of p.number v.state.windows ≡ o → o ≡ Some w
     → AreLaidOut (bare v) ps es → AreLaidOut (bare v) (p ∷ ps) (fresh_by v.files v.state p o ++ es)
 one-laid v p ps es None w at lives h = absurd (let k : None ≡ Some w = lives in cc)
 one-laid v p ps es (Some x) w at lives h =
-    let laid : IsLaidOutBy v.files v.state None p (window_of p.number v.state.windows) (fresh v.files v.state x p) =
-    subst (λ o. IsLaidOutBy v.files v.state None p o (fresh v.files v.state x p)) (sym at) (fresh-laid v.files v.state x p) in
-    (refl, laid, h)
+    let fresh = fresh-laid v.files v.state x p in
+    (refl, laid-by v.files v.state p _ x _ at fresh.0, h)
 
 all-laid : (v : SessionValue) (ps : List Placed) → AllByRecursion (Lives v.state) ps → AreLaidOut (bare v) ps (flat_map (fresh_at v.files v.state) ps)
 all-laid v [] h = tt
@@ -112,7 +108,7 @@ sent laws v stop h = record {
   files = refl;
   state = refl;
   current = refl;
-  layouts = all-laid v (places v.state) (all-live laws v.state h.state);
+  layouts = all-laid v (places v.state) (all-live laws.live v.state h.state);
   bytes = tt;
   count = refl;
   whole = refl;

@@ -1,13 +1,17 @@
 pub mod Alike
 pub mod Begun
+pub mod Effects
 pub mod Faults
 pub mod Free
 pub mod FreeFiles
 pub mod FreeSteps
 pub mod Headline
 pub mod Leading
+pub mod Lines
+pub mod OnRuns
 pub mod Ops
 pub mod Scripts
+pub mod Sizes
 pub mod Starved
 pub mod Turns
 pub mod Validity

@@ -18,7 +18,7 @@ use Rattle.rd_layout.specs.Pointing.{hitting_by, is_shown, pointed, stepped_to}
 use Rattle.rd_layout.specs.Sessions.{IsStep, SessionValue, is_frame, layout_of, session_step}
 use Rattle.rd_layout.specs.Windows.{place_of, window_shape}
 use Rattle.rd_layout.proofs.Standing.{Goes, goes}
-use Rattle.rd_run.specs.Runs.{asked}
+use Rattle.rd_run.specs.Runs.{AreOfOneSize, asked}
 
 -- an op that asks for no redisplay is a step
 pub step-of : (op : Op) → asked op ≡ None → IsStep op
@@ -60,10 +60,6 @@ step-of (ops.Margin window numbers strings) e = tt
 step-of (ops.MarginPut name overlay string) e = tt
 
 -- ---- the size of the frame
-
--- two states have frames of one size
-abbrev pub AreOfOneSize : StateValue → StateValue → Type 0
-AreOfOneSize s t = (t.width ≡ s.width) × (t.height ≡ s.height)
 
 of-ok : (r : Result StateValue Refused) (P : StateValue → Type 0) (t : StateValue) → IfOk r P → r ≡ Ok t → P t
 of-ok (Err refusal) P t h e = absurd (let k : Err refusal ≡ Ok t = e in cc)

@@ -207,3 +207,16 @@ abbrev pub KnowsEach : World → List Turn → Type 0
 KnowsEach w [] = Unit {0}
 KnowsEach w (t ∷ ts) =
     (is_sent (outcome_at w t) ≡ true → IsOn (turn w t).now.session.current (turn w t).terminal) × KnowsEach (turn w t) ts
+
+-- two states have frames of one size
+abbrev pub AreOfOneSize : StateValue → StateValue → Type 0
+AreOfOneSize s t = (t.width ≡ s.width) × (t.height ≡ s.height)
+
+-- What the next line does where a run stands. The frame keeps its size, unless a new terminal begins. Behind a redisplay that is shown or
+-- stopped the current screen is what the terminal shows. Behind one that is shown it is what the rules give from nothing for the state
+-- before that line, and so the terminal shows it, with its cursor.
+pub record LeadsOn (w : World) (t : Turn) : Type 0 where
+  pub size : (effect w.now t).fresh ≡ false → AreOfOneSize w.now.session.state (effect w.now t).now.session.state
+  pub knows : is_sent (outcome_at w t) ≡ true → IsOn (turn w t).now.session.current (turn w t).terminal
+  pub reaches : is_shown (outcome_at w t) ≡ true → (turn w t).now.session.current ≡ Some (laid_out w.now.session.files w.now.session.state).picture
+  pub shows : is_shown (outcome_at w t) ≡ true → Shows (turn w t).terminal (laid_out w.now.session.files w.now.session.state).picture

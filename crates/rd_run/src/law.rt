@@ -1,9 +1,11 @@
-//! The laws of a run: what the terminal shows behind each redisplay, when two ends are alike, and how runs over valid scripts end.
-ghost use Rattle.std.specs.Prelude.{ℕ, List, Option};
+//! The laws of a run: what stands behind its lines, what the terminal shows behind each redisplay, when two ends are alike, and how runs
+//! over valid scripts end.
+ghost use Rattle.std.specs.Prelude.{◌≡◌, ℕ, List, Option};
+ghost use Rattle.rd_layout.specs.Since.{IsSession};
 ghost use Rattle.rd_run.specs.Alike.{AreAlike, AreGivenAlike, AreStarvedAlikeIn, End, IsFaultless, IsUndisturbed};
 ghost use Rattle.rd_run.specs.Ends.{Comes, Drawn};
 ghost use Rattle.rd_run.specs.Given.{Given, IsMode};
-ghost use Rattle.rd_run.specs.Runs.{KnowsEach, Mode, ShowsEach, Turn, opened};
+ghost use Rattle.rd_run.specs.Runs.{KnowsEach, LeadsOn, Mode, ShowsEach, Turn, opened, run};
 ghost use Rattle.rd_run.specs.Statuses.{TellsNoMemory};
 ghost use Rattle.rd_run.specs.Validity.{EndsWell, IsValidScript};
 ghost use Rattle.rd_run.specs.declared.status.Status.{Status};
@@ -16,10 +18,13 @@ use rd_script::no_line_says_want_of_memory;
 use rd_state::windows_are_leaves;
 use rd_tree::windows_tile_their_rectangle;
 
-/// The headline, over all runs: behind each redisplay that was shown, the written terminal, which reads the bytes since the last
-/// accepted frame, shows exactly what the rules give from nothing for the state before that redisplay. The call does nothing.
-pub fn each_redisplay_is_shown()
-    ensures { (mode : Mode) (turns : List Turn) → ShowsEach (opened mode) turns }
+/// Behind any lines of a run stands a session: its state is valid, and a known screen is the frame's and sound (`session`). The run is in
+/// the mode in which it began (`in_mode`). The next line leads on from there: the frame keeps its size unless a new terminal begins, and
+/// the screen behind a redisplay that is shown or stopped is known and on the terminal (`leads`). The call does nothing.
+pub fn a_session_stands_behind_each_line()
+    ensures session { (mode : Mode) (turns : List Turn) → IsSession (run (opened mode) turns).now.session }
+    ensures in_mode { (mode : Mode) (turns : List Turn) → (run (opened mode) turns).now.mode ≡ mode }
+    ensures leads { (mode : Mode) (turns : List Turn) (t : Turn) → LeadsOn (run (opened mode) turns) t }
 {
     redisplays_keep_states();
     redisplays_lead_on();
@@ -31,19 +36,20 @@ pub fn each_redisplay_is_shown()
     windows_tile_their_rectangle();
 }
 
+/// The headline, over all runs: behind each redisplay that was shown, the written terminal, which reads the bytes since the last
+/// accepted frame, shows exactly what the rules give from nothing for the state before that redisplay. The call does nothing.
+pub fn each_redisplay_is_shown()
+    ensures { (mode : Mode) (turns : List Turn) → ShowsEach (opened mode) turns }
+{
+    a_session_stands_behind_each_line();
+}
+
 /// Behind each redisplay that was shown or stopped, with whatever edits between the slices of an update, the written terminal is not
 /// confused and shows the current screen. The call does nothing.
 pub fn each_slice_is_known()
     ensures { (mode : Mode) (turns : List Turn) → KnowsEach (opened mode) turns }
 {
-    redisplays_keep_states();
-    redisplays_lead_on();
-    sessions_stay_known();
-    shift_law();
-    shifted_updates_reach_their_targets();
-    targets_are_sound();
-    windows_are_leaves();
-    windows_tile_their_rectangle();
+    a_session_stands_behind_each_line();
 }
 
 /// The run is determined. Take two ends of runs with the same words and the same bytes of the files that these name, over the bytes of one

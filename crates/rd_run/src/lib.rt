@@ -6,7 +6,7 @@ mod law;
 mod status;
 
 pub use law::{
-    each_redisplay_is_shown, each_slice_is_known, no_kind_is_want_of_memory,
-    two_runs_of_one_script_end_alike, valid_scripts_end_well,
+    a_session_stands_behind_each_line, each_redisplay_is_shown, each_slice_is_known,
+    no_kind_is_want_of_memory, two_runs_of_one_script_end_alike, valid_scripts_end_well,
 };
 pub use status::{ScriptFault, Status};

@@ -1,31 +1,29 @@
 use Rattle.std.proofs.Common.{◌≡◌, ◌∷◌, [], List, Option, Some, ℕ, refl, sym, subst}
 use Rattle.std.specs.Prelude.{IfSome}
 use Rattle.rd_layout.proofs.Placed.{PlaceLaws}
-use Rattle.rd_run.proofs.Leading.{LeadLaws}
 use Rattle.rd_run.specs.Alike.{End}
 use Rattle.rd_run.specs.Runs.{Mode}
 use Rattle.rd_audit.proofs.Judging.{only-yes}
-use Rattle.rd_audit.proofs.Recorded.{Agree, RunLaws, recorded-at, recording-agrees, recording-sent}
+use Rattle.rd_audit.proofs.Recorded.{Agree, RunLaws, recording-agrees, recording-sent}
+use Rattle.rd_audit.proofs.Since.{recorded-read}
 use Rattle.rd_audit.specs.Recorded.{IsRecording}
 use Rattle.rd_audit.specs.Verdicts.{IsSound}
 use Rattle.rd_audit.proofs.law.recorded_runs_get_yes.Goals as goal
 
 laws : goal.After-windows_tile_their_rectangle → RunLaws
 laws c =
+    let runs = c.a_session_stands_behind_each_line.ensures in
     let tree = c.windows_tile_their_rectangle.ensures in
     let places : PlaceLaws = record { inside = tree.inside; listed = tree.listed; in_order = tree.in_order } in
-    let leads : LeadLaws = record { places = places; leaves = c.windows_are_leaves.ensures.placed; lead = c.redisplays_lead_on.ensures } in
     record {
-      opened = c.sessions_stay_known.ensures.opened;
-      stepped = c.sessions_stay_known.ensures.step;
-      leads = leads;
-      bands = c.redisplays_keep_states.ensures.bands;
-      targets = c.targets_are_sound.ensures.size;
-      reached = c.shifted_updates_reach_their_targets.ensures.reached;
+      session = runs.session;
+      in_mode = runs.in_mode;
+      leads = runs.leads;
+      live = record { places = places; leaves = c.windows_are_leaves.ensures.placed };
     }
 
 agree : goal.After-windows_tile_their_rectangle → (e : End) (mode : Mode) (stream file : List ℕ) → IsRecording e mode stream file → Agree stream file
-agree c e mode stream file h = recording-agrees (laws c) c.each_redisplay_is_shown.ensures e mode stream file h
+agree c e mode stream file h = recording-agrees (laws c) e mode stream file h
 
 sound : (stream file name : List ℕ) (told : List ℕ → Option (List ℕ)) (e : End) (mode : Mode) → IsRecording e mode stream file → told name ≡ Some file → Agree stream file
     → IsSound (name ∷ []) told (Some stream)
@@ -43,7 +41,7 @@ sound stream file name told e mode h t a = record {
 }
 
 pub returns-clause-terminal : goal.returns-clause-terminal
-returns-clause-terminal c mode turns ran = let at = recorded-at (laws c) mode turns ran in at.stands.terminal
+returns-clause-terminal c mode turns ran = recorded-read mode turns ran (c.a_session_stands_behind_each_line.ensures.leads mode)
 
 pub returns-clause-screen : goal.returns-clause-screen
 returns-clause-screen c e mode stream file h = recording-sent e mode stream file h

@@ -6,10 +6,5 @@ returns-in_err-write_text g c =
     let bad = c.from_residual.ensures.0 in
     prints-stop _ _ _ _ _ _ _ (prints-fail _ _ _ _ _ _ _ c.in_err-write_text.ensures bad) bad
 
-pub returns-in_err-write_number : goal.returns-in_err-write_number
-returns-in_err-write_number g c =
-    let bad = c.from_residual-in_err-write_number.ensures.0 in
-    prints-then _ _ _ _ _ _ _ _ _ _ c.in_ok-write_text.ensures (prints-stop _ _ _ _ _ _ _ (prints-fail _ _ _ _ _ _ _ c.in_err-write_number.ensures bad) bad)
-
 pub returns : goal.returns
-returns g c = prints-then _ _ _ _ _ _ _ _ _ _ c.in_ok-write_text.ensures (prints-then _ _ _ _ _ _ _ _ _ _ c.in_ok-write_number.ensures c.write_text-2.ensures)
+returns g c = prints-then _ _ _ _ _ _ _ _ _ _ c.in_ok-write_text.ensures c.end_line.ensures

@@ -17,13 +17,7 @@ returns-in_err-write_text-2 g c =
     prints-then _ _ _ _ _ _ _ _ _ _ c.in_ok-write_text.ensures (prints-then _ _ _ _ _ _ _ _ _ _ c.in_ok-write_number.ensures
     (prints-stop _ _ _ _ _ _ _ (prints-fail _ _ _ _ _ _ _ c.in_err-write_text-2.ensures bad) bad))
 
-pub returns-in_err-write_number-2 : goal.returns-in_err-write_number-2
-returns-in_err-write_number-2 g c =
-    let bad = c.from_residual-in_err-write_number-2.ensures.0 in
-    prints-then _ _ _ _ _ _ _ _ _ _ c.in_ok-write_text.ensures (prints-then _ _ _ _ _ _ _ _ _ _ c.in_ok-write_number.ensures
-    (prints-then _ _ _ _ _ _ _ _ _ _ c.in_ok-write_text-2.ensures (prints-stop _ _ _ _ _ _ _ (prints-fail _ _ _ _ _ _ _ c.in_err-write_number-2.ensures bad) bad)))
-
 pub returns : goal.returns
 returns g c =
     prints-then _ _ _ _ _ _ _ _ _ _ c.in_ok-write_text.ensures (prints-then _ _ _ _ _ _ _ _ _ _ c.in_ok-write_number.ensures
-    (prints-then _ _ _ _ _ _ _ _ _ _ c.in_ok-write_text-2.ensures (prints-then _ _ _ _ _ _ _ _ _ _ c.in_ok-write_number-2.ensures c.write_text-3.ensures)))
+    (prints-then _ _ _ _ _ _ _ _ _ _ c.in_ok-write_text-2.ensures c.end_line.ensures))

@@ -1,20 +1,6 @@
-use Rattle.rd_layout.proofs.Placed.{PlaceLaws}
-use Rattle.rd_run.proofs.Headline.{slices}
-use Rattle.rd_run.proofs.Leading.{LeadLaws}
+use Rattle.rd_run.proofs.Headline.{knows-each}
+use Rattle.rd_run.specs.Runs.{opened}
 use Rattle.rd_run.proofs.law.each_slice_is_known.Goals as goal
 
 pub returns : goal.returns
-returns c =
-    let tree = c.windows_tile_their_rectangle.ensures in
-    let places : PlaceLaws = record { inside = tree.inside; listed = tree.listed; in_order = tree.in_order } in
-    let leads : LeadLaws = record { places = places; leaves = c.windows_are_leaves.ensures.placed; lead = c.redisplays_lead_on.ensures } in
-    let targets = c.targets_are_sound.ensures in
-    slices (record {
-      opened = c.sessions_stay_known.ensures.opened;
-      stepped = c.sessions_stay_known.ensures.step;
-      leads = leads;
-      bands = c.redisplays_keep_states.ensures.bands;
-      targets = λ files s valid. (targets.size files s valid, targets.sound files s valid);
-      updated = c.shift_law.ensures;
-      reached = c.shifted_updates_reach_their_targets.ensures.reached;
-    })
+returns c mode turns = knows-each (opened mode) turns (c.a_session_stands_behind_each_line.ensures.leads mode)

@@ -1,0 +1,270 @@
+-- A session stands behind each line of a run, and the terminal shows its screen where that is known.
+use Rattle.std.proofs.Common.{◌≡◌, ℕ, ◌<◌, Bool, true, false, List, [], ◌∷◌, length, map, Option, None, Some, Ok, is_some, if◌then◌else◌, refl, sym, ap, ◌∙◌, subst, arith, true≢false}
+use Rattle.std.proofs.Common.{get_or, replicate}
+use Rattle.std.proofs.lemmas.List.{length-replicate, length-map, get_or-map}
+use Rattle.std.proofs.lemmas.List.Elements.{All-replicate}
+use Rattle.std.specs.Prelude.{IfSome}
+use Rattle.rd_base.specs.declared.cell.Cell.{Cell}
+use Rattle.rd_lineshift.specs.Choices.{AreWithin}
+use Rattle.rd_lineshift.specs.Plans.{shifted_update}
+use Rattle.rd_lineshift.specs.declared.band.Band.{Band}
+use Rattle.rd_script.specs.Forms.{IsInForm}
+use Rattle.rd_script.specs.declared.op.Op.{Op}
+use Rattle.rd_state.specs.States.{StateValue}
+use Rattle.rd_state.specs.Valid.{IsValid}
+use Rattle.rd_term.specs.Pictures.{Picture, IsGrid, IsOfSize, IsScreen}
+use Rattle.rd_term.specs.Terminals.{Tty, unknown, feed_bytes, Shows, known}
+use Rattle.rd_term.specs.declared.reading.Reading.TheVariants.{Between}
+use Rattle.rd_ucd.specs.Data.{Data}
+use Rattle.rd_update.specs.Laws.{IsReady, IsUpdated, IsCurrent, IsSound}
+use Rattle.rd_update.specs.Plans.{HaveOneSize}
+use Rattle.rd_update.specs.Updates.{Update}
+use Rattle.rd_layout.specs.Copies.{redisplayed as redisplayed_session}
+use Rattle.rd_layout.specs.Redisplays.{bands_of, update_of}
+use Rattle.rd_layout.specs.Screens.{laid_out}
+use Rattle.rd_layout.specs.Sessions.{IsStep, SessionValue, behind, is_frame, opened as opened_session, session_step}
+use Rattle.rd_layout.specs.Since.{FitsFrame, IsSession}
+use Rattle.rd_layout.specs.declared.outcome.Outcome.{Outcome}
+use Rattle.rd_run.specs.Runs.{AreOfOneSize, Effect, IsOn, LeadsOn, Mode, Standing, Turn, World, after, effect, is_sent, is_shown, opened, outcome_at, quiet, redisplayed, refused, run, stepped, terminal_after, turn, unshown}
+use Rattle.rd_run.specs.declared.status.ScriptFault.TheVariants as faults
+use Rattle.rd_run.proofs.Effects.{effect-is, shown-done}
+use Rattle.rd_run.proofs.Leading.{LeadLaws, leads-on}
+use Rattle.rd_run.proofs.Ops.{keeps-size}
+use Rattle.rd_run.proofs.Sizes.{is-screen, width-is}
+
+-- what the layers below promise of sessions and of updates
+pub record RunLaws : Type 0 where
+  pub opened : (files : Data) → IsSession (opened_session files)
+  pub stepped : (v : SessionValue) (op : Op) (state : StateValue) → IsSession v → IsInForm op → IsStep op → session_step v op ≡ Ok state → IsSession (behind v op state)
+  pub leads : LeadLaws
+  pub bands : (s : StateValue) → IsValid s → AreWithin s.height (bands_of s)
+  pub targets : (files : Data) (s : StateValue) → IsValid s → IsOfSize s.width s.height (laid_out files s).picture × IsSound (laid_out files s).picture
+  pub updated : (width height : ℕ) (current : Option Picture) (target : Picture) (bands : List Band) (limit : Option ℕ) (t : Tty) → IsReady width height current target t → AreWithin height bands
+      → IsUpdated width height (shifted_update current target bands limit) target (feed_bytes t (shifted_update current target bands limit).bytes)
+  pub reached : (current : Option Picture) (target : Picture) (bands : List Band) (limit : Option ℕ) → HaveOneSize current target → IfSome current (λ screen. IsScreen screen)
+      → AreWithin (length target.rows) bands → (shifted_update current target bands limit).done ≡ true → (shifted_update current target bands limit).screen ≡ target
+
+-- ---- where a run stands, with its terminal
+
+pub record IsAt (v : SessionValue) (t : Tty) : Type 0 where
+  pub session : IsSession v
+  pub sure : t.confused ≡ false
+  pub between : t.reading ≡ Between
+  pub rows : length t.rows ≡ v.state.height
+  pub each : IsGrid v.state.width t.rows
+  pub now : IsCurrent v.state.width v.state.height v.current t
+
+-- a new terminal
+fresh-at : (v : SessionValue) → IsSession v → v.current ≡ None → IsAt v (unknown v.state.width v.state.height)
+fresh-at v session none =
+    let n = v.state.height in
+    let w = v.state.width in
+    let blank : List (Option Cell) = replicate w None in record {
+      session = session;
+      sure = refl;
+      between = refl;
+      rows = length-replicate n blank;
+      each = All-replicate (λ row. length row ≡ w) n blank (length-replicate w None);
+      now = subst (λ c. IsCurrent w n c (unknown w n)) (sym none) tt;
+    }
+
+-- a session whose screen is unknown
+forgotten-at : (v : SessionValue) (t : Tty) → IsAt v t → IsAt (record v { current = None }) t
+forgotten-at v t h =
+    let s = h.session in record {
+      session = record { state = s.state; screen = tt; made = s.made; layouts = s.layouts };
+      sure = h.sure;
+      between = h.between;
+      rows = h.rows;
+      each = h.each;
+      now = tt;
+    }
+
+-- ---- a redisplay
+
+-- known rows have the size of the rows
+length-known : (rows : List (List Cell)) → length (known rows) ≡ length rows
+length-known rows = length-map rows (map Some)
+
+grid-known : (w : ℕ) (rows : List (List Cell)) → IsGrid w rows → IsGrid w (known rows)
+grid-known w rows h k d p =
+    let within : k < length rows = omega (arith, length-known rows) in
+    ap length (get_or-map (map Some) rows k [] d within) ∙ length-map (get_or rows k []) Some ∙ h k [] within
+
+-- a redisplay leaves the frame
+same-frame : (files : Data) (s : StateValue) → AreOfOneSize s (laid_out files s).state
+unfolding laid_out
+same-frame files s = (refl, refl)
+
+ready : (laws : RunLaws) (v : SessionValue) (t : Tty) → IsAt v t → IsReady v.state.width v.state.height v.current (laid_out v.files v.state).picture t
+ready laws v t h =
+    let target = laws.targets v.files v.state h.session.state in
+    let frame = h.session.state.frame in
+    record {
+      sure = h.sure;
+      between = h.between;
+      rows = h.rows;
+      each = h.each;
+      wide = frame.narrow;
+      tall = frame.low;
+      size = target.0;
+      whole = target.1.whole;
+      colours = target.1.colours;
+      now = h.now;
+    }
+
+-- behind the bytes of an update
+updated-at : (v next : SessionValue) (u : Update) (target : Picture) (t : Tty) → IsSession next → AreOfOneSize v.state next.state → next.current ≡ Some u.screen
+    → IsUpdated v.state.width v.state.height u target t → IsAt next t
+updated-at v next u target t session same now h =
+    let rows : length t.rows ≡ v.state.height = ap length h.cells ∙ length-known u.screen.rows ∙ h.size.rows in
+    let each : IsGrid v.state.width t.rows = subst (IsGrid v.state.width) (sym h.cells) (grid-known v.state.width u.screen.rows h.size.each) in
+    let Current : ℕ → ℕ → Option Picture → Type 0 = λ w n c. IsCurrent w n c t in
+    let current : Current v.state.width v.state.height (Some u.screen) = (h.size, h.cells, h.pen) in
+    record {
+      session = session;
+      sure = h.sure;
+      between = h.between;
+      rows = rows ∙ sym same.1;
+      each = subst (λ w. IsGrid w t.rows) (sym same.0) each;
+      now = subst (λ c. Current next.state.width next.state.height c) (sym now)
+          (subst (λ w. Current w next.state.height (Some u.screen)) (sym same.0) (subst (λ n. Current v.state.width n (Some u.screen)) (sym same.1) current));
+    }
+
+-- an update that is done leads to its target
+reached-from : (laws : RunLaws) (s : StateValue) (current : Option Picture) (target : Picture) (stop : Option ℕ) → IsValid s → FitsFrame current s → IsOfSize s.width s.height target
+    → AreWithin (length target.rows) (bands_of s) → (shifted_update current target (bands_of s) stop).done ≡ true → (shifted_update current target (bands_of s) stop).screen ≡ target
+reached-from laws s None target stop valid fits size within = laws.reached None target (bands_of s) stop tt tt within
+reached-from laws s (Some screen) target stop valid fits size within =
+    let frame = valid.frame in
+    laws.reached (Some screen) target (bands_of s) stop (fits.0.rows ∙ sym size.rows, width-is s.width s.height screen fits.0 ∙ sym (width-is s.width s.height target size))
+    (is-screen s.width s.height screen frame.narrow frame.low fits.0) within
+
+target-reached : (laws : RunLaws) (v : SessionValue) (stop : Option ℕ) → IsSession v → (update_of v stop).done ≡ true → (update_of v stop).screen ≡ (laid_out v.files v.state).picture
+target-reached laws v stop h =
+    let target = (laid_out v.files v.state).picture in
+    let size = (laws.targets v.files v.state h.state).0 in
+    reached-from laws v.state v.current target stop h.state h.screen size (subst (λ k. AreWithin k (bands_of v.state)) (sym size.rows) (laws.bands v.state h.state))
+
+updated-shows : (width height : ℕ) (u : Update) (target : Picture) (t : Tty) → u.screen ≡ target → u.done ≡ true → IsUpdated width height u target t → Shows t target
+updated-shows width height u target t reached done h = record {
+  sure = h.sure;
+  cells = h.cells ∙ ap (λ (p : Picture). known p.rows) reached;
+  cursor = h.cursor done;
+}
+
+-- ---- one line
+
+-- what holds behind a line with this effect
+record Goes (place : Standing) (t : Tty) (e : Effect) : Type 0 where
+  pub at : IsAt e.now.session (terminal_after t e)
+  pub under : e.now.mode ≡ place.mode
+  pub size : e.fresh ≡ false → AreOfOneSize place.session.state e.now.session.state
+  pub knows : is_sent e.outcome ≡ true → IsOn e.now.session.current (terminal_after t e)
+  pub reaches : is_shown e.outcome ≡ true → e.now.session.current ≡ Some (laid_out place.session.files place.session.state).picture
+  pub shows : is_shown e.outcome ≡ true → Shows (terminal_after t e) (laid_out place.session.files place.session.state).picture
+
+never : {P : Type 0} {b : Bool} → b ≡ false → b ≡ true → P
+never p q = absurd (true≢false (sym q ∙ p))
+
+-- a line that sends nothing
+silent-goes : (place : Standing) (t : Tty) (e : Effect) → is_sent e.outcome ≡ false → is_shown e.outcome ≡ false → IsAt e.now.session (terminal_after t e) → e.now.mode ≡ place.mode
+    → (e.fresh ≡ false → AreOfOneSize place.session.state e.now.session.state) → Goes place t e
+silent-goes place t e unsent unshown at under size =
+    record { at = at; under = under; size = size; knows = λ s. never unsent s; reaches = λ s. never unshown s; shows = λ s. never unshown s }
+
+-- an op that was accepted
+accepted-at : (place : Standing) (t : Tty) (op : Op) (s : StateValue) (framed : Bool) → is_frame op ≡ framed → IsAt place.session t → IsSession (behind place.session op s)
+    → (is_frame op ≡ false → AreOfOneSize place.session.state s) → IsAt (behind place.session op s) (terminal_after t (stepped place op (Ok s)))
+accepted-at place t op s true e h session size =
+    let next = behind place.session op s in
+    let current : next.current ≡ None = ap (λ b. if b then None else place.session.current) e in
+    let terminal : terminal_after t (stepped place op (Ok s)) ≡ unknown s.width s.height = ap (λ b. if b then unknown s.width s.height else t) e in
+    subst (IsAt next) (sym terminal) (fresh-at next session current)
+accepted-at place t op s false e h session size =
+    let next = behind place.session op s in
+    let v = place.session in
+    let same = size e in
+    let current : next.current ≡ v.current = ap (λ b. if b then None else v.current) e in
+    let terminal : terminal_after t (stepped place op (Ok s)) ≡ t = ap (λ b. if b then unknown s.width s.height else t) e in
+    let Current : ℕ → ℕ → Option Picture → Type 0 = λ w n c. IsCurrent w n c t in
+    let here : IsAt next t = record {
+      session = session;
+      sure = h.sure;
+      between = h.between;
+      rows = h.rows ∙ sym same.1;
+      each = subst (λ w. IsGrid w t.rows) (sym same.0) h.each;
+      now = subst (λ c. Current s.width s.height c) (sym current) (subst (λ w. Current w s.height v.current) (sym same.0) (subst (λ n. Current v.state.width n v.current) (sym same.1) h.now));
+    } in
+    subst (IsAt next) (sym terminal) here
+
+redisplayed-goes : (laws : RunLaws) (place : Standing) (t : Tty) (stop : Option ℕ) → IsAt place.session t → Goes place t (redisplayed place stop)
+redisplayed-goes laws place t stop h =
+    let v = place.session in
+    let w = v.state.width in
+    let n = v.state.height in
+    let target = (laid_out v.files v.state).picture in
+    let u = update_of v stop in
+    let same = same-frame v.files v.state in
+    let updated : IsUpdated w n u target (feed_bytes t u.bytes) = laws.updated w n v.current target (bands_of v.state) stop t (ready laws v t h) (laws.bands v.state h.session.state) in
+    let reached = target-reached laws v stop h.session in
+    record {
+      at = updated-at v (redisplayed_session v stop) u target (feed_bytes t u.bytes) (leads-on laws.leads v stop h.session) same refl updated;
+      under = refl;
+      size = λ _. same;
+      knows = λ s. (updated.sure, updated.cells);
+      reaches = λ s. ap (λ (p : Picture). Some p) (reached (shown-done u.done u.rows s));
+      shows = λ s. let done = shown-done u.done u.rows s in updated-shows w n u target (feed_bytes t u.bytes) (reached done) done updated;
+    }
+
+line-goes : (laws : RunLaws) (place : Standing) (t : Tty) (line : Turn) → IsAt place.session t → Goes place t (effect place line)
+line-goes laws place t line h = effect-is place line (Goes place t) (record {
+  blank = silent-goes place t (quiet place) refl refl h refl (λ _. (refl, refl));
+  unread = λ fault e. silent-goes place t (refused place (faults.Op fault)) refl refl h refl (λ _. (refl, refl));
+  refusal = λ op cause e. silent-goes place t (refused place (faults.Refused cause)) refl refl h refl (λ _. (refl, refl));
+  accepted = λ op s form step e.
+      let session = laws.stepped place.session op s h.session form step e in
+      let size : is_frame op ≡ false → AreOfOneSize place.session.state s = λ other. keeps-size place.session op s e other in
+      silent-goes place t (stepped place op (Ok s)) refl refl (accepted-at place t op s (is_frame op) refl h session size) refl size;
+  starved = silent-goes place t (unshown place) refl refl (forgotten-at place.session t h) refl (λ _. (refl, refl));
+  fed = λ stop. redisplayed-goes laws place t stop h;
+})
+
+-- ---- all lines
+
+-- where one more line leads; a run that has ended stays as it is
+record GoesOn (w next : World) (o : Option Outcome) : Type 0 where
+  pub at : IsAt next.now.session next.terminal
+  pub under : next.now.mode ≡ w.now.mode
+  pub knows : is_sent o ≡ true → IsOn next.now.session.current next.terminal
+  pub reaches : is_shown o ≡ true → next.now.session.current ≡ Some (laid_out w.now.session.files w.now.session.state).picture
+  pub shows : is_shown o ≡ true → Shows next.terminal (laid_out w.now.session.files w.now.session.state).picture
+
+goes-if : (stays : Bool) (w : World) (e : Effect) → IsAt w.now.session w.terminal → Goes w.now w.terminal e → GoesOn w (if stays then w else after w e) (if stays then None else e.outcome)
+goes-if true w e h g = record { at = h; under = refl; knows = λ s. never refl s; reaches = λ s. never refl s; shows = λ s. never refl s }
+goes-if false w e h g = record { at = g.at; under = g.under; knows = g.knows; reaches = g.reaches; shows = g.shows }
+
+goes-on : (laws : RunLaws) (w : World) (t : Turn) → IsAt w.now.session w.terminal → GoesOn w (turn w t) (outcome_at w t)
+goes-on laws w t h = goes-if (is_some w.fault) w (effect w.now t) h (line-goes laws w.now w.terminal t h)
+
+-- where a run in this mode stands
+pub record Stands (mode : Mode) (w : World) : Type 0 where
+  pub at : IsAt w.now.session w.terminal
+  pub under : w.now.mode ≡ mode
+
+run-stands : (laws : RunLaws) (mode : Mode) (w : World) (ts : List Turn) → Stands mode w → Stands mode (run w ts)
+run-stands laws mode w [] h = h
+run-stands laws mode w (t ∷ ts) h =
+    let next = goes-on laws w t h.at in
+    run-stands laws mode (turn w t) ts (record { at = next.at; under = next.under ∙ h.under })
+
+pub stands : (laws : RunLaws) (mode : Mode) (ts : List Turn) → Stands mode (run (opened mode) ts)
+stands laws mode ts = run-stands laws mode (opened mode) ts (record { at = fresh-at (opened_session mode.files) (laws.opened mode.files) refl; under = refl })
+
+pub leads : (laws : RunLaws) (mode : Mode) (ts : List Turn) (t : Turn) → LeadsOn (run (opened mode) ts) t
+leads laws mode ts t =
+    let w = run (opened mode) ts in
+    let here = stands laws mode ts in
+    let line = line-goes laws w.now w.terminal t here.at in
+    let next = goes-on laws w t here.at in
+    record { size = line.size; knows = next.knows; reaches = next.reaches; shows = next.shows }

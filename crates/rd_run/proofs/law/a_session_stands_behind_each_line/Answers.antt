@@ -1,0 +1,29 @@
+use Rattle.rd_layout.proofs.Placed.{PlaceLaws}
+use Rattle.rd_run.proofs.Leading.{LiveLaws}
+use Rattle.rd_run.proofs.Lines.{RunLaws, leads, stands}
+use Rattle.rd_run.proofs.law.a_session_stands_behind_each_line.Goals as goal
+
+laws : goal.After-windows_tile_their_rectangle → RunLaws
+laws c =
+    let tree = c.windows_tile_their_rectangle.ensures in
+    let places : PlaceLaws = record { inside = tree.inside; listed = tree.listed; in_order = tree.in_order } in
+    let live : LiveLaws = record { places = places; leaves = c.windows_are_leaves.ensures.placed } in
+    let targets = c.targets_are_sound.ensures in
+    record {
+      opened = c.sessions_stay_known.ensures.opened;
+      stepped = c.sessions_stay_known.ensures.step;
+      leads = record { live = live; lead = c.redisplays_lead_on.ensures };
+      bands = c.redisplays_keep_states.ensures.bands;
+      targets = λ files s valid. (targets.size files s valid, targets.sound files s valid);
+      updated = c.shift_law.ensures;
+      reached = c.shifted_updates_reach_their_targets.ensures.reached;
+    }
+
+pub returns-clause-session : goal.returns-clause-session
+returns-clause-session c mode turns = let here = stands (laws c) mode turns in here.at.session
+
+pub returns-clause-in_mode : goal.returns-clause-in_mode
+returns-clause-in_mode c mode turns = let here = stands (laws c) mode turns in here.under
+
+pub returns-clause-leads : goal.returns-clause-leads
+returns-clause-leads c = leads (laws c)
