@@ -227,14 +227,14 @@ stays-session laws v op t session form is = record {
 pub opened-session : (files : Data) → IsValid opening → IsSession (opened files)
 opened-session files valid = record { state = valid; screen = tt; made = λ number l h. absurd (cc); layouts = λ number w l hw hl. absurd (cc) }
 
-found-window : (s t : StateValue) (window : ℕ) (f : WindowState → Result StateValue Refused) → in_window s window f ≡ Ok t → (w : WindowState) × (f w ≡ Ok t)
+pub found-window : (s t : StateValue) (window : ℕ) (f : WindowState → Result StateValue Refused) → in_window s window f ≡ Ok t → (w : WindowState) × (f w ≡ Ok t)
 found-window s t window f h = by (window_of window s.windows) h where
   by : (o : Option WindowState) → with_found NoWindow o f ≡ Ok t → (w : WindowState) × (f w ≡ Ok t)
   by None h = absurd (cc)
   by (Some w) h = (w, h)
 
 -- a hit moves point by an op where it is not refused
-hit-moves : (s t : StateValue) (window : ℕ) (w : WindowState) (last : Option Layout) (place : Option Placed) (row column : ℕ) → hitting_by s window w last place row column ≡ Ok t
+pub hit-moves : (s t : StateValue) (window : ℕ) (w : WindowState) (last : Option Layout) (place : Option Placed) (row column : ℕ) → hitting_by s window w last place row column ≡ Ok t
     → (to : ℕ) × (step s (ops.Point window to) ≡ Ok t)
 hit-moves s t window w None place row column h = absurd (cc)
 hit-moves s t window w (Some l) None row column h = absurd (cc)

@@ -1,22 +1,15 @@
 -- What holds of each op that is no redisplay.
-use Rattle.std.proofs.Common.{◌≡◌, ℕ, Bool, true, false, if◌then◌else◌, Option, None, Some, Result, Ok, Err, refl, subst, unwrap_or}
+use Rattle.std.proofs.Common.{◌≡◌, false, None, Some, Result, Ok, Err, refl, subst}
 use Rattle.std.specs.Prelude.{IfOk}
-use Rattle.rd_frame.specs.Panes.{body_height}
-use Rattle.rd_matrix.specs.Entries.{shown_entries}
 use Rattle.rd_script.specs.declared.op.Op.{Op}
 use Rattle.rd_script.specs.declared.op.Op.TheVariants as ops
 use Rattle.rd_state.specs.States.{StateValue}
-use Rattle.rd_state.specs.Steps.{in_window, step, with_found}
-use Rattle.rd_state.specs.Windows.{window_of}
+use Rattle.rd_state.specs.Steps.{step}
 use Rattle.rd_state.specs.declared.refused.Refused.{Refused}
-use Rattle.rd_state.specs.declared.refused.Refused.TheVariants.{NoWindow, NotShown}
-use Rattle.rd_state.specs.declared.window.WindowState.{WindowState}
-use Rattle.rd_tree.specs.declared.placed.Placed.{Placed}
-use Rattle.rd_visual.specs.Hits.{hit_in}
-use Rattle.rd_window.specs.declared.layout.Layout.{Layout}
-use Rattle.rd_layout.specs.Pointing.{hitting_by, is_shown, pointed, stepped_to}
+use Rattle.rd_layout.specs.Pointing.{stepped_to}
 use Rattle.rd_layout.specs.Sessions.{IsStep, SessionValue, is_frame, layout_of, session_step}
-use Rattle.rd_layout.specs.Windows.{place_of, window_shape}
+use Rattle.rd_layout.specs.Windows.{place_of}
+use Rattle.rd_layout.proofs.Known.{found-window, hit-moves}
 use Rattle.rd_layout.proofs.Standing.{Goes, goes}
 use Rattle.rd_run.specs.Runs.{AreOfOneSize, asked}
 
@@ -67,22 +60,6 @@ of-ok (Ok s) P t h e = let same : s ≡ t = (let k : Ok s ≡ Ok t = e in cc) in
 
 stays : (s t : StateValue) (op : Op) → step s op ≡ Ok t → is_frame op ≡ false → AreOfOneSize s t
 stays s t op e other = let g : Goes (is_frame op) s t = of-ok (step s op) (Goes (is_frame op) s) t (goes s op) e in g.size other
-
-found-window : (s t : StateValue) (window : ℕ) (f : WindowState → Result StateValue Refused) → in_window s window f ≡ Ok t → (w : WindowState) × (f w ≡ Ok t)
-found-window s t window f h = by (window_of window s.windows) h where
-  by : (o : Option WindowState) → with_found NoWindow o f ≡ Ok t → (w : WindowState) × (f w ≡ Ok t)
-  by None h = absurd (cc)
-  by (Some w) h = (w, h)
-
--- a hit that is accepted moves point
-hit-moves : (s t : StateValue) (window : ℕ) (w : WindowState) (last : Option Layout) (place : Option Placed) (row column : ℕ) → hitting_by s window w last place row column ≡ Ok t
-    → (to : ℕ) × (step s (ops.Point window to) ≡ Ok t)
-hit-moves s t window w None place row column h = absurd (cc)
-hit-moves s t window w (Some l) None row column h = absurd (cc)
-hit-moves s t window w (Some l) (Some place) row column h = by (is_shown l (window_shape s w place) (body_height place)) h where
-  by : (shown : Bool) → (if shown then pointed s window w l row column else Err NotShown) ≡ Ok t → (to : ℕ) × (step s (ops.Point window to) ≡ Ok t)
-  by true h = (unwrap_or (hit_in (shown_entries l.matrix) row column) w.point, h)
-  by false h = absurd (cc)
 
 -- an op that sets no frame leaves its size
 pub keeps-size : (v : SessionValue) (op : Op) (t : StateValue) → session_step v op ≡ Ok t → is_frame op ≡ false → AreOfOneSize v.state t
