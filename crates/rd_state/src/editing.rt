@@ -21,7 +21,7 @@ const MOST_BUFFERS: usize = BUFFERS as usize;
 
 impl Parts {
     /// Makes an empty buffer.
-    #[tactic(auto, using(crate::proofs::ByName::in_place), unfolding(crate::specs::Steps::step, crate::specs::Effects::effect_of))]
+    #[tactic(auto, unfolding(crate::specs::Steps::step, crate::specs::Effects::effect_of))]
     pub(crate) fn make(&mut self, name: BufferName) -> Result<Effect, Refused>
         requires { IsValid self.old }
         ensures { Applies result (MakeBuffer name) self.old self.new }
@@ -55,7 +55,7 @@ impl Parts {
     }
 
     /// Puts raw bytes in.
-    #[tactic(auto, using(crate::proofs::ByName::in_place), unfolding(crate::specs::Steps::step, crate::specs::Effects::effect_of))]
+    #[tactic(auto, unfolding(crate::specs::Steps::step, crate::specs::Effects::effect_of))]
     pub(crate) fn insert_raw(
         &mut self,
         name: &str,
