@@ -1,8 +1,8 @@
 -- The map of buffers by name, as the list of buffers.
-use Rattle.std.proofs.Common.{◌≡◌, ℕ, zero, suc, ◌+◌, ◌≤◌, Bool, true, false, cond, not, if◌then◌else◌, None, Some, Result, Ok, Err, List, [], ◌∷◌, ◌++◌, length, set, sym, ap, refl, ◌∙◌, arith}
+use Rattle.std.proofs.Common.{◌≡◌, ◌≢◌, ℕ, zero, suc, ◌+◌, ◌≤◌, Bool, true, false, cond, not, if◌then◌else◌, None, Some, Result, Ok, Err, List, [], ◌∷◌, ◌++◌, length, sym, ap, refl, ◌∙◌, arith}
 use Rattle.std.proofs.lemmas.Bool.{ltb-false}
 use Rattle.std.proofs.lemmas.List.Sums.{prefix_len-le-length}
-use Rattle.std.specs.Prelude.{slice_get, nat_lt, position, String, string_bytes, is_ok, IfOk, OnErr}
+use Rattle.std.specs.Prelude.{option_map, slice_get, slice_set, nat_lt, position, String, string_bytes, is_ok, OnErr}
 use Rattle.std.specs.String.{string_eq}
 use Rattle.std.specs.declared.alloc.Global.{Global}
 use Rattle.std.specs.List.{position_or_len}
@@ -10,12 +10,10 @@ use Rattle.std.specs.Map.{keys_of, values_of}
 use Rattle.std.specs.Str.{bytes_eq}
 use Rattle.indexmap.specs.IndexMap.{insert_entry}
 use Rattle.indexmap.specs.Layout.{set_value_at}
-use Rattle.rd_overlays.specs.declared.overlay.Overlay.{Overlay}
-use Rattle.rd_overlays.specs.Overlays.{overlay_at}
 use Rattle.rd_state.specs.declared.refused.Refused.{Refused}
+use Rattle.rd_state.specs.declared.refused.Refused.TheVariants.{Memory}
 use Rattle.rd_state.specs.States.{BufferValue, ContentValue, buffers_of, number_of}
 use Rattle.rd_state.specs.Answers.{Answers}
-use Rattle.rd_state.specs.Held.{AnswersAt}
 
 -- ---- searching
 
@@ -82,51 +80,56 @@ added (e ∷ es) k b h =
 
 -- ---- changing
 
-set-same : {X : Type 0} (xs : List X) (i : ℕ) (x : X) → slice_get xs i ≡ Some x → set xs i x ≡ xs
-set-same [] i x h = refl
-set-same (y ∷ ys) zero x h = let same : y ≡ x = cc in ap (λ z. z ∷ ys) (sym same)
-set-same (y ∷ ys) (suc i) x h = ap (λ zs. y ∷ zs) (set-same ys i x h)
+-- the name of the buffer at a place
+abbrev pub name_at : List (String Global × ContentValue) → ℕ → List ℕ
+name_at [] i = []
+name_at (e ∷ es) zero = string_bytes e.0
+name_at (e ∷ es) (suc i) = name_at es i
 
--- the buffer at a place, and the list after a write there
-pub record At (es : List (String Global × ContentValue)) (i : ℕ) (b c : ContentValue) : Type 0 where
-  pub name : List ℕ
-  pub there : slice_get (buffers_of es) i ≡ Some (record { name = name; content = b })
-  pub written : buffers_of (set_value_at es i c) ≡ set (buffers_of es) i (record { name = name; content = c })
+-- the buffer at a place
+pub stands : (es : List (String Global × ContentValue)) (i : ℕ)
+    → slice_get (buffers_of es) i ≡ option_map (λ c. record { name = name_at es i; content = c }) (slice_get (values_of es) i)
+stands [] i = refl
+stands (e ∷ es) zero = refl
+stands (e ∷ es) (suc i) = stands es i
 
-at-place : (es : List (String Global × ContentValue)) (i : ℕ) (b c : ContentValue) → slice_get (values_of es) i ≡ Some b → At es i b c
-at-place [] i b c h = absurd (cc)
-at-place (e ∷ es) zero b c h =
-    let same : e.1 ≡ b = cc in
-    record { name = string_bytes e.0; there = ap (λ x. Some (named e.0 x)) same; written = refl }
-at-place (e ∷ es) (suc i) b c h =
-    let rest = at-place es i b c h in
-    record { name = rest.name; there = rest.there; written = ap (λ bs. named e.0 e.1 ∷ bs) rest.written }
+-- the list after a write there
+pub written : (es : List (String Global × ContentValue)) (i : ℕ) (c : ContentValue)
+    → buffers_of (set_value_at es i c) ≡ slice_set (buffers_of es) i (record { name = name_at es i; content = c })
+written [] i c = refl
+written (e ∷ es) zero c = refl
+written (e ∷ es) (suc i) c = ap (λ bs. named e.0 e.1 ∷ bs) (written es i c)
 
-answers-named : (r : Result Unit Refused) (edit : ContentValue → Result ContentValue Refused) (i : ℕ) (old new : List BufferValue) (name : List ℕ) (b c : ContentValue)
-    → slice_get old i ≡ Some (record { name = name; content = b }) → new ≡ set old i (record { name = name; content = c }) → Answers r (edit b) b c → AnswersAt r edit i old new
-answers-named (Ok u) edit i old new name b c at is h = (record { name = name; content = b }, c, at, h, is)
-answers-named (Err e) edit i old new name b c at is h = (
-  is ∙ (ap (λ (x : ContentValue). set old i (record { name = name; content = x })) h.0 ∙ set-same old i (record { name = name; content = b }) at),
-  λ ne. (record { name = name; content = b }, at, h.1 ne),
-)
+-- what stands there, written again
+pub rewritten : (es : List (String Global × ContentValue)) (i : ℕ) (b : ContentValue) → slice_get (values_of es) i ≡ Some b
+    → buffers_of (set_value_at es i b) ≡ buffers_of es
+rewritten [] i b h = refl
+rewritten (e ∷ es) zero b h = let same : e.1 ≡ b = cc in ap (λ x. named e.0 x ∷ buffers_of es) (sym same)
+rewritten (e ∷ es) (suc i) b h = ap (λ bs. named e.0 e.1 ∷ bs) (rewritten es i b h)
 
+pub there : (es : List (String Global × ContentValue)) (i : ℕ) (b : ContentValue) → slice_get (values_of es) i ≡ Some b
+    → slice_get (buffers_of es) i ≡ Some (record { name = name_at es i; content = b })
+there es i b at = stands es i ∙ ap (option_map (λ (c : ContentValue). record { name = name_at es i; content = c })) at
+
+-- what is known of a buffer that is found by its number and changed in place
+pub ruleset in_place = (stands, written, rewritten)
+
+-- what is done by an edit to the buffer at a place: a refusal is the edit's or want of memory, and leaves the buffers as they were
+abbrev pub AnswersAt : Result Unit Refused → (ContentValue → Result ContentValue Refused) → ℕ → List BufferValue → List BufferValue → Type 0
+AnswersAt (Ok _) edit i old new =
+    (b : BufferValue) × (c : ContentValue) × (slice_get old i ≡ Some b) × (edit b.content ≡ Ok c) × (new ≡ slice_set old i (record b { content = c }))
+AnswersAt (Err refused) edit i old new =
+    (new ≡ old) × (refused ≢ Memory → (b : BufferValue) × (slice_get old i ≡ Some b) × (edit b.content ≡ Err refused))
+
+-- as the method of the buffer answers, so the buffers are left
 pub answers-at : (r : Result Unit Refused) (edit : ContentValue → Result ContentValue Refused) (i : ℕ) (es : List (String Global × ContentValue)) (b c : ContentValue)
     → slice_get (values_of es) i ≡ Some b → Answers r (edit b) b c → AnswersAt r edit i (buffers_of es) (buffers_of (set_value_at es i c))
-answers-at r edit i es b c at h =
-    let place = at-place es i b c at in
-    answers-named r edit i (buffers_of es) (buffers_of (set_value_at es i c)) place.name b c place.there place.written h
+answers-at (Ok u) edit i es b c at h = (record { name = name_at es i; content = b }, c, there es i b at, h, written es i c)
+answers-at (Err e) edit i es b c at h = (
+  ap (λ (x : ContentValue). buffers_of (set_value_at es i x)) h.0 ∙ rewritten es i b at,
+  λ ne. (record { name = name_at es i; content = b }, there es i b at, h.1 ne),
+)
 
 pub text-at : (es : List (String Global × ContentValue)) (i : ℕ) (b : ContentValue) → slice_get (values_of es) i ≡ Some b
     → (x : BufferValue) × (slice_get (buffers_of es) i ≡ Some x) × (b.text ≡ x.content.text)
-text-at es i b at = let place = at-place es i b b at in (record { name = place.name; content = b }, place.there, refl)
-
--- what is said of an overlay, where one lives, of the buffer at a place
-pub overlay-found : (es : List (String Global × ContentValue)) (i number : ℕ) (b : ContentValue) (r : Result Overlay Refused) → slice_get (values_of es) i ≡ Some b
-    → IfOk r (λ o. overlay_at b.overlays number ≡ Some o) → IfOk r (λ o. (x : BufferValue) × (slice_get (buffers_of es) i ≡ Some x) × (overlay_at x.content.overlays number ≡ Some o))
-overlay-found es i number b (Ok o) at h = let place = at-place es i b b at in (record { name = place.name; content = b }, place.there, h)
-overlay-found es i number b (Err e) at h = h
-
-pub overlay-absent : (es : List (String Global × ContentValue)) (i number : ℕ) (b : ContentValue) (r : Result Overlay Refused) → slice_get (values_of es) i ≡ Some b
-    → OnErr r (overlay_at b.overlays number ≡ None) → OnErr r ((x : BufferValue) × (slice_get (buffers_of es) i ≡ Some x) × (overlay_at x.content.overlays number ≡ None))
-overlay-absent es i number b (Ok o) at h = h
-overlay-absent es i number b (Err e) at h = let place = at-place es i b b at in (record { name = place.name; content = b }, place.there, h)
+text-at es i b at = (record { name = name_at es i; content = b }, there es i b at, refl)

@@ -18,6 +18,7 @@ mod Outcomes
 mod Sharing
 mod Showing
 mod Slots
+mod Small
 mod Stepping
 mod Tables
 mod Tests

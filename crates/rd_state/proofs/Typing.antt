@@ -13,13 +13,13 @@ use Rattle.rd_state.specs.declared.window.WindowState.{WindowState}
 use Rattle.rd_state.specs.States.{BufferValue, ContentValue, StateValue, opening_window}
 use Rattle.rd_state.specs.Answers.{Applies}
 use Rattle.rd_state.specs.Edits.{insertion}
-use Rattle.rd_state.specs.Held.{AnswersAt}
 use Rattle.rd_state.specs.Movable.{CanMove}
 use Rattle.rd_state.specs.Moves.{moved_in}
 use Rattle.rd_state.specs.Effects.{inserted_effect}
 use Rattle.rd_state.specs.Steps.{with_found, in_shown, replaced, moving, changing, typing, step}
 use Rattle.rd_state.specs.Valid.{IsValid}
 use Rattle.rd_state.specs.Windows.{place_in, with_window, selected_window}
+use Rattle.rd_state.proofs.ByName.{AnswersAt}
 use Rattle.rd_state.proofs.ByNumber.{Entry}
 use Rattle.rd_state.proofs.Finding.{IsFound, found-entry, at-window}
 use Rattle.rd_state.proofs.Stepping.{insertion-means}

@@ -5,7 +5,7 @@ ghost use Rattle.rd_script.specs.declared.op.Op.TheVariants.{Buffer as MakeBuffe
 ghost use Rattle.rd_state.specs.Answers.{Applies};
 ghost use Rattle.rd_state.specs.Valid.{IsValid};
 
-use crate::buffers::{add, delete_at, find, insert_at, narrow_at, widen_at};
+use crate::buffers::{add, find};
 use crate::effect::Effect;
 use crate::moves::{Move, move_windows};
 use crate::parts::Parts;
@@ -37,13 +37,13 @@ impl Parts {
     }
 
     /// Puts a text in.
-    #[tactic(auto, unfolding(crate::specs::Steps::step, crate::specs::Effects::effect_of))]
+    #[tactic(auto, using(crate::proofs::ByName::in_place), unfolding(crate::specs::Steps::step, crate::specs::Effects::effect_of))]
     pub(crate) fn insert(&mut self, name: &str, pos: u64, text: &[Ch]) -> Result<Effect, Refused>
         requires { IsValid self.old }
         ensures { Applies result (Insert name.now pos text.now) self.old self.new }
     {
         let i = find(&self.buffers, name)?;
-        insert_at(&mut self.buffers, i, pos, text)?;
+        self.buffers[i].insert(pos, text)?;
         let (buffer, from, added) = (i as u32, pos as u32, text.len() as u32);
         move_windows(&mut self.windows, buffer, Move::Inserted(from, added));
         Ok(Effect::Edit {
@@ -71,7 +71,7 @@ impl Parts {
     }
 
     /// Puts a text in at the selected window's point, which moves behind it.
-    #[tactic(auto, unfolding(crate::specs::Steps::step, crate::specs::Effects::effect_of))]
+    #[tactic(auto, using(crate::proofs::ByName::in_place), unfolding(crate::specs::Steps::step, crate::specs::Effects::effect_of))]
     pub(crate) fn type_text(&mut self, text: &[Ch]) -> Result<Effect, Refused>
         requires { IsValid self.old }
         ensures { Applies result (TypeText text.now) self.old self.new }
@@ -79,7 +79,7 @@ impl Parts {
         let w = windows::find(self.windows.as_slice(), self.selected as u64)?;
         let window = &self.windows[w].1;
         let (buffer, from) = (window.buffer, window.point);
-        insert_at(&mut self.buffers, buffer as usize, from as u64, text)?;
+        self.buffers[buffer as usize].insert(from as u64, text)?;
         let added = text.len() as u32;
         move_windows(&mut self.windows, buffer, Move::Inserted(from, added));
         self.windows[w].1.point = from + added;
@@ -92,14 +92,14 @@ impl Parts {
     }
 
     /// Takes a range away.
-    #[tactic(auto, unfolding(crate::specs::Steps::step, crate::specs::Effects::effect_of))]
+    #[tactic(auto, using(crate::proofs::ByName::in_place), unfolding(crate::specs::Steps::step, crate::specs::Effects::effect_of))]
     pub(crate) fn delete(&mut self, name: &str, from: u64, to: u64) -> Result<Effect, Refused>
         requires { IsValid self.old }
         ensures applies { Applies result (Delete name.now from to) self.old self.new }
         ensures free { result ≢ Err Refused.Memory }
     {
         let i = find(&self.buffers, name)?;
-        delete_at(&mut self.buffers, i, from, to)?;
+        self.buffers[i].delete(from, to)?;
         let (buffer, from, to) = (i as u32, from as u32, to as u32);
         move_windows(&mut self.windows, buffer, Move::Deleted(from, to));
         Ok(Effect::Edit {
@@ -111,14 +111,14 @@ impl Parts {
     }
 
     /// Makes a range the accessible one.
-    #[tactic(auto, unfolding(crate::specs::Steps::step, crate::specs::Effects::effect_of))]
+    #[tactic(auto, using(crate::proofs::ByName::in_place), unfolding(crate::specs::Steps::step, crate::specs::Effects::effect_of))]
     pub(crate) fn narrow(&mut self, name: &str, from: u64, to: u64) -> Result<Effect, Refused>
         requires { IsValid self.old }
         ensures applies { Applies result (Narrow name.now from to) self.old self.new }
         ensures free { result ≢ Err Refused.Memory }
     {
         let i = find(&self.buffers, name)?;
-        narrow_at(&mut self.buffers, i, from, to)?;
+        self.buffers[i].narrow(from, to)?;
         let buffer = i as u32;
         move_windows(
             &mut self.windows,
@@ -129,14 +129,14 @@ impl Parts {
     }
 
     /// Makes the whole text accessible.
-    #[tactic(auto, unfolding(crate::specs::Steps::step, crate::specs::Effects::effect_of))]
+    #[tactic(auto, using(crate::proofs::ByName::in_place), unfolding(crate::specs::Steps::step, crate::specs::Effects::effect_of))]
     pub(crate) fn widen(&mut self, name: &str) -> Result<Effect, Refused>
         requires { IsValid self.old }
         ensures applies { Applies result (Widen name.now) self.old self.new }
         ensures free { result ≢ Err Refused.Memory }
     {
         let i = find(&self.buffers, name)?;
-        widen_at(&mut self.buffers, i);
+        self.buffers[i].widen();
         Ok(Effect::All { buffer: i as u32 })
     }
 }

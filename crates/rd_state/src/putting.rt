@@ -6,10 +6,7 @@ ghost use Rattle.rd_state.specs.Answers.{Applies};
 ghost use Rattle.rd_state.specs.Effects.{restyled, covered_effect};
 ghost use Rattle.rd_state.specs.Valid.{IsValid};
 
-use crate::buffers::{
-    drop_overlay_at, find, make_overlay_at, mark_at, move_overlay_at, overlay_at, put_at,
-    put_on_overlay_at, set_at,
-};
+use crate::buffers::find;
 use crate::effect::Effect;
 use crate::parts::Parts;
 use crate::refused::Refused;
@@ -19,7 +16,7 @@ use rd_script::Setting;
 
 impl Parts {
     /// Gives a text property another value on a range.
-    #[tactic(auto, unfolding(crate::specs::Steps::step, crate::specs::Effects::effect_of))]
+    #[tactic(auto, using(crate::proofs::ByName::in_place), unfolding(crate::specs::Steps::step, crate::specs::Effects::effect_of))]
     pub(crate) fn put(
         &mut self,
         name: &str,
@@ -33,12 +30,12 @@ impl Parts {
         ensures { Applies result (Put name.now from to kind value) self.old self.new }
     {
         let i = find(&self.buffers, name)?;
-        put_at(&mut self.buffers, &self.objects, i, from, to, kind, value)?;
+        self.buffers[i].put(&self.objects, from, to, kind, value)?;
         Ok(restyled(i as u32, from as u32, to as u32))
     }
 
     /// Makes an overlay without values.
-    #[tactic(auto, unfolding(crate::specs::Steps::step, crate::specs::Effects::effect_of))]
+    #[tactic(auto, using(crate::proofs::ByName::in_place), unfolding(crate::specs::Steps::step, crate::specs::Effects::effect_of))]
     pub(crate) fn make_overlay(
         &mut self,
         name: &str,
@@ -52,12 +49,12 @@ impl Parts {
         ensures { Applies result (MakeOverlay name.now from to priority front rear) self.old self.new }
     {
         let i = find(&self.buffers, name)?;
-        make_overlay_at(&mut self.buffers, i, from, to, priority, front, rear)?;
+        self.buffers[i].make_overlay(from, to, priority, front, rear)?;
         Ok(restyled(i as u32, from as u32, to as u32))
     }
 
     /// Gives an overlay another range.
-    #[tactic(auto, unfolding(crate::specs::Steps::step, crate::specs::Effects::effect_of))]
+    #[tactic(auto, using(crate::proofs::ByName::in_place), unfolding(crate::specs::Steps::step, crate::specs::Effects::effect_of))]
     pub(crate) fn move_overlay(
         &mut self,
         name: &str,
@@ -69,8 +66,8 @@ impl Parts {
         ensures { Applies result (OverlayMove name.now number from to) self.old self.new }
     {
         let i = find(&self.buffers, name)?;
-        let overlay = overlay_at(&self.buffers, i, number)?;
-        move_overlay_at(&mut self.buffers, i, number, from, to)?;
+        let overlay = self.buffers[i].overlay(number)?;
+        self.buffers[i].move_overlay(number, from, to)?;
         Ok(Effect::Moved {
             buffer: i as u32,
             before: (overlay.from, overlay.to),
@@ -79,20 +76,20 @@ impl Parts {
     }
 
     /// Takes an overlay away.
-    #[tactic(auto, unfolding(crate::specs::Steps::step, crate::specs::Effects::effect_of))]
+    #[tactic(auto, using(crate::proofs::ByName::in_place), unfolding(crate::specs::Steps::step, crate::specs::Effects::effect_of))]
     pub(crate) fn drop_overlay(&mut self, name: &str, number: u64) -> Result<Effect, Refused>
         requires { IsValid self.old }
         ensures applies { Applies result (OverlayDrop name.now number) self.old self.new }
         ensures free { result ≢ Err Refused.Memory }
     {
         let i = find(&self.buffers, name)?;
-        let overlay = overlay_at(&self.buffers, i, number)?;
-        drop_overlay_at(&mut self.buffers, i, number)?;
+        let overlay = self.buffers[i].overlay(number)?;
+        self.buffers[i].drop_overlay(number)?;
         Ok(covered(i as u32, overlay))
     }
 
     /// Gives an overlay another value of a kind.
-    #[tactic(auto, unfolding(crate::specs::Steps::step, crate::specs::Effects::effect_of))]
+    #[tactic(auto, using(crate::proofs::ByName::in_place), unfolding(crate::specs::Steps::step, crate::specs::Effects::effect_of))]
     pub(crate) fn put_on_overlay(
         &mut self,
         name: &str,
@@ -106,13 +103,13 @@ impl Parts {
         ensures free { result ≢ Err Refused.Memory }
     {
         let i = find(&self.buffers, name)?;
-        let overlay = overlay_at(&self.buffers, i, number)?;
-        put_on_overlay_at(&mut self.buffers, &self.objects, i, number, kind, value)?;
+        let overlay = self.buffers[i].overlay(number)?;
+        self.buffers[i].put_on_overlay(&self.objects, number, kind, value)?;
         Ok(covered(i as u32, overlay))
     }
 
     /// Gives an overlay another margin string.
-    #[tactic(auto, unfolding(crate::specs::Steps::step, crate::specs::Effects::effect_of))]
+    #[tactic(auto, using(crate::proofs::ByName::in_place), unfolding(crate::specs::Steps::step, crate::specs::Effects::effect_of))]
     pub(crate) fn mark(
         &mut self,
         name: &str,
@@ -124,12 +121,12 @@ impl Parts {
         ensures free { result ≡ Err Refused.Memory → IsSome string }
     {
         let i = find(&self.buffers, name)?;
-        mark_at(&mut self.buffers, &self.objects, i, number, string)?;
+        self.buffers[i].mark(&self.objects, number, string)?;
         Ok(Effect::Nothing)
     }
 
     /// Sets a setting of a buffer.
-    #[tactic(auto, unfolding(crate::specs::Steps::step, crate::specs::Effects::effect_of))]
+    #[tactic(auto, using(crate::proofs::ByName::in_place), unfolding(crate::specs::Steps::step, crate::specs::Effects::effect_of))]
     pub(crate) fn set(&mut self, name: &str, setting: Setting) -> Result<Effect, Refused>
         requires valid { IsValid self.old }
         requires form { IsInForm (SetSetting name.now setting) }
@@ -137,7 +134,7 @@ impl Parts {
         ensures free { result ≢ Err Refused.Memory }
     {
         let i = find(&self.buffers, name)?;
-        set_at(&mut self.buffers, &self.objects, i, setting)?;
+        self.buffers[i].set(&self.objects, setting)?;
         Ok(Effect::All { buffer: i as u32 })
     }
 }
