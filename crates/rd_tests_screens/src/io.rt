@@ -15,6 +15,21 @@ fn source(alloc: Global, bytes: &[u8], failing: &[u64]) -> Result<MemSource, Fai
     Ok(MemSource::new(Vec::from_slice(alloc, bytes)?).failing(calls))
 }
 
+/// Whether a reader takes these lines from a source, and then gives this answer again and again.
+fn reads(
+    reader: &mut Lines,
+    source: &mut MemSource,
+    lines: &[&[u8]],
+    end: Result<bool, LineFault>,
+) -> bool {
+    for line in lines {
+        if reader.next(source) != Ok(true) || reader.line() != *line {
+            return false;
+        }
+    }
+    reader.next(source) == end && reader.next(source) == end
+}
+
 /// Whether a source gives these lines, and then this answer again and again.
 fn gives(
     alloc: Global,
@@ -22,15 +37,10 @@ fn gives(
     lines: &[&[u8]],
     end: Result<bool, LineFault>,
 ) -> bool {
-    let Ok(mut reader) = Lines::new(alloc) else {
-        return false;
-    };
-    for line in lines {
-        if reader.next(source) != Ok(true) || reader.line() != *line {
-            return false;
-        }
+    match Lines::new(alloc) {
+        Ok(mut reader) => reads(&mut reader, source, lines, end),
+        Err(_) => false,
     }
-    reader.next(source) == end && reader.next(source) == end
 }
 
 /// Whether bytes, from a source of whose calls those with these numbers fail, are these lines and this end.
@@ -45,19 +55,14 @@ fn are_lines(
     Ok(gives(alloc, &mut source, lines, end))
 }
 
-/// How many lines a source gives before it ends, or fails.
-fn count(alloc: Global, source: &mut MemSource) -> (u32, Option<LineFault>) {
-    let Ok(mut reader) = Lines::new(alloc) else {
-        return (0, Some(LineFault::Memory));
-    };
-    for lines in 0..1_000_002 {
-        match reader.next(source) {
-            Ok(true) => {}
-            Ok(false) => return (lines, None),
-            Err(fault) => return (lines, Some(fault)),
+/// Whether a reader takes so many lines from a source, and then fails for this fault.
+fn fails_after(reader: &mut Lines, source: &mut MemSource, lines: u32, fault: LineFault) -> bool {
+    for _line in 0..lines {
+        if reader.next(source) != Ok(true) {
+            return false;
         }
     }
-    (1_000_002, None)
+    reader.next(source) == Err(fault)
 }
 
 #[test]
@@ -94,11 +99,18 @@ fn the_longest_line(rt: HostRuntime) -> Result<(), Fail> {
     Ok(())
 }
 
+/// Whether a source gives 1,000,000 lines, and then fails since there are more.
+fn has_too_many(alloc: Global, source: &mut MemSource) -> bool {
+    match Lines::new(alloc) {
+        Ok(mut reader) => fails_after(&mut reader, source, 1_000_000, LineFault::TooMany),
+        Err(_) => false,
+    }
+}
+
 #[test]
 fn the_most_lines(rt: HostRuntime) -> Result<(), Fail> {
     let mut source = MemSource::new(Vec::from_elem(rt.alloc(), 10, 1_000_001)?);
-    let counted = count(rt.alloc(), &mut source);
-    assert_eq!(rt; counted, (1_000_000, Some(LineFault::TooMany)));
+    assert!(rt; has_too_many(rt.alloc(), &mut source));
     Ok(())
 }
 
@@ -118,23 +130,26 @@ fn takes(sink: &mut MemSink, writes: &[(&[u8], Result<(), Failed>)], held: &[u8]
     sink.bytes() == held
 }
 
-#[test]
-fn a_sink_takes_what_fits(rt: HostRuntime) -> Result<(), Fail> {
-    let mut small = sink(rt.alloc(), 5, &[])?;
-    assert!(rt;
-        takes(
-            &mut small,
-            &[(b"abc", Ok(())), (b"defg", Err(Failed))],
-            b"abcde"
-        )
-    );
-    let mut broken = sink(rt.alloc(), 5, &[2])?;
+/// Asserts that a sink of five bytes takes what fits.
+fn assert_filled(rt: &impl Abort, small: &mut MemSink) {
+    let writes: [(&[u8], Result<(), Failed>); 2] = [(b"abc", Ok(())), (b"defg", Err(Failed))];
+    assert!(rt; takes(small, &writes, b"abcde"));
+}
+
+/// Asserts that a sink whose second call fails takes what comes before and after.
+fn assert_broken(rt: &impl Abort, broken: &mut MemSink) {
     let writes: [(&[u8], Result<(), Failed>); 3] = [
         (b"a", Ok(())),
         (b"b", Err(Failed)),
         (b"c", Ok(())),
     ];
-    assert!(rt; takes(&mut broken, &writes, b"ac"));
+    assert!(rt; takes(broken, &writes, b"ac"));
+}
+
+#[test]
+fn a_sink_takes_what_fits(rt: HostRuntime) -> Result<(), Fail> {
+    assert_filled(&rt, &mut sink(rt.alloc(), 5, &[])?);
+    assert_broken(&rt, &mut sink(rt.alloc(), 5, &[2])?);
     Ok(())
 }
 
@@ -153,23 +168,50 @@ fn a_piece_holds_8_192_bytes(rt: HostRuntime) -> Result<(), Fail> {
     Ok(())
 }
 
-/// A file of a name.
-fn file(alloc: Global, name: &str, bytes: Vec<u8>) -> Result<(String, Vec<u8>), Fail> {
-    Ok((String::from_str(alloc, name)?, bytes))
+/// Files of a name and bytes.
+type Held = Vec<(String, Vec<u8>)>;
+
+/// Adds a file.
+fn hold(alloc: Global, held: &mut Held, name: &str, bytes: &[u8]) -> Result<(), Fail> {
+    held.push((
+        String::from_str(alloc, name)?,
+        Vec::from_slice(alloc, bytes)?,
+    ))?;
+    Ok(())
 }
 
-/// A small file, one of the largest size, and one that is larger, of whose fetches those with these numbers fail.
+/// Adds a file of so many letters.
+fn hold_letters(alloc: Global, held: &mut Held, name: &str, count: usize) -> Result<(), Fail> {
+    hold(alloc, held, name, letters(alloc, count)?.as_slice())
+}
+
+/// Adds a small file, one of the largest size, and one that is larger.
+fn hold_all(alloc: Global, held: &mut Held) -> Result<(), Fail> {
+    hold(alloc, held, "small", b"abc")?;
+    hold_letters(alloc, held, "full", 8_388_608)?;
+    hold_letters(alloc, held, "over", 8_388_609)
+}
+
+/// These files, of whose fetches those with these numbers fail.
 fn files(alloc: Global, failing: &[u64]) -> Result<MemFiles, Fail> {
     let mut held = Vec::new(alloc);
-    held.push(file(alloc, "small", Vec::from_slice(alloc, b"abc")?)?)?;
-    held.push(file(alloc, "full", letters(alloc, 8_388_608)?)?)?;
-    held.push(file(alloc, "over", letters(alloc, 8_388_609)?)?)?;
+    hold_all(alloc, &mut held)?;
     Ok(MemFiles::new(held).failing(Vec::from_slice(alloc, failing)?))
 }
 
 /// How many bytes a file has, or why it is not read.
 fn length(alloc: Global, files: &mut MemFiles, name: &str) -> Result<usize, FileFault> {
     Ok(read_file(alloc, files, name)?.len())
+}
+
+/// Whether a file has so many bytes, or is not read for this fault.
+fn answers(
+    alloc: Global,
+    files: &mut MemFiles,
+    name: &str,
+    answer: Result<usize, FileFault>,
+) -> bool {
+    length(alloc, files, name) == answer
 }
 
 /// Whether a file has these bytes.
@@ -180,19 +222,27 @@ fn holds<F: Files>(alloc: Global, files: &mut F, name: &str, bytes: &[u8]) -> bo
     }
 }
 
+/// The names of files, and how many bytes each has, or why it is not read, where the second fetch fails.
+const LENGTHS: [(&'static str, Result<usize, FileFault>); 5] = [
+    ("small", Err(FileFault::Failed)),
+    ("small", Ok(3)),
+    ("full", Ok(8_388_608)),
+    ("over", Err(FileFault::TooLarge)),
+    ("none", Err(FileFault::Failed)),
+];
+
+/// Asserts how each file is read.
+fn assert_read(rt: &impl Abort, files: &mut MemFiles, alloc: Global) {
+    for (name, answer) in &LENGTHS {
+        assert_of(rt, name, answers(alloc, files, name, *answer));
+    }
+    assert!(rt; holds(alloc, files, "small", b"abc"));
+}
+
 #[test]
 fn files_are_read_whole(rt: HostRuntime) -> Result<(), Fail> {
     let mut files = files(rt.alloc(), &[2])?;
-    for (name, answer) in [
-        ("small", Err(FileFault::Failed)),
-        ("small", Ok(3)),
-        ("full", Ok(8_388_608)),
-        ("over", Err(FileFault::TooLarge)),
-        ("none", Err(FileFault::Failed)),
-    ] {
-        assert_of(&rt, name, length(rt.alloc(), &mut files, name) == answer);
-    }
-    assert!(rt; holds(rt.alloc(), &mut files, "small", b"abc"));
+    assert_read(&rt, &mut files, rt.alloc());
     Ok(())
 }
 

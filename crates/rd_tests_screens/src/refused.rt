@@ -511,9 +511,15 @@ const WITH_ALL_OBJECTS: [(&'static str, Refused); 7] = [
     (r#"{"op":"table"}"#, Refused::TooManyObjects),
 ];
 
-/// Whether a state refuses a string of so many characters `a` for a cause.
-fn refuses_string(state: &mut State, alloc: Global, count: usize, refused: Refused) -> bool {
-    answer_filled(state, alloc, r#"{"op":"string","text":""#, count) == Some(Err(refused))
+/// Whether a state refuses a string of so many characters `a`, behind a first part of its line, for a cause.
+fn refuses_string(
+    state: &mut State,
+    alloc: Global,
+    front: &str,
+    count: usize,
+    refused: Refused,
+) -> bool {
+    answer_filled(state, alloc, front, count) == Some(Err(refused))
 }
 
 /// Whether a state accepts as many objects of each sort as there may be.
@@ -526,13 +532,17 @@ fn makes_objects(state: &mut State, alloc: Global) -> bool {
         && repeats(state, alloc, spec, 4096)
 }
 
-/// Asserts that a string can be too long, with and without all objects, and how many objects there are.
+/// Asserts that a string can be too long, with and without all objects, and how many objects there are. A run that ends behind the
+/// string is told first.
 fn assert_all_objects(rt: &impl Abort, state: &mut State, alloc: Global) {
-    assert!(rt; refuses_string(state, alloc, 4097, Refused::ObjectTooLong));
+    let plain = r#"{"op":"string","text":""#;
+    let beyond = r#"{"op":"string","runs":[[0,4098,"face",1023]],"text":""#;
+    assert!(rt; refuses_string(state, alloc, plain, 4097, Refused::ObjectTooLong));
     assert!(rt; makes_objects(state, alloc));
     assert_refused(rt, state, alloc, &WITH_ALL_OBJECTS);
-    assert!(rt; refuses_string(state, alloc, 4097, Refused::ObjectTooLong));
-    assert!(rt; refuses_string(state, alloc, 4096, Refused::TooManyObjects));
+    assert!(rt; refuses_string(state, alloc, beyond, 4097, Refused::OutOfRange));
+    assert!(rt; refuses_string(state, alloc, plain, 4097, Refused::ObjectTooLong));
+    assert!(rt; refuses_string(state, alloc, plain, 4096, Refused::TooManyObjects));
 }
 
 #[test]

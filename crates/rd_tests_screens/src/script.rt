@@ -7,9 +7,11 @@ mod ops;
 mod other_keys;
 mod settings;
 
+use crate::claims::assert_of;
 use rd_base::{Ch, ListOf};
 use rd_script::{OpFault, read_op};
 use std::alloc::Global;
+use std::process::Abort;
 
 /// Whether a list has the characters of a text.
 pub fn is_spelled(list: &ListOf<Ch>, text: &str) -> bool {
@@ -46,5 +48,12 @@ pub fn has_fault(alloc: Global, line: &[u8], kind: &str, key: &str) -> bool {
     match read_op(alloc, line) {
         Ok(_op) => false,
         Err(fault) => is_fault(&fault, kind, key),
+    }
+}
+
+/// Asserts that each line of a table has a fault of this kind, at the key that stands beside it.
+fn assert_faults(rt: &impl Abort, alloc: Global, kind: &str, table: &[(&str, &str)]) {
+    for (line, key) in table {
+        assert_of(rt, line, faults(alloc, line, kind, key));
     }
 }

@@ -6,7 +6,7 @@ ghost use Rattle.rd_tests_screens.specs.Positions.{HasPosition};
 
 use crate::claims::assert_of;
 use crate::scene::{accepts, is_accepted, is_scene, ops, runs};
-use rd_base::Anchor;
+use rd_base::{Anchor, Memory};
 use rd_state::{State, WindowState};
 use std::alloc::Global;
 use std::process::Abort;
@@ -27,13 +27,13 @@ fn each_op_is_applied(rt: HostRuntime) -> Result<(), Fail> {
     Ok(())
 }
 
-/// The range of the overlay that one line makes over a text of three characters, after another line.
-fn range_after(alloc: Global, overlay: &str, edit: &str) -> Result<Option<(u32, u32)>, Fail> {
+/// Whether the overlay that one line makes over a text of three characters has this range after another line.
+fn is_moved(alloc: Global, overlay: &str, edit: &str, range: (u32, u32)) -> Result<bool, Memory> {
     let mut state = State::new(alloc)?;
-    Ok(range_in(&mut state, alloc, overlay, edit))
+    Ok(range_in(&mut state, alloc, overlay, edit) == Some(range))
 }
 
-/// The same in a state.
+/// The range of that overlay after these lines, in a state.
 fn range_in(state: &mut State, alloc: Global, overlay: &str, edit: &str) -> Option<(u32, u32)> {
     let text = r#"{"op":"insert","buffer":"main","pos":1,"text":"abc"}"#;
     if !runs(state, alloc, &[text, overlay, edit]) {
@@ -49,30 +49,45 @@ fn first_range(state: &State) -> Option<(u32, u32)> {
     Some((overlay.from, overlay.to))
 }
 
+/// An overlay of the second of three characters, whose ends stay before text that is put in there.
+const PLAIN: &str = r#"{"op":"overlay","buffer":"main","from":2,"to":3}"#;
+
+/// One whose front moves behind such text.
+const FRONT: &str = r#"{"op":"overlay","buffer":"main","from":2,"to":3,"front":true}"#;
+
+/// One whose rear moves behind such text.
+const REAR: &str = r#"{"op":"overlay","buffer":"main","from":2,"to":3,"rear":true}"#;
+
+/// One of no character, whose front moves behind such text.
+const EMPTY: &str = r#"{"op":"overlay","buffer":"main","from":2,"to":2,"front":true}"#;
+
+/// An edit before all of them.
+const BEFORE: &str = r#"{"op":"insert","buffer":"main","pos":1,"text":"xy"}"#;
+
+/// An edit at their front.
+const AT_START: &str = r#"{"op":"insert","buffer":"main","pos":2,"text":"x"}"#;
+
+/// An edit at their rear.
+const AT_END: &str = r#"{"op":"insert_raw","buffer":"main","pos":3,"bytes":[200]}"#;
+
+/// An edit that takes away what they are over.
+const OVER: &str = r#"{"op":"delete","buffer":"main","from":1,"to":3}"#;
+
+/// Overlays, edits, and the ranges that the overlays have then.
+const MOVES: [(&'static str, &'static str, (u32, u32)); 7] = [
+    (PLAIN, BEFORE, (4, 5)),
+    (PLAIN, AT_START, (2, 4)),
+    (FRONT, AT_START, (3, 4)),
+    (PLAIN, AT_END, (2, 3)),
+    (REAR, AT_END, (2, 4)),
+    (EMPTY, AT_START, (2, 2)),
+    (PLAIN, OVER, (1, 1)),
+];
+
 #[test]
 fn overlays_move_with_the_text(rt: HostRuntime) -> Result<(), Fail> {
-    let plain = r#"{"op":"overlay","buffer":"main","from":2,"to":3}"#;
-    let front = r#"{"op":"overlay","buffer":"main","from":2,"to":3,"front":true}"#;
-    let rear = r#"{"op":"overlay","buffer":"main","from":2,"to":3,"rear":true}"#;
-    let empty = r#"{"op":"overlay","buffer":"main","from":2,"to":2,"front":true}"#;
-    let before = r#"{"op":"insert","buffer":"main","pos":1,"text":"xy"}"#;
-    let at_start = r#"{"op":"insert","buffer":"main","pos":2,"text":"x"}"#;
-    let at_end = r#"{"op":"insert_raw","buffer":"main","pos":3,"bytes":[200]}"#;
-    let over = r#"{"op":"delete","buffer":"main","from":1,"to":3}"#;
-    for (overlay, edit, range) in [
-        (plain, before, (4, 5)),
-        (plain, at_start, (2, 4)),
-        (front, at_start, (3, 4)),
-        (plain, at_end, (2, 3)),
-        (rear, at_end, (2, 4)),
-        (empty, at_start, (2, 2)),
-        (plain, over, (1, 1)),
-    ] {
-        assert_of(
-            &rt,
-            overlay,
-            range_after(rt.alloc(), overlay, edit)? == Some(range),
-        );
+    for (overlay, edit, range) in &MOVES {
+        assert_of(&rt, overlay, is_moved(rt.alloc(), overlay, edit, *range)?);
     }
     Ok(())
 }
@@ -85,13 +100,13 @@ const TWINS: [&'static str; 4] = [
     r#"{"op":"point","window":1,"pos":2}"#,
 ];
 
-/// Where these points stand after a line.
-fn points_after(alloc: Global, line: &str) -> Result<Option<(u32, u32)>, Fail> {
+/// Whether these points stand so after a line.
+fn stand(alloc: Global, line: &str, wanted: (u32, u32)) -> Result<bool, Memory> {
     let mut state = State::new(alloc)?;
-    Ok(points_in(&mut state, alloc, line))
+    Ok(points_in(&mut state, alloc, line) == Some(wanted))
 }
 
-/// The same in a state.
+/// Where they stand after a line, in a state.
 fn points_in(state: &mut State, alloc: Global, line: &str) -> Option<(u32, u32)> {
     if !runs(state, alloc, &TWINS) || !is_accepted(state, alloc, line) {
         return None;
@@ -106,25 +121,28 @@ fn points(state: &State) -> Option<(u32, u32)> {
     Some((first.point, second.point))
 }
 
+/// Lines, and where these points stand after each.
+const POINTS: [(&'static str, (u32, u32)); 8] = [
+    (r#"{"op":"type","text":"x"}"#, (4, 2)),
+    (
+        r#"{"op":"insert","buffer":"main","pos":2,"text":"xy"}"#,
+        (5, 2),
+    ),
+    (
+        r#"{"op":"insert_raw","buffer":"main","pos":1,"bytes":[255]}"#,
+        (4, 3),
+    ),
+    (r#"{"op":"delete","buffer":"main","from":2,"to":3}"#, (2, 2)),
+    (r#"{"op":"delete","buffer":"main","from":1,"to":4}"#, (1, 1)),
+    (r#"{"op":"narrow","buffer":"main","from":3,"to":4}"#, (3, 3)),
+    (r#"{"op":"narrow","buffer":"main","from":1,"to":2}"#, (2, 2)),
+    (r#"{"op":"show","window":0,"buffer":"main"}"#, (1, 2)),
+];
+
 #[test]
 fn points_move_with_the_text(rt: HostRuntime) -> Result<(), Fail> {
-    for (line, points) in [
-        (r#"{"op":"type","text":"x"}"#, (4, 2)),
-        (
-            r#"{"op":"insert","buffer":"main","pos":2,"text":"xy"}"#,
-            (5, 2),
-        ),
-        (
-            r#"{"op":"insert_raw","buffer":"main","pos":1,"bytes":[255]}"#,
-            (4, 3),
-        ),
-        (r#"{"op":"delete","buffer":"main","from":2,"to":3}"#, (2, 2)),
-        (r#"{"op":"delete","buffer":"main","from":1,"to":4}"#, (1, 1)),
-        (r#"{"op":"narrow","buffer":"main","from":3,"to":4}"#, (3, 3)),
-        (r#"{"op":"narrow","buffer":"main","from":1,"to":2}"#, (2, 2)),
-        (r#"{"op":"show","window":0,"buffer":"main"}"#, (1, 2)),
-    ] {
-        assert_of(&rt, line, points_after(rt.alloc(), line)? == Some(points));
+    for (line, wanted) in &POINTS {
+        assert_of(&rt, line, stand(rt.alloc(), line, *wanted)?);
     }
     Ok(())
 }

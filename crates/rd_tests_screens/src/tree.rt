@@ -5,6 +5,7 @@ ghost use Rattle.rd_tests_screens.specs.Panes.{blank};
 use rd_base::{Cell, Face, ListOf, Memory};
 use rd_tree::{Panes, Placed, Rect, Side, Tree, TreeFault};
 use std::alloc::Global;
+use std::process::Abort;
 use std::test::Fail;
 
 /// The rectangle of a window at the top.
@@ -17,58 +18,112 @@ const fn at(x: u32, width: u32, height: u32) -> Rect {
     }
 }
 
+/// Whether a tree answers with this number.
+fn is_number(answer: Result<u32, TreeFault>, number: u32) -> bool {
+    match answer {
+        Ok(given) => given == number,
+        Err(_fault) => false,
+    }
+}
+
+/// Whether a tree that was to answer with a number refuses for this fault.
+fn is_fault(answer: Result<u32, TreeFault>, fault: TreeFault) -> bool {
+    match answer {
+        Ok(_number) => false,
+        Err(told) => told == fault,
+    }
+}
+
+/// Whether a tree refuses for this fault.
+fn is_refused(answer: Result<(), TreeFault>, fault: TreeFault) -> bool {
+    match answer {
+        Ok(()) => false,
+        Err(told) => told == fault,
+    }
+}
+
+/// Whether a window has this rectangle.
+fn is_at(tree: &Tree, window: u32, rect: Rect) -> bool {
+    tree.rect(window) == Some(rect)
+}
+
+/// Asserts that a window of 24 columns and 5 rows is split, and that one half takes the place of both.
+fn assert_split(rt: &impl Abort, tree: &mut Tree) {
+    assert!(rt; is_fault(tree.split(1, Side::Right, 11), TreeFault::NoWindow));
+    assert!(rt; is_fault(tree.split(0, Side::Right, 10), TreeFault::TooSmall));
+    assert!(rt; is_number(tree.split(0, Side::Right, 11), 1));
+    assert!(rt; is_at(tree, 0, at(0, 11, 5)));
+    assert!(rt; is_at(tree, 1, at(11, 13, 5)));
+    assert!(rt; is_refused(tree.resize(21, 5), TreeFault::TooSmall));
+    assert!(rt; tree.resize(24, 1).is_ok());
+    assert!(rt; is_refused(tree.mode(1, true), TreeFault::TooSmall));
+    assert!(rt; is_number(tree.remove(0), 1));
+    assert!(rt; tree.rect(0).is_none());
+    assert!(rt; is_at(tree, 1, at(0, 24, 1)));
+    assert!(rt; is_fault(tree.remove(1), TreeFault::LastWindow));
+}
+
 #[test]
 fn a_window_is_split_and_removed(rt: HostRuntime) -> Result<(), Fail> {
     let mut tree = Tree::new(rt.alloc(), 24, 5)?;
-    assert_eq!(rt; tree.split(1, Side::Right, 11), Err(TreeFault::NoWindow));
-    assert_eq!(rt; tree.split(0, Side::Right, 10), Err(TreeFault::TooSmall));
-    assert_eq!(rt; tree.split(0, Side::Right, 11), Ok(1));
-    assert_eq!(rt; tree.rect(0), Some(at(0, 11, 5)));
-    assert_eq!(rt; tree.rect(1), Some(at(11, 13, 5)));
-    assert_eq!(rt; tree.resize(21, 5), Err(TreeFault::TooSmall));
-    assert_eq!(rt; tree.resize(24, 1), Ok(()));
-    assert_eq!(rt; tree.mode(1, true), Err(TreeFault::TooSmall));
-    assert_eq!(rt; tree.remove(0), Ok(1));
-    assert_eq!(rt; tree.rect(0), None);
-    assert_eq!(rt; tree.rect(1), Some(at(0, 24, 1)));
-    assert_eq!(rt; tree.remove(1), Err(TreeFault::LastWindow));
+    assert_split(&rt, &mut tree);
     Ok(())
+}
+
+/// Whether a window stands at a place in the order of windows.
+fn is_leaf(tree: &Tree, place: u32, window: u32) -> bool {
+    tree.leaf(place) == Some(window)
+}
+
+/// Asserts that 64 windows live and no more, where the opening one has room for them.
+fn assert_many(rt: &impl Abort, tree: &mut Tree) {
+    for window in 0..63 {
+        assert!(rt; is_number(tree.split(window, Side::Below, 3), window + 1));
+    }
+    assert!(rt; is_fault(tree.split(63, Side::Below, 3), TreeFault::TooMany));
+    assert!(rt; is_leaf(tree, 62, 62));
+    assert!(rt; tree.leaf(64).is_none());
+    assert!(rt; is_number(tree.remove(62), 63));
+    assert!(rt; is_number(tree.split(63, Side::Right, 200), 64));
+    assert!(rt; is_leaf(tree, 63, 64));
 }
 
 #[test]
 fn many_windows_live(rt: HostRuntime) -> Result<(), Fail> {
     let mut tree = Tree::new(rt.alloc(), 400, 200)?;
-    for window in 0..63 {
-        assert_eq!(rt; tree.split(window, Side::Below, 3), Ok(window + 1));
-    }
-    assert_eq!(rt; tree.split(63, Side::Below, 3), Err(TreeFault::TooMany));
-    assert_eq!(rt; tree.leaf(62), Some(62));
-    assert_eq!(rt; tree.leaf(64), None);
-    assert_eq!(rt; tree.remove(62), Ok(63));
-    assert_eq!(rt; tree.split(63, Side::Right, 200), Ok(64));
-    assert_eq!(rt; tree.leaf(63), Some(64));
+    assert_many(&rt, &mut tree);
     Ok(())
+}
+
+/// Asserts that margins take columns from a window of 16 columns and a row, and that its new half has as many.
+fn assert_margins(rt: &impl Abort, tree: &mut Tree) {
+    assert!(rt; is_refused(tree.margins(1, 0), TreeFault::NoWindow));
+    assert!(rt; is_refused(tree.margins(0, 6), TreeFault::TooSmall));
+    assert!(rt; is_refused(tree.margins(0, u32::MAX), TreeFault::TooSmall));
+    assert!(rt; tree.margins(0, 4).is_ok());
+    assert!(rt; is_refused(tree.resize(14, 1), TreeFault::TooSmall));
+    assert!(rt; tree.resize(30, 1).is_ok());
+    assert!(rt; is_fault(tree.split(0, Side::Right, 14), TreeFault::TooSmall));
+    assert!(rt; is_number(tree.split(0, Side::Right, 15), 1));
+    assert!(rt; is_new(tree.placed(1)));
+    assert!(rt; tree.placed(2).is_none());
+}
+
+/// Whether a window is the new half of the one with margins.
+fn is_new(window: Option<Placed>) -> bool {
+    window
+        == Some(Placed {
+            number: 1,
+            mode: false,
+            margins: 4,
+            rect: at(15, 15, 1),
+        })
 }
 
 #[test]
 fn margins_take_columns(rt: HostRuntime) -> Result<(), Fail> {
     let mut tree = Tree::new(rt.alloc(), 16, 1)?;
-    assert_eq!(rt; tree.margins(1, 0), Err(TreeFault::NoWindow));
-    assert_eq!(rt; tree.margins(0, 6), Err(TreeFault::TooSmall));
-    assert_eq!(rt; tree.margins(0, u32::MAX), Err(TreeFault::TooSmall));
-    assert_eq!(rt; tree.margins(0, 4), Ok(()));
-    assert_eq!(rt; tree.resize(14, 1), Err(TreeFault::TooSmall));
-    assert_eq!(rt; tree.resize(30, 1), Ok(()));
-    assert_eq!(rt; tree.split(0, Side::Right, 14), Err(TreeFault::TooSmall));
-    assert_eq!(rt; tree.split(0, Side::Right, 15), Ok(1));
-    let new = Placed {
-        number: 1,
-        mode: false,
-        margins: 4,
-        rect: at(15, 15, 1),
-    };
-    assert_eq!(rt; tree.placed(1), Some(new));
-    assert_eq!(rt; tree.placed(2), None);
+    assert_margins(&rt, &mut tree);
     Ok(())
 }
 
@@ -107,16 +162,36 @@ fn first_row(alloc: Global, tree: &Tree, window: u32) -> Result<ListOf<Cell>, Me
     Ok(cells)
 }
 
+/// Whether cells are so many blanks in the colour of a number.
+fn are_blank(cells: &[Cell], number: u32, count: usize) -> bool {
+    for cell in cells {
+        if *cell != blank(number) {
+            return false;
+        }
+    }
+    cells.len() == count
+}
+
+/// Asserts what stands in the first row of each of two windows that stand beside each other.
+fn assert_low(rt: &impl Abort, low: &[Cell]) {
+    assert!(rt; low.len() == 24);
+    let (left, right) = low.split_at(11);
+    assert!(rt; are_blank(left, 1, 11));
+    assert!(rt; are_blank(right, 2, 13));
+}
+
+/// Asserts that a frame of 24 columns and 3 rows is composed of a window above two that stand beside each other.
+fn assert_beside(rt: &impl Abort, tree: &mut Tree, alloc: Global) -> Result<(), Memory> {
+    assert!(rt; is_number(tree.split(0, Side::Below, 1), 1));
+    assert!(rt; is_number(tree.split(1, Side::Right, 11), 2));
+    assert!(rt; are_blank(first_row(alloc, tree, 0)?.as_slice(), 0, 24));
+    assert_low(rt, first_row(alloc, tree, 2)?.as_slice());
+    Ok(())
+}
+
 #[test]
 fn rows_of_windows_stand_beside_each_other(rt: HostRuntime) -> Result<(), Fail> {
     let mut tree = Tree::new(rt.alloc(), 24, 3)?;
-    assert_eq!(rt; tree.split(0, Side::Below, 1), Ok(1));
-    assert_eq!(rt; tree.split(1, Side::Right, 11), Ok(2));
-    let top = first_row(rt.alloc(), &tree, 0)?;
-    let low = first_row(rt.alloc(), &tree, 2)?;
-    assert_eq!(rt; top.as_slice(), [blank(0); 24].as_slice());
-    assert!(rt; low.len() == 24);
-    assert_eq!(rt; &low.as_slice()[..11], [blank(1); 11].as_slice());
-    assert_eq!(rt; &low.as_slice()[11..], [blank(2); 13].as_slice());
+    assert_beside(&rt, &mut tree, rt.alloc())?;
     Ok(())
 }

@@ -7,6 +7,7 @@ use rd_io::MemSink;
 use rd_term::Screen;
 use rd_update::{Plan, Sent, WriteFault};
 use std::alloc::Global;
+use std::process::Abort;
 use std::test::Fail;
 
 /// A screen of 12 columns and 3 rows with `a` and `b` at the first cells of its first two rows.
@@ -89,27 +90,34 @@ const LIMITS: [(Option<u32>, u32, bool, &'static [u8]); 5] = [
     ),
 ];
 
+/// Asserts what was sent, and the bytes that the sink has.
+fn assert_sent(rt: &impl Abort, trace: &Trace, sent: Result<Sent, WriteFault>, bytes: &[u8]) {
+    assert!(rt; trace.sent == sent);
+    assert!(rt; trace.sink.bytes() == bytes);
+}
+
 #[test]
 fn an_update_stops_after_so_many_rows(rt: HostRuntime) -> Result<(), Fail> {
     for (limit, rows, done, bytes) in &LIMITS {
-        let trace = sent_within(rt.alloc(), 64, *limit)?;
-        assert_eq!(rt;
-            trace.sent,
-            Ok(Sent {
-                rows: *rows,
-                done: *done
-            })
-        );
-        assert_eq!(rt; trace.sink.bytes(), *bytes);
+        let sent = Sent {
+            rows: *rows,
+            done: *done,
+        };
+        assert_sent(&rt, &sent_within(rt.alloc(), 64, *limit)?, Ok(sent), bytes);
     }
     Ok(())
 }
 
+/// Whether, where so many rows are allowed, the first two rows begin with a character or not.
+fn fills(alloc: Global, limit: u32, filled: (bool, bool)) -> Result<bool, Memory> {
+    let trace = sent_within(alloc, 64, Some(limit))?;
+    Ok(are_filled(&trace.screen) == Some(filled))
+}
+
 #[test]
 fn rows_that_were_not_sent_stay_blank(rt: HostRuntime) -> Result<(), Fail> {
-    for (limit, filled) in &[(0, (false, false)), (1, (true, false)), (2, (true, true))] {
-        let trace = sent_within(rt.alloc(), 64, Some(*limit))?;
-        assert_eq!(rt; are_filled(&trace.screen), Some(*filled));
+    for (limit, filled) in [(0, (false, false)), (1, (true, false)), (2, (true, true))] {
+        assert!(rt; fills(rt.alloc(), limit, filled)?);
     }
     Ok(())
 }
@@ -117,7 +125,6 @@ fn rows_that_were_not_sent_stay_blank(rt: HostRuntime) -> Result<(), Fail> {
 #[test]
 fn a_sink_without_room_is_a_fault(rt: HostRuntime) -> Result<(), Fail> {
     let trace = sent_within(rt.alloc(), 10, None)?;
-    assert_eq!(rt; trace.sent, Err(WriteFault));
-    assert_eq!(rt; trace.sink.bytes(), b"\x1b[0m\x1b[2J\x1b[".as_slice());
+    assert_sent(&rt, &trace, Err(WriteFault), b"\x1b[0m\x1b[2J\x1b[");
     Ok(())
 }

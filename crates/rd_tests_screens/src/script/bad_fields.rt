@@ -1,6 +1,5 @@
 //! Lines with a field that is of another kind or out of its range.
-use super::faults;
-use crate::claims::assert_each;
+use super::assert_faults;
 
 /// Lines with such a field, and its key.
 const BAD: [(&'static str, &'static str); 90] = [
@@ -203,9 +202,5 @@ const BAD: [(&'static str, &'static str); 90] = [
 
 #[test]
 fn each_field_has_its_form(rt: HostRuntime) {
-    assert_each(
-        &rt,
-        &BAD,
-        |line, key| faults(rt.alloc(), line, "BadField", key),
-    );
+    assert_faults(&rt, rt.alloc(), "BadField", &BAD);
 }

@@ -1,6 +1,5 @@
 //! Lines without a field that is asked for.
-use super::faults;
-use crate::claims::assert_each;
+use super::assert_faults;
 
 /// Lines without a field that is asked for, and its key.
 const MISSING: [(&'static str, &'static str); 75] = [
@@ -98,9 +97,5 @@ const MISSING: [(&'static str, &'static str); 75] = [
 
 #[test]
 fn each_field_is_asked_for(rt: HostRuntime) {
-    assert_each(
-        &rt,
-        &MISSING,
-        |line, key| faults(rt.alloc(), line, "Missing", key),
-    );
+    assert_faults(&rt, rt.alloc(), "Missing", &MISSING);
 }

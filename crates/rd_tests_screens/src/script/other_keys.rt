@@ -1,6 +1,6 @@
 //! Lines with keys that the op does not have.
 use super::ops::OPS;
-use super::{faults, has_fault};
+use super::{assert_faults, has_fault};
 use crate::claims::assert_each;
 use std::alloc::{AllocError, Global};
 
@@ -20,11 +20,7 @@ const EXTRA: [(&'static str, &'static str); 7] = [
 
 #[test]
 fn the_first_other_key_is_told(rt: HostRuntime) {
-    assert_each(
-        &rt,
-        &EXTRA,
-        |line, key| faults(rt.alloc(), line, "Extra", key),
-    );
+    assert_faults(&rt, rt.alloc(), "Extra", &EXTRA);
 }
 
 /// A line with one member more.
