@@ -4,17 +4,9 @@ use rd_files::{BadFile, DataFault, DataFile, DataFiles, DataKind, read_data};
 use rd_io::MemFiles;
 use rd_ucd::UcdFault;
 use rd_words::{Words, WordsFault, read_words};
-use std::alloc::Global;
+use std::alloc::{AllocError, Global};
+use std::process::Abort;
 use std::test::Fail;
-
-/// The words of a command line.
-fn words_of(alloc: Global, words: &[&str]) -> Result<Vec<String>, Fail> {
-    let mut given = Vec::new(alloc);
-    for word in words {
-        given.push(String::from_str(alloc, word)?)?;
-    }
-    Ok(given)
-}
 
 /// Words that name two files, and what they say.
 const PLAIN: Words<'static> = Words {
@@ -25,166 +17,208 @@ const PLAIN: Words<'static> = Words {
     dumps: false,
 };
 
-#[test]
-fn words_are_read(rt: HostRuntime) -> Result<(), Fail> {
-    let table: [(&[&str], Result<Words, WordsFault>); 9] = [
-        (&["--data", "D", "--mirror", "M"], Ok(PLAIN)),
-        (&["--mirror=M", "--data=D", "--"], Ok(PLAIN)),
-        (
-            &[
-                "--dump",
-                "--generate",
-                "2147483647",
-                "--data",
-                "D",
-                "--brackets=B",
-                "--mirror",
-                "M",
-            ],
-            Ok(Words {
-                bracket_file: Some("B"),
-                generate: Some(2_147_483_647),
-                dumps: true,
-                ..PLAIN
-            }),
-        ),
-        (&["--data", "D"], Err(WordsFault::Usage)),
-        (
-            &["--data", "D", "--mirror", "M", "--help"],
-            Err(WordsFault::Usage),
-        ),
-        (
-            &["--data", "D", "--mirror", "M", "--data", "D"],
-            Err(WordsFault::Usage),
-        ),
-        (
-            &["--data", "D", "--mirror", "M", "--generate", "2147483648"],
-            Err(WordsFault::Usage),
-        ),
-        (
-            &["--data", "D", "--mirror", "M", "--dump=true"],
-            Err(WordsFault::Usage),
-        ),
-        (
-            &["--data", "D", "--mirror", "M", "script"],
-            Err(WordsFault::Usage),
-        ),
-    ];
-    for (words, answer) in table {
-        let words = words_of(rt.alloc(), words)?;
-        assert!(rt; read_words(rt.alloc(), words.as_slice()) == answer);
+/// The words of command lines, and what they say.
+const LINES: [(&'static str, Result<Words<'static>, WordsFault>); 9] = [
+    ("--data D --mirror M", Ok(PLAIN)),
+    ("--mirror=M --data=D --", Ok(PLAIN)),
+    (
+        "--dump --generate 2147483647 --data D --brackets=B --mirror M",
+        Ok(Words {
+            bracket_file: Some("B"),
+            generate: Some(2_147_483_647),
+            dumps: true,
+            ..PLAIN
+        }),
+    ),
+    ("--data D", Err(WordsFault::Usage)),
+    ("--data D --mirror M --help", Err(WordsFault::Usage)),
+    ("--data D --mirror M --data D", Err(WordsFault::Usage)),
+    (
+        "--data D --mirror M --generate 2147483648",
+        Err(WordsFault::Usage),
+    ),
+    ("--data D --mirror M --dump=true", Err(WordsFault::Usage)),
+    ("--data D --mirror M script", Err(WordsFault::Usage)),
+];
+
+/// Adds the words of a line.
+fn add_words(words: &mut Vec<String>, alloc: Global, line: &str) -> Result<(), AllocError> {
+    for word in line.split_whitespace() {
+        words.push(String::from_str(alloc, word)?)?;
     }
     Ok(())
 }
 
-/// Files in memory: a class file `D`, and where they are given a mirror file `M` and a bracket file `B`.
+/// Whether the words of a line say this.
+fn say(alloc: Global, line: &str, answer: &Result<Words, WordsFault>) -> bool {
+    let mut words = Vec::new(alloc);
+    match add_words(&mut words, alloc, line) {
+        Ok(()) => read_words(alloc, words.as_slice()) == *answer,
+        Err(_) => false,
+    }
+}
+
+#[test]
+fn words_are_read(rt: HostRuntime) {
+    for (line, answer) in &LINES {
+        assert!(rt; say(rt.alloc(), line, answer));
+    }
+}
+
+/// A file of a name.
+fn file(alloc: Global, name: &str, bytes: &[u8]) -> Result<(String, Vec<u8>), AllocError> {
+    let bytes = Vec::from_slice(alloc, bytes)?;
+    Ok((String::from_str(alloc, name)?, bytes))
+}
+
+/// Adds a file, where it is given.
+fn add(
+    files: &mut Vec<(String, Vec<u8>)>,
+    alloc: Global,
+    name: &str,
+    bytes: Option<&[u8]>,
+) -> Result<(), AllocError> {
+    match bytes {
+        Some(bytes) => Ok(files.push(file(alloc, name, bytes)?)?),
+        None => Ok(()),
+    }
+}
+
+/// Adds a class file `D`, and where they are given a mirror file `M` and a bracket file `B`.
+fn add_all(
+    files: &mut Vec<(String, Vec<u8>)>,
+    alloc: Global,
+    classes: &[u8],
+    mirrors: Option<&[u8]>,
+    brackets: Option<&[u8]>,
+) -> Result<(), AllocError> {
+    add(files, alloc, "D", Some(classes))?;
+    add(files, alloc, "M", mirrors)?;
+    add(files, alloc, "B", brackets)
+}
+
+/// Those files in memory.
 fn files_of(
     alloc: Global,
     classes: &[u8],
     mirrors: Option<&[u8]>,
     brackets: Option<&[u8]>,
-) -> Result<MemFiles, Fail> {
+) -> Result<MemFiles, AllocError> {
     let mut files = Vec::new(alloc);
-    files.push((
-        String::from_str(alloc, "D")?,
-        Vec::from_slice(alloc, classes)?,
-    ))?;
-    if let Some(bytes) = mirrors {
-        files.push((
-            String::from_str(alloc, "M")?,
-            Vec::from_slice(alloc, bytes)?,
-        ))?;
-    }
-    if let Some(bytes) = brackets {
-        files.push((
-            String::from_str(alloc, "B")?,
-            Vec::from_slice(alloc, bytes)?,
-        ))?;
-    }
+    add_all(&mut files, alloc, classes, mirrors, brackets)?;
     Ok(MemFiles::new(files))
 }
 
-/// The fault of data files, where they have one.
-fn fault(answer: Result<DataFiles, DataFault>) -> Option<DataFault> {
-    match answer {
-        Ok(_) => None,
-        Err(fault) => Some(fault),
+/// Whether data files have this fault, where the bracket file is read if its name is given.
+fn have_fault(
+    alloc: Global,
+    files: Result<MemFiles, AllocError>,
+    bracket_file: Option<&str>,
+    fault: DataFault,
+) -> bool {
+    match files {
+        Ok(mut files) => is_refused(alloc, &mut files, bracket_file, fault),
+        Err(_) => false,
+    }
+}
+
+/// The same of files that were made.
+fn is_refused(
+    alloc: Global,
+    files: &mut MemFiles,
+    bracket_file: Option<&str>,
+    fault: DataFault,
+) -> bool {
+    match read_data(alloc, files, "D", "M", bracket_file) {
+        Ok(_) => false,
+        Err(found) => found == fault,
     }
 }
 
 /// A data file with a bad line.
-fn bad(file: DataFile, line: u32, fault: UcdFault) -> Option<DataFault> {
-    Some(DataFault::Bad(BadFile {
+fn bad(file: DataFile, line: u32, fault: UcdFault) -> DataFault {
+    DataFault::Bad(BadFile {
         file,
         line,
         kind: DataKind::Bad(fault),
-    }))
+    })
 }
 
 #[test]
-fn data_files_are_read_in_order(rt: HostRuntime) -> Result<(), Fail> {
+fn data_files_are_read_in_order(rt: HostRuntime) {
     let alloc = rt.alloc();
-    let mut all_bad = files_of(alloc, b"0041;A;Lu;0", Some(b"x"), Some(b"x"))?;
-    assert!(rt;
-        fault(read_data(alloc, &mut all_bad, "D", "M", Some("B")))
-            == bad(DataFile::ClassFile, 1, UcdFault::BadLine(1))
-    );
-    let mut no_mirrors = files_of(alloc, b"\n0041;A;Lu;0;X", None, None)?;
-    assert!(rt;
-        fault(read_data(alloc, &mut no_mirrors, "D", "M", None))
-            == bad(DataFile::ClassFile, 2, UcdFault::BadClass(2))
-    );
-    let mut missing = files_of(alloc, b"", None, Some(b"x"))?;
-    assert!(rt;
-        fault(read_data(alloc, &mut missing, "D", "M", Some("B"))) == Some(DataFault::Read)
-    );
-    let mut bad_mirrors = files_of(alloc, b"", Some(b"0028; 29"), Some(b"x"))?;
-    assert!(rt;
-        fault(read_data(alloc, &mut bad_mirrors, "D", "M", Some("B")))
-            == bad(DataFile::MirrorFile, 1, UcdFault::BadCode(1))
-    );
-    let mut bad_brackets = files_of(alloc, b"", Some(b""), Some(b"0028; 0029; x"))?;
-    assert!(rt;
-        fault(read_data(alloc, &mut bad_brackets, "D", "M", Some("B")))
-            == bad(DataFile::BracketFile, 1, UcdFault::BadClass(1))
-    );
-    Ok(())
+    let all_bad = files_of(alloc, b"0041;A;Lu;0", Some(b"x"), Some(b"x"));
+    let fault = bad(DataFile::ClassFile, 1, UcdFault::BadLine(1));
+    assert!(rt; have_fault(alloc, all_bad, Some("B"), fault));
+    let no_mirrors = files_of(alloc, b"\n0041;A;Lu;0;X", None, None);
+    let fault = bad(DataFile::ClassFile, 2, UcdFault::BadClass(2));
+    assert!(rt; have_fault(alloc, no_mirrors, None, fault));
+    let missing = files_of(alloc, b"", None, Some(b"x"));
+    assert!(rt; have_fault(alloc, missing, Some("B"), DataFault::Read));
+    let bad_mirrors = files_of(alloc, b"", Some(b"0028; 29"), Some(b"x"));
+    let fault = bad(DataFile::MirrorFile, 1, UcdFault::BadCode(1));
+    assert!(rt; have_fault(alloc, bad_mirrors, Some("B"), fault));
+    let bad_brackets = files_of(alloc, b"", Some(b""), Some(b"0028; 0029; x"));
+    let fault = bad(DataFile::BracketFile, 1, UcdFault::BadClass(1));
+    assert!(rt; have_fault(alloc, bad_brackets, Some("B"), fault));
 }
 
-#[test]
-fn good_data_files_are_read(rt: HostRuntime) -> Result<(), Fail> {
-    let alloc = rt.alloc();
-    let mut files = files_of(
+/// Files that are good.
+fn good_files(alloc: Global) -> Result<MemFiles, AllocError> {
+    files_of(
         alloc,
         b"05D0;ALEF;Lo;0;R",
         Some(b"0028; 0029"),
         Some(b"0028; 0029; o"),
-    )?;
-    let Ok(data) = read_data(alloc, &mut files, "D", "M", Some("B")) else {
-        return Err(Fail::from("they were not read"));
-    };
+    )
+}
+
+/// What files stand for, where they are good.
+fn data_of(
+    alloc: Global,
+    files: &mut MemFiles,
+    bracket_file: Option<&str>,
+) -> Result<DataFiles, Fail> {
+    match read_data(alloc, files, "D", "M", bracket_file) {
+        Ok(data) => Ok(data),
+        Err(_) => Err(Fail::from("they were not read")),
+    }
+}
+
+/// Asserts what the good files say together.
+fn assert_all(rt: &impl Abort, alloc: Global, files: &mut MemFiles) -> Result<(), Fail> {
+    let data = data_of(alloc, files, Some("B"))?;
     assert!(rt; data.classes.class(Ch::scalar('\u{5d0}')) == Class::R);
     assert!(rt; data.mirrors.mirror(40) == Some(41));
     assert!(rt; data.brackets.bracket(40).is_some());
-    let Ok(data) = read_data(alloc, &mut files, "D", "M", None) else {
-        return Err(Fail::from("they were not read"));
-    };
+    Ok(())
+}
+
+/// Asserts what they say without the bracket file.
+fn assert_no_bracket(rt: &impl Abort, alloc: Global, files: &mut MemFiles) -> Result<(), Fail> {
+    let data = data_of(alloc, files, None)?;
     assert!(rt; data.brackets.bracket(40).is_none());
     Ok(())
 }
 
 #[test]
+fn good_data_files_are_read(rt: HostRuntime) -> Result<(), Fail> {
+    let mut files = good_files(rt.alloc())?;
+    assert_all(&rt, rt.alloc(), &mut files)?;
+    assert_no_bracket(&rt, rt.alloc(), &mut files)
+}
+
+/// A class file that is too large.
+const TOO_LARGE: DataFault = DataFault::Bad(BadFile {
+    file: DataFile::ClassFile,
+    line: 0,
+    kind: DataKind::TooLarge,
+});
+
+#[test]
 fn a_file_that_is_too_large_has_line_0(rt: HostRuntime) -> Result<(), Fail> {
-    let alloc = rt.alloc();
-    let large = Vec::from_elem(alloc, 10, 8_388_609)?;
-    let mut files = files_of(alloc, large.as_slice(), None, None)?;
-    let too_large = BadFile {
-        file: DataFile::ClassFile,
-        line: 0,
-        kind: DataKind::TooLarge,
-    };
-    assert!(rt;
-        fault(read_data(alloc, &mut files, "D", "M", None)) == Some(DataFault::Bad(too_large))
-    );
+    let large = Vec::from_elem(rt.alloc(), 10, 8_388_609)?;
+    let files = files_of(rt.alloc(), large.as_slice(), None, None);
+    assert!(rt; have_fault(rt.alloc(), files, None, TOO_LARGE));
     Ok(())
 }

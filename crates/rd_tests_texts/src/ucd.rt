@@ -2,7 +2,6 @@
 use rd_base::{Ch, Class};
 use rd_ucd::{Bracket, Brackets, Classes, Mirrors, UcdFault};
 use std::alloc::Global;
-use std::test::Fail;
 
 /// The fault of a class file.
 fn class_fault(alloc: Global, bytes: &[u8]) -> Option<UcdFault> {
@@ -28,92 +27,123 @@ fn bracket_fault(alloc: Global, bytes: &[u8]) -> Option<UcdFault> {
     }
 }
 
+/// Class files, and their faults.
+const CLASS_FILES: [(&'static [u8], Option<UcdFault>); 11] = [
+    (b"", None),
+    (b"0041;A;Lu;0", Some(UcdFault::BadLine(1))),
+    (b"41;A;Lu;0;L", Some(UcdFault::BadCode(1))),
+    (b"0041;A;Lu;0;X", Some(UcdFault::BadClass(1))),
+    (b"0041;<A, First>;Lu;0;L", Some(UcdFault::BadRange(1))),
+    (
+        b"0041;A;Lu;0;L\n0040;B;Lu;0;L\n",
+        Some(UcdFault::NotAscending(2)),
+    ),
+    (
+        b"\r\n\n0041;<A, First>;Lu;0;L\n0042;<A, Last>;Lu;0;R",
+        Some(UcdFault::BadRange(4)),
+    ),
+    (
+        b"0041;<A, First>;Lu;0;L\n0042;B;Lu;0;L",
+        Some(UcdFault::BadRange(2)),
+    ),
+    (b"0041;<A, Last>;Lu;0;L", Some(UcdFault::BadRange(1))),
+    (b"0041;<A, First>;Lu;0;L\n\nx", Some(UcdFault::BadLine(3))),
+    (b"110000;A;Lu;0;L", Some(UcdFault::BadCode(1))),
+];
+
 #[test]
 fn faults_of_class_files(rt: HostRuntime) {
-    let table: [(&[u8], Option<UcdFault>); 11] = [
-        (b"", None),
-        (b"0041;A;Lu;0", Some(UcdFault::BadLine(1))),
-        (b"41;A;Lu;0;L", Some(UcdFault::BadCode(1))),
-        (b"0041;A;Lu;0;X", Some(UcdFault::BadClass(1))),
-        (b"0041;<A, First>;Lu;0;L", Some(UcdFault::BadRange(1))),
-        (
-            b"0041;A;Lu;0;L\n0040;B;Lu;0;L\n",
-            Some(UcdFault::NotAscending(2)),
-        ),
-        (
-            b"\r\n\n0041;<A, First>;Lu;0;L\n0042;<A, Last>;Lu;0;R",
-            Some(UcdFault::BadRange(4)),
-        ),
-        (
-            b"0041;<A, First>;Lu;0;L\n0042;B;Lu;0;L",
-            Some(UcdFault::BadRange(2)),
-        ),
-        (b"0041;<A, Last>;Lu;0;L", Some(UcdFault::BadRange(1))),
-        (b"0041;<A, First>;Lu;0;L\n\nx", Some(UcdFault::BadLine(3))),
-        (b"110000;A;Lu;0;L", Some(UcdFault::BadCode(1))),
-    ];
-    for (bytes, fault) in table {
-        assert!(rt; class_fault(rt.alloc(), bytes) == fault);
+    for (bytes, fault) in &CLASS_FILES {
+        assert!(rt; class_fault(rt.alloc(), bytes) == *fault);
     }
 }
+
+/// Mirror files, and their faults.
+const MIRROR_FILES: [(&'static [u8], Option<UcdFault>); 7] = [
+    (b"", None),
+    (b"# nothing\n \t\n\r\n", None),
+    (b"0028; 0029 # LEFT\n0029;0028\r\n", None),
+    (b"0028", Some(UcdFault::BadLine(1))),
+    (b"0028; 0029; 002A", Some(UcdFault::BadLine(1))),
+    (b"0028; 29", Some(UcdFault::BadCode(1))),
+    (
+        b"0028; 0029\n#\n0028; 0029",
+        Some(UcdFault::NotAscending(3)),
+    ),
+];
 
 #[test]
 fn faults_of_mirror_files(rt: HostRuntime) {
-    let table: [(&[u8], Option<UcdFault>); 7] = [
-        (b"", None),
-        (b"# nothing\n \t\n\r\n", None),
-        (b"0028; 0029 # LEFT\n0029;0028\r\n", None),
-        (b"0028", Some(UcdFault::BadLine(1))),
-        (b"0028; 0029; 002A", Some(UcdFault::BadLine(1))),
-        (b"0028; 29", Some(UcdFault::BadCode(1))),
-        (
-            b"0028; 0029\n#\n0028; 0029",
-            Some(UcdFault::NotAscending(3)),
-        ),
-    ];
-    for (bytes, fault) in table {
-        assert!(rt; mirror_fault(rt.alloc(), bytes) == fault);
+    for (bytes, fault) in &MIRROR_FILES {
+        assert!(rt; mirror_fault(rt.alloc(), bytes) == *fault);
     }
 }
+
+/// Bracket files, and their faults.
+const BRACKET_FILES: [(&'static [u8], Option<UcdFault>); 8] = [
+    (b"", None),
+    (b"# nothing\n \t\n\r\n", None),
+    (b"0028; 0029; o # LEFT\n0029;0028;c\r\n", None),
+    (b"0028; 0029; x", Some(UcdFault::BadClass(1))),
+    (b"0028; 0029", Some(UcdFault::BadLine(1))),
+    (b"0028; 0029; o; c", Some(UcdFault::BadLine(1))),
+    (b"0028; 29; x", Some(UcdFault::BadCode(1))),
+    (
+        b"0028; 0029; o\n#\n0028; 0029; o",
+        Some(UcdFault::NotAscending(3)),
+    ),
+];
 
 #[test]
 fn faults_of_bracket_files(rt: HostRuntime) {
-    let table: [(&[u8], Option<UcdFault>); 8] = [
-        (b"", None),
-        (b"# nothing\n \t\n\r\n", None),
-        (b"0028; 0029; o # LEFT\n0029;0028;c\r\n", None),
-        (b"0028; 0029; x", Some(UcdFault::BadClass(1))),
-        (b"0028; 0029", Some(UcdFault::BadLine(1))),
-        (b"0028; 0029; o; c", Some(UcdFault::BadLine(1))),
-        (b"0028; 29; x", Some(UcdFault::BadCode(1))),
-        (
-            b"0028; 0029; o\n#\n0028; 0029; o",
-            Some(UcdFault::NotAscending(3)),
-        ),
-    ];
-    for (bytes, fault) in table {
-        assert!(rt; bracket_fault(rt.alloc(), bytes) == fault);
+    for (bytes, fault) in &BRACKET_FILES {
+        assert!(rt; bracket_fault(rt.alloc(), bytes) == *fault);
+    }
+}
+
+/// A class file of two controls and a range.
+const CLASSES: &'static [u8] = b"\
+    0000;<control>;Cc;0;BN\n\
+    0009;<control>;Cc;0;S\n\
+    05D0;<Hebrew, First>;Lo;0;R\r\n\
+    05EA;<Hebrew, Last>;Lo;0;R";
+
+/// Whether that file gives a character this class.
+fn has_class(alloc: Global, c: char, class: Class) -> bool {
+    match Classes::read(alloc, CLASSES) {
+        Ok(classes) => classes.class(Ch::scalar(c)) == class,
+        Err(_) => false,
+    }
+}
+
+/// Whether the file of two mirrored characters gives a code this one.
+fn has_mirror(alloc: Global, code: u32, mirror: Option<u32>) -> bool {
+    match Mirrors::read(alloc, b"0028; 0029\n0029; 0028") {
+        Ok(mirrors) => mirrors.mirror(code) == mirror,
+        Err(_) => false,
+    }
+}
+
+/// Whether the file of two brackets says this of a code.
+fn has_bracket(alloc: Global, code: u32, bracket: Option<Bracket>) -> bool {
+    match Brackets::read(alloc, b"0028; 0029; o\n0029; 0028; c") {
+        Ok(brackets) => brackets.bracket(code) == bracket,
+        Err(_) => false,
     }
 }
 
 #[test]
-fn files_are_looked_up(rt: HostRuntime) -> Result<(), Fail> {
-    let classes = Classes::read(
-        rt.alloc(),
-        b"0000;<control>;Cc;0;BN\n0009;<control>;Cc;0;S\n05D0;<Hebrew, First>;Lo;0;R\r\n05EA;<Hebrew, Last>;Lo;0;R",
-    )?;
-    assert_eq!(rt; classes.class(Ch::scalar('\t')), Class::S);
-    assert_eq!(rt; classes.class(Ch::scalar('a')), Class::L);
-    assert_eq!(rt; classes.class(Ch::scalar('\u{5D0}')), Class::R);
-    assert_eq!(rt; classes.class(Ch::scalar('\u{5E0}')), Class::R);
-    assert_eq!(rt; classes.class(Ch::scalar('\u{5EB}')), Class::L);
-    let mirrors = Mirrors::read(rt.alloc(), b"0028; 0029\n0029; 0028")?;
-    assert_eq!(rt; mirrors.mirror(0x28), Some(0x29));
-    assert_eq!(rt; mirrors.mirror(0x29), Some(0x28));
-    assert_eq!(rt; mirrors.mirror(0x2A), None);
-    let brackets = Brackets::read(rt.alloc(), b"0028; 0029; o\n0029; 0028; c")?;
-    assert_eq!(rt; brackets.bracket(0x28), Some(Bracket::Opens(0x29)));
-    assert_eq!(rt; brackets.bracket(0x29), Some(Bracket::Closes(0x28)));
-    assert_eq!(rt; brackets.bracket(0x2A), None);
-    Ok(())
+fn files_are_looked_up(rt: HostRuntime) {
+    let alloc = rt.alloc();
+    assert!(rt; has_class(alloc, '\t', Class::S));
+    assert!(rt; has_class(alloc, 'a', Class::L));
+    assert!(rt; has_class(alloc, '\u{5D0}', Class::R));
+    assert!(rt; has_class(alloc, '\u{5E0}', Class::R));
+    assert!(rt; has_class(alloc, '\u{5EB}', Class::L));
+    assert!(rt; has_mirror(alloc, 0x28, Some(0x29)));
+    assert!(rt; has_mirror(alloc, 0x29, Some(0x28)));
+    assert!(rt; has_mirror(alloc, 0x2A, None));
+    assert!(rt; has_bracket(alloc, 0x28, Some(Bracket::Opens(0x29))));
+    assert!(rt; has_bracket(alloc, 0x29, Some(Bracket::Closes(0x28))));
+    assert!(rt; has_bracket(alloc, 0x2A, None));
 }
