@@ -3,13 +3,14 @@ use Rattle.std.proofs.Common.{◌≡◌, ◌≢◌, ℕ, zero, suc, ◌+◌, ◌
 use Rattle.std.proofs.lemmas.Bool.{cases_eq}
 use Rattle.std.specs.Prelude.{slice_get, slice_set, option_map}
 use Rattle.std.specs.Str.{chars}
+use Rattle.rd_base.specs.declared.limits.TheConstants.{SCROLL_CONSERVATIVELY, SCROLL_MARGIN}
 use Rattle.rd_base.specs.declared.settings.Anchor.{Anchor}
 use Rattle.rd_text.specs.Texts.{TextValue, IsAccessible}
 use Rattle.rd_objects.specs.Sound.{AreCodes}
 use Rattle.rd_objects.specs.Things.{nothing_made}
 use Rattle.rd_script.specs.declared.op.Op.{Op}
 use Rattle.rd_script.specs.declared.op.Op.TheVariants as ops
-use Rattle.rd_script.specs.Forms.{IsInForm, is_buffer_name}
+use Rattle.rd_script.specs.Forms.{IsInForm, is_buffer_name, is_plain_text}
 use Rattle.rd_state.specs.declared.moves.Move.TheVariants.{Inserted, Deleted, Narrowed}
 use Rattle.rd_state.specs.declared.refused.Refused.{Refused}
 use Rattle.rd_state.specs.declared.effect.Effect.{Effect}
@@ -85,6 +86,24 @@ typing-valid laws s t new v codes h =
     let b = buffer-ok t (slice_get s.buffers w.0.buffer) _ w.2 in
     typed-done laws s t w.0 b.0 new (insertion w.0.point new b.0.content) v codes w.1 b.1 refl b.2
 
+-- ---- the whole frame
+
+-- a state in which other things belong to the whole frame
+framed-valid : (s t : StateValue) (margin conservatively : ℕ) (echo : List ℕ) (shifting : Bool) → IsValid s → margin ≤ SCROLL_MARGIN → conservatively ≤ SCROLL_CONSERVATIVELY → IsTrue (is_plain_text echo)
+    → ◌≡◌ {A = Result StateValue Refused} (Ok (record s { margin = margin; conservatively = conservatively; echo = echo; shifting = shifting })) (Ok t) → IsValid t
+framed-valid s t margin conservatively echo shifting v few rows plain h =
+    let same : record s { margin = margin; conservatively = conservatively; echo = echo; shifting = shifting } ≡ t = cc (h) in
+    subst IsValid same (record {
+      buffers = v.buffers;
+      objects = v.objects;
+      closed = v.closed;
+      windows = v.windows;
+      frame = v.frame;
+      margin = few;
+      conservatively = rows;
+      echo = plain;
+    })
+
 -- ---- all ops
 
 pub step-valid : (laws : Laws) (s t : StateValue) (op : Op) → IsValid s → IsInForm op → step s op ≡ Ok t → IsValid t
@@ -133,43 +152,10 @@ step-valid laws s t (ops.Wrap window mode) v form h =
     setting-valid s t window (λ old. record old { wrap = mode }) v (λ w. refl)
     (λ w found old. look-keeps s.buffers w (record w { wrap = mode }) refl refl refl old.pending old.hscroll old.format old.numbers old.strings old) h
 step-valid laws s t (ops.ModeLine window format) v form h = mode_lining-valid laws.trees s t window format v form.1 h
-step-valid laws s t (ops.Scrolling margin conservatively) v form h =
-    let same : record s { margin = margin; conservatively = conservatively } ≡ t = cc (h) in
-    subst IsValid same (record {
-      buffers = v.buffers;
-      objects = v.objects;
-      closed = v.closed;
-      windows = v.windows;
-      frame = v.frame;
-      margin = form.0;
-      conservatively = form.1;
-      echo = v.echo;
-    })
-step-valid laws s t (ops.Echo text) v form h =
-    let same : record s { echo = text } ≡ t = cc (h) in
-    subst IsValid same (record {
-      buffers = v.buffers;
-      objects = v.objects;
-      closed = v.closed;
-      windows = v.windows;
-      frame = v.frame;
-      margin = v.margin;
-      conservatively = v.conservatively;
-      echo = form;
-    })
+step-valid laws s t (ops.Scrolling margin conservatively) v form h = framed-valid s t margin conservatively s.echo s.shifting v form.0 form.1 v.echo h
+step-valid laws s t (ops.Echo text) v form h = framed-valid s t s.margin s.conservatively text s.shifting v v.margin v.conservatively form h
 step-valid laws s t (ops.Redisplay stop) v form h = let same : s ≡ t = cc (h) in subst IsValid same v
-step-valid laws s t (ops.Shift on) v form h =
-    let same : record s { shifting = on } ≡ t = cc (h) in
-    subst IsValid same (record {
-      buffers = v.buffers;
-      objects = v.objects;
-      closed = v.closed;
-      windows = v.windows;
-      frame = v.frame;
-      margin = v.margin;
-      conservatively = v.conservatively;
-      echo = v.echo;
-    })
+step-valid laws s t (ops.Shift on) v form h = framed-valid s t s.margin s.conservatively s.echo on v v.margin v.conservatively v.echo h
 step-valid laws s t (ops.Go window right) v form h = let same : s ≡ t = cc (h) in subst IsValid same v
 step-valid laws s t (ops.Hit window row column) v form h = let same : s ≡ t = cc (h) in subst IsValid same v
 step-valid laws s t (ops.Margin window numbers strings) v form h = margining-valid laws.trees s t window numbers strings v form.1 form.2 h

@@ -86,27 +86,29 @@ one-closed spans old from to k was now there is made =
 none-behind : (spans : List (List (Option ℕ))) (kind p : ℕ) → length spans ≤ kind → values_of spans kind p ≡ None
 none-behind spans kind p past = ap (λ rs. value_at rs p) (get_or_past spans kind [] past)
 
-pub all-opened : (spans old : List (List (Option ℕ))) (pos n k : ℕ) → length old ≤ k
-    → ((kind p : ℕ) → values_of spans kind p ≡ changed_first (λ f. opened f pos n) (values_of old) k kind p)
-    → (kind p : ℕ) → values_of spans kind p ≡ opened (values_of old) pos n kind p
-all-opened spans old pos n k all h kind p = elim (cases_lt kind k) [
+-- where the first kinds are changed, and that is all of them, each is; a change gives a kind without values none
+all-changed : (change : Change) (spans old : List (List (Option ℕ))) (k : ℕ) → length old ≤ k
+    → ((kind p : ℕ) → ((q : ℕ) → values_of old kind q ≡ None) → change (values_of old) kind p ≡ None)
+    → ((kind p : ℕ) → values_of spans kind p ≡ changed_first change (values_of old) k kind p)
+    → (kind p : ℕ) → values_of spans kind p ≡ change (values_of old) kind p
+all-changed change spans old k all nothing h kind p = elim (cases_lt kind k) [
   | inl below ↦ h kind p ∙ chosen (nat_lt kind k) _ _ (less kind k below)
   | inr behind ↦
       let none : (q : ℕ) → values_of old kind q ≡ None = λ q. none-behind old kind q (omega arith) in
-      h kind p ∙ (passed (nat_lt kind k) _ _ (not-less kind k behind)
-      ∙ (none p ∙ sym (either (nat_lt p pos) _ _ None (none p) (either (nat_lt p (pos + n)) None _ None (cc) (none (p - n))))))
+      h kind p ∙ (passed (nat_lt kind k) _ _ (not-less kind k behind) ∙ (none p ∙ sym (nothing kind p none)))
 ]
+
+pub all-opened : (spans old : List (List (Option ℕ))) (pos n k : ℕ) → length old ≤ k
+    → ((kind p : ℕ) → values_of spans kind p ≡ changed_first (λ f. opened f pos n) (values_of old) k kind p)
+    → (kind p : ℕ) → values_of spans kind p ≡ opened (values_of old) pos n kind p
+all-opened spans old pos n k all = all-changed (λ f. opened f pos n) spans old k all
+    (λ kind p none. either (nat_lt p pos) _ _ None (none p) (either (nat_lt p (pos + n)) None _ None (cc) (none (p - n))))
 
 pub all-closed : (spans old : List (List (Option ℕ))) (from to k : ℕ) → length old ≤ k
     → ((kind p : ℕ) → values_of spans kind p ≡ changed_first (λ f. closed f from to) (values_of old) k kind p)
     → (kind p : ℕ) → values_of spans kind p ≡ closed (values_of old) from to kind p
-all-closed spans old from to k all h kind p = elim (cases_lt kind k) [
-  | inl below ↦ h kind p ∙ chosen (nat_lt kind k) _ _ (less kind k below)
-  | inr behind ↦
-      let none : (q : ℕ) → values_of old kind q ≡ None = λ q. none-behind old kind q (omega arith) in
-      h kind p ∙ (passed (nat_lt kind k) _ _ (not-less kind k behind)
-      ∙ (none p ∙ sym (either (nat_lt p from) _ _ None (none p) (none (p + (to - from))))))
-]
+all-closed spans old from to k all = all-changed (λ f. closed f from to) spans old k all
+    (λ kind p none. either (nat_lt p from) _ _ None (none p) (none (p + (to - from))))
 
 -- ---- undoing
 
