@@ -1,8 +1,7 @@
 -- What the tests of ops mean.
-use Rattle.std.proofs.Common.{◌≡◌, ℕ, ◌+◌, ◌≤◌, ◌<◌, ◌&&◌, Bool, true, false, if◌then◌else◌, nat_lt, nat_le, min, Result, Ok, Err, length, sym, refl, ◌∙◌, arith}
+use Rattle.std.proofs.Common.{◌≡◌, ℕ, ◌+◌, ◌&&◌, Bool, true, false, if◌then◌else◌, nat_le, Result, Ok, Err, length, refl}
 use Rattle.std.proofs.lemmas.Bool.{and_parts, leb-true}
-use Rattle.std.proofs.lemmas.Bool.Decides.{nat_tests}
-use Rattle.rd_text.specs.Texts.{TextValue, IsText, IsAccessible}
+use Rattle.rd_text.specs.Texts.{TextValue, IsAccessible}
 use Rattle.rd_text.specs.Answers.{IsAccessibleRange, IsRangeOfAll}
 use Rattle.rd_state.specs.Edits.{is_accessible, is_accessible_range, is_range_of_all}
 
@@ -15,10 +14,6 @@ if-ok false r e x h = absurd (cc)
 pub if-not : {A E : Type 0} (t : Bool) (r : Result A E) (e : E) (x : A) → (if t then Err e else r) ≡ Ok x → (t ≡ false) × (r ≡ Ok x)
 if-not true r e x h = absurd (cc)
 if-not false r e x h = (refl, h)
-
-pub false-unless : (t : Bool) → (t ≡ true → ⊥) → t ≡ false
-false-unless true h = absurd (h refl)
-false-unless false h = refl
 
 pub is_accessible-means : (t : TextValue) (pos : ℕ) → is_accessible t pos ≡ true → IsAccessible t pos
 is_accessible-means t pos h =
@@ -44,21 +39,3 @@ pub is_range_of_all-means : (t : TextValue) (from to : ℕ) → is_range_of_all 
 is_range_of_all-means t from to h =
     let parts = three_parts (nat_le 1 from) (nat_le from to) (nat_le to (length t.text + 1)) h in
     record { first = leb-true 1 from parts.0; ordered = leb-true from to parts.1; last = leb-true to (length t.text + 1) parts.2 }
-
-pub accessible : (t : TextValue) (pos : ℕ) → IsAccessible t pos → is_accessible t pos ≡ true
-accessible t pos at = let a = at.0 in let b = at.1 in grind (arith, nat_tests)
-
-pub accessible-range : (t : TextValue) (from to : ℕ) → IsAccessibleRange t from to → is_accessible_range t from to ≡ true
-accessible-range t from to at = let a = at.first in let b = at.ordered in let d = at.last in grind (arith, nat_tests)
-
-pub range-of-all : (t : TextValue) (from to : ℕ) → IsRangeOfAll t from to → is_range_of_all t from to ≡ true
-range-of-all t from to at = let a = at.first in let b = at.ordered in let d = at.last in grind (arith, nat_tests)
-
--- ---- positions in 32 bits
-
--- one that lies in a text, or right behind it, is itself
-pub place-same : (t : TextValue) (pos p : ℕ) → IsText t → p ≡ min pos 4294967295 → p ≤ length t.text + 1 → p ≡ pos
-place-same t pos p text e h = let short = text.short in omega arith
-
-pub place-other : (t : TextValue) (pos p : ℕ) → IsText t → p ≡ min pos 4294967295 → pos ≤ length t.text + 1 → p ≡ pos
-place-other t pos p text e h = let short = text.short in omega arith
