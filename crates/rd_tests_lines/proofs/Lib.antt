@@ -1,3 +1,4 @@
 pub mod Ends
 pub mod Owned
 pub mod Rounds
+pub mod Same

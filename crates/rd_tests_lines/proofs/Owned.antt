@@ -1,8 +1,9 @@
--- Lists that are the same place by place, and older rows that are a block's own.
-use Rattle.std.proofs.Common.{◌≡◌, ℕ, zero, suc, ◌+◌, ◌<◌, ◌≤◌, ◌&&◌, not, Bool, true, false, if◌then◌else◌, List, [], ◌∷◌, length, drop, find, get_or, slice_get, Option, None, Some, refl, sym, ap, ◌∙◌, arith}
-use Rattle.std.proofs.Math.ListN.{drop_of_length-le}
+-- Older rows that are a block's own.
+use Rattle.std.proofs.Common.{◌≡◌, ℕ, zero, suc, ◌+◌, ◌<◌, ◌&&◌, not, Bool, true, false, if◌then◌else◌, List, [], ◌∷◌, length, drop, find, slice_get, Option, None, Some, refl, sym, ap, ◌∙◌, subst, arith}
 use Rattle.std.proofs.lemmas.Bool.{and_parts}
-use Rattle.std.proofs.lemmas.List.{drop_more}
+use Rattle.std.proofs.lemmas.List.{at_drop_more}
+use Rattle.std.proofs.lemmas.Option.{get_or_from_slice_get, slice_get_within}
+use Rattle.std.specs.Cmp.Derive.{both_true}
 use Rattle.std.specs.List.{list_all}
 use Rattle.rd_matrix.specs.declared.block.Block.{Block}
 use Rattle.rd_matrix.specs.declared.matrix.Entry.{Entry}
@@ -12,36 +13,15 @@ use Rattle.rd_rows.specs.Copies.{shown_rows}
 use Rattle.rd_rows.specs.Laws.{ends_last}
 use Rattle.rd_rows.specs.Rows.{RowMeaning}
 
--- lists that are the same from the next place on and at this one
-pub same-more : {X : Type 0} (xs ys : List X) (i : ℕ) (d e : X) → i < length xs → i < length ys → get_or xs i d ≡ get_or ys i e
-    → (drop i xs ≡ drop i ys → xs ≡ ys) → drop (i + 1) xs ≡ drop (i + 1) ys → xs ≡ ys
-same-more xs ys i d e low high same all rest =
-    all (drop_more xs i d low ∙ (ap (λ z. z ∷ drop (i + 1) xs) same ∙ (ap (λ zs. get_or ys i e ∷ zs) rest ∙ sym (drop_more ys i e high))))
+-- what is sought from a place of a list on: the element there, if it passes, and else what is sought behind it
+pub sought : {X : Type 0} (test : X → Bool) (xs : List X) (k : ℕ) (x : X) → slice_get xs k ≡ Some x
+    → find test (drop k xs) ≡ (if test x then Some x else find test (drop (k + 1) xs))
+sought test xs k x at =
+    at_drop_more (find test) xs k x (slice_get_within xs k x at) ∙ ap (λ y. find test (y ∷ drop (k + 1) xs)) (get_or_from_slice_get xs k x x at)
 
--- lists of one length that are the same behind their end
-pub same-end : {X : Type 0} (xs ys : List X) (i : ℕ) → length xs ≡ length ys → length xs ≤ i → (drop i xs ≡ drop i ys → xs ≡ ys) → xs ≡ ys
-same-end xs ys i same past all = all (drop_of_length-le xs past ∙ sym (drop_of_length-le ys (omega (arith, same, past))))
-
--- an element that passes a test, and one that does not
-pub found-here : {X : Type 0} (test : X → Bool) (xs : List X) (k : ℕ) (x : X) → slice_get xs k ≡ Some x → test x ≡ true → find test (drop k xs) ≡ Some x
-found-here test [] k x i e = absurd cc
-found-here test (y ∷ xs) zero x i e = let same : y ≡ x = cc in rw (same, e) refl
-found-here test (y ∷ xs) (suc k) x i e = found-here test xs k x i e
-
-pub found-behind : {X : Type 0} (test : X → Bool) (xs : List X) (k : ℕ) (x : X) → slice_get xs k ≡ Some x → test x ≡ false
-    → find test (drop k xs) ≡ find test (drop (k + 1) xs)
-found-behind test [] k x i e = absurd cc
-found-behind test (y ∷ xs) zero x i e = let same : y ≡ x = cc in rw (same, e) refl
-found-behind test (y ∷ xs) (suc k) x i e =
-    let next : suc (k + 1) ≡ suc k + 1 = omega arith in
-    found-behind test xs k x i e ∙ ap (λ n. find test (drop n (y ∷ xs))) next
-
--- the entry behind a reference that was found is the one that is there
-pub under-is : (o : Option Entry) (x e : Entry) → Some x ≡ o → o ≡ Some e → x ≡ e
-under-is o x e here there = cc
-
-pub under-none : (o : Option Entry) (e : Entry) → None ≡ o → o ≡ Some e → ⊥
-under-none o e here there = cc
+-- what holds of the entry that was found holds of each that was
+pub of-found : (P : Entry → Type 0) (o : Option Entry) (x e : Entry) → o ≡ Some x → P x → o ≡ Some e → P e
+of-found P o x e here holds there = let same : x ≡ e = cc in subst P same holds
 
 -- rows that end a block end there
 ended : (r : RowMeaning) (rs : List RowMeaning) → r.ends_block ≡ true → ends_last (r ∷ rs) ≡ true → rs ≡ []
@@ -53,14 +33,10 @@ goes-on : (r : RowMeaning) (rs : List RowMeaning) → r.ends_block ≡ false →
 goes-on r [] t ends = absurd cc
 goes-on r (s ∷ rs) t ends = sym (ap (λ b. not b && ends_last (s ∷ rs)) t) ∙ ends
 
-both : (a b : Bool) → a ≡ true → b ≡ true → (a && b) ≡ true
-both true b p q = q
-both false b p q = p
-
 whole-rest : (base : ℕ) (r : RowMeaning) (rs : List RowMeaning) → r.ends_block ≡ false → are_whole base (r ∷ rs) ≡ true → are_whole base rs ≡ true
 whole-rest base r rs t whole =
     let parts = and_parts (ends_last (r ∷ rs)) (list_all (has_base base) (r ∷ rs)) whole in
-    both (ends_last rs) (list_all (has_base base) rs) (goes-on r rs t parts.0) (and_parts (has_base base r) (list_all (has_base base) rs) parts.1).1
+    both_true (goes-on r rs t parts.0) (and_parts (has_base base r) (list_all (has_base base) rs) parts.1).1
 
 -- each older row of a block from a number on that has the block's base level is the row there
 abbrev pub AreOwn : List Entry → Change → ℕ → ℕ → ℕ → List RowMeaning → Type 0
@@ -119,7 +95,3 @@ own-block old c b rs own ends kept =
     own-rows old c b.start b.base (length old) 0 rs
     (λ j e at is low. let same : 0 + j ≡ j = omega arith in own j e low (sym (ap (entry_under old c b.start) same) ∙ at) is) ends
     (and_parts (is_outside c b) (are_whole b.base (shown_rows (taken old c b.start))) kept).1
-
--- a block that changed keeps none
-pub changed-not : (old : List Entry) (c : Change) (b : Block) (P : Type 0) → is_outside c b ≡ false → is_kept old c b ≡ true → P
-changed-not old c b P out kept = let outside = (and_parts (is_outside c b) (are_whole b.base (shown_rows (taken old c b.start))) kept).0 in absurd cc

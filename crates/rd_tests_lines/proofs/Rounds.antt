@@ -1,5 +1,5 @@
 -- The blocks of a source, one after the other.
-use Rattle.std.proofs.Common.{◌≡◌, ℕ, zero, suc, ◌+◌, ◌<◌, ◌≤◌, true, false, if◌then◌else◌, inl, inr, List, [], ◌∷◌, length, slice_get, option_map, Option, None, Some, refl, sym, ap, ◌∙◌, subst, arith}
+use Rattle.std.proofs.Common.{◌≡◌, ℕ, zero, suc, ◌+◌, ◌<◌, ◌≤◌, true, inl, inr, List, [], ◌∷◌, length, slice_get, option_map, Option, None, Some, refl, sym, ap, ◌∙◌, subst, arith}
 use Rattle.std.proofs.lemmas.Bool.{cases_lt}
 use Rattle.rd_matrix.specs.Blocks.{IsAmong, StandFrom}
 use Rattle.rd_matrix.specs.Entries.{EntryMeaning}
@@ -11,13 +11,11 @@ use Rattle.rd_reuse.specs.Keeping.{AreRight, is_kept, taken}
 use Rattle.rd_reuse.specs.declared.change.Change.{Change}
 use Rattle.rd_rows.specs.Copies.{shown_rows}
 use Rattle.rd_reuse.specs.Views.{Names, anchor_of}
-use Rattle.rd_rows.specs.Shapes.{ShapeValues, is_same_shape}
+use Rattle.rd_rows.specs.Shapes.{ShapeValues}
 use Rattle.rd_start.specs.Chosen.{anchor_at, chosen_of, places_of}
 use Rattle.rd_start.specs.Starts.{start_of}
 use Rattle.rd_start.specs.declared.wanted.Chosen.{Chosen}
 use Rattle.rd_start.specs.declared.wanted.Wanted.{Wanted}
-use Rattle.rd_window.specs.Layouts.{older_rows}
-use Rattle.rd_window.specs.declared.layout.Layout.{Layout}
 
 -- the older rows of a block are the source's, where it keeps them
 abbrev pub IsRight : SourceValues → List Entry → Change → ShapeValues → Block → Type 0
@@ -92,17 +90,3 @@ pub chosen-named : (m : SourceValues) (shape : ShapeValues) (w : Wanted) (chosen
 chosen-named m shape w chosen low is =
     let row = start_of w (places_of m shape w) in
     subst (λ (x : Chosen). Names x.anchor (rows_at m shape) row) (sym is) (named-at (rows_at m shape) row low)
-
--- the rows of a last layout of a shape, and none where it has another one
-pub layout-right : (m : SourceValues) (l : Layout) (old : List Entry) (c : Change) (shape : ShapeValues) → l.matrix ≡ old → l.change ≡ c → l.shape ≡ shape → is_same_shape shape shape ≡ true
-    → AreRight m old c shape → AreRight m (older_rows (Some l) shape) l.change shape
-layout-right m l old c shape rows change is same right =
-    let older : older_rows (Some l) shape ≡ old =
-    ap (λ (s : ShapeValues). if is_same_shape s shape then l.matrix else []) is ∙ (ap (λ b. if b then l.matrix else []) same ∙ rows) in
-    subst (λ (es : List Entry). AreRight m es l.change shape) (sym older) (subst (λ (x : Change). AreRight m old x shape) (sym change) right)
-
-pub other-right : (m : SourceValues) (l : Layout) (shape other : ShapeValues) → l.shape ≡ other → is_same_shape other shape ≡ false → AreRight m [] l.change shape
-    → AreRight m (older_rows (Some l) shape) l.change shape
-other-right m l shape other is same right =
-    let older : older_rows (Some l) shape ≡ [] = ap (λ (s : ShapeValues). if is_same_shape s shape then l.matrix else []) is ∙ ap (λ b. if b then l.matrix else []) same in
-    subst (λ (es : List Entry). AreRight m es l.change shape) (sym older) right

@@ -53,7 +53,7 @@ pub const SHAPE: Shape = Shape {
 };
 
 /// A block of so many positions with its line, which is read from an edge by its base level.
-fn held_at(
+fn held(
     alloc: Global,
     start: Pos,
     size: u32,
@@ -89,81 +89,16 @@ fn held_at(
     })
 }
 
-/// A block of so many positions with its line, which is read from the left edge.
-fn held(alloc: Global, start: Pos, size: u32, line: &[Element]) -> Result<HeldBlock, Memory>
-    requires start { start ≤ 1000 }
-    requires some { 1 ≤ size }
-    requires few { size ≤ 1000 }
-    requires sound { AreSound line.now }
-    requires end { IsTrue (ends_once line.now) }
-    requires columns { columns_at_most line.now < 2 ^ 63 }
-    requires covers { IsTrue (covers_each size (ranges_of None line.now)) }
-    requires inside { IsTrue (are_inside size (ranges_of None line.now)) }
-    ensures held { IfOk result IsHeld }
-    ensures start { IfOk result (λ held. held.block.start ≡ start) }
-    ensures end { IfOk result (λ held. held.block.end ≡ start + size) }
-{
-    held_at(alloc, start, size, 0, line)
-}
-
-/// A letter and the line's end.
-fn one(alloc: Global, start: Pos) -> Result<HeldBlock, Memory>
-    requires start { start ≤ 1000 }
-    ensures held { IfOk result IsHeld }
-    ensures start { IfOk result (λ held. held.block.start ≡ start) }
-    ensures end { IfOk result (λ held. held.block.end ≡ start + 2) }
-{
-    let line = [letter!(0, 0, 1, 97), element!(1, 0, 1, 2, Look::LineEnd)];
-    held(alloc, start, 2, &line)
-}
-
-/// Two letters and the line's end.
-fn two(alloc: Global, start: Pos) -> Result<HeldBlock, Memory>
-    requires start { start ≤ 1000 }
-    ensures held { IfOk result IsHeld }
-    ensures start { IfOk result (λ held. held.block.start ≡ start) }
-    ensures end { IfOk result (λ held. held.block.end ≡ start + 3) }
-{
-    let line = [
-        letter!(0, 0, 1, 97),
-        letter!(1, 1, 2, 98),
-        element!(2, 0, 2, 3, Look::LineEnd),
-    ];
-    held(alloc, start, 3, &line)
-}
-
-/// Two letters and the line's end, and before the second letter a string of the lines 1 to 4.
-fn with_string(alloc: Global, start: Pos) -> Result<HeldBlock, Memory>
-    requires start { start ≤ 1000 }
-    ensures held { IfOk result IsHeld }
-    ensures start { IfOk result (λ held. held.block.start ≡ start) }
-    ensures end { IfOk result (λ held. held.block.end ≡ start + 3) }
-{
-    let line = [
-        letter!(0, 0, 1, 120),
-        letter!(1, 1, 1, 49),
-        element!(1, 0, 1, 1, Look::RowEnd),
-        letter!(1, 1, 1, 50),
-        element!(1, 0, 1, 1, Look::RowEnd),
-        letter!(1, 1, 1, 51),
-        element!(1, 0, 1, 1, Look::RowEnd),
-        letter!(1, 1, 1, 52),
-        element!(1, 0, 1, 1, Look::RowEnd),
-        letter!(2, 1, 2, 121),
-        element!(3, 0, 2, 3, Look::LineEnd),
-    ];
-    held(alloc, start, 3, &line)
-}
-
 /// A letter and the line's end, read from an edge by the base level.
 fn letter_line(alloc: Global, start: Pos, base: u8, code: u32) -> Result<HeldBlock, Memory>
     requires start { start ≤ 1000 }
     requires base { base ≤ 1 }
     ensures held { IfOk result IsHeld }
     ensures start { IfOk result (λ held. held.block.start ≡ start) }
+    ensures end { IfOk result (λ held. held.block.end ≡ start + 2) }
 {
     let line = [letter!(0, 0, 1, code), element!(1, 0, 1, 2, Look::LineEnd)];
-    held_at(alloc, start, 2, base, &line)
+    held(alloc, start, 2, base, &line)
 }
 
 /// A letter in each of two rows: a string between the letters ends the first of them.
@@ -178,7 +113,7 @@ fn two_rows(alloc: Global, start: Pos, code: u32) -> Result<HeldBlock, Memory>
         letter!(2, 1, 2, code),
         element!(3, 0, 2, 3, Look::LineEnd),
     ];
-    held_at(alloc, start, 3, 0, &line)
+    held(alloc, start, 3, 0, &line)
 }
 
 /// The line that a sign stands for: a small letter alone, the same read from the right edge where the sign is a capital, and a digit
@@ -217,38 +152,6 @@ fn add(source: &mut MemBlocks, held: HeldBlock) -> Result<(), Memory>
     Ok(())
 }
 
-/// So many lines of one letter.
-fn letters(alloc: Global, count: u32) -> Result<MemBlocks, Memory>
-    requires some { 1 ≤ count }
-    requires few { count ≤ 400 }
-    ensures first { IfOk result (λ source. first_start (blocks_held source) ≡ 1) }
-    ensures end { IfOk result (λ source. (from : ℕ) → end_from from (blocks_held source) ≡ 1 + 2 * count) }
-{
-    let mut source = single(alloc, one(alloc, 1)?)?;
-    for k in 1..count {
-        add(&mut source, one(alloc, 1 + 2 * k)?)?;
-    }
-    Ok(source)
-}
-
-/// A line of two letters and one of one letter.
-fn two_lines(alloc: Global) -> Result<MemBlocks, Memory>
-    ensures first { IfOk result (λ source. first_start (blocks_held source) ≡ 1) }
-    ensures end { IfOk result (λ source. (from : ℕ) → end_from from (blocks_held source) ≡ 6) }
-{
-    let mut source = single(alloc, two(alloc, 1)?)?;
-    add(&mut source, one(alloc, 4)?)?;
-    Ok(source)
-}
-
-/// The line with a string.
-fn one_line(alloc: Global) -> Result<MemBlocks, Memory>
-    ensures first { IfOk result (λ source. first_start (blocks_held source) ≡ 1) }
-    ensures end { IfOk result (λ source. (from : ℕ) → end_from from (blocks_held source) ≡ 4) }
-{
-    single(alloc, with_string(alloc, 1)?)
-}
-
 /// Texts whose first block starts at position 1.
 #[derive(Clone, Copy)]
 pub enum Text {
@@ -275,31 +178,48 @@ pub fn blocks_of(alloc: Global, text: Text) -> Result<Made, Memory>
     ensures end { IfOk result (λ made. end_from 0 (blocks_held made.source) ≡ made.end) }
 {
     match text {
-        Text::TenLines => lines_made(alloc, 10),
-        Text::ThreeLines => lines_made(alloc, 3),
-        Text::TwoLines => {
-            let source = two_lines(alloc)?;
-            Ok(Made { source, end: 6 })
-        }
-        Text::OneLine => {
-            let source = one_line(alloc)?;
-            Ok(Made { source, end: 4 })
-        }
+        Text::TenLines => lines_of(alloc, b'a', b"aaaaaaaaa"),
+        Text::ThreeLines => lines_of(alloc, b'a', b"aa"),
+        Text::TwoLines => two_lines(alloc),
+        Text::OneLine => one_line(alloc),
     }
 }
 
-/// So many lines of one letter, and where they end.
-fn lines_made(alloc: Global, count: u32) -> Result<Made, Memory>
-    requires some { 1 ≤ count }
-    requires few { count ≤ 400 }
+/// A line of two letters and one of one letter.
+fn two_lines(alloc: Global) -> Result<Made, Memory>
     ensures first { IfOk result (λ made. first_start (blocks_held made.source) ≡ 1) }
     ensures end { IfOk result (λ made. end_from 0 (blocks_held made.source) ≡ made.end) }
 {
-    let source = letters(alloc, count)?;
-    Ok(Made {
-        source,
-        end: 1 + 2 * count,
-    })
+    let line = [
+        letter!(0, 0, 1, 97),
+        letter!(1, 1, 2, 98),
+        element!(2, 0, 2, 3, Look::LineEnd),
+    ];
+    let mut source = single(alloc, held(alloc, 1, 3, 0, &line)?)?;
+    add(&mut source, letter_line(alloc, 4, 0, 97)?)?;
+    Ok(Made { source, end: 6 })
+}
+
+/// A line of two letters, and before the second of them a string of the lines 1 to 4.
+fn one_line(alloc: Global) -> Result<Made, Memory>
+    ensures first { IfOk result (λ made. first_start (blocks_held made.source) ≡ 1) }
+    ensures end { IfOk result (λ made. end_from 0 (blocks_held made.source) ≡ made.end) }
+{
+    let line = [
+        letter!(0, 0, 1, 120),
+        letter!(1, 1, 1, 49),
+        element!(1, 0, 1, 1, Look::RowEnd),
+        letter!(1, 1, 1, 50),
+        element!(1, 0, 1, 1, Look::RowEnd),
+        letter!(1, 1, 1, 51),
+        element!(1, 0, 1, 1, Look::RowEnd),
+        letter!(1, 1, 1, 52),
+        element!(1, 0, 1, 1, Look::RowEnd),
+        letter!(2, 1, 2, 121),
+        element!(3, 0, 2, 3, Look::LineEnd),
+    ];
+    let source = single(alloc, held(alloc, 1, 3, 0, &line)?)?;
+    Ok(Made { source, end: 4 })
 }
 
 /// The blocks of the lines that signs stand for, at most those that start at position 1000 or before.

@@ -1,5 +1,6 @@
 //! Rows that are made with ample memory.
-ghost use Rattle.std.specs.Prelude.{◌≡◌, ◌<◌};
+ghost use Rattle.std.specs.Prelude.{◌≡◌, ◌<◌, IfOk};
+ghost use Rattle.rd_rows.specs.Lines.{columns_held};
 
 use rd_base::{Cell, Element, Elements, Extent, Face, Glyph, Look, Memory, Origin, Steps, Wrap};
 use rd_rows::{Row, RowMaker, Shape};
@@ -63,51 +64,49 @@ fn last_base(row: &Row) -> u32 {
     }
 }
 
-/// The mark of the first row of eight blanks, a wide character and the line end in ten columns.
+/// Eight blanks, a wide character and the line end.
+const LINE: [Element; 3] = [
+    element!(0, 8, Look::Blank),
+    element!(1, 2, Look::Glyph(glyph!(20013, 2))),
+    element!(2, 0, Look::LineEnd),
+];
+
+/// A maker of the rows of a line in ten columns.
+fn maker(alloc: Global, wrap: Wrap) -> Result<RowMaker, Memory>
+    ensures { IfOk result (λ maker. columns_held maker ≡ 0) }
+{
+    let shape = Shape {
+        width: 10,
+        wrap,
+        hscroll: 0,
+    };
+    RowMaker::new(alloc, shape, 0, &[], &[], glyph!(36, 1), glyph!(92, 1))
+}
+
+/// The mark of the line's first row.
 fn mark_of_first<L: Ledger>(alloc: Global, wrap: Wrap, blank: Blank) -> Result<u32, Memory>
     requires name { blank.name ≡ L.name }
     requires parts { blank.parts ≡ L.parts }
     requires some { 0 < L.parts }
 {
     let mut steps = Steps::<L>::new(blank);
-    let line = [
-        element!(0, 8, Look::Blank),
-        element!(1, 2, Look::Glyph(glyph!(20013, 2))),
-        element!(2, 0, Look::LineEnd),
-    ];
-    let shape = Shape {
-        width: 10,
-        wrap,
-        hscroll: 0,
-    };
-    let mut left = Listed { rest: &line };
-    let mut maker = RowMaker::new(alloc, shape, 0, &[], &[], glyph!(36, 1), glyph!(92, 1))?;
+    let mut left = Listed { rest: &LINE };
+    let mut maker = maker(alloc, wrap)?;
     match maker.next_row(&mut left, &mut steps)? {
         Some(row) => Ok(last_base(&row)),
         None => Ok(0),
     }
 }
 
-/// The rows of the same line.
-fn rows_of<L: Ledger>(alloc: Global, wrap: Wrap, blank: Blank) -> Result<usize, Memory>
+/// How many rows the line has.
+fn count_of_all<L: Ledger>(alloc: Global, wrap: Wrap, blank: Blank) -> Result<usize, Memory>
     requires name { blank.name ≡ L.name }
     requires parts { blank.parts ≡ L.parts }
     requires some { 0 < L.parts }
 {
     let mut steps = Steps::<L>::new(blank);
-    let line = [
-        element!(0, 8, Look::Blank),
-        element!(1, 2, Look::Glyph(glyph!(20013, 2))),
-        element!(2, 0, Look::LineEnd),
-    ];
-    let shape = Shape {
-        width: 10,
-        wrap,
-        hscroll: 0,
-    };
-    let mut left = Listed { rest: &line };
-    let maker = RowMaker::new(alloc, shape, 0, &[], &[], glyph!(36, 1), glyph!(92, 1))?;
-    let rows = maker.make_all(&mut left, &mut steps)?;
+    let mut left = Listed { rest: &LINE };
+    let rows = maker(alloc, wrap)?.make_all(&mut left, &mut steps)?;
     Ok(rows.len())
 }
 
@@ -124,9 +123,9 @@ fn a_row_is_made(rt: HostRuntime) -> Result<(), Fail> {
 
 #[test]
 fn all_rows_are_made(rt: HostRuntime) -> Result<(), Fail> {
-    let wrapped = rows_of::<Brand>(rt.alloc(), Wrap::Word, Blank::new(1))?;
+    let wrapped = count_of_all::<Brand>(rt.alloc(), Wrap::Word, Blank::new(1))?;
     assert_eq!(rt; wrapped, 2);
-    let truncated = rows_of::<Brand>(rt.alloc(), Wrap::Truncate, Blank::new(1))?;
+    let truncated = count_of_all::<Brand>(rt.alloc(), Wrap::Truncate, Blank::new(1))?;
     assert_eq!(rt; truncated, 1);
     Ok(())
 }

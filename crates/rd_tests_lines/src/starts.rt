@@ -5,18 +5,20 @@ ghost use Rattle.rd_matrix.specs.Blocks.{IsWithin};
 ghost use Rattle.rd_matrix.specs.Held.{blocks_held};
 
 use crate::blocks::{SHAPE, Text, blocks_of};
-use crate::claims::assert_at;
+use crate::claims::assert_of;
 use rd_base::{Anchor, Memory, Pos, Steps};
 use rd_matrix::MemBlocks;
 use rd_start::{Chosen, Wanted, choose};
 use std::alloc::Global;
 use std::marker::Brand;
+use std::process::Abort;
 use std::sync::ledger::{Blank, Ledger};
 use std::test::Fail;
 
 /// A window over a text, and what is to be chosen for it.
 #[derive(Clone, Copy)]
 struct Case {
+    name: &'static str,
     text: Text,
     wanted: Wanted,
     chosen: Chosen,
@@ -54,8 +56,9 @@ fn forced(wanted: Wanted, pending: i64) -> Wanted {
 }
 
 macro_rules! case {
-    ($text:ident, $wanted:expr, $start:expr, $row:expr, $point:expr) => {
+    ($name:expr => $text:ident, $wanted:expr, $start:expr, $row:expr, $point:expr) => {
         Case {
+            name: $name,
             text: Text::$text,
             wanted: $wanted,
             chosen: Chosen {
@@ -73,16 +76,16 @@ macro_rules! case {
 /// inside the text and at both of its ends; an old start that is no block's start, and one whose row is gone.
 fn following() -> [Case; 10] {
     [
-        case!(TenLines, window(4, 5, 0, 11), 5, 0, 11),
-        case!(TenLines, careful(1, 9, 0), 3, 0, 9),
-        case!(TenLines, careful(3, 19, 0), 15, 0, 19),
-        case!(TenLines, window(4, 1, 0, 19), 15, 0, 19),
-        case!(TenLines, careful(1, 7, 3), 3, 0, 7),
-        case!(TenLines, careful(13, 19, 3), 13, 0, 19),
-        case!(TenLines, careful(5, 5, 3), 3, 0, 5),
-        case!(TenLines, careful(3, 1, 3), 1, 0, 1),
-        case!(TwoLines, window(3, 2, 0, 2), 1, 0, 2),
-        case!(TenLines, window(4, 3, 7, 3), 3, 0, 3),
+        case!("in view" => TenLines, window(4, 5, 0, 11), 5, 0, 11),
+        case!("a row below the view" => TenLines, careful(1, 9, 0), 3, 0, 9),
+        case!("far below the view" => TenLines, careful(3, 19, 0), 15, 0, 19),
+        case!("far below, where the start moves by no row" => TenLines, window(4, 1, 0, 19), 15, 0, 19),
+        case!("a margin inside the text, below" => TenLines, careful(1, 7, 3), 3, 0, 7),
+        case!("a margin at the end of the text" => TenLines, careful(13, 19, 3), 13, 0, 19),
+        case!("a margin inside the text, above" => TenLines, careful(5, 5, 3), 3, 0, 5),
+        case!("a margin at the beginning of the text" => TenLines, careful(3, 1, 3), 1, 0, 1),
+        case!("an old start inside a line" => TwoLines, window(3, 2, 0, 2), 1, 0, 2),
+        case!("an old start whose row is gone" => TenLines, window(4, 3, 7, 3), 3, 0, 3),
     ]
 }
 
@@ -90,13 +93,13 @@ fn following() -> [Case; 10] {
 /// to the first row and to the last.
 fn forced_starts() -> [Case; 7] {
     [
-        case!(ThreeLines, forced(window(3, 3, 0, 1), 0), 3, 0, 3),
-        case!(TenLines, forced(window(4, 1, 0, 19), 0), 1, 0, 8),
-        case!(OneLine, forced(window(2, 1, 2, 1), 0), 1, 2, 1),
-        case!(TenLines, forced(window(4, 5, 0, 9), 2), 9, 0, 9),
-        case!(TenLines, forced(window(4, 5, 0, 5), -1), 3, 0, 5),
-        case!(TenLines, forced(window(4, 5, 0, 5), -100), 1, 0, 5),
-        case!(TenLines, forced(window(4, 5, 0, 5), 100), 19, 0, 19),
+        case!("point above the view" => ThreeLines, forced(window(3, 3, 0, 1), 0), 3, 0, 3),
+        case!("point below the view" => TenLines, forced(window(4, 1, 0, 19), 0), 1, 0, 8),
+        case!("no item that begins in the view" => OneLine, forced(window(2, 1, 2, 1), 0), 1, 2, 1),
+        case!("rows down" => TenLines, forced(window(4, 5, 0, 9), 2), 9, 0, 9),
+        case!("rows up" => TenLines, forced(window(4, 5, 0, 5), -1), 3, 0, 5),
+        case!("rows up to the first" => TenLines, forced(window(4, 5, 0, 5), -100), 1, 0, 5),
+        case!("rows down to the last" => TenLines, forced(window(4, 5, 0, 5), 100), 19, 0, 19),
     ]
 }
 
@@ -129,7 +132,7 @@ fn choice<L: Ledger>(
 }
 
 /// Whether a case is as it is to be.
-fn holds<L: Ledger>(alloc: Global, case: Case, blank: Blank) -> Result<bool, Memory>
+fn holds<L: Ledger>(alloc: Global, case: &Case, blank: Blank) -> Result<bool, Memory>
     requires name { blank.name ≡ L.name }
     requires parts { blank.parts ≡ L.parts }
     requires some { 0 < L.parts }
@@ -142,22 +145,23 @@ fn holds<L: Ledger>(alloc: Global, case: Case, blank: Blank) -> Result<bool, Mem
     Ok(chosen == case.chosen)
 }
 
-#[test]
-fn starts_follow_point(rt: HostRuntime) -> Result<(), Fail> {
-    let cases = following();
-    for (place, case) in cases.iter().enumerate() {
-        let holds = holds::<Brand>(rt.alloc(), *case, Blank::new(1))?;
-        assert_at(&rt, place as u32, holds);
+/// Each case of a table is as it is to be.
+fn assert_all(rt: &impl Abort, alloc: Global, cases: &[Case]) -> Result<(), Memory> {
+    for case in cases {
+        let holds = holds::<Brand>(alloc, case, Blank::new(1))?;
+        assert_of(rt, case.name, holds);
     }
     Ok(())
 }
 
 #[test]
+fn starts_follow_point(rt: HostRuntime) -> Result<(), Fail> {
+    assert_all(&rt, rt.alloc(), &following())?;
+    Ok(())
+}
+
+#[test]
 fn forced_starts_move_point(rt: HostRuntime) -> Result<(), Fail> {
-    let cases = forced_starts();
-    for (place, case) in cases.iter().enumerate() {
-        let holds = holds::<Brand>(rt.alloc(), *case, Blank::new(1))?;
-        assert_at(&rt, place as u32, holds);
-    }
+    assert_all(&rt, rt.alloc(), &forced_starts())?;
     Ok(())
 }

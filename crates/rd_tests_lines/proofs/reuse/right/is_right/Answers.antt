@@ -2,7 +2,7 @@ use Rattle.std.proofs.Common.{arith}
 use Rattle.std.proofs.lemmas.List.{length-map}
 use Rattle.rd_rows.specs.Copies.{RowValues, shown_rows}
 use Rattle.rd_tests_lines.proofs.Owned.{own-block}
-use Rattle.rd_tests_lines.proofs.reuse.is_right.Goals as goal
+use Rattle.rd_tests_lines.proofs.reuse.right.is_right.Goals as goal
 
 pub returns : goal.returns
 returns c =

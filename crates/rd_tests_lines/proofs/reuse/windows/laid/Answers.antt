@@ -6,7 +6,7 @@ use Rattle.rd_rows.specs.Shapes.{IsShape}
 use Rattle.rd_start.specs.Chosen.{places_of}
 use Rattle.rd_start.specs.Starts.{start_of}
 use Rattle.rd_tests_lines.proofs.Rounds.{chosen-named}
-use Rattle.rd_tests_lines.proofs.reuse.laid.Goals as goal
+use Rattle.rd_tests_lines.proofs.reuse.windows.laid.Goals as goal
 
 pub relay-requires-clause-within : goal.relay-requires-clause-within
 relay-requires-clause-within g c =

@@ -2,7 +2,7 @@ use Rattle.std.proofs.Common.{◌≡◌, ℕ, ◌<◌, true, Some, slice_get}
 use Rattle.rd_matrix.specs.declared.matrix.Entry.{Entry}
 use Rattle.rd_reuse.specs.Keeping.{entry_under, has_base}
 use Rattle.rd_rows.specs.Copies.{shown_rows}
-use Rattle.rd_tests_lines.proofs.reuse.is_right.Given as goal
+use Rattle.rd_tests_lines.proofs.reuse.right.is_right.Given as goal
 
 -- the older rows up to a number are the block's own
 abbrev pub invariant-loop-number : goal.invariant-loop-number

@@ -3,7 +3,7 @@ use Rattle.std.proofs.lemmas.Bool.{OnTrue_at}
 use Rattle.rd_matrix.specs.Blocks.{IsAmong, first_start}
 use Rattle.rd_matrix.specs.Sources.{SourceValues}
 use Rattle.rd_tests_lines.proofs.Rounds.{IsRight, all-right, first-round, next-round}
-use Rattle.rd_tests_lines.proofs.reuse.are_right.Goals as goal
+use Rattle.rd_tests_lines.proofs.reuse.right.are_right.Goals as goal
 
 pub turns-init : goal.turns-init
 turns-init g c =

@@ -1,7 +1,7 @@
 use Rattle.std.proofs.Common.{◌≡◌}
 use Rattle.rd_matrix.specs.Sources.{IsSource}
 use Rattle.rd_tests_lines.proofs.Rounds.{Round}
-use Rattle.rd_tests_lines.proofs.reuse.are_right.Given as goal
+use Rattle.rd_tests_lines.proofs.reuse.right.are_right.Given as goal
 
 abbrev pub invariant-turns : goal.invariant-turns
 invariant-turns g l = record {

@@ -1,0 +1,8 @@
+use Rattle.std.proofs.Common.{◌≡◌}
+use Rattle.std.proofs.lemmas.Bool.{OnTrue_from}
+use Rattle.std.proofs.lemmas.Slice.Eq.{slice_eq-Decides}
+use Rattle.rd_tests_lines.proofs.Same.{begin-decides}
+use Rattle.rd_tests_lines.proofs.reuse.right.same_begins.Goals as goal
+
+pub returns : goal.returns
+returns c = OnTrue_from c.eq.result (c.args.begins.now ≡ c.args.other.now) (slice_eq-Decides begin-decides c.args.begins.now c.args.other.now c.eq.result c.eq.ensures).0
