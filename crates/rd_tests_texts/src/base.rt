@@ -1,8 +1,9 @@
 //! The shared words on plain cases.
-ghost use Rattle.std.specs.Prelude.{◌≡◌, ◌<◌};
+ghost use Rattle.std.specs.Prelude.{◌≡◌, ◌<◌, ◌≤◌, ◌^◌, length};
 
 use rd_base::{Cell, Class, Face, Glyph, Line, ListOf, Steps};
 use std::marker::Brand;
+use std::process::Abort;
 use std::sync::ledger::{Blank, Ledger};
 use std::test::Fail;
 
@@ -22,28 +23,42 @@ fn steps_are_counted() {
     count_two::<Brand>(Blank::new(1));
 }
 
-#[test]
-fn rooms_hold_what_they_are_given(rt: HostRuntime) -> Result<(), Fail> {
-    let mut list = ListOf::with_room(rt.alloc(), 2)?;
-    list.push(3u32)?;
+/// Asserts that an empty list takes what it is given.
+fn assert_given(rt: &impl Abort, list: &mut ListOf<u32>) -> Result<(), Fail> {
+    list.push(3)?;
     list.extend_from_slice(&[5, 7])?;
-    assert_eq!(rt; list.as_slice(), [3, 5, 7].as_slice());
+    assert!(rt; list.as_slice() == [3, 5, 7].as_slice());
     list.resize(5, 1)?;
-    assert_eq!(rt; list.as_slice(), [3, 5, 7, 1, 1].as_slice());
-    assert_eq!(rt; list.pop(), Some(1));
-    let copy = ListOf::from_slice(rt.alloc(), list.as_slice())?;
-    assert_eq!(rt; copy.as_slice(), [3, 5, 7, 1].as_slice());
+    assert!(rt; list.as_slice() == [3, 5, 7, 1, 1].as_slice());
+    assert!(rt; list.pop() == Some(1));
     Ok(())
 }
 
 #[test]
-fn a_line_is_filled_again(rt: HostRuntime) -> Result<(), Fail> {
-    let mut line = Line::new(rt.alloc());
-    line.refill(&[Class::R, Class::WS], 1)?;
-    assert_eq!(rt; line.types.as_slice(), [Class::R, Class::WS].as_slice());
-    line.refill(&[Class::L], 0)?;
-    assert_eq!(rt; line.levels.as_slice(), [0].as_slice());
+fn rooms_hold_what_they_are_given(rt: HostRuntime) -> Result<(), Fail> {
+    let mut list = ListOf::with_room(rt.alloc(), 2)?;
+    assert_given(&rt, &mut list)?;
+    let copy = ListOf::from_slice(rt.alloc(), list.as_slice())?;
+    assert!(rt; copy.as_slice() == [3, 5, 7, 1].as_slice());
     Ok(())
+}
+
+/// Whether a line that becomes that of these classes has them as its types, and has these levels.
+fn is_refilled(line: &mut Line, classes: &[Class], base: u8, levels: &[u8]) -> bool
+    requires short { length classes.now < 2 ^ 32 }
+    requires base { base ≤ 1 }
+{
+    match line.refill(classes, base) {
+        Ok(()) => line.types.as_slice() == classes && line.levels.as_slice() == levels,
+        Err(_) => false,
+    }
+}
+
+#[test]
+fn a_line_is_filled_again(rt: HostRuntime) {
+    let mut line = Line::new(rt.alloc());
+    assert!(rt; is_refilled(&mut line, &[Class::R, Class::WS], 1, &[1, 1]));
+    assert!(rt; is_refilled(&mut line, &[Class::L], 0, &[0]));
 }
 
 #[test]
