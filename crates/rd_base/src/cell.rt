@@ -1,6 +1,7 @@
 //! Glyphs and the cells of a screen.
 ghost use Rattle.std.specs.Prelude.{◌≡◌, ◌<◌};
 ghost use Rattle.rd_base.specs.Glyphs.{is_space};
+ghost use Rattle.rd_base.specs.Equals.{same_glyph, same_cell};
 ghost use Rattle.rd_base.specs.Cells.{single, bit_of, face_number, packed, glyph_number, words_of, AreOnlyOf};
 
 use crate::face::Face;
@@ -33,6 +34,13 @@ impl Glyph {
     {
         self.base == 32 && self.count == 0
     }
+
+    /// Whether both have the same characters and columns.
+    pub fn is_same(&self, other: &Glyph) -> bool
+        ensures { result ≡ same_glyph self.now other.now }
+    {
+        *self == *other
+    }
 }
 
 /// One column of a row: blank, the first column of a glyph, or a later column of the glyph on its left. A space without
@@ -58,6 +66,20 @@ impl Cell {
                 pack(glyph.marks[4], glyph.marks[5], 0),
             ],
             Cell::Rest => [0, 0, 0],
+        }
+    }
+
+    /// Whether both show the same.
+    pub fn is_same(&self, other: &Cell) -> bool
+        ensures { result ≡ same_cell self.now other.now }
+    {
+        match (self, other) {
+            (Cell::Blank(face), Cell::Blank(under)) => face.is_same(*under),
+            (Cell::First(glyph, face), Cell::First(under, back)) => {
+                glyph.is_same(under) && face.is_same(*back)
+            }
+            (Cell::Rest, Cell::Rest) => true,
+            _ => false,
         }
     }
 }

@@ -1,6 +1,7 @@
 //! Faces: what a cell looks like besides its character.
 ghost use Rattle.std.specs.Prelude.{◌≡◌};
 ghost use Rattle.rd_base.specs.Faces.{plain, over};
+ghost use Rattle.rd_base.specs.Equals.{same_face};
 
 use std::marker::Model;
 
@@ -50,5 +51,11 @@ impl Face {
             underline: self.underline || under.underline,
             inverse: self.inverse || under.inverse,
         }
+    }
+    /// Whether both have the same colours and flags.
+    pub fn is_same(self, other: Face) -> bool
+        ensures { result ≡ same_face self other }
+    {
+        self == other
     }
 }

@@ -69,6 +69,12 @@ pub const FRAME_ROWS: u32 = 200;
 /// The least columns of a window's text.
 pub const LEAST_TEXT_COLUMNS: u32 = 10;
 
+/// The least columns of a window without margins: those of its text and the border on its right.
+pub const LEAST_WINDOW_COLUMNS: u32 = 11;
+
+/// Columns that a line prefix or wrap prefix takes at the most: half of the widest row.
+pub const PREFIX_COLUMNS: u32 = 200;
+
 /// Columns of the line numbers beside a window's text.
 pub const NUMBER_COLUMNS: u32 = 10;
 
