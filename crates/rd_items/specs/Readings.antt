@@ -5,8 +5,10 @@ use Rattle.rd_base.specs.declared.settings.Invisible.{Invisible}
 use Rattle.rd_text.specs.Texts.{is_newline}
 use Rattle.rd_objects.specs.Things.{ObjectLists}
 use Rattle.rd_props.specs.Buffers.{BufferValue}
+use Rattle.rd_props.specs.Appearance.{hidden_by}
 use Rattle.rd_props.specs.Shown.{is_replaced, hidden}
 use Rattle.rd_props.specs.Seen.{Seen, seen_at, accessible_char, hidden_seen}
+use Rattle.rd_props.specs.declared.appearance.Appearance.{Appearance}
 use Rattle.rd_props.specs.declared.hiding.Hidden.{Hidden}
 use Rattle.rd_props.specs.declared.hiding.Hidden.TheVariants.{No, Plain, Ellipsis}
 use Rattle.rd_items.specs.declared.showing.Showing.{Showing}
@@ -28,6 +30,10 @@ ends_block s p = (not (is_replaced s p) && not (is_hidden (hidden s p))) && ends
 -- how a position where this is seen is shown: the number of the display spec that replaces it, how it is hidden, and its face
 abbrev pub showing_of : Invisible → Seen → Showing
 showing_of setting seen = record { display = seen.display; hidden = hidden_seen setting seen; face = seen.face }
+
+-- the same of a position that looks like this
+abbrev pub showing_by : Invisible → Appearance → Showing
+showing_by setting appearance = record { display = appearance.display; hidden = hidden_by setting appearance; face = appearance.face }
 
 abbrev pub showing_at : BufferValue → ObjectLists → ℕ → Showing
 showing_at s objects p = showing_of s.settings.invisible (seen_at s objects p)

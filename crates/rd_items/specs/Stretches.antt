@@ -18,10 +18,6 @@ pub record IsStretch (s : BufferValue) (objects : ObjectLists) (stretch : Stretc
 abbrev pub IsStopBehind : BufferValue → ℕ → ℕ → Type 0
 IsStopBehind s p stop = IsNextStop s p stop ⊎ ((p ≡ s.text.end) × (stop ≡ p + 1))
 
--- a stretch in every buffer
-abbrev pub IsStretchOfAny : Stretch → Type 0
-IsStretchOfAny stretch = (s : BufferValue) (objects : ObjectLists) → IsStretch s objects stretch
-
 -- a position of a stretch
 abbrev pub holds : Stretch → ℕ → Bool
 holds stretch p = nat_le stretch.from p && nat_lt p stretch.until

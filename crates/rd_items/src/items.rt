@@ -1,7 +1,9 @@
 //! The items of a block.
 ghost use Rattle.std.specs.Prelude.{◌≡◌, IfOk};
 ghost use Rattle.rd_text.specs.Texts.{IsAccessible};
+ghost use Rattle.rd_props.specs.Appearance.{appearance_in};
 ghost use Rattle.rd_props.specs.Buffers.{meaning};
+ghost use Rattle.rd_props.specs.Seen.{seen_at};
 ghost use Rattle.rd_items.specs.Readings.{reading};
 ghost use Rattle.rd_items.specs.Pieces.{scene_of};
 ghost use Rattle.rd_items.specs.Items.{items_of};
@@ -10,7 +12,7 @@ use crate::item::Item;
 use crate::stretch::Stretch;
 use crate::walk::Walk;
 use rd_base::{ListOf, Memory, Pos};
-use rd_props::View;
+use rd_props::{Appearance, View, appearance_at};
 use std::alloc::Global;
 use std::marker::Model;
 
@@ -34,7 +36,9 @@ impl Model for Items {
 impl Items {
     ghost use Rattle.std.specs.Prelude.{◌≡◌, ◌<◌, length, slice_get, Some, IfOk};
     ghost use Rattle.rd_text.specs.Texts.{IsAccessible};
+    ghost use Rattle.rd_props.specs.Appearance.{appearance_in};
     ghost use Rattle.rd_props.specs.Buffers.{meaning};
+    ghost use Rattle.rd_props.specs.Seen.{seen_at};
     ghost use Rattle.rd_items.specs.Readings.{reading};
     ghost use Rattle.rd_items.specs.Pieces.{scene_of};
     ghost use Rattle.rd_items.specs.Items.{items_of};
@@ -46,7 +50,22 @@ impl Items {
         requires { IsAccessible view.now.state.now.text start }
         ensures value { IfOk result (λ items. items ≡ items_of (scene_of view.now) (reading (meaning view.now.state.now) view.now.objects.now start)) }
     {
-        let list = walk_from(alloc, view, start)?;
+        let appearance = appearance_at(alloc, view, start)?;
+        Items::with_appearance(alloc, view, start, &appearance)
+    }
+
+    /// The same, of a position that is known to look like this: it is not looked up again.
+    pub fn with_appearance(
+        alloc: Global,
+        view: &View,
+        start: Pos,
+        appearance: &Appearance,
+    ) -> Result<Items, Memory>
+        requires place { IsAccessible view.now.state.now.text start }
+        requires appearance { appearance.now ≡ appearance_in (seen_at (meaning view.now.state.now) view.now.objects.now start) }
+        ensures value { IfOk result (λ items. items ≡ items_of (scene_of view.now) (reading (meaning view.now.state.now) view.now.objects.now start)) }
+    {
+        let list = walk_from(alloc, view, start, appearance)?;
         if list.len() > u32::MAX as usize {
             return Err(Memory);
         }
@@ -72,14 +91,21 @@ impl Items {
 /// The most items for which a walk has room before its first step.
 const ROOM: u32 = 1024;
 
-/// The items from a position up to the block's ender. There is room at once for those of a line that is not too long.
-fn walk_from(alloc: Global, view: &View, start: Pos) -> Result<ListOf<Item>, Memory>
-    requires { IsAccessible view.now.state.now.text start }
+/// The items from a position that looks like this up to the block's ender. There is room at once for those of a line that is not too
+/// long.
+fn walk_from(
+    alloc: Global,
+    view: &View,
+    start: Pos,
+    appearance: &Appearance,
+) -> Result<ListOf<Item>, Memory>
+    requires place { IsAccessible view.now.state.now.text start }
+    requires appearance { appearance.now ≡ appearance_in (seen_at (meaning view.now.state.now) view.now.objects.now start) }
     ensures value { IfOk result (λ items. items ≡ items_of (scene_of view.now) (reading (meaning view.now.state.now) view.now.objects.now start)) }
 {
     let line = view.state.text.next_newline(start) - start;
     let mut walk = Walk::new(alloc, line.min(ROOM) as usize + 1)?;
-    let mut stretch = Stretch::nowhere();
+    let mut stretch = Stretch::of(view, start, appearance);
     let mut pos = start;
     while let Some(next) = walk.step(alloc, view, &mut stretch, start, pos)? {
         pos = next;

@@ -3,11 +3,11 @@ ghost use Rattle.std.specs.Prelude.{◌≡◌, IfOk};
 ghost use Rattle.rd_text.specs.Texts.{IsAccessible};
 ghost use Rattle.rd_props.specs.Buffers.{meaning};
 ghost use Rattle.rd_props.specs.Seen.{accessible_char};
-ghost use Rattle.rd_items.specs.Readings.{showing_at, ends_line, is_hidden};
+ghost use Rattle.rd_items.specs.Readings.{showing_at, showing_by, ends_line, is_hidden};
 ghost use Rattle.rd_items.specs.Pieces.{same_spec};
 
-use rd_base::{Ch, Face, Memory, Pos};
-use rd_props::{Hidden, View, appearance_at};
+use rd_base::{Ch, Face, Invisible, Memory, Pos};
+use rd_props::{Appearance, Hidden, View, appearance_at};
 use std::alloc::Global;
 
 /// How the text at a position is shown: the number of the display spec that replaces it, how it is hidden, and its face.
@@ -92,12 +92,19 @@ pub fn showing_at(alloc: Global, view: &View, pos: Pos) -> Result<Showing, Memor
     requires { IsAccessible view.now.state.now.text pos }
     ensures { IfOk result (λ showing. showing ≡ showing_at (meaning view.now.state.now) view.now.objects.now pos) }
 {
-    let seen = appearance_at(alloc, view, pos)?;
+    let appearance = appearance_at(alloc, view, pos)?;
     let state = view.state;
     let settings = &state.settings;
-    Ok(Showing {
-        display: seen.display,
-        hidden: seen.hidden(&settings.invisible),
-        face: seen.face,
-    })
+    Ok(showing_by(&settings.invisible, &appearance))
+}
+
+/// How a position that looks like this is shown by a buffer's setting.
+pub fn showing_by(setting: &Invisible, appearance: &Appearance) -> Showing
+    ensures { result ≡ showing_by setting.now appearance.now }
+{
+    Showing {
+        display: appearance.display,
+        hidden: appearance.hidden(setting),
+        face: appearance.face,
+    }
 }

@@ -6,10 +6,10 @@ ghost use Rattle.rd_items.specs.Stretches.{IsStretch, IsStopBehind};
 ghost use Rattle.rd_items.specs.Readings.{showing_at, reading, behind};
 ghost use Rattle.rd_items.specs.Pieces.{run_length};
 
-use crate::showing::{Showing, showing_at};
-use rd_base::{Face, Memory, Pos};
+use crate::showing::{Showing, showing_at, showing_by};
+use rd_base::{Memory, Pos};
 use rd_props::{
-    Hidden, View, last_stop, next_stop, nothing_changes_before_the_next_stop,
+    Appearance, View, appearance_at, last_stop, next_stop, nothing_changes_before_the_next_stop,
     nothing_changes_behind_the_last_stop,
 };
 use std::alloc::Global;
@@ -26,20 +26,27 @@ impl Stretch {
     ghost use Rattle.std.specs.Prelude.{◌≡◌, ◌<◌, ◌≤◌, OnOk};
     ghost use Rattle.rd_text.specs.Texts.{IsAccessible};
     ghost use Rattle.rd_props.specs.Buffers.{meaning};
-    ghost use Rattle.rd_items.specs.Stretches.{holds, IsStretch, IsStretchOfAny};
+    ghost use Rattle.rd_props.specs.Appearance.{appearance_in};
+    ghost use Rattle.rd_props.specs.Seen.{seen_at};
+    ghost use Rattle.rd_items.specs.Stretches.{holds, IsStretch};
 
-    /// A stretch without positions.
-    pub fn nowhere() -> Stretch
-        ensures { IsStretchOfAny result }
+    /// The stretch from an accessible position, or from the end of the accessible text, that looks like this, up to where a property
+    /// changes or an overlay starts or ends.
+    pub fn of(view: &View, pos: Pos, appearance: &Appearance) -> Stretch
+        requires place { IsAccessible view.now.state.now.text pos }
+        requires appearance { appearance.now ≡ appearance_in (seen_at (meaning view.now.state.now) view.now.objects.now pos) }
+        ensures first { result.from ≡ pos }
+        ensures some { pos < result.until }
+        ensures within { pos < view.now.state.now.text.end → result.until ≤ view.now.state.now.text.end }
+        ensures shown { IsStretch (meaning view.now.state.now) view.now.objects.now result }
     {
+        nothing_changes_before_the_next_stop();
+        let state = view.state;
+        let settings = &state.settings;
         Stretch {
-            from: 0,
-            until: 0,
-            showing: Showing {
-                display: None,
-                hidden: Hidden::No,
-                face: Face::PLAIN,
-            },
+            from: pos,
+            until: stop_behind(view, pos),
+            showing: showing_by(&settings.invisible, appearance),
         }
     }
 
@@ -75,13 +82,8 @@ pub fn stretch_at(alloc: Global, view: &View, pos: Pos) -> Result<Stretch, Memor
     ensures within { pos < view.now.state.now.text.end → IfOk result (λ stretch. stretch.until ≤ view.now.state.now.text.end) }
     ensures shown { IfOk result (λ stretch. IsStretch (meaning view.now.state.now) view.now.objects.now stretch) }
 {
-    nothing_changes_before_the_next_stop();
-    let showing = showing_at(alloc, view, pos)?;
-    Ok(Stretch {
-        from: pos,
-        until: stop_behind(view, pos),
-        showing,
-    })
+    let appearance = appearance_at(alloc, view, pos)?;
+    Ok(Stretch::of(view, pos, &appearance))
 }
 
 /// The stretch before a position behind the beginning of the accessible text, from where a property changes or an overlay starts or
