@@ -8,7 +8,7 @@ use crate::line::LineFrame;
 use crate::step::{Frame, Step};
 use rd_base::{Element, Elements, Memory, Pos};
 use rd_items::{Items, blocks_are_read_whole};
-use rd_props::View;
+use rd_props::{Appearance, View, appearance_at};
 use smallvec::SmallVec;
 use std::alloc::Global;
 
@@ -26,7 +26,9 @@ impl<'a> Walker<'a> {
     ghost use Rattle.rd_base.specs.Elements.{Takes, AreSound, columns_at_most, ends_once};
     ghost use Rattle.rd_base.specs.Glyphs.{AreMeasured};
     ghost use Rattle.rd_text.specs.Texts.{IsAccessible};
+    ghost use Rattle.rd_props.specs.Appearance.{appearance_in};
     ghost use Rattle.rd_props.specs.Buffers.{meaning};
+    ghost use Rattle.rd_props.specs.Seen.{seen_at};
     ghost use Rattle.rd_items.specs.Pieces.{scene_of};
     ghost use Rattle.rd_items.specs.Readings.{reading};
     ghost use Rattle.rd_stack.specs.Lines.{line_elements};
@@ -46,21 +48,49 @@ impl<'a> Walker<'a> {
         ensures columns { IfOk result (λ walker. columns_at_most (⟦<Walker<'a> as Elements>⟧.left walker) < 2 ^ 60) }
         ensures ends { IfOk result (λ walker. ends_once (⟦<Walker<'a> as Elements>⟧.left walker) ≡ true) }
     {
+        let appearance = appearance_at(alloc, &view, start)?;
+        Walker::with_appearance(alloc, view, start, base, &appearance)
+    }
+
+    /// The same, where the position is known to look like this: it is not looked up again.
+    pub fn with_appearance(
+        alloc: Global,
+        view: View<'a>,
+        start: Pos,
+        base: u8,
+        appearance: &Appearance,
+    ) -> Result<Walker<'a>, Memory>
+        requires place { IsAccessible view.state.now.text start }
+        requires base { base ≤ 1 }
+        requires appearance { appearance.now ≡ appearance_in (seen_at (meaning view.state.now) view.objects.now start) }
+        ensures left { IfOk result (λ walker. ⟦<Walker<'a> as Elements>⟧.left walker ≡ line_elements (scene_of view.entry) base (reading (meaning view.entry.state.now) view.entry.objects.now start)) }
+        ensures sound { IfOk result (λ walker. AreSound (⟦<Walker<'a> as Elements>⟧.left walker)) }
+        ensures measured { IfOk result (λ walker. AreMeasured (⟦<Walker<'a> as Elements>⟧.left walker)) }
+        ensures columns { IfOk result (λ walker. columns_at_most (⟦<Walker<'a> as Elements>⟧.left walker) < 2 ^ 60) }
+        ensures ends { IfOk result (λ walker. ends_once (⟦<Walker<'a> as Elements>⟧.left walker) ≡ true) }
+    {
         blocks_are_read_whole();
         lines_end_once();
         lines_are_sound();
         view_stays_sound(&view);
         reading_stays_sound(&view, start);
-        Walker::of_block(alloc, view, start, base)
+        Walker::of_block(alloc, view, start, base, appearance)
     }
 
-    /// The elements of the line of the block that starts at a position.
-    fn of_block(alloc: Global, view: View<'a>, start: Pos, base: u8) -> Result<Walker<'a>, Memory>
+    /// The elements of the line of the block that starts at a position that looks like this.
+    fn of_block(
+        alloc: Global,
+        view: View<'a>,
+        start: Pos,
+        base: u8,
+        appearance: &Appearance,
+    ) -> Result<Walker<'a>, Memory>
         requires place { IsAccessible view.state.now.text start }
         requires base { base ≤ 1 }
+        requires appearance { appearance.now ≡ appearance_in (seen_at (meaning view.state.now) view.objects.now start) }
         ensures left { IfOk result (λ walker. walk_left walker.few walker.frames.items ≡ line_elements (scene_of view.entry) base (reading (meaning view.entry.state.now) view.entry.objects.now start)) }
     {
-        let items = Items::new(alloc, &view, start)?;
+        let items = Items::with_appearance(alloc, &view, start, appearance)?;
         let line = LineFrame::new(alloc, view, base, items)?;
         Walker::from_frame(alloc, Frame::Line(line))
     }

@@ -9,7 +9,7 @@ use Rattle.rd_items.specs.Pieces.{scene_of}
 use Rattle.rd_stack.specs.Walks.{walk_left}
 use Rattle.rd_stack.specs.declared.walker.Walker.{Walker}
 use Rattle.rd_stack.proofs.Elements.{if-same}
-use Rattle.rd_stack.proofs.walker.Walker.start.Goals as goal
+use Rattle.rd_stack.proofs.walker.Walker.with_appearance.Goals as goal
 
 pub returns : goal.returns
 returns c =
