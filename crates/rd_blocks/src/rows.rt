@@ -1,33 +1,31 @@
 //! The rows of a block of a buffer.
-ghost use Rattle.std.specs.Prelude.{◌≡◌, ◌+◌, ◌^◌, ◌<◌, ◌≤◌, length, IfOk, IsTrue};
+ghost use Rattle.std.specs.Prelude.{◌≡◌, ◌+◌, ◌^◌, ◌<◌, ◌≤◌, length, IfOk};
 ghost use Rattle.std.specs.Option.{option_or};
 ghost use Rattle.rd_base.specs.declared.element.Element.{Element};
 ghost use Rattle.rd_text.specs.Texts.{IsAccessible};
 ghost use Rattle.rd_objects.specs.declared.run.Slot.{Slot};
 ghost use Rattle.rd_glyphs.specs.Characters.{slot_or};
 ghost use Rattle.rd_props.specs.Buffers.{meaning};
-ghost use Rattle.rd_props.specs.Values.{effective, is_single};
 ghost use Rattle.rd_items.specs.Pieces.{scene_of};
 ghost use Rattle.rd_items.specs.Readings.{reading};
 ghost use Rattle.rd_rows.specs.Copies.{shown_rows};
 ghost use Rattle.rd_rows.specs.Laws.{seen_rows};
 ghost use Rattle.rd_rows.specs.Prefixes.{IsPrefix};
 ghost use Rattle.rd_rows.specs.Rows.{weight_of};
-ghost use Rattle.rd_blocks.specs.Rows.{block_rows, line_prefix, wrap_prefix, prefix_elements, truncation_mark, continuation_mark};
+ghost use Rattle.rd_blocks.specs.Rows.{block_rows, prefix_elements, truncation_mark, continuation_mark};
 
 use rd_base::{Element, Glyph, ListOf, Memory, Pos, Steps};
 use rd_items::parts_of;
 use rd_matrix::Block;
 use rd_objects::Slot;
-use rd_overlays::Kind;
-use rd_props::{View, effective};
+use rd_props::{View, appearance_at};
 use rd_rows::{Row, RowMaker, Shape};
 use rd_stack::{Walker, string_line};
 use std::alloc::Global;
 use std::sync::ledger::Ledger;
 
-/// The rows of a block at a shape: its line, cut behind the prefixes that are effective at its first position. A step is counted for
-/// each element that is placed in them.
+/// The rows of a block at a shape: its line, cut behind the prefixes that are effective at its first position, which is looked up once
+/// for both and for the line. A step is counted for each element that is placed in them.
 pub(crate) fn rows_of<L: Ledger>(
     alloc: Global,
     view: View,
@@ -41,9 +39,24 @@ pub(crate) fn rows_of<L: Ledger>(
     ensures few { IfOk result (λ rows. length rows.items < 2 ^ 32) }
     ensures steps { steps.new ≤ steps.old + weight_of (block_rows (scene_of view.entry) block.now.base shape (reading (meaning view.entry.state.now) view.entry.objects.now block.now.start)) }
 {
-    let first = line_prefix(alloc, &view, block)?;
-    let wrap = wrap_prefix(alloc, &view, block)?;
-    let mut line = Walker::start(alloc, view, block.start, block.base)?;
+    let state = view.state;
+    let settings = &state.settings;
+    let seen = appearance_at(alloc, &view, block.start)?;
+    let first = prefix_elements(
+        alloc,
+        &view,
+        seen.line_prefix,
+        settings.line_prefix,
+        block.base,
+    )?;
+    let wrap = prefix_elements(
+        alloc,
+        &view,
+        seen.wrap_prefix,
+        settings.wrap_prefix,
+        block.base,
+    )?;
+    let mut line = Walker::with_appearance(alloc, view, block.start, block.base, &seen)?;
     let maker = RowMaker::new(
         alloc,
         shape,
@@ -56,44 +69,20 @@ pub(crate) fn rows_of<L: Ledger>(
     maker.make_all(&mut line, steps)
 }
 
-/// The elements of the prefix of a block's first row, and of each of its rows behind a row end.
-fn line_prefix(alloc: Global, view: &View, block: &Block) -> Result<ListOf<Element>, Memory>
-    requires place { IsAccessible view.now.state.now.text block.now.start }
-    requires base { block.now.base ≤ 1 }
-    ensures value { IfOk result (λ elements. elements ≡ line_prefix (scene_of view.now) block.now.base (reading (meaning view.now.state.now) view.now.objects.now block.now.start)) }
-    ensures prefix { IfOk result (λ elements. IsPrefix elements) }
-{
-    let state = view.state;
-    let settings = &state.settings;
-    let own = effective(alloc, view, block.start, Kind::LinePrefix)?;
-    prefix_elements(alloc, view, own.or(settings.line_prefix), block.base)
-}
-
-/// The elements of the prefix of a block's other rows.
-fn wrap_prefix(alloc: Global, view: &View, block: &Block) -> Result<ListOf<Element>, Memory>
-    requires place { IsAccessible view.now.state.now.text block.now.start }
-    requires base { block.now.base ≤ 1 }
-    ensures value { IfOk result (λ elements. elements ≡ wrap_prefix (scene_of view.now) block.now.base (reading (meaning view.now.state.now) view.now.objects.now block.now.start)) }
-    ensures prefix { IfOk result (λ elements. IsPrefix elements) }
-{
-    let state = view.state;
-    let settings = &state.settings;
-    let own = effective(alloc, view, block.start, Kind::WrapPrefix)?;
-    prefix_elements(alloc, view, own.or(settings.wrap_prefix), block.base)
-}
-
-/// The elements of the prefix of a number, and none without one.
+/// The elements of a block's line prefix or wrap prefix: of its own number where it has one, else of the buffer's setting, and none
+/// without either.
 fn prefix_elements(
     alloc: Global,
     view: &View,
-    number: Option<u32>,
+    own: Option<u32>,
+    setting: Option<u32>,
     base: u8,
 ) -> Result<ListOf<Element>, Memory>
     requires { base ≤ 1 }
-    ensures value { IfOk result (λ elements. elements ≡ prefix_elements (scene_of view.now) base number) }
+    ensures value { IfOk result (λ elements. elements ≡ prefix_elements (scene_of view.now) base (option_or own setting)) }
     ensures prefix { IfOk result (λ elements. IsPrefix elements) }
 {
-    match number {
+    match own.or(setting) {
         None => Ok(ListOf::new(alloc)),
         Some(number) => string_line(alloc, view, number, base),
     }
