@@ -1,7 +1,7 @@
-//! Rules X1 to X8 of UAX 9, each a method of the state that the rules keep or a function, and the step that says which rule a class
-//! takes.
+//! Rules X1 to X8 of UAX 9, each a method of the state that the rules keep, a function, or an arm of the step that says which rule a
+//! class takes.
 ghost use Rattle.std.specs.Prelude.{◌≡◌, ◌<◌, ◌≤◌, ◌+◌, ◌^◌, ◌||◌, ◌&&◌, ◌==◌, length, if◌then◌else◌};
-ghost use Rattle.rd_explicit.specs.Explicit.{x1_start, top, odd_above, even_above, is_valid, embedded, x2_right_to_left_embedding, x3_left_to_right_embedding, x4_right_to_left_override, x5_left_to_right_override, isolated, x5a_right_to_left_isolate, x5b_left_to_right_isolate, x5c_starts_right, x5c_first_strong_isolate, x6_level_and_override, x6a_pop_directional_isolate, x7_pop_directional_format, x8_paragraph_separator, x9_removed, after, given, Rises, IsCounted, CountsOn};
+ghost use Rattle.rd_explicit.specs.Explicit.{x1_start, top, odd_above, even_above, is_valid, embedded, isolated, x5c_starts_right, x5c_first_strong_isolate, x6_level_and_override, x6a_pop_directional_isolate, x7_pop_directional_format, x8_paragraph_separator, x9_removed, after, given, Rises, IsCounted, CountsOn};
 
 use crate::isolate::x5c_starts_right;
 use crate::stack::{DirectionalStatus, Stack};
@@ -49,62 +49,6 @@ impl State {
         level <= 125 && self.overflow_isolates == 0 && self.overflow_embeddings == 0
     }
 
-    /// X2: an RLE opens an embedding at the next odd level.
-    fn x2_right_to_left_embedding(&mut self)
-        requires rises { Rises self.old.stack }
-        requires some { 0 < length self.old.stack }
-        requires counted { IsCounted 4294967294 self.old }
-        ensures state { self.new ≡ x2_right_to_left_embedding self.old }
-        ensures rises { Rises self.new.stack }
-        ensures some { 0 < length self.new.stack }
-        ensures counts { CountsOn self.old self.new }
-    {
-        let level = odd_above(self.stack.top().level);
-        self.embed(level, None);
-    }
-
-    /// X3: an LRE opens an embedding at the next even level.
-    fn x3_left_to_right_embedding(&mut self)
-        requires rises { Rises self.old.stack }
-        requires some { 0 < length self.old.stack }
-        requires counted { IsCounted 4294967294 self.old }
-        ensures state { self.new ≡ x3_left_to_right_embedding self.old }
-        ensures rises { Rises self.new.stack }
-        ensures some { 0 < length self.new.stack }
-        ensures counts { CountsOn self.old self.new }
-    {
-        let level = even_above(self.stack.top().level);
-        self.embed(level, None);
-    }
-
-    /// X4: an RLO opens an override to R at the next odd level.
-    fn x4_right_to_left_override(&mut self)
-        requires rises { Rises self.old.stack }
-        requires some { 0 < length self.old.stack }
-        requires counted { IsCounted 4294967294 self.old }
-        ensures state { self.new ≡ x4_right_to_left_override self.old }
-        ensures rises { Rises self.new.stack }
-        ensures some { 0 < length self.new.stack }
-        ensures counts { CountsOn self.old self.new }
-    {
-        let level = odd_above(self.stack.top().level);
-        self.embed(level, Some(Class::R));
-    }
-
-    /// X5: an LRO opens an override to L at the next even level.
-    fn x5_left_to_right_override(&mut self)
-        requires rises { Rises self.old.stack }
-        requires some { 0 < length self.old.stack }
-        requires counted { IsCounted 4294967294 self.old }
-        ensures state { self.new ≡ x5_left_to_right_override self.old }
-        ensures rises { Rises self.new.stack }
-        ensures some { 0 < length self.new.stack }
-        ensures counts { CountsOn self.old self.new }
-    {
-        let level = even_above(self.stack.top().level);
-        self.embed(level, Some(Class::L));
-    }
-
     /// For X2 to X5, an embedding, or an override, at a level above the last entry's. Where it would be too deep, or in what has
     /// overflowed, it overflows.
     fn embed(&mut self, level: u8, direction: Option<Class>)
@@ -125,53 +69,6 @@ impl State {
             });
         } else if self.overflow_isolates == 0 {
             self.overflow_embeddings += 1;
-        }
-    }
-
-    /// X5a: an RLI opens an isolate at the next odd level.
-    fn x5a_right_to_left_isolate(&mut self)
-        requires rises { Rises self.old.stack }
-        requires some { 0 < length self.old.stack }
-        requires counted { IsCounted 4294967294 self.old }
-        ensures state { self.new ≡ x5a_right_to_left_isolate self.old }
-        ensures rises { Rises self.new.stack }
-        ensures some { 0 < length self.new.stack }
-        ensures counts { CountsOn self.old self.new }
-    {
-        let level = odd_above(self.stack.top().level);
-        self.isolate(level);
-    }
-
-    /// X5b: an LRI opens an isolate at the next even level.
-    fn x5b_left_to_right_isolate(&mut self)
-        requires rises { Rises self.old.stack }
-        requires some { 0 < length self.old.stack }
-        requires counted { IsCounted 4294967294 self.old }
-        ensures state { self.new ≡ x5b_left_to_right_isolate self.old }
-        ensures rises { Rises self.new.stack }
-        ensures some { 0 < length self.new.stack }
-        ensures counts { CountsOn self.old self.new }
-    {
-        let level = even_above(self.stack.top().level);
-        self.isolate(level);
-    }
-
-    /// X5c: an FSI, with these classes after it, is taken as an RLI or as an LRI by the first strong character of what it isolates.
-    /// It looks at them only where nothing has overflowed, since the level that it wants counts only then.
-    fn x5c_first_strong_isolate(&mut self, rest: &[Class])
-        requires short { length rest.now < 2 ^ 32 }
-        requires rises { Rises self.old.stack }
-        requires some { 0 < length self.old.stack }
-        requires counted { IsCounted 4294967294 self.old }
-        ensures state { self.new ≡ x5c_first_strong_isolate self.old rest.now }
-        ensures rises { Rises self.new.stack }
-        ensures some { 0 < length self.new.stack }
-        ensures counts { CountsOn self.old self.new }
-    {
-        if self.overflow_isolates == 0 && self.overflow_embeddings == 0 && x5c_starts_right(rest) {
-            self.x5a_right_to_left_isolate();
-        } else {
-            self.x5b_left_to_right_isolate();
         }
     }
 
@@ -196,6 +93,26 @@ impl State {
             self.valid_isolates += 1;
         } else {
             self.overflow_isolates += 1;
+        }
+    }
+
+    /// X5c: an FSI, with these classes after it, is taken as an RLI or as an LRI by the first strong character of what it isolates.
+    /// It looks at them only where nothing has overflowed, since the level that it wants counts only then.
+    fn x5c_first_strong_isolate(&mut self, rest: &[Class])
+        requires short { length rest.now < 2 ^ 32 }
+        requires rises { Rises self.old.stack }
+        requires some { 0 < length self.old.stack }
+        requires counted { IsCounted 4294967294 self.old }
+        ensures state { self.new ≡ x5c_first_strong_isolate self.old rest.now }
+        ensures rises { Rises self.new.stack }
+        ensures some { 0 < length self.new.stack }
+        ensures counts { CountsOn self.old self.new }
+    {
+        let level = self.stack.top().level;
+        if self.overflow_isolates == 0 && self.overflow_embeddings == 0 && x5c_starts_right(rest) {
+            self.isolate(odd_above(level));
+        } else {
+            self.isolate(even_above(level));
         }
     }
 
@@ -253,12 +170,18 @@ impl State {
     {
         let entry = self.stack.top();
         match class {
-            Class::RLE => self.x2_right_to_left_embedding(),
-            Class::LRE => self.x3_left_to_right_embedding(),
-            Class::RLO => self.x4_right_to_left_override(),
-            Class::LRO => self.x5_left_to_right_override(),
-            Class::RLI => self.x5a_right_to_left_isolate(),
-            Class::LRI => self.x5b_left_to_right_isolate(),
+            // X2: an RLE opens an embedding at the next odd level.
+            Class::RLE => self.embed(odd_above(entry.level), None),
+            // X3: an LRE opens an embedding at the next even level.
+            Class::LRE => self.embed(even_above(entry.level), None),
+            // X4: an RLO opens an override to R at the next odd level.
+            Class::RLO => self.embed(odd_above(entry.level), Some(Class::R)),
+            // X5: an LRO opens an override to L at the next even level.
+            Class::LRO => self.embed(even_above(entry.level), Some(Class::L)),
+            // X5a: an RLI opens an isolate at the next odd level.
+            Class::RLI => self.isolate(odd_above(entry.level)),
+            // X5b: an LRI opens an isolate at the next even level.
+            Class::LRI => self.isolate(even_above(entry.level)),
             Class::FSI => self.x5c_first_strong_isolate(rest),
             Class::PDI => {
                 self.x6a_pop_directional_isolate();

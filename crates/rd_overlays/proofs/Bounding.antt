@@ -14,7 +14,10 @@ use Rattle.rd_overlays.specs.declared.overlay.Overlay.{Overlay}
 use Rattle.rd_overlays.specs.declared.overlay.Meeting.{Meeting}
 use Rattle.rd_overlays.specs.declared.overlay.Meeting.TheVariants.{Covers, Starts, Ends}
 use Rattle.rd_overlays.specs.declared.bounds.Bounds.{Bounds}
-use Rattle.rd_overlays.specs.Overlays.{live, overlay_at, meets, after_insertion, after_deletion, slot_grown, slot_shrunk, Fits, SlotFits, AllFit}
+use Rattle.rd_overlays.specs.Overlays.{live, overlay_at, meets, after_insertion, after_deletion, slot_grown, slot_shrunk, Fits, SlotFits}
+use Rattle.rd_overlays.specs.Moves.{slot_moved, bounds_moved, IsEdit, SlotFollows, AllFollow}
+use Rattle.rd_overlays.specs.declared.moves.Edit.{Edit}
+use Rattle.rd_overlays.specs.declared.moves.Edit.TheVariants.{Insertion, Deletion}
 use Rattle.rd_overlays.specs.Bounds.{Holds, SlotHolds, IsBounded, IsBoundedTo, IsWidened, IsIndex, IsAway, passed, bounds_grown, bounds_shrunk}
 
 low-after : (pos n low v : ℕ) (m : Bool) → low ≤ v → (if nat_lt pos low then min (low + n) 4294967295 else low) ≤ after_insertion pos n m v
@@ -95,32 +98,26 @@ moved-bounded f g slots order bounds h none step =
       holds = λ place number b at d. both-moved f g slots order bounds place number b h none step at (map-from g bounds (place / 256) b d);
     }
 
-fit-by : (pos n : ℕ) (o : Option (Option Overlay)) → ((slot : Option Overlay) → o ≡ Some slot → SlotFits pos n slot) → SlotFits pos n (live o)
-fit-by pos n None h = tt
-fit-by pos n (Some slot) h = h slot refl
+-- each edit keeps what is moved within bounds that are moved
+moved-holds : (edit : Edit) (b : Bounds) (slot : Option Overlay) → IsEdit edit → SlotFollows edit slot → SlotHolds b slot → SlotHolds (bounds_moved edit b) (slot_moved edit slot)
+moved-holds (Insertion pos n) b slot small fits h = grown-holds pos n b slot small fits h
+moved-holds (Deletion from to) b slot order fits h = shrunk-holds from to b slot order h
 
-pub grown-index : (pos n : ℕ) (slots : List (Option Overlay)) (order : List ℕ) (bounds : List Bounds) → pos < 4294967296 → AllFit pos n slots
-    → IsIndex slots order bounds → IsIndex (map (slot_grown pos n) slots) order (map (bounds_grown pos n) bounds)
-grown-index pos n slots order bounds small fits h =
-    let slots_size = length-map slots (slot_grown pos n) in
+follows-by : (edit : Edit) (o : Option (Option Overlay)) → ((slot : Option Overlay) → o ≡ Some slot → SlotFollows edit slot) → SlotFollows edit (live o)
+follows-by (Insertion pos n) None h = tt
+follows-by (Insertion pos n) (Some slot) h = h slot refl
+follows-by (Deletion from to) o h = tt
+
+pub moved-index : (edit : Edit) (slots : List (Option Overlay)) (order : List ℕ) (bounds : List Bounds) → IsEdit edit → AllFollow edit slots
+    → IsIndex slots order bounds → IsIndex (map (slot_moved edit) slots) order (map (bounds_moved edit) bounds)
+moved-index edit slots order bounds right follow h =
+    let slots_size = length-map slots (slot_moved edit) in
     let size = h.size in
     record {
       size = omega (arith, slots_size, size);
       whole = h.whole;
-      bounded = moved-bounded (slot_grown pos n) (bounds_grown pos n) slots order bounds h.bounded refl
-          (λ number b held. grown-holds pos n b (overlay_at slots number) small (fit-by pos n (slice_get slots number) (λ slot at. fits number slot at)) held);
-    }
-
-pub shrunk-index : (from to : ℕ) (slots : List (Option Overlay)) (order : List ℕ) (bounds : List Bounds) → from ≤ to
-    → IsIndex slots order bounds → IsIndex (map (slot_shrunk from to) slots) order (map (bounds_shrunk from to) bounds)
-shrunk-index from to slots order bounds p h =
-    let slots_size = length-map slots (slot_shrunk from to) in
-    let size = h.size in
-    record {
-      size = omega (arith, slots_size, size);
-      whole = h.whole;
-      bounded = moved-bounded (slot_shrunk from to) (bounds_shrunk from to) slots order bounds h.bounded refl
-          (λ number b held. shrunk-holds from to b (overlay_at slots number) p held);
+      bounded = moved-bounded (slot_moved edit) (bounds_moved edit) slots order bounds h.bounded refl
+          (λ number b held. moved-holds edit b (overlay_at slots number) right (follows-by edit (slice_get slots number) (λ slot at. follow number slot at)) held);
     }
 
 below-low : (m : Meeting) (pos : ℕ) (o : Overlay) (b : Bounds) → Holds b o → pos < b.low → meets m pos o ≡ false

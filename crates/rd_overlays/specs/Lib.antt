@@ -1,3 +1,4 @@
 pub mod Bounds
 pub mod Listings
+pub mod Moves
 pub mod Overlays

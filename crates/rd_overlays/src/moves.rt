@@ -1,81 +1,78 @@
 //! All overlays, and all bounds, as they move with the text.
-ghost use Rattle.std.specs.Prelude.{◌≡◌, ◌≤◌, map};
-ghost use Rattle.rd_overlays.specs.Overlays.{slot_grown, slot_shrunk, SlotFits, AllFit};
-ghost use Rattle.rd_overlays.specs.Bounds.{bounds_grown, bounds_shrunk};
+ghost use Rattle.std.specs.Prelude.{◌≡◌, Some, map};
+ghost use Rattle.rd_overlays.specs.Moves.{overlay_moved, slot_moved, bounds_moved, IsEdit, SlotFollows, AllFollow};
 
 use crate::bounds::{Bounds, bounds_grown, bounds_shrunk};
 use crate::overlay::{Overlay, grown, shrunk};
 use rd_base::{ListOf, Pos};
 
-/// What stands at a number after an insertion.
-fn slot_grown(pos: Pos, n: u32, slot: Option<Overlay>) -> Option<Overlay>
-    requires { SlotFits pos n slot }
-    ensures { result ≡ slot_grown pos n slot }
+/// An edit of the text.
+#[derive(Clone, Copy)]
+pub(crate) enum Edit {
+    /// `n` characters were inserted at `pos`.
+    Insertion { pos: Pos, n: u32 },
+    /// The text from `from` to `to - 1` was deleted.
+    Deletion { from: Pos, to: Pos },
+}
+
+/// An overlay after an edit.
+fn overlay_moved(edit: Edit, overlay: Overlay) -> Overlay
+    requires edit { IsEdit edit }
+    requires follows { SlotFollows edit (Some overlay) }
+    ensures { result ≡ overlay_moved edit overlay }
 {
-    match slot {
-        None => None,
-        Some(overlay) => Some(grown(pos, n, overlay)),
+    match edit {
+        Edit::Insertion { pos, n } => grown(pos, n, overlay),
+        Edit::Deletion { from, to } => shrunk(from, to, overlay),
     }
 }
 
-/// What stands at a number after a deletion.
-fn slot_shrunk(from: Pos, to: Pos, slot: Option<Overlay>) -> Option<Overlay>
-    requires { from ≤ to }
-    ensures { result ≡ slot_shrunk from to slot }
+/// What stands at a number after an edit.
+fn slot_moved(edit: Edit, slot: Option<Overlay>) -> Option<Overlay>
+    requires edit { IsEdit edit }
+    requires follows { SlotFollows edit slot }
+    ensures { result ≡ slot_moved edit slot }
 {
     match slot {
         None => None,
-        Some(overlay) => Some(shrunk(from, to, overlay)),
+        Some(overlay) => Some(overlay_moved(edit, overlay)),
     }
 }
 
-/// Moves all overlays with an insertion.
-pub(crate) fn grow_slots(slots: &mut ListOf<Option<Overlay>>, pos: Pos, n: u32)
-    requires { AllFit pos n slots.old }
-    ensures { slots.new ≡ map (slot_grown pos n) slots.old }
+/// Bounds after an edit.
+fn bounds_moved(edit: Edit, bounds: Bounds) -> Bounds
+    requires { IsEdit edit }
+    ensures { result ≡ bounds_moved edit bounds }
+{
+    match edit {
+        Edit::Insertion { pos, n } => bounds_grown(pos, n, bounds),
+        Edit::Deletion { from, to } => bounds_shrunk(from, to, bounds),
+    }
+}
+
+/// Moves all overlays with an edit.
+pub(crate) fn move_slots(slots: &mut ListOf<Option<Overlay>>, edit: Edit)
+    requires edit { IsEdit edit }
+    requires follow { AllFollow edit slots.old }
+    ensures { slots.new ≡ map (slot_moved edit) slots.old }
 {
     let mut i = slots.len();
     while 0 < i {
         i -= 1;
         let slot = slots.at(i);
-        slots.set(i, slot_grown(pos, n, slot));
+        slots.set(i, slot_moved(edit, slot));
     }
 }
 
-/// Moves all overlays with a deletion.
-pub(crate) fn shrink_slots(slots: &mut ListOf<Option<Overlay>>, from: Pos, to: Pos)
-    requires { from ≤ to }
-    ensures { slots.new ≡ map (slot_shrunk from to) slots.old }
-{
-    let mut i = slots.len();
-    while 0 < i {
-        i -= 1;
-        let slot = slots.at(i);
-        slots.set(i, slot_shrunk(from, to, slot));
-    }
-}
-
-/// Moves all bounds with an insertion.
-pub(crate) fn grow_bounds(bounds: &mut ListOf<Bounds>, pos: Pos, n: u32)
-    ensures { bounds.new ≡ map (bounds_grown pos n) bounds.old }
+/// Moves all bounds with an edit.
+pub(crate) fn move_bounds(bounds: &mut ListOf<Bounds>, edit: Edit)
+    requires { IsEdit edit }
+    ensures { bounds.new ≡ map (bounds_moved edit) bounds.old }
 {
     let mut i = bounds.len();
     while 0 < i {
         i -= 1;
         let each = bounds.at(i);
-        bounds.set(i, bounds_grown(pos, n, each));
-    }
-}
-
-/// Moves all bounds with a deletion.
-pub(crate) fn shrink_bounds(bounds: &mut ListOf<Bounds>, from: Pos, to: Pos)
-    requires { from ≤ to }
-    ensures { bounds.new ≡ map (bounds_shrunk from to) bounds.old }
-{
-    let mut i = bounds.len();
-    while 0 < i {
-        i -= 1;
-        let each = bounds.at(i);
-        bounds.set(i, bounds_shrunk(from, to, each));
+        bounds.set(i, bounds_moved(edit, each));
     }
 }

@@ -2,6 +2,7 @@
 use crate::edges::nearest_edge;
 use crate::fault::OverlayFault;
 use crate::listing::listed;
+use crate::moves::Edit;
 use crate::overlay::{Kind, Meeting, Overlay, overlay_at};
 use crate::store::Store;
 use crate::way::Way;
@@ -205,7 +206,7 @@ impl Overlays {
         requires { AllFit pos n self.old }
         ensures { self.new ≡ map (slot_grown pos n) self.old }
     {
-        self.slots.grow(pos, n);
+        self.slots.follow(Edit::Insertion { pos, n });
     }
 
     /// Moves the overlays with the deletion of the text from `from` to `to - 1`. What stands in the range goes to `from`, what
@@ -214,6 +215,6 @@ impl Overlays {
         requires { from ≤ to }
         ensures { self.new ≡ map (slot_shrunk from to) self.old }
     {
-        self.slots.shrink(from, to);
+        self.slots.follow(Edit::Deletion { from, to });
     }
 }

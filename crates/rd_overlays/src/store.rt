@@ -1,9 +1,9 @@
 //! The overlays by number, with an index by which a look-up passes over many of them at once.
 use crate::index::{Index, indexed, make_fit};
-use crate::moves::{grow_bounds, grow_slots, shrink_bounds, shrink_slots};
+use crate::moves::{Edit, move_bounds, move_slots};
 use crate::overlay::Overlay;
 use rd_base::limits::OVERLAYS;
-use rd_base::{ListOf, Memory, Pos};
+use rd_base::{ListOf, Memory};
 use std::alloc::Global;
 use std::marker::Model;
 
@@ -29,8 +29,8 @@ impl Model for Store {
 
 impl Store {
     ghost use Rattle.std.specs.Prelude.{◌≡◌, ◌≤◌, ◌<◌, ◌++◌, ◌∷◌, [], length, map, Option, Some, OnOk, OnErr, slice_set, slice_get};
-    ghost use Rattle.rd_overlays.specs.Overlays.{AllFit, slot_grown, slot_shrunk};
     ghost use Rattle.rd_overlays.specs.Bounds.{IsIndex};
+    ghost use Rattle.rd_overlays.specs.Moves.{slot_moved, IsEdit, AllFollow};
 
     pub(crate) fn new(alloc: Global) -> Store
         ensures { result ≡ [] }
@@ -98,21 +98,13 @@ impl Store {
         Ok(())
     }
 
-    /// Moves the overlays with an insertion.
-    pub(crate) fn grow(&mut self, pos: Pos, n: u32)
-        requires { AllFit pos n self.old }
-        ensures { self.new ≡ map (slot_grown pos n) self.old }
+    /// Moves the overlays with an edit of the text.
+    pub(crate) fn follow(&mut self, edit: Edit)
+        requires edit { IsEdit edit }
+        requires follow { AllFollow edit self.old }
+        ensures { self.new ≡ map (slot_moved edit) self.old }
     {
-        grow_slots(&mut self.slots, pos, n);
-        grow_bounds(&mut self.index.bounds, pos, n);
-    }
-
-    /// Moves the overlays with a deletion.
-    pub(crate) fn shrink(&mut self, from: Pos, to: Pos)
-        requires { from ≤ to }
-        ensures { self.new ≡ map (slot_shrunk from to) self.old }
-    {
-        shrink_slots(&mut self.slots, from, to);
-        shrink_bounds(&mut self.index.bounds, from, to);
+        move_slots(&mut self.slots, edit);
+        move_bounds(&mut self.index.bounds, edit);
     }
 }

@@ -1,9 +1,9 @@
 -- What is kept of a stretch, character by character and part by part.
-use Rattle.std.proofs.Common.{◌≡◌, ℕ, zero, suc, ◌+◌, ◌-◌, ◌<◌, ltb, length, get_or, Some, None, arith, Bool, true, false, not, ◌&&◌, ◌||◌, cond, List, [], ◌∷◌, ◌++◌, refl, sym, ap, ◌∙◌}
+use Rattle.std.proofs.Common.{◌≡◌, ℕ, zero, suc, ◌+◌, ◌-◌, ◌<◌, ◌==◌, ltb, length, get_or, Some, None, arith, Bool, true, false, not, ◌&&◌, ◌||◌, cond, List, [], ◌∷◌, ◌++◌, refl, sym, ap, ◌∙◌}
 use Rattle.std.specs.Prelude.{count_by}
 use Rattle.std.specs.List.{list_all, list_any, position, position_or_len, suffix_len}
 use Rattle.std.proofs.lemmas.List.Sums.{sum_by-cons, position_or_len_is, suffix_len_is, prefix_len-le-length, suffix_len-le-length}
-use Rattle.std.proofs.lemmas.Bool.{ltb-false}
+use Rattle.std.proofs.lemmas.Bool.{ltb-false, ne_eqb}
 use Rattle.rd_lanes.specs.Kernels.{last_position}
 use Rattle.rd_text.specs.Texts.{is_newline, is_blank}
 use Rattle.rd_text.specs.Stretches.{opens, closes, separated, summary}
@@ -63,21 +63,17 @@ pub right : (a b : Bool) → (a || b) ≡ false → b ≡ false
 right true b e = absurd (cc)
 right false b e = e
 
-unset : (b : Bool) → ◌≡◌ {A = ℕ} (cond b 1 0) 0 → b ≡ false
-unset true h = absurd (omega (arith, h))
-unset false h = refl
+-- what is counted nowhere
+counted : (first : Bool) (n : ℕ) (any : Bool) → (n == 0) ≡ not any → (cond first 1 0 + n == 0) ≡ not (first || any)
+counted true n any e = ne_eqb (1 + n) 0 (λ h. absurd (omega arith))
+counted false n any e = (let z : 0 + n ≡ n = omega arith in ap (λ (m : ℕ). m == 0) z) ∙ e
 
--- what is counted and seen nowhere
-pub none_counted : (p : ℕ → Bool) (xs : List ℕ) (k : ℕ) → count_by p xs ≡ 0 → k < length xs → p (get_or xs k 0) ≡ false
-none_counted p [] k e less = absurd (omega arith)
-none_counted p (x ∷ xs) zero e less =
-    let sum : count_by p (x ∷ xs) ≡ cond (p x) 1 0 + count_by p xs = sum_by-cons (λ y. cond (p y) 1 0) x xs in
-    let here : ◌≡◌ {A = ℕ} (cond (p x) 1 0) 0 = omega arith in
-    unset (p x) here
-none_counted p (x ∷ xs) (suc k) e less =
-    let sum : count_by p (x ∷ xs) ≡ cond (p x) 1 0 + count_by p xs = sum_by-cons (λ y. cond (p y) 1 0) x xs in
-    none_counted p xs k (omega arith) (omega arith)
+pub none_counted : (p : ℕ → Bool) (xs : List ℕ) → (count_by p xs == 0) ≡ not (list_any p xs)
+none_counted p [] = refl
+none_counted p (x ∷ xs) =
+    ap (λ (n : ℕ). n == 0) (sum_by-cons (λ y. cond (p y) 1 0) x xs) ∙ counted (p x) (count_by p xs) (list_any p xs) (none_counted p xs)
 
+-- what is seen nowhere
 pub none_seen : (p : ℕ → Bool) (xs : List ℕ) (k : ℕ) → list_any p xs ≡ false → k < length xs → p (get_or xs k 0) ≡ false
 none_seen p [] k e less = absurd (omega arith)
 none_seen p (x ∷ xs) zero e less = left (p x) (list_any p xs) e

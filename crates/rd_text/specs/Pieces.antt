@@ -1,8 +1,10 @@
 -- Parts of a text that lie together in memory, and what searches by them find.
-use Rattle.std.specs.Prelude.{◌≡◌, ℕ, ◌+◌, ◌-◌, ◌<◌, ◌≤◌, true, false, Option, IfSome, List, ◌++◌, length, slice_index, slice_range}
-use Rattle.rd_text.specs.Texts.{is_newline}
+use Rattle.std.specs.Prelude.{◌≡◌, ℕ, ◌+◌, ◌-◌, ◌<◌, ◌≤◌, Bool, true, false, Option, IfSome, List, ◌++◌, length, slice_index, slice_range}
+use Rattle.rd_text.specs.Texts.{is_newline, is_ink}
 use Rattle.rd_text.specs.Stretches.{summary, opens, separated}
 use Rattle.rd_text.specs.declared.stretch.Stretch.{Stretch}
+use Rattle.rd_text.specs.declared.lines.Sought.{Sought}
+use Rattle.rd_text.specs.declared.lines.Sought.TheVariants.{Newline, Ink}
 
 -- a part of a stretch at most, and what is kept of it, where it is a whole stretch
 pub record IsPiece (codes : List ℕ) (known : Option Stretch) : Type 0 where
@@ -19,6 +21,11 @@ pub record IsLastPiece (text : List ℕ) (from to : ℕ) (piece : List ℕ) : Ty
   pub some : 0 < length piece
   pub fits : from + length piece ≤ to
   pub same : slice_range text from to ≡ slice_range text from (to - length piece) ++ piece
+
+-- whether a character is what a search looks for
+abbrev pub is_sought : Sought → ℕ → Bool
+is_sought Newline c = is_newline c
+is_sought Ink c = is_ink c
 
 -- where a search back along lines stops: no line of blanks alone lies behind it between two newlines, and before it stands
 -- a newline with such a line behind it, or it is where the search ends

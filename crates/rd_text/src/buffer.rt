@@ -6,6 +6,7 @@ ghost use Rattle.rd_text.specs.Answers.{Inserts, Deletes, Narrows};
 
 use crate::fault::TextFault;
 use crate::gap::{GapText, MOST};
+use crate::lines::Sought;
 use rd_base::{Ch, Memory, Pos};
 use std::alloc::Global;
 use std::marker::Model;
@@ -155,7 +156,7 @@ impl Buffer {
     {
         pos - self
             .chars
-            .after_newline(self.begin as usize - 1, pos as usize - 1) as u32
+            .after_last(Sought::Newline, self.begin as usize - 1, pos as usize - 1) as u32
     }
 
     /// The number of a position's line in the accessible range, from 1: one more than the newlines before the position.
@@ -176,7 +177,7 @@ impl Buffer {
     {
         pos - self
             .chars
-            .after_ink(self.begin as usize - 1, pos as usize - 1) as u32
+            .after_last(Sought::Ink, self.begin as usize - 1, pos as usize - 1) as u32
     }
 
     /// Where the paragraph of a position begins: right behind the last line of only spaces, tabs and form feeds that ends
@@ -192,7 +193,7 @@ impl Buffer {
         if end == to {
             return at as u32 + 1;
         }
-        if self.chars.after_ink(at, end) < end - at {
+        if self.chars.after_last(Sought::Ink, at, end) < end - at {
             return at as u32 + 1;
         }
         end as u32 + 2

@@ -2,8 +2,18 @@
 ghost use Rattle.std.specs.Prelude.{◌≡◌, ◌≤◌, not, length};
 ghost use Rattle.std.specs.List.{count_by, position_or_len, suffix_len};
 ghost use Rattle.rd_text.specs.Texts.{is_newline, is_ink};
+ghost use Rattle.rd_text.specs.Pieces.{is_sought};
 
 use crate::stretch::{NEWLINE, is_blank};
+
+/// What a search looks for.
+#[derive(Clone, Copy)]
+pub(crate) enum Sought {
+    /// A newline.
+    Newline,
+    /// A character that is neither newline nor blank.
+    Ink,
+}
 
 /// How many codes stand before the first newline, and all of them where there is none.
 pub(crate) fn before_first(codes: &[u32]) -> usize
@@ -16,8 +26,19 @@ pub(crate) fn before_first(codes: &[u32]) -> usize
     }
 }
 
+/// How many codes stand behind the last one that is sought, and all of them where there is none.
+pub(crate) fn after_last(codes: &[u32], sought: Sought) -> usize
+    ensures value { result ≡ suffix_len (λ c. not (is_sought sought c)) codes.now }
+    ensures bound { result ≤ length codes.now }
+{
+    match sought {
+        Sought::Newline => after_newline(codes),
+        Sought::Ink => after_ink(codes),
+    }
+}
+
 /// How many codes stand behind the last newline, and all of them where there is none.
-pub(crate) fn after_last(codes: &[u32]) -> usize
+fn after_newline(codes: &[u32]) -> usize
     ensures value { result ≡ suffix_len (λ c. not (is_newline c)) codes.now }
     ensures bound { result ≤ length codes.now }
 {
@@ -28,7 +49,7 @@ pub(crate) fn after_last(codes: &[u32]) -> usize
 }
 
 /// How many codes stand behind the last that is neither newline nor blank, and all of them where there is none.
-pub(crate) fn after_ink(codes: &[u32]) -> usize
+fn after_ink(codes: &[u32]) -> usize
     ensures value { result ≡ suffix_len (λ c. not (is_ink c)) codes.now }
     ensures bound { result ≤ length codes.now }
 {
@@ -43,7 +64,7 @@ pub(crate) fn after_ink(codes: &[u32]) -> usize
 }
 
 /// A character that is neither newline nor blank.
-pub(crate) fn is_ink(code: u32) -> bool
+fn is_ink(code: u32) -> bool
     ensures { result ≡ is_ink code }
 {
     !(code == NEWLINE || is_blank(code))

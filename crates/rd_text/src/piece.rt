@@ -1,11 +1,11 @@
 //! A part of a text that lies together in memory.
 ghost use Rattle.std.specs.Prelude.{◌≡◌, ◌≤◌, not, length};
 ghost use Rattle.std.specs.List.{count_by, position_or_len, suffix_len};
-ghost use Rattle.rd_text.specs.Texts.{is_newline, is_ink};
+ghost use Rattle.rd_text.specs.Texts.{is_newline};
 ghost use Rattle.rd_text.specs.Stretches.{summary};
-ghost use Rattle.rd_text.specs.Pieces.{IsPiece};
+ghost use Rattle.rd_text.specs.Pieces.{IsPiece, is_sought};
 
-use crate::lines::{after_ink, after_last, before_first};
+use crate::lines::{Sought, after_last, before_first};
 use crate::stretch::{NEWLINE, Stretch};
 
 /// A part of a text that lies together in memory, of at most 1,024 characters.
@@ -32,20 +32,20 @@ impl<'a> Piece<'a> {
         ensures bound { result ≤ length self.now.codes.now }
     {
         match self.known {
-            Some(stretch) if stretch.newlines == 0 => self.codes.len(),
+            Some(stretch) if stretch.lacks(Sought::Newline) => self.codes.len(),
             _ => before_first(self.codes),
         }
     }
 
-    /// How many characters stand behind the last newline, and all of them where there is none.
-    pub(crate) fn after_newline(&self) -> usize
+    /// How many characters stand behind the last that is sought, and all of them where there is none.
+    pub(crate) fn after_last(&self, sought: Sought) -> usize
         requires { IsPiece self.now.codes.now self.now.known }
-        ensures value { result ≡ suffix_len (λ c. not (is_newline c)) self.now.codes.now }
+        ensures value { result ≡ suffix_len (λ c. not (is_sought sought c)) self.now.codes.now }
         ensures bound { result ≤ length self.now.codes.now }
     {
         match self.known {
-            Some(stretch) if stretch.newlines == 0 => self.codes.len(),
-            _ => after_last(self.codes),
+            Some(stretch) if stretch.lacks(sought) => self.codes.len(),
+            _ => after_last(self.codes, sought),
         }
     }
 
@@ -58,18 +58,6 @@ impl<'a> Piece<'a> {
         match self.known {
             Some(stretch) => stretch.newlines,
             None => rd_lanes::count(self.codes, NEWLINE) as u32,
-        }
-    }
-
-    /// How many characters stand behind the last that is neither newline nor blank, and all of them where there is none.
-    pub(crate) fn after_ink(&self) -> usize
-        requires { IsPiece self.now.codes.now self.now.known }
-        ensures value { result ≡ suffix_len (λ c. not (is_ink c)) self.now.codes.now }
-        ensures bound { result ≤ length self.now.codes.now }
-    {
-        match self.known {
-            Some(stretch) if !stretch.inked => self.codes.len(),
-            _ => after_ink(self.codes),
         }
     }
 

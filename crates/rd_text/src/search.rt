@@ -1,11 +1,12 @@
 //! Searches in a text that pass over its stretches.
 ghost use Rattle.std.specs.Prelude.{◌≡◌, ◌+◌, ◌*◌, ◌/◌, ◌-◌, ◌<◌, ◌≤◌, not, length, slice_range};
 ghost use Rattle.std.specs.List.{count_by, position_or_len, suffix_len};
-ghost use Rattle.rd_text.specs.Texts.{is_newline, is_ink};
+ghost use Rattle.rd_text.specs.Texts.{is_newline};
 ghost use Rattle.rd_text.specs.Gaps.{text_of, IsGapText, AreSummed};
-ghost use Rattle.rd_text.specs.Pieces.{IsPiece, IsFirstPiece, IsLastPiece, IsOpening};
+ghost use Rattle.rd_text.specs.Pieces.{IsPiece, IsFirstPiece, IsLastPiece, IsOpening, is_sought};
 
 use crate::gap::{GapText, STRETCH};
+use crate::lines::Sought;
 use crate::opening::last_opening;
 use crate::piece::Piece;
 use crate::stretch::Stretch;
@@ -32,38 +33,18 @@ impl GapText {
         at - from
     }
 
-    /// How many characters stand up to one index behind the last newline, and all from another index on where there is none.
-    pub(crate) fn after_newline(&self, from: usize, to: usize) -> usize
+    /// How many characters stand up to one index behind the last that is sought, and all from another index on where there is none.
+    pub(crate) fn after_last(&self, sought: Sought, from: usize, to: usize) -> usize
         requires right { IsGapText self.now }
         requires order { from ≤ to }
         requires last { to ≤ length (text_of self.now) }
-        ensures value { result ≡ suffix_len (λ c. not (is_newline c)) (slice_range (text_of self.now) from to) }
+        ensures value { result ≡ suffix_len (λ c. not (is_sought sought c)) (slice_range (text_of self.now) from to) }
         ensures bound { from + result ≤ to }
     {
         let mut at = to;
         'pieces: while from < at {
             let piece = self.last_piece(from, at);
-            let after = piece.after_newline();
-            if after < piece.len() {
-                return to - at + after;
-            }
-            at -= after;
-        }
-        to - at
-    }
-
-    /// The same for the last character that is neither newline nor blank.
-    pub(crate) fn after_ink(&self, from: usize, to: usize) -> usize
-        requires right { IsGapText self.now }
-        requires order { from ≤ to }
-        requires last { to ≤ length (text_of self.now) }
-        ensures value { result ≡ suffix_len (λ c. not (is_ink c)) (slice_range (text_of self.now) from to) }
-        ensures bound { from + result ≤ to }
-    {
-        let mut at = to;
-        'pieces: while from < at {
-            let piece = self.last_piece(from, at);
-            let after = piece.after_ink();
+            let after = piece.after_last(sought);
             if after < piece.len() {
                 return to - at + after;
             }

@@ -1,7 +1,11 @@
 //! What is kept of a stretch of a text.
-ghost use Rattle.std.specs.Prelude.{◌≡◌, ◌+◌, ◌<◌, ◌&&◌, ◌||◌, ◌∷◌, ◌++◌, List, ℕ, [], length};
+ghost use Rattle.std.specs.Prelude.{◌≡◌, ◌+◌, ◌<◌, ◌&&◌, ◌||◌, not, ◌∷◌, ◌++◌, List, ℕ, [], length};
+ghost use Rattle.std.specs.List.{list_any};
 ghost use Rattle.rd_text.specs.Texts.{is_newline, is_blank, is_ink};
 ghost use Rattle.rd_text.specs.Stretches.{summary, opens};
+ghost use Rattle.rd_text.specs.Pieces.{is_sought};
+
+use crate::lines::Sought;
 
 /// The code of the character that ends a line.
 pub(crate) const NEWLINE: u32 = 10;
@@ -50,6 +54,16 @@ impl Stretch {
             stretch = stretch.behind(codes[at]);
         }
         stretch
+    }
+
+    /// Whether no character is one that is sought.
+    pub(crate) fn lacks(&self, sought: Sought) -> bool
+        ensures { (codes : List ℕ) → self.now ≡ summary codes → result ≡ not (list_any (is_sought sought) codes) }
+    {
+        match sought {
+            Sought::Newline => self.newlines == 0,
+            Sought::Ink => !self.inked,
+        }
     }
 
     /// Whether there is a whole line of blanks alone, or one that ends in what stands behind, where that begins with blanks

@@ -32,8 +32,8 @@ returns-then-end-to c =
     subst (λ (x : TextValue). IsParagraphStart x c.args.pos (c.opening-at.result + 1)) v
     (start_no_newline t c.args.pos c.opening-at.result (is_text s.chars s.begin s.end c.self.invariant) (omega arith) (omega arith) c.opening-at.ensures (omega arith))
 
-pub returns-then-after_ink-end : goal.returns-then-after_ink-end
-returns-then-after_ink-end c =
+pub returns-then-after_last-end : goal.returns-then-after_last-end
+returns-then-after_last-end c =
     let s = c.self.inside in
     let v = c.self.view_is in
     let t : TextValue = record { text = text_of s.chars; begin = s.begin; end = s.end } in
@@ -43,9 +43,9 @@ returns-then-after_ink-end c =
     let high = c.requires.1 in
     let value = c.before_newline.ensures.value in
     let bound = c.before_newline.ensures.bound in
-    let line : c.after_ink.result ≡ suffix_len (λ x. not (is_ink x)) (slice_range t.text c.opening-at.result (c.opening-at.result + position_or_len is_newline (slice_range t.text c.opening-at.result (c.args.pos - 1))))
-    = c.after_ink.ensures.value ∙ ap (λ (n : ℕ). suffix_len (λ x. not (is_ink x)) (slice_range t.text c.opening-at.result (c.opening-at.result + n))) value in
-    let ink = c.if-after_ink-end.true in
+    let line : c.after_last.result ≡ suffix_len (λ x. not (is_ink x)) (slice_range t.text c.opening-at.result (c.opening-at.result + position_or_len is_newline (slice_range t.text c.opening-at.result (c.args.pos - 1))))
+    = c.after_last.ensures.value ∙ ap (λ (n : ℕ). suffix_len (λ x. not (is_ink x)) (slice_range t.text c.opening-at.result (c.opening-at.result + n))) value in
+    let ink = c.if-after_last-end.true in
     let apart = c.if-end-to.false in
     subst (λ (x : TextValue). IsParagraphStart x c.args.pos (c.opening-at.result + 1)) v
     (start_ink t c.args.pos c.opening-at.result (is_text s.chars s.begin s.end c.self.invariant) (omega arith) (omega arith) c.opening-at.ensures (omega arith) (omega arith))
@@ -61,9 +61,9 @@ returns c =
     let high = c.requires.1 in
     let value = c.before_newline.ensures.value in
     let bound = c.before_newline.ensures.bound in
-    let line : c.after_ink.result ≡ suffix_len (λ x. not (is_ink x)) (slice_range t.text c.opening-at.result (c.opening-at.result + position_or_len is_newline (slice_range t.text c.opening-at.result (c.args.pos - 1))))
-    = c.after_ink.ensures.value ∙ ap (λ (n : ℕ). suffix_len (λ x. not (is_ink x)) (slice_range t.text c.opening-at.result (c.opening-at.result + n))) value in
-    let whole = c.if-after_ink-end.false in
+    let line : c.after_last.result ≡ suffix_len (λ x. not (is_ink x)) (slice_range t.text c.opening-at.result (c.opening-at.result + position_or_len is_newline (slice_range t.text c.opening-at.result (c.args.pos - 1))))
+    = c.after_last.ensures.value ∙ ap (λ (n : ℕ). suffix_len (λ x. not (is_ink x)) (slice_range t.text c.opening-at.result (c.opening-at.result + n))) value in
+    let whole = c.if-after_last-end.false in
     let apart = c.if-end-to.false in
     subst (λ (x : TextValue). IsParagraphStart x c.args.pos (c.opening-at.result + c.before_newline.result + 2)) v
     (subst (λ (n : ℕ). IsParagraphStart t c.args.pos (c.opening-at.result + n + 2)) (sym value)

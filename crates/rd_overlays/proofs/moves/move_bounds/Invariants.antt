@@ -1,7 +1,7 @@
 use Rattle.std.proofs.Common.{◌≡◌, ℕ, ◌<◌, ◌≤◌, length, drop, map}
 use Rattle.std.specs.Prelude.{slice_get}
-use Rattle.rd_overlays.specs.Bounds.{bounds_shrunk}
-use Rattle.rd_overlays.proofs.moves.shrink_bounds.Given as goal
+use Rattle.rd_overlays.specs.Moves.{bounds_moved}
+use Rattle.rd_overlays.proofs.moves.move_bounds.Given as goal
 
 -- those from a number on have moved, and those before it stand as they stood
 abbrev pub invariant-loop-i : goal.invariant-loop-i
@@ -9,7 +9,7 @@ invariant-loop-i l = record {
   within : l.i ≤ length l.bounds;
   size : length l.bounds ≡ length l.initial.bounds;
   front : (k : ℕ) → k < l.i → slice_get l.bounds k ≡ slice_get l.initial.bounds k;
-  back : drop l.i l.bounds ≡ map (bounds_shrunk l.from l.to) (drop l.i l.initial.bounds);
+  back : drop l.i l.bounds ≡ map (bounds_moved l.edit) (drop l.i l.initial.bounds);
 }
 
 abbrev pub decreases-loop-i : goal.decreases-loop-i

@@ -1,21 +1,21 @@
 use Rattle.std.proofs.Common.{◌≡◌, ◌-◌, not, length, ap, sym, arith, ℕ}
 use Rattle.std.specs.Prelude.{slice_range}
 use Rattle.std.specs.List.{suffix_len}
-use Rattle.rd_text.specs.Texts.{is_ink}
 use Rattle.rd_text.specs.Gaps.{text_of}
+use Rattle.rd_text.specs.Pieces.{is_sought}
 use Rattle.rd_text.proofs.Ranges.{suffix_goes, suffix_stops, range_none}
-use Rattle.rd_text.proofs.gap.GapText.after_ink.Goals as goal
+use Rattle.rd_text.proofs.gap.GapText.after_last.Goals as goal
 
 pub returns-then-after-len-clause-value : goal.returns-then-after-len-clause-value
 returns-then-after-len-clause-value c =
     let inv = c.pieces.invariant in
     let part = c.last_piece-piece.ensures.part in
-    let value = c.after_ink-after.ensures.value in
+    let value = c.after_last-after.ensures.value in
     let size = c.len.ensures in
     let less = c.if-after-len.true in
     let high = inv.high in
     let rest = inv.rest in
-    let e = suffix_stops (λ x. not (is_ink x)) (text_of c.args.self.now) c.args.from c.pieces.at c.last_piece-piece.result.codes.now part (omega arith) in
+    let e = suffix_stops (λ x. not (is_sought c.args.sought x)) (text_of c.args.self.now) c.args.from c.pieces.at c.last_piece-piece.result.codes.now part (omega arith) in
     omega arith
 
 pub pieces-preserved : goal.pieces-preserved
@@ -24,19 +24,19 @@ pieces-preserved c =
     let text = text_of c.args.self.now in
     let piece = c.last_piece-piece.result.codes.now in
     let part = c.last_piece-piece.ensures.part in
-    let value = c.after_ink-after.ensures.value in
-    let bound = c.after_ink-after.ensures.bound in
+    let value = c.after_last-after.ensures.value in
+    let bound = c.after_last-after.ensures.bound in
     let size = c.len.ensures in
     let all = c.if-after-len.false in
     let low = inv.low in
     let high = inv.high in
     let rest = inv.rest in
     let fits = part.fits in
-    let n = c.after_ink-after.result in
+    let n = c.after_last-after.result in
     let whole : n ≡ length piece = omega arith in
-    let e = suffix_goes (λ x. not (is_ink x)) text c.args.from c.pieces.at piece part (omega arith) in
-    let next : suffix_len (λ x. not (is_ink x)) (slice_range text c.args.from (c.pieces.at - length piece)) ≡ suffix_len (λ x. not (is_ink x)) (slice_range text c.args.from (c.pieces.at - n))
-    = ap (λ (k : ℕ). suffix_len (λ x. not (is_ink x)) (slice_range text c.args.from (c.pieces.at - k))) (sym whole) in
+    let e = suffix_goes (λ x. not (is_sought c.args.sought x)) text c.args.from c.pieces.at piece part (omega arith) in
+    let next : suffix_len (λ x. not (is_sought c.args.sought x)) (slice_range text c.args.from (c.pieces.at - length piece)) ≡ suffix_len (λ x. not (is_sought c.args.sought x)) (slice_range text c.args.from (c.pieces.at - n))
+    = ap (λ (k : ℕ). suffix_len (λ x. not (is_sought c.args.sought x)) (slice_range text c.args.from (c.pieces.at - k))) (sym whole) in
     record {
       low = omega arith;
       high = omega arith;
@@ -48,5 +48,5 @@ returns-clause-value c =
     let inv = c.pieces.invariant in
     let stop = c.pieces-test.false in
     let rest = inv.rest in
-    let none = ap (suffix_len (λ x. not (is_ink x))) (range_none (text_of c.args.self.now) c.args.from c.pieces.at stop) in
+    let none = ap (suffix_len (λ x. not (is_sought c.args.sought x))) (range_none (text_of c.args.self.now) c.args.from c.pieces.at stop) in
     omega arith
