@@ -42,7 +42,7 @@ fn print_ended<K: Sink>(
     ensures first { IfOk result (λ now. now.first ≡ (if same_face next run.face then run.first else column)) }
     ensures face { IfOk result (λ now. now.face ≡ (if same_face next run.face then run.face else next)) }
 {
-    if same_face(next, run.face) {
+    if next.is_same(run.face) {
         return Ok(run);
     }
     print_run(sink, run.first, column, run.face)?;
@@ -62,18 +62,11 @@ fn face_after(before: Face, cell: &Cell) -> Face
     }
 }
 
-/// Whether two faces are the same.
-fn same_face(face: Face, other: Face) -> bool
-    ensures { result ≡ same_face face other }
-{
-    face == other
-}
-
 /// Writes the run from a column on, of which `end` is the column behind, unless its face is plain.
 fn print_run<K: Sink>(sink: &mut K, first: usize, end: usize, face: Face) -> Result<(), Failed>
     ensures { Prints (K.written sink.old) (K.written sink.new) (K.faults sink.old) (K.faults sink.new) (run_text first end face) result }
 {
-    if same_face(face, Face::PLAIN) {
+    if face.is_same(Face::PLAIN) {
         return Ok(());
     }
     let parts = [

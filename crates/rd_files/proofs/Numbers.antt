@@ -1,5 +1,5 @@
 -- The number of a bad line is at most one more than the bytes of its file.
-use Rattle.std.proofs.Common.{◌≡◌, ◌+◌, ◌<◌, ◌≤◌, ◌^◌, ℕ, suc, ◌==◌, Bool, true, false, List, [], ◌∷◌, ◌++◌, length, count_by, Option, None, Some, Result, Ok, Err, arith, refl, ap}
+use Rattle.std.proofs.Common.{◌+◌, ◌<◌, ◌≤◌, ◌^◌, ℕ, suc, ◌==◌, Bool, true, false, List, [], ◌∷◌, length, Option, None, Some, Result, Ok, Err, arith}
 use Rattle.std.specs.Prelude.{if◌then◌else◌, nat_lt, slice_index_or}
 use Rattle.std.specs.List.{slice_split}
 use Rattle.std.specs.Option.{option_to_list}
@@ -9,9 +9,7 @@ use Rattle.rd_base.specs.declared.class.Class.{Class}
 use Rattle.rd_ucd.specs.declared.fault.UcdFault.{UcdFault}
 use Rattle.rd_ucd.specs.declared.fault.UcdFault.TheVariants as ucd
 use Rattle.rd_ucd.specs.declared.spans.Span.{Span}
-use Rattle.rd_ucd.specs.declared.spans.Pair.{Pair}
 use Rattle.rd_ucd.specs.declared.spans.Bracket.{Bracket}
-use Rattle.rd_ucd.specs.declared.spans.BracketEntry.{BracketEntry}
 use Rattle.rd_ucd.specs.declared.listing.Codes.{Codes}
 use Rattle.rd_ucd.specs.declared.entries.Mark.{Mark}
 use Rattle.rd_ucd.specs.declared.entries.Mark.TheVariants.{Alone, First, Last}
@@ -21,8 +19,8 @@ use Rattle.rd_ucd.specs.Codes.{code_of}
 use Rattle.rd_ucd.specs.Pieces.{chomped}
 use Rattle.rd_ucd.specs.Names.{named}
 use Rattle.rd_ucd.specs.Results.{Answers, behind}
-use Rattle.rd_ucd.specs.Lines.{entries_in, fields_of, lines_of, numbered}
-use Rattle.rd_ucd.specs.ClassFile.{classes_of, closes, coded, ended, entry_of, fault_of, is_empty_line, mark_of, opened_by, span_by, spans_from, unless}
+use Rattle.rd_ucd.specs.Lines.{entries_in, fields_of, numbered}
+use Rattle.rd_ucd.specs.ClassFile.{classes_of, closes, coded, ended, entry_of, is_empty_line, mark_of, opened_by, span_by, spans_from, unless}
 use Rattle.rd_ucd.specs.ListFile.{ascending_from, both, codes_of, counting, is_blank_line, listed_in, trimmed_field}
 use Rattle.rd_ucd.specs.MirrorFile.{mirrors_of, pair_by, pair_of}
 use Rattle.rd_ucd.specs.BracketFile.{bracket_by, bracket_named, bracket_of, bracket_with, brackets_of}

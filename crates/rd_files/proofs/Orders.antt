@@ -2,7 +2,7 @@
 use Rattle.std.proofs.Common.{◌≡◌, ◌<◌, ◌≤◌, ℕ, zero, suc, List, [], ◌∷◌, length, Option, None, Some, Result, Ok, Err, arith, refl, ap, subst, inl, inr}
 use Rattle.std.specs.Prelude.{IfSome}
 use Rattle.std.proofs.lemmas.Bool.{lt-ltb}
-use Rattle.rd_io.specs.Devices.{Rose}
+use Rattle.rd_io.proofs.Bytes.{rose-after}
 use Rattle.rd_ucd.specs.declared.fault.UcdFault.{UcdFault}
 use Rattle.rd_ucd.specs.declared.spans.Span.{Span}
 use Rattle.rd_ucd.specs.declared.spans.Pair.{Pair}
@@ -59,11 +59,6 @@ module _ (told : List ℕ → Option (List ℕ)) (names : Named) where
       → GivesData told names (Err fault)
   bad_brackets classes mirrors fault c m b = (c.0, m.0, b.0, c.1, m.1, b.1, rw (c.2, m.2, b.2) refl)
 
--- a count that rose in a part of the call rose in the call
-rose-later : (before middle after : ℕ) → before ≤ middle → Rose middle after → Rose before after
-rose-later before middle after low (inl h) = inl (omega arith)
-rose-later before middle after low (inr h) = inr h
-
 same_brackets : (told now : List ℕ → Option (List ℕ)) (name : Option (List ℕ)) → ((file : List ℕ) → now file ≡ told file)
     → told_or_empty now name ≡ told_or_empty told name
 same_brackets told now None same = refl
@@ -72,7 +67,7 @@ same_brackets told now (Some name) same = same name
 failed_later : (before middle after : List ℕ → ℕ) (name : Option (List ℕ)) → ((file : List ℕ) → before file ≤ middle file)
     → FailedAtSome middle after name → FailedAtSome before after name
 failed_later before middle after None low h = h
-failed_later before middle after (Some name) low h = rose-later (before name) (middle name) (after name) (low name) h
+failed_later before middle after (Some name) low h = rose-after (before name) (middle name) (after name) (low name) h
 
 module _ (told : List ℕ → Option (List ℕ)) (before : List ℕ → ℕ) (names : Named) where
   -- the class file ends it
@@ -89,7 +84,7 @@ module _ (told : List ℕ → Option (List ℕ)) (before : List ℕ → ℕ) (na
   stops_second now middle after classes (Bad fault) same low c h =
       bad_mirrors told names classes fault c (subst (λ (t : Option (List ℕ)). Gives mirrors_in t (Err fault)) (same names.mirror_file) h)
   stops_second now middle after classes Read same low c h =
-      inr (inl ((classes, c), rose-later (before names.mirror_file) (middle names.mirror_file) (after names.mirror_file) (low names.mirror_file) h))
+      inr (inl ((classes, c), rose-after (before names.mirror_file) (middle names.mirror_file) (after names.mirror_file) (low names.mirror_file) h))
   stops_second now middle after classes Memory same low c h = tt
 
   -- both are good, and the bracket file ends it

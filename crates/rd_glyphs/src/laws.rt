@@ -1,5 +1,6 @@
 //! Laws of the definitions, for the layers above.
 ghost use Rattle.std.specs.Prelude.{ℕ, ◌≡◌, ◌≤◌, Bool, false, IsTrue, List, length, All, Option, IfSome};
+ghost use Rattle.rd_base.specs.declared.limits.TheConstants.{ENTRY_GLYPHS};
 ghost use Rattle.rd_base.specs.Cells.{HasColours, IsColoured};
 ghost use Rattle.rd_base.specs.Chars.{is_code};
 ghost use Rattle.rd_base.specs.Elements.{AreSound, columns_at_most};
@@ -23,7 +24,7 @@ pub fn elements_are_sound()
     ensures measured { (parts : PartValues) (ch : ℕ) (odd : Bool) (face : Attributes) (origin : Origin) → AreSoundParts parts → IsTrue (is_code ch) → AreMeasured (elements_of parts ch odd face origin) }
     ensures short { (parts : PartValues) (ch : ℕ) (odd : Bool) (face : Attributes) (origin : Origin) → AreSoundParts parts → IsTrue (is_code ch) → All (λ e. IsShort e.extent) (elements_of parts ch odd face origin) }
     ensures own { (parts : PartValues) (ch : ℕ) (odd : Bool) (face : Attributes) (origin : Origin) → AreSoundParts parts → IsTrue (is_code ch) → All (HasOrigin face origin) (elements_of parts ch odd face origin) }
-    ensures count { (parts : PartValues) (ch : ℕ) (odd : Bool) (face : Attributes) (origin : Origin) → AreSoundParts parts → IsTrue (is_code ch) → length (elements_of parts ch odd face origin) ≤ 16 }
+    ensures count { (parts : PartValues) (ch : ℕ) (odd : Bool) (face : Attributes) (origin : Origin) → AreSoundParts parts → IsTrue (is_code ch) → length (elements_of parts ch odd face origin) ≤ ENTRY_GLYPHS }
     ensures columns { (parts : PartValues) (ch : ℕ) (odd : Bool) (face : Attributes) (origin : Origin) → AreSoundParts parts → IsTrue (is_code ch) → columns_at_most (elements_of parts ch odd face origin) ≤ 48 }
     ensures some { (parts : PartValues) (ch : ℕ) (odd : Bool) (face : Attributes) (origin : Origin) → is_empty_entry (entry_of parts.table ch) ≡ false → 1 ≤ length (elements_of parts ch odd face origin) }
 {}

@@ -1,6 +1,6 @@
 //! The elements of a character.
 ghost use Rattle.std.specs.Prelude.{◌≡◌, ◌≤◌, ◌∷◌, [], map, length, All, None, IsTrue, IsOk, IfOk};
-ghost use Rattle.rd_base.specs.declared.limits.TheConstants.{TAB_COLUMNS};
+ghost use Rattle.rd_base.specs.declared.limits.TheConstants.{ENTRY_GLYPHS, TAB_COLUMNS};
 ghost use Rattle.rd_base.specs.Elements.{AreSound};
 ghost use Rattle.rd_base.specs.Glyphs.{IsMeasuredLook, AreMeasured};
 ghost use Rattle.rd_objects.specs.Tables.{is_glyph_text};
@@ -131,7 +131,7 @@ pub fn expand(
     ensures sound { IfOk result (λ elements. AreSound elements.items) }
     ensures columns { IfOk result (λ elements. All (λ e. IsShort e.extent) elements.items) }
     ensures measured { IfOk result (λ elements. AreMeasured elements.items) }
-    ensures count { IfOk result (λ elements. length elements.items ≤ 16) }
+    ensures count { IfOk result (λ elements. length elements.items ≤ ENTRY_GLYPHS) }
     ensures few { entry_of parts.now.table ch ≡ None → IfOk result (λ elements. length elements.items ≤ 4) }
     ensures inline { entry_of parts.now.table ch ≡ None → IsOk result }
 {
@@ -198,7 +198,7 @@ fn of_glyphs(
     ensures value { IfOk result (λ elements. elements.items ≡ glyph_elements face origin text.now) }
     ensures shape { IfOk result (λ elements. All IsShortElement elements.items) }
     ensures measured { IfOk result (λ elements. AreMeasured elements.items) }
-    ensures count { IfOk result (λ elements. length elements.items ≤ 16) }
+    ensures count { IfOk result (λ elements. length elements.items ≤ ENTRY_GLYPHS) }
 {
     let mut elements = SmallVec::new(alloc);
     for glyph in text {

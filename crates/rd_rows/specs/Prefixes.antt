@@ -1,5 +1,6 @@
 -- Prefixes, which stand before the elements of a line in its rows.
 use Rattle.std.specs.Prelude.{◌≡◌, ℕ, ◌+◌, ◌/◌, ◌≤◌, ◌&&◌, nat_le, not, Bool, true, false, if◌then◌else◌, IsTrue, List, [], ◌∷◌}
+use Rattle.rd_base.specs.declared.limits.TheConstants.{PREFIX_COLUMNS}
 use Rattle.rd_base.specs.declared.element.Element.{Element}
 use Rattle.rd_base.specs.declared.element.Look.{Look}
 use Rattle.rd_base.specs.declared.element.Look.TheVariants.{Glyph as Shown}
@@ -48,6 +49,6 @@ begins_none (p ∷ ps) = not p.first && begins_none ps
 -- a row can begin with these: they stand in at most 200 columns from the first on, and none ends the line or begins an item of it
 pub record IsLead (ps : List Placed) : Type 0 where
   pub stand : StandFrom 0 ps (columns_of ps)
-  pub short : columns_of ps ≤ 200
+  pub short : columns_of ps ≤ PREFIX_COLUMNS
   pub on : has_line_end ps ≡ false
   pub items : IsTrue (begins_none ps)

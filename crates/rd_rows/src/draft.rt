@@ -17,6 +17,7 @@ use crate::prefix::Prefix;
 use crate::row::Row;
 use crate::shape::Shape;
 use crate::spot::{Placed, Spot};
+use rd_base::limits::PREFIX_COLUMNS;
 use rd_base::{Cell, Element, Face, Glyph, ListOf, Look, Memory};
 use std::alloc::Global;
 
@@ -121,7 +122,7 @@ impl Draft {
     /// Places an element. Of a draft that lacked memory nothing is known.
     pub fn place(&mut self, shape: Shape, element: &Element) -> Result<(), Memory>
         requires column { self.old.spot.column + width_at_most element.now.extent < 2 ^ 63 }
-        requires used { self.old.spot.used ≤ self.old.spot.column + 200 }
+        requires used { self.old.spot.used ≤ self.old.spot.column + PREFIX_COLUMNS }
         ensures { OnOk result (Grows shape (placed_at shape self.old.spot element.now) self.old self.new) }
     {
         if self.placed == u64::MAX {

@@ -12,6 +12,7 @@ use crate::draft::{Break, Draft};
 use crate::prefix::Prefix;
 use crate::shape::Shape;
 use crate::spot::Spot;
+use rd_base::limits::PREFIX_COLUMNS;
 use rd_base::{Element, ListOf, Look, Memory};
 use std::alloc::Global;
 
@@ -57,7 +58,7 @@ impl Filling {
     /// Whether an element can stand in the row: the first of the line can in any case.
     pub fn has_room(&self, shape: Shape, element: &Element) -> bool
         requires column { self.now.draft.spot.column + width_at_most element.now.extent < 2 ^ 63 }
-        requires used { self.now.draft.spot.used ≤ self.now.draft.spot.column + 200 }
+        requires used { self.now.draft.spot.used ≤ self.now.draft.spot.column + PREFIX_COLUMNS }
         ensures { (lead : List Placed) (start : Spot) (xs : List Element) → IsFilling shape lead start xs self.now → result ≡ has_room shape xs (reached shape start xs) element.now }
     {
         self.empty || self.draft.spot.fits(shape, element)
@@ -66,7 +67,7 @@ impl Filling {
     /// Places an element. Of a row that lacked memory nothing is known.
     pub fn place(&mut self, shape: Shape, element: &Element) -> Result<(), Memory>
         requires column { self.old.draft.spot.column + width_at_most element.now.extent < 2 ^ 63 }
-        requires used { self.old.draft.spot.used ≤ self.old.draft.spot.column + 200 }
+        requires used { self.old.draft.spot.used ≤ self.old.draft.spot.column + PREFIX_COLUMNS }
         ensures { OnOk result ((lead : List Placed) (start : Spot) (xs : List Element) → IsFilling shape lead start xs self.old → IsFilling shape lead start (xs ++ element.now ∷ []) self.new) }
     {
         self.draft.place(shape, element)?;

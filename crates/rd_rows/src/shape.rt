@@ -1,7 +1,7 @@
 //! The shape of a window's rows.
 
 use rd_base::Wrap;
-use rd_base::limits::FRAME_COLUMNS;
+use rd_base::limits::{FRAME_COLUMNS, LEAST_TEXT_COLUMNS};
 use std::marker::Model;
 
 /// How the rows of a window are cut: its width in columns, what becomes of a longer line, and by how many columns the text
@@ -16,13 +16,13 @@ pub struct Shape {
 impl Model for Shape {
     ghost use Rattle.std.specs.Prelude.{ℕ, ◌≤◌};
     ghost use Rattle.rd_rows.specs.Shapes.{ShapeValues};
-    ghost use Rattle.rd_base.specs.declared.limits.TheConstants.{FRAME_COLUMNS};
+    ghost use Rattle.rd_base.specs.declared.limits.TheConstants.{FRAME_COLUMNS, LEAST_TEXT_COLUMNS};
 
     ghost Value = { ShapeValues };
 
     ghost view = { λ s. record { width = s.width; wrap = s.wrap; hscroll = s.hscroll } };
 
-    ghost invariant = { λ s. (10 ≤ s.width) × (s.width ≤ FRAME_COLUMNS) };
+    ghost invariant = { λ s. (LEAST_TEXT_COLUMNS ≤ s.width) × (s.width ≤ FRAME_COLUMNS) };
 
     ghost inverse = { λ v. record { width = v.width; wrap = v.wrap; hscroll = v.hscroll } };
 }

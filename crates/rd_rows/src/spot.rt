@@ -6,7 +6,7 @@ ghost use Rattle.rd_rows.specs.Rows.{first_seen};
 ghost use Rattle.rd_rows.specs.Shapes.{room, truncates, is_word};
 
 use crate::shape::Shape;
-use rd_base::limits::FRAME_COLUMNS;
+use rd_base::limits::{FRAME_COLUMNS, PREFIX_COLUMNS};
 use rd_base::{Element, Extent, Look, Wrap};
 
 /// Where the next element comes: the column of the line, which counts from the line's start or the last row end, the columns
@@ -139,7 +139,7 @@ impl Spot {
     /// Whether an element can stand in this row.
     pub fn fits(self, shape: Shape, element: &Element) -> bool
         requires column { self.column + width_at_most element.now.extent < 2 ^ 63 }
-        requires used { self.used ≤ self.column + 200 }
+        requires used { self.used ≤ self.column + PREFIX_COLUMNS }
         ensures { result ≡ fits shape self element.now }
     {
         if ends_row(element.look) || shape.truncates() {
@@ -191,7 +191,7 @@ impl Spot {
     /// Where the element behind that one comes.
     pub fn behind(self, placed: &Placed) -> Spot
         requires column { self.column + placed.now.columns < 2 ^ 63 }
-        requires used { self.used ≤ self.column + 200 }
+        requires used { self.used ≤ self.column + PREFIX_COLUMNS }
         ensures { result ≡ behind self placed.now }
     {
         Spot {

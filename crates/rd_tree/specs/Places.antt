@@ -1,6 +1,6 @@
 -- Where windows stand: what the laws of a window tree speak of.
 use Rattle.std.specs.Prelude.{ℕ, ◌+◌, ◌≤◌, Bool, false, if◌then◌else◌, nat_le, nat_lt, ◌==◌, ◌&&◌, ◌||◌, List, [], ◌∷◌, ◌++◌, Option, None, Some}
-use Rattle.rd_base.specs.declared.limits.TheConstants.{FRAME_COLUMNS, FRAME_ROWS}
+use Rattle.rd_base.specs.declared.limits.TheConstants.{FRAME_COLUMNS, FRAME_ROWS, LEAST_WINDOW_COLUMNS}
 use Rattle.rd_tree.specs.declared.rect.Rect.{Rect}
 use Rattle.rd_tree.specs.declared.placed.Placed.{Placed}
 use Rattle.rd_tree.specs.Windows.{Windows, Window, Split, columns_for, rows_for, first_part, second_part, holds, is_leaf_of}
@@ -37,7 +37,7 @@ StandsIn window rect = IsWithin window.rect rect × (columns_for window.margins 
 -- a rectangle that is told lies in another, which is at most 400 columns and 200 rows, and has 11 columns and 1 row at least
 abbrev pub LiesIn : Option Rect → Rect → Type 0
 LiesIn None whole = Unit {0}
-LiesIn (Some rect) whole = IsWithin rect whole × (11 ≤ rect.width) × (1 ≤ rect.height) × (whole.width ≤ FRAME_COLUMNS) × (whole.height ≤ FRAME_ROWS)
+LiesIn (Some rect) whole = IsWithin rect whole × (LEAST_WINDOW_COLUMNS ≤ rect.width) × (1 ≤ rect.height) × (whole.width ≤ FRAME_COLUMNS) × (whole.height ≤ FRAME_ROWS)
 
 -- the windows where others stand for the first that has a number
 abbrev pub in_place_of : ℕ → (Placed → List Placed) → List Placed → List Placed

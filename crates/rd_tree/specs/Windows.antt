@@ -1,6 +1,6 @@
 -- The windows of a frame: how they share its rectangle, what they need, and where each stands.
 use Rattle.std.specs.Prelude.{ℕ, ◌+◌, ◌-◌, ◌≤◌, max, Bool, true, false, if◌then◌else◌, nat_le, ◌==◌, ◌&&◌, ◌||◌, List, [], ◌∷◌, ◌++◌, Option, None, Some}
-use Rattle.rd_base.specs.declared.limits.TheConstants.{FRAME_COLUMNS, FRAME_ROWS}
+use Rattle.rd_base.specs.declared.limits.TheConstants.{FRAME_COLUMNS, FRAME_ROWS, LEAST_WINDOW_COLUMNS}
 use Rattle.rd_tree.specs.declared.rect.Rect.{Rect}
 use Rattle.rd_tree.specs.declared.side.Side.{Side}
 use Rattle.rd_tree.specs.declared.side.Side.TheVariants.{Below, Right}
@@ -14,7 +14,7 @@ pub data Windows : Type 0 where
 
 -- how many columns a window needs: 10 of text, 1 for a border, and those of its margins
 abbrev pub columns_for : ℕ → ℕ
-columns_for margins = 11 + margins
+columns_for margins = LEAST_WINDOW_COLUMNS + margins
 
 -- how many rows a window needs
 abbrev pub rows_for : Bool → ℕ

@@ -11,11 +11,11 @@ ghost use Rattle.rd_tree.specs.Calls.{Configuration, IsValid, opening, split_tre
 ghost use Rattle.rd_tree.specs.Compositions.{composed, cell_at, HasSize, FillTheirRectangles, IsHeld};
 ghost use Rattle.rd_tree.specs.Places.{lies_in, windows_with, one_if, AllHaveRoom, StandsIn, in_place_of, without, is_among, shared_place};
 
-use rd_base::limits::{FRAME_COLUMNS, FRAME_ROWS};
+use rd_base::limits::{FRAME_COLUMNS, FRAME_ROWS, LEAST_WINDOW_COLUMNS};
 
 /// The opening is a valid tree, and each call that is not refused leaves a valid tree valid. The call does nothing.
 pub fn calls_keep_trees()
-    ensures opening { (width height : ℕ) → 11 ≤ width → 1 ≤ height → width ≤ FRAME_COLUMNS → height ≤ FRAME_ROWS → IsValid (opening width height) }
+    ensures opening { (width height : ℕ) → LEAST_WINDOW_COLUMNS ≤ width → 1 ≤ height → width ≤ FRAME_COLUMNS → height ≤ FRAME_ROWS → IsValid (opening width height) }
     ensures split { (c d : Configuration) (window : ℕ) (side : Side) (size : ℕ) → IsValid c → split_tree c window side size ≡ Ok d → IsValid d }
     ensures remove { (c d : Configuration) (window : ℕ) → IsValid c → remove_tree c window ≡ Ok d → IsValid d }
     ensures resize { (c d : Configuration) (width height : ℕ) → width ≤ FRAME_COLUMNS → height ≤ FRAME_ROWS → IsValid c → resize_tree c width height ≡ Ok d → IsValid d }

@@ -5,10 +5,10 @@ ghost use Rattle.rd_tree.specs.Shapes.{shape};
 ghost use Rattle.rd_tree.specs.Compositions.{composed, row_at, FillTheirRectangles};
 
 use crate::panes::Panes;
-use crate::placed::{COLUMNS, Placed, rows_for};
+use crate::placed::{Placed, rows_for};
 use crate::rect::Rect;
 use crate::side::Side;
-use rd_base::limits::{FRAME_COLUMNS, FRAME_ROWS, WINDOWS};
+use rd_base::limits::{FRAME_COLUMNS, FRAME_ROWS, LEAST_WINDOW_COLUMNS, WINDOWS};
 use rd_base::{Cell, ListOf, Memory};
 use std::alloc::Global;
 use std::mem;
@@ -55,7 +55,7 @@ impl Node {
         ensures { result ≡ columns_needed (shape self.now) }
     {
         match self {
-            Node::Leaf { margins, .. } => COLUMNS + *margins,
+            Node::Leaf { margins, .. } => LEAST_WINDOW_COLUMNS + *margins,
             Node::Split {
                 side,
                 first,

@@ -4,9 +4,7 @@ ghost use Rattle.rd_tree.specs.Windows.{Window, Split, columns_for, rows_for, fi
 
 use crate::rect::Rect;
 use crate::side::Side;
-
-/// How many columns a window needs beside those of its margins: 10 of text and 1 for a border.
-pub(crate) const COLUMNS: u32 = 11;
+use rd_base::limits::LEAST_WINDOW_COLUMNS;
 
 /// A window that lives: its number, whether it shows a mode line, the columns of its margins, and its rectangle.
 #[derive(Clone, Copy, Debug, PartialEq, Eq)]
@@ -35,7 +33,7 @@ fn is_enough(mode: bool, margins: u32, columns: u32, rows: u32) -> bool
 fn takes_margins(margins: u32, columns: u32) -> bool
     ensures { result ≡ nat_le (columns_for margins) columns }
 {
-    COLUMNS <= columns && margins <= columns - COLUMNS
+    LEAST_WINDOW_COLUMNS <= columns && margins <= columns - LEAST_WINDOW_COLUMNS
 }
 
 impl Placed {

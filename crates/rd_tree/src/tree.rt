@@ -5,7 +5,7 @@ use crate::panes::Panes;
 use crate::placed::Placed;
 use crate::rect::Rect;
 use crate::side::Side;
-use rd_base::limits::{FRAME_COLUMNS, FRAME_ROWS, WINDOWS};
+use rd_base::limits::{FRAME_COLUMNS, FRAME_ROWS, LEAST_WINDOW_COLUMNS, WINDOWS};
 use rd_base::{Cell, ListOf, Memory};
 use std::alloc::Global;
 use std::marker::Model;
@@ -49,7 +49,7 @@ impl Tree {
 
     /// The window 0, without a mode line and margins, in so many columns and rows: 11 to 400 columns, and 1 to 200 rows.
     pub fn new(alloc: Global, width: u32, height: u32) -> Result<Tree, Memory>
-        requires wide { 11 ≤ width }
+        requires wide { LEAST_WINDOW_COLUMNS ≤ width }
         requires high { 1 ≤ height }
         requires narrow { width ≤ FRAME_COLUMNS }
         requires low { height ≤ FRAME_ROWS }

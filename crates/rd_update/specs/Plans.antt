@@ -50,7 +50,7 @@ abbrev pub IsRowOf : Option Picture → ℕ → ℕ → Type 0
 IsRowOf None width row = Unit {0}
 IsRowOf (Some current) width row = (row < length current.rows) × (width_of current.rows ≡ width)
 
--- at most 200 parts, each of which begins within the bytes
+-- at most as many parts as a frame has rows, each of which begins within the bytes
 pub record ArePartsOf (bytes : List ℕ) (parts : List ChangedRow) : Type 0 where
   pub few : length parts ≤ FRAME_ROWS
   pub each : All (λ part. part.start ≤ length bytes) parts

@@ -5,7 +5,7 @@ ghost use Rattle.rd_base.specs.Faces.{plain};
 ghost use Rattle.rd_base.specs.Chars.{encoded};
 ghost use Rattle.rd_update.specs.Updates.{move as move_bytes, text_of_glyph, renditions, number_if, parameter, dress, text_of_cell, face_of, text_by, pen_behind, row_bytes, first_difference as first_column, end_of_differences as end_column};
 
-use crate::span::{Columns, interval, same_face, used};
+use crate::span::{Columns, interval, used};
 use itoa::Buffer;
 use rd_base::{Cell, Face, Glyph, ListOf, Memory};
 
@@ -120,7 +120,7 @@ fn push_code(bytes: &mut ListOf<u8>, code: u32) -> Result<(), Memory>
 fn push_dress(bytes: &mut ListOf<u8>, pen: Face, face: Face) -> Result<(), Memory>
     ensures { OnOk result (bytes.new ≡ bytes.old ++ dress pen face) }
 {
-    if same_face(pen, face) {
+    if pen.is_same(face) {
         return Ok(());
     }
     bytes.extend_from_slice(b"\x1b[0")?;

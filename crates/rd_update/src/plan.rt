@@ -169,9 +169,9 @@ fn blank_cells(alloc: Global, width: u32) -> Result<ListOf<Cell>, Memory>
     Ok(cells)
 }
 
-/// So many of 400 blank cells.
+/// So many of the blank cells of the widest row.
 fn first(blanks: &[Cell], width: u32) -> &[Cell]
-    requires blanks { blanks.now ≡ blank_row 400 }
+    requires blanks { blanks.now ≡ blank_row FRAME_COLUMNS }
     requires width { width ≤ FRAME_COLUMNS }
     ensures { result.now ≡ blank_row width }
 {
@@ -314,7 +314,7 @@ fn with_blanks(target: Screen, from: u32) -> Screen
     requires { from ≤ length target.rows }
     ensures { result ≡ record { rows = take from target.rows ++ drop from (blank_like target.rows); row = 0; column = 0 } }
 {
-    let blanks = [Cell::Blank(Face::PLAIN); 400];
+    let blanks = [Cell::Blank(Face::PLAIN); FRAME_COLUMNS as usize];
     let mut after = target;
     let blank = first(&blanks, after.width());
     fill_from(&mut after, from, blank);

@@ -1,7 +1,7 @@
 //! Where two rows differ.
 ghost use Rattle.std.specs.Prelude.{◌≡◌, ◌+◌, ◌<◌, ◌≤◌, ◌||◌, All, IfOk, length, drop};
 ghost use Rattle.rd_base.specs.Cells.{IsSmall};
-ghost use Rattle.rd_base.specs.Equals.{same_cell, same_face};
+ghost use Rattle.rd_base.specs.Equals.{same_cell};
 ghost use Rattle.rd_term.specs.Pictures.{blank};
 ghost use Rattle.rd_update.specs.Updates.{first_difference as first_column, end_of_differences as end_column, used as used_of, differs, is_rest, goes_on, begin_before, going_on, begin_of, end_of};
 ghost use Rattle.rd_update.specs.Words.{columns_of_words, differing_columns};
@@ -15,13 +15,6 @@ use rd_lanes::{first_diff, last_diff};
 pub(crate) struct Columns {
     pub(crate) from: usize,
     pub(crate) end: usize,
-}
-
-/// Whether two faces are the same.
-pub(crate) fn same_face(a: Face, b: Face) -> bool
-    ensures { result ≡ same_face a b }
-{
-    a == b
 }
 
 /// Whether two rows of one width differ. The first cell that differs ends the comparison.
@@ -83,7 +76,7 @@ fn is_clear(cell: &Cell) -> bool
     ensures { result ≡ same_cell blank cell.now }
 {
     match cell {
-        Cell::Blank(face) => same_face(Face::PLAIN, *face),
+        Cell::Blank(face) => Face::PLAIN.is_same(*face),
         _ => false,
     }
 }

@@ -1,7 +1,6 @@
-use Rattle.std.proofs.Common.{◌≡◌, ◌∙◌, ℕ, List, Option, Some, Result, Err, refl, sym}
-use Rattle.rd_ucd.specs.Data.{Data}
+use Rattle.std.proofs.Common.{◌≡◌, ◌∙◌, ℕ, List, Option, Some, Err, refl, sym}
 use Rattle.rd_files.specs.declared.fault.BadFile.{BadFile}
-use Rattle.rd_files.specs.DataFiles.{AreBytes, GivesData, Named, classes_in, data_of, told_or_empty}
+use Rattle.rd_files.specs.DataFiles.{AreBytes, classes_in, data_of, told_or_empty}
 use Rattle.rd_files.proofs.law.data_files_are_determined.Goals as goal
 
 -- bytes that may be a file's are its bytes, where they are told
