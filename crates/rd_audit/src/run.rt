@@ -7,6 +7,7 @@ ghost use Rattle.rd_audit.specs.Runs.{painted, place_of, comes_behind, with_numb
 use crate::cuts::cut;
 use crate::number::{both, number_of};
 use rd_base::{Cell, Face, ListOf};
+use rd_term::{dressed, is_rendition};
 
 /// A run: its first and its last column, from 0, and its face.
 #[derive(Clone, Copy)]
@@ -125,45 +126,6 @@ fn place_of(n: u32) -> u32
         30
     } else {
         40
-    }
-}
-
-/// Whether a number is one of a face.
-fn is_rendition(n: u32) -> bool
-    ensures { result ≡ is_rendition n }
-{
-    match n {
-        0 | 1 | 4 | 7 => true,
-        30..=37 => true,
-        40..=47 => true,
-        _ => false,
-    }
-}
-
-/// A face with one more number.
-fn dressed(n: u32, face: Face) -> Face
-    requires { is_rendition n ≡ true }
-    ensures { result ≡ dressed n face }
-{
-    match n {
-        0 => Face::PLAIN,
-        1 => Face { bold: true, ..face },
-        4 => Face {
-            underline: true,
-            ..face
-        },
-        7 => Face {
-            inverse: true,
-            ..face
-        },
-        30..=37 => Face {
-            fg: (n - 30) as u8,
-            ..face
-        },
-        _ => Face {
-            bg: (n - 40) as u8,
-            ..face
-        },
     }
 }
 

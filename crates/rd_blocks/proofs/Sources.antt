@@ -17,6 +17,7 @@ use Rattle.rd_items.specs.Readings.{reading, IsReading}
 use Rattle.rd_items.specs.Pieces.{Scene, scene_in}
 use Rattle.rd_items.specs.Items.{items_of}
 use Rattle.rd_items.specs.Covers.{Tile, CoverWhereTheyGive}
+use Rattle.rd_matrix.proofs.HeldLemmas.{count-same, covers-moved}
 use Rattle.rd_matrix.specs.Blocks.{StandFrom, first_start, end_from}
 use Rattle.rd_matrix.specs.Columns.{covers}
 use Rattle.rd_matrix.specs.Held.{in_range}
@@ -97,24 +98,6 @@ pub listed-at : (classes : List Span) (s : BufferValue) (k : ℕ) (b : Block) �
 listed-at classes s k b h = let found = pair-at classes s (blocks_of s) k b h in record { pair = found.0; at = found.1; is = found.2 }
 
 -- the rows
-
-count-cons : {X : Type 0} (p : X → Bool) (x : X) (xs : List X) → count_by p (x ∷ xs) ≡ cond (p x) 1 0 + count_by p xs
-count-cons p x xs = sum_by-cons (λ y. cond (p y) 1 0) x xs
-
-count-same : (p : Begin → Bool) (q : ℕ × ℕ → Bool) (bs : List Begin) → ((b : Begin) → p b ≡ q (range_of b)) → count_by p bs ≡ count_by q (map range_of bs)
-count-same p q [] h = refl
-count-same p q (b ∷ bs) h = count-cons p b bs ∙ (rw (h b, count-same p q bs h) refl ∙ sym (count-cons q (range_of b) (map range_of bs)))
-
-moved-le : (b : Bool) (start f k : ℕ) → nat_le f k ≡ b → nat_le (start + f) (start + k) ≡ b
-moved-le true start f k h = grind (arith, nat_tests)
-moved-le false start f k h = grind (arith, nat_tests)
-
-moved-lt : (b : Bool) (start k t : ℕ) → nat_lt k t ≡ b → nat_lt (start + k) (start + t) ≡ b
-moved-lt true start k t h = grind (arith, nat_tests)
-moved-lt false start k t h = grind (arith, nat_tests)
-
-covers-moved : (start k : ℕ) (b : Begin) → covers start (start + k) b ≡ in_range k (range_of b)
-covers-moved start k b = rw (moved-le (nat_le b.from k) start b.from k refl, moved-lt (nat_lt k b.to) start k b.to refl) refl
 
 inside-all : (start end size : ℕ) (bs : List Begin) → start + size ≡ end → All (LiesWithin size) (map range_of bs) → All (λ b. (b.from ≤ b.to) × (start + b.to ≤ end)) bs
 inside-all start end size [] e all = All-nil (λ (b : Begin). (b.from ≤ b.to) × (start + b.to ≤ end))

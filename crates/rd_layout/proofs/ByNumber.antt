@@ -7,43 +7,9 @@ use Rattle.std.specs.Prelude.{option_map, slice_get}
 use Rattle.rd_state.specs.States.{BufferValue, new_buffer}
 use Rattle.rd_state.specs.Moves.{moved_in}
 use Rattle.rd_state.specs.Windows.{AreApart, window_of, with_window, without_window}
+use Rattle.rd_state.proofs.ByNumber.{Entry, window-here, window-there, with-here, with-there, without-here, without-there}
 use Rattle.rd_state.specs.declared.moves.Move.{Move}
 use Rattle.rd_state.specs.declared.window.WindowState.{WindowState}
-
-abbrev pub Entry : Type 0
-Entry = ℕ × WindowState
-
-pub eq-true : (a b : ℕ) → a ≡ b → (a == b) ≡ true
-eq-true a b h = grind (arith, nat_tests)
-
-pub eq-false : (a b : ℕ) → a ≢ b → (a == b) ≡ false
-eq-false a b h = grind (arith, nat_tests)
-
-pub chosen : {A : Type 0} (t : Bool) (x y : A) → t ≡ true → (if t then x else y) ≡ x
-chosen true x y h = refl
-chosen false x y h = absurd (cc)
-
-pub passed : {A : Type 0} (t : Bool) (x y : A) → t ≡ false → (if t then x else y) ≡ y
-passed true x y h = absurd (cc)
-passed false x y h = refl
-
-pub window-here : (n : ℕ) (e : Entry) (rest : List Entry) → e.0 ≡ n → window_of n (e ∷ rest) ≡ Some e.1
-window-here n e rest h = chosen (e.0 == n) (Some e.1) (window_of n rest) (eq-true e.0 n h)
-
-pub window-there : (n : ℕ) (e : Entry) (rest : List Entry) → e.0 ≢ n → window_of n (e ∷ rest) ≡ window_of n rest
-window-there n e rest h = passed (e.0 == n) (Some e.1) (window_of n rest) (eq-false e.0 n h)
-
-with-here : (n : ℕ) (f : WindowState → WindowState) (e : Entry) (rest : List Entry) → e.0 ≡ n → with_window n f (e ∷ rest) ≡ (e.0, f e.1) ∷ rest
-with-here n f e rest h = chosen (e.0 == n) _ _ (eq-true e.0 n h)
-
-with-there : (n : ℕ) (f : WindowState → WindowState) (e : Entry) (rest : List Entry) → e.0 ≢ n → with_window n f (e ∷ rest) ≡ e ∷ with_window n f rest
-with-there n f e rest h = passed (e.0 == n) _ _ (eq-false e.0 n h)
-
-without-here : (n : ℕ) (e : Entry) (rest : List Entry) → e.0 ≡ n → without_window n (e ∷ rest) ≡ rest
-without-here n e rest h = chosen (e.0 == n) _ _ (eq-true e.0 n h)
-
-without-there : (n : ℕ) (e : Entry) (rest : List Entry) → e.0 ≢ n → without_window n (e ∷ rest) ≡ e ∷ without_window n rest
-without-there n e rest h = passed (e.0 == n) _ _ (eq-false e.0 n h)
 
 -- ---- a window that lives behind a change lived before it
 

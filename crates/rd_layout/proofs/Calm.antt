@@ -30,7 +30,9 @@ use Rattle.rd_state.specs.declared.window.WindowState.{WindowState}
 use Rattle.rd_tree.specs.Calls.{Configuration, split_tree, remove_tree, resize_tree, mode_tree, margins_tree}
 use Rattle.rd_tree.specs.declared.fault.TreeFault.{TreeFault}
 use Rattle.rd_layout.specs.Changes.{change_by, if_shown, restyled}
-use Rattle.rd_layout.proofs.ByNumber.{Entry, chosen, passed, eq-true, eq-false, window-became, window-gone, window-here, window-left, window-there, window-with-other, window-with-same}
+use Rattle.rd_layout.proofs.ByNumber.{window-became, window-gone, window-left, window-with-other, window-with-same}
+use Rattle.rd_state.proofs.ByNumber.{Entry, eq-true, eq-false, window-here, window-there}
+use Rattle.rd_state.proofs.Opening.{chosen, passed}
 
 -- an effect tells no change of a window that shows a buffer
 abbrev pub Quiet : Effect → ℕ → ℕ → Type 0

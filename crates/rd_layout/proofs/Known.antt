@@ -39,7 +39,9 @@ use Rattle.rd_layout.specs.Pointing.{hitting_by, is_shown, pointed, stepped_to}
 use Rattle.rd_layout.specs.Sessions.{IsStep, SessionValue, behind, is_frame, layout_of, opened, session_step}
 use Rattle.rd_layout.specs.Since.{FitsFrame, IsKnown, IsSession}
 use Rattle.rd_layout.proofs.Calm.{Calm, Quiet, calm-step}
-use Rattle.rd_layout.proofs.ByNumber.{buffer-there, chosen, passed, eq-true, eq-false}
+use Rattle.rd_layout.proofs.ByNumber.{buffer-there}
+use Rattle.rd_state.proofs.ByNumber.{eq-true, eq-false}
+use Rattle.rd_state.proofs.Opening.{chosen, passed}
 use Rattle.rd_layout.proofs.Leading.{effect-leads}
 use Rattle.rd_layout.specs.Windows.{place_of, window_shape, window_source}
 use Rattle.rd_layout.proofs.Over.{OverLaws, first-none, joined-change, joined-none, objects-over}

@@ -14,7 +14,8 @@ use Rattle.rd_state.specs.States.{ContentValue, seen}
 use Rattle.rd_state.specs.declared.effect.Effect.{Effect}
 use Rattle.rd_state.specs.declared.effect.Effect.TheVariants.{Nothing, Edit, Moved, All, Window}
 use Rattle.rd_layout.specs.Changes.{change_by, if_shown, restyled}
-use Rattle.rd_layout.proofs.ByNumber.{eq-true, eq-false, chosen, passed}
+use Rattle.rd_state.proofs.ByNumber.{eq-true, eq-false}
+use Rattle.rd_state.proofs.Opening.{chosen, passed}
 
 -- an edit adds as much as it takes away, or stands in the accessible text; and the ranges of an overlay that was moved are ranges
 abbrev pub HasPlace : Effect → ℕ → ContentValue → Type 0

@@ -17,7 +17,8 @@ use Rattle.rd_tree.specs.declared.placed.Placed.{Placed}
 use Rattle.rd_tree.specs.declared.rect.Rect.{Rect}
 use Rattle.rd_layout.specs.Redisplays.{band_of, bands_of}
 use Rattle.rd_layout.specs.Windows.{place_of, places}
-use Rattle.rd_layout.proofs.ByNumber.{chosen, passed, eq-true, eq-false}
+use Rattle.rd_state.proofs.ByNumber.{eq-true, eq-false}
+use Rattle.rd_state.proofs.Opening.{chosen, passed}
 
 -- what the tree says
 pub record PlaceLaws : Type 0 where

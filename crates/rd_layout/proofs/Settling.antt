@@ -25,7 +25,8 @@ use Rattle.rd_ucd.specs.Data.{Data}
 use Rattle.rd_ucd.specs.declared.spans.Span.{Span}
 use Rattle.rd_layout.specs.Screens.{settled_at, settled_by, settled_state}
 use Rattle.rd_layout.specs.Windows.{place_of, view_in, wanted_of, window_shape, window_source}
-use Rattle.rd_layout.proofs.ByNumber.{Entry, buffer-there, window-became}
+use Rattle.rd_layout.proofs.ByNumber.{buffer-there, window-became}
+use Rattle.rd_state.proofs.ByNumber.{Entry}
 use Rattle.rd_layout.proofs.Chosen.{StartLaws, chosen-anchor, chosen-point}
 
 -- what the layers below say

@@ -85,7 +85,7 @@ laid-there from (suc k) (g ∷ hs) h shape stand i =
 count-cons : {X : Type 0} (p : X → Bool) (x : X) (xs : List X) → count_by p (x ∷ xs) ≡ cond (p x) 1 0 + count_by p xs
 count-cons p x xs = sum_by-cons (λ y. cond (p y) 1 0) x xs
 
-count-same : (p : Begin → Bool) (q : ℕ × ℕ → Bool) (bs : List Begin) → ((b : Begin) → p b ≡ q (range_of b)) → count_by p bs ≡ count_by q (map range_of bs)
+pub count-same : (p : Begin → Bool) (q : ℕ × ℕ → Bool) (bs : List Begin) → ((b : Begin) → p b ≡ q (range_of b)) → count_by p bs ≡ count_by q (map range_of bs)
 count-same p q [] h = refl
 count-same p q (b ∷ bs) h = count-cons p b bs ∙ (rw (h b, count-same p q bs h) refl ∙ sym (count-cons q (range_of b) (map range_of bs)))
 
@@ -97,7 +97,7 @@ moved-lt : (b : Bool) (start k t : ℕ) → nat_lt k t ≡ b → nat_lt (start +
 moved-lt true start k t h = grind (arith, nat_tests)
 moved-lt false start k t h = grind (arith, nat_tests)
 
-covers-moved : (start k : ℕ) (b : Begin) → covers start (start + k) b ≡ in_range k (range_of b)
+pub covers-moved : (start k : ℕ) (b : Begin) → covers start (start + k) b ≡ in_range k (range_of b)
 covers-moved start k b = rw (moved-le (nat_le b.from k) start b.from k refl, moved-lt (nat_lt k b.to) start k b.to refl) refl
 
 and-both : (a b : Bool) → (a && b) ≡ true → (a ≡ true) × (b ≡ true)

@@ -1,3 +1,3 @@
 mod Below
-mod HeldLemmas
+pub mod HeldLemmas
 pub mod Counting

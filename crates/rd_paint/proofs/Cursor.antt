@@ -12,7 +12,8 @@ use Rattle.rd_tree.specs.declared.placed.Placed.{Placed}
 use Rattle.rd_window.specs.Views.{WindowView}
 use Rattle.rd_layout.specs.Screens.{cursor_at, cursor_by, cursor_of}
 use Rattle.rd_layout.specs.Windows.{place_of, places, view_in, views_in}
-use Rattle.rd_layout.proofs.ByNumber.{eq-true, passed}
+use Rattle.rd_state.proofs.ByNumber.{eq-true}
+use Rattle.rd_state.proofs.Opening.{passed}
 use Rattle.rd_layout.proofs.ByNumber as numbers
 use Rattle.rd_layout.proofs.Placed.{number-of}
 use Rattle.rd_paint.specs.Shown.{IsLeaf}

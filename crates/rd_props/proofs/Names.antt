@@ -83,7 +83,7 @@ changed-made objects change keeps slots made number v kind p is h =
     let found = kept-by change keeps (overlay_at slots number) p kind v (sym (changed-at change slots number) ∙ is) h in
     made number v kind found.0 found.1 found.2
 
-after-set : (slots : List (Option Overlay)) (i : ℕ) (slot : Option Overlay) (number : ℕ) (p : Overlay) → overlay_at (set slots i slot) number ≡ Some p
+pub after-set : (slots : List (Option Overlay)) (i : ℕ) (slot : Option Overlay) (number : ℕ) (p : Overlay) → overlay_at (set slots i slot) number ≡ Some p
     → (overlay_at slots number ≡ Some p) ⊎ (slot ≡ Some p)
 after-set [] i slot number p h = inl h
 after-set (s ∷ slots) zero slot zero p h = inr h
@@ -91,7 +91,7 @@ after-set (s ∷ slots) zero slot (suc number) p h = inl h
 after-set (s ∷ slots) (suc i) slot zero p h = inl h
 after-set (s ∷ slots) (suc i) slot (suc number) p h = after-set slots i slot number p h
 
-after-end : (slots : List (Option Overlay)) (o : Overlay) (number : ℕ) (p : Overlay) → overlay_at (slots ++ Some o ∷ []) number ≡ Some p
+pub after-end : (slots : List (Option Overlay)) (o : Overlay) (number : ℕ) (p : Overlay) → overlay_at (slots ++ Some o ∷ []) number ≡ Some p
     → (overlay_at slots number ≡ Some p) ⊎ (o ≡ p)
 after-end [] o zero p h = inr (cc)
 after-end [] o (suc number) p h = absurd (cc)

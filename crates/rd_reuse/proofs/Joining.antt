@@ -11,7 +11,7 @@ use Rattle.rd_matrix.specs.declared.matrix.Entry.{Entry}
 use Rattle.rd_reuse.specs.Changes.{IsChange, all, change_of, edit, is_all, is_small, join, moved, none}
 use Rattle.rd_reuse.specs.Keeping.{AreRight, are_whole, is_kept, is_outside, taken}
 use Rattle.rd_reuse.specs.declared.change.Change.{Change}
-use Rattle.rd_reuse.proofs.Places.{later-start}
+use Rattle.rd_matrix.proofs.HeldLemmas.{later-start}
 use Rattle.rd_rows.specs.Copies.{shown_rows}
 use Rattle.rd_rows.specs.Shapes.{ShapeValues}
 

@@ -4,6 +4,7 @@ use Rattle.std.proofs.lemmas.Bool.{cases_lt}
 use Rattle.std.proofs.lemmas.List.{length-append}
 use Rattle.std.specs.List.{slice_get}
 use Rattle.rd_base.specs.declared.settings.Anchor.{Anchor}
+use Rattle.rd_matrix.proofs.HeldLemmas.{later-start}
 use Rattle.rd_matrix.proofs.Counting.{all-append, count-cons, length-numbered}
 use Rattle.rd_matrix.specs.Blocks.{IsWithin, StandFrom, end_from, first_start}
 use Rattle.rd_matrix.specs.Entries.{EntryMeaning, all_rows, entries_of, numbered}
@@ -79,16 +80,6 @@ found-of rows bs k anchor (Some e) at is =
 -- the block of an anchor that names a row
 pub anchor-found : (rows : Block → List RowMeaning) (bs : List Block) (k : ℕ) (anchor : Anchor) → Names anchor (all_rows rows bs) k → Found rows bs anchor.pos anchor.row k
 anchor-found rows bs k anchor is = found-of rows bs k anchor (slice_get (all_rows rows bs) k) refl is
-
-pub later-start : (from k : ℕ) (bs : List Block) (b : Block) → StandFrom from bs → slice_get bs k ≡ Some b → (from ≤ b.start) × (b.start < b.end)
-later-start from k [] b h i = absurd cc
-later-start from zero (a ∷ bs) b h i = let same : a ≡ b = cc in let start = h.0 in subst (λ (x : Block). (from ≤ x.start) × (x.start < x.end)) same (omega (arith, start), h.1)
-later-start from (suc k) (a ∷ bs) b h i =
-    let rest = later-start a.end k bs b h.2 i in
-    let low = rest.0 in
-    let start = h.0 in
-    let some = h.1 in
-    (omega (arith, low, start, some), rest.1)
 
 -- only one block holds a position
 pub holding : (from place : ℕ) (before after : List Block) (b d : Block) (j : ℕ) → StandFrom from (before ++ b ∷ after) → b.start ≡ place

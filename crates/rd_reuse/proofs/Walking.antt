@@ -18,7 +18,8 @@ use Rattle.rd_reuse.specs.Laying.{placed}
 use Rattle.rd_reuse.specs.Views.{IsCopied, Names, fresh_costs, is_in_view}
 use Rattle.rd_reuse.specs.declared.change.Change.{Change}
 use Rattle.rd_reuse.proofs.Lists.{at-seam, behind-seam, drop-behind, filled-more, filled-size}
-use Rattle.rd_reuse.proofs.Places.{anchor-found, count-last, holding, later-start}
+use Rattle.rd_matrix.proofs.HeldLemmas.{later-start}
+use Rattle.rd_reuse.proofs.Places.{anchor-found, count-last, holding}
 use Rattle.rd_reuse.proofs.Placing.{all-placed, none-left, shown-placed}
 use Rattle.rd_rows.specs.Copies.{RowValues, copied, shown_rows}
 use Rattle.rd_rows.specs.Laws.{ends_last}

@@ -5,7 +5,7 @@ mod Fill
 mod Fitting
 pub mod LineLaws
 mod Made
-mod Mirroring
+pub mod Mirroring
 pub mod SameShapes
 pub mod Splits
 mod Stands

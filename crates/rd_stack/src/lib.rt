@@ -55,5 +55,6 @@ pub use laws::{
     lines_are_coloured, lines_are_sound, lines_end_once, prefixes_are_sound, prefixes_end_no_line,
     readings_are_few, readings_have_codes, scenes_are_sound,
 };
+pub use line::{classes_of, codes_of};
 pub use prefix::string_line;
 pub use walker::Walker;

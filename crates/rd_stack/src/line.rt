@@ -79,8 +79,8 @@ fn order_of_items(alloc: Global, view: &View, base: u8, items: &Items) -> Result
     )
 }
 
-/// The classes of items.
-fn classes_of(alloc: Global, items: &Items) -> Result<ListOf<Class>, Memory>
+/// The classes of items, by which a line of them is ordered.
+pub fn classes_of(alloc: Global, items: &Items) -> Result<ListOf<Class>, Memory>
     ensures classes { IfOk result (λ classes. classes ≡ map item_class items.now) }
     ensures few { length items.now < 4294967296 }
 {
@@ -92,8 +92,9 @@ fn classes_of(alloc: Global, items: &Items) -> Result<ListOf<Class>, Memory>
     Ok(classes)
 }
 
-/// The codes by which items may be brackets.
-fn codes_of(alloc: Global, items: &Items) -> Result<ListOf<u32>, Memory>
+/// The codes by which items may be brackets: a character's own, of one with marks that of its base, and one that is listed nowhere of all
+/// else.
+pub fn codes_of(alloc: Global, items: &Items) -> Result<ListOf<u32>, Memory>
     ensures { IfOk result (λ codes. codes ≡ map item_code items.now) }
 {
     let mut codes = ListOf::with_room(alloc, items.len() as usize)?;

@@ -34,16 +34,16 @@ window-here n e rest h = chosen (e.0 == n) (Some e.1) (window_of n rest) (eq-tru
 pub window-there : (n : ℕ) (e : Entry) (rest : List Entry) → e.0 ≢ n → window_of n (e ∷ rest) ≡ window_of n rest
 window-there n e rest h = passed (e.0 == n) (Some e.1) (window_of n rest) (eq-false e.0 n h)
 
-with-here : (n : ℕ) (f : WindowState → WindowState) (e : Entry) (rest : List Entry) → e.0 ≡ n → with_window n f (e ∷ rest) ≡ (e.0, f e.1) ∷ rest
+pub with-here : (n : ℕ) (f : WindowState → WindowState) (e : Entry) (rest : List Entry) → e.0 ≡ n → with_window n f (e ∷ rest) ≡ (e.0, f e.1) ∷ rest
 with-here n f e rest h = chosen (e.0 == n) _ _ (eq-true e.0 n h)
 
-with-there : (n : ℕ) (f : WindowState → WindowState) (e : Entry) (rest : List Entry) → e.0 ≢ n → with_window n f (e ∷ rest) ≡ e ∷ with_window n f rest
+pub with-there : (n : ℕ) (f : WindowState → WindowState) (e : Entry) (rest : List Entry) → e.0 ≢ n → with_window n f (e ∷ rest) ≡ e ∷ with_window n f rest
 with-there n f e rest h = passed (e.0 == n) _ _ (eq-false e.0 n h)
 
-without-here : (n : ℕ) (e : Entry) (rest : List Entry) → e.0 ≡ n → without_window n (e ∷ rest) ≡ rest
+pub without-here : (n : ℕ) (e : Entry) (rest : List Entry) → e.0 ≡ n → without_window n (e ∷ rest) ≡ rest
 without-here n e rest h = chosen (e.0 == n) _ _ (eq-true e.0 n h)
 
-without-there : (n : ℕ) (e : Entry) (rest : List Entry) → e.0 ≢ n → without_window n (e ∷ rest) ≡ e ∷ without_window n rest
+pub without-there : (n : ℕ) (e : Entry) (rest : List Entry) → e.0 ≢ n → without_window n (e ∷ rest) ≡ e ∷ without_window n rest
 without-there n e rest h = passed (e.0 == n) _ _ (eq-false e.0 n h)
 
 place-here : (n : ℕ) (e : Entry) (rest : List Entry) → e.0 ≡ n → place_in n (e ∷ rest) ≡ 0

@@ -10,6 +10,7 @@ use Rattle.rd_overlays.specs.Overlays.{live, overlay_at, make_fault, moved, Make
 use Rattle.rd_base.specs.Settings.{SettingValues}
 use Rattle.rd_overlays.specs.declared.fault.OverlayFault.{OverlayFault}
 use Rattle.rd_overlays.specs.declared.fault.OverlayFault.TheVariants.{NoOverlay, OutOfRange, TooMany, Memory}
+use Rattle.rd_props.proofs.Names.{after-end, after-set}
 use Rattle.rd_props.specs.Buffers as props
 use Rattle.rd_state.specs.Edits.{is_range_of_all}
 use Rattle.rd_state.specs.Valid.{IsOverlayIn, IsWithin}
@@ -192,21 +193,6 @@ same-within b c within same values overlays = record {
 
 -- ---- one overlay more, or another
 
-at-end : (slots : List (Option Overlay)) (o : Overlay) (number : ℕ) (p : Overlay) → overlay_at (slots ++ Some o ∷ []) number ≡ Some p
-    → (overlay_at slots number ≡ Some p) ⊎ (o ≡ p)
-at-end [] o zero p h = inr (cc)
-at-end [] o (suc number) p h = absurd (cc)
-at-end (slot ∷ slots) o zero p h = inl h
-at-end (slot ∷ slots) o (suc number) p h = at-end slots o number p h
-
-after-set : (slots : List (Option Overlay)) (i : ℕ) (slot : Option Overlay) (number : ℕ) (p : Overlay) → overlay_at (set slots i slot) number ≡ Some p
-    → (overlay_at slots number ≡ Some p) ⊎ (slot ≡ Some p)
-after-set [] i slot number p h = inl h
-after-set (s ∷ slots) zero slot zero p h = inr h
-after-set (s ∷ slots) zero slot (suc number) p h = inl h
-after-set (s ∷ slots) (suc i) slot zero p h = inl h
-after-set (s ∷ slots) (suc i) slot (suc number) p h = after-set slots i slot number p h
-
 in-range : (t : TextValue) (from to : ℕ) (o : Overlay) → is_range_of_all t from to ≡ true → o.from ≡ from → o.to ≡ to → IsOverlayIn (length t.text) o
 in-range t from to o h f g = record { first = grind (arith, nat_tests); ordered = grind (arith, nat_tests); last = grind (arith, nat_tests) }
 
@@ -227,7 +213,7 @@ pub made-within : (b : props.BufferValue) (overlays : List (Option Overlay)) (se
 made-within b overlays settings from to o within range none f g is =
     let few = within.few in
     let room = room-left (nat_lt to from) (nat_le 65536 (length b.overlays)) (length b.overlays) from to refl refl none in
-    let new : AreIn (length b.text.text) (b.overlays ++ Some o ∷ []) = λ number p h. elim (at-end b.overlays o number p h) [
+    let new : AreIn (length b.text.text) (b.overlays ++ Some o ∷ []) = λ number p h. elim (after-end b.overlays o number p h) [
       | inl old ↦ within.overlays number p old
       | inr same ↦ subst (IsOverlayIn (length b.text.text)) same (in-range b.text from to o range f g)
     ] in

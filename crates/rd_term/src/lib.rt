@@ -18,5 +18,6 @@ mod shifting;
 mod terminal;
 
 pub use laws::{a_cut_makes_no_difference, characters_are_read};
+pub use pen::{dressed, is_rendition};
 pub use screen::Screen;
 pub use terminal::Terminal;

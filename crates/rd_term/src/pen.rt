@@ -6,7 +6,7 @@ use rd_base::Face;
 
 /// Whether a number changes a pen: 0 makes it plain, 1 bold, 4 underlined and 7 inverse, 30 to 37 give the colour of characters
 /// and 40 to 47 the colour behind them.
-fn is_rendition(n: u32) -> bool
+pub fn is_rendition(n: u32) -> bool
     ensures { result ≡ is_rendition n }
 {
     match n {
@@ -29,8 +29,8 @@ pub(crate) fn are_renditions(numbers: &[u32]) -> bool
     true
 }
 
-/// A face after such a number.
-fn dressed(n: u32, face: Face) -> Face
+/// A face after such a number, a parameter of the sequence that ends in `m`.
+pub fn dressed(n: u32, face: Face) -> Face
     requires { is_rendition n ≡ true }
     ensures { result ≡ dressed n face }
 {

@@ -6,7 +6,7 @@ use Rattle.rd_matrix.specs.Entries.{EntryMeaning}
 use Rattle.rd_matrix.specs.Sources.{SourceValues, rows_at}
 use Rattle.rd_matrix.specs.declared.block.Block.{Block}
 use Rattle.rd_matrix.specs.declared.matrix.Entry.{Entry}
-use Rattle.rd_reuse.proofs.Places.{later-start}
+use Rattle.rd_matrix.proofs.HeldLemmas.{later-start}
 use Rattle.rd_reuse.specs.Keeping.{AreRight, is_kept, taken}
 use Rattle.rd_reuse.specs.declared.change.Change.{Change}
 use Rattle.rd_rows.specs.Copies.{shown_rows}

@@ -5,7 +5,8 @@ use Rattle.std.proofs.lemmas.Option.{none-some}
 use Rattle.rd_tree.specs.Windows.{Windows, Window, Split, first_part, of_number, placed, second_part, times}
 use Rattle.rd_tree.specs.declared.placed.Placed.{Placed}
 use Rattle.rd_tree.specs.declared.rect.Rect.{Rect}
-use Rattle.rd_layout.proofs.ByNumber.{chosen, eq-false, eq-true, passed}
+use Rattle.rd_state.proofs.ByNumber.{eq-false, eq-true}
+use Rattle.rd_state.proofs.Opening.{chosen, passed}
 use Rattle.rd_layout.proofs.Placed.{found-once}
 
 pub placed-here : (n : ℕ) (p : Placed) (ps : List Placed) → p.number ≡ n → of_number n (p ∷ ps) ≡ Some p

@@ -18,7 +18,9 @@ use Rattle.rd_ucd.specs.Data.{Data}
 use Rattle.rd_layout.specs.Screens.{settled_at, settled_by, settled_state}
 use Rattle.rd_layout.specs.Sessions.{SessionValue, layout_of}
 use Rattle.rd_layout.specs.Windows.{place_of, places, view_in, wanted_of, window_shape, window_source}
-use Rattle.rd_layout.proofs.ByNumber.{Entry, chosen, eq-false, eq-true, passed, window-became, window-here, window-there, window-with-other, window-with-same}
+use Rattle.rd_layout.proofs.ByNumber.{window-became, window-with-other, window-with-same}
+use Rattle.rd_state.proofs.ByNumber.{Entry, eq-false, eq-true, window-here, window-there}
+use Rattle.rd_state.proofs.Opening.{chosen, passed}
 use Rattle.rd_layout.proofs.Known.{Last, layout-here, layout-there, mapped}
 use Rattle.rd_layout.proofs.Placed.{number-of}
 use Rattle.rd_views.specs.Layings.{AreDesired, AreOnce, CanSettle, IsDesiredBy, all_settled}

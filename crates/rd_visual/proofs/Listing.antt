@@ -32,13 +32,6 @@ drop-at (suc i) (y ∷ ys) x there = let on : suc i + 1 ≡ suc (i + 1) = omega 
 pub all-at : {X : Type 0} (P : X → Type 0) (xs : List X) (i : ℕ) (x : X) → All P xs → slice_get xs i ≡ Some x → P x
 all-at P xs i x all there = subst P (get_or_from_slice_get xs i x x there) (all i x (slice_get_within xs i x there))
 
--- one more of a list by a function
-pub maps-next : {X A : Type 0} (f : X → A) (xs : List X) (i : ℕ) (x : X) (out more whole : List A) → slice_get xs i ≡ Some x → more ≡ out ++ f x ∷ [] → out ++ map f (drop i xs) ≡ whole
-    → more ++ map f (drop (i + 1) xs) ≡ whole
-maps-next f xs i x out more whole found given all =
-    let rest = map f (drop (i + 1) xs) in
-    ap (λ l. l ++ rest) given ∙ append_assoc out (f x ∷ []) rest ∙ sym (ap (λ l. out ++ map f l) (drop-at i xs x found)) ∙ all
-
 -- the range of one more item
 pub turns-next : (start : ℕ) (items : List Item) (ts : List Turn) (i : ℕ) (t : Turn) (x : Item) (out more whole : List Range) → slice_get ts i ≡ Some t → slice_get items t.index ≡ Some x
     → more ≡ out ++ range_by start (Some x) → out ++ ranges_in_turn start items (drop i ts) ≡ whole → more ++ ranges_in_turn start items (drop (i + 1) ts) ≡ whole

@@ -10,6 +10,7 @@ use Rattle.rd_base.specs.declared.cell.Cell.{Cell}
 use Rattle.rd_base.specs.declared.cell.Cell.TheVariants.{Blank, First, Rest}
 use Rattle.rd_base.specs.declared.cell.Glyph.{Glyph}
 use Rattle.rd_base.specs.declared.element.Element.{Element}
+use Rattle.rd_rows.proofs.Mirroring.{mirror-length}
 use Rattle.rd_rows.specs.Cuts.{cut_row}
 use Rattle.rd_ucd.specs.Data.{Data}
 use Rattle.rd_objects.specs.Things.{ObjectLists}
@@ -112,22 +113,8 @@ leading-end : (t : Bool) (c : Cutting) (used : ℕ) (continued : Bool) → trunc
 leading-end true c used continued e = rw e (leading-end-by (nat_lt (c.shape.hscroll + room c.shape) used) c.truncation)
 leading-end false c used continued e = rw e (leading-end-by continued c.continuation)
 
-mirror-size : (cells : List Cell) → length (mirror_image cells) + leading_rests cells ≡ length cells
-mirror-size [] = refl
-mirror-size (Rest ∷ cells) = let e = mirror-size cells in omega (arith, e)
-mirror-size (Blank f ∷ cells) =
-    let e = mirror-size cells in
-    let a = length-append (mirror_image cells) (Blank f ∷ replicate (leading_rests cells) Rest) in
-    let n = length-replicate (leading_rests cells) Rest in
-    omega (arith, e, a, n)
-mirror-size (First g f ∷ cells) =
-    let e = mirror-size cells in
-    let a = length-append (mirror_image cells) (First g f ∷ replicate (leading_rests cells) Rest) in
-    let n = length-replicate (leading_rests cells) Rest in
-    omega (arith, e, a, n)
-
 edge-size : (b : Bool) (cells : List Cell) → leading_rests cells ≡ 0 → length (from_edge b cells) ≡ length cells
-edge-size true cells none = let e = mirror-size cells in omega (arith, e, none)
+edge-size true cells none = let e = mirror-length cells in omega (arith, e, none)
 edge-size false cells none = refl
 
 row-wide : (c : Cutting) (used : ℕ) (continued : Bool) (ps : List Placed) → c.shape.width ≤ length (row_of c used continued ps).cells

@@ -1,18 +1,19 @@
 //! The ranges of a block's items in visual order.
-ghost use Rattle.std.specs.Prelude.{◌≡◌, ◌+◌, ◌++◌, ◌<◌, ◌≤◌, ◌^◌, All, Some, map, length, IfOk, OnOk};
+ghost use Rattle.std.specs.Prelude.{◌≡◌, ◌+◌, ◌++◌, ◌<◌, ◌≤◌, ◌^◌, All, Some, length, IfOk, OnOk};
 ghost use Rattle.rd_items.specs.Pieces.{scene_of};
 ghost use Rattle.rd_matrix.specs.Blocks.{IsAmong};
-ghost use Rattle.rd_stack.specs.Lines.{item_class, item_code, item_turns};
+ghost use Rattle.rd_stack.specs.Lines.{item_turns};
 ghost use Rattle.rd_visual.specs.Motion.{range_by, ranges_in_turn, view_blocks, view_ranges};
 
 use crate::laws::blocks_are_tiled;
 use crate::range::Range;
-use rd_base::{Class, ListOf, Memory, Pos};
+use rd_base::{ListOf, Memory, Pos};
 use rd_blocks::buffers_are_sources;
 use rd_items::{Item, Items};
 use rd_levels::{Turn, turns_of};
 use rd_matrix::Block;
 use rd_props::View;
+use rd_stack::{classes_of, codes_of};
 use std::alloc::Global;
 
 /// The ranges of the items of a block that cover a position, in visual order from the reading edge. It costs what the items of the
@@ -62,31 +63,6 @@ fn turns_of_items(
         view.brackets,
     )?;
     Ok(turns)
-}
-
-/// The classes of items.
-fn classes_of(alloc: Global, items: &Items) -> Result<ListOf<Class>, Memory>
-    ensures classes { IfOk result (λ classes. classes ≡ map item_class items.now) }
-    ensures few { length items.now < 2 ^ 32 }
-{
-    let mut classes = ListOf::with_room(alloc, items.len() as usize)?;
-    for i in 0..items.len() {
-        let item = items.item(i);
-        classes.push(item.class)?;
-    }
-    Ok(classes)
-}
-
-/// The codes by which items may be brackets.
-fn codes_of(alloc: Global, items: &Items) -> Result<ListOf<u32>, Memory>
-    ensures { IfOk result (λ codes. codes ≡ map item_code items.now) }
-{
-    let mut codes = ListOf::with_room(alloc, items.len() as usize)?;
-    for i in 0..items.len() {
-        let item = items.item(i);
-        codes.push(item.kind.bracket_code())?;
-    }
-    Ok(codes)
 }
 
 /// The ranges of items of the block that starts at a position, in this order.

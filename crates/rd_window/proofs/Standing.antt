@@ -14,7 +14,8 @@ use Rattle.rd_reuse.specs.Changes.{is_none, none}
 use Rattle.rd_reuse.specs.Views.{Names}
 use Rattle.rd_reuse.specs.declared.change.Change.{Change}
 use Rattle.rd_reuse.proofs.Lists.{at-seam}
-use Rattle.rd_reuse.proofs.Places.{anchor-found, later-start}
+use Rattle.rd_matrix.proofs.HeldLemmas.{later-start}
+use Rattle.rd_reuse.proofs.Places.{anchor-found}
 use Rattle.rd_rows.specs.Rows.{RowMeaning}
 use Rattle.rd_rows.specs.Shapes.{ShapeValues, is_same_shape}
 use Rattle.rd_rows.proofs.SameShapes.{same-shape}
