@@ -62,20 +62,11 @@ pub fn next_line(text: &Buffer, classes: &Classes, known: &Paragraph) -> Paragra
     let begin = text.begin();
     let from = known.to + 1;
     let to = text.next_newline(from);
-    let base = known.base;
-    let start = known.from;
-    if text.prev_ink(to) <= from {
+    if text.prev_ink(to) <= from || text.prev_newline(known.to) < text.prev_ink(known.to) {
         return Paragraph {
-            from: start,
+            from: known.from,
             to,
-            base,
-        };
-    }
-    if text.prev_newline(known.to) < text.prev_ink(known.to) {
-        return Paragraph {
-            from: start,
-            to,
-            base,
+            base: known.base,
         };
     }
     Paragraph {

@@ -10,6 +10,7 @@ use Rattle.rd_para.proofs.Cuts.{line_cut}
 use Rattle.rd_para.proofs.Inks.{next_at}
 use Rattle.rd_para.proofs.Walks.{NextLine, next_line_is, ends_itself, rows}
 use Rattle.rd_para.proofs.level.next_line.Goals as goal
+use Rattle.rd_para.proofs.level.next_line.Goals.{then-prev_ink-from-via-then-prev_ink-from, then-prev_ink-from-via-else-prev_ink-from+then-prev_newline-prev_ink}
 
 -- what is known of the line behind
 behind : (classes : List Span) (t : TextValue) (right : IsText t) (p : Paragraph) → IsKnown classes t p → p.to < t.end → NextLine classes t p.to
@@ -73,16 +74,18 @@ prev_ink-requires c =
 pub returns-then-prev_ink-from-clause-known : goal.returns-then-prev_ink-from-clause-known
 returns-then-prev_ink-from-clause-known c =
     let t = c.args.text.now in
-    let blank = c.if-prev_ink-from.true in
+    let end = c.args.known.now.to in
     let ink = c.prev_ink.ensures ∙ ap (prev_ink t) c.next_newline-to.ensures in
-    further c.args.classes.now t c.begin-begin.ensures.right c.args.known.now c.next_newline-to.result c.requires.known c.requires.more c.next_newline-to.ensures (inl (omega arith))
-
-pub returns-then-prev_newline-prev_ink-clause-known : goal.returns-then-prev_newline-prev_ink-clause-known
-returns-then-prev_newline-prev_ink-clause-known c =
-    let some = c.if-prev_newline-prev_ink.true in
-    let a = c.prev_newline.ensures in
-    let b = c.prev_ink-2.ensures in
-    further c.args.classes.now c.args.text.now c.begin-begin.ensures.right c.args.known.now c.next_newline-to.result c.requires.known c.requires.more c.next_newline-to.ensures (inr (omega arith))
+    let kind : (prev_ink t (next_newline t (end + 1)) ≤ end + 1) ⊎ (prev_newline t end < prev_ink t end) =
+    elim c.then-prev_ink-from.branch [
+      | then-prev_ink-from-via-then-prev_ink-from w ↦ let blank = w.if-prev_ink-from.true in inl (omega arith)
+      | then-prev_ink-from-via-else-prev_ink-from+then-prev_newline-prev_ink w ↦
+          let some = w.if-prev_newline-prev_ink.true in
+          let a = w.prev_newline.ensures in
+          let b = w.prev_ink-else-prev_ink-from.ensures in
+          inr (omega arith)
+    ] in
+    further c.args.classes.now t c.begin-begin.ensures.right c.args.known.now c.next_newline-to.result c.requires.known c.requires.more c.next_newline-to.ensures kind
 
 pub returns-clause-known : goal.returns-clause-known
 returns-clause-known c =
@@ -91,6 +94,6 @@ returns-clause-known c =
     let ink = c.prev_ink.ensures ∙ ap (prev_ink t) c.next_newline-to.ensures in
     let none = c.if-prev_newline-prev_ink.false in
     let a = c.prev_newline.ensures in
-    let b = c.prev_ink-2.ensures in
+    let b = c.prev_ink-else-prev_ink-from.ensures in
     fresh c.args.classes.now t c.begin-begin.ensures.right c.args.known.now c.next_newline-to.result c.paragraph_level.result c.requires.known c.requires.more c.next_newline-to.ensures
     (omega arith) (omega arith) c.paragraph_level.ensures
