@@ -7,6 +7,7 @@ ghost use Rattle.rd_lineshift.specs.Shifts.{moving, shift_bytes as bytes_of};
 
 use crate::band::Shift;
 use itoa::Buffer;
+use rd_base::limits::FRAME_ROWS;
 use rd_base::{ListOf, Memory};
 use std::alloc::Global;
 
@@ -20,7 +21,7 @@ pub(crate) fn is_up(by: i64) -> bool
 /// The bytes of a shift on a screen of so many rows.
 pub(crate) fn shift_bytes(alloc: Global, height: u32, shift: Shift) -> Result<ListOf<u8>, Memory>
     requires shift { IsShift height shift }
-    requires height { height ≤ 200 }
+    requires height { height ≤ FRAME_ROWS }
     ensures { IfOk result (λ bytes. bytes ≡ bytes_of height shift) }
 {
     let mut bytes = ListOf::new(alloc);
@@ -33,7 +34,7 @@ pub(crate) fn shift_bytes(alloc: Global, height: u32, shift: Shift) -> Result<Li
 
 /// Adds what moves the rows of the region.
 fn push_moving(bytes: &mut ListOf<u8>, by: i64) -> Result<(), Memory>
-    requires { unsigned_abs by ≤ 200 }
+    requires { unsigned_abs by ≤ FRAME_ROWS }
     ensures { OnOk result (bytes.new ≡ bytes.old ++ moving by) }
 {
     let last = if is_up(by) { b'M' } else { b'L' };

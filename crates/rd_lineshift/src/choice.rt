@@ -10,6 +10,7 @@ ghost use Rattle.rd_lineshift.specs.Numbers.{gained, lesser, number_cost, number
 use crate::band::{Band, Shift};
 use crate::numbers::{Numbers, unlike, unlike_one};
 use crate::rows::{differing, number_of_blank, numbers_of, prints_of};
+use rd_base::limits::FRAME_ROWS;
 use rd_term::Screen;
 
 /// How many rows a shift must spare.
@@ -58,7 +59,7 @@ pub fn shift_of(current: &Screen, target: &Screen, bands: &[Band]) -> Option<Shi
 
 /// A shift that costs at least three less than so many rows.
 fn gaining(best: Option<Priced>, rows: u32) -> Option<Shift>
-    requires { IfSome best (λ p. p.cost ≤ 200) }
+    requires { IfSome best (λ p. p.cost ≤ FRAME_ROWS) }
     ensures { result ≡ gained rows best }
 {
     match best {
@@ -73,7 +74,7 @@ fn number_rows(current: &Screen, target: &Screen) -> Numbered
     ensures old { result.old ≡ map (number_in target.now.rows) current.now.rows }
     ensures new { result.new ≡ map (number_in target.now.rows) target.now.rows }
     ensures blank { result.blank ≡ number_in target.now.rows (blank_row (width_of target.now.rows)) }
-    ensures few { length target.now.rows ≤ 200 }
+    ensures few { length target.now.rows ≤ FRAME_ROWS }
 {
     let _width = target.width();
     let prints = prints_of(target);
@@ -87,10 +88,10 @@ fn number_rows(current: &Screen, target: &Screen) -> Numbered
 /// The first of the shifts of these bands that cost the least.
 fn cheapest_of(numbers: &Numbered, bands: &[Band]) -> Option<Priced>
     requires length { length numbers.now.old ≡ length numbers.now.new }
-    requires few { length numbers.now.new ≤ 200 }
+    requires few { length numbers.now.new ≤ FRAME_ROWS }
     requires bands { AreWithin (length numbers.now.new) bands.now }
     ensures value { result ≡ priced (number_cost numbers.now.old numbers.now.new numbers.now.blank) (cheapest (number_cost numbers.now.old numbers.now.new numbers.now.blank) (flat_map shifts_of bands.now)) }
-    ensures bound { IfSome result (λ p. p.cost ≤ 200) }
+    ensures bound { IfSome result (λ p. p.cost ≤ FRAME_ROWS) }
 {
     let mut best = None;
     for i in 0..bands.len() {
@@ -102,10 +103,10 @@ fn cheapest_of(numbers: &Numbered, bands: &[Band]) -> Option<Priced>
 /// The first of the shifts of a band that cost the least.
 fn cheapest_in(numbers: &Numbered, band: Band) -> Option<Priced>
     requires length { length numbers.now.old ≡ length numbers.now.new }
-    requires few { length numbers.now.new ≤ 200 }
+    requires few { length numbers.now.new ≤ FRAME_ROWS }
     requires band { band.top + band.height ≤ length numbers.now.new }
     ensures value { result ≡ priced (number_cost numbers.now.old numbers.now.new numbers.now.blank) (cheapest (number_cost numbers.now.old numbers.now.new numbers.now.blank) (shifts_of band)) }
-    ensures bound { IfSome result (λ p. p.cost ≤ 200) }
+    ensures bound { IfSome result (λ p. p.cost ≤ FRAME_ROWS) }
 {
     let mut best = None;
     for by in 1..band.height {
@@ -129,12 +130,12 @@ fn cheaper(best: Option<Priced>, other: Option<Priced>) -> Option<Priced>
 /// The shift of a band up by so many rows.
 fn upward(numbers: &Numbered, band: Band, by: u32) -> Priced
     requires length { length numbers.now.old ≡ length numbers.now.new }
-    requires few { length numbers.now.new ≤ 200 }
+    requires few { length numbers.now.new ≤ FRAME_ROWS }
     requires band { band.top + band.height ≤ length numbers.now.new }
     requires by { by < band.height }
     ensures shift { result.shift ≡ shift_by band (pos by) }
     ensures cost { result.cost ≡ number_cost numbers.now.old numbers.now.new numbers.now.blank (shift_by band (pos by)) }
-    ensures bound { result.cost ≤ 200 }
+    ensures bound { result.cost ≤ FRAME_ROWS }
 {
     let (old, new) = (numbers.old.as_slice(), numbers.new.as_slice());
     let (top, end, by) = (
@@ -159,13 +160,13 @@ fn upward(numbers: &Numbered, band: Band, by: u32) -> Priced
 /// The shift of a band down by so many rows.
 fn downward(numbers: &Numbered, band: Band, by: u32) -> Priced
     requires length { length numbers.now.old ≡ length numbers.now.new }
-    requires few { length numbers.now.new ≤ 200 }
+    requires few { length numbers.now.new ≤ FRAME_ROWS }
     requires band { band.top + band.height ≤ length numbers.now.new }
     requires some { 1 ≤ by }
     requires by { by < band.height }
     ensures shift { result.shift ≡ shift_by band (neg_ℤ (pos by)) }
     ensures cost { result.cost ≡ number_cost numbers.now.old numbers.now.new numbers.now.blank (shift_by band (neg_ℤ (pos by))) }
-    ensures bound { result.cost ≤ 200 }
+    ensures bound { result.cost ≤ FRAME_ROWS }
 {
     let (old, new) = (numbers.old.as_slice(), numbers.new.as_slice());
     let (top, end, by) = (

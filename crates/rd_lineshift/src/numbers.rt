@@ -2,23 +2,25 @@
 ghost use Rattle.std.specs.Prelude.{◌≡◌, ◌+◌, ◌<◌, ◌≤◌, [], ◌∷◌, ◌++◌, length, replicate};
 ghost use Rattle.rd_lineshift.specs.Numbers.{unlike as unlike_of};
 
+use rd_base::limits::FRAME_ROWS;
 use std::marker::Model;
 
-/// A number for each of up to 200 rows.
+/// A number for each row of a screen.
 #[derive(Drop)]
 pub(crate) struct Numbers {
-    places: [u64; 200],
+    places: [u64; FRAME_ROWS as usize],
     count: usize,
 }
 
 impl Model for Numbers {
     ghost use Rattle.std.specs.Prelude.{ℕ, List, take, ◌≤◌};
+    ghost use Rattle.rd_base.specs.declared.limits.TheConstants.{FRAME_ROWS};
 
     ghost Value = { List ℕ };
 
     ghost view = { λ n. take n.count n.places };
 
-    ghost invariant = { λ n. n.count ≤ 200 };
+    ghost invariant = { λ n. n.count ≤ FRAME_ROWS };
 }
 
 impl Numbers {
@@ -27,14 +29,14 @@ impl Numbers {
         ensures { result ≡ [] }
     {
         Numbers {
-            places: [0; 200],
+            places: [0; FRAME_ROWS as usize],
             count: 0,
         }
     }
 
     /// Adds a number.
     pub(crate) fn push(&mut self, number: u64)
-        requires { length self.old < 200 }
+        requires { length self.old < FRAME_ROWS }
         ensures { self.new ≡ self.old ++ number ∷ [] }
     {
         self.places[self.count] = number;
@@ -52,7 +54,7 @@ impl Numbers {
 /// At how many places numbers differ from others.
 pub(crate) fn unlike(numbers: &[u64], others: &[u64]) -> u32
     requires length { length numbers.now ≡ length others.now }
-    requires few { length others.now ≤ 200 }
+    requires few { length others.now ≤ FRAME_ROWS }
     ensures value { result ≡ unlike_of numbers.now others.now }
     ensures bound { result ≤ length others.now }
 {
@@ -67,7 +69,7 @@ pub(crate) fn unlike(numbers: &[u64], others: &[u64]) -> u32
 
 /// How many of these numbers are not this one.
 pub(crate) fn unlike_one(number: u64, others: &[u64]) -> u32
-    requires few { length others.now ≤ 200 }
+    requires few { length others.now ≤ FRAME_ROWS }
     ensures value { result ≡ unlike_of (replicate (length others.now) number) others.now }
     ensures bound { result ≤ length others.now }
 {

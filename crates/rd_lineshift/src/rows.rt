@@ -6,6 +6,7 @@ ghost use Rattle.rd_update.specs.Updates.{differs, differing as differing_rows};
 ghost use Rattle.rd_lineshift.specs.Numbers.{cell_number, colours_number, number_in, print_from, mixed};
 
 use crate::numbers::Numbers;
+use rd_base::limits::FRAME_COLUMNS;
 use rd_base::{Cell, Face};
 use rd_term::Screen;
 use rd_update::differ;
@@ -135,10 +136,10 @@ pub(crate) fn numbers_of(
     numbers
 }
 
-/// So many of 400 blank cells.
+/// So many of the blank cells of the widest row.
 pub(crate) fn first(blanks: &[Cell], width: u32) -> &[Cell]
-    requires blanks { blanks.now ≡ blank_row 400 }
-    requires width { width ≤ 400 }
+    requires blanks { blanks.now ≡ blank_row FRAME_COLUMNS }
+    requires width { width ≤ FRAME_COLUMNS }
     ensures { result.now ≡ blank_row width }
 {
     &blanks[..width as usize]
@@ -149,7 +150,7 @@ pub(crate) fn number_of_blank(target: &Screen, prints: &Numbers) -> u64
     requires { prints.now ≡ map (print_from 0) target.now.rows }
     ensures { result ≡ number_in target.now.rows (blank_row (width_of target.now.rows)) }
 {
-    let blanks = [Cell::Blank(Face::PLAIN); 400];
+    let blanks = [Cell::Blank(Face::PLAIN); FRAME_COLUMNS as usize];
     let blank = first(&blanks, target.width());
     number_of(target, prints, blank, print_of(blank))
 }

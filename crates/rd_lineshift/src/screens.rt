@@ -7,6 +7,7 @@ ghost use Rattle.rd_lineshift.specs.Shifts.{shifted as shifted_of, shifted_rows}
 use crate::band::Shift;
 use crate::bytes::is_up;
 use crate::rows::first;
+use rd_base::limits::FRAME_COLUMNS;
 use rd_base::{Cell, Face, Memory};
 use rd_term::Screen;
 use std::alloc::Global;
@@ -16,7 +17,7 @@ pub(crate) fn shifted(alloc: Global, current: &Screen, shift: Shift) -> Result<S
     requires { IsShift (length current.now.rows) shift }
     ensures { IfOk result (λ screen. screen ≡ shifted_of shift current.now) }
 {
-    let blanks = [Cell::Blank(Face::PLAIN); 400];
+    let blanks = [Cell::Blank(Face::PLAIN); FRAME_COLUMNS as usize];
     let width = current.width();
     let blank = first(&blanks, width);
     let mut screen = Screen::blank(alloc, width, current.height())?;
