@@ -6,9 +6,9 @@ use Rattle.rd_layout.specs.Redisplays.{update_of}
 use Rattle.rd_layout.specs.declared.outcome.Outcome.{Outcome}
 use Rattle.rd_layout.specs.declared.outcome.Outcome.TheVariants.{Shown, Stopped}
 use Rattle.rd_run.proofs.Effects.{effect-is}
-use Rattle.rd_run.proofs.Turns.{run-clear, turn-goes}
+use Rattle.rd_run.proofs.Inputs.{run-clear, run_line-goes}
 use Rattle.rd_run.specs.Reports.{no_memory_line}
-use Rattle.rd_run.specs.Runs.{Effect, Standing, Turn, World, effect, is_sent, run, turn}
+use Rattle.rd_run.specs.Runs.{Effect, Input, Standing, World, effect, is_sent, run, run_line}
 use Rattle.rd_run.specs.declared.status.ScriptFault.{ScriptFault}
 use Rattle.rd_audit.proofs.Lacking.{and-both, lacks, lacks-append, lacks-decimal, lines-seam, not-yes}
 use Rattle.rd_audit.specs.Cuts.{stripped}
@@ -56,7 +56,7 @@ sent-of : {P : Type 0} (done : Bool) (rows : ℕ) → is_sent (Some (if done the
 sent-of true rows h = absurd (true≢false h)
 sent-of false rows h = absurd (true≢false h)
 
-calm-effect : (place : Standing) (t : Turn) → is_sent (effect place t).outcome ≡ false → IsCalm (effect place t)
+calm-effect : (place : Standing) (t : Input) → is_sent (effect place t).outcome ≡ false → IsCalm (effect place t)
 calm-effect place t = effect-is place t (λ e. is_sent e.outcome ≡ false → IsCalm e) (record {
   blank = λ s. silent _ refl refl;
   unread = λ fault is s. silent _ refl refl;
@@ -73,23 +73,23 @@ sent-if (Some f) o e h = absurd (let k : Some f ≡ None = e in cc)
 -- ---- all lines
 
 -- what lines that leave the screen leave behind: the stream, and lines of the report
-pub record Leaves (w : World) (ts : List Turn) (bytes : List ℕ) : Type 0 where
+pub record Leaves (w : World) (ts : List Input) (bytes : List ℕ) : Type 0 where
   pub stream : since_frame bytes w ts ≡ bytes
   pub tail : List ℕ
   pub told : (run w ts).told ≡ w.told ++ tail
   pub passed : IsPassed tail
 
-pub leaves-on : (w : World) (ts : List Turn) (bytes : List ℕ) → (run w ts).fault ≡ None → LeaveScreen w ts → Leaves w ts bytes
+pub leaves-on : (w : World) (ts : List Input) (bytes : List ℕ) → (run w ts).fault ≡ None → LeaveScreen w ts → Leaves w ts bytes
 leaves-on w [] bytes ran h = record { stream = refl; tail = []; told = sym (append-nil w.told); passed = λ rest h. h }
 leaves-on w (t ∷ ts) bytes ran h =
     let e = effect w.now t in
     let clear = run-clear w (t ∷ ts) ran in
     let calm = calm-effect w.now t (sent-if w.fault e.outcome clear h.0) in
-    let more = leaves-on (turn w t) ts bytes ran h.2 in
+    let more = leaves-on (run_line w t) ts bytes ran h.2 in
     let same : since bytes e ≡ bytes = ap (λ b. (if b then [] else bytes) ++ e.sent) h.1 ∙ ap (λ l. bytes ++ l) calm.sent ∙ append-nil bytes in
-    let told : (turn w t).told ≡ w.told ++ e.told = ap (λ (v : World). v.told) (turn-goes w t clear) in
+    let told : (run_line w t).told ≡ w.told ++ e.told = ap (λ (v : World). v.told) (run_line-goes w t clear) in
     record {
-      stream = ap (λ bs. since_frame bs (turn w t) ts) same ∙ more.stream;
+      stream = ap (λ bs. since_frame bs (run_line w t) ts) same ∙ more.stream;
       tail = e.told ++ more.tail;
       told = more.told ∙ ap (λ l. l ++ more.tail) told ∙ append_assoc w.told e.told more.tail;
       passed = passed-both e.told more.tail calm.told more.passed;

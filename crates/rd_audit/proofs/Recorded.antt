@@ -17,12 +17,12 @@ use Rattle.rd_layout.specs.Windows.{places}
 use Rattle.rd_run.proofs.Effects.{effect-is, shown-done}
 use Rattle.rd_run.proofs.Leading.{Lives, LiveLaws, all-live}
 use Rattle.rd_run.proofs.Sizes.{is-screen, width-is}
-use Rattle.rd_run.proofs.Turns.{run-append, run-clear, run-push}
+use Rattle.rd_run.proofs.Inputs.{run-append, run-clear, run-push}
 use Rattle.rd_run.specs.Alike.{End}
 use Rattle.rd_run.specs.Ends.{Comes, Drawn, Ended, IsWhole, Ran, Sunk, Took, done_of, last_in, told_in}
 use Rattle.rd_run.specs.Given.{Given}
 use Rattle.rd_run.specs.Reports.{last_line, shown_line, stopped_line}
-use Rattle.rd_run.specs.Runs.{Effect, LeadsOn, Mode, Standing, Turn, World, after, dump_lines, effect, is_shown, opened, outcome_at, run, told_of, turn}
+use Rattle.rd_run.specs.Runs.{Effect, Input, LeadsOn, Mode, Standing, World, after, dump_lines, effect, is_shown, opened, outcome_at, run, run_line, told_of}
 use Rattle.rd_run.specs.declared.status.Status.{Status}
 use Rattle.rd_run.specs.declared.status.Status.TheVariants.{Done, WriteFault}
 use Rattle.rd_state.specs.States.{StateValue}
@@ -39,7 +39,7 @@ use Rattle.rd_update.specs.Updates.{Update}
 use Rattle.rd_audit.proofs.Lacking.{lacks-append, lacks-decimal}
 use Rattle.rd_audit.proofs.Leaving.{IsPassed, leaves-on, passed-line}
 use Rattle.rd_audit.proofs.ReadBack.{read-last}
-use Rattle.rd_audit.proofs.Since.{recorded-end, recorded-read, since-append, turn-reads}
+use Rattle.rd_audit.proofs.Since.{recorded-end, recorded-read, run_line-reads, since-append}
 use Rattle.rd_audit.specs.Dumps.{dump_in}
 use Rattle.rd_audit.specs.Printed.{HasDump, HasNoCursor}
 use Rattle.rd_audit.specs.Recorded.{IsRecording, LeaveScreen, recorded, since}
@@ -48,9 +48,9 @@ use Rattle.rd_audit.specs.Verdicts as verdicts
 
 -- what the layers below promise of runs, and of the windows of a frame
 pub record RunLaws : Type 0 where
-  pub session : (mode : Mode) (turns : List Turn) → IsSession (run (opened mode) turns).now.session
-  pub in_mode : (mode : Mode) (turns : List Turn) → (run (opened mode) turns).now.mode ≡ mode
-  pub leads : (mode : Mode) (turns : List Turn) (t : Turn) → LeadsOn (run (opened mode) turns) t
+  pub session : (mode : Mode) (inputs : List Input) → IsSession (run (opened mode) inputs).now.session
+  pub in_mode : (mode : Mode) (inputs : List Input) → (run (opened mode) inputs).now.mode ≡ mode
+  pub leads : (mode : Mode) (inputs : List Input) (t : Input) → LeadsOn (run (opened mode) inputs) t
   pub live : LiveLaws
 
 -- ---- the dump of a screen
@@ -108,7 +108,7 @@ abbrev Tells : Standing → Picture → Effect → Type 0
 Tells place screen e = is_shown e.outcome ≡ true → place.mode.generated ≡ None → place.mode.dumps ≡ true → e.now.session.current ≡ Some screen
     → (rows : ℕ) × (e.told ≡ shown_line (place.lines + 1) rows ++ dump_text screen (facts_of e.now.session))
 
-effect-tells : (place : Standing) (t : Turn) (screen : Picture) → Tells place screen (effect place t)
+effect-tells : (place : Standing) (t : Input) (screen : Picture) → Tells place screen (effect place t)
 effect-tells place t screen = effect-is place t (Tells place screen) (record {
   blank = λ s. never s;
   unread = λ fault is s. never s;
@@ -126,23 +126,23 @@ tells-if : (stays : Bool) (w : World) (e : Effect) (screen : Picture) → Tells 
 tells-if true w e screen tells s read dumps current = never s
 tells-if false w e screen tells s read dumps current = let told = tells s read dumps current in (told.0, ap (λ l. w.told ++ l) told.1)
 
-turn-tells : (w : World) (t : Turn) (screen : Picture) → is_shown (outcome_at w t) ≡ true → w.now.mode.generated ≡ None → w.now.mode.dumps ≡ true → (turn w t).now.session.current ≡ Some screen
-    → (rows : ℕ) × ((turn w t).told ≡ w.told ++ (shown_line (w.now.lines + 1) rows ++ dump_text screen (facts_of (turn w t).now.session)))
-turn-tells w t screen = tells-if (is_some w.fault) w (effect w.now t) screen (effect-tells w.now t screen)
+run_line-tells : (w : World) (t : Input) (screen : Picture) → is_shown (outcome_at w t) ≡ true → w.now.mode.generated ≡ None → w.now.mode.dumps ≡ true → (run_line w t).now.session.current ≡ Some screen
+    → (rows : ℕ) × ((run_line w t).told ≡ w.told ++ (shown_line (w.now.lines + 1) rows ++ dump_text screen (facts_of (run_line w t).now.session)))
+run_line-tells w t screen = tells-if (is_some w.fault) w (effect w.now t) screen (effect-tells w.now t screen)
 
 -- ---- a run that ends with a redisplay that was shown
 
 -- what such a run leaves: a picture that the terminal of its stream shows, and a report whose last dump is that of the picture
-pub record IsLeft (mode : Mode) (turns : List Turn) : Type 0 where
+pub record IsLeft (mode : Mode) (inputs : List Input) : Type 0 where
   pub picture : Picture
   pub has : HasDump picture
   pub windows : List WindowFacts
   pub some : 0 < length windows
   pub front : List ℕ
   pub tail : List ℕ
-  pub told : (run (opened mode) turns).told ≡ front ++ 10 ∷ (dump_text picture windows ++ tail)
+  pub told : (run (opened mode) inputs).told ≡ front ++ 10 ∷ (dump_text picture windows ++ tail)
   pub passed : IsPassed tail
-  pub shows : Shows (verdicts.terminal_after picture (recorded mode turns)) picture
+  pub shows : Shows (verdicts.terminal_after picture (recorded mode inputs)) picture
 
 abbrev shown_body : ℕ → ℕ → List ℕ
 shown_body number rows = decimal number ++ (codes ": shown " ++ (decimal rows ++ codes " rows"))
@@ -162,16 +162,16 @@ terminals-same : (w n x m : ℕ) (bs cs : List ℕ) → w ≡ x → n ≡ m → 
 terminals-same w n x m bs cs p q r =
     ap (λ k. feed_bytes (unknown k n) bs) p ∙ ap (λ k. feed_bytes (unknown x k) bs) q ∙ ap (feed_bytes (unknown x m)) r
 
-shown-run : (laws : RunLaws) (mode : Mode) (before : List Turn) (t : Turn) (behind : List Turn) → mode.dumps ≡ true → mode.generated ≡ None → Ran mode (before ++ t ∷ behind)
-    → is_shown (outcome_at (run (opened mode) before) t) ≡ true → LeaveScreen (turn (run (opened mode) before) t) behind → IsLeft mode (before ++ t ∷ behind)
+shown-run : (laws : RunLaws) (mode : Mode) (before : List Input) (t : Input) (behind : List Input) → mode.dumps ≡ true → mode.generated ≡ None → Ran mode (before ++ t ∷ behind)
+    → is_shown (outcome_at (run (opened mode) before) t) ≡ true → LeaveScreen (run_line (run (opened mode) before) t) behind → IsLeft mode (before ++ t ∷ behind)
 shown-run laws mode before t behind dumps read ran shown leave =
     let w = run (opened mode) before in
-    let next = turn w t in
-    let turns = before ++ t ∷ behind in
+    let next = run_line w t in
+    let inputs = before ++ t ∷ behind in
     let leads = laws.leads mode before t in
     let under = laws.in_mode mode before in
     let screen = (laid_out w.now.session.files w.now.session.state).picture in
-    let whole : run (opened mode) turns ≡ run next behind = run-append (opened mode) before (t ∷ behind) in
+    let whole : run (opened mode) inputs ≡ run next behind = run-append (opened mode) before (t ∷ behind) in
     let ended : (run next behind).fault ≡ None = ap (λ (x : World). x.fault) (sym whole) ∙ ran in
     let clear : w.fault ≡ None = run-clear w (t ∷ behind) ended in
     let session : IsSession next.now.session = subst (λ (x : World). IsSession x.now.session) (run-push (opened mode) before t) (laws.session mode (before ++ t ∷ [])) in
@@ -179,16 +179,16 @@ shown-run laws mode before t behind dumps read ran shown leave =
     let fits : FitsFrame (Some screen) next.now.session.state = subst (λ c. FitsFrame c next.now.session.state) reached session.screen in
     let bytes = since (recorded mode before) (effect w.now t) in
     let leaves = leaves-on next behind bytes ended leave in
-    let tells = turn-tells w t screen shown (ap (λ (m : Mode). m.generated) under ∙ read) (ap (λ (m : Mode). m.dumps) under ∙ dumps) reached in
+    let tells = run_line-tells w t screen shown (ap (λ (m : Mode). m.generated) under ∙ read) (ap (λ (m : Mode). m.dumps) under ∙ dumps) reached in
     let dump = dump_text screen (facts_of next.now.session) in
     let line = shown_body (w.now.lines + 1) tells.0 in
     let told : next.told ≡ w.told ++ ((line ++ 10 ∷ []) ++ dump) = tells.1 ∙ ap (λ l. w.told ++ (l ++ dump)) (shown-line (w.now.lines + 1) tells.0) in
-    let stream : bytes ≡ recorded mode turns = sym (since-append [] (opened mode) before (t ∷ behind) ∙ leaves.stream) in
+    let stream : bytes ≡ recorded mode inputs = sym (since-append [] (opened mode) before (t ∷ behind) ∙ leaves.stream) in
     let width = next.now.session.state.width in
     let height = next.now.session.state.height in
-    let terminal : next.terminal ≡ verdicts.terminal_after screen (recorded mode turns) =
-    turn-reads w t (recorded mode before) clear leads (recorded-read mode before clear (laws.leads mode))
-    ∙ terminals-same width height (width_of screen.rows) (length screen.rows) bytes (recorded mode turns) (sym (width-is width height screen fits.0)) (sym fits.0.rows) stream in
+    let terminal : next.terminal ≡ verdicts.terminal_after screen (recorded mode inputs) =
+    run_line-reads w t (recorded mode before) clear leads (recorded-read mode before clear (laws.leads mode))
+    ∙ terminals-same width height (width_of screen.rows) (length screen.rows) bytes (recorded mode inputs) (sym (width-is width height screen fits.0)) (sym fits.0.rows) stream in
     record {
       picture = screen;
       has = has-dump next.now.session.state screen session.state fits;
@@ -203,14 +203,14 @@ shown-run laws mode before t behind dumps read ran shown leave =
 
 -- ---- a run that has ended
 
-whole-of : (given : Given) (mode : Option Mode) (m : Mode) (status : Status) (turns : List Turn) (bytes : List ℕ) (source : Drawn) (screen report : Sunk) → mode ≡ Some m → status ≡ Done
-    → Ended given mode status turns bytes source screen report → IsWhole given (Some m) Done turns bytes source screen report
-whole-of given mode m status turns bytes source screen report p q (inl h) =
-    subst (λ x. IsWhole given x Done turns bytes source screen report) p (subst (λ s. IsWhole given mode s turns bytes source screen report) q h)
-whole-of given mode m status turns bytes source screen report p q (inr h) = absurd (let k : Done ≡ WriteFault = sym q ∙ h.0 in cc)
+whole-of : (given : Given) (mode : Option Mode) (m : Mode) (status : Status) (inputs : List Input) (bytes : List ℕ) (source : Drawn) (screen report : Sunk) → mode ≡ Some m → status ≡ Done
+    → Ended given mode status inputs bytes source screen report → IsWhole given (Some m) Done inputs bytes source screen report
+whole-of given mode m status inputs bytes source screen report p q (inl h) =
+    subst (λ x. IsWhole given x Done inputs bytes source screen report) p (subst (λ s. IsWhole given mode s inputs bytes source screen report) q h)
+whole-of given mode m status inputs bytes source screen report p q (inr h) = absurd (let k : Done ≡ WriteFault = sym q ∙ h.0 in cc)
 
-ran-of : (given : Given) (mode : Mode) (turns : List Turn) (bytes : List ℕ) (source : Drawn) → Comes given (Some mode) Done turns bytes source → Ran mode turns
-ran-of given mode turns bytes source (begun, (ran, all)) = ran
+ran-of : (given : Given) (mode : Mode) (inputs : List Input) (bytes : List ℕ) (source : Drawn) → Comes given (Some mode) Done inputs bytes source → Ran mode inputs
+ran-of given mode inputs bytes source (begun, (ran, all)) = ran
 
 -- bytes that were told are those that were there with those that were written
 wrote : (before after : Option (List ℕ)) (bytes file : List ℕ) → IsSome before → after ≡ Some file → Appends before after bytes → (old : List ℕ) × (file ≡ old ++ bytes)
@@ -237,14 +237,14 @@ pub record Agree (stream file : List ℕ) : Type 0 where
   pub dump : dump_in file ≡ Ok picture
   pub shows : Shows (verdicts.terminal_after picture stream) picture
 
-left-agrees : (mode : Mode) (turns : List Turn) (file old : List ℕ) → mode.generated ≡ None → file ≡ old ++ ((run (opened mode) turns).told ++ last_in (Some mode) Done turns)
-    → IsLeft mode turns → Agree (recorded mode turns) file
-left-agrees mode turns file old read e left =
-    let lines = (run (opened mode) turns).now.lines in
-    let last : last_in (Some mode) Done turns ≡ last_line Done lines = ap (λ g. done_of g (run (opened mode) turns).now) read in
+left-agrees : (mode : Mode) (inputs : List Input) (file old : List ℕ) → mode.generated ≡ None → file ≡ old ++ ((run (opened mode) inputs).told ++ last_in (Some mode) Done inputs)
+    → IsLeft mode inputs → Agree (recorded mode inputs) file
+left-agrees mode inputs file old read e left =
+    let lines = (run (opened mode) inputs).now.lines in
+    let last : last_in (Some mode) Done inputs ≡ last_line Done lines = ap (λ g. done_of g (run (opened mode) inputs).now) read in
     let dump = dump_text left.picture left.windows in
     let whole : file ≡ (old ++ left.front) ++ 10 ∷ (dump ++ (left.tail ++ last_line Done lines)) =
-    e ∙ ap (λ l. old ++ ((run (opened mode) turns).told ++ l)) last ∙ ap (λ l. old ++ (l ++ last_line Done lines)) left.told
+    e ∙ ap (λ l. old ++ ((run (opened mode) inputs).told ++ l)) last ∙ ap (λ l. old ++ (l ++ last_line Done lines)) left.told
     ∙ behind-all old left.front dump left.tail (last_line Done lines) in
     record {
       picture = left.picture;
@@ -256,19 +256,19 @@ left-agrees mode turns file old read e left =
 pub recording-agrees : (laws : RunLaws) (e : End) (mode : Mode) (stream file : List ℕ) → IsRecording e mode stream file
     → Agree stream file
 recording-agrees laws e mode stream file h =
-    let whole = whole-of e.given e.mode mode e.status e.turns e.bytes e.source e.screen e.report h.begun h.status h.ended in
-    let ran = ran-of e.given mode e.turns e.bytes e.source whole.comes in
+    let whole = whole-of e.given e.mode mode e.status e.inputs e.bytes e.source e.screen e.report h.begun h.status h.ended in
+    let ran = ran-of e.given mode e.inputs e.bytes e.source whole.comes in
     let last = h.ends in
-    let turns = last.before ++ last.redisplay ∷ last.behind in
-    let left : IsLeft mode turns =
+    let inputs = last.before ++ last.redisplay ∷ last.behind in
+    let left : IsLeft mode inputs =
     shown-run laws mode last.before last.redisplay last.behind h.dumps h.read (subst (Ran mode) last.split ran) last.shown last.leave in
-    let all : IsLeft mode e.turns = subst (IsLeft mode) (sym last.split) left in
-    let told = wrote e.report.before e.report.after (told_in (Some mode) e.turns ++ last_in (Some mode) Done e.turns) file h.told h.contents whole.told in
-    subst (λ s. Agree s file) (sym h.sent) (left-agrees mode e.turns file told.0 h.read told.1 all)
+    let all : IsLeft mode e.inputs = subst (IsLeft mode) (sym last.split) left in
+    let told = wrote e.report.before e.report.after (told_in (Some mode) e.inputs ++ last_in (Some mode) Done e.inputs) file h.told h.contents whole.told in
+    subst (λ s. Agree s file) (sym h.sent) (left-agrees mode e.inputs file told.0 h.read told.1 all)
 
 -- the screen's bytes end with the stream
 pub recording-sent : (e : End) (mode : Mode) (stream file : List ℕ) → IsRecording e mode stream file → (earlier : List ℕ) × Took e.screen (earlier ++ stream)
 recording-sent e mode stream file h =
-    let whole = whole-of e.given e.mode mode e.status e.turns e.bytes e.source e.screen e.report h.begun h.status h.ended in
-    let end = recorded-end mode e.turns (ran-of e.given mode e.turns e.bytes e.source whole.comes) in
+    let whole = whole-of e.given e.mode mode e.status e.inputs e.bytes e.source e.screen e.report h.begun h.status h.ended in
+    let end = recorded-end mode e.inputs (ran-of e.given mode e.inputs e.bytes e.source whole.comes) in
     (end.0, subst (Took e.screen) (end.1 ∙ ap (λ l. end.0 ++ l) (sym h.sent)) whole.sent)

@@ -1,8 +1,8 @@
 -- The bytes since the last accepted frame are those that the terminal has read, and the end of those that were sent.
 use Rattle.std.proofs.Common.{◌≡◌, ℕ, Bool, true, false, if◌then◌else◌, List, [], ◌∷◌, ◌++◌, None, refl, sym, ap, ◌∙◌, subst, append_assoc}
-use Rattle.rd_run.proofs.Turns.{run-clear, turn-goes}
+use Rattle.rd_run.proofs.Inputs.{run-clear, run_line-goes}
 use Rattle.rd_run.specs.Ends.{Ran}
-use Rattle.rd_run.specs.Runs.{AreOfOneSize, LeadsOn, Mode, Turn, World, after, effect, opened, run, turn}
+use Rattle.rd_run.specs.Runs.{AreOfOneSize, Input, LeadsOn, Mode, World, after, effect, opened, run, run_line}
 use Rattle.rd_state.specs.States.{StateValue}
 use Rattle.rd_term.proofs.Feeding.{feed_bytes-append}
 use Rattle.rd_term.specs.Terminals.{Tty, feed_bytes, unknown}
@@ -22,18 +22,18 @@ read-if false s next t bytes sent size h =
     ap (λ x. feed_bytes x sent) (h ∙ ap (λ x. feed_bytes (unknown x s.height) bytes) (sym same.0) ∙ ap (λ x. feed_bytes (unknown next.width x) bytes) (sym same.1))
     ∙ sym (feed_bytes-append (unknown next.width next.height) bytes sent)
 
-pub turn-reads : (w : World) (t : Turn) (bytes : List ℕ) → w.fault ≡ None → LeadsOn w t → HasRead bytes w → HasRead (since bytes (effect w.now t)) (turn w t)
-turn-reads w t bytes clear leads h =
+pub run_line-reads : (w : World) (t : Input) (bytes : List ℕ) → w.fault ≡ None → LeadsOn w t → HasRead bytes w → HasRead (since bytes (effect w.now t)) (run_line w t)
+run_line-reads w t bytes clear leads h =
     let e = effect w.now t in
     let here : HasRead (since bytes e) (after w e) = read-if e.fresh w.now.session.state e.now.session.state w.terminal bytes e.sent leads.size h in
-    subst (HasRead (since bytes e)) (sym (turn-goes w t clear)) here
+    subst (HasRead (since bytes e)) (sym (run_line-goes w t clear)) here
 
-run-reads : (w : World) (ts : List Turn) (bytes : List ℕ) → (run w ts).fault ≡ None → ((us : List Turn) (t : Turn) → LeadsOn (run w us) t) → HasRead bytes w → HasRead (since_frame bytes w ts) (run w ts)
+run-reads : (w : World) (ts : List Input) (bytes : List ℕ) → (run w ts).fault ≡ None → ((us : List Input) (t : Input) → LeadsOn (run w us) t) → HasRead bytes w → HasRead (since_frame bytes w ts) (run w ts)
 run-reads w [] bytes ran leads h = h
 run-reads w (t ∷ ts) bytes ran leads h =
-    run-reads (turn w t) ts (since bytes (effect w.now t)) ran (λ us u. leads (t ∷ us) u) (turn-reads w t bytes (run-clear w (t ∷ ts) ran) (leads [] t) h)
+    run-reads (run_line w t) ts (since bytes (effect w.now t)) ran (λ us u. leads (t ∷ us) u) (run_line-reads w t bytes (run-clear w (t ∷ ts) ran) (leads [] t) h)
 
-pub recorded-read : (mode : Mode) (ts : List Turn) → Ran mode ts → ((us : List Turn) (t : Turn) → LeadsOn (run (opened mode) us) t) → HasRead (recorded mode ts) (run (opened mode) ts)
+pub recorded-read : (mode : Mode) (ts : List Input) → Ran mode ts → ((us : List Input) (t : Input) → LeadsOn (run (opened mode) us) t) → HasRead (recorded mode ts) (run (opened mode) ts)
 recorded-read mode ts ran leads = run-reads (opened mode) ts [] ran leads refl
 
 -- ---- what was sent
@@ -46,19 +46,19 @@ end-if : (fresh : Bool) (bytes sent more : List ℕ) → IsEnd bytes sent → Is
 end-if true bytes sent more h = (sent, refl)
 end-if false bytes sent more h = (h.0, ap (λ l. l ++ more) h.1 ∙ append_assoc h.0 bytes more)
 
-run-end : (w : World) (ts : List Turn) (bytes : List ℕ) → (run w ts).fault ≡ None → IsEnd bytes w.sent → IsEnd (since_frame bytes w ts) (run w ts).sent
+run-end : (w : World) (ts : List Input) (bytes : List ℕ) → (run w ts).fault ≡ None → IsEnd bytes w.sent → IsEnd (since_frame bytes w ts) (run w ts).sent
 run-end w [] bytes ran h = h
 run-end w (t ∷ ts) bytes ran h =
     let e = effect w.now t in
-    let next : IsEnd (since bytes e) (turn w t).sent =
-    subst (λ (v : World). IsEnd (since bytes e) v.sent) (sym (turn-goes w t (run-clear w (t ∷ ts) ran))) (end-if e.fresh bytes w.sent e.sent h) in
-    run-end (turn w t) ts (since bytes e) ran next
+    let next : IsEnd (since bytes e) (run_line w t).sent =
+    subst (λ (v : World). IsEnd (since bytes e) v.sent) (sym (run_line-goes w t (run-clear w (t ∷ ts) ran))) (end-if e.fresh bytes w.sent e.sent h) in
+    run-end (run_line w t) ts (since bytes e) ran next
 
-pub recorded-end : (mode : Mode) (ts : List Turn) → Ran mode ts → IsEnd (recorded mode ts) (run (opened mode) ts).sent
+pub recorded-end : (mode : Mode) (ts : List Input) → Ran mode ts → IsEnd (recorded mode ts) (run (opened mode) ts).sent
 recorded-end mode ts ran = run-end (opened mode) ts [] ran ([], refl)
 
 -- ---- lines in two parts
 
-pub since-append : (bytes : List ℕ) (w : World) (ts us : List Turn) → since_frame bytes w (ts ++ us) ≡ since_frame (since_frame bytes w ts) (run w ts) us
+pub since-append : (bytes : List ℕ) (w : World) (ts us : List Input) → since_frame bytes w (ts ++ us) ≡ since_frame (since_frame bytes w ts) (run w ts) us
 since-append bytes w [] us = refl
-since-append bytes w (t ∷ ts) us = since-append (since bytes (effect w.now t)) (turn w t) ts us
+since-append bytes w (t ∷ ts) us = since-append (since bytes (effect w.now t)) (run_line w t) ts us

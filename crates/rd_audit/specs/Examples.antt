@@ -4,22 +4,22 @@ use Rattle.rd_io.specs.Lines.{text_of_lines}
 use Rattle.rd_run.specs.Alike.{End}
 use Rattle.rd_run.specs.Ends.{drawn, lines_in, sunk}
 use Rattle.rd_run.specs.Given.{Given}
-use Rattle.rd_run.specs.Runs.{Mode, Turn}
+use Rattle.rd_run.specs.Runs.{Input, Mode}
 use Rattle.rd_run.specs.declared.status.Status.TheVariants.{Done}
 
 -- a line whose redisplay, if it is one, finds memory
-abbrev pub fed : List ℕ → Turn
+abbrev pub fed : List ℕ → Input
 fed line = record { line = line; starved = false }
 
 -- a frame, two letters, and a redisplay
-abbrev pub before_redisplay : List Turn
+abbrev pub before_redisplay : List Input
 before_redisplay = fed (codes "{\"op\":\"frame\",\"width\":12,\"height\":2}") ∷ fed (codes "{\"op\":\"type\",\"text\":\"ab\"}") ∷ []
 
-abbrev pub redisplay : Turn
+abbrev pub redisplay : Input
 redisplay = fed (codes "{\"op\":\"redisplay\"}")
 
-abbrev pub short_turns : List Turn
-short_turns = before_redisplay ++ redisplay ∷ []
+abbrev pub short_inputs : List Input
+short_inputs = before_redisplay ++ redisplay ∷ []
 
 -- over files without an entry, with dumps or without
 abbrev pub short_mode : Bool → Mode
@@ -42,8 +42,8 @@ short_end dumps report = record {
   given = empty_files dumps;
   mode = Some (short_mode dumps);
   status = Done;
-  turns = short_turns;
-  bytes = text_of_lines (lines_in short_turns);
+  inputs = short_inputs;
+  bytes = text_of_lines (lines_in short_inputs);
   source = drawn (Some []) 0 0;
   screen = sunk (Some []) (Some short_stream) 0 0;
   report = sunk (Some []) (Some report) 0 0;

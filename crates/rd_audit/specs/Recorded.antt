@@ -3,7 +3,7 @@ use Rattle.std.specs.Prelude.{◌≡◌, ℕ, ◌≤◌, true, false, if◌then�
 use Rattle.rd_base.specs.declared.limits.TheConstants.{FILE_BYTES}
 use Rattle.rd_run.specs.Alike.{End}
 use Rattle.rd_run.specs.Ends.{Ended}
-use Rattle.rd_run.specs.Runs.{Effect, Mode, Turn, World, effect, is_sent, is_shown, opened, outcome_at, run, turn}
+use Rattle.rd_run.specs.Runs.{Effect, Input, Mode, World, effect, is_sent, is_shown, opened, outcome_at, run, run_line}
 use Rattle.rd_run.specs.declared.status.Status.TheVariants.{Done}
 use Rattle.rd_audit.specs.declared.stream.TheConstants.{STREAM_BYTES}
 
@@ -14,29 +14,29 @@ abbrev pub since : List ℕ → Effect → List ℕ
 since bytes e = (if e.fresh then [] else bytes) ++ e.sent
 
 -- the same behind lines that are run
-abbrev pub since_frame : List ℕ → World → List Turn → List ℕ
+abbrev pub since_frame : List ℕ → World → List Input → List ℕ
 since_frame bytes w [] = bytes
-since_frame bytes w (t ∷ ts) = since_frame (since bytes (effect w.now t)) (turn w t) ts
+since_frame bytes w (t ∷ ts) = since_frame (since bytes (effect w.now t)) (run_line w t) ts
 
 -- what the lines of a run sent since the last accepted frame
-abbrev pub recorded : Mode → List Turn → List ℕ
-recorded mode turns = since_frame [] (opened mode) turns
+abbrev pub recorded : Mode → List Input → List ℕ
+recorded mode inputs = since_frame [] (opened mode) inputs
 
 -- ---- the end
 
 -- lines that leave the screen as it is: none of their redisplays is shown or stopped, and no frame is accepted
-abbrev pub LeaveScreen : World → List Turn → Type 0
+abbrev pub LeaveScreen : World → List Input → Type 0
 LeaveScreen w [] = Unit {0}
-LeaveScreen w (t ∷ ts) = (is_sent (outcome_at w t) ≡ false) × ((effect w.now t).fresh ≡ false) × LeaveScreen (turn w t) ts
+LeaveScreen w (t ∷ ts) = (is_sent (outcome_at w t) ≡ false) × ((effect w.now t).fresh ≡ false) × LeaveScreen (run_line w t) ts
 
 -- a redisplay is shown, and the lines behind it leave the screen
-pub record EndsShown (w : World) (turns : List Turn) : Type 0 where
-  pub before : List Turn
-  pub redisplay : Turn
-  pub behind : List Turn
-  pub split : turns ≡ before ++ redisplay ∷ behind
+pub record EndsShown (w : World) (inputs : List Input) : Type 0 where
+  pub before : List Input
+  pub redisplay : Input
+  pub behind : List Input
+  pub split : inputs ≡ before ++ redisplay ∷ behind
   pub shown : is_shown (outcome_at (run w before) redisplay) ≡ true
-  pub leave : LeaveScreen (turn (run w before) redisplay) behind
+  pub leave : LeaveScreen (run_line (run w before) redisplay) behind
 
 -- A run with dumps, of a script that is read, ended with status 0 and a shown redisplay. The stream is what it sent since the last accepted
 -- frame, and the file what its report has, which tells its bytes; neither is longer than the auditor takes.
@@ -45,9 +45,9 @@ pub record IsRecording (e : End) (mode : Mode) (stream file : List ℕ) : Type 0
   pub dumps : mode.dumps ≡ true
   pub read : mode.generated ≡ None
   pub status : e.status ≡ Done
-  pub ended : Ended e.given e.mode e.status e.turns e.bytes e.source e.screen e.report
-  pub ends : EndsShown (opened mode) e.turns
-  pub sent : stream ≡ recorded mode e.turns
+  pub ended : Ended e.given e.mode e.status e.inputs e.bytes e.source e.screen e.report
+  pub ends : EndsShown (opened mode) e.inputs
+  pub sent : stream ≡ recorded mode e.inputs
   pub told : IsSome e.report.before
   pub contents : e.report.after ≡ Some file
   pub small : length file ≤ FILE_BYTES

@@ -7,7 +7,7 @@ ghost use Rattle.rd_run.specs.Ends.{last_in, told_in};
 ghost use Rattle.rd_run.specs.declared.status.Status.TheVariants.{Done};
 ghost use Rattle.rd_audit.specs.Cuts.{cut_last};
 ghost use Rattle.rd_audit.specs.Dumps.{dump_in};
-ghost use Rattle.rd_audit.specs.Examples.{report_without_dumps, short_end, short_mode, short_report, short_stream, short_turns};
+ghost use Rattle.rd_audit.specs.Examples.{report_without_dumps, short_end, short_inputs, short_mode, short_report, short_stream};
 ghost use Rattle.rd_audit.specs.Numbers.{number_of};
 ghost use Rattle.rd_audit.specs.Recorded.{IsRecording};
 ghost use Rattle.rd_audit.specs.Rows.{place_in};
@@ -52,7 +52,7 @@ fn worked_runs()
 /// The stream and the report of a short run with dumps are a recording. Those of the run without dumps are none: its report has no dump.
 fn worked_recordings()
     ensures dumped { IsRecording (short_end true short_report) (short_mode true) short_stream short_report }
-    ensures told { told_in (Some (short_mode false)) short_turns ++ last_in (Some (short_mode false)) Done short_turns ≡ report_without_dumps }
+    ensures told { told_in (Some (short_mode false)) short_inputs ++ last_in (Some (short_mode false)) Done short_inputs ≡ report_without_dumps }
     ensures bare { ¬ IsRecording (short_end false report_without_dumps) (short_mode false) short_stream report_without_dumps }
     ensures dumpless { dump_in report_without_dumps ≡ Err 0 }
 {}

@@ -8,7 +8,7 @@ ghost use Rattle.rd_dump.specs.Dumps.{dump_text};
 ghost use Rattle.rd_dump.specs.declared.dump.WindowFacts.{WindowFacts};
 ghost use Rattle.rd_run.specs.Alike.{End};
 ghost use Rattle.rd_run.specs.Ends.{Ran, Took};
-ghost use Rattle.rd_run.specs.Runs.{Mode, Turn, opened, run};
+ghost use Rattle.rd_run.specs.Runs.{Input, Mode, opened, run};
 ghost use Rattle.rd_audit.specs.Dumps.{dump_in};
 ghost use Rattle.rd_audit.specs.Printed.{HasDump, HasNoCursor};
 ghost use Rattle.rd_audit.specs.Recorded.{IsRecording, recorded};
@@ -36,8 +36,8 @@ pub fn printed_dumps_are_read_back()
 /// the report has a dump (`sound`), and yes comes of both (`yes`). Whatever part of the stream is read, nothing else comes of them but a
 /// read fault and want of memory (`only`). The call does nothing.
 pub fn recorded_runs_get_yes()
-    ensures terminal { (mode : Mode) (turns : List Turn) → Ran mode turns → (run (opened mode) turns).terminal
-        ≡ feed_bytes (unknown (run (opened mode) turns).now.session.state.width (run (opened mode) turns).now.session.state.height) (recorded mode turns) }
+    ensures terminal { (mode : Mode) (inputs : List Input) → Ran mode inputs → (run (opened mode) inputs).terminal
+        ≡ feed_bytes (unknown (run (opened mode) inputs).now.session.state.width (run (opened mode) inputs).now.session.state.height) (recorded mode inputs) }
     ensures screen { (e : End) (mode : Mode) (stream file : List ℕ) → IsRecording e mode stream file → (earlier : List ℕ) × Took e.screen (earlier ++ stream) }
     ensures sound { (e : End) (mode : Mode) (stream file name : List ℕ) (told : List ℕ → Option (List ℕ)) → IsRecording e mode stream file → told name ≡ Some file
         → IsSound (name ∷ []) told (Some stream) }

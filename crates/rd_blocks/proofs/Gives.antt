@@ -15,7 +15,7 @@ use Rattle.rd_objects.specs.declared.run.Spec.TheVariants.{Text, Width, Align}
 use Rattle.rd_text.specs.Texts.{is_newline}
 use Rattle.rd_glyphs.specs.Characters.{PartValues, glyph_elements, entry_of, elements_of}
 use Rattle.rd_glyphs.specs.Joining.{is_empty_entry}
-use Rattle.rd_glyphs.specs.Marks.{marked_glyph, joined_from, joined}
+use Rattle.rd_glyphs.specs.Marks.{marked_glyph, marks_joined_from, marks_joined}
 use Rattle.rd_items.specs.Pieces.{Scene, gives_element, give_elements, string_gives, ellipsis_gives}
 use Rattle.rd_items.specs.Items.{kind_gives}
 use Rattle.rd_items.specs.declared.item.ItemKind.{ItemKind}
@@ -25,8 +25,8 @@ use Rattle.rd_levels.specs.Turns.{turns_of}
 use Rattle.rd_levels.specs.declared.turn.Turn.{Turn}
 use Rattle.rd_order.proofs.Once.{is_place, once-at-least}
 use Rattle.rd_stack.specs.Strings.{place_of, run_heads, ends_row, part_of, part_joins, part_class, part_code, shown_by, shown_at, in_order, row, row_end, rows_from}
-use Rattle.rd_stack.specs.Shown.{kind_elements, inner_elements, inner}
-use Rattle.rd_stack.specs.Lines.{ellipsis_glyphs, outer_by}
+use Rattle.rd_stack.specs.Shown.{kind_elements, display_part_elements, display_elements}
+use Rattle.rd_stack.specs.Lines.{ellipsis_glyphs, item_elements_by}
 use Rattle.rd_stack.specs.declared.part.Place.{Place}
 use Rattle.rd_stack.specs.declared.part.Part.{Part}
 use Rattle.rd_stack.specs.declared.part.Shown.{Shown}
@@ -106,9 +106,9 @@ turn-some f g k [] there some = absurd (omega (arith, there))
 turn-some f g k (t ∷ ts) there some = turn-by (nat_eq k t.index) f g k t ts refl there some (λ h. turn-some f g k ts h some)
 
 part-at : CharactersGive → (s : Scene) (origin : Origin) (xs : List Part) (x : Part) (t : Turn) → slice_get xs t.index ≡ Some x → part_gives s x.kind ≡ true
-    → 1 ≤ length (flat_map (inner_elements s origin) (shown_at xs t))
+    → 1 ≤ length (flat_map (display_part_elements s origin) (shown_at xs t))
 part-at law s origin xs x t at gives =
-    subst (λ (o : Option Part). 1 ≤ length (flat_map (inner_elements s origin) (shown_by t.odd o))) (sym at)
+    subst (λ (o : Option Part). 1 ≤ length (flat_map (display_part_elements s origin) (shown_by t.odd o))) (sym at)
     (some-front (kind_elements s x.kind x.face t.odd origin) [] (kind-some law s x.kind x.face t.odd origin gives))
 
 -- the place of a part that gives an element
@@ -130,7 +130,7 @@ gives-at : (s : Scene) (xs : List Part) → some_gives s xs ≡ true → GivesAt
 gives-at s [] h = absurd (let q : false ≡ true = h in cc)
 gives-at s (x ∷ xs) h = gives-by s x xs (or-parts (part_gives s x.kind) (some_gives s xs) h) (gives-at s xs)
 
-order-some : CharactersGive → (s : Scene) (base : ℕ) (origin : Origin) (xs : List Part) → some_gives s xs ≡ true → 1 ≤ length (flat_map (inner_elements s origin) (in_order s base xs))
+order-some : CharactersGive → (s : Scene) (base : ℕ) (origin : Origin) (xs : List Part) → some_gives s xs ≡ true → 1 ≤ length (flat_map (display_part_elements s origin) (in_order s base xs))
 order-some law s base origin xs h =
     let found = gives-at s xs h in
     let turns = turns_of s.brackets s.parts.settings.reorder base (map part_class xs) (map part_code xs) in
@@ -140,27 +140,27 @@ order-some law s base origin xs h =
     let each = each-turn s.brackets s.parts.settings.reorder base (map part_class xs) (map part_code xs) (is_place found.place) in
     let once = once-at-least found.place 0 (length (map part_class xs)) (omega arith) (omega (arith, size, within)) in
     omega (arith, each, once) in
-    turn-some (inner_elements s origin) (shown_at xs) found.place turns there
+    turn-some (display_part_elements s origin) (shown_at xs) found.place turns there
     (λ t same. part-at law s origin xs found.part t (ap (slice_get xs) same ∙ found.at) found.gives)
 
 -- marks that join take no part away without another that gives an element
 
 held-gives : (s : Scene) (held x : Part) (m : Option Glyph) (rest : List Part)
     → (part_gives s held.kind ≡ true) ⊎ ((part_gives s x.kind || some_gives s rest) ≡ true)
-    → ((y : Part) → (part_gives s y.kind ≡ true) ⊎ (some_gives s rest ≡ true) → some_gives s (joined_from part_joins y rest) ≡ true)
-    → some_gives s ((if is_some (option_map (λ glyph. part_joins.grown held glyph x) m) then [] else held ∷ []) ++ joined_from part_joins (unwrap_or (option_map (λ glyph. part_joins.grown held glyph x) m) x) rest) ≡ true
+    → ((y : Part) → (part_gives s y.kind ≡ true) ⊎ (some_gives s rest ≡ true) → some_gives s (marks_joined_from part_joins y rest) ≡ true)
+    → some_gives s ((if is_some (option_map (λ glyph. part_joins.grown held glyph x) m) then [] else held ∷ []) ++ marks_joined_from part_joins (unwrap_or (option_map (λ glyph. part_joins.grown held glyph x) m) x) rest) ≡ true
 held-gives s held x (Some g) rest h later = later (part_joins.grown held g x) (inl refl)
-held-gives s held x None rest (inl h) later = or-left (part_gives s held.kind) (some_gives s (joined_from part_joins x rest)) h
-held-gives s held x None rest (inr h) later = or-right (part_gives s held.kind) (some_gives s (joined_from part_joins x rest)) (later x (or-parts (part_gives s x.kind) (some_gives s rest) h))
+held-gives s held x None rest (inl h) later = or-left (part_gives s held.kind) (some_gives s (marks_joined_from part_joins x rest)) h
+held-gives s held x None rest (inr h) later = or-right (part_gives s held.kind) (some_gives s (marks_joined_from part_joins x rest)) (later x (or-parts (part_gives s x.kind) (some_gives s rest) h))
 
-joined_from-gives : (s : Scene) (held : Part) (xs : List Part) → (part_gives s held.kind ≡ true) ⊎ (some_gives s xs ≡ true) → some_gives s (joined_from part_joins held xs) ≡ true
-joined_from-gives s held [] (inl h) = or-left (part_gives s held.kind) false h
-joined_from-gives s held [] (inr h) = absurd (let q : false ≡ true = h in cc)
-joined_from-gives s held (x ∷ xs) h = held-gives s held x (marked_glyph (part_joins.base held) (part_joins.mark x)) xs h (λ y. joined_from-gives s y xs)
+marks_joined_from-gives : (s : Scene) (held : Part) (xs : List Part) → (part_gives s held.kind ≡ true) ⊎ (some_gives s xs ≡ true) → some_gives s (marks_joined_from part_joins held xs) ≡ true
+marks_joined_from-gives s held [] (inl h) = or-left (part_gives s held.kind) false h
+marks_joined_from-gives s held [] (inr h) = absurd (let q : false ≡ true = h in cc)
+marks_joined_from-gives s held (x ∷ xs) h = held-gives s held x (marked_glyph (part_joins.base held) (part_joins.mark x)) xs h (λ y. marks_joined_from-gives s y xs)
 
-joined-gives : (s : Scene) (xs : List Part) → some_gives s xs ≡ true → some_gives s (joined part_joins xs) ≡ true
-joined-gives s [] h = h
-joined-gives s (x ∷ xs) h = joined_from-gives s x xs (or-parts (part_gives s x.kind) (some_gives s xs) h)
+marks_joined-gives : (s : Scene) (xs : List Part) → some_gives s xs ≡ true → some_gives s (marks_joined part_joins xs) ≡ true
+marks_joined-gives s [] h = h
+marks_joined-gives s (x ∷ xs) h = marks_joined_from-gives s x xs (or-parts (part_gives s x.kind) (some_gives s xs) h)
 
 append-by : (s : Scene) (x : Part) (xs ys : List Part) → (part_gives s x.kind ≡ true) ⊎ (some_gives s xs ≡ true) → (some_gives s xs ≡ true → some_gives s (xs ++ ys) ≡ true) → some_gives s (x ∷ (xs ++ ys)) ≡ true
 append-by s x xs ys (inl h) later = or-left (part_gives s x.kind) (some_gives s (xs ++ ys)) h
@@ -208,13 +208,13 @@ go-on s xs text under i is e (inl h) = inl (gives-append s xs (part_of s (bare_p
 go-on s xs text under i is e (inr h) = go-by s xs text under i is e (or-parts (gives_element s.parts.table (get_or text.chars i 0)) (char_gives s text is) h)
 
 rows-some : CharactersGive → (s : Scene) (base : ℕ) (origin : Origin) (text : TextValue) (under : Attributes) (xs : List Part) (is : List ℕ)
-    → (some_gives s xs ≡ true) ⊎ (char_gives s text is ≡ true) → 1 ≤ length (flat_map (inner_elements s origin) (rows_from s base xs (map (bare_place text under) is)))
-rows-some law s base origin text under xs [] (inl h) = order-some law s base origin (joined part_joins xs) (joined-gives s xs h)
+    → (some_gives s xs ≡ true) ⊎ (char_gives s text is ≡ true) → 1 ≤ length (flat_map (display_part_elements s origin) (rows_from s base xs (map (bare_place text under) is)))
+rows-some law s base origin text under xs [] (inl h) = order-some law s base origin (marks_joined part_joins xs) (marks_joined-gives s xs h)
 rows-some law s base origin text under xs [] (inr h) = absurd (let q : false ≡ true = h in cc)
 rows-some law s base origin text under xs (i ∷ is) h =
     let p = bare_place text under i in
-    rows-by (ends_row p) (inner_elements s origin) (row s base xs ++ row_end p.face ∷ rows_from s base [] (map (bare_place text under) is)) (rows_from s base (xs ++ part_of s p ∷ []) (map (bare_place text under) is))
-    (λ e. back-more (inner_elements s origin) (row s base xs) (row_end p.face ∷ rows_from s base [] (map (bare_place text under) is)) (omega arith))
+    rows-by (ends_row p) (display_part_elements s origin) (row s base xs ++ row_end p.face ∷ rows_from s base [] (map (bare_place text under) is)) (rows_from s base (xs ++ part_of s p ∷ []) (map (bare_place text under) is))
+    (λ e. back-more (display_part_elements s origin) (row s base xs) (row_end p.face ∷ rows_from s base [] (map (bare_place text under) is)) (omega arith))
     (λ e. rows-some law s base origin text under (xs ++ part_of s p ∷ []) is (go-on s xs text under i is e h))
 
 get-behind : (front : List ℕ) (c : ℕ) (cs : List ℕ) → get_or (front ++ c ∷ cs) (length front) 0 ≡ c
@@ -242,11 +242,11 @@ chars-at s text (c ∷ cs) front is h =
     chars-by s text c cs (length front) (get-at front c cs text.chars is) (or-parts (gives_element s.parts.table c) (give_elements s.parts.table cs) h)
     (λ k. subst (λ n. char_gives s text (range_with_len n (length cs)) ≡ true) (size-more front c) (chars-at s text cs (front ++ c ∷ []) (is ∙ one-behind front c cs) k))
 
-string-some : CharactersGive → (s : Scene) (base : ℕ) (origin : Origin) (under : Attributes) (text : Option TextValue) → string_gives s.parts.table text ≡ true → 1 ≤ length (inner s base origin under text)
+string-some : CharactersGive → (s : Scene) (base : ℕ) (origin : Origin) (under : Attributes) (text : Option TextValue) → string_gives s.parts.table text ≡ true → 1 ≤ length (display_elements s base origin under text)
 string-some law s base origin under None h = absurd (let q : false ≡ true = h in cc)
 string-some law s base origin under (Some text) h =
     let size : length text.chars ≡ length text.chars - 0 = omega arith in
-    subst (λ (ps : List Place). 1 ≤ length (flat_map (inner_elements s origin) (rows_from s base [] ps))) (sym (bare-heads text under (range_with_len 0 (length text.chars - 0))))
+    subst (λ (ps : List Place). 1 ≤ length (flat_map (display_part_elements s origin) (rows_from s base [] ps))) (sym (bare-heads text under (range_with_len 0 (length text.chars - 0))))
     (rows-some law s base origin text under [] (range_with_len 0 (length text.chars - 0)) (inr (subst (λ n. char_gives s text (range_with_len 0 n) ≡ true) size (chars-at s text text.chars [] refl h))))
 
 -- what an item shows
@@ -260,7 +260,7 @@ ellipsis-some : (table : Option TableValue) (face : Attributes) (origin : Origin
 ellipsis-some None face origin h = let e : 1 ≤ 3 = omega arith in e
 ellipsis-some (Some table) face origin h = glyphs-some table.ellipsis face origin h
 
-pub item-some : CharactersGive → (s : Scene) (base : ℕ) (k : ItemKind) (odd : Bool) (face : Attributes) (origin : Origin) → kind_gives s k ≡ true → 1 ≤ length (outer_by s base k false odd face origin)
+pub item-some : CharactersGive → (s : Scene) (base : ℕ) (k : ItemKind) (odd : Bool) (face : Attributes) (origin : Origin) → kind_gives s k ≡ true → 1 ≤ length (item_elements_by s base k false odd face origin)
 item-some law s base (item.Char c) odd face origin h = law s.parts c odd face origin (not-true (is_empty_entry (entry_of s.parts.table c)) h)
 item-some law s base (item.Marked g) odd face origin h = omega arith
 item-some law s base (item.Text n) odd face origin h = string-some law s base origin face (slice_get s.objects.strings n) h

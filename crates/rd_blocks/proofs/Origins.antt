@@ -17,8 +17,8 @@ use Rattle.rd_items.specs.Pieces.{Scene}
 use Rattle.rd_items.specs.declared.item.ItemKind.{ItemKind}
 use Rattle.rd_items.specs.declared.item.ItemKind.TheVariants as item
 use Rattle.rd_stack.specs.Strings.{string_parts}
-use Rattle.rd_stack.specs.Shown.{space_elements, kind_elements, inner_elements, inner, middle_by, middle_elements, middle}
-use Rattle.rd_stack.specs.Lines.{ellipsis_glyphs, text_elements, outer_by}
+use Rattle.rd_stack.specs.Shown.{space_elements, kind_elements, display_part_elements, display_elements, overlay_part_by, overlay_part_elements, overlay_elements}
+use Rattle.rd_stack.specs.Lines.{ellipsis_glyphs, text_elements, item_elements_by}
 use Rattle.rd_stack.specs.declared.part.PartKind.{PartKind}
 use Rattle.rd_stack.specs.declared.part.PartKind.TheVariants as kind
 
@@ -64,29 +64,29 @@ module _ (origin : Origin) where
   part-of s (kind.Replaced spec) face odd = space-of spec face
   part-of s kind.RowEnd face odd = one-of (element_of face origin look.RowEnd) refl
 
-  inner-of : (s : Scene) (base : ℕ) (under : Attributes) (text : Option TextValue) → AreOf (inner s base origin under text)
-  inner-of s base under None = All-nil IsOf
-  inner-of s base under (Some text) =
-      each-of (inner_elements s origin) (λ x. part-of s x.kind x.face x.odd) (string_parts s base false text under)
+  display-of : (s : Scene) (base : ℕ) (under : Attributes) (text : Option TextValue) → AreOf (display_elements s base origin under text)
+  display-of s base under None = All-nil IsOf
+  display-of s base under (Some text) =
+      each-of (display_part_elements s origin) (λ x. part-of s x.kind x.face x.odd) (string_parts s base false text under)
 
-  middle-part-of : (s : Scene) (base : ℕ) (k : PartKind) (face : Attributes) (odd : Bool) → AreOf (middle_by s base origin k face odd)
-  middle-part-of s base (kind.Replaced (Text n)) face odd = inner-of s base face (slice_get s.objects.strings n)
-  middle-part-of s base (kind.Replaced (Width n)) face odd = part-of s (kind.Replaced (Width n)) face odd
-  middle-part-of s base (kind.Replaced (Align n)) face odd = part-of s (kind.Replaced (Align n)) face odd
-  middle-part-of s base (kind.Char c) face odd = part-of s (kind.Char c) face odd
-  middle-part-of s base (kind.Marked g) face odd = part-of s (kind.Marked g) face odd
-  middle-part-of s base kind.RowEnd face odd = part-of s kind.RowEnd face odd
+  overlay-part-of : (s : Scene) (base : ℕ) (k : PartKind) (face : Attributes) (odd : Bool) → AreOf (overlay_part_by s base origin k face odd)
+  overlay-part-of s base (kind.Replaced (Text n)) face odd = display-of s base face (slice_get s.objects.strings n)
+  overlay-part-of s base (kind.Replaced (Width n)) face odd = part-of s (kind.Replaced (Width n)) face odd
+  overlay-part-of s base (kind.Replaced (Align n)) face odd = part-of s (kind.Replaced (Align n)) face odd
+  overlay-part-of s base (kind.Char c) face odd = part-of s (kind.Char c) face odd
+  overlay-part-of s base (kind.Marked g) face odd = part-of s (kind.Marked g) face odd
+  overlay-part-of s base kind.RowEnd face odd = part-of s kind.RowEnd face odd
 
-  middle-of : (s : Scene) (base : ℕ) (under : Attributes) (text : Option TextValue) → AreOf (middle s base origin under text)
-  middle-of s base under None = All-nil IsOf
-  middle-of s base under (Some text) =
-      each-of (middle_elements s base origin) (λ x. middle-part-of s base x.kind x.face x.odd) (string_parts s base true text under)
+  overlay-of : (s : Scene) (base : ℕ) (under : Attributes) (text : Option TextValue) → AreOf (overlay_elements s base origin under text)
+  overlay-of s base under None = All-nil IsOf
+  overlay-of s base under (Some text) =
+      each-of (overlay_part_elements s base origin) (λ x. overlay-part-of s base x.kind x.face x.odd) (string_parts s base true text under)
 
   text-of : (s : Scene) (base : ℕ) (overlay : Bool) (face : Attributes) (text : Option TextValue) → AreOf (text_elements s base overlay origin face text)
-  text-of s base true face text = middle-of s base face text
-  text-of s base false face text = inner-of s base face text
+  text-of s base true face text = overlay-of s base face text
+  text-of s base false face text = display-of s base face text
 
-  pub item-of : (s : Scene) (base : ℕ) (k : ItemKind) (overlay odd : Bool) (face : Attributes) → AreOf (outer_by s base k overlay odd face origin)
+  pub item-of : (s : Scene) (base : ℕ) (k : ItemKind) (overlay odd : Bool) (face : Attributes) → AreOf (item_elements_by s base k overlay odd face origin)
   item-of s base (item.Char c) overlay odd face = character-of s.parts c odd face
   item-of s base (item.Marked g) overlay odd face = one-of (element_of face origin (look.Glyph g)) refl
   item-of s base (item.Text n) overlay odd face = text-of s base overlay face (slice_get s.objects.strings n)

@@ -20,7 +20,7 @@ use Rattle.rd_matrix.specs.Held.{in_range}
 use Rattle.rd_order.proofs.Once.{total, is_place, once-at-most}
 use Rattle.rd_rows.specs.Laws.{ranges_of}
 use Rattle.rd_rows.specs.Placing.{is_item}
-use Rattle.rd_stack.specs.Lines.{outer_by, outer, origin_of, item_elements, item_class, item_code, item_turns, line_of_items}
+use Rattle.rd_stack.specs.Lines.{item_elements_by, turn_elements, origin_of, item_elements, item_class, item_code, item_turns, line_of_items}
 use Rattle.rd_blocks.proofs.Origins.{AreOf, item-of}
 use Rattle.rd_blocks.proofs.Gives.{CharactersGive, item-some}
 
@@ -88,7 +88,7 @@ behind-rest (Some k) t ts behind = omega (arith, behind)
 module _ (s : Scene) (base : ℕ) (q : ℕ × ℕ → Bool) where
   -- an item that this tests has an element
   abbrev pub HasElements : Item → Type 0
-  HasElements x = (odd : Bool) (origin : Origin) → q (range_of_item x) ≡ true → 1 ≤ length (outer_by s base x.kind x.overlay odd x.face origin)
+  HasElements x = (odd : Bool) (origin : Origin) → q (range_of_item x) ≡ true → 1 ≤ length (item_elements_by s base x.kind x.overlay odd x.face origin)
 
   abbrev one_if : Bool → ℕ
   one_if b = cond b 1 0
@@ -112,10 +112,10 @@ module _ (s : Scene) (base : ℕ) (q : ℕ × ℕ → Bool) where
 
   counted-turn : (before : Option ℕ) (t : Turn) (o : Option Item) (rest : List Element) (n : ℕ) → is_item before t.index ≡ false → ((x : Item) → o ≡ Some x → HasElements x)
       → count_by q (ranges_of before rest) ≡ n → count_by q (ranges_of (Some t.index) rest) ≡ n
-      → count_by q (ranges_of before (outer s base t o ++ rest)) ≡ hit_by q o + n
+      → count_by q (ranges_of before (turn_elements s base t o ++ rest)) ≡ hit_by q o + n
   counted-turn before t None rest n other some same later = same ∙ plus-none 0 n refl
   counted-turn before t (Some x) rest n other some same later =
-      counted-by before t x (outer_by s base x.kind x.overlay t.odd x.face (origin_of t.index x)) rest n other
+      counted-by before t x (item_elements_by s base x.kind x.overlay t.odd x.face (origin_of t.index x)) rest n other
       (item-of (origin_of t.index x) s base x.kind x.overlay t.odd x.face)
       (λ h. some x refl t.odd (origin_of t.index x) h) (λ e. same) later
 
@@ -213,7 +213,7 @@ module _ (size : ℕ) where
   ranges-in before (e ∷ es) all =
       range-in (is_item before e.origin.item) (e.origin.from, e.origin.to) (ranges_of (Some e.origin.item) es) (all 0 e (omega arith)) (ranges-in (Some e.origin.item) es (All-tail LiesIn e es all))
 
-  turn-in : (s : Scene) (base : ℕ) (t : Turn) (o : Option Item) → ((x : Item) → o ≡ Some x → LiesWithin size (range_of_item x)) → All LiesIn (outer s base t o)
+  turn-in : (s : Scene) (base : ℕ) (t : Turn) (o : Option Item) → ((x : Item) → o ≡ Some x → LiesWithin size (range_of_item x)) → All LiesIn (turn_elements s base t o)
   turn-in s base t None each = All-nil LiesIn
   turn-in s base t (Some x) each =
       let own = item-of (origin_of t.index x) s base x.kind x.overlay t.odd x.face in
@@ -242,7 +242,7 @@ pub item-has : CharactersGive → (s : Scene) (base k : ℕ) (x : Item) → nat_
 item-has law s base k x covers = λ odd origin held.
     let less = less-true x.from x.to (holds-less k (range_of_item x) held) in
     let parts = and-parts (nat_lt x.from x.to) x.overlay (kind_gives s x.kind) less covers in
-    subst (λ (b : Bool). 1 ≤ length (outer_by s base x.kind b odd x.face origin)) (sym parts.0)
+    subst (λ (b : Bool). 1 ≤ length (item_elements_by s base x.kind b odd x.face origin)) (sym parts.0)
     (item-some law s base x.kind odd x.face origin parts.1)
 
 -- the items of a line: each offset is in the range of exactly one

@@ -9,7 +9,7 @@ use Rattle.rd_base.specs.declared.cell.Glyph.{Glyph}
 use Rattle.rd_text.specs.Texts.{is_newline}
 use Rattle.rd_objects.specs.declared.run.Spec.{Spec}
 use Rattle.rd_objects.specs.declared.run.Spec.TheVariants.{Text, Width, Align}
-use Rattle.rd_glyphs.specs.Marks.{marked_glyph, joined_from, joined}
+use Rattle.rd_glyphs.specs.Marks.{marked_glyph, marks_joined_from, marks_joined}
 use Rattle.rd_props.specs.Seen.{Seen}
 use Rattle.rd_props.specs.declared.hiding.Hidden.{Hidden}
 use Rattle.rd_props.specs.declared.hiding.Hidden.TheVariants.{No, Plain, Ellipsis}
@@ -76,18 +76,18 @@ module _ (n : ℕ) where
   next-in held x None h k = k
   next-in held x (Some g) h k = (h.0, k.1)
 
-  joined_from-in : (held : Piece) (xs : List Piece) → IsIn held → All IsIn xs → All IsIn (joined_from piece_joins held xs)
-  joined_from-in held [] h each = All-cons IsIn held [] h (All-nil IsIn)
-  joined_from-in held (x ∷ xs) h each =
+  marks_joined_from-in : (held : Piece) (xs : List Piece) → IsIn held → All IsIn xs → All IsIn (marks_joined_from piece_joins held xs)
+  marks_joined_from-in held [] h each = All-cons IsIn held [] h (All-nil IsIn)
+  marks_joined_from-in held (x ∷ xs) h each =
       let m = marked_glyph held.base x.mark in
       let next = unwrap_or (option_map (λ g. piece_joins.grown held g x) m) x in
-      All-append IsIn (if is_some (option_map (λ g. piece_joins.grown held g x) m) then [] else held ∷ []) (joined_from piece_joins next xs)
+      All-append IsIn (if is_some (option_map (λ g. piece_joins.grown held g x) m) then [] else held ∷ []) (marks_joined_from piece_joins next xs)
       (held-in held x m h)
-      (joined_from-in next xs (next-in held x m h (each 0 x (omega arith))) (All-tail IsIn x xs each))
+      (marks_joined_from-in next xs (next-in held x m h (each 0 x (omega arith))) (All-tail IsIn x xs each))
 
-  joined-in : (xs : List Piece) → All IsIn xs → All IsIn (joined piece_joins xs)
-  joined-in [] each = each
-  joined-in (x ∷ xs) each = joined_from-in x xs (each 0 x (omega arith)) (All-tail IsIn x xs each)
+  marks_joined-in : (xs : List Piece) → All IsIn xs → All IsIn (marks_joined piece_joins xs)
+  marks_joined-in [] each = each
+  marks_joined-in (x ∷ xs) each = marks_joined_from-in x xs (each 0 x (omega arith)) (All-tail IsIn x xs each)
 
   abbrev EndsIn : Item → Type 0
   EndsIn x = x.to ≤ n
@@ -107,4 +107,4 @@ module _ (n : ℕ) where
       (by-in since x x.kind (each 0 x (omega arith))) (covering-in (covered_to since x) xs (All-tail IsIn x xs each))
 
   pub items-within : (s : Scene) (es : List Seen) → length es ≤ n → All (λ (x : Item). x.to ≤ n) (items_of s es)
-  items-within s es h = covering-in 0 (joined piece_joins (pieces_from s 0 0 es)) (joined-in (pieces_from s 0 0 es) (pieces-in s 0 0 es (omega (arith, h))))
+  items-within s es h = covering-in 0 (marks_joined piece_joins (pieces_from s 0 0 es)) (marks_joined-in (pieces_from s 0 0 es) (pieces-in s 0 0 es (omega (arith, h))))

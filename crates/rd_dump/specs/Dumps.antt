@@ -10,20 +10,20 @@ use Rattle.rd_base.specs.declared.cell.Cell.{Cell}
 use Rattle.rd_base.specs.declared.cell.Cell.TheVariants.{Blank, First, Rest}
 use Rattle.rd_term.specs.Pictures.{Picture}
 use Rattle.rd_dump.specs.declared.dump.WindowFacts.{WindowFacts}
-use Rattle.rd_dump.specs.declared.print.Part.{Part}
-use Rattle.rd_dump.specs.declared.print.Part.TheVariants.{Text, Number}
+use Rattle.rd_dump.specs.declared.print.Token.{Token}
+use Rattle.rd_dump.specs.declared.print.Token.TheVariants.{Text, Number}
 
 abbrev pub newline : List ℕ
 newline = 10 ∷ []
 
--- ---- the parts of a line
+-- ---- the tokens of a line
 
-abbrev pub part_text : Part → List ℕ
-part_text (Text text) = text.now
-part_text (Number n) = decimal n
+abbrev pub token_text : Token → List ℕ
+token_text (Text text) = text.now
+token_text (Number n) = decimal n
 
-abbrev pub parts_text : List Part → List ℕ
-parts_text parts = flat_map part_text parts
+abbrev pub tokens_text : List Token → List ℕ
+tokens_text tokens = flat_map token_text tokens
 
 -- pieces of a text, one after the other
 abbrev pub pieces : List (List ℕ) → List ℕ

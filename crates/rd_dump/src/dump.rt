@@ -6,7 +6,7 @@ ghost use Rattle.rd_io.specs.Devices.{Rose, Writes};
 ghost use Rattle.rd_dump.specs.Dumps.{dump_text, windows_text, window_line, place_text, cursor_line, rows_text, row_line, cells_text, cell_text, glyph_text};
 ghost use Rattle.rd_dump.specs.Prints.{Prints};
 
-use crate::print::{Part, print_bytes, print_character, print_parts};
+use crate::print::{Token, print_bytes, print_character, print_tokens};
 use crate::runs::print_runs;
 use rd_base::{Anchor, Cell, Glyph, Pos};
 use rd_io::{Failed, Piece, Sink};
@@ -56,36 +56,36 @@ fn print_window<K: Sink>(sink: &mut K, facts: &WindowFacts) -> Result<(), Failed
     ensures { Prints (K.written sink.old) (K.written sink.new) (K.faults sink.old) (K.faults sink.new) (window_line facts.now) result }
 {
     let mut piece = Piece::new();
-    match print_window_parts(&mut piece, facts) {
+    match print_window_tokens(&mut piece, facts) {
         Ok(()) => print_bytes(sink, piece.bytes()),
-        Err(_full) => print_window_parts(sink, facts),
+        Err(_full) => print_window_tokens(sink, facts),
     }
 }
 
-/// Writes the parts of a window's line.
-fn print_window_parts<K: Sink>(sink: &mut K, facts: &WindowFacts) -> Result<(), Failed>
+/// Writes the tokens of a window's line.
+fn print_window_tokens<K: Sink>(sink: &mut K, facts: &WindowFacts) -> Result<(), Failed>
     ensures { Prints (K.written sink.old) (K.written sink.new) (K.faults sink.old) (K.faults sink.new) (window_line facts.now) result }
 {
-    let parts = [
-        Part::Text("window "),
-        Part::Number(facts.window as u64),
-        Part::Text(" at "),
-        Part::Number(facts.rect.y as u64),
-        Part::Text(","),
-        Part::Number(facts.rect.x as u64),
-        Part::Text(" size "),
-        Part::Number(facts.rect.width as u64),
-        Part::Text("x"),
-        Part::Number(facts.rect.height as u64),
-        Part::Text(" start "),
-        Part::Number(facts.start.pos as u64),
-        Part::Text("."),
-        Part::Number(facts.start.row as u64),
-        Part::Text(" point "),
-        Part::Number(facts.point as u64),
-        Part::Text(" cursor "),
+    let tokens = [
+        Token::Text("window "),
+        Token::Number(facts.window as u64),
+        Token::Text(" at "),
+        Token::Number(facts.rect.y as u64),
+        Token::Text(","),
+        Token::Number(facts.rect.x as u64),
+        Token::Text(" size "),
+        Token::Number(facts.rect.width as u64),
+        Token::Text("x"),
+        Token::Number(facts.rect.height as u64),
+        Token::Text(" start "),
+        Token::Number(facts.start.pos as u64),
+        Token::Text("."),
+        Token::Number(facts.start.row as u64),
+        Token::Text(" point "),
+        Token::Number(facts.point as u64),
+        Token::Text(" cursor "),
     ];
-    print_parts(sink, &parts)?;
+    print_tokens(sink, &tokens)?;
     print_place(sink, facts.cursor)
 }
 
@@ -94,16 +94,16 @@ fn print_place<K: Sink>(sink: &mut K, place: Option<(u32, u32)>) -> Result<(), F
     ensures { Prints (K.written sink.old) (K.written sink.new) (K.faults sink.old) (K.faults sink.new) (place_text place) result }
 {
     match place {
-        Some((row, column)) => print_parts(
+        Some((row, column)) => print_tokens(
             sink,
             &[
-                Part::Number(row as u64),
-                Part::Text(","),
-                Part::Number(column as u64),
-                Part::Text("\n"),
+                Token::Number(row as u64),
+                Token::Text(","),
+                Token::Number(column as u64),
+                Token::Text("\n"),
             ],
         ),
-        None => print_parts(sink, &[Part::Text("none\n")]),
+        None => print_tokens(sink, &[Token::Text("none\n")]),
     }
 }
 
@@ -112,17 +112,17 @@ fn print_cursor<K: Sink>(sink: &mut K, screen: &Screen) -> Result<(), Failed>
     ensures { Prints (K.written sink.old) (K.written sink.new) (K.faults sink.old) (K.faults sink.new) (cursor_line screen.now) result }
 {
     let mut piece = Piece::new();
-    match print_cursor_parts(&mut piece, screen) {
+    match print_cursor_tokens(&mut piece, screen) {
         Ok(()) => print_bytes(sink, piece.bytes()),
-        Err(_full) => print_cursor_parts(sink, screen),
+        Err(_full) => print_cursor_tokens(sink, screen),
     }
 }
 
-/// Writes the parts of the cursor's line.
-fn print_cursor_parts<K: Sink>(sink: &mut K, screen: &Screen) -> Result<(), Failed>
+/// Writes the tokens of the cursor's line.
+fn print_cursor_tokens<K: Sink>(sink: &mut K, screen: &Screen) -> Result<(), Failed>
     ensures { Prints (K.written sink.old) (K.written sink.new) (K.faults sink.old) (K.faults sink.new) (cursor_line screen.now) result }
 {
-    print_parts(sink, &[Part::Text("cursor ")])?;
+    print_tokens(sink, &[Token::Text("cursor ")])?;
     print_place(sink, Some(screen.cursor()))
 }
 
@@ -141,28 +141,28 @@ fn print_row<K: Sink>(sink: &mut K, row: u32, cells: &[Cell]) -> Result<(), Fail
     ensures { Prints (K.written sink.old) (K.written sink.new) (K.faults sink.old) (K.faults sink.new) (row_line row cells.now) result }
 {
     let mut piece = Piece::new();
-    match print_row_parts(&mut piece, row, cells) {
+    match print_row_tokens(&mut piece, row, cells) {
         Ok(()) => print_bytes(sink, piece.bytes()),
-        Err(_full) => print_row_parts(sink, row, cells),
+        Err(_full) => print_row_tokens(sink, row, cells),
     }
 }
 
-/// Writes the parts of a row's line: its text between two bytes `|`, and the runs of its faces.
-fn print_row_parts<K: Sink>(sink: &mut K, row: u32, cells: &[Cell]) -> Result<(), Failed>
+/// Writes the tokens of a row's line: its text between two bytes `|`, and the runs of its faces.
+fn print_row_tokens<K: Sink>(sink: &mut K, row: u32, cells: &[Cell]) -> Result<(), Failed>
     ensures { Prints (K.written sink.old) (K.written sink.new) (K.faults sink.old) (K.faults sink.new) (row_line row cells.now) result }
 {
-    print_parts(
+    print_tokens(
         sink,
         &[
-            Part::Text("row "),
-            Part::Number(row as u64),
-            Part::Text(" |"),
+            Token::Text("row "),
+            Token::Number(row as u64),
+            Token::Text(" |"),
         ],
     )?;
     print_cells(sink, cells)?;
-    print_parts(sink, &[Part::Text("|")])?;
+    print_tokens(sink, &[Token::Text("|")])?;
     print_runs(sink, cells)?;
-    print_parts(sink, &[Part::Text("\n")])
+    print_tokens(sink, &[Token::Text("\n")])
 }
 
 /// Writes the text of cells.
@@ -180,7 +180,7 @@ fn print_cell<K: Sink>(sink: &mut K, cell: &Cell) -> Result<(), Failed>
     ensures { Prints (K.written sink.old) (K.written sink.new) (K.faults sink.old) (K.faults sink.new) (cell_text cell.now) result }
 {
     match cell {
-        Cell::Blank(_face) => print_parts(sink, &[Part::Text(" ")]),
+        Cell::Blank(_face) => print_tokens(sink, &[Token::Text(" ")]),
         Cell::First(glyph, _face) => print_glyph(sink, glyph),
         Cell::Rest => Ok(()),
     }

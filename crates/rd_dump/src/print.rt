@@ -1,36 +1,36 @@
 //! Writing texts and numbers to a sink, without taking memory.
 ghost use Rattle.std.specs.Prelude.{◌≡◌};
 ghost use Rattle.rd_base.specs.Chars.{encoded};
-ghost use Rattle.rd_dump.specs.Dumps.{part_text, parts_text};
+ghost use Rattle.rd_dump.specs.Dumps.{token_text, tokens_text};
 ghost use Rattle.rd_dump.specs.Prints.{Prints};
 
 use itoa::Buffer;
 use rd_io::{Failed, Sink, write_whole};
 
-/// A piece of a line: a text, or a number in decimal.
+/// A token of a line: a text, or a number in decimal.
 #[derive(Clone, Copy)]
-pub enum Part<'a> {
+pub enum Token<'a> {
     Text(&'a str),
     Number(u64),
 }
 
-/// Writes the parts of a line one after the other.
-pub fn print_parts<K: Sink>(sink: &mut K, parts: &[Part]) -> Result<(), Failed>
-    ensures { Prints (K.written sink.old) (K.written sink.new) (K.faults sink.old) (K.faults sink.new) (parts_text parts.now) result }
+/// Writes the tokens of a line one after the other.
+pub fn print_tokens<K: Sink>(sink: &mut K, tokens: &[Token]) -> Result<(), Failed>
+    ensures { Prints (K.written sink.old) (K.written sink.new) (K.faults sink.old) (K.faults sink.new) (tokens_text tokens.now) result }
 {
-    for part in parts {
-        print_part(sink, part)?;
+    for token in tokens {
+        print_token(sink, token)?;
     }
     Ok(())
 }
 
-/// Writes a part.
-fn print_part<K: Sink>(sink: &mut K, part: &Part) -> Result<(), Failed>
-    ensures { Prints (K.written sink.old) (K.written sink.new) (K.faults sink.old) (K.faults sink.new) (part_text part.now) result }
+/// Writes a token.
+fn print_token<K: Sink>(sink: &mut K, token: &Token) -> Result<(), Failed>
+    ensures { Prints (K.written sink.old) (K.written sink.new) (K.faults sink.old) (K.faults sink.new) (token_text token.now) result }
 {
-    match part {
-        Part::Text(text) => print_bytes(sink, text.as_bytes()),
-        Part::Number(number) => print_bytes(sink, Buffer::new().format(*number).as_bytes()),
+    match token {
+        Token::Text(text) => print_bytes(sink, text.as_bytes()),
+        Token::Number(number) => print_bytes(sink, Buffer::new().format(*number).as_bytes()),
     }
 }
 

@@ -4,7 +4,7 @@ ghost use Rattle.rd_base.specs.Equals.{same_face};
 ghost use Rattle.rd_dump.specs.Dumps.{face_after, runs_of_row, run_text, ended_text, numbers_text, number_text, numbers_of_face, flag_number, colour_number};
 ghost use Rattle.rd_dump.specs.Prints.{Prints};
 
-use crate::print::{Part, print_parts};
+use crate::print::{Token, print_tokens};
 use rd_base::{Cell, Face};
 use rd_io::{Failed, Sink};
 
@@ -69,13 +69,13 @@ fn print_run<K: Sink>(sink: &mut K, first: usize, end: usize, face: Face) -> Res
     if face.is_same(Face::PLAIN) {
         return Ok(());
     }
-    let parts = [
-        Part::Text(" "),
-        Part::Number(first as u64),
-        Part::Text("-"),
-        Part::Number(last_before(end) as u64),
+    let tokens = [
+        Token::Text(" "),
+        Token::Number(first as u64),
+        Token::Text("-"),
+        Token::Number(last_before(end) as u64),
     ];
-    print_parts(sink, &parts)?;
+    print_tokens(sink, &tokens)?;
     print_numbers(sink, face)
 }
 
@@ -139,7 +139,7 @@ fn print_number<K: Sink>(sink: &mut K, any: bool, number: Option<u32>) -> Result
     match number {
         Some(n) => {
             let lead = if any { ";" } else { ":" };
-            print_parts(sink, &[Part::Text(lead), Part::Number(n as u64)])?;
+            print_tokens(sink, &[Token::Text(lead), Token::Number(n as u64)])?;
             Ok(true)
         }
         None => Ok(any),

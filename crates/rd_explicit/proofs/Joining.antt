@@ -10,7 +10,7 @@ use Rattle.rd_explicit.specs.declared.links.Link.{Link}
 use Rattle.rd_explicit.specs.declared.links.First.{First}
 use Rattle.rd_explicit.specs.declared.links.Links.{Links}
 use Rattle.rd_explicit.specs.Follow.{bd13_follower, x10_level_behind}
-use Rattle.rd_explicit.specs.Links.{link_at, chain, chain_end, gathered, seq_at, Joins, LeadsOn, unmatched, first_of, beginning, without_beginning}
+use Rattle.rd_explicit.specs.Links.{link_at, chain, chain_end, gathered, seq_at, IsLinkedFrom, LeadsOn, unmatched, first_of, beginning, without_beginning}
 use Rattle.rd_explicit.specs.Sequences.{partner_of, x9_items}
 use Rattle.rd_explicit.proofs.Chains.{gathered-step, bd13_follower-within, Within, chain-on, end-on}
 use Rattle.rd_explicit.proofs.Walks.{drop-read}
@@ -24,10 +24,10 @@ module _ (base i : ℕ) (classes : List Class) (levels : List ℕ) (c : Class) (
     (within : i < length classes) (same_levels : length levels ≡ length classes)
     (read_class : slice_get classes i ≡ Some c) (read_level : slice_get levels i ≡ Some l)
     (same_links : length old.links ≡ length classes) (same_begins : length old.begins ≡ length classes)
-    (joins : Joins base (i + 1) (drop (i + 1) classes) (drop (i + 1) levels) old)
+    (joins : IsLinkedFrom base (i + 1) (drop (i + 1) classes) (drop (i + 1) levels) old)
     (pdis : new.pdis ≡ reverse (unmatched i (c ∷ drop (i + 1) classes))) where
   pub joins-removed : is_removed c ≡ true → new.links ≡ old.links → new.begins ≡ set old.begins i false → new.first ≡ old.first
-      → Joins base i (drop i classes) (drop i levels) new
+      → IsLinkedFrom base i (drop i classes) (drop i levels) new
   joins-removed removed links begins first =
       let at_class = drop-read classes i c within read_class in
       let at_level = drop-read levels i l (omega arith) read_level in
@@ -44,7 +44,7 @@ module _ (base i : ℕ) (classes : List Class) (levels : List ℕ) (c : Class) (
       → k.eos ≡ direction_of (max l (x10_level_behind old.first base (is_initiator c && is_none partner)))
       → new.links ≡ set old.links i k → new.begins ≡ set (without_beginning f old.begins) i true
       → (let item : First = record { index = i; level = l } in new.first ≡ Some item)
-      → Joins base i (drop i classes) (drop i levels) new
+      → IsLinkedFrom base i (drop i classes) (drop i levels) new
   joins-item partner f k stays matches follows next eos links begins first =
       let cs = drop (i + 1) classes in
       let ls = drop (i + 1) levels in
@@ -72,7 +72,7 @@ placed i n m (Some w) h fits = (omega arith, omega arith)
 
 -- where the next item of a sequence may lie
 pub follows-within : (base i l : ℕ) (c : Class) (classes : List Class) (levels : List ℕ) (old : Links) (partner f : Option ℕ)
-    → i < length classes → Joins base (i + 1) (drop (i + 1) classes) (drop (i + 1) levels) old
+    → i < length classes → IsLinkedFrom base (i + 1) (drop (i + 1) classes) (drop (i + 1) levels) old
     → partner ≡ partner_of i c (drop (i + 1) classes) → f ≡ bd13_follower old.first l partner
     → IfSome f (λ w. (i < w) × (w < length classes))
 follows-within base i l c classes levels old partner f within joins matches follows =

@@ -93,7 +93,7 @@ pub record KeepsLinks (old new : Links) : Type 0 where
   pub first : new.first ≡ old.first
 
 -- what is kept once the classes from index i on are done
-pub record Joins (base i : ℕ) (cs : List Class) (ls : List ℕ) (s : Links) : Type 0 where
+pub record IsLinkedFrom (base i : ℕ) (cs : List Class) (ls : List ℕ) (s : Links) : Type 0 where
   pub sequences : (before : ℕ) → gathered before i cs ls (drop i s.links) (drop i s.begins) ≡ sequences_from base before i cs ls
   pub first : (before : ℕ) → first_of (x9_items base before i cs ls) ≡ s.first
   pub pdis : s.pdis ≡ reverse (unmatched i cs)

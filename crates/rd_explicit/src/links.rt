@@ -34,7 +34,7 @@ pub struct Links {
 impl Links {
     ghost use Rattle.std.specs.Prelude.{◌≡◌, ℕ, List, IfSome, ◌<◌, ◌≤◌, ◌+◌, ◌^◌, ◌∷◌, [], length, drop, reverse, max, OnOk, OnErr, IfOk, Some, None, if◌then◌else◌, slice_index_or, is_none, ◌&&◌};
     ghost use Rattle.rd_base.specs.Classes.{direction_of, is_initiator};
-    ghost use Rattle.rd_explicit.specs.Links.{Joins, LeadsOn, KeepsLinks, chain, chain_end, unmatched, link_at, beginning, without_beginning, gathered, sequences_from};
+    ghost use Rattle.rd_explicit.specs.Links.{IsLinkedFrom, LeadsOn, KeepsLinks, chain, chain_end, unmatched, link_at, beginning, without_beginning, gathered, sequences_from};
     ghost use Rattle.rd_explicit.specs.Sequences.{partner_of};
     ghost use Rattle.rd_base.specs.declared.class.Class.{Class};
 
@@ -103,11 +103,11 @@ impl Links {
         requires begins { length self.old.begins ≡ length line.now.classes }
         requires links { length self.old.links ≡ length line.now.classes }
         requires leads { LeadsOn (length line.now.classes) self.old.links }
-        requires joins { Joins line.now.base (i + 1) (drop (i + 1) line.now.classes) (drop (i + 1) line.now.levels) self.old }
+        requires joins { IsLinkedFrom line.now.base (i + 1) (drop (i + 1) line.now.classes) (drop (i + 1) line.now.levels) self.old }
         ensures begins { length self.new.begins ≡ length line.now.classes }
         ensures links { length self.new.links ≡ length line.now.classes }
         ensures leads { LeadsOn (length line.now.classes) self.new.links }
-        ensures joins { OnOk result (Joins line.now.base i (drop i line.now.classes) (drop i line.now.levels) self.new) }
+        ensures joins { OnOk result (IsLinkedFrom line.now.base i (drop i line.now.classes) (drop i line.now.levels) self.new) }
     {
         let class = line.classes.at(i);
         let level = line.levels.at(i);

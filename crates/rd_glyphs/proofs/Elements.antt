@@ -24,7 +24,7 @@ use Rattle.rd_objects.specs.Tables.{TableValue, IsTable, HoldsGlyph, entry_in, i
 use Rattle.rd_objects.specs.Texts.{later}
 use Rattle.rd_objects.specs.Widths.{columns}
 use Rattle.rd_objects.specs.declared.run.Slot.TheVariants.{Escape, Control}
-use Rattle.rd_objects.specs.declared.table.Entry.{Entry}
+use Rattle.rd_objects.specs.declared.table.TableEntry.{TableEntry}
 use Rattle.rd_glyphs.specs.declared.shown.Shown.{Shown}
 use Rattle.rd_glyphs.specs.declared.shown.Shown.TheVariants.{Caret, Octal, Space, Mark, Itself}
 use Rattle.rd_glyphs.specs.Characters.{PartValues, AreSoundParts, HasOrigin, TakesColumns, ShowsColumns, IsShortElement, is_control, is_formatting, caret, shown_as, mirrored, looks_of, element_of, glyph_elements, entry_of, slot_or, own_looks, elements_by, elements_of, tab_of}
@@ -173,7 +173,7 @@ of-glyphs face origin text is =
           let places : length g.marks ≡ 6 = grind (arith, nat_tests) in
           character-measured g places is
 
-entry-text : (entries : List Entry) (code : ℕ) → AllByRecursion (λ e. IsTrue (is_glyph_text e.text)) entries → IfSome (entry_in entries code) (λ text. IsTrue (is_glyph_text text))
+entry-text : (entries : List TableEntry) (code : ℕ) → AllByRecursion (λ e. IsTrue (is_glyph_text e.text)) entries → IfSome (entry_in entries code) (λ text. IsTrue (is_glyph_text text))
 entry-text [] code each = tt
 entry-text (e ∷ es) code each = by-later (entry_in es code) (e.code == code) (entry-text es code each.1) where
   by-later : (rest : Option (List Glyph)) (same : Bool) → IfSome rest (λ text. IsTrue (is_glyph_text text)) → IfSome (later rest (if same then Some e.text else None)) (λ text. IsTrue (is_glyph_text text))
@@ -183,7 +183,7 @@ entry-text (e ∷ es) code each = by-later (entry_in es code) (e.code == code) (
 
 entry-sound : (table : Option TableValue) (code : ℕ) → IfSome table (λ t. IsTable t) → IfSome (entry_of table code) (λ text. IsTrue (is_glyph_text text))
 entry-sound None code is = tt
-entry-sound (Some t) code is = entry-text t.entries code (recursion_from_All (λ (e : Entry). IsTrue (is_glyph_text e.text)) t.entries is.entries)
+entry-sound (Some t) code is = entry-text t.entries code (recursion_from_All (λ (e : TableEntry). IsTrue (is_glyph_text e.text)) t.entries is.entries)
 
 -- the elements of a character
 pub of-character : (parts : PartValues) (ch : ℕ) (odd : Bool) (face : Attributes) (origin : Origin) → AreSoundParts parts → IsTrue (is_code ch) → AreOfCharacter face origin (elements_of parts ch odd face origin)

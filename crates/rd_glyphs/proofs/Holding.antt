@@ -11,7 +11,7 @@ use Rattle.rd_glyphs.specs.declared.shown.Shown.{Shown}
 use Rattle.rd_glyphs.specs.declared.shown.Shown.TheVariants.{Caret, Octal, Space, Mark, Itself}
 use Rattle.rd_glyphs.specs.Characters.{shown_as, on_blank}
 use Rattle.rd_glyphs.specs.Joining.{base_of, mark_of, with_mark}
-use Rattle.rd_glyphs.specs.Marks.{marked_glyph, joined_from, joined, with_held}
+use Rattle.rd_glyphs.specs.Marks.{marked_glyph, marks_joined_from, marks_joined, with_held}
 use Rattle.rd_glyphs.specs.Lines.{PlainPart, part_of, plain_part, plain_joins, looks_of_parts, plain_looks}
 use Rattle.rd_glyphs.specs.Held.{given, held_after, looks_from}
 
@@ -24,28 +24,28 @@ abbrev pub parts_behind : Option Glyph → List PlainPart → List PlainPart
 parts_behind held xs = with_held plain_joins (option_map held_part held) xs
 
 same-by : (a b x : PlainPart) (xs : List PlainPart) (m : Option Glyph) → a.looks ≡ b.looks →
-    looks_of_parts ((if is_some (option_map held_part m) then [] else a ∷ []) ++ joined_from plain_joins (unwrap_or (option_map held_part m) x) xs)
-    ≡ looks_of_parts ((if is_some (option_map held_part m) then [] else b ∷ []) ++ joined_from plain_joins (unwrap_or (option_map held_part m) x) xs)
-same-by a b x xs None looks = ap (λ (ls : List Look). ls ++ looks_of_parts (joined_from plain_joins x xs)) looks
+    looks_of_parts ((if is_some (option_map held_part m) then [] else a ∷ []) ++ marks_joined_from plain_joins (unwrap_or (option_map held_part m) x) xs)
+    ≡ looks_of_parts ((if is_some (option_map held_part m) then [] else b ∷ []) ++ marks_joined_from plain_joins (unwrap_or (option_map held_part m) x) xs)
+same-by a b x xs None looks = ap (λ (ls : List Look). ls ++ looks_of_parts (marks_joined_from plain_joins x xs)) looks
 same-by a b x xs (Some g) looks = refl
 
 -- of two parts with the same looks and the same glyph for marks the same comes out
 same-behind : (a b : PlainPart) (xs : List PlainPart) → a.looks ≡ b.looks → base_of a.joining ≡ base_of b.joining →
-    looks_of_parts (joined_from plain_joins a xs) ≡ looks_of_parts (joined_from plain_joins b xs)
+    looks_of_parts (marks_joined_from plain_joins a xs) ≡ looks_of_parts (marks_joined_from plain_joins b xs)
 same-behind a b [] looks base = ap (λ (ls : List Look). ls ++ []) looks
 same-behind a b (x ∷ xs) looks base = rw base (same-by a b x xs (marked_glyph (base_of b.joining) (mark_of x.joining)) looks)
 
 -- a part that no mark joins comes out by itself
 alone : (a : PlainPart) (xs : List PlainPart) → base_of a.joining ≡ None →
-    looks_of_parts (joined_from plain_joins a xs) ≡ a.looks ++ looks_of_parts (joined plain_joins xs)
+    looks_of_parts (marks_joined_from plain_joins a xs) ≡ a.looks ++ looks_of_parts (marks_joined plain_joins xs)
 alone a [] none = refl
 alone a (x ∷ xs) none = rw none refl
 
 mark-read : (g : Glyph) (code : ℕ) (room : Bool) (xs : List PlainPart) (rest : List Look) →
-    rest ≡ looks_of_parts (joined_from plain_joins (held_part (if room then with_mark g code else on_blank code)) xs) →
+    rest ≡ looks_of_parts (marks_joined_from plain_joins (held_part (if room then with_mark g code else on_blank code)) xs) →
     (if room then [] else look.Glyph g ∷ []) ++ rest
     ≡ looks_of_parts ((if is_some (option_map held_part (if room then Some (with_mark g code) else None)) then [] else held_part g ∷ [])
-    ++ joined_from plain_joins (unwrap_or (option_map held_part (if room then Some (with_mark g code) else None)) (part_of (Mark code))) xs)
+    ++ marks_joined_from plain_joins (unwrap_or (option_map held_part (if room then Some (with_mark g code) else None)) (part_of (Mark code))) xs)
 mark-read g code true xs rest e = e
 mark-read g code false xs rest e =
     ap (λ (ls : List Look). look.Glyph g ∷ ls) (e ∙ same-behind (held_part (on_blank code)) (part_of (Mark code)) xs refl refl)

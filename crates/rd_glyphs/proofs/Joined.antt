@@ -4,27 +4,27 @@ use Rattle.std.specs.Prelude.{is_some, if◌then◌else◌}
 use Rattle.std.specs.List.{AllByRecursion}
 use Rattle.std.proofs.lemmas.List.Elements.{All-from_recursion, recursion_from_All}
 use Rattle.rd_base.specs.declared.cell.Glyph.{Glyph}
-use Rattle.rd_glyphs.specs.Marks.{Joins, marked_glyph, joined_from, joined}
+use Rattle.rd_glyphs.specs.Marks.{Joins, marked_glyph, marks_joined_from, marks_joined}
 
 -- a thing that a mark joins keeps what holds of all things
 abbrev pub Grows : {A : Type 0} → Joins A → (A → Type 0) → Type 0
 Grows {A} j P = (held next : A) (glyph : Glyph) → P held → P next → marked_glyph (j.base held) (j.mark next) ≡ Some glyph → P (j.grown held glyph next)
 
-joined_from-all : {A : Type 0} (j : Joins A) (P : A → Type 0) → Grows j P → (held : A) (xs : List A) → P held → AllByRecursion P xs → AllByRecursion P (joined_from j held xs)
-joined_from-all j P grows held [] p each = (p, tt)
-joined_from-all {A = A} j P grows held (x ∷ xs) p each =
-    by-glyph (marked_glyph (j.base held) (j.mark x)) refl (joined_from-all j P grows x xs each.0 each.1) (λ longer q. joined_from-all j P grows longer xs q each.1) where
+marks_joined_from-all : {A : Type 0} (j : Joins A) (P : A → Type 0) → Grows j P → (held : A) (xs : List A) → P held → AllByRecursion P xs → AllByRecursion P (marks_joined_from j held xs)
+marks_joined_from-all j P grows held [] p each = (p, tt)
+marks_joined_from-all {A = A} j P grows held (x ∷ xs) p each =
+    by-glyph (marked_glyph (j.base held) (j.mark x)) refl (marks_joined_from-all j P grows x xs each.0 each.1) (λ longer q. marks_joined_from-all j P grows longer xs q each.1) where
       by-glyph : (m : Option Glyph) → marked_glyph (j.base held) (j.mark x) ≡ m →
-          AllByRecursion P (joined_from j x xs) → ((longer : A) → P longer → AllByRecursion P (joined_from j longer xs)) →
+          AllByRecursion P (marks_joined_from j x xs) → ((longer : A) → P longer → AllByRecursion P (marks_joined_from j longer xs)) →
           AllByRecursion P ((if is_some (option_map (λ glyph. j.grown held glyph x) m) then [] else held ∷ [])
-          ++ joined_from j (unwrap_or (option_map (λ glyph. j.grown held glyph x) m) x) xs)
+          ++ marks_joined_from j (unwrap_or (option_map (λ glyph. j.grown held glyph x) m) x) xs)
       by-glyph None e alone behind = (p, alone)
       by-glyph (Some g) e alone behind = behind (j.grown held g x) (grows held x g p each.0 e)
 
-pub joined-all : {A : Type 0} (j : Joins A) (P : A → Type 0) → Grows j P → (xs : List A) → AllByRecursion P xs → AllByRecursion P (joined j xs)
-joined-all j P grows [] each = tt
-joined-all j P grows (x ∷ xs) each = joined_from-all j P grows x xs each.0 each.1
+pub marks_joined-all : {A : Type 0} (j : Joins A) (P : A → Type 0) → Grows j P → (xs : List A) → AllByRecursion P xs → AllByRecursion P (marks_joined j xs)
+marks_joined-all j P grows [] each = tt
+marks_joined-all j P grows (x ∷ xs) each = marks_joined_from-all j P grows x xs each.0 each.1
 
 -- what holds of each thing holds of each where marks have joined
-pub joined-each : {A : Type 0} (j : Joins A) (P : A → Type 0) → Grows j P → (xs : List A) → All P xs → All P (joined j xs)
-joined-each j P grows xs each = All-from_recursion P (joined j xs) (joined-all j P grows xs (recursion_from_All P xs each))
+pub marks_joined-each : {A : Type 0} (j : Joins A) (P : A → Type 0) → Grows j P → (xs : List A) → All P xs → All P (marks_joined j xs)
+marks_joined-each j P grows xs each = All-from_recursion P (marks_joined j xs) (marks_joined-all j P grows xs (recursion_from_All P xs each))

@@ -23,11 +23,11 @@ use Rattle.rd_glyphs.specs.declared.shown.Shown.{Shown}
 use Rattle.rd_glyphs.specs.declared.shown.Shown.TheVariants.{Caret, Octal, Space, Mark, Itself}
 use Rattle.rd_glyphs.specs.Characters.{PartValues, TakesColumns, ShowsColumns, shown_as, look_columns, entry_of}
 use Rattle.rd_glyphs.specs.Joining.{joining_by, joining_of, base_of, mark_of, with_mark, joined_glyph, IsMark, IsMeasuredJoining}
-use Rattle.rd_glyphs.specs.Marks.{marked_glyph, joined}
+use Rattle.rd_glyphs.specs.Marks.{marked_glyph, marks_joined}
 use Rattle.rd_glyphs.specs.Lines.{PlainPart, part_of, plain_part, plain_joins, looks_of_parts, plain_looks, cells_of, fitted, plain_cells}
 use Rattle.rd_glyphs.proofs.Columns.{cell_count}
 use Rattle.rd_glyphs.proofs.Elements.{shown_as-columns, looks-columns}
-use Rattle.rd_glyphs.proofs.Joined.{Grows, joined-all}
+use Rattle.rd_glyphs.proofs.Joined.{Grows, marks_joined-all}
 use Rattle.rd_glyphs.proofs.Measures.{ShowsMeasured, printable-measured, on_blank-measured, shown_as-measured, looks-measured, joining-measured}
 
 -- ---- cells
@@ -99,13 +99,13 @@ marked-measured g code is room scalar none = record {
       get_or-set_other g.marks g.count k code 0 other ∙ is.rest k (omega arith) q
 
 -- and one that a mark joins
-pub joined_glyph-measured : (g : Glyph) (code : ℕ) → IsMeasured g → IsMark code → IfSome (joined_glyph g code) (λ joined. IsMeasured joined)
+pub joined_glyph-measured : (g : Glyph) (code : ℕ) → IsMeasured g → IsMark code → IfSome (joined_glyph g code) (λ glyph. IsMeasured glyph)
 joined_glyph-measured g code is mark = by-room (nat_lt g.count 6) refl where
-  by-room : (room : Bool) → nat_lt g.count 6 ≡ room → IfSome (if room then Some (with_mark g code) else None) (λ joined. IsMeasured joined)
+  by-room : (room : Bool) → nat_lt g.count 6 ≡ room → IfSome (if room then Some (with_mark g code) else None) (λ glyph. IsMeasured glyph)
   by-room true e = marked-measured g code is (grind (arith, nat_tests)) mark.0 mark.1
   by-room false e = tt
 
-pub marked_glyph-measured : (base : Option Glyph) (mark : Option ℕ) → IfSome base (λ g. IsMeasured g) → IfSome mark (λ code. IsMark code) → IfSome (marked_glyph base mark) (λ joined. IsMeasured joined)
+pub marked_glyph-measured : (base : Option Glyph) (mark : Option ℕ) → IfSome base (λ g. IsMeasured g) → IfSome mark (λ code. IsMark code) → IfSome (marked_glyph base mark) (λ glyph. IsMeasured glyph)
 marked_glyph-measured None mark b m = tt
 marked_glyph-measured (Some g) None b m = tt
 marked_glyph-measured (Some g) (Some code) b m = joined_glyph-measured g code b m
@@ -160,8 +160,8 @@ measured-grows held next glyph h n e =
 
 plain_looks-measured : (classes : List Span) (text : List ℕ) → AllByRecursion (λ c. IsTrue (is_code c)) text → All IsMeasuredLook (plain_looks classes text)
 plain_looks-measured classes text codes =
-    looks-all IsMeasuredLook (joined plain_joins (map (plain_part classes) text))
-    (each-looks _ (joined-all plain_joins IsMeasuredPart measured-grows (map (plain_part classes) text) (parts-measured classes text codes))) where
+    looks-all IsMeasuredLook (marks_joined plain_joins (map (plain_part classes) text))
+    (each-looks _ (marks_joined-all plain_joins IsMeasuredPart measured-grows (map (plain_part classes) text) (parts-measured classes text codes))) where
       each-looks : (parts : List PlainPart) → AllByRecursion IsMeasuredPart parts → AllByRecursion (λ part. AllByRecursion IsMeasuredLook part.looks) parts
       each-looks [] each = tt
       each-looks (part ∷ parts) each = (each.0.looks, each-looks parts each.1)
@@ -195,7 +195,7 @@ marked-narrow : (base : Option Glyph) (mark : Option ℕ) → IfSome base (λ g.
 marked-narrow None mark b = tt
 marked-narrow (Some g) None b = tt
 marked-narrow (Some g) (Some code) b = by-room (nat_lt g.count 6) where
-  by-room : (room : Bool) → IfSome (if room then Some (with_mark g code) else None) (λ joined. TakesColumns (look.Glyph joined))
+  by-room : (room : Bool) → IfSome (if room then Some (with_mark g code) else None) (λ glyph. TakesColumns (look.Glyph glyph))
   by-room true = b
   by-room false = tt
 
@@ -206,8 +206,8 @@ narrow-grows held next glyph h n e =
 
 plain_looks-narrow : (classes : List Span) (text : List ℕ) → All TakesColumns (plain_looks classes text)
 plain_looks-narrow classes text =
-    looks-all TakesColumns (joined plain_joins (map (plain_part classes) text))
-    (each-looks _ (joined-all plain_joins IsNarrowPart narrow-grows (map (plain_part classes) text) (parts-narrow classes text))) where
+    looks-all TakesColumns (marks_joined plain_joins (map (plain_part classes) text))
+    (each-looks _ (marks_joined-all plain_joins IsNarrowPart narrow-grows (map (plain_part classes) text) (parts-narrow classes text))) where
       each-looks : (parts : List PlainPart) → AllByRecursion IsNarrowPart parts → AllByRecursion (λ part. AllByRecursion TakesColumns part.looks) parts
       each-looks [] each = tt
       each-looks (part ∷ parts) each = (each.0.looks, each-looks parts each.1)

@@ -14,7 +14,7 @@ use Rattle.rd_glyphs.specs.declared.joining.Joining.TheVariants.{Base}
 use Rattle.rd_glyphs.specs.declared.shown.Shown.{Shown}
 use Rattle.rd_glyphs.specs.Characters.{shown_as, looks_of, look_columns}
 use Rattle.rd_glyphs.specs.Joining.{joining_by, base_of, mark_of}
-use Rattle.rd_glyphs.specs.Marks.{Joins, joined}
+use Rattle.rd_glyphs.specs.Marks.{Joins, marks_joined}
 
 -- a part of a plain line: what is put for it, and how it stands towards marks
 pub record PlainPart : Type 0 where
@@ -46,7 +46,7 @@ looks_of_parts parts = flat_map part_looks parts
 
 -- what is put for a text
 abbrev pub plain_looks : List Span → List ℕ → List Look
-plain_looks classes text = looks_of_parts (joined plain_joins (map (plain_part classes) text))
+plain_looks classes text = looks_of_parts (marks_joined plain_joins (map (plain_part classes) text))
 
 -- the cells of a look
 abbrev pub cells_of : Attributes → Look → List Cell

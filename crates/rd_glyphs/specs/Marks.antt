@@ -21,16 +21,16 @@ abbrev pub marked : {A : Type 0} → Joins A → A → A → Option A
 marked j held next = option_map (λ glyph. j.grown held glyph next) (marked_glyph (j.base held) (j.mark next))
 
 -- things of which each mark has joined the one directly before it, where it may
-abbrev pub joined_from : {A : Type 0} → Joins A → A → List A → List A
-joined_from j held [] = held ∷ []
-joined_from j held (x ∷ xs) =
-    (if is_some (marked j held x) then [] else held ∷ []) ++ joined_from j (unwrap_or (marked j held x) x) xs
+abbrev pub marks_joined_from : {A : Type 0} → Joins A → A → List A → List A
+marks_joined_from j held [] = held ∷ []
+marks_joined_from j held (x ∷ xs) =
+    (if is_some (marked j held x) then [] else held ∷ []) ++ marks_joined_from j (unwrap_or (marked j held x) x) xs
 
-abbrev pub joined : {A : Type 0} → Joins A → List A → List A
-joined j [] = []
-joined j (x ∷ xs) = joined_from j x xs
+abbrev pub marks_joined : {A : Type 0} → Joins A → List A → List A
+marks_joined j [] = []
+marks_joined j (x ∷ xs) = marks_joined_from j x xs
 
 -- the things behind one that is held for its marks
 abbrev pub with_held : {A : Type 0} → Joins A → Option A → List A → List A
-with_held j None xs = joined j xs
-with_held j (Some held) xs = joined_from j held xs
+with_held j None xs = marks_joined j xs
+with_held j (Some held) xs = marks_joined_from j held xs

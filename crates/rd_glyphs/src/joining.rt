@@ -65,7 +65,7 @@ fn joining_of_shown(shown: Shown) -> Joining
 }
 
 /// A glyph with one more mark, and None exactly where it has six.
-pub fn join(glyph: Glyph, code: u32) -> Option<Glyph>
+pub fn joined_glyph(glyph: Glyph, code: u32) -> Option<Glyph>
     ensures value { result ≡ joined_glyph glyph code }
     ensures measured { IsMeasured glyph → IsMark code → IfSome result (λ g. IsMeasured g) }
 {

@@ -12,7 +12,7 @@ mod plain;
 mod shown;
 
 pub use counting::plain_columns;
-pub use joining::{Joining, join};
+pub use joining::{Joining, joined_glyph};
 pub use laws::{
     elements_are_sound, glyph_texts_are_sound, marks_join_measured_glyphs, plain_lines_are_whole,
 };

@@ -7,7 +7,7 @@ ghost use Rattle.rd_glyphs.specs.Characters.{looks_of, look_columns, TakesColumn
 ghost use Rattle.rd_glyphs.specs.Held.{HoldsColumns, has_room, joined_held, joined_to, held_looks, given, held_after};
 ghost use Rattle.rd_glyphs.specs.Lines.{plain_looks, cells_of, fitted, plain_cells};
 
-use crate::joining::join;
+use crate::joining::joined_glyph;
 use crate::looks::{look_columns, looks_of, on_blank};
 use crate::shown::{Shown, shown_as};
 use rd_base::{Cell, Ch, Face, Glyph, ListOf, Look, Memory};
@@ -116,14 +116,14 @@ pub(crate) fn held_after(held: Option<Glyph>, shown: Shown) -> Option<Glyph>
     ensures columns { HoldsColumns held → HoldsColumns result }
 {
     match shown {
-        Shown::Mark(code) => Some(joined(held, code)),
+        Shown::Mark(code) => Some(joined_held(held, code)),
         Shown::Itself(code, width) => Some(Glyph::single(code, width)),
         _ => None,
     }
 }
 
 /// The glyph with one more mark, where a mark may join one, and else the mark on a blank.
-fn joined(held: Option<Glyph>, code: u32) -> Glyph
+fn joined_held(held: Option<Glyph>, code: u32) -> Glyph
     ensures value { result ≡ joined_held held code }
     ensures columns { HoldsColumns held → (1 ≤ result.width) × (result.width ≤ 3) }
 {
@@ -138,7 +138,7 @@ fn with_mark(glyph: Glyph, code: u32) -> Glyph
     ensures value { result ≡ joined_to glyph code }
     ensures columns { 1 ≤ glyph.width → glyph.width ≤ 3 → (1 ≤ result.width) × (result.width ≤ 3) }
 {
-    match join(glyph, code) {
+    match joined_glyph(glyph, code) {
         Some(marked) => marked,
         None => on_blank(code),
     }

@@ -9,7 +9,7 @@ use Rattle.rd_objects.specs.declared.run.Spec.{Spec}
 use Rattle.rd_objects.specs.declared.run.Spec.TheVariants.{Text, Width, Align}
 use Rattle.rd_glyphs.specs.Characters.{entry_of, shown_as}
 use Rattle.rd_glyphs.specs.Joining.{joining_by, joining_of, base_of, is_empty_entry}
-use Rattle.rd_glyphs.specs.Marks.{marked_glyph, joined_from, joined}
+use Rattle.rd_glyphs.specs.Marks.{marked_glyph, marks_joined_from, marks_joined}
 use Rattle.rd_glyphs.specs.declared.joining.Joining.{Joining}
 use Rattle.rd_glyphs.specs.declared.joining.Joining.TheVariants as joining
 use Rattle.rd_glyphs.specs.declared.shown.Shown.{Shown}
@@ -84,10 +84,10 @@ some-base : (base : Option Glyph) (mark : Option ℕ) (g : Glyph) → marked_gly
 some-base None mark g e = cc
 some-base (Some b) mark g e = refl
 
-joined-by : (s : Scene) (p to : ℕ) (h x : Piece) (xs : List Piece) → Chain s p to (h ∷ x ∷ xs) → (glyph : Option Glyph) → marked_glyph h.base x.mark ≡ glyph → ((k : Piece) → Chain s p to (k ∷ xs) → Chain s p to (joined_from piece_joins k xs)) → ((q : ℕ) → Chain s q to (x ∷ xs) → Chain s q to (joined_from piece_joins x xs)) → Chain s p to (joined_from piece_joins h (x ∷ xs))
-joined-by s p to h x xs chain None e longer next = rw e (chain-cons s p to h (joined_from piece_joins x xs) chain.0 (next h.to chain.1))
-joined-by s p to h x [] chain (Some g) e longer next = absurd (cc (ap (marked_glyph h.base) chain.1.alone, no-mark h.base))
-joined-by s p to h x (y ∷ xs) chain (Some g) e longer next = rw e (longer _ (inner, chain.1.1)) where
+marks_joined-by : (s : Scene) (p to : ℕ) (h x : Piece) (xs : List Piece) → Chain s p to (h ∷ x ∷ xs) → (glyph : Option Glyph) → marked_glyph h.base x.mark ≡ glyph → ((k : Piece) → Chain s p to (k ∷ xs) → Chain s p to (marks_joined_from piece_joins k xs)) → ((q : ℕ) → Chain s q to (x ∷ xs) → Chain s q to (marks_joined_from piece_joins x xs)) → Chain s p to (marks_joined_from piece_joins h (x ∷ xs))
+marks_joined-by s p to h x xs chain None e longer next = rw e (chain-cons s p to h (marks_joined_from piece_joins x xs) chain.0 (next h.to chain.1))
+marks_joined-by s p to h x [] chain (Some g) e longer next = absurd (cc (ap (marked_glyph h.base) chain.1.alone, no-mark h.base))
+marks_joined-by s p to h x (y ∷ xs) chain (Some g) e longer next = rw e (longer _ (inner, chain.1.1)) where
   may : (h.covers ≡ true) × (h.overlay ≡ false)
   may = chain.0.link.based (some-base h.base x.mark g e)
 
@@ -103,14 +103,14 @@ joined-by s p to h x (y ∷ xs) chain (Some g) e longer next = rw e (longer _ (i
     inner = refl;
   }
 
-join : (s : Scene) (p to : ℕ) (h : Piece) (xs : List Piece) → Chain s p to (h ∷ xs) → Chain s p to (joined_from piece_joins h xs)
+join : (s : Scene) (p to : ℕ) (h : Piece) (xs : List Piece) → Chain s p to (h ∷ xs) → Chain s p to (marks_joined_from piece_joins h xs)
 join s p to h [] chain = chain
 join s p to h (x ∷ xs) chain =
-    joined-by s p to h x xs chain (marked_glyph h.base x.mark) refl (λ k c. join s p to k xs c) (λ q c. join s q to x xs c)
+    marks_joined-by s p to h x xs chain (marked_glyph h.base x.mark) refl (λ k c. join s p to k xs c) (λ q c. join s q to x xs c)
 
-joined-chain : (s : Scene) (p to : ℕ) (xs : List Piece) → Chain s p to xs → Chain s p to (joined piece_joins xs)
-joined-chain s p to [] chain = absurd chain
-joined-chain s p to (x ∷ xs) chain = join s p to x xs chain
+marks_joined-chain : (s : Scene) (p to : ℕ) (xs : List Piece) → Chain s p to xs → Chain s p to (marks_joined piece_joins xs)
+marks_joined-chain s p to [] chain = absurd chain
+marks_joined-chain s p to (x ∷ xs) chain = join s p to x xs chain
 
 -- ---- the pieces of what is read
 
@@ -230,8 +230,8 @@ pieces-chain s zero p to (e ∷ f ∷ es) well inside far =
     (strings-before s p to e.face e.strings (x ∷ rest) (chain-cons s p to x rest mine.own (chain-moved s (suc p + m) x.to to rest (sym mine.ends) chain)))
 
 -- the pieces of what is read of a block, in which marks have joined, stand one behind the other
-pub reading-chain : (s : Scene) (es : List Seen) → IsReading s.parts.settings.invisible es → Chain s 0 (length es) (joined piece_joins (pieces_from s 0 0 es))
-reading-chain s es well = joined-chain s 0 (length es) (pieces_from s 0 0 es) (pieces-chain s 0 0 (length es) es well (some es well) (omega arith)) where
+pub reading-chain : (s : Scene) (es : List Seen) → IsReading s.parts.settings.invisible es → Chain s 0 (length es) (marks_joined piece_joins (pieces_from s 0 0 es))
+reading-chain s es well = marks_joined-chain s 0 (length es) (pieces_from s 0 0 es) (pieces-chain s 0 0 (length es) es well (some es well) (omega arith)) where
   some : (es : List Seen) → IsReading s.parts.settings.invisible es → 0 < length es
   some [] well = absurd well
   some (e ∷ es) well = omega arith

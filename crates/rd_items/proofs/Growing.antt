@@ -12,7 +12,7 @@ use Rattle.rd_objects.specs.declared.run.Spec.{Spec}
 use Rattle.rd_objects.specs.declared.run.Spec.TheVariants.{Text, Width, Align}
 use Rattle.rd_objects.specs.Sound.{NamesMade, IsClosed, GoesOn, Extends}
 use Rattle.rd_objects.specs.Things.{ObjectLists}
-use Rattle.rd_glyphs.specs.Marks.{joined}
+use Rattle.rd_glyphs.specs.Marks.{marks_joined}
 use Rattle.rd_props.specs.Buffers.{BufferValue}
 use Rattle.rd_props.specs.Made.{AreMade, SettingsMade, SeesMade}
 use Rattle.rd_props.specs.Seen.{Seen, seen_at}
@@ -109,7 +109,7 @@ module _ (old new : Scene) (goes : GoesOnFrom old new) (closed : IsClosed old.ob
 
 -- the items of what is read
 pub same-items : (old new : Scene) (es : List Seen) → GoesOnFrom old new → IsClosed old.objects → ReadsMade old.objects es → items_of new es ≡ items_of old es
-same-items old new es goes closed made = ap (λ (xs : List Piece). covering 0 (joined piece_joins xs)) (same-pieces old new goes closed 0 0 es made)
+same-items old new es goes closed made = ap (λ (xs : List Piece). covering 0 (marks_joined piece_joins xs)) (same-pieces old new goes closed 0 0 es made)
 
 -- ---- what is read of a buffer
 

@@ -3,7 +3,7 @@ use Rattle.std.proofs.Common.{◌≡◌, inl, inr, ℕ, ◌<◌, ◌≤◌, Bool
 use Rattle.std.specs.Prelude.{not, ◌&&◌, nat_lt}
 use Rattle.std.proofs.lemmas.Bool.Decides.{nat_tests}
 use Rattle.std.proofs.lemmas.List.Elements.{All-cons, All-nil}
-use Rattle.rd_glyphs.specs.Marks.{joined}
+use Rattle.rd_glyphs.specs.Marks.{marks_joined}
 use Rattle.rd_props.specs.Seen.{Seen}
 use Rattle.rd_items.specs.declared.piece.Piece.{Piece}
 use Rattle.rd_items.specs.declared.item.Item.{Item}
@@ -42,7 +42,7 @@ tile s since p to (x ∷ y ∷ xs) within chain =
     tile-by s since p to x (y ∷ xs) within chain.0.link (tile s x.to x.to to (y ∷ xs) (omega arith) chain.1) (λ none. tile s since x.to to (y ∷ xs) (omega (arith, chain.0.link.ordered)) chain.1) x.kind x.covers refl refl
 
 pub reading-covered : (s : Scene) (es : List Seen) → IsReading s.parts.settings.invisible es → Tile 0 (length es) (items_of s es)
-reading-covered s es well = tile s 0 0 (length es) (joined piece_joins (pieces_from s 0 0 es)) (omega arith) (reading-chain s es well)
+reading-covered s es well = tile s 0 0 (length es) (marks_joined piece_joins (pieces_from s 0 0 es)) (omega arith) (reading-chain s es well)
 
 -- ---- what covers gives an element
 
@@ -74,7 +74,7 @@ give s since p to (x ∷ y ∷ xs) within chain =
       no-later false f = rw f (omega (arith, chain.0.link.ordered))
 
 pub reading-gives : (s : Scene) (es : List Seen) → IsReading s.parts.settings.invisible es → CoverWhereTheyGive s (items_of s es)
-reading-gives s es well = give s 0 0 (length es) (joined piece_joins (pieces_from s 0 0 es)) (omega arith) (reading-chain s es well)
+reading-gives s es well = give s 0 0 (length es) (marks_joined piece_joins (pieces_from s 0 0 es)) (omega arith) (reading-chain s es well)
 
 -- ---- the last is the ender
 
@@ -95,4 +95,4 @@ end s since p to (x ∷ y ∷ xs) chain =
     end-by s since p x (covering (covered_to since x) (y ∷ xs)) chain.0 (end s (covered_to since x) x.to to (y ∷ xs) chain.1) x.kind refl
 
 pub reading-ends : (s : Scene) (es : List Seen) → IsReading s.parts.settings.invisible es → EndOnce (items_of s es)
-reading-ends s es well = end s 0 0 (length es) (joined piece_joins (pieces_from s 0 0 es)) (reading-chain s es well)
+reading-ends s es well = end s 0 0 (length es) (marks_joined piece_joins (pieces_from s 0 0 es)) (reading-chain s es well)

@@ -13,7 +13,7 @@ use Rattle.rd_overlays.specs.Overlays.{new_overlay, given}
 use Rattle.rd_objects.specs.declared.run.Spec.TheVariants.{Text, Width}
 use Rattle.rd_objects.specs.Texts.{text_of}
 use Rattle.rd_objects.specs.Things.{ObjectLists, nothing_made}
-use Rattle.rd_glyphs.specs.Marks.{joined}
+use Rattle.rd_glyphs.specs.Marks.{marks_joined}
 use Rattle.rd_glyphs.specs.declared.joining.Joining.TheVariants.{Base, Mark}
 use Rattle.rd_props.specs.Buffers.{BufferValue, values_of}
 use Rattle.rd_props.specs.Examples.{three_characters, put_once}
@@ -92,7 +92,7 @@ a_grave = char_by (Mark 768) NSM plain 768 1
 
 -- the items of pieces
 abbrev pub items_of_pieces : List Piece → List Item
-items_of_pieces xs = covering 0 (joined piece_joins xs)
+items_of_pieces xs = covering 0 (marks_joined piece_joins xs)
 
 -- the ender, which covers the offsets from one to another, that one not included
 abbrev pub ender : ℕ → ℕ → Item

@@ -3,7 +3,7 @@ use Rattle.std.specs.Prelude.{ℕ, Bool, true, false, not, if◌then◌else◌, 
 use Rattle.rd_objects.specs.declared.run.Spec.TheVariants.{Text}
 use Rattle.rd_glyphs.specs.Characters.{entry_of}
 use Rattle.rd_glyphs.specs.Joining.{is_empty_entry}
-use Rattle.rd_glyphs.specs.Marks.{Joins, joined}
+use Rattle.rd_glyphs.specs.Marks.{Joins, marks_joined}
 use Rattle.rd_props.specs.Seen.{Seen}
 use Rattle.rd_items.specs.Pieces.{Scene, string_gives, ellipsis_gives, pieces_from, IsMeasuredKind}
 use Rattle.rd_items.specs.declared.item.Item.{Item}
@@ -44,7 +44,7 @@ covering since (x ∷ xs) = items_by x.kind since x ++ covering (covered_to sinc
 
 -- the items of what is read of a block
 abbrev pub items_of : Scene → List Seen → List Item
-items_of scene es = covering 0 (joined piece_joins (pieces_from scene 0 0 es))
+items_of scene es = covering 0 (marks_joined piece_joins (pieces_from scene 0 0 es))
 
 -- whether what an item shows gives an element
 abbrev pub kind_gives : Scene → ItemKind → Bool

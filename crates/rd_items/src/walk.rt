@@ -9,7 +9,7 @@ use crate::piece::{Piece, piece_at};
 use crate::showing::{Showing, char_at};
 use crate::stretch::{Stretch, run_end};
 use rd_base::{Face, Glyph, ListOf, Memory, Pos};
-use rd_glyphs::join;
+use rd_glyphs::joined_glyph;
 use rd_props::{View, strings_at};
 use std::alloc::Global;
 
@@ -26,7 +26,7 @@ fn marked_glyph(base: &Option<Glyph>, mark: Option<u32>) -> Option<Glyph>
     ensures { result ≡ marked_glyph base.now mark }
 {
     match (base, mark) {
-        (Some(glyph), Some(code)) => join(*glyph, code),
+        (Some(glyph), Some(code)) => joined_glyph(*glyph, code),
         _ => None,
     }
 }

@@ -7,32 +7,32 @@ use Rattle.std.specs.Prelude.{option_map, slice_get}
 use Rattle.rd_state.specs.States.{BufferValue, new_buffer}
 use Rattle.rd_state.specs.Moves.{moved_in}
 use Rattle.rd_state.specs.Windows.{AreApart, window_of, with_window, without_window}
-use Rattle.rd_state.proofs.ByNumber.{Entry, window-here, window-there, with-here, with-there, without-here, without-there}
+use Rattle.rd_state.proofs.ByNumber.{NumberedWindow, window-here, window-there, with-here, with-there, without-here, without-there}
 use Rattle.rd_state.specs.declared.moves.Move.{Move}
 use Rattle.rd_state.specs.declared.window.WindowState.{WindowState}
 
 -- ---- a window that lives behind a change lived before it
 
-abbrev pub Lives : ℕ → List Entry → Type 0
+abbrev pub Lives : ℕ → List NumberedWindow → Type 0
 Lives n ws = (w : WindowState) × (window_of n ws ≡ Some w)
 
-lives-here : (n : ℕ) (e : Entry) (rest : List Entry) → e.0 ≡ n → Lives n (e ∷ rest)
+lives-here : (n : ℕ) (e : NumberedWindow) (rest : List NumberedWindow) → e.0 ≡ n → Lives n (e ∷ rest)
 lives-here n e rest h = (e.1, window-here n e rest h)
 
-lives-there : (n : ℕ) (e : Entry) (rest : List Entry) → e.0 ≢ n → Lives n rest → Lives n (e ∷ rest)
+lives-there : (n : ℕ) (e : NumberedWindow) (rest : List NumberedWindow) → e.0 ≢ n → Lives n rest → Lives n (e ∷ rest)
 lives-there n e rest h l = (l.0, window-there n e rest h ∙ l.1)
 
-lives-behind : (n : ℕ) (e : Entry) (rest : List Entry) → e.0 ≢ n → Lives n (e ∷ rest) → Lives n rest
+lives-behind : (n : ℕ) (e : NumberedWindow) (rest : List NumberedWindow) → e.0 ≢ n → Lives n (e ∷ rest) → Lives n rest
 lives-behind n e rest h l = (l.0, sym (window-there n e rest h) ∙ l.1)
 
-pub lives-moved : (i : ℕ) (how : Move) (n : ℕ) (ws : List Entry) → Lives n (map (moved_in i how) ws) → Lives n ws
+pub lives-moved : (i : ℕ) (how : Move) (n : ℕ) (ws : List NumberedWindow) → Lives n (map (moved_in i how) ws) → Lives n ws
 lives-moved i how n [] l = l
 lives-moved i how n (e ∷ rest) l = elim (cases_eq e.0 n) [
   | inl p ↦ lives-here n e rest p
   | inr q ↦ lives-there n e rest q (lives-moved i how n rest (lives-behind n (moved_in i how e) (map (moved_in i how) rest) q l))
 ]
 
-pub lives-with : (m : ℕ) (f : WindowState → WindowState) (n : ℕ) (ws : List Entry) → Lives n (with_window m f ws) → Lives n ws
+pub lives-with : (m : ℕ) (f : WindowState → WindowState) (n : ℕ) (ws : List NumberedWindow) → Lives n (with_window m f ws) → Lives n ws
 lives-with m f n [] l = l
 lives-with m f n (e ∷ rest) l = elim (cases_eq e.0 n) [
   | inl p ↦ lives-here n e rest p
@@ -42,7 +42,7 @@ lives-with m f n (e ∷ rest) l = elim (cases_eq e.0 n) [
   ]
 ]
 
-pub lives-without : (m n : ℕ) (ws : List Entry) → Lives n (without_window m ws) → Lives n ws
+pub lives-without : (m n : ℕ) (ws : List NumberedWindow) → Lives n (without_window m ws) → Lives n ws
 lives-without m n [] l = l
 lives-without m n (e ∷ rest) l = elim (cases_eq e.0 n) [
   | inl p ↦ lives-here n e rest p
@@ -52,7 +52,7 @@ lives-without m n (e ∷ rest) l = elim (cases_eq e.0 n) [
   ]
 ]
 
-pub lives-end : (n : ℕ) (d : Entry) (ws : List Entry) → d.0 ≢ n → Lives n (ws ++ d ∷ []) → Lives n ws
+pub lives-end : (n : ℕ) (d : NumberedWindow) (ws : List NumberedWindow) → d.0 ≢ n → Lives n (ws ++ d ∷ []) → Lives n ws
 lives-end n d [] h l = lives-behind n d [] h l
 lives-end n d (e ∷ rest) h l = elim (cases_eq e.0 n) [
   | inl p ↦ lives-here n e rest p
@@ -61,7 +61,7 @@ lives-end n d (e ∷ rest) h l = elim (cases_eq e.0 n) [
 
 -- ---- a window that became another, and one that went
 
-pub window-with-same : (n : ℕ) (f : WindowState → WindowState) (ws : List Entry) → window_of n (with_window n f ws) ≡ option_map f (window_of n ws)
+pub window-with-same : (n : ℕ) (f : WindowState → WindowState) (ws : List NumberedWindow) → window_of n (with_window n f ws) ≡ option_map f (window_of n ws)
 window-with-same n f [] = refl
 window-with-same n f (e ∷ rest) = elim (cases_eq e.0 n) [
   | inl p ↦ ap (window_of n) (with-here n f e rest p) ∙ (window-here n (e.0, f e.1) rest p ∙ sym (ap (option_map f) (window-here n e rest p)))
@@ -70,7 +70,7 @@ window-with-same n f (e ∷ rest) = elim (cases_eq e.0 n) [
       ∙ (window-there n e (with_window n f rest) q ∙ (window-with-same n f rest ∙ sym (ap (option_map f) (window-there n e rest q))))
 ]
 
-pub window-with-other : (n m : ℕ) (f : WindowState → WindowState) (ws : List Entry) → m ≢ n → window_of m (with_window n f ws) ≡ window_of m ws
+pub window-with-other : (n m : ℕ) (f : WindowState → WindowState) (ws : List NumberedWindow) → m ≢ n → window_of m (with_window n f ws) ≡ window_of m ws
 window-with-other n m f [] ne = refl
 window-with-other n m f (e ∷ rest) ne = elim (cases_eq e.0 n) [
   | inl p ↦
@@ -82,14 +82,14 @@ window-with-other n m f (e ∷ rest) ne = elim (cases_eq e.0 n) [
   ]
 ]
 
-pub window-gone : (n : ℕ) (ws : List Entry) → AreApart ws → window_of n (without_window n ws) ≡ None
+pub window-gone : (n : ℕ) (ws : List NumberedWindow) → AreApart ws → window_of n (without_window n ws) ≡ None
 window-gone n [] h = refl
 window-gone n (e ∷ rest) h = elim (cases_eq e.0 n) [
   | inl p ↦ ap (window_of n) (without-here n e rest p) ∙ (ap (λ (k : ℕ). window_of k rest) (sym p) ∙ h.0)
   | inr q ↦ ap (window_of n) (without-there n e rest q) ∙ (window-there n e (without_window n rest) q ∙ window-gone n rest h.1)
 ]
 
-pub window-left : (n m : ℕ) (ws : List Entry) → m ≢ n → window_of m (without_window n ws) ≡ window_of m ws
+pub window-left : (n m : ℕ) (ws : List NumberedWindow) → m ≢ n → window_of m (without_window n ws) ≡ window_of m ws
 window-left n m [] ne = refl
 window-left n m (e ∷ rest) ne = elim (cases_eq e.0 n) [
   | inl p ↦ ap (window_of m) (without-here n e rest p) ∙ sym (window-there m e rest (λ r. ne (sym r ∙ p)))
@@ -102,10 +102,10 @@ window-left n m (e ∷ rest) ne = elim (cases_eq e.0 n) [
 -- ---- each window became another
 
 -- each window with a number became another
-abbrev pub became : (ℕ → WindowState → WindowState) → Entry → Entry
+abbrev pub became : (ℕ → WindowState → WindowState) → NumberedWindow → NumberedWindow
 became f e = (e.0, f e.0 e.1)
 
-pub window-became : (f : ℕ → WindowState → WindowState) (n : ℕ) (ws : List Entry) → window_of n (map (became f) ws) ≡ option_map (f n) (window_of n ws)
+pub window-became : (f : ℕ → WindowState → WindowState) (n : ℕ) (ws : List NumberedWindow) → window_of n (map (became f) ws) ≡ option_map (f n) (window_of n ws)
 window-became f n [] = refl
 window-became f n (e ∷ rest) = elim (cases_eq e.0 n) [
   | inl p ↦ window-here n (became f e) (map (became f) rest) p ∙ (ap (λ k. Some (f k e.1)) p ∙ sym (ap (option_map (f n)) (window-here n e rest p)))

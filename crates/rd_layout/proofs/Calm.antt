@@ -31,7 +31,7 @@ use Rattle.rd_tree.specs.Calls.{Configuration, split_tree, remove_tree, resize_t
 use Rattle.rd_tree.specs.declared.fault.TreeFault.{TreeFault}
 use Rattle.rd_layout.specs.Changes.{change_by, if_shown, restyled}
 use Rattle.rd_layout.proofs.ByNumber.{window-became, window-gone, window-left, window-with-other, window-with-same}
-use Rattle.rd_state.proofs.ByNumber.{Entry, eq-true, eq-false, window-here, window-there}
+use Rattle.rd_state.proofs.ByNumber.{NumberedWindow, eq-true, eq-false, window-here, window-there}
 use Rattle.rd_state.proofs.Opening.{chosen, passed}
 
 -- an effect tells no change of a window that shows a buffer
@@ -152,13 +152,13 @@ contents-set effect bs i x content at kept number k b c hb hc quiet = elim (at-s
 
 -- ---- windows
 
-abbrev pub Windows : Effect → List Entry → List Entry → Type 0
+abbrev pub Windows : Effect → List NumberedWindow → List NumberedWindow → Type 0
 Windows effect ws vs = (number : ℕ) (old new : WindowState) → window_of number ws ≡ Some old → window_of number vs ≡ Some new → Quiet effect number old.buffer → Same old new
 
-windows-same : (effect : Effect) (ws : List Entry) → Windows effect ws ws
+windows-same : (effect : Effect) (ws : List NumberedWindow) → Windows effect ws ws
 windows-same effect ws number old new h k quiet = same old new (one (window_of number ws) old new h k)
 
-windows-with : (effect : Effect) (ws : List Entry) (n : ℕ) (f : WindowState → WindowState) → ((w : WindowState) → Quiet effect n w.buffer → Same w (f w))
+windows-with : (effect : Effect) (ws : List NumberedWindow) (n : ℕ) (f : WindowState → WindowState) → ((w : WindowState) → Quiet effect n w.buffer → Same w (f w))
     → Windows effect ws (with_window n f ws)
 windows-with effect ws n f good number old new h k quiet = elim (cases_eq number n) [
   | inl p ↦
@@ -173,7 +173,7 @@ windows-with effect ws n f good number old new h k quiet = elim (cases_eq number
 abbrev pub moved-by : ℕ → Move → ℕ → WindowState → WindowState
 moved-by i how number w = if w.buffer == i then moved_window how w else w
 
-windows-moved : (effect : Effect) (ws : List Entry) (i : ℕ) (how : Move) → Loud effect i → Windows effect ws (map (moved_in i how) ws)
+windows-moved : (effect : Effect) (ws : List NumberedWindow) (i : ℕ) (how : Move) → Loud effect i → Windows effect ws (map (moved_in i how) ws)
 windows-moved effect ws i how loud number old new h k quiet =
     let after : option_map (moved-by i how number) (window_of number ws) ≡ Some new = sym (window-became (moved-by i how) number ws) ∙ k in
     let is : moved-by i how number old ≡ new = cc (sym (ap (option_map (moved-by i how number)) h) ∙ after) in
@@ -182,7 +182,7 @@ windows-moved effect ws i how loud number old new h k quiet =
       | inr q ↦ same old new (sym (passed (old.buffer == i) (moved_window how old) old (eq-false old.buffer i q)) ∙ is)
     ]
 
-windows-typed : (effect : Effect) (ws : List Entry) (i : ℕ) (how : Move) (n : ℕ) (f : WindowState → WindowState) (w : WindowState) → Loud effect i → window_of n ws ≡ Some w → w.buffer ≡ i
+windows-typed : (effect : Effect) (ws : List NumberedWindow) (i : ℕ) (how : Move) (n : ℕ) (f : WindowState → WindowState) (w : WindowState) → Loud effect i → window_of n ws ≡ Some w → w.buffer ≡ i
     → Windows effect ws (with_window n f (map (moved_in i how) ws))
 windows-typed effect ws i how n f w loud at there number old new h k quiet = elim (cases_eq number n) [
   | inl p ↦
@@ -191,17 +191,17 @@ windows-typed effect ws i how n f w loud at there number old new h k quiet = eli
   | inr q ↦ windows-moved effect ws i how loud number old new h (sym (window-with-other n number f (map (moved_in i how) ws) q) ∙ k) quiet
 ]
 
-found-front : (n : ℕ) (ws : List Entry) (e : Entry) (w : WindowState) → window_of n ws ≡ Some w → window_of n (ws ++ e ∷ []) ≡ Some w
+found-front : (n : ℕ) (ws : List NumberedWindow) (e : NumberedWindow) (w : WindowState) → window_of n ws ≡ Some w → window_of n (ws ++ e ∷ []) ≡ Some w
 found-front n [] e w h = absurd (cc)
 found-front n (d ∷ ds) e w h = elim (cases_eq d.0 n) [
   | inl p ↦ window-here n d (ds ++ e ∷ []) p ∙ (sym (window-here n d ds p) ∙ h)
   | inr q ↦ window-there n d (ds ++ e ∷ []) q ∙ found-front n ds e w (sym (window-there n d ds q) ∙ h)
 ]
 
-windows-end : (effect : Effect) (ws : List Entry) (e : Entry) → Windows effect ws (ws ++ e ∷ [])
+windows-end : (effect : Effect) (ws : List NumberedWindow) (e : NumberedWindow) → Windows effect ws (ws ++ e ∷ [])
 windows-end effect ws e number old new h k quiet = same old new (one (window_of number (ws ++ e ∷ [])) old new (found-front number ws e old h) k)
 
-windows-without : (effect : Effect) (ws : List Entry) (n : ℕ) → AreApart ws → Windows effect ws (without_window n ws)
+windows-without : (effect : Effect) (ws : List NumberedWindow) (n : ℕ) → AreApart ws → Windows effect ws (without_window n ws)
 windows-without effect ws n apart number old new h k quiet = elim (cases_eq number n) [
   | inl p ↦ absurd (none-some new (sym (window-gone n ws apart) ∙ (ap (λ j. window_of j (without_window n ws)) (sym p) ∙ k)))
   | inr q ↦ same old new (one (window_of number ws) old new h (sym (window-left n number ws q) ∙ k))

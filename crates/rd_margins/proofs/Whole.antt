@@ -44,15 +44,15 @@ good c low high = record { measured = measured c (omega arith) high; seen = seen
 -- ---- rows
 
 -- whole cells behind whole cells
-pub joined : (due : ℕ) (cells more : List Cell) → IsRowAfter due cells → IsRowAfter 0 more → IsRowAfter due (cells ++ more)
-joined zero [] more row next = next
-joined zero (Rest ∷ cells) more row next = elim row [ ]
-joined zero (Blank f ∷ cells) more row next = joined zero cells more row next
-joined zero (First g f ∷ cells) more row next = (row.0, joined (g.width - 1) cells more row.1 next)
-joined (suc due) [] more row next = elim row [ ]
-joined (suc due) (Blank f ∷ cells) more row next = elim row [ ]
-joined (suc due) (First g f ∷ cells) more row next = elim row [ ]
-joined (suc due) (Rest ∷ cells) more row next = joined due cells more row next
+pub rows-joined : (due : ℕ) (cells more : List Cell) → IsRowAfter due cells → IsRowAfter 0 more → IsRowAfter due (cells ++ more)
+rows-joined zero [] more row next = next
+rows-joined zero (Rest ∷ cells) more row next = elim row [ ]
+rows-joined zero (Blank f ∷ cells) more row next = rows-joined zero cells more row next
+rows-joined zero (First g f ∷ cells) more row next = (row.0, rows-joined (g.width - 1) cells more row.1 next)
+rows-joined (suc due) [] more row next = elim row [ ]
+rows-joined (suc due) (Blank f ∷ cells) more row next = elim row [ ]
+rows-joined (suc due) (First g f ∷ cells) more row next = elim row [ ]
+rows-joined (suc due) (Rest ∷ cells) more row next = rows-joined due cells more row next
 
 blanks-whole : (n : ℕ) → IsRowAfter 0 (blanks n plain)
 blanks-whole zero = tt
@@ -88,7 +88,7 @@ signs-coloured (c ∷ cs) = All-cons IsColoured (sign c) (map sign cs) (record {
 pub joined-margin : (n m : ℕ) (cells more : List Cell) → IsMargin n cells → IsMargin m more → IsMargin (n + m) (cells ++ more)
 joined-margin n m cells more a b = record {
   count = length-append cells more ∙ ap (λ (k : ℕ). k + length more) a.count ∙ ap (λ (k : ℕ). n + k) b.count;
-  whole = joined 0 cells more a.whole b.whole;
+  whole = rows-joined 0 cells more a.whole b.whole;
   coloured = All-append IsColoured cells more a.coloured b.coloured;
 }
 

@@ -3,11 +3,11 @@ use Rattle.std.proofs.Common.{◌≡◌, ℕ, zero, suc, ◌<◌, Bool, true, if
 use Rattle.std.specs.Prelude.{◌==◌}
 use Rattle.std.proofs.lemmas.Bool.Decides.{Decides-eqb}
 use Rattle.rd_base.specs.declared.cell.Glyph.{Glyph}
-use Rattle.rd_objects.specs.declared.table.Entry.{Entry}
+use Rattle.rd_objects.specs.declared.table.TableEntry.{TableEntry}
 use Rattle.rd_objects.specs.Texts.{later}
 use Rattle.rd_objects.specs.Tables.{entry_in}
 
-pub entry_in-last : (entries : List Entry) (i n code : ℕ) (d : Entry) → n ≡ suc i → i < length entries → (get_or entries i d).code ≡ code
+pub entry_in-last : (entries : List TableEntry) (i n code : ℕ) (d : TableEntry) → n ≡ suc i → i < length entries → (get_or entries i d).code ≡ code
     → entry_in (drop n entries) code ≡ None → entry_in entries code ≡ Some (get_or entries i d).text
 entry_in-last [] i n code d size within is none = absurd (omega arith)
 entry_in-last (e ∷ es) zero n code d size within is none =

@@ -6,13 +6,13 @@ use Rattle.rd_base.specs.Chars.{is_scalar}
 use Rattle.rd_base.specs.declared.cell.Glyph.{Glyph}
 use Rattle.rd_objects.specs.declared.run.Slot.{Slot}
 use Rattle.rd_objects.specs.declared.run.Slot.TheVariants.{Truncation, Continuation, Escape, Control, Border}
-use Rattle.rd_objects.specs.declared.table.Entry.{Entry}
+use Rattle.rd_objects.specs.declared.table.TableEntry.{TableEntry}
 use Rattle.rd_objects.specs.Texts.{later}
 use Rattle.rd_objects.specs.Widths.{columns}
 
 -- a table, as contracts see it: its entries in the order in which they were put, and what its slots hold
 pub record TableValue : Type 0 where
-  pub entries : List Entry
+  pub entries : List TableEntry
   pub truncation : Option Glyph
   pub continuation : Option Glyph
   pub escape : Option Glyph
@@ -46,7 +46,7 @@ abbrev pub is_slot_glyph : Glyph → Bool
 is_slot_glyph g = is_glyph_character g && (g.width == 1)
 
 -- what the entry that was put last for a code shows
-abbrev pub entry_in : List Entry → ℕ → Option (List Glyph)
+abbrev pub entry_in : List TableEntry → ℕ → Option (List Glyph)
 entry_in [] code = None
 entry_in (e ∷ es) code = later (entry_in es code) (if e.code == code then Some e.text else None)
 

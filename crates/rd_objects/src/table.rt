@@ -9,7 +9,7 @@ use std::marker::Model;
 
 /// What is shown in place of a code.
 #[derive(Drop)]
-pub struct Entry {
+pub struct TableEntry {
     pub code: u32,
     pub text: ListOf<Glyph>,
 }
@@ -19,7 +19,7 @@ pub struct Entry {
 #[derive(Drop)]
 pub struct Table {
     alloc: Global,
-    entries: ListOf<Entry>,
+    entries: ListOf<TableEntry>,
     truncation: Option<Glyph>,
     continuation: Option<Glyph>,
     escape: Option<Glyph>,
@@ -83,7 +83,7 @@ impl Table {
         ensures err { OnErr result (self.new ≡ self.old) }
     {
         let text = ListOf::from_slice(self.alloc, text)?;
-        self.entries.push(Entry { code, text })
+        self.entries.push(TableEntry { code, text })
     }
 
     /// Puts the glyph of a slot, a glyph character of one column, or takes it away. It costs one step.
@@ -153,7 +153,7 @@ impl Table {
 }
 
 /// What the last entry of a code shows.
-fn last_entry(entries: &[Entry], code: u32) -> Option<&[Glyph]>
+fn last_entry(entries: &[TableEntry], code: u32) -> Option<&[Glyph]>
     requires { All (λ e. IsTrue (is_glyph_text e.text)) entries.now }
     ensures text { IfSome result (λ text. IsTrue (is_glyph_text text.now)) }
     ensures value { MatchOption result (entry_in entries.now code ≡ None) (λ text. entry_in entries.now code ≡ Some text.now) }

@@ -15,7 +15,7 @@ use Rattle.rd_run.specs.declared.status.Status.{Status}
 use Rattle.rd_run.specs.declared.status.Status.TheVariants.{Usage}
 use Rattle.rd_play.specs.Acts.{Begins, IsOpened, status_of}
 use Rattle.rd_play.specs.Devices.{given}
-use Rattle.rd_play.specs.declared.act.Run.{Run}
+use Rattle.rd_play.specs.declared.act.Playing.{Playing}
 
 -- the bytes of files, and how often the file of a name failed
 abbrev pub Contents : Type 0
@@ -25,7 +25,7 @@ abbrev pub Counts : Type 0
 Counts = List ℕ → ℕ
 
 -- the files are good
-pub opened-begins : (result : Result Run Status) (files : Data) (words : WordValues) (contents : Contents) (before after : Counts) → IsOpened result files words
+pub opened-begins : (result : Result Playing Status) (files : Data) (words : WordValues) (contents : Contents) (before after : Counts) → IsOpened result files words
     → GivesData contents (names_of words) (Ok files) → Begins result (given (Some words) contents before after)
 opened-begins (Ok r) files words contents before after h gives = (
   record {
@@ -56,6 +56,6 @@ faulty-begins fault said contents before after e h =
     λ source. (none, (refl, refl))
 
 -- the words may be said otherwise
-pub begins-as : (result : Result Run Status) (said same : Option WordValues) (contents : Contents) (before after : Counts) → said ≡ same → Begins result (given same contents before after)
+pub begins-as : (result : Result Playing Status) (said same : Option WordValues) (contents : Contents) (before after : Counts) → said ≡ same → Begins result (given same contents before after)
     → Begins result (given said contents before after)
 begins-as result said same contents before after e h = subst (λ o. Begins result (given o contents before after)) (sym e) h

@@ -9,35 +9,35 @@ use Rattle.rd_layout.specs.Copies.{without_copies}
 use Rattle.rd_run.specs.Ends.{Broke, Comes, Drawn, IsInHand, Sunk, Took, allowed_in, last_in, sent_in, told_in}
 use Rattle.rd_run.specs.Given.{Given, IsMode}
 use Rattle.rd_run.specs.Reports.{last_line, summary_lines}
-use Rattle.rd_run.specs.Runs.{Effect, Mode, Standing, Turn, effect, is_sent, opened, run}
+use Rattle.rd_run.specs.Runs.{Effect, Input, Mode, Standing, effect, is_sent, opened, run}
 use Rattle.rd_run.specs.declared.status.ScriptFault.TheVariants.{TooLong, TooMany}
 use Rattle.rd_run.specs.declared.status.Status.{Status}
 use Rattle.rd_run.specs.declared.status.Status.TheVariants.{BadData, BadScript, Done, NoMemory, ReadFault, WriteFault}
 use Rattle.rd_ucd.specs.Data.{Data}
 use Rattle.rd_words.specs.Words.{WordValues}
-use Rattle.rd_play.specs.Played.{SpentInHand, turn_of}
-use Rattle.rd_play.specs.declared.act.Run.{Run}
+use Rattle.rd_play.specs.Played.{SpentInHand, input_of}
+use Rattle.rd_play.specs.declared.act.Playing.{Playing}
 use Rattle.rd_play.specs.declared.halt.Halt.{Halt}
 use Rattle.rd_play.specs.declared.halt.Halt.TheVariants as halts
-use Rattle.rd_play.specs.declared.halt.Stop.{Stop}
-use Rattle.rd_play.specs.declared.halt.Stop.TheVariants as stops
+use Rattle.rd_play.specs.declared.halt.Ending.{Ending}
+use Rattle.rd_play.specs.declared.halt.Ending.TheVariants as endings
 use Rattle.rd_play.specs.declared.halt.Summary.{Summary}
 
 -- ---- where a run stands
 
-abbrev pub mode_of : Run → Mode
+abbrev pub mode_of : Playing → Mode
 mode_of r = record { files = r.session.files; dumps = r.dumps; generated = r.generated }
 
 -- where a run stands, however often the rows of its last layouts were copied
-abbrev pub standing : Run → Standing
+abbrev pub standing : Playing → Standing
 standing r = record { mode = mode_of r; session = without_copies r.session; lines = r.lines; shown = r.shown }
 
 -- no line of it was run
-abbrev pub IsNew : Run → Type 0
+abbrev pub IsNew : Playing → Type 0
 IsNew r = standing r ≡ (opened (mode_of r)).now
 
 -- a run begins by what is given, or a status comes before the first line
-abbrev pub Begins : Result Run Status → Given → Type 0
+abbrev pub Begins : Result Playing Status → Given → Type 0
 Begins (Ok r) given = IsMode given (mode_of r) × IsNew r
 Begins (Err status) given = (source : Drawn) → Comes given None status [] [] source
 
@@ -48,7 +48,7 @@ status_of data_faults.Read = ReadFault
 status_of data_faults.Memory = NoMemory
 
 -- a run of no line over data files, as the words ask for it, or want of memory
-abbrev pub IsOpened : Result Run Status → Data → WordValues → Type 0
+abbrev pub IsOpened : Result Playing Status → Data → WordValues → Type 0
 IsOpened (Ok r) files words = (mode_of r ≡ record { files = files; dumps = words.dumps; generated = words.generate }) × IsNew r
 IsOpened (Err status) files words = status ≡ NoMemory
 
@@ -90,47 +90,47 @@ abbrev pub summary_of : Summary → List ℕ
 summary_of s = summary_lines s.lines s.shown s.characters s.start
 
 -- What was written before the last line of the report. Where no run has begun no line is run, so none breaks.
-abbrev pub Stopped : Stop → Given → Option Mode → List Turn → List ℕ → Drawn → Sunk → Sunk → Type 0
-Stopped (stops.Ends status lines) given mode turns bytes source screen report =
-    Comes given mode status turns bytes source × (last_in mode status turns ≡ last_line status lines) × Took screen (sent_in mode turns) × Took report (told_in mode turns)
-Stopped (stops.Sums s) given mode turns bytes source screen report =
-    Comes given mode Done turns bytes source × (last_in mode Done turns ≡ summary_of s) × Took screen (sent_in mode turns) × Took report (told_in mode turns)
-Stopped stop given None turns bytes source screen report = ⊥
-Stopped stops.ScreenBroke given (Some mode) turns bytes source screen report =
-    (line : List ℕ) × IsInHand given mode turns line bytes source.left
-    × Broke screen (run (opened mode) turns).sent (effect (run (opened mode) turns).now (turn_of line false)).sent × Took report (run (opened mode) turns).told
-Stopped stops.ReportBroke given (Some mode) turns bytes source screen report =
-    (t : Turn) × IsInHand given mode turns t.line bytes source.left × Took screen ((run (opened mode) turns).sent ++ (effect (run (opened mode) turns).now t).sent)
-    × Broke report (run (opened mode) turns).told (effect (run (opened mode) turns).now t).told × IsToldOf mode.generated t.starved
+abbrev pub ComesTo : Ending → Given → Option Mode → List Input → List ℕ → Drawn → Sunk → Sunk → Type 0
+ComesTo (endings.Ends status lines) given mode inputs bytes source screen report =
+    Comes given mode status inputs bytes source × (last_in mode status inputs ≡ last_line status lines) × Took screen (sent_in mode inputs) × Took report (told_in mode inputs)
+ComesTo (endings.Sums s) given mode inputs bytes source screen report =
+    Comes given mode Done inputs bytes source × (last_in mode Done inputs ≡ summary_of s) × Took screen (sent_in mode inputs) × Took report (told_in mode inputs)
+ComesTo ending given None inputs bytes source screen report = ⊥
+ComesTo endings.ScreenBroke given (Some mode) inputs bytes source screen report =
+    (line : List ℕ) × IsInHand given mode inputs line bytes source.left
+    × Broke screen (run (opened mode) inputs).sent (effect (run (opened mode) inputs).now (input_of line false)).sent × Took report (run (opened mode) inputs).told
+ComesTo endings.ReportBroke given (Some mode) inputs bytes source screen report =
+    (t : Input) × IsInHand given mode inputs t.line bytes source.left × Took screen ((run (opened mode) inputs).sent ++ (effect (run (opened mode) inputs).now t).sent)
+    × Broke report (run (opened mode) inputs).told (effect (run (opened mode) inputs).now t).told × IsToldOf mode.generated t.starved
 
 -- how many elements were placed by then
-abbrev pub SpentBy : Stop → Given → Option Mode → List Turn → List ℕ → Option (List ℕ) → ℕ → ℕ → Type 0
-SpentBy (stops.Ends status lines) given mode turns bytes left before after = after ≤ before + allowed_in mode turns
-SpentBy (stops.Sums s) given mode turns bytes left before after = after ≤ before + allowed_in mode turns
-SpentBy stops.ScreenBroke given mode turns bytes left before after = SpentInHand given mode turns bytes left before after
-SpentBy stops.ReportBroke given mode turns bytes left before after = SpentInHand given mode turns bytes left before after
+abbrev pub SpentBy : Ending → Given → Option Mode → List Input → List ℕ → Option (List ℕ) → ℕ → ℕ → Type 0
+SpentBy (endings.Ends status lines) given mode inputs bytes left before after = after ≤ before + allowed_in mode inputs
+SpentBy (endings.Sums s) given mode inputs bytes left before after = after ≤ before + allowed_in mode inputs
+SpentBy endings.ScreenBroke given mode inputs bytes left before after = SpentInHand given mode inputs bytes left before after
+SpentBy endings.ReportBroke given mode inputs bytes left before after = SpentInHand given mode inputs bytes left before after
 
 -- a line was told, and this status is answered, or the report broke
 abbrev pub Tells : Status → List ℕ → Status → Sunk → Type 0
 Tells status line result report = ((result ≡ status) × Took report line) ⊎ ((result ≡ WriteFault) × Broke report [] line)
 
 -- the last line was told, where that may be
-abbrev pub Finishes : Stop → Status → Sunk → Type 0
-Finishes (stops.Ends status lines) result report = Tells status (last_line status lines) result report
-Finishes (stops.Sums s) result report = Tells Done (summary_of s) result report
-Finishes stops.ScreenBroke result report = Tells WriteFault (last_line WriteFault 0) result report
-Finishes stops.ReportBroke result report = (result ≡ WriteFault) × Took report []
+abbrev pub Finishes : Ending → Status → Sunk → Type 0
+Finishes (endings.Ends status lines) result report = Tells status (last_line status lines) result report
+Finishes (endings.Sums s) result report = Tells Done (summary_of s) result report
+Finishes endings.ScreenBroke result report = Tells WriteFault (last_line WriteFault 0) result report
+Finishes endings.ReportBroke result report = (result ≡ WriteFault) × Took report []
 
 -- how a run ends whose reader answers a fault, behind so many lines
-abbrev pub ended_by : LineFault → ℕ → Stop
-ended_by reader.Failed lines = stops.Ends ReadFault lines
-ended_by reader.TooLong lines = stops.Ends (BadScript (lines + 1) TooLong) lines
-ended_by reader.TooMany lines = stops.Ends (BadScript (lines + 1) TooMany) lines
-ended_by reader.Memory lines = stops.Ends NoMemory lines
+abbrev pub ended_by : LineFault → ℕ → Ending
+ended_by reader.Failed lines = endings.Ends ReadFault lines
+ended_by reader.TooLong lines = endings.Ends (BadScript (lines + 1) TooLong) lines
+ended_by reader.TooMany lines = endings.Ends (BadScript (lines + 1) TooMany) lines
+ended_by reader.Memory lines = endings.Ends NoMemory lines
 
 -- how a run ends that halts at a line, behind so many others
-abbrev pub halted_by : Halt → ℕ → Stop
-halted_by (halts.Bad fault) lines = stops.Ends (BadScript (lines + 1) fault) (lines + 1)
-halted_by halts.NoMemory lines = stops.Ends NoMemory lines
-halted_by halts.ScreenBroke lines = stops.ScreenBroke
-halted_by halts.ReportBroke lines = stops.ReportBroke
+abbrev pub halted_by : Halt → ℕ → Ending
+halted_by (halts.Bad fault) lines = endings.Ends (BadScript (lines + 1) fault) (lines + 1)
+halted_by halts.NoMemory lines = endings.Ends NoMemory lines
+halted_by halts.ScreenBroke lines = endings.ScreenBroke
+halted_by halts.ReportBroke lines = endings.ReportBroke

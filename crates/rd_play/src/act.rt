@@ -1,5 +1,5 @@
-//! `Run`, a run in progress, and `Run::line`, which does what one line says: it reads an op, applies it, or redisplays and tells the
-//! report.
+//! `Playing`, a run in progress, and `Playing::line`, which does what one line says: it reads an op, applies it, or redisplays and tells
+//! the report.
 ghost use Rattle.std.specs.Prelude.{◌≡◌, ℕ, ◌≤◌, ◌<◌, ◌++◌, [], false, None, Some, List, Ok, IfOk, OnErr, Option, if◌then◌else◌, is_some, unwrap_or};
 ghost use Rattle.rd_io.specs.Devices.{Rose, Writes};
 ghost use Rattle.rd_layout.specs.Copies.{without_copies};
@@ -9,7 +9,7 @@ ghost use Rattle.rd_state.specs.States.{main_name};
 ghost use Rattle.rd_state.specs.Windows.{selected_window};
 ghost use Rattle.rd_play.specs.Acts.{Acts, IsNew, IsTold, Places, mode_of, standing, summary_of};
 ghost use Rattle.rd_play.specs.Devices.{sunk_by};
-ghost use Rattle.rd_play.specs.Played.{turn_of};
+ghost use Rattle.rd_play.specs.Played.{input_of};
 ghost use Rattle.rd_run.specs.Ends.{summary, sunk};
 ghost use Rattle.rd_run.specs.Reports.{shown_line, stopped_line};
 ghost use Rattle.rd_run.specs.Runs.{asked, dump_lines, effect, effect_of_op, is_blank, redisplayed, stepped, unshown};
@@ -35,7 +35,7 @@ use std::sync::ledger::Ledger;
 /// A run: whether dumps are asked for, the number of a generated script where it stands in place of the one that is read, the
 /// session, room for what a dump says of the windows, and how many lines were run and redisplays shown.
 #[derive(Drop)]
-pub struct Run {
+pub struct Playing {
     dumps: bool,
     pub generated: Option<u32>,
     session: Session,
@@ -44,18 +44,18 @@ pub struct Run {
     shown: u32,
 }
 
-impl Run {
+impl Playing {
     /// A run of no line, over the data files.
     pub fn new(
         alloc: Global,
         files: DataFiles,
         dumps: bool,
         generated: Option<u32>,
-    ) -> Result<Run, Memory>
+    ) -> Result<Playing, Memory>
         ensures mode { IfOk result (λ run. mode_of run ≡ record { files = record { classes = files.classes; mirrors = files.mirrors; brackets = files.brackets }; dumps = dumps; generated = generated }) }
         ensures begun { IfOk result (λ run. IsNew run) }
     {
-        Ok(Run {
+        Ok(Playing {
             dumps,
             generated,
             session: Session::new(alloc, files.classes, files.mirrors, files.brackets)?,
@@ -77,9 +77,9 @@ impl Run {
     ) -> Result<(), Halt>
         requires few { self.old.lines < LINES }
         requires counted { self.old.shown ≤ self.old.lines }
-        ensures acts { Acts result (λ starved. effect (standing self.old) (turn_of line.now starved)) (standing self.new)
+        ensures acts { Acts result (λ starved. effect (standing self.old) (input_of line.now starved)) (standing self.new)
             (sunk_by K.written K.faults screen.old screen.new) (sunk_by R.written R.faults report.old report.new) }
-        ensures places { Places result (effect (standing self.old) (turn_of line.now false)) steps.old steps.new }
+        ensures places { Places result (effect (standing self.old) (input_of line.now false)) steps.old steps.new }
         ensures counted { self.new.shown ≤ self.new.lines }
         ensures screen { K.faults screen.old ≤ K.faults screen.new }
         ensures report { R.faults report.old ≤ R.faults report.new }

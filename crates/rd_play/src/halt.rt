@@ -1,4 +1,4 @@
-//! How a run ends: `Halt`, why a line was not run to its end; `Stop`, what ends the run; `Summary`, what a generated script tells at its
+//! How a run ends: `Halt`, why a line was not run to its end; `Ending`, what ends the run; `Summary`, what a generated script tells at its
 //! end.
 use rd_base::Anchor;
 use rd_run::{ScriptFault, Status};
@@ -32,7 +32,7 @@ pub struct Summary {
 /// What ends a run: a status that the report is still to be told, with how many lines were run; the end of a generated script; or
 /// a sink that failed.
 #[derive(Debug, Drop)]
-pub enum Stop {
+pub enum Ending {
     Ends(Status, u32),
     Sums(Summary),
     ScreenBroke,

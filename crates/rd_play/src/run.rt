@@ -2,14 +2,14 @@
 ghost use Rattle.std.specs.Prelude.{◌≡◌, ℕ, ◌≤◌, ◌<◌, [], length, List, None, Option, Some};
 ghost use Rattle.std.specs.Io.KnownBytes.{Consumes};
 ghost use Rattle.rd_generate.specs.Generated.{script};
-ghost use Rattle.rd_play.specs.Acts.{IsNew, SpentBy, Stopped, ended_by, halted_by, mode_of};
+ghost use Rattle.rd_play.specs.Acts.{ComesTo, IsNew, SpentBy, ended_by, halted_by, mode_of};
 ghost use Rattle.rd_play.specs.Devices.{drawn_by, sunk_by};
 ghost use Rattle.rd_run.specs.Ends.{drawn};
 ghost use Rattle.rd_run.specs.Given.{Given, IsMode};
-ghost use Rattle.rd_run.specs.Runs.{Turn};
+ghost use Rattle.rd_run.specs.Runs.{Input};
 
-use crate::act::Run;
-use crate::halt::{Halt, Stop};
+use crate::act::Playing;
+use crate::halt::{Ending, Halt};
 use rd_base::limits::LINES;
 use rd_base::{ListOf, Steps};
 use rd_generate::generated;
@@ -21,28 +21,28 @@ use std::sync::ledger::Ledger;
 /// Runs the lines of a script, one after another, until one ends the run or none is left.
 pub fn run_script<S: Source, K: Sink, R: Sink, L: Ledger>(
     alloc: Global,
-    run: &mut Run,
+    run: &mut Playing,
     script: &mut S,
     screen: &mut K,
     report: &mut R,
     steps: &mut Steps<L>,
-) -> Stop
+) -> Ending
     requires read { run.old.generated ≡ None }
     requires begun { IsNew run.old }
-    ensures stopped { (given : Given) → IsMode given (mode_of run.old) → (turns : List Turn) × (bytes : List ℕ) × Consumes (S.left script.old) (S.left script.new) bytes
-        × Stopped result given (Some (mode_of run.old)) turns bytes (drawn_by S.left S.faults script.old script.new) (sunk_by K.written K.faults screen.old screen.new) (sunk_by R.written R.faults report.old report.new)
-        × SpentBy result given (Some (mode_of run.old)) turns bytes (S.left script.new) steps.old steps.new }
+    ensures comes { (given : Given) → IsMode given (mode_of run.old) → (inputs : List Input) × (bytes : List ℕ) × Consumes (S.left script.old) (S.left script.new) bytes
+        × ComesTo result given (Some (mode_of run.old)) inputs bytes (drawn_by S.left S.faults script.old script.new) (sunk_by K.written K.faults screen.old screen.new) (sunk_by R.written R.faults report.old report.new)
+        × SpentBy result given (Some (mode_of run.old)) inputs bytes (S.left script.new) steps.old steps.new }
     ensures script { S.faults script.old ≤ S.faults script.new }
     ensures screen { K.faults screen.old ≤ K.faults screen.new }
     ensures report { R.faults report.old ≤ R.faults report.new }
 {
     let Ok(mut lines) = Lines::new(alloc) else {
-        return Stop::Ends(Status::NoMemory, 0);
+        return Ending::Ends(Status::NoMemory, 0);
     };
     'each_line: loop {
         match lines.next(script) {
             Ok(true) => {}
-            Ok(false) => return Stop::Ends(Status::Done, run.lines),
+            Ok(false) => return Ending::Ends(Status::Done, run.lines),
             Err(fault) => return ended_by(fault, run.lines),
         }
         let before = run.lines;
@@ -57,23 +57,23 @@ pub fn run_script<S: Source, K: Sink, R: Sink, L: Ledger>(
 pub fn run_generated<K: Sink, R: Sink, L: Ledger>(
     alloc: Global,
     number: u32,
-    run: &mut Run,
+    run: &mut Playing,
     screen: &mut K,
     report: &mut R,
     steps: &mut Steps<L>,
-) -> Stop
+) -> Ending
     requires generated { run.old.generated ≡ Some number }
     requires begun { IsNew run.old }
-    ensures stopped { (given : Given) (left : Option (List ℕ)) (faults : ℕ) → IsMode given (mode_of run.old) → (turns : List Turn)
-        × Stopped result given (Some (mode_of run.old)) turns [] (drawn left faults faults)
+    ensures comes { (given : Given) (left : Option (List ℕ)) (faults : ℕ) → IsMode given (mode_of run.old) → (inputs : List Input)
+        × ComesTo result given (Some (mode_of run.old)) inputs [] (drawn left faults faults)
         (sunk_by K.written K.faults screen.old screen.new) (sunk_by R.written R.faults report.old report.new)
-        × SpentBy result given (Some (mode_of run.old)) turns [] left steps.old steps.new }
+        × SpentBy result given (Some (mode_of run.old)) inputs [] left steps.old steps.new }
     ensures screen { K.faults screen.old ≤ K.faults screen.new }
     ensures report { R.faults report.old ≤ R.faults report.new }
 {
     match generated(alloc, number) {
         Ok(lines) => run_lines(alloc, lines.as_slice(), run, screen, report, steps),
-        Err(_) => Stop::Ends(Status::NoMemory, 0),
+        Err(_) => Ending::Ends(Status::NoMemory, 0),
     }
 }
 
@@ -81,17 +81,17 @@ pub fn run_generated<K: Sink, R: Sink, L: Ledger>(
 fn run_lines<K: Sink, R: Sink, L: Ledger>(
     alloc: Global,
     lines: &[ListOf<u8>],
-    run: &mut Run,
+    run: &mut Playing,
     screen: &mut K,
     report: &mut R,
     steps: &mut Steps<L>,
-) -> Stop
+) -> Ending
     requires few { length lines.now ≤ LINES }
     requires begun { IsNew run.old }
-    ensures stopped { (given : Given) (number : ℕ) (left : Option (List ℕ)) (faults : ℕ) → IsMode given (mode_of run.old) → run.old.generated ≡ Some number → lines.now ≡ script number → (turns : List Turn)
-        × Stopped result given (Some (mode_of run.old)) turns [] (drawn left faults faults)
+    ensures comes { (given : Given) (number : ℕ) (left : Option (List ℕ)) (faults : ℕ) → IsMode given (mode_of run.old) → run.old.generated ≡ Some number → lines.now ≡ script number → (inputs : List Input)
+        × ComesTo result given (Some (mode_of run.old)) inputs [] (drawn left faults faults)
         (sunk_by K.written K.faults screen.old screen.new) (sunk_by R.written R.faults report.old report.new)
-        × SpentBy result given (Some (mode_of run.old)) turns [] left steps.old steps.new }
+        × SpentBy result given (Some (mode_of run.old)) inputs [] left steps.old steps.new }
     ensures screen { K.faults screen.old ≤ K.faults screen.new }
     ensures report { R.faults report.old ≤ R.faults report.new }
 {
@@ -102,31 +102,37 @@ fn run_lines<K: Sink, R: Sink, L: Ledger>(
             Err(halt) => return halted_by(halt, before),
         }
     }
-    Stop::Sums(run.summary())
+    Ending::Sums(run.summary())
 }
 
 /// How a run ends whose reader answers a fault, behind so many lines.
-fn ended_by(fault: LineFault, lines: u32) -> Stop
+fn ended_by(fault: LineFault, lines: u32) -> Ending
     requires { lines ≤ LINES }
     ensures { result ≡ ended_by fault lines }
 {
     match fault {
-        LineFault::Failed => Stop::Ends(Status::ReadFault, lines),
-        LineFault::TooLong => Stop::Ends(Status::BadScript(lines + 1, ScriptFault::TooLong), lines),
-        LineFault::TooMany => Stop::Ends(Status::BadScript(lines + 1, ScriptFault::TooMany), lines),
-        LineFault::Memory => Stop::Ends(Status::NoMemory, lines),
+        LineFault::Failed => Ending::Ends(Status::ReadFault, lines),
+        LineFault::TooLong => Ending::Ends(
+            Status::BadScript(lines + 1, ScriptFault::TooLong),
+            lines,
+        ),
+        LineFault::TooMany => Ending::Ends(
+            Status::BadScript(lines + 1, ScriptFault::TooMany),
+            lines,
+        ),
+        LineFault::Memory => Ending::Ends(Status::NoMemory, lines),
     }
 }
 
 /// How a run ends that halts at a line, behind so many others.
-fn halted_by(halt: Halt, lines: u32) -> Stop
+fn halted_by(halt: Halt, lines: u32) -> Ending
     requires { lines ≤ LINES }
     ensures { result ≡ halted_by halt lines }
 {
     match halt {
-        Halt::Bad(fault) => Stop::Ends(Status::BadScript(lines + 1, fault), lines + 1),
-        Halt::NoMemory => Stop::Ends(Status::NoMemory, lines),
-        Halt::ScreenBroke => Stop::ScreenBroke,
-        Halt::ReportBroke => Stop::ReportBroke,
+        Halt::Bad(fault) => Ending::Ends(Status::BadScript(lines + 1, fault), lines + 1),
+        Halt::NoMemory => Ending::Ends(Status::NoMemory, lines),
+        Halt::ScreenBroke => Ending::ScreenBroke,
+        Halt::ReportBroke => Ending::ReportBroke,
     }
 }

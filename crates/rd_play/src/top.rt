@@ -2,22 +2,22 @@
 //! README.
 //!
 //! `begun` answers a run of no line, or the status that comes before the first line. `run_all` runs the lines (`run`), each of them by
-//! `Run::line` (`act`), and `finish` tells the last line.
+//! `Playing::line` (`act`), and `finish` tells the last line.
 ghost use Rattle.std.specs.Prelude.{◌≡◌, ℕ, ◌≤◌, IsSome, Some, List};
 ghost use Rattle.std.specs.Io.KnownBytes.{Consumes};
 ghost use Rattle.rd_files.specs.DataFiles.{meaning as files_meaning};
-ghost use Rattle.rd_play.specs.Acts.{Begins, Finishes, IsOpened, IsNew, SpentBy, Stopped, Tells, mode_of, status_of, summary_of};
+ghost use Rattle.rd_play.specs.Acts.{Begins, Finishes, IsOpened, IsNew, SpentBy, ComesTo, Tells, mode_of, status_of, summary_of};
 ghost use Rattle.rd_play.specs.Devices.{drawn_by, given_by, sunk_by};
 ghost use Rattle.rd_play.specs.Played.{HasReadFault, Played};
 ghost use Rattle.rd_run.specs.Given.{Given, IsMode};
 ghost use Rattle.rd_run.specs.Reports.{last_line};
-ghost use Rattle.rd_run.specs.Runs.{Turn};
+ghost use Rattle.rd_run.specs.Runs.{Input};
 ghost use Rattle.rd_run.specs.Statuses.{TellsNoMemory};
 ghost use Rattle.rd_words.specs.Command.{meaning, texts};
 ghost use Rattle.rd_words.specs.Words.{WordValues, values_of};
 
-use crate::act::Run;
-use crate::halt::{Stop, Summary};
+use crate::act::Playing;
+use crate::halt::{Ending, Summary};
 use crate::report::{tell_last, tell_summary};
 use crate::run::{run_generated, run_script};
 use rd_base::Steps;
@@ -112,12 +112,12 @@ fn play_words<S: Source, F: Files, K: Sink, R: Sink, L: Ledger>(
     valid_scripts_end_well();
     match begun(alloc, words, files) {
         Ok(mut run) => run_whole(alloc, &mut run, script, screen, report, steps),
-        Err(status) => finish(report, Stop::Ends(status, 0)),
+        Err(status) => finish(report, Ending::Ends(status, 0)),
     }
 }
 
 /// Reads the words and the files that they name, and answers a run of no line, or the status that comes before the first line.
-fn begun<F: Files>(alloc: Global, words: &[String], files: &mut F) -> Result<Run, Status>
+fn begun<F: Files>(alloc: Global, words: &[String], files: &mut F) -> Result<Playing, Status>
     ensures begins { Begins result (given_by (values_of (texts words.now)) F.contents F.faults files.old files.new) }
     ensures contents { (file : List ℕ) → F.contents files.new file ≡ F.contents files.old file }
     ensures never_falls { (file : List ℕ) → F.faults files.old file ≤ F.faults files.new file }
@@ -130,7 +130,7 @@ fn begun<F: Files>(alloc: Global, words: &[String], files: &mut F) -> Result<Run
 }
 
 /// Reads the files that the words name, and answers a run of no line, or the status that comes before the first line.
-fn begun_with<F: Files>(alloc: Global, words: &Words, files: &mut F) -> Result<Run, Status>
+fn begun_with<F: Files>(alloc: Global, words: &Words, files: &mut F) -> Result<Playing, Status>
     ensures begins { Begins result (given_by (Some (meaning words.now)) F.contents F.faults files.old files.new) }
     ensures contents { (file : List ℕ) → F.contents files.new file ≡ F.contents files.old file }
     ensures never_falls { (file : List ℕ) → F.faults files.old file ≤ F.faults files.new file }
@@ -159,10 +159,10 @@ fn status_of(fault: DataFault) -> Status
 }
 
 /// A run of no line over the data files, as the words ask for it.
-fn new_run(alloc: Global, files: DataFiles, words: &Words) -> Result<Run, Status>
+fn new_run(alloc: Global, files: DataFiles, words: &Words) -> Result<Playing, Status>
     ensures { IsOpened result (files_meaning files) (meaning words.now) }
 {
-    match Run::new(alloc, files, words.dumps, words.generate) {
+    match Playing::new(alloc, files, words.dumps, words.generate) {
         Ok(run) => Ok(run),
         Err(_) => Err(Status::NoMemory),
     }
@@ -171,7 +171,7 @@ fn new_run(alloc: Global, files: DataFiles, words: &Words) -> Result<Run, Status
 /// Runs the lines of the script that is read, or of a generated one in its place, and tells the last line.
 fn run_whole<S: Source, K: Sink, R: Sink, L: Ledger>(
     alloc: Global,
-    run: &mut Run,
+    run: &mut Playing,
     script: &mut S,
     screen: &mut K,
     report: &mut R,
@@ -187,23 +187,23 @@ fn run_whole<S: Source, K: Sink, R: Sink, L: Ledger>(
     each_redisplay_is_shown();
     each_slice_is_known();
     valid_scripts_end_well();
-    let stop = run_all(alloc, run, script, screen, report, steps);
-    finish(report, stop)
+    let ending = run_all(alloc, run, script, screen, report, steps);
+    finish(report, ending)
 }
 
 /// Runs the lines of the script that is read, or of a generated one in its place.
 fn run_all<S: Source, K: Sink, R: Sink, L: Ledger>(
     alloc: Global,
-    run: &mut Run,
+    run: &mut Playing,
     script: &mut S,
     screen: &mut K,
     report: &mut R,
     steps: &mut Steps<L>,
-) -> Stop
+) -> Ending
     requires { IsNew run.old }
-    ensures stopped { (given : Given) → IsMode given (mode_of run.old) → (turns : List Turn) × (bytes : List ℕ) × Consumes (S.left script.old) (S.left script.new) bytes
-        × Stopped result given (Some (mode_of run.old)) turns bytes (drawn_by S.left S.faults script.old script.new) (sunk_by K.written K.faults screen.old screen.new) (sunk_by R.written R.faults report.old report.new)
-        × SpentBy result given (Some (mode_of run.old)) turns bytes (S.left script.new) steps.old steps.new }
+    ensures comes { (given : Given) → IsMode given (mode_of run.old) → (inputs : List Input) × (bytes : List ℕ) × Consumes (S.left script.old) (S.left script.new) bytes
+        × ComesTo result given (Some (mode_of run.old)) inputs bytes (drawn_by S.left S.faults script.old script.new) (sunk_by K.written K.faults screen.old screen.new) (sunk_by R.written R.faults report.old report.new)
+        × SpentBy result given (Some (mode_of run.old)) inputs bytes (S.left script.new) steps.old steps.new }
     ensures unread { IsSome run.old.generated → script.new ≡ script.old }
     ensures script { S.faults script.old ≤ S.faults script.new }
     ensures screen { K.faults screen.old ≤ K.faults screen.new }
@@ -216,15 +216,15 @@ fn run_all<S: Source, K: Sink, R: Sink, L: Ledger>(
 }
 
 /// Tells the last line, unless the report failed before.
-fn finish<R: Sink>(report: &mut R, stop: Stop) -> Status
-    ensures finishes { Finishes stop result (sunk_by R.written R.faults report.old report.new) }
+fn finish<R: Sink>(report: &mut R, ending: Ending) -> Status
+    ensures finishes { Finishes ending result (sunk_by R.written R.faults report.old report.new) }
     ensures report { R.faults report.old ≤ R.faults report.new }
 {
-    match stop {
-        Stop::Ends(status, lines) => tell_status(report, status, lines),
-        Stop::Sums(summary) => tell_sums(report, summary),
-        Stop::ScreenBroke => tell_status(report, Status::WriteFault, 0),
-        Stop::ReportBroke => Status::WriteFault,
+    match ending {
+        Ending::Ends(status, lines) => tell_status(report, status, lines),
+        Ending::Sums(summary) => tell_sums(report, summary),
+        Ending::ScreenBroke => tell_status(report, Status::WriteFault, 0),
+        Ending::ReportBroke => Status::WriteFault,
     }
 }
 

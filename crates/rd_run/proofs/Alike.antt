@@ -9,7 +9,7 @@ use Rattle.rd_run.specs.Alike.{End, IsUndisturbed, AreGivenAlike, AreStarvedAlik
 use Rattle.rd_run.specs.Ends.{Drawn, Took, AreAll, AreInLimits, AreScript, Comes, ComesIn, IsBad, IsOver, IsPast, IsWhole, Ran, done_of, last_in, lines_in, sent_in, told_in}
 use Rattle.rd_run.specs.Given.{Given, AreTold, HasFailed, IsMode, ReadsScript}
 use Rattle.rd_run.specs.Reports.{last_line}
-use Rattle.rd_run.specs.Runs.{Mode, Turn, World, opened, run, turn}
+use Rattle.rd_run.specs.Runs.{Input, Mode, World, opened, run, run_line}
 use Rattle.rd_run.specs.Validity.{script_of}
 use Rattle.rd_run.specs.declared.status.ScriptFault.{ScriptFault}
 use Rattle.rd_run.specs.declared.status.ScriptFault.TheVariants.{TooLong, TooMany, Op, Refused}
@@ -17,8 +17,8 @@ use Rattle.rd_run.specs.declared.status.Status.{Status}
 use Rattle.rd_run.specs.declared.status.Status.TheVariants.{Done, Usage, BadData, BadScript, ReadFault, WriteFault, NoMemory}
 use Rattle.rd_run.proofs.Begun.{flipped, modes-same, not-begun, refused-alike, refuses}
 use Rattle.rd_run.proofs.Scripts.{IsTakenFrom, IsTakenIn, ends-there, first-lines, goes-on, long-line, more-line}
-use Rattle.rd_run.proofs.Starved.{head-of, rest-of, turn-alike}
-use Rattle.rd_run.proofs.Turns.{lines-length, lines-push, turns-push, run-push, run-clear}
+use Rattle.rd_run.proofs.Starved.{head-of, rest-of, run_line-alike}
+use Rattle.rd_run.proofs.Inputs.{lines-length, lines-push, inputs-push, run-push, run-clear}
 use Rattle.rd_run.proofs.Whole.{whole-of}
 
 -- ---- where a run stops
@@ -40,15 +40,15 @@ StopsBefore o n lines status =
     ((lines ≡ []) × (status ≡ Done)) ⊎ ((line : List ℕ) × (more : List (List ℕ)) × (lines ≡ line ∷ more) × IsBarred o n line status)
 
 -- the line behind n others is bad, and no further one is run
-abbrev pub StopsAt : World → ℕ → List Turn → Status → Type 0
+abbrev pub StopsAt : World → ℕ → List Input → Status → Type 0
 StopsAt w n ts status = (fault : ScriptFault) × (w.fault ≡ Some fault) × (ts ≡ []) × (status ≡ BadScript (n + 1) fault)
 
--- a run of these turns over the lines of a script, which is read or generated, stops with a status; it stands behind n lines
-abbrev pub Stops : Option ℕ → World → ℕ → List Turn → List (List ℕ) → Status → Type 0
+-- a run of these inputs over the lines of a script, which is read or generated, stops with a status; it stands behind n lines
+abbrev pub Stops : Option ℕ → World → ℕ → List Input → List (List ℕ) → Status → Type 0
 Stops o w n [] lines status = StopsBefore o n lines status
 Stops o w n (t ∷ ts) lines status =
     (more : List (List ℕ)) × (lines ≡ t.line ∷ more) × IsLet o n t.line
-    × (StopsAt (turn w t) n ts status ⊎ (((turn w t).fault ≡ None) × Stops o (turn w t) (n + 1) ts more status))
+    × (StopsAt (run_line w t) n ts status ⊎ (((run_line w t).fault ≡ None) × Stops o (run_line w t) (n + 1) ts more status))
 
 -- ---- it stops at one place
 
@@ -86,12 +86,12 @@ no-fault : (o : Option ScriptFault) (a : ScriptFault) → o ≡ Some a → o ≡
 no-fault o a p q = let e : Some a ≡ None = sym p ∙ q in cc
 
 -- as many lines were run, and the run stands at the same
-pub record AreRunAlike (w : World) (ts us : List Turn) : Type 0 where
+pub record AreRunAlike (w : World) (ts us : List Input) : Type 0 where
   pub same : run w ts ≡ run w us
   pub count : length ts ≡ length us
 
 -- behind a line that both have run
-behind-alike : (o : Option ℕ) (w : World) (n : ℕ) (ts us : List Turn) (more : List (List ℕ)) (s r : Status) → (Stops o w (n + 1) ts more s → Stops o w (n + 1) us more r → AreRunAlike w ts us × (s ≡ r))
+behind-alike : (o : Option ℕ) (w : World) (n : ℕ) (ts us : List Input) (more : List (List ℕ)) (s r : Status) → (Stops o w (n + 1) ts more s → Stops o w (n + 1) us more r → AreRunAlike w ts us × (s ≡ r))
     → StopsAt w n ts s ⊎ ((w.fault ≡ None) × Stops o w (n + 1) ts more s) → StopsAt w n us r ⊎ ((w.fault ≡ None) × Stops o w (n + 1) us more r) → AreRunAlike w ts us × (s ≡ r)
 behind-alike o w n ts us more s r on (inl a) (inl b) =
     let none : ts ≡ us = a.2 ∙ sym b.2 in
@@ -100,86 +100,86 @@ behind-alike o w n ts us more s r on (inl a) (inr b) = absurd (no-fault w.fault 
 behind-alike o w n ts us more s r on (inr a) (inl b) = absurd (no-fault w.fault b.0 b.1 a.0)
 behind-alike o w n ts us more s r on (inr a) (inr b) = on a.1 b.1
 
-stops-alike : (o : Option ℕ) (w : World) (n : ℕ) (ts us : List Turn) (lines : List (List ℕ)) (s r : Status) → AreStarvedAlike w ts us → Stops o w n ts lines s → Stops o w n us lines r
+stops-alike : (o : Option ℕ) (w : World) (n : ℕ) (ts us : List Input) (lines : List (List ℕ)) (s r : Status) → AreStarvedAlike w ts us → Stops o w n ts lines s → Stops o w n us lines r
     → AreRunAlike w ts us × (s ≡ r)
 stops-alike o w n [] [] lines s r h p q = (record { same = refl; count = refl }, before-alike o n lines s r p q)
 stops-alike o w n [] (u ∷ us) lines s r h p q = absurd (not-further o n u.line q.0 lines s p q.1 q.2)
 stops-alike o w n (t ∷ ts) [] lines s r h p q = absurd (not-further o n t.line p.0 lines r q p.1 p.2)
 stops-alike o w n (t ∷ ts) (u ∷ us) lines s r h p q =
     let both : t.line ∷ p.0 ≡ u.line ∷ q.0 = sym p.1 ∙ q.1 in
-    let same : turn w t ≡ turn w u = turn-alike w t u (head-of t.line u.line p.0 q.0 both) h.0 in
+    let same : run_line w t ≡ run_line w u = run_line-alike w t u (head-of t.line u.line p.0 q.0 both) h.0 in
     let Behind : World → List (List ℕ) → Type 0 = λ v more. StopsAt v n us r ⊎ ((v.fault ≡ None) × Stops o v (n + 1) us more r) in
-    let other : Behind (turn w t) p.0 = subst (λ v. Behind v p.0) (sym same) (subst (Behind (turn w u)) (sym (rest-of t.line u.line p.0 q.0 both)) q.3) in
-    let on = behind-alike o (turn w t) n ts us p.0 s r (λ a b. stops-alike o (turn w t) (n + 1) ts us p.0 s r h.1 a b) p.3 other in
+    let other : Behind (run_line w t) p.0 = subst (λ v. Behind v p.0) (sym same) (subst (Behind (run_line w u)) (sym (rest-of t.line u.line p.0 q.0 both)) q.3) in
+    let on = behind-alike o (run_line w t) n ts us p.0 s r (λ a b. stops-alike o (run_line w t) (n + 1) ts us p.0 s r h.1 a b) p.3 other in
     (record { same = on.0.same ∙ ap (λ v. run v us) same; count = ap (λ k. suc k) on.0.count }, on.1)
 
 -- ---- lines that pass no limit
 
 -- each of these, behind n others
-abbrev pub ArePassed : Option ℕ → ℕ → List Turn → Type 0
+abbrev pub ArePassed : Option ℕ → ℕ → List Input → Type 0
 ArePassed o n [] = Unit {0}
 ArePassed o n (t ∷ ts) = IsLet o n t.line × ArePassed o (n + 1) ts
 
-passed-read : (n : ℕ) (ts : List Turn) → AllByRecursion (λ line. length line ≤ 1048576) (lines_in ts) → n + length ts ≤ 1000000 → ArePassed None n ts
+passed-read : (n : ℕ) (ts : List Input) → AllByRecursion (λ line. length line ≤ 1048576) (lines_in ts) → n + length ts ≤ 1000000 → ArePassed None n ts
 passed-read n [] short few = tt
 passed-read n (t ∷ ts) short few =
     let less : n < 1000000 = omega arith in
     let within : n + 1 + length ts ≤ 1000000 = omega arith in
     ((less, short.0), passed-read (n + 1) ts short.1 within)
 
-passed-generated : (number n : ℕ) (ts : List Turn) → ArePassed (Some number) n ts
+passed-generated : (number n : ℕ) (ts : List Input) → ArePassed (Some number) n ts
 passed-generated number n [] = tt
 passed-generated number n (t ∷ ts) = (tt, passed-generated number (n + 1) ts)
 
-passed-front : (o : Option ℕ) (n : ℕ) (ts us : List Turn) → ArePassed o n (ts ++ us) → ArePassed o n ts
+passed-front : (o : Option ℕ) (n : ℕ) (ts us : List Input) → ArePassed o n (ts ++ us) → ArePassed o n ts
 passed-front o n [] us h = tt
 passed-front o n (t ∷ ts) us h = (h.0, passed-front o (n + 1) ts us h.1)
 
-passed-last : (o : Option ℕ) (n : ℕ) (ts : List Turn) (t : Turn) → ArePassed o n (ts ++ t ∷ []) → IsLet o (n + length ts) t.line
+passed-last : (o : Option ℕ) (n : ℕ) (ts : List Input) (t : Input) → ArePassed o n (ts ++ t ∷ []) → IsLet o (n + length ts) t.line
 passed-last o n [] t h = let same : n ≡ n + 0 = omega arith in subst (λ k. IsLet o k t.line) same h.0
 passed-last o n (u ∷ ts) t h =
     let same : n + 1 + length ts ≡ n + suc (length ts) = omega arith in
     subst (λ k. IsLet o k t.line) same (passed-last o (n + 1) ts t h.1)
 
-passed-limits : (turns : List Turn) → AreInLimits (lines_in turns) → ArePassed None 0 turns
-passed-limits turns limits =
-    let few : 0 + length turns ≤ 1000000 = (let k = limits.few in omega (arith, lines-length turns)) in
-    passed-read 0 turns limits.short few
+passed-limits : (inputs : List Input) → AreInLimits (lines_in inputs) → ArePassed None 0 inputs
+passed-limits inputs limits =
+    let few : 0 + length inputs ≤ 1000000 = (let k = limits.few in omega (arith, lines-length inputs)) in
+    passed-read 0 inputs limits.short few
 
 -- ---- each status stops the run
 
 -- lines that were run, none of them bad, and then others
-stops-behind : (o : Option ℕ) (w : World) (n : ℕ) (ts us : List Turn) (more : List (List ℕ)) (s : Status) → (run w ts).fault ≡ None → ArePassed o n ts
+stops-behind : (o : Option ℕ) (w : World) (n : ℕ) (ts us : List Input) (more : List (List ℕ)) (s : Status) → (run w ts).fault ≡ None → ArePassed o n ts
     → Stops o (run w ts) (n + length ts) us more s → Stops o w n (ts ++ us) (lines_in ts ++ more) s
 stops-behind o w n [] us more s clear passed h = let same : n + 0 ≡ n = omega arith in subst (λ k. Stops o w k us more s) same h
 stops-behind o w n (t ∷ ts) us more s clear passed h =
     let same : n + suc (length ts) ≡ n + 1 + length ts = omega arith in
-    let on = stops-behind o (turn w t) (n + 1) ts us more s clear passed.1 (subst (λ k. Stops o (run (turn w t) ts) k us more s) same h) in
-    (lines_in ts ++ more, refl, passed.0, inr (run-clear (turn w t) ts clear, on))
+    let on = stops-behind o (run_line w t) (n + 1) ts us more s clear passed.1 (subst (λ k. Stops o (run (run_line w t) ts) k us more s) same h) in
+    (lines_in ts ++ more, refl, passed.0, inr (run-clear (run_line w t) ts clear, on))
 
 -- all lines that were run are good, and the run stops before the next
-stops-before : (o : Option ℕ) (mode : Mode) (lines : List (List ℕ)) (turns : List Turn) (more : List (List ℕ)) (s : Status) → Ran mode turns → ArePassed o 0 turns
-    → lines ≡ lines_in turns ++ more → StopsBefore o (length turns) more s → Stops o (opened mode) 0 turns lines s
-stops-before o mode lines turns more s clear passed split h =
-    let none : length turns ≡ 0 + length turns = omega arith in
-    let at : Stops o (opened mode) 0 (turns ++ []) (lines_in turns ++ more) s =
-    stops-behind o (opened mode) 0 turns [] more s clear passed (subst (λ k. StopsBefore o k more s) none h) in
-    subst (λ ls. Stops o (opened mode) 0 turns ls s) (sym split) (subst (λ ts. Stops o (opened mode) 0 ts (lines_in turns ++ more) s) (append-nil turns) at)
+stops-before : (o : Option ℕ) (mode : Mode) (lines : List (List ℕ)) (inputs : List Input) (more : List (List ℕ)) (s : Status) → Ran mode inputs → ArePassed o 0 inputs
+    → lines ≡ lines_in inputs ++ more → StopsBefore o (length inputs) more s → Stops o (opened mode) 0 inputs lines s
+stops-before o mode lines inputs more s clear passed split h =
+    let none : length inputs ≡ 0 + length inputs = omega arith in
+    let at : Stops o (opened mode) 0 (inputs ++ []) (lines_in inputs ++ more) s =
+    stops-behind o (opened mode) 0 inputs [] more s clear passed (subst (λ k. StopsBefore o k more s) none h) in
+    subst (λ ls. Stops o (opened mode) 0 inputs ls s) (sym split) (subst (λ ts. Stops o (opened mode) 0 ts (lines_in inputs ++ more) s) (append-nil inputs) at)
 
 -- the script was run to its end
-done-stops : (o : Option ℕ) (mode : Mode) (script : List ℕ) (turns : List Turn) (bytes : List ℕ) (left : Option (List ℕ)) → IsTakenIn o script bytes left → Ran mode turns
-    → AreAll o turns bytes left → Stops o (opened mode) 0 turns (script_of o script) Done
-done-stops None mode script turns bytes left p ran all =
-    let whole : lines_of script ≡ lines_in turns ++ [] = ap lines_of (ends-there script bytes left (p refl) all.2) ∙ all.1 ∙ sym (append-nil (lines_in turns)) in
-    stops-before None mode (lines_of script) turns [] Done ran (passed-limits turns all.0) whole (inl (refl, refl))
-done-stops (Some number) mode script turns bytes left p ran all =
-    let whole : generated number ≡ lines_in turns ++ [] = sym all.0 ∙ sym (append-nil (lines_in turns)) in
-    stops-before (Some number) mode (generated number) turns [] Done ran (passed-generated number 0 turns) whole (inl (refl, refl))
+done-stops : (o : Option ℕ) (mode : Mode) (script : List ℕ) (inputs : List Input) (bytes : List ℕ) (left : Option (List ℕ)) → IsTakenIn o script bytes left → Ran mode inputs
+    → AreAll o inputs bytes left → Stops o (opened mode) 0 inputs (script_of o script) Done
+done-stops None mode script inputs bytes left p ran all =
+    let whole : lines_of script ≡ lines_in inputs ++ [] = ap lines_of (ends-there script bytes left (p refl) all.2) ∙ all.1 ∙ sym (append-nil (lines_in inputs)) in
+    stops-before None mode (lines_of script) inputs [] Done ran (passed-limits inputs all.0) whole (inl (refl, refl))
+done-stops (Some number) mode script inputs bytes left p ran all =
+    let whole : generated number ≡ lines_in inputs ++ [] = sym all.0 ∙ sym (append-nil (lines_in inputs)) in
+    stops-before (Some number) mode (generated number) inputs [] Done ran (passed-generated number 0 inputs) whole (inl (refl, refl))
 
 -- lines that are the first ones pass the limits
-first-passed : (o : Option ℕ) (turns : List Turn) (bytes : List ℕ) (left : Option (List ℕ)) → AreScript o (lines_in turns) bytes left → ArePassed o 0 turns
-first-passed None turns bytes left first = passed-limits turns first.0
-first-passed (Some number) turns bytes left first = passed-generated number 0 turns
+first-passed : (o : Option ℕ) (inputs : List Input) (bytes : List ℕ) (left : Option (List ℕ)) → AreScript o (lines_in inputs) bytes left → ArePassed o 0 inputs
+first-passed None inputs bytes left first = passed-limits inputs first.0
+first-passed (Some number) inputs bytes left first = passed-generated number 0 inputs
 
 pub script-splits : (o : Option ℕ) (script : List ℕ) (lines : List (List ℕ)) (bytes : List ℕ) (left : Option (List ℕ)) → IsTakenIn o script bytes left → AreScript o lines bytes left
     → (more : List (List ℕ)) × (script_of o script ≡ lines ++ more)
@@ -188,14 +188,14 @@ script-splits (Some number) script lines bytes left p first =
     let all = generated number in
     (drop (length lines) all, sym (take-append-drop (length lines) all) ∙ ap (λ front. front ++ drop (length lines) all) (sym first.0))
 
-bad-at : (o : Option ℕ) (mode : Mode) (lines : List (List ℕ)) (fault : ScriptFault) (others : List Turn) (t : Turn) (more : List (List ℕ)) → Ran mode others
+bad-at : (o : Option ℕ) (mode : Mode) (lines : List (List ℕ)) (fault : ScriptFault) (others : List Input) (t : Input) (more : List (List ℕ)) → Ran mode others
     → (run (opened mode) (others ++ t ∷ [])).fault ≡ Some fault → ArePassed o 0 (others ++ t ∷ []) → lines ≡ lines_in (others ++ t ∷ []) ++ more
     → Stops o (opened mode) 0 (others ++ t ∷ []) lines (BadScript (length (others ++ t ∷ [])) fault)
 bad-at o mode lines fault others t more clear bad passed split =
     let w = run (opened mode) others in
     let status = BadScript (length (others ++ t ∷ [])) fault in
-    let count : length (others ++ t ∷ []) ≡ 0 + length others + 1 = omega (arith, turns-push others t) in
-    let faulty : (turn w t).fault ≡ Some fault = ap (λ (x : World). x.fault) (sym (run-push (opened mode) others t)) ∙ bad in
+    let count : length (others ++ t ∷ []) ≡ 0 + length others + 1 = omega (arith, inputs-push others t) in
+    let faulty : (run_line w t).fault ≡ Some fault = ap (λ (x : World). x.fault) (sym (run-push (opened mode) others t)) ∙ bad in
     let at : Stops o w (0 + length others) (t ∷ []) (t.line ∷ more) status =
     (more, refl, passed-last o 0 others t passed, inl (fault, faulty, refl, ap (λ k. BadScript k fault) count)) in
     let regrouped : lines_in (others ++ t ∷ []) ++ more ≡ lines_in others ++ t.line ∷ more = ap (λ ls. ls ++ more) (lines-push others t) ∙ append_assoc (lines_in others) (t.line ∷ []) more in
@@ -203,54 +203,54 @@ bad-at o mode lines fault others t more clear bad passed split =
     (stops-behind o (opened mode) 0 others (t ∷ []) (t.line ∷ more) status clear (passed-front o 0 others (t ∷ []) passed) at)
 
 -- a line is bad
-bad-stops : (mode : Mode) (script : List ℕ) (fault : ScriptFault) (number : ℕ) (turns : List Turn) (bytes : List ℕ) (left : Option (List ℕ)) → IsTakenIn mode.generated script bytes left
-    → IsBad mode fault number turns bytes left → Stops mode.generated (opened mode) 0 turns (script_of mode.generated script) (BadScript number fault)
-bad-stops mode script fault number turns bytes left p bad =
+bad-stops : (mode : Mode) (script : List ℕ) (fault : ScriptFault) (number : ℕ) (inputs : List Input) (bytes : List ℕ) (left : Option (List ℕ)) → IsTakenIn mode.generated script bytes left
+    → IsBad mode fault number inputs bytes left → Stops mode.generated (opened mode) 0 inputs (script_of mode.generated script) (BadScript number fault)
+bad-stops mode script fault number inputs bytes left p bad =
     let o = mode.generated in
-    let on = script-splits o script (lines_in turns) bytes left p bad.lines in
+    let on = script-splits o script (lines_in inputs) bytes left p bad.lines in
     let split = bad.split in
     let at : Stops o (opened mode) 0 (bad.others ++ bad.last ∷ []) (script_of o script) (BadScript (length (bad.others ++ bad.last ∷ [])) fault) =
     bad-at o mode (script_of o script) fault bad.others bad.last on.0 bad.ran (subst (λ ts. (run (opened mode) ts).fault ≡ Some fault) split bad.ended)
-    (subst (λ ts. ArePassed o 0 ts) split (first-passed o turns bytes left bad.lines)) (subst (λ ts. script_of o script ≡ lines_in ts ++ on.0) split on.1) in
-    let here : Stops o (opened mode) 0 turns (script_of o script) (BadScript (length turns) fault) =
+    (subst (λ ts. ArePassed o 0 ts) split (first-passed o inputs bytes left bad.lines)) (subst (λ ts. script_of o script ≡ lines_in ts ++ on.0) split on.1) in
+    let here : Stops o (opened mode) 0 inputs (script_of o script) (BadScript (length inputs) fault) =
     subst (λ ts. Stops o (opened mode) 0 ts (script_of o script) (BadScript (length ts) fault)) (sym split) at in
-    subst (λ k. Stops o (opened mode) 0 turns (script_of o script) (BadScript k fault)) (sym bad.at) here
+    subst (λ k. Stops o (opened mode) 0 inputs (script_of o script) (BadScript k fault)) (sym bad.at) here
 
 -- a line is too long, or one too many
-over-stops : (mode : Mode) (script : List ℕ) (fault : ScriptFault) (number : ℕ) (turns : List Turn) (bytes : List ℕ) (left : Option (List ℕ)) → IsTakenFrom script bytes left
-    → Ran mode turns → number ≡ length turns + 1 → IsOver fault turns bytes → Stops None (opened mode) 0 turns (lines_of script) (BadScript number fault)
-over-stops mode script TooLong number turns bytes left p ran at over =
-    let on = goes-on (lines_in turns) script bytes over.0 left p over.1.1 in
+over-stops : (mode : Mode) (script : List ℕ) (fault : ScriptFault) (number : ℕ) (inputs : List Input) (bytes : List ℕ) (left : Option (List ℕ)) → IsTakenFrom script bytes left
+    → Ran mode inputs → number ≡ length inputs + 1 → IsOver fault inputs bytes → Stops None (opened mode) 0 inputs (lines_of script) (BadScript number fault)
+over-stops mode script TooLong number inputs bytes left p ran at over =
+    let on = goes-on (lines_in inputs) script bytes over.0 left p over.1.1 in
     let first = long-line 1048576 1048577 over.0 on.0 refl over.3 over.4 in
     let long : 1048576 < length first.line = let k = first.long in omega arith in
-    stops-before None mode (lines_of script) turns (lines_of (over.0 ++ on.0)) (BadScript number TooLong) ran (passed-limits turns over.1.0) on.1
+    stops-before None mode (lines_of script) inputs (lines_of (over.0 ++ on.0)) (BadScript number TooLong) ran (passed-limits inputs over.1.0) on.1
     (inr (first.line, first.others, first.split, inl (over.2, long, ap (λ k. BadScript k TooLong) at)))
-over-stops mode script TooMany number turns bytes left p ran at over =
-    let on = goes-on (lines_in turns) script bytes over.0 left p over.1.1 in
+over-stops mode script TooMany number inputs bytes left p ran at over =
+    let on = goes-on (lines_in inputs) script bytes over.0 left p over.1.1 in
     let first = more-line over.0 on.0 over.3 in
-    let many : 1000000 ≤ length turns = let k = over.2 in omega arith in
-    stops-before None mode (lines_of script) turns (lines_of (over.0 ++ on.0)) (BadScript number TooMany) ran (passed-limits turns over.1.0) on.1
+    let many : 1000000 ≤ length inputs = let k = over.2 in omega arith in
+    stops-before None mode (lines_of script) inputs (lines_of (over.0 ++ on.0)) (BadScript number TooMany) ran (passed-limits inputs over.1.0) on.1
     (inr (first.line, first.others, first.split, inr (many, ap (λ k. BadScript k TooMany) at)))
-over-stops mode script (Op fault) number turns bytes left p ran at over = absurd over
-over-stops mode script (Refused refused) number turns bytes left p ran at over = absurd over
+over-stops mode script (Op fault) number inputs bytes left p ran at over = absurd over
+over-stops mode script (Refused refused) number inputs bytes left p ran at over = absurd over
 
-past-stops : (mode : Mode) (script : List ℕ) (fault : ScriptFault) (number : ℕ) (turns : List Turn) (bytes : List ℕ) (left : Option (List ℕ)) → IsTakenIn mode.generated script bytes left
-    → IsPast mode fault number turns bytes → Stops mode.generated (opened mode) 0 turns (script_of mode.generated script) (BadScript number fault)
-past-stops mode script fault number turns bytes left p past =
-    subst (λ o. Stops o (opened mode) 0 turns (script_of o script) (BadScript number fault)) (sym past.read)
-    (over-stops mode script fault number turns bytes left (p past.read) past.ran past.at past.over)
+past-stops : (mode : Mode) (script : List ℕ) (fault : ScriptFault) (number : ℕ) (inputs : List Input) (bytes : List ℕ) (left : Option (List ℕ)) → IsTakenIn mode.generated script bytes left
+    → IsPast mode fault number inputs bytes → Stops mode.generated (opened mode) 0 inputs (script_of mode.generated script) (BadScript number fault)
+past-stops mode script fault number inputs bytes left p past =
+    subst (λ o. Stops o (opened mode) 0 inputs (script_of o script) (BadScript number fault)) (sym past.read)
+    (over-stops mode script fault number inputs bytes left (p past.read) past.ran past.at past.over)
 
-comes-stops : (mode : Mode) (script : List ℕ) (status : Status) (turns : List Turn) (bytes : List ℕ) (source : Drawn) → IsTakenIn mode.generated script bytes source.left
-    → (Rose source.faults_before source.faults_after → ⊥) → (status ≡ NoMemory → ⊥) → ComesIn mode status turns bytes source
-    → Stops mode.generated (opened mode) 0 turns (script_of mode.generated script) status
-comes-stops mode script Done turns bytes source p read found (ran, all) = done-stops mode.generated mode script turns bytes source.left p ran all
-comes-stops mode script Usage turns bytes source p read found c = absurd c
-comes-stops mode script (BadData file number kind) turns bytes source p read found c = absurd c
-comes-stops mode script (BadScript number fault) turns bytes source p read found (inl bad) = bad-stops mode script fault number turns bytes source.left p bad
-comes-stops mode script (BadScript number fault) turns bytes source p read found (inr past) = past-stops mode script fault number turns bytes source.left p past
-comes-stops mode script ReadFault turns bytes source p read found c = absurd (read c.2)
-comes-stops mode script WriteFault turns bytes source p read found c = absurd c
-comes-stops mode script NoMemory turns bytes source p read found c = absurd (found refl)
+comes-stops : (mode : Mode) (script : List ℕ) (status : Status) (inputs : List Input) (bytes : List ℕ) (source : Drawn) → IsTakenIn mode.generated script bytes source.left
+    → (Rose source.faults_before source.faults_after → ⊥) → (status ≡ NoMemory → ⊥) → ComesIn mode status inputs bytes source
+    → Stops mode.generated (opened mode) 0 inputs (script_of mode.generated script) status
+comes-stops mode script Done inputs bytes source p read found (ran, all) = done-stops mode.generated mode script inputs bytes source.left p ran all
+comes-stops mode script Usage inputs bytes source p read found c = absurd c
+comes-stops mode script (BadData file number kind) inputs bytes source p read found c = absurd c
+comes-stops mode script (BadScript number fault) inputs bytes source p read found (inl bad) = bad-stops mode script fault number inputs bytes source.left p bad
+comes-stops mode script (BadScript number fault) inputs bytes source p read found (inr past) = past-stops mode script fault number inputs bytes source.left p past
+comes-stops mode script ReadFault inputs bytes source p read found c = absurd (read c.2)
+comes-stops mode script WriteFault inputs bytes source p read found c = absurd c
+comes-stops mode script NoMemory inputs bytes source p read found c = absurd (found refl)
 
 -- ---- the law
 
@@ -260,7 +260,7 @@ pub taken-in : (given : Given) (mode : Mode) (script bytes : List ℕ) (left : O
 taken-in given mode script bytes left m taken = λ read. taken (m.words, m.said, sym m.generated ∙ read)
 
 -- a status has come over the bytes of a script, undisturbed
-pub record Came (script : List ℕ) (given : Given) (mode : Option Mode) (status : Status) (turns : List Turn) : Type 0 where
+pub record Came (script : List ℕ) (given : Given) (mode : Option Mode) (status : Status) (inputs : List Input) : Type 0 where
   pub bytes : List ℕ
   pub source : Drawn
   pub taken : ReadsScript given → IsTakenFrom script bytes source.left
@@ -268,15 +268,15 @@ pub record Came (script : List ℕ) (given : Given) (mode : Option Mode) (status
   pub fetched : HasFailed given → ⊥
   pub read : Rose source.faults_before source.faults_after → ⊥
   pub found : status ≡ NoMemory → ⊥
-  pub comes : Comes given mode status turns bytes source
+  pub comes : Comes given mode status inputs bytes source
 
 -- as many lines were run from the beginning, if any, and the run stands at the same
-abbrev pub HaveRunAlike : Option Mode → List Turn → List Turn → Type 0
+abbrev pub HaveRunAlike : Option Mode → List Input → List Input → Type 0
 HaveRunAlike None ts us = ts ≡ us
 HaveRunAlike (Some mode) ts us = AreRunAlike (opened mode) ts us
 
 -- both have begun alike, have run alike, and have one status
-came-alike : (script : List ℕ) (a b : Given) (m n : Option Mode) (s r : Status) (ts us : List Turn) → AreGivenAlike a b → AreStarvedAlikeIn m ts us → Came script a m s ts → Came script b n r us
+came-alike : (script : List ℕ) (a b : Given) (m n : Option Mode) (s r : Status) (ts us : List Input) → AreGivenAlike a b → AreStarvedAlikeIn m ts us → Came script a m s ts → Came script b n r us
     → (m ≡ n) × HaveRunAlike m ts us × (s ≡ r)
 came-alike script a b None None s r ts us h alike p q =
     let x = refuses a s ts p.bytes p.source p.fetched p.found p.comes in
@@ -296,10 +296,10 @@ came-alike script a b (Some m) (Some n) s r ts us h alike p q =
     (comes-stops m script r us q.bytes q.source second q.read q.found other) in
     (ap (λ k. Some k) same, both.0, both.1)
 
-whole-end : (script : List ℕ) (e : End) → IsUndisturbed script e → IsWhole e.given e.mode e.status e.turns e.bytes e.source e.screen e.report
-whole-end script e h = whole-of e.given e.mode e.status e.turns e.bytes e.source e.screen e.report h.faultless.sent h.faultless.told h.faultless.ended
+whole-end : (script : List ℕ) (e : End) → IsUndisturbed script e → IsWhole e.given e.mode e.status e.inputs e.bytes e.source e.screen e.report
+whole-end script e h = whole-of e.given e.mode e.status e.inputs e.bytes e.source e.screen e.report h.faultless.sent h.faultless.told h.faultless.ended
 
-came : (script : List ℕ) (e : End) → IsUndisturbed script e → Came script e.given e.mode e.status e.turns
+came : (script : List ℕ) (e : End) → IsUndisturbed script e → Came script e.given e.mode e.status e.inputs
 came script e h = record {
   bytes = e.bytes;
   source = e.source;
@@ -311,15 +311,15 @@ came script e h = record {
   comes = (whole-end script e h).comes;
 }
 
-sent-alike : (mode : Option Mode) (ts us : List Turn) → HaveRunAlike mode ts us → sent_in mode ts ≡ sent_in mode us
+sent-alike : (mode : Option Mode) (ts us : List Input) → HaveRunAlike mode ts us → sent_in mode ts ≡ sent_in mode us
 sent-alike None ts us h = refl
 sent-alike (Some mode) ts us h = ap (λ (w : World). w.sent) h.same
 
-told-alike : (mode : Option Mode) (ts us : List Turn) → HaveRunAlike mode ts us → told_in mode ts ≡ told_in mode us
+told-alike : (mode : Option Mode) (ts us : List Input) → HaveRunAlike mode ts us → told_in mode ts ≡ told_in mode us
 told-alike None ts us h = refl
 told-alike (Some mode) ts us h = ap (λ (w : World). w.told) h.same
 
-last-alike : (mode : Option Mode) (s : Status) (ts us : List Turn) → HaveRunAlike mode ts us → last_in mode s ts ≡ last_in mode s us
+last-alike : (mode : Option Mode) (s : Status) (ts us : List Input) → HaveRunAlike mode ts us → last_in mode s ts ≡ last_in mode s us
 last-alike None s ts us h = ap (λ x. last_in None s x) h
 last-alike (Some mode) Done ts us h = ap (λ (w : World). done_of mode.generated w.now) h.same
 last-alike (Some mode) Usage ts us h = ap (last_line Usage) h.count
@@ -329,23 +329,23 @@ last-alike (Some mode) ReadFault ts us h = ap (last_line ReadFault) h.count
 last-alike (Some mode) WriteFault ts us h = ap (last_line WriteFault) h.count
 last-alike (Some mode) NoMemory ts us h = ap (last_line NoMemory) h.count
 
-abbrev pub all_told : Option Mode → Status → List Turn → List ℕ
-all_told mode status turns = told_in mode turns ++ last_in mode status turns
+abbrev pub all_told : Option Mode → Status → List Input → List ℕ
+all_told mode status inputs = told_in mode inputs ++ last_in mode status inputs
 
-all-alike : (mode : Option Mode) (s : Status) (ts us : List Turn) → HaveRunAlike mode ts us → all_told mode s ts ≡ all_told mode s us
+all-alike : (mode : Option Mode) (s : Status) (ts us : List Input) → HaveRunAlike mode ts us → all_told mode s ts ≡ all_told mode s us
 all-alike mode s ts us h = ap (λ front. front ++ last_in mode s ts) (told-alike mode ts us h) ∙ ap (λ last. told_in mode us ++ last) (last-alike mode s ts us h)
 
-pub ends-alike : (script : List ℕ) (a b : End) → AreGivenAlike a.given b.given → IsUndisturbed script a → IsUndisturbed script b → AreStarvedAlikeIn a.mode a.turns b.turns → AreAlike a b
+pub ends-alike : (script : List ℕ) (a b : End) → AreGivenAlike a.given b.given → IsUndisturbed script a → IsUndisturbed script b → AreStarvedAlikeIn a.mode a.inputs b.inputs → AreAlike a b
 ends-alike script a b given p q h =
-    let same = came-alike script a.given b.given a.mode b.mode a.status b.status a.turns b.turns given h (came script a p) (came script b q) in
+    let same = came-alike script a.given b.given a.mode b.mode a.status b.status a.inputs b.inputs given h (came script a p) (came script b q) in
     let one = whole-end script a p in
     let other = whole-end script b q in
-    let sent : Took b.screen (sent_in a.mode a.turns) =
-    subst (Took b.screen) (sym (sent-alike a.mode a.turns b.turns same.1)) (subst (λ m. Took b.screen (sent_in m b.turns)) (sym same.0) other.sent) in
-    let told : Took b.report (all_told a.mode a.status a.turns) = subst (Took b.report) (sym (all-alike a.mode a.status a.turns b.turns same.1))
-    (subst (λ m. Took b.report (all_told m a.status b.turns)) (sym same.0) (subst (λ s. Took b.report (all_told b.mode s b.turns)) (sym same.2) other.told)) in
+    let sent : Took b.screen (sent_in a.mode a.inputs) =
+    subst (Took b.screen) (sym (sent-alike a.mode a.inputs b.inputs same.1)) (subst (λ m. Took b.screen (sent_in m b.inputs)) (sym same.0) other.sent) in
+    let told : Took b.report (all_told a.mode a.status a.inputs) = subst (Took b.report) (sym (all-alike a.mode a.status a.inputs b.inputs same.1))
+    (subst (λ m. Took b.report (all_told m a.status b.inputs)) (sym same.0) (subst (λ s. Took b.report (all_told b.mode s b.inputs)) (sym same.2) other.told)) in
     record {
       status = same.2;
-      screen = (sent_in a.mode a.turns, one.sent, sent);
-      report = (all_told a.mode a.status a.turns, one.told, told);
+      screen = (sent_in a.mode a.inputs, one.sent, sent);
+      report = (all_told a.mode a.status a.inputs, one.told, told);
     }

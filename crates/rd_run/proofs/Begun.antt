@@ -9,7 +9,7 @@ use Rattle.rd_words.specs.Words.{WordValues}
 use Rattle.rd_run.specs.Alike.{AreGivenAlike, AreToldAlike}
 use Rattle.rd_run.specs.Ends.{Comes, Drawn}
 use Rattle.rd_run.specs.Given.{Given, AreTold, FileFailed, HasFailed, IsBadData, IsMode, names_of}
-use Rattle.rd_run.specs.Runs.{Mode, Turn}
+use Rattle.rd_run.specs.Runs.{Input, Mode}
 use Rattle.rd_run.specs.declared.status.Status.{Status}
 use Rattle.rd_run.specs.declared.status.Status.TheVariants.{Done, Usage, BadData, BadScript, ReadFault, WriteFault, NoMemory}
 
@@ -92,15 +92,15 @@ pub has-failed : (given : Given) → FileFailed given → HasFailed given
 has-failed given f = (f.words, f.said, failed-one given.contents given.faults_before given.faults_after f.words f.failed)
 
 -- where no file failed and memory was not wanting, a run that has not begun was refused, and no line was run
-pub refuses : (given : Given) (status : Status) (turns : List Turn) (bytes : List ℕ) (source : Drawn) → (HasFailed given → ⊥) → (status ≡ NoMemory → ⊥) → Comes given None status turns bytes source
-    → Refuses given status × (turns ≡ [])
-refuses given Done turns bytes source failed found c = absurd c
-refuses given Usage turns bytes source failed found (words, nothing) = (words, nothing.0)
-refuses given (BadData file number kind) turns bytes source failed found (bad, nothing) = (bad, nothing.0)
-refuses given (BadScript number fault) turns bytes source failed found c = absurd c
-refuses given ReadFault turns bytes source failed found (file, nothing) = absurd (failed (has-failed given file))
-refuses given WriteFault turns bytes source failed found c = absurd c
-refuses given NoMemory turns bytes source failed found c = absurd (found refl)
+pub refuses : (given : Given) (status : Status) (inputs : List Input) (bytes : List ℕ) (source : Drawn) → (HasFailed given → ⊥) → (status ≡ NoMemory → ⊥) → Comes given None status inputs bytes source
+    → Refuses given status × (inputs ≡ [])
+refuses given Done inputs bytes source failed found c = absurd c
+refuses given Usage inputs bytes source failed found (words, nothing) = (words, nothing.0)
+refuses given (BadData file number kind) inputs bytes source failed found (bad, nothing) = (bad, nothing.0)
+refuses given (BadScript number fault) inputs bytes source failed found c = absurd c
+refuses given ReadFault inputs bytes source failed found (file, nothing) = absurd (failed (has-failed given file))
+refuses given WriteFault inputs bytes source failed found c = absurd c
+refuses given NoMemory inputs bytes source failed found c = absurd (found refl)
 
 not-known : (a b : Given) (w : WordValues) → AreGivenAlike a b → a.words ≡ None → b.words ≡ Some w → ⊥
 not-known a b w h p q = let k : None ≡ Some w = sym p ∙ h.0 ∙ q in cc

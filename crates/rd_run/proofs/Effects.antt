@@ -9,13 +9,13 @@ use Rattle.rd_state.specs.States.{StateValue}
 use Rattle.rd_state.specs.declared.refused.Refused.{Refused}
 use Rattle.rd_layout.specs.Sessions.{IsStep, session_step}
 use Rattle.rd_layout.specs.declared.outcome.Outcome.TheVariants.{Shown, Stopped}
-use Rattle.rd_run.specs.Runs.{Effect, Standing, Turn, asked, effect, effect_by, effect_of_reading, is_blank, is_shown, quiet, redisplayed, refused, stepped, unshown}
+use Rattle.rd_run.specs.Runs.{Effect, Input, Standing, asked, effect, effect_by, effect_of_reading, is_blank, is_shown, quiet, redisplayed, refused, stepped, unshown}
 use Rattle.rd_run.specs.declared.status.ScriptFault.TheVariants as faults
 use Rattle.rd_run.proofs.Ops.{step-of}
 
 -- what holds of the effect of each kind of line: of a blank line, of one that is no op, of ops that are refused and that are accepted, and
 -- of redisplays that find no memory and that find it
-pub record OfKinds (place : Standing) (t : Turn) (P : Effect → Type 0) : Type 0 where
+pub record OfKinds (place : Standing) (t : Input) (P : Effect → Type 0) : Type 0 where
   pub blank : P (quiet place)
   pub unread : (fault : OpFault) → reading t.line ≡ Err fault → P (refused place (faults.Op fault))
   pub refusal : (op : Op) (cause : Refused) → session_step place.session op ≡ Err cause → P (refused place (faults.Refused cause))
@@ -27,21 +27,21 @@ either : (P : Effect → Type 0) (b : Bool) (e f : Effect) → P e → P f → P
 either P true e f p q = p
 either P false e f p q = q
 
-stepped-is : (place : Standing) (t : Turn) (P : Effect → Type 0) → OfKinds place t P → (op : Op) (r : Result StateValue Refused) → session_step place.session op ≡ r → IsInForm op → IsStep op
+stepped-is : (place : Standing) (t : Input) (P : Effect → Type 0) → OfKinds place t P → (op : Op) (r : Result StateValue Refused) → session_step place.session op ≡ r → IsInForm op → IsStep op
     → P (stepped place op r)
 stepped-is place t P h op (Err cause) e form step = h.refusal op cause e
 stepped-is place t P h op (Ok state) e form step = h.accepted op state form step e
 
-op-is : (place : Standing) (t : Turn) (P : Effect → Type 0) → OfKinds place t P → (o : Option (Option ℕ)) (starved : Bool) (op : Op) → asked op ≡ o → IsInForm op → P (effect_by o starved place op)
+op-is : (place : Standing) (t : Input) (P : Effect → Type 0) → OfKinds place t P → (o : Option (Option ℕ)) (starved : Bool) (op : Op) → asked op ≡ o → IsInForm op → P (effect_by o starved place op)
 op-is place t P h None starved op e form = stepped-is place t P h op (session_step place.session op) refl form (step-of op e)
 op-is place t P h (Some stop) starved op e form = either P starved (unshown place) (redisplayed place stop) h.starved (h.fed stop)
 
-reading-is : (place : Standing) (t : Turn) (P : Effect → Type 0) → OfKinds place t P → (r : Result Op OpFault) → reading t.line ≡ r → P (effect_of_reading t.starved place r)
+reading-is : (place : Standing) (t : Input) (P : Effect → Type 0) → OfKinds place t P → (r : Result Op OpFault) → reading t.line ≡ r → P (effect_of_reading t.starved place r)
 reading-is place t P h (Err fault) e = h.unread fault e
 reading-is place t P h (Ok op) e = op-is place t P h (asked op) t.starved op refl (reading-in_form t.line op e)
 
 -- so it holds of the effect of each line
-pub effect-is : (place : Standing) (t : Turn) (P : Effect → Type 0) → OfKinds place t P → P (effect place t)
+pub effect-is : (place : Standing) (t : Input) (P : Effect → Type 0) → OfKinds place t P → P (effect place t)
 unfolding effect
 effect-is place t P h =
     either P (is_blank t.line) (quiet place) (effect_of_reading t.starved place (reading t.line)) h.blank (reading-is place t P h (reading t.line) refl)

@@ -15,7 +15,7 @@ use Rattle.rd_layout.specs.Sessions.{session_step}
 use Rattle.rd_ucd.specs.declared.fault.UcdFault.TheVariants as ucd
 use Rattle.rd_run.specs.Ends.{Comes, ComesIn, Drawn, IsOver}
 use Rattle.rd_run.specs.Given.{Given, IsBadData}
-use Rattle.rd_run.specs.Runs.{Mode, Standing, Turn, World, after, effect, opened, run, turn}
+use Rattle.rd_run.specs.Runs.{Input, Mode, Standing, World, after, effect, opened, run, run_line}
 use Rattle.rd_run.specs.Statuses.{TellsNoMemory}
 use Rattle.rd_run.specs.declared.status.ScriptFault.{ScriptFault}
 use Rattle.rd_run.specs.declared.status.ScriptFault.TheVariants.{Op as NoOp, Refused, TooLong, TooMany}
@@ -45,7 +45,7 @@ unread-free r fault is h = (λ e. h (cc), λ e. cc)
 refused-free : (r : Result StateValue Refusal) (cause : Refusal) → r ≡ Err cause → AnswersFree r → IsFreeFault (Some (Refused cause))
 refused-free r cause is h = (λ e. cc, λ e. h (cc))
 
-effect-free : LineLaw → (now : Standing) (t : Turn) → IsFreeFault (effect now t).fault
+effect-free : LineLaw → (now : Standing) (t : Input) → IsFreeFault (effect now t).fault
 effect-free law now t = effect-is now t (λ e. IsFreeFault e.fault) (record {
   blank = none-free;
   unread = λ fault is. unread-free (reading t.line) fault is (law t.line);
@@ -55,13 +55,13 @@ effect-free law now t = effect-is now t (λ e. IsFreeFault e.fault) (record {
   fed = λ stop. none-free;
 })
 
-turn-if : LineLaw → (over : Bool) (w : World) (t : Turn) → IsFreeFault w.fault → IsFreeFault (if over then w else after w (effect w.now t)).fault
-turn-if law true w t h = h
-turn-if law false w t h = effect-free law w.now t
+run_line-if : LineLaw → (over : Bool) (w : World) (t : Input) → IsFreeFault w.fault → IsFreeFault (if over then w else after w (effect w.now t)).fault
+run_line-if law true w t h = h
+run_line-if law false w t h = effect-free law w.now t
 
-run-free : LineLaw → (w : World) (ts : List Turn) → IsFreeFault w.fault → IsFreeFault (run w ts).fault
+run-free : LineLaw → (w : World) (ts : List Input) → IsFreeFault w.fault → IsFreeFault (run w ts).fault
 run-free law w [] h = h
-run-free law w (t ∷ ts) h = run-free law (turn w t) ts (turn-if law (is_some w.fault) w t h)
+run-free law w (t ∷ ts) h = run-free law (run_line w t) ts (run_line-if law (is_some w.fault) w t h)
 
 -- ---- statuses
 
@@ -70,30 +70,30 @@ bad-free given file number kind bad e =
     let fault : BadFile = record { file = file; line = number; kind = kind } in
     data-free bad.files.0 bad.files.1 bad.files.2 fault bad.files.6 e
 
-over-free : (fault : ScriptFault) (turns : List Turn) (bytes : List ℕ) → IsOver fault turns bytes → (fault ≢ NoOp op_faults.Memory) × (fault ≢ Refused refusals.Memory)
-over-free TooLong turns bytes over = (λ e. cc, λ e. cc)
-over-free TooMany turns bytes over = (λ e. cc, λ e. cc)
-over-free (NoOp fault) turns bytes over = absurd over
-over-free (Refused refusal) turns bytes over = absurd over
+over-free : (fault : ScriptFault) (inputs : List Input) (bytes : List ℕ) → IsOver fault inputs bytes → (fault ≢ NoOp op_faults.Memory) × (fault ≢ Refused refusals.Memory)
+over-free TooLong inputs bytes over = (λ e. cc, λ e. cc)
+over-free TooMany inputs bytes over = (λ e. cc, λ e. cc)
+over-free (NoOp fault) inputs bytes over = absurd over
+over-free (Refused refusal) inputs bytes over = absurd over
 
-in-free : LineLaw → (mode : Mode) (status : Status) (turns : List Turn) (bytes : List ℕ) (source : Drawn) → ComesIn mode status turns bytes source → TellsNoMemory status
-in-free law mode Done turns bytes source c = tt
-in-free law mode Usage turns bytes source c = tt
-in-free law mode (BadData file number kind) turns bytes source c = absurd c
-in-free law mode (BadScript number fault) turns bytes source (inl bad) =
-    let free = run-free law (opened mode) turns none-free in
+in-free : LineLaw → (mode : Mode) (status : Status) (inputs : List Input) (bytes : List ℕ) (source : Drawn) → ComesIn mode status inputs bytes source → TellsNoMemory status
+in-free law mode Done inputs bytes source c = tt
+in-free law mode Usage inputs bytes source c = tt
+in-free law mode (BadData file number kind) inputs bytes source c = absurd c
+in-free law mode (BadScript number fault) inputs bytes source (inl bad) =
+    let free = run-free law (opened mode) inputs none-free in
     (λ e. free.0 (bad.ended ∙ ap (λ f. Some f) e), λ e. free.1 (bad.ended ∙ ap (λ f. Some f) e))
-in-free law mode (BadScript number fault) turns bytes source (inr past) = over-free fault turns bytes past.over
-in-free law mode ReadFault turns bytes source c = tt
-in-free law mode WriteFault turns bytes source c = tt
-in-free law mode NoMemory turns bytes source c = tt
+in-free law mode (BadScript number fault) inputs bytes source (inr past) = over-free fault inputs bytes past.over
+in-free law mode ReadFault inputs bytes source c = tt
+in-free law mode WriteFault inputs bytes source c = tt
+in-free law mode NoMemory inputs bytes source c = tt
 
-pub comes-free : LineLaw → (given : Given) (mode : Option Mode) (status : Status) (turns : List Turn) (bytes : List ℕ) (source : Drawn) → Comes given mode status turns bytes source → TellsNoMemory status
-comes-free law given None Done turns bytes source c = tt
-comes-free law given None Usage turns bytes source c = tt
-comes-free law given None (BadData file number kind) turns bytes source c = bad-free given file number kind c.0
-comes-free law given None (BadScript number fault) turns bytes source c = absurd c
-comes-free law given None ReadFault turns bytes source c = tt
-comes-free law given None WriteFault turns bytes source c = tt
-comes-free law given None NoMemory turns bytes source c = tt
-comes-free law given (Some mode) status turns bytes source c = in-free law mode status turns bytes source c.1
+pub comes-free : LineLaw → (given : Given) (mode : Option Mode) (status : Status) (inputs : List Input) (bytes : List ℕ) (source : Drawn) → Comes given mode status inputs bytes source → TellsNoMemory status
+comes-free law given None Done inputs bytes source c = tt
+comes-free law given None Usage inputs bytes source c = tt
+comes-free law given None (BadData file number kind) inputs bytes source c = bad-free given file number kind c.0
+comes-free law given None (BadScript number fault) inputs bytes source c = absurd c
+comes-free law given None ReadFault inputs bytes source c = tt
+comes-free law given None WriteFault inputs bytes source c = tt
+comes-free law given None NoMemory inputs bytes source c = tt
+comes-free law given (Some mode) status inputs bytes source c = in-free law mode status inputs bytes source c.1

@@ -1,13 +1,13 @@
 -- The laws of all runs, by what each line leads to.
 use Rattle.std.proofs.Common.{List, [], ◌∷◌}
-use Rattle.rd_run.specs.Runs.{KnowsEach, LeadsOn, ShowsEach, Turn, World, run, turn}
+use Rattle.rd_run.specs.Runs.{Input, KnowsEach, LeadsOn, ShowsEach, World, run, run_line}
 
 -- the headline
-pub shows-each : (w : World) (ts : List Turn) → ((us : List Turn) (t : Turn) → LeadsOn (run w us) t) → ShowsEach w ts
+pub shows-each : (w : World) (ts : List Input) → ((us : List Input) (t : Input) → LeadsOn (run w us) t) → ShowsEach w ts
 shows-each w [] h = tt
-shows-each w (t ∷ ts) h = let one = h [] t in (one.shows, shows-each (turn w t) ts (λ us u. h (t ∷ us) u))
+shows-each w (t ∷ ts) h = let one = h [] t in (one.shows, shows-each (run_line w t) ts (λ us u. h (t ∷ us) u))
 
 -- slices
-pub knows-each : (w : World) (ts : List Turn) → ((us : List Turn) (t : Turn) → LeadsOn (run w us) t) → KnowsEach w ts
+pub knows-each : (w : World) (ts : List Input) → ((us : List Input) (t : Input) → LeadsOn (run w us) t) → KnowsEach w ts
 knows-each w [] h = tt
-knows-each w (t ∷ ts) h = let one = h [] t in (one.knows, knows-each (turn w t) ts (λ us u. h (t ∷ us) u))
+knows-each w (t ∷ ts) h = let one = h [] t in (one.knows, knows-each (run_line w t) ts (λ us u. h (t ∷ us) u))

@@ -6,6 +6,7 @@ pub mod Free
 pub mod FreeFiles
 pub mod FreeSteps
 pub mod Headline
+pub mod Inputs
 pub mod Leading
 pub mod Lines
 pub mod OnRuns
@@ -13,6 +14,5 @@ pub mod Ops
 pub mod Scripts
 pub mod Sizes
 pub mod Starved
-pub mod Turns
 pub mod Validity
 pub mod Whole

@@ -25,7 +25,7 @@ use Rattle.rd_layout.specs.Screens.{laid_out}
 use Rattle.rd_layout.specs.Sessions.{IsStep, SessionValue, behind, is_frame, opened as opened_session, session_step}
 use Rattle.rd_layout.specs.Since.{FitsFrame, IsSession}
 use Rattle.rd_layout.specs.declared.outcome.Outcome.{Outcome}
-use Rattle.rd_run.specs.Runs.{AreOfOneSize, Effect, IsOn, LeadsOn, Mode, Standing, Turn, World, after, effect, is_sent, is_shown, opened, outcome_at, quiet, redisplayed, refused, run, stepped, terminal_after, turn, unshown}
+use Rattle.rd_run.specs.Runs.{AreOfOneSize, Effect, Input, IsOn, LeadsOn, Mode, Standing, World, after, effect, is_sent, is_shown, opened, outcome_at, quiet, redisplayed, refused, run, run_line, stepped, terminal_after, unshown}
 use Rattle.rd_run.specs.declared.status.ScriptFault.TheVariants as faults
 use Rattle.rd_run.proofs.Effects.{effect-is, shown-done}
 use Rattle.rd_run.proofs.Leading.{LeadLaws, leads-on}
@@ -217,7 +217,7 @@ redisplayed-goes laws place t stop h =
       shows = λ s. let done = shown-done u.done u.rows s in updated-shows w n u target (feed_bytes t u.bytes) (reached done) done updated;
     }
 
-line-goes : (laws : RunLaws) (place : Standing) (t : Tty) (line : Turn) → IsAt place.session t → Goes place t (effect place line)
+line-goes : (laws : RunLaws) (place : Standing) (t : Tty) (line : Input) → IsAt place.session t → Goes place t (effect place line)
 line-goes laws place t line h = effect-is place line (Goes place t) (record {
   blank = silent-goes place t (quiet place) refl refl h refl (λ _. (refl, refl));
   unread = λ fault e. silent-goes place t (refused place (faults.Op fault)) refl refl h refl (λ _. (refl, refl));
@@ -244,7 +244,7 @@ goes-if : (stays : Bool) (w : World) (e : Effect) → IsAt w.now.session w.termi
 goes-if true w e h g = record { at = h; under = refl; knows = λ s. never refl s; reaches = λ s. never refl s; shows = λ s. never refl s }
 goes-if false w e h g = record { at = g.at; under = g.under; knows = g.knows; reaches = g.reaches; shows = g.shows }
 
-goes-on : (laws : RunLaws) (w : World) (t : Turn) → IsAt w.now.session w.terminal → GoesOn w (turn w t) (outcome_at w t)
+goes-on : (laws : RunLaws) (w : World) (t : Input) → IsAt w.now.session w.terminal → GoesOn w (run_line w t) (outcome_at w t)
 goes-on laws w t h = goes-if (is_some w.fault) w (effect w.now t) h (line-goes laws w.now w.terminal t h)
 
 -- where a run in this mode stands
@@ -252,16 +252,16 @@ pub record Stands (mode : Mode) (w : World) : Type 0 where
   pub at : IsAt w.now.session w.terminal
   pub under : w.now.mode ≡ mode
 
-run-stands : (laws : RunLaws) (mode : Mode) (w : World) (ts : List Turn) → Stands mode w → Stands mode (run w ts)
+run-stands : (laws : RunLaws) (mode : Mode) (w : World) (ts : List Input) → Stands mode w → Stands mode (run w ts)
 run-stands laws mode w [] h = h
 run-stands laws mode w (t ∷ ts) h =
     let next = goes-on laws w t h.at in
-    run-stands laws mode (turn w t) ts (record { at = next.at; under = next.under ∙ h.under })
+    run-stands laws mode (run_line w t) ts (record { at = next.at; under = next.under ∙ h.under })
 
-pub stands : (laws : RunLaws) (mode : Mode) (ts : List Turn) → Stands mode (run (opened mode) ts)
+pub stands : (laws : RunLaws) (mode : Mode) (ts : List Input) → Stands mode (run (opened mode) ts)
 stands laws mode ts = run-stands laws mode (opened mode) ts (record { at = fresh-at (opened_session mode.files) (laws.opened mode.files) refl; under = refl })
 
-pub leads : (laws : RunLaws) (mode : Mode) (ts : List Turn) (t : Turn) → LeadsOn (run (opened mode) ts) t
+pub leads : (laws : RunLaws) (mode : Mode) (ts : List Input) (t : Input) → LeadsOn (run (opened mode) ts) t
 leads laws mode ts t =
     let w = run (opened mode) ts in
     let here = stands laws mode ts in

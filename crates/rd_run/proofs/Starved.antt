@@ -5,10 +5,10 @@ use Rattle.rd_script.specs.declared.fault.OpFault.{OpFault}
 use Rattle.rd_script.specs.declared.op.Op.{Op}
 use Rattle.rd_run.specs.Alike.{AreStarvedAlike}
 use Rattle.rd_run.specs.Ends.{lines_in}
-use Rattle.rd_run.specs.Runs.{Standing, Turn, World, after, asked, effect, effect_by, effect_of_reading, is_blank, outcome_at, quiet, run, turn}
+use Rattle.rd_run.specs.Runs.{Input, Standing, World, after, asked, effect, effect_by, effect_of_reading, is_blank, outcome_at, quiet, run, run_line}
 
-abbrev pub turn_of : List ℕ → Bool → Turn
-turn_of line starved = record { line = line; starved = starved }
+abbrev pub input_of : List ℕ → Bool → Input
+input_of line starved = record { line = line; starved = starved }
 
 -- ---- one line
 
@@ -30,18 +30,18 @@ line-alike : (blank : Bool) (x : Result Op OpFault) (now : Standing) (s r : Bool
 line-alike true x now s r h = refl
 line-alike false x now s r h = reading-alike x now s r h
 
-effect-alike : (now : Standing) (line : List ℕ) (s r : Bool) → (is_some (effect now (turn_of line s)).outcome ≡ true → s ≡ r) → effect now (turn_of line s) ≡ effect now (turn_of line r)
+effect-alike : (now : Standing) (line : List ℕ) (s r : Bool) → (is_some (effect now (input_of line s)).outcome ≡ true → s ≡ r) → effect now (input_of line s) ≡ effect now (input_of line r)
 unfolding effect
 effect-alike now line s r h = line-alike (is_blank line) (reading line) now s r h
 
-turn-if : (over : Bool) (w : World) (line : List ℕ) (s r : Bool) → (is_some (if over then None else (effect w.now (turn_of line s)).outcome) ≡ true → s ≡ r)
-    → (if over then w else after w (effect w.now (turn_of line s))) ≡ (if over then w else after w (effect w.now (turn_of line r)))
-turn-if true w line s r h = refl
-turn-if false w line s r h = ap (after w) (effect-alike w.now line s r h)
+run_line-if : (over : Bool) (w : World) (line : List ℕ) (s r : Bool) → (is_some (if over then None else (effect w.now (input_of line s)).outcome) ≡ true → s ≡ r)
+    → (if over then w else after w (effect w.now (input_of line s))) ≡ (if over then w else after w (effect w.now (input_of line r)))
+run_line-if true w line s r h = refl
+run_line-if false w line s r h = ap (after w) (effect-alike w.now line s r h)
 
 -- one line is run alike where its redisplay, if it is one, finds memory alike
-pub turn-alike : (w : World) (t u : Turn) → t.line ≡ u.line → (is_some (outcome_at w t) ≡ true → t.starved ≡ u.starved) → turn w t ≡ turn w u
-turn-alike w t u e h = turn-if (is_some w.fault) w t.line t.starved u.starved h ∙ ap (λ line. turn w (turn_of line u.starved)) e
+pub run_line-alike : (w : World) (t u : Input) → t.line ≡ u.line → (is_some (outcome_at w t) ≡ true → t.starved ≡ u.starved) → run_line w t ≡ run_line w u
+run_line-alike w t u e h = run_line-if (is_some w.fault) w t.line t.starved u.starved h ∙ ap (λ line. run_line w (input_of line u.starved)) e
 
 -- ---- lines
 
@@ -52,11 +52,11 @@ pub rest-of : (x y : List ℕ) (xs ys : List (List ℕ)) → x ∷ xs ≡ y ∷ 
 rest-of x y xs ys e = cc
 
 -- a run over a whole script goes on behind the first lines of it as the run over these
-pub goes-behind : (w : World) (ts all : List Turn) (others : List (List ℕ)) → lines_in all ≡ lines_in ts ++ others → AreStarvedAlike w ts all → (rest : List Turn) × (run w all ≡ run (run w ts) rest)
+pub goes-behind : (w : World) (ts all : List Input) (others : List (List ℕ)) → lines_in all ≡ lines_in ts ++ others → AreStarvedAlike w ts all → (rest : List Input) × (run w all ≡ run (run w ts) rest)
 goes-behind w [] all others e h = (all, refl)
 goes-behind w (t ∷ ts) [] others e h = absurd (let q : [] ≡ t.line ∷ (lines_in ts ++ others) = e in cc)
 goes-behind w (t ∷ ts) (u ∷ us) others e h =
     let line : u.line ≡ t.line = head-of u.line t.line (lines_in us) (lines_in ts ++ others) e in
-    let same : turn w t ≡ turn w u = turn-alike w t u (sym line) h.0 in
-    let on = goes-behind (turn w t) ts us others (rest-of u.line t.line (lines_in us) (lines_in ts ++ others) e) h.1 in
+    let same : run_line w t ≡ run_line w u = run_line-alike w t u (sym line) h.0 in
+    let on = goes-behind (run_line w t) ts us others (rest-of u.line t.line (lines_in us) (lines_in ts ++ others) e) h.1 in
     (on.0, ap (λ v. run v us) (sym same) ∙ on.1)

@@ -5,7 +5,7 @@ use Rattle.rd_files.specs.DataFiles.{Named, told_or_empty}
 use Rattle.rd_io.specs.Devices.{Rose}
 use Rattle.rd_run.specs.Ends.{Drawn, Sunk, Took, Ended}
 use Rattle.rd_run.specs.Given.{Given, AreTold, HasFailed, ReadsScript, names_of}
-use Rattle.rd_run.specs.Runs.{Mode, Turn, World, opened, outcome_at, turn}
+use Rattle.rd_run.specs.Runs.{Input, Mode, World, opened, outcome_at, run_line}
 use Rattle.rd_run.specs.declared.status.Status.{Status}
 use Rattle.rd_run.specs.declared.status.Status.TheVariants.{NoMemory}
 use Rattle.rd_words.specs.Words.{WordValues}
@@ -24,7 +24,7 @@ pub record End : Type 0 where
   pub given : Given
   pub mode : Option Mode
   pub status : Status
-  pub turns : List Turn
+  pub inputs : List Input
   pub bytes : List ℕ
   pub source : Drawn
   pub screen : Sunk
@@ -34,7 +34,7 @@ pub record End : Type 0 where
 -- failed in it
 pub record IsFaultless (script : List ℕ) (e : End) : Type 0 where
   pub taken : ReadsScript e.given → Consumes (Some script) e.source.left e.bytes
-  pub ended : Ended e.given e.mode e.status e.turns e.bytes e.source e.screen e.report
+  pub ended : Ended e.given e.mode e.status e.inputs e.bytes e.source e.screen e.report
   pub files : AreTold e.given
   pub fetched : ¬ HasFailed e.given
   pub read : ¬ Rose e.source.faults_before e.source.faults_after
@@ -47,13 +47,13 @@ pub record IsUndisturbed (script : List ℕ) (e : End) : Type 0 where
   pub found : e.status ≢ NoMemory
 
 -- of the redisplays that both run from here the same find no memory
-abbrev pub AreStarvedAlike : World → List Turn → List Turn → Type 0
+abbrev pub AreStarvedAlike : World → List Input → List Input → Type 0
 AreStarvedAlike w [] us = Unit {0}
 AreStarvedAlike w (t ∷ ts) [] = Unit {0}
-AreStarvedAlike w (t ∷ ts) (u ∷ us) = (is_some (outcome_at w t) ≡ true → t.starved ≡ u.starved) × AreStarvedAlike (turn w t) ts us
+AreStarvedAlike w (t ∷ ts) (u ∷ us) = (is_some (outcome_at w t) ≡ true → t.starved ≡ u.starved) × AreStarvedAlike (run_line w t) ts us
 
 -- the same of runs from their beginning, where they have begun
-abbrev pub AreStarvedAlikeIn : Option Mode → List Turn → List Turn → Type 0
+abbrev pub AreStarvedAlikeIn : Option Mode → List Input → List Input → Type 0
 AreStarvedAlikeIn None ts us = Unit {0}
 AreStarvedAlikeIn (Some mode) ts us = AreStarvedAlike (opened mode) ts us
 

@@ -11,7 +11,7 @@ use Rattle.rd_state.specs.Windows.{selected_window}
 use Rattle.rd_layout.specs.Sessions.{length_of}
 use Rattle.rd_run.specs.Given.{Given, IsMode, IsBadData, FileFailed}
 use Rattle.rd_run.specs.Reports.{last_line, summary_lines}
-use Rattle.rd_run.specs.Runs.{Mode, Standing, Turn, opened, effect, run, outcome_at, is_sent, ShowsEach}
+use Rattle.rd_run.specs.Runs.{Mode, Standing, Input, opened, effect, run, outcome_at, is_sent, ShowsEach}
 use Rattle.rd_run.specs.declared.status.ScriptFault.{ScriptFault}
 use Rattle.rd_run.specs.declared.status.ScriptFault.TheVariants.{TooLong, TooMany}
 use Rattle.rd_run.specs.declared.status.Status.{Status}
@@ -50,8 +50,8 @@ pub record Broke (s : Sunk) (bytes others : List ℕ) : Type 0 where
 
 -- ---- the lines that were run
 
-abbrev pub lines_in : List Turn → List (List ℕ)
-lines_in turns = map (λ t. t.line) turns
+abbrev pub lines_in : List Input → List (List ℕ)
+lines_in inputs = map (λ t. t.line) inputs
 
 -- lines that a script may have: none is too long, and they are not too many
 pub record AreInLimits (lines : List (List ℕ)) : Type 0 where
@@ -63,8 +63,8 @@ abbrev pub Begins : List (List ℕ) → List ℕ → List ℕ → Type 0
 Begins lines bytes rest = AllByRecursion IsUnbroken lines × (bytes ≡ text_of_lines lines ++ rest)
 
 -- the bytes taken from the source are the lines run, which pass no limit, each with its newline, and a rest
-abbrev pub GoesOn : List Turn → List ℕ → List ℕ → Type 0
-GoesOn turns bytes rest = AreInLimits (lines_in turns) × Begins (lines_in turns) bytes rest
+abbrev pub GoesOn : List Input → List ℕ → List ℕ → Type 0
+GoesOn inputs bytes rest = AreInLimits (lines_in inputs) × Begins (lines_in inputs) bytes rest
 
 -- these lines, which pass no limit, are the first of the bytes taken from the source; the last of them needs no newline where the
 -- source, which has this left, has no byte left
@@ -74,15 +74,15 @@ AreFirst lines bytes left = AreInLimits lines × (((rest : List ℕ) × Begins l
 -- ---- when each status comes
 
 -- what has come of a line behind those that were run: it has no newline, is not too long, and begins no line that is one too many
-abbrev pub IsBegun : List Turn → List ℕ → Type 0
-IsBegun turns rest = IsUnbroken rest × (length rest ≤ LINE_BYTES) × ((length turns < LINES) ⊎ (rest ≡ []))
+abbrev pub IsBegun : List Input → List ℕ → Type 0
+IsBegun inputs rest = IsUnbroken rest × (length rest ≤ LINE_BYTES) × ((length inputs < LINES) ⊎ (rest ≡ []))
 
 -- a line that is too long, or one too many: nothing of it was run
-abbrev pub IsOver : ScriptFault → List Turn → List ℕ → Type 0
-IsOver TooLong turns bytes =
-    (rest : List ℕ) × GoesOn turns bytes rest × (length turns < LINES) × (LINE_BYTES < length rest) × IsUnbroken (take (LINE_BYTES + 1) rest)
-IsOver TooMany turns bytes = (rest : List ℕ) × GoesOn turns bytes rest × (length turns ≡ LINES) × (0 < length rest)
-IsOver fault turns bytes = ⊥
+abbrev pub IsOver : ScriptFault → List Input → List ℕ → Type 0
+IsOver TooLong inputs bytes =
+    (rest : List ℕ) × GoesOn inputs bytes rest × (length inputs < LINES) × (LINE_BYTES < length rest) × IsUnbroken (take (LINE_BYTES + 1) rest)
+IsOver TooMany inputs bytes = (rest : List ℕ) × GoesOn inputs bytes rest × (length inputs ≡ LINES) × (0 < length rest)
+IsOver fault inputs bytes = ⊥
 
 -- the lines run, and perhaps one in hand, are the first of a generated script, and no byte was taken from the source
 abbrev pub AreFirstOf : ℕ → List (List ℕ) → List ℕ → Type 0
@@ -94,77 +94,77 @@ AreScript None lines bytes left = AreFirst lines bytes left
 AreScript (Some number) lines bytes left = AreFirstOf number lines bytes
 
 -- lines that have ended are the first ones
-abbrev pub IsTaken : Option ℕ → List Turn → List ℕ → Type 0
-IsTaken None turns bytes = (rest : List ℕ) × GoesOn turns bytes rest
-IsTaken (Some number) turns bytes = AreFirstOf number (lines_in turns) bytes
+abbrev pub IsTaken : Option ℕ → List Input → List ℕ → Type 0
+IsTaken None inputs bytes = (rest : List ℕ) × GoesOn inputs bytes rest
+IsTaken (Some number) inputs bytes = AreFirstOf number (lines_in inputs) bytes
 
 -- lines are all of the script
-abbrev pub AreAll : Option ℕ → List Turn → List ℕ → Option (List ℕ) → Type 0
-AreAll None turns bytes left = AreInLimits (lines_in turns) × (lines_of bytes ≡ lines_in turns) × IsAtEnd left
-AreAll (Some number) turns bytes left = (lines_in turns ≡ generated number) × (bytes ≡ [])
+abbrev pub AreAll : Option ℕ → List Input → List ℕ → Option (List ℕ) → Type 0
+AreAll None inputs bytes left = AreInLimits (lines_in inputs) × (lines_of bytes ≡ lines_in inputs) × IsAtEnd left
+AreAll (Some number) inputs bytes left = (lines_in inputs ≡ generated number) × (bytes ≡ [])
 
 -- no line was refused
-abbrev pub Ran : Mode → List Turn → Type 0
-Ran mode turns = (run (opened mode) turns).fault ≡ None
+abbrev pub Ran : Mode → List Input → Type 0
+Ran mode inputs = (run (opened mode) inputs).fault ≡ None
 
 -- a line that is bad: it is no op, or its op was refused; it is the last of those that were run, and the first that is bad
-pub record IsBad (mode : Mode) (fault : ScriptFault) (number : ℕ) (turns : List Turn) (bytes : List ℕ) (left : Option (List ℕ)) : Type 0 where
-  pub others : List Turn
-  pub last : Turn
-  pub split : turns ≡ others ++ last ∷ []
+pub record IsBad (mode : Mode) (fault : ScriptFault) (number : ℕ) (inputs : List Input) (bytes : List ℕ) (left : Option (List ℕ)) : Type 0 where
+  pub others : List Input
+  pub last : Input
+  pub split : inputs ≡ others ++ last ∷ []
   pub ran : Ran mode others
-  pub ended : (run (opened mode) turns).fault ≡ Some fault
-  pub at : number ≡ length turns
-  pub lines : AreScript mode.generated (lines_in turns) bytes left
+  pub ended : (run (opened mode) inputs).fault ≡ Some fault
+  pub at : number ≡ length inputs
+  pub lines : AreScript mode.generated (lines_in inputs) bytes left
 
 -- a line that is too long or one too many; a generated script has none
-pub record IsPast (mode : Mode) (fault : ScriptFault) (number : ℕ) (turns : List Turn) (bytes : List ℕ) : Type 0 where
-  pub ran : Ran mode turns
-  pub at : number ≡ length turns + 1
-  pub over : IsOver fault turns bytes
+pub record IsPast (mode : Mode) (fault : ScriptFault) (number : ℕ) (inputs : List Input) (bytes : List ℕ) : Type 0 where
+  pub ran : Ran mode inputs
+  pub at : number ≡ length inputs + 1
+  pub over : IsOver fault inputs bytes
   pub read : mode.generated ≡ None
 
 -- no line was run and no byte was taken
-abbrev pub IsNothing : List Turn → List ℕ → Type 0
-IsNothing turns bytes = (turns ≡ []) × (bytes ≡ [])
+abbrev pub IsNothing : List Input → List ℕ → Type 0
+IsNothing inputs bytes = (inputs ≡ []) × (bytes ≡ [])
 
 -- when a status comes that is no write fault, in a run that has begun, for the lines that were run before and the bytes taken from the source
-abbrev pub ComesIn : Mode → Status → List Turn → List ℕ → Drawn → Type 0
+abbrev pub ComesIn : Mode → Status → List Input → List ℕ → Drawn → Type 0
 -- the script was run to its end, and each op was accepted
-ComesIn mode Done turns bytes source = Ran mode turns × AreAll mode.generated turns bytes source.left
-ComesIn mode (BadScript number fault) turns bytes source = IsBad mode fault number turns bytes source.left ⊎ IsPast mode fault number turns bytes
+ComesIn mode Done inputs bytes source = Ran mode inputs × AreAll mode.generated inputs bytes source.left
+ComesIn mode (BadScript number fault) inputs bytes source = IsBad mode fault number inputs bytes source.left ⊎ IsPast mode fault number inputs bytes
 -- the source failed, and the lines that end with a newline among the bytes taken were run
-ComesIn mode ReadFault turns bytes source =
-    Ran mode turns × (mode.generated ≡ None) × Rose source.faults_before source.faults_after × ((rest : List ℕ) × GoesOn turns bytes rest × IsBegun turns rest)
+ComesIn mode ReadFault inputs bytes source =
+    Ran mode inputs × (mode.generated ≡ None) × Rose source.faults_before source.faults_after × ((rest : List ℕ) × GoesOn inputs bytes rest × IsBegun inputs rest)
 -- the op in hand was given up
-ComesIn mode NoMemory turns bytes source = Ran mode turns × IsTaken mode.generated turns bytes
-ComesIn mode status turns bytes source = ⊥
+ComesIn mode NoMemory inputs bytes source = Ran mode inputs × IsTaken mode.generated inputs bytes
+ComesIn mode status inputs bytes source = ⊥
 
 -- When a status comes that is no write fault. A run begins where the words are those of the command and the data files were read and are
 -- good; else no line is run.
-abbrev pub Comes : Given → Option Mode → Status → List Turn → List ℕ → Drawn → Type 0
-Comes given None Usage turns bytes source = (given.words ≡ None) × IsNothing turns bytes
-Comes given None (BadData file number kind) turns bytes source = IsBadData given file number kind × IsNothing turns bytes
-Comes given None ReadFault turns bytes source = FileFailed given × IsNothing turns bytes
-Comes given None NoMemory turns bytes source = IsNothing turns bytes
-Comes given None status turns bytes source = ⊥
-Comes given (Some mode) status turns bytes source = IsMode given mode × ComesIn mode status turns bytes source
+abbrev pub Comes : Given → Option Mode → Status → List Input → List ℕ → Drawn → Type 0
+Comes given None Usage inputs bytes source = (given.words ≡ None) × IsNothing inputs bytes
+Comes given None (BadData file number kind) inputs bytes source = IsBadData given file number kind × IsNothing inputs bytes
+Comes given None ReadFault inputs bytes source = FileFailed given × IsNothing inputs bytes
+Comes given None NoMemory inputs bytes source = IsNothing inputs bytes
+Comes given None status inputs bytes source = ⊥
+Comes given (Some mode) status inputs bytes source = IsMode given mode × ComesIn mode status inputs bytes source
 
 -- ---- what was written
 
 -- what the lines that were run sent to the screen, and what they told the report
-abbrev pub sent_in : Option Mode → List Turn → List ℕ
-sent_in None turns = []
-sent_in (Some mode) turns = (run (opened mode) turns).sent
+abbrev pub sent_in : Option Mode → List Input → List ℕ
+sent_in None inputs = []
+sent_in (Some mode) inputs = (run (opened mode) inputs).sent
 
-abbrev pub told_in : Option Mode → List Turn → List ℕ
-told_in None turns = []
-told_in (Some mode) turns = (run (opened mode) turns).told
+abbrev pub told_in : Option Mode → List Input → List ℕ
+told_in None inputs = []
+told_in (Some mode) inputs = (run (opened mode) inputs).told
 
 -- where the lines that were run may place no more elements than this
-abbrev pub allowed_in : Option Mode → List Turn → ℕ
-allowed_in None turns = 0
-allowed_in (Some mode) turns = (run (opened mode) turns).allowed
+abbrev pub allowed_in : Option Mode → List Input → ℕ
+allowed_in None inputs = 0
+allowed_in (Some mode) inputs = (run (opened mode) inputs).allowed
 
 -- what is told at the end of a generated script
 abbrev pub summary : Standing → List ℕ
@@ -175,64 +175,64 @@ done_of None now = last_line Done now.lines
 done_of (Some number) now = summary now
 
 -- the last line that a status tells
-abbrev pub last_in : Option Mode → Status → List Turn → List ℕ
-last_in (Some mode) Done turns = done_of mode.generated (run (opened mode) turns).now
-last_in mode status turns = last_line status (length turns)
+abbrev pub last_in : Option Mode → Status → List Input → List ℕ
+last_in (Some mode) Done inputs = done_of mode.generated (run (opened mode) inputs).now
+last_in mode status inputs = last_line status (length inputs)
 
 -- all was written, and behind it the last line of the status
-pub record IsWhole (given : Given) (mode : Option Mode) (status : Status) (turns : List Turn) (bytes : List ℕ) (source : Drawn) (screen report : Sunk) : Type 0 where
-  pub comes : Comes given mode status turns bytes source
-  pub sent : Took screen (sent_in mode turns)
-  pub told : Took report (told_in mode turns ++ last_in mode status turns)
+pub record IsWhole (given : Given) (mode : Option Mode) (status : Status) (inputs : List Input) (bytes : List ℕ) (source : Drawn) (screen report : Sunk) : Type 0 where
+  pub comes : Comes given mode status inputs bytes source
+  pub sent : Took screen (sent_in mode inputs)
+  pub told : Took report (told_in mode inputs ++ last_in mode status inputs)
 
 -- a redisplay is the line in hand, behind those that were run
-pub record IsInHand (given : Given) (mode : Mode) (turns : List Turn) (line bytes : List ℕ) (left : Option (List ℕ)) : Type 0 where
+pub record IsInHand (given : Given) (mode : Mode) (inputs : List Input) (line bytes : List ℕ) (left : Option (List ℕ)) : Type 0 where
   pub begun : IsMode given mode
-  pub ran : Ran mode turns
-  pub lines : AreScript mode.generated (lines_in turns ++ line ∷ []) bytes left
-  pub shown : is_sent (outcome_at (run (opened mode) turns) (record { line = line; starved = false })) ≡ true
+  pub ran : Ran mode inputs
+  pub lines : AreScript mode.generated (lines_in inputs ++ line ∷ []) bytes left
+  pub shown : is_sent (outcome_at (run (opened mode) inputs) (record { line = line; starved = false })) ≡ true
 
 -- the report has `write fault`, or a front of it where the report failed too
-abbrev pub TellsFault : Sunk → List ℕ → List Turn → Type 0
-TellsFault report told turns =
-    Took report (told ++ last_line WriteFault (length turns)) ⊎ Broke report told (last_line WriteFault (length turns))
+abbrev pub TellsFault : Sunk → List ℕ → List Input → Type 0
+TellsFault report told inputs =
+    Took report (told ++ last_line WriteFault (length inputs)) ⊎ Broke report told (last_line WriteFault (length inputs))
 
 -- the screen failed at an update
-pub record ScreenBroke (given : Given) (mode : Mode) (turns : List Turn) (line bytes : List ℕ) (source : Drawn) (screen report : Sunk) : Type 0 where
-  pub hand : IsInHand given mode turns line bytes source.left
-  pub sent : Broke screen (run (opened mode) turns).sent (effect (run (opened mode) turns).now (record { line = line; starved = false })).sent
-  pub told : TellsFault report (run (opened mode) turns).told turns
+pub record ScreenBroke (given : Given) (mode : Mode) (inputs : List Input) (line bytes : List ℕ) (source : Drawn) (screen report : Sunk) : Type 0 where
+  pub hand : IsInHand given mode inputs line bytes source.left
+  pub sent : Broke screen (run (opened mode) inputs).sent (effect (run (opened mode) inputs).now (record { line = line; starved = false })).sent
+  pub told : TellsFault report (run (opened mode) inputs).told inputs
 
 -- The report failed at what a redisplay tells, whose update, where it found memory, was sent whole: the terminal shows it, though
 -- the report does not tell it whole. That of a generated script tells the want of memory alone.
-pub record ReportBroke (given : Given) (mode : Mode) (turns : List Turn) (t : Turn) (bytes : List ℕ) (source : Drawn) (screen report : Sunk) : Type 0 where
-  pub hand : IsInHand given mode turns t.line bytes source.left
-  pub sent : Took screen ((run (opened mode) turns).sent ++ (effect (run (opened mode) turns).now t).sent)
-  pub told : Broke report (run (opened mode) turns).told (effect (run (opened mode) turns).now t).told
-  pub shows : ShowsEach (opened mode) (turns ++ t ∷ [])
+pub record ReportBroke (given : Given) (mode : Mode) (inputs : List Input) (t : Input) (bytes : List ℕ) (source : Drawn) (screen report : Sunk) : Type 0 where
+  pub hand : IsInHand given mode inputs t.line bytes source.left
+  pub sent : Took screen ((run (opened mode) inputs).sent ++ (effect (run (opened mode) inputs).now t).sent)
+  pub told : Broke report (run (opened mode) inputs).told (effect (run (opened mode) inputs).now t).told
+  pub shows : ShowsEach (opened mode) (inputs ++ t ∷ [])
   pub tells : (mode.generated ≡ None) ⊎ (t.starved ≡ true)
 
 -- the report failed at the last line of the status that would have come
-pub record LastBroke (given : Given) (mode : Option Mode) (status : Status) (turns : List Turn) (bytes : List ℕ) (source : Drawn) (screen report : Sunk) : Type 0 where
-  pub comes : Comes given mode status turns bytes source
-  pub sent : Took screen (sent_in mode turns)
-  pub told : Broke report (told_in mode turns) (last_in mode status turns)
+pub record LastBroke (given : Given) (mode : Option Mode) (status : Status) (inputs : List Input) (bytes : List ℕ) (source : Drawn) (screen report : Sunk) : Type 0 where
+  pub comes : Comes given mode status inputs bytes source
+  pub sent : Took screen (sent_in mode inputs)
+  pub told : Broke report (told_in mode inputs) (last_in mode status inputs)
 
 -- One of the writes broke, all before it are whole, and nothing was written behind it but `write fault`. Where no run has begun there
 -- is no write but the last line.
-abbrev pub IsBroken : Given → Option Mode → List Turn → List ℕ → Drawn → Sunk → Sunk → Type 0
-IsBroken given None turns bytes source screen report = (status : Status) × LastBroke given None status turns bytes source screen report
-IsBroken given (Some mode) turns bytes source screen report =
-    ((line : List ℕ) × ScreenBroke given mode turns line bytes source screen report)
-    ⊎ (((t : Turn) × ReportBroke given mode turns t bytes source screen report)
-    ⊎ ((status : Status) × LastBroke given (Some mode) status turns bytes source screen report))
+abbrev pub IsBroken : Given → Option Mode → List Input → List ℕ → Drawn → Sunk → Sunk → Type 0
+IsBroken given None inputs bytes source screen report = (status : Status) × LastBroke given None status inputs bytes source screen report
+IsBroken given (Some mode) inputs bytes source screen report =
+    ((line : List ℕ) × ScreenBroke given mode inputs line bytes source screen report)
+    ⊎ (((t : Input) × ReportBroke given mode inputs t bytes source screen report)
+    ⊎ ((status : Status) × LastBroke given (Some mode) status inputs bytes source screen report))
 
 -- The run of these lines ended with this status: all was written, or the status is that of a write fault and a write broke.
-abbrev pub Ended : Given → Option Mode → Status → List Turn → List ℕ → Drawn → Sunk → Sunk → Type 0
-Ended given mode status turns bytes source screen report =
-    IsWhole given mode status turns bytes source screen report ⊎ ((status ≡ WriteFault) × IsBroken given mode turns bytes source screen report)
+abbrev pub Ended : Given → Option Mode → Status → List Input → List ℕ → Drawn → Sunk → Sunk → Type 0
+Ended given mode status inputs bytes source screen report =
+    IsWhole given mode status inputs bytes source screen report ⊎ ((status ≡ WriteFault) × IsBroken given mode inputs bytes source screen report)
 
 -- behind each redisplay that was shown the terminal shows what the rules give from nothing
-abbrev pub ShowsIn : Option Mode → List Turn → Type 0
-ShowsIn None turns = Unit {0}
-ShowsIn (Some mode) turns = ShowsEach (opened mode) turns
+abbrev pub ShowsIn : Option Mode → List Input → Type 0
+ShowsIn None inputs = Unit {0}
+ShowsIn (Some mode) inputs = ShowsEach (opened mode) inputs

@@ -25,7 +25,7 @@ use Rattle.rd_run.specs.declared.status.ScriptFault.{ScriptFault}
 use Rattle.rd_run.specs.declared.status.ScriptFault.TheVariants as faults
 
 -- a line of the script, and whether its redisplay found no memory
-pub record Turn : Type 0 where
+pub record Input : Type 0 where
   pub line : List ℕ
   pub starved : Bool
 
@@ -131,7 +131,7 @@ effect_of_reading starved now (Ok op) = effect_of_op starved now op
 abbrev pub is_blank : List ℕ → Bool
 is_blank line = list_all (λ b. b == 32 || (b == 9 || b == 13)) line
 
-unfoldable pub effect : Standing → Turn → Effect
+unfoldable pub effect : Standing → Input → Effect
 effect now t = if is_blank t.line then quiet now else effect_of_reading t.starved now (reading t.line)
 
 -- The run so far: where it stands, the terminal that reads the bytes since the last accepted frame, all bytes sent, the report, how many
@@ -169,15 +169,15 @@ after w e = record {
 }
 
 -- the run over one more line; a run that has ended stays as it is
-abbrev pub turn : World → Turn → World
-turn w t = if is_some w.fault then w else after w (effect w.now t)
+abbrev pub run_line : World → Input → World
+run_line w t = if is_some w.fault then w else after w (effect w.now t)
 
-abbrev pub run : World → List Turn → World
+abbrev pub run : World → List Input → World
 run w [] = w
-run w (t ∷ ts) = run (turn w t) ts
+run w (t ∷ ts) = run (run_line w t) ts
 
 -- how the redisplay of a line ended, where it is one and was run
-abbrev pub outcome_at : World → Turn → Option Outcome
+abbrev pub outcome_at : World → Input → Option Outcome
 outcome_at w t = if is_some w.fault then None else (effect w.now t).outcome
 
 abbrev pub is_shown : Option Outcome → Bool
@@ -191,10 +191,10 @@ is_sent outcome = false
 
 -- The headline: behind each line whose redisplay was shown, the terminal shows what the rules give from nothing for the state
 -- before that line.
-abbrev pub ShowsEach : World → List Turn → Type 0
+abbrev pub ShowsEach : World → List Input → Type 0
 ShowsEach w [] = Unit {0}
 ShowsEach w (t ∷ ts) =
-    (is_shown (outcome_at w t) ≡ true → Shows (turn w t).terminal (laid_out w.now.session.files w.now.session.state).picture) × ShowsEach (turn w t) ts
+    (is_shown (outcome_at w t) ≡ true → Shows (run_line w t).terminal (laid_out w.now.session.files w.now.session.state).picture) × ShowsEach (run_line w t) ts
 
 -- the current screen is known, the terminal is not confused, and its cells are those of the screen
 abbrev pub IsOn : Option Picture → Tty → Type 0
@@ -203,10 +203,10 @@ IsOn (Some screen) terminal = (terminal.confused ≡ false) × (terminal.rows �
 
 -- Behind each line whose redisplay was shown or stopped, whatever was edited between its slices, the current screen is what the terminal
 -- shows.
-abbrev pub KnowsEach : World → List Turn → Type 0
+abbrev pub KnowsEach : World → List Input → Type 0
 KnowsEach w [] = Unit {0}
 KnowsEach w (t ∷ ts) =
-    (is_sent (outcome_at w t) ≡ true → IsOn (turn w t).now.session.current (turn w t).terminal) × KnowsEach (turn w t) ts
+    (is_sent (outcome_at w t) ≡ true → IsOn (run_line w t).now.session.current (run_line w t).terminal) × KnowsEach (run_line w t) ts
 
 -- two states have frames of one size
 abbrev pub AreOfOneSize : StateValue → StateValue → Type 0
@@ -215,8 +215,8 @@ AreOfOneSize s t = (t.width ≡ s.width) × (t.height ≡ s.height)
 -- What the next line does where a run stands. The frame keeps its size, unless a new terminal begins. Behind a redisplay that is shown or
 -- stopped the current screen is what the terminal shows. Behind one that is shown it is what the rules give from nothing for the state
 -- before that line, and so the terminal shows it, with its cursor.
-pub record LeadsOn (w : World) (t : Turn) : Type 0 where
+pub record LeadsOn (w : World) (t : Input) : Type 0 where
   pub size : (effect w.now t).fresh ≡ false → AreOfOneSize w.now.session.state (effect w.now t).now.session.state
-  pub knows : is_sent (outcome_at w t) ≡ true → IsOn (turn w t).now.session.current (turn w t).terminal
-  pub reaches : is_shown (outcome_at w t) ≡ true → (turn w t).now.session.current ≡ Some (laid_out w.now.session.files w.now.session.state).picture
-  pub shows : is_shown (outcome_at w t) ≡ true → Shows (turn w t).terminal (laid_out w.now.session.files w.now.session.state).picture
+  pub knows : is_sent (outcome_at w t) ≡ true → IsOn (run_line w t).now.session.current (run_line w t).terminal
+  pub reaches : is_shown (outcome_at w t) ≡ true → (run_line w t).now.session.current ≡ Some (laid_out w.now.session.files w.now.session.state).picture
+  pub shows : is_shown (outcome_at w t) ≡ true → Shows (run_line w t).terminal (laid_out w.now.session.files w.now.session.state).picture

@@ -5,7 +5,7 @@ ghost use Rattle.rd_layout.specs.Since.{IsSession};
 ghost use Rattle.rd_run.specs.Alike.{AreAlike, AreGivenAlike, AreStarvedAlikeIn, End, IsFaultless, IsUndisturbed};
 ghost use Rattle.rd_run.specs.Ends.{Comes, Drawn};
 ghost use Rattle.rd_run.specs.Given.{Given, IsMode};
-ghost use Rattle.rd_run.specs.Runs.{KnowsEach, LeadsOn, Mode, ShowsEach, Turn, opened, run};
+ghost use Rattle.rd_run.specs.Runs.{Input, KnowsEach, LeadsOn, Mode, ShowsEach, opened, run};
 ghost use Rattle.rd_run.specs.Statuses.{TellsNoMemory};
 ghost use Rattle.rd_run.specs.Validity.{EndsWell, IsValidScript};
 ghost use Rattle.rd_run.specs.declared.status.Status.{Status};
@@ -22,9 +22,9 @@ use rd_tree::windows_tile_their_rectangle;
 /// the mode in which it began (`in_mode`). The next line leads on from there: the frame keeps its size unless a new terminal begins, and
 /// the screen behind a redisplay that is shown or stopped is known and on the terminal (`leads`). The call does nothing.
 pub fn a_session_stands_behind_each_line()
-    ensures session { (mode : Mode) (turns : List Turn) → IsSession (run (opened mode) turns).now.session }
-    ensures in_mode { (mode : Mode) (turns : List Turn) → (run (opened mode) turns).now.mode ≡ mode }
-    ensures leads { (mode : Mode) (turns : List Turn) (t : Turn) → LeadsOn (run (opened mode) turns) t }
+    ensures session { (mode : Mode) (inputs : List Input) → IsSession (run (opened mode) inputs).now.session }
+    ensures in_mode { (mode : Mode) (inputs : List Input) → (run (opened mode) inputs).now.mode ≡ mode }
+    ensures leads { (mode : Mode) (inputs : List Input) (t : Input) → LeadsOn (run (opened mode) inputs) t }
 {
     redisplays_keep_states();
     redisplays_lead_on();
@@ -39,7 +39,7 @@ pub fn a_session_stands_behind_each_line()
 /// The headline, over all runs: behind each redisplay that was shown, the written terminal, which reads the bytes since the last
 /// accepted frame, shows exactly what the rules give from nothing for the state before that redisplay. The call does nothing.
 pub fn each_redisplay_is_shown()
-    ensures { (mode : Mode) (turns : List Turn) → ShowsEach (opened mode) turns }
+    ensures { (mode : Mode) (inputs : List Input) → ShowsEach (opened mode) inputs }
 {
     a_session_stands_behind_each_line();
 }
@@ -47,7 +47,7 @@ pub fn each_redisplay_is_shown()
 /// Behind each redisplay that was shown or stopped, with whatever edits between the slices of an update, the written terminal is not
 /// confused and shows the current screen. The call does nothing.
 pub fn each_slice_is_known()
-    ensures { (mode : Mode) (turns : List Turn) → KnowsEach (opened mode) turns }
+    ensures { (mode : Mode) (inputs : List Input) → KnowsEach (opened mode) inputs }
 {
     a_session_stands_behind_each_line();
 }
@@ -57,18 +57,18 @@ pub fn each_slice_is_known()
 /// no memory, both ends have the same status, and the same bytes went to both screens and to both reports. The call does nothing.
 pub fn two_runs_of_one_script_end_alike()
     ensures { (script : List ℕ) (a b : End) → AreGivenAlike a.given b.given → IsUndisturbed script a → IsUndisturbed script b
-        → AreStarvedAlikeIn a.mode a.turns b.turns → AreAlike a b }
+        → AreStarvedAlikeIn a.mode a.inputs b.inputs → AreAlike a b }
 {}
 
 /// Where the words are those of the command, the files are good, each line of the script passes the limits and each op is accepted, as its
 /// redisplays find memory, a run in which no device failed ends Done, or for want of memory. The call does nothing.
 pub fn valid_scripts_end_well()
-    ensures { (script : List ℕ) (mode : Mode) (e : End) → IsMode e.given mode → IsValidScript mode e.turns script → IsFaultless script e → EndsWell e.status }
+    ensures { (script : List ℕ) (mode : Mode) (e : End) → IsMode e.given mode → IsValidScript mode e.inputs script → IsFaultless script e → EndsWell e.status }
 {}
 
 /// Want of memory is no kind of a bad data file, nor of a line that is no op, nor of an op that is refused. The call does nothing.
 pub fn no_kind_is_want_of_memory()
-    ensures { (given : Given) (mode : Option Mode) (status : Status) (turns : List Turn) (bytes : List ℕ) (source : Drawn) → Comes given mode status turns bytes source
+    ensures { (given : Given) (mode : Option Mode) (status : Status) (inputs : List Input) (bytes : List ℕ) (source : Drawn) → Comes given mode status inputs bytes source
         → TellsNoMemory status }
 {
     no_line_says_want_of_memory();

@@ -16,8 +16,8 @@ use Rattle.rd_objects.specs.declared.run.Spec.{Spec}
 use Rattle.rd_objects.specs.declared.run.Spec.TheVariants.{Text, Width, Align}
 use Rattle.rd_text.specs.Texts.{is_newline}
 use Rattle.rd_glyphs.specs.Characters.{PartValues, element_of, glyph_elements, tab_of, own_looks, entry_of, elements_by, elements_of}
-use Rattle.rd_glyphs.specs.Marks.{joined}
-use Rattle.rd_glyphs.proofs.Joined.{Grows, joined-all}
+use Rattle.rd_glyphs.specs.Marks.{marks_joined}
+use Rattle.rd_glyphs.proofs.Joined.{Grows, marks_joined-all}
 use Rattle.rd_props.specs.Seen.{Seen}
 use Rattle.rd_props.specs.declared.hiding.Hidden.{Hidden}
 use Rattle.rd_props.specs.declared.hiding.Hidden.TheVariants.{No, Plain, Ellipsis}
@@ -30,8 +30,8 @@ use Rattle.rd_items.specs.declared.item.ItemKind.TheVariants as item
 use Rattle.rd_items.specs.declared.piece.Piece.{Piece}
 use Rattle.rd_levels.specs.declared.turn.Turn.{Turn}
 use Rattle.rd_stack.specs.Strings.{place_of, places_from, run_heads, ends_row, part_by, part_of, part_joins, shown_by, shown_at, row, row_end, rows_from, string_parts}
-use Rattle.rd_stack.specs.Shown.{space_elements, kind_elements, inner_elements, inner, middle_by, middle_elements, middle, outside, prefix, AreColoured}
-use Rattle.rd_stack.specs.Lines.{ellipsis_glyphs, text_elements, outer_by, outer, origin_of, item_elements, item_turns, line_elements}
+use Rattle.rd_stack.specs.Shown.{space_elements, kind_elements, display_part_elements, display_elements, overlay_part_by, overlay_part_elements, overlay_elements, outside, prefix, AreColoured}
+use Rattle.rd_stack.specs.Lines.{ellipsis_glyphs, text_elements, item_elements_by, turn_elements, origin_of, item_elements, item_turns, line_elements}
 use Rattle.rd_stack.specs.declared.part.Place.{Place}
 use Rattle.rd_stack.specs.declared.part.Part.{Part}
 use Rattle.rd_stack.specs.declared.part.Shown.{Shown}
@@ -125,7 +125,7 @@ module _ (s : Scene) (base : ℕ) where
   grows held next glyph these those e = these
 
   row-coloured : (xs : List Part) → AllByRecursion PartColours xs → AllByRecursion ShownColours (row s base xs)
-  row-coloured xs all = turned-coloured (joined part_joins xs) _ (joined-all part_joins PartColours grows xs all)
+  row-coloured xs all = turned-coloured (marks_joined part_joins xs) _ (marks_joined-all part_joins PartColours grows xs all)
 
   rows-coloured : (xs : List Part) (ps : List Place) → AllByRecursion PartColours xs → AllByRecursion PlaceColours ps → AllByRecursion ShownColours (rows_from s base xs ps)
   rows-coloured xs [] all places = row-coloured xs all
@@ -208,7 +208,7 @@ module _ (s : Scene) where
 
   items-coloured : (es : List Seen) → AllByRecursion (λ (e : Seen). HasColours e.face) es → AllByRecursion ItemColours (items_of s es)
   items-coloured es all =
-      covering-coloured 0 (joined piece_joins (pieces_from s 0 0 es)) (joined-all piece_joins PieceColours pieces-grow (pieces_from s 0 0 es) (pieces-coloured 0 0 es all))
+      covering-coloured 0 (marks_joined piece_joins (pieces_from s 0 0 es)) (marks_joined-all piece_joins PieceColours pieces-grow (pieces_from s 0 0 es) (pieces-coloured 0 0 es all))
 
 -- ---- lines and prefixes
 
@@ -222,29 +222,29 @@ module _ (own : (text : TextValue) (i : ℕ) → IsString text → HasColours (f
   string-at : (n : ℕ) → IfSome (slice_get s.objects.strings n) (λ t. IsString t)
   string-at n = found (λ (t : TextValue). IsString t) s.objects.strings n sound.strings
 
-  inner-coloured : (origin : Origin) (under : Attributes) (text : Option TextValue) → IfSome text (λ t. IsString t) → HasColours under → AreColoured (inner s base origin under text)
-  inner-coloured origin under None is h = All-nil IsColoured
-  inner-coloured origin under (Some text) is h =
-      each (inner_elements s origin) ShownColours (λ x own. part-coloured s x.kind x.face x.odd origin own) (string_parts s base false text under) (string-coloured false text under is h)
+  display-coloured : (origin : Origin) (under : Attributes) (text : Option TextValue) → IfSome text (λ t. IsString t) → HasColours under → AreColoured (display_elements s base origin under text)
+  display-coloured origin under None is h = All-nil IsColoured
+  display-coloured origin under (Some text) is h =
+      each (display_part_elements s origin) ShownColours (λ x own. part-coloured s x.kind x.face x.odd origin own) (string_parts s base false text under) (string-coloured false text under is h)
 
-  middle-part : (origin : Origin) (k : PartKind) (face : Attributes) (odd : Bool) → HasColours face → AreColoured (middle_by s base origin k face odd)
-  middle-part origin (kind.Replaced (Text n)) face odd h = inner-coloured origin face (slice_get s.objects.strings n) (string-at n) h
-  middle-part origin (kind.Replaced (Width n)) face odd h = part-coloured s (kind.Replaced (Width n)) face odd origin h
-  middle-part origin (kind.Replaced (Align n)) face odd h = part-coloured s (kind.Replaced (Align n)) face odd origin h
-  middle-part origin (kind.Char c) face odd h = part-coloured s (kind.Char c) face odd origin h
-  middle-part origin (kind.Marked g) face odd h = part-coloured s (kind.Marked g) face odd origin h
-  middle-part origin kind.RowEnd face odd h = part-coloured s kind.RowEnd face odd origin h
+  overlay-part : (origin : Origin) (k : PartKind) (face : Attributes) (odd : Bool) → HasColours face → AreColoured (overlay_part_by s base origin k face odd)
+  overlay-part origin (kind.Replaced (Text n)) face odd h = display-coloured origin face (slice_get s.objects.strings n) (string-at n) h
+  overlay-part origin (kind.Replaced (Width n)) face odd h = part-coloured s (kind.Replaced (Width n)) face odd origin h
+  overlay-part origin (kind.Replaced (Align n)) face odd h = part-coloured s (kind.Replaced (Align n)) face odd origin h
+  overlay-part origin (kind.Char c) face odd h = part-coloured s (kind.Char c) face odd origin h
+  overlay-part origin (kind.Marked g) face odd h = part-coloured s (kind.Marked g) face odd origin h
+  overlay-part origin kind.RowEnd face odd h = part-coloured s kind.RowEnd face odd origin h
 
-  middle-coloured : (origin : Origin) (under : Attributes) (text : Option TextValue) → IfSome text (λ t. IsString t) → HasColours under → AreColoured (middle s base origin under text)
-  middle-coloured origin under None is h = All-nil IsColoured
-  middle-coloured origin under (Some text) is h =
-      each (middle_elements s base origin) ShownColours (λ x own. middle-part origin x.kind x.face x.odd own) (string_parts s base true text under) (string-coloured true text under is h)
+  overlay-coloured : (origin : Origin) (under : Attributes) (text : Option TextValue) → IfSome text (λ t. IsString t) → HasColours under → AreColoured (overlay_elements s base origin under text)
+  overlay-coloured origin under None is h = All-nil IsColoured
+  overlay-coloured origin under (Some text) is h =
+      each (overlay_part_elements s base origin) ShownColours (λ x own. overlay-part origin x.kind x.face x.odd own) (string_parts s base true text under) (string-coloured true text under is h)
 
   text-coloured : (overlay : Bool) (origin : Origin) (face : Attributes) (n : ℕ) → HasColours face → AreColoured (text_elements s base overlay origin face (slice_get s.objects.strings n))
-  text-coloured true origin face n h = middle-coloured origin face (slice_get s.objects.strings n) (string-at n) h
-  text-coloured false origin face n h = inner-coloured origin face (slice_get s.objects.strings n) (string-at n) h
+  text-coloured true origin face n h = overlay-coloured origin face (slice_get s.objects.strings n) (string-at n) h
+  text-coloured false origin face n h = display-coloured origin face (slice_get s.objects.strings n) (string-at n) h
 
-  kind-coloured : (k : ItemKind) (overlay odd : Bool) (face : Attributes) (origin : Origin) → HasColours face → AreColoured (outer_by s base k overlay odd face origin)
+  kind-coloured : (k : ItemKind) (overlay odd : Bool) (face : Attributes) (origin : Origin) → HasColours face → AreColoured (item_elements_by s base k overlay odd face origin)
   kind-coloured (item.Char c) overlay odd face origin h = character-coloured s.parts c odd face origin h
   kind-coloured (item.Marked g) overlay odd face origin h = one (element_of face origin (look.Glyph g)) h
   kind-coloured (item.Text n) overlay odd face origin h = text-coloured overlay origin face n h
@@ -252,15 +252,15 @@ module _ (own : (text : TextValue) (i : ℕ) → IsString text → HasColours (f
   kind-coloured item.Ellipsis overlay odd face origin h = glyphs-coloured face origin (ellipsis_glyphs s.parts.table) h
   kind-coloured item.Ender overlay odd face origin h = one (element_of face origin look.LineEnd) h
 
-  outer-coloured : (turn : Turn) (x : Option Item) → IfSome x ItemColours → AreColoured (outer s base turn x)
-  outer-coloured turn None h = All-nil IsColoured
-  outer-coloured turn (Some x) h = kind-coloured x.kind x.overlay turn.odd x.face (origin_of turn.index x) h
+  turn-coloured : (turn : Turn) (x : Option Item) → IfSome x ItemColours → AreColoured (turn_elements s base turn x)
+  turn-coloured turn None h = All-nil IsColoured
+  turn-coloured turn (Some x) h = kind-coloured x.kind x.overlay turn.odd x.face (origin_of turn.index x) h
 
   turns-coloured : (items : List Item) (turns : List Turn) → AllByRecursion ItemColours items → AreColoured (flat_map (item_elements s base items) turns)
   turns-coloured items [] all = All-nil IsColoured
   turns-coloured items (t ∷ ts) all =
       All-append IsColoured (item_elements s base items t) (flat_map (item_elements s base items) ts)
-      (outer-coloured t (slice_get items t.index) (found-by ItemColours items t.index all)) (turns-coloured items ts all)
+      (turn-coloured t (slice_get items t.index) (found-by ItemColours items t.index all)) (turns-coloured items ts all)
 
   pub line-coloured : (es : List Seen) → All (λ e. HasColours e.face) es → AreColoured (line_elements s base es)
   line-coloured es all =
@@ -269,4 +269,4 @@ module _ (own : (text : TextValue) (i : ℕ) → IsString text → HasColours (f
   pub prefix-coloured : (number : ℕ) → AreColoured (prefix s base number)
   prefix-coloured number =
       let text = slice_get s.objects.strings number in
-      before-each IsColoured (inner s base outside plain text) (inner-coloured outside plain text (string-at number) plain-coloured)
+      before-each IsColoured (display_elements s base outside plain text) (display-coloured outside plain text (string-at number) plain-coloured)

@@ -22,7 +22,7 @@ use Rattle.rd_glyphs.specs.declared.shown.Shown.TheVariants.{Caret, Octal, Space
 use Rattle.rd_glyphs.specs.Characters.{PartValues, element_of, glyph_elements, tab_of, narrow, digit, on_blank, looks_of, own_looks, slot_or, mirrored, shown_as, entry_of, elements_by, elements_of}
 use Rattle.rd_items.specs.Pieces.{Scene}
 use Rattle.rd_stack.specs.Strings.{string_parts}
-use Rattle.rd_stack.specs.Shown.{space_elements, kind_elements, inner_elements, inner, middle_by, middle_elements, before_row_end, is_row_end, AreOpen}
+use Rattle.rd_stack.specs.Shown.{space_elements, kind_elements, display_part_elements, display_elements, overlay_part_by, overlay_part_elements, before_row_end, is_row_end, AreOpen}
 use Rattle.rd_stack.specs.Lines.{text_elements}
 use Rattle.rd_stack.specs.declared.part.PartKind.{PartKind}
 use Rattle.rd_stack.specs.declared.part.PartKind.TheVariants as kind
@@ -83,24 +83,24 @@ part-open s (kind.Marked g) face odd origin = open-one (element_of face origin (
 part-open s (kind.Replaced spec) face odd origin = space-open spec face origin
 part-open s kind.RowEnd face odd origin = open-one (element_of face origin look.RowEnd) refl
 
-pub inner-open : (s : Scene) (base : ℕ) (origin : Origin) (under : Attributes) (text : Option TextValue) → AreOpen (inner s base origin under text)
-inner-open s base origin under None = All-nil IsOpen
-inner-open s base origin under (Some text) =
-    open-each (inner_elements s origin) (λ x. part-open s x.kind x.face x.odd origin) (string_parts s base false text under)
+pub display-open : (s : Scene) (base : ℕ) (origin : Origin) (under : Attributes) (text : Option TextValue) → AreOpen (display_elements s base origin under text)
+display-open s base origin under None = All-nil IsOpen
+display-open s base origin under (Some text) =
+    open-each (display_part_elements s origin) (λ x. part-open s x.kind x.face x.odd origin) (string_parts s base false text under)
 
-middle-part-open : (s : Scene) (base : ℕ) (origin : Origin) (k : PartKind) (face : Attributes) (odd : Bool) → AreOpen (middle_by s base origin k face odd)
-middle-part-open s base origin (kind.Replaced (Text n)) face odd = inner-open s base origin face (slice_get s.objects.strings n)
-middle-part-open s base origin (kind.Replaced (Width n)) face odd = part-open s (kind.Replaced (Width n)) face odd origin
-middle-part-open s base origin (kind.Replaced (Align n)) face odd = part-open s (kind.Replaced (Align n)) face odd origin
-middle-part-open s base origin (kind.Char c) face odd = part-open s (kind.Char c) face odd origin
-middle-part-open s base origin (kind.Marked g) face odd = part-open s (kind.Marked g) face odd origin
-middle-part-open s base origin kind.RowEnd face odd = part-open s kind.RowEnd face odd origin
+overlay-part-open : (s : Scene) (base : ℕ) (origin : Origin) (k : PartKind) (face : Attributes) (odd : Bool) → AreOpen (overlay_part_by s base origin k face odd)
+overlay-part-open s base origin (kind.Replaced (Text n)) face odd = display-open s base origin face (slice_get s.objects.strings n)
+overlay-part-open s base origin (kind.Replaced (Width n)) face odd = part-open s (kind.Replaced (Width n)) face odd origin
+overlay-part-open s base origin (kind.Replaced (Align n)) face odd = part-open s (kind.Replaced (Align n)) face odd origin
+overlay-part-open s base origin (kind.Char c) face odd = part-open s (kind.Char c) face odd origin
+overlay-part-open s base origin (kind.Marked g) face odd = part-open s (kind.Marked g) face odd origin
+overlay-part-open s base origin kind.RowEnd face odd = part-open s kind.RowEnd face odd origin
 
 pub text-open : (s : Scene) (base : ℕ) (overlay : Bool) (origin : Origin) (face : Attributes) (text : Option TextValue) → AreOpen (text_elements s base overlay origin face text)
 text-open s base true origin face None = All-nil IsOpen
 text-open s base true origin face (Some text) =
-    open-each (middle_elements s base origin) (λ x. middle-part-open s base origin x.kind x.face x.odd) (string_parts s base true text face)
-text-open s base false origin face text = inner-open s base origin face text
+    open-each (overlay_part_elements s base origin) (λ x. overlay-part-open s base origin x.kind x.face x.odd) (string_parts s base true text face)
+text-open s base false origin face text = display-open s base origin face text
 
 -- what holds of each element holds of each before the first end of a row
 pub before-each : (P : Element → Type 0) (es : List Element) → All P es → All P (before_row_end es)

@@ -10,8 +10,8 @@ use Rattle.rd_base.specs.declared.class.Class.TheVariants.{B, S, ON}
 use Rattle.rd_objects.specs.declared.run.Spec.{Spec}
 use Rattle.rd_objects.specs.declared.run.Spec.TheVariants.{Text, Width, Align}
 use Rattle.rd_text.specs.Texts.{is_newline}
-use Rattle.rd_glyphs.specs.Marks.{joined}
-use Rattle.rd_glyphs.proofs.Joined.{Grows, joined-all}
+use Rattle.rd_glyphs.specs.Marks.{marks_joined}
+use Rattle.rd_glyphs.proofs.Joined.{Grows, marks_joined-all}
 use Rattle.rd_props.specs.Seen.{Seen}
 use Rattle.rd_props.specs.declared.hiding.Hidden.{Hidden}
 use Rattle.rd_props.specs.declared.hiding.Hidden.TheVariants.{No, Plain, Ellipsis}
@@ -23,7 +23,7 @@ use Rattle.rd_items.specs.declared.item.ItemKind.{ItemKind}
 use Rattle.rd_items.specs.declared.item.ItemKind.TheVariants as kind
 use Rattle.rd_items.specs.declared.piece.Piece.{Piece}
 use Rattle.rd_stack.specs.Limits.{strings_in}
-use Rattle.rd_stack.proofs.Joined.{joined-few}
+use Rattle.rd_stack.proofs.Joined.{marks_joined-few}
 use Rattle.rd_stack.proofs.Lists.{all-append}
 
 -- what holds of whatever a position can give, where its character is one of these
@@ -91,7 +91,7 @@ module _ (R : Class → ItemKind → Type 0) (C : ℕ → Type 0) (s : Scene) (g
 
   pub items-hold : (es : List Seen) → AllByRecursion (λ (e : Seen). IfSome e.character C) es → AllByRecursion (λ (i : Item). R i.class i.kind) (items_of s es)
   items-hold es codes =
-      covering-holds 0 (joined piece_joins (pieces_from s 0 0 es)) (joined-all piece_joins Holds grows (pieces_from s 0 0 es) (pieces-hold 0 0 es codes))
+      covering-holds 0 (marks_joined piece_joins (pieces_from s 0 0 es)) (marks_joined-all piece_joins Holds grows (pieces_from s 0 0 es) (pieces-hold 0 0 es codes))
 
 -- whatever is read
 pub all-read : (es : List Seen) → AllByRecursion (λ (e : Seen). IfSome e.character (λ c. Unit {0})) es
@@ -126,6 +126,6 @@ covering-few since (x ∷ xs) = by-few since x x.kind (covering (covered_to sinc
 pub items-few : (s : Scene) (es : List Seen) → length (items_of s es) ≤ length es + strings_in es
 items-few s es =
     let pieces = pieces-few s 0 0 es in
-    let joins = joined-few piece_joins (pieces_from s 0 0 es) in
-    let covers = covering-few 0 (joined piece_joins (pieces_from s 0 0 es)) in
+    let joins = marks_joined-few piece_joins (pieces_from s 0 0 es) in
+    let covers = covering-few 0 (marks_joined piece_joins (pieces_from s 0 0 es)) in
     omega (arith, pieces, joins, covers)

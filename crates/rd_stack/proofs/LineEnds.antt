@@ -22,7 +22,7 @@ use Rattle.rd_items.specs.declared.item.Item.{Item}
 use Rattle.rd_items.specs.declared.item.ItemKind.{ItemKind}
 use Rattle.rd_items.specs.declared.item.ItemKind.TheVariants as item
 use Rattle.rd_stack.specs.Shown.{AreOpen}
-use Rattle.rd_stack.specs.Lines.{ellipsis_glyphs, outer_by, outer, origin_of, item_elements, item_class, item_code, item_turns, line_of_items}
+use Rattle.rd_stack.specs.Lines.{ellipsis_glyphs, item_elements_by, turn_elements, origin_of, item_elements, item_class, item_code, item_turns, line_of_items}
 use Rattle.rd_stack.proofs.Ends.{open-one, glyphs-open, character-open, space-open, text-open}
 use Rattle.rd_stack.proofs.Enders.{EndsAsB}
 
@@ -58,7 +58,7 @@ ended (x ∷ y ∷ xs) once fine =
     record { front = x ∷ rest.front; last = rest.last; whole = ap (λ l. x ∷ l) rest.whole; ends = rest.ends; class = rest.class; others = (once.0, rest.others) }
 
 module _ (s : Scene) (base : ℕ) where
-  kind-open : (k : ItemKind) (overlay odd : Bool) (face : Attributes) (origin : Origin) → is_ender_kind k ≡ false → AreOpen (outer_by s base k overlay odd face origin)
+  kind-open : (k : ItemKind) (overlay odd : Bool) (face : Attributes) (origin : Origin) → is_ender_kind k ≡ false → AreOpen (item_elements_by s base k overlay odd face origin)
   kind-open (item.Char c) overlay odd face origin other = character-open s.parts c odd face origin
   kind-open (item.Marked g) overlay odd face origin other = open-one (element_of face origin (look.Glyph g)) refl
   kind-open (item.Text n) overlay odd face origin other = text-open s base overlay origin face (slice_get s.objects.strings n)
@@ -66,7 +66,7 @@ module _ (s : Scene) (base : ℕ) where
   kind-open item.Ellipsis overlay odd face origin other = glyphs-open face origin (ellipsis_glyphs s.parts.table)
   kind-open item.Ender overlay odd face origin other = absurd (let q : true ≡ false = other in cc)
 
-  kind-ends : (k : ItemKind) (overlay odd : Bool) (face : Attributes) (origin : Origin) → is_ender_kind k ≡ true → outer_by s base k overlay odd face origin ≡ element_of face origin look.LineEnd ∷ []
+  kind-ends : (k : ItemKind) (overlay odd : Bool) (face : Attributes) (origin : Origin) → is_ender_kind k ≡ true → item_elements_by s base k overlay odd face origin ≡ element_of face origin look.LineEnd ∷ []
   kind-ends item.Ender overlay odd face origin is = refl
   kind-ends (item.Char c) overlay odd face origin is = absurd (let q : false ≡ true = is in cc)
   kind-ends (item.Marked g) overlay odd face origin is = absurd (let q : false ≡ true = is in cc)
@@ -74,12 +74,12 @@ module _ (s : Scene) (base : ℕ) where
   kind-ends (item.Space spec) overlay odd face origin is = absurd (let q : false ≡ true = is in cc)
   kind-ends item.Ellipsis overlay odd face origin is = absurd (let q : false ≡ true = is in cc)
 
-  open-at : (front : List Item) (last : Item) (turn : Turn) → AllByRecursion (λ (x : Item). is_ender_kind x.kind ≡ false) front → (i : ℕ) → i < length front → AreOpen (outer s base turn (slice_get (front ++ last ∷ []) i))
+  open-at : (front : List Item) (last : Item) (turn : Turn) → AllByRecursion (λ (x : Item). is_ender_kind x.kind ≡ false) front → (i : ℕ) → i < length front → AreOpen (turn_elements s base turn (slice_get (front ++ last ∷ []) i))
   open-at [] last turn each i inside = absurd (omega arith)
   open-at (x ∷ xs) last turn each zero inside = kind-open x.kind x.overlay turn.odd x.face (origin_of turn.index x) each.0
   open-at (x ∷ xs) last turn each (suc i) inside = open-at xs last turn each.1 i (omega arith)
 
-  end-at : (front : List Item) (last : Item) (turn : Turn) → outer s base turn (slice_get (front ++ last ∷ []) (length front)) ≡ outer s base turn (Some last)
+  end-at : (front : List Item) (last : Item) (turn : Turn) → turn_elements s base turn (slice_get (front ++ last ∷ []) (length front)) ≡ turn_elements s base turn (Some last)
   end-at [] last turn = refl
   end-at (x ∷ xs) last turn = end-at xs last turn
 
@@ -99,7 +99,7 @@ module _ (s : Scene) (base : ℕ) where
       let end = element_of last.face (origin_of comes.last.index last) look.LineEnd in
       let place : comes.last.index ≡ length front = comes.index ∙ size in
       let given : f comes.last ≡ end ∷ [] =
-      ap (λ i. outer s base comes.last (slice_get (front ++ last ∷ []) i)) place ∙ end-at front last comes.last
+      ap (λ i. turn_elements s base comes.last (slice_get (front ++ last ∷ []) i)) place ∙ end-at front last comes.last
       ∙ kind-ends last.kind last.overlay comes.last.odd last.face (origin_of comes.last.index last) ends in
       ap (λ ts. ends_once (flat_map f ts)) comes.whole
       ∙ ap ends_once (flat_map-append f comes.front (comes.last ∷ []) ∙ ap (λ l. flat_map f comes.front ++ l) (append-nil (f comes.last) ∙ given))

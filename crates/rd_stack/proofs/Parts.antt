@@ -17,9 +17,9 @@ use Rattle.rd_objects.specs.declared.run.Spec.{Spec}
 use Rattle.rd_objects.specs.declared.run.Spec.TheVariants.{Width}
 use Rattle.rd_glyphs.specs.Characters.{PartValues}
 use Rattle.rd_glyphs.specs.Joining.{joining_of, base_of, mark_of, IsMark, IsMeasuredJoining}
-use Rattle.rd_glyphs.specs.Marks.{marked_glyph, joined}
+use Rattle.rd_glyphs.specs.Marks.{marked_glyph, marks_joined}
 use Rattle.rd_glyphs.specs.declared.joining.Joining.{Joining}
-use Rattle.rd_glyphs.proofs.Joined.{Grows, joined-all}
+use Rattle.rd_glyphs.proofs.Joined.{Grows, marks_joined-all}
 use Rattle.rd_items.specs.Pieces.{Scene, spec_in, same_spec}
 use Rattle.rd_levels.specs.Turns.{turns_of}
 use Rattle.rd_levels.specs.declared.turn.Turn.{Turn}
@@ -31,7 +31,7 @@ use Rattle.rd_stack.specs.declared.part.PartKind.{PartKind}
 use Rattle.rd_stack.specs.declared.part.PartKind.TheVariants as kind
 use Rattle.rd_stack.proofs.Good.{found-by, found}
 use Rattle.rd_stack.proofs.Lists.{all-append}
-use Rattle.rd_stack.proofs.Joined.{joined-few}
+use Rattle.rd_stack.proofs.Joined.{marks_joined-few}
 use Rattle.rd_stack.proofs.TurnCounts.{LevelsLaw, turns-count}
 
 -- what is known of marks
@@ -118,12 +118,12 @@ module _ (laws : MarkLaws) (levels : LevelsLaw) (s : Scene) (base : ℕ) (sound 
 
   row-fit : (xs : List Part) → AllByRecursion IsFitPart xs → AreFit (length xs) (row s base xs)
   row-fit xs all =
-      let ys = joined part_joins xs in
+      let ys = marks_joined part_joins xs in
       let turns = turns_of s.brackets s.parts.settings.reorder base (map part_class ys) (map part_code ys) in
       let count : length turns ≡ length ys = turns-count levels s.brackets s.parts.settings.reorder base (map part_class ys) (map part_code ys) ∙ length-map ys part_class in
-      let less = joined-few part_joins xs in
+      let less = marks_joined-few part_joins xs in
       fit-more (length turns) (length xs) (in_order s base ys) (omega (arith, count, less))
-      (turned-fit ys turns (joined-all part_joins IsFitPart grows xs all))
+      (turned-fit ys turns (marks_joined-all part_joins IsFitPart grows xs all))
 
   -- ---- rows
 

@@ -6,7 +6,7 @@ use Rattle.rd_base.specs.Elements.{Takes}
 use Rattle.rd_base.specs.declared.element.Element.{Element}
 use Rattle.rd_base.specs.Faces.{plain}
 use Rattle.rd_items.specs.Pieces.{Scene}
-use Rattle.rd_stack.specs.Shown.{inner, outside, prefix, is_row_end, before_row_end, AreOpen, AreRight, AreInside, AreOfOneRow}
+use Rattle.rd_stack.specs.Shown.{display_elements, outside, prefix, is_row_end, before_row_end, AreOpen, AreRight, AreInside, AreOfOneRow}
 use Rattle.rd_stack.specs.Steps.{text_steps, elements_in}
 use Rattle.rd_stack.proofs.Elements.{text-elements}
 
@@ -47,7 +47,7 @@ module _ (s : Scene) (base number : ℕ) (found : Option (List (List Element))) 
       let nothing : [] ≡ text_steps s base false outside plain (slice_get s.objects.strings number) = ap (λ f. unwrap_or f []) (sym none) ∙ made in
       ap (λ steps. before_row_end (elements_in steps)) nothing ∙ ap before_row_end (text-elements s base outside false plain (slice_get s.objects.strings number))
 
-  pub prefix-some : (steps : List (List Element)) → found ≡ Some steps → elements_in steps ≡ inner s base outside plain (slice_get s.objects.strings number)
+  pub prefix-some : (steps : List (List Element)) → found ≡ Some steps → elements_in steps ≡ display_elements s base outside plain (slice_get s.objects.strings number)
   prefix-some steps some =
       let all : steps ≡ text_steps s base false outside plain (slice_get s.objects.strings number) = ap (λ f. unwrap_or f []) (sym some) ∙ made in
       ap elements_in all ∙ text-elements s base outside false plain (slice_get s.objects.strings number)

@@ -33,9 +33,9 @@ use Rattle.rd_items.specs.declared.item.ItemKind.TheVariants as item
 use Rattle.rd_props.specs.Seen.{Seen}
 use Rattle.rd_levels.specs.declared.turn.Turn.{Turn}
 use Rattle.rd_stack.specs.Strings.{string_parts}
-use Rattle.rd_stack.specs.Shown.{space_elements, kind_elements, inner_elements, inner, middle_by, middle_elements, middle, before_row_end, is_row_end, outside, prefix, IsRight}
-use Rattle.rd_stack.specs.Lines.{ellipsis_glyphs, text_elements, outer_by, outer, origin_of, item_elements, item_class, item_code, item_turns, line_of_items, line_elements, IsCodedKind, AreCodedItems}
-use Rattle.rd_stack.specs.Limits.{AreFew, AreRightWithin, most_inner_columns, most_middle_columns, most_columns}
+use Rattle.rd_stack.specs.Shown.{space_elements, kind_elements, display_part_elements, display_elements, overlay_part_by, overlay_part_elements, overlay_elements, before_row_end, is_row_end, outside, prefix, IsRight}
+use Rattle.rd_stack.specs.Lines.{ellipsis_glyphs, text_elements, item_elements_by, turn_elements, origin_of, item_elements, item_class, item_code, item_turns, line_of_items, line_elements, IsCodedKind, AreCodedItems}
+use Rattle.rd_stack.specs.Limits.{AreFew, AreRightWithin, most_display_columns, most_overlay_columns, most_columns}
 use Rattle.rd_stack.specs.declared.part.PartKind.{PartKind}
 use Rattle.rd_stack.specs.declared.part.PartKind.TheVariants as kind
 use Rattle.rd_stack.proofs.Ends.{before-each}
@@ -145,7 +145,7 @@ text-good laws face origin text is =
 
 -- ---- columns
 
-pub few-columns : (s : Scene) (es : List Seen) (columns : ℕ) → AreFew es → columns ≤ length (items_of s es) * most_middle_columns → columns ≤ most_columns
+pub few-columns : (s : Scene) (es : List Seen) (columns : ℕ) → AreFew es → columns ≤ length (items_of s es) * most_overlay_columns → columns ≤ most_columns
 few-columns s es columns few own = let items = items-few s es in omega (arith, items, few, own)
 
 pub below : (columns : ℕ) → columns ≤ most_columns → columns < 2 ^ 60
@@ -173,77 +173,77 @@ module _ (laws : GlyphLaws) (marks : MarkLaws) (levels : LevelsLaw) (s : Scene) 
   many : (n most : ℕ) (es : List Element) → n ≤ STRING_CHARACTERS → AreRightWithin (n * most) es → AreRightWithin (STRING_CHARACTERS * most) es
   many n most es few good = good-more (n * most) (STRING_CHARACTERS * most) es (mul-le-mul_right most few) good
 
-  inner-good : (origin : Origin) (under : Attributes) (text : Option TextValue) → IfSome text (λ t. IsString t) → AreRightWithin most_inner_columns (inner s base origin under text)
-  inner-good origin under None is = good-nil most_inner_columns
-  inner-good origin under (Some text) is =
+  display-good : (origin : Origin) (under : Attributes) (text : Option TextValue) → IfSome text (λ t. IsString t) → AreRightWithin most_display_columns (display_elements s base origin under text)
+  display-good origin under None is = good-nil most_display_columns
+  display-good origin under (Some text) is =
       let xs = string_parts s base false text under in
       let fit = string-fit marks levels s base sound false text under is in
-      many (length xs) SPACE_COLUMNS (inner s base origin under (Some text)) fit.few
-      (good-each (inner_elements s origin) IsFitShown SPACE_COLUMNS (λ x own. part-good x.kind x.face x.odd origin own) xs fit.each)
+      many (length xs) SPACE_COLUMNS (display_elements s base origin under (Some text)) fit.few
+      (good-each (display_part_elements s origin) IsFitShown SPACE_COLUMNS (λ x own. part-good x.kind x.face x.odd origin own) xs fit.each)
 
   string-at : (n : ℕ) → IfSome (slice_get s.objects.strings n) (λ t. IsString t)
   string-at n = found (λ (t : TextValue). IsString t) s.objects.strings n sound.strings
 
-  inner-part : (k : PartKind) (face : Attributes) (odd : Bool) (origin : Origin) → IsFitKind k → AreRightWithin most_inner_columns (kind_elements s k face odd origin)
-  inner-part k face odd origin fit = good-more SPACE_COLUMNS most_inner_columns (kind_elements s k face odd origin) (omega arith) (part-good k face odd origin fit)
+  display-part : (k : PartKind) (face : Attributes) (odd : Bool) (origin : Origin) → IsFitKind k → AreRightWithin most_display_columns (kind_elements s k face odd origin)
+  display-part k face odd origin fit = good-more SPACE_COLUMNS most_display_columns (kind_elements s k face odd origin) (omega arith) (part-good k face odd origin fit)
 
-  middle-part : (origin : Origin) (k : PartKind) (face : Attributes) (odd : Bool) → IsFitKind k → AreRightWithin most_inner_columns (middle_by s base origin k face odd)
-  middle-part origin (kind.Replaced (Text n)) face odd fit = inner-good origin face (slice_get s.objects.strings n) (string-at n)
-  middle-part origin (kind.Replaced (Width n)) face odd fit = inner-part (kind.Replaced (Width n)) face odd origin fit
-  middle-part origin (kind.Replaced (Align n)) face odd fit = inner-part (kind.Replaced (Align n)) face odd origin fit
-  middle-part origin (kind.Char c) face odd fit = inner-part (kind.Char c) face odd origin fit
-  middle-part origin (kind.Marked g) face odd fit = inner-part (kind.Marked g) face odd origin fit
-  middle-part origin kind.RowEnd face odd fit = inner-part kind.RowEnd face odd origin fit
+  overlay-part : (origin : Origin) (k : PartKind) (face : Attributes) (odd : Bool) → IsFitKind k → AreRightWithin most_display_columns (overlay_part_by s base origin k face odd)
+  overlay-part origin (kind.Replaced (Text n)) face odd fit = display-good origin face (slice_get s.objects.strings n) (string-at n)
+  overlay-part origin (kind.Replaced (Width n)) face odd fit = display-part (kind.Replaced (Width n)) face odd origin fit
+  overlay-part origin (kind.Replaced (Align n)) face odd fit = display-part (kind.Replaced (Align n)) face odd origin fit
+  overlay-part origin (kind.Char c) face odd fit = display-part (kind.Char c) face odd origin fit
+  overlay-part origin (kind.Marked g) face odd fit = display-part (kind.Marked g) face odd origin fit
+  overlay-part origin kind.RowEnd face odd fit = display-part kind.RowEnd face odd origin fit
 
-  middle-good : (origin : Origin) (under : Attributes) (text : Option TextValue) → IfSome text (λ t. IsString t) → AreRightWithin most_middle_columns (middle s base origin under text)
-  middle-good origin under None is = good-nil most_middle_columns
-  middle-good origin under (Some text) is =
+  overlay-good : (origin : Origin) (under : Attributes) (text : Option TextValue) → IfSome text (λ t. IsString t) → AreRightWithin most_overlay_columns (overlay_elements s base origin under text)
+  overlay-good origin under None is = good-nil most_overlay_columns
+  overlay-good origin under (Some text) is =
       let xs = string_parts s base true text under in
       let fit = string-fit marks levels s base sound true text under is in
-      many (length xs) most_inner_columns (middle s base origin under (Some text)) fit.few
-      (good-each (middle_elements s base origin) IsFitShown most_inner_columns (λ x own. middle-part origin x.kind x.face x.odd own) xs fit.each)
+      many (length xs) most_display_columns (overlay_elements s base origin under (Some text)) fit.few
+      (good-each (overlay_part_elements s base origin) IsFitShown most_display_columns (λ x own. overlay-part origin x.kind x.face x.odd own) xs fit.each)
 
   -- ---- items
 
-  in-line : (few : ℕ) (es : List Element) → few ≤ most_middle_columns → AreRightWithin few es → AreRightWithin most_middle_columns es
-  in-line few es room good = good-more few most_middle_columns es room good
+  in-line : (few : ℕ) (es : List Element) → few ≤ most_overlay_columns → AreRightWithin few es → AreRightWithin most_overlay_columns es
+  in-line few es room good = good-more few most_overlay_columns es room good
 
-  string-good : (overlay : Bool) (origin : Origin) (face : Attributes) (n : ℕ) → AreRightWithin most_middle_columns (text_elements s base overlay origin face (slice_get s.objects.strings n))
-  string-good true origin face n = middle-good origin face (slice_get s.objects.strings n) (string-at n)
+  string-good : (overlay : Bool) (origin : Origin) (face : Attributes) (n : ℕ) → AreRightWithin most_overlay_columns (text_elements s base overlay origin face (slice_get s.objects.strings n))
+  string-good true origin face n = overlay-good origin face (slice_get s.objects.strings n) (string-at n)
   string-good false origin face n =
       let text = slice_get s.objects.strings n in
-      in-line most_inner_columns (inner s base origin face text) (omega arith) (inner-good origin face text (string-at n))
+      in-line most_display_columns (display_elements s base origin face text) (omega arith) (display-good origin face text (string-at n))
 
-  kind-good : (k : ItemKind) (overlay odd : Bool) (face : Attributes) (origin : Origin) → IsFitItem k → AreRightWithin most_middle_columns (outer_by s base k overlay odd face origin)
+  kind-good : (k : ItemKind) (overlay odd : Bool) (face : Attributes) (origin : Origin) → IsFitItem k → AreRightWithin most_overlay_columns (item_elements_by s base k overlay odd face origin)
   kind-good (item.Char c) overlay odd face origin fit = in-line 48 (elements_of s.parts c odd face origin) (omega arith) (char-good laws s.parts parts c odd face origin fit)
-  kind-good (item.Marked g) overlay odd face origin fit = glyph-good most_middle_columns g face origin fit (omega arith)
+  kind-good (item.Marked g) overlay odd face origin fit = glyph-good most_overlay_columns g face origin fit (omega arith)
   kind-good (item.Text n) overlay odd face origin fit = string-good overlay origin face n
   kind-good (item.Space spec) overlay odd face origin fit = in-line SPACE_COLUMNS (space_elements spec face origin) (omega arith) (space-good spec face origin fit)
   kind-good item.Ellipsis overlay odd face origin fit =
       let glyphs = ellipsis_glyphs s.parts.table in
       in-line 48 (glyph_elements face origin glyphs) (omega arith) (text-good laws face origin glyphs (ellipsis-fit s.parts.table parts.table))
-  kind-good item.Ender overlay odd face origin fit = good-one most_middle_columns (element_of face origin look.LineEnd) refl tt (omega arith)
+  kind-good item.Ender overlay odd face origin fit = good-one most_overlay_columns (element_of face origin look.LineEnd) refl tt (omega arith)
 
-  outer-good : (turn : Turn) (x : Option Item) → IfSome x (λ (i : Item). IsFitItem i.kind) → AreRightWithin most_middle_columns (outer s base turn x)
-  outer-good turn None fit = good-nil most_middle_columns
-  outer-good turn (Some x) fit = kind-good x.kind x.overlay turn.odd x.face (origin_of turn.index x) fit
+  turn-good : (turn : Turn) (x : Option Item) → IfSome x (λ (i : Item). IsFitItem i.kind) → AreRightWithin most_overlay_columns (turn_elements s base turn x)
+  turn-good turn None fit = good-nil most_overlay_columns
+  turn-good turn (Some x) fit = kind-good x.kind x.overlay turn.odd x.face (origin_of turn.index x) fit
 
   -- a line of fit items
-  pub line-good : (items : List Item) → All (λ (i : Item). IsFitItem i.kind) items → AreRightWithin (length items * most_middle_columns) (line_of_items s base items)
+  pub line-good : (items : List Item) → All (λ (i : Item). IsFitItem i.kind) items → AreRightWithin (length items * most_overlay_columns) (line_of_items s base items)
   line-good items fit =
       let turns = item_turns s base items in
       let reorder = s.parts.settings.reorder in
       let count : length turns ≡ length items = turns-count levels s.brackets reorder base (map item_class items) (map item_code items) ∙ length-map items item_class in
       let each : AllByRecursion (λ (t : Turn). Unit {0}) turns = any turns in
-      good-more (length turns * most_middle_columns) (length items * most_middle_columns) (line_of_items s base items) (omega (arith, count))
-      (good-each (item_elements s base items) (λ (t : Turn). Unit {0}) most_middle_columns
-      (λ t own. outer-good t (slice_get items t.index) (found (λ (i : Item). IsFitItem i.kind) items t.index fit)) turns each) where
+      good-more (length turns * most_overlay_columns) (length items * most_overlay_columns) (line_of_items s base items) (omega (arith, count))
+      (good-each (item_elements s base items) (λ (t : Turn). Unit {0}) most_overlay_columns
+      (λ t own. turn-good t (slice_get items t.index) (found (λ (i : Item). IsFitItem i.kind) items t.index fit)) turns each) where
         any : (ts : List Turn) → AllByRecursion (λ (t : Turn). Unit {0}) ts
         any [] = tt
         any (t ∷ ts) = (tt, any ts)
 
   -- the line of what is read, where its items are measured and coded
-  pub read-good : (es : List Seen) → AreMeasuredItems (items_of s es) → AreCodedItems (items_of s es) → AreRightWithin (length (items_of s es) * most_middle_columns) (line_elements s base es)
+  pub read-good : (es : List Seen) → AreMeasuredItems (items_of s es) → AreCodedItems (items_of s es) → AreRightWithin (length (items_of s es) * most_overlay_columns) (line_elements s base es)
   read-good es measured coded =
       let small = items-small s sound es in
       line-good (items_of s es) (λ k d inside. item-fit (slice_index_or (items_of s es) k d).kind (measured k d inside) (coded k d inside) (small k d inside))
@@ -256,7 +256,7 @@ module _ (laws : GlyphLaws) (marks : MarkLaws) (levels : LevelsLaw) (s : Scene) 
       let less = before-few es in
       record { right = before-each IsRight es good.right; few = omega (arith, own, less) }
 
-  pub prefix-good : (number : ℕ) → AreRightWithin most_inner_columns (prefix s base number)
+  pub prefix-good : (number : ℕ) → AreRightWithin most_display_columns (prefix s base number)
   prefix-good number =
       let text = slice_get s.objects.strings number in
-      before-good most_inner_columns (inner s base outside plain text) (inner-good outside plain text (string-at number))
+      before-good most_display_columns (display_elements s base outside plain text) (display-good outside plain text (string-at number))

@@ -17,7 +17,7 @@ use Rattle.rd_objects.specs.Things.{ObjectLists}
 use Rattle.rd_objects.proofs.Soundness.{same_strings, same_specs, named_specs, named_strings}
 use Rattle.rd_glyphs.specs.Characters.{entry_of, elements_by, elements_of}
 use Rattle.rd_glyphs.specs.Joining.{base_of, mark_of}
-use Rattle.rd_glyphs.specs.Marks.{marked_glyph, joined_from, joined}
+use Rattle.rd_glyphs.specs.Marks.{marked_glyph, marks_joined_from, marks_joined}
 use Rattle.rd_props.specs.Seen.{Seen}
 use Rattle.rd_items.specs.Growing.{ShowsMade, ShowMade, GoesOnFrom}
 use Rattle.rd_items.specs.Items.{items_of}
@@ -26,8 +26,8 @@ use Rattle.rd_items.specs.declared.item.Item.{Item}
 use Rattle.rd_items.specs.declared.item.ItemKind.{ItemKind}
 use Rattle.rd_items.specs.declared.item.ItemKind.TheVariants as item
 use Rattle.rd_levels.specs.declared.turn.Turn.{Turn}
-use Rattle.rd_stack.specs.Lines.{text_elements, outer_by, outer, item_elements, item_turns, line_of_items, line_elements, origin_of}
-use Rattle.rd_stack.specs.Shown.{kind_elements, inner_elements, inner, middle_by, middle_elements, middle, before_row_end, outside, prefix}
+use Rattle.rd_stack.specs.Lines.{text_elements, item_elements_by, turn_elements, item_elements, item_turns, line_of_items, line_elements, origin_of}
+use Rattle.rd_stack.specs.Shown.{kind_elements, display_part_elements, display_elements, overlay_part_by, overlay_part_elements, overlay_elements, before_row_end, outside, prefix}
 use Rattle.rd_stack.specs.Strings.{place_of, places_from, run_heads, ends_row, part_by, part_of, part_joins, shown_by, shown_at, row, row_end, rows_from, string_parts}
 use Rattle.rd_stack.specs.declared.part.Part.{Part}
 use Rattle.rd_stack.specs.declared.part.PartKind.{PartKind}
@@ -88,17 +88,17 @@ module _ (s : Scene) (closed : IsClosed s.objects) where
   by-fine None p = tt
   by-fine (Some n) p = spec-fine n (slice_get s.objects.specs n) refl
 
-  joins-by : (h x : Part) (xs : List Part) → IsFine h → IsFine x → ((k : Part) → IsFine k → All IsFine (joined_from part_joins k xs)) → (glyph : Option Glyph) → marked_glyph (base_of h.joining) (mark_of x.joining) ≡ glyph
-      → All IsFine (joined_from part_joins h (x ∷ xs))
-  joins-by h x xs held next rest None e = rw e (All-cons IsFine h (joined_from part_joins x xs) held (rest x next))
+  joins-by : (h x : Part) (xs : List Part) → IsFine h → IsFine x → ((k : Part) → IsFine k → All IsFine (marks_joined_from part_joins k xs)) → (glyph : Option Glyph) → marked_glyph (base_of h.joining) (mark_of x.joining) ≡ glyph
+      → All IsFine (marks_joined_from part_joins h (x ∷ xs))
+  joins-by h x xs held next rest None e = rw e (All-cons IsFine h (marks_joined_from part_joins x xs) held (rest x next))
   joins-by h x xs held next rest (Some g) e = rw e (rest _ tt)
 
-  joins : (h : Part) (xs : List Part) → IsFine h → All IsFine xs → All IsFine (joined_from part_joins h xs)
+  joins : (h : Part) (xs : List Part) → IsFine h → All IsFine xs → All IsFine (marks_joined_from part_joins h xs)
   joins h [] held all = one IsFine h held
   joins h (x ∷ xs) held all =
       joins-by h x xs held (All-head IsFine x xs all) (λ k fine. joins k xs fine (All-tail IsFine x xs all)) (marked_glyph (base_of h.joining) (mark_of x.joining)) refl
 
-  joins-all : (xs : List Part) → All IsFine xs → All IsFine (joined part_joins xs)
+  joins-all : (xs : List Part) → All IsFine xs → All IsFine (marks_joined part_joins xs)
   joins-all [] all = all
   joins-all (x ∷ xs) all = joins x xs (All-head IsFine x xs all) (All-tail IsFine x xs all)
 
@@ -113,7 +113,7 @@ module _ (s : Scene) (closed : IsClosed s.objects) where
       (shown-fine turn.odd (slice_get xs turn.index) (found-by IsFine xs turn.index (slice_get xs turn.index) all refl)) (turns-fine xs turns all)
 
   row-fine : (base : ℕ) (xs : List Part) → All IsFine xs → All IsFineShown (row s base xs)
-  row-fine base xs all = turns-fine (joined part_joins xs) _ (joins-all xs all)
+  row-fine base xs all = turns-fine (marks_joined part_joins xs) _ (joins-all xs all)
 
   rows-fine : (base : ℕ) (xs : List Part) (ps : List Place) → All IsFine xs → All IsFineShown (rows_from s base xs ps)
   rows-fine base xs [] all = row-fine base xs all
@@ -204,63 +204,63 @@ module _ (old new : Scene) (goes : GoesOnFrom old new) (closed : IsClosed old.ob
         same-rows base [] (run_heads None (places_from replaced text under 0))
         (heads-made None (places_from replaced text under 0) (places-made replaced under (range_with_len 0 (length text.chars - 0))))
 
-    text-inner : (base : ℕ) (origin : Origin) (under : Attributes) → inner new base origin under (Some text) ≡ inner old base origin under (Some text)
-    text-inner base origin under =
-        ap (λ (xs : List Shown). flat_map (inner_elements new origin) xs) (same-string base false under)
-        ∙ flat-each (inner_elements new origin) (inner_elements old origin) (string_parts old base false text under) (λ x. same-kind x.kind x.face x.odd origin)
+    text-display : (base : ℕ) (origin : Origin) (under : Attributes) → display_elements new base origin under (Some text) ≡ display_elements old base origin under (Some text)
+    text-display base origin under =
+        ap (λ (xs : List Shown). flat_map (display_part_elements new origin) xs) (same-string base false under)
+        ∙ flat-each (display_part_elements new origin) (display_part_elements old origin) (string_parts old base false text under) (λ x. same-kind x.kind x.face x.odd origin)
 
-  inner-by : (number : ℕ) (found : Option TextValue) (base : ℕ) (origin : Origin) (under : Attributes) → slice_get old.objects.strings number ≡ found
-      → inner new base origin under found ≡ inner old base origin under found
-  inner-by number None base origin under e = refl
-  inner-by number (Some text) base origin under e = text-inner number text e base origin under
+  display-by : (number : ℕ) (found : Option TextValue) (base : ℕ) (origin : Origin) (under : Attributes) → slice_get old.objects.strings number ≡ found
+      → display_elements new base origin under found ≡ display_elements old base origin under found
+  display-by number None base origin under e = refl
+  display-by number (Some text) base origin under e = text-display number text e base origin under
 
-  same-inner : (number base : ℕ) (origin : Origin) (under : Attributes) → number < length old.objects.strings
-      → inner new base origin under (slice_get new.objects.strings number) ≡ inner old base origin under (slice_get old.objects.strings number)
-  same-inner number base origin under made =
-      ap (λ (t : Option TextValue). inner new base origin under t) (same_strings old.objects new.objects number goes.objects made)
-      ∙ inner-by number (slice_get old.objects.strings number) base origin under refl
+  same-display : (number base : ℕ) (origin : Origin) (under : Attributes) → number < length old.objects.strings
+      → display_elements new base origin under (slice_get new.objects.strings number) ≡ display_elements old base origin under (slice_get old.objects.strings number)
+  same-display number base origin under made =
+      ap (λ (t : Option TextValue). display_elements new base origin under t) (same_strings old.objects new.objects number goes.objects made)
+      ∙ display-by number (slice_get old.objects.strings number) base origin under refl
 
-  same-middle-part : (base : ℕ) (origin : Origin) (k : PartKind) (face : Attributes) (odd : Bool) → PartMade old.objects k → middle_by new base origin k face odd ≡ middle_by old base origin k face odd
-  same-middle-part base origin (kind.Char c) face odd made = same-elements c odd face origin
-  same-middle-part base origin (kind.Marked g) face odd made = refl
-  same-middle-part base origin (kind.Replaced (Text n)) face odd made = same-inner n base origin face made
-  same-middle-part base origin (kind.Replaced (Width n)) face odd made = refl
-  same-middle-part base origin (kind.Replaced (Align n)) face odd made = refl
-  same-middle-part base origin kind.RowEnd face odd made = refl
+  same-overlay-part : (base : ℕ) (origin : Origin) (k : PartKind) (face : Attributes) (odd : Bool) → PartMade old.objects k → overlay_part_by new base origin k face odd ≡ overlay_part_by old base origin k face odd
+  same-overlay-part base origin (kind.Char c) face odd made = same-elements c odd face origin
+  same-overlay-part base origin (kind.Marked g) face odd made = refl
+  same-overlay-part base origin (kind.Replaced (Text n)) face odd made = same-display n base origin face made
+  same-overlay-part base origin (kind.Replaced (Width n)) face odd made = refl
+  same-overlay-part base origin (kind.Replaced (Align n)) face odd made = refl
+  same-overlay-part base origin kind.RowEnd face odd made = refl
 
-  middle-by : (number : ℕ) (found : Option TextValue) (base : ℕ) (origin : Origin) (under : Attributes) → slice_get old.objects.strings number ≡ found
-      → middle new base origin under found ≡ middle old base origin under found
-  middle-by number None base origin under e = refl
-  middle-by number (Some text) base origin under e =
-      ap (λ (xs : List Shown). flat_map (middle_elements new base origin) xs) (same-string number text e base true under)
-      ∙ flat-same (IsFineShown old closed) (middle_elements new base origin) (middle_elements old base origin) (string_parts old base true text under)
-      (λ x made. same-middle-part base origin x.kind x.face x.odd made)
+  overlay-by : (number : ℕ) (found : Option TextValue) (base : ℕ) (origin : Origin) (under : Attributes) → slice_get old.objects.strings number ≡ found
+      → overlay_elements new base origin under found ≡ overlay_elements old base origin under found
+  overlay-by number None base origin under e = refl
+  overlay-by number (Some text) base origin under e =
+      ap (λ (xs : List Shown). flat_map (overlay_part_elements new base origin) xs) (same-string number text e base true under)
+      ∙ flat-same (IsFineShown old closed) (overlay_part_elements new base origin) (overlay_part_elements old base origin) (string_parts old base true text under)
+      (λ x made. same-overlay-part base origin x.kind x.face x.odd made)
       (rows-fine old closed base [] (run_heads None (places_from true text under 0)) (All-nil (IsFine old closed)))
 
-  same-middle : (number base : ℕ) (origin : Origin) (under : Attributes) → number < length old.objects.strings
-      → middle new base origin under (slice_get new.objects.strings number) ≡ middle old base origin under (slice_get old.objects.strings number)
-  same-middle number base origin under made =
-      ap (λ (t : Option TextValue). middle new base origin under t) (same_strings old.objects new.objects number goes.objects made)
-      ∙ middle-by number (slice_get old.objects.strings number) base origin under refl
+  same-overlay : (number base : ℕ) (origin : Origin) (under : Attributes) → number < length old.objects.strings
+      → overlay_elements new base origin under (slice_get new.objects.strings number) ≡ overlay_elements old base origin under (slice_get old.objects.strings number)
+  same-overlay number base origin under made =
+      ap (λ (t : Option TextValue). overlay_elements new base origin under t) (same_strings old.objects new.objects number goes.objects made)
+      ∙ overlay-by number (slice_get old.objects.strings number) base origin under refl
 
   -- ---- the items of a line
 
   same-text : (overlay : Bool) (number base : ℕ) (origin : Origin) (face : Attributes) → number < length old.objects.strings
       → text_elements new base overlay origin face (slice_get new.objects.strings number) ≡ text_elements old base overlay origin face (slice_get old.objects.strings number)
-  same-text true number base origin face made = same-middle number base origin face made
-  same-text false number base origin face made = same-inner number base origin face made
+  same-text true number base origin face made = same-overlay number base origin face made
+  same-text false number base origin face made = same-display number base origin face made
 
-  same-outer : (base : ℕ) (k : ItemKind) (overlay odd : Bool) (face : Attributes) (origin : Origin) → ShowsMade old.objects k → outer_by new base k overlay odd face origin ≡ outer_by old base k overlay odd face origin
-  same-outer base (item.Char c) overlay odd face origin made = same-elements c odd face origin
-  same-outer base (item.Marked g) overlay odd face origin made = refl
-  same-outer base (item.Text n) overlay odd face origin made = same-text overlay n base origin face made
-  same-outer base (item.Space spec) overlay odd face origin made = refl
-  same-outer base item.Ellipsis overlay odd face origin made = rw goes.table
-  same-outer base item.Ender overlay odd face origin made = refl
+  same-item-by : (base : ℕ) (k : ItemKind) (overlay odd : Bool) (face : Attributes) (origin : Origin) → ShowsMade old.objects k → item_elements_by new base k overlay odd face origin ≡ item_elements_by old base k overlay odd face origin
+  same-item-by base (item.Char c) overlay odd face origin made = same-elements c odd face origin
+  same-item-by base (item.Marked g) overlay odd face origin made = refl
+  same-item-by base (item.Text n) overlay odd face origin made = same-text overlay n base origin face made
+  same-item-by base (item.Space spec) overlay odd face origin made = refl
+  same-item-by base item.Ellipsis overlay odd face origin made = rw goes.table
+  same-item-by base item.Ender overlay odd face origin made = refl
 
-  same-item : (base : ℕ) (turn : Turn) (found : Option Item) → IfSome found (λ i. ShowsMade old.objects i.kind) → outer new base turn found ≡ outer old base turn found
+  same-item : (base : ℕ) (turn : Turn) (found : Option Item) → IfSome found (λ i. ShowsMade old.objects i.kind) → turn_elements new base turn found ≡ turn_elements old base turn found
   same-item base turn None made = refl
-  same-item base turn (Some i) made = same-outer base i.kind i.overlay turn.odd i.face (origin_of turn.index i) made
+  same-item base turn (Some i) made = same-item-by base i.kind i.overlay turn.odd i.face (origin_of turn.index i) made
 
   same-turns : (base : ℕ) (items : List Item) → item_turns new base items ≡ item_turns old base items
   same-turns base items = rw (goes.brackets, reorder)
@@ -277,4 +277,4 @@ module _ (old new : Scene) (goes : GoesOnFrom old new) (closed : IsClosed old.ob
 
   -- the prefix that is a string which was made
   pub prefix-stays : (base number : ℕ) → number < length old.objects.strings → prefix new base number ≡ prefix old base number
-  prefix-stays base number made = ap (λ (es : List Element). before_row_end es) (same-inner number base outside plain made)
+  prefix-stays base number made = ap (λ (es : List Element). before_row_end es) (same-display number base outside plain made)

@@ -9,7 +9,7 @@ use Rattle.rd_base.specs.declared.element.Origin.{Origin}
 use Rattle.rd_objects.specs.Texts.{TextValue}
 use Rattle.rd_base.specs.declared.element.Look.TheVariants as look
 use Rattle.rd_glyphs.specs.Characters.{element_of}
-use Rattle.rd_glyphs.specs.Marks.{joined}
+use Rattle.rd_glyphs.specs.Marks.{marks_joined}
 use Rattle.rd_items.specs.Pieces.{Scene}
 use Rattle.rd_levels.specs.Turns.{turns_of}
 use Rattle.rd_levels.specs.declared.turn.Turn.{Turn}
@@ -19,7 +19,7 @@ use Rattle.rd_stack.specs.declared.part.Part.{Part}
 
 -- a string of which a row was read
 pub string-starts : (s : Scene) (base : ℕ) (replaced : Bool) (origin : Origin) (under : Attributes) (text : TextValue) (read parts : List Part) (turns : List Turn) (end from : ℕ)
-    → parts ≡ joined part_joins read → turns ≡ turns_of s.brackets s.parts.settings.reorder base (map part_class parts) (map part_code parts)
+    → parts ≡ marks_joined part_joins read → turns ≡ turns_of s.brackets s.parts.settings.reorder base (map part_class parts) (map part_code parts)
     → row s base read ++ behind_row s base replaced text under end ≡ shown_from s base replaced text under from
     → string_left s base replaced origin under text parts turns end ≡ flat_map (part_steps s base replaced origin) (shown_from s base replaced text under from)
 string-starts s base replaced origin under text read parts turns end from made order all =

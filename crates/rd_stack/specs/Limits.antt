@@ -20,16 +20,16 @@ abbrev pub AreFew : List Seen → Type 0
 AreFew es = length es + strings_in es ≤ most_items
 
 -- the most columns of a display string: no place of it has more than a space may have
-abbrev pub most_inner_columns : ℕ
-most_inner_columns = STRING_CHARACTERS * SPACE_COLUMNS
+abbrev pub most_display_columns : ℕ
+most_display_columns = STRING_CHARACTERS * SPACE_COLUMNS
 
 -- the most columns of an overlay's string: no place of it has more than a display string
-abbrev pub most_middle_columns : ℕ
-most_middle_columns = STRING_CHARACTERS * most_inner_columns
+abbrev pub most_overlay_columns : ℕ
+most_overlay_columns = STRING_CHARACTERS * most_display_columns
 
 -- the most columns of a line: no item of it has more than an overlay's string
 abbrev pub most_columns : ℕ
-most_columns = most_items * most_middle_columns
+most_columns = most_items * most_overlay_columns
 
 -- elements that are sound and measured, of so many columns at most
 pub record AreRightWithin (most : ℕ) (es : List Element) : Type 0 where

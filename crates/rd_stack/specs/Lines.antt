@@ -18,7 +18,7 @@ use Rattle.rd_items.specs.Items.{items_of, bracket_code}
 use Rattle.rd_items.specs.declared.item.Item.{Item}
 use Rattle.rd_items.specs.declared.item.ItemKind.{ItemKind}
 use Rattle.rd_items.specs.declared.item.ItemKind.TheVariants as kind
-use Rattle.rd_stack.specs.Shown.{space_elements, inner, middle}
+use Rattle.rd_stack.specs.Shown.{space_elements, display_elements, overlay_elements}
 use Rattle.rd_levels.specs.Turns.{turns_of}
 use Rattle.rd_levels.specs.declared.turn.Turn.{Turn}
 
@@ -30,28 +30,28 @@ ellipsis_glyphs (Some table) = unwrap_or table.ellipsis (replicate 3 (single 46 
 -- the elements of a string: an overlay's, or a display string's
 abbrev pub text_elements : Scene → ℕ → Bool → Origin → Attributes → Option TextValue → List Element
 text_elements s base overlay origin face text =
-    if overlay then middle s base origin face text else inner s base origin face text
+    if overlay then overlay_elements s base origin face text else display_elements s base origin face text
 
 -- the elements of what an item shows, in this face, at an odd level or not; of a string it is told whether it is an overlay's
-abbrev pub outer_by : Scene → ℕ → ItemKind → Bool → Bool → Attributes → Origin → List Element
-outer_by s base (kind.Char c) overlay odd face origin = elements_of s.parts c odd face origin
-outer_by s base (kind.Marked g) overlay odd face origin = element_of face origin (look.Glyph g) ∷ []
-outer_by s base (kind.Text n) overlay odd face origin = text_elements s base overlay origin face (slice_get s.objects.strings n)
-outer_by s base (kind.Space spec) overlay odd face origin = space_elements spec face origin
-outer_by s base kind.Ellipsis overlay odd face origin = glyph_elements face origin (ellipsis_glyphs s.parts.table)
-outer_by s base kind.Ender overlay odd face origin = element_of face origin look.LineEnd ∷ []
+abbrev pub item_elements_by : Scene → ℕ → ItemKind → Bool → Bool → Attributes → Origin → List Element
+item_elements_by s base (kind.Char c) overlay odd face origin = elements_of s.parts c odd face origin
+item_elements_by s base (kind.Marked g) overlay odd face origin = element_of face origin (look.Glyph g) ∷ []
+item_elements_by s base (kind.Text n) overlay odd face origin = text_elements s base overlay origin face (slice_get s.objects.strings n)
+item_elements_by s base (kind.Space spec) overlay odd face origin = space_elements spec face origin
+item_elements_by s base kind.Ellipsis overlay odd face origin = glyph_elements face origin (ellipsis_glyphs s.parts.table)
+item_elements_by s base kind.Ender overlay odd face origin = element_of face origin look.LineEnd ∷ []
 
 -- an item's number, and the offsets of its range from the block's start
 abbrev pub origin_of : ℕ → Item → Origin
 origin_of k item = record { item = k; from = item.from; to = item.to }
 
 -- the elements of an item of a block, of the number that its turn gives
-abbrev pub outer : Scene → ℕ → Turn → Option Item → List Element
-outer s base turn None = []
-outer s base turn (Some item) = outer_by s base item.kind item.overlay turn.odd item.face (origin_of turn.index item)
+abbrev pub turn_elements : Scene → ℕ → Turn → Option Item → List Element
+turn_elements s base turn None = []
+turn_elements s base turn (Some item) = item_elements_by s base item.kind item.overlay turn.odd item.face (origin_of turn.index item)
 
 abbrev pub item_elements : Scene → ℕ → List Item → Turn → List Element
-item_elements s base items turn = outer s base turn (slice_get items turn.index)
+item_elements s base items turn = turn_elements s base turn (slice_get items turn.index)
 
 abbrev pub item_class : Item → Class
 item_class item = item.class

@@ -33,27 +33,27 @@ kind_elements s (kind.Marked g) face odd origin = element_of face origin (look.G
 kind_elements s (kind.Replaced spec) face odd origin = space_elements spec face origin
 kind_elements s kind.RowEnd face odd origin = element_of face origin look.RowEnd ∷ []
 
-abbrev pub inner_elements : Scene → Origin → Shown → List Element
-inner_elements s origin x = kind_elements s x.kind x.face x.odd origin
+abbrev pub display_part_elements : Scene → Origin → Shown → List Element
+display_part_elements s origin x = kind_elements s x.kind x.face x.odd origin
 
 -- the elements of a display string that stands over a face, in a line of this base: its own display runs are not used. A number
 -- that names no string stands for the empty one
-abbrev pub inner : Scene → ℕ → Origin → Attributes → Option TextValue → List Element
-inner s base origin under None = []
-inner s base origin under (Some text) = flat_map (inner_elements s origin) (string_parts s base false text under)
+abbrev pub display_elements : Scene → ℕ → Origin → Attributes → Option TextValue → List Element
+display_elements s base origin under None = []
+display_elements s base origin under (Some text) = flat_map (display_part_elements s origin) (string_parts s base false text under)
 
 -- the elements of a part of an overlay's string: where a display run names a string, those of that display string
-abbrev pub middle_by : Scene → ℕ → Origin → PartKind → Attributes → Bool → List Element
-middle_by s base origin (kind.Replaced (Text n)) face odd = inner s base origin face (slice_get s.objects.strings n)
-middle_by s base origin kind face odd = kind_elements s kind face odd origin
+abbrev pub overlay_part_by : Scene → ℕ → Origin → PartKind → Attributes → Bool → List Element
+overlay_part_by s base origin (kind.Replaced (Text n)) face odd = display_elements s base origin face (slice_get s.objects.strings n)
+overlay_part_by s base origin kind face odd = kind_elements s kind face odd origin
 
-abbrev pub middle_elements : Scene → ℕ → Origin → Shown → List Element
-middle_elements s base origin x = middle_by s base origin x.kind x.face x.odd
+abbrev pub overlay_part_elements : Scene → ℕ → Origin → Shown → List Element
+overlay_part_elements s base origin x = overlay_part_by s base origin x.kind x.face x.odd
 
 -- the elements of an overlay's string that stands over a face: its own display runs are used
-abbrev pub middle : Scene → ℕ → Origin → Attributes → Option TextValue → List Element
-middle s base origin under None = []
-middle s base origin under (Some text) = flat_map (middle_elements s base origin) (string_parts s base true text under)
+abbrev pub overlay_elements : Scene → ℕ → Origin → Attributes → Option TextValue → List Element
+overlay_elements s base origin under None = []
+overlay_elements s base origin under (Some text) = flat_map (overlay_part_elements s base origin) (string_parts s base true text under)
 
 abbrev pub is_row_end : Look → Bool
 is_row_end look.RowEnd = true
@@ -70,7 +70,7 @@ outside = record { item = 4294967295; from = 0; to = 0 }
 
 -- a prefix: a display string over the plain face, up to its first newline
 abbrev pub prefix : Scene → ℕ → ℕ → List Element
-prefix s base number = before_row_end (inner s base outside plain (slice_get s.objects.strings number))
+prefix s base number = before_row_end (display_elements s base outside plain (slice_get s.objects.strings number))
 
 -- what each element of a line is
 pub record IsRight (e : Element) : Type 0 where

@@ -14,30 +14,30 @@ use Rattle.rd_items.specs.declared.item.ItemKind.TheVariants as item
 use Rattle.rd_levels.specs.declared.turn.Turn.{Turn}
 use Rattle.rd_stack.specs.Strings.{shown_at, behind_row, string_parts}
 use Rattle.rd_stack.specs.Shown.{kind_elements}
-use Rattle.rd_stack.specs.Lines.{outer_by, origin_of}
+use Rattle.rd_stack.specs.Lines.{item_elements_by, origin_of}
 use Rattle.rd_stack.specs.declared.part.Part.{Part}
 use Rattle.rd_stack.specs.declared.part.Shown.{Shown}
 use Rattle.rd_stack.specs.declared.part.PartKind.{PartKind}
 use Rattle.rd_stack.specs.declared.part.PartKind.TheVariants as kind
 
 -- the steps of a part that shows no other string
-abbrev pub inner_steps : Scene → Origin → Shown → List (List Element)
-inner_steps s origin x = kind_elements s x.kind x.face x.odd origin ∷ []
+abbrev pub display_part_steps : Scene → Origin → Shown → List (List Element)
+display_part_steps s origin x = kind_elements s x.kind x.face x.odd origin ∷ []
 
 -- the steps of a display string, where there is one
 abbrev pub display_steps : Scene → ℕ → Origin → Attributes → Option TextValue → List (List Element)
 display_steps s base origin under None = []
-display_steps s base origin under (Some text) = flat_map (inner_steps s origin) (string_parts s base false text under)
+display_steps s base origin under (Some text) = flat_map (display_part_steps s origin) (string_parts s base false text under)
 
 -- the steps of a part of a string whose display runs are used: where a run names a string, that string is entered
-abbrev pub middle_steps : Scene → ℕ → Origin → PartKind → Attributes → Bool → List (List Element)
-middle_steps s base origin (kind.Replaced (Text n)) face odd = [] ∷ display_steps s base origin face (slice_get s.objects.strings n)
-middle_steps s base origin kind face odd = kind_elements s kind face odd origin ∷ []
+abbrev pub overlay_part_steps : Scene → ℕ → Origin → PartKind → Attributes → Bool → List (List Element)
+overlay_part_steps s base origin (kind.Replaced (Text n)) face odd = [] ∷ display_steps s base origin face (slice_get s.objects.strings n)
+overlay_part_steps s base origin kind face odd = kind_elements s kind face odd origin ∷ []
 
 -- the steps of a part of a string whose display runs are used or not
 abbrev pub part_steps : Scene → ℕ → Bool → Origin → Shown → List (List Element)
-part_steps s base true origin x = middle_steps s base origin x.kind x.face x.odd
-part_steps s base false origin x = inner_steps s origin x
+part_steps s base true origin x = overlay_part_steps s base origin x.kind x.face x.odd
+part_steps s base false origin x = display_part_steps s origin x
 
 abbrev pub text_steps : Scene → ℕ → Bool → Origin → Attributes → Option TextValue → List (List Element)
 text_steps s base replaced origin under None = []
@@ -49,13 +49,13 @@ string_left s base replaced origin under text parts turns i =
     flat_map (part_steps s base replaced origin) (flat_map (shown_at parts) turns ++ behind_row s base replaced text under i)
 
 -- the steps of what an item shows: a string is entered
-abbrev pub outer_steps : Scene → ℕ → ItemKind → Bool → Bool → Attributes → Origin → List (List Element)
-outer_steps s base (item.Text n) overlay odd face origin = [] ∷ text_steps s base overlay origin face (slice_get s.objects.strings n)
-outer_steps s base kind overlay odd face origin = outer_by s base kind overlay odd face origin ∷ []
+abbrev pub item_steps_by : Scene → ℕ → ItemKind → Bool → Bool → Attributes → Origin → List (List Element)
+item_steps_by s base (item.Text n) overlay odd face origin = [] ∷ text_steps s base overlay origin face (slice_get s.objects.strings n)
+item_steps_by s base kind overlay odd face origin = item_elements_by s base kind overlay odd face origin ∷ []
 
 abbrev pub steps_of : Scene → ℕ → Turn → Option Item → List (List Element)
 steps_of s base turn None = []
-steps_of s base turn (Some item) = outer_steps s base item.kind item.overlay turn.odd item.face (origin_of turn.index item)
+steps_of s base turn (Some item) = item_steps_by s base item.kind item.overlay turn.odd item.face (origin_of turn.index item)
 
 abbrev pub item_steps : Scene → ℕ → List Item → Turn → List (List Element)
 item_steps s base items turn = steps_of s base turn (slice_get items turn.index)

@@ -10,7 +10,7 @@ use Rattle.rd_objects.specs.Texts.{TextValue, face_of, spec_of}
 use Rattle.rd_objects.specs.declared.run.Spec.{Spec}
 use Rattle.rd_objects.specs.declared.run.Spec.TheVariants.{Text}
 use Rattle.rd_glyphs.specs.Joining.{joining_of, base_of, mark_of}
-use Rattle.rd_glyphs.specs.Marks.{Joins, joined}
+use Rattle.rd_glyphs.specs.Marks.{Joins, marks_joined}
 use Rattle.rd_glyphs.specs.declared.joining.Joining.TheVariants as joining
 use Rattle.rd_items.specs.Pieces.{Scene, spec_in, inner_class, same_spec}
 use Rattle.rd_items.specs.Items.{unlisted}
@@ -97,7 +97,7 @@ in_order s base xs =
 
 -- a row of a string: its marks join, and its parts are put in order
 abbrev pub row : Scene → ℕ → List Part → List Shown
-row s base xs = in_order s base (joined part_joins xs)
+row s base xs = in_order s base (marks_joined part_joins xs)
 
 abbrev pub row_end : Attributes → Shown
 row_end face = record { kind = kind.RowEnd; face = face; odd = false }

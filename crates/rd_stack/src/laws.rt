@@ -17,7 +17,7 @@ ghost use Rattle.rd_items.specs.Pieces.{Scene, scene_in};
 ghost use Rattle.rd_items.specs.Items.{items_of, AreMeasuredItems};
 ghost use Rattle.rd_stack.specs.Shown.{prefix, AreOpen, AreOfOneRow, AreColoured};
 ghost use Rattle.rd_stack.specs.Lines.{line_elements, AreCodedItems};
-ghost use Rattle.rd_stack.specs.Limits.{AreFew, AreRightWithin, most_columns, most_inner_columns, most_middle_columns};
+ghost use Rattle.rd_stack.specs.Limits.{AreFew, AreRightWithin, most_columns, most_display_columns, most_overlay_columns};
 
 use rd_glyphs::{elements_are_sound, glyph_texts_are_sound, marks_join_measured_glyphs};
 use rd_items::{items_are_measured, items_cover_their_block};
@@ -37,8 +37,8 @@ pub fn lines_end_once()
 /// items of the line are measured and coded. A line takes at most the columns of so many overlays' strings as there are items, and a
 /// prefix those of a display string. The call does nothing.
 pub fn elements_are_right()
-    ensures line { (scene : Scene) (base : ℕ) (es : List Seen) → AreObjects scene.objects → AreSoundParts scene.parts → AreMeasuredItems (items_of scene es) → AreCodedItems (items_of scene es) → AreRightWithin (length (items_of scene es) * most_middle_columns) (line_elements scene base es) }
-    ensures prefix { (scene : Scene) (base number : ℕ) → AreObjects scene.objects → AreSoundParts scene.parts → AreRightWithin most_inner_columns (prefix scene base number) }
+    ensures line { (scene : Scene) (base : ℕ) (es : List Seen) → AreObjects scene.objects → AreSoundParts scene.parts → AreMeasuredItems (items_of scene es) → AreCodedItems (items_of scene es) → AreRightWithin (length (items_of scene es) * most_overlay_columns) (line_elements scene base es) }
+    ensures prefix { (scene : Scene) (base number : ℕ) → AreObjects scene.objects → AreSoundParts scene.parts → AreRightWithin most_display_columns (prefix scene base number) }
 {
     elements_are_sound();
     glyph_texts_are_sound();
@@ -69,7 +69,7 @@ pub fn prefixes_end_no_line()
 pub fn prefixes_are_sound()
     ensures sound { (scene : Scene) (base number : ℕ) → AreObjects scene.objects → AreSoundParts scene.parts → AreSound (prefix scene base number) }
     ensures measured { (scene : Scene) (base number : ℕ) → AreObjects scene.objects → AreSoundParts scene.parts → AreMeasured (prefix scene base number) }
-    ensures columns { (scene : Scene) (base number : ℕ) → AreObjects scene.objects → AreSoundParts scene.parts → columns_at_most (prefix scene base number) ≤ most_inner_columns }
+    ensures columns { (scene : Scene) (base number : ℕ) → AreObjects scene.objects → AreSoundParts scene.parts → columns_at_most (prefix scene base number) ≤ most_display_columns }
     ensures row { (scene : Scene) (base number : ℕ) → AreOfOneRow (prefix scene base number) }
 {
     elements_are_right();

@@ -3,7 +3,7 @@ ghost use Rattle.std.specs.Prelude.{◌≡◌, ◌≤◌, [], IfOk, OnOk};
 ghost use Rattle.rd_items.specs.Pieces.{scene_of};
 ghost use Rattle.rd_glyphs.specs.Characters.{glyph_elements};
 ghost use Rattle.rd_stack.specs.Lines.{ellipsis_glyphs, origin_of};
-ghost use Rattle.rd_stack.specs.Steps.{outer_steps};
+ghost use Rattle.rd_stack.specs.Steps.{item_steps_by};
 ghost use Rattle.rd_stack.specs.Walks.{IsStep};
 
 use crate::alone::{end_element, glyph_element};
@@ -59,7 +59,7 @@ fn step_of<'a>(
 ) -> Result<Step<'a>, Memory>
     requires base { base ≤ 1 }
     requires few { few.old ≡ [] }
-    ensures { IfOk result (λ step. IsStep step few.new (outer_steps (scene_of view.now) base item.now.kind item.now.overlay odd item.now.face origin) []) }
+    ensures { IfOk result (λ step. IsStep step few.new (item_steps_by (scene_of view.now) base item.now.kind item.now.overlay odd item.now.face origin) []) }
 {
     let face = item.face;
     match item.kind {

@@ -1,18 +1,18 @@
 //! Marks join the parts of a string.
 ghost use Rattle.std.specs.Prelude.{◌≡◌, ◌∷◌, ◌++◌, List, IfOk, Some};
 ghost use Rattle.rd_glyphs.specs.Joining.{base_of, mark_of};
-ghost use Rattle.rd_glyphs.specs.Marks.{marked_glyph, marked, joined, with_held};
+ghost use Rattle.rd_glyphs.specs.Marks.{marked_glyph, marked, marks_joined, with_held};
 ghost use Rattle.rd_stack.specs.Strings.{part_joins};
 ghost use Rattle.rd_stack.specs.declared.part.Part.{Part};
 
 use crate::part::{Part, PartKind};
 use rd_base::{Glyph, ListOf, Memory};
-use rd_glyphs::{Joining, join, on_blank};
+use rd_glyphs::{Joining, joined_glyph, on_blank};
 use std::alloc::Global;
 
 /// Parts in which each mark has joined the part directly before it, where it may.
 pub fn join_marks(alloc: Global, parts: &[Part]) -> Result<ListOf<Part>, Memory>
-    ensures { IfOk result (λ made. made ≡ joined part_joins parts.now) }
+    ensures { IfOk result (λ made. made ≡ marks_joined part_joins parts.now) }
 {
     let mut made = ListOf::new(alloc);
     let mut held = None;
@@ -43,8 +43,8 @@ fn glyph_with(held: Joining, next: Joining) -> Option<Glyph>
     ensures { result ≡ marked_glyph (base_of held) (mark_of next) }
 {
     match (held, next) {
-        (Joining::Base(glyph), Joining::Mark(code)) => join(glyph, code),
-        (Joining::Mark(first), Joining::Mark(code)) => join(on_blank(first), code),
+        (Joining::Base(glyph), Joining::Mark(code)) => joined_glyph(glyph, code),
+        (Joining::Mark(first), Joining::Mark(code)) => joined_glyph(on_blank(first), code),
         _ => None,
     }
 }

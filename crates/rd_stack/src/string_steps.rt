@@ -77,13 +77,13 @@ fn step_of<'a>(
     ensures { IfOk result (λ step. IsStep step few.new (part_steps (scene_of view.now) base replaced origin part.now) []) }
 {
     if replaced {
-        return middle_step(alloc, view, base, origin, part, few);
+        return overlay_part_step(alloc, view, base, origin, part, few);
     }
-    inner_step(alloc, view, origin, part, few)
+    display_part_step(alloc, view, origin, part, few)
 }
 
 /// The step of a part of a string whose display runs are used: where a run names a string, that one is entered.
-fn middle_step<'a>(
+fn overlay_part_step<'a>(
     alloc: Global,
     view: &View<'a>,
     base: u8,
@@ -104,12 +104,12 @@ fn middle_step<'a>(
             under: part.face,
             number,
         })),
-        _ => inner_step(alloc, view, origin, part, few),
+        _ => display_part_step(alloc, view, origin, part, few),
     }
 }
 
 /// The step of a part that shows no other string.
-fn inner_step<'a>(
+fn display_part_step<'a>(
     alloc: Global,
     view: &View<'a>,
     origin: Origin,

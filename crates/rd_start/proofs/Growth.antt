@@ -9,7 +9,7 @@ use Rattle.rd_matrix.specs.Entries.{EntryMeaning, all_rows, entries_of}
 use Rattle.rd_matrix.specs.Sources.{SourceValues}
 use Rattle.rd_matrix.specs.declared.block.Block.{Block}
 use Rattle.rd_rows.specs.Rows.{RowMeaning}
-use Rattle.rd_start.specs.Strips.{HaveRows, IsPaidOf, IsStripOf, all_costs, cost_in, count_in, home_row, joined_at, line_of, moved_at, rows_in}
+use Rattle.rd_start.specs.Strips.{HaveRows, IsPaidOf, IsStripOf, all_costs, cost_in, count_in, home_row, line_of, lists_joined_at, moved_at, rows_in}
 use Rattle.rd_start.specs.declared.strip.Edge.{Edge}
 use Rattle.rd_start.specs.declared.strip.Edge.TheVariants.{Bottom, Top}
 use Rattle.rd_start.specs.declared.strip.Line.{Line}
@@ -83,23 +83,23 @@ pieces-above all before bs after front b pieces is =
     pieces ∙ (ap (λ ys. ys ++ (bs ++ after)) is ∙ append_assoc front (b ∷ []) (bs ++ after))
 
 -- lists to which more was added at an edge
-pub length-joined : {X : Type 0} (edge : Edge) (xs more : List X) → length (joined_at edge xs more) ≡ length xs + length more
+pub length-joined : {X : Type 0} (edge : Edge) (xs more : List X) → length (lists_joined_at edge xs more) ≡ length xs + length more
 length-joined Top xs more = let size = length-append more xs in omega (arith, size)
 length-joined Bottom xs more = length-append xs more
 
-each-joined : (P : Block → Type 0) (edge : Edge) (bs : List Block) (b : Block) → AllByRecursion P bs → P b → AllByRecursion P (joined_at edge bs (b ∷ []))
+each-joined : (P : Block → Type 0) (edge : Edge) (bs : List Block) (b : Block) → AllByRecursion P bs → P b → AllByRecursion P (lists_joined_at edge bs (b ∷ []))
 each-joined P Top bs b all here = (here, all)
 each-joined P Bottom bs b all here = each-append P bs (b ∷ []) all (here, tt)
 
 lines-joined : (edge : Edge) (rows : Block → List RowMeaning) (line : EntryMeaning → Line) (bs : List Block) (ls : List Line) (b : Block) → ls ≡ map line (all_rows rows bs)
-    → joined_at edge ls (map line (entries_of rows b)) ≡ map line (all_rows rows (joined_at edge bs (b ∷ [])))
+    → lists_joined_at edge ls (map line (entries_of rows b)) ≡ map line (all_rows rows (lists_joined_at edge bs (b ∷ [])))
 lines-joined Top rows line bs ls b lines = ap (λ ys. map line (entries_of rows b) ++ ys) lines ∙ sym (map-append line (entries_of rows b) (all_rows rows bs))
 lines-joined Bottom rows line bs ls b lines =
     ap (λ ys. ys ++ map line (entries_of rows b)) lines
     ∙ (sym (map-append line (all_rows rows bs) (entries_of rows b))
     ∙ ap (map line) (ap (λ ys. all_rows rows bs ++ ys) (sym (append-nil (entries_of rows b))) ∙ sym (all-append rows bs (b ∷ []))))
 
-inside-joined : (edge : Edge) (at count : ℕ) (ls more : List Line) → at < length ls → length more ≡ count → moved_at edge at count < length (joined_at edge ls more)
+inside-joined : (edge : Edge) (at count : ℕ) (ls more : List Line) → at < length ls → length more ≡ count → moved_at edge at count < length (lists_joined_at edge ls more)
 inside-joined Top at count ls more inside size = omega (arith, length-append more ls)
 inside-joined Bottom at count ls more inside size = omega (arith, length-append ls more)
 
@@ -108,8 +108,8 @@ length-lines rows line b = length-map (entries_of rows b) line ∙ length-number
 
 -- one more block at an edge
 pub strip-joined : (edge : Edge) (m : SourceValues) (sweep : Sweep) (bs : List Block) (ls : List Line) (at : ℕ) (b : Block) (before after : List Block) → IsStripOf m sweep bs ls at
-    → m.blocks ≡ before ++ (joined_at edge bs (b ∷ []) ++ after) → count_in m sweep before + moved_at edge at (length (rows_in m sweep b)) ≡ home_row m sweep → b.end < 2 ^ 32
-    → IsStripOf m sweep (joined_at edge bs (b ∷ [])) (joined_at edge ls (map (line_of sweep.point) (entries_of (rows_in m sweep) b))) (moved_at edge at (length (rows_in m sweep b)))
+    → m.blocks ≡ before ++ (lists_joined_at edge bs (b ∷ []) ++ after) → count_in m sweep before + moved_at edge at (length (rows_in m sweep b)) ≡ home_row m sweep → b.end < 2 ^ 32
+    → IsStripOf m sweep (lists_joined_at edge bs (b ∷ [])) (lists_joined_at edge ls (map (line_of sweep.point) (entries_of (rows_in m sweep) b))) (moved_at edge at (length (rows_in m sweep b)))
 strip-joined edge m sweep bs ls at b before after h pieces home small =
     let rows = λ (c : Block). rows_in m sweep c in
     let line = line_of sweep.point in

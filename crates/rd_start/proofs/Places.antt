@@ -15,7 +15,7 @@ use Rattle.rd_start.specs.declared.span.Span.{Span}
 use Rattle.rd_start.specs.declared.strip.Line.{Line}
 use Rattle.rd_start.specs.declared.strip.Strip.{Strip}
 use Rattle.rd_start.proofs.Lists.{slice_get-behind, slice_get-front}
-use Rattle.rd_start.proofs.Rows.{parts}
+use Rattle.rd_start.proofs.Rows.{rows_around}
 use Rattle.rd_start.proofs.Spans.{spans, spans-lines}
 
 abbrev anchor_of : Line → Anchor
@@ -28,7 +28,7 @@ anchor-same point (Some x) line e = let same : line_of point x ≡ line = cc in 
 pub anchor-line : (m : SourceValues) (s : Strip) (place : ℕ) (line : Line) → IsStrip m s → place < length s.lines.items → slice_get s.lines.items place ≡ Some line
     → anchor_of line ≡ anchor_at (all_rows (rows_in m s.sweep) m.blocks) (first_row m s + place)
 anchor-line m s place line h inside at =
-    let z = parts m s.sweep s.blocks.items s.lines.items s.home h in
+    let z = rows_around m s.sweep s.blocks.items s.lines.items s.home h in
     let from = z.from in
     let count = z.count in
     let first : first_row m s + place ≡ length z.front + place = omega arith in
@@ -54,7 +54,7 @@ rows-between front middle back first from to size low high =
 pub span-lines : (m : SourceValues) (s : Strip) (from to place : ℕ) (span : Option Span) → to ≤ length s.lines.items → place ≡ to → span ≡ spans None (drop from (take place s.lines.items)) → IsStrip m s → from ≤ to
     → span ≡ span_of (first_positions (take (to - from) (drop (first_row m s + from) (all_rows (rows_in m s.sweep) m.blocks))))
 span-lines m s from to place span inside end e h low =
-    let z = parts m s.sweep s.blocks.items s.lines.items s.home h in
+    let z = rows_around m s.sweep s.blocks.items s.lines.items s.home h in
     let start = z.from in
     let count = z.count in
     let f = line_of s.sweep.point in

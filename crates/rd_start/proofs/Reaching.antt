@@ -10,7 +10,7 @@ use Rattle.rd_matrix.specs.Entries.{all_rows, entries_of, numbered}
 use Rattle.rd_matrix.specs.Sources.{SourceValues}
 use Rattle.rd_matrix.specs.declared.block.Block.{Block}
 use Rattle.rd_rows.specs.Rows.{RowMeaning}
-use Rattle.rd_start.specs.Strips.{IsBeyond, IsPaid, IsPaidOf, IsPushed, IsStrip, IsStripOf, AsksAt, GrowsAt, StandsBeyond, all_costs, cost_in, count_in, extent, first_row, home_row, joined_at, line_of, moved_at, rows_in}
+use Rattle.rd_start.specs.Strips.{IsBeyond, IsPaid, IsPaidOf, IsPushed, IsStrip, IsStripOf, AsksAt, GrowsAt, StandsBeyond, all_costs, cost_in, count_in, extent, first_row, home_row, lists_joined_at, line_of, moved_at, rows_in}
 use Rattle.rd_start.specs.declared.strip.Edge.{Edge}
 use Rattle.rd_start.specs.declared.strip.Edge.TheVariants.{Bottom, Top}
 use Rattle.rd_start.specs.declared.strip.Line.{Line}
@@ -152,7 +152,7 @@ asked-given edge m at other s steps more o b e beyond is f cost = record { next 
 
 grown-paid : (edge : Edge) (kind : ℕ → Bool) (base : ℕ) (m : SourceValues) (old s : Strip) (n steps more count : ℕ) (b : Block) → Grown edge m old s n steps count → Asked edge m s steps more b
     → extent edge s < count → IsPaid kind base m old n → AsksAt edge kind m old count
-    → IsPaidOf kind base m s.sweep (joined_at edge s.blocks.items (b ∷ [])) (moved_at edge s.home (length (rows_in m s.sweep b))) more
+    → IsPaidOf kind base m s.sweep (lists_joined_at edge s.blocks.items (b ∷ [])) (moved_at edge s.home (length (rows_in m s.sweep b))) more
 grown-paid Top kind base m old s n steps more count b grown asked low paid asks =
     let next = asked.next in
     let some = some-of m s.sweep s.blocks.items s.lines.items s.home b grown.strip next.among in
@@ -175,7 +175,7 @@ grows-none : (edge : Edge) (s : Strip) → GrowsAt edge s s
 grows-none Top s = (refl, omega arith)
 grows-none Bottom s = (refl, omega arith)
 
-grows-more : (edge : Edge) (old s new : Strip) (own : List Line) (count : ℕ) → GrowsAt edge old s → new.home ≡ moved_at edge s.home count → new.lines.items ≡ joined_at edge s.lines.items own
+grows-more : (edge : Edge) (old s new : Strip) (own : List Line) (count : ℕ) → GrowsAt edge old s → new.home ≡ moved_at edge s.home count → new.lines.items ≡ lists_joined_at edge s.lines.items own
     → length own ≡ count → GrowsAt edge old new
 grows-more Top old s new own count grows home lines size =
     let now = ap length lines in
@@ -196,15 +196,15 @@ grown-more edge m old s new n steps more count b rows grown asked low same pushe
     let line = line_of s.sweep.point in
     let own = map line (entries_of (rows_in m s.sweep) b) in
     let added = length (rows_in m s.sweep b) in
-    let lines = pushed.lines ∙ ap (λ (r : List RowMeaning). joined_at edge s.lines.items (map line (numbered b.start 0 r))) same in
+    let lines = pushed.lines ∙ ap (λ (r : List RowMeaning). lists_joined_at edge s.lines.items (map line (numbered b.start 0 r))) same in
     let home = pushed.home ∙ ap (λ (r : List RowMeaning). moved_at edge s.home (length r)) same in
     record {
-      strip = strip-same m s.sweep new.sweep (joined_at edge s.blocks.items (b ∷ [])) new.blocks.items (joined_at edge s.lines.items own) new.lines.items (moved_at edge s.home added) new.home
+      strip = strip-same m s.sweep new.sweep (lists_joined_at edge s.blocks.items (b ∷ [])) new.blocks.items (lists_joined_at edge s.lines.items own) new.lines.items (moved_at edge s.home added) new.home
           pushed.sweep pushed.blocks lines home
           (strip-joined edge m s.sweep s.blocks.items s.lines.items s.home b next.before next.after grown.strip next.pieces next.home pushed.small);
       sweep = pushed.sweep ∙ grown.sweep;
       grows = grows-more edge old s new own added grown.grows home lines (length-lines (rows_in m s.sweep) line b);
-      paid = λ kind base paid asks. paid-same kind base m s.sweep new.sweep (joined_at edge s.blocks.items (b ∷ [])) new.blocks.items (moved_at edge s.home added) new.home more
+      paid = λ kind base paid asks. paid-same kind base m s.sweep new.sweep (lists_joined_at edge s.blocks.items (b ∷ [])) new.blocks.items (moved_at edge s.home added) new.home more
           pushed.sweep pushed.blocks home (grown-paid edge kind base m old s n steps more count b grown asked low paid asks);
     }
 
@@ -228,7 +228,7 @@ pub grown-fails : (edge : Edge) (m : SourceValues) (old s : Strip) (n steps more
     → EdgeFails edge m old n more count
 grown-fails edge m old s n steps more count b grown asked low = λ kind base paid asks.
     let next = asked.next in
-    let bound = affords-pieces kind base m s.sweep next.before (joined_at edge s.blocks.items (b ∷ [])) next.after (moved_at edge s.home (length (rows_in m s.sweep b))) more next.pieces next.home
+    let bound = affords-pieces kind base m s.sweep next.before (lists_joined_at edge s.blocks.items (b ∷ [])) next.after (moved_at edge s.home (length (rows_in m s.sweep b))) more next.pieces next.home
     (grown-paid edge kind base m old s n steps more count b grown asked low paid asks) in
     let same = ap (λ (x : Sweep). all_costs kind m x) grown.sweep in
     omega arith
@@ -245,8 +245,8 @@ grown-smaller edge m s new b rows next pushed =
     let joined = length-joined edge s.blocks.items (b ∷ []) in
     let size = ap length pushed.blocks in
     let all = ap length next.pieces in
-    let front = length-append next.before (joined_at edge s.blocks.items (b ∷ []) ++ next.after) in
-    let back = length-append (joined_at edge s.blocks.items (b ∷ [])) next.after in
+    let front = length-append next.before (lists_joined_at edge s.blocks.items (b ∷ []) ++ next.after) in
+    let back = length-append (lists_joined_at edge s.blocks.items (b ∷ [])) next.after in
     (omega arith, omega arith)
 
 -- what is said of one source, as it was said of the same

@@ -26,7 +26,7 @@ whole-rows m sweep bs before after pieces =
     ap (all_rows rows) pieces ∙ (all-append rows before (bs ++ after) ∙ ap (λ ys. all_rows rows before ++ ys) (all-append rows bs after))
 
 -- all rows are those before a strip, its own and those behind it
-pub record Parts (m : SourceValues) (sweep : Sweep) (bs : List Block) (ls : List Line) (at : ℕ) : Type 0 where
+pub record RowsAround (m : SourceValues) (sweep : Sweep) (bs : List Block) (ls : List Line) (at : ℕ) : Type 0 where
   pub front : List EntryMeaning
   pub middle : List EntryMeaning
   pub back : List EntryMeaning
@@ -36,8 +36,8 @@ pub record Parts (m : SourceValues) (sweep : Sweep) (bs : List Block) (ls : List
   pub count : length ls ≡ length middle
   pub total : length front + (length ls + length back) ≡ count_in m sweep m.blocks
 
-pub parts : (m : SourceValues) (sweep : Sweep) (bs : List Block) (ls : List Line) (at : ℕ) → IsStripOf m sweep bs ls at → Parts m sweep bs ls at
-parts m sweep bs ls at h =
+pub rows_around : (m : SourceValues) (sweep : Sweep) (bs : List Block) (ls : List Line) (at : ℕ) → IsStripOf m sweep bs ls at → RowsAround m sweep bs ls at
+rows_around m sweep bs ls at h =
     let rows = λ (b : Block). rows_in m sweep b in
     let front = all_rows rows h.before in
     let middle = all_rows rows bs in
@@ -67,7 +67,7 @@ total-is m sweep bs ls at h =
 -- a strip's rows are rows of its source
 pub all-inside : (m : SourceValues) (s : Strip) → IsStrip m s → first_row m s + length s.lines.items ≤ count_in m s.sweep m.blocks
 all-inside m s h =
-    let z = parts m s.sweep s.blocks.items s.lines.items s.home h in
+    let z = rows_around m s.sweep s.blocks.items s.lines.items s.home h in
     let from = z.from in
     let total = z.total in
     omega arith
@@ -176,7 +176,7 @@ whereabouts m sweep bs ls at h =
     let p = sweep.point in
     let begins = begins_item p in
     let w = bounds m sweep bs ls at h in
-    let z = parts m sweep bs ls at h in
+    let z = rows_around m sweep bs ls at h in
     let front = all_rows rows h.before in
     let middle = all_rows rows bs in
     let back = all_rows rows h.after in

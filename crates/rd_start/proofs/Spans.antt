@@ -6,19 +6,19 @@ use Rattle.std.specs.List.{fold, reduce}
 use Rattle.std.specs.Option.{option_map}
 use Rattle.rd_matrix.specs.Entries.{EntryMeaning}
 use Rattle.rd_start.specs.Chosen.{first_positions, positions_of}
-use Rattle.rd_start.specs.Strips.{joined, line_of, span_of}
+use Rattle.rd_start.specs.Strips.{joined_spans, line_of, span_of}
 use Rattle.rd_start.specs.declared.span.Span.{Span}
 use Rattle.rd_start.specs.declared.strip.Line.{Line}
 
-pub joined-none : (a : Option Span) → joined a None ≡ a
-joined-none None = refl
-joined-none (Some a) = refl
+pub joined_spans-none : (a : Option Span) → joined_spans a None ≡ a
+joined_spans-none None = refl
+joined_spans-none (Some a) = refl
 
-pub joined_assoc : (a b c : Option Span) → joined (joined a b) c ≡ joined a (joined b c)
-joined_assoc None b c = refl
-joined_assoc (Some a) None c = refl
-joined_assoc (Some a) (Some b) None = refl
-joined_assoc (Some a) (Some b) (Some c) =
+pub joined_spans-assoc : (a b c : Option Span) → joined_spans (joined_spans a b) c ≡ joined_spans a (joined_spans b c)
+joined_spans-assoc None b c = refl
+joined_spans-assoc (Some a) None c = refl
+joined_spans-assoc (Some a) (Some b) None = refl
+joined_spans-assoc (Some a) (Some b) (Some c) =
     let least : min (min a.first b.first) c.first ≡ min a.first (min b.first c.first) = omega arith in
     let greatest : max (max a.last b.last) c.last ≡ max a.last (max b.last c.last) = omega arith in
     cc
@@ -35,7 +35,7 @@ fold-max a y (z ∷ ys) =
     let e : max (max a y) z ≡ max a (max y z) = omega arith in
     ap (λ n. fold max n ys) e ∙ fold-max a (max y z) ys
 
-pub span_of-append : (xs ys : List ℕ) → span_of (xs ++ ys) ≡ joined (span_of xs) (span_of ys)
+pub span_of-append : (xs ys : List ℕ) → span_of (xs ++ ys) ≡ joined_spans (span_of xs) (span_of ys)
 span_of-append [] ys = refl
 span_of-append (x ∷ xs) [] = ap (λ zs. span_of (x ∷ zs)) (append-nil xs)
 span_of-append (x ∷ xs) (y ∷ ys) =
@@ -52,11 +52,11 @@ span_of-greatest [] = refl
 span_of-greatest (p ∷ ps) = refl
 
 abbrev pub spans : Option Span → List Line → Option Span
-spans a ls = fold (λ b l. joined b l.span) a ls
+spans a ls = fold (λ b l. joined_spans b l.span) a ls
 
-pub spans-lines : (point : ℕ) (a : Option Span) (es : List EntryMeaning) → spans a (map (line_of point) es) ≡ joined a (span_of (first_positions es))
-spans-lines point a [] = sym (joined-none a)
+pub spans-lines : (point : ℕ) (a : Option Span) (es : List EntryMeaning) → spans a (map (line_of point) es) ≡ joined_spans a (span_of (first_positions es))
+spans-lines point a [] = sym (joined_spans-none a)
 spans-lines point a (e ∷ es) =
-    spans-lines point (joined a (span_of (positions_of e))) es
-    ∙ (joined_assoc a (span_of (positions_of e)) (span_of (first_positions es))
-    ∙ ap (joined a) (sym (span_of-append (positions_of e) (first_positions es))))
+    spans-lines point (joined_spans a (span_of (positions_of e))) es
+    ∙ (joined_spans-assoc a (span_of (positions_of e)) (span_of (first_positions es))
+    ∙ ap (joined_spans a) (sym (span_of-append (positions_of e) (first_positions es))))

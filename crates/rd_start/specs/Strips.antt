@@ -29,10 +29,10 @@ span_of [] = None
 span_of (p ∷ ps) = Some (record { first = fold min p ps; last = fold max p ps })
 
 -- that of the positions of both
-abbrev pub joined : Option Span → Option Span → Option Span
-joined None b = b
-joined (Some a) None = Some a
-joined (Some a) (Some b) = Some (record { first = min a.first b.first; last = max a.last b.last })
+abbrev pub joined_spans : Option Span → Option Span → Option Span
+joined_spans None b = b
+joined_spans (Some a) None = Some a
+joined_spans (Some a) (Some b) = Some (record { first = min a.first b.first; last = max a.last b.last })
 
 -- what is kept of a row
 abbrev pub line_of : ℕ → EntryMeaning → Line
@@ -136,9 +136,9 @@ AsksAt Top kind m s count = Between kind (home_row m s.sweep - count) (first_row
 AsksAt Bottom kind m s count = Between kind (first_row m s + length s.lines.items) (min (first_row m s + count) (count_in m s.sweep m.blocks))
 
 -- a list to which more was added at an edge, and the place of one of its elements behind so many
-abbrev pub joined_at : {X : Type 0} → Edge → List X → List X → List X
-joined_at Top xs more = more ++ xs
-joined_at Bottom xs more = xs ++ more
+abbrev pub lists_joined_at : {X : Type 0} → Edge → List X → List X → List X
+lists_joined_at Top xs more = more ++ xs
+lists_joined_at Bottom xs more = xs ++ more
 
 abbrev pub moved_at : Edge → ℕ → ℕ → ℕ
 moved_at Top place count = place + count
@@ -149,8 +149,8 @@ pub record IsPushed (edge : Edge) (old new : Strip) (b : Block) (rows : List Row
   pub small : b.end < 2 ^ 32
   pub sweep : new.sweep ≡ old.sweep
   pub home : new.home ≡ moved_at edge old.home (length rows)
-  pub blocks : new.blocks.items ≡ joined_at edge old.blocks.items (b ∷ [])
-  pub lines : new.lines.items ≡ joined_at edge old.lines.items (map (line_of old.sweep.point) (numbered b.start 0 rows))
+  pub blocks : new.blocks.items ≡ lists_joined_at edge old.blocks.items (b ∷ [])
+  pub lines : new.lines.items ≡ lists_joined_at edge old.lines.items (map (line_of old.sweep.point) (numbered b.start 0 rows))
 
 -- a strip that rows were added to at an edge
 abbrev pub GrowsAt : Edge → Strip → Strip → Type 0
@@ -161,7 +161,7 @@ GrowsAt Bottom old new = (new.home ≡ old.home) × (length old.lines.items ≤ 
 pub record StandsBeyond (m : SourceValues) (s : Strip) (edge : Edge) (b : Block) : Type 0 where
   pub before : List Block
   pub after : List Block
-  pub pieces : m.blocks ≡ before ++ (joined_at edge s.blocks.items (b ∷ []) ++ after)
+  pub pieces : m.blocks ≡ before ++ (lists_joined_at edge s.blocks.items (b ∷ []) ++ after)
   pub home : count_in m s.sweep before + moved_at edge s.home (length (rows_in m s.sweep b)) ≡ home_row m s.sweep
   pub among : IsAmong m.blocks b
 

@@ -4,7 +4,7 @@ ghost use Rattle.std.specs.List.{list_any};
 ghost use Rattle.rd_matrix.specs.Columns.{covers};
 ghost use Rattle.rd_start.specs.Strips.{line_of};
 
-use crate::span::{Span, joined, span_of};
+use crate::span::{Span, joined_spans, span_of};
 use crate::wanted::Wanted;
 use rd_base::{Anchor, Memory, Pos, Steps};
 use rd_matrix::{Block, BlockSource};
@@ -350,7 +350,7 @@ impl Strip {
     {
         let mut span = None;
         for place in from..to {
-            span = joined(span, self.lines[place].span);
+            span = joined_spans(span, self.lines[place].span);
         }
         span
     }

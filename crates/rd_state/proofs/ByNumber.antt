@@ -9,8 +9,8 @@ use Rattle.rd_state.specs.declared.window.WindowState.{WindowState}
 use Rattle.rd_state.specs.Windows.{window_of, place_in, with_window, without_window, AreApart}
 use Rattle.rd_state.proofs.Opening.{chosen, passed}
 
-abbrev pub Entry : Type 0
-Entry = ℕ × WindowState
+abbrev pub NumberedWindow : Type 0
+NumberedWindow = ℕ × WindowState
 
 pub eq-true : (a b : ℕ) → a ≡ b → (a == b) ≡ true
 eq-true a b h = grind (arith, nat_tests)
@@ -28,33 +28,33 @@ not-false false h = refl
 
 -- ---- the first entry, and the others
 
-pub window-here : (n : ℕ) (e : Entry) (rest : List Entry) → e.0 ≡ n → window_of n (e ∷ rest) ≡ Some e.1
+pub window-here : (n : ℕ) (e : NumberedWindow) (rest : List NumberedWindow) → e.0 ≡ n → window_of n (e ∷ rest) ≡ Some e.1
 window-here n e rest h = chosen (e.0 == n) (Some e.1) (window_of n rest) (eq-true e.0 n h)
 
-pub window-there : (n : ℕ) (e : Entry) (rest : List Entry) → e.0 ≢ n → window_of n (e ∷ rest) ≡ window_of n rest
+pub window-there : (n : ℕ) (e : NumberedWindow) (rest : List NumberedWindow) → e.0 ≢ n → window_of n (e ∷ rest) ≡ window_of n rest
 window-there n e rest h = passed (e.0 == n) (Some e.1) (window_of n rest) (eq-false e.0 n h)
 
-pub with-here : (n : ℕ) (f : WindowState → WindowState) (e : Entry) (rest : List Entry) → e.0 ≡ n → with_window n f (e ∷ rest) ≡ (e.0, f e.1) ∷ rest
+pub with-here : (n : ℕ) (f : WindowState → WindowState) (e : NumberedWindow) (rest : List NumberedWindow) → e.0 ≡ n → with_window n f (e ∷ rest) ≡ (e.0, f e.1) ∷ rest
 with-here n f e rest h = chosen (e.0 == n) _ _ (eq-true e.0 n h)
 
-pub with-there : (n : ℕ) (f : WindowState → WindowState) (e : Entry) (rest : List Entry) → e.0 ≢ n → with_window n f (e ∷ rest) ≡ e ∷ with_window n f rest
+pub with-there : (n : ℕ) (f : WindowState → WindowState) (e : NumberedWindow) (rest : List NumberedWindow) → e.0 ≢ n → with_window n f (e ∷ rest) ≡ e ∷ with_window n f rest
 with-there n f e rest h = passed (e.0 == n) _ _ (eq-false e.0 n h)
 
-pub without-here : (n : ℕ) (e : Entry) (rest : List Entry) → e.0 ≡ n → without_window n (e ∷ rest) ≡ rest
+pub without-here : (n : ℕ) (e : NumberedWindow) (rest : List NumberedWindow) → e.0 ≡ n → without_window n (e ∷ rest) ≡ rest
 without-here n e rest h = chosen (e.0 == n) _ _ (eq-true e.0 n h)
 
-pub without-there : (n : ℕ) (e : Entry) (rest : List Entry) → e.0 ≢ n → without_window n (e ∷ rest) ≡ e ∷ without_window n rest
+pub without-there : (n : ℕ) (e : NumberedWindow) (rest : List NumberedWindow) → e.0 ≢ n → without_window n (e ∷ rest) ≡ e ∷ without_window n rest
 without-there n e rest h = passed (e.0 == n) _ _ (eq-false e.0 n h)
 
-place-here : (n : ℕ) (e : Entry) (rest : List Entry) → e.0 ≡ n → place_in n (e ∷ rest) ≡ 0
+place-here : (n : ℕ) (e : NumberedWindow) (rest : List NumberedWindow) → e.0 ≡ n → place_in n (e ∷ rest) ≡ 0
 place-here n e rest h = passed (not (e.0 == n)) (1 + place_in n rest) 0 (not-true (e.0 == n) (eq-true e.0 n h))
 
-place-there : (n : ℕ) (e : Entry) (rest : List Entry) → e.0 ≢ n → place_in n (e ∷ rest) ≡ 1 + place_in n rest
+place-there : (n : ℕ) (e : NumberedWindow) (rest : List NumberedWindow) → e.0 ≢ n → place_in n (e ∷ rest) ≡ 1 + place_in n rest
 place-there n e rest h = chosen (not (e.0 == n)) (1 + place_in n rest) 0 (not-false (e.0 == n) (eq-false e.0 n h))
 
 -- ---- finding
 
-pub get-window : (n : ℕ) (ws : List Entry) (w : WindowState) → window_of n ws ≡ Some w → (k : ℕ) × (slice_get ws k ≡ Some (n, w))
+pub get-window : (n : ℕ) (ws : List NumberedWindow) (w : WindowState) → window_of n ws ≡ Some w → (k : ℕ) × (slice_get ws k ≡ Some (n, w))
 get-window n [] w h = absurd (cc)
 get-window n (e ∷ rest) w h = elim (cases_eq e.0 n) [
   | inl p ↦
@@ -64,21 +64,21 @@ get-window n (e ∷ rest) w h = elim (cases_eq e.0 n) [
 ]
 
 -- what is found at the place of a number
-pub record IsPlace (n i : ℕ) (ws : List Entry) (w : WindowState) : Type 0 where
+pub record IsPlace (n i : ℕ) (ws : List NumberedWindow) (w : WindowState) : Type 0 where
   pub at : slice_get ws i ≡ Some (n, w)
   pub window : window_of n ws ≡ Some w
   pub changed : (f : WindowState → WindowState) → set ws i (n, f w) ≡ with_window n f ws
   pub removed : remove ws i ≡ without_window n ws
 
-one-further : (n j : ℕ) (e : Entry) (rest : List Entry) (w : WindowState) → e.0 ≢ n → IsPlace n j rest w → IsPlace n (suc j) (e ∷ rest) w
+one-further : (n j : ℕ) (e : NumberedWindow) (rest : List NumberedWindow) (w : WindowState) → e.0 ≢ n → IsPlace n j rest w → IsPlace n (suc j) (e ∷ rest) w
 one-further n j e rest w q p = record {
   at = p.at;
   window = window-there n e rest q ∙ p.window;
-  changed = λ f. ap (λ (xs : List Entry). e ∷ xs) (p.changed f) ∙ sym (with-there n f e rest q);
-  removed = ap (λ (xs : List Entry). e ∷ xs) p.removed ∙ sym (without-there n e rest q);
+  changed = λ f. ap (λ (xs : List NumberedWindow). e ∷ xs) (p.changed f) ∙ sym (with-there n f e rest q);
+  removed = ap (λ (xs : List NumberedWindow). e ∷ xs) p.removed ∙ sym (without-there n e rest q);
 }
 
-found-by : (n i : ℕ) (ws : List Entry) → i ≡ place_in n ws → i < length ws → (w : WindowState) × IsPlace n i ws w
+found-by : (n i : ℕ) (ws : List NumberedWindow) → i ≡ place_in n ws → i < length ws → (w : WindowState) × IsPlace n i ws w
 found-by n i [] is less = absurd (omega arith)
 found-by n zero (e ∷ rest) is less = elim (cases_eq e.0 n) [
   | inl p ↦ (
@@ -99,10 +99,10 @@ found-by n (suc j) (e ∷ rest) is less = elim (cases_eq e.0 n) [
       (there.0, one-further n j e rest there.0 q there.1)
 ]
 
-pub found : (n i : ℕ) (ws : List Entry) → i ≡ place_in n ws → i < length ws → (w : WindowState) × IsPlace n i ws w
+pub found : (n i : ℕ) (ws : List NumberedWindow) → i ≡ place_in n ws → i < length ws → (w : WindowState) × IsPlace n i ws w
 found n i ws is less = found-by n i ws is less
 
-pub absent : (n : ℕ) (ws : List Entry) → length ws ≡ place_in n ws → window_of n ws ≡ None
+pub absent : (n : ℕ) (ws : List NumberedWindow) → length ws ≡ place_in n ws → window_of n ws ≡ None
 absent n [] h = refl
 absent n (e ∷ rest) h = elim (cases_eq e.0 n) [
   | inl p ↦ absurd (omega (arith, place-here n e rest p, h))
@@ -111,7 +111,7 @@ absent n (e ∷ rest) h = elim (cases_eq e.0 n) [
 
 -- ---- a window that becomes another
 
-pub window-same : (n : ℕ) (f : WindowState → WindowState) (ws : List Entry) → window_of n (with_window n f ws) ≡ option_map f (window_of n ws)
+pub window-same : (n : ℕ) (f : WindowState → WindowState) (ws : List NumberedWindow) → window_of n (with_window n f ws) ≡ option_map f (window_of n ws)
 window-same n f [] = refl
 window-same n f (e ∷ rest) = elim (cases_eq e.0 n) [
   | inl p ↦ ap (window_of n) (with-here n f e rest p) ∙ (window-here n (e.0, f e.1) rest p ∙ sym (ap (option_map f) (window-here n e rest p)))
@@ -120,7 +120,7 @@ window-same n f (e ∷ rest) = elim (cases_eq e.0 n) [
       ∙ (window-there n e (with_window n f rest) q ∙ (window-same n f rest ∙ sym (ap (option_map f) (window-there n e rest q))))
 ]
 
-pub window-other : (n m : ℕ) (f : WindowState → WindowState) (ws : List Entry) → m ≢ n → window_of m (with_window n f ws) ≡ window_of m ws
+pub window-other : (n m : ℕ) (f : WindowState → WindowState) (ws : List NumberedWindow) → m ≢ n → window_of m (with_window n f ws) ≡ window_of m ws
 window-other n m f [] ne = refl
 window-other n m f (e ∷ rest) ne = elim (cases_eq e.0 n) [
   | inl p ↦
@@ -132,13 +132,13 @@ window-other n m f (e ∷ rest) ne = elim (cases_eq e.0 n) [
   ]
 ]
 
-none-with : (n m : ℕ) (f : WindowState → WindowState) (ws : List Entry) → window_of m ws ≡ None → window_of m (with_window n f ws) ≡ None
+none-with : (n m : ℕ) (f : WindowState → WindowState) (ws : List NumberedWindow) → window_of m ws ≡ None → window_of m (with_window n f ws) ≡ None
 none-with n m f ws h = elim (cases_eq m n) [
   | inl p ↦ ap (λ (k : ℕ). window_of k (with_window n f ws)) p ∙ (window-same n f ws ∙ ap (option_map f) (ap (λ (k : ℕ). window_of k ws) (sym p) ∙ h))
   | inr q ↦ window-other n m f ws q ∙ h
 ]
 
-pub apart-with : (n : ℕ) (f : WindowState → WindowState) (ws : List Entry) → AreApart ws → AreApart (with_window n f ws)
+pub apart-with : (n : ℕ) (f : WindowState → WindowState) (ws : List NumberedWindow) → AreApart ws → AreApart (with_window n f ws)
 apart-with n f [] h = tt
 apart-with n f (e ∷ rest) h = elim (cases_eq e.0 n) [
   | inl p ↦ subst AreApart (sym (with-here n f e rest p)) (h.0, h.1)
@@ -146,32 +146,32 @@ apart-with n f (e ∷ rest) h = elim (cases_eq e.0 n) [
 ]
 
 -- an entry is one of the old ones, or what became of one
-abbrev pub CameFrom : ℕ → (WindowState → WindowState) → List Entry → ℕ → Entry → Type 0
-CameFrom n f ws k e = (slice_get ws k ≡ Some e) ⊎ ((old : Entry) × (slice_get ws k ≡ Some old) × (e ≡ (old.0, f old.1)) × (old.0 ≡ n))
+abbrev pub CameFrom : ℕ → (WindowState → WindowState) → List NumberedWindow → ℕ → NumberedWindow → Type 0
+CameFrom n f ws k e = (slice_get ws k ≡ Some e) ⊎ ((old : NumberedWindow) × (slice_get ws k ≡ Some old) × (e ≡ (old.0, f old.1)) × (old.0 ≡ n))
 
-pub get-with : (n : ℕ) (f : WindowState → WindowState) (ws : List Entry) (k : ℕ) (e : Entry) → slice_get (with_window n f ws) k ≡ Some e → CameFrom n f ws k e
+pub get-with : (n : ℕ) (f : WindowState → WindowState) (ws : List NumberedWindow) (k : ℕ) (e : NumberedWindow) → slice_get (with_window n f ws) k ≡ Some e → CameFrom n f ws k e
 get-with n f [] k e h = absurd (cc)
 get-with n f (x ∷ rest) zero e h = elim (cases_eq x.0 n) [
   | inl p ↦
-      let here : (x.0, f x.1) ≡ e = cc (sym (ap (λ (xs : List Entry). slice_get xs zero) (with-here n f x rest p)) ∙ h) in
+      let here : (x.0, f x.1) ≡ e = cc (sym (ap (λ (xs : List NumberedWindow). slice_get xs zero) (with-here n f x rest p)) ∙ h) in
       inr (x, refl, sym here, p)
-  | inr q ↦ inl (sym (ap (λ (xs : List Entry). slice_get xs zero) (with-there n f x rest q)) ∙ h)
+  | inr q ↦ inl (sym (ap (λ (xs : List NumberedWindow). slice_get xs zero) (with-there n f x rest q)) ∙ h)
 ]
 get-with n f (x ∷ rest) (suc k) e h = elim (cases_eq x.0 n) [
-  | inl p ↦ inl (sym (ap (λ (xs : List Entry). slice_get xs (suc k)) (with-here n f x rest p)) ∙ h)
-  | inr q ↦ get-with n f rest k e (sym (ap (λ (xs : List Entry). slice_get xs (suc k)) (with-there n f x rest q)) ∙ h)
+  | inl p ↦ inl (sym (ap (λ (xs : List NumberedWindow). slice_get xs (suc k)) (with-here n f x rest p)) ∙ h)
+  | inr q ↦ get-with n f rest k e (sym (ap (λ (xs : List NumberedWindow). slice_get xs (suc k)) (with-there n f x rest q)) ∙ h)
 ]
 
 -- ---- a window that goes
 
-pub window-gone : (n : ℕ) (ws : List Entry) → AreApart ws → window_of n (without_window n ws) ≡ None
+pub window-gone : (n : ℕ) (ws : List NumberedWindow) → AreApart ws → window_of n (without_window n ws) ≡ None
 window-gone n [] h = refl
 window-gone n (e ∷ rest) h = elim (cases_eq e.0 n) [
   | inl p ↦ ap (window_of n) (without-here n e rest p) ∙ (ap (λ (k : ℕ). window_of k rest) (sym p) ∙ h.0)
   | inr q ↦ ap (window_of n) (without-there n e rest q) ∙ (window-there n e (without_window n rest) q ∙ window-gone n rest h.1)
 ]
 
-pub window-left : (n m : ℕ) (ws : List Entry) → m ≢ n → window_of m (without_window n ws) ≡ window_of m ws
+pub window-left : (n m : ℕ) (ws : List NumberedWindow) → m ≢ n → window_of m (without_window n ws) ≡ window_of m ws
 window-left n m [] ne = refl
 window-left n m (e ∷ rest) ne = elim (cases_eq e.0 n) [
   | inl p ↦ ap (window_of m) (without-here n e rest p) ∙ sym (window-there m e rest (λ r. ne (sym r ∙ p)))
@@ -181,35 +181,35 @@ window-left n m (e ∷ rest) ne = elim (cases_eq e.0 n) [
   ]
 ]
 
-none-without : (n m : ℕ) (ws : List Entry) → AreApart ws → window_of m ws ≡ None → window_of m (without_window n ws) ≡ None
+none-without : (n m : ℕ) (ws : List NumberedWindow) → AreApart ws → window_of m ws ≡ None → window_of m (without_window n ws) ≡ None
 none-without n m ws h none = elim (cases_eq m n) [
   | inl p ↦ ap (λ (k : ℕ). window_of k (without_window n ws)) p ∙ window-gone n ws h
   | inr q ↦ window-left n m ws q ∙ none
 ]
 
-pub apart-without : (n : ℕ) (ws : List Entry) → AreApart ws → AreApart (without_window n ws)
+pub apart-without : (n : ℕ) (ws : List NumberedWindow) → AreApart ws → AreApart (without_window n ws)
 apart-without n [] h = tt
 apart-without n (e ∷ rest) h = elim (cases_eq e.0 n) [
   | inl p ↦ subst AreApart (sym (without-here n e rest p)) h.1
   | inr q ↦ subst AreApart (sym (without-there n e rest q)) (none-without n e.0 rest h.1 h.0, apart-without n rest h.1)
 ]
 
-pub get-without : (n : ℕ) (ws : List Entry) (k : ℕ) (e : Entry) → slice_get (without_window n ws) k ≡ Some e → (j : ℕ) × (slice_get ws j ≡ Some e)
+pub get-without : (n : ℕ) (ws : List NumberedWindow) (k : ℕ) (e : NumberedWindow) → slice_get (without_window n ws) k ≡ Some e → (j : ℕ) × (slice_get ws j ≡ Some e)
 get-without n [] k e h = absurd (cc)
 get-without n (x ∷ rest) zero e h = elim (cases_eq x.0 n) [
-  | inl p ↦ (suc zero, sym (ap (λ (xs : List Entry). slice_get xs zero) (without-here n x rest p)) ∙ h)
-  | inr q ↦ (zero, sym (ap (λ (xs : List Entry). slice_get xs zero) (without-there n x rest q)) ∙ h)
+  | inl p ↦ (suc zero, sym (ap (λ (xs : List NumberedWindow). slice_get xs zero) (without-here n x rest p)) ∙ h)
+  | inr q ↦ (zero, sym (ap (λ (xs : List NumberedWindow). slice_get xs zero) (without-there n x rest q)) ∙ h)
 ]
 get-without n (x ∷ rest) (suc k) e h = elim (cases_eq x.0 n) [
-  | inl p ↦ (suc (suc k), sym (ap (λ (xs : List Entry). slice_get xs (suc k)) (without-here n x rest p)) ∙ h)
+  | inl p ↦ (suc (suc k), sym (ap (λ (xs : List NumberedWindow). slice_get xs (suc k)) (without-here n x rest p)) ∙ h)
   | inr q ↦
-      let there = get-without n rest k e (sym (ap (λ (xs : List Entry). slice_get xs (suc k)) (without-there n x rest q)) ∙ h) in
+      let there = get-without n rest k e (sym (ap (λ (xs : List NumberedWindow). slice_get xs (suc k)) (without-there n x rest q)) ∙ h) in
       (suc there.0, there.1)
 ]
 
 -- ---- a window that comes
 
-pub window-end : (m : ℕ) (ws : List Entry) (e : Entry) → window_of m (ws ++ e ∷ []) ≡ option_or (window_of m ws) (if e.0 == m then Some e.1 else None)
+pub window-end : (m : ℕ) (ws : List NumberedWindow) (e : NumberedWindow) → window_of m (ws ++ e ∷ []) ≡ option_or (window_of m ws) (if e.0 == m then Some e.1 else None)
 window-end m [] e = refl
 window-end m (x ∷ rest) e = elim (cases_eq x.0 m) [
   | inl p ↦ window-here m x (rest ++ e ∷ []) p ∙ sym (ap (λ (o : Option WindowState). option_or o (if e.0 == m then Some e.1 else None)) (window-here m x rest p))
@@ -222,7 +222,7 @@ pub some-none : {X : Type 0} (x : X) (o : Option X) → o ≡ Some x → o ≡ N
 some-none x None h k = cc
 some-none x (Some y) h k = cc
 
-pub apart-end : (ws : List Entry) (e : Entry) → AreApart ws → window_of e.0 ws ≡ None → AreApart (ws ++ e ∷ [])
+pub apart-end : (ws : List NumberedWindow) (e : NumberedWindow) → AreApart ws → window_of e.0 ws ≡ None → AreApart (ws ++ e ∷ [])
 apart-end [] e h none = (refl, tt)
 apart-end (x ∷ rest) e h none =
     let other : x.0 ≢ e.0 = λ p. some-none x.1 (window_of e.0 (x ∷ rest)) (window-here e.0 x rest p) none in
@@ -244,22 +244,22 @@ get-end (x ∷ xs) y (suc k) b h = elim (get-end xs y k b h) [
 -- ---- all windows
 
 -- windows that become others under their numbers
-abbrev pub each_by : (WindowState → WindowState) → Entry → Entry
+abbrev pub each_by : (WindowState → WindowState) → NumberedWindow → NumberedWindow
 each_by f e = (e.0, f e.1)
 
-pub window-each : (n : ℕ) (f : WindowState → WindowState) (ws : List Entry) → window_of n (map (each_by f) ws) ≡ option_map f (window_of n ws)
+pub window-each : (n : ℕ) (f : WindowState → WindowState) (ws : List NumberedWindow) → window_of n (map (each_by f) ws) ≡ option_map f (window_of n ws)
 window-each n f [] = refl
 window-each n f (e ∷ rest) = elim (cases_eq e.0 n) [
   | inl p ↦ window-here n (e.0, f e.1) (map (each_by f) rest) p ∙ sym (ap (option_map f) (window-here n e rest p))
   | inr q ↦ window-there n (e.0, f e.1) (map (each_by f) rest) q ∙ (window-each n f rest ∙ sym (ap (option_map f) (window-there n e rest q)))
 ]
 
-pub apart-each : (f : WindowState → WindowState) (ws : List Entry) → AreApart ws → AreApart (map (each_by f) ws)
+pub apart-each : (f : WindowState → WindowState) (ws : List NumberedWindow) → AreApart ws → AreApart (map (each_by f) ws)
 apart-each f [] h = tt
 apart-each f (e ∷ rest) h = (window-each e.0 f rest ∙ ap (option_map f) h.0, apart-each f rest h.1)
 
-pub get-each : (f : WindowState → WindowState) (ws : List Entry) (k : ℕ) (e : Entry) → slice_get (map (each_by f) ws) k ≡ Some e
-    → (old : Entry) × (slice_get ws k ≡ Some old) × (e ≡ (old.0, f old.1))
+pub get-each : (f : WindowState → WindowState) (ws : List NumberedWindow) (k : ℕ) (e : NumberedWindow) → slice_get (map (each_by f) ws) k ≡ Some e
+    → (old : NumberedWindow) × (slice_get ws k ≡ Some old) × (e ≡ (old.0, f old.1))
 get-each f [] k e h = absurd (cc)
 get-each f (x ∷ rest) zero e h = (x, refl, cc)
 get-each f (x ∷ rest) (suc k) e h = get-each f rest k e h
@@ -267,11 +267,11 @@ get-each f (x ∷ rest) (suc k) e h = get-each f rest k e h
 -- ---- places and numbers
 
 -- no later entry has the number of the first
-pub window-at : (n : ℕ) (ws : List Entry) (k : ℕ) (e : Entry) → AreApart ws → slice_get ws k ≡ Some e → e.0 ≡ n → window_of n ws ≡ Some e.1
+pub window-at : (n : ℕ) (ws : List NumberedWindow) (k : ℕ) (e : NumberedWindow) → AreApart ws → slice_get ws k ≡ Some e → e.0 ≡ n → window_of n ws ≡ Some e.1
 window-at n [] k e apart h is = absurd (cc)
 window-at n (x ∷ rest) zero e apart h is =
     let same : x ≡ e = cc in
-    window-here n x rest (ap (λ (y : Entry). y.0) same ∙ is) ∙ ap (λ (y : Entry). Some y.1) same
+    window-here n x rest (ap (λ (y : NumberedWindow). y.0) same ∙ is) ∙ ap (λ (y : NumberedWindow). Some y.1) same
 window-at n (x ∷ rest) (suc k) e apart h is = elim (cases_eq x.0 n) [
   | inl p ↦ absurd (some-none e.1 (window_of n rest) (window-at n rest k e apart.1 h is) (ap (λ (m : ℕ). window_of m rest) (sym p) ∙ apart.0))
   | inr q ↦ window-there n x rest q ∙ window-at n rest k e apart.1 h is

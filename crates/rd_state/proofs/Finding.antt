@@ -11,59 +11,59 @@ use Rattle.rd_state.specs.declared.window.WindowState.{WindowState}
 use Rattle.rd_state.specs.States.{StateValue}
 use Rattle.rd_state.specs.Steps.{with_found, in_window, changing, setting}
 use Rattle.rd_state.specs.Windows.{window_of, place_in, with_window, without_window}
-use Rattle.rd_state.proofs.ByNumber.{Entry, IsPlace, found, absent}
+use Rattle.rd_state.proofs.ByNumber.{NumberedWindow, IsPlace, found, absent}
 
 missed : (b : Bool) (n : ℕ) → cond b (Some n) None ≡ None → b ≡ false
 missed true n h = absurd (cc)
 missed false n h = refl
 
 -- where no place is found the window does not live
-pub nowhere : (number : ℕ) (ws : List Entry) → position (λ e. e.0 == number) ws ≡ None → window_of number ws ≡ None
+pub nowhere : (number : ℕ) (ws : List NumberedWindow) → position (λ e. e.0 == number) ws ≡ None → window_of number ws ≡ None
 nowhere number ws h =
     let past = ltb-false (place_in number ws) (length ws) (missed (nat_lt (place_in number ws) (length ws)) (place_in number ws) h) in
-    absent number ws (omega (arith, past, prefix_len-le-length (λ (e : Entry). not (e.0 == number)) ws))
+    absent number ws (omega (arith, past, prefix_len-le-length (λ (e : NumberedWindow). not (e.0 == number)) ws))
 
 -- an entry that stands at the place of a number
-pub record IsFound (n i : ℕ) (ws : List Entry) (e : Entry) : Type 0 where
+pub record IsFound (n i : ℕ) (ws : List NumberedWindow) (e : NumberedWindow) : Type 0 where
   pub number : e.0 ≡ n
   pub window : window_of n ws ≡ Some e.1
   pub changed : (f : WindowState → WindowState) → set ws i (e.0, f e.1) ≡ with_window n f ws
   pub removed : remove ws i ≡ without_window n ws
 
-from-place : (n i : ℕ) (ws : List Entry) (w : WindowState) → IsPlace n i ws w → IsFound n i ws (n, w)
+from-place : (n i : ℕ) (ws : List NumberedWindow) (w : WindowState) → IsPlace n i ws w → IsFound n i ws (n, w)
 from-place n i ws w p = record { number = refl; window = p.window; changed = p.changed; removed = p.removed }
 
-pub found-entry : (n i : ℕ) (ws : List Entry) (e : Entry) → i ≡ place_in n ws → i < length ws → e ≡ get_or ws i e → IsFound n i ws e
+pub found-entry : (n i : ℕ) (ws : List NumberedWindow) (e : NumberedWindow) → i ≡ place_in n ws → i < length ws → e ≡ get_or ws i e → IsFound n i ws e
 found-entry n i ws e is less at =
     let there = found n i ws is less in
     let same : (n, there.0) ≡ e = cc (sym there.1.at ∙ (slice_get-get_or ws i e less ∙ ap Some (sym at))) in
     subst (IsFound n i ws) same (from-place n i ws there.0 there.1)
 
 -- what `find` answers, of the windows of a state
-pub found-in : (s : StateValue) (ws : List Entry) (n i : ℕ) (e : Entry) → ws ≡ s.windows → i ≡ place_in n ws → i < length ws → e ≡ get_or s.windows i e → IsFound n i s.windows e
+pub found-in : (s : StateValue) (ws : List NumberedWindow) (n i : ℕ) (e : NumberedWindow) → ws ≡ s.windows → i ≡ place_in n ws → i < length ws → e ≡ get_or s.windows i e → IsFound n i s.windows e
 found-in s ws n i e shown is less at =
     found-entry n i s.windows e (subst (λ xs. i ≡ place_in n xs) shown is) (subst (λ xs. i < length xs) shown less) at
 
 -- what is done to a window that was found
-pub at-window : (s t : StateValue) (n i : ℕ) (e : Entry) (g : StateValue → WindowState → Result StateValue Refused) → t ≡ s → IsFound n i t.windows e → in_window s n (g s) ≡ g t e.1
+pub at-window : (s t : StateValue) (n i : ℕ) (e : NumberedWindow) (g : StateValue → WindowState → Result StateValue Refused) → t ≡ s → IsFound n i t.windows e → in_window s n (g s) ≡ g t e.1
 at-window s t n i e g same there =
     ap (λ x. in_window x n (g x)) (sym same) ∙ ap (λ o. with_found NoWindow o (g t)) there.window
 
 -- a window that becomes another
-pub changes-window : (s t : StateValue) (n i : ℕ) (e : Entry) (f : WindowState → WindowState) → t ≡ s → IsFound n i t.windows e
+pub changes-window : (s t : StateValue) (n i : ℕ) (e : NumberedWindow) (f : WindowState → WindowState) → t ≡ s → IsFound n i t.windows e
     → record s { windows = with_window n f s.windows } ≡ record t { windows = set t.windows i (e.0, f e.1) }
 changes-window s t n i e f same there =
     ap (λ (x : StateValue). record x { windows = with_window n f x.windows }) (sym same) ∙ ap (λ xs. record t { windows = xs }) (sym (there.changed f))
 
-pub sets-window : (s t : StateValue) (n i : ℕ) (e : Entry) (f : WindowState → WindowState) → t ≡ s → IsFound n i t.windows e → setting s n f ≡ Ok (record t { windows = set t.windows i (e.0, f e.1) })
+pub sets-window : (s t : StateValue) (n i : ℕ) (e : NumberedWindow) (f : WindowState → WindowState) → t ≡ s → IsFound n i t.windows e → setting s n f ≡ Ok (record t { windows = set t.windows i (e.0, f e.1) })
 sets-window s t n i e f same there = at-window s t n i e (λ x w. changing n f (Ok x)) same there ∙ ap (λ x. Ok x) (changes-window t t n i e f refl there)
 
 -- a window that was found stands in an entry
-pub some-found : (s : StateValue) (ws : List Entry) (n i : ℕ) → ws ≡ s.windows → i ≡ place_in n ws → i < length ws → (e : Entry) × IsFound n i s.windows e
+pub some-found : (s : StateValue) (ws : List NumberedWindow) (n i : ℕ) → ws ≡ s.windows → i ≡ place_in n ws → i < length ws → (e : NumberedWindow) × IsFound n i s.windows e
 some-found s ws n i shown is less =
     let there = found n i s.windows (subst (λ xs. i ≡ place_in n xs) shown is) (subst (λ xs. i < length xs) shown less) in
     ((n, there.0), from-place n i s.windows there.0 there.1)
 
 -- which is one
-pub one-entry : (n i : ℕ) (ws : List Entry) (a b : Entry) → IsFound n i ws a → IsFound n i ws b → a.1 ≡ b.1
+pub one-entry : (n i : ℕ) (ws : List NumberedWindow) (a b : NumberedWindow) → IsFound n i ws a → IsFound n i ws b → a.1 ≡ b.1
 one-entry n i ws a b x y = let same : ◌≡◌ {A = Option WindowState} (Some a.1) (Some b.1) = sym x.window ∙ y.window in cc

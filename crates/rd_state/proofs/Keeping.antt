@@ -18,7 +18,7 @@ use Rattle.rd_state.specs.States.{BufferValue, ContentValue, StateValue, new_buf
 use Rattle.rd_state.specs.Windows.{window_of, with_window, without_window, AreApart, leaf_at, leaf_of}
 use Rattle.rd_state.specs.Valid.{most_buffers, AreToldByName, AreBuffers, IsContent, IsWindow, AreWindows}
 use Rattle.rd_state.specs.Moves.{place_after, moved, moved_in}
-use Rattle.rd_state.proofs.ByNumber.{Entry, each_by, window-each, apart-each, get-each, window-same, window-other, apart-with, get-with, get-end, window-at}
+use Rattle.rd_state.proofs.ByNumber.{NumberedWindow, each_by, window-each, apart-each, get-each, window-same, window-other, apart-with, get-with, get-end, window-at}
 
 -- ---- buffers
 
@@ -117,7 +117,7 @@ window-over bs cs w more old v = record {
   strings = v.strings;
 }
 
-windows-over : (bs cs : List BufferValue) (c : tree.Configuration) (ws : List Entry) (n : ℕ) → ((w : WindowState) → IsWindow bs w → IsWindow cs w) → AreWindows bs c ws n → AreWindows cs c ws n
+windows-over : (bs cs : List BufferValue) (c : tree.Configuration) (ws : List NumberedWindow) (n : ℕ) → ((w : WindowState) → IsWindow bs w → IsWindow cs w) → AreWindows bs c ws n → AreWindows cs c ws n
 windows-over bs cs c ws n keep v = record {
   tree = v.tree;
   leaves = v.leaves;
@@ -126,7 +126,7 @@ windows-over bs cs c ws n keep v = record {
   selected = v.selected;
 }
 
-pub windows-appended : (bs : List BufferValue) (name : List ℕ) (c : tree.Configuration) (ws : List Entry) (n : ℕ) → AreWindows bs c ws n → AreWindows (bs ++ new_buffer name ∷ []) c ws n
+pub windows-appended : (bs : List BufferValue) (name : List ℕ) (c : tree.Configuration) (ws : List NumberedWindow) (n : ℕ) → AreWindows bs c ws n → AreWindows (bs ++ new_buffer name ∷ []) c ws n
 windows-appended bs name c ws n v =
     windows-over bs (bs ++ new_buffer name ∷ []) c ws n (λ w o.
     let made = o.made in
@@ -134,7 +134,7 @@ windows-appended bs name c ws n v =
     (λ x h. elim (get-end bs (new_buffer name) w.buffer x h) [ inl p ↦ (x, p, λ p a. a) | inr p ↦ absurd (omega (arith, p.0)) ]) o) v
 
 -- where a position of one buffer and each position of the others go
-pub windows-replaced : (bs : List BufferValue) (i : ℕ) (b : BufferValue) (d : ContentValue) (c : tree.Configuration) (ws : List Entry) (n : ℕ) → slice_get bs i ≡ Some b
+pub windows-replaced : (bs : List BufferValue) (i : ℕ) (b : BufferValue) (d : ContentValue) (c : tree.Configuration) (ws : List NumberedWindow) (n : ℕ) → slice_get bs i ≡ Some b
     → ((p : ℕ) → IsAccessible b.content.text p → IsAccessible d.text p) → AreWindows bs c ws n → AreWindows (slice_set bs i (holding b d)) c ws n
 windows-replaced bs i b d c ws n at keep v =
     windows-over bs (slice_set bs i (holding b d)) c ws n (λ w o.
@@ -183,7 +183,7 @@ is_some-map : {X Y : Type 0} (f : X → Y) (o : Option X) → IsSome o → IsSom
 is_some-map f None h = h
 is_some-map f (Some x) h = h
 
-pub windows-moved : (bs : List BufferValue) (i : ℕ) (b : BufferValue) (d : ContentValue) (how : Move) (c : tree.Configuration) (ws : List Entry) (n : ℕ) → slice_get bs i ≡ Some b
+pub windows-moved : (bs : List BufferValue) (i : ℕ) (b : BufferValue) (d : ContentValue) (how : Move) (c : tree.Configuration) (ws : List NumberedWindow) (n : ℕ) → slice_get bs i ≡ Some b
     → ((p : ℕ) → IsAccessible b.content.text p → IsAccessible d.text (place_after how p)) → AreWindows bs c ws n
     → AreWindows (slice_set bs i (holding b d)) c (map (moved_in i how) ws) n
 windows-moved bs i b d how c ws n at keep v =
@@ -194,7 +194,7 @@ windows-moved bs i b d how c ws n at keep v =
       apart = apart-each f ws v.apart;
       each = λ k e h.
           let came = get-each f ws k e h in
-          subst (λ (x : Entry). IsWindow (slice_set bs i (holding b d)) x.1) (sym came.2)
+          subst (λ (x : NumberedWindow). IsWindow (slice_set bs i (holding b d)) x.1) (sym came.2)
           (moved-window bs i b d how came.0.1 (came.0.1.buffer == i) refl at keep (v.each k came.0 came.1));
       selected = subst IsSome (sym (window-each n f ws)) (is_some-map f (window_of n ws) v.selected);
     }
@@ -202,7 +202,7 @@ windows-moved bs i b d how c ws n at keep v =
 -- ---- one window
 
 -- a window that becomes another with the mode line and the margins that the tree has then
-pub windows-changed : (bs : List BufferValue) (c d : tree.Configuration) (ws : List Entry) (n number : ℕ) (f : WindowState → WindowState) → tree.IsValid d
+pub windows-changed : (bs : List BufferValue) (c d : tree.Configuration) (ws : List NumberedWindow) (n number : ℕ) (f : WindowState → WindowState) → tree.IsValid d
     → leaf_at number d.windows ≡ option_map (λ w. leaf_of (f w)) (window_of number ws)
     → ((k : ℕ) → k ≢ number → leaf_at k d.windows ≡ leaf_at k c.windows)
     → ((w : WindowState) → window_of number ws ≡ Some w → IsWindow bs w → IsWindow bs (f w)) → AreWindows bs c ws n → AreWindows bs d (with_window number f ws) n
@@ -220,7 +220,7 @@ windows-changed bs c d ws n number f valid here others keep v = record {
     | inl p ↦ v.each k e p
     | inr p ↦
         let found = window-at number ws k p.0 v.apart p.1 p.3 in
-        subst (λ (x : Entry). IsWindow bs x.1) (sym p.2) (keep p.0.1 found (v.each k p.0 p.1))
+        subst (λ (x : NumberedWindow). IsWindow bs x.1) (sym p.2) (keep p.0.1 found (v.each k p.0 p.1))
   ];
   selected = elim (cases_eq n number) [
     | inl p ↦ subst (λ (x : ℕ). IsSome (window_of x (with_window number f ws))) (sym p)

@@ -33,7 +33,7 @@ use Rattle.rd_state.specs.Moves.{moved, moved_in}
 use Rattle.rd_state.specs.Steps.{with_objects, changing, inserting, typing, setting, placing, on_tree, held, format_fault, making, raw_text, step}
 use Rattle.rd_state.proofs.AllSteps.{moved-buffer}
 use Rattle.rd_state.proofs.Below.{LeaveLaws, GrowLaws}
-use Rattle.rd_state.proofs.ByNumber.{Entry, window-each, window-same, window-other, window-end, window-gone, window-left, get-end, some-none}
+use Rattle.rd_state.proofs.ByNumber.{NumberedWindow, window-each, window-same, window-other, window-end, window-gone, window-left, get-end, some-none}
 use Rattle.rd_state.proofs.Keeping.{moved_by}
 use Rattle.rd_state.proofs.Leaving.{whole, whole-objects, stays-inserted, stays-deleted, StaysAround, stays-put, stays-made, AroundOverlay, stays-dropped, stays-given, AroundBoth, stays-moved, stays-marked, IsEditOf, moving-is, edited-is, edited_moving-is, others-whole, here-stays}
 use Rattle.rd_state.proofs.Naming.{made-none}
@@ -52,7 +52,7 @@ pub record Outcome (s t : StateValue) (effect : Effect) : Type 0 where
 
 -- ---- windows
 
-one-window : (n : ℕ) (ws : List Entry) (w v : WindowState) → window_of n ws ≡ Some w → window_of n ws ≡ Some v → w ≡ v
+one-window : (n : ℕ) (ws : List NumberedWindow) (w v : WindowState) → window_of n ws ≡ Some w → window_of n ws ≡ Some v → w ≡ v
 one-window n ws w v h k = cc
 
 show-same : (s t : StateValue) (effect : Effect) → t.windows ≡ s.windows → Show s t effect
@@ -65,7 +65,7 @@ show-each s t effect i how is number w v hw hv ne =
     let same : moved_by i how w ≡ v = cc (sym (ap (option_map (moved_by i how)) hw) ∙ after) in
     ap (λ (x : WindowState). x.buffer) (sym same) ∙ moved-buffer (w.buffer == i) (moved how) w (λ x. refl)
 
-with-buffer : (n number : ℕ) (f : WindowState → WindowState) (ws : List Entry) (w v : WindowState) → window_of number ws ≡ Some w → window_of number (with_window n f ws) ≡ Some v
+with-buffer : (n number : ℕ) (f : WindowState → WindowState) (ws : List NumberedWindow) (w v : WindowState) → window_of number ws ≡ Some w → window_of number (with_window n f ws) ≡ Some v
     → (number ≡ n → (f w).buffer ≡ w.buffer) → v.buffer ≡ w.buffer
 with-buffer n number f ws w v hw hv keep = elim (cases_eq number n) [
   | inl p ↦
@@ -83,7 +83,7 @@ show-other : (s t : StateValue) (n : ℕ) (f : WindowState → WindowState) → 
 show-other s t n f is number w v hw hv ne =
     with-buffer n number f s.windows w v hw (ap (window_of number) (sym is) ∙ hv) (λ p. absurd (ne (ap (λ (k : ℕ). Window k) (sym p))))
 
-show-end : (s t : StateValue) (effect : Effect) (e : Entry) → t.windows ≡ s.windows ++ e ∷ [] → Show s t effect
+show-end : (s t : StateValue) (effect : Effect) (e : NumberedWindow) → t.windows ≡ s.windows ++ e ∷ [] → Show s t effect
 show-end s t effect e is number w v hw hv ne =
     let other = if e.0 == number then Some e.1 else None in
     let after : option_or (window_of number s.windows) other ≡ Some v = sym (window-end number s.windows e) ∙ (ap (window_of number) (sym is) ∙ hv) in

@@ -26,7 +26,7 @@ use Rattle.rd_state.specs.Shown.{ChecksFormat}
 use Rattle.rd_state.specs.States.{StateValue}
 use Rattle.rd_state.specs.Steps.{changing, format_fault, in_window, mode_lining, on_tree, refused_tree, removing, splitting, step, unless_bad}
 use Rattle.rd_state.specs.Windows.{without_window}
-use Rattle.rd_state.proofs.ByNumber.{Entry, eq-true, eq-false}
+use Rattle.rd_state.proofs.ByNumber.{NumberedWindow, eq-true, eq-false}
 use Rattle.rd_state.proofs.Finding.{IsFound, at-window}
 use Rattle.rd_state.proofs.Leaves.{facts, is_some-leaf, leaf-placed}
 use Rattle.rd_state.proofs.Opening.{chosen, passed}
@@ -39,24 +39,24 @@ refuses (Ok x) op s t e is and same said = absurd (cc)
 refuses (Err x) op s t e is and same said = (same, λ _. said ∙ ap (λ y. Err y) (sym and))
 
 -- what a window's tree refuses
-pub tree-refuses : (s t : StateValue) (n i : ℕ) (e : Entry) (q : StateValue → Result Configuration TreeFault) (h : StateValue → WindowState → Configuration → StateValue) (fault : TreeFault)
+pub tree-refuses : (s t : StateValue) (n i : ℕ) (e : NumberedWindow) (q : StateValue → Result Configuration TreeFault) (h : StateValue → WindowState → Configuration → StateValue) (fault : TreeFault)
     → t ≡ s → IsFound n i t.windows e → q t ≡ Err fault → in_window s n (λ w. on_tree (q s) (h s w)) ≡ Err (refused_tree fault)
 tree-refuses s t n i e q h fault same there said =
     at-window s t n i e (λ x w. on_tree (q x) (h x w)) same there ∙ ap (λ r. on_tree r (h t e.1)) said
 
 -- the same where a window would change with it
-pub tree-refuses-change : (s t : StateValue) (n i : ℕ) (e : Entry) (f : WindowState → WindowState) (q : StateValue → Result Configuration TreeFault) (h : StateValue → Configuration → StateValue)
+pub tree-refuses-change : (s t : StateValue) (n i : ℕ) (e : NumberedWindow) (f : WindowState → WindowState) (q : StateValue → Result Configuration TreeFault) (h : StateValue → Configuration → StateValue)
     (fault : TreeFault) → t ≡ s → IsFound n i t.windows e → q t ≡ Err fault → in_window s n (λ w. changing n f (on_tree (q s) (h s))) ≡ Err (refused_tree fault)
 tree-refuses-change s t n i e f q h fault same there said =
     at-window s t n i e (λ x w. changing n f (on_tree (q x) (h x))) same there ∙ ap (λ r. changing n f (on_tree r (h t))) said
 
 -- the tree is asked by the number that stands beside the window
-pub asked : {X : Type 0} (q : ℕ → X) (n i : ℕ) (ws : List Entry) (e : Entry) (x : X) → IsFound n i ws e → q e.0 ≡ x → q n ≡ x
+pub asked : {X : Type 0} (q : ℕ → X) (n i : ℕ) (ws : List NumberedWindow) (e : NumberedWindow) (x : X) → IsFound n i ws e → q e.0 ≡ x → q n ≡ x
 asked q n i ws e x there said = ap q (sym there.number) ∙ said
 
 -- ---- a window taken away
 
-pub removes-window : (s t : StateValue) (n i : ℕ) (e : Entry) (d : Configuration) (ws : List Entry) (heir : ℕ) → t ≡ s → IsFound n i t.windows e → remove_tree t.tree n ≡ Ok d
+pub removes-window : (s t : StateValue) (n i : ℕ) (e : NumberedWindow) (d : Configuration) (ws : List NumberedWindow) (heir : ℕ) → t ≡ s → IsFound n i t.windows e → remove_tree t.tree n ≡ Ok d
     → ws ≡ remove t.windows i → heir ≡ (if t.selected == n then first_leaf (sibling n t.tree.windows) else t.selected)
     → removing s n ≡ Ok (record t { tree = d; windows = ws; selected = heir })
 removes-window s t n i e d ws heir same there said is chosen_is =
@@ -79,7 +79,7 @@ heir-passed old n e ws number other = sym (passed (old == n) (first_leaf (siblin
 
 -- ---- a window that changes with the tree
 
-pub changes-with-tree : (s t : StateValue) (n i : ℕ) (e : Entry) (f : WindowState → WindowState) (q : StateValue → Result Configuration TreeFault) (d : Configuration)
+pub changes-with-tree : (s t : StateValue) (n i : ℕ) (e : NumberedWindow) (f : WindowState → WindowState) (q : StateValue → Result Configuration TreeFault) (d : Configuration)
     → t ≡ s → IsFound n i t.windows e → q t ≡ Ok d
     → in_window s n (λ w. changing n f (on_tree (q s) (λ c. record s { tree = c }))) ≡ Ok (record t { tree = d; windows = set t.windows i (e.0, f e.1) })
 changes-with-tree s t n i e f q d same there said =
@@ -154,7 +154,7 @@ split-clamped split inside c n size short side valid is = elim (cases_lt size 42
       (never-fits split inside c n short c.made side valid (omega (arith, is, more)))
 ]
 
-pub splits-window : (s t : StateValue) (n i : ℕ) (e : Entry) (side : Side) (size : ℕ) (d : Configuration) (w : WindowState) (made : ℕ) (ws : List Entry) → t ≡ s → IsFound n i t.windows e
+pub splits-window : (s t : StateValue) (n i : ℕ) (e : NumberedWindow) (side : Side) (size : ℕ) (d : Configuration) (w : WindowState) (made : ℕ) (ws : List NumberedWindow) → t ≡ s → IsFound n i t.windows e
     → split_tree t.tree n side size ≡ Ok d → made ≡ t.tree.made → w ≡ record e.1 { forced = false; pending = pos 0 } → ws ≡ t.windows ++ (made, w) ∷ []
     → splitting s n side size ≡ Ok (record t { tree = d; windows = ws })
 splits-window s t n i e side size d w made ws same there said number copy is =
@@ -165,7 +165,7 @@ splits-window s t n i e side size d w made ws same there said number copy is =
     ∙ (ap (λ k. Ok (record t { tree = d; windows = t.windows ++ (k, twin e.1) ∷ [] })) (sym number)
     ∙ (ap (λ v. Ok (record t { tree = d; windows = t.windows ++ (made, v) ∷ [] })) (sym copy) ∙ ap (λ xs. Ok (record t { tree = d; windows = xs })) (sym is))))
 
-split-said : (x : Refused) (fault : TreeFault) (said : Result Configuration TreeFault) (s t u : StateValue) (n i : ℕ) (e : Entry) (side : Side) (size : ℕ) (d : Configuration)
+split-said : (x : Refused) (fault : TreeFault) (said : Result Configuration TreeFault) (s t u : StateValue) (n i : ℕ) (e : NumberedWindow) (side : Side) (size : ℕ) (d : Configuration)
     → x ≡ refused_tree fault → t ≡ s → IsFound n i t.windows e → split_tree t.tree n side size ≡ said → (d ≡ t.tree) × (said ≡ Err fault) → u ≡ record t { tree = d }
     → Applies (Err x) (SplitWindow n side size) s u
 unfolding step
@@ -176,7 +176,7 @@ split-said x fault said s t u n i e side size d and same there asks splits leave
     )
 
 -- a split that the tree refuses, or that finds no memory
-pub split-refused : (r : Result Effect Refused) (fault : TreeFault) (said : Result Configuration TreeFault) (s t u : StateValue) (n i : ℕ) (e : Entry) (side : Side) (size : ℕ) (d : Configuration)
+pub split-refused : (r : Result Effect Refused) (fault : TreeFault) (said : Result Configuration TreeFault) (s t u : StateValue) (n i : ℕ) (e : NumberedWindow) (side : Side) (size : ℕ) (d : Configuration)
     → IsErr r → IsErrAnd r (λ x. x ≡ refused_tree fault) → t ≡ s → IsFound n i t.windows e → split_tree t.tree n side size ≡ said → Splits (Err fault) said t.tree d → u ≡ record t { tree = d }
     → Applies r (SplitWindow n side size) s u
 unfolding step
@@ -191,7 +191,7 @@ split-refused (Err x) tree_faults.LastWindow said s t u n i e side size d is and
 -- ---- mode lines
 
 -- where a format is bad a window's mode line does not change
-pub format-refuses : (s t : StateValue) (n i : ℕ) (e : Entry) (format : Option (List ℕ)) (x : Refused) → t ≡ s → IsFound n i t.windows e → ChecksFormat {A = Unit {0}} (Err x) (format_fault format)
+pub format-refuses : (s t : StateValue) (n i : ℕ) (e : NumberedWindow) (format : Option (List ℕ)) (x : Refused) → t ≡ s → IsFound n i t.windows e → ChecksFormat {A = Unit {0}} (Err x) (format_fault format)
     → mode_lining s n format ≡ Err x
 format-refuses s t n i e format x same there bad =
     let done : StateValue → Result StateValue Refused = λ y. changing n (λ old. record old { format = format }) (on_tree (mode_tree y.tree n (is_some format)) (λ c. record y { tree = c })) in

@@ -27,7 +27,7 @@ use Rattle.rd_state.specs.Valid.{IsWindow, AreWindows, IsFrame, IsGoodFormat, Is
 use Rattle.rd_state.specs.Edits.{is_accessible}
 use Rattle.rd_state.specs.Steps.{with_found, in_buffer, in_window, in_shown, changing, on_tree, refused_tree, splitting, removing, showing, placing, setting, held, format_fault, unless_bad, mode_lining, margining}
 use Rattle.rd_state.proofs.Below.{TreeLaws}
-use Rattle.rd_state.proofs.ByNumber.{Entry, window-end, apart-end, get-end, window-gone, window-left, apart-without, get-without, get-window, some-none, eq-true, eq-false}
+use Rattle.rd_state.proofs.ByNumber.{NumberedWindow, window-end, apart-end, get-end, window-gone, window-left, apart-without, get-without, get-window, some-none, eq-true, eq-false}
 use Rattle.rd_state.proofs.Keeping.{windows-changed}
 use Rattle.rd_state.proofs.Opening.{chosen, passed}
 use Rattle.rd_state.proofs.Leaves.{Leaf, is_some-leaf, leaf-none, leaf-resized, leaf-same, leaf-other, split-same, split-other, split-new, removed-same, removed-other, heir-held, leaf-times}
@@ -81,7 +81,7 @@ resize-means c d width height h =
 
 -- ---- states with other windows
 
-pub with_windows : (s : StateValue) (c : Configuration) (ws : List Entry) (n : ℕ) → IsValid s → AreWindows s.buffers c ws n → c.width ≡ s.tree.width → c.height ≡ s.tree.height
+pub with_windows : (s : StateValue) (c : Configuration) (ws : List NumberedWindow) (n : ℕ) → IsValid s → AreWindows s.buffers c ws n → c.width ≡ s.tree.width → c.height ≡ s.tree.height
     → IsValid (record s { tree = c; windows = ws; selected = n })
 with_windows s c ws n v w wide high = record {
   buffers = v.buffers;
@@ -106,7 +106,7 @@ option-same f g None h = refl
 option-same f g (Some x) h = ap (λ y. Some y) (h x)
 
 -- one window becomes another, and the tree stays
-windows-set : (bs : List BufferValue) (c : Configuration) (ws : List Entry) (n number : ℕ) (f : WindowState → WindowState) → ((w : WindowState) → leaf_of (f w) ≡ leaf_of w)
+windows-set : (bs : List BufferValue) (c : Configuration) (ws : List NumberedWindow) (n number : ℕ) (f : WindowState → WindowState) → ((w : WindowState) → leaf_of (f w) ≡ leaf_of w)
     → ((w : WindowState) → window_of number ws ≡ Some w → IsWindow bs w → IsWindow bs (f w)) → AreWindows bs c ws n → AreWindows bs c (with_window number f ws) n
 windows-set bs c ws n number f same keep v =
     windows-changed bs c c ws n number f v.tree (v.leaves number ∙ option-same leaf_of (λ w. leaf_of (f w)) (window_of number ws) (λ w. sym (same w))) (λ k q. refl) keep v
@@ -137,7 +137,7 @@ setting-valid s t number f v same keep h = set-valid s t number f v same keep (f
 one-there : {X : Type 0} (xs : List X) (i : ℕ) (b c : X) → slice_get xs i ≡ Some b → slice_get xs i ≡ Some c → b ≡ c
 one-there xs i b c h k = cc
 
-same-window : (n : ℕ) (ws : List Entry) (w v : WindowState) → window_of n ws ≡ Some w → window_of n ws ≡ Some v → w ≡ v
+same-window : (n : ℕ) (ws : List NumberedWindow) (w v : WindowState) → window_of n ws ≡ Some w → window_of n ws ≡ Some v → w ≡ v
 same-window n ws w v h k = cc
 
 pub placing-valid : (s t : StateValue) (number place : ℕ) (f : WindowState → WindowState) → IsValid s → ((w : WindowState) → leaf_of (f w) ≡ leaf_of w)
@@ -372,7 +372,7 @@ split-windows s d number side size w copy v valid is found leaf new =
       apart = apart-end s.windows (made, copy) v.windows.apart fresh;
       each = λ k e h. elim (get-end s.windows (made, copy) k e h) [
         | inl p ↦ v.windows.each k e p
-        | inr p ↦ subst (λ (x : Entry). IsWindow s.buffers x.1) (sym p.1) new
+        | inr p ↦ subst (λ (x : NumberedWindow). IsWindow s.buffers x.1) (sym p.1) new
       ];
       selected = subst IsSome (sym (window-end s.selected s.windows (made, copy))) (some-or (window_of s.selected s.windows) _ v.windows.selected);
     }
@@ -400,7 +400,7 @@ some-window : (o : Option WindowState) → is_some (option_map leaf_of o) ≡ tr
 some-window None h = absurd (cc)
 some-window (Some w) h = refl
 
-selected-after : (t : Bool) (heir old : ℕ) (ws : List Entry) → (t ≡ true → IsSome (window_of heir ws)) → (t ≡ false → IsSome (window_of old ws)) → IsSome (window_of (if t then heir else old) ws)
+selected-after : (t : Bool) (heir old : ℕ) (ws : List NumberedWindow) → (t ≡ true → IsSome (window_of heir ws)) → (t ≡ false → IsSome (window_of old ws)) → IsSome (window_of (if t then heir else old) ws)
 selected-after true heir old ws h g = h refl
 selected-after false heir old ws h g = g refl
 

@@ -13,7 +13,7 @@ use Rattle.rd_base.specs.declared.limits.TheConstants.{ENTRY_GLYPHS}
 use Rattle.rd_objects.specs.Tables as tables
 use Rattle.rd_objects.specs.Tables.{is_control, has_no_glyph, is_glyph_character, is_slot_glyph, HoldsGlyph, IsTable}
 use Rattle.rd_objects.specs.Widths.{columns}
-use Rattle.rd_objects.specs.declared.table.Entry.{Entry}
+use Rattle.rd_objects.specs.declared.table.TableEntry.{TableEntry}
 use Rattle.rd_script.specs.Forms.{is_glyph, is_glyph_text, is_slot, IsSlot, IsEllipsis, IsEntryInForm}
 use Rattle.rd_script.specs.declared.object.OpEntry.{OpEntry}
 use Rattle.rd_state.specs.Making.{glyph_of, entry_of, table_of}
@@ -70,7 +70,7 @@ pub table-right : (entries : List OpEntry) (truncation continuation escape contr
     → IsSlot truncation → IsSlot continuation → IsSlot escape → IsSlot control → IsEllipsis ellipsis → IsSlot border
     → IsTable (table_of entries truncation continuation escape control ellipsis border)
 table-right entries truncation continuation escape control ellipsis border e t n s c l b = record {
-  entries = All-map (λ (x : Entry). IsTrue (tables.is_glyph_text x.text)) entry_of entries
+  entries = All-map (λ (x : TableEntry). IsTrue (tables.is_glyph_text x.text)) entry_of entries
       (All-weaker IsEntryInForm (λ x. IsTrue (tables.is_glyph_text (entry_of x).text)) (λ x form. text-right x.text form.text) entries e);
   truncation = slot-holds truncation t;
   continuation = slot-holds continuation n;

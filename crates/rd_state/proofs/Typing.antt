@@ -20,7 +20,7 @@ use Rattle.rd_state.specs.Steps.{with_found, in_shown, replaced, moving, changin
 use Rattle.rd_state.specs.Valid.{IsValid}
 use Rattle.rd_state.specs.Windows.{place_in, with_window, selected_window}
 use Rattle.rd_state.proofs.ByName.{AnswersAt}
-use Rattle.rd_state.proofs.ByNumber.{Entry}
+use Rattle.rd_state.proofs.ByNumber.{NumberedWindow}
 use Rattle.rd_state.proofs.Finding.{IsFound, found-entry, at-window}
 use Rattle.rd_state.proofs.Stepping.{insertion-means}
 
@@ -28,7 +28,7 @@ use Rattle.rd_state.proofs.Stepping.{insertion-means}
 
 -- the positions of the windows that show a buffer stay small when a text is put in
 pub can-insert : (s : StateValue) (i place : ℕ) (new : List ℕ) (bs : List BufferValue) → IsValid s → AnswersAt (Ok tt) (insertion place new) i s.buffers bs
-    → (k : ℕ) (e : Entry) → slice_get s.windows k ≡ Some e → CanMove i (Inserted place (length new)) e
+    → (k : ℕ) (e : NumberedWindow) → slice_get s.windows k ≡ Some e → CanMove i (Inserted place (length new)) e
 can-insert s i place new bs valid (b, c, at, gives, is) k e there shows =
     let means = insertion-means place new b.content c gives in
     let room = means.1 in
@@ -41,18 +41,18 @@ can-insert s i place new bs valid (b, c, at, gives, is) k e there shows =
     (omega arith, omega arith)
 
 -- a window shows a buffer that was made
-pub shows-made : (s : StateValue) (i : ℕ) (e : Entry) → IsValid s → i < length s.windows → e ≡ get_or s.windows i e → e.1.buffer < length s.buffers
+pub shows-made : (s : StateValue) (i : ℕ) (e : NumberedWindow) → IsValid s → i < length s.windows → e ≡ get_or s.windows i e → e.1.buffer < length s.buffers
 shows-made s i e valid less at = (valid.windows.each i e (slice_get-get_or s.windows i e less ∙ ap Some (sym at))).made
 
 -- ---- typing
 
 -- the place of a number among the windows that moved
-place-moved : (n i : ℕ) (how : Move) (ws : List Entry) → place_in n (map (moved_in i how) ws) ≡ place_in n ws
+place-moved : (n i : ℕ) (how : Move) (ws : List NumberedWindow) → place_in n (map (moved_in i how) ws) ≡ place_in n ws
 place-moved n i how [] = refl
 place-moved n i how (e ∷ ws) = ap (λ k. cond (not (e.0 == n)) (1 + k) 0) (place-moved n i how ws)
 
 -- the selected window among those that moved
-pub found-moved : (n i j : ℕ) (how : Move) (ws moved : List Entry) (e : Entry) → moved ≡ map (moved_in j how) ws → i ≡ place_in n ws → i < length ws → e ≡ get_or moved i e → IsFound n i moved e
+pub found-moved : (n i j : ℕ) (how : Move) (ws moved : List NumberedWindow) (e : NumberedWindow) → moved ≡ map (moved_in j how) ws → i ≡ place_in n ws → i < length ws → e ≡ get_or moved i e → IsFound n i moved e
 found-moved n i j how ws moved e is place less at =
     found-entry n i moved e (place ∙ (sym (place-moved n j how ws) ∙ ap (place_in n) (sym is))) (omega (arith, less, ap length is, length-map ws (moved_in j how))) at
 
@@ -79,7 +79,7 @@ typed-err s new w refused (b, at, gives) =
     ∙ ap (λ r. changing s.selected f (moving w.buffer (Inserted w.point (length new)) (replaced s w.buffer b r))) gives
 
 -- the selected window as it was found, and as it stands among those that moved
-pub typing-ok : (s t : StateValue) (new : List ℕ) (i : ℕ) (e d : Entry) (bs : List BufferValue) (ws : List Entry) → t ≡ s → IsFound t.selected i t.windows e
+pub typing-ok : (s t : StateValue) (new : List ℕ) (i : ℕ) (e d : NumberedWindow) (bs : List BufferValue) (ws : List NumberedWindow) → t ≡ s → IsFound t.selected i t.windows e
     → AnswersAt (Ok tt) (insertion e.1.point new) e.1.buffer t.buffers bs → ws ≡ map (moved_in e.1.buffer (Inserted e.1.point (length new))) t.windows → IsFound t.selected i ws d
     → typing s new ≡ Ok (record t { buffers = bs; windows = set ws i (d.0, record d.1 { point = e.1.point + length new }) })
 typing-ok s t new i e d bs ws same there inserted moved there_2 =
@@ -87,10 +87,10 @@ typing-ok s t new i e d bs ws same there inserted moved there_2 =
     sym (ap (λ (x : StateValue). typing x new) same)
     ∙ (at-window t t t.selected i e (λ x w. typed t new w) refl there
     ∙ (typed-ok t new e.1 bs inserted
-    ∙ (ap (λ (xs : List Entry). Ok (record t { buffers = bs; windows = with_window t.selected f xs })) (sym moved)
-    ∙ ap (λ (xs : List Entry). Ok (record t { buffers = bs; windows = xs })) (sym (there_2.changed f)))))
+    ∙ (ap (λ (xs : List NumberedWindow). Ok (record t { buffers = bs; windows = with_window t.selected f xs })) (sym moved)
+    ∙ ap (λ (xs : List NumberedWindow). Ok (record t { buffers = bs; windows = xs })) (sym (there_2.changed f)))))
 
-pub typing-err : (s t : StateValue) (new : List ℕ) (i : ℕ) (e : Entry) (refused : Refused) → t ≡ s → IsFound t.selected i t.windows e
+pub typing-err : (s t : StateValue) (new : List ℕ) (i : ℕ) (e : NumberedWindow) (refused : Refused) → t ≡ s → IsFound t.selected i t.windows e
     → (b : BufferValue) × (slice_get t.buffers e.1.buffer ≡ Some b) × (insertion e.1.point new b.content ≡ Err refused) → typing s new ≡ Err refused
 typing-err s t new i e refused same there said =
     sym (ap (λ (x : StateValue). typing x new) same)
@@ -98,7 +98,7 @@ typing-err s t new i e refused same there said =
     ∙ typed-err t new e.1 refused said)
 
 -- the effect tells the selected window's buffer and its point
-pub typing-effect : (s t : StateValue) (new : List ℕ) (i : ℕ) (e : Entry) → t ≡ s → IsFound t.selected i t.windows e
+pub typing-effect : (s t : StateValue) (new : List ℕ) (i : ℕ) (e : NumberedWindow) → t ≡ s → IsFound t.selected i t.windows e
     → inserted_effect e.1.buffer e.1.point new ≡ inserted_effect (selected_window s).buffer (selected_window s).point new
 typing-effect s t new i e same there =
     let is : e.1 ≡ selected_window s = sym (ap (λ o. unwrap_or o opening_window) there.window) ∙ ap selected_window same in

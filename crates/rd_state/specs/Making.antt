@@ -12,7 +12,7 @@ use Rattle.rd_objects.specs.declared.fault.ObjectFault.TheVariants as faults
 use Rattle.rd_objects.specs.declared.run.Run.{Run}
 use Rattle.rd_objects.specs.declared.run.Spec.{Spec}
 use Rattle.rd_objects.specs.declared.run.Spec.TheVariants.{Text, Width, Align}
-use Rattle.rd_objects.specs.declared.table.Entry.{Entry}
+use Rattle.rd_objects.specs.declared.table.TableEntry.{TableEntry}
 use Rattle.rd_script.specs.declared.object.OpEntry.{OpEntry}
 use Rattle.rd_script.specs.declared.object.OpRun.{OpRun}
 use Rattle.rd_script.specs.declared.object.OpSpec.{OpSpec}
@@ -54,7 +54,7 @@ face_making o face = unless_fault (full_fault FACES (length o.faces)) (face_adde
 abbrev pub glyph_of : ℕ → Glyph
 glyph_of c = single c (columns c)
 
-abbrev pub entry_of : OpEntry → Entry
+abbrev pub entry_of : OpEntry → TableEntry
 entry_of entry = record { code = entry.code; text = map glyph_of entry.text }
 
 abbrev pub table_making : ObjectLists → TableValue → Result ObjectLists Refused

@@ -5,8 +5,8 @@ use Rattle.rd_state.specs.declared.moves.Move.TheVariants.{Inserted, Deleted, Na
 use Rattle.rd_state.specs.declared.window.WindowState.{WindowState}
 
 -- a window under its number
-abbrev pub Entry : Type 0
-Entry = ℕ × WindowState
+abbrev pub NumberedWindow : Type 0
+NumberedWindow = ℕ × WindowState
 
 -- a position stays one of 32 bits when it moves
 abbrev pub IsMovable : Move → ℕ → Type 0
@@ -15,5 +15,5 @@ IsMovable (Deleted from to) p = from ≤ to
 IsMovable (Narrowed from to) p = Unit {0}
 
 -- the point and the view of a window do so, where it shows the buffer with this number
-abbrev pub CanMove : ℕ → Move → Entry → Type 0
+abbrev pub CanMove : ℕ → Move → NumberedWindow → Type 0
 CanMove buffer how e = e.1.buffer ≡ buffer → IsMovable how e.1.point × IsMovable how e.1.anchor.pos

@@ -1,4 +1,4 @@
-//! The ops that make objects, as methods of `Parts`. Each tells its effect, which is nothing.
+//! The ops that make objects, as methods of `StateParts`. Each tells its effect, which is nothing.
 ghost use Rattle.rd_script.specs.Forms.{IsInForm};
 ghost use Rattle.rd_script.specs.declared.op.Op.TheVariants.{AddString, AddSpec, AddFace, AddTable};
 ghost use Rattle.rd_state.specs.Answers.{Applies};
@@ -6,13 +6,13 @@ ghost use Rattle.rd_state.specs.Valid.{IsValid};
 
 use crate::effect::Effect;
 use crate::objects::{add_face, add_spec, add_string, add_table};
-use crate::parts::Parts;
+use crate::parts::StateParts;
 use crate::refused::Refused;
 use crate::table::{TableParts, make_table};
 use rd_base::{Ch, Face};
 use rd_script::{OpRun, OpSpec};
 
-impl Parts {
+impl StateParts {
     /// Makes a string with runs of faces and display specs.
     #[tactic(auto, unfolding(crate::specs::Steps::step, crate::specs::Effects::effect_of))]
     pub(crate) fn add_string(&mut self, text: &[Ch], runs: &[OpRun]) -> Result<Effect, Refused>

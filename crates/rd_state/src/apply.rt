@@ -1,16 +1,16 @@
-//! `Parts::apply`: the one match over all ops. Each op's method stands in the module of its subject.
+//! `StateParts::apply`: the one match over all ops. Each op's method stands in the module of its subject.
 ghost use Rattle.std.specs.Prelude.{◌≡◌, IsTrue};
 ghost use Rattle.rd_script.specs.Forms.{IsInForm};
 ghost use Rattle.rd_state.specs.Answers.{IsApplied, Applies, takes_memory};
 ghost use Rattle.rd_state.specs.Valid.{IsValid};
 
 use crate::effect::Effect;
-use crate::parts::Parts;
+use crate::parts::StateParts;
 use crate::refused::Refused;
 use crate::table::TableParts;
 use rd_script::Op;
 
-impl Parts {
+impl StateParts {
     /// Applies one op other than those that show the frame or read what was shown. A refusal is the first that the op meets, and leaves
     /// all as it was.
     pub(crate) fn apply(&mut self, op: Op) -> Result<Effect, Refused>

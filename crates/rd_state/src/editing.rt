@@ -1,4 +1,4 @@
-//! The ops on the texts of buffers by name, as methods of `Parts`. Each moves the windows' points with the text, and tells its effect.
+//! The ops on the texts of buffers by name, as methods of `StateParts`. Each moves the windows' points with the text, and tells its effect.
 ghost use Rattle.std.specs.Prelude.{◌≢◌};
 ghost use Rattle.rd_script.specs.Forms.{IsInForm};
 ghost use Rattle.rd_script.specs.declared.op.Op.TheVariants.{Buffer as MakeBuffer, Insert, InsertRaw, TypeText, Delete, Narrow, Widen};
@@ -8,7 +8,7 @@ ghost use Rattle.rd_state.specs.Valid.{IsValid};
 use crate::buffers::{add, find};
 use crate::effect::Effect;
 use crate::moves::{Move, move_windows};
-use crate::parts::Parts;
+use crate::parts::StateParts;
 use crate::raw::raw_text;
 use crate::refused::Refused;
 use crate::windows;
@@ -19,7 +19,7 @@ use rd_script::BufferName;
 /// How many buffers there can be.
 const MOST_BUFFERS: usize = BUFFERS as usize;
 
-impl Parts {
+impl StateParts {
     /// Makes an empty buffer.
     #[tactic(auto, unfolding(crate::specs::Steps::step, crate::specs::Effects::effect_of))]
     pub(crate) fn make(&mut self, name: BufferName) -> Result<Effect, Refused>

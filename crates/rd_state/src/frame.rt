@@ -1,15 +1,15 @@
-//! The ops on what belongs to the whole frame, as methods of `Parts`: its size, scrolling, the echo text, shifts of rows.
+//! The ops on what belongs to the whole frame, as methods of `StateParts`: its size, scrolling, the echo text, shifts of rows.
 ghost use Rattle.std.specs.Prelude.{◌≢◌};
 ghost use Rattle.rd_script.specs.declared.op.Op.TheVariants.{Frame, Scrolling, Echo, Shift};
 ghost use Rattle.rd_script.specs.Forms.{IsInForm};
 ghost use Rattle.rd_state.specs.Answers.{Applies};
 
 use crate::effect::Effect;
-use crate::parts::Parts;
+use crate::parts::StateParts;
 use crate::refused::Refused;
 use rd_base::{Ch, ListOf};
 
-impl Parts {
+impl StateParts {
     /// Gives the frame other columns and rows, which the windows share anew.
     #[tactic(auto, unfolding(crate::specs::Steps::step, crate::specs::Effects::effect_of))]
     pub(crate) fn resize(&mut self, width: u32, height: u32) -> Result<Effect, Refused>

@@ -1,7 +1,7 @@
 //! Where the points and the views of windows move when the text that they show changes.
 ghost use Rattle.std.specs.Prelude.{◌≡◌, ℕ, ◌+◌, ◌<◌, ◌≤◌, Some, map, slice_get};
 ghost use Rattle.rd_state.specs.Moves.{after_insertion, after_deletion, brought_into, place_after, moved, moved_in};
-ghost use Rattle.rd_state.specs.Movable.{IsMovable, Entry, CanMove};
+ghost use Rattle.rd_state.specs.Movable.{IsMovable, NumberedWindow, CanMove};
 
 use crate::window::WindowState;
 use rd_base::Pos;
@@ -17,7 +17,7 @@ pub enum Move {
 
 /// Moves the windows that show the buffer with this number.
 pub(crate) fn move_windows(windows: &mut Vec<(u32, WindowState)>, buffer: u32, how: Move)
-    requires { (k : ℕ) (e : Entry) → slice_get windows.old.items k ≡ Some e → CanMove buffer how e }
+    requires { (k : ℕ) (e : NumberedWindow) → slice_get windows.old.items k ≡ Some e → CanMove buffer how e }
     ensures { windows.new.items ≡ map (moved_in buffer how) windows.old.items }
 {
     for i in 0..windows.len() {

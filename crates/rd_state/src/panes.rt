@@ -1,4 +1,4 @@
-//! The ops that change how the windows share the frame, as methods of `Parts`: splits, removals, mode lines and margins.
+//! The ops that change how the windows share the frame, as methods of `StateParts`: splits, removals, mode lines and margins.
 ghost use Rattle.std.specs.Prelude.{◌≢◌};
 ghost use Rattle.rd_script.specs.declared.op.Op.TheVariants.{Split, Remove, ModeLine, Margin};
 ghost use Rattle.rd_script.specs.Forms.{IsInForm};
@@ -8,14 +8,14 @@ ghost use Rattle.rd_state.specs.Steps.{format_fault};
 ghost use Rattle.rd_state.specs.Valid.{IsValid};
 
 use crate::effect::Effect;
-use crate::parts::Parts;
+use crate::parts::StateParts;
 use crate::refused::Refused;
 use crate::windows::{add, copy, find, make_room};
 use rd_base::{Ch, ListOf};
 use rd_modeline::check;
 use rd_tree::{Side, needs_are_exact, windows_tile_their_rectangle};
 
-impl Parts {
+impl StateParts {
     /// Splits a window, which keeps so many rows or columns. The new window has all of the old one but what waits to be scrolled.
     #[tactic(auto, unfolding(crate::specs::Steps::step, crate::specs::Effects::effect_of))]
     pub(crate) fn split(&mut self, window: u64, side: Side, size: u64) -> Result<Effect, Refused>

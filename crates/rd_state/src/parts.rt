@@ -1,4 +1,4 @@
-//! `Parts`, the whole state without its validity.
+//! `StateParts`, the whole state without its validity.
 use crate::buffers::Buffers;
 use crate::window::WindowState;
 use rd_base::{Ch, ListOf};
@@ -10,7 +10,7 @@ use std::marker::Model;
 /// last, each window that lives under its number, and the number of the selected one; and what belongs to the whole frame. Each op
 /// is a method of it, in the module of its subject.
 #[derive(Drop)]
-pub(crate) struct Parts {
+pub(crate) struct StateParts {
     pub buffers: Buffers,
     pub objects: Objects,
     pub tree: Tree,
@@ -24,7 +24,7 @@ pub(crate) struct Parts {
     pub shifting: bool,
 }
 
-impl Model for Parts {
+impl Model for StateParts {
     ghost use Rattle.std.specs.Coded.{codes};
     ghost use Rattle.rd_tree.specs.Codes.{configuration_code};
     ghost use Rattle.rd_state.specs.States.{StateValue, buffers_of, mark_code};

@@ -1,4 +1,4 @@
-//! The ops on the properties, the overlays and the settings of buffers by name, as methods of `Parts`. Each tells its effect.
+//! The ops on the properties, the overlays and the settings of buffers by name, as methods of `StateParts`. Each tells its effect.
 ghost use Rattle.std.specs.Prelude.{◌≡◌, ◌≢◌, IsSome, Some};
 ghost use Rattle.rd_script.specs.Forms.{IsInForm};
 ghost use Rattle.rd_script.specs.declared.op.Op.TheVariants.{Put, Overlay as MakeOverlay, OverlayMove, OverlayDrop, OverlayPut, Setting as SetSetting, MarginPut};
@@ -8,13 +8,13 @@ ghost use Rattle.rd_state.specs.Valid.{IsValid};
 
 use crate::buffers::find;
 use crate::effect::Effect;
-use crate::parts::Parts;
+use crate::parts::StateParts;
 use crate::refused::Refused;
 use rd_base::Pos;
 use rd_overlays::{Kind, Overlay};
 use rd_script::Setting;
 
-impl Parts {
+impl StateParts {
     /// Gives a text property another value on a range.
     #[tactic(auto, using(crate::proofs::ByName::in_place), unfolding(crate::specs::Steps::step, crate::specs::Effects::effect_of))]
     pub(crate) fn put(

@@ -13,7 +13,7 @@ ghost use Rattle.rd_state.specs.Shown.{IsShownAt};
 use crate::buffers::{add, find};
 use crate::effect::Effect;
 use crate::laws::{settling_keeps_states, steps_keep_states};
-use crate::parts::Parts;
+use crate::parts::StateParts;
 use crate::refused::Refused;
 use crate::window::WindowState;
 use indexmap::IndexMap;
@@ -30,7 +30,7 @@ use std::marker::Model;
 /// the frame's rows but the last; and what belongs to the whole frame. Each state is valid.
 #[derive(Drop)]
 pub struct State {
-    parts: Parts,
+    parts: StateParts,
 }
 
 impl Model for State {
@@ -60,7 +60,7 @@ impl State {
         let mut windows = Vec::new(alloc);
         windows.push((0, opening_window()))?;
         Ok(State {
-            parts: Parts {
+            parts: StateParts {
                 buffers,
                 objects: Objects::new(alloc)?,
                 tree: Tree::new(alloc, 80, 23)?,

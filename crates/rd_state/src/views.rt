@@ -1,4 +1,4 @@
-//! The ops on one window's view, as methods of `Parts`: what it shows, from where on, and how long lines are cut.
+//! The ops on one window's view, as methods of `StateParts`: what it shows, from where on, and how long lines are cut.
 ghost use Rattle.std.specs.Prelude.{◌≡◌, ◌≢◌, ◌<◌, IfOk, IfErr, IsSome, Some, is_ok, length, option_map, slice_get};
 ghost use Rattle.rd_script.specs.declared.op.Op.TheVariants.{Select, Show, Point, Start, Scroll, Hscroll, Wrap as SetWrap};
 ghost use Rattle.rd_script.specs.Forms.{IsInForm};
@@ -12,7 +12,7 @@ ghost use Rattle.rd_state.specs.Windows.{window_of};
 
 use crate::buffers::{self, Buffers, text_at};
 use crate::effect::Effect;
-use crate::parts::Parts;
+use crate::parts::StateParts;
 use crate::refused::Refused;
 use crate::window::WindowState;
 use crate::windows::find;
@@ -22,7 +22,7 @@ use rd_base::{Anchor, Pos, Wrap};
 /// How many rows may wait to be scrolled, up or down.
 const MOST_PENDING: i64 = PENDING_ROWS as i64;
 
-impl Parts {
+impl StateParts {
     /// Selects a window.
     #[tactic(auto, unfolding(crate::specs::Steps::step, crate::specs::Effects::effect_of))]
     pub(crate) fn select(&mut self, window: u64) -> Result<Effect, Refused>

@@ -163,18 +163,18 @@ marked code (Some (First g face)) = with_mark code g face
 marked code (Some Rest) = None
 
 -- a character of no column joins the one put directly before it
-abbrev pub join_into : Option Cell → ℕ → ℕ → Tty → Tty
-join_into None row column t = confuse t
-join_into (Some cell) row column t = record t { rows = with_cell t.rows row column (Some cell) }
+abbrev pub join_mark_into : Option Cell → ℕ → ℕ → Tty → Tty
+join_mark_into None row column t = confuse t
+join_mark_into (Some cell) row column t = record t { rows = with_cell t.rows row column (Some cell) }
 
-abbrev pub join : ℕ → Option (ℕ × ℕ) → Tty → Tty
-join code None t = confuse t
-join code (Some place) t = join_into (marked code (slice_index_or (row_at t.rows place.0) place.1 None)) place.0 place.1 t
+abbrev pub join_mark : ℕ → Option (ℕ × ℕ) → Tty → Tty
+join_mark code None t = confuse t
+join_mark code (Some place) t = join_mark_into (marked code (slice_index_or (row_at t.rows place.0) place.1 None)) place.0 place.1 t
 
 -- a character, by its columns
 abbrev pub show : ℕ → Option ℕ → Tty → Tty
 show code None t = confuse t
-show code (Some zero) t = join code t.latest t
+show code (Some zero) t = join_mark code t.latest t
 show code (Some (suc columns)) t = put code (suc columns) t.pen t.cursor t
 
 -- what was read

@@ -3,7 +3,7 @@ ghost use Rattle.std.specs.Prelude.{◌≡◌, ◌+◌, ◌<◌, ◌≤◌, nat_
 ghost use Rattle.rd_base.specs.Cells.{single};
 ghost use Rattle.rd_term.specs.Characters.{columns_of};
 ghost use Rattle.rd_term.specs.Pictures.{width_of, row_at};
-ghost use Rattle.rd_term.specs.Terminals.{put, put_at, join, join_into, marked, with_mark, show};
+ghost use Rattle.rd_term.specs.Terminals.{put, put_at, join_mark, join_mark_into, marked, with_mark, show};
 
 use crate::character::columns_of;
 use crate::overwriting::put_character;
@@ -17,7 +17,7 @@ impl Terminal {
     {
         match columns_of(code) {
             None => self.confused = true,
-            Some(0) => self.join(code),
+            Some(0) => self.join_mark(code),
             Some(columns) => self.put(code, columns),
         }
     }
@@ -65,20 +65,20 @@ impl Terminal {
     }
 
     /// Joins a character of no column to the one that was put directly before it.
-    fn join(&mut self, code: u32)
-        ensures { self.new ≡ join code self.old.latest self.old }
+    fn join_mark(&mut self, code: u32)
+        ensures { self.new ≡ join_mark code self.old.latest self.old }
     {
         match self.latest {
-            Some((row, column)) => self.join_at(row, column, code),
+            Some((row, column)) => self.join_mark_at(row, column, code),
             None => self.confused = true,
         }
     }
 
     /// Joins a character of no column to the one at a place.
-    fn join_at(&mut self, row: u32, column: u32, code: u32)
+    fn join_mark_at(&mut self, row: u32, column: u32, code: u32)
         requires row { row < length self.old.rows }
         requires column { column < width_of self.old.rows }
-        ensures { self.new ≡ join_into (marked code (slice_index_or (row_at self.old.rows row) column None)) row column self.old }
+        ensures { self.new ≡ join_mark_into (marked code (slice_index_or (row_at self.old.rows row) column None)) row column self.old }
     {
         match marked(self.rows[row as usize].get(column as usize), code) {
             Some(cell) => {

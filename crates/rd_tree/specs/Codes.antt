@@ -8,8 +8,8 @@ use Rattle.rd_tree.specs.Windows.{Windows, Window, Split}
 use Rattle.rd_tree.specs.Calls.{Configuration}
 
 -- a window, or a split
-abbrev pub Part : Type 0
-Part = (ℕ × (Bool × ℕ)) ⊎ (ℕ × Bool)
+abbrev pub TreePart : Type 0
+TreePart = (ℕ × (Bool × ℕ)) ⊎ (ℕ × Bool)
 
 abbrev pub is_right : Side → Bool
 is_right Below = false
@@ -23,7 +23,7 @@ pub side_of-is_right : (side : Side) → side_of (is_right side) ≡ side
 side_of-is_right Below = refl
 side_of-is_right Right = refl
 
-abbrev pub parts : Windows → List Part
+abbrev pub parts : Windows → List TreePart
 parts (Window number mode margins) = inl (number, (mode, margins)) ∷ []
 parts (Split side size first second) = parts first ++ (parts second ++ inr (size, is_right side) ∷ [])
 
@@ -32,7 +32,7 @@ abbrev pub split_of_last : ℕ → Bool → List Windows → List Windows
 split_of_last size side (second ∷ first ∷ rest) = Split (side_of side) size first second ∷ rest
 split_of_last size side few = few
 
-abbrev pub made_onto : List Part → List Windows → List Windows
+abbrev pub made_onto : List TreePart → List Windows → List Windows
 made_onto [] done = done
 made_onto (inl window ∷ rest) done = made_onto rest (Window window.0 window.1.0 window.1.1 ∷ done)
 made_onto (inr split ∷ rest) done = made_onto rest (split_of_last split.0 split.1 done)
@@ -41,10 +41,10 @@ abbrev pub top : List Windows → Windows
 top [] = Window 0 false 0
 top (windows ∷ _) = windows
 
-abbrev pub from_parts : List Part → Windows
+abbrev pub from_parts : List TreePart → Windows
 from_parts ps = top (made_onto ps [])
 
-pub made_onto-append : (ps qs : List Part) (done : List Windows) → made_onto (ps ++ qs) done ≡ made_onto qs (made_onto ps done)
+pub made_onto-append : (ps qs : List TreePart) (done : List Windows) → made_onto (ps ++ qs) done ≡ made_onto qs (made_onto ps done)
 made_onto-append [] qs done = refl
 made_onto-append (inl window ∷ ps) qs done = made_onto-append ps qs (Window window.0 window.1.0 window.1.1 ∷ done)
 made_onto-append (inr split ∷ ps) qs done = made_onto-append ps qs (split_of_last split.0 split.1 done)
@@ -63,7 +63,7 @@ from_parts-parts windows = ap top (made_onto-parts windows [])
 
 abbrev pub windows_code : Coded Windows
 windows_code =
-    code_by (List Part) (coded_list (coded⊎ (coded× coded_ℕ (coded× coded_bool coded_ℕ)) (coded× coded_ℕ coded_bool))) parts from_parts from_parts-parts
+    code_by (List TreePart) (coded_list (coded⊎ (coded× coded_ℕ (coded× coded_bool coded_ℕ)) (coded× coded_ℕ coded_bool))) parts from_parts from_parts-parts
 
 abbrev pub configuration_code : Coded Configuration
 configuration_code =

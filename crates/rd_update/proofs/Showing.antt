@@ -15,7 +15,7 @@ use Rattle.rd_base.specs.declared.cell.Cell.{Cell}
 use Rattle.rd_base.specs.declared.cell.Cell.TheVariants.{Blank, First, Rest}
 use Rattle.rd_term.specs.Characters.{columns_of}
 use Rattle.rd_term.specs.Overwriting.{first_column, later_columns, overwritten}
-use Rattle.rd_term.specs.Terminals.{Tty, feed_bytes, show, put, join, join_into, marked}
+use Rattle.rd_term.specs.Terminals.{Tty, feed_bytes, show, put, join_mark, join_mark_into, marked}
 use Rattle.rd_term.proofs.Cutting.{Row, front as front_of, behind, overwritten-is, later-within, length-glyph, map-replicate}
 use Rattle.rd_term.proofs.Encoded.{Rows, standing}
 use Rattle.rd_term.proofs.Feeding.{feed_bytes-append}
@@ -160,7 +160,7 @@ with_glyph above below front tail cell = above ++ (front ++ Some cell ∷ tail) 
 
 mark_joins : (region : Option (ℕ × ℕ)) → (above below : Rows) (front tail : Row) (g : Glyph) (f : Attributes) (cursor : Option (ℕ × ℕ)) (wait : Bool) (k code : ℕ)
     → length g.marks ≡ 6 → k < 6 → get_or g.marks k 0 ≡ code → (g.base ≡ 32 → g.width ≡ 1)
-    → join code (Some (length above, length front)) (standing region (with_glyph above below front tail (grown g k f)) cursor wait (Some f) (Some (length above, length front)))
+    → join_mark code (Some (length above, length front)) (standing region (with_glyph above below front tail (grown g k f)) cursor wait (Some f) (Some (length above, length front)))
     ≡ standing region (with_glyph above below front tail (grown g (suc k) f)) cursor wait (Some f) (Some (length above, length front))
 mark_joins region above below front tail g f cursor wait k code six lt at narrow =
     let row = front ++ Some (grown g k f) ∷ tail in
@@ -173,7 +173,7 @@ mark_joins region above below front tail g f cursor wait k code six lt at narrow
     let all = above ++ row ∷ below in
     let State = λ (rs : Rows). standing region rs cursor wait (Some f) (Some (length above, length front)) in
     let mark = ap (λ (r : Row). marked code (get_or r (length front) None)) here ∙ ap (marked code) cell ∙ more in
-    ap (λ (c : Option Cell). join_into c (length above) (length front) (State all)) mark
+    ap (λ (c : Option Cell). join_mark_into c (length above) (length front) (State all)) mark
     ∙ ap (λ (r : Row). State (set all (length above) (set r (length front) (Some (grown g (suc k) f))))) here
     ∙ ap (λ (r : Row). State (set all (length above) r)) put
     ∙ ap State rows

@@ -19,7 +19,7 @@ use Rattle.rd_layout.specs.Screens.{settled_at, settled_by, settled_state}
 use Rattle.rd_layout.specs.Sessions.{SessionValue, layout_of}
 use Rattle.rd_layout.specs.Windows.{place_of, places, view_in, wanted_of, window_shape, window_source}
 use Rattle.rd_layout.proofs.ByNumber.{window-became, window-with-other, window-with-same}
-use Rattle.rd_state.proofs.ByNumber.{Entry, eq-false, eq-true, window-here, window-there}
+use Rattle.rd_state.proofs.ByNumber.{NumberedWindow, eq-false, eq-true, window-here, window-there}
 use Rattle.rd_state.proofs.Opening.{chosen, passed}
 use Rattle.rd_layout.proofs.Known.{Last, layout-here, layout-there, mapped}
 use Rattle.rd_layout.proofs.Placed.{number-of}
@@ -33,7 +33,7 @@ use Rattle.rd_views.proofs.Placing.{placed-here, placed-there}
 abbrev pub settle_to : Chosen → WindowState → WindowState
 settle_to c w = record w { anchor = c.anchor; point = c.point; forced = false; pending = pos 0 }
 
-abbrev pub windows_settled : List LaidWindow → List Last → List Entry → List Entry
+abbrev pub windows_settled : List LaidWindow → List Last → List NumberedWindow → List NumberedWindow
 windows_settled (x ∷ xs) (e ∷ es) ws = windows_settled xs es (with_window e.0 (settle_to x.chosen) ws)
 windows_settled _ _ ws = ws
 
@@ -47,7 +47,7 @@ state-is (x ∷ xs) (e ∷ es) s = state-is xs es (settled s e.0 x.chosen.anchor
 heads : {m n : ℕ} {ms ns : List ℕ} → m ∷ ms ≡ n ∷ ns → (m ≡ n) × (ms ≡ ns)
 heads h = (cc, cc)
 
-none-by-numbers : (n : ℕ) (us ws : List Entry) → map (λ (e : Entry). e.0) us ≡ map (λ (e : Entry). e.0) ws → window_of n us ≡ None → window_of n ws ≡ None
+none-by-numbers : (n : ℕ) (us ws : List NumberedWindow) → map (λ (e : NumberedWindow). e.0) us ≡ map (λ (e : NumberedWindow). e.0) ws → window_of n us ≡ None → window_of n ws ≡ None
 none-by-numbers n us [] same none = refl
 none-by-numbers n [] (w ∷ ws) same none = absurd (cc)
 none-by-numbers n (u ∷ us) (w ∷ ws) same none =
@@ -57,7 +57,7 @@ none-by-numbers n (u ∷ us) (w ∷ ws) same none =
       | inr q ↦ window-there n w ws (λ r. q (parts.0 ∙ r)) ∙ none-by-numbers n us ws parts.1 (sym (window-there n u us q) ∙ none)
     ]
 
-same-windows : (us ws : List Entry) → map (λ (e : Entry). e.0) us ≡ map (λ (e : Entry). e.0) ws → AreApart us → ((n : ℕ) → window_of n us ≡ window_of n ws) → us ≡ ws
+same-windows : (us ws : List NumberedWindow) → map (λ (e : NumberedWindow). e.0) us ≡ map (λ (e : NumberedWindow). e.0) ws → AreApart us → ((n : ℕ) → window_of n us ≡ window_of n ws) → us ≡ ws
 same-windows [] [] same apart found = refl
 same-windows [] (w ∷ ws) same apart found = absurd (cc)
 same-windows (u ∷ us) [] same apart found = absurd (cc)
@@ -71,20 +71,20 @@ same-windows (u ∷ us) (w ∷ ws) same apart found =
     ]) in
     λ i. (parts.0 i, value i) ∷ rest i
 
-with-numbers : (n : ℕ) (f : WindowState → WindowState) (ws : List Entry) → map (λ (e : Entry). e.0) (with_window n f ws) ≡ map (λ (e : Entry). e.0) ws
+with-numbers : (n : ℕ) (f : WindowState → WindowState) (ws : List NumberedWindow) → map (λ (e : NumberedWindow). e.0) (with_window n f ws) ≡ map (λ (e : NumberedWindow). e.0) ws
 with-numbers n f [] = refl
 with-numbers n f (w ∷ ws) = by (w.0 == n) (with-numbers n f ws) where
-  by : (t : Bool) → map (λ (e : Entry). e.0) (with_window n f ws) ≡ map (λ (e : Entry). e.0) ws
-      → map (λ (e : Entry). e.0) (if t then (w.0, f w.1) ∷ ws else w ∷ with_window n f ws) ≡ w.0 ∷ map (λ (e : Entry). e.0) ws
+  by : (t : Bool) → map (λ (e : NumberedWindow). e.0) (with_window n f ws) ≡ map (λ (e : NumberedWindow). e.0) ws
+      → map (λ (e : NumberedWindow). e.0) (if t then (w.0, f w.1) ∷ ws else w ∷ with_window n f ws) ≡ w.0 ∷ map (λ (e : NumberedWindow). e.0) ws
   by true rest = refl
   by false rest = ap (λ (ns : List ℕ). w.0 ∷ ns) rest
 
-settled-numbers : (xs : List LaidWindow) (es : List Last) (ws : List Entry) → map (λ (e : Entry). e.0) (windows_settled xs es ws) ≡ map (λ (e : Entry). e.0) ws
+settled-numbers : (xs : List LaidWindow) (es : List Last) (ws : List NumberedWindow) → map (λ (e : NumberedWindow). e.0) (windows_settled xs es ws) ≡ map (λ (e : NumberedWindow). e.0) ws
 settled-numbers [] es ws = refl
 settled-numbers (x ∷ xs) [] ws = refl
 settled-numbers (x ∷ xs) (e ∷ es) ws = settled-numbers xs es (with_window e.0 (settle_to x.chosen) ws) ∙ with-numbers e.0 (settle_to x.chosen) ws
 
-map-numbers : (f : ℕ → WindowState → WindowState) (ws : List Entry) → map (λ (e : Entry). e.0) (map (λ (e : Entry). (e.0, f e.0 e.1)) ws) ≡ map (λ (e : Entry). e.0) ws
+map-numbers : (f : ℕ → WindowState → WindowState) (ws : List NumberedWindow) → map (λ (e : NumberedWindow). e.0) (map (λ (e : NumberedWindow). (e.0, f e.0 e.1)) ws) ≡ map (λ (e : NumberedWindow). e.0) ws
 map-numbers f [] = refl
 map-numbers f (w ∷ ws) = ap (λ (ns : List ℕ). w.0 ∷ ns) (map-numbers f ws)
 
@@ -113,7 +113,7 @@ chosen-none n (x ∷ xs) (e ∷ es) none = elim (cases_eq e.0 n) [
   | inr q ↦ chosen-there n x xs e es q ∙ chosen-none n xs es (sym (layout-there n e es q) ∙ none)
 ]
 
-found-settled : (n : ℕ) (xs : List LaidWindow) (es : List Last) (ws : List Entry) → AreOnce es → window_of n (windows_settled xs es ws) ≡ settle_found (chosen_for n xs es) (window_of n ws)
+found-settled : (n : ℕ) (xs : List LaidWindow) (es : List Last) (ws : List NumberedWindow) → AreOnce es → window_of n (windows_settled xs es ws) ≡ settle_found (chosen_for n xs es) (window_of n ws)
 found-settled n [] es ws once = refl
 found-settled n (x ∷ xs) [] ws once = refl
 found-settled n (x ∷ xs) (e ∷ es) ws once =
@@ -182,19 +182,19 @@ module _ (v : SessionValue) where
       (λ n. window-became f n v.state.windows
       ∙ (sym (both-settle n (place_of n v.state) (chosen_for n xs es) refl (right-chosen n (places v.state) xs es h)) ∙ sym (found-settled n xs es v.state.windows once))))
     where
-      apart-stays : (f : ℕ → WindowState → WindowState) (ws : List Entry) → AreApart ws → AreApart (map (λ (e : Entry). (e.0, f e.0 e.1)) ws)
+      apart-stays : (f : ℕ → WindowState → WindowState) (ws : List NumberedWindow) → AreApart ws → AreApart (map (λ (e : NumberedWindow). (e.0, f e.0 e.1)) ws)
       apart-stays f [] h = tt
-      apart-stays f (w ∷ ws) h = (none-by-numbers w.0 ws (map (λ (e : Entry). (e.0, f e.0 e.1)) ws) (sym (map-numbers f ws)) h.0, apart-stays f ws h.1)
+      apart-stays f (w ∷ ws) h = (none-by-numbers w.0 ws (map (λ (e : NumberedWindow). (e.0, f e.0 e.1)) ws) (sym (map-numbers f ws)) h.0, apart-stays f ws h.1)
 
   -- the state is the one that a redisplay leaves
   pub state-settled : (xs : List LaidWindow) (es : List Last) → AreApart v.state.windows → AreOnce es → AreDesired v (places v.state) xs es
       → all_settled xs es v.state ≡ settled_state v.files v.state
-  state-settled xs es apart once h = state-is xs es v.state ∙ ap (λ (ws : List Entry). record v.state { windows = ws }) (windows-are xs es apart once h)
+  state-settled xs es apart once h = state-is xs es v.state ∙ ap (λ (ws : List NumberedWindow). record v.state { windows = ws }) (windows-are xs es apart once h)
 
 -- ---- windows can be settled
 
 -- a window that is found behind another's settling was there before it, and shows the same buffer
-pub shown-before : (n m : ℕ) (c : Chosen) (ws : List Entry) (w : WindowState) → window_of n (with_window m (settle_to c) ws) ≡ Some w → (u : WindowState) × (window_of n ws ≡ Some u) × (u.buffer ≡ w.buffer)
+pub shown-before : (n m : ℕ) (c : Chosen) (ws : List NumberedWindow) (w : WindowState) → window_of n (with_window m (settle_to c) ws) ≡ Some w → (u : WindowState) × (window_of n ws ≡ Some u) × (u.buffer ≡ w.buffer)
 shown-before n m c ws w at = elim (cases_eq n m) [
   | inl p ↦
       let here : window_of m (with_window m (settle_to c) ws) ≡ Some w = ap (λ (k : ℕ). window_of k (with_window m (settle_to c) ws)) (sym p) ∙ at in
@@ -207,7 +207,7 @@ still-there : (c : Chosen) (o : Option WindowState) → IsSome o → IsSome (opt
 still-there c None h = h
 still-there c (Some w) h = refl
 
-still-lives : (n m : ℕ) (c : Chosen) (ws : List Entry) → IsSome (window_of n ws) → IsSome (window_of n (with_window m (settle_to c) ws))
+still-lives : (n m : ℕ) (c : Chosen) (ws : List NumberedWindow) → IsSome (window_of n ws) → IsSome (window_of n (with_window m (settle_to c) ws))
 still-lives n m c ws h = elim (cases_eq n m) [
   | inl p ↦
       subst IsSome (sym (ap (λ (k : ℕ). window_of k (with_window m (settle_to c) ws)) p ∙ window-with-same m (settle_to c) ws))

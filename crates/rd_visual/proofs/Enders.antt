@@ -15,8 +15,8 @@ use Rattle.rd_objects.specs.declared.run.Spec.TheVariants.{Text, Width, Align}
 use Rattle.rd_text.specs.Texts.{is_newline}
 use Rattle.rd_ucd.specs.Data.{Data}
 use Rattle.rd_ucd.specs.declared.spans.BracketEntry.{BracketEntry}
-use Rattle.rd_glyphs.specs.Marks.{joined}
-use Rattle.rd_glyphs.proofs.Joined.{Grows, joined-all}
+use Rattle.rd_glyphs.specs.Marks.{marks_joined}
+use Rattle.rd_glyphs.proofs.Joined.{Grows, marks_joined-all}
 use Rattle.rd_props.specs.Buffers.{BufferValue}
 use Rattle.rd_props.specs.Seen.{Seen}
 use Rattle.rd_props.specs.declared.hiding.Hidden.{Hidden}
@@ -103,7 +103,7 @@ covering-ends since (x ∷ xs) all =
     all-append ItemEndsRight (items_by x.kind since x) (covering (covered_to since x) xs) (by-ends since x x.kind all.0) (covering-ends (covered_to since x) xs all.1)
 
 items-end : (s : Scene) (es : List Seen) → AllByRecursion ItemEndsRight (items_of s es)
-items-end s es = covering-ends 0 (joined piece_joins (pieces_from s 0 0 es)) (joined-all piece_joins EndsRight grows (pieces_from s 0 0 es) (pieces-end s 0 0 es))
+items-end s es = covering-ends 0 (marks_joined piece_joins (pieces_from s 0 0 es)) (marks_joined-all piece_joins EndsRight grows (pieces_from s 0 0 es) (pieces-end s 0 0 es))
 
 ending-parts : (class : Class) (overlay : Bool) (k : ItemKind) → is_ender_kind k ≡ true → IsEnding class overlay k → (class ≡ B) × (overlay ≡ false)
 ending-parts class overlay kind.Ender is h = h

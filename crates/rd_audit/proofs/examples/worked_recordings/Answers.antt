@@ -5,21 +5,21 @@ use Rattle.rd_run.specs.Ends.{AreInLimits, IsWhole, lines_in}
 use Rattle.rd_run.specs.Given.{IsMode}
 use Rattle.rd_run.specs.Runs.{opened}
 use Rattle.rd_run.specs.declared.status.Status.TheVariants.{Done}
-use Rattle.rd_audit.specs.Examples.{before_redisplay, empty_files, redisplay, short_end, short_mode, short_report, short_turns}
+use Rattle.rd_audit.specs.Examples.{before_redisplay, empty_files, redisplay, short_end, short_inputs, short_mode, short_report}
 use Rattle.rd_audit.specs.Recorded.{EndsShown}
 use Rattle.rd_audit.proofs.examples.worked_recordings.Goals as goal
 
 begun : IsMode (empty_files true) (short_mode true)
 begun = record { words = _; said = refl; files = ([], [], [], refl, refl, refl, refl); dumps = refl; generated = refl }
 
-limits : AreInLimits (lines_in short_turns)
+limits : AreInLimits (lines_in short_inputs)
 limits = record { short = (leb-true _ _ refl, (leb-true _ _ refl, (leb-true _ _ refl, tt))); few = leb-true _ _ refl }
 
-whole : let e = short_end true short_report in IsWhole e.given e.mode Done e.turns e.bytes e.source e.screen e.report
+whole : let e = short_end true short_report in IsWhole e.given e.mode Done e.inputs e.bytes e.source e.screen e.report
 unfolding on_lines
 whole = record { comes = (begun, (refl, (limits, refl, refl))); sent = refl; told = refl }
 
-shown : EndsShown (opened (short_mode true)) short_turns
+shown : EndsShown (opened (short_mode true)) short_inputs
 unfolding on_lines
 shown = record { before = before_redisplay; redisplay = redisplay; behind = []; split = refl; shown = refl; leave = tt }
 

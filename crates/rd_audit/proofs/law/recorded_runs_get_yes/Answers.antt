@@ -41,7 +41,7 @@ sound stream file name told e mode h t a = record {
 }
 
 pub returns-clause-terminal : goal.returns-clause-terminal
-returns-clause-terminal c mode turns ran = recorded-read mode turns ran (c.a_session_stands_behind_each_line.ensures.leads mode)
+returns-clause-terminal c mode inputs ran = recorded-read mode inputs ran (c.a_session_stands_behind_each_line.ensures.leads mode)
 
 pub returns-clause-screen : goal.returns-clause-screen
 returns-clause-screen c e mode stream file h = recording-sent e mode stream file h

@@ -5,15 +5,15 @@ use Rattle.rd_dump.proofs.OnePass.{run_text-last}
 use Rattle.rd_dump.proofs.Writing.{prints-then, prints-stop, prints-fail, prints-as}
 use Rattle.rd_dump.proofs.runs.print_run.Goals as goal
 
-pub returns-in_err-print_parts : goal.returns-in_err-print_parts
-returns-in_err-print_parts g c =
+pub returns-in_err-print_tokens : goal.returns-in_err-print_tokens
+returns-in_err-print_tokens g c =
     let shown : same_face c.args.face plain ≡ false = search rules in
     let bad = c.from_residual.ensures.0 in
     prints-as _ _ _ _ _ _ _ (run_text-last c.args.first c.args.end c.last_before.result c.args.face shown c.last_before.ensures)
-    (prints-stop _ _ _ _ _ _ _ (prints-fail _ _ _ _ _ _ _ c.in_err-print_parts.ensures bad) bad)
+    (prints-stop _ _ _ _ _ _ _ (prints-fail _ _ _ _ _ _ _ c.in_err-print_tokens.ensures bad) bad)
 
 pub returns : goal.returns
 returns g c =
     let shown : same_face c.args.face plain ≡ false = search rules in
     prints-as _ _ _ _ _ _ _ (run_text-last c.args.first c.args.end c.last_before.result c.args.face shown c.last_before.ensures)
-    (prints-then _ _ _ _ _ _ _ _ _ _ c.in_ok-print_parts.ensures c.print_numbers.ensures)
+    (prints-then _ _ _ _ _ _ _ _ _ _ c.in_ok-print_tokens.ensures c.print_numbers.ensures)

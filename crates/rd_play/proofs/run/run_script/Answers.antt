@@ -7,8 +7,8 @@ use Rattle.rd_play.proofs.Reading.{read-nothing, is-open, not-err, not-true}
 use Rattle.rd_play.proofs.Taking.{begun, handed, ran-line, ends-as, ends-done, ends-fault, ends-halt, no-memory}
 use Rattle.rd_play.proofs.run.run_script.Goals as goal
 
-pub returns-in_default-clause-stopped : goal.returns-in_default-clause-stopped
-returns-in_default-clause-stopped g c given mode =
+pub returns-in_default-clause-comes : goal.returns-in_default-clause-comes
+returns-in_default-clause-comes g c given mode =
     no-memory given (mode_of c.args.run.now) _ _ _ (g.S.Source.faults c.args.script.now) (g.K.Sink.faults c.args.screen.now) (g.R.Sink.faults c.args.report.now) c.args.steps.now mode c.requires.read
 
 pub each_line-init : goal.each_line-init
@@ -22,8 +22,8 @@ each_line-init g c =
       report = omega arith;
     }
 
-pub returns-in-Ok-false-clause-stopped : goal.returns-in-Ok-false-clause-stopped
-returns-in-Ok-false-clause-stopped g c given mode =
+pub returns-in-Ok-false-clause-comes : goal.returns-in-Ok-false-clause-comes
+returns-in-Ok-false-clause-comes g c given mode =
     let left = g.S.Source.left in
     let old = c.each_line.lines in
     let running = c.each_line.invariant.running in
@@ -33,8 +33,8 @@ returns-in-Ok-false-clause-stopped g c given mode =
     ends-done given (mode_of c.args.run.now) _ _ _ (g.S.Source.faults c.args.script.now) (g.S.Source.faults c.next.new.source) old c.next.new.self (standing c.each_line.run) _ _ c.args.steps.now c.each_line.steps mode c.requires.read running
     (λ over. ap left (c.next.ensures.over clear over).1) read
 
-pub returns-in-Err-clause-stopped : goal.returns-in-Err-clause-stopped
-returns-in-Err-clause-stopped g c given mode =
+pub returns-in-Err-clause-comes : goal.returns-in-Err-clause-comes
+returns-in-Err-clause-comes g c given mode =
     let old = c.each_line.lines in
     let running = c.each_line.invariant.running in
     let clear : old.fault ≡ None = running.2.read.clear in
@@ -62,8 +62,8 @@ each_line-preserved g c =
       report = omega (arith, c.in-Ok-line.ensures.report);
     }
 
-pub returns-in-Err-line-clause-stopped : goal.returns-in-Err-line-clause-stopped
-returns-in-Err-line-clause-stopped g c given mode =
+pub returns-in-Err-line-clause-comes : goal.returns-in-Err-line-clause-comes
+returns-in-Err-line-clause-comes g c given mode =
     let left = g.S.Source.left in
     let old = c.each_line.lines in
     let running = c.each_line.invariant.running in

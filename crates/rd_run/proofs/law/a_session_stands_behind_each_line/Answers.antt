@@ -20,10 +20,10 @@ laws c =
     }
 
 pub returns-clause-session : goal.returns-clause-session
-returns-clause-session c mode turns = let here = stands (laws c) mode turns in here.at.session
+returns-clause-session c mode inputs = let here = stands (laws c) mode inputs in here.at.session
 
 pub returns-clause-in_mode : goal.returns-clause-in_mode
-returns-clause-in_mode c mode turns = let here = stands (laws c) mode turns in here.under
+returns-clause-in_mode c mode inputs = let here = stands (laws c) mode inputs in here.under
 
 pub returns-clause-leads : goal.returns-clause-leads
 returns-clause-leads c = leads (laws c)

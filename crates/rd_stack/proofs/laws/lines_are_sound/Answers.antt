@@ -5,7 +5,7 @@ use Rattle.rd_props.specs.Seen.{Seen}
 use Rattle.rd_items.specs.Readings.{HaveCodes}
 use Rattle.rd_items.specs.Pieces.{Scene}
 use Rattle.rd_items.specs.Items.{items_of}
-use Rattle.rd_stack.specs.Limits.{AreRightWithin, most_middle_columns}
+use Rattle.rd_stack.specs.Limits.{AreRightWithin, most_overlay_columns}
 use Rattle.rd_stack.specs.Lines.{line_elements}
 use Rattle.rd_stack.proofs.Elements.{right-sound, right-measured}
 use Rattle.rd_stack.proofs.Sound.{items-coded, few-columns, below}
@@ -14,7 +14,7 @@ use Rattle.rd_stack.proofs.laws.lines_are_sound.Goals as goal
 pub returns : goal.returns
 returns c =
     let whole : (scene : Scene) (base : ℕ) (es : List Seen) → AreObjects scene.objects → AreSoundParts scene.parts → HaveCodes es
-    → AreRightWithin (length (items_of scene es) * most_middle_columns) (line_elements scene base es) = λ scene base es sound parts codes.
+    → AreRightWithin (length (items_of scene es) * most_overlay_columns) (line_elements scene base es) = λ scene base es sound parts codes.
     c.elements_are_right.ensures.line scene base es sound parts (c.items_are_measured.ensures scene es codes) (items-coded scene es codes) in
     record {
       sound = λ scene base es sound parts codes. right-sound (line_elements scene base es) (whole scene base es sound parts codes).right;

@@ -1,5 +1,5 @@
 use Rattle.std.proofs.Common.{◌≡◌, ◌≤◌, length, drop}
-use Rattle.rd_explicit.specs.Links.{Joins, LeadsOn}
+use Rattle.rd_explicit.specs.Links.{IsLinkedFrom, LeadsOn}
 use Rattle.rd_explicit.proofs.links.Links.of_line.Given as goal
 
 abbrev pub invariant-loop-i : goal.invariant-loop-i
@@ -8,7 +8,7 @@ invariant-loop-i l = record {
   begins : length l.links.begins ≡ length l.line.classes;
   links : length l.links.links ≡ length l.line.classes;
   leads : LeadsOn (length l.line.classes) l.links.links;
-  joins : Joins l.line.base l.i (drop l.i l.line.classes) (drop l.i l.line.levels) l.links;
+  joins : IsLinkedFrom l.line.base l.i (drop l.i l.line.classes) (drop l.i l.line.levels) l.links;
 }
 
 abbrev pub decreases-loop-i : goal.decreases-loop-i

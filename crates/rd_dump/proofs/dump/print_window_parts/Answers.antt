@@ -1,8 +1,0 @@
-use Rattle.rd_dump.proofs.Writing.{prints-then, prints-stop, prints-fail}
-use Rattle.rd_dump.proofs.dump.print_window_parts.Goals as goal
-
-pub returns-in_err-print_parts : goal.returns-in_err-print_parts
-returns-in_err-print_parts g c = prints-stop _ _ _ _ _ _ _ (prints-fail _ _ _ _ _ _ _ c.in_err-print_parts.ensures c.from_residual.ensures.0) c.from_residual.ensures.0
-
-pub returns : goal.returns
-returns g c = prints-then _ _ _ _ _ _ _ _ _ _ c.in_ok-print_parts.ensures c.print_place.ensures

@@ -1,0 +1,18 @@
+use Rattle.std.proofs.Common.{subst, sym, arith}
+use Rattle.rd_state.specs.Valid.{IsValid}
+use Rattle.rd_state.proofs.Small.{moved-small}
+use Rattle.rd_state.proofs.parts.StateParts.move_overlay.Goals as goal
+
+pub overflow_cast-result-2 : goal.overflow_cast-result-2
+overflow_cast-result-2 c =
+    let valid = subst IsValid (sym c.self.view_is) c.requires in
+    let small = moved-small c.self.inside.objects c.self.inside.buffers.entries c.in_ok-i.i c.index_mut.result.now c.move_overlay.new.self valid.buffers c.index_mut.ensures.value
+    c.args.number c.args.from c.args.to _ c.in_ok-move_overlay.ensures in
+    omega (arith, small.0)
+
+pub overflow_cast-result-3 : goal.overflow_cast-result-3
+overflow_cast-result-3 c =
+    let valid = subst IsValid (sym c.self.view_is) c.requires in
+    let small = moved-small c.self.inside.objects c.self.inside.buffers.entries c.in_ok-i.i c.index_mut.result.now c.move_overlay.new.self valid.buffers c.index_mut.ensures.value
+    c.args.number c.args.from c.args.to _ c.in_ok-move_overlay.ensures in
+    omega (arith, small.1)

@@ -1,0 +1,18 @@
+use Rattle.std.proofs.Common.{subst, sym, arith}
+use Rattle.rd_state.specs.Valid.{IsValid}
+use Rattle.rd_state.proofs.Small.{all-small}
+use Rattle.rd_state.proofs.parts.StateParts.narrow.Goals as goal
+
+pub overflow_cast-from : goal.overflow_cast-from
+overflow_cast-from c =
+    let valid = subst IsValid (sym c.self.view_is) c.requires in
+    let small = all-small c.self.inside.objects c.self.inside.buffers.entries c.in_ok-i.i c.index_mut.result.now c.narrow.new.self valid.buffers c.index_mut.ensures.value
+    c.args.from c.args.to _ c.in_ok-narrow.ensures.changes in
+    omega (arith, small.0)
+
+pub overflow_cast-to : goal.overflow_cast-to
+overflow_cast-to c =
+    let valid = subst IsValid (sym c.self.view_is) c.requires in
+    let small = all-small c.self.inside.objects c.self.inside.buffers.entries c.in_ok-i.i c.index_mut.result.now c.narrow.new.self valid.buffers c.index_mut.ensures.value
+    c.args.from c.args.to _ c.in_ok-narrow.ensures.changes in
+    omega (arith, small.1)

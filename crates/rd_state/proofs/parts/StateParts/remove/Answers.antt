@@ -1,0 +1,59 @@
+use Rattle.std.proofs.Common.{◌==◌, if◌then◌else◌, refl, ap, ◌∙◌}
+use Rattle.rd_script.specs.declared.op.Op.TheVariants.{Remove}
+use Rattle.rd_tree.specs.Calls.{Configuration, remove_tree}
+use Rattle.rd_tree.specs.Windows.{first_leaf, sibling}
+use Rattle.rd_state.specs.Windows.{without_window}
+use Rattle.rd_state.specs.contracts.parts.StateParts.{the_view}
+use Rattle.rd_state.specs.declared.window.WindowState.{WindowState}
+use Rattle.rd_state.specs.States.{StateValue}
+use Rattle.rd_state.specs.Effects.{effect_of}
+use Rattle.rd_state.specs.Steps.{refused_tree, step}
+use Rattle.rd_state.proofs.Finding.{found-in}
+use Rattle.rd_state.proofs.Sharing.{refuses, tree-refuses, asked, removes-window, heir-chosen, heir-passed}
+use Rattle.rd_state.proofs.Free.{remove-free, tree-free}
+use Rattle.rd_state.proofs.parts.StateParts.remove.Goals as goal
+
+pub returns-in_err-heir-clause-applies : goal.returns-in_err-heir-clause-applies
+unfolding step
+returns-in_err-heir-clause-applies c =
+    let t = the_view c.self.inside in
+    let there = found-in t c.as_slice.result.now c.args.window c.in_ok-i.i c.index.result.now c.as_slice.ensures.value c.in_ok-i.ensures.place c.in_ok-i.ensures.inside c.index.ensures in
+    let n = c.args.window in
+    let after : StateValue → WindowState → Configuration → StateValue = λ x w d. record x {
+      tree = d;
+      windows = without_window n x.windows;
+      selected = if x.selected == n then first_leaf (sibling n x.tree.windows) else x.selected;
+    } in
+    refuses c.from_residual-in_err-heir.result (Remove n) c.args.self.now (record t { tree = c.remove.new.self }) (refused_tree c.in_err-heir.field-0.0)
+    c.from_residual-in_err-heir.ensures.0 c.from_residual-in_err-heir.ensures.1 (ap (λ d. record t { tree = d }) c.in_err-heir.ensures.0 ∙ c.self.view_is)
+    (tree-refuses c.args.self.now t n c.in_ok-i.i c.index.result.now (λ x. remove_tree x.tree n) after c.in_err-heir.field-0.0 c.self.view_is there
+    (asked (λ k. remove_tree t.tree k) n c.in_ok-i.i t.windows c.index.result.now _ there c.in_err-heir.ensures.1))
+
+pub returns-then-self-number-clause-applies : goal.returns-then-self-number-clause-applies
+unfolding step effect_of
+returns-then-self-number-clause-applies c =
+    let t = the_view c.self.inside in
+    let there = found-in t c.as_slice.result.now c.args.window c.in_ok-i.i c.index.result.now c.as_slice.ensures.value c.in_ok-i.ensures.place c.in_ok-i.ensures.inside c.index.ensures in
+    let n = c.args.window in (
+      removes-window c.args.self.now t n c.in_ok-i.i c.index.result.now c.remove.new.self c.remove-2.new.self.items c.in_ok-heir.heir c.self.view_is there
+          (asked (λ k. remove_tree t.tree k) n c.in_ok-i.i t.windows c.index.result.now _ there c.in_ok-heir.ensures.0) c.remove-2.ensures.items
+          (heir-chosen t.selected n c.index.result.now.0 c.in_ok-heir.heir t.tree.windows there.number c.in_ok-heir.ensures.1 c.if-self-number.true),
+      refl,
+    )
+
+pub returns-else-self-number-clause-applies : goal.returns-else-self-number-clause-applies
+unfolding step effect_of
+returns-else-self-number-clause-applies c =
+    let t = the_view c.self.inside in
+    let there = found-in t c.as_slice.result.now c.args.window c.in_ok-i.i c.index.result.now c.as_slice.ensures.value c.in_ok-i.ensures.place c.in_ok-i.ensures.inside c.index.ensures in
+    let n = c.args.window in (
+      removes-window c.args.self.now t n c.in_ok-i.i c.index.result.now c.remove.new.self c.remove-2.new.self.items t.selected c.self.view_is there
+          (asked (λ k. remove_tree t.tree k) n c.in_ok-i.i t.windows c.index.result.now _ there c.in_ok-heir.ensures.0) c.remove-2.ensures.items
+          (heir-passed t.selected n c.index.result.now.0 t.tree.windows there.number c.if-self-number.false),
+      refl,
+    )
+
+pub returns-in_err-heir-clause-free : goal.returns-in_err-heir-clause-free
+returns-in_err-heir-clause-free c =
+    tree-free c.from_residual-in_err-heir.result _ c.in_err-heir.field-0.0 c.from_residual-in_err-heir.ensures.1 c.in_err-heir.ensures.1
+    (remove-free (the_view c.self.inside).tree c.index.result.now.0)
