@@ -84,16 +84,16 @@ fn paint_blanks(screen: &mut Screen, window: Placed, border: &Cell, from: u32)
     ensures columns { width_of screen.new.rows ≡ width_of screen.old.rows }
     ensures rows { length screen.new.rows ≡ length screen.old.rows }
 {
-    let blanks = [Cell::Blank(Face::PLAIN); 400];
+    let blanks = [Cell::Blank(Face::PLAIN); FRAME_COLUMNS as usize];
     let blank = first(&blanks, window.margins + body_width(screen.width(), window));
     for row in from..body_height(window) {
         paint_row(screen, window, border, row, &[], blank);
     }
 }
 
-/// So many of 400 blank cells.
+/// So many of the blank cells of the widest row.
 fn first(blanks: &[Cell], columns: u32) -> &[Cell]
-    requires blanks { blanks.now ≡ blank_row 400 }
+    requires blanks { blanks.now ≡ blank_row FRAME_COLUMNS }
     requires columns { columns ≤ FRAME_COLUMNS }
     ensures { result.now ≡ blank_row columns }
 {

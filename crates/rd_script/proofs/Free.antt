@@ -1,5 +1,5 @@
 -- What a line says is never want of memory.
-use Rattle.std.proofs.Common.{◌≡◌, ◌≢◌, Bool, true, false, Option, None, Some, Result, Ok, Err, List, ◌∷◌, codes, if◌then◌else◌}
+use Rattle.std.proofs.Common.{◌≡◌, ◌≢◌, Option, None, Some, Result, Ok, Err, List, ◌∷◌, codes, if◌then◌else◌}
 use Rattle.std.specs.Prelude.{ℕ}
 use Rattle.std.specs.Str.{is_utf8}
 use Rattle.serde_json.specs.Data.{Data, Members}
@@ -30,7 +30,7 @@ use Rattle.rd_script.specs.Objects.{spec_value}
 use Rattle.rd_script.specs.Properties.{property, property_value}
 use Rattle.rd_script.specs.Reading.{reading, reading_name, reading_row, reading_members, object_of, json_of, or_fault, closed, extra_key, unless_extra}
 use Rattle.rd_script.specs.Settings.{value_of}
-use Rattle.rd_script.specs.Table.{row, text_row, property_row, object_row, window_row, screen_row, buffer_field, number_field, window_field, overlay_field, range_fields, stretch_fields, overlay_manner, name_of}
+use Rattle.rd_script.specs.Table.{row, text_row, property_row, object_row, window_row, screen_row, stretch_fields, overlay_manner, name_of}
 
 -- what is said is no want of memory
 abbrev IsFree : {T : Type 0} → Result T OpFault → Type 0

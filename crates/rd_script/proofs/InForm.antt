@@ -4,7 +4,7 @@ use Rattle.std.proofs.lemmas.Bool.Decides.{nat_tests}
 use Rattle.std.proofs.lemmas.List.Elements.{All-nil, All-cons}
 use Rattle.std.specs.Prelude.{All}
 use Rattle.serde_json.specs.Data.{Data, Items, no_items, item, Members}
-use Rattle.serde_json.specs.Find.{get_member, as_number, as_u64, as_i64, as_bool, as_str, as_array, as_object}
+use Rattle.serde_json.specs.Find.{get_member, as_number, as_u64, as_i64, as_bool, as_str, as_array}
 use Rattle.rd_base.specs.declared.limits.TheConstants.{ATOMS, HSCROLL_COLUMNS, INVISIBLE_ATOMS, NUMBER_COLUMNS, SCROLL_CONSERVATIVELY, SCROLL_MARGIN, SCROLL_ROWS, START_ROW, STRING_COLUMNS, FRAME_COLUMNS, FRAME_ROWS, LEAST_FRAME_COLUMNS, LEAST_FRAME_ROWS, PRIORITY, STRING_RUNS, TABLE_ENTRIES, SPACE_COLUMNS, TAB_COLUMNS}
 use Rattle.rd_base.specs.declared.settings.Invisible.{Invisible}
 use Rattle.rd_base.specs.declared.settings.Invisible.TheVariants.{Every, Listed}
@@ -15,7 +15,6 @@ use Rattle.rd_script.specs.declared.setting.SettingName.{SettingName}
 use Rattle.rd_script.specs.declared.setting.SettingName.TheVariants as setting_names
 use Rattle.rd_script.specs.declared.fault.OpFault.{OpFault}
 use Rattle.rd_script.specs.declared.op.Op.{Op}
-use Rattle.rd_script.specs.declared.op.Op.TheVariants as ops
 use Rattle.rd_script.specs.declared.name.Name.{Name}
 use Rattle.rd_script.specs.declared.name.Name.TheVariants as names
 use Rattle.rd_script.specs.declared.name.TextOp.{TextOp}
@@ -37,7 +36,7 @@ use Rattle.rd_script.specs.Objects.{run_kinds, run_of, run, spec_names as spec_w
 use Rattle.rd_script.specs.Settings.{setting_names as setting_words, direction_names, invisible_by, invisible, value_of as value_of_setting}
 use Rattle.rd_script.specs.Properties.{overlay_kind, text_kind, greatest_value, property_value, property}
 use Rattle.rd_script.specs.Reading.{reading, reading_name, reading_row, reading_members, object_of, closed, extra_key, unless_extra}
-use Rattle.rd_script.specs.Table.{row, text_row, property_row, object_row, window_row, screen_row, buffer_field, number_field, window_field, overlay_field, range_fields, stretch_fields, overlay_manner, split_sides, ways, wrap_modes}
+use Rattle.rd_script.specs.Table.{row, text_row, property_row, object_row, window_row, screen_row, stretch_fields, overlay_manner, split_sides, ways, wrap_modes}
 
 -- what fields give has this
 record Gives {T : Type 0} (fields : Fields T) (P : T → Type 0) : Type 0 where

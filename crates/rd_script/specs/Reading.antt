@@ -32,12 +32,12 @@ abbrev pub extra_key : List (List ℕ) → Members → Option (List ℕ)
 extra_key keys no_members = None
 extra_key keys (member key d ms) = if is_among keys key then extra_key keys ms else Some key
 
-abbrev pub unless_extra : Option (List ℕ) → Op → Result Op OpFault
+abbrev pub unless_extra : {T : Type 0} → Option (List ℕ) → T → Result T OpFault
 unless_extra None op = Ok op
 unless_extra (Some key) op = Err (Extra (chars key))
 
 -- an op, unless its object has a key that is not among these
-abbrev pub closed : List (List ℕ) → Members → Op → Result Op OpFault
+abbrev pub closed : {T : Type 0} → List (List ℕ) → Members → T → Result T OpFault
 closed keys ms op = unless_extra (extra_key keys ms) op
 
 -- an op by the fields of its row, beside which there is only the key `op`

@@ -8,13 +8,17 @@ ghost use Rattle.rd_script.specs.Table.{row};
 use crate::fault::OpFault;
 use crate::field::Members;
 use crate::name::Name;
-use crate::op::Op;
 use crate::row::keys;
 use crate::text_form::characters;
 use std::alloc::Global;
 
-/// An op, unless its object has a key that it does not have.
-pub fn refuse_extra(alloc: Global, members: &Members, name: Name, op: Op) -> Result<Op, OpFault>
+/// What was read of an op, unless its object has a key that the op does not have.
+pub fn refuse_extra<T: Drop>(
+    alloc: Global,
+    members: &Members,
+    name: Name,
+    op: T,
+) -> Result<T, OpFault>
     ensures { IsRead result (closed (codes "op" ∷ (row name).keys) (members_view members.now.entries) op) }
 {
     match extra_key(members, name) {

@@ -2,6 +2,8 @@
 ghost use Rattle.std.specs.Prelude.{◌≡◌};
 ghost use Rattle.rd_script.specs.Table.{name_of};
 
+use crate::word::beside;
+
 /// An op's name.
 #[derive(Clone, Copy)]
 pub enum Name {
@@ -73,49 +75,51 @@ pub enum ScreenOp {
     Shift,
 }
 
+/// The text of each name.
+const NAMES: [(&'static str, Name); 36] = [
+    ("frame", Name::Screen(ScreenOp::Frame)),
+    ("buffer", Name::Text(TextOp::Buffer)),
+    ("insert", Name::Text(TextOp::Insert)),
+    ("insert_raw", Name::Text(TextOp::InsertRaw)),
+    ("type", Name::Text(TextOp::Type)),
+    ("delete", Name::Text(TextOp::Delete)),
+    ("narrow", Name::Text(TextOp::Narrow)),
+    ("widen", Name::Text(TextOp::Widen)),
+    ("put", Name::Property(PropertyOp::Put)),
+    ("overlay", Name::Property(PropertyOp::Overlay)),
+    ("overlay_move", Name::Property(PropertyOp::OverlayMove)),
+    ("overlay_drop", Name::Property(PropertyOp::OverlayDrop)),
+    ("overlay_put", Name::Property(PropertyOp::OverlayPut)),
+    ("margin_put", Name::Property(PropertyOp::MarginPut)),
+    ("setting", Name::Property(PropertyOp::Setting)),
+    ("string", Name::Object(ObjectOp::String)),
+    ("spec", Name::Object(ObjectOp::Spec)),
+    ("face", Name::Object(ObjectOp::Face)),
+    ("table", Name::Object(ObjectOp::Table)),
+    ("split", Name::Window(WindowOp::Split)),
+    ("remove", Name::Window(WindowOp::Remove)),
+    ("select", Name::Window(WindowOp::Select)),
+    ("show", Name::Window(WindowOp::Show)),
+    ("point", Name::Window(WindowOp::Point)),
+    ("start", Name::Window(WindowOp::Start)),
+    ("scroll", Name::Window(WindowOp::Scroll)),
+    ("hscroll", Name::Window(WindowOp::Hscroll)),
+    ("wrap", Name::Window(WindowOp::Wrap)),
+    ("mode_line", Name::Window(WindowOp::ModeLine)),
+    ("go", Name::Window(WindowOp::Go)),
+    ("hit", Name::Window(WindowOp::Hit)),
+    ("margin", Name::Window(WindowOp::Margin)),
+    ("scrolling", Name::Screen(ScreenOp::Scrolling)),
+    ("echo", Name::Screen(ScreenOp::Echo)),
+    ("redisplay", Name::Screen(ScreenOp::Redisplay)),
+    ("shift", Name::Screen(ScreenOp::Shift)),
+];
+
 impl Name {
     /// The name that a text is, and None where no op has it.
     pub fn of(text: &str) -> Option<Name>
         ensures { result ≡ name_of text.now }
     {
-        match text {
-            "frame" => Some(Name::Screen(ScreenOp::Frame)),
-            "buffer" => Some(Name::Text(TextOp::Buffer)),
-            "insert" => Some(Name::Text(TextOp::Insert)),
-            "insert_raw" => Some(Name::Text(TextOp::InsertRaw)),
-            "type" => Some(Name::Text(TextOp::Type)),
-            "delete" => Some(Name::Text(TextOp::Delete)),
-            "narrow" => Some(Name::Text(TextOp::Narrow)),
-            "widen" => Some(Name::Text(TextOp::Widen)),
-            "put" => Some(Name::Property(PropertyOp::Put)),
-            "overlay" => Some(Name::Property(PropertyOp::Overlay)),
-            "overlay_move" => Some(Name::Property(PropertyOp::OverlayMove)),
-            "overlay_drop" => Some(Name::Property(PropertyOp::OverlayDrop)),
-            "overlay_put" => Some(Name::Property(PropertyOp::OverlayPut)),
-            "margin_put" => Some(Name::Property(PropertyOp::MarginPut)),
-            "setting" => Some(Name::Property(PropertyOp::Setting)),
-            "string" => Some(Name::Object(ObjectOp::String)),
-            "spec" => Some(Name::Object(ObjectOp::Spec)),
-            "face" => Some(Name::Object(ObjectOp::Face)),
-            "table" => Some(Name::Object(ObjectOp::Table)),
-            "split" => Some(Name::Window(WindowOp::Split)),
-            "remove" => Some(Name::Window(WindowOp::Remove)),
-            "select" => Some(Name::Window(WindowOp::Select)),
-            "show" => Some(Name::Window(WindowOp::Show)),
-            "point" => Some(Name::Window(WindowOp::Point)),
-            "start" => Some(Name::Window(WindowOp::Start)),
-            "scroll" => Some(Name::Window(WindowOp::Scroll)),
-            "hscroll" => Some(Name::Window(WindowOp::Hscroll)),
-            "wrap" => Some(Name::Window(WindowOp::Wrap)),
-            "mode_line" => Some(Name::Window(WindowOp::ModeLine)),
-            "go" => Some(Name::Window(WindowOp::Go)),
-            "hit" => Some(Name::Window(WindowOp::Hit)),
-            "margin" => Some(Name::Window(WindowOp::Margin)),
-            "scrolling" => Some(Name::Screen(ScreenOp::Scrolling)),
-            "echo" => Some(Name::Screen(ScreenOp::Echo)),
-            "redisplay" => Some(Name::Screen(ScreenOp::Redisplay)),
-            "shift" => Some(Name::Screen(ScreenOp::Shift)),
-            _ => None,
-        }
+        beside(&NAMES, text)
     }
 }

@@ -4,7 +4,7 @@ use rd_base::{Ch, ListOf};
 use rd_objects::RunKind;
 
 /// A run over a string's characters from `from` to `to - 1`, counted from 0: the number of a face or of a display spec.
-#[derive(Clone, Copy, Debug, PartialEq, Eq)]
+#[derive(Clone, Copy)]
 pub struct OpRun {
     pub from: u64,
     pub to: u64,
@@ -20,7 +20,7 @@ pub struct OpEntry {
 }
 
 /// A display spec: the string of a number, so many columns of blanks, or blanks up to a column.
-#[derive(Clone, Copy, Debug, PartialEq, Eq)]
+#[derive(Clone, Copy, PartialEq, Eq)]
 pub enum OpSpec {
     Text(u64),
     Width(u32),

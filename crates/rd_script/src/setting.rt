@@ -1,5 +1,5 @@
 //! The settings of a buffer, as an op says them.
-use crate::word::Named;
+use crate::word::{Named, beside};
 use rd_base::{Direction, Invisible};
 
 /// A setting and its new value. Tables and strings are told by number.
@@ -42,24 +42,26 @@ pub enum SettingName {
     ReadOnly,
 }
 
+/// The text of each name.
+const NAMES: [(&'static str, SettingName); 10] = [
+    ("tab_width", SettingName::TabWidth),
+    ("ctl_arrow", SettingName::CtlArrow),
+    ("direction", SettingName::Direction),
+    ("reorder", SettingName::Reorder),
+    ("table", SettingName::Table),
+    ("invisible", SettingName::Invisible),
+    ("line_prefix", SettingName::LinePrefix),
+    ("wrap_prefix", SettingName::WrapPrefix),
+    ("modified", SettingName::Modified),
+    ("read_only", SettingName::ReadOnly),
+];
+
 impl Named for SettingName {
     ghost use Rattle.rd_script.specs.Settings.{setting_names};
 
     ghost names = { setting_names };
 
     fn named(text: &str) -> Option<SettingName> {
-        match text {
-            "tab_width" => Some(SettingName::TabWidth),
-            "ctl_arrow" => Some(SettingName::CtlArrow),
-            "direction" => Some(SettingName::Direction),
-            "reorder" => Some(SettingName::Reorder),
-            "table" => Some(SettingName::Table),
-            "invisible" => Some(SettingName::Invisible),
-            "line_prefix" => Some(SettingName::LinePrefix),
-            "wrap_prefix" => Some(SettingName::WrapPrefix),
-            "modified" => Some(SettingName::Modified),
-            "read_only" => Some(SettingName::ReadOnly),
-            _ => None,
-        }
+        beside(&NAMES, text)
     }
 }

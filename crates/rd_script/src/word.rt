@@ -1,4 +1,7 @@
 //! Words that stand for something.
+ghost use Rattle.std.specs.Prelude.{◌≡◌, map};
+ghost use Rattle.rd_script.specs.Fields.{beside};
+
 use rd_base::{Direction, Wrap};
 use rd_objects::RunKind;
 use rd_overlays::Kind;
@@ -15,6 +18,18 @@ pub trait Named: Sized + Drop {
     /// What a text stands for, and None where it is none of the words.
     fn named(text: &str) -> Option<Self>
         ensures { result ≡ beside names text.now };
+}
+
+/// What stands beside a text in a table of words, and None where the text is none of them.
+pub fn beside<T: Copy>(table: &[(&str, T)], text: &str) -> Option<T>
+    ensures { result ≡ beside (map (λ entry. (entry.0.now, entry.1)) table.now) text.now }
+{
+    for entry in table {
+        if text == entry.0 {
+            return Some(entry.1);
+        }
+    }
+    None
 }
 
 /// A way to go in a line as it is seen: to the right, or to the left.
@@ -66,22 +81,24 @@ impl Named for Side {
     }
 }
 
+/// The text of each kind.
+const KINDS: [(&'static str, Kind); 7] = [
+    ("face", Kind::Face),
+    ("display", Kind::Display),
+    ("invisible", Kind::Invisible),
+    ("line_prefix", Kind::LinePrefix),
+    ("wrap_prefix", Kind::WrapPrefix),
+    ("before", Kind::Before),
+    ("after", Kind::After),
+];
+
 impl Named for Kind {
     ghost use Rattle.rd_script.specs.Properties.{kind_names};
 
     ghost names = { kind_names };
 
     fn named(text: &str) -> Option<Kind> {
-        match text {
-            "face" => Some(Kind::Face),
-            "display" => Some(Kind::Display),
-            "invisible" => Some(Kind::Invisible),
-            "line_prefix" => Some(Kind::LinePrefix),
-            "wrap_prefix" => Some(Kind::WrapPrefix),
-            "before" => Some(Kind::Before),
-            "after" => Some(Kind::After),
-            _ => None,
-        }
+        beside(&KINDS, text)
     }
 }
 
