@@ -1,19 +1,13 @@
 -- Pieces of bytes, as the code finds them.
 use Rattle.std.proofs.Common.{◌≡◌, ◌≢◌, ◌==◌, ℕ, zero, suc, ◌+◌, ◌-◌, ◌<◌, ◌≤◌, Bool, true, false, if◌then◌else◌, Option, None, Some, option_map, List, [], ◌∷◌, ◌++◌, length, get_or, take, drop, refl, sym, ap, ◌∙◌, arith, append_assoc, append-nil, Bor}
 use Rattle.std.specs.Prelude.{MatchOption}
-use Rattle.std.proofs.lemmas.Bool.Decides.{nat_tests}
+use Rattle.std.proofs.lemmas.Bool.Decides.{nat_tests, Decides-eqb}
 use Rattle.std.proofs.lemmas.List.{drop_more, take_more, drop_all, drop-drop, length-drop}
 use Rattle.rd_io.specs.Lines.{lines_of, in_front}
 use Rattle.rd_audit.specs.Cuts.{stripped, cut, cut_last_or, cut_last, pieces}
 
-pub eq_yes : (a b : ℕ) → a ≡ b → (a == b) ≡ true
-eq_yes a b e = grind (arith, nat_tests)
-
 pub eq_no : (a b : ℕ) → a ≢ b → (a == b) ≡ false
 eq_no a b e = grind (arith, nat_tests)
-
-eq_told : (a b : ℕ) → (a == b) ≡ true → a ≡ b
-eq_told a b e = grind (arith, nat_tests)
 
 -- ---- a front
 
@@ -21,12 +15,12 @@ pub stripped-behind : (f s rest : List ℕ) → s ≡ f ++ rest → Some rest �
 stripped-behind [] s rest e = ap Some (sym e)
 stripped-behind (x ∷ f) s rest e =
     stripped-behind f (f ++ rest) rest refl
-    ∙ sym (ap (λ t. if t then stripped f (f ++ rest) else None) (eq_yes x x refl))
+    ∙ sym (ap (λ t. if t then stripped f (f ++ rest) else None) ((Decides-eqb x x).1 refl))
     ∙ sym (ap (stripped (x ∷ f)) e)
 
 stripped-none_at : (x b : ℕ) (f s : List ℕ) (t : Bool) → (b == x) ≡ t → ((rest : List ℕ) → b ∷ s ≢ x ∷ (f ++ rest))
     → (((rest : List ℕ) → s ≢ f ++ rest) → None ≡ stripped f s) → None ≡ (if t then stripped f s else None)
-stripped-none_at x b f s true test none so = so (λ rest e. none rest (ap (λ c. c ∷ s) (eq_told b x test) ∙ ap (λ l. x ∷ l) e))
+stripped-none_at x b f s true test none so = so (λ rest e. none rest (ap (λ c. c ∷ s) ((Decides-eqb b x).0 test) ∙ ap (λ l. x ∷ l) e))
 stripped-none_at x b f s false test none so = refl
 
 pub stripped-none : (f s : List ℕ) → ((rest : List ℕ) → s ≢ f ++ rest) → None ≡ stripped f s
@@ -58,7 +52,7 @@ behind-none None = refl
 behind-none (Some parts) = refl
 
 cut-yes : (byte b : ℕ) (bs : List ℕ) → b ≡ byte → cut byte (b ∷ bs) ≡ Some ([], bs)
-cut-yes byte b bs e = ap (λ t. if t then Some ([], bs) else option_map (λ parts. (b ∷ parts.0, parts.1)) (cut byte bs)) (eq_yes b byte e)
+cut-yes byte b bs e = ap (λ t. if t then Some ([], bs) else option_map (λ parts. (b ∷ parts.0, parts.1)) (cut byte bs)) ((Decides-eqb b byte).1 e)
 
 cut-no : (byte b : ℕ) (bs : List ℕ) → b ≢ byte → cut byte (b ∷ bs) ≡ option_map (λ parts. (b ∷ parts.0, parts.1)) (cut byte bs)
 cut-no byte b bs e = ap (λ t. if t then Some ([], bs) else option_map (λ parts. (b ∷ parts.0, parts.1)) (cut byte bs)) (eq_no b byte e)
@@ -98,7 +92,7 @@ pub last-here : (byte i : ℕ) (bs : List ℕ) → i < length bs → get_or bs i
     → Some (take i bs, drop 1 (drop i bs)) ≡ cut_last byte bs
 last-here byte i [] less found none = absurd (omega (arith, less))
 last-here byte zero (b ∷ bs) less found none =
-    sym (ap (cut_last_or byte b bs) none ∙ ap (λ t. if t then Some ([], bs) else None) (eq_yes b byte found))
+    sym (ap (cut_last_or byte b bs) none ∙ ap (λ t. if t then Some ([], bs) else None) ((Decides-eqb b byte).1 found))
 last-here byte (suc i) (b ∷ bs) less found none = ap (cut_last_or byte b bs) (last-here byte i bs (omega (arith, less)) found none)
 
 last-no : (byte b : ℕ) (bs : List ℕ) → b ≢ byte → cut_last byte bs ≡ None → cut_last byte (b ∷ bs) ≡ None

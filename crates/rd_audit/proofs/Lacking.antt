@@ -1,10 +1,10 @@
 -- Bytes that lack a byte, and where they are cut by it.
 use Rattle.std.proofs.Common.{◌≡◌, ◌==◌, ℕ, zero, suc, ◌+◌, ◌/◌, ◌%◌, ◌<◌, ◌||◌, ◌&&◌, not, nat_lt, Bool, true, false, if◌then◌else◌, None, Some, option_map, decimal, List, [], ◌∷◌, ◌++◌, refl, sym, ap, ◌∙◌, arith, true≢false}
-use Rattle.std.proofs.lemmas.Bool.Decides.{nat_tests}
+use Rattle.std.proofs.lemmas.Bool.Decides.{nat_tests, Decides-eqb}
 use Rattle.std.specs.Fmt.{digits, digits_onto, digit_glyph}
 use Rattle.rd_io.specs.Lines.{lines_of}
 use Rattle.rd_audit.specs.Cuts.{cut, cut_last_or, cut_last, pieces}
-use Rattle.rd_audit.proofs.Cutting.{eq_yes, lines-cut, pieces-cut, pieces-uncut}
+use Rattle.rd_audit.proofs.Cutting.{lines-cut, pieces-cut, pieces-uncut}
 
 -- whether bytes do not have a byte
 abbrev pub lacks : ℕ → List ℕ → Bool
@@ -59,7 +59,7 @@ lacks-decimal byte n other = lacks-onto byte 64 n [] other refl
 -- ---- cuts
 
 pub cut-seam : (byte : ℕ) (front back : List ℕ) → lacks byte front ≡ true → cut byte (front ++ byte ∷ back) ≡ Some (front, back)
-cut-seam byte [] back h = ap (λ t. if t then Some ([], back) else option_map (λ parts. (byte ∷ parts.0, parts.1)) (cut byte back)) (eq_yes byte byte refl)
+cut-seam byte [] back h = ap (λ t. if t then Some ([], back) else option_map (λ parts. (byte ∷ parts.0, parts.1)) (cut byte back)) ((Decides-eqb byte byte).1 refl)
 cut-seam byte (b ∷ bs) back h =
     let both = and-both (not (b == byte)) (lacks byte bs) h in
     ap (λ t. if t then Some ([], bs ++ byte ∷ back) else option_map (λ parts. (b ∷ parts.0, parts.1)) (cut byte (bs ++ byte ∷ back))) (not-yes (b == byte) both.0)
@@ -89,5 +89,5 @@ last-none byte (b ∷ bs) h =
 
 pub last-seam : (byte : ℕ) (front back : List ℕ) → lacks byte back ≡ true → cut_last byte (front ++ byte ∷ back) ≡ Some (front, back)
 last-seam byte [] back h =
-    ap (cut_last_or byte byte back) (last-none byte back h) ∙ ap (λ t. if t then Some ([], back) else None) (eq_yes byte byte refl)
+    ap (cut_last_or byte byte back) (last-none byte back h) ∙ ap (λ t. if t then Some ([], back) else None) ((Decides-eqb byte byte).1 refl)
 last-seam byte (b ∷ bs) back h = ap (cut_last_or byte b (bs ++ byte ∷ back)) (last-seam byte bs back h)

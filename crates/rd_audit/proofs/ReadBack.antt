@@ -1,7 +1,7 @@
 -- A dump that was printed, read back.
 use Rattle.std.proofs.Common.{◌≡◌, ◌==◌, ℕ, ◌+◌, ◌<◌, ◌≤◌, ◌&&◌, nat_lt, nat_le, Bool, true, false, if◌then◌else◌, Option, None, Some, option_and_then, option_map, unwrap_or, Result, Ok, Err, decimal, codes, List, [], ◌∷◌, ◌++◌, length, map, refl, sym, ap, ap₂, ◌∙◌, arith, append_assoc, append-nil, length-append}
 use Rattle.std.specs.Prelude.{All}
-use Rattle.std.proofs.lemmas.Bool.Decides.{nat_tests}
+use Rattle.std.proofs.lemmas.Bool.Decides.{nat_tests, Decides-eqb}
 use Rattle.std.proofs.lemmas.List.Elements.{All-head, All-tail}
 use Rattle.rd_base.specs.Cells.{IsColoured, AreColoured}
 use Rattle.rd_base.specs.Glyphs.{IsRowAfter}
@@ -18,7 +18,7 @@ use Rattle.rd_audit.specs.Rows.{is_row, is_cursor, row_text, row_cells, is_as_wi
 use Rattle.rd_audit.specs.Runs.{runs_over}
 use Rattle.rd_audit.specs.Texts.{text_cells}
 use Rattle.rd_audit.proofs.Covering.{runs-lack, runs-read}
-use Rattle.rd_audit.proofs.Cutting.{eq_yes, stripped-behind}
+use Rattle.rd_audit.proofs.Cutting.{stripped-behind}
 use Rattle.rd_audit.proofs.Decimals.{number-read}
 use Rattle.rd_audit.proofs.Faces.{piece-lacks}
 use Rattle.rd_audit.proofs.Lacking.{cut-seam, last-seam, lacks-decimal}
@@ -55,7 +55,7 @@ first-wide width low high cells e =
     ap₂ (λ x y. x && y) a b
 
 more-wide : (width : ℕ) (rows : List (List Cell)) (cells : List Cell) → IsAsWide width rows → length cells ≡ width → IsAsWide width (rows ++ cells ∷ [])
-more-wide width [] cells wide e other f = eq_yes (length other) (length cells) (f ∙ sym e)
+more-wide width [] cells wide e other f = (Decides-eqb (length other) (length cells)).1 (f ∙ sym e)
 more-wide width (row ∷ rows) cells wide e other f = wide other f
 
 next-row_read : (width : ℕ) (rows : List (List Cell)) (cells : List Cell) → IsRowAfter 0 cells → All IsColoured cells → length rows < 200 → width ≤ 400 → length cells ≡ width → IsAsWide width rows

@@ -1,7 +1,7 @@
 -- What the steps of an audit answer.
 use Rattle.std.specs.Prelude.{◌≡◌, ℕ, ◌<◌, ◌≤◌, List, [], length, drop, Option, Result, Ok, Err}
 use Rattle.rd_base.specs.declared.cell.Cell.{Cell}
-use Rattle.rd_base.specs.declared.limits.TheConstants.{FRAME_COLUMNS, FRAME_ROWS}
+use Rattle.rd_base.specs.declared.limits.TheConstants.{FRAME_COLUMNS, FRAME_ROWS, LEAST_FRAME_COLUMNS}
 use Rattle.rd_io.specs.Lines.{lines_of}
 use Rattle.rd_term.specs.Pictures.{Picture, IsGrid, width_of}
 use Rattle.rd_term.specs.Terminals.{Tty, feed_bytes}
@@ -30,7 +30,7 @@ IsReadAs (Err Memory) said = Unit {0}
 -- rows of one width that a frame may have
 pub record IsShape (rows : List (List Cell)) : Type 0 where
   pub each : IsGrid (width_of rows) rows
-  pub some : 0 < length rows → 12 ≤ width_of rows
+  pub some : 0 < length rows → LEAST_FRAME_COLUMNS ≤ width_of rows
   pub wide : width_of rows ≤ FRAME_COLUMNS
   pub tall : length rows ≤ FRAME_ROWS
 

@@ -1,7 +1,7 @@
 -- The lines of a dump.
 use Rattle.std.specs.Prelude.{ℕ, ◌==◌, nat_lt, nat_le, Bool, if◌then◌else◌, ◌&&◌, List, [], ◌∷◌, length, Option, None, Some, option_and_then, decimal, codes}
 use Rattle.rd_base.specs.declared.cell.Cell.{Cell}
-use Rattle.rd_base.specs.declared.limits.TheConstants.{FRAME_COLUMNS, FRAME_ROWS}
+use Rattle.rd_base.specs.declared.limits.TheConstants.{FRAME_COLUMNS, FRAME_ROWS, LEAST_FRAME_COLUMNS}
 use Rattle.rd_term.specs.Pictures.{width_of}
 use Rattle.rd_audit.specs.Cuts.{stripped, begins_with, cut, cut_last}
 use Rattle.rd_audit.specs.Numbers.{number_of, both}
@@ -25,7 +25,7 @@ row_cells number line =
 
 -- whether a row is as wide as those before it, and the first one as wide as a frame may be
 abbrev pub is_as_wide : List (List Cell) → List Cell → Bool
-is_as_wide [] cells = nat_le 12 (length cells) && nat_le (length cells) FRAME_COLUMNS
+is_as_wide [] cells = nat_le LEAST_FRAME_COLUMNS (length cells) && nat_le (length cells) FRAME_COLUMNS
 is_as_wide (row ∷ rows) cells = length cells == length row
 
 -- the cells of the line of the next row, which is not one too many

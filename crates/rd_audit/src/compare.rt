@@ -1,14 +1,13 @@
 //! What a terminal shows, compared with a dump.
 ghost use Rattle.std.specs.Prelude.{◌≡◌, ◌<◌, ◌≤◌, None, length, slice_index_or};
 ghost use Rattle.rd_base.specs.declared.limits.TheConstants.{FRAME_COLUMNS};
-ghost use Rattle.rd_base.specs.Equals.{same_face, same_glyph, same_cell};
 ghost use Rattle.rd_term.specs.Pictures.{row_at};
 ghost use Rattle.rd_audit.specs.Results.{picture_in, IsShape};
 ghost use Rattle.rd_audit.specs.Verdicts.{is_known, other_column, other_place, IsAnswer};
 
 use crate::dump::Dump;
 use crate::verdict::{Difference, Verdict};
-use rd_base::{Cell, Face, Glyph, ListOf};
+use rd_base::{Cell, ListOf};
 use rd_term::Terminal;
 
 /// Whether a terminal of a dump's size shows the dump, and what differs first.
@@ -86,35 +85,7 @@ fn is_known(cell: &Cell, shown: Option<Cell>) -> bool
     ensures { result ≡ is_known cell.now shown }
 {
     match shown {
-        Some(other) => same_cell(&other, cell),
+        Some(other) => other.is_same(cell),
         None => false,
     }
-}
-
-/// Whether two cells are the same.
-fn same_cell(cell: &Cell, other: &Cell) -> bool
-    ensures { result ≡ same_cell cell.now other.now }
-{
-    match (cell, other) {
-        (Cell::Blank(face), Cell::Blank(under)) => same_face(*face, *under),
-        (Cell::First(glyph, face), Cell::First(under, back)) => {
-            same_glyph(glyph, under) && same_face(*face, *back)
-        }
-        (Cell::Rest, Cell::Rest) => true,
-        _ => false,
-    }
-}
-
-/// Whether two glyphs are the same.
-fn same_glyph(glyph: &Glyph, other: &Glyph) -> bool
-    ensures { result ≡ same_glyph glyph.now other.now }
-{
-    *glyph == *other
-}
-
-/// Whether two faces are the same.
-fn same_face(face: Face, other: Face) -> bool
-    ensures { result ≡ same_face face other }
-{
-    face == other
 }

@@ -7,7 +7,7 @@ use crate::number::{both, number_of};
 use crate::run::runs_over;
 use crate::text::text_cells;
 use itoa::Buffer;
-use rd_base::limits::{FRAME_COLUMNS, FRAME_ROWS};
+use rd_base::limits::{FRAME_COLUMNS, FRAME_ROWS, LEAST_FRAME_COLUMNS};
 use rd_base::{Cell, ListOf, Memory};
 use std::alloc::Global;
 
@@ -48,7 +48,7 @@ fn is_as_wide(rows: &[ListOf<Cell>], cells: &[Cell]) -> bool
     ensures { result ≡ is_as_wide rows.now cells.now }
 {
     if rows.is_empty() {
-        12 <= cells.len() && cells.len() <= FRAME_COLUMNS as usize
+        LEAST_FRAME_COLUMNS as usize <= cells.len() && cells.len() <= FRAME_COLUMNS as usize
     } else {
         cells.len() == rows[0].len()
     }

@@ -15,6 +15,7 @@ mod Mapped
 mod Naming
 mod Opening
 mod Outcomes
+mod Reaching
 mod Sharing
 mod Showing
 mod Slots

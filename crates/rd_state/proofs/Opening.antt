@@ -142,12 +142,6 @@ undone mid now old pos n k up down kind p = elim (cases_lt kind k) [
       ∙ (up kind p ∙ passed (nat_lt kind k) _ _ (not-less kind k behind)))
 ]
 
--- all kinds that were opened are closed again
-pub undone-all : (mid now : List (List (Option ℕ))) (old : ℕ → ℕ → Option ℕ) (pos n : ℕ) → ((kind p : ℕ) → values_of mid kind p ≡ opened old pos n kind p)
-    → ((kind p : ℕ) → values_of now kind p ≡ closed (values_of mid) pos (pos + n) kind p) → (kind p : ℕ) → values_of now kind p ≡ old kind p
-undone-all mid now old pos n up down kind p =
-    down kind p ∙ (closed-alike (values_of mid) (opened old pos n) pos (pos + n) kind p (up kind) ∙ closed-opened old pos n kind p)
-
 -- nothing was changed at a place
 pub unchanged : (change : Change) (spans : List (List (Option ℕ))) (old : ℕ → ℕ → Option ℕ) (k : ℕ) (was now : List (Option ℕ)) → k < length spans → was ≡ get_or spans k was
     → now ≡ get_or spans k was → ((kind p : ℕ) → values_of spans kind p ≡ changed_first change old k kind p)

@@ -3,7 +3,7 @@ use Rattle.std.proofs.Common.{◌≡◌, ◌≢◌, ℕ, ◌+◌, ◌-◌, ◌<�
 use Rattle.std.proofs.lemmas.Bool.{cases_lt}
 use Rattle.std.proofs.lemmas.Bool.Decides.{nat_tests}
 use Rattle.std.specs.List.{remove}
-use Rattle.std.specs.Prelude.{IsErr, option_map}
+use Rattle.std.specs.Prelude.{IsErr, IfErr, option_map}
 use Rattle.std.specs.Result.{IsErrAnd}
 use Rattle.rd_script.specs.declared.op.Op.{Op}
 use Rattle.rd_script.specs.declared.op.Op.TheVariants.{Split as SplitWindow}
@@ -37,6 +37,11 @@ use Rattle.rd_state.proofs.Opening.{chosen, passed}
 pub refuses : (r : Result Effect Refused) (op : Op) (s t : StateValue) (e : Refused) → IsErr r → IsErrAnd r (λ x. x ≡ e) → t ≡ s → step s op ≡ Err e → Applies r op s t
 refuses (Ok x) op s t e is and same said = absurd (cc)
 refuses (Err x) op s t e is and same said = (same, λ _. said ∙ ap (λ y. Err y) (sym and))
+
+-- what holds of the reason that was said
+pub if-refused : {A : Type 0} (r : Result A Refused) (e : Refused) (P : Refused → Type 0) → IsErrAnd r (λ x. x ≡ e) → P e → IfErr r P
+if-refused (Ok x) e P and h = absurd and
+if-refused (Err x) e P and h = subst P (sym and) h
 
 -- what a window's tree refuses
 pub tree-refuses : (s t : StateValue) (n i : ℕ) (e : NumberedWindow) (q : StateValue → Result Configuration TreeFault) (h : StateValue → WindowState → Configuration → StateValue) (fault : TreeFault)

@@ -16,7 +16,7 @@ use crate::overlay::{drop_one, find_overlay, give, make, move_to};
 use crate::property::{is_accessible_range, put_values};
 use crate::refused::Refused;
 use crate::setting::put;
-use rd_base::{Ch, Memory};
+use rd_base::{Ch, Memory, Pos};
 use rd_margins::Marks;
 use rd_objects::Objects;
 use rd_overlays::{Kind, Overlay};
@@ -74,14 +74,14 @@ impl Content {
     }
 
     /// Puts a text in before a position.
-    pub(crate) fn insert(&mut self, pos: u64, new: &[Ch]) -> Result<(), Refused>
+    pub(crate) fn insert(&mut self, pos: Pos, new: &[Ch]) -> Result<(), Refused>
         ensures { Answers result (insertion pos new.now self.old) self.old self.new }
     {
         insert(&mut self.state, pos, new)
     }
 
     /// Takes a range away.
-    pub(crate) fn delete(&mut self, from: u64, to: u64) -> Result<(), Refused>
+    pub(crate) fn delete(&mut self, from: Pos, to: Pos) -> Result<(), Refused>
         ensures changes { Answers result (deletion from to self.old) self.old self.new }
         ensures free { result ≢ Err Refused.Memory }
     {
@@ -89,7 +89,7 @@ impl Content {
     }
 
     /// Makes a range the accessible one.
-    pub(crate) fn narrow(&mut self, from: u64, to: u64) -> Result<(), Refused>
+    pub(crate) fn narrow(&mut self, from: Pos, to: Pos) -> Result<(), Refused>
         ensures changes { Answers result (narrowing from to self.old) self.old self.new }
         ensures free { result ≢ Err Refused.Memory }
     {

@@ -1,7 +1,9 @@
 //! The ops on the texts of buffers by name, as methods of `StateParts`. Each moves the windows' points with the text, and tells its effect.
-ghost use Rattle.std.specs.Prelude.{◌≢◌};
+ghost use Rattle.std.specs.Prelude.{◌≡◌, ◌≢◌, ◌+◌, ◌<◌, IfOk, IfErr, OnErr};
+ghost use Rattle.rd_base.specs.declared.limits.TheConstants.{TEXT_CHARACTERS};
 ghost use Rattle.rd_script.specs.Forms.{IsInForm};
 ghost use Rattle.rd_script.specs.declared.op.Op.TheVariants.{Buffer as MakeBuffer, Insert, InsertRaw, TypeText, Delete, Narrow, Widen};
+ghost use Rattle.rd_state.specs.declared.refused.Refused.TheVariants.{OutOfRange};
 ghost use Rattle.rd_state.specs.Answers.{Applies};
 ghost use Rattle.rd_state.specs.Valid.{IsValid};
 
@@ -12,8 +14,8 @@ use crate::parts::StateParts;
 use crate::raw::raw_text;
 use crate::refused::Refused;
 use crate::windows;
-use rd_base::Ch;
 use rd_base::limits::BUFFERS;
+use rd_base::{Ch, Pos};
 use rd_script::BufferName;
 
 /// How many buffers there can be.
@@ -43,8 +45,9 @@ impl StateParts {
         ensures { Applies result (Insert name.now pos text.now) self.old self.new }
     {
         let i = find(&self.buffers, name)?;
-        self.buffers[i].insert(pos, text)?;
-        let (buffer, from, added) = (i as u32, pos as u32, text.len() as u32);
+        let from = place(pos)?;
+        self.buffers[i].insert(from, text)?;
+        let (buffer, added) = (i as u32, text.len() as u32);
         move_windows(&mut self.windows, buffer, Move::Inserted(from, added));
         Ok(Effect::Edit {
             buffer,
@@ -79,7 +82,7 @@ impl StateParts {
         let w = windows::find(self.windows.as_slice(), self.selected as u64)?;
         let window = &self.windows[w].1;
         let (buffer, from) = (window.buffer, window.point);
-        self.buffers[buffer as usize].insert(from as u64, text)?;
+        self.buffers[buffer as usize].insert(from, text)?;
         let added = text.len() as u32;
         move_windows(&mut self.windows, buffer, Move::Inserted(from, added));
         self.windows[w].1.point = from + added;
@@ -99,8 +102,9 @@ impl StateParts {
         ensures free { result ≢ Err Refused.Memory }
     {
         let i = find(&self.buffers, name)?;
+        let (from, to) = (place(from)?, place(to)?);
         self.buffers[i].delete(from, to)?;
-        let (buffer, from, to) = (i as u32, from as u32, to as u32);
+        let buffer = i as u32;
         move_windows(&mut self.windows, buffer, Move::Deleted(from, to));
         Ok(Effect::Edit {
             buffer,
@@ -118,13 +122,10 @@ impl StateParts {
         ensures free { result ≢ Err Refused.Memory }
     {
         let i = find(&self.buffers, name)?;
+        let (from, to) = (place(from)?, place(to)?);
         self.buffers[i].narrow(from, to)?;
         let buffer = i as u32;
-        move_windows(
-            &mut self.windows,
-            buffer,
-            Move::Narrowed(from as u32, to as u32),
-        );
+        move_windows(&mut self.windows, buffer, Move::Narrowed(from, to));
         Ok(Effect::All { buffer })
     }
 
@@ -139,4 +140,13 @@ impl StateParts {
         self.buffers[i].widen();
         Ok(Effect::All { buffer: i as u32 })
     }
+}
+
+/// A position in 32 bits, which is refused where it has more: no text reaches so far.
+fn place(pos: u64) -> Result<Pos, Refused>
+    ensures same { IfOk result (λ place. place ≡ pos) }
+    ensures far { OnErr result (TEXT_CHARACTERS + 1 < pos) }
+    ensures refused { IfErr result (λ e. e ≡ OutOfRange) }
+{
+    Pos::try_from(pos).map_err(|_far| Refused::OutOfRange)
 }

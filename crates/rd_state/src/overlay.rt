@@ -1,5 +1,5 @@
 //! The ops on the overlays of one buffer, with the refusals of each in order.
-ghost use Rattle.std.specs.Prelude.{◌≡◌, ◌≢◌, ◌<◌, ◌≤◌, ℕ, true, List, Ok, None, Some, IfOk, IfErr, OnErr, length};
+ghost use Rattle.std.specs.Prelude.{◌≡◌, ◌≢◌, ◌+◌, ◌<◌, ◌≤◌, ℕ, true, List, Ok, None, Some, IfOk, IfErr, OnErr, length};
 ghost use Rattle.rd_overlays.specs.Overlays.{overlay_at};
 ghost use Rattle.rd_objects.specs.Sound.{AreObjects};
 ghost use Rattle.rd_script.specs.Forms.{IsPropertyValue};
@@ -13,7 +13,7 @@ ghost use Rattle.rd_state.specs.declared.refused.Refused.TheVariants.{NoOverlay}
 
 use crate::made::made_value;
 use crate::refused::Refused;
-use rd_base::limits::OVERLAYS;
+use rd_base::limits::{OVERLAYS, TEXT_CHARACTERS};
 use rd_objects::Objects;
 use rd_overlays::{Kind, Overlay, Overlays};
 use rd_props::BufferState;
@@ -118,7 +118,7 @@ pub(crate) fn find_overlay(overlays: &Overlays, number: u64) -> Result<Overlay, 
 /// Whether a range lies in the whole text.
 fn is_range_of_all(text: &Buffer, from: u64, to: u64) -> bool
     ensures value { result ≡ is_range_of_all text.now from to }
-    ensures bound { result ≡ true → (from ≤ to) × (to ≤ 4194305) }
+    ensures bound { result ≡ true → (from ≤ to) × (to ≤ TEXT_CHARACTERS + 1) }
 {
     1 <= from && from <= to && to <= text.length() as u64 + 1
 }

@@ -1,5 +1,5 @@
 //! One text property of a buffer: its values on a range.
-ghost use Rattle.std.specs.Prelude.{◌≡◌, ◌≤◌, ◌<◌, ℕ, true, IsTrue, OnOk, OnErr, length};
+ghost use Rattle.std.specs.Prelude.{◌≡◌, ◌+◌, ◌≤◌, ◌<◌, ℕ, true, IsTrue, OnOk, OnErr, length};
 ghost use Rattle.rd_overlays.specs.Overlays.{place_of};
 ghost use Rattle.rd_props.specs.Buffers.{meaning, values_of};
 ghost use Rattle.rd_props.specs.Edits.{put_on};
@@ -7,6 +7,7 @@ ghost use Rattle.rd_script.specs.Forms.{is_text_kind};
 ghost use Rattle.rd_text.specs.Texts.{IsText};
 ghost use Rattle.rd_state.specs.Edits.{is_accessible_range};
 
+use rd_base::limits::TEXT_CHARACTERS;
 use rd_base::{Memory, Pos};
 use rd_overlays::Kind;
 use rd_spans::Spans;
@@ -33,7 +34,7 @@ pub(crate) fn put_values(
 pub(crate) fn is_accessible_range(text: &Buffer, from: u64, to: u64) -> bool
     ensures value { result ≡ is_accessible_range text.now from to }
     ensures right { IsText text.now }
-    ensures bound { result ≡ true → (from ≤ to) × (to ≤ 4194305) }
+    ensures bound { result ≡ true → (from ≤ to) × (to ≤ TEXT_CHARACTERS + 1) }
 {
     text.begin() as u64 <= from && from <= to && to <= text.end() as u64
 }

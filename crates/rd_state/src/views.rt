@@ -1,14 +1,15 @@
 //! The ops on one window's view, as methods of `StateParts`: what it shows, from where on, and how long lines are cut.
-ghost use Rattle.std.specs.Prelude.{◌≡◌, ◌≢◌, ◌<◌, IfOk, IfErr, IsSome, Some, is_ok, length, option_map, slice_get};
+ghost use Rattle.std.specs.Prelude.{◌≡◌, ◌≢◌, ◌<◌, Err, IfOk, IfErr, OnOk, IsSome, Some, is_ok, length, option_map, slice_get};
 ghost use Rattle.rd_script.specs.declared.op.Op.TheVariants.{Select, Show, Point, Start, Scroll, Hscroll, Wrap as SetWrap};
 ghost use Rattle.rd_script.specs.Forms.{IsInForm};
 ghost use Rattle.rd_state.specs.declared.refused.Refused.TheVariants.{OutOfRange};
 ghost use Rattle.rd_state.specs.States.{BufferValue, buffers_of};
 ghost use Rattle.rd_state.specs.Answers.{Applies};
 ghost use Rattle.rd_state.specs.Edits.{is_accessible};
-ghost use Rattle.rd_state.specs.Steps.{held, settled};
+ghost use Rattle.rd_state.specs.Steps.{held, placing, setting, settled};
 ghost use Rattle.rd_state.specs.Valid.{IsValid};
-ghost use Rattle.rd_state.specs.Windows.{window_of};
+ghost use Rattle.rd_state.specs.declared.window.WindowState.{WindowState};
+ghost use Rattle.rd_state.specs.Windows.{place_in, window_of};
 
 use crate::buffers::{self, Buffers, text_at};
 use crate::effect::Effect;
@@ -60,8 +61,7 @@ impl StateParts {
         ensures applies { Applies result (Point window pos) self.old self.new }
         ensures free { result ≢ Err Refused.Memory }
     {
-        let i = find(self.windows.as_slice(), window)?;
-        let point = accessible(&self.buffers, self.windows[i].1.buffer as usize, pos)?;
+        let (i, point) = self.find_place(window, pos)?;
         self.windows[i].1.point = point;
         Ok(Effect::Nothing)
     }
@@ -73,13 +73,28 @@ impl StateParts {
         ensures applies { Applies result (Start window pos row) self.old self.new }
         ensures free { result ≢ Err Refused.Memory }
     {
-        let i = find(self.windows.as_slice(), window)?;
-        let pos = accessible(&self.buffers, self.windows[i].1.buffer as usize, pos)?;
+        let (i, pos) = self.find_place(window, pos)?;
         let view = &mut self.windows[i].1;
         view.anchor = Anchor { pos, row };
         view.forced = true;
         view.pending = 0;
         Ok(Effect::Nothing)
+    }
+
+    /// The place of a window, counted from 0, and a position in 32 bits, which is accessible in the buffer that the window shows. It is
+    /// refused where the window does not live, or the position is not accessible there.
+    fn find_place(&self, window: u64, pos: u64) -> Result<(usize, Pos), Refused>
+        requires valid { IsValid self.now }
+        ensures place { IfOk result (λ at. at.0 ≡ place_in window self.now.windows) }
+        ensures inside { IfOk result (λ at. at.0 < length self.now.windows) }
+        ensures same { IfOk result (λ at. at.1 ≡ pos) }
+        ensures placed { OnOk result ((f : WindowState → WindowState) → placing self.now window pos f ≡ setting self.now window f) }
+        ensures refused { IfErr result (λ e. (f : WindowState → WindowState) → placing self.now window pos f ≡ Err e) }
+        ensures free { result ≢ Err Refused.Memory }
+    {
+        let i = find(self.windows.as_slice(), window)?;
+        let place = accessible(&self.buffers, self.windows[i].1.buffer as usize, pos)?;
+        Ok((i, place))
     }
 
     /// Scrolls a window by so many rows.

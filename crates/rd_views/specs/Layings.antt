@@ -1,5 +1,6 @@
 -- What laying out all windows of a session gives, and what is left when it is kept.
 use Rattle.std.specs.Prelude.{◌≡◌, ℕ, false, if◌then◌else◌, is_some, Option, None, Some, List, [], ◌∷◌, unwrap_or, IsSome}
+use Rattle.rd_base.specs.declared.limits.TheConstants.{LEAST_TEXT_COLUMNS}
 use Rattle.rd_base.specs.declared.settings.Wrap.TheVariants.{Truncate}
 use Rattle.rd_matrix.specs.Entries.{shown_entries}
 use Rattle.rd_reuse.specs.Changes.{none}
@@ -26,7 +27,7 @@ use Rattle.rd_views.specs.declared.desired.LaidWindow.{LaidWindow}
 abbrev pub no_layout : Layout
 no_layout = record {
   matrix = [];
-  shape = record { width = 10; wrap = Truncate; hscroll = 0 };
+  shape = record { width = LEAST_TEXT_COLUMNS; wrap = Truncate; hscroll = 0 };
   height = 0;
   margin = 0;
   conservatively = 0;

@@ -8,6 +8,7 @@ ghost use Rattle.rd_window.specs.declared.layout.Layout.{Layout};
 ghost use Rattle.rd_views.specs.Layings.{IsDesired, layout_in, layout_taken, no_layout, views_taken, window_in};
 
 use crate::views::Views;
+use rd_base::limits::LEAST_TEXT_COLUMNS;
 use rd_base::{ListOf, Memory, Steps, Wrap};
 use rd_layout::ShownWindow;
 use rd_matrix::Matrix;
@@ -127,7 +128,7 @@ fn no_layout(alloc: Global) -> Result<Layout, Memory>
     Ok(Layout {
         matrix: Matrix::new(alloc)?,
         shape: Shape {
-            width: 10,
+            width: LEAST_TEXT_COLUMNS,
             wrap: Wrap::Truncate,
             hscroll: 0,
         },

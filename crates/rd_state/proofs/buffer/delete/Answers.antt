@@ -7,7 +7,7 @@ use Rattle.rd_state.proofs.buffer.delete.Goals as goal
 pub returns-clause-within : goal.returns-clause-within
 returns-clause-within c =
     let left : BufferState = record { text = c.delete.new.self; spans = c.close.new.spans; overlays = c.deleted.new.self; settings = c.mark.new.settings } in
-    shrunk-within (meaning c.args.buffer.now) (meaning left) c.args.from c.args.to c.begin.ensures.right c.requires c.in_ok-delete.ensures.0
+    shrunk-within (meaning c.args.buffer.now) (meaning left) c.args.from c.args.to c.stays_valid.ensures.text c.requires c.in_ok-delete.ensures.0
     c.in_ok-delete.ensures.1 c.close.ensures c.deleted.ensures
 
 pub returns-clause-changes : goal.returns-clause-changes

@@ -1,5 +1,4 @@
-use Rattle.std.proofs.Common.{◌≡◌, ◌+◌, ◌<◌, ◌≤◌, nat_lt, length, ap, ◌∙◌, arith}
-use Rattle.rd_text.specs.Texts.{IsAccessible, most_characters}
+use Rattle.std.proofs.Common.{◌≡◌, ◌+◌, ◌<◌, nat_lt, length, ap, ◌∙◌, arith}
 use Rattle.rd_props.specs.Buffers.{meaning}
 use Rattle.rd_props.specs.declared.state.BufferState.{BufferState}
 use Rattle.rd_state.specs.Edits.{marked}
@@ -10,28 +9,22 @@ use Rattle.rd_state.proofs.buffer.insert.Goals as goal
 pub inserted-requires : goal.inserted-requires
 inserted-requires c =
     let b = c.args.buffer.now in
-    let right = c.length.ensures.right in
-    let short = right.short in
-    let value = c.length.ensures.value in
-    let room = c.if-length-new.false in
-    let bound : length b.text.text + 1 + length c.args.new.now < 4294967296 = omega arith in
+    let room = c.in_ok-put_in.ensures.text.1 in
+    let bound : length b.text.text + 1 + length c.args.new.now < 4294967296 = omega (arith, room) in
     all-fit b.overlays (length b.text.text) c.args.pos (length c.args.new.now) bound c.requires.overlays
 
 pub returns-clause-within : goal.returns-clause-within
 returns-clause-within c =
     let b = c.args.buffer.now in
     let left : BufferState = record { text = c.put_in.new.text; spans = c.put_in.new.spans; overlays = c.inserted.new.self; settings = c.mark.new.settings } in
-    let at : IsAccessible b.text c.args.pos = (omega arith, omega arith) in
-    grown-within (meaning b) (meaning left) c.args.pos c.args.new.now c.begin.ensures.right c.requires at
-    c.in_ok-put_in.ensures.text c.in_ok-put_in.ensures.values c.inserted.ensures
+    let inserts = c.in_ok-put_in.ensures.text in
+    grown-within (meaning b) (meaning left) c.args.pos c.args.new.now c.stays_valid.ensures.text c.requires inserts.0 inserts.2 c.in_ok-put_in.ensures.values c.inserted.ensures
 
 pub returns-clause-changes : goal.returns-clause-changes
 returns-clause-changes c =
     let b = c.args.buffer.now in
     let left : BufferState = record { text = c.put_in.new.text; spans = c.put_in.new.spans; overlays = c.inserted.new.self; settings = c.mark.new.settings } in
-    let at : IsAccessible b.text c.args.pos = (omega arith, omega arith) in
-    let room : length b.text.text + length c.args.new.now ≤ most_characters = omega arith in
+    let inserts = c.in_ok-put_in.ensures.text in
     let settings : c.mark.new.settings ≡ marked (nat_lt 0 (length c.args.new.now)) b.settings
     = c.mark.ensures ∙ ap (λ t. marked t b.settings) (some-characters (length c.args.new.now) c.is_empty.result c.is_empty.ensures) in
-    insertion-is b left c.args.pos c.args.new.now c.requires at room
-    c.in_ok-put_in.ensures.text c.in_ok-put_in.ensures.values c.inserted.ensures settings
+    insertion-is b left c.args.pos c.args.new.now c.requires inserts.0 inserts.1 inserts.2 c.in_ok-put_in.ensures.values c.inserted.ensures settings

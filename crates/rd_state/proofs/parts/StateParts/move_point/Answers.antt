@@ -1,47 +1,22 @@
-use Rattle.std.proofs.Common.{◌≡◌, Some, Ok, Err, set, subst, refl, ap, sym, ◌∙◌}
-use Rattle.std.specs.Prelude.{slice_get}
-use Rattle.rd_script.specs.declared.op.Op.TheVariants.{Point}
+use Rattle.std.proofs.Common.{Ok, set, refl, ap, sym, ◌∙◌}
 use Rattle.rd_state.specs.contracts.parts.StateParts.{the_view}
 use Rattle.rd_state.specs.declared.window.WindowState.{WindowState}
 use Rattle.rd_state.specs.Effects.{effect_of}
+use Rattle.rd_state.specs.States.{StateValue}
 use Rattle.rd_state.specs.Steps.{step}
-use Rattle.rd_state.specs.Valid.{IsValid}
-use Rattle.rd_state.proofs.Finding.{found-in, one-entry}
-use Rattle.rd_state.proofs.Sharing.{refuses}
-use Rattle.rd_state.proofs.Viewing.{shown-made, places-window, place-refused}
+use Rattle.rd_state.proofs.Finding.{found-in, sets-window}
 use Rattle.rd_state.proofs.parts.StateParts.move_point.Goals as goal
-
-pub accessible-requires : goal.accessible-requires
-accessible-requires c =
-    let t = the_view c.self.inside in
-    let n = c.args.window in
-    let there = found-in t c.as_slice.result.now n c.in_ok-i.i c.index.result.now c.as_slice.ensures.value c.in_ok-i.ensures.place c.in_ok-i.ensures.inside c.index.ensures in
-    let valid : IsValid t = subst IsValid (sym c.self.view_is) c.requires.valid in
-    shown-made t n c.in_ok-i.i c.index.result.now valid there
-
-pub returns-in_err-point-clause-applies : goal.returns-in_err-point-clause-applies
-unfolding step
-returns-in_err-point-clause-applies c =
-    let t = the_view c.self.inside in
-    let n = c.args.window in
-    let there = found-in t c.as_slice.result.now n c.in_ok-i.i c.index.result.now c.as_slice.ensures.value c.in_ok-i.ensures.place c.in_ok-i.ensures.inside c.index.ensures in
-    let f : WindowState → WindowState = λ old. record old { point = c.args.pos } in
-    let b = c.in_err-point.ensures.exact in
-    refuses c.from_residual-in_err-point.result (Point n c.args.pos) c.args.self.now c.args.self.now c.in_err-point.field-0.0 c.from_residual-in_err-point.ensures.0 c.from_residual-in_err-point.ensures.1 refl
-    (place-refused c.args.self.now t n c.in_ok-i.i c.args.pos c.index.result.now f b.0 c.self.view_is there b.1 b.2 ∙ ap (λ e. Err e) (sym c.in_err-point.ensures.refused))
 
 pub returns-clause-applies : goal.returns-clause-applies
 unfolding step effect_of
 returns-clause-applies c =
     let t = the_view c.self.inside in
     let n = c.args.window in
-    let there = found-in t c.as_slice.result.now n c.in_ok-i.i c.index.result.now c.as_slice.ensures.value c.in_ok-i.ensures.place c.in_ok-i.ensures.inside c.index.ensures in
-    let there_2 = found-in t c.as_slice.result.now n c.in_ok-i.i c.index_mut.result.now c.as_slice.ensures.value c.in_ok-i.ensures.place c.in_ok-i.ensures.inside c.index_mut.ensures.value in
     let e = c.index_mut.result.now in
-    let f : WindowState → WindowState = λ old. record old { point = c.args.pos } in
-    let b = c.in_ok-point.ensures.exact in
-    let at = subst (λ (w : WindowState). slice_get t.buffers w.buffer ≡ Some b.0) (one-entry n c.in_ok-i.i t.windows c.index.result.now e there there_2) b.1 in (
-      places-window c.args.self.now t n c.in_ok-i.i c.args.pos e f b.0 c.self.view_is there_2 at b.2
-          ∙ ap (λ p. Ok (record t { windows = set t.windows c.in_ok-i.i (e.0, record e.1 { point = p }) })) (sym c.in_ok-point.ensures.same),
+    let place = c.in_ok-i.ensures in
+    let there = found-in t c.args.self.now.windows n c.in_ok-i.i e (ap (λ (s : StateValue). s.windows) (sym c.self.view_is)) place.place place.inside c.index_mut.ensures.value in
+    let f : WindowState → WindowState = λ old. record old { point = c.args.pos } in (
+      place.placed f ∙ (sets-window c.args.self.now t n c.in_ok-i.i e f c.self.view_is there
+          ∙ ap (λ p. Ok (record t { windows = set t.windows c.in_ok-i.i (e.0, record e.1 { point = p }) })) (sym place.same)),
       refl,
     )
