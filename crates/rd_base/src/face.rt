@@ -52,6 +52,7 @@ impl Face {
             inverse: self.inverse || under.inverse,
         }
     }
+
     /// Whether both have the same colours and flags.
     pub fn is_same(self, other: Face) -> bool
         ensures { result ≡ same_face self other }
