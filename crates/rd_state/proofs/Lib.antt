@@ -1,7 +1,7 @@
 mod AllSteps
 mod Below
 mod ByName
-mod ByNumber
+pub mod ByNumber
 mod Contents
 mod Edited
 mod Faults
@@ -13,7 +13,7 @@ mod Leaves
 mod Leaving
 mod Mapped
 mod Naming
-mod Opening
+pub mod Opening
 mod Outcomes
 mod Reaching
 mod Sharing
