@@ -14,6 +14,8 @@ use Rattle.rd_rows.specs.Laws.{begins_of}
 use Rattle.rd_rows.specs.Rows.{RowMeaning}
 use Rattle.rd_rows.specs.Shapes.{IsShape, ShapeValues}
 use Rattle.rd_rows.specs.declared.begin.Begin.{Begin}
+use Rattle.rd_tree.proofs.Composing.{all_parts}
+use Rattle.rd_start.proofs.Lists.{each-append}
 use Rattle.rd_start.specs.Chosen.{anchor_at, anchor_from, chosen_of, first_covered, first_positions, places_of, positions_of}
 use Rattle.rd_start.specs.Starts.{is_in_view, start_of}
 use Rattle.rd_start.specs.declared.wanted.Wanted.{Wanted}
@@ -78,34 +80,23 @@ module _ (m : SourceValues) (shape : ShapeValues) (source : IsSource m) (is : Is
   abbrev pub RowInside : EntryMeaning → Type 0
   RowInside e = AllByRecursion Inside (positions_of e)
 
-  front : {A : Type 0} (P : A → Type 0) (xs ys : List A) → AllByRecursion P (xs ++ ys) → AllByRecursion P xs
-  front P [] ys h = tt
-  front P (x ∷ xs) ys h = (h.0, front P xs ys h.1)
-
-  rest : {A : Type 0} (P : A → Type 0) (xs ys : List A) → AllByRecursion P (xs ++ ys) → AllByRecursion P ys
-  rest P [] ys h = h
-  rest P (x ∷ xs) ys h = rest P xs ys h.1
-
-  both : {A : Type 0} (P : A → Type 0) (xs ys : List A) → AllByRecursion P xs → AllByRecursion P ys → AllByRecursion P (xs ++ ys)
-  both P [] ys h k = k
-  both P (x ∷ xs) ys h k = (h.0, both P xs ys h.1 k)
-
   numbered-inside : (b : Block) → IsAmong m.blocks b → (number : ℕ) (rows : List RowMeaning) → AllByRecursion (InBlock b) (begins_of rows) → AllByRecursion RowInside (numbered b.start number rows)
   numbered-inside b at number [] h = tt
   numbered-inside b at number (r ∷ rs) h =
-      (begins-inside b at r.begins (front (InBlock b) r.begins (begins_of rs) h), numbered-inside b at (number + 1) rs (rest (InBlock b) r.begins (begins_of rs) h))
+      let parts = all_parts (InBlock b) r.begins (begins_of rs) h in
+      (begins-inside b at r.begins parts.0, numbered-inside b at (number + 1) rs parts.1)
 
   all-inside : (bs : List Block) → ((k : ℕ) (b : Block) → slice_get bs k ≡ Some b → IsAmong m.blocks b) → AllByRecursion RowInside (all_rows (λ b. m.rows_of b shape) bs)
   all-inside [] among = tt
   all-inside (b ∷ bs) among =
       let at = among 0 b refl in
-      both RowInside (entries_of (λ b. m.rows_of b shape) b) (all_rows (λ b. m.rows_of b shape) bs)
+      each-append RowInside (entries_of (λ b. m.rows_of b shape) b) (all_rows (λ b. m.rows_of b shape) bs)
       (numbered-inside b at 0 (m.rows_of b shape) (recursion_from_All (InBlock b) (begins_of (m.rows_of b shape)) (source.rows b shape at is).inside))
       (all-inside bs (λ k c h. among (suc k) c h))
 
   flat-inside : (es : List EntryMeaning) → AllByRecursion RowInside es → AllByRecursion Inside (first_positions es)
   flat-inside [] h = tt
-  flat-inside (e ∷ es) h = both Inside (positions_of e) (first_positions es) h.0 (flat-inside es h.1)
+  flat-inside (e ∷ es) h = each-append Inside (positions_of e) (first_positions es) h.0 (flat-inside es h.1)
 
   view-inside : (height start : ℕ) → AllByRecursion Inside (first_positions (take height (drop start (rows_at m shape))))
   view-inside height start =

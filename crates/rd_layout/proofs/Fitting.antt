@@ -45,6 +45,7 @@ use Rattle.rd_state.specs.Valid.{IsContent, IsGoodFormat, IsValid, IsWindow}
 use Rattle.rd_state.specs.Windows.{leaf_at, leaf_of, shown_content, window_of}
 use Rattle.rd_state.specs.declared.window.WindowState.{WindowState}
 use Rattle.rd_text.specs.Texts as text
+use Rattle.rd_start.proofs.Lists.{each-append}
 use Rattle.rd_tree.specs.Calls.{frame_of}
 use Rattle.rd_tree.specs.Windows.{Windows, Window, Split, first_part, of_number, placed, second_part, window_at}
 use Rattle.rd_tree.specs.declared.placed.Placed.{Placed}
@@ -78,14 +79,10 @@ numbered-hold : (P : RowMeaning → Type 0) (start number : ℕ) (rows : List Ro
 numbered-hold P start number [] h = tt
 numbered-hold P start number (r ∷ rs) h = (h.0, numbered-hold P start (number + 1) rs h.1)
 
-both-hold : (P : EntryMeaning → Type 0) (xs ys : List EntryMeaning) → AllByRecursion P xs → AllByRecursion P ys → AllByRecursion P (xs ++ ys)
-both-hold P [] ys h k = k
-both-hold P (x ∷ xs) ys h k = (h.0, both-hold P xs ys h.1 k)
-
 all-hold : (P : RowMeaning → Type 0) (rows : Block → List RowMeaning) → ((b : Block) → All P (rows b)) → (bs : List Block) → AllByRecursion (λ (e : EntryMeaning). P e.row) (all_rows rows bs)
 all-hold P rows each [] = tt
 all-hold P rows each (b ∷ bs) =
-    both-hold (λ (e : EntryMeaning). P e.row) (entries_of rows b) (all_rows rows bs) (numbered-hold P b.start 0 (rows b) (recursion_from_All P (rows b) (each b))) (all-hold P rows each bs)
+    each-append (λ (e : EntryMeaning). P e.row) (entries_of rows b) (all_rows rows bs) (numbered-hold P b.start 0 (rows b) (recursion_from_All P (rows b) (each b))) (all-hold P rows each bs)
 
 pub rows-hold : (P : RowMeaning → Type 0) (m : SourceValues) (shape : ShapeValues) → ((b : Block) → All P (m.rows_of b shape)) → All (λ (e : EntryMeaning). P e.row) (rows_at m shape)
 rows-hold P m shape each = All-from_recursion (λ (e : EntryMeaning). P e.row) (rows_at m shape) (all-hold P (λ b. m.rows_of b shape) each m.blocks)

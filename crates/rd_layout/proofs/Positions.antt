@@ -23,22 +23,12 @@ use Rattle.rd_text.specs.Texts.{IsText}
 use Rattle.rd_ucd.specs.Data.{Data}
 use Rattle.rd_visual.specs.Hits.{AreInPositions, Fits}
 use Rattle.rd_window.specs.declared.layout.Layout.{Layout}
+use Rattle.rd_start.proofs.Lists.{each-append}
+use Rattle.rd_tree.proofs.Composing.{all_parts}
 use Rattle.rd_layout.specs.Since.{IsKnown}
 use Rattle.rd_layout.proofs.Chosen.{block-inside}
 use Rattle.rd_layout.proofs.Over.{some-block}
 use Rattle.rd_layout.proofs.Settling.{ViewLaws, accessible}
-
-front : {A : Type 0} (P : A → Type 0) (xs ys : List A) → AllByRecursion P (xs ++ ys) → AllByRecursion P xs
-front P [] ys h = tt
-front P (x ∷ xs) ys h = (h.0, front P xs ys h.1)
-
-rest : {A : Type 0} (P : A → Type 0) (xs ys : List A) → AllByRecursion P (xs ++ ys) → AllByRecursion P ys
-rest P [] ys h = h
-rest P (x ∷ xs) ys h = rest P xs ys h.1
-
-both : {A : Type 0} (P : A → Type 0) (xs ys : List A) → AllByRecursion P xs → AllByRecursion P ys → AllByRecursion P (xs ++ ys)
-both P [] ys h k = k
-both P (x ∷ xs) ys h k = (h.0, both P xs ys h.1 k)
 
 module _ (views : ViewLaws) (s : props.BufferValue) (objects : ObjectLists) (files : Data) (shape : ShapeValues) (text : IsText s.text) (is : IsShape shape) where
   abbrev m : SourceValues
@@ -67,15 +57,16 @@ module _ (views : ViewLaws) (s : props.BufferValue) (objects : ObjectLists) (fil
       → AllByRecursion EntryFits (numbered b.start number rows)
   numbered-fit b small number [] h = tt
   numbered-fit b small number (r ∷ rs) h =
-      let here = front (λ (x : Begin). (x.from ≤ x.to) × (b.start + x.to ≤ b.end)) r.begins (begins_of rs) h in
-      let behind = rest (λ (x : Begin). (x.from ≤ x.to) × (b.start + x.to ≤ b.end)) r.begins (begins_of rs) h in
+      let parts = all_parts (λ (x : Begin). (x.from ≤ x.to) × (b.start + x.to ≤ b.end)) r.begins (begins_of rs) h in
+      let here = parts.0 in
+      let behind = parts.1 in
       (All-from_recursion (Fits b.start) r.begins (begins-fit b small r.begins here), numbered-fit b small (number + 1) rs behind)
 
   all-fit : (bs : List Block) → ((k : ℕ) (b : Block) → slice_get bs k ≡ Some b → IsAmong m.blocks b) → AllByRecursion EntryFits (all_rows (λ b. m.rows_of b shape) bs)
   all-fit [] among = tt
   all-fit (b ∷ bs) among =
       let at = among 0 b refl in
-      both EntryFits (entries_of (λ b. m.rows_of b shape) b) (all_rows (λ b. m.rows_of b shape) bs)
+      each-append EntryFits (entries_of (λ b. m.rows_of b shape) b) (all_rows (λ b. m.rows_of b shape) bs)
       (numbered-fit b (block-end b at) 0 (m.rows_of b shape) (recursion_from_All (λ (x : Begin). (x.from ≤ x.to) × (b.start + x.to ≤ b.end)) (begins_of (m.rows_of b shape)) (source.rows b shape at is).inside))
       (all-fit bs (λ k c h. among (suc k) c h))
 

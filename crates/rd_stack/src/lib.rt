@@ -39,7 +39,6 @@ mod laws;
 mod line;
 mod line_steps;
 mod marks;
-mod nesting;
 mod order;
 mod part;
 mod prefix;

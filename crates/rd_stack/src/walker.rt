@@ -77,6 +77,14 @@ impl<'a> Walker<'a> {
         Walker::of_block(alloc, view, start, base, appearance)
     }
 
+    /// How many frames stand: one in the line itself, one more in an overlay's string or a display string, and a third in a display string
+    /// that stands in an overlay's. It is the depth of Emacs's iterator stack (`it->sp`), the line counted.
+    pub fn depth(&self) -> usize
+        ensures { result ≡ length self.now.frames.items }
+    {
+        self.frames.len()
+    }
+
     /// The elements of the line of the block that starts at a position that looks like this.
     fn of_block(
         alloc: Global,

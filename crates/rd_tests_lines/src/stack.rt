@@ -63,17 +63,17 @@ fn are_looks(elements: &[Element], wanted: &[Look]) -> bool {
     true
 }
 
-/// Whether the line from a position on has these looks, and then none.
-fn walks(alloc: Global, view: &View, start: Pos, wanted: &[Look]) -> bool {
+/// Whether the line from a position on has these looks, with so many frames standing when each is given, and then none.
+fn walks(alloc: Global, view: &View, start: Pos, wanted: &[(Look, usize)]) -> bool {
     if !is_accessible(view, start) {
         return false;
     }
     let Ok(mut walker) = Walker::start(alloc, *view, start, 0) else {
         return false;
     };
-    for look in wanted {
+    for (look, depth) in wanted {
         match walker.next(alloc) {
-            Ok(Some(element)) if element.look == *look => {}
+            Ok(Some(element)) if element.look == *look && walker.depth() == *depth => {}
             _ => return false,
         }
     }
@@ -89,18 +89,18 @@ fn stands(alloc: Global, view: &View, string: u32, wanted: &[Look]) -> bool {
 }
 
 #[test]
-fn a_line_and_a_prefix(rt: HostRuntime) -> Result<(), Fail> {
+fn a_line_of_three_frames_and_a_prefix(rt: HostRuntime) -> Result<(), Fail> {
     let alloc = rt.alloc();
     let scenery = scenery(alloc)?;
     let line = [
-        letter('x'),
-        letter('P'),
-        letter('z'),
-        letter('z'),
-        Look::RowEnd,
-        letter('R'),
-        letter('y'),
-        Look::LineEnd,
+        (letter('x'), 1),
+        (letter('P'), 2),
+        (letter('z'), 3),
+        (letter('z'), 3),
+        (Look::RowEnd, 2),
+        (letter('R'), 2),
+        (letter('y'), 1),
+        (Look::LineEnd, 1),
     ];
     assert!(rt; walks(alloc, &scenery.view(), 1, &line));
     assert!(rt; stands(alloc, &scenery.view(), 1, &[letter('P'), letter('Q')]));
