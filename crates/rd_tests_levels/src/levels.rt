@@ -1,36 +1,53 @@
 //! Levels and visual orders against those that were worked out apart from this program.
-ghost use Rattle.std.specs.Prelude.{◌≡◌, ◌+◌, ◌<◌, ◌≤◌, ◌^◌, length, IfOk};
+ghost use Rattle.std.specs.Prelude.{◌+◌, ◌<◌, ◌≤◌, ◌^◌, length};
 
 mod table;
 
+use crate::claims::assert_of;
+use crate::explicit::nested;
 use rd_base::{Class, ListOf, Memory};
 use rd_levels::{LevelCache, Turn, turns_of};
 use rd_order::Visual;
 use rd_ucd::Brackets;
 use std::alloc::Global;
+use std::process::Abort;
 use std::test::Fail;
+
+/// Asserts that the cache and a walk give the levels and the order that each row of the table tells.
+fn assert_lines(rt: &impl Abort, alloc: Global, cache: &mut LevelCache) {
+    for row in table::LINES.lines() {
+        assert_of(rt, row, agrees(alloc, cache, row));
+    }
+}
 
 #[test]
 fn lines_of_the_table(rt: HostRuntime) -> Result<(), Fail> {
     let mut cache = LevelCache::new(rt.alloc())?;
-    for row in table::LINES.lines() {
-        assert!(rt; agrees(rt.alloc(), &mut cache, row)?, "{row}");
-    }
+    assert_lines(&rt, rt.alloc(), &mut cache);
     Ok(())
 }
 
 /// Whether the cache and a walk give the levels and the order that a row of the table tells.
-fn agrees(alloc: Global, cache: &mut LevelCache, row: &str) -> Result<bool, Memory> {
-    let Some((base, classes, levels, order)) = fields(row) else {
-        return Ok(false);
-    };
-    let base = if base == "0" { 0 } else { 1 };
-    let classes = classes_of(alloc, classes)?;
-    if classes.len() > 1000 {
-        return Ok(false);
+fn agrees(alloc: Global, cache: &mut LevelCache, row: &str) -> bool {
+    match fields(row) {
+        Some((base, classes, levels, order)) => {
+            let base = if base == "0" { 0 } else { 1 };
+            fills(alloc, cache, classes, base)
+                && are_levels(cache.levels(), levels)
+                && is_order(cache.levels(), base, order)
+        }
+        None => false,
     }
-    fill(alloc, cache, classes.as_slice(), base)?;
-    Ok(are_levels(cache.levels(), levels) && is_order(cache.levels(), base, order))
+}
+
+/// Fills the cache with the line of the classes that a text lists, and answers whether it did so.
+fn fills(alloc: Global, cache: &mut LevelCache, text: &str, base: u8) -> bool
+    requires { base ≤ 1 }
+{
+    let mut classes = ListOf::new(alloc);
+    add_classes(&mut classes, text).is_ok()
+        && classes.len() <= 1000
+        && fill(alloc, cache, classes.as_slice(), base).is_ok()
 }
 
 /// Fills the cache with a line without brackets.
@@ -51,16 +68,24 @@ fn fields(row: &str) -> Option<(&str, &str, &str, &str)> {
     Some((base, classes, levels, order))
 }
 
+/// Whether a word is the number of a level.
+fn is_level(word: &str, level: u8) -> bool {
+    match word.parse::<u8>() {
+        Ok(number) => number == level,
+        Err(_) => false,
+    }
+}
+
 /// Whether these are the levels that a text lists.
 fn are_levels(levels: &[u8], text: &str) -> bool {
-    let mut rest = levels;
+    let mut i = 0;
     for word in text.split_whitespace() {
-        match rest.split_first() {
-            Some((level, more)) if word.parse() == Ok(*level) => rest = more,
-            _ => return false,
+        if i >= levels.len() || !is_level(word, levels[i]) {
+            return false;
         }
+        i += 1;
     }
-    rest.is_empty()
+    i == levels.len()
 }
 
 /// Whether a walk through these levels gives the indexes that a text lists, and no other.
@@ -79,16 +104,15 @@ fn is_order(levels: &[u8], base: u8, text: &str) -> bool
     walk.next(levels).is_none()
 }
 
-/// The classes that a text lists by their names, up to the first word that is none.
-fn classes_of(alloc: Global, text: &str) -> Result<ListOf<Class>, Memory> {
-    let mut classes = ListOf::new(alloc);
+/// Adds the classes that a text lists by their names, up to the first word that is none.
+fn add_classes(classes: &mut ListOf<Class>, text: &str) -> Result<(), Memory> {
     for word in text.split_whitespace() {
         match class_named(word) {
             Some(class) => classes.push(class)?,
-            None => return Ok(classes),
+            None => return Ok(()),
         }
     }
-    Ok(classes)
+    Ok(())
 }
 
 /// The class of a name.
@@ -121,57 +145,74 @@ fn class_named(name: &str) -> Option<Class> {
     }
 }
 
-#[test]
-fn a_line_takes_the_place_of_another(rt: HostRuntime) -> Result<(), Fail> {
-    let alloc = rt.alloc();
-    let mut cache = LevelCache::new(alloc)?;
-    fill(alloc, &mut cache, &[Class::R, Class::EN], 0)?;
+/// Asserts that a line of no class takes the place of another.
+fn assert_replaced(rt: &impl Abort, alloc: Global, cache: &mut LevelCache) {
+    assert!(rt; fill(alloc, cache, &[Class::R, Class::EN], 0).is_ok());
     assert!(rt; cache.len() == 2);
     assert!(rt; are_levels(cache.levels(), "1 2"));
-    fill(alloc, &mut cache, &[], 0)?;
+    assert!(rt; fill(alloc, cache, &[], 0).is_ok());
     assert!(rt; cache.len() == 0);
     assert!(rt; is_order(cache.levels(), 0, ""));
+}
+
+#[test]
+fn a_line_takes_the_place_of_another(rt: HostRuntime) -> Result<(), Fail> {
+    let mut cache = LevelCache::new(rt.alloc())?;
+    assert_replaced(&rt, rt.alloc(), &mut cache);
     Ok(())
+}
+
+/// Whether the last of these classes, at base 0, has this level.
+fn ends_with(alloc: Global, cache: &mut LevelCache, classes: &[Class], level: u8) -> bool
+    requires { length classes.now < 2 ^ 32 }
+{
+    fill(alloc, cache, classes, 0).is_ok() && cache.levels().last() == Some(&level)
+}
+
+/// Whether the last class, at base 0 and behind so many RLE and LRE in turn, has this level.
+fn ends_at(alloc: Global, cache: &mut LevelCache, count: usize, rest: &[Class], level: u8) -> bool
+    requires { count + length rest.now < 2 ^ 32 }
+{
+    match nested(alloc, count, rest) {
+        Ok(classes) => ends_with(alloc, cache, classes.as_slice(), level),
+        Err(_) => false,
+    }
+}
+
+/// Asserts that characters in nested embeddings have levels up to 126.
+fn assert_nested(rt: &impl Abort, alloc: Global, cache: &mut LevelCache) {
+    assert!(rt; ends_at(alloc, cache, 125, &[Class::L], 126));
+    assert!(rt; ends_at(alloc, cache, 126, &[Class::L], 126));
+    assert!(rt; ends_at(alloc, cache, 125, &[Class::PDF, Class::L], 124));
+    assert!(rt; ends_at(alloc, cache, 126, &[Class::PDF, Class::L], 126));
 }
 
 #[test]
 fn nesting_ends_at_level_125(rt: HostRuntime) -> Result<(), Fail> {
-    let alloc = rt.alloc();
-    assert_eq!(rt; last_level(alloc, 125, &[Class::L])?, Some(126));
-    assert_eq!(rt; last_level(alloc, 126, &[Class::L])?, Some(126));
-    assert_eq!(rt; last_level(alloc, 125, &[Class::PDF, Class::L])?, Some(124));
-    assert_eq!(rt; last_level(alloc, 126, &[Class::PDF, Class::L])?, Some(126));
+    let mut cache = LevelCache::new(rt.alloc())?;
+    assert_nested(&rt, rt.alloc(), &mut cache);
     Ok(())
 }
 
-/// The level of the last class, at base 0, behind so many RLE and LRE in turn.
-fn last_level(alloc: Global, count: usize, rest: &[Class]) -> Result<Option<u8>, Memory>
-    requires { count + length rest.now < 2 ^ 32 }
-{
-    let classes = nested(alloc, count, rest)?;
-    let mut cache = LevelCache::new(alloc)?;
-    fill(alloc, &mut cache, classes.as_slice(), 0)?;
-    Ok(cache.levels().last().copied())
-}
-
-/// So many RLE and LRE in turn, and then these classes.
-fn nested(alloc: Global, count: usize, rest: &[Class]) -> Result<ListOf<Class>, Memory>
-    ensures { IfOk result (λ classes. length classes ≡ count + length rest.now) }
-{
-    let mut classes = ListOf::new(alloc);
-    for k in 0..count {
-        classes.push(if k % 2 == 0 { Class::RLE } else { Class::LRE })?;
+/// Whether six characters, of which the second and the fourth are brackets, have these levels.
+fn has_pair(
+    alloc: Global,
+    cache: &mut LevelCache,
+    classes: &[Class; 6],
+    codes: &[u32; 6],
+    levels: &str,
+) -> bool {
+    match Brackets::read(alloc, b"0028; 0029; o\n0029; 0028; c") {
+        Ok(brackets) => {
+            cache.fill(classes, codes, &brackets, 0).is_ok() && are_levels(cache.levels(), levels)
+        }
+        Err(_) => false,
     }
-    classes.extend_from_slice(rest)?;
-    Ok(classes)
 }
 
-#[test]
-fn brackets_take_a_direction(rt: HostRuntime) -> Result<(), Fail> {
-    let alloc = rt.alloc();
-    let brackets = Brackets::read(alloc, b"0028; 0029; o\n0029; 0028; c")?;
-    let mut cache = LevelCache::new(alloc)?;
-    let classes = [
+/// Asserts that brackets take the direction of what they are around.
+fn assert_paired(rt: &impl Abort, alloc: Global, cache: &mut LevelCache) {
+    let left = [
         Class::R,
         Class::ON,
         Class::L,
@@ -179,8 +220,15 @@ fn brackets_take_a_direction(rt: HostRuntime) -> Result<(), Fail> {
         Class::NSM,
         Class::R,
     ];
-    cache.fill(&classes, &[0, 0x28, 0, 0x29, 0x301, 0], &brackets, 0)?;
-    assert!(rt; are_levels(cache.levels(), "1 0 0 0 0 1"));
+    assert!(rt;
+        has_pair(
+            alloc,
+            cache,
+            &left,
+            &[0, 0x28, 0, 0x29, 0x301, 0],
+            "1 0 0 0 0 1"
+        )
+    );
     let right = [
         Class::L,
         Class::ON,
@@ -189,23 +237,46 @@ fn brackets_take_a_direction(rt: HostRuntime) -> Result<(), Fail> {
         Class::WS,
         Class::R,
     ];
-    cache.fill(&right, &[0, 0x28, 0, 0x29, 0, 0], &brackets, 0)?;
-    assert!(rt; are_levels(cache.levels(), "0 0 1 0 0 1"));
-    Ok(())
+    assert!(rt;
+        has_pair(
+            alloc,
+            cache,
+            &right,
+            &[0, 0x28, 0, 0x29, 0, 0],
+            "0 0 1 0 0 1"
+        )
+    );
 }
 
 #[test]
-fn turns_of_a_line(rt: HostRuntime) -> Result<(), Fail> {
-    let alloc = rt.alloc();
-    let classes = [Class::R, Class::EN, Class::B];
-    let none = Brackets::none(alloc);
-    let turns = turns_of(alloc, true, 0, &classes, &[0, 0, 0], &none)?;
-    let numbers = [turn(1, false), turn(0, true), turn(2, false)];
-    assert!(rt; turns.as_slice() == numbers.as_slice());
-    let turns = turns_of(alloc, false, 0, &classes, &[0, 0, 0], &none)?;
-    let unordered = [turn(0, false), turn(1, false), turn(2, false)];
-    assert!(rt; turns.as_slice() == unordered.as_slice());
+fn brackets_take_a_direction(rt: HostRuntime) -> Result<(), Fail> {
+    let mut cache = LevelCache::new(rt.alloc())?;
+    assert_paired(&rt, rt.alloc(), &mut cache);
     Ok(())
+}
+
+/// Whether the line of R, EN and B has these turns.
+fn turns(alloc: Global, reorder: bool, wanted: &[Turn; 3]) -> bool {
+    let classes = [Class::R, Class::EN, Class::B];
+    match turns_of(
+        alloc,
+        reorder,
+        0,
+        &classes,
+        &[0, 0, 0],
+        &Brackets::none(alloc),
+    ) {
+        Ok(turns) => turns.as_slice() == wanted.as_slice(),
+        Err(_) => false,
+    }
+}
+
+#[test]
+fn turns_of_a_line(rt: HostRuntime) {
+    let numbers = [turn(1, false), turn(0, true), turn(2, false)];
+    assert!(rt; turns(rt.alloc(), true, &numbers));
+    let unordered = [turn(0, false), turn(1, false), turn(2, false)];
+    assert!(rt; turns(rt.alloc(), false, &unordered));
 }
 
 /// A turn.

@@ -6,6 +6,8 @@
 #[cfg(test)]
 mod brackets;
 #[cfg(test)]
+mod claims;
+#[cfg(test)]
 mod explicit;
 #[cfg(test)]
 mod levels;
