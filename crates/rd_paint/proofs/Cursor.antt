@@ -12,9 +12,8 @@ use Rattle.rd_tree.specs.declared.placed.Placed.{Placed}
 use Rattle.rd_window.specs.Views.{WindowView}
 use Rattle.rd_layout.specs.Screens.{cursor_at, cursor_by, cursor_of}
 use Rattle.rd_layout.specs.Windows.{place_of, places, view_in, views_in}
-use Rattle.rd_state.proofs.ByNumber.{eq-true}
-use Rattle.rd_state.proofs.Opening.{passed}
-use Rattle.rd_layout.proofs.ByNumber as numbers
+use Rattle.rd_state.proofs.ByNumber.{eq-true, eq-false}
+use Rattle.rd_state.proofs.Opening.{chosen, passed}
 use Rattle.rd_layout.proofs.Placed.{number-of}
 use Rattle.rd_paint.specs.Shown.{IsLeaf}
 use Rattle.rd_paint.proofs.Leaves.{LeafLaws, view-at}
@@ -23,8 +22,8 @@ use Rattle.rd_paint.proofs.Leaves.{LeafLaws, view-at}
 found-at : (n : ℕ) (ps : List Placed) (p : Placed) → of_number n ps ≡ Some p → (k : ℕ) × (slice_get ps k ≡ Some p) × (k < length ps)
 found-at n [] p h = absurd (cc)
 found-at n (q ∷ qs) p h = elim (cases_eq q.number n) [
-  | inl e ↦ (0, sym (numbers.chosen (q.number == n) (Some q) (of_number n qs) (eq-true q.number n e)) ∙ h, omega arith)
-  | inr e ↦ let rest = found-at n qs p (sym (passed (q.number == n) (Some q) (of_number n qs) (numbers.eq-false q.number n e)) ∙ h) in let less = rest.2 in (suc rest.0, rest.1, omega arith)
+  | inl e ↦ (0, sym (chosen (q.number == n) (Some q) (of_number n qs) (eq-true q.number n e)) ∙ h, omega arith)
+  | inr e ↦ let rest = found-at n qs p (sym (passed (q.number == n) (Some q) (of_number n qs) (eq-false q.number n e)) ∙ h) in let less = rest.2 in (suc rest.0, rest.1, omega arith)
 ]
 
 none-by : (files : Data) (s : StateValue) (o : Option WindowState) → cursor_by files s o None ≡ None
