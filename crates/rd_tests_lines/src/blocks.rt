@@ -11,7 +11,6 @@ use rd_rows::Shape;
 use std::alloc::Global;
 use std::marker::Brand;
 use std::sync::ledger::{Blank, Ledger};
-use std::test::Fail;
 
 macro_rules! element {
     ($item:expr, $columns:expr, $from:expr, $to:expr, $look:expr) => {
@@ -254,36 +253,29 @@ fn rows_and_next<L: Ledger>(
 {
     let mut steps = Steps::<L>::new(blank);
     let first = source.block_of(alloc, 1)?;
-    let rows = source.rows(alloc, &first, SHAPE, &mut steps)?;
-    let count = rows.len();
+    let count = source.rows(alloc, &first, SHAPE, &mut steps)?.len();
     match source.next(alloc, &first)? {
         Some(next) => Ok((count, next.start)),
         None => Ok((count, 0)),
     }
 }
 
-/// The same of a text.
-fn rows_and_next_of<L: Ledger>(
-    alloc: Global,
-    text: Text,
-    blank: Blank,
-) -> Result<(usize, Pos), Memory>
+/// Whether the first block of a text has so many rows, and the block behind it starts there; 0 stands for no block.
+fn has_rows<L: Ledger>(alloc: Global, text: Text, rows: usize, next: Pos, blank: Blank) -> bool
     requires name { blank.name ≡ L.name }
     requires parts { blank.parts ≡ L.parts }
     requires some { 0 < L.parts }
 {
-    let mut made = blocks_of(alloc, text)?;
-    if made.end < 2 {
-        return Ok((0, 0));
+    match blocks_of(alloc, text) {
+        Ok(mut made) => {
+            made.end >= 2 && rows_and_next::<L>(alloc, &mut made.source, blank) == Ok((rows, next))
+        }
+        Err(_) => false,
     }
-    rows_and_next::<L>(alloc, &mut made.source, blank)
 }
 
 #[test]
-fn rows_come_from_blocks(rt: HostRuntime) -> Result<(), Fail> {
-    let (rows, next) = rows_and_next_of::<Brand>(rt.alloc(), Text::TwoLines, Blank::new(1))?;
-    assert!(rt; rows == 1 && next == 4);
-    let (rows, next) = rows_and_next_of::<Brand>(rt.alloc(), Text::OneLine, Blank::new(1))?;
-    assert!(rt; rows == 5 && next == 0);
-    Ok(())
+fn rows_come_from_blocks(rt: HostRuntime) {
+    assert!(rt; has_rows::<Brand>(rt.alloc(), Text::TwoLines, 1, 4, Blank::new(1)));
+    assert!(rt; has_rows::<Brand>(rt.alloc(), Text::OneLine, 5, 0, Blank::new(1)));
 }

@@ -2,11 +2,13 @@
 ghost use Rattle.std.specs.Prelude.{IfOk, IsTrue};
 ghost use Rattle.rd_objects.specs.Tables.{is_slot_glyph};
 
+use crate::texts::characters;
 use rd_base::{Cell, Ch, Element, Extent, Face, Glyph, Look, Origin, Settings};
 use rd_glyphs::{Parts, expand, plain_line};
 use rd_objects::{Slot, Table, glyph_character};
 use rd_ucd::{Classes, Mirrors};
 use std::alloc::Global;
+use std::process::Abort;
 use std::test::Fail;
 
 /// A face with a colour.
@@ -55,11 +57,6 @@ fn letter(c: char) -> Result<Glyph, Fail>
         }
     }
     Err(Fail::new("no glyph character of one column"))
-}
-
-/// One blank column.
-fn blank() -> Element {
-    element(Extent::Fixed(1), Look::Blank)
 }
 
 /// A mark on a blank.
@@ -158,44 +155,60 @@ fn worked_data(alloc: Global, ctl_arrow: bool) -> Result<Data, Fail> {
     })
 }
 
+/// Characters that are shown as texts.
+const SPELLED: [(char, &'static str); 4] = [
+    ('\u{0}', "^@"),
+    ('\u{7F}', "^?"),
+    ('\u{9F}', "\\237"),
+    ('(', "("),
+];
+
+/// Characters that are shown as one blank column.
+const BLANKS: [char; 4] = ['\u{AD}', '\u{202B}', '\u{61C}', '\u{200E}'];
+
+/// Asserts that each character of a table, which may stand at an odd level, is shown as the text beside it.
+fn assert_spelled(
+    rt: &impl Abort,
+    alloc: Global,
+    parts: &Parts,
+    odd: bool,
+    table: &[(char, &str)],
+) {
+    for (c, text) in table {
+        assert!(rt; spells(alloc, parts, Ch::scalar(*c), odd, text));
+    }
+}
+
+/// Asserts which characters are shown as one element.
+fn assert_given(rt: &impl Abort, alloc: Global, parts: &Parts) {
+    for c in &BLANKS {
+        let blank = element(Extent::Fixed(1), Look::Blank);
+        assert!(rt; gives(alloc, parts, Ch::scalar(*c), blank));
+    }
+    let tab = element(Extent::Tab(8), Look::Blank);
+    assert!(rt; gives(alloc, parts, Ch::scalar('\t'), tab));
+    let mark = element(Extent::Fixed(1), Look::Glyph(marked(0x301)));
+    assert!(rt; gives(alloc, parts, Ch::scalar('\u{301}'), mark));
+    assert!(rt; gives(alloc, parts, Ch::scalar('\u{4E2D}'), shown(0x4E2D, 2)));
+}
+
 #[test]
 fn characters_by_the_rules(rt: HostRuntime) -> Result<(), Fail> {
-    let alloc = rt.alloc();
-    let data = worked_data(alloc, true)?;
+    let data = worked_data(rt.alloc(), true)?;
     let parts = data.parts(None);
-    for (ch, text) in [
-        (Ch::scalar('\u{0}'), "^@"),
-        (Ch::scalar('\u{7F}'), "^?"),
-        (raw(200), "\\310"),
-        (Ch::scalar('\u{9F}'), "\\237"),
-        (Ch::scalar('('), "("),
-    ] {
-        assert!(rt; spells(alloc, &parts, ch, false, text));
-    }
-    for (c, wanted) in [
-        ('\t', element(Extent::Tab(8), Look::Blank)),
-        ('\u{AD}', blank()),
-        ('\u{202B}', blank()),
-        ('\u{61C}', blank()),
-        ('\u{200E}', blank()),
-        (
-            '\u{301}',
-            element(Extent::Fixed(1), Look::Glyph(marked(0x301))),
-        ),
-        ('\u{4E2D}', shown(0x4E2D, 2)),
-    ] {
-        assert!(rt; gives(alloc, &parts, Ch::scalar(c), wanted));
-    }
+    assert_spelled(&rt, rt.alloc(), &parts, false, &SPELLED);
+    assert!(rt; spells(rt.alloc(), &parts, raw(200), false, "\\310"));
+    assert_given(&rt, rt.alloc(), &parts);
     Ok(())
 }
+
+/// Characters at an odd level that are shown as texts.
+const MIRRORED: [(char, &'static str); 4] = [('(', ")"), ('<', "<"), ('[', "["), ('a', "a")];
 
 #[test]
 fn mirrors_at_an_odd_level(rt: HostRuntime) -> Result<(), Fail> {
     let data = worked_data(rt.alloc(), true)?;
-    let parts = data.parts(None);
-    for (c, text) in [('(', ")"), ('<', "<"), ('[', "["), ('a', "a")] {
-        assert!(rt; spells(rt.alloc(), &parts, Ch::scalar(c), true, text));
-    }
+    assert_spelled(&rt, rt.alloc(), &data.parts(None), true, &MIRRORED);
     Ok(())
 }
 
@@ -207,139 +220,151 @@ fn marked_table(alloc: Global) -> Result<Table, Fail> {
     Ok(table)
 }
 
+/// Controls that are shown with the mark of that table.
+const ESCAPED: [(char, &'static str); 2] = [('\u{7F}', "!177"), ('\n', "!012")];
+
 #[test]
 fn controls_without_arrows(rt: HostRuntime) -> Result<(), Fail> {
     let table = marked_table(rt.alloc())?;
     let data = worked_data(rt.alloc(), false)?;
     let parts = data.parts(Some(&table));
-    for (ch, text) in [
-        (Ch::scalar('\u{7F}'), "!177"),
-        (Ch::scalar('\n'), "!012"),
-        (raw(128), "!200"),
-    ] {
-        assert!(rt; spells(rt.alloc(), &parts, ch, false, text));
-    }
+    assert_spelled(&rt, rt.alloc(), &parts, false, &ESCAPED);
+    assert!(rt; spells(rt.alloc(), &parts, raw(128), false, "!200"));
     Ok(())
 }
 
-/// A table with entries: nothing for a tab, two letters for an x, and two entries for a y.
-fn table_of_entries(alloc: Global) -> Result<Table, Fail> {
-    let mut table = Table::new(alloc)?;
+/// Adds entries: nothing for a tab, two letters for an x, and two entries for a y.
+fn put_entries(table: &mut Table) -> Result<(), Fail> {
     table.put_entry('\t' as u32, &[])?;
     table.put_entry('x' as u32, &[letter('a')?, letter('b')?])?;
     table.put_entry('y' as u32, &[letter('c')?])?;
     table.put_entry('y' as u32, &[letter('d')?])?;
+    Ok(())
+}
+
+/// A table with those entries.
+fn table_of_entries(alloc: Global) -> Result<Table, Fail> {
+    let mut table = Table::new(alloc)?;
+    put_entries(&mut table)?;
     Ok(table)
 }
+
+/// Characters that are shown by that table.
+const ENTRIES: [(char, &'static str); 4] = [('\t', ""), ('x', "ab"), ('y', "d"), ('z', "z")];
 
 #[test]
 fn characters_by_the_entries_of_a_table(rt: HostRuntime) -> Result<(), Fail> {
     let table = table_of_entries(rt.alloc())?;
     let data = worked_data(rt.alloc(), true)?;
-    let parts = data.parts(Some(&table));
-    for (c, text) in [('\t', ""), ('x', "ab"), ('y', "d"), ('z', "z")] {
-        assert!(rt; spells(rt.alloc(), &parts, Ch::scalar(c), false, text));
-    }
+    assert_spelled(&rt, rt.alloc(), &data.parts(Some(&table)), false, &ENTRIES);
     Ok(())
 }
 
-/// A cell of a character of one column.
-fn cell(c: char) -> Cell {
-    Cell::First(Glyph::single(c as u32, 1), RED)
+/// The letter e with six marks.
+pub fn heavy() -> Glyph {
+    Glyph {
+        marks: [0x301; 6],
+        count: 6,
+        ..Glyph::single('e' as u32, 1)
+    }
 }
 
-/// A blank cell.
-fn gap() -> Cell {
-    Cell::Blank(RED)
+/// Two marks on a blank.
+pub fn twice_marked() -> Glyph {
+    Glyph {
+        marks: [0x301, 0x301, 0, 0, 0, 0],
+        count: 2,
+        ..Glyph::single(32, 1)
+    }
 }
 
-/// The first cell of a wide character.
-fn wide() -> Cell {
-    Cell::First(Glyph::single(0x4E2D, 2), RED)
+/// The cell that a sign stands for: a letter with six marks for `e`, one mark or two on a blank for `'` and `"`, a character of two
+/// columns for `W`, its second column for `.`, and for others the sign itself.
+fn cell(sign: char) -> Cell {
+    match sign {
+        ' ' => Cell::Blank(RED),
+        '.' => Cell::Rest,
+        'W' => Cell::First(Glyph::single(0x4E2D, 2), RED),
+        'e' => Cell::First(heavy(), RED),
+        '\'' => Cell::First(marked(0x301), RED),
+        '"' => Cell::First(twice_marked(), RED),
+        _ => Cell::First(Glyph::single(sign as u32, 1), RED),
+    }
 }
 
-/// A letter with six marks.
-fn heavy() -> Cell {
-    Cell::First(
-        Glyph {
-            marks: [0x301; 6],
-            count: 6,
-            ..Glyph::single('e' as u32, 1)
-        },
-        RED,
-    )
+/// Whether cells are those that signs stand for.
+fn are_cells(cells: &[Cell], signs: &str) -> bool {
+    let mut i = 0;
+    for sign in signs.chars() {
+        if i >= cells.len() || cells[i] != cell(sign) {
+            return false;
+        }
+        i += 1;
+    }
+    i == cells.len()
 }
 
-/// The mark of that letter.
-fn acute() -> Ch {
-    Ch::scalar('\u{301}')
-}
-
-/// That mark on a blank.
-fn alone() -> Cell {
-    Cell::First(marked(0x301), RED)
-}
-
-/// Whether a text is this plain line in so many columns.
-fn lines_up(alloc: Global, text: &[Ch], classes: &Classes, width: u32, wanted: &[Cell]) -> bool {
+/// Whether characters are this plain line in so many columns.
+fn lines_up(alloc: Global, text: &[Ch], classes: &Classes, width: u32, signs: &str) -> bool {
     match plain_line(alloc, text, classes, RED, width) {
-        Ok(cells) => cells.as_slice() == wanted,
+        Ok(cells) => are_cells(cells.as_slice(), signs),
         Err(_) => false,
     }
 }
 
+/// Whether a text is this plain line in so many columns.
+fn is_line(alloc: Global, text: &str, classes: &Classes, width: u32, signs: &str) -> bool {
+    match characters(alloc, text) {
+        Ok(list) => lines_up(alloc, list.as_slice(), classes, width, signs),
+        Err(_) => false,
+    }
+}
+
+/// Asserts that each text of a table is the plain line beside it.
+fn assert_lines(rt: &impl Abort, alloc: Global, classes: &Classes, table: &[(&str, u32, &str)]) {
+    for (text, width, signs) in table {
+        assert!(rt; is_line(alloc, text, classes, *width, signs));
+    }
+}
+
+/// Texts, and their plain lines in so many columns.
+const LINES: [(&'static str, u32, &'static str); 6] = [
+    ("", 2, "  "),
+    ("h \t", 5, "h ^I "),
+    ("\n", 2, "^J"),
+    ("a\u{4E2D}b", 4, "aW.b"),
+    ("a\u{4E2D}b", 2, "a "),
+    ("a", 0, ""),
+];
+
 #[test]
 fn plain_lines(rt: HostRuntime) -> Result<(), Fail> {
     let classes = classes(rt.alloc())?;
-    let rows: [(&[Ch], u32, &[Cell]); 6] = [
-        (&[], 2, &[gap(), gap()]),
-        (
-            &[Ch::scalar('h'), Ch::scalar(' '), Ch::scalar('\t')],
-            5,
-            &[cell('h'), gap(), cell('^'), cell('I'), gap()],
-        ),
-        (&[Ch::scalar('\n')], 2, &[cell('^'), cell('J')]),
-        (
-            &[Ch::scalar('a'), Ch::scalar('\u{4E2D}'), Ch::scalar('b')],
-            4,
-            &[cell('a'), wide(), Cell::Rest, cell('b')],
-        ),
-        (
-            &[Ch::scalar('a'), Ch::scalar('\u{4E2D}'), Ch::scalar('b')],
-            2,
-            &[cell('a'), gap()],
-        ),
-        (&[Ch::scalar('a')], 0, &[]),
-    ];
-    for (text, width, wanted) in rows {
-        assert!(rt; lines_up(rt.alloc(), text, &classes, width, wanted));
-    }
+    assert_lines(&rt, rt.alloc(), &classes, &LINES);
     Ok(())
 }
+
+/// The same of texts with marks: seven and eight of them behind a letter, one alone, and one behind a character that no column shows.
+const MARKED_LINES: [(&'static str, u32, &'static str); 4] = [
+    (
+        "e\u{301}\u{301}\u{301}\u{301}\u{301}\u{301}\u{301}",
+        2,
+        "e'",
+    ),
+    (
+        "e\u{301}\u{301}\u{301}\u{301}\u{301}\u{301}\u{301}\u{301}",
+        3,
+        "e\" ",
+    ),
+    ("\u{301}", 2, "' "),
+    ("\u{AD}\u{301}", 2, " '"),
+];
 
 #[test]
 fn marks_in_plain_lines(rt: HostRuntime) -> Result<(), Fail> {
     let classes = classes(rt.alloc())?;
-    let mut many = [acute(); 9];
-    many[0] = Ch::scalar('e');
-    let two = Glyph {
-        marks: [0x301, 0x301, 0, 0, 0, 0],
-        count: 2,
-        ..Glyph::single(32, 1)
-    };
-    let rows: [(&[Ch], u32, &[Cell]); 5] = [
-        (&many[..8], 2, &[heavy(), alone()]),
-        (&many, 3, &[heavy(), Cell::First(two, RED), gap()]),
-        (&[acute()], 2, &[alone(), gap()]),
-        (
-            &[raw(200), acute()],
-            6,
-            &[cell('\\'), cell('3'), cell('1'), cell('0'), alone(), gap()],
-        ),
-        (&[Ch::scalar('\u{AD}'), acute()], 2, &[gap(), alone()]),
-    ];
-    for (text, width, wanted) in rows {
-        assert!(rt; lines_up(rt.alloc(), text, &classes, width, wanted));
-    }
+    assert_lines(&rt, rt.alloc(), &classes, &MARKED_LINES);
+    let byte = [raw(200), Ch::scalar('\u{301}')];
+    assert!(rt; lines_up(rt.alloc(), &byte, &classes, 6, "\\310' "));
     Ok(())
 }

@@ -1,31 +1,30 @@
 //! Items and blocks with ample memory, of buffers that are made by calls.
-use crate::scenery::{Scenery, is_accessible};
-use rd_base::{Ch, Class, Face, Glyph, Invisible, ListOf, Memory, Pos};
+use crate::glyphs::{heavy, twice_marked};
+use crate::scenery::{Scenery, is_accessible, put_text};
+use rd_base::{Ch, Class, Face, Invisible, ListOf, Memory, Pos};
 use rd_items::{Item, ItemKind, Items, block_at};
-use rd_objects::Objects;
 use rd_overlays::Kind;
 use rd_props::{BufferState, View};
 use std::alloc::Global;
 use std::test::Fail;
 
-/// A buffer whose atom 7 hides with an ellipsis, and 8 without.
-fn empty_buffer(alloc: Global) -> Result<BufferState, Memory> {
-    let mut state = BufferState::new(alloc)?;
-    state.settings.invisible = Invisible::Listed(ListOf::from_slice(
-        alloc,
-        &[(7, true), (8, false)],
-    )?);
-    Ok(state)
+/// Hides what has the atom 7 with an ellipsis, and what has 8 without.
+fn list_atoms(state: &mut BufferState, alloc: Global) -> Result<(), Memory> {
+    let pairs = ListOf::from_slice(alloc, &[(7, true), (8, false)])?;
+    state.settings.invisible = Invisible::Listed(pairs);
+    Ok(())
 }
 
-/// Puts a text into a buffer, with an atom on its second character, and an overlay's string before it.
+/// Puts a text into an empty buffer, with an atom on its second character, and an overlay's string before it.
 fn fill(
     state: &mut BufferState,
-    text: &[Ch],
+    alloc: Global,
+    text: &str,
     atom: Option<u32>,
     string: Option<u32>,
 ) -> Result<(), Fail> {
-    state.text.insert(1, text)?;
+    list_atoms(state, alloc)?;
+    put_text(state, alloc, text)?;
     state.spans[Kind::Invisible as usize].put(2, 3, atom)?;
     let number = state.overlays.make(2, 2, 0, false, false)?;
     state.overlays.set(number, Kind::Before, string)?;
@@ -35,17 +34,52 @@ fn fill(
 /// A buffer with a text, no objects and no data.
 fn set_up(
     alloc: Global,
-    text: &[Ch],
+    text: &str,
     atom: Option<u32>,
     string: Option<u32>,
 ) -> Result<Scenery, Fail> {
-    let mut state = empty_buffer(alloc)?;
-    fill(&mut state, text, atom, string)?;
-    Scenery::new(alloc, state, Objects::new(alloc)?)
+    let mut scenery = Scenery::new(alloc)?;
+    fill(&mut scenery.state, alloc, text, atom, string)?;
+    Ok(scenery)
+}
+
+/// The kind of the item that a sign stands for: the letter e and a mark alone, that letter with six marks, two marks on a blank, the
+/// string 9, an ellipsis, and the end of a block, `$`.
+fn kind_of(sign: char) -> ItemKind {
+    match sign {
+        'e' => ItemKind::Char(Ch::scalar('e')),
+        '\'' => ItemKind::Char(Ch::scalar('\u{301}')),
+        'E' => ItemKind::Marked(heavy()),
+        '"' => ItemKind::Marked(twice_marked()),
+        '9' => ItemKind::Text(9),
+        '~' => ItemKind::Ellipsis,
+        _ => ItemKind::Ender,
+    }
+}
+
+/// The class of such an item.
+fn class_of(sign: char) -> Class {
+    match sign {
+        '9' | '~' => Class::ON,
+        '$' => Class::B,
+        _ => Class::L,
+    }
+}
+
+/// The item that a sign stands for, which covers the offsets from one to another; the string is an overlay's.
+fn item(sign: char, from: u32, to: u32) -> Item {
+    Item {
+        class: class_of(sign),
+        kind: kind_of(sign),
+        face: Face::PLAIN,
+        overlay: sign == '9',
+        from,
+        to,
+    }
 }
 
 /// Whether these are the items of the block that starts at a position.
-fn gives(alloc: Global, view: &View, start: Pos, wanted: &[Item]) -> bool {
+fn gives(alloc: Global, view: &View, start: Pos, wanted: &[(char, u32, u32)]) -> bool {
     if !is_accessible(view, start) {
         return false;
     }
@@ -55,12 +89,14 @@ fn gives(alloc: Global, view: &View, start: Pos, wanted: &[Item]) -> bool {
     }
 }
 
-fn are_equal(items: &Items, wanted: &[Item]) -> bool {
+/// Whether items are those that signs stand for.
+fn are_equal(items: &Items, wanted: &[(char, u32, u32)]) -> bool {
     if items.len() as usize != wanted.len() {
         return false;
     }
     for i in 0..items.len() {
-        if *items.item(i) != wanted[i as usize] {
+        let (sign, from, to) = wanted[i as usize];
+        if *items.item(i) != item(sign, from, to) {
             return false;
         }
     }
@@ -70,10 +106,10 @@ fn are_equal(items: &Items, wanted: &[Item]) -> bool {
 /// Whether a text, with an atom on its second character and an overlay's string before it, has these items.
 fn shows(
     alloc: Global,
-    text: &[Ch],
+    text: &str,
     atom: Option<u32>,
     string: Option<u32>,
-    wanted: &[Item],
+    wanted: &[(char, u32, u32)],
 ) -> Result<bool, Fail> {
     let scenery = set_up(alloc, text, atom, string)?;
     Ok(gives(alloc, &scenery.view(), 1, wanted))
@@ -100,134 +136,51 @@ fn are_in(alloc: Global, view: &View, wanted: &[(Pos, (Pos, Pos))]) -> bool {
     true
 }
 
-/// Whether two lines, with an atom on the newline between them, have these blocks at these positions.
+/// A line with a letter, and one with a mark.
+const LINES: &'static str = "e\n\u{301}";
+
+/// Whether these lines, with an atom on the newline between them, have these blocks at these positions.
 fn cuts(alloc: Global, atom: Option<u32>, wanted: &[(Pos, (Pos, Pos))]) -> Result<bool, Fail> {
-    let scenery = set_up(alloc, &lines(), atom, None)?;
+    let scenery = set_up(alloc, LINES, atom, None)?;
     Ok(are_in(alloc, &scenery.view(), wanted))
 }
 
-/// An item that covers the offsets from one to another.
-fn item(kind: ItemKind, class: Class, from: u32, to: u32) -> Item {
-    Item {
-        class,
-        kind,
-        face: Face::PLAIN,
-        overlay: false,
-        from,
-        to,
-    }
-}
+/// The items of a letter with eight marks.
+const MANY: [(char, u32, u32); 3] = [('E', 0, 7), ('"', 7, 9), ('$', 9, 10)];
 
-/// The string of an overlay at an offset.
-fn overlay_string(number: u32, at: u32) -> Item {
-    Item {
-        class: Class::ON,
-        kind: ItemKind::Text(number),
-        face: Face::PLAIN,
-        overlay: true,
-        from: at,
-        to: at,
-    }
-}
-
-fn letter(ch: Ch, from: u32, to: u32) -> Item {
-    item(ItemKind::Char(ch), Class::L, from, to)
-}
-
-fn ender(from: u32, to: u32) -> Item {
-    item(ItemKind::Ender, Class::B, from, to)
-}
-
-/// The letter e.
-fn base() -> Ch {
-    Ch::scalar('e')
-}
-
-/// A mark.
-fn acute() -> Ch {
-    Ch::scalar('\u{301}')
-}
-
-/// The letter with six marks.
-fn heavy() -> ItemKind {
-    ItemKind::Marked(Glyph {
-        marks: [0x301; 6],
-        count: 6,
-        ..Glyph::single('e' as u32, 1)
-    })
-}
-
-/// Two marks on a blank.
-fn blank() -> ItemKind {
-    ItemKind::Marked(Glyph {
-        marks: [0x301, 0x301, 0, 0, 0, 0],
-        count: 2,
-        ..Glyph::single(32, 1)
-    })
-}
-
-/// A line with a letter, and one with a mark.
-fn lines() -> [Ch; 3] {
-    [base(), Ch::scalar('\n'), acute()]
-}
+/// Those of a letter and two marks with a string between.
+const PARTED: [(char, u32, u32); 4] = [('e', 0, 1), ('9', 1, 1), ('"', 1, 3), ('$', 3, 4)];
 
 #[test]
 fn marks_join(rt: HostRuntime) -> Result<(), Fail> {
-    let mut text = [acute(); 9];
-    text[0] = base();
-    let six = [
-        item(heavy(), Class::L, 0, 7),
-        item(blank(), Class::L, 7, 9),
-        ender(9, 10),
-    ];
-    assert!(rt; shows(rt.alloc(), &text, None, None, &six)?);
-    let parted = [
-        letter(base(), 0, 1),
-        overlay_string(9, 1),
-        item(blank(), Class::L, 1, 3),
-        ender(3, 4),
-    ];
-    assert!(rt;
-        shows(
-            rt.alloc(),
-            &[base(), acute(), acute()],
-            None,
-            Some(9),
-            &parted
-        )?
-    );
+    let many = "e\u{301}\u{301}\u{301}\u{301}\u{301}\u{301}\u{301}\u{301}";
+    assert!(rt; shows(rt.alloc(), many, None, None, &MANY)?);
+    assert!(rt; shows(rt.alloc(), "e\u{301}\u{301}", None, Some(9), &PARTED)?);
     Ok(())
 }
+
+/// The items of two lines whose newline is hidden.
+const HIDDEN: [(char, u32, u32); 3] = [('e', 0, 1), ('\'', 1, 3), ('$', 3, 4)];
+
+/// The same where an ellipsis stands for it.
+const ELLIPSIS: [(char, u32, u32); 4] = [('e', 0, 1), ('~', 1, 2), ('\'', 2, 3), ('$', 3, 4)];
 
 #[test]
 fn hidden_newlines(rt: HostRuntime) -> Result<(), Fail> {
-    let plain = [letter(base(), 0, 1), letter(acute(), 1, 3), ender(3, 4)];
-    assert!(rt; shows(rt.alloc(), &lines(), Some(8), None, &plain)?);
-    let ellipsis = [
-        letter(base(), 0, 1),
-        item(ItemKind::Ellipsis, Class::ON, 1, 2),
-        letter(acute(), 2, 3),
-        ender(3, 4),
-    ];
-    assert!(rt; shows(rt.alloc(), &lines(), Some(7), None, &ellipsis)?);
+    assert!(rt; shows(rt.alloc(), LINES, Some(8), None, &HIDDEN)?);
+    assert!(rt; shows(rt.alloc(), LINES, Some(7), None, &ELLIPSIS)?);
     Ok(())
 }
 
+/// Positions of two lines, each with its block.
+const TWO_BLOCKS: [(Pos, (Pos, Pos)); 4] = [(1, (1, 3)), (2, (1, 3)), (3, (3, 5)), (4, (3, 5))];
+
+/// The same where the newline between them is hidden.
+const ONE_BLOCK: [(Pos, (Pos, Pos)); 3] = [(1, (1, 5)), (2, (1, 5)), (4, (1, 5))];
+
 #[test]
 fn newlines_that_show_cut(rt: HostRuntime) -> Result<(), Fail> {
-    assert!(rt;
-        cuts(
-            rt.alloc(),
-            None,
-            &[(1, (1, 3)), (2, (1, 3)), (3, (3, 5)), (4, (3, 5))]
-        )?
-    );
-    assert!(rt;
-        cuts(
-            rt.alloc(),
-            Some(7),
-            &[(1, (1, 5)), (2, (1, 5)), (4, (1, 5))]
-        )?
-    );
+    assert!(rt; cuts(rt.alloc(), None, &TWO_BLOCKS)?);
+    assert!(rt; cuts(rt.alloc(), Some(7), &ONE_BLOCK)?);
     Ok(())
 }

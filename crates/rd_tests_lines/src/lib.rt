@@ -30,4 +30,6 @@ mod stack;
 #[cfg(test)]
 mod starts;
 #[cfg(test)]
+mod texts;
+#[cfg(test)]
 mod visual;

@@ -1,32 +1,43 @@
 //! Margins with ample memory.
-use crate::modeline::{cells, text};
-use rd_base::{Face, Memory};
+use crate::modeline::are_cells;
+use crate::texts::characters;
+use rd_base::{Ch, Face, Memory};
 use rd_margins::{Marks, Widths, numbers, row_margin};
 use rd_ucd::Classes;
 use std::alloc::Global;
+use std::process::Abort;
 use std::test::Fail;
 
 /// Whether a line's number is shown so, in as many columns.
-fn is_number(alloc: Global, line: Option<u32>, wanted: &[u8]) -> Result<bool, Memory> {
-    let shown = numbers(alloc, line, wanted.len().min(400) as u32)?;
-    Ok(shown.as_slice() == cells(alloc, wanted, Face::PLAIN)?.as_slice())
+fn is_number(alloc: Global, line: Option<u32>, wanted: &[u8]) -> bool {
+    match numbers(alloc, line, wanted.len().min(400) as u32) {
+        Ok(shown) => are_cells(shown.as_slice(), wanted, Face::PLAIN),
+        Err(_) => false,
+    }
 }
 
 /// Whether margins of three columns each are shown so beside a row of line 12.
-fn are_margins(alloc: Global, row: u32, string: &[u8], wanted: &[u8]) -> Result<bool, Fail> {
-    let classes = Classes::read(alloc, b"")?;
-    let string = text(alloc, string)?;
+fn are_shown(alloc: Global, classes: &Classes, row: u32, string: &[Ch], wanted: &[u8]) -> bool {
     let widths = Widths {
         numbers: 3,
         strings: 3,
     };
-    let shown = row_margin(alloc, &classes, widths, row, 12, string.as_slice())?;
-    Ok(shown.as_slice() == cells(alloc, wanted, Face::PLAIN)?.as_slice())
+    match row_margin(alloc, classes, widths, row, 12, string) {
+        Ok(shown) => are_cells(shown.as_slice(), wanted, Face::PLAIN),
+        Err(_) => false,
+    }
 }
 
-/// Whether margin strings are kept until they are taken away.
-fn are_kept(alloc: Global) -> Result<bool, Memory> {
-    let mut marks = Marks::new(alloc)?;
+/// The same of a string that is told as a text.
+fn are_margins(alloc: Global, classes: &Classes, row: u32, string: &str, wanted: &[u8]) -> bool {
+    match characters(alloc, string) {
+        Ok(string) => are_shown(alloc, classes, row, string.as_slice(), wanted),
+        Err(_) => false,
+    }
+}
+
+/// Sets and takes away margin strings, and answers whether they were kept until then.
+fn keeps(marks: &mut Marks) -> Result<bool, Memory> {
     marks.set(3, Some(7))?;
     marks.set(5, Some(8))?;
     let both = marks.last_of(&[3, 5]);
@@ -34,26 +45,44 @@ fn are_kept(alloc: Global) -> Result<bool, Memory> {
     Ok(both == Some(8) && marks.get(5).is_none() && marks.last_of(&[3, 5]) == Some(7))
 }
 
+/// Whether margin strings are kept until they are taken away.
+fn are_kept(alloc: Global) -> bool {
+    match Marks::new(alloc) {
+        Ok(mut marks) => keeps(&mut marks) == Ok(true),
+        Err(_) => false,
+    }
+}
+
+/// Numbers of lines, and how they are shown.
+const NUMBERS: [(Option<u32>, &'static [u8]); 5] = [
+    (Some(1), b"  1 "),
+    (Some(207), b"207 "),
+    (Some(1000), b"+++ "),
+    (Some(7), b" "),
+    (None, b"    "),
+];
+
+/// Rows of a line, strings, and the margins beside the row.
+const MARGINS: [(u32, &'static str, &'static [u8]); 3] = [
+    (0, ">>", b"12 >> "),
+    (0, "todo", b"12 tod"),
+    (1, ">>", b"      "),
+];
+
+/// Asserts how margins are shown.
+fn assert_margins(rt: &impl Abort, alloc: Global, classes: &Classes) {
+    for (row, string, wanted) in &MARGINS {
+        assert!(rt; are_margins(alloc, classes, *row, string, wanted));
+    }
+}
+
 #[test]
 fn margins_are_shown(rt: HostRuntime) -> Result<(), Fail> {
-    let numbers: [(Option<u32>, &[u8]); 5] = [
-        (Some(1), b"  1 "),
-        (Some(207), b"207 "),
-        (Some(1000), b"+++ "),
-        (Some(7), b" "),
-        (None, b"    "),
-    ];
-    for (line, wanted) in numbers {
-        assert!(rt; is_number(rt.alloc(), line, wanted)?);
+    for (line, wanted) in &NUMBERS {
+        assert!(rt; is_number(rt.alloc(), *line, wanted));
     }
-    let margins: [(u32, &[u8], &[u8]); 3] = [
-        (0, b">>", b"12 >> "),
-        (0, b"todo", b"12 tod"),
-        (1, b">>", b"      "),
-    ];
-    for (row, string, wanted) in margins {
-        assert!(rt; are_margins(rt.alloc(), row, string, wanted)?);
-    }
-    assert!(rt; are_kept(rt.alloc())?);
+    assert!(rt; are_kept(rt.alloc()));
+    let classes = Classes::read(rt.alloc(), b"")?;
+    assert_margins(&rt, rt.alloc(), &classes);
     Ok(())
 }

@@ -1,8 +1,10 @@
 //! Mode lines with ample memory.
-use rd_base::{Cell, Ch, Face, Glyph, ListOf, Memory};
+use crate::texts::characters;
+use rd_base::{Cell, Ch, Face, Glyph};
 use rd_modeline::{Facts, format};
 use rd_ucd::Classes;
 use std::alloc::Global;
+use std::process::Abort;
 use std::test::Fail;
 
 const INVERSE: Face = Face {
@@ -10,46 +12,39 @@ const INVERSE: Face = Face {
     ..Face::PLAIN
 };
 
-/// The characters of an ASCII text.
-pub fn text(alloc: Global, bytes: &[u8]) -> Result<ListOf<Ch>, Memory> {
-    let mut text = ListOf::new(alloc);
-    for byte in bytes {
-        text.push(Ch::scalar(*byte as char))?;
+/// Whether a cell shows a character of an ASCII text in a face.
+fn is_cell(cell: Cell, byte: u8, face: Face) -> bool {
+    match byte {
+        b' ' => cell == Cell::Blank(face),
+        _ => cell == Cell::First(Glyph::single(byte as u32, 1), face),
     }
-    Ok(text)
 }
 
-/// The cells of an ASCII text in a face.
-pub fn cells(alloc: Global, bytes: &[u8], face: Face) -> Result<ListOf<Cell>, Memory> {
-    let mut cells = ListOf::new(alloc);
-    for byte in bytes {
-        cells.push(match *byte {
-            b' ' => Cell::Blank(face),
-            _ => Cell::First(Glyph::single(*byte as u32, 1), face),
-        })?;
+/// Whether cells show an ASCII text in a face.
+pub fn are_cells(cells: &[Cell], bytes: &[u8], face: Face) -> bool {
+    if cells.len() != bytes.len() {
+        return false;
     }
-    Ok(cells)
+    for (cell, byte) in cells.iter().zip(bytes) {
+        if !is_cell(*cell, *byte, face) {
+            return false;
+        }
+    }
+    true
 }
 
 /// Whether a format gives this line, in as many columns as it has.
-fn gives(alloc: Global, code: &[u8], facts: &Facts, line: &[u8]) -> Result<bool, Fail> {
-    let classes = Classes::read(alloc, b"")?;
-    let code = text(alloc, code)?;
-    let shown = format(
-        alloc,
-        code.as_slice(),
-        &classes,
-        facts,
-        line.len().min(400) as u32,
-    )?;
-    Ok(shown.as_slice() == cells(alloc, line, INVERSE)?.as_slice())
+fn gives(alloc: Global, classes: &Classes, code: &[Ch], facts: &Facts, line: &[u8]) -> bool {
+    match format(alloc, code, classes, facts, line.len().min(400) as u32) {
+        Ok(shown) => are_cells(shown.as_slice(), line, INVERSE),
+        Err(_) => false,
+    }
 }
 
-#[test]
-fn lines_of_formats(rt: HostRuntime) -> Result<(), Fail> {
-    let name = text(rt.alloc(), b"main")?;
+/// Whether a format that is told as a text gives this line of facts about a buffer of this name.
+fn is_line(alloc: Global, classes: &Classes, name: &[Ch], code: &str, line: &[u8]) -> bool {
     let facts = Facts {
-        name: name.as_slice(),
+        name,
         line: 12,
         top: false,
         bottom: false,
@@ -59,14 +54,31 @@ fn lines_of_formats(rt: HostRuntime) -> Result<(), Fail> {
         read_only: true,
         narrowed: true,
     };
-    let lines: [(&[u8], &[u8]); 4] = [
-        (b"%5l|%-", b"   12|----"),
-        (b"%b %3l %p", b"main  12 27%  "),
-        (b"%*%+ %8n|%%", b"%* Narrow  |%"),
-        (b"%bwide", b"mainwi"),
-    ];
-    for (code, line) in lines {
-        assert!(rt; gives(rt.alloc(), code, &facts, line)?);
+    match characters(alloc, code) {
+        Ok(code) => gives(alloc, classes, code.as_slice(), &facts, line),
+        Err(_) => false,
     }
+}
+
+/// Formats, and the lines that they give.
+const LINES: [(&'static str, &'static [u8]); 4] = [
+    ("%5l|%-", b"   12|----"),
+    ("%b %3l %p", b"main  12 27%  "),
+    ("%*%+ %8n|%%", b"%* Narrow  |%"),
+    ("%bwide", b"mainwi"),
+];
+
+/// Asserts which lines formats give.
+fn assert_lines(rt: &impl Abort, alloc: Global, classes: &Classes, name: &[Ch]) {
+    for (code, line) in &LINES {
+        assert!(rt; is_line(alloc, classes, name, code, line));
+    }
+}
+
+#[test]
+fn lines_of_formats(rt: HostRuntime) -> Result<(), Fail> {
+    let classes = Classes::read(rt.alloc(), b"")?;
+    let name = characters(rt.alloc(), "main")?;
+    assert_lines(&rt, rt.alloc(), &classes, name.as_slice());
     Ok(())
 }

@@ -2,12 +2,13 @@
 ghost use Rattle.std.specs.Prelude.{◌≤◌};
 
 use crate::claims::assert_at;
-use crate::scenery::{Scenery, is_accessible};
-use rd_base::{Ch, Face, Invisible, ListOf, Memory, Pos};
-use rd_objects::Objects;
+use crate::scenery::{Scenery, is_accessible, put_text};
+use rd_base::{Face, Invisible, ListOf, Memory, Pos};
+use rd_objects::{ObjectFault, Objects};
 use rd_overlays::{Kind, OverlayFault};
 use rd_props::{BufferState, Hidden, View, effective, face_at, hidden, next_stop, strings_at};
 use std::alloc::Global;
+use std::process::Abort;
 use std::test::Fail;
 
 const RED: Face = Face {
@@ -24,25 +25,20 @@ const RED_ON_GREEN: Face = Face { fg: 1, ..ON_GREEN };
 
 /// A buffer of three characters with properties and overlays of several kinds, and two faces.
 fn three_characters(alloc: Global) -> Result<Scenery, Fail> {
-    Scenery::new(alloc, buffer(alloc)?, faces(alloc)?)
+    let mut scenery = Scenery::new(alloc)?;
+    add_faces(&mut scenery.objects)?;
+    fill(&mut scenery.state, alloc)?;
+    Ok(scenery)
 }
 
-fn faces(alloc: Global) -> Result<Objects, Fail> {
-    let mut objects = Objects::new(alloc)?;
+fn add_faces(objects: &mut Objects) -> Result<(), ObjectFault> {
     objects.add_face(RED)?;
     objects.add_face(ON_GREEN)?;
-    Ok(objects)
+    Ok(())
 }
 
-fn buffer(alloc: Global) -> Result<BufferState, Fail> {
-    let mut state = BufferState::new(alloc)?;
-    fill(&mut state)?;
-    Ok(state)
-}
-
-fn fill(state: &mut BufferState) -> Result<(), Fail> {
-    let text = [Ch::scalar('a'), Ch::scalar('b'), Ch::scalar('c')];
-    state.text.insert(1, &text)?;
+fn fill(state: &mut BufferState, alloc: Global) -> Result<(), Fail> {
+    put_text(state, alloc, "abc")?;
     put_properties(state)?;
     make_overlays(state)?;
     Ok(())
@@ -125,35 +121,57 @@ fn stops_at(view: &View, pos: Pos, stop: Pos) -> bool {
     state.text.begin() <= pos && pos < state.text.end() && next_stop(view, pos) == stop
 }
 
+/// The faces at positions of the buffer of three characters.
+const FACES: [(Pos, Face); 4] = [(1, RED), (2, RED_ON_GREEN), (3, RED), (4, Face::PLAIN)];
+
+/// How its positions are hidden.
+const HIDDEN: [(Pos, Hidden); 3] = [(1, Hidden::Plain), (2, Hidden::No), (3, Hidden::No)];
+
+/// Asserts how positions are hidden.
+fn assert_hidden(rt: &impl Abort, alloc: Global, view: &View, table: &[(Pos, Hidden)]) {
+    for (pos, how) in table {
+        assert_at(rt, *pos, is_hidden(alloc, view, *pos, *how));
+    }
+}
+
+/// Asserts which faces positions have.
+fn assert_faces(rt: &impl Abort, alloc: Global, view: &View) {
+    for (pos, face) in &FACES {
+        assert_at(rt, *pos, has_face(alloc, view, *pos, *face));
+    }
+}
+
 #[test]
 fn what_holds_at_positions(rt: HostRuntime) -> Result<(), Fail> {
     let example = three_characters(rt.alloc())?;
     let view = example.view();
-    for (pos, face) in [(1, RED), (2, RED_ON_GREEN), (3, RED), (4, Face::PLAIN)] {
-        assert_at(&rt, pos, has_face(rt.alloc(), &view, pos, face));
-    }
-    for (pos, how) in [(1, Hidden::Plain), (2, Hidden::No), (3, Hidden::No)] {
-        assert_at(&rt, pos, is_hidden(rt.alloc(), &view, pos, how));
-    }
+    assert_faces(&rt, rt.alloc(), &view);
+    assert_hidden(&rt, rt.alloc(), &view, &HIDDEN);
     assert!(rt; has_strings(rt.alloc(), &view, 2, &[11, 10, 14, 15, 12, 13]));
     Ok(())
 }
 
-/// The buffer of three characters, with a setting that names the atom 7 with an ellipsis and then without.
+/// Names the atom 7 in a buffer's setting, with an ellipsis and then without.
+fn list_atoms(state: &mut BufferState, alloc: Global) -> Result<(), Memory> {
+    let pairs = ListOf::from_slice(alloc, &[(8, false), (7, true), (7, false)])?;
+    state.settings.invisible = Invisible::Listed(pairs);
+    Ok(())
+}
+
+/// The buffer of three characters, with that setting.
 fn listed(alloc: Global) -> Result<Scenery, Fail> {
     let mut example = three_characters(alloc)?;
-    let pairs = ListOf::from_slice(alloc, &[(8, false), (7, true), (7, false)])?;
-    example.state.settings.invisible = Invisible::Listed(pairs);
+    list_atoms(&mut example.state, alloc)?;
     Ok(example)
 }
+
+/// How the positions of that buffer are hidden.
+const LISTED: [(Pos, Hidden); 3] = [(1, Hidden::Ellipsis), (2, Hidden::No), (3, Hidden::No)];
 
 #[test]
 fn atoms_hide_by_the_setting(rt: HostRuntime) -> Result<(), Fail> {
     let example = listed(rt.alloc())?;
-    let view = example.view();
-    for (pos, how) in [(1, Hidden::Ellipsis), (2, Hidden::No), (3, Hidden::No)] {
-        assert_at(&rt, pos, is_hidden(rt.alloc(), &view, pos, how));
-    }
+    assert_hidden(&rt, rt.alloc(), &example.view(), &LISTED);
     Ok(())
 }
 
@@ -164,13 +182,21 @@ fn narrowed(alloc: Global) -> Result<Scenery, Fail> {
     Ok(example)
 }
 
+/// The line prefixes at positions of that buffer.
+const PREFIXES: [(Pos, Option<u32>); 3] = [(1, Some(22)), (2, Some(22)), (3, None)];
+
+/// Asserts which line prefixes positions have.
+fn assert_prefixes(rt: &impl Abort, alloc: Global, view: &View) {
+    for (pos, value) in &PREFIXES {
+        assert_at(rt, *pos, has_prefix(alloc, view, *pos, *value));
+    }
+}
+
 #[test]
 fn what_holds_in_a_narrowed_text(rt: HostRuntime) -> Result<(), Fail> {
     let example = narrowed(rt.alloc())?;
     let view = example.view();
-    for (pos, value) in [(1, Some(22)), (2, Some(22)), (3, None)] {
-        assert_at(&rt, pos, has_prefix(rt.alloc(), &view, pos, value));
-    }
+    assert_prefixes(&rt, rt.alloc(), &view);
     assert!(rt; stops_at(&view, 1, 2) && stops_at(&view, 2, 3));
     Ok(())
 }

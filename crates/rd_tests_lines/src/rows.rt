@@ -6,6 +6,7 @@ use rd_base::{Cell, Element, Elements, Extent, Face, Glyph, Look, Memory, Origin
 use rd_rows::{Row, RowMaker, Shape};
 use std::alloc::Global;
 use std::marker::Brand;
+use std::process::Abort;
 use std::sync::ledger::{Blank, Ledger};
 use std::test::Fail;
 
@@ -83,59 +84,78 @@ fn maker(alloc: Global, wrap: Wrap) -> Result<RowMaker, Memory>
     RowMaker::new(alloc, shape, 0, &[], &[], glyph!(36, 1), glyph!(92, 1))
 }
 
-/// The mark of the line's first row.
-fn mark_of_first<L: Ledger>(alloc: Global, wrap: Wrap, blank: Blank) -> Result<u32, Memory>
-    requires name { blank.name ≡ L.name }
-    requires parts { blank.parts ≡ L.parts }
-    requires some { 0 < L.parts }
+/// Whether the first row that a maker makes of the line has this mark.
+fn marks<L: Ledger>(maker: &mut RowMaker, mark: u32, steps: &mut Steps<L>) -> bool
+    requires { columns_held maker.old ≡ 0 }
 {
-    let mut steps = Steps::<L>::new(blank);
     let mut left = Listed { rest: &LINE };
-    let mut maker = maker(alloc, wrap)?;
-    match maker.next_row(&mut left, &mut steps)? {
-        Some(row) => Ok(last_base(&row)),
-        None => Ok(0),
+    match maker.next_row(&mut left, steps) {
+        Ok(Some(row)) => last_base(&row) == mark,
+        _ => false,
     }
 }
 
-/// How many rows the line has.
-fn count_of_all<L: Ledger>(alloc: Global, wrap: Wrap, blank: Blank) -> Result<usize, Memory>
+/// Whether the line's first row has this mark.
+fn is_marked<L: Ledger>(alloc: Global, wrap: Wrap, mark: u32, blank: Blank) -> bool
     requires name { blank.name ≡ L.name }
     requires parts { blank.parts ≡ L.parts }
     requires some { 0 < L.parts }
 {
     let mut steps = Steps::<L>::new(blank);
+    match maker(alloc, wrap) {
+        Ok(mut maker) => marks(&mut maker, mark, &mut steps),
+        Err(_) => false,
+    }
+}
+
+/// Whether a maker makes so many rows of the line.
+fn makes<L: Ledger>(maker: RowMaker, count: usize, steps: &mut Steps<L>) -> bool
+    requires { columns_held maker ≡ 0 }
+{
     let mut left = Listed { rest: &LINE };
-    let rows = maker(alloc, wrap)?.make_all(&mut left, &mut steps)?;
-    Ok(rows.len())
+    match maker.make_all(&mut left, steps) {
+        Ok(rows) => rows.len() == count,
+        Err(_) => false,
+    }
+}
+
+/// Whether the line has so many rows.
+fn has_rows<L: Ledger>(alloc: Global, wrap: Wrap, count: usize, blank: Blank) -> bool
+    requires name { blank.name ≡ L.name }
+    requires parts { blank.parts ≡ L.parts }
+    requires some { 0 < L.parts }
+{
+    let mut steps = Steps::<L>::new(blank);
+    match maker(alloc, wrap) {
+        Ok(maker) => makes(maker, count, &mut steps),
+        Err(_) => false,
+    }
 }
 
 #[test]
-fn a_row_is_made(rt: HostRuntime) -> Result<(), Fail> {
-    let continued = mark_of_first::<Brand>(rt.alloc(), Wrap::Continue, Blank::new(1))?;
-    assert_eq!(rt; continued, 92);
-    let truncated = mark_of_first::<Brand>(rt.alloc(), Wrap::Truncate, Blank::new(1))?;
-    assert_eq!(rt; truncated, 36);
-    let wrapped = mark_of_first::<Brand>(rt.alloc(), Wrap::Word, Blank::new(1))?;
-    assert_eq!(rt; wrapped, 0);
-    Ok(())
+fn a_row_is_made(rt: HostRuntime) {
+    assert!(rt; is_marked::<Brand>(rt.alloc(), Wrap::Continue, 92, Blank::new(1)));
+    assert!(rt; is_marked::<Brand>(rt.alloc(), Wrap::Truncate, 36, Blank::new(1)));
+    assert!(rt; is_marked::<Brand>(rt.alloc(), Wrap::Word, 0, Blank::new(1)));
 }
 
 #[test]
-fn all_rows_are_made(rt: HostRuntime) -> Result<(), Fail> {
-    let wrapped = count_of_all::<Brand>(rt.alloc(), Wrap::Word, Blank::new(1))?;
-    assert_eq!(rt; wrapped, 2);
-    let truncated = count_of_all::<Brand>(rt.alloc(), Wrap::Truncate, Blank::new(1))?;
-    assert_eq!(rt; truncated, 1);
+fn all_rows_are_made(rt: HostRuntime) {
+    assert!(rt; has_rows::<Brand>(rt.alloc(), Wrap::Word, 2, Blank::new(1)));
+    assert!(rt; has_rows::<Brand>(rt.alloc(), Wrap::Truncate, 1, Blank::new(1)));
+}
+
+/// Asserts that a copy of a blank row is as it is, and counts as one.
+fn assert_copied(rt: &impl Abort, empty: &Row) -> Result<(), Memory> {
+    let copy = empty.copy()?;
+    assert!(rt; empty.copies() == 0);
+    assert!(rt; copy.copies() == 1);
+    assert!(rt; copy.cells().len() == 3);
     Ok(())
 }
 
 #[test]
 fn a_blank_row_is_copied(rt: HostRuntime) -> Result<(), Fail> {
     let empty = Row::blank(rt.alloc(), 3)?;
-    let copy = empty.copy()?;
-    assert_eq!(rt; empty.copies(), 0);
-    assert_eq!(rt; copy.copies(), 1);
-    assert_eq!(rt; copy.cells().len(), 3);
-    Ok(())
+    Ok(assert_copied(&rt, &empty)?)
 }

@@ -2,6 +2,7 @@
 ghost use Rattle.std.specs.Bool.{OnTrue};
 ghost use Rattle.rd_text.specs.Texts.{IsAccessible};
 
+use crate::texts::characters;
 use rd_base::Pos;
 use rd_objects::Objects;
 use rd_props::{BufferState, View};
@@ -20,18 +21,14 @@ pub struct Scenery {
 }
 
 impl Scenery {
-    /// A buffer and objects, with no data.
-    pub fn new(alloc: Global, state: BufferState, objects: Objects) -> Result<Scenery, Fail> {
-        Scenery::with_classes(alloc, state, objects, b"")
+    /// An empty buffer, no objects and no data.
+    pub fn new(alloc: Global) -> Result<Scenery, Fail> {
+        Scenery::with_classes(alloc, b"")
     }
 
-    /// A buffer and objects, with the classes of a file and no other data.
-    pub fn with_classes(
-        alloc: Global,
-        state: BufferState,
-        objects: Objects,
-        file: &[u8],
-    ) -> Result<Scenery, Fail> {
+    /// An empty buffer and no objects, with the classes of a file and no other data.
+    pub fn with_classes(alloc: Global, file: &[u8]) -> Result<Scenery, Fail> {
+        let (state, objects) = nothing(alloc)?;
         let (classes, mirrors) = data(alloc, file)?;
         Ok(Scenery {
             state,
@@ -62,7 +59,20 @@ pub fn is_accessible(view: &View, pos: Pos) -> bool
     state.text.begin() <= pos && pos <= state.text.end()
 }
 
+/// An empty buffer, and no objects.
+fn nothing(alloc: Global) -> Result<(BufferState, Objects), Fail> {
+    let state = BufferState::new(alloc)?;
+    Ok((state, Objects::new(alloc)?))
+}
+
 /// The classes of a file, and no mirror.
 fn data(alloc: Global, file: &[u8]) -> Result<(Classes, Mirrors), Fail> {
-    Ok((Classes::read(alloc, file)?, Mirrors::read(alloc, b"")?))
+    let classes = Classes::read(alloc, file)?;
+    Ok((classes, Mirrors::read(alloc, b"")?))
+}
+
+/// Puts a text into an empty buffer.
+pub fn put_text(state: &mut BufferState, alloc: Global, text: &str) -> Result<(), Fail> {
+    let list = characters(alloc, text)?;
+    Ok(state.text.insert(1, list.as_slice())?)
 }

@@ -1,16 +1,15 @@
 //! A line and a prefix with ample memory, of a buffer that is made by calls.
-use crate::scenery::{Scenery, is_accessible};
+use crate::scenery::{Scenery, is_accessible, put_text};
 use rd_base::{Ch, Element, Elements, Glyph, Look, Pos};
-use rd_objects::{Objects, Run, RunKind, Spec};
+use rd_objects::{ObjectFault, Objects, Run, RunKind, Spec};
 use rd_overlays::Kind;
 use rd_props::{BufferState, View};
 use rd_stack::{Walker, string_line};
 use std::alloc::Global;
 use std::test::Fail;
 
-/// The string zz, and the string PQ, newline, R, in which that one stands for Q.
-fn objects(alloc: Global) -> Result<Objects, Fail> {
-    let mut objects = Objects::new(alloc)?;
+/// Adds the string zz, and the string PQ, newline, R, in which that one stands for Q.
+fn add_strings(objects: &mut Objects) -> Result<(), ObjectFault> {
     let inner = objects.add_string(&[Ch::scalar('z'), Ch::scalar('z')], &[])?;
     let spec = objects.add_spec(Spec::Text(inner))?;
     let run = Run {
@@ -19,90 +18,99 @@ fn objects(alloc: Global) -> Result<Objects, Fail> {
         kind: RunKind::Display,
         value: spec,
     };
-    objects.add_string(
-        &[
-            Ch::scalar('P'),
-            Ch::scalar('Q'),
-            Ch::scalar('\n'),
-            Ch::scalar('R'),
-        ],
-        &[run],
-    )?;
-    Ok(objects)
+    let text = [
+        Ch::scalar('P'),
+        Ch::scalar('Q'),
+        Ch::scalar('\n'),
+        Ch::scalar('R'),
+    ];
+    objects.add_string(&text, &[run])?;
+    Ok(())
 }
 
-/// The text xy, with the second of those strings before its second character.
-fn buffer(alloc: Global) -> Result<BufferState, Fail> {
-    let mut state = BufferState::new(alloc)?;
-    state.text.insert(1, &[Ch::scalar('x'), Ch::scalar('y')])?;
+/// Puts in the text xy, with the second of those strings before its second character.
+fn fill(state: &mut BufferState, alloc: Global) -> Result<(), Fail> {
+    put_text(state, alloc, "xy")?;
     let number = state.overlays.make(2, 3, 0, false, false)?;
     state.overlays.set(number, Kind::Before, Some(1))?;
-    Ok(state)
+    Ok(())
 }
 
 /// The buffer and the objects.
 fn scenery(alloc: Global) -> Result<Scenery, Fail> {
-    Scenery::new(alloc, buffer(alloc)?, objects(alloc)?)
+    let mut scenery = Scenery::new(alloc)?;
+    add_strings(&mut scenery.objects)?;
+    fill(&mut scenery.state, alloc)?;
+    Ok(scenery)
 }
 
-/// The look of a character of one column.
-fn letter(c: char) -> Look {
-    Look::Glyph(Glyph::single(c as u32, 1))
+/// The look that a sign stands for: `|` is the end of a row, `.` that of the line, and others are characters of one column.
+fn look(sign: char) -> Look {
+    match sign {
+        '|' => Look::RowEnd,
+        '.' => Look::LineEnd,
+        _ => Look::Glyph(Glyph::single(sign as u32, 1)),
+    }
 }
 
 /// Whether these are the looks of elements.
-fn are_looks(elements: &[Element], wanted: &[Look]) -> bool {
-    if elements.len() != wanted.len() {
-        return false;
-    }
-    for (element, look) in elements.iter().zip(wanted) {
-        if element.look != *look {
+fn are_looks(elements: &[Element], signs: &str) -> bool {
+    let mut i = 0;
+    for sign in signs.chars() {
+        if i >= elements.len() || elements[i].look != look(sign) {
             return false;
         }
+        i += 1;
     }
-    true
+    i == elements.len()
 }
 
-/// Whether the line from a position on has these looks, with so many frames standing when each is given, and then none.
-fn walks(alloc: Global, view: &View, start: Pos, wanted: &[(Look, usize)]) -> bool {
-    if !is_accessible(view, start) {
-        return false;
-    }
-    let Ok(mut walker) = Walker::start(alloc, *view, start, 0) else {
-        return false;
-    };
-    for (look, depth) in wanted {
+/// Whether the rest of a line has these looks, with so many frames standing when each is given, and then none.
+fn goes_on(alloc: Global, walker: &mut Walker, wanted: &[(char, usize)]) -> bool {
+    for (sign, depth) in wanted {
         match walker.next(alloc) {
-            Ok(Some(element)) if element.look == *look && walker.depth() == *depth => {}
+            Ok(Some(element)) if element.look == look(*sign) && walker.depth() == *depth => {}
             _ => return false,
         }
     }
     matches!(walker.next(alloc), Ok(None))
 }
 
-/// Whether a string that stands as a prefix has these looks.
-fn stands(alloc: Global, view: &View, string: u32, wanted: &[Look]) -> bool {
-    match string_line(alloc, view, string, 0) {
-        Ok(elements) => are_looks(elements.as_slice(), wanted),
+/// The same of the whole line from a position on.
+fn walks(alloc: Global, view: &View, start: Pos, wanted: &[(char, usize)]) -> bool {
+    if !is_accessible(view, start) {
+        return false;
+    }
+    match Walker::start(alloc, *view, start, 0) {
+        Ok(mut walker) => goes_on(alloc, &mut walker, wanted),
         Err(_) => false,
     }
 }
 
+/// Whether a string that stands as a prefix has these looks.
+fn stands(alloc: Global, view: &View, string: u32, signs: &str) -> bool {
+    match string_line(alloc, view, string, 0) {
+        Ok(elements) => are_looks(elements.as_slice(), signs),
+        Err(_) => false,
+    }
+}
+
+/// The looks of the line, each with the number of frames that stand then.
+const LINE: [(char, usize); 8] = [
+    ('x', 1),
+    ('P', 2),
+    ('z', 3),
+    ('z', 3),
+    ('|', 2),
+    ('R', 2),
+    ('y', 1),
+    ('.', 1),
+];
+
 #[test]
 fn a_line_of_three_frames_and_a_prefix(rt: HostRuntime) -> Result<(), Fail> {
-    let alloc = rt.alloc();
-    let scenery = scenery(alloc)?;
-    let line = [
-        (letter('x'), 1),
-        (letter('P'), 2),
-        (letter('z'), 3),
-        (letter('z'), 3),
-        (Look::RowEnd, 2),
-        (letter('R'), 2),
-        (letter('y'), 1),
-        (Look::LineEnd, 1),
-    ];
-    assert!(rt; walks(alloc, &scenery.view(), 1, &line));
-    assert!(rt; stands(alloc, &scenery.view(), 1, &[letter('P'), letter('Q')]));
+    let scenery = scenery(rt.alloc())?;
+    assert!(rt; walks(rt.alloc(), &scenery.view(), 1, &LINE));
+    assert!(rt; stands(rt.alloc(), &scenery.view(), 1, "PQ"));
     Ok(())
 }

@@ -6,16 +6,16 @@ ghost use Rattle.rd_matrix.specs.Entries.{shown_entries};
 ghost use Rattle.rd_visual.specs.Hits.{AreInPositions, Fits};
 
 use crate::claims::assert_at;
-use crate::scenery::{Scenery, is_accessible};
-use rd_base::{Cell, Ch, ListOf, Memory, Pos, Steps, Wrap};
+use crate::scenery::{Scenery, is_accessible, put_text};
+use rd_base::{Cell, Memory, Pos, Steps, Wrap};
 use rd_blocks::{Blocks, accessible_positions_lie_in_blocks};
 use rd_matrix::{BlockSource, Entry, Matrix};
-use rd_objects::Objects;
-use rd_props::{BufferState, View};
+use rd_props::View;
 use rd_rows::{Begin, Row, Shape};
 use rd_visual::{cell_of, left, position_at, right};
 use std::alloc::Global;
 use std::marker::Brand;
+use std::process::Abort;
 use std::sync::ledger::{Blank, Ledger};
 use std::test::Fail;
 
@@ -23,27 +23,11 @@ use std::test::Fail;
 const CLASSES: &'static [u8] =
     b"0020;;;;WS\n0031;;;;EN\n0032;;;;EN\n05D0;;;;R\n05D1;;;;R\n05D2;;;;R\n";
 
-/// The characters of a text.
-fn characters(alloc: Global, text: &str) -> Result<ListOf<Ch>, Memory> {
-    let mut list = ListOf::new(alloc);
-    for c in text.chars() {
-        list.push(Ch::scalar(c))?;
-    }
-    Ok(list)
-}
-
-/// A buffer with a text.
-fn buffer(alloc: Global, text: &[Ch]) -> Result<BufferState, Fail> {
-    let mut state = BufferState::new(alloc)?;
-    state.text.insert(1, text)?;
-    Ok(state)
-}
-
 /// A buffer with a text, and the classes above.
 fn scenery(alloc: Global, text: &str) -> Result<Scenery, Fail> {
-    let list = characters(alloc, text)?;
-    let state = buffer(alloc, list.as_slice())?;
-    Scenery::with_classes(alloc, state, Objects::new(alloc)?, CLASSES)
+    let mut scenery = Scenery::with_classes(alloc, CLASSES)?;
+    put_text(&mut scenery.state, alloc, text)?;
+    Ok(scenery)
 }
 
 /// Where a step to the right or to the left leads from a position, and 0 where it leads nowhere.
@@ -82,14 +66,18 @@ const STEPS: [(Pos, Pos, Pos); 11] = [
     (11, 10, 0),
 ];
 
+/// Asserts where steps lead in those lines.
+fn assert_steps(rt: &impl Abort, alloc: Global, view: &View) {
+    for (pos, to_right, to_left) in &STEPS {
+        assert_at(rt, *pos, leads(alloc, view, *pos, true, *to_right));
+        assert_at(rt, *pos, leads(alloc, view, *pos, false, *to_left));
+    }
+}
+
 #[test]
 fn steps_follow_what_is_seen(rt: HostRuntime) -> Result<(), Fail> {
     let scenery = scenery(rt.alloc(), "a\u{5d0}\u{5d1}b\n\n\u{5d0}12\n")?;
-    let view = scenery.view();
-    for (pos, to_right, to_left) in &STEPS {
-        assert_at(&rt, *pos, leads(rt.alloc(), &view, *pos, true, *to_right));
-        assert_at(&rt, *pos, leads(rt.alloc(), &view, *pos, false, *to_left));
-    }
+    assert_steps(&rt, rt.alloc(), &scenery.view());
     Ok(())
 }
 
@@ -190,16 +178,22 @@ fn shows<L: Ledger>(alloc: Global, view: &View, wrap: Wrap, texts: &[&str], blan
     }
 }
 
+/// The rows of a line of 15 characters where it is cut.
+const CUT: [&'static str; 1] = ["the quick b$"];
+
+/// Those where it is continued.
+const CONTINUED: [&'static str; 2] = ["the quick b\\", "rown        "];
+
+/// Those where it is continued by words.
+const BY_WORDS: [&'static str; 2] = ["the quick   ", "brown       "];
+
 #[test]
 fn long_lines_are_cut(rt: HostRuntime) -> Result<(), Fail> {
     let scenery = scenery(rt.alloc(), "the quick brown\nfox")?;
     let view = scenery.view();
-    let cut = ["the quick b$"];
-    let continued = ["the quick b\\", "rown        "];
-    let by_words = ["the quick   ", "brown       "];
-    assert!(rt; shows::<Brand>(rt.alloc(), &view, Wrap::Truncate, &cut, Blank::new(1)));
-    assert!(rt; shows::<Brand>(rt.alloc(), &view, Wrap::Continue, &continued, Blank::new(1)));
-    assert!(rt; shows::<Brand>(rt.alloc(), &view, Wrap::Word, &by_words, Blank::new(1)));
+    assert!(rt; shows::<Brand>(rt.alloc(), &view, Wrap::Truncate, &CUT, Blank::new(1)));
+    assert!(rt; shows::<Brand>(rt.alloc(), &view, Wrap::Continue, &CONTINUED, Blank::new(1)));
+    assert!(rt; shows::<Brand>(rt.alloc(), &view, Wrap::Word, &BY_WORDS, Blank::new(1)));
     Ok(())
 }
 

@@ -362,8 +362,36 @@ fn assert_unshared(rt: &impl Abort, state: &mut State, alloc: Global) {
 
 #[test]
 fn one_row_is_not_shared(rt: HostRuntime) -> Result<(), Fail> {
-    let mut state = State::new(rt.alloc())?;
-    assert_unshared(&rt, &mut state, rt.alloc());
+    assert_in_new(&rt, rt.alloc(), Limit::Rows)
+}
+
+/// What a state has only so much of.
+#[derive(Clone, Copy)]
+enum Limit {
+    Rows,
+    Buffers,
+    Windows,
+    Objects,
+    Overlays,
+    Characters,
+}
+
+/// Asserts what an opening state takes up to a limit, and what it refuses there.
+fn assert_limit(rt: &impl Abort, state: &mut State, alloc: Global, limit: Limit) {
+    match limit {
+        Limit::Rows => assert_unshared(rt, state, alloc),
+        Limit::Buffers => assert_64_buffers(rt, state, alloc),
+        Limit::Windows => assert_64_windows(rt, state, alloc),
+        Limit::Objects => assert_all_objects(rt, state, alloc),
+        Limit::Overlays => assert_65_536_overlays(rt, state, alloc),
+        Limit::Characters => assert_all_characters(rt, state, alloc),
+    }
+}
+
+/// Asserts the same of a new state; it is made here alone, since to drop it takes long to prove.
+fn assert_in_new(rt: &impl Abort, alloc: Global, limit: Limit) -> Result<(), Fail> {
+    let mut state = State::new(alloc)?;
+    assert_limit(rt, &mut state, alloc, limit);
     Ok(())
 }
 
@@ -430,9 +458,7 @@ fn assert_64_buffers(rt: &impl Abort, state: &mut State, alloc: Global) {
 
 #[test]
 fn there_are_64_buffers(rt: HostRuntime) -> Result<(), Fail> {
-    let mut state = State::new(rt.alloc())?;
-    assert_64_buffers(&rt, &mut state, rt.alloc());
-    Ok(())
+    assert_in_new(&rt, rt.alloc(), Limit::Buffers)
 }
 
 /// Whether a state splits a window, which keeps three rows.
@@ -483,9 +509,7 @@ fn assert_64_windows(rt: &impl Abort, state: &mut State, alloc: Global) {
 
 #[test]
 fn there_are_64_windows(rt: HostRuntime) -> Result<(), Fail> {
-    let mut state = State::new(rt.alloc())?;
-    assert_64_windows(&rt, &mut state, rt.alloc());
-    Ok(())
+    assert_in_new(&rt, rt.alloc(), Limit::Windows)
 }
 
 /// What a state with all objects refuses.
@@ -547,9 +571,7 @@ fn assert_all_objects(rt: &impl Abort, state: &mut State, alloc: Global) {
 
 #[test]
 fn objects_are_limited(rt: HostRuntime) -> Result<(), Fail> {
-    let mut state = State::new(rt.alloc())?;
-    assert_all_objects(&rt, &mut state, rt.alloc());
-    Ok(())
+    assert_in_new(&rt, rt.alloc(), Limit::Objects)
 }
 
 /// What a state refuses whose first buffer had all its overlays.
@@ -579,9 +601,7 @@ fn assert_65_536_overlays(rt: &impl Abort, state: &mut State, alloc: Global) {
 
 #[test]
 fn there_are_65_536_overlays(rt: HostRuntime) -> Result<(), Fail> {
-    let mut state = State::new(rt.alloc())?;
-    assert_65_536_overlays(&rt, &mut state, rt.alloc());
-    Ok(())
+    assert_in_new(&rt, rt.alloc(), Limit::Overlays)
 }
 
 /// Whether a state types so many characters `a`.
@@ -637,7 +657,5 @@ fn assert_all_characters(rt: &impl Abort, state: &mut State, alloc: Global) {
 
 #[test]
 fn texts_have_4_194_304_characters(rt: HostRuntime) -> Result<(), Fail> {
-    let mut state = State::new(rt.alloc())?;
-    assert_all_characters(&rt, &mut state, rt.alloc());
-    Ok(())
+    assert_in_new(&rt, rt.alloc(), Limit::Characters)
 }

@@ -25,16 +25,26 @@ pub fn is_spelled(list: &ListOf<Ch>, text: &str) -> bool {
     i == list.len()
 }
 
-/// Whether a fault is one of this kind, at this key.
-fn is_fault(fault: &OpFault, kind: &str, key: &str) -> bool {
+/// The kind of a fault.
+fn kind_of(fault: &OpFault) -> &'static str {
     match fault {
-        OpFault::NotJson => kind == "NotJson",
-        OpFault::NotObject => kind == "NotObject",
-        OpFault::NoSuchOp => kind == "NoSuchOp",
-        OpFault::Memory => kind == "Memory",
-        OpFault::Missing(name) => kind == "Missing" && is_spelled(name, key),
-        OpFault::BadField(name) => kind == "BadField" && is_spelled(name, key),
-        OpFault::Extra(name) => kind == "Extra" && is_spelled(name, key),
+        OpFault::NotJson => "NotJson",
+        OpFault::NotObject => "NotObject",
+        OpFault::NoSuchOp => "NoSuchOp",
+        OpFault::Memory => "Memory",
+        OpFault::Missing(_) => "Missing",
+        OpFault::BadField(_) => "BadField",
+        OpFault::Extra(_) => "Extra",
+    }
+}
+
+/// Whether a fault is at this key, where it is at one.
+fn is_at(fault: &OpFault, key: &str) -> bool {
+    match fault {
+        OpFault::Missing(name) => is_spelled(name, key),
+        OpFault::BadField(name) => is_spelled(name, key),
+        OpFault::Extra(name) => is_spelled(name, key),
+        _ => true,
     }
 }
 
@@ -47,7 +57,7 @@ pub fn faults(alloc: Global, line: &str, kind: &str, key: &str) -> bool {
 pub fn has_fault(alloc: Global, line: &[u8], kind: &str, key: &str) -> bool {
     match read_op(alloc, line) {
         Ok(_op) => false,
-        Err(fault) => is_fault(&fault, kind, key),
+        Err(fault) => kind_of(&fault) == kind && is_at(&fault, key),
     }
 }
 

@@ -96,6 +96,20 @@ fn assert_sent(rt: &impl Abort, trace: &Trace, sent: Result<Sent, WriteFault>, b
     assert!(rt; trace.sink.bytes() == bytes);
 }
 
+/// Asserts the same of two letters that are sent to an unknown screen, into a sink of so much room, where so many rows are allowed.
+fn assert_within(
+    rt: &impl Abort,
+    alloc: Global,
+    room: u64,
+    limit: Option<u32>,
+    sent: Result<Sent, WriteFault>,
+    bytes: &[u8],
+) -> Result<(), Memory> {
+    let trace = sent_within(alloc, room, limit)?;
+    assert_sent(rt, &trace, sent, bytes);
+    Ok(())
+}
+
 #[test]
 fn an_update_stops_after_so_many_rows(rt: HostRuntime) -> Result<(), Fail> {
     for (limit, rows, done, bytes) in &LIMITS {
@@ -103,7 +117,7 @@ fn an_update_stops_after_so_many_rows(rt: HostRuntime) -> Result<(), Fail> {
             rows: *rows,
             done: *done,
         };
-        assert_sent(&rt, &sent_within(rt.alloc(), 64, *limit)?, Ok(sent), bytes);
+        assert_within(&rt, rt.alloc(), 64, *limit, Ok(sent), bytes)?;
     }
     Ok(())
 }
@@ -114,17 +128,23 @@ fn fills(alloc: Global, limit: u32, filled: (bool, bool)) -> Result<bool, Memory
     Ok(are_filled(&trace.screen) == Some(filled))
 }
 
+/// A limit of rows, and whether the first two rows begin with a character then.
+const FILLED: [(u32, (bool, bool)); 3] = [
+    (0, (false, false)),
+    (1, (true, false)),
+    (2, (true, true)),
+];
+
 #[test]
 fn rows_that_were_not_sent_stay_blank(rt: HostRuntime) -> Result<(), Fail> {
-    for (limit, filled) in [(0, (false, false)), (1, (true, false)), (2, (true, true))] {
-        assert!(rt; fills(rt.alloc(), limit, filled)?);
+    for (limit, filled) in &FILLED {
+        assert!(rt; fills(rt.alloc(), *limit, *filled)?);
     }
     Ok(())
 }
 
 #[test]
 fn a_sink_without_room_is_a_fault(rt: HostRuntime) -> Result<(), Fail> {
-    let trace = sent_within(rt.alloc(), 10, None)?;
-    assert_sent(&rt, &trace, Err(WriteFault), b"\x1b[0m\x1b[2J\x1b[");
-    Ok(())
+    let bytes = b"\x1b[0m\x1b[2J\x1b[";
+    Ok(assert_within(&rt, rt.alloc(), 10, None, Err(WriteFault), bytes)?)
 }

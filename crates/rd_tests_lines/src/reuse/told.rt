@@ -12,15 +12,21 @@ fn tell_number(text: &mut Vec<u8>, number: u32) -> Result<(), Memory> {
     Ok(())
 }
 
+/// Adds so many blanks.
+fn tell_blanks(text: &mut Vec<u8>, count: u32) -> Result<(), Memory> {
+    for _ in 0..count {
+        text.push(b' ')?;
+    }
+    Ok(())
+}
+
 /// Adds what cells show, without the blanks behind it.
 fn tell_cells(text: &mut Vec<u8>, cells: &[Cell]) -> Result<(), Memory> {
     let mut blanks = 0u32;
     for cell in cells {
         match cell {
             Cell::First(glyph, _) => {
-                for _ in 0..blanks {
-                    text.push(b' ')?;
-                }
+                tell_blanks(text, blanks)?;
                 blanks = 0;
                 text.push((glyph.base % 128) as u8)?;
             }
@@ -45,11 +51,16 @@ fn tell_row(text: &mut Vec<u8>, entry: &Entry) -> Result<(), Memory> {
     Ok(())
 }
 
-/// Whether rows are these.
-pub fn is_told(alloc: Global, matrix: &Matrix, rows: &str) -> Result<bool, Memory> {
-    let mut text = Vec::new(alloc);
+/// Adds a line for each row.
+fn tell_rows(text: &mut Vec<u8>, matrix: &Matrix) -> Result<(), Memory> {
     for place in 0..matrix.len() {
-        tell_row(&mut text, matrix.entry(place))?;
+        tell_row(text, matrix.entry(place))?;
     }
-    Ok(text.as_slice() == rows.as_bytes())
+    Ok(())
+}
+
+/// Whether rows are these.
+pub fn is_told(alloc: Global, matrix: &Matrix, rows: &str) -> bool {
+    let mut text = Vec::new(alloc);
+    tell_rows(&mut text, matrix).is_ok() && text.as_slice() == rows.as_bytes()
 }

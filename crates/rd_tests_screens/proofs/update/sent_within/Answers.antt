@@ -1,4 +1,4 @@
-use Rattle.std.proofs.Common.{◌≡◌, None}
+use Rattle.std.proofs.Common.{None}
 use Rattle.rd_tests_screens.proofs.update.sent_within.Goals as goal
 
 pub after-requires-clause-sent : goal.after-requires-clause-sent
