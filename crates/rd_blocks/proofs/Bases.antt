@@ -1,9 +1,9 @@
 -- The base level of a block is 0 or 1.
-use Rattle.std.proofs.Common.{ℕ, zero, suc, ◌+◌, ◌-◌, ◌≤◌, Bool, true, false, not, ◌||◌, List, [], ◌∷◌, length, map, replicate, All, inl, inr, Option, None, Some, subst, sym, arith}
-use Rattle.std.specs.Prelude.{if◌then◌else◌, slice_index}
+use Rattle.std.proofs.Common.{ℕ, zero, suc, ◌+◌, ◌-◌, ◌≤◌, Bool, false, not, ◌||◌, List, [], ◌∷◌, length, map, replicate, All, inl, inr, Option, None, Some, subst, sym, arith}
+use Rattle.std.specs.Prelude.{slice_index}
 use Rattle.std.specs.Option.{unwrap_or}
 use Rattle.std.specs.List.{slice_split}
-use Rattle.std.proofs.lemmas.Bool.{cases_lt}
+use Rattle.std.proofs.lemmas.Bool.{cases_lt, cond_both}
 use Rattle.std.proofs.lemmas.List.{get_or_past}
 use Rattle.std.proofs.lemmas.List.Elements.{All-nil, All-append, All-replicate}
 use Rattle.rd_base.specs.Classes.{strong_level}
@@ -75,29 +75,22 @@ first-low : (a b : Option ℕ) → IsLow a → IsLow b → IsLow (first_of a b)
 first-low None b h k = k
 first-low (Some level) b h k = h
 
-none-if : (b : Bool) (o : Option ℕ) → IsLow o → IsLow (if b then None else o)
-none-if true o h = tt
-none-if false o h = h
-
 decided-low : (classes : List Span) (lines : List (List ℕ)) → IsLow (decided classes lines)
 decided-low classes [] = tt
 decided-low classes (line ∷ lines) =
-    none-if (is_separator line) (first_of (line_level classes line) (decided classes lines))
-    (first-low (line_level classes line) (decided classes lines) (strong-low 0 (map (class_of classes) line)) (decided-low classes lines))
+    cond_both (is_separator line) None (first_of (line_level classes line) (decided classes lines)) IsLow (λ _. tt)
+    (λ _. first-low (line_level classes line) (decided classes lines) (strong-low 0 (map (class_of classes) line)) (decided-low classes lines))
 
 else-low : (o : Option ℕ) → IsLow o → unwrap_or o 0 ≤ 1
 else-low None h = omega arith
 else-low (Some level) h = h
 
-if-low : (b : Bool) (x y : ℕ) → x ≤ 1 → y ≤ 1 → (if b then x else y) ≤ 1
-if-low true x y h k = h
-if-low false x y h k = k
-
 levels-low : (classes : List Span) (last : ℕ) (inside : Bool) (lines : List (List ℕ)) → last ≤ 1 → All (λ (n : ℕ). n ≤ 1) (levels_of classes last inside lines)
 levels-low classes last inside [] h = All-nil (λ (n : ℕ). n ≤ 1)
 levels-low classes last inside (line ∷ lines) h =
     let level = level_by classes last inside line lines in
-    let low : level ≤ 1 = if-low (is_separator line || inside) last (unwrap_or (decided classes (line ∷ lines)) 0) h (else-low (decided classes (line ∷ lines)) (decided-low classes (line ∷ lines))) in
+    let low : level ≤ 1 =
+    cond_both (is_separator line || inside) last (unwrap_or (decided classes (line ∷ lines)) 0) (λ n. n ≤ 1) (λ _. h) (λ _. else-low (decided classes (line ∷ lines)) (decided-low classes (line ∷ lines))) in
     All-append (λ (n : ℕ). n ≤ 1) (replicate (length line + 1) level) (levels_of classes level (not (is_separator line)) lines)
     (All-replicate (λ (n : ℕ). n ≤ 1) (length line + 1) level low) (levels-low classes level (not (is_separator line)) lines low)
 
@@ -118,4 +111,5 @@ base_at-low classes t Left pos = omega arith
 base_at-low classes t Right pos = omega arith
 
 pub base-low : (classes : List Span) (s : BufferValue) (start : ℕ) → block_base classes s start ≤ 1
-base-low classes s start = if-low s.settings.reorder (base_at classes s.text s.settings.direction start) 0 (base_at-low classes s.text s.settings.direction start) (omega arith)
+base-low classes s start =
+    cond_both s.settings.reorder (base_at classes s.text s.settings.direction start) 0 (λ n. n ≤ 1) (λ _. base_at-low classes s.text s.settings.direction start) (λ _. omega arith)

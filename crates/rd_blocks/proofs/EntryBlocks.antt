@@ -1,8 +1,9 @@
 -- The blocks of rows that stand under a start and a number.
-use Rattle.std.proofs.Common.{◌≡◌, ℕ, zero, suc, ◌+◌, ◌<◌, ◌≤◌, Bool, true, false, List, [], ◌∷◌, All, Some, refl, sym, ap, subst, ◌∙◌, arith}
+use Rattle.std.proofs.Common.{◌≡◌, ℕ, suc, ◌+◌, Bool, true, false, List, [], ◌∷◌, All, Some, refl, sym, ap, subst, ◌∙◌, arith}
 use Rattle.std.specs.Prelude.{cond, find, slice_get, take, drop}
 use Rattle.std.proofs.lemmas.List.Elements.{All-nil, All-cons, All-append, All-head, All-tail, All-take, All-drop}
 use Rattle.std.proofs.lemmas.Option.{slice_get_within, get_or_from_slice_get, same_Some}
+use Rattle.rd_matrix.proofs.HeldLemmas.{same-place}
 use Rattle.rd_matrix.specs.Blocks.{IsAmong, StandFrom}
 use Rattle.rd_matrix.specs.Entries.{EntryMeaning, shown_entry, shown_entries, numbered, entries_of, all_rows}
 use Rattle.rd_matrix.specs.Sources.{SourceValues, rows_at}
@@ -62,28 +63,9 @@ row-block m shape es k e all found =
     let place = all-at (λ (x : Entry). (i : ℕ) × (slice_get (rows_at m shape) i ≡ Some (shown_entry x))) es k e all found in
     all-at (IsRowOf (λ b. m.rows_of b shape) m.blocks) (rows_at m shape) place.0 (shown_entry e) (rows-among (λ b. m.rows_of b shape) m.blocks m.blocks (λ b h. h)) place.1
 
--- ---- blocks that start at one position are one
-
-starts-from : (from k : ℕ) (bs : List Block) (b : Block) → StandFrom from bs → slice_get bs k ≡ Some b → from ≤ b.start
-starts-from from k [] b stand e = absurd cc
-starts-from from zero (d ∷ bs) b stand e =
-    let here : d ≡ b = same_Some d b e in
-    let start : d.start ≡ b.start = ap (λ (x : Block). x.start) here in
-    omega (arith, stand.0)
-starts-from from (suc k) (d ∷ bs) b stand e = let rest = starts-from d.end k bs b stand.2 e in omega (arith, stand.0, stand.1)
-
-later-start : (from k : ℕ) (bs : List Block) (d a b : Block) → StandFrom from (d ∷ bs) → d ≡ a → slice_get bs k ≡ Some b → a.start < b.start
-later-start from k bs d a b stand here e =
-    let start : d.start ≡ a.start = ap (λ (x : Block). x.start) here in
-    let rest = starts-from d.end k bs b stand.2 e in
-    omega (arith, stand.1)
-
+-- blocks that start at one position are one
 pub same-start : (from j k : ℕ) (bs : List Block) (a b : Block) → StandFrom from bs → slice_get bs j ≡ Some a → slice_get bs k ≡ Some b → a.start ≡ b.start → a ≡ b
-same-start from j k [] a b stand e f start = absurd cc
-same-start from zero zero (d ∷ bs) a b stand e f start = sym (same_Some d a e) ∙ same_Some d b f
-same-start from zero (suc k) (d ∷ bs) a b stand e f start = let later = later-start from k bs d a b stand (same_Some d a e) f in absurd (omega arith)
-same-start from (suc j) zero (d ∷ bs) a b stand e f start = let later = later-start from j bs d b a stand (same_Some d b f) e in absurd (omega arith)
-same-start from (suc j) (suc k) (d ∷ bs) a b stand e f start = same-start d.end j k bs a b stand.2 e f start
+same-start from j k bs a b stand e f start = same_Some a b (sym e ∙ (ap (slice_get bs) (same-place from j k bs a b stand e f start) ∙ f))
 
 -- ---- rows one behind the other
 

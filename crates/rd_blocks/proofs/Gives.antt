@@ -1,20 +1,24 @@
--- What gives an element has one in its line.
-use Rattle.std.proofs.Common.{◌≡◌, ◌⊎◌, ℕ, suc, ◌+◌, ◌-◌, ◌<◌, ◌≤◌, Bool, true, false, cond, not, ◌||◌, List, [], ◌∷◌, ◌++◌, length, map, get_or, inl, inr, Option, None, Some, refl, ap, sym, ◌∙◌, subst, arith, nat_eq, length-append}
+-- What an item shows has elements exactly where it is said to give one.
+use Rattle.std.proofs.Common.{◌≡◌, ◌⊎◌, ℕ, suc, ◌+◌, ◌-◌, ◌<◌, ◌≤◌, Bool, true, false, cond, not, ◌||◌, List, [], ◌∷◌, ◌++◌, length, map, get_or, All, inl, inr, Option, None, Some, refl, ap, ap₂, sym, ◌∙◌, subst, arith, nat_eq, length-append}
 use Rattle.std.specs.Prelude.{is_some, if◌then◌else◌, slice_get, option_map}
 use Rattle.std.specs.Option.{unwrap_or}
 use Rattle.std.specs.List.{flat_map, range_with_len}
-use Rattle.std.proofs.lemmas.Bool.Decides.{nat_tests}
-use Rattle.std.proofs.lemmas.List.{length-map}
+use Rattle.std.proofs.lemmas.Bool.{cond-false, cond_both, eqb-true, not-true, or_cases, or_left, or_parts, or_right}
+use Rattle.std.proofs.lemmas.List.{append_assoc, length-map}
+use Rattle.std.proofs.Math.Seq.{get_or-append_seam}
+use Rattle.std.proofs.lemmas.Grind.{flat_map-append}
+use Rattle.std.proofs.lemmas.List.Elements.{All-append, All-cons, All-head, All-nil, All-tail}
 use Rattle.rd_base.specs.Faces.{Attributes}
 use Rattle.rd_base.specs.declared.cell.Glyph.{Glyph}
 use Rattle.rd_base.specs.declared.element.Element.{Element}
 use Rattle.rd_base.specs.declared.element.Origin.{Origin}
+use Rattle.rd_ucd.specs.Lookup.{class_of}
 use Rattle.rd_objects.specs.Tables.{TableValue}
 use Rattle.rd_objects.specs.Texts.{TextValue}
 use Rattle.rd_objects.specs.declared.run.Spec.TheVariants.{Text, Width, Align}
 use Rattle.rd_text.specs.Texts.{is_newline}
-use Rattle.rd_glyphs.specs.Characters.{PartValues, glyph_elements, entry_of, elements_of}
-use Rattle.rd_glyphs.specs.Joining.{is_empty_entry}
+use Rattle.rd_glyphs.specs.Characters.{PartValues, glyph_elements, entry_of, elements_by, elements_of, shown_as}
+use Rattle.rd_glyphs.specs.Joining.{is_empty_entry, base_of, joining_by}
 use Rattle.rd_glyphs.specs.Marks.{marked_glyph, marks_joined_from, marks_joined}
 use Rattle.rd_items.specs.Pieces.{Scene, gives_element, give_elements, string_gives, ellipsis_gives}
 use Rattle.rd_items.specs.Items.{kind_gives}
@@ -24,7 +28,7 @@ use Rattle.rd_levels.proofs.Turns.{total_in, each-turn}
 use Rattle.rd_levels.specs.Turns.{turns_of}
 use Rattle.rd_levels.specs.declared.turn.Turn.{Turn}
 use Rattle.rd_order.proofs.Once.{is_place, once-at-least}
-use Rattle.rd_stack.specs.Strings.{place_of, run_heads, ends_row, part_of, part_joins, part_class, part_code, shown_by, shown_at, in_order, row, row_end, rows_from}
+use Rattle.rd_stack.specs.Strings.{place_of, run_heads, ends_row, part_by, part_of, part_joins, part_class, part_code, shown_by, shown_at, in_order, row, row_end, rows_from, string_parts}
 use Rattle.rd_stack.specs.Shown.{kind_elements, display_part_elements, display_elements}
 use Rattle.rd_stack.specs.Lines.{ellipsis_glyphs, item_elements_by}
 use Rattle.rd_stack.specs.declared.part.Place.{Place}
@@ -32,9 +36,10 @@ use Rattle.rd_stack.specs.declared.part.Part.{Part}
 use Rattle.rd_stack.specs.declared.part.Shown.{Shown}
 use Rattle.rd_stack.specs.declared.part.PartKind.{PartKind}
 use Rattle.rd_stack.specs.declared.part.PartKind.TheVariants as kind
+use Rattle.rd_blocks.proofs.EntryBlocks.{all-at}
 
 -- the law of characters that give an element
-abbrev pub CharactersGive : Type 0
+abbrev CharactersGive : Type 0
 CharactersGive = (parts : PartValues) (ch : ℕ) (odd : Bool) (face : Attributes) (origin : Origin) → is_empty_entry (entry_of parts.table ch) ≡ false → 1 ≤ length (elements_of parts ch odd face origin)
 
 -- what a part shows gives an element
@@ -47,22 +52,6 @@ part_gives s kind.RowEnd = true
 abbrev some_gives : Scene → List Part → Bool
 some_gives s [] = false
 some_gives s (x ∷ xs) = part_gives s x.kind || some_gives s xs
-
-not-true : (b : Bool) → not b ≡ true → b ≡ false
-not-true true h = cc
-not-true false h = refl
-
-or-parts : (a b : Bool) → (a || b) ≡ true → (a ≡ true) ⊎ (b ≡ true)
-or-parts true b h = inl refl
-or-parts false b h = inr h
-
-or-left : (a b : Bool) → a ≡ true → (a || b) ≡ true
-or-left true b h = refl
-or-left false b h = cc
-
-or-right : (a b : Bool) → b ≡ true → (a || b) ≡ true
-or-right true b h = refl
-or-right false b h = h
 
 kind-some : CharactersGive → (s : Scene) (k : PartKind) (face : Attributes) (odd : Bool) (origin : Origin) → part_gives s k ≡ true → 1 ≤ length (kind_elements s k face odd origin)
 kind-some law s (kind.Char c) face odd origin h = law s.parts c odd face origin (not-true (is_empty_entry (entry_of s.parts.table c)) h)
@@ -92,12 +81,9 @@ back-more f (x ∷ xs) ys h = some-back (f x) (flat_map f (xs ++ ys)) (back-more
 
 -- a part of a row in its turn
 
-same-place : (k i : ℕ) → nat_eq k i ≡ true → i ≡ k
-same-place k i h = grind (arith, nat_tests)
-
 turn-by : {X : Type 0} (b : Bool) (f : X → List Element) (g : Turn → List X) (k : ℕ) (t : Turn) (ts : List Turn) → nat_eq k t.index ≡ b → 1 ≤ cond b 1 0 + total_in (is_place k) ts
     → ((t : Turn) → t.index ≡ k → 1 ≤ length (flat_map f (g t))) → (1 ≤ total_in (is_place k) ts → 1 ≤ length (flat_map f (flat_map g ts))) → 1 ≤ length (flat_map f (g t ++ flat_map g ts))
-turn-by true f g k t ts h there some later = front-more f (g t) (flat_map g ts) (some t (same-place k t.index h))
+turn-by true f g k t ts h there some later = front-more f (g t) (flat_map g ts) (some t (sym (eqb-true k t.index h)))
 turn-by false f g k t ts h there some later = back-more f (g t) (flat_map g ts) (later (omega (arith, there)))
 
 turn-some : {X : Type 0} (f : X → List Element) (g : Turn → List X) (k : ℕ) (ts : List Turn) → 1 ≤ total_in (is_place k) ts
@@ -128,7 +114,7 @@ gives-by s x xs (inr h) later =
 
 gives-at : (s : Scene) (xs : List Part) → some_gives s xs ≡ true → GivesAt s xs
 gives-at s [] h = absurd (let q : false ≡ true = h in cc)
-gives-at s (x ∷ xs) h = gives-by s x xs (or-parts (part_gives s x.kind) (some_gives s xs) h) (gives-at s xs)
+gives-at s (x ∷ xs) h = gives-by s x xs (or_cases (part_gives s x.kind) (some_gives s xs) h) (gives-at s xs)
 
 order-some : CharactersGive → (s : Scene) (base : ℕ) (origin : Origin) (xs : List Part) → some_gives s xs ≡ true → 1 ≤ length (flat_map (display_part_elements s origin) (in_order s base xs))
 order-some law s base origin xs h =
@@ -150,27 +136,27 @@ held-gives : (s : Scene) (held x : Part) (m : Option Glyph) (rest : List Part)
     → ((y : Part) → (part_gives s y.kind ≡ true) ⊎ (some_gives s rest ≡ true) → some_gives s (marks_joined_from part_joins y rest) ≡ true)
     → some_gives s ((if is_some (option_map (λ glyph. part_joins.grown held glyph x) m) then [] else held ∷ []) ++ marks_joined_from part_joins (unwrap_or (option_map (λ glyph. part_joins.grown held glyph x) m) x) rest) ≡ true
 held-gives s held x (Some g) rest h later = later (part_joins.grown held g x) (inl refl)
-held-gives s held x None rest (inl h) later = or-left (part_gives s held.kind) (some_gives s (marks_joined_from part_joins x rest)) h
-held-gives s held x None rest (inr h) later = or-right (part_gives s held.kind) (some_gives s (marks_joined_from part_joins x rest)) (later x (or-parts (part_gives s x.kind) (some_gives s rest) h))
+held-gives s held x None rest (inl h) later = or_left (part_gives s held.kind) (some_gives s (marks_joined_from part_joins x rest)) h
+held-gives s held x None rest (inr h) later = or_right (part_gives s held.kind) (some_gives s (marks_joined_from part_joins x rest)) (later x (or_cases (part_gives s x.kind) (some_gives s rest) h))
 
 marks_joined_from-gives : (s : Scene) (held : Part) (xs : List Part) → (part_gives s held.kind ≡ true) ⊎ (some_gives s xs ≡ true) → some_gives s (marks_joined_from part_joins held xs) ≡ true
-marks_joined_from-gives s held [] (inl h) = or-left (part_gives s held.kind) false h
+marks_joined_from-gives s held [] (inl h) = or_left (part_gives s held.kind) false h
 marks_joined_from-gives s held [] (inr h) = absurd (let q : false ≡ true = h in cc)
 marks_joined_from-gives s held (x ∷ xs) h = held-gives s held x (marked_glyph (part_joins.base held) (part_joins.mark x)) xs h (λ y. marks_joined_from-gives s y xs)
 
 marks_joined-gives : (s : Scene) (xs : List Part) → some_gives s xs ≡ true → some_gives s (marks_joined part_joins xs) ≡ true
 marks_joined-gives s [] h = h
-marks_joined-gives s (x ∷ xs) h = marks_joined_from-gives s x xs (or-parts (part_gives s x.kind) (some_gives s xs) h)
+marks_joined-gives s (x ∷ xs) h = marks_joined_from-gives s x xs (or_cases (part_gives s x.kind) (some_gives s xs) h)
 
 append-by : (s : Scene) (x : Part) (xs ys : List Part) → (part_gives s x.kind ≡ true) ⊎ (some_gives s xs ≡ true) → (some_gives s xs ≡ true → some_gives s (xs ++ ys) ≡ true) → some_gives s (x ∷ (xs ++ ys)) ≡ true
-append-by s x xs ys (inl h) later = or-left (part_gives s x.kind) (some_gives s (xs ++ ys)) h
-append-by s x xs ys (inr h) later = or-right (part_gives s x.kind) (some_gives s (xs ++ ys)) (later h)
+append-by s x xs ys (inl h) later = or_left (part_gives s x.kind) (some_gives s (xs ++ ys)) h
+append-by s x xs ys (inr h) later = or_right (part_gives s x.kind) (some_gives s (xs ++ ys)) (later h)
 
 gives-append : (s : Scene) (xs ys : List Part) → (some_gives s xs ≡ true) ⊎ (some_gives s ys ≡ true) → some_gives s (xs ++ ys) ≡ true
 gives-append s [] ys (inl h) = absurd (let q : false ≡ true = h in cc)
 gives-append s [] ys (inr h) = h
-gives-append s (x ∷ xs) ys (inl h) = append-by s x xs ys (or-parts (part_gives s x.kind) (some_gives s xs) h) (λ k. gives-append s xs ys (inl k))
-gives-append s (x ∷ xs) ys (inr h) = or-right (part_gives s x.kind) (some_gives s (xs ++ ys)) (gives-append s xs ys (inr h))
+gives-append s (x ∷ xs) ys (inl h) = append-by s x xs ys (or_cases (part_gives s x.kind) (some_gives s xs) h) (λ k. gives-append s xs ys (inl k))
+gives-append s (x ∷ xs) ys (inr h) = or_right (part_gives s x.kind) (some_gives s (xs ++ ys)) (gives-append s xs ys (inr h))
 
 -- the rows of a string whose display runs are not used
 
@@ -186,10 +172,6 @@ abbrev char_gives : Scene → TextValue → List ℕ → Bool
 char_gives s text [] = false
 char_gives s text (i ∷ is) = gives_element s.parts.table (get_or text.chars i 0) || char_gives s text is
 
-rows-by : (b : Bool) (f : Shown → List Element) (xs ys : List Shown) → (b ≡ true → 1 ≤ length (flat_map f xs)) → (b ≡ false → 1 ≤ length (flat_map f ys)) → 1 ≤ length (flat_map f (if b then xs else ys))
-rows-by true f xs ys h k = h refl
-rows-by false f xs ys h k = k refl
-
 newline-not : (newline gives : Bool) → newline ≡ false → (newline || gives) ≡ true → gives ≡ true
 newline-not true gives e h = cc
 newline-not false gives e h = h
@@ -198,14 +180,14 @@ go-by : (s : Scene) (xs : List Part) (text : TextValue) (under : Attributes) (i 
     → (gives_element s.parts.table (get_or text.chars i 0) ≡ true) ⊎ (char_gives s text is ≡ true) → (some_gives s (xs ++ part_of s (bare_place text under i) ∷ []) ≡ true) ⊎ (char_gives s text is ≡ true)
 go-by s xs text under i is e (inr h) = inr h
 go-by s xs text under i is e (inl h) =
-    inl (gives-append s xs (part_of s (bare_place text under i) ∷ []) (inr (or-left (not (is_empty_entry (entry_of s.parts.table (get_or text.chars i 0)))) false
+    inl (gives-append s xs (part_of s (bare_place text under i) ∷ []) (inr (or_left (not (is_empty_entry (entry_of s.parts.table (get_or text.chars i 0)))) false
     (newline-not (is_newline (get_or text.chars i 0)) (not (is_empty_entry (entry_of s.parts.table (get_or text.chars i 0)))) e h))))
 
 -- a place that ends no row goes to the parts
 go-on : (s : Scene) (xs : List Part) (text : TextValue) (under : Attributes) (i : ℕ) (is : List ℕ) → ends_row (bare_place text under i) ≡ false
     → (some_gives s xs ≡ true) ⊎ (char_gives s text (i ∷ is) ≡ true) → (some_gives s (xs ++ part_of s (bare_place text under i) ∷ []) ≡ true) ⊎ (char_gives s text is ≡ true)
 go-on s xs text under i is e (inl h) = inl (gives-append s xs (part_of s (bare_place text under i) ∷ []) (inl h))
-go-on s xs text under i is e (inr h) = go-by s xs text under i is e (or-parts (gives_element s.parts.table (get_or text.chars i 0)) (char_gives s text is) h)
+go-on s xs text under i is e (inr h) = go-by s xs text under i is e (or_cases (gives_element s.parts.table (get_or text.chars i 0)) (char_gives s text is) h)
 
 rows-some : CharactersGive → (s : Scene) (base : ℕ) (origin : Origin) (text : TextValue) (under : Attributes) (xs : List Part) (is : List ℕ)
     → (some_gives s xs ≡ true) ⊎ (char_gives s text is ≡ true) → 1 ≤ length (flat_map (display_part_elements s origin) (rows_from s base xs (map (bare_place text under) is)))
@@ -213,41 +195,34 @@ rows-some law s base origin text under xs [] (inl h) = order-some law s base ori
 rows-some law s base origin text under xs [] (inr h) = absurd (let q : false ≡ true = h in cc)
 rows-some law s base origin text under xs (i ∷ is) h =
     let p = bare_place text under i in
-    rows-by (ends_row p) (display_part_elements s origin) (row s base xs ++ row_end p.face ∷ rows_from s base [] (map (bare_place text under) is)) (rows_from s base (xs ++ part_of s p ∷ []) (map (bare_place text under) is))
+    cond_both (ends_row p) (row s base xs ++ row_end p.face ∷ rows_from s base [] (map (bare_place text under) is)) (rows_from s base (xs ++ part_of s p ∷ []) (map (bare_place text under) is))
+    (λ (ys : List Shown). 1 ≤ length (flat_map (display_part_elements s origin) ys))
     (λ e. back-more (display_part_elements s origin) (row s base xs) (row_end p.face ∷ rows_from s base [] (map (bare_place text under) is)) (omega arith))
     (λ e. rows-some law s base origin text under (xs ++ part_of s p ∷ []) is (go-on s xs text under i is e h))
 
-get-behind : (front : List ℕ) (c : ℕ) (cs : List ℕ) → get_or (front ++ c ∷ cs) (length front) 0 ≡ c
-get-behind [] c cs = refl
-get-behind (x ∷ xs) c cs = get-behind xs c cs
-
 get-at : (front : List ℕ) (c : ℕ) (cs all : List ℕ) → all ≡ front ++ c ∷ cs → get_or all (length front) 0 ≡ c
-get-at front c cs all is = ap (λ xs. get_or xs (length front) 0) is ∙ get-behind front c cs
+get-at front c cs all is = ap (λ xs. get_or xs (length front) 0) is ∙ get_or-append_seam front c cs 0
 
 size-more : (front : List ℕ) (c : ℕ) → length (front ++ c ∷ []) ≡ length front + 1
 size-more front c = length-append front (c ∷ [])
 
-one-behind : (front : List ℕ) (c : ℕ) (cs : List ℕ) → front ++ c ∷ cs ≡ (front ++ c ∷ []) ++ cs
-one-behind [] c cs = refl
-one-behind (x ∷ xs) c cs = ap (λ l. x ∷ l) (one-behind xs c cs)
+-- the characters of a string by their places
+chars-are : (s : Scene) (text : TextValue) (chars front : List ℕ) → text.chars ≡ front ++ chars → char_gives s text (range_with_len (length front) (length chars)) ≡ give_elements s.parts.table chars
+chars-are s text [] front is = refl
+chars-are s text (c ∷ cs) front is =
+    ap₂ ◌||◌ (ap (gives_element s.parts.table) (get-at front c cs text.chars is))
+    (subst (λ n. char_gives s text (range_with_len n (length cs)) ≡ give_elements s.parts.table cs) (size-more front c) (chars-are s text cs (front ++ c ∷ []) (is ∙ sym (append_assoc front (c ∷ []) cs))))
 
-chars-by : (s : Scene) (text : TextValue) (c : ℕ) (cs : List ℕ) (n : ℕ) → get_or text.chars n 0 ≡ c → (gives_element s.parts.table c ≡ true) ⊎ (give_elements s.parts.table cs ≡ true)
-    → (give_elements s.parts.table cs ≡ true → char_gives s text (range_with_len (n + 1) (length cs)) ≡ true) → char_gives s text (n ∷ range_with_len (n + 1) (length cs)) ≡ true
-chars-by s text c cs n is (inl h) later = or-left (gives_element s.parts.table (get_or text.chars n 0)) (char_gives s text (range_with_len (n + 1) (length cs))) (ap (gives_element s.parts.table) is ∙ h)
-chars-by s text c cs n is (inr h) later = or-right (gives_element s.parts.table (get_or text.chars n 0)) (char_gives s text (range_with_len (n + 1) (length cs))) (later h)
-
-chars-at : (s : Scene) (text : TextValue) (chars front : List ℕ) → text.chars ≡ front ++ chars → give_elements s.parts.table chars ≡ true → char_gives s text (range_with_len (length front) (length chars)) ≡ true
-chars-at s text [] front is h = h
-chars-at s text (c ∷ cs) front is h =
-    chars-by s text c cs (length front) (get-at front c cs text.chars is) (or-parts (gives_element s.parts.table c) (give_elements s.parts.table cs) h)
-    (λ k. subst (λ n. char_gives s text (range_with_len n (length cs)) ≡ true) (size-more front c) (chars-at s text cs (front ++ c ∷ []) (is ∙ one-behind front c cs) k))
+parts-are : (s : Scene) (base : ℕ) (text : TextValue) (under : Attributes) → string_parts s base false text under ≡ rows_from s base [] (map (bare_place text under) (range_with_len 0 (length text.chars)))
+parts-are s base text under =
+    let size : length text.chars - 0 ≡ length text.chars = omega arith in
+    ap (rows_from s base []) (bare-heads text under (range_with_len 0 (length text.chars - 0)) ∙ ap (λ n. map (bare_place text under) (range_with_len 0 n)) size)
 
 string-some : CharactersGive → (s : Scene) (base : ℕ) (origin : Origin) (under : Attributes) (text : Option TextValue) → string_gives s.parts.table text ≡ true → 1 ≤ length (display_elements s base origin under text)
 string-some law s base origin under None h = absurd (let q : false ≡ true = h in cc)
 string-some law s base origin under (Some text) h =
-    let size : length text.chars ≡ length text.chars - 0 = omega arith in
-    subst (λ (ps : List Place). 1 ≤ length (flat_map (display_part_elements s origin) (rows_from s base [] ps))) (sym (bare-heads text under (range_with_len 0 (length text.chars - 0))))
-    (rows-some law s base origin text under [] (range_with_len 0 (length text.chars - 0)) (inr (subst (λ n. char_gives s text (range_with_len 0 n) ≡ true) size (chars-at s text text.chars [] refl h))))
+    subst (λ (xs : List Shown). 1 ≤ length (flat_map (display_part_elements s origin) xs)) (sym (parts-are s base text under))
+    (rows-some law s base origin text under [] (range_with_len 0 (length text.chars)) (inr (chars-are s text text.chars [] refl ∙ h)))
 
 -- what an item shows
 
@@ -260,7 +235,11 @@ ellipsis-some : (table : Option TableValue) (face : Attributes) (origin : Origin
 ellipsis-some None face origin h = let e : 1 ≤ 3 = omega arith in e
 ellipsis-some (Some table) face origin h = glyphs-some table.ellipsis face origin h
 
-pub item-some : CharactersGive → (s : Scene) (base : ℕ) (k : ItemKind) (odd : Bool) (face : Attributes) (origin : Origin) → kind_gives s k ≡ true → 1 ≤ length (item_elements_by s base k false odd face origin)
+-- the law of items that give an element
+abbrev pub ItemsGive : Type 0
+ItemsGive = (s : Scene) (base : ℕ) (k : ItemKind) (odd : Bool) (face : Attributes) (origin : Origin) → kind_gives s k ≡ true → 1 ≤ length (item_elements_by s base k false odd face origin)
+
+pub item-some : CharactersGive → ItemsGive
 item-some law s base (item.Char c) odd face origin h = law s.parts c odd face origin (not-true (is_empty_entry (entry_of s.parts.table c)) h)
 item-some law s base (item.Marked g) odd face origin h = omega arith
 item-some law s base (item.Text n) odd face origin h = string-some law s base origin face (slice_get s.objects.strings n) h
@@ -269,3 +248,80 @@ item-some law s base (item.Space (Width n)) odd face origin h = omega arith
 item-some law s base (item.Space (Align n)) odd face origin h = omega arith
 item-some law s base item.Ellipsis odd face origin h = ellipsis-some s.parts.table face origin h
 item-some law s base item.Ender odd face origin h = omega arith
+
+-- what gives no element has none
+
+empty-entry : (entry : Option (List Glyph)) → not (is_empty_entry entry) ≡ false → entry ≡ Some []
+empty-entry None h = absurd (let q : true ≡ false = h in cc)
+empty-entry (Some []) h = refl
+empty-entry (Some (g ∷ gs)) h = absurd (let q : true ≡ false = h in cc)
+
+character-none : (parts : PartValues) (ch : ℕ) (odd : Bool) (face : Attributes) (origin : Origin) → not (is_empty_entry (entry_of parts.table ch)) ≡ false → elements_of parts ch odd face origin ≡ []
+character-none parts ch odd face origin h = ap (λ entry. elements_by entry parts ch odd face origin) (empty-entry (entry_of parts.table ch) h)
+
+-- a part without elements that no mark joins
+record IsEmptyPart (s : Scene) (x : Part) : Type 0 where
+  none : (face : Attributes) (odd : Bool) (origin : Origin) → kind_elements s x.kind face odd origin ≡ []
+  alone : base_of x.joining ≡ None
+
+char-empty : (s : Scene) (p : Place) → not (is_empty_entry (entry_of s.parts.table p.ch)) ≡ false → IsEmptyPart s (part_by s None p)
+char-empty s p h = record {
+  none = λ face odd origin. character-none s.parts p.ch odd face origin h;
+  alone = ap (λ entry. base_of (joining_by entry (shown_as s.parts.settings.ctl_arrow (class_of s.parts.classes p.ch) p.ch))) (empty-entry (entry_of s.parts.table p.ch) h);
+}
+
+marks_joined_from-same : (s : Scene) (held : Part) (xs : List Part) → IsEmptyPart s held → All (IsEmptyPart s) xs → marks_joined_from part_joins held xs ≡ held ∷ xs
+marks_joined_from-same s held [] h all = refl
+marks_joined_from-same s held (x ∷ xs) h all =
+    let alone = h.alone in
+    rw alone (ap (λ (ys : List Part). held ∷ ys) (marks_joined_from-same s x xs (All-head (IsEmptyPart s) x xs all) (All-tail (IsEmptyPart s) x xs all)))
+
+marks_joined-same : (s : Scene) (xs : List Part) → All (IsEmptyPart s) xs → marks_joined part_joins xs ≡ xs
+marks_joined-same s [] all = refl
+marks_joined-same s (x ∷ xs) all = marks_joined_from-same s x xs (All-head (IsEmptyPart s) x xs all) (All-tail (IsEmptyPart s) x xs all)
+
+shown-none : (s : Scene) (origin : Origin) (odd : Bool) (o : Option Part) → ((x : Part) → o ≡ Some x → IsEmptyPart s x) → flat_map (display_part_elements s origin) (shown_by odd o) ≡ []
+shown-none s origin odd None each = refl
+shown-none s origin odd (Some x) each = let none = (each x refl).none x.face odd origin in rw none refl
+
+turns-none : (s : Scene) (origin : Origin) (xs : List Part) (ts : List Turn) → All (IsEmptyPart s) xs → flat_map (display_part_elements s origin) (flat_map (shown_at xs) ts) ≡ []
+turns-none s origin xs [] all = refl
+turns-none s origin xs (t ∷ ts) all =
+    flat_map-append (display_part_elements s origin) (shown_at xs t) (flat_map (shown_at xs) ts)
+    ∙ ap₂ ◌++◌ (shown-none s origin t.odd (slice_get xs t.index) (λ x at. all-at (IsEmptyPart s) xs t.index x all at)) (turns-none s origin xs ts all)
+
+row-none : (s : Scene) (base : ℕ) (origin : Origin) (xs : List Part) → All (IsEmptyPart s) xs → flat_map (display_part_elements s origin) (row s base xs) ≡ []
+row-none s base origin xs all =
+    ap (λ (ys : List Part). flat_map (display_part_elements s origin) (in_order s base ys)) (marks_joined-same s xs all)
+    ∙ turns-none s origin xs (turns_of s.brackets s.parts.settings.reorder base (map part_class xs) (map part_code xs)) all
+
+rows-none : (s : Scene) (base : ℕ) (origin : Origin) (text : TextValue) (under : Attributes) (xs : List Part) (is : List ℕ)
+    → All (IsEmptyPart s) xs → char_gives s text is ≡ false → flat_map (display_part_elements s origin) (rows_from s base xs (map (bare_place text under) is)) ≡ []
+rows-none s base origin text under xs [] all h = row-none s base origin xs all
+rows-none s base origin text under xs (i ∷ is) all h =
+    let p = bare_place text under i in
+    let both = or_parts (gives_element s.parts.table p.ch) (char_gives s text is) h in
+    let own = or_parts (is_newline p.ch) (not (is_empty_entry (entry_of s.parts.table p.ch))) both.0 in
+    ap (flat_map (display_part_elements s origin)) (cond-false (ends_row p) (row s base xs ++ row_end p.face ∷ rows_from s base [] (map (bare_place text under) is)) (rows_from s base (xs ++ part_of s p ∷ []) (map (bare_place text under) is)) own.0)
+    ∙ rows-none s base origin text under (xs ++ part_of s p ∷ []) is
+    (All-append (IsEmptyPart s) xs (part_of s p ∷ []) all (All-cons (IsEmptyPart s) (part_of s p) [] (char-empty s p own.1) (All-nil (IsEmptyPart s)))) both.1
+
+string-none : (s : Scene) (base : ℕ) (origin : Origin) (under : Attributes) (text : Option TextValue) → string_gives s.parts.table text ≡ false → display_elements s base origin under text ≡ []
+string-none s base origin under None h = refl
+string-none s base origin under (Some text) h =
+    ap (flat_map (display_part_elements s origin)) (parts-are s base text under)
+    ∙ rows-none s base origin text under [] (range_with_len 0 (length text.chars)) (All-nil (IsEmptyPart s)) (chars-are s text text.chars [] refl ∙ h)
+
+ellipsis-none : (table : Option TableValue) (face : Attributes) (origin : Origin) → ellipsis_gives table ≡ false → glyph_elements face origin (ellipsis_glyphs table) ≡ []
+ellipsis-none None face origin h = absurd (let q : true ≡ false = h in cc)
+ellipsis-none (Some table) face origin h = ap (λ text. glyph_elements face origin (unwrap_or text (ellipsis_glyphs None))) (empty-entry table.ellipsis h)
+
+pub item-none : (s : Scene) (base : ℕ) (k : ItemKind) (odd : Bool) (face : Attributes) (origin : Origin) → kind_gives s k ≡ false → item_elements_by s base k false odd face origin ≡ []
+item-none s base (item.Char c) odd face origin h = character-none s.parts c odd face origin h
+item-none s base (item.Marked g) odd face origin h = absurd (let q : true ≡ false = h in cc)
+item-none s base (item.Text n) odd face origin h = string-none s base origin face (slice_get s.objects.strings n) h
+item-none s base (item.Space (Text n)) odd face origin h = refl
+item-none s base (item.Space (Width n)) odd face origin h = absurd (let q : true ≡ false = h in cc)
+item-none s base (item.Space (Align n)) odd face origin h = absurd (let q : true ≡ false = h in cc)
+item-none s base item.Ellipsis odd face origin h = ellipsis-none s.parts.table face origin h
+item-none s base item.Ender odd face origin h = absurd (let q : true ≡ false = h in cc)

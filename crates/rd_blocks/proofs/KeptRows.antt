@@ -3,7 +3,7 @@ use Rattle.std.proofs.Common.{◌≡◌, ◌⊎◌, inl, inr, ℕ, zero, suc, �
 use Rattle.std.specs.Prelude.{pos, ◌-ℤ◌, ◌^◌, slice_get}
 use Rattle.std.specs.List.{list_all}
 use Rattle.std.specs.Ordering.{int_eq}
-use Rattle.std.proofs.lemmas.Bool.{and_parts}
+use Rattle.std.proofs.lemmas.Bool.{and_parts, both_ways, not-true}
 use Rattle.std.proofs.lemmas.Bool.Decides.{nat_tests, Decides-eqb, Decides-int_eq}
 use Rattle.std.proofs.lemmas.Int.{ints}
 use Rattle.std.proofs.lemmas.Option.{same_Some}
@@ -43,10 +43,7 @@ use Rattle.rd_blocks.proofs.Sources.{listed-at}
 
 alone : (r : RowMeaning) (rs : List RowMeaning) → r.ends_block ≡ true → ends_last (r ∷ rs) ≡ true → rs ≡ []
 alone r [] ends last = refl
-alone r (s ∷ rs) ends last = absurd (by r.ends_block ends (and_parts (not r.ends_block) (ends_last (s ∷ rs)) last).0) where
-  by : (b : Bool) → b ≡ true → not b ≡ true → ⊥
-  by true e f = cc
-  by false e f = cc
+alone r (s ∷ rs) ends last = absurd (both_ways r.ends_block (not-true r.ends_block (and_parts (not r.ends_block) (ends_last (s ∷ rs)) last).0) ends)
 
 behind-first : (r : RowMeaning) (rs : List RowMeaning) → r.ends_block ≡ false → ends_last (r ∷ rs) ≡ true → ends_last rs ≡ true
 behind-first r [] goes last = cc

@@ -57,8 +57,12 @@ starts-behind s from to block within =
       ]),
     )
 
+-- a position behind the beginning of the text, before which a newline is shown
+abbrev pub IsBehindNewline : BufferValue → ℕ → Type 0
+IsBehindNewline s pos = (s.text.begin < pos) × (pos ≤ s.text.end) × (is_shown_newline s (pos - 1) ≡ true)
+
 -- where a block starts behind the beginning of the text, a newline is shown before it
-pub newline-before : (s : BufferValue) (from to : ℕ) → IsBlock s from to → (from ≡ s.text.begin → ⊥) → (s.text.begin < from) × (from ≤ s.text.end) × (is_shown_newline s (from - 1) ≡ true)
+pub newline-before : (s : BufferValue) (from to : ℕ) → IsBlock s from to → (from ≡ s.text.begin → ⊥) → IsBehindNewline s from
 newline-before s from to block later =
     let first = block.first in
     let some = block.some in

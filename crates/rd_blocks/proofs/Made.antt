@@ -1,6 +1,5 @@
 -- The rows that are made of a block's line.
 use Rattle.std.proofs.Common.{◌≡◌, ◌<◌, ◌^◌, ℕ, true, List, refl, ap, ◌∙◌, arith}
-use Rattle.std.proofs.lemmas.Simd.{map-map}
 use Rattle.std.specs.Option.{option_or}
 use Rattle.rd_base.specs.Elements.{AreSound, columns_at_most, ends_once}
 use Rattle.rd_base.specs.Settings.{SettingValues}
@@ -14,22 +13,19 @@ use Rattle.rd_props.specs.Buffers.{BufferValue}
 use Rattle.rd_props.specs.Seen.{Seen, seen_at}
 use Rattle.rd_props.specs.declared.appearance.Appearance.{Appearance}
 use Rattle.rd_rows.specs.declared.cutting.Cutting.{Cutting}
-use Rattle.rd_rows.specs.Copies.{shown_rows, made_rows}
-use Rattle.rd_rows.specs.Laws.{seen_rows}
 use Rattle.rd_rows.specs.Left.{MakerValues}
 use Rattle.rd_rows.specs.Lines.{IsFresh, Asks, rows_left}
-use Rattle.rd_rows.specs.Rows.{LaidRow, cutting_of}
+use Rattle.rd_rows.specs.Rows.{cutting_of}
 use Rattle.rd_rows.specs.Shapes.{ShapeValues}
 use Rattle.rd_stack.specs.Lines.{line_elements}
 use Rattle.rd_blocks.specs.Rows.{block_rows, line_prefix, wrap_prefix, prefix_elements, truncation_mark, continuation_mark}
 use Rattle.rd_blocks.proofs.Prefixes.{line-elements, wrap-elements}
-use Rattle.rd_blocks.proofs.Sources.{true-is}
 
 -- a maker that has made no row takes a whole line
 pub takes-line : (c : Cutting) (m : MakerValues) (es : List Element) → IsFresh c m → AreSound es → columns_at_most es < 2 ^ 60 → ends_once es ≡ true → Asks m es
 takes-line c m es fresh sound few ends = λ going_on.
     let none = fresh.columns in
-    record { sound = sound; end = true-is (ends_once es) ends; columns = omega (arith, none, few) }
+    record { sound = sound; end = ends; columns = omega (arith, none, few) }
 
 -- the rows that are left to a maker of a block's prefixes and marks are the block's
 left-is : (scene : Scene) (base : ℕ) (shape : ShapeValues) (es : List Seen) (first wrap line : List Element) (truncation continuation : Glyph) (m : MakerValues)
@@ -49,7 +45,3 @@ left-seen scene base shape s objects p a settings first wrap line truncation con
     left-is scene base shape (reading s objects p) first wrap line truncation continuation m fresh
     (line-elements scene base s objects p a settings.line_prefix first looks (ap (λ (v : SettingValues). v.line_prefix) set) f)
     (wrap-elements scene base s objects p a settings.wrap_prefix wrap looks (ap (λ (v : SettingValues). v.wrap_prefix) set) w) t c l
-
--- rows that are made show what is seen of them
-pub seen-made : (rs : List LaidRow) → shown_rows (made_rows rs) ≡ seen_rows rs
-seen-made rs = map-map _ _ rs

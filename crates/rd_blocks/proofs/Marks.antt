@@ -1,8 +1,8 @@
 -- The marks of rows that are cut or go on are glyphs of one column.
-use Rattle.std.proofs.Common.{rules, ◌≡◌, ℕ, ◌<◌, ◌≤◌, Bool, true, false, IsTrue, List, length, Option, Some, None, IfSome, refl, ap, arith, tests, unwrap_or}
+use Rattle.std.proofs.Common.{rules, ◌≡◌, ℕ, ◌<◌, ◌≤◌, Bool, true, false, List, length, Option, Some, None, IfSome, refl, ap, arith, tests, unwrap_or}
 use Rattle.std.specs.Prelude.{◌==◌, if◌then◌else◌, slice_index}
 use Rattle.std.specs.List.{list_all}
-use Rattle.std.proofs.lemmas.Bool.{and_parts}
+use Rattle.std.proofs.lemmas.Bool.{and_parts, eqb-true}
 use Rattle.std.proofs.lemmas.Bool.Decides.{nat_tests}
 use Rattle.std.proofs.lemmas.List.Sums.{AllPass-from_list_all}
 use Rattle.unicode_width.specs.Width.{char_width}
@@ -54,19 +54,13 @@ glyph-measured g is =
       rest = λ k p q. zero-marks g.marks zeros places k q;
     }
 
-equal : (a b : ℕ) → (a == b) ≡ true → a ≡ b
-equal a b is = grind (arith, nat_tests)
-
 slot-mark : (g : Glyph) → is_slot_glyph g ≡ true → IsMark g
 slot-mark g is =
     let parts = and_parts (is_glyph_character g) (g.width == 1) is in
-    record { measured = glyph-measured g parts.0; columns = equal g.width 1 parts.1 }
-
-true-is : (b : Bool) → IsTrue b → b ≡ true
-true-is b is = search (rules, tests)
+    record { measured = glyph-measured g parts.0; columns = eqb-true g.width 1 parts.1 }
 
 or-mark : (slot : Option Glyph) (other : Glyph) → HoldsGlyph is_slot_glyph slot → is_slot_glyph other ≡ true → IsMark (unwrap_or slot other)
-or-mark (Some g) other holds is = slot-mark g (true-is (is_slot_glyph g) (holds g refl))
+or-mark (Some g) other holds is = slot-mark g (holds g refl)
 or-mark None other holds is = slot-mark other is
 
 truncation-in : (table : Option TableValue) (code : ℕ) → IfSome table (λ t. IsTable t) → is_slot_glyph (single code 1) ≡ true → IsMark (slot_or Truncation table code)

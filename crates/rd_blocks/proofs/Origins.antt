@@ -1,7 +1,8 @@
 -- Each element of an item has the item's origin.
 use Rattle.std.proofs.Common.{◌≡◌, ℕ, Bool, true, false, List, [], ◌∷◌, Option, None, Some, All, refl}
-use Rattle.std.specs.Prelude.{◌==◌, if◌then◌else◌, map, slice_get}
+use Rattle.std.specs.Prelude.{◌==◌, map, slice_get}
 use Rattle.std.specs.List.{flat_map}
+use Rattle.std.proofs.lemmas.Bool.{cond_both}
 use Rattle.std.proofs.lemmas.List.Elements.{All-map, All-cons, All-nil, All-append}
 use Rattle.rd_base.specs.Faces.{Attributes}
 use Rattle.rd_base.specs.declared.cell.Glyph.{Glyph}
@@ -32,10 +33,6 @@ module _ (origin : Origin) where
   one-of : (e : Element) → IsOf e → AreOf (e ∷ [])
   one-of e is = All-cons IsOf e [] is (All-nil IsOf)
 
-  if-of : (b : Bool) (xs ys : List Element) → AreOf xs → AreOf ys → AreOf (if b then xs else ys)
-  if-of true xs ys these those = these
-  if-of false xs ys these those = those
-
   each-of : {X : Type 0} (f : X → List Element) → ((x : X) → AreOf (f x)) → (xs : List X) → AreOf (flat_map f xs)
   each-of f each [] = All-nil IsOf
   each-of f each (x ∷ xs) = All-append IsOf (f x) (flat_map f xs) (each x) (each-of f each xs)
@@ -46,9 +43,9 @@ module _ (origin : Origin) where
   by-of : (entry : Option (List Glyph)) (parts : PartValues) (ch : ℕ) (odd : Bool) (face : Attributes) → AreOf (elements_by entry parts ch odd face origin)
   by-of (Some text) parts ch odd face = glyphs-of face text
   by-of None parts ch odd face =
-      if-of (ch == 9) (tab_of parts.settings.tab_width face origin ∷ []) (map (element_of face origin) (own_looks parts ch odd))
-      (one-of (tab_of parts.settings.tab_width face origin) refl)
-      (All-map IsOf (element_of face origin) (own_looks parts ch odd) (λ k d inside. refl))
+      cond_both (ch == 9) (tab_of parts.settings.tab_width face origin ∷ []) (map (element_of face origin) (own_looks parts ch odd)) AreOf
+      (λ _. one-of (tab_of parts.settings.tab_width face origin) refl)
+      (λ _. All-map IsOf (element_of face origin) (own_looks parts ch odd) (λ k d inside. refl))
 
   character-of : (parts : PartValues) (ch : ℕ) (odd : Bool) (face : Attributes) → AreOf (elements_of parts ch odd face origin)
   character-of parts ch odd face = by-of (entry_of parts.table ch) parts ch odd face

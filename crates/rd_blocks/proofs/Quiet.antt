@@ -1,6 +1,6 @@
 -- Prefixes that are cut to fit end no line and begin no item of it.
-use Rattle.std.proofs.Common.{◌≡◌, ℕ, ◌+◌, ◌/◌, nat_le, Bool, true, false, List, [], ◌∷◌, Option, None, Some, refl, arith}
-use Rattle.std.specs.Prelude.{if◌then◌else◌}
+use Rattle.std.proofs.Common.{◌≡◌, ℕ, ◌+◌, ◌/◌, nat_le, false, List, [], ◌∷◌, Option, None, Some, refl, arith}
+use Rattle.std.proofs.lemmas.Bool.{cond_both}
 use Rattle.std.proofs.lemmas.List.Elements.{All-nil, All-tail}
 use Rattle.rd_base.specs.Elements.{is_line_end}
 use Rattle.rd_base.specs.declared.element.Element.{Element}
@@ -17,10 +17,6 @@ use Rattle.rd_blocks.specs.Rows.{line_prefix_of, wrap_prefix_of, prefix_elements
 quiet-nil : IsQuiet []
 quiet-nil = record { on = refl; items = refl }
 
-quiet-if : (b : Bool) (ps : List Placed) → IsQuiet ps → IsQuiet (if b then ps else [])
-quiet-if true ps h = h
-quiet-if false ps h = quiet-nil
-
 quiet-cons : (p : Placed) (ps : List Placed) → is_line_end p.element.look ≡ false → p.first ≡ false → IsQuiet ps → IsQuiet (p ∷ ps)
 quiet-cons p ps on first rest = record { on = rw on rest.on; items = rw first rest.items }
 
@@ -28,9 +24,10 @@ quiet-fitted : (limit column : ℕ) (es : List Element) → AreOpen es → IsQui
 quiet-fitted limit column [] each = quiet-nil
 quiet-fitted limit column (e ∷ es) each =
     let p : Placed = record { element = e; start = column; columns = width_at e.extent column; first = false } in
-    quiet-if (nat_le (column + p.columns) limit) (p ∷ fitted limit (column + p.columns) es)
-    (quiet-cons p (fitted limit (column + p.columns) es) (each 0 e (omega arith)) refl
+    cond_both (nat_le (column + p.columns) limit) (p ∷ fitted limit (column + p.columns) es) [] IsQuiet
+    (λ _. quiet-cons p (fitted limit (column + p.columns) es) (each 0 e (omega arith)) refl
     (quiet-fitted limit (column + p.columns) es (All-tail (λ (x : Element). is_line_end x.look ≡ false) e es each)))
+    (λ _. quiet-nil)
 
 abbrev pub PrefixesOpen : Type 0
 PrefixesOpen = (scene : Scene) (base number : ℕ) → AreOpen (prefix scene base number)

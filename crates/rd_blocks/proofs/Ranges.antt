@@ -3,11 +3,10 @@ use Rattle.std.proofs.Common.{◌≡◌, ℕ, zero, suc, ◌+◌, ◌<◌, ◌�
 use Rattle.std.specs.Prelude.{if◌then◌else◌, slice_get, count_by}
 use Rattle.std.specs.List.{flat_map, range_with_len}
 use Rattle.std.proofs.lemmas.Bool.Decides.{nat_tests}
-use Rattle.std.proofs.lemmas.Bool.{cases_lt}
+use Rattle.std.proofs.lemmas.Bool.{and_parts, cases_lt, lt-ltb, not-true}
 use Rattle.std.proofs.lemmas.List.{length-map}
 use Rattle.std.proofs.lemmas.List.Elements.{All-cons, All-nil, All-append, All-tail}
 use Rattle.std.proofs.lemmas.List.Sums.{sum_by-cons}
-use Rattle.std.proofs.lemmas.Option.{get_or_from_slice_get, slice_get_within}
 use Rattle.rd_base.specs.declared.element.Element.{Element}
 use Rattle.rd_base.specs.declared.element.Origin.{Origin}
 use Rattle.rd_items.specs.Pieces.{Scene}
@@ -21,8 +20,9 @@ use Rattle.rd_order.proofs.Once.{total, is_place, once-at-most}
 use Rattle.rd_rows.specs.Laws.{ranges_of}
 use Rattle.rd_rows.specs.Placing.{is_item}
 use Rattle.rd_stack.specs.Lines.{item_elements_by, turn_elements, origin_of, item_elements, item_class, item_code, item_turns, line_of_items}
+use Rattle.rd_blocks.proofs.EntryBlocks.{all-at}
 use Rattle.rd_blocks.proofs.Origins.{AreOf, item-of}
-use Rattle.rd_blocks.proofs.Gives.{CharactersGive, item-some}
+use Rattle.rd_blocks.proofs.Gives.{ItemsGive}
 
 abbrev pub range_of_item : Item → ℕ × ℕ
 range_of_item x = (x.from, x.to)
@@ -197,9 +197,6 @@ tile-order since to [] tile = All-nil (λ (x : Item). x.from ≤ x.to)
 tile-order since to (x ∷ xs) (inl empty) = let same = empty.0 in All-cons (λ (x : Item). x.from ≤ x.to) x xs (omega (arith, same)) (tile-order since to xs empty.1)
 tile-order since to (x ∷ xs) (inr next) = let start = next.0 in let some = next.1 in All-cons (λ (x : Item). x.from ≤ x.to) x xs (omega (arith, start, some)) (tile-order x.to to xs next.2)
 
-all-at : (P : Item → Type 0) (xs : List Item) (i : ℕ) (x : Item) → All P xs → slice_get xs i ≡ Some x → P x
-all-at P xs i x all at = subst P (get_or_from_slice_get xs i x x at) (all i x (slice_get_within xs i x at))
-
 module _ (size : ℕ) where
   abbrev LiesIn : Element → Type 0
   LiesIn e = LiesWithin size (e.origin.from, e.origin.to)
@@ -230,23 +227,14 @@ module _ (size : ℕ) where
 holds-less : (k : ℕ) (r : ℕ × ℕ) → in_range k r ≡ true → r.0 < r.1
 holds-less k r h = grind (arith, nat_tests)
 
-and-parts : (a b c : Bool) → a ≡ true → a ≡ (not b && c) → (b ≡ false) × (c ≡ true)
-and-parts true true c h e = absurd (let q : true ≡ false = e in cc)
-and-parts true false c h e = (refl, sym e)
-and-parts false b c h e = absurd (let q : false ≡ true = h in cc)
-
-less-true : (a b : ℕ) → a < b → nat_lt a b ≡ true
-less-true a b h = grind (arith, nat_tests)
-
-pub item-has : CharactersGive → (s : Scene) (base k : ℕ) (x : Item) → nat_lt x.from x.to ≡ (not x.overlay && kind_gives s x.kind) → HasElements s base (in_range k) x
+pub item-has : ItemsGive → (s : Scene) (base k : ℕ) (x : Item) → nat_lt x.from x.to ≡ (not x.overlay && kind_gives s x.kind) → HasElements s base (in_range k) x
 item-has law s base k x covers = λ odd origin held.
-    let less = less-true x.from x.to (holds-less k (range_of_item x) held) in
-    let parts = and-parts (nat_lt x.from x.to) x.overlay (kind_gives s x.kind) less covers in
-    subst (λ (b : Bool). 1 ≤ length (item_elements_by s base x.kind b odd x.face origin)) (sym parts.0)
-    (item-some law s base x.kind odd x.face origin parts.1)
+    let parts = and_parts (not x.overlay) (kind_gives s x.kind) (sym covers ∙ lt-ltb x.from x.to (holds-less k (range_of_item x) held)) in
+    subst (λ (b : Bool). 1 ≤ length (item_elements_by s base x.kind b odd x.face origin)) (sym (not-true x.overlay parts.0))
+    (law s base x.kind odd x.face origin parts.1)
 
 -- the items of a line: each offset is in the range of exactly one
-pub line-once : CharactersGive → (s : Scene) (base size k : ℕ) (items : List Item) → Tile 0 size items → CoverWhereTheyGive s items → k < size
+pub line-once : ItemsGive → (s : Scene) (base size k : ℕ) (items : List Item) → Tile 0 size items → CoverWhereTheyGive s items → k < size
     → count_by (in_range k) (ranges_of None (line_of_items s base items)) ≡ 1
 line-once law s base size k items tile give below =
     let ts = item_turns s base items in

@@ -1,7 +1,7 @@
 -- Where the same is seen at the positions of a block, the same is read of it.
-use Rattle.std.proofs.Common.{◌≡◌, ◌⊎◌, inl, inr, ℕ, zero, suc, ◌+◌, ◌-◌, ◌<◌, ◌≤◌, Bool, true, false, ◌&&◌, if◌then◌else◌, List, [], ◌∷◌, refl, sym, ap, subst, ◌∙◌, arith}
+use Rattle.std.proofs.Common.{◌≡◌, ◌⊎◌, inl, inr, ℕ, zero, suc, ◌+◌, ◌-◌, ◌<◌, ◌≤◌, Bool, true, false, ◌&&◌, List, [], ◌∷◌, refl, sym, ap, subst, ◌∙◌, arith}
 use Rattle.std.specs.Prelude.{pos, ◌-ℤ◌, nat_lt}
-use Rattle.std.proofs.lemmas.Bool.{and_parts, cases_lt}
+use Rattle.std.proofs.lemmas.Bool.{and_parts, both_ways, cases_lt, cond-false, cond-true}
 use Rattle.std.proofs.lemmas.Bool.Decides.{nat_tests}
 use Rattle.std.proofs.lemmas.Int.{ints}
 use Rattle.rd_base.specs.declared.settings.Invisible.{Invisible}
@@ -17,30 +17,14 @@ use Rattle.rd_reuse.specs.declared.change.Change.{Change}
 abbrev pub AreRead : Type 0
 AreRead = (s : BufferValue) (objects : ObjectLists) (p : ℕ) → p ≤ s.text.end → IsReading s.settings.invisible (reading s objects p)
 
-if-true : {A : Type 0} (test : Bool) (a b : A) → test ≡ true → (if test then a else b) ≡ a
-if-true true a b e = refl
-if-true false a b e = cc
-
-if-false : {A : Type 0} (test : Bool) (a b : A) → test ≡ false → (if test then a else b) ≡ b
-if-false true a b e = cc
-if-false false a b e = refl
-
-last-part : (a b : Bool) → a ≡ true → (a && b) ≡ false → b ≡ false
-last-part true b e f = f
-last-part false b e f = cc
-
-not-both : (b : Bool) → b ≡ true → b ≡ false → ⊥
-not-both true e f = cc
-not-both false e f = cc
-
 -- ---- what is read from a position on
 
 reads-one : (s : BufferValue) (o : ObjectLists) (n p : ℕ) → ends_block s p ≡ true → reading_from s o n p ≡ seen_at s o p ∷ []
 reads-one s o zero p e = refl
-reads-one s o (suc n) p e = ap (λ (es : List Seen). seen_at s o p ∷ es) (if-true (ends_block s p) [] (reading_from s o n (suc p)) e)
+reads-one s o (suc n) p e = ap (λ (es : List Seen). seen_at s o p ∷ es) (cond-true (ends_block s p) [] (reading_from s o n (suc p)) e)
 
 reads-more : (s : BufferValue) (o : ObjectLists) (n p : ℕ) → ends_block s p ≡ false → reading_from s o (suc n) p ≡ seen_at s o p ∷ reading_from s o n (suc p)
-reads-more s o n p e = ap (λ (es : List Seen). seen_at s o p ∷ es) (if-false (ends_block s p) [] (reading_from s o n (suc p)) e)
+reads-more s o n p e = ap (λ (es : List Seen). seen_at s o p ∷ es) (cond-false (ends_block s p) [] (reading_from s o n (suc p)) e)
 
 reading-more : (s : BufferValue) (o : ObjectLists) (p : ℕ) → p < s.text.end → ends_block s p ≡ false → reading s o p ≡ seen_at s o p ∷ reading s o (suc p)
 reading-more s o p less goes =
@@ -61,7 +45,7 @@ before-end read s o p within goes = by-place (cases_lt p s.text.end) where
   by-place (inl less) = less
   by-place (inr more) =
       let here : s.text.end ≡ p = omega arith in
-      absurd (not-both (ends_block s p) (sym (ap (ends_block s) here) ∙ end-ends read s o) goes)
+      absurd (both_ways (ends_block s p) goes (sym (ap (ends_block s) here) ∙ end-ends read s o))
 
 -- ---- two readings
 
@@ -105,7 +89,7 @@ module _ (read : AreRead) (old : BufferValue) (made : ObjectLists) (new : Buffer
     inside-goes q low less =
         let last = block.last in
         let inside : nat_lt q new.text.end ≡ true = grind (arith, nat_tests) in
-        last-part (nat_lt q new.text.end) (ends_block new q) inside (block.inside q low less)
+        subst (λ (t : Bool). (t && ends_block new q) ≡ false) inside (block.inside q low less)
 
     last-ends : (q : ℕ) → suc q ≡ to → ends_block new q ≡ true
     last-ends q here = by-end block.ends where

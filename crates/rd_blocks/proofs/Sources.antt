@@ -1,9 +1,8 @@
 -- Each buffer is a source of blocks.
-use Rattle.std.proofs.Common.{◌≡◌, ℕ, zero, suc, ◌+◌, ◌-◌, ◌<◌, ◌≤◌, nat_le, nat_lt, Bool, true, false, cond, IsTrue, List, [], ◌∷◌, length, get_or, map, All, None, Some, refl, ap, sym, ◌∙◌, subst, arith}
+use Rattle.std.proofs.Common.{◌≡◌, ℕ, zero, suc, ◌+◌, ◌-◌, ◌<◌, ◌≤◌, true, IsTrue, List, [], ◌∷◌, length, get_or, map, All, None, Some, refl, ap, sym, ◌∙◌, subst, arith}
 use Rattle.std.specs.Prelude.{count_by, slice_get}
-use Rattle.std.proofs.lemmas.Bool.Decides.{nat_tests}
 use Rattle.std.proofs.lemmas.List.Elements.{All-map, All-cons, All-nil, All-tail}
-use Rattle.std.proofs.lemmas.List.Sums.{sum_by-cons}
+use Rattle.std.proofs.lemmas.Option.{same_Some}
 use Rattle.rd_base.specs.Elements.{ends_once}
 use Rattle.rd_base.specs.declared.element.Element.{Element}
 use Rattle.rd_text.specs.Texts.{IsText}
@@ -33,7 +32,7 @@ use Rattle.rd_stack.specs.Lines.{line_elements}
 use Rattle.rd_blocks.specs.Bases.{block_in, blocks_in}
 use Rattle.rd_blocks.specs.Rows.{block_cutting, block_rows}
 use Rattle.rd_blocks.specs.Sources.{text_source}
-use Rattle.rd_blocks.proofs.Gives.{CharactersGive}
+use Rattle.rd_blocks.proofs.Gives.{ItemsGive}
 use Rattle.rd_blocks.proofs.Within.{items-within}
 use Rattle.rd_blocks.proofs.Ranges.{LiesWithin, line-once, line-within}
 use Rattle.rd_blocks.proofs.Bases.{base-low}
@@ -41,7 +40,7 @@ use Rattle.rd_blocks.proofs.Quiet.{PrefixesOpen, quiet-cutting}
 
 -- what lower layers promise
 pub record Lower : Type 0 where
-  pub characters : CharactersGive
+  pub items : ItemsGive
   pub prefixes : PrefixesOpen
   pub listed : (s : BufferValue) → s.text.begin ≤ s.text.end → (k : ℕ) (b : ℕ × ℕ) → slice_get (blocks_of s) k ≡ Some b → IsBlock s b.0 b.1
   pub adjoin : (s : BufferValue) → s.text.begin ≤ s.text.end → Adjoin s.text.begin (s.text.end + 1) (blocks_of s)
@@ -54,13 +53,6 @@ pub record Lower : Type 0 where
   pub begun : (c : Cutting) (es : List Element) → HasQuietLeads c → IsTrue (ends_once es) → map range_of (begins_of (seen_rows (rows_of c es))) ≡ ranges_of None es
 
 -- the blocks
-
-some-is : {X : Type 0} (a b : X) → Some a ≡ Some b → a ≡ b
-some-is a b h = cc
-
-pub true-is : (b : Bool) → b ≡ true → IsTrue b
-true-is true h = refl
-true-is false h = cc
 
 later-less : (from to : ℕ) (c : ℕ × ℕ) (bs : List (ℕ × ℕ)) → Adjoin from to (c ∷ bs) → from < to
 later-less from to c [] h = let a = h.0 in let b = h.1 in let e = h.2 in omega (arith, a, b, e)
@@ -91,7 +83,7 @@ pub record IsListed (classes : List Span) (s : BufferValue) (k : ℕ) (b : Block
 
 pair-at : (classes : List Span) (s : BufferValue) (bs : List (ℕ × ℕ)) (k : ℕ) (b : Block) → slice_get (map (block_in classes s) bs) k ≡ Some b → (p : ℕ × ℕ) × (slice_get bs k ≡ Some p) × (b ≡ block_in classes s p)
 pair-at classes s [] k b h = absurd cc
-pair-at classes s (p ∷ ps) zero b h = (p, refl, some-is b (block_in classes s p) (sym h))
+pair-at classes s (p ∷ ps) zero b h = (p, refl, sym (same_Some (block_in classes s p) b h))
 pair-at classes s (p ∷ ps) (suc k) b h = pair-at classes s ps k b h
 
 pub listed-at : (classes : List Span) (s : BufferValue) (k : ℕ) (b : Block) → slice_get (blocks_in classes s) k ≡ Some b → IsListed classes s k b
@@ -115,7 +107,7 @@ rows-right low scene base start end shape es is size =
     let cutting = block_cutting scene base shape es in
     let line = line_elements scene base es in
     let quiet = quiet-cutting low.prefixes scene base shape es in
-    let ends : IsTrue (ends_once line) = true-is (ends_once line) (low.ends scene base es is) in
+    let ends = low.ends scene base es is in
     let begun = low.begun cutting line quiet ends in
     let tile = low.tile scene es is in
     let give = low.give scene es is in
@@ -129,7 +121,7 @@ rows-right low scene base start end shape es is size =
           ap (λ p. count_by (covers start p) begins) at
           ∙ count-same (covers start (start + (point - start))) (in_range (point - start)) begins (covers-moved start (point - start))
           ∙ ap (count_by (in_range (point - start))) begun
-          ∙ line-once low.characters scene base (length es) (point - start) (items_of scene es) tile give less;
+          ∙ line-once low.items scene base (length es) (point - start) (items_of scene es) tile give less;
     }
 
 pub source-right : Lower → (s : BufferValue) (objects : ObjectLists) (files : Data) → IsText s.text → IsSource (text_source s objects files)

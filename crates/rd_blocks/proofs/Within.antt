@@ -2,6 +2,7 @@
 use Rattle.std.proofs.Common.{ℕ, zero, suc, ◌+◌, ◌≤◌, Bool, true, false, List, [], ◌∷◌, length, All, Option, None, Some, arith}
 use Rattle.std.specs.Prelude.{is_some, if◌then◌else◌, option_map}
 use Rattle.std.specs.Option.{unwrap_or}
+use Rattle.std.proofs.lemmas.Bool.{cond_both}
 use Rattle.std.proofs.lemmas.List.Elements.{All-map, All-cons, All-nil, All-append, All-tail}
 use Rattle.rd_base.specs.Faces.{Attributes}
 use Rattle.rd_base.specs.declared.settings.Invisible.{Invisible}
@@ -25,10 +26,6 @@ module _ (n : ℕ) where
   abbrev IsIn : Piece → Type 0
   IsIn x = (x.at ≤ n) × (x.to ≤ n)
 
-  if-in : (b : Bool) (x y : Piece) → IsIn x → IsIn y → IsIn (if b then x else y)
-  if-in true x y these those = these
-  if-in false x y these those = those
-
   spec-in : (s : Scene) (spec : Spec) (face : Attributes) (p to : ℕ) → p ≤ n → to ≤ n → IsIn (spec_piece s spec face p to)
   spec-in s (Text m) face p to h k = (h, k)
   spec-in s (Width m) face p to h k = (h, k)
@@ -36,7 +33,7 @@ module _ (n : ℕ) where
 
   open-in : (s : Scene) (face : Attributes) (ch : Option ℕ) (p : ℕ) → p + 1 ≤ n → IsIn (open_piece s face ch p)
   open-in s face None p h = (omega (arith, h), h)
-  open-in s face (Some c) p h = if-in (is_newline c) (ender_piece face p) (char_piece s face c p) (omega (arith, h), h) (omega (arith, h), h)
+  open-in s face (Some c) p h = cond_both (is_newline c) (ender_piece face p) (char_piece s face c p) IsIn (λ _. (omega (arith, h), h)) (λ _. (omega (arith, h), h))
 
   unreplaced-in : (s : Scene) (hidden : Hidden) (face : Attributes) (ch : Option ℕ) (p to : ℕ) → p + 1 ≤ n → to ≤ n → IsIn (unreplaced_piece s hidden face ch p to)
   unreplaced-in s No face ch p to h k = open-in s face ch p h
@@ -92,13 +89,9 @@ module _ (n : ℕ) where
   abbrev EndsIn : Item → Type 0
   EndsIn x = x.to ≤ n
 
-  either-in : (b : Bool) (to at : ℕ) → to ≤ n → at ≤ n → (if b then to else at) ≤ n
-  either-in true to at h k = h
-  either-in false to at h k = k
-
   by-in : (since : ℕ) (x : Piece) (k : Option ItemKind) → IsIn x → All EndsIn (items_by k since x)
   by-in since x None h = All-nil EndsIn
-  by-in since x (Some k) h = All-cons EndsIn (item_of since x k) [] (either-in x.covers x.to x.at h.1 h.0) (All-nil EndsIn)
+  by-in since x (Some k) h = All-cons EndsIn (item_of since x k) [] (cond_both x.covers x.to x.at (λ to. to ≤ n) (λ _. h.1) (λ _. h.0)) (All-nil EndsIn)
 
   covering-in : (since : ℕ) (xs : List Piece) → All IsIn xs → All EndsIn (covering since xs)
   covering-in since [] each = All-nil EndsIn

@@ -1,14 +1,20 @@
 //! What holds of the blocks of every buffer and of their rows, proved of the definitions.
-ghost use Rattle.std.specs.Prelude.{ℕ, ◌≤◌, All};
+ghost use Rattle.std.specs.Prelude.{ℕ, ◌≡◌, ◌≤◌, Bool, true, false, [], length, All};
 ghost use Rattle.rd_base.specs.declared.limits.TheConstants.{TAB_COLUMNS};
 ghost use Rattle.rd_base.specs.Cells.{IsColoured};
+ghost use Rattle.rd_base.specs.Faces.{Attributes};
+ghost use Rattle.rd_base.specs.declared.element.Origin.{Origin};
 ghost use Rattle.rd_text.specs.Texts.{IsText, IsAccessible};
 ghost use Rattle.rd_ucd.specs.Data.{Data};
 ghost use Rattle.rd_objects.specs.Sound.{AreCodes, AreObjects};
 ghost use Rattle.rd_objects.specs.Things.{ObjectLists};
 ghost use Rattle.rd_props.specs.Buffers.{BufferValue};
+ghost use Rattle.rd_items.specs.Items.{kind_gives};
+ghost use Rattle.rd_items.specs.Pieces.{Scene};
+ghost use Rattle.rd_items.specs.declared.item.ItemKind.{ItemKind};
 ghost use Rattle.rd_rows.specs.Shapes.{ShapeValues, IsShape};
 ghost use Rattle.rd_rows.specs.Whole.{IsWhole};
+ghost use Rattle.rd_stack.specs.Lines.{item_elements_by};
 ghost use Rattle.rd_matrix.specs.declared.block.Block.{Block};
 ghost use Rattle.rd_matrix.specs.Blocks.{IsWithin};
 ghost use Rattle.rd_matrix.specs.Sources.{IsSource, rows_at};
@@ -32,9 +38,20 @@ pub fn buffers_are_sources()
     blocks_are_read_whole();
     items_cover_their_block();
     rows_behind_quiet_prefixes();
-    elements_are_sound();
+    items_that_give_have_elements();
     lines_end_once();
     prefixes_end_no_line();
+}
+
+/// An item that is no overlay's string has at least one element in its line where it is said to give one, as each item that covers
+/// positions does, and else it has none: at every base level and place, in every face. The call does nothing.
+pub fn items_that_give_have_elements()
+    ensures some { (s : Scene) (base : ℕ) (kind : ItemKind) (odd : Bool) (face : Attributes) (origin : Origin)
+        → kind_gives s kind ≡ true → 1 ≤ length (item_elements_by s base kind false odd face origin) }
+    ensures none { (s : Scene) (base : ℕ) (kind : ItemKind) (odd : Bool) (face : Attributes) (origin : Origin)
+        → kind_gives s kind ≡ false → item_elements_by s base kind false odd face origin ≡ [] }
+{
+    elements_are_sound();
 }
 
 /// Each accessible position of a buffer, and the end of its accessible text, lies within its blocks. The call does nothing.

@@ -111,12 +111,13 @@ pub record Rests (l : Layout) (m : SourceValues) (shape : ShapeValues) (w : Want
   pub current : IsCurrent l shape w
   pub fits : suits w (places_of m shape w) (places_of m shape w).old ≡ true
   pub stands : Stands m w.anchor l
+  pub is : rests (Some l) m shape w ≡ true
 
 pub rests-parts : (l : Layout) (m : SourceValues) (shape : ShapeValues) (w : Wanted) → rests (Some l) m shape w ≡ true → StandsUnchanged (Some l) m w.forced w.anchor → Rests l m shape w
 rests-parts l m shape w e stands =
     let both = and_parts (is_current l shape w) (suits w (places_of m shape w) (places_of m shape w).old) e in
     let now = current l shape w both.0 in
-    record { current = now; fits = both.1; stands = stands now.unchanged now.free }
+    record { current = now; fits = both.1; stands = stands now.unchanged now.free; is = e }
 
 -- it starts where it started
 start-stays : (l : Layout) (m : SourceValues) (shape : ShapeValues) (w : Wanted) → Rests l m shape w → start_row m shape w ≡ (places_of m shape w).old
@@ -165,8 +166,8 @@ chosen-stays l m shape w some r =
     let point : w.point ≡ point_from w at start rows = sym (ap (λ (b : Bool). point_from (record w { forced = b }) at start rows) r.current.free) in
     ap₂ (λ (a : Anchor) (p : ℕ). record { anchor = a; point = p }) first point
 
-pub laid-resting : (l : Layout) (m : SourceValues) (shape : ShapeValues) (w : Wanted) → rests (Some l) m shape w ≡ true → Rests l m shape w → IsLaidOut (Some l) m shape w l
-laid-resting l m shape w resting r = record {
+pub laid-resting : (l : Layout) (m : SourceValues) (shape : ShapeValues) (w : Wanted) → Rests l m shape w → IsLaidOut (Some l) m shape w l
+laid-resting l m shape w r = record {
   rows = rows-stay l m shape w r;
   shape_is = same-shape l.shape shape r.current.shapes;
   height = r.current.height;
@@ -176,7 +177,7 @@ laid-resting l m shape w resting r = record {
   bottom = bottom-stays l m shape w r;
   change = none-is l.change r.current.unchanged;
   stays = λ e. sym (ap (λ (b : Bool). if b then l.matrix else []) r.current.shapes);
-  copies = λ e. let never : true ≡ false = sym resting ∙ e in absurd cc;
+  copies = λ e. let never : true ≡ false = sym r.is ∙ e in absurd cc;
 }
 
 -- ---- a new layout stands

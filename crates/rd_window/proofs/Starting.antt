@@ -1,12 +1,13 @@
 -- The row at which a window starts, and the rows in view from there.
-use Rattle.std.proofs.Common.{◌≡◌, ℕ, zero, suc, ◌+◌, ◌*◌, ◌<◌, ◌≤◌, List, [], ◌∷◌, length, drop, slice_get, option_map, Some, refl, sym, ap, ◌∙◌, subst, arith}
+use Rattle.std.proofs.Common.{◌≡◌, ℕ, zero, suc, ◌+◌, ◌*◌, ◌<◌, ◌≤◌, List, [], ◌∷◌, length, take, drop, slice_get, option_map, Some, refl, sym, ap, ◌∙◌, subst, arith}
 use Rattle.std.proofs.lemmas.List.{length-drop, length-map, length-take}
+use Rattle.rd_matrix.specs.Blocks.{IsWithin}
 use Rattle.rd_matrix.specs.Entries.{EntryMeaning, shown_entries, shown_entry}
 use Rattle.rd_matrix.specs.Sources.{SourceValues, rows_at}
 use Rattle.rd_matrix.specs.declared.matrix.Entry.{Entry}
 use Rattle.rd_reuse.specs.Views.{Names, anchor_of, fresh_costs}
 use Rattle.rd_reuse.specs.declared.change.Change.{Change}
-use Rattle.rd_rows.specs.Shapes.{ShapeValues}
+use Rattle.rd_rows.specs.Shapes.{IsShape, ShapeValues}
 use Rattle.rd_start.specs.Chosen.{anchor_at, chosen_of}
 use Rattle.rd_start.specs.Near.{near_costs}
 use Rattle.rd_start.specs.declared.wanted.Chosen.{Chosen}
@@ -33,6 +34,14 @@ some-in-view m shape w some low =
 
 -- ---- over a source that a call has left as it was
 
+-- the row that was chosen as the start, once its source means what it meant
+pub record IsStart (given now : SourceValues) (shape : ShapeValues) (w : Wanted) (chosen : Chosen) : Type 0 where
+  pub same : now ≡ given
+  pub shaped : IsShape shape
+  pub low : start_row given shape w < length (rows_at given shape)
+  pub named : Names chosen.anchor (rows_at given shape) (start_row given shape w)
+  pub within : IsWithin chosen.anchor.pos given.blocks
+
 -- the start that was chosen names its row
 pub chosen-named : (m : SourceValues) (shape : ShapeValues) (w : Wanted) (chosen : Chosen) → start_row m shape w < length (rows_at m shape) → chosen ≡ chosen_of m shape w
     → Names chosen.anchor (rows_at m shape) (start_row m shape w)
@@ -45,10 +54,19 @@ at-source P m n same told = subst P same told
 pub back-at-source : (P : SourceValues → Type 0) (m n : SourceValues) → n ≡ m → P m → P n
 back-at-source P m n same told = subst P (sym same) told
 
+-- the rows that a call lays out from the start are those in view
+pub rows-laid : (m n : SourceValues) (shape : ShapeValues) (w : Wanted) (chosen : Chosen) (es : List Entry) → IsStart m n shape w chosen
+    → ((place : ℕ) → Names chosen.anchor (rows_at n shape) place → shown_entries es ≡ take w.height (drop place (rows_at n shape))) → shown_entries es ≡ rows_in_view m shape w
+rows-laid m n shape w chosen es start told =
+    at-source (λ (x : SourceValues). (place : ℕ) → Names chosen.anchor (rows_at x shape) place → shown_entries es ≡ take w.height (drop place (rows_at x shape))) m n start.same told
+    (start_row m shape w) start.named
+
 -- the steps of both calls
-pub spent : (m : SourceValues) (old : List Entry) (c : Change) (shape : ShapeValues) (w : Wanted) (before chosen laid : ℕ)
-    → chosen ≤ before + 2 * near_costs m shape w → laid ≤ chosen + fresh_costs m old c shape (start_row m shape w) (start_row m shape w + w.height) → laid ≤ before + 3 * near_costs m shape w
-spent m old c shape w before chosen laid first second =
+pub spent : (m n : SourceValues) (old : List Entry) (c : Change) (shape : ShapeValues) (w : Wanted) (chosen : Chosen) (before chose laid : ℕ) → IsStart m n shape w chosen
+    → chose ≤ before + 2 * near_costs m shape w → ((place : ℕ) → Names chosen.anchor (rows_at n shape) place → laid ≤ chose + fresh_costs n old c shape place (place + w.height))
+    → laid ≤ before + 3 * near_costs m shape w
+spent m n old c shape w chosen before chose laid start first told =
+    let second = at-source (λ (x : SourceValues). (place : ℕ) → Names chosen.anchor (rows_at x shape) place → laid ≤ chose + fresh_costs x old c shape place (place + w.height)) m n start.same told (start_row m shape w) start.named in
     let less = view-costs m old c shape w in
     omega (arith, first, second, less)
 

@@ -3,7 +3,7 @@ use Rattle.rd_blocks.proofs.laws.buffers_are_sources.Goals as goal
 
 pub returns : goal.returns
 returns c = source-right (record {
-  characters = c.elements_are_sound.ensures.some;
+  items = c.items_that_give_have_elements.ensures.some;
   prefixes = c.prefixes_end_no_line.ensures;
   listed = c.blocks_are_listed.ensures.blocks;
   adjoin = c.blocks_are_listed.ensures.adjoin;

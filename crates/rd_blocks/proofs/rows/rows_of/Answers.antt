@@ -2,9 +2,10 @@ use Rattle.std.proofs.Common.{ap, ◌∙◌, arith}
 use Rattle.std.proofs.lemmas.Result.{IfOk-weaker}
 use Rattle.rd_props.specs.Buffers.{meaning}
 use Rattle.rd_items.specs.Pieces.{scene_of}
+use Rattle.rd_matrix.proofs.HeldLemmas.{shown-made}
 use Rattle.rd_rows.specs.Copies.{shown_rows, made_rows}
 use Rattle.rd_rows.specs.Rows.{weight_of}
-use Rattle.rd_blocks.proofs.Made.{takes-line, left-seen, seen-made}
+use Rattle.rd_blocks.proofs.Made.{takes-line, left-seen}
 use Rattle.rd_blocks.proofs.rows.rows_of.Goals as goal
 
 pub make_all-requires : goal.make_all-requires
@@ -16,7 +17,7 @@ returns-clause-rows g c =
     let view = c.args.view in
     let left = left-seen (scene_of view) block.base c.args.shape (meaning view.state.now) view.objects.now block.start c.in_ok-seen.seen _ _ _ _ _ _ c.in_ok-maker.maker c.in_ok-seen.ensures c.settings.view_is c.in_ok-maker.ensures.fresh
     (c.as_slice.ensures ∙ c.in_ok-first.ensures.value) (c.as_slice-2.ensures ∙ c.in_ok-wrap.ensures.value) c.truncation_mark.ensures.value c.continuation_mark.ensures.value c.in_ok-line.ensures.left in
-    IfOk-weaker c.make_all.result _ _ (λ rows h. ap shown_rows (h ∙ ap made_rows left) ∙ seen-made _) c.make_all.ensures.rows
+    IfOk-weaker c.make_all.result _ _ (λ rows h. ap shown_rows (h ∙ ap made_rows left) ∙ shown-made _) c.make_all.ensures.rows
 
 pub returns-clause-steps : goal.returns-clause-steps
 returns-clause-steps g c =

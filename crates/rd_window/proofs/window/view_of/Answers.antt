@@ -1,172 +1,116 @@
-use Rattle.std.proofs.Common.{◌≡◌, ℕ, ◌+◌, ◌≤◌, leb, All, length, take, drop, ap, ◌∙◌, arith}
+use Rattle.std.proofs.Common.{◌≡◌, ℕ, ◌+◌, ◌*◌, ◌≤◌, leb, All, length, take, drop, ap, ◌∙◌, arith}
 use Rattle.rd_matrix.specs.Blocks.{IsWithin}
 use Rattle.rd_matrix.specs.Entries.{shown_entries}
 use Rattle.rd_matrix.specs.Sources.{IsSource, SourceValues, rows_at}
 use Rattle.rd_reuse.specs.Keeping.{AreRight}
-use Rattle.rd_reuse.specs.Views.{IsCopied, Names, fresh_costs}
+use Rattle.rd_reuse.specs.Views.{IsCopied, Names}
 use Rattle.rd_rows.specs.Shapes.{IsShape, ShapeValues}
-use Rattle.rd_window.specs.Views.{start_row}
-use Rattle.rd_window.proofs.Starting.{at-source, back-at-source, chosen-named, some-laid, spent}
+use Rattle.rd_start.specs.Near.{near_costs}
+use Rattle.rd_window.specs.Views.{rows_in_view, start_row}
+use Rattle.rd_window.proofs.Starting.{IsStart, at-source, back-at-source, chosen-named, rows-laid, some-laid, spent}
+use Rattle.rd_window.proofs.window.view_of.Given as given
 use Rattle.rd_window.proofs.window.view_of.Goals as goal
+use Rattle.rd_window.proofs.window.view_of.Goals.{After-hand_out, After-relay, In_ok-matrix}
+
+-- the start that was chosen
+start : (g : given.Over) (c : goal.After-hand_out g) → IsStart (g.B.BlockSource.meaning c.args.source.now) (g.B.BlockSource.meaning c.hand_out.new.self) c.args.shape c.args.wanted c.in_ok-chosen.chosen
+start g c =
+    let m = g.B.BlockSource.meaning c.args.source.now in
+    let w = c.args.wanted in
+    let shaped : IsShape c.args.shape = record { least = omega arith; most = omega arith } in
+    let low = c.a_start_is_a_row.ensures m c.args.shape w c.choose.ensures.source shaped c.requires.point in
+    let named = chosen-named m c.args.shape w c.in_ok-chosen.chosen low c.in_ok-chosen.ensures.value in
+    record {
+      same = ap g.B.BlockSource.meaning c.hand_out.ensures ∙ c.choose.ensures.stays;
+      shaped = shaped;
+      low = low;
+      named = named;
+      within = c.an_anchor_of_a_row_is_within.ensures m c.args.shape c.in_ok-chosen.chosen.anchor (start_row m c.args.shape w) c.choose.ensures.source named;
+    }
+
+-- the steps until the rows are laid out
+steps : (g : given.Over) (c : goal.After-relay g) → IsStart (g.B.BlockSource.meaning c.args.source.now) (g.B.BlockSource.meaning c.hand_out.new.self) c.args.shape c.args.wanted c.in_ok-chosen.chosen
+    → c.relay.new.steps ≤ c.args.steps.now + 3 * near_costs (g.B.BlockSource.meaning c.args.source.now) c.args.shape c.args.wanted
+steps g c begun =
+    spent _ _ c.args.old.now c.args.change c.args.shape c.args.wanted c.in_ok-chosen.chosen c.args.steps.now c.choose.new.steps c.relay.new.steps begun c.choose.ensures.steps c.relay.ensures.steps
+
+-- the rows that were laid out
+rows : (g : given.Over) (c : goal.In_ok-matrix g) → IsStart (g.B.BlockSource.meaning c.args.source.now) (g.B.BlockSource.meaning c.hand_out.new.self) c.args.shape c.args.wanted c.in_ok-chosen.chosen
+    → shown_entries c.in_ok-matrix.matrix ≡ rows_in_view (g.B.BlockSource.meaning c.args.source.now) c.args.shape c.args.wanted
+rows g c begun = rows-laid _ _ c.args.shape c.args.wanted c.in_ok-chosen.chosen c.in_ok-matrix.matrix begun c.in_ok-matrix.ensures.rows
 
 pub relay-requires-clause-right : goal.relay-requires-clause-right
 relay-requires-clause-right g c =
-    let stays = ap g.B.BlockSource.meaning c.hand_out.ensures ∙ c.choose.ensures.stays in
-    back-at-source (λ (x : SourceValues). AreRight x c.args.old.now c.args.change c.args.shape) (g.B.BlockSource.meaning c.args.source.now) (g.B.BlockSource.meaning c.hand_out.new.self) stays c.requires.right
+    let begun = start g (goal.at.relay-requires-clause-right g c).After-hand_out in
+    back-at-source (λ (x : SourceValues). AreRight x c.args.old.now c.args.change c.args.shape) _ _ begun.same c.requires.right
 
 pub relay-requires-clause-within : goal.relay-requires-clause-within
 relay-requires-clause-within g c =
-    let stays = ap g.B.BlockSource.meaning c.hand_out.ensures ∙ c.choose.ensures.stays in
-    let m = g.B.BlockSource.meaning c.args.source.now in
-    let w = c.args.wanted in
-    let shaped : IsShape c.args.shape = record { least = omega arith; most = omega arith } in
-    let low = c.a_start_is_a_row.ensures m c.args.shape w c.choose.ensures.source shaped c.requires.point in
-    let named = chosen-named m c.args.shape w c.in_ok-chosen.chosen low c.in_ok-chosen.ensures.value in
-    back-at-source (λ (x : SourceValues). IsWithin c.in_ok-chosen.chosen.anchor.pos x.blocks) m (g.B.BlockSource.meaning c.hand_out.new.self) stays
-    (c.an_anchor_of_a_row_is_within.ensures m c.args.shape c.in_ok-chosen.chosen.anchor (start_row m c.args.shape w) c.choose.ensures.source named)
+    let begun = start g (goal.at.relay-requires-clause-within g c).After-hand_out in
+    back-at-source (λ (x : SourceValues). IsWithin c.in_ok-chosen.chosen.anchor.pos x.blocks) _ _ begun.same begun.within
 
 pub relay-requires-clause-row : goal.relay-requires-clause-row
 relay-requires-clause-row g c =
-    let stays = ap g.B.BlockSource.meaning c.hand_out.ensures ∙ c.choose.ensures.stays in
-    let m = g.B.BlockSource.meaning c.args.source.now in
-    let w = c.args.wanted in
-    let shaped : IsShape c.args.shape = record { least = omega arith; most = omega arith } in
-    let low = c.a_start_is_a_row.ensures m c.args.shape w c.choose.ensures.source shaped c.requires.point in
-    let named = chosen-named m c.args.shape w c.in_ok-chosen.chosen low c.in_ok-chosen.ensures.value in
-    back-at-source (λ (x : SourceValues). (place : ℕ) × Names c.in_ok-chosen.chosen.anchor (rows_at x c.args.shape) place) m (g.B.BlockSource.meaning c.hand_out.new.self) stays
-    (start_row m c.args.shape w, named)
+    let begun = start g (goal.at.relay-requires-clause-row g c).After-hand_out in
+    back-at-source (λ (x : SourceValues). (place : ℕ) × Names c.in_ok-chosen.chosen.anchor (rows_at x c.args.shape) place) _ _ begun.same
+    (start_row (g.B.BlockSource.meaning c.args.source.now) c.args.shape c.args.wanted, begun.named)
 
 pub returns-in_err-matrix-clause-steps : goal.returns-in_err-matrix-clause-steps
-returns-in_err-matrix-clause-steps g c =
-    let stays = ap g.B.BlockSource.meaning c.hand_out.ensures ∙ c.choose.ensures.stays in
-    let m = g.B.BlockSource.meaning c.args.source.now in
-    let w = c.args.wanted in
-    let shaped : IsShape c.args.shape = record { least = omega arith; most = omega arith } in
-    let low = c.a_start_is_a_row.ensures m c.args.shape w c.choose.ensures.source shaped c.requires.point in
-    let named = chosen-named m c.args.shape w c.in_ok-chosen.chosen low c.in_ok-chosen.ensures.value in
-    let told = at-source (λ (x : SourceValues). (place : ℕ) → Names c.in_ok-chosen.chosen.anchor (rows_at x c.args.shape) place
-    → c.relay.new.steps ≤ c.choose.new.steps + fresh_costs x c.args.old.now c.args.change c.args.shape place (place + w.height)) m (g.B.BlockSource.meaning c.hand_out.new.self) stays c.relay.ensures.steps in
-    spent m c.args.old.now c.args.change c.args.shape w c.args.steps.now c.choose.new.steps c.relay.new.steps c.choose.ensures.steps (told (start_row m c.args.shape w) named)
+returns-in_err-matrix-clause-steps g c = let at = goal.at.returns-in_err-matrix-clause-steps g c in steps g at.After-relay (start g at.After-hand_out)
 
 pub is_first_row-requires : goal.is_first_row-requires
 is_first_row-requires g c =
-    let stays = ap g.B.BlockSource.meaning c.hand_out.ensures ∙ c.choose.ensures.stays in
-    let m = g.B.BlockSource.meaning c.args.source.now in
-    let w = c.args.wanted in
-    let shaped : IsShape c.args.shape = record { least = omega arith; most = omega arith } in
-    let low = c.a_start_is_a_row.ensures m c.args.shape w c.choose.ensures.source shaped c.requires.point in
-    let named = chosen-named m c.args.shape w c.in_ok-chosen.chosen low c.in_ok-chosen.ensures.value in
-    back-at-source (λ (x : SourceValues). IsWithin c.in_ok-chosen.chosen.anchor.pos x.blocks) m (g.B.BlockSource.meaning c.relay.new.source) (c.relay.ensures.stays ∙ stays)
-    (c.an_anchor_of_a_row_is_within.ensures m c.args.shape c.in_ok-chosen.chosen.anchor (start_row m c.args.shape w) c.choose.ensures.source named)
+    let begun = start g (goal.at.is_first_row-requires g c).After-hand_out in
+    back-at-source (λ (x : SourceValues). IsWithin c.in_ok-chosen.chosen.anchor.pos x.blocks) _ _ (c.relay.ensures.stays ∙ begun.same) begun.within
 
 pub returns-in_err-top-clause-steps : goal.returns-in_err-top-clause-steps
-returns-in_err-top-clause-steps g c =
-    let stays = ap g.B.BlockSource.meaning c.hand_out.ensures ∙ c.choose.ensures.stays in
-    let m = g.B.BlockSource.meaning c.args.source.now in
-    let w = c.args.wanted in
-    let shaped : IsShape c.args.shape = record { least = omega arith; most = omega arith } in
-    let low = c.a_start_is_a_row.ensures m c.args.shape w c.choose.ensures.source shaped c.requires.point in
-    let named = chosen-named m c.args.shape w c.in_ok-chosen.chosen low c.in_ok-chosen.ensures.value in
-    let told = at-source (λ (x : SourceValues). (place : ℕ) → Names c.in_ok-chosen.chosen.anchor (rows_at x c.args.shape) place
-    → c.relay.new.steps ≤ c.choose.new.steps + fresh_costs x c.args.old.now c.args.change c.args.shape place (place + w.height)) m (g.B.BlockSource.meaning c.hand_out.new.self) stays c.relay.ensures.steps in
-    spent m c.args.old.now c.args.change c.args.shape w c.args.steps.now c.choose.new.steps c.relay.new.steps c.choose.ensures.steps (told (start_row m c.args.shape w) named)
+returns-in_err-top-clause-steps g c = let at = goal.at.returns-in_err-top-clause-steps g c in steps g at.After-relay (start g at.After-hand_out)
 
 pub has_last_row-requires-clause-source : goal.has_last_row-requires-clause-source
 has_last_row-requires-clause-source g c =
-    let stays = ap g.B.BlockSource.meaning c.hand_out.ensures ∙ c.choose.ensures.stays in
-    back-at-source IsSource (g.B.BlockSource.meaning c.args.source.now) (g.B.BlockSource.meaning c.is_first_row.new.source)
-    (c.is_first_row.ensures.stays ∙ (c.relay.ensures.stays ∙ stays)) c.choose.ensures.source
+    let begun = start g (goal.at.has_last_row-requires-clause-source g c).After-hand_out in
+    back-at-source IsSource _ _ (c.is_first_row.ensures.stays ∙ (c.relay.ensures.stays ∙ begun.same)) c.choose.ensures.source
 
 pub has_last_row-requires-clause-some : goal.has_last_row-requires-clause-some
 has_last_row-requires-clause-some g c =
-    let stays = ap g.B.BlockSource.meaning c.hand_out.ensures ∙ c.choose.ensures.stays in
-    let m = g.B.BlockSource.meaning c.args.source.now in
-    let w = c.args.wanted in
-    let shaped : IsShape c.args.shape = record { least = omega arith; most = omega arith } in
-    let low = c.a_start_is_a_row.ensures m c.args.shape w c.choose.ensures.source shaped c.requires.point in
-    let named = chosen-named m c.args.shape w c.in_ok-chosen.chosen low c.in_ok-chosen.ensures.value in
-    let told = at-source (λ (x : SourceValues). (place : ℕ) → Names c.in_ok-chosen.chosen.anchor (rows_at x c.args.shape) place
-    → shown_entries c.in_ok-matrix.matrix ≡ take w.height (drop place (rows_at x c.args.shape))) m (g.B.BlockSource.meaning c.hand_out.new.self) stays c.in_ok-matrix.ensures.rows in
-    some-laid m c.args.shape w c.in_ok-matrix.matrix c.requires.height low (told (start_row m c.args.shape w) named)
+    let at = goal.at.has_last_row-requires-clause-some g c in
+    let begun = start g at.After-hand_out in
+    some-laid (g.B.BlockSource.meaning c.args.source.now) c.args.shape c.args.wanted c.in_ok-matrix.matrix c.requires.height begun.low (rows g at.In_ok-matrix begun)
 
 pub has_last_row-requires-clause-rows : goal.has_last_row-requires-clause-rows
 has_last_row-requires-clause-rows g c =
-    let stays = ap g.B.BlockSource.meaning c.hand_out.ensures ∙ c.choose.ensures.stays in
-    let m = g.B.BlockSource.meaning c.args.source.now in
     let w = c.args.wanted in
-    let shaped : IsShape c.args.shape = record { least = omega arith; most = omega arith } in
-    let low = c.a_start_is_a_row.ensures m c.args.shape w c.choose.ensures.source shaped c.requires.point in
-    let named = chosen-named m c.args.shape w c.in_ok-chosen.chosen low c.in_ok-chosen.ensures.value in
-    let told = at-source (λ (x : SourceValues). (place : ℕ) → Names c.in_ok-chosen.chosen.anchor (rows_at x c.args.shape) place
-    → shown_entries c.in_ok-matrix.matrix ≡ take w.height (drop place (rows_at x c.args.shape))) m (g.B.BlockSource.meaning c.hand_out.new.self) stays c.in_ok-matrix.ensures.rows in
-    back-at-source (λ (x : SourceValues). (shape : ShapeValues) × IsShape shape × ((place : ℕ) × (shown_entries c.in_ok-matrix.matrix ≡ take w.height (drop place (rows_at x shape))))) m
-    (g.B.BlockSource.meaning c.is_first_row.new.source) (c.is_first_row.ensures.stays ∙ (c.relay.ensures.stays ∙ stays))
-    (c.args.shape, shaped, (start_row m c.args.shape w, told (start_row m c.args.shape w) named))
+    let at = goal.at.has_last_row-requires-clause-rows g c in
+    let begun = start g at.After-hand_out in
+    back-at-source (λ (x : SourceValues). (shape : ShapeValues) × IsShape shape × ((place : ℕ) × (shown_entries c.in_ok-matrix.matrix ≡ take w.height (drop place (rows_at x shape))))) _ _
+    (c.is_first_row.ensures.stays ∙ (c.relay.ensures.stays ∙ begun.same)) (c.args.shape, begun.shaped, (start_row (g.B.BlockSource.meaning c.args.source.now) c.args.shape w, rows g at.In_ok-matrix begun))
 
 pub returns-in_err-bottom-clause-steps : goal.returns-in_err-bottom-clause-steps
-returns-in_err-bottom-clause-steps g c =
-    let stays = ap g.B.BlockSource.meaning c.hand_out.ensures ∙ c.choose.ensures.stays in
-    let m = g.B.BlockSource.meaning c.args.source.now in
-    let w = c.args.wanted in
-    let shaped : IsShape c.args.shape = record { least = omega arith; most = omega arith } in
-    let low = c.a_start_is_a_row.ensures m c.args.shape w c.choose.ensures.source shaped c.requires.point in
-    let named = chosen-named m c.args.shape w c.in_ok-chosen.chosen low c.in_ok-chosen.ensures.value in
-    let told = at-source (λ (x : SourceValues). (place : ℕ) → Names c.in_ok-chosen.chosen.anchor (rows_at x c.args.shape) place
-    → c.relay.new.steps ≤ c.choose.new.steps + fresh_costs x c.args.old.now c.args.change c.args.shape place (place + w.height)) m (g.B.BlockSource.meaning c.hand_out.new.self) stays c.relay.ensures.steps in
-    spent m c.args.old.now c.args.change c.args.shape w c.args.steps.now c.choose.new.steps c.relay.new.steps c.choose.ensures.steps (told (start_row m c.args.shape w) named)
+returns-in_err-bottom-clause-steps g c = let at = goal.at.returns-in_err-bottom-clause-steps g c in steps g at.After-relay (start g at.After-hand_out)
 
 pub returns-clause-rows : goal.returns-clause-rows
-returns-clause-rows g c =
-    let stays = ap g.B.BlockSource.meaning c.hand_out.ensures ∙ c.choose.ensures.stays in
-    let m = g.B.BlockSource.meaning c.args.source.now in
-    let w = c.args.wanted in
-    let shaped : IsShape c.args.shape = record { least = omega arith; most = omega arith } in
-    let low = c.a_start_is_a_row.ensures m c.args.shape w c.choose.ensures.source shaped c.requires.point in
-    let named = chosen-named m c.args.shape w c.in_ok-chosen.chosen low c.in_ok-chosen.ensures.value in
-    let told = at-source (λ (x : SourceValues). (place : ℕ) → Names c.in_ok-chosen.chosen.anchor (rows_at x c.args.shape) place
-    → shown_entries c.in_ok-matrix.matrix ≡ take w.height (drop place (rows_at x c.args.shape))) m (g.B.BlockSource.meaning c.hand_out.new.self) stays c.in_ok-matrix.ensures.rows in
-    told (start_row m c.args.shape w) named
+returns-clause-rows g c = let at = goal.at.returns-clause-rows g c in rows g at.In_ok-matrix (start g at.After-hand_out)
 
 pub returns-clause-top : goal.returns-clause-top
 returns-clause-top g c =
-    let stays = ap g.B.BlockSource.meaning c.hand_out.ensures ∙ c.choose.ensures.stays in
-    let m = g.B.BlockSource.meaning c.args.source.now in
-    let w = c.args.wanted in
-    let shaped : IsShape c.args.shape = record { least = omega arith; most = omega arith } in
-    let low = c.a_start_is_a_row.ensures m c.args.shape w c.choose.ensures.source shaped c.requires.point in
-    let named = chosen-named m c.args.shape w c.in_ok-chosen.chosen low c.in_ok-chosen.ensures.value in
-    c.in_ok-top.ensures.value c.args.shape (start_row m c.args.shape w) shaped
-    (back-at-source (λ (x : SourceValues). Names c.in_ok-chosen.chosen.anchor (rows_at x c.args.shape) (start_row m c.args.shape w)) m (g.B.BlockSource.meaning c.relay.new.source)
-    (c.relay.ensures.stays ∙ stays) named)
+    let place = start_row (g.B.BlockSource.meaning c.args.source.now) c.args.shape c.args.wanted in
+    let begun = start g (goal.at.returns-clause-top g c).After-hand_out in
+    c.in_ok-top.ensures.value c.args.shape place begun.shaped
+    (back-at-source (λ (x : SourceValues). Names c.in_ok-chosen.chosen.anchor (rows_at x c.args.shape) place) _ _ (c.relay.ensures.stays ∙ begun.same) begun.named)
 
 pub returns-clause-bottom : goal.returns-clause-bottom
 returns-clause-bottom g c =
-    let stays = ap g.B.BlockSource.meaning c.hand_out.ensures ∙ c.choose.ensures.stays in
-    let m = g.B.BlockSource.meaning c.args.source.now in
     let w = c.args.wanted in
-    let shaped : IsShape c.args.shape = record { least = omega arith; most = omega arith } in
-    let low = c.a_start_is_a_row.ensures m c.args.shape w c.choose.ensures.source shaped c.requires.point in
-    let named = chosen-named m c.args.shape w c.in_ok-chosen.chosen low c.in_ok-chosen.ensures.value in
-    let told = at-source (λ (x : SourceValues). (place : ℕ) → Names c.in_ok-chosen.chosen.anchor (rows_at x c.args.shape) place
-    → shown_entries c.in_ok-matrix.matrix ≡ take w.height (drop place (rows_at x c.args.shape))) m (g.B.BlockSource.meaning c.hand_out.new.self) stays c.in_ok-matrix.ensures.rows in
+    let at = goal.at.returns-clause-bottom g c in
+    let begun = start g at.After-hand_out in
     at-source (λ (x : SourceValues). (shape : ShapeValues) (place : ℕ) → IsShape shape → shown_entries c.in_ok-matrix.matrix ≡ take w.height (drop place (rows_at x shape))
-    → c.in_ok-bottom.bottom ≡ leb (length (rows_at x shape)) (place + w.height)) m (g.B.BlockSource.meaning c.is_first_row.new.source)
-    (c.is_first_row.ensures.stays ∙ (c.relay.ensures.stays ∙ stays)) c.in_ok-bottom.ensures.value c.args.shape (start_row m c.args.shape w) shaped (told (start_row m c.args.shape w) named)
+    → c.in_ok-bottom.bottom ≡ leb (length (rows_at x shape)) (place + w.height)) _ _ (c.is_first_row.ensures.stays ∙ (c.relay.ensures.stays ∙ begun.same)) c.in_ok-bottom.ensures.value
+    c.args.shape (start_row (g.B.BlockSource.meaning c.args.source.now) c.args.shape w) begun.shaped (rows g at.In_ok-matrix begun)
 
 pub returns-clause-copies : goal.returns-clause-copies
 returns-clause-copies g c =
-    let stays = ap g.B.BlockSource.meaning c.hand_out.ensures ∙ c.choose.ensures.stays in
-    at-source (λ (x : SourceValues). All (IsCopied c.args.old.now c.args.change x.blocks) c.in_ok-matrix.matrix) (g.B.BlockSource.meaning c.args.source.now) (g.B.BlockSource.meaning c.hand_out.new.self)
-    stays c.in_ok-matrix.ensures.copies
+    let begun = start g (goal.at.returns-clause-copies g c).After-hand_out in
+    at-source (λ (x : SourceValues). All (IsCopied c.args.old.now c.args.change x.blocks) c.in_ok-matrix.matrix) _ _ begun.same c.in_ok-matrix.ensures.copies
 
 pub returns-clause-steps : goal.returns-clause-steps
-returns-clause-steps g c =
-    let stays = ap g.B.BlockSource.meaning c.hand_out.ensures ∙ c.choose.ensures.stays in
-    let m = g.B.BlockSource.meaning c.args.source.now in
-    let w = c.args.wanted in
-    let shaped : IsShape c.args.shape = record { least = omega arith; most = omega arith } in
-    let low = c.a_start_is_a_row.ensures m c.args.shape w c.choose.ensures.source shaped c.requires.point in
-    let named = chosen-named m c.args.shape w c.in_ok-chosen.chosen low c.in_ok-chosen.ensures.value in
-    let told = at-source (λ (x : SourceValues). (place : ℕ) → Names c.in_ok-chosen.chosen.anchor (rows_at x c.args.shape) place
-    → c.relay.new.steps ≤ c.choose.new.steps + fresh_costs x c.args.old.now c.args.change c.args.shape place (place + w.height)) m (g.B.BlockSource.meaning c.hand_out.new.self) stays c.relay.ensures.steps in
-    spent m c.args.old.now c.args.change c.args.shape w c.args.steps.now c.choose.new.steps c.relay.new.steps c.choose.ensures.steps (told (start_row m c.args.shape w) named)
+returns-clause-steps g c = let at = goal.at.returns-clause-steps g c in steps g at.After-relay (start g at.After-hand_out)

@@ -5,7 +5,7 @@ use Rattle.rd_props.specs.declared.state.View.{View}
 use Rattle.rd_matrix.specs.Blocks.{IsAmong, block_before}
 use Rattle.rd_matrix.specs.declared.block.Block.{Block}
 use Rattle.rd_blocks.specs.Sources.{source_of}
-use Rattle.rd_blocks.proofs.Listed.{are-listed, are-in-order, among-block, newline-before, prev-block, prev-none}
+use Rattle.rd_blocks.proofs.Listed.{IsBehindNewline, are-listed, are-in-order, among-block, newline-before, prev-block, prev-none}
 use Rattle.rd_blocks.proofs.blocks.Blocks.before.Goals as goal
 
 pub returns-then-end-begin-clause-prev : goal.returns-then-end-begin-clause-prev
@@ -18,32 +18,24 @@ returns-then-end-begin-clause-prev c =
     subst (λ (w : View). (k : ℕ) → slice_get (source_of w).blocks k ≡ Some b → None ≡ block_before (source_of w).blocks k) c.self.view_is
     (prev-none x.classes.now s (are-in-order order.next order.last order.prev order.first s right) b (c.if-end-begin.true ∙ c.begin.ensures.value))
 
-pub block_before-requires-clause-first : goal.block_before-requires-clause-first
-block_before-requires-clause-first c =
+-- the block does not begin the text, so that a newline is shown before it
+newline : (c : goal.Else-end-begin) → IsBehindNewline (meaning c.self.inside.view.state.now) c.args.block.now.start
+newline c =
     let x = c.self.inside.view in
     let law = c.blocks_are_listed.ensures in
     let s = meaning x.state.now in
     let b = c.args.block.now in
     let block = among-block x.classes.now s (are-listed law.blocks law.every law.adjoin s c.begin.ensures.right) b (subst (λ (w : View). IsAmong (source_of w).blocks b) (sym c.self.view_is) c.requires) in
-    (newline-before s b.start b.end block (λ h. c.if-end-begin.false (h ∙ sym c.begin.ensures.value))).0
+    newline-before s b.start b.end block (λ h. c.if-end-begin.false (h ∙ sym c.begin.ensures.value))
+
+pub block_before-requires-clause-first : goal.block_before-requires-clause-first
+block_before-requires-clause-first c = (newline c).0
 
 pub block_before-requires-clause-last : goal.block_before-requires-clause-last
-block_before-requires-clause-last c =
-    let x = c.self.inside.view in
-    let law = c.blocks_are_listed.ensures in
-    let s = meaning x.state.now in
-    let b = c.args.block.now in
-    let block = among-block x.classes.now s (are-listed law.blocks law.every law.adjoin s c.begin.ensures.right) b (subst (λ (w : View). IsAmong (source_of w).blocks b) (sym c.self.view_is) c.requires) in
-    (newline-before s b.start b.end block (λ h. c.if-end-begin.false (h ∙ sym c.begin.ensures.value))).1
+block_before-requires-clause-last c = (newline c).1
 
 pub block_before-requires-clause-newline : goal.block_before-requires-clause-newline
-block_before-requires-clause-newline c =
-    let x = c.self.inside.view in
-    let law = c.blocks_are_listed.ensures in
-    let s = meaning x.state.now in
-    let b = c.args.block.now in
-    let block = among-block x.classes.now s (are-listed law.blocks law.every law.adjoin s c.begin.ensures.right) b (subst (λ (w : View). IsAmong (source_of w).blocks b) (sym c.self.view_is) c.requires) in
-    (newline-before s b.start b.end block (λ h. c.if-end-begin.false (h ∙ sym c.begin.ensures.value))).2
+block_before-requires-clause-newline c = (newline c).2
 
 pub returns-clause-prev : goal.returns-clause-prev
 returns-clause-prev c =

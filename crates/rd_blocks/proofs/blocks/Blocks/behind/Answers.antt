@@ -1,7 +1,9 @@
 use Rattle.std.proofs.Common.{◌≡◌, ◌+◌, ℕ, None, Some, sym, subst, arith}
 use Rattle.std.specs.Prelude.{slice_get}
+use Rattle.rd_text.specs.Texts.{IsAccessible}
 use Rattle.rd_props.specs.Buffers.{meaning}
 use Rattle.rd_props.specs.declared.state.View.{View}
+use Rattle.rd_items.specs.Blocks.{StartsBlock}
 use Rattle.rd_matrix.specs.Blocks.{IsAmong}
 use Rattle.rd_matrix.specs.declared.block.Block.{Block}
 use Rattle.rd_blocks.specs.Sources.{source_of}
@@ -21,8 +23,9 @@ returns-then-end-start-clause-next c =
     subst (λ (w : View). (k : ℕ) → slice_get (source_of w).blocks k ≡ Some b → None ≡ slice_get (source_of w).blocks (k + 1)) c.self.view_is
     (next-none x.classes.now s (are-listed law.blocks law.every law.adjoin s right) (are-in-order order.next order.last order.prev order.first s right) b (omega (arith, value, past)))
 
-pub block_from-requires-clause-accessible : goal.block_from-requires-clause-accessible
-block_from-requires-clause-accessible c =
+-- the block ends before the end of the text, so that another starts there
+starts : (c : goal.Else-end-start) → let s = meaning c.self.inside.view.state.now in IsAccessible s.text c.args.block.now.end × StartsBlock s c.args.block.now.end
+starts c =
     let x = c.self.inside.view in
     let law = c.blocks_are_listed.ensures in
     let s = meaning x.state.now in
@@ -30,18 +33,13 @@ block_from-requires-clause-accessible c =
     let value = c.end.ensures.value in
     let within = c.if-end-start.false in
     let block = among-block x.classes.now s (are-listed law.blocks law.every law.adjoin s c.end.ensures.right) b (subst (λ (w : View). IsAmong (source_of w).blocks b) (sym c.self.view_is) c.requires) in
-    (starts-behind s b.start b.end block (omega (arith, value, within))).0
+    starts-behind s b.start b.end block (omega (arith, value, within))
+
+pub block_from-requires-clause-accessible : goal.block_from-requires-clause-accessible
+block_from-requires-clause-accessible c = (starts c).0
 
 pub block_from-requires-clause-start : goal.block_from-requires-clause-start
-block_from-requires-clause-start c =
-    let x = c.self.inside.view in
-    let law = c.blocks_are_listed.ensures in
-    let s = meaning x.state.now in
-    let b = c.args.block.now in
-    let value = c.end.ensures.value in
-    let within = c.if-end-start.false in
-    let block = among-block x.classes.now s (are-listed law.blocks law.every law.adjoin s c.end.ensures.right) b (subst (λ (w : View). IsAmong (source_of w).blocks b) (sym c.self.view_is) c.requires) in
-    (starts-behind s b.start b.end block (omega (arith, value, within))).1
+block_from-requires-clause-start c = (starts c).1
 
 pub returns-clause-next : goal.returns-clause-next
 returns-clause-next c =
