@@ -1,9 +1,8 @@
 -- What a buffer holds stays valid through each edit of it, and what each edit is in the terms of properties and overlays.
-use Rattle.std.proofs.Common.{◌≡◌, ℕ, zero, suc, ◌+◌, ◌-◌, ◌<◌, ◌≤◌, ◌==◌, ◌&&◌, ◌++◌, ◌⊎◌, inl, inr, Bool, true, false, is_some, if◌then◌else◌, nat_lt, nat_le, ℤ, Option, None, Some, Result, Ok, Err, List, [], ◌∷◌, length, map, take, drop, set, get_or, replicate, subst, sym, ap, refl, ◌∙◌, arith, length-append, IsTrue}
-use Rattle.std.proofs.lemmas.Bool.{and_parts, leb-true, ltb-true, eqb-true, leb-false}
+use Rattle.std.proofs.Common.{◌≡◌, ℕ, ◌+◌, ◌-◌, ◌<◌, ◌≤◌, ◌==◌, ◌&&◌, ◌++◌, ◌⊎◌, inl, inr, Bool, true, false, if◌then◌else◌, nat_lt, nat_le, ℤ, Option, None, Some, List, [], ◌∷◌, length, map, take, drop, subst, sym, refl, ◌∙◌, arith, IsTrue}
+use Rattle.std.proofs.lemmas.Bool.{leb-true, ltb-true, eqb-true}
 use Rattle.std.proofs.lemmas.Bool.Decides.{nat_tests}
-use Rattle.std.proofs.lemmas.List.{length-set}
-use Rattle.std.proofs.lemmas.List.Elements.{All-append, All-take, All-drop, All-nil}
+use Rattle.std.proofs.lemmas.List.Elements.{All-append, All-take, All-drop}
 use Rattle.std.specs.FinMap as finite
 use Rattle.std.specs.Prelude.{IfSome}
 use Rattle.rd_base.specs.Chars.{is_code}
@@ -13,8 +12,8 @@ use Rattle.rd_text.specs.Answers.{IsAccessibleRange, IsRangeOfAll}
 use Rattle.rd_overlays.specs.declared.overlay.Overlay.{Overlay}
 use Rattle.rd_overlays.specs.declared.overlay.Kind.{Kind}
 use Rattle.rd_overlays.specs.declared.overlay.Kind.TheVariants as kinds
-use Rattle.rd_overlays.specs.Overlays.{overlay_at, new_overlay, place_of, slot_grown, slot_shrunk, slot_changed, moved, dropped, given}
-use Rattle.rd_objects.specs.Sound.{AreCodes, Extends}
+use Rattle.rd_overlays.specs.Overlays.{new_overlay, place_of, slot_grown, slot_shrunk, moved, dropped, given}
+use Rattle.rd_objects.specs.Sound.{AreCodes}
 use Rattle.rd_objects.specs.Things.{ObjectLists}
 use Rattle.rd_props.specs.Buffers as props
 use Rattle.rd_props.specs.Edits.{opened, closed, put_on, IsInsertion, IsDeletion, IsPut, HasOverlays}
@@ -22,13 +21,13 @@ use Rattle.rd_props.specs.Made.{IsMade, SettingsMade, AreMade}
 use Rattle.rd_props.specs.Values.{value_of}
 use Rattle.rd_margins.specs.Marks as marks
 use Rattle.rd_script.specs.Forms.{is_text_kind}
-use Rattle.rd_state.specs.States.{ContentValue, new_content, seen, values_on, value_in}
-use Rattle.rd_state.specs.Valid.{IsOverlayIn, IsWithin, IsContent}
-use Rattle.rd_state.specs.Edits.{is_range_of_all, is_made, is_value_made, is_setting_made, marked, grown, shrunk, with_setting}
+use Rattle.rd_state.specs.States.{ContentValue, seen, values_on, value_in}
+use Rattle.rd_state.specs.Valid.{IsWithin, IsContent}
+use Rattle.rd_state.specs.Edits.{is_range_of_all, is_made, is_value_made, marked, grown, shrunk}
 use Rattle.rd_state.proofs.Below.{TextLaws, MadeLaws}
-use Rattle.rd_state.proofs.Opening.{chosen, passed}
+use Rattle.rd_state.proofs.Opening.{passed}
 use Rattle.rd_state.proofs.Tables.{AreAlike, value-in-table}
-use Rattle.rd_state.proofs.Within.{grown-within, shrunk-within, same-within, made-within, put-within, moved-within}
+use Rattle.rd_state.proofs.Within.{grown-within, shrunk-within, same-within, made-within, put-within, moved-within, given-within}
 
 -- ---- values over another text
 
@@ -284,19 +283,9 @@ dropped-valid made o c number v =
     overlays-valid o c all v (put-within (seen c) all c.settings number None v.within (λ p h. absurd (cc)) refl)
     (made.dropped (seen c) (seen (with_overlays c all)) o number v.names v.names.settings (overlays-are c all))
 
-given-in : (size : ℕ) (kind : Kind) (value : Option ℕ) (slot : Option Overlay) (p : Overlay) → ((q : Overlay) → slot ≡ Some q → IsOverlayIn size q)
-    → slot_changed (λ overlay. record overlay { values = set overlay.values (place_of kind) value }) slot ≡ Some p → IsOverlayIn size p
-given-in size kind value None p old h = absurd (cc)
-given-in size kind value (Some q) p old h =
-    let same : record q { values = set q.values (place_of kind) value } ≡ p = cc in
-    let is = old q refl in
-    subst (IsOverlayIn size) same (record { first = is.first; ordered = is.ordered; last = is.last })
-
 pub given-valid : (made : MadeLaws) (o : ObjectLists) (c : ContentValue) (number : ℕ) (kind : Kind) (value : Option ℕ) → IsContent o c → is_value_made o kind value ≡ true
     → IsContent o (with_overlays c (given c.overlays number kind value))
 given-valid made o c number kind value v numbered =
     let all = given c.overlays number kind value in
-    let slot = slot_changed (λ overlay. record overlay { values = set overlay.values (place_of kind) value }) (overlay_at c.overlays number) in
-    overlays-valid o c all v
-    (put-within (seen c) all c.settings number slot v.within (λ p h. given-in (length c.text.text) kind value (overlay_at c.overlays number) p (λ q e. v.within.overlays number q e) h) refl)
+    overlays-valid o c all v (given-within (seen c) all c.settings number kind value v.within refl)
     (made.given (seen c) (seen (with_overlays c all)) o number kind value v.names v.names.settings (value-made o kind value numbered) (overlays-are c all))

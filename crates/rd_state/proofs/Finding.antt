@@ -1,5 +1,5 @@
 -- Windows found by number.
-use Rattle.std.proofs.Common.{◌≡◌, ℕ, ◌<◌, ◌==◌, Bool, true, false, cond, not, None, Option, Some, Result, Ok, List, length, nat_lt, set, get_or, refl, ap, subst, arith, sym, ◌∙◌}
+use Rattle.std.proofs.Common.{◌≡◌, ℕ, ◌<◌, ◌==◌, Bool, true, false, cond, not, None, Some, Result, Ok, List, length, nat_lt, set, get_or, refl, ap, subst, arith, sym, ◌∙◌}
 use Rattle.std.proofs.lemmas.Bool.{ltb-false}
 use Rattle.std.proofs.lemmas.List.Sums.{prefix_len-le-length}
 use Rattle.std.proofs.lemmas.Option.{slice_get-get_or}
@@ -63,7 +63,3 @@ pub some-found : (s : StateValue) (ws : List NumberedWindow) (n i : ℕ) → ws 
 some-found s ws n i shown is less =
     let there = found n i s.windows (subst (λ xs. i ≡ place_in n xs) shown is) (subst (λ xs. i < length xs) shown less) in
     ((n, there.0), from-place n i s.windows there.0 there.1)
-
--- which is one
-pub one-entry : (n i : ℕ) (ws : List NumberedWindow) (a b : NumberedWindow) → IsFound n i ws a → IsFound n i ws b → a.1 ≡ b.1
-one-entry n i ws a b x y = let same : ◌≡◌ {A = Option WindowState} (Some a.1) (Some b.1) = sym x.window ∙ y.window in cc

@@ -1,18 +1,22 @@
 -- An edit of a text at a position that no text reaches is refused.
-use Rattle.std.proofs.Common.{◌≡◌, ℕ, ◌+◌, ◌<◌, false, Some, Result, Err, List, length, get_or, ap, ◌∙◌, arith}
+use Rattle.std.proofs.Common.{◌≡◌, ℕ, ◌+◌, ◌<◌, false, Some, Result, Err, List, length, get_or, subst, sym, ap, refl, ◌∙◌, arith}
 use Rattle.std.proofs.lemmas.Bool.Decides.{nat_tests}
 use Rattle.std.proofs.lemmas.Option.{slice_get-get_or}
-use Rattle.std.specs.Prelude.{slice_get}
+use Rattle.std.specs.Prelude.{IsErr, slice_get}
+use Rattle.std.specs.Result.{IsErrAnd}
 use Rattle.rd_text.specs.Texts.{TextValue, IsText, most_characters}
+use Rattle.rd_script.specs.declared.op.Op.{Op}
+use Rattle.rd_state.specs.declared.effect.Effect.{Effect}
 use Rattle.rd_state.specs.declared.moves.Move.{Move}
-use Rattle.rd_state.specs.declared.moves.Move.TheVariants.{Inserted, Deleted, Narrowed}
 use Rattle.rd_state.specs.declared.refused.Refused.{Refused}
 use Rattle.rd_state.specs.declared.refused.Refused.TheVariants.{NoBuffer, OutOfRange}
+use Rattle.rd_state.specs.Answers.{Applies}
 use Rattle.rd_state.specs.Edits.{is_accessible, is_accessible_range, is_range_of_all, deletion, insertion, narrowing}
 use Rattle.rd_state.specs.States.{BufferValue, ContentValue, StateValue, new_buffer, number_of}
-use Rattle.rd_state.specs.Steps.{edited_moving, inserting, moving, replaced, with_found}
+use Rattle.rd_state.specs.Steps.{edited_moving, moving, replaced, step, with_found}
 use Rattle.rd_state.specs.Valid.{IsValid}
 use Rattle.rd_state.proofs.Opening.{passed}
+use Rattle.rd_state.proofs.Sharing.{refuses}
 
 -- ---- texts
 
@@ -44,41 +48,40 @@ all-to-behind t from to text far =
     let short = text.short in
     grind (arith, nat_tests)
 
+-- ---- edits
+
+pub insertion-behind : (pos : ℕ) (new : List ℕ) → most_characters + 1 < pos → (c : ContentValue) → IsText c.text → insertion pos new c ≡ Err OutOfRange
+insertion-behind pos new far c text = passed (is_accessible c.text pos) _ _ (behind c.text pos text far)
+
+pub deletion-from-behind : (from to : ℕ) → most_characters + 1 < from → (c : ContentValue) → IsText c.text → deletion from to c ≡ Err OutOfRange
+deletion-from-behind from to far c text = passed (is_accessible_range c.text from to) _ _ (from-behind c.text from to text far)
+
+pub deletion-to-behind : (from to : ℕ) → most_characters + 1 < to → (c : ContentValue) → IsText c.text → deletion from to c ≡ Err OutOfRange
+deletion-to-behind from to far c text = passed (is_accessible_range c.text from to) _ _ (to-behind c.text from to text far)
+
+pub narrowing-from-behind : (from to : ℕ) → most_characters + 1 < from → (c : ContentValue) → IsText c.text → narrowing from to c ≡ Err OutOfRange
+narrowing-from-behind from to far c text = passed (is_range_of_all c.text from to) _ _ (all-from-behind c.text from to text far)
+
+pub narrowing-to-behind : (from to : ℕ) → most_characters + 1 < to → (c : ContentValue) → IsText c.text → narrowing from to c ≡ Err OutOfRange
+narrowing-to-behind from to far c text = passed (is_range_of_all c.text from to) _ _ (all-to-behind c.text from to text far)
+
 -- ---- states
 
 -- an edit that every text refuses
-refused-there : (s : StateValue) (name : List ℕ) (how : Move) (edit : ContentValue → Result ContentValue Refused) (e : Refused) → IsValid s → number_of name s.buffers < length s.buffers
-    → ((c : ContentValue) → IsText c.text → edit c ≡ Err e) → edited_moving s name how edit ≡ Err e
-refused-there s name how edit e valid less refuses =
+refused-there : (s : StateValue) (name : List ℕ) (how : Move) (edit : ContentValue → Result ContentValue Refused) → IsValid s → number_of name s.buffers < length s.buffers
+    → ((c : ContentValue) → IsText c.text → edit c ≡ Err OutOfRange) → edited_moving s name how edit ≡ Err OutOfRange
+refused-there s name how edit valid less refuses =
     let i = number_of name s.buffers in
     let b = get_or s.buffers i (new_buffer name) in
     let at : slice_get s.buffers i ≡ Some b = slice_get-get_or s.buffers i (new_buffer name) less in
     let done : BufferValue → Result StateValue Refused = λ x. moving i how (replaced s i x (edit x.content)) in
     ap (λ o. with_found NoBuffer o done) at ∙ ap (λ r. moving i how (replaced s i b r)) (refuses b.content (valid.buffers.contents i b at).text)
 
--- what is known of a state in which a buffer with a name was found
-module _ (s : StateValue) (name : List ℕ) (valid : IsValid s) (less : number_of name s.buffers < length s.buffers) where
-  pub insertion-behind : (pos : ℕ) (new : List ℕ) → most_characters + 1 < pos → inserting s name pos new ≡ Err OutOfRange
-  insertion-behind pos new far =
-      refused-there s name (Inserted pos (length new)) (insertion pos new) OutOfRange valid less
-      (λ c text. passed (is_accessible c.text pos) _ _ (behind c.text pos text far))
-
-  pub deletion-from-behind : (from to : ℕ) → most_characters + 1 < from → edited_moving s name (Deleted from to) (deletion from to) ≡ Err OutOfRange
-  deletion-from-behind from to far =
-      refused-there s name (Deleted from to) (deletion from to) OutOfRange valid less
-      (λ c text. passed (is_accessible_range c.text from to) _ _ (from-behind c.text from to text far))
-
-  pub deletion-to-behind : (from to : ℕ) → most_characters + 1 < to → edited_moving s name (Deleted from to) (deletion from to) ≡ Err OutOfRange
-  deletion-to-behind from to far =
-      refused-there s name (Deleted from to) (deletion from to) OutOfRange valid less
-      (λ c text. passed (is_accessible_range c.text from to) _ _ (to-behind c.text from to text far))
-
-  pub narrowing-from-behind : (from to : ℕ) → most_characters + 1 < from → edited_moving s name (Narrowed from to) (narrowing from to) ≡ Err OutOfRange
-  narrowing-from-behind from to far =
-      refused-there s name (Narrowed from to) (narrowing from to) OutOfRange valid less
-      (λ c text. passed (is_range_of_all c.text from to) _ _ (all-from-behind c.text from to text far))
-
-  pub narrowing-to-behind : (from to : ℕ) → most_characters + 1 < to → edited_moving s name (Narrowed from to) (narrowing from to) ≡ Err OutOfRange
-  narrowing-to-behind from to far =
-      refused-there s name (Narrowed from to) (narrowing from to) OutOfRange valid less
-      (λ c text. passed (is_range_of_all c.text from to) _ _ (all-to-behind c.text from to text far))
+-- so an op answers that asks for such an edit of a buffer that was found
+pub refuses-behind : (r : Result Effect Refused) (op : Op) (s t : StateValue) (e : Refused) (name : List ℕ) (i : ℕ) (how : Move) (edit : ContentValue → Result ContentValue Refused)
+    → IsErr r → IsErrAnd r (λ x. x ≡ e) → e ≡ OutOfRange → t ≡ s → IsValid s → i ≡ number_of name t.buffers → i < length t.buffers
+    → ((c : ContentValue) → IsText c.text → edit c ≡ Err OutOfRange) → step s op ≡ edited_moving s name how edit → Applies r op s s
+refuses-behind r op s t e name i how edit is and out same valid found within every asks =
+    let less = subst (λ k. k < length t.buffers) found within in
+    let refused = refused-there t name how edit (subst IsValid (sym same) valid) less every in
+    refuses r op s s e is and refl (asks ∙ (ap (λ x. edited_moving x name how edit) (sym same) ∙ (refused ∙ ap (λ x. Err x) (sym out))))

@@ -1,5 +1,5 @@
 -- What the ops leave that change how the windows share the frame.
-use Rattle.std.proofs.Common.{◌≡◌, ◌≢◌, ℕ, ◌+◌, ◌-◌, ◌<◌, ◌≤◌, ◌==◌, ◌&&◌, Bool, true, false, inl, inr, is_some, if◌then◌else◌, nat_le, min, pos, Option, None, Some, Result, Ok, Err, List, [], ◌∷◌, ◌++◌, set, ap, subst, sym, refl, ◌∙◌, arith}
+use Rattle.std.proofs.Common.{◌≡◌, ℕ, ◌+◌, ◌-◌, ◌<◌, ◌≤◌, ◌==◌, ◌&&◌, Bool, true, false, inl, inr, is_some, if◌then◌else◌, nat_le, min, pos, Option, None, Some, Result, Ok, Err, List, [], ◌∷◌, ◌++◌, length, set, get_or, ap, subst, sym, refl, ◌∙◌, arith}
 use Rattle.std.proofs.lemmas.Bool.{cases_lt}
 use Rattle.std.proofs.lemmas.Bool.Decides.{nat_tests}
 use Rattle.std.specs.List.{remove}
@@ -7,7 +7,7 @@ use Rattle.std.specs.Prelude.{IsErr, IfErr, option_map}
 use Rattle.std.specs.Result.{IsErrAnd}
 use Rattle.rd_script.specs.declared.op.Op.{Op}
 use Rattle.rd_script.specs.declared.op.Op.TheVariants.{Split as SplitWindow}
-use Rattle.rd_tree.specs.Calls.{Configuration, frame_of, is_full, split_to, split_tree, remove_tree, mode_tree, margins_tree, Splits}
+use Rattle.rd_tree.specs.Calls.{Configuration, frame_of, is_full, split_tree, remove_tree, mode_tree, Splits}
 use Rattle.rd_tree.specs.Calls as tree
 use Rattle.rd_tree.specs.Places.{StandsIn}
 use Rattle.rd_tree.specs.Windows.{Windows, HasRoom, fits, first_leaf, halves, holds, sibling, split_at, window_at}
@@ -25,9 +25,10 @@ use Rattle.rd_state.specs.Answers.{Applies}
 use Rattle.rd_state.specs.Shown.{ChecksFormat}
 use Rattle.rd_state.specs.States.{StateValue}
 use Rattle.rd_state.specs.Steps.{changing, format_fault, in_window, mode_lining, on_tree, refused_tree, removing, splitting, step, unless_bad}
-use Rattle.rd_state.specs.Windows.{without_window}
+use Rattle.rd_state.specs.Valid.{IsValid}
+use Rattle.rd_state.specs.Windows.{place_in, without_window}
 use Rattle.rd_state.proofs.ByNumber.{NumberedWindow, eq-true, eq-false}
-use Rattle.rd_state.proofs.Finding.{IsFound, at-window}
+use Rattle.rd_state.proofs.Finding.{IsFound, at-window, found-in}
 use Rattle.rd_state.proofs.Leaves.{facts, is_some-leaf, leaf-placed}
 use Rattle.rd_state.proofs.Opening.{chosen, passed}
 
@@ -158,6 +159,15 @@ split-clamped split inside c n size short side valid is = elim (cases_lt size 42
       (never-fits split inside c n size c.made side valid (omega (arith, more)))
       (never-fits split inside c n short c.made side valid (omega (arith, is, more)))
 ]
+
+-- the window that is split, found again after room was made for one more, and what the tree is asked by the number that stands beside it
+pub split-found : (split : SplitLaw) (inside : InsideLaw) (s t : StateValue) (ws roomy : List NumberedWindow) (n i size short : ℕ) (side : Side) (e : NumberedWindow) → t ≡ s → IsValid s
+    → ws ≡ t.windows → i ≡ place_in n ws → i < length ws → roomy ≡ t.windows → e ≡ get_or roomy i e → short ≡ min size 4294967295
+    → IsFound n i t.windows e × (split_tree t.tree n side size ≡ split_tree t.tree e.0 side short)
+split-found split inside s t ws roomy n i size short side e same valid shown is less made at clamped =
+    let there = found-in t ws n i e shown is less (at ∙ ap (λ xs. get_or xs i e) made) in
+    let right : IsValid t = subst IsValid (sym same) valid in
+    (there, split-clamped split inside t.tree n size short side right.windows.tree clamped ∙ ap (λ k. split_tree t.tree k side short) (sym there.number))
 
 pub splits-window : (s t : StateValue) (n i : ℕ) (e : NumberedWindow) (side : Side) (size : ℕ) (d : Configuration) (w : WindowState) (made : ℕ) (ws : List NumberedWindow) → t ≡ s → IsFound n i t.windows e
     → split_tree t.tree n side size ≡ Ok d → made ≡ t.tree.made → w ≡ record e.1 { forced = false; pending = pos 0 } → ws ≡ t.windows ++ (made, w) ∷ []

@@ -1,5 +1,5 @@
 -- What the ops on a window's view leave.
-use Rattle.std.proofs.Common.{◌≡◌, ℕ, ◌<◌, ◌≤◌, ◌&&◌, Bool, true, false, if◌then◌else◌, nat_le, IsTrue, ℤ, pos, ◌+ℤ◌, neg_ℤ, ◌≤ℤ◌, FitsSigned, w64, to_z, of_z, Option, None, Some, Result, Ok, Err, List, length, set, ap, subst, sym, refl, ◌∙◌, arith}
+use Rattle.std.proofs.Common.{◌≡◌, ℕ, ◌<◌, ◌≤◌, Bool, true, false, if◌then◌else◌, IsTrue, ℤ, pos, ◌+ℤ◌, neg_ℤ, ◌≤ℤ◌, FitsSigned, w64, to_z, of_z, Some, Result, Ok, Err, List, length, set, get_or, ap, subst, sym, ◌∙◌, arith}
 use Rattle.std.proofs.lemmas.Bool.{and_parts}
 use Rattle.std.proofs.lemmas.Bool.Decides.{nat_tests}
 use Rattle.std.proofs.lemmas.Int.{ints, to_z-of_z}
@@ -12,10 +12,11 @@ use Rattle.rd_state.specs.declared.refused.Refused.TheVariants.{NoBuffer, OutOfR
 use Rattle.rd_state.specs.declared.window.WindowState.{WindowState}
 use Rattle.rd_state.specs.Edits.{is_accessible}
 use Rattle.rd_state.specs.States.{BufferValue, StateValue, number_of}
-use Rattle.rd_state.specs.Steps.{changing, held, in_buffer, in_shown, placing, showing, with_found}
+use Rattle.rd_state.specs.Steps.{changing, held, in_buffer, in_shown, placing, setting, showing, with_found}
 use Rattle.rd_state.specs.Valid.{IsValid}
+use Rattle.rd_state.specs.Windows.{place_in}
 use Rattle.rd_state.proofs.ByNumber.{NumberedWindow}
-use Rattle.rd_state.proofs.Finding.{IsFound, at-window}
+use Rattle.rd_state.proofs.Finding.{IsFound, at-window, found-in, sets-window}
 use Rattle.rd_state.proofs.Opening.{chosen, passed}
 use Rattle.rd_state.proofs.Showing.{held-small, window-valid}
 
@@ -64,6 +65,14 @@ place-refused s t n i place e f b same there at outside =
     let done : StateValue → BufferValue → Result StateValue Refused = λ x c. if is_accessible c.content.text place then changing n f (Ok x) else Err OutOfRange in
     at-window s t n i e (λ x w. in_shown x w (done x)) same there
     ∙ (ap (λ o. with_found NoBuffer o (done t)) at ∙ passed (is_accessible b.content.text place) (changing n f (Ok t)) (Err OutOfRange) outside)
+
+-- what is set of a window, where a position was found that is accessible in the buffer that it shows
+pub sets-placed : (s t : StateValue) (n i place short : ℕ) (e : NumberedWindow) (f : ℕ → WindowState → WindowState) → t ≡ s → i ≡ place_in n s.windows → i < length s.windows → short ≡ place
+    → e ≡ get_or t.windows i e → ((g : WindowState → WindowState) → placing s n place g ≡ setting s n g)
+    → placing s n place (f place) ≡ Ok (record t { windows = set t.windows i (e.0, f short e.1) })
+sets-placed s t n i place short e f same is inside near at placed =
+    let there = found-in t s.windows n i e (ap (λ (x : StateValue). x.windows) (sym same)) is inside at in
+    placed (f place) ∙ (sets-window s t n i e (f place) same there ∙ ap (λ p. Ok (record t { windows = set t.windows i (e.0, f p e.1) })) (sym near))
 
 before-begin : (t : TextValue) (place begin : ℕ) → begin ≡ t.begin → place < begin → is_accessible t place ≡ false
 before-begin t place begin is less = grind (arith, nat_tests)

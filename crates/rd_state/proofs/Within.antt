@@ -1,15 +1,15 @@
 -- Overlays and values of properties that lie in a text, and still do after an edit of it.
-use Rattle.std.proofs.Common.{◌≡◌, ℕ, zero, suc, ◌+◌, ◌-◌, ◌<◌, ◌≤◌, ◌⊎◌, ◌++◌, inl, inr, ◌==◌, ◌&&◌, ◌||◌, Bool, true, false, if◌then◌else◌, nat_lt, nat_le, Option, None, Some, Err, List, [], ◌∷◌, length, map, take, drop, set, sym, ap, subst, refl, ◌∙◌, arith, length-append, length-drop}
+use Rattle.std.proofs.Common.{◌≡◌, ℕ, zero, suc, ◌+◌, ◌-◌, ◌<◌, ◌≤◌, ◌++◌, inl, inr, ◌==◌, ◌&&◌, ◌||◌, Bool, true, false, if◌then◌else◌, nat_lt, nat_le, Option, None, Some, List, [], ◌∷◌, length, map, take, drop, set, sym, ap, subst, refl, ◌∙◌, arith, length-append, length-drop}
 use Rattle.std.proofs.lemmas.Bool.{ltb-true, ltb-false, leb-false}
 use Rattle.std.proofs.lemmas.Bool.Decides.{nat_tests}
 use Rattle.std.proofs.lemmas.List.{length-take, length-map, length-set}
 use Rattle.rd_text.specs.Texts.{TextValue, IsText, IsAccessible, inserted, deleted}
 use Rattle.rd_text.specs.Answers.{IsAccessibleRange}
+use Rattle.rd_overlays.specs.declared.overlay.Kind.{Kind}
 use Rattle.rd_overlays.specs.declared.overlay.Overlay.{Overlay}
-use Rattle.rd_overlays.specs.Overlays.{live, overlay_at, make_fault, moved, Makes, slot_changed, slot_grown, slot_shrunk, grown, shrunk, after_deletion, AllFit, SlotFits}
+use Rattle.rd_overlays.specs.Overlays.{live, overlay_at, make_fault, moved, given, place_of, slot_changed, slot_grown, slot_shrunk, grown, shrunk, after_deletion, AllFit, SlotFits}
 use Rattle.rd_base.specs.Settings.{SettingValues}
-use Rattle.rd_overlays.specs.declared.fault.OverlayFault.{OverlayFault}
-use Rattle.rd_overlays.specs.declared.fault.OverlayFault.TheVariants.{NoOverlay, OutOfRange, TooMany, Memory}
+use Rattle.rd_overlays.specs.declared.fault.OverlayFault.TheVariants.{OutOfRange, TooMany}
 use Rattle.rd_props.proofs.Names.{after-end, after-set}
 use Rattle.rd_props.specs.Buffers as props
 use Rattle.rd_state.specs.Edits.{is_range_of_all}
@@ -196,12 +196,6 @@ same-within b c within same values overlays = record {
 in-range : (t : TextValue) (from to : ℕ) (o : Overlay) → is_range_of_all t from to ≡ true → o.from ≡ from → o.to ≡ to → IsOverlayIn (length t.text) o
 in-range t from to o h f g = record { first = grind (arith, nat_tests); ordered = grind (arith, nat_tests); last = grind (arith, nat_tests) }
 
-pub not-made : (e : OverlayFault) (fault : Option OverlayFault) (old new : List (Option Overlay)) (o : Overlay) → Makes (Err e) fault old new o → new ≡ old
-not-made NoOverlay fault old new o h = h.1
-not-made OutOfRange fault old new o h = h.1
-not-made TooMany fault old new o h = h.1
-not-made Memory fault old new o h = h
-
 room-left : (a b : Bool) (n from to : ℕ) → nat_lt to from ≡ a → nat_le 65536 n ≡ b → (if a then Some OutOfRange else (if b then Some TooMany else None)) ≡ None → n < 65536
 room-left true b n from to ha hb h = absurd (cc)
 room-left false true n from to ha hb h = absurd (cc)
@@ -254,3 +248,17 @@ pub moved-within : (b : props.BufferValue) (overlays : List (Option Overlay)) (s
 moved-within b overlays settings number from to within range is =
     put-within b overlays settings number (slot_changed (λ overlay. record overlay { from = from; to = to }) (overlay_at b.overlays number)) within
     (λ p h. moved-in b.text from to (overlay_at b.overlays number) p range h) is
+
+given-in : (size : ℕ) (kind : Kind) (value : Option ℕ) (slot : Option Overlay) (p : Overlay) → ((q : Overlay) → slot ≡ Some q → IsOverlayIn size q)
+    → slot_changed (λ overlay. record overlay { values = set overlay.values (place_of kind) value }) slot ≡ Some p → IsOverlayIn size p
+given-in size kind value None p old h = absurd (cc)
+given-in size kind value (Some q) p old h =
+    let same : record q { values = set q.values (place_of kind) value } ≡ p = cc in
+    let is = old q refl in
+    subst (IsOverlayIn size) same (record { first = is.first; ordered = is.ordered; last = is.last })
+
+pub given-within : (b : props.BufferValue) (overlays : List (Option Overlay)) (settings : SettingValues) (number : ℕ) (kind : Kind) (value : Option ℕ) → IsWithin b
+    → overlays ≡ given b.overlays number kind value → IsWithin (record b { overlays = overlays; settings = settings })
+given-within b overlays settings number kind value within is =
+    put-within b overlays settings number (slot_changed (λ overlay. record overlay { values = set overlay.values (place_of kind) value }) (overlay_at b.overlays number)) within
+    (λ p h. given-in (length b.text.text) kind value (overlay_at b.overlays number) p (within.overlays number) h) is

@@ -1,33 +1,59 @@
-//! The edits of one buffer: its text and the values of its text properties change together.
+//! The edits of a buffer's text, as methods of `Content`: the values of its text properties and its overlays change with it.
 ghost use Rattle.std.specs.Prelude.{◌≡◌, ◌≢◌, ◌+◌, ◌≤◌, ℕ, Some, Ok, OnOk, OnErr, length};
 ghost use Rattle.rd_text.specs.Texts.{IsText};
 ghost use Rattle.rd_text.specs.Answers.{Inserts};
-ghost use Rattle.rd_props.specs.Buffers.{meaning, values_of};
-ghost use Rattle.rd_margins.specs.Marks.{MarkValues};
-ghost use Rattle.rd_state.specs.Held.{content_of};
-ghost use Rattle.rd_state.specs.Valid.{IsWithin};
+ghost use Rattle.rd_props.specs.Buffers.{values_of};
 ghost use Rattle.rd_props.specs.Edits.{opened};
 ghost use Rattle.rd_state.specs.Edits.{marked, insertion, deletion, narrowing, widening};
 ghost use Rattle.rd_state.specs.Answers.{Answers};
 
+use crate::content::Content;
 use crate::refused::Refused;
 use crate::values::{close, open};
 use rd_base::{Ch, Pos, Settings};
-use rd_props::BufferState;
 use rd_spans::Spans;
 use rd_text::{Buffer, TextFault};
 
-/// Puts a text in before a position. It has no properties, and what stands behind it moves.
-pub(crate) fn insert(buffer: &mut BufferState, pos: Pos, new: &[Ch]) -> Result<(), Refused>
-    requires { IsWithin (meaning buffer.old) }
-    ensures within { IsWithin (meaning buffer.new) }
-    ensures changes { (m : MarkValues) → Answers result (insertion pos new.now (content_of buffer.old m)) (content_of buffer.old m) (content_of buffer.new m) }
-{
-    buffer.text.stays_valid();
-    put_in(&mut buffer.text, &mut buffer.spans, pos, new)?;
-    buffer.overlays.inserted(pos, new.len() as u32);
-    mark(&mut buffer.settings, !new.is_empty());
-    Ok(())
+impl Content {
+    /// Puts a text in before a position. It has no properties, and what stands behind it moves.
+    pub(crate) fn insert(&mut self, pos: Pos, new: &[Ch]) -> Result<(), Refused>
+        ensures { Answers result (insertion pos new.now self.old) self.old self.new }
+    {
+        self.state.text.stays_valid();
+        put_in(&mut self.state.text, &mut self.state.spans, pos, new)?;
+        self.state.overlays.inserted(pos, new.len() as u32);
+        mark(&mut self.state.settings, !new.is_empty());
+        Ok(())
+    }
+
+    /// Takes a range away.
+    pub(crate) fn delete(&mut self, from: Pos, to: Pos) -> Result<(), Refused>
+        ensures changes { Answers result (deletion from to self.old) self.old self.new }
+        ensures free { result ≢ Err Refused.Memory }
+    {
+        self.state.text.stays_valid();
+        self.state.text.delete(from, to)?;
+        close(&mut self.state.spans, from, to);
+        self.state.overlays.deleted(from, to);
+        mark(&mut self.state.settings, from < to);
+        Ok(())
+    }
+
+    /// Makes a range the accessible one.
+    pub(crate) fn narrow(&mut self, from: Pos, to: Pos) -> Result<(), Refused>
+        ensures changes { Answers result (narrowing from to self.old) self.old self.new }
+        ensures free { result ≢ Err Refused.Memory }
+    {
+        self.state.text.narrow(from, to)?;
+        Ok(())
+    }
+
+    /// Makes the whole text accessible.
+    pub(crate) fn widen(&mut self)
+        ensures { widening self.old ≡ Ok self.new }
+    {
+        self.state.text.widen();
+    }
 }
 
 /// Puts characters in before a position of a text, and opens their positions in the values of its properties. Where there is no
@@ -46,41 +72,6 @@ fn put_in(text: &mut Buffer, spans: &mut [Spans], pos: Pos, new: &[Ch]) -> Resul
         return Err(TextFault::Memory);
     }
     Ok(())
-}
-
-/// Takes a range away.
-pub(crate) fn delete(buffer: &mut BufferState, from: Pos, to: Pos) -> Result<(), Refused>
-    requires { IsWithin (meaning buffer.old) }
-    ensures within { IsWithin (meaning buffer.new) }
-    ensures changes { (m : MarkValues) → Answers result (deletion from to (content_of buffer.old m)) (content_of buffer.old m) (content_of buffer.new m) }
-    ensures free { result ≢ Err Refused.Memory }
-{
-    buffer.text.stays_valid();
-    buffer.text.delete(from, to)?;
-    close(&mut buffer.spans, from, to);
-    buffer.overlays.deleted(from, to);
-    mark(&mut buffer.settings, from < to);
-    Ok(())
-}
-
-/// Makes a range the accessible one.
-pub(crate) fn narrow(buffer: &mut BufferState, from: Pos, to: Pos) -> Result<(), Refused>
-    requires { IsWithin (meaning buffer.old) }
-    ensures within { IsWithin (meaning buffer.new) }
-    ensures changes { (m : MarkValues) → Answers result (narrowing from to (content_of buffer.old m)) (content_of buffer.old m) (content_of buffer.new m) }
-    ensures free { result ≢ Err Refused.Memory }
-{
-    buffer.text.narrow(from, to)?;
-    Ok(())
-}
-
-/// Makes the whole text accessible.
-pub(crate) fn widen(buffer: &mut BufferState)
-    requires { IsWithin (meaning buffer.old) }
-    ensures within { IsWithin (meaning buffer.new) }
-    ensures changes { (m : MarkValues) → widening (content_of buffer.old m) ≡ Ok (content_of buffer.new m) }
-{
-    buffer.text.widen();
 }
 
 /// Sets `modified` where an edit changed anything.

@@ -66,8 +66,7 @@ impl StateParts {
         ensures { Applies result (OverlayMove name.now number from to) self.old self.new }
     {
         let i = find(&self.buffers, name)?;
-        let overlay = self.buffers[i].overlay(number)?;
-        self.buffers[i].move_overlay(number, from, to)?;
+        let overlay = self.buffers[i].move_overlay(number, from, to)?;
         Ok(Effect::Moved {
             buffer: i as u32,
             before: (overlay.from, overlay.to),
@@ -83,8 +82,7 @@ impl StateParts {
         ensures free { result ≢ Err Refused.Memory }
     {
         let i = find(&self.buffers, name)?;
-        let overlay = self.buffers[i].overlay(number)?;
-        self.buffers[i].drop_overlay(number)?;
+        let overlay = self.buffers[i].drop_overlay(number)?;
         Ok(covered(i as u32, overlay))
     }
 
@@ -103,8 +101,7 @@ impl StateParts {
         ensures free { result ≢ Err Refused.Memory }
     {
         let i = find(&self.buffers, name)?;
-        let overlay = self.buffers[i].overlay(number)?;
-        self.buffers[i].put_on_overlay(&self.objects, number, kind, value)?;
+        let overlay = self.buffers[i].put_on_overlay(&self.objects, number, kind, value)?;
         Ok(covered(i as u32, overlay))
     }
 

@@ -1,11 +1,20 @@
-use Rattle.std.proofs.Common.{subst}
-use Rattle.rd_state.specs.States.{ContentValue}
-use Rattle.rd_state.specs.Held.{content_of}
+use Rattle.std.proofs.Common.{ap, sym, ◌∙◌}
+use Rattle.rd_props.specs.Buffers.{meaning}
+use Rattle.rd_props.specs.declared.state.BufferState.{BufferState}
 use Rattle.rd_state.specs.Edits.{deletion}
-use Rattle.rd_state.specs.Answers.{Answers}
+use Rattle.rd_state.proofs.Edited.{deletion-is}
+use Rattle.rd_state.proofs.Within.{shrunk-within}
 use Rattle.rd_state.proofs.content.Content.delete.Goals as goal
+
+pub invariant_of-self-2 : goal.invariant_of-self-2
+invariant_of-self-2 c =
+    let left : BufferState = record { text = c.delete.new.self; spans = c.close.new.spans; overlays = c.deleted.new.self; settings = c.mark.new.settings } in
+    shrunk-within (meaning c.self.inside.state) (meaning left) c.args.from c.args.to c.stays_valid.ensures.text c.self.invariant c.in_ok-delete.ensures.0
+    c.in_ok-delete.ensures.1 c.close.ensures c.deleted.ensures
 
 pub returns-clause-changes : goal.returns-clause-changes
 returns-clause-changes c =
-    subst (λ (v : ContentValue). Answers c.delete.result (deletion c.args.from c.args.to v) v (content_of c.delete.new.buffer c.self.inside.marks))
-    c.self.view_is (c.delete.ensures.changes c.self.inside.marks)
+    let left : BufferState = record { text = c.delete.new.self; spans = c.close.new.spans; overlays = c.deleted.new.self; settings = c.mark.new.settings } in
+    ap (deletion c.args.from c.args.to) (sym c.self.view_is)
+    ∙ deletion-is c.self.inside.state left c.args.from c.args.to c.self.invariant c.in_ok-delete.ensures.0
+    c.in_ok-delete.ensures.1 c.close.ensures c.deleted.ensures c.mark.ensures c.self.inside.marks

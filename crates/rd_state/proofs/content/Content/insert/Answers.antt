@@ -1,11 +1,31 @@
-use Rattle.std.proofs.Common.{subst}
-use Rattle.rd_state.specs.States.{ContentValue}
-use Rattle.rd_state.specs.Held.{content_of}
-use Rattle.rd_state.specs.Edits.{insertion}
-use Rattle.rd_state.specs.Answers.{Answers}
+use Rattle.std.proofs.Common.{◌≡◌, ◌+◌, ◌<◌, nat_lt, length, ap, sym, ◌∙◌, arith}
+use Rattle.rd_props.specs.Buffers.{meaning}
+use Rattle.rd_props.specs.declared.state.BufferState.{BufferState}
+use Rattle.rd_state.specs.Edits.{insertion, marked}
+use Rattle.rd_state.proofs.Edited.{insertion-is, some-characters}
+use Rattle.rd_state.proofs.Within.{all-fit, grown-within}
 use Rattle.rd_state.proofs.content.Content.insert.Goals as goal
+
+pub inserted-requires : goal.inserted-requires
+inserted-requires c =
+    let b = c.self.inside.state in
+    let room = c.in_ok-put_in.ensures.text.1 in
+    let bound : length b.text.text + 1 + length c.args.new.now < 4294967296 = omega (arith, room) in
+    all-fit b.overlays (length b.text.text) c.args.pos (length c.args.new.now) bound c.self.invariant.overlays
+
+pub invariant_of-self-2 : goal.invariant_of-self-2
+invariant_of-self-2 c =
+    let b = c.self.inside.state in
+    let left : BufferState = record { text = c.put_in.new.text; spans = c.put_in.new.spans; overlays = c.inserted.new.self; settings = c.mark.new.settings } in
+    let inserts = c.in_ok-put_in.ensures.text in
+    grown-within (meaning b) (meaning left) c.args.pos c.args.new.now c.stays_valid.ensures.text c.self.invariant inserts.0 inserts.2 c.in_ok-put_in.ensures.values c.inserted.ensures
 
 pub returns : goal.returns
 returns c =
-    subst (λ (v : ContentValue). Answers c.insert.result (insertion c.args.pos c.args.new.now v) v (content_of c.insert.new.buffer c.self.inside.marks))
-    c.self.view_is (c.insert.ensures.changes c.self.inside.marks)
+    let b = c.self.inside.state in
+    let left : BufferState = record { text = c.put_in.new.text; spans = c.put_in.new.spans; overlays = c.inserted.new.self; settings = c.mark.new.settings } in
+    let inserts = c.in_ok-put_in.ensures.text in
+    let settings : c.mark.new.settings ≡ marked (nat_lt 0 (length c.args.new.now)) b.settings
+    = c.mark.ensures ∙ ap (λ t. marked t b.settings) (some-characters (length c.args.new.now) c.is_empty.result c.is_empty.ensures) in
+    ap (insertion c.args.pos c.args.new.now) (sym c.self.view_is)
+    ∙ insertion-is b left c.args.pos c.args.new.now c.self.invariant inserts.0 inserts.1 inserts.2 c.in_ok-put_in.ensures.values c.inserted.ensures settings c.self.inside.marks

@@ -7,12 +7,12 @@ pub overflow_cast-result-2 : goal.overflow_cast-result-2
 overflow_cast-result-2 c =
     let valid = subst IsValid (sym c.self.view_is) c.requires in
     let small = moved-small c.self.inside.objects c.self.inside.buffers.entries c.in_ok-i.i c.index_mut.result.now c.move_overlay.new.self valid.buffers c.index_mut.ensures.value
-    c.args.number c.args.from c.args.to _ c.in_ok-move_overlay.ensures in
+    c.args.number c.args.from c.args.to _ c.in_ok-overlay.ensures.changes in
     omega (arith, small.0)
 
 pub overflow_cast-result-3 : goal.overflow_cast-result-3
 overflow_cast-result-3 c =
     let valid = subst IsValid (sym c.self.view_is) c.requires in
     let small = moved-small c.self.inside.objects c.self.inside.buffers.entries c.in_ok-i.i c.index_mut.result.now c.move_overlay.new.self valid.buffers c.index_mut.ensures.value
-    c.args.number c.args.from c.args.to _ c.in_ok-move_overlay.ensures in
+    c.args.number c.args.from c.args.to _ c.in_ok-overlay.ensures.changes in
     omega (arith, small.1)

@@ -1,34 +1,22 @@
-use Rattle.std.proofs.Common.{◌<◌, Err, length, sym, ap, subst, refl, ◌∙◌}
+use Rattle.std.proofs.Common.{refl}
 use Rattle.rd_script.specs.declared.op.Op.TheVariants.{Narrow}
 use Rattle.rd_state.specs.contracts.parts.StateParts.{the_view}
 use Rattle.rd_state.specs.declared.moves.Move.TheVariants.{Narrowed}
 use Rattle.rd_state.specs.Edits.{narrowing}
-use Rattle.rd_state.specs.Steps.{edited_moving, step}
-use Rattle.rd_state.specs.Valid.{IsValid}
-use Rattle.rd_state.proofs.Reaching.{narrowing-from-behind, narrowing-to-behind}
-use Rattle.rd_state.proofs.Sharing.{refuses}
+use Rattle.rd_state.specs.Steps.{step}
+use Rattle.rd_state.proofs.Reaching.{narrowing-from-behind, narrowing-to-behind, refuses-behind}
 use Rattle.rd_state.proofs.parts.StateParts.narrow.Goals as goal
 
 pub returns-in_err-from-clause-applies : goal.returns-in_err-from-clause-applies
 unfolding step
 returns-in_err-from-clause-applies c =
-    let t = the_view c.self.inside in
-    let valid = subst IsValid (sym c.self.view_is) c.requires in
-    let name = c.args.name.now in
-    let less = subst (λ i. i < length t.buffers) c.in_ok-i.ensures.found c.in_ok-i.ensures.within in
-    let refused = narrowing-from-behind t name valid less c.args.from c.args.to c.in_err-from.ensures.far in
-    refuses c.from_residual-in_err-from.result (Narrow name c.args.from c.args.to) c.args.self.now c.args.self.now c.in_err-from.field-0.0
-    c.from_residual-in_err-from.ensures.0 c.from_residual-in_err-from.ensures.1 refl
-    (ap (λ s. edited_moving s name (Narrowed c.args.from c.args.to) (narrowing c.args.from c.args.to)) (sym c.self.view_is) ∙ (refused ∙ ap (λ e. Err e) (sym c.in_err-from.ensures.refused)))
+    refuses-behind c.from_residual-in_err-from.result (Narrow c.args.name.now c.args.from c.args.to) c.args.self.now (the_view c.self.inside) c.in_err-from.field-0.0 c.args.name.now c.in_ok-i.i (Narrowed c.args.from c.args.to) (narrowing c.args.from c.args.to)
+    c.from_residual-in_err-from.ensures.0 c.from_residual-in_err-from.ensures.1 c.in_err-from.ensures.refused c.self.view_is c.requires c.in_ok-i.ensures.found c.in_ok-i.ensures.within
+    (narrowing-from-behind c.args.from c.args.to c.in_err-from.ensures.far) refl
 
 pub returns-in_err-to-clause-applies : goal.returns-in_err-to-clause-applies
 unfolding step
 returns-in_err-to-clause-applies c =
-    let t = the_view c.self.inside in
-    let valid = subst IsValid (sym c.self.view_is) c.requires in
-    let name = c.args.name.now in
-    let less = subst (λ i. i < length t.buffers) c.in_ok-i.ensures.found c.in_ok-i.ensures.within in
-    let refused = narrowing-to-behind t name valid less c.args.from c.args.to c.in_err-to.ensures.far in
-    refuses c.from_residual-in_err-to.result (Narrow name c.args.from c.args.to) c.args.self.now c.args.self.now c.in_err-to.field-0.0
-    c.from_residual-in_err-to.ensures.0 c.from_residual-in_err-to.ensures.1 refl
-    (ap (λ s. edited_moving s name (Narrowed c.args.from c.args.to) (narrowing c.args.from c.args.to)) (sym c.self.view_is) ∙ (refused ∙ ap (λ e. Err e) (sym c.in_err-to.ensures.refused)))
+    refuses-behind c.from_residual-in_err-to.result (Narrow c.args.name.now c.args.from c.args.to) c.args.self.now (the_view c.self.inside) c.in_err-to.field-0.0 c.args.name.now c.in_ok-i.i (Narrowed c.args.from c.args.to) (narrowing c.args.from c.args.to)
+    c.from_residual-in_err-to.ensures.0 c.from_residual-in_err-to.ensures.1 c.in_err-to.ensures.refused c.self.view_is c.requires c.in_ok-i.ensures.found c.in_ok-i.ensures.within
+    (narrowing-to-behind c.args.from c.args.to c.in_err-to.ensures.far) refl
