@@ -1,13 +1,11 @@
 -- Pieces of bytes, as the code finds them.
 use Rattle.std.proofs.Common.{◌≡◌, ◌≢◌, ◌==◌, ℕ, zero, suc, ◌+◌, ◌-◌, ◌<◌, ◌≤◌, Bool, true, false, if◌then◌else◌, Option, None, Some, option_map, List, [], ◌∷◌, ◌++◌, length, get_or, take, drop, refl, sym, ap, ◌∙◌, arith, append_assoc, append-nil, Bor}
 use Rattle.std.specs.Prelude.{MatchOption}
-use Rattle.std.proofs.lemmas.Bool.Decides.{nat_tests, Decides-eqb}
+use Rattle.std.proofs.lemmas.Bool.{ne_eqb}
+use Rattle.std.proofs.lemmas.Bool.Decides.{Decides-eqb}
 use Rattle.std.proofs.lemmas.List.{drop_more, take_more, drop_all, drop-drop, length-drop}
 use Rattle.rd_io.specs.Lines.{lines_of, in_front}
 use Rattle.rd_audit.specs.Cuts.{stripped, cut, cut_last_or, cut_last, pieces}
-
-pub eq_no : (a b : ℕ) → a ≢ b → (a == b) ≡ false
-eq_no a b e = grind (arith, nat_tests)
 
 -- ---- a front
 
@@ -55,7 +53,7 @@ cut-yes : (byte b : ℕ) (bs : List ℕ) → b ≡ byte → cut byte (b ∷ bs) 
 cut-yes byte b bs e = ap (λ t. if t then Some ([], bs) else option_map (λ parts. (b ∷ parts.0, parts.1)) (cut byte bs)) ((Decides-eqb b byte).1 e)
 
 cut-no : (byte b : ℕ) (bs : List ℕ) → b ≢ byte → cut byte (b ∷ bs) ≡ option_map (λ parts. (b ∷ parts.0, parts.1)) (cut byte bs)
-cut-no byte b bs e = ap (λ t. if t then Some ([], bs) else option_map (λ parts. (b ∷ parts.0, parts.1)) (cut byte bs)) (eq_no b byte e)
+cut-no byte b bs e = ap (λ t. if t then Some ([], bs) else option_map (λ parts. (b ∷ parts.0, parts.1)) (cut byte bs)) (ne_eqb b byte e)
 
 pub cut-here : (byte i : ℕ) (bs : List ℕ) → i < length bs → get_or bs i 0 ≡ byte → behind (take i bs) (cut byte (drop i bs)) ≡ cut byte bs
     → Some (take i bs, drop 1 (drop i bs)) ≡ cut byte bs
@@ -96,7 +94,7 @@ last-here byte zero (b ∷ bs) less found none =
 last-here byte (suc i) (b ∷ bs) less found none = ap (cut_last_or byte b bs) (last-here byte i bs (omega (arith, less)) found none)
 
 last-no : (byte b : ℕ) (bs : List ℕ) → b ≢ byte → cut_last byte bs ≡ None → cut_last byte (b ∷ bs) ≡ None
-last-no byte b bs other none = ap (cut_last_or byte b bs) none ∙ ap (λ t. if t then Some ([], bs) else None) (eq_no b byte other)
+last-no byte b bs other none = ap (cut_last_or byte b bs) none ∙ ap (λ t. if t then Some ([], bs) else None) (ne_eqb b byte other)
 
 pub last-on : (byte i : ℕ) (bs : List ℕ) → i < length bs → get_or bs i 0 ≢ byte → cut_last byte (drop (suc i) bs) ≡ None → cut_last byte (drop i bs) ≡ None
 last-on byte i bs less other none =

@@ -1,6 +1,6 @@
 -- The numbers of a face, and the run that they stand in, read back.
 use Rattle.std.proofs.Common.{◌≡◌, ◌==◌, ℕ, ◌+◌, ◌-◌, ◌<◌, ◌≤◌, ◌&&◌, not, nat_lt, nat_le, Bool, true, false, if◌then◌else◌, Option, None, Some, option_and_then, decimal, List, [], ◌∷◌, ◌++◌, inl, inr, refl, sym, ap, ap₂, subst, ◌∙◌, arith, append-nil, true≢false}
-use Rattle.std.proofs.lemmas.Bool.{cases_eq}
+use Rattle.std.proofs.lemmas.Bool.{and_from, and_parts, cases_eq}
 use Rattle.std.proofs.lemmas.Bool.Decides.{nat_tests}
 use Rattle.rd_base.specs.Cells.{HasColours}
 use Rattle.rd_base.specs.Equals.{same_face}
@@ -11,7 +11,7 @@ use Rattle.rd_audit.specs.Cuts.{pieces}
 use Rattle.rd_audit.specs.Numbers.{number_of, both}
 use Rattle.rd_audit.specs.Runs.{place_of, comes_behind, face_from, face_of, span_of, run_by, run_of}
 use Rattle.rd_audit.proofs.Decimals.{number-read}
-use Rattle.rd_audit.proofs.Lacking.{lacks, lacks-append, lacks-decimal, is_no_digit, and-both, and-yes, cut-seam, pieces-seam, pieces-one}
+use Rattle.rd_audit.proofs.Lacking.{lacks, lacks-append, lacks-decimal, is_no_digit, cut-seam, pieces-seam, pieces-one}
 
 -- ---- numbers between semicolons
 
@@ -197,18 +197,18 @@ is_apart byte = is_no_digit byte && (not (45 == byte) && (not (58 == byte) && no
 
 span-lacks : (byte first last : ℕ) → is_no_digit byte ≡ true → not (45 == byte) ≡ true → lacks byte (span_text first last) ≡ true
 span-lacks byte first last p q =
-    lacks-append byte (decimal first) (45 ∷ decimal last) (lacks-decimal byte first p) (and-yes (not (45 == byte)) (lacks byte (decimal last)) q (lacks-decimal byte last p))
+    lacks-append byte (decimal first) (45 ∷ decimal last) (lacks-decimal byte first p) (and_from (not (45 == byte)) (lacks byte (decimal last)) q (lacks-decimal byte last p))
 
 all-lacks : (byte : ℕ) (ns : List ℕ) → is_no_digit byte ≡ true → not (58 == byte) ≡ true → not (59 == byte) ≡ true → lacks byte (all_text ns) ≡ true
 all-lacks byte [] p q r = refl
 all-lacks byte (n ∷ ns) p q r =
-    and-yes (not (58 == byte)) (lacks byte (decimal n ++ more_text ns)) q (lacks-append byte (decimal n) (more_text ns) (lacks-decimal byte n p) (more-lacks byte ns p r))
+    and_from (not (58 == byte)) (lacks byte (decimal n ++ more_text ns)) q (lacks-append byte (decimal n) (more_text ns) (lacks-decimal byte n p) (more-lacks byte ns p r))
 
 pub piece-lacks : (byte first last : ℕ) (face : Attributes) → is_apart byte ≡ true → lacks byte (run_piece first last face) ≡ true
 piece-lacks byte first last face h =
-    let one = and-both (is_no_digit byte) (not (45 == byte) && (not (58 == byte) && not (59 == byte))) h in
-    let two = and-both (not (45 == byte)) (not (58 == byte) && not (59 == byte)) one.1 in
-    let three = and-both (not (58 == byte)) (not (59 == byte)) two.1 in
+    let one = and_parts (is_no_digit byte) (not (45 == byte) && (not (58 == byte) && not (59 == byte))) h in
+    let two = and_parts (not (45 == byte)) (not (58 == byte) && not (59 == byte)) one.1 in
+    let three = and_parts (not (58 == byte)) (not (59 == byte)) two.1 in
     lacks-append byte (span_text first last) (numbers_text face) (span-lacks byte first last one.0 two.0)
     (ap (lacks byte) (behind-all (numbers_of_face face)) ∙ all-lacks byte (there (numbers_of_face face)) one.0 three.0 three.1)
 

@@ -1,5 +1,6 @@
 -- Bytes that lack a byte, and where they are cut by it.
 use Rattle.std.proofs.Common.{◌≡◌, ◌==◌, ℕ, zero, suc, ◌+◌, ◌/◌, ◌%◌, ◌<◌, ◌||◌, ◌&&◌, not, nat_lt, Bool, true, false, if◌then◌else◌, None, Some, option_map, decimal, List, [], ◌∷◌, ◌++◌, refl, sym, ap, ◌∙◌, arith, true≢false}
+use Rattle.std.proofs.lemmas.Bool.{and_from, and_parts, not-true}
 use Rattle.std.proofs.lemmas.Bool.Decides.{nat_tests, Decides-eqb}
 use Rattle.std.specs.Fmt.{digits, digits_onto, digit_glyph}
 use Rattle.rd_io.specs.Lines.{lines_of}
@@ -11,22 +12,11 @@ abbrev pub lacks : ℕ → List ℕ → Bool
 lacks byte [] = true
 lacks byte (b ∷ bs) = not (b == byte) && lacks byte bs
 
-pub and-both : (a b : Bool) → a && b ≡ true → (a ≡ true) × (b ≡ true)
-and-both true b e = (refl, e)
-and-both false b e = absurd (true≢false (sym e))
-
-pub and-yes : (a b : Bool) → a ≡ true → b ≡ true → a && b ≡ true
-and-yes a b p q = ap (λ t. t && b) p ∙ q
-
-pub not-yes : (a : Bool) → not a ≡ true → a ≡ false
-not-yes true e = absurd (true≢false (sym e))
-not-yes false e = refl
-
 pub lacks-append : (byte : ℕ) (front back : List ℕ) → lacks byte front ≡ true → lacks byte back ≡ true → lacks byte (front ++ back) ≡ true
 lacks-append byte [] back p q = q
 lacks-append byte (b ∷ bs) back p q =
-    let h = and-both (not (b == byte)) (lacks byte bs) p in
-    and-yes (not (b == byte)) (lacks byte (bs ++ back)) h.0 (lacks-append byte bs back h.1 q)
+    let h = and_parts (not (b == byte)) (lacks byte bs) p in
+    and_from (not (b == byte)) (lacks byte (bs ++ back)) h.0 (lacks-append byte bs back h.1 q)
 
 -- ---- numbers
 
@@ -50,7 +40,7 @@ lacks-onto byte zero n acc other h = h
 lacks-onto byte (suc k) n acc other h =
     let small : n % 10 < 10 = omega arith in
     onto-step byte k n (digit_glyph false (n % 10) ∷ acc) (n / 10 == 0) (lacks-onto byte k (n / 10) (digit_glyph false (n % 10) ∷ acc) other)
-    (and-yes (not (digit_glyph false (n % 10) == byte)) (lacks byte acc) (glyph-other byte (n % 10) other small) h)
+    (and_from (not (digit_glyph false (n % 10) == byte)) (lacks byte acc) (glyph-other byte (n % 10) other small) h)
 
 pub lacks-decimal : (byte n : ℕ) → is_no_digit byte ≡ true → lacks byte (decimal n) ≡ true
 unfolding digits
@@ -61,15 +51,15 @@ lacks-decimal byte n other = lacks-onto byte 64 n [] other refl
 pub cut-seam : (byte : ℕ) (front back : List ℕ) → lacks byte front ≡ true → cut byte (front ++ byte ∷ back) ≡ Some (front, back)
 cut-seam byte [] back h = ap (λ t. if t then Some ([], back) else option_map (λ parts. (byte ∷ parts.0, parts.1)) (cut byte back)) ((Decides-eqb byte byte).1 refl)
 cut-seam byte (b ∷ bs) back h =
-    let both = and-both (not (b == byte)) (lacks byte bs) h in
-    ap (λ t. if t then Some ([], bs ++ byte ∷ back) else option_map (λ parts. (b ∷ parts.0, parts.1)) (cut byte (bs ++ byte ∷ back))) (not-yes (b == byte) both.0)
+    let both = and_parts (not (b == byte)) (lacks byte bs) h in
+    ap (λ t. if t then Some ([], bs ++ byte ∷ back) else option_map (λ parts. (b ∷ parts.0, parts.1)) (cut byte (bs ++ byte ∷ back))) (not-true (b == byte) both.0)
     ∙ ap (option_map (λ parts. (b ∷ parts.0, parts.1))) (cut-seam byte bs back both.1)
 
 pub cut-none : (byte : ℕ) (bytes : List ℕ) → lacks byte bytes ≡ true → cut byte bytes ≡ None
 cut-none byte [] h = refl
 cut-none byte (b ∷ bs) h =
-    let both = and-both (not (b == byte)) (lacks byte bs) h in
-    ap (λ t. if t then Some ([], bs) else option_map (λ parts. (b ∷ parts.0, parts.1)) (cut byte bs)) (not-yes (b == byte) both.0)
+    let both = and_parts (not (b == byte)) (lacks byte bs) h in
+    ap (λ t. if t then Some ([], bs) else option_map (λ parts. (b ∷ parts.0, parts.1)) (cut byte bs)) (not-true (b == byte) both.0)
     ∙ ap (option_map (λ parts. (b ∷ parts.0, parts.1))) (cut-none byte bs both.1)
 
 pub pieces-seam : (byte : ℕ) (front back : List ℕ) → lacks byte front ≡ true → pieces byte (front ++ byte ∷ back) ≡ front ∷ pieces byte back
@@ -84,8 +74,8 @@ lines-seam line back h = lines-cut (line ++ 10 ∷ back) line back (cut-seam 10 
 last-none : (byte : ℕ) (bytes : List ℕ) → lacks byte bytes ≡ true → cut_last byte bytes ≡ None
 last-none byte [] h = refl
 last-none byte (b ∷ bs) h =
-    let both = and-both (not (b == byte)) (lacks byte bs) h in
-    ap (cut_last_or byte b bs) (last-none byte bs both.1) ∙ ap (λ t. if t then Some ([], bs) else None) (not-yes (b == byte) both.0)
+    let both = and_parts (not (b == byte)) (lacks byte bs) h in
+    ap (cut_last_or byte b bs) (last-none byte bs both.1) ∙ ap (λ t. if t then Some ([], bs) else None) (not-true (b == byte) both.0)
 
 pub last-seam : (byte : ℕ) (front back : List ℕ) → lacks byte back ≡ true → cut_last byte (front ++ byte ∷ back) ≡ Some (front, back)
 last-seam byte [] back h =

@@ -1,5 +1,6 @@
 -- Lines that leave the screen as it is send nothing, and what they tell has no line of a cursor.
 use Rattle.std.proofs.Common.{◌≡◌, ◌==◌, ℕ, ◌+◌, Bool, true, false, if◌then◌else◌, is_some, Option, None, Some, decimal, codes, List, [], ◌∷◌, ◌++◌, refl, sym, ap, ◌∙◌, subst, append_assoc, append-nil, true≢false}
+use Rattle.std.proofs.lemmas.Bool.{and_parts, not-true}
 use Rattle.std.proofs.lemmas.List.Elements.{All-cons}
 use Rattle.rd_io.specs.Lines.{lines_of}
 use Rattle.rd_layout.specs.Redisplays.{update_of}
@@ -10,7 +11,7 @@ use Rattle.rd_run.proofs.Inputs.{run-clear, run_line-goes}
 use Rattle.rd_run.specs.Reports.{no_memory_line}
 use Rattle.rd_run.specs.Runs.{Effect, Input, Standing, World, effect, is_sent, run, run_line}
 use Rattle.rd_run.specs.declared.status.ScriptFault.{ScriptFault}
-use Rattle.rd_audit.proofs.Lacking.{and-both, lacks, lacks-append, lacks-decimal, lines-seam, not-yes}
+use Rattle.rd_audit.proofs.Lacking.{lacks, lacks-append, lacks-decimal, lines-seam}
 use Rattle.rd_audit.specs.Cuts.{stripped}
 use Rattle.rd_audit.specs.Printed.{HasNoCursor}
 use Rattle.rd_audit.specs.Recorded.{LeaveScreen, since, since_frame}
@@ -33,7 +34,7 @@ passed-line line rest unbroken other h =
 other-letter : (digits rest : List ℕ) → lacks 99 digits ≡ true → is_cursor (digits ++ 58 ∷ rest) ≡ false
 other-letter [] rest h = refl
 other-letter (b ∷ bs) rest h =
-    let apart = not-yes (b == 99) (and-both _ (lacks 99 bs) h).0 in
+    let apart = not-true (b == 99) (and_parts _ (lacks 99 bs) h).0 in
     ap (λ t. is_some (if t then stripped (codes "ursor ") (bs ++ 58 ∷ rest) else None)) apart
 
 passed-no_memory : (number : ℕ) → IsPassed (no_memory_line number)

@@ -1,7 +1,6 @@
 -- Lists of windows by their numbers.
-use Rattle.std.proofs.Common.{◌≡◌, ◌≢◌, ℕ, ◌==◌, inl, inr, Bool, true, false, if◌then◌else◌, None, Some, List, [], ◌∷◌, ◌++◌, ◌<◌, get_or, length, map, sym, ap, refl, ◌∙◌, arith, subst}
+use Rattle.std.proofs.Common.{◌≡◌, ◌≢◌, ℕ, inl, inr, None, Some, List, [], ◌∷◌, ◌++◌, ◌<◌, get_or, length, map, sym, ap, refl, ◌∙◌, subst}
 use Rattle.std.proofs.lemmas.Bool.{cases_eq}
-use Rattle.std.proofs.lemmas.Bool.Decides.{nat_tests}
 use Rattle.std.proofs.lemmas.Option.{slice_get-get_or}
 use Rattle.std.specs.Prelude.{option_map, slice_get}
 use Rattle.rd_state.specs.States.{BufferValue, new_buffer}
@@ -59,28 +58,7 @@ lives-end n d (e ∷ rest) h l = elim (cases_eq e.0 n) [
   | inr q ↦ lives-there n e rest q (lives-end n d rest h (lives-behind n e (rest ++ d ∷ []) q l))
 ]
 
--- ---- a window that became another, and one that went
-
-pub window-with-same : (n : ℕ) (f : WindowState → WindowState) (ws : List NumberedWindow) → window_of n (with_window n f ws) ≡ option_map f (window_of n ws)
-window-with-same n f [] = refl
-window-with-same n f (e ∷ rest) = elim (cases_eq e.0 n) [
-  | inl p ↦ ap (window_of n) (with-here n f e rest p) ∙ (window-here n (e.0, f e.1) rest p ∙ sym (ap (option_map f) (window-here n e rest p)))
-  | inr q ↦
-      ap (window_of n) (with-there n f e rest q)
-      ∙ (window-there n e (with_window n f rest) q ∙ (window-with-same n f rest ∙ sym (ap (option_map f) (window-there n e rest q))))
-]
-
-pub window-with-other : (n m : ℕ) (f : WindowState → WindowState) (ws : List NumberedWindow) → m ≢ n → window_of m (with_window n f ws) ≡ window_of m ws
-window-with-other n m f [] ne = refl
-window-with-other n m f (e ∷ rest) ne = elim (cases_eq e.0 n) [
-  | inl p ↦
-      let other : e.0 ≢ m = λ r. ne (sym r ∙ p) in
-      ap (window_of m) (with-here n f e rest p) ∙ (window-there m (e.0, f e.1) rest other ∙ sym (window-there m e rest other))
-  | inr q ↦ ap (window_of m) (with-there n f e rest q) ∙ elim (cases_eq e.0 m) [
-    | inl r ↦ window-here m e (with_window n f rest) r ∙ sym (window-here m e rest r)
-    | inr r ↦ window-there m e (with_window n f rest) r ∙ (window-with-other n m f rest ne ∙ sym (window-there m e rest r))
-  ]
-]
+-- ---- a window that went
 
 pub window-gone : (n : ℕ) (ws : List NumberedWindow) → AreApart ws → window_of n (without_window n ws) ≡ None
 window-gone n [] h = refl

@@ -30,8 +30,8 @@ use Rattle.rd_state.specs.declared.window.WindowState.{WindowState}
 use Rattle.rd_tree.specs.Calls.{Configuration, split_tree, remove_tree, resize_tree, mode_tree, margins_tree}
 use Rattle.rd_tree.specs.declared.fault.TreeFault.{TreeFault}
 use Rattle.rd_layout.specs.Changes.{change_by, if_shown, restyled}
-use Rattle.rd_layout.proofs.ByNumber.{window-became, window-gone, window-left, window-with-other, window-with-same}
-use Rattle.rd_state.proofs.ByNumber.{NumberedWindow, eq-true, eq-false, window-here, window-there}
+use Rattle.rd_layout.proofs.ByNumber.{window-became, window-gone, window-left}
+use Rattle.rd_state.proofs.ByNumber.{NumberedWindow, eq-true, eq-false, window-here, window-other, window-same, window-there}
 use Rattle.rd_state.proofs.Opening.{chosen, passed}
 
 -- an effect tells no change of a window that shows a buffer
@@ -163,10 +163,10 @@ windows-with : (effect : Effect) (ws : List NumberedWindow) (n : ℕ) (f : Windo
 windows-with effect ws n f good number old new h k quiet = elim (cases_eq number n) [
   | inl p ↦
       let here : window_of n ws ≡ Some old = ap (λ j. window_of j ws) (sym p) ∙ h in
-      let after : option_map f (window_of n ws) ≡ Some new = sym (window-with-same n f ws) ∙ (ap (λ j. window_of j (with_window n f ws)) (sym p) ∙ k) in
+      let after : option_map f (window_of n ws) ≡ Some new = sym (window-same n f ws) ∙ (ap (λ j. window_of j (with_window n f ws)) (sym p) ∙ k) in
       let is : f old ≡ new = cc (sym (ap (option_map f) here) ∙ after) in
       subst (Same old) is (good old (subst (λ j. Quiet effect j old.buffer) p quiet))
-  | inr q ↦ same old new (one (window_of number ws) old new h (sym (window-with-other n number f ws q) ∙ k))
+  | inr q ↦ same old new (one (window_of number ws) old new h (sym (window-other n number f ws q) ∙ k))
 ]
 
 -- a window that moves with the text of a buffer
@@ -188,7 +188,7 @@ windows-typed effect ws i how n f w loud at there number old new h k quiet = eli
   | inl p ↦
       let is : old ≡ w = one (window_of n ws) old w (ap (λ j. window_of j ws) (sym p) ∙ h) at in
       absurd (loud number old.buffer (ap (λ (x : WindowState). x.buffer) is ∙ there) quiet)
-  | inr q ↦ windows-moved effect ws i how loud number old new h (sym (window-with-other n number f (map (moved_in i how) ws) q) ∙ k) quiet
+  | inr q ↦ windows-moved effect ws i how loud number old new h (sym (window-other n number f (map (moved_in i how) ws) q) ∙ k) quiet
 ]
 
 found-front : (n : ℕ) (ws : List NumberedWindow) (e : NumberedWindow) (w : WindowState) → window_of n ws ≡ Some w → window_of n (ws ++ e ∷ []) ≡ Some w

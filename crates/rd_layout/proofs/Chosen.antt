@@ -4,12 +4,11 @@ use Rattle.std.proofs.lemmas.List.Elements.{All-from_recursion, recursion_from_A
 use Rattle.std.proofs.lemmas.Option.{slice_get-get_or}
 use Rattle.std.specs.List.{AllByRecursion, flat_map, fold, reduce}
 use Rattle.std.specs.Prelude.{slice_get, option_map}
-use Rattle.rd_base.specs.declared.settings.Anchor.{Anchor}
 use Rattle.rd_matrix.specs.Blocks.{IsAmong, IsWithin, StandFrom, end_from, first_start}
 use Rattle.rd_matrix.specs.Entries.{EntryMeaning, all_rows, entries_of, numbered}
 use Rattle.rd_matrix.specs.Sources.{IsSource, SourceValues, rows_at}
 use Rattle.rd_matrix.specs.declared.block.Block.{Block}
-use Rattle.rd_reuse.specs.Views.{Names, anchor_of}
+use Rattle.rd_reuse.specs.Views.{anchor_of}
 use Rattle.rd_rows.specs.Laws.{begins_of}
 use Rattle.rd_rows.specs.Rows.{RowMeaning}
 use Rattle.rd_rows.specs.Shapes.{IsShape, ShapeValues}
@@ -19,11 +18,7 @@ use Rattle.rd_start.proofs.Lists.{each-append}
 use Rattle.rd_start.specs.Chosen.{anchor_at, anchor_from, chosen_of, first_covered, first_positions, places_of, positions_of}
 use Rattle.rd_start.specs.Starts.{is_in_view, start_of}
 use Rattle.rd_start.specs.declared.wanted.Wanted.{Wanted}
-
--- what the layers below say
-pub record StartLaws : Type 0 where
-  pub row : (m : SourceValues) (shape : ShapeValues) (w : Wanted) → IsSource m → IsShape shape → IsWithin w.point m.blocks → start_of w (places_of m shape w) < length (rows_at m shape)
-  pub anchor : (m : SourceValues) (shape : ShapeValues) (anchor : Anchor) (place : ℕ) → IsSource m → Names anchor (rows_at m shape) place → IsWithin anchor.pos m.blocks
+use Rattle.rd_layout.specs.Laws.{StartLaws}
 
 -- ---- the blocks of a source
 

@@ -8,7 +8,6 @@ use Rattle.std.specs.Option.{option_and_then, option_or}
 use Rattle.std.proofs.lemmas.Option.{get_or_from_slice_get, slice_get_within}
 use Rattle.std.specs.Prelude.{IfSome, IsTrue, option_map, slice_get, slice_index_or}
 use Rattle.rd_base.specs.Chars.{is_code}
-use Rattle.rd_base.specs.Faces.{plain}
 use Rattle.rd_base.specs.declared.element.Element.{Element}
 use Rattle.rd_blocks.specs.Rows.{block_cutting}
 use Rattle.rd_blocks.specs.Sources.{rows_in, text_source}
@@ -19,20 +18,17 @@ use Rattle.rd_rows.specs.declared.cutting.Cutting.{Cutting}
 use Rattle.rd_frame.specs.Fits.{FitsFrame, FitsRow, FitsWindow, IsInBody}
 use Rattle.rd_frame.specs.Panes.{body_height, body_width}
 use Rattle.rd_frame.specs.Held.{glyph_row}
-use Rattle.rd_glyphs.specs.Lines.{plain_cells}
-use Rattle.rd_margins.specs.Cells.{IsMargin, row_margin}
+use Rattle.rd_margins.specs.Cells.{IsMargin}
 use Rattle.rd_margins.specs.Marks.{margin_string}
-use Rattle.rd_margins.specs.declared.rows.Widths.{Widths}
 use Rattle.rd_matrix.specs.Columns.{covers, shown_column}
 use Rattle.rd_matrix.specs.Cursors.{column_shown, cursor_in, or_below}
 use Rattle.rd_matrix.specs.Entries.{EntryMeaning, all_rows, entries_of, numbered}
 use Rattle.rd_matrix.specs.Sources.{SourceValues, rows_at}
 use Rattle.rd_matrix.specs.declared.block.Block.{Block}
 use Rattle.rd_modeline.specs.Formats.{fault_in, pieces_of}
-use Rattle.rd_modeline.specs.Lines.{line_cells}
 use Rattle.rd_modeline.specs.Values.{FactValues}
 use Rattle.rd_modeline.specs.declared.piece.Piece.{Piece}
-use Rattle.rd_objects.specs.Sound.{AreCodes, AreObjects, IsString}
+use Rattle.rd_objects.specs.Sound.{AreCodes, IsString}
 use Rattle.rd_objects.specs.Texts.{TextValue}
 use Rattle.rd_objects.specs.Things.{ObjectLists}
 use Rattle.rd_props.specs.Buffers as props
@@ -51,27 +47,14 @@ use Rattle.rd_tree.specs.Windows.{Windows, Window, Split, first_part, of_number,
 use Rattle.rd_tree.specs.declared.placed.Placed.{Placed}
 use Rattle.rd_tree.specs.declared.rect.Rect.{Rect}
 use Rattle.rd_ucd.specs.Data.{Data}
-use Rattle.rd_ucd.specs.declared.spans.Span.{Span}
 use Rattle.rd_window.specs.Views.{start_row}
+use Rattle.rd_layout.specs.Laws.{FitLaws}
 use Rattle.rd_layout.specs.Panes.{cells_of_pieces, facts_of, margin_of, margin_text, mode_line, pane_of, text_of, widths_of}
 use Rattle.rd_layout.specs.Screens.{cursor_at, cursor_by, frame_in, pane_at, pane_by}
 use Rattle.rd_layout.specs.Windows.{place_of, places, shown_buffer, view_in, wanted_of, window_shape, window_source}
 use Rattle.rd_layout.proofs.ByNumber.{buffer-there}
-use Rattle.rd_layout.proofs.Placed.{PlaceLaws, all-places, number-of}
-use Rattle.rd_layout.proofs.Settling.{ViewLaws, is-shape, shown-is}
-
--- what the layers below say
-pub record FitLaws : Type 0 where
-  pub views : ViewLaws
-  pub places : PlaceLaws
-  pub found : (s : StateValue) (number : ℕ) (w : WindowState) → IsValid s → window_of number s.windows ≡ Some w → IsWindow s.buffers w
-  pub leaf : (number : ℕ) (windows : Windows) (rect : Rect) (window : Placed) → window_at number windows rect ≡ Some window → leaf_at number windows ≡ Some (window.mode, window.margins)
-  pub whole : (s : props.BufferValue) (objects : ObjectLists) (files : Data) (shape : ShapeValues) → AreObjects objects → 1 ≤ s.settings.tab_width → s.settings.tab_width ≤ 32 → AreCodes s.text.text → IsShape shape
-      → All (λ (e : EntryMeaning). IsWhole shape.width e.row) (rows_at (text_source s objects files) shape)
-  pub margin : (classes : List Span) (widths : Widths) (row line : ℕ) (text : List ℕ) → line < 2 ^ 64 → All (λ c. IsTrue (is_code c)) text → IsMargin (widths.numbers + widths.strings) (row_margin classes widths row line text)
-  pub mode_width : (classes : List Span) (facts : FactValues) (width : ℕ) (pieces : List Piece) → length (line_cells classes facts width pieces) ≡ width
-  pub plain_width : (classes : List Span) (width : ℕ) (text : List ℕ) → length (plain_cells classes plain width text) ≡ width
-  pub columns : (s : props.BufferValue) (objects : ObjectLists) (files : Data) (shape : ShapeValues) → IsShape shape → All (λ (e : EntryMeaning). All (λ (b : Begin). b.column < shape.width) e.row.begins) (rows_at (text_source s objects files) shape)
+use Rattle.rd_layout.proofs.Placed.{all-places, number-of}
+use Rattle.rd_layout.proofs.Settling.{is-shape, shown-is}
 
 -- ---- what holds of all rows
 
@@ -286,7 +269,7 @@ module _ (laws : FitLaws) (files : Data) (s : StateValue) (valid : IsValid s) wh
   pub fits : FitsFrame (frame_in files s)
   fits = record {
     room = valid.windows.tree.room;
-    windows = all-places laws.places s valid (λ (p : Placed). FitsWindow s.tree.width (pane_at files s p) p)
+    windows = all-places laws.views.places s valid (λ (p : Placed). FitsWindow s.tree.width (pane_at files s p) p)
         (λ p at. subst (λ (n : ℕ). FitsWindow n (pane_at files s p) p) (sym valid.frame.columns) (pane-fits p at));
     echo = laws.plain_width files.classes s.width s.echo ∙ sym valid.frame.columns;
     selected = selected-there;

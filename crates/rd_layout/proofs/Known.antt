@@ -35,6 +35,7 @@ use Rattle.rd_term.specs.Pictures.{Picture, IsOfSize}
 use Rattle.rd_ucd.specs.Data.{Data}
 use Rattle.rd_window.specs.declared.layout.Layout.{Layout}
 use Rattle.rd_layout.specs.Changes.{change_by, change_in, later, layouts_after}
+use Rattle.rd_layout.specs.Laws.{ViewLaws}
 use Rattle.rd_layout.specs.Pointing.{hitting_by, is_shown, pointed, stepped_to}
 use Rattle.rd_layout.specs.Sessions.{IsStep, SessionValue, behind, is_frame, layout_of, opened, session_step}
 use Rattle.rd_layout.specs.Since.{FitsFrame, IsKnown, IsSession}
@@ -45,7 +46,6 @@ use Rattle.rd_state.proofs.Opening.{chosen, passed}
 use Rattle.rd_layout.proofs.Leading.{effect-leads}
 use Rattle.rd_layout.specs.Windows.{place_of, window_shape, window_source}
 use Rattle.rd_layout.proofs.Over.{OverLaws, first-none, joined-change, joined-none, objects-over}
-use Rattle.rd_layout.proofs.Settling.{ViewLaws}
 use Rattle.rd_layout.proofs.Placing.{has-place, point-whole}
 use Rattle.rd_layout.proofs.Standing.{Goes, goes}
 

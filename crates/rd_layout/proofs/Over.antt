@@ -30,9 +30,10 @@ use Rattle.rd_ucd.specs.Data.{Data}
 use Rattle.rd_window.specs.Layouts.{Stands}
 use Rattle.rd_window.specs.declared.layout.Layout.{Layout}
 use Rattle.rd_layout.specs.Changes.{change_by, if_shown, restyled}
+use Rattle.rd_layout.specs.Laws.{ViewLaws}
 use Rattle.rd_layout.proofs.Calm.{joined-told, restyled-tail}
 use Rattle.rd_layout.proofs.Chosen.{block-inside}
-use Rattle.rd_layout.proofs.Settling.{ViewLaws, accessible}
+use Rattle.rd_layout.proofs.Settling.{accessible}
 
 -- what the layers below say
 pub record OverLaws : Type 0 where

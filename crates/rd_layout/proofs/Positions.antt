@@ -1,5 +1,5 @@
 -- The items that begin in the rows of a last layout end at positions.
-use Rattle.std.proofs.Common.{◌≡◌, ℕ, suc, ◌+◌, ◌-◌, ◌^◌, ◌<◌, ◌≤◌, Some, List, [], ◌∷◌, ◌++◌, refl, subst, arith}
+use Rattle.std.proofs.Common.{◌≡◌, ℕ, suc, ◌+◌, ◌-◌, ◌^◌, ◌<◌, ◌≤◌, Some, List, [], ◌∷◌, refl, subst, arith}
 use Rattle.std.proofs.lemmas.List.Elements.{All-from_recursion, All-map, recursion_from_All}
 use Rattle.std.proofs.lemmas.Option.{get_or_from_slice_get, slice_get_within}
 use Rattle.std.specs.List.{All, AllByRecursion}
@@ -25,10 +25,11 @@ use Rattle.rd_visual.specs.Hits.{AreInPositions, Fits}
 use Rattle.rd_window.specs.declared.layout.Layout.{Layout}
 use Rattle.rd_start.proofs.Lists.{each-append}
 use Rattle.rd_tree.proofs.Composing.{all_parts}
+use Rattle.rd_layout.specs.Laws.{ViewLaws}
 use Rattle.rd_layout.specs.Since.{IsKnown}
 use Rattle.rd_layout.proofs.Chosen.{block-inside}
 use Rattle.rd_layout.proofs.Over.{some-block}
-use Rattle.rd_layout.proofs.Settling.{ViewLaws, accessible}
+use Rattle.rd_layout.proofs.Settling.{accessible}
 
 module _ (views : ViewLaws) (s : props.BufferValue) (objects : ObjectLists) (files : Data) (shape : ShapeValues) (text : IsText s.text) (is : IsShape shape) where
   abbrev m : SourceValues

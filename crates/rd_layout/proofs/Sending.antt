@@ -1,5 +1,5 @@
 -- A redisplay that is sent leads from a session to a session.
-use Rattle.std.proofs.Common.{◌≡◌, inl, inr, ℕ, suc, ◌<◌, ◌≤◌, Bool, Option, None, Some, List, [], ◌∷◌, length, map, replicate, take, drop, sym, ap, refl, subst, subst₂, ◌∙◌, arith}
+use Rattle.std.proofs.Common.{◌≡◌, inl, inr, ℕ, suc, ◌<◌, ◌≤◌, Bool, false, Option, None, Some, List, [], ◌∷◌, length, map, replicate, take, drop, sym, ap, refl, subst, subst₂, ◌∙◌, arith}
 use Rattle.std.proofs.lemmas.Bool.{cases_eq}
 use Rattle.std.proofs.lemmas.List.{length-map, length-replicate}
 use Rattle.std.proofs.lemmas.List.Elements.{All-head, All-map, All-replicate}
@@ -33,13 +33,15 @@ use Rattle.rd_state.specs.Windows.{content_in, shown_content, window_of}
 use Rattle.rd_state.specs.declared.window.WindowState.{WindowState}
 use Rattle.rd_term.specs.Pictures.{IsGrid, IsOfSize, IsScreen, Picture, width_of}
 use Rattle.rd_term.specs.Terminals.{Tty, feed_bytes, known, unknown}
+use Rattle.rd_term.specs.declared.reading.Reading.TheVariants.{Between}
 use Rattle.rd_tree.specs.declared.placed.Placed.{Placed}
 use Rattle.rd_ucd.specs.Data.{Data}
-use Rattle.rd_update.specs.Laws.{IsReady, IsSound, IsUpdated}
+use Rattle.rd_update.specs.Laws.{IsCurrent, IsReady, IsSound, IsUpdated}
 use Rattle.rd_update.specs.Plans.{HaveOneSize}
 use Rattle.rd_window.specs.Layouts.{IsLaidOut, Stands}
 use Rattle.rd_window.specs.Views.{start_row}
 use Rattle.rd_window.specs.declared.layout.Layout.{Layout}
+use Rattle.rd_layout.specs.Laws.{ViewLaws}
 use Rattle.rd_layout.specs.Redisplays.{AreLaidOut, IsLaidOutBy, IsSent, bands_of, update_of}
 use Rattle.rd_layout.specs.Screens.{laid_out, settled_by, settled_state}
 use Rattle.rd_layout.specs.Sessions.{SessionValue, layout_of}
@@ -48,12 +50,11 @@ use Rattle.rd_layout.specs.Windows.{place_of, places, wanted_of, window_shape, w
 use Rattle.rd_layout.proofs.ByNumber.{buffer-there, window-became}
 use Rattle.rd_layout.proofs.Known.{Last, layout-here, layout-there, mapped}
 use Rattle.rd_layout.proofs.Over.{new-change}
-use Rattle.rd_layout.proofs.Placed.{PlaceLaws, bands-within, made-number, placed-at}
-use Rattle.rd_layout.proofs.Settling.{ViewLaws, is-shape, point-within, shown-is, shown-text, state-stays}
+use Rattle.rd_layout.proofs.Placed.{bands-within, made-number, placed-at}
+use Rattle.rd_layout.proofs.Settling.{is-shape, point-within, shown-is, shown-text, state-stays}
 
 -- what the layers below say
 pub record SendLaws : Type 0 where
-  pub places : PlaceLaws
   pub views : ViewLaws
   pub read : (width height : ℕ) (current : Option Picture) (target : Picture) (bands : List Band) (limit : Option ℕ) (t : Tty) → IsReady width height current target t → AreWithin height bands
       → IsUpdated width height (shifted_update current target bands limit) target (feed_bytes t (shifted_update current target bands limit).bytes)
@@ -82,31 +83,27 @@ module _ (laws : SendLaws) (width height : ℕ) (target : Picture) (bands : List
   Fits None = Unit {0}
   Fits (Some screen) = IsOfSize width height screen × IsSound screen
 
+  ready-by : (current : Option Picture) (t : Tty) → t.confused ≡ false → t.reading ≡ Between → length t.rows ≡ height → IsGrid width t.rows → IsCurrent width height current t
+      → IsReady width height current target t
+  ready-by current t sure between rows each now = record {
+    sure = sure;
+    between = between;
+    rows = rows;
+    each = each;
+    wide = wide;
+    tall = tall;
+    size = size;
+    whole = sound.whole;
+    colours = sound.colours;
+    now = now;
+  }
+
   ready : (current : Option Picture) → Fits current → IsReady width height current target (shows width height current)
-  ready None fits = record {
-    sure = refl;
-    between = refl;
-    rows = length-replicate height (replicate width None);
-    each = All-replicate (λ (row : List (Option Cell)). length row ≡ width) height (replicate width None) (length-replicate width None);
-    wide = wide;
-    tall = tall;
-    size = size;
-    whole = sound.whole;
-    colours = sound.colours;
-    now = tt;
-  }
-  ready (Some screen) fits = record {
-    sure = refl;
-    between = refl;
-    rows = length-map screen.rows (map Some) ∙ fits.0.rows;
-    each = is-wide width screen.rows fits.0.each;
-    wide = wide;
-    tall = tall;
-    size = size;
-    whole = sound.whole;
-    colours = sound.colours;
-    now = (fits.0, refl, refl);
-  }
+  ready None fits =
+      let row : List (Option Cell) = replicate width None in
+      ready-by None (unknown width height) refl refl (length-replicate height row) (All-replicate (λ (r : List (Option Cell)). length r ≡ width) height row (length-replicate width None)) tt
+  ready (Some screen) fits =
+      ready-by (Some screen) (shows width height (Some screen)) refl refl (length-map screen.rows (map Some) ∙ fits.0.rows) (is-wide width screen.rows fits.0.each) (fits.0, refl, refl)
 
   wide-as : (rows : List (List Cell)) → length rows ≡ height → IsGrid width rows → width_of rows ≡ width
   wide-as [] h each = absurd (omega (arith, h, some))
@@ -203,10 +200,10 @@ module _ (laws : SendLaws) (rows : ℕ) (done : Bool) (stop : Option ℕ) (old n
       subst (λ (c : Option Picture). FitsFrame c new.state) (sym sent.current)
       (subst (λ (x : StateValue). FitsFrame (Some (update_of old stop).screen) x) (sym now)
       (new-screen laws s.width s.height (laid_out old.files s).picture (bands_of s) stop session.state.frame.narrow session.state.frame.low high size sound
-      (bands-within laws.places s session.state) old.current (fits old.current session.screen)))
+      (bands-within laws.views.places s session.state) old.current (fits old.current session.screen)))
     where
       fits : (c : Option Picture) → FitsFrame c s → Fits laws s.width s.height (laid_out old.files s).picture (bands_of s) stop session.state.frame.narrow session.state.frame.low high size sound
-          (bands-within laws.places s session.state) c
+          (bands-within laws.views.places s session.state) c
       fits None h = h
       fits (Some screen) h = h
 
@@ -214,14 +211,14 @@ module _ (laws : SendLaws) (rows : ℕ) (done : Bool) (stop : Option ℕ) (old n
   sent-made number l at =
       let found = found-layout old number (places s) new.layouts l sent.layouts at in
       let p = found.1 in
-      let place = placed-at laws.places s session.state found.0 p found.2 in
-      subst (λ (x : StateValue). number < x.tree.made) (sym now) (subst (λ (k : ℕ). k < s.tree.made) found.3 (made-number laws.places s session.state p.number p place))
+      let place = placed-at laws.views.places s session.state found.0 p found.2 in
+      subst (λ (x : StateValue). number < x.tree.made) (sym now) (subst (λ (k : ℕ). k < s.tree.made) found.3 (made-number laws.views.places s session.state p.number p place))
 
   sent-known : (number : ℕ) (w : WindowState) (l : Layout) → window_of number new.state.windows ≡ Some w → layout_of number new.layouts ≡ Some l → IsKnown new.files new.state w l
   sent-known number w l lives at =
       let found = found-layout old number (places s) new.layouts l sent.layouts at in
       let p = found.1 in
-      let place = placed-at laws.places s session.state found.0 p found.2 in
+      let place = placed-at laws.views.places s session.state found.0 p found.2 in
       let x = mapped (λ w. settled_by old.files s w (place_of number s)) (window_of number s.windows) w (sym (same-windows number) ∙ lives) in
       let there : window_of p.number s.windows ≡ Some x.0 = ap (λ (k : ℕ). window_of k s.windows) found.3 ∙ x.1 in
       let laid = laid-of old.files s (layout_of p.number old.layouts) p (window_of p.number s.windows) x.0 l there found.4 in

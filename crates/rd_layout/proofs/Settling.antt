@@ -3,12 +3,9 @@ use Rattle.std.proofs.Common.{◌≡◌, ℕ, ◌+◌, ◌-◌, ◌<◌, ◌≤�
 use Rattle.std.proofs.lemmas.Option.{slice_get-map}
 use Rattle.std.specs.Prelude.{IsSome, slice_get, option_map}
 use Rattle.rd_blocks.specs.Bases.{block_in, blocks_in}
-use Rattle.rd_blocks.specs.Sources.{text_source}
 use Rattle.rd_frame.specs.Panes.{has_border}
 use Rattle.rd_items.specs.Blocks.{Adjoin, blocks_of}
 use Rattle.rd_matrix.specs.Blocks.{IsWithin, end_from}
-use Rattle.rd_matrix.specs.Sources.{IsSource}
-use Rattle.rd_objects.specs.Things.{ObjectLists}
 use Rattle.rd_props.specs.Buffers as props
 use Rattle.rd_rows.specs.Shapes.{IsShape}
 use Rattle.rd_state.specs.States.{BufferValue, ContentValue, StateValue, seen}
@@ -18,24 +15,15 @@ use Rattle.rd_state.specs.declared.window.WindowState.{WindowState}
 use Rattle.rd_text.specs.Texts.{IsAccessible, IsText}
 use Rattle.rd_tree.specs.Calls.{frame_of}
 use Rattle.rd_tree.specs.Places.{StandsIn}
-use Rattle.rd_tree.specs.Windows.{HasRoom, Windows, window_at}
 use Rattle.rd_tree.specs.declared.placed.Placed.{Placed}
-use Rattle.rd_tree.specs.declared.rect.Rect.{Rect}
 use Rattle.rd_ucd.specs.Data.{Data}
 use Rattle.rd_ucd.specs.declared.spans.Span.{Span}
+use Rattle.rd_layout.specs.Laws.{ViewLaws}
 use Rattle.rd_layout.specs.Screens.{settled_at, settled_by, settled_state}
 use Rattle.rd_layout.specs.Windows.{place_of, view_in, wanted_of, window_shape, window_source}
 use Rattle.rd_layout.proofs.ByNumber.{buffer-there, window-became}
 use Rattle.rd_state.proofs.ByNumber.{NumberedWindow}
-use Rattle.rd_layout.proofs.Chosen.{StartLaws, chosen-anchor, chosen-point}
-
--- what the layers below say
-pub record ViewLaws : Type 0 where
-  pub source : (s : props.BufferValue) (objects : ObjectLists) (files : Data) → IsText s.text → IsSource (text_source s objects files)
-  pub within : (s : props.BufferValue) (objects : ObjectLists) (files : Data) (pos : ℕ) → IsAccessible s.text pos → IsWithin pos (text_source s objects files).blocks
-  pub adjoin : (s : props.BufferValue) → s.text.begin ≤ s.text.end → Adjoin s.text.begin (s.text.end + 1) (blocks_of s)
-  pub start : StartLaws
-  pub inside : (number : ℕ) (windows : Windows) (rect : Rect) (window : Placed) → HasRoom windows rect → window_at number windows rect ≡ Some window → StandsIn window rect
+use Rattle.rd_layout.proofs.Chosen.{chosen-anchor, chosen-point}
 
 -- ---- positions of the blocks are accessible
 
@@ -68,7 +56,7 @@ shape-fits false width margins least most = (omega arith, omega arith)
 
 module _ (laws : ViewLaws) (s : StateValue) (valid : IsValid s) where
   pub stands : (number : ℕ) (place : Placed) → place_of number s ≡ Some place → StandsIn place (frame_of s.tree)
-  stands number place at = laws.inside number s.tree.windows (frame_of s.tree) place valid.windows.tree.room at
+  stands number place at = laws.places.inside number s.tree.windows (frame_of s.tree) place valid.windows.tree.room at
 
   pub is-shape : (number : ℕ) (w : WindowState) (place : Placed) → place_of number s ≡ Some place → IsShape (window_shape s w place)
   is-shape number w place at =

@@ -1,6 +1,6 @@
 -- Each part of a target screen is whole and coloured.
-use Rattle.std.proofs.Common.{◌≡◌, ℕ, ◌+◌, ◌==◌, ◌&&◌, ◌||◌, Bool, true, false, Option, None, Some, Result, Ok, Err, List, [], ◌∷◌, sym, ap, refl, subst, subst₂, arith, unwrap_or}
-use Rattle.std.proofs.lemmas.Bool.{and_parts, eqb-true}
+use Rattle.std.proofs.Common.{◌≡◌, ℕ, ◌+◌, ◌==◌, ◌&&◌, Bool, true, Option, None, Some, Result, Ok, Err, List, [], ◌∷◌, sym, ap, refl, subst, subst₂, arith, unwrap_or}
+use Rattle.std.proofs.lemmas.Bool.{and_parts, eqb-true, or_left}
 use Rattle.std.proofs.lemmas.List.Elements.{All-cons, All-map, All-nil, recursion_from_All}
 use Rattle.std.proofs.lemmas.Option.{get_or_from_slice_get, slice_get_within}
 use Rattle.std.specs.List.{All, list_all}
@@ -45,11 +45,12 @@ use Rattle.rd_ucd.specs.Data.{Data}
 use Rattle.rd_ucd.specs.declared.spans.Span.{Span}
 use Rattle.rd_update.specs.Laws.{IsSound}
 use Rattle.rd_window.specs.Views.{WindowView}
+use Rattle.rd_layout.specs.Laws.{FitLaws}
 use Rattle.rd_layout.specs.Panes.{border_in, border_slot, cells_of_pieces, facts_of, margin_of, mode_line, pane_of, widths_of}
 use Rattle.rd_layout.specs.Screens.{frame_in, laid_out, pane_at, pane_by}
 use Rattle.rd_layout.specs.Windows.{place_of, shown_buffer, view_in, window_shape}
 use Rattle.rd_layout.proofs.ByNumber.{buffer-there}
-use Rattle.rd_layout.proofs.Fitting.{FitLaws, fits, in-view, line-small, margin-right, place-window, view-whole}
+use Rattle.rd_layout.proofs.Fitting.{fits, in-view, line-small, margin-right, place-window, view-whole}
 use Rattle.rd_layout.proofs.Placed.{all-places}
 
 -- what the layers below say
@@ -69,15 +70,11 @@ pub record SoundLaws : Type 0 where
 
 -- ---- characters
 
-or-true : (a b : Bool) → a ≡ true → (a || b) ≡ true
-or-true true b h = refl
-or-true false b h = absurd (cc)
-
 codes-each : (text : List ℕ) → each is_scalar text ≡ true → AreCodes text
 codes-each [] h = All-nil (λ (c : ℕ). IsTrue (is_code c))
 codes-each (c ∷ cs) h =
     let parts = and_parts (is_scalar c) (each is_scalar cs) h in
-    All-cons (λ (x : ℕ). IsTrue (is_code x)) c cs (or-true (is_scalar c) _ parts.0) (codes-each cs parts.1)
+    All-cons (λ (x : ℕ). IsTrue (is_code x)) c cs (or_left (is_scalar c) _ parts.0) (codes-each cs parts.1)
 
 plain-codes : (text : List ℕ) → IsTrue (is_plain_text text) → AreCodes text
 plain-codes text h = codes-each text (and_parts (each is_scalar text) _ h).0
@@ -87,7 +84,7 @@ name-each : (cs : List ℕ) → list_all is_name_character cs ≡ true → AreCo
 name-each [] h = All-nil (λ (c : ℕ). IsTrue (is_code c))
 name-each (c ∷ cs) h =
     let parts = and_parts (is_name_character c) (list_all is_name_character cs) h in
-    All-cons (λ (x : ℕ). IsTrue (is_code x)) c cs (or-true (is_scalar c) _ (and_parts (is_scalar c) _ parts.0).0) (name-each cs parts.1)
+    All-cons (λ (x : ℕ). IsTrue (is_code x)) c cs (or_left (is_scalar c) _ (and_parts (is_scalar c) _ parts.0).0) (name-each cs parts.1)
 
 name-codes : (name : List ℕ) → IsTrue (is_buffer_name name) → AreCodes (chars name)
 name-codes name h = name-each (chars name) (and_parts _ (list_all is_name_character (chars name)) h).1
@@ -172,13 +169,13 @@ module _ (laws : SoundLaws) (files : Data) (s : StateValue) (valid : IsValid s) 
 
   whole-frame : IsWholeFrame (frame_in files s)
   whole-frame = record {
-    windows = all-places laws.fit.places s valid (λ (p : Placed). EachPart (IsRowAfter 0) (pane_at files s p) p) (λ p at. part-by (IsRowAfter 0) p at (λ w window leaf. whole-part w p at window leaf));
+    windows = all-places laws.fit.views.places s valid (λ (p : Placed). EachPart (IsRowAfter 0) (pane_at files s p) p) (λ p at. part-by (IsRowAfter 0) p at (λ w window leaf. whole-part w p at window leaf));
     echo = laws.plain_whole files.classes plain s.width s.echo (plain-codes s.echo valid.echo);
   }
 
   coloured-frame : IsColouredFrame (frame_in files s)
   coloured-frame = record {
-    windows = all-places laws.fit.places s valid (λ (p : Placed). EachPart (All IsColoured) (pane_at files s p) p) (λ p at. part-by (All IsColoured) p at (λ w window leaf. coloured-part w p at window leaf));
+    windows = all-places laws.fit.views.places s valid (λ (p : Placed). EachPart (All IsColoured) (pane_at files s p) p) (λ p at. part-by (All IsColoured) p at (λ w window leaf. coloured-part w p at window leaf));
     echo = laws.plain_coloured files.classes plain s.width s.echo plain-colours;
   } where
     plain-colours : HasColours plain

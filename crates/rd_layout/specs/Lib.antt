@@ -8,4 +8,5 @@ pub mod Redisplays
 pub mod Since
 pub mod Facts
 pub mod Copies
+pub mod Laws
 pub mod Examples

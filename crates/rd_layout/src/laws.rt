@@ -21,6 +21,7 @@ ghost use Rattle.rd_window.specs.Layouts.{StandsUnchanged, change_since, older_r
 ghost use Rattle.rd_window.specs.declared.layout.Layout.{Layout};
 ghost use Rattle.rd_layout.specs.Copies.{redisplayed, without_copies};
 ghost use Rattle.rd_layout.specs.Facts.{facts_of};
+ghost use Rattle.rd_layout.specs.Laws.{FitLaws, PlaceLaws, ViewLaws};
 ghost use Rattle.rd_layout.specs.Redisplays.{IsSent, allowed, bands_of};
 ghost use Rattle.rd_layout.specs.Screens.{frame_in, laid_out};
 ghost use Rattle.rd_layout.specs.Sessions.{IsStep, SessionValue, behind, layout_of, opened, session_step};
@@ -54,13 +55,9 @@ pub fn redisplays_keep_states()
     ensures shape { (s : StateValue) (number : ℕ) (w : WindowState) (place : Placed) → IsValid s → place_of number s ≡ Some place → IsShape (window_shape s w place) }
     ensures bands { (s : StateValue) → IsValid s → AreWithin s.height (bands_of s) }
 {
-    a_start_is_a_row();
-    accessible_positions_lie_in_blocks();
-    an_anchor_of_a_row_is_within();
-    blocks_are_listed();
-    buffers_are_sources();
+    place_laws();
+    view_laws();
     windows_are_leaves();
-    windows_tile_their_rectangle();
 }
 
 /// The opening is a session, whatever the data files are, and an op in form leads from a session to a session: its state stays valid,
@@ -76,11 +73,6 @@ pub fn sessions_stay_known()
         → StandsUnchanged (layout_of number v.layouts) (window_source v.files v.state w) w.forced w.anchor }
     ensures positions { (v : SessionValue) (number : ℕ) (w : WindowState) (l : Layout) → IsSession v → window_of number v.state.windows ≡ Some w → layout_of number v.layouts ≡ Some l → AreInPositions (shown_entries l.matrix) }
 {
-    a_start_is_a_row();
-    accessible_positions_lie_in_blocks();
-    an_anchor_of_a_row_is_within();
-    blocks_are_listed();
-    buffers_are_sources();
     changes_lead_on();
     joined_with_all();
     joined_with_none();
@@ -89,8 +81,8 @@ pub fn sessions_stay_known()
     ops_leave_the_rest();
     rows_are_local();
     steps_keep_states();
+    view_laws();
     windows_are_leaves();
-    windows_tile_their_rectangle();
 }
 
 /// A redisplay that is sent leads from a session to a session. The call does nothing.
@@ -98,28 +90,15 @@ pub fn redisplays_lead_on()
     ensures { (rows : ℕ) (done : Bool) (stop : Option ℕ) (old new : SessionValue) (before after : Option (List ℕ)) → IsSession old
         → IsSent rows done stop old new before after → IsSession new }
 {
-    a_start_is_a_row();
-    accessible_positions_lie_in_blocks();
-    an_anchor_of_a_row_is_within();
-    blocks_are_listed();
-    borders_are_whole();
-    buffers_are_sources();
     changes_lead_on();
     extensions_keep_objects();
-    frames_are_pictures();
-    glyph_texts_are_sound();
-    items_begin_in_the_window();
     kept_rows_are_fresh();
-    margins_are_whole();
-    mode_lines_are_whole();
     new_layouts_stand();
-    plain_lines_are_whole();
-    rows_of_buffers_are_coloured();
-    rows_of_buffers_are_whole();
     shift_law();
     shifted_updates_keep_screens_sound();
+    targets_are_sound();
+    view_laws();
     windows_are_leaves();
-    windows_tile_their_rectangle();
 }
 
 /// A redisplay that is sent leaves one session, but for how often rows were copied. The call does nothing.
@@ -146,18 +125,7 @@ pub fn copies_change_no_op()
 pub fn targets_fit_their_frames()
     ensures { (files : Data) (s : StateValue) → IsValid s → FitsFrame (frame_in files s) }
 {
-    a_start_is_a_row();
-    accessible_positions_lie_in_blocks();
-    an_anchor_of_a_row_is_within();
-    blocks_are_listed();
-    buffers_are_sources();
-    items_begin_in_the_window();
-    margins_are_whole();
-    mode_lines_are_whole();
-    plain_lines_are_whole();
-    rows_of_buffers_are_whole();
-    windows_are_leaves();
-    windows_tile_their_rectangle();
+    fit_laws();
 }
 
 /// The target of a redisplay has the frame's size, is well formed and has its colours in range. The call does nothing.
@@ -165,20 +133,43 @@ pub fn targets_are_sound()
     ensures size { (files : Data) (s : StateValue) → IsValid s → IsOfSize s.width s.height (laid_out files s).picture }
     ensures sound { (files : Data) (s : StateValue) → IsValid s → IsSound (laid_out files s).picture }
 {
+    borders_are_whole();
+    fit_laws();
+    frames_are_pictures();
+    glyph_texts_are_sound();
+    mode_lines_are_whole();
+    plain_lines_are_whole();
+    rows_of_buffers_are_coloured();
+}
+
+/// What the proofs here take from the laws below of the windows of a frame. The call does nothing.
+fn place_laws()
+    ensures { PlaceLaws }
+{
+    windows_tile_their_rectangle();
+}
+
+/// The same of what a window shows. The call does nothing.
+fn view_laws()
+    ensures { ViewLaws }
+{
     a_start_is_a_row();
     accessible_positions_lie_in_blocks();
     an_anchor_of_a_row_is_within();
     blocks_are_listed();
-    borders_are_whole();
     buffers_are_sources();
-    frames_are_pictures();
-    glyph_texts_are_sound();
+    place_laws();
+}
+
+/// The same of the sizes of what windows show. The call does nothing.
+fn fit_laws()
+    ensures { FitLaws }
+{
     items_begin_in_the_window();
     margins_are_whole();
     mode_lines_are_whole();
     plain_lines_are_whole();
-    rows_of_buffers_are_coloured();
     rows_of_buffers_are_whole();
+    view_laws();
     windows_are_leaves();
-    windows_tile_their_rectangle();
 }

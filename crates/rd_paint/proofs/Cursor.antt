@@ -15,8 +15,9 @@ use Rattle.rd_layout.specs.Windows.{place_of, places, view_in, views_in}
 use Rattle.rd_state.proofs.ByNumber.{eq-true, eq-false}
 use Rattle.rd_state.proofs.Opening.{chosen, passed}
 use Rattle.rd_layout.proofs.Placed.{number-of}
+use Rattle.rd_paint.specs.Laws.{LeafLaws}
 use Rattle.rd_paint.specs.Shown.{IsLeaf}
-use Rattle.rd_paint.proofs.Leaves.{LeafLaws, view-at}
+use Rattle.rd_paint.proofs.Leaves.{view-at}
 
 -- a window that is found stands somewhere in the list
 found-at : (n : ℕ) (ps : List Placed) (p : Placed) → of_number n ps ≡ Some p → (k : ℕ) × (slice_get ps k ≡ Some p) × (k < length ps)

@@ -7,25 +7,19 @@ use Rattle.std.specs.List.{AllByRecursion, flat_map}
 use Rattle.std.specs.Option.{MatchOption}
 use Rattle.std.specs.Prelude.{option_map, slice_get}
 use Rattle.rd_state.specs.States.{BufferValue, StateValue, opening_window}
-use Rattle.rd_state.specs.Valid.{IsValid, IsWindow}
-use Rattle.rd_state.specs.Windows.{leaf_at, leaf_of, window_of}
+use Rattle.rd_state.specs.Valid.{IsValid}
+use Rattle.rd_state.specs.Windows.{leaf_of, window_of}
 use Rattle.rd_state.specs.declared.window.WindowState.{WindowState}
 use Rattle.rd_tree.specs.Calls.{Configuration, frame_of}
-use Rattle.rd_tree.specs.Windows.{Windows, leaves, window_at}
+use Rattle.rd_tree.specs.Windows.{leaves, window_at}
 use Rattle.rd_tree.specs.declared.placed.Placed.{Placed}
-use Rattle.rd_tree.specs.declared.rect.Rect.{Rect}
 use Rattle.rd_ucd.specs.Data.{Data}
 use Rattle.rd_window.specs.Views.{WindowView}
 use Rattle.rd_layout.specs.Windows.{place_of, places, view_in, views_at, views_by, views_in}
 use Rattle.rd_layout.proofs.ByNumber.{buffer-there}
-use Rattle.rd_layout.proofs.Placed.{PlaceLaws, all-places, number-of}
+use Rattle.rd_layout.proofs.Placed.{all-places, number-of}
+use Rattle.rd_paint.specs.Laws.{LeafLaws}
 use Rattle.rd_paint.specs.Shown.{IsLeaf, painted_of}
-
--- what the laws of trees and of states say
-pub record LeafLaws : Type 0 where
-  pub places : PlaceLaws
-  pub leaf : (number : ℕ) (windows : Windows) (rect : Rect) (window : Placed) → window_at number windows rect ≡ Some window → leaf_at number windows ≡ Some (window.mode, window.margins)
-  pub found : (s : StateValue) (number : ℕ) (w : WindowState) → IsValid s → window_of number s.windows ≡ Some w → IsWindow s.buffers w
 
 some-window : (o : Option WindowState) (leaf : Bool × ℕ) → option_map leaf_of o ≡ Some leaf → (w : WindowState) × (o ≡ Some w)
 some-window None leaf h = absurd (cc)

@@ -21,11 +21,8 @@ use Rattle.rd_tree.specs.declared.placed.Placed.{Placed}
 use Rattle.rd_ucd.specs.Data.{Data}
 use Rattle.rd_window.specs.Views.{start_row}
 use Rattle.rd_layout.specs.Windows.{view_in, wanted_of, window_shape, window_source}
+use Rattle.rd_paint.specs.Laws.{AdjoinLaw}
 use Rattle.rd_paint.specs.Shown.{IsViewOf}
-
--- where the blocks of an accessible text are listed
-abbrev pub AdjoinLaw : Type 0
-AdjoinLaw = (s : props.BufferValue) → s.text.begin ≤ s.text.end → Adjoin s.text.begin (s.text.end + 1) (blocks_of s)
 
 -- a row that starts at an accessible position
 abbrev pub StartsIn : TextValue → EntryMeaning → Type 0

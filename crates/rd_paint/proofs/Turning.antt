@@ -6,7 +6,7 @@ use Rattle.std.specs.Prelude.{slice_get}
 use Rattle.rd_base.specs.declared.cell.Cell.{Cell}
 use Rattle.rd_ucd.specs.Data.{Data}
 use Rattle.rd_ucd.specs.declared.spans.Span.{Span}
-use Rattle.rd_frame.specs.Fits.{FitsFrame, FitsWindow}
+use Rattle.rd_frame.specs.Fits.{FitsWindow}
 use Rattle.rd_frame.specs.Frames.{FrameValues, rows_of}
 use Rattle.rd_frame.specs.Paints.{painted, with_rectangle}
 use Rattle.rd_frame.specs.Panes.{PaneValues, window_rows}
@@ -14,31 +14,22 @@ use Rattle.rd_frame.specs.Turns.{IsTurn, painted_from, with_window}
 use Rattle.rd_objects.specs.Things.{ObjectLists}
 use Rattle.rd_state.specs.States.{BufferValue, StateValue}
 use Rattle.rd_state.specs.Valid.{IsValid}
-use Rattle.rd_state.specs.Windows.{content_in, shown_content, window_of}
+use Rattle.rd_state.specs.Windows.{content_in, shown_content}
 use Rattle.rd_state.specs.declared.window.WindowState.{WindowState}
 use Rattle.rd_term.specs.Pictures.{Picture, width_of}
-use Rattle.rd_text.specs.Texts.{IsAccessible, IsText, TextValue}
+use Rattle.rd_text.specs.Texts.{IsText, TextValue}
 use Rattle.rd_tree.specs.Calls.{frame_of}
 use Rattle.rd_tree.specs.Compositions.{HasSize}
-use Rattle.rd_tree.specs.Windows.{placed, window_at}
+use Rattle.rd_tree.specs.Windows.{placed}
 use Rattle.rd_tree.specs.declared.placed.Placed.{Placed}
 use Rattle.rd_window.specs.Views.{WindowView}
 use Rattle.rd_layout.specs.Screens.{frame_in, pane_at}
-use Rattle.rd_layout.specs.Windows.{place_of, view_in}
+use Rattle.rd_layout.specs.Windows.{view_in}
+use Rattle.rd_paint.specs.Laws.{TurnLaws}
 use Rattle.rd_paint.specs.Shown.{AreShown, IsLeaf, IsViewOf, of_classes, pane_in}
-use Rattle.rd_paint.proofs.Leaves.{LeafLaws, view-at}
+use Rattle.rd_paint.proofs.Leaves.{view-at}
 use Rattle.rd_paint.proofs.Panes.{pane-here}
-use Rattle.rd_paint.proofs.Starts.{AdjoinLaw, is-view}
-
--- what the layers below say of painting
-pub record TurnLaws : Type 0 where
-  pub leaves : LeafLaws
-  pub adjoin : AdjoinLaw
-  pub fits : (files : Data) (s : StateValue) → IsValid s → FitsFrame (frame_in files s)
-  pub turn : (f : FrameValues) (i number : ℕ) (window : Placed) (rows : List (List Cell)) → FitsFrame f → HasSize f.tree.width (f.tree.height + 1) rows → window_at number f.tree.windows (frame_of f.tree) ≡ Some window
-      → slice_get (placed f.tree.windows (frame_of f.tree)) i ≡ Some window → IsTurn f i window rows
-  pub chosen : (files : Data) (s : StateValue) (number : ℕ) (w : WindowState) (place : Placed) → IsValid s → window_of number s.windows ≡ Some w → place_of number s ≡ Some place
-      → IsAccessible (shown_content s w).text (view_in files s w place).anchor.pos × IsAccessible (shown_content s w).text (view_in files s w place).point
+use Rattle.rd_paint.proofs.Starts.{is-view}
 
 pub width-is : (width height : ℕ) (rows : List (List Cell)) → HasSize width (height + 1) rows → width_of rows ≡ width
 width-is width height [] h = let none = h.0 in absurd (omega arith)
@@ -57,6 +48,11 @@ pub all-painted : (f : FrameValues) (i : ℕ) (first rows : List (List Cell)) �
     → painted (rows_of f) (placed f.tree.windows (frame_of f.tree)) first ≡ rows
 all-painted f i first rows end h = h ∙ ap (λ (ps : List Placed). painted (rows_of f) ps rows) (drop_all i (placed f.tree.windows (frame_of f.tree)) end)
 
+-- the turn of the window at a place of the leaf order
+pub turn-here : TurnLaws → (s : StateValue) → IsValid s → (i : ℕ) (place : Placed) (w : WindowState) (content : BufferValue) → IsLeaf s i place w content → (rows : List (List Cell)) → HasSize s.tree.width (s.tree.height + 1) rows
+    → (files : Data) → IsTurn (frame_in files s) i place rows
+turn-here laws s valid i place w content leaf rows size files = laws.turn (frame_in files s) i place.number place rows (laws.fits files s valid) size leaf.placed leaf.listed
+
 module _ (laws : TurnLaws) (s : StateValue) (valid : IsValid s) (classes : List Span) (views : List WindowView) (i : ℕ) (place : Placed) (w : WindowState) (content : BufferValue) (leaf : IsLeaf s i place w content) (v : WindowView)
     (at : slice_get views i ≡ Some v) (rows : List (List Cell)) (size : HasSize s.tree.width (s.tree.height + 1) rows) where
   -- the view of the window
@@ -72,11 +68,8 @@ module _ (laws : TurnLaws) (s : StateValue) (valid : IsValid s) (classes : List 
   pane-is files shown =
       pane-here files classes s i place w content shown.known leaf ∙ ap (pane_in (of_classes classes) s.objects content w place.rect.width) (sym (view-is files shown))
 
-  pub turn-here : (files : Data) → IsTurn (frame_in files s) i place rows
-  turn-here files = laws.turn (frame_in files s) i place.number place rows (laws.fits files s valid) size leaf.placed leaf.listed
-
   pub fits-here : (files : Data) → AreShown files classes s views → FitsWindow (width_of rows) pane place
-  fits-here files shown = subst (λ (p : PaneValues). FitsWindow (width_of rows) p place) (pane-is files shown) (turn-here files).fits
+  fits-here files shown = subst (λ (p : PaneValues). FitsWindow (width_of rows) p place) (pane-is files shown) (turn-here laws s valid i place w content leaf rows size files).fits
 
   pub view-here : (files : Data) → AreShown files classes s views → IsViewOf content.content.text v
   view-here files shown =

@@ -9,18 +9,15 @@ ghost use Rattle.rd_tree.specs.Compositions.{HasSize};
 ghost use Rattle.rd_ucd.specs.Data.{Data};
 ghost use Rattle.rd_paint.specs.Shown.{AreShown};
 
+use crate::laws::{leaf_laws, turn_laws};
 use crate::leaf::leaf_at;
 use crate::pane::paint_leaf;
 use rd_base::{Face, Memory};
-use rd_frame::{
-    paint_echo, place_cursor, windows_are_painted_in_order, windows_are_painted_in_turn,
-};
+use rd_frame::{paint_echo, place_cursor, windows_are_painted_in_order};
 use rd_glyphs::plain_line;
-use rd_items::blocks_are_listed;
-use rd_layout::{ShownWindow, redisplays_keep_states, targets_fit_their_frames};
-use rd_state::{State, windows_are_leaves};
+use rd_layout::{ShownWindow, targets_fit_their_frames};
+use rd_state::State;
 use rd_term::Screen;
-use rd_tree::windows_tile_their_rectangle;
 use rd_ucd::Classes;
 use std::alloc::Global;
 
@@ -67,12 +64,7 @@ fn paint_windows(
     ensures painted { OnOk result ((files : Data) → AreShown files classes.now state.now windows.now → screen.new ≡ record screen.old { rows = painted (rows_of (frame_in files state.now)) (places state.now) screen.old.rows }) }
 {
     state.stays_valid();
-    blocks_are_listed();
-    redisplays_keep_states();
-    targets_fit_their_frames();
-    windows_are_leaves();
-    windows_are_painted_in_turn();
-    windows_tile_their_rectangle();
+    turn_laws();
     for (i, shown) in windows.iter().enumerate() {
         let leaf = leaf_at(state, i as u32);
         paint_leaf(screen, alloc, classes, state.objects(), &leaf, shown)?;
@@ -102,8 +94,7 @@ fn cursor_of(state: &State, windows: &[ShownWindow<'_>], number: u32) -> Option<
     ensures { (files : Data) → windows.now ≡ views_in files state.now → result ≡ cursor_at files state.now number }
 {
     state.stays_valid();
-    windows_are_leaves();
-    windows_tile_their_rectangle();
+    leaf_laws();
     for (i, shown) in windows.iter().enumerate() {
         if leaf_at(state, i as u32).place.number == number {
             return shown.matrix.cursor(shown.chosen.point);

@@ -4,8 +4,9 @@ ghost use Rattle.rd_layout.specs.Windows.{places};
 ghost use Rattle.rd_paint.specs.Shown.{IsLeaf};
 
 use crate::content::{Content, content_of};
-use rd_state::{State, WindowState, windows_are_leaves};
-use rd_tree::{Placed, windows_tile_their_rectangle};
+use crate::laws::leaf_laws;
+use rd_state::{State, WindowState};
+use rd_tree::Placed;
 
 /// A window of a frame with its place, and what is painted of the buffer that it shows.
 #[derive(Drop)]
@@ -31,8 +32,7 @@ fn found_leaf(state: &State, i: u32) -> Option<Leaf<'_>>
     ensures { MatchOption result (length (places state.now) ≤ i) (λ leaf. IsLeaf state.now i leaf.place leaf.window.now leaf.content) }
 {
     state.stays_valid();
-    windows_are_leaves();
-    windows_tile_their_rectangle();
+    leaf_laws();
     let tree = state.tree();
     let place = tree.placed(tree.leaf(i)?)?;
     let window = state.window(place.number)?;

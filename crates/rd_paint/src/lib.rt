@@ -4,6 +4,7 @@
 mod border;
 mod content;
 mod frame;
+mod laws;
 mod leaf;
 mod margins;
 mod mode_line;

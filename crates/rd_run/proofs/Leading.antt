@@ -17,11 +17,12 @@ use Rattle.rd_ucd.specs.Data.{Data}
 use Rattle.rd_window.specs.Layouts.{IsLaidOut}
 use Rattle.rd_window.specs.declared.layout.Layout.{Layout}
 use Rattle.rd_layout.specs.Copies.{fresh_at, fresh_by, made, redisplayed}
+use Rattle.rd_layout.specs.Laws.{PlaceLaws}
 use Rattle.rd_layout.specs.Redisplays.{AreLaidOut, IsLaidOutBy, IsSent, update_of}
 use Rattle.rd_layout.specs.Sessions.{SessionValue}
 use Rattle.rd_layout.specs.Since.{IsSession}
 use Rattle.rd_layout.specs.Windows.{place_of, places, view_in, wanted_of, window_shape, window_source}
-use Rattle.rd_layout.proofs.Placed.{PlaceLaws, all-places}
+use Rattle.rd_layout.proofs.Placed.{all-places}
 
 -- what the layers below say of the windows of a frame: their places, and that each of them lives
 pub record LiveLaws : Type 0 where

@@ -1,6 +1,6 @@
 -- The lines of the report. Each ends with a newline.
-use Rattle.std.specs.Prelude.{ℕ, if◌then◌else◌, List, [], ◌∷◌, ◌++◌, Option, None, Some, codes, decimal, encode_utf8, flat_map}
-use Rattle.rd_base.specs.Chars.{is_scalar}
+use Rattle.std.specs.Prelude.{ℕ, List, [], ◌∷◌, ◌++◌, Option, None, Some, codes, decimal, flat_map}
+use Rattle.rd_base.specs.Chars.{encoded}
 use Rattle.rd_base.specs.declared.settings.Anchor.{Anchor}
 use Rattle.rd_ucd.specs.declared.fault.UcdFault.{UcdFault}
 use Rattle.rd_ucd.specs.declared.fault.UcdFault.TheVariants as ucd
@@ -60,12 +60,9 @@ op_key (ops.BadField key) = Some key
 op_key (ops.Extra key) = Some key
 op_key fault = None
 
--- a character in UTF-8; keys have scalar values alone
-abbrev pub bytes_of_character : ℕ → List ℕ
-bytes_of_character c = if is_scalar c then encode_utf8 c else []
-
+-- a text in UTF-8; keys have scalar values alone
 abbrev pub bytes_of : List ℕ → List ℕ
-bytes_of text = flat_map bytes_of_character text
+bytes_of text = flat_map encoded text
 
 -- what stands behind the kind: a space, and the key of a field or the column of a bad format
 abbrev pub key_part : Option (List ℕ) → List ℕ

@@ -1,7 +1,6 @@
 -- Last layouts, found by the numbers of their windows and exchanged.
 use Rattle.std.proofs.Common.{◌≡◌, ◌≢◌, inl, inr, ℕ, zero, suc, ◌<◌, ◌==◌, Bool, true, false, None, Some, List, [], ◌∷◌, length, set, get_or, nat_lt, cond, sym, refl, ◌∙◌, arith}
-use Rattle.std.proofs.lemmas.Bool.{cases_eq, ltb-false}
-use Rattle.std.proofs.lemmas.Bool.Decides.{nat_tests}
+use Rattle.std.proofs.lemmas.Bool.{cases_eq, eqb-false, eqb-true, ltb-false}
 use Rattle.std.proofs.lemmas.List.Quantifiers.{position-Some}
 use Rattle.std.proofs.lemmas.List.Sums.{fails_before_first}
 use Rattle.std.specs.List.{position, position_or_len}
@@ -9,12 +8,6 @@ use Rattle.rd_window.specs.declared.layout.Layout.{Layout}
 use Rattle.rd_layout.specs.Sessions.{layout_of}
 use Rattle.rd_layout.proofs.Known.{Last, layout-here, layout-there}
 use Rattle.rd_views.specs.Layings.{nobody}
-
-same-number : (a b : ℕ) → (a == b) ≡ true → a ≡ b
-same-number a b h = grind (arith, nat_tests)
-
-other-number : (a b : ℕ) → (a == b) ≡ false → a ≢ b
-other-number a b h = grind (arith, nat_tests)
 
 -- ---- finding
 
@@ -40,8 +33,8 @@ pub record IsFound (n i : ℕ) (es : List Last) : Type 0 where
 pub found : (n i : ℕ) (es : List Last) → position (is_of n) es ≡ Some i → IsFound n i es
 found n i es at =
     let p = position-Some (is_of n) es i nobody at in
-    let number = same-number (get_or es i nobody).0 n p.1 in
-    record { inside = p.0; number = number; layout = at-place n i es p.0 number (λ k lower. other-number (get_or es k nobody).0 n (p.2 k lower)) }
+    let number = eqb-true (get_or es i nobody).0 n p.1 in
+    record { inside = p.0; number = number; layout = at-place n i es p.0 number (λ k lower. eqb-false (get_or es k nobody).0 n (p.2 k lower)) }
 
 missed : (b : Bool) (k : ℕ) → cond b (Some k) None ≡ None → b ≡ false
 missed true k h = absurd (cc)
@@ -50,7 +43,7 @@ missed false k h = refl
 pub absent : (n : ℕ) (es : List Last) → position (is_of n) es ≡ None → layout_of n es ≡ None
 absent n es at =
     let past = ltb-false (position_or_len (is_of n) es) (length es) (missed (nat_lt (position_or_len (is_of n) es) (length es)) (position_or_len (is_of n) es) at) in
-    nowhere n es (λ k less. other-number (get_or es k nobody).0 n (fails_before_first (is_of n) es k nobody (omega (arith, past, less))))
+    nowhere n es (λ k less. eqb-false (get_or es k nobody).0 n (fails_before_first (is_of n) es k nobody (omega (arith, past, less))))
 
 -- ---- exchanging
 

@@ -1,12 +1,13 @@
 -- A session stays one where what laying out all windows gave is kept.
 use Rattle.std.proofs.Common.{◌≡◌, ℕ, Bool, Option, None, Some, List, sym, refl, subst, subst₂, ◌∙◌}
+use Rattle.rd_layout.specs.Laws.{PlaceLaws}
 use Rattle.rd_layout.specs.Redisplays.{AreLaidOut, IsSent, update_of}
 use Rattle.rd_layout.specs.Screens.{laid_out, settled_state}
 use Rattle.rd_layout.specs.Sessions.{SessionValue}
 use Rattle.rd_layout.specs.Since.{IsSession}
 use Rattle.rd_layout.specs.Windows.{place_of, places, view_in}
 use Rattle.rd_layout.proofs.Known.{Last}
-use Rattle.rd_layout.proofs.Placed.{PlaceLaws, placed-at}
+use Rattle.rd_layout.proofs.Placed.{placed-at}
 use Rattle.rd_state.specs.States.{StateValue}
 use Rattle.rd_state.specs.Valid.{IsValid}
 use Rattle.rd_state.specs.Windows.{shown_content, window_of}

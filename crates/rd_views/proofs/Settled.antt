@@ -18,8 +18,8 @@ use Rattle.rd_ucd.specs.Data.{Data}
 use Rattle.rd_layout.specs.Screens.{settled_at, settled_by, settled_state}
 use Rattle.rd_layout.specs.Sessions.{SessionValue, layout_of}
 use Rattle.rd_layout.specs.Windows.{place_of, places, view_in, wanted_of, window_shape, window_source}
-use Rattle.rd_layout.proofs.ByNumber.{window-became, window-with-other, window-with-same}
-use Rattle.rd_state.proofs.ByNumber.{NumberedWindow, eq-false, eq-true, window-here, window-there}
+use Rattle.rd_layout.proofs.ByNumber.{window-became}
+use Rattle.rd_state.proofs.ByNumber.{NumberedWindow, eq-false, eq-true, window-here, window-other, window-same, window-there}
 use Rattle.rd_state.proofs.Opening.{chosen, passed}
 use Rattle.rd_layout.proofs.Known.{Last, layout-here, layout-there, mapped}
 use Rattle.rd_layout.proofs.Placed.{number-of}
@@ -122,9 +122,9 @@ found-settled n (x ∷ xs) (e ∷ es) ws once =
       | inl p ↦
           ap (λ (c : Option Chosen). settle_found c (window_of n (with_window e.0 f ws))) (chosen-none n xs es (ap (λ (k : ℕ). layout_of k es) (sym p) ∙ once.0))
           ∙ (ap (λ (k : ℕ). window_of n (with_window k f ws)) p
-          ∙ (window-with-same n f ws ∙ ap (λ (c : Option Chosen). settle_found c (window_of n ws)) (sym (chosen-here n x xs e es p))))
+          ∙ (window-same n f ws ∙ ap (λ (c : Option Chosen). settle_found c (window_of n ws)) (sym (chosen-here n x xs e es p))))
       | inr q ↦
-          ap (settle_found (chosen_for n xs es)) (window-with-other e.0 n f ws (λ r. q (sym r)))
+          ap (settle_found (chosen_for n xs es)) (window-other e.0 n f ws (λ r. q (sym r)))
           ∙ ap (λ (c : Option Chosen). settle_found c (window_of n ws)) (sym (chosen-there n x xs e es q))
     ]
 
@@ -198,9 +198,9 @@ pub shown-before : (n m : ℕ) (c : Chosen) (ws : List NumberedWindow) (w : Wind
 shown-before n m c ws w at = elim (cases_eq n m) [
   | inl p ↦
       let here : window_of m (with_window m (settle_to c) ws) ≡ Some w = ap (λ (k : ℕ). window_of k (with_window m (settle_to c) ws)) (sym p) ∙ at in
-      let u = mapped (settle_to c) (window_of m ws) w (sym (window-with-same m (settle_to c) ws) ∙ here) in
+      let u = mapped (settle_to c) (window_of m ws) w (sym (window-same m (settle_to c) ws) ∙ here) in
       (u.0, ap (λ (k : ℕ). window_of k ws) p ∙ u.1, ap (λ (x : WindowState). x.buffer) u.2)
-  | inr q ↦ (w, sym (window-with-other m n (settle_to c) ws q) ∙ at, refl)
+  | inr q ↦ (w, sym (window-other m n (settle_to c) ws q) ∙ at, refl)
 ]
 
 still-there : (c : Chosen) (o : Option WindowState) → IsSome o → IsSome (option_map (settle_to c) o)
@@ -210,9 +210,9 @@ still-there c (Some w) h = refl
 still-lives : (n m : ℕ) (c : Chosen) (ws : List NumberedWindow) → IsSome (window_of n ws) → IsSome (window_of n (with_window m (settle_to c) ws))
 still-lives n m c ws h = elim (cases_eq n m) [
   | inl p ↦
-      subst IsSome (sym (ap (λ (k : ℕ). window_of k (with_window m (settle_to c) ws)) p ∙ window-with-same m (settle_to c) ws))
+      subst IsSome (sym (ap (λ (k : ℕ). window_of k (with_window m (settle_to c) ws)) p ∙ window-same m (settle_to c) ws))
       (still-there c (window_of m ws) (subst (λ (k : ℕ). IsSome (window_of k ws)) p h))
-  | inr q ↦ subst IsSome (sym (window-with-other m n (settle_to c) ws q)) h
+  | inr q ↦ subst IsSome (sym (window-other m n (settle_to c) ws q)) h
 ]
 
 still-shown : (m : ℕ) (c : Chosen) (s : StateValue) (n p : ℕ) → IsShownAt s n p → IsShownAt (settled s m c.anchor c.point) n p

@@ -11,9 +11,10 @@ use Rattle.rd_state.specs.declared.window.WindowState.{WindowState}
 use Rattle.rd_tree.specs.declared.placed.Placed.{Placed}
 use Rattle.rd_window.specs.declared.layout.Layout.{Layout}
 use Rattle.rd_layout.specs.Facts.{cursor_since, facts_at, facts_by, facts_of}
+use Rattle.rd_layout.specs.Laws.{PlaceLaws}
 use Rattle.rd_layout.specs.Sessions.{SessionValue, layout_of}
 use Rattle.rd_layout.specs.Windows.{places}
-use Rattle.rd_layout.proofs.Placed.{PlaceLaws, placed-at}
+use Rattle.rd_layout.proofs.Placed.{placed-at}
 use Rattle.rd_views.proofs.Living.{LeafLaw, placed-lives}
 
 -- a list to which each element gives one

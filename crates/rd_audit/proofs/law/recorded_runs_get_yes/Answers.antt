@@ -1,6 +1,6 @@
 use Rattle.std.proofs.Common.{◌≡◌, ◌∷◌, [], List, Option, Some, ℕ, refl, sym, subst}
 use Rattle.std.specs.Prelude.{IfSome}
-use Rattle.rd_layout.proofs.Placed.{PlaceLaws}
+use Rattle.rd_layout.specs.Laws.{PlaceLaws}
 use Rattle.rd_run.specs.Alike.{End}
 use Rattle.rd_run.specs.Runs.{Mode}
 use Rattle.rd_audit.proofs.Judging.{only-yes}

@@ -1,9 +1,7 @@
-use Rattle.rd_layout.proofs.Chosen.{StartLaws}
 use Rattle.rd_layout.proofs.Keeping.{KeptLaws, kept-session, session-stands}
 use Rattle.rd_layout.proofs.Known.{StepLaws, opened-session, step-session}
 use Rattle.rd_layout.proofs.Over.{OverLaws}
 use Rattle.rd_layout.proofs.Positions.{known-fit}
-use Rattle.rd_layout.proofs.Settling.{ViewLaws}
 use Rattle.rd_layout.proofs.laws.sessions_stay_known.Goals as goal
 
 pub returns-clause-opened : goal.returns-clause-opened
@@ -11,14 +9,6 @@ returns-clause-opened c = λ files. opened-session files c.steps_keep_states.ens
 
 pub returns-clause-step : goal.returns-clause-step
 returns-clause-step c =
-    let start : StartLaws = record { row = c.a_start_is_a_row.ensures; anchor = c.an_anchor_of_a_row_is_within.ensures } in
-    let views : ViewLaws = record {
-      source = c.buffers_are_sources.ensures;
-      within = c.accessible_positions_lie_in_blocks.ensures;
-      adjoin = c.blocks_are_listed.ensures.adjoin;
-      start = start;
-      inside = c.windows_tile_their_rectangle.ensures.inside;
-    } in
     let over : OverLaws = record { grown = c.changes_lead_on.ensures.grown; local = c.rows_are_local.ensures; last_none = c.joined_with_none.ensures.last } in
     let laws : StepLaws = record {
       valid = c.steps_keep_states.ensures.step;
@@ -29,7 +19,7 @@ returns-clause-step c =
       joined = c.changes_lead_on.ensures.joined;
       last_all = c.joined_with_all.ensures.last;
       over = over;
-      views = views;
+      views = c.view_laws.ensures;
     } in
     λ v op state session form step is. step-session laws v op state session form step is
 
@@ -42,13 +32,4 @@ pub returns-clause-stands : goal.returns-clause-stands
 returns-clause-stands c = λ v number w session lives. session-stands v number w session lives
 
 pub returns-clause-positions : goal.returns-clause-positions
-returns-clause-positions c =
-    let start : StartLaws = record { row = c.a_start_is_a_row.ensures; anchor = c.an_anchor_of_a_row_is_within.ensures } in
-    let views : ViewLaws = record {
-      source = c.buffers_are_sources.ensures;
-      within = c.accessible_positions_lie_in_blocks.ensures;
-      adjoin = c.blocks_are_listed.ensures.adjoin;
-      start = start;
-      inside = c.windows_tile_their_rectangle.ensures.inside;
-    } in
-    λ v number w l session lives at. known-fit views v.files v.state w l (session.layouts number w l lives at)
+returns-clause-positions c = λ v number w l session lives at. known-fit c.view_laws.ensures v.files v.state w l (session.layouts number w l lives at)

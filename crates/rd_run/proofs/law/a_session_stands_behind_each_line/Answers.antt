@@ -1,4 +1,4 @@
-use Rattle.rd_layout.proofs.Placed.{PlaceLaws}
+use Rattle.rd_layout.specs.Laws.{PlaceLaws}
 use Rattle.rd_run.proofs.Leading.{LiveLaws}
 use Rattle.rd_run.proofs.Lines.{RunLaws, leads, stands}
 use Rattle.rd_run.proofs.law.a_session_stands_behind_each_line.Goals as goal

@@ -7,123 +7,84 @@ use Rattle.rd_layout.specs.Sessions.{SessionValue, layout_of}
 use Rattle.rd_layout.specs.Windows.{wanted_of, window_shape, window_source}
 use Rattle.rd_views.proofs.Living.{placed-lives}
 use Rattle.rd_views.proofs.Premises.{LookLaws, allowed-steps, anchor-wanted, is-source, kept-right, laid-result, point-wanted, source-is}
+use Rattle.rd_views.proofs.views.Views.lay_out_window.Given as given
 use Rattle.rd_views.proofs.views.Views.lay_out_window.Goals as goal
+use Rattle.rd_views.proofs.views.Views.lay_out_window.Goals.{After-new-source, After-shape_of-shape, After-stays_known, After-wanted_of-wanted, In-Some}
+
+laws : (g : given.Over) → goal.After-stays_known g → LookLaws
+laws g c = record {
+  source = c.buffers_are_sources.ensures;
+  within = c.accessible_positions_lie_in_blocks.ensures;
+  kept = c.sessions_stay_known.ensures.kept;
+  stands = c.sessions_stay_known.ensures.stands;
+  found = c.windows_are_leaves.ensures.found;
+}
+
+-- the window lives, and its source, its shape and what it wants are those of the session
+lives : (g : given.Over) (c : goal.In-Some g) → window_of c.args.place.number c.args.self.now.state.windows ≡ Some c.in-Some.window.now
+lives g c = sym (c.in-Some.ensures ∙ ap (λ (x : SessionValue). window_of c.args.place.number x.state.windows) c.self.view_is)
+
+source : (g : given.Over) (c : goal.After-new-source g) → source_of c.new-source.result ≡ window_source c.args.self.now.files c.args.self.now.state c.in-Some.window.now
+source g c =
+    let v = c.args.self.now in
+    c.new-source.ensures ∙ source-is c.look_at.result (seen (shown_content v.state c.in-Some.window.now)) v.state.objects v.files c.look_at.ensures.content c.look_at.ensures.objects c.look_at.ensures.files
+
+shape : (g : given.Over) (c : goal.After-shape_of-shape g) → c.shape_of-shape.result ≡ window_shape c.args.self.now.state c.in-Some.window.now c.args.place
+shape g c =
+    subst (λ (s : StateValue). c.shape_of-shape.result ≡ window_shape s c.in-Some.window.now c.args.place) (ap (λ (x : SessionValue). x.state) c.self.view_is) c.shape_of-shape.ensures
+
+wanted : (g : given.Over) (c : goal.After-wanted_of-wanted g) → c.wanted_of-wanted.result ≡ wanted_of c.args.self.now.state c.in-Some.window.now c.args.place
+wanted g c =
+    subst (λ (s : StateValue). c.wanted_of-wanted.result ≡ wanted_of s c.in-Some.window.now c.args.place) (ap (λ (x : SessionValue). x.state) c.self.view_is) c.wanted_of-wanted.ensures
 
 pub unreachable-requires : goal.unreachable-requires
 unreachable-requires g c =
     let v = c.args.self.now in
     let n = c.args.place.number in
-    let lives = placed-lives c.windows_are_leaves.ensures.placed v.state n c.args.place c.stays_known.ensures.state c.requires.found in
-    none-some lives.0 (c.in_default.ensures ∙ (ap (λ (x : SessionValue). window_of n x.state.windows) c.self.view_is ∙ lives.1))
+    let there = placed-lives c.windows_are_leaves.ensures.placed v.state n c.args.place c.stays_known.ensures.state c.requires.found in
+    none-some there.0 (c.in_default.ensures ∙ (ap (λ (x : SessionValue). window_of n x.state.windows) c.self.view_is ∙ there.1))
 
 pub look_at-requires : goal.look_at-requires
 look_at-requires g c =
-    let v = c.args.self.now in
-    let n = c.args.place.number in
-    let w = c.in-Some.window.now in
-    let lives : window_of n v.state.windows ≡ Some w = sym (c.in-Some.ensures ∙ ap (λ (x : SessionValue). window_of n x.state.windows) c.self.view_is) in
-    (c.windows_are_leaves.ensures.found v.state n w c.stays_known.ensures.state lives).made
+    (c.windows_are_leaves.ensures.found c.args.self.now.state c.args.place.number c.in-Some.window.now c.stays_known.ensures.state (lives g (goal.at.look_at-requires g c).In-Some)).made
 
 pub lay_out_again-requires-clause-source : goal.lay_out_again-requires-clause-source
 lay_out_again-requires-clause-source g c =
-    let v = c.args.self.now in
-    let n = c.args.place.number in
-    let w = c.in-Some.window.now in
-    let lives : window_of n v.state.windows ≡ Some w = sym (c.in-Some.ensures ∙ ap (λ (x : SessionValue). window_of n x.state.windows) c.self.view_is) in
-    let laws : LookLaws = record {
-      source = c.buffers_are_sources.ensures;
-      within = c.accessible_positions_lie_in_blocks.ensures;
-      kept = c.sessions_stay_known.ensures.kept;
-      stands = c.sessions_stay_known.ensures.stands;
-      found = c.windows_are_leaves.ensures.found;
-    } in
-    let m = source_of c.new-source.result in
-    let source : m ≡ window_source v.files v.state w =
-    c.new-source.ensures ∙ source-is c.look_at.result (seen (shown_content v.state w)) v.state.objects v.files c.look_at.ensures.content c.look_at.ensures.objects c.look_at.ensures.files in
-    is-source laws v c.stays_known.ensures n w lives m source
+    let at = goal.at.lay_out_again-requires-clause-source g c in
+    is-source (laws g at.After-stays_known) c.args.self.now c.stays_known.ensures c.args.place.number c.in-Some.window.now (lives g at.In-Some) (source_of c.new-source.result) (source g at.After-new-source)
 
 pub lay_out_again-requires-clause-right : goal.lay_out_again-requires-clause-right
 lay_out_again-requires-clause-right g c =
-    let v = c.args.self.now in
-    let n = c.args.place.number in
-    let w = c.in-Some.window.now in
-    let lives : window_of n v.state.windows ≡ Some w = sym (c.in-Some.ensures ∙ ap (λ (x : SessionValue). window_of n x.state.windows) c.self.view_is) in
-    let laws : LookLaws = record {
-      source = c.buffers_are_sources.ensures;
-      within = c.accessible_positions_lie_in_blocks.ensures;
-      kept = c.sessions_stay_known.ensures.kept;
-      stands = c.sessions_stay_known.ensures.stands;
-      found = c.windows_are_leaves.ensures.found;
-    } in
-    let m = source_of c.new-source.result in
-    let source : m ≡ window_source v.files v.state w =
-    c.new-source.ensures ∙ source-is c.look_at.result (seen (shown_content v.state w)) v.state.objects v.files c.look_at.ensures.content c.look_at.ensures.objects c.look_at.ensures.files in
-    kept-right laws v c.stays_known.ensures n w lives m source (option_map (λ l. l.now) c.layout-last.result) c.shape_of-shape.result c.layout-last.ensures
+    let at = goal.at.lay_out_again-requires-clause-right g c in
+    kept-right (laws g at.After-stays_known) c.args.self.now c.stays_known.ensures c.args.place.number c.in-Some.window.now (lives g at.In-Some) (source_of c.new-source.result) (source g at.After-new-source)
+    (option_map (λ l. l.now) c.layout-last.result) c.shape_of-shape.result c.layout-last.ensures
 
 pub lay_out_again-requires-clause-anchor : goal.lay_out_again-requires-clause-anchor
 lay_out_again-requires-clause-anchor g c =
-    let v = c.args.self.now in
-    let n = c.args.place.number in
-    let w = c.in-Some.window.now in
-    let lives : window_of n v.state.windows ≡ Some w = sym (c.in-Some.ensures ∙ ap (λ (x : SessionValue). window_of n x.state.windows) c.self.view_is) in
-    let laws : LookLaws = record {
-      source = c.buffers_are_sources.ensures;
-      within = c.accessible_positions_lie_in_blocks.ensures;
-      kept = c.sessions_stay_known.ensures.kept;
-      stands = c.sessions_stay_known.ensures.stands;
-      found = c.windows_are_leaves.ensures.found;
-    } in
-    let m = source_of c.new-source.result in
-    let source : m ≡ window_source v.files v.state w =
-    c.new-source.ensures ∙ source-is c.look_at.result (seen (shown_content v.state w)) v.state.objects v.files c.look_at.ensures.content c.look_at.ensures.objects c.look_at.ensures.files in
-    anchor-wanted laws v c.stays_known.ensures n w lives m source c.self.inside.state c.args.place c.wanted_of-wanted.result c.wanted_of-wanted.ensures
+    let at = goal.at.lay_out_again-requires-clause-anchor g c in
+    anchor-wanted (laws g at.After-stays_known) c.args.self.now c.stays_known.ensures c.args.place.number c.in-Some.window.now (lives g at.In-Some) (source_of c.new-source.result) (source g at.After-new-source)
+    c.self.inside.state c.args.place c.wanted_of-wanted.result c.wanted_of-wanted.ensures
 
 pub lay_out_again-requires-clause-point : goal.lay_out_again-requires-clause-point
 lay_out_again-requires-clause-point g c =
-    let v = c.args.self.now in
-    let n = c.args.place.number in
-    let w = c.in-Some.window.now in
-    let lives : window_of n v.state.windows ≡ Some w = sym (c.in-Some.ensures ∙ ap (λ (x : SessionValue). window_of n x.state.windows) c.self.view_is) in
-    let laws : LookLaws = record {
-      source = c.buffers_are_sources.ensures;
-      within = c.accessible_positions_lie_in_blocks.ensures;
-      kept = c.sessions_stay_known.ensures.kept;
-      stands = c.sessions_stay_known.ensures.stands;
-      found = c.windows_are_leaves.ensures.found;
-    } in
-    let m = source_of c.new-source.result in
-    let source : m ≡ window_source v.files v.state w =
-    c.new-source.ensures ∙ source-is c.look_at.result (seen (shown_content v.state w)) v.state.objects v.files c.look_at.ensures.content c.look_at.ensures.objects c.look_at.ensures.files in
-    point-wanted laws v c.stays_known.ensures n w lives m source c.self.inside.state c.args.place c.wanted_of-wanted.result c.wanted_of-wanted.ensures
+    let at = goal.at.lay_out_again-requires-clause-point g c in
+    point-wanted (laws g at.After-stays_known) c.args.self.now c.stays_known.ensures c.args.place.number c.in-Some.window.now (lives g at.In-Some) (source_of c.new-source.result) (source g at.After-new-source)
+    c.self.inside.state c.args.place c.wanted_of-wanted.result c.wanted_of-wanted.ensures
 
 pub returns-clause-laid : goal.returns-clause-laid
 returns-clause-laid g c =
+    let at = goal.at.returns-clause-laid g c in
     let v = c.args.self.now in
     let n = c.args.place.number in
-    let place = c.args.place in
-    let w = c.in-Some.window.now in
-    let lives : window_of n v.state.windows ≡ Some w = sym (c.in-Some.ensures ∙ ap (λ (x : SessionValue). window_of n x.state.windows) c.self.view_is) in
-    let m = source_of c.new-source.result in
-    let source : m ≡ window_source v.files v.state w =
-    c.new-source.ensures ∙ source-is c.look_at.result (seen (shown_content v.state w)) v.state.objects v.files c.look_at.ensures.content c.look_at.ensures.objects c.look_at.ensures.files in
-    let state : c.self.inside.state ≡ v.state = ap (λ (x : SessionValue). x.state) c.self.view_is in
-    let shape : c.shape_of-shape.result ≡ window_shape v.state w place = subst (λ (s : StateValue). c.shape_of-shape.result ≡ window_shape s w place) state c.shape_of-shape.ensures in
-    let wanted : c.wanted_of-wanted.result ≡ wanted_of v.state w place = subst (λ (s : StateValue). c.wanted_of-wanted.result ≡ wanted_of s w place) state c.wanted_of-wanted.ensures in
-    laid-result v.files v.state place w (layout_of n v.layouts) (option_map (λ l. l.now) c.layout-last.result) m c.shape_of-shape.result c.wanted_of-wanted.result (window_of n v.state.windows)
-    c.lay_out_again.result c.layout-last.ensures source shape wanted lives c.lay_out_again.ensures.chosen c.lay_out_again.ensures.layout c.lay_out_again.ensures.anew
+    laid-result v.files v.state c.args.place c.in-Some.window.now (layout_of n v.layouts) (option_map (λ l. l.now) c.layout-last.result) (source_of c.new-source.result) c.shape_of-shape.result
+    c.wanted_of-wanted.result (window_of n v.state.windows) c.lay_out_again.result c.layout-last.ensures (source g at.After-new-source) (shape g at.After-shape_of-shape) (wanted g at.After-wanted_of-wanted)
+    (lives g at.In-Some) c.lay_out_again.ensures.chosen c.lay_out_again.ensures.layout c.lay_out_again.ensures.anew
 
 pub returns-clause-steps : goal.returns-clause-steps
 returns-clause-steps g c =
+    let at = goal.at.returns-clause-steps g c in
     let v = c.args.self.now in
     let n = c.args.place.number in
-    let place = c.args.place in
-    let w = c.in-Some.window.now in
-    let lives : window_of n v.state.windows ≡ Some w = sym (c.in-Some.ensures ∙ ap (λ (x : SessionValue). window_of n x.state.windows) c.self.view_is) in
-    let m = source_of c.new-source.result in
-    let source : m ≡ window_source v.files v.state w =
-    c.new-source.ensures ∙ source-is c.look_at.result (seen (shown_content v.state w)) v.state.objects v.files c.look_at.ensures.content c.look_at.ensures.objects c.look_at.ensures.files in
-    let state : c.self.inside.state ≡ v.state = ap (λ (x : SessionValue). x.state) c.self.view_is in
-    let shape : c.shape_of-shape.result ≡ window_shape v.state w place = subst (λ (s : StateValue). c.shape_of-shape.result ≡ window_shape s w place) state c.shape_of-shape.ensures in
-    let wanted : c.wanted_of-wanted.result ≡ wanted_of v.state w place = subst (λ (s : StateValue). c.wanted_of-wanted.result ≡ wanted_of s w place) state c.wanted_of-wanted.ensures in
-    allowed-steps v.files v.state place w (layout_of n v.layouts) (option_map (λ l. l.now) c.layout-last.result) m c.shape_of-shape.result c.wanted_of-wanted.result (window_of n v.state.windows)
-    c.args.steps.now c.lay_out_again.new.steps c.layout-last.ensures source shape wanted lives c.lay_out_again.ensures.steps
+    allowed-steps v.files v.state c.args.place c.in-Some.window.now (layout_of n v.layouts) (option_map (λ l. l.now) c.layout-last.result) (source_of c.new-source.result) c.shape_of-shape.result
+    c.wanted_of-wanted.result (window_of n v.state.windows) c.args.steps.now c.lay_out_again.new.steps c.layout-last.ensures (source g at.After-new-source) (shape g at.After-shape_of-shape)
+    (wanted g at.After-wanted_of-wanted) (lives g at.In-Some) c.lay_out_again.ensures.steps

@@ -1,0 +1,6 @@
+use Rattle.rd_layout.proofs.laws.place_laws.Goals as goal
+
+pub returns : goal.returns
+returns c =
+    let tree = c.windows_tile_their_rectangle.ensures in
+    record { inside = tree.inside; listed = tree.listed; in_order = tree.in_order }

@@ -1,0 +1,10 @@
+use Rattle.rd_layout.proofs.laws.view_laws.Goals as goal
+
+pub returns : goal.returns
+returns c = record {
+  source = c.buffers_are_sources.ensures;
+  within = c.accessible_positions_lie_in_blocks.ensures;
+  adjoin = c.blocks_are_listed.ensures.adjoin;
+  start = record { row = c.a_start_is_a_row.ensures; anchor = c.an_anchor_of_a_row_is_within.ensures };
+  places = c.place_laws.ensures;
+}

@@ -1,0 +1,69 @@
+-- What the proofs here take from the laws of the layers below.
+use Rattle.std.specs.Prelude.{◌≡◌, ℕ, ◌+◌, ◌^◌, ◌<◌, ◌≤◌, List, Some, length, map, slice_get, IsTrue}
+use Rattle.std.specs.List.{All}
+use Rattle.rd_base.specs.Chars.{is_code}
+use Rattle.rd_base.specs.Faces.{plain}
+use Rattle.rd_base.specs.declared.settings.Anchor.{Anchor}
+use Rattle.rd_blocks.specs.Sources.{text_source}
+use Rattle.rd_glyphs.specs.Lines.{plain_cells}
+use Rattle.rd_items.specs.Blocks.{Adjoin, blocks_of}
+use Rattle.rd_margins.specs.Cells.{IsMargin, row_margin}
+use Rattle.rd_margins.specs.declared.rows.Widths.{Widths}
+use Rattle.rd_matrix.specs.Blocks.{IsWithin}
+use Rattle.rd_matrix.specs.Entries.{EntryMeaning}
+use Rattle.rd_matrix.specs.Sources.{IsSource, SourceValues, rows_at}
+use Rattle.rd_modeline.specs.Lines.{line_cells}
+use Rattle.rd_modeline.specs.Values.{FactValues}
+use Rattle.rd_modeline.specs.declared.piece.Piece.{Piece}
+use Rattle.rd_objects.specs.Sound.{AreCodes, AreObjects}
+use Rattle.rd_objects.specs.Things.{ObjectLists}
+use Rattle.rd_props.specs.Buffers as props
+use Rattle.rd_reuse.specs.Views.{Names}
+use Rattle.rd_rows.specs.Shapes.{IsShape, ShapeValues}
+use Rattle.rd_rows.specs.Whole.{IsWhole}
+use Rattle.rd_rows.specs.declared.begin.Begin.{Begin}
+use Rattle.rd_start.specs.Chosen.{places_of}
+use Rattle.rd_start.specs.Starts.{start_of}
+use Rattle.rd_start.specs.declared.wanted.Wanted.{Wanted}
+use Rattle.rd_state.specs.States.{StateValue}
+use Rattle.rd_state.specs.Valid.{IsValid, IsWindow}
+use Rattle.rd_state.specs.Windows.{leaf_at, window_of}
+use Rattle.rd_state.specs.declared.window.WindowState.{WindowState}
+use Rattle.rd_text.specs.Texts.{IsAccessible, IsText}
+use Rattle.rd_tree.specs.Places.{StandsIn}
+use Rattle.rd_tree.specs.Windows.{HasRoom, Windows, leaves, placed, times, window_at}
+use Rattle.rd_tree.specs.declared.placed.Placed.{Placed}
+use Rattle.rd_tree.specs.declared.rect.Rect.{Rect}
+use Rattle.rd_ucd.specs.Data.{Data}
+use Rattle.rd_ucd.specs.declared.spans.Span.{Span}
+
+-- of the windows of a frame, in their order and by their numbers
+pub record PlaceLaws : Type 0 where
+  pub inside : (number : ℕ) (windows : Windows) (rect : Rect) (window : Placed) → HasRoom windows rect → window_at number windows rect ≡ Some window → StandsIn window rect
+  pub listed : (windows : Windows) (rect : Rect) → map (λ (window : Placed). window.number) (placed windows rect) ≡ leaves windows
+  pub in_order : (windows : Windows) (rect : Rect) (i number : ℕ) → ((n : ℕ) → times n windows ≤ 1) → slice_get (leaves windows) i ≡ Some number → window_at number windows rect ≡ slice_get (placed windows rect) i
+
+-- of the start that is chosen for a window
+pub record StartLaws : Type 0 where
+  pub row : (m : SourceValues) (shape : ShapeValues) (w : Wanted) → IsSource m → IsShape shape → IsWithin w.point m.blocks → start_of w (places_of m shape w) < length (rows_at m shape)
+  pub anchor : (m : SourceValues) (shape : ShapeValues) (anchor : Anchor) (place : ℕ) → IsSource m → Names anchor (rows_at m shape) place → IsWithin anchor.pos m.blocks
+
+-- of what a window shows
+pub record ViewLaws : Type 0 where
+  pub source : (s : props.BufferValue) (objects : ObjectLists) (files : Data) → IsText s.text → IsSource (text_source s objects files)
+  pub within : (s : props.BufferValue) (objects : ObjectLists) (files : Data) (pos : ℕ) → IsAccessible s.text pos → IsWithin pos (text_source s objects files).blocks
+  pub adjoin : (s : props.BufferValue) → s.text.begin ≤ s.text.end → Adjoin s.text.begin (s.text.end + 1) (blocks_of s)
+  pub start : StartLaws
+  pub places : PlaceLaws
+
+-- of the sizes of what windows show
+pub record FitLaws : Type 0 where
+  pub views : ViewLaws
+  pub found : (s : StateValue) (number : ℕ) (w : WindowState) → IsValid s → window_of number s.windows ≡ Some w → IsWindow s.buffers w
+  pub leaf : (number : ℕ) (windows : Windows) (rect : Rect) (window : Placed) → window_at number windows rect ≡ Some window → leaf_at number windows ≡ Some (window.mode, window.margins)
+  pub whole : (s : props.BufferValue) (objects : ObjectLists) (files : Data) (shape : ShapeValues) → AreObjects objects → 1 ≤ s.settings.tab_width → s.settings.tab_width ≤ 32 → AreCodes s.text.text → IsShape shape
+      → All (λ (e : EntryMeaning). IsWhole shape.width e.row) (rows_at (text_source s objects files) shape)
+  pub margin : (classes : List Span) (widths : Widths) (row line : ℕ) (text : List ℕ) → line < 2 ^ 64 → All (λ c. IsTrue (is_code c)) text → IsMargin (widths.numbers + widths.strings) (row_margin classes widths row line text)
+  pub mode_width : (classes : List Span) (facts : FactValues) (width : ℕ) (pieces : List Piece) → length (line_cells classes facts width pieces) ≡ width
+  pub plain_width : (classes : List Span) (width : ℕ) (text : List ℕ) → length (plain_cells classes plain width text) ≡ width
+  pub columns : (s : props.BufferValue) (objects : ObjectLists) (files : Data) (shape : ShapeValues) → IsShape shape → All (λ (e : EntryMeaning). All (λ (b : Begin). b.column < shape.width) e.row.begins) (rows_at (text_source s objects files) shape)
