@@ -3,21 +3,11 @@
 //! standard input, which is not read, and with `--dump` the report has a dump behind each redisplay.
 #![tactic(auto)]
 
-mod act;
-mod halt;
-mod last_line;
-mod names;
-mod report;
-mod run;
-mod top;
-mod windows;
-mod writing;
-
 ghost use Rattle.std.specs.Prelude.{◌≡◌, ◌<◌};
 
-use crate::top::{play, tell_status};
 use rd_base::Steps;
 use rd_io::{HostFiles, StdSink, StdSource};
+use rd_player::{play, tell_status};
 use rd_run::Status;
 use std::alloc::Global;
 use std::marker::Brand;
@@ -67,6 +57,3 @@ fn faulty(alloc: Global) -> io::Result<Vec<String>> {
     words.push(String::new(alloc))?;
     Ok(words)
 }
-
-#[cfg(test)]
-mod tests;

@@ -1,0 +1,123 @@
+-- What the line of an op does.
+use Rattle.std.proofs.Common.{◌≡◌, ℕ, ◌+◌, inl, inr, Bool, true, false, List, [], ◌++◌, Option, None, Some, is_some, if◌then◌else◌, OnErr, Result, Ok, Err, refl, sym, ap, ◌∙◌, subst}
+use Rattle.std.specs.Io.KnownBytes.{Appends}
+use Rattle.std.proofs.KnownBytes.{Appends-nil}
+use Rattle.rd_io.specs.Devices.{AppendsFront, Rose, Writes}
+use Rattle.rd_io.specs.declared.traits.Failed.{Failed}
+use Rattle.rd_layout.specs.Copies.{redisplayed as redisplayed_session, without_copies}
+use Rattle.rd_layout.specs.Facts.{facts_of}
+use Rattle.rd_layout.specs.Redisplays.{update_of}
+use Rattle.rd_layout.specs.Sessions.{SessionValue, session_step}
+use Rattle.rd_run.specs.Ends.{Sunk, sunk}
+use Rattle.rd_run.specs.Reports.{no_memory_line, shown_line, stopped_line}
+use Rattle.rd_run.specs.Runs.{Effect, Standing, asked, dump_lines, effect_by, effect_of_op, is_sent, outcome_of, redisplayed, stepped, told_of, unshown}
+use Rattle.rd_script.specs.declared.op.Op.{Op}
+use Rattle.rd_update.specs.Updates.{Update}
+use Rattle.rd_player.specs.Acts.{Acts, IsTold}
+use Rattle.rd_player.specs.declared.halt.Halt.{Halt}
+use Rattle.rd_player.specs.declared.halt.Halt.TheVariants as halts
+
+-- how often rows were copied changes nothing that is told
+abbrev pub CopyLaw : Type 0
+CopyLaw = (v : SessionValue) → facts_of (without_copies v) ≡ facts_of v
+
+-- where a run stands, part by part
+abbrev pub stand : Bool → Option ℕ → ℕ → ℕ → SessionValue → Standing
+stand dumps generated lines shown v = record { mode = record { files = v.files; dumps = dumps; generated = generated }; session = without_copies v; lines = lines; shown = shown }
+
+-- ---- which op it is
+
+-- a redisplay
+pub redisplay-acts : (result : Result Unit Halt) (place next : Standing) (op : Op) (screen report : Sunk) (answer : Option (Option ℕ)) (stop : Option ℕ) → answer ≡ asked op → answer ≡ Some stop
+    → Acts result (λ starved. if starved then unshown place else redisplayed place stop) next screen report → Acts result (λ starved. effect_of_op starved place op) next screen report
+redisplay-acts result place next op screen report answer stop p q h =
+    subst (λ o. Acts result (λ starved. effect_by o starved place op) next screen report) (sym (sym p ∙ q)) h
+
+-- another op
+pub step-acts : (result : Result Unit Halt) (place next : Standing) (op : Op) (screen report : Sunk) (answer : Option (Option ℕ)) → answer ≡ asked op → answer ≡ None
+    → Acts result (λ starved. stepped place op (session_step place.session op)) next screen report → Acts result (λ starved. effect_of_op starved place op) next screen report
+step-acts result place next op screen report answer p q h =
+    subst (λ o. Acts result (λ starved. effect_by o starved place op) next screen report) (sym (sym p ∙ q)) h
+
+-- ---- a redisplay
+
+is-sent : (u : Update) → is_sent (Some (outcome_of u)) ≡ true
+is-sent u = by u.done where
+  by : (d : Bool) → is_sent (Some (outcome_of (record u { done = d }))) ≡ true
+  by true = refl
+  by false = refl
+
+-- what the report is told of a redisplay that was sent
+abbrev pub sent_lines : Bool → Option ℕ → Bool → ℕ → ℕ → SessionValue → List ℕ
+sent_lines dumps generated done number rows v =
+    if is_some generated then [] else if done then shown_line number rows ++ dump_lines dumps v.current (facts_of v) else stopped_line number rows
+
+pub shown-lines : (dumps : Bool) (generated : Option ℕ) (done : Bool) (number rows : ℕ) (v : SessionValue) → done ≡ true
+    → (if is_some generated then [] else shown_line number rows ++ dump_lines dumps v.current (facts_of v)) ≡ sent_lines dumps generated done number rows v
+shown-lines dumps generated done number rows v e = ap (λ d. sent_lines dumps generated d number rows v) (sym e)
+
+pub stopped-lines : (dumps : Bool) (generated : Option ℕ) (done : Bool) (number rows : ℕ) (v : SessionValue) → done ≡ false
+    → (if is_some generated then [] else stopped_line number rows) ≡ sent_lines dumps generated done number rows v
+stopped-lines dumps generated done number rows v e = ap (λ d. sent_lines dumps generated d number rows v) (sym e)
+
+pub counts-as : (shown : ℕ) (done d : Bool) → done ≡ d → (if d then shown + 1 else shown) ≡ (if done then shown + 1 else shown)
+counts-as shown done d e = ap (λ x. if x then shown + 1 else shown) (sym e)
+
+-- where the run stands may be said otherwise
+pub acts-next : (result : Result Unit Halt) (does : Bool → Effect) (next same : Standing) (screen report : Sunk) → next ≡ same → Acts result does same screen report → Acts result does next screen report
+acts-next result does next same screen report e h = subst (λ n. Acts result does n screen report) (sym e) h
+
+told-same : (law : CopyLaw) (dumps : Bool) (generated : Option ℕ) (number rows : ℕ) (old new : SessionValue) (stop : Option ℕ) → without_copies new ≡ redisplayed_session old stop → rows ≡ (update_of old stop).rows
+    → sent_lines dumps generated (update_of old stop).done number rows new
+    ≡ told_of (record { files = old.files; dumps = dumps; generated = generated }) number (update_of old stop) (redisplayed_session old stop)
+told-same law dumps generated number rows old new stop same count =
+    let u = update_of old stop in
+    let current : new.current ≡ (redisplayed_session old stop).current = ap (λ (v : SessionValue). v.current) same in
+    let facts : facts_of new ≡ facts_of (redisplayed_session old stop) = sym (law new) ∙ ap facts_of same in
+    λ i. if is_some generated then [] else if u.done then shown_line number (count i) ++ dump_lines dumps (current i) (facts i) else stopped_line number (count i)
+
+-- it was sent as far as it goes, and the report was told of it or broke
+pub sent-acts : (law : CopyLaw) (answer : Result Unit Failed) (result : Result Unit Halt) (dumps : Bool) (generated : Option ℕ) (lines shown seen : ℕ) (old new : SessionValue) (stop : Option ℕ) (rows : ℕ)
+    (s0 s1 r0 r1 : Option (List ℕ)) (m0 m1 n0 n1 : ℕ) → IsTold answer result → without_copies new ≡ redisplayed_session old stop → new.files ≡ old.files → rows ≡ (update_of old stop).rows
+    → Appends s0 s1 (update_of old stop).bytes → seen ≡ (if (update_of old stop).done then shown + 1 else shown)
+    → Writes r0 r1 (sent_lines dumps generated (update_of old stop).done (lines + 1) rows new) answer → OnErr answer (Rose n0 n1) → OnErr answer (generated ≡ None)
+    → Acts result (λ starved. if starved then unshown (stand dumps generated lines shown old) else redisplayed (stand dumps generated lines shown old) stop) (stand dumps generated (lines + 1) seen new)
+    (sunk s0 s1 m0 m1) (sunk r0 r1 n0 n1)
+sent-acts law (Ok x) result dumps generated lines shown seen old new stop rows s0 s1 r0 r1 m0 m1 n0 n1 told same files count sent counts writes rose read =
+    let place = stand dumps generated lines shown old in
+    let next = stand dumps generated (lines + 1) seen new in
+    let now : next ≡ (redisplayed place stop).now =
+    λ i. record { mode = record { files = files i; dumps = dumps; generated = generated }; session = same i; lines = lines + 1; shown = counts i } in
+    subst (λ (r : Result Unit Halt). Acts r (λ starved. if starved then unshown place else redisplayed place stop) next (sunk s0 s1 m0 m1) (sunk r0 r1 n0 n1)) (sym told)
+    (false, refl, now, sent, subst (Appends r0 r1) (told-same law dumps generated (lines + 1) rows old new stop same count) writes.whole)
+sent-acts law (Err x) result dumps generated lines shown seen old new stop rows s0 s1 r0 r1 m0 m1 n0 n1 told same files count sent counts writes rose read =
+    let place = stand dumps generated lines shown old in
+    let next = stand dumps generated (lines + 1) seen new in
+    let front = subst (AppendsFront r0 r1) (told-same law dumps generated (lines + 1) rows old new stop same count) writes.front in
+    subst (λ (r : Result Unit Halt). Acts r (λ starved. if starved then unshown place else redisplayed place stop) next (sunk s0 s1 m0 m1) (sunk r0 r1 n0 n1)) (sym told)
+    (false, is-sent (update_of old stop), sent, record { rose = rose; front = front }, inl read)
+
+-- it found no memory
+pub starved-acts : (answer : Result Unit Failed) (result : Result Unit Halt) (dumps : Bool) (generated : Option ℕ) (lines shown : ℕ) (old new : SessionValue) (stop : Option ℕ)
+    (s0 s1 r0 r1 : Option (List ℕ)) (m0 m1 n0 n1 : ℕ) → IsTold answer result → new ≡ record old { current = None } → Appends s0 s1 []
+    → Writes r0 r1 (no_memory_line (lines + 1)) answer → OnErr answer (Rose n0 n1)
+    → Acts result (λ starved. if starved then unshown (stand dumps generated lines shown old) else redisplayed (stand dumps generated lines shown old) stop) (stand dumps generated (lines + 1) shown new)
+    (sunk s0 s1 m0 m1) (sunk r0 r1 n0 n1)
+starved-acts (Ok x) result dumps generated lines shown old new stop s0 s1 r0 r1 m0 m1 n0 n1 told becomes sent writes rose =
+    let place = stand dumps generated lines shown old in
+    let next = stand dumps generated (lines + 1) shown new in
+    let now : next ≡ (unshown place).now = ap (stand dumps generated (lines + 1) shown) becomes in
+    subst (λ (r : Result Unit Halt). Acts r (λ starved. if starved then unshown place else redisplayed place stop) next (sunk s0 s1 m0 m1) (sunk r0 r1 n0 n1)) (sym told)
+    (true, refl, now, sent, writes.whole)
+starved-acts (Err x) result dumps generated lines shown old new stop s0 s1 r0 r1 m0 m1 n0 n1 told becomes sent writes rose =
+    let place = stand dumps generated lines shown old in
+    let next = stand dumps generated (lines + 1) shown new in
+    subst (λ (r : Result Unit Halt). Acts r (λ starved. if starved then unshown place else redisplayed place stop) next (sunk s0 s1 m0 m1) (sunk r0 r1 n0 n1)) (sym told)
+    (true, is-sent (update_of old stop), sent, record { rose = rose; front = writes.front }, inr refl)
+
+-- the screen broke
+pub broke-acts : (dumps : Bool) (generated : Option ℕ) (lines shown : ℕ) (next : Standing) (old : SessionValue) (stop : Option ℕ) (s0 s1 r : Option (List ℕ)) (m0 m1 n : ℕ)
+    → AppendsFront s0 s1 (update_of old stop).bytes → Rose m0 m1
+    → Acts (Err halts.ScreenBroke) (λ starved. if starved then unshown (stand dumps generated lines shown old) else redisplayed (stand dumps generated lines shown old) stop) next
+    (sunk s0 s1 m0 m1) (sunk r r n n)
+broke-acts dumps generated lines shown next old stop s0 s1 r m0 m1 n front rose = (is-sent (update_of old stop), record { rose = rose; front = front }, Appends-nil r)

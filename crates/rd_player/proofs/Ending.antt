@@ -1,0 +1,192 @@
+-- The end of a run: its last line.
+use Rattle.std.proofs.Common.{◌≡◌, ℕ, ◌+◌, ◌≤◌, inl, inr, List, [], ◌∷◌, ◌++◌, length, take, Option, None, Some, refl, sym, subst, append-nil, arith}
+use Rattle.std.specs.Io.KnownBytes.{Appends, Consumes}
+use Rattle.std.proofs.KnownBytes.{Appends-nil, Appends-trans, Consumes-nil}
+use Rattle.rd_io.specs.Devices.{Rose}
+use Rattle.rd_run.specs.Alike.{End, IsFaultless}
+use Rattle.rd_run.specs.Ends.{Broke, Comes, Drawn, Ended, IsBroken, IsWhole, LastBroke, ReportBroke, ScreenBroke, Sunk, Took, last_in, sent_in, sunk, told_in}
+use Rattle.rd_run.specs.Given.{Given, IsMode}
+use Rattle.rd_run.specs.Reports.{last_line}
+use Rattle.rd_run.specs.Runs.{Input, KnowsEach, Mode, ShowsEach, opened, run}
+use Rattle.rd_run.specs.Statuses.{TellsNoMemory}
+use Rattle.rd_run.specs.Validity.{EndsWell, IsValidScript}
+use Rattle.rd_run.specs.declared.status.Status.{Status}
+use Rattle.rd_run.specs.declared.status.Status.TheVariants.{Done, WriteFault}
+use Rattle.rd_player.specs.Acts.{ComesTo, Finishes, SpentBy, Tells, summary_of}
+use Rattle.rd_player.specs.Played.{Completes, Played, Spent}
+use Rattle.rd_player.specs.declared.halt.Ending.{Ending}
+use Rattle.rd_player.specs.declared.halt.Ending.TheVariants as endings
+use Rattle.rd_player.proofs.Telling.{broke-after}
+
+later : {m n o : ℕ} → Rose m n → n ≤ o → Rose m o
+later (inl p) q = inl (omega arith)
+later (inr p) q = inr (omega arith)
+
+-- a device that broke, and then took nothing more
+broke-before : (a b c : Option (List ℕ)) (m n o : ℕ) (bytes more : List ℕ) → Broke (sunk a b m n) bytes more → n ≤ o → Appends b c [] → Broke (sunk a c m o) bytes more
+broke-before a b c m n o bytes more h q none = record {
+  rose = later h.rose q;
+  front = (h.front.0, h.front.1, subst (Appends a c) (append-nil (bytes ++ take h.front.0 more)) (Appends-trans a b c (bytes ++ take h.front.0 more) [] h.front.2 none));
+}
+
+last-broke : (given : Given) (mode : Option Mode) (status : Status) (inputs : List Input) (bytes : List ℕ) (source : Drawn) (screen report : Sunk) → LastBroke given mode status inputs bytes source screen report
+    → IsBroken given mode inputs bytes source screen report
+last-broke given None status inputs bytes source screen report h = (status, h)
+last-broke given (Some mode) status inputs bytes source screen report h = inr (inr (status, h))
+
+-- the last line of a status, behind the lines that were run
+told-last : (given : Given) (mode : Option Mode) (status : Status) (inputs : List Input) (bytes : List ℕ) (source : Drawn) (screen : Sunk) (result : Status) (line : List ℕ) (p0 p1 p2 : Option (List ℕ)) (n0 n1 n2 : ℕ)
+    → Comes given mode status inputs bytes source → last_in mode status inputs ≡ line → Took screen (sent_in mode inputs) → Took (sunk p0 p1 n0 n1) (told_in mode inputs) → n0 ≤ n1
+    → Tells status line result (sunk p1 p2 n1 n2) → Ended given mode result inputs bytes source screen (sunk p0 p2 n0 n2)
+told-last given mode status inputs bytes source screen result line p0 p1 p2 n0 n1 n2 comes same sent told n (inl (is, took)) =
+    let told_last : Appends p1 p2 (last_in mode status inputs) = subst (Appends p1 p2) (sym same) took in
+    let whole : IsWhole given mode status inputs bytes source screen (sunk p0 p2 n0 n2) = record {
+      comes = comes;
+      sent = sent;
+      told = Appends-trans p0 p1 p2 (told_in mode inputs) (last_in mode status inputs) told told_last;
+    } in
+    subst (λ r. Ended given mode r inputs bytes source screen (sunk p0 p2 n0 n2)) (sym is) (inl whole)
+told-last given mode status inputs bytes source screen result line p0 p1 p2 n0 n1 n2 comes same sent told n (inr (is, broke)) =
+    let last : LastBroke given mode status inputs bytes source screen (sunk p0 p2 n0 n2) = record {
+      comes = comes;
+      sent = sent;
+      told = subst (Broke (sunk p0 p2 n0 n2) (told_in mode inputs)) (sym same) (broke-after p0 p1 p2 n0 n1 n2 (told_in mode inputs) line told n broke);
+    } in
+    inr (is, last-broke given mode status inputs bytes source screen (sunk p0 p2 n0 n2) last)
+
+-- the headline, over all runs
+abbrev pub ShowsAlways : Type 0
+ShowsAlways = (mode : Mode) (inputs : List Input) → ShowsEach (opened mode) inputs
+
+pub ended : (ending : Ending) (given : Given) (mode : Option Mode) (inputs : List Input) (bytes : List ℕ) (source : Drawn) (screen : Sunk) (result : Status) (p0 p1 p2 : Option (List ℕ)) (n0 n1 n2 : ℕ)
+    → ShowsAlways → ComesTo ending given mode inputs bytes source screen (sunk p0 p1 n0 n1) → n0 ≤ n1 → n1 ≤ n2 → Finishes ending result (sunk p1 p2 n1 n2)
+    → Ended given mode result inputs bytes source screen (sunk p0 p2 n0 n2)
+ended (endings.Ends status lines) given mode inputs bytes source screen result p0 p1 p2 n0 n1 n2 law h m n f =
+    told-last given mode status inputs bytes source screen result (last_line status lines) p0 p1 p2 n0 n1 n2 h.0 h.1 h.2 h.3 m f
+ended (endings.Sums s) given mode inputs bytes source screen result p0 p1 p2 n0 n1 n2 law h m n f =
+    told-last given mode Done inputs bytes source screen result (summary_of s) p0 p1 p2 n0 n1 n2 h.0 h.1 h.2 h.3 m f
+ended endings.ScreenBroke given None inputs bytes source screen result p0 p1 p2 n0 n1 n2 law h m n f = absurd h
+ended endings.ScreenBroke given (Some mode) inputs bytes source screen result p0 p1 p2 n0 n1 n2 law h m n (inl (same, line)) =
+    let w = run (opened mode) inputs in
+    let broke : ScreenBroke given mode inputs h.0 bytes source screen (sunk p0 p2 n0 n2) = record {
+      hand = h.1;
+      sent = h.2;
+      told = inl (Appends-trans p0 p1 p2 w.told (last_line WriteFault (length inputs)) h.3 line);
+    } in
+    inr (same, inl (h.0, broke))
+ended endings.ScreenBroke given (Some mode) inputs bytes source screen result p0 p1 p2 n0 n1 n2 law h m n (inr (same, front)) =
+    let w = run (opened mode) inputs in
+    let broke : ScreenBroke given mode inputs h.0 bytes source screen (sunk p0 p2 n0 n2) = record {
+      hand = h.1;
+      sent = h.2;
+      told = inr (broke-after p0 p1 p2 n0 n1 n2 w.told (last_line WriteFault (length inputs)) h.3 m front);
+    } in
+    inr (same, inl (h.0, broke))
+ended endings.ReportBroke given None inputs bytes source screen result p0 p1 p2 n0 n1 n2 law h m n f = absurd h
+ended endings.ReportBroke given (Some mode) inputs bytes source screen result p0 p1 p2 n0 n1 n2 law h m n f =
+    let broke : ReportBroke given mode inputs h.0 bytes source screen (sunk p0 p2 n0 n2) = record {
+      hand = h.1;
+      sent = h.2;
+      told = broke-before p0 p1 p2 n0 n1 n2 _ _ h.3 n f.1;
+      shows = law mode (inputs ++ h.0 ∷ []);
+      tells = h.4;
+    } in
+    inr (f.0, inr (inl (h.0, broke)))
+
+-- ---- the steps
+
+write-fault : (result : Status) (line : List ℕ) (report : Sunk) → Tells WriteFault line result report → result ≡ WriteFault
+write-fault result line report (inl (same, took)) = same
+write-fault result line report (inr (same, broke)) = same
+
+pub spent : (ending : Ending) (given : Given) (mode : Option Mode) (inputs : List Input) (bytes : List ℕ) (left : Option (List ℕ)) (result : Status) (report : Sunk) (c0 c1 : ℕ)
+    → SpentBy ending given mode inputs bytes left c0 c1 → Finishes ending result report → Spent given mode result inputs bytes left c0 c1
+spent (endings.Ends status lines) given mode inputs bytes left result report c0 c1 h f = inl h
+spent (endings.Sums s) given mode inputs bytes left result report c0 c1 h f = inl h
+spent endings.ScreenBroke given mode inputs bytes left result report c0 c1 h f = inr (write-fault result (last_line WriteFault 0) report f, h)
+spent endings.ReportBroke given mode inputs bytes left result report c0 c1 h f = inr (f.0, h)
+
+-- ---- the whole
+
+abbrev pub KnowsAlways : Type 0
+KnowsAlways = (mode : Mode) (inputs : List Input) → KnowsEach (opened mode) inputs
+
+-- a run over a valid script ends well
+abbrev pub EndWell : Type 0
+EndWell = (script : List ℕ) (mode : Mode) (e : End) → IsMode e.given mode → IsValidScript mode e.inputs script → IsFaultless script e → EndsWell e.status
+
+completes : (law : EndWell) (given : Given) (begun : Option Mode) (result : Status) (inputs : List Input) (bytes : List ℕ) (l0 : Option (List ℕ)) (source : Drawn) (screen report : Sunk)
+    → Consumes l0 source.left bytes → Ended given begun result inputs bytes source screen report → Completes given result inputs l0 source screen report
+completes law given begun result inputs bytes l0 source screen report taken ends = λ mode script good files left valid fetched read sent told.
+    let e : End = record { given = given; mode = begun; status = result; inputs = inputs; bytes = bytes; source = source; screen = screen; report = report } in
+    let whole : IsFaultless script e = record {
+      taken = λ reads. subst (λ l. Consumes l source.left bytes) (left reads) taken;
+      ended = ends;
+      files = files;
+      fetched = fetched;
+      read = read;
+      sent = sent;
+      told = told;
+    } in
+    law script mode e good valid whole
+
+-- a run that has begun
+pub played : (ending : Ending) (given : Given) (mode : Mode) (l0 : Option (List ℕ)) (source : Drawn) (screen : Sunk) (result : Status) (p0 p1 p2 : Option (List ℕ)) (n0 n1 n2 c0 c1 : ℕ)
+    → ShowsAlways → KnowsAlways → EndWell → n0 ≤ n1 → n1 ≤ n2
+    → (inputs : List Input) × (bytes : List ℕ) × Consumes l0 source.left bytes × ComesTo ending given (Some mode) inputs bytes source screen (sunk p0 p1 n0 n1)
+    × SpentBy ending given (Some mode) inputs bytes source.left c0 c1
+    → Finishes ending result (sunk p1 p2 n1 n2) → Played given result l0 source screen (sunk p0 p2 n0 n2) c0 c1
+played ending given mode l0 source screen result p0 p1 p2 n0 n1 n2 c0 c1 shows knows well m n h f =
+    let report = sunk p0 p2 n0 n2 in
+    let ends : Ended given (Some mode) result h.0 h.1 source screen report = ended ending given (Some mode) h.0 h.1 source screen result p0 p1 p2 n0 n1 n2 shows h.3 m n f in (
+      Some mode,
+      h.0,
+      h.1,
+      h.2,
+      ends,
+      shows mode h.0,
+      knows mode h.0,
+      spent ending given (Some mode) h.0 h.1 source.left result (sunk p1 p2 n1 n2) c0 c1 h.4 f,
+      completes well given (Some mode) result h.0 h.1 l0 source screen report h.2 ends,
+    )
+
+last-none : (status : Status) → last_in None status [] ≡ last_line status 0
+last-none status = refl
+
+-- one that has not
+pub unplayed : (status : Status) (given : Given) (l : Option (List ℕ)) (q : ℕ) (s : Option (List ℕ)) (m : ℕ) (result : Status) (p0 p1 : Option (List ℕ)) (n0 n1 c : ℕ) → ShowsAlways → EndWell → n0 ≤ n1
+    → ((source : Drawn) → Comes given None status [] [] source) → Finishes (endings.Ends status 0) result (sunk p0 p1 n0 n1)
+    → Played given result l (record { left = l; faults_before = q; faults_after = q }) (sunk s s m m) (sunk p0 p1 n0 n1) c c
+unplayed status given l q s m result p0 p1 n0 n1 c shows well n comes f =
+    let source : Drawn = record { left = l; faults_before = q; faults_after = q } in
+    let screen = sunk s s m m in
+    let report = sunk p0 p1 n0 n1 in
+    let none : n0 ≤ n0 = omega arith in
+    let same : c ≤ c + 0 = omega arith in
+    let ends : Ended given None result [] [] source screen report =
+    ended (endings.Ends status 0) given None [] [] source screen result p0 p0 p1 n0 n0 n1 shows (comes source, last-none status, Appends-nil s, Appends-nil p0) none n f in (
+      None,
+      [],
+      [],
+      Consumes-nil l,
+      ends,
+      tt,
+      tt,
+      inl same,
+      completes well given None result [] [] l source screen report (Consumes-nil l) ends,
+    )
+
+-- ---- want of memory
+
+-- want of memory is no kind that a status tells
+abbrev pub KindLaw : Type 0
+KindLaw = (given : Given) (mode : Option Mode) (status : Status) (inputs : List Input) (bytes : List ℕ) (source : Drawn) → Comes given mode status inputs bytes source → TellsNoMemory status
+
+ended-free : (law : KindLaw) (given : Given) (mode : Option Mode) (result : Status) (inputs : List Input) (bytes : List ℕ) (source : Drawn) (screen report : Sunk)
+    → Ended given mode result inputs bytes source screen report → TellsNoMemory result
+ended-free law given mode result inputs bytes source screen report (inl whole) = law given mode result inputs bytes source whole.comes
+ended-free law given mode result inputs bytes source screen report (inr (same, broken)) = subst TellsNoMemory (sym same) tt
+
+pub played-free : (law : KindLaw) (given : Given) (result : Status) (l0 : Option (List ℕ)) (source : Drawn) (screen report : Sunk) (c0 c1 : ℕ) → Played given result l0 source screen report c0 c1
+    → TellsNoMemory result
+played-free law given result l0 source screen report c0 c1 p = ended-free law given p.0 result p.1 p.2 source screen report p.4

@@ -1,0 +1,209 @@
+-- A run, one line after another, against what was read and written.
+use Rattle.std.proofs.Common.{◌≡◌, ℕ, ◌+◌, ◌≤◌, inl, Bool, true, false, List, [], ◌∷◌, ◌++◌, length, Option, None, Some, is_some, if◌then◌else◌, Result, Ok, Err, refl, sym, ap, ◌∙◌, subst, append-nil, arith}
+use Rattle.std.specs.Io.KnownBytes.{Appends}
+use Rattle.std.proofs.KnownBytes.{Appends-nil, Appends-trans}
+use Rattle.rd_layout.specs.Sessions.{session_step}
+use Rattle.rd_script.specs.Reading.{reading}
+use Rattle.rd_script.specs.declared.fault.OpFault.{OpFault}
+use Rattle.rd_script.specs.declared.op.Op.{Op}
+use Rattle.rd_state.specs.States.{StateValue}
+use Rattle.rd_state.specs.declared.refused.Refused.{Refused}
+use Rattle.rd_run.specs.Ends.{Drawn, drawn, Sunk, sunk, Took, Broke, AreScript, IsTaken, allowed_in, lines_in, IsBad, IsInHand}
+use Rattle.rd_run.specs.Given.{Given, IsMode}
+use Rattle.rd_run.specs.Runs.{Mode, Input, Standing, Effect, World, opened, run, after, effect, effect_of_reading, effect_by, asked, is_blank, is_sent, stepped}
+use Rattle.rd_run.proofs.Effects.{effect-is}
+use Rattle.rd_run.proofs.Inputs.{lines-push, inputs-push, run-push, run_line-goes}
+use Rattle.rd_player.specs.Acts.{Acts, ComesTo, IsToldOf, Places, SpentBy, halted_by}
+use Rattle.rd_player.specs.Played.{input_of}
+use Rattle.rd_player.specs.declared.halt.Halt.{Halt}
+use Rattle.rd_player.specs.declared.halt.Halt.TheVariants as halts
+use Rattle.rd_player.specs.declared.halt.Ending.{Ending}
+use Rattle.rd_player.proofs.Telling.{broke-after}
+
+-- ---- each line
+
+-- each line counts, and keeps the mode
+effect-counts : (place : Standing) (t : Input) → (effect place t).now.lines ≡ place.lines + 1
+effect-counts place t = effect-is place t (λ e. e.now.lines ≡ place.lines + 1) (record {
+  blank = refl;
+  unread = λ fault no. refl;
+  refusal = λ op cause no. refl;
+  accepted = λ op state form step is. refl;
+  starved = refl;
+  fed = λ stop. refl;
+})
+
+effect-mode : (place : Standing) (t : Input) → (effect place t).now.mode ≡ place.mode
+effect-mode place t = effect-is place t (λ e. e.now.mode ≡ place.mode) (record {
+  blank = refl;
+  unread = λ fault no. refl;
+  refusal = λ op cause no. refl;
+  accepted = λ op state form step is. refl;
+  starved = refl;
+  fed = λ stop. refl;
+})
+
+-- a redisplay may place as many elements whether it finds memory or not
+by-allows : (o : Option (Option ℕ)) (starved : Bool) (place : Standing) (op : Op) → (effect_by o starved place op).allowed ≡ (effect_by o false place op).allowed
+by-allows None starved place op = refl
+by-allows (Some stop) true place op = refl
+by-allows (Some stop) false place op = refl
+
+reading-allows : (r : Result Op OpFault) (starved : Bool) (place : Standing) → (effect_of_reading starved place r).allowed ≡ (effect_of_reading false place r).allowed
+reading-allows (Err e) starved place = refl
+reading-allows (Ok op) starved place = by-allows (asked op) starved place op
+
+allowed-if : (b : Bool) (d e f : Effect) → e.allowed ≡ f.allowed → (if b then d else e).allowed ≡ (if b then d else f).allowed
+allowed-if true d e f p = refl
+allowed-if false d e f p = p
+
+effect-allows : (place : Standing) (line : List ℕ) (starved : Bool) → (effect place (input_of line starved)).allowed ≡ (effect place (input_of line false)).allowed
+unfolding effect
+effect-allows place line starved = allowed-if (is_blank line) _ _ _ (reading-allows (reading line) starved place)
+
+-- ---- what a run has written
+
+-- the run of these lines stands here, has written this, and has placed so many elements
+pub record HasRun (mode : Mode) (inputs : List Input) (place : Standing) (screen report : Sunk) (c0 c1 : ℕ) : Type 0 where
+  pub whole : (run (opened mode) inputs).fault ≡ None
+  pub stands : (run (opened mode) inputs).now ≡ place
+  pub under : place.mode ≡ mode
+  pub counted : place.lines ≡ length inputs
+  pub sent : Took screen (run (opened mode) inputs).sent
+  pub told : Took report (run (opened mode) inputs).told
+  pub spent : c1 ≤ c0 + (run (opened mode) inputs).allowed
+
+-- the run begins
+pub has-begun : (mode : Mode) (place : Standing) (s p : Option (List ℕ)) (m n c : ℕ) → place ≡ (opened mode).now → HasRun mode [] place (sunk s s m m) (sunk p p n n) c c
+has-begun mode place s p m n c e = record {
+  whole = refl;
+  stands = sym e;
+  under = ap (λ (x : Standing). x.mode) e;
+  counted = ap (λ (x : Standing). x.lines) e;
+  sent = Appends-nil s;
+  told = Appends-nil p;
+  spent = omega arith;
+}
+
+-- the world behind one more line
+world-behind : (mode : Mode) (inputs : List Input) (t : Input) (place : Standing) → (run (opened mode) inputs).fault ≡ None → (run (opened mode) inputs).now ≡ place
+    → run (opened mode) (inputs ++ t ∷ []) ≡ after (run (opened mode) inputs) (effect place t)
+world-behind mode inputs t place whole stands = run-push (opened mode) inputs t ∙ run_line-goes (run (opened mode) inputs) t whole ∙ ap (λ x. after (run (opened mode) inputs) (effect x t)) stands
+
+-- one more line was run
+pub has-run : (mode : Mode) (inputs : List Input) (line : List ℕ) (place next : Standing) (s0 s1 s2 p0 p1 p2 : Option (List ℕ)) (m0 m1 m2 n0 n1 n2 c0 c1 c2 : ℕ)
+    → HasRun mode inputs place (sunk s0 s1 m0 m1) (sunk p0 p1 n0 n1) c0 c1
+    → (a : Acts (Ok tt) (λ starved. effect place (input_of line starved)) next (sunk s1 s2 m1 m2) (sunk p1 p2 n1 n2)) → Places (Ok tt) (effect place (input_of line false)) c1 c2
+    → HasRun mode (inputs ++ input_of line a.0 ∷ []) next (sunk s0 s2 m0 m2) (sunk p0 p2 n0 n2) c0 c2
+has-run mode inputs line place next s0 s1 s2 p0 p1 p2 m0 m1 m2 n0 n1 n2 c0 c1 c2 k a places =
+    let t = input_of line a.0 in
+    let w = run (opened mode) inputs in
+    let e = effect place t in
+    let world = world-behind mode inputs t place k.whole k.stands in
+    let allowed : (run (opened mode) (inputs ++ t ∷ [])).allowed ≡ w.allowed + e.allowed = ap (λ (x : World). x.allowed) world in
+    record {
+      whole = ap (λ (x : World). x.fault) world ∙ a.1;
+      stands = ap (λ (x : World). x.now) world ∙ sym a.2;
+      under = ap (λ (x : Standing). x.mode) a.2 ∙ effect-mode place t ∙ k.under;
+      counted = ap (λ (x : Standing). x.lines) a.2 ∙ effect-counts place t ∙ ap (λ n. n + 1) k.counted ∙ sym (inputs-push inputs t);
+      sent = subst (Appends s0 s2) (sym (ap (λ (x : World). x.sent) world)) (Appends-trans s0 s1 s2 w.sent e.sent k.sent a.3);
+      told = subst (Appends p0 p2) (sym (ap (λ (x : World). x.told) world)) (Appends-trans p0 p1 p2 w.told e.told k.told a.4);
+      spent = let before = k.spent in omega (arith, effect-allows place line a.0);
+    }
+
+-- ---- how a run halts
+
+-- the ending of a run over these lines
+abbrev pub Halts : Ending → Given → Mode → List ℕ → Drawn → Sunk → Sunk → ℕ → ℕ → Type 0
+Halts ending given mode bytes source screen report c0 c1 =
+    (inputs : List Input) × ComesTo ending given (Some mode) inputs bytes source screen report × SpentBy ending given (Some mode) inputs bytes source.left c0 c1
+
+-- a redisplay is the line in hand
+in-hand : (given : Given) (mode : Mode) (inputs : List Input) (place : Standing) (line bytes : List ℕ) (left : Option (List ℕ)) → IsMode given mode → (run (opened mode) inputs).fault ≡ None
+    → (run (opened mode) inputs).now ≡ place → AreScript mode.generated (lines_in inputs ++ line ∷ []) bytes left → is_sent (effect place (input_of line false)).outcome ≡ true
+    → IsInHand given mode inputs line bytes left
+in-hand given mode inputs place line bytes left begun whole stands lines sent = record {
+  begun = begun;
+  ran = whole;
+  lines = lines;
+  shown = ap (λ o. is_sent (if is_some o then None else (effect (run (opened mode) inputs).now (input_of line false)).outcome)) whole
+      ∙ ap (λ x. is_sent (effect x (input_of line false)).outcome) stands ∙ sent;
+}
+
+-- the line in hand counts too
+hand-spent : (mode : Mode) (inputs : List Input) (place : Standing) (line : List ℕ) (c0 c1 c2 : ℕ) → (run (opened mode) inputs).fault ≡ None → (run (opened mode) inputs).now ≡ place
+    → c1 ≤ c0 + (run (opened mode) inputs).allowed → c2 ≤ c1 + (effect place (input_of line false)).allowed → c2 ≤ c0 + allowed_in (Some mode) (inputs ++ input_of line false ∷ [])
+hand-spent mode inputs place line c0 c1 c2 whole stands one other =
+    let t = input_of line false in
+    let allowed : (run (opened mode) (inputs ++ t ∷ [])).allowed ≡ (run (opened mode) inputs).allowed + (effect place t).allowed =
+    ap (λ (x : World). x.allowed) (world-behind mode inputs t place whole stands) in
+    omega arith
+
+pub halts-at : (given : Given) (mode : Mode) (inputs : List Input) (line bytes : List ℕ) (left : Option (List ℕ)) (q0 q1 : ℕ) (halt : Halt) (place next : Standing) (s0 s1 s2 p0 p1 p2 : Option (List ℕ))
+    (m0 m1 m2 n0 n1 n2 c0 c1 c2 : ℕ) → IsMode given mode → m0 ≤ m1 → n0 ≤ n1 → HasRun mode inputs place (sunk s0 s1 m0 m1) (sunk p0 p1 n0 n1) c0 c1
+    → AreScript mode.generated (lines_in inputs ++ line ∷ []) bytes left → IsTaken mode.generated inputs bytes
+    → Acts (Err halt) (λ starved. effect place (input_of line starved)) next (sunk s1 s2 m1 m2) (sunk p1 p2 n1 n2) → Places (Err halt) (effect place (input_of line false)) c1 c2
+    → Halts (halted_by halt place.lines) given mode bytes (drawn left q0 q1) (sunk s0 s2 m0 m2) (sunk p0 p2 n0 n2) c0 c2
+halts-at given mode inputs line bytes left q0 q1 (halts.Bad fault) place next s0 s1 s2 p0 p1 p2 m0 m1 m2 n0 n1 n2 c0 c1 c2 begun m n k lines before a places =
+    let t = input_of line false in
+    let w = run (opened mode) inputs in
+    let e = effect place t in
+    let world = world-behind mode inputs t place k.whole k.stands in
+    let count : place.lines + 1 ≡ length (inputs ++ t ∷ []) = ap (λ i. i + 1) k.counted ∙ sym (inputs-push inputs t) in
+    let bad : IsBad mode fault (place.lines + 1) (inputs ++ t ∷ []) bytes left = record {
+      others = inputs;
+      last = t;
+      split = refl;
+      ran = k.whole;
+      ended = ap (λ (x : World). x.fault) world ∙ a.0;
+      at = count;
+      lines = subst (λ ls. AreScript mode.generated ls bytes left) (sym (lines-push inputs t)) lines;
+    } in (
+      inputs ++ t ∷ [],
+      (
+        (begun, inl bad),
+        refl,
+        subst (Appends s0 s2) (sym (ap (λ (x : World). x.sent) world)) (Appends-trans s0 s1 s2 w.sent e.sent k.sent a.1),
+        subst (Appends p0 p2) (sym (ap (λ (x : World). x.told) world)) (Appends-trans p0 p1 p2 w.told e.told k.told a.2),
+      ),
+      hand-spent mode inputs place line c0 c1 c2 k.whole k.stands k.spent places,
+    )
+halts-at given mode inputs line bytes left q0 q1 halts.NoMemory place next s0 s1 s2 p0 p1 p2 m0 m1 m2 n0 n1 n2 c0 c1 c2 begun m n k lines before a places =
+    let w = run (opened mode) inputs in (
+      inputs,
+      (
+        (begun, (k.whole, before)),
+        refl,
+        subst (Appends s0 s2) (append-nil w.sent) (Appends-trans s0 s1 s2 w.sent [] k.sent a.0),
+        subst (Appends p0 p2) (append-nil w.told) (Appends-trans p0 p1 p2 w.told [] k.told a.1),
+      ),
+      (let one = k.spent in let other = places in omega arith),
+    )
+halts-at given mode inputs line bytes left q0 q1 halts.ScreenBroke place next s0 s1 s2 p0 p1 p2 m0 m1 m2 n0 n1 n2 c0 c1 c2 begun m n k lines before a places =
+    let w = run (opened mode) inputs in
+    let t = input_of line false in
+    let hand = in-hand given mode inputs place line bytes left begun k.whole k.stands lines a.0 in (
+      inputs,
+      (
+        line,
+        hand,
+        subst (λ (x : Standing). Broke (sunk s0 s2 m0 m2) w.sent (effect x t).sent) (sym k.stands) (broke-after s0 s1 s2 m0 m1 m2 w.sent (effect place t).sent k.sent m a.1),
+        subst (Appends p0 p2) (append-nil w.told) (Appends-trans p0 p1 p2 w.told [] k.told a.2),
+      ),
+      (line, hand, hand-spent mode inputs place line c0 c1 c2 k.whole k.stands k.spent places),
+    )
+halts-at given mode inputs line bytes left q0 q1 halts.ReportBroke place next s0 s1 s2 p0 p1 p2 m0 m1 m2 n0 n1 n2 c0 c1 c2 begun m n k lines before a places =
+    let w = run (opened mode) inputs in
+    let t = input_of line a.0 in
+    let hand = in-hand given mode inputs place line bytes left begun k.whole k.stands lines a.1 in
+    let mode_is : (effect place t).now.mode ≡ mode = effect-mode place t ∙ k.under in (
+      inputs,
+      (
+        t,
+        hand,
+        subst (λ (x : Standing). Appends s0 s2 (w.sent ++ (effect x t).sent)) (sym k.stands) (Appends-trans s0 s1 s2 w.sent (effect place t).sent k.sent a.2),
+        subst (λ (x : Standing). Broke (sunk p0 p2 n0 n2) w.told (effect x t).told) (sym k.stands) (broke-after p0 p1 p2 n0 n1 n2 w.told (effect place t).told k.told n a.3),
+        subst (λ (x : Mode). IsToldOf x.generated a.0) mode_is a.4,
+      ),
+      (line, hand, hand-spent mode inputs place line c0 c1 c2 k.whole k.stands k.spent places),
+    )
