@@ -4,3 +4,5 @@
 
 #[cfg(test)]
 mod costs;
+#[cfg(test)]
+mod sessions;

@@ -7,7 +7,7 @@ use Rattle.rd_ucd.specs.declared.fault.UcdFault.{UcdFault}
 use Rattle.rd_ucd.specs.declared.spans.BracketEntry.{BracketEntry}
 use Rattle.rd_ucd.specs.declared.spans.Pair.{Pair}
 use Rattle.rd_ucd.specs.declared.spans.Span.{Span}
-use Rattle.rd_tests_sessions.proofs.costs.opening.Goals as goal
+use Rattle.rd_tests_sessions.proofs.sessions.opening.Goals as goal
 
 abbrev list_of : {T : Type 0} → Result (List T) UcdFault → List T
 list_of (Ok list) = list

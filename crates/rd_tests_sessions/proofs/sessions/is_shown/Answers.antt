@@ -1,5 +1,5 @@
 use Rattle.std.proofs.Common.{◌≤◌, ◌+◌, ℕ, None, true, sym, subst}
-use Rattle.rd_tests_sessions.proofs.costs.is_shown.Goals as goal
+use Rattle.rd_tests_sessions.proofs.sessions.is_shown.Goals as goal
 
 pub returns-in-Shown-clause-cost : goal.returns-in-Shown-clause-cost
 returns-in-Shown-clause-cost g c =
