@@ -4,7 +4,7 @@
 //! read as an op, which the session applies or, for `redisplay`, shows: the terminal's bytes are sent, and then the report tells of it, with
 //! a dump where one is asked for. What a run is stands in rd_run; that `play` does this, for every ending, is its clause `ran`.
 //!
-//! The rules are in docs/RULES.md: "Words and files", "Scripts" and "The report".
+//! The rules are in docs/RULES.md: "The program", "Scripts" and "The report".
 #![tactic(auto)]
 
 mod act;
