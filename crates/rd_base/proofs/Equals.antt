@@ -1,7 +1,7 @@
 -- The tests of faces, glyphs and cells decide equality.
 use Rattle.std.proofs.Common.{◌≡◌, ℕ, ◌==◌, ◌&&◌, Bool, true, false, List, refl, ap}
 use Rattle.std.specs.Str.{bytes_eq}
-use Rattle.std.proofs.lemmas.Bool.{and_parts}
+use Rattle.std.proofs.lemmas.Bool.{and_parts, and_from}
 use Rattle.std.proofs.lemmas.Bool.Decides.{Decides-eqb}
 use Rattle.std.proofs.lemmas.Slice.Eq.{bytes_eq-Decides}
 use Rattle.rd_base.specs.Faces.{Attributes}
@@ -30,10 +30,6 @@ flag-itself : (a : Bool) → same_flag a a ≡ true
 flag-itself true = refl
 flag-itself false = refl
 
-both : (a b : Bool) → a ≡ true → b ≡ true → (a && b) ≡ true
-both true b p q = q
-both false b p q = p
-
 pub face-told : (f g : Attributes) → same_face f g ≡ true → f ≡ g
 face-told f g e =
     let one = and_parts _ _ e in
@@ -49,10 +45,10 @@ face-told f g e =
 
 pub face-itself : (f : Attributes) → same_face f f ≡ true
 face-itself f =
-    let colours = both (f.fg == f.fg) (f.bg == f.bg) ((Decides-eqb f.fg f.fg).1 refl) ((Decides-eqb f.bg f.bg).1 refl) in
-    let bold = both (f.fg == f.fg && f.bg == f.bg) (same_flag f.bold f.bold) colours (flag-itself f.bold) in
-    let underline = both (f.fg == f.fg && f.bg == f.bg && same_flag f.bold f.bold) (same_flag f.underline f.underline) bold (flag-itself f.underline) in
-    both (f.fg == f.fg && f.bg == f.bg && same_flag f.bold f.bold && same_flag f.underline f.underline) (same_flag f.inverse f.inverse) underline (flag-itself f.inverse)
+    let colours = and_from (f.fg == f.fg) (f.bg == f.bg) ((Decides-eqb f.fg f.fg).1 refl) ((Decides-eqb f.bg f.bg).1 refl) in
+    let bold = and_from (f.fg == f.fg && f.bg == f.bg) (same_flag f.bold f.bold) colours (flag-itself f.bold) in
+    let underline = and_from (f.fg == f.fg && f.bg == f.bg && same_flag f.bold f.bold) (same_flag f.underline f.underline) bold (flag-itself f.underline) in
+    and_from (f.fg == f.fg && f.bg == f.bg && same_flag f.bold f.bold && same_flag f.underline f.underline) (same_flag f.inverse f.inverse) underline (flag-itself f.inverse)
 
 pub glyph-told : (g h : Glyph) → same_glyph g h ≡ true → g ≡ h
 glyph-told g h e =
@@ -67,9 +63,9 @@ glyph-told g h e =
 
 pub glyph-itself : (g : Glyph) → same_glyph g g ≡ true
 glyph-itself g =
-    let marks = both (g.base == g.base) (bytes_eq g.marks g.marks) ((Decides-eqb g.base g.base).1 refl) ((bytes_eq-Decides g.marks g.marks).1 refl) in
-    let count = both (g.base == g.base && bytes_eq g.marks g.marks) (g.count == g.count) marks ((Decides-eqb g.count g.count).1 refl) in
-    both (g.base == g.base && bytes_eq g.marks g.marks && g.count == g.count) (g.width == g.width) count ((Decides-eqb g.width g.width).1 refl)
+    let marks = and_from (g.base == g.base) (bytes_eq g.marks g.marks) ((Decides-eqb g.base g.base).1 refl) ((bytes_eq-Decides g.marks g.marks).1 refl) in
+    let count = and_from (g.base == g.base && bytes_eq g.marks g.marks) (g.count == g.count) marks ((Decides-eqb g.count g.count).1 refl) in
+    and_from (g.base == g.base && bytes_eq g.marks g.marks && g.count == g.count) (g.width == g.width) count ((Decides-eqb g.width g.width).1 refl)
 
 pub cell-told : (x y : Cell) → same_cell x y ≡ true → x ≡ y
 cell-told (Blank f) (Blank g) e = ap Blank (face-told f g e)
@@ -84,5 +80,5 @@ cell-told Rest (First g f) e = absurd (cc)
 
 pub cell-itself : (x : Cell) → same_cell x x ≡ true
 cell-itself (Blank f) = face-itself f
-cell-itself (First g f) = both (same_glyph g g) (same_face f f) (glyph-itself g) (face-itself f)
+cell-itself (First g f) = and_from (same_glyph g g) (same_face f f) (glyph-itself g) (face-itself f)
 cell-itself Rest = refl

@@ -1,3 +1,6 @@
+pub mod Colours
 pub mod Equals
+pub mod Lists
+pub mod Rows
 mod Small
 mod Words

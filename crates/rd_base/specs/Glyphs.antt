@@ -1,7 +1,8 @@
 -- Glyphs as Unicode measures them, and rows in which each glyph stands whole.
-use Rattle.std.specs.Prelude.{◌≡◌, ℕ, zero, suc, ◌-◌, ◌<◌, ◌≤◌, ◌==◌, ◌&&◌, if◌then◌else◌, IsTrue, Bool, false, List, [], ◌∷◌, length, All, replicate, slice_index, Some}
+use Rattle.std.specs.Prelude.{◌≡◌, ℕ, zero, suc, ◌-◌, ◌<◌, ◌≤◌, ◌==◌, ◌&&◌, if◌then◌else◌, IsTrue, Bool, false, List, [], ◌∷◌, ◌++◌, length, All, replicate, take, slice_index, Some}
+use Rattle.std.specs.List.{flat_map}
 use Rattle.unicode_width.specs.Width.{char_width}
-use Rattle.rd_base.specs.Chars.{is_scalar}
+use Rattle.rd_base.specs.Chars.{is_scalar, encoded}
 use Rattle.rd_base.specs.Faces.{Attributes}
 use Rattle.rd_base.specs.declared.cell.Glyph.{Glyph}
 use Rattle.rd_base.specs.declared.cell.Cell.{Cell}
@@ -16,6 +17,10 @@ is_space g = (g.base == 32) && (g.count == 0)
 
 abbrev pub blanks : ℕ → Attributes → List Cell
 blanks n face = replicate n (Blank face)
+
+-- the bytes of a glyph: its character, and behind it the marks that join it
+abbrev pub glyph_bytes : Glyph → List ℕ
+glyph_bytes g = encoded g.base ++ flat_map encoded (take g.count g.marks)
 
 -- the cells of a glyph in so many columns
 abbrev pub glyph_cells : ℕ → Glyph → Attributes → List Cell

@@ -31,3 +31,7 @@ opening = record {
   modified = false;
   read_only = false;
 }
+
+-- a buffer's settings without its flags, which no row shows
+abbrev pub without_flags : SettingValues → SettingValues
+without_flags settings = record settings { modified = false; read_only = false }

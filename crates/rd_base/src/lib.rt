@@ -1,5 +1,6 @@
 //! The words that every layer of the redisplay engine shares: characters, faces, glyphs, cells, elements of a line,
-//! lines of bidirectional classes, the settings of a buffer, and the counter of steps.
+//! lines of bidirectional classes, the settings of a buffer, the counter of steps, and in `limits` every limit of the
+//! engine with its unit.
 #![tactic(auto)]
 
 mod cell;

@@ -1,0 +1,66 @@
+-- Cells in which each glyph stands whole, one behind the other, and glyphs that have their columns.
+use Rattle.std.proofs.Common.{rules, tests, ◌≡◌, ℕ, zero, suc, ◌-◌, ◌<◌, ◌≤◌, Bool, true, false, IsTrue, List, [], ◌∷◌, ◌++◌, replicate, Some, refl, arith}
+use Rattle.std.proofs.lemmas.Bool.Decides.{nat_tests}
+use Rattle.std.proofs.lemmas.List.{get_or-replicate}
+use Rattle.unicode_width.specs.Width.{char_width}
+use Rattle.rd_base.specs.Cells.{single}
+use Rattle.rd_base.specs.Chars.{is_scalar}
+use Rattle.rd_base.specs.Faces.{Attributes}
+use Rattle.rd_base.specs.Glyphs.{IsMeasured, IsRowAfter, is_space, blanks, glyph_cells}
+use Rattle.rd_base.specs.declared.cell.Cell.{Cell}
+use Rattle.rd_base.specs.declared.cell.Cell.TheVariants.{Blank, First, Rest}
+use Rattle.rd_base.specs.declared.cell.Glyph.{Glyph}
+
+-- ---- rows
+
+pub behind-whole : (due : ℕ) (left right : List Cell) → IsRowAfter due left → IsRowAfter 0 right → IsRowAfter due (left ++ right)
+behind-whole zero [] right a b = b
+behind-whole zero (Blank f ∷ left) right a b = behind-whole 0 left right a b
+behind-whole zero (First g f ∷ left) right a b = (a.0, behind-whole (g.width - 1) left right a.1 b)
+behind-whole zero (Rest ∷ left) right a b = absurd a
+behind-whole (suc due) [] right a b = absurd a
+behind-whole (suc due) (Blank f ∷ left) right a b = absurd a
+behind-whole (suc due) (First g f ∷ left) right a b = absurd a
+behind-whole (suc due) (Rest ∷ left) right a b = behind-whole due left right a b
+
+pub blanks-whole : (n : ℕ) (face : Attributes) → IsRowAfter 0 (blanks n face)
+blanks-whole zero face = tt
+blanks-whole (suc n) face = blanks-whole n face
+
+rests-whole : (n : ℕ) → IsRowAfter n (replicate n Rest)
+rests-whole zero = tt
+rests-whole (suc n) = rests-whole n
+
+glyph-by : (space : Bool) (columns : ℕ) (g : Glyph) (face : Attributes) → is_space g ≡ space → IsMeasured g → columns ≡ g.width → IsRowAfter 0 (glyph_cells columns g face)
+glyph-by true columns g face h measured same = rw h (blanks-whole columns face)
+glyph-by false columns g face h measured same =
+    rw (h, same) (record { measured = measured; seen = h }, rests-whole (g.width - 1))
+
+-- the cells of a glyph in its own columns
+pub glyph-whole : (columns : ℕ) (g : Glyph) (face : Attributes) → IsMeasured g → columns ≡ g.width → IsRowAfter 0 (glyph_cells columns g face)
+glyph-whole columns g face measured same = glyph-by (is_space g) columns g face refl measured same
+
+-- ---- glyphs
+
+-- a character without marks in its own columns
+pub single-measured : (base width : ℕ) → IsTrue (is_scalar base) → char_width false base ≡ Some width → 1 ≤ width → width ≤ 3 → IsMeasured (single base width)
+single-measured base width scalar columns some few = record {
+  scalar = scalar;
+  columns = columns;
+  some = some;
+  few = few;
+  places = refl;
+  count = omega arith;
+  marks = λ k p. absurd (omega arith);
+  rest = λ k p q. get_or-replicate 6 k 0 0 q;
+}
+
+one-column : (base : ℕ) → 32 ≤ base → base < 127 → char_width false base ≡ Some 1
+unfolding char_width
+one-column base low high = grind (arith, nat_tests)
+
+-- a printable character of ASCII
+pub printable-measured : (base : ℕ) → 32 ≤ base → base < 127 → IsMeasured (single base 1)
+printable-measured base low high =
+    let scalar : is_scalar base ≡ true = grind (arith, nat_tests) in
+    single-measured base 1 (search (rules, tests)) (one-column base low high) (omega arith) (omega arith)
