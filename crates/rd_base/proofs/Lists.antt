@@ -1,11 +1,11 @@
 -- What holds of each element of a list, and what a list is from one of its places.
-use Rattle.std.proofs.Common.{◌≡◌, ℕ, ◌+◌, ◌<◌, List, [], ◌∷◌, ◌++◌, length, length-append, drop, get_or, Some, All, sym, subst, ap, ◌∙◌, arith}
+use Rattle.std.proofs.Common.{◌≡◌, ℕ, zero, suc, ◌+◌, ◌<◌, ◌≤◌, List, [], ◌∷◌, ◌++◌, length, length-append, drop, get_or, None, Some, inl, inr, All, refl, sym, subst, ap, ◌∙◌, arith}
 use Rattle.std.specs.Prelude.{slice_get}
 use Rattle.std.specs.List.{AllByRecursion}
-use Rattle.std.proofs.lemmas.List.{get_or_append_left, drop_more}
+use Rattle.std.proofs.lemmas.List.{get_or_append_left, drop_more, drop_all}
 use Rattle.std.proofs.Math.Seq.{drop-append_seam}
 use Rattle.std.proofs.lemmas.List.Elements.{All-drop}
-use Rattle.std.proofs.lemmas.Option.{slice_get_within, get_or_from_slice_get}
+use Rattle.std.proofs.lemmas.Option.{slice_get_within, slice_get_cases, get_or_from_slice_get}
 
 -- what is read at a place heads what is left there
 pub drop-read : {X : Type 0} (xs : List X) (i : ℕ) (x : X) → i < length xs → x ≡ get_or xs i x → drop i xs ≡ x ∷ drop (i + 1) xs
@@ -13,6 +13,27 @@ drop-read xs i x inside here = drop_more xs i x inside ∙ ap (λ y. y ∷ drop 
 
 pub drop-at : {X : Type 0} (xs : List X) (i : ℕ) (x : X) → slice_get xs i ≡ Some x → drop i xs ≡ x ∷ drop (i + 1) xs
 drop-at xs i x found = drop-read xs i x (slice_get_within xs i x found) (sym (get_or_from_slice_get xs i x x found))
+
+-- where a list has no element it has ended
+pub ended : {X : Type 0} (xs : List X) (i : ℕ) → slice_get xs i ≡ None → length xs ≤ i
+ended xs i none = elim (slice_get_cases xs i).1 [
+  | inl p ↦ absurd (let k : Some p.0 ≡ None = sym p.2 ∙ none in cc)
+  | inr p ↦ p.0
+]
+
+pub none-left : {X : Type 0} (xs : List X) (i : ℕ) → slice_get xs i ≡ None → drop i xs ≡ []
+none-left xs i none = drop_all i xs (ended xs i none)
+
+-- what stands at a place of two lists that are joined
+pub get-first : {X : Type 0} (xs ys : List X) (i : ℕ) → i < length xs → slice_get (xs ++ ys) i ≡ slice_get xs i
+get-first [] ys i p = absurd (omega arith)
+get-first (x ∷ xs) ys zero p = refl
+get-first (x ∷ xs) ys (suc i) p = get-first xs ys i (omega arith)
+
+pub get-second : {X : Type 0} (xs ys : List X) (i j : ℕ) → i ≡ length xs + j → slice_get (xs ++ ys) i ≡ slice_get ys j
+get-second [] ys i j e = let s : i ≡ j = omega arith in ap (slice_get ys) s
+get-second (x ∷ xs) ys zero j e = absurd (omega arith)
+get-second (x ∷ xs) ys (suc i) j e = get-second xs ys i j (omega arith)
 
 -- what holds of all holds of the one at a place
 pub all-at : {X : Type 0} (P : X → Type 0) (xs : List X) (i : ℕ) (x : X) → All P xs → slice_get xs i ≡ Some x → P x

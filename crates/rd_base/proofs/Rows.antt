@@ -27,7 +27,7 @@ pub blanks-whole : (n : ℕ) (face : Attributes) → IsRowAfter 0 (blanks n face
 blanks-whole zero face = tt
 blanks-whole (suc n) face = blanks-whole n face
 
-rests-whole : (n : ℕ) → IsRowAfter n (replicate n Rest)
+pub rests-whole : (n : ℕ) → IsRowAfter n (replicate n Rest)
 rests-whole zero = tt
 rests-whole (suc n) = rests-whole n
 
