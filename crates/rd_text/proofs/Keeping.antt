@@ -4,17 +4,17 @@ use Rattle.std.proofs.lemmas.List.{length-take}
 use Rattle.rd_text.specs.Texts.{TextValue, IsText, most_characters, IsAccessible, inserted, deleted, narrowed, widened}
 use Rattle.rd_text.specs.Answers.{IsAccessibleRange, IsRangeOfAll}
 
--- the length of a list with others in place of a part
-length-replaced : (xs ys : List ℕ) (i j : ℕ) → i ≤ j → j ≤ length xs → length (take i xs ++ ys ++ drop j xs) + (j - i) ≡ length xs + length ys
-length-replaced xs ys i j p q =
-    let outer = length-append (take i xs ++ ys) (drop j xs) in
-    let inner = length-append (take i xs) ys in
+-- the length of a list with others put in, and of one without a part
+pub length-grown : (xs new : List ℕ) (i : ℕ) → i ≤ length xs → length (take i xs ++ new ++ drop i xs) ≡ length xs + length new
+length-grown xs new i h =
+    let outer = length-append (take i xs ++ new) (drop i xs) in
+    let inner = length-append (take i xs) new in
     let front = length-take i xs in
-    let back = length-drop j xs in
+    let back = length-drop i xs in
     omega (arith, outer, inner, front, back)
 
-length-cut : (xs : List ℕ) (i j : ℕ) → i ≤ j → j ≤ length xs → length (take i xs ++ drop j xs) + (j - i) ≡ length xs
-length-cut xs i j p q =
+pub length-shrunk : (xs : List ℕ) (i j : ℕ) → i ≤ j → j ≤ length xs → length (take i xs ++ drop j xs) ≡ length xs - (j - i)
+length-shrunk xs i j p q =
     let outer = length-append (take i xs) (drop j xs) in
     let front = length-take i xs in
     let back = length-drop j xs in
@@ -25,7 +25,7 @@ inserted-is_text t pos new s a room =
     let first = s.first in
     let ordered = s.ordered in
     let last = s.last in
-    let len = length-replaced t.text new (pos - 1) (pos - 1) (omega arith) (omega (arith, a.0, a.1)) in
+    let len = length-grown t.text new (pos - 1) (omega (arith, a.0, a.1)) in
     record {
       first = first;
       ordered = omega arith;
@@ -41,7 +41,7 @@ deleted-is_text t from to s a =
     let low = a.first in
     let ordered = a.ordered in
     let high = a.last in
-    let len = length-cut t.text (from - 1) (to - 1) (omega arith) (omega arith) in
+    let len = length-shrunk t.text (from - 1) (to - 1) (omega arith) (omega arith) in
     record {
       first = first;
       ordered = omega arith;

@@ -1,7 +1,9 @@
+pub mod Characters
 mod Coded
 pub mod Keeping
 mod Moves
 mod Openings
 mod Paragraphs
 mod Ranges
+pub mod Searches
 mod Summaries

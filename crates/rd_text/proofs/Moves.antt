@@ -79,6 +79,29 @@ module _ (old new : List ℕ) (olds news : List Stretch) (front back at first la
         ];
       }
 
+-- stretches counted anew where places before the gap came to be, or were written
+gapped-on : (old new : List ℕ) (olds news : List Stretch) (front back at behind first last : ℕ) → IsGapped old olds front back → front ≤ at → back ≤ behind → at ≤ behind → behind ≤ length old
+    → length new ≡ length old → ((k : ℕ) → IsTrue (is_code (get_or new k 0)))
+    → ((k : ℕ) → k < front → get_or new k 0 ≡ get_or old k 0) → ((k : ℕ) → at ≤ k → get_or new k 0 ≡ get_or old k 0) → IsRecounted new olds news first last
+    → first * 1024 ≤ front → front < first * 1024 + 1024 → last * 1024 ≤ at → at < last * 1024 + 1024 → IsGapped new news at behind
+gapped-on old new olds news front back at behind first last right on off order within size codes below from again fl fh ll lh =
+    let short = right.short in
+    let covered = right.covered in
+    let many = again.size in
+    record {
+      order = order;
+      within = omega arith;
+      short = omega arith;
+      covered = omega arith;
+      are_codes = codes;
+      before = λ k d l h. elim (cases_lt k first) [
+        | inl near ↦ again.below k d near ∙ right.before k d l (omega arith) ∙ stays old new k size (omega arith) (λ i low' high'. below i (omega arith))
+        | inr far ↦ again.counted k d far (omega arith)
+      ];
+      behind = λ k d l h. again.above k d (omega arith) ∙ right.behind k d (omega arith) (omega arith)
+          ∙ stays old new k size (omega arith) (λ i low' high'. from i (omega arith));
+    }
+
 -- to the right: what stood between goes before the gap
 module _ (old new : List ℕ) (olds news : List Stretch) (front back at first last : ℕ) (right : IsGapped old olds front back) (place : front ≤ at) (room : at ≤ front + (length old - back))
     (size : length new ≡ length old) (copied : CopiedTo old new back front (at - front)) (below : SameBelow old new front) (from : SameFrom old new (front + (at - front))) where
@@ -105,22 +128,8 @@ module _ (old new : List ℕ) (olds news : List Stretch) (front back at first la
   right_right again fl fh ll lh =
       let order = right.order in
       let within = right.within in
-      let short = right.short in
-      let covered = right.covered in
-      let many = again.size in
-      record {
-        order = omega arith;
-        within = omega arith;
-        short = omega arith;
-        covered = omega arith;
-        are_codes = copied_codes old new back front (at - front) copied below from right.are_codes;
-        before = λ k d l h. elim (cases_lt k first) [
-          | inl near ↦ again.below k d near ∙ right.before k d l (omega arith) ∙ stays old new k size (omega arith) (λ i low' high'. below i 0 (omega arith))
-          | inr far ↦ again.counted k d far (omega arith)
-        ];
-        behind = λ k d l h. again.above k d (omega arith) ∙ right.behind k d (omega arith) (omega arith)
-            ∙ stays old new k size (omega arith) (λ i low' high'. from i 0 (omega arith));
-      }
+      gapped-on old new olds news front back at (back + (at - front)) first last right place (omega arith) (omega arith) (omega arith) size
+      (copied_codes old new back front (at - front) copied below from right.are_codes) (λ k less. below k 0 less) (λ k more. from k 0 (omega arith)) again fl fh ll lh
 
 -- a code is written
 pub code_written : (xs : List ℕ) (i x : ℕ) → i < length xs → IsTrue (is_code x) → ((k : ℕ) → IsTrue (is_code (get_or xs k 0))) → (k : ℕ) → IsTrue (is_code (get_or (set xs i x) k 0))
@@ -177,25 +186,8 @@ module _ (old new : List ℕ) (olds news : List Stretch) (at back first last : �
   pub put_right : ((k : ℕ) → IsTrue (is_code (get_or new k 0))) → IsRecounted new olds news first last → first * 1024 ≤ at → at < first * 1024 + 1024
       → last * 1024 ≤ at + length text → at + length text < last * 1024 + 1024 → IsGapped new news (at + length text) back
   put_right codes again fl fh ll lh =
-      let order = right.order in
-      let within = right.within in
-      let short = right.short in
-      let covered = right.covered in
-      let many = again.size in
-      let size = written_size in
-      record {
-        order = room;
-        within = omega arith;
-        short = omega arith;
-        covered = omega arith;
-        are_codes = codes;
-        before = λ k d l h. elim (cases_lt k first) [
-          | inl near ↦ again.below k d near ∙ right.before k d l (omega arith) ∙ stays old new k size (omega arith) (λ i low' high'. written_below i (omega arith))
-          | inr far ↦ again.counted k d far (omega arith)
-        ];
-        behind = λ k d l h. again.above k d (omega arith) ∙ right.behind k d l (omega arith)
-            ∙ stays old new k size (omega arith) (λ i low' high'. written_from i (omega arith));
-      }
+      gapped-on old new olds news at back (at + length text) back first last right (omega arith) (omega arith) room right.within written_size codes
+      (λ k less. written_below k less) (λ k more. written_from k more) again fl fh ll lh
 
   pub put_text : (whole : List ℕ) → whole ≡ take at old ++ drop back old → take (at + length text) new ++ drop back new ≡ take at whole ++ text ++ drop at whole
   put_text whole e =

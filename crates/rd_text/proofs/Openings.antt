@@ -1,7 +1,7 @@
 -- Where a search back along lines stops, and where paragraphs begin.
 use Rattle.std.proofs.Common.{◌≡◌, ℕ, zero, suc, ◌+◌, ◌-◌, ◌<◌, ◌≤◌, Bool, true, false, ◌&&◌, ◌||◌, List, [], ◌∷◌, ◌++◌, length, get_or, take, drop, inl, inr, refl, sym, ap, ◌∙◌, arith}
 use Rattle.std.specs.Prelude.{slice_range}
-use Rattle.std.proofs.lemmas.Bool.{cases_eq, eq-eqb, ne_eqb}
+use Rattle.std.proofs.lemmas.Bool.{cases_eq, eq-eqb, ne_eqb, and_parts, or_right}
 use Rattle.std.proofs.lemmas.List.{append_cancel_left, drop-take, drop-drop}
 use Rattle.std.proofs.lemmas.List.Edits.{get_or-between}
 use Rattle.rd_text.specs.Texts.{is_newline, is_blank}
@@ -63,21 +63,6 @@ opening_found xs from at to n piece opened is within last some bound newline beg
       begins = λ _. ap opens part ∙ goes (slice_range xs at to) begins;
     }
 
-or_true : (b : Bool) → (b || true) ≡ true
-or_true true = refl
-or_true false = refl
-
--- blanks are no newlines
-pub no_newline : (c : ℕ) → is_blank c ≡ true → is_newline c ≡ false
-no_newline c e = elim (cases_eq c 10) [
-  | inl is ↦ let no : false ≡ true = sym (ap is_blank is) ∙ e in absurd (cc)
-  | inr other ↦ ne_eqb c 10 other
-]
-
-both : (a b : Bool) → (a && b) ≡ true → (a ≡ true) × (b ≡ true)
-both true b e = (refl, e)
-both false b e = absurd (cc)
-
 -- a list that opens has a first newline with blanks before it
 pub record Opened (ys : List ℕ) : Type 0 where
   pub place : ℕ
@@ -94,7 +79,7 @@ opened [] e = absurd (cc)
 opened (c ∷ cs) e = elim (cases_eq c 10) [
   | inl is ↦ record { place = 0; inside = omega arith; newline = eq-eqb c 10 is; blank = λ k less. absurd (omega arith) }
   | inr other ↦
-      let b = both (is_blank c) (opens cs) (sym (ap (λ (t : Bool). t || (is_blank c && opens cs)) (ne_eqb c 10 other)) ∙ e) in
+      let b = and_parts (is_blank c) (opens cs) (sym (ap (λ (t : Bool). t || (is_blank c && opens cs)) (ne_eqb c 10 other)) ∙ e) in
       let rest = opened cs b.1 in
       record { place = suc rest.place; inside = (let h = rest.inside in omega arith); newline = rest.newline; blank = later_blank c cs rest.place b.0 rest.blank }
 ]
@@ -104,7 +89,7 @@ opens_is [] m inside newline blank = absurd (omega arith)
 opens_is (c ∷ cs) zero inside newline blank = ap (λ (b : Bool). b || (is_blank c && opens cs)) newline
 opens_is (c ∷ cs) (suc m) inside newline blank =
     ap (λ (b : Bool). is_newline c || b)
-    (ap (λ (b : Bool). b && opens cs) (blank 0 (omega arith)) ∙ opens_is cs m (omega arith) newline (λ k less. blank (suc k) (omega arith))) ∙ or_true (is_newline c)
+    (ap (λ (b : Bool). b && opens cs) (blank 0 (omega arith)) ∙ opens_is cs m (omega arith) newline (λ k less. blank (suc k) (omega arith))) ∙ or_right (is_newline c) true refl
 
 pub separated_is : (ys : List ℕ) (i j : ℕ) → i < j → j < length ys → is_newline (get_or ys i 0) ≡ true → is_newline (get_or ys j 0) ≡ true
     → ((k : ℕ) → i < k → k < j → is_blank (get_or ys k 0) ≡ true) → separated ys ≡ true
@@ -115,4 +100,4 @@ separated_is (c ∷ cs) zero (suc j) order inside first second blank =
     ∙ ap (λ (b : Bool). b || separated cs) (opens_is cs j (omega arith) second (λ k less. blank (suc k) (omega arith) (omega arith)))
 separated_is (c ∷ cs) (suc i) (suc j) order inside first second blank =
     ap (λ (b : Bool). (is_newline c && opens cs) || b) (separated_is cs i j (omega arith) (omega arith) first second (λ k low high. blank (suc k) (omega arith) (omega arith)))
-    ∙ or_true (is_newline c && opens cs)
+    ∙ or_right (is_newline c && opens cs) true refl

@@ -1,34 +1,17 @@
 -- Where paragraphs begin.
-use Rattle.std.proofs.Common.{◌≡◌, ℕ, ◌+◌, ◌-◌, ◌<◌, ◌≤◌, Bool, true, false, not, ◌||◌, List, length, get_or, reverse, inl, inr, refl, sym, ap, ◌∙◌, arith}
+use Rattle.std.proofs.Common.{◌≡◌, ℕ, ◌+◌, ◌-◌, ◌<◌, ◌≤◌, true, false, not, List, length, get_or, inl, inr, sym, ap, ◌∙◌, arith}
 use Rattle.std.specs.Prelude.{slice_range}
 use Rattle.std.specs.List.{position_or_len, suffix_len}
-use Rattle.std.proofs.lemmas.Bool.{cases_lt}
-use Rattle.std.proofs.lemmas.List.{get_or-reverse}
+use Rattle.std.proofs.lemmas.Bool.{cases_lt, not-true}
 use Rattle.std.proofs.lemmas.List.Edits.{length-between, get_or-between}
 use Rattle.std.proofs.lemmas.List.Elements.{All-from_get_or}
-use Rattle.std.proofs.lemmas.List.Sums.{list_all-from_AllPass, AllPass-from_list_all, passes_at_first, fails_before_first, prefix_len_passes}
+use Rattle.std.proofs.lemmas.List.Sums.{list_all-from_AllPass, AllPass-from_list_all, passes_at_first, fails_before_first}
 use Rattle.rd_text.specs.Texts.{TextValue, IsText, is_newline, is_blank, is_ink, is_separator, between, EndsSeparator, IsParagraphStart}
 use Rattle.rd_text.specs.Pieces.{IsOpening}
-use Rattle.rd_text.proofs.Openings.{no_newline, opened, separated_is}
+use Rattle.rd_text.proofs.Openings.{opened, separated_is}
+use Rattle.rd_text.proofs.Characters.{clash, newline_not_blank, blank_not_ink, blank_else}
+use Rattle.rd_text.proofs.Searches.{suffix_passes_at}
 use Rattle.rd_text.proofs.Summaries.{suffix_passes}
-
-clash : {A : Type 0} (b : Bool) → b ≡ true → b ≡ false → A
-clash b t f = let no : true ≡ false = sym t ∙ f in absurd (cc)
-
-blank_no_ink : (c : ℕ) → is_blank c ≡ true → is_ink c ≡ false
-blank_no_ink c e = ap (λ (b : Bool). not (is_newline c || b)) e ∙ ap (λ (b : Bool). not (b || true)) (no_newline c e)
-
-no_ink_blank : (c : ℕ) → is_newline c ≡ false → not (is_ink c) ≡ true → is_blank c ≡ true
-no_ink_blank c n e = double (is_blank c) (sym (ap (λ (b : Bool). not (not (b || is_blank c))) n) ∙ e) where
-  double : (b : Bool) → not (not b) ≡ true → b ≡ true
-  double true h = refl
-  double false h = h
-
-suffix_all : (p : ℕ → Bool) (xs : List ℕ) → length xs ≤ suffix_len p xs → (k : ℕ) → k < length xs → p (get_or xs k 0) ≡ true
-suffix_all p xs whole k less =
-    let m : ℕ = length xs - 1 - k in
-    let place : length xs - 1 - m ≡ k = omega arith in
-    ap p (sym (get_or-reverse xs m 0 (omega arith) ∙ ap (λ (n : ℕ). get_or xs n 0) place)) ∙ prefix_len_passes p (reverse xs) m 0 (omega arith)
 
 module _ (t : TextValue) (pos at : ℕ) (right : IsText t) (low : t.begin ≤ pos) (high : pos ≤ t.end) (o : IsOpening t.text (t.begin - 1) (pos - 1) at) where
   abbrev seen : List ℕ
@@ -88,7 +71,7 @@ module _ (t : TextValue) (pos at : ℕ) (right : IsText t) (low : t.begin ≤ po
   -- where the first line is blank, or a search stopped there, it ends with the first newline
   end_is : (m : ℕ) → at + m < pos - 1 → is_newline (get_or t.text (at + m) 0) ≡ true → ((k : ℕ) → at ≤ k → k < at + m → is_blank (get_or t.text k 0) ≡ true) → first_end ≡ m
   end_is m inside newline blank = elim (cases_lt first_end m) [
-    | inl less ↦ clash _ (at_end (omega arith)) (no_newline _ (blank (at + first_end) (omega arith) (omega arith)))
+    | inl less ↦ clash _ (at_end (omega arith)) (newline_not_blank _ (blank (at + first_end) (omega arith) (omega arith)))
     | inr more ↦ elim (cases_lt m first_end) [
       | inl past ↦ clash _ newline (before_end (at + m) (omega arith) (omega arith) inside)
       | inr same ↦ omega arith
@@ -109,7 +92,7 @@ module _ (t : TextValue) (pos at : ℕ) (right : IsText t) (low : t.begin ≤ po
   blank_line : at + first_end ≤ pos - 1 → ((k : ℕ) → at ≤ k → k < at + first_end → is_blank (get_or t.text k 0) ≡ true) → first_end ≡ suffix_len (λ c. not (is_ink c)) line
   blank_line within blank =
       let size = line_size within in
-      let e = suffix_passes is_ink line (λ k less. ap is_ink (line_at k (omega arith)) ∙ blank_no_ink (get_or t.text (at + k) 0) (blank (at + k) (omega arith) (omega arith))) in
+      let e = suffix_passes is_ink line (λ k less. ap is_ink (line_at k (omega arith)) ∙ blank_not_ink (get_or t.text (at + k) 0) (blank (at + k) (omega arith) (omega arith))) in
       omega arith
 
   -- what a search that stopped before its end found
@@ -125,42 +108,34 @@ module _ (t : TextValue) (pos at : ℕ) (right : IsText t) (low : t.begin ≤ po
       let e = end_is f.place (omega arith) (ap is_newline (sym (seen_at f.place (omega arith))) ∙ f.newline) blank in
       (omega arith, λ k lo hi. blank k lo (omega arith))
 
+  -- a search that goes back to the accessible beginning, and no separator that ends later
+  starts : (t.begin - 1 < at → ⊥) → ((r : ℕ) → at + 1 < r → r ≤ pos → EndsSeparator t r → ⊥) → IsParagraphStart t pos (at + 1)
+  starts none last =
+      let first = right.first in
+      let of = o.first in
+      let ol = o.last in
+      record {
+        first = omega arith;
+        order = omega arith;
+        begins = elim (cases_lt (t.begin - 1) at) [ inl less ↦ absurd (none less) | inr same ↦ inl (omega arith) ];
+        last = last;
+      }
+
   -- the three ends of the search
   pub start_no_newline : at + first_end ≡ pos - 1 → IsParagraphStart t pos (at + 1)
   start_no_newline none =
-      let first = right.first in
-      let of = o.first in
-      let ol = o.last in
-      record {
-        first = omega arith;
-        order = omega arith;
-        begins = elim (cases_lt (t.begin - 1) at) [
-          | inl less ↦ let h = (found_blank less).0 in absurd (omega arith)
-          | inr same ↦ inl (omega arith)
-        ];
-        last = λ r after before e.
-            clash _ e.newline (before_end (r - 1 - 1) (omega arith) (omega arith) (omega arith));
-      }
+      starts (λ less. let h = (found_blank less).0 in omega arith)
+      (λ r after before e. clash _ e.newline (before_end (r - 1 - 1) (omega arith) (omega arith) (omega arith)))
 
   pub start_ink : at + first_end < pos - 1 → suffix_len (λ c. not (is_ink c)) line < first_end → IsParagraphStart t pos (at + 1)
   start_ink inside ink =
-      let first = right.first in
-      let of = o.first in
-      let ol = o.last in
-      record {
-        first = omega arith;
-        order = omega arith;
-        begins = elim (cases_lt (t.begin - 1) at) [
-          | inl less ↦ let h = blank_line (omega arith) (found_blank less).1 in absurd (omega arith)
-          | inr same ↦ inl (omega arith)
-        ];
-        last = λ r after before e.
-            let blank = from_opening r after before e in
-            let back : at + (r - 1 - 1 - at) ≡ r - 1 - 1 = omega arith in
-            let m = end_is (r - 1 - 1 - at) (omega arith) (ap (λ (n : ℕ). is_newline (get_or t.text n 0)) back ∙ e.newline) (λ k lo hi. blank k lo (omega arith)) in
-            let h = blank_line (omega arith) (λ k lo hi. blank k lo (omega arith)) in
-            absurd (omega arith);
-      }
+      starts (λ less. let h = blank_line (omega arith) (found_blank less).1 in omega arith)
+      (λ r after before e.
+      let blank = from_opening r after before e in
+      let back : at + (r - 1 - 1 - at) ≡ r - 1 - 1 = omega arith in
+      let m = end_is (r - 1 - 1 - at) (omega arith) (ap (λ (n : ℕ). is_newline (get_or t.text n 0)) back ∙ e.newline) (λ k lo hi. blank k lo (omega arith)) in
+      let h = blank_line (omega arith) (λ k lo hi. blank k lo (omega arith)) in
+      omega arith)
 
   pub start_behind : at + first_end < pos - 1 → first_end ≤ suffix_len (λ c. not (is_ink c)) line → IsParagraphStart t pos (at + first_end + 2)
   start_behind inside whole =
@@ -172,8 +147,8 @@ module _ (t : TextValue) (pos at : ℕ) (right : IsText t) (low : t.begin ≤ po
       let one : at + first_end + 2 - 1 - 1 ≡ at + first_end = omega arith in
       let zero_off : at + 1 - 1 ≡ at = omega arith in
       let blank : (k : ℕ) → k < first_end → is_blank (get_or line k 0) ≡ true
-      = λ k less. no_ink_blank _ (ap is_newline (line_at k less) ∙ before_end (at + k) (omega arith) (omega arith) (omega arith))
-      (suffix_all (λ c. not (is_ink c)) line (omega arith) k (omega arith)) in
+      = λ k less. blank_else _ (ap is_newline (line_at k less) ∙ before_end (at + k) (omega arith) (omega arith) (omega arith))
+      (not-true _ (suffix_passes_at (λ c. not (is_ink c)) line k (omega arith) (omega arith))) in
       record {
         first = omega arith;
         order = omega arith;
@@ -189,5 +164,5 @@ module _ (t : TextValue) (pos at : ℕ) (right : IsText t) (low : t.begin ≤ po
               ∙ list_all-from_AllPass is_blank line (All-from_get_or (λ c. is_blank c ≡ true) line 0 (λ k less. blank k (omega arith)));
         });
         last = λ r after before e.
-            clash _ (at_end inside) (no_newline _ (from_opening r (omega arith) before e (at + first_end) (omega arith) (omega arith)));
+            clash _ (at_end inside) (newline_not_blank _ (from_opening r (omega arith) before e (at + first_end) (omega arith) (omega arith)));
       }

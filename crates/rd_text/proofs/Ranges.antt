@@ -61,10 +61,10 @@ module _ (xs : List ℕ) (front back : ℕ) (order : front ≤ back) (within : b
       (λ k less. gap_back (from + k) 0 (omega arith) ∙ (let e : back + (from + k - front) ≡ from + (back - front) + k = omega arith in ap (λ (n : ℕ). get_or xs n 0) e))
 
 -- searches that go on over a part, and that stop in it
-pub prefix_goes : (p : ℕ → Bool) (xs : List ℕ) (at to : ℕ) (piece : List ℕ) → IsFirstPiece xs at to piece → prefix_len p piece ≡ length piece
-    → prefix_len p (slice_range xs at to) ≡ length piece + prefix_len p (slice_range xs (at + length piece) to)
-prefix_goes p xs at to piece is all =
-    ap (prefix_len p) is.same ∙ prefix_len-append p piece (slice_range xs (at + length piece) to) ∙ cond-true _ _ _ (eq-eqb _ _ all)
+pub prefix_goes : (p : ℕ → Bool) (xs : List ℕ) (at to : ℕ) (piece : List ℕ) (n : ℕ) → n ≡ length piece → IsFirstPiece xs at to piece → prefix_len p piece ≡ length piece
+    → prefix_len p (slice_range xs at to) ≡ n + prefix_len p (slice_range xs (at + n) to)
+prefix_goes p xs at to piece n size is all =
+    rw size (ap (prefix_len p) is.same ∙ prefix_len-append p piece (slice_range xs (at + length piece) to) ∙ cond-true _ _ _ (eq-eqb _ _ all))
 
 pub prefix_stops : (p : ℕ → Bool) (xs : List ℕ) (at to : ℕ) (piece : List ℕ) → IsFirstPiece xs at to piece → prefix_len p piece < length piece
     → prefix_len p (slice_range xs at to) ≡ prefix_len p piece
@@ -72,14 +72,14 @@ prefix_stops p xs at to piece is less =
     let apart : prefix_len p piece ≡ length piece → ⊥ = λ e. absurd (omega arith) in
     ap (prefix_len p) is.same ∙ prefix_len-append p piece (slice_range xs (at + length piece) to) ∙ cond-false _ _ _ (ne_eqb _ _ apart)
 
-pub suffix_goes : (p : ℕ → Bool) (xs : List ℕ) (from at : ℕ) (piece : List ℕ) → IsLastPiece xs from at piece → suffix_len p piece ≡ length piece
-    → suffix_len p (slice_range xs from at) ≡ length piece + suffix_len p (slice_range xs from (at - length piece))
-suffix_goes p xs from at piece is all =
+pub suffix_goes : (p : ℕ → Bool) (xs : List ℕ) (from at : ℕ) (piece : List ℕ) (n : ℕ) → n ≡ length piece → IsLastPiece xs from at piece → suffix_len p piece ≡ length piece
+    → suffix_len p (slice_range xs from at) ≡ n + suffix_len p (slice_range xs from (at - n))
+suffix_goes p xs from at piece n same is all =
     let rest = slice_range xs from (at - length piece) in
     let size = length-reverse piece in
     let whole : prefix_len p (reverse piece) ≡ length (reverse piece) = omega arith in
-    ap (suffix_len p) is.same ∙ ap (prefix_len p) (reverse-append rest piece) ∙ prefix_len-append p (reverse piece) (reverse rest) ∙ cond-true _ _ _ (eq-eqb _ _ whole)
-    ∙ ap (λ (n : ℕ). n + prefix_len p (reverse rest)) size
+    rw same (ap (suffix_len p) is.same ∙ ap (prefix_len p) (reverse-append rest piece) ∙ prefix_len-append p (reverse piece) (reverse rest) ∙ cond-true _ _ _ (eq-eqb _ _ whole)
+    ∙ ap (λ (n : ℕ). n + prefix_len p (reverse rest)) size)
 
 pub suffix_stops : (p : ℕ → Bool) (xs : List ℕ) (from at : ℕ) (piece : List ℕ) → IsLastPiece xs from at piece → suffix_len p piece < length piece
     → suffix_len p (slice_range xs from at) ≡ suffix_len p piece

@@ -3,7 +3,7 @@ use Rattle.std.proofs.Common.{◌≡◌, ℕ, zero, suc, ◌+◌, ◌-◌, ◌<�
 use Rattle.std.specs.Prelude.{count_by}
 use Rattle.std.specs.List.{list_all, list_any, position, position_or_len, suffix_len}
 use Rattle.std.proofs.lemmas.List.Sums.{sum_by-cons, position_or_len_is, suffix_len_is, prefix_len-le-length, suffix_len-le-length}
-use Rattle.std.proofs.lemmas.Bool.{ltb-false, ne_eqb}
+use Rattle.std.proofs.lemmas.Bool.{ltb-false, ne_eqb, or_parts}
 use Rattle.rd_lanes.specs.Kernels.{last_position}
 use Rattle.rd_text.specs.Texts.{is_newline, is_blank}
 use Rattle.rd_text.specs.Stretches.{opens, closes, separated, summary}
@@ -55,14 +55,6 @@ separated-append (c ∷ cs) ys =
     ∙ ap (λ b. (is_newline c && (opens cs || (list_all is_blank cs && opens ys))) || b) (separated-append cs ys)
     ∙ joined_gap (is_newline c) (opens cs) (list_all is_blank cs) (opens ys) (separated cs) (closes cs) (separated ys)
 
-pub left : (a b : Bool) → (a || b) ≡ false → a ≡ false
-left true b e = e
-left false b e = refl
-
-pub right : (a b : Bool) → (a || b) ≡ false → b ≡ false
-right true b e = absurd (cc)
-right false b e = e
-
 -- what is counted nowhere
 counted : (first : Bool) (n : ℕ) (any : Bool) → (n == 0) ≡ not any → (cond first 1 0 + n == 0) ≡ not (first || any)
 counted true n any e = ne_eqb (1 + n) 0 (λ h. absurd (omega arith))
@@ -76,8 +68,8 @@ none_counted p (x ∷ xs) =
 -- what is seen nowhere
 pub none_seen : (p : ℕ → Bool) (xs : List ℕ) (k : ℕ) → list_any p xs ≡ false → k < length xs → p (get_or xs k 0) ≡ false
 none_seen p [] k e less = absurd (omega arith)
-none_seen p (x ∷ xs) zero e less = left (p x) (list_any p xs) e
-none_seen p (x ∷ xs) (suc k) e less = none_seen p xs k (right (p x) (list_any p xs) e) (omega arith)
+none_seen p (x ∷ xs) zero e less = (or_parts (p x) (list_any p xs) e).0
+none_seen p (x ∷ xs) (suc k) e less = none_seen p xs k (or_parts (p x) (list_any p xs) e).1 (omega arith)
 
 -- so a search passes over them
 pub prefix_passes : (p : ℕ → Bool) (xs : List ℕ) → ((k : ℕ) → k < length xs → p (get_or xs k 0) ≡ false) → length xs ≡ position_or_len p xs

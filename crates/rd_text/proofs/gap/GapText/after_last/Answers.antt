@@ -1,5 +1,4 @@
-use Rattle.std.proofs.Common.{◌≡◌, ◌-◌, not, length, ap, sym, arith, ℕ}
-use Rattle.std.specs.Prelude.{slice_range}
+use Rattle.std.proofs.Common.{◌≡◌, not, length, ap, arith}
 use Rattle.std.specs.List.{suffix_len}
 use Rattle.rd_text.specs.Gaps.{text_of}
 use Rattle.rd_text.specs.Pieces.{is_sought}
@@ -21,7 +20,6 @@ returns-then-after-len-clause-value c =
 pub pieces-preserved : goal.pieces-preserved
 pieces-preserved c =
     let inv = c.pieces.invariant in
-    let text = text_of c.args.self.now in
     let piece = c.last_piece-piece.result.codes.now in
     let part = c.last_piece-piece.ensures.part in
     let value = c.after_last-after.ensures.value in
@@ -34,9 +32,7 @@ pieces-preserved c =
     let fits = part.fits in
     let n = c.after_last-after.result in
     let whole : n ≡ length piece = omega arith in
-    let e = suffix_goes (λ x. not (is_sought c.args.sought x)) text c.args.from c.pieces.at piece part (omega arith) in
-    let next : suffix_len (λ x. not (is_sought c.args.sought x)) (slice_range text c.args.from (c.pieces.at - length piece)) ≡ suffix_len (λ x. not (is_sought c.args.sought x)) (slice_range text c.args.from (c.pieces.at - n))
-    = ap (λ (k : ℕ). suffix_len (λ x. not (is_sought c.args.sought x)) (slice_range text c.args.from (c.pieces.at - k))) (sym whole) in
+    let e = suffix_goes (λ x. not (is_sought c.args.sought x)) (text_of c.args.self.now) c.args.from c.pieces.at piece n whole part (omega arith) in
     record {
       low = omega arith;
       high = omega arith;

@@ -1,5 +1,4 @@
-use Rattle.std.proofs.Common.{◌≡◌, ◌+◌, not, length, ap, sym, arith, ℕ}
-use Rattle.std.specs.Prelude.{slice_range}
+use Rattle.std.proofs.Common.{◌≡◌, not, length, ap, arith}
 use Rattle.std.specs.List.{position_or_len}
 use Rattle.rd_text.specs.Texts.{is_newline}
 use Rattle.rd_text.specs.Gaps.{text_of}
@@ -21,7 +20,6 @@ returns-then-before-len-clause-value c =
 pub pieces-preserved : goal.pieces-preserved
 pieces-preserved c =
     let inv = c.pieces.invariant in
-    let text = text_of c.args.self.now in
     let piece = c.first_piece-piece.result.codes.now in
     let part = c.first_piece-piece.ensures.part in
     let value = c.before_newline-before.ensures.value in
@@ -33,9 +31,7 @@ pieces-preserved c =
     let fits = part.fits in
     let n = c.before_newline-before.result in
     let whole : n ≡ length piece = omega arith in
-    let e = prefix_goes (λ x. not (is_newline x)) text c.pieces.at c.args.to piece part (omega arith) in
-    let next : position_or_len is_newline (slice_range text (c.pieces.at + length piece) c.args.to) ≡ position_or_len is_newline (slice_range text (c.pieces.at + n) c.args.to)
-    = ap (λ (k : ℕ). position_or_len is_newline (slice_range text (c.pieces.at + k) c.args.to)) (sym whole) in
+    let e = prefix_goes (λ x. not (is_newline x)) (text_of c.args.self.now) c.pieces.at c.args.to piece n whole part (omega arith) in
     record {
       low = omega arith;
       high = omega arith;
