@@ -10,6 +10,7 @@ use Rattle.std.proofs.lemmas.List.Elements.{All-from_get_or}
 use Rattle.std.proofs.lemmas.List.FromFn.{length-range_with_len, get_or-range_with_len}
 use Rattle.std.proofs.lemmas.List.Sorted.{All-permutation}
 use Rattle.std.proofs.lemmas.Option.{slice_get_within, slice_get-get_or, get_or_from_slice_get}
+use Rattle.rd_base.proofs.Lists.{get-first}
 use Rattle.rd_overlays.specs.declared.overlay.Overlay.{Overlay}
 use Rattle.rd_overlays.specs.declared.overlay.Meeting.{Meeting}
 use Rattle.rd_overlays.specs.declared.overlay.Meeting.TheVariants.{Covers, Starts, Ends}
@@ -138,18 +139,13 @@ pub away-above : (pos : ℕ) (b : Bounds) (slot : Option Overlay) → SlotHolds 
 away-above pos b None h p = tt
 away-above pos b (Some o) h p = λ m. above-high m pos o b h p
 
-pub slice_get-front : {X : Type 0} (xs ys : List X) (k : ℕ) → k < length xs → slice_get (xs ++ ys) k ≡ slice_get xs k
-slice_get-front [] ys k p = absurd (omega arith)
-slice_get-front (x ∷ xs) ys zero p = refl
-slice_get-front (x ∷ xs) ys (suc k) p = slice_get-front xs ys k (omega arith)
-
 -- what stands in the block of a place lies within its bounds
 pub block-holds : (slots : List (Option Overlay)) (order more : List ℕ) (bounds : List Bounds) (block k number : ℕ) (b : Bounds) → IsBounded slots order bounds
     → slice_get bounds block ≡ Some b → block * 256 ≤ k → k < block * 256 + 256 → k < length order → slice_get (order ++ more) k ≡ Some number
     → SlotHolds b (overlay_at slots number)
 block-holds slots order more bounds block k number b h at low high inside here =
     let same : k / 256 ≡ block = omega arith in
-    h.holds k number b (sym (slice_get-front order more k inside) ∙ here) (ap (λ (q : ℕ). slice_get bounds q) same ∙ at)
+    h.holds k number b (sym (get-first order more k inside) ∙ here) (ap (λ (q : ℕ). slice_get bounds q) same ∙ at)
 
 pub passed-holds : (slots : List (Option Overlay)) (order : List ℕ) (bounds : List Bounds) (size block k number : ℕ) (b : Bounds) → IsBounded slots order bounds
     → slice_get bounds block ≡ Some b → block * 256 ≤ k → k < block * 256 + 256 → k < length order → slice_get (passed order size) k ≡ Some number
@@ -166,7 +162,7 @@ more-bounds place slots order bounds more h =
       room = omega (arith, size, room);
       holds = λ k number b p at at_bounds.
           let q : k / 256 < length bounds = omega (arith, room, p) in
-          h.holds k number b p at (sym (slice_get-front bounds (more ∷ []) (k / 256) q) ∙ at_bounds);
+          h.holds k number b p at (sym (get-first bounds (more ∷ []) (k / 256) q) ∙ at_bounds);
     }
 
 -- the bounds still hold what they held where some are wider
@@ -287,7 +283,7 @@ longer-index slots more order bounds h =
         holds = λ place k b at at_bounds.
             let p = number-below (length order) order place k h.whole at in
             let inside : k < length slots = omega (arith, p, size) in
-            subst (λ (s : Option Overlay). SlotHolds b s) (sym (ap live (slice_get-front slots more k inside))) (h.bounded.holds place k b at at_bounds);
+            subst (λ (s : Option Overlay). SlotHolds b s) (sym (ap live (get-first slots more k inside))) (h.bounded.holds place k b at at_bounds);
       };
     }
 

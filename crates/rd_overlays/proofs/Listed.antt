@@ -9,6 +9,7 @@ use Rattle.std.specs.declared.cmp.Ordering.TheVariants.{Less, Equal, Greater}
 use Rattle.std.specs.Cmp.{IsStrictWeakOrder, IsTotalOrder}
 use Rattle.std.proofs.lemmas.Cmp.{int_cmp_total, nat_cmp_total, then_total, int_ranked}
 use Rattle.std.specs.Cmp.{on_total}
+use Rattle.std.proofs.lemmas.Bool.{and_parts, not-true}
 use Rattle.std.proofs.lemmas.Bool.Decides.{nat_tests}
 use Rattle.std.proofs.lemmas.List.Elements.{filter-append}
 use Rattle.std.proofs.lemmas.List.Sorted.{ranks_by, sum_by-IsPermutation}
@@ -106,22 +107,14 @@ ranked-rises test n (Some o ∷ slots) =
     slot-rises test n o (ranked_from test (suc n) slots) (test o) (ranked-numbers test (suc n) slots) (ranked-rises test (suc n) slots)
 
 -- what was found and the listing have the same elements
-tie-left : (a b : Bool) → (not a && not b) ≡ true → a ≡ false
-tie-left true b e = sym e
-tie-left false b e = refl
-
-tie-right : (a b : Bool) → (not a && not b) ≡ true → b ≡ false
-tie-right true b e = absurd (true≢false (sym e))
-tie-right false true e = sym e
-tie-right false false e = refl
+tied : (a b : Bool) → (not a && not b) ≡ true → (a ≡ false) × (b ≡ false)
+tied a b t = let both = and_parts (not a) (not b) t in (not-true a both.0, not-true b both.1)
 
 never_both : (x r s : Rank) (b : Bool) → r.number < s.number → ties precedes x r ≡ true → ties precedes x s ≡ b → b ≡ false
 never_both x r s false p t u = refl
 never_both x r s true p t u =
-    let xr = tie-left (precedes x r) (precedes r x) t in
-    let rx = tie-right (precedes x r) (precedes r x) t in
-    let xs = tie-left (precedes x s) (precedes s x) u in
-    let sx = tie-right (precedes x s) (precedes s x) u in
+    let (xr, rx) = tied (precedes x r) (precedes r x) t in
+    let (xs, sx) = tied (precedes x s) (precedes s x) u in
     sym (apart r s p (weak.chain s x r sx xr)) ∙ weak.chain r x s rx xs
 
 no_other : (x r : Rank) (rs : List Rank) → NumbersFrom (suc r.number) rs → ties precedes x r ≡ true → filter (ties precedes x) rs ≡ []
@@ -206,8 +199,7 @@ tied-by x r Greater e p q =
 
 tied-same : (x r : Rank) → ties precedes x r ≡ true → r ≡ x
 tied-same x r t =
-    let p = tie-left (precedes x r) (precedes r x) t in
-    let q = tie-right (precedes x r) (precedes r x) t in
+    let (p, q) = tied (precedes x r) (precedes r x) t in
     let number = tied-number x r (nat_lt x.number r.number) (nat_lt r.number x.number) p q refl refl in
     let priority = tied-by x r (int_cmp x.priority r.priority) refl p q in
     (λ i. record { priority = sym priority i; number = sym number i })

@@ -1,12 +1,9 @@
 -- A list whose elements are changed one by one, from the last to the first.
-use Rattle.std.proofs.Common.{◌≡◌, ℕ, zero, suc, ◌+◌, ◌-◌, ◌<◌, List, [], ◌∷◌, map, drop, set, Some, refl, sym, ap, ◌∙◌, arith}
+use Rattle.std.proofs.Common.{◌≡◌, ℕ, zero, suc, ◌+◌, ◌-◌, ◌<◌, ◌≤◌, List, [], ◌∷◌, length, map, drop, set, Some, refl, sym, ap, ◌∙◌, arith}
 use Rattle.std.specs.Prelude.{slice_get}
-use Rattle.std.proofs.lemmas.List.{drop_more, drop-set}
-use Rattle.std.proofs.lemmas.Option.{slice_get_within, get_or_from_slice_get}
-
-pub drop-from : {X : Type 0} (xs : List X) (j : ℕ) (x : X) → slice_get xs j ≡ Some x → drop j xs ≡ x ∷ drop (j + 1) xs
-drop-from {X} xs j x e =
-    drop_more xs j x (slice_get_within xs j x e) ∙ ap (λ (y : X). y ∷ drop (j + 1) xs) (get_or_from_slice_get xs j x x e)
+use Rattle.std.proofs.lemmas.List.{length-set, drop-set}
+use Rattle.std.proofs.lemmas.Option.{slice_get_within}
+use Rattle.rd_base.proofs.Lists.{drop-at}
 
 slice_get-set_after : {X : Type 0} (xs : List X) (j k : ℕ) (y : X) → k < j → slice_get (set xs j y) k ≡ slice_get xs k
 slice_get-set_after [] j k y p = refl
@@ -14,7 +11,7 @@ slice_get-set_after (x ∷ xs) zero k y p = absurd (omega arith)
 slice_get-set_after (x ∷ xs) (suc j) zero y p = refl
 slice_get-set_after (x ∷ xs) (suc j) (suc k) y p = slice_get-set_after xs j k y (omega arith)
 
-pub moved-front : {X : Type 0} (old now new : List X) (i k : ℕ) (y : X) → ((k : ℕ) → k < i → slice_get now k ≡ slice_get old k)
+moved-front : {X : Type 0} (old now new : List X) (i k : ℕ) (y : X) → ((k : ℕ) → k < i → slice_get now k ≡ slice_get old k)
     → new ≡ set now (i - 1) y → k < i - 1 → slice_get new k ≡ slice_get old k
 moved-front {X} old now new i k y same is p =
     let q : k < i = omega arith in
@@ -25,12 +22,31 @@ back-at : {X : Type 0} (f : X → X) (old now : List X) (j i : ℕ) (x : X) → 
 back-at {X} f old now j i x e at at_old back =
     let rest : drop (j + 1) now ≡ map f (drop (j + 1) old) = ap (λ (k : ℕ). drop k now) (sym e) ∙ (back ∙ ap (λ (k : ℕ). map f (drop k old)) e) in
     drop-set now j (f x) (slice_get_within now j x at)
-    ∙ (ap (λ (ys : List X). f x ∷ ys) rest ∙ sym (ap (map f) (drop-from old j x at_old)))
+    ∙ (ap (λ (ys : List X). f x ∷ ys) rest ∙ sym (ap (map f) (drop-at old j x at_old)))
 
-pub moved-back : {X : Type 0} (f : X → X) (old now new : List X) (i : ℕ) (x y : X) → 0 < i → slice_get now (i - 1) ≡ Some x
+moved-back : {X : Type 0} (f : X → X) (old now new : List X) (i : ℕ) (x y : X) → 0 < i → slice_get now (i - 1) ≡ Some x
     → ((k : ℕ) → k < i → slice_get now k ≡ slice_get old k) → drop i now ≡ map f (drop i old) → y ≡ f x → new ≡ set now (i - 1) y
     → drop (i - 1) new ≡ map f (drop (i - 1) old)
 moved-back {X} f old now new i x y p at same back gives is =
     let e : i ≡ (i - 1) + 1 = omega arith in
     let q : i - 1 < i = omega arith in
     ap (drop (i - 1)) (is ∙ ap (set now (i - 1)) gives) ∙ back-at f old now (i - 1) i x e at (sym (same (i - 1) q) ∙ at) back
+
+-- those from a place on have changed, and those before it stand as they stood
+pub record IsMoved {X : Type 0} (f : X → X) (old now : List X) (i : ℕ) : Type 0 where
+  pub within : i ≤ length now
+  pub size : length now ≡ length old
+  pub front : (k : ℕ) → k < i → slice_get now k ≡ slice_get old k
+  pub back : drop i now ≡ map f (drop i old)
+
+pub one-moved : {X : Type 0} (f : X → X) (old now new : List X) (i : ℕ) (x y : X) → 0 < i → slice_get now (i - 1) ≡ Some x → y ≡ f x → new ≡ set now (i - 1) y
+    → IsMoved f old now i → IsMoved f old new (i - 1)
+one-moved f old now new i x y p at gives is so-far =
+    let kept : length new ≡ length now = ap length is ∙ length-set now (i - 1) y in
+    let within = so-far.within in
+    record {
+      within = omega (arith, kept);
+      size = kept ∙ so-far.size;
+      front = λ k q. moved-front old now new i k y so-far.front is q;
+      back = moved-back f old now new i x y p at so-far.front so-far.back gives is;
+    }

@@ -1,5 +1,5 @@
 -- The nearest edge from a position, over blocks that are passed over.
-use Rattle.std.proofs.Common.{◌≡◌, ℕ, zero, suc, ◌+◌, ◌-◌, ◌<◌, ◌≤◌, Bool, true, false, if◌then◌else◌, List, [], ◌∷◌, length, get_or, drop, Option, None, Some, refl, sym, ap, ◌∙◌, arith}
+use Rattle.std.proofs.Common.{◌≡◌, ℕ, ◌+◌, ◌<◌, ◌≤◌, Bool, true, false, if◌then◌else◌, List, [], ◌∷◌, length, get_or, drop, Option, None, Some, refl, sym, ap, ◌∙◌, arith}
 use Rattle.std.specs.Prelude.{slice_get, nat_lt, nat_le}
 use Rattle.std.proofs.lemmas.Bool.Decides.{nat_tests}
 use Rattle.std.specs.List.{All}
@@ -7,6 +7,7 @@ use Rattle.std.specs.List.Sorted.{IsPermutation}
 use Rattle.std.proofs.lemmas.List.Elements.{All-nil, All-cons, All-head, All-tail, All-weaker}
 use Rattle.std.proofs.lemmas.List.Sorted.{All-permutation, IsPermutation-sym}
 use Rattle.std.proofs.lemmas.Option.{slice_get-get_or}
+use Rattle.rd_base.proofs.Lists.{drop-at}
 use Rattle.rd_overlays.specs.declared.overlay.Overlay.{Overlay}
 use Rattle.rd_overlays.specs.declared.bounds.Bounds.{Bounds}
 use Rattle.rd_overlays.specs.declared.way.Way.{Way}
@@ -14,7 +15,7 @@ use Rattle.rd_overlays.specs.declared.way.Way.TheVariants.{Next, Last}
 use Rattle.rd_overlays.specs.Overlays.{overlay_at, closer, nearer, is_on, reached, slot_edge, nearest_edge}
 use Rattle.rd_overlays.specs.Bounds.{SlotHolds}
 use Rattle.rd_overlays.specs.Listings.{edge_in}
-use Rattle.rd_overlays.proofs.Moving.{drop-from}
+use Rattle.rd_overlays.proofs.Skipping.{unchanged}
 
 pub nearer-none : (way : Way) (a : Option ℕ) → nearer way a None ≡ a
 nearer-none way None = refl
@@ -141,25 +142,13 @@ module _ (way : Way) (pos : ℕ) where
       let rest = edge_in way pos s (drop (n + 1) numbers) in
       ap (λ (e : Option ℕ). nearer way e rest) is
       ∙ (nearer-assoc way nearest (slot_edge way pos (overlay_at s k)) rest
-      ∙ ap (nearer way nearest) (sym (ap (edge_in way pos s) (drop-from numbers n k at))))
-
-  skip-by : (s : List (Option Overlay)) (numbers : List ℕ) (nearest : Option ℕ) (d n i : ℕ) → i ≡ d + n → i ≤ length numbers
-      → ((j k : ℕ) → n ≤ j → j < i → slice_get numbers j ≡ Some k → NoneNearer way pos nearest (overlay_at s k))
-      → nearer way nearest (edge_in way pos s (drop i numbers)) ≡ nearer way nearest (edge_in way pos s (drop n numbers))
-  skip-by s numbers nearest zero n i e within idle =
-      let q : i ≡ n = omega arith in
-      ap (λ (k : ℕ). nearer way nearest (edge_in way pos s (drop k numbers))) q
-  skip-by s numbers nearest (suc d) n i e within idle =
-      let p : n < length numbers = omega arith in
-      let here : n < i = omega arith in
-      let next : i ≡ d + (n + 1) = omega arith in
-      let at = slice_get-get_or numbers n 0 p in
-      skip-by s numbers nearest d (n + 1) i next within (λ j k low high is. idle j k (omega arith) high is)
-      ∙ one_more n s numbers (get_or numbers n 0) nearest nearest at (sym (idle n (get_or numbers n 0) (omega arith) here at))
+      ∙ ap (nearer way nearest) (sym (ap (edge_in way pos s) (drop-at numbers n k at))))
 
   pub skipped : (s : List (Option Overlay)) (numbers : List ℕ) (nearest : Option ℕ) (n i : ℕ) → n ≤ i → i ≤ length numbers
       → ((j k : ℕ) → n ≤ j → j < i → slice_get numbers j ≡ Some k → NoneNearer way pos nearest (overlay_at s k))
       → nearer way nearest (edge_in way pos s (drop i numbers)) ≡ nearer way nearest (edge_in way pos s (drop n numbers))
   skipped s numbers nearest n i p within idle =
-      let e : i ≡ (i - n) + n = omega arith in
-      skip-by s numbers nearest (i - n) n i e within idle
+      unchanged (λ (j : ℕ). nearer way nearest (edge_in way pos s (drop j numbers))) n i p
+      (λ j low high.
+      let at = slice_get-get_or numbers j 0 (omega arith) in
+      one_more j s numbers (get_or numbers j 0) nearest nearest at (sym (idle j (get_or numbers j 0) low high at)))

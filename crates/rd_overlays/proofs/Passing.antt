@@ -6,22 +6,18 @@ use Rattle.std.specs.List.Sorted.{IsPermutation}
 use Rattle.std.proofs.lemmas.List.FromFn.{length-range_with_len, get_or-range_with_len}
 use Rattle.std.proofs.lemmas.List.Sorted.{IsPermutation-append_left, IsPermutation-map, length_permutation}
 use Rattle.std.proofs.lemmas.Option.{slice_get-get_or}
+use Rattle.rd_base.proofs.Lists.{get-first, get-second}
 use Rattle.rd_overlays.specs.declared.overlay.Overlay.{Overlay}
 use Rattle.rd_overlays.specs.declared.bounds.Bounds.{Bounds}
 use Rattle.rd_overlays.specs.declared.way.Way.{Way}
 use Rattle.rd_overlays.specs.Overlays.{live, overlay_at, nearest_edge}
 use Rattle.rd_overlays.specs.Listings.{edge_in}
 use Rattle.rd_overlays.specs.Bounds.{passed, IsBounded, IsIndex}
-use Rattle.rd_overlays.proofs.Bounding.{slice_get-front}
 use Rattle.rd_overlays.proofs.Nearest.{same-edge}
-
-slice_get-back : {X : Type 0} (xs ys : List X) (k : ℕ) → slice_get (xs ++ ys) (length xs + k) ≡ slice_get ys k
-slice_get-back [] ys k = let e : 0 + k ≡ k = omega arith in ap (slice_get ys) e
-slice_get-back (x ∷ xs) ys k = let e : suc (length xs) + k ≡ suc (length xs + k) = omega arith in ap (slice_get (x ∷ (xs ++ ys))) e ∙ slice_get-back xs ys k
 
 pub number-front : (order : List ℕ) (size place number : ℕ) → place < length order → slice_get order place ≡ Some number
     → slice_get (passed order size) place ≡ Some number
-number-front order size place number p at = slice_get-front order (range_with_len (length order) (size - length order)) place p ∙ at
+number-front order size place number p at = get-first order (range_with_len (length order) (size - length order)) place p ∙ at
 
 pub number-back : (order : List ℕ) (size place : ℕ) → length order ≤ place → place < size → slice_get (passed order size) place ≡ Some place
 number-back order size place low high =
@@ -31,19 +27,13 @@ number-back order size place low high =
     let e : place ≡ m + k = omega arith in
     let inside : k < length more = omega (arith, length-range_with_len m (size - m), low, high) in
     let is : get_or more k 0 ≡ place = get_or-range_with_len m (size - m) k 0 (omega (arith, low, high)) ∙ sym e in
-    ap (slice_get (order ++ more)) e ∙ (slice_get-back order more k ∙ (slice_get-get_or more k 0 inside ∙ ap Some is))
+    get-second order more place k e ∙ (slice_get-get_or more k 0 inside ∙ ap Some is)
 
 pub passed-size : (order : List ℕ) (size : ℕ) → length order ≤ size → length (passed order size) ≡ size
 passed-size order size p =
     let more = length-range_with_len (length order) (size - length order) in
     let both = length-append order (range_with_len (length order) (size - length order)) in
     omega (arith, more, both, p)
-
-pub drop-all : {X : Type 0} (xs : List X) (n : ℕ) → length xs ≡ n → drop n xs ≡ []
-drop-all {X} [] zero e = refl
-drop-all {X} [] (suc n) e = refl
-drop-all {X} (x ∷ xs) zero e = absurd (omega (arith, e))
-drop-all {X} (x ∷ xs) (suc n) e = drop-all xs n (omega (arith, e))
 
 range-split : (a m k : ℕ) → range_with_len a (m + k) ≡ range_with_len a m ++ range_with_len (a + m) k
 range-split a zero k =

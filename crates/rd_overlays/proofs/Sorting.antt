@@ -4,6 +4,7 @@ use Rattle.std.specs.Prelude.{⊤}
 use Rattle.std.specs.List.{filter}
 use Rattle.std.specs.List.Sorted.{ties, IsSortedBy}
 use Rattle.std.specs.Cmp.{IsStrictWeakOrder}
+use Rattle.std.proofs.lemmas.Bool.{and_from, not_from_false}
 
 module _ {X : Type 0} (lt : X → X → Bool) (o : IsStrictWeakOrder lt) where
   -- x comes before each element
@@ -54,7 +55,7 @@ module _ {X : Type 0} (lt : X → X → Bool) (o : IsStrictWeakOrder lt) where
       (none-before x xs s rest, rest)
 
   ties-cases : (a b : Bool) → a ≡ false → b ≡ false → (not a && not b) ≡ true
-  ties-cases a b p q = ap (λ (t : Bool). not t && not b) p ∙ ap (λ (t : Bool). not false && not t) q
+  ties-cases a b p q = and_from (not a) (not b) (not_from_false a p) (not_from_false b q)
 
   self : (x : X) (a : Bool) → lt x x ≡ a → lt x x ≡ false
   self x true e = o.one_way x x e

@@ -1,9 +1,10 @@
 use Rattle.std.proofs.Common.{◌≡◌, ◌≤◌, ℕ, List, length, sym, ap, ◌∙◌, arith}
+use Rattle.std.proofs.lemmas.List.{drop_all}
 use Rattle.rd_overlays.specs.Overlays.{nearer, slot_edge}
 use Rattle.rd_overlays.specs.Bounds.{passed}
 use Rattle.rd_overlays.specs.Listings.{edge_in}
 use Rattle.rd_overlays.proofs.Nearest.{nearer-none, one_more, skipped}
-use Rattle.rd_overlays.proofs.Passing.{drop-all, passed-size}
+use Rattle.rd_overlays.proofs.Passing.{passed-size}
 use Rattle.rd_overlays.proofs.edges.nearest_edge_by.Goals as goal
 
 pub loop-place-preserved-then-place-next : goal.loop-place-preserved-then-place-next
@@ -48,4 +49,4 @@ returns c =
     let whole = passed-size order (length slots) c.requires.index.size in
     let size : length numbers ≡ place = omega (arith, within, done, whole) in
     sym (nearer-none c.args.way c.loop-place.nearest)
-    ∙ (ap (λ (ks : List ℕ). nearer c.args.way c.loop-place.nearest (edge_in c.args.way c.args.pos slots ks)) (sym (drop-all numbers place size)) ∙ c.loop-place.invariant.nearest)
+    ∙ (ap (λ (ks : List ℕ). nearer c.args.way c.loop-place.nearest (edge_in c.args.way c.args.pos slots ks)) (sym (drop_all place numbers (omega (arith, size)))) ∙ c.loop-place.invariant.nearest)

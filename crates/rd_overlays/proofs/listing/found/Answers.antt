@@ -1,9 +1,10 @@
 use Rattle.std.proofs.Common.{◌-◌, ◌<◌, ◌≤◌, ◌++◌, Option, length, sym, ap, ◌∙◌, arith}
+use Rattle.std.proofs.lemmas.List.{drop_all}
 use Rattle.rd_overlays.specs.declared.overlay.Overlay.{Overlay}
 use Rattle.rd_overlays.specs.Overlays.{meets}
 use Rattle.rd_overlays.specs.Bounds.{passed}
 use Rattle.rd_overlays.specs.Listings.{found_in, rank_at}
-use Rattle.rd_overlays.proofs.Passing.{drop-all, passed-size}
+use Rattle.rd_overlays.proofs.Passing.{passed-size}
 use Rattle.rd_overlays.proofs.Skipping.{taken, skipped}
 use Rattle.rd_overlays.proofs.listing.found.Goals as goal
 
@@ -14,7 +15,7 @@ loop-place-init c =
     let size = passed-size order (length slots) c.requires.index.size in
     record {
       within = omega arith;
-      found = c.new-ranks.ensures.items ∙ sym (ap (found_in (meets c.args.meeting c.args.pos) slots) (drop-all (passed order (length slots)) (length slots) size));
+      found = c.new-ranks.ensures.items ∙ sym (ap (found_in (meets c.args.meeting c.args.pos) slots) (drop_all (length slots) (passed order (length slots)) (omega (arith, size))));
     }
 
 pub loop-place-preserved-then-next-place : goal.loop-place-preserved-then-next-place

@@ -1,20 +1,9 @@
-use Rattle.std.proofs.Common.{◌≡◌, ◌-◌, length, ap, ◌∙◌, arith}
-use Rattle.std.proofs.lemmas.List.{length-set}
 use Rattle.rd_overlays.specs.Moves.{slot_moved}
-use Rattle.rd_overlays.proofs.Moving.{moved-front, moved-back}
+use Rattle.rd_overlays.proofs.Moving.{one-moved}
 use Rattle.rd_overlays.proofs.moves.move_slots.Goals as goal
 
 pub loop-i-preserved : goal.loop-i-preserved
-loop-i-preserved c =
-    let old = c.args.slots.now in
-    let now = c.loop-i.slots in
-    let i = c.loop-i.i in
-    let kept : length c.set.new.self ≡ length now = ap length c.set.ensures ∙ length-set now (i - 1) c.slot_moved.result in
-    let within = c.loop-i.invariant.within in
-    record {
-      within = omega (arith, kept);
-      size = kept ∙ c.loop-i.invariant.size;
-      front = λ k p. moved-front old now c.set.new.self i k c.slot_moved.result c.loop-i.invariant.front c.set.ensures p;
-      back = moved-back (slot_moved c.args.edit) old now c.set.new.self i c.at-slot.result c.slot_moved.result c.loop-i-test.true c.at-slot.ensures
-          c.loop-i.invariant.front c.loop-i.invariant.back c.slot_moved.ensures c.set.ensures;
-    }
+loop-i-preserved c = record {
+  moved = one-moved (slot_moved c.args.edit) c.args.slots.now c.loop-i.slots c.set.new.self c.loop-i.i c.at-slot.result c.slot_moved.result c.loop-i-test.true
+      c.at-slot.ensures c.slot_moved.ensures c.set.ensures c.loop-i.invariant.moved;
+}
