@@ -1,13 +1,15 @@
 -- What holds of all objects where one more is made.
-use Rattle.std.proofs.Common.{◌≡◌, ℕ, zero, suc, ◌<◌, ◌≤◌, Bool, true, false, if◌then◌else◌, not, List, [], ◌∷◌, ◌++◌, length, length-append, append_assoc, append-nil, get_or, Option, Some, None, refl, sym, subst, arith}
+use Rattle.std.proofs.Common.{◌≡◌, ℕ, zero, suc, ◌<◌, ◌≤◌, Bool, true, false, if◌then◌else◌, not, List, [], ◌∷◌, ◌++◌, length, length-append, append_assoc, append-nil, get_or, Option, Some, None, refl, sym, arith}
 use Rattle.std.specs.Prelude.{nat_le, nat_lt, slice_get, IfSome, unwrap_or}
 use Rattle.std.specs.List.{All, AllByRecursion, list_all}
+use Rattle.std.proofs.lemmas.Bool.{not-false}
 use Rattle.std.proofs.lemmas.Bool.Decides.{nat_tests}
-use Rattle.std.proofs.lemmas.Option.{slice_get_within, get_or_from_slice_get}
-use Rattle.std.proofs.lemmas.List.Elements.{recursion_from_All, All-from_recursion, All-nil, All-push, All-get_or, All-weaker}
+use Rattle.std.proofs.lemmas.List.Elements.{recursion_from_All, All-from_recursion, All-nil, All-push, All-weaker}
 use Rattle.std.proofs.lemmas.List.Sums.{AllPass-from_list_all}
 use Rattle.rd_base.specs.Faces.{Attributes, plain}
 use Rattle.rd_base.specs.Cells.{HasColours}
+use Rattle.rd_base.proofs.Colours.{plain-coloured}
+use Rattle.rd_base.proofs.Lists.{all-at, get-first}
 use Rattle.rd_objects.specs.declared.fault.ObjectFault.{ObjectFault}
 use Rattle.rd_objects.specs.declared.run.Run.{Run}
 use Rattle.rd_objects.specs.declared.run.RunKind.{RunKind}
@@ -26,10 +28,6 @@ no_fault : (wrong : Bool) (fault : ObjectFault) (rest : Option ObjectFault) → 
 no_fault true fault rest e = absurd (cc)
 no_fault false fault rest e = (refl, e)
 
-not_wrong : (b : Bool) → not b ≡ false → b ≡ true
-not_wrong true e = refl
-not_wrong false e = absurd (cc)
-
 record NoStringFault (o : ObjectLists) (chars : List ℕ) (runs : List Run) : Type 0 where
   made : list_all (is_made o) runs ≡ true
   short : length chars ≤ 4096
@@ -42,7 +40,7 @@ no_string_fault o chars runs e =
     let c = no_fault (nat_lt 4096 (length chars)) _ _ b.1 in
     let d = no_fault (nat_le 4096 (length o.strings)) _ _ c.1 in
     record {
-      made = not_wrong (list_all (is_made o) runs) a.0;
+      made = not-false (list_all (is_made o) runs) a.0;
       short = let p = c.0 in grind (arith, nat_tests);
       few = let p = d.0 in grind (arith, nat_tests);
     }
@@ -54,7 +52,7 @@ no_spec_fault : (o : ObjectLists) (spec : Spec) → spec_fault o spec ≡ None �
 no_spec_fault o spec e =
     let a = no_fault (not (is_spec_made o spec)) _ _ e in
     let b = no_fault (nat_le 4096 (length o.specs)) _ _ a.1 in
-    (not_wrong (is_spec_made o spec) a.0, let p = b.0 in grind (arith, nat_tests))
+    (not-false (is_spec_made o spec) a.0, let p = b.0 in grind (arith, nat_tests))
 
 pushed : {X : Type 0} (xs : List X) (x : X) (most : ℕ) → length xs < most → length (xs ++ x ∷ []) ≤ most
 pushed xs x most p = omega (arith, length-append xs (x ∷ []))
@@ -63,11 +61,8 @@ pushed_one : {X : Type 0} (xs : List X) (x : X) → length xs ≤ length (xs ++ 
 pushed_one xs x = omega (arith, length-append xs (x ∷ []))
 
 -- the faces that runs name have colours in their range
-plain_coloured : HasColours plain
-plain_coloured = record { fg = omega arith; bg = omega arith }
-
 named_coloured : (faces : List Attributes) (i : ℕ) → AllByRecursion HasColours faces → HasColours (get_or faces i plain)
-named_coloured [] i h = plain_coloured
+named_coloured [] i h = plain-coloured
 named_coloured (f ∷ faces) zero h = h.0
 named_coloured (f ∷ faces) (suc i) h = named_coloured faces i h.1
 
@@ -211,13 +206,8 @@ goes_one xs x = (x ∷ [], refl)
 goes_further : {X : Type 0} (xs ys zs : List X) → GoesOn xs ys → GoesOn ys zs → GoesOn xs zs
 goes_further xs ys zs a b = (a.0 ++ b.0, rw (b.1, a.1, append_assoc) refl)
 
-front_kept : {X : Type 0} (xs more : List X) (i : ℕ) → i < length xs → slice_get (xs ++ more) i ≡ slice_get xs i
-front_kept [] more i p = absurd (omega arith)
-front_kept (x ∷ xs) more zero p = refl
-front_kept (x ∷ xs) more (suc i) p = front_kept xs more i (omega arith)
-
 goes_kept : {X : Type 0} (xs ys : List X) (i : ℕ) → GoesOn xs ys → i < length xs → slice_get ys i ≡ slice_get xs i
-goes_kept xs ys i a p = rw a.1 (front_kept xs a.0 i p)
+goes_kept xs ys i a p = rw a.1 (get-first xs a.0 i p)
 
 pub extends_itself : (o : ObjectLists) → Extends o o
 extends_itself o = record { strings = goes_nowhere o.strings; specs = goes_nowhere o.specs; faces = goes_nowhere o.faces; tables = goes_nowhere o.tables }
@@ -254,10 +244,6 @@ same_faces old new number e p = goes_kept old.faces new.faces number e.faces p
 pub same_tables : (old new : ObjectLists) (number : ℕ) → Extends old new → number < length old.tables → slice_get new.tables number ≡ slice_get old.tables number
 same_tables old new number e p = goes_kept old.tables new.tables number e.tables p
 
--- what holds of all objects of a sort holds of each that was made
-each_made : {X : Type 0} (P : X → Type 0) (xs : List X) (i : ℕ) (x : X) → All P xs → slice_get xs i ≡ Some x → P x
-each_made P xs i x h e = subst P (get_or_from_slice_get xs i x x e) (All-get_or P xs i x (slice_get_within xs i x e) h)
-
 spec_in-made : (specs : ℕ) (runs : List SpecRun) (i : ℕ) → AllByRecursion (λ run. run.spec < specs) runs → IfSome (spec_in runs i) (λ number. number < specs)
 spec_in-made specs [] i h = tt
 spec_in-made specs (run ∷ runs) i h = later-each (spec_in runs i) (covers run.from run.to i) run.spec (spec_in-made specs runs i h.1) h.0 where
@@ -272,11 +258,11 @@ some_made specs number None p e = absurd (cc)
 
 pub named_specs : (o : ObjectLists) (string i number : ℕ) (text : TextValue) → IsClosed o → slice_get o.strings string ≡ Some text → spec_of text i ≡ Some number → number < length o.specs
 named_specs o string i number text closed e f =
-    let all = each_made (λ text. All (λ run. run.spec < length o.specs) text.specs) o.strings string text closed.strings e in
+    let all = all-at (λ text. All (λ run. run.spec < length o.specs) text.specs) o.strings string text closed.strings e in
     some_made (length o.specs) number (spec_in text.specs i) (spec_in-made (length o.specs) text.specs i (recursion_from_All (λ run. run.spec < length o.specs) text.specs all)) f
 
 pub named_strings : (o : ObjectLists) (spec number : ℕ) → IsClosed o → slice_get o.specs spec ≡ Some (Text number) → number < length o.strings
-named_strings o spec number closed e = each_made (NamesMade (length o.strings)) o.specs spec (Text number) closed.specs e
+named_strings o spec number closed e = all-at (NamesMade (length o.strings)) o.specs spec (Text number) closed.specs e
 
 -- the face at each place of a sound string
 face_in-coloured : (runs : List FaceRun) (i : ℕ) → AllByRecursion (λ run. HasColours run.face) runs → IfSome (face_in runs i) HasColours
@@ -289,7 +275,7 @@ face_in-coloured (run ∷ runs) i h = later-each (face_in runs i) (covers run.fr
 
 else_plain : (o : Option Attributes) → IfSome o HasColours → HasColours (unwrap_or o plain)
 else_plain (Some face) p = p
-else_plain None p = plain_coloured
+else_plain None p = plain-coloured
 
 pub string_coloured : (text : TextValue) (i : ℕ) → IsString text → HasColours (face_of text i)
 string_coloured text i sound = else_plain (face_in text.faces i) (face_in-coloured text.faces i (recursion_from_All (λ run. HasColours run.face) text.faces sound.faces))
