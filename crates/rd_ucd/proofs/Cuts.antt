@@ -1,14 +1,11 @@
 -- Pieces of bytes, as the code finds them.
 use Rattle.std.proofs.Common.{◌≡◌, ◌≢◌, ◌==◌, ℕ, zero, suc, ◌+◌, ◌-◌, ◌<◌, ◌≤◌, inl, inr, Bool, true, false, ◌&&◌, if◌then◌else◌, List, [], ◌∷◌, ◌++◌, length, get_or, take, drop, refl, sym, ap, ◌∙◌, arith}
-use Rattle.std.proofs.lemmas.Bool.{cases_lt}
-use Rattle.std.proofs.lemmas.Bool.Decides.{Decides-eqb, nat_tests}
+use Rattle.std.proofs.lemmas.Bool.{cases_lt, eq-eqb, ne_eqb}
+use Rattle.std.proofs.lemmas.Bool.Decides.{nat_tests}
 use Rattle.std.specs.List.{slice_split, onto_first}
 use Rattle.std.proofs.lemmas.List.{drop-drop, length-drop, get_or-drop, drop_more, drop_all, take_more, length-append}
 use Rattle.std.proofs.lemmas.List.Splits.{slice_split-cons_yes, slice_split-cons_no}
 use Rattle.rd_ucd.specs.Pieces.{chomped, uncommented, is_blank, trimmed_front, trimmed_back}
-
-pub eq_no : (a b : ℕ) → a ≢ b → (a == b) ≡ false
-eq_no a b e = grind (arith, nat_tests)
 
 pub first_of_pieces : (piece : List ℕ) (more all : List (List ℕ)) → all ≡ piece ∷ more → all ≡ piece ∷ drop 1 all
 first_of_pieces piece more all e = e ∙ ap (λ (rest : List (List ℕ)). piece ∷ rest) (sym (ap (drop 1) e))
@@ -17,16 +14,16 @@ first_of_pieces piece more all e = e ∙ ap (λ (rest : List (List ℕ)). piece 
 pub split_none : (c : ℕ) (bs : List ℕ) → ((k : ℕ) → k < length bs → get_or bs k 0 ≢ c) → slice_split (λ b. b == c) bs ≡ bs ∷ []
 split_none c [] none = refl
 split_none c (b ∷ bs) none =
-    slice_split-cons_no (λ x. x == c) b bs (eq_no b c (none 0 (omega arith)))
+    slice_split-cons_no (λ x. x == c) b bs (ne_eqb b c (none 0 (omega arith)))
     ∙ ap (onto_first b) (split_none c bs (λ k less. none (suc k) (omega arith)))
 
 -- the first piece ends at the first separator
 pub split_at_first : (c i : ℕ) (bs : List ℕ) → i < length bs → ((k : ℕ) → k < i → get_or bs k 0 ≢ c) → get_or bs i 0 ≡ c
     → slice_split (λ b. b == c) bs ≡ take i bs ∷ slice_split (λ b. b == c) (drop 1 (drop i bs))
 split_at_first c i [] within none found = absurd (omega arith)
-split_at_first c zero (b ∷ bs) within none found = slice_split-cons_yes (λ x. x == c) b bs ((Decides-eqb b c).1 found)
+split_at_first c zero (b ∷ bs) within none found = slice_split-cons_yes (λ x. x == c) b bs (eq-eqb b c found)
 split_at_first c (suc i) (b ∷ bs) within none found =
-    slice_split-cons_no (λ x. x == c) b bs (eq_no b c (none 0 (omega arith)))
+    slice_split-cons_no (λ x. x == c) b bs (ne_eqb b c (none 0 (omega arith)))
     ∙ ap (onto_first b) (split_at_first c i bs (omega arith) (λ k less. none (suc k) (omega arith)) found)
 
 -- the last byte of a tail
@@ -96,9 +93,9 @@ pub uncommented-at : (i : ℕ) (bs : List ℕ) → i ≤ length bs → ((k : ℕ
     → uncommented bs ≡ take i bs
 uncommented-at zero [] within none found = refl
 uncommented-at (suc i) [] within none found = absurd (omega arith)
-uncommented-at zero (b ∷ bs) within none found = ap (λ (v : Bool). if v then [] else b ∷ uncommented bs) ((Decides-eqb b 35).1 (found (omega arith)))
+uncommented-at zero (b ∷ bs) within none found = ap (λ (v : Bool). if v then [] else b ∷ uncommented bs) (eq-eqb b 35 (found (omega arith)))
 uncommented-at (suc i) (b ∷ bs) within none found =
-    ap (λ (v : Bool). if v then [] else b ∷ uncommented bs) (eq_no b 35 (none 0 (omega arith)))
+    ap (λ (v : Bool). if v then [] else b ∷ uncommented bs) (ne_eqb b 35 (none 0 (omega arith)))
     ∙ ap (λ (xs : List ℕ). b ∷ xs) (uncommented-at i bs (omega arith) (λ k less. none (suc k) (omega arith)) (λ less. found (omega arith)))
 
 -- blanks at the beginning go, one by one
@@ -127,7 +124,7 @@ push_other [] b other = ap (λ (v : Bool). if v && true then [] else b ∷ []) o
 push_other (x ∷ xs) b other =
     let rest = push_other xs b other in
     let size : length (xs ++ (b ∷ [])) ≡ suc (length xs) = length-append xs (b ∷ []) ∙ omega arith in
-    let some : (length (xs ++ (b ∷ [])) == 0) ≡ false = eq_no (length (xs ++ (b ∷ []))) 0 (λ e. absurd (omega arith)) in
+    let some : (length (xs ++ (b ∷ [])) == 0) ≡ false = ne_eqb (length (xs ++ (b ∷ []))) 0 (λ e. absurd (omega arith)) in
     ap (λ (ys : List ℕ). if is_blank x && (length ys == 0) then [] else x ∷ ys) rest
     ∙ ap (λ (v : Bool). if is_blank x && v then [] else x ∷ (xs ++ (b ∷ []))) some
     ∙ and_false (is_blank x) x (xs ++ (b ∷ []))

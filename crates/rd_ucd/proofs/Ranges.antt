@@ -1,12 +1,11 @@
 -- Looking a code up in ranges and pairs that ascend.
 use Rattle.std.proofs.Common.{◌≡◌, ℕ, zero, suc, ◌<◌, ◌≤◌, ◌⊎◌, inl, inr, Bool, true, false, ◌&&◌, if◌then◌else◌, List, [], ◌∷◌, length, get_or, None, Some, refl, ap, ◌∙◌, arith}
 use Rattle.std.specs.Prelude.{nat_le, ◌==◌}
-use Rattle.std.proofs.lemmas.Bool.Decides.{Decides-eqb, nat_tests}
-use Rattle.std.proofs.lemmas.Bool.{cases_eq}
+use Rattle.std.proofs.lemmas.Bool.Decides.{nat_tests}
+use Rattle.std.proofs.lemmas.Bool.{cases_eq, eq-eqb, ne_eqb}
 use Rattle.std.proofs.lemmas.List.{get_or_default}
 use Rattle.rd_base.specs.declared.class.Class.TheVariants.{L}
 use Rattle.rd_ucd.specs.declared.spans.Span.{Span}
-use Rattle.rd_ucd.proofs.Cuts.{eq_no}
 use Rattle.rd_ucd.specs.Lookup.{class_in, entry_in}
 
 outside : (a b c : ℕ) → (b < c) ⊎ (c < a) → (nat_le a c && nat_le c b) ≡ false
@@ -35,8 +34,8 @@ class_in-hit (s ∷ ss) code (suc i) d within from to out =
     ∙ class_in-hit ss code i d (omega arith) from to (λ k e less. out (suc k) e (omega arith))
 
 other : (a b : ℕ) → (a < b) ⊎ (b < a) → (a == b) ≡ false
-other a b (inl less) = eq_no a b (λ e. omega arith)
-other a b (inr less) = eq_no a b (λ e. omega arith)
+other a b (inl less) = ne_eqb a b (λ e. omega arith)
+other a b (inr less) = ne_eqb a b (λ e. omega arith)
 
 -- no entry has the code
 pub entry_in-miss : {E : Type 0} (key : E → ℕ) (es : List E) (code : ℕ)
@@ -51,7 +50,7 @@ pub entry_in-hit : {E : Type 0} (key : E → ℕ) (es : List E) (code i : ℕ) (
     → ((k : ℕ) (d : E) → k < i → key (get_or es k d) < code) → entry_in key es code ≡ Some (get_or es i d)
 entry_in-hit key [] code i d within is out = absurd (omega arith)
 entry_in-hit key (e ∷ es) code zero d within is out =
-    ap (λ (t : Bool). if t then Some e else entry_in key es code) ((Decides-eqb (key e) code).1 is)
+    ap (λ (t : Bool). if t then Some e else entry_in key es code) (eq-eqb (key e) code is)
 entry_in-hit key (e ∷ es) code (suc i) d within is out =
     ap (λ (t : Bool). if t then Some e else entry_in key es code) (other (key e) code (inl (out 0 e (omega arith))))
     ∙ entry_in-hit key es code i d (omega arith) is (λ k f less. out (suc k) f (omega arith))
