@@ -12,6 +12,7 @@ use Rattle.rd_base.specs.Cells.{single}
 use Rattle.rd_base.specs.Elements.{width_at_most, columns_at_most}
 use Rattle.rd_base.specs.Faces.{Attributes}
 use Rattle.rd_base.specs.Glyphs.{IsMeasured, IsMeasuredLook, AreMeasured}
+use Rattle.rd_base.proofs.Rows.{printable-measured}
 use Rattle.rd_base.specs.declared.cell.Glyph.{Glyph}
 use Rattle.rd_base.specs.declared.class.Class.{Class}
 use Rattle.rd_base.specs.declared.element.Element.{Element}
@@ -29,7 +30,7 @@ use Rattle.rd_glyphs.specs.declared.shown.Shown.{Shown}
 use Rattle.rd_glyphs.specs.declared.shown.Shown.TheVariants.{Caret, Octal, Space, Mark, Itself}
 use Rattle.rd_glyphs.specs.Characters.{PartValues, AreSoundParts, HasOrigin, TakesColumns, ShowsColumns, IsShortElement, is_control, is_formatting, caret, shown_as, mirrored, looks_of, element_of, glyph_elements, entry_of, slot_or, own_looks, elements_by, elements_of, tab_of}
 use Rattle.rd_glyphs.specs.Joining.{is_empty_entry}
-use Rattle.rd_glyphs.proofs.Measures.{printable-measured, slot-measured, character-measured, shown_as-measured, mirrored-measured, looks-measured, elements-measured}
+use Rattle.rd_glyphs.proofs.Measures.{slot-measured, character-measured, shown_as-measured, mirrored-measured, looks-measured, elements-measured}
 use Rattle.rd_glyphs.proofs.Short.{short_elements, short_glyphs, glyph_count}
 
 -- what holds of the elements of a character
@@ -96,8 +97,7 @@ slot-or : (slot : Option Glyph) (code : ℕ) → HoldsGlyph is_slot_glyph slot �
 slot-or None code is low high = record { measured = printable-measured code low high; width = refl }
 slot-or (Some g) code is low high =
     let own : is_slot_glyph g ≡ true = is g refl in
-    let places : length g.marks ≡ 6 = grind (arith, nat_tests) in
-    record { measured = slot-measured g places (is g refl); width = grind (arith, nat_tests) }
+    record { measured = slot-measured g own; width = grind (arith, nat_tests) }
 
 escape-slot : (table : Option TableValue) → IfSome table (λ t. IsTable t) → IsSlot (slot_or Escape table 92)
 escape-slot None is = record { measured = printable-measured 92 (omega arith) (omega arith); width = refl }
@@ -160,18 +160,13 @@ of-glyphs face origin text is =
     let sum = columns-few (glyph_elements face origin text) (glyph-columns face origin text (recursion_from_All (λ (g : Glyph). g.width ≤ 3) text narrow)) in
     record {
       short = short_glyphs face origin text is;
-      measured = All-map (λ (e : Element). IsMeasuredLook e.look) put text (λ k d inside. glyph-measured (slice_index_or text k d) (AllPass-from_list_all is_glyph_character text each k d inside));
+      measured = All-map (λ (e : Element). IsMeasuredLook e.look) put text (λ k d inside. character-measured (slice_index_or text k d) (AllPass-from_list_all is_glyph_character text each k d inside));
       own = All-map (HasOrigin face origin) put text (λ k d inside. (refl, refl));
       count = count;
       columns = omega arith;
     } where
       glyph-narrow : (g : Glyph) → is_glyph_character g ≡ true → g.width ≤ 3
       glyph-narrow g is = grind (arith, nat_tests)
-
-      glyph-measured : (g : Glyph) → is_glyph_character g ≡ true → IsMeasured g
-      glyph-measured g is =
-          let places : length g.marks ≡ 6 = grind (arith, nat_tests) in
-          character-measured g places is
 
 entry-text : (entries : List TableEntry) (code : ℕ) → AllByRecursion (λ e. IsTrue (is_glyph_text e.text)) entries → IfSome (entry_in entries code) (λ text. IsTrue (is_glyph_text text))
 entry-text [] code each = tt

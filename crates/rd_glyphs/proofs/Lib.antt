@@ -2,7 +2,7 @@ mod Columns
 mod Elements
 mod Holding
 pub mod Joined
-mod Measures
+pub mod Measures
 mod Short
 mod Sums
 mod Wholeness

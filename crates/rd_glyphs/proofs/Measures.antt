@@ -14,6 +14,7 @@ use Rattle.rd_ucd.specs.Lookup.{mirror_in}
 use Rattle.rd_base.specs.Chars.{is_scalar, is_code}
 use Rattle.rd_base.specs.Cells.{single}
 use Rattle.rd_base.specs.Glyphs.{IsMeasured, IsMeasuredLook}
+use Rattle.rd_base.proofs.Rows.{single-measured, printable-measured}
 use Rattle.rd_base.specs.declared.cell.Glyph.{Glyph}
 use Rattle.rd_base.specs.declared.class.Class.{Class}
 use Rattle.rd_objects.specs.Widths.{columns}
@@ -37,10 +38,6 @@ ShowsMeasured (Mark code) = IsTrue (is_scalar code) × (char_width false code �
 ShowsMeasured (Itself code width) = IsTrue (is_scalar code) × (char_width false code ≡ Some width) × (1 ≤ width) × (width ≤ 3)
 ShowsMeasured s = Unit {0}
 
-printable : (c : ℕ) → 32 ≤ c → c < 127 → char_width false c ≡ Some 1
-unfolding char_width
-printable c low high = grind (arith, nat_tests)
-
 -- the columns of a number that has some are those of a scalar value
 pub own-columns : (code width : ℕ) → columns code ≡ width → 1 ≤ width → char_width false code ≡ Some width
 own-columns code width own some = by-cases (is_scalar code) (char_width false code) width own some where
@@ -52,27 +49,8 @@ own-columns code width own some = by-cases (is_scalar code) (char_width false co
 zero-mark : (marks : List ℕ) → list_all (λ mark. mark == 0) marks ≡ true → (k : ℕ) → k < length marks → get_or marks k 0 ≡ 0
 zero-mark marks zeros k inside = grind (arith, nat_tests, AllPass-from_list_all (λ mark. mark == 0) marks zeros k 0 inside)
 
--- a character without marks in its own columns
-pub single-measured : (base width : ℕ) → IsTrue (is_scalar base) → char_width false base ≡ Some width → 1 ≤ width → width ≤ 3 → IsMeasured (single base width)
-single-measured base width scalar columns some few = record {
-  scalar = scalar;
-  columns = columns;
-  some = some;
-  few = few;
-  places = refl;
-  count = omega arith;
-  marks = λ k p. absurd (omega arith);
-  rest = λ k p q. get_or-replicate 6 k 0 0 q;
-}
-
-pub printable-measured : (base : ℕ) → 32 ≤ base → base < 127 → IsMeasured (single base 1)
-printable-measured base low high =
-    let scalar : is_scalar base ≡ true = grind (arith, nat_tests) in
-    single-measured base 1 (search (rules, tests)) (printable base low high) (omega arith) (omega arith)
-
--- a glyph character in its own columns
-pub character-measured : (g : Glyph) → length g.marks ≡ 6 → is_glyph_character g ≡ true → IsMeasured g
-character-measured g places is =
+character-with : (g : Glyph) → length g.marks ≡ 6 → is_glyph_character g ≡ true → IsMeasured g
+character-with g places is =
     let scalar : is_scalar g.base ≡ true = grind (arith, nat_tests) in
     let own : columns g.base ≡ g.width = grind (arith, nat_tests) in
     let some : 1 ≤ g.width = grind (arith, nat_tests) in
@@ -90,11 +68,17 @@ character-measured g places is =
       rest = λ k p q. zero-mark g.marks zeros k (rw places q);
     }
 
+-- a glyph character in its own columns
+pub character-measured : (g : Glyph) → is_glyph_character g ≡ true → IsMeasured g
+character-measured g is =
+    let places : length g.marks ≡ 6 = grind (arith, nat_tests) in
+    character-with g places is
+
 -- a mark on a blank
 pub on_blank-measured : (code : ℕ) → IsTrue (is_scalar code) → char_width false code ≡ Some 0 → IsMeasured (on_blank code)
 on_blank-measured code scalar none = record {
   scalar = refl;
-  columns = printable 32 (omega arith) (omega arith);
+  columns = (printable-measured 32 (omega arith) (omega arith)).columns;
   some = omega arith;
   few = omega arith;
   places = refl;
@@ -128,7 +112,7 @@ mark-columns code is low other small free none =
           let found = above-controls code (omega arith) in
           found ∙ ap Some (sym (of-scalar code (alone false code).0 scalar found) ∙ none)
       by-place (inr ascii) scalar =
-          let one = of-scalar code 1 scalar (printable code low (omega arith)) in
+          let one = of-scalar code 1 scalar (printable-measured code low (omega arith)).columns in
           absurd (omega arith)
 
 caret-printable : (code : ℕ) → is_control code ≡ true → (32 ≤ caret code) × (caret code < 127)
@@ -209,9 +193,8 @@ looks-measured escape control (Itself code width) e c s =
 pub elements-measured : (face : Attributes) (origin : Origin) (ls : List Look) → All IsMeasuredLook ls → AreMeasured (map (element_of face origin) ls)
 elements-measured face origin ls each = All-map (λ (e : Element). IsMeasuredLook e.look) (element_of face origin) ls each
 
-pub slot-measured : (g : Glyph) → length g.marks ≡ 6 → IsTrue (is_slot_glyph g) → IsMeasured g
-slot-measured g places is =
-    character-measured g places (and_parts (is_glyph_character g) (g.width == 1) is).0
+pub slot-measured : (g : Glyph) → IsTrue (is_slot_glyph g) → IsMeasured g
+slot-measured g is = character-measured g (and_parts (is_glyph_character g) (g.width == 1) is).0
 
 -- how a character that no table shows stands towards marks
 pub joining-measured : (shown : Shown) → ShowsMeasured shown → IsMeasuredJoining (joining_by None shown)

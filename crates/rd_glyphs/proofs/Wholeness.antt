@@ -1,6 +1,6 @@
 -- The cells of a plain line stand whole, and there are as many as it has columns.
 use Rattle.std.proofs.Common.{◌≡◌, ℕ, ◌+◌, ◌-◌, ◌<◌, ◌≤◌, ◌≢◌, Bool, true, false, IsTrue, List, [], ◌∷◌, ◌++◌, length, length-append, map, get_or, set, replicate, Option, Some, None, IfSome, All, refl, sym, subst, ◌∙◌, arith, length-set, get_or-set_same, get_or-set_other}
-use Rattle.std.specs.Prelude.{zero, suc, nat_lt, nat_le, if◌then◌else◌}
+use Rattle.std.specs.Prelude.{nat_lt, nat_le, if◌then◌else◌}
 use Rattle.std.specs.List.{AllByRecursion}
 use Rattle.std.proofs.lemmas.Bool.Decides.{nat_tests}
 use Rattle.std.proofs.lemmas.List.{length-replicate}
@@ -10,6 +10,8 @@ use Rattle.rd_base.specs.Chars.{is_scalar, is_code}
 use Rattle.rd_base.specs.Cells.{single, HasColours, IsColoured}
 use Rattle.rd_base.specs.Faces.{Attributes}
 use Rattle.rd_base.specs.Glyphs.{is_space, blanks, IsMeasured, IsMeasuredLook, IsRowAfter}
+use Rattle.rd_base.proofs.Colours.{blanks-coloured}
+use Rattle.rd_base.proofs.Rows.{behind-whole, blanks-whole, glyph-whole, printable-measured}
 use Rattle.rd_base.specs.declared.cell.Glyph.{Glyph}
 use Rattle.rd_base.specs.declared.cell.Cell.{Cell}
 use Rattle.rd_base.specs.declared.cell.Cell.TheVariants.{Blank, First, Rest}
@@ -28,35 +30,18 @@ use Rattle.rd_glyphs.specs.Lines.{PlainPart, part_of, plain_part, plain_joins, l
 use Rattle.rd_glyphs.proofs.Columns.{cell_count}
 use Rattle.rd_glyphs.proofs.Elements.{shown_as-columns, looks-columns}
 use Rattle.rd_glyphs.proofs.Joined.{Grows, marks_joined-all}
-use Rattle.rd_glyphs.proofs.Measures.{ShowsMeasured, printable-measured, on_blank-measured, shown_as-measured, looks-measured, joining-measured}
+use Rattle.rd_glyphs.proofs.Measures.{ShowsMeasured, on_blank-measured, shown_as-measured, looks-measured, joining-measured}
 
 -- ---- cells
 
-blanks-whole : (n : ℕ) (face : Attributes) → IsRowAfter 0 (blanks n face)
-blanks-whole zero face = tt
-blanks-whole (suc n) face = blanks-whole n face
-
-blanks-before : (n : ℕ) (face : Attributes) (cells : List Cell) → IsRowAfter 0 cells → IsRowAfter 0 (blanks n face ++ cells)
-blanks-before zero face cells row = row
-blanks-before (suc n) face cells row = blanks-before n face cells row
-
-rests-before : (n : ℕ) (cells : List Cell) → IsRowAfter 0 cells → IsRowAfter n (replicate n Rest ++ cells)
-rests-before zero cells row = row
-rests-before (suc n) cells row = rests-before n cells row
-
-glyph-before : (face : Attributes) (g : Glyph) (cells : List Cell) → IsMeasured g → IsRowAfter 0 cells → (space : Bool) → is_space g ≡ space → IsRowAfter 0 ((if space then blanks g.width face else First g face ∷ replicate (g.width - 1) Rest) ++ cells)
-glyph-before face g cells measured row true e = blanks-before g.width face cells row
-glyph-before face g cells measured row false e =
-    (record { measured = measured; seen = e }, rests-before (g.width - 1) cells row)
-
-look-before : (face : Attributes) (l : Look) (cells : List Cell) → IsMeasuredLook l → IsRowAfter 0 cells → IsRowAfter 0 (cells_of face l ++ cells)
-look-before face (look.Glyph g) cells measured row = glyph-before face g cells measured row (is_space g) refl
-look-before face look.Blank cells measured row = blanks-before 1 face cells row
-look-before face look.RowEnd cells measured row = row
-look-before face look.LineEnd cells measured row = row
+look-whole : (face : Attributes) (l : Look) → IsMeasuredLook l → IsRowAfter 0 (cells_of face l)
+look-whole face (look.Glyph g) measured = glyph-whole g.width g face measured refl
+look-whole face look.Blank measured = tt
+look-whole face look.RowEnd measured = tt
+look-whole face look.LineEnd measured = tt
 
 fitted-by : (face : Attributes) (room : ℕ) (l : Look) (cells : List Cell) → IsMeasuredLook l → IsRowAfter 0 cells → (fits : Bool) → IsRowAfter 0 (if fits then cells_of face l ++ cells else blanks room face)
-fitted-by face room l cells measured row true = look-before face l cells measured row
+fitted-by face room l cells measured row true = behind-whole 0 (cells_of face l) cells (look-whole face l measured) row
 fitted-by face room l cells measured row false = blanks-whole room face
 
 fitted-whole : (face : Attributes) (room : ℕ) (ls : List Look) → AllByRecursion IsMeasuredLook ls → IsRowAfter 0 (fitted face room ls)
@@ -232,18 +217,18 @@ plain-length classes face width text = fitted-length face width (plain_looks cla
 cells-coloured : (face : Attributes) (l : Look) → HasColours face → All IsColoured (cells_of face l)
 cells-coloured face (look.Glyph g) c = by-space (is_space g) where
   by-space : (space : Bool) → All IsColoured (if space then blanks g.width face else First g face ∷ replicate (g.width - 1) Rest)
-  by-space true = All-replicate IsColoured g.width (Blank face) c
+  by-space true = blanks-coloured g.width face c
   by-space false = All-cons IsColoured (First g face) (replicate (g.width - 1) Rest) c (All-replicate IsColoured (g.width - 1) Rest tt)
-cells-coloured face look.Blank c = All-replicate IsColoured 1 (Blank face) c
+cells-coloured face look.Blank c = blanks-coloured 1 face c
 cells-coloured face look.RowEnd c = All-nil IsColoured
 cells-coloured face look.LineEnd c = All-nil IsColoured
 
 fitted-coloured : (face : Attributes) (room : ℕ) (ls : List Look) → HasColours face → All IsColoured (fitted face room ls)
-fitted-coloured face room [] c = All-replicate IsColoured room (Blank face) c
+fitted-coloured face room [] c = blanks-coloured room face c
 fitted-coloured face room (l ∷ ls) c = by-room (nat_le (look_columns l) room) (fitted-coloured face (room - look_columns l) ls c) where
   by-room : (fits : Bool) → All IsColoured (fitted face (room - look_columns l) ls) → All IsColoured (if fits then cells_of face l ++ fitted face (room - look_columns l) ls else blanks room face)
   by-room true rest = All-append IsColoured (cells_of face l) (fitted face (room - look_columns l) ls) (cells-coloured face l c) rest
-  by-room false rest = All-replicate IsColoured room (Blank face) c
+  by-room false rest = blanks-coloured room face c
 
 -- the colours of a plain line are those of its face
 pub plain-coloured : (classes : List Span) (face : Attributes) (width : ℕ) (text : List ℕ) → HasColours face → All IsColoured (plain_cells classes face width text)
