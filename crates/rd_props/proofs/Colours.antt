@@ -1,8 +1,10 @@
 -- The colours of merged faces are in range where those of all faces are.
-use Rattle.std.proofs.Common.{inl, inr, ℕ, ◌≤◌, ◌==◌, nat_lt, Bool, true, false, if◌then◌else◌, List, [], ◌∷◌, All, Option, None, Some, unwrap_or, slice_get, subst, arith}
+use Rattle.std.proofs.Common.{inl, inr, ℕ, nat_lt, List, [], ◌∷◌, All, Option, None, Some, unwrap_or, slice_get, subst}
+use Rattle.std.proofs.lemmas.Bool.{cond_both}
 use Rattle.std.proofs.lemmas.Option.{slice_get_cases}
+use Rattle.rd_base.proofs.Colours.{plain-coloured, over-coloured}
 use Rattle.rd_base.specs.Cells.{HasColours}
-use Rattle.rd_base.specs.Faces.{Attributes, plain, over}
+use Rattle.rd_base.specs.Faces.{Attributes, plain}
 use Rattle.rd_objects.specs.Sound.{AreObjects}
 use Rattle.rd_objects.specs.Things.{ObjectLists}
 use Rattle.rd_overlays.specs.declared.overlay.Kind.TheVariants.{Face}
@@ -11,19 +13,6 @@ use Rattle.rd_overlays.specs.Overlays.{covering, overlay_at}
 use Rattle.rd_props.specs.Buffers.{BufferValue, property}
 use Rattle.rd_props.specs.Faces.{face_of, laid_over, face_at}
 use Rattle.rd_props.specs.Values.{value_of}
-
-plain-coloured : HasColours plain
-plain-coloured = record { fg = omega arith; bg = omega arith }
-
-either : {X : Type 0} (P : X → Type 0) (b : Bool) (x y : X) → P x → P y → P (if b then x else y)
-either P true x y h k = h
-either P false x y h k = k
-
-over-coloured : (top under : Attributes) → HasColours top → HasColours under → HasColours (over top under)
-over-coloured top under h k = record {
-  fg = either (λ n. n ≤ 8) (top.fg == 8) under.fg top.fg k.fg h.fg;
-  bg = either (λ n. n ≤ 8) (top.bg == 8) under.bg top.bg k.bg h.bg;
-}
 
 found-coloured : (faces : List Attributes) (number : ℕ) → All HasColours faces → HasColours (unwrap_or (slice_get faces number) plain)
 found-coloured faces number h = elim (slice_get_cases faces number).1 [
@@ -42,6 +31,6 @@ laid-coloured objects slots (number ∷ numbers) face h k =
 
 pub merged-coloured : (s : BufferValue) (objects : ObjectLists) (pos : ℕ) → AreObjects objects → HasColours (face_at s objects pos)
 merged-coloured s objects pos sound =
-    either HasColours (nat_lt pos s.text.end) _ plain
-    (laid-coloured objects s.overlays (covering pos s.overlays) (face_of objects (property s Face pos)) sound.faces (face-coloured objects (property s Face pos) sound.faces))
-    plain-coloured
+    cond_both (nat_lt pos s.text.end) _ plain HasColours
+    (λ _. laid-coloured objects s.overlays (covering pos s.overlays) (face_of objects (property s Face pos)) sound.faces (face-coloured objects (property s Face pos) sound.faces))
+    (λ _. plain-coloured)

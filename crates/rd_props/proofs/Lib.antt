@@ -6,7 +6,6 @@ mod Few
 pub mod Lasts
 pub mod Greatest
 pub mod Newness
-pub mod Options
 pub mod Joining
 pub mod Moves
 pub mod Texts
