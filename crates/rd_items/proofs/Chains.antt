@@ -1,8 +1,10 @@
 -- The pieces of what is read of a block, which stand one behind the other.
 use Rattle.std.proofs.Common.{◌≡◌, ℕ, ◌+◌, ◌<◌, ◌≤◌, Bool, true, false, List, [], ◌∷◌, ◌++◌, length, Option, Some, None, refl, sym, ap, arith}
 use Rattle.std.specs.Prelude.{zero, suc, not, ◌&&◌, is_some}
+use Rattle.std.proofs.lemmas.Bool.{and_parts, cond-true}
 use Rattle.rd_base.specs.Faces.{Attributes}
 use Rattle.rd_base.specs.declared.cell.Glyph.{Glyph}
+use Rattle.rd_base.specs.declared.class.Class.TheVariants.{B}
 use Rattle.rd_base.specs.declared.settings.Invisible.{Invisible}
 use Rattle.rd_text.specs.Texts.{is_newline}
 use Rattle.rd_objects.specs.declared.run.Spec.{Spec}
@@ -27,7 +29,6 @@ use Rattle.rd_items.specs.Pieces.{Scene, string_pieces, string_piece, spec_in, s
 use Rattle.rd_items.specs.Items.{piece_joins, kind_gives}
 use Rattle.rd_items.specs.Covers.{is_ender_kind}
 use Rattle.rd_items.proofs.Runs.{open-stops, open-alone}
-use Rattle.rd_items.proofs.Reach.{if-true}
 
 -- ---- pieces that stand one behind the other
 
@@ -58,6 +59,7 @@ pub record IsInner (s : Scene) (p : ℕ) (x : Piece) : Type 0 where
 pub record IsLast (s : Scene) (p to : ℕ) (x : Piece) : Type 0 where
   pub link : IsLink s p x
   pub kind : x.kind ≡ Some kind.Ender
+  pub class : x.class ≡ B
   pub covers : x.covers ≡ true
   pub alone : x.mark ≡ None
   pub ends : x.to ≡ to
@@ -185,20 +187,17 @@ open-ender s (Some n) hidden face ch p to ends = cc
 open-ender s None Plain face ch p to ends = cc
 open-ender s None Ellipsis face ch p to ends = cc
 open-ender s None No face None p to ends = refl
-open-ender s None No face (Some c) p to ends = if-true (is_newline c) (ender_piece face p) (char_piece s face c p) ends
+open-ender s None No face (Some c) p to ends = cond-true (is_newline c) (ender_piece face p) (char_piece s face c p) ends
 
 last-ender : (s : Scene) (face : Attributes) (p : ℕ) → IsLast s p (p + 1) (ender_piece face p)
 last-ender s face p = record {
   link = record { at = refl; ordered = omega arith; some = λ e. omega arith; gives = refl; based = λ e. cc };
   kind = refl;
+  class = refl;
   covers = refl;
   alone = refl;
   ends = refl;
 }
-
-first-true : (a b : Bool) → (a && b) ≡ true → a ≡ true
-first-true true b e = refl
-first-true false b e = cc
 
 run-by : (setting : Invisible) (first : Showing) (e : Seen) (es : List Seen) → run_length setting first es < length es → (more : Bool) → goes_on first (showing_of setting e) ≡ more → run_length setting first (e ∷ es) < suc (length es)
 run-by setting first e es less true more = rw more (omega arith)
@@ -207,7 +206,7 @@ run-by setting first e es less false none = rw none (omega arith)
 -- a run ends before the ender
 run-short : (setting : Invisible) (first : Showing) (es : List Seen) → IsReading setting es → run_length setting first es < length es
 run-short setting first [] well = absurd well
-run-short setting first (e ∷ []) well = rw (open-stops first (showing_of setting e) (first-true (is_open (showing_of setting e)) (ends_line e.character) well)) (omega arith)
+run-short setting first (e ∷ []) well = rw (open-stops first (showing_of setting e) (and_parts (is_open (showing_of setting e)) (ends_line e.character) well).0) (omega arith)
 run-short setting first (e ∷ f ∷ es) well = run-by setting first e (f ∷ es) (run-short setting first (f ∷ es) well.1) (goes_on first (showing_of setting e)) refl
 
 pieces-chain : (s : Scene) (due p to : ℕ) (es : List Seen) → IsReading s.parts.settings.invisible es → due < length es → p + length es ≡ to → Chain s (p + due) to (pieces_from s due p es)

@@ -5,7 +5,7 @@ use Rattle.std.specs.Option.{unwrap_or, option_and_then}
 use Rattle.std.proofs.lemmas.List.Elements.{All-nil, All-cons, All-head, All-tail, All-get_or}
 use Rattle.std.proofs.lemmas.Option.{unwrap_or-slice_get}
 use Rattle.rd_base.specs.Faces.{Attributes}
-use Rattle.rd_base.specs.Settings.{SettingValues}
+use Rattle.rd_base.specs.Settings.{SettingValues, without_flags}
 use Rattle.rd_base.specs.declared.settings.Invisible.{Invisible}
 use Rattle.rd_ucd.specs.Data.{Data}
 use Rattle.rd_objects.specs.declared.run.Spec.{Spec}
@@ -22,7 +22,7 @@ use Rattle.rd_items.specs.declared.piece.Piece.{Piece}
 use Rattle.rd_items.specs.Readings.{ends_block, showing_of, reading_from, reading}
 use Rattle.rd_items.specs.Pieces.{Scene, table_in, scene_in, string_pieces, spec_in, spec_piece, open_piece, char_piece, piece_by, piece_at, run_in, pieces_from}
 use Rattle.rd_items.specs.Items.{piece_joins, covering, items_of}
-use Rattle.rd_items.specs.Growing.{ReadsMade, without_flags, GoesOnFrom}
+use Rattle.rd_items.specs.Growing.{ReadsMade, GoesOnFrom}
 
 -- ---- lists that go on
 

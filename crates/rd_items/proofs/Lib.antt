@@ -1,5 +1,6 @@
 mod Alike
 mod Chains
+pub mod Ended
 mod Growing
 mod Listing
 mod Measured

@@ -2,11 +2,11 @@
 use Rattle.std.proofs.Common.{◌≡◌, ◌⊎◌, inl, inr, ℕ, ◌+◌, ◌-◌, ◌<◌, ◌≤◌, Bool, true, false, List, [], ◌∷◌, Option, Some, None, refl, sym, ap, subst, ◌∙◌, arith}
 use Rattle.std.specs.Prelude.{zero, suc, nat_lt, slice_get, if◌then◌else◌}
 use Rattle.std.specs.Option.{unwrap_or}
+use Rattle.std.proofs.lemmas.Bool.{both_ways}
 use Rattle.std.proofs.lemmas.Bool.Decides.{nat_tests}
 use Rattle.rd_props.specs.Buffers.{BufferValue}
 use Rattle.rd_items.specs.Readings.{ends_block}
 use Rattle.rd_items.specs.Blocks.{blocks_from, blocks_of, Adjoin, is_shown_newline, StartsBlock, EndsBlock, IsBlock}
-use Rattle.rd_items.proofs.Runs.{not-both}
 use Rattle.rd_items.proofs.Newlines.{AreInside, both-inside, one-inside}
 
 -- ---- lists of blocks that adjoin
@@ -74,14 +74,14 @@ not-later : (s : BufferValue) (p a b c d : ℕ) → IsBlock s a b → IsBlock s 
 not-later s p a b c d one other inside first less = by-start other.begins where
   by-start : StartsBlock s c → ⊥
   by-start (inl begin) = omega (arith, one.first)
-  by-start (inr newline) = not-both (is_shown_newline s (c - 1)) newline (one.inside (c - 1) (omega arith) (omega arith))
+  by-start (inr newline) = both_ways (is_shown_newline s (c - 1)) (one.inside (c - 1) (omega arith) (omega arith)) newline
 
 -- nor is its end
 not-longer : (s : BufferValue) (p a b c d : ℕ) → IsBlock s a b → IsBlock s c d → p < b → c ≤ p → b < d → ⊥
 not-longer s p a b c d one other inside first less = by-end one.ends where
   by-end : EndsBlock s b → ⊥
   by-end (inl end) = omega (arith, other.last)
-  by-end (inr newline) = not-both (is_shown_newline s (b - 1)) newline (other.inside (b - 1) (omega arith) (omega arith))
+  by-end (inr newline) = both_ways (is_shown_newline s (b - 1)) (other.inside (b - 1) (omega arith) (omega arith)) newline
 
 neither-way : (a b : ℕ) → (a < b → ⊥) → (b < a → ⊥) → a ≡ b
 neither-way a b less more = grind (arith, less, more)

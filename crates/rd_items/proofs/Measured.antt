@@ -10,8 +10,9 @@ use Rattle.rd_text.specs.Texts.{is_newline}
 use Rattle.rd_objects.specs.declared.run.Spec.{Spec}
 use Rattle.rd_objects.specs.declared.run.Spec.TheVariants.{Text, Width, Align}
 use Rattle.rd_glyphs.specs.Joining.{joining_of, base_of, mark_of, IsMark, IsMeasuredJoining}
-use Rattle.rd_glyphs.specs.Marks.{marked_glyph, marks_joined_from, marks_joined}
+use Rattle.rd_glyphs.specs.Marks.{marked_glyph, marks_joined}
 use Rattle.rd_glyphs.specs.Characters.{PartValues}
+use Rattle.rd_glyphs.proofs.Joined.{Grows, marks_joined-each}
 use Rattle.rd_glyphs.specs.declared.joining.Joining.{Joining}
 use Rattle.rd_props.specs.Seen.{Seen}
 use Rattle.rd_props.specs.declared.hiding.Hidden.{Hidden}
@@ -87,20 +88,10 @@ of-reading laws s zero p (e ∷ es) codes =
 
 -- ---- marks that join
 
-joins-by : (laws : MarkLaws) → (h x : Piece) (xs : List Piece) → IsMeasuredPiece h → IsMeasuredPiece x → ((k : Piece) → IsMeasuredPiece k → AreMeasuredPieces (marks_joined_from piece_joins k xs)) → (glyph : Option Glyph) → marked_glyph h.base x.mark ≡ glyph → AreMeasuredPieces (marks_joined_from piece_joins h (x ∷ xs))
-joins-by laws h x xs held next rest None e = rw e (All-cons IsMeasuredPiece h (marks_joined_from piece_joins x xs) held (rest x next))
-joins-by laws h x xs held next rest (Some g) e =
-    let glyph : IsMeasured g = subst (λ (m : Option Glyph). IfSome m (λ (b : Glyph). IsMeasured b)) e (laws.joined h.base x.mark held.base next.mark) in
-    rw e (rest _ (record { kind = glyph; base = glyph; mark = held.mark }))
-
-joins : (laws : MarkLaws) → (h : Piece) (xs : List Piece) → IsMeasuredPiece h → AreMeasuredPieces xs → AreMeasuredPieces (marks_joined_from piece_joins h xs)
-joins laws h [] held all = All-cons IsMeasuredPiece h [] held (All-nil IsMeasuredPiece)
-joins laws h (x ∷ xs) held all =
-    joins-by laws h x xs held (All-head IsMeasuredPiece x xs all) (λ k measured. joins laws k xs measured (All-tail IsMeasuredPiece x xs all)) (marked_glyph h.base x.mark) refl
-
-joins-all : (laws : MarkLaws) → (xs : List Piece) → AreMeasuredPieces xs → AreMeasuredPieces (marks_joined piece_joins xs)
-joins-all laws [] all = all
-joins-all laws (x ∷ xs) all = joins laws x xs (All-head IsMeasuredPiece x xs all) (All-tail IsMeasuredPiece x xs all)
+grows : MarkLaws → Grows piece_joins IsMeasuredPiece
+grows laws held next glyph h n e =
+    let joined : IsMeasured glyph = subst (λ (m : Option Glyph). IfSome m (λ (b : Glyph). IsMeasured b)) e (laws.joined held.base next.mark h.base n.mark) in
+    record { kind = joined; base = joined; mark = h.mark }
 
 -- ---- the items
 
@@ -117,4 +108,4 @@ items since (x ∷ xs) all =
 
 -- of what has codes
 pub reading-measured : (laws : MarkLaws) → (s : Scene) (es : List Seen) → HaveCodes es → AreMeasuredItems (items_of s es)
-reading-measured laws s es codes = items 0 (marks_joined piece_joins (pieces_from s 0 0 es)) (joins-all laws (pieces_from s 0 0 es) (of-reading laws s 0 0 es codes))
+reading-measured laws s es codes = items 0 (marks_joined piece_joins (pieces_from s 0 0 es)) (marks_joined-each piece_joins IsMeasuredPiece (grows laws) (pieces_from s 0 0 es) (of-reading laws s 0 0 es codes))

@@ -3,12 +3,12 @@ use Rattle.std.proofs.Common.{◌≡◌, ℕ, ◌+◌, ◌<◌, Bool, true, fals
 use Rattle.std.specs.Prelude.{zero, suc, if◌then◌else◌}
 use Rattle.std.proofs.lemmas.List.Elements.{All-cons, All-nil, All-head, All-tail, All-append}
 use Rattle.rd_base.specs.Faces.{Attributes}
-use Rattle.rd_base.specs.declared.cell.Glyph.{Glyph}
 use Rattle.rd_text.specs.Texts.{is_newline}
 use Rattle.rd_objects.specs.declared.run.Spec.{Spec}
 use Rattle.rd_objects.specs.declared.run.Spec.TheVariants.{Text, Width, Align}
 use Rattle.rd_objects.specs.Sound.{NamesMade, IsClosed}
-use Rattle.rd_glyphs.specs.Marks.{marked_glyph, marks_joined_from, marks_joined}
+use Rattle.rd_glyphs.specs.Marks.{marks_joined}
+use Rattle.rd_glyphs.proofs.Joined.{Grows, marks_joined-each}
 use Rattle.rd_props.specs.Made.{SeesMade}
 use Rattle.rd_props.specs.Seen.{Seen}
 use Rattle.rd_props.specs.declared.hiding.Hidden.{Hidden}
@@ -70,18 +70,8 @@ module _ (s : Scene) (closed : IsClosed s.objects) where
 
   -- ---- marks that join
 
-  joins-by : (h x : Piece) (xs : List Piece) → IsShown h → IsShown x → ((k : Piece) → IsShown k → AreShown (marks_joined_from piece_joins k xs)) → (glyph : Option Glyph) → marked_glyph h.base x.mark ≡ glyph → AreShown (marks_joined_from piece_joins h (x ∷ xs))
-  joins-by h x xs held next rest None e = rw e (All-cons IsShown h (marks_joined_from piece_joins x xs) held (rest x next))
-  joins-by h x xs held next rest (Some g) e = rw e (rest _ tt)
-
-  joins : (h : Piece) (xs : List Piece) → IsShown h → AreShown xs → AreShown (marks_joined_from piece_joins h xs)
-  joins h [] held all = All-cons IsShown h [] held (All-nil IsShown)
-  joins h (x ∷ xs) held all =
-      joins-by h x xs held (All-head IsShown x xs all) (λ k made. joins k xs made (All-tail IsShown x xs all)) (marked_glyph h.base x.mark) refl
-
-  joins-all : (xs : List Piece) → AreShown xs → AreShown (marks_joined piece_joins xs)
-  joins-all [] all = all
-  joins-all (x ∷ xs) all = joins x xs (All-head IsShown x xs all) (All-tail IsShown x xs all)
+  grows : Grows piece_joins IsShown
+  grows held next glyph h n e = tt
 
   -- ---- the items
 
@@ -99,4 +89,4 @@ module _ (s : Scene) (closed : IsClosed s.objects) where
 -- of what names made objects alone
 pub items-made : (s : Scene) (es : List Seen) → IsClosed s.objects → ReadsMade s.objects es → ShowMade s.objects (items_of s es)
 items-made s es closed made =
-    items s closed 0 (marks_joined piece_joins (pieces_from s 0 0 es)) (joins-all s closed (pieces_from s 0 0 es) (of-reading s closed 0 0 es made))
+    items s closed 0 (marks_joined piece_joins (pieces_from s 0 0 es)) (marks_joined-each piece_joins (IsShown s closed) (grows s closed) (pieces_from s 0 0 es) (of-reading s closed 0 0 es made))

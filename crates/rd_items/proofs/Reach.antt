@@ -1,6 +1,7 @@
 -- How far the reading of a block goes.
-use Rattle.std.proofs.Common.{◌≡◌, ◌⊎◌, inl, inr, ℕ, ◌+◌, ◌-◌, ◌<◌, ◌≤◌, Bool, true, false, List, [], ◌∷◌, length, Option, Some, None, refl, sym, ap, ◌∙◌, arith}
-use Rattle.std.specs.Prelude.{zero, suc, nat_lt, ◌&&◌, if◌then◌else◌}
+use Rattle.std.proofs.Common.{◌≡◌, ◌⊎◌, inl, inr, ℕ, ◌+◌, ◌-◌, ◌<◌, ◌≤◌, Bool, true, false, List, [], ◌∷◌, length, None, refl, sym, ap, ◌∙◌, arith}
+use Rattle.std.specs.Prelude.{zero, suc, nat_lt}
+use Rattle.std.proofs.lemmas.Bool.{and_from, cond-true, cond-false}
 use Rattle.std.proofs.lemmas.Bool.Decides.{nat_tests}
 use Rattle.rd_props.specs.Buffers.{BufferValue}
 use Rattle.rd_base.specs.declared.settings.Invisible.{Invisible}
@@ -8,11 +9,7 @@ use Rattle.rd_objects.specs.Things.{ObjectLists}
 use Rattle.rd_props.specs.Seen.{Seen, seen_at, accessible_char}
 use Rattle.rd_items.specs.Readings.{showing_at, is_open, ends_line, is_ender, ends_block, reading_from, reading, IsReading}
 use Rattle.rd_items.specs.Blocks.{is_shown_newline, IsBlock}
-use Rattle.rd_items.proofs.Runs.{end-open, if-false}
-
-pub if-true : {A : Type 0} (test : Bool) (a b : A) → test ≡ true → (if test then a else b) ≡ a
-if-true true a b e = refl
-if-true false a b e = cc
+use Rattle.rd_items.proofs.Runs.{end-open}
 
 -- before the end a shown newline is an ender
 newline-ends : (s : BufferValue) (p : ℕ) → p < s.text.end → is_shown_newline s p ≡ ends_block s p
@@ -21,10 +18,10 @@ newline-ends s p before =
     rw inside
 
 read-one : (s : BufferValue) (o : ObjectLists) (n p : ℕ) → ends_block s p ≡ true → length (reading_from s o (suc n) p) ≡ 1
-read-one s o n p ender = ap (λ (es : List Seen). suc (length es)) (if-true (ends_block s p) [] (reading_from s o n (suc p)) ender)
+read-one s o n p ender = ap (λ (es : List Seen). suc (length es)) (cond-true (ends_block s p) [] (reading_from s o n (suc p)) ender)
 
 read-more : (s : BufferValue) (o : ObjectLists) (n p : ℕ) → ends_block s p ≡ false → length (reading_from s o (suc n) p) ≡ suc (length (reading_from s o n (suc p)))
-read-more s o n p ender = ap (λ (es : List Seen). suc (length es)) (if-false (ends_block s p) [] (reading_from s o n (suc p)) ender)
+read-more s o n p ender = ap (λ (es : List Seen). suc (length es)) (cond-false (ends_block s p) [] (reading_from s o n (suc p)) ender)
 
 -- what a block is from one of its positions on
 record IsRest (s : BufferValue) (p to : ℕ) : Type 0 where
@@ -72,22 +69,17 @@ reading-cons : (setting : Invisible) (e : Seen) (es : List Seen) → is_ender se
 reading-cons setting e [] none rest = absurd rest
 reading-cons setting e (f ∷ es) none rest = (none, rest)
 
-ends-by : (a : Bool) (c : Option ℕ) → a ≡ true → c ≡ None → (a && ends_line c) ≡ true
-ends-by true None e f = refl
-ends-by true (Some c) e f = cc
-ends-by false c e f = cc
-
 end-char : (s : BufferValue) → accessible_char s.text s.text.end ≡ None
 end-char s = grind (arith, nat_tests)
 
 -- the end of the accessible text is an ender
 pub end-ends : (s : BufferValue) (o : ObjectLists) → ends_block s s.text.end ≡ true
-end-ends s o = ends-by (is_open (showing_at s o s.text.end)) (accessible_char s.text s.text.end) (end-open s o) (end-char s)
+end-ends s o = and_from (is_open (showing_at s o s.text.end)) (ends_line (accessible_char s.text s.text.end)) (end-open s o) (ap ends_line (end-char s))
 
 whole-by : (s : BufferValue) (o : ObjectLists) (n p : ℕ) → IsReading s.settings.invisible (reading_from s o n (suc p)) → (ender : Bool) → ends_block s p ≡ ender → IsReading s.settings.invisible (reading_from s o (suc n) p)
-whole-by s o n p rest true e = rw (if-true (ends_block s p) [] (reading_from s o n (suc p)) e) e
+whole-by s o n p rest true e = rw (cond-true (ends_block s p) [] (reading_from s o n (suc p)) e) e
 whole-by s o n p rest false e =
-    rw (if-false (ends_block s p) [] (reading_from s o n (suc p)) e) (reading-cons s.settings.invisible (seen_at s o p) (reading_from s o n (suc p)) e rest)
+    rw (cond-false (ends_block s p) [] (reading_from s o n (suc p)) e) (reading-cons s.settings.invisible (seen_at s o p) (reading_from s o n (suc p)) e rest)
 
 whole-from : (s : BufferValue) (o : ObjectLists) (n p : ℕ) → p + n ≡ s.text.end → IsReading s.settings.invisible (reading_from s o n p)
 whole-from s o zero p far =

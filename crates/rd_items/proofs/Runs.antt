@@ -1,6 +1,7 @@
 -- Runs of replaced and hidden positions.
-use Rattle.std.proofs.Common.{◌≡◌, ℕ, ◌+◌, ◌-◌, ◌<◌, ◌≤◌, Bool, true, false, List, [], ◌∷◌, Option, Some, None, refl, ap, ◌∙◌, arith, add-one}
-use Rattle.std.specs.Prelude.{zero, suc, not, ◌&&◌, ◌||◌, is_some, if◌then◌else◌}
+use Rattle.std.proofs.Common.{◌≡◌, ℕ, ◌+◌, ◌-◌, ◌<◌, ◌≤◌, true, false, List, [], ◌∷◌, Option, Some, None, refl, ap, ◌∙◌, arith, add-one}
+use Rattle.std.specs.Prelude.{zero, suc, not, is_some, if◌then◌else◌}
+use Rattle.std.proofs.lemmas.Bool.{and_parts, and_left, and_right, or_from, not-true, both_ways, cond-false, false_from_ne_true}
 use Rattle.std.proofs.lemmas.Bool.Decides.{nat_tests}
 use Rattle.rd_props.specs.Buffers.{BufferValue}
 use Rattle.rd_items.specs.declared.showing.Showing.{Showing}
@@ -25,43 +26,26 @@ spec-alone : (spec other : Option ℕ) → is_some spec ≡ false → same_spec 
 spec-alone None other none = refl
 spec-alone (Some n) other none = cc
 
-both-false : (a b : Bool) → (not a && not b) ≡ true → (a ≡ false) × (b ≡ false)
-both-false true b e = cc
-both-false false true e = cc
-both-false false false e = (refl, refl)
-
-neither : (a b c : Bool) → a ≡ false → c ≡ false → (a || (b && c)) ≡ false
-neither true b c e f = cc
-neither false true c e f = f
-neither false false c e f = refl
-
-neither-first : (a b c : Bool) → a ≡ false → b ≡ false → (a || (b && c)) ≡ false
-neither-first true b c e f = cc
-neither-first false true c e f = cc
-neither-first false false c e f = refl
-
 -- an open position belongs to no run
 pub open-stops : (first next : Showing) → is_open next ≡ true → goes_on first next ≡ false
 open-stops first next shown =
-    let parts = both-false (is_some next.display) (is_hidden next.hidden) shown in
-    neither (same_spec first.display next.display) (is_hidden first.hidden) (is_hidden next.hidden) (spec-stops first.display next.display parts.0) parts.1
+    let parts = and_parts (not (is_some next.display)) (not (is_hidden next.hidden)) shown in
+    let hides = and_right (is_hidden first.hidden) (is_hidden next.hidden) (not-true (is_hidden next.hidden) parts.1) in
+    or_from (same_spec first.display next.display) _ (spec-stops first.display next.display (not-true (is_some next.display) parts.0)) hides
 
 open-begins : (first next : Showing) → is_open first ≡ true → goes_on first next ≡ false
 open-begins first next shown =
-    let parts = both-false (is_some first.display) (is_hidden first.hidden) shown in
-    neither-first (same_spec first.display next.display) (is_hidden first.hidden) (is_hidden next.hidden) (spec-alone first.display next.display parts.0) parts.1
+    let parts = and_parts (not (is_some first.display)) (not (is_hidden first.hidden)) shown in
+    let hides = and_left (is_hidden first.hidden) (is_hidden next.hidden) (not-true (is_hidden first.hidden) parts.1) in
+    or_from (same_spec first.display next.display) _ (spec-alone first.display next.display (not-true (is_some first.display) parts.0)) hides
 
 -- nor does it begin one
 pub open-alone : (setting : Invisible) (first : Showing) (es : List Seen) → is_open first ≡ true → run_length setting first es ≡ 0
 open-alone setting first [] shown = refl
 open-alone setting first (e ∷ es) shown = rw (open-begins first (showing_of setting e) shown)
 
-first-true : (a b : Bool) → (a && b) ≡ true → a ≡ true
-first-true true b e = refl
-first-true false b e = e
-
 pub ender-open : (s : BufferValue) (o : ObjectLists) (p : ℕ) → ends_block s p ≡ true → is_open (showing_at s o p) ≡ true
-ender-open s o p ender = first-true (is_open (showing_at s o p)) (ends_line (accessible_char s.text p)) ender
+ender-open s o p ender = (and_parts (is_open (showing_at s o p)) (ends_line (accessible_char s.text p)) ender).0
 
 -- what is read at a position before the end
 pub reading-step : (s : BufferValue) (o : ObjectLists) (p : ℕ) → p < s.text.end → reading s o p ≡ seen_at s o p ∷ (if ends_block s p then [] else reading s o (suc p))
@@ -74,27 +58,16 @@ reading-end s o p end =
     let n : s.text.end - p ≡ 0 = omega arith in
     rw n
 
-pub not-both : (a : Bool) → a ≡ true → a ≡ false → ⊥
-not-both a e f = cc
-
-pub if-false : {A : Type 0} (test : Bool) (a b : A) → test ≡ false → (if test then a else b) ≡ b
-if-false true a b e = cc
-if-false false a b e = refl
-
-pub false-unless : (test : Bool) → (test ≡ true → ⊥) → test ≡ false
-false-unless true none = absurd (none refl)
-false-unless false none = refl
-
 -- a replaced or hidden position stands before the end, and what is read behind it is what is read at the next
 pub closed-before : (s : BufferValue) (o : ObjectLists) (p : ℕ) → p ≤ s.text.end → is_open (showing_at s o p) ≡ false → p < s.text.end
 closed-before s o p within closed =
-    let differs : p ≡ s.text.end → ⊥ = λ e. not-both (is_open (showing_at s o p)) (rw e (end-open s o)) closed in
+    let differs : p ≡ s.text.end → ⊥ = λ e. both_ways (is_open (showing_at s o p)) closed (rw e (end-open s o)) in
     grind arith
 
 pub behind-closed : (s : BufferValue) (o : ObjectLists) (p : ℕ) → p < s.text.end → is_open (showing_at s o p) ≡ false → behind (reading s o p) ≡ reading s o (suc p)
 behind-closed s o p before closed =
-    let ender = false-unless (ends_block s p) (λ e. not-both (is_open (showing_at s o p)) (ender-open s o p e) closed) in
-    ap behind (reading-step s o p before) ∙ if-false (ends_block s p) [] (reading s o (suc p)) ender
+    let ender = false_from_ne_true (ends_block s p) (λ e. both_ways (is_open (showing_at s o p)) closed (ender-open s o p e)) in
+    ap behind (reading-step s o p before) ∙ cond-false (ends_block s p) [] (reading s o (suc p)) ender
 
 -- an open position's run ends behind it
 pub open-end : (s : BufferValue) (o : ObjectLists) (p : ℕ) (showing : Showing) → is_open showing ≡ true → p + 1 ≡ suc p + run_length s.settings.invisible showing (behind (reading s o p))
@@ -105,9 +78,9 @@ open-end s o p showing shown =
 -- one position more belongs to a run
 pub run-more : (s : BufferValue) (o : ObjectLists) (p : ℕ) (showing : Showing) → p < s.text.end → goes_on showing (showing_at s o p) ≡ true → run_length s.settings.invisible showing (reading s o p) ≡ suc (run_length s.settings.invisible showing (reading s o (suc p)))
 run-more s o p showing before more =
-    let closed = false-unless (is_open (showing_at s o p)) (λ e. not-both (goes_on showing (showing_at s o p)) more (open-stops showing (showing_at s o p) e)) in
-    let ender = false-unless (ends_block s p) (λ e. not-both (is_open (showing_at s o p)) (ender-open s o p e) closed) in
-    let rest = if-false (ends_block s p) [] (reading s o (suc p)) ender in
+    let closed = false_from_ne_true (is_open (showing_at s o p)) (λ e. both_ways (goes_on showing (showing_at s o p)) (open-stops showing (showing_at s o p) e) more) in
+    let ender = false_from_ne_true (ends_block s p) (λ e. both_ways (is_open (showing_at s o p)) closed (ender-open s o p e)) in
+    let rest = cond-false (ends_block s p) [] (reading s o (suc p)) ender in
     ap (run_length s.settings.invisible showing) (reading-step s o p before) ∙ rw (more, rest)
 
 -- a run behind its first position

@@ -1,6 +1,7 @@
 -- One step over the positions of a block.
 use Rattle.std.proofs.Common.{◌≡◌, ℕ, ◌+◌, ◌-◌, ◌<◌, ◌≤◌, Bool, true, false, List, [], ◌∷◌, ◌++◌, Option, refl, sym, ap, ◌∙◌, arith}
 use Rattle.std.specs.Prelude.{zero, suc, ◌&&◌, if◌then◌else◌}
+use Rattle.std.proofs.lemmas.Bool.{both_ways, cond-false, false_from_ne_true}
 use Rattle.rd_base.specs.declared.settings.Invisible.{Invisible}
 use Rattle.rd_ucd.specs.Data.{Data}
 use Rattle.rd_objects.specs.Things.{ObjectLists}
@@ -14,7 +15,7 @@ use Rattle.rd_items.specs.Readings.{showing_of, showing_at, is_open, ends_line, 
 use Rattle.rd_items.specs.Pieces.{Scene, scene_in, string_pieces, piece_at, goes_on, run_length, pieces_from}
 use Rattle.rd_items.specs.Walks.{pieces_left}
 use Rattle.rd_items.proofs.Reach.{end-ends}
-use Rattle.rd_items.proofs.Runs.{end-open, open-stops, ender-open, not-both, if-false, false-unless, reading-step}
+use Rattle.rd_items.proofs.Runs.{end-open, open-stops, ender-open, reading-step}
 
 -- the scene of a buffer, and the pieces of a position at an offset and of those after it
 abbrev scene : BufferValue → ObjectLists → Data → Scene
@@ -68,9 +69,9 @@ skipped s o d first (suc n) k p far = skips-by (skipped s o d first n (suc k) (s
   skips-by rest false none =
       skips-none s o d first (suc n) k p far (length-none s.settings.invisible first (seen_at s o p) (if ends_block s p then [] else reading_from s o n (suc p)) none)
   skips-by rest true more =
-      let closed = false-unless (is_open (showing_at s o p)) (λ e. not-both (goes_on first (showing_at s o p)) more (open-stops first (showing_at s o p) e)) in
-      let ender = false-unless (ends_block s p) (λ e. not-both (is_open (showing_at s o p)) (ender-open s o p e) closed) in
-      let es = if-false (ends_block s p) [] (reading_from s o n (suc p)) ender in
+      let closed = false_from_ne_true (is_open (showing_at s o p)) (λ e. both_ways (goes_on first (showing_at s o p)) (open-stops first (showing_at s o p) e) more) in
+      let ender = false_from_ne_true (ends_block s p) (λ e. both_ways (is_open (showing_at s o p)) closed (ender-open s o p e)) in
+      let es = cond-false (ends_block s p) [] (reading_from s o n (suc p)) ender in
       rw es (skips-more s o d first (seen_at s o p) (reading_from s o n (suc p)) k p more rest)
 
 -- what is read at a position, and behind it
@@ -89,7 +90,7 @@ behind-ender s o p within ender = by-place (s.text.end - p) where
 
 pub before-end : (s : BufferValue) (o : ObjectLists) (p : ℕ) → p ≤ s.text.end → ends_block s p ≡ false → p < s.text.end
 before-end s o p within ender =
-    let differs : p ≡ s.text.end → ⊥ = λ e. not-both (ends_block s p) (rw e (end-ends s o)) ender in
+    let differs : p ≡ s.text.end → ⊥ = λ e. both_ways (ends_block s p) ender (rw e (end-ends s o)) in
     grind arith
 
 -- how far the run of a position goes behind it
@@ -104,7 +105,7 @@ left-parts s o d k p within = ap (pieces_from (scene s o d) 0 k) (reading-behind
 behind-left : (s : BufferValue) (o : ObjectLists) (d : Data) (first : Showing) (k p : ℕ) → p ≤ s.text.end → ends_block s p ≡ false → IsSkipped s o d first (suc k) (suc p) (behind (reading s o p))
 behind-left s o d first k p within ender =
     let before = before-end s o p within ender in
-    let rest = ap behind (reading-step s o p before) ∙ if-false (ends_block s p) [] (reading s o (suc p)) ender in
+    let rest = ap behind (reading-step s o p before) ∙ cond-false (ends_block s p) [] (reading s o (suc p)) ender in
     rw rest (skipped s o d first (s.text.end - suc p) (suc k) (suc p) (omega arith))
 
 -- a step from a position at an offset: it puts the strings before it, and then its piece, which ends before another position

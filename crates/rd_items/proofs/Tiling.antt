@@ -1,6 +1,7 @@
 -- What the items of a block cover, and how they end.
 use Rattle.std.proofs.Common.{◌≡◌, inl, inr, ℕ, ◌<◌, ◌≤◌, Bool, true, false, List, [], ◌∷◌, ◌++◌, length, Option, Some, None, refl, sym, ◌∙◌, arith}
 use Rattle.std.specs.Prelude.{not, ◌&&◌, nat_lt}
+use Rattle.std.proofs.lemmas.Bool.{and_right, both_ways}
 use Rattle.std.proofs.lemmas.Bool.Decides.{nat_tests}
 use Rattle.std.proofs.lemmas.List.Elements.{All-cons, All-nil}
 use Rattle.rd_glyphs.specs.Marks.{marks_joined}
@@ -14,16 +15,14 @@ use Rattle.rd_items.specs.Items.{piece_joins, kind_gives, item_of, items_by, cov
 use Rattle.rd_items.specs.Covers.{Tile, CoverWhereTheyGive, is_ender_kind, EndOnce}
 use Rattle.rd_items.proofs.Chains.{IsLink, IsInner, Chain, reading-chain}
 
-differ : (b : Bool) → b ≡ true → b ≡ false → ⊥
-differ b e f = cc
-
-and-false : (b : Bool) → (b && false) ≡ false
-and-false true = refl
-and-false false = refl
-
 -- a piece that shows nothing covers nothing
 shows-none : (s : Scene) (p : ℕ) (x : Piece) → IsLink s p x → x.kind ≡ None → x.covers ≡ false
-shows-none s p x link e = link.gives ∙ rw (e, and-false (not x.overlay))
+shows-none s p x link e = link.gives ∙ rw (e, and_right (not x.overlay) false refl)
+
+-- a piece covers no offset behind its end
+no-later : (s : Scene) (since p : ℕ) (x : Piece) → since ≤ p → IsLink s p x → (covers : Bool) → x.covers ≡ covers → covered_to since x ≤ x.to
+no-later s since p x within link true f = rw f (omega arith)
+no-later s since p x within link false f = rw f (omega (arith, link.ordered))
 
 -- ---- each offset is covered once
 
@@ -37,7 +36,7 @@ tile-by s since p to x xs within link later same (Some kind) false e f = rw (e, 
 tile : (s : Scene) (since p to : ℕ) (xs : List Piece) → since ≤ p → Chain s p to xs → Tile since to (covering since xs)
 tile s since p to [] within chain = absurd chain
 tile s since p to (x ∷ []) within chain =
-    tile-by s since p to x [] within chain.link chain.ends (λ none. absurd (differ x.covers chain.covers none)) x.kind x.covers refl refl
+    tile-by s since p to x [] within chain.link chain.ends (λ none. absurd (both_ways x.covers none chain.covers)) x.kind x.covers refl refl
 tile s since p to (x ∷ y ∷ xs) within chain =
     tile-by s since p to x (y ∷ xs) within chain.0.link (tile s x.to x.to to (y ∷ xs) (omega arith) chain.1) (λ none. tile s since x.to to (y ∷ xs) (omega (arith, chain.0.link.ordered)) chain.1) x.kind x.covers refl refl
 
@@ -68,10 +67,7 @@ give s since p to (x ∷ []) within chain =
     give-by s since p x [] within chain.link (All-nil (λ (i : Item). nat_lt i.from i.to ≡ (not i.overlay && kind_gives s i.kind))) x.kind x.covers refl refl
 give s since p to (x ∷ y ∷ xs) within chain =
     give-by s since p x (covering (covered_to since x) (y ∷ xs)) within chain.0.link
-    (give s (covered_to since x) x.to to (y ∷ xs) (no-later x.covers refl) chain.1) x.kind x.covers refl refl where
-      no-later : (covers : Bool) → x.covers ≡ covers → covered_to since x ≤ x.to
-      no-later true f = rw f (omega arith)
-      no-later false f = rw f (omega (arith, chain.0.link.ordered))
+    (give s (covered_to since x) x.to to (y ∷ xs) (no-later s since p x within chain.0.link x.covers refl) chain.1) x.kind x.covers refl refl
 
 pub reading-gives : (s : Scene) (es : List Seen) → IsReading s.parts.settings.invisible es → CoverWhereTheyGive s (items_of s es)
 reading-gives s es well = give s 0 0 (length es) (marks_joined piece_joins (pieces_from s 0 0 es)) (omega arith) (reading-chain s es well)
@@ -88,11 +84,13 @@ end-by s since p x items inner rest (Some k) e =
     let none : is_ender_kind k ≡ false = rw e at inner.inner in
     rw e (end-cons (item_of since x k) items none rest)
 
-end : (s : Scene) (since p to : ℕ) (xs : List Piece) → Chain s p to xs → EndOnce (covering since xs)
-end s since p to [] chain = absurd chain
-end s since p to (x ∷ []) chain = rw chain.kind refl
-end s since p to (x ∷ y ∷ xs) chain =
-    end-by s since p x (covering (covered_to since x) (y ∷ xs)) chain.0 (end s (covered_to since x) x.to to (y ∷ xs) chain.1) x.kind refl
+end : (s : Scene) (since p to : ℕ) (xs : List Piece) → since ≤ p → Chain s p to xs → EndOnce (covering since xs)
+end s since p to [] within chain = absurd chain
+end s since p to (x ∷ []) within chain =
+    rw (chain.kind, chain.covers) (record { kind = refl; class = chain.class; some = omega (arith, within, chain.link.some chain.covers) })
+end s since p to (x ∷ y ∷ xs) within chain =
+    end-by s since p x (covering (covered_to since x) (y ∷ xs)) chain.0
+    (end s (covered_to since x) x.to to (y ∷ xs) (no-later s since p x within chain.0.link x.covers refl) chain.1) x.kind refl
 
 pub reading-ends : (s : Scene) (es : List Seen) → IsReading s.parts.settings.invisible es → EndOnce (items_of s es)
-reading-ends s es well = end s 0 0 (length es) (marks_joined piece_joins (pieces_from s 0 0 es)) (reading-chain s es well)
+reading-ends s es well = end s 0 0 (length es) (marks_joined piece_joins (pieces_from s 0 0 es)) (omega arith) (reading-chain s es well)

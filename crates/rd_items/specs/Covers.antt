@@ -1,5 +1,6 @@
 -- What items cover, and how they end.
 use Rattle.std.specs.Prelude.{◌≡◌, ◌⊎◌, ℕ, ◌<◌, nat_lt, Bool, true, false, not, ◌&&◌, List, [], ◌∷◌, All}
+use Rattle.rd_base.specs.declared.class.Class.TheVariants.{B}
 use Rattle.rd_items.specs.Pieces.{Scene}
 use Rattle.rd_items.specs.Items.{kind_gives}
 use Rattle.rd_items.specs.declared.item.Item.{Item}
@@ -20,8 +21,14 @@ abbrev pub is_ender_kind : ItemKind → Bool
 is_ender_kind kind.Ender = true
 is_ender_kind k = false
 
+-- an ender is a separator of paragraphs and covers the position that ends the block
+pub record IsEnder (x : Item) : Type 0 where
+  pub kind : is_ender_kind x.kind ≡ true
+  pub class : x.class ≡ B
+  pub some : x.from < x.to
+
 -- the last item is an ender, and no other is
 abbrev pub EndOnce : List Item → Type 0
 EndOnce [] = ⊥
-EndOnce (x ∷ []) = is_ender_kind x.kind ≡ true
+EndOnce (x ∷ []) = IsEnder x
 EndOnce (x ∷ y ∷ xs) = (is_ender_kind x.kind ≡ false) × EndOnce (y ∷ xs)

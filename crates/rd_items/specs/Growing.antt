@@ -1,6 +1,6 @@
 -- Scenes that show alike what is read, since no object that it names has changed.
-use Rattle.std.specs.Prelude.{◌≡◌, ◌<◌, false, List, length, All}
-use Rattle.rd_base.specs.Settings.{SettingValues}
+use Rattle.std.specs.Prelude.{◌≡◌, ◌<◌, List, length, All}
+use Rattle.rd_base.specs.Settings.{without_flags}
 use Rattle.rd_objects.specs.Sound.{Extends}
 use Rattle.rd_objects.specs.Things.{ObjectLists}
 use Rattle.rd_props.specs.Made.{SeesMade}
@@ -22,10 +22,6 @@ ShowsMade o k = Unit {0}
 -- each string that items show was made
 abbrev pub ShowMade : ObjectLists → List Item → Type 0
 ShowMade o items = All (λ item. ShowsMade o item.kind) items
-
--- settings without the two flags that no line depends on
-abbrev pub without_flags : SettingValues → SettingValues
-without_flags settings = record settings { modified = false; read_only = false }
 
 -- a scene that goes on from another: objects were only made, the two flags may be others, and all else is the same
 pub record GoesOnFrom (old new : Scene) : Type 0 where

@@ -1,6 +1,6 @@
 //! What holds of blocks and of their items, proved of the definitions.
 ghost use Rattle.std.specs.Prelude.{◌≡◌, ℕ, ◌+◌, ◌≤◌, List, length, slice_get, Some, None};
-ghost use Rattle.rd_base.specs.Settings.{SettingValues};
+ghost use Rattle.rd_base.specs.Settings.{SettingValues, without_flags};
 ghost use Rattle.rd_ucd.specs.Data.{Data};
 ghost use Rattle.rd_objects.specs.Sound.{IsClosed, Extends};
 ghost use Rattle.rd_objects.specs.Things.{ObjectLists};
@@ -12,7 +12,7 @@ ghost use Rattle.rd_items.specs.Blocks.{blocks_of, Adjoin, IsBlock};
 ghost use Rattle.rd_items.specs.Pieces.{Scene, table_in, scene_in};
 ghost use Rattle.rd_items.specs.Items.{items_of, AreMeasuredItems};
 ghost use Rattle.rd_items.specs.Covers.{Tile, CoverWhereTheyGive, EndOnce};
-ghost use Rattle.rd_items.specs.Growing.{ReadsMade, ShowMade, without_flags, GoesOnFrom};
+ghost use Rattle.rd_items.specs.Growing.{ReadsMade, ShowMade, GoesOnFrom};
 
 use rd_glyphs::marks_join_measured_glyphs;
 use rd_props::made_objects_alone_are_seen;

@@ -1,13 +1,14 @@
 use Rattle.std.proofs.Common.{sym, ◌∙◌, arith}
 use Rattle.rd_props.specs.Buffers.{meaning}
-use Rattle.rd_items.proofs.Newlines.{next-bound, next-inside, next-newline, step-on}
+use Rattle.rd_text.proofs.Searches.{next_bound}
+use Rattle.rd_items.proofs.Newlines.{next-inside, next-newline, step-on}
 use Rattle.rd_items.proofs.block.block_end.Goals as goal
 
 pub loop-newline-init : goal.loop-newline-init
 loop-newline-init c =
     let s = meaning c.args.view.now.state.now in
     let right = c.end-end.ensures.right in
-    let bound = next-bound s right c.args.pos c.requires.0 c.requires.1 in
+    let bound = next_bound s.text right c.args.pos c.requires.0 c.requires.1 in
     rw c.next_newline-newline.ensures (record {
       ordered = bound.0;
       within = omega (arith, bound.1);
@@ -21,7 +22,7 @@ loop-newline-preserved c =
     let right = c.end-end.ensures.right in
     let stretch = c.in_ok-stretch.ensures in
     let within = stretch.within (omega arith) in
-    let bound = next-bound s right c.in_ok-stretch.stretch.until (omega (arith, stretch.some)) within in
+    let bound = next_bound s.text right c.in_ok-stretch.stretch.until (omega (arith, stretch.some)) within in
     rw c.next_newline-newline-in-loop-newline.ensures (record {
       ordered = omega (arith, bound.0, stretch.some);
       within = omega (arith, bound.1);

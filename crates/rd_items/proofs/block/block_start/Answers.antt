@@ -1,13 +1,14 @@
 use Rattle.std.proofs.Common.{sym, inr, ◌∙◌, ◌-◌, arith}
 use Rattle.rd_props.specs.Buffers.{meaning}
-use Rattle.rd_items.proofs.Newlines.{prev-bound, prev-inside, prev-newline, step-back, open-newline}
+use Rattle.rd_text.proofs.Searches.{prev_bound}
+use Rattle.rd_items.proofs.Newlines.{prev-inside, prev-newline, step-back, open-newline}
 use Rattle.rd_items.proofs.block.block_start.Goals as goal
 
 pub loop-from-init : goal.loop-from-init
 loop-from-init c =
     let s = meaning c.args.view.now.state.now in
     let right = c.begin-begin.ensures.right in
-    let bound = prev-bound s right c.args.pos c.requires.0 c.requires.1 in
+    let bound = prev_bound s.text right c.args.pos c.requires.0 c.requires.1 in
     rw c.prev_newline-from.ensures (record {
       ordered = bound.1;
       within = omega (arith, bound.0);
@@ -22,7 +23,7 @@ loop-from-preserved c =
     let before = c.in_ok-before.ensures in
     let within = before.within in
     let some = before.some in
-    let bound = prev-bound s right c.in_ok-before.before.from within (omega arith) in
+    let bound = prev_bound s.text right c.in_ok-before.before.from within (omega arith) in
     rw c.prev_newline-from-in-loop-from.ensures (record {
       ordered = omega (arith, bound.1);
       within = omega (arith, bound.0);
