@@ -13,7 +13,7 @@ use Rattle.rd_explicit.specs.Follow.{bd13_follower, x10_level_behind}
 use Rattle.rd_explicit.specs.Links.{link_at, chain, chain_end, gathered, seq_at, IsLinkedFrom, LeadsOn, unmatched, first_of, beginning, without_beginning}
 use Rattle.rd_explicit.specs.Sequences.{partner_of, x9_items}
 use Rattle.rd_explicit.proofs.Chains.{gathered-step, bd13_follower-within, Within, chain-on, end-on}
-use Rattle.rd_explicit.proofs.Walks.{drop-read}
+use Rattle.rd_base.proofs.Lists.{drop-at}
 
 length-without : (f : Option ℕ) (bs : List Bool) → length (without_beginning f bs) ≡ length bs
 length-without None bs = refl
@@ -29,8 +29,8 @@ module _ (base i : ℕ) (classes : List Class) (levels : List ℕ) (c : Class) (
   pub joins-removed : is_removed c ≡ true → new.links ≡ old.links → new.begins ≡ set old.begins i false → new.first ≡ old.first
       → IsLinkedFrom base i (drop i classes) (drop i levels) new
   joins-removed removed links begins first =
-      let at_class = drop-read classes i c within read_class in
-      let at_level = drop-read levels i l (omega arith) read_level in
+      let at_class = drop-at classes i c read_class in
+      let at_level = drop-at levels i l read_level in
       let at_links : drop i new.links ≡ link_at old.links i ∷ drop (i + 1) old.links = ap (drop i) links ∙ drop_more old.links i _ (omega arith) in
       let at_begins : drop i new.begins ≡ false ∷ drop (i + 1) old.begins = ap (drop i) begins ∙ drop-set old.begins i false (omega arith) in
       record {
@@ -48,8 +48,8 @@ module _ (base i : ℕ) (classes : List Class) (levels : List ℕ) (c : Class) (
   joins-item partner f k stays matches follows next eos links begins first =
       let cs = drop (i + 1) classes in
       let ls = drop (i + 1) levels in
-      let at_class = drop-read classes i c within read_class in
-      let at_level = drop-read levels i l (omega arith) read_level in
+      let at_class = drop-at classes i c read_class in
+      let at_level = drop-at levels i l read_level in
       let at_links : drop i new.links ≡ k ∷ drop (i + 1) old.links = ap (drop i) links ∙ drop-set old.links i k (omega arith) in
       let at_begins : drop i new.begins ≡ true ∷ drop (i + 1) (without_beginning f old.begins) =
       ap (drop i) begins ∙ drop-set (without_beginning f old.begins) i true (omega (arith, length-without f old.begins)) in
@@ -149,7 +149,7 @@ gathered-next before i classes levels links begins c l within same_levels same_l
     let within_links : i < length links = omega arith in
     let within_begins : i < length begins = omega arith in
     let none : Link = record { next = None; eos = L } in
-    rw (drop-read classes i c within read_class, drop-read levels i l (omega arith) read_level, drop_more links i none within_links, drop_more begins i false within_begins)
+    rw (drop-at classes i c read_class, drop-at levels i l read_level, drop_more links i none within_links, drop_more begins i false within_begins)
     (elim (get_or begins i false) as (λ b.
     (if b then seq_at links i (direction_of (max l before)) ∷ gathered (if is_removed c then before else l) (i + 1) (drop (i + 1) classes) (drop (i + 1) levels) (drop (i + 1) links) (drop (i + 1) begins)
     else gathered (if is_removed c then before else l) (i + 1) (drop (i + 1) classes) (drop (i + 1) levels) (drop (i + 1) links) (drop (i + 1) begins))

@@ -6,13 +6,14 @@ use Rattle.rd_base.specs.declared.class.Class.{Class}
 use Rattle.rd_explicit.specs.declared.state.State.{State}
 use Rattle.rd_explicit.specs.declared.state.Given.{Given}
 use Rattle.rd_explicit.specs.Explicit.{explicit_from, given, after, levels_of, types_of}
-use Rattle.rd_explicit.proofs.Walks.{drop-read, written}
+use Rattle.rd_base.proofs.Lists.{drop-at}
+use Rattle.rd_explicit.proofs.Walks.{written}
 
 module _ (base : ℕ) (s t : State) (cs : List Class) (i : ℕ) (c : Class) (g : Given)
     (within : i < length cs) (read : slice_get cs i ≡ Some c)
     (gives : g ≡ given base s c (drop (i + 1) cs)) (goes : t ≡ after s c (drop (i + 1) cs)) where
   step-is : explicit_from base s (drop i cs) ≡ g ∷ explicit_from base t (drop (i + 1) cs)
-  step-is = rw (drop-read cs i c within read, gives, goes) refl
+  step-is = rw (drop-at cs i c read, gives, goes) refl
 
   pub levels-step : (ls all : List ℕ) → length ls ≡ length cs
       → take i ls ++ levels_of (explicit_from base s (drop i cs)) ≡ all

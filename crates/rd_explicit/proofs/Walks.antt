@@ -1,11 +1,7 @@
 -- One step of a walk over a line.
-use Rattle.std.proofs.Common.{◌≡◌, ℕ, ◌+◌, ◌<◌, Bool, false, List, [], ◌∷◌, ◌++◌, length, take, drop, set, slice_get, Some, ap, sym, ◌∙◌}
-use Rattle.std.proofs.lemmas.List.{drop_more, take_more_set, append_assoc, set-get_or}
+use Rattle.std.proofs.Common.{◌≡◌, ℕ, ◌+◌, ◌<◌, Bool, false, List, [], ◌∷◌, ◌++◌, length, take, set, slice_get, Some, ap, sym, ◌∙◌}
+use Rattle.std.proofs.lemmas.List.{take_more_set, append_assoc, set-get_or}
 use Rattle.std.proofs.lemmas.Option.{get_or_from_slice_get}
-
--- an element that was read heads what is left
-pub drop-read : {X : Type 0} (xs : List X) (i : ℕ) (x : X) → i < length xs → slice_get xs i ≡ Some x → drop i xs ≡ x ∷ drop (i + 1) xs
-drop-read xs i x within read = drop_more xs i x within ∙ ap (λ y. y ∷ drop (i + 1) xs) (get_or_from_slice_get xs i x x read)
 
 -- what is done and what is left, after one more write
 pub written : {X : Type 0} (xs : List X) (i : ℕ) (y : X) (rest all : List X) → i < length xs
