@@ -1,7 +1,8 @@
 -- One step of a walk over a sequence of a line.
 use Rattle.std.proofs.Common.{◌≡◌, ◌≢◌, ℕ, suc, ◌+◌, ◌<◌, ◌≤◌, List, [], ◌∷◌, length, drop, set, get_or, slice_get, Some, All, AllPairs, refl, ap, ap₂, ◌∙◌, arith}
-use Rattle.std.proofs.lemmas.List.{drop_more, drop_all, get_or-drop, get_or-set_other, length-drop}
-use Rattle.std.proofs.lemmas.Option.{get_or_from_slice_get}
+use Rattle.std.proofs.lemmas.List.{drop_all, get_or-drop, get_or-set_other, length-drop}
+use Rattle.std.proofs.lemmas.Option.{get_or_from_slice_get, slice_get_within}
+use Rattle.rd_base.proofs.Lists.{drop-at}
 use Rattle.rd_base.specs.declared.class.Class.{Class}
 use Rattle.rd_base.specs.declared.class.Class.TheVariants.{L}
 use Rattle.rd_resolve.specs.Places.{types_at, levels_at, put_at}
@@ -11,16 +12,13 @@ types_apart [] ts i v apart = refl
 types_apart (j ∷ js) ts i v apart =
     ap₂ ◌∷◌ (get_or-set_other ts i j v L (apart 0 (omega arith))) (types_apart js ts i v (λ m h. apart (suc m) (omega arith)))
 
-module _ (is : List ℕ) (k i : ℕ) (within : k < length is) (read : slice_get is k ≡ Some i) where
-  at_place : drop k is ≡ i ∷ drop (k + 1) is
-  at_place = drop_more is k i within ∙ ap (λ j. j ∷ drop (k + 1) is) (get_or_from_slice_get is k i i read)
-
+module _ (is : List ℕ) (k i : ℕ) (read : slice_get is k ≡ Some i) where
   -- what is left begins with the type, and the level, that was read
   pub types-read : (ts : List Class) (c : Class) → slice_get ts i ≡ Some c → types_at (drop k is) ts ≡ c ∷ types_at (drop (k + 1) is) ts
-  types-read ts c here = rw at_place (ap (λ t. t ∷ types_at (drop (k + 1) is) ts) (get_or_from_slice_get ts i c L here))
+  types-read ts c here = rw (drop-at is k i read) (ap (λ t. t ∷ types_at (drop (k + 1) is) ts) (get_or_from_slice_get ts i c L here))
 
   pub levels-read : (ls : List ℕ) (l : ℕ) → slice_get ls i ≡ Some l → levels_at (drop k is) ls ≡ l ∷ levels_at (drop (k + 1) is) ls
-  levels-read ls l here = rw at_place (ap (λ t. t ∷ levels_at (drop (k + 1) is) ls) (get_or_from_slice_get ls i l 0 here))
+  levels-read ls l here = rw (drop-at is k i read) (ap (λ t. t ∷ levels_at (drop (k + 1) is) ls) (get_or_from_slice_get ls i l 0 here))
 
   -- a write leaves the types behind it
   pub types-kept : AllPairs (λ a b. a < b) is → (ts : List Class) (v : Class) → types_at (drop (k + 1) is) (set ts i v) ≡ types_at (drop (k + 1) is) ts
@@ -32,7 +30,16 @@ module _ (is : List ℕ) (k i : ℕ) (within : k < length is) (read : slice_get 
       omega arith)
 
   pub put-step : (v : Class) (vs ts : List Class) → put_at (drop k is) (v ∷ vs) ts ≡ put_at (drop (k + 1) is) vs (set ts i v)
-  put-step v vs ts = rw at_place refl
+  put-step v vs ts = rw (drop-at is k i read) refl
+
+  -- the index that was read lies within the line
+  pub read-within : (n : ℕ) → All (λ j. j < n) is → i < n
+  read-within n within = rw (get_or_from_slice_get is k i i read) at (within k i (slice_get_within is k i read))
+
+-- the types behind, by the rest of the indexes and the types that the code passes on
+pub types-behind : (is : List ℕ) (k : ℕ) (ts : List Class) (js all : List ℕ) (us : List Class) → js ≡ drop k all → all ≡ is → us ≡ ts
+    → types_at js us ≡ types_at (drop k is) ts
+types-behind is k ts js all us back whole here = ap₂ types_at (back ∙ ap (drop k) whole) here
 
 -- the indexes behind lie within the line too
 pub behind-within : (is : List ℕ) (k n : ℕ) → All (λ i. i < n) is → All (λ i. i < n) (drop k is)

@@ -1,13 +1,11 @@
 -- One step of the walk that raises a line's levels (I1, I2).
 use Rattle.std.proofs.Common.{◌≡◌, ℕ, ◌+◌, ◌<◌, ◌≤◌, true, false, if◌then◌else◌, List, [], ◌∷◌, ◌++◌, length, take, drop, set, get_or, slice_get, Some, All, refl, ap, sym, ◌∙◌, add-zero, arith}
-use Rattle.std.proofs.lemmas.List.{drop_more, drop-set-lt, drop-drop, take_more_set, get_or-drop, append_assoc}
+use Rattle.std.proofs.lemmas.List.{drop-set-lt, drop-drop, take_more_set, get_or-drop, append_assoc}
 use Rattle.std.proofs.lemmas.Option.{get_or_from_slice_get}
+use Rattle.rd_base.proofs.Lists.{drop-at}
 use Rattle.rd_base.specs.Classes.{is_removed}
 use Rattle.rd_base.specs.declared.class.Class.{Class}
 use Rattle.rd_resolve.specs.Implicit.{raised, i1_i2, kept}
-
-pub drop-read : {X : Type 0} (xs : List X) (i : ℕ) (x : X) → i < length xs → slice_get xs i ≡ Some x → drop i xs ≡ x ∷ drop (i + 1) xs
-drop-read xs i x within read = drop_more xs i x within ∙ ap (λ y. y ∷ drop (i + 1) xs) (get_or_from_slice_get xs i x x read)
 
 front : (xs : List ℕ) (i : ℕ) → get_or (drop i xs) 0 0 ≡ get_or xs i 0
 front xs i = get_or-drop i xs 0 0 ∙ ap (λ j. get_or xs j 0) (add-zero i)
@@ -35,9 +33,9 @@ pub raise-step : (before v i : ℕ) (cs ts : List Class) (ls all : List ℕ) (c 
     → take i ls ++ kept before (drop i cs) (i1_i2 (drop i ts) (drop i ls)) ≡ all
     → take (i + 1) (set ls i v) ++ kept v (drop (i + 1) cs) (i1_i2 (drop (i + 1) ts) (drop (i + 1) ls)) ≡ all
 raise-step before v i cs ts ls all c t l within same_ts same_ls read_c read_t read_l e h =
-    let at_cs = drop-read cs i c within read_c in
-    let at_ts = drop-read ts i t (omega arith) read_t in
-    let at_ls = drop-read ls i l (omega arith) read_l in
+    let at_cs = drop-at cs i c read_c in
+    let at_ts = drop-at ts i t read_t in
+    let at_ls = drop-at ls i l read_l in
     let whole : kept before (drop i cs) (i1_i2 (drop i ts) (drop i ls)) ≡ v ∷ kept v (drop (i + 1) cs) (i1_i2 (drop (i + 1) ts) (drop (i + 1) ls)) =
     rw (at_cs, at_ts, at_ls) (kept-step before (raised l t) c (drop (i + 1) cs) _ v e) in
     let fits : i < length ls = omega arith in

@@ -4,7 +4,7 @@ use Rattle.std.proofs.lemmas.List.{drop_more, drop-set, take-set, take-take, get
 use Rattle.std.proofs.lemmas.Option.{get_or_from_slice_get}
 use Rattle.rd_base.specs.declared.class.Class.{Class}
 use Rattle.rd_resolve.specs.Implicit.{is_separator, is_white, l1_resets, l1}
-use Rattle.rd_resolve.proofs.Raising.{drop-read}
+use Rattle.rd_base.proofs.Lists.{drop-at}
 
 -- one character nearer to the front
 module _ (base i j : ℕ) (cs : List Class) (ls old : List ℕ) (c : Class) (l v : ℕ) (white now : Bool)
@@ -13,7 +13,7 @@ module _ (base i j : ℕ) (cs : List Class) (ls old : List ℕ) (c : Class) (l v
     (was : white ≡ l1_resets (drop i cs)) (is : now ≡ (is_separator c || (is_white c && white))) (given : v ≡ (if now then base else l))
     (done : drop i ls ≡ l1 base (drop i cs) (drop i old)) (left : take i ls ≡ take i old) where
   at_cs : drop j cs ≡ c ∷ drop i cs
-  at_cs = drop-read cs j c (omega arith) read_c ∙ ap (λ n. c ∷ drop n cs) next
+  at_cs = drop-at cs j c read_c ∙ ap (λ n. c ∷ drop n cs) next
 
   pub l1-white-step : now ≡ l1_resets (drop j cs)
   l1-white-step = rw at_cs (is ∙ ap (λ b. is_separator c || (is_white c && b)) was)

@@ -4,9 +4,13 @@ use Rattle.rd_resolve.specs.Weak.{strong_after, w2_european_numbers_after_arabic
 use Rattle.rd_resolve.specs.Walks.{w5_run_ends, w5_run_of}
 use Rattle.rd_resolve.proofs.WeakSteps.{w1_type, strong_type, w3_type, w4_type, w5_type, weak-step, w5-run-known, w5-run-is, w1_type-et, w3_type-et, strong_type-et, assembled}
 use Rattle.rd_resolve.proofs.weak_walk.Before.step.Goals as goal
+use Rattle.rd_resolve.proofs.weak_walk.Before.step.Goals.{After-w4_separators-after_w4}
 
-pub w5_run_ends-run-requires-clause-run : goal.w5_run_ends-run-requires-clause-run
-w5_run_ends-run-requires-clause-run c =
+-- the types that the first four rules give
+known : (c : goal.After-w4_separators-after_w4) → let b = c.args.self.now in let cs = types_at c.args.rest.now c.args.types.now in
+    (c.w1_nonspacing_marks-after_w1.result ≡ w1_type b c.args.class cs) × (c.strong_after-strong.result ≡ strong_type b c.args.class cs)
+    × (c.w3_arabic_letters-after_w3.result ≡ w3_type b c.args.class cs) × (c.w4_separators-after_w4.result ≡ w4_type b c.args.class cs)
+known c =
     let b = c.args.self.now in
     let cs = types_at c.args.rest.now c.args.types.now in
     let after_w1 : c.w1_nonspacing_marks-after_w1.result ≡ w1_type b c.args.class cs = c.w1_nonspacing_marks-after_w1.ensures in
@@ -15,18 +19,20 @@ w5_run_ends-run-requires-clause-run c =
     let next : c.w4_next_type-next.result ≡ first_type (w3 (w2 (strong_type b c.args.class cs) (w1 (w1_type b c.args.class cs) cs))) =
     c.w4_next_type-next.ensures ∙ ap₂ (λ m s. first_type (w3 (w2 s (w1 m cs)))) after_w1 strong in
     let after_w4 : c.w4_separators-after_w4.result ≡ w4_type b c.args.class cs = c.w4_separators-after_w4.ensures ∙ ap₂ (λ o n. w4_separators b.w4_before o n) after_w3 next in
+    (after_w1, strong, after_w3, after_w4)
+
+pub w5_run_ends-run-requires-clause-run : goal.w5_run_ends-run-requires-clause-run
+w5_run_ends-run-requires-clause-run c =
+    let b = c.args.self.now in
+    let cs = types_at c.args.rest.now c.args.types.now in
+    let (after_w1, strong, after_w3, after_w4) = known (goal.at.w5_run_ends-run-requires-clause-run c).After-w4_separators-after_w4 in
     λ e. w5-run-known b.w5_run b c.args.class cs c.requires.run (sym after_w4 ∙ e)
 
 pub returns-clause-left : goal.returns-clause-left
 returns-clause-left c =
     let b = c.args.self.now in
     let cs = types_at c.args.rest.now c.args.types.now in
-    let after_w1 : c.w1_nonspacing_marks-after_w1.result ≡ w1_type b c.args.class cs = c.w1_nonspacing_marks-after_w1.ensures in
-    let strong : c.strong_after-strong.result ≡ strong_type b c.args.class cs = c.strong_after-strong.ensures ∙ ap (strong_after b.w2_strong) after_w1 in
-    let after_w3 : c.w3_arabic_letters-after_w3.result ≡ w3_type b c.args.class cs = c.w3_arabic_letters-after_w3.ensures ∙ ap w3_arabic_letters (c.w2_european_numbers_after_arabic-after_w2.ensures ∙ ap (w2_european_numbers_after_arabic b.w2_strong) after_w1) in
-    let next : c.w4_next_type-next.result ≡ first_type (w3 (w2 (strong_type b c.args.class cs) (w1 (w1_type b c.args.class cs) cs))) =
-    c.w4_next_type-next.ensures ∙ ap₂ (λ m s. first_type (w3 (w2 s (w1 m cs)))) after_w1 strong in
-    let after_w4 : c.w4_separators-after_w4.result ≡ w4_type b c.args.class cs = c.w4_separators-after_w4.ensures ∙ ap₂ (λ o n. w4_separators b.w4_before o n) after_w3 next in
+    let (after_w1, strong, after_w3, after_w4) = known (goal.at.returns-clause-left c).After-w4_separators-after_w4 in
     let run : c.w5_run_ends-run.result ≡ w5_run_of (w4_type b c.args.class cs) (w5_run_ends b.w2_strong cs) =
     c.w5_run_ends-run.ensures ∙ ap (λ n. w5_run_of n (w5_run_ends b.w2_strong cs)) after_w4 in
     let after_w5 : c.w5_terminators-after_w5.result ≡ w5_type b c.args.class cs =
@@ -41,12 +47,7 @@ pub returns-clause-run : goal.returns-clause-run
 returns-clause-run c =
     let b = c.args.self.now in
     let cs = types_at c.args.rest.now c.args.types.now in
-    let after_w1 : c.w1_nonspacing_marks-after_w1.result ≡ w1_type b c.args.class cs = c.w1_nonspacing_marks-after_w1.ensures in
-    let strong : c.strong_after-strong.result ≡ strong_type b c.args.class cs = c.strong_after-strong.ensures ∙ ap (strong_after b.w2_strong) after_w1 in
-    let after_w3 : c.w3_arabic_letters-after_w3.result ≡ w3_type b c.args.class cs = c.w3_arabic_letters-after_w3.ensures ∙ ap w3_arabic_letters (c.w2_european_numbers_after_arabic-after_w2.ensures ∙ ap (w2_european_numbers_after_arabic b.w2_strong) after_w1) in
-    let next : c.w4_next_type-next.result ≡ first_type (w3 (w2 (strong_type b c.args.class cs) (w1 (w1_type b c.args.class cs) cs))) =
-    c.w4_next_type-next.ensures ∙ ap₂ (λ m s. first_type (w3 (w2 s (w1 m cs)))) after_w1 strong in
-    let after_w4 : c.w4_separators-after_w4.result ≡ w4_type b c.args.class cs = c.w4_separators-after_w4.ensures ∙ ap₂ (λ o n. w4_separators b.w4_before o n) after_w3 next in
+    let (after_w1, strong, after_w3, after_w4) = known (goal.at.returns-clause-run c).After-w4_separators-after_w4 in
     let run : c.w5_run_ends-run.result ≡ w5_run_of (w4_type b c.args.class cs) (w5_run_ends b.w2_strong cs) =
     c.w5_run_ends-run.ensures ∙ ap (λ n. w5_run_of n (w5_run_ends b.w2_strong cs)) after_w4 in
     w5-run-is c.w5_run_ends-run.result (w4_type b c.args.class cs) (w5_run_ends b.w2_strong cs) _ cs run
