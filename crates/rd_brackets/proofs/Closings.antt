@@ -1,19 +1,13 @@
 -- Where each pair closes, by the place where it opens (N0).
-use Rattle.std.proofs.Common.{◌≡◌, ℕ, zero, suc, ◌+◌, ◌<◌, ◌==◌, false, List, [], ◌∷◌, set, Option, None, Some, refl, sym, ap, ap₂, ◌∙◌, arith}
+use Rattle.std.proofs.Common.{◌≡◌, ℕ, zero, suc, ◌+◌, ◌<◌, false, List, [], ◌∷◌, set, Option, None, Some, refl, sym, ap, ap₂, ◌∙◌, arith}
 use Rattle.std.specs.Prelude.{if◌then◌else◌, map, replicate, unwrap_or}
 use Rattle.std.specs.List.{range_with_len}
-use Rattle.std.proofs.lemmas.Bool.Decides.{Decides-eqb, nat_tests}
+use Rattle.std.proofs.lemmas.Bool.{eq-eqb, ne_eqb}
 use Rattle.rd_base.specs.declared.class.Class.{Class}
 use Rattle.rd_base.specs.declared.class.Class.TheVariants.{NSM, ON}
 use Rattle.rd_brackets.specs.Pairs.{closing_of}
 use Rattle.rd_brackets.specs.Sides.{n0_with_pairs, became, followed, side_taken, n0_with_marks}
 use Rattle.rd_brackets.specs.declared.matching.Pair.{Pair}
-
-unlike : (a b : ℕ) → a < b → (a == b) ≡ false
-unlike a b other = grind (arith, nat_tests)
-
-after : (a b : ℕ) → b < a → (a == b) ≡ false
-after a b less = grind (arith, nat_tests)
 
 -- without pairs
 pub none-close : (a n : ℕ) → map (closing_of []) (range_with_len a n) ≡ replicate n None
@@ -25,7 +19,7 @@ apart : (p : Pair) (ps : List Pair) (a n : ℕ) → p.opening < a → map (closi
 apart p ps a zero less = refl
 apart p ps a (suc n) less =
     ap₂ (λ (t : Option ℕ) (l : List (Option ℕ)). t ∷ l)
-    (sym (ap (λ t. if t then Some p.closing else closing_of ps a) (unlike p.opening a less)))
+    (sym (ap (λ t. if t then Some p.closing else closing_of ps a) (ne_eqb p.opening a (λ e. absurd (omega arith)))))
     (apart p ps (a + 1) n (omega arith))
 
 -- a pair more, written at the place where it opens
@@ -33,11 +27,11 @@ pub close-more : (p : Pair) (ps : List Pair) (a n j : ℕ) → a + j ≡ p.openi
 close-more p ps a zero j at inside = absurd (omega arith)
 close-more p ps a (suc n) zero at inside =
     ap₂ (λ (t : Option ℕ) (l : List (Option ℕ)). t ∷ l)
-    (sym (ap (λ t. if t then Some p.closing else closing_of ps a) ((Decides-eqb p.opening a).1 (omega arith))))
+    (sym (ap (λ t. if t then Some p.closing else closing_of ps a) (eq-eqb p.opening a (omega arith))))
     (apart p ps (a + 1) n (omega arith))
 close-more p ps a (suc n) (suc j) at inside =
     ap₂ (λ (t : Option ℕ) (l : List (Option ℕ)). t ∷ l)
-    (sym (ap (λ t. if t then Some p.closing else closing_of ps a) (let less : a < p.opening = omega arith in after p.opening a less)))
+    (sym (ap (λ t. if t then Some p.closing else closing_of ps a) (ne_eqb p.opening a (λ e. absurd (omega arith)))))
     (close-more p ps (a + 1) n j (omega arith) (omega arith))
 
 -- without pairs the types stay

@@ -1,7 +1,7 @@
 -- The stack of the brackets that stand open, from its top (BD16).
-use Rattle.std.proofs.Common.{◌≡◌, ◌≢◌, ℕ, ◌+◌, ◌<◌, ◌==◌, false, List, [], ◌∷◌, length, take, get_or, reverse, Some, sym, ap, ◌∙◌, arith}
+use Rattle.std.proofs.Common.{◌≡◌, ◌≢◌, ℕ, ◌+◌, ◌<◌, List, [], ◌∷◌, length, take, get_or, reverse, Some, sym, ap, ◌∙◌}
 use Rattle.std.specs.Prelude.{if◌then◌else◌}
-use Rattle.std.proofs.lemmas.Bool.Decides.{Decides-eqb, nat_tests}
+use Rattle.std.proofs.lemmas.Bool.{eq-eqb, ne_eqb}
 use Rattle.std.proofs.lemmas.List.{take_more, reverse-append, get_or_default}
 use Rattle.rd_brackets.specs.Pairs.{opener, below}
 use Rattle.rd_brackets.specs.declared.matching.Opened.{Opened}
@@ -10,21 +10,18 @@ top-of : (xs : List Opened) (n m : ℕ) (d : Opened) → n ≡ m + 1 → m < len
 top-of xs n m d next inside =
     ap (λ k. reverse (take k xs)) next ∙ ap reverse (take_more xs m d inside) ∙ reverse-append (take m xs) (get_or xs m d ∷ [])
 
-unlike : (a b : ℕ) → a ≢ b → (a == b) ≡ false
-unlike a b other = grind (arith, nat_tests)
-
 module _ (code : ℕ) (x : Opened) (os : List Opened) where
   pub opener-here : x.partner ≡ code → opener code (x ∷ os) ≡ Some x.place
-  opener-here same = ap (λ t. if t then Some x.place else opener code os) ((Decides-eqb x.partner code).1 same)
+  opener-here same = ap (λ t. if t then Some x.place else opener code os) (eq-eqb x.partner code same)
 
   pub below-here : x.partner ≡ code → below code (x ∷ os) ≡ os
-  below-here same = ap (λ t. if t then os else below code os) ((Decides-eqb x.partner code).1 same)
+  below-here same = ap (λ t. if t then os else below code os) (eq-eqb x.partner code same)
 
   pub opener-past : x.partner ≢ code → opener code (x ∷ os) ≡ opener code os
-  opener-past other = ap (λ t. if t then Some x.place else opener code os) (unlike x.partner code other)
+  opener-past other = ap (λ t. if t then Some x.place else opener code os) (ne_eqb x.partner code other)
 
   pub below-past : x.partner ≢ code → below code (x ∷ os) ≡ below code os
-  below-past other = ap (λ t. if t then os else below code os) (unlike x.partner code other)
+  below-past other = ap (λ t. if t then os else below code os) (ne_eqb x.partner code other)
 
 -- one entry of the stack, from its top
 module _ (code : ℕ) (xs : List Opened) (n m : ℕ) (d : Opened) (next : n ≡ m + 1) (inside : m < length xs) where

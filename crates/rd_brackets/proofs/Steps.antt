@@ -4,6 +4,7 @@ use Rattle.std.specs.Prelude.{if◌then◌else◌, replicate, unwrap_or, IfSome}
 use Rattle.std.proofs.lemmas.Bool.Decides.{nat_tests}
 use Rattle.std.proofs.lemmas.List.{drop_more, take_all, set-get_or, get_or-replicate, length-replicate}
 use Rattle.std.proofs.lemmas.Option.{get_or_from_slice_get}
+use Rattle.rd_base.proofs.Lists.{drop-at}
 use Rattle.rd_base.specs.declared.class.Class.{Class}
 use Rattle.rd_base.specs.declared.class.Class.TheVariants.{L, ON}
 use Rattle.rd_base.specs.declared.line.Seq.{Seq}
@@ -20,11 +21,11 @@ use Rattle.rd_brackets.specs.declared.matching.Matching.{Matching}
 use Rattle.rd_brackets.proofs.Closings.{none-taken, none-marked}
 
 -- what is left begins with the role that was read
-pub roles-read : (entries : List BracketEntry) (is : List ℕ) (k i : ℕ) (ts : List Class) (codes : List ℕ) (class : Class) → k < length is → slice_get is k ≡ Some i
+pub roles-read : (entries : List BracketEntry) (is : List ℕ) (k i : ℕ) (ts : List Class) (codes : List ℕ) (class : Class) → slice_get is k ≡ Some i
     → slice_get ts i ≡ Some class
     → roles entries (types_at (drop k is) ts) (codes_at (drop k is) codes) ≡ bd14_bd15_role entries class (get_or codes i 0) ∷ roles entries (types_at (drop (k + 1) is) ts) (codes_at (drop (k + 1) is) codes)
-roles-read entries is k i ts codes class within read here =
-    let front : drop k is ≡ i ∷ drop (k + 1) is = drop_more is k i within ∙ ap (λ j. j ∷ drop (k + 1) is) (get_or_from_slice_get is k i i read) in
+roles-read entries is k i ts codes class read here =
+    let front : drop k is ≡ i ∷ drop (k + 1) is = drop-at is k i read in
     ap (λ js. roles entries (types_at js ts) (codes_at js codes)) front
     ∙ ap (λ c. bd14_bd15_role entries c (get_or codes i 0) ∷ roles entries (types_at (drop (k + 1) is) ts) (codes_at (drop (k + 1) is) codes)) (get_or_from_slice_get ts i class L here)
 

@@ -19,13 +19,13 @@ loop-place-preserved c =
     let inv = c.loop-place.invariant in
     let within : k < length is = omega (arith, c.loop-place-test.true, c.len-place-end.ensures) in
     let inside : k < length given = omega (arith, c.requires.count) in
-    let classes = types-read is k i within c.at-i.ensures line.classes c.at.result c.at.ensures in
-    let types = types-read is k i within c.at-i.ensures line.types c.at-before.result c.at-before.ensures in
+    let classes = types-read is k i c.at-i.ensures line.classes c.at.result c.at.ensures in
+    let types = types-read is k i c.at-i.ensures line.types c.at-before.result c.at-before.ensures in
     let rest = drop_more given k L inside in
     let C = types_at (drop (k + 1) is) line.classes in
     let T = types_at (drop (k + 1) is) line.types in
     let stays : types_at (drop (k + 1) is) c.set_type.new.self.types ≡ T =
-    ap (types_at (drop (k + 1) is)) c.set_type.ensures.types ∙ types-kept is k i within c.at-i.ensures c.requires.ascend line.types c.unwrap_or.result in
+    ap (types_at (drop (k + 1) is)) c.set_type.ensures.types ∙ types-kept is k i c.at-i.ensures c.requires.ascend line.types c.unwrap_or.result in
     let stays_classes : types_at (drop (k + 1) is) c.set_type.new.self.classes ≡ C = ap (types_at (drop (k + 1) is)) c.set_type.ensures.rest.classes in
     let marked : n0_with_marks c.loop-place.side (types_at (drop k is) line.classes) (types_at (drop k is) line.types) (drop k given)
     ≡ c.unwrap_or.result ∷ n0_with_marks side C T (drop (k + 1) given) =
@@ -36,7 +36,7 @@ loop-place-preserved c =
     record {
       left = ap₂ (λ cs bs. put_at (drop (k + 1) is) (n0_with_marks side cs bs (drop (k + 1) given)) c.set_type.new.self.types) stays_classes stays
           ∙ ap (put_at (drop (k + 1) is) (n0_with_marks side C T (drop (k + 1) given))) c.set_type.ensures.types
-          ∙ sym (put-step is k i within c.at-i.ensures c.unwrap_or.result _ line.types)
+          ∙ sym (put-step is k i c.at-i.ensures c.unwrap_or.result _ line.types)
           ∙ ap (λ vs. put_at (drop k is) vs line.types) (sym marked)
           ∙ inv.left;
       levels = c.set_type.ensures.levels ∙ inv.levels;
