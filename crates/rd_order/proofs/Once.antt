@@ -1,7 +1,8 @@
 -- The visual order of a line goes through each of its places once.
 use Rattle.std.proofs.Common.{◌≡◌, ℕ, zero, suc, ◌+◌, ◌-◌, ◌<◌, ◌≤◌, nat_le, nat_eq, Bool, true, false, cond, List, [], ◌∷◌, ◌++◌, length, refl, ◌∙◌, arith}
-use Rattle.std.specs.Prelude.{if◌then◌else◌, slice_index}
+use Rattle.std.specs.Prelude.{slice_index}
 use Rattle.std.specs.List.{range_with_len}
+use Rattle.std.proofs.lemmas.Bool.{cond_both}
 use Rattle.std.proofs.lemmas.Bool.Decides.{nat_tests}
 use Rattle.rd_order.specs.Order.{l2_reversed, l2_reversed_down, highest, l2_visual_order}
 
@@ -14,18 +15,14 @@ total-append : (f : ℕ → ℕ) (xs ys : List ℕ) → total f (xs ++ ys) ≡ t
 total-append f [] ys = omega arith
 total-append f (x ∷ xs) ys = let e = total-append f xs ys in omega (arith, e)
 
-either : (f : ℕ → ℕ) (b : Bool) (xs ys : List ℕ) (n : ℕ) → total f xs ≡ n → total f ys ≡ n → total f (if b then xs else ys) ≡ n
-either f true xs ys n h k = h
-either f false xs ys n h k = k
-
 total-l2_reversed : (f : ℕ → ℕ) (levels : List ℕ) (k : ℕ) (run is : List ℕ) → total f (l2_reversed levels k run is) ≡ total f run + total f is
 total-l2_reversed f levels k run [] = omega arith
 total-l2_reversed f levels k run (i ∷ is) =
     let more = total-l2_reversed f levels k (i ∷ run) is in
     let fresh = total-l2_reversed f levels k [] is in
     let cut = total-append f run (i ∷ l2_reversed levels k [] is) in
-    either f (nat_le k (slice_index levels i)) (l2_reversed levels k (i ∷ run) is) (run ++ (i ∷ l2_reversed levels k [] is)) (total f run + total f (i ∷ is))
-    (omega (arith, more)) (omega (arith, fresh, cut))
+    cond_both (nat_le k (slice_index levels i)) (l2_reversed levels k (i ∷ run) is) (run ++ (i ∷ l2_reversed levels k [] is)) (λ xs. total f xs ≡ total f run + total f (i ∷ is))
+    (λ _. omega (arith, more)) (λ _. omega (arith, fresh, cut))
 
 total-down : (f : ℕ → ℕ) (levels : List ℕ) (base n : ℕ) (is : List ℕ) → total f (l2_reversed_down levels base n is) ≡ total f is
 total-down f levels base zero is = refl

@@ -49,27 +49,10 @@ shows base m p q levels high low within c =
     let size = l2_visual_order-length base levels in
     slice_get-get_or (l2_visual_order base levels) p 0 (omega arith) ∙ ap Some (l2_visual_order-comes base levels p q p_within whole)
 
--- what the order gives is an index of the line
-pub gives-within : (base p q : ℕ) (levels : List ℕ) → slice_get (l2_visual_order base levels) p ≡ Some q → (p < length levels) × (q < length levels)
-gives-within base p q levels at =
-    let f : ℕ → ℕ = λ i. get_or levels i 0 in
-    let n = length levels in
-    let total = highest levels - base in
-    let size = l2_visual_order-length base levels in
-    let inside = slice_get_within (l2_visual_order base levels) p q at in
-    let p_within : p < n = omega arith in
-    let found = comes_of f n base total p p_within in
-    let there = l2_visual_order-comes base levels p found.0 p_within found.1 in
-    let said = slice_get-get_or (l2_visual_order base levels) p 0 inside in
-    let whole_at : Some q ≡ Some found.0 = sym at ∙ said ∙ ap Some there in
-    let same : found.0 ≡ q = cc in
-    let found_within = Comes-within f n base total p found.0 found.1 p_within in
-    (p_within, omega arith)
-
--- where an index stands in the order, what stands there after the reversals above its own level
-pub known : (base p q : ℕ) (levels : List ℕ) (m : ℕ) → get_or levels q 0 ≤ base + m → (0 < m → base + m ≤ get_or levels q 0)
-    → slice_get (l2_visual_order base levels) p ≡ Some q → Comes (λ i. get_or levels i 0) (length levels) base m p q
-known base p q levels m low high at =
+-- what the order gives at a place comes there by all the reversals
+placed : (base p q : ℕ) (levels : List ℕ) → slice_get (l2_visual_order base levels) p ≡ Some q
+    → (p < length levels) × Comes (λ i. get_or levels i 0) (length levels) base (highest levels - base) p q
+placed base p q levels at =
     let f : ℕ → ℕ = λ i. get_or levels i 0 in
     let n = length levels in
     let total = highest levels - base in
@@ -82,15 +65,27 @@ known base p q levels m low high at =
     let whole_at : Some q ≡ Some found.0 = sym at ∙ said ∙ ap Some there in
     let same : found.0 ≡ q = cc in
     let C : ℕ → Type 0 = λ i. Comes f n base total p i in
-    let whole : Comes f n base total p q = subst C same found.1 in
-    let q_within = Comes-within f n base total p q whole p_within in
-    let most = highest-bounds levels q q_within in
+    (p_within, subst C same found.1)
+
+-- what the order gives is an index of the line
+pub gives-within : (base p q : ℕ) (levels : List ℕ) → slice_get (l2_visual_order base levels) p ≡ Some q → (p < length levels) × (q < length levels)
+gives-within base p q levels at =
+    let whole = placed base p q levels at in
+    (whole.0, Comes-within (λ i. get_or levels i 0) (length levels) base (highest levels - base) p q whole.1 whole.0)
+
+-- where an index stands in the order, what stands there after the reversals above its own level
+pub known : (base p q : ℕ) (levels : List ℕ) (m : ℕ) → get_or levels q 0 ≤ base + m → (0 < m → base + m ≤ get_or levels q 0)
+    → slice_get (l2_visual_order base levels) p ≡ Some q → Comes (λ i. get_or levels i 0) (length levels) base m p q
+known base p q levels m low high at =
+    let f : ℕ → ℕ = λ i. get_or levels i 0 in
+    let total = highest levels - base in
+    let most = highest-bounds levels q (gives-within base p q levels at).1 in
     let e : total ≡ (total - m) + m = elim (cases_eq m 0) [
       | inl none ↦ omega arith
       | inr some ↦ let h = high (omega arith) in omega arith
     ] in
-    let D : ℕ → Type 0 = λ k. Comes f n base k p q in
-    descend f n base m (total - m) p q low (subst D e whole)
+    let D : ℕ → Type 0 = λ k. Comes f (length levels) base k p q in
+    descend f (length levels) base m (total - m) p q low (subst D e (placed base p q levels at).1)
 
 -- the neighbour in the same run stands at the next place
 pub beside : (f : ℕ → ℕ) (n base m p q r : ℕ) → IsNextTo m q r → q < n → r < n → (0 < m → base + m ≤ f q) → (0 < m → base + m ≤ f r)
