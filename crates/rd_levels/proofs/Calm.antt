@@ -1,5 +1,6 @@
 -- The weak rules (W1 to W7), N0, and the neutral rules (N1, N2) over a sequence at level 0 without anything that is read from the right.
 use Rattle.std.proofs.Common.{◌≡◌, ℕ, zero, suc, ◌-◌, Bool, true, false, ◌||◌, List, [], ◌∷◌, length, take, drop, set, replicate, Option, None, Some, refl, sym, ap, ap₂, subst, ◌∙◌}
+use Rattle.std.specs.List.{AllByRecursion as Each}
 use Rattle.std.specs.Prelude.{if◌then◌else◌, unwrap_or}
 use Rattle.std.proofs.lemmas.List.{length-set}
 use Rattle.rd_base.specs.declared.class.Class.{Class}
@@ -9,7 +10,6 @@ use Rattle.rd_resolve.specs.Weak.{w1_nonspacing_marks, w1, strong_after, w2, w3_
 use Rattle.rd_resolve.specs.Neutral.{n1_following, n1_surrounding_direction, n1, n2, neutral_types}
 use Rattle.rd_brackets.specs.Pairs.{roles, bd16_pairs_of, closings}
 use Rattle.rd_brackets.specs.Sides as sides
-use Rattle.rd_levels.proofs.Each.{Each}
 
 -- what such a sequence begins with
 abbrev pub is_item : Class → Bool

@@ -1,7 +1,8 @@
 -- A line at base 0 without anything that is read from the right has all levels 0.
 use Rattle.std.proofs.Common.{◌≡◌, ℕ, zero, suc, ◌+◌, ◌<◌, ◌≤◌, ◌==◌, ◌⊎◌, inl, inr, Bool, true, false, ◌&&◌, List, [], ◌∷◌, length, get_or, drop, set, replicate, map, refl, sym, ap, ap₂, subst, ◌∙◌, append-nil, arith}
+use Rattle.std.specs.List.{AllByRecursion as Each}
 use Rattle.std.specs.Prelude.{if◌then◌else◌, max, is_none, slice_index}
-use Rattle.std.proofs.lemmas.Bool.{and_parts, cases_eq, cases_lt}
+use Rattle.std.proofs.lemmas.Bool.{and_parts, cases_eq, cases_lt, cond_both}
 use Rattle.std.proofs.lemmas.List.{length-map, length-replicate, get_or-set_same, get_or-set_other, length-set, get_or-drop, drop-drop, get_or_past}
 use Rattle.rd_base.specs.Classes.{is_removed, is_initiator, direction_of}
 use Rattle.rd_base.specs.declared.class.Class.{Class}
@@ -18,7 +19,6 @@ use Rattle.rd_resolve.specs.Neutral.{neutral_types}
 use Rattle.rd_resolve.specs.Implicit.{i1_even_levels, i1_i2, kept, l1_resets, l1, implicit_levels}
 use Rattle.rd_brackets.specs.Sides.{n0_bracket_types, codes_at, embedding_of}
 use Rattle.rd_levels.specs.Levels.{resolved_in, x10_resolved, line_levels, is_leveled, are_leveled}
-use Rattle.rd_levels.proofs.Each.{Each}
 use Rattle.rd_levels.proofs.Calm.{IsItem, IsCalm, weak-calm, weak-length, n0_bracket_types-calm, n0_bracket_types-length, neutral-left}
 
 abbrev IsLeveled : Class → Type 0
@@ -83,16 +83,12 @@ item-zero i c cs xs zs = record {
 abbrev all_items : ℕ → List Class → List Item
 all_items i cs = x9_items 0 0 i cs (replicate (length cs) 0)
 
-either-each : (b : Bool) (xs ys : List Item) (P : Item → Type 0) → Each P xs → Each P ys → Each P (if b then xs else ys)
-either-each true xs ys P these those = these
-either-each false xs ys P these those = those
-
 x9_items-zero : (i : ℕ) (cs : List Class) → Each IsZero (all_items i cs)
 x9_items-zero i [] = tt
 x9_items-zero i (c ∷ cs) =
     let rest = x9_items-zero (i + 1) cs in
-    either-each (is_removed c) (all_items (i + 1) cs) (item_at 0 0 i c cs 0 (all_items (i + 1) cs) ∷ all_items (i + 1) cs) IsZero
-    rest (item-zero i c cs (all_items (i + 1) cs) rest, rest)
+    cond_both (is_removed c) (all_items (i + 1) cs) (item_at 0 0 i c cs 0 (all_items (i + 1) cs) ∷ all_items (i + 1) cs) (Each IsZero)
+    (λ _. rest) (λ _. (item-zero i c cs (all_items (i + 1) cs) rest, rest))
 
 -- so there is one level run, and one sequence
 has-zero : (x y : Item) (ys : List Item) → IsZero x → IsZero y → has_level x.level (y ∷ ys) ≡ true

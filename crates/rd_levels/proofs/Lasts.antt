@@ -2,15 +2,17 @@
 use Rattle.std.proofs.Common.{◌≡◌, ℕ, zero, suc, ◌+◌, ◌-◌, ◌≤◌, ◌<◌, Bool, true, false, List, [], ◌∷◌, ◌++◌, length, refl, sym, ap, ◌∙◌, append_assoc, arith}
 use Rattle.std.specs.Prelude.{nat_le, if◌then◌else◌, slice_index, map}
 use Rattle.std.proofs.lemmas.List.{map-append}
-use Rattle.std.specs.List.{range_with_len}
+use Rattle.std.specs.List.{range_with_len, AllByRecursion as Each}
+use Rattle.std.proofs.lemmas.List.Elements.{All-from_recursion}
+use Rattle.std.proofs.lemmas.Bool.{cond_both}
 use Rattle.std.proofs.lemmas.Bool.Decides.{nat_tests}
+use Rattle.rd_base.proofs.Lists.{each-append}
 use Rattle.rd_base.specs.declared.class.Class.{Class}
 use Rattle.rd_base.specs.declared.class.Class.TheVariants.{B}
 use Rattle.rd_order.specs.Order.{l2_reversed, l2_reversed_down, highest, l2_visual_order}
 use Rattle.rd_levels.specs.Turns.{levels_with, turn_of, turns_by, turns_of, ComesLast}
 use Rattle.rd_levels.specs.declared.turn.Turn.{Turn}
 use Rattle.rd_ucd.specs.declared.spans.BracketEntry.{BracketEntry}
-use Rattle.rd_levels.proofs.Each.{Each, each-append, each-all}
 use Rattle.rd_levels.proofs.Lengths.{with-length, with-last}
 
 either-last : (b : Bool) (n : ℕ) (x y u v : List ℕ) → x ≡ u ++ n ∷ [] → y ≡ v ++ n ∷ [] → (if b then x else y) ≡ (if b then u else v) ++ n ∷ []
@@ -51,16 +53,12 @@ order-last base n levels size low =
     ∙ ap (λ k. l2_reversed_down levels base (highest levels - base) (range_with_len 0 n ++ k ∷ [])) same
     ∙ l2_reversed_down-last levels base (highest levels - base) (range_with_len 0 n) n low
 
-either-below : (b : Bool) (n : ℕ) (x y : List ℕ) → Each (λ (i : ℕ). i < n) x → Each (λ (i : ℕ). i < n) y → Each (λ (i : ℕ). i < n) (if b then x else y)
-either-below true n x y these those = these
-either-below false n x y these those = those
-
 l2_reversed-below : (levels : List ℕ) (k n : ℕ) (run is : List ℕ) → Each (λ (i : ℕ). i < n) run → Each (λ (i : ℕ). i < n) is → Each (λ (i : ℕ). i < n) (l2_reversed levels k run is)
 l2_reversed-below levels k n run [] these those = these
 l2_reversed-below levels k n run (i ∷ is) these those =
-    either-below (nat_le k (slice_index levels i)) n (l2_reversed levels k (i ∷ run) is) (run ++ i ∷ l2_reversed levels k [] is)
-    (l2_reversed-below levels k n (i ∷ run) is (those.0, these) those.1)
-    (each-append (λ (j : ℕ). j < n) run (i ∷ l2_reversed levels k [] is) these (those.0, l2_reversed-below levels k n [] is tt those.1))
+    cond_both (nat_le k (slice_index levels i)) (l2_reversed levels k (i ∷ run) is) (run ++ i ∷ l2_reversed levels k [] is) (Each (λ (j : ℕ). j < n))
+    (λ _. l2_reversed-below levels k n (i ∷ run) is (those.0, these) those.1)
+    (λ _. each-append (λ (j : ℕ). j < n) run (i ∷ l2_reversed levels k [] is) these (those.0, l2_reversed-below levels k n [] is tt those.1))
 
 l2_reversed_down-below : (levels : List ℕ) (base m n : ℕ) (is : List ℕ) → Each (λ (i : ℕ). i < n) is → Each (λ (i : ℕ). i < n) (l2_reversed_down levels base m is)
 l2_reversed_down-below levels base zero n is each = each
@@ -85,7 +83,7 @@ last-turn base n levels size low =
       last = turn_of levels n;
       whole = ap (map (turn_of levels)) (order-last base n levels size low) ∙ map-append (turn_of levels) before (n ∷ []);
       index = refl;
-      others = each-all (λ (t : Turn). t.index < n) (map (turn_of levels) before) (turns-below levels n before below);
+      others = All-from_recursion (λ (t : Turn). t.index < n) (map (turn_of levels) before) (turns-below levels n before below);
     }
 
 -- a separator at the end of a line comes last

@@ -1,6 +1,7 @@
 -- The level of a separator at the end of a line is the base.
 use Rattle.std.proofs.Common.{◌≡◌, ℕ, suc, ◌≤◌, Bool, true, false, List, [], ◌∷◌, ◌++◌, length, replicate, refl, sym, ap, ◌∙◌, length-append, arith}
-use Rattle.std.specs.Prelude.{if◌then◌else◌, slice_index, slice_set}
+use Rattle.std.specs.Prelude.{slice_index, slice_set}
+use Rattle.std.proofs.lemmas.Bool.{cond_both}
 use Rattle.std.proofs.lemmas.List.{length-map, length-set, length-replicate, get_or-replicate}
 use Rattle.rd_base.specs.Classes.{is_removed}
 use Rattle.rd_base.specs.declared.class.Class.{Class}
@@ -39,16 +40,12 @@ raised-length [] ls size = refl
 raised-length (t ∷ ts) [] size = refl
 raised-length (t ∷ ts) (l ∷ ls) size = ap (λ n. suc n) (raised-length ts ls (omega arith))
 
-either-length : (b : Bool) (x y : List ℕ) (n : ℕ) → length x ≡ n → length y ≡ n → length (if b then x else y) ≡ n
-either-length true x y n these those = these
-either-length false x y n these those = those
-
 kept-length : (before : ℕ) (cs : List Class) (ls : List ℕ) → length cs ≡ length ls → length (kept before cs ls) ≡ length ls
 kept-length before [] ls size = refl
 kept-length before (c ∷ cs) [] size = refl
 kept-length before (c ∷ cs) (l ∷ ls) size =
-    either-length (is_removed c) (before ∷ kept before cs ls) (l ∷ kept l cs ls) (suc (length ls))
-    (ap (λ n. suc n) (kept-length before cs ls (omega arith))) (ap (λ n. suc n) (kept-length l cs ls (omega arith)))
+    cond_both (is_removed c) (before ∷ kept before cs ls) (l ∷ kept l cs ls) (λ xs. length xs ≡ suc (length ls))
+    (λ _. ap (λ n. suc n) (kept-length before cs ls (omega arith))) (λ _. ap (λ n. suc n) (kept-length l cs ls (omega arith)))
 
 l1-length : (base : ℕ) (cs : List Class) (ls : List ℕ) → length cs ≡ length ls → length (l1 base cs ls) ≡ length ls
 l1-length base [] ls size = refl

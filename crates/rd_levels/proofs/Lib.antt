@@ -1,5 +1,4 @@
 mod Calm
-mod Each
 mod FromLeft
 mod Lasts
 mod Lengths

@@ -26,7 +26,7 @@ loop-k-preserved c =
     c.neutral.ensures.types ∙ ap₂ (λ ls us. neutral_in ls s us) (c.pair.ensures.levels ∙ weak_levels) paired in
     record {
       types = ap (x10_resolved entries classes codes levels (drop (k + 1) found)) given
-          ∙ sym (x10_resolved-step entries classes codes levels found k s ts within c.get-seq.ensures) ∙ inv.types;
+          ∙ sym (x10_resolved-step entries classes codes levels found k s ts c.get-seq.ensures) ∙ inv.types;
       levels = c.neutral.ensures.levels ∙ c.pair.ensures.levels ∙ weak_levels;
       keeps = record {
         classes = c.neutral.ensures.rest.classes ∙ c.pair.ensures.rest.classes ∙ weak_classes;
