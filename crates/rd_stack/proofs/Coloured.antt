@@ -1,10 +1,13 @@
 -- The faces of lines and prefixes have their colours in range, where those that are read and those of all objects have.
-use Rattle.std.proofs.Common.{ℕ, suc, zero, ◌+◌, ◌≤◌, ◌==◌, Bool, true, false, List, [], ◌∷◌, ◌++◌, length, ◌-◌, map, Option, None, Some, All, IfSome, arith}
+use Rattle.std.proofs.Common.{ℕ, suc, zero, ◌+◌, ◌==◌, Bool, true, false, List, [], ◌∷◌, ◌++◌, length, ◌-◌, map, Option, None, Some, All, IfSome}
 use Rattle.std.specs.Prelude.{if◌then◌else◌, slice_get}
 use Rattle.std.specs.List.{flat_map, range_with_len, AllByRecursion}
+use Rattle.std.proofs.lemmas.Bool.{cond_both}
 use Rattle.std.proofs.lemmas.List.Elements.{All-nil, All-cons, All-map, All-append, recursion_from_All}
 use Rattle.rd_base.specs.Cells.{HasColours}
-use Rattle.rd_base.specs.Faces.{Attributes, plain, over}
+use Rattle.rd_base.specs.Faces.{Attributes, plain}
+use Rattle.rd_base.proofs.Colours.{plain-coloured, over-coloured}
+use Rattle.rd_base.proofs.Lists.{each-append}
 use Rattle.rd_base.specs.declared.cell.Glyph.{Glyph}
 use Rattle.rd_base.specs.declared.element.Element.{Element}
 use Rattle.rd_base.specs.declared.element.Extent.TheVariants.{Fixed, Column}
@@ -37,26 +40,11 @@ use Rattle.rd_stack.specs.declared.part.Part.{Part}
 use Rattle.rd_stack.specs.declared.part.Shown.{Shown}
 use Rattle.rd_stack.specs.declared.part.PartKind.{PartKind}
 use Rattle.rd_stack.specs.declared.part.PartKind.TheVariants as kind
-use Rattle.rd_stack.proofs.Lists.{all-append}
 use Rattle.rd_stack.proofs.Good.{found-by, found}
 use Rattle.rd_stack.proofs.Ends.{before-each}
 
 abbrev IsColoured : Element → Type 0
 IsColoured e = HasColours e.face
-
-plain-coloured : HasColours plain
-plain-coloured = record { fg = omega arith; bg = omega arith }
-
-least : (b : Bool) (m n : ℕ) → m ≤ 8 → n ≤ 8 → (if b then m else n) ≤ 8
-least true m n p q = p
-least false m n p q = q
-
-over-coloured : (top under : Attributes) → HasColours top → HasColours under → HasColours (over top under)
-over-coloured top under h k = record { fg = least (top.fg == 8) under.fg top.fg k.fg h.fg; bg = least (top.bg == 8) under.bg top.bg k.bg h.bg }
-
-either : (b : Bool) (xs ys : List Element) → AreColoured xs → AreColoured ys → AreColoured (if b then xs else ys)
-either true xs ys these those = these
-either false xs ys these those = those
 
 one : (e : Element) → HasColours e.face → AreColoured (e ∷ [])
 one e h = All-cons IsColoured e [] h (All-nil IsColoured)
@@ -73,9 +61,9 @@ glyphs-coloured face origin text h = All-map IsColoured (λ (g : Glyph). element
 by-coloured : (entry : Option (List Glyph)) (parts : PartValues) (ch : ℕ) (odd : Bool) (face : Attributes) (origin : Origin) → HasColours face → AreColoured (elements_by entry parts ch odd face origin)
 by-coloured (Some text) parts ch odd face origin h = glyphs-coloured face origin text h
 by-coloured None parts ch odd face origin h =
-    either (ch == 9) (tab_of parts.settings.tab_width face origin ∷ []) (map (element_of face origin) (own_looks parts ch odd))
-    (one (tab_of parts.settings.tab_width face origin) h)
-    (All-map IsColoured (element_of face origin) (own_looks parts ch odd) (λ k d inside. h))
+    cond_both (ch == 9) (tab_of parts.settings.tab_width face origin ∷ []) (map (element_of face origin) (own_looks parts ch odd)) AreColoured
+    (λ tab. one (tab_of parts.settings.tab_width face origin) h)
+    (λ none. All-map IsColoured (element_of face origin) (own_looks parts ch odd) (λ k d inside. h))
 
 character-coloured : (parts : PartValues) (ch : ℕ) (odd : Bool) (face : Attributes) (origin : Origin) → HasColours face → AreColoured (elements_of parts ch odd face origin)
 character-coloured parts ch odd face origin h = by-coloured (entry_of parts.table ch) parts ch odd face origin h
@@ -102,10 +90,6 @@ PartColours x = HasColours x.face
 abbrev ShownColours : Shown → Type 0
 ShownColours x = HasColours x.face
 
-either-shown : (b : Bool) (xs ys : List Shown) → AllByRecursion ShownColours xs → AllByRecursion ShownColours ys → AllByRecursion ShownColours (if b then xs else ys)
-either-shown true xs ys these those = these
-either-shown false xs ys these those = those
-
 module _ (s : Scene) (base : ℕ) where
   part-by-coloured : (spec : Option Spec) (p : Place) → PlaceColours p → PartColours (part_by s spec p)
   part-by-coloured (Some spec) p h = h
@@ -118,7 +102,7 @@ module _ (s : Scene) (base : ℕ) where
   turned-coloured : (xs : List Part) (turns : List Turn) → AllByRecursion PartColours xs → AllByRecursion ShownColours (flat_map (shown_at xs) turns)
   turned-coloured xs [] all = tt
   turned-coloured xs (t ∷ ts) all =
-      all-append ShownColours (shown_at xs t) (flat_map (shown_at xs) ts)
+      each-append ShownColours (shown_at xs t) (flat_map (shown_at xs) ts)
       (shown-by-coloured t.odd (slice_get xs t.index) (found-by PartColours xs t.index all)) (turned-coloured xs ts all)
 
   grows : Grows part_joins PartColours
@@ -132,9 +116,9 @@ module _ (s : Scene) (base : ℕ) where
   rows-coloured xs (p ∷ ps) all places =
       let next : List Shown = row_end p.face ∷ rows_from s base [] ps in
       let longer = xs ++ part_of s p ∷ [] in
-      either-shown (ends_row p) (row s base xs ++ next) (rows_from s base longer ps)
-      (all-append ShownColours (row s base xs) next (row-coloured xs all) (places.0, rows-coloured [] ps tt places.1))
-      (rows-coloured longer ps (all-append PartColours xs (part_of s p ∷ []) all (part-by-coloured _ p places.0, tt)) places.1)
+      cond_both (ends_row p) (row s base xs ++ next) (rows_from s base longer ps) (AllByRecursion ShownColours)
+      (λ ends. each-append ShownColours (row s base xs) next (row-coloured xs all) (places.0, rows-coloured [] ps tt places.1))
+      (λ goes. rows-coloured longer ps (each-append PartColours xs (part_of s p ∷ []) all (part-by-coloured _ p places.0, tt)) places.1)
 
   places-coloured : ((text : TextValue) (i : ℕ) → IsString text → HasColours (face_of text i)) → (replaced : Bool) (text : TextValue) (under : Attributes) (is : List ℕ) → IsString text → HasColours under
       → AllByRecursion PlaceColours (map (place_of replaced text under) is)
@@ -167,13 +151,9 @@ module _ (s : Scene) where
   spec-pieced (Width n) face p to h = h
   spec-pieced (Align n) face p to h = h
 
-  either-piece : (b : Bool) (x y : Piece) → PieceColours x → PieceColours y → PieceColours (if b then x else y)
-  either-piece true x y these those = these
-  either-piece false x y these those = those
-
   open-pieced : (face : Attributes) (ch : Option ℕ) (p : ℕ) → HasColours face → PieceColours (open_piece s face ch p)
   open-pieced face None p h = h
-  open-pieced face (Some c) p h = either-piece (is_newline c) (ender_piece face p) (char_piece s face c p) h h
+  open-pieced face (Some c) p h = cond_both (is_newline c) (ender_piece face p) (char_piece s face c p) PieceColours (λ ends. h) (λ shown. h)
 
   unreplaced-pieced : (hidden : Hidden) (face : Attributes) (ch : Option ℕ) (p to : ℕ) → HasColours face → PieceColours (unreplaced_piece s hidden face ch p to)
   unreplaced-pieced No face ch p to h = open-pieced face ch p h
@@ -190,7 +170,7 @@ module _ (s : Scene) where
   pieces-coloured zero k (e ∷ es) all =
       let showing = showing_of s.parts.settings.invisible e in
       let to = suc k + run_in s e es in
-      all-append PieceColours (string_pieces k e.face e.strings) (piece_at s showing e.character k to ∷ pieces_from s (run_in s e es) (suc k) es)
+      each-append PieceColours (string_pieces k e.face e.strings) (piece_at s showing e.character k to ∷ pieces_from s (run_in s e es) (suc k) es)
       (strings-pieced k e.face e.strings all.0)
       (piece-coloured showing.display showing.hidden showing.face e.character k to all.0, pieces-coloured (run_in s e es) (suc k) es all.1)
 
@@ -204,7 +184,7 @@ module _ (s : Scene) where
   covering-coloured : (since : ℕ) (xs : List Piece) → AllByRecursion PieceColours xs → AllByRecursion ItemColours (covering since xs)
   covering-coloured since [] all = tt
   covering-coloured since (x ∷ xs) all =
-      all-append ItemColours (items_by x.kind since x) (covering (covered_to since x) xs) (by-kind since x x.kind all.0) (covering-coloured (covered_to since x) xs all.1)
+      each-append ItemColours (items_by x.kind since x) (covering (covered_to since x) xs) (by-kind since x x.kind all.0) (covering-coloured (covered_to since x) xs all.1)
 
   items-coloured : (es : List Seen) → AllByRecursion (λ (e : Seen). HasColours e.face) es → AllByRecursion ItemColours (items_of s es)
   items-coloured es all =

@@ -1,5 +1,5 @@
 -- The elements of the steps of a line are those of its items.
-use Rattle.std.proofs.Common.{◌≡◌, ℕ, Bool, true, false, List, [], ◌∷◌, ◌++◌, Option, None, Some, refl, sym, subst, ap₂, ◌∙◌, append-nil}
+use Rattle.std.proofs.Common.{◌≡◌, ℕ, Bool, true, false, List, [], ◌∷◌, ◌++◌, Option, None, Some, refl, ap₂, ◌∙◌, append-nil}
 use Rattle.std.specs.Prelude.{slice_get, Result, Ok, Err, IfOk}
 use Rattle.std.specs.List.{flat_map}
 use Rattle.std.proofs.lemmas.Grind.{flat_map-append}
@@ -69,10 +69,6 @@ line-elements s base items turns =
 pub if-made : {W : Type 0} (left : W → List Element) (result : Result W Memory) (a b : List Element) → IfOk result (λ w. left w ≡ a) → a ≡ b → IfOk result (λ w. left w ≡ b)
 if-made left (Ok w) a b same more = same ∙ more
 if-made left (Err e) a b same more = same
-
-pub if-same : {W : Type 0} (left : W → List Element) (P : List Element → Type 0) (result : Result W Memory) (a : List Element) → IfOk result (λ w. left w ≡ a) → P a → IfOk result (λ w. P (left w))
-if-same left P (Ok w) a same p = subst P (sym same) p
-if-same left P (Err e) a same p = same
 
 pub right-sound : (es : List Element) → AreRight es → AreSound es
 right-sound es right = λ k d inside. (right k d inside).sound

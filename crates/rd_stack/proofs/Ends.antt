@@ -1,7 +1,8 @@
 -- No element of a character, a space or a string ends the line.
 use Rattle.std.proofs.Common.{◌≡◌, ℕ, Bool, true, false, List, [], ◌∷◌, Option, None, Some, All, suc, refl, arith}
-use Rattle.std.specs.Prelude.{◌==◌, ◌/◌, if◌then◌else◌, map, slice_get}
+use Rattle.std.specs.Prelude.{◌==◌, ◌/◌, map, slice_get}
 use Rattle.std.specs.List.{flat_map}
+use Rattle.std.proofs.lemmas.Bool.{cond_both}
 use Rattle.std.proofs.lemmas.List.Elements.{All-map, All-cons, All-nil, All-append}
 use Rattle.rd_base.specs.Faces.{Attributes}
 use Rattle.rd_base.specs.Elements.{is_line_end}
@@ -36,10 +37,6 @@ IsOpenLook l = is_line_end l ≡ false
 pub open-one : (e : Element) → IsOpen e → AreOpen (e ∷ [])
 open-one e is = All-cons IsOpen e [] is (All-nil IsOpen)
 
-either : {X : Type 0} (P : X → Type 0) (b : Bool) (xs ys : List X) → All P xs → All P ys → All P (if b then xs else ys)
-either P true xs ys these those = these
-either P false xs ys these those = those
-
 pub open-each : {X : Type 0} (f : X → List Element) → ((x : X) → AreOpen (f x)) → (xs : List X) → AreOpen (flat_map f xs)
 open-each f each [] = All-nil IsOpen
 open-each f each (x ∷ xs) = All-append IsOpen (f x) (flat_map f xs) (each x) (open-each f each xs)
@@ -63,9 +60,9 @@ glyphs-open face origin text = All-map IsOpen (λ (g : Glyph). element_of face o
 by-open : (entry : Option (List Glyph)) (parts : PartValues) (ch : ℕ) (odd : Bool) (face : Attributes) (origin : Origin) → AreOpen (elements_by entry parts ch odd face origin)
 by-open (Some text) parts ch odd face origin = glyphs-open face origin text
 by-open None parts ch odd face origin =
-    either IsOpen (ch == 9) (tab_of parts.settings.tab_width face origin ∷ []) (map (element_of face origin) (own_looks parts ch odd))
-    (open-one (tab_of parts.settings.tab_width face origin) refl)
-    (All-map IsOpen (element_of face origin) (own_looks parts ch odd)
+    cond_both (ch == 9) (tab_of parts.settings.tab_width face origin ∷ []) (map (element_of face origin) (own_looks parts ch odd)) AreOpen
+    (λ tab. open-one (tab_of parts.settings.tab_width face origin) refl)
+    (λ none. All-map IsOpen (element_of face origin) (own_looks parts ch odd)
     (looks-open (slot_or Escape parts.table 92) (slot_or Control parts.table 94)
     (mirrored parts.mirrors odd (shown_as parts.settings.ctl_arrow (class_of parts.classes ch) ch))))
 
@@ -106,8 +103,8 @@ text-open s base false origin face text = display-open s base origin face text
 pub before-each : (P : Element → Type 0) (es : List Element) → All P es → All P (before_row_end es)
 before-each P [] each = each
 before-each P (e ∷ es) each =
-    either P (is_row_end e.look) [] (e ∷ before_row_end es) (All-nil P)
-    (All-cons P e (before_row_end es) (each 0 e (omega arith)) (before-each P es (λ k d inside. each (suc k) d (omega arith))))
+    cond_both (is_row_end e.look) [] (e ∷ before_row_end es) (All P) (λ ends. All-nil P)
+    (λ goes. All-cons P e (before_row_end es) (each 0 e (omega arith)) (before-each P es (λ k d inside. each (suc k) d (omega arith))))
 
 pub before-open : (es : List Element) → AreOpen es → AreOpen (before_row_end es)
 before-open es each = before-each IsOpen es each

@@ -1,8 +1,9 @@
 -- What holds of all that a position can give holds of the items of what is read, and these are few.
-use Rattle.std.proofs.Common.{◌≡◌, ℕ, zero, suc, ◌+◌, ◌≤◌, Bool, true, false, List, [], ◌∷◌, ◌++◌, length, Option, None, Some, IfSome, length-append, refl, arith}
-use Rattle.std.specs.Prelude.{if◌then◌else◌}
+use Rattle.std.proofs.Common.{◌≡◌, ℕ, zero, suc, ◌+◌, ◌≤◌, List, [], ◌∷◌, ◌++◌, length, Option, None, Some, IfSome, length-append, refl, arith}
 use Rattle.std.specs.List.{AllByRecursion}
 use Rattle.std.proofs.lemmas.List.{length-map}
+use Rattle.std.proofs.lemmas.Bool.{cond_both}
+use Rattle.rd_base.proofs.Lists.{each-append}
 use Rattle.rd_base.specs.Faces.{Attributes}
 use Rattle.rd_base.specs.declared.cell.Glyph.{Glyph}
 use Rattle.rd_base.specs.declared.class.Class.{Class}
@@ -24,7 +25,6 @@ use Rattle.rd_items.specs.declared.item.ItemKind.TheVariants as kind
 use Rattle.rd_items.specs.declared.piece.Piece.{Piece}
 use Rattle.rd_stack.specs.Limits.{strings_in}
 use Rattle.rd_stack.proofs.Joined.{marks_joined-few}
-use Rattle.rd_stack.proofs.Lists.{all-append}
 
 -- what holds of whatever a position can give, where its character is one of these
 pub record Gives (R : Class → ItemKind → Type 0) (C : ℕ → Type 0) (s : Scene) : Type 0 where
@@ -48,15 +48,11 @@ module _ (R : Class → ItemKind → Type 0) (C : ℕ → Type 0) (s : Scene) (g
   spec-holds number (Width n) face p to is = gives.space number (Width n) is
   spec-holds number (Align n) face p to is = gives.space number (Align n) is
 
-  either : (b : Bool) (x y : Piece) → Holds x → Holds y → Holds (if b then x else y)
-  either true x y these those = these
-  either false x y these those = those
-
   open-holds : (face : Attributes) (ch : Option ℕ) (p : ℕ) → IfSome ch C → Holds (open_piece s face ch p)
   open-holds face None p code = gives.ender
   open-holds face (Some c) p code =
       let x = char_piece s face c p in
-      either (is_newline c) (ender_piece face p) x gives.ender (gives.char x.class c code)
+      cond_both (is_newline c) (ender_piece face p) x Holds (λ ends. gives.ender) (λ shown. gives.char x.class c code)
 
   unreplaced-holds : (hidden : Hidden) (face : Attributes) (ch : Option ℕ) (p to : ℕ) → IfSome ch C → Holds (unreplaced_piece s hidden face ch p to)
   unreplaced-holds No face ch p to code = open-holds face ch p code
@@ -73,7 +69,7 @@ module _ (R : Class → ItemKind → Type 0) (C : ℕ → Type 0) (s : Scene) (g
   pieces-hold zero k (e ∷ es) codes =
       let showing = showing_of s.parts.settings.invisible e in
       let to = suc k + run_in s e es in
-      all-append Holds (string_pieces k e.face e.strings) (piece_at s showing e.character k to ∷ pieces_from s (run_in s e es) (suc k) es)
+      each-append Holds (string_pieces k e.face e.strings) (piece_at s showing e.character k to ∷ pieces_from s (run_in s e es) (suc k) es)
       (strings-hold k e.face e.strings)
       (piece-holds showing.display showing.hidden showing.face e.character k to codes.0, pieces-hold (run_in s e es) (suc k) es codes.1)
 
@@ -87,7 +83,7 @@ module _ (R : Class → ItemKind → Type 0) (C : ℕ → Type 0) (s : Scene) (g
   covering-holds : (since : ℕ) (xs : List Piece) → AllByRecursion Holds xs → AllByRecursion (λ (i : Item). R i.class i.kind) (covering since xs)
   covering-holds since [] all = tt
   covering-holds since (x ∷ xs) all =
-      all-append (λ (i : Item). R i.class i.kind) (items_by x.kind since x) (covering (covered_to since x) xs) (by-holds since x x.kind all.0) (covering-holds (covered_to since x) xs all.1)
+      each-append (λ (i : Item). R i.class i.kind) (items_by x.kind since x) (covering (covered_to since x) xs) (by-holds since x x.kind all.0) (covering-holds (covered_to since x) xs all.1)
 
   pub items-hold : (es : List Seen) → AllByRecursion (λ (e : Seen). IfSome e.character C) es → AllByRecursion (λ (i : Item). R i.class i.kind) (items_of s es)
   items-hold es codes =

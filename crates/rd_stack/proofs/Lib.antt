@@ -6,7 +6,6 @@ mod Strings
 mod Elements
 mod Prefixes
 mod Ends
-mod Enders
 mod LineEnds
 mod Joined
 mod TurnCounts

@@ -18,13 +18,13 @@ use Rattle.rd_levels.specs.Turns.{turns_of, ComesLast}
 use Rattle.rd_levels.specs.declared.turn.Turn.{Turn}
 use Rattle.rd_items.specs.Pieces.{Scene}
 use Rattle.rd_items.specs.Covers.{is_ender_kind, EndOnce}
+use Rattle.rd_items.proofs.Ended.{ended}
 use Rattle.rd_items.specs.declared.item.Item.{Item}
 use Rattle.rd_items.specs.declared.item.ItemKind.{ItemKind}
 use Rattle.rd_items.specs.declared.item.ItemKind.TheVariants as item
 use Rattle.rd_stack.specs.Shown.{AreOpen}
 use Rattle.rd_stack.specs.Lines.{ellipsis_glyphs, item_elements_by, turn_elements, origin_of, item_elements, item_class, item_code, item_turns, line_of_items}
 use Rattle.rd_stack.proofs.Ends.{open-one, glyphs-open, character-open, space-open, text-open}
-use Rattle.rd_stack.proofs.Enders.{EndsAsB}
 
 -- elements of which none ends the line, and one that does
 ends-append : (es : List Element) (e : Element) → AreOpen es → is_line_end e.look ≡ true → ends_once (es ++ e ∷ []) ≡ true
@@ -32,30 +32,6 @@ ends-append [] e each is = is
 ends-append (x ∷ []) e each is = ap₂ (λ a b. not a && b) (each 0 x (omega arith)) is
 ends-append (x ∷ y ∷ ys) e each is =
     ap₂ (λ a b. not a && b) (each 0 x (omega arith)) (ends-append (y ∷ ys) e (λ k d inside. each (suc k) d (omega arith)) is)
-
-ender-class : (class : Class) (k : ItemKind) → is_ender_kind k ≡ true → EndsAsB class k → class ≡ B
-ender-class class item.Ender is fine = fine
-ender-class class (item.Char c) is fine = absurd (let q : false ≡ true = is in cc)
-ender-class class (item.Marked g) is fine = absurd (let q : false ≡ true = is in cc)
-ender-class class (item.Text n) is fine = absurd (let q : false ≡ true = is in cc)
-ender-class class (item.Space spec) is fine = absurd (let q : false ≡ true = is in cc)
-ender-class class item.Ellipsis is fine = absurd (let q : false ≡ true = is in cc)
-
--- items of which the last is an ender, and no other
-record Ended (items : List Item) : Type 0 where
-  front : List Item
-  last : Item
-  whole : items ≡ front ++ last ∷ []
-  ends : is_ender_kind last.kind ≡ true
-  class : last.class ≡ B
-  others : AllByRecursion (λ (x : Item). is_ender_kind x.kind ≡ false) front
-
-ended : (items : List Item) → EndOnce items → AllByRecursion (λ (x : Item). EndsAsB x.class x.kind) items → Ended items
-ended [] once fine = absurd once
-ended (x ∷ []) once fine = record { front = []; last = x; whole = refl; ends = once; class = ender-class x.class x.kind once fine.0; others = tt }
-ended (x ∷ y ∷ xs) once fine =
-    let rest = ended (y ∷ xs) once.1 fine.1 in
-    record { front = x ∷ rest.front; last = rest.last; whole = ap (λ l. x ∷ l) rest.whole; ends = rest.ends; class = rest.class; others = (once.0, rest.others) }
 
 module _ (s : Scene) (base : ℕ) where
   kind-open : (k : ItemKind) (overlay odd : Bool) (face : Attributes) (origin : Origin) → is_ender_kind k ≡ false → AreOpen (item_elements_by s base k overlay odd face origin)
@@ -106,15 +82,15 @@ module _ (s : Scene) (base : ℕ) where
       ∙ ends-append (flat_map f comes.front) end (front-open front last comes.front n size each comes.others) refl
 
   pub line-ends : ((entries : List BracketEntry) (reorder : Bool) (base : ℕ) (classes : List Class) (codes : List ℕ) → ComesLast (turns_of entries reorder base (classes ++ B ∷ []) codes) (length classes))
-      → (items : List Item) → EndOnce items → AllByRecursion (λ (x : Item). EndsAsB x.class x.kind) items → ends_once (line_of_items s base items) ≡ true
-  line-ends law items once fine =
-      let e = ended items once fine in
-      let classes : map item_class items ≡ map item_class e.front ++ B ∷ [] =
-      ap (map item_class) e.whole ∙ map-append item_class e.front (e.last ∷ []) ∙ ap (λ c. map item_class e.front ++ c ∷ []) e.class in
+      → (items : List Item) → EndOnce items → ends_once (line_of_items s base items) ≡ true
+  line-ends law items once =
+      let e = ended items once in
+      let classes : map item_class items ≡ map item_class e.others ++ B ∷ [] =
+      ap (map item_class) e.whole ∙ map-append item_class e.others (e.ender ∷ []) ∙ ap (λ c. map item_class e.others ++ c ∷ []) e.is.class in
       let codes = map item_code items in
       let entries = s.brackets in
       let reorder = s.parts.settings.reorder in
-      let comes : ComesLast (item_turns s base items) (length (map item_class e.front)) =
-      subst (λ (cs : List Class). ComesLast (turns_of entries reorder base cs codes) (length (map item_class e.front))) (sym classes) (law entries reorder base (map item_class e.front) codes) in
+      let comes : ComesLast (item_turns s base items) (length (map item_class e.others)) =
+      subst (λ (cs : List Class). ComesLast (turns_of entries reorder base cs codes) (length (map item_class e.others))) (sym classes) (law entries reorder base (map item_class e.others) codes) in
       ap (λ xs. ends_once (flat_map (item_elements s base xs) (item_turns s base items))) e.whole
-      ∙ turned-ends e.front e.last (item_turns s base items) (length (map item_class e.front)) (length-map e.front item_class) e.ends e.others comes
+      ∙ turned-ends e.others e.ender (item_turns s base items) (length (map item_class e.others)) (length-map e.others item_class) e.is.kind e.inner comes

@@ -1,21 +1,9 @@
 -- Lists that are given element by element.
-use Rattle.std.proofs.Common.{◌≡◌, ℕ, suc, ◌+◌, ◌-◌, ◌≤◌, ◌<◌, List, [], ◌∷◌, ◌++◌, length, drop, get_or, Option, None, Some, All, sym, ap, subst, ◌∙◌, append_assoc, append-nil, arith, add-one, drop-cons}
+use Rattle.std.proofs.Common.{◌≡◌, ℕ, suc, ◌+◌, ◌-◌, ◌≤◌, ◌<◌, List, [], ◌∷◌, ◌++◌, length, drop, get_or, Option, None, Some, sym, ap, ◌∙◌, append_assoc, append-nil, arith}
 use Rattle.std.specs.Prelude.{map, slice_get}
-use Rattle.std.specs.List.{flat_map, range_with_len, AllByRecursion}
-use Rattle.std.proofs.lemmas.Option.{slice_get_within, slice_get_past, get_or_from_slice_get}
-
--- what stands at an index heads what is left
-pub drop-at : {X : Type 0} (xs : List X) (i : ℕ) (x : X) → slice_get xs i ≡ Some x → drop i xs ≡ x ∷ drop (i + 1) xs
-drop-at xs i x found =
-    let inside = slice_get_within xs i x found in
-    let here = get_or_from_slice_get xs i x x found in
-    rw (drop-cons xs i x inside, here, add-one)
-
-drop-read : {X : Type 0} (xs : List X) (i : ℕ) (x : X) → i < length xs → x ≡ get_or xs i x → drop i xs ≡ x ∷ drop (i + 1) xs
-drop-read xs i x inside here =
-    let more = drop-cons xs i x inside in
-    let next : suc i ≡ i + 1 = omega arith in
-    more ∙ ap (λ y. y ∷ drop (suc i) xs) (sym here) ∙ ap (λ j. x ∷ drop j xs) next
+use Rattle.std.specs.List.{flat_map, range_with_len}
+use Rattle.rd_base.proofs.Lists.{drop-at, drop-read}
+use Rattle.std.proofs.lemmas.Option.{slice_get_past}
 
 -- the elements of one more of a list
 pub gives-next : {X A : Type 0} (f : X → List A) (xs : List X) (i : ℕ) (x : X) (out more whole : List A) → i < length xs → x ≡ get_or xs i x → more ≡ out ++ f x → out ++ flat_map f (drop i xs) ≡ whole → more ++ flat_map f (drop (i + 1) xs) ≡ whole
@@ -34,15 +22,6 @@ pub nothing-past : {X A : Type 0} (f : Option X → List A) (out : List A) (xs :
 nothing-past f out xs n i none size past =
     let long : length xs ≤ i = omega arith in
     sym (append-nil out) ∙ ap (λ l. out ++ l) (sym none ∙ ap f (sym (slice_get_past xs i long)))
-
--- what holds of all holds of the one at an index
-pub all-at : {X : Type 0} (P : X → Type 0) (xs : List X) (i : ℕ) (x : X) → All P xs → slice_get xs i ≡ Some x → P x
-all-at P xs i x all found = subst P (get_or_from_slice_get xs i x x found) (all i x (slice_get_within xs i x found))
-
--- what holds of each of two lists holds of both together
-pub all-append : {X : Type 0} (P : X → Type 0) (xs ys : List X) → AllByRecursion P xs → AllByRecursion P ys → AllByRecursion P (xs ++ ys)
-all-append P [] ys these those = those
-all-append P (x ∷ xs) ys these those = (these.0, all-append P xs ys these.1 those)
 
 pub range-next : (i n m : ℕ) → m ≡ n → i < m → range_with_len i (n - i) ≡ i ∷ range_with_len (i + 1) (n - (i + 1))
 range-next i n m size inside =

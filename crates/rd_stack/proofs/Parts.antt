@@ -5,6 +5,8 @@ use Rattle.std.specs.List.{flat_map, range_with_len, AllByRecursion}
 use Rattle.std.proofs.lemmas.List.{length-map}
 use Rattle.std.proofs.lemmas.List.FromFn.{length-range_with_len}
 use Rattle.std.proofs.lemmas.List.Elements.{recursion_from_All}
+use Rattle.std.proofs.lemmas.Bool.{cond_both}
+use Rattle.rd_base.proofs.Lists.{each-append}
 use Rattle.rd_base.specs.Chars.{is_code}
 use Rattle.rd_base.specs.Faces.{Attributes}
 use Rattle.rd_base.specs.Glyphs.{IsMeasured}
@@ -30,7 +32,6 @@ use Rattle.rd_stack.specs.declared.part.Shown.{Shown}
 use Rattle.rd_stack.specs.declared.part.PartKind.{PartKind}
 use Rattle.rd_stack.specs.declared.part.PartKind.TheVariants as kind
 use Rattle.rd_stack.proofs.Good.{found-by, found}
-use Rattle.rd_stack.proofs.Lists.{all-append}
 use Rattle.rd_stack.proofs.Joined.{marks_joined-few}
 use Rattle.rd_stack.proofs.TurnCounts.{LevelsLaw, turns-count}
 
@@ -70,11 +71,7 @@ fit-append m n xs ys these those =
     let sum = length-append xs ys in
     let first = these.few in
     let second = those.few in
-    record { each = all-append IsFitShown xs ys these.each those.each; few = omega (arith, sum, first, second) }
-
-fit-either : (most : ℕ) (b : Bool) (xs ys : List Shown) → AreFit most xs → AreFit most ys → AreFit most (if b then xs else ys)
-fit-either most true xs ys these those = these
-fit-either most false xs ys these those = those
+    record { each = each-append IsFitShown xs ys these.each those.each; few = omega (arith, sum, first, second) }
 
 -- ---- specs
 
@@ -137,10 +134,10 @@ module _ (laws : MarkLaws) (levels : LevelsLaw) (s : Scene) (base : ℕ) (sound 
       let end : AreFit (suc (length ps)) next = record { each = (tt, rest.each); few = omega (arith, left) } in
       let longer = xs ++ part_of s p ∷ [] in
       let size = length-append xs (part_of s p ∷ []) in
-      fit-either most (ends_row p) (row s base xs ++ next) (rows_from s base longer ps)
-      (fit-append (length xs) (suc (length ps)) (row s base xs) next (row-fit xs all) end)
-      (fit-more (length longer + length ps) most (rows_from s base longer ps) (omega (arith, size))
-      (rows-fit longer ps (all-append IsFitPart xs (part_of s p ∷ []) all (part-fit p codes.0, tt)) codes.1))
+      cond_both (ends_row p) (row s base xs ++ next) (rows_from s base longer ps) (AreFit most)
+      (λ ends. fit-append (length xs) (suc (length ps)) (row s base xs) next (row-fit xs all) end)
+      (λ goes. fit-more (length longer + length ps) most (rows_from s base longer ps) (omega (arith, size))
+      (rows-fit longer ps (each-append IsFitPart xs (part_of s p ∷ []) all (part-fit p codes.0, tt)) codes.1))
 
   -- ---- places
 

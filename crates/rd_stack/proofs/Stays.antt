@@ -2,8 +2,10 @@
 use Rattle.std.proofs.Common.{◌≡◌, ℕ, ◌-◌, ◌<◌, Bool, true, false, if◌then◌else◌, List, [], ◌∷◌, ◌++◌, length, Option, None, Some, All, IfSome, refl, ap, ◌∙◌}
 use Rattle.std.specs.Prelude.{map, slice_get, option_map, unwrap_or}
 use Rattle.std.specs.List.{flat_map, range_with_len}
+use Rattle.std.proofs.lemmas.Bool.{cond_both}
 use Rattle.std.proofs.lemmas.List.Elements.{All-nil, All-cons, All-append, All-head, All-tail}
 use Rattle.rd_base.specs.Faces.{Attributes, plain}
+use Rattle.rd_base.proofs.Lists.{all-at}
 use Rattle.rd_base.specs.Settings.{SettingValues}
 use Rattle.rd_base.specs.declared.cell.Glyph.{Glyph}
 use Rattle.rd_base.specs.declared.element.Element.{Element}
@@ -16,8 +18,8 @@ use Rattle.rd_objects.specs.Texts.{TextValue, spec_of}
 use Rattle.rd_objects.specs.Things.{ObjectLists}
 use Rattle.rd_objects.proofs.Soundness.{same_strings, same_specs, named_specs, named_strings}
 use Rattle.rd_glyphs.specs.Characters.{entry_of, elements_by, elements_of}
-use Rattle.rd_glyphs.specs.Joining.{base_of, mark_of}
-use Rattle.rd_glyphs.specs.Marks.{marked_glyph, marks_joined_from, marks_joined}
+use Rattle.rd_glyphs.proofs.Joined.{Grows, marks_joined-each}
+use Rattle.rd_glyphs.specs.Marks.{marks_joined}
 use Rattle.rd_props.specs.Seen.{Seen}
 use Rattle.rd_items.specs.Growing.{ShowsMade, ShowMade, GoesOnFrom}
 use Rattle.rd_items.specs.Items.{items_of}
@@ -34,17 +36,12 @@ use Rattle.rd_stack.specs.declared.part.PartKind.{PartKind}
 use Rattle.rd_stack.specs.declared.part.PartKind.TheVariants as kind
 use Rattle.rd_stack.specs.declared.part.Place.{Place}
 use Rattle.rd_stack.specs.declared.part.Shown.{Shown}
-use Rattle.rd_stack.proofs.Lists.{all-at}
 
 -- ---- lists and options
 
 if-value : (P : ℕ → Type 0) (o : Option ℕ) → ((v : ℕ) → o ≡ Some v → P v) → IfSome o P
 if-value P None all = tt
 if-value P (Some v) all = all v refl
-
-chosen : {X : Type 0} (P : X → Type 0) (t : Bool) (xs ys : List X) → All P xs → All P ys → All P (if t then xs else ys)
-chosen P true xs ys these those = these
-chosen P false xs ys these those = those
 
 one : {X : Type 0} (P : X → Type 0) (x : X) → P x → All P (x ∷ [])
 one P x is = All-cons P x [] is (All-nil P)
@@ -88,19 +85,8 @@ module _ (s : Scene) (closed : IsClosed s.objects) where
   by-fine None p = tt
   by-fine (Some n) p = spec-fine n (slice_get s.objects.specs n) refl
 
-  joins-by : (h x : Part) (xs : List Part) → IsFine h → IsFine x → ((k : Part) → IsFine k → All IsFine (marks_joined_from part_joins k xs)) → (glyph : Option Glyph) → marked_glyph (base_of h.joining) (mark_of x.joining) ≡ glyph
-      → All IsFine (marks_joined_from part_joins h (x ∷ xs))
-  joins-by h x xs held next rest None e = rw e (All-cons IsFine h (marks_joined_from part_joins x xs) held (rest x next))
-  joins-by h x xs held next rest (Some g) e = rw e (rest _ tt)
-
-  joins : (h : Part) (xs : List Part) → IsFine h → All IsFine xs → All IsFine (marks_joined_from part_joins h xs)
-  joins h [] held all = one IsFine h held
-  joins h (x ∷ xs) held all =
-      joins-by h x xs held (All-head IsFine x xs all) (λ k fine. joins k xs fine (All-tail IsFine x xs all)) (marked_glyph (base_of h.joining) (mark_of x.joining)) refl
-
-  joins-all : (xs : List Part) → All IsFine xs → All IsFine (marks_joined part_joins xs)
-  joins-all [] all = all
-  joins-all (x ∷ xs) all = joins x xs (All-head IsFine x xs all) (All-tail IsFine x xs all)
+  grows : Grows part_joins IsFine
+  grows held next glyph these those e = tt
 
   shown-fine : (odd : Bool) (found : Option Part) → IfSome found IsFine → All IsFineShown (shown_by odd found)
   shown-fine odd None fine = All-nil IsFineShown
@@ -113,15 +99,15 @@ module _ (s : Scene) (closed : IsClosed s.objects) where
       (shown-fine turn.odd (slice_get xs turn.index) (found-by IsFine xs turn.index (slice_get xs turn.index) all refl)) (turns-fine xs turns all)
 
   row-fine : (base : ℕ) (xs : List Part) → All IsFine xs → All IsFineShown (row s base xs)
-  row-fine base xs all = turns-fine (marks_joined part_joins xs) _ (joins-all xs all)
+  row-fine base xs all = turns-fine (marks_joined part_joins xs) _ (marks_joined-each part_joins IsFine grows xs all)
 
   rows-fine : (base : ℕ) (xs : List Part) (ps : List Place) → All IsFine xs → All IsFineShown (rows_from s base xs ps)
   rows-fine base xs [] all = row-fine base xs all
   rows-fine base xs (p ∷ ps) all =
-      chosen IsFineShown (ends_row p) (row s base xs ++ row_end p.face ∷ rows_from s base [] ps) (rows_from s base (xs ++ part_of s p ∷ []) ps)
-      (All-append IsFineShown (row s base xs) (row_end p.face ∷ rows_from s base [] ps) (row-fine base xs all)
+      cond_both (ends_row p) (row s base xs ++ row_end p.face ∷ rows_from s base [] ps) (rows_from s base (xs ++ part_of s p ∷ []) ps) (All IsFineShown)
+      (λ ends. All-append IsFineShown (row s base xs) (row_end p.face ∷ rows_from s base [] ps) (row-fine base xs all)
       (All-cons IsFineShown (row_end p.face) (rows_from s base [] ps) tt (rows-fine base [] ps (All-nil IsFine))))
-      (rows-fine base (xs ++ part_of s p ∷ []) ps (All-append IsFine xs (part_of s p ∷ []) all (one IsFine (part_of s p) (by-fine p.spec p))))
+      (λ goes. rows-fine base (xs ++ part_of s p ∷ []) ps (All-append IsFine xs (part_of s p ∷ []) all (one IsFine (part_of s p) (by-fine p.spec p))))
 
 -- ---- what stays
 
@@ -186,7 +172,7 @@ module _ (old new : Scene) (goes : GoesOnFrom old new) (closed : IsClosed old.ob
   heads-made before [] made = made
   heads-made before (p ∷ ps) made =
       All-append IsMade (if same_spec before p.spec then [] else p ∷ []) (run_heads p.spec ps)
-      (chosen IsMade (same_spec before p.spec) [] (p ∷ []) (All-nil IsMade) (one IsMade p (All-head IsMade p ps made)))
+      (cond_both (same_spec before p.spec) [] (p ∷ []) (All IsMade) (λ goes. All-nil IsMade) (λ heads. one IsMade p (All-head IsMade p ps made)))
       (heads-made p.spec ps (All-tail IsMade p ps made))
 
   -- a string that was made

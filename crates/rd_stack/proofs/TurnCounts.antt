@@ -1,7 +1,8 @@
 -- A line has a turn for each of its places.
 use Rattle.std.proofs.Common.{◌≡◌, ℕ, zero, suc, ◌+◌, ◌-◌, nat_le, Bool, true, false, List, [], ◌∷◌, ◌++◌, length, refl, ◌∙◌, length-append, arith}
-use Rattle.std.specs.Prelude.{if◌then◌else◌, slice_index}
+use Rattle.std.specs.Prelude.{slice_index}
 use Rattle.std.specs.List.{range_with_len}
+use Rattle.std.proofs.lemmas.Bool.{cond_both}
 use Rattle.std.proofs.lemmas.List.{length-map, length-replicate}
 use Rattle.std.proofs.lemmas.List.FromFn.{length-range_with_len}
 use Rattle.rd_base.specs.declared.class.Class.{Class}
@@ -14,18 +15,14 @@ use Rattle.rd_levels.specs.Turns.{levels_with, turn_of, turns_of}
 abbrev pub LevelsLaw : Type 0
 LevelsLaw = (entries : List BracketEntry) (base : ℕ) (classes : List Class) (codes : List ℕ) → length (line_levels entries base classes codes) ≡ length classes
 
-either : (b : Bool) (xs ys : List ℕ) (n : ℕ) → length xs ≡ n → length ys ≡ n → length (if b then xs else ys) ≡ n
-either true xs ys n these those = these
-either false xs ys n these those = those
-
 l2_reversed-count : (levels : List ℕ) (k : ℕ) (run is : List ℕ) → length (l2_reversed levels k run is) ≡ length run + length is
 l2_reversed-count levels k run [] = omega arith
 l2_reversed-count levels k run (i ∷ is) =
     let longer = l2_reversed-count levels k (i ∷ run) is in
     let fresh = l2_reversed-count levels k [] is in
     let cut = length-append run (i ∷ l2_reversed levels k [] is) in
-    either (nat_le k (slice_index levels i)) (l2_reversed levels k (i ∷ run) is) (run ++ (i ∷ l2_reversed levels k [] is)) (length run + length (i ∷ is))
-    (omega (arith, longer)) (omega (arith, fresh, cut))
+    cond_both (nat_le k (slice_index levels i)) (l2_reversed levels k (i ∷ run) is) (run ++ (i ∷ l2_reversed levels k [] is)) (λ xs. length xs ≡ length run + length (i ∷ is))
+    (λ inside. omega (arith, longer)) (λ outside. omega (arith, fresh, cut))
 
 down-count : (levels : List ℕ) (base n : ℕ) (is : List ℕ) → length (l2_reversed_down levels base n is) ≡ length is
 down-count levels base zero is = refl

@@ -1,5 +1,7 @@
 -- A walk as frames that are stepped in turn.
-use Rattle.std.specs.Prelude.{◌≡◌, ℕ, ◌+◌, ◌*◌, List, [], ◌∷◌, ◌++◌, length}
+use Rattle.std.specs.Prelude.{◌≡◌, ℕ, ◌+◌, ◌*◌, ◌^◌, ◌<◌, true, List, [], ◌∷◌, ◌++◌, length}
+use Rattle.rd_base.specs.Elements.{AreSound, columns_at_most, ends_once}
+use Rattle.rd_base.specs.Glyphs.{AreMeasured}
 use Rattle.rd_base.specs.declared.element.Element.{Element}
 use Rattle.rd_stack.specs.Steps.{elements_in}
 use Rattle.rd_stack.specs.declared.step.Step.{Step}
@@ -37,6 +39,14 @@ frames_left (f ∷ fs) = frames_left fs ++ frame_left f
 -- what a walk has still to give: a few elements of its innermost frame, and then what the frames have
 abbrev pub walk_left : List Element → List Frame → List Element
 walk_left few frames = few ++ elements_in (frames_left frames)
+
+-- these are the elements of a line: each is sound and measured, they take fewer than 2^60 columns, and the last and no other is its end
+pub record IsLine (line es : List Element) : Type 0 where
+  pub left : es ≡ line
+  pub sound : AreSound es
+  pub measured : AreMeasured es
+  pub columns : columns_at_most es < 2 ^ 60
+  pub ends : ends_once es ≡ true
 
 -- a step of the last of the frames
 pub record StepsInnermost (step : Step) (few : List Element) (old new : List Frame) : Type 0 where

@@ -22,9 +22,8 @@ pub struct Walker<'a> {
 }
 
 impl<'a> Walker<'a> {
-    ghost use Rattle.std.specs.Prelude.{◌≡◌, ◌≤◌, ◌<◌, ◌^◌, ◌+◌, ◌-◌, ◌++◌, [], length, take, option_to_list, true, IfOk, OnOk};
-    ghost use Rattle.rd_base.specs.Elements.{Takes, AreSound, columns_at_most, ends_once};
-    ghost use Rattle.rd_base.specs.Glyphs.{AreMeasured};
+    ghost use Rattle.std.specs.Prelude.{◌≡◌, ◌≤◌, ◌<◌, ◌+◌, ◌-◌, ◌++◌, [], length, take, option_to_list, IfOk, OnOk};
+    ghost use Rattle.rd_base.specs.Elements.{Takes};
     ghost use Rattle.rd_text.specs.Texts.{IsAccessible};
     ghost use Rattle.rd_props.specs.Appearance.{appearance_in};
     ghost use Rattle.rd_props.specs.Buffers.{meaning};
@@ -33,7 +32,7 @@ impl<'a> Walker<'a> {
     ghost use Rattle.rd_items.specs.Readings.{reading};
     ghost use Rattle.rd_stack.specs.Lines.{line_elements};
     ghost use Rattle.rd_stack.specs.Steps.{elements_in};
-    ghost use Rattle.rd_stack.specs.Walks.{StepsInnermost, frame_left, frames_left, walk_left, work};
+    ghost use Rattle.rd_stack.specs.Walks.{IsLine, StepsInnermost, frame_left, frames_left, walk_left, work};
 
     /// The elements of the line of the block that starts at a position, in a line of this base. They are those of its items in
     /// visual order from the reading edge: a character's, a space, the glyphs of an ellipsis, those of a display string or of an
@@ -42,11 +41,7 @@ impl<'a> Walker<'a> {
     pub fn start(alloc: Global, view: View<'a>, start: Pos, base: u8) -> Result<Walker<'a>, Memory>
         requires place { IsAccessible view.state.now.text start }
         requires base { base ≤ 1 }
-        ensures left { IfOk result (λ walker. ⟦<Walker<'a> as Elements>⟧.left walker ≡ line_elements (scene_of view.entry) base (reading (meaning view.entry.state.now) view.entry.objects.now start)) }
-        ensures sound { IfOk result (λ walker. AreSound (⟦<Walker<'a> as Elements>⟧.left walker)) }
-        ensures measured { IfOk result (λ walker. AreMeasured (⟦<Walker<'a> as Elements>⟧.left walker)) }
-        ensures columns { IfOk result (λ walker. columns_at_most (⟦<Walker<'a> as Elements>⟧.left walker) < 2 ^ 60) }
-        ensures ends { IfOk result (λ walker. ends_once (⟦<Walker<'a> as Elements>⟧.left walker) ≡ true) }
+        ensures { IfOk result (λ walker. IsLine (line_elements (scene_of view.entry) base (reading (meaning view.entry.state.now) view.entry.objects.now start)) (⟦<Walker<'a> as Elements>⟧.left walker)) }
     {
         let appearance = appearance_at(alloc, &view, start)?;
         Walker::with_appearance(alloc, view, start, base, &appearance)
@@ -63,11 +58,7 @@ impl<'a> Walker<'a> {
         requires place { IsAccessible view.state.now.text start }
         requires base { base ≤ 1 }
         requires appearance { appearance.now ≡ appearance_in (seen_at (meaning view.state.now) view.objects.now start) }
-        ensures left { IfOk result (λ walker. ⟦<Walker<'a> as Elements>⟧.left walker ≡ line_elements (scene_of view.entry) base (reading (meaning view.entry.state.now) view.entry.objects.now start)) }
-        ensures sound { IfOk result (λ walker. AreSound (⟦<Walker<'a> as Elements>⟧.left walker)) }
-        ensures measured { IfOk result (λ walker. AreMeasured (⟦<Walker<'a> as Elements>⟧.left walker)) }
-        ensures columns { IfOk result (λ walker. columns_at_most (⟦<Walker<'a> as Elements>⟧.left walker) < 2 ^ 60) }
-        ensures ends { IfOk result (λ walker. ends_once (⟦<Walker<'a> as Elements>⟧.left walker) ≡ true) }
+        ensures { IfOk result (λ walker. IsLine (line_elements (scene_of view.entry) base (reading (meaning view.entry.state.now) view.entry.objects.now start)) (⟦<Walker<'a> as Elements>⟧.left walker)) }
     {
         blocks_are_read_whole();
         lines_end_once();
