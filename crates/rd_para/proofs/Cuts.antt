@@ -1,5 +1,5 @@
 -- Lines of a text, as the code finds them.
-use Rattle.std.proofs.Common.{◌≡◌, ℕ, suc, ◌+◌, ◌-◌, ◌<◌, ◌≤◌, inl, inr, Bool, true, false, ◌||◌, not, cond, if◌then◌else◌, List, [], ◌∷◌, ◌++◌, length, get_or, take, drop, replicate, Option, Some, None, refl, sym, ap, subst, ◌∙◌, arith}
+use Rattle.std.proofs.Common.{◌≡◌, ℕ, suc, ◌+◌, ◌-◌, ◌<◌, ◌≤◌, inl, inr, Bool, true, false, ◌||◌, not, cond, if◌then◌else◌, List, [], ◌∷◌, length, get_or, take, drop, replicate, Option, None, refl, sym, ap, subst, ◌∙◌, arith}
 use Rattle.std.specs.Prelude.{unwrap_or}
 use Rattle.std.specs.List.{slice_split, onto_first, position_or_len}
 use Rattle.std.proofs.lemmas.List.Sums.{prefix_len-le-length}
@@ -58,36 +58,23 @@ line_cut t from right begin end =
           cut ∙ ap (λ (xs : List ℕ). xs ∷ slice_split is_newline (drop (i + 1) all)) (sym line) ∙ ap (λ (xs : List ℕ). between t from (from + i) ∷ slice_split is_newline xs) behind;
     }
 
--- how long the line is
-pub line_length : (t : TextValue) (from to : ℕ) → IsText t → t.begin ≤ from → from ≤ to → to ≤ t.end → length (between t from to) ≡ to - from
-line_length t from to right begin order within =
-    let first = right.first in
-    let last_ok = right.last in
-    let size_rest : length (drop (from - 1) t.text) ≡ length t.text - (from - 1) = length-drop (from - 1) t.text in
-    length-take-le (to - 1 - (from - 1)) (drop (from - 1) t.text) (omega arith) ∙ omega arith
-
 -- the level of a line is that at each of its places
-pub levels_here : (classes : List Span) (last : ℕ) (inside : Bool) (line : List ℕ) (lines pieces : List (List ℕ)) (n whole : ℕ) → pieces ≡ line ∷ lines
-    → n ≤ length line → get_or (levels_of classes last inside pieces) n 0 ≡ whole → level_by classes last inside line lines ≡ whole
-levels_here classes last inside line lines pieces n whole cut low is =
+pub levels_here : (classes : List Span) (last : ℕ) (inside : Bool) (line : List ℕ) (lines pieces : List (List ℕ)) (n : ℕ) → pieces ≡ line ∷ lines
+    → n ≤ length line → get_or (levels_of classes last inside pieces) n 0 ≡ level_by classes last inside line lines
+levels_here classes last inside line lines pieces n cut low =
     let b = level_by classes last inside line lines in
-    let more = levels_of classes b (not (is_separator line)) lines in
     let size = length-replicate (length line + 1) b in
-    let here : get_or (levels_of classes last inside pieces) n 0 ≡ get_or (replicate (length line + 1) b ++ more) n 0
-    = ap (λ (p : List (List ℕ)). get_or (levels_of classes last inside p) n 0) cut in
-    sym (here ∙ get_or_append_left (replicate (length line + 1) b) more 0 n (omega arith) ∙ get_or-replicate (length line + 1) n b 0 (omega arith)) ∙ is
+    ap (λ (p : List (List ℕ)). get_or (levels_of classes last inside p) n 0) cut
+    ∙ get_or_append_left (replicate (length line + 1) b) (levels_of classes b (not (is_separator line)) lines) 0 n (omega arith) ∙ get_or-replicate (length line + 1) n b 0 (omega arith)
 
 -- and behind it come those of the next lines
-pub levels_next : (classes : List Span) (last : ℕ) (inside : Bool) (line : List ℕ) (lines pieces : List (List ℕ)) (n whole : ℕ) → pieces ≡ line ∷ lines
-    → length line < n → get_or (levels_of classes last inside pieces) n 0 ≡ whole
-    → get_or (levels_of classes (level_by classes last inside line lines) (not (is_separator line)) lines) (n - (length line + 1)) 0 ≡ whole
-levels_next classes last inside line lines pieces n whole cut high is =
+pub levels_next : (classes : List Span) (last : ℕ) (inside : Bool) (line : List ℕ) (lines pieces : List (List ℕ)) (n : ℕ) → pieces ≡ line ∷ lines
+    → length line < n → get_or (levels_of classes last inside pieces) n 0
+    ≡ get_or (levels_of classes (level_by classes last inside line lines) (not (is_separator line)) lines) (n - (length line + 1)) 0
+levels_next classes last inside line lines pieces n cut high =
     let b = level_by classes last inside line lines in
-    let more = levels_of classes b (not (is_separator line)) lines in
-    let size = length-replicate (length line + 1) b in
-    let here : get_or (levels_of classes last inside pieces) n 0 ≡ get_or (replicate (length line + 1) b ++ more) n 0
-    = ap (λ (p : List (List ℕ)). get_or (levels_of classes last inside p) n 0) cut in
-    sym (here ∙ get_or-append_right (replicate (length line + 1) b) more (length line + 1) n 0 size (omega arith)) ∙ is
+    ap (λ (p : List (List ℕ)). get_or (levels_of classes last inside p) n 0) cut
+    ∙ get_or-append_right (replicate (length line + 1) b) (levels_of classes b (not (is_separator line)) lines) (length line + 1) n 0 (length-replicate (length line + 1) b) (omega arith)
 
 -- the level of the next line, as the code finds it
 pub level_found : (classes : List Span) (last found : ℕ) (separates inside : Bool) (line : List ℕ) (lines pieces : List (List ℕ)) → pieces ≡ line ∷ lines
@@ -97,26 +84,12 @@ level_found classes last found separates inside line lines pieces cut is e =
     e ∙ ap (λ (v : Bool). if v || inside then last else unwrap_or (decided classes pieces) 0) is
     ∙ ap (λ (p : List (List ℕ)). if is_separator line || inside then last else unwrap_or (decided classes p) 0) cut
 
--- a paragraph that ends, one that is decided, and one that goes on
-pub decided_ends : (classes : List Span) (line : List ℕ) (lines pieces : List (List ℕ)) (whole : ℕ) → pieces ≡ line ∷ lines → is_separator line ≡ true
-    → unwrap_or (decided classes pieces) 0 ≡ whole → 0 ≡ whole
-decided_ends classes line lines pieces whole cut blank is =
-    sym (ap (λ (p : List (List ℕ)). unwrap_or (decided classes p) 0) cut
-    ∙ ap (λ (v : Bool). unwrap_or (if v then None else first_of (line_level classes line) (decided classes lines)) 0) blank) ∙ is
-
-pub decided_here : (classes : List Span) (line : List ℕ) (lines pieces : List (List ℕ)) (level whole : ℕ) → pieces ≡ line ∷ lines → is_separator line ≡ false
-    → Some level ≡ line_level classes line → unwrap_or (decided classes pieces) 0 ≡ whole → level ≡ whole
-decided_here classes line lines pieces level whole cut text decides is =
-    sym (ap (λ (p : List (List ℕ)). unwrap_or (decided classes p) 0) cut
-    ∙ ap (λ (v : Bool). unwrap_or (if v then None else first_of (line_level classes line) (decided classes lines)) 0) text
-    ∙ ap (λ (o : Option ℕ). unwrap_or (first_of o (decided classes lines)) 0) (sym decides)) ∙ is
-
-pub decided_next : (classes : List Span) (line : List ℕ) (lines pieces : List (List ℕ)) (whole : ℕ) → pieces ≡ line ∷ lines → is_separator line ≡ false
-    → None ≡ line_level classes line → unwrap_or (decided classes pieces) 0 ≡ whole → unwrap_or (decided classes lines) 0 ≡ whole
-decided_next classes line lines pieces whole cut text undecided is =
-    sym (ap (λ (p : List (List ℕ)). unwrap_or (decided classes p) 0) cut
-    ∙ ap (λ (v : Bool). unwrap_or (if v then None else first_of (line_level classes line) (decided classes lines)) 0) text
-    ∙ ap (λ (o : Option ℕ). unwrap_or (first_of o (decided classes lines)) 0) (sym undecided)) ∙ is
+-- what the first line says of the level of a paragraph
+pub decided_from : (classes : List Span) (line : List ℕ) (lines pieces : List (List ℕ)) (blank : Bool) (level : Option ℕ) → pieces ≡ line ∷ lines
+    → is_separator line ≡ blank → level ≡ line_level classes line → decided classes pieces ≡ (if blank then None else first_of level (decided classes lines))
+decided_from classes line lines pieces blank level cut is found =
+    ap (decided classes) cut ∙ ap (λ (v : Bool). if v then None else first_of (line_level classes line) (decided classes lines)) is
+    ∙ ap (λ (o : Option ℕ). if blank then None else first_of o (decided classes lines)) (sym found)
 
 -- there is a first line
 pub some_line : (t : TextValue) (from to : ℕ) → IsCut t from to → (lines : List (List ℕ)) × (slice_split is_newline (between t from t.end) ≡ between t from to ∷ lines)

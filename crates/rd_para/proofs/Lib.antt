@@ -1,4 +1,3 @@
 mod Chars
 mod Cuts
-mod Inks
 mod Walks

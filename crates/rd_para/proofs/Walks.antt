@@ -2,21 +2,14 @@
 use Rattle.std.proofs.Common.{◌≡◌, ℕ, zero, suc, ◌+◌, ◌-◌, ◌<◌, ◌≤◌, ◌⊎◌, Bool, true, false, ◌||◌, not, if◌then◌else◌, List, ◌∷◌, length, get_or, inl, inr, None, refl, sym, ap, subst, ◌∙◌, arith}
 use Rattle.std.specs.Prelude.{unwrap_or, max}
 use Rattle.std.specs.List.{slice_split}
-use Rattle.std.proofs.lemmas.Bool.{cases_lt}
+use Rattle.std.proofs.lemmas.Bool.{cases_lt, cases_Bool, or_right}
 use Rattle.std.proofs.lemmas.List.Sums.{suffix_len_is}
 use Rattle.rd_text.specs.Texts.{TextValue, IsText, between, is_newline, is_ink, is_separator, next_newline, prev_newline, prev_ink, IsLineStart, EndsSeparator, IsParagraphStart}
+use Rattle.rd_text.proofs.Characters.{clash, blank_else, blank_not_ink, newline_not_ink}
+use Rattle.rd_text.proofs.Searches.{next_before, next_at, ink_after, ink_at, prev_ink_bound, between_at, between_size, all_blank, some_ink, blank_at}
 use Rattle.rd_ucd.specs.declared.spans.Span.{Span}
 use Rattle.rd_para.specs.Paragraphs.{line_level, first_of, decided, level_by, levels_of, text_level}
-use Rattle.rd_para.proofs.Cuts.{line_cut, line_length, some_line, levels_here, levels_next}
-use Rattle.rd_para.proofs.Inks.{clash, blank_else, blank_not_ink, newline_not_ink, next_before, next_at, ink_after, ink_at, prev_ink_bound, between_at, between_size, all_blank, some_ink, blank_at}
-
-or_true : (b : Bool) → (b || true) ≡ true
-or_true true = refl
-or_true false = refl
-
-bool_cases : (b : Bool) → (b ≡ true) ⊎ (b ≡ false)
-bool_cases true = inl refl
-bool_cases false = inr refl
+use Rattle.rd_para.proofs.Cuts.{line_cut, some_line, levels_here, levels_next}
 
 -- the lines from a position on
 abbrev pub rows : TextValue → ℕ → List (List ℕ)
@@ -58,9 +51,9 @@ module _ (classes : List Span) (t : TextValue) (right : IsText t) where
       let c = line_cut t from right low high in
       let order = c.order in
       let inside = c.within in
-      let size = line_length t from to right low order inside in
+      let size = between_size t right from to low order inside in
       r.rest p at (omega arith)
-      ∙ sym (levels_here classes r.last r.inside (between t from to) lines (rows t from) (p - from) (get_or (levels_of classes r.last r.inside (rows t from)) (p - from) 0) cut (omega arith) refl)
+      ∙ levels_here classes r.last r.inside (between t from to) lines (rows t from) (p - from) cut (omega arith)
 
   -- one line further
   abbrev step : (from : ℕ) → Reached classes t from → t.begin ≤ from → from ≤ t.end → next_newline t from < t.end → Reached classes t (next_newline t from + 1)
@@ -68,7 +61,7 @@ module _ (classes : List Span) (t : TextValue) (right : IsText t) where
       let to = next_newline t from in
       let c = line_cut t from right low high in
       let order = c.order in
-      let size = line_length t from to right low order c.within in
+      let size = between_size t right from to low order c.within in
       let line = between t from to in
       record {
         last = level_by classes r.last r.inside line (rows t (to + 1));
@@ -76,7 +69,7 @@ module _ (classes : List Span) (t : TextValue) (right : IsText t) where
         rest = λ p at within.
             let place : p - from - (length line + 1) ≡ p - (to + 1) = omega arith in
             r.rest p (omega arith) within
-            ∙ sym (levels_next classes r.last r.inside line (rows t (to + 1)) (rows t from) (p - from) (get_or (levels_of classes r.last r.inside (rows t from)) (p - from) 0) (c.more more) (omega arith) refl)
+            ∙ levels_next classes r.last r.inside line (rows t (to + 1)) (rows t from) (p - from) (c.more more) (omega arith)
             ∙ ap (λ (n : ℕ). get_or (levels_of classes (level_by classes r.last r.inside line (rows t (to + 1))) (not (is_separator line)) (rows t (to + 1))) n 0) place;
       }
 
@@ -205,27 +198,27 @@ module _ (classes : List Span) (t : TextValue) (right : IsText t) where
         let c = line_cut t from right (omega arith) (omega arith) in
         let c_order = c.order in
         let c_within = c.within in
-        let size = line_length t from to right (omega arith) c_order c_within in
+        let size = between_size t right from to (omega arith) c_order c_within in
         let text = between t from to in
         let one : (lines : List (List ℕ)) → level_by classes level inside text lines ≡ level = λ lines. elim kind [
           | inl is ↦ ap (λ (b : Bool). if is_separator text || b then level else unwrap_or (decided classes (text ∷ lines)) 0) is
-              ∙ ap (λ (b : Bool). if b then level else unwrap_or (decided classes (text ∷ lines)) 0) (or_true (is_separator text))
+              ∙ ap (λ (b : Bool). if b then level else unwrap_or (decided classes (text ∷ lines)) 0) (or_right (is_separator text) true refl)
           | inr past ↦ ap (λ (b : Bool). if b || inside then level else unwrap_or (decided classes (text ∷ lines)) 0) (blank_behind from p (omega arith) order p_high past)
         ] in
         elim (cases_lt to p) [
           | inr here ↦
               let some = some_line t from to c in
-              sym (levels_here classes level inside text some.0 (rows t from) (p - from) (get_or (levels_of classes level inside (rows t from)) (p - from) 0) some.1 (omega arith) refl) ∙ one some.0
+              levels_here classes level inside text some.0 (rows t from) (p - from) some.1 (omega arith) ∙ one some.0
           | inl further ↦
               let more : to < t.end = omega arith in
               let place_is : p - from - (length text + 1) ≡ p - (to + 1) = omega arith in
               let next_line : IsLineStart t (to + 1)
               = inr (omega arith, ap (λ (k : ℕ). is_newline (get_or t.text k 0)) (let e : to + 1 - 1 - 1 ≡ to - 1 = omega arith in e) ∙ next_at t right from (omega arith) (omega arith) more) in
-              let next_kind : (not (is_separator text) ≡ true) ⊎ (place < to + 1) = elim (bool_cases (is_separator text)) [
+              let next_kind : (not (is_separator text) ≡ true) ⊎ (place < to + 1) = elim (cases_Bool (is_separator text)) [
                 | inl blank ↦ inr (past_place from at line (omega arith) more blank)
                 | inr other ↦ inl (ap not other)
               ] in
-              sym (levels_next classes level inside text (rows t (to + 1)) (rows t from) (p - from) (get_or (levels_of classes level inside (rows t from)) (p - from) 0) (c.more more) (omega arith) refl)
+              levels_next classes level inside text (rows t (to + 1)) (rows t from) (p - from) (c.more more) (omega arith)
               ∙ ap (λ (k : ℕ). get_or (levels_of classes (level_by classes level inside text (rows t (to + 1))) (not (is_separator text)) (rows t (to + 1))) k 0) place_is
               ∙ ap (λ (v : ℕ). get_or (levels_of classes v (not (is_separator text)) (rows t (to + 1))) (p - (to + 1)) 0) (one (rows t (to + 1)))
               ∙ stays n (to + 1) p level (not (is_separator text)) (omega arith) (omega arith) next_line (omega arith) p_high next_kind
@@ -278,11 +271,11 @@ module _ (classes : List Span) (t : TextValue) (right : IsText t) where
         let c = line_cut t start right first (omega arith) in
         let c_order = c.order in
         let c_within = c.within in
-        let size = line_length t start to right first c_order c_within in
+        let size = between_size t right start to first c_order c_within in
         let text = between t start to in
         let some = some_line t start to c in
         let whole : ℕ = unwrap_or (decided classes (rows t start)) 0 in
-        let one : (lines : List (List ℕ)) → rows t start ≡ text ∷ lines → level_by classes f.last false text lines ≡ whole = λ lines cut. elim (bool_cases (is_separator text)) [
+        let one : (lines : List (List ℕ)) → rows t start ≡ text ∷ lines → level_by classes f.last false text lines ≡ whole = λ lines cut. elim (cases_Bool (is_separator text)) [
           | inr other ↦ ap (λ (b : Bool). if b || false then f.last else unwrap_or (decided classes (text ∷ lines)) 0) other
               ∙ ap (λ (ls : List (List ℕ)). unwrap_or (decided classes ls) 0) (sym cut)
           | inl blank ↦
@@ -293,17 +286,17 @@ module _ (classes : List Span) (t : TextValue) (right : IsText t) where
         ] in
         f.rest p at (omega arith) ∙ elim (cases_lt to p) [
           | inr here ↦
-              sym (levels_here classes f.last false text some.0 (rows t start) (p - start) (get_or (levels_of classes f.last false (rows t start)) (p - start) 0) some.1 (omega arith) refl) ∙ one some.0 some.1
+              levels_here classes f.last false text some.0 (rows t start) (p - start) some.1 (omega arith) ∙ one some.0 some.1
           | inl further ↦
               let more : to < t.end = omega arith in
               let place_is : p - start - (length text + 1) ≡ p - (to + 1) = omega arith in
               let next_line : IsLineStart t (to + 1)
               = inr (omega arith, ap (λ (k : ℕ). is_newline (get_or t.text k 0)) (let e : to + 1 - 1 - 1 ≡ to - 1 = omega arith in e) ∙ next_at t right start first (omega arith) more) in
-              let next_kind : (not (is_separator text) ≡ true) ⊎ (place < to + 1) = elim (bool_cases (is_separator text)) [
+              let next_kind : (not (is_separator text) ≡ true) ⊎ (place < to + 1) = elim (cases_Bool (is_separator text)) [
                 | inl blank ↦ inr (past_place start (omega arith) begins_line (omega arith) more blank)
                 | inr other ↦ inl (ap not other)
               ] in
-              sym (levels_next classes f.last false text (rows t (to + 1)) (rows t start) (p - start) (get_or (levels_of classes f.last false (rows t start)) (p - start) 0) (c.more more) (omega arith) refl)
+              levels_next classes f.last false text (rows t (to + 1)) (rows t start) (p - start) (c.more more) (omega arith)
               ∙ ap (λ (k : ℕ). get_or (levels_of classes (level_by classes f.last false text (rows t (to + 1))) (not (is_separator text)) (rows t (to + 1))) k 0) place_is
               ∙ ap (λ (v : ℕ). get_or (levels_of classes v (not (is_separator text)) (rows t (to + 1))) (p - (to + 1)) 0) (one (rows t (to + 1)) (c.more more))
               ∙ stays t.end (to + 1) p whole (not (is_separator text)) (omega arith) (omega arith) next_line (omega arith) p_high next_kind
@@ -391,13 +384,13 @@ prev_is t right start pos low order high begins clear =
     omega arith
 
 -- a line is one of blanks alone just where nothing else stands in it
-line_blank : (t : TextValue) (right : IsText t) (from to : ℕ) → t.begin ≤ from → from ≤ to → to ≤ t.end → ((k : ℕ) → from ≤ k → k < to → is_newline (get_or t.text (k - 1) 0) ≡ false)
+pub line_blank : (t : TextValue) (right : IsText t) (from to : ℕ) → t.begin ≤ from → from ≤ to → to ≤ t.end → ((k : ℕ) → from ≤ k → k < to → is_newline (get_or t.text (k - 1) 0) ≡ false)
     → prev_ink t to ≤ from → is_separator (between t from to) ≡ true
 line_blank t right from to low order high clear none =
     all_blank t right from to low order high
     (λ k at less. blank_else (get_or t.text (k - 1) 0) (clear k at less) (ink_after t right to k (omega arith) high (omega arith) (omega arith) less))
 
-line_ink : (t : TextValue) (right : IsText t) (from to : ℕ) → t.begin ≤ from → from ≤ to → to ≤ t.end → from < prev_ink t to → is_separator (between t from to) ≡ false
+pub line_ink : (t : TextValue) (right : IsText t) (from to : ℕ) → t.begin ≤ from → from ≤ to → to ≤ t.end → from < prev_ink t to → is_separator (between t from to) ≡ false
 line_ink t right from to low order high some =
     let bound = prev_ink_bound t right to (omega arith) high in
     some_ink t right from to (prev_ink t to - 1) low (omega arith) (omega arith) high (ink_at t right to (omega arith) high (omega arith))
@@ -428,7 +421,7 @@ next_line_is classes t right end low more newline =
         | inr ink ↦
             ap (λ (v : Bool). if is_separator text || v then b.reached.last else unwrap_or (decided classes (text ∷ some.0)) 0)
             (inside ∙ ap not (line_ink t right b.start end first (omega arith) (omega arith) (omega arith)))
-            ∙ ap (λ (v : Bool). if v then b.reached.last else unwrap_or (decided classes (text ∷ some.0)) 0) (or_true (is_separator text)) ∙ last
+            ∙ ap (λ (v : Bool). if v then b.reached.last else unwrap_or (decided classes (text ∷ some.0)) 0) (or_right (is_separator text) true refl) ∙ last
       ];
       fresh = λ p at within ink blank. level p at within
           ∙ ap (λ (v : Bool). if v || b.reached.inside then b.reached.last else unwrap_or (decided classes (text ∷ some.0)) 0)

@@ -1,10 +1,11 @@
-use Rattle.std.proofs.Common.{◌≡◌, ◌≤◌, ◌-◌, ℕ, sym, ap, subst, ◌∙◌, arith}
+use Rattle.std.proofs.Common.{◌≤◌, ◌-◌, ℕ, sym, ap, subst, ◌∙◌, arith}
 use Rattle.std.specs.Prelude.{max}
-use Rattle.rd_text.specs.Texts.{TextValue, IsText, IsAccessible, IsParagraphStart, next_newline, prev_ink}
+use Rattle.rd_text.specs.Texts.{TextValue, IsAccessible, IsParagraphStart, next_newline, prev_ink}
 use Rattle.rd_para.proofs.Cuts.{line_cut}
-use Rattle.rd_para.proofs.Inks.{prev_ink_bound}
+use Rattle.rd_text.proofs.Searches.{prev_ink_bound}
 use Rattle.rd_para.proofs.Walks.{paragraph_is, start_before, ends_itself}
 use Rattle.rd_para.proofs.level.paragraph_at.Goals as goal
+use Rattle.rd_para.proofs.level.paragraph_at.Goals.{After-next_newline-to, After-max-place}
 
 -- the end of a position's line and the last ink before it, within the text
 record Within (t : TextValue) (pos to : ℕ) : Type 0 where
@@ -14,16 +15,17 @@ record Within (t : TextValue) (pos to : ℕ) : Type 0 where
   some : 1 ≤ prev_ink t to
   ink_high : prev_ink t to ≤ t.end
 
-within : (t : TextValue) (right : IsText t) (pos to : ℕ) → IsAccessible t pos → to ≡ next_newline t pos → Within t pos to
-within t right pos to place is =
+within : (c : goal.After-next_newline-to) → Within c.args.text.now c.args.pos c.next_newline-to.result
+within c =
+    let t = c.args.text.now in
+    let right = c.begin-begin.ensures.right in
+    let is = c.next_newline-to.ensures in
     let first = right.first in
-    let cut = line_cut t pos right place.0 place.1 in
+    let cut = line_cut t c.args.pos right c.requires.0 c.requires.1 in
     let order = cut.order in
     let last = cut.within in
-    let low = place.0 in
-    let bound = prev_ink_bound t right to (omega arith) (omega arith) in
-    let ink_low = bound.0 in
-    let ink_high = bound.1 in
+    let low = c.requires.0 in
+    let (ink_low, ink_high) = prev_ink_bound t right c.next_newline-to.result (omega arith) (omega arith) in
     record {
       order = omega arith;
       low = omega arith;
@@ -32,41 +34,31 @@ within t right pos to place is =
       ink_high = omega arith;
     }
 
-pub prev_ink-requires : goal.prev_ink-requires
-prev_ink-requires c =
-    let w = within c.args.text.now c.begin-begin.ensures.right c.args.pos c.next_newline-to.result c.requires c.next_newline-to.ensures in
-    (w.low, w.high)
-
-pub overflow_sub-prev_ink : goal.overflow_sub-prev_ink
-overflow_sub-prev_ink c =
-    let w = within c.args.text.now c.begin-begin.ensures.right c.args.pos c.next_newline-to.result c.requires c.next_newline-to.ensures in
-    let some = w.some in
-    let ink = c.prev_ink.ensures in
-    omega arith
-
-pub paragraph_start-from-requires : goal.paragraph_start-from-requires
-paragraph_start-from-requires c =
-    let right = c.begin-begin.ensures.right in
-    let w = within c.args.text.now right c.args.pos c.next_newline-to.result c.requires c.next_newline-to.ensures in
+-- so the place by which the paragraph is found is accessible
+placed : (c : goal.After-max-place) → Within c.args.text.now c.args.pos c.next_newline-to.result → IsAccessible c.args.text.now c.max-place.result
+placed c w =
     let value = c.begin-begin.ensures.value in
-    let ordered = right.ordered in
+    let ordered = c.begin-begin.ensures.right.ordered in
     let ink_high = w.ink_high in
     let ink = c.prev_ink.ensures in
     let max = c.max-place.ensures in
     (omega arith, omega arith)
 
+pub prev_ink-requires : goal.prev_ink-requires
+prev_ink-requires c = let w = within (goal.at.prev_ink-requires c).After-next_newline-to in (w.low, w.high)
+
+pub overflow_sub-prev_ink : goal.overflow_sub-prev_ink
+overflow_sub-prev_ink c = omega (arith, (within (goal.at.overflow_sub-prev_ink c).After-next_newline-to).some, c.prev_ink.ensures)
+
+pub paragraph_start-from-requires : goal.paragraph_start-from-requires
+paragraph_start-from-requires c = let at = goal.at.paragraph_start-from-requires c in placed at.After-max-place (within at.After-next_newline-to)
+
 pub paragraph_level-requires : goal.paragraph_level-requires
 paragraph_level-requires c =
-    let right = c.begin-begin.ensures.right in
-    let w = within c.args.text.now right c.args.pos c.next_newline-to.result c.requires c.next_newline-to.ensures in
-    let value = c.begin-begin.ensures.value in
-    let ordered = right.ordered in
-    let ink_high = w.ink_high in
-    let ink = c.prev_ink.ensures in
-    let max = c.max-place.ensures in
+    let at = goal.at.paragraph_level-requires c in
+    let (low, high) = placed at.After-max-place (within at.After-next_newline-to) in
     let start = c.paragraph_start-from.ensures in
-    let start_high = start.order in
-    (start.first, omega arith)
+    (start.first, omega (arith, start.order, high))
 
 pub returns : goal.returns
 returns c =
@@ -80,7 +72,7 @@ returns c =
     let start = c.paragraph_start-from.ensures in
     let from = c.paragraph_start-from.result in
     let level = paragraph_is classes t right c.args.pos c.prev_ink.result c.max-place.result from c.requires.0 c.requires.1 ink_is place_is start in
-    let w = within t right c.args.pos c.next_newline-to.result c.requires is in
+    let w = within (goal.at.returns c).After-next_newline-to in
     let order = w.order in
     let start_high = start.order in
     let before = start_before t right c.args.pos c.prev_ink.result c.max-place.result from c.requires.0 c.requires.1 ink_is place_is start in

@@ -1,19 +1,29 @@
-use Rattle.std.proofs.Common.{◌+◌, ◌<◌, [], sym, ◌∙◌, arith}
+use Rattle.std.proofs.Common.{◌≡◌, ◌+◌, ◌<◌, ℕ, Bool, true, false, if◌then◌else◌, List, [], ◌∷◌, Option, None, Some, refl, sym, ap, ◌∙◌, arith}
 use Rattle.std.specs.Prelude.{unwrap_or}
-use Rattle.std.specs.List.{slice_split}
-use Rattle.rd_text.specs.Texts.{between, is_newline}
-use Rattle.rd_para.specs.Paragraphs.{decided}
-use Rattle.rd_para.proofs.Cuts.{line_cut_at, some_line, decided_ends, decided_here, decided_next}
+use Rattle.rd_text.specs.Texts.{between, is_separator}
+use Rattle.rd_para.specs.Paragraphs.{line_level, first_of, decided}
+use Rattle.rd_para.proofs.Cuts.{IsCut, line_cut_at, some_line, decided_from}
+use Rattle.rd_para.proofs.Walks.{rows}
 use Rattle.rd_para.proofs.level.paragraph_level.Goals as goal
+use Rattle.rd_para.proofs.level.paragraph_level.Goals.{After-next_newline-to}
+
+abbrev line : goal.After-next_newline-to → List ℕ
+line c = between c.args.text.now c.lines.from c.next_newline-to.result
+
+cut : (c : goal.After-next_newline-to) → IsCut c.args.text.now c.lines.from c.next_newline-to.result
+cut c = let inv = c.lines.invariant in line_cut_at c.args.text.now c.lines.from c.next_newline-to.result inv.text inv.begin inv.end c.next_newline-to.ensures
+
+-- what the line says is the level of the whole paragraph
+told : (c : goal.After-next_newline-to) (lines : List (List ℕ)) (blank : Bool) (level : Option ℕ) → rows c.args.text.now c.lines.from ≡ line c ∷ lines → is_separator (line c) ≡ blank
+    → level ≡ line_level c.args.classes.now (line c) → unwrap_or (if blank then None else first_of level (decided c.args.classes.now lines)) 0 ≡ unwrap_or (decided c.args.classes.now (rows c.args.text.now c.args.from)) 0
+told c lines blank level is separates found =
+    sym (ap (λ (o : Option ℕ). unwrap_or o 0) (decided_from c.args.classes.now (line c) lines (rows c.args.text.now c.lines.from) blank level is separates found)) ∙ c.lines.invariant.rest
 
 pub returns-then-is_blank_line : goal.returns-then-is_blank_line
 returns-then-is_blank_line c =
-    let inv = c.lines.invariant in
-    let t = c.args.text.now in
-    let cut = line_cut_at t c.lines.from c.next_newline-to.result inv.text inv.begin inv.end c.next_newline-to.ensures in
-    let line = some_line t c.lines.from c.next_newline-to.result cut in
-    decided_ends c.args.classes.now (between t c.lines.from c.next_newline-to.result) line.0 (slice_split is_newline (between t c.lines.from t.end))
-    (unwrap_or (decided c.args.classes.now (slice_split is_newline (between t c.args.from t.end))) 0) line.1 (sym c.is_blank_line.ensures ∙ c.if-is_blank_line.true) inv.rest
+    let at = (goal.at.returns-then-is_blank_line c).After-next_newline-to in
+    let some = some_line c.args.text.now c.lines.from c.next_newline-to.result (cut at) in
+    told at some.0 true (line_level c.args.classes.now (line at)) some.1 (sym c.is_blank_line.ensures ∙ c.if-is_blank_line.true) refl
 
 pub level_of_line-requires-clause-first : goal.level_of_line-requires-clause-first
 level_of_line-requires-clause-first c =
@@ -23,42 +33,31 @@ level_of_line-requires-clause-first c =
 
 pub level_of_line-requires-clause-last : goal.level_of_line-requires-clause-last
 level_of_line-requires-clause-last c =
-    let inv = c.lines.invariant in
-    let cut = line_cut_at c.args.text.now c.lines.from c.next_newline-to.result inv.text inv.begin inv.end c.next_newline-to.ensures in
-    let within = cut.within in
-    let last = inv.text.last in
+    let within = (cut (goal.at.level_of_line-requires-clause-last c).After-next_newline-to).within in
+    let last = c.lines.invariant.text.last in
     omega arith
 
 pub returns-in-Some : goal.returns-in-Some
 returns-in-Some c =
-    let inv = c.lines.invariant in
-    let t = c.args.text.now in
-    let cut = line_cut_at t c.lines.from c.next_newline-to.result inv.text inv.begin inv.end c.next_newline-to.ensures in
-    let line = some_line t c.lines.from c.next_newline-to.result cut in
-    decided_here c.args.classes.now (between t c.lines.from c.next_newline-to.result) line.0 (slice_split is_newline (between t c.lines.from t.end)) c.in-Some.level
-    (unwrap_or (decided c.args.classes.now (slice_split is_newline (between t c.args.from t.end))) 0) line.1 (sym c.is_blank_line.ensures ∙ c.if-is_blank_line.false)
-    c.in-Some.ensures inv.rest
+    let at = (goal.at.returns-in-Some c).After-next_newline-to in
+    let some = some_line c.args.text.now c.lines.from c.next_newline-to.result (cut at) in
+    told at some.0 false (Some c.in-Some.level) some.1 (sym c.is_blank_line.ensures ∙ c.if-is_blank_line.false) c.in-Some.ensures
 
 pub returns-then-to-end : goal.returns-then-to-end
 returns-then-to-end c =
-    let inv = c.lines.invariant in
-    let t = c.args.text.now in
-    let to = c.next_newline-to.result in
-    let cut = line_cut_at t c.lines.from to inv.text inv.begin inv.end c.next_newline-to.ensures in
-    let within = cut.within in
+    let at = (goal.at.returns-then-to-end c).After-next_newline-to in
+    let within = (cut at).within in
     let value = c.end-end.ensures.value in
-    decided_next c.args.classes.now (between t c.lines.from to) [] (slice_split is_newline (between t c.lines.from t.end))
-    (unwrap_or (decided c.args.classes.now (slice_split is_newline (between t c.args.from t.end))) 0) (cut.last (omega arith)) (sym c.is_blank_line.ensures ∙ c.if-is_blank_line.false)
-    c.in_default.ensures inv.rest
+    told at [] false None ((cut at).last (omega arith)) (sym c.is_blank_line.ensures ∙ c.if-is_blank_line.false) c.in_default.ensures
 
 pub lines-preserved : goal.lines-preserved
 lines-preserved c =
+    let at = (goal.at.lines-preserved c).After-next_newline-to in
     let inv = c.lines.invariant in
     let t = c.args.text.now in
     let to = c.next_newline-to.result in
-    let cut = line_cut_at t c.lines.from to inv.text inv.begin inv.end c.next_newline-to.ensures in
-    let within = cut.within in
-    let order = cut.order in
+    let within = (cut at).within in
+    let order = (cut at).order in
     let begin = inv.begin in
     let value = c.end-end.ensures.value in
     let less : to < t.end = omega arith in
@@ -66,7 +65,6 @@ lines-preserved c =
       text = inv.text;
       begin = omega arith;
       end = omega arith;
-      rest = decided_next c.args.classes.now (between t c.lines.from to) (slice_split is_newline (between t (to + 1) t.end)) (slice_split is_newline (between t c.lines.from t.end))
-          (unwrap_or (decided c.args.classes.now (slice_split is_newline (between t c.args.from t.end))) 0) (cut.more less) (sym c.is_blank_line.ensures ∙ c.if-is_blank_line.false)
-          c.in_default.ensures inv.rest;
+      rest = told at (rows t (to + 1)) false None ((cut at).more less) (sym c.is_blank_line.ensures ∙ c.if-is_blank_line.false)
+          c.in_default.ensures;
     }

@@ -1,8 +1,9 @@
-use Rattle.std.proofs.Common.{◌≡◌, ◌≤◌, ◌-◌, ℕ, leb, get_or, inl, inr, sym, ap, ◌∙◌, arith}
+use Rattle.std.proofs.Common.{◌≡◌, ◌≤◌, ℕ, leb, inl, inr, sym, ap, ◌∙◌, arith}
 use Rattle.std.proofs.lemmas.Bool.{cases_lt, le-leb, lt-leb}
 use Rattle.rd_text.specs.Texts.{TextValue, IsText, next_newline, prev_ink, is_separator, between}
+use Rattle.rd_text.proofs.Searches.{next_before}
 use Rattle.rd_para.proofs.Cuts.{line_cut_at}
-use Rattle.rd_para.proofs.Inks.{next_before, ink_after, ink_at, blank_else, all_blank, some_ink, prev_ink_bound}
+use Rattle.rd_para.proofs.Walks.{line_blank, line_ink}
 use Rattle.rd_para.proofs.line.is_blank_line.Goals as goal
 
 pub prev_ink-requires : goal.prev_ink-requires
@@ -19,11 +20,8 @@ blank_line t from to right low high end =
     let order = cut.order in
     let within = cut.within in
     elim (cases_lt from (prev_ink t to)) [
-      | inr none ↦ le-leb _ _ none ∙ sym (all_blank t right from to low order within
-          (λ k at less. blank_else (get_or t.text (k - 1) 0) (next_before t right from k low high at (omega arith) (omega arith)) (ink_after t right to k (omega arith) within (omega arith) (omega arith) less)))
-      | inl some ↦
-          let bound = prev_ink_bound t right to (omega arith) within in
-          lt-leb _ _ some ∙ sym (some_ink t right from to (prev_ink t to - 1) low (omega arith) (omega arith) within (ink_at t right to (omega arith) within (omega arith)))
+      | inr none ↦ le-leb _ _ none ∙ sym (line_blank t right from to low order within (λ k at less. next_before t right from k low high at (omega arith) (omega arith)) none)
+      | inl some ↦ lt-leb _ _ some ∙ sym (line_ink t right from to low order within some)
     ]
 
 pub returns : goal.returns
