@@ -1,5 +1,5 @@
 -- In the rows of elements whose colours are in their range each cell has such colours.
-use Rattle.std.proofs.Common.{ℕ, zero, suc, ◌+◌, ◌-◌, ◌&&◌, min, max, nat_le, nat_lt, Bool, true, false, if◌then◌else◌, List, [], ◌∷◌, ◌++◌, length, drop, flat_map, replicate, All, subst, arith, Option, None, Some}
+use Rattle.std.proofs.Common.{ℕ, zero, suc, ◌+◌, ◌-◌, ◌&&◌, min, max, nat_le, nat_lt, Bool, true, false, List, [], ◌∷◌, ◌++◌, length, flat_map, replicate, All, arith, Option, None, Some}
 use Rattle.std.proofs.lemmas.List.Elements.{All-nil, All-cons, All-tail, All-append, All-replicate}
 use Rattle.rd_base.specs.Cells.{HasColours, IsColoured}
 use Rattle.rd_base.specs.Faces.{Attributes, plain}
@@ -8,32 +8,24 @@ use Rattle.rd_base.specs.declared.cell.Cell.{Cell}
 use Rattle.rd_base.specs.declared.cell.Cell.TheVariants.{Blank, First, Rest}
 use Rattle.rd_base.specs.declared.cell.Glyph.{Glyph}
 use Rattle.rd_base.specs.declared.element.Element.{Element}
+use Rattle.rd_base.proofs.Colours.{plain-coloured, blanks-coloured}
+use Rattle.rd_base.proofs.Lists.{all-front, all-back}
 use Rattle.rd_rows.specs.declared.cutting.Cutting.{Cutting}
 use Rattle.rd_rows.specs.declared.spot.Placed.{Placed}
 use Rattle.rd_rows.specs.declared.spot.Spot.{Spot}
-use Rattle.rd_rows.specs.Cuts.{cut_row}
 use Rattle.rd_rows.specs.Mirrors.{mirror_image, leading_rests}
 use Rattle.rd_rows.specs.Placing.{glyph_in, line_start, next_row, placed_at, behind, place_all, columns_of, width_at}
 use Rattle.rd_rows.specs.Prefixes.{fitted}
 use Rattle.rd_rows.specs.Rows.{whole_cells, seen, seen_in, mark, front_mark, scrolled, filled, last_cell, from_edge, row_of, rows_within, rows_of, cutting_of}
 use Rattle.rd_rows.specs.Shapes.{ShapeValues, room, truncates}
-use Rattle.rd_rows.proofs.Ends.{All-left, All-right}
-use Rattle.rd_rows.proofs.Splits.{cut-is}
+use Rattle.rd_rows.proofs.Choices.{either}
+use Rattle.rd_rows.proofs.Marks.{mark-coloured}
+use Rattle.rd_rows.proofs.Splits.{placed_in, at-row}
 
 -- placed elements whose colours are in their range
 abbrev HaveColours : List Placed → Type 0
 HaveColours [] = Unit {0}
 HaveColours (p ∷ ps) = HasColours p.element.face × HaveColours ps
-
-either : {X : Type 0} (P : X → Type 0) (b : Bool) (x y : X) → P x → P y → P (if b then x else y)
-either P true x y h k = h
-either P false x y h k = k
-
-plain-coloured : HasColours plain
-plain-coloured = record { fg = omega arith; bg = omega arith }
-
-blanks-coloured : (n : ℕ) (face : Attributes) → HasColours face → All IsColoured (blanks n face)
-blanks-coloured n face h = All-replicate IsColoured n (Blank face) h
 
 with-rests : (cell : Cell) (n : ℕ) → IsColoured cell → All IsColoured (cell ∷ replicate n Rest)
 with-rests cell n h = All-cons IsColoured cell (replicate n Rest) h (All-replicate IsColoured n Rest tt)
@@ -62,9 +54,6 @@ all-coloured from to (p ∷ ps) h =
     All-append IsColoured (seen from to p) (flat_map (seen from to) ps) (seen-coloured from to p h.0) (all-coloured from to ps h.1)
 
 -- the cells of a row
-
-mark-coloured : (g : Glyph) → IsColoured (mark g)
-mark-coloured g = either IsColoured (is_space g) _ _ plain-coloured plain-coloured
 
 front-coloured : (c : Cutting) (used : ℕ) → All IsColoured (front_mark c used)
 front-coloured c used =
@@ -122,15 +111,12 @@ rows-coloured : (n : ℕ) (c : Cutting) (lead : List Placed) (spot : Spot) (es :
 rows-coloured zero c lead spot es first wrap one h = All-nil (λ r. All IsColoured r.row.cells)
 rows-coloured (suc n) c lead spot [] first wrap one h = All-nil (λ r. All IsColoured r.row.cells)
 rows-coloured (suc n) c lead spot (e ∷ es) first wrap one h =
-    let start = next_row (columns_of lead) spot in
-    let cut = cut_row c.shape start (e ∷ es) in
-    let is = cut-is c.shape start e es in
-    let rest : List Element = drop (length cut.elements) (e ∷ es) in
-    let both = subst (All (λ x. HasColours x.face)) is.parts h in
+    at-row n c lead spot e es (λ ys rows. All (λ x. HasColours x.face) ys → All (λ r. All IsColoured r.row.cells) rows) (λ xs rest marked ended lines less both.
     All-cons (λ r. All IsColoured r.row.cells) _ _
-    (row-coloured c _ cut.marked (lead ++ place_all c.shape start cut.elements)
-    (colours-append lead (place_all c.shape start cut.elements) one (placed-coloured c.shape start cut.elements (All-left (λ x. HasColours x.face) cut.elements rest both))))
-    (rows-coloured n c _ _ rest first wrap (either HaveColours cut.ended c.first c.wrap first wrap) (All-right (λ x. HasColours x.face) cut.elements rest both))
+    (row-coloured c _ marked (lead ++ placed_in c lead spot xs)
+    (colours-append lead (placed_in c lead spot xs) one (placed-coloured c.shape (next_row (columns_of lead) spot) xs (all-front (λ x. HasColours x.face) xs rest both))))
+    (rows-coloured n c _ _ rest first wrap (either HaveColours ended c.first c.wrap first wrap) (all-back (λ x. HasColours x.face) xs rest both)))
+    h
 
 pub line-coloured : (shape : ShapeValues) (base : ℕ) (first wrap : List Element) (truncation continuation : Glyph) (es : List Element)
     → All (λ e. HasColours e.face) first → All (λ e. HasColours e.face) wrap → All (λ e. HasColours e.face) es

@@ -1,8 +1,7 @@
 -- Elements that end a row or the line.
-use Rattle.std.proofs.Common.{◌≡◌, ◌&&◌, ◌||◌, not, Bool, true, false, IsTrue, List, [], ◌∷◌, ◌++◌, length, All, refl, ap, sym, ◌∙◌, subst, arith, length-append}
-use Rattle.std.proofs.lemmas.List.{get_or_append_left}
-use Rattle.std.proofs.lemmas.List.Elements.{All-drop}
-use Rattle.std.proofs.Math.Seq.{drop-append_seam}
+use Rattle.std.proofs.Common.{◌≡◌, ◌||◌, not, Bool, true, false, IsTrue, List, [], ◌∷◌, ◌++◌, refl, ap, sym, ◌∙◌, arith}
+use Rattle.std.proofs.Math.Bool.{or-false, or_assoc}
+use Rattle.std.proofs.lemmas.Bool.{and_parts, not-true, or_parts}
 use Rattle.rd_base.specs.Elements.{is_line_end, ends_once}
 use Rattle.rd_base.specs.declared.element.Element.{Element}
 use Rattle.rd_base.specs.declared.element.Look.{Look}
@@ -13,22 +12,6 @@ use Rattle.rd_rows.specs.Cuts.{ends_some}
 use Rattle.rd_rows.specs.Laws.{lines_in}
 use Rattle.rd_rows.specs.Placing.{ends_row, fits, place_all, behind, placed_at, has_line_end}
 use Rattle.rd_rows.specs.Shapes.{ShapeValues}
-
-pub not-true : (b : Bool) → not b ≡ true → b ≡ false
-not-true true h = cc
-not-true false h = refl
-
-or-none : (b : Bool) → (b || false) ≡ b
-or-none true = refl
-or-none false = refl
-
-pub or-false : (a b : Bool) → (a || b) ≡ false → (a ≡ false) × (b ≡ false)
-or-false true b h = cc
-or-false false b h = (refl, h)
-
-pub or-assoc : (a b c : Bool) → ((a || b) || c) ≡ (a || (b || c))
-or-assoc true b c = refl
-or-assoc false b c = refl
 
 pub line_end-ends : (look : Look) → is_line_end look ≡ true → ends_row look ≡ true
 line_end-ends Blank h = cc
@@ -44,17 +27,17 @@ on-no_line_end LineEnd h = cc
 
 -- what does not fit ends no row
 pub unfit-on : (shape : ShapeValues) (spot : Spot) (e : Element) → fits shape spot e ≡ false → ends_row e.look ≡ false
-unfit-on shape spot e h = (or-false _ _ (or-false _ _ (or-false _ _ h).0).0).0
+unfit-on shape spot e h = (or_parts _ _ (or_parts _ _ (or_parts _ _ h).0).0).0
 
 pub no_end-more : (ps : List Placed) (p : Placed) → has_line_end ps ≡ false → has_line_end (ps ++ p ∷ []) ≡ is_line_end p.element.look
-no_end-more [] p h = or-none (is_line_end p.element.look)
+no_end-more [] p h = or-false (is_line_end p.element.look)
 no_end-more (q ∷ ps) p h =
-    let parts = or-false (is_line_end q.element.look) (has_line_end ps) h in
+    let parts = or_parts (is_line_end q.element.look) (has_line_end ps) h in
     rw parts.0 (no_end-more ps p parts.1)
 
 pub end-append : (ps qs : List Placed) → has_line_end (ps ++ qs) ≡ (has_line_end ps || has_line_end qs)
 end-append [] qs = refl
-end-append (p ∷ ps) qs = rw (end-append ps qs) (sym (or-assoc (is_line_end p.element.look) (has_line_end ps) (has_line_end qs)))
+end-append (p ∷ ps) qs = rw (end-append ps qs) (sym (or_assoc (is_line_end p.element.look) (has_line_end ps) (has_line_end qs)))
 
 -- whether one of the elements is the line end
 abbrev pub line_ends : List Element → Bool
@@ -72,24 +55,24 @@ standing-ends shape lead start xs none = end-append lead (place_all shape start 
 pub on-line_ends : (es : List Element) → ends_some es ≡ false → line_ends es ≡ false
 on-line_ends [] h = refl
 on-line_ends (e ∷ es) h =
-    let parts = or-false (ends_row e.look) (ends_some es) h in
+    let parts = or_parts (ends_row e.look) (ends_some es) h in
     rw (on-no_line_end e.look parts.0) (on-line_ends es parts.1)
 
 pub on-lines : (es : List Element) → ends_some es ≡ false → lines_in es ≡ 0
 on-lines [] h = refl
 on-lines (e ∷ es) h =
-    let parts = or-false (ends_row e.look) (ends_some es) h in
+    let parts = or_parts (ends_row e.look) (ends_some es) h in
     rw parts.0 (let k = on-lines es parts.1 in omega (arith, k))
 
 pub ends-append : (xs ys : List Element) → ends_some (xs ++ ys) ≡ (ends_some xs || ends_some ys)
 ends-append [] ys = refl
-ends-append (x ∷ xs) ys = rw (ends-append xs ys) (sym (or-assoc (ends_row x.look) (ends_some xs) (ends_some ys)))
+ends-append (x ∷ xs) ys = rw (ends-append xs ys) (sym (or_assoc (ends_row x.look) (ends_some xs) (ends_some ys)))
 
 pub on-append : (xs ys : List Element) → ends_some xs ≡ false → ends_some ys ≡ false → ends_some (xs ++ ys) ≡ false
 on-append xs ys h k = ends-append xs ys ∙ rw (h, k) refl
 
 pub on-parts : (xs ys : List Element) → ends_some (xs ++ ys) ≡ false → (ends_some xs ≡ false) × (ends_some ys ≡ false)
-on-parts xs ys h = or-false (ends_some xs) (ends_some ys) (sym (ends-append xs ys) ∙ h)
+on-parts xs ys h = or_parts (ends_some xs) (ends_some ys) (sym (ends-append xs ys) ∙ h)
 
 -- behind an element that is no line end, the line goes on
 pub ends_once-tail : (e : Element) (es : List Element) → is_line_end e.look ≡ false → IsTrue (ends_once (e ∷ es)) → IsTrue (ends_once es)
@@ -101,12 +84,8 @@ pub ends_once-last : (e : Element) (es : List Element) → is_line_end e.look �
 ends_once-last e [] h end = refl
 ends_once-last e (f ∷ es) h end = let g : false ≡ true = rw h at end in cc
 
-by_look : (a b : Bool) → (not a && b) ≡ true → a ≡ false
-by_look true b h = cc
-by_look false b h = refl
-
 first-on : (e f : Element) (fs : List Element) → IsTrue (ends_once (e ∷ f ∷ fs)) → is_line_end e.look ≡ false
-first-on e f fs h = by_look (is_line_end e.look) (ends_once (f ∷ fs)) h
+first-on e f fs h = not-true (is_line_end e.look) (and_parts (not (is_line_end e.look)) (ends_once (f ∷ fs)) h).0
 
 -- the line end is last: where elements follow, none of those before it is the line end
 pub ends_once-parts : (xs : List Element) (f : Element) (fs : List Element) → IsTrue (ends_once (xs ++ f ∷ fs)) → (line_ends xs ≡ false) × IsTrue (ends_once (f ∷ fs))
@@ -134,13 +113,5 @@ before-one e (f ∷ fs) h end = rw h end
 pub once-before : (xs es : List Element) → ends_some xs ≡ false → IsTrue (ends_once es) → IsTrue (ends_once (xs ++ es))
 once-before [] es h end = end
 once-before (x ∷ xs) es h end =
-    let parts = or-false (ends_row x.look) (ends_some xs) h in
+    let parts = or_parts (ends_row x.look) (ends_some xs) h in
     before-one x (xs ++ es) (on-no_line_end x.look parts.0) (once-before xs es parts.1 end)
-
-pub All-left : {X : Type 0} (P : X → Type 0) → (xs ys : List X) → All P (xs ++ ys) → All P xs
-All-left P xs ys all k d below =
-    let size = length-append xs ys in
-    subst P (get_or_append_left xs ys d k below) (all k d (omega (arith, size, below)))
-
-pub All-right : {X : Type 0} (P : X → Type 0) → (xs ys : List X) → All P (xs ++ ys) → All P ys
-All-right P xs ys all = subst (All P) (drop-append_seam xs ys) (All-drop P (length xs) (xs ++ ys) all)

@@ -1,5 +1,7 @@
 -- A row that is filled element by element, against the cut of its line.
 use Rattle.std.proofs.Common.{◌≡◌, ℕ, ◌+◌, ◌-◌, ◌<◌, ◌≤◌, ◌&&◌, ◌||◌, min, Bool, true, false, if◌then◌else◌, IsTrue, List, [], ◌∷◌, ◌++◌, length, take, flat_map, Option, None, Some, refl, ap, sym, ◌∙◌, subst, arith, length-append, append_assoc}
+use Rattle.std.proofs.Math.Bool.{or-false, or-true, or_assoc}
+use Rattle.std.proofs.lemmas.Bool.{or_parts}
 use Rattle.std.proofs.lemmas.List.{append-nil}
 use Rattle.std.proofs.lemmas.Grind.{flat_map-append}
 use Rattle.std.proofs.Math.Seq.{take-append_seam}
@@ -7,6 +9,7 @@ use Rattle.rd_base.specs.Elements.{IsSound, AreSound, width_at_most, columns_at_
 use Rattle.rd_base.specs.declared.element.Element.{Element}
 use Rattle.rd_base.specs.declared.element.Extent.{Extent}
 use Rattle.rd_base.specs.declared.element.Extent.TheVariants.{Fixed, Tab, Column}
+use Rattle.rd_base.proofs.Lists.{all-back}
 use Rattle.rd_rows.specs.declared.draft.Draft.{Draft}
 use Rattle.rd_rows.specs.declared.draft.Break.{Break}
 use Rattle.rd_rows.specs.declared.spot.Placed.{Placed}
@@ -17,7 +20,7 @@ use Rattle.rd_rows.specs.Makers.{Grows, IsDraft, IsBreak, IsNoted, standing, rea
 use Rattle.rd_rows.specs.Placing.{width_at, ends_row, columns_in, placed_at, behind, place_all}
 use Rattle.rd_rows.specs.Rows.{seen_in, first_seen, begin_of}
 use Rattle.rd_rows.specs.Shapes.{ShapeValues, room, is_word}
-use Rattle.rd_rows.proofs.Ends.{All-right, line_ends, or-false, unfit-on, ends_once-tail}
+use Rattle.rd_rows.proofs.Ends.{line_ends, unfit-on, ends_once-tail}
 use Rattle.rd_rows.proofs.LineLaws.{length-placed}
 use Rattle.rd_rows.proofs.Stands.{stand-append, stand-placed, room-length}
 use Rattle.rd_rows.specs.Prefixes.{StandFrom}
@@ -88,29 +91,6 @@ here-break shape lead start xs d b is cells begins spot placed = record {
 
 -- the last break
 
-or-last : (a b : Bool) → (a || (b || false)) ≡ (a || b)
-or-last true b = refl
-or-last false true = refl
-or-last false false = refl
-
-or-swap : (a b c : Bool) → (a || (b || c)) ≡ ((a || b) || c)
-or-swap true b c = refl
-or-swap false b c = refl
-
-or-true : (a : Bool) → (a || true) ≡ true
-or-true true = refl
-or-true false = refl
-
-or-none : (a b : Bool) → (a && b) ≡ false → (a && (b || false)) ≡ false
-or-none true true h = cc
-or-none true false h = refl
-or-none false b h = refl
-
-or-kept : (a b : Bool) → (a && b) ≡ true → (a && (b || false)) ≡ true
-or-kept true true h = refl
-or-kept true false h = cc
-or-kept false b h = cc
-
 kept-here : (a b : Bool) (x : Element) (ys zs : List Element) → ys ≡ zs → (if a || (b || true) then x ∷ ys else []) ≡ x ∷ zs
 kept-here true b x ys zs h = ap (λ xs. x ∷ xs) h
 kept-here false true x ys zs h = ap (λ xs. x ∷ xs) h
@@ -122,8 +102,8 @@ kept-before false true x ys zs h = ap (λ xs. x ∷ xs) h
 kept-before false false x ys zs h = refl
 
 pub break-more : (xs : List Element) (e : Element) → has_break (xs ++ e ∷ []) ≡ (has_break xs || is_break e.look)
-break-more [] e = or-last false (is_break e.look)
-break-more (x ∷ xs) e = rw (break-more xs e) (or-swap (is_break x.look) (has_break xs) (is_break e.look))
+break-more [] e = or-false (is_break e.look)
+break-more (x ∷ xs) e = rw (break-more xs e) (sym (or_assoc (is_break x.look) (has_break xs) (is_break e.look)))
 
 pub break-here : (xs : List Element) (e : Element) → is_break e.look ≡ true → up_to_break (xs ++ e ∷ []) ≡ xs ++ e ∷ []
 break-here [] e h = rw h refl
@@ -146,13 +126,13 @@ noted-here shape lead start xs e b waiting word break is none =
 
 pub noted-none : (shape : ShapeValues) (lead : List Placed) (start : Spot) (xs : List Element) (e : Element) (waiting : List Element) → is_word shape.wrap ≡ true → is_break e.look ≡ false
     → IsNoted shape lead start xs None waiting → IsNoted shape lead start (xs ++ e ∷ []) None waiting
-noted-none shape lead start xs e waiting word break h = (rw (break-more xs e, break) (or-none (is_word shape.wrap) (has_break xs) h.0), h.1)
+noted-none shape lead start xs e waiting word break h = (rw (break-more xs e, break) (ap (λ (b : Bool). is_word shape.wrap && b) (or-false (has_break xs)) ∙ h.0), h.1)
 
 pub noted-behind : (shape : ShapeValues) (lead : List Placed) (start : Spot) (xs : List Element) (e : Element) (b : Break) (old new : List Element) → is_break e.look ≡ false
     → new ≡ old ++ e ∷ [] → IsNoted shape lead start xs (Some b) old → IsNoted shape lead start (xs ++ e ∷ []) (Some b) new
 noted-behind shape lead start xs e b old new break more h =
     let before = break-before xs e break in (
-      rw (break-more xs e, break) (or-kept (is_word shape.wrap) (has_break xs) h.0),
+      rw (break-more xs e, break) (ap (λ (b : Bool). is_word shape.wrap && b) (or-false (has_break xs)) ∙ h.0),
       subst (λ ys. IsBreak shape lead start ys b) (sym before) h.1,
       rw (before, more) (ap (λ ys. ys ++ e ∷ []) h.2 ∙ append_assoc (up_to_break xs) old (e ∷ [])),
     )
@@ -191,12 +171,12 @@ columns-append (x ∷ xs) ys = let e = columns-append xs ys in omega (arith, e)
 pub once-behind : (xs ys : List Element) → line_ends xs ≡ false → IsTrue (ends_once (xs ++ ys)) → IsTrue (ends_once ys)
 once-behind [] ys on h = h
 once-behind (x ∷ xs) ys on h =
-    let parts = or-false (is_line_end x.look) (line_ends xs) on in
+    let parts = or_parts (is_line_end x.look) (line_ends xs) on in
     once-behind xs ys parts.1 (ends_once-tail x (xs ++ ys) parts.0 h)
 
 pub line-behind : (column more : ℕ) (xs ys : List Element) → line_ends xs ≡ false → more ≤ column + columns_at_most xs → IsLine column (xs ++ ys) → IsLine more ys
 line-behind column more xs ys on few line = record {
-  sound = All-right IsSound xs ys line.sound;
+  sound = all-back IsSound xs ys line.sound;
   end = once-behind xs ys on line.end;
   columns = let all = line.columns in let sum = columns-append xs ys in omega (arith, few, all, sum);
 }
@@ -247,7 +227,7 @@ room-full shape start xs all es e unfit h = h ∙ (ap (λ ys. xs ++ ys) (room-no
 
 -- an element for which there is no room ends no row
 pub unfit-ends : (shape : ShapeValues) (xs : List Element) (spot : Spot) (e : Element) → has_room shape xs spot e ≡ false → ends_row e.look ≡ false
-unfit-ends shape xs spot e h = unfit-on shape spot e (or-false (is_empty xs) _ h).1
+unfit-ends shape xs spot e h = unfit-on shape spot e (or_parts (is_empty xs) _ h).1
 
 -- the cells of a row have room before its last column
 pub cells-room : (shape : ShapeValues) (lead : List Placed) (start : Spot) (xs : List Element) (d : Draft) → IsDraft shape lead start xs d → StandFrom 0 lead start.used → AreSound xs

@@ -1,7 +1,8 @@
 -- A prefix that is cut to its columns, element by element.
-use Rattle.std.proofs.Common.{◌≡◌, ℕ, zero, ◌+◌, ◌/◌, ◌<◌, ◌≤◌, ◌&&◌, nat_le, not, Bool, true, false, IsTrue, List, [], ◌∷◌, ◌++◌, length, get_or, drop, flat_map, refl, ap, sym, ◌∙◌, subst, arith, append_assoc}
+use Rattle.std.proofs.Common.{◌≡◌, ℕ, zero, ◌+◌, ◌/◌, ◌<◌, ◌≤◌, nat_le, not, Bool, true, false, IsTrue, List, [], ◌∷◌, ◌++◌, flat_map, refl, ap, sym, ◌∙◌, subst, arith, append_assoc}
+use Rattle.std.proofs.lemmas.Bool.{and_parts, not-true}
 use Rattle.std.proofs.lemmas.Bool.Decides.{nat_tests}
-use Rattle.std.proofs.lemmas.List.{append-nil, drop_more}
+use Rattle.std.proofs.lemmas.List.{append-nil}
 use Rattle.std.proofs.lemmas.List.Elements.{All-tail}
 use Rattle.rd_base.specs.declared.element.Element.{Element}
 use Rattle.rd_base.specs.declared.cell.Glyph.{Glyph}
@@ -13,11 +14,7 @@ use Rattle.rd_rows.specs.Prefixes.{fitted, prefix_of, ends_none, begins_none, Is
 use Rattle.rd_rows.specs.Rows.{begin_of, cutting_of}
 use Rattle.rd_rows.specs.Shapes.{ShapeValues}
 use Rattle.rd_rows.proofs.Stands.{stand-more, stand-columns, sound-fills}
-use Rattle.rd_rows.proofs.Ends.{line_end-ends, no_end-more, not-true}
-
--- the element with which what is left of a list begins
-pub drop-at : {A : Type 0} (xs : List A) (k : ℕ) (x : A) → k < length xs → x ≡ get_or xs k x → drop k xs ≡ x ∷ drop (k + 1) xs
-drop-at xs k x h i = drop_more xs k x h ∙ ap (λ y. y ∷ drop (k + 1) xs) (sym i)
+use Rattle.rd_rows.proofs.Ends.{line_end-ends, no_end-more}
 
 -- an element of a prefix in its columns
 abbrev pub part_at : Element → ℕ → ℕ → Placed
@@ -35,21 +32,17 @@ pub record Fitting (limit : ℕ) (all es : List Element) (placed : List Placed) 
 pub fitting-start : (limit : ℕ) (all : List Element) → IsPrefix all → Fitting limit all all [] 0
 fitting-start limit all h = record { rest = refl; stand = refl; short = omega arith; on = refl; items = refl; left = h }
 
-and-parts : (a b : Bool) → (a && b) ≡ true → (a ≡ true) × (b ≡ true)
-and-parts true b h = (refl, h)
-and-parts false b h = cc
-
 on-end : (b d : Bool) → (b ≡ true → d ≡ true) → d ≡ false → b ≡ false
 on-end true d h k = let e = h refl in cc
 on-end false d h k = refl
 
 none-more : (ps : List Placed) (p : Placed) → begins_none ps ≡ true → p.first ≡ false → begins_none (ps ++ p ∷ []) ≡ true
 none-more [] p h first = rw first refl
-none-more (q ∷ ps) p h first = let parts = and-parts (not q.first) (begins_none ps) h in rw parts.0 (none-more ps p parts.1 first)
+none-more (q ∷ ps) p h first = let parts = and_parts (not q.first) (begins_none ps) h in rw parts.0 (none-more ps p parts.1 first)
 
 prefix-tail : (e : Element) (es : List Element) → IsPrefix (e ∷ es) → (ends_row e.look ≡ false) × IsPrefix es
 prefix-tail e es h =
-    let parts = and-parts (not (ends_row e.look)) (ends_none es) h.on in
+    let parts = and_parts (not (ends_row e.look)) (ends_none es) h.on in
     (not-true (ends_row e.look) parts.0, record { sound = All-tail IsSound e es h.sound; on = parts.1 })
 
 fit-step : (limit column columns : ℕ) (e : Element) (es : List Element) → columns ≡ width_at e.extent column → column + columns ≤ limit
@@ -138,5 +131,5 @@ cutting-leads shape base first wrap truncation continuation few h k =
 pub begins-none : (shape : ShapeValues) (ps : List Placed) → IsTrue (begins_none ps) → flat_map (begin_of shape) ps ≡ []
 begins-none shape [] h = refl
 begins-none shape (p ∷ ps) h =
-    let parts = and-parts (not p.first) (begins_none ps) h in
+    let parts = and_parts (not p.first) (begins_none ps) h in
     rw (not-true p.first parts.0) (begins-none shape ps parts.1)

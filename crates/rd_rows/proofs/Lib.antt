@@ -1,13 +1,16 @@
 mod All
+mod Choices
 mod Colours
 mod Ends
+mod Few
 mod Fill
 mod Fitting
-pub mod LineLaws
+mod LineLaws
 mod Made
+pub mod Marks
 pub mod Mirroring
 pub mod SameShapes
-pub mod Splits
+mod Splits
 mod Stands
 mod Waiting
 mod Walk

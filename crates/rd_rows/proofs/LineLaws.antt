@@ -1,5 +1,5 @@
 -- The laws of rows, row by row.
-use Rattle.std.proofs.Common.{◌≡◌, ℕ, zero, suc, ◌+◌, ◌*◌, ◌≤◌, not, Bool, true, false, if◌then◌else◌, IsTrue, List, [], ◌∷◌, ◌++◌, length, flat_map, map, drop, Option, Some, refl, ap, sym, ◌∙◌, subst, arith, length-append, append_assoc}
+use Rattle.std.proofs.Common.{◌≡◌, ℕ, zero, suc, ◌+◌, ◌*◌, ◌≤◌, not, Bool, true, false, if◌then◌else◌, IsTrue, List, [], ◌∷◌, ◌++◌, length, flat_map, map, Option, Some, refl, ap, sym, ◌∙◌, subst, arith, length-append, append_assoc}
 use Rattle.std.proofs.lemmas.List.{map-append, append-nil}
 use Rattle.std.proofs.lemmas.Grind.{flat_map-append}
 use Rattle.rd_base.specs.Elements.{ends_once, is_line_end}
@@ -10,31 +10,20 @@ use Rattle.rd_rows.specs.declared.spot.Placed.{Placed}
 use Rattle.rd_rows.specs.declared.spot.Spot.{Spot}
 use Rattle.rd_rows.specs.Leads.{HasLeads, IsQuiet, HasQuietLeads}
 use Rattle.rd_rows.specs.Shapes.{ShapeValues}
-use Rattle.rd_rows.specs.Cuts.{cut_row, RowCut}
 use Rattle.rd_rows.specs.Placing.{is_item, placed_at, behind, behind_all, next_row, next_line, line_start, place_all, columns_of, has_line_end}
 use Rattle.rd_rows.specs.Prefixes.{begins_none}
 use Rattle.rd_rows.specs.Rows.{RowMeaning, LaidRow, rows_within, rows_of, row_of, begin_of, laid, weight_of}
 use Rattle.rd_rows.specs.Laws.{seen_rows, ends_last, begins_of, range_of, ranges_of, lines_in, IsPlacedOnce}
+use Rattle.rd_rows.proofs.Choices.{either}
 use Rattle.rd_rows.proofs.Ends.{line_ends, line_end-ends, standing-ends, ends_once-parts, ends_once-all}
 use Rattle.rd_rows.proofs.Fitting.{begins-none}
-use Rattle.rd_rows.proofs.Splits.{cut-is, rest-less, none-left}
+use Rattle.rd_rows.proofs.Splits.{placed_in, spot_behind, at-row, none-left}
 
 pub quiet-leads : (c : Cutting) → HasLeads c → HasQuietLeads c
 quiet-leads c leads = record {
   first = record { on = leads.first.on; items = leads.first.items };
   wrap = record { on = leads.wrap.on; items = leads.wrap.items };
 }
-
-either-lead : (c : Cutting) (b : Bool) → HasQuietLeads c → IsQuiet (if b then c.first else c.wrap)
-either-lead c true leads = leads.first
-either-lead c false leads = leads.wrap
-
--- the row that is cut at a place, and what it is cut from
-abbrev pub cut_at : Cutting → List Placed → Spot → Element → List Element → RowCut
-cut_at c lead spot e es = cut_row c.shape (next_row (columns_of lead) spot) (e ∷ es)
-
-abbrev pub placed_in : Cutting → List Placed → Spot → List Element → List Placed
-placed_in c lead spot xs = place_all c.shape (next_row (columns_of lead) spot) xs
 
 -- the last row
 
@@ -58,15 +47,13 @@ pub last-rows : (n : ℕ) (c : Cutting) (lead : List Placed) (spot : Spot) (es :
 last-rows n c lead spot [] leads one few end = cc
 last-rows zero c lead spot (e ∷ es) leads one few end = absurd (omega arith)
 last-rows (suc n) c lead spot (e ∷ es) leads one few end =
-    let start = next_row (columns_of lead) spot in
-    let cut = cut_at c lead spot e es in
-    let is = cut-is c.shape start e es in
-    let rest : List Element = drop (length cut.elements) (e ∷ es) in
-    let ps = place_all c.shape start cut.elements in
-    let lead2 : List Placed = if cut.ended then c.first else c.wrap in
-    let spot2 : Spot = if cut.ended then next_line (behind_all start ps) else behind_all start ps in
-    last-step c lead lead2 start spot2 (row_of c (behind_all start ps).used cut.marked (lead ++ ps)) cut.elements rest n one.on refl (subst (λ ys. IsTrue (ends_once ys)) is.parts end)
-    (λ more. last-rows n c lead2 spot2 rest leads (either-lead c cut.ended leads) (rest-less n e es cut.elements is.some few) more)
+    at-row n c lead spot e es (λ ys rows. IsTrue (ends_once ys) → ends_last (seen_rows rows) ≡ true) (λ xs rest marked ended lines less once.
+    let end = spot_behind c lead spot xs in
+    let lead2 : List Placed = if ended then c.first else c.wrap in
+    let spot2 : Spot = if ended then next_line end else end in
+    last-step c lead lead2 (next_row (columns_of lead) spot) spot2 (row_of c end.used marked (lead ++ placed_in c lead spot xs)) xs rest n one.on refl once
+    (λ more. last-rows n c lead2 spot2 rest leads (either IsQuiet ended c.first c.wrap leads.first leads.wrap) (omega (arith, few, less)) more))
+    end
 
 -- where items begin
 
@@ -109,18 +96,15 @@ pub begun-rows : (n : ℕ) (c : Cutting) (lead : List Placed) (spot : Spot) (es 
 begun-rows n c lead spot [] leads one few = rw (none-left n c lead spot) refl
 begun-rows zero c lead spot (e ∷ es) leads one few = absurd (omega arith)
 begun-rows (suc n) c lead spot (e ∷ es) leads one few =
+    at-row n c lead spot e es (λ ys rows. map range_of (begins_of (seen_rows rows)) ≡ ranges_of spot.before ys) (λ xs rest marked ended lines less.
     let start = next_row (columns_of lead) spot in
-    let cut = cut_at c lead spot e es in
-    let ps = place_all c.shape start cut.elements in
-    let is = cut-is c.shape start e es in
-    let rest : List Element = drop (length cut.elements) (e ∷ es) in
-    let lead2 : List Placed = if cut.ended then c.first else c.wrap in
-    let spot2 : Spot = if cut.ended then next_line (behind_all start ps) else behind_all start ps in
-    let before : spot2.before ≡ before_behind spot.before cut.elements = before-next cut.ended (behind_all start ps) ∙ before-placed c.shape start cut.elements in
-    let later = begun-rows n c lead2 spot2 rest leads (either-lead c cut.ended leads) (rest-less n e es cut.elements is.some few) in
-    map-append range_of (flat_map (begin_of c.shape) (lead ++ ps)) (begins_of (seen_rows (rows_within n c lead2 spot2 rest)))
-    ∙ (rw (begun-row c.shape lead start cut.elements one.items, later, before) (sym (ranges-append spot.before cut.elements rest))
-    ∙ ap (ranges_of spot.before) (sym is.parts))
+    let end = spot_behind c lead spot xs in
+    let lead2 : List Placed = if ended then c.first else c.wrap in
+    let spot2 : Spot = if ended then next_line end else end in
+    let before : spot2.before ≡ before_behind spot.before xs = before-next ended end ∙ before-placed c.shape start xs in
+    let later = begun-rows n c lead2 spot2 rest leads (either IsQuiet ended c.first c.wrap leads.first leads.wrap) (omega (arith, few, less)) in
+    map-append range_of (flat_map (begin_of c.shape) (lead ++ placed_in c lead spot xs)) (begins_of (seen_rows (rows_within n c lead2 spot2 rest)))
+    ∙ rw (begun-row c.shape lead start xs one.items, later, before) (sym (ranges-append spot.before xs rest)))
 
 -- how often elements were placed
 
@@ -203,20 +187,14 @@ counted : (n : ℕ) (c : Cutting) (lead : List Placed) (spot : Spot) (es : List 
 counted n c lead spot [] few end = cc
 counted zero c lead spot (e ∷ es) few end = absurd (omega arith)
 counted (suc n) c lead spot (e ∷ es) few end =
-    let start = next_row (columns_of lead) spot in
-    let cut = cut_at c lead spot e es in
-    let ps = place_all c.shape start cut.elements in
-    let is = cut-is c.shape start e es in
-    let rest : List Element = drop (length cut.elements) (e ∷ es) in
-    let lead2 : List Placed = if cut.ended then c.first else c.wrap in
-    let spot2 : Spot = if cut.ended then next_line (behind_all start ps) else behind_all start ps in
-    let weight : length (lead ++ ps) ≡ length lead + length cut.elements = length-append lead ps ∙ ap (λ k. length lead + k) (length-placed c.shape start cut.elements) in
-    let all = counted-rest c lead spot2 (laid c (behind_all start ps).used cut.marked (lead ++ ps)) cut.elements rest n cut.ended weight is.lines (subst (λ ys. IsTrue (ends_once ys)) is.parts end)
-    (λ more. counted n c lead2 spot2 rest (rest-less n e es cut.elements is.some few) more) in
-    let size : length cut.elements + length rest ≡ length (e ∷ es) = sym (ap length is.parts ∙ length-append cut.elements rest) in
-    let lines : lines_in cut.elements + lines_in rest ≡ lines_in (e ∷ es) = sym (ap lines_in is.parts ∙ lines-append cut.elements rest) in
-    subst (λ k. Counted (rows_within (suc n) c lead spot (e ∷ es)) (length lead) k (lines_in (e ∷ es)) (length c.first) (length c.wrap)) size
-    (subst (λ k. Counted (rows_within (suc n) c lead spot (e ∷ es)) (length lead) (length cut.elements + length rest) k (length c.first) (length c.wrap)) lines all)
+    at-row n c lead spot e es (λ ys rows. IsTrue (ends_once ys) → Counted rows (length lead) (length ys) (lines_in ys) (length c.first) (length c.wrap)) (λ xs rest marked ended lines less once.
+    let end = spot_behind c lead spot xs in
+    let ps = placed_in c lead spot xs in
+    let spot2 : Spot = if ended then next_line end else end in
+    let weight : length (lead ++ ps) ≡ length lead + length xs = length-append lead ps ∙ ap (λ k. length lead + k) (length-placed c.shape (next_row (columns_of lead) spot) xs) in
+    rw (length-append xs rest, lines-append xs rest)
+    (counted-rest c lead spot2 (laid c end.used marked (lead ++ ps)) xs rest n ended weight lines once (counted n c (if ended then c.first else c.wrap) spot2 rest (omega (arith, few, less)))))
+    end
 
 pub placed-once : (c : Cutting) (es : List Element) → IsTrue (ends_once es) → IsPlacedOnce c es (rows_of c es)
 placed-once c es end =

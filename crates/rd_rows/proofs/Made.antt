@@ -4,6 +4,7 @@ use Rattle.rd_base.specs.Elements.{IsSound, AreSound}
 use Rattle.rd_base.specs.Glyphs.{AreMeasured}
 use Rattle.rd_base.specs.declared.cell.Glyph.{Glyph}
 use Rattle.rd_base.specs.declared.element.Element.{Element}
+use Rattle.rd_base.proofs.Lists.{all-back}
 use Rattle.rd_rows.specs.declared.cutting.Cutting.{Cutting}
 use Rattle.rd_rows.specs.Copies.{RowValues}
 use Rattle.rd_rows.specs.Cuts.{ends_some}
@@ -15,7 +16,7 @@ use Rattle.rd_rows.specs.Placing.{line_start}
 use Rattle.rd_rows.specs.Rows.{cutting_of}
 use Rattle.rd_rows.specs.Shapes.{ShapeValues}
 use Rattle.rd_rows.specs.Whole.{IsWhole, AreWhole, IsMark, IsMeasuredPrefix}
-use Rattle.rd_rows.proofs.Ends.{All-right, on-line_ends, once-before}
+use Rattle.rd_rows.proofs.Ends.{on-line_ends, once-before}
 use Rattle.std.proofs.lemmas.List.Elements.{All-append, All-nil}
 use Rattle.rd_rows.proofs.Fill.{columns-append, once-behind}
 use Rattle.rd_rows.proofs.Wholeness.{cutting-measured, whole-line}
@@ -33,8 +34,8 @@ fresh-whole shape base first wrap truncation continuation m fresh h k a b es sou
     (whole-line (cutting_of shape base first wrap truncation continuation) es (cutting-measured shape base first wrap truncation continuation least most h k a b) sound measured)
 
 -- what a maker that has made no row holds
-pub fresh-making : (c : Cutting) → HasLeads c → IsMaking (record { cutting = c; spot = line_start; continued = false; held = []; finished = false })
-fresh-making c leads = record { leads = leads; sound = All-nil IsSound; on = refl }
+pub fresh-making : (c : Cutting) → HasLeads c → c.shape.width ≤ 400 → IsMaking (record { cutting = c; spot = line_start; continued = false; held = []; finished = false })
+fresh-making c leads narrow = record { leads = leads; sound = All-nil IsSound; on = refl; narrow = narrow; few = omega arith }
 
 pub finished-is : (m : MakerValues) (b : Bool) → b ≡ m.finished → is_finished m ≡ b
 unfolding is_finished
@@ -56,7 +57,7 @@ asks-again m es waits line on =
     let all = line on in
     let sum = columns-append m.held es in
     let few = all.columns in
-    record { sound = All-right IsSound m.held es all.sound; end = once-behind m.held es (on-line_ends m.held waits) all.end; columns = omega (arith, sum, few) }
+    record { sound = all-back IsSound m.held es all.sound; end = once-behind m.held es (on-line_ends m.held waits) all.end; columns = omega (arith, sum, few) }
 
 finished-rows : (m : MakerValues) (es : List Element) → m.finished ≡ true → rows_behind m es ≡ []
 finished-rows m es h = rw h refl

@@ -1,5 +1,6 @@
 -- How a row is cut from the elements of a line.
-use Rattle.std.proofs.Common.{◌≡◌, ℕ, zero, suc, ◌<◌, ◌≤◌, ◌&&◌, ◌||◌, not, Bool, true, false, if◌then◌else◌, List, [], ◌∷◌, ◌++◌, length, drop, refl, ap, sym, ◌∙◌, arith, append_assoc}
+use Rattle.std.proofs.Common.{◌≡◌, ℕ, zero, suc, ◌<◌, ◌≤◌, ◌&&◌, ◌||◌, not, Bool, true, false, if◌then◌else◌, List, [], ◌∷◌, ◌++◌, length, drop, refl, ap, sym, ◌∙◌, subst, arith, append_assoc}
+use Rattle.std.proofs.lemmas.Bool.{and_parts, not-true}
 use Rattle.std.proofs.lemmas.List.{length-drop}
 use Rattle.std.proofs.Math.Seq.{drop-append_seam}
 use Rattle.rd_base.specs.declared.element.Element.{Element}
@@ -8,10 +9,10 @@ use Rattle.rd_rows.specs.declared.spot.Placed.{Placed}
 use Rattle.rd_rows.specs.declared.spot.Spot.{Spot}
 use Rattle.rd_rows.specs.Cuts.{is_break, has_break, up_to_break, ends_some, fitting, room_for, RowCut, is_wrapped, cut_row}
 use Rattle.rd_rows.specs.Laws.{lines_in}
-use Rattle.rd_rows.specs.Placing.{ends_row, fits, placed_at, behind, behind_all, next_row, place_all, columns_of}
-use Rattle.rd_rows.specs.Rows.{laid, rows_within}
+use Rattle.rd_rows.specs.Placing.{ends_row, fits, placed_at, behind, behind_all, next_row, next_line, place_all, columns_of}
+use Rattle.rd_rows.specs.Rows.{LaidRow, laid, rows_within}
 use Rattle.rd_rows.specs.Shapes.{ShapeValues}
-use Rattle.rd_rows.proofs.Ends.{on-lines, on-parts, not-true}
+use Rattle.rd_rows.proofs.Ends.{on-lines, on-parts}
 
 -- a front of a list
 pub record IsFront (xs es : List Element) : Type 0 where
@@ -83,14 +84,10 @@ front-parts xs es f =
     let rest : drop (length xs) es ≡ f.rest = ap (drop (length xs)) f.parts ∙ drop-append_seam xs f.rest in
     f.parts ∙ ap (λ ys. xs ++ ys) (sym rest)
 
-and-parts : (a b c : Bool) → (a && b && c) ≡ true → (a ≡ true) × (b ≡ true) × (c ≡ true)
-and-parts true true true h = (refl, refl, refl)
-and-parts true true false h = cc
-and-parts true false c h = cc
-and-parts false b c h = cc
-
 wrapped-parts : (shape : ShapeValues) (xs : List Element) → is_wrapped shape xs ≡ true → (has_break xs ≡ true) × (ends_some xs ≡ false)
-wrapped-parts shape xs h = let parts = and-parts _ (has_break xs) (not (ends_some xs)) h in (parts.1, not-true (ends_some xs) parts.2)
+wrapped-parts shape xs h =
+    let all = and_parts _ (not (ends_some xs)) h in
+    ((and_parts _ (has_break xs) all.0).1, not-true (ends_some xs) all.1)
 
 cut-by : (shape : ShapeValues) (es xs : List Element) (w : Bool) → is_wrapped shape xs ≡ w → IsFront xs es → 0 < length xs → lines_in xs ≡ (if ends_some xs then 1 else 0)
     → IsCut es (record { elements = if w then up_to_break xs else xs; ended = ends_some xs; marked = not (ends_some xs) && not w })
@@ -110,7 +107,7 @@ cut-by shape es xs false h f some lines = record {
   ended = refl;
 }
 
-pub cut-is : (shape : ShapeValues) (spot : Spot) (e : Element) (es : List Element) → IsCut (e ∷ es) (cut_row shape spot (e ∷ es))
+cut-is : (shape : ShapeValues) (spot : Spot) (e : Element) (es : List Element) → IsCut (e ∷ es) (cut_row shape spot (e ∷ es))
 cut-is shape spot e es =
     cut-by shape (e ∷ es) (room_for shape spot (e ∷ es)) (is_wrapped shape (room_for shape spot (e ∷ es))) refl
     (first-front e es _ (ends_row e.look) (fitting-front shape (behind spot (placed_at shape spot e)) es))
@@ -118,7 +115,7 @@ cut-is shape spot e es =
 
 -- what is left behind a row is less
 
-pub rest-less : (n : ℕ) (e : Element) (es xs : List Element) → 0 < length xs → length (e ∷ es) ≤ suc n → length (drop (length xs) (e ∷ es)) ≤ n
+rest-less : (n : ℕ) (e : Element) (es xs : List Element) → 0 < length xs → length (e ∷ es) ≤ suc n → length (drop (length xs) (e ∷ es)) ≤ n
 rest-less n e es xs some few = let size = length-drop (length xs) (e ∷ es) in omega (arith, size, some, few)
 
 -- so the rows are the same, however many there may be at most
@@ -137,3 +134,28 @@ rows-same (suc m) (suc n) c lead spot (e ∷ es) h k =
     let some = (cut-is c.shape start e es).some in
     ap (λ rs. laid c (behind_all start (place_all c.shape start cut.elements)).used cut.marked (lead ++ place_all c.shape start cut.elements) ∷ rs)
     (rows-same m n c _ _ (drop (length cut.elements) (e ∷ es)) (rest-less m e es cut.elements some h) (rest-less n e es cut.elements some k))
+
+-- the elements of a row in their places, and where they end
+abbrev pub placed_in : Cutting → List Placed → Spot → List Element → List Placed
+placed_in c lead spot xs = place_all c.shape (next_row (columns_of lead) spot) xs
+
+abbrev pub spot_behind : Cutting → List Placed → Spot → List Element → Spot
+spot_behind c lead spot xs = behind_all (next_row (columns_of lead) spot) (placed_in c lead spot xs)
+
+-- the row with these elements, and those of what is left
+abbrev pub row_with : ℕ → Cutting → List Placed → Spot → List Element → List Element → Bool → Bool → List LaidRow
+row_with n c lead spot xs rest marked ended =
+    let end = spot_behind c lead spot xs in
+    laid c end.used marked (lead ++ placed_in c lead spot xs)
+    ∷ rows_within n c (if ended then c.first else c.wrap) (if ended then next_line end else end) rest
+
+-- what holds of each row with those of what is left holds of the rows
+pub at-row : (n : ℕ) (c : Cutting) (lead : List Placed) (spot : Spot) (e : Element) (es : List Element) (P : List Element → List LaidRow → Type 0)
+    → ((xs rest : List Element) (marked ended : Bool) → lines_in xs ≡ (if ended then 1 else 0) → length rest ≤ length es → P (xs ++ rest) (row_with n c lead spot xs rest marked ended))
+    → P (e ∷ es) (rows_within (suc n) c lead spot (e ∷ es))
+at-row n c lead spot e es P step =
+    let start = next_row (columns_of lead) spot in
+    let cut = cut_row c.shape start (e ∷ es) in
+    let is = cut-is c.shape start e es in
+    subst (λ ys. P ys (rows_within (suc n) c lead spot (e ∷ es))) (sym is.parts)
+    (step cut.elements (drop (length cut.elements) (e ∷ es)) cut.marked cut.ended is.lines (rest-less (length es) e es cut.elements is.some (omega arith)))

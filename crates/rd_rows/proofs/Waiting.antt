@@ -1,11 +1,12 @@
 -- Elements that wait for the next row.
-use Rattle.std.proofs.Common.{◌≡◌, ℕ, ◌+◌, not, Bool, true, false, List, [], ◌∷◌, ◌++◌, drop, Option, None, Some, refl, ap, sym, ◌∙◌, subst, append_assoc}
-use Rattle.std.specs.Prelude.{slice_get, is_some, IfSome, Result, Ok, Err, OnOk}
-use Rattle.std.proofs.lemmas.Option.{slice_get_within, get_or_from_slice_get}
-use Rattle.std.proofs.lemmas.List.{drop_more, append-nil}
+use Rattle.std.proofs.Common.{◌≡◌, ℕ, ◌+◌, ◌-◌, ◌≤◌, not, Bool, true, false, List, [], ◌∷◌, ◌++◌, length, drop, Option, None, Some, refl, ap, sym, ◌∙◌, subst, arith, append_assoc}
+use Rattle.std.specs.Prelude.{slice_get, is_some, IfSome}
+use Rattle.std.proofs.lemmas.Bool.{or_parts}
+use Rattle.std.proofs.lemmas.List.{append-nil}
 use Rattle.std.proofs.lemmas.List.Elements.{All-tail}
 use Rattle.rd_base.specs.Elements.{IsSound, AreSound}
 use Rattle.rd_base.specs.declared.element.Element.{Element}
+use Rattle.rd_base.proofs.Lists.{drop-at}
 use Rattle.rd_rows.specs.declared.cutting.Cutting.{Cutting}
 use Rattle.rd_rows.specs.declared.draft.Break.{Break}
 use Rattle.rd_rows.specs.declared.draft.Draft.{Draft}
@@ -18,24 +19,25 @@ use Rattle.rd_rows.specs.Left.{MakerValues}
 use Rattle.rd_rows.specs.Makers.{IsMaking, IsDraft, IsBreak, IsNoted, IsFilling, Leaves, can_wrap, kept_of, finished_row}
 use Rattle.rd_rows.specs.Placing.{ends_row}
 use Rattle.rd_rows.specs.Shapes.{ShapeValues, is_word}
-use Rattle.rd_rows.proofs.Ends.{or-false}
 use Rattle.rd_rows.proofs.Fill.{noted-none, noted-behind}
-
-pub drop-get : (xs : List Element) (n : ℕ) (x : Element) → slice_get xs n ≡ Some x → drop n xs ≡ x ∷ drop (n + 1) xs
-drop-get xs n x h = drop_more xs n x (slice_get_within xs n x h) ∙ ap (λ y. y ∷ drop (n + 1) xs) (get_or_from_slice_get xs n x x h)
 
 pub taken-making : (c : Cutting) (s : Spot) (b fin : Bool) (xs : List Element) (n : ℕ) (x : Element) → slice_get xs n ≡ Some x
     → IsMaking (record { cutting = c; spot = s; continued = b; held = drop n xs; finished = fin }) → IsMaking (record { cutting = c; spot = s; continued = b; held = drop (n + 1) xs; finished = fin })
 taken-making c s b fin xs n x h m =
-    let more = drop-get xs n x h in
+    let more = drop-at xs n x h in
     record {
       leads = m.leads;
       sound = All-tail IsSound x (drop (n + 1) xs) (subst AreSound more m.sound);
-      on = (or-false (ends_row x.look) (ends_some (drop (n + 1) xs)) (sym (ap ends_some more) ∙ m.on)).1;
+      on = (or_parts (ends_row x.look) (ends_some (drop (n + 1) xs)) (sym (ap ends_some more) ∙ m.on)).1;
+      narrow = m.narrow;
+      few = let size = ap length more in let few = m.few in omega (arith, size, few);
     }
 
+pub taken-less : (xs : List Element) (n : ℕ) (x : Element) → slice_get xs n ≡ Some x → length (drop (n + 1) xs) ≡ length (drop n xs) - 1
+taken-less xs n x h = let size = ap length (drop-at xs n x h) in omega (arith, size)
+
 pub taken-next : (xs es : List Element) (n : ℕ) (x : Element) → slice_get xs n ≡ Some x → drop n xs ++ es ≡ x ∷ (drop (n + 1) xs ++ es)
-taken-next xs es n x h = ap (λ ys. ys ++ es) (drop-get xs n x h)
+taken-next xs es n x h = ap (λ ys. ys ++ es) (drop-at xs n x h)
 
 pub noted-some : (shape : ShapeValues) (lead : List Placed) (start : Spot) (xs : List Element) (e : Element) (b : Option Break) (old new : List Element) → is_some b ≡ true → is_break e.look ≡ false
     → new ≡ old ++ e ∷ [] → IsNoted shape lead start xs b old → IsNoted shape lead start (xs ++ e ∷ []) b new
@@ -89,12 +91,8 @@ leaves-by m p lead start xs e f d c pushed held left none row filling is push ex
     }
 
 pub left-making : (c : Cutting) (s t : Spot) (b d fin end : Bool) (waiting pushed held left old : List Element) (e : Element) → IsMaking (record { cutting = c; spot = s; continued = b; held = old; finished = fin })
-    → AreSound (waiting ++ e ∷ old) → ends_some (waiting ++ e ∷ old) ≡ false → pushed ≡ waiting ++ e ∷ [] → held ≡ pushed ++ left → left ≡ old
+    → AreSound (waiting ++ e ∷ old) → ends_some (waiting ++ e ∷ old) ≡ false → length (waiting ++ e ∷ old) ≤ 400 → pushed ≡ waiting ++ e ∷ [] → held ≡ pushed ++ left → left ≡ old
     → IsMaking (record { cutting = c; spot = t; continued = d; held = held; finished = end })
-left-making c s t b d fin end waiting pushed held left old e m sound on push extend rest =
+left-making c s t b d fin end waiting pushed held left old e m sound on few push extend rest =
     let all : held ≡ waiting ++ e ∷ old = rw (extend, push, rest) (append_assoc waiting (e ∷ []) old) in
-    record { leads = m.leads; sound = rw all sound; on = rw all on }
-
-pub on-ok : {T E : Type 0} (r : Result T E) (P Q : Type 0) → (P → Q) → OnOk r P → OnOk r Q
-on-ok (Ok x) P Q f h = f h
-on-ok (Err x) P Q f h = h
+    record { leads = m.leads; sound = rw all sound; on = rw all on; narrow = m.narrow; few = rw all few }

@@ -1,11 +1,14 @@
 -- What holds while a row is made, and what follows when it ends.
-use Rattle.std.proofs.Common.{◌≡◌, ℕ, suc, ◌+◌, ◌-◌, ◌^◌, ◌<◌, ◌≤◌, ◌&&◌, ◌||◌, not, Bool, true, false, if◌then◌else◌, IsTrue, List, [], ◌∷◌, ◌++◌, length, drop, Option, None, Some, Result, Ok, Err, IfOk, refl, ap, sym, ◌∙◌, subst, arith, length-append, append_assoc}
+use Rattle.std.proofs.Common.{◌≡◌, ℕ, zero, suc, ◌+◌, ◌-◌, ◌^◌, ◌<◌, ◌≤◌, ◌&&◌, not, Bool, true, false, if◌then◌else◌, IsTrue, List, [], ◌∷◌, ◌++◌, length, drop, Option, None, Some, Result, Ok, Err, IfOk, refl, ap, sym, ◌∙◌, subst, arith, length-append, append_assoc}
+use Rattle.std.proofs.Math.Bool.{and-true, and-false, or-false, or-true}
+use Rattle.std.proofs.lemmas.Bool.{and_parts, or_parts}
 use Rattle.std.proofs.lemmas.List.{append-nil}
 use Rattle.std.proofs.lemmas.List.Elements.{All-append}
 use Rattle.std.proofs.Math.Seq.{drop-append_seam}
 use Rattle.rd_base.specs.Elements.{IsSound, AreSound, width_at_most, columns_at_most, is_line_end, ends_once}
 use Rattle.rd_base.specs.declared.element.Element.{Element}
 use Rattle.rd_base.specs.declared.memory.Memory.{Memory}
+use Rattle.rd_base.proofs.Lists.{all-front, all-back}
 use Rattle.rd_rows.specs.declared.cutting.Cutting.{Cutting}
 use Rattle.rd_rows.specs.declared.draft.Break.{Break}
 use Rattle.rd_rows.specs.declared.filling.Filling.{Filling}
@@ -16,12 +19,14 @@ use Rattle.rd_rows.specs.Copies.{RowValues}
 use Rattle.rd_rows.specs.Cuts.{has_break, up_to_break, ends_some, room_for, RowCut, is_wrapped, cut_row}
 use Rattle.rd_rows.specs.Leads.{HasLeads}
 use Rattle.rd_rows.specs.Left.{MakerValues, IsLine, lead_of, rows_behind}
-use Rattle.rd_rows.specs.Makers.{IsNoted, IsFilling, Leaves, Ends, Cuts, standing, reached, can_wrap, is_empty, has_room, room_behind, kept_of, row_standing}
+use Rattle.rd_rows.specs.Makers.{IsNoted, IsMaking, IsFilling, Leaves, Ends, Cuts, standing, reached, can_wrap, is_empty, has_room, room_behind, kept_of, row_standing}
 use Rattle.rd_rows.specs.Placing.{ends_row, next_row, next_line, columns_of, has_line_end}
 use Rattle.rd_rows.specs.Prefixes.{IsLead}
 use Rattle.rd_rows.specs.Rows.{RowMeaning, LaidRow, laid, row_of, rows_within, first_seen}
 use Rattle.rd_rows.specs.Shapes.{ShapeValues, room, is_word}
-use Rattle.rd_rows.proofs.Ends.{All-left, All-right, line_ends, or-false, on-parts, on-append, on-line_ends, ends-append, standing-ends, ends_once-parts}
+use Rattle.rd_rows.proofs.Choices.{either}
+use Rattle.rd_rows.proofs.Ends.{line_ends, on-parts, on-append, on-line_ends, ends-append, standing-ends, ends_once-parts}
+use Rattle.rd_rows.proofs.Few.{IsFew, few-none, few-more, few-wait}
 use Rattle.rd_rows.proofs.Fill.{standing-length, reached-column, reached-used, columns-append, line-behind, once-behind, once-some, room-on, room-ended, room-full, unfit-ends, cells-room}
 use Rattle.rd_rows.proofs.Splits.{IsFront, break-front, break-some, none-left, rows-same}
 
@@ -38,12 +43,14 @@ pub record Walks (m : MakerValues) (es : List Element) (n : MakerValues) (fs : L
   pub on : ends_some xs ≡ false
   pub maker : n ≡ record m { held = n.held }
   pub line : IsLine m.spot.column (m.held ++ es)
-  pub leads : HasLeads m.cutting
+  pub making : IsMaking m
+  pub held : length n.held ≡ length m.held - length xs
+  pub few : IsFew m.cutting.shape (reached m.cutting.shape (start_of m) xs) xs
   pub going_on : m.finished ≡ false
 
-pub walk-start : (m : MakerValues) (es : List Element) (f : Filling) → IsFilling m.cutting.shape (lead_of m) (start_of m) [] f → IsLine m.spot.column (m.held ++ es) → HasLeads m.cutting → m.finished ≡ false
+pub walk-start : (m : MakerValues) (es : List Element) (f : Filling) → IsFilling m.cutting.shape (lead_of m) (start_of m) [] f → IsLine m.spot.column (m.held ++ es) → IsMaking m → m.finished ≡ false
     → Walks m es m es f
-walk-start m es f filling line leads on = record {
+walk-start m es f filling line making on = record {
   xs = [];
   filling = filling;
   parts = refl;
@@ -51,16 +58,14 @@ walk-start m es f filling line leads on = record {
   on = refl;
   maker = refl;
   line = line;
-  leads = leads;
+  making = making;
+  held = omega arith;
+  few = few-none m.cutting.shape (start_of m);
   going_on = on;
 }
 
-either-lead : (c : Cutting) (b : Bool) → HasLeads c → IsLead (if b then c.wrap else c.first)
-either-lead c true leads = leads.wrap
-either-lead c false leads = leads.first
-
 pub lead-is : (m : MakerValues) → HasLeads m.cutting → IsLead (lead_of m)
-lead-is m leads = either-lead m.cutting m.continued leads
+lead-is m leads = either IsLead m.continued m.cutting.wrap m.cutting.first leads.wrap leads.first
 
 pub walk-some : (m n : MakerValues) (es fs : List Element) (f : Filling) → Walks m es n fs f → 0 < length (n.held ++ fs)
 walk-some m n es fs f w =
@@ -77,7 +82,7 @@ walk-column m n es fs rest f e w more =
 
 pub walk-used : (m n : MakerValues) (es fs : List Element) (f : Filling) → Walks m es n fs f → f.draft.spot.used ≤ f.draft.spot.column + 200
 walk-used m n es fs f w =
-    let few = (lead-is m w.leads).short in
+    let few = (lead-is m w.making.leads).short in
     let here = reached-used m.cutting.shape (start_of m) w.xs (omega (arith, few)) in
     let used = ap (λ (s : Spot). s.used) w.filling.draft.spot in
     let column = ap (λ (s : Spot). s.column) w.filling.draft.spot in
@@ -97,12 +102,17 @@ taken m n k h i = i ∙ ap (λ (x : MakerValues). let y : MakerValues = record x
 pub taken-cutting : (m n k : MakerValues) → n ≡ record m { held = n.held } → k ≡ record n { held = k.held } → k.cutting ≡ m.cutting
 taken-cutting m n k h i = ap (λ (x : MakerValues). x.cutting) (taken m n k h i)
 
+sound-parts : (m n : MakerValues) (es fs : List Element) (f : Filling) → (w : Walks m es n fs f) → AreSound w.xs × AreSound (n.held ++ fs)
+sound-parts m n es fs f w =
+    let all = subst AreSound w.parts w.line.sound in
+    (all-front IsSound w.xs (n.held ++ fs) all, all-back IsSound w.xs (n.held ++ fs) all)
+
 -- one more element
-pub walk-on : (m n k : MakerValues) (es fs gs : List Element) (f g : Filling) (w : Walks m es n fs f) (e : Element) (shape : ShapeValues) → n.held ++ fs ≡ e ∷ (k.held ++ gs) → k ≡ record n { held = k.held }
+pub walk-on : (m n k : MakerValues) (es fs gs : List Element) (f g : Filling) (w : Walks m es n fs f) (e : Element) (shape : ShapeValues) → n.held ++ fs ≡ e ∷ (k.held ++ gs) → k ≡ record n { held = k.held } → length k.held ≡ length n.held - 1
     → has_room m.cutting.shape w.xs (reached m.cutting.shape (start_of m) w.xs) e ≡ true → ends_row e.look ≡ false → shape ≡ m.cutting.shape
     → ((lead : List Placed) (start : Spot) (xs : List Element) → IsFilling shape lead start xs f → IsFilling shape lead start (xs ++ e ∷ []) g)
     → Walks m es k gs g
-walk-on m n k es fs gs f g w e shape more rest fit on same placed =
+walk-on m n k es fs gs f g w e shape more rest less fit on same placed =
     let filled = subst (λ (s : ShapeValues). (lead : List Placed) (start : Spot) (xs : List Element) → IsFilling s lead start xs f → IsFilling s lead start (xs ++ e ∷ []) g) same placed in
     let room = subst (λ ys. room_for m.cutting.shape (start_of m) (m.held ++ es) ≡ w.xs ++ room_behind m.cutting.shape w.xs (reached m.cutting.shape (start_of m) w.xs) ys) more w.room in
     record {
@@ -113,16 +123,13 @@ walk-on m n k es fs gs f g w e shape more rest fit on same placed =
       on = on-append w.xs (e ∷ []) w.on (rw on refl);
       maker = taken m n k w.maker rest;
       line = w.line;
-      leads = w.leads;
+      making = w.making;
+      held = let before = w.held in let size = length-append w.xs (e ∷ []) in omega (arith, before, size, less);
+      few = few-more m.cutting.shape (start_of m) w.xs e (subst AreSound more (sound-parts m n es fs f w).1 zero e (omega arith)) fit on w.few;
       going_on = w.going_on;
     }
 
 -- what a row that is left asks
-
-sound-parts : (m n : MakerValues) (es fs : List Element) (f : Filling) → (w : Walks m es n fs f) → AreSound w.xs × AreSound (n.held ++ fs)
-sound-parts m n es fs f w =
-    let all = subst AreSound w.parts w.line.sound in
-    (All-left IsSound w.xs (n.held ++ fs) all, All-right IsSound w.xs (n.held ++ fs) all)
 
 record IsBack (ws xs : List Element) : Type 0 where
   front : List Element
@@ -137,8 +144,8 @@ waiting-sound m n k es fs gs f e w more =
     let both = sound-parts m n es fs f w in
     let back = noted-back m.cutting.shape (lead_of m) (start_of m) w.xs f.last_break f.waiting w.filling.noted in
     All-append IsSound f.waiting (e ∷ k.held)
-    (All-right IsSound back.front f.waiting (subst AreSound back.parts both.0))
-    (All-left IsSound (e ∷ k.held) gs (subst AreSound more both.1))
+    (all-back IsSound back.front f.waiting (subst AreSound back.parts both.0))
+    (all-front IsSound (e ∷ k.held) gs (subst AreSound more both.1))
 
 pub waiting-on : (m n k : MakerValues) (es fs : List Element) (f : Filling) (w : Walks m es n fs f) (e : Element) → has_room m.cutting.shape w.xs (reached m.cutting.shape (start_of m) w.xs) e ≡ false → ends_some k.held ≡ false
     → ends_some (f.waiting ++ e ∷ k.held) ≡ false
@@ -147,19 +154,31 @@ waiting-on m n k es fs f w e unfit held =
     let on = unfit-ends m.cutting.shape w.xs (reached m.cutting.shape (start_of m) w.xs) e unfit in
     on-append f.waiting (e ∷ k.held) (on-parts back.front f.waiting (sym (ap ends_some back.parts) ∙ w.on)).1 (rw (on, held) refl)
 
+pub waiting-few : (m n k : MakerValues) (es fs : List Element) (f : Filling) (w : Walks m es n fs f) (e : Element) → has_room m.cutting.shape w.xs (reached m.cutting.shape (start_of m) w.xs) e ≡ false
+    → length k.held ≡ length n.held - 1 → length (f.waiting ++ e ∷ k.held) ≤ 400
+waiting-few m n k es fs f w e unfit less =
+    let back = noted-back m.cutting.shape (lead_of m) (start_of m) w.xs f.last_break f.waiting w.filling.noted in
+    let behind = ap length back.parts ∙ length-append back.front f.waiting in
+    let wait = few-wait m.cutting.shape (lead_of m) (start_of m) (reached m.cutting.shape (start_of m) w.xs) w.xs f.last_break f.waiting e w.filling.noted w.few unfit in
+    let size = length-append f.waiting (e ∷ k.held) in
+    let held = w.held in
+    let most = w.making.few in
+    let narrow = w.making.narrow in
+    omega (arith, behind, wait, size, held, most, less, narrow)
+
 pub walk-cells : (m n : MakerValues) (es fs : List Element) (f : Filling) (shape : ShapeValues) → Walks m es n fs f → shape ≡ m.cutting.shape → length f.draft.cells ≤ shape.hscroll + room shape - first_seen shape
 walk-cells m n es fs f shape w same =
-    let lead = lead-is m w.leads in
+    let lead = lead-is m w.making.leads in
     rw same (cells-room m.cutting.shape (lead_of m) (start_of m) w.xs f.draft w.filling.draft lead.stand (sound-parts m n es fs f w).0)
 
 pub ended-cells : (m n k : MakerValues) (es fs gs : List Element) (f g : Filling) (e : Element) (shape here : ShapeValues) → Walks m es n fs f → n.held ++ fs ≡ e ∷ (k.held ++ gs) → shape ≡ m.cutting.shape → here ≡ m.cutting.shape
     → ((lead : List Placed) (start : Spot) (xs : List Element) → IsFilling shape lead start xs f → IsFilling shape lead start (xs ++ e ∷ []) g)
     → length g.draft.cells ≤ here.hscroll + room here - first_seen here
 ended-cells m n k es fs gs f g e shape here w more same too placed =
-    let lead = lead-is m w.leads in
+    let lead = lead-is m w.making.leads in
     let both = sound-parts m n es fs f w in
     let filled = subst (λ (s : ShapeValues). (lead : List Placed) (start : Spot) (xs : List Element) → IsFilling s lead start xs f → IsFilling s lead start (xs ++ e ∷ []) g) same placed in
-    let sound = All-append IsSound w.xs (e ∷ []) both.0 (All-left IsSound (e ∷ []) (k.held ++ gs) (subst AreSound more both.1)) in
+    let sound = All-append IsSound w.xs (e ∷ []) both.0 (all-front IsSound (e ∷ []) (k.held ++ gs) (subst AreSound more both.1)) in
     rw too (cells-room m.cutting.shape (lead_of m) (start_of m) (w.xs ++ e ∷ []) g.draft (filled (lead_of m) (start_of m) w.xs w.filling).draft lead.stand sound)
 
 -- the row that was made is the next of the line
@@ -233,10 +252,6 @@ cuts-by m p es gs row weight x others kept b marked fin on all cut parts some ne
 
 -- a row that is left
 
-and-true : (b : Bool) → (b && true) ≡ b
-and-true true = refl
-and-true false = refl
-
 left-cut : (shape : ShapeValues) (row : List Element) → ends_some row ≡ false
     → cut_of shape row ≡ record { elements = if can_wrap shape row then up_to_break row else row; ended = false; marked = not (can_wrap shape row) }
 left-cut shape row on = rw on (rw (and-true (can_wrap shape row)) refl)
@@ -245,12 +260,8 @@ kept-front : (b : Bool) (xs : List Element) → IsFront (if b then up_to_break x
 kept-front true xs = break-front xs
 kept-front false xs = record { rest = []; parts = sym (append-nil xs) }
 
-and-second : (a b : Bool) → (a && b) ≡ true → b ≡ true
-and-second true b h = h
-and-second false b h = cc
-
 can-break : (shape : ShapeValues) (xs : List Element) → can_wrap shape xs ≡ true → has_break xs ≡ true
-can-break shape xs h = and-second (is_word shape.wrap) (has_break xs) h
+can-break shape xs h = (and_parts (is_word shape.wrap) (has_break xs) h).1
 
 kept-some : (shape : ShapeValues) (xs : List Element) (b : Bool) → can_wrap shape xs ≡ b → 0 < length xs → 0 < length (if b then up_to_break xs else xs)
 kept-some shape xs true h some = break-some xs (can-break shape xs h)
@@ -306,38 +317,26 @@ leave-cuts (Ok made) m n k p held es fs gs f w e more rest unfit h =
     let k_is = taken m n k w.maker rest in
     let leaves = subst (λ (y : MakerValues). (lead : List Placed) (start : Spot) (xs : List Element) → IsFilling y.cutting.shape lead start xs f → Leaves y p lead start xs e made.row made.weight) k_is h in
     let room = subst (λ ys. room_for m.cutting.shape (start_of m) (m.held ++ es) ≡ w.xs ++ room_behind m.cutting.shape w.xs (reached m.cutting.shape (start_of m) w.xs) ys) more w.room in
-    let empty : is_empty w.xs ≡ false = (or-false (is_empty w.xs) _ unfit).0 in
-    left-cuts m p es k.held gs w.xs e made.row made.weight w.going_on w.line w.leads (w.parts ∙ ap (λ ys. w.xs ++ ys) more)
+    let empty : is_empty w.xs ≡ false = (or_parts (is_empty w.xs) _ unfit).0 in
+    left-cuts m p es k.held gs w.xs e made.row made.weight w.going_on w.line w.making.leads (w.parts ∙ ap (λ ys. w.xs ++ ys) more)
     (room-full m.cutting.shape (start_of m) w.xs (m.held ++ es) (k.held ++ gs) e unfit room) w.on (not-empty w.xs empty) (unfit-ends m.cutting.shape w.xs (reached m.cutting.shape (start_of m) w.xs) e unfit) held
     (leaves (lead_of m) (start_of m) w.xs w.filling)
 
 -- a row that is ended
 
-and-false : (b : Bool) → (b && false) ≡ false
-and-false true = refl
-and-false false = refl
-
-or-nothing : (b : Bool) → (b || false) ≡ b
-or-nothing true = refl
-or-nothing false = refl
-
-or-all : (b : Bool) → (b || (true || false)) ≡ true
-or-all true = refl
-or-all false = refl
-
 last-end : (xs : List Element) (e : Element) → is_line_end e.look ≡ true → line_ends (xs ++ e ∷ []) ≡ false → ⊥
 last-end [] e h none = let k : true ≡ false = rw h at none in cc
-last-end (x ∷ xs) e h none = last-end xs e h (or-false (is_line_end x.look) _ none).1
+last-end (x ∷ xs) e h none = last-end xs e h (or_parts (is_line_end x.look) _ none).1
 
 ended-cut : (shape : ShapeValues) (row : List Element) → ends_some row ≡ true → cut_of shape row ≡ record { elements = row; ended = true; marked = false }
 ended-cut shape row h = rw h (rw (and-false (can_wrap shape row)) refl)
 
 line-ends-more : (xs : List Element) (e : Element) → line_ends xs ≡ false → line_ends (xs ++ e ∷ []) ≡ is_line_end e.look
-line-ends-more [] e h = or-nothing (is_line_end e.look)
-line-ends-more (x ∷ xs) e h = let parts = or-false (is_line_end x.look) (line_ends xs) h in rw parts.0 (line-ends-more xs e parts.1)
+line-ends-more [] e h = or-false (is_line_end e.look)
+line-ends-more (x ∷ xs) e h = let parts = or_parts (is_line_end x.look) (line_ends xs) h in rw parts.0 (line-ends-more xs e parts.1)
 
 some-last : (xs : List Element) (e : Element) → ends_row e.look ≡ true → ends_some (xs ++ e ∷ []) ≡ true
-some-last xs e h = ends-append xs (e ∷ []) ∙ rw h (or-all (ends_some xs))
+some-last xs e h = ends-append xs (e ∷ []) ∙ rw h (or-true (ends_some xs))
 
 once-over : (xs : List Element) (e : Element) (rest : List Element) → is_line_end e.look ≡ true → IsTrue (ends_once (xs ++ e ∷ rest)) → rest ≡ []
 once-over xs e [] h end = refl
@@ -382,7 +381,7 @@ end-cuts (Ok made) m n k p held es fs gs f g w e shape fin more rest fit close f
     let filled = subst (λ (s : ShapeValues). (lead : List Placed) (start : Spot) (xs : List Element) → IsFilling s lead start xs f → IsFilling s lead start (xs ++ e ∷ []) g) same placed in
     let ends = subst (λ (y : MakerValues). (lead : List Placed) (start : Spot) (xs : List Element) → IsFilling y.cutting.shape lead start xs g → Ends y p lead start xs fin made.row made.weight) k_is h in
     let room = subst (λ ys. room_for m.cutting.shape (start_of m) (m.held ++ es) ≡ w.xs ++ room_behind m.cutting.shape w.xs (reached m.cutting.shape (start_of m) w.xs) ys) more w.room in
-    ended-cuts m p es k.held gs w.xs e fin made.row made.weight w.going_on w.line w.leads (w.parts ∙ ap (λ ys. w.xs ++ ys) more)
+    ended-cuts m p es k.held gs w.xs e fin made.row made.weight w.going_on w.line w.making.leads (w.parts ∙ ap (λ ys. w.xs ++ ys) more)
     (room-ended m.cutting.shape (start_of m) w.xs (m.held ++ es) (k.held ++ gs) e fit close room) w.on close fin_is held
     (ends (lead_of m) (start_of m) (w.xs ++ e ∷ []) (filled (lead_of m) (start_of m) w.xs w.filling))
 

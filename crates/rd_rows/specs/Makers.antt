@@ -1,8 +1,9 @@
 -- The inside of a maker of rows: a row that is being made, and a line that is being cut.
-use Rattle.std.specs.Prelude.{◌≡◌, ℕ, ◌+◌, Bool, true, false, ◌&&◌, ◌||◌, not, if◌then◌else◌, List, [], ◌∷◌, ◌++◌, length, flat_map, Option, None, Some}
+use Rattle.std.specs.Prelude.{◌≡◌, ℕ, ◌+◌, ◌≤◌, Bool, true, false, ◌&&◌, ◌||◌, not, if◌then◌else◌, List, [], ◌∷◌, ◌++◌, length, flat_map, Option, None, Some}
 use Rattle.rd_base.specs.Elements.{AreSound}
 use Rattle.rd_base.specs.declared.cell.Cell.{Cell}
 use Rattle.rd_base.specs.declared.element.Element.{Element}
+use Rattle.rd_base.specs.declared.limits.TheConstants.{FRAME_COLUMNS}
 use Rattle.rd_rows.specs.declared.begin.Begin.{Begin}
 use Rattle.rd_rows.specs.declared.cutting.Cutting.{Cutting}
 use Rattle.rd_rows.specs.declared.draft.Draft.{Draft}
@@ -88,11 +89,13 @@ abbrev pub room_behind : ShapeValues → List Element → Spot → List Element 
 room_behind shape [] spot es = room_for shape spot es
 room_behind shape (x ∷ xs) spot es = fitting shape spot es
 
--- rows can be made: elements that wait are sound, and end no row
+-- rows of at most 400 columns can be made: at most 400 elements wait, which are sound and end no row
 pub record IsMaking (m : MakerValues) : Type 0 where
   pub leads : HasLeads m.cutting
   pub sound : AreSound m.held
   pub on : ends_some m.held ≡ false
+  pub narrow : m.cutting.shape.width ≤ FRAME_COLUMNS
+  pub few : length m.held ≤ FRAME_COLUMNS
 
 -- the row of these elements, which take so many columns
 abbrev pub row_standing : Cutting → List Placed → Spot → List Element → Bool → Bool → RowValues

@@ -20,10 +20,10 @@ impl RowMaker {
     ghost use Rattle.std.specs.Prelude.{◌≡◌, ◌+◌, ◌-◌, ◌<◌, ◌≤◌, ◌∷◌, ◌++◌, [], false, List, length, IfOk, OnOk};
     ghost use Rattle.rd_base.specs.Elements.{AreSound};
     ghost use Rattle.rd_base.specs.declared.element.Element.{Element};
+    ghost use Rattle.rd_base.specs.declared.limits.TheConstants.{FRAME_COLUMNS};
     ghost use Rattle.rd_rows.specs.declared.spot.Placed.{Placed};
     ghost use Rattle.rd_rows.specs.declared.spot.Spot.{Spot};
     ghost use Rattle.rd_rows.specs.Left.{IsLine, lead_of};
-    ghost use Rattle.rd_rows.specs.Leads.{HasLeads};
     ghost use Rattle.rd_rows.specs.Makers.{IsFilling, IsMaking, Leaves, Ends, Cuts};
     ghost use Rattle.rd_rows.specs.Placing.{next_row, line_start, columns_of};
     ghost use Rattle.rd_rows.specs.Cuts.{ends_some};
@@ -61,7 +61,7 @@ impl RowMaker {
 
     /// Begins a row with its prefix.
     fn begin_row(&self) -> Result<Filling, Memory>
-        ensures leads { HasLeads self.now.cutting }
+        ensures making { IsMaking self.now }
         ensures filling { IfOk result (λ filling. IsFilling self.now.cutting.shape (lead_of self.now) (next_row (columns_of (lead_of self.now)) self.now.spot) [] filling) }
     {
         Filling::behind(self.alloc, self.cutting.shape, self.spot, self.lead())
@@ -73,6 +73,7 @@ impl RowMaker {
         ensures next { IfOk result (λ element. self.old.held ++ E.left elements.old ≡ element ∷ (self.new.held ++ E.left elements.new)) }
         ensures rest { OnOk result (self.new ≡ record self.old { held = self.new.held }) }
         ensures making { IsMaking self.new }
+        ensures less { length self.new.held ≡ length self.old.held - 1 }
     {
         if self.next < self.held.len() {
             let element = self.held.at(self.next);
@@ -83,10 +84,11 @@ impl RowMaker {
     }
 
     /// Leaves a row in which an element did not fit: behind its last break without a mark, or where there is none with the
-    /// continuation mark. The elements behind the break and that element wait for the next row.
+    /// continuation mark. The elements behind the break and that element wait for the next row, at most 400.
     fn leave(&mut self, filling: Filling, element: Element) -> Result<MadeRow, Memory>
         requires sound { AreSound (filling.waiting ++ element ∷ self.old.held) }
         requires on { ends_some (filling.waiting ++ element ∷ self.old.held) ≡ false }
+        requires few { length (filling.waiting ++ element ∷ self.old.held) ≤ FRAME_COLUMNS }
         requires cells { length filling.draft.cells ≤ self.old.cutting.shape.hscroll + room self.old.cutting.shape - first_seen self.old.cutting.shape }
         ensures { IfOk result (λ made. (lead : List Placed) (start : Spot) (xs : List Element) → IsFilling self.old.cutting.shape lead start xs filling
             → Leaves self.old self.new lead start xs element made.row made.weight) }

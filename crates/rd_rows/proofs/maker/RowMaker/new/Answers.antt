@@ -11,7 +11,7 @@ invariant_of-result c =
       fresh-making (cutting_of c.args.shape c.args.base c.args.first.now c.args.wrap.now c.args.truncation c.args.continuation) (record {
         first = prefix-leads c.args.shape c.args.first.now (omega arith) c.requires.first;
         wrap = prefix-leads c.args.shape c.args.wrap.now (omega arith) c.requires.wrap;
-      }),
+      }) (omega arith),
     )
 
 pub returns-clause-fresh : goal.returns-clause-fresh
