@@ -37,7 +37,7 @@ pub costs-here : (kind : ℕ → Bool) (rows : Block → List RowMeaning) (cost 
 costs-here kind rows cost first b bs e =
     ap (λ (t : Bool). costs_of cost (if t then b ∷ blocks_with kind rows (first + length (rows b)) bs else blocks_with kind rows (first + length (rows b)) bs)) e
 
-costs-if : (cost : Block → ℕ) (b : Block) (bs : List Block) (t : Bool) → costs_of cost bs ≤ costs_of cost (if t then b ∷ bs else bs)
+pub costs-if : (cost : Block → ℕ) (b : Block) (bs : List Block) (t : Bool) → costs_of cost bs ≤ costs_of cost (if t then b ∷ bs else bs)
 costs-if cost b bs true = omega arith
 costs-if cost b bs false = omega arith
 

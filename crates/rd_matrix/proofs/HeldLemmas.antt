@@ -1,15 +1,16 @@
 -- Blocks with their lines, as a source.
-use Rattle.std.proofs.Common.{◌≡◌, ℕ, zero, suc, ◌+◌, ◌-◌, ◌<◌, ◌≤◌, ◌&&◌, nat_le, nat_lt, nat_eq, Bool, true, false, cond, IsTrue, List, [], ◌∷◌, ◌++◌, length, get_or, map, All, inl, inr, Option, None, Some, Result, Ok, Err, IfOk, refl, ap, sym, ◌∙◌, subst, arith}
+use Rattle.std.proofs.Common.{◌≡◌, ℕ, zero, suc, ◌+◌, ◌-◌, ◌<◌, ◌≤◌, ◌&&◌, nat_le, nat_lt, nat_eq, Bool, true, false, cond, IsTrue, List, [], ◌∷◌, ◌++◌, length, get_or, map, All, inl, inr, Option, None, Some, refl, ap, sym, ◌∙◌, subst, arith}
 use Rattle.std.specs.Prelude.{count_by, slice_get, option_map}
 use Rattle.std.proofs.lemmas.Bool.Decides.{nat_tests}
-use Rattle.std.proofs.lemmas.Bool.{cases_lt}
-use Rattle.std.proofs.lemmas.Option.{slice_get-map, slice_get_within, slice_get_read, get_or_from_slice_get}
+use Rattle.std.proofs.lemmas.Bool.{and_parts, cases_lt}
+use Rattle.std.proofs.lemmas.Option.{slice_get-map, slice_get_within, slice_get_read}
 use Rattle.std.proofs.lemmas.List.Elements.{All-cons, All-nil, All-tail, All-append}
 use Rattle.std.proofs.lemmas.List.Sums.{sum_by-cons}
 use Rattle.std.proofs.lemmas.Simd.{map-map}
 use Rattle.rd_base.specs.Elements.{ends_once}
 use Rattle.rd_base.specs.declared.cell.Glyph.{Glyph}
 use Rattle.rd_base.specs.declared.element.Element.{Element}
+use Rattle.rd_base.proofs.Lists.{all-at}
 use Rattle.rd_matrix.specs.Blocks.{IsAmong, IsWithin, HoldsPosition, StandFrom, first_start, end_from, block_before}
 use Rattle.rd_matrix.specs.Columns.{covers}
 use Rattle.rd_matrix.specs.Held.{blocks_held, laid_at, laid_from, source_of, in_range, covers_each, are_inside, IsHeld, AreHeld}
@@ -64,9 +65,6 @@ held-at [] k b h = absurd cc
 held-at (h ∷ hs) zero b i = record { held = h; there = refl; block = cc }
 held-at (h ∷ hs) (suc k) b i = let rest = held-at hs k b i in record { held = rest.held; there = rest.there; block = rest.block }
 
-pub all-at : (hs : List HeldBlock) (k : ℕ) (h : HeldBlock) → All IsHeld hs → slice_get hs k ≡ Some h → IsHeld h
-all-at hs k h all i = subst IsHeld (get_or_from_slice_get hs k h h i) (all k h (slice_get_within hs k h i))
-
 pub laid-there : (from k : ℕ) (hs : List HeldBlock) (h : HeldBlock) (shape : ShapeValues) → StandFrom from (blocks_held hs) → slice_get hs k ≡ Some h → laid_from shape h.block.start hs ≡ laid_at shape h
 laid-there from k [] h shape stand i = absurd cc
 laid-there from zero (g ∷ hs) h shape stand i =
@@ -100,14 +98,10 @@ moved-lt false start k t h = grind (arith, nat_tests)
 pub covers-moved : (start k : ℕ) (b : Begin) → covers start (start + k) b ≡ in_range k (range_of b)
 covers-moved start k b = rw (moved-le (nat_le b.from k) start b.from k refl, moved-lt (nat_lt k b.to) start k b.to refl) refl
 
-and-both : (a b : Bool) → (a && b) ≡ true → (a ≡ true) × (b ≡ true)
-and-both true b h = (refl, h)
-and-both false b h = cc
-
 covered-at : (n k : ℕ) (rs : List (ℕ × ℕ)) → covers_each n rs ≡ true → k < n → count_by (in_range k) rs ≡ 1
 covered-at zero k rs h below = absurd (omega arith)
 covered-at (suc n) k rs h below =
-    let both = and-both _ (covers_each n rs) h in
+    let both = and_parts _ (covers_each n rs) h in
     elim (cases_lt k n) as (λ _. count_by (in_range k) rs ≡ 1) [
       | inl less ↦ covered-at n k rs both.1 less
       | inr last ↦ let same : k ≡ n = omega (arith, last, below) in rw same (let one = both.0 in grind (arith, nat_tests))
@@ -116,8 +110,8 @@ covered-at (suc n) k rs h below =
 inside-all : (start end size : ℕ) (bs : List Begin) → start + size ≡ end → are_inside size (map range_of bs) ≡ true → All (λ b. (b.from ≤ b.to) × (start + b.to ≤ end)) bs
 inside-all start end size [] e h = All-nil (λ (b : Begin). (b.from ≤ b.to) × (start + b.to ≤ end))
 inside-all start end size (b ∷ bs) e h =
-    let both = and-both (nat_le b.from b.to && nat_le b.to size) (are_inside size (map range_of bs)) h in
-    let parts = and-both (nat_le b.from b.to) (nat_le b.to size) both.0 in
+    let both = and_parts (nat_le b.from b.to && nat_le b.to size) (are_inside size (map range_of bs)) h in
+    let parts = and_parts (nat_le b.from b.to) (nat_le b.to size) both.0 in
     let order : b.from ≤ b.to = let o = parts.0 in grind (arith, nat_tests) in
     let within : b.to ≤ size = let o = parts.1 in grind (arith, nat_tests) in
     All-cons (λ (x : Begin). (x.from ≤ x.to) × (start + x.to ≤ end)) b bs (order, omega (arith, e, within)) (inside-all start end size bs e both.1)
@@ -157,7 +151,7 @@ source-right hs held some last begun leads = record {
   rows = λ b shape among good.
       let found = held-at hs among.0 b among.1 in
       let h = found.held in
-      let is = all-at hs among.0 h held.lines found.there in
+      let is = all-at IsHeld hs among.0 h held.lines found.there in
       let lead = leads shape h.block.base h.first h.wrap h.truncation h.continuation good.most is.first is.wrap in
       let there = laid-there (first_start (blocks_held hs)) among.0 hs h shape held.stand found.there in
       subst (λ (x : Block). AreRowsOf x.start x.end (seen_rows (laid_from shape x.start hs))) found.block
@@ -288,10 +282,6 @@ among-some hs b among = let found = held-at hs among.0 b among.1 in let below = 
 pub within-some : (hs : List HeldBlock) (pos : ℕ) → IsWithin pos (blocks_held hs) → 0 < length hs
 within-some [] pos within = let high = within.1 in absurd (omega (arith, high))
 within-some (h ∷ hs) pos within = omega arith
-
-pub if-ok : {T E : Type 0} (r : Result T E) (P Q : T → Type 0) → ((x : T) → P x → Q x) → IfOk r P → IfOk r Q
-if-ok (Ok x) P Q f h = f x h
-if-ok (Err x) P Q f h = h
 
 pub rows-at : (b : Block) (shape : ShapeValues) (hs : List HeldBlock) (n : ℕ) (h : HeldBlock) → AreHeld hs → slice_get (blocks_held hs) n ≡ Some b → slice_get hs n ≡ Some h → laid_from shape b.start hs ≡ laid_at shape h
 rows-at b shape hs n h held block there =
