@@ -14,7 +14,7 @@ mod Costs
 mod Growth
 mod Inside
 mod Moving
-mod NearRows
+pub mod NearRows
 mod Places
 mod Pushing
 mod Reaching

@@ -1,22 +1,15 @@
 -- Places in joined lists, and searches there.
-use Rattle.std.proofs.Common.{◌≡◌, ℕ, zero, suc, ◌+◌, ◌-◌, ◌<◌, ◌≤◌, inl, inr, Bool, true, false, cond, ◌||◌, not, leb, List, [], ◌∷◌, ◌++◌, length, map, take, drop, get_or, Option, None, Some, All, refl, sym, ap, ◌∙◌, arith, zero-add}
-use Rattle.std.proofs.Math.Nat.{add-suc, add-zero, suc-add}
+use Rattle.std.proofs.Common.{◌≡◌, ℕ, zero, suc, ◌+◌, ◌-◌, ◌<◌, ◌≤◌, inl, inr, Bool, true, false, cond, ◌||◌, not, leb, List, [], ◌∷◌, ◌++◌, length, map, take, drop, get_or, Option, None, Some, refl, sym, ap, ◌∙◌, arith, zero-add}
+use Rattle.std.proofs.Math.Nat.{add-suc, add-zero}
 use Rattle.std.proofs.Math.Numerals.{add-one}
-use Rattle.std.proofs.lemmas.Bool.{cases_Bool, le-ltb, leb-true, lt-ltb}
+use Rattle.std.proofs.lemmas.Bool.{cases_Bool, le-ltb, leb-true, lt-ltb, or_parts}
 use Rattle.std.specs.List.{AllByRecursion, find, list_any, position, position_or_len, slice_get, count_by}
-use Rattle.std.proofs.lemmas.List.{drop_more, length-take-le, take-append-drop, take_all}
+use Rattle.std.proofs.lemmas.List.{length-take-le, take-append-drop, take_all}
 use Rattle.std.proofs.lemmas.List.Folds.{find-append}
 use Rattle.std.specs.Option.{option_or}
+use Rattle.rd_base.proofs.Lists.{drop-read}
 use Rattle.rd_start.specs.Starts.{around, both_at}
-
-pub slice_get-front : {X : Type 0} (xs ys : List X) (k : ℕ) → k < length xs → slice_get (xs ++ ys) k ≡ slice_get xs k
-slice_get-front [] ys k p = absurd (omega arith)
-slice_get-front (x ∷ xs) ys zero p = refl
-slice_get-front (x ∷ xs) ys (suc k) p = slice_get-front xs ys k (omega arith)
-
-pub slice_get-behind : {X : Type 0} (xs ys : List X) (k : ℕ) → slice_get (xs ++ ys) (length xs + k) ≡ slice_get ys k
-slice_get-behind [] ys k = ap (slice_get ys) (zero-add k)
-slice_get-behind (x ∷ xs) ys k = ap (slice_get (x ∷ (xs ++ ys))) (suc-add (length xs) k) ∙ slice_get-behind xs ys k
+pub use Rattle.rd_base.proofs.Lists.{each-append}
 
 -- a list round the element at a place
 pub record Split {X : Type 0} (xs : List X) (k : ℕ) (x : X) : Type 0 where
@@ -45,15 +38,11 @@ ends (y ∷ z ∷ xs) x p e =
     let rest = ends (z ∷ xs) x (omega arith) (sym (ap (slice_get (y ∷ z ∷ xs)) same) ∙ e) in
     record { front = y ∷ rest.front; whole = ap (λ zs. y ∷ zs) rest.whole }
 
-pub neither : (a b : Bool) → (a || b) ≡ false → (a ≡ false) × (b ≡ false)
-neither true b e = absurd cc
-neither false b e = (refl, e)
-
 -- the first element that passes, behind elements that don't, and among elements of which one does
 pub first-behind : {X : Type 0} (p : X → Bool) (xs ys : List X) → list_any p xs ≡ false → position_or_len p (xs ++ ys) ≡ length xs + position_or_len p ys
 first-behind p [] ys none = sym (zero-add (position_or_len p ys))
 first-behind p (x ∷ xs) ys none =
-    let both = neither (p x) (list_any p xs) none in
+    let both = or_parts (p x) (list_any p xs) none in
     let here = both.0 in
     let rest = first-behind p xs ys both.1 in
     rw here (omega arith)
@@ -83,7 +72,7 @@ first-inside p (x ∷ xs) some =
 pub first-none : {X : Type 0} (p : X → Bool) (xs : List X) → list_any p xs ≡ false → position_or_len p xs ≡ length xs
 first-none p [] none = refl
 first-none p (x ∷ xs) none =
-    let both = neither (p x) (list_any p xs) none in
+    let both = or_parts (p x) (list_any p xs) none in
     let here = both.0 in
     let rest = first-none p xs both.1 in
     rw here (omega arith)
@@ -95,7 +84,7 @@ first-mapped p f (x ∷ xs) = ap (λ n. cond (not (p (f x))) (1 + n) 0) (first-m
 pub none-counted : {X : Type 0} (p : X → Bool) (xs : List X) → list_any p xs ≡ false → count_by p xs ≡ 0
 none-counted p [] none = refl
 none-counted p (x ∷ xs) none =
-    let both = neither (p x) (list_any p xs) none in
+    let both = or_parts (p x) (list_any p xs) none in
     let here = both.0 in
     rw here (none-counted p xs both.1)
 
@@ -143,7 +132,7 @@ find-none p row (suc far) none =
 -- the place of the first element that passes, where those before it don't
 pub position-here : {X : Type 0} (p : X → Bool) (xs : List X) (k : ℕ) (x : X) → list_any p (take k xs) ≡ false → k < length xs → x ≡ get_or xs k x → p x ≡ true → position p xs ≡ Some k
 position-here p xs k x none inside at here =
-    let more = drop_more xs k x inside ∙ ap (λ y. y ∷ drop (k + 1) xs) (sym at) in
+    let more = drop-read xs k x inside at in
     let whole = sym (take-append-drop k xs) ∙ ap (λ ys. take k xs ++ ys) more in
     let first : position_or_len p (x ∷ drop (k + 1) xs) ≡ 0 = rw here refl in
     let size = length-take-le k xs (omega arith) in
@@ -158,10 +147,6 @@ position-none p xs k none all =
     ap (λ b. cond b (Some (position_or_len p xs)) None) t
 
 -- what holds of each element
-pub each-append : {X : Type 0} (P : X → Type 0) (xs ys : List X) → AllByRecursion P xs → AllByRecursion P ys → AllByRecursion P (xs ++ ys)
-each-append P [] ys h i = i
-each-append P (x ∷ xs) ys h i = (h.0, each-append P xs ys h.1 i)
-
 pub each-take : {X : Type 0} (P : X → Type 0) (k : ℕ) (xs : List X) → AllByRecursion P xs → AllByRecursion P (take k xs)
 each-take P zero xs h = tt
 each-take P (suc k) [] h = tt
@@ -171,7 +156,3 @@ pub each-drop : {X : Type 0} (P : X → Type 0) (k : ℕ) (xs : List X) → AllB
 each-drop P zero xs h = h
 each-drop P (suc k) [] h = tt
 each-drop P (suc k) (x ∷ xs) h = each-drop P k xs h.1
-
-pub each-from : {X : Type 0} (P : X → Type 0) (xs : List X) → All P xs → AllByRecursion P xs
-each-from P [] h = tt
-each-from P (x ∷ xs) h = (h 0 x (omega arith), each-from P xs (λ k d below. h (suc k) d (omega arith)))

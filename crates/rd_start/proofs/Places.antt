@@ -14,7 +14,7 @@ use Rattle.rd_start.specs.Strips.{IsStrip, Reaches, first_row, line_of, rows_in,
 use Rattle.rd_start.specs.declared.span.Span.{Span}
 use Rattle.rd_start.specs.declared.strip.Line.{Line}
 use Rattle.rd_start.specs.declared.strip.Strip.{Strip}
-use Rattle.rd_start.proofs.Lists.{slice_get-behind, slice_get-front}
+use Rattle.rd_matrix.proofs.Joined.{at-left, at-right}
 use Rattle.rd_start.proofs.Rows.{rows_around}
 use Rattle.rd_start.proofs.Spans.{spans, spans-lines}
 
@@ -35,7 +35,7 @@ anchor-line m s place line h inside at =
     let low : place < length z.middle = omega arith in
     let here = ap (λ (ys : List EntryMeaning). slice_get ys (first_row m s + place)) z.whole
     ∙ (ap (slice_get (z.front ++ (z.middle ++ z.back))) first
-    ∙ (slice_get-behind z.front (z.middle ++ z.back) place ∙ slice_get-front z.middle z.back place low)) in
+    ∙ (at-right z.front (z.middle ++ z.back) place ∙ at-left z.middle z.back place low)) in
     let mapped = sym (slice_get-map (line_of s.sweep.point) z.middle place) ∙ (ap (λ (ys : List Line). slice_get ys place) (sym z.lines) ∙ at) in
     anchor-same s.sweep.point (slice_get z.middle place) line mapped ∙ ap anchor_from (sym here)
 

@@ -1,8 +1,10 @@
 -- Positions that items of a strip cover are positions of its blocks.
-use Rattle.std.proofs.Common.{◌≡◌, ℕ, ◌+◌, ◌-◌, ◌^◌, ◌<◌, ◌≤◌, inl, inr, cond, ltb, min, max, List, [], ◌∷◌, ◌++◌, length, take, drop, Some, sym, ap, subst, ◌∙◌, arith}
+use Rattle.std.proofs.Common.{◌≡◌, ℕ, ◌+◌, ◌-◌, ◌^◌, ◌<◌, ◌≤◌, inl, inr, cond, ltb, min, max, List, [], ◌∷◌, length, take, drop, Some, sym, ap, subst, ◌∙◌, arith}
 use Rattle.std.proofs.lemmas.Bool.{cases_Bool, ltb-true}
 use Rattle.std.proofs.lemmas.List.{length-map}
 use Rattle.std.specs.List.{AllByRecursion, flat_map, fold}
+use Rattle.std.proofs.lemmas.List.Elements.{recursion_from_All}
+use Rattle.rd_base.proofs.Lists.{each-append, each-back, each-front}
 use Rattle.rd_matrix.specs.Entries.{EntryMeaning, all_rows, entries_of, numbered}
 use Rattle.rd_matrix.specs.Sources.{SourceValues, begins_of}
 use Rattle.rd_matrix.specs.declared.block.Block.{Block}
@@ -13,7 +15,7 @@ use Rattle.rd_start.specs.Strips.{IsStrip, first_row, line_of, rows_in, span_of}
 use Rattle.rd_start.specs.declared.span.Span.{Span}
 use Rattle.rd_start.specs.declared.strip.Strip.{Strip}
 use Rattle.rd_start.proofs.Blocks.{Fit}
-use Rattle.rd_start.proofs.Lists.{each-append, each-drop, each-from, each-take}
+use Rattle.rd_start.proofs.Lists.{each-drop, each-take}
 use Rattle.rd_start.proofs.Places.{Spans, rows-between}
 use Rattle.rd_start.proofs.Rows.{bounds, whole-rows}
 
@@ -41,14 +43,6 @@ small-entry start end n [] h high = tt
 small-entry start end n (b ∷ bs) h high =
     each-append (Below n) (first_covered start b) (flat_map (first_covered start) bs) (one-covered start end n b h.0 high) (small-entry start end n bs h.1 high)
 
-each-front : {X : Type 0} (P : X → Type 0) (xs ys : List X) → AllByRecursion P (xs ++ ys) → AllByRecursion P xs
-each-front P [] ys h = tt
-each-front P (x ∷ xs) ys h = (h.0, each-front P xs ys h.1)
-
-each-back : {X : Type 0} (P : X → Type 0) (xs ys : List X) → AllByRecursion P (xs ++ ys) → AllByRecursion P ys
-each-back P [] ys h = h
-each-back P (x ∷ xs) ys h = each-back P xs ys h.1
-
 small-rows : (start number end n : ℕ) (rows : List RowMeaning) → AllByRecursion (Inside start end) (begins_of rows) → end ≤ n → AllByRecursion (SmallEntry n) (numbered start number rows)
 small-rows start number end n [] h high = tt
 small-rows start number end n (r ∷ rows) h high = (
@@ -61,7 +55,7 @@ small-blocks rows from [] h small = tt
 small-blocks rows from (b ∷ bs) h small =
     let end = small.0 in
     each-append (SmallEntry (2 ^ 32)) (entries_of rows b) (all_rows rows bs)
-    (small-rows b.start 0 b.end (2 ^ 32) (rows b) (each-from (Inside b.start b.end) (begins_of (rows b)) h.2.inside) (omega arith))
+    (small-rows b.start 0 b.end (2 ^ 32) (rows b) (recursion_from_All (Inside b.start b.end) (begins_of (rows b)) h.2.inside) (omega arith))
     (small-blocks rows b.end bs h.3 small.1)
 
 small-positions : (n : ℕ) (es : List EntryMeaning) → AllByRecursion (SmallEntry n) es → AllByRecursion (Below n) (first_positions es)

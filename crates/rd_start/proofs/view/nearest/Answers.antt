@@ -8,7 +8,9 @@ use Rattle.rd_start.specs.Strips.{ShowsPoint, first_row}
 use Rattle.rd_start.proofs.Reaching.{at-source}
 use Rattle.rd_start.proofs.Sides.{point-found}
 use Rattle.rd_start.proofs.Suits.{lost-nearest, nearest-here, nearest-later}
+use Rattle.rd_start.proofs.view.nearest.Given as given
 use Rattle.rd_start.proofs.view.nearest.Goals as goal
+use Rattle.rd_start.proofs.view.nearest.Goals.{In_ok-found}
 
 pub returns-in_default-clause-value : goal.returns-in_default-clause-value
 returns-in_default-clause-value g c =
@@ -22,29 +24,36 @@ suiting_at-requires-clause-shows g c =
     at-source (λ (x : SourceValues). ShowsPoint x win c.in-Some.row) (g.B.BlockSource.meaning c.loop-step.source) m (sym c.loop-step.invariant.source)
     (record { laid = c.requires.moves.laid; inside = place.0; point = place.1 })
 
+-- what the search at a distance answered, as rows of the source
+told : (g : given.Over) (c : In_ok-found g)
+    → let m = g.B.BlockSource.meaning c.args.source.now in
+    let s = c.args.window.now.strip in
+    let w = c.args.window.now.wanted in
+    option_map (λ n. first_row m s + n) c.in_ok-found.found ≡ find (suits w (places_of m s.sweep.shape w)) (both_at (first_row m s + s.home) (c.loop-step.step + 1))
+told g c =
+    let s = c.args.window.now.strip in
+    let w = c.args.window.now.wanted in
+    at-source (λ (x : SourceValues). option_map (λ n. first_row x s + n) c.in_ok-found.found ≡ find (suits w (places_of x s.sweep.shape w)) (both_at (first_row x s + s.home) (c.loop-step.step + 1)))
+    (g.B.BlockSource.meaning c.args.source.now) (g.B.BlockSource.meaning c.loop-step.source) c.loop-step.invariant.source c.in_ok-found.ensures.value
+
 pub returns-in-Some-found-clause-value : goal.returns-in-Some-found-clause-value
 returns-in-Some-found-clause-value g c =
     let m = g.B.BlockSource.meaning c.args.source.now in
     let s = c.args.window.now.strip in
     let w = c.args.window.now.wanted in
     let step = c.loop-step.step in
-    let inv = c.loop-step.invariant in
     let low : step < w.conservatively = omega arith in
-    let told = at-source (λ (x : SourceValues). option_map (λ n. first_row x s + n) c.in_ok-found.found ≡ find (suits w (places_of x s.sweep.shape w)) (both_at (first_row x s + s.home) (step + 1)))
-    m (g.B.BlockSource.meaning c.loop-step.source) inv.source c.in_ok-found.ensures.value in
-    nearest-here (suits w (places_of m s.sweep.shape w)) (first_row m s + s.home) step w.conservatively (first_row m s + c.in-Some-found.start) low inv.none
-    (sym (ap (option_map (λ n. first_row m s + n)) c.in-Some-found.is) ∙ told)
+    nearest-here (suits w (places_of m s.sweep.shape w)) (first_row m s + s.home) step w.conservatively (first_row m s + c.in-Some-found.start) low c.loop-step.invariant.none
+    (sym (ap (option_map (λ n. first_row m s + n)) c.in-Some-found.is) ∙ told g (goal.at.returns-in-Some-found-clause-value g c).In_ok-found)
 
 pub loop-step-preserved : goal.loop-step-preserved
 loop-step-preserved g c =
     let m = g.B.BlockSource.meaning c.args.source.now in
     let s = c.args.window.now.strip in
     let w = c.args.window.now.wanted in
-    let step = c.loop-step.step in
     let inv = c.loop-step.invariant in
-    let told = at-source (λ (x : SourceValues). option_map (λ n. first_row x s + n) c.in_ok-found.found ≡ find (suits w (places_of x s.sweep.shape w)) (both_at (first_row x s + s.home) (step + 1)))
-    m (g.B.BlockSource.meaning c.loop-step.source) inv.source c.in_ok-found.ensures.value in
     record {
       source = c.suiting_at.ensures.stays ∙ inv.source;
-      none = nearest-later (suits w (places_of m s.sweep.shape w)) (first_row m s + s.home) step inv.none (sym (ap (option_map (λ n. first_row m s + n)) c.in_default-found.is) ∙ told);
+      none = nearest-later (suits w (places_of m s.sweep.shape w)) (first_row m s + s.home) c.loop-step.step inv.none
+          (sym (ap (option_map (λ n. first_row m s + n)) c.in_default-found.is) ∙ told g (goal.at.loop-step-preserved g c).In_ok-found);
     }
