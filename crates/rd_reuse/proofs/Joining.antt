@@ -1,9 +1,7 @@
 -- Changes that are joined with none and with all.
-use Rattle.std.proofs.Common.{◌≡◌, ℕ, zero, suc, ◌+◌, ◌-◌, ◌^◌, ◌<◌, ◌≤◌, min, max, nat_le, inl, inr, Bool, true, false, cond, ltb, ◌&&◌, ◌||◌, ◌==◌, if◌then◌else◌, List, ℤ, pos, negsuc, ◌+ℤ◌, ◌-ℤ◌, refl, sym, ap, ◌∙◌, arith}
+use Rattle.std.proofs.Common.{◌≡◌, ℕ, zero, suc, ◌+◌, ◌-◌, ◌^◌, ◌<◌, ◌≤◌, min, max, nat_le, inl, inr, Bool, true, false, cond, ltb, ◌&&◌, ◌||◌, if◌then◌else◌, List, ℤ, pos, negsuc, ◌+ℤ◌, ◌-ℤ◌, refl, sym, ap, ◌∙◌, arith}
 use Rattle.std.proofs.Math.IntN.{+ℤ_idl, +ℤ_idr}
-use Rattle.std.proofs.lemmas.Bool.{and_from, and_left, and_parts, cases_Bool, eqb-true, le-leb, leb-true, lt-leb, true≢false}
-use Rattle.std.specs.Cmp.{signed_Decides}
-use Rattle.std.specs.Ordering.{int_eq}
+use Rattle.std.proofs.lemmas.Bool.{and_from, and_left, and_parts, cases_Bool, le-leb, leb-true, lt-leb, or_from, or_right, true≢false}
 use Rattle.rd_matrix.specs.Blocks.{IsAmong, first_start}
 use Rattle.rd_matrix.specs.Sources.{SourceValues, IsSource}
 use Rattle.rd_matrix.specs.declared.block.Block.{Block}
@@ -11,30 +9,14 @@ use Rattle.rd_matrix.specs.declared.matrix.Entry.{Entry}
 use Rattle.rd_reuse.specs.Changes.{IsChange, all, change_of, edit, is_all, is_small, join, moved, none}
 use Rattle.rd_reuse.specs.Keeping.{AreRight, are_whole, is_kept, is_outside, taken}
 use Rattle.rd_reuse.specs.declared.change.Change.{Change}
+use Rattle.rd_reuse.proofs.Changes.{all-is}
 use Rattle.rd_matrix.proofs.HeldLemmas.{later-start}
 use Rattle.rd_rows.specs.Copies.{shown_rows}
 use Rattle.rd_rows.specs.Shapes.{ShapeValues}
 
-or-last : (a b : Bool) → b ≡ true → (a || b) ≡ true
-or-last true b e = refl
-or-last false b e = e
-
-or-none : (a b : Bool) → a ≡ false → b ≡ false → (a || b) ≡ false
-or-none true b e f = absurd (true≢false e)
-or-none false b e f = f
-
 pub all-last : (c : Change) → join c all ≡ all
 all-last c =
-    ap (λ (t : Bool). if t then all else change_of (min c.head all.head) (max (moved all.added c.tail) all.tail) (c.added +ℤ all.added)) (or-last (is_all c) (is_all all) refl)
-
--- a change that may be of anything is that of anything
-is-all : (c : Change) → is_all c ≡ true → c ≡ all
-is-all c e =
-    let both = and_parts ((c.head == 0) && (c.tail == 4294967295)) (int_eq c.added (pos 0)) e in
-    let places = and_parts (c.head == 0) (c.tail == 4294967295) both.0 in
-    ap (λ (x : ℕ). record { head = x; tail = c.tail; added = c.added }) (eqb-true c.head 0 places.0)
-    ∙ (ap (λ (x : ℕ). record { head = 0; tail = x; added = c.added }) (eqb-true c.tail 4294967295 places.1)
-    ∙ ap (λ (x : ℤ). record { head = 0; tail = 4294967295; added = x }) ((signed_Decides c.added (pos 0)).0 both.1))
+    ap (λ (t : Bool). if t then all else change_of (min c.head all.head) (max (moved all.added c.tail) all.tail) (c.added +ℤ all.added)) (or_right (is_all c) (is_all all) refl)
 
 -- the parts of a change make that change
 made : (c : Change) (head tail : ℕ) (added : ℤ) → IsChange c → head ≡ c.head → tail ≡ c.tail → added ≡ c.added → change_of head tail added ≡ c
@@ -50,7 +32,7 @@ none-last c is =
     let head : min c.head 4294967295 ≡ c.head = let h = is.head in omega (arith, h) in
     let tail : max (c.tail + 0) 0 ≡ c.tail = omega arith in
     elim (cases_Bool (is_all c)) as (λ _. join c none ≡ c) [
-      | inl whole ↦ ap (λ (t : Bool). joined (min c.head 4294967295) (max (c.tail + 0) 0) (c.added +ℤ pos 0) (t || is_all none)) whole ∙ sym (is-all c whole)
+      | inl whole ↦ ap (λ (t : Bool). joined (min c.head 4294967295) (max (c.tail + 0) 0) (c.added +ℤ pos 0) (t || is_all none)) whole ∙ sym (all-is c whole)
       | inr part ↦
           ap (λ (t : Bool). joined (min c.head 4294967295) (max (c.tail + 0) 0) (c.added +ℤ pos 0) (t || is_all none)) part
           ∙ made c (min c.head 4294967295) (max (c.tail + 0) 0) (c.added +ℤ pos 0) is head tail (+ℤ_idr c.added)
@@ -62,7 +44,7 @@ none-first c is low =
     let head : min 4294967295 c.head ≡ c.head = let h = is.head in omega (arith, h) in
     let tail : max (moved c.added 0) c.tail ≡ c.tail = omega (arith, low) in
     elim (cases_Bool (is_all c)) as (λ _. join none c ≡ c) [
-      | inl whole ↦ ap (joined (min 4294967295 c.head) (max (moved c.added 0) c.tail) (pos 0 +ℤ c.added)) whole ∙ sym (is-all c whole)
+      | inl whole ↦ ap (joined (min 4294967295 c.head) (max (moved c.added 0) c.tail) (pos 0 +ℤ c.added)) whole ∙ sym (all-is c whole)
       | inr part ↦
           ap (joined (min 4294967295 c.head) (max (moved c.added 0) c.tail) (pos 0 +ℤ c.added)) part
           ∙ made c (min 4294967295 c.head) (max (moved c.added 0) c.tail) (pos 0 +ℤ c.added) is head tail (+ℤ_idl c.added)
@@ -101,7 +83,7 @@ pub none-kept : (old : List Entry) (b : Block) → b.start < b.end → b.end < 2
 none-kept old b some small =
     let below = lt-leb b.end 0 (omega (arith, some)) in
     let behind = lt-leb 4294967295 b.start (omega (arith, some, small)) in
-    and_left (is_outside all b) (are_whole b.base (shown_rows (taken old all b.start))) (or-none (nat_le b.end 0) (nat_le 4294967295 b.start) below behind)
+    and_left (is_outside all b) (are_whole b.base (shown_rows (taken old all b.start))) (or_from (nat_le b.end 0) (nat_le 4294967295 b.start) below behind)
 
 pub all-right : (m : SourceValues) (old : List Entry) (shape : ShapeValues) → IsSource m → ((b : Block) → IsAmong m.blocks b → b.end < 2 ^ 32) → AreRight m old all shape
 all-right m old shape source small = λ b among kept.

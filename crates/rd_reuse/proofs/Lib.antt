@@ -1,6 +1,7 @@
+pub mod Changes
 mod Joining
 pub mod Lists
 pub mod Places
 mod Placing
-mod Taking
+pub mod Taking
 mod Walking

@@ -2,17 +2,6 @@
 use Rattle.std.proofs.Common.{◌≡◌, ℕ, zero, suc, ◌+◌, ◌-◌, ◌<◌, ◌≤◌, List, [], ◌∷◌, ◌++◌, length, take, drop, slice_get, Some, refl, sym, ap, ◌∙◌, arith}
 use Rattle.std.proofs.lemmas.List.{append_assoc, length-append, length-drop, length-take}
 
-pub at-left : {X : Type 0} (xs ys : List X) (k : ℕ) → k < length xs → slice_get (xs ++ ys) k ≡ slice_get xs k
-at-left [] ys k low = absurd (omega arith)
-at-left (x ∷ xs) ys zero low = refl
-at-left (x ∷ xs) ys (suc k) low = at-left xs ys k (omega arith)
-
-pub at-right : {X : Type 0} (xs ys : List X) (k : ℕ) → slice_get (xs ++ ys) (length xs + k) ≡ slice_get ys k
-at-right [] ys k = let same : 0 + k ≡ k = omega arith in ap (slice_get ys) same
-at-right (x ∷ xs) ys k =
-    let same : length (x ∷ xs) + k ≡ suc (length xs + k) = omega arith in
-    ap (slice_get (x ∷ (xs ++ ys))) same ∙ at-right xs ys k
-
 pub at-seam : {X : Type 0} (xs : List X) (y : X) (ys : List X) → slice_get (xs ++ y ∷ ys) (length xs) ≡ Some y
 at-seam [] y ys = refl
 at-seam (x ∷ xs) y ys = at-seam xs y ys
@@ -38,12 +27,6 @@ take-both-from n (suc from) [] ys low = absurd (omega arith)
 take-both-from n (suc from) (x ∷ xs) ys low =
     let same : length (x ∷ xs) - suc from ≡ length xs - from = omega arith in
     take-both-from n from xs ys (omega arith) ∙ sym (ap (λ k. take n (drop from xs) ++ take (n - k) ys) same)
-
-pub drop-behind : {X : Type 0} (xs ys : List X) (k : ℕ) → drop (length xs + k) (xs ++ ys) ≡ drop k ys
-drop-behind [] ys k = let same : 0 + k ≡ k = omega arith in ap (λ n. drop n ys) same
-drop-behind (x ∷ xs) ys k =
-    let same : length (x ∷ xs) + k ≡ suc (length xs + k) = omega arith in
-    ap (λ n. drop n (x ∷ (xs ++ ys))) same ∙ drop-behind xs ys k
 
 -- up to `most` elements of a list, from one of `here` on: those of `here`, and then those of `rest` as far as there is room
 pub filled-more : {X : Type 0} (most from : ℕ) (done here rest all : List X) → length done ≤ most → from ≤ length here

@@ -1,17 +1,19 @@
 -- Blocks and their rows, by place.
-use Rattle.std.proofs.Common.{◌≡◌, ℕ, zero, suc, ◌+◌, ◌-◌, ◌<◌, ◌≤◌, inl, inr, List, [], ◌∷◌, ◌++◌, length, option_map, Option, None, Some, refl, sym, ap, ◌∙◌, subst, arith}
+use Rattle.std.proofs.Common.{◌≡◌, ℕ, zero, suc, ◌+◌, ◌-◌, ◌<◌, ◌≤◌, inl, inr, true, List, [], ◌∷◌, ◌++◌, length, option_map, Option, None, Some, refl, sym, ap, ◌∙◌, subst, arith}
 use Rattle.std.proofs.lemmas.Bool.{cases_lt}
 use Rattle.std.proofs.lemmas.List.{length-append}
 use Rattle.std.specs.List.{slice_get}
 use Rattle.rd_base.specs.declared.settings.Anchor.{Anchor}
 use Rattle.rd_matrix.proofs.HeldLemmas.{later-start}
+use Rattle.rd_matrix.proofs.Joined.{at-left, at-right}
 use Rattle.rd_matrix.proofs.Counting.{all-append, count-cons, length-numbered}
 use Rattle.rd_matrix.specs.Blocks.{IsWithin, StandFrom, end_from, first_start}
 use Rattle.rd_matrix.specs.Entries.{EntryMeaning, all_rows, entries_of, numbered}
 use Rattle.rd_matrix.specs.Sources.{SourceValues, IsSource, rows_at}
 use Rattle.rd_matrix.specs.declared.block.Block.{Block}
 use Rattle.rd_reuse.specs.Views.{Names, anchor_of}
-use Rattle.rd_reuse.proofs.Lists.{at-left, at-right, at-seam}
+use Rattle.rd_reuse.proofs.Lists.{at-seam}
+use Rattle.rd_rows.specs.Laws.{ends_last}
 use Rattle.rd_rows.specs.Rows.{RowMeaning}
 use Rattle.rd_rows.specs.Shapes.{ShapeValues}
 
@@ -20,6 +22,11 @@ count-last rows xs b =
     let whole = ap length (all-append rows xs (b ∷ [])) ∙ length-append (all_rows rows xs) (all_rows rows (b ∷ [])) in
     let last = count-cons rows b [] in
     omega (arith, whole, last)
+
+-- there is a row where the last one ends the block
+pub some-row : (rows : List RowMeaning) → ends_last rows ≡ true → 0 < length rows
+some-row [] e = absurd cc
+some-row (r ∷ rows) e = omega arith
 
 pub numbered-at : (start number k : ℕ) (rows : List RowMeaning) (e : EntryMeaning) → slice_get (numbered start number rows) k ≡ Some e
     → (k < length rows) × (e.start ≡ start) × (e.number ≡ number + k)

@@ -1,5 +1,6 @@
 -- The older rows of a block, one after the other.
 use Rattle.std.proofs.Common.{◌≡◌, ℕ, zero, suc, ◌+◌, ◌-◌, ◌<◌, ◌≤◌, ◌&&◌, Bool, true, false, if◌then◌else◌, List, [], ◌∷◌, ◌++◌, length, drop, find, slice_get, Option, None, Some, refl, sym, ap, ◌∙◌, arith}
+use Rattle.std.proofs.lemmas.Bool.{and_right}
 use Rattle.std.proofs.lemmas.List.{append-nil, append_assoc}
 use Rattle.std.specs.List.{list_all}
 use Rattle.rd_matrix.specs.declared.matrix.Entry.{Entry}
@@ -24,13 +25,9 @@ find-behind test (y ∷ xs) (suc k) x i e =
     let next : suc (k + 1) ≡ suc k + 1 = omega arith in
     find-behind test xs k x i e ∙ ap (λ n. find test (drop n (y ∷ xs))) next
 
-and-false : (a b : Bool) → (a && (false && b)) ≡ false
-and-false true b = refl
-and-false false b = refl
-
 -- rows that are of no such base are not whole
 based-not : (base : ℕ) (r : RowMeaning) (rs : List RowMeaning) → has_base base r ≡ false → are_whole base (r ∷ rs) ≡ false
-based-not base r rs e = rw e (and-false (ends_last (r ∷ rs)) (list_all (has_base base) rs))
+based-not base r rs e = rw e (and_right (ends_last (r ∷ rs)) (false && list_all (has_base base) rs) refl)
 
 ends-here : (base : ℕ) (r : RowMeaning) → has_base base r ≡ true → r.ends_block ≡ true → are_whole base (r ∷ []) ≡ true
 ends-here base r e h = rw (h, e) refl

@@ -1,5 +1,6 @@
 -- The walk from the anchor's block down, in which rows are laid out until there are enough.
 use Rattle.std.proofs.Common.{◌≡◌, ℕ, zero, suc, ◌+◌, ◌-◌, ◌<◌, ◌≤◌, Bool, true, false, if◌then◌else◌, List, [], ◌∷◌, ◌++◌, length, take, drop, slice_get, All, option_map, Option, None, Some, refl, sym, ap, ◌∙◌, subst, arith}
+use Rattle.std.proofs.Math.Seq.{drop-append-add}
 use Rattle.std.proofs.lemmas.Bool.Decides.{nat_tests}
 use Rattle.std.proofs.lemmas.List.{append-nil, append_assoc, drop-map, length-append, length-drop, length-map, length-take, map-append, take-map}
 use Rattle.std.proofs.lemmas.List.Elements.{All-append, All-drop, All-nil, All-take}
@@ -17,13 +18,11 @@ use Rattle.rd_reuse.specs.Keeping.{copied_rows, entry_under, fresh_cost, is_kept
 use Rattle.rd_reuse.specs.Laying.{placed}
 use Rattle.rd_reuse.specs.Views.{IsCopied, Names, fresh_costs, is_in_view}
 use Rattle.rd_reuse.specs.declared.change.Change.{Change}
-use Rattle.rd_reuse.proofs.Lists.{at-seam, behind-seam, drop-behind, filled-more, filled-size}
+use Rattle.rd_reuse.proofs.Lists.{at-seam, behind-seam, filled-more, filled-size}
 use Rattle.rd_matrix.proofs.HeldLemmas.{later-start}
-use Rattle.rd_reuse.proofs.Places.{anchor-found, count-last, holding}
+use Rattle.rd_reuse.proofs.Places.{anchor-found, count-last, holding, some-row}
 use Rattle.rd_reuse.proofs.Placing.{all-placed, none-left, shown-placed}
 use Rattle.rd_rows.specs.Copies.{RowValues, copied, shown_rows}
-use Rattle.rd_rows.specs.Laws.{ends_last}
-use Rattle.rd_rows.specs.Rows.{RowMeaning}
 use Rattle.rd_rows.specs.Shapes.{ShapeValues, IsShape}
 
 -- what is known while rows are laid out: the blocks before the next one and behind it, the place of the next row, the rows that
@@ -73,7 +72,7 @@ begins m old c shape anchor place most base block source holds is =
       room = omega arith;
       done = ap (λ n. take n (drop anchor.row (all_rows rows (block ∷ found.after)))) left
           ∙ ap (take most) (sym (ap (drop place) all ∙ (ap (λ n. drop n (all_rows rows found.before ++ all_rows rows (block ∷ found.after))) (sym count)
-          ∙ drop-behind (all_rows rows found.before) (all_rows rows (block ∷ found.after)) anchor.row)));
+          ∙ drop-append-add (all_rows rows found.before) (all_rows rows (block ∷ found.after)) anchor.row)));
       copies = All-nil (IsCopied old c m.blocks);
       paid = omega (arith, behind, e, whole);
     }
@@ -97,10 +96,6 @@ first-of (x ∷ bs) b h = let same : x ≡ b = cc in record { rest = bs; is = ap
 none-of : (bs : List Block) → slice_get bs 0 ≡ None → bs ≡ []
 none-of [] h = refl
 none-of (x ∷ bs) h = absurd cc
-
-some-row : (rows : List RowMeaning) → ends_last rows ≡ true → 0 < length rows
-some-row [] e = absurd cc
-some-row (r ∷ rows) e = omega arith
 
 -- a row that is taken is that of the first entry with its number
 

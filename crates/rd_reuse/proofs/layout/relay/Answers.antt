@@ -1,11 +1,13 @@
-use Rattle.std.proofs.Common.{◌+◌, ◌<◌, ◌≤◌, length, All, Some, None, subst, sym, ap, ◌∙◌, arith}
+use Rattle.std.proofs.Common.{ℕ, ◌+◌, ◌<◌, ◌≤◌, length, All, Some, None, subst, sym, ap, ◌∙◌, arith}
 use Rattle.rd_matrix.specs.Blocks.{IsAmong}
-use Rattle.rd_matrix.specs.Sources.{SourceValues}
+use Rattle.rd_matrix.specs.Sources.{SourceValues, rows_at}
 use Rattle.rd_reuse.specs.Keeping.{fresh_cost}
-use Rattle.rd_reuse.specs.Views.{IsCopied}
+use Rattle.rd_reuse.specs.Views.{IsCopied, Names, fresh_costs}
 use Rattle.rd_reuse.proofs.Walking.{Walk, among, begins, copies-grown, ends, enough, goes-on, grows, same-next, spends}
 use Rattle.rd_rows.specs.Shapes.{IsShape}
+use Rattle.rd_reuse.proofs.layout.relay.Given as given
 use Rattle.rd_reuse.proofs.layout.relay.Goals as goal
+use Rattle.rd_reuse.proofs.layout.relay.Goals.{After-rows_of}
 
 pub loop-alloc-init : goal.loop-alloc-init
 loop-alloc-init g c =
@@ -24,19 +26,20 @@ rows_of-requires-clause-among g c =
     let named = c.requires.row in
     subst (λ (x : SourceValues). IsAmong x.blocks c.loop-alloc.block) (sym inv.source) (among (inv.walk named.0 named.1))
 
-pub returns-in_err-rows-clause-steps : goal.returns-in_err-rows-clause-steps
-returns-in_err-rows-clause-steps g c = λ place is.
+-- the steps once the rows of a block were had
+spent : (g : given.Over) (c : After-rows_of g) → let m = g.B.BlockSource.meaning c.args.source.now in
+    (place : ℕ) → Names c.args.anchor (rows_at m c.args.shape) place → c.rows_of.new.steps ≤ c.args.steps.now + fresh_costs m c.args.old.now c.args.change c.args.shape place (place + c.args.height)
+spent g c = λ place is.
     let inv = c.loop-alloc.invariant in
     let low : length c.loop-alloc.matrix < c.args.height = omega arith in
     spends (inv.walk place is) c.rows_of.new.steps low
     (subst (λ (x : SourceValues). c.rows_of.new.steps ≤ c.loop-alloc.steps + fresh_cost x c.args.old.now c.args.change c.args.shape c.loop-alloc.block) inv.source c.rows_of.ensures.steps)
 
+pub returns-in_err-rows-clause-steps : goal.returns-in_err-rows-clause-steps
+returns-in_err-rows-clause-steps g c = spent g (goal.at.returns-in_err-rows-clause-steps g c).After-rows_of
+
 pub returns-in_err-add_rows-clause-steps : goal.returns-in_err-add_rows-clause-steps
-returns-in_err-add_rows-clause-steps g c = λ place is.
-    let inv = c.loop-alloc.invariant in
-    let low : length c.loop-alloc.matrix < c.args.height = omega arith in
-    spends (inv.walk place is) c.rows_of.new.steps low
-    (subst (λ (x : SourceValues). c.rows_of.new.steps ≤ c.loop-alloc.steps + fresh_cost x c.args.old.now c.args.change c.args.shape c.loop-alloc.block) inv.source c.rows_of.ensures.steps)
+returns-in_err-add_rows-clause-steps g c = spent g (goal.at.returns-in_err-add_rows-clause-steps g c).After-rows_of
 
 pub next-requires : goal.next-requires
 next-requires g c =
@@ -45,11 +48,7 @@ next-requires g c =
     subst (λ (x : SourceValues). IsAmong x.blocks c.loop-alloc.block) (sym (c.rows_of.ensures.stays ∙ inv.source)) (among (inv.walk named.0 named.1))
 
 pub returns-in_err-next-clause-steps : goal.returns-in_err-next-clause-steps
-returns-in_err-next-clause-steps g c = λ place is.
-    let inv = c.loop-alloc.invariant in
-    let low : length c.loop-alloc.matrix < c.args.height = omega arith in
-    spends (inv.walk place is) c.rows_of.new.steps low
-    (subst (λ (x : SourceValues). c.rows_of.new.steps ≤ c.loop-alloc.steps + fresh_cost x c.args.old.now c.args.change c.args.shape c.loop-alloc.block) inv.source c.rows_of.ensures.steps)
+returns-in_err-next-clause-steps g c = spent g (goal.at.returns-in_err-next-clause-steps g c).After-rows_of
 
 pub returns-in_default-clause-rows : goal.returns-in_default-clause-rows
 returns-in_default-clause-rows g c = λ place is.
@@ -68,11 +67,7 @@ returns-in_default-clause-copies g c =
     (copies-grown (inv.walk named.0 named.1) inv.is c.in_ok-rows.rows.items c.in_ok-rows.ensures.copies)
 
 pub returns-in_default-clause-steps : goal.returns-in_default-clause-steps
-returns-in_default-clause-steps g c = λ place is.
-    let inv = c.loop-alloc.invariant in
-    let low : length c.loop-alloc.matrix < c.args.height = omega arith in
-    spends (inv.walk place is) c.rows_of.new.steps low
-    (subst (λ (x : SourceValues). c.rows_of.new.steps ≤ c.loop-alloc.steps + fresh_cost x c.args.old.now c.args.change c.args.shape c.loop-alloc.block) inv.source c.rows_of.ensures.steps)
+returns-in_default-clause-steps g c = spent g (goal.at.returns-in_default-clause-steps g c).After-rows_of
 
 pub loop-alloc-smaller : goal.loop-alloc-smaller
 loop-alloc-smaller g c =
