@@ -1,29 +1,25 @@
 -- The first row of a source, and its last one.
 use Rattle.std.proofs.Common.{◌≡◌, ℕ, zero, suc, ◌+◌, ◌-◌, ◌<◌, Bool, true, false, not, ◌&&◌, ◌==◌, leb, List, [], ◌∷◌, ◌++◌, length, min, take, drop, slice_get, option_map, Option, Some, refl, sym, ap, ap₂, ◌∙◌, subst, arith}
 use Rattle.std.specs.Option.{is_none}
-use Rattle.std.proofs.Math.Dec.{eqb-suc-zero}
-use Rattle.std.proofs.lemmas.Bool.{and_parts, le-leb, lt-leb}
+use Rattle.std.proofs.lemmas.Bool.{and_parts, le-leb, lt-leb, ne_eqb}
 use Rattle.std.proofs.lemmas.List.{append_assoc, length-append, length-drop, length-map, length-take}
 use Rattle.std.proofs.lemmas.Option.{slice_get-map}
 use Rattle.rd_base.specs.declared.settings.Anchor.{Anchor}
 use Rattle.rd_matrix.proofs.Counting.{all-append, count-cons, length-numbered}
+use Rattle.rd_matrix.proofs.Joined.{at-left, at-right}
 use Rattle.rd_matrix.specs.Blocks.{HoldsPosition, StandFrom, block_before, first_start}
 use Rattle.rd_matrix.specs.Entries.{EntryMeaning, all_rows, entries_of, numbered, shown_entries, shown_entry}
 use Rattle.rd_matrix.specs.Sources.{SourceValues, IsSource, rows_at}
 use Rattle.rd_matrix.specs.declared.block.Block.{Block}
 use Rattle.rd_matrix.specs.declared.matrix.Entry.{Entry}
 use Rattle.rd_reuse.specs.Views.{Names, anchor_of}
-use Rattle.rd_reuse.proofs.Lists.{at-left, at-right, at-seam, behind-seam}
-use Rattle.rd_reuse.proofs.Places.{Found, anchor-found, holding}
+use Rattle.rd_reuse.proofs.Lists.{at-seam, behind-seam}
+use Rattle.rd_reuse.proofs.Places.{Found, anchor-found, holding, some-row}
 use Rattle.rd_rows.specs.Laws.{ends_last}
 use Rattle.rd_rows.specs.Rows.{RowMeaning}
 use Rattle.rd_rows.specs.Shapes.{ShapeValues, IsShape}
 
 -- ---- the rows of a block
-
-some-row : (rows : List RowMeaning) → ends_last rows ≡ true → 0 < length rows
-some-row [] e = absurd cc
-some-row (r ∷ rows) e = omega arith
 
 row-in : (start number k : ℕ) (rows : List RowMeaning) (e : EntryMeaning) → slice_get (numbered start number rows) k ≡ Some e → slice_get rows k ≡ Some e.row
 row-in start number k [] e h = absurd cc
@@ -60,10 +56,6 @@ before-last (x ∷ y ∷ rows) (suc k) r e at goes = let rest = before-last (y �
 pub opposite : (a b : Bool) → a ≡ not b → b ≡ not a
 opposite a true e = sym (ap not e)
 opposite a false e = sym (ap not e)
-
-not-zero : (n : ℕ) → 0 < n → (n == 0) ≡ false
-not-zero zero some = absurd (omega arith)
-not-zero (suc n) some = eqb-suc-zero n
 
 taken-at : {X : Type 0} (n : ℕ) (xs : List X) (i : ℕ) → i < n → slice_get (take n xs) i ≡ slice_get xs i
 taken-at zero xs i low = absurd (omega arith)
@@ -123,7 +115,7 @@ module _ {m : SourceValues} {shape : ShapeValues} (source : IsSource m) (is : Is
   first-by (x ∷ xs) after b o place pieces at count =
       let some = row-before x xs after b pieces in
       let size = length-append (x ∷ xs) (b ∷ after) in
-      ap is_none (at ∙ ap (λ bs. slice_get bs (length xs)) pieces) ∙ some-here ((x ∷ xs) ++ b ∷ after) (length xs) (omega (arith, size)) ∙ sym (not-zero place (omega (arith, some, count)))
+      ap is_none (at ∙ ap (λ bs. slice_get bs (length xs)) pieces) ∙ some-here ((x ∷ xs) ++ b ∷ after) (length xs) (omega (arith, size)) ∙ sym (ne_eqb place 0 (λ none. omega (arith, some, count, none)))
 
   -- the first row of a block is that of the source exactly where no block is before it
   pub first-row : (anchor : Anchor) (place : ℕ) (block : Block) (o : Option Block) → Names anchor (rows_at m shape) place → HoldsPosition anchor.pos m.blocks block
@@ -182,7 +174,7 @@ pub inner-row : (rows : Block → List RowMeaning) (bs : List Block) (anchor : A
 inner-row rows bs anchor place named some =
     let f = anchor-found rows bs place anchor named in
     let count = f.place in
-    not-zero place (omega (arith, count, some))
+    ne_eqb place 0 (λ none. omega (arith, count, some, none))
 
 -- the row at a place of a view
 pub in-view : {X : Type 0} (xs : List X) (place height i : ℕ) → i < height → slice_get (take height (drop place xs)) i ≡ slice_get xs (place + i)

@@ -1,6 +1,6 @@
 mod Near
 mod Ends
-mod Starting
+pub mod Starting
 mod Points
 mod Standing
 mod Remembering

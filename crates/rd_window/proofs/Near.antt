@@ -1,10 +1,11 @@
 -- The rows in view from a new start are near the window.
-use Rattle.std.proofs.Common.{◌≡◌, ℕ, zero, suc, ◌+◌, ◌-◌, ◌<◌, ◌≤◌, ◌⊎◌, inl, inr, Bool, true, false, ◌&&◌, ◌||◌, leb, ltb, min, max, List, [], ◌∷◌, if◌then◌else◌, length, Option, None, Some, refl, sym, ap, ◌∙◌, subst, arith}
+use Rattle.std.proofs.Common.{◌≡◌, ℕ, zero, suc, ◌+◌, ◌-◌, ◌<◌, ◌≤◌, ◌⊎◌, inl, inr, Bool, true, ◌||◌, leb, ltb, List, [], ◌∷◌, length, Option, None, Some, refl, sym, ap, ◌∙◌, subst, arith}
 use Rattle.std.specs.List.{find, list_any, range_with_len}
 use Rattle.std.specs.Option.{option_or, unwrap_or}
 use Rattle.std.proofs.Math.Bool.{or-true}
-use Rattle.std.proofs.lemmas.Bool.{and_from, and_parts, cases_Bool, le-leb, leb-true, lt-ltb, ltb-true}
+use Rattle.std.proofs.lemmas.Bool.{and_parts, cases_Bool, leb-true, ltb-true}
 use Rattle.std.proofs.lemmas.List.Folds.{find-append}
+use Rattle.rd_matrix.proofs.Counting.{costs-if}
 use Rattle.rd_matrix.specs.Rows.{blocks_with}
 use Rattle.rd_matrix.specs.Sources.{SourceValues, costs_of}
 use Rattle.rd_matrix.specs.declared.block.Block.{Block}
@@ -15,9 +16,11 @@ use Rattle.rd_reuse.specs.declared.change.Change.{Change}
 use Rattle.rd_rows.specs.Rows.{RowMeaning}
 use Rattle.rd_rows.specs.Shapes.{ShapeValues}
 use Rattle.rd_start.specs.Chosen.{places_of}
-use Rattle.rd_start.specs.Near.{is_near, is_within, near_costs}
+use Rattle.rd_start.specs.Near.{is_near, near_costs}
 use Rattle.rd_start.specs.Starts.{Places, around, both_at, centred, following, scrolled, start_of, suits}
 use Rattle.rd_start.specs.declared.wanted.Wanted.{Wanted}
+use Rattle.rd_start.proofs.Lists.{find-first}
+use Rattle.rd_start.proofs.NearRows.{forced-near, moving-near, point-near, view-near}
 use Rattle.rd_window.specs.Views.{start_row}
 
 -- one of the rows at most so far from a row
@@ -75,53 +78,26 @@ follows-one w at (Some x) e =
 follows : (w : Wanted) (at : Places) → IsAround at.old w.conservatively (following w at) ⊎ (following w at ≡ centred w at)
 follows w at = follows-one w at (find (suits w at) (around at.old w.conservatively)) refl
 
-within : (c d old k : ℕ) → old ≤ k + c → k ≤ old + d → is_within c d old k ≡ true
-within c d old k low high = and_from (leb old (k + c)) (leb k (old + d)) (le-leb old (k + c) low) (le-leb k (old + d) high)
-
-in-range : (from to k : ℕ) → from ≤ k → k < to → (leb from k && ltb k to) ≡ true
-in-range from to k low high = and_from (leb from k) (ltb k to) (le-leb from k low) (lt-ltb k to high)
-
--- a row is near where it is, by the way in which the start is chosen
-near-forced : (w : Wanted) (at : Places) (k : ℕ) → w.forced ≡ true → min at.old (scrolled w at) ≤ k → k < max at.old (scrolled w at) + w.height → is_near w at k ≡ true
-near-forced w at k forced low high = rw forced (in-range (min at.old (scrolled w at)) (max at.old (scrolled w at) + w.height) k low high)
-
-near-staying : (w : Wanted) (at : Places) (k : ℕ) → w.forced ≡ false → suits w at at.old ≡ true → at.old ≤ k → k < at.old + w.height → is_near w at k ≡ true
-near-staying w at k free stays low high = rw free (rw stays (in-range at.old (at.old + w.height) k low high))
-
-near-moved : (w : Wanted) (at : Places) (k : ℕ) → w.forced ≡ false → suits w at at.old ≡ false → at.old ≤ k + w.conservatively → k ≤ at.old + (w.conservatively + w.height) → is_near w at k ≡ true
-near-moved w at k free moves low high = rw free (rw moves (ap (λ b. b || is_within w.height w.height at.point k) (within w.conservatively (w.conservatively + w.height) at.old k low high)))
-
-near-point : (w : Wanted) (at : Places) (k : ℕ) → w.forced ≡ false → suits w at at.old ≡ false → at.point ≤ k + w.height → k ≤ at.point + w.height → is_near w at k ≡ true
-near-point w at k free moves low high =
-    rw free (rw moves (ap (λ b. is_within w.conservatively (w.conservatively + w.height) at.old k || b) (within w.height w.height at.point k low high)
-    ∙ or-true (is_within w.conservatively (w.conservatively + w.height) at.old k)))
-
-pub follows-old : (w : Wanted) (at : Places) → suits w at at.old ≡ true → (far : ℕ) → find (suits w at) (around at.old far) ≡ Some at.old
-follows-old w at stays zero = rw stays refl
-follows-old w at stays (suc far) =
-    find-append (suits w at) (around at.old far) (both_at at.old (suc far))
-    ∙ ap (λ o. option_or o (find (suits w at) (both_at at.old (suc far)))) (follows-old w at stays far)
-
 -- each row in view from the new start is near
 pub start-near : (w : Wanted) (at : Places) (k : ℕ) → start_of w at ≤ k → k < start_of w at + w.height → is_near w at k ≡ true
 start-near w at k low high =
     elim (cases_Bool w.forced) [
       | inl forced ↦
           let start : start_of w at ≡ scrolled w at = rw forced refl in
-          near-forced w at k forced (omega (arith, start, low)) (omega (arith, start, high))
+          forced-near w at k forced (omega (arith, start, low)) (omega (arith, start, high))
       | inr free ↦
           let start : start_of w at ≡ following w at = rw free refl in
           elim (cases_Bool (suits w at at.old)) [
             | inl stays ↦
-                let same : following w at ≡ at.old = ap (λ o. unwrap_or o (centred w at)) (follows-old w at stays w.conservatively) in
-                near-staying w at k free stays (omega (arith, start, same, low)) (omega (arith, start, same, high))
+                let same : following w at ≡ at.old = ap (λ o. unwrap_or o (centred w at)) (find-first (suits w at) at.old w.conservatively stays) in
+                view-near w at k free (omega (arith, start, same, low)) (omega (arith, start, same, high))
             | inr moves ↦
                 elim (follows w at) [
                   | inl around ↦
                       let above = around.0 in
                       let below = around.1 in
-                      near-moved w at k free moves (omega (arith, start, above, low)) (omega (arith, start, below, high))
-                  | inr centre ↦ near-point w at k free moves (omega (arith, start, centre, low, high)) (omega (arith, start, centre, low, high))
+                      moving-near w at k free moves (omega (arith, start, above, low)) (omega (arith, start, below, high))
+                  | inr centre ↦ point-near w at k free moves (omega (arith, start, centre, low, high)) (omega (arith, start, centre, low, high))
                 ]
           ]
     ]
@@ -135,10 +111,6 @@ any-other p q (k ∷ ks) each e =
       | inl passes ↦ ap (λ b. b || list_any q ks) (each k passes)
       | inr fails ↦ ap (λ b. q k || b) (any-other p q ks each (sym (ap (λ b. b || list_any p ks) fails) ∙ e)) ∙ or-true (q k)
     ]
-
-costs-if : (cost : Block → ℕ) (b : Block) (bs : List Block) (t : Bool) → costs_of cost bs ≤ costs_of cost (if t then b ∷ bs else bs)
-costs-if cost b bs true = omega arith
-costs-if cost b bs false = omega arith
 
 -- blocks that have rows of a kind cost no more than those that have rows of a wider one, where each costs no more
 pub costs-wider : (p q : ℕ → Bool) (rows : Block → List RowMeaning) (cost more : Block → ℕ) (first : ℕ) (bs : List Block) → ((b : Block) → cost b ≤ more b) → ((k : ℕ) → p k ≡ true → q k ≡ true)

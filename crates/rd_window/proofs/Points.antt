@@ -1,10 +1,10 @@
 -- Where the item that covers a point begins, among all rows of a source and in a view.
-use Rattle.std.proofs.Common.{◌≡◌, ℕ, zero, suc, ◌+◌, ◌-◌, ◌<◌, ◌≤◌, inl, inr, Bool, true, false, cond, ◌||◌, ◌&&◌, leb, ltb, All, List, [], ◌∷◌, ◌++◌, length, take, drop, slice_get, option_map, Option, None, Some, refl, sym, ap, ◌∙◌, subst, arith, zero-add}
+use Rattle.std.proofs.Common.{◌≡◌, ℕ, zero, suc, ◌+◌, ◌-◌, ◌<◌, ◌≤◌, inl, inr, Bool, true, false, cond, ◌||◌, ◌&&◌, leb, ltb, List, [], ◌∷◌, ◌++◌, length, take, drop, slice_get, option_map, Option, None, Some, refl, sym, ap, ◌∙◌, subst, arith, zero-add}
 use Rattle.std.proofs.Math.Bool.{or-true}
-use Rattle.std.proofs.lemmas.Bool.{and_from, and_left, and_parts, and_right, cases_Bool, cases_lt, le-leb, le-ltb, leb-true, lt-leb, lt-ltb, ltb-true}
-use Rattle.std.proofs.lemmas.Bool.Decides.{nat_tests}
+use Rattle.std.proofs.lemmas.Bool.{cases_Bool, cases_lt}
 use Rattle.std.proofs.lemmas.List.Sums.{sum_by-append}
-use Rattle.std.proofs.lemmas.List.Folds.{list_any-append, list_any_none}
+use Rattle.std.proofs.lemmas.List.Folds.{list_any-append}
+use Rattle.std.proofs.lemmas.Option.{slice_get_within}
 use Rattle.std.specs.List.{count_by, list_any, position_or_len}
 use Rattle.rd_matrix.specs.Blocks.{IsAmong, IsWithin, StandFrom, end_from, first_start}
 use Rattle.rd_matrix.specs.Columns.{column_in, covers, shown_column}
@@ -224,11 +224,6 @@ cursor-none point (e ∷ es) at =
 
 -- ---- in a view
 
-got-below : {X : Type 0} (xs : List X) (k : ℕ) (x : X) → slice_get xs k ≡ Some x → k < length xs
-got-below [] k x at = absurd cc
-got-below (y ∷ xs) zero x at = omega arith
-got-below (y ∷ xs) (suc k) x at = let rest = got-below xs k x at in omega (arith, rest)
-
 taken-below : {X : Type 0} (n : ℕ) (xs : List X) (k : ℕ) (x : X) → slice_get (take n xs) k ≡ Some x → k < n
 taken-below zero xs k x at = absurd cc
 taken-below (suc n) [] k x at = absurd cc
@@ -248,7 +243,7 @@ module _ {m : SourceValues} {shape : ShapeValues} (w : Wanted) (source : IsSourc
       let low = taken-below height (drop i rows) place.0 found.0 found.1 in
       let there = sym (in-view rows i height place.0 low) ∙ found.1 in
       let one = blocks-counted (λ b. m.rows_of b shape) (first_start m.blocks) w.point m.blocks source.blocks.stand have-rows in
-      (one-position (begins_item w.point) rows (i + place.0) found.0 one there found.2, low, got-below rows (i + place.0) found.0 there)
+      (one-position (begins_item w.point) rows (i + place.0) found.0 one there found.2, low, slice_get_within rows (i + place.0) found.0 there)
 
   some-begins : IsWithin w.point m.blocks → list_any (begins_item w.point) (rows_at m shape) ≡ true
   some-begins within =

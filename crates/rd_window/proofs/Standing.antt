@@ -1,24 +1,24 @@
 -- A window that rests on its last layout, and a new layout that stands.
-use Rattle.std.proofs.Common.{◌≡◌, ℕ, suc, ◌+◌, ◌-◌, ◌<◌, ◌≤◌, inl, inr, Bool, true, false, not, if◌then◌else◌, ◌==◌, ◌&&◌, leb, ltb, min, List, [], ◌∷◌, ◌++◌, length, take, drop, slice_get, Option, Some, pos, ℤ, refl, sym, ap, ap₂, ◌∙◌, subst, arith, zero-add}
-use Rattle.std.specs.Ordering.{int_eq}
+use Rattle.std.proofs.Common.{◌≡◌, ℕ, suc, ◌+◌, ◌-◌, ◌<◌, ◌≤◌, inl, inr, Bool, true, false, not, if◌then◌else◌, ◌==◌, ◌&&◌, leb, ltb, min, List, [], ◌∷◌, ◌++◌, length, take, drop, slice_get, Option, Some, pos, refl, sym, ap, ap₂, ◌∙◌, subst, arith, zero-add}
 use Rattle.std.specs.Option.{unwrap_or}
 use Rattle.std.proofs.lemmas.Bool.{and_parts, cases_Bool, eq-eqb, eqb-true, le-ltb, leb-true, lt-ltb, ltb-true}
-use Rattle.std.proofs.lemmas.Bool.Decides.{Decides-int_eq, nat_tests}
+use Rattle.std.proofs.lemmas.Bool.Decides.{nat_tests}
 use Rattle.rd_base.specs.declared.settings.Anchor.{Anchor}
 use Rattle.rd_matrix.specs.Blocks.{IsAmong, StandFrom, first_start}
 use Rattle.rd_matrix.proofs.Counting.{count-cons}
 use Rattle.rd_matrix.specs.Entries.{EntryMeaning, all_rows, numbered, shown_entries}
 use Rattle.rd_matrix.specs.Sources.{IsSource, SourceValues, rows_at}
 use Rattle.rd_matrix.specs.declared.block.Block.{Block}
-use Rattle.rd_reuse.specs.Changes.{is_none, none}
+use Rattle.rd_reuse.specs.Changes.{is_none}
 use Rattle.rd_reuse.specs.Views.{Names}
-use Rattle.rd_reuse.specs.declared.change.Change.{Change}
+use Rattle.rd_reuse.proofs.Changes.{none-is}
 use Rattle.rd_reuse.proofs.Lists.{at-seam}
 use Rattle.rd_matrix.proofs.HeldLemmas.{later-start}
 use Rattle.rd_reuse.proofs.Places.{anchor-found}
 use Rattle.rd_rows.specs.Rows.{RowMeaning}
 use Rattle.rd_rows.specs.Shapes.{ShapeValues, is_same_shape}
 use Rattle.rd_rows.proofs.SameShapes.{same-shape}
+use Rattle.rd_start.proofs.Lists.{find-first}
 use Rattle.rd_start.specs.Chosen.{anchor_at, anchor_from, anchor_row, chosen_of, places_of, point_from, row_in_block}
 use Rattle.rd_start.specs.Starts.{Places, centred, following, is_inside, margin_of, scrolled, suits, wanted_above, wanted_below}
 use Rattle.rd_start.specs.declared.wanted.Wanted.{Wanted}
@@ -27,21 +27,8 @@ use Rattle.rd_window.specs.Views.{has_first_row, has_last_row, rows_in_view, sta
 use Rattle.rd_window.specs.declared.layout.Layout.{Layout}
 use Rattle.rd_window.proofs.Ends.{in-view, opposite}
 use Rattle.rd_window.proofs.Starting.{some-laid, start-named}
-use Rattle.rd_window.proofs.Near.{follows-old}
 
 -- ---- what a current layout is
-
-equal-changes : (a b : Change) → a.head ≡ b.head → a.tail ≡ b.tail → a.added ≡ b.added → a ≡ b
-equal-changes a b head tail added =
-    ap (λ (x : ℕ). record { head = x; tail = a.tail; added = a.added }) head
-    ∙ (ap (λ (x : ℕ). record { head = b.head; tail = x; added = a.added }) tail
-    ∙ ap (λ (x : ℤ). record { head = b.head; tail = b.tail; added = x }) added)
-
-none-is : (c : Change) → is_none c ≡ true → c ≡ none
-none-is c e =
-    let both = and_parts ((c.head == 4294967295) && (c.tail == 0)) (int_eq c.added (pos 0)) e in
-    let ends = and_parts (c.head == 4294967295) (c.tail == 0) both.0 in
-    equal-changes c none (eqb-true c.head 4294967295 ends.0) (eqb-true c.tail 0 ends.1) ((Decides-int_eq c.added (pos 0)).0 both.1)
 
 pub record IsCurrent (l : Layout) (shape : ShapeValues) (w : Wanted) : Type 0 where
   pub unchanged : is_none l.change ≡ true
@@ -123,7 +110,7 @@ rests-parts l m shape w e stands =
 start-stays : (l : Layout) (m : SourceValues) (shape : ShapeValues) (w : Wanted) → Rests l m shape w → start_row m shape w ≡ (places_of m shape w).old
 start-stays l m shape w r =
     let at = places_of m shape w in
-    ap (λ (b : Bool). if b then scrolled w at else following w at) r.current.free ∙ ap (λ o. unwrap_or o (centred w at)) (follows-old w at r.fits w.conservatively)
+    ap (λ (b : Bool). if b then scrolled w at else following w at) r.current.free ∙ ap (λ o. unwrap_or o (centred w at)) (find-first (suits w at) at.old w.conservatively r.fits)
 
 rows-stay : (l : Layout) (m : SourceValues) (shape : ShapeValues) (w : Wanted) → Rests l m shape w → shown_entries l.matrix ≡ rows_in_view m shape w
 rows-stay l m shape w r =
