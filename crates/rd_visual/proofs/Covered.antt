@@ -1,8 +1,8 @@
 -- The items of rows that cover a position, and the hits of these rows.
-use Rattle.std.proofs.Common.{◌≡◌, ℕ, zero, suc, ◌+◌, ◌<◌, ◌≤◌, ◌&&◌, nat_le, nat_lt, Bool, true, false, cond, List, [], ◌∷◌, ◌++◌, length, inl, inr, Option, None, Some, All, refl, ap, sym, ◌∙◌, subst, arith}
+use Rattle.std.proofs.Common.{◌≡◌, ℕ, zero, suc, ◌+◌, ◌<◌, ◌≤◌, nat_le, nat_lt, Bool, true, false, cond, List, [], ◌∷◌, ◌++◌, length, inl, inr, Option, None, Some, All, refl, ap, sym, ◌∙◌, subst, arith}
 use Rattle.std.specs.Prelude.{count_by, slice_get}
 use Rattle.std.specs.Option.{option_map}
-use Rattle.std.proofs.lemmas.Bool.{cases_lt}
+use Rattle.std.proofs.lemmas.Bool.{and_parts, cases_lt}
 use Rattle.std.proofs.lemmas.Bool.Decides.{nat_tests}
 use Rattle.std.proofs.lemmas.List.Elements.{All-head, All-tail}
 use Rattle.rd_matrix.specs.Blocks.{IsAmong, StandFrom, first_start}
@@ -38,13 +38,9 @@ count-numbered point start n (r ∷ rs) =
 abbrev pub IsInside : ℕ → ℕ → Begin → Type 0
 IsInside start end b = (b.from ≤ b.to) × (start + b.to ≤ end)
 
-and-both : (a b : Bool) → (a && b) ≡ true → (a ≡ true) × (b ≡ true)
-and-both true b h = (refl, h)
-and-both false b h = cc
-
 covers-parts : (start point : ℕ) (b : Begin) → covers start point b ≡ true → (start + b.from ≤ point) × (point < start + b.to)
 covers-parts start point b h =
-    let both = and-both (nat_le (start + b.from) point) (nat_lt point (start + b.to)) h in
+    let both = and_parts (nat_le (start + b.from) point) (nat_lt point (start + b.to)) h in
     let low = both.0 in
     let high = both.1 in
     (grind (arith, nat_tests), grind (arith, nat_tests))

@@ -1,6 +1,7 @@
 -- The item of a reading column.
 use Rattle.std.proofs.Common.{◌≡◌, ℕ, zero, suc, ◌+◌, ◌≤◌, ◌&&◌, nat_le, nat_eq, Bool, true, false, cond, List, [], ◌∷◌, ◌++◌, Option, None, Some, refl, ap, ◌∙◌, subst, arith}
 use Rattle.std.specs.Prelude.{count_by, find, slice_get}
+use Rattle.std.proofs.lemmas.Bool.{and_parts}
 use Rattle.std.proofs.lemmas.Bool.Decides.{nat_tests}
 use Rattle.std.proofs.lemmas.List.Sums.{sum_by-append, sum_by-cons}
 use Rattle.rd_rows.specs.declared.begin.Begin.{Begin}
@@ -28,10 +29,6 @@ nearer-joined None b c = refl
 nearer-joined (Some a) None c = refl
 nearer-joined (Some a) (Some b) None = last-none a b (nat_le b.column a.column) refl
 nearer-joined (Some a) (Some b) (Some c) = joined-cases a b c _ _ _ refl refl refl
-
-and-both : (a b : Bool) → (a && b) ≡ true → (a ≡ true) × (b ≡ true)
-and-both true b h = (refl, h)
-and-both false b h = cc
 
 -- an item of a list at some place, of which a test holds
 pub record IsOneOf (p : Begin → Bool) (bs : List Begin) (b : Begin) : Type 0 where
@@ -66,7 +63,7 @@ item-member column (x ∷ xs) b found = member-cases column x xs b _ _ refl refl
 
 reaches-parts : (column : ℕ) (b : Begin) → reaches column b ≡ true → (covers_some b ≡ true) × (b.column ≤ column)
 reaches-parts column b h =
-    let both = and-both (covers_some b) (nat_le b.column column) h in
+    let both = and_parts (covers_some b) (nat_le b.column column) h in
     (both.0, let le = both.1 in grind (arith, nat_tests))
 
 pub item-column : (column : ℕ) (bs : List Begin) (b : Begin) → item_at column bs ≡ Some b → (covers_some b ≡ true) × (b.column ≤ column)

@@ -5,7 +5,8 @@ use Rattle.std.specs.List.{range_with_len}
 use Rattle.std.proofs.lemmas.Bool.Decides.{nat_tests}
 use Rattle.std.proofs.lemmas.List.{length-drop, length-map}
 use Rattle.std.proofs.lemmas.List.Elements.{All-cons, All-nil}
-use Rattle.std.proofs.lemmas.Option.{get_or_from_slice_get, slice_get_within}
+use Rattle.std.proofs.lemmas.Option.{same_Some}
+use Rattle.rd_base.proofs.Lists.{drop-at}
 use Rattle.rd_base.specs.declared.class.Class.{Class}
 use Rattle.rd_props.specs.Seen.{Seen}
 use Rattle.rd_items.specs.Covers.{Tile}
@@ -23,15 +24,6 @@ use Rattle.rd_visual.specs.declared.range.Range.{Range}
 use Rattle.rd_visual.specs.declared.way.Way.{Way}
 use Rattle.rd_visual.specs.declared.way.Way.TheVariants.{Forward, Backward}
 
--- what stands at an index heads what is left
-pub drop-at : {X : Type 0} (i : ℕ) (xs : List X) (x : X) → slice_get xs i ≡ Some x → drop i xs ≡ x ∷ drop (i + 1) xs
-drop-at i [] x there = absurd cc
-drop-at zero (y ∷ ys) x there = let same : y ≡ x = cc in ap (λ z. z ∷ ys) same
-drop-at (suc i) (y ∷ ys) x there = let on : suc i + 1 ≡ suc (i + 1) = omega arith in drop-at i ys x there ∙ ap (λ n. x ∷ drop n (y ∷ ys)) (sym on)
-
-pub all-at : {X : Type 0} (P : X → Type 0) (xs : List X) (i : ℕ) (x : X) → All P xs → slice_get xs i ≡ Some x → P x
-all-at P xs i x all there = subst P (get_or_from_slice_get xs i x x there) (all i x (slice_get_within xs i x there))
-
 -- the range of one more item
 pub turns-next : (start : ℕ) (items : List Item) (ts : List Turn) (i : ℕ) (t : Turn) (x : Item) (out more whole : List Range) → slice_get ts i ≡ Some t → slice_get items t.index ≡ Some x
     → more ≡ out ++ range_by start (Some x) → out ++ ranges_in_turn start items (drop i ts) ≡ whole → more ++ ranges_in_turn start items (drop (i + 1) ts) ≡ whole
@@ -39,7 +31,7 @@ turns-next start items ts i t x out more whole turn item given all =
     let rest = ranges_in_turn start items (drop (i + 1) ts) in
     ap (λ l. l ++ rest) given ∙ append_assoc out (range_by start (Some x)) rest
     ∙ ap (λ (o : Option Item). out ++ (range_by start o ++ rest)) (sym item)
-    ∙ sym (ap (λ l. out ++ ranges_in_turn start items l) (drop-at i ts t turn)) ∙ all
+    ∙ sym (ap (λ l. out ++ ranges_in_turn start items l) (drop-at ts i t turn)) ∙ all
 
 -- each turn has the place of an item
 
@@ -113,12 +105,9 @@ pub beside-two : (way : Way) (pos : ℕ) (r next : Range) (rs : List Range)
 beside-two Forward pos r next rs = refl
 beside-two Backward pos r next rs = refl
 
-same-some : {X : Type 0} (o : Option X) (x y : X) → o ≡ Some x → o ≡ Some y → x ≡ y
-same-some o x y one other = let e : Some x ≡ Some y = sym one ∙ other in cc
-
 is-start : (way : Way) (place : ℕ) (rs : List Range) (r next x : Range) → slice_get rs (place - 1) ≡ Some r → slice_get rs place ≡ Some next → slice_get rs (origin way place) ≡ Some x → x ≡ start_of way r next
-is-start Forward place rs r next x there on at = same-some (slice_get rs (place - 1)) x r at there
-is-start Backward place rs r next x there on at = same-some (slice_get rs place) x next at on
+is-start Forward place rs r next x there on at = same_Some x r (sym at ∙ there)
+is-start Backward place rs r next x there on at = same_Some x next (sym at ∙ on)
 
 -- the ranges at a place and at the place before it
 record Pair (place : ℕ) (rs : List Range) : Type 0 where
@@ -133,7 +122,7 @@ pair-at : (place : ℕ) (rs : List Range) → 1 ≤ place → place < length rs 
 pair-at place rs some low =
     let one = within-some rs (place - 1) (omega (arith, some, low)) in
     let two = within-some rs place low in
-    let rest = drop-at place rs two.0 two.1 in
+    let rest = drop-at rs place two.0 two.1 in
     let on : (place - 1) + 1 ≡ place = omega (arith, some) in
     record {
       r = one.0;
@@ -141,7 +130,7 @@ pair-at place rs some low =
       there = one.1;
       on = two.1;
       rest = rest;
-      whole = drop-at (place - 1) rs one.0 one.1 ∙ ap (λ l. one.0 ∷ l) (ap (λ n. drop n rs) on ∙ rest);
+      whole = drop-at rs (place - 1) one.0 one.1 ∙ ap (λ l. one.0 ∷ l) (ap (λ n. drop n rs) on ∙ rest);
     }
 
 module _ (way : Way) (pos place i : ℕ) (rs : List Range) (x : Range) (found : Option ℕ) (some : 1 ≤ place) (low : place < length rs) (at : i ≡ origin way place) (there : slice_get rs i ≡ Some x) (all : beside way pos (drop (place - 1) rs) ≡ found) where

@@ -20,8 +20,9 @@ use Rattle.rd_visual.specs.declared.range.Range.{Range}
 use Rattle.rd_visual.specs.declared.way.Way.{Way}
 use Rattle.rd_visual.specs.declared.way.Way.TheVariants.{Forward, Backward}
 use Rattle.rd_visual.proofs.Counts.{block-some}
+use Rattle.rd_base.proofs.Lists.{drop-at, none-left}
 use Rattle.rd_visual.proofs.Items.{count-append}
-use Rattle.rd_visual.proofs.Listing.{drop-at, within-some}
+use Rattle.rd_visual.proofs.Listing.{within-some}
 use Rattle.rd_visual.proofs.Neighbours.{AreSome, before-none, before-some, behind-front, behind-none, behind-some, first-append, last-append}
 
 -- blocks that stand one behind the other
@@ -85,12 +86,6 @@ split-at k [] x there = absurd cc
 split-at zero (y ∷ ys) x there = let same : y ≡ x = cc in ap (λ z. z ∷ ys) same
 split-at (suc k) (y ∷ ys) x there = ap (λ zs. y ∷ zs) (split-at k ys x there)
 
-drop-none : {X : Type 0} (k : ℕ) (xs : List X) → slice_get xs k ≡ None → drop k xs ≡ []
-drop-none zero [] there = refl
-drop-none (suc k) [] there = refl
-drop-none zero (y ∷ ys) there = absurd cc
-drop-none (suc k) (y ∷ ys) there = drop-none k ys there
-
 take-next : {X : Type 0} (k : ℕ) (xs : List X) (x : X) → slice_get xs k ≡ Some x → take (suc k) xs ≡ take k xs ++ x ∷ []
 take-next k [] x there = absurd cc
 take-next zero (y ∷ ys) x there = let same : y ≡ x = cc in ap (λ z. z ∷ []) same
@@ -148,11 +143,11 @@ module _ (f : Block → List Range) (bs : List Block) (pos k : ℕ) (b : Block) 
 
   into-block : (way : Way) (p : ℕ) (x : Block) → beside way pos (f b) ≡ None → block_beside way bs k ≡ Some x → count_by (holds p) (f x) ≡ 1 → beside way pos (flat_map f bs) ≡ entered way (f x)
   into-block Forward p x none at some =
-      forward-end none ∙ ap (λ xs. first (flat_map f xs)) (drop-at (suc k) bs x (next-at (Some x) at)) ∙ first-append (f x) (flat_map f (drop (suc k + 1) bs)) p (omega (arith, some))
+      forward-end none ∙ ap (λ xs. first (flat_map f xs)) (drop-at bs (suc k) x (next-at (Some x) at)) ∙ first-append (f x) (flat_map f (drop (suc k + 1) bs)) p (omega (arith, some))
   into-block Backward p x none at some = backward-end none ∙ last-by k p x at some
 
   out-of-blocks : (way : Way) → beside way pos (f b) ≡ None → block_beside way bs k ≡ None → beside way pos (flat_map f bs) ≡ None
-  out-of-blocks Forward none at = forward-end none ∙ ap (λ xs. first (flat_map f xs)) (drop-none (suc k) bs (next-at None at))
+  out-of-blocks Forward none at = forward-end none ∙ ap (λ xs. first (flat_map f xs)) (none-left bs (suc k) (next-at None at))
   out-of-blocks Backward none at = let inside = slice_get_within bs k b there in backward-end none ∙ none-by k (omega (arith, inside)) at
 
 -- what law says how often a position is covered, in all blocks and in one

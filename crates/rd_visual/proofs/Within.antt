@@ -25,7 +25,7 @@ use Rattle.rd_blocks.specs.Rows.{block_cutting}
 use Rattle.rd_blocks.specs.Sources.{text_source}
 use Rattle.rd_visual.specs.Hits.{AreRowsAt}
 use Rattle.rd_rows.specs.Laws.{seen_rows}
-use Rattle.rd_rows.specs.Mirrors.{leading_rests, mirror_image}
+use Rattle.rd_rows.specs.Mirrors.{leading_rests}
 use Rattle.rd_rows.specs.Placing.{glyph_in, next_row, next_line, place_all, behind_all, columns_of}
 use Rattle.rd_rows.specs.Rows.{LaidRow, RowMeaning, begin_of, filled, first_seen, from_edge, front_mark, laid, last_cell, mark, row_of, rows_of, rows_within, scrolled, seen, seen_in, whole_cells}
 use Rattle.rd_rows.specs.Placing.{line_start}

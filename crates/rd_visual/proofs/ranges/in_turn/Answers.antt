@@ -1,8 +1,9 @@
 use Rattle.std.proofs.Common.{◌+◌, ◌<◌, length, arith}
+use Rattle.rd_base.proofs.Lists.{all-at}
 use Rattle.rd_items.specs.declared.item.Item.{Item}
 use Rattle.rd_levels.specs.declared.turn.Turn.{Turn}
 use Rattle.rd_visual.specs.Motion.{ranges_in_turn}
-use Rattle.rd_visual.proofs.Listing.{all-at, turns-next}
+use Rattle.rd_visual.proofs.Listing.{turns-next}
 use Rattle.rd_visual.proofs.ranges.in_turn.Goals as goal
 
 pub overflow_cast-turn : goal.overflow_cast-turn

@@ -1,5 +1,6 @@
 use Rattle.std.proofs.Common.{◌+◌, ◌<◌, ◌≤◌, ◌∙◌, All, sym, subst}
 use Rattle.std.proofs.lemmas.Result.{IfOk-weaker}
+use Rattle.rd_base.proofs.Lists.{all-at}
 use Rattle.rd_items.specs.Pieces.{scene_of}
 use Rattle.rd_items.specs.Readings.{reading}
 use Rattle.rd_items.specs.declared.item.Item.{Item}
@@ -7,7 +8,7 @@ use Rattle.rd_matrix.specs.declared.block.Block.{Block}
 use Rattle.rd_props.specs.Buffers.{meaning}
 use Rattle.rd_visual.specs.Motion.{files_of, view_blocks}
 use Rattle.rd_visual.proofs.Counts.{items-fit, start-in}
-use Rattle.rd_visual.proofs.Listing.{all-at, ranges-same}
+use Rattle.rd_visual.proofs.Listing.{ranges-same}
 use Rattle.rd_visual.proofs.ranges.ranges_of.Goals as goal
 
 pub new-requires : goal.new-requires
