@@ -2,7 +2,8 @@
 use Rattle.std.proofs.Common.{◌≡◌, ℕ, suc, ◌+◌, Bool, true, false, List, [], ◌∷◌, All, Some, refl, sym, ap, subst, ◌∙◌, arith}
 use Rattle.std.specs.Prelude.{cond, find, slice_get, take, drop}
 use Rattle.std.proofs.lemmas.List.Elements.{All-nil, All-cons, All-append, All-head, All-tail, All-take, All-drop}
-use Rattle.std.proofs.lemmas.Option.{slice_get_within, get_or_from_slice_get, same_Some}
+use Rattle.std.proofs.lemmas.Option.{same_Some}
+use Rattle.rd_base.proofs.Lists.{all-at}
 use Rattle.rd_matrix.proofs.HeldLemmas.{same-place}
 use Rattle.rd_matrix.specs.Blocks.{IsAmong, StandFrom}
 use Rattle.rd_matrix.specs.Entries.{EntryMeaning, shown_entry, shown_entries, numbered, entries_of, all_rows}
@@ -12,9 +13,6 @@ use Rattle.rd_matrix.specs.declared.matrix.Entry.{Entry}
 use Rattle.rd_rows.specs.Rows.{RowMeaning}
 use Rattle.rd_rows.specs.Shapes.{ShapeValues}
 use Rattle.rd_blocks.specs.Kept.{AreRowsAt}
-
-pub all-at : {X : Type 0} (P : X → Type 0) (xs : List X) (i : ℕ) (x : X) → All P xs → slice_get xs i ≡ Some x → P x
-all-at P xs i x all found = subst P (get_or_from_slice_get xs i x x found) (all i x (slice_get_within xs i x found))
 
 -- what a search finds passes the test, and is an element
 abbrev pub IsFound : {X : Type 0} → (X → Bool) → List X → X → Type 0

@@ -36,7 +36,7 @@ use Rattle.rd_stack.specs.declared.part.Part.{Part}
 use Rattle.rd_stack.specs.declared.part.Shown.{Shown}
 use Rattle.rd_stack.specs.declared.part.PartKind.{PartKind}
 use Rattle.rd_stack.specs.declared.part.PartKind.TheVariants as kind
-use Rattle.rd_blocks.proofs.EntryBlocks.{all-at}
+use Rattle.rd_base.proofs.Lists.{all-at}
 
 -- the law of characters that give an element
 abbrev CharactersGive : Type 0

@@ -7,7 +7,8 @@ use Rattle.std.proofs.lemmas.Bool.{and_parts, both_ways, not-true}
 use Rattle.std.proofs.lemmas.Bool.Decides.{nat_tests, Decides-eqb, Decides-int_eq}
 use Rattle.std.proofs.lemmas.Int.{ints}
 use Rattle.std.proofs.lemmas.Option.{same_Some}
-use Rattle.rd_base.specs.Settings.{SettingValues}
+use Rattle.rd_base.proofs.Lists.{all-at}
+use Rattle.rd_base.specs.Settings.{SettingValues, without_flags}
 use Rattle.rd_base.specs.declared.element.Element.{Element}
 use Rattle.rd_text.specs.Texts.{IsText}
 use Rattle.rd_ucd.specs.Data.{Data}
@@ -16,7 +17,6 @@ use Rattle.rd_objects.specs.Things.{ObjectLists}
 use Rattle.rd_props.specs.Buffers.{BufferValue}
 use Rattle.rd_props.specs.Made.{AreMade}
 use Rattle.rd_items.specs.Blocks.{blocks_of, IsBlock}
-use Rattle.rd_items.specs.Growing.{without_flags}
 use Rattle.rd_items.specs.Pieces.{scene_in}
 use Rattle.rd_items.specs.Readings.{reading}
 use Rattle.rd_matrix.specs.Blocks.{IsAmong, first_start}
@@ -35,7 +35,7 @@ use Rattle.rd_stack.specs.Lines.{line_elements}
 use Rattle.rd_blocks.specs.Kept.{Follows, AreRowsAt}
 use Rattle.rd_blocks.specs.Rows.{block_cutting}
 use Rattle.rd_blocks.specs.Sources.{rows_in, text_source}
-use Rattle.rd_blocks.proofs.EntryBlocks.{IsRowOf, all-at, found-passes, row-block, same-start}
+use Rattle.rd_blocks.proofs.EntryBlocks.{IsRowOf, found-passes, row-block, same-start}
 use Rattle.rd_blocks.proofs.SameReading.{AreRead, reads-before, reads-behind}
 use Rattle.rd_blocks.proofs.Sources.{listed-at}
 

@@ -2,14 +2,14 @@
 use Rattle.std.proofs.Common.{◌≡◌, ℕ, ◌<◌, List, [], ◌∷◌, length, Option, None, Some, IfSome, refl, sym, ap, ◌∙◌}
 use Rattle.std.specs.Option.{option_or}
 use Rattle.std.proofs.lemmas.List.Elements.{All-head}
-use Rattle.rd_base.specs.Settings.{SettingValues}
+use Rattle.rd_base.specs.Settings.{SettingValues, without_flags}
 use Rattle.rd_ucd.specs.Data.{Data}
 use Rattle.rd_objects.specs.Sound.{IsClosed, Extends}
 use Rattle.rd_objects.specs.Things.{ObjectLists}
 use Rattle.rd_props.specs.Buffers.{BufferValue}
 use Rattle.rd_props.specs.Made.{AreMade, SettingsMade, SeesMade}
 use Rattle.rd_props.specs.Seen.{Seen}
-use Rattle.rd_items.specs.Growing.{ReadsMade, without_flags, GoesOnFrom}
+use Rattle.rd_items.specs.Growing.{ReadsMade, GoesOnFrom}
 use Rattle.rd_items.specs.Pieces.{Scene, scene_in}
 use Rattle.rd_items.specs.Readings.{reading}
 use Rattle.rd_matrix.specs.declared.block.Block.{Block}

@@ -20,7 +20,7 @@ use Rattle.rd_order.proofs.Once.{total, is_place, once-at-most}
 use Rattle.rd_rows.specs.Laws.{ranges_of}
 use Rattle.rd_rows.specs.Placing.{is_item}
 use Rattle.rd_stack.specs.Lines.{item_elements_by, turn_elements, origin_of, item_elements, item_class, item_code, item_turns, line_of_items}
-use Rattle.rd_blocks.proofs.EntryBlocks.{all-at}
+use Rattle.rd_base.proofs.Lists.{all-at}
 use Rattle.rd_blocks.proofs.Origins.{AreOf, item-of}
 use Rattle.rd_blocks.proofs.Gives.{ItemsGive}
 

@@ -5,7 +5,7 @@ use Rattle.rd_objects.specs.Things.{ObjectLists}
 use Rattle.rd_props.specs.Agreement.{Unchanged}
 use Rattle.rd_props.specs.Buffers.{BufferValue}
 use Rattle.rd_props.specs.Made.{AreMade}
-use Rattle.rd_items.specs.Growing.{without_flags}
+use Rattle.rd_base.specs.Settings.{without_flags}
 use Rattle.rd_matrix.specs.Entries.{shown_entry}
 use Rattle.rd_matrix.specs.Sources.{SourceValues, rows_at}
 use Rattle.rd_matrix.specs.declared.matrix.Entry.{Entry}

@@ -6,7 +6,7 @@ ghost use Rattle.rd_props.specs.Agreement.{IsEdited};
 ghost use Rattle.rd_props.specs.Buffers.{BufferValue};
 ghost use Rattle.rd_props.specs.Edits.{HasOverlays};
 ghost use Rattle.rd_props.specs.Made.{AreMade};
-ghost use Rattle.rd_items.specs.Growing.{without_flags};
+ghost use Rattle.rd_base.specs.Settings.{without_flags};
 ghost use Rattle.rd_reuse.specs.Changes.{edit, join, none};
 ghost use Rattle.rd_reuse.specs.declared.change.Change.{Change};
 ghost use Rattle.rd_blocks.specs.Leads.{LeadsTo};

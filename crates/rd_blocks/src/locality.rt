@@ -6,7 +6,7 @@ ghost use Rattle.rd_objects.specs.Sound.{IsClosed, Extends};
 ghost use Rattle.rd_objects.specs.Things.{ObjectLists};
 ghost use Rattle.rd_props.specs.Buffers.{BufferValue};
 ghost use Rattle.rd_props.specs.Made.{AreMade};
-ghost use Rattle.rd_items.specs.Growing.{without_flags};
+ghost use Rattle.rd_base.specs.Settings.{without_flags};
 ghost use Rattle.rd_items.specs.Readings.{reading};
 ghost use Rattle.rd_matrix.specs.Entries.{shown_entries};
 ghost use Rattle.rd_matrix.specs.Sources.{SourceValues, rows_at};
