@@ -1,6 +1,7 @@
 -- What the calls say, from the window that was found.
-use Rattle.std.proofs.Common.{◌≡◌, ℕ, suc, ◌≤◌, ◌<◌, Bool, true, false, ◌||◌, nat_le, length, None, Some, Ok, Err, refl, sym, ap, ◌∙◌, arith}
+use Rattle.std.proofs.Common.{◌≡◌, ℕ, suc, ◌≤◌, ◌<◌, Bool, true, false, nat_le, length, None, Some, Ok, Err, refl, sym, ap, ◌∙◌, arith}
 use Rattle.std.specs.Prelude.{is_some}
+use Rattle.std.proofs.lemmas.Bool.{or_left, or_right, or_from}
 use Rattle.std.proofs.lemmas.Bool.Decides.{nat_tests}
 use Rattle.rd_tree.specs.declared.side.Side.{Side}
 use Rattle.rd_tree.specs.declared.placed.Placed.{Placed}
@@ -36,24 +37,14 @@ pub split_done : (c : Configuration) (w : ℕ) (side : Side) (size : ℕ) → ho
 unfolding split_tree
 split_done c w side size h f full = rw (h, f, full) refl
 
-or_first : (a b : Bool) → a ≡ true → (a || b) ≡ true
-or_first a b e = rw e refl
-
-or_second : (a b : Bool) → b ≡ true → (a || b) ≡ true
-or_second true b e = refl
-or_second false b e = e
-
-or_neither : (a b : Bool) → a ≡ false → b ≡ false → (a || b) ≡ false
-or_neither a b p q = rw (p, q) refl
-
 pub full_of_windows : (c : Configuration) → 64 ≤ length (leaves c.windows) → is_full c ≡ true
-full_of_windows c p = or_first (nat_le 64 (length (leaves c.windows))) (nat_le 4294967295 c.made) (grind (arith, nat_tests))
+full_of_windows c p = or_left (nat_le 64 (length (leaves c.windows))) (nat_le 4294967295 c.made) (grind (arith, nat_tests))
 
 pub full_of_numbers : (c : Configuration) → 4294967295 ≤ c.made → is_full c ≡ true
-full_of_numbers c p = or_second (nat_le 64 (length (leaves c.windows))) (nat_le 4294967295 c.made) (grind (arith, nat_tests))
+full_of_numbers c p = or_right (nat_le 64 (length (leaves c.windows))) (nat_le 4294967295 c.made) (grind (arith, nat_tests))
 
 pub not_full : (c : Configuration) → length (leaves c.windows) < 64 → c.made < 4294967295 → is_full c ≡ false
-not_full c p q = or_neither (nat_le 64 (length (leaves c.windows))) (nat_le 4294967295 c.made) (grind (arith, nat_tests)) (grind (arith, nat_tests))
+not_full c p q = or_from (nat_le 64 (length (leaves c.windows))) (nat_le 4294967295 c.made) (grind (arith, nat_tests)) (grind (arith, nat_tests))
 
 -- whether a mode line leaves room
 pub mode_room : (c : Configuration) (w : ℕ) (shown : Bool) (window : Placed) → HasRoom c.windows (frame_of c) → window_at w c.windows (frame_of c) ≡ Some window → fits (with_mode w shown c.windows) (frame_of c) ≡ fits (Window window.number shown window.margins) window.rect

@@ -1,13 +1,14 @@
 -- The rows of a frame, from those of its windows.
-use Rattle.std.proofs.Common.{◌≡◌, ℕ, zero, suc, ◌+◌, ◌-◌, ◌≤◌, ◌<◌, true, List, [], ◌∷◌, ◌++◌, length, length-append, append_assoc, Some, Result, Ok, Err, OnOk, inl, inr, refl, sym, ap, ◌∙◌, arith}
-use Rattle.std.specs.Prelude.{slice_get, nat_le, nat_lt, ⊤}
+use Rattle.std.proofs.Common.{◌≡◌, ℕ, zero, suc, ◌+◌, ◌-◌, ◌≤◌, ◌<◌, true, List, [], ◌∷◌, ◌++◌, length, length-append, Some, inl, inr, refl, sym, ap, ◌∙◌, arith}
+use Rattle.std.specs.Prelude.{slice_get, nat_le, nat_lt}
 use Rattle.std.specs.List.{All, AllByRecursion}
+use Rattle.std.proofs.lemmas.Bool.{and_parts, cases_Bool}
 use Rattle.std.proofs.lemmas.Bool.Decides.{nat_tests}
 use Rattle.std.proofs.lemmas.List.{get_or_append_left, get_or-append_right}
 use Rattle.std.proofs.lemmas.List.Elements.{recursion_from_All, All-from_recursion, All-append, All-get_or}
-use Rattle.rd_base.specs.declared.memory.Memory.{Memory}
+use Rattle.rd_base.proofs.Lists.{all-front, all-back, get-first, get-second}
+use Rattle.rd_base.proofs.Rows.{behind-whole}
 use Rattle.rd_base.specs.declared.cell.Cell.{Cell}
-use Rattle.rd_base.specs.declared.cell.Cell.TheVariants.{Blank, First, Rest}
 use Rattle.rd_base.specs.Cells.{IsColoured, AreColoured}
 use Rattle.rd_base.specs.Glyphs.{IsRowAfter}
 use Rattle.rd_tree.specs.declared.rect.Rect.{Rect}
@@ -18,28 +19,16 @@ use Rattle.rd_tree.specs.Windows.{Windows, Window, Split, HasRoom, first_part, s
 use Rattle.rd_tree.specs.Places.{is_from, lies_in, one_if, windows_with, IsWithin}
 use Rattle.rd_tree.specs.Compositions.{beside, composed, row_at, cell_at, HasSize, FillTheirRectangles, IsHeld}
 use Rattle.rd_tree.proofs.Rooms.{room_within}
-use Rattle.rd_tree.proofs.Keeping.{bool_cases, and_left, and_right}
 use Rattle.rd_tree.proofs.Listing.{in_one}
 use Rattle.rd_tree.proofs.Standing.{one_window, first_within, second_within}
 
--- what holds of each of two lists' elements
-pub all_parts : {X : Type 0} (P : X → Type 0) (xs ys : List X) → AllByRecursion P (xs ++ ys) → AllByRecursion P xs × AllByRecursion P ys
-all_parts P [] ys h = (tt, h)
-all_parts P (x ∷ xs) ys h = let rest = all_parts P xs ys h.1 in ((h.0, rest.0), rest.1)
-
-pub all_front : {X : Type 0} (P : X → Type 0) (xs ys : List X) → All P (xs ++ ys) → All P xs
-all_front P xs ys h = All-from_recursion P xs (all_parts P xs ys (recursion_from_All P (xs ++ ys) h)).0
-
-pub all_back : {X : Type 0} (P : X → Type 0) (xs ys : List X) → All P (xs ++ ys) → All P ys
-all_back P xs ys h = All-from_recursion P ys (all_parts P xs ys (recursion_from_All P (xs ++ ys) h)).1
-
 -- rows beside rows
-pub beside-length : {C : Type 0} (lefts rights : List (List C)) → length lefts ≡ length rights → length (beside lefts rights) ≡ length lefts
+beside-length : {C : Type 0} (lefts rights : List (List C)) → length lefts ≡ length rights → length (beside lefts rights) ≡ length lefts
 beside-length [] rights e = refl
 beside-length (left ∷ lefts) [] e = absurd (omega arith)
 beside-length (left ∷ lefts) (right ∷ rights) e = ap (λ (n : ℕ). suc n) (beside-length lefts rights (omega arith))
 
-pub beside-row : {C : Type 0} (lefts rights : List (List C)) (row : ℕ) → length lefts ≡ length rights → row_at row (beside lefts rights) ≡ row_at row lefts ++ row_at row rights
+beside-row : {C : Type 0} (lefts rights : List (List C)) (row : ℕ) → length lefts ≡ length rights → row_at row (beside lefts rights) ≡ row_at row lefts ++ row_at row rights
 beside-row [] [] row e = refl
 beside-row [] (right ∷ rights) row e = absurd (omega arith)
 beside-row (left ∷ lefts) [] row e = absurd (omega arith)
@@ -66,11 +55,11 @@ below-size width h k height tops rests e a b =
 -- each window's rows fill its rectangle: in the first part and in the second
 pub filled_first : {C : Type 0} (rows_of : Placed → List (List C)) (side : Side) (size : ℕ) (first second : Windows) (rect : Rect) → FillTheirRectangles rows_of (placed (Split side size first second) rect) → FillTheirRectangles rows_of (placed first (first_part side size rect))
 filled_first rows_of side size first second rect f =
-    all_front (λ window. HasSize window.rect.width window.rect.height (rows_of window)) (placed first (first_part side size rect)) (placed second (second_part side size rect)) f
+    all-front (λ window. HasSize window.rect.width window.rect.height (rows_of window)) (placed first (first_part side size rect)) (placed second (second_part side size rect)) f
 
 pub filled_second : {C : Type 0} (rows_of : Placed → List (List C)) (side : Side) (size : ℕ) (first second : Windows) (rect : Rect) → FillTheirRectangles rows_of (placed (Split side size first second) rect) → FillTheirRectangles rows_of (placed second (second_part side size rect))
 filled_second rows_of side size first second rect f =
-    all_back (λ window. HasSize window.rect.width window.rect.height (rows_of window)) (placed first (first_part side size rect)) (placed second (second_part side size rect)) f
+    all-back (λ window. HasSize window.rect.width window.rect.height (rows_of window)) (placed first (first_part side size rect)) (placed second (second_part side size rect)) f
 
 -- the rows fill the rectangle
 pub composed-size : {C : Type 0} (rows_of : Placed → List (List C)) (windows : Windows) (rect : Rect) → HasRoom windows rect → FillTheirRectangles rows_of (placed windows rect) → HasSize rect.width rect.height (composed rows_of windows rect)
@@ -88,35 +77,24 @@ composed-size rows_of (Split Below size first second) rect h f =
     (omega (arith, room_within Below size first second rect h)) a b
 
 -- a row of both parts
-pub row_of_both : {C : Type 0} (rows_of : Placed → List (List C)) (size : ℕ) (first second : Windows) (rect : Rect) (row : ℕ) → HasRoom (Split Right size first second) rect → FillTheirRectangles rows_of (placed (Split Right size first second) rect)
+row_of_both : {C : Type 0} (rows_of : Placed → List (List C)) (size : ℕ) (first second : Windows) (rect : Rect) (row : ℕ) → HasRoom (Split Right size first second) rect → FillTheirRectangles rows_of (placed (Split Right size first second) rect)
     → row_at row (composed rows_of (Split Right size first second) rect) ≡ row_at row (composed rows_of first (first_part Right size rect)) ++ row_at row (composed rows_of second (second_part Right size rect))
 row_of_both rows_of size first second rect row h f =
     let a = composed-size rows_of first (first_part Right size rect) h.0 (filled_first rows_of Right size first second rect f) in
     let b = composed-size rows_of second (second_part Right size rect) h.1 (filled_second rows_of Right size first second rect f) in
     beside-row (composed rows_of first (first_part Right size rect)) (composed rows_of second (second_part Right size rect)) row (a.0 ∙ sym b.0)
 
-pub row_of_top : {C : Type 0} (rows_of : Placed → List (List C)) (size : ℕ) (first second : Windows) (rect : Rect) (row : ℕ) → HasRoom (Split Below size first second) rect → FillTheirRectangles rows_of (placed (Split Below size first second) rect) → row < size
+row_of_top : {C : Type 0} (rows_of : Placed → List (List C)) (size : ℕ) (first second : Windows) (rect : Rect) (row : ℕ) → HasRoom (Split Below size first second) rect → FillTheirRectangles rows_of (placed (Split Below size first second) rect) → row < size
     → row_at row (composed rows_of (Split Below size first second) rect) ≡ row_at row (composed rows_of first (first_part Below size rect))
 row_of_top rows_of size first second rect row h f p =
     let a = composed-size rows_of first (first_part Below size rect) h.0 (filled_first rows_of Below size first second rect f) in
     get_or_append_left (composed rows_of first (first_part Below size rect)) (composed rows_of second (second_part Below size rect)) [] row (omega (arith, a.0))
 
-pub row_of_rest : {C : Type 0} (rows_of : Placed → List (List C)) (size : ℕ) (first second : Windows) (rect : Rect) (row : ℕ) → HasRoom (Split Below size first second) rect → FillTheirRectangles rows_of (placed (Split Below size first second) rect) → size ≤ row
+row_of_rest : {C : Type 0} (rows_of : Placed → List (List C)) (size : ℕ) (first second : Windows) (rect : Rect) (row : ℕ) → HasRoom (Split Below size first second) rect → FillTheirRectangles rows_of (placed (Split Below size first second) rect) → size ≤ row
     → row_at row (composed rows_of (Split Below size first second) rect) ≡ row_at (row - size) (composed rows_of second (second_part Below size rect))
 row_of_rest rows_of size first second rect row h f p =
     let a = composed-size rows_of first (first_part Below size rect) h.0 (filled_first rows_of Below size first second rect f) in
     get_or-append_right (composed rows_of first (first_part Below size rect)) (composed rows_of second (second_part Below size rect)) size row [] a.0 p
-
--- a place in two lists
-get-first : {X : Type 0} (xs ys : List X) (i : ℕ) → i < length xs → slice_get (xs ++ ys) i ≡ slice_get xs i
-get-first [] ys i p = absurd (omega arith)
-get-first (x ∷ xs) ys zero p = refl
-get-first (x ∷ xs) ys (suc i) p = get-first xs ys i (omega arith)
-
-get-second : {X : Type 0} (xs ys : List X) (i j : ℕ) → i ≡ length xs + j → slice_get (xs ++ ys) i ≡ slice_get ys j
-get-second [] ys i j e = let s : i ≡ j = omega arith in ap (slice_get ys) s
-get-second (x ∷ xs) ys zero j e = absurd (omega arith)
-get-second (x ∷ xs) ys (suc i) j e = get-second xs ys i j (omega arith)
 
 -- a window that is listed stands in the rectangle
 listed_within : (windows : Windows) (rect : Rect) (i : ℕ) (window : Placed) → HasRoom windows rect → slice_get (placed windows rect) i ≡ Some window → IsWithin window.rect rect
@@ -141,12 +119,13 @@ listed_within (Split side size first second) rect i window h e =
 -- where a cell that lies in a rectangle is
 lies_where : (column row : ℕ) (rect : Rect) → lies_in column row rect ≡ true → (rect.x ≤ column) × (column < rect.x + rect.width) × (rect.y ≤ row) × (row < rect.y + rect.height)
 lies_where column row rect e =
-    let across = and_left (is_from rect.x rect.width column) (is_from rect.y rect.height row) e in
-    let down = and_right (is_from rect.x rect.width column) (is_from rect.y rect.height row) e in
-    let a : nat_le rect.x column ≡ true = and_left (nat_le rect.x column) (nat_lt column (rect.x + rect.width)) across in
-    let b : nat_lt column (rect.x + rect.width) ≡ true = and_right (nat_le rect.x column) (nat_lt column (rect.x + rect.width)) across in
-    let c : nat_le rect.y row ≡ true = and_left (nat_le rect.y row) (nat_lt row (rect.y + rect.height)) down in
-    let d : nat_lt row (rect.y + rect.height) ≡ true = and_right (nat_le rect.y row) (nat_lt row (rect.y + rect.height)) down in
+    let both = and_parts (is_from rect.x rect.width column) (is_from rect.y rect.height row) e in
+    let across = and_parts (nat_le rect.x column) (nat_lt column (rect.x + rect.width)) both.0 in
+    let down = and_parts (nat_le rect.y row) (nat_lt row (rect.y + rect.height)) both.1 in
+    let a : nat_le rect.x column ≡ true = across.0 in
+    let b : nat_lt column (rect.x + rect.width) ≡ true = across.1 in
+    let c : nat_le rect.y row ≡ true = down.0 in
+    let d : nat_lt row (rect.y + rect.height) ≡ true = down.1 in
     (grind (arith, nat_tests), grind (arith, nat_tests), grind (arith, nat_tests), grind (arith, nat_tests))
 
 row_size : {C : Type 0} (width height row : ℕ) (rows : List (List C)) → HasSize width height rows → row < height → length (row_at row rows) ≡ width
@@ -202,7 +181,7 @@ composed-cell {C = C} rows_of (Split Below size first second) rect column row i 
 some_holds : (column row : ℕ) (windows : List Placed) → 1 ≤ windows_with column row windows → IsHeld column row windows
 some_holds column row [] p = absurd (omega arith)
 some_holds column row (window ∷ windows) p =
-    elim (bool_cases (lies_in column row window.rect)) [
+    elim (cases_Bool (lies_in column row window.rect)) [
       | inl l ↦ (0, window, refl, l)
       | inr l ↦
           let rest = some_holds column row windows (let q = rw l at p in omega (arith, q)) in
@@ -221,30 +200,19 @@ composed-each P both rows_of (Window number mode margins) rect h =
 composed-each P both rows_of (Split Right size first second) rect h =
     let a = first_part Right size rect in
     let b = second_part Right size rect in
-    let lefts = composed-each P both rows_of first a (all_front (λ window. All P (rows_of window)) (placed first a) (placed second b) h) in
-    let rights = composed-each P both rows_of second b (all_back (λ window. All P (rows_of window)) (placed first a) (placed second b) h) in
+    let lefts = composed-each P both rows_of first a (all-front (λ window. All P (rows_of window)) (placed first a) (placed second b) h) in
+    let rights = composed-each P both rows_of second b (all-back (λ window. All P (rows_of window)) (placed first a) (placed second b) h) in
     All-from_recursion P (beside (composed rows_of first a) (composed rows_of second b))
     (beside-all P P P both (composed rows_of first a) (composed rows_of second b) (recursion_from_All P (composed rows_of first a) lefts) (recursion_from_All P (composed rows_of second b) rights))
 composed-each P both rows_of (Split Below size first second) rect h =
     let a = first_part Below size rect in
     let b = second_part Below size rect in
     All-append P (composed rows_of first a) (composed rows_of second b)
-    (composed-each P both rows_of first a (all_front (λ window. All P (rows_of window)) (placed first a) (placed second b) h))
-    (composed-each P both rows_of second b (all_back (λ window. All P (rows_of window)) (placed first a) (placed second b) h))
-
--- a row in which each glyph stands whole, behind another
-row_behind : (due : ℕ) (left right : List Cell) → IsRowAfter due left → IsRowAfter 0 right → IsRowAfter due (left ++ right)
-row_behind zero [] right a b = b
-row_behind zero (Blank f ∷ left) right a b = row_behind 0 left right a b
-row_behind zero (First g f ∷ left) right a b = (a.0, row_behind (g.width - 1) left right a.1 b)
-row_behind zero (Rest ∷ left) right a b = absurd a
-row_behind (suc due) [] right a b = absurd a
-row_behind (suc due) (Blank f ∷ left) right a b = absurd a
-row_behind (suc due) (First g f ∷ left) right a b = absurd a
-row_behind (suc due) (Rest ∷ left) right a b = row_behind due left right a b
+    (composed-each P both rows_of first a (all-front (λ window. All P (rows_of window)) (placed first a) (placed second b) h))
+    (composed-each P both rows_of second b (all-back (λ window. All P (rows_of window)) (placed first a) (placed second b) h))
 
 pub composed-whole : (rows_of : Placed → List (List Cell)) (windows : Windows) (rect : Rect) → All (λ window. All (IsRowAfter 0) (rows_of window)) (placed windows rect) → All (IsRowAfter 0) (composed rows_of windows rect)
-composed-whole rows_of windows rect h = composed-each (IsRowAfter 0) (row_behind 0) rows_of windows rect h
+composed-whole rows_of windows rect h = composed-each (IsRowAfter 0) (behind-whole 0) rows_of windows rect h
 
 pub composed-coloured : (rows_of : Placed → List (List Cell)) (windows : Windows) (rect : Rect) → All (λ window. AreColoured (rows_of window)) (placed windows rect) → AreColoured (composed rows_of windows rect)
 composed-coloured rows_of windows rect h = composed-each (λ row. All IsColoured row) (λ left right p q. All-append IsColoured left right p q) rows_of windows rect h
@@ -256,27 +224,6 @@ composed-same rows_of others (Window number mode margins) rect h =
 composed-same rows_of others (Split side size first second) rect h =
     let a = first_part side size rect in
     let b = second_part side size rect in
-    let p = composed-same rows_of others first a (all_front (λ window. rows_of window ≡ others window) (placed first a) (placed second b) h) in
-    let q = composed-same rows_of others second b (all_back (λ window. rows_of window ≡ others window) (placed first a) (placed second b) h) in
+    let p = composed-same rows_of others first a (all-front (λ window. rows_of window ≡ others window) (placed first a) (placed second b) h) in
+    let q = composed-same rows_of others second b (all-back (λ window. rows_of window ≡ others window) (placed first a) (placed second b) h) in
     rw (p, q) refl
-
--- the row of a split rectangle, by its side
-pub top_row : {C : Type 0} (rows_of : Placed → List (List C)) (side : Side) (size : ℕ) (first second : Windows) (rect : Rect) (row : ℕ) → side ≡ Below → HasRoom (Split side size first second) rect → FillTheirRectangles rows_of (placed (Split side size first second) rect) → row < size
-    → row_at row (composed rows_of (Split side size first second) rect) ≡ row_at row (composed rows_of first (first_part side size rect))
-top_row rows_of Below size first second rect row e h f p = row_of_top rows_of size first second rect row h f p
-top_row rows_of Right size first second rect row e h f p = absurd (cc)
-
-pub lower_row : {C : Type 0} (rows_of : Placed → List (List C)) (side : Side) (size : ℕ) (first second : Windows) (rect : Rect) (row : ℕ) → side ≡ Below → HasRoom (Split side size first second) rect → FillTheirRectangles rows_of (placed (Split side size first second) rect) → size ≤ row
-    → row_at row (composed rows_of (Split side size first second) rect) ≡ row_at (row - size) (composed rows_of second (second_part side size rect))
-lower_row rows_of Below size first second rect row e h f p = row_of_rest rows_of size first second rect row h f p
-lower_row rows_of Right size first second rect row e h f p = absurd (cc)
-
-pub joined_row : {C : Type 0} (rows_of : Placed → List (List C)) (side : Side) (size : ℕ) (first second : Windows) (rect : Rect) (row : ℕ) → side ≡ Right → HasRoom (Split side size first second) rect → FillTheirRectangles rows_of (placed (Split side size first second) rect)
-    → row_at row (composed rows_of (Split side size first second) rect) ≡ row_at row (composed rows_of first (first_part side size rect)) ++ row_at row (composed rows_of second (second_part side size rect))
-joined_row rows_of Right size first second rect row e h f = row_of_both rows_of size first second rect row h f
-joined_row rows_of Below size first second rect row e h f = absurd (cc)
-
--- what is added at the end in two steps
-pub grown : {C : Type 0} (r : Result ⊤ Memory) (new mid old x y : List C) → OnOk r (new ≡ mid ++ y) → mid ≡ old ++ x → OnOk r (new ≡ old ++ (x ++ y))
-grown {C = C} (Ok done) new mid old x y h e = h ∙ (ap (λ (m : List C). m ++ y) e ∙ append_assoc old x y)
-grown (Err fault) new mid old x y h e = tt

@@ -1,6 +1,8 @@
 -- What changes of the windows keep.
-use Rattle.std.proofs.Common.{◌≡◌, ℕ, ◌+◌, Bool, true, false, if◌then◌else◌, ◌==◌, ◌&&◌, ◌||◌, nat_le, Option, None, Some, ◌⊎◌, inl, inr, refl, sym, ap, ◌∙◌, arith}
+use Rattle.std.proofs.Common.{◌≡◌, ℕ, ◌+◌, Bool, true, false, if◌then◌else◌, ◌==◌, ◌||◌, nat_le, Option, None, Some, ◌⊎◌, inl, inr, refl, sym, ap, ◌∙◌, arith}
 use Rattle.std.specs.Prelude.{is_some}
+use Rattle.std.proofs.lemmas.Bool.{and_parts, and_from, cases_Bool, false≢true}
+use Rattle.std.proofs.Math.Bool.{and-true}
 use Rattle.std.proofs.lemmas.Bool.Decides.{nat_tests}
 use Rattle.rd_tree.specs.declared.rect.Rect.{Rect}
 use Rattle.rd_tree.specs.declared.side.Side.{Side}
@@ -8,32 +10,19 @@ use Rattle.rd_tree.specs.declared.placed.Placed.{Placed}
 use Rattle.rd_tree.specs.Windows.{Windows, Window, Split, columns_for, rows_for, first_part, second_part, HasRoom, fits, first_size, resized, placed, window_at, holds, replaced, is_leaf_of, is_single, removed}
 use Rattle.rd_tree.proofs.Rooms.{or_else, of_number-append, first_needs, second_needs, first_parts-first, room_first_parts, resized_room}
 
-pub and_left : (a b : Bool) → (a && b) ≡ true → a ≡ true
-and_left true b e = refl
-and_left false b e = e
-
-pub and_right : (a b : Bool) → (a && b) ≡ true → b ≡ true
-and_right true b e = e
-and_right false b e = absurd (cc)
-
-and_both : (a b : Bool) → a ≡ true → b ≡ true → (a && b) ≡ true
-and_both a b p q = rw (p, q) refl
-
 -- the test of room is true where each window has room
 pub fits-room : (windows : Windows) (rect : Rect) → HasRoom windows rect → fits windows rect ≡ true
-fits-room (Window number mode margins) rect h = and_both (nat_le (columns_for margins) rect.width) (nat_le (rows_for mode) rect.height) (let p = h.0 in grind (arith, nat_tests)) (let p = h.1 in grind (arith, nat_tests))
+fits-room (Window number mode margins) rect h = and_from (nat_le (columns_for margins) rect.width) (nat_le (rows_for mode) rect.height) (let p = h.0 in grind (arith, nat_tests)) (let p = h.1 in grind (arith, nat_tests))
 fits-room (Split side size first second) rect h =
-    and_both (fits first (first_part side size rect)) (fits second (second_part side size rect)) (fits-room first (first_part side size rect) h.0) (fits-room second (second_part side size rect) h.1)
+    and_from (fits first (first_part side size rect)) (fits second (second_part side size rect)) (fits-room first (first_part side size rect) h.0) (fits-room second (second_part side size rect) h.1)
 
 pub room-fits : (windows : Windows) (rect : Rect) → fits windows rect ≡ true → HasRoom windows rect
-room-fits (Window number mode margins) rect e = (
-  let p = and_left (nat_le (columns_for margins) rect.width) (nat_le (rows_for mode) rect.height) e in grind (arith, nat_tests),
-  let p = and_right (nat_le (columns_for margins) rect.width) (nat_le (rows_for mode) rect.height) e in grind (arith, nat_tests),
-)
-room-fits (Split side size first second) rect e = (
-  room-fits first (first_part side size rect) (and_left (fits first (first_part side size rect)) (fits second (second_part side size rect)) e),
-  room-fits second (second_part side size rect) (and_right (fits first (first_part side size rect)) (fits second (second_part side size rect)) e),
-)
+room-fits (Window number mode margins) rect e =
+    let both = and_parts (nat_le (columns_for margins) rect.width) (nat_le (rows_for mode) rect.height) e in
+    (let p = both.0 in grind (arith, nat_tests), let p = both.1 in grind (arith, nat_tests))
+room-fits (Split side size first second) rect e =
+    let both = and_parts (fits first (first_part side size rect)) (fits second (second_part side size rect)) e in
+    (room-fits first (first_part side size rect) both.0, room-fits second (second_part side size rect) both.1)
 
 is_some-test : (b : Bool) (window : Placed) → is_some (if b then Some window else None) ≡ b
 is_some-test true window = refl
@@ -52,38 +41,45 @@ found_held w (Split side size first second) rect =
     ∙ (ap (λ (b : Bool). b || is_some (window_at w second (second_part side size rect))) (found_held w first (first_part side size rect))
     ∙ ap (λ (b : Bool). holds w first || b) (found_held w second (second_part side size rect))))
 
-and_true : (a : Bool) → (a && true) ≡ a
-and_true true = refl
-and_true false = refl
-
-pub bool_cases : (b : Bool) → (b ≡ true) ⊎ (b ≡ false)
-bool_cases true = inl refl
-bool_cases false = inr refl
-
-false≢true : false ≡ true → ⊥
-false≢true e = cc
-
 pub found_in : (a b : Option Placed) (window : Placed) → or_else a b ≡ Some window → (a ≡ Some window) ⊎ ((a ≡ None) × (b ≡ Some window))
 found_in None b window e = inr (refl, e)
 found_in (Some first) b window e = inl e
 
-at_leaf : (b : Bool) (leaf window : Placed) (other : Bool → ℕ → Windows) (same : Windows) → (if b then Some leaf else None) ≡ Some window → fits (if b then other leaf.mode leaf.margins else same) leaf.rect ≡ fits (other window.mode window.margins) window.rect
-at_leaf true leaf window other same e = let s : leaf ≡ window = cc in ap (λ (p : Placed). fits (other p.mode p.margins) p.rect) s
-at_leaf false leaf window other same e = absurd (cc)
+at_leaf : (b : Bool) (leaf window : Placed) → (if b then Some leaf else None) ≡ Some window → (b ≡ true) × (leaf ≡ window)
+at_leaf true leaf window e = (refl, cc)
+at_leaf false leaf window e = absurd (cc)
 
--- where something else stands for a window, there is room exactly where it has room in the window's rectangle
-pub replaced_fits : (w : ℕ) (other : Bool → ℕ → Windows) (windows : Windows) (rect : Rect) (window : Placed) → HasRoom windows rect → window_at w windows rect ≡ Some window → fits (replaced w other windows) rect ≡ fits (other window.mode window.margins) window.rect
-replaced_fits w other (Window n mode margins) rect window h e = at_leaf (n == w) (record { number = n; mode = mode; margins = margins; rect = rect }) window other (Window n mode margins) e
-replaced_fits w other (Split side size first second) rect window h e =
+-- the part in which a window is found
+found_where : (w : ℕ) (side : Side) (size : ℕ) (first second : Windows) (rect : Rect) (window : Placed) → window_at w (Split side size first second) rect ≡ Some window
+    → ((holds w first ≡ true) × (window_at w first (first_part side size rect) ≡ Some window)) ⊎ ((holds w first ≡ false) × (window_at w second (second_part side size rect) ≡ Some window))
+found_where w side size first second rect window e =
     let a = first_part side size rect in
     let b = second_part side size rect in
     elim (found_in (window_at w first a) (window_at w second b) window (sym (of_number-append w (placed first a) (placed second b)) ∙ e)) [
-      | inl p ↦
-          let held : holds w first ≡ true = sym (found_held w first a) ∙ ap is_some p in
-          rw (held, fits-room second b h.1, and_true) (replaced_fits w other first a window h.0 p)
-      | inr q ↦
-          let held : holds w first ≡ false = sym (found_held w first a) ∙ ap is_some q.0 in
-          rw (held, fits-room first a h.0) (replaced_fits w other second b window h.1 q.1)
+      | inl p ↦ inl (sym (found_held w first a) ∙ ap is_some p, p)
+      | inr q ↦ inr (sym (found_held w first a) ∙ ap is_some q.0, q.1)
+    ]
+
+-- where something else stands for a window, there is room exactly where it has room in the window's rectangle
+pub replaced_fits : (w : ℕ) (other : Bool → ℕ → Windows) (windows : Windows) (rect : Rect) (window : Placed) → HasRoom windows rect → window_at w windows rect ≡ Some window → fits (replaced w other windows) rect ≡ fits (other window.mode window.margins) window.rect
+replaced_fits w other (Window n mode margins) rect window h e =
+    let leaf = at_leaf (n == w) (record { number = n; mode = mode; margins = margins; rect = rect }) window e in
+    rw leaf.0 (ap (λ (p : Placed). fits (other p.mode p.margins) p.rect) leaf.1)
+replaced_fits w other (Split side size first second) rect window h e =
+    elim (found_where w side size first second rect window e) [
+      | inl p ↦ rw (p.0, fits-room second (second_part side size rect) h.1, and-true) (replaced_fits w other first (first_part side size rect) window h.0 p.1)
+      | inr q ↦ rw (q.0, fits-room first (first_part side size rect) h.0) (replaced_fits w other second (second_part side size rect) window h.1 q.1)
+    ]
+
+-- what stands for a window is that by its own mode line and margins
+pub replaced_found : (w : ℕ) (other : Bool → ℕ → Windows) (windows : Windows) (rect : Rect) (window : Placed) → window_at w windows rect ≡ Some window → replaced w (λ _ _. other window.mode window.margins) windows ≡ replaced w other windows
+replaced_found w other (Window n mode margins) rect window e =
+    let leaf = at_leaf (n == w) (record { number = n; mode = mode; margins = margins; rect = rect }) window e in
+    rw leaf.0 (ap (λ (p : Placed). other p.mode p.margins) (sym leaf.1))
+replaced_found w other (Split side size first second) rect window e =
+    elim (found_where w side size first second rect window e) [
+      | inl p ↦ rw p.0 (ap (λ ws. Split side size ws second) (replaced_found w other first (first_part side size rect) window p.1))
+      | inr q ↦ rw q.0 (ap (λ ws. Split side size first ws) (replaced_found w other second (second_part side size rect) window q.1))
     ]
 
 -- a number that some windows have is the sum of those of their parts
@@ -97,7 +93,7 @@ held_second false b p e = e
 pub replaced_more : (f : Windows → ℕ) (w d : ℕ) (other : Bool → ℕ → Windows) → IsSum f → ((n : ℕ) (mode : Bool) (margins : ℕ) → (n == w) ≡ true → f (other mode margins) ≡ f (Window n mode margins) + d) → (windows : Windows) → holds w windows ≡ true → f (replaced w other windows) ≡ f windows + d
 replaced_more f w d other sum leaf (Window n mode margins) e = rw e (leaf n mode margins e)
 replaced_more f w d other sum leaf (Split side size first second) e =
-    elim (bool_cases (holds w first)) [
+    elim (cases_Bool (holds w first)) [
       | inl p ↦ rw p (omega (arith, sum side size (replaced w other first) second, sum side size first second, replaced_more f w d other sum leaf first p))
       | inr p ↦ rw p (omega (arith, sum side size first (replaced w other second), sum side size first second, replaced_more f w d other sum leaf second (held_second (holds w first) (holds w second) p e)))
     ]
@@ -121,11 +117,11 @@ not_single w (Split side size first second) p e = refl
 pub removed_less : (f : Windows → ℕ) (w d : ℕ) → IsSum f → ((n : ℕ) (mode : Bool) (margins : ℕ) → (n == w) ≡ true → f (Window n mode margins) ≡ d) → (windows : Windows) (rect : Rect) → holds w windows ≡ true → is_single windows ≡ false → f (removed w windows rect) + d ≡ f windows
 removed_less f w d sum leaf (Window n mode margins) rect e s = absurd (false≢true (sym s))
 removed_less f w d sum leaf (Split side size first second) rect e s =
-    elim (bool_cases (is_leaf_of w first)) [
+    elim (cases_Bool (is_leaf_of w first)) [
       | inl p ↦ rw p (omega (arith, sum side size first second, resized_same f sum second rect, window_has f w d leaf first p))
-      | inr p ↦ elim (bool_cases (is_leaf_of w second)) [
+      | inr p ↦ elim (cases_Bool (is_leaf_of w second)) [
         | inl q ↦ rw (p, q) (omega (arith, sum side size first second, resized_same f sum first rect, window_has f w d leaf second q))
-        | inr q ↦ elim (bool_cases (holds w first)) [
+        | inr q ↦ elim (cases_Bool (holds w first)) [
           | inl h ↦ rw (p, q, h) (omega (arith, sum side size first second, sum side size (removed w first (first_part side size rect)) second, removed_less f w d sum leaf first (first_part side size rect) h (not_single w first p h)))
           | inr h ↦
               let k = held_second (holds w first) (holds w second) h e in
@@ -139,11 +135,11 @@ pub removed_room : (w : ℕ) (windows : Windows) (rect : Rect) → HasRoom windo
 removed_room w (Window n mode margins) rect h = h
 removed_room w (Split side size first second) rect h =
     let parts = first_parts-first side size first second (room_first_parts (Split side size first second) rect h) in
-    elim (bool_cases (is_leaf_of w first)) [
+    elim (cases_Bool (is_leaf_of w first)) [
       | inl p ↦ rw p (resized_room second rect parts.1 (second_needs side size first second rect h))
-      | inr p ↦ elim (bool_cases (is_leaf_of w second)) [
+      | inr p ↦ elim (cases_Bool (is_leaf_of w second)) [
         | inl q ↦ rw (p, q) (resized_room first rect parts.0 (first_needs side size first second rect h))
-        | inr q ↦ elim (bool_cases (holds w first)) [
+        | inr q ↦ elim (cases_Bool (holds w first)) [
           | inl k ↦ rw (p, q, k) (removed_room w first (first_part side size rect) h.0, h.1)
           | inr k ↦ rw (p, q, k) (h.0, removed_room w second (second_part side size rect) h.1)
         ]

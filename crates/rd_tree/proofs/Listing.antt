@@ -3,12 +3,11 @@ use Rattle.std.proofs.Common.{◌≡◌, ℕ, zero, suc, ◌≤◌, Bool, true, 
 use Rattle.std.specs.Prelude.{slice_get}
 use Rattle.std.specs.Option.{option_map}
 use Rattle.std.proofs.lemmas.Option.{slice_get-map}
-use Rattle.std.proofs.lemmas.Bool.Decides.{nat_tests}
+use Rattle.std.proofs.lemmas.Bool.{eq-eqb, or_left, or_right}
 use Rattle.rd_tree.specs.declared.rect.Rect.{Rect}
 use Rattle.rd_tree.specs.declared.placed.Placed.{Placed}
 use Rattle.rd_tree.specs.Windows.{Windows, Window, Split, first_part, second_part, leaves, placed, window_at, holds, times}
 use Rattle.rd_tree.proofs.Rooms.{or_else}
-use Rattle.rd_tree.proofs.Siblings.{or_true, true_or}
 use Rattle.rd_tree.proofs.Standing.{listed, not_found, once_in_first, two_lists}
 
 -- what stands in two lists stands in one of them
@@ -18,15 +17,12 @@ in_one (x ∷ xs) ys zero window e = inl (0, e)
 in_one (x ∷ xs) ys (suc i) window e =
     elim (in_one xs ys i window e) [ inl p ↦ inl (suc p.0, p.1) | inr p ↦ inr p ]
 
-same_test : (n m : ℕ) → n ≡ m → (n == m) ≡ true
-same_test n m e = grind (arith, nat_tests)
-
 one_place : (leaf window : Placed) → Some leaf ≡ Some window → leaf ≡ window
 one_place leaf window e = cc
 
 number_of_leaf : (number : ℕ) (mode : Bool) (margins : ℕ) (rect : Rect) (window : Placed) → Some (record { number = number; mode = mode; margins = margins; rect = rect }) ≡ Some window → (number == window.number) ≡ true
 number_of_leaf number mode margins rect window e =
-    same_test number window.number (ap (λ (p : Placed). p.number) (one_place (record { number = number; mode = mode; margins = margins; rect = rect }) window e))
+    eq-eqb number window.number (ap (λ (p : Placed). p.number) (one_place (record { number = number; mode = mode; margins = margins; rect = rect }) window e))
 
 listed_held : (windows : Windows) (rect : Rect) (i : ℕ) (window : Placed) → slice_get (placed windows rect) i ≡ Some window → holds window.number windows ≡ true
 listed_held (Window number mode margins) rect zero window e = number_of_leaf number mode margins rect window e
@@ -35,8 +31,8 @@ listed_held (Split side size first second) rect i window e =
     let a = first_part side size rect in
     let b = second_part side size rect in
     elim (in_one (placed first a) (placed second b) i window e) [
-      | inl p ↦ true_or (holds window.number first) (holds window.number second) (listed_held first a p.0 window p.1)
-      | inr p ↦ or_true (holds window.number first) (holds window.number second) (listed_held second b p.0 window p.1)
+      | inl p ↦ or_left (holds window.number first) (holds window.number second) (listed_held first a p.0 window p.1)
+      | inr p ↦ or_right (holds window.number first) (holds window.number second) (listed_held second b p.0 window p.1)
     ]
 
 -- where no number stands twice, each window that is listed is found by its number

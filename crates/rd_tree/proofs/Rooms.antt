@@ -71,6 +71,17 @@ pub second_in_frame : (side : Side) (size : ℕ) (rect : Rect) → InFrame rect 
 second_in_frame Right size rect h w = (omega arith, h.1)
 second_in_frame Below size rect h w = (h.0, omega arith)
 
+-- a part of a split rectangle that has room has fewer windows, has room, and lies in the frame
+pub first_lies : (side : Side) (size : ℕ) (first second : Windows) (rect part : Rect) (n : ℕ) → part ≡ first_part side size rect → HasRoom (Split side size first second) rect → InFrame rect
+    → length (leaves first ++ leaves second) ≡ n → (length (leaves first) < n) × (HasRoom first part × InFrame part)
+first_lies side size first second rect part n is room inside count =
+    (fewer_first first second n count, rw is (room.0, first_in_frame side size rect inside (room_within side size first second rect room)))
+
+pub second_lies : (side : Side) (size : ℕ) (first second : Windows) (rect part : Rect) (n : ℕ) → part ≡ second_part side size rect → HasRoom (Split side size first second) rect → InFrame rect
+    → length (leaves first ++ leaves second) ≡ n → (length (leaves second) < n) × (HasRoom second part × InFrame part)
+second_lies side size first second rect part n is room inside count =
+    (fewer_second first second n count, rw is (room.1, second_in_frame side size rect inside (room_within side size first second rect room)))
+
 -- what each part of a split rectangle that has room needs is met in the whole rectangle
 pub second_needs : (side : Side) (size : ℕ) (first second : Windows) (rect : Rect) → HasRoom (Split side size first second) rect → NeedsMet second rect
 second_needs Right size first second rect h = let b = room_needs second (second_part Right size rect) h.1 in (omega arith, b.1)

@@ -1,32 +1,26 @@
 -- What a removal gives the sibling.
-use Rattle.std.proofs.Common.{◌≡◌, ℕ, ◌≤◌, Bool, true, false, ◌||◌, Option, None, Some, inl, inr, refl, ap, ◌∙◌, arith}
+use Rattle.std.proofs.Common.{◌≡◌, ℕ, ◌≤◌, true, false, Option, None, Some, inl, inr, refl, ap, ◌∙◌, arith}
 use Rattle.std.specs.Prelude.{is_some}
+use Rattle.std.proofs.lemmas.Bool.{cases_Bool, or_left, or_right}
 use Rattle.rd_tree.specs.declared.rect.Rect.{Rect}
 use Rattle.rd_tree.specs.declared.placed.Placed.{Placed}
 use Rattle.rd_tree.specs.Windows.{Windows, Window, Split, first_part, second_part, resized, window_at, holds, is_leaf_of, sibling, removed, times}
 use Rattle.rd_tree.specs.Places.{shared_place}
 use Rattle.rd_tree.proofs.Rooms.{or_else}
-use Rattle.rd_tree.proofs.Keeping.{bool_cases, found_held}
+use Rattle.rd_tree.proofs.Keeping.{found_held}
 use Rattle.rd_tree.proofs.Standing.{resized_held, not_found, once_in_first, two_lists}
-
-pub or_true : (a b : Bool) → b ≡ true → (a || b) ≡ true
-or_true true b e = refl
-or_true false b e = e
-
-pub true_or : (a b : Bool) → a ≡ true → (a || b) ≡ true
-true_or a b e = rw e refl
 
 -- the sibling is a part of the windows
 sibling_held : (v n : ℕ) (windows : Windows) → holds v (sibling n windows) ≡ true → holds v windows ≡ true
 sibling_held v n (Window number mode margins) e = e
 sibling_held v n (Split side size first second) e =
-    elim (bool_cases (is_leaf_of n first)) [
-      | inl p ↦ or_true (holds v first) (holds v second) (rw p at e)
-      | inr p ↦ elim (bool_cases (is_leaf_of n second)) [
-        | inl q ↦ true_or (holds v first) (holds v second) (rw (p, q) at e)
-        | inr q ↦ elim (bool_cases (holds n first)) [
-          | inl h ↦ true_or (holds v first) (holds v second) (sibling_held v n first (rw (p, q, h) at e))
-          | inr h ↦ or_true (holds v first) (holds v second) (sibling_held v n second (rw (p, q, h) at e))
+    elim (cases_Bool (is_leaf_of n first)) [
+      | inl p ↦ or_right (holds v first) (holds v second) (rw p at e)
+      | inr p ↦ elim (cases_Bool (is_leaf_of n second)) [
+        | inl q ↦ or_left (holds v first) (holds v second) (rw (p, q) at e)
+        | inr q ↦ elim (cases_Bool (holds n first)) [
+          | inl h ↦ or_left (holds v first) (holds v second) (sibling_held v n first (rw (p, q, h) at e))
+          | inr h ↦ or_right (holds v first) (holds v second) (sibling_held v n second (rw (p, q, h) at e))
         ]
       ]
     ]
@@ -41,11 +35,11 @@ removed_sibling v n (Window number mode margins) rect once e = refl
 removed_sibling v n (Split side size first second) rect once e =
     let a = first_part side size rect in
     let b = second_part side size rect in
-    elim (bool_cases (is_leaf_of n first)) [
+    elim (cases_Bool (is_leaf_of n first)) [
       | inl p ↦ rw p refl
-      | inr p ↦ elim (bool_cases (is_leaf_of n second)) [
+      | inr p ↦ elim (cases_Bool (is_leaf_of n second)) [
         | inl q ↦ rw (p, q) refl
-        | inr q ↦ elim (bool_cases (holds n first)) [
+        | inr q ↦ elim (cases_Bool (holds n first)) [
           | inl h ↦
               let held : holds v (sibling n first) ≡ true = rw (p, q, h) at e in
               let place = shared_place n first a in

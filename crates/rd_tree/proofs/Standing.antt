@@ -1,7 +1,10 @@
 -- Where windows stand.
 use Rattle.std.proofs.Common.{◌≡◌, ℕ, ◌+◌, ◌-◌, ◌≤◌, Bool, true, false, if◌then◌else◌, ◌==◌, ◌&&◌, ◌||◌, List, [], ◌∷◌, ◌++◌, append_assoc, append-nil, map, Option, None, Some, inl, inr, refl, sym, ap, subst, ◌∙◌, arith}
 use Rattle.std.specs.Prelude.{is_some, IfSome}
+use Rattle.std.proofs.lemmas.Bool.{cases_Bool, true≢false}
+use Rattle.std.proofs.Math.Bool.{or_assoc, or-false}
 use Rattle.std.proofs.lemmas.Bool.Decides.{nat_tests}
+use Rattle.std.proofs.lemmas.List.{map-append}
 use Rattle.rd_tree.specs.declared.rect.Rect.{Rect}
 use Rattle.rd_tree.specs.declared.side.Side.{Side}
 use Rattle.rd_tree.specs.declared.side.Side.TheVariants.{Below, Right}
@@ -10,18 +13,7 @@ use Rattle.rd_tree.specs.Windows.{Windows, Window, Split, first_part, second_par
 use Rattle.rd_tree.specs.Calls.{Configuration, IsValid, frame_of, rect_of_placed}
 use Rattle.rd_tree.specs.Places.{is_from, lies_in, one_if, windows_with, AllHaveRoom, in_place_of, without, is_among, IsWithin, StandsIn, LiesIn}
 use Rattle.rd_tree.proofs.Rooms.{rows_for-some, room_needs, room_within, or_else, of_number-append}
-use Rattle.rd_tree.proofs.Keeping.{bool_cases, found_held, found_in, not_single}
-
-or_assoc : (a b c : Bool) → (a || (b || c)) ≡ ((a || b) || c)
-or_assoc true b c = refl
-or_assoc false b c = refl
-
-or_no : (a : Bool) → a ≡ (a || false)
-or_no true = refl
-or_no false = refl
-
-true≢false : true ≡ false → ⊥
-true≢false e = cc
+use Rattle.rd_tree.proofs.Keeping.{found_held, found_in, not_single}
 
 -- a place in a range that is cut is in one of the two parts
 is_from-cut : (first size whole place : ℕ) → size ≤ whole → one_if (is_from first size place) + one_if (is_from (first + size) (whole - size) place) ≡ one_if (is_from first whole place)
@@ -69,16 +61,12 @@ one_window (Split side size first second) rect h column row =
     let b = second_part side size rect in
     omega (arith, windows_with-append column row (placed first a) (placed second b), one_window first a h.0 column row, one_window second b h.1 column row, parts_hold column row side size first second rect h)
 
-listed-append : (xs ys : List Placed) → map (λ (window : Placed). window.number) (xs ++ ys) ≡ map (λ (window : Placed). window.number) xs ++ map (λ (window : Placed). window.number) ys
-listed-append [] ys = refl
-listed-append (window ∷ xs) ys = ap (λ (zs : List ℕ). window.number ∷ zs) (listed-append xs ys)
-
 pub listed : (windows : Windows) (rect : Rect) → map (λ (window : Placed). window.number) (placed windows rect) ≡ leaves windows
 listed (Window number mode margins) rect = refl
 listed (Split side size first second) rect =
     let a = first_part side size rect in
     let b = second_part side size rect in
-    rw (listed-append (placed first a) (placed second b), listed first a, listed second b) refl
+    rw (map-append (λ (window : Placed). window.number) (placed first a) (placed second b), listed first a, listed second b) refl
 
 all_room-append : (xs ys : List Placed) → AllHaveRoom xs → AllHaveRoom ys → AllHaveRoom (xs ++ ys)
 all_room-append [] ys p q = q
@@ -105,7 +93,7 @@ in_place-back w others (window ∷ xs) ys e =
 in_place-front : (w : ℕ) (others : Placed → List Placed) (xs ys : List Placed) → is_some (of_number w xs) ≡ true → in_place_of w others (xs ++ ys) ≡ in_place_of w others xs ++ ys
 in_place-front w others [] ys e = absurd (cc)
 in_place-front w others (window ∷ xs) ys e =
-    elim (bool_cases (window.number == w)) [
+    elim (cases_Bool (window.number == w)) [
       | inl p ↦ rw (p, append_assoc) refl
       | inr p ↦ rw p (ap (λ (zs : List Placed). window ∷ zs) (in_place-front w others xs ys (rw p at e)))
     ]
@@ -125,7 +113,7 @@ replaced_places w other (Window number mode margins) rect =
 replaced_places w other (Split side size first second) rect =
     let a = first_part side size rect in
     let b = second_part side size rect in
-    elim (bool_cases (holds w first)) [
+    elim (cases_Bool (holds w first)) [
       | inl p ↦ rw (p, in_place-front w (λ window. placed (other window.mode window.margins) window.rect) (placed first a) (placed second b) (found_held w first a ∙ p)) (ap (λ (zs : List Placed). zs ++ placed second b) (replaced_places w other first a))
       | inr p ↦ rw (p, in_place-back w (λ window. placed (other window.mode window.margins) window.rect) (placed first a) (placed second b) (none_of (window_at w first a) (found_held w first a ∙ p))) (ap (λ (zs : List Placed). placed first a ++ zs) (replaced_places w other second b))
     ]
@@ -155,11 +143,11 @@ resized_same_place (Split side size first second) rect h =
 
 among-append : (n : ℕ) (xs ys : List ℕ) → is_among n (xs ++ ys) ≡ (is_among n xs || is_among n ys)
 among-append n [] ys = refl
-among-append n (x ∷ xs) ys = ap (λ (b : Bool). x == n || b) (among-append n xs ys) ∙ or_assoc (x == n) (is_among n xs) (is_among n ys)
+among-append n (x ∷ xs) ys = ap (λ (b : Bool). x == n || b) (among-append n xs ys) ∙ sym (or_assoc (x == n) (is_among n xs) (is_among n ys))
 
 -- a window is one of those whose numbers are listed
 pub held_among : (n : ℕ) (windows : Windows) → holds n windows ≡ is_among n (leaves windows)
-held_among n (Window number mode margins) = or_no (number == n)
+held_among n (Window number mode margins) = sym (or-false (number == n))
 held_among n (Split side size first second) = rw (held_among n first, held_among n second) (sym (among-append n (leaves first) (leaves second)))
 
 pub resized_held : (n : ℕ) (windows : Windows) (rect : Rect) → holds n (resized windows rect) ≡ holds n windows
@@ -168,7 +156,7 @@ resized_held n windows rect = held_among n (resized windows rect) ∙ (ap (is_am
 without-front : (n : ℕ) (xs ys : List ℕ) → is_among n xs ≡ true → without n (xs ++ ys) ≡ without n xs ++ ys
 without-front n [] ys e = absurd (cc)
 without-front n (x ∷ xs) ys e =
-    elim (bool_cases (x == n)) [
+    elim (cases_Bool (x == n)) [
       | inl p ↦ rw p refl
       | inr p ↦ rw p (ap (λ (zs : List ℕ). x ∷ zs) (without-front n xs ys (rw p at e)))
     ]
@@ -176,7 +164,7 @@ without-front n (x ∷ xs) ys e =
 without-back : (n : ℕ) (xs ys : List ℕ) → is_among n xs ≡ false → without n (xs ++ ys) ≡ xs ++ without n ys
 without-back n [] ys e = refl
 without-back n (x ∷ xs) ys e =
-    elim (bool_cases (x == n)) [
+    elim (cases_Bool (x == n)) [
       | inl p ↦ absurd (true≢false (rw p at e))
       | inr p ↦ rw p (ap (λ (zs : List ℕ). x ∷ zs) (without-back n xs ys (rw p at e)))
     ]
@@ -192,7 +180,7 @@ window_held n (Split side size first second) e = absurd (cc)
 held_times : (n : ℕ) (windows : Windows) → holds n windows ≡ true → 1 ≤ times n windows
 held_times n (Window number mode margins) e = rw e (omega arith)
 held_times n (Split side size first second) e =
-    elim (bool_cases (holds n first)) [
+    elim (cases_Bool (holds n first)) [
       | inl p ↦ omega (arith, held_times n first p)
       | inr p ↦ omega (arith, held_times n second (rw p at e))
     ]
@@ -200,7 +188,7 @@ held_times n (Split side size first second) e =
 -- a window that stands in the second part does not stand in the first too
 pub once_in_first : (n : ℕ) (first second : Windows) → times n first + times n second ≤ 1 → holds n second ≡ true → holds n first ≡ false
 once_in_first n first second once e =
-    elim (bool_cases (holds n first)) [
+    elim (cases_Bool (holds n first)) [
       | inl p ↦ absurd (omega (arith, held_times n first p, held_times n second e))
       | inr p ↦ p
     ]
@@ -212,14 +200,14 @@ held_behind n first second e p = rw p at e
 pub removed_leaves : (n : ℕ) (windows : Windows) (rect : Rect) → times n windows ≤ 1 → holds n windows ≡ true → is_single windows ≡ false → leaves (removed n windows rect) ≡ without n (leaves windows)
 removed_leaves n (Window number mode margins) rect once e s = absurd (cc)
 removed_leaves n (Split side size first second) rect once e s =
-    elim (bool_cases (is_leaf_of n first)) [
+    elim (cases_Bool (is_leaf_of n first)) [
       | inl p ↦ rw (p, resized_leaves second rect, window_without n first (leaves second) p) refl
-      | inr p ↦ elim (bool_cases (is_leaf_of n second)) [
+      | inr p ↦ elim (cases_Bool (is_leaf_of n second)) [
         | inl q ↦
             let away : is_among n (leaves first) ≡ false = sym (held_among n first) ∙ once_in_first n first second once (window_held n second q) in
             rw (p, q, resized_leaves first rect, without-back n (leaves first) (leaves second) away)
             (sym (ap (λ (zs : List ℕ). leaves first ++ zs) (ap (without n) (sym (append-nil (leaves second))) ∙ window_without n second [] q) ∙ append-nil (leaves first)))
-        | inr q ↦ elim (bool_cases (holds n first)) [
+        | inr q ↦ elim (cases_Bool (holds n first)) [
           | inl h ↦
               let among : is_among n (leaves first) ≡ true = sym (held_among n first) ∙ h in
               rw (p, q, h, without-front n (leaves first) (leaves second) among)
@@ -252,15 +240,15 @@ removed_others v n (Window number mode margins) rect d e = refl
 removed_others v n (Split side size first second) rect d e =
     let a = first_part side size rect in
     let b = second_part side size rect in
-    elim (bool_cases (is_leaf_of n first)) [
+    elim (cases_Bool (is_leaf_of n first)) [
       | inl p ↦
           let away : holds v second ≡ false = rw p at e in
           rw p (not_found v (resized second rect) rect (resized_held v second rect ∙ away) ∙ sym (neither_found v side size first second rect (other_window v n first p d) away))
-      | inr p ↦ elim (bool_cases (is_leaf_of n second)) [
+      | inr p ↦ elim (cases_Bool (is_leaf_of n second)) [
         | inl q ↦
             let away : holds v first ≡ false = rw (p, q) at e in
             rw (p, q) (not_found v (resized first rect) rect (resized_held v first rect ∙ away) ∙ sym (neither_found v side size first second rect away (other_window v n second q d)))
-        | inr q ↦ elim (bool_cases (holds n first)) [
+        | inr q ↦ elim (cases_Bool (holds n first)) [
           | inl h ↦
               let away : holds v (sibling n first) ≡ false = rw (p, q, h) at e in
               rw (p, q, h) (two_lists v side size (removed n first a) second rect ∙ (ap (λ (o : Option Placed). or_else o (window_at v second b)) (removed_others v n first a d away) ∙ sym (two_lists v side size first second rect)))

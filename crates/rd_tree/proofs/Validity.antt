@@ -1,14 +1,12 @@
 -- Each call leaves a valid tree valid.
-use Rattle.std.proofs.Common.{◌≡◌, ℕ, suc, ◌+◌, ◌≤◌, ◌<◌, Bool, true, false, if◌then◌else◌, ◌==◌, ◌||◌, nat_le, length, length-append, ◌⊎◌, inl, inr, refl, arith}
+use Rattle.std.proofs.Common.{◌≡◌, ℕ, suc, ◌+◌, ◌≤◌, ◌<◌, Bool, true, false, if◌then◌else◌, ◌==◌, nat_le, length, length-append, ◌⊎◌, inl, inr, refl, arith}
+use Rattle.std.proofs.lemmas.Bool.{cases_Bool, eqb-true, or_parts}
 use Rattle.std.proofs.lemmas.Bool.Decides.{nat_tests}
 use Rattle.rd_tree.specs.declared.side.Side.{Side}
 use Rattle.rd_tree.specs.Windows.{Windows, Window, fits, NeedsMet, resized, leaves, holds, halves, replaced, split_at, with_mode, with_margins, is_single, removed, times}
 use Rattle.rd_tree.specs.Calls.{Configuration, IsValid, frame, frame_of, opening, is_full}
 use Rattle.rd_tree.proofs.Rooms.{room_first_parts, resized_room}
-use Rattle.rd_tree.proofs.Keeping.{bool_cases, room-fits, IsSum, replaced_more, resized_same, removed_less, removed_room}
-
-same_number : (n w : ℕ) → (n == w) ≡ true → n ≡ w
-same_number n w e = grind (arith, nat_tests)
+use Rattle.rd_tree.proofs.Keeping.{room-fits, IsSum, replaced_more, resized_same, removed_less, removed_room}
 
 count : Windows → ℕ
 count windows = length (leaves windows)
@@ -29,18 +27,14 @@ one v n mode margins = one_test (n == v)
 
 -- a window has its own number alone
 own : (v n : ℕ) (mode : Bool) (margins : ℕ) → (n ≡ v) ⊎ (times v (Window n mode margins) ≡ 0)
-own v n mode margins = elim (bool_cases (n == v)) [ inl p ↦ inl (same_number n v p) | inr p ↦ inr (rw p refl) ]
+own v n mode margins = elim (cases_Bool (n == v)) [ inl p ↦ inl (eqb-true n v p) | inr p ↦ inr (rw p refl) ]
 
 none_above : (v n : ℕ) (mode : Bool) (margins : ℕ) → n < v → times v (Window n mode margins) ≡ 0
 none_above v n mode margins p = elim (own v n mode margins) [ inl e ↦ absurd (omega arith) | inr e ↦ e ]
 
-or_none : (a b : Bool) → (a || b) ≡ false → (a ≡ false) × (b ≡ false)
-or_none true b e = absurd (cc)
-or_none false b e = (refl, e)
-
 room_left : (c : Configuration) → is_full c ≡ false → (length (leaves c.windows) < 64) × (c.made < 4294967295)
 room_left c e =
-    let both = or_none (nat_le 64 (length (leaves c.windows))) (nat_le 4294967295 c.made) e in
+    let both = or_parts (nat_le 64 (length (leaves c.windows))) (nat_le 4294967295 c.made) e in
     let p : nat_le 64 (length (leaves c.windows)) ≡ false = both.0 in
     let q : nat_le 4294967295 c.made ≡ false = both.1 in
     (grind (arith, nat_tests), grind (arith, nat_tests))
@@ -60,7 +54,7 @@ pub split_valid : (c : Configuration) (window : ℕ) (side : Side) (size : ℕ) 
 unfolding count
 split_valid c window side size valid held fit full =
     let more : (v : ℕ) → times v (split_at window side size c.made c.windows) ≡ times v c.windows + times v (Window c.made false 0) =
-    λ v. replaced_more (times v) window (times v (Window c.made false 0)) (halves window side size c.made) (times-sum v) (λ n mode _ e. rw (same_number n window e) refl) c.windows held in
+    λ v. replaced_more (times v) window (times v (Window c.made false 0)) (halves window side size c.made) (times-sum v) (λ n mode _ e. rw (eqb-true n window e) refl) c.windows held in
     let grown : count (split_at window side size c.made c.windows) ≡ count c.windows + 1 =
     replaced_more count window 1 (halves window side size c.made) count-sum (λ n mode _ e. refl) c.windows held in
     let left = room_left c full in
@@ -83,7 +77,7 @@ unfolding count
 changed_valid c window mode_of columns_of valid held fit =
     let other : Bool → ℕ → Windows = λ mode margins. Window window (mode_of mode margins) (columns_of mode margins) in
     let same : (v : ℕ) → times v (replaced window other c.windows) ≡ times v c.windows + 0 =
-    λ v. replaced_more (times v) window 0 other (times-sum v) (λ n mode _ e. rw (same_number n window e) (omega arith)) c.windows held in
+    λ v. replaced_more (times v) window 0 other (times-sum v) (λ n mode _ e. rw (eqb-true n window e) (omega arith)) c.windows held in
     let kept : count (replaced window other c.windows) ≡ count c.windows + 0 =
     replaced_more count window 0 other count-sum (λ n mode _ e. refl) c.windows held in
     record {
@@ -106,7 +100,7 @@ pub remove_valid : (c : Configuration) (window : ℕ) → IsValid c → holds wi
 unfolding count
 remove_valid c window valid held more =
     let less : (v : ℕ) → times v (removed window c.windows (frame_of c)) + times v (Window window false 0) ≡ times v c.windows =
-    λ v. removed_less (times v) window (times v (Window window false 0)) (times-sum v) (λ n mode _ e. rw (same_number n window e) refl) c.windows (frame_of c) held more in
+    λ v. removed_less (times v) window (times v (Window window false 0)) (times-sum v) (λ n mode _ e. rw (eqb-true n window e) refl) c.windows (frame_of c) held more in
     let fewer : count (removed window c.windows (frame_of c)) + 1 ≡ count c.windows =
     removed_less count window 1 count-sum (λ n mode _ e. refl) c.windows (frame_of c) held more in
     record {

@@ -5,7 +5,6 @@ mod examples;
 mod fault;
 mod laws;
 mod node;
-mod panes;
 mod placed;
 mod rect;
 mod side;
@@ -16,7 +15,6 @@ pub use laws::{
     calls_keep_trees, frames_are_composed, needs_are_exact, other_windows_stay,
     windows_tile_their_rectangle,
 };
-pub use panes::Panes;
 pub use placed::Placed;
 pub use rect::Rect;
 pub use side::Side;

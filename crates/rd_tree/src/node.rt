@@ -1,15 +1,13 @@
 //! The nodes of a window tree.
-ghost use Rattle.std.specs.Prelude.{◌≡◌, ◌≤◌, ◌<◌, ◌++◌, length, slice_get, OnOk, OnErr};
-ghost use Rattle.rd_tree.specs.Windows.{HasRoom, InFrame, NeedsMet, FirstPartsFit, columns_needed, rows_needed, first_size, resized, leaves, placed, window_at, holds, is_leaf_of, is_single, first_leaf, sibling, removed, split_at, with_mode, with_margins};
+ghost use Rattle.std.specs.Prelude.{◌≡◌, ◌≤◌, length, slice_get, OnOk, OnErr};
+ghost use Rattle.rd_tree.specs.Windows.{HasRoom, InFrame, NeedsMet, FirstPartsFit, columns_needed, rows_needed, first_size, resized, leaves, window_at, holds, is_leaf_of, is_single, first_leaf, sibling, removed, split_at, replaced, Window};
 ghost use Rattle.rd_tree.specs.Shapes.{shape};
-ghost use Rattle.rd_tree.specs.Compositions.{composed, row_at, FillTheirRectangles};
 
-use crate::panes::Panes;
 use crate::placed::{Placed, rows_for};
 use crate::rect::Rect;
 use crate::side::Side;
+use rd_base::Memory;
 use rd_base::limits::{FRAME_COLUMNS, FRAME_ROWS, LEAST_WINDOW_COLUMNS, WINDOWS};
-use rd_base::{Cell, ListOf, Memory};
 use std::alloc::Global;
 use std::mem;
 
@@ -191,56 +189,6 @@ impl Node {
         }
     }
 
-    /// Adds the cells of a row at the end of a list, from what the windows show where they fill a rectangle: 0 is its first row.
-    pub(crate) fn put_row<P: Panes>(
-        &self,
-        panes: &P,
-        rect: Rect,
-        row: u32,
-        cells: &mut ListOf<Cell>,
-    ) -> Result<(), Memory>
-        requires room { HasRoom (shape self.now) rect }
-        requires inside { InFrame rect }
-        requires filled { FillTheirRectangles (P.rows_of panes.now) (placed (shape self.now) rect) }
-        requires within { row < rect.height }
-        ensures { OnOk result (cells.new ≡ cells.old ++ row_at row (composed (P.rows_of panes.now) (shape self.now) rect)) }
-    {
-        match self {
-            Node::Leaf {
-                number,
-                mode,
-                margins,
-            } => {
-                let window = Placed {
-                    number: *number,
-                    mode: *mode,
-                    margins: *margins,
-                    rect,
-                };
-                panes.put_row(window, row, cells)
-            }
-            Node::Split {
-                side,
-                size,
-                first,
-                second,
-            } => match side {
-                Side::Below => {
-                    if row < *size {
-                        first.put_row(panes, rect.first_part(*side, *size), row, cells)
-                    } else {
-                        let rest = rect.second_part(*side, *size);
-                        second.put_row(panes, rest, row - *size, cells)
-                    }
-                }
-                Side::Right => {
-                    first.put_row(panes, rect.first_part(*side, *size), row, cells)?;
-                    second.put_row(panes, rect.second_part(*side, *size), row, cells)
-                }
-            },
-        }
-    }
-
     /// Lets its windows share another rectangle, which meets their needs. A first part keeps its size where it can.
     pub(crate) fn resize(&mut self, rect: Rect)
         requires parts { FirstPartsFit (shape self.old) }
@@ -370,45 +318,26 @@ impl Node {
         }
     }
 
-    /// Lets the window with a number show a mode line or not.
-    pub(crate) fn show_mode(&mut self, window: u32, shown: bool)
-        ensures { shape self.new ≡ with_mode window shown (shape self.old) }
-    {
-        match self {
-            Node::Leaf { number, mode, .. } => {
-                if *number == window {
-                    *mode = shown;
-                }
-            }
-            Node::Split { first, second, .. } => {
-                if first.holds(window) {
-                    first.show_mode(window, shown);
-                } else {
-                    second.show_mode(window, shown);
-                }
-            }
-        }
-    }
-
-    /// Lets the margins of the window with a number take so many columns.
-    pub(crate) fn set_margins(&mut self, window: u32, columns: u32)
-        ensures { shape self.new ≡ with_margins window columns (shape self.old) }
+    /// Lets the window with a number show a mode line or not, and its margins take so many columns.
+    pub(crate) fn dress(&mut self, window: u32, shown: bool, columns: u32)
+        ensures { shape self.new ≡ replaced window (λ _ _. Window window shown columns) (shape self.old) }
     {
         match self {
             Node::Leaf {
                 number,
+                mode,
                 margins,
-                ..
             } => {
                 if *number == window {
+                    *mode = shown;
                     *margins = columns;
                 }
             }
             Node::Split { first, second, .. } => {
                 if first.holds(window) {
-                    first.set_margins(window, columns);
+                    first.dress(window, shown, columns);
                 } else {
-                    second.set_margins(window, columns);
+                    second.dress(window, shown, columns);
                 }
             }
         }

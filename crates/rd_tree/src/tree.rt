@@ -1,12 +1,11 @@
 //! The windows of a frame, which share its rows but the last.
 use crate::fault::TreeFault;
 use crate::node::Node;
-use crate::panes::Panes;
 use crate::placed::Placed;
 use crate::rect::Rect;
 use crate::side::Side;
+use rd_base::Memory;
 use rd_base::limits::{FRAME_COLUMNS, FRAME_ROWS, LEAST_WINDOW_COLUMNS, WINDOWS};
-use rd_base::{Cell, ListOf, Memory};
 use std::alloc::Global;
 use std::marker::Model;
 
@@ -41,10 +40,9 @@ impl Model for Tree {
 }
 
 impl Tree {
-    ghost use Rattle.std.specs.Prelude.{◌≡◌, ◌≤◌, ◌<◌, ◌++◌, slice_get, IfOk, OnOk, IfSome};
-    ghost use Rattle.rd_tree.specs.Windows.{window_at, leaves, placed};
+    ghost use Rattle.std.specs.Prelude.{◌≡◌, ◌≤◌, slice_get, IfOk, IfSome};
+    ghost use Rattle.rd_tree.specs.Windows.{window_at, leaves};
     ghost use Rattle.rd_tree.specs.Places.{LiesIn, StandsIn};
-    ghost use Rattle.rd_tree.specs.Compositions.{composed, row_at, FillTheirRectangles};
     ghost use Rattle.rd_tree.specs.Calls.{opening, frame_of, split_tree, remove_tree, resize_tree, mode_tree, margins_tree, rect_of, Answers, Splits, Removes, IsValid};
 
     /// The window 0, without a mode line and margins, in so many columns and rows: 11 to 400 columns, and 1 to 200 rows.
@@ -143,7 +141,7 @@ impl Tree {
         if !old.takes_mode(shown) {
             return Err(TreeFault::TooSmall);
         }
-        self.root.show_mode(window, shown);
+        self.root.dress(window, shown, old.margins);
         Ok(())
     }
 
@@ -158,7 +156,7 @@ impl Tree {
         if !old.takes_margins(columns) {
             return Err(TreeFault::TooSmall);
         }
-        self.root.set_margins(window, columns);
+        self.root.dress(window, old.mode, columns);
         Ok(())
     }
 
@@ -184,20 +182,6 @@ impl Tree {
         ensures inside { IfSome result (λ placed. StandsIn placed (frame_of self.now)) }
     {
         self.root.find(window, self.frame())
-    }
-
-    /// Adds the cells of a row at the end of a list, from what the windows show: 0 is the first row of the rectangle that they fill.
-    pub fn put_row<P: Panes>(
-        &self,
-        panes: &P,
-        row: u32,
-        cells: &mut ListOf<Cell>,
-    ) -> Result<(), Memory>
-        requires filled { FillTheirRectangles (P.rows_of panes.now) (placed self.now.windows (frame_of self.now)) }
-        requires within { row < self.now.height }
-        ensures { OnOk result (cells.new ≡ cells.old ++ row_at row (composed (P.rows_of panes.now) self.now.windows (frame_of self.now))) }
-    {
-        self.root.put_row(panes, self.frame(), row, cells)
     }
 
     /// Each tree is valid: each window has the columns and rows that it needs, and its number stands once. The call does nothing.

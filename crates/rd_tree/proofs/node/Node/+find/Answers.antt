@@ -1,18 +1,13 @@
 use Rattle.std.proofs.Common.{sym, ◌∙◌}
 use Rattle.rd_tree.specs.Shapes.{shape}
-use Rattle.rd_tree.proofs.Rooms.{fewer_first, fewer_second, room_within, first_in_frame, second_in_frame, first_found, second_found}
+use Rattle.rd_tree.proofs.Rooms.{room_within, first_lies, second_lies, first_found, second_found}
 use Rattle.rd_tree.proofs.node.Node.+find.Goals as goal
 
 pub find-requires : goal.find-requires
 find-requires t c =
     let s = c.in-Split in
-    let a = shape s.first.value in
-    let b = shape s.second.value in
-    let room = rw c.in-Split.is at c.requires.room in
-    let within = room_within s.side s.size a b c.args.rect room in (
-      rw c.deref.ensures (fewer_first a b t (rw c.in-Split.is at c.decreases)),
-      (rw (c.first_part.ensures, c.deref.ensures) room.0, rw c.first_part.ensures (first_in_frame s.side s.size c.args.rect c.requires.inside within)),
-    )
+    rw c.deref.ensures
+    (first_lies s.side s.size (shape s.first.value) (shape s.second.value) c.args.rect c.first_part.result t c.first_part.ensures (rw c.in-Split.is at c.requires.room) c.requires.inside (rw c.in-Split.is at c.decreases))
 
 pub second_part-requires-clause-within : goal.second_part-requires-clause-within
 second_part-requires-clause-within t c =
@@ -22,13 +17,8 @@ second_part-requires-clause-within t c =
 pub find-requires-in-None : goal.find-requires-in-None
 find-requires-in-None t c =
     let s = c.in-Split in
-    let a = shape s.first.value in
-    let b = shape s.second.value in
-    let room = rw c.in-Split.is at c.requires.room in
-    let within = room_within s.side s.size a b c.args.rect room in (
-      rw c.deref-in-None.ensures (fewer_second a b t (rw c.in-Split.is at c.decreases)),
-      (rw (c.second_part.ensures, c.deref-in-None.ensures) room.1, rw c.second_part.ensures (second_in_frame s.side s.size c.args.rect c.requires.inside within)),
-    )
+    rw c.deref-in-None.ensures
+    (second_lies s.side s.size (shape s.first.value) (shape s.second.value) c.args.rect c.second_part.result t c.second_part.ensures (rw c.in-Split.is at c.requires.room) c.requires.inside (rw c.in-Split.is at c.decreases))
 
 pub returns-in-None : goal.returns-in-None
 returns-in-None t c =

@@ -1,5 +1,5 @@
 use Rattle.rd_tree.specs.Shapes.{shape}
-use Rattle.rd_tree.proofs.Rooms.{fewer_first, fewer_second, room_first_parts, first_needs, second_needs, first_parts-first, room_within, first_in_frame, second_in_frame}
+use Rattle.rd_tree.proofs.Rooms.{room_first_parts, first_needs, second_needs, first_parts-first, room_within, first_lies, second_lies}
 use Rattle.rd_tree.specs.Windows.{Split}
 use Rattle.rd_tree.proofs.node.Node.+remove.Goals as goal
 
@@ -34,13 +34,8 @@ give_way-requires-then-is_leaf_of-2-clause-needs t c =
 pub remove-requires : goal.remove-requires
 remove-requires t c =
     let s = c.in-Split in
-    let a = shape s.first.value in
-    let b = shape s.second.value in
-    let room = rw c.in-Split.is at c.requires.room in
-    let within = room_within s.side s.size a b c.args.rect room in (
-      rw c.deref_mut-then-holds.ensures.value (fewer_first a b t (rw c.in-Split.is at c.decreases)),
-      (rw (c.first_part.ensures, c.deref_mut-then-holds.ensures.value) room.0, rw c.first_part.ensures (first_in_frame s.side s.size c.args.rect c.requires.inside within)),
-    )
+    rw c.deref_mut-then-holds.ensures.value
+    (first_lies s.side s.size (shape s.first.value) (shape s.second.value) c.args.rect c.first_part.result t c.first_part.ensures (rw c.in-Split.is at c.requires.room) c.requires.inside (rw c.in-Split.is at c.decreases))
 
 pub second_part-requires-clause-within : goal.second_part-requires-clause-within
 second_part-requires-clause-within t c =
@@ -50,10 +45,5 @@ second_part-requires-clause-within t c =
 pub remove-requires-else-holds : goal.remove-requires-else-holds
 remove-requires-else-holds t c =
     let s = c.in-Split in
-    let a = shape s.first.value in
-    let b = shape s.second.value in
-    let room = rw c.in-Split.is at c.requires.room in
-    let within = room_within s.side s.size a b c.args.rect room in (
-      rw c.deref_mut-else-holds.ensures.value (fewer_second a b t (rw c.in-Split.is at c.decreases)),
-      (rw (c.second_part.ensures, c.deref_mut-else-holds.ensures.value) room.1, rw c.second_part.ensures (second_in_frame s.side s.size c.args.rect c.requires.inside within)),
-    )
+    rw c.deref_mut-else-holds.ensures.value
+    (second_lies s.side s.size (shape s.first.value) (shape s.second.value) c.args.rect c.second_part.result t c.second_part.ensures (rw c.in-Split.is at c.requires.room) c.requires.inside (rw c.in-Split.is at c.decreases))
