@@ -1,62 +1,29 @@
 -- The cells of a line's number: their count, whole glyphs, and colours in their range.
-use Rattle.std.proofs.Common.{rules, tests, ◌≡◌, ℕ, zero, suc, ◌+◌, ◌-◌, ◌^◌, ◌<◌, ◌≤◌, Bool, true, false, List, [], ◌∷◌, ◌++◌, length, get_or, map, replicate, decimal, Some, All, refl, subst, ap, ◌∙◌, arith, length-append}
+use Rattle.std.proofs.Common.{◌≡◌, ℕ, zero, suc, ◌+◌, ◌-◌, ◌^◌, ◌<◌, ◌≤◌, Bool, true, false, List, [], ◌∷◌, ◌++◌, length, get_or, map, replicate, decimal, Some, All, refl, subst, ap, ◌∙◌, arith, length-append}
 use Rattle.std.specs.Prelude.{IfSome, Option, None, nat_le, if◌then◌else◌}
 use Rattle.std.proofs.lemmas.Bool.Decides.{nat_tests}
 use Rattle.std.proofs.lemmas.Fmt.{decimal_is_IsNumeral}
-use Rattle.std.proofs.lemmas.List.{get_or-replicate, length-map, length-replicate}
+use Rattle.std.proofs.lemmas.List.{length-map, length-replicate}
 use Rattle.std.proofs.lemmas.List.Elements.{All-append, All-cons, All-nil, All-replicate}
 use Rattle.std.proofs.lemmas.Str.Parse.{digit_at}
-use Rattle.unicode_width.specs.Width.{char_width}
-use Rattle.rd_base.specs.Chars.{is_scalar}
-use Rattle.rd_base.specs.Cells.{HasColours, IsColoured, single}
+use Rattle.rd_base.specs.Cells.{IsColoured, single}
 use Rattle.rd_base.specs.Faces.{plain}
-use Rattle.rd_base.specs.Glyphs.{IsGood, IsMeasured, IsRowAfter, blanks, is_space}
+use Rattle.rd_base.specs.Glyphs.{IsGood, IsRowAfter, blanks, is_space}
+use Rattle.rd_base.proofs.Colours.{plain-coloured, blanks-coloured}
+use Rattle.rd_base.proofs.Rows.{behind-whole, blanks-whole, printable-measured}
 use Rattle.rd_base.specs.declared.cell.Cell.{Cell}
-use Rattle.rd_base.specs.declared.cell.Cell.TheVariants.{Blank, First, Rest}
+use Rattle.rd_base.specs.declared.cell.Cell.TheVariants.{Blank}
 use Rattle.rd_margins.specs.Cells.{IsMargin, digit_cells, number_cells, sign}
 
 -- ---- the glyphs
-
-one-column : (c : ℕ) → 32 ≤ c → c < 127 → char_width false c ≡ Some 1
-unfolding char_width
-one-column c low high = grind (arith, nat_tests)
-
-measured : (c : ℕ) → 32 ≤ c → c < 127 → IsMeasured (single c 1)
-measured c low high =
-    let scalar : is_scalar c ≡ true = grind (arith, nat_tests) in
-    record {
-      scalar = search (rules, tests);
-      columns = one-column c low high;
-      some = omega arith;
-      few = omega arith;
-      places = refl;
-      count = omega arith;
-      marks = λ k p. absurd (omega arith);
-      rest = λ k p q. get_or-replicate 6 k 0 0 q;
-    }
 
 seen : (c : ℕ) → 32 < c → is_space (single c 1) ≡ false
 seen c low = grind (arith, nat_tests)
 
 good : (c : ℕ) → 32 < c → c < 127 → IsGood (single c 1)
-good c low high = record { measured = measured c (omega arith) high; seen = seen c low }
+good c low high = record { measured = printable-measured c (omega arith) high; seen = seen c low }
 
 -- ---- rows
-
--- whole cells behind whole cells
-pub rows-joined : (due : ℕ) (cells more : List Cell) → IsRowAfter due cells → IsRowAfter 0 more → IsRowAfter due (cells ++ more)
-rows-joined zero [] more row next = next
-rows-joined zero (Rest ∷ cells) more row next = elim row [ ]
-rows-joined zero (Blank f ∷ cells) more row next = rows-joined zero cells more row next
-rows-joined zero (First g f ∷ cells) more row next = (row.0, rows-joined (g.width - 1) cells more row.1 next)
-rows-joined (suc due) [] more row next = elim row [ ]
-rows-joined (suc due) (Blank f ∷ cells) more row next = elim row [ ]
-rows-joined (suc due) (First g f ∷ cells) more row next = elim row [ ]
-rows-joined (suc due) (Rest ∷ cells) more row next = rows-joined due cells more row next
-
-blanks-whole : (n : ℕ) → IsRowAfter 0 (blanks n plain)
-blanks-whole zero = tt
-blanks-whole (suc n) = blanks-whole n
 
 -- decimal digits
 abbrev AreDigits : List ℕ → Type 0
@@ -77,18 +44,18 @@ pluses-whole (suc n) = (good 43 (omega arith) (omega arith), pluses-whole n)
 pub blanks-margin : (n : ℕ) → IsMargin n (blanks n plain)
 blanks-margin n = record {
   count = length-replicate n (Blank plain);
-  whole = blanks-whole n;
-  coloured = All-replicate IsColoured n (Blank plain) (record { fg = omega arith; bg = omega arith });
+  whole = blanks-whole n plain;
+  coloured = blanks-coloured n plain plain-coloured;
 }
 
 signs-coloured : (cs : List ℕ) → All IsColoured (map sign cs)
 signs-coloured [] = All-nil IsColoured
-signs-coloured (c ∷ cs) = All-cons IsColoured (sign c) (map sign cs) (record { fg = omega arith; bg = omega arith }) (signs-coloured cs)
+signs-coloured (c ∷ cs) = All-cons IsColoured (sign c) (map sign cs) plain-coloured (signs-coloured cs)
 
 pub joined-margin : (n m : ℕ) (cells more : List Cell) → IsMargin n cells → IsMargin m more → IsMargin (n + m) (cells ++ more)
 joined-margin n m cells more a b = record {
   count = length-append cells more ∙ ap (λ (k : ℕ). k + length more) a.count ∙ ap (λ (k : ℕ). n + k) b.count;
-  whole = rows-joined 0 cells more a.whole b.whole;
+  whole = behind-whole 0 cells more a.whole b.whole;
   coloured = All-append IsColoured cells more a.coloured b.coloured;
 }
 
@@ -105,7 +72,7 @@ digits-margin columns cs digits = by-room (nat_le (length cs) columns) refl wher
   by-room false e = record {
     count = length-replicate columns (sign 43);
     whole = pluses-whole columns;
-    coloured = All-replicate IsColoured columns (sign 43) (record { fg = omega arith; bg = omega arith });
+    coloured = All-replicate IsColoured columns (sign 43) plain-coloured;
   }
 
 pub number-margin : (columns line : ℕ) → line < 2 ^ 64 → IsMargin (columns + 1) (number_cells (suc columns) (Some line))
@@ -119,6 +86,3 @@ numbers-margin columns None fits = blanks-margin columns
 numbers-margin zero (Some line) fits = blanks-margin 0
 numbers-margin (suc columns) (Some line) fits =
     subst (λ (n : ℕ). IsMargin n (number_cells (suc columns) (Some line))) (omega arith) (number-margin columns line fits)
-
-pub plain-coloured : HasColours plain
-plain-coloured = record { fg = omega arith; bg = omega arith }

@@ -3,11 +3,12 @@ use Rattle.std.specs.Prelude.{◌==◌, if◌then◌else◌, IfSome}
 use Rattle.std.proofs.lemmas.List.Elements.{All-nil}
 use Rattle.rd_base.specs.Chars.{is_code}
 use Rattle.rd_base.specs.Faces.{plain}
+use Rattle.rd_base.proofs.Colours.{plain-coloured}
 use Rattle.rd_glyphs.specs.Lines.{plain_cells}
 use Rattle.rd_ucd.specs.declared.spans.Span.{Span}
 use Rattle.rd_margins.specs.declared.rows.Widths.{Widths}
 use Rattle.rd_margins.specs.Cells.{IsMargin, margin_cells, number_cells}
-use Rattle.rd_margins.proofs.Whole.{joined-margin, numbers-margin, plain-coloured}
+use Rattle.rd_margins.proofs.Whole.{joined-margin, numbers-margin}
 use Rattle.rd_margins.proofs.laws.margins_are_whole.Goals as goal
 
 pub returns : goal.returns
