@@ -3,10 +3,10 @@ use Rattle.std.proofs.Common.{◌≡◌, ℕ, ◌+◌, ◌-◌, ◌<◌, ◌≤�
 use Rattle.std.specs.Io.KnownBytes.{Appends, Keeps}
 use Rattle.std.proofs.KnownBytes.{Appends-trans, Appends-kept}
 use Rattle.std.specs.Prelude.{slice_range}
-use Rattle.std.proofs.lemmas.List.{drop-take, drop-drop, length-take}
-use Rattle.std.proofs.Common.{IfSome, Ok, take-append-drop}
-use Rattle.std.proofs.Math.Seq.{take-append_seam, drop-append_seam}
-use Rattle.rd_io.specs.Devices.{Rose, AppendsFront, Fetches}
+use Rattle.std.proofs.lemmas.List.{drop-take, drop-drop, length-take, take-append-le}
+use Rattle.std.proofs.Common.{IfSome, Result, Ok, Err, take-append-drop}
+use Rattle.std.proofs.Math.Seq.{take-append_seam, take-append-add, drop-append_seam}
+use Rattle.rd_io.specs.Devices.{Rose, AppendsFront, Fetches, Writes}
 use Rattle.rd_io.specs.Files.{IsFront}
 
 -- a call that failed after others did so for the whole
@@ -27,6 +27,23 @@ pub front-stopped : (a b c : Option (List ℕ)) (bytes front rest : List ℕ) �
 front-stopped a b c bytes front rest e p q =
     let here : take (length front) bytes ≡ front = ap (take (length front)) e ∙ take-append_seam front rest in
     (length front, omega (arith, ap length e, length-append front rest), subst (Appends a c) (sym here) (Appends-kept a b c front p q))
+
+-- a front of some bytes is one of more
+pub front-before : (a b : Option (List ℕ)) (xs ys : List ℕ) → AppendsFront a b xs → AppendsFront a b (xs ++ ys)
+front-before a b xs ys front =
+    let n = front.0 in
+    (n, omega (arith, front.1, length-append xs ys), subst (Appends a b) (sym (take-append-le n xs ys front.1)) front.2)
+
+-- bytes were written, and then a front of others
+pub front-after : (a b c : Option (List ℕ)) (xs ys : List ℕ) → Appends a b xs → AppendsFront b c ys → AppendsFront a c (xs ++ ys)
+front-after a b c xs ys p front =
+    let n = front.0 in
+    (length xs + n, omega (arith, front.1, length-append xs ys), subst (Appends a c) (sym (take-append-add xs ys n)) (Appends-trans a b c xs (take n ys) p front.2))
+
+-- bytes were written, and then others, whole or in front
+pub writes-then : {T E : Type 0} (r : Result T E) (a b c : Option (List ℕ)) (front back : List ℕ) → Appends a b front → Writes b c back r → Writes a c (front ++ back) r
+writes-then (Ok x) a b c front back p q = record { whole = Appends-trans a b c front back p q.whole; front = tt }
+writes-then (Err x) a b c front back p q = record { whole = tt; front = front-after a b c front back p q.front }
 
 -- a write adds to the front, and the rest gets shorter
 pub front-written : (a b c : Option (List ℕ)) (bytes front rest back : List ℕ) (n : ℕ) → bytes ≡ front ++ rest → back ≡ drop n rest → Appends a b front → Appends b c (take n rest)

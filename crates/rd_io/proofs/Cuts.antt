@@ -2,26 +2,19 @@
 use Rattle.std.proofs.Common.{◌≡◌, ◌≢◌, ℕ, zero, suc, ◌+◌, ◌==◌, Bool, true, false, cond, List, [], ◌∷◌, ◌++◌, take, drop, Option, None, Some, refl, sym, ap, ◌∙◌, subst, append_assoc, arith, add-one, MatchOption}
 use Rattle.std.specs.List.{AllByRecursion, position_from}
 use Rattle.std.specs.Prelude.{position}
-use Rattle.std.proofs.lemmas.Bool.Decides.{nat_tests}
+use Rattle.std.proofs.lemmas.Bool.{eqb-true, eqb-false, ne_eqb}
 use Rattle.std.proofs.lemmas.Iterator.Adapters.{position_from-zero}
+use Rattle.rd_base.proofs.Lists.{each-append}
 use Rattle.rd_io.specs.Lines.{IsUnbroken, lines_of, text_of_lines, last_of}
 use Rattle.rd_io.specs.Pieces.{BreaksAt}
 
 pub unbroken-append : (xs ys : List ℕ) → IsUnbroken xs → IsUnbroken ys → IsUnbroken (xs ++ ys)
-unbroken-append [] ys p q = q
-unbroken-append (x ∷ xs) ys p q = (p.0, unbroken-append xs ys p.1 q)
+unbroken-append = each-append (λ b. b ≢ 10)
 
 pub unbroken-take : (n : ℕ) (xs : List ℕ) → IsUnbroken xs → IsUnbroken (take n xs)
 unbroken-take zero xs p = tt
 unbroken-take (suc n) [] p = tt
 unbroken-take (suc n) (x ∷ xs) p = (p.0, unbroken-take n xs p.1)
-
--- a test of a byte against 10 says which
-not_ten : (x : ℕ) → (x == 10) ≡ false → x ≢ 10
-not_ten x e = grind arith
-
-ten : (x : ℕ) → (x == 10) ≡ true → x ≡ 10
-ten x e = grind arith
 
 -- where a search from an index on leads
 abbrev pub Leads : ℕ → List ℕ → Option ℕ → Type 0
@@ -38,9 +31,9 @@ leads-on x xs from p (Some i) h =
 
 leads-at : (b : Bool) (x : ℕ) (xs : List ℕ) (from : ℕ) → (x == 10) ≡ b → (o : Option ℕ) → Leads (from + 1) xs o → Leads from (x ∷ xs) (cond b (Some from) o)
 leads-at true x xs from e o h =
-    let here : x ∷ xs ≡ 10 ∷ xs = ap (λ n. n ∷ xs) (ten x e) in
+    let here : x ∷ xs ≡ 10 ∷ xs = ap (λ n. n ∷ xs) (eqb-true x 10 e) in
     (0, omega arith, (omega arith, tt, here))
-leads-at false x xs from e o h = leads-on x xs from (not_ten x e) o h
+leads-at false x xs from e o h = leads-on x xs from (eqb-false x 10 e) o h
 
 position-leads : (xs : List ℕ) (from : ℕ) → Leads from xs (position_from (λ b. b == 10) from xs)
 position-leads [] from = tt
@@ -56,17 +49,14 @@ position-place xs o e = leads-place xs o (subst (Leads 0 xs) (sym (e ∙ positio
 
 -- ---- the law of lines
 
-not_ten_test : (x : ℕ) → x ≢ 10 → (x == 10) ≡ false
-not_ten_test x p = grind (arith, nat_tests)
-
 pub lines-whole : (line rest : List ℕ) → IsUnbroken line → lines_of (line ++ 10 ∷ rest) ≡ line ∷ lines_of rest
 lines-whole [] rest p = refl
-lines-whole (b ∷ bs) rest p = rw (not_ten_test b p.0, lines-whole bs rest p.1) refl
+lines-whole (b ∷ bs) rest p = rw (ne_eqb b 10 p.0, lines-whole bs rest p.1) refl
 
 pub lines-rest : (rest : List ℕ) → IsUnbroken rest → lines_of rest ≡ last_of rest
 lines-rest [] p = refl
-lines-rest (b ∷ []) p = rw (not_ten_test b p.0) refl
-lines-rest (b ∷ c ∷ cs) p = rw (not_ten_test b p.0, lines-rest (c ∷ cs) p.1) refl
+lines-rest (b ∷ []) p = rw (ne_eqb b 10 p.0) refl
+lines-rest (b ∷ c ∷ cs) p = rw (ne_eqb b 10 p.0, lines-rest (c ∷ cs) p.1) refl
 
 pub lines-text_of_lines : (lines : List (List ℕ)) (rest : List ℕ) → AllByRecursion IsUnbroken lines → IsUnbroken rest → lines_of (text_of_lines lines ++ rest) ≡ lines ++ last_of rest
 lines-text_of_lines [] rest p q = lines-rest rest q

@@ -1,5 +1,6 @@
 -- The reading of one line, step by step.
 use Rattle.std.proofs.Common.{◌≡◌, ℕ, ◌<◌, ◌≤◌, ◌⊎◌, inl, inr, List, [], ◌∷◌, ◌++◌, length, take, drop, Option, None, Some, Result, Ok, Err, refl, sym, ap, ◌∙◌, subst, append_assoc, append-nil, arith, length-append, Bool, true, ◌==◌}
+use Rattle.std.proofs.lemmas.Bool.{eqb-true}
 use Rattle.std.proofs.lemmas.List.{take-append-le}
 use Rattle.std.specs.Io.KnownBytes.{Consumes, Keeps, IsAtEnd}
 use Rattle.std.proofs.KnownBytes.{Consumes-trans, Consumes-nil, Consumes-kept}
@@ -109,13 +110,10 @@ gathers-end held first left line rest given Last g none end is =
     let few : given < 1000000 = elim g.few [ inl empty ↦ absurd (omega (arith, ap length empty)) | inr few ↦ few ] in
     (g.bytes, g.taken, (record { unbroken = g.unbroken; short = g.short; few = few }, come, none, is, end))
 
-zero_test : (n : ℕ) → (n == 0) ≡ true → n ≡ 0
-zero_test n e = grind arith
-
 -- a list of no element
 pub emptied : (xs ys : List ℕ) (b : Bool) → xs ≡ ys → b ≡ (length xs == 0) → b ≡ true → ys ≡ []
 emptied [] ys b e is t = sym e
-emptied (x ∷ xs) ys b e is t = absurd (omega (arith, zero_test (length (x ∷ xs)) (sym is ∙ t)))
+emptied (x ∷ xs) ys b e is t = absurd (omega (arith, eqb-true (length (x ∷ xs)) 0 (sym is ∙ t)))
 
 -- nothing was read before the bytes held at first were seen to have no newline
 pub unbroken-first : (held rest : List ℕ) (P : Type 0) → (P × (rest ≡ held)) ⊎ IsUnbroken held → IsUnbroken rest → IsUnbroken held

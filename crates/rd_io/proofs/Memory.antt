@@ -1,6 +1,7 @@
 -- Counts of files in memory.
-use Rattle.std.proofs.Common.{◌≡◌, ℕ, ◌+◌, ◌-◌, ◌^◌, ◌<◌, ◌≤◌, ◌==◌, inl, min, cond, true, List, [], ◌∷◌, ◌++◌, Option, None, Some, sym, ap, ◌∙◌, subst, arith}
+use Rattle.std.proofs.Common.{◌≡◌, ℕ, ◌+◌, ◌-◌, ◌^◌, ◌<◌, ◌≤◌, ◌==◌, inl, min, cond, List, [], ◌∷◌, ◌++◌, Option, None, Some, refl, sym, ap, ◌∙◌, subst, arith}
 use Rattle.std.proofs.lemmas.List.Sums.{sum_by_push}
+use Rattle.std.proofs.lemmas.Bool.{eq-eqb}
 use Rattle.std.proofs.lemmas.Bool.Decides.{nat_tests}
 use Rattle.std.specs.List.{count_by}
 use Rattle.rd_io.specs.Devices.{Rose, Fetches}
@@ -15,16 +16,13 @@ pub rose-missing : (o : Option ℕ) (failed : List ℕ) (m n : ℕ) → o ≡ No
 rose-missing None failed m n none e = counted m n e
 rose-missing (Some place) failed m n none e = absurd (let no : Some place ≡ None = none in cc)
 
-same_test : (n : ℕ) → (n == n) ≡ true
-same_test n = grind (arith, nat_tests)
-
 -- a failure at a file is noted
 pub rose-place : (o : Option ℕ) (failed new : List ℕ) (m place : ℕ) → o ≡ Some place → new ≡ failed ++ place ∷ [] → Rose (faults_at o failed m) (faults_at o new m)
 rose-place None failed new m place e is = absurd (let no : None ≡ Some place = e in cc)
 rose-place (Some p) failed new m place e is =
     let same : p ≡ place = cc in
     let more : count_by (λ q. q == place) new ≡ count_by (λ q. q == place) failed + 1 =
-    ap (count_by (λ q. q == place)) is ∙ sum_by_push (λ q. cond (q == place) 1 0) failed place ∙ ap (λ b. count_by (λ q. q == place) failed + cond b 1 0) (same_test place) in
+    ap (count_by (λ q. q == place)) is ∙ sum_by_push (λ q. cond (q == place) 1 0) failed place ∙ ap (λ b. count_by (λ q. q == place) failed + cond b 1 0) (eq-eqb place place refl) in
     let P : ℕ → Type 0 = λ k. Rose (count_by (λ q. q == k) failed) (count_by (λ q. q == k) new) in
     subst P (sym same) (inl (omega arith))
 
