@@ -51,7 +51,7 @@ filled-seam a m c from to v p q =
     let below = ap (drop to) (sym (append_assoc a m c)) ∙ drop_at (a ++ m) c to n in
     rw (above, below) refl
 
-two-parts : {X : Type 0} (a m : ℕ) (xs : List X) → a ≤ m → take (m - a) (drop a xs) ++ drop m xs ≡ drop a xs
+pub two-parts : {X : Type 0} (a m : ℕ) (xs : List X) → a ≤ m → take (m - a) (drop a xs) ++ drop m xs ≡ drop a xs
 two-parts a m xs le =
     let sum : a + (m - a) ≡ m = omega arith in
     ap (λ ys. take (m - a) (drop a xs) ++ ys) (sym (ap (λ j. drop j xs) sum) ∙ sym (drop-drop (m - a) a xs))

@@ -1,7 +1,7 @@
 -- The bytes of a character, read by a terminal that stands between two sequences.
 use Rattle.std.proofs.Common.{◌≡◌, ℕ, ◌+◌, ◌-◌, ◌*◌, ◌/◌, ◌%◌, ◌<◌, ◌≤◌, ◌==◌, Bool, true, false, nat_lt, nat_le, List, [], ◌∷◌, Option, Some, refl, sym, ap, ◌∙◌, arith, inl, inr}
 use Rattle.std.specs.Char.{encode_utf8}
-use Rattle.std.proofs.lemmas.Bool.{cases_lt, cases_eq}
+use Rattle.std.proofs.lemmas.Bool.{cases_lt, cases_eq, le-ltb, ne_eqb}
 use Rattle.std.proofs.lemmas.Bool.Decides.{nat_tests}
 use Rattle.rd_base.specs.Chars.{is_scalar}
 use Rattle.rd_base.specs.Faces.{Attributes}
@@ -111,17 +111,6 @@ begun-four n low high =
     let j : nat_le (240 + n) 243 ≡ true = grind (arith, nat_tests) in
     rw (t, u, v, w, x, y, z, i, j, e) refl
 
--- ---- bounds of bytes
-
-at-least : (n low : ℕ) → low ≤ n → nat_lt n low ≡ false
-at-least n low le = grind (arith, nat_tests)
-
-at-most : (n high : ℕ) → n ≤ high → nat_lt high n ≡ false
-at-most n high le = grind (arith, nat_tests)
-
-other : (n k : ℕ) → k < n → (n == k) ≡ false
-other n k lt = grind (arith, nat_tests)
-
 -- ---- all characters
 
 scalar-high : (code : ℕ) → is_scalar code ≡ true → 55296 ≤ code → 57344 ≤ code
@@ -136,27 +125,27 @@ fed-two region rows cursor wait pen latest code low high =
     let n : code / 64 < 32 = omega arith in
     let m : 2 ≤ code / 64 = omega arith in
     two-fed region rows cursor wait pen latest code (192 + code / 64) (128 + code % 64) (code / 64)
-    (other (192 + code / 64) 27 (omega arith)) (at-least (192 + code / 64) 128 (omega arith)) (begun-two (code / 64) m n)
-    (at-least (128 + code % 64) 128 (omega arith)) (at-most (128 + code % 64) 191 (omega arith)) (omega arith)
+    (ne_eqb (192 + code / 64) 27 (λ e. omega arith)) (le-ltb (192 + code / 64) 128 (omega arith)) (begun-two (code / 64) m n)
+    (le-ltb (128 + code % 64) 128 (omega arith)) (le-ltb 191 (128 + code % 64) (omega arith)) (omega arith)
 
 fed-three : (region : Option (ℕ × ℕ)) (rows : Rows) (cursor : Option (ℕ × ℕ)) (wait : Bool) (pen : Option Attributes) (latest : Option (ℕ × ℕ)) (code bits low high : ℕ)
     → code < 65536 → bits ≡ code / 4096 → begun (224 + code / 4096) ≡ read bits 2 low high → low ≤ 128 + code / 64 % 64 → 128 + code / 64 % 64 ≤ high
     → Fed region rows cursor wait pen latest code ((224 + code / 4096) ∷ (128 + code / 64 % 64) ∷ (128 + code % 64) ∷ [])
 fed-three region rows cursor wait pen latest code bits low high most e b l h =
     three-fed region rows cursor wait pen latest code (224 + code / 4096) (128 + code / 64 % 64) (128 + code % 64) bits low high
-    (other (224 + code / 4096) 27 (omega arith)) (at-least (224 + code / 4096) 128 (omega arith)) b
-    (at-least (128 + code / 64 % 64) low l) (at-most (128 + code / 64 % 64) high h)
-    (at-least (128 + code % 64) 128 (omega arith)) (at-most (128 + code % 64) 191 (omega arith)) (omega arith)
+    (ne_eqb (224 + code / 4096) 27 (λ e. omega arith)) (le-ltb (224 + code / 4096) 128 (omega arith)) b
+    (le-ltb (128 + code / 64 % 64) low l) (le-ltb high (128 + code / 64 % 64) h)
+    (le-ltb (128 + code % 64) 128 (omega arith)) (le-ltb 191 (128 + code % 64) (omega arith)) (omega arith)
 
 fed-four : (region : Option (ℕ × ℕ)) (rows : Rows) (cursor : Option (ℕ × ℕ)) (wait : Bool) (pen : Option Attributes) (latest : Option (ℕ × ℕ)) (code bits low high : ℕ)
     → code < 1114112 → bits ≡ code / 262144 → begun (240 + code / 262144) ≡ read bits 3 low high → low ≤ 128 + code / 4096 % 64 → 128 + code / 4096 % 64 ≤ high
     → Fed region rows cursor wait pen latest code ((240 + code / 262144) ∷ (128 + code / 4096 % 64) ∷ (128 + code / 64 % 64) ∷ (128 + code % 64) ∷ [])
 fed-four region rows cursor wait pen latest code bits low high most e b l h =
     four-fed region rows cursor wait pen latest code (240 + code / 262144) (128 + code / 4096 % 64) (128 + code / 64 % 64) (128 + code % 64) bits low high
-    (other (240 + code / 262144) 27 (omega arith)) (at-least (240 + code / 262144) 128 (omega arith)) b
-    (at-least (128 + code / 4096 % 64) low l) (at-most (128 + code / 4096 % 64) high h)
-    (at-least (128 + code / 64 % 64) 128 (omega arith)) (at-most (128 + code / 64 % 64) 191 (omega arith))
-    (at-least (128 + code % 64) 128 (omega arith)) (at-most (128 + code % 64) 191 (omega arith)) (omega arith)
+    (ne_eqb (240 + code / 262144) 27 (λ e. omega arith)) (le-ltb (240 + code / 262144) 128 (omega arith)) b
+    (le-ltb (128 + code / 4096 % 64) low l) (le-ltb high (128 + code / 4096 % 64) h)
+    (le-ltb (128 + code / 64 % 64) 128 (omega arith)) (le-ltb 191 (128 + code / 64 % 64) (omega arith))
+    (le-ltb (128 + code % 64) 128 (omega arith)) (le-ltb 191 (128 + code % 64) (omega arith)) (omega arith)
 
 -- three bytes, by the bounds of the second
 fed-three-all : (region : Option (ℕ × ℕ)) (rows : Rows) (cursor : Option (ℕ × ℕ)) (wait : Bool) (pen : Option Attributes) (latest : Option (ℕ × ℕ)) (code : ℕ)

@@ -14,9 +14,10 @@ Rows = List (List (Option Cell))
 abbrev pub IsWhole : Rows → Option (ℕ × ℕ) → Option (ℕ × ℕ) → Option (ℕ × ℕ) → Type 0
 IsWhole rows cursor latest region = IsTerminal rows cursor × IsWithin rows latest × HasRegion rows region
 
-width-kept : (w : ℕ) (new : Rows) → 0 < length new → IsGrid w new → width_of new ≡ w
-width-kept w [] some h = absurd (omega arith)
-width-kept w (row ∷ new) some h = h 0 [] (omega arith)
+-- some rows of one width are as wide
+pub grid-width : {A : Type 0} (width : ℕ) (rows : List (List A)) → 0 < length rows → IsGrid width rows → width_of rows ≡ width
+grid-width width [] some h = absurd (omega arith)
+grid-width width (row ∷ rows) some h = h 0 [] (omega arith)
 
 some-rows : (rows : Rows) → 0 < width_of rows → 0 < length rows
 some-rows [] some = absurd (omega arith)
@@ -27,7 +28,7 @@ pub whole-kept : (rows new : Rows) (cursor next latest region : Option (ℕ × �
     → length new ≡ length rows → IsGrid (width_of rows) new → IsWithin rows next → IsWhole new next latest region
 whole-kept rows new cursor next latest region h n grid place =
     let some : 0 < length new = omega (arith, some-rows rows h.0.some) in
-    let w = width-kept (width_of rows) new some grid in (
+    let w = grid-width (width_of rows) new some grid in (
       record { each = rw w grid; some = rw w h.0.some; wide = rw w h.0.wide; tall = rw n h.0.tall; place = rw (w, n) place },
       rw (w, n) h.1,
       rw n h.2,
@@ -95,11 +96,12 @@ pub whole-set : (rows : Rows) (cursor next latest region : Option (ℕ × ℕ)) 
 whole-set rows cursor next latest region row new h long place =
     whole-kept rows (set rows row new) cursor next latest region h (length-set rows row new) (All-set (λ r. length r ≡ width_of rows) rows row new long h.0.each) place
 
-pub whole-moved : (rows : Rows) (cursor latest region : Option (ℕ × ℕ)) (from end : ℕ) (change : Rows → Rows) → IsWhole rows cursor latest region
+-- rows of which a part is moved
+pub whole-moved : {tall : ℕ} (rows : Rows) (cursor latest region : Option (ℕ × ℕ)) (from end : ℕ) (change : Rows → Rows) → IsWhole rows cursor latest region
     → ((xs : Rows) → length (change xs) ≡ length xs) → ((xs : Rows) → IsGrid (width_of rows) xs → IsGrid (width_of rows) (change xs))
-    → from ≤ end → end ≤ length rows → IsWhole (changed_between from end change rows) None latest region
-whole-moved rows cursor latest region from end change h long wide order within =
-    whole-kept rows (changed_between from end change rows) cursor None latest region h (length-between from end change rows long order within)
+    → length rows ≡ tall → (from ≤ end) × (end ≤ tall) → IsWhole (changed_between from end change rows) None latest region
+whole-moved rows cursor latest region from end change h long wide total part =
+    whole-kept rows (changed_between from end change rows) cursor None latest region h (length-between from end change rows long part.0 (omega (arith, part.1, total)))
     (grid-between (width_of rows) from end change rows wide h.0.each) tt
 
 -- another row with the latest character and the cursor in it

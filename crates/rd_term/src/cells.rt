@@ -2,6 +2,7 @@
 ghost use Rattle.std.specs.Prelude.{◌≡◌, ◌+◌, ◌<◌, ◌≤◌, IfOk, length, replicate, slice_set};
 ghost use Rattle.rd_term.specs.Pictures.{blank_row, written_over};
 
+use rd_base::limits::FRAME_COLUMNS;
 use rd_base::{Cell, Face, Memory};
 use std::alloc::Global;
 use std::marker::Model;
@@ -62,6 +63,15 @@ impl ScreenRow {
     {
         self.cells[column..column + cells.len()].copy_from_slice(cells);
     }
+}
+
+/// So many of the blank cells of the widest row.
+pub fn first_blanks(blanks: &[Cell], columns: u32) -> &[Cell]
+    requires blanks { blanks.now ≡ blank_row FRAME_COLUMNS }
+    requires columns { columns ≤ FRAME_COLUMNS }
+    ensures { result.now ≡ blank_row columns }
+{
+    &blanks[..columns as usize]
 }
 
 /// So many rows of plain blanks.

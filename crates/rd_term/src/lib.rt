@@ -17,6 +17,7 @@ mod screen;
 mod shifting;
 mod terminal;
 
+pub use cells::first_blanks;
 pub use laws::{a_cut_makes_no_difference, characters_are_read};
 pub use pen::{dressed, is_rendition};
 pub use screen::Screen;

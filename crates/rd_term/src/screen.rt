@@ -1,5 +1,5 @@
 //! A screen of cells with a cursor.
-ghost use Rattle.std.specs.Prelude.{◌≡◌, ◌+◌, ◌<◌, ◌≤◌, IfOk, length};
+ghost use Rattle.std.specs.Prelude.{◌≡◌, ◌+◌, ◌<◌, ◌≤◌, IfOk, length, slice_set};
 ghost use Rattle.rd_term.specs.Pictures.{IsScreen, blank_picture, width_of, row_at, cell_at, with_cell, with_cells};
 
 use crate::cells::{ScreenRow, blank_rows};
@@ -60,7 +60,8 @@ impl Screen {
     /// The cells of a row.
     pub fn row(&self, row: u32) -> &[Cell]
         requires { row < length self.now.rows }
-        ensures { result.now ≡ row_at self.now.rows row }
+        ensures cells { result.now ≡ row_at self.now.rows row }
+        ensures width { length result.now ≡ width_of self.now.rows }
     {
         self.rows[row as usize].as_slice()
     }
@@ -92,6 +93,17 @@ impl Screen {
     {
         let old = &mut self.rows[row as usize];
         old.put(column as usize, cells);
+    }
+
+    /// Puts other cells in place of a row's.
+    pub fn set_row(&mut self, row: u32, cells: &[Cell])
+        requires row { row < length self.old.rows }
+        requires width { length cells.now ≡ width_of self.old.rows }
+        ensures screen { self.new ≡ record self.old { rows = slice_set self.old.rows row cells.now } }
+        ensures width { width_of self.new.rows ≡ width_of self.old.rows }
+    {
+        let _width = self.width();
+        self.set_cells(row, 0, cells);
     }
 
     /// The cursor's row and column.
