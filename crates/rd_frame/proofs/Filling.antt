@@ -5,7 +5,8 @@ use Rattle.std.specs.List.{All, AllByRecursion}
 use Rattle.std.proofs.lemmas.List.{length-map, length-replicate}
 use Rattle.std.proofs.lemmas.List.Elements.{recursion_from_All, All-from_recursion, All-nil, All-cons, All-append, All-map, All-replicate, All-weaker}
 use Rattle.rd_base.specs.declared.cell.Cell.{Cell}
-use Rattle.rd_term.specs.Pictures.{blank, blank_row, width_of, IsGrid, IsOfSize}
+use Rattle.rd_term.specs.Pictures.{blank, blank_row, width_of, IsOfSize}
+use Rattle.rd_term.proofs.Shapes.{grid-width}
 use Rattle.rd_tree.specs.Calls.{frame_of}
 use Rattle.rd_tree.specs.Compositions.{composed, HasSize, FillTheirRectangles}
 use Rattle.rd_tree.specs.Places.{AllHaveRoom, StandsIn}
@@ -161,10 +162,6 @@ pub some-stands : (f : FrameValues) (selected : Option Placed) → ((window : Pl
 some-stands f None h = tt
 some-stands f (Some window) h = h window refl
 
-pub width-kept : {A : Type 0} (width : ℕ) (rows : List (List A)) → 0 < length rows → IsGrid width rows → width_of rows ≡ width
-width-kept width [] some h = absurd (omega arith)
-width-kept width (row ∷ rows) some h = h 0 [] (omega arith)
-
 -- the target screen has the frame's size
 pub frame-size : (f : FrameValues) → HasSize f.tree.width f.tree.height (composed (rows_of f) f.tree.windows (frame_of f.tree)) → IfSome (selected_window f) (λ window. StandsIn window (frame_of f.tree)) → FitsFrame f
     → IsOfSize f.tree.width (f.tree.height + 1) (frame_picture f)
@@ -179,7 +176,7 @@ frame-size f size stands fits =
     }
 
 pub frame-width : (f : FrameValues) → IsOfSize f.tree.width (f.tree.height + 1) (frame_picture f) → width_of (frame_rows f) ≡ f.tree.width
-frame-width f size = width-kept f.tree.width (frame_rows f) (let n = size.rows in omega arith) size.each
+frame-width f size = grid-width f.tree.width (frame_rows f) (let n = size.rows in omega arith) size.each
 
 -- what holds of each part of a frame holds of its rows
 pub echo-each : (P : List Cell → Type 0) (f : FrameValues) → All P (composed (rows_of f) f.tree.windows (frame_of f.tree)) → P f.echo → All P (frame_rows f)

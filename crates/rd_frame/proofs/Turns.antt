@@ -1,7 +1,8 @@
 -- A window that is painted in its turn.
-use Rattle.std.proofs.Common.{◌≡◌, ℕ, zero, suc, ◌+◌, ◌-◌, ◌<◌, ◌≤◌, Some, List, [], ◌∷◌, length, drop, get_or, sym, subst, ◌∙◌, ap, arith}
+use Rattle.std.proofs.Common.{◌≡◌, ℕ, ◌+◌, ◌-◌, ◌≤◌, Some, List, ◌∷◌, length, drop, sym, subst, ◌∙◌, ap, arith}
 use Rattle.std.specs.Prelude.{slice_get}
 use Rattle.std.proofs.lemmas.List.{drop_more}
+use Rattle.std.proofs.lemmas.Option.{get_or_from_slice_get, slice_get_within}
 use Rattle.std.proofs.lemmas.List.Elements.{recursion_from_All, All-from_recursion}
 use Rattle.rd_base.specs.declared.cell.Cell.{Cell}
 use Rattle.rd_term.specs.Pictures.{width_of}
@@ -14,18 +15,9 @@ use Rattle.rd_frame.specs.Fits.{FitsWindow, FitsFrame, StandsOn}
 use Rattle.rd_frame.specs.Frames.{FrameValues, rows_of}
 use Rattle.rd_frame.specs.Paints.{painted}
 use Rattle.rd_frame.specs.Turns.{IsTurn}
-use Rattle.rd_frame.proofs.Filling.{width-kept, window-size}
+use Rattle.rd_term.proofs.Shapes.{grid-width}
+use Rattle.rd_frame.proofs.Filling.{window-size}
 use Rattle.rd_frame.proofs.Painting.{laid_at, at-rectangle, at-length, at-grid}
-
-found-inside : {A : Type 0} (xs : List A) (i : ℕ) (x : A) → slice_get xs i ≡ Some x → i < length xs
-found-inside [] i x e = absurd (cc)
-found-inside (y ∷ xs) zero x e = omega arith
-found-inside (y ∷ xs) (suc i) x e = let rest = found-inside xs i x e in omega arith
-
-found-there : {A : Type 0} (xs : List A) (i : ℕ) (x d : A) → slice_get xs i ≡ Some x → get_or xs i d ≡ x
-found-there [] i x d e = absurd (cc)
-found-there (y ∷ xs) zero x d e = cc
-found-there (y ∷ xs) (suc i) x d e = found-there xs i x d e
 
 stands-on : (width height : ℕ) (window : Placed) (rows : List (List Cell)) → StandsIn window (frame width height) → width_of rows ≡ width → length rows ≡ height + 1 → StandsOn window rows
 stands-on width height window rows stands wide tall =
@@ -43,9 +35,9 @@ size-kept width height columns count y column news rows size new room = (
 pub painted-turn : (f : FrameValues) (i : ℕ) (window : Placed) (rows : List (List Cell)) → FitsFrame f → HasSize f.tree.width (f.tree.height + 1) rows → StandsIn window (frame_of f.tree) → slice_get (placed f.tree.windows (frame_of f.tree)) i ≡ Some window → IsTurn f i window rows
 painted-turn f i window rows frame size stands here =
     let windows = placed f.tree.windows (frame_of f.tree) in
-    let inside = found-inside windows i window here in
-    let there = found-there windows i window window here in
-    let wide : width_of rows ≡ f.tree.width = width-kept f.tree.width rows (let n = size.0 in omega arith) size.1 in
+    let inside = slice_get_within windows i window here in
+    let there = get_or_from_slice_get windows i window window here in
+    let wide : width_of rows ≡ f.tree.width = grid-width f.tree.width rows (let n = size.0 in omega arith) size.1 in
     let fits : FitsWindow f.tree.width (f.panes window) window = subst (λ (w : Placed). FitsWindow f.tree.width (f.panes w) w) there (frame.windows i window inside) in
     let rect = window.rect in
     let within = stands.0 in

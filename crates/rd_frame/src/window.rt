@@ -11,7 +11,7 @@ use crate::pane::{Pane, body_height, body_width, has_border};
 use rd_base::limits::FRAME_COLUMNS;
 use rd_base::{Cell, Face, ListOf};
 use rd_matrix::Matrix;
-use rd_term::Screen;
+use rd_term::{Screen, first_blanks};
 use rd_tree::Placed;
 
 /// Paints a window over its rectangle of a screen, whose last row is the echo area: the rows of its matrix behind their margins, blank
@@ -85,19 +85,10 @@ fn paint_blanks(screen: &mut Screen, window: Placed, border: &Cell, from: u32)
     ensures rows { length screen.new.rows ≡ length screen.old.rows }
 {
     let blanks = [Cell::Blank(Face::PLAIN); FRAME_COLUMNS as usize];
-    let blank = first(&blanks, window.margins + body_width(screen.width(), window));
+    let blank = first_blanks(&blanks, window.margins + body_width(screen.width(), window));
     for row in from..body_height(window) {
         paint_row(screen, window, border, row, &[], blank);
     }
-}
-
-/// So many of the blank cells of the widest row.
-fn first(blanks: &[Cell], columns: u32) -> &[Cell]
-    requires blanks { blanks.now ≡ blank_row FRAME_COLUMNS }
-    requires columns { columns ≤ FRAME_COLUMNS }
-    ensures { result.now ≡ blank_row columns }
-{
-    &blanks[..columns as usize]
 }
 
 /// Paints a row of a window's text: its margins, its text, and the border.

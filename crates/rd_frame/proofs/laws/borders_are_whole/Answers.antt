@@ -2,7 +2,8 @@ use Rattle.std.specs.Prelude.{All, Option, None, Some, [], ◌∷◌}
 use Rattle.rd_base.specs.Cells.{IsColoured, single}
 use Rattle.rd_base.specs.declared.cell.Glyph.{Glyph}
 use Rattle.rd_frame.specs.Panes.{border_cell}
-use Rattle.rd_frame.proofs.Whole.{mark-whole, mark-coloured, bar-mark}
+use Rattle.rd_rows.proofs.Marks.{mark-whole}
+use Rattle.rd_frame.proofs.Whole.{mark-coloured, bar-mark}
 use Rattle.rd_frame.proofs.laws.borders_are_whole.Goals as goal
 
 pub returns : goal.returns

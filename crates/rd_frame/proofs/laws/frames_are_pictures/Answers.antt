@@ -1,13 +1,16 @@
 use Rattle.std.proofs.Common.{◌+◌, arith}
 use Rattle.std.specs.Prelude.{All}
+use Rattle.std.proofs.lemmas.List.Elements.{All-append}
 use Rattle.rd_base.specs.Cells.{AreColoured, IsColoured}
+use Rattle.rd_base.specs.Faces.{plain}
 use Rattle.rd_base.specs.Glyphs.{IsRowAfter}
+use Rattle.rd_base.proofs.Colours.{blanks-coloured, plain-coloured}
+use Rattle.rd_base.proofs.Rows.{behind-whole, blanks-whole}
 use Rattle.rd_term.specs.Pictures.{IsOfSize, IsWellFormed}
 use Rattle.rd_tree.specs.Calls.{frame_of}
 use Rattle.rd_frame.specs.Frames.{FrameValues, rows_of, frame_rows, selected_window, frame_picture}
 use Rattle.rd_frame.specs.Fits.{FitsFrame, IsWholeFrame, IsColouredFrame}
 use Rattle.rd_frame.proofs.Filling.{frame-filled, frame-size, frame-width, some-stands, echo-each, windows-each}
-use Rattle.rd_frame.proofs.Whole.{both-whole, blanks-whole, both-coloured, blanks-coloured}
 use Rattle.rd_frame.proofs.laws.frames_are_pictures.Goals as goal
 
 pub returns : goal.returns
@@ -23,7 +26,7 @@ returns c = record { size = size; whole = whole; coloured = coloured } where
   whole f fits each =
       let s = size f fits in
       let w = frame-width f s in
-      let rows = c.frames_are_composed.ensures.whole (rows_of f) f.tree.windows (frame_of f.tree) (windows-each (IsRowAfter 0) both-whole blanks-whole f each) in
+      let rows = c.frames_are_composed.ensures.whole (rows_of f) f.tree.windows (frame_of f.tree) (windows-each (IsRowAfter 0) (behind-whole 0) (λ columns. blanks-whole columns plain) f each) in
       record {
         glyphs = echo-each (IsRowAfter 0) f rows each.echo;
         row = let n = s.rows in let r = s.row in omega arith;
@@ -32,5 +35,5 @@ returns c = record { size = size; whole = whole; coloured = coloured } where
 
   coloured : (f : FrameValues) → IsColouredFrame f → AreColoured (frame_rows f)
   coloured f each =
-      let rows = c.frames_are_composed.ensures.coloured (rows_of f) f.tree.windows (frame_of f.tree) (windows-each (All IsColoured) both-coloured blanks-coloured f each) in
+      let rows = c.frames_are_composed.ensures.coloured (rows_of f) f.tree.windows (frame_of f.tree) (windows-each (All IsColoured) (All-append IsColoured) (λ columns. blanks-coloured columns plain plain-coloured) f each) in
       echo-each (All IsColoured) f rows each.echo

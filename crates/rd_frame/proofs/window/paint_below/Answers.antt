@@ -4,7 +4,7 @@ use Rattle.rd_term.specs.Pictures.{Picture, blank_row, width_of}
 use Rattle.rd_frame.specs.Panes.{body_height, body_width, bordered}
 use Rattle.rd_frame.specs.Paints.{laid_from}
 use Rattle.rd_frame.proofs.Painting.{at-rectangle}
-use Rattle.rd_frame.proofs.Screens.{laid_on, laid-none}
+use Rattle.rd_frame.proofs.Screens.{laid-none}
 use Rattle.rd_frame.proofs.window.paint_below.Goals as goal
 
 -- no row is below

@@ -36,15 +36,15 @@ loop-row-preserved c =
     let test = c.loop-row-test.true in
     let end = c.body_height-row-end.ensures in
     let low = c.loop-row.auto.row in
-    let blank : c.first-blank.result.now ≡ blank_row columns
-    = c.first-blank.ensures ∙ (ap (λ (n : ℕ). blank_row (window.margins + n)) c.body_width.ensures ∙ ap (λ (n : ℕ). blank_row (window.margins + body_width n window)) c.width.ensures.value) in
-    let here : get_or all i [] ≡ beside c.first-blank.result.now
+    let blank : c.first_blanks-blank.result.now ≡ blank_row columns
+    = c.first_blanks-blank.ensures ∙ (ap (λ (n : ℕ). blank_row (window.margins + n)) c.body_width.ensures ∙ ap (λ (n : ℕ). blank_row (window.margins + body_width n window)) c.width.ensures.value) in
+    let here : get_or all i [] ≡ beside c.first_blanks-blank.result.now
     = row-of-blanks (bordered width window border) count columns i (omega arith)
     ∙ (ap (λ (n : ℕ). bordered n window border (blank_row columns)) (sym c.loop-row.invariant.columns) ∙ ap beside (sym blank)) in
     let inside : i < length all = omega (arith, length-map (replicate count (blank_row columns)) (bordered width window border), length-replicate count (blank_row columns)) in
     let more : i + 1 ≡ row + 1 - from = omega arith in
     record {
-      painted = laid-step screen c.loop-row.screen c.paint_row.new.screen (window.rect.y + from) (window.rect.y + row) window.rect.x i all (beside c.first-blank.result.now)
+      painted = laid-step screen c.loop-row.screen c.paint_row.new.screen (window.rect.y + from) (window.rect.y + row) window.rect.x i all (beside c.first_blanks-blank.result.now)
           inside (omega arith) here c.loop-row.invariant.painted c.paint_row.ensures.painted
           ∙ ap (λ (n : ℕ). laid_on screen (window.rect.y + from) window.rect.x (take n all)) more;
       columns = c.paint_row.ensures.columns ∙ c.loop-row.invariant.columns;
