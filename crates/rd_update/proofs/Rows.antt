@@ -3,8 +3,9 @@ use Rattle.std.proofs.Common.{◌≡◌, if◌then◌else◌, ◌⊎◌, inl, in
 use Rattle.std.specs.List.{AllByRecursion}
 use Rattle.std.proofs.lemmas.Bool.{cases_lt}
 use Rattle.std.proofs.lemmas.Bool.Decides.{nat_tests}
-use Rattle.std.proofs.lemmas.List.{get_or_at, set_at, take_at, length-append, length-map, length-take-le, length-drop, map-append, drop-drop, length-replicate}
-use Rattle.rd_base.specs.Cells.{HasColours, IsColoured}
+use Rattle.std.proofs.lemmas.List.{get_or_at, set_at, take-take, take_at, length-append, length-map, length-take-le, length-drop, map-append, drop-drop, length-replicate}
+use Rattle.rd_base.proofs.Colours.{plain-coloured}
+use Rattle.rd_base.specs.Cells.{IsColoured}
 use Rattle.rd_base.specs.Faces.{plain}
 use Rattle.rd_base.specs.Glyphs.{IsRowAfter}
 use Rattle.rd_base.specs.declared.cell.Cell.{Cell}
@@ -109,9 +110,6 @@ erase_fed region above below row column latest first le =
     ∙ ap (λ (r : Row). State (set (above ++ row ∷ below) (length above) r)) over
     ∙ ap State rows
 
-plain-coloured : HasColours plain
-plain-coloured = record { fg = omega arith; bg = omega arith }
-
 empty : {A : Type 0} (xs : List A) → length xs ≡ 0 → xs ≡ []
 empty [] e = refl
 empty (x ∷ xs) e = absurd (cc)
@@ -173,12 +171,6 @@ row-end region above below front back many cells rest false t fed gone kept =
     }
 
 -- ---- a row that differs
-
-take-take : {A : Type 0} (a n : ℕ) (xs : List A) → a ≤ n → take a (take n xs) ≡ take a xs
-take-take zero n xs le = refl
-take-take (suc a) zero xs le = absurd (omega arith)
-take-take (suc a) (suc n) [] le = refl
-take-take (suc a) (suc n) (x ∷ xs) le = ap (λ ys. x ∷ ys) (take-take a n xs (omega arith))
 
 -- before the interval both rows are the same, and behind it
 begin-same : (old new : List Cell) → take (begin_of old new) new ≡ take (begin_of old new) old

@@ -9,7 +9,7 @@ use Rattle.rd_base.specs.Cells.{single}
 use Rattle.rd_base.proofs.Equals.{glyphs-same}
 use Rattle.rd_base.specs.Chars.{is_scalar, encoded}
 use Rattle.rd_base.specs.Faces.{Attributes}
-use Rattle.rd_base.specs.Glyphs.{is_space, blanks, glyph_cells, IsMeasured, IsGood}
+use Rattle.rd_base.specs.Glyphs.{is_space, blanks, glyph_bytes, glyph_cells, IsMeasured, IsGood}
 use Rattle.rd_base.specs.declared.cell.Glyph.{Glyph}
 use Rattle.rd_base.specs.declared.cell.Cell.{Cell}
 use Rattle.rd_base.specs.declared.cell.Cell.TheVariants.{Blank, First, Rest}
@@ -20,7 +20,6 @@ use Rattle.rd_term.proofs.Cutting.{Row, front as front_of, behind, overwritten-i
 use Rattle.rd_term.proofs.Encoded.{Rows, standing}
 use Rattle.rd_term.proofs.Feeding.{feed_bytes-append}
 use Rattle.rd_term.proofs.Measured.{shown_fed, base-columns, mark-columns, space-narrow, space-columns}
-use Rattle.rd_update.specs.Updates.{text_of_glyph}
 
 -- ---- cells that are left where a character was put before them
 
@@ -252,7 +251,7 @@ shown-put code (suc w) t p = refl
 
 pub glyph_fed : (region : Option (ℕ × ℕ)) → (above below : Rows) (front o1 o2 back : Row) (g : Glyph) (f : Attributes) (latest : Option (ℕ × ℕ))
     → first_column (front ++ (o1 ++ (o2 ++ back))) (length front) ≡ length front → length o1 ≡ g.width → later_columns back ≡ 0 → IsGood g
-    → feed_bytes (standing region (above ++ (front ++ (o1 ++ (o2 ++ back))) ∷ below) (Some (length above, length front)) false (Some f) latest) (text_of_glyph g)
+    → feed_bytes (standing region (above ++ (front ++ (o1 ++ (o2 ++ back))) ∷ below) (Some (length above, length front)) false (Some f) latest) (glyph_bytes g)
     ≡ standing region (above ++ (front ++ (map Some (First g f ∷ replicate (g.width - 1) Rest) ++ (loose o2 ++ back))) ∷ below)
     (behind_it (length above) (length front) g.width (length (front ++ (o1 ++ (o2 ++ back))))) (nat_le (length (front ++ (o1 ++ (o2 ++ back)))) (length front + g.width)) (Some f) (Some (length above, length front))
 glyph_fed region above below front o1 o2 back g f latest first same h good =

@@ -4,7 +4,10 @@ use Rattle.std.specs.List.{AllByRecursion}
 use Rattle.std.specs.Prelude.{All, IfSome}
 use Rattle.std.proofs.lemmas.List.{length-replicate}
 use Rattle.std.proofs.lemmas.List.Elements.{recursion_from_All, All-from_recursion, All-replicate, All-map}
-use Rattle.rd_base.specs.Cells.{IsColoured, IsSmall}
+use Rattle.rd_base.proofs.Colours.{blanks-coloured, plain-coloured}
+use Rattle.rd_base.proofs.Rows.{blanks-whole}
+use Rattle.rd_base.specs.Cells.{IsColoured}
+use Rattle.rd_base.specs.Faces.{plain}
 use Rattle.rd_base.specs.Glyphs.{IsRowAfter}
 use Rattle.rd_base.specs.declared.cell.Cell.{Cell}
 use Rattle.rd_term.specs.Pictures.{Picture, blank, blank_row, width_of}
@@ -12,21 +15,6 @@ use Rattle.rd_update.specs.Laws.{IsSound}
 use Rattle.rd_update.specs.Plans.{HaveOneSize}
 use Rattle.rd_update.specs.Updates.{update, start, blank_like, rows_after, allows, less_one, differs, differing, is_done}
 use Rattle.rd_update.proofs.Parts.{start-length}
-
--- ---- blank rows
-
-pub blanks-whole : (n : ℕ) → IsRowAfter 0 (blank_row n)
-blanks-whole zero = tt
-blanks-whole (suc n) = blanks-whole n
-
-blank-coloured : IsColoured blank
-blank-coloured = record { fg = omega arith; bg = omega arith }
-
-pub blanks-small : (n : ℕ) → All IsSmall (blank_row n)
-blanks-small n = All-replicate IsSmall n blank blank-coloured
-
-blanks-coloured : (n : ℕ) → All IsColoured (blank_row n)
-blanks-coloured n = All-replicate IsColoured n blank blank-coloured
 
 -- ---- what holds of each row of both screens holds of each row of the new one
 
@@ -96,11 +84,11 @@ start-sound None target h p t =
     let n = start-length None target h in
     record {
       whole = record {
-        glyphs = All-map (λ row. IsRowAfter 0 row) (λ (row : List Cell). blank_row (length row)) target.rows (λ k d lt. blanks-whole (length (get_or target.rows k d)));
+        glyphs = All-map (λ row. IsRowAfter 0 row) (λ (row : List Cell). blank_row (length row)) target.rows (λ k d lt. blanks-whole (length (get_or target.rows k d)) plain);
         row = omega (arith, n, t.whole.row);
         column = omega (arith, w, t.whole.column);
       };
-      colours = All-map (λ row. All IsColoured row) (λ (row : List Cell). blank_row (length row)) target.rows (λ k d lt. blanks-coloured (length (get_or target.rows k d)));
+      colours = All-map (λ row. All IsColoured row) (λ (row : List Cell). blank_row (length row)) target.rows (λ k d lt. blanks-coloured (length (get_or target.rows k d)) plain plain-coloured);
     }
 start-sound (Some screen) target h p t = p
 

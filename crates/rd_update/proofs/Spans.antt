@@ -1,5 +1,6 @@
 -- Where two rows differ: what is before the first difference, behind the last one, and blank to the end.
 use Rattle.std.proofs.Common.{◌≡◌, if◌then◌else◌, ◌⊎◌, inl, inr, ◌||◌, ℕ, zero, suc, ◌+◌, ◌-◌, ◌<◌, ◌≤◌, Bool, true, false, List, [], ◌∷◌, ◌++◌, length, get_or, map, take, drop, replicate, None, Some, refl, sym, ap, ◌∙◌, arith}
+use Rattle.std.proofs.lemmas.Bool.{or_parts}
 use Rattle.std.proofs.lemmas.Bool.Decides.{nat_tests}
 use Rattle.std.proofs.lemmas.List.{take-append-drop, drop-drop, drop-replicate, length-replicate, drop_more, get_or-map}
 use Rattle.rd_base.specs.declared.cell.Cell.{Cell}
@@ -8,6 +9,7 @@ use Rattle.rd_term.specs.Pictures.{blank, blank_row}
 use Rattle.rd_term.specs.Overwriting.{is_later, later_columns, first_column}
 use Rattle.rd_base.specs.Equals.{same_cell}
 use Rattle.rd_base.proofs.Equals.{cell-told}
+use Rattle.rd_term.proofs.Cutting.{two-parts}
 use Rattle.rd_update.specs.Updates.{first_difference, end_before, end_of_differences, used, differs, is_rest, goes_on, begin_before, going_on}
 
 -- ---- before the first difference and behind the last
@@ -83,11 +85,7 @@ blank-from row k le =
 
 -- a list in three parts
 pub three-parts : {A : Type 0} (a m : ℕ) (xs : List A) → a ≤ m → take a xs ++ (take (m - a) (drop a xs) ++ drop m xs) ≡ xs
-three-parts a m xs le =
-    let sum : a + (m - a) ≡ m = omega arith in
-    ap (λ ys. take a xs ++ (take (m - a) (drop a xs) ++ ys)) (sym (ap (λ j. drop j xs) sum) ∙ sym (drop-drop (m - a) a xs))
-    ∙ ap (λ ys. take a xs ++ ys) (take-append-drop (m - a) (drop a xs))
-    ∙ take-append-drop a xs
+three-parts a m xs le = ap (λ ys. take a xs ++ ys) (two-parts a m xs le) ∙ take-append-drop a xs
 
 -- ---- where a character goes on
 
@@ -139,11 +137,6 @@ going-stops (x ∷ xs) (y ∷ ys) = going-stops-chosen (is_rest x || is_rest y) 
 
 -- ---- cells that begin with no later column
 
-neither : (a b : Bool) → (a || b) ≡ false → (a ≡ false) × (b ≡ false)
-neither false false e = (refl, refl)
-neither false true e = absurd (cc)
-neither true b e = absurd (cc)
-
 neither-zero : (a b : Bool) (n : ℕ) → (if a || b then suc n else 0) ≡ 0 → (a ≡ false) × (b ≡ false)
 neither-zero false false n e = (refl, refl)
 neither-zero false true n e = absurd (cc)
@@ -167,7 +160,7 @@ going-whole (x ∷ xs) (y ∷ ys) n e =
 pub at-whole : (old new : List Cell) (column : ℕ) → column < length old → column < length new → goes_on old new column ≡ false
     → (later_columns (map Some (drop column old)) ≡ 0) × (later_columns (map Some (drop column new)) ≡ 0)
 at-whole old new column p q e =
-    let both = neither (is_rest (get_or old column blank)) (is_rest (get_or new column blank)) e in (
+    let both = or_parts (is_rest (get_or old column blank)) (is_rest (get_or new column blank)) e in (
       ap (λ xs. later_columns (map Some xs)) (drop_more old column blank p) ∙ whole-cons (get_or old column blank) (drop (column + 1) old) both.0,
       ap (λ xs. later_columns (map Some xs)) (drop_more new column blank q) ∙ whole-cons (get_or new column blank) (drop (column + 1) new) both.1,
     )
@@ -182,7 +175,7 @@ pub begin-first : (old new : List Cell) (column : ℕ) → column < length old �
 begin-first old new zero p h = refl
 begin-first old new (suc column) p (inl e) = absurd (cc)
 begin-first old new (suc column) p (inr e) =
-    let both = neither (is_rest (get_or old (suc column) blank)) (is_rest (get_or new (suc column) blank)) e in
+    let both = or_parts (is_rest (get_or old (suc column) blank)) (is_rest (get_or new (suc column) blank)) e in
     let at : get_or (map Some old) (suc column) None ≡ Some (get_or old (suc column) blank) = get_or-map Some old (suc column) blank None p in
     let not : is_later (get_or (map Some old) (suc column) None) ≡ false = ap is_later at ∙ is-later-some (get_or old (suc column) blank) ∙ both.0 in
     rw not refl

@@ -1,5 +1,6 @@
 -- The words of two rows tell where their cells differ.
 use Rattle.std.proofs.Common.{◌≡◌, inl, inr, if◌then◌else◌, cond, ◌*◌, ℕ, zero, suc, ◌+◌, ◌-◌, ◌/◌, ◌<◌, ◌≤◌, ◌==◌, ◌&&◌, not, nat_lt, Bool, true, false, List, [], ◌∷◌, ◌++◌, length, get_or, All, Option, None, Some, refl, sym, ap, ap₂, subst, ◌∙◌, arith, take, append_assoc, append-nil}
+use Rattle.std.specs.Cmp.Derive.{one_truth}
 use Rattle.std.specs.List.{AllByRecursion, position_or_len, suffix_len}
 use Rattle.std.specs.Prelude.{zip}
 use Rattle.std.proofs.lemmas.Bool.{and_parts, cases_eq}
@@ -32,11 +33,6 @@ three-words Rest = refl
 abbrev pub IsTold : Cell → Type 0
 IsTold x = IsSmall x × AreOnlyOf x (words_of x)
 
-one-truth : (a b : Bool) → (a ≡ true → b ≡ true) → (b ≡ true → a ≡ true) → a ≡ b
-one-truth true b f g = sym (f refl)
-one-truth false false f g = refl
-one-truth false true f g = g refl
-
 words-itself : (x : Cell) → (word x 0 == word x 0 && word x 1 == word x 1 && word x 2 == word x 2) ≡ true
 words-itself x =
     let a = (Decides-eqb (word x 0) (word x 0)).1 refl in
@@ -46,7 +42,7 @@ words-itself x =
 
 words-same : (x y : Cell) → IsTold x → IsSmall y → (word x 0 == word y 0 && word x 1 == word y 1 && word x 2 == word y 2) ≡ same_cell x y
 words-same x y told small =
-    one-truth (word x 0 == word y 0 && word x 1 == word y 1 && word x 2 == word y 2) (same_cell x y)
+    one_truth (word x 0 == word y 0 && word x 1 == word y 1 && word x 2 == word y 2) (same_cell x y)
     (λ e.
     let two = and_parts _ _ e in
     let one = and_parts _ _ two.0 in

@@ -4,7 +4,7 @@ use Rattle.std.specs.List.{AllByRecursion}
 use Rattle.std.proofs.lemmas.Bool.Decides.{nat_tests}
 use Rattle.std.proofs.lemmas.List.{length-append, length-map, length-take-le, length-drop, length-replicate, map-append, take-append-drop}
 use Rattle.rd_base.specs.Faces.{Attributes}
-use Rattle.rd_base.specs.Glyphs.{IsRowAfter}
+use Rattle.rd_base.specs.Glyphs.{IsRowAfter, glyph_bytes}
 use Rattle.rd_base.specs.declared.cell.Cell.{Cell}
 use Rattle.rd_base.specs.declared.cell.Cell.TheVariants.{Blank, First, Rest}
 use Rattle.rd_term.specs.Overwriting.{is_later, first_column, later_columns}
@@ -13,7 +13,7 @@ use Rattle.rd_term.specs.Terminals.{Tty, feed_bytes}
 use Rattle.rd_term.proofs.Cutting.{Row}
 use Rattle.rd_term.proofs.Encoded.{Rows, standing}
 use Rattle.rd_term.proofs.Feeding.{feed_bytes-append}
-use Rattle.rd_update.specs.Updates.{dress, text_by, pen_behind, text_of_glyph}
+use Rattle.rd_update.specs.Updates.{dress, text_by, pen_behind}
 use Rattle.rd_update.proofs.Dressing.{dress_fed}
 use Rattle.rd_update.proofs.Showing.{loose, length-loose, loose-whole, behind_it, glyph_fed, blank_fed}
 
@@ -212,10 +212,10 @@ text_fed region (suc n) above below front (o ∷ os) back (First g f ∷ rest) p
     let first2 = subst (λ r. first_column r there ≡ there) split first in
     let long = length (front ++ (o1 ++ (o2 ++ back))) in
     let After = λ (k : ℕ). standing region (above ++ (front ++ (map Some chars ++ (loose o2 ++ back))) ∷ below) (behind_it (length above) there k long) (nat_le long (there + k)) (Some f) (Some (length above, there)) in
-    let shown = ap (λ r. feed_bytes (State r f dressed.0) (text_of_glyph g)) split ∙ glyph_fed region above below front o1 o2 back g f dressed.0 first2 same h good ∙ ap After (sym wide) in
+    let shown = ap (λ r. feed_bytes (State r f dressed.0) (glyph_bytes g)) split ∙ glyph_fed region above below front o1 o2 back g f dressed.0 first2 same h good ∙ ap After (sym wide) in
     let rest_text = ap (text_by f) rests.is ∙ rests-text (w - 1) f rests.more in
-    let begun = feed_bytes-append (State (front ++ (old ++ back)) pen latest) (dress pen f ++ text_of_glyph g) (text_by f rest)
-    ∙ ap (λ u. feed_bytes u (text_by f rest)) (feed_bytes-append (State (front ++ (old ++ back)) pen latest) (dress pen f) (text_of_glyph g) ∙ ap (λ u. feed_bytes u (text_of_glyph g)) dressed.1 ∙ shown)
+    let begun = feed_bytes-append (State (front ++ (old ++ back)) pen latest) (dress pen f ++ glyph_bytes g) (text_by f rest)
+    ∙ ap (λ u. feed_bytes u (text_by f rest)) (feed_bytes-append (State (front ++ (old ++ back)) pen latest) (dress pen f) (glyph_bytes g) ∙ ap (λ u. feed_bytes u (glyph_bytes g)) dressed.1 ∙ shown)
     ∙ ap (feed_bytes (After (length chars))) rest_text in
     let total : length (front ++ (take g.width (o ∷ os) ++ (drop g.width (o ∷ os) ++ back))) ≡ length front + (length (First g f ∷ replicate (g.width - 1) Rest) + length (loose (drop g.width (o ∷ os)) ++ back)) =
     omega (

@@ -2,10 +2,9 @@
 use Rattle.std.specs.Prelude.{ℕ, zero, suc, ◌+◌, ◌-◌, ◌==◌, nat_lt, nat_le, min, max, Bool, true, false, if◌then◌else◌, ◌||◌, not, List, [], ◌∷◌, ◌++◌, length, take, drop, map, Option, None, Some, slice_index_or}
 use Rattle.std.specs.Fmt.{decimal}
 use Rattle.std.specs.List.{flat_map}
-use Rattle.rd_base.specs.Chars.{encoded}
 use Rattle.rd_base.specs.Equals.{same_face, same_cell}
 use Rattle.rd_base.specs.Faces.{Attributes, plain}
-use Rattle.rd_base.specs.declared.cell.Glyph.{Glyph}
+use Rattle.rd_base.specs.Glyphs.{glyph_bytes}
 use Rattle.rd_base.specs.declared.cell.Cell.{Cell}
 use Rattle.rd_base.specs.declared.cell.Cell.TheVariants.{Blank, First, Rest}
 use Rattle.rd_term.specs.Pictures.{Picture, blank, blank_row}
@@ -78,10 +77,6 @@ erase_to_end = 27 ∷ 91 ∷ 75 ∷ []
 abbrev pub repaint : List ℕ
 repaint = 27 ∷ 91 ∷ 48 ∷ 109 ∷ 27 ∷ 91 ∷ 50 ∷ 74 ∷ []
 
--- a character and the marks that join it
-abbrev pub text_of_glyph : Glyph → List ℕ
-text_of_glyph g = encoded g.base ++ flat_map encoded (take g.count g.marks)
-
 -- a number, where this holds
 abbrev pub number_if : Bool → ℕ → List ℕ
 number_if holds n = if holds then n ∷ [] else []
@@ -113,7 +108,7 @@ dress pen face = if same_face pen face then [] else rendition face
 -- a cell, by a pen of this face: a blank is a space, and a cell is dressed where its face is not the pen's
 abbrev pub text_of_cell : Attributes → Cell → List ℕ
 text_of_cell pen (Blank f) = dress pen f ++ 32 ∷ []
-text_of_cell pen (First g f) = dress pen f ++ text_of_glyph g
+text_of_cell pen (First g f) = dress pen f ++ glyph_bytes g
 text_of_cell pen Rest = []
 
 -- the pen's face behind it

@@ -3,7 +3,8 @@ ghost use Rattle.std.specs.Prelude.{◌≡◌, ◌<◌, ◌++◌, length, OnOk, 
 ghost use Rattle.std.specs.List.{flat_map};
 ghost use Rattle.rd_base.specs.Faces.{plain};
 ghost use Rattle.rd_base.specs.Chars.{encoded};
-ghost use Rattle.rd_update.specs.Updates.{move as move_bytes, text_of_glyph, renditions, number_if, parameter, dress, text_of_cell, face_of, text_by, pen_behind, row_bytes, first_difference as first_column, end_of_differences as end_column};
+ghost use Rattle.rd_base.specs.Glyphs.{glyph_bytes};
+ghost use Rattle.rd_update.specs.Updates.{move as move_bytes, renditions, number_if, parameter, dress, text_of_cell, face_of, text_by, pen_behind, row_bytes, first_difference as first_column, end_of_differences as end_column};
 
 use crate::span::{Columns, interval, used};
 use itoa::Buffer;
@@ -86,7 +87,7 @@ fn push_cell(bytes: &mut ListOf<u8>, pen: Face, cell: &Cell) -> Result<Face, Mem
 
 /// Adds a character and the marks that join it.
 fn push_glyph(bytes: &mut ListOf<u8>, glyph: &Glyph) -> Result<(), Memory>
-    ensures { OnOk result (bytes.new ≡ bytes.old ++ text_of_glyph glyph.now) }
+    ensures { OnOk result (bytes.new ≡ bytes.old ++ glyph_bytes glyph.now) }
 {
     push_code(bytes, glyph.base)?;
     let count = (glyph.count as usize).min(glyph.marks.len());

@@ -1,5 +1,5 @@
 //! An update that is prepared before any of it is sent, so that sending takes no memory.
-ghost use Rattle.std.specs.Prelude.{◌≡◌, ℕ, ◌<◌, ◌≤◌, ◌++◌, ◌-◌, length, Option, All, IfSome, IfOk, OnOk, OnErr, take, drop, slice_set, replicate, slice_index_or};
+ghost use Rattle.std.specs.Prelude.{◌≡◌, ℕ, ◌<◌, ◌≤◌, ◌++◌, ◌-◌, length, Option, All, IfSome, IfOk, OnOk, OnErr, take, drop, replicate, slice_index_or};
 ghost use Rattle.rd_base.specs.Cells.{IsSmall};
 ghost use Rattle.rd_io.specs.Devices.{Writes, Rose};
 ghost use Rattle.rd_term.specs.Pictures.{Picture, IsScreen, blank_row, width_of, row_at};
@@ -13,7 +13,7 @@ use crate::words::PairWords;
 use rd_base::limits::{FRAME_COLUMNS, FRAME_ROWS};
 use rd_base::{Cell, Face, ListOf, Memory, good_cells_are_small};
 use rd_io::{Sink, write_whole};
-use rd_term::Screen;
+use rd_term::{Screen, first_blanks};
 use std::alloc::Global;
 use std::marker::Model;
 use thiserror::Error;
@@ -169,26 +169,6 @@ fn blank_cells(alloc: Global, width: u32) -> Result<ListOf<Cell>, Memory>
     Ok(cells)
 }
 
-/// So many of the blank cells of the widest row.
-fn first(blanks: &[Cell], width: u32) -> &[Cell]
-    requires blanks { blanks.now ≡ blank_row FRAME_COLUMNS }
-    requires width { width ≤ FRAME_COLUMNS }
-    ensures { result.now ≡ blank_row width }
-{
-    &blanks[..width as usize]
-}
-
-/// The cells of a row.
-fn cells_of(screen: &Screen, row: u32) -> &[Cell]
-    requires { row < length screen.now.rows }
-    ensures cells { result.now ≡ row_at screen.now.rows row }
-    ensures width { length result.now ≡ width_of screen.now.rows }
-    ensures narrow { width_of screen.now.rows ≤ FRAME_COLUMNS }
-{
-    let width = screen.width() as usize;
-    &screen.row(row)[..width]
-}
-
 /// The cells of a row of a sound screen, which their words tell apart.
 fn sound_cells_of(screen: &Screen, row: u32) -> &[Cell]
     requires row { row < length screen.now.rows }
@@ -199,7 +179,8 @@ fn sound_cells_of(screen: &Screen, row: u32) -> &[Cell]
     ensures small { All IsSmall result.now }
 {
     good_cells_are_small();
-    cells_of(screen, row)
+    let _width = screen.width();
+    screen.row(row)
 }
 
 /// The row of the current screen, where an unknown one has this row everywhere.
@@ -284,17 +265,6 @@ fn send_front<K: Sink>(sink: &mut K, bytes: &[u8], sent: Sent) -> Result<Sent, W
     Ok(sent)
 }
 
-/// Puts these cells in place of a row's.
-fn fill_row(screen: &mut Screen, row: u32, cells: &[Cell])
-    requires row { row < length screen.old.rows }
-    requires width { length cells.now ≡ width_of screen.old.rows }
-    ensures screen { screen.new ≡ record screen.old { rows = slice_set screen.old.rows row cells.now } }
-    ensures width { width_of screen.new.rows ≡ width_of screen.old.rows }
-{
-    let _width = screen.width();
-    screen.set_cells(row, 0, cells);
-}
-
 /// A screen with the target's rows before a row.
 fn with_rows_of(screen: Screen, target: Screen, from: u32) -> Screen
     requires row { from ≤ length target.rows }
@@ -304,7 +274,7 @@ fn with_rows_of(screen: Screen, target: Screen, from: u32) -> Screen
 {
     let mut after = screen;
     for row in 0..from {
-        fill_row(&mut after, row, cells_of(&target, row));
+        after.set_row(row, target.row(row));
     }
     after
 }
@@ -316,7 +286,7 @@ fn with_blanks(target: Screen, from: u32) -> Screen
 {
     let blanks = [Cell::Blank(Face::PLAIN); FRAME_COLUMNS as usize];
     let mut after = target;
-    let blank = first(&blanks, after.width());
+    let blank = first_blanks(&blanks, after.width());
     fill_from(&mut after, from, blank);
     after.place(0, 0);
     after
@@ -331,6 +301,6 @@ fn fill_from(screen: &mut Screen, from: u32, cells: &[Cell])
 {
     let _width = screen.width();
     for row in from..screen.height() {
-        fill_row(screen, row, cells);
+        screen.set_row(row, cells);
     }
 }

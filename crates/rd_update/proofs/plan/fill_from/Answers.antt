@@ -16,9 +16,9 @@ loop-row-preserved c =
     let here : c.loop-row.row < length whole = omega (arith, n) in
     let same = at-replica screen.rows from row cells [] h.2 there c.requires.row in
     let step = ap (λ x. set (take row whole ++ drop row screen.rows) row x) (sym same) ∙ seam whole screen.rows row [] here there in (
-      c.fill_row.ensures.screen
+      c.set_row.ensures.screen
           ∙ ap (λ (s : Picture). record s { rows = set s.rows row cells }) h.0
           ∙ ap (λ rows. record screen { rows = rows }) step,
-      c.fill_row.ensures.width ∙ h.1,
+      c.set_row.ensures.width ∙ h.1,
       omega arith,
     )

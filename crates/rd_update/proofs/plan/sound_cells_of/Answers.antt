@@ -8,4 +8,4 @@ returns-clause-small c =
     let cells = get_or c.args.screen.now.rows row [] in
     let sound = c.requires.sound in
     let small = c.good_cells_are_small.ensures.rows 0 cells (sound.whole.glyphs row [] c.requires.row) (sound.colours row [] c.requires.row) in
-    subst (λ cells. All IsSmall cells) (sym c.cells_of.ensures.cells) small
+    subst (λ cells. All IsSmall cells) (sym c.row.ensures.cells) small

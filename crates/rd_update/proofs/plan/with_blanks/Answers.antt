@@ -8,7 +8,7 @@ pub returns : goal.returns
 returns c =
     let target = c.args.target in
     let from = c.args.from in
-    let cells = c.first-blank.ensures ∙ ap blank_row c.width.ensures.value in
+    let cells = c.first_blanks-blank.ensures ∙ ap blank_row c.width.ensures.value in
     let blanks = ap (λ (xs : List Cell). take from target.rows ++ replicate (length target.rows - from) xs) cells
     ∙ ap (λ xs. take from target.rows ++ xs) (sym (drop-blanks target.rows from (width_of target.rows) c.width.ensures.screen.size.each)) in
     c.place.ensures

@@ -11,9 +11,9 @@ loop-row-preserved c =
     let h = c.loop-row.invariant in
     let here : c.loop-row.row < length c.args.target.rows = omega (arith, c.requires.row) in
     let there : c.loop-row.row < length c.args.screen.rows = omega (arith, c.requires.row, c.requires.height) in
-    let step = ap (λ x. set (take row target.rows ++ drop row screen.rows) row x) c.cells_of.ensures.cells ∙ seam target.rows screen.rows row [] here there in (
-      c.fill_row.ensures.screen
-          ∙ ap (λ (s : Picture). record s { rows = set s.rows row c.cells_of.result.now }) h.0
+    let step = ap (λ x. set (take row target.rows ++ drop row screen.rows) row x) c.row.ensures.cells ∙ seam target.rows screen.rows row [] here there in (
+      c.set_row.ensures.screen
+          ∙ ap (λ (s : Picture). record s { rows = set s.rows row c.row.result.now }) h.0
           ∙ ap (λ rows. record screen { rows = rows }) step,
-      c.fill_row.ensures.width ∙ h.1,
+      c.set_row.ensures.width ∙ h.1,
     )
