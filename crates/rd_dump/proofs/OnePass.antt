@@ -1,6 +1,6 @@
 -- The runs of faces, found in one pass.
 use Rattle.std.proofs.Common.{◌≡◌, ℕ, suc, ◌+◌, ◌-◌, ◌<◌, ◌||◌, length, drop, get_or, Option, Result, is_some, codes, decimal, Bool, true, false, if◌then◌else◌, List, [], ◌∷◌, ◌++◌, refl, sym, ap, ◌∙◌, subst, arith, append-nil, true≢false}
-use Rattle.std.proofs.lemmas.Bool.Decides.{nat_tests}
+use Rattle.std.proofs.lemmas.Bool.{cond-true, cond-false}
 use Rattle.rd_base.specs.Faces.{Attributes, plain}
 use Rattle.rd_base.specs.Equals.{same_face}
 use Rattle.rd_base.proofs.Equals.{face-told, face-itself}
@@ -16,34 +16,26 @@ abbrev pub open_text : ℕ → ℕ → Attributes → List Attributes → List �
 open_text first column face [] = run_text first column face
 open_text first column face (next ∷ faces) = if same_face next face then open_text first (column + 1) face faces else run_text first column face ++ open_text column (column + 1) next faces
 
-if_true : {A : Type 0} (b : Bool) (x y : A) → b ≡ true → (if b then x else y) ≡ x
-if_true true x y e = refl
-if_true false x y e = absurd (true≢false (sym e))
-
-if_false : {A : Type 0} (b : Bool) (x y : A) → b ≡ false → (if b then x else y) ≡ y
-if_false true x y e = absurd (true≢false e)
-if_false false x y e = refl
-
 -- more columns of a face before joined runs of it
 with_columns-more_at : (m n : ℕ) (face : Attributes) (run : ℕ × Attributes) (runs : List (ℕ × Attributes)) (same : Bool)
     → with_columns m face (if same then (n + run.0, face) ∷ runs else (n, face) ∷ run ∷ runs) ≡ (if same then (m + n + run.0, face) ∷ runs else (m + n, face) ∷ run ∷ runs)
 with_columns-more_at m n face run runs true =
     let sum : m + (n + run.0) ≡ m + n + run.0 = omega arith in
-    if_true (same_face face face) _ _ (face-itself face) ∙ ap (λ k. (k, face) ∷ runs) sum
-with_columns-more_at m n face run runs false = if_true (same_face face face) _ _ (face-itself face)
+    cond-true (same_face face face) _ _ (face-itself face) ∙ ap (λ k. (k, face) ∷ runs) sum
+with_columns-more_at m n face run runs false = cond-true (same_face face face) _ _ (face-itself face)
 
 with_columns-more : (m n : ℕ) (face : Attributes) (runs : List (ℕ × Attributes)) → with_columns m face (with_columns n face runs) ≡ with_columns (m + n) face runs
-with_columns-more m n face [] = if_true (same_face face face) _ _ (face-itself face)
+with_columns-more m n face [] = cond-true (same_face face face) _ _ (face-itself face)
 with_columns-more m n face (run ∷ runs) = with_columns-more_at m n face run runs (same_face face run.1)
 
 -- columns of another face before joined runs
 with_columns-other_at : (m n : ℕ) (face next : Attributes) (run : ℕ × Attributes) (runs : List (ℕ × Attributes)) (same : Bool) → same_face face next ≡ false
     → with_columns m face (if same then (n + run.0, next) ∷ runs else (n, next) ∷ run ∷ runs) ≡ (m, face) ∷ (if same then (n + run.0, next) ∷ runs else (n, next) ∷ run ∷ runs)
-with_columns-other_at m n face next run runs true other = if_false (same_face face next) _ _ other
-with_columns-other_at m n face next run runs false other = if_false (same_face face next) _ _ other
+with_columns-other_at m n face next run runs true other = cond-false (same_face face next) _ _ other
+with_columns-other_at m n face next run runs false other = cond-false (same_face face next) _ _ other
 
 with_columns-other : (m n : ℕ) (face next : Attributes) (runs : List (ℕ × Attributes)) → same_face face next ≡ false → with_columns m face (with_columns n next runs) ≡ (m, face) ∷ with_columns n next runs
-with_columns-other m n face next [] other = if_false (same_face face next) _ _ other
+with_columns-other m n face next [] other = cond-false (same_face face next) _ _ other
 with_columns-other m n face next (run ∷ runs) other = with_columns-other_at m n face next run runs (same_face next run.1) other
 
 told_apart : (f g : Attributes) (same : Bool) → same_face g f ≡ same → same_face f g ≡ false → same ≡ false
@@ -107,7 +99,7 @@ open-step first column first' face next face' cells p q =
 
 pub run_text-shown : (first end : ℕ) (face : Attributes) → same_face face plain ≡ false
     → pieces (codes " " ∷ decimal first ∷ codes "-" ∷ decimal (end - 1) ∷ []) ++ numbers_text face ≡ run_text first end face
-run_text-shown first end face e = sym (if_false (same_face face plain) [] _ e)
+run_text-shown first end face e = sym (cond-false (same_face face plain) [] _ e)
 
 -- what is left of a row, by its next cell
 pub runs-step : (first column first' i : ℕ) (face next face' : Attributes) (cell : Cell) (cells : List Cell) → i < length cells → cell ≡ get_or cells i cell → next ≡ face_after face cell

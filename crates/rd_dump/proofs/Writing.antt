@@ -1,24 +1,13 @@
 -- Texts that are written piece by piece.
-use Rattle.std.proofs.Common.{◌≡◌, ℕ, suc, ◌+◌, ◌≤◌, ◌<◌, inl, inr, List, [], ◌++◌, length, take, Option, Result, Ok, Err, true≢false, refl, sym, ap, ◌∙◌, subst, append_assoc, append-nil, arith, length-append, drop, get_or}
+use Rattle.std.proofs.Common.{◌≡◌, ℕ, suc, ◌+◌, ◌≤◌, ◌<◌, List, [], ◌++◌, length, Option, Result, Ok, Err, true≢false, refl, sym, ap, ◌∙◌, subst, append_assoc, append-nil, arith, drop, get_or}
 use Rattle.std.specs.Result.{IsErr}
 use Rattle.std.specs.Io.KnownBytes.{Appends}
 use Rattle.std.proofs.KnownBytes.{Appends-nil, Appends-trans}
-use Rattle.std.proofs.lemmas.List.{take-append-le}
-use Rattle.std.proofs.Math.Seq.{take-append-add, drop-cons}
+use Rattle.std.proofs.Math.Seq.{drop-cons}
 use Rattle.std.specs.List.{flat_map}
-use Rattle.rd_io.specs.Devices.{Rose, AppendsFront, Writes}
-use Rattle.rd_io.proofs.Bytes.{rose-after}
+use Rattle.rd_io.specs.Devices.{Writes}
+use Rattle.rd_io.proofs.Bytes.{front-after, front-before, rose-after}
 use Rattle.rd_dump.specs.Prints.{Prints}
-
-front-before : (a b : Option (List ℕ)) (xs ys : List ℕ) → AppendsFront a b xs → AppendsFront a b (xs ++ ys)
-front-before a b xs ys front =
-    let n = front.0 in
-    (n, omega (arith, front.1, length-append xs ys), subst (Appends a b) (sym (take-append-le n xs ys front.1)) front.2)
-
-front-after : (a b c : Option (List ℕ)) (xs ys : List ℕ) → Appends a b xs → AppendsFront b c ys → AppendsFront a c (xs ++ ys)
-front-after a b c xs ys p front =
-    let n = front.0 in
-    (length xs + n, omega (arith, front.1, length-append xs ys), subst (Appends a c) (sym (take-append-add xs ys n)) (Appends-trans a b c xs (take n ys) p front.2))
 
 -- a writer that failed, as the answer of the one that called it
 pub prints-fail : {T E U F : Type 0} (a b : Option (List ℕ)) (f g : ℕ) (xs : List ℕ) (e : E) (s : Result U F) → Prints {T = T} {E = E} a b f g xs (Err e) → IsErr s → Prints a b f g xs s

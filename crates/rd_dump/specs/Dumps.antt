@@ -1,11 +1,10 @@
 -- The text of a dump.
-use Rattle.std.specs.Prelude.{ℕ, ◌+◌, ◌-◌, ◌==◌, ◌||◌, Bool, false, if◌then◌else◌, List, [], ◌∷◌, ◌++◌, take, Option, None, Some, is_some, codes}
+use Rattle.std.specs.Prelude.{ℕ, ◌+◌, ◌-◌, ◌==◌, ◌||◌, Bool, false, if◌then◌else◌, List, [], ◌∷◌, ◌++◌, Option, None, Some, is_some, codes}
 use Rattle.std.specs.Fmt.{decimal}
 use Rattle.std.specs.List.{flat_map}
-use Rattle.rd_base.specs.Chars.{encoded}
 use Rattle.rd_base.specs.Equals.{same_face}
 use Rattle.rd_base.specs.Faces.{Attributes, plain}
-use Rattle.rd_base.specs.declared.cell.Glyph.{Glyph}
+use Rattle.rd_base.specs.Glyphs.{glyph_bytes}
 use Rattle.rd_base.specs.declared.cell.Cell.{Cell}
 use Rattle.rd_base.specs.declared.cell.Cell.TheVariants.{Blank, First, Rest}
 use Rattle.rd_term.specs.Pictures.{Picture}
@@ -52,14 +51,10 @@ windows_text windows = flat_map window_line windows
 
 -- ---- the text of a row
 
--- a character and its marks
-abbrev pub glyph_text : Glyph → List ℕ
-glyph_text g = encoded g.base ++ flat_map encoded (take g.count g.marks)
-
--- a space for a blank, and nothing for a later column of a glyph
+-- a space for a blank, a character and its marks, and nothing for a later column of a glyph
 abbrev pub cell_text : Cell → List ℕ
 cell_text (Blank face) = codes " "
-cell_text (First g face) = glyph_text g
+cell_text (First g face) = glyph_bytes g
 cell_text Rest = []
 
 abbrev pub cells_text : List Cell → List ℕ

@@ -2,8 +2,9 @@
 ghost use Rattle.std.specs.Prelude.{◌≡◌, ◌≤◌, OnErr, take};
 ghost use Rattle.std.specs.List.{flat_map};
 ghost use Rattle.rd_base.specs.Chars.{encoded};
+ghost use Rattle.rd_base.specs.Glyphs.{glyph_bytes};
 ghost use Rattle.rd_io.specs.Devices.{Rose, Writes};
-ghost use Rattle.rd_dump.specs.Dumps.{dump_text, windows_text, window_line, place_text, cursor_line, rows_text, row_line, cells_text, cell_text, glyph_text};
+ghost use Rattle.rd_dump.specs.Dumps.{dump_text, windows_text, window_line, place_text, cursor_line, rows_text, row_line, cells_text, cell_text};
 ghost use Rattle.rd_dump.specs.Prints.{Prints};
 
 use crate::print::{Token, print_bytes, print_character, print_tokens};
@@ -25,8 +26,8 @@ pub struct WindowFacts {
 }
 
 /// Writes the dump of a screen: a line for each window in the order given, a line for each row of the screen, and a line for its
-/// cursor. It takes no memory, and a line is one write where it has at most 8,192 bytes. After a failure a front of the dump was
-/// written.
+/// cursor. It takes no memory, and each line of a screen of at most 400 columns is one write. After a failure a front of the dump
+/// was written.
 pub fn print_dump<K: Sink>(
     sink: &mut K,
     screen: &Screen,
@@ -136,7 +137,7 @@ fn print_rows<K: Sink>(sink: &mut K, screen: &Screen) -> Result<(), Failed>
     Ok(())
 }
 
-/// Writes the line of a row, in one piece where it fits into one.
+/// Writes the line of a row, in one piece where it has at most 400 columns.
 fn print_row<K: Sink>(sink: &mut K, row: u32, cells: &[Cell]) -> Result<(), Failed>
     ensures { Prints (K.written sink.old) (K.written sink.new) (K.faults sink.old) (K.faults sink.new) (row_line row cells.now) result }
 {
@@ -188,7 +189,7 @@ fn print_cell<K: Sink>(sink: &mut K, cell: &Cell) -> Result<(), Failed>
 
 /// Writes a character and its marks.
 fn print_glyph<K: Sink>(sink: &mut K, glyph: &Glyph) -> Result<(), Failed>
-    ensures { Prints (K.written sink.old) (K.written sink.new) (K.faults sink.old) (K.faults sink.new) (glyph_text glyph.now) result }
+    ensures { Prints (K.written sink.old) (K.written sink.new) (K.faults sink.old) (K.faults sink.new) (glyph_bytes glyph.now) result }
 {
     print_character(sink, glyph.base)?;
     print_marks(sink, marks_of(glyph))

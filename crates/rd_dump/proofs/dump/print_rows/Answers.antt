@@ -9,12 +9,12 @@ returns-in_err-print_row g c =
     let less : c.loop-row.row < length c.args.screen.now.rows = search rules in
     let bad = c.from_residual.ensures.0 in
     going-stop _ _ _ _ _ _ _ _ _ _ _ c.loop-row.invariant.1 (rows-step c.args.screen.now.rows c.loop-row.row less)
-    (prints-as _ _ _ _ _ _ _ (ap (row_line c.loop-row.row) c.row.ensures) (prints-fail _ _ _ _ _ _ _ c.in_err-print_row.ensures bad)) bad
+    (prints-as _ _ _ _ _ _ _ (ap (row_line c.loop-row.row) c.row.ensures.cells) (prints-fail _ _ _ _ _ _ _ c.in_err-print_row.ensures bad)) bad
 
 pub loop-row-preserved : goal.loop-row-preserved
 loop-row-preserved g c =
     let less : c.loop-row.row < length c.args.screen.now.rows = search rules in (
       c.height-row-end.ensures,
       going-on _ _ _ _ _ _ _ _ _ _ _ c.loop-row.invariant.1 (rows-step c.args.screen.now.rows c.loop-row.row less)
-          (prints-as _ _ _ _ _ _ _ (ap (row_line c.loop-row.row) c.row.ensures) c.in_ok-print_row.ensures),
+          (prints-as _ _ _ _ _ _ _ (ap (row_line c.loop-row.row) c.row.ensures.cells) c.in_ok-print_row.ensures),
     )
