@@ -1,7 +1,7 @@
 -- The items of an array, one after the other.
 use Rattle.std.proofs.Common.{◌≡◌, ◌≢◌, ℕ, suc, ◌+◌, ◌<◌, ◌≤◌, Bool, true, false, nat_le, if◌then◌else◌, option_and_then, Option, None, Some, Result, Ok, Err, IfOk, List, [], ◌∷◌, ◌++◌, length, drop, get_or, refl, sym, ap, ◌∙◌, arith, append_assoc}
 use Rattle.std.proofs.Math.Seq.{drop-cons}
-use Rattle.std.proofs.lemmas.Bool.Decides.{nat_tests}
+use Rattle.std.proofs.lemmas.Bool.{le-leb, lt-leb}
 use Rattle.serde_json.specs.Data.{Data}
 use Rattle.serde_json.specs.Find.{as_array}
 use Rattle.serde_json.specs.View.{view, items_view}
@@ -50,26 +50,20 @@ counted (v ∷ vs) = ap suc (counted vs)
 kept : {T : Type 0} (test : T → Bool) (x : T) (b : Bool) → test x ≡ b → kept_if test x ≡ (if b then Some x else None)
 kept test x b e = ap (λ t. if t then Some x else None) e
 
-few : (n most : ℕ) (b : Bool) → nat_le n most ≡ b → n ≤ most → b ≡ true
-few n most b e h = grind (arith, nat_tests)
-
-many : (n most : ℕ) (b : Bool) → nat_le n most ≡ b → most < n → b ≡ false
-many n most b e h = grind (arith, nat_tests)
-
 pub list-none : {T : Type 0} (most : ℕ) (kind : Data → Option T) (d : Data) → None ≡ as_array d → None ≡ list_of most kind d
 list-none most kind d e = ap (λ o. option_and_then (each_item kind) (option_and_then (kept_if (λ ds. nat_le (items_count ds) most)) o)) e
 
 pub list-long : {T : Type 0} (most : ℕ) (kind : Data → Option T) (d : Data) (vs : List Value) → Some (items_view vs) ≡ as_array d → most < length vs → None ≡ list_of most kind d
 list-long most kind d vs e h =
     let test = nat_le (items_count (items_view vs)) most in
-    let no : test ≡ false = many (items_count (items_view vs)) most test refl (omega (arith, counted vs)) in
+    let no : test ≡ false = lt-leb (items_count (items_view vs)) most (omega (arith, counted vs)) in
     sym (ap (λ o. option_and_then (each_item kind) o) (kept (λ ds. nat_le (items_count ds) most) (items_view vs) false no))
     ∙ ap (λ o. option_and_then (each_item kind) (option_and_then (kept_if (λ ds. nat_le (items_count ds) most)) o)) e
 
 pub list-all : {T : Type 0} (most : ℕ) (kind : Data → Option T) (d : Data) (vs : List Value) → Some (items_view vs) ≡ as_array d → length vs ≤ most → each_item kind (items_view vs) ≡ list_of most kind d
 list-all most kind d vs e h =
     let test = nat_le (items_count (items_view vs)) most in
-    let yes : test ≡ true = few (items_count (items_view vs)) most test refl (omega (arith, counted vs)) in
+    let yes : test ≡ true = le-leb (items_count (items_view vs)) most (omega (arith, counted vs)) in
     sym (ap (λ o. option_and_then (each_item kind) o) (kept (λ ds. nat_le (items_count ds) most) (items_view vs) true yes))
     ∙ ap (λ o. option_and_then (each_item kind) (option_and_then (kept_if (λ ds. nat_le (items_count ds) most)) o)) e
 

@@ -38,19 +38,28 @@ pub struct Way {
     pub right: bool,
 }
 
+/// The text of each way.
+const WAYS: [(&'static str, Way); 2] = [
+    ("left", Way { right: false }),
+    ("right", Way { right: true }),
+];
+
 impl Named for Way {
     ghost use Rattle.rd_script.specs.Table.{ways};
 
     ghost names = { ways };
 
     fn named(text: &str) -> Option<Way> {
-        match text {
-            "left" => Some(Way { right: false }),
-            "right" => Some(Way { right: true }),
-            _ => None,
-        }
+        beside(&WAYS, text)
     }
 }
+
+/// The text of each way to wrap.
+const WRAPS: [(&'static str, Wrap); 3] = [
+    ("truncate", Wrap::Truncate),
+    ("continue", Wrap::Continue),
+    ("word", Wrap::Word),
+];
 
 impl Named for Wrap {
     ghost use Rattle.rd_script.specs.Table.{wrap_modes};
@@ -58,14 +67,12 @@ impl Named for Wrap {
     ghost names = { wrap_modes };
 
     fn named(text: &str) -> Option<Wrap> {
-        match text {
-            "truncate" => Some(Wrap::Truncate),
-            "continue" => Some(Wrap::Continue),
-            "word" => Some(Wrap::Word),
-            _ => None,
-        }
+        beside(&WRAPS, text)
     }
 }
+
+/// The text of each side.
+const SIDES: [(&'static str, Side); 2] = [("below", Side::Below), ("right", Side::Right)];
 
 impl Named for Side {
     ghost use Rattle.rd_script.specs.Table.{split_sides};
@@ -73,11 +80,7 @@ impl Named for Side {
     ghost names = { split_sides };
 
     fn named(text: &str) -> Option<Side> {
-        match text {
-            "below" => Some(Side::Below),
-            "right" => Some(Side::Right),
-            _ => None,
-        }
+        beside(&SIDES, text)
     }
 }
 
@@ -102,20 +105,28 @@ impl Named for Kind {
     }
 }
 
+/// The text of each direction.
+const DIRECTIONS: [(&'static str, Direction); 3] = [
+    ("auto", Direction::Auto),
+    ("left", Direction::Left),
+    ("right", Direction::Right),
+];
+
 impl Named for Direction {
     ghost use Rattle.rd_script.specs.Settings.{direction_names};
 
     ghost names = { direction_names };
 
     fn named(text: &str) -> Option<Direction> {
-        match text {
-            "auto" => Some(Direction::Auto),
-            "left" => Some(Direction::Left),
-            "right" => Some(Direction::Right),
-            _ => None,
-        }
+        beside(&DIRECTIONS, text)
     }
 }
+
+/// The text of each kind of a run.
+const RUN_KINDS: [(&'static str, RunKind); 2] = [
+    ("face", RunKind::Face),
+    ("display", RunKind::Display),
+];
 
 impl Named for RunKind {
     ghost use Rattle.rd_script.specs.Objects.{run_kinds};
@@ -123,10 +134,6 @@ impl Named for RunKind {
     ghost names = { run_kinds };
 
     fn named(text: &str) -> Option<RunKind> {
-        match text {
-            "face" => Some(RunKind::Face),
-            "display" => Some(RunKind::Display),
-            _ => None,
-        }
+        beside(&RUN_KINDS, text)
     }
 }
