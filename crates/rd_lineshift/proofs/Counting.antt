@@ -1,14 +1,15 @@
 -- Rows that are counted by their numbers.
 use Rattle.std.proofs.Common.{◌≡◌, ◌≢◌, ℕ, zero, suc, ◌+◌, ◌-◌, ◌<◌, ◌==◌, Bool, true, false, not, if◌then◌else◌, List, [], ◌∷◌, ◌++◌, length, get_or, map, drop, replicate, refl, sym, ap, ap₂, ◌∙◌, arith}
 use Rattle.std.specs.List.{AllByRecursion}
-use Rattle.std.proofs.lemmas.Bool.Decides.{nat_tests, Decides-eqb}
+use Rattle.std.proofs.lemmas.Bool.{eq-eqb, eqb-true, ne_eqb}
+use Rattle.std.proofs.lemmas.Bool.Decides.{nat_tests}
 use Rattle.std.proofs.lemmas.List.{drop_more, get_or_default}
 use Rattle.std.proofs.lemmas.List.Elements.{recursion_from_All}
 use Rattle.rd_base.specs.declared.cell.Cell.{Cell}
 use Rattle.rd_update.specs.Updates.{differs, differing}
 use Rattle.rd_update.proofs.Spans.{no-difference}
 use Rattle.rd_lineshift.specs.Numbers.{number_in, unlike}
-use Rattle.rd_lineshift.proofs.Sameness.{differs-itself, is-apart, is-false, is-test}
+use Rattle.rd_lineshift.proofs.Sameness.{differs-itself, is-apart, is-test}
 
 -- ---- places at which numbers differ
 
@@ -37,13 +38,13 @@ pub one-same : (x : ℕ) (xs : List ℕ) (i count whole : ℕ) → i < length xs
     → count + unlike (replicate (length xs - (i + 1)) x) (drop (i + 1) xs) ≡ whole
 one-same x xs i count whole p e h =
     let rest = unlike (replicate (length xs - (i + 1)) x) (drop (i + 1) xs) in
-    ap (λ k. count + k) (sym (one-at x xs i p ∙ ap (λ b. if b then rest else suc rest) ((Decides-eqb x (get_or xs i 0)).1 e))) ∙ h
+    ap (λ k. count + k) (sym (one-at x xs i p ∙ ap (λ b. if b then rest else suc rest) (eq-eqb x (get_or xs i 0) e))) ∙ h
 
 pub one-other : (x : ℕ) (xs : List ℕ) (i count whole : ℕ) → i < length xs → x ≢ get_or xs i 0 → count + unlike (replicate (length xs - i) x) (drop i xs) ≡ whole
     → count + 1 + unlike (replicate (length xs - (i + 1)) x) (drop (i + 1) xs) ≡ whole
 one-other x xs i count whole p e h =
     let rest = unlike (replicate (length xs - (i + 1)) x) (drop (i + 1) xs) in
-    let test : (x == get_or xs i 0) ≡ false = sym (is-false (x == get_or xs i 0) (λ t. e ((Decides-eqb x (get_or xs i 0)).0 t))) in
+    let test : (x == get_or xs i 0) ≡ false = ne_eqb x (get_or xs i 0) e in
     let more : suc (unlike (replicate (length xs - (i + 1)) x) (drop (i + 1) xs)) ≡ unlike (replicate (length xs - i) x) (drop i xs) = sym (one-at x xs i p ∙ ap (λ b. if b then rest else suc rest) test) in
     omega (arith, more, h)
 
@@ -59,7 +60,7 @@ all-in rows = recursion_from_All (λ y. IsIn y rows) rows (λ k d lt. (k, lt, ge
 number-step : (p q : Bool) (r x y : List Cell) (m n : ℕ) → differs r x ≡ p → differs r y ≡ q → length r ≡ length x → length r ≡ length y → length x ≡ length y
     → (q ≡ true → (m == n) ≡ not (differs x y)) → ((if p then suc m else 0) == (if q then suc n else 0)) ≡ not (differs x y)
 number-step true true r x y m n e f a b c h =
-    let next = is-test (suc m) (suc n) (m == n) (λ g. (Decides-eqb m n).1 (omega (arith, g))) (λ t. ap suc ((Decides-eqb m n).0 t)) in
+    let next = is-test (suc m) (suc n) (m == n) (λ g. eq-eqb m n (omega (arith, g))) (λ t. ap suc (eqb-true m n t)) in
     next ∙ h refl
 number-step true false r x y m n e f a b c h =
     let here : y ≡ r = no-difference r y b f in

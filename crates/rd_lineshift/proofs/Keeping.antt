@@ -1,15 +1,17 @@
 -- The new current screen of an update that may begin with a shift.
 use Rattle.std.proofs.Common.{◌≡◌, ℕ, true, List, length, Option, None, Some, subst, ◌∙◌, arith, All}
 use Rattle.std.specs.Prelude.{IfSome}
-use Rattle.std.proofs.lemmas.List.Elements.{All-replicate}
+use Rattle.rd_base.proofs.Colours.{blanks-coloured, plain-coloured}
+use Rattle.rd_base.proofs.Rows.{blanks-whole}
 use Rattle.rd_base.specs.Cells.{IsColoured}
+use Rattle.rd_base.specs.Faces.{plain}
 use Rattle.rd_base.specs.Glyphs.{IsRowAfter}
 use Rattle.rd_base.specs.declared.cell.Cell.{Cell}
-use Rattle.rd_term.specs.Pictures.{Picture, IsScreen, blank, blank_row, width_of}
+use Rattle.rd_term.specs.Pictures.{Picture, IsScreen, blank_row, width_of}
 use Rattle.rd_update.specs.Laws.{IsSound}
 use Rattle.rd_update.specs.Plans.{HaveOneSize}
 use Rattle.rd_update.specs.Updates.{update}
-use Rattle.rd_update.proofs.Soundness.{blanks-whole}
+use Rattle.rd_term.proofs.Shapes.{grid-width}
 use Rattle.rd_lineshift.specs.Choices.{AreWithin, choice}
 use Rattle.rd_lineshift.specs.Laws.{IsShift}
 use Rattle.rd_lineshift.specs.Plans.{after_shift, shifted_update, shifting}
@@ -17,14 +19,14 @@ use Rattle.rd_lineshift.specs.Shifts.{shifted}
 use Rattle.rd_lineshift.specs.declared.band.Band.{Band}
 use Rattle.rd_lineshift.specs.declared.band.Shift.{Shift}
 use Rattle.rd_lineshift.proofs.Moving.{shifted-all}
-use Rattle.rd_lineshift.proofs.Reaching.{shifted-size, taken-fits, width-is}
+use Rattle.rd_lineshift.proofs.Reaching.{shifted-size, taken-fits}
 
 shifted-sized : (s : Shift) (screen : Picture) → IsScreen screen → IsShift (length screen.rows) s
     → (length (shifted s screen).rows ≡ length screen.rows) × (width_of (shifted s screen).rows ≡ width_of screen.rows)
 shifted-sized s screen p fits =
     let size = shifted-size (width_of screen.rows) (length screen.rows) s screen p.size fits in
     let some = p.size.row in
-    (size.rows, width-is (width_of screen.rows) (shifted s screen).rows size.each (omega (arith, size.rows, some)))
+    (size.rows, grid-width (width_of screen.rows) (shifted s screen).rows (omega (arith, size.rows, some)) size.each)
 
 pub after-sized : (current : Option Picture) (target : Picture) (taken : Option Shift) → HaveOneSize current target → IfSome current (λ screen. IsScreen screen)
     → IfSome taken (λ s. IsShift (length target.rows) s) → HaveOneSize (after_shift taken current) target
@@ -46,20 +48,17 @@ moved-sized (Some s) (Some screen) target old moved e f h p q =
     let here : IsScreen screen = subst IsScreen is p in
     subst (λ o. IfSome o (λ (m : Picture). HaveOneSize (Some m) target)) f (after-sized (Some screen) target (Some s) h here q)
 
-blank-coloured : IsColoured blank
-blank-coloured = record { fg = omega arith; bg = omega arith }
-
 pub shifted-sound : (s : Shift) (screen : Picture) → IsScreen screen → IsSound screen → IsShift (length screen.rows) s → IsSound (shifted s screen)
 shifted-sound s screen p sound fits =
     let v = width_of screen.rows in
     let size = shifted-sized s screen p fits in
     record {
       whole = record {
-        glyphs = shifted-all (λ (row : List Cell). IsRowAfter 0 row) s (blank_row v) screen.rows (blanks-whole v) sound.whole.glyphs;
+        glyphs = shifted-all (λ (row : List Cell). IsRowAfter 0 row) s (blank_row v) screen.rows (blanks-whole v plain) sound.whole.glyphs;
         row = omega (arith, size.0, sound.whole.row);
         column = omega (arith, size.1, sound.whole.column);
       };
-      colours = shifted-all (λ (row : List Cell). All IsColoured row) s (blank_row v) screen.rows (All-replicate IsColoured v blank blank-coloured) sound.colours;
+      colours = shifted-all (λ (row : List Cell). All IsColoured row) s (blank_row v) screen.rows (blanks-coloured v plain plain-coloured) sound.colours;
     }
 
 pub after-sound : (current : Option Picture) (target : Picture) (taken : Option Shift) → HaveOneSize current target → IfSome current (λ screen. IsScreen screen × IsSound screen)

@@ -5,6 +5,7 @@ use Rattle.std.specs.List.{AllByRecursion, flat_map}
 use Rattle.std.proofs.lemmas.Bool.Decides.{nat_tests}
 use Rattle.std.proofs.lemmas.List.{length-map, length-take-le, length-drop, length-replicate}
 use Rattle.std.proofs.lemmas.List.Elements.{recursion_from_All, All-from_recursion, All-map, All-take, All-drop}
+use Rattle.rd_base.proofs.Lists.{each-append}
 use Rattle.rd_base.specs.Faces.{Attributes, plain}
 use Rattle.rd_base.specs.declared.cell.Cell.{Cell}
 use Rattle.rd_term.specs.Controls.{control_of}
@@ -15,7 +16,7 @@ use Rattle.rd_term.specs.Terminals.{Tty, feed_bytes, perform, known, on_screen}
 use Rattle.rd_term.specs.declared.reading.Reading.TheVariants.{Between}
 use Rattle.rd_term.proofs.Cutting.{map-replicate}
 use Rattle.rd_term.proofs.Encoded.{Rows, standing}
-use Rattle.rd_term.proofs.Shapes.{length-between, length-up, length-down}
+use Rattle.rd_term.proofs.Shapes.{grid-width, length-between, length-up, length-down}
 use Rattle.rd_update.specs.Laws.{IsReady, IsUpdated}
 use Rattle.rd_update.specs.Updates.{differing, sequence, update, Update}
 use Rattle.rd_update.proofs.Sequences.{tty-same}
@@ -155,13 +156,9 @@ shifted-known w s rows grid h =
 
 -- ---- the shift that is taken
 
-all-both : (P : Shift → Type 0) (xs ys : List Shift) → AllByRecursion P xs → AllByRecursion P ys → AllByRecursion P (xs ++ ys)
-all-both P [] ys p q = q
-all-both P (x ∷ xs) ys p q = (p.0, all-both P xs ys p.1 q)
-
 all-flat : (P : Shift → Type 0) (bands : List Band) → AllByRecursion (λ band. AllByRecursion P (shifts_of band)) bands → AllByRecursion P (flat_map shifts_of bands)
 all-flat P [] h = tt
-all-flat P (band ∷ bands) h = all-both P (shifts_of band) (flat_map shifts_of bands) h.0 (all-flat P bands h.1)
+all-flat P (band ∷ bands) h = each-append P (shifts_of band) (flat_map shifts_of bands) h.0 (all-flat P bands h.1)
 
 shifts-within : (height : ℕ) (band : Band) (k more : ℕ) → band.top + band.height ≤ height → suc k + more ≤ band.height → AllByRecursion (IsShift height) (shifts_from band (suc k) more)
 shifts-within height band k zero within le = tt
@@ -208,13 +205,9 @@ taken-fits height (Some current) target bands h =
 
 -- ---- the screen after a shift
 
-pub width-is : (w : ℕ) (rows : List (List Cell)) → IsGrid w rows → 0 < length rows → width_of rows ≡ w
-width-is w [] h some = absurd (omega arith)
-width-is w (row ∷ rows) h some = h 0 [] (omega arith)
-
 pub shifted-size : (w h : ℕ) (s : Shift) (screen : Picture) → IsOfSize w h screen → IsShift h s → IsOfSize w h (shifted s screen)
 shifted-size w h s screen size fits =
-    let e = width-is w screen.rows size.each (omega (arith, size.rows, size.row)) in
+    let e = grid-width w screen.rows (omega (arith, size.rows, size.row)) size.each in
     let fits_rows : IsShift (length screen.rows) s = rw size.rows fits in
     record {
       rows = shifted-length s (blank_row (width_of screen.rows)) screen.rows fits_rows ∙ size.rows;
@@ -228,7 +221,7 @@ pub ready-shifted : Reads → Cuts → (w h : ℕ) (screen target : Picture) (t 
 ready-shifted reads cuts w h screen target t s r fits =
     let size = r.now.0 in
     let v = width_of screen.rows in
-    let e : width_of screen.rows ≡ w = width-is w screen.rows size.each (omega (arith, size.rows, size.row)) in
+    let e : width_of screen.rows ≡ w = grid-width w screen.rows (omega (arith, size.rows, size.row)) size.each in
     let grid : IsGrid (width_of screen.rows) screen.rows = subst (λ k. IsGrid k screen.rows) (sym e) size.each in
     let fits_rows : IsShift (length screen.rows) s = rw size.rows fits in
     let after = shifted-size w h s screen size fits in

@@ -1,6 +1,7 @@
 -- Rows that are told apart.
 use Rattle.std.proofs.Common.{◌≡◌, ◌≢◌, ℕ, ◌==◌, Bool, true, false, not, if◌then◌else◌, List, [], ◌∷◌, length, refl, sym, ap, ◌∙◌}
-use Rattle.std.proofs.lemmas.Bool.Decides.{Decides-eqb}
+use Rattle.std.specs.Cmp.Derive.{one_truth}
+use Rattle.std.proofs.lemmas.Bool.{eq-eqb, eqb-true, not_from_true, true_from_ne_false}
 use Rattle.rd_base.specs.declared.cell.Cell.{Cell}
 use Rattle.rd_base.proofs.Equals.{cell-itself}
 use Rattle.rd_update.specs.Updates.{differs}
@@ -8,17 +9,11 @@ use Rattle.rd_update.proofs.Comparing.{differs-first}
 use Rattle.rd_update.proofs.Spans.{no-difference}
 use Rattle.rd_lineshift.specs.Numbers.{print_from}
 
-pub is-false : (b : Bool) → (b ≡ true → ⊥) → false ≡ b
-is-false true never = absurd (never refl)
-is-false false never = refl
-
 pub is-test : (m n : ℕ) (b : Bool) → (m ≡ n → b ≡ true) → (b ≡ true → m ≡ n) → (m == n) ≡ b
-is-test m n true p q = (Decides-eqb m n).1 (q refl)
-is-test m n false p q = sym (is-false (m == n) (λ e. absurd (let t = p ((Decides-eqb m n).0 e) in cc)))
+is-test m n b p q = one_truth (m == n) b (λ e. p (eqb-true m n e)) (λ t. eq-eqb m n (q t))
 
 pub is-apart : (b : Bool) → (b ≡ false → ⊥) → false ≡ not b
-is-apart true never = refl
-is-apart false never = absurd (never refl)
+is-apart b never = sym (not_from_true b (true_from_ne_false b never))
 
 pub differs-itself : (xs : List Cell) → differs xs xs ≡ false
 differs-itself [] = refl

@@ -8,18 +8,8 @@ ghost use Rattle.rd_lineshift.specs.Numbers.{cell_number, colours_number, number
 use crate::numbers::Numbers;
 use rd_base::limits::FRAME_COLUMNS;
 use rd_base::{Cell, Face};
-use rd_term::Screen;
+use rd_term::{Screen, first_blanks};
 use rd_update::differ;
-
-/// The cells of a row of a screen.
-fn cells_of(screen: &Screen, row: u32) -> &[Cell]
-    requires { row < length screen.now.rows }
-    ensures cells { result.now ≡ row_at screen.now.rows row }
-    ensures width { length result.now ≡ width_of screen.now.rows }
-{
-    let _width = screen.width();
-    screen.row(row)
-}
 
 /// How many rows of two screens of one size differ.
 pub(crate) fn differing(current: &Screen, target: &Screen) -> u32
@@ -28,7 +18,7 @@ pub(crate) fn differing(current: &Screen, target: &Screen) -> u32
 {
     let mut count = 0;
     for row in 0..target.height() {
-        if differ(cells_of(current, row), cells_of(target, row)) {
+        if differ(current.row(row), target.row(row)) {
             count += 1;
         }
     }
@@ -107,7 +97,7 @@ fn number_of(target: &Screen, prints: &Numbers, row: &[Cell], print: u64) -> u64
 {
     let prints = prints.as_slice();
     for i in 0..target.height() {
-        if same_row(cells_of(target, i), prints[i as usize], row, print) {
+        if same_row(target.row(i), prints[i as usize], row, print) {
             return i as u64;
         }
     }
@@ -131,18 +121,9 @@ pub(crate) fn numbers_of(
     let mut numbers = Numbers::none();
     for row in 0..screen.height() {
         let print = own_prints[row as usize];
-        numbers.push(number_of(target, prints, cells_of(screen, row), print));
+        numbers.push(number_of(target, prints, screen.row(row), print));
     }
     numbers
-}
-
-/// So many of the blank cells of the widest row.
-pub(crate) fn first(blanks: &[Cell], width: u32) -> &[Cell]
-    requires blanks { blanks.now ≡ blank_row FRAME_COLUMNS }
-    requires width { width ≤ FRAME_COLUMNS }
-    ensures { result.now ≡ blank_row width }
-{
-    &blanks[..width as usize]
 }
 
 /// The number of a blank row by the target's.
@@ -151,6 +132,6 @@ pub(crate) fn number_of_blank(target: &Screen, prints: &Numbers) -> u64
     ensures { result ≡ number_in target.now.rows (blank_row (width_of target.now.rows)) }
 {
     let blanks = [Cell::Blank(Face::PLAIN); FRAME_COLUMNS as usize];
-    let blank = first(&blanks, target.width());
+    let blank = first_blanks(&blanks, target.width());
     number_of(target, prints, blank, print_of(blank))
 }

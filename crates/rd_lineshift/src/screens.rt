@@ -1,15 +1,14 @@
 //! The screen after a shift.
-ghost use Rattle.std.specs.Prelude.{◌≡◌, ◌+◌, ◌<◌, ◌≤◌, IfOk, length, slice_set, true, false};
+ghost use Rattle.std.specs.Prelude.{◌≡◌, ◌+◌, ◌<◌, ◌≤◌, IfOk, length, true, false};
 ghost use Rattle.rd_term.specs.Pictures.{blank_row, row_at, width_of};
 ghost use Rattle.rd_lineshift.specs.Laws.{IsShift, is_up as is_move_up};
 ghost use Rattle.rd_lineshift.specs.Shifts.{shifted as shifted_of, shifted_rows};
 
 use crate::band::Shift;
 use crate::bytes::is_up;
-use crate::rows::first;
 use rd_base::limits::FRAME_COLUMNS;
 use rd_base::{Cell, Face, Memory};
-use rd_term::Screen;
+use rd_term::{Screen, first_blanks};
 use std::alloc::Global;
 
 /// The current screen after a shift.
@@ -19,25 +18,14 @@ pub(crate) fn shifted(alloc: Global, current: &Screen, shift: Shift) -> Result<S
 {
     let blanks = [Cell::Blank(Face::PLAIN); FRAME_COLUMNS as usize];
     let width = current.width();
-    let blank = first(&blanks, width);
+    let blank = first_blanks(&blanks, width);
     let mut screen = Screen::blank(alloc, width, current.height())?;
     for row in 0..current.height() {
-        fill_row(&mut screen, row, row_after(current, blank, shift, row));
+        screen.set_row(row, row_after(current, blank, shift, row));
     }
     let (row, column) = current.cursor();
     screen.place(row, column);
     Ok(screen)
-}
-
-/// Puts these cells in place of a row's.
-fn fill_row(screen: &mut Screen, row: u32, cells: &[Cell])
-    requires row { row < length screen.old.rows }
-    requires width { length cells.now ≡ width_of screen.old.rows }
-    ensures screen { screen.new ≡ record screen.old { rows = slice_set screen.old.rows row cells.now } }
-    ensures width { width_of screen.new.rows ≡ width_of screen.old.rows }
-{
-    let _width = screen.width();
-    screen.set_cells(row, 0, cells);
 }
 
 /// The cells of a row after a shift, where the rows that come in have these.

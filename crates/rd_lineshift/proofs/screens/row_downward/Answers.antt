@@ -8,7 +8,7 @@ returns-then-row-shift c =
     let rows = c.args.current.now.rows in
     let row = c.args.row in
     let by : c.unsigned_abs-by.result ≡ unsigned_abs c.args.shift.by = search rules in
-    c.row.ensures
+    c.row.ensures.cells
     ∙ ap (λ k. get_or rows (row - k) []) by
     ∙ row-down c.args.shift c.args.free.now rows row c.requires.shift c.requires.down (omega (arith, by, c.if-row-shift.true)) c.requires.to
 

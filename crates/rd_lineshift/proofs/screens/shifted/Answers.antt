@@ -5,40 +5,43 @@ use Rattle.rd_term.specs.Pictures.{Picture, blank, blank_row, width_of}
 use Rattle.rd_update.proofs.Parts.{length-seam, seam}
 use Rattle.rd_lineshift.specs.Shifts.{shifted, shifted_rows}
 use Rattle.rd_lineshift.proofs.Moving.{shifted-all, shifted-length}
+use Rattle.rd_lineshift.proofs.screens.shifted.Goals.{After-row_after}
 use Rattle.rd_lineshift.proofs.screens.shifted.Goals as goal
 
-pub fill_row-requires-clause-width : goal.fill_row-requires-clause-width
-fill_row-requires-clause-width c =
+-- there is the row after the shift, and these are its cells
+here : (c : goal.After-row_after) → c.loop-row.row < length (shifted c.args.shift c.args.current.now).rows
+here c = omega (arith, shifted-length c.args.shift (blank_row (width_of c.args.current.now.rows)) c.args.current.now.rows c.requires)
+
+cells : (c : goal.After-row_after) → c.row_after.result.now ≡ get_or (shifted c.args.shift c.args.current.now).rows c.loop-row.row []
+cells c =
+    let free = c.first_blanks-blank.ensures ∙ ap blank_row c.width-width.ensures.value in
+    c.row_after.ensures ∙ ap (λ xs. get_or (shifted_rows c.args.shift xs c.args.current.now.rows) c.loop-row.row []) free
+
+pub set_row-requires-clause-width : goal.set_row-requires-clause-width
+set_row-requires-clause-width c =
     let current = c.args.current.now in
     let shift = c.args.shift in
     let v = width_of current.rows in
-    let row = c.loop-row.row in
-    let free = c.first-blank.ensures ∙ ap blank_row c.width-width.ensures.value in
-    let cells = c.row_after.ensures ∙ ap (λ xs. get_or (shifted_rows shift xs current.rows) row []) free in
+    let at = (goal.at.set_row-requires-clause-width c).After-row_after in
     let wide = shifted-all (λ (r : List Cell). length r ≡ v) shift (blank_row v) current.rows (length-replicate v blank) c.width-width.ensures.screen.size.each in
-    let here : c.loop-row.row < length (shifted shift current).rows = omega (arith, shifted-length shift (blank_row v) current.rows c.requires) in
-    ap length cells ∙ wide row [] here ∙ sym c.loop-row.invariant.width
+    ap length (cells at) ∙ wide c.loop-row.row [] (here at) ∙ sym c.loop-row.invariant.width
 
 pub loop-row-preserved : goal.loop-row-preserved
 loop-row-preserved c =
     let current = c.args.current.now in
-    let shift = c.args.shift in
-    let v = width_of current.rows in
     let row = c.loop-row.row in
-    let S = (shifted shift current).rows in
-    let B = replicate (length current.rows) (blank_row v) in
+    let S = (shifted c.args.shift current).rows in
+    let B = replicate (length current.rows) (blank_row (width_of current.rows)) in
     let h = c.loop-row.invariant in
-    let free = c.first-blank.ensures ∙ ap blank_row c.width-width.ensures.value in
-    let cells = c.row_after.ensures ∙ ap (λ xs. get_or (shifted_rows shift xs current.rows) row []) free in
-    let here : c.loop-row.row < length (shifted shift current).rows = omega (arith, shifted-length shift (blank_row v) current.rows c.requires) in
-    let there : c.loop-row.row < length (replicate (length current.rows) (blank_row v)) = omega (arith, length-replicate (length current.rows) (blank_row v)) in
+    let at = (goal.at.loop-row-preserved c).After-row_after in
+    let there : c.loop-row.row < length (replicate (length current.rows) (blank_row (width_of current.rows))) = omega (arith, length-replicate (length current.rows) (blank_row (width_of current.rows))) in
     record {
       rows =
-          ap (λ (p : Picture). p.rows) c.fill_row.ensures.screen
+          ap (λ (p : Picture). p.rows) c.set_row.ensures.screen
           ∙ ap (λ xs. set xs row c.row_after.result.now) h.rows
-          ∙ ap (λ x. set (take row S ++ drop row B) row x) cells
-          ∙ seam S B row [] here there;
-      width = c.fill_row.ensures.width ∙ h.width;
+          ∙ ap (λ x. set (take row S ++ drop row B) row x) (cells at)
+          ∙ seam S B row [] (here at) there;
+      width = c.set_row.ensures.width ∙ h.width;
     }
 
 pub place-requires-clause-row : goal.place-requires-clause-row

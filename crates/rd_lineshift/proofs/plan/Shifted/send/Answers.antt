@@ -3,7 +3,8 @@ use Rattle.std.specs.Io.KnownBytes.{Appends}
 use Rattle.rd_update.specs.Updates.{update}
 use Rattle.rd_lineshift.specs.Choices.{choice}
 use Rattle.rd_lineshift.specs.Plans.{Shifting, after_shift, opening}
-use Rattle.rd_lineshift.proofs.Sending.{opening-is, plan-is, writes-then}
+use Rattle.rd_io.proofs.Bytes.{writes-then}
+use Rattle.rd_lineshift.proofs.Sending.{opening-is, plan-is}
 use Rattle.rd_lineshift.proofs.plan.Shifted.send.Goals as goal
 
 pub returns-clause-bytes : goal.returns-clause-bytes
