@@ -1,6 +1,5 @@
 -- A step leads from a valid state to a valid one, op by op.
-use Rattle.std.proofs.Common.{◌≡◌, ◌≢◌, ℕ, zero, suc, ◌+◌, ◌-◌, ◌≤◌, inl, inr, ◌==◌, Bool, true, false, if◌then◌else◌, pos, ◌+ℤ◌, map, IsTrue, Option, None, Some, Result, Ok, Err, List, [], ◌∷◌, length, subst, sym, ap, refl, ◌∙◌, arith}
-use Rattle.std.proofs.lemmas.Bool.{cases_eq}
+use Rattle.std.proofs.Common.{◌≡◌, ◌≢◌, ℕ, zero, suc, ◌+◌, ◌-◌, ◌≤◌, inl, inr, ◌==◌, Bool, true, false, if◌then◌else◌, pos, ◌+ℤ◌, map, IsTrue, None, Some, Result, Ok, Err, List, [], ◌∷◌, length, subst, sym, ap, refl, ◌∙◌, arith}
 use Rattle.std.specs.Prelude.{slice_get, slice_set, option_map}
 use Rattle.std.specs.Str.{chars}
 use Rattle.rd_base.specs.declared.limits.TheConstants.{SCROLL_CONSERVATIVELY, SCROLL_MARGIN}
@@ -24,12 +23,12 @@ use Rattle.rd_state.specs.Valid.{IsContent, IsWindow, IsValid}
 use Rattle.rd_state.specs.Edits.{insertion, deletion, narrowing, widening, property_putting, overlay_making, overlay_moving, overlay_dropping, overlay_putting, mark_putting, setting_putting}
 use Rattle.rd_state.specs.Making.{table_of}
 use Rattle.rd_state.specs.Moves.{moved, moved_in}
-use Rattle.rd_state.specs.Steps.{with_found, replaced, moving, changing, typing, raw_text, held, step, settled}
+use Rattle.rd_state.specs.Steps.{replaced, moving, changing, typing, raw_text, held, step, settled}
 use Rattle.rd_state.proofs.Below.{TextLaws, MadeLaws, ObjectLaws, GrowLaws, TreeLaws}
 use Rattle.rd_state.proofs.Naming.{setting-keeps, mark-keeps, string-valid, spec-valid, face-valid, table-valid, making-valid, new-valid}
-use Rattle.rd_state.proofs.Showing.{set-valid, found-ok, buffer-ok, setting-valid, placing-valid, point-keeps, start-keeps, look-keeps, scroll-keeps, showing-valid, splitting-valid, removing-valid, resizing-valid, selecting-valid, mode_lining-valid, margining-valid, with_windows}
+use Rattle.rd_state.proofs.Showing.{set-valid, found-ok, buffer-ok, setting-valid, placing-valid, point-keeps, start-keeps, look-keeps, scroll-keeps, showing-valid, splitting-valid, removing-valid, resizing-valid, selecting-valid, mode_lining-valid, margining-valid}
 use Rattle.rd_state.proofs.Slots.{table-right}
-use Rattle.rd_state.proofs.Stepping.{Keeps, text-codes, raw-codes, edited-valid, edited_moving-valid, moving-done, insertion-keeps, insertion-means, deletion-keeps, narrowing-keeps, widening-keeps, put-keeps, making-keeps, moving-keeps, dropping-keeps, giving-keeps}
+use Rattle.rd_state.proofs.Stepping.{text-codes, raw-codes, edited-valid, edited_moving-valid, moving-done, insertion-keeps, insertion-means, deletion-keeps, narrowing-keeps, widening-keeps, put-keeps, making-keeps, moving-keeps, dropping-keeps, giving-keeps}
 
 -- the laws of all layers below
 pub record Laws : Type 0 where

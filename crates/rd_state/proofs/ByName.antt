@@ -14,6 +14,7 @@ use Rattle.rd_state.specs.declared.refused.Refused.{Refused}
 use Rattle.rd_state.specs.declared.refused.Refused.TheVariants.{Memory}
 use Rattle.rd_state.specs.States.{BufferValue, ContentValue, buffers_of, number_of}
 use Rattle.rd_state.specs.Answers.{Answers}
+use Rattle.rd_state.proofs.Options.{missed}
 
 -- ---- searching
 
@@ -38,10 +39,6 @@ number_of-bound name es = prefix_len-le-length (λ b. not (bytes_eq name b.name)
 placed : (b : Bool) (n i : ℕ) → cond b (Some n) None ≡ Some i → n ≡ i
 placed true n i h = cc
 placed false n i h = absurd (cc)
-
-missed : (b : Bool) (n : ℕ) → cond b (Some n) None ≡ None → b ≡ false
-missed true n h = absurd (cc)
-missed false n h = refl
 
 pub number_of-found : (name : List ℕ) (es : List (String Global × ContentValue)) (i : ℕ) → position (has_name name) (keys_of es) ≡ Some i → i ≡ number_of name (buffers_of es)
 number_of-found name es i h =

@@ -1,56 +1,40 @@
 -- Lists of windows by their numbers.
-use Rattle.std.proofs.Common.{◌≡◌, ◌≢◌, ℕ, zero, suc, ◌+◌, ◌-◌, ◌<◌, ◌⊎◌, inl, inr, ◌==◌, Bool, true, false, not, is_some, cond, if◌then◌else◌, Option, None, Some, List, [], ◌∷◌, ◌++◌, length, map, set, take, drop, subst, sym, ap, refl, ◌∙◌, arith}
-use Rattle.std.proofs.lemmas.Bool.{cases_eq}
-use Rattle.std.proofs.lemmas.Bool.Decides.{nat_tests}
+use Rattle.std.proofs.Common.{◌≡◌, ◌≢◌, ℕ, zero, suc, ◌+◌, ◌-◌, ◌<◌, ◌⊎◌, inl, inr, ◌==◌, true, false, not, cond, if◌then◌else◌, Option, None, Some, List, [], ◌∷◌, ◌++◌, length, map, set, subst, sym, ap, refl, ◌∙◌, arith}
+use Rattle.std.proofs.lemmas.Bool.{cases_eq, cond-false, cond-true, eq-eqb, ne_eqb, not_from_false, not_from_true}
 use Rattle.std.specs.Prelude.{slice_get, option_map}
 use Rattle.std.specs.List.{remove}
 use Rattle.std.specs.Option.{option_or}
 use Rattle.rd_state.specs.declared.window.WindowState.{WindowState}
 use Rattle.rd_state.specs.Windows.{window_of, place_in, with_window, without_window, AreApart}
-use Rattle.rd_state.proofs.Opening.{chosen, passed}
 
 abbrev pub NumberedWindow : Type 0
 NumberedWindow = ℕ × WindowState
 
-pub eq-true : (a b : ℕ) → a ≡ b → (a == b) ≡ true
-eq-true a b h = grind (arith, nat_tests)
-
-pub eq-false : (a b : ℕ) → a ≢ b → (a == b) ≡ false
-eq-false a b h = grind (arith, nat_tests)
-
-not-true : (t : Bool) → t ≡ true → not t ≡ false
-not-true true h = refl
-not-true false h = absurd (cc)
-
-not-false : (t : Bool) → t ≡ false → not t ≡ true
-not-false true h = absurd (cc)
-not-false false h = refl
-
 -- ---- the first entry, and the others
 
 pub window-here : (n : ℕ) (e : NumberedWindow) (rest : List NumberedWindow) → e.0 ≡ n → window_of n (e ∷ rest) ≡ Some e.1
-window-here n e rest h = chosen (e.0 == n) (Some e.1) (window_of n rest) (eq-true e.0 n h)
+window-here n e rest h = cond-true (e.0 == n) (Some e.1) (window_of n rest) (eq-eqb e.0 n h)
 
 pub window-there : (n : ℕ) (e : NumberedWindow) (rest : List NumberedWindow) → e.0 ≢ n → window_of n (e ∷ rest) ≡ window_of n rest
-window-there n e rest h = passed (e.0 == n) (Some e.1) (window_of n rest) (eq-false e.0 n h)
+window-there n e rest h = cond-false (e.0 == n) (Some e.1) (window_of n rest) (ne_eqb e.0 n h)
 
 pub with-here : (n : ℕ) (f : WindowState → WindowState) (e : NumberedWindow) (rest : List NumberedWindow) → e.0 ≡ n → with_window n f (e ∷ rest) ≡ (e.0, f e.1) ∷ rest
-with-here n f e rest h = chosen (e.0 == n) _ _ (eq-true e.0 n h)
+with-here n f e rest h = cond-true (e.0 == n) _ _ (eq-eqb e.0 n h)
 
 pub with-there : (n : ℕ) (f : WindowState → WindowState) (e : NumberedWindow) (rest : List NumberedWindow) → e.0 ≢ n → with_window n f (e ∷ rest) ≡ e ∷ with_window n f rest
-with-there n f e rest h = passed (e.0 == n) _ _ (eq-false e.0 n h)
+with-there n f e rest h = cond-false (e.0 == n) _ _ (ne_eqb e.0 n h)
 
 pub without-here : (n : ℕ) (e : NumberedWindow) (rest : List NumberedWindow) → e.0 ≡ n → without_window n (e ∷ rest) ≡ rest
-without-here n e rest h = chosen (e.0 == n) _ _ (eq-true e.0 n h)
+without-here n e rest h = cond-true (e.0 == n) _ _ (eq-eqb e.0 n h)
 
 pub without-there : (n : ℕ) (e : NumberedWindow) (rest : List NumberedWindow) → e.0 ≢ n → without_window n (e ∷ rest) ≡ e ∷ without_window n rest
-without-there n e rest h = passed (e.0 == n) _ _ (eq-false e.0 n h)
+without-there n e rest h = cond-false (e.0 == n) _ _ (ne_eqb e.0 n h)
 
 place-here : (n : ℕ) (e : NumberedWindow) (rest : List NumberedWindow) → e.0 ≡ n → place_in n (e ∷ rest) ≡ 0
-place-here n e rest h = passed (not (e.0 == n)) (1 + place_in n rest) 0 (not-true (e.0 == n) (eq-true e.0 n h))
+place-here n e rest h = cond-false (not (e.0 == n)) (1 + place_in n rest) 0 (not_from_true (e.0 == n) (eq-eqb e.0 n h))
 
 place-there : (n : ℕ) (e : NumberedWindow) (rest : List NumberedWindow) → e.0 ≢ n → place_in n (e ∷ rest) ≡ 1 + place_in n rest
-place-there n e rest h = chosen (not (e.0 == n)) (1 + place_in n rest) 0 (not-false (e.0 == n) (eq-false e.0 n h))
+place-there n e rest h = cond-true (not (e.0 == n)) (1 + place_in n rest) 0 (not_from_false (e.0 == n) (ne_eqb e.0 n h))
 
 -- ---- finding
 
@@ -227,7 +211,7 @@ apart-end [] e h none = (refl, tt)
 apart-end (x ∷ rest) e h none =
     let other : x.0 ≢ e.0 = λ p. some-none x.1 (window_of e.0 (x ∷ rest)) (window-here e.0 x rest p) none in
     let further : window_of e.0 rest ≡ None = sym (window-there e.0 x rest other) ∙ none in
-    let past : (if e.0 == x.0 then Some e.1 else None) ≡ None = passed (e.0 == x.0) (Some e.1) None (eq-false e.0 x.0 (λ p. other (sym p))) in (
+    let past : (if e.0 == x.0 then Some e.1 else None) ≡ None = cond-false (e.0 == x.0) (Some e.1) None (ne_eqb e.0 x.0 (λ p. other (sym p))) in (
       window-end x.0 rest e ∙ (ap (λ (o : Option WindowState). option_or o (if e.0 == x.0 then Some e.1 else None)) h.0 ∙ past),
       apart-end rest e h.1 further,
     )

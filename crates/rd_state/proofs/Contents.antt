@@ -1,9 +1,7 @@
 -- What a buffer holds stays valid through each edit of it, and what each edit is in the terms of properties and overlays.
 use Rattle.std.proofs.Common.{◌≡◌, ℕ, ◌+◌, ◌-◌, ◌<◌, ◌≤◌, ◌==◌, ◌&&◌, ◌++◌, ◌⊎◌, inl, inr, Bool, true, false, if◌then◌else◌, nat_lt, nat_le, ℤ, Option, None, Some, List, [], ◌∷◌, length, map, take, drop, subst, sym, refl, ◌∙◌, arith, IsTrue}
-use Rattle.std.proofs.lemmas.Bool.{leb-true, ltb-true, eqb-true}
-use Rattle.std.proofs.lemmas.Bool.Decides.{nat_tests}
+use Rattle.std.proofs.lemmas.Bool.{leb-true, ltb-true, eqb-true, cond-false, le-ltb}
 use Rattle.std.proofs.lemmas.List.Elements.{All-append, All-take, All-drop}
-use Rattle.std.specs.FinMap as finite
 use Rattle.std.specs.Prelude.{IfSome}
 use Rattle.rd_base.specs.Chars.{is_code}
 use Rattle.rd_base.specs.Settings.{SettingValues}
@@ -19,13 +17,11 @@ use Rattle.rd_props.specs.Buffers as props
 use Rattle.rd_props.specs.Edits.{opened, closed, put_on, IsInsertion, IsDeletion, IsPut, HasOverlays}
 use Rattle.rd_props.specs.Made.{IsMade, SettingsMade, AreMade}
 use Rattle.rd_props.specs.Values.{value_of}
-use Rattle.rd_margins.specs.Marks as marks
 use Rattle.rd_script.specs.Forms.{is_text_kind}
 use Rattle.rd_state.specs.States.{ContentValue, seen, values_on, value_in}
 use Rattle.rd_state.specs.Valid.{IsWithin, IsContent}
 use Rattle.rd_state.specs.Edits.{is_range_of_all, is_made, is_value_made, marked, grown, shrunk}
 use Rattle.rd_state.proofs.Below.{TextLaws, MadeLaws}
-use Rattle.rd_state.proofs.Opening.{passed}
 use Rattle.rd_state.proofs.Tables.{AreAlike, value-in-table}
 use Rattle.rd_state.proofs.Within.{grown-within, shrunk-within, same-within, made-within, put-within, moved-within, given-within}
 
@@ -229,9 +225,6 @@ put-valid made o c from to kind value v is at numbered = record {
 
 -- ---- overlays
 
-not-behind : (from to : ℕ) → from ≤ to → nat_lt to from ≡ false
-not-behind from to h = grind (arith, nat_tests)
-
 -- a buffer with other overlays
 abbrev pub with_overlays : ContentValue → List (Option Overlay) → ContentValue
 with_overlays c overlays = record c { overlays = overlays }
@@ -266,7 +259,7 @@ made-valid made o c from to priority front rear v test range room =
     let overlay = new_overlay from to priority front rear in
     let all = c.overlays ++ Some overlay ∷ [] in
     let ordered = range.ordered in
-    let none = passed (nat_lt to from) _ _ (not-behind from to ordered) ∙ passed (nat_le 65536 (length c.overlays)) _ _ room in
+    let none = cond-false (nat_lt to from) _ _ (le-ltb to from ordered) ∙ cond-false (nat_le 65536 (length c.overlays)) _ _ room in
     overlays-valid o c all v (made-within (seen c) all c.settings from to overlay v.within test none refl refl refl)
     (made.made (seen c) (seen (with_overlays c all)) o overlay v.names v.names.settings (λ kind x h. absurd (no-value kind from to priority front rear x h)) (overlays-are c all))
 

@@ -1,5 +1,6 @@
 -- What the ops on a buffer's text and properties leave is what their edits say.
 use Rattle.std.proofs.Common.{◌≡◌, ℕ, ◌+◌, ◌≤◌, ◌==◌, Bool, true, not, nat_lt, Option, Ok, List, length, map, ap, refl, ◌∙◌, arith}
+use Rattle.std.proofs.lemmas.Bool.{cond-true}
 use Rattle.std.proofs.lemmas.Bool.Decides.{nat_tests}
 use Rattle.rd_text.specs.Texts.{TextValue, IsText, IsAccessible, most_characters, inserted, deleted}
 use Rattle.rd_text.specs.Answers.{IsAccessibleRange}
@@ -15,7 +16,6 @@ use Rattle.rd_state.specs.Valid.{IsWithin}
 use Rattle.rd_state.specs.Edits.{is_accessible, is_accessible_range, is_value_made, has_room, marked, insertion, deletion, property_putting}
 use Rattle.rd_script.specs.Forms.{is_text_kind}
 use Rattle.rd_state.proofs.Contents.{put_on-within}
-use Rattle.rd_state.proofs.Opening.{chosen}
 use Rattle.rd_state.proofs.Tests.{is_accessible_range-means}
 use Rattle.rd_state.proofs.Within.{same-within}
 use Rattle.rd_state.proofs.Tables.{AreAlike, grown-content, shrunk-content, put-content}
@@ -37,8 +37,8 @@ pub insertion-is : (b c : BufferState) (pos : ℕ) (new : List ℕ) → IsWithin
     → c.overlays ≡ map (slot_grown pos (length new)) b.overlays → c.settings ≡ marked (nat_lt 0 (length new)) b.settings
     → (m : MarkValues) → insertion pos new (content_of b m) ≡ Ok (content_of c m)
 insertion-is b c pos new within at room same values overlays settings m =
-    chosen (is_accessible b.text pos) _ _ (accessible b.text pos at)
-    ∙ (chosen (has_room b.text new) _ _ (roomy b.text new room)
+    cond-true (is_accessible b.text pos) _ _ (accessible b.text pos at)
+    ∙ (cond-true (has_room b.text new) _ _ (roomy b.text new room)
     ∙ ap Ok (grown-content b c m pos new within same values overlays settings))
 
 pub deletion-is : (b c : BufferState) (from to : ℕ) → IsWithin (props.meaning b) → IsAccessibleRange b.text from to
@@ -46,7 +46,7 @@ pub deletion-is : (b c : BufferState) (from to : ℕ) → IsWithin (props.meanin
     → c.overlays ≡ map (slot_shrunk from to) b.overlays → c.settings ≡ marked (nat_lt from to) b.settings
     → (m : MarkValues) → deletion from to (content_of b m) ≡ Ok (content_of c m)
 deletion-is b c from to within at same values overlays settings m =
-    chosen (is_accessible_range b.text from to) _ _ (accessible-range b.text from to at)
+    cond-true (is_accessible_range b.text from to) _ _ (accessible-range b.text from to at)
     ∙ ap Ok (shrunk-content b c m from to within same values overlays settings)
 
 pub putting-is : (o : ObjectLists) (b : BufferState) (spans : List (List (Option ℕ))) (m : MarkValues) (kind : Kind) (from to : ℕ) (value : Option ℕ) → IsWithin (props.meaning b)
@@ -54,8 +54,8 @@ pub putting-is : (o : ObjectLists) (b : BufferState) (spans : List (List (Option
     → AreAlike (props.values_of spans) (put_on (props.values_of b.spans) kind from to value)
     → property_putting o from to kind value (content_of b m) ≡ Ok (content_of (record b { spans = spans }) m)
 putting-is o b spans m kind from to value within range made values =
-    chosen (is_accessible_range b.text from to) _ _ range
-    ∙ (chosen (is_value_made o kind value) _ _ made
+    cond-true (is_accessible_range b.text from to) _ _ range
+    ∙ (cond-true (is_value_made o kind value) _ _ made
     ∙ ap Ok (put-content b spans m kind from to value within values))
 
 pub putting-within : (b : BufferState) (spans : List (List (Option ℕ))) (kind : Kind) (from to : ℕ) (value : Option ℕ) → IsText b.text → IsWithin (props.meaning b) → is_text_kind kind ≡ true

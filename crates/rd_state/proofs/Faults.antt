@@ -1,6 +1,6 @@
 -- Why a string is not made, in the terms of the op.
-use Rattle.std.proofs.Common.{◌≡◌, ℕ, ◌<◌, Bool, true, false, not, if◌then◌else◌, nat_lt, None, Some, Err, List, length, refl, ◌∙◌, arith}
-use Rattle.std.proofs.lemmas.Bool.Decides.{nat_tests}
+use Rattle.std.proofs.Common.{◌≡◌, ℕ, ◌<◌, Bool, true, false, not, if◌then◌else◌, None, Some, Err, List, length, refl, ◌∙◌}
+use Rattle.std.proofs.lemmas.Bool.{lt-ltb}
 use Rattle.std.proofs.lemmas.List.Folds.{list_all-map}
 use Rattle.std.specs.List.{list_all}
 use Rattle.rd_objects.specs.Things.{ObjectLists, is_made, is_inside}
@@ -34,10 +34,7 @@ pub string-outside : (o : ObjectLists) (text : List ℕ) (runs : List OpRun) →
     → list_all (λ run. is_inside (length text) (run_of run)) runs ≡ false → string_making o text runs ≡ Err refusals.OutOfRange
 string-outside o text runs g h = refused-second _ _ _ _ _ (list_all-map (is_made o) run_of runs ∙ g) (list_all-map (is_inside (length text)) run_of runs ∙ h)
 
-longer : (n : ℕ) → 4096 < n → nat_lt 4096 n ≡ true
-longer n h = grind (arith, nat_tests)
-
 pub string-long : (o : ObjectLists) (text : List ℕ) (runs : List OpRun) → list_all (λ run. is_made o (run_of run)) runs ≡ true
     → list_all (λ run. is_inside (length text) (run_of run)) runs ≡ true → 4096 < length text → string_making o text runs ≡ Err refusals.ObjectTooLong
 string-long o text runs g h k =
-    refused-third _ _ _ _ _ (list_all-map (is_made o) run_of runs ∙ g) (list_all-map (is_inside (length text)) run_of runs ∙ h) (longer (length text) k)
+    refused-third _ _ _ _ _ (list_all-map (is_made o) run_of runs ∙ g) (list_all-map (is_inside (length text)) run_of runs ∙ h) (lt-ltb 4096 (length text) k)

@@ -1,5 +1,5 @@
 -- Windows found by number.
-use Rattle.std.proofs.Common.{◌≡◌, ℕ, ◌<◌, ◌==◌, Bool, true, false, cond, not, None, Some, Result, Ok, List, length, nat_lt, set, get_or, refl, ap, subst, arith, sym, ◌∙◌}
+use Rattle.std.proofs.Common.{◌≡◌, ℕ, ◌<◌, ◌==◌, false, not, None, Some, Result, Ok, List, length, nat_lt, set, get_or, refl, ap, subst, arith, sym, ◌∙◌}
 use Rattle.std.proofs.lemmas.Bool.{ltb-false}
 use Rattle.std.proofs.lemmas.List.Sums.{prefix_len-le-length}
 use Rattle.std.proofs.lemmas.Option.{slice_get-get_or}
@@ -12,10 +12,7 @@ use Rattle.rd_state.specs.States.{StateValue}
 use Rattle.rd_state.specs.Steps.{with_found, in_window, changing, setting}
 use Rattle.rd_state.specs.Windows.{window_of, place_in, with_window, without_window}
 use Rattle.rd_state.proofs.ByNumber.{NumberedWindow, IsPlace, found, absent}
-
-missed : (b : Bool) (n : ℕ) → cond b (Some n) None ≡ None → b ≡ false
-missed true n h = absurd (cc)
-missed false n h = refl
+use Rattle.rd_state.proofs.Options.{missed}
 
 -- where no place is found the window does not live
 pub nowhere : (number : ℕ) (ws : List NumberedWindow) → position (λ e. e.0 == number) ws ≡ None → window_of number ws ≡ None

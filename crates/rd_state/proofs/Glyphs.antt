@@ -1,25 +1,19 @@
 -- Glyph characters, one by one.
-use Rattle.std.proofs.Common.{◌≡◌, ℕ, ◌+◌, ◌<◌, ◌≤◌, Bool, true, false, nat_le, List, [], ◌∷◌, ◌++◌, length, get_or, map, take, sym, ap, refl, ◌∙◌, arith, true≢false}
+use Rattle.std.proofs.Common.{◌≡◌, ℕ, ◌+◌, ◌<◌, ◌≤◌, Bool, true, nat_le, List, [], ◌∷◌, ◌++◌, length, get_or, map, take, sym, ap, refl, ◌∙◌, arith}
 use Rattle.std.proofs.lemmas.Bool.{and_parts, and_from}
 use Rattle.std.proofs.Math.Seq.{take-length}
 use Rattle.std.proofs.lemmas.List.{length-map, map_more}
-use Rattle.std.proofs.lemmas.List.Folds.{list_all-append, list_all_at}
+use Rattle.std.proofs.lemmas.List.Folds.{list_all-append}
+use Rattle.std.proofs.lemmas.List.Sums.{AllPass-from_list_all}
 use Rattle.std.specs.List.{list_all}
 use Rattle.rd_base.specs.declared.cell.Glyph.{Glyph}
 use Rattle.rd_objects.specs.Tables as tables
 use Rattle.rd_script.specs.Forms.{is_glyph, is_glyph_text}
 use Rattle.rd_state.specs.Making.{glyph_of}
 
-passes-by : {X : Type 0} (p : X → Bool) (xs : List X) (i : ℕ) (x : X) (b : Bool) → p x ≡ b → i < length xs → x ≡ get_or xs i x → list_all p xs ≡ true → b ≡ true
-passes-by p xs i x true h less is all = refl
-passes-by p xs i x false h less is all = absurd (true≢false (sym all ∙ list_all_at p xs i x less (ap p (sym is) ∙ h)))
-
-passes : {X : Type 0} (p : X → Bool) (xs : List X) (i : ℕ) (x : X) → i < length xs → x ≡ get_or xs i x → list_all p xs ≡ true → p x ≡ true
-passes p xs i x less is all = passes-by p xs i x (p x) refl less is all
-
 -- each character of a text of glyph characters
 pub glyph-at : (text : List ℕ) (i c : ℕ) → is_glyph_text text ≡ true → i < length text → c ≡ get_or text i c → is_glyph c ≡ true
-glyph-at text i c h less is = passes is_glyph text i c less is (and_parts (nat_le (length text) 16) (list_all is_glyph text) h).1
+glyph-at text i c h less is = ap is_glyph is ∙ AllPass-from_list_all is_glyph text (and_parts (nat_le (length text) 16) (list_all is_glyph text) h).1 i c less
 
 pub all-push : {X : Type 0} (p : X → Bool) (xs : List X) (x : X) → list_all p xs ≡ true → p x ≡ true → list_all p (xs ++ x ∷ []) ≡ true
 all-push p xs x h g = list_all-append p xs (x ∷ []) ∙ and_from (list_all p xs) (list_all p (x ∷ [])) h (and_from (p x) true g refl)

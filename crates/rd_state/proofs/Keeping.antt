@@ -7,18 +7,19 @@ use Rattle.std.proofs.lemmas.Option.{slice_get_within, get_or_from_slice_get}
 use Rattle.std.proofs.lemmas.Slice.Eq.{bytes_eq-Decides}
 use Rattle.std.specs.Prelude.{slice_get, slice_set, option_map, IsTrue, IsSome}
 use Rattle.std.specs.Str.{bytes_eq}
-use Rattle.rd_text.specs.Texts.{IsText, IsAccessible, no_text}
+use Rattle.rd_text.specs.Texts.{IsAccessible}
 use Rattle.rd_objects.specs.Things.{ObjectLists}
 use Rattle.rd_script.specs.Forms.{is_buffer_name}
 use Rattle.rd_tree.specs.Calls as tree
 use Rattle.rd_tree.specs.Windows.{Windows}
 use Rattle.rd_state.specs.declared.moves.Move.{Move}
 use Rattle.rd_state.specs.declared.window.WindowState.{WindowState}
-use Rattle.rd_state.specs.States.{BufferValue, ContentValue, StateValue, new_buffer, new_content, number_of}
-use Rattle.rd_state.specs.Windows.{window_of, with_window, without_window, AreApart, leaf_at, leaf_of}
+use Rattle.rd_state.specs.States.{BufferValue, ContentValue, new_buffer, new_content, number_of}
+use Rattle.rd_state.specs.Windows.{window_of, with_window, leaf_at, leaf_of}
 use Rattle.rd_state.specs.Valid.{most_buffers, AreToldByName, AreBuffers, IsContent, IsWindow, AreWindows}
 use Rattle.rd_state.specs.Moves.{place_after, moved, moved_in}
-use Rattle.rd_state.proofs.ByNumber.{NumberedWindow, each_by, window-each, apart-each, get-each, window-same, window-other, apart-with, get-with, get-end, window-at}
+use Rattle.rd_state.proofs.ByNumber.{NumberedWindow, window-each, apart-each, get-each, window-same, window-other, apart-with, get-with, get-end, window-at}
+use Rattle.rd_state.proofs.Options.{map-map}
 
 -- ---- buffers
 
@@ -174,10 +175,6 @@ moved_by i how w = if w.buffer == i then moved how w else w
 leaf-moved : (t : Bool) (how : Move) (w : WindowState) → leaf_of (if t then moved how w else w) ≡ leaf_of w
 leaf-moved true how w = refl
 leaf-moved false how w = refl
-
-map-map : {X Y Z : Type 0} (f : X → Y) (g : Y → Z) (h : X → Z) (o : Option X) → ((x : X) → g (f x) ≡ h x) → option_map g (option_map f o) ≡ option_map h o
-map-map f g h None e = refl
-map-map f g h (Some x) e = ap (λ z. Some z) (e x)
 
 is_some-map : {X Y : Type 0} (f : X → Y) (o : Option X) → IsSome o → IsSome (option_map f o)
 is_some-map f None h = h

@@ -1,24 +1,19 @@
 -- What a window tree says of its windows, and how it changes.
-use Rattle.std.proofs.Common.{◌≡◌, ◌≢◌, ℕ, zero, suc, ◌+◌, ◌<◌, ◌≤◌, ◌==◌, ◌||◌, Bool, true, false, is_some, if◌then◌else◌, Option, None, Some, List, [], ◌∷◌, ◌++◌, subst, sym, ap, refl, ◌∙◌, arith}
-use Rattle.std.proofs.lemmas.Bool.{cases_eq, eqb-true}
+use Rattle.std.proofs.Common.{◌≡◌, ◌≢◌, ℕ, ◌+◌, ◌<◌, ◌≤◌, ◌==◌, ◌||◌, Bool, true, false, is_some, if◌then◌else◌, Option, None, Some, List, [], ◌∷◌, ◌++◌, sym, ap, refl, ◌∙◌, arith}
+use Rattle.std.proofs.lemmas.Bool.{eqb-true, cond-false, cond-true, eq-eqb, ne_eqb}
 use Rattle.std.specs.Prelude.{option_map}
 use Rattle.std.specs.Option.{option_or}
 use Rattle.rd_tree.specs.declared.placed.Placed.{Placed}
 use Rattle.rd_tree.specs.declared.rect.Rect.{Rect}
 use Rattle.rd_tree.specs.declared.side.Side.{Side}
-use Rattle.rd_tree.specs.Windows.{Windows, Window, Split, first_part, second_part, first_size, placed, of_number, window_at, holds, resized, replaced, halves, split_at, with_mode, with_margins, is_leaf_of, is_single, sibling, removed, first_leaf, times}
+use Rattle.rd_tree.specs.Windows.{Windows, Window, Split, first_part, second_part, first_size, placed, of_number, window_at, holds, resized, replaced, halves, split_at, is_leaf_of, is_single, sibling, removed, first_leaf, times}
 use Rattle.rd_state.specs.Windows.{leaf_at}
-use Rattle.rd_state.proofs.Opening.{chosen, passed}
-use Rattle.rd_state.proofs.ByNumber.{eq-true, eq-false}
+use Rattle.rd_state.proofs.Options.{or-none, some-or}
 
 abbrev pub Leaf : Type 0
 Leaf = Bool × ℕ
 
 -- ---- options
-
-or-none : {X : Type 0} (o : Option X) → option_or o None ≡ o
-or-none None = refl
-or-none (Some x) = refl
 
 map-same : {X : Type 0} (o : Option X) → option_map (λ x. x) o ≡ o
 map-same None = refl
@@ -76,10 +71,10 @@ leaf-some : (n : ℕ) (ws : Windows) → holds n ws ≡ true → is_some (leaf_a
 leaf-some n ws h = is_some-leaf n ws ∙ h
 
 leaf-past : (n m : ℕ) (mode : Bool) (margins : ℕ) → m ≢ n → leaf_at n (Window m mode margins) ≡ None
-leaf-past n m mode margins h = passed (m == n) (Some (mode, margins)) None (eq-false m n h)
+leaf-past n m mode margins h = cond-false (m == n) (Some (mode, margins)) None (ne_eqb m n h)
 
 leaf-here : (n m : ℕ) (mode : Bool) (margins : ℕ) → m ≡ n → leaf_at n (Window m mode margins) ≡ Some (mode, margins)
-leaf-here n m mode margins h = chosen (m == n) (Some (mode, margins)) None (eq-true m n h)
+leaf-here n m mode margins h = cond-true (m == n) (Some (mode, margins)) None (eq-eqb m n h)
 
 or-first : (n : ℕ) (first second : Windows) → holds n first ≡ true → option_or (leaf_at n first) (leaf_at n second) ≡ leaf_at n first
 or-first n first second h = or-some (leaf_at n first) (leaf_at n second) (leaf-some n first h)
@@ -151,7 +146,7 @@ pub leaf-same : (n : ℕ) (other : Bool → ℕ → Windows) (g : Leaf → Leaf)
     → leaf_at n (replaced n other ws) ≡ option_map g (leaf_at n ws)
 leaf-same n other g (Window m mode margins) gives = either-leaf n (m == n) (other mode margins) (Window m mode margins) (option_map g (leaf_at n (Window m mode margins)))
     (λ h. gives mode margins ∙ sym (ap (option_map g) (leaf-here n m mode margins (eqb-true m n h))))
-    (λ h. let past = passed (m == n) (Some (mode, margins)) None h in past ∙ sym (ap (option_map g) past))
+    (λ h. let past = cond-false (m == n) (Some (mode, margins)) None h in past ∙ sym (ap (option_map g) past))
 leaf-same n other g (Split side size first second) gives =
     either-leaf n (holds n first) (Split side size (replaced n other first) second) (Split side size first (replaced n other second))
     (option_map g (option_or (leaf_at n first) (leaf_at n second)))
@@ -184,7 +179,7 @@ pub split-new : (n : ℕ) (side : Side) (size new : ℕ) (ws : Windows) → n �
 split-new n side size new (Window m mode margins) ne none =
     either-leaf new (m == n) (halves n side size new mode margins) (Window m mode margins) (leaf_at n (Window m mode margins))
     (λ h. new-half n side size new mode margins ne ∙ sym (leaf-here n m mode margins (eqb-true m n h)))
-    (λ h. none ∙ sym (passed (m == n) (Some (mode, margins)) None h))
+    (λ h. none ∙ sym (cond-false (m == n) (Some (mode, margins)) None h))
 split-new n side size new (Split s z first second) ne none =
     let parts = none-both (leaf_at new first) (leaf_at new second) none in
     either-leaf new (holds n first) (Split s z (split_at n side size new first) second) (Split s z first (split_at n side size new second))
@@ -272,10 +267,6 @@ or-held : (o p : Option Leaf) → is_some p ≡ true → is_some (option_or o p)
 or-held None p h = h
 or-held (Some x) p h = refl
 
-held-or-first : (o p : Option Leaf) → is_some o ≡ true → is_some (option_or o p) ≡ true
-held-or-first None p h = absurd (cc)
-held-or-first (Some x) p h = refl
-
 heir-by : (t : Bool) (a b : Windows) (x y : Windows) → (t ≡ true → is_some (leaf_at (first_leaf x) a) ≡ true) → (t ≡ false → is_some (leaf_at (first_leaf y) b) ≡ true)
     → is_some (leaf_at (first_leaf (if t then x else y)) (if t then a else b)) ≡ true
 heir-by true a b x y h g = h refl
@@ -294,7 +285,7 @@ heir-held n (Split side size first second) rect held many =
     (λ h. heir-by (is_leaf_of n second) (resized first rect) inner first far
     (λ g. resized-held first rect)
     (λ g. heir-by (holds n first) in_first in_second (sibling n first) (sibling n second)
-    (λ f. held-or-first (leaf_at (first_leaf (sibling n first)) (removed n first (first_part side size rect))) (leaf_at (first_leaf (sibling n first)) second)
+    (λ f. some-or (leaf_at (first_leaf (sibling n first)) (removed n first (first_part side size rect))) (leaf_at (first_leaf (sibling n first)) second)
     (heir-held n first (first_part side size rect) f (not-alone n first h f)))
     (λ f.
     let other = held-second (holds n first) (holds n second) held f in

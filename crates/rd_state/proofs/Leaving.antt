@@ -1,32 +1,23 @@
 -- What ops leave of what is seen.
-use Rattle.std.proofs.Common.{◌≡◌, ◌≢◌, ℕ, zero, suc, ◌+◌, ◌-◌, ◌<◌, ◌≤◌, inl, inr, ◌==◌, Bool, true, false, is_some, if◌then◌else◌, nat_lt, nat_le, min, max, ℤ, pos, Option, None, Some, Result, Ok, Err, List, [], ◌∷◌, ◌++◌, length, map, subst, sym, ap, refl, ◌∙◌, arith, length-append, unwrap_or}
-use Rattle.std.proofs.lemmas.Bool.{cases_eq}
-use Rattle.std.proofs.lemmas.List.{length-set}
-use Rattle.std.proofs.lemmas.Option.{slice_get_within}
-use Rattle.std.specs.Option.{option_and_then}
-use Rattle.std.specs.Prelude.{slice_get, slice_set, option_map, ◌-ℤ◌}
-use Rattle.rd_text.specs.Texts.{TextValue, IsText, narrowed, widened}
+use Rattle.std.proofs.Common.{◌≡◌, ◌≢◌, ℕ, ◌+◌, ◌-◌, ◌<◌, ◌≤◌, inl, inr, ◌==◌, Bool, true, is_some, if◌then◌else◌, nat_le, min, max, ℤ, pos, Option, None, Some, Result, Ok, Err, List, [], ◌∷◌, ◌++◌, length, map, subst, sym, ap, refl, ◌∙◌}
+use Rattle.std.specs.Prelude.{slice_get, slice_set, ◌-ℤ◌}
 use Rattle.rd_overlays.specs.declared.overlay.Overlay.{Overlay}
 use Rattle.rd_overlays.specs.declared.overlay.Kind.{Kind}
 use Rattle.rd_overlays.specs.Overlays as overlays
 use Rattle.rd_overlays.specs.Overlays.{overlay_at, new_overlay}
 use Rattle.rd_objects.specs.Sound.{Extends}
 use Rattle.rd_objects.specs.Things.{ObjectLists}
-use Rattle.rd_props.specs.Edits.{AreOrdered, HasOverlays}
+use Rattle.rd_props.specs.Edits.{AreOrdered}
 use Rattle.rd_script.specs.Forms.{is_text_kind}
-use Rattle.rd_script.specs.declared.setting.Setting.{Setting}
 use Rattle.rd_margins.specs.Marks as marks
-use Rattle.rd_state.specs.declared.effect.Effect.{Effect}
-use Rattle.rd_state.specs.declared.effect.Effect.TheVariants.{Nothing, Edit, Moved, All, Window}
+use Rattle.rd_state.specs.declared.effect.Effect.TheVariants.{Edit}
 use Rattle.rd_state.specs.declared.moves.Move.{Move}
 use Rattle.rd_state.specs.declared.refused.Refused.{Refused}
 use Rattle.rd_state.specs.declared.refused.Refused.TheVariants.{NoBuffer, NoObject, NoOverlay, OutOfRange, TooManyOverlays}
-use Rattle.rd_state.specs.declared.window.WindowState.{WindowState}
 use Rattle.rd_state.specs.States.{BufferValue, ContentValue, StateValue, seen, number_of}
-use Rattle.rd_state.specs.Valid.{IsContent, IsValid}
-use Rattle.rd_state.specs.Changes.{Stays, StaysWhole, Leaves, without_flags}
+use Rattle.rd_state.specs.Valid.{IsContent}
+use Rattle.rd_state.specs.Changes.{Stays, StaysWhole}
 use Rattle.rd_state.specs.Edits.{is_accessible_range, is_range_of_all, is_made, is_value_made, most_overlays, grown, shrunk, insertion, deletion, property_putting, overlay_making, overlay_moving, overlay_dropping, overlay_putting, mark_putting}
-use Rattle.rd_state.specs.Effects.{overlay_in, covered_effect, moved_effect, restyled}
 use Rattle.rd_state.specs.Moves.{moved_in}
 use Rattle.rd_state.specs.Steps.{with_found, replaced, moving, edited, edited_moving}
 use Rattle.rd_state.proofs.Below.{LeaveLaws}
@@ -34,6 +25,7 @@ use Rattle.rd_state.proofs.Contents.{grown-is, shrunk-is, put-is, overlays-are, 
 use Rattle.rd_state.proofs.Keeping.{holding, get-set}
 use Rattle.rd_state.proofs.Stepping.{insertion-means, deletion-means}
 use Rattle.rd_state.proofs.Tests.{if-ok, if-not, is_accessible_range-means, is_range_of_all-means}
+use Rattle.rd_state.proofs.Options.{one-value}
 
 -- ---- the same buffer
 
@@ -218,9 +210,6 @@ edited-is s t name edit h = found-edit s t (number_of name s.buffers) (slice_get
 pub edited_moving-is : (s t : StateValue) (name : List ℕ) (how : Move) (edit : ContentValue → Result ContentValue Refused) → edited_moving s name how edit ≡ Ok t
     → IsEditOf s t (number_of name s.buffers) edit × (t.windows ≡ map (moved_in (number_of name s.buffers) how) s.windows)
 edited_moving-is s t name how edit h = found-move s t (number_of name s.buffers) (slice_get s.buffers (number_of name s.buffers)) how edit refl h
-
-one-value : {X : Type 0} (o : Option X) (x y : X) → o ≡ Some x → o ≡ Some y → x ≡ y
-one-value o x y h k = cc
 
 pub same-at : (s t : StateValue) (i k : ℕ) (edit : ContentValue → Result ContentValue Refused) (b c : BufferValue) → IsEditOf s t i edit → slice_get s.buffers k ≡ Some b → slice_get t.buffers k ≡ Some c
     → k ≡ i → (edit b.content ≡ Ok c.content) × (slice_get s.buffers i ≡ Some b)

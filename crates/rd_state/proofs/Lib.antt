@@ -14,6 +14,7 @@ mod Leaving
 mod Mapped
 mod Naming
 pub mod Opening
+pub mod Options
 mod Outcomes
 mod Reaching
 mod Sharing
@@ -22,7 +23,7 @@ mod Slots
 mod Small
 mod Stepping
 mod Tables
-mod Tests
+pub mod Tests
 mod Typing
 mod Viewing
 mod Within

@@ -6,7 +6,7 @@ use Rattle.std.specs.Cmp.{nat_cmp_total}
 use Rattle.std.specs.FinMap as finite
 use Rattle.std.specs.FinMap.{get, get-insert, get-remove, get-empty}
 use Rattle.std.specs.Ordering.{nat_cmp, eq_by_cmp}
-use Rattle.std.specs.Prelude.{IfSome, slice_get}
+use Rattle.std.specs.Prelude.{IfSome}
 use Rattle.rd_base.specs.Cells.{HasColours}
 use Rattle.rd_base.specs.Chars.{is_code}
 use Rattle.rd_base.specs.Faces.{Attributes}
@@ -19,7 +19,7 @@ use Rattle.rd_objects.specs.Tables.{TableValue, IsTable}
 use Rattle.rd_objects.specs.Things.{ObjectLists, string_fault, spec_fault, full_fault, string_added, spec_added, face_added, table_added, IsSmallSpec}
 use Rattle.rd_objects.specs.declared.fault.ObjectFault.{ObjectFault}
 use Rattle.rd_props.specs.Buffers as props
-use Rattle.rd_props.specs.Made.{SettingsMade, AreMade}
+use Rattle.rd_props.specs.Made.{SettingsMade}
 use Rattle.rd_margins.specs.Marks.{MarkValues, marked}
 use Rattle.rd_script.specs.Forms.{IsSettingInForm, IsSpecInForm, is_buffer_name}
 use Rattle.rd_script.specs.declared.object.OpRun.{OpRun}
@@ -29,8 +29,8 @@ use Rattle.rd_script.specs.declared.setting.Setting.{Setting}
 use Rattle.rd_script.specs.declared.setting.Setting.TheVariants as setting
 use Rattle.rd_state.specs.declared.refused.Refused.{Refused}
 use Rattle.rd_state.specs.declared.refused.Refused.TheVariants.{NoObject, NoOverlay, NameTaken, TooManyBuffers}
-use Rattle.rd_state.specs.States.{BufferValue, ContentValue, StateValue, seen, value_in, values_on, new_buffer, new_content, number_of}
-use Rattle.rd_state.specs.Valid.{most_buffers, AreBuffers, IsContent, IsValid}
+use Rattle.rd_state.specs.States.{ContentValue, StateValue, seen, value_in, values_on, new_buffer, new_content, number_of}
+use Rattle.rd_state.specs.Valid.{most_buffers, IsContent, IsValid}
 use Rattle.rd_state.specs.Edits.{is_made, is_setting_made, mark_putting, setting_putting, with_setting}
 use Rattle.rd_state.specs.Making.{unless_fault, run_of, spec_of, string_making, spec_making, face_making, table_making}
 use Rattle.rd_state.specs.Steps.{with_objects, making}

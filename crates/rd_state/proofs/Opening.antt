@@ -1,6 +1,6 @@
 -- The values of text properties, kind by kind.
 use Rattle.std.proofs.Common.{◌≡◌, ◌≢◌, ℕ, ◌+◌, ◌-◌, ◌<◌, ◌≤◌, inl, inr, Bool, true, false, if◌then◌else◌, nat_lt, Option, None, Result, Ok, Err, List, [], length, get_or, set, sym, ap, subst, ◌∙◌, arith}
-use Rattle.std.proofs.lemmas.Bool.{cases_eq, cases_lt}
+use Rattle.std.proofs.lemmas.Bool.{cases_eq, cases_lt, cond-false, cond-true, le-ltb, lt-ltb}
 use Rattle.std.proofs.lemmas.Bool.Decides.{nat_tests}
 use Rattle.std.proofs.lemmas.List.{get_or-set_same, get_or-set_other, get_or_default, get_or_past, set-get_or}
 use Rattle.std.specs.Prelude.{is_err, OnOk, OnErr}
@@ -10,27 +10,13 @@ use Rattle.rd_props.specs.Edits.{opened, closed}
 
 -- ---- choices
 
-branches : {X : Type 0} (t : Bool) (a b c d : X) → a ≡ c → b ≡ d → (if t then a else b) ≡ (if t then c else d)
+pub branches : {X : Type 0} (t : Bool) (a b c d : X) → a ≡ c → b ≡ d → (if t then a else b) ≡ (if t then c else d)
 branches true a b c d e f = e
 branches false a b c d e f = f
 
 either : {X : Type 0} (t : Bool) (a b c : X) → a ≡ c → b ≡ c → (if t then a else b) ≡ c
 either true a b c e f = e
 either false a b c e f = f
-
-pub chosen : {X : Type 0} (t : Bool) (a b : X) → t ≡ true → (if t then a else b) ≡ a
-chosen true a b e = cc
-chosen false a b e = absurd (cc)
-
-pub passed : {X : Type 0} (t : Bool) (a b : X) → t ≡ false → (if t then a else b) ≡ b
-passed true a b e = absurd (cc)
-passed false a b e = cc
-
-pub less : (j k : ℕ) → j < k → nat_lt j k ≡ true
-less j k h = grind (arith, nat_tests)
-
-pub not-less : (j k : ℕ) → k ≤ j → nat_lt j k ≡ false
-not-less j k h = grind (arith, nat_tests)
 
 same-less : (j k : ℕ) → j ≢ k → nat_lt j (k + 1) ≡ nat_lt j k
 same-less j k h = grind (arith, nat_tests)
@@ -53,10 +39,10 @@ one-more : (change : Change) (spans : List (List (Option ℕ))) (old : ℕ → �
 one-more change spans old k was now there is made before kind p =
     let read : get_or spans k [] ≡ was = get_or_default spans k [] was there ∙ sym is in
     let here : (q : ℕ) → value_at was q ≡ old k q
-    = λ q. ap (λ rs. value_at rs q) (sym read) ∙ (before k q ∙ passed (nat_lt k k) (change old k q) (old k q) (not-less k k (omega arith))) in
+    = λ q. ap (λ rs. value_at rs q) (sym read) ∙ (before k q ∙ cond-false (nat_lt k k) (change old k q) (old k q) (le-ltb k k (omega arith))) in
     let at : values_of (set spans k now) k p ≡ changed_first change old (k + 1) k p
     = ap (λ rs. value_at rs p) (get_or-set_same spans k now [] there)
-    ∙ (made p here ∙ sym (chosen (nat_lt k (k + 1)) (change old k p) (old k p) (less k (k + 1) (omega arith)))) in
+    ∙ (made p here ∙ sym (cond-true (nat_lt k (k + 1)) (change old k p) (old k p) (lt-ltb k (k + 1) (omega arith)))) in
     elim (cases_eq kind k) [
       | inl same ↦ subst (λ j. values_of (set spans k now) j p ≡ changed_first change old (k + 1) j p) (sym same) at
       | inr other ↦
@@ -92,10 +78,10 @@ all-changed : (change : Change) (spans old : List (List (Option ℕ))) (k : ℕ)
     → ((kind p : ℕ) → values_of spans kind p ≡ changed_first change (values_of old) k kind p)
     → (kind p : ℕ) → values_of spans kind p ≡ change (values_of old) kind p
 all-changed change spans old k all nothing h kind p = elim (cases_lt kind k) [
-  | inl below ↦ h kind p ∙ chosen (nat_lt kind k) _ _ (less kind k below)
+  | inl below ↦ h kind p ∙ cond-true (nat_lt kind k) _ _ (lt-ltb kind k below)
   | inr behind ↦
       let none : (q : ℕ) → values_of old kind q ≡ None = λ q. none-behind old kind q (omega arith) in
-      h kind p ∙ (passed (nat_lt kind k) _ _ (not-less kind k behind) ∙ (none p ∙ sym (nothing kind p none)))
+      h kind p ∙ (cond-false (nat_lt kind k) _ _ (le-ltb kind k behind) ∙ (none p ∙ sym (nothing kind p none)))
 ]
 
 pub all-opened : (spans old : List (List (Option ℕ))) (pos n k : ℕ) → length old ≤ k
@@ -115,13 +101,13 @@ all-closed spans old from to k all = all-changed (λ f. closed f from to) spans 
 -- positions that were opened and are closed again
 pub closed-opened : (f : ℕ → ℕ → Option ℕ) (pos n kind p : ℕ) → closed (opened f pos n) pos (pos + n) kind p ≡ f kind p
 closed-opened f pos n kind p = elim (cases_lt p pos) [
-  | inl before ↦ chosen (nat_lt p pos) _ _ (less p pos before) ∙ chosen (nat_lt p pos) _ _ (less p pos before)
+  | inl before ↦ cond-true (nat_lt p pos) _ _ (lt-ltb p pos before) ∙ cond-true (nat_lt p pos) _ _ (lt-ltb p pos before)
   | inr behind ↦
       let q = p + (pos + n - pos) in
       let back : q - n ≡ p = omega arith in
-      passed (nat_lt p pos) _ _ (not-less p pos behind)
-      ∙ (passed (nat_lt q pos) _ _ (not-less q pos (omega arith))
-      ∙ (passed (nat_lt q (pos + n)) _ _ (not-less q (pos + n) (omega arith)) ∙ ap (f kind) back))
+      cond-false (nat_lt p pos) _ _ (le-ltb p pos behind)
+      ∙ (cond-false (nat_lt q pos) _ _ (le-ltb q pos (omega arith))
+      ∙ (cond-false (nat_lt q (pos + n)) _ _ (le-ltb q (pos + n) (omega arith)) ∙ ap (f kind) back))
 ]
 
 closed-alike : (f g : ℕ → ℕ → Option ℕ) (from to kind p : ℕ) → ((q : ℕ) → f kind q ≡ g kind q) → closed f from to kind p ≡ closed g from to kind p
@@ -134,12 +120,12 @@ pub undone : (mid now : List (List (Option ℕ))) (old : ℕ → ℕ → Option 
     → (kind p : ℕ) → values_of now kind p ≡ old kind p
 undone mid now old pos n k up down kind p = elim (cases_lt kind k) [
   | inl below ↦
-      let here : (q : ℕ) → values_of mid kind q ≡ opened old pos n kind q = λ q. up kind q ∙ chosen (nat_lt kind k) _ _ (less kind k below) in
-      down kind p ∙ (chosen (nat_lt kind k) _ _ (less kind k below)
+      let here : (q : ℕ) → values_of mid kind q ≡ opened old pos n kind q = λ q. up kind q ∙ cond-true (nat_lt kind k) _ _ (lt-ltb kind k below) in
+      down kind p ∙ (cond-true (nat_lt kind k) _ _ (lt-ltb kind k below)
       ∙ (closed-alike (values_of mid) (opened old pos n) pos (pos + n) kind p here ∙ closed-opened old pos n kind p))
   | inr behind ↦
-      down kind p ∙ (passed (nat_lt kind k) _ _ (not-less kind k behind)
-      ∙ (up kind p ∙ passed (nat_lt kind k) _ _ (not-less kind k behind)))
+      down kind p ∙ (cond-false (nat_lt kind k) _ _ (le-ltb kind k behind)
+      ∙ (up kind p ∙ cond-false (nat_lt kind k) _ _ (le-ltb kind k behind)))
 ]
 
 -- nothing was changed at a place
@@ -153,7 +139,7 @@ unchanged change spans old k was now there is same before kind p =
 pub not-yet : (change : Change) (spans : List (List (Option ℕ))) (old : ℕ → ℕ → Option ℕ) (k : ℕ) (was : List (Option ℕ)) → k < length spans
     → ((kind p : ℕ) → values_of spans kind p ≡ changed_first change old k kind p) → (p : ℕ) → value_at (get_or spans k was) p ≡ old k p
 not-yet change spans old k was there before p =
-    ap (λ rs. value_at rs p) (get_or_default spans k was [] there) ∙ (before k p ∙ passed (nat_lt k k) _ _ (not-less k k (omega arith)))
+    ap (λ rs. value_at rs p) (get_or_default spans k was [] there) ∙ (before k p ∙ cond-false (nat_lt k k) _ _ (le-ltb k k (omega arith)))
 
 -- ---- answers
 

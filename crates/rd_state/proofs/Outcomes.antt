@@ -1,10 +1,10 @@
 -- What each op leaves: of buffers what its effect tells, objects that go on, and windows that show what they showed.
-use Rattle.std.proofs.Common.{◌≡◌, ◌≢◌, ℕ, zero, suc, ◌+◌, ◌-◌, ◌<◌, ◌≤◌, inl, inr, ◌==◌, Bool, true, false, is_some, if◌then◌else◌, nat_lt, nat_le, min, max, pos, ◌+ℤ◌, Option, None, Some, Result, Ok, Err, List, [], ◌∷◌, ◌++◌, length, map, subst, sym, ap, refl, ◌∙◌, arith, length-append, unwrap_or}
+use Rattle.std.proofs.Common.{◌≡◌, ◌≢◌, ℕ, ◌+◌, ◌-◌, ◌<◌, ◌≤◌, inl, inr, ◌==◌, true, false, is_some, if◌then◌else◌, nat_lt, nat_le, min, max, pos, ◌+ℤ◌, Option, None, Some, Result, Ok, Err, List, [], ◌∷◌, ◌++◌, length, map, subst, sym, ap, refl, ◌∙◌, arith, length-append, unwrap_or}
 use Rattle.std.proofs.lemmas.Bool.{cases_eq}
 use Rattle.std.proofs.lemmas.List.{length-set}
 use Rattle.std.proofs.lemmas.Option.{slice_get_within}
 use Rattle.std.specs.Option.{option_and_then, option_or}
-use Rattle.std.specs.Prelude.{slice_get, slice_set, option_map, ◌-ℤ◌}
+use Rattle.std.specs.Prelude.{slice_get, option_map, ◌-ℤ◌}
 use Rattle.rd_overlays.specs.declared.overlay.Overlay.{Overlay}
 use Rattle.rd_overlays.specs.Overlays.{overlay_at}
 use Rattle.rd_objects.specs.Sound.{Extends}
@@ -27,7 +27,7 @@ use Rattle.rd_state.specs.Valid.{most_buffers, IsValid}
 use Rattle.rd_state.specs.Windows.{window_of, with_window, without_window, selected_window}
 use Rattle.rd_state.specs.Changes.{Stays, StaysWhole, Leaves}
 use Rattle.rd_state.specs.Edits.{is_accessible, insertion, deletion, narrowing, widening, property_putting, overlay_making, overlay_moving, overlay_dropping, overlay_putting, mark_putting, setting_putting}
-use Rattle.rd_state.specs.Effects.{overlay_in, inserted_effect, restyled, covered_effect, moved_effect, effect_of}
+use Rattle.rd_state.specs.Effects.{overlay_in, inserted_effect, covered_effect, moved_effect, effect_of}
 use Rattle.rd_state.specs.Making.{run_of, spec_of, table_of, string_making, spec_making, face_making, table_making}
 use Rattle.rd_state.specs.Moves.{moved, moved_in}
 use Rattle.rd_state.specs.Steps.{with_objects, changing, inserting, typing, setting, placing, on_tree, held, format_fault, making, raw_text, step}
@@ -35,10 +35,11 @@ use Rattle.rd_state.proofs.AllSteps.{moved-buffer}
 use Rattle.rd_state.proofs.Below.{LeaveLaws, GrowLaws}
 use Rattle.rd_state.proofs.ByNumber.{NumberedWindow, window-each, window-same, window-other, window-end, window-gone, window-left, get-end, some-none}
 use Rattle.rd_state.proofs.Keeping.{moved_by}
-use Rattle.rd_state.proofs.Leaving.{whole, whole-objects, stays-inserted, stays-deleted, StaysAround, stays-put, stays-made, AroundOverlay, stays-dropped, stays-given, AroundBoth, stays-moved, stays-marked, IsEditOf, moving-is, edited-is, edited_moving-is, others-whole, here-stays}
+use Rattle.rd_state.proofs.Leaving.{whole, whole-objects, stays-inserted, stays-deleted, StaysAround, stays-put, stays-made, AroundOverlay, stays-dropped, stays-given, stays-moved, stays-marked, IsEditOf, moving-is, edited-is, edited_moving-is, others-whole, here-stays}
 use Rattle.rd_state.proofs.Naming.{made-none}
 use Rattle.rd_state.proofs.Showing.{found-ok, buffer-ok, on_tree-ok, changing-ok, unless-ok}
 use Rattle.rd_state.proofs.Tests.{if-ok, if-not}
+use Rattle.rd_state.proofs.Options.{one-value}
 
 -- windows show the buffers that they showed, but for those that an effect tells
 abbrev pub Show : StateValue → StateValue → Effect → Type 0
@@ -171,9 +172,6 @@ found-overlay : (s : StateValue) (name : List ℕ) (number : ℕ) (b : BufferVal
     → overlay_in s name number ≡ Some o
 found-overlay s name number b o at is = ap (option_and_then (λ (x : BufferValue). overlay_at x.content.overlays number)) at ∙ is
 
-one-overlay : (o : Option Overlay) (x y : Overlay) → o ≡ Some x → o ≡ Some y → x ≡ y
-one-overlay o x y h g = cc
-
 -- an edit of what an overlay covers
 overlay-outcome : (laws : LeaveLaws) (grow : GrowLaws) (s t : StateValue) (name : List ℕ) (number : ℕ) (edit : ContentValue → Result ContentValue Refused) → IsValid s
     → IsEditOf s t (number_of name s.buffers) edit × (t.windows ≡ s.windows)
@@ -187,7 +185,7 @@ overlay-outcome laws grow s t name number edit v e stays =
     (range-outcome laws grow s t i there.0.from (there.0.to - there.0.from) (there.0.to - there.0.from) edit e.0
     (λ b d at gives.
     let here = stays b d at gives in
-    let same : here.0 ≡ there.0 = one-overlay (overlay_in s name number) here.0 there.0 (found-overlay s name number b here.0 at here.1) is in
+    let same : here.0 ≡ there.0 = one-value (overlay_in s name number) here.0 there.0 (found-overlay s name number b here.0 at here.1) is in
     subst (λ (x : Overlay). StaysAround s.objects x.from x.to b.content d) same here.2)
     (show-same s t (Edit i there.0.from (there.0.to - there.0.from) (there.0.to - there.0.from)) e.1))
 
@@ -208,7 +206,7 @@ moved-outcome laws grow s t name number from to v e =
       λ same. here-stays s t i k edit b c Both e.0 hb hc
           (λ x y at gives eq.
           let here = stays b y at (subst (λ (z : ContentValue). edit z ≡ Ok y) eq gives) in
-          let one : here.0 ≡ there.0 = one-overlay (overlay_in s name number) here.0 there.0 (found-overlay s name number b here.0 at here.1) is in
+          let one : here.0 ≡ there.0 = one-value (overlay_in s name number) here.0 there.0 (found-overlay s name number b here.0 at here.1) is in
           subst (λ (z : ContentValue). Both z y s.objects) (sym eq)
           (subst (λ (o : Overlay). Stays b.content s.objects y s.objects (min o.from from) (max o.to to + 1) (pos 0)) one here.2)) same,
       λ ne. others-whole laws s t i k edit b c e.0 hb hc ne,

@@ -1,5 +1,6 @@
 -- An edit of a text at a position that no text reaches is refused.
 use Rattle.std.proofs.Common.{◌≡◌, ℕ, ◌+◌, ◌<◌, false, Some, Result, Err, List, length, get_or, subst, sym, ap, refl, ◌∙◌, arith}
+use Rattle.std.proofs.lemmas.Bool.{cond-false}
 use Rattle.std.proofs.lemmas.Bool.Decides.{nat_tests}
 use Rattle.std.proofs.lemmas.Option.{slice_get-get_or}
 use Rattle.std.specs.Prelude.{IsErr, slice_get}
@@ -15,7 +16,6 @@ use Rattle.rd_state.specs.Edits.{is_accessible, is_accessible_range, is_range_of
 use Rattle.rd_state.specs.States.{BufferValue, ContentValue, StateValue, new_buffer, number_of}
 use Rattle.rd_state.specs.Steps.{edited_moving, moving, replaced, step, with_found}
 use Rattle.rd_state.specs.Valid.{IsValid}
-use Rattle.rd_state.proofs.Opening.{passed}
 use Rattle.rd_state.proofs.Sharing.{refuses}
 
 -- ---- texts
@@ -51,19 +51,19 @@ all-to-behind t from to text far =
 -- ---- edits
 
 pub insertion-behind : (pos : ℕ) (new : List ℕ) → most_characters + 1 < pos → (c : ContentValue) → IsText c.text → insertion pos new c ≡ Err OutOfRange
-insertion-behind pos new far c text = passed (is_accessible c.text pos) _ _ (behind c.text pos text far)
+insertion-behind pos new far c text = cond-false (is_accessible c.text pos) _ _ (behind c.text pos text far)
 
 pub deletion-from-behind : (from to : ℕ) → most_characters + 1 < from → (c : ContentValue) → IsText c.text → deletion from to c ≡ Err OutOfRange
-deletion-from-behind from to far c text = passed (is_accessible_range c.text from to) _ _ (from-behind c.text from to text far)
+deletion-from-behind from to far c text = cond-false (is_accessible_range c.text from to) _ _ (from-behind c.text from to text far)
 
 pub deletion-to-behind : (from to : ℕ) → most_characters + 1 < to → (c : ContentValue) → IsText c.text → deletion from to c ≡ Err OutOfRange
-deletion-to-behind from to far c text = passed (is_accessible_range c.text from to) _ _ (to-behind c.text from to text far)
+deletion-to-behind from to far c text = cond-false (is_accessible_range c.text from to) _ _ (to-behind c.text from to text far)
 
 pub narrowing-from-behind : (from to : ℕ) → most_characters + 1 < from → (c : ContentValue) → IsText c.text → narrowing from to c ≡ Err OutOfRange
-narrowing-from-behind from to far c text = passed (is_range_of_all c.text from to) _ _ (all-from-behind c.text from to text far)
+narrowing-from-behind from to far c text = cond-false (is_range_of_all c.text from to) _ _ (all-from-behind c.text from to text far)
 
 pub narrowing-to-behind : (from to : ℕ) → most_characters + 1 < to → (c : ContentValue) → IsText c.text → narrowing from to c ≡ Err OutOfRange
-narrowing-to-behind from to far c text = passed (is_range_of_all c.text from to) _ _ (all-to-behind c.text from to text far)
+narrowing-to-behind from to far c text = cond-false (is_range_of_all c.text from to) _ _ (all-to-behind c.text from to text far)
 
 -- ---- states
 

@@ -1,6 +1,6 @@
 -- What the ops leave that change how the windows share the frame.
 use Rattle.std.proofs.Common.{◌≡◌, ℕ, ◌+◌, ◌-◌, ◌<◌, ◌≤◌, ◌==◌, ◌&&◌, Bool, true, false, inl, inr, is_some, if◌then◌else◌, nat_le, min, pos, Option, None, Some, Result, Ok, Err, List, [], ◌∷◌, ◌++◌, length, set, get_or, ap, subst, sym, refl, ◌∙◌, arith}
-use Rattle.std.proofs.lemmas.Bool.{cases_lt}
+use Rattle.std.proofs.lemmas.Bool.{cases_lt, and_left, and_right, cond-false, cond-true, eq-eqb, ne_eqb}
 use Rattle.std.proofs.lemmas.Bool.Decides.{nat_tests}
 use Rattle.std.specs.List.{remove}
 use Rattle.std.specs.Prelude.{IsErr, IfErr, option_map}
@@ -27,10 +27,9 @@ use Rattle.rd_state.specs.States.{StateValue}
 use Rattle.rd_state.specs.Steps.{changing, format_fault, in_window, mode_lining, on_tree, refused_tree, removing, splitting, step, unless_bad}
 use Rattle.rd_state.specs.Valid.{IsValid}
 use Rattle.rd_state.specs.Windows.{place_in, without_window}
-use Rattle.rd_state.proofs.ByNumber.{NumberedWindow, eq-true, eq-false}
+use Rattle.rd_state.proofs.ByNumber.{NumberedWindow}
 use Rattle.rd_state.proofs.Finding.{IsFound, at-window, found-in}
 use Rattle.rd_state.proofs.Leaves.{facts, is_some-leaf, leaf-placed}
-use Rattle.rd_state.proofs.Opening.{chosen, passed}
 
 -- ---- refusals
 
@@ -78,10 +77,10 @@ removes-window s t n i e d ws heir same there said is chosen_is =
 
 pub heir-chosen : (old n e heir : ℕ) (ws : Windows) → e ≡ n → heir ≡ first_leaf (sibling e ws) → old ≡ e → heir ≡ (if old == n then first_leaf (sibling n ws) else old)
 heir-chosen old n e heir ws number is same =
-    is ∙ (ap (λ k. first_leaf (sibling k ws)) number ∙ sym (chosen (old == n) (first_leaf (sibling n ws)) old (eq-true old n (same ∙ number))))
+    is ∙ (ap (λ k. first_leaf (sibling k ws)) number ∙ sym (cond-true (old == n) (first_leaf (sibling n ws)) old (eq-eqb old n (same ∙ number))))
 
 pub heir-passed : (old n e : ℕ) (ws : Windows) → e ≡ n → (old ≡ e → ⊥) → old ≡ (if old == n then first_leaf (sibling n ws) else old)
-heir-passed old n e ws number other = sym (passed (old == n) (first_leaf (sibling n ws)) old (eq-false old n (λ p. other (p ∙ sym number))))
+heir-passed old n e ws number other = sym (cond-false (old == n) (first_leaf (sibling n ws)) old (ne_eqb old n (λ p. other (p ∙ sym number))))
 
 -- ---- a window that changes with the tree
 
@@ -101,18 +100,10 @@ no-rows : (mode : Bool) (height size : ℕ) → height ≤ size → nat_le (if m
 no-rows true height size h = grind (arith, nat_tests)
 no-rows false height size h = grind (arith, nat_tests)
 
-and-left : (a b : Bool) → a ≡ false → (a && b) ≡ false
-and-left true b h = absurd (cc)
-and-left false b h = refl
-
-and-right : (a b : Bool) → b ≡ false → (a && b) ≡ false
-and-right true b h = h
-and-right false b h = refl
-
 -- a window that keeps all of its rectangle leaves no room for a new one
 too-small : (n size new margins : ℕ) (side : Side) (mode : Bool) (rect : Rect) → rect.width ≤ size → rect.height ≤ size → fits (halves n side size new mode margins) rect ≡ false
-too-small n size new margins Right mode rect wide high = and-right _ _ (and-left _ _ (no-columns margins rect.width size wide))
-too-small n size new margins Below mode rect wide high = and-right _ _ (and-right _ _ (no-rows mode rect.height size high))
+too-small n size new margins Right mode rect wide high = and_right _ _ (and_left _ _ (no-columns margins rect.width size wide))
+too-small n size new margins Below mode rect wide high = and_right _ _ (and_right _ _ (no-rows mode rect.height size high))
 
 abbrev pub SplitLaw : Type 0
 SplitLaw = (number : ℕ) (side : Side) (size new : ℕ) (windows : Windows) (rect : Rect) (window : Placed) → HasRoom windows rect → window_at number windows rect ≡ Some window

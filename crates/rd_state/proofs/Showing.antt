@@ -1,6 +1,6 @@
 -- A step leads from a valid state to a valid one: windows and the frame.
 use Rattle.std.proofs.Common.{◌≡◌, ◌≢◌, ℕ, zero, suc, ◌+◌, ◌-◌, ◌<◌, ◌≤◌, inl, inr, ◌==◌, ◌&&◌, ◌||◌, Bool, true, false, is_some, cond, if◌then◌else◌, nat_le, nat_lt, ℤ, pos, negsuc, Option, None, Some, Result, Ok, Err, List, [], ◌∷◌, ◌++◌, length, subst, sym, ap, refl, ◌∙◌, arith, IsTrue}
-use Rattle.std.proofs.lemmas.Bool.{cases_eq, eqb-false, ltb-true, ltb-false}
+use Rattle.std.proofs.lemmas.Bool.{cases_eq, eqb-false, ltb-true, ltb-false, cond-false, cond-true, eq-eqb, ne_eqb}
 use Rattle.std.proofs.lemmas.Bool.Decides.{nat_tests}
 use Rattle.std.specs.Int.{int_max}
 use Rattle.std.proofs.lemmas.Int.{ints}
@@ -8,8 +8,7 @@ use Rattle.std.proofs.lemmas.Option.{slice_get_within}
 use Rattle.std.specs.Option.{option_or}
 use Rattle.std.specs.Prelude.{slice_get, option_map, IsSome, IfSome}
 use Rattle.rd_base.specs.declared.limits.TheConstants.{PENDING_ROWS}
-use Rattle.rd_text.specs.Texts.{IsText, IsAccessible}
-use Rattle.rd_modeline.specs.Formats.{fault_in, pieces_of}
+use Rattle.rd_text.specs.Texts.{IsAccessible}
 use Rattle.rd_script.specs.Forms.{IsFormat}
 use Rattle.rd_script.specs.Numbers.{is_near_zero}
 use Rattle.rd_tree.specs.Calls as tree
@@ -19,19 +18,19 @@ use Rattle.rd_tree.specs.declared.fault.TreeFault.{TreeFault}
 use Rattle.rd_tree.specs.declared.fault.TreeFault.TheVariants as tree_faults
 use Rattle.rd_tree.specs.declared.side.Side.{Side}
 use Rattle.rd_state.specs.declared.refused.Refused.{Refused}
-use Rattle.rd_state.specs.declared.refused.Refused.TheVariants.{NoWindow, NoBuffer, OutOfRange, BadFormat}
+use Rattle.rd_state.specs.declared.refused.Refused.TheVariants.{NoWindow, NoBuffer, OutOfRange}
 use Rattle.rd_state.specs.declared.window.WindowState.{WindowState}
 use Rattle.rd_state.specs.States.{BufferValue, StateValue, number_of}
 use Rattle.rd_state.specs.Windows.{window_of, with_window, without_window, leaf_at, leaf_of}
-use Rattle.rd_state.specs.Valid.{IsWindow, AreWindows, IsFrame, IsGoodFormat, IsValid}
+use Rattle.rd_state.specs.Valid.{IsWindow, AreWindows, IsGoodFormat, IsValid}
 use Rattle.rd_state.specs.Edits.{is_accessible}
-use Rattle.rd_state.specs.Steps.{with_found, in_buffer, in_window, in_shown, changing, on_tree, refused_tree, splitting, removing, showing, placing, setting, held, format_fault, unless_bad, mode_lining, margining}
+use Rattle.rd_state.specs.Steps.{with_found, in_window, changing, on_tree, splitting, removing, showing, placing, setting, held, format_fault, unless_bad, mode_lining, margining}
 use Rattle.rd_state.proofs.Below.{TreeLaws}
-use Rattle.rd_state.proofs.ByNumber.{NumberedWindow, window-end, apart-end, get-end, window-gone, window-left, apart-without, get-without, get-window, some-none, eq-true, eq-false}
+use Rattle.rd_state.proofs.ByNumber.{NumberedWindow, window-end, apart-end, get-end, window-gone, window-left, apart-without, get-without, get-window, some-none}
 use Rattle.rd_state.proofs.Keeping.{windows-changed}
-use Rattle.rd_state.proofs.Opening.{chosen, passed}
-use Rattle.rd_state.proofs.Leaves.{Leaf, is_some-leaf, leaf-none, leaf-resized, leaf-same, leaf-other, split-same, split-other, split-new, removed-same, removed-other, heir-held, leaf-times}
+use Rattle.rd_state.proofs.Leaves.{Leaf, leaf-none, leaf-resized, leaf-same, leaf-other, split-same, split-other, split-new, removed-same, removed-other, heir-held, leaf-times}
 use Rattle.rd_state.proofs.Tests.{if-ok, if-not, is_accessible-means}
+use Rattle.rd_state.proofs.Options.{map-map, one-value, or-none, some-or}
 
 -- ---- what the calls of the tree mean
 
@@ -134,9 +133,6 @@ setting-valid s t number f v same keep h = set-valid s t number f v same keep (f
 
 -- ---- points and views
 
-one-there : {X : Type 0} (xs : List X) (i : ℕ) (b c : X) → slice_get xs i ≡ Some b → slice_get xs i ≡ Some c → b ≡ c
-one-there xs i b c h k = cc
-
 same-window : (n : ℕ) (ws : List NumberedWindow) (w v : WindowState) → window_of n ws ≡ Some w → window_of n ws ≡ Some v → w ≡ v
 same-window n ws w v h k = cc
 
@@ -152,7 +148,7 @@ placing-valid s t number place f v same keep h =
     (λ x found old. keep x old (λ c hc.
     let is : w.0 ≡ x = same-window number s.windows w.0 x w.1 found in
     let here : slice_get s.buffers w.0.buffer ≡ Some c = ap (λ (y : WindowState). slice_get s.buffers y.buffer) is ∙ hc in
-    subst (λ (z : BufferValue). IsAccessible z.content.text place) (one-there s.buffers w.0.buffer b.0 c b.1 here) at))
+    subst (λ (z : BufferValue). IsAccessible z.content.text place) (one-value (slice_get s.buffers w.0.buffer) b.0 c b.1 here) at))
     parts.1
 
 none-pending : IsTrue (is_near_zero (pos PENDING_ROWS) (pos 0))
@@ -221,7 +217,7 @@ shown-keeps s i b w v at old =
     let text = (v.buffers.contents i b at).text in
     let ordered = text.ordered in
     let here : (x : BufferValue) → slice_get s.buffers i ≡ Some x → IsAccessible x.content.text b.content.text.begin
-    = λ x hx. subst (λ (z : BufferValue). IsAccessible z.content.text b.content.text.begin) (one-there s.buffers i b x at hx) (omega arith, ordered) in
+    = λ x hx. subst (λ (z : BufferValue). IsAccessible z.content.text b.content.text.begin) (one-value (slice_get s.buffers i) b x at hx) (omega arith, ordered) in
     record {
       made = slice_get_within s.buffers i b at;
       point = here;
@@ -259,10 +255,6 @@ good-format : (format : Option (List ℕ)) → IsFormat format → format_fault 
 good-format None form h = tt
 good-format (Some text) form h = record { plain = form; good = h }
 
-map-twice : {X Y Z : Type 0} (f : X → Y) (g : Y → Z) (h : X → Z) (o : Option X) → ((x : X) → g (f x) ≡ h x) → option_map g (option_map f o) ≡ option_map h o
-map-twice f g h None e = refl
-map-twice f g h (Some x) e = ap (λ z. Some z) (e x)
-
 -- one window
 abbrev tree_window : ℕ → Bool → ℕ → Windows
 tree_window number mode margins = Window number mode margins
@@ -275,14 +267,14 @@ pub retold : (s : StateValue) (d : Configuration) (number : ℕ) (f : WindowStat
 retold s d number f g v valid wide high here gives others keep =
     with_windows s d (with_window number f s.windows) s.selected v
     (windows-changed s.buffers s.tree d s.windows s.selected number f valid
-    (here ∙ (ap (option_map g) (v.windows.leaves number) ∙ map-twice leaf_of g (λ w. leaf_of (f w)) (window_of number s.windows) gives)) others (λ w found old. keep w old) v.windows)
+    (here ∙ (ap (option_map g) (v.windows.leaves number) ∙ map-map leaf_of g (λ w. leaf_of (f w)) (window_of number s.windows) gives)) others (λ w found old. keep w old) v.windows)
     wide high
 
 mode-leaf : (n k : ℕ) (shown : Bool) (margins : ℕ) → k ≢ n → leaf_at k (tree_window n shown margins) ≡ None
-mode-leaf n k shown margins ne = passed (n == k) (Some (shown, margins)) None (eq-false n k (λ p. ne (sym p)))
+mode-leaf n k shown margins ne = cond-false (n == k) (Some (shown, margins)) None (ne_eqb n k (λ p. ne (sym p)))
 
 here-leaf : (n : ℕ) (shown : Bool) (margins : ℕ) → leaf_at n (tree_window n shown margins) ≡ Some (shown, margins)
-here-leaf n shown margins = chosen (n == n) (Some (shown, margins)) None (eq-true n n refl)
+here-leaf n shown margins = cond-true (n == n) (Some (shown, margins)) None (eq-eqb n n refl)
 
 pub mode_lining-valid : (laws : TreeLaws) (s t : StateValue) (number : ℕ) (format : Option (List ℕ)) → IsValid s → IsFormat format → mode_lining s number format ≡ Ok t → IsValid t
 mode_lining-valid laws s t number format v form h =
@@ -330,14 +322,6 @@ split-old number k side size made ws q = elim (cases_eq k number) [
   | inr n ↦ split-other number k side size made ws n q
 ]
 
-or-left : {X : Type 0} (o : Option X) → option_or o None ≡ o
-or-left None = refl
-or-left (Some x) = refl
-
-some-or : {X : Type 0} (o p : Option X) → is_some o ≡ true → is_some (option_or o p) ≡ true
-some-or None p h = absurd (cc)
-some-or (Some x) p h = refl
-
 map-none : {X Y : Type 0} (f : X → Y) (o : Option X) → option_map f o ≡ None → o ≡ None
 map-none f None h = refl
 map-none f (Some x) h = absurd (cc)
@@ -363,11 +347,11 @@ split-windows s d number side size w copy v valid is found leaf new =
             ∙ (v.windows.leaves number ∙ (ap (option_map leaf_of) found ∙ (ap (λ (x : Leaf). Some x) (sym leaf)
             ∙ sym (ap (option_map leaf_of) (window-end k s.windows (made, copy)
             ∙ (ap (λ (o : Option WindowState). option_or o (if made == k then Some copy else None)) (ap (λ (x : ℕ). window_of x s.windows) p ∙ fresh)
-            ∙ chosen (made == k) (Some copy) None (eq-true made k (sym p))))))))))
+            ∙ cond-true (made == k) (Some copy) None (eq-eqb made k (sym p))))))))))
         | inr q ↦
             ap (leaf_at k) is ∙ (split-old number k side size made s.tree.windows q
             ∙ (v.windows.leaves k ∙ sym (ap (option_map leaf_of) (window-end k s.windows (made, copy)
-            ∙ (ap (option_or (window_of k s.windows)) (passed (made == k) (Some copy) None (eq-false made k (λ p. q (sym p)))) ∙ or-left (window_of k s.windows))))))
+            ∙ (ap (option_or (window_of k s.windows)) (cond-false (made == k) (Some copy) None (ne_eqb made k (λ p. q (sym p)))) ∙ or-none (window_of k s.windows))))))
       ];
       apart = apart-end s.windows (made, copy) v.windows.apart fresh;
       each = λ k e h. elim (get-end s.windows (made, copy) k e h) [

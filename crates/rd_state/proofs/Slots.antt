@@ -1,5 +1,5 @@
 -- A display table of an op in form keeps what tables keep.
-use Rattle.std.proofs.Common.{◌≡◌, ℕ, ◌≤◌, ◌&&◌, ◌||◌, ◌==◌, not, Bool, true, false, if◌then◌else◌, nat_le, List, [], ◌∷◌, length, map, Option, None, Some, unwrap_or, subst, sym, ap, refl, ◌∙◌, arith, IsTrue}
+use Rattle.std.proofs.Common.{◌≡◌, ℕ, ◌≤◌, ◌&&◌, ◌||◌, ◌==◌, not, Bool, true, false, if◌then◌else◌, nat_le, List, [], ◌∷◌, length, map, Option, None, Some, subst, ap, refl, ◌∙◌, arith, IsTrue}
 use Rattle.std.proofs.lemmas.Bool.{and_parts, and_from}
 use Rattle.std.proofs.lemmas.Bool.Decides.{nat_tests}
 use Rattle.std.proofs.lemmas.List.{length-map}

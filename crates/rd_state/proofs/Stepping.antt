@@ -1,57 +1,46 @@
 -- A step leads from a valid state to a valid one: the ops on buffers and on objects.
-use Rattle.std.proofs.Common.{◌≡◌, ◌≢◌, ℕ, zero, suc, ◌+◌, ◌-◌, ◌<◌, ◌≤◌, ◌==◌, ◌&&◌, ◌||◌, Bool, true, false, is_some, if◌then◌else◌, nat_lt, nat_le, ℤ, Option, None, Some, Result, Ok, Err, List, [], ◌∷◌, ◌++◌, length, map, min, max, subst, sym, ap, refl, ◌∙◌, arith, IsTrue}
-use Rattle.std.proofs.lemmas.Bool.{and_parts, ltb-true, ltb-false, leb-true, leb-false}
+use Rattle.std.proofs.Common.{◌≡◌, ◌≢◌, ℕ, ◌+◌, ◌-◌, ◌<◌, ◌≤◌, ◌==◌, ◌&&◌, ◌||◌, Bool, true, false, is_some, if◌then◌else◌, nat_lt, nat_le, ℤ, Option, None, Some, Result, Ok, Err, List, [], ◌∷◌, ◌++◌, length, map, min, max, subst, sym, ap, refl, ◌∙◌, arith, IsTrue}
+use Rattle.std.proofs.lemmas.Bool.{and_parts, ltb-true, ltb-false, leb-true, or_left, or_right}
 use Rattle.std.proofs.lemmas.Bool.Decides.{nat_tests}
 use Rattle.std.proofs.lemmas.List.Elements.{All-nil, All-cons, All-map, All-weaker}
 use Rattle.std.specs.Prelude.{All, slice_get, slice_set}
 use Rattle.rd_base.specs.Chars.{is_scalar, is_code}
-use Rattle.rd_text.specs.Texts.{TextValue, IsText, IsAccessible, most_characters, inserted, no_text}
+use Rattle.rd_text.specs.Texts.{TextValue, IsAccessible, most_characters}
 use Rattle.rd_text.specs.Answers.{IsAccessibleRange, IsRangeOfAll}
 use Rattle.rd_overlays.specs.declared.overlay.Kind.{Kind}
 use Rattle.rd_overlays.specs.Overlays as overlays
 use Rattle.rd_overlays.specs.Overlays.{overlay_at, new_overlay}
 use Rattle.rd_objects.specs.Things.{ObjectLists}
 use Rattle.rd_objects.specs.Sound.{AreCodes}
-use Rattle.rd_props.specs.Made.{SettingsMade}
-use Rattle.rd_script.specs.Forms.{each, is_text, is_text_kind, is_buffer_name, IsRawByte, IsSettingInForm}
-use Rattle.rd_script.specs.declared.setting.Setting.{Setting}
-use Rattle.rd_script.specs.declared.setting.Setting.TheVariants as settings
+use Rattle.rd_script.specs.Forms.{each, is_text, is_text_kind, IsRawByte}
 use Rattle.rd_state.specs.declared.moves.Move.{Move}
 use Rattle.rd_state.specs.declared.moves.Move.TheVariants.{Inserted, Deleted, Narrowed}
 use Rattle.rd_state.specs.declared.refused.Refused.{Refused}
-use Rattle.rd_state.specs.declared.refused.Refused.TheVariants.{NoBuffer, NoObject, NoOverlay, NameTaken, OutOfRange, TextTooLarge, TooManyBuffers, TooManyOverlays}
+use Rattle.rd_state.specs.declared.refused.Refused.TheVariants.{NoBuffer, NoObject, NoOverlay, OutOfRange, TextTooLarge, TooManyOverlays}
 use Rattle.rd_state.specs.declared.window.WindowState.{WindowState}
-use Rattle.rd_state.specs.States.{BufferValue, ContentValue, StateValue, new_buffer, new_content, number_of}
-use Rattle.rd_state.specs.Valid.{most_buffers, AreBuffers, AreWindows, IsContent, IsValid}
-use Rattle.rd_state.specs.Edits.{is_accessible, is_accessible_range, is_range_of_all, has_room, is_made, is_value_made, is_setting_made, most_overlays, grown, shrunk, insertion, deletion, narrowing, widening, property_putting, overlay_making, overlay_moving, overlay_dropping, overlay_putting, mark_putting, setting_putting}
+use Rattle.rd_state.specs.States.{BufferValue, ContentValue, StateValue, number_of}
+use Rattle.rd_state.specs.Valid.{AreBuffers, AreWindows, IsContent, IsValid}
+use Rattle.rd_state.specs.Edits.{is_accessible, is_accessible_range, is_range_of_all, has_room, is_value_made, most_overlays, grown, shrunk, insertion, deletion, narrowing, widening, property_putting, overlay_making, overlay_moving, overlay_dropping, overlay_putting}
 use Rattle.rd_state.specs.Moves.{after_insertion, after_deletion, brought_into, place_after, moved_in}
-use Rattle.rd_state.specs.Steps.{with_found, in_buffer, replaced, moving, edited, edited_moving, inserting, making, raw_text}
+use Rattle.rd_state.specs.Steps.{with_found, replaced, moving, edited, edited_moving, making, raw_text}
 use Rattle.rd_state.proofs.Below.{TextLaws, MadeLaws}
 use Rattle.rd_state.proofs.Contents.{grown-valid, shrunk-valid, narrowed-valid, widened-valid, put-valid, made-valid, moved-valid, dropped-valid, given-valid, with_property, with_overlays}
-use Rattle.rd_state.proofs.Keeping.{holding, buffers-replaced, buffers-appended, windows-appended, windows-replaced, windows-moved}
+use Rattle.rd_state.proofs.Keeping.{holding, buffers-replaced, windows-replaced, windows-moved}
 use Rattle.rd_state.proofs.Tests.{if-ok, if-not, is_accessible-means, is_accessible_range-means, is_range_of_all-means}
 
 -- ---- texts
-
-or-true : (a b : Bool) → a ≡ true → (a || b) ≡ true
-or-true true b h = refl
-or-true false b h = absurd (cc)
-
-or-second : (a b : Bool) → b ≡ true → (a || b) ≡ true
-or-second true b h = refl
-or-second false b h = h
 
 pub text-codes : (text : List ℕ) → is_text text ≡ true → AreCodes text
 text-codes [] h = All-nil (λ (c : ℕ). IsTrue (is_code c))
 text-codes (c ∷ cs) h =
     let parts = and_parts (is_scalar c) (each is_scalar cs) h in
-    All-cons (λ (x : ℕ). IsTrue (is_code x)) c cs (or-true (is_scalar c) _ parts.0) (text-codes cs parts.1)
+    All-cons (λ (x : ℕ). IsTrue (is_code x)) c cs (or_left (is_scalar c) _ parts.0) (text-codes cs parts.1)
 
 raw-code : (byte : ℕ) → IsRawByte byte → is_code (1114112 + byte) ≡ true
 raw-code byte h =
     let low = h.0 in
     let high = h.1 in
-    or-second (is_scalar (1114112 + byte)) (nat_le 1114240 (1114112 + byte) && nat_lt (1114112 + byte) 1114368) (grind (arith, nat_tests))
+    or_right (is_scalar (1114112 + byte)) (nat_le 1114240 (1114112 + byte) && nat_lt (1114112 + byte) 1114368) (grind (arith, nat_tests))
 
 pub raw-codes : (bytes : List ℕ) → All IsRawByte bytes → AreCodes (raw_text bytes)
 raw-codes bytes h =

@@ -1,9 +1,8 @@
 -- The values of text properties as lists, one value for each character, and what edits of a buffer make of what it holds.
-use Rattle.std.proofs.Common.{◌≡◌, ℕ, zero, suc, ◌+◌, ◌<◌, ◌≤◌, inl, inr, ◌&&◌, Bool, true, false, if◌then◌else◌, nat_lt, nat_le, ◌==◌, Option, None, Some, List, [], ◌∷◌, length, map, get_or, sym, ap, subst, refl, ◌∙◌, arith}
+use Rattle.std.proofs.Common.{◌≡◌, ℕ, zero, suc, ◌+◌, ◌<◌, ◌≤◌, inl, inr, ◌&&◌, if◌then◌else◌, nat_lt, nat_le, ◌==◌, Option, None, Some, List, [], ◌∷◌, length, map, get_or, sym, ap, subst, refl, ◌∙◌, arith}
 use Rattle.std.proofs.lemmas.Bool.{cases_lt}
 use Rattle.std.proofs.lemmas.List.{get_or_past}
 use Rattle.std.specs.FinMap as finite
-use Rattle.rd_base.specs.Settings.{SettingValues}
 use Rattle.rd_text.specs.Texts.{TextValue, inserted, deleted}
 use Rattle.rd_overlays.specs.declared.overlay.Kind.{Kind}
 use Rattle.rd_overlays.specs.Overlays.{place_of, slot_grown, slot_shrunk}
@@ -11,14 +10,11 @@ use Rattle.rd_margins.specs.Marks.{MarkValues}
 use Rattle.rd_props.specs.Buffers as props
 use Rattle.rd_props.specs.Edits.{opened, closed, put_on}
 use Rattle.rd_props.specs.declared.state.BufferState.{BufferState}
-use Rattle.rd_state.specs.States.{ContentValue, listed, table, values_on, value_in, new_content, seen}
+use Rattle.rd_state.specs.States.{listed, table, values_on, value_in, new_content, seen}
 use Rattle.rd_state.specs.Held.{content_of}
 use Rattle.rd_state.specs.Valid.{IsWithin}
 use Rattle.rd_state.specs.Edits.{marked, grown, shrunk}
-
-branches : {X : Type 0} (t : Bool) (a b c d : X) → a ≡ c → b ≡ d → (if t then a else b) ≡ (if t then c else d)
-branches true a b c d e f = e
-branches false a b c d e f = f
+use Rattle.rd_state.proofs.Opening.{branches}
 
 -- ---- lists
 

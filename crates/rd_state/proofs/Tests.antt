@@ -20,22 +20,14 @@ is_accessible-means t pos h =
     let parts = and_parts (nat_le t.begin pos) (nat_le pos t.end) h in
     (leb-true t.begin pos parts.0, leb-true pos t.end parts.1)
 
-three_parts : (x y z : Bool) → (x && y && z) ≡ true → (x ≡ true) × (y ≡ true) × (z ≡ true)
-three_parts true true true h = (refl, refl, refl)
-three_parts true true false h = absurd (cc)
-three_parts true false true h = absurd (cc)
-three_parts true false false h = absurd (cc)
-three_parts false true true h = absurd (cc)
-three_parts false true false h = absurd (cc)
-three_parts false false true h = absurd (cc)
-three_parts false false false h = absurd (cc)
-
 pub is_accessible_range-means : (t : TextValue) (from to : ℕ) → is_accessible_range t from to ≡ true → IsAccessibleRange t from to
 is_accessible_range-means t from to h =
-    let parts = three_parts (nat_le t.begin from) (nat_le from to) (nat_le to t.end) h in
-    record { first = leb-true t.begin from parts.0; ordered = leb-true from to parts.1; last = leb-true to t.end parts.2 }
+    let parts = and_parts (nat_le t.begin from && nat_le from to) (nat_le to t.end) h in
+    let low = and_parts (nat_le t.begin from) (nat_le from to) parts.0 in
+    record { first = leb-true t.begin from low.0; ordered = leb-true from to low.1; last = leb-true to t.end parts.1 }
 
 pub is_range_of_all-means : (t : TextValue) (from to : ℕ) → is_range_of_all t from to ≡ true → IsRangeOfAll t from to
 is_range_of_all-means t from to h =
-    let parts = three_parts (nat_le 1 from) (nat_le from to) (nat_le to (length t.text + 1)) h in
-    record { first = leb-true 1 from parts.0; ordered = leb-true from to parts.1; last = leb-true to (length t.text + 1) parts.2 }
+    let parts = and_parts (nat_le 1 from && nat_le from to) (nat_le to (length t.text + 1)) h in
+    let low = and_parts (nat_le 1 from) (nat_le from to) parts.0 in
+    record { first = leb-true 1 from low.0; ordered = leb-true from to low.1; last = leb-true to (length t.text + 1) parts.1 }

@@ -1,6 +1,6 @@
 -- What the ops on a window's view leave.
 use Rattle.std.proofs.Common.{◌≡◌, ℕ, ◌<◌, ◌≤◌, Bool, true, false, if◌then◌else◌, IsTrue, ℤ, pos, ◌+ℤ◌, neg_ℤ, ◌≤ℤ◌, FitsSigned, w64, to_z, of_z, Some, Result, Ok, Err, List, length, set, get_or, ap, subst, sym, ◌∙◌, arith}
-use Rattle.std.proofs.lemmas.Bool.{and_parts}
+use Rattle.std.proofs.lemmas.Bool.{and_parts, cond-false, cond-true}
 use Rattle.std.proofs.lemmas.Bool.Decides.{nat_tests}
 use Rattle.std.proofs.lemmas.Int.{ints, to_z-of_z}
 use Rattle.std.proofs.lemmas.Option.{slice_get_past}
@@ -17,7 +17,6 @@ use Rattle.rd_state.specs.Valid.{IsValid}
 use Rattle.rd_state.specs.Windows.{place_in}
 use Rattle.rd_state.proofs.ByNumber.{NumberedWindow}
 use Rattle.rd_state.proofs.Finding.{IsFound, at-window, found-in, sets-window}
-use Rattle.rd_state.proofs.Opening.{chosen, passed}
 use Rattle.rd_state.proofs.Showing.{held-small, window-valid}
 
 -- a window that lives shows a buffer that was made
@@ -57,14 +56,14 @@ places-window s t n i place e f b same there at inside =
     let done : StateValue → BufferValue → Result StateValue Refused = λ x c. if is_accessible c.content.text place then changing n f (Ok x) else Err OutOfRange in
     at-window s t n i e (λ x w. in_shown x w (done x)) same there
     ∙ (ap (λ o. with_found NoBuffer o (done t)) at
-    ∙ (chosen (is_accessible b.content.text place) (changing n f (Ok t)) (Err OutOfRange) inside ∙ ap (λ xs. Ok (record t { windows = xs })) (sym (there.changed f))))
+    ∙ (cond-true (is_accessible b.content.text place) (changing n f (Ok t)) (Err OutOfRange) inside ∙ ap (λ xs. Ok (record t { windows = xs })) (sym (there.changed f))))
 
 pub place-refused : (s t : StateValue) (n i place : ℕ) (e : NumberedWindow) (f : WindowState → WindowState) (b : BufferValue) → t ≡ s → IsFound n i t.windows e → slice_get t.buffers e.1.buffer ≡ Some b
     → is_accessible b.content.text place ≡ false → placing s n place f ≡ Err OutOfRange
 place-refused s t n i place e f b same there at outside =
     let done : StateValue → BufferValue → Result StateValue Refused = λ x c. if is_accessible c.content.text place then changing n f (Ok x) else Err OutOfRange in
     at-window s t n i e (λ x w. in_shown x w (done x)) same there
-    ∙ (ap (λ o. with_found NoBuffer o (done t)) at ∙ passed (is_accessible b.content.text place) (changing n f (Ok t)) (Err OutOfRange) outside)
+    ∙ (ap (λ o. with_found NoBuffer o (done t)) at ∙ cond-false (is_accessible b.content.text place) (changing n f (Ok t)) (Err OutOfRange) outside)
 
 -- what is set of a window, where a position was found that is accessible in the buffer that it shows
 pub sets-placed : (s t : StateValue) (n i place short : ℕ) (e : NumberedWindow) (f : ℕ → WindowState → WindowState) → t ≡ s → i ≡ place_in n s.windows → i < length s.windows → short ≡ place

@@ -1,10 +1,11 @@
 -- Overlays and values of properties that lie in a text, and still do after an edit of it.
-use Rattle.std.proofs.Common.{◌≡◌, ℕ, zero, suc, ◌+◌, ◌-◌, ◌<◌, ◌≤◌, ◌++◌, inl, inr, ◌==◌, ◌&&◌, ◌||◌, Bool, true, false, if◌then◌else◌, nat_lt, nat_le, Option, None, Some, List, [], ◌∷◌, length, map, take, drop, set, sym, ap, subst, refl, ◌∙◌, arith, length-append, length-drop}
+use Rattle.std.proofs.Common.{◌≡◌, ℕ, zero, suc, ◌+◌, ◌-◌, ◌<◌, ◌≤◌, ◌++◌, inl, inr, ◌==◌, ◌&&◌, ◌||◌, Bool, true, false, if◌then◌else◌, nat_lt, nat_le, Option, None, Some, List, [], ◌∷◌, length, map, set, sym, ap, subst, refl, ◌∙◌, arith, length-append}
 use Rattle.std.proofs.lemmas.Bool.{ltb-true, ltb-false, leb-false}
 use Rattle.std.proofs.lemmas.Bool.Decides.{nat_tests}
-use Rattle.std.proofs.lemmas.List.{length-take, length-map, length-set}
+use Rattle.std.proofs.lemmas.List.{length-map, length-set}
 use Rattle.rd_text.specs.Texts.{TextValue, IsText, IsAccessible, inserted, deleted}
 use Rattle.rd_text.specs.Answers.{IsAccessibleRange}
+use Rattle.rd_text.proofs.Keeping.{length-grown, length-shrunk}
 use Rattle.rd_overlays.specs.declared.overlay.Kind.{Kind}
 use Rattle.rd_overlays.specs.declared.overlay.Overlay.{Overlay}
 use Rattle.rd_overlays.specs.Overlays.{live, overlay_at, make_fault, moved, given, place_of, slot_changed, slot_grown, slot_shrunk, grown, shrunk, after_deletion, AllFit, SlotFits}
@@ -112,21 +113,6 @@ closed-last true f size from to kind p value ht less within old h = let before =
 closed-last false f size from to kind p value ht less within old h = let last = old (p + (to - from)) value h in omega arith
 
 -- ---- buffers
-
-pub length-grown : (xs new : List ℕ) (i : ℕ) → i ≤ length xs → length (take i xs ++ new ++ drop i xs) ≡ length xs + length new
-length-grown xs new i h =
-    let outer = length-append (take i xs ++ new) (drop i xs) in
-    let inner = length-append (take i xs) new in
-    let front = length-take i xs in
-    let back = length-drop i xs in
-    omega (arith, outer, inner, front, back)
-
-pub length-shrunk : (xs : List ℕ) (i j : ℕ) → i ≤ j → j ≤ length xs → length (take i xs ++ drop j xs) ≡ length xs - (j - i)
-length-shrunk xs i j p q =
-    let outer = length-append (take i xs) (drop j xs) in
-    let front = length-take i xs in
-    let back = length-drop j xs in
-    omega (arith, outer, front, back)
 
 -- a buffer with characters put in
 pub grown-within : (b c : props.BufferValue) (pos : ℕ) (new : List ℕ) → IsText b.text → IsWithin b → IsAccessible b.text pos

@@ -1,15 +1,11 @@
 -- What an op leaves of what is shown, by its effect.
-use Rattle.std.specs.Prelude.{◌≡◌, ◌≢◌, ℕ, ◌+◌, ℤ, pos, ◌-ℤ◌, false, min, max}
-use Rattle.rd_base.specs.Settings.{SettingValues}
+use Rattle.std.specs.Prelude.{◌≡◌, ◌≢◌, ℕ, ◌+◌, ℤ, pos, ◌-ℤ◌, min, max}
+use Rattle.rd_base.specs.Settings.{without_flags}
 use Rattle.rd_objects.specs.Things.{ObjectLists}
 use Rattle.rd_props.specs.Agreement.{Unchanged}
 use Rattle.rd_state.specs.declared.effect.Effect.{Effect}
 use Rattle.rd_state.specs.declared.effect.Effect.TheVariants.{Nothing, Edit, Moved, All, Window}
 use Rattle.rd_state.specs.States.{ContentValue, seen}
-
--- settings without the two flags that no line depends on
-abbrev pub without_flags : SettingValues → SettingValues
-without_flags settings = record settings { modified = false; read_only = false }
 
 -- a buffer before and behind an op: the same is seen before `head`, and from `tail` on where it stood before so many positions were
 -- added, and the settings are the same but for the two flags
