@@ -1,11 +1,11 @@
 -- Lists of windows by their numbers.
-use Rattle.std.proofs.Common.{◌≡◌, ◌≢◌, ℕ, inl, inr, None, Some, List, [], ◌∷◌, ◌++◌, ◌<◌, get_or, length, map, sym, ap, refl, ◌∙◌, subst}
+use Rattle.std.proofs.Common.{◌≡◌, ◌≢◌, ℕ, inl, inr, Some, List, [], ◌∷◌, ◌++◌, ◌<◌, get_or, length, map, sym, ap, refl, ◌∙◌, subst}
 use Rattle.std.proofs.lemmas.Bool.{cases_eq}
 use Rattle.std.proofs.lemmas.Option.{slice_get-get_or}
 use Rattle.std.specs.Prelude.{option_map, slice_get}
 use Rattle.rd_state.specs.States.{BufferValue, new_buffer}
 use Rattle.rd_state.specs.Moves.{moved_in}
-use Rattle.rd_state.specs.Windows.{AreApart, window_of, with_window, without_window}
+use Rattle.rd_state.specs.Windows.{window_of, with_window, without_window}
 use Rattle.rd_state.proofs.ByNumber.{NumberedWindow, window-here, window-there, with-here, with-there, without-here, without-there}
 use Rattle.rd_state.specs.declared.moves.Move.{Move}
 use Rattle.rd_state.specs.declared.window.WindowState.{WindowState}
@@ -56,25 +56,6 @@ lives-end n d [] h l = lives-behind n d [] h l
 lives-end n d (e ∷ rest) h l = elim (cases_eq e.0 n) [
   | inl p ↦ lives-here n e rest p
   | inr q ↦ lives-there n e rest q (lives-end n d rest h (lives-behind n e (rest ++ d ∷ []) q l))
-]
-
--- ---- a window that went
-
-pub window-gone : (n : ℕ) (ws : List NumberedWindow) → AreApart ws → window_of n (without_window n ws) ≡ None
-window-gone n [] h = refl
-window-gone n (e ∷ rest) h = elim (cases_eq e.0 n) [
-  | inl p ↦ ap (window_of n) (without-here n e rest p) ∙ (ap (λ (k : ℕ). window_of k rest) (sym p) ∙ h.0)
-  | inr q ↦ ap (window_of n) (without-there n e rest q) ∙ (window-there n e (without_window n rest) q ∙ window-gone n rest h.1)
-]
-
-pub window-left : (n m : ℕ) (ws : List NumberedWindow) → m ≢ n → window_of m (without_window n ws) ≡ window_of m ws
-window-left n m [] ne = refl
-window-left n m (e ∷ rest) ne = elim (cases_eq e.0 n) [
-  | inl p ↦ ap (window_of m) (without-here n e rest p) ∙ sym (window-there m e rest (λ r. ne (sym r ∙ p)))
-  | inr q ↦ ap (window_of m) (without-there n e rest q) ∙ elim (cases_eq e.0 m) [
-    | inl r ↦ window-here m e (without_window n rest) r ∙ sym (window-here m e rest r)
-    | inr r ↦ window-there m e (without_window n rest) r ∙ (window-left n m rest ne ∙ sym (window-there m e rest r))
-  ]
 ]
 
 -- ---- each window became another

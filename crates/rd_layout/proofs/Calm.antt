@@ -1,6 +1,6 @@
 -- What an op that tells no change of a window leaves: the window's start, and what is seen of its buffer.
 use Rattle.std.proofs.Common.{◌≡◌, ◌≢◌, ◌⊎◌, inl, inr, ℕ, zero, suc, ◌+◌, ◌-◌, ◌<◌, ◌==◌, ◌&&◌, ◌||◌, Bool, true, false, if◌then◌else◌, nat_lt, nat_le, min, max, pos, ◌+ℤ◌, is_some, Option, None, Some, Result, Ok, Err, List, [], ◌∷◌, ◌++◌, length, map, set, sym, ap, refl, subst, ◌∙◌, arith, unwrap_or, true≢false}
-use Rattle.std.proofs.lemmas.Bool.{cases_eq, eqb-true}
+use Rattle.std.proofs.lemmas.Bool.{cases_eq, eqb-true, cond-false, cond-true, eq-eqb, ne_eqb, and_parts}
 use Rattle.std.specs.Option.{option_and_then}
 use Rattle.std.specs.Ordering.{int_eq}
 use Rattle.std.specs.Prelude.{ℤ, ◌-ℤ◌, slice_get, option_map, IfOk}
@@ -30,9 +30,11 @@ use Rattle.rd_state.specs.declared.window.WindowState.{WindowState}
 use Rattle.rd_tree.specs.Calls.{Configuration, split_tree, remove_tree, resize_tree, mode_tree, margins_tree}
 use Rattle.rd_tree.specs.declared.fault.TreeFault.{TreeFault}
 use Rattle.rd_layout.specs.Changes.{change_by, if_shown, restyled}
-use Rattle.rd_layout.proofs.ByNumber.{window-became, window-gone, window-left}
-use Rattle.rd_state.proofs.ByNumber.{NumberedWindow, eq-true, eq-false, window-here, window-other, window-same, window-there}
-use Rattle.rd_state.proofs.Opening.{chosen, passed}
+use Rattle.rd_layout.proofs.ByNumber.{window-became}
+use Rattle.rd_layout.proofs.Standing.{one-of}
+use Rattle.rd_state.proofs.ByNumber.{NumberedWindow, window-here, window-other, window-same, window-there, window-gone, window-left}
+use Rattle.rd_state.proofs.Options.{one-value}
+use Rattle.rd_state.proofs.Tests.{if-ok}
 
 -- an effect tells no change of a window that shows a buffer
 abbrev pub Quiet : Effect → ℕ → ℕ → Type 0
@@ -40,16 +42,11 @@ Quiet effect number k = is_none (change_by effect number k) ≡ true
 
 -- ---- changes that are never none
 
-first-of : (a b c : Bool) → (a && b && c) ≡ true → b ≡ true
-first-of true true c h = refl
-first-of true false c h = absurd (cc)
-first-of false b c h = absurd (cc)
-
 no-zero : (tail : ℕ) → 0 < tail → (tail == 0) ≡ true → ⊥
 no-zero tail some h = let is : tail ≡ 0 = eqb-true tail 0 h in absurd (omega (arith, is, some))
 
 ranged-told : (t : Bool) (head tail : ℕ) (added : ℤ) → 0 < tail → is_none (if t then record { head = head; tail = tail; added = added } else all) ≡ true → ⊥
-ranged-told true head tail added some h = no-zero tail some (first-of (head == 4294967295) (tail == 0) (int_eq added (pos 0)) h)
+ranged-told true head tail added some h = no-zero tail some (and_parts (head == 4294967295) (tail == 0) (and_parts ((head == 4294967295) && (tail == 0)) (int_eq added (pos 0)) h).0).1
 ranged-told false head tail added some h = absurd (cc)
 
 told : (head tail : ℕ) (added : ℤ) → 0 < tail → is_none (change_of head tail added) ≡ true → ⊥
@@ -76,7 +73,7 @@ abbrev pub Loud : Effect → ℕ → Type 0
 Loud effect i = (number k : ℕ) → k ≡ i → Quiet effect number k → ⊥
 
 shown-told : (i k : ℕ) (change : Change) → k ≡ i → (is_none change ≡ true → ⊥) → is_none (if_shown i k change) ≡ true → ⊥
-shown-told i k change is never h = never (sym (ap is_none (chosen (i == k) change none (eq-true i k (sym is)))) ∙ h)
+shown-told i k change is never h = never (sym (ap is_none (cond-true (i == k) change none (eq-eqb i k (sym is)))) ∙ h)
 
 loud-edit : (i from removed added : ℕ) → Loud (Edit i from removed added) i
 loud-edit i from removed added number k is h = shown-told i k (edit from removed added) is (told from (from + added + 1) (pos added -ℤ pos removed) (omega arith)) h
@@ -101,9 +98,6 @@ pub record Calm (effect : Effect) (s t : StateValue) : Type 0 where
 same : (old new : WindowState) → old ≡ new → Same old new
 same old new is = subst (Same old) is (refl, λ h. (h, refl))
 
-one : {A : Type 0} (o : Option A) (x y : A) → o ≡ Some x → o ≡ Some y → x ≡ y
-one o x y h k = cc
-
 -- ---- buffers
 
 abbrev pub Contents : Effect → List BufferValue → List BufferValue → Type 0
@@ -113,7 +107,7 @@ same-content : (b c : BufferValue) → b ≡ c → seen c.content ≡ seen b.con
 same-content b c is = ap (λ (x : BufferValue). seen x.content) (sym is)
 
 contents-same : (effect : Effect) (bs : List BufferValue) → Contents effect bs bs
-contents-same effect bs number k b c hb hc quiet = same-content b c (one (slice_get bs k) b c hb hc)
+contents-same effect bs number k b c hb hc quiet = same-content b c (one-value (slice_get bs k) b c hb hc)
 
 pushed : (bs : List BufferValue) (x : BufferValue) (k : ℕ) (b : BufferValue) → slice_get bs k ≡ Some b → slice_get (bs ++ x ∷ []) k ≡ Some b
 pushed [] x k b h = absurd (cc)
@@ -121,7 +115,7 @@ pushed (c ∷ cs) x zero b h = h
 pushed (c ∷ cs) x (suc k) b h = pushed cs x k b h
 
 contents-pushed : (effect : Effect) (bs : List BufferValue) (x : BufferValue) → Contents effect bs (bs ++ x ∷ [])
-contents-pushed effect bs x number k b c hb hc quiet = same-content b c (one (slice_get (bs ++ x ∷ []) k) b c (pushed bs x k b hb) hc)
+contents-pushed effect bs x number k b c hb hc quiet = same-content b c (one-value (slice_get (bs ++ x ∷ []) k) b c (pushed bs x k b hb) hc)
 
 -- what stands at a place of a list after a write
 at-set : (bs : List BufferValue) (i k : ℕ) (x c : BufferValue) → slice_get (set bs i x) k ≡ Some c → ((k ≡ i) × (c ≡ x)) ⊎ ((k ≢ i) × (slice_get bs k ≡ Some c))
@@ -144,10 +138,10 @@ contents-set effect bs i x content at kept number k b c hb hc quiet = elim (at-s
   | inl p ↦ elim kept [
     | inl loud ↦ absurd (loud number k p.0 quiet)
     | inr is ↦
-        let there : b ≡ x = one (slice_get bs i) b x (ap (slice_get bs) (sym p.0) ∙ hb) at in
+        let there : b ≡ x = one-value (slice_get bs i) b x (ap (slice_get bs) (sym p.0) ∙ hb) at in
         ap (λ (y : BufferValue). seen y.content) p.1 ∙ (is ∙ sym (ap (λ (y : BufferValue). seen y.content) there))
   ]
-  | inr p ↦ same-content b c (one (slice_get bs k) b c hb p.1)
+  | inr p ↦ same-content b c (one-value (slice_get bs k) b c hb p.1)
 ]
 
 -- ---- windows
@@ -156,7 +150,7 @@ abbrev pub Windows : Effect → List NumberedWindow → List NumberedWindow → 
 Windows effect ws vs = (number : ℕ) (old new : WindowState) → window_of number ws ≡ Some old → window_of number vs ≡ Some new → Quiet effect number old.buffer → Same old new
 
 windows-same : (effect : Effect) (ws : List NumberedWindow) → Windows effect ws ws
-windows-same effect ws number old new h k quiet = same old new (one (window_of number ws) old new h k)
+windows-same effect ws number old new h k quiet = same old new (one-value (window_of number ws) old new h k)
 
 windows-with : (effect : Effect) (ws : List NumberedWindow) (n : ℕ) (f : WindowState → WindowState) → ((w : WindowState) → Quiet effect n w.buffer → Same w (f w))
     → Windows effect ws (with_window n f ws)
@@ -166,7 +160,7 @@ windows-with effect ws n f good number old new h k quiet = elim (cases_eq number
       let after : option_map f (window_of n ws) ≡ Some new = sym (window-same n f ws) ∙ (ap (λ j. window_of j (with_window n f ws)) (sym p) ∙ k) in
       let is : f old ≡ new = cc (sym (ap (option_map f) here) ∙ after) in
       subst (Same old) is (good old (subst (λ j. Quiet effect j old.buffer) p quiet))
-  | inr q ↦ same old new (one (window_of number ws) old new h (sym (window-other n number f ws q) ∙ k))
+  | inr q ↦ same old new (one-value (window_of number ws) old new h (sym (window-other n number f ws q) ∙ k))
 ]
 
 -- a window that moves with the text of a buffer
@@ -179,14 +173,14 @@ windows-moved effect ws i how loud number old new h k quiet =
     let is : moved-by i how number old ≡ new = cc (sym (ap (option_map (moved-by i how number)) h) ∙ after) in
     elim (cases_eq old.buffer i) [
       | inl p ↦ absurd (loud number old.buffer p quiet)
-      | inr q ↦ same old new (sym (passed (old.buffer == i) (moved_window how old) old (eq-false old.buffer i q)) ∙ is)
+      | inr q ↦ same old new (sym (cond-false (old.buffer == i) (moved_window how old) old (ne_eqb old.buffer i q)) ∙ is)
     ]
 
 windows-typed : (effect : Effect) (ws : List NumberedWindow) (i : ℕ) (how : Move) (n : ℕ) (f : WindowState → WindowState) (w : WindowState) → Loud effect i → window_of n ws ≡ Some w → w.buffer ≡ i
     → Windows effect ws (with_window n f (map (moved_in i how) ws))
 windows-typed effect ws i how n f w loud at there number old new h k quiet = elim (cases_eq number n) [
   | inl p ↦
-      let is : old ≡ w = one (window_of n ws) old w (ap (λ j. window_of j ws) (sym p) ∙ h) at in
+      let is : old ≡ w = one-value (window_of n ws) old w (ap (λ j. window_of j ws) (sym p) ∙ h) at in
       absurd (loud number old.buffer (ap (λ (x : WindowState). x.buffer) is ∙ there) quiet)
   | inr q ↦ windows-moved effect ws i how loud number old new h (sym (window-other n number f (map (moved_in i how) ws) q) ∙ k) quiet
 ]
@@ -199,12 +193,12 @@ found-front n (d ∷ ds) e w h = elim (cases_eq d.0 n) [
 ]
 
 windows-end : (effect : Effect) (ws : List NumberedWindow) (e : NumberedWindow) → Windows effect ws (ws ++ e ∷ [])
-windows-end effect ws e number old new h k quiet = same old new (one (window_of number (ws ++ e ∷ [])) old new (found-front number ws e old h) k)
+windows-end effect ws e number old new h k quiet = same old new (one-value (window_of number (ws ++ e ∷ [])) old new (found-front number ws e old h) k)
 
 windows-without : (effect : Effect) (ws : List NumberedWindow) (n : ℕ) → AreApart ws → Windows effect ws (without_window n ws)
 windows-without effect ws n apart number old new h k quiet = elim (cases_eq number n) [
   | inl p ↦ absurd (none-some new (sym (window-gone n ws apart) ∙ (ap (λ j. window_of j (without_window n ws)) (sym p) ∙ k)))
-  | inr q ↦ same old new (one (window_of number ws) old new h (sym (window-left n number ws q) ∙ k))
+  | inr q ↦ same old new (one-value (window_of number ws) old new h (sym (window-left n number ws q) ∙ k))
 ] where
   none-some : (w : WindowState) → None ≡ Some w → ⊥
   none-some w h = absurd (cc)
@@ -214,10 +208,6 @@ windows-without effect ws n apart number old new h k quiet = elim (cases_eq numb
 found : {A : Type 0} (refusal : Refused) (o : Option A) (f : A → Result StateValue Refused) (P : StateValue → Type 0) → ((a : A) → o ≡ Some a → IfOk (f a) P) → IfOk (with_found refusal o f) P
 found refusal None f P h = tt
 found refusal (Some a) f P h = h a refl
-
-tested : {A : Type 0} (t : Bool) (a b : Result A Refused) (P : A → Type 0) → IfOk a P → IfOk b P → IfOk (if t then a else b) P
-tested true a b P h g = h
-tested false a b P h g = g
 
 unless : (o : Option ℕ) (r : Result StateValue Refused) (P : StateValue → Type 0) → IfOk r P → IfOk (unless_bad o r) P
 unless None r P h = h
@@ -269,7 +259,7 @@ setting-calm effect s n f good = found _ (window_of n s.windows) _ (Calm effect 
 placing-calm : (effect : Effect) (s : StateValue) (n place : ℕ) (f : WindowState → WindowState) → ((w : WindowState) → Quiet effect n w.buffer → Same w (f w)) → IfOk (placing s n place f) (Calm effect s)
 placing-calm effect s n place f good =
     found _ (window_of n s.windows) _ (Calm effect s)
-    (λ w lives. found _ (slice_get s.buffers w.buffer) _ (Calm effect s) (λ b at. tested (is_accessible b.content.text place) _ _ (Calm effect s) (changing-calm effect s n f good) tt))
+    (λ w lives. found _ (slice_get s.buffers w.buffer) _ (Calm effect s) (λ b at. one-of (is_accessible b.content.text place) _ _ (Calm effect s) (changing-calm effect s n f good) tt))
 
 objects-calm : (effect : Effect) (s : StateValue) (r : Result ObjectLists Refused) → IfOk (with_objects s r) (Calm effect s)
 objects-calm effect s (Err refusal) = tt
@@ -285,10 +275,6 @@ treed-calm effect s (Err fault) n f good = tt
 treed-calm effect s (Ok d) n f good = record { contents = contents-same effect s.buffers; windows = windows-with effect s.windows n f good }
 
 -- ---- overlays
-
-passes : {A : Type 0} (t : Bool) (r : Result A Refused) (e : Refused) (x : A) → (if t then r else Err e) ≡ Ok x → t ≡ true
-passes true r e x h = refl
-passes false r e x h = absurd (cc)
 
 overlay-there : (s : StateValue) (name : List ℕ) (number : ℕ) (b : BufferValue) → slice_get s.buffers (number_of name s.buffers) ≡ Some b → is_some (overlay_at b.content.overlays number) ≡ true
     → is_some (overlay_in s name number) ≡ true
@@ -320,8 +306,8 @@ calm-step s (ops.Frame width height) apart =
     tree-calm Nothing s (resize_tree s.tree width (height - 1)) (λ tree. record s { tree = tree; width = width; height = height })
     (λ d. calm Nothing s (record s { tree = d; width = width; height = height }) refl refl)
 calm-step s (ops.Buffer name) apart =
-    tested (nat_lt (number_of name s.buffers) (length s.buffers)) _ _ (Calm Nothing s) tt
-    (tested (nat_le most_buffers (length s.buffers)) _ _ (Calm Nothing s) tt (record { contents = contents-pushed Nothing s.buffers (new_buffer name); windows = windows-same Nothing s.windows }))
+    one-of (nat_lt (number_of name s.buffers) (length s.buffers)) _ _ (Calm Nothing s) tt
+    (one-of (nat_le most_buffers (length s.buffers)) _ _ (Calm Nothing s) tt (record { contents = contents-pushed Nothing s.buffers (new_buffer name); windows = windows-same Nothing s.windows }))
 calm-step s (ops.Insert name place text) apart = edited_moving-calm _ s name (Inserted place (length text)) (insertion place text) (loud-edit (number_of name s.buffers) place 0 (length text))
 calm-step s (ops.InsertRaw name place bytes) apart =
     edited_moving-calm _ s name (Inserted place (length (raw_text bytes))) (insertion place (raw_text bytes)) (loud-edit (number_of name s.buffers) place 0 (length (raw_text bytes)))
@@ -340,13 +326,13 @@ calm-step s (ops.Overlay name from to priority front rear) apart =
     edited-calm _ s name (overlay_making from to priority front rear) (λ b c at is. inl (loud-edit (number_of name s.buffers) from (to - from) (to - from)))
 calm-step s (ops.OverlayMove name overlay from to) apart =
     edited-calm _ s name (overlay_moving overlay from to)
-    (λ b c at is. inl (moved-loud (number_of name s.buffers) from to (overlay_in s name overlay) (overlay-there s name overlay b at (passes (is_some (overlay_at b.content.overlays overlay)) _ _ c is))))
+    (λ b c at is. inl (moved-loud (number_of name s.buffers) from to (overlay_in s name overlay) (overlay-there s name overlay b at (if-ok (is_some (overlay_at b.content.overlays overlay)) _ _ c is).0)))
 calm-step s (ops.OverlayDrop name overlay) apart =
     edited-calm _ s name (overlay_dropping overlay)
-    (λ b c at is. inl (covered-loud (number_of name s.buffers) (overlay_in s name overlay) (overlay-there s name overlay b at (passes (is_some (overlay_at b.content.overlays overlay)) _ _ c is))))
+    (λ b c at is. inl (covered-loud (number_of name s.buffers) (overlay_in s name overlay) (overlay-there s name overlay b at (if-ok (is_some (overlay_at b.content.overlays overlay)) _ _ c is).0)))
 calm-step s (ops.OverlayPut name overlay kind value) apart =
     edited-calm _ s name (overlay_putting s.objects overlay kind value)
-    (λ b c at is. inl (covered-loud (number_of name s.buffers) (overlay_in s name overlay) (overlay-there s name overlay b at (passes (is_some (overlay_at b.content.overlays overlay)) _ _ c is))))
+    (λ b c at is. inl (covered-loud (number_of name s.buffers) (overlay_in s name overlay) (overlay-there s name overlay b at (if-ok (is_some (overlay_at b.content.overlays overlay)) _ _ c is).0)))
 calm-step s (ops.Setting name value) apart = edited-calm _ s name (setting_putting s.objects value) (λ b c at is. inl (loud-all (number_of name s.buffers)))
 calm-step s (ops.AddString text runs) apart = objects-calm Nothing s (string_making s.objects text runs)
 calm-step s (ops.AddSpec spec) apart = objects-calm Nothing s (spec_making s.objects spec)
@@ -368,7 +354,7 @@ calm-step s (ops.Show window name) apart =
     (λ b at. changing-calm (Window window) s window _ (λ x quiet. absurd (shown-change window quiet))))
   where
     shown-change : (n : ℕ) → is_none (if n == n then all else none) ≡ true → ⊥
-    shown-change n h = is-all (sym (ap is_none (chosen (n == n) all none (eq-true n n refl))) ∙ h)
+    shown-change n h = is-all (sym (ap is_none (cond-true (n == n) all none (eq-eqb n n refl))) ∙ h)
 calm-step s (ops.Point window place) apart = placing-calm Nothing s window place (λ old. record old { point = place }) (λ w quiet. (refl, λ h. (h, refl)))
 calm-step s (ops.Start window place row) apart =
     placing-calm Nothing s window place (λ old. record old { anchor = record { pos = place; row = row }; forced = true; pending = pos 0 }) (λ w quiet. (refl, λ h. absurd (cc)))

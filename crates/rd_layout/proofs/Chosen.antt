@@ -4,6 +4,7 @@ use Rattle.std.proofs.lemmas.List.Elements.{All-from_recursion, recursion_from_A
 use Rattle.std.proofs.lemmas.Option.{slice_get-get_or}
 use Rattle.std.specs.List.{AllByRecursion, flat_map, fold, reduce}
 use Rattle.std.specs.Prelude.{slice_get, option_map}
+use Rattle.rd_base.proofs.Lists.{each-append, each-back, each-front}
 use Rattle.rd_matrix.specs.Blocks.{IsAmong, IsWithin, StandFrom, end_from, first_start}
 use Rattle.rd_matrix.specs.Entries.{EntryMeaning, all_rows, entries_of, numbered}
 use Rattle.rd_matrix.specs.Sources.{IsSource, SourceValues, rows_at}
@@ -13,8 +14,6 @@ use Rattle.rd_rows.specs.Laws.{begins_of}
 use Rattle.rd_rows.specs.Rows.{RowMeaning}
 use Rattle.rd_rows.specs.Shapes.{IsShape, ShapeValues}
 use Rattle.rd_rows.specs.declared.begin.Begin.{Begin}
-use Rattle.rd_tree.proofs.Composing.{all_parts}
-use Rattle.rd_start.proofs.Lists.{each-append}
 use Rattle.rd_start.specs.Chosen.{anchor_at, anchor_from, chosen_of, first_covered, first_positions, places_of, positions_of}
 use Rattle.rd_start.specs.Starts.{is_in_view, start_of}
 use Rattle.rd_start.specs.declared.wanted.Wanted.{Wanted}
@@ -78,8 +77,9 @@ module _ (m : SourceValues) (shape : ShapeValues) (source : IsSource m) (is : Is
   numbered-inside : (b : Block) → IsAmong m.blocks b → (number : ℕ) (rows : List RowMeaning) → AllByRecursion (InBlock b) (begins_of rows) → AllByRecursion RowInside (numbered b.start number rows)
   numbered-inside b at number [] h = tt
   numbered-inside b at number (r ∷ rs) h =
-      let parts = all_parts (InBlock b) r.begins (begins_of rs) h in
-      (begins-inside b at r.begins parts.0, numbered-inside b at (number + 1) rs parts.1)
+      let here = each-front (InBlock b) r.begins (begins_of rs) h in
+      let behind = each-back (InBlock b) r.begins (begins_of rs) h in
+      (begins-inside b at r.begins here, numbered-inside b at (number + 1) rs behind)
 
   all-inside : (bs : List Block) → ((k : ℕ) (b : Block) → slice_get bs k ≡ Some b → IsAmong m.blocks b) → AllByRecursion RowInside (all_rows (λ b. m.rows_of b shape) bs)
   all-inside [] among = tt

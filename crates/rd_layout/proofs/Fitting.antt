@@ -9,6 +9,7 @@ use Rattle.std.proofs.lemmas.Option.{get_or_from_slice_get, slice_get_within}
 use Rattle.std.specs.Prelude.{IfSome, IsTrue, option_map, slice_get, slice_index_or}
 use Rattle.rd_base.specs.Chars.{is_code}
 use Rattle.rd_base.specs.declared.element.Element.{Element}
+use Rattle.rd_base.proofs.Lists.{each-append}
 use Rattle.rd_blocks.specs.Rows.{block_cutting}
 use Rattle.rd_blocks.specs.Sources.{rows_in, text_source}
 use Rattle.rd_items.specs.Pieces.{scene_in}
@@ -41,7 +42,6 @@ use Rattle.rd_state.specs.Valid.{IsContent, IsGoodFormat, IsValid, IsWindow}
 use Rattle.rd_state.specs.Windows.{leaf_at, leaf_of, shown_content, window_of}
 use Rattle.rd_state.specs.declared.window.WindowState.{WindowState}
 use Rattle.rd_text.specs.Texts as text
-use Rattle.rd_start.proofs.Lists.{each-append}
 use Rattle.rd_tree.specs.Calls.{frame_of}
 use Rattle.rd_tree.specs.Windows.{Windows, Window, Split, first_part, of_number, placed, second_part, window_at}
 use Rattle.rd_tree.specs.declared.placed.Placed.{Placed}

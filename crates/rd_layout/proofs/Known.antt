@@ -1,6 +1,6 @@
 -- The last layouts of a session's windows stay known behind each op.
 use Rattle.std.proofs.Common.{◌≡◌, ◌≢◌, ◌⊎◌, inl, inr, ℕ, ◌<◌, ◌≤◌, ◌==◌, Bool, true, false, if◌then◌else◌, Option, None, Some, Result, Ok, Err, List, [], ◌∷◌, length, sym, ap, refl, subst, subst₂, ◌∙◌, unwrap_or, arith}
-use Rattle.std.proofs.lemmas.Bool.{cases_eq}
+use Rattle.std.proofs.lemmas.Bool.{cases_eq, cond-false, cond-true, eq-eqb, ne_eqb}
 use Rattle.std.specs.Prelude.{slice_get, option_map, IfOk}
 use Rattle.rd_blocks.specs.Leads.{LeadsTo}
 use Rattle.rd_objects.specs.Sound.{Extends}
@@ -28,6 +28,7 @@ use Rattle.rd_state.specs.declared.effect.Effect.TheVariants.{Nothing, Edit, Mov
 use Rattle.rd_state.specs.declared.refused.Refused.{Refused}
 use Rattle.rd_state.specs.declared.refused.Refused.TheVariants.{NoWindow, NotShown}
 use Rattle.rd_state.specs.declared.window.WindowState.{WindowState}
+use Rattle.rd_state.proofs.Options.{mapped}
 use Rattle.rd_frame.specs.Panes.{body_height}
 use Rattle.rd_tree.specs.declared.placed.Placed.{Placed}
 use Rattle.rd_visual.specs.Hits.{hit_in}
@@ -41,8 +42,6 @@ use Rattle.rd_layout.specs.Sessions.{IsStep, SessionValue, behind, is_frame, lay
 use Rattle.rd_layout.specs.Since.{FitsFrame, IsKnown, IsSession}
 use Rattle.rd_layout.proofs.Calm.{Calm, Quiet, calm-step}
 use Rattle.rd_layout.proofs.ByNumber.{buffer-there}
-use Rattle.rd_state.proofs.ByNumber.{eq-true, eq-false}
-use Rattle.rd_state.proofs.Opening.{chosen, passed}
 use Rattle.rd_layout.proofs.Leading.{effect-leads}
 use Rattle.rd_layout.specs.Windows.{place_of, window_shape, window_source}
 use Rattle.rd_layout.proofs.Over.{OverLaws, first-none, joined-change, joined-none, objects-over}
@@ -67,10 +66,10 @@ abbrev pub Last : Type 0
 Last = ℕ × Layout
 
 pub layout-here : (n : ℕ) (e : Last) (rest : List Last) → e.0 ≡ n → layout_of n (e ∷ rest) ≡ Some e.1
-layout-here n e rest h = chosen (e.0 == n) (Some e.1) (layout_of n rest) (eq-true e.0 n h)
+layout-here n e rest h = cond-true (e.0 == n) (Some e.1) (layout_of n rest) (eq-eqb e.0 n h)
 
 pub layout-there : (n : ℕ) (e : Last) (rest : List Last) → e.0 ≢ n → layout_of n (e ∷ rest) ≡ layout_of n rest
-layout-there n e rest h = passed (e.0 == n) (Some e.1) (layout_of n rest) (eq-false e.0 n h)
+layout-there n e rest h = cond-false (e.0 == n) (Some e.1) (layout_of n rest) (ne_eqb e.0 n h)
 
 -- a layout since which so much more changed
 abbrev pub changed : Change → Layout → Layout
@@ -88,10 +87,6 @@ layout-later effect t n (e ∷ rest) = elim (cases_eq e.0 n) [
       layout-there n (later effect t e) (layouts_after effect t rest) q
       ∙ (layout-later effect t n rest ∙ sym (ap (option_map (changed (change_in effect n (window_of n t.windows)))) (layout-there n e rest q)))
 ]
-
-pub mapped : {A B : Type 0} (f : A → B) (o : Option A) (b : B) → option_map f o ≡ Some b → (a : A) × (o ≡ Some a) × (f a ≡ b)
-mapped f None b h = absurd (cc)
-mapped f (Some a) b h = (a, refl, cc)
 
 -- ---- one window behind an op
 
@@ -127,7 +122,7 @@ module _ (laws : StepLaws) (s t : StateValue) (op : Op) (valid : IsValid s) (for
   window-leads : (number : ℕ) (w v : WindowState) → window_of number s.windows ≡ Some w → window_of number t.windows ≡ Some v
       → LeadsTo (seen (shown_content s w)) s.objects (seen (shown_content t v)) t.objects (change_by (effect_of s op) number v.buffer)
   window-leads number w v hw hv = elim (tells (effect_of s op) number) [
-    | inl p ↦ inl (ap (λ (e : Effect). change_by e number v.buffer) p ∙ chosen (number == number) all none (eq-true number number refl))
+    | inl p ↦ inl (ap (λ (e : Effect). change_by e number v.buffer) p ∙ cond-true (number == number) all none (eq-eqb number number refl))
     | inr q ↦
         let same = laws.windows s t op number w v valid form is hw hv q in
         let old = (laws.found s number w valid hw).made in
@@ -138,7 +133,7 @@ module _ (laws : StepLaws) (s t : StateValue) (op : Op) (valid : IsValid s) (for
   -- an effect that tells of a window itself tells more than none
   not-itself : (number k : ℕ) → effect_of s op ≡ Window number → change_by (effect_of s op) number k ≡ none → ⊥
   not-itself number k p h =
-      let all-is-none : all ≡ none = sym (ap (λ (e : Effect). change_by e number k) p ∙ chosen (number == number) all none (eq-true number number refl)) ∙ h in
+      let all-is-none : all ≡ none = sym (ap (λ (e : Effect). change_by e number k) p ∙ cond-true (number == number) all none (eq-eqb number number refl)) ∙ h in
       let heads : 0 ≡ 4294967295 = ap (λ (c : Change). c.head) all-is-none in
       absurd (omega (arith, heads))
 

@@ -1,6 +1,6 @@
 -- The change that an op is for a window leads from what its buffer was before the op to what it is behind it.
 use Rattle.std.proofs.Common.{◌≡◌, ◌≢◌, ◌⊎◌, inl, inr, ℕ, ◌+◌, ◌-◌, ◌≤◌, min, max, nat_le, ◌==◌, ◌&&◌, ◌||◌, Bool, true, false, if◌then◌else◌, refl, sym, ap, subst, ◌∙◌, arith}
-use Rattle.std.proofs.lemmas.Bool.{cases_eq}
+use Rattle.std.proofs.lemmas.Bool.{cases_eq, cond-false, cond-true, eq-eqb, ne_eqb}
 use Rattle.std.proofs.lemmas.Int.{ints}
 use Rattle.std.specs.Prelude.{ℤ, pos, ◌+ℤ◌, ◌-ℤ◌, ◌≤ℤ◌}
 use Rattle.rd_blocks.specs.Leads.{LeadsTo}
@@ -14,8 +14,6 @@ use Rattle.rd_state.specs.States.{ContentValue, seen}
 use Rattle.rd_state.specs.declared.effect.Effect.{Effect}
 use Rattle.rd_state.specs.declared.effect.Effect.TheVariants.{Nothing, Edit, Moved, All, Window}
 use Rattle.rd_layout.specs.Changes.{change_by, if_shown, restyled}
-use Rattle.rd_state.proofs.ByNumber.{eq-true, eq-false}
-use Rattle.rd_state.proofs.Opening.{chosen, passed}
 
 -- an edit adds as much as it takes away, or stands in the accessible text; and the ranges of an overlay that was moved are ranges
 abbrev pub HasPlace : Effect → ℕ → ContentValue → Type 0
@@ -96,8 +94,8 @@ module _ (last_all : (c : Change) → join c all ≡ all) (old new : ContentValu
 
   shown-leads : (i k : ℕ) (change : Change) → (k ≡ i → Goal change) → (k ≢ i → Goal none) → Goal (if_shown i k change)
   shown-leads i k change same other = elim (cases_eq i k) [
-    | inl p ↦ subst Goal (sym (chosen (i == k) change none (eq-true i k p))) (same (sym p))
-    | inr q ↦ subst Goal (sym (passed (i == k) change none (eq-false i k q))) (other (λ p. q (sym p)))
+    | inl p ↦ subst Goal (sym (cond-true (i == k) change none (eq-eqb i k p))) (same (sym p))
+    | inr q ↦ subst Goal (sym (cond-false (i == k) change none (ne_eqb i k q))) (other (λ p. q (sym p)))
   ]
 
   pub effect-leads : (effect : Effect) (number k : ℕ) → HasPlace effect k old → Leaves effect k old a new b → Goal (change_by effect number k)

@@ -3,10 +3,10 @@ use Rattle.std.proofs.Common.{◌≡◌, ◌⊎◌, inl, inr, ℕ, zero, suc, �
 use Rattle.std.proofs.lemmas.Bool.{leb-true}
 use Rattle.std.specs.Prelude.{◌-ℤ◌, slice_get}
 use Rattle.rd_base.specs.declared.settings.Anchor.{Anchor}
+use Rattle.rd_base.specs.Settings.{without_flags}
 use Rattle.rd_blocks.specs.Bases.{blocks_in}
 use Rattle.rd_blocks.specs.Leads.{LeadsTo}
 use Rattle.rd_blocks.specs.Sources.{rows_in, text_source}
-use Rattle.rd_items.specs.Growing.{without_flags}
 use Rattle.rd_items.specs.Readings.{ends_block, reading, reading_from}
 use Rattle.rd_matrix.specs.Blocks.{StandFrom, first_start}
 use Rattle.rd_matrix.specs.Entries.{all_rows, numbered}

@@ -1,6 +1,6 @@
 -- The windows of a frame, in their order and by their numbers.
 use Rattle.std.proofs.Common.{◌≡◌, ◌≢◌, ◌⊎◌, inl, inr, ℕ, ◌+◌, ◌-◌, ◌<◌, ◌≤◌, ◌==◌, Bool, true, false, if◌then◌else◌, None, Some, List, [], ◌∷◌, ◌++◌, get_or, sym, ap, refl, ◌∙◌, arith, nat_le}
-use Rattle.std.proofs.lemmas.Bool.{cases_eq, leb-true, leb-false}
+use Rattle.std.proofs.lemmas.Bool.{cases_eq, leb-true, leb-false, cond-false, cond-true, eq-eqb, ne_eqb}
 use Rattle.std.proofs.lemmas.List.Elements.{All-from_get_or, All-from_recursion, recursion_from_All}
 use Rattle.std.proofs.lemmas.Option.{slice_get-get_or, slice_get-map}
 use Rattle.std.specs.List.{All, AllByRecursion, flat_map}
@@ -17,16 +17,14 @@ use Rattle.rd_tree.specs.declared.rect.Rect.{Rect}
 use Rattle.rd_layout.specs.Laws.{PlaceLaws}
 use Rattle.rd_layout.specs.Redisplays.{band_of, bands_of}
 use Rattle.rd_layout.specs.Windows.{place_of, places}
-use Rattle.rd_state.proofs.ByNumber.{eq-true, eq-false}
-use Rattle.rd_state.proofs.Opening.{chosen, passed}
 
 -- ---- a window that is found was made
 
 here : (n : ℕ) (p : Placed) (ps : List Placed) → p.number ≡ n → of_number n (p ∷ ps) ≡ Some p
-here n p ps h = chosen (p.number == n) (Some p) (of_number n ps) (eq-true p.number n h)
+here n p ps h = cond-true (p.number == n) (Some p) (of_number n ps) (eq-eqb p.number n h)
 
 there : (n : ℕ) (p : Placed) (ps : List Placed) → p.number ≢ n → of_number n (p ∷ ps) ≡ of_number n ps
-there n p ps h = passed (p.number == n) (Some p) (of_number n ps) (eq-false p.number n h)
+there n p ps h = cond-false (p.number == n) (Some p) (of_number n ps) (ne_eqb p.number n h)
 
 pub number-of : (n : ℕ) (ps : List Placed) (p : Placed) → of_number n ps ≡ Some p → p.number ≡ n
 number-of n [] p h = absurd (cc)
@@ -55,7 +53,7 @@ some-is-none p h = absurd (cc)
 
 pub found-once : (n : ℕ) (windows : Windows) (rect : Rect) (p : Placed) → window_at n windows rect ≡ Some p → 1 ≤ times n windows
 found-once n (Window number mode margins) rect p h = elim (cases_eq number n) [
-  | inl e ↦ once-by (number == n) (eq-true number n e)
+  | inl e ↦ once-by (number == n) (eq-eqb number n e)
   | inr e ↦ absurd (some-is-none p (sym h ∙ there n (record { number = number; mode = mode; margins = margins; rect = rect }) [] e))
 ]
 found-once n (Split side size first second) rect p h = elim (either n (placed first (first_part side size rect)) (placed second (second_part side size rect)) p h) [

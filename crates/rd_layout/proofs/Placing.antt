@@ -1,6 +1,5 @@
 -- Where the edits of accepted ops stand.
-use Rattle.std.proofs.Common.{◌≡◌, ◌⊎◌, inl, inr, ℕ, ◌+◌, ◌-◌, ◌≤◌, ◌&&◌, Bool, true, false, if◌then◌else◌, nat_le, Option, None, Some, Result, Ok, Err, List, length, sym, ap, refl, subst, ◌∙◌, unwrap_or, is_some, arith}
-use Rattle.std.proofs.lemmas.Bool.{and_parts, leb-true}
+use Rattle.std.proofs.Common.{◌≡◌, ◌⊎◌, inl, inr, ℕ, ◌+◌, ◌-◌, ◌≤◌, Bool, true, false, if◌then◌else◌, Option, None, Some, Result, Ok, Err, List, length, sym, ap, refl, subst, ◌∙◌, unwrap_or, is_some, arith}
 use Rattle.std.specs.Prelude.{slice_get, IfOk}
 use Rattle.std.specs.Option.{option_and_then}
 use Rattle.rd_overlays.specs.Overlays.{moved, overlay_at}
@@ -19,6 +18,7 @@ use Rattle.rd_state.specs.Windows.{window_of, selected_window}
 use Rattle.rd_state.specs.declared.moves.Move.{Move}
 use Rattle.rd_state.specs.declared.refused.Refused.{Refused}
 use Rattle.rd_state.specs.declared.window.WindowState.{WindowState}
+use Rattle.rd_state.proofs.Tests.{is_accessible-means, is_accessible_range-means, is_range_of_all-means}
 use Rattle.rd_text.specs.Texts.{IsText}
 use Rattle.rd_layout.proofs.Leading.{HasPlace}
 
@@ -60,25 +60,16 @@ says-more (Err refusal) P Q f h = tt
 -- ---- edits
 
 insertion-says : (place : ℕ) (new : List ℕ) (c : ContentValue) → Says (insertion place new c) (c.text.begin ≤ place)
-insertion-says place new c = tested-says (is_accessible c.text place) _ _ (c.text.begin ≤ place) (λ h. leb-true c.text.begin place (and_parts (nat_le c.text.begin place) (nat_le place c.text.end) h).0)
-
-range-begins : (x y z : Bool) → (x && y && z) ≡ true → x ≡ true
-range-begins true y z h = refl
-range-begins false y z h = absurd (cc)
+insertion-says place new c = tested-says (is_accessible c.text place) _ _ (c.text.begin ≤ place) (λ h. (is_accessible-means c.text place h).0)
 
 deletion-says : (from to : ℕ) (c : ContentValue) → Says (deletion from to c) (c.text.begin ≤ from)
 deletion-says from to c =
-    tested-says (is_accessible_range c.text from to) _ _ (c.text.begin ≤ from) (λ h. leb-true c.text.begin from (range-begins (nat_le c.text.begin from) (nat_le from to) (nat_le to c.text.end) h))
-
-range-ordered : (x y z : Bool) → (x && y && z) ≡ true → y ≡ true
-range-ordered true true z h = refl
-range-ordered true false z h = absurd (cc)
-range-ordered false y z h = absurd (cc)
+    tested-says (is_accessible_range c.text from to) _ _ (c.text.begin ≤ from) (λ h. (is_accessible_range-means c.text from to h).first)
 
 overlay_moving-says : (number from to : ℕ) (c : ContentValue) → Says (overlay_moving number from to c) (from ≤ to)
 overlay_moving-says number from to c = by (is_some (overlay_at c.overlays number)) where
   by : (t : Bool) → Says (if t then (if is_range_of_all c.text from to then Ok (record c { overlays = moved c.overlays number from to }) else Err OutOfRange) else Err NoOverlay) (from ≤ to)
-  by true = tested-says (is_range_of_all c.text from to) _ _ (from ≤ to) (λ h. leb-true from to (range-ordered (nat_le 1 from) (nat_le from to) (nat_le to (length c.text.text + 1)) h))
+  by true = tested-says (is_range_of_all c.text from to) _ _ (from ≤ to) (λ h. (is_range_of_all-means c.text from to h).ordered)
   by false = tt
 
 -- ---- effects
@@ -187,7 +178,7 @@ module _ (s t : StateValue) (v : IsValid s) where
   -- a position to which point moves has 64 bits
   whole-place : (c : ContentValue) (place : ℕ) → IsText c.text → is_accessible c.text place ≡ true → IsWhole place
   whole-place c place text h =
-      let high = leb-true place c.text.end (and_parts (nat_le c.text.begin place) (nat_le place c.text.end) h).1 in
+      let high = (is_accessible-means c.text place h).1 in
       let last = text.last in
       let short = text.short in
       omega arith

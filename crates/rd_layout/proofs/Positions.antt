@@ -4,6 +4,7 @@ use Rattle.std.proofs.lemmas.List.Elements.{All-from_recursion, All-map, recursi
 use Rattle.std.proofs.lemmas.Option.{get_or_from_slice_get, slice_get_within}
 use Rattle.std.specs.List.{All, AllByRecursion}
 use Rattle.std.specs.Prelude.{slice_get, slice_index_or}
+use Rattle.rd_base.proofs.Lists.{each-append, each-back, each-front}
 use Rattle.rd_blocks.specs.Kept.{AreRowsAt}
 use Rattle.rd_blocks.specs.Sources.{text_source}
 use Rattle.rd_matrix.specs.Blocks.{IsAmong, first_start}
@@ -23,8 +24,6 @@ use Rattle.rd_text.specs.Texts.{IsText}
 use Rattle.rd_ucd.specs.Data.{Data}
 use Rattle.rd_visual.specs.Hits.{AreInPositions, Fits}
 use Rattle.rd_window.specs.declared.layout.Layout.{Layout}
-use Rattle.rd_start.proofs.Lists.{each-append}
-use Rattle.rd_tree.proofs.Composing.{all_parts}
 use Rattle.rd_layout.specs.Laws.{ViewLaws}
 use Rattle.rd_layout.specs.Since.{IsKnown}
 use Rattle.rd_layout.proofs.Chosen.{block-inside}
@@ -58,9 +57,8 @@ module _ (views : ViewLaws) (s : props.BufferValue) (objects : ObjectLists) (fil
       → AllByRecursion EntryFits (numbered b.start number rows)
   numbered-fit b small number [] h = tt
   numbered-fit b small number (r ∷ rs) h =
-      let parts = all_parts (λ (x : Begin). (x.from ≤ x.to) × (b.start + x.to ≤ b.end)) r.begins (begins_of rs) h in
-      let here = parts.0 in
-      let behind = parts.1 in
+      let here = each-front (λ (x : Begin). (x.from ≤ x.to) × (b.start + x.to ≤ b.end)) r.begins (begins_of rs) h in
+      let behind = each-back (λ (x : Begin). (x.from ≤ x.to) × (b.start + x.to ≤ b.end)) r.begins (begins_of rs) h in
       (All-from_recursion (Fits b.start) r.begins (begins-fit b small r.begins here), numbered-fit b small (number + 1) rs behind)
 
   all-fit : (bs : List Block) → ((k : ℕ) (b : Block) → slice_get bs k ≡ Some b → IsAmong m.blocks b) → AllByRecursion EntryFits (all_rows (λ b. m.rows_of b shape) bs)

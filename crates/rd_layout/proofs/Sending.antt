@@ -2,7 +2,7 @@
 use Rattle.std.proofs.Common.{◌≡◌, inl, inr, ℕ, suc, ◌<◌, ◌≤◌, Bool, false, Option, None, Some, List, [], ◌∷◌, length, map, replicate, take, drop, sym, ap, refl, subst, subst₂, ◌∙◌, arith}
 use Rattle.std.proofs.lemmas.Bool.{cases_eq}
 use Rattle.std.proofs.lemmas.List.{length-map, length-replicate}
-use Rattle.std.proofs.lemmas.List.Elements.{All-head, All-map, All-replicate}
+use Rattle.std.proofs.lemmas.List.Elements.{All-map, All-replicate}
 use Rattle.std.specs.Prelude.{IfSome, slice_get, slice_index_or, option_map}
 use Rattle.rd_base.specs.Faces.{plain}
 use Rattle.rd_base.specs.declared.cell.Cell.{Cell}
@@ -31,9 +31,11 @@ use Rattle.rd_state.specs.States.{ContentValue, StateValue, seen}
 use Rattle.rd_state.specs.Valid.{IsValid, IsWindow}
 use Rattle.rd_state.specs.Windows.{content_in, shown_content, window_of}
 use Rattle.rd_state.specs.declared.window.WindowState.{WindowState}
+use Rattle.rd_state.proofs.Options.{mapped}
 use Rattle.rd_term.specs.Pictures.{IsGrid, IsOfSize, IsScreen, Picture, width_of}
 use Rattle.rd_term.specs.Terminals.{Tty, feed_bytes, known, unknown}
 use Rattle.rd_term.specs.declared.reading.Reading.TheVariants.{Between}
+use Rattle.rd_term.proofs.Shapes.{grid-width}
 use Rattle.rd_tree.specs.declared.placed.Placed.{Placed}
 use Rattle.rd_ucd.specs.Data.{Data}
 use Rattle.rd_update.specs.Laws.{IsCurrent, IsReady, IsSound, IsUpdated}
@@ -48,7 +50,7 @@ use Rattle.rd_layout.specs.Sessions.{SessionValue, layout_of}
 use Rattle.rd_layout.specs.Since.{FitsFrame, IsKnown, IsSession}
 use Rattle.rd_layout.specs.Windows.{place_of, places, wanted_of, window_shape, window_source}
 use Rattle.rd_layout.proofs.ByNumber.{buffer-there, window-became}
-use Rattle.rd_layout.proofs.Known.{Last, layout-here, layout-there, mapped}
+use Rattle.rd_layout.proofs.Known.{Last, layout-here, layout-there}
 use Rattle.rd_layout.proofs.Over.{new-change}
 use Rattle.rd_layout.proofs.Placed.{bands-within, made-number, placed-at}
 use Rattle.rd_layout.proofs.Settling.{is-shape, point-within, shown-is, shown-text, state-stays}
@@ -106,8 +108,7 @@ module _ (laws : SendLaws) (width height : ℕ) (target : Picture) (bands : List
       ready-by (Some screen) (shows width height (Some screen)) refl refl (length-map screen.rows (map Some) ∙ fits.0.rows) (is-wide width screen.rows fits.0.each) (fits.0, refl, refl)
 
   wide-as : (rows : List (List Cell)) → length rows ≡ height → IsGrid width rows → width_of rows ≡ width
-  wide-as [] h each = absurd (omega (arith, h, some))
-  wide-as (row ∷ rows) h each = All-head (λ (r : List Cell). length r ≡ width) row rows each
+  wide-as rows h each = grid-width width rows (omega (arith, h, some)) each
 
   one-size : (current : Option Picture) → Fits current → HaveOneSize current target
   one-size None fits = tt

@@ -23,6 +23,7 @@ use Rattle.rd_layout.specs.Screens.{settled_at, settled_by, settled_state}
 use Rattle.rd_layout.specs.Windows.{place_of, view_in, wanted_of, window_shape, window_source}
 use Rattle.rd_layout.proofs.ByNumber.{buffer-there, window-became}
 use Rattle.rd_state.proofs.ByNumber.{NumberedWindow}
+use Rattle.rd_state.proofs.Options.{mapped}
 use Rattle.rd_layout.proofs.Chosen.{chosen-anchor, chosen-point}
 
 -- ---- positions of the blocks are accessible
@@ -146,17 +147,13 @@ module _ (laws : ViewLaws) (files : Data) (s : StateValue) (valid : IsValid s) w
   apart-stays [] h = tt
   apart-stays (e ∷ rest) h = (window-became settled e.0 rest ∙ none-stays e.0 (window_of e.0 rest) h.0, apart-stays rest h.1)
 
-  mapped : (o : Option NumberedWindow) (e : NumberedWindow) → option_map (settled_at files s) o ≡ Some e → (d : NumberedWindow) × (o ≡ Some d) × (settled_at files s d ≡ e)
-  mapped None e h = absurd (cc)
-  mapped (Some d) e h = (d, refl, cc)
-
   windows-stay : AreWindows s.buffers s.tree (map (settled_at files s) s.windows) s.selected
   windows-stay = record {
     tree = valid.windows.tree;
     leaves = λ n. valid.windows.leaves n ∙ sym (ap (option_map leaf_of) (window-became settled n s.windows) ∙ same-leaves n (window_of n s.windows));
     apart = apart-stays s.windows valid.windows.apart;
     each = λ k e at.
-        let d = mapped (slice_get s.windows k) e (sym (slice_get-map (settled_at files s) s.windows k) ∙ at) in
+        let d = mapped (settled_at files s) (slice_get s.windows k) e (sym (slice_get-map (settled_at files s) s.windows k) ∙ at) in
         subst (λ (x : NumberedWindow). IsWindow s.buffers x.1) d.2 (settled-window d.0.0 d.0.1 (place_of d.0.0 s) refl (valid.windows.each k d.0 d.1));
     selected = subst IsSome (sym (window-became settled s.selected s.windows)) (some-stays s.selected (window_of s.selected s.windows) valid.windows.selected);
   }

@@ -38,7 +38,7 @@ found : {A : Type 0} (refusal : Refused) (o : Option A) (f : A → Result StateV
 found refusal None f P h = tt
 found refusal (Some a) f P h = h a
 
-one-of : {T E : Type 0} (t : Bool) (a b : Result T E) (P : T → Type 0) → IfOk a P → IfOk b P → IfOk (if t then a else b) P
+pub one-of : {T E : Type 0} (t : Bool) (a b : Result T E) (P : T → Type 0) → IfOk a P → IfOk b P → IfOk (if t then a else b) P
 one-of true a b P h g = h
 one-of false a b P h g = g
 

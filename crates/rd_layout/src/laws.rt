@@ -55,9 +55,9 @@ pub fn redisplays_keep_states()
     ensures shape { (s : StateValue) (number : ℕ) (w : WindowState) (place : Placed) → IsValid s → place_of number s ≡ Some place → IsShape (window_shape s w place) }
     ensures bands { (s : StateValue) → IsValid s → AreWithin s.height (bands_of s) }
 {
-    place_laws();
     view_laws();
     windows_are_leaves();
+    windows_are_placed();
 }
 
 /// The opening is a session, whatever the data files are, and an op in form leads from a session to a session: its state stays valid,
@@ -142,14 +142,14 @@ pub fn targets_are_sound()
     rows_of_buffers_are_coloured();
 }
 
-/// What the proofs here take from the laws below of the windows of a frame. The call does nothing.
-fn place_laws()
+/// The windows of a frame stand in it, and the one at a place in leaf order is the one under its number. The call does nothing.
+pub fn windows_are_placed()
     ensures { PlaceLaws }
 {
     windows_tile_their_rectangle();
 }
 
-/// The same of what a window shows. The call does nothing.
+/// What the proofs here take from the laws below of what a window shows. The call does nothing.
 fn view_laws()
     ensures { ViewLaws }
 {
@@ -158,7 +158,7 @@ fn view_laws()
     an_anchor_of_a_row_is_within();
     blocks_are_listed();
     buffers_are_sources();
-    place_laws();
+    windows_are_placed();
 }
 
 /// The same of the sizes of what windows show. The call does nothing.

@@ -11,7 +11,7 @@ mod shown;
 pub use laws::{
     copies_change_no_allowance, copies_change_no_op, redisplays_keep_states, redisplays_lead_on,
     sent_redisplays_are_determined, sessions_stay_known, targets_are_sound,
-    targets_fit_their_frames,
+    targets_fit_their_frames, windows_are_placed,
 };
 pub use outcome::Outcome;
 pub use shown::ShownWindow;

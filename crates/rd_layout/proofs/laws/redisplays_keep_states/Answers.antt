@@ -15,4 +15,4 @@ pub returns-clause-shape : goal.returns-clause-shape
 returns-clause-shape c = λ s number w place valid at. is-shape c.view_laws.ensures s valid number w place at
 
 pub returns-clause-bands : goal.returns-clause-bands
-returns-clause-bands c = bands-within c.place_laws.ensures
+returns-clause-bands c = bands-within c.windows_are_placed.ensures

@@ -1,4 +1,4 @@
-use Rattle.rd_layout.proofs.laws.place_laws.Goals as goal
+use Rattle.rd_layout.proofs.laws.windows_are_placed.Goals as goal
 
 pub returns : goal.returns
 returns c =
