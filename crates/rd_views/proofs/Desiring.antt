@@ -1,10 +1,9 @@
 -- What laying out all windows gives, window by window.
-use Rattle.std.proofs.Common.{◌≡◌, inl, inr, ℕ, zero, suc, ◌+◌, ◌≤◌, not, is_some, if◌then◌else◌, Option, None, Some, List, [], ◌∷◌, ◌++◌, length, drop, sym, ap, refl, subst, subst₂, ◌∙◌, arith, append_assoc, append-nil, unwrap_or}
+use Rattle.std.proofs.Common.{◌≡◌, inl, inr, ℕ, suc, ◌+◌, ◌≤◌, not, is_some, if◌then◌else◌, Option, None, Some, List, [], ◌∷◌, ◌++◌, length, drop, sym, ap, refl, subst, subst₂, ◌∙◌, arith, append_assoc, append-nil, unwrap_or}
 use Rattle.std.proofs.lemmas.Bool.{cases_eq, false≢true}
-use Rattle.std.proofs.lemmas.List.{drop_more}
-use Rattle.std.proofs.lemmas.Option.{get_or_from_slice_get, slice_get_within}
 use Rattle.std.specs.List.{flat_map}
 use Rattle.std.specs.Prelude.{IfSome, slice_get}
+use Rattle.rd_base.proofs.Lists.{drop-at, none-left}
 use Rattle.rd_start.specs.Chosen.{chosen_of}
 use Rattle.rd_state.specs.States.{StateValue}
 use Rattle.rd_state.specs.Windows.{window_of}
@@ -49,21 +48,12 @@ module _ (files : Data) (s : StateValue) (place : Placed) (w : WindowState) wher
 abbrev pub Leads : SessionValue → List Placed → List Placed → List LaidWindow → List Last → Type 0
 Leads v all left xs es = (ys : List LaidWindow) (fs : List Last) → AreDesired v left ys fs → AreDesired v all (xs ++ ys) (es ++ fs)
 
-pub left-at : (ps : List Placed) (i : ℕ) (p : Placed) → slice_get ps i ≡ Some p → drop i ps ≡ p ∷ drop (i + 1) ps
-left-at ps i p at = drop_more ps i p (slice_get_within ps i p at) ∙ ap (λ (q : Placed). q ∷ drop (i + 1) ps) (get_or_from_slice_get ps i p p at)
-
-pub none-left : (ps : List Placed) (i : ℕ) → slice_get ps i ≡ None → drop i ps ≡ []
-none-left [] zero at = refl
-none-left [] (suc i) at = refl
-none-left (p ∷ ps) zero at = absurd (cc)
-none-left (p ∷ ps) (suc i) at = none-left ps i at
-
 pub next-leads : (v : SessionValue) (all : List Placed) (i : ℕ) (p : Placed) (xs : List LaidWindow) (es : List Last) (x : LaidWindow) (e : Last) → slice_get all i ≡ Some p
     → IsDesiredBy v.files v.state (layout_of p.number v.layouts) p (window_of p.number v.state.windows) x e → Leads v all (drop i all) xs es
     → Leads v all (drop (i + 1) all) (xs ++ x ∷ []) (es ++ e ∷ [])
 next-leads v all i p xs es x e at one leads ys fs h =
     subst₂ (λ (us : List LaidWindow) (ws : List Last). AreDesired v all us ws) (sym (append_assoc xs (x ∷ []) ys)) (sym (append_assoc es (e ∷ []) fs))
-    (leads (x ∷ ys) (e ∷ fs) (subst (λ (ps : List Placed). AreDesired v ps (x ∷ ys) (e ∷ fs)) (sym (left-at all i p at)) (one, h)))
+    (leads (x ∷ ys) (e ∷ fs) (subst (λ (ps : List Placed). AreDesired v ps (x ∷ ys) (e ∷ fs)) (sym (drop-at all i p at)) (one, h)))
 
 pub all-lead : (v : SessionValue) (all : List Placed) (i : ℕ) (xs : List LaidWindow) (es : List Last) → slice_get all i ≡ None → Leads v all (drop i all) xs es → AreDesired v all xs es
 all-lead v all i xs es at leads =
@@ -74,7 +64,7 @@ all-lead v all i xs es at leads =
 
 pub next-left : (v : SessionValue) (all : List Placed) (i : ℕ) (p : Placed) → slice_get all i ≡ Some p
     → allowances v (drop i all) ≡ allowance_by v.files v.state (layout_of p.number v.layouts) p (window_of p.number v.state.windows) + allowances v (drop (i + 1) all)
-next-left v all i p at = ap (allowances v) (left-at all i p at)
+next-left v all i p at = ap (allowances v) (drop-at all i p at)
 
 pub so-far : (before after a left rest total : ℕ) → before + left ≤ total → left ≡ a + rest → after ≤ before + a → after + rest ≤ total
 so-far before after a left rest total h is g = omega (arith, h, is, g)

@@ -1,5 +1,5 @@
 -- Last layouts, found by the numbers of their windows and exchanged.
-use Rattle.std.proofs.Common.{◌≡◌, ◌≢◌, inl, inr, ℕ, zero, suc, ◌<◌, ◌==◌, Bool, true, false, None, Some, List, [], ◌∷◌, length, set, get_or, nat_lt, cond, sym, refl, ◌∙◌, arith}
+use Rattle.std.proofs.Common.{◌≡◌, ◌≢◌, inl, inr, ℕ, zero, suc, ◌<◌, ◌==◌, Bool, None, Some, List, [], ◌∷◌, length, set, get_or, nat_lt, sym, refl, ◌∙◌, arith}
 use Rattle.std.proofs.lemmas.Bool.{cases_eq, eqb-false, eqb-true, ltb-false}
 use Rattle.std.proofs.lemmas.List.Quantifiers.{position-Some}
 use Rattle.std.proofs.lemmas.List.Sums.{fails_before_first}
@@ -8,6 +8,7 @@ use Rattle.rd_window.specs.declared.layout.Layout.{Layout}
 use Rattle.rd_layout.specs.Sessions.{layout_of}
 use Rattle.rd_layout.proofs.Known.{Last, layout-here, layout-there}
 use Rattle.rd_views.specs.Layings.{nobody}
+use Rattle.rd_state.proofs.Options.{missed}
 
 -- ---- finding
 
@@ -35,10 +36,6 @@ found n i es at =
     let p = position-Some (is_of n) es i nobody at in
     let number = eqb-true (get_or es i nobody).0 n p.1 in
     record { inside = p.0; number = number; layout = at-place n i es p.0 number (λ k lower. eqb-false (get_or es k nobody).0 n (p.2 k lower)) }
-
-missed : (b : Bool) (k : ℕ) → cond b (Some k) None ≡ None → b ≡ false
-missed true k h = absurd (cc)
-missed false k h = refl
 
 pub absent : (n : ℕ) (es : List Last) → position (is_of n) es ≡ None → layout_of n es ≡ None
 absent n es at =

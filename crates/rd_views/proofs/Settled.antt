@@ -1,6 +1,6 @@
 -- Settling each window as it was laid out leaves the state that a redisplay leaves.
 use Rattle.std.proofs.Common.{◌≡◌, ◌≢◌, inl, inr, ℕ, suc, ◌+◌, ◌<◌, ◌==◌, Bool, true, false, if◌then◌else◌, drop, get_or, length, Option, None, Some, List, [], ◌∷◌, map, sym, ap, refl, subst, subst₂, ◌∙◌}
-use Rattle.std.proofs.lemmas.Bool.{cases_eq}
+use Rattle.std.proofs.lemmas.Bool.{cases_eq, cond-false, cond-true, eq-eqb, ne_eqb}
 use Rattle.std.proofs.lemmas.List.{drop_more}
 use Rattle.std.proofs.lemmas.Option.{none-some, same_Some}
 use Rattle.std.specs.Prelude.{IsSome, option_map, pos, slice_get}
@@ -19,9 +19,9 @@ use Rattle.rd_layout.specs.Screens.{settled_at, settled_by, settled_state}
 use Rattle.rd_layout.specs.Sessions.{SessionValue, layout_of}
 use Rattle.rd_layout.specs.Windows.{place_of, places, view_in, wanted_of, window_shape, window_source}
 use Rattle.rd_layout.proofs.ByNumber.{window-became}
-use Rattle.rd_state.proofs.ByNumber.{NumberedWindow, eq-false, eq-true, window-here, window-other, window-same, window-there}
-use Rattle.rd_state.proofs.Opening.{chosen, passed}
-use Rattle.rd_layout.proofs.Known.{Last, layout-here, layout-there, mapped}
+use Rattle.rd_state.proofs.ByNumber.{NumberedWindow, window-here, window-other, window-same, window-there}
+use Rattle.rd_state.proofs.Options.{mapped}
+use Rattle.rd_layout.proofs.Known.{Last, layout-here, layout-there}
 use Rattle.rd_layout.proofs.Placed.{number-of}
 use Rattle.rd_views.specs.Layings.{AreDesired, AreOnce, CanSettle, IsDesiredBy, all_settled}
 use Rattle.rd_views.specs.declared.desired.LaidWindow.{LaidWindow}
@@ -100,10 +100,10 @@ settle_found None o = o
 settle_found (Some c) o = option_map (settle_to c) o
 
 chosen-here : (n : ℕ) (x : LaidWindow) (xs : List LaidWindow) (e : Last) (es : List Last) → e.0 ≡ n → chosen_for n (x ∷ xs) (e ∷ es) ≡ Some x.chosen
-chosen-here n x xs e es h = chosen (e.0 == n) (Some x.chosen) (chosen_for n xs es) (eq-true e.0 n h)
+chosen-here n x xs e es h = cond-true (e.0 == n) (Some x.chosen) (chosen_for n xs es) (eq-eqb e.0 n h)
 
 chosen-there : (n : ℕ) (x : LaidWindow) (xs : List LaidWindow) (e : Last) (es : List Last) → e.0 ≢ n → chosen_for n (x ∷ xs) (e ∷ es) ≡ chosen_for n xs es
-chosen-there n x xs e es h = passed (e.0 == n) (Some x.chosen) (chosen_for n xs es) (eq-false e.0 n h)
+chosen-there n x xs e es h = cond-false (e.0 == n) (Some x.chosen) (chosen_for n xs es) (ne_eqb e.0 n h)
 
 chosen-none : (n : ℕ) (xs : List LaidWindow) (es : List Last) → layout_of n es ≡ None → chosen_for n xs es ≡ None
 chosen-none n [] es none = refl

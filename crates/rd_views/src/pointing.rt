@@ -16,7 +16,6 @@ use rd_layout::sessions_stay_known;
 use rd_rows::Shape;
 use rd_script::Op;
 use rd_state::{Refused, State, WindowState, windows_are_leaves};
-use rd_tree::windows_tile_their_rectangle;
 use rd_visual::{left, position_at, right};
 use rd_window::Layout;
 

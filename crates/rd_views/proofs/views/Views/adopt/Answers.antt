@@ -1,6 +1,5 @@
 use Rattle.std.proofs.Common.{◌≡◌, List, length, sym, ap, subst, ◌∙◌}
 use Rattle.std.proofs.lemmas.List.{with_items_is}
-use Rattle.rd_layout.specs.Laws.{PlaceLaws}
 use Rattle.rd_layout.specs.Redisplays.{AreLaidOut}
 use Rattle.rd_layout.specs.Sessions.{SessionValue}
 use Rattle.rd_layout.specs.Since.{IsSession}
@@ -10,24 +9,21 @@ use Rattle.rd_layout.proofs.Known.{Last}
 use Rattle.rd_views.proofs.Desiring.{same-count}
 use Rattle.rd_views.proofs.Kept.{adopted, can-as, layouts-as, once-as, state-as}
 use Rattle.rd_views.proofs.views.Views.adopt.Goals as goal
-use Rattle.rd_views.proofs.views.Views.adopt.Goals.{After-settle, After-take_lasts, After-windows_tile_their_rectangle}
-
-places_law : goal.After-windows_tile_their_rectangle → PlaceLaws
-places_law c = let tree = c.windows_tile_their_rectangle.ensures in record { inside = tree.inside; listed = tree.listed; in_order = tree.in_order }
+use Rattle.rd_views.proofs.views.Views.adopt.Goals.{After-settle, After-take_lasts}
 
 -- the state once the windows are settled, and the last layouts once they are taken
-settled : (c : goal.After-settle) → PlaceLaws → c.settle.new.state ≡ (laid_out c.args.self.now.files c.args.self.now.state).state
-settled c law =
+settled : (c : goal.After-settle) → c.settle.new.state ≡ (laid_out c.args.self.now.files c.args.self.now.state).state
+settled c =
     let d = c.args.desired in
-    state-as law c.args.self.now (subst IsSession c.self.view_is c.self.invariant) d.windows d.layouts.items c.requires c.settle.new.state c.self.inside.state c.as_slice.result.now c.as_slice-2.result.now
+    state-as c.windows_are_placed.ensures c.args.self.now (subst IsSession c.self.view_is c.self.invariant) d.windows d.layouts.items c.requires c.settle.new.state c.self.inside.state c.as_slice.result.now c.as_slice-2.result.now
     (ap (λ (x : SessionValue). x.state) c.self.view_is) c.as_slice.ensures c.as_slice-2.ensures.value c.settle.ensures
 
-taken : (c : goal.After-take_lasts) → PlaceLaws → (layouts : List Last) → layouts ≡ c.take_lasts.new.layouts → AreLaidOut c.args.self.now (places c.args.self.now.state) layouts
-taken c law layouts is =
+taken : (c : goal.After-take_lasts) → (layouts : List Last) → layouts ≡ c.take_lasts.new.layouts → AreLaidOut c.args.self.now (places c.args.self.now.state) layouts
+taken c layouts is =
     let v = c.args.self.now in
     let d = c.args.desired in
     let lasts : c.deref_mut-2.result.now ≡ v.layouts = c.deref_mut-2.ensures.value ∙ ap (λ (x : SessionValue). x.layouts) c.self.view_is in
-    layouts-as law v (subst IsSession c.self.view_is c.self.invariant) d.windows d.layouts.items c.requires layouts c.deref_mut-2.result.now c.as_slice-3.result.now c.deref_mut.result.now lasts c.as_slice-3.ensures c.deref_mut.ensures.value
+    layouts-as c.windows_are_placed.ensures v (subst IsSession c.self.view_is c.self.invariant) d.windows d.layouts.items c.requires layouts c.deref_mut-2.result.now c.as_slice-3.result.now c.deref_mut.result.now lasts c.as_slice-3.ensures c.deref_mut.ensures.value
     (is ∙ c.take_lasts.ensures)
 
 pub settle-requires-clause-same : goal.settle-requires-clause-same
@@ -39,7 +35,7 @@ settle-requires-clause-same c =
 pub settle-requires-clause-can : goal.settle-requires-clause-can
 settle-requires-clause-can c =
     let d = c.args.desired in
-    can-as (places_law (goal.at.settle-requires-clause-can c).After-windows_tile_their_rectangle) c.args.self.now (subst IsSession c.self.view_is c.self.invariant) d.windows d.layouts.items c.requires c.redisplays_keep_states.ensures.chosen c.self.inside.state c.as_slice.result.now c.as_slice-2.result.now
+    can-as c.windows_are_placed.ensures c.args.self.now (subst IsSession c.self.view_is c.self.invariant) d.windows d.layouts.items c.requires c.redisplays_keep_states.ensures.chosen c.self.inside.state c.as_slice.result.now c.as_slice-2.result.now
     (ap (λ (x : SessionValue). x.state) c.self.view_is) c.as_slice.ensures c.as_slice-2.ensures.value
 
 pub take_lasts-requires-clause-same : goal.take_lasts-requires-clause-same
@@ -51,21 +47,17 @@ take_lasts-requires-clause-same c =
 pub take_lasts-requires-clause-once : goal.take_lasts-requires-clause-once
 take_lasts-requires-clause-once c =
     let d = c.args.desired in
-    once-as (places_law (goal.at.take_lasts-requires-clause-once c).After-windows_tile_their_rectangle) c.args.self.now (subst IsSession c.self.view_is c.self.invariant) d.windows d.layouts.items c.requires c.deref_mut.result.now c.deref_mut.ensures.value
+    once-as c.windows_are_placed.ensures c.args.self.now (subst IsSession c.self.view_is c.self.invariant) d.windows d.layouts.items c.requires c.deref_mut.result.now c.deref_mut.ensures.value
 
 pub returns-clause-state : goal.returns-clause-state
-returns-clause-state c =
-    let at = goal.at.returns-clause-state c in
-    settled at.After-settle (places_law at.After-windows_tile_their_rectangle)
+returns-clause-state c = settled (goal.at.returns-clause-state c).After-settle
 
 pub returns-clause-layouts : goal.returns-clause-layouts
 returns-clause-layouts c =
-    let at = goal.at.returns-clause-layouts c in
-    taken at.After-take_lasts (places_law at.After-windows_tile_their_rectangle) _ (with_items_is c.args.desired.layouts c.take_lasts.new.layouts (c.take_lasts.auto.layouts ∙ c.deref_mut.ensures.len))
+    taken (goal.at.returns-clause-layouts c).After-take_lasts _ (with_items_is c.args.desired.layouts c.take_lasts.new.layouts (c.take_lasts.auto.layouts ∙ c.deref_mut.ensures.len))
 
 pub invariant_of-self : goal.invariant_of-self
 invariant_of-self c =
     let at = goal.at.invariant_of-self c in
-    let law = places_law at.After-windows_tile_their_rectangle in
-    adopted c.redisplays_lead_on.ensures c.args.self.now _ c.settle.new.state _ (subst IsSession c.self.view_is c.self.invariant) (ap (λ (x : SessionValue). x.files) c.self.view_is) (settled at.After-settle law)
-    (taken at.After-take_lasts law _ (with_items_is c.args.desired.layouts c.take_lasts.new.layouts (c.take_lasts.auto.layouts ∙ c.deref_mut.ensures.len)))
+    adopted c.redisplays_lead_on.ensures c.args.self.now _ c.settle.new.state _ (subst IsSession c.self.view_is c.self.invariant) (ap (λ (x : SessionValue). x.files) c.self.view_is) (settled at.After-settle)
+    (taken at.After-take_lasts _ (with_items_is c.args.desired.layouts c.take_lasts.new.layouts (c.take_lasts.auto.layouts ∙ c.deref_mut.ensures.len)))

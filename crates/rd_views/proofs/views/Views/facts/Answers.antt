@@ -2,33 +2,29 @@ use Rattle.std.proofs.Common.{◌≡◌, Some, None, subst, sym, ap, ◌∙◌}
 use Rattle.rd_state.specs.Valid.{IsValid}
 use Rattle.rd_state.specs.Windows.{window_of}
 use Rattle.rd_layout.specs.Facts.{cursor_since}
-use Rattle.rd_layout.specs.Laws.{PlaceLaws}
 use Rattle.rd_layout.specs.Sessions.{SessionValue, layout_of}
 use Rattle.rd_views.proofs.Telling.{none-told, some-told}
 use Rattle.rd_views.proofs.views.Views.facts.Goals as goal
-use Rattle.rd_views.proofs.views.Views.facts.Goals.{After-windows_tile_their_rectangle}
-
-places_law : goal.After-windows_tile_their_rectangle → PlaceLaws
-places_law c = let tree = c.windows_tile_their_rectangle.ensures in record { inside = tree.inside; listed = tree.listed; in_order = tree.in_order }
+use Rattle.rd_views.proofs.views.Views.facts.Goals.{After-windows_are_placed}
 
 -- the state of the session is valid
-valid : (c : goal.After-windows_tile_their_rectangle) → IsValid c.args.self.now.state
+valid : (c : goal.After-windows_are_placed) → IsValid c.args.self.now.state
 valid c = subst (λ (v : SessionValue). IsValid v.state) c.self.view_is c.stays_valid.ensures
 
 pub returns-in_err-place-clause-told : goal.returns-in_err-place-clause-told
 returns-in_err-place-clause-told c =
-    let here = (goal.at.returns-in_err-place-clause-told c).After-windows_tile_their_rectangle in
+    let here = (goal.at.returns-in_err-place-clause-told c).After-windows_are_placed in
     let none : c.from_residual.result ≡ None = cc in
-    none ∙ sym (none-told (places_law here) c.windows_are_leaves.ensures.placed c.args.self.now (valid here) c.args.i (sym c.in_err-place.ensures.place))
+    none ∙ sym (none-told c.windows_are_placed.ensures c.windows_are_leaves.ensures.placed c.args.self.now (valid here) c.args.i (sym c.in_err-place.ensures.place))
 
 pub returns-clause-told : goal.returns-clause-told
 returns-clause-told c =
     let v = c.args.self.now in
     let place = c.in_ok-place.place in
     let window = c.in_ok-window.window.now in
-    let here = (goal.at.returns-clause-told c).After-windows_tile_their_rectangle in
+    let here = (goal.at.returns-clause-told c).After-windows_are_placed in
     let lives = subst (λ (v : SessionValue). window_of place.number v.state.windows ≡ Some window) c.self.view_is (sym c.in_ok-window.ensures) in
     let cursor : c.cursor_since-cursor.result ≡ cursor_since (layout_of place.number v.layouts) window.point =
     c.cursor_since-cursor.ensures ∙ ap (λ o. cursor_since o window.point) c.layout.ensures in
     ap (λ k. Some (record { window = place.number; rect = place.rect; start = window.anchor; point = window.point; cursor = k })) cursor
-    ∙ sym (some-told (places_law here) c.windows_are_leaves.ensures.placed v (valid here) c.args.i place window (sym c.in_ok-place.ensures.place) lives)
+    ∙ sym (some-told c.windows_are_placed.ensures c.windows_are_leaves.ensures.placed v (valid here) c.args.i place window (sym c.in_ok-place.ensures.place) lives)
