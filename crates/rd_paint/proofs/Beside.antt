@@ -1,20 +1,13 @@
 -- The margins beside the rows of a matrix, one after the other.
-use Rattle.std.proofs.Common.{◌≡◌, ℕ, ◌+◌, ◌≤◌, Some, List, ◌∷◌, [], ◌++◌, length, map, take, sym, ap, subst, ◌∙◌, arith}
+use Rattle.std.proofs.Common.{◌≡◌, ℕ, ◌+◌, ◌≤◌, Some, List, ◌∷◌, [], ◌++◌, length, map, take, sym, ap, ◌∙◌, arith}
 use Rattle.std.proofs.lemmas.List.{length-map, map_push, take_all, take_more}
 use Rattle.std.proofs.lemmas.Option.{get_or_from_slice_get, slice_get-map, slice_get_within}
-use Rattle.std.specs.List.{All}
 use Rattle.std.specs.Prelude.{option_map, slice_get}
 use Rattle.rd_matrix.specs.Entries.{EntryMeaning, shown_entries, shown_entry}
 use Rattle.rd_matrix.specs.declared.matrix.Entry.{Entry}
 
-entry-at : (es : List Entry) (k : ℕ) (e : Entry) → slice_get es k ≡ Some e → slice_get (shown_entries es) k ≡ Some (shown_entry e)
+pub entry-at : (es : List Entry) (k : ℕ) (e : Entry) → slice_get es k ≡ Some e → slice_get (shown_entries es) k ≡ Some (shown_entry e)
 entry-at es k e at = slice_get-map shown_entry es k ∙ ap (option_map shown_entry) at
-
--- what holds of all rows holds of each
-pub all-at : (P : EntryMeaning → Type 0) (es : List Entry) (k : ℕ) (e : Entry) → All P (shown_entries es) → slice_get es k ≡ Some e → P (shown_entry e)
-all-at P es k e all at =
-    let there = entry-at es k e at in
-    subst P (get_or_from_slice_get (shown_entries es) k (shown_entry e) (shown_entry e) there) (all k (shown_entry e) (slice_get_within (shown_entries es) k (shown_entry e) there))
 
 -- one row more
 pub more : {A : Type 0} (f : EntryMeaning → A) (es : List Entry) (k : ℕ) (e : Entry) (xs : List A) (x : A) → slice_get es k ≡ Some e → xs ≡ map f (take k (shown_entries es)) → x ≡ f (shown_entry e)

@@ -1,6 +1,6 @@
 -- The cursor of the window with a number.
 use Rattle.std.proofs.Common.{◌≡◌, ◌≢◌, inl, inr, ℕ, suc, ◌<◌, ◌==◌, Option, None, Some, List, [], ◌∷◌, length, sym, ap, refl, ◌∙◌, unwrap_or, arith}
-use Rattle.std.proofs.lemmas.Bool.{cases_eq}
+use Rattle.std.proofs.lemmas.Bool.{cases_eq, cond-false, cond-true, eq-eqb, ne_eqb}
 use Rattle.std.specs.Prelude.{slice_get}
 use Rattle.rd_ucd.specs.Data.{Data}
 use Rattle.rd_state.specs.States.{BufferValue, StateValue}
@@ -12,8 +12,6 @@ use Rattle.rd_tree.specs.declared.placed.Placed.{Placed}
 use Rattle.rd_window.specs.Views.{WindowView}
 use Rattle.rd_layout.specs.Screens.{cursor_at, cursor_by, cursor_of}
 use Rattle.rd_layout.specs.Windows.{place_of, places, view_in, views_in}
-use Rattle.rd_state.proofs.ByNumber.{eq-true, eq-false}
-use Rattle.rd_state.proofs.Opening.{chosen, passed}
 use Rattle.rd_layout.proofs.Placed.{number-of}
 use Rattle.rd_paint.specs.Laws.{LeafLaws}
 use Rattle.rd_paint.specs.Shown.{IsLeaf}
@@ -23,8 +21,8 @@ use Rattle.rd_paint.proofs.Leaves.{view-at}
 found-at : (n : ℕ) (ps : List Placed) (p : Placed) → of_number n ps ≡ Some p → (k : ℕ) × (slice_get ps k ≡ Some p) × (k < length ps)
 found-at n [] p h = absurd (cc)
 found-at n (q ∷ qs) p h = elim (cases_eq q.number n) [
-  | inl e ↦ (0, sym (chosen (q.number == n) (Some q) (of_number n qs) (eq-true q.number n e)) ∙ h, omega arith)
-  | inr e ↦ let rest = found-at n qs p (sym (passed (q.number == n) (Some q) (of_number n qs) (eq-false q.number n e)) ∙ h) in let less = rest.2 in (suc rest.0, rest.1, omega arith)
+  | inl e ↦ (0, sym (cond-true (q.number == n) (Some q) (of_number n qs) (eq-eqb q.number n e)) ∙ h, omega arith)
+  | inr e ↦ let rest = found-at n qs p (sym (cond-false (q.number == n) (Some q) (of_number n qs) (ne_eqb q.number n e)) ∙ h) in let less = rest.2 in (suc rest.0, rest.1, omega arith)
 ]
 
 none-by : (files : Data) (s : StateValue) (o : Option WindowState) → cursor_by files s o None ≡ None

@@ -1,15 +1,17 @@
 -- The windows of a state in leaf order, and their views.
-use Rattle.std.proofs.Common.{◌≡◌, inl, inr, ℕ, ◌<◌, ◌≤◌, Bool, Option, None, Some, List, [], ◌∷◌, ◌++◌, length, map, sym, ap, refl, subst, ◌∙◌, unwrap_or, arith}
+use Rattle.std.proofs.Common.{◌≡◌, ℕ, ◌<◌, ◌≤◌, Bool, Option, None, Some, List, [], ◌∷◌, ◌++◌, length, map, sym, ap, refl, subst, ◌∙◌, unwrap_or, arith}
 use Rattle.std.proofs.lemmas.List.{length-map}
 use Rattle.std.proofs.lemmas.List.Elements.{recursion_from_All}
-use Rattle.std.proofs.lemmas.Option.{slice_get-map, slice_get_cases}
+use Rattle.std.proofs.lemmas.Option.{slice_get-map}
 use Rattle.std.specs.List.{AllByRecursion, flat_map}
 use Rattle.std.specs.Option.{MatchOption}
 use Rattle.std.specs.Prelude.{option_map, slice_get}
+use Rattle.rd_base.proofs.Lists.{ended}
 use Rattle.rd_state.specs.States.{BufferValue, StateValue, opening_window}
 use Rattle.rd_state.specs.Valid.{IsValid}
 use Rattle.rd_state.specs.Windows.{leaf_of, window_of}
 use Rattle.rd_state.specs.declared.window.WindowState.{WindowState}
+use Rattle.rd_state.proofs.ByNumber.{some-none}
 use Rattle.rd_tree.specs.Calls.{Configuration, frame_of}
 use Rattle.rd_tree.specs.Windows.{leaves, window_at}
 use Rattle.rd_tree.specs.declared.placed.Placed.{Placed}
@@ -24,14 +26,6 @@ use Rattle.rd_paint.specs.Shown.{IsLeaf, painted_of}
 some-window : (o : Option WindowState) (leaf : Bool × ℕ) → option_map leaf_of o ≡ Some leaf → (w : WindowState) × (o ≡ Some w)
 some-window None leaf h = absurd (cc)
 some-window (Some w) leaf h = (w, refl)
-
-none-is-some : {A : Type 0} (o : Option A) (x : A) → o ≡ Some x → o ≡ None → ⊥
-none-is-some None x h n = absurd (cc)
-none-is-some (Some y) x h n = absurd (cc)
-
--- where there is no element the list has ended
-past : {A : Type 0} (xs : List A) (i : ℕ) → slice_get xs i ≡ None → length xs ≤ i
-past xs i none = elim (slice_get_cases xs i).1 [ inl h ↦ absurd (none-is-some (slice_get xs i) h.0 h.2 none) | inr h ↦ h.0 ]
 
 -- an answer that is nothing
 pub nothing : {A : Type 0} (o : Option A) (P : Type 0) (Q : A → Type 0) → o ≡ None → P → MatchOption o P Q
@@ -83,19 +77,19 @@ module _ (laws : LeafLaws) (s : StateValue) (valid : IsValid s) where
 
   -- there is no such leaf, or no place for it
   pub no-leaf : (i : ℕ) → slice_get (leaves s.tree.windows) i ≡ None → length (places s) ≤ i
-  no-leaf i none = subst (λ (n : ℕ). n ≤ i) leaves-count (past (leaves s.tree.windows) i none)
+  no-leaf i none = subst (λ (n : ℕ). n ≤ i) leaves-count (ended (leaves s.tree.windows) i none)
 
   pub no-place : (i number : ℕ) → slice_get (leaves s.tree.windows) i ≡ Some number → place_of number s ≡ None → length (places s) ≤ i
-  no-place i number leaf none = past (places s) i (sym (laws.places.in_order s.tree.windows (frame_of s.tree) i number valid.windows.tree.once leaf) ∙ none)
+  no-place i number leaf none = ended (places s) i (sym (laws.places.in_order s.tree.windows (frame_of s.tree) i number valid.windows.tree.once leaf) ∙ none)
 
   -- a window of the frame lives, and shows a buffer that was made
   pub lives : (number : ℕ) (p : Placed) → place_of number s ≡ Some p → window_of p.number s.windows ≡ None → ⊥
-  lives number p at none = let w = window-there p (place-itself number p at) in none-is-some (window_of p.number s.windows) w.0 w.1 none
+  lives number p at none = let w = window-there p (place-itself number p at) in some-none w.0 (window_of p.number s.windows) w.1 none
 
   pub shows-buffer : (number : ℕ) (w : WindowState) → window_of number s.windows ≡ Some w → None ≡ option_map painted_of (slice_get s.buffers w.buffer) → ⊥
   shows-buffer number w at none =
       let b = buffer-there s.buffers w.buffer (laws.found s number w valid at).made in
-      none-is-some (option_map painted_of (slice_get s.buffers w.buffer)) (painted_of b.0) (ap (option_map painted_of) b.1) (sym none)
+      some-none (painted_of b.0) (option_map painted_of (slice_get s.buffers w.buffer)) (ap (option_map painted_of) b.1) (sym none)
 
   pub is-leaf : (i number : ℕ) (p : Placed) (w : WindowState) (content : BufferValue) → slice_get (leaves s.tree.windows) i ≡ Some number → place_of number s ≡ Some p
       → Some w ≡ window_of p.number s.windows → Some content ≡ option_map painted_of (slice_get s.buffers w.buffer) → IsLeaf s i p w content

@@ -1,7 +1,6 @@
 -- A window that is painted in its turn.
-use Rattle.std.proofs.Common.{◌≡◌, ℕ, ◌+◌, ◌≤◌, Some, List, [], ◌∷◌, length, sym, ap, subst, ◌∙◌, unwrap_or, arith}
+use Rattle.std.proofs.Common.{◌≡◌, ℕ, ◌+◌, ◌≤◌, Some, List, length, sym, ap, subst, ◌∙◌, unwrap_or, arith}
 use Rattle.std.proofs.lemmas.List.{drop_all}
-use Rattle.std.proofs.lemmas.List.Elements.{All-head}
 use Rattle.std.specs.Prelude.{slice_get}
 use Rattle.rd_base.specs.declared.cell.Cell.{Cell}
 use Rattle.rd_ucd.specs.Data.{Data}
@@ -17,6 +16,7 @@ use Rattle.rd_state.specs.Valid.{IsValid}
 use Rattle.rd_state.specs.Windows.{content_in, shown_content}
 use Rattle.rd_state.specs.declared.window.WindowState.{WindowState}
 use Rattle.rd_term.specs.Pictures.{Picture, width_of}
+use Rattle.rd_term.proofs.Shapes.{grid-width}
 use Rattle.rd_text.specs.Texts.{IsText, TextValue}
 use Rattle.rd_tree.specs.Calls.{frame_of}
 use Rattle.rd_tree.specs.Compositions.{HasSize}
@@ -32,8 +32,7 @@ use Rattle.rd_paint.proofs.Panes.{pane-here}
 use Rattle.rd_paint.proofs.Starts.{is-view}
 
 pub width-is : (width height : ℕ) (rows : List (List Cell)) → HasSize width (height + 1) rows → width_of rows ≡ width
-width-is width height [] h = let none = h.0 in absurd (omega arith)
-width-is width height (row ∷ rows) h = All-head (λ (r : List Cell). length r ≡ width) row rows h.1
+width-is width height rows h = grid-width width rows (let tall = h.0 in omega arith) h.1
 
 -- the cursor stays
 pub others-stay : (first old new : Picture) (rows : List (List Cell)) → (let p : Picture = record first { rows = old.rows } in old ≡ p) → (let p : Picture = record old { rows = rows } in new ≡ p)

@@ -3,16 +3,15 @@ ghost use Rattle.rd_paint.specs.Laws.{LeafLaws, TurnLaws};
 
 use rd_frame::windows_are_painted_in_turn;
 use rd_items::blocks_are_listed;
-use rd_layout::{redisplays_keep_states, targets_fit_their_frames};
+use rd_layout::{redisplays_keep_states, targets_fit_their_frames, windows_are_placed};
 use rd_state::windows_are_leaves;
-use rd_tree::windows_tile_their_rectangle;
 
 /// Of the windows of a frame in leaf order. The call does nothing.
 pub(crate) fn leaf_laws()
     ensures { LeafLaws }
 {
     windows_are_leaves();
-    windows_tile_their_rectangle();
+    windows_are_placed();
 }
 
 /// Of a window that is painted in its turn. The call does nothing.

@@ -1,12 +1,16 @@
 use Rattle.std.proofs.Common.{◌∙◌}
+use Rattle.rd_base.proofs.Lists.{all-at}
 use Rattle.rd_layout.specs.Panes.{margin_of}
 use Rattle.rd_paint.specs.Shown.{of_classes}
-use Rattle.rd_paint.proofs.Beside.{all-at, more}
+use Rattle.rd_paint.proofs.Beside.{entry-at, more}
 use Rattle.rd_paint.proofs.Starts.{StartsIn}
 use Rattle.rd_paint.proofs.margins.margins_of_all.Goals as goal
+use Rattle.rd_matrix.specs.Entries.{shown_entries, shown_entry}
 
 pub beside-requires : goal.beside-requires
-beside-requires c = all-at (StartsIn c.args.content.now.content.text) c.args.matrix.now c.loop-row.row c.entry-entry.result.now c.requires c.entry-entry.ensures
+beside-requires c =
+    all-at (StartsIn c.args.content.now.content.text) (shown_entries c.args.matrix.now) c.loop-row.row (shown_entry c.entry-entry.result.now) c.requires
+    (entry-at c.args.matrix.now c.loop-row.row c.entry-entry.result.now c.entry-entry.ensures)
 
 pub loop-row-preserved : goal.loop-row-preserved
 loop-row-preserved c =
