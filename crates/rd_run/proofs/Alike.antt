@@ -1,7 +1,7 @@
 -- The law of two ends: the words, the files, the bytes of the script and the lines that found no memory determine how a run ends.
 use Rattle.std.proofs.Common.{◌≡◌, ℕ, suc, ◌+◌, ◌<◌, ◌≤◌, ◌⊎◌, inl, inr, List, [], ◌∷◌, ◌++◌, length, drop, Option, None, Some, refl, sym, ap, ◌∙◌, subst, append_assoc, append-nil, arith}
 use Rattle.std.specs.List.{AllByRecursion}
-use Rattle.std.proofs.lemmas.List.{take-append-drop}
+use Rattle.std.proofs.lemmas.List.{take-append-drop, length_push}
 use Rattle.rd_generate.specs.Generated.{script as generated}
 use Rattle.rd_io.specs.Devices.{Rose}
 use Rattle.rd_io.specs.Lines.{lines_of}
@@ -18,7 +18,7 @@ use Rattle.rd_run.specs.declared.status.Status.TheVariants.{Done, Usage, BadData
 use Rattle.rd_run.proofs.Begun.{flipped, modes-same, not-begun, refused-alike, refuses}
 use Rattle.rd_run.proofs.Scripts.{IsTakenFrom, IsTakenIn, ends-there, first-lines, goes-on, long-line, more-line}
 use Rattle.rd_run.proofs.Starved.{head-of, rest-of, run_line-alike}
-use Rattle.rd_run.proofs.Inputs.{lines-length, lines-push, inputs-push, run-push, run-clear}
+use Rattle.rd_run.proofs.Inputs.{lines-length, lines-push, run-push, run-clear}
 use Rattle.rd_run.proofs.Whole.{whole-of}
 
 -- ---- where a run stops
@@ -194,7 +194,7 @@ bad-at : (o : Option ℕ) (mode : Mode) (lines : List (List ℕ)) (fault : Scrip
 bad-at o mode lines fault others t more clear bad passed split =
     let w = run (opened mode) others in
     let status = BadScript (length (others ++ t ∷ [])) fault in
-    let count : length (others ++ t ∷ []) ≡ 0 + length others + 1 = omega (arith, inputs-push others t) in
+    let count : length (others ++ t ∷ []) ≡ 0 + length others + 1 = omega (arith, length_push others t) in
     let faulty : (run_line w t).fault ≡ Some fault = ap (λ (x : World). x.fault) (sym (run-push (opened mode) others t)) ∙ bad in
     let at : Stops o w (0 + length others) (t ∷ []) (t.line ∷ more) status =
     (more, refl, passed-last o 0 others t passed, inl (fault, faulty, refl, ap (λ k. BadScript k fault) count)) in

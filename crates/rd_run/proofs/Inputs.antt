@@ -1,6 +1,7 @@
 -- Runs over lists of lines.
-use Rattle.std.proofs.Common.{◌≡◌, ◌+◌, Bool, true, false, List, [], ◌∷◌, ◌++◌, length, Option, None, Some, is_some, if◌then◌else◌, refl, sym, ap, ◌∙◌, arith, length-append}
+use Rattle.std.proofs.Common.{◌≡◌, ◌+◌, true, List, [], ◌∷◌, ◌++◌, length, Option, None, Some, is_some, refl, sym, ap, ◌∙◌, arith}
 use Rattle.std.proofs.lemmas.List.{map-append}
+use Rattle.std.proofs.lemmas.Bool.{cond-false, cond-true}
 use Rattle.rd_run.specs.Ends.{lines_in}
 use Rattle.rd_run.specs.Runs.{Input, World, run, run_line, after, effect}
 use Rattle.rd_run.specs.declared.status.ScriptFault.{ScriptFault}
@@ -12,9 +13,6 @@ lines-length (t ∷ ts) = omega (arith, lines-length ts)
 pub lines-push : (ts : List Input) (t : Input) → lines_in (ts ++ t ∷ []) ≡ lines_in ts ++ t.line ∷ []
 lines-push ts t = map-append (λ (u : Input). u.line) ts (t ∷ [])
 
-pub inputs-push : (ts : List Input) (t : Input) → length (ts ++ t ∷ []) ≡ length ts + 1
-inputs-push ts t = omega (arith, length-append ts (t ∷ []))
-
 pub run-append : (w : World) (ts us : List Input) → run w (ts ++ us) ≡ run (run w ts) us
 run-append w [] us = refl
 run-append w (t ∷ ts) us = run-append (run_line w t) ts us
@@ -22,23 +20,15 @@ run-append w (t ∷ ts) us = run-append (run_line w t) ts us
 pub run-push : (w : World) (ts : List Input) (t : Input) → run w (ts ++ t ∷ []) ≡ run_line (run w ts) t
 run-push w ts t = run-append w ts (t ∷ [])
 
-goes-if : (b : Bool) (w v : World) → b ≡ false → (if b then w else v) ≡ v
-goes-if false w v e = refl
-goes-if true w v e = absurd (let q : true ≡ false = e in cc)
-
 -- a run that has no fault goes on
 pub run_line-goes : (w : World) (t : Input) → w.fault ≡ None → run_line w t ≡ after w (effect w.now t)
-run_line-goes w t e = goes-if (is_some w.fault) w (after w (effect w.now t)) (ap is_some e)
-
-stays-if : (b : Bool) (w v : World) → b ≡ true → (if b then w else v) ≡ w
-stays-if true w v e = refl
-stays-if false w v e = absurd (let q : false ≡ true = e in cc)
+run_line-goes w t e = cond-false (is_some w.fault) w (after w (effect w.now t)) (ap is_some e)
 
 -- a run that has ended stays as it is
 pub run-stays : (w : World) (us : List Input) → is_some w.fault ≡ true → run w us ≡ w
 run-stays w [] e = refl
 run-stays w (u ∷ us) e =
-    let same : run_line w u ≡ w = stays-if (is_some w.fault) w (after w (effect w.now u)) e in
+    let same : run_line w u ≡ w = cond-true (is_some w.fault) w (after w (effect w.now u)) e in
     ap (λ v. run v us) same ∙ run-stays w us e
 
 clear-if : (o : Option ScriptFault) (w : World) (ts : List Input) → w.fault ≡ o → (run w ts).fault ≡ None → w.fault ≡ None

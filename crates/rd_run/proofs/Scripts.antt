@@ -1,22 +1,12 @@
 -- The lines of a script, by the bytes of it that were taken.
-use Rattle.std.proofs.Common.{◌≡◌, ◌≢◌, ℕ, zero, suc, ◌<◌, ◌≤◌, inl, inr, ◌==◌, Bool, true, false, if◌then◌else◌, List, [], ◌∷◌, ◌++◌, length, take, Option, None, Some, refl, sym, ap, ◌∙◌, subst, append_assoc, append-nil, arith, length-append}
+use Rattle.std.proofs.Common.{◌≡◌, ℕ, zero, suc, ◌<◌, ◌≤◌, inl, inr, ◌==◌, Bool, true, false, if◌then◌else◌, List, [], ◌∷◌, ◌++◌, length, take, Option, None, Some, refl, sym, ap, ◌∙◌, subst, append_assoc, append-nil, arith, length-append}
 use Rattle.std.specs.List.{AllByRecursion}
-use Rattle.std.proofs.lemmas.Bool.Decides.{nat_tests}
 use Rattle.std.proofs.lemmas.List.{take-append-le}
 use Rattle.std.specs.Io.KnownBytes.{Consumes, IsAtEnd}
+use Rattle.std.proofs.lemmas.Bool.{ne_eqb}
 use Rattle.rd_io.specs.Lines.{lines_of, in_front, text_of_lines, IsUnbroken}
 use Rattle.rd_io.proofs.Cuts.{lines-whole}
 use Rattle.rd_run.specs.Ends.{Begins, AreFirst}
-
--- what holds of each of some lines holds of those in front
-pub all-front : (P : List ℕ → Type 0) (xs ys : List (List ℕ)) → AllByRecursion P (xs ++ ys) → AllByRecursion P xs
-all-front P [] ys h = tt
-all-front P (x ∷ xs) ys h = (h.0, all-front P xs ys h.1)
-
--- what holds of each of some lines holds of one that stands behind others
-pub all-behind : (P : List ℕ → Type 0) (xs : List (List ℕ)) (x : List ℕ) (ys : List (List ℕ)) → AllByRecursion P (xs ++ x ∷ ys) → P x
-all-behind P [] x ys h = h.0
-all-behind P (y ∷ xs) x ys h = all-behind P xs x ys h.1
 
 -- ---- lines
 
@@ -42,16 +32,13 @@ alone : (b : ℕ) (lines : List (List ℕ)) → HasFirst 1 (in_front b lines)
 alone b [] = record { line = b ∷ []; others = []; split = refl; long = omega arith }
 alone b (line ∷ lines) = record { line = b ∷ line; others = lines; split = refl; long = omega arith }
 
-not_ten : (b : ℕ) → b ≢ 10 → (b == 10) ≡ false
-not_ten b p = grind (arith, nat_tests)
-
 -- bytes that begin with so many that are no newline have a line that is as long
 first-long : (n : ℕ) (bytes : List ℕ) → suc n ≤ length bytes → IsUnbroken (take (suc n) bytes) → HasFirst (suc n) (lines_of bytes)
 first-long n [] p h = absurd (omega arith)
-first-long zero (b ∷ bs) p h = rw (not_ten b h.0) (alone b (lines_of bs))
+first-long zero (b ∷ bs) p h = rw (ne_eqb b 10 h.0) (alone b (lines_of bs))
 first-long (suc n) (b ∷ bs) p h =
     let within : suc n ≤ length bs = omega arith in
-    rw (not_ten b h.0) (longer (suc n) b (lines_of bs) (first-long n bs within h.1))
+    rw (ne_eqb b 10 h.0) (longer (suc n) b (lines_of bs) (first-long n bs within h.1))
 
 -- a text that is not empty has a line
 some-if : (c : Bool) (b : ℕ) (lines : List (List ℕ)) → 0 < length (if c then [] ∷ lines else in_front b lines)

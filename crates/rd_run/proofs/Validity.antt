@@ -1,6 +1,7 @@
 -- A run over a script without a fault, in which no device failed, ends well.
-use Rattle.std.proofs.Common.{◌≡◌, ℕ, suc, ◌+◌, ◌<◌, ◌≤◌, inl, inr, List, ◌++◌, length, take, Option, None, Some, is_some, refl, sym, ap, ◌∙◌, subst, arith, length-append}
+use Rattle.std.proofs.Common.{◌∷◌, ◌≡◌, ℕ, suc, ◌+◌, ◌<◌, ◌≤◌, inl, inr, List, ◌++◌, length, take, Option, None, Some, is_some, refl, sym, ap, ◌∙◌, subst, arith, length-append}
 use Rattle.std.specs.List.{AllByRecursion}
+use Rattle.rd_base.proofs.Lists.{each-back}
 use Rattle.rd_io.specs.Devices.{Rose}
 use Rattle.rd_io.specs.Lines.{lines_of, IsUnbroken}
 use Rattle.rd_run.specs.Alike.{End, IsFaultless}
@@ -14,7 +15,7 @@ use Rattle.rd_run.specs.declared.status.Status.{Status}
 use Rattle.rd_run.specs.declared.status.Status.TheVariants.{Done, Usage, BadData, BadScript, ReadFault, WriteFault, NoMemory}
 use Rattle.rd_run.proofs.Alike.{script-splits, taken-in}
 use Rattle.rd_run.proofs.Begun.{has-failed, itself, modes-same, not-begun}
-use Rattle.rd_run.proofs.Scripts.{HasFirst, IsTakenFrom, IsTakenIn, all-behind, goes-on, long-line, more-line}
+use Rattle.rd_run.proofs.Scripts.{HasFirst, IsTakenFrom, IsTakenIn, goes-on, long-line, more-line}
 use Rattle.rd_run.proofs.Starved.{goes-behind}
 use Rattle.rd_run.proofs.Inputs.{lines-length, run-stays}
 use Rattle.rd_run.proofs.Whole.{whole-of}
@@ -31,7 +32,7 @@ front-accepted mode script inputs others fault h e bad =
 -- a line that is too long
 too-long : (n : ℕ) (lines others : List (List ℕ)) → AllByRecursion (λ line. length line ≤ n) (lines ++ others) → HasFirst (suc n) others → ⊥
 too-long n lines others short first =
-    let one : length first.line ≤ n = all-behind (λ line. length line ≤ n) lines first.line first.others (subst (λ ls. AllByRecursion (λ line. length line ≤ n) (lines ++ ls)) first.split short) in
+    let one : length first.line ≤ n = (each-back (λ line. length line ≤ n) lines (first.line ∷ first.others) (subst (λ ls. AllByRecursion (λ line. length line ≤ n) (lines ++ ls)) first.split short)).0 in
     let long = first.long in
     omega arith
 

@@ -12,11 +12,11 @@ ghost use Rattle.rd_run.specs.declared.status.Status.{Status};
 
 use rd_layout::{
     redisplays_keep_states, redisplays_lead_on, sessions_stay_known, targets_are_sound,
+    windows_are_placed,
 };
 use rd_lineshift::{shift_law, shifted_updates_reach_their_targets};
 use rd_script::no_line_says_want_of_memory;
 use rd_state::windows_are_leaves;
-use rd_tree::windows_tile_their_rectangle;
 
 /// Behind any lines of a run stands a session: its state is valid, and a known screen is the frame's and sound (`session`). The run is in
 /// the mode in which it began (`in_mode`). The next line leads on from there: the frame keeps its size unless a new terminal begins, and
@@ -33,7 +33,7 @@ pub fn a_session_stands_behind_each_line()
     shifted_updates_reach_their_targets();
     targets_are_sound();
     windows_are_leaves();
-    windows_tile_their_rectangle();
+    windows_are_placed();
 }
 
 /// The headline, over all runs: behind each redisplay that was shown, the written terminal, which reads the bytes since the last

@@ -1,13 +1,10 @@
-use Rattle.rd_layout.specs.Laws.{PlaceLaws}
 use Rattle.rd_run.proofs.Leading.{LiveLaws}
 use Rattle.rd_run.proofs.Lines.{RunLaws, leads, stands}
 use Rattle.rd_run.proofs.law.a_session_stands_behind_each_line.Goals as goal
 
-laws : goal.After-windows_tile_their_rectangle → RunLaws
+laws : goal.After-windows_are_placed → RunLaws
 laws c =
-    let tree = c.windows_tile_their_rectangle.ensures in
-    let places : PlaceLaws = record { inside = tree.inside; listed = tree.listed; in_order = tree.in_order } in
-    let live : LiveLaws = record { places = places; leaves = c.windows_are_leaves.ensures.placed } in
+    let live : LiveLaws = record { places = c.windows_are_placed.ensures; leaves = c.windows_are_leaves.ensures.placed } in
     let targets = c.targets_are_sound.ensures in
     record {
       opened = c.sessions_stay_known.ensures.opened;
