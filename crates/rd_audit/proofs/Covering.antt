@@ -12,6 +12,7 @@ use Rattle.rd_base.specs.Glyphs.{IsRowAfter}
 use Rattle.rd_base.specs.declared.cell.Cell.{Cell}
 use Rattle.rd_base.specs.declared.cell.Cell.TheVariants.{Blank, First, Rest}
 use Rattle.rd_base.proofs.Equals.{face-told, face-itself}
+use Rattle.rd_base.proofs.Colours.{plain-coloured}
 use Rattle.rd_term.specs.Pictures.{blank}
 use Rattle.rd_dump.specs.Dumps.{face_after, faces_of, with_columns, runs_of, runs_text, runs_of_row, numbers_text}
 use Rattle.rd_dump.specs.Dumps as dumps
@@ -270,9 +271,6 @@ row-starts [] h = refl
 row-starts (Blank f ∷ cells) h = refl
 row-starts (First g f ∷ cells) h = refl
 row-starts (Rest ∷ cells) h = absurd h
-
-plain-coloured : HasColours plain
-plain-coloured = record { fg = omega arith; bg = omega arith }
 
 -- the runs of a row say its faces
 pub runs-read : (cells : List Cell) → IsRowAfter 0 cells → All IsColoured cells → length cells < 1000 → runs_over (runs_of_row cells) (plainly cells) ≡ Some cells

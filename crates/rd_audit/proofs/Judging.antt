@@ -1,6 +1,7 @@
 -- When verdicts come, put together from what was read.
-use Rattle.std.proofs.Common.{◌≡◌, ◌≢◌, ℕ, ◌+◌, ◌<◌, ◌≤◌, ◌⊎◌, inl, inr, if◌then◌else◌, List, [], ◌∷◌, ◌++◌, length, map, get_or, Option, None, Some, IfSome, is_some, is_ok, unwrap_or, Result, Ok, Err, refl, sym, ap, subst, ◌∙◌, arith, append-nil, length-append, true≢false}
+use Rattle.std.proofs.Common.{◌≡◌, ◌≢◌, ℕ, ◌+◌, ◌<◌, ◌≤◌, ◌⊎◌, inl, inr, if◌then◌else◌, List, [], ◌∷◌, ◌++◌, length, map, get_or, Option, None, Some, IfSome, is_some, is_ok, Result, Ok, Err, refl, sym, ap, subst, ◌∙◌, arith, append-nil, length-append, true≢false}
 use Rattle.std.specs.Io.KnownBytes.{Consumes, IsAtEnd}
+use Rattle.std.proofs.lemmas.Option.{same_Some}
 use Rattle.rd_base.proofs.Equals.{cell-itself}
 use Rattle.rd_base.specs.declared.cell.Cell.{Cell}
 use Rattle.rd_base.specs.declared.limits.TheConstants.{FILE_BYTES}
@@ -62,9 +63,6 @@ by-word NoMemory name words told bytes left e j = (name, e, j)
 
 -- ---- what comes of a sound call
 
-same-some : (a b : List ℕ) → Some a ≡ Some b → a ≡ b
-same-some a b e = ap (λ o. unwrap_or o a) e
-
 same-word : (a b : List ℕ) → a ∷ [] ≡ b ∷ [] → a ≡ b
 same-word a b e = ap (λ l. get_or l 0 a) e
 
@@ -79,9 +77,9 @@ told-is words told left name s e = ap told (same-word name s.name (sym e ∙ s.w
 not-bad : (told : Option (List ℕ)) (file : List ℕ) (dump : Picture) (n : ℕ) → told ≡ Some file → length file ≤ FILE_BYTES → dump_in file ≡ Ok dump → IsBadFile told n → ⊥
 not-bad None file dump n e few good bad = true≢false (sym (ap is_some e))
 not-bad (Some bytes) file dump n e few good (inl bad) =
-    ok≢err dump n (sym good ∙ ap dump_in (sym (bad.1.1 ∙ same-some bytes file e)) ∙ bad.2)
+    ok≢err dump n (sym good ∙ ap dump_in (sym (bad.1.1 ∙ same_Some bytes file e)) ∙ bad.2)
 not-bad (Some bytes) file dump n e few good (inr bad) =
-    let more : 8388608 < length file = subst (λ l. 8388608 < length l) (same-some bytes file e) bad.1 in
+    let more : 8388608 < length file = subst (λ l. 8388608 < length l) (same_Some bytes file e) bad.1 in
     let most : length file ≤ 8388608 = few in
     absurd (omega (arith, more, most))
 
@@ -90,7 +88,7 @@ taken-within : (left after : Option (List ℕ)) (stream bytes : List ℕ) → le
 taken-within None after stream bytes e c = absurd (true≢false (sym (ap is_some e)))
 taken-within (Some xs) None stream bytes e c = absurd c
 taken-within (Some xs) (Some ys) stream bytes e c =
-    let all : length stream ≡ length bytes + length ys = ap length (sym (same-some xs stream e) ∙ c) ∙ length-append bytes ys in
+    let all : length stream ≡ length bytes + length ys = ap length (sym (same_Some xs stream e) ∙ c) ∙ length-append bytes ys in
     omega (arith, all)
 
 -- besides yes, no and want of memory nothing comes but a read fault, for which there is this cause
@@ -130,11 +128,11 @@ no-difference differences.Cursor p t s (sure, place, apart) = apart s.cursor
 taken-all : (left after : Option (List ℕ)) (stream bytes : List ℕ) → left ≡ Some stream → Consumes left after bytes → IsAtEnd after → bytes ≡ stream
 taken-all None after stream bytes e c end = absurd (true≢false (sym (ap is_some e)))
 taken-all (Some xs) None stream bytes e c end = absurd c
-taken-all (Some xs) (Some ys) stream bytes e c end = sym (append-nil bytes) ∙ ap (λ l. bytes ++ l) (sym end) ∙ sym c ∙ same-some xs stream e
+taken-all (Some xs) (Some ys) stream bytes e c end = sym (append-nil bytes) ∙ ap (λ l. bytes ++ l) (sym end) ∙ sym c ∙ same_Some xs stream e
 
 file-is : (told : Option (List ℕ)) (file other : List ℕ) → told ≡ Some file → IfSome told (λ bytes. other ≡ bytes) → other ≡ file
 file-is None file other e h = absurd (true≢false (sym (ap is_some e)))
-file-is (Some bytes) file other e h = h ∙ same-some bytes file e
+file-is (Some bytes) file other e h = h ∙ same_Some bytes file e
 
 same-dump : (p q : Picture) (r : Result Picture ℕ) → r ≡ Ok p → r ≡ Ok q → p ≡ q
 same-dump p q r e f = let k : Ok p ≡ Ok q = sym e ∙ f in cc

@@ -13,13 +13,13 @@ use Rattle.unicode_width.specs.Width.{char_width}
 use Rattle.rd_base.specs.Cells.{single}
 use Rattle.rd_base.specs.Chars.{is_scalar, encoded}
 use Rattle.rd_base.specs.Faces.{plain}
-use Rattle.rd_base.specs.Glyphs.{IsMeasured, IsGood, IsRowAfter}
+use Rattle.rd_base.specs.Glyphs.{IsMeasured, IsGood, IsRowAfter, glyph_bytes}
 use Rattle.rd_base.specs.declared.cell.Glyph.{Glyph}
 use Rattle.rd_base.specs.declared.cell.Cell.{Cell}
 use Rattle.rd_base.specs.declared.cell.Cell.TheVariants.{Blank, First, Rest}
 use Rattle.rd_term.specs.Characters.{columns_of}
 use Rattle.rd_term.proofs.Measured.{space-columns, base-columns, mark-columns}
-use Rattle.rd_dump.specs.Dumps.{cells_text, glyph_text}
+use Rattle.rd_dump.specs.Dumps.{cells_text}
 use Rattle.rd_audit.specs.Runs.{with_face}
 use Rattle.rd_audit.specs.Texts.{cells_of, taken, cells_from, text_cells}
 use Rattle.rd_audit.proofs.Lacking.{lacks, lacks-append}
@@ -142,7 +142,7 @@ row-shown (suc due) (First g f ∷ cells) h = absurd h
 row-shown (suc due) (Rest ∷ cells) h = row-shown due cells h
 
 -- the bytes of a row's text
-text-of_glyph : (g : Glyph) → IsMeasured g → glyph_text g ≡ encode_utf8 g.base ++ encode_utf8_all (marks_of g)
+text-of_glyph : (g : Glyph) → IsMeasured g → glyph_bytes g ≡ encode_utf8 g.base ++ encode_utf8_all (marks_of g)
 text-of_glyph g h = ap₂ (λ x y. x ++ y) (encoded-as g.base h.scalar) (encoded-all (marks_of g) (marks-shown (marks_of g) (marks-are g h)))
 
 pub text-is : (due : ℕ) (cells : List Cell) → IsRowAfter due cells → cells_text cells ≡ encode_utf8_all (codes_of cells)

@@ -1,6 +1,5 @@
 use Rattle.std.proofs.Common.{◌≡◌, ◌∷◌, [], List, Option, Some, ℕ, refl, sym, subst}
 use Rattle.std.specs.Prelude.{IfSome}
-use Rattle.rd_layout.specs.Laws.{PlaceLaws}
 use Rattle.rd_run.specs.Alike.{End}
 use Rattle.rd_run.specs.Runs.{Mode}
 use Rattle.rd_audit.proofs.Judging.{only-yes}
@@ -10,19 +9,17 @@ use Rattle.rd_audit.specs.Recorded.{IsRecording}
 use Rattle.rd_audit.specs.Verdicts.{IsSound}
 use Rattle.rd_audit.proofs.law.recorded_runs_get_yes.Goals as goal
 
-laws : goal.After-windows_tile_their_rectangle → RunLaws
+laws : goal.After-windows_are_placed → RunLaws
 laws c =
     let runs = c.a_session_stands_behind_each_line.ensures in
-    let tree = c.windows_tile_their_rectangle.ensures in
-    let places : PlaceLaws = record { inside = tree.inside; listed = tree.listed; in_order = tree.in_order } in
     record {
       session = runs.session;
       in_mode = runs.in_mode;
       leads = runs.leads;
-      live = record { places = places; leaves = c.windows_are_leaves.ensures.placed };
+      live = record { places = c.windows_are_placed.ensures; leaves = c.windows_are_leaves.ensures.placed };
     }
 
-agree : goal.After-windows_tile_their_rectangle → (e : End) (mode : Mode) (stream file : List ℕ) → IsRecording e mode stream file → Agree stream file
+agree : goal.After-windows_are_placed → (e : End) (mode : Mode) (stream file : List ℕ) → IsRecording e mode stream file → Agree stream file
 agree c e mode stream file h = recording-agrees (laws c) e mode stream file h
 
 sound : (stream file name : List ℕ) (told : List ℕ → Option (List ℕ)) (e : End) (mode : Mode) → IsRecording e mode stream file → told name ≡ Some file → Agree stream file
