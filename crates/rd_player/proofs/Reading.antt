@@ -1,8 +1,11 @@
 -- What a reader has read: the lines that it gave, and the bytes that it took for them.
-use Rattle.std.proofs.Common.{◌≡◌, ℕ, ◌+◌, ◌<◌, ◌≤◌, inl, inr, Bool, true, false, List, [], ◌∷◌, ◌++◌, length, Option, None, Result, Ok, Err, refl, sym, ap, ◌∙◌, subst, append_assoc, append-nil, arith, length-append}
+use Rattle.std.proofs.Common.{◌≡◌, ℕ, ◌+◌, ◌<◌, ◌≤◌, inl, inr, Bool, true, false, List, [], ◌∷◌, ◌++◌, length, Option, None, Result, Ok, Err, refl, sym, ap, ◌∙◌, subst, append_assoc, append-nil, arith}
 use Rattle.std.specs.List.{AllByRecursion}
 use Rattle.std.specs.Io.KnownBytes.{Consumes, IsAtEnd}
 use Rattle.std.proofs.KnownBytes.{Consumes-nil, Consumes-trans}
+use Rattle.std.proofs.lemmas.Bool.{both_ways, false_from_ne_true}
+use Rattle.std.proofs.lemmas.List.{length_push}
+use Rattle.rd_base.proofs.Lists.{each-append}
 use Rattle.rd_io.specs.Lines.{Reading, Answers, GivesWhole, GivesLast, GivesNone, IsUnbroken, lines_of, text_of_lines, last_of, unread}
 use Rattle.rd_io.specs.declared.lines.LineFault.{LineFault}
 use Rattle.rd_io.proofs.Cuts.{lines-text_of_lines}
@@ -26,10 +29,6 @@ read-nothing l r e =
 
 -- ---- one more line
 
-all-push : (P : List ℕ → Type 0) (xs : List (List ℕ)) (x : List ℕ) → AllByRecursion P xs → P x → AllByRecursion P (xs ++ x ∷ [])
-all-push P [] x p q = (q, tt)
-all-push P (y ∷ ys) x p q = (p.0, all-push P ys x p.1 q)
-
 text_of_lines-push : (lines : List (List ℕ)) (line rest : List ℕ) → text_of_lines (lines ++ line ∷ []) ++ rest ≡ text_of_lines lines ++ (line ++ 10 ∷ rest)
 text_of_lines-push [] line rest = simp append_assoc
 text_of_lines-push (l ∷ ls) line rest =
@@ -39,13 +38,6 @@ last-some : (line : List ℕ) → 0 < length line → last_of line ≡ line ∷ 
 last-some [] p = absurd (omega arith)
 last-some (b ∷ bs) p = refl
 
-length-push : (xs : List (List ℕ)) (x : List ℕ) → length (xs ++ x ∷ []) ≡ length xs + 1
-length-push xs x = omega (arith, length-append xs (x ∷ []))
-
--- what an end or its want says
-pub not-over : (b : Bool) → b ≡ false → b ≡ true → ⊥
-not-over b p q = cc
-
 -- the bytes that came behind the lines so far
 pub come : (lines : List (List ℕ)) (bytes held more : List ℕ) → bytes ≡ text_of_lines lines ++ held → bytes ++ more ≡ text_of_lines lines ++ (held ++ more)
 come lines bytes held more e = ap (λ l. l ++ more) e ∙ append_assoc (text_of_lines lines) held more
@@ -54,11 +46,11 @@ read-whole : (lines : List (List ℕ)) (bytes more : List ℕ) (l0 l1 l2 : Optio
     → GivesWhole old new more → HasRead (lines ++ new.line ∷ []) (bytes ++ more) l0 l2 new
 read-whole lines bytes more l0 l1 l2 old new h p off g = record {
   taken = Consumes-trans l0 l1 l2 bytes more h.taken p;
-  unbroken = all-push IsUnbroken lines new.line h.unbroken g.line.unbroken;
-  short = all-push (λ line. length line ≤ 1048576) lines new.line h.short g.line.short;
+  unbroken = each-append IsUnbroken lines (new.line ∷ []) h.unbroken (g.line.unbroken, tt);
+  short = each-append (λ line. length line ≤ 1048576) lines (new.line ∷ []) h.short (g.line.short, tt);
   split = λ q. come lines bytes old.held more (h.split off) ∙ ap (λ l. text_of_lines lines ++ l) g.split ∙ sym (text_of_lines-push lines new.line new.held);
-  over = λ q. absurd (not-over new.ended g.goes_on q);
-  count = let a = h.count in let b = g.line.count in omega (arith, length-push lines new.line);
+  over = λ q. absurd (both_ways new.ended g.goes_on q);
+  count = let a = h.count in let b = g.line.count in omega (arith, length_push lines new.line);
   few = let a = g.line.few in let b = g.line.count in omega arith;
   clear = g.line.fault;
 }
@@ -67,15 +59,15 @@ read-last : (lines : List (List ℕ)) (bytes more : List ℕ) (l0 l1 l2 : Option
     → GivesLast old new more l2 → HasRead (lines ++ new.line ∷ []) (bytes ++ more) l0 l2 new
 read-last lines bytes more l0 l1 l2 old new h p off g = record {
   taken = Consumes-trans l0 l1 l2 bytes more h.taken p;
-  unbroken = all-push IsUnbroken lines new.line h.unbroken g.line.unbroken;
-  short = all-push (λ line. length line ≤ 1048576) lines new.line h.short g.line.short;
-  split = λ q. absurd (not-over new.ended q g.ended);
+  unbroken = each-append IsUnbroken lines (new.line ∷ []) h.unbroken (g.line.unbroken, tt);
+  short = each-append (λ line. length line ≤ 1048576) lines (new.line ∷ []) h.short (g.line.short, tt);
+  split = λ q. absurd (both_ways new.ended q g.ended);
   over = λ q. (
     ap lines_of (come lines bytes old.held more (h.split off) ∙ ap (λ l. text_of_lines lines ++ l) g.split) ∙ lines-text_of_lines lines new.line h.unbroken g.line.unbroken
         ∙ ap (λ l. lines ++ l) (last-some new.line g.some),
     g.end,
   );
-  count = let a = h.count in let b = g.line.count in omega (arith, length-push lines new.line);
+  count = let a = h.count in let b = g.line.count in omega (arith, length_push lines new.line);
   few = let a = g.line.few in let b = g.line.count in omega arith;
   clear = g.line.fault;
 }
@@ -102,10 +94,6 @@ pub are-first : (lines : List (List ℕ)) (bytes : List ℕ) (l0 l1 : Option (Li
 are-first lines bytes l0 l1 r h = first-if r.ended lines bytes l0 l1 r refl h
 
 -- ---- the end
-
-nothing : (held more : List ℕ) → held ++ more ≡ [] → held ≡ []
-nothing [] more e = refl
-nothing (b ∷ bs) more e = cc
 
 pub read-over-open : (lines : List (List ℕ)) (bytes more : List ℕ) (l0 l1 l2 : Option (List ℕ)) (old new : Reading) → HasRead lines bytes l0 l1 old → Consumes l1 l2 more → old.ended ≡ false
     → GivesNone old new more l2 → Consumes l0 l2 (bytes ++ more) × (lines_of (bytes ++ more) ≡ lines) × IsAtEnd l2
@@ -138,12 +126,8 @@ pub read-over : (lines : List (List ℕ)) (bytes more : List ℕ) (l0 l1 l2 : Op
 read-over lines bytes more l0 l1 l2 old new h p same g = read-over-if old.ended lines bytes more l0 l1 l2 old new refl h p same g
 
 -- an answer other than the end comes while the end has not been met
-open-if : (b : Bool) (result : Result Bool LineFault) → (b ≡ true → result ≡ Ok false) → (result ≡ Ok false → ⊥) → b ≡ false
-open-if false result p q = refl
-open-if true result p q = absurd (q (p refl))
-
 pub is-open : (r : Reading) (result : Result Bool LineFault) → (r.ended ≡ true → result ≡ Ok false) → (result ≡ Ok false → ⊥) → r.ended ≡ false
-is-open r result p q = open-if r.ended result p q
+is-open r result p q = false_from_ne_true r.ended (λ over. q (p over))
 
 pub not-err : (r : Result Bool LineFault) (fault : LineFault) → r ≡ Err fault → r ≡ Ok false → ⊥
 not-err r fault p q = cc

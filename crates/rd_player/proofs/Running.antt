@@ -2,17 +2,15 @@
 use Rattle.std.proofs.Common.{◌≡◌, ℕ, ◌+◌, ◌≤◌, inl, Bool, true, false, List, [], ◌∷◌, ◌++◌, length, Option, None, Some, is_some, if◌then◌else◌, Result, Ok, Err, refl, sym, ap, ◌∙◌, subst, append-nil, arith}
 use Rattle.std.specs.Io.KnownBytes.{Appends}
 use Rattle.std.proofs.KnownBytes.{Appends-nil, Appends-trans}
-use Rattle.rd_layout.specs.Sessions.{session_step}
+use Rattle.std.proofs.lemmas.List.{length_push}
 use Rattle.rd_script.specs.Reading.{reading}
 use Rattle.rd_script.specs.declared.fault.OpFault.{OpFault}
 use Rattle.rd_script.specs.declared.op.Op.{Op}
-use Rattle.rd_state.specs.States.{StateValue}
-use Rattle.rd_state.specs.declared.refused.Refused.{Refused}
 use Rattle.rd_run.specs.Ends.{Drawn, drawn, Sunk, sunk, Took, Broke, AreScript, IsTaken, allowed_in, lines_in, IsBad, IsInHand}
 use Rattle.rd_run.specs.Given.{Given, IsMode}
-use Rattle.rd_run.specs.Runs.{Mode, Input, Standing, Effect, World, opened, run, after, effect, effect_of_reading, effect_by, asked, is_blank, is_sent, stepped}
+use Rattle.rd_run.specs.Runs.{Mode, Input, Standing, Effect, World, opened, run, after, effect, effect_of_reading, effect_by, asked, is_blank, is_sent}
 use Rattle.rd_run.proofs.Effects.{effect-is}
-use Rattle.rd_run.proofs.Inputs.{lines-push, inputs-push, run-push, run_line-goes}
+use Rattle.rd_run.proofs.Inputs.{lines-push, run-push, run_line-goes}
 use Rattle.rd_player.specs.Acts.{Acts, ComesTo, IsToldOf, Places, SpentBy, halted_by}
 use Rattle.rd_player.specs.Played.{input_of}
 use Rattle.rd_player.specs.declared.halt.Halt.{Halt}
@@ -105,7 +103,7 @@ has-run mode inputs line place next s0 s1 s2 p0 p1 p2 m0 m1 m2 n0 n1 n2 c0 c1 c2
       whole = ap (λ (x : World). x.fault) world ∙ a.1;
       stands = ap (λ (x : World). x.now) world ∙ sym a.2;
       under = ap (λ (x : Standing). x.mode) a.2 ∙ effect-mode place t ∙ k.under;
-      counted = ap (λ (x : Standing). x.lines) a.2 ∙ effect-counts place t ∙ ap (λ n. n + 1) k.counted ∙ sym (inputs-push inputs t);
+      counted = ap (λ (x : Standing). x.lines) a.2 ∙ effect-counts place t ∙ ap (λ n. n + 1) k.counted ∙ sym (length_push inputs t);
       sent = subst (Appends s0 s2) (sym (ap (λ (x : World). x.sent) world)) (Appends-trans s0 s1 s2 w.sent e.sent k.sent a.3);
       told = subst (Appends p0 p2) (sym (ap (λ (x : World). x.told) world)) (Appends-trans p0 p1 p2 w.told e.told k.told a.4);
       spent = let before = k.spent in omega (arith, effect-allows place line a.0);
@@ -149,7 +147,7 @@ halts-at given mode inputs line bytes left q0 q1 (halts.Bad fault) place next s0
     let w = run (opened mode) inputs in
     let e = effect place t in
     let world = world-behind mode inputs t place k.whole k.stands in
-    let count : place.lines + 1 ≡ length (inputs ++ t ∷ []) = ap (λ i. i + 1) k.counted ∙ sym (inputs-push inputs t) in
+    let count : place.lines + 1 ≡ length (inputs ++ t ∷ []) = ap (λ i. i + 1) k.counted ∙ sym (length_push inputs t) in
     let bad : IsBad mode fault (place.lines + 1) (inputs ++ t ∷ []) bytes left = record {
       others = inputs;
       last = t;

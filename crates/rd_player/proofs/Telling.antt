@@ -1,31 +1,15 @@
 -- What writes do to a sink, one after another.
-use Rattle.std.proofs.Common.{codes, decimal, drop-cons, false, true, Result, Ok, Err, IsErr, ◌≡◌, ℕ, ◌+◌, ◌<◌, ◌≤◌, List, [], ◌∷◌, ◌++◌, length, take, drop, get_or, Option, sym, ap, ◌∙◌, subst, append_assoc, append-nil, arith, length-append, take-append-drop, flat_map, add-one}
-use Rattle.std.proofs.Math.Seq.{take-append_seam}
+use Rattle.std.proofs.Common.{codes, decimal, drop-cons, false, true, Result, Ok, Err, IsErr, ◌≡◌, ℕ, ◌+◌, ◌<◌, ◌≤◌, List, [], ◌∷◌, ◌++◌, length, take, drop, get_or, Option, sym, ap, ◌∙◌, subst, append-nil, take-append-drop, flat_map, add-one}
 use Rattle.std.proofs.lemmas.List.Concat.{flat_map-append}
 use Rattle.std.specs.Io.KnownBytes.{Appends}
 use Rattle.std.proofs.KnownBytes.{Appends-trans}
 use Rattle.rd_io.specs.Devices.{AppendsFront, Writes}
-use Rattle.rd_io.proofs.Bytes.{rose-after}
+use Rattle.rd_io.proofs.Bytes.{rose-after, front-after, front-before}
 use Rattle.rd_run.specs.Ends.{sunk, Broke}
 use Rattle.rd_run.specs.Reports.{key_part, last_line}
 use Rattle.rd_run.specs.declared.status.Status.{Status}
 use Rattle.rd_player.specs.Acts.{summary_of}
 use Rattle.rd_player.specs.declared.halt.Summary.{Summary}
-
--- a front of the bytes
-pub front-of : (a c : Option (List ℕ)) (bytes front rest : List ℕ) → bytes ≡ front ++ rest → Appends a c front → AppendsFront a c bytes
-front-of a c bytes front rest e p =
-    let here : take (length front) bytes ≡ front = ap (take (length front)) e ∙ take-append_seam front rest in
-    (length front, omega (arith, ap length e, length-append front rest), subst (Appends a c) (sym here) p)
-
--- bytes, and then a front of others
-pub front-behind : (a b c : Option (List ℕ)) (bytes front more rest : List ℕ) → bytes ≡ front ++ (more ++ rest) → Appends a b front → AppendsFront b c more → AppendsFront a c bytes
-front-behind a b c bytes front more rest e p q =
-    let n = q.0 in
-    let split : bytes ≡ (front ++ take n more) ++ (drop n more ++ rest) =
-    e ∙ ap (λ l. front ++ (l ++ rest)) (sym (take-append-drop n more)) ∙ ap (λ l. front ++ l) (append_assoc (take n more) (drop n more) rest)
-    ∙ sym (append_assoc front (take n more) (drop n more ++ rest)) in
-    front-of a c bytes (front ++ take n more) (drop n more ++ rest) split (Appends-trans a b c front (take n more) p q.2)
 
 -- what broke behind bytes that were written
 pub broke-after : (a b c : Option (List ℕ)) (m n o : ℕ) (bytes more : List ℕ) → Appends a b bytes → m ≤ n → Broke (sunk b c n o) [] more → Broke (sunk a c m o) bytes more
@@ -47,23 +31,12 @@ pieces-broke X T E f xs i x r a b c within h p q =
     let split : xs ≡ take i xs ++ (get_or xs i x ∷ drop (i + 1) xs) = sym (take-append-drop i xs) ∙ ap (λ l. take i xs ++ l) (rw (add-one, drop-cons xs i x)) in
     let bytes : flat_map f xs ≡ flat_map f (take i xs) ++ (f (get_or xs i x) ++ flat_map f (drop (i + 1) xs)) =
     ap (flat_map f) split ∙ flat_map-append f (take i xs) (get_or xs i x ∷ drop (i + 1) xs) in
-    writes-failed T E r a c (flat_map f xs) h (front-behind a b c (flat_map f xs) (flat_map f (take i xs)) (f (get_or xs i x)) (flat_map f (drop (i + 1) xs)) bytes p q)
-
--- bytes were written, and then others
-pub writes-then : (T E : Type 0) (r : Result T E) (a b c : Option (List ℕ)) (bytes front back : List ℕ) → bytes ≡ front ++ back → Appends a b front → Writes b c back r → Writes a c bytes r
-writes-then T E (Ok x) a b c bytes front back e p q = record { whole = subst (Appends a c) (sym e) (Appends-trans a b c front back p q.whole); front = tt }
-writes-then T E (Err x) a b c bytes front back e p q =
-    record { whole = tt; front = front-behind a b c bytes front back [] (e ∙ ap (λ l. front ++ l) (sym (append-nil back))) p q.front }
+    writes-failed T E r a c (flat_map f xs) h (subst (AppendsFront a c) (sym bytes)
+    (front-after a b c (flat_map f (take i xs)) (f (get_or xs i x) ++ flat_map f (drop (i + 1) xs)) p (front-before b c (f (get_or xs i x)) (flat_map f (drop (i + 1) xs)) q)))
 
 -- the first of two writes failed
 pub writes-broke : (T E : Type 0) (r : Result T E) (a c : Option (List ℕ)) (bytes front back : List ℕ) → bytes ≡ front ++ back → IsErr r → AppendsFront a c front → Writes a c bytes r
-writes-broke T E r a c bytes front back e h q =
-    writes-failed T E r a c bytes h (
-    let n = q.0 in
-    let whole : bytes ≡ take n front ++ (drop n front ++ back) =
-    e ∙ ap (λ l. l ++ back) (sym (take-append-drop n front)) ∙ append_assoc (take n front) (drop n front) back in
-    front-of a c bytes (take n front) (drop n front ++ back) whole q.2
-    )
+writes-broke T E r a c bytes front back e h q = writes-failed T E r a c bytes h (subst (AppendsFront a c) (sym e) (front-before a c front back q))
 
 -- where a list of pieces breaks at an element that was read
 pub pieces-broke-at : (X T E : Type 0) (f : X → List ℕ) (xs : List X) (i : ℕ) (x : X) (r : Result T E) (a b c : Option (List ℕ)) → i < length xs → IsErr r → x ≡ get_or xs i x

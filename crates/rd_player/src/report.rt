@@ -1,4 +1,4 @@
-//! The lines of the report. Each is one write where it has at most 8,192 bytes, and takes no memory.
+//! The lines of the report. Each is one write where it has at most 20,480 bytes, and takes no memory.
 ghost use Rattle.std.specs.Prelude.{◌≡◌, ◌≤◌, OnErr, flat_map};
 ghost use Rattle.rd_io.specs.Devices.{Rose, Writes};
 ghost use Rattle.rd_player.specs.Acts.{summary_of};

@@ -1,7 +1,9 @@
 use Rattle.std.proofs.Common.{◌≡◌, ◌∙◌, sym, None, Some, slice_get, arith, ◌<◌, length}
+use Rattle.std.proofs.lemmas.List.{take_all}
 use Rattle.std.proofs.lemmas.Option.{slice_get_within}
+use Rattle.rd_base.proofs.Lists.{ended}
 use Rattle.rd_layout.specs.Facts.{facts_of}
-use Rattle.rd_player.proofs.Collecting.{taken-all, taken-next}
+use Rattle.rd_player.proofs.Collecting.{taken-next}
 use Rattle.rd_player.proofs.windows.collect.Goals as goal
 
 pub each_window-preserved : goal.each_window-preserved
@@ -19,4 +21,4 @@ pub returns-clause-facts : goal.returns-clause-facts
 returns-clause-facts c =
     let facts = facts_of c.args.session.now in
     let none : slice_get facts c.each_window.i ≡ None = cc in
-    c.each_window.invariant.facts ∙ taken-all _ facts c.each_window.i none c.each_window.invariant.upto
+    c.each_window.invariant.facts ∙ take_all c.each_window.i facts (ended facts c.each_window.i none)
