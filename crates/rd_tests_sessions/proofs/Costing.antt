@@ -47,3 +47,11 @@ value_of (Err refusal) = 0
 pub rise-of : (r : Result SessionValue Refused) (v : SessionValue) (n old new : ℕ) → r ≡ Ok v → told allowed r ≡ Ok n → new ≤ old + allowed v → new ≤ old + n
 rise-of r v n old new reached costs rises =
     subst (λ (m : ℕ). new ≤ old + m) (ap value_of (sym (ap (told allowed) reached) ∙ costs)) rises
+
+-- the same of the second redisplay behind ops from the opening on, with one op more between the two
+pub rise-behind : (ops : List Op) (op : Op) (v w x y : SessionValue) (n old new : ℕ) → after [] ≡ Ok v → after_all (Ok v) ops ≡ Ok w → x ≡ redisplayed w None → then_done (Ok x) op ≡ Ok y
+    → told allowed (then_done (then_done (after ops) (Redisplay None)) op) ≡ Ok n → new ≤ old + allowed y → new ≤ old + n
+rise-behind ops op v w x y n old new opens makes shows leads costs rises =
+    let made : after ops ≡ Ok w = then-made v w ops opens makes in
+    let shown : then_done (after ops) (Redisplay None) ≡ Ok x = then-shown (after ops) w x made shows in
+    rise-of (then_done (then_done (after ops) (Redisplay None)) op) y n old new (then-applied (then_done (after ops) (Redisplay None)) x y op shown leads) costs rises

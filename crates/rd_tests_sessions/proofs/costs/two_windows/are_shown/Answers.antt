@@ -3,11 +3,10 @@ use Rattle.std.specs.Char.{encode_utf8}
 use Rattle.std.specs.Fmt.{digits}
 use Rattle.std.specs.Str.{chars}
 use Rattle.unicode_width.specs.Width.{char_width}
-use Rattle.rd_layout.specs.Copies.{redisplayed, without_copies}
-use Rattle.rd_layout.specs.Examples.{after, after_all, then_done, told}
+use Rattle.rd_layout.specs.Copies.{without_copies}
+use Rattle.rd_layout.specs.Examples.{after, then_done, told}
 use Rattle.rd_layout.specs.Redisplays.{allowed}
 use Rattle.rd_layout.specs.Screens.{laid_out}
-use Rattle.rd_layout.specs.Sessions.{SessionValue}
 use Rattle.rd_script.specs.declared.op.Op.{Op}
 use Rattle.rd_script.specs.declared.op.Op.TheVariants.{Insert, Redisplay}
 use Rattle.rd_state.specs.Effects.{effect_of}
@@ -15,7 +14,7 @@ use Rattle.rd_state.specs.States.{main_name}
 use Rattle.rd_state.specs.Steps.{step}
 use Rattle.rd_tree.specs.Calls.{margins_tree, mode_tree, resize_tree, split_tree}
 use Rattle.rd_tests_sessions.specs.Worked.{two_windows}
-use Rattle.rd_tests_sessions.proofs.Costing.{rise-of, then-applied, then-made, then-shown}
+use Rattle.rd_tests_sessions.proofs.Costing.{rise-behind}
 use Rattle.rd_tests_sessions.proofs.costs.two_windows.are_shown.Goals as goal
 
 -- the line that is put before what the windows show
@@ -26,17 +25,10 @@ cost : told allowed (then_done (then_done (after two_windows) (Redisplay None)) 
 unfolding char_width chars digits encode_utf8 effect_of step laid_out margins_tree mode_tree resize_tree split_tree
 cost = refl
 
--- the windows, these shown, and the line before what they show
-rise : (v w x y : SessionValue) (old new : ℕ) → after [] ≡ Ok v → after_all (Ok v) two_windows ≡ Ok w → x ≡ redisplayed w None → then_done (Ok x) line ≡ Ok y
-    → new ≤ old + allowed y → new ≤ old
-rise v w x y old new opens makes shows leads rises =
-    let windows : after two_windows ≡ Ok w = then-made v w two_windows opens makes in
-    let shown : then_done (after two_windows) (Redisplay None) ≡ Ok x = then-shown (after two_windows) w x windows shows in
-    let reached : then_done (then_done (after two_windows) (Redisplay None)) line ≡ Ok y = then-applied (then_done (after two_windows) (Redisplay None)) x y line shown leads in
-    let h : new ≤ old + 0 = rise-of (then_done (then_done (after two_windows) (Redisplay None)) line) y 0 old new reached cost rises in
-    omega (arith, h)
+no-rise : (old new : ℕ) → new ≤ old + 0 → new ≤ old
+no-rise old new h = omega (arith, h)
 
 pub returns : goal.returns
-returns g c =
-    rise (without_copies c.args.session.now) (without_copies c.make_windows.new.session) (without_copies c.is_shown.new.session) (without_copies c.insert.new.session)
-    c.args.second.now c.is_shown-2.new.steps c.requires c.in_ok-make_windows.ensures (c.is_shown.ensures.shown c.if-not-is_shown.false) c.in_ok-insert.ensures c.is_shown-2.ensures.cost
+returns g c = no-rise c.args.second.now c.is_shown-2.new.steps
+    (rise-behind two_windows line (without_copies c.args.session.now) (without_copies c.make_windows.new.session) (without_copies c.is_shown.new.session) (without_copies c.insert.new.session)
+    0 c.args.second.now c.is_shown-2.new.steps c.requires c.in_ok-make_windows.ensures (c.is_shown.ensures.shown c.if-not-is_shown.false) c.in_ok-insert.ensures cost c.is_shown-2.ensures.cost)
