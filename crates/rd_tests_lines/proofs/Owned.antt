@@ -1,8 +1,6 @@
 -- Older rows that are a block's own.
-use Rattle.std.proofs.Common.{◌≡◌, ℕ, zero, suc, ◌+◌, ◌<◌, ◌&&◌, not, Bool, true, false, if◌then◌else◌, List, [], ◌∷◌, length, drop, find, slice_get, Option, None, Some, refl, sym, ap, ◌∙◌, subst, arith}
+use Rattle.std.proofs.Common.{◌≡◌, ℕ, zero, suc, ◌+◌, ◌<◌, ◌&&◌, not, Bool, true, false, if◌then◌else◌, List, [], ◌∷◌, length, slice_get, Option, None, Some, refl, sym, ap, ◌∙◌, subst, arith}
 use Rattle.std.proofs.lemmas.Bool.{and_parts}
-use Rattle.std.proofs.lemmas.List.{at_drop_more}
-use Rattle.std.proofs.lemmas.Option.{get_or_from_slice_get, slice_get_within}
 use Rattle.std.specs.Cmp.Derive.{both_true}
 use Rattle.std.specs.List.{list_all}
 use Rattle.rd_matrix.specs.declared.block.Block.{Block}
@@ -12,12 +10,6 @@ use Rattle.rd_reuse.specs.declared.change.Change.{Change}
 use Rattle.rd_rows.specs.Copies.{shown_rows}
 use Rattle.rd_rows.specs.Laws.{ends_last}
 use Rattle.rd_rows.specs.Rows.{RowMeaning}
-
--- what is sought from a place of a list on: the element there, if it passes, and else what is sought behind it
-pub sought : {X : Type 0} (test : X → Bool) (xs : List X) (k : ℕ) (x : X) → slice_get xs k ≡ Some x
-    → find test (drop k xs) ≡ (if test x then Some x else find test (drop (k + 1) xs))
-sought test xs k x at =
-    at_drop_more (find test) xs k x (slice_get_within xs k x at) ∙ ap (λ y. find test (y ∷ drop (k + 1) xs)) (get_or_from_slice_get xs k x x at)
 
 -- what holds of the entry that was found holds of each that was
 pub of-found : (P : Entry → Type 0) (o : Option Entry) (x e : Entry) → o ≡ Some x → P x → o ≡ Some e → P e

@@ -1,21 +1,15 @@
 -- The blocks of a source, one after the other.
-use Rattle.std.proofs.Common.{◌≡◌, ℕ, zero, suc, ◌+◌, ◌<◌, ◌≤◌, true, inl, inr, List, [], ◌∷◌, length, slice_get, option_map, Option, None, Some, refl, sym, ap, ◌∙◌, subst, arith}
+use Rattle.std.proofs.Common.{◌≡◌, ℕ, zero, suc, ◌+◌, ◌<◌, ◌≤◌, true, inl, inr, List, [], ◌∷◌, slice_get, Option, None, Some, refl, sym, ap, ◌∙◌, subst, arith}
 use Rattle.std.proofs.lemmas.Bool.{cases_lt}
 use Rattle.rd_matrix.specs.Blocks.{IsAmong, StandFrom}
-use Rattle.rd_matrix.specs.Entries.{EntryMeaning}
-use Rattle.rd_matrix.specs.Sources.{SourceValues, rows_at}
+use Rattle.rd_matrix.specs.Sources.{SourceValues}
 use Rattle.rd_matrix.specs.declared.block.Block.{Block}
 use Rattle.rd_matrix.specs.declared.matrix.Entry.{Entry}
 use Rattle.rd_matrix.proofs.HeldLemmas.{later-start}
 use Rattle.rd_reuse.specs.Keeping.{AreRight, is_kept, taken}
 use Rattle.rd_reuse.specs.declared.change.Change.{Change}
 use Rattle.rd_rows.specs.Copies.{shown_rows}
-use Rattle.rd_reuse.specs.Views.{Names, anchor_of}
 use Rattle.rd_rows.specs.Shapes.{ShapeValues}
-use Rattle.rd_start.specs.Chosen.{anchor_at, chosen_of, places_of}
-use Rattle.rd_start.specs.Starts.{start_of}
-use Rattle.rd_start.specs.declared.wanted.Chosen.{Chosen}
-use Rattle.rd_start.specs.declared.wanted.Wanted.{Wanted}
 
 -- the older rows of a block are the source's, where it keeps them
 abbrev pub IsRight : SourceValues → List Entry → Change → ShapeValues → Block → Type 0
@@ -78,15 +72,3 @@ all-right m old c shape b o r right next is d among =
     let none : slice_get m.blocks (r.place + 1) ≡ None = sym (next r.place r.here) ∙ is in
     let low = none-behind m.blocks (r.place + 1) among.0 d none among.1 in
     up-to m old c shape b r right among.0 d (omega (arith, low)) among.1
-
-named-at : (rows : List EntryMeaning) (k : ℕ) → k < length rows → option_map anchor_of (slice_get rows k) ≡ Some (anchor_at rows k)
-named-at [] k low = absurd (omega arith)
-named-at (e ∷ rows) zero low = refl
-named-at (e ∷ rows) (suc k) low = named-at rows k (omega arith)
-
--- the start that was chosen names its row
-pub chosen-named : (m : SourceValues) (shape : ShapeValues) (w : Wanted) (chosen : Chosen) → start_of w (places_of m shape w) < length (rows_at m shape) → chosen ≡ chosen_of m shape w
-    → Names chosen.anchor (rows_at m shape) (start_of w (places_of m shape w))
-chosen-named m shape w chosen low is =
-    let row = start_of w (places_of m shape w) in
-    subst (λ (x : Chosen). Names x.anchor (rows_at m shape) row) (sym is) (named-at (rows_at m shape) row low)
