@@ -1,2 +1,1 @@
-pub mod Panes
 pub mod Positions

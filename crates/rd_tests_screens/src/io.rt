@@ -162,8 +162,8 @@ fn assert_full(rt: &impl Abort, bytes: &[u8]) {
 }
 
 #[test]
-fn a_piece_holds_8_192_bytes(rt: HostRuntime) -> Result<(), Fail> {
-    let bytes = letters(rt.alloc(), 8192)?;
+fn a_piece_holds_20_480_bytes(rt: HostRuntime) -> Result<(), Fail> {
+    let bytes = letters(rt.alloc(), 20_480)?;
     assert_full(&rt, bytes.as_slice());
     Ok(())
 }

@@ -1,10 +1,5 @@
 //! Window trees with ample memory.
-ghost use Rattle.std.specs.Prelude.{◌≡◌};
-ghost use Rattle.rd_tests_screens.specs.Panes.{blank};
-
-use rd_base::{Cell, Face, ListOf, Memory};
-use rd_tree::{Panes, Placed, Rect, Side, Tree, TreeFault};
-use std::alloc::Global;
+use rd_tree::{Placed, Rect, Side, Tree, TreeFault};
 use std::process::Abort;
 use std::test::Fail;
 
@@ -124,74 +119,5 @@ fn is_new(window: Option<Placed>) -> bool {
 fn margins_take_columns(rt: HostRuntime) -> Result<(), Fail> {
     let mut tree = Tree::new(rt.alloc(), 16, 1)?;
     assert_margins(&rt, &mut tree);
-    Ok(())
-}
-
-/// A blank in the colour of a number below 8.
-fn blank(number: u32) -> Cell
-    ensures { result ≡ blank number }
-{
-    let fg = if number < 8 { number as u8 } else { 8 };
-    Cell::Blank(Face { fg, ..Face::PLAIN })
-}
-
-/// Each window is blank, in the colour of its number.
-#[derive(Drop)]
-struct Coloured {
-    alloc: Global,
-}
-
-impl Panes for Coloured {
-    ghost use Rattle.rd_tests_screens.specs.Panes.{rows_of};
-
-    ghost rows_of = { λ _ window. rows_of window };
-
-    fn put_row(&self, window: Placed, _row: u32, cells: &mut ListOf<Cell>) -> Result<(), Memory> {
-        let mut row = ListOf::new(self.alloc);
-        row.resize(window.rect.width as usize, blank(window.number))?;
-        cells.extend_from_slice(row.as_slice())
-    }
-}
-
-/// The first row of a window's rectangle, over the whole frame.
-fn first_row(alloc: Global, tree: &Tree, window: u32) -> Result<ListOf<Cell>, Memory> {
-    let mut cells = ListOf::new(alloc);
-    if let Some(placed) = tree.placed(window) {
-        tree.put_row(&Coloured { alloc }, placed.rect.y, &mut cells)?;
-    }
-    Ok(cells)
-}
-
-/// Whether cells are so many blanks in the colour of a number.
-fn are_blank(cells: &[Cell], number: u32, count: usize) -> bool {
-    for cell in cells {
-        if *cell != blank(number) {
-            return false;
-        }
-    }
-    cells.len() == count
-}
-
-/// Asserts what stands in the first row of each of two windows that stand beside each other.
-fn assert_low(rt: &impl Abort, low: &[Cell]) {
-    assert!(rt; low.len() == 24);
-    let (left, right) = low.split_at(11);
-    assert!(rt; are_blank(left, 1, 11));
-    assert!(rt; are_blank(right, 2, 13));
-}
-
-/// Asserts that a frame of 24 columns and 3 rows is composed of a window above two that stand beside each other.
-fn assert_beside(rt: &impl Abort, tree: &mut Tree, alloc: Global) -> Result<(), Memory> {
-    assert!(rt; is_number(tree.split(0, Side::Below, 1), 1));
-    assert!(rt; is_number(tree.split(1, Side::Right, 11), 2));
-    assert!(rt; are_blank(first_row(alloc, tree, 0)?.as_slice(), 0, 24));
-    assert_low(rt, first_row(alloc, tree, 2)?.as_slice());
-    Ok(())
-}
-
-#[test]
-fn rows_of_windows_stand_beside_each_other(rt: HostRuntime) -> Result<(), Fail> {
-    let mut tree = Tree::new(rt.alloc(), 24, 3)?;
-    assert_beside(&rt, &mut tree, rt.alloc())?;
     Ok(())
 }
