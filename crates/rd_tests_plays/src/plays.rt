@@ -81,7 +81,7 @@ const CASES: [Case; 9] = [
 ];
 
 /// Scripts that are refused before they show anything, and the report.
-const REFUSED: [(&'static [u8], &'static [u8]); 14] = [
+const REFUSED: [(&'static [u8], &'static [u8]); 15] = [
     (
         b"{\"op\":\"insert\",\"buffer\":\"main\",\"pos\":2,\"text\":\"a\"}",
         b"script:1: OutOfRange\n",
@@ -93,6 +93,10 @@ const REFUSED: [(&'static [u8], &'static [u8]); 14] = [
     (
         b"{\"op\":\"hit\",\"window\":0,\"row\":0,\"column\":0}",
         b"script:1: NotShown\n",
+    ),
+    (
+        b"{\"op\":\"hit\",\"window\":1,\"row\":0,\"column\":0}",
+        b"script:1: NoWindow\n",
     ),
     (
         b"{\"op\":\"go\",\"window\":1,\"side\":\"left\"}",
