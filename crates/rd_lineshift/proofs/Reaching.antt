@@ -5,13 +5,14 @@ use Rattle.std.specs.List.{AllByRecursion, flat_map}
 use Rattle.std.proofs.lemmas.Bool.Decides.{nat_tests}
 use Rattle.std.proofs.lemmas.List.{length-map, length-take-le, length-drop, length-replicate}
 use Rattle.std.proofs.lemmas.List.Elements.{recursion_from_All, All-from_recursion, All-map, All-take, All-drop}
+use Rattle.std.specs.Char.{is_ascii_digit}
 use Rattle.rd_base.proofs.Lists.{each-append}
 use Rattle.rd_base.specs.Faces.{Attributes, plain}
 use Rattle.rd_base.specs.declared.cell.Cell.{Cell}
 use Rattle.rd_term.specs.Controls.{control_of}
 use Rattle.rd_term.specs.Pictures.{Picture, blank, blank_row, width_of, IsGrid, IsOfSize}
 use Rattle.rd_term.specs.Shifts.{cleared, moved_down, moved_up, changed_between}
-use Rattle.rd_term.specs.Steps.{at_end, is_digit}
+use Rattle.rd_term.specs.Steps.{at_end}
 use Rattle.rd_term.specs.Terminals.{Tty, feed_bytes, perform, known, on_screen}
 use Rattle.rd_term.specs.declared.reading.Reading.TheVariants.{Between}
 use Rattle.rd_term.proofs.Cutting.{map-replicate}
@@ -35,7 +36,7 @@ Place = Option (ℕ × ℕ)
 
 -- how a terminal reads a control sequence
 abbrev pub Reads : Type 0
-Reads = (t : Tty) (last n : ℕ) (ns : List ℕ) → t.confused ≡ false → t.reading ≡ Between → is_digit last ≡ false → (last == 59) ≡ false
+Reads = (t : Tty) (last n : ℕ) (ns : List ℕ) → t.confused ≡ false → t.reading ≡ Between → is_ascii_digit last ≡ false → (last == 59) ≡ false
     → n ≤ 65535 → All (λ k. k ≤ 65535) ns → length ns < 16
     → feed_bytes t (sequence n ns last) ≡ perform (at_end (control_of last) (Some (n ∷ ns))) (record t { latest = None })
 

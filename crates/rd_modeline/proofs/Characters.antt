@@ -5,6 +5,7 @@ use Rattle.std.specs.List.{AllByRecursion}
 use Rattle.std.proofs.lemmas.Bool.Decides.{nat_tests}
 use Rattle.std.proofs.lemmas.Fmt.{decimal_by_steps}
 use Rattle.std.proofs.lemmas.List.Elements.{All-append, All-nil, All-cons, All-replicate, All-from_recursion, recursion_from_All}
+use Rattle.std.specs.Char.{is_ascii_digit}
 use Rattle.rd_base.specs.Chars.{is_code}
 use Rattle.rd_ucd.specs.declared.spans.Span.{Span}
 use Rattle.rd_glyphs.specs.Lines.{plain_columns}
@@ -14,7 +15,7 @@ use Rattle.rd_modeline.specs.declared.piece.Piece.{Piece}
 use Rattle.rd_modeline.specs.declared.piece.Piece.TheVariants.{Literal, Value, Dashes}
 use Rattle.rd_modeline.specs.declared.reading.Behind.{Behind}
 use Rattle.rd_modeline.specs.declared.reading.Behind.TheVariants.{Text, Percent}
-use Rattle.rd_modeline.specs.Formats.{field_of, sign_of, value_or, piece_of, is_digit, before, before_or, pieces_from, pieces_of}
+use Rattle.rd_modeline.specs.Formats.{field_of, sign_of, value_or, piece_of, before, before_or, pieces_from, pieces_of}
 use Rattle.rd_modeline.specs.Values.{FactValues, AreFacts, share, place_text, value_text}
 use Rattle.rd_modeline.specs.Lines.{filled, value_in, line_text}
 
@@ -116,7 +117,7 @@ pieces Text place (c ∷ cs) each =
     (pieces (Percent place 0 0) (place + 1) cs each.1)
     (before-pieces (Literal c) (pieces_from Text (place + 1) cs) each.0 (pieces Text (place + 1) cs each.1))
 pieces (Percent start digits width) place (c ∷ cs) each =
-    either (is_digit c && nat_lt digits 3) (pieces_from (Percent start (digits + 1) (10 * width + (c - 48))) (place + 1) cs)
+    either (is_ascii_digit c && nat_lt digits 3) (pieces_from (Percent start (digits + 1) (10 * width + (c - 48))) (place + 1) cs)
     (before_or (piece_of digits width c) start (pieces_from Text (place + 1) cs))
     (pieces (Percent start (digits + 1) (10 * width + (c - 48))) (place + 1) cs each.1)
     (before_or-pieces (piece_of digits width c) start (pieces_from Text (place + 1) cs) (piece-is digits width c each.0) (pieces Text (place + 1) cs each.1))

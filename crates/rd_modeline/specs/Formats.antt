@@ -1,5 +1,6 @@
 -- The grammar of a format: characters that stand for themselves, and codes that begin with a percent sign.
-use Rattle.std.specs.Prelude.{ℕ, ◌+◌, ◌-◌, ◌*◌, ◌==◌, ◌&&◌, ◌≤◌, ◌≡◌, nat_lt, nat_le, Bool, if◌then◌else◌, List, [], ◌∷◌, ◌++◌, Option, None, Some, Result, Ok, Err}
+use Rattle.std.specs.Prelude.{ℕ, ◌+◌, ◌-◌, ◌*◌, ◌==◌, ◌&&◌, ◌≤◌, ◌≡◌, nat_lt, if◌then◌else◌, List, [], ◌∷◌, ◌++◌, Option, None, Some, Result, Ok, Err}
+use Rattle.std.specs.Char.{is_ascii_digit}
 use Rattle.rd_modeline.specs.declared.piece.Field.{Field}
 use Rattle.rd_modeline.specs.declared.piece.Field.TheVariants.{Name, Line, Place, ReadOnly, Modified, Narrowing}
 use Rattle.rd_modeline.specs.declared.piece.Piece.{Piece}
@@ -31,9 +32,6 @@ value_or None width other = other
 abbrev pub piece_of : ℕ → ℕ → ℕ → Option Piece
 piece_of digits width c = value_or (field_of c) width (sign_of digits c)
 
-abbrev pub is_digit : ℕ → Bool
-is_digit c = nat_le 48 c && nat_le c 57
-
 -- a piece before those of the rest
 abbrev pub before : Piece → Result (List Piece) ℕ → Result (List Piece) ℕ
 before p (Ok ps) = Ok (p ∷ ps)
@@ -52,7 +50,7 @@ pieces_from (Percent start digits width) place [] = Err start
 pieces_from Text place (c ∷ cs) =
     if c == 37 then pieces_from (Percent place 0 0) (place + 1) cs else before (Literal c) (pieces_from Text (place + 1) cs)
 pieces_from (Percent start digits width) place (c ∷ cs) =
-    if is_digit c && nat_lt digits 3
+    if is_ascii_digit c && nat_lt digits 3
     then pieces_from (Percent start (digits + 1) (10 * width + (c - 48))) (place + 1) cs
     else before_or (piece_of digits width c) start (pieces_from Text (place + 1) cs)
 

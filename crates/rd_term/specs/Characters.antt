@@ -1,5 +1,6 @@
 -- Characters in UTF-8, byte by byte (the Unicode Standard, table 3-7), and their columns.
-use Rattle.std.specs.Prelude.{ℕ, ◌+◌, ◌-◌, ◌*◌, ◌%◌, ◌<◌, ◌≤◌, ◌==◌, nat_le, Bool, false, if◌then◌else◌, ◌&&◌, Option, None, Some}
+use Rattle.std.specs.Prelude.{ℕ, ◌+◌, ◌-◌, ◌*◌, ◌%◌, ◌<◌, ◌≤◌, ◌==◌, Bool, false, if◌then◌else◌, Option, None, Some}
+use Rattle.std.specs.Int.{is_in_range}
 use Rattle.unicode_width.specs.Width.{char_width}
 use Rattle.rd_base.specs.Chars.{is_scalar}
 
@@ -13,18 +14,15 @@ pub record CharacterRead : Type 0 where
 abbrev pub read : ℕ → ℕ → ℕ → ℕ → Option CharacterRead
 read bits due low high = Some (record { bits = bits; due = due; low = low; high = high })
 
-abbrev pub is_between : ℕ → ℕ → ℕ → Bool
-is_between low high byte = nat_le low byte && nat_le byte high
-
 -- the first byte of a character of two to four bytes, and None where no character begins with it
 abbrev pub begun : ℕ → Option CharacterRead
 begun byte =
-    if is_between 194 223 byte then read (byte - 192) 1 128 191
+    if is_in_range 194 223 byte then read (byte - 192) 1 128 191
     else if byte == 224 then read 0 2 160 191
     else if byte == 237 then read 13 2 128 159
-    else if is_between 225 239 byte then read (byte - 224) 2 128 191
+    else if is_in_range 225 239 byte then read (byte - 224) 2 128 191
     else if byte == 240 then read 0 3 144 191
-    else if is_between 241 243 byte then read (byte - 240) 3 128 191
+    else if is_in_range 241 243 byte then read (byte - 240) 3 128 191
     else if byte == 244 then read 4 3 128 143
     else None
 

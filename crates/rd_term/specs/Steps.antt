@@ -1,6 +1,7 @@
 -- How bytes are read: what the next byte gives, by what was read of a sequence or of a character before it. Nothing here knows of
 -- what a terminal shows.
-use Rattle.std.specs.Prelude.{ℕ, ◌-◌, ◌==◌, nat_lt, nat_le, Bool, if◌then◌else◌, ◌&&◌, ◌||◌, List, Option, None, Some}
+use Rattle.std.specs.Prelude.{ℕ, ◌-◌, ◌==◌, nat_lt, nat_le, Bool, if◌then◌else◌, ◌||◌, List, Option, None, Some}
+use Rattle.std.specs.Char.{is_ascii_digit}
 use Rattle.rd_term.specs.Characters.{CharacterRead, begun, with_bits, continued}
 use Rattle.rd_term.specs.Controls.{control_of}
 use Rattle.rd_term.specs.Parameters.{ParametersRead, no_parameters, with_digit, separated, numbers_of}
@@ -25,9 +26,6 @@ abbrev pub at_end : Option Control → Option (List ℕ) → Step
 at_end (Some control) (Some numbers) = Obeys control numbers
 at_end _ _ = Fails
 
-abbrev pub is_digit : ℕ → Bool
-is_digit byte = nat_le 48 byte && nat_le byte 57
-
 abbrev pub read_byte : Reading → ℕ → Step
 read_byte Between byte =
     if byte == 27 then Begins
@@ -35,7 +33,7 @@ read_byte Between byte =
     else after_first (begun byte)
 read_byte Escaped byte = if byte == 91 then GoesOn (Sequence no_parameters) else Fails
 read_byte (Sequence parameters) byte =
-    if is_digit byte then after_digit (with_digit parameters (byte - 48))
+    if is_ascii_digit byte then after_digit (with_digit parameters (byte - 48))
     else if byte == 59 then GoesOn (Sequence (separated parameters))
     else at_end (control_of byte) (numbers_of parameters)
 read_byte (Character c) byte =

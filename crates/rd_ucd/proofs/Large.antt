@@ -2,7 +2,8 @@
 use Rattle.std.proofs.Common.{◌≡◌, ℕ, ◌+◌, ◌*◌, ◌<◌, ◌≤◌, Bool, true, false, if◌then◌else◌, List, [], ◌∷◌, None, Some, refl, sym, ap, ◌∙◌, length, get_or, drop, arith}
 use Rattle.std.proofs.lemmas.List.{drop_more}
 use Rattle.std.proofs.lemmas.Bool.Decides.{nat_tests}
-use Rattle.rd_ucd.specs.Codes.{is_between, is_hex, hex_value, number_from, in_range, code_of}
+use Rattle.std.specs.Int.{is_in_range}
+use Rattle.rd_ucd.specs.Codes.{is_hex, hex_value, number_from, in_range, code_of}
 
 pub too_large : (n : ℕ) (digits : List ℕ) → 1114111 < n → in_range (number_from n digits) ≡ None
 too_large n [] large = grind (arith, nat_tests)
@@ -17,7 +18,7 @@ pub code_of-too_large : (digits : List ℕ) (n i d v : ℕ) → 4 ≤ length dig
     → (is_hex d ≡ true) → hex_value d ≡ v → 1114111 < 16 * n + v → in_range (number_from n (drop i digits)) ≡ in_range (number_from 0 digits)
     → code_of digits ≡ None
 code_of-too_large digits n i d v long short within at hex value large rest =
-    let four : is_between 4 6 (length digits) ≡ true = grind (arith, nat_tests) in
+    let four : is_in_range 4 6 (length digits) ≡ true = grind (arith, nat_tests) in
     let whole : code_of digits ≡ in_range (number_from 0 digits) = ap (λ (t : Bool). if t then in_range (number_from 0 digits) else None) four in
     let here : drop i digits ≡ d ∷ drop (i + 1) digits = drop_more digits i 0 within ∙ ap (λ (x : ℕ). x ∷ drop (i + 1) digits) at in
     let step : number_from n (d ∷ drop (i + 1) digits) ≡ number_from (16 * n + hex_value d) (drop (i + 1) digits) =

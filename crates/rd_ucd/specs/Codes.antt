@@ -1,15 +1,13 @@
 -- Codes: 4 to 6 hexadecimal digits of either case, at most 10FFFF.
-use Rattle.std.specs.Prelude.{ℕ, ◌+◌, ◌-◌, ◌*◌, nat_le, Bool, ◌&&◌, ◌||◌, if◌then◌else◌, List, [], ◌∷◌, length, Option, None, Some}
-
-abbrev pub is_between : ℕ → ℕ → ℕ → Bool
-is_between low high b = nat_le low b && nat_le b high
+use Rattle.std.specs.Prelude.{ℕ, ◌+◌, ◌-◌, ◌*◌, nat_le, Bool, ◌||◌, if◌then◌else◌, List, [], ◌∷◌, length, Option, None, Some}
+use Rattle.std.specs.Int.{is_in_range}
 
 -- 0 to 9, A to F, a to f
 abbrev pub is_hex : ℕ → Bool
-is_hex b = is_between 48 57 b || is_between 65 70 b || is_between 97 102 b
+is_hex b = is_in_range 48 57 b || is_in_range 65 70 b || is_in_range 97 102 b
 
 abbrev pub hex_value : ℕ → ℕ
-hex_value b = if is_between 48 57 b then b - 48 else (if is_between 65 70 b then b - 55 else b - 87)
+hex_value b = if is_in_range 48 57 b then b - 48 else (if is_in_range 65 70 b then b - 55 else b - 87)
 
 -- the number that the digits write behind those that were read, None where one of them is no digit
 abbrev pub number_from : ℕ → List ℕ → Option ℕ
@@ -22,4 +20,4 @@ in_range None = None
 in_range (Some n) = if nat_le n 1114111 then Some n else None
 
 abbrev pub code_of : List ℕ → Option ℕ
-code_of digits = if is_between 4 6 (length digits) then in_range (number_from 0 digits) else None
+code_of digits = if is_in_range 4 6 (length digits) then in_range (number_from 0 digits) else None

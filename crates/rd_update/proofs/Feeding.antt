@@ -3,11 +3,11 @@ use Rattle.std.proofs.Common.{◌≡◌, ℕ, suc, ◌+◌, ◌-◌, ◌/◌, �
 use Rattle.std.specs.Fmt.{decimal}
 use Rattle.std.proofs.lemmas.Bool.Decides.{nat_tests}
 use Rattle.std.proofs.lemmas.Fmt.{decimal_by_steps}
+use Rattle.std.specs.Char.{is_ascii_digit}
 use Rattle.rd_base.specs.Faces.{Attributes, plain}
 use Rattle.rd_term.specs.Parameters.{longer}
 use Rattle.rd_term.specs.Terminals.{Tty, feed_byte, feed_bytes, on_screen}
 use Rattle.rd_term.specs.Shifts.{cleared}
-use Rattle.rd_term.specs.Steps.{is_digit}
 use Rattle.rd_term.specs.declared.reading.Reading.TheVariants.{Sequence}
 use Rattle.rd_term.proofs.Encoded.{Rows, reading_at, standing}
 use Rattle.rd_term.proofs.Feeding.{feed_bytes-append}
@@ -20,16 +20,16 @@ amid region rows cursor wait pen ended last = reading_at region rows cursor wait
 -- ---- numbers and moves
 
 first_digit : (region : Option (ℕ × ℕ)) → (rows : Rows) (cursor : Option (ℕ × ℕ)) (wait : Bool) (pen : Option Attributes) (ended : List ℕ) (byte : ℕ)
-    → is_digit byte ≡ true → nat_lt (length ended) 16 ≡ true
+    → is_ascii_digit byte ≡ true → nat_lt (length ended) 16 ≡ true
     → feed_byte (amid region rows cursor wait pen ended None) byte ≡ amid region rows cursor wait pen ended (Some (byte - 48))
 first_digit region rows cursor wait pen ended byte d l = rw (d, l)
 
 more_digit : (region : Option (ℕ × ℕ)) → (rows : Rows) (cursor : Option (ℕ × ℕ)) (wait : Bool) (pen : Option Attributes) (ended : List ℕ) (m byte : ℕ)
-    → is_digit byte ≡ true
+    → is_ascii_digit byte ≡ true
     → feed_byte (amid region rows cursor wait pen ended (Some (suc m))) byte ≡ amid region rows cursor wait pen ended (Some (longer (suc m) (byte - 48)))
 more_digit region rows cursor wait pen ended m byte d = rw d
 
-digit-is : (d : ℕ) → d < 10 → is_digit (48 + d) ≡ true
+digit-is : (d : ℕ) → d < 10 → is_ascii_digit (48 + d) ≡ true
 digit-is d p = grind (arith, nat_tests)
 
 pub decimal_fed : (region : Option (ℕ × ℕ)) → (rows : Rows) (cursor : Option (ℕ × ℕ)) (wait : Bool) (pen : Option Attributes) (ended : List ℕ) (n : ℕ)

@@ -4,9 +4,10 @@ use Rattle.std.specs.Fmt.{decimal}
 use Rattle.std.specs.List.{flat_map, AllByRecursion}
 use Rattle.std.proofs.lemmas.List.{length-append}
 use Rattle.std.proofs.lemmas.List.Elements.{recursion_from_All}
+use Rattle.std.specs.Char.{is_ascii_digit}
 use Rattle.rd_base.specs.Faces.{Attributes}
 use Rattle.rd_term.specs.Controls.{control_of}
-use Rattle.rd_term.specs.Steps.{at_end, is_digit}
+use Rattle.rd_term.specs.Steps.{at_end}
 use Rattle.rd_term.specs.Terminals.{Tty, feed_byte, feed_bytes, perform}
 use Rattle.rd_term.specs.declared.reading.Reading.{Reading}
 use Rattle.rd_term.specs.declared.reading.Reading.TheVariants.{Between}
@@ -22,7 +23,7 @@ obeyed byte numbers t = perform (at_end (control_of byte) (Some numbers)) t
 -- ---- the numbers
 
 end_fed : (region : Option (ℕ × ℕ)) (rows : Rows) (cursor : Option (ℕ × ℕ)) (wait : Bool) (pen : Option Attributes) (ended : List ℕ) (last byte : ℕ)
-    → is_digit byte ≡ false → (byte == 59) ≡ false
+    → is_ascii_digit byte ≡ false → (byte == 59) ≡ false
     → feed_byte (amid region rows cursor wait pen ended (Some last)) byte ≡ obeyed byte (ended ++ last ∷ []) (standing region rows cursor wait pen None)
 end_fed region rows cursor wait pen ended last byte d s = rw (d, s) refl
 
@@ -31,7 +32,7 @@ next_fed : (region : Option (ℕ × ℕ)) (rows : Rows) (cursor : Option (ℕ ×
 next_fed region rows cursor wait pen ended last = refl
 
 pub parameters_fed : (region : Option (ℕ × ℕ)) (rows : Rows) (cursor : Option (ℕ × ℕ)) (wait : Bool) (pen : Option Attributes) (ended : List ℕ) (last byte : ℕ) (ns : List ℕ)
-    → is_digit byte ≡ false → (byte == 59) ≡ false → length ended + length ns < 16 → AllByRecursion (λ n. n ≤ 65535) ns
+    → is_ascii_digit byte ≡ false → (byte == 59) ≡ false → length ended + length ns < 16 → AllByRecursion (λ n. n ≤ 65535) ns
     → feed_bytes (amid region rows cursor wait pen ended (Some last)) (flat_map parameter ns ++ byte ∷ []) ≡ obeyed byte (ended ++ last ∷ ns) (standing region rows cursor wait pen None)
 parameters_fed region rows cursor wait pen ended last byte [] d s few small = end_fed region rows cursor wait pen ended last byte d s
 parameters_fed region rows cursor wait pen ended last byte (n ∷ ns) d s few small =
@@ -46,7 +47,7 @@ parameters_fed region rows cursor wait pen ended last byte (n ∷ ns) d s few sm
     ∙ ap (λ xs. obeyed byte xs (standing region rows cursor wait pen None)) (append_assoc ended (last ∷ []) (n ∷ ns))
 
 sequence_fed : (region : Option (ℕ × ℕ)) (rows : Rows) (cursor : Option (ℕ × ℕ)) (wait : Bool) (pen : Option Attributes) (latest : Option (ℕ × ℕ)) (n byte : ℕ) (ns : List ℕ)
-    → is_digit byte ≡ false → (byte == 59) ≡ false → n ≤ 65535 → AllByRecursion (λ n. n ≤ 65535) ns → length ns < 16
+    → is_ascii_digit byte ≡ false → (byte == 59) ≡ false → n ≤ 65535 → AllByRecursion (λ n. n ≤ 65535) ns → length ns < 16
     → feed_bytes (standing region rows cursor wait pen latest) (sequence n ns byte) ≡ obeyed byte (n ∷ ns) (standing region rows cursor wait pen None)
 sequence_fed region rows cursor wait pen latest n byte ns d s first small few =
     let none : length {A = ℕ} [] < 16 = omega arith in
@@ -62,7 +63,7 @@ pub tty-same : (rows : Rows) (region cursor : Option (ℕ × ℕ)) (wait : Bool)
     → let t : Tty = record { rows = rows; region = region; cursor = cursor; wait = wait; pen = pen; latest = latest; reading = reading; confused = confused } in t ≡ standing region rows' cursor wait pen' latest
 tty-same rows region cursor wait pen latest reading confused rows' pen' a b c d = cc
 
-pub sequence-read : (t : Tty) (byte n : ℕ) (ns : List ℕ) → t.confused ≡ false → t.reading ≡ Between → is_digit byte ≡ false → (byte == 59) ≡ false
+pub sequence-read : (t : Tty) (byte n : ℕ) (ns : List ℕ) → t.confused ≡ false → t.reading ≡ Between → is_ascii_digit byte ≡ false → (byte == 59) ≡ false
     → n ≤ 65535 → All (λ k. k ≤ 65535) ns → length ns < 16
     → feed_bytes t (sequence n ns byte) ≡ obeyed byte (n ∷ ns) (record t { latest = None })
 sequence-read t byte n ns sure between d s first small few =

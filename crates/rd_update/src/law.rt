@@ -1,10 +1,11 @@
 //! What an update does to the terminal that reads its bytes, and where it leads.
 ghost use Rattle.std.specs.Prelude.{◌≡◌, ◌<◌, ◌≤◌, ◌==◌, ℕ, List, ◌∷◌, length, All, Option, IfSome, None, Some, false, true};
+ghost use Rattle.std.specs.Char.{is_ascii_digit};
 ghost use Rattle.rd_base.specs.Glyphs.{IsRowAfter};
 ghost use Rattle.rd_base.specs.declared.cell.Cell.{Cell};
 ghost use Rattle.rd_term.specs.Pictures.{Picture};
 ghost use Rattle.rd_term.specs.Controls.{control_of};
-ghost use Rattle.rd_term.specs.Steps.{at_end, is_digit};
+ghost use Rattle.rd_term.specs.Steps.{at_end};
 ghost use Rattle.rd_term.specs.Terminals.{Tty, feed_bytes, perform};
 ghost use Rattle.rd_term.specs.declared.reading.Reading.TheVariants.{Between};
 ghost use Rattle.rd_update.specs.Plans.{HaveOneSize};
@@ -24,7 +25,7 @@ pub fn update_law()
 /// The bytes of a control sequence of up to 16 numbers, none above 65,535, do what its last byte says. They are read by a terminal
 /// that is not confused and stands between two sequences, and no mark joins behind them.
 pub fn sequences_are_read()
-    ensures { (t : Tty) (last n : ℕ) (ns : List ℕ) → t.confused ≡ false → t.reading ≡ Between → is_digit last ≡ false → (last == 59) ≡ false
+    ensures { (t : Tty) (last n : ℕ) (ns : List ℕ) → t.confused ≡ false → t.reading ≡ Between → is_ascii_digit last ≡ false → (last == 59) ≡ false
         → n ≤ 65535 → All (λ k. k ≤ 65535) ns → length ns < 16
         → feed_bytes t (sequence n ns last) ≡ perform (at_end (control_of last) (Some (n ∷ ns))) (record t { latest = None }) }
 {}
