@@ -51,7 +51,7 @@ grown-holds pos n b (Some o) small fits h =
       to_high = to_high;
     }
 
-deletion-rises : (from to a b : ℕ) → from ≤ to → a ≤ b → after_deletion from to a ≤ after_deletion from to b
+pub deletion-rises : (from to a b : ℕ) → from ≤ to → a ≤ b → after_deletion from to a ≤ after_deletion from to b
 deletion-rises from to a b p q = grind (arith, nat_tests)
 
 pub shrunk-holds : (from to : ℕ) (b : Bounds) (slot : Option Overlay) → from ≤ to → SlotHolds b slot

@@ -1,5 +1,5 @@
 mod Alike
-mod Bounding
+pub mod Bounding
 mod Exact
 mod Listed
 mod Moving

@@ -18,6 +18,6 @@ pub use laws::{
     edits_keep_starts_before_ends, insertions_at_edges, listings_agree, listings_are_exact,
     overlays_that_meet,
 };
-pub use overlay::{Kind, Overlay};
+pub use overlay::{Kind, Overlay, after_deletion};
 pub use overlays::Overlays;
 pub use way::Way;

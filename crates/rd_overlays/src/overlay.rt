@@ -75,8 +75,8 @@ pub(crate) fn grown(pos: Pos, n: u32, overlay: Overlay) -> Overlay
     }
 }
 
-/// Where a start or an end stands after the text from `from` to `to - 1` was deleted.
-pub(crate) fn after_deletion(from: Pos, to: Pos, place: Pos) -> Pos
+/// Where a position of a text, or an overlay's start or end, stands after the text from `from` to `to - 1` was deleted.
+pub fn after_deletion(from: Pos, to: Pos, place: Pos) -> Pos
     requires { from ≤ to }
     ensures { result ≡ after_deletion from to place }
 {

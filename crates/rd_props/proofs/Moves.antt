@@ -1,8 +1,9 @@
 -- What positions see of overlays that moved with an edit.
-use Rattle.std.proofs.Common.{◌≡◌, ℕ, zero, suc, ◌+◌, ◌-◌, ◌<◌, ◌≤◌, min, Bool, true, false, ◌&&◌, ◌||◌, if◌then◌else◌, List, [], ◌∷◌, map, Option, None, Some, refl, sym, ap, subst, ◌∙◌, arith}
+use Rattle.std.proofs.Common.{◌≡◌, ℕ, ◌+◌, ◌-◌, ◌<◌, ◌≤◌, min, Bool, true, false, ◌&&◌, ◌||◌, if◌then◌else◌, List, map, Option, None, Some, refl, sym, ap, subst, ◌∙◌, arith}
 use Rattle.std.specs.Prelude.{nat_lt, nat_le, ◌==◌}
 use Rattle.std.proofs.lemmas.Bool.Decides.{nat_tests}
 use Rattle.rd_overlays.specs.declared.overlay.Overlay.{Overlay}
+use Rattle.rd_overlays.proofs.Bounding.{overlay_at-map}
 use Rattle.rd_overlays.specs.Overlays.{overlay_at, covers, starts, ends, slot_changed, slot_grown, slot_shrunk, after_insertion, grown, after_deletion, shrunk}
 use Rattle.rd_props.specs.Edits.{AreOrdered}
 use Rattle.rd_props.specs.Strings.{is_empty}
@@ -62,12 +63,6 @@ picked-by o p true false same empty priority values = absurd (cc)
 picked-by o p false true same empty priority values = absurd (cc)
 picked-by o p false false same empty priority values = refl
 
--- what stands at a number after each overlay was changed
-pub changed-at : (change : Overlay → Overlay) (slots : List (Option Overlay)) (number : ℕ) → overlay_at (map (slot_changed change) slots) number ≡ slot_changed change (overlay_at slots number)
-changed-at change [] number = refl
-changed-at change (slot ∷ slots) zero = refl
-changed-at change (slot ∷ slots) (suc number) = changed-at change slots number
-
 -- a change of each overlay that keeps its priority and values
 pub record KeepsValues (change : Overlay → Overlay) : Type 0 where
   pub priority : (o : Overlay) → (change o).priority ≡ o.priority
@@ -84,7 +79,7 @@ module _ (change : Overlay → Overlay) (keeps : KeepsValues change) (slots : Li
   all-alike : (f g : Overlay → Bool) → ((number : ℕ) (o : Overlay) → overlay_at slots number ≡ Some o → (f o ≡ g (change o)) × (f o ≡ true → is_empty o ≡ is_empty (change o)))
       → AreAlike f g slots (map (slot_changed change) slots)
   all-alike f g same number =
-      slot-alike f g (overlay_at slots number) (same number) ∙ sym (ap (picked g) (changed-at change slots number))
+      slot-alike f g (overlay_at slots number) (same number) ∙ sym (ap (picked g) (overlay_at-map (slot_changed change) slots number refl))
 
   pub changed-seen : (x y : ℕ) → ((number : ℕ) (o : Overlay) → overlay_at slots number ≡ Some o → SeesSame x y o (change o)) → SeeSame x y slots (map (slot_changed change) slots)
   changed-seen x y same = record {

@@ -6,6 +6,7 @@ use Rattle.std.proofs.lemmas.List.{length-append}
 use Rattle.rd_overlays.specs.declared.overlay.Overlay.{Overlay}
 use Rattle.rd_overlays.specs.declared.overlay.Kind.{Kind}
 use Rattle.rd_overlays.specs.declared.overlay.Kind.TheVariants.{Face, Display, Invisible, LinePrefix, WrapPrefix, Before, After}
+use Rattle.rd_overlays.proofs.Bounding.{overlay_at-map}
 use Rattle.rd_overlays.specs.Overlays.{overlay_at, place_of, slot_changed, grown, shrunk, moved, dropped, given}
 use Rattle.rd_objects.specs.Things.{ObjectLists}
 use Rattle.rd_objects.specs.Sound.{GoesOn, Extends}
@@ -13,7 +14,6 @@ use Rattle.rd_props.specs.Buffers.{BufferValue}
 use Rattle.rd_props.specs.Values.{value_of}
 use Rattle.rd_props.specs.Edits.{IsInsertion, IsDeletion, IsPut, HasOverlays}
 use Rattle.rd_props.specs.Made.{IsMade, SettingsMade, AreMade}
-use Rattle.rd_props.proofs.Moves.{changed-at}
 
 -- ---- values of properties
 
@@ -80,7 +80,7 @@ kept-by change keeps (Some o) p kind v is h =
 changed-made : (objects : ObjectLists) (change : Overlay → Overlay) → ((o : Overlay) → (change o).values ≡ o.values) → (slots : List (Option Overlay)) → AreOverlaysMade objects slots
     → AreOverlaysMade objects (map (slot_changed change) slots)
 changed-made objects change keeps slots made number v kind p is h =
-    let found = kept-by change keeps (overlay_at slots number) p kind v (sym (changed-at change slots number) ∙ is) h in
+    let found = kept-by change keeps (overlay_at slots number) p kind v (sym (overlay_at-map (slot_changed change) slots number refl) ∙ is) h in
     made number v kind found.0 found.1 found.2
 
 pub after-set : (slots : List (Option Overlay)) (i : ℕ) (slot : Option Overlay) (number : ℕ) (p : Overlay) → overlay_at (set slots i slot) number ≡ Some p

@@ -9,7 +9,7 @@ use Rattle.rd_text.specs.Texts.{TextValue, IsAccessible, most_characters}
 use Rattle.rd_text.specs.Answers.{IsAccessibleRange, IsRangeOfAll}
 use Rattle.rd_overlays.specs.declared.overlay.Kind.{Kind}
 use Rattle.rd_overlays.specs.Overlays as overlays
-use Rattle.rd_overlays.specs.Overlays.{overlay_at, new_overlay}
+use Rattle.rd_overlays.specs.Overlays.{overlay_at, new_overlay, after_deletion}
 use Rattle.rd_objects.specs.Things.{ObjectLists}
 use Rattle.rd_objects.specs.Sound.{AreCodes}
 use Rattle.rd_script.specs.Forms.{each, is_text, is_text_kind, IsRawByte}
@@ -21,7 +21,7 @@ use Rattle.rd_state.specs.declared.window.WindowState.{WindowState}
 use Rattle.rd_state.specs.States.{BufferValue, ContentValue, StateValue, number_of}
 use Rattle.rd_state.specs.Valid.{AreBuffers, AreWindows, IsContent, IsValid}
 use Rattle.rd_state.specs.Edits.{is_accessible, is_accessible_range, is_range_of_all, has_room, is_value_made, most_overlays, grown, shrunk, insertion, deletion, narrowing, widening, property_putting, overlay_making, overlay_moving, overlay_dropping, overlay_putting}
-use Rattle.rd_state.specs.Moves.{after_insertion, after_deletion, brought_into, place_after, moved_in}
+use Rattle.rd_state.specs.Moves.{after_insertion, brought_into, place_after, moved_in}
 use Rattle.rd_state.specs.Steps.{with_found, replaced, moving, edited, edited_moving, making, raw_text}
 use Rattle.rd_state.proofs.Below.{TextLaws, MadeLaws}
 use Rattle.rd_state.proofs.Contents.{grown-valid, shrunk-valid, narrowed-valid, widened-valid, put-valid, made-valid, moved-valid, dropped-valid, given-valid, with_property, with_overlays}

@@ -1,14 +1,15 @@
 -- Overlays and values of properties that lie in a text, and still do after an edit of it.
-use Rattle.std.proofs.Common.{◌≡◌, ℕ, zero, suc, ◌+◌, ◌-◌, ◌<◌, ◌≤◌, ◌++◌, inl, inr, ◌==◌, ◌&&◌, ◌||◌, Bool, true, false, if◌then◌else◌, nat_lt, nat_le, Option, None, Some, List, [], ◌∷◌, length, map, set, sym, ap, subst, refl, ◌∙◌, arith, length-append}
+use Rattle.std.proofs.Common.{◌≡◌, ℕ, ◌+◌, ◌-◌, ◌<◌, ◌≤◌, ◌++◌, inl, inr, ◌==◌, ◌&&◌, ◌||◌, Bool, true, false, if◌then◌else◌, nat_lt, nat_le, Option, None, Some, List, [], ◌∷◌, length, map, set, sym, ap, subst, refl, ◌∙◌, arith, length-append}
 use Rattle.std.proofs.lemmas.Bool.{ltb-true, ltb-false, leb-false}
 use Rattle.std.proofs.lemmas.Bool.Decides.{nat_tests}
 use Rattle.std.proofs.lemmas.List.{length-map, length-set}
 use Rattle.rd_text.specs.Texts.{TextValue, IsText, IsAccessible, inserted, deleted}
 use Rattle.rd_text.specs.Answers.{IsAccessibleRange}
 use Rattle.rd_text.proofs.Keeping.{length-grown, length-shrunk}
+use Rattle.rd_overlays.proofs.Bounding.{deletion-rises, overlay_at-map}
 use Rattle.rd_overlays.specs.declared.overlay.Kind.{Kind}
 use Rattle.rd_overlays.specs.declared.overlay.Overlay.{Overlay}
-use Rattle.rd_overlays.specs.Overlays.{live, overlay_at, make_fault, moved, given, place_of, slot_changed, slot_grown, slot_shrunk, grown, shrunk, after_deletion, AllFit, SlotFits}
+use Rattle.rd_overlays.specs.Overlays.{live, overlay_at, make_fault, moved, given, place_of, slot_changed, slot_grown, slot_shrunk, grown, shrunk, AllFit, SlotFits}
 use Rattle.rd_base.specs.Settings.{SettingValues}
 use Rattle.rd_overlays.specs.declared.fault.OverlayFault.TheVariants.{OutOfRange, TooMany}
 use Rattle.rd_props.proofs.Names.{after-end, after-set}
@@ -34,12 +35,6 @@ slot-fits size pos n (Some o) room h =
 pub all-fit : (slots : List (Option Overlay)) (size pos n : ℕ) → size + 1 + n < 4294967296 → AreIn size slots → AllFit pos n slots
 all-fit slots size pos n room h number slot at = slot-fits size pos n slot room (λ o is. h number o (ap live at ∙ is))
 
--- what stands at a number after each overlay was changed
-changed-at : (change : Overlay → Overlay) (slots : List (Option Overlay)) (number : ℕ) → overlay_at (map (slot_changed change) slots) number ≡ slot_changed change (overlay_at slots number)
-changed-at change [] number = refl
-changed-at change (slot ∷ slots) zero = refl
-changed-at change (slot ∷ slots) (suc number) = changed-at change slots number
-
 slot-in : (size to : ℕ) (change : Overlay → Overlay) (slot : Option Overlay) (o : Overlay) → slot_changed change slot ≡ Some o
     → ((p : Overlay) → slot ≡ Some p → IsOverlayIn size p) → ((p : Overlay) → IsOverlayIn size p → IsOverlayIn to (change p)) → IsOverlayIn to o
 slot-in size to change None o is old new = absurd (cc)
@@ -49,7 +44,7 @@ slot-in size to change (Some p) o is old new = let same : change p ≡ o = cc in
 changed-in : (size to : ℕ) (change : Overlay → Overlay) (slots : List (Option Overlay)) → AreIn size slots
     → ((p : Overlay) → IsOverlayIn size p → IsOverlayIn to (change p)) → AreIn to (map (slot_changed change) slots)
 changed-in size to change slots old new number o is =
-    slot-in size to change (overlay_at slots number) o (sym (changed-at change slots number) ∙ is) (old number) new
+    slot-in size to change (overlay_at slots number) o (sym (overlay_at-map (slot_changed change) slots number refl) ∙ is) (old number) new
 
 moved_by : (t : Bool) (p n : ℕ) → (p ≤ (if t then p + n else p)) × ((if t then p + n else p) ≤ p + n)
 moved_by true p n = (omega arith, omega arith)
@@ -73,9 +68,6 @@ moved_back false true from to p ht hu h =
     (omega arith, omega arith)
 moved_back false false from to p ht hu h = (omega arith, omega arith)
 
-moved_back-less : (from to p q : ℕ) → from ≤ to → p ≤ q → after_deletion from to p ≤ after_deletion from to q
-moved_back-less from to p q h less = grind (arith, nat_tests)
-
 shrunk-in : (size from to : ℕ) (o : Overlay) → 1 ≤ from → from ≤ to → to ≤ size + 1 → IsOverlayIn size o → IsOverlayIn (size - (to - from)) (shrunk from to o)
 shrunk-in size from to o one h within is =
     let first = is.first in
@@ -84,7 +76,7 @@ shrunk-in size from to o one h within is =
     let start = moved_back (nat_lt o.from from) (nat_lt o.from to) from to o.from refl refl h in
     record {
       first = grind (arith, nat_tests);
-      ordered = moved_back-less from to o.from o.to h ordered;
+      ordered = deletion-rises from to o.from o.to h ordered;
       last = grind (arith, nat_tests);
     }
 

@@ -1,5 +1,6 @@
 -- Where the points and the views of windows move when the text that they show changes.
-use Rattle.std.specs.Prelude.{ℕ, ◌+◌, ◌-◌, nat_lt, ◌==◌, if◌then◌else◌, min, max}
+use Rattle.std.specs.Prelude.{ℕ, ◌+◌, nat_lt, ◌==◌, if◌then◌else◌, min, max}
+use Rattle.rd_overlays.specs.Overlays.{after_deletion}
 use Rattle.rd_state.specs.declared.moves.Move.{Move}
 use Rattle.rd_state.specs.declared.moves.Move.TheVariants.{Inserted, Deleted, Narrowed}
 use Rattle.rd_state.specs.declared.window.WindowState.{WindowState}
@@ -7,10 +8,6 @@ use Rattle.rd_state.specs.declared.window.WindowState.{WindowState}
 -- what stands past the place of an insertion moves by its length, and what stands at the place stays
 abbrev pub after_insertion : ℕ → ℕ → ℕ → ℕ
 after_insertion pos count p = if nat_lt pos p then p + count else p
-
--- what stands in a range that is deleted goes to its beginning, and what stands behind it moves back by its length
-abbrev pub after_deletion : ℕ → ℕ → ℕ → ℕ
-after_deletion from to p = if nat_lt p from then p else (if nat_lt p to then from else p - (to - from))
 
 -- the nearest position of a range, its end included
 abbrev pub brought_into : ℕ → ℕ → ℕ → ℕ

@@ -1,10 +1,11 @@
 //! Where the points and the views of windows move when the text that they show changes.
-ghost use Rattle.std.specs.Prelude.{◌≡◌, ℕ, ◌+◌, ◌<◌, ◌≤◌, Some, map, slice_get};
-ghost use Rattle.rd_state.specs.Moves.{after_insertion, after_deletion, brought_into, place_after, moved, moved_in};
+ghost use Rattle.std.specs.Prelude.{◌≡◌, ℕ, ◌+◌, ◌<◌, Some, map, slice_get};
+ghost use Rattle.rd_state.specs.Moves.{after_insertion, brought_into, place_after, moved, moved_in};
 ghost use Rattle.rd_state.specs.Movable.{IsMovable, NumberedWindow, CanMove};
 
 use crate::window::WindowState;
 use rd_base::Pos;
+use rd_overlays::after_deletion;
 
 /// What happened to a text: so many characters were put in before a position, a range was taken away, or a range was made the
 /// accessible one.
@@ -63,18 +64,4 @@ fn after_insertion(pos: Pos, count: u32, p: Pos) -> Pos
     ensures { result ≡ after_insertion pos count p }
 {
     if pos < p { p + count } else { p }
-}
-
-/// Where a position stands after a deletion.
-fn after_deletion(from: Pos, to: Pos, p: Pos) -> Pos
-    requires { from ≤ to }
-    ensures { result ≡ after_deletion from to p }
-{
-    if p < from {
-        p
-    } else if p < to {
-        from
-    } else {
-        p - (to - from)
-    }
 }
