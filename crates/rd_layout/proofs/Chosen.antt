@@ -1,14 +1,16 @@
 -- The start and the point that are chosen for a window are positions of the blocks that it shows.
-use Rattle.std.proofs.Common.{◌≡◌, ℕ, zero, suc, ◌+◌, ◌<◌, ◌≤◌, min, max, nat_lt, Bool, true, false, if◌then◌else◌, Option, Some, List, [], ◌∷◌, ◌++◌, length, take, drop, get_or, sym, ap, refl, subst, ◌∙◌, arith, unwrap_or, ltb-true}
+use Rattle.std.proofs.Common.{◌≡◌, ℕ, suc, ◌+◌, ◌<◌, ◌≤◌, min, max, nat_lt, Bool, true, false, if◌then◌else◌, Option, Some, List, [], ◌∷◌, ◌++◌, take, drop, get_or, sym, ap, refl, ◌∙◌, arith, unwrap_or, ltb-true}
 use Rattle.std.proofs.lemmas.List.Elements.{All-from_recursion, recursion_from_All, All-take, All-drop}
 use Rattle.std.proofs.lemmas.Option.{slice_get-get_or}
 use Rattle.std.specs.List.{AllByRecursion, flat_map, fold, reduce}
 use Rattle.std.specs.Prelude.{slice_get, option_map}
 use Rattle.rd_base.proofs.Lists.{each-append, each-back, each-front}
-use Rattle.rd_matrix.specs.Blocks.{IsAmong, IsWithin, StandFrom, end_from, first_start}
+use Rattle.rd_matrix.proofs.HeldLemmas.{later-start}
+use Rattle.rd_matrix.specs.Blocks.{IsAmong, IsWithin, first_start}
 use Rattle.rd_matrix.specs.Entries.{EntryMeaning, all_rows, entries_of, numbered}
 use Rattle.rd_matrix.specs.Sources.{IsSource, SourceValues, rows_at}
 use Rattle.rd_matrix.specs.declared.block.Block.{Block}
+use Rattle.rd_reuse.proofs.Places.{below-end}
 use Rattle.rd_reuse.specs.Views.{anchor_of}
 use Rattle.rd_rows.specs.Laws.{begins_of}
 use Rattle.rd_rows.specs.Rows.{RowMeaning}
@@ -21,38 +23,15 @@ use Rattle.rd_layout.specs.Laws.{StartLaws}
 
 -- ---- the blocks of a source
 
-stand-end : (from : ℕ) (bs : List Block) → StandFrom from bs → from ≤ end_from from bs
-stand-end from [] h = omega arith
-stand-end from (b ∷ bs) h = let start = h.0 in let some = h.1 in let rest = stand-end b.end bs h.2 in omega arith
-
-among-within : (from k p : ℕ) (bs : List Block) (b : Block) → StandFrom from bs → slice_get bs k ≡ Some b → b.start ≤ p → p < b.end → (from ≤ p) × (p < end_from from bs)
-among-within from k p [] b stand at low high = absurd (cc)
-among-within from zero p (c ∷ cs) b stand at low high =
-    let same : c ≡ b = cc in
-    let starts : c.start ≡ b.start = ap (λ (x : Block). x.start) same in
-    let ends : c.end ≡ b.end = ap (λ (x : Block). x.end) same in
-    let start = stand.0 in
-    let rest = stand-end c.end cs stand.2 in
-    (omega arith, omega arith)
-among-within from (suc k) p (c ∷ cs) b stand at low high =
-    let start = stand.0 in
-    let some = stand.1 in
-    let rest = among-within c.end k p cs b stand.2 at low high in
-    let above = rest.0 in
-    (omega arith, rest.1)
-
-first-end : (bs : List Block) → 0 < length bs → end_from (first_start bs) bs ≡ end_from 0 bs
-first-end [] h = absurd (omega arith)
-first-end (b ∷ bs) h = refl
-
 module _ (m : SourceValues) (shape : ShapeValues) (source : IsSource m) (is : IsShape shape) where
   abbrev pub Inside : ℕ → Type 0
   Inside p = IsWithin p m.blocks
 
   pub block-inside : (b : Block) (p : ℕ) → IsAmong m.blocks b → b.start ≤ p → p < b.end → Inside p
   block-inside b p at low high =
-      let within = among-within (first_start m.blocks) at.0 p m.blocks b source.blocks.stand at.1 low high in
-      (within.0, subst (λ k. p < k) (first-end m.blocks source.blocks.some) within.1)
+      let first = (later-start (first_start m.blocks) at.0 m.blocks b source.blocks.stand at.1).0 in
+      let last = below-end (first_start m.blocks) 0 at.0 m.blocks b source.blocks.stand at.1 in
+      (omega (arith, first, low), omega (arith, last, high))
 
   abbrev pub InBlock : Block → Begin → Type 0
   InBlock b x = (x.from ≤ x.to) × (b.start + x.to ≤ b.end)

@@ -8,7 +8,8 @@ use Rattle.rd_blocks.specs.Bases.{blocks_in}
 use Rattle.rd_blocks.specs.Leads.{LeadsTo}
 use Rattle.rd_blocks.specs.Sources.{rows_in, text_source}
 use Rattle.rd_items.specs.Readings.{ends_block, reading, reading_from}
-use Rattle.rd_matrix.specs.Blocks.{StandFrom, first_start}
+use Rattle.rd_matrix.proofs.HeldLemmas.{later-start}
+use Rattle.rd_matrix.specs.Blocks.{first_start}
 use Rattle.rd_matrix.specs.Entries.{all_rows, numbered}
 use Rattle.rd_matrix.specs.Sources.{SourceValues}
 use Rattle.rd_matrix.specs.declared.block.Block.{Block}
@@ -134,11 +135,6 @@ stands-over m other anchor l cost alike stands =
 
 -- ---- objects that were made since
 
-pub some-block : (from k : ℕ) (bs : List Block) (b : Block) → StandFrom from bs → slice_get bs k ≡ Some b → b.start < b.end
-some-block from k [] b stand at = absurd (cc)
-some-block from zero (c ∷ cs) b stand at = let same : c ≡ b = cc in subst (λ (x : Block). x.start < x.end) same stand.1
-some-block from (suc k) (c ∷ cs) b stand at = some-block c.end k cs b stand.2 at
-
 module _ (laws : OverLaws) (s : BufferValue) (made objects : ObjectLists) (closed : IsClosed made) (named : AreMade s made) (extends : Extends made objects) (text : IsText s.text) where
   agree : (p : ℕ) → s.text.begin ≤ p → p ≤ s.text.end → seen_at s made p ≡ seen_at s objects p
   agree p low high = elim (laws.grown s made objects closed named extends) [
@@ -165,7 +161,7 @@ module _ (laws : OverLaws) (s : BufferValue) (made objects : ObjectLists) (close
       → seen_rows (rows_in s made files b shape) ≡ seen_rows (rows_in s objects files b shape)
   block-rows views files shape is k b at =
       let source = views.source s made files text in
-      let some = some-block (first_start (blocks_in files.classes s)) k (blocks_in files.classes s) b source.blocks.stand at in
+      let some = (later-start (first_start (blocks_in files.classes s)) k (blocks_in files.classes s) b source.blocks.stand at).1 in
       let inside = accessible views files.classes s b.start text (block-inside (text_source s made files) shape source is b b.start (k, at) (omega arith) some) in
       ap seen_rows (sym (laws.local s s made objects files b b shape refl closed named extends refl (same-reading b.start inside.0 inside.1)))
 

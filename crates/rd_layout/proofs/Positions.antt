@@ -7,6 +7,7 @@ use Rattle.std.specs.Prelude.{slice_get, slice_index_or}
 use Rattle.rd_base.proofs.Lists.{each-append, each-back, each-front}
 use Rattle.rd_blocks.specs.Kept.{AreRowsAt}
 use Rattle.rd_blocks.specs.Sources.{text_source}
+use Rattle.rd_matrix.proofs.HeldLemmas.{later-start}
 use Rattle.rd_matrix.specs.Blocks.{IsAmong, first_start}
 use Rattle.rd_matrix.specs.Entries.{EntryMeaning, all_rows, entries_of, numbered, shown_entries, shown_entry}
 use Rattle.rd_matrix.specs.Sources.{IsSource, SourceValues, rows_at}
@@ -27,7 +28,6 @@ use Rattle.rd_window.specs.declared.layout.Layout.{Layout}
 use Rattle.rd_layout.specs.Laws.{ViewLaws}
 use Rattle.rd_layout.specs.Since.{IsKnown}
 use Rattle.rd_layout.proofs.Chosen.{block-inside}
-use Rattle.rd_layout.proofs.Over.{some-block}
 use Rattle.rd_layout.proofs.Settling.{accessible}
 
 module _ (views : ViewLaws) (s : props.BufferValue) (objects : ObjectLists) (files : Data) (shape : ShapeValues) (text : IsText s.text) (is : IsShape shape) where
@@ -42,7 +42,7 @@ module _ (views : ViewLaws) (s : props.BufferValue) (objects : ObjectLists) (fil
 
   block-end : (b : Block) → IsAmong m.blocks b → b.end < 2 ^ 32
   block-end b at =
-      let some = some-block (first_start m.blocks) at.0 m.blocks b source.blocks.stand at.1 in
+      let some = (later-start (first_start m.blocks) at.0 m.blocks b source.blocks.stand at.1).1 in
       let inside = accessible views files.classes s (b.end - 1) text (block-inside m shape source is b (b.end - 1) at (omega arith) (omega arith)) in
       let high = inside.1 in
       let last = text.last in

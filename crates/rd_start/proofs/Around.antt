@@ -3,7 +3,7 @@ use Rattle.std.proofs.Common.{◌≡◌, ℕ, ◌+◌, ◌-◌, ◌^◌, ◌<◌
 use Rattle.std.proofs.lemmas.List.{append-nil, length-map}
 use Rattle.std.specs.List.{list_any, position_or_len, range_with_len}
 use Rattle.rd_matrix.proofs.Counting.{all-append, any-range, length-numbered}
-use Rattle.rd_matrix.specs.Blocks.{HoldsPosition, IsWithin, end_from, first_start}
+use Rattle.rd_matrix.specs.Blocks.{HoldsPosition, IsWithin, StandFrom, end_from, first_start}
 use Rattle.rd_matrix.specs.Entries.{all_rows, entries_of, numbered}
 use Rattle.rd_matrix.specs.Sources.{IsSource, SourceValues}
 use Rattle.rd_matrix.specs.declared.block.Block.{Block}
@@ -36,12 +36,13 @@ around m sweep b source shape holds =
     let rows = λ (x : Block). rows_in m sweep x in
     let e = split m.blocks holds.among.0 b holds.among.1 in
     let whole = subst (Fit rows (first_start m.blocks)) e.whole (whole-fit m sweep source shape) in
+    let stand = subst (StandFrom (first_start m.blocks)) e.whole source.blocks.stand in
     record {
       before = e.front;
       after = e.back;
       pieces = e.whole;
       fit = whole;
-      home = ap (λ (ys : List Block). anchor_row rows sweep.anchor ys) e.whole ∙ anchor-skips rows sweep.anchor (first_start m.blocks) e.front e.back b whole holds.from holds.below;
+      home = ap (λ (ys : List Block). anchor_row rows sweep.anchor ys) e.whole ∙ anchor-skips rows sweep.anchor (first_start m.blocks) e.front e.back b stand holds.from holds.below;
       some = some-row b.start b.end (rows b) (source.rows b sweep.shape holds.among shape);
     }
 

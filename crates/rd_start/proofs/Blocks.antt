@@ -7,6 +7,8 @@ use Rattle.std.proofs.lemmas.List.Folds.{list_any-append, list_any_none}
 use Rattle.std.specs.List.{list_any}
 use Rattle.rd_base.specs.declared.settings.Anchor.{Anchor}
 use Rattle.rd_matrix.proofs.Counting.{all-append, count-cons}
+use Rattle.rd_matrix.proofs.HeldLemmas.{later-start}
+use Rattle.rd_matrix.proofs.Joined.{at-right}
 use Rattle.rd_matrix.specs.Blocks.{IsAmong, StandFrom, end_from}
 use Rattle.rd_matrix.specs.Columns.{covers}
 use Rattle.rd_matrix.specs.Entries.{all_rows, entries_of, numbered}
@@ -95,23 +97,17 @@ any-fit rows from point (b ∷ bs) h =
     ∙ (ap (λ t. t || list_any (begins_item point) (all_rows rows bs)) here
     ∙ (ap (λ t. (leb b.start point && ltb point b.end) || t) rest ∙ joined-tests from b.start point b.end (end_from b.end bs) start some far))
 
-pub fit-start : (rows : Block → List RowMeaning) (from : ℕ) (before after : List Block) (b : Block) → Fit rows from (before ++ (b ∷ after)) → from ≤ b.start
-fit-start rows from before after b h =
-    let low = fit-le rows from before (fit-front rows from before (b ∷ after) h) in
-    let back = fit-back rows from before (b ∷ after) h in
-    omega (arith, low, back.0)
-
 -- an anchor's row is one of the block that holds its position
-pub anchor-skips : (rows : Block → List RowMeaning) (anchor : Anchor) (from : ℕ) (before after : List Block) (b : Block) → Fit rows from (before ++ (b ∷ after))
+pub anchor-skips : (rows : Block → List RowMeaning) (anchor : Anchor) (from : ℕ) (before after : List Block) (b : Block) → StandFrom from (before ++ (b ∷ after))
     → b.start ≤ anchor.pos → anchor.pos < b.end
     → anchor_row rows anchor (before ++ (b ∷ after)) ≡ length (all_rows rows before) + row_in_block anchor b.start (rows b)
-anchor-skips rows anchor from [] after b h low high =
+anchor-skips rows anchor from [] after b stand low high =
     let here = lt-ltb anchor.pos b.end high in
     rw here (sym (zero-add (row_in_block anchor b.start (rows b))))
-anchor-skips rows anchor from (x ∷ before) after b h low high =
-    let start = fit-start rows x.end before after b h.3 in
+anchor-skips rows anchor from (x ∷ before) after b stand low high =
+    let start = (later-start x.end (length before) (before ++ (b ∷ after)) b stand.2 (at-right before (b ∷ after) 0)).0 in
     let later = le-ltb anchor.pos x.end (omega (arith, start, low)) in
-    let rest = anchor-skips rows anchor x.end before after b h.3 low high in
+    let rest = anchor-skips rows anchor x.end before after b stand.2 low high in
     let count = count-cons rows x before in
     rw later (omega (arith, rest, count))
 

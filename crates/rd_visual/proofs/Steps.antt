@@ -11,6 +11,7 @@ use Rattle.rd_objects.specs.Things.{ObjectLists}
 use Rattle.rd_text.specs.Texts.{IsText, IsAccessible}
 use Rattle.rd_props.specs.Buffers.{BufferValue, meaning}
 use Rattle.rd_props.specs.declared.state.View.{View}
+use Rattle.rd_matrix.proofs.HeldLemmas.{later-start}
 use Rattle.rd_matrix.specs.Blocks.{HoldsPosition, IsAmong, StandFrom, block_before, first_start}
 use Rattle.rd_matrix.specs.declared.block.Block.{Block}
 use Rattle.rd_blocks.specs.Bases.{blocks_in}
@@ -27,22 +28,6 @@ use Rattle.rd_visual.proofs.Neighbours.{AreSome, before-none, before-some, behin
 
 -- blocks that stand one behind the other
 
-stand-from : (from k : ℕ) (bs : List Block) (b : Block) → StandFrom from bs → slice_get bs k ≡ Some b → (from ≤ b.start) × (b.start < b.end)
-stand-from from k [] b stand there = absurd cc
-stand-from from zero (x ∷ bs) b stand there =
-    let same : x ≡ b = cc in
-    let at = stand.0 in
-    subst (λ (y : Block). (from ≤ y.start) × (y.start < y.end)) same (omega (arith, at), stand.1)
-stand-from from (suc k) (x ∷ bs) b stand there =
-    let rest = stand-from x.end k bs b stand.2 there in
-    let at = stand.0 in
-    let some = stand.1 in
-    let low = rest.0 in
-    (omega (arith, at, some, low), rest.1)
-
-pub stand-some : (from k : ℕ) (bs : List Block) (b : Block) → StandFrom from bs → slice_get bs k ≡ Some b → b.start < b.end
-stand-some from k bs b stand there = (stand-from from k bs b stand there).1
-
 pub base-is : (from k pos : ℕ) (bs : List Block) (b : Block) → StandFrom from bs → slice_get bs k ≡ Some b → b.start ≤ pos → pos < b.end → base_of bs pos ≡ b.base
 base-is from k pos [] b stand there low high = absurd cc
 base-is from zero pos (x ∷ bs) b stand there low high =
@@ -51,7 +36,7 @@ base-is from zero pos (x ∷ bs) b stand there low high =
     let here : nat_lt pos x.end ≡ true = subst (λ (y : Block). nat_lt pos y.end ≡ true) (sym same) inside in
     ap (λ (t : Bool). if t then x.base else base_of bs pos) here ∙ ap (λ (y : Block). y.base) same
 base-is from (suc k) pos (x ∷ bs) b stand there low high =
-    let later = (stand-from x.end k bs b stand.2 there).0 in
+    let later = (later-start x.end k bs b stand.2 there).0 in
     let out : nat_lt pos x.end ≡ false = grind (arith, nat_tests) in
     ap (λ (t : Bool). if t then x.base else base_of bs pos) out ∙ base-is x.end k pos bs b stand.2 there low high
 
@@ -196,5 +181,5 @@ module _ (every : EveryOnce) (once : BlockOnce) (v : View) (pos : ℕ) (b : Bloc
       let at = block-is bs other (Some x) same gives is in
       let among = among-beside way held.among.0 (view_blocks v) x at in
       let low : x.start ≤ x.start = omega arith in
-      let some = stand-some (first_start (view_blocks v)) among.0 (view_blocks v) x (subst (λ (xs : List Block). StandFrom (first_start xs) xs) same stand) among.1 in
+      let some = (later-start (first_start (view_blocks v)) among.0 (view_blocks v) x (subst (λ (xs : List Block). StandFrom (first_start xs) xs) same stand) among.1).1 in
       sym (into-block (view_ranges v) (view_blocks v) pos held.among.0 b held.among.1 all mine way x.start x (beside-is None none) at (within x x.start among low some))

@@ -1,11 +1,10 @@
 -- A window that rests on its last layout, and a new layout that stands.
-use Rattle.std.proofs.Common.{◌≡◌, ℕ, suc, ◌+◌, ◌-◌, ◌<◌, ◌≤◌, inl, inr, Bool, true, false, not, if◌then◌else◌, ◌==◌, ◌&&◌, leb, ltb, min, List, [], ◌∷◌, ◌++◌, length, take, drop, slice_get, Option, Some, pos, refl, sym, ap, ap₂, ◌∙◌, subst, arith, zero-add}
+use Rattle.std.proofs.Common.{◌≡◌, ℕ, suc, ◌+◌, ◌-◌, ◌<◌, ◌≤◌, inl, inr, Bool, true, false, not, if◌then◌else◌, ◌==◌, ◌&&◌, leb, ltb, min, List, [], ◌∷◌, ◌++◌, length, take, drop, slice_get, Option, Some, pos, refl, sym, ap, ap₂, ◌∙◌, subst, arith}
 use Rattle.std.specs.Option.{unwrap_or}
-use Rattle.std.proofs.lemmas.Bool.{and_parts, cases_Bool, eq-eqb, eqb-true, le-ltb, leb-true, lt-ltb, ltb-true}
+use Rattle.std.proofs.lemmas.Bool.{and_parts, cases_Bool, eq-eqb, eqb-true, leb-true, lt-ltb, ltb-true}
 use Rattle.std.proofs.lemmas.Bool.Decides.{nat_tests}
 use Rattle.rd_base.specs.declared.settings.Anchor.{Anchor}
 use Rattle.rd_matrix.specs.Blocks.{IsAmong, StandFrom, first_start}
-use Rattle.rd_matrix.proofs.Counting.{count-cons}
 use Rattle.rd_matrix.specs.Entries.{EntryMeaning, all_rows, numbered, shown_entries}
 use Rattle.rd_matrix.specs.Sources.{IsSource, SourceValues, rows_at}
 use Rattle.rd_matrix.specs.declared.block.Block.{Block}
@@ -18,6 +17,7 @@ use Rattle.rd_reuse.proofs.Places.{anchor-found}
 use Rattle.rd_rows.specs.Rows.{RowMeaning}
 use Rattle.rd_rows.specs.Shapes.{ShapeValues, is_same_shape}
 use Rattle.rd_rows.proofs.SameShapes.{same-shape}
+use Rattle.rd_start.proofs.Blocks.{anchor-skips}
 use Rattle.rd_start.proofs.Lists.{find-first}
 use Rattle.rd_start.specs.Chosen.{anchor_at, anchor_from, anchor_row, chosen_of, places_of, point_from, row_in_block}
 use Rattle.rd_start.specs.Starts.{Places, centred, following, is_inside, margin_of, scrolled, suits, wanted_above, wanted_below}
@@ -168,19 +168,6 @@ laid-resting l m shape w r = record {
 }
 
 -- ---- a new layout stands
-
--- the row of an anchor is one of the block that holds its position
-anchor-skips : (rows : Block → List RowMeaning) (anchor : Anchor) (from : ℕ) (before after : List Block) (b : Block) → StandFrom from (before ++ b ∷ after)
-    → b.start ≤ anchor.pos → anchor.pos < b.end → anchor_row rows anchor (before ++ b ∷ after) ≡ length (all_rows rows before) + row_in_block anchor b.start (rows b)
-anchor-skips rows anchor from [] after b stand low high =
-    let here = lt-ltb anchor.pos b.end high in
-    rw here (sym (zero-add (row_in_block anchor b.start (rows b))))
-anchor-skips rows anchor from (x ∷ before) after b stand low high =
-    let start = (later-start x.end (length before) (before ++ b ∷ after) b stand.2 (at-seam before b after)).0 in
-    let later = le-ltb anchor.pos x.end (omega (arith, start, low)) in
-    let rest = anchor-skips rows anchor x.end before after b stand.2 low high in
-    let count = count-cons rows x before in
-    rw later (omega (arith, rest, count))
 
 -- an anchor that names a row has that row
 anchor-place : (m : SourceValues) (shape : ShapeValues) (anchor : Anchor) (k : ℕ) → IsSource m → Names anchor (rows_at m shape) k → anchor_row (λ b. m.rows_of b shape) anchor m.blocks ≡ k
