@@ -1,8 +1,10 @@
 -- What a window tree says of its windows, and how it changes.
-use Rattle.std.proofs.Common.{◌≡◌, ◌≢◌, ℕ, ◌+◌, ◌<◌, ◌≤◌, ◌==◌, ◌||◌, Bool, true, false, is_some, if◌then◌else◌, Option, None, Some, List, [], ◌∷◌, ◌++◌, sym, ap, refl, ◌∙◌, arith}
-use Rattle.std.proofs.lemmas.Bool.{eqb-true, cond-false, cond-true, eq-eqb, ne_eqb}
+use Rattle.std.proofs.Common.{◌≡◌, ◌≢◌, ℕ, ◌<◌, ◌≤◌, ◌==◌, ◌||◌, Bool, true, false, is_some, if◌then◌else◌, Option, None, Some, List, [], ◌∷◌, ◌++◌, sym, ap, refl, ◌∙◌, arith}
+use Rattle.std.proofs.lemmas.Bool.{eqb-true, false_from_ne_true, cond-false, cond-true, eq-eqb, ne_eqb}
 use Rattle.std.specs.Prelude.{option_map}
 use Rattle.std.specs.Option.{option_or}
+use Rattle.rd_tree.proofs.Keeping.{not_single}
+use Rattle.rd_tree.proofs.Standing.{held_times, once_in_first, window_held}
 use Rattle.rd_tree.specs.declared.placed.Placed.{Placed}
 use Rattle.rd_tree.specs.declared.rect.Rect.{Rect}
 use Rattle.rd_tree.specs.declared.side.Side.{Side}
@@ -42,19 +44,6 @@ map-or-some f (Some x) p q h = refl
 none-both : {X : Type 0} (o p : Option X) → option_or o p ≡ None → (o ≡ None) × (p ≡ None)
 none-both None p h = (refl, h)
 none-both (Some x) p h = absurd (cc)
-
-count-none : (t : Bool) → ◌≡◌ {A = ℕ} (if t then 1 else 0) 0 → t ≡ false
-count-none true h = absurd (omega arith)
-count-none false h = refl
-
-count-one : (t : Bool) → t ≡ true → 1 ≤ (if t then 1 else 0)
-count-one true h = omega arith
-count-one false h = absurd (cc)
-
-held-or : (a b : Bool) (m n : ℕ) → (a || b) ≡ true → (a ≡ true → 1 ≤ m) → (b ≡ true → 1 ≤ n) → 1 ≤ m + n
-held-or true b m n h f g = omega (arith, f refl)
-held-or false true m n h f g = omega (arith, g refl)
-held-or false false m n h f g = absurd (cc)
 
 -- ---- finding
 
@@ -191,27 +180,13 @@ split-new n side size new (Split s z first second) ne none =
 
 -- ---- removals
 
-pub leaf-times : (n : ℕ) (ws : Windows) → times n ws ≡ 0 → holds n ws ≡ false
-leaf-times n (Window m mode margins) h = count-none (m == n) h
-leaf-times n (Split side size first second) h =
-    ap (λ (t : Bool). t || holds n second) (leaf-times n first (omega arith)) ∙ leaf-times n second (omega arith)
-
-once-held : (n : ℕ) (ws : Windows) → holds n ws ≡ true → 1 ≤ times n ws
-once-held n (Window m mode margins) h = count-one (m == n) h
-once-held n (Split side size first second) h = held-or (holds n first) (holds n second) (times n first) (times n second) h (once-held n first) (once-held n second)
+pub leaf-times : (n : ℕ) (ws : Windows) → times n ws ≡ 0 → leaf_at n ws ≡ None
+leaf-times n ws none = leaf-none n ws (false_from_ne_true (holds n ws) (λ held. omega (arith, none, held_times n ws held)))
 
 -- one window alone, by its number
-alone : (n : ℕ) (ws : Windows) → is_leaf_of n ws ≡ true → holds n ws ≡ true
-alone n (Window m mode margins) h = h
-alone n (Split side size first second) h = absurd (cc)
-
 alone-other : (n k : ℕ) (ws : Windows) → is_leaf_of n ws ≡ true → k ≢ n → leaf_at k ws ≡ None
 alone-other n k (Window m mode margins) h ne = leaf-past k m mode margins (λ p. ne (sym p ∙ eqb-true m n h))
 alone-other n k (Split side size first second) h ne = absurd (cc)
-
-not-alone : (n : ℕ) (ws : Windows) → is_leaf_of n ws ≡ false → holds n ws ≡ true → is_single ws ≡ false
-not-alone n (Window m mode margins) h g = absurd (cc)
-not-alone n (Split side size first second) h g = refl
 
 pub removed-other : (n k : ℕ) (ws : Windows) (rect : Rect) → k ≢ n → leaf_at k (removed n ws rect) ≡ leaf_at k ws
 removed-other n k (Window m mode margins) rect ne = refl
@@ -240,18 +215,18 @@ removed-same n (Split side size first second) rect once held many =
     let in_second = Split side size first (removed n second (second_part side size rect)) in
     let inner = if holds n first then in_first else in_second in
     let outer = if is_leaf_of n second then resized first rect else inner in
-    let not_second : holds n first ≡ true → leaf_at n second ≡ None = λ f. leaf-none n second (leaf-times n second (omega (arith, once-held n first f))) in
-    let not_first : holds n second ≡ true → leaf_at n first ≡ None = λ f. leaf-none n first (leaf-times n first (omega (arith, once-held n second f))) in
+    let not_second : holds n first ≡ true → leaf_at n second ≡ None = λ f. leaf-none n second (once_in_first n second first (omega arith) f) in
+    let not_first : holds n second ≡ true → leaf_at n first ≡ None = λ f. leaf-none n first (once_in_first n first second once f) in
     either-leaf n (is_leaf_of n first) (resized second rect) outer None
-    (λ h. leaf-resized n second rect ∙ not_second (alone n first h))
+    (λ h. leaf-resized n second rect ∙ not_second (window_held n first h))
     (λ h. either-leaf n (is_leaf_of n second) (resized first rect) inner None
-    (λ g. leaf-resized n first rect ∙ not_first (alone n second g))
+    (λ g. leaf-resized n first rect ∙ not_first (window_held n second g))
     (λ g. either-leaf n (holds n first) in_first in_second None
-    (λ f. ap (λ (o : Option Leaf). option_or o (leaf_at n second)) (removed-same n first (first_part side size rect) (omega arith) f (not-alone n first h f)) ∙ not_second f)
+    (λ f. ap (λ (o : Option Leaf). option_or o (leaf_at n second)) (removed-same n first (first_part side size rect) (omega arith) f (not_single n first h f)) ∙ not_second f)
     (λ f.
     let other = held-second (holds n first) (holds n second) held f in
     ap (λ (o : Option Leaf). option_or o (leaf_at n (removed n second (second_part side size rect)))) (not_first other)
-    ∙ removed-same n second (second_part side size rect) (omega arith) other (not-alone n second g other))))
+    ∙ removed-same n second (second_part side size rect) (omega arith) other (not_single n second g other))))
 
 -- ---- the heir
 
@@ -286,8 +261,8 @@ heir-held n (Split side size first second) rect held many =
     (λ g. resized-held first rect)
     (λ g. heir-by (holds n first) in_first in_second (sibling n first) (sibling n second)
     (λ f. some-or (leaf_at (first_leaf (sibling n first)) (removed n first (first_part side size rect))) (leaf_at (first_leaf (sibling n first)) second)
-    (heir-held n first (first_part side size rect) f (not-alone n first h f)))
+    (heir-held n first (first_part side size rect) f (not_single n first h f)))
     (λ f.
     let other = held-second (holds n first) (holds n second) held f in
     or-held (leaf_at (first_leaf (sibling n second)) first) (leaf_at (first_leaf (sibling n second)) (removed n second (second_part side size rect)))
-    (heir-held n second (second_part side size rect) other (not-alone n second g other)))))
+    (heir-held n second (second_part side size rect) other (not_single n second g other)))))

@@ -28,7 +28,7 @@ use Rattle.rd_state.specs.Steps.{with_found, in_window, changing, on_tree, split
 use Rattle.rd_state.proofs.Below.{TreeLaws}
 use Rattle.rd_state.proofs.ByNumber.{NumberedWindow, window-end, apart-end, get-end, window-gone, window-left, apart-without, get-without, get-window, some-none}
 use Rattle.rd_state.proofs.Keeping.{windows-changed}
-use Rattle.rd_state.proofs.Leaves.{Leaf, leaf-none, leaf-resized, leaf-same, leaf-other, split-same, split-other, split-new, removed-same, removed-other, heir-held, leaf-times}
+use Rattle.rd_state.proofs.Leaves.{Leaf, leaf-resized, leaf-same, leaf-other, split-same, split-other, split-new, removed-same, removed-other, heir-held, leaf-times}
 use Rattle.rd_state.proofs.Tests.{if-ok, if-not, is_accessible-means}
 use Rattle.rd_state.proofs.Options.{map-map, one-value, or-none, some-or}
 
@@ -328,7 +328,7 @@ map-none f (Some x) h = absurd (cc)
 
 unmade : (s : StateValue) → IsValid s → window_of s.tree.made s.windows ≡ None
 unmade s v =
-    let none = leaf-none s.tree.made s.tree.windows (leaf-times s.tree.made s.tree.windows (v.windows.tree.known s.tree.made (omega arith))) in
+    let none = leaf-times s.tree.made s.tree.windows (v.windows.tree.known s.tree.made (omega arith)) in
     map-none leaf_of (window_of s.tree.made s.windows) (sym (v.windows.leaves s.tree.made) ∙ none)
 
 split-windows : (s : StateValue) (d : Configuration) (number : ℕ) (side : Side) (size : ℕ) (w copy : WindowState) → IsValid s → tree.IsValid d

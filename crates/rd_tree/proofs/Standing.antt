@@ -173,11 +173,11 @@ window_without : (n : ℕ) (windows : Windows) (numbers : List ℕ) → is_leaf_
 window_without n (Window number mode margins) numbers e = rw e refl
 window_without n (Split side size first second) numbers e = absurd (cc)
 
-window_held : (n : ℕ) (windows : Windows) → is_leaf_of n windows ≡ true → holds n windows ≡ true
+pub window_held : (n : ℕ) (windows : Windows) → is_leaf_of n windows ≡ true → holds n windows ≡ true
 window_held n (Window number mode margins) e = e
 window_held n (Split side size first second) e = absurd (cc)
 
-held_times : (n : ℕ) (windows : Windows) → holds n windows ≡ true → 1 ≤ times n windows
+pub held_times : (n : ℕ) (windows : Windows) → holds n windows ≡ true → 1 ≤ times n windows
 held_times n (Window number mode margins) e = rw e (omega arith)
 held_times n (Split side size first second) e =
     elim (cases_Bool (holds n first)) [
