@@ -1,4 +1,4 @@
 mod Places
-mod Reversals
+pub mod Reversals
 mod Steps
 pub mod Once
