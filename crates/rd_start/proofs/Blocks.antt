@@ -105,7 +105,7 @@ anchor-skips rows anchor from [] after b stand low high =
     let here = lt-ltb anchor.pos b.end high in
     rw here (sym (zero-add (row_in_block anchor b.start (rows b))))
 anchor-skips rows anchor from (x ∷ before) after b stand low high =
-    let start = (later-start x.end (length before) (before ++ (b ∷ after)) b stand.2 (at-right before (b ∷ after) 0)).0 in
+    let start = (later-start x.end (length before + 0) (before ++ (b ∷ after)) b stand.2 (at-right before (b ∷ after) 0)).0 in
     let later = le-ltb anchor.pos x.end (omega (arith, start, low)) in
     let rest = anchor-skips rows anchor x.end before after b stand.2 low high in
     let count = count-cons rows x before in
