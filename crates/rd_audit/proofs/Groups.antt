@@ -1,38 +1,39 @@
 -- The groups of row lines, found line by line.
 use Rattle.std.proofs.Common.{◌≡◌, ℕ, ◌+◌, ◌-◌, ◌<◌, ◌≤◌, Bool, true, false, if◌then◌else◌, Option, None, Some, option_map, IfSome, List, ◌∷◌, length, drop, refl, sym, ap, ap₂, subst, ◌∙◌, arith}
 use Rattle.std.proofs.lemmas.List.{drop-drop}
+use Rattle.std.specs.Option.{option_or}
 use Rattle.rd_io.specs.Lines.{lines_of}
-use Rattle.rd_audit.specs.Dumps.{or_else, last_group}
+use Rattle.rd_audit.specs.Dumps.{last_group}
 use Rattle.rd_audit.specs.Results.{marked}
 use Rattle.rd_audit.specs.Rows.{is_row, is_cursor}
 use Rattle.rd_audit.specs.declared.dump.Mark.{Mark}
 
-map-or_else : {A B : Type 0} (f : A → B) (a b : Option A) → option_map f (or_else a b) ≡ or_else (option_map f a) (option_map f b)
-map-or_else f None b = refl
-map-or_else f (Some x) b = refl
+map-or : {A B : Type 0} (f : A → B) (a b : Option A) → option_map f (option_or a b) ≡ option_or (option_map f a) (option_map f b)
+map-or f None b = refl
+map-or f (Some x) b = refl
 
 -- what a line that is or is not a row's makes of the groups
 abbrev begun_by : Bool → Option Mark → Mark → Option Mark
-begun_by t b here = if t then or_else b (Some here) else None
+begun_by t b here = if t then option_or b (Some here) else None
 
 abbrev found_by : Bool → Bool → Option Mark → Option Mark → Option Mark
-found_by t u b f = if t then f else if u then or_else b f else f
+found_by t u b f = if t then f else if u then option_or b f else f
 
 group-at : (number : ℕ) (file : List ℕ) (lines more : List (List ℕ)) (here : Mark) (b f : Option Mark) (t u : Bool) → marked file here ≡ (number, lines)
-    → (if t then last_group (number + 1) (or_else (option_map (marked file) b) (Some (number, lines))) (option_map (marked file) f) more
-    else if u then last_group (number + 1) None (or_else (option_map (marked file) b) (option_map (marked file) f)) more
+    → (if t then last_group (number + 1) (option_or (option_map (marked file) b) (Some (number, lines))) (option_map (marked file) f) more
+    else if u then last_group (number + 1) None (option_or (option_map (marked file) b) (option_map (marked file) f)) more
     else last_group (number + 1) None (option_map (marked file) f) more)
     ≡ last_group (number + 1) (option_map (marked file) (begun_by t b here)) (option_map (marked file) (found_by t u b f)) more
 group-at number file lines more here b f true u at =
     ap (λ o. last_group (number + 1) o (option_map (marked file) f) more)
-    (sym (map-or_else (marked file) b (Some here) ∙ ap (λ m. or_else (option_map (marked file) b) (Some m)) at))
-group-at number file lines more here b f false true at = ap (λ o. last_group (number + 1) None o more) (sym (map-or_else (marked file) b f))
+    (sym (map-or (marked file) b (Some here) ∙ ap (λ m. option_or (option_map (marked file) b) (Some m)) at))
+group-at number file lines more here b f false true at = ap (λ o. last_group (number + 1) None o more) (sym (map-or (marked file) b f))
 group-at number file lines more here b f false false at = refl
 
 -- the line at which the groups stand, and what is behind it
 pub group-step : (number : ℕ) (file rest line more : List ℕ) (here : Mark) (b f b' f' : Option Mark) (whole : Option (ℕ × List (List ℕ))) → lines_of rest ≡ line ∷ lines_of more
-    → marked file here ≡ (number, lines_of rest) → b' ≡ (if is_row line then or_else b (Some here) else None)
-    → f' ≡ (if is_row line then f else if is_cursor line then or_else b f else f)
+    → marked file here ≡ (number, lines_of rest) → b' ≡ (if is_row line then option_or b (Some here) else None)
+    → f' ≡ (if is_row line then f else if is_cursor line then option_or b f else f)
     → last_group number (option_map (marked file) b) (option_map (marked file) f) (lines_of rest) ≡ whole
     → last_group (number + 1) (option_map (marked file) b') (option_map (marked file) f') (lines_of more) ≡ whole
 group-step number file rest line more here b f b' f' whole split at p q inv =
@@ -49,8 +50,8 @@ groups-at P (Some m) f here false true p q h = (tt, p)
 groups-at P b f here false false p q h = (tt, q)
 
 -- each group stands in the file
-pub groups-within : (P : Mark → Type 0) (b f b' f' : Option Mark) (here : Mark) (line : List ℕ) → b' ≡ (if is_row line then or_else b (Some here) else None)
-    → f' ≡ (if is_row line then f else if is_cursor line then or_else b f else f) → IfSome b P → IfSome f P → P here → IfSome b' P × IfSome f' P
+pub groups-within : (P : Mark → Type 0) (b f b' f' : Option Mark) (here : Mark) (line : List ℕ) → b' ≡ (if is_row line then option_or b (Some here) else None)
+    → f' ≡ (if is_row line then f else if is_cursor line then option_or b f else f) → IfSome b P → IfSome f P → P here → IfSome b' P × IfSome f' P
 groups-within P b f b' f' here line p q hb hf h =
     let both = groups-at P b f here (is_row line) (is_cursor line) hb hf h in
     (subst (λ o. IfSome o P) (sym p) both.0, subst (λ o. IfSome o P) (sym q) both.1)

@@ -3,6 +3,7 @@ use Rattle.std.proofs.Common.{◌≡◌, ◌==◌, ℕ, ◌+◌, ◌<◌, ◌≤
 use Rattle.std.specs.Prelude.{All}
 use Rattle.std.proofs.lemmas.Bool.Decides.{nat_tests, Decides-eqb}
 use Rattle.std.proofs.lemmas.List.Elements.{All-head, All-tail}
+use Rattle.std.specs.Option.{option_or}
 use Rattle.rd_base.specs.Cells.{IsColoured, AreColoured}
 use Rattle.rd_base.specs.Glyphs.{IsRowAfter}
 use Rattle.rd_base.specs.declared.cell.Cell.{Cell}
@@ -11,7 +12,7 @@ use Rattle.rd_term.specs.Pictures.{Picture, IsGrid, width_of}
 use Rattle.rd_dump.specs.Dumps.{cells_text, runs_of_row, windows_text, rows_text, cursor_line, dump_text}
 use Rattle.rd_dump.specs.declared.dump.WindowFacts.{WindowFacts}
 use Rattle.rd_audit.specs.Cuts.{stripped, cut_last}
-use Rattle.rd_audit.specs.Dumps.{or_else, last_group, ended_by, picture_from, picture_of, dump_in}
+use Rattle.rd_audit.specs.Dumps.{last_group, ended_by, picture_from, picture_of, dump_in}
 use Rattle.rd_audit.specs.Numbers.{number_of, both}
 use Rattle.rd_audit.specs.Printed.{HasDump, HasNoCursor}
 use Rattle.rd_audit.specs.Rows.{is_row, is_cursor, row_text, row_cells, is_as_wide, next_row, place_in, cursor_place}
@@ -117,12 +118,12 @@ group-read picture number more h =
 
 no-more_at : (number : ℕ) (line : List ℕ) (lines : List (List ℕ)) (begun found : Option (ℕ × List (List ℕ))) (t u : Bool) → u ≡ false
     → ((n : ℕ) (b : Option (ℕ × List (List ℕ))) → last_group n b found lines ≡ found)
-    → (if t then last_group (number + 1) (or_else begun (Some (number, line ∷ lines))) found lines
-    else if u then last_group (number + 1) None (or_else begun found) lines
+    → (if t then last_group (number + 1) (option_or begun (Some (number, line ∷ lines))) found lines
+    else if u then last_group (number + 1) None (option_or begun found) lines
     else last_group (number + 1) None found lines) ≡ found
-no-more_at number line lines begun found true u e so = so (number + 1) (or_else begun (Some (number, line ∷ lines)))
+no-more_at number line lines begun found true u e so = so (number + 1) (option_or begun (Some (number, line ∷ lines)))
 no-more_at number line lines begun found false u e so =
-    ap (λ t. if t then last_group (number + 1) None (or_else begun found) lines else last_group (number + 1) None found lines) e ∙ so (number + 1) None
+    ap (λ t. if t then last_group (number + 1) None (option_or begun found) lines else last_group (number + 1) None found lines) e ∙ so (number + 1) None
 
 -- where no line of a cursor follows, the last group stays
 no-more : (lines : List (List ℕ)) (number : ℕ) (begun found : Option (ℕ × List (List ℕ))) → HasNoCursor lines → last_group number begun found lines ≡ found
@@ -160,11 +161,11 @@ window-between [] group lines some h number begun found = absurd (omega (arith, 
 window-between (w ∷ windows) group lines some h number begun found = windows-passed windows group lines h (number + 1) found
 
 before-passed_at : (number : ℕ) (line : List ℕ) (lines group : List (List ℕ)) (begun found : Option (ℕ × List (List ℕ))) (t u : Bool) → IsFoundBehind group lines
-    → (n : ℕ) × ((if t then last_group (number + 1) (or_else begun (Some (number, line ∷ lines))) found lines
-    else if u then last_group (number + 1) None (or_else begun found) lines
+    → (n : ℕ) × ((if t then last_group (number + 1) (option_or begun (Some (number, line ∷ lines))) found lines
+    else if u then last_group (number + 1) None (option_or begun found) lines
     else last_group (number + 1) None found lines) ≡ Some (n, group))
-before-passed_at number line lines group begun found true u h = h (number + 1) (or_else begun (Some (number, line ∷ lines))) found
-before-passed_at number line lines group begun found false true h = h (number + 1) None (or_else begun found)
+before-passed_at number line lines group begun found true u h = h (number + 1) (option_or begun (Some (number, line ∷ lines))) found
+before-passed_at number line lines group begun found false true h = h (number + 1) None (option_or begun found)
 before-passed_at number line lines group begun found false false h = h (number + 1) None found
 
 before-passed : (before lines group : List (List ℕ)) → IsFoundBehind group lines → IsFoundBehind group (before ++ lines)

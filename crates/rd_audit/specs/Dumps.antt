@@ -1,21 +1,18 @@
 -- The dump of a file.
 use Rattle.std.specs.Prelude.{ℕ, ◌+◌, if◌then◌else◌, List, [], ◌∷◌, ◌++◌, Option, None, Some, option_map, unwrap_or, Result, Ok, Err}
+use Rattle.std.specs.Option.{option_or}
 use Rattle.rd_base.specs.declared.cell.Cell.{Cell}
 use Rattle.rd_io.specs.Lines.{lines_of}
 use Rattle.rd_term.specs.Pictures.{Picture}
 use Rattle.rd_audit.specs.Rows.{is_row, is_cursor, next_row, cursor_place}
-
-abbrev pub or_else : {A : Type 0} → Option A → Option A → Option A
-or_else (Some x) other = Some x
-or_else None other = other
 
 -- Where the last group of adjacent row lines begins that the line of a cursor follows: the number of its first line, counted on from
 -- this one, and the lines from there on. `begun` is where a group began that goes on at these lines, `found` the last one before.
 abbrev pub last_group : ℕ → Option (ℕ × List (List ℕ)) → Option (ℕ × List (List ℕ)) → List (List ℕ) → Option (ℕ × List (List ℕ))
 last_group number begun found [] = found
 last_group number begun found (line ∷ lines) =
-    if is_row line then last_group (number + 1) (or_else begun (Some (number, line ∷ lines))) found lines
-    else if is_cursor line then last_group (number + 1) None (or_else begun found) lines
+    if is_row line then last_group (number + 1) (option_or begun (Some (number, line ∷ lines))) found lines
+    else if is_cursor line then last_group (number + 1) None (option_or begun found) lines
     else last_group (number + 1) None found lines
 
 -- the picture of these rows with a place of the cursor, or the number of a bad line where there is none

@@ -1,8 +1,9 @@
 //! The dump of a file.
 ghost use Rattle.std.specs.Prelude.{◌≡◌, ◌≤◌, ◌+◌, [], None, option_map, IfOk, IfSome, length};
+ghost use Rattle.std.specs.Option.{option_or};
 ghost use Rattle.rd_base.specs.declared.limits.TheConstants.{FILE_BYTES};
 ghost use Rattle.rd_io.specs.Lines.{lines_of};
-ghost use Rattle.rd_audit.specs.Dumps.{or_else, last_group, picture_from, ended_by, dump_in};
+ghost use Rattle.rd_audit.specs.Dumps.{last_group, picture_from, ended_by, dump_in};
 ghost use Rattle.rd_audit.specs.Results.{IsReadAs, IsShape, marked};
 ghost use Rattle.rd_audit.specs.Rows.{cursor_place};
 
@@ -91,13 +92,13 @@ struct Groups {
 
 impl Groups {
     ghost use Rattle.std.specs.Prelude.{◌≡◌, Some, None, if◌then◌else◌};
-    ghost use Rattle.rd_audit.specs.Dumps.{or_else};
+    ghost use Rattle.std.specs.Option.{option_or};
     ghost use Rattle.rd_audit.specs.Rows.{is_row, is_cursor};
 
     /// The same behind a line that begins here.
     fn after(self, here: Mark, line: &[u8]) -> Groups
-        ensures begun { result.begun ≡ (if is_row line.now then or_else self.begun (Some here) else None) }
-        ensures found { result.found ≡ (if is_row line.now then self.found else if is_cursor line.now then or_else self.begun self.found else self.found) }
+        ensures begun { result.begun ≡ (if is_row line.now then option_or self.begun (Some here) else None) }
+        ensures found { result.found ≡ (if is_row line.now then self.found else if is_cursor line.now then option_or self.begun self.found else self.found) }
     {
         if is_row(line) {
             Groups {
@@ -120,7 +121,7 @@ impl Groups {
 
 /// A mark, or another where there is none.
 fn or_else(mark: Option<Mark>, other: Option<Mark>) -> Option<Mark>
-    ensures { result ≡ or_else mark other }
+    ensures { result ≡ option_or mark other }
 {
     match mark {
         Some(mark) => Some(mark),

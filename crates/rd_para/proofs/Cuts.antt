@@ -6,10 +6,11 @@ use Rattle.std.proofs.lemmas.List.Sums.{prefix_len-le-length}
 use Rattle.std.proofs.lemmas.Bool.{cases_lt}
 use Rattle.std.proofs.lemmas.List.{length-take-le, length-drop, length-replicate, get_or_append_left, get_or-append_right, get_or-replicate, take-take, drop-take, drop-drop, take_all}
 use Rattle.std.proofs.lemmas.List.Splits.{slice_split_first}
+use Rattle.std.specs.Option.{option_or}
 use Rattle.rd_text.specs.Texts.{TextValue, IsText, between, is_newline, next_newline}
 use Rattle.rd_ucd.specs.declared.spans.Span.{Span}
 use Rattle.rd_text.specs.Texts.{is_separator}
-use Rattle.rd_para.specs.Paragraphs.{line_level, first_of, decided, level_by, levels_of}
+use Rattle.rd_para.specs.Paragraphs.{line_level, decided, level_by, levels_of}
 
 -- what is known of the line that begins at a position
 pub record IsCut (t : TextValue) (from to : ℕ) : Type 0 where
@@ -86,10 +87,10 @@ level_found classes last found separates inside line lines pieces cut is e =
 
 -- what the first line says of the level of a paragraph
 pub decided_from : (classes : List Span) (line : List ℕ) (lines pieces : List (List ℕ)) (blank : Bool) (level : Option ℕ) → pieces ≡ line ∷ lines
-    → is_separator line ≡ blank → level ≡ line_level classes line → decided classes pieces ≡ (if blank then None else first_of level (decided classes lines))
+    → is_separator line ≡ blank → level ≡ line_level classes line → decided classes pieces ≡ (if blank then None else option_or level (decided classes lines))
 decided_from classes line lines pieces blank level cut is found =
-    ap (decided classes) cut ∙ ap (λ (v : Bool). if v then None else first_of (line_level classes line) (decided classes lines)) is
-    ∙ ap (λ (o : Option ℕ). if blank then None else first_of o (decided classes lines)) (sym found)
+    ap (decided classes) cut ∙ ap (λ (v : Bool). if v then None else option_or (line_level classes line) (decided classes lines)) is
+    ∙ ap (λ (o : Option ℕ). if blank then None else option_or o (decided classes lines)) (sym found)
 
 -- there is a first line
 pub some_line : (t : TextValue) (from to : ℕ) → IsCut t from to → (lines : List (List ℕ)) × (slice_split is_newline (between t from t.end) ≡ between t from to ∷ lines)

@@ -4,11 +4,12 @@ use Rattle.std.specs.Prelude.{unwrap_or, max}
 use Rattle.std.specs.List.{slice_split}
 use Rattle.std.proofs.lemmas.Bool.{cases_lt, cases_Bool, or_right}
 use Rattle.std.proofs.lemmas.List.Sums.{suffix_len_is}
+use Rattle.std.specs.Option.{option_or}
 use Rattle.rd_text.specs.Texts.{TextValue, IsText, between, is_newline, is_ink, is_separator, next_newline, prev_newline, prev_ink, IsLineStart, EndsSeparator, IsParagraphStart}
 use Rattle.rd_text.proofs.Characters.{clash, blank_else, blank_not_ink, newline_not_ink}
 use Rattle.rd_text.proofs.Searches.{next_before, next_at, ink_after, ink_at, prev_ink_bound, between_at, between_size, all_blank, some_ink, blank_at}
 use Rattle.rd_ucd.specs.declared.spans.Span.{Span}
-use Rattle.rd_para.specs.Paragraphs.{line_level, first_of, decided, level_by, levels_of, text_level}
+use Rattle.rd_para.specs.Paragraphs.{line_level, decided, level_by, levels_of, text_level}
 use Rattle.rd_para.proofs.Cuts.{line_cut, some_line, levels_here, levels_next}
 
 -- the lines from a position on
@@ -282,7 +283,7 @@ module _ (classes : List Span) (t : TextValue) (right : IsText t) where
               let nothing : f.last ≡ 0 = f.none (no_text blank) in
               ap (λ (b : Bool). if b || false then f.last else unwrap_or (decided classes (text ∷ lines)) 0) blank ∙ nothing
               ∙ sym (ap (λ (ls : List (List ℕ)). unwrap_or (decided classes ls) 0) cut
-              ∙ ap (λ (b : Bool). unwrap_or (if b then None else first_of (line_level classes text) (decided classes lines)) 0) blank)
+              ∙ ap (λ (b : Bool). unwrap_or (if b then None else option_or (line_level classes text) (decided classes lines)) 0) blank)
         ] in
         f.rest p at (omega arith) ∙ elim (cases_lt to p) [
           | inr here ↦

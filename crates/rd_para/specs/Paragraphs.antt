@@ -1,7 +1,8 @@
 -- Paragraphs of a text and their base levels. P2 and P3 of UAX 9 find the level of a line. What a paragraph is, P1 leaves open; that
 -- it has several lines, and what separates it from the next, are choices of this project.
-use Rattle.std.specs.Prelude.{ℕ, ◌+◌, ◌-◌, Bool, false, not, ◌||◌, max, if◌then◌else◌, List, [], ◌∷◌, ◌++◌, length, map, replicate, slice_index, Option, None, Some, unwrap_or}
+use Rattle.std.specs.Prelude.{ℕ, ◌+◌, ◌-◌, Bool, false, not, ◌||◌, max, if◌then◌else◌, List, [], ◌∷◌, ◌++◌, length, map, replicate, slice_index, Option, None, unwrap_or}
 use Rattle.std.specs.List.{slice_split}
+use Rattle.std.specs.Option.{option_or}
 use Rattle.rd_base.specs.Classes.{strong_level}
 use Rattle.rd_base.specs.declared.settings.Direction.{Direction}
 use Rattle.rd_base.specs.declared.settings.Direction.TheVariants.{Auto, Left, Right}
@@ -13,14 +14,10 @@ use Rattle.rd_ucd.specs.Lookup.{class_of}
 abbrev pub line_level : List Span → List ℕ → Option ℕ
 line_level classes line = strong_level 0 (map (class_of classes) line)
 
-abbrev pub first_of : Option ℕ → Option ℕ → Option ℕ
-first_of None later = later
-first_of (Some level) later = Some level
-
 -- the level that the first deciding line of a paragraph gives, from its first line on
 abbrev pub decided : List Span → List (List ℕ) → Option ℕ
 decided classes [] = None
-decided classes (line ∷ lines) = if is_separator line then None else first_of (line_level classes line) (decided classes lines)
+decided classes (line ∷ lines) = if is_separator line then None else option_or (line_level classes line) (decided classes lines)
 
 -- the base level of a line, by that of the line before, whether that is one of a paragraph, and the lines from here on: a
 -- separator and a later line of a paragraph have that of the line before, and the first line of a paragraph has the

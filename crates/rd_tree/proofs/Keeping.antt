@@ -4,11 +4,12 @@ use Rattle.std.specs.Prelude.{is_some}
 use Rattle.std.proofs.lemmas.Bool.{and_parts, and_from, cases_Bool, false≢true}
 use Rattle.std.proofs.Math.Bool.{and-true}
 use Rattle.std.proofs.lemmas.Bool.Decides.{nat_tests}
+use Rattle.std.specs.Option.{option_or}
 use Rattle.rd_tree.specs.declared.rect.Rect.{Rect}
 use Rattle.rd_tree.specs.declared.side.Side.{Side}
 use Rattle.rd_tree.specs.declared.placed.Placed.{Placed}
 use Rattle.rd_tree.specs.Windows.{Windows, Window, Split, columns_for, rows_for, first_part, second_part, HasRoom, fits, first_size, resized, placed, window_at, holds, replaced, is_leaf_of, is_single, removed}
-use Rattle.rd_tree.proofs.Rooms.{or_else, of_number-append, first_needs, second_needs, first_parts-first, room_first_parts, resized_room}
+use Rattle.rd_tree.proofs.Rooms.{of_number-append, first_needs, second_needs, first_parts-first, room_first_parts, resized_room}
 
 -- the test of room is true where each window has room
 pub fits-room : (windows : Windows) (rect : Rect) → HasRoom windows rect → fits windows rect ≡ true
@@ -28,7 +29,7 @@ is_some-test : (b : Bool) (window : Placed) → is_some (if b then Some window e
 is_some-test true window = refl
 is_some-test false window = refl
 
-is_some-or : (a b : Option Placed) → is_some (or_else a b) ≡ (is_some a || is_some b)
+is_some-or : (a b : Option Placed) → is_some (option_or a b) ≡ (is_some a || is_some b)
 is_some-or None b = refl
 is_some-or (Some window) b = refl
 
@@ -41,7 +42,7 @@ found_held w (Split side size first second) rect =
     ∙ (ap (λ (b : Bool). b || is_some (window_at w second (second_part side size rect))) (found_held w first (first_part side size rect))
     ∙ ap (λ (b : Bool). holds w first || b) (found_held w second (second_part side size rect))))
 
-pub found_in : (a b : Option Placed) (window : Placed) → or_else a b ≡ Some window → (a ≡ Some window) ⊎ ((a ≡ None) × (b ≡ Some window))
+pub found_in : (a b : Option Placed) (window : Placed) → option_or a b ≡ Some window → (a ≡ Some window) ⊎ ((a ≡ None) × (b ≡ Some window))
 found_in None b window e = inr (refl, e)
 found_in (Some first) b window e = inl e
 

@@ -1,13 +1,12 @@
 -- The windows of a tree in order.
 use Rattle.std.proofs.Common.{◌≡◌, ℕ, zero, suc, ◌≤◌, Bool, true, ◌==◌, List, [], ◌∷◌, ◌++◌, Option, None, Some, ◌⊎◌, inl, inr, refl, sym, ap, ◌∙◌, arith}
 use Rattle.std.specs.Prelude.{slice_get}
-use Rattle.std.specs.Option.{option_map}
+use Rattle.std.specs.Option.{option_map, option_or}
 use Rattle.std.proofs.lemmas.Option.{slice_get-map}
 use Rattle.std.proofs.lemmas.Bool.{eq-eqb, or_left, or_right}
 use Rattle.rd_tree.specs.declared.rect.Rect.{Rect}
 use Rattle.rd_tree.specs.declared.placed.Placed.{Placed}
 use Rattle.rd_tree.specs.Windows.{Windows, Window, Split, first_part, second_part, leaves, placed, window_at, holds, times}
-use Rattle.rd_tree.proofs.Rooms.{or_else}
 use Rattle.rd_tree.proofs.Standing.{listed, not_found, once_in_first, two_lists}
 
 -- what stands in two lists stands in one of them
@@ -46,11 +45,11 @@ listed_found (Split side size first second) rect once i window e =
     elim (in_one (placed first a) (placed second b) i window e) [
       | inl p ↦
           let found = listed_found first a (λ m. omega (arith, once m)) p.0 window p.1 in
-          two_lists n side size first second rect ∙ ap (λ (o : Option Placed). or_else o (window_at n second b)) found
+          two_lists n side size first second rect ∙ ap (λ (o : Option Placed). option_or o (window_at n second b)) found
       | inr p ↦
           let found = listed_found second b (λ m. omega (arith, once m)) p.0 window p.1 in
           let away = once_in_first n first second (once n) (listed_held second b p.0 window p.1) in
-          two_lists n side size first second rect ∙ (ap (λ (o : Option Placed). or_else o (window_at n second b)) (not_found n first a away) ∙ found)
+          two_lists n side size first second rect ∙ (ap (λ (o : Option Placed). option_or o (window_at n second b)) (not_found n first a away) ∙ found)
     ]
 
 in_order : (windows : Windows) (rect : Rect) (number i : ℕ) (o : Option Placed) → ((n : ℕ) → times n windows ≤ 1) → slice_get (placed windows rect) i ≡ o → option_map (λ (window : Placed). window.number) o ≡ Some number → window_at number windows rect ≡ o

@@ -1,5 +1,6 @@
 -- Needs, sizes and rectangles.
 use Rattle.std.proofs.Common.{◌≡◌, ℕ, ◌≤◌, ◌<◌, length, length-append, Bool, true, false, if◌then◌else◌, ◌==◌, List, [], ◌∷◌, ◌++◌, Option, None, Some, refl, sym, ap, ◌∙◌, arith}
+use Rattle.std.specs.Option.{option_or}
 use Rattle.rd_tree.specs.declared.rect.Rect.{Rect}
 use Rattle.rd_tree.specs.declared.side.Side.{Side}
 use Rattle.rd_tree.specs.declared.side.Side.TheVariants.{Below, Right}
@@ -119,17 +120,12 @@ resized_room (Split side size first second) rect p n =
     let new = first_size side size second rect in
     (resized_room first (first_part side new rect) q.0 s.0, resized_room second (second_part side new rect) q.1 s.1)
 
--- the first of two that is there
-abbrev pub or_else : Option Placed → Option Placed → Option Placed
-or_else None other = other
-or_else (Some window) other = Some window
-
-cond_or : (b : Bool) (window : Placed) (m n other : Option Placed) → m ≡ or_else n other → (if b then Some window else m) ≡ or_else (if b then Some window else n) other
+cond_or : (b : Bool) (window : Placed) (m n other : Option Placed) → m ≡ option_or n other → (if b then Some window else m) ≡ option_or (if b then Some window else n) other
 cond_or true window m n other e = refl
 cond_or false window m n other e = e
 
 -- the window with a number among two lists
-pub of_number-append : (number : ℕ) (xs ys : List Placed) → of_number number (xs ++ ys) ≡ or_else (of_number number xs) (of_number number ys)
+pub of_number-append : (number : ℕ) (xs ys : List Placed) → of_number number (xs ++ ys) ≡ option_or (of_number number xs) (of_number number ys)
 of_number-append number [] ys = refl
 of_number-append number (window ∷ xs) ys =
     cond_or (window.number == number) window (of_number number (xs ++ ys)) (of_number number xs) (of_number number ys) (of_number-append number xs ys)
@@ -137,10 +133,10 @@ of_number-append number (window ∷ xs) ys =
 pub second_found : (w : ℕ) (side : Side) (size : ℕ) (first second : Windows) (rect a b : Rect) → a ≡ first_part side size rect → b ≡ second_part side size rect → window_at w first a ≡ None → window_at w (Split side size first second) rect ≡ window_at w second b
 second_found w side size first second rect a b p q e =
     of_number-append w (placed first (first_part side size rect)) (placed second (second_part side size rect))
-    ∙ (ap (λ (o : Option Placed). or_else o (window_at w second (second_part side size rect))) (rw p at e)
+    ∙ (ap (λ (o : Option Placed). option_or o (window_at w second (second_part side size rect))) (rw p at e)
     ∙ ap (λ (r : Rect). window_at w second r) (sym q))
 
 pub first_found : (w : ℕ) (side : Side) (size : ℕ) (first second : Windows) (rect a : Rect) (found : Placed) → a ≡ first_part side size rect → window_at w first a ≡ Some found → window_at w (Split side size first second) rect ≡ Some found
 first_found w side size first second rect a found p e =
     of_number-append w (placed first (first_part side size rect)) (placed second (second_part side size rect))
-    ∙ ap (λ (o : Option Placed). or_else o (window_at w second (second_part side size rect))) (rw p at e)
+    ∙ ap (λ (o : Option Placed). option_or o (window_at w second (second_part side size rect))) (rw p at e)

@@ -2,11 +2,11 @@
 use Rattle.std.proofs.Common.{◌≡◌, ℕ, ◌≤◌, true, false, Option, None, Some, inl, inr, refl, ap, ◌∙◌, arith}
 use Rattle.std.specs.Prelude.{is_some}
 use Rattle.std.proofs.lemmas.Bool.{cases_Bool, or_left, or_right}
+use Rattle.std.specs.Option.{option_or}
 use Rattle.rd_tree.specs.declared.rect.Rect.{Rect}
 use Rattle.rd_tree.specs.declared.placed.Placed.{Placed}
 use Rattle.rd_tree.specs.Windows.{Windows, Window, Split, first_part, second_part, resized, window_at, holds, is_leaf_of, sibling, removed, times}
 use Rattle.rd_tree.specs.Places.{shared_place}
-use Rattle.rd_tree.proofs.Rooms.{or_else}
 use Rattle.rd_tree.proofs.Keeping.{found_held}
 use Rattle.rd_tree.proofs.Standing.{resized_held, not_found, once_in_first, two_lists}
 
@@ -25,9 +25,9 @@ sibling_held v n (Split side size first second) e =
       ]
     ]
 
-or_else_some : (o other : Option Placed) → is_some o ≡ true → or_else o other ≡ o
-or_else_some None other e = absurd (cc)
-or_else_some (Some window) other e = refl
+or-some : (o other : Option Placed) → is_some o ≡ true → option_or o other ≡ o
+or-some None other e = absurd (cc)
+or-some (Some window) other e = refl
 
 -- the sibling shares the rectangle that it had with the removed window
 pub removed_sibling : (v n : ℕ) (windows : Windows) (rect : Rect) → times v windows ≤ 1 → holds v (sibling n windows) ≡ true → window_at v (removed n windows rect) rect ≡ window_at v (resized (sibling n windows) (shared_place n windows rect)) (shared_place n windows rect)
@@ -46,14 +46,14 @@ removed_sibling v n (Split side size first second) rect once e =
               let there : is_some (window_at v (resized (sibling n first) place) place) ≡ true = found_held v (resized (sibling n first) place) place ∙ (resized_held v (sibling n first) place ∙ held) in
               rw (p, q, h)
               (two_lists v side size (removed n first a) second rect
-              ∙ (ap (λ (o : Option Placed). or_else o (window_at v second b)) (removed_sibling v n first a (omega arith) held)
-              ∙ or_else_some (window_at v (resized (sibling n first) place) place) (window_at v second b) there))
+              ∙ (ap (λ (o : Option Placed). option_or o (window_at v second b)) (removed_sibling v n first a (omega arith) held)
+              ∙ or-some (window_at v (resized (sibling n first) place) place) (window_at v second b) there))
           | inr h ↦
               let held : holds v (sibling n second) ≡ true = rw (p, q, h) at e in
               let away : holds v first ≡ false = once_in_first v first second once (sibling_held v n second held) in
               rw (p, q, h)
               (two_lists v side size first (removed n second b) rect
-              ∙ (ap (λ (o : Option Placed). or_else o (window_at v (removed n second b) b)) (not_found v first a away)
+              ∙ (ap (λ (o : Option Placed). option_or o (window_at v (removed n second b) b)) (not_found v first a away)
               ∙ removed_sibling v n second b (omega arith) held))
         ]
       ]

@@ -5,6 +5,7 @@ use Rattle.std.proofs.lemmas.Bool.{cases_Bool, true≢false}
 use Rattle.std.proofs.Math.Bool.{or_assoc, or-false}
 use Rattle.std.proofs.lemmas.Bool.Decides.{nat_tests}
 use Rattle.std.proofs.lemmas.List.{map-append}
+use Rattle.std.specs.Option.{option_or}
 use Rattle.rd_tree.specs.declared.rect.Rect.{Rect}
 use Rattle.rd_tree.specs.declared.side.Side.{Side}
 use Rattle.rd_tree.specs.declared.side.Side.TheVariants.{Below, Right}
@@ -12,7 +13,7 @@ use Rattle.rd_tree.specs.declared.placed.Placed.{Placed}
 use Rattle.rd_tree.specs.Windows.{Windows, Window, Split, first_part, second_part, HasRoom, first_size, resized, leaves, placed, of_number, window_at, holds, replaced, is_leaf_of, is_single, sibling, removed, times}
 use Rattle.rd_tree.specs.Calls.{Configuration, IsValid, frame_of, rect_of_placed}
 use Rattle.rd_tree.specs.Places.{is_from, lies_in, one_if, windows_with, AllHaveRoom, in_place_of, without, is_among, IsWithin, StandsIn, LiesIn}
-use Rattle.rd_tree.proofs.Rooms.{rows_for-some, room_needs, room_within, or_else, of_number-append}
+use Rattle.rd_tree.proofs.Rooms.{rows_for-some, room_needs, room_within, of_number-append}
 use Rattle.rd_tree.proofs.Keeping.{found_held, found_in, not_single}
 
 -- a place in a range that is cut is in one of the two parts
@@ -228,7 +229,7 @@ other_window : (v n : ℕ) (windows : Windows) → is_leaf_of n windows ≡ true
 other_window v n (Window number mode margins) e d = grind (arith, nat_tests)
 other_window v n (Split side size first second) e d = absurd (cc)
 
-pub two_lists : (v : ℕ) (side : Side) (size : ℕ) (first second : Windows) (rect : Rect) → window_at v (Split side size first second) rect ≡ or_else (window_at v first (first_part side size rect)) (window_at v second (second_part side size rect))
+pub two_lists : (v : ℕ) (side : Side) (size : ℕ) (first second : Windows) (rect : Rect) → window_at v (Split side size first second) rect ≡ option_or (window_at v first (first_part side size rect)) (window_at v second (second_part side size rect))
 two_lists v side size first second rect = of_number-append v (placed first (first_part side size rect)) (placed second (second_part side size rect))
 
 neither_found : (v : ℕ) (side : Side) (size : ℕ) (first second : Windows) (rect : Rect) → holds v first ≡ false → holds v second ≡ false → window_at v (Split side size first second) rect ≡ None
@@ -251,10 +252,10 @@ removed_others v n (Split side size first second) rect d e =
         | inr q ↦ elim (cases_Bool (holds n first)) [
           | inl h ↦
               let away : holds v (sibling n first) ≡ false = rw (p, q, h) at e in
-              rw (p, q, h) (two_lists v side size (removed n first a) second rect ∙ (ap (λ (o : Option Placed). or_else o (window_at v second b)) (removed_others v n first a d away) ∙ sym (two_lists v side size first second rect)))
+              rw (p, q, h) (two_lists v side size (removed n first a) second rect ∙ (ap (λ (o : Option Placed). option_or o (window_at v second b)) (removed_others v n first a d away) ∙ sym (two_lists v side size first second rect)))
           | inr h ↦
               let away : holds v (sibling n second) ≡ false = rw (p, q, h) at e in
-              rw (p, q, h) (two_lists v side size first (removed n second b) rect ∙ (ap (λ (o : Option Placed). or_else (window_at v first a) o) (removed_others v n second b d away) ∙ sym (two_lists v side size first second rect)))
+              rw (p, q, h) (two_lists v side size first (removed n second b) rect ∙ (ap (λ (o : Option Placed). option_or (window_at v first a) o) (removed_others v n second b d away) ∙ sym (two_lists v side size first second rect)))
         ]
       ]
     ]

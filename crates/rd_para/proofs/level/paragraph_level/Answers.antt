@@ -1,7 +1,8 @@
 use Rattle.std.proofs.Common.{◌≡◌, ◌+◌, ◌<◌, ℕ, Bool, true, false, if◌then◌else◌, List, [], ◌∷◌, Option, None, Some, refl, sym, ap, ◌∙◌, arith}
 use Rattle.std.specs.Prelude.{unwrap_or}
+use Rattle.std.specs.Option.{option_or}
 use Rattle.rd_text.specs.Texts.{between, is_separator}
-use Rattle.rd_para.specs.Paragraphs.{line_level, first_of, decided}
+use Rattle.rd_para.specs.Paragraphs.{line_level, decided}
 use Rattle.rd_para.proofs.Cuts.{IsCut, line_cut_at, some_line, decided_from}
 use Rattle.rd_para.proofs.Walks.{rows}
 use Rattle.rd_para.proofs.level.paragraph_level.Goals as goal
@@ -15,7 +16,7 @@ cut c = let inv = c.lines.invariant in line_cut_at c.args.text.now c.lines.from 
 
 -- what the line says is the level of the whole paragraph
 told : (c : goal.After-next_newline-to) (lines : List (List ℕ)) (blank : Bool) (level : Option ℕ) → rows c.args.text.now c.lines.from ≡ line c ∷ lines → is_separator (line c) ≡ blank
-    → level ≡ line_level c.args.classes.now (line c) → unwrap_or (if blank then None else first_of level (decided c.args.classes.now lines)) 0 ≡ unwrap_or (decided c.args.classes.now (rows c.args.text.now c.args.from)) 0
+    → level ≡ line_level c.args.classes.now (line c) → unwrap_or (if blank then None else option_or level (decided c.args.classes.now lines)) 0 ≡ unwrap_or (decided c.args.classes.now (rows c.args.text.now c.args.from)) 0
 told c lines blank level is separates found =
     sym (ap (λ (o : Option ℕ). unwrap_or o 0) (decided_from c.args.classes.now (line c) lines (rows c.args.text.now c.lines.from) blank level is separates found)) ∙ c.lines.invariant.rest
 
