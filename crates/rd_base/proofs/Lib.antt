@@ -1,3 +1,4 @@
+pub mod Choices
 pub mod Colours
 pub mod Equals
 pub mod Lists

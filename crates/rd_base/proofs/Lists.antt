@@ -1,8 +1,9 @@
 -- What holds of each element of a list, and what a list is from one of its places.
-use Rattle.std.proofs.Common.{◌≡◌, ℕ, zero, suc, ◌+◌, ◌<◌, ◌≤◌, List, [], ◌∷◌, ◌++◌, length, length-append, drop, get_or, None, Some, inl, inr, All, refl, sym, subst, ap, ◌∙◌, arith}
+use Rattle.std.proofs.Common.{◌≡◌, ℕ, zero, suc, ◌+◌, ◌<◌, ◌≤◌, Bool, List, [], ◌∷◌, ◌++◌, length, length-append, take, drop, get_or, None, Some, inl, inr, All, refl, sym, subst, ap, cond, ◌∙◌, arith}
 use Rattle.std.specs.Prelude.{slice_get}
-use Rattle.std.specs.List.{AllByRecursion}
+use Rattle.std.specs.List.{AllByRecursion, count_by, range_with_len}
 use Rattle.std.proofs.lemmas.List.{get_or_append_left, drop_more, drop_all}
+use Rattle.std.proofs.lemmas.List.Sums.{sum_by-append}
 use Rattle.std.proofs.Math.Seq.{drop-append_seam}
 use Rattle.std.proofs.lemmas.List.Elements.{All-drop}
 use Rattle.std.proofs.lemmas.Option.{slice_get_within, slice_get_cases, get_or_from_slice_get}
@@ -35,6 +36,35 @@ get-second [] ys i j e = let s : i ≡ j = omega arith in ap (slice_get ys) s
 get-second (x ∷ xs) ys zero j e = absurd (omega arith)
 get-second (x ∷ xs) ys (suc i) j e = get-second xs ys i j (omega arith)
 
+-- the same of a part of a list
+pub get-take : {X : Type 0} (n : ℕ) (xs : List X) (i : ℕ) → i < n → slice_get (take n xs) i ≡ slice_get xs i
+get-take zero xs i p = absurd (omega arith)
+get-take (suc n) [] i p = refl
+get-take (suc n) (x ∷ xs) zero p = refl
+get-take (suc n) (x ∷ xs) (suc i) p = get-take n xs i (omega arith)
+
+pub get-drop : {X : Type 0} (n : ℕ) (xs : List X) (i j : ℕ) → i ≡ n + j → slice_get (drop n xs) j ≡ slice_get xs i
+get-drop zero xs i j e = let s : j ≡ i = omega arith in ap (slice_get xs) s
+get-drop (suc n) [] i j e = refl
+get-drop (suc n) (x ∷ xs) zero j e = absurd (omega arith)
+get-drop (suc n) (x ∷ xs) (suc i) j e = get-drop n xs i j (omega arith)
+
+-- how many elements of two joined lists pass a test
+pub count-append : {X : Type 0} (p : X → Bool) (xs ys : List X) → count_by p (xs ++ ys) ≡ count_by p xs + count_by p ys
+count-append p xs ys = sum_by-append (λ x. cond (p x) 1 0) xs ys
+
+-- numbers in a row, in two parts
+pub range-split : (a m n : ℕ) → range_with_len a (m + n) ≡ range_with_len a m ++ range_with_len (a + m) n
+range-split a zero n =
+    let none : 0 + n ≡ n = omega arith in
+    let same : a ≡ a + 0 = omega arith in
+    ap (range_with_len a) none ∙ ap (λ (k : ℕ). range_with_len k n) same
+range-split a (suc m) n =
+    let more : suc m + n ≡ suc (m + n) = omega arith in
+    let same : a + 1 + m ≡ a + suc m = omega arith in
+    ap (range_with_len a) more
+    ∙ ap (λ (ks : List ℕ). a ∷ ks) (range-split (a + 1) m n ∙ ap (λ (k : ℕ). range_with_len (a + 1) m ++ range_with_len k n) same)
+
 -- what holds of all holds of the one at a place
 pub all-at : {X : Type 0} (P : X → Type 0) (xs : List X) (i : ℕ) (x : X) → All P xs → slice_get xs i ≡ Some x → P x
 all-at P xs i x all found = subst P (get_or_from_slice_get xs i x x found) (all i x (slice_get_within xs i x found))
@@ -59,3 +89,13 @@ each-front P (x ∷ xs) ys all = (all.0, each-front P xs ys all.1)
 pub each-back : {X : Type 0} (P : X → Type 0) (xs ys : List X) → AllByRecursion P (xs ++ ys) → AllByRecursion P ys
 each-back P [] ys all = all
 each-back P (x ∷ xs) ys all = each-back P xs ys all.1
+
+pub each-take : {X : Type 0} (P : X → Type 0) (n : ℕ) (xs : List X) → AllByRecursion P xs → AllByRecursion P (take n xs)
+each-take P zero xs all = tt
+each-take P (suc n) [] all = tt
+each-take P (suc n) (x ∷ xs) all = (all.0, each-take P n xs all.1)
+
+pub each-drop : {X : Type 0} (P : X → Type 0) (n : ℕ) (xs : List X) → AllByRecursion P xs → AllByRecursion P (drop n xs)
+each-drop P zero xs all = all
+each-drop P (suc n) [] all = tt
+each-drop P (suc n) (x ∷ xs) all = each-drop P n xs all.1

@@ -1,15 +1,17 @@
--- Cells in which each glyph stands whole, one behind the other, and glyphs that have their columns.
-use Rattle.std.proofs.Common.{rules, tests, ◌≡◌, ℕ, zero, suc, ◌-◌, ◌<◌, ◌≤◌, Bool, true, false, IsTrue, List, [], ◌∷◌, ◌++◌, replicate, Some, refl, arith}
+-- Cells in which each glyph stands whole, one behind the other, glyphs that have their columns, and the columns of elements.
+use Rattle.std.proofs.Common.{rules, tests, ◌≡◌, ℕ, zero, suc, ◌+◌, ◌-◌, ◌<◌, ◌≤◌, Bool, true, false, IsTrue, List, [], ◌∷◌, ◌++◌, replicate, Some, refl, arith}
 use Rattle.std.proofs.lemmas.Bool.Decides.{nat_tests}
 use Rattle.std.proofs.lemmas.List.{get_or-replicate}
 use Rattle.unicode_width.specs.Width.{char_width}
 use Rattle.rd_base.specs.Cells.{single}
 use Rattle.rd_base.specs.Chars.{is_scalar}
+use Rattle.rd_base.specs.Elements.{columns_at_most}
 use Rattle.rd_base.specs.Faces.{Attributes}
 use Rattle.rd_base.specs.Glyphs.{IsMeasured, IsRowAfter, is_space, blanks, glyph_cells}
 use Rattle.rd_base.specs.declared.cell.Cell.{Cell}
 use Rattle.rd_base.specs.declared.cell.Cell.TheVariants.{Blank, First, Rest}
 use Rattle.rd_base.specs.declared.cell.Glyph.{Glyph}
+use Rattle.rd_base.specs.declared.element.Element.{Element}
 
 -- ---- rows
 
@@ -64,3 +66,9 @@ pub printable-measured : (base : ℕ) → 32 ≤ base → base < 127 → IsMeasu
 printable-measured base low high =
     let scalar : is_scalar base ≡ true = grind (arith, nat_tests) in
     single-measured base 1 (search (rules, tests)) (one-column base low high) (omega arith) (omega arith)
+
+-- ---- elements
+
+pub columns-append : (xs ys : List Element) → columns_at_most (xs ++ ys) ≡ columns_at_most xs + columns_at_most ys
+columns-append [] ys = omega arith
+columns-append (x ∷ xs) ys = let rest = columns-append xs ys in omega (arith, rest)

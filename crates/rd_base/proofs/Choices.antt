@@ -1,0 +1,49 @@
+-- What follows from a test, from an option, and of the one of two that is chosen.
+use Rattle.std.proofs.Common.{◌≡◌, ◌≤◌, Bool, true, false, not, ◌||◌, cond, Option, None, Some, IfSome, is_some, refl, sym, ap, ◌∙◌, arith}
+use Rattle.std.specs.Option.{option_map}
+use Rattle.std.proofs.Math.Bool.{not-not}
+use Rattle.std.proofs.lemmas.Option.{none-some}
+
+-- ---- tests
+
+pub opposite : (a b : Bool) → a ≡ not b → b ≡ not a
+opposite a b e = sym (ap not e ∙ not-not b)
+
+-- where the first of two doesn't hold
+pub second-holds : (a b : Bool) → a ≡ false → (a || b) ≡ true → b ≡ true
+second-holds a b fails holds = sym (ap (λ t. t || b) fails) ∙ holds
+
+-- a test as a number
+pub one-at-most : (b : Bool) → cond b 1 0 ≤ 1
+one-at-most true = omega arith
+one-at-most false = omega arith
+
+pub one-at-least : (b : Bool) → b ≡ true → 1 ≤ cond b 1 0
+one-at-least true e = omega arith
+one-at-least false e = absurd (cc)
+
+-- ---- choices
+
+-- what holds of two things holds of the one that is chosen
+pub either : {X : Type 0} (P : X → Type 0) (b : Bool) (x y : X) → P x → P y → P (cond b x y)
+either P true x y h k = h
+either P false x y h k = k
+
+-- where nothing was chosen, the test failed and nothing was left
+pub none-chosen : {X : Type 0} (b : Bool) (x : X) (rest : Option X) → cond b (Some x) rest ≡ None → (b ≡ false) × (rest ≡ None)
+none-chosen true x rest none = absurd (none-some x (sym none))
+none-chosen false x rest none = (refl, none)
+
+-- ---- options
+
+pub some-of : {X : Type 0} (o : Option X) → is_some o ≡ true → (x : X) × (o ≡ Some x)
+some-of None e = absurd (cc)
+some-of (Some x) e = (x, refl)
+
+pub if-value : {X : Type 0} (P : X → Type 0) (o : Option X) → ((x : X) → o ≡ Some x → P x) → IfSome o P
+if-value P None all = tt
+if-value P (Some x) all = all x refl
+
+pub map-some : {X Y : Type 0} (f : X → Y) (o : Option X) (y : Y) → option_map f o ≡ Some y → (x : X) × (o ≡ Some x) × (f x ≡ y)
+map-some f None y e = absurd (none-some y e)
+map-some f (Some x) y e = (x, refl, cc)
