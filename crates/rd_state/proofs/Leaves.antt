@@ -1,10 +1,11 @@
 -- What a window tree says of its windows, and how it changes.
-use Rattle.std.proofs.Common.{◌≡◌, ◌≢◌, ℕ, ◌<◌, ◌≤◌, ◌==◌, ◌||◌, Bool, true, false, is_some, if◌then◌else◌, Option, None, Some, List, [], ◌∷◌, ◌++◌, sym, ap, refl, ◌∙◌, arith}
+use Rattle.std.proofs.Common.{◌≡◌, ◌≢◌, ℕ, ◌<◌, ◌≤◌, ◌==◌, ◌||◌, Bool, true, false, is_some, if◌then◌else◌, Option, None, Some, sym, ap, refl, ◌∙◌, arith}
 use Rattle.std.proofs.lemmas.Bool.{eqb-true, false_from_ne_true, cond-false, cond-true, eq-eqb, ne_eqb}
 use Rattle.std.specs.Prelude.{option_map}
 use Rattle.std.specs.Option.{option_or}
-use Rattle.rd_tree.proofs.Keeping.{not_single}
-use Rattle.rd_tree.proofs.Standing.{held_times, once_in_first, window_held}
+use Rattle.rd_tree.proofs.Keeping.{is_some-if, is_some-or, not_single}
+use Rattle.rd_tree.proofs.Rooms.{of_number-append}
+use Rattle.rd_tree.proofs.Standing.{held_times, none_of, once_in_first, window_held}
 use Rattle.rd_tree.specs.declared.placed.Placed.{Placed}
 use Rattle.rd_tree.specs.declared.rect.Rect.{Rect}
 use Rattle.rd_tree.specs.declared.side.Side.{Side}
@@ -20,18 +21,6 @@ Leaf = Bool × ℕ
 map-same : {X : Type 0} (o : Option X) → option_map (λ x. x) o ≡ o
 map-same None = refl
 map-same (Some x) = refl
-
-is_some-or : {X : Type 0} (o p : Option X) → is_some (option_or o p) ≡ (is_some o || is_some p)
-is_some-or None p = refl
-is_some-or (Some x) p = refl
-
-is_some-if : {X : Type 0} (t : Bool) (x : X) → is_some (if t then Some x else None) ≡ t
-is_some-if true x = refl
-is_some-if false x = refl
-
-pub none-if : {X : Type 0} (o : Option X) → is_some o ≡ false → o ≡ None
-none-if None h = refl
-none-if (Some x) h = absurd (cc)
 
 or-some : {X : Type 0} (o p : Option X) → is_some o ≡ true → option_or o p ≡ o
 or-some None p h = absurd (cc)
@@ -54,7 +43,7 @@ is_some-leaf n (Split side size first second) =
     ∙ (ap (λ (t : Bool). t || is_some (leaf_at n second)) (is_some-leaf n first) ∙ ap (λ (t : Bool). holds n first || t) (is_some-leaf n second))
 
 pub leaf-none : (n : ℕ) (ws : Windows) → holds n ws ≡ false → leaf_at n ws ≡ None
-leaf-none n ws h = none-if (leaf_at n ws) (is_some-leaf n ws ∙ h)
+leaf-none n ws h = none_of (leaf_at n ws) (is_some-leaf n ws ∙ h)
 
 leaf-some : (n : ℕ) (ws : Windows) → holds n ws ≡ true → is_some (leaf_at n ws) ≡ true
 leaf-some n ws h = is_some-leaf n ws ∙ h
@@ -80,14 +69,6 @@ either-leaf k false a b x h g = g refl
 
 abbrev pub facts : Placed → Leaf
 facts p = (p.mode, p.margins)
-
-front-or : (t : Bool) (x : Placed) (a b c : Option Placed) → c ≡ option_or a b → (if t then Some x else c) ≡ option_or (if t then Some x else a) b
-front-or true x a b c h = refl
-front-or false x a b c h = h
-
-of_number-append : (n : ℕ) (xs ys : List Placed) → of_number n (xs ++ ys) ≡ option_or (of_number n xs) (of_number n ys)
-of_number-append n [] ys = refl
-of_number-append n (x ∷ xs) ys = front-or (x.number == n) x (of_number n xs) (of_number n ys) (of_number n (xs ++ ys)) (of_number-append n xs ys)
 
 map-or : {X Y : Type 0} (f : X → Y) (o p : Option X) → option_map f (option_or o p) ≡ option_or (option_map f o) (option_map f p)
 map-or f None p = refl

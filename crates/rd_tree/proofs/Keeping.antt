@@ -25,17 +25,17 @@ room-fits (Split side size first second) rect e =
     let both = and_parts (fits first (first_part side size rect)) (fits second (second_part side size rect)) e in
     (room-fits first (first_part side size rect) both.0, room-fits second (second_part side size rect) both.1)
 
-is_some-test : (b : Bool) (window : Placed) → is_some (if b then Some window else None) ≡ b
-is_some-test true window = refl
-is_some-test false window = refl
+pub is_some-if : {X : Type 0} (t : Bool) (x : X) → is_some (if t then Some x else None) ≡ t
+is_some-if true x = refl
+is_some-if false x = refl
 
-is_some-or : (a b : Option Placed) → is_some (option_or a b) ≡ (is_some a || is_some b)
+pub is_some-or : {X : Type 0} (a b : Option X) → is_some (option_or a b) ≡ (is_some a || is_some b)
 is_some-or None b = refl
-is_some-or (Some window) b = refl
+is_some-or (Some x) b = refl
 
 -- a window is among the windows where it is found
 pub found_held : (w : ℕ) (windows : Windows) (rect : Rect) → is_some (window_at w windows rect) ≡ holds w windows
-found_held w (Window number mode margins) rect = is_some-test (number == w) (record { number = number; mode = mode; margins = margins; rect = rect })
+found_held w (Window number mode margins) rect = is_some-if (number == w) (record { number = number; mode = mode; margins = margins; rect = rect })
 found_held w (Split side size first second) rect =
     ap is_some (of_number-append w (placed first (first_part side size rect)) (placed second (second_part side size rect)))
     ∙ (is_some-or (window_at w first (first_part side size rect)) (window_at w second (second_part side size rect))

@@ -99,9 +99,9 @@ in_place-front w others (window ∷ xs) ys e =
       | inr p ↦ rw p (ap (λ (zs : List Placed). window ∷ zs) (in_place-front w others xs ys (rw p at e)))
     ]
 
-none_of : (o : Option Placed) → is_some o ≡ false → o ≡ None
+pub none_of : {X : Type 0} (o : Option X) → is_some o ≡ false → o ≡ None
 none_of None e = refl
-none_of (Some window) e = absurd (cc)
+none_of (Some x) e = absurd (cc)
 
 at_place : (b : Bool) (others : Placed → List Placed) (other same : Windows) (rect : Rect) (window : Placed) → placed other rect ≡ others window → placed same rect ≡ window ∷ [] → placed (if b then other else same) rect ≡ (if b then others window ++ [] else window ∷ [])
 at_place true others other same rect window e s = rw e (sym (append-nil (others window)))
