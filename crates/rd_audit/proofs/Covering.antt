@@ -5,7 +5,7 @@ use Rattle.std.proofs.lemmas.Bool.Decides.{nat_tests}
 use Rattle.std.proofs.lemmas.List.{get_or_past}
 use Rattle.std.proofs.lemmas.List.Elements.{All-head, All-tail}
 use Rattle.std.proofs.Math.Seq.{take-append_seam, drop-append_seam, get_or-append_seam}
-use Rattle.rd_base.specs.Cells.{HasColours, IsColoured}
+use Rattle.rd_base.specs.Cells.{HasColours, IsColoured, face_after}
 use Rattle.rd_base.specs.Equals.{same_face}
 use Rattle.rd_base.specs.Faces.{Attributes, plain}
 use Rattle.rd_base.specs.Glyphs.{IsRowAfter}
@@ -14,10 +14,11 @@ use Rattle.rd_base.specs.declared.cell.Cell.TheVariants.{Blank, First, Rest}
 use Rattle.rd_base.proofs.Equals.{face-told, face-itself}
 use Rattle.rd_base.proofs.Colours.{plain-coloured}
 use Rattle.rd_term.specs.Pictures.{blank}
-use Rattle.rd_dump.specs.Dumps.{face_after, faces_of, with_columns, runs_of, runs_text, runs_of_row, numbers_text}
+use Rattle.rd_update.specs.Updates.{is_rest}
+use Rattle.rd_dump.specs.Dumps.{faces_of, with_columns, runs_of, runs_text, runs_of_row, numbers_text}
 use Rattle.rd_dump.specs.Dumps as dumps
 use Rattle.rd_audit.specs.Cuts.{pieces}
-use Rattle.rd_audit.specs.Runs.{is_later, is_edge, fits, with_face, faced, painted_by, with_run, painted, runs_over}
+use Rattle.rd_audit.specs.Runs.{is_edge, fits, with_face, faced, painted_by, with_run, painted, runs_over}
 use Rattle.rd_audit.specs.declared.run.SaidFaceRun.{SaidFaceRun}
 use Rattle.rd_audit.proofs.Faces.{run_piece, piece-lacks, run-read}
 use Rattle.rd_audit.proofs.Lacking.{lacks, lacks-append, pieces-seam, pieces-one}
@@ -36,7 +37,7 @@ AreOf face (cell ∷ cells) = (with_face face cell ≡ cell) × AreOf face cells
 -- no character goes on at the first of these cells
 abbrev pub is_start : List Cell → Bool
 is_start [] = true
-is_start (cell ∷ cells) = not (is_later cell)
+is_start (cell ∷ cells) = not (is_rest cell)
 
 -- runs that stand one after the other over cells and cut no character
 abbrev pub Covers : List Stretch → List Cell → Type 0
@@ -177,15 +178,15 @@ faced-again : (face : Attributes) (front back : List Cell) → AreOf face front 
 faced-again face [] back h = refl
 faced-again face (cell ∷ cells) back h = ap₂ (λ x xs. x ∷ xs) (face-last face cell ∙ h.0) (faced-again face cells back h.1)
 
-later-alike : (cell : Cell) → is_later (with_face plain cell) ≡ is_later cell
+later-alike : (cell : Cell) → is_rest (with_face plain cell) ≡ is_rest cell
 later-alike (Blank f) = refl
 later-alike (First g f) = refl
 later-alike Rest = refl
 
 edge-seam : (done cells : List Cell) → is_start cells ≡ true → is_edge (done ++ plainly cells) (length done) ≡ true
-edge-seam done [] h = ap (λ c. not (is_later c)) (get_or_past (done ++ []) (length done) blank (omega (arith, length-append done [])))
+edge-seam done [] h = ap (λ c. not (is_rest c)) (get_or_past (done ++ []) (length done) blank (omega (arith, length-append done [])))
 edge-seam done (cell ∷ cells) h =
-    ap (λ c. not (is_later c)) (get_or-append_seam done (with_face plain cell) (plainly cells) blank) ∙ ap not (later-alike cell) ∙ h
+    ap (λ c. not (is_rest c)) (get_or-append_seam done (with_face plain cell) (plainly cells) blank) ∙ ap not (later-alike cell) ∙ h
 
 abbrev run_at : ℕ → ℕ → Attributes → SaidFaceRun
 run_at first last face = record { first = first; last = last; face = face }

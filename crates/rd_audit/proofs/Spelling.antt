@@ -10,7 +10,7 @@ use Rattle.std.proofs.lemmas.Str.{chars-encodes, is_utf8-from_IsUtf8}
 use Rattle.std.proofs.Math.Seq.{set-append_seam, get_or-drop}
 use Rattle.std.proofs.lemmas.List.{replicate-append-replicate, take-append-drop, length-replicate}
 use Rattle.unicode_width.specs.Width.{char_width}
-use Rattle.rd_base.specs.Cells.{single}
+use Rattle.rd_base.specs.Cells.{single, with_mark}
 use Rattle.rd_base.specs.Chars.{is_scalar, encoded}
 use Rattle.rd_base.specs.Faces.{plain}
 use Rattle.rd_base.specs.Glyphs.{IsMeasured, IsGood, IsRowAfter, glyph_bytes}
@@ -167,12 +167,9 @@ text-lacks cells h = ap (lacks 10) (text-is 0 cells h) ∙ encodes-lack (codes_o
 abbrev glyph_with : ℕ → ℕ → List ℕ → ℕ → Glyph
 glyph_with base width marks count = record { base = base; marks = marks; count = count; width = width }
 
-abbrev marked : Glyph → ℕ → Glyph
-marked g mark = record g { marks = slice_set g.marks g.count mark; count = g.count + 1 }
-
 abbrev with_marks : Glyph → List ℕ → Glyph
 with_marks g [] = g
-with_marks g (mark ∷ marks) = with_marks (marked g mark) marks
+with_marks g (mark ∷ marks) = with_marks (with_mark g mark) marks
 
 marks-read : (front : List Cell) (codes marks : List ℕ) (g : Glyph) → AreMarks marks → g.count + length marks ≤ 6
     → cells_from front (Some g) (marks ++ codes) ≡ cells_from front (Some (with_marks g marks)) codes
@@ -180,8 +177,8 @@ marks-read front codes [] g h few = refl
 marks-read front codes (mark ∷ marks) g h few =
     let room : nat_lt g.count 6 ≡ true = grind (arith, nat_tests) in
     ap (λ o. option_and_then (λ (next : List Cell × Glyph). cells_from next.0 (Some next.1) (marks ++ codes)) (taken front (Some g) mark o)) h.0.1
-    ∙ ap (λ t. option_and_then (λ (next : List Cell × Glyph). cells_from next.0 (Some next.1) (marks ++ codes)) (option_map (λ x. (front, x)) (if t then Some (marked g mark) else None))) room
-    ∙ marks-read front codes marks (marked g mark) h.1 (omega (arith, few))
+    ∙ ap (λ t. option_and_then (λ (next : List Cell × Glyph). cells_from next.0 (Some next.1) (marks ++ codes)) (option_map (λ x. (front, x)) (if t then Some (with_mark g mark) else None))) room
+    ∙ marks-read front codes marks (with_mark g mark) h.1 (omega (arith, few))
 
 filled : (base width : ℕ) (done marks places rest : List ℕ) → length places ≡ length marks
     → with_marks (glyph_with base width (done ++ (places ++ rest)) (length done)) marks ≡ glyph_with base width (done ++ (marks ++ rest)) (length done + length marks)

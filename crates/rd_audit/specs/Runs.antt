@@ -5,6 +5,7 @@ use Rattle.rd_base.specs.declared.cell.Cell.{Cell}
 use Rattle.rd_base.specs.declared.cell.Cell.TheVariants.{Blank, First, Rest}
 use Rattle.rd_term.specs.Pens.{is_rendition, dressed}
 use Rattle.rd_term.specs.Pictures.{blank}
+use Rattle.rd_update.specs.Updates.{is_rest}
 use Rattle.rd_audit.specs.Cuts.{cut, pieces}
 use Rattle.rd_audit.specs.Numbers.{number_of, both}
 use Rattle.rd_audit.specs.declared.run.SaidFaceRun.{SaidFaceRun}
@@ -43,12 +44,8 @@ abbrev pub run_of : List ℕ → Option SaidFaceRun
 run_of bytes = option_and_then (λ parts. run_by (span_of parts.0) (face_of parts.1)) (cut 58 bytes)
 
 -- whether no character goes on in a column from the one before
-abbrev pub is_later : Cell → Bool
-is_later Rest = true
-is_later cell = false
-
 abbrev pub is_edge : List Cell → ℕ → Bool
-is_edge cells column = not (is_later (slice_index_or cells column blank))
+is_edge cells column = not (is_rest (slice_index_or cells column blank))
 
 -- whether a run stands in a row, from this column on, and cuts no character
 abbrev pub fits : ℕ → List Cell → SaidFaceRun → Bool

@@ -1,7 +1,7 @@
 -- The cells of a text.
-use Rattle.std.specs.Prelude.{ℕ, zero, suc, ◌+◌, nat_lt, if◌then◌else◌, List, [], ◌∷◌, ◌++◌, Option, None, Some, option_map, option_and_then, slice_set}
+use Rattle.std.specs.Prelude.{ℕ, zero, suc, ◌+◌, List, [], ◌∷◌, ◌++◌, Option, None, Some, option_map, option_and_then}
 use Rattle.std.specs.Str.{chars, is_utf8}
-use Rattle.rd_base.specs.Cells.{single}
+use Rattle.rd_base.specs.Cells.{single, joined_glyph}
 use Rattle.rd_base.specs.Faces.{plain}
 use Rattle.rd_base.specs.Glyphs.{glyph_cells}
 use Rattle.rd_base.specs.declared.cell.Glyph.{Glyph}
@@ -12,10 +12,6 @@ use Rattle.rd_term.specs.Characters.{columns_of}
 abbrev pub cells_of : Option Glyph → List Cell
 cells_of None = []
 cells_of (Some g) = glyph_cells g.width g plain
-
--- a glyph with one more mark, where it has fewer than six
-abbrev pub joined_glyph : Glyph → ℕ → Option Glyph
-joined_glyph g code = if nat_lt g.count 6 then Some (record g { marks = slice_set g.marks g.count code; count = g.count + 1 }) else None
 
 -- One more character behind cells and a glyph that may be joined yet: the cells before the glyph that may be joined then, and that
 -- glyph. A character of no column joins the glyph, and does not come first. A control has no columns, and is no character of a text.

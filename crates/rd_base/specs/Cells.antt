@@ -1,5 +1,5 @@
 -- Glyphs and cells, and the words that tell cells apart.
-use Rattle.std.specs.Prelude.{◌≡◌, ℕ, ◌+◌, ◌*◌, ◌%◌, ◌<◌, ◌≤◌, Bool, if◌then◌else◌, List, [], ◌∷◌, length, All, replicate, slice_index}
+use Rattle.std.specs.Prelude.{◌≡◌, ℕ, ◌+◌, ◌*◌, ◌%◌, ◌<◌, ◌≤◌, Bool, if◌then◌else◌, List, [], ◌∷◌, length, All, replicate, slice_index, slice_set, nat_lt, Option, None, Some}
 use Rattle.rd_base.specs.Faces.{Attributes}
 use Rattle.rd_base.specs.declared.cell.Glyph.{Glyph}
 use Rattle.rd_base.specs.declared.cell.Cell.{Cell}
@@ -8,6 +8,20 @@ use Rattle.rd_base.specs.declared.cell.Cell.TheVariants.{Blank, First, Rest}
 -- a character without marks
 abbrev pub single : ℕ → ℕ → Glyph
 single base width = record { base = base; marks = replicate 6 0; count = 0; width = width }
+
+-- a glyph with one more mark
+abbrev pub with_mark : Glyph → ℕ → Glyph
+with_mark g code = record g { marks = slice_set g.marks g.count code; count = g.count + 1 }
+
+-- the same, where it has fewer than six
+abbrev pub joined_glyph : Glyph → ℕ → Option Glyph
+joined_glyph g code = if nat_lt g.count 6 then Some (with_mark g code) else None
+
+-- the face of a cell behind one of this face: a later column of a glyph has that of its first
+abbrev pub face_after : Attributes → Cell → Attributes
+face_after before (Blank face) = face
+face_after before (First g face) = face
+face_after before Rest = before
 
 abbrev pub bit_of : Bool → ℕ
 bit_of b = if b then 1 else 0

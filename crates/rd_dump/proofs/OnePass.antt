@@ -4,9 +4,10 @@ use Rattle.std.proofs.lemmas.Bool.{cond-true, cond-false}
 use Rattle.rd_base.specs.Faces.{Attributes, plain}
 use Rattle.rd_base.specs.Equals.{same_face}
 use Rattle.rd_base.proofs.Equals.{face-told, face-itself}
-use Rattle.rd_dump.specs.Dumps.{with_columns, runs_of, run_text, runs_text, ended_text, faces_of, face_after, pieces, numbers_text, number_text, numbers_behind, rows_text, row_line}
+use Rattle.rd_dump.specs.Dumps.{with_columns, runs_of, run_text, runs_text, ended_text, faces_of, pieces, numbers_text, number_text, numbers_behind, rows_text, row_line}
 use Rattle.std.proofs.Math.Seq.{drop-cons}
 use Rattle.std.specs.Result.{IsErr}
+use Rattle.rd_base.specs.Cells.{face_after}
 use Rattle.rd_dump.specs.Prints.{Prints}
 use Rattle.rd_dump.proofs.Writing.{Going, going-stop}
 use Rattle.rd_base.specs.declared.cell.Cell.{Cell}

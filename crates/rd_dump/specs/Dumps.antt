@@ -2,6 +2,7 @@
 use Rattle.std.specs.Prelude.{ℕ, ◌+◌, ◌-◌, ◌==◌, ◌||◌, Bool, false, if◌then◌else◌, List, [], ◌∷◌, ◌++◌, Option, None, Some, is_some, codes}
 use Rattle.std.specs.Fmt.{decimal}
 use Rattle.std.specs.List.{flat_map}
+use Rattle.rd_base.specs.Cells.{face_after}
 use Rattle.rd_base.specs.Equals.{same_face}
 use Rattle.rd_base.specs.Faces.{Attributes, plain}
 use Rattle.rd_base.specs.Glyphs.{glyph_bytes}
@@ -61,12 +62,6 @@ abbrev pub cells_text : List Cell → List ℕ
 cells_text cells = flat_map cell_text cells
 
 -- ---- the runs of faces
-
--- the face of a cell behind one of this face: a later column of a glyph has that of its first
-abbrev pub face_after : Attributes → Cell → Attributes
-face_after before (Blank face) = face
-face_after before (First g face) = face
-face_after before Rest = before
 
 -- the faces of cells, of which the first stands behind one of this face
 abbrev pub faces_of : Attributes → List Cell → List Attributes

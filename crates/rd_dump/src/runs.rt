@@ -1,7 +1,8 @@
 //! The runs of cells of one face in a row.
 ghost use Rattle.std.specs.Prelude.{◌≡◌, ◌-◌, ◌<◌, IfOk, if◌then◌else◌, ◌||◌, is_some};
+ghost use Rattle.rd_base.specs.Cells.{face_after};
 ghost use Rattle.rd_base.specs.Equals.{same_face};
-ghost use Rattle.rd_dump.specs.Dumps.{face_after, runs_of_row, run_text, ended_text, numbers_text, number_text, numbers_of_face, flag_number, colour_number};
+ghost use Rattle.rd_dump.specs.Dumps.{runs_of_row, run_text, ended_text, numbers_text, number_text, numbers_of_face, flag_number, colour_number};
 ghost use Rattle.rd_dump.specs.Prints.{Prints};
 
 use crate::print::{Token, print_tokens};

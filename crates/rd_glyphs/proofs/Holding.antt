@@ -1,6 +1,7 @@
 -- Reading a plain line with one glyph held gives what its parts give where marks have joined.
 use Rattle.std.proofs.Common.{◌≡◌, ℕ, ◌++◌, Bool, true, false, List, [], ◌∷◌, map, Option, Some, None, option_map, refl, ap, ◌∙◌, unwrap_or}
 use Rattle.std.specs.Prelude.{nat_lt, is_some, if◌then◌else◌}
+use Rattle.rd_base.specs.Cells.{with_mark}
 use Rattle.rd_base.specs.declared.cell.Glyph.{Glyph}
 use Rattle.rd_base.specs.declared.element.Look.{Look}
 use Rattle.rd_base.specs.declared.element.Look.TheVariants as look
@@ -10,7 +11,7 @@ use Rattle.rd_glyphs.specs.declared.joining.Joining.TheVariants.{Base}
 use Rattle.rd_glyphs.specs.declared.shown.Shown.{Shown}
 use Rattle.rd_glyphs.specs.declared.shown.Shown.TheVariants.{Caret, Octal, Space, Mark, Itself}
 use Rattle.rd_glyphs.specs.Characters.{shown_as, on_blank}
-use Rattle.rd_glyphs.specs.Joining.{base_of, mark_of, with_mark}
+use Rattle.rd_glyphs.specs.Joining.{base_of, mark_of}
 use Rattle.rd_glyphs.specs.Marks.{marked_glyph, marks_joined_from, marks_joined, with_held}
 use Rattle.rd_glyphs.specs.Lines.{PlainPart, part_of, plain_part, plain_joins, looks_of_parts, plain_looks}
 use Rattle.rd_glyphs.specs.Held.{given, held_after, looks_from}

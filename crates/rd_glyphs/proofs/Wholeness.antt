@@ -7,7 +7,7 @@ use Rattle.std.proofs.lemmas.List.{length-replicate}
 use Rattle.std.proofs.lemmas.List.Elements.{All-append, All-nil, All-cons, All-replicate, All-from_recursion, recursion_from_All}
 use Rattle.unicode_width.specs.Width.{char_width}
 use Rattle.rd_base.specs.Chars.{is_scalar, is_code}
-use Rattle.rd_base.specs.Cells.{single, HasColours, IsColoured}
+use Rattle.rd_base.specs.Cells.{single, HasColours, IsColoured, with_mark, joined_glyph}
 use Rattle.rd_base.specs.Faces.{Attributes}
 use Rattle.rd_base.specs.Glyphs.{is_space, blanks, IsMeasured, IsMeasuredLook, IsRowAfter}
 use Rattle.rd_base.proofs.Colours.{blanks-coloured}
@@ -24,7 +24,7 @@ use Rattle.rd_glyphs.specs.declared.joining.Joining.TheVariants as joining
 use Rattle.rd_glyphs.specs.declared.shown.Shown.{Shown}
 use Rattle.rd_glyphs.specs.declared.shown.Shown.TheVariants.{Caret, Octal, Space, Mark, Itself}
 use Rattle.rd_glyphs.specs.Characters.{PartValues, TakesColumns, ShowsColumns, shown_as, look_columns, entry_of}
-use Rattle.rd_glyphs.specs.Joining.{joining_by, joining_of, base_of, mark_of, with_mark, joined_glyph, IsMark, IsMeasuredJoining}
+use Rattle.rd_glyphs.specs.Joining.{joining_by, joining_of, base_of, mark_of, IsMark, IsMeasuredJoining}
 use Rattle.rd_glyphs.specs.Marks.{marked_glyph, marks_joined}
 use Rattle.rd_glyphs.specs.Lines.{PlainPart, part_of, plain_part, plain_joins, looks_of_parts, plain_looks, cells_of, fitted, plain_cells}
 use Rattle.rd_glyphs.proofs.Columns.{cell_count}

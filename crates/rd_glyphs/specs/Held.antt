@@ -1,7 +1,7 @@
 -- How the code reads a plain line: character by character, with one glyph held for the marks behind it. These are its steps, and no
 -- part of what a plain line is.
 use Rattle.std.specs.Prelude.{ℕ, ◌≤◌, nat_lt, Bool, true, false, if◌then◌else◌, List, [], ◌∷◌, ◌++◌, Option, None, Some}
-use Rattle.rd_base.specs.Cells.{single}
+use Rattle.rd_base.specs.Cells.{single, with_mark}
 use Rattle.rd_base.specs.declared.cell.Glyph.{Glyph}
 use Rattle.rd_base.specs.declared.element.Look.{Look}
 use Rattle.rd_base.specs.declared.element.Look.TheVariants as look
@@ -10,7 +10,6 @@ use Rattle.rd_ucd.specs.Lookup.{class_of}
 use Rattle.rd_glyphs.specs.declared.shown.Shown.{Shown}
 use Rattle.rd_glyphs.specs.declared.shown.Shown.TheVariants.{Mark, Itself}
 use Rattle.rd_glyphs.specs.Characters.{shown_as, looks_of, on_blank}
-use Rattle.rd_glyphs.specs.Joining.{with_mark}
 use Rattle.rd_glyphs.specs.Lines.{columns_of_looks}
 
 -- the look of a glyph that is held

@@ -1,5 +1,5 @@
 -- How characters stand towards marks.
-use Rattle.std.specs.Prelude.{◌≡◌, ℕ, ◌+◌, nat_lt, Bool, true, false, IsTrue, if◌then◌else◌, List, [], ◌∷◌, slice_set, Option, None, Some}
+use Rattle.std.specs.Prelude.{◌≡◌, ℕ, Bool, true, false, IsTrue, List, [], ◌∷◌, Option, None, Some}
 use Rattle.unicode_width.specs.Width.{char_width}
 use Rattle.rd_base.specs.Chars.{is_scalar}
 use Rattle.rd_base.specs.Cells.{single}
@@ -39,14 +39,6 @@ base_of j = None
 abbrev pub mark_of : Joining → Option ℕ
 mark_of (joining.Mark code) = Some code
 mark_of j = None
-
--- a glyph with one more mark
-abbrev pub with_mark : Glyph → ℕ → Glyph
-with_mark g code = record g { marks = slice_set g.marks g.count code; count = g.count + 1 }
-
--- the glyph with one more mark, unless it has six
-abbrev pub joined_glyph : Glyph → ℕ → Option Glyph
-joined_glyph g code = if nat_lt g.count 6 then Some (with_mark g code) else None
 
 -- a mark: a scalar value of no columns
 abbrev pub IsMark : ℕ → Type 0

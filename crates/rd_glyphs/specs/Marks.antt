@@ -1,8 +1,8 @@
 -- How marks join what stands directly before them, in any list of things that may join.
 use Rattle.std.specs.Prelude.{ℕ, is_some, if◌then◌else◌, List, [], ◌∷◌, ◌++◌, Option, None, Some, option_map}
 use Rattle.std.specs.Option.{unwrap_or}
+use Rattle.rd_base.specs.Cells.{joined_glyph}
 use Rattle.rd_base.specs.declared.cell.Glyph.{Glyph}
-use Rattle.rd_glyphs.specs.Joining.{joined_glyph}
 
 -- what is asked of a thing: the glyph that marks may join, the mark that it is itself, and how it stands with this longer glyph
 -- when the thing behind it joined it

@@ -1,7 +1,8 @@
 //! How characters stand towards marks.
 ghost use Rattle.std.specs.Prelude.{◌≡◌, None, IfSome};
+ghost use Rattle.rd_base.specs.Cells.{joined_glyph};
 ghost use Rattle.rd_base.specs.Glyphs.{IsMeasured};
-ghost use Rattle.rd_glyphs.specs.Joining.{joined_glyph, joining_by, IsMark};
+ghost use Rattle.rd_glyphs.specs.Joining.{joining_by, IsMark};
 
 use crate::parts::Parts;
 use crate::shown::{Shown, shown_as};

@@ -12,7 +12,7 @@ ghost use Rattle.rd_ucd.specs.declared.spans.Span.{Span};
 ghost use Rattle.rd_objects.specs.Tables.{is_glyph_text};
 ghost use Rattle.rd_glyphs.specs.declared.joining.Joining.{Joining};
 ghost use Rattle.rd_glyphs.specs.Characters.{PartValues, AreSoundParts, HasOrigin, IsShort, elements_of, entry_of, glyph_elements, on_blank};
-ghost use Rattle.rd_glyphs.specs.Joining.{is_empty_entry, joining_of, base_of, mark_of, joined_glyph, IsMark, IsMeasuredJoining};
+ghost use Rattle.rd_glyphs.specs.Joining.{is_empty_entry, joining_of, base_of, mark_of, IsMark, IsMeasuredJoining};
 ghost use Rattle.rd_glyphs.specs.Marks.{marked_glyph};
 ghost use Rattle.rd_glyphs.specs.Lines.{plain_cells};
 

@@ -1,7 +1,7 @@
 -- The terminal: a function from what it is and the bytes that it reads to what it then is.
 use Rattle.std.specs.Prelude.{◌≡◌, ℕ, zero, suc, ◌+◌, ◌-◌, ◌<◌, ◌≤◌, ◌==◌, nat_lt, nat_le, min, Bool, true, false, if◌then◌else◌, ◌&&◌, ◌||◌, not, List, [], ◌∷◌, length, replicate, map, Option, None, Some, IfSome, slice_set, slice_index_or}
 use Rattle.rd_base.specs.declared.limits.TheConstants.{FRAME_COLUMNS, FRAME_ROWS}
-use Rattle.rd_base.specs.Cells.{single}
+use Rattle.rd_base.specs.Cells.{single, with_mark}
 use Rattle.rd_base.specs.Faces.{Attributes}
 use Rattle.rd_base.specs.Glyphs.{glyph_cells}
 use Rattle.rd_base.specs.declared.cell.Glyph.{Glyph}
@@ -149,17 +149,15 @@ put code columns (Some face) (Some place) t =
 put code columns (Some face) None t = confuse t
 put code columns None place t = confuse t
 
--- a glyph with one more mark, where it has fewer than six
-abbrev pub with_mark : ℕ → Glyph → Attributes → Option Cell
-with_mark code g face =
-    if nat_lt g.count 6 then Some (First (record g { marks = slice_set g.marks g.count code; count = g.count + 1 }) face)
-    else None
+-- the cell of a glyph with one more mark, where it has fewer than six
+abbrev pub joined_cell : ℕ → Glyph → Attributes → Option Cell
+joined_cell code g face = if nat_lt g.count 6 then Some (First (with_mark g code) face) else None
 
 -- a cell with one more mark: a blank counts as a space
 abbrev pub marked : ℕ → Option Cell → Option Cell
 marked code None = None
-marked code (Some (Blank face)) = with_mark code (single 32 1) face
-marked code (Some (First g face)) = with_mark code g face
+marked code (Some (Blank face)) = joined_cell code (single 32 1) face
+marked code (Some (First g face)) = joined_cell code g face
 marked code (Some Rest) = None
 
 -- a character of no column joins the one put directly before it

@@ -3,7 +3,7 @@ ghost use Rattle.std.specs.Prelude.{◌≡◌, ◌+◌, ◌<◌, ◌≤◌, nat_
 ghost use Rattle.rd_base.specs.Cells.{single};
 ghost use Rattle.rd_term.specs.Characters.{columns_of};
 ghost use Rattle.rd_term.specs.Pictures.{width_of, row_at};
-ghost use Rattle.rd_term.specs.Terminals.{put, put_at, join_mark, join_mark_into, marked, with_mark, show};
+ghost use Rattle.rd_term.specs.Terminals.{put, put_at, join_mark, join_mark_into, marked, joined_cell, show};
 
 use crate::character::columns_of;
 use crate::overwriting::put_character;
@@ -95,15 +95,15 @@ fn marked(cell: &Option<Cell>, code: u32) -> Option<Cell>
     ensures { result ≡ marked code cell.now }
 {
     match cell {
-        Some(Cell::Blank(face)) => with_mark(&Glyph::single(32, 1), code, *face),
-        Some(Cell::First(glyph, face)) => with_mark(glyph, code, *face),
+        Some(Cell::Blank(face)) => joined_cell(&Glyph::single(32, 1), code, *face),
+        Some(Cell::First(glyph, face)) => joined_cell(glyph, code, *face),
         _ => None,
     }
 }
 
 /// The cell of a glyph with one more mark, where it has fewer than six.
-fn with_mark(glyph: &Glyph, code: u32, face: Face) -> Option<Cell>
-    ensures { result ≡ with_mark code glyph.now face }
+fn joined_cell(glyph: &Glyph, code: u32, face: Face) -> Option<Cell>
+    ensures { result ≡ joined_cell code glyph.now face }
 {
     if glyph.count >= 6 {
         return None;

@@ -9,14 +9,14 @@ use Rattle.std.proofs.lemmas.List.Elements.{recursion_from_All, All-from_recursi
 use Rattle.rd_base.proofs.Lists.{all-front, all-back, get-first, get-second}
 use Rattle.rd_base.proofs.Rows.{behind-whole}
 use Rattle.rd_base.specs.declared.cell.Cell.{Cell}
-use Rattle.rd_base.specs.Cells.{IsColoured, AreColoured}
+use Rattle.rd_base.specs.Cells.{IsColoured, AreColoured, bit_of}
 use Rattle.rd_base.specs.Glyphs.{IsRowAfter}
 use Rattle.rd_tree.specs.declared.rect.Rect.{Rect}
 use Rattle.rd_tree.specs.declared.side.Side.{Side}
 use Rattle.rd_tree.specs.declared.side.Side.TheVariants.{Below, Right}
 use Rattle.rd_tree.specs.declared.placed.Placed.{Placed}
 use Rattle.rd_tree.specs.Windows.{Windows, Window, Split, HasRoom, first_part, second_part, placed}
-use Rattle.rd_tree.specs.Places.{is_from, lies_in, one_if, windows_with, IsWithin}
+use Rattle.rd_tree.specs.Places.{is_from, lies_in, windows_with, IsWithin}
 use Rattle.rd_tree.specs.Compositions.{beside, composed, row_at, cell_at, HasSize, FillTheirRectangles, IsHeld}
 use Rattle.rd_tree.proofs.Rooms.{room_within}
 use Rattle.rd_tree.proofs.Listing.{in_one}
@@ -190,7 +190,7 @@ some_holds column row (window ∷ windows) p =
 
 pub composed-held : (windows : Windows) (rect : Rect) (column row : ℕ) → HasRoom windows rect → lies_in column row rect ≡ true → IsHeld column row (placed windows rect)
 composed-held windows rect column row h l =
-    let once : one_if (lies_in column row rect) ≡ 1 = rw l refl in
+    let once : bit_of (lies_in column row rect) ≡ 1 = rw l refl in
     some_holds column row (placed windows rect) (omega (arith, one_window windows rect h column row))
 
 -- what holds of rows that stand beside each other where it holds of both holds of the frame's rows where it holds of the windows'

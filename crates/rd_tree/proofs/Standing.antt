@@ -6,48 +6,49 @@ use Rattle.std.proofs.Math.Bool.{or_assoc, or-false}
 use Rattle.std.proofs.lemmas.Bool.Decides.{nat_tests}
 use Rattle.std.proofs.lemmas.List.{map-append}
 use Rattle.std.specs.Option.{option_or}
+use Rattle.rd_base.specs.Cells.{bit_of}
 use Rattle.rd_tree.specs.declared.rect.Rect.{Rect}
 use Rattle.rd_tree.specs.declared.side.Side.{Side}
 use Rattle.rd_tree.specs.declared.side.Side.TheVariants.{Below, Right}
 use Rattle.rd_tree.specs.declared.placed.Placed.{Placed}
 use Rattle.rd_tree.specs.Windows.{Windows, Window, Split, first_part, second_part, HasRoom, first_size, resized, leaves, placed, of_number, window_at, holds, replaced, is_leaf_of, is_single, sibling, removed, times}
 use Rattle.rd_tree.specs.Calls.{Configuration, IsValid, frame_of, rect_of_placed}
-use Rattle.rd_tree.specs.Places.{is_from, lies_in, one_if, windows_with, AllHaveRoom, in_place_of, without, is_among, IsWithin, StandsIn, LiesIn}
+use Rattle.rd_tree.specs.Places.{is_from, lies_in, windows_with, AllHaveRoom, in_place_of, without, is_among, IsWithin, StandsIn, LiesIn}
 use Rattle.rd_tree.proofs.Rooms.{rows_for-some, room_needs, room_within, of_number-append}
 use Rattle.rd_tree.proofs.Keeping.{found_held, found_in, not_single}
 
 -- a place in a range that is cut is in one of the two parts
-is_from-cut : (first size whole place : ℕ) → size ≤ whole → one_if (is_from first size place) + one_if (is_from (first + size) (whole - size) place) ≡ one_if (is_from first whole place)
+is_from-cut : (first size whole place : ℕ) → size ≤ whole → bit_of (is_from first size place) + bit_of (is_from (first + size) (whole - size) place) ≡ bit_of (is_from first whole place)
 is_from-cut first size whole place h = grind (arith, nat_tests)
 
-one_if-and : (a b c other : Bool) → one_if a + one_if b ≡ one_if c → one_if (a && other) + one_if (b && other) ≡ one_if (c && other)
-one_if-and true true true true e = e
-one_if-and true true true false e = refl
-one_if-and true true false true e = e
-one_if-and true true false false e = refl
-one_if-and true false true true e = e
-one_if-and true false true false e = refl
-one_if-and true false false true e = e
-one_if-and true false false false e = refl
-one_if-and false true true true e = e
-one_if-and false true true false e = refl
-one_if-and false true false true e = e
-one_if-and false true false false e = refl
-one_if-and false false true true e = e
-one_if-and false false true false e = refl
-one_if-and false false false true e = e
-one_if-and false false false false e = refl
+bit_of-and : (a b c other : Bool) → bit_of a + bit_of b ≡ bit_of c → bit_of (a && other) + bit_of (b && other) ≡ bit_of (c && other)
+bit_of-and true true true true e = e
+bit_of-and true true true false e = refl
+bit_of-and true true false true e = e
+bit_of-and true true false false e = refl
+bit_of-and true false true true e = e
+bit_of-and true false true false e = refl
+bit_of-and true false false true e = e
+bit_of-and true false false false e = refl
+bit_of-and false true true true e = e
+bit_of-and false true true false e = refl
+bit_of-and false true false true e = e
+bit_of-and false true false false e = refl
+bit_of-and false false true true e = e
+bit_of-and false false true false e = refl
+bit_of-and false false false true e = e
+bit_of-and false false false false e = refl
 
-and_one_if : (other a b c : Bool) → one_if a + one_if b ≡ one_if c → one_if (other && a) + one_if (other && b) ≡ one_if (other && c)
-and_one_if true a b c e = e
-and_one_if false a b c e = refl
+and_bit_of : (other a b c : Bool) → bit_of a + bit_of b ≡ bit_of c → bit_of (other && a) + bit_of (other && b) ≡ bit_of (other && c)
+and_bit_of true a b c e = e
+and_bit_of false a b c e = refl
 
-parts_hold : (column row : ℕ) (side : Side) (size : ℕ) (first second : Windows) (rect : Rect) → HasRoom (Split side size first second) rect → one_if (lies_in column row (first_part side size rect)) + one_if (lies_in column row (second_part side size rect)) ≡ one_if (lies_in column row rect)
+parts_hold : (column row : ℕ) (side : Side) (size : ℕ) (first second : Windows) (rect : Rect) → HasRoom (Split side size first second) rect → bit_of (lies_in column row (first_part side size rect)) + bit_of (lies_in column row (second_part side size rect)) ≡ bit_of (lies_in column row rect)
 parts_hold column row Right size first second rect h =
-    one_if-and (is_from rect.x size column) (is_from (rect.x + size) (rect.width - size) column) (is_from rect.x rect.width column) (is_from rect.y rect.height row)
+    bit_of-and (is_from rect.x size column) (is_from (rect.x + size) (rect.width - size) column) (is_from rect.x rect.width column) (is_from rect.y rect.height row)
     (is_from-cut rect.x size rect.width column (room_within Right size first second rect h))
 parts_hold column row Below size first second rect h =
-    and_one_if (is_from rect.x rect.width column) (is_from rect.y size row) (is_from (rect.y + size) (rect.height - size) row) (is_from rect.y rect.height row)
+    and_bit_of (is_from rect.x rect.width column) (is_from rect.y size row) (is_from (rect.y + size) (rect.height - size) row) (is_from rect.y rect.height row)
     (is_from-cut rect.y size rect.height row (room_within Below size first second rect h))
 
 windows_with-append : (column row : ℕ) (xs ys : List Placed) → windows_with column row (xs ++ ys) ≡ windows_with column row xs + windows_with column row ys
@@ -55,7 +56,7 @@ windows_with-append column row [] ys = omega arith
 windows_with-append column row (window ∷ xs) ys = omega (arith, windows_with-append column row xs ys)
 
 -- each cell of the rectangle lies in one window, and no other cell does
-pub one_window : (windows : Windows) (rect : Rect) → HasRoom windows rect → (column row : ℕ) → windows_with column row (placed windows rect) ≡ one_if (lies_in column row rect)
+pub one_window : (windows : Windows) (rect : Rect) → HasRoom windows rect → (column row : ℕ) → windows_with column row (placed windows rect) ≡ bit_of (lies_in column row rect)
 one_window (Window number mode margins) rect h column row = omega arith
 one_window (Split side size first second) rect h column row =
     let a = first_part side size rect in

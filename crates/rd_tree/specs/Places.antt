@@ -1,5 +1,6 @@
 -- Where windows stand: what the laws of a window tree speak of.
 use Rattle.std.specs.Prelude.{ℕ, ◌+◌, ◌≤◌, Bool, false, if◌then◌else◌, nat_le, nat_lt, ◌==◌, ◌&&◌, ◌||◌, List, [], ◌∷◌, ◌++◌, Option, None, Some}
+use Rattle.rd_base.specs.Cells.{bit_of}
 use Rattle.rd_base.specs.declared.limits.TheConstants.{FRAME_COLUMNS, FRAME_ROWS, LEAST_WINDOW_COLUMNS}
 use Rattle.rd_tree.specs.declared.rect.Rect.{Rect}
 use Rattle.rd_tree.specs.declared.placed.Placed.{Placed}
@@ -13,13 +14,10 @@ is_from first size place = nat_le first place && nat_lt place (first + size)
 abbrev pub lies_in : ℕ → ℕ → Rect → Bool
 lies_in column row rect = is_from rect.x rect.width column && is_from rect.y rect.height row
 
-abbrev pub one_if : Bool → ℕ
-one_if test = if test then 1 else 0
-
 -- in how many of the windows a cell lies
 abbrev pub windows_with : ℕ → ℕ → List Placed → ℕ
 windows_with column row [] = 0
-windows_with column row (window ∷ windows) = one_if (lies_in column row window.rect) + windows_with column row windows
+windows_with column row (window ∷ windows) = bit_of (lies_in column row window.rect) + windows_with column row windows
 
 -- each window has the columns and rows that it needs
 abbrev pub AllHaveRoom : List Placed → Type 0

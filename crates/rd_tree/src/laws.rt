@@ -1,6 +1,6 @@
 //! Laws of the definitions, for the layers above.
 ghost use Rattle.std.specs.Prelude.{ℕ, ◌≡◌, ◌==◌, ◌≤◌, Bool, true, false, ◌-◌, map, is_some, slice_get, Some, Ok, List, All};
-ghost use Rattle.rd_base.specs.Cells.{AreColoured};
+ghost use Rattle.rd_base.specs.Cells.{AreColoured, bit_of};
 ghost use Rattle.rd_base.specs.Glyphs.{IsRowAfter};
 ghost use Rattle.rd_base.specs.declared.cell.Cell.{Cell};
 ghost use Rattle.rd_tree.specs.declared.placed.Placed.{Placed};
@@ -9,7 +9,7 @@ ghost use Rattle.rd_tree.specs.declared.side.Side.{Side};
 ghost use Rattle.rd_tree.specs.Windows.{Windows, Window, HasRoom, NeedsMet, fits, placed, leaves, window_at, holds, halves, split_at, with_mode, with_margins, is_single, sibling, removed, resized, times};
 ghost use Rattle.rd_tree.specs.Calls.{Configuration, IsValid, opening, split_tree, remove_tree, resize_tree, mode_tree, margins_tree};
 ghost use Rattle.rd_tree.specs.Compositions.{composed, cell_at, HasSize, FillTheirRectangles, IsHeld};
-ghost use Rattle.rd_tree.specs.Places.{lies_in, windows_with, one_if, AllHaveRoom, StandsIn, in_place_of, without, is_among, shared_place};
+ghost use Rattle.rd_tree.specs.Places.{lies_in, windows_with, AllHaveRoom, StandsIn, in_place_of, without, is_among, shared_place};
 
 use rd_base::limits::{FRAME_COLUMNS, FRAME_ROWS, LEAST_WINDOW_COLUMNS};
 
@@ -27,7 +27,7 @@ pub fn calls_keep_trees()
 /// Each window lies in the rectangle and has the columns and rows that it needs. The leaves are the windows' numbers in order, a window is
 /// found exactly where its number is among them, and it is the one in its leaf's place. The call does nothing.
 pub fn windows_tile_their_rectangle()
-    ensures cells { (windows : Windows) (rect : Rect) → HasRoom windows rect → (column row : ℕ) → windows_with column row (placed windows rect) ≡ one_if (lies_in column row rect) }
+    ensures cells { (windows : Windows) (rect : Rect) → HasRoom windows rect → (column row : ℕ) → windows_with column row (placed windows rect) ≡ bit_of (lies_in column row rect) }
     ensures room { (windows : Windows) (rect : Rect) → HasRoom windows rect → AllHaveRoom (placed windows rect) }
     ensures inside { (number : ℕ) (windows : Windows) (rect : Rect) (window : Placed) → HasRoom windows rect → window_at number windows rect ≡ Some window → StandsIn window rect }
     ensures listed { (windows : Windows) (rect : Rect) → map (λ window. window.number) (placed windows rect) ≡ leaves windows }

@@ -2,6 +2,7 @@
 use Rattle.std.specs.Prelude.{ℕ, zero, suc, ◌+◌, ◌-◌, ◌==◌, nat_lt, nat_le, min, max, Bool, true, false, if◌then◌else◌, ◌||◌, not, List, [], ◌∷◌, ◌++◌, length, take, drop, map, Option, None, Some, slice_index_or}
 use Rattle.std.specs.Fmt.{decimal}
 use Rattle.std.specs.List.{flat_map}
+use Rattle.rd_base.specs.Cells.{face_after}
 use Rattle.rd_base.specs.Equals.{same_face, same_cell}
 use Rattle.rd_base.specs.Faces.{Attributes, plain}
 use Rattle.rd_base.specs.Glyphs.{glyph_bytes}
@@ -111,20 +112,14 @@ text_of_cell pen (Blank f) = dress pen f ++ 32 ∷ []
 text_of_cell pen (First g f) = dress pen f ++ glyph_bytes g
 text_of_cell pen Rest = []
 
--- the pen's face behind it
-abbrev pub face_of : Attributes → Cell → Attributes
-face_of pen (Blank f) = f
-face_of pen (First g f) = f
-face_of pen Rest = pen
-
 -- cells, and the pen's face behind them
 abbrev pub text_by : Attributes → List Cell → List ℕ
 text_by pen [] = []
-text_by pen (cell ∷ cells) = text_of_cell pen cell ++ text_by (face_of pen cell) cells
+text_by pen (cell ∷ cells) = text_of_cell pen cell ++ text_by (face_after pen cell) cells
 
 abbrev pub pen_behind : Attributes → List Cell → Attributes
 pen_behind pen [] = pen
-pen_behind pen (cell ∷ cells) = pen_behind (face_of pen cell) cells
+pen_behind pen (cell ∷ cells) = pen_behind (face_after pen cell) cells
 
 -- A row that differs: the cells of the interval are sent by a pen that is plain before and behind them, but what is blank and
 -- plain to the row's end is erased in one where a part of it lies in the interval.

@@ -1,10 +1,11 @@
 //! The bytes of moves, cells and rows.
 ghost use Rattle.std.specs.Prelude.{◌≡◌, ◌<◌, ◌++◌, length, OnOk, IfOk};
 ghost use Rattle.std.specs.List.{flat_map};
+ghost use Rattle.rd_base.specs.Cells.{face_after};
 ghost use Rattle.rd_base.specs.Faces.{plain};
 ghost use Rattle.rd_base.specs.Chars.{encoded};
 ghost use Rattle.rd_base.specs.Glyphs.{glyph_bytes};
-ghost use Rattle.rd_update.specs.Updates.{move as move_bytes, renditions, number_if, parameter, dress, text_of_cell, face_of, text_by, pen_behind, row_bytes, first_difference as first_column, end_of_differences as end_column};
+ghost use Rattle.rd_update.specs.Updates.{move as move_bytes, renditions, number_if, parameter, dress, text_of_cell, text_by, pen_behind, row_bytes, first_difference as first_column, end_of_differences as end_column};
 
 use crate::span::{Columns, interval, used};
 use itoa::Buffer;
@@ -68,7 +69,7 @@ fn push_text(bytes: &mut ListOf<u8>, cells: &[Cell]) -> Result<Face, Memory>
 /// Adds the text of a cell, by a pen of a face, and tells the face of the pen behind it.
 fn push_cell(bytes: &mut ListOf<u8>, pen: Face, cell: &Cell) -> Result<Face, Memory>
     ensures bytes { OnOk result (bytes.new ≡ bytes.old ++ text_of_cell pen cell.now) }
-    ensures pen { IfOk result (λ face. face ≡ face_of pen cell.now) }
+    ensures pen { IfOk result (λ face. face ≡ face_after pen cell.now) }
 {
     match cell {
         Cell::Blank(face) => {
