@@ -1,7 +1,7 @@
 //! What a terminal shows, compared with a dump.
 ghost use Rattle.std.specs.Prelude.{◌≡◌, ◌<◌, ◌≤◌, None, length, slice_index_or};
+ghost use Rattle.rd_base.specs.Cells.{row_at};
 ghost use Rattle.rd_base.specs.declared.limits.TheConstants.{FRAME_COLUMNS};
-ghost use Rattle.rd_term.specs.Pictures.{row_at};
 ghost use Rattle.rd_audit.specs.Results.{picture_in, IsShape};
 ghost use Rattle.rd_audit.specs.Verdicts.{is_known, other_column, other_place, IsAnswer};
 

@@ -1,5 +1,5 @@
 -- Glyphs and cells, and the words that tell cells apart.
-use Rattle.std.specs.Prelude.{◌≡◌, ℕ, ◌+◌, ◌*◌, ◌%◌, ◌<◌, ◌≤◌, Bool, if◌then◌else◌, List, [], ◌∷◌, length, All, replicate, slice_index, slice_set, nat_lt, Option, None, Some}
+use Rattle.std.specs.Prelude.{◌≡◌, ℕ, ◌+◌, ◌*◌, ◌%◌, ◌<◌, ◌≤◌, Bool, if◌then◌else◌, List, [], ◌∷◌, length, All, replicate, slice_index, slice_index_or, slice_set, nat_lt, Option, None, Some}
 use Rattle.rd_base.specs.Faces.{Attributes}
 use Rattle.rd_base.specs.declared.cell.Glyph.{Glyph}
 use Rattle.rd_base.specs.declared.cell.Cell.{Cell}
@@ -47,6 +47,10 @@ words_of (First g f) =
     ∷ packed (slice_index g.marks 1) (slice_index g.marks 2) (slice_index g.marks 3)
     ∷ packed (slice_index g.marks 4) (slice_index g.marks 5) 0
     ∷ []
+
+-- a row, counted from 0
+abbrev pub row_at : {A : Type 0} → List (List A) → ℕ → List A
+row_at rows row = slice_index_or rows row []
 
 -- a face's colours are in their range
 pub record HasColours (f : Attributes) : Type 0 where

@@ -21,6 +21,7 @@ use Rattle.rd_rows.specs.Laws.{ranges_of}
 use Rattle.rd_rows.specs.Placing.{is_item}
 use Rattle.rd_stack.specs.Lines.{item_elements_by, turn_elements, origin_of, item_elements, item_class, item_code, item_turns, line_of_items}
 use Rattle.rd_base.proofs.Lists.{all-at}
+use Rattle.rd_base.specs.Cells.{bit_of}
 use Rattle.rd_blocks.proofs.Origins.{AreOf, item-of}
 use Rattle.rd_blocks.proofs.Gives.{ItemsGive}
 
@@ -90,10 +91,7 @@ module _ (s : Scene) (base : ℕ) (q : ℕ × ℕ → Bool) where
   abbrev pub HasElements : Item → Type 0
   HasElements x = (odd : Bool) (origin : Origin) → q (range_of_item x) ≡ true → 1 ≤ length (item_elements_by s base x.kind x.overlay odd x.face origin)
 
-  abbrev one_if : Bool → ℕ
-  one_if b = cond b 1 0
-
-  none-hit : (b : Bool) (n : ℕ) → (b ≡ true → 1 ≤ n) → n ≡ 0 → one_if b ≡ 0
+  none-hit : (b : Bool) (n : ℕ) → (b ≡ true → 1 ≤ n) → n ≡ 0 → bit_of b ≡ 0
   none-hit true n h none = let one = h refl in absurd (omega (arith, one, none))
   none-hit false n h none = refl
 

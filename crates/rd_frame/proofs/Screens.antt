@@ -3,9 +3,10 @@ use Rattle.std.proofs.Common.{◌≡◌, ℕ, zero, suc, ◌+◌, ◌-◌, ◌<�
 use Rattle.std.specs.Prelude.{map, replicate, slice_get, if◌then◌else◌}
 use Rattle.std.specs.List.{AllByRecursion}
 use Rattle.std.proofs.lemmas.List.{append-nil, map-append, length-map, length-replicate, length-take-le, get_or-map, get_or-replicate, take_more}
+use Rattle.rd_base.specs.Cells.{row_at}
 use Rattle.rd_base.specs.declared.cell.Cell.{Cell}
 use Rattle.rd_matrix.specs.declared.matrix.Entry.{Entry}
-use Rattle.rd_term.specs.Pictures.{Picture, blank_row, row_at, width_of, with_cells}
+use Rattle.rd_term.specs.Pictures.{Picture, blank_row, width_of, with_cells}
 use Rattle.rd_tree.specs.declared.placed.Placed.{Placed}
 use Rattle.rd_frame.specs.Panes.{GlyphRow, PaneValues, body_width, body_height, row_cells, body_rows, bordered, window_rows}
 use Rattle.rd_frame.specs.Held.{glyph_rows}

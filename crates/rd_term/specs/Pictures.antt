@@ -1,5 +1,6 @@
 -- What a screen shows.
 use Rattle.std.specs.Prelude.{◌≡◌, ℕ, ◌+◌, ◌<◌, ◌≤◌, List, [], ◌∷◌, ◌++◌, length, take, drop, All, replicate, slice_index_or, slice_set}
+use Rattle.rd_base.specs.Cells.{row_at}
 use Rattle.rd_base.specs.declared.limits.TheConstants.{FRAME_COLUMNS, FRAME_ROWS}
 use Rattle.rd_base.specs.Faces.{plain}
 use Rattle.rd_base.specs.Glyphs.{IsRowAfter}
@@ -44,10 +45,7 @@ pub record IsScreen (picture : Picture) : Type 0 where
   pub wide : width_of picture.rows ≤ FRAME_COLUMNS
   pub tall : length picture.rows ≤ FRAME_ROWS
 
--- the row and the cell at a place
-abbrev pub row_at : {A : Type 0} → List (List A) → ℕ → List A
-row_at rows row = slice_index_or rows row []
-
+-- the cell at a place
 abbrev pub cell_at : List (List Cell) → ℕ → ℕ → Cell
 cell_at rows row column = slice_index_or (row_at rows row) column blank
 

@@ -1,8 +1,8 @@
 //! What a terminal does by a character.
 ghost use Rattle.std.specs.Prelude.{◌≡◌, ◌+◌, ◌<◌, ◌≤◌, nat_le, length, slice_index_or};
-ghost use Rattle.rd_base.specs.Cells.{single};
+ghost use Rattle.rd_base.specs.Cells.{single, row_at};
 ghost use Rattle.rd_term.specs.Characters.{columns_of};
-ghost use Rattle.rd_term.specs.Pictures.{width_of, row_at};
+ghost use Rattle.rd_term.specs.Pictures.{width_of};
 ghost use Rattle.rd_term.specs.Terminals.{put, put_at, join_mark, join_mark_into, marked, joined_cell, show};
 
 use crate::character::columns_of;

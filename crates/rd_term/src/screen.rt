@@ -1,6 +1,7 @@
 //! A screen of cells with a cursor.
 ghost use Rattle.std.specs.Prelude.{◌≡◌, ◌+◌, ◌<◌, ◌≤◌, IfOk, length, slice_set};
-ghost use Rattle.rd_term.specs.Pictures.{IsScreen, blank_picture, width_of, row_at, cell_at, with_cell, with_cells};
+ghost use Rattle.rd_base.specs.Cells.{row_at};
+ghost use Rattle.rd_term.specs.Pictures.{IsScreen, blank_picture, width_of, cell_at, with_cell, with_cells};
 
 use crate::cells::{ScreenRow, blank_rows};
 use rd_base::limits::{FRAME_COLUMNS, FRAME_ROWS};

@@ -9,7 +9,7 @@ use Rattle.std.proofs.lemmas.List.Elements.{recursion_from_All, All-from_recursi
 use Rattle.rd_base.proofs.Lists.{all-front, all-back, get-first, get-second}
 use Rattle.rd_base.proofs.Rows.{behind-whole}
 use Rattle.rd_base.specs.declared.cell.Cell.{Cell}
-use Rattle.rd_base.specs.Cells.{IsColoured, AreColoured, bit_of}
+use Rattle.rd_base.specs.Cells.{IsColoured, AreColoured, bit_of, row_at}
 use Rattle.rd_base.specs.Glyphs.{IsRowAfter}
 use Rattle.rd_tree.specs.declared.rect.Rect.{Rect}
 use Rattle.rd_tree.specs.declared.side.Side.{Side}
@@ -17,7 +17,7 @@ use Rattle.rd_tree.specs.declared.side.Side.TheVariants.{Below, Right}
 use Rattle.rd_tree.specs.declared.placed.Placed.{Placed}
 use Rattle.rd_tree.specs.Windows.{Windows, Window, Split, HasRoom, first_part, second_part, placed}
 use Rattle.rd_tree.specs.Places.{is_from, lies_in, windows_with, IsWithin}
-use Rattle.rd_tree.specs.Compositions.{beside, composed, row_at, cell_at, HasSize, FillTheirRectangles, IsHeld}
+use Rattle.rd_tree.specs.Compositions.{beside, composed, cell_at, HasSize, FillTheirRectangles, IsHeld}
 use Rattle.rd_tree.proofs.Rooms.{room_within}
 use Rattle.rd_tree.proofs.Listing.{in_one}
 use Rattle.rd_tree.proofs.Standing.{one_window, first_within, second_within}
@@ -28,7 +28,7 @@ beside-length [] rights e = refl
 beside-length (left ∷ lefts) [] e = absurd (omega arith)
 beside-length (left ∷ lefts) (right ∷ rights) e = ap (λ (n : ℕ). suc n) (beside-length lefts rights (omega arith))
 
-beside-row : {C : Type 0} (lefts rights : List (List C)) (row : ℕ) → length lefts ≡ length rights → row_at row (beside lefts rights) ≡ row_at row lefts ++ row_at row rights
+beside-row : {C : Type 0} (lefts rights : List (List C)) (row : ℕ) → length lefts ≡ length rights → row_at (beside lefts rights) row ≡ row_at lefts row ++ row_at rights row
 beside-row [] [] row e = refl
 beside-row [] (right ∷ rights) row e = absurd (omega arith)
 beside-row (left ∷ lefts) [] row e = absurd (omega arith)
@@ -78,20 +78,20 @@ composed-size rows_of (Split Below size first second) rect h f =
 
 -- a row of both parts
 row_of_both : {C : Type 0} (rows_of : Placed → List (List C)) (size : ℕ) (first second : Windows) (rect : Rect) (row : ℕ) → HasRoom (Split Right size first second) rect → FillTheirRectangles rows_of (placed (Split Right size first second) rect)
-    → row_at row (composed rows_of (Split Right size first second) rect) ≡ row_at row (composed rows_of first (first_part Right size rect)) ++ row_at row (composed rows_of second (second_part Right size rect))
+    → row_at (composed rows_of (Split Right size first second) rect) row ≡ row_at (composed rows_of first (first_part Right size rect)) row ++ row_at (composed rows_of second (second_part Right size rect)) row
 row_of_both rows_of size first second rect row h f =
     let a = composed-size rows_of first (first_part Right size rect) h.0 (filled_first rows_of Right size first second rect f) in
     let b = composed-size rows_of second (second_part Right size rect) h.1 (filled_second rows_of Right size first second rect f) in
     beside-row (composed rows_of first (first_part Right size rect)) (composed rows_of second (second_part Right size rect)) row (a.0 ∙ sym b.0)
 
 row_of_top : {C : Type 0} (rows_of : Placed → List (List C)) (size : ℕ) (first second : Windows) (rect : Rect) (row : ℕ) → HasRoom (Split Below size first second) rect → FillTheirRectangles rows_of (placed (Split Below size first second) rect) → row < size
-    → row_at row (composed rows_of (Split Below size first second) rect) ≡ row_at row (composed rows_of first (first_part Below size rect))
+    → row_at (composed rows_of (Split Below size first second) rect) row ≡ row_at (composed rows_of first (first_part Below size rect)) row
 row_of_top rows_of size first second rect row h f p =
     let a = composed-size rows_of first (first_part Below size rect) h.0 (filled_first rows_of Below size first second rect f) in
     get_or_append_left (composed rows_of first (first_part Below size rect)) (composed rows_of second (second_part Below size rect)) [] row (omega (arith, a.0))
 
 row_of_rest : {C : Type 0} (rows_of : Placed → List (List C)) (size : ℕ) (first second : Windows) (rect : Rect) (row : ℕ) → HasRoom (Split Below size first second) rect → FillTheirRectangles rows_of (placed (Split Below size first second) rect) → size ≤ row
-    → row_at row (composed rows_of (Split Below size first second) rect) ≡ row_at (row - size) (composed rows_of second (second_part Below size rect))
+    → row_at (composed rows_of (Split Below size first second) rect) row ≡ row_at (composed rows_of second (second_part Below size rect)) (row - size)
 row_of_rest rows_of size first second rect row h f p =
     let a = composed-size rows_of first (first_part Below size rect) h.0 (filled_first rows_of Below size first second rect f) in
     get_or-append_right (composed rows_of first (first_part Below size rect)) (composed rows_of second (second_part Below size rect)) size row [] a.0 p
@@ -128,7 +128,7 @@ lies_where column row rect e =
     let d : nat_lt row (rect.y + rect.height) ≡ true = down.1 in
     (grind (arith, nat_tests), grind (arith, nat_tests), grind (arith, nat_tests), grind (arith, nat_tests))
 
-row_size : {C : Type 0} (width height row : ℕ) (rows : List (List C)) → HasSize width height rows → row < height → length (row_at row rows) ≡ width
+row_size : {C : Type 0} (width height row : ℕ) (rows : List (List C)) → HasSize width height rows → row < height → length (row_at rows row) ≡ width
 row_size width height row rows s p = All-get_or (λ r. length r ≡ width) rows row [] (omega (arith, s.0)) s.1
 
 -- each cell is that of the window that holds it
@@ -149,15 +149,15 @@ composed-cell {C = C} rows_of (Split Right size first second) rect column row i 
     elim (in_one (placed first a) (placed second b) i window e) [
       | inl p ↦
           let w = listed_within first a p.0 window h.0 p.1 in
-          let wide : length (row_at (row - rect.y) lefts) ≡ size = row_size size rect.height (row - rect.y) lefts sizes (omega arith) in
+          let wide : length (row_at lefts (row - rect.y)) ≡ size = row_size size rect.height (row - rect.y) lefts sizes (omega arith) in
           ap (λ (r : List C). slice_get r (column - rect.x)) both
-          ∙ (get-first (row_at (row - rect.y) lefts) (row_at (row - rect.y) rights) (column - rect.x) (omega arith)
+          ∙ (get-first (row_at lefts (row - rect.y)) (row_at rights (row - rect.y)) (column - rect.x) (omega arith)
           ∙ composed-cell rows_of first a column row p.0 window h.0 (filled_first rows_of Right size first second rect f) p.1 l)
       | inr p ↦
           let w = listed_within second b p.0 window h.1 p.1 in
-          let wide : length (row_at (row - rect.y) lefts) ≡ size = row_size size rect.height (row - rect.y) lefts sizes (omega arith) in
+          let wide : length (row_at lefts (row - rect.y)) ≡ size = row_size size rect.height (row - rect.y) lefts sizes (omega arith) in
           ap (λ (r : List C). slice_get r (column - rect.x)) both
-          ∙ (get-second (row_at (row - rect.y) lefts) (row_at (row - rect.y) rights) (column - rect.x) (column - (rect.x + size)) (omega arith)
+          ∙ (get-second (row_at lefts (row - rect.y)) (row_at rights (row - rect.y)) (column - rect.x) (column - (rect.x + size)) (omega arith)
           ∙ composed-cell rows_of second b column row p.0 window h.1 (filled_second rows_of Right size first second rect f) p.1 l)
     ]
 composed-cell {C = C} rows_of (Split Below size first second) rect column row i window h f e l =

@@ -1,5 +1,6 @@
 -- The rows of a frame, put together from the rows that its windows show.
-use Rattle.std.specs.Prelude.{◌≡◌, ℕ, true, List, [], ◌∷◌, ◌++◌, length, All, slice_get, slice_index_or, Option, Some}
+use Rattle.std.specs.Prelude.{◌≡◌, ℕ, true, List, [], ◌∷◌, ◌++◌, length, All, slice_get, Option, Some}
+use Rattle.rd_base.specs.Cells.{row_at}
 use Rattle.rd_tree.specs.declared.rect.Rect.{Rect}
 use Rattle.rd_tree.specs.declared.placed.Placed.{Placed}
 use Rattle.rd_tree.specs.declared.side.Side.{Side}
@@ -24,13 +25,9 @@ composed rows_of (Window number mode margins) rect = rows_of (record { number = 
 composed rows_of (Split side size first second) rect =
     both_parts side (composed rows_of first (first_part side size rect)) (composed rows_of second (second_part side size rect))
 
--- a row, counted from 0
-abbrev pub row_at : {C : Type 0} → ℕ → List (List C) → List C
-row_at row rows = slice_index_or rows row []
-
 -- the cell at a column and a row, counted from 0
 abbrev pub cell_at : {C : Type 0} → ℕ → ℕ → List (List C) → Option C
-cell_at column row rows = slice_get (row_at row rows) column
+cell_at column row rows = slice_get (row_at rows row) column
 
 -- so many rows of so many cells
 abbrev pub HasSize : {C : Type 0} → ℕ → ℕ → List (List C) → Type 0

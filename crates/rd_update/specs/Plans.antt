@@ -1,9 +1,10 @@
 -- What is prepared for an update, so that any number of its rows can be sent.
 use Rattle.std.specs.Prelude.{◌≡◌, ℕ, ◌+◌, ◌<◌, ◌≤◌, nat_lt, Bool, true, false, if◌then◌else◌, List, [], ◌∷◌, length, All, Option, None, Some, slice_index_or}
 use Rattle.std.specs.Borrow.{Bor}
+use Rattle.rd_base.specs.Cells.{row_at}
 use Rattle.rd_base.specs.declared.limits.TheConstants.{FRAME_ROWS}
 use Rattle.rd_base.specs.declared.cell.Cell.{Cell}
-use Rattle.rd_term.specs.Pictures.{Picture, width_of, row_at}
+use Rattle.rd_term.specs.Pictures.{Picture, width_of}
 use Rattle.rd_update.specs.Updates.{differs, row_bytes, start, opening, Update, update}
 use Rattle.rd_update.specs.declared.plan.ChangedRow.{ChangedRow}
 use Rattle.rd_update.specs.declared.plan.Sent.{Sent}

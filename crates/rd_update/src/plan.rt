@@ -1,8 +1,8 @@
 //! An update that is prepared before any of it is sent, so that sending takes no memory.
 ghost use Rattle.std.specs.Prelude.{◌≡◌, ℕ, ◌<◌, ◌≤◌, ◌++◌, ◌-◌, length, Option, All, IfSome, IfOk, OnOk, OnErr, take, drop, replicate, slice_index_or};
-ghost use Rattle.rd_base.specs.Cells.{IsSmall};
+ghost use Rattle.rd_base.specs.Cells.{IsSmall, row_at};
 ghost use Rattle.rd_io.specs.Devices.{Writes, Rose};
-ghost use Rattle.rd_term.specs.Pictures.{Picture, IsScreen, blank_row, width_of, row_at};
+ghost use Rattle.rd_term.specs.Pictures.{Picture, IsScreen, blank_row, width_of};
 ghost use Rattle.rd_update.specs.Updates.{update, opening as opening_of, start, row_bytes, rows_bytes, blank_like, differs};
 ghost use Rattle.rd_update.specs.Laws.{IsSound};
 ghost use Rattle.rd_update.specs.Plans.{Prepared, planned, shown, HaveOneSize, sent_of, parts_from, old_row as old_row_of, IsRowOf, no_part, front_within, part_if, bytes_if};

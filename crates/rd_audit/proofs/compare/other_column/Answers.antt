@@ -1,5 +1,5 @@
 use Rattle.std.proofs.Common.{[], ◌<◌, ◌≤◌, length, rules, arith}
-use Rattle.rd_term.specs.Pictures.{row_at}
+use Rattle.rd_base.specs.Cells.{row_at}
 use Rattle.rd_audit.proofs.Comparing.{column-on, column-more}
 use Rattle.rd_audit.proofs.compare.other_column.Goals as goal
 

@@ -1,5 +1,5 @@
 use Rattle.std.proofs.Common.{◌≡◌, drop}
-use Rattle.rd_term.specs.Pictures.{row_at}
+use Rattle.rd_base.specs.Cells.{row_at}
 use Rattle.rd_audit.specs.Verdicts.{other_column}
 use Rattle.rd_audit.proofs.compare.other_column.Given as goal
 

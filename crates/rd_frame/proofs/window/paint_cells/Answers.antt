@@ -1,6 +1,7 @@
 use Rattle.std.proofs.Common.{◌≡◌, ◌+◌, ◌++◌, [], length, List, length-append, refl, ap, ◌∙◌, arith}
+use Rattle.rd_base.specs.Cells.{row_at}
 use Rattle.rd_base.specs.declared.cell.Cell.{Cell}
-use Rattle.rd_term.specs.Pictures.{Picture, row_at, width_of, with_cells}
+use Rattle.rd_term.specs.Pictures.{Picture, width_of, with_cells}
 use Rattle.rd_frame.proofs.Painting.{cells-behind}
 use Rattle.rd_frame.proofs.Screens.{twice, cells-width}
 use Rattle.rd_frame.proofs.window.paint_cells.Goals as goal

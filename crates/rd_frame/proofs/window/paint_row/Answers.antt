@@ -1,7 +1,8 @@
 use Rattle.std.proofs.Common.{◌≡◌, ℕ, ◌+◌, ◌-◌, ◌++◌, [], ◌∷◌, true, length, List, length-append, ap, ◌∙◌, arith}
 use Rattle.std.specs.Prelude.{if◌then◌else◌}
+use Rattle.rd_base.specs.Cells.{row_at}
 use Rattle.rd_base.specs.declared.cell.Cell.{Cell}
-use Rattle.rd_term.specs.Pictures.{Picture, row_at, width_of, with_cells}
+use Rattle.rd_term.specs.Pictures.{Picture, width_of, with_cells}
 use Rattle.rd_frame.specs.Panes.{body_width, bordered, has_border}
 use Rattle.rd_frame.proofs.Filling.{columns-shared}
 use Rattle.rd_frame.proofs.Screens.{twice, border-beside, border-place}
