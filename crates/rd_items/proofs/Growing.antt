@@ -1,9 +1,11 @@
 -- Objects that are made change no item of what names none of them.
-use Rattle.std.proofs.Common.{◌≡◌, ℕ, ◌+◌, ◌-◌, ◌<◌, Bool, true, false, if◌then◌else◌, List, [], ◌∷◌, ◌++◌, length, Option, Some, None, IfSome, refl, ap, ◌∙◌, arith}
+use Rattle.std.proofs.Common.{◌≡◌, ℕ, ◌+◌, ◌-◌, ◌<◌, if◌then◌else◌, List, [], ◌∷◌, ◌++◌, length, Option, Some, None, IfSome, refl, ap, ◌∙◌}
 use Rattle.std.specs.Prelude.{zero, suc, slice_get, All}
 use Rattle.std.specs.Option.{unwrap_or, option_and_then}
 use Rattle.std.proofs.lemmas.List.Elements.{All-nil, All-cons, All-head, All-tail, All-get_or}
 use Rattle.std.proofs.lemmas.Option.{unwrap_or-slice_get}
+use Rattle.rd_base.proofs.Choices.{either}
+use Rattle.rd_base.proofs.Lists.{get-first}
 use Rattle.rd_base.specs.Faces.{Attributes}
 use Rattle.rd_base.specs.Settings.{SettingValues, without_flags}
 use Rattle.rd_base.specs.declared.settings.Invisible.{Invisible}
@@ -26,13 +28,8 @@ use Rattle.rd_items.specs.Growing.{ReadsMade, GoesOnFrom}
 
 -- ---- lists that go on
 
-get-append : {X : Type 0} (xs ys : List X) (i : ℕ) → i < length xs → slice_get (xs ++ ys) i ≡ slice_get xs i
-get-append [] ys i less = absurd (omega arith)
-get-append (x ∷ xs) ys zero less = refl
-get-append (x ∷ xs) ys (suc i) less = get-append xs ys i (omega arith)
-
 same-element : {X : Type 0} (old new : List X) (i : ℕ) → GoesOn old new → i < length old → slice_get new i ≡ slice_get old i
-same-element old new i goes less = rw goes.1 (get-append old goes.0 i less)
+same-element old new i goes less = rw goes.1 (get-first old goes.0 i less)
 
 same-option : {X : Type 0} (old new : List X) (number : Option ℕ) → GoesOn old new → IfSome number (λ n. n < length old) → option_and_then (λ n. slice_get new n) number ≡ option_and_then (λ n. slice_get old n) number
 same-option old new None goes made = refl
@@ -117,16 +114,12 @@ same-items old new es goes closed made = ap (λ (xs : List Piece). covering 0 (m
 abbrev AreSeen : Type 0
 AreSeen = (s : BufferValue) (objects : ObjectLists) (p : ℕ) → AreMade s objects → SeesMade objects (seen_at s objects p)
 
-none-or : {X : Type 0} (P : X → Type 0) (t : Bool) (xs : List X) → All P xs → All P (if t then [] else xs)
-none-or {X} P true xs all = All-nil P
-none-or {X} P false xs all = all
-
 from-made : AreSeen → (s : BufferValue) (objects : ObjectLists) (n p : ℕ) → AreMade s objects → ReadsMade objects (reading_from s objects n p)
 from-made seen s objects zero p made = All-cons (SeesMade objects) (seen_at s objects p) [] (seen s objects p made) (All-nil (SeesMade objects))
 from-made seen s objects (suc n) p made =
     let rest = if ends_block s p then [] else reading_from s objects n (suc p) in
     All-cons (SeesMade objects) (seen_at s objects p) rest (seen s objects p made)
-    (none-or (SeesMade objects) (ends_block s p) (reading_from s objects n (suc p)) (from-made seen s objects n (suc p) made))
+    (either (All (SeesMade objects)) (ends_block s p) [] (reading_from s objects n (suc p)) (All-nil (SeesMade objects)) (from-made seen s objects n (suc p) made))
 
 pub reads-made : AreSeen → (s : BufferValue) (objects : ObjectLists) (p : ℕ) → AreMade s objects → ReadsMade objects (reading s objects p)
 reads-made seen s objects p made = from-made seen s objects (s.text.end - p) p made

@@ -55,6 +55,11 @@ same-place from (suc k) zero (c ∷ bs) a b h i g s =
     absurd (omega (arith, start, some, later, s))
 same-place from (suc k) (suc j) (c ∷ bs) a b h i g s = ap suc (same-place c.end k j bs a b h.2 i g s)
 
+-- where some end, from wherever they are followed
+pub end-any : (x y : ℕ) (bs : List Block) → 0 < length bs → end_from x bs ≡ end_from y bs
+end-any x y [] some = absurd (omega arith)
+end-any x y (b ∷ bs) some = refl
+
 pub record IsBlockHeld (hs : List HeldBlock) (k : ℕ) (b : Block) : Type 0 where
   pub held : HeldBlock
   pub there : slice_get hs k ≡ Some held

@@ -1,4 +1,3 @@
 mod Below
 pub mod HeldLemmas
 pub mod Counting
-pub mod Joined

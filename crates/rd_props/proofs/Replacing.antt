@@ -4,6 +4,7 @@ use Rattle.std.specs.Prelude.{nat_lt, nat_le, ◌==◌, slice_get, ℤ, pos, ◌
 use Rattle.std.specs.Option.{unwrap_or}
 use Rattle.std.proofs.lemmas.Int.{ints}
 use Rattle.std.proofs.lemmas.Bool.Decides.{nat_tests}
+use Rattle.rd_base.proofs.Lists.{get-first}
 use Rattle.rd_base.specs.Faces.{Attributes, plain, over}
 use Rattle.rd_text.specs.Texts.{TextValue}
 use Rattle.rd_overlays.specs.declared.overlay.Overlay.{Overlay}
@@ -247,17 +248,12 @@ module _ (listings : AreListings) (old new : BufferValue) (objects : ObjectLists
 
 -- ---- objects that are made
 
-get-more : (xs more : List Attributes) (n : ℕ) → n < length xs → slice_get xs n ≡ slice_get (xs ++ more) n
-get-more [] more n less = absurd (omega arith)
-get-more (x ∷ xs) more zero less = refl
-get-more (x ∷ xs) more (suc n) less = get-more xs more n (omega arith)
-
 module _ (s : BufferValue) (old new : ObjectLists) (extends : Extends old new) (made : AreMade s old) where
   face-same : (o : Option ℕ) → ((v : ℕ) → o ≡ Some v → v < length old.faces) → face_of old o ≡ face_of new o
   face-same None small = refl
   face-same (Some v) small =
       ap (λ (a : Option Attributes). unwrap_or a plain)
-      (get-more old.faces extends.faces.0 v (small v refl) ∙ ap (λ (xs : List Attributes). slice_get xs v) (sym extends.faces.1))
+      (sym (get-first old.faces extends.faces.0 v (small v refl)) ∙ ap (λ (xs : List Attributes). slice_get xs v) (sym extends.faces.1))
 
   overlay-small : (number v : ℕ) (slot : Option Overlay) → overlay_at s.overlays number ≡ slot → value_of Face slot ≡ Some v → v < length old.faces
   overlay-small number v None is h = absurd (cc)

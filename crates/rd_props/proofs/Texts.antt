@@ -1,35 +1,12 @@
 -- Characters and values of properties before and behind an edit.
-use Rattle.std.proofs.Common.{◌≡◌, ℕ, zero, suc, ◌+◌, ◌-◌, ◌<◌, ◌≤◌, Bool, true, false, if◌then◌else◌, List, [], ◌∷◌, ◌++◌, length, take, drop, Option, None, refl, sym, ap, ◌∙◌, arith}
+use Rattle.std.proofs.Common.{◌≡◌, ℕ, ◌+◌, ◌-◌, ◌<◌, ◌≤◌, Bool, true, false, if◌then◌else◌, List, ◌++◌, length, take, drop, Option, None, refl, sym, ap, ◌∙◌, arith}
 use Rattle.std.specs.Prelude.{nat_lt, nat_le, slice_get}
 use Rattle.std.proofs.lemmas.Bool.Decides.{nat_tests}
 use Rattle.std.proofs.lemmas.List.{length-take, length-append}
+use Rattle.rd_base.proofs.Lists.{get-first, get-second, get-take, get-drop}
 use Rattle.rd_text.specs.Texts.{TextValue, char_at, inserted, deleted}
 use Rattle.rd_props.specs.Edits.{opened, closed}
 use Rattle.rd_props.specs.Seen.{accessible_char}
-
--- ---- elements of lists
-
-get-left : (xs ys : List ℕ) (k : ℕ) → k < length xs → slice_get (xs ++ ys) k ≡ slice_get xs k
-get-left [] ys k less = absurd (omega arith)
-get-left (x ∷ xs) ys zero less = refl
-get-left (x ∷ xs) ys (suc k) less = get-left xs ys k (omega arith)
-
-get-right : (xs ys : List ℕ) (n k j : ℕ) → length xs ≡ n → k ≡ n + j → slice_get (xs ++ ys) k ≡ slice_get ys j
-get-right [] ys n k j size is = (let e : k ≡ j = omega arith in ap (slice_get ys) e)
-get-right (x ∷ xs) ys n zero j size is = absurd (omega arith)
-get-right (x ∷ xs) ys n (suc k) j size is = get-right xs ys (length xs) k j refl (omega arith)
-
-get-take : (i : ℕ) (xs : List ℕ) (k : ℕ) → k < i → slice_get (take i xs) k ≡ slice_get xs k
-get-take zero xs k less = absurd (omega arith)
-get-take (suc i) [] k less = refl
-get-take (suc i) (x ∷ xs) zero less = refl
-get-take (suc i) (x ∷ xs) (suc k) less = get-take i xs k (omega arith)
-
-get-drop : (i : ℕ) (xs : List ℕ) (k j : ℕ) → k ≡ i + j → slice_get (drop i xs) j ≡ slice_get xs k
-get-drop zero xs k j is = (let e : j ≡ k = omega arith in ap (slice_get xs) e)
-get-drop (suc i) [] k j is = refl
-get-drop (suc i) (x ∷ xs) zero j is = absurd (omega arith)
-get-drop (suc i) (x ∷ xs) (suc k) j is = get-drop i xs k j (omega arith)
 
 -- ---- characters
 
@@ -47,8 +24,8 @@ inserted-before t place x new within less =
     char-by t.text (inserted t place new).text x x (λ h. h) (λ h. h) (λ some.
     let front = length-take (place - 1) t.text in
     let both = length-append (take (place - 1) t.text) new in
-    sym (get-left (take (place - 1) t.text ++ new) (drop (place - 1) t.text) (x - 1) (omega arith)
-    ∙ (get-left (take (place - 1) t.text) new (x - 1) (omega arith) ∙ get-take (place - 1) t.text (x - 1) (omega arith))))
+    sym (get-first (take (place - 1) t.text ++ new) (drop (place - 1) t.text) (x - 1) (omega arith)
+    ∙ (get-first (take (place - 1) t.text) new (x - 1) (omega arith) ∙ get-take (place - 1) t.text (x - 1) (omega arith))))
 
 inserted-behind : (t : TextValue) (place x y : ℕ) (new : List ℕ) → 1 ≤ place → place ≤ length t.text + 1 → place ≤ x → x + length new ≡ y
     → char_at t x ≡ char_at (inserted t place new) y
@@ -56,21 +33,21 @@ inserted-behind t place x y new first within less is =
     char-by t.text (inserted t place new).text x y (λ h. omega arith) (λ h. omega arith) (λ some.
     let front = length-take (place - 1) t.text in
     let both = length-append (take (place - 1) t.text) new in
-    sym (get-right (take (place - 1) t.text ++ new) (drop (place - 1) t.text) (place - 1 + length new) (y - 1) (x - place) (omega arith) (omega arith)
+    sym (get-second (take (place - 1) t.text ++ new) (drop (place - 1) t.text) (y - 1) (x - place) (omega arith)
     ∙ get-drop (place - 1) t.text (x - 1) (x - place) (omega arith)))
 
 deleted-before : (t : TextValue) (from to x : ℕ) → from ≤ length t.text + 1 → x < from → char_at t x ≡ char_at (deleted t from to) x
 deleted-before t from to x within less =
     char-by t.text (deleted t from to).text x x (λ h. h) (λ h. h) (λ some.
     let front = length-take (from - 1) t.text in
-    sym (get-left (take (from - 1) t.text) (drop (to - 1) t.text) (x - 1) (omega arith) ∙ get-take (from - 1) t.text (x - 1) (omega arith)))
+    sym (get-first (take (from - 1) t.text) (drop (to - 1) t.text) (x - 1) (omega arith) ∙ get-take (from - 1) t.text (x - 1) (omega arith)))
 
 deleted-behind : (t : TextValue) (from to x y : ℕ) → 1 ≤ from → from ≤ to → from ≤ length t.text + 1 → from ≤ y → y + (to - from) ≡ x
     → char_at t x ≡ char_at (deleted t from to) y
 deleted-behind t from to x y first ordered within less is =
     char-by t.text (deleted t from to).text x y (λ h. omega arith) (λ h. omega arith) (λ some.
     let front = length-take (from - 1) t.text in
-    sym (get-right (take (from - 1) t.text) (drop (to - 1) t.text) (from - 1) (y - 1) (y - from) (omega arith) (omega arith)
+    sym (get-second (take (from - 1) t.text) (drop (to - 1) t.text) (y - 1) (y - from) (omega arith)
     ∙ get-drop (to - 1) t.text (x - 1) (y - from) (omega arith)))
 
 -- the same with the ends of the accessible texts

@@ -3,9 +3,9 @@ use Rattle.std.proofs.Common.{◌≡◌, ℕ, zero, suc, ◌+◌, ◌-◌, ◌<�
 use Rattle.std.proofs.lemmas.Bool.{cases_lt}
 use Rattle.std.proofs.lemmas.List.{length-append}
 use Rattle.std.specs.List.{slice_get}
+use Rattle.rd_base.proofs.Lists.{get-first, get-second}
 use Rattle.rd_base.specs.declared.settings.Anchor.{Anchor}
 use Rattle.rd_matrix.proofs.HeldLemmas.{later-start}
-use Rattle.rd_matrix.proofs.Joined.{at-left, at-right}
 use Rattle.rd_matrix.proofs.Counting.{all-append, count-cons, length-numbered}
 use Rattle.rd_matrix.specs.Blocks.{IsWithin, StandFrom, end_from, first_start}
 use Rattle.rd_matrix.specs.Entries.{EntryMeaning, all_rows, entries_of, numbered}
@@ -58,12 +58,12 @@ entry-found rows (b ∷ bs) k e h =
     let size = length-numbered b.start 0 (rows b) in
     elim (cases_lt k (length (rows b))) as (λ _. Found rows (b ∷ bs) e.start e.number k) [
       | inl here ↦
-          let parts = numbered-at b.start 0 k (rows b) e (sym (at-left (entries_of rows b) (all_rows rows bs) k (omega (arith, size, here))) ∙ h) in
+          let parts = numbered-at b.start 0 k (rows b) e (sym (get-first (entries_of rows b) (all_rows rows bs) k (omega (arith, size, here))) ∙ h) in
           let at = parts.2 in
           record { before = []; block = b; after = bs; pieces = refl; starts = sym parts.1; inside = omega (arith, at, here); place = omega (arith, at) }
       | inr later ↦
           let far : k ≡ length (entries_of rows b) + (k - length (rows b)) = omega (arith, size, later) in
-          let rest = entry-found rows bs (k - length (rows b)) e (sym (ap (slice_get (all_rows rows (b ∷ bs))) far ∙ at-right (entries_of rows b) (all_rows rows bs) (k - length (rows b))) ∙ h) in
+          let rest = entry-found rows bs (k - length (rows b)) e (sym (get-second (entries_of rows b) (all_rows rows bs) k (k - length (rows b)) far) ∙ h) in
           let count = count-cons rows b rest.before in
           let place = rest.place in
           record {

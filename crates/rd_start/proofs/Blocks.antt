@@ -5,10 +5,10 @@ use Rattle.std.proofs.lemmas.Bool.Decides.{nat_tests}
 use Rattle.std.proofs.lemmas.List.{length-append}
 use Rattle.std.proofs.lemmas.List.Folds.{list_any-append, list_any_none}
 use Rattle.std.specs.List.{list_any}
+use Rattle.rd_base.proofs.Lists.{get-second}
 use Rattle.rd_base.specs.declared.settings.Anchor.{Anchor}
 use Rattle.rd_matrix.proofs.Counting.{all-append, count-cons}
 use Rattle.rd_matrix.proofs.HeldLemmas.{later-start}
-use Rattle.rd_matrix.proofs.Joined.{at-right}
 use Rattle.rd_matrix.specs.Blocks.{IsAmong, StandFrom, end_from}
 use Rattle.rd_matrix.specs.Columns.{covers}
 use Rattle.rd_matrix.specs.Entries.{all_rows, entries_of, numbered}
@@ -105,7 +105,7 @@ anchor-skips rows anchor from [] after b stand low high =
     let here = lt-ltb anchor.pos b.end high in
     rw here (sym (zero-add (row_in_block anchor b.start (rows b))))
 anchor-skips rows anchor from (x ∷ before) after b stand low high =
-    let start = (later-start x.end (length before + 0) (before ++ (b ∷ after)) b stand.2 (at-right before (b ∷ after) 0)).0 in
+    let start = (later-start x.end (length before) (before ++ (b ∷ after)) b stand.2 (get-second before (b ∷ after) (length before) 0 (omega arith))).0 in
     let later = le-ltb anchor.pos x.end (omega (arith, start, low)) in
     let rest = anchor-skips rows anchor x.end before after b stand.2 low high in
     let count = count-cons rows x before in

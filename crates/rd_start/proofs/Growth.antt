@@ -16,8 +16,7 @@ use Rattle.rd_start.specs.declared.strip.Line.{Line}
 use Rattle.rd_start.specs.declared.strip.Sweep.{Sweep}
 use Rattle.rd_start.proofs.Blocks.{some-row}
 use Rattle.rd_start.proofs.Costs.{costs-more, costs-piece, have-more}
-use Rattle.rd_base.proofs.Lists.{each-append}
-use Rattle.rd_matrix.proofs.Joined.{at-left, at-right}
+use Rattle.rd_base.proofs.Lists.{each-append, get-first, get-second}
 use Rattle.rd_start.proofs.Lists.{Ends, ends}
 
 -- the place of a strip's last block, and the block behind it
@@ -35,11 +34,9 @@ last-place all before bs after last pieces some at =
     pieces ∙ (ap (λ ys. before ++ (ys ++ after)) e.whole
     ∙ (ap (λ ys. before ++ ys) (append_assoc e.front (last ∷ []) after) ∙ sym (append_assoc before e.front (last ∷ after)))) in
     record {
-      place = length front + 0;
-      here = ap (λ ys. slice_get ys (length front + 0)) whole ∙ at-right front (last ∷ after) 0;
-      next =
-          let one : length front + 0 + 1 ≡ length front + 1 = omega arith in
-          ap (slice_get all) one ∙ (ap (λ ys. slice_get ys (length front + 1)) whole ∙ at-right front (last ∷ after) 1);
+      place = length front;
+      here = ap (λ ys. slice_get ys (length front)) whole ∙ get-second front (last ∷ after) (length front) 0 (omega arith);
+      next = ap (λ ys. slice_get ys (length front + 1)) whole ∙ get-second front (last ∷ after) (length front + 1) 1 refl;
     }
 
 -- the place of a strip's first block
@@ -47,14 +44,13 @@ pub first-place : (all before bs after : List Block) (first : Block) → all ≡
     → slice_get all (length before) ≡ Some first
 first-place all before [] after first pieces at = absurd cc
 first-place all before (b ∷ bs) after first pieces at =
-    let zero_more : length before ≡ length before + 0 = omega arith in
-    ap (slice_get all) zero_more ∙ (ap (λ ys. slice_get ys (length before + 0)) pieces ∙ (at-right before (b ∷ (bs ++ after)) 0 ∙ at))
+    ap (λ ys. slice_get ys (length before)) pieces ∙ (get-second before (b ∷ (bs ++ after)) (length before) 0 (omega arith) ∙ at)
 
 pub before-none : (before rest : List Block) → block_before (before ++ rest) (length before) ≡ None → before ≡ []
 before-none [] rest e = refl
 before-none (x ∷ before) rest e =
     let inside : length before < length (x ∷ before) = omega arith in
-    let some = at-left (x ∷ before) rest (length before) inside ∙ slice_get-get_or (x ∷ before) (length before) x inside in
+    let some = get-first (x ∷ before) rest (length before) inside ∙ slice_get-get_or (x ∷ before) (length before) x inside in
     absurd cc
 
 pub before-some : (before rest : List Block) (b : Block) → block_before (before ++ rest) (length before) ≡ Some b → Ends before b
@@ -62,7 +58,7 @@ before-some [] rest b e = absurd cc
 before-some (x ∷ before) rest b e =
     let inside : length before < length (x ∷ before) = omega arith in
     let last : length (x ∷ before) - 1 ≡ length before = omega arith in
-    ends (x ∷ before) b (omega arith) (ap (slice_get (x ∷ before)) last ∙ (sym (at-left (x ∷ before) rest (length before) inside) ∙ e))
+    ends (x ∷ before) b (omega arith) (ap (slice_get (x ∷ before)) last ∙ (sym (get-first (x ∷ before) rest (length before) inside) ∙ e))
 
 -- the list of blocks behind a strip, from its first
 pub head-of : (after : List Block) (b : Block) → slice_get after 0 ≡ Some b → (rest : List Block) × (after ≡ b ∷ rest)

@@ -6,6 +6,7 @@ use Rattle.std.proofs.lemmas.Bool.{cases_lt}
 use Rattle.std.proofs.lemmas.Option.{slice_get-map}
 use Rattle.std.specs.List.{drop-map, slice_get, take-map}
 use Rattle.std.specs.Option.{option_map}
+use Rattle.rd_base.proofs.Lists.{get-first, get-second}
 use Rattle.rd_base.specs.declared.settings.Anchor.{Anchor}
 use Rattle.rd_matrix.specs.Entries.{EntryMeaning, all_rows}
 use Rattle.rd_matrix.specs.Sources.{SourceValues}
@@ -14,7 +15,6 @@ use Rattle.rd_start.specs.Strips.{IsStrip, Reaches, first_row, line_of, rows_in,
 use Rattle.rd_start.specs.declared.span.Span.{Span}
 use Rattle.rd_start.specs.declared.strip.Line.{Line}
 use Rattle.rd_start.specs.declared.strip.Strip.{Strip}
-use Rattle.rd_matrix.proofs.Joined.{at-left, at-right}
 use Rattle.rd_start.proofs.Rows.{rows_around}
 use Rattle.rd_start.proofs.Spans.{spans, spans-lines}
 
@@ -34,8 +34,7 @@ anchor-line m s place line h inside at =
     let first : first_row m s + place ≡ length z.front + place = omega arith in
     let low : place < length z.middle = omega arith in
     let here = ap (λ (ys : List EntryMeaning). slice_get ys (first_row m s + place)) z.whole
-    ∙ (ap (slice_get (z.front ++ (z.middle ++ z.back))) first
-    ∙ (at-right z.front (z.middle ++ z.back) place ∙ at-left z.middle z.back place low)) in
+    ∙ (get-second z.front (z.middle ++ z.back) (first_row m s + place) place first ∙ get-first z.middle z.back place low) in
     let mapped = sym (slice_get-map (line_of s.sweep.point) z.middle place) ∙ (ap (λ (ys : List Line). slice_get ys place) (sym z.lines) ∙ at) in
     anchor-same s.sweep.point (slice_get z.middle place) line mapped ∙ ap anchor_from (sym here)
 

@@ -3,6 +3,7 @@ use Rattle.std.proofs.Common.{◌≡◌, ℕ, ◌+◌, ◌-◌, ◌<◌, ◌≤�
 use Rattle.std.proofs.lemmas.List.{append_assoc, length-append, length-map}
 use Rattle.std.specs.List.{slice_get}
 use Rattle.std.specs.Prelude.{IfOk, IsErr, MatchResult}
+use Rattle.rd_base.proofs.Lists.{get-second}
 use Rattle.rd_base.specs.declared.memory.Memory.{Memory}
 use Rattle.rd_matrix.proofs.Counting.{count-cons}
 use Rattle.rd_matrix.specs.Blocks.{IsAmong, block_before}
@@ -18,7 +19,6 @@ use Rattle.rd_start.specs.declared.strip.Strip.{Strip}
 use Rattle.rd_start.specs.declared.strip.Sweep.{Sweep}
 use Rattle.rd_start.proofs.Blocks.{count-append}
 use Rattle.rd_start.proofs.Growth.{affords, affords-pieces, before-none, before-some, first-place, head-of, last-place, length-joined, length-lines, none-behind, paid-above, paid-below, pieces-above, pieces-below, some-of, strip-joined}
-use Rattle.rd_matrix.proofs.Joined.{at-right}
 use Rattle.rd_start.proofs.Results.{of-err}
 use Rattle.rd_start.proofs.Rows.{total-is}
 
@@ -96,7 +96,7 @@ no-prev m s first h at gives =
 among-middle : (all front : List Block) (b : Block) (rest : List Block) → all ≡ (front ++ (b ∷ [])) ++ rest → IsAmong all b
 among-middle all front b rest e =
     let whole = e ∙ append_assoc front (b ∷ []) rest in
-    (length front + 0, ap (λ ys. slice_get ys (length front + 0)) whole ∙ at-right front (b ∷ rest) 0)
+    (length front, ap (λ ys. slice_get ys (length front)) whole ∙ get-second front (b ∷ rest) (length front) 0 (omega arith))
 
 prev-of : (m : SourceValues) (s : Strip) (first b : Block) → IsStrip m s → slice_get s.blocks.items 0 ≡ Some first → GivesPrev m first (Some b) → StandsBeyond m s Top b
 prev-of m s first b h at gives =

@@ -122,10 +122,6 @@ first-of : (rows : Block → List RowMeaning) (from : ℕ) (bs : List Block) →
 first-of rows from [] some h = absurd (omega arith)
 first-of rows from (b ∷ bs) some h = record { first = b; here = refl; start = h.0 }
 
-pub end-any : (x y : ℕ) (bs : List Block) → 0 < length bs → end_from x bs ≡ end_from y bs
-end-any x y [] some = absurd (omega arith)
-end-any x y (b ∷ bs) some = refl
-
 -- the bounds of the positions before a strip, of its own and of those behind it
 pub record Bounds (m : SourceValues) (sweep : Sweep) (bs before after : List Block) : Type 0 where
   pub start : ℕ

@@ -5,6 +5,7 @@ use Rattle.std.specs.Option.{option_map}
 use Rattle.std.proofs.lemmas.Bool.{and_parts, cases_lt}
 use Rattle.std.proofs.lemmas.Bool.Decides.{nat_tests}
 use Rattle.std.proofs.lemmas.List.Elements.{All-head, All-tail}
+use Rattle.rd_base.proofs.Lists.{count-append}
 use Rattle.rd_matrix.specs.Blocks.{IsAmong, StandFrom, first_start}
 use Rattle.rd_matrix.specs.Columns.{covers, shown_column}
 use Rattle.rd_matrix.specs.Cursors.{column_shown, cursor_in, or_below}
@@ -17,7 +18,7 @@ use Rattle.rd_rows.specs.Rows.{RowMeaning}
 use Rattle.rd_rows.specs.Shapes.{ShapeValues, IsShape}
 use Rattle.rd_rows.specs.declared.begin.Begin.{Begin}
 use Rattle.rd_visual.specs.Hits.{AreInPositions, AreRowsAt, Fits, begins_at, covers_some, hit_in, item_at, item_of_cell, least_at, reading_column}
-use Rattle.rd_visual.proofs.Items.{count-append, count-cons, counted, found-one, found-none, item-again, item-alone, item-column, item-member}
+use Rattle.rd_visual.proofs.Items.{count-cons, counted, found-one, found-none, item-again, item-alone, item-column, item-member}
 
 -- how many items of these rows cover a position
 abbrev pub count_at : ℕ → List EntryMeaning → ℕ

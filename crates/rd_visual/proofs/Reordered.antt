@@ -4,6 +4,7 @@ use Rattle.std.specs.Prelude.{count_by, slice_get}
 use Rattle.std.specs.List.{range_with_len}
 use Rattle.std.proofs.lemmas.Bool.Decides.{nat_tests}
 use Rattle.std.proofs.lemmas.List.{length-map}
+use Rattle.rd_base.proofs.Lists.{count-append}
 use Rattle.rd_props.specs.Seen.{Seen}
 use Rattle.rd_items.specs.Covers.{Tile}
 use Rattle.rd_items.specs.Items.{items_of}
@@ -16,7 +17,6 @@ use Rattle.rd_stack.specs.Lines.{item_class, item_code, item_turns}
 use Rattle.rd_visual.specs.Motion.{range_by, ranges_in_turn, ranges_of}
 use Rattle.rd_visual.specs.Order.{StandBetween, range_of, ranges_in_order}
 use Rattle.rd_visual.specs.declared.range.Range.{Range}
-use Rattle.rd_visual.proofs.Items.{count-append}
 
 -- ranges in order stand one behind the other
 

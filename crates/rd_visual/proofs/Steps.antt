@@ -21,8 +21,7 @@ use Rattle.rd_visual.specs.declared.range.Range.{Range}
 use Rattle.rd_visual.specs.declared.way.Way.{Way}
 use Rattle.rd_visual.specs.declared.way.Way.TheVariants.{Forward, Backward}
 use Rattle.rd_visual.proofs.Counts.{block-some}
-use Rattle.rd_base.proofs.Lists.{drop-at, none-left}
-use Rattle.rd_visual.proofs.Items.{count-append}
+use Rattle.rd_base.proofs.Lists.{drop-at, none-left, count-append}
 use Rattle.rd_visual.proofs.Listing.{within-some}
 use Rattle.rd_visual.proofs.Neighbours.{AreSome, before-none, before-some, behind-front, behind-none, behind-some, first-append, last-append}
 

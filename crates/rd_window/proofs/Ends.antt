@@ -1,12 +1,12 @@
 -- The first row of a source, and its last one.
-use Rattle.std.proofs.Common.{◌≡◌, ℕ, zero, suc, ◌+◌, ◌-◌, ◌<◌, Bool, true, false, not, ◌&&◌, ◌==◌, leb, List, [], ◌∷◌, ◌++◌, length, min, take, drop, slice_get, option_map, Option, Some, refl, sym, ap, ap₂, ◌∙◌, subst, arith}
+use Rattle.std.proofs.Common.{◌≡◌, ℕ, zero, suc, ◌+◌, ◌-◌, ◌<◌, Bool, true, false, not, ◌&&◌, ◌==◌, leb, List, [], ◌∷◌, ◌++◌, length, min, take, drop, slice_get, option_map, Option, Some, refl, sym, ap, ◌∙◌, subst, arith}
 use Rattle.std.specs.Option.{is_none}
 use Rattle.std.proofs.lemmas.Bool.{and_parts, le-leb, lt-leb, ne_eqb}
 use Rattle.std.proofs.lemmas.List.{append_assoc, length-append, length-drop, length-map, length-take}
 use Rattle.std.proofs.lemmas.Option.{slice_get-map}
+use Rattle.rd_base.proofs.Lists.{get-first, get-second, get-take, get-drop}
 use Rattle.rd_base.specs.declared.settings.Anchor.{Anchor}
 use Rattle.rd_matrix.proofs.Counting.{all-append, count-cons, length-numbered}
-use Rattle.rd_matrix.proofs.Joined.{at-left, at-right}
 use Rattle.rd_matrix.specs.Blocks.{HoldsPosition, StandFrom, block_before, first_start}
 use Rattle.rd_matrix.specs.Entries.{EntryMeaning, all_rows, entries_of, numbered, shown_entries, shown_entry}
 use Rattle.rd_matrix.specs.Sources.{SourceValues, IsSource, rows_at}
@@ -56,19 +56,6 @@ before-last (x ∷ y ∷ rows) (suc k) r e at goes = let rest = before-last (y �
 pub opposite : (a b : Bool) → a ≡ not b → b ≡ not a
 opposite a true e = sym (ap not e)
 opposite a false e = sym (ap not e)
-
-taken-at : {X : Type 0} (n : ℕ) (xs : List X) (i : ℕ) → i < n → slice_get (take n xs) i ≡ slice_get xs i
-taken-at zero xs i low = absurd (omega arith)
-taken-at (suc n) [] i low = refl
-taken-at (suc n) (x ∷ xs) zero low = refl
-taken-at (suc n) (x ∷ xs) (suc i) low = taken-at n xs i (omega arith)
-
-dropped-at : {X : Type 0} (k : ℕ) (xs : List X) (i : ℕ) → slice_get (drop k xs) i ≡ slice_get xs (k + i)
-dropped-at zero xs i = let same : 0 + i ≡ i = omega arith in sym (ap (slice_get xs) same)
-dropped-at (suc k) [] i = refl
-dropped-at (suc k) (x ∷ xs) i =
-    let same : suc k + i ≡ suc (k + i) = omega arith in
-    dropped-at k xs i ∙ sym (ap (slice_get (x ∷ xs)) same)
 
 some-here : {X : Type 0} (xs : List X) (k : ℕ) → k < length xs → is_none (slice_get xs k) ≡ false
 some-here [] k low = absurd (omega arith)
@@ -133,8 +120,8 @@ module _ {m : SourceValues} {shape : ShapeValues} (source : IsSource m) (is : Is
       let whole : rows_at m shape ≡ all_rows rows_in f.before ++ (entries_of rows_in f.block ++ all_rows rows_in f.after) =
       ap (all_rows rows_in) f.pieces ∙ all-append rows_in f.before (f.block ∷ f.after) in
       row-in f.block.start 0 e.number (rows_in f.block) e
-      (sym (ap₂ slice_get whole (sym f.place) ∙ at-right (all_rows rows_in f.before) (entries_of rows_in f.block ++ all_rows rows_in f.after) e.number
-      ∙ at-left (entries_of rows_in f.block) (all_rows rows_in f.after) e.number (omega (arith, size, inside))) ∙ at)
+      (sym (ap (λ (es : List EntryMeaning). slice_get es k) whole ∙ get-second (all_rows rows_in f.before) (entries_of rows_in f.block ++ all_rows rows_in f.after) k e.number (sym f.place)
+      ∙ get-first (entries_of rows_in f.block) (all_rows rows_in f.after) e.number (omega (arith, size, inside))) ∙ at)
 
   total : (k : ℕ) (e : EntryMeaning) (f : Found rows_in m.blocks e.start e.number k)
       → length (rows_at m shape) ≡ length (all_rows rows_in f.before) + (length (rows_in f.block) + length (all_rows rows_in f.after))
@@ -178,7 +165,7 @@ inner-row rows bs anchor place named some =
 
 -- the row at a place of a view
 pub in-view : {X : Type 0} (xs : List X) (place height i : ℕ) → i < height → slice_get (take height (drop place xs)) i ≡ slice_get xs (place + i)
-in-view xs place height i low = taken-at height (drop place xs) i low ∙ dropped-at place xs i
+in-view xs place height i low = get-take height (drop place xs) i low ∙ get-drop place xs (place + i) i refl
 
 -- the row of an entry of a view
 view-at : (es : List Entry) (rows : List EntryMeaning) (place height i : ℕ) (e : Entry) → shown_entries es ≡ take height (drop place rows) → slice_get es i ≡ Some e → i < height

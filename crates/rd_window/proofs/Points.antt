@@ -1,11 +1,12 @@
 -- Where the item that covers a point begins, among all rows of a source and in a view.
-use Rattle.std.proofs.Common.{◌≡◌, ℕ, zero, suc, ◌+◌, ◌-◌, ◌<◌, ◌≤◌, inl, inr, Bool, true, false, cond, ◌||◌, ◌&&◌, leb, ltb, List, [], ◌∷◌, ◌++◌, length, take, drop, slice_get, option_map, Option, None, Some, refl, sym, ap, ◌∙◌, subst, arith, zero-add}
+use Rattle.std.proofs.Common.{◌≡◌, ℕ, zero, suc, ◌+◌, ◌-◌, ◌<◌, ◌≤◌, inl, inr, Bool, true, false, cond, ◌||◌, ◌&&◌, leb, ltb, List, [], ◌∷◌, length, take, drop, slice_get, option_map, Option, None, Some, refl, sym, ap, ◌∙◌, subst, arith, zero-add}
 use Rattle.std.proofs.Math.Bool.{or-true}
 use Rattle.std.proofs.lemmas.Bool.{cases_Bool, cases_lt}
-use Rattle.std.proofs.lemmas.List.Sums.{sum_by-append}
 use Rattle.std.proofs.lemmas.List.Folds.{list_any-append}
 use Rattle.std.proofs.lemmas.Option.{slice_get_within}
 use Rattle.std.specs.List.{count_by, list_any, position_or_len}
+use Rattle.rd_base.proofs.Lists.{count-append}
+use Rattle.rd_matrix.proofs.HeldLemmas.{end-any}
 use Rattle.rd_matrix.specs.Blocks.{IsAmong, IsWithin, StandFrom, end_from, first_start}
 use Rattle.rd_matrix.specs.Columns.{column_in, covers, shown_column}
 use Rattle.rd_matrix.specs.Cursors.{column_shown, cursor_in, or_below}
@@ -23,9 +24,6 @@ use Rattle.rd_start.specs.declared.wanted.Wanted.{Wanted}
 use Rattle.rd_window.proofs.Ends.{in-view}
 
 -- ---- counts
-
-count-append : {X : Type 0} (p : X → Bool) (xs ys : List X) → count_by p (xs ++ ys) ≡ count_by p xs + count_by p ys
-count-append p xs ys = sum_by-append (λ x. cond (p x) 1 0) xs ys
 
 count-first : {X : Type 0} (p : X → Bool) (x : X) (xs : List X) (b : Bool) → p x ≡ b → count_by p (x ∷ xs) ≡ cond b 1 0 + count_by p xs
 count-first p x xs b here = count-append p (x ∷ []) xs ∙ (ap (λ n. n + count_by p xs) (zero-add (cond (p x) 1 0)) ∙ ap (λ t. cond t 1 0 + count_by p xs) here)
@@ -105,10 +103,6 @@ any-here rows from point (b ∷ bs) stand each low high =
           whole ∙ (ap (λ t. list_any (begins_item point) (entries_of rows b) || t) (any-here rows b.end point bs stand.2 (rest-have rows b bs each) later high)
           ∙ or-true (list_any (begins_item point) (entries_of rows b)))
     ]
-
-end-any : (x y : ℕ) (bs : List Block) → 0 < length bs → end_from x bs ≡ end_from y bs
-end-any x y [] some = absurd (omega arith)
-end-any x y (b ∷ bs) some = refl
 
 -- ---- one row of a source has the beginning
 
