@@ -5,11 +5,10 @@ use Rattle.std.proofs.lemmas.List.{length-take-le, take_more}
 use Rattle.rd_generate.specs.Generated.{hundreds, script, shown}
 use Rattle.rd_run.specs.Ends.{AreAll, AreFirstOf, AreScript, Drawn, IsTaken, Sunk, done_of, drawn, lines_in, summary, sunk}
 use Rattle.rd_run.specs.Given.{Given, IsMode}
-use Rattle.rd_run.specs.Runs.{Input, Mode, Standing, effect, opened, run}
+use Rattle.rd_run.specs.Runs.{Input, Mode, Standing, effect, opened, run, input_of}
 use Rattle.rd_run.specs.declared.status.Status.TheVariants as statuses
 use Rattle.rd_run.proofs.Inputs.{lines-push}
 use Rattle.rd_player.specs.Acts.{Acts, Places, halted_by, summary_of}
-use Rattle.rd_player.specs.Played.{input_of}
 use Rattle.rd_player.specs.declared.halt.Halt.{Halt}
 use Rattle.rd_player.specs.declared.halt.Ending.{Ending}
 use Rattle.rd_player.specs.declared.halt.Ending.TheVariants as endings

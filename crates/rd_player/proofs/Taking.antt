@@ -10,11 +10,10 @@ use Rattle.rd_io.specs.declared.lines.LineFault.TheVariants as reader
 use Rattle.rd_run.specs.Ends.{AreAll, AreInLimits, AreScript, Drawn, GoesOn, IsPast, IsTaken, Sunk, done_of, drawn, lines_in, sunk}
 use Rattle.rd_run.specs.Given.{Given, IsMode}
 use Rattle.rd_run.specs.Reports.{last_line}
-use Rattle.rd_run.specs.Runs.{Input, Mode, Standing, effect, opened, run}
+use Rattle.rd_run.specs.Runs.{Input, Mode, Standing, effect, opened, run, input_of}
 use Rattle.rd_run.specs.declared.status.Status.TheVariants as statuses
 use Rattle.rd_run.proofs.Inputs.{lines-length, lines-push}
 use Rattle.rd_player.specs.Acts.{Acts, ComesTo, Places, SpentBy, ended_by, halted_by}
-use Rattle.rd_player.specs.Played.{input_of}
 use Rattle.rd_player.specs.declared.halt.Halt.{Halt}
 use Rattle.rd_player.specs.declared.halt.Ending.{Ending}
 use Rattle.rd_player.specs.declared.halt.Ending.TheVariants as endings

@@ -9,13 +9,13 @@ use Rattle.rd_layout.specs.Copies.{without_copies}
 use Rattle.rd_run.specs.Ends.{Broke, Comes, Drawn, IsInHand, Sunk, Took, allowed_in, last_in, sent_in, told_in}
 use Rattle.rd_run.specs.Given.{Given, IsMode}
 use Rattle.rd_run.specs.Reports.{last_line, summary_lines}
-use Rattle.rd_run.specs.Runs.{Effect, Input, Mode, Standing, effect, is_sent, opened, run}
+use Rattle.rd_run.specs.Runs.{Effect, Input, Mode, Standing, effect, is_sent, opened, run, input_of}
 use Rattle.rd_run.specs.declared.status.ScriptFault.TheVariants.{TooLong, TooMany}
 use Rattle.rd_run.specs.declared.status.Status.{Status}
 use Rattle.rd_run.specs.declared.status.Status.TheVariants.{BadData, BadScript, Done, NoMemory, ReadFault, WriteFault}
 use Rattle.rd_ucd.specs.Data.{Data}
 use Rattle.rd_words.specs.Words.{WordValues}
-use Rattle.rd_player.specs.Played.{SpentInHand, input_of}
+use Rattle.rd_player.specs.Played.{SpentInHand}
 use Rattle.rd_player.specs.declared.act.Playing.{Playing}
 use Rattle.rd_player.specs.declared.halt.Halt.{Halt}
 use Rattle.rd_player.specs.declared.halt.Halt.TheVariants as halts

@@ -4,7 +4,7 @@ use Rattle.std.specs.Io.KnownBytes.{Consumes}
 use Rattle.rd_io.specs.Devices.{Rose}
 use Rattle.rd_run.specs.Ends.{Drawn, Ended, IsInHand, ShowsIn, Sunk, allowed_in}
 use Rattle.rd_run.specs.Given.{AreTold, Given, HasFailed, IsMode, ReadsScript}
-use Rattle.rd_run.specs.Runs.{Input, KnowsEach, Mode, opened}
+use Rattle.rd_run.specs.Runs.{Input, KnowsEach, Mode, opened, input_of}
 use Rattle.rd_run.specs.Validity.{EndsWell, IsValidScript}
 use Rattle.rd_run.specs.declared.status.Status.{Status}
 use Rattle.rd_run.specs.declared.status.Status.TheVariants.{ReadFault, WriteFault}
@@ -13,10 +13,6 @@ use Rattle.rd_run.specs.declared.status.Status.TheVariants.{ReadFault, WriteFaul
 abbrev pub KnowsIn : Option Mode → List Input → Type 0
 KnowsIn None inputs = Unit {0}
 KnowsIn (Some mode) inputs = KnowsEach (opened mode) inputs
-
--- a line, where its redisplay finds memory or not
-abbrev pub input_of : List ℕ → Bool → Input
-input_of line starved = record { line = line; starved = starved }
 
 -- a redisplay is the line in hand behind those that were run, and no more elements were placed than all these may place
 abbrev pub SpentInHand : Given → Option Mode → List Input → List ℕ → Option (List ℕ) → ℕ → ℕ → Type 0

@@ -9,10 +9,9 @@ ghost use Rattle.rd_state.specs.States.{main_name};
 ghost use Rattle.rd_state.specs.Windows.{selected_window};
 ghost use Rattle.rd_player.specs.Acts.{Acts, IsNew, IsTold, Places, mode_of, standing, summary_of};
 ghost use Rattle.rd_player.specs.Devices.{sunk_by};
-ghost use Rattle.rd_player.specs.Played.{input_of};
 ghost use Rattle.rd_run.specs.Ends.{summary, sunk};
 ghost use Rattle.rd_run.specs.Reports.{shown_line, stopped_line};
-ghost use Rattle.rd_run.specs.Runs.{asked, dump_lines, effect, effect_of_op, is_blank, redisplayed, stepped, unshown};
+ghost use Rattle.rd_run.specs.Runs.{asked, dump_lines, effect, effect_of_op, is_blank, redisplayed, stepped, unshown, input_of};
 ghost use Rattle.rd_script.specs.Forms.{IsInForm};
 
 use crate::halt::{Halt, Summary};

@@ -5,10 +5,7 @@ use Rattle.rd_script.specs.declared.fault.OpFault.{OpFault}
 use Rattle.rd_script.specs.declared.op.Op.{Op}
 use Rattle.rd_run.specs.Alike.{AreStarvedAlike}
 use Rattle.rd_run.specs.Ends.{lines_in}
-use Rattle.rd_run.specs.Runs.{Input, Standing, World, after, asked, effect, effect_by, effect_of_reading, is_blank, outcome_at, quiet, run, run_line}
-
-abbrev pub input_of : List ℕ → Bool → Input
-input_of line starved = record { line = line; starved = starved }
+use Rattle.rd_run.specs.Runs.{Input, Standing, World, after, asked, effect, effect_by, effect_of_reading, is_blank, outcome_at, quiet, run, run_line, input_of}
 
 -- ---- one line
 

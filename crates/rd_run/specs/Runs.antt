@@ -29,6 +29,9 @@ pub record Input : Type 0 where
   pub line : List ℕ
   pub starved : Bool
 
+abbrev pub input_of : List ℕ → Bool → Input
+input_of line starved = record { line = line; starved = starved }
+
 -- what a run begins with: the Unicode data, whether dumps are asked for, and the number of a generated script where it stands in place
 -- of the one that is read
 pub record Mode : Type 0 where
