@@ -20,7 +20,7 @@ use Rattle.rd_matrix.proofs.HeldLemmas.{count-same, covers-moved}
 use Rattle.rd_matrix.specs.Blocks.{StandFrom, first_start, end_from}
 use Rattle.rd_matrix.specs.Columns.{covers}
 use Rattle.rd_matrix.specs.Held.{in_range}
-use Rattle.rd_matrix.specs.Sources.{IsSource, AreRowsOf}
+use Rattle.rd_matrix.specs.Sources.{IsSource, AreRowsOf, IsInBlock}
 use Rattle.rd_matrix.specs.declared.block.Block.{Block}
 use Rattle.rd_rows.specs.declared.begin.Begin.{Begin}
 use Rattle.rd_rows.specs.declared.cutting.Cutting.{Cutting}
@@ -91,13 +91,13 @@ listed-at classes s k b h = let found = pair-at classes s (blocks_of s) k b h in
 
 -- the rows
 
-inside-all : (start end size : ℕ) (bs : List Begin) → start + size ≡ end → All (LiesWithin size) (map range_of bs) → All (λ b. (b.from ≤ b.to) × (start + b.to ≤ end)) bs
-inside-all start end size [] e all = All-nil (λ (b : Begin). (b.from ≤ b.to) × (start + b.to ≤ end))
+inside-all : (start end size : ℕ) (bs : List Begin) → start + size ≡ end → All (LiesWithin size) (map range_of bs) → All (IsInBlock start end) bs
+inside-all start end size [] e all = All-nil (IsInBlock start end)
 inside-all start end size (b ∷ bs) e all =
     let here = all 0 (range_of b) (omega arith) in
     let order : b.from ≤ b.to = here.0 in
     let within : b.to ≤ size = here.1 in
-    All-cons (λ (x : Begin). (x.from ≤ x.to) × (start + x.to ≤ end)) b bs (order, omega (arith, e, within))
+    All-cons (IsInBlock start end) b bs (order, omega (arith, e, within))
     (inside-all start end size bs e (All-tail (LiesWithin size) (range_of b) (map range_of bs) all))
 
 -- the rows of what is read of a block

@@ -1,27 +1,27 @@
 -- A redisplay that is sent leaves one session, but for the copies of rows.
 use Rattle.std.proofs.Common.{◌≡◌, ℕ, Bool, Option, None, Some, List, [], ◌∷◌, ◌++◌, map, ap, refl, ◌∙◌}
 use Rattle.std.specs.List.{flat_map}
-use Rattle.rd_matrix.specs.Entries.{shown_entries}
+use Rattle.rd_matrix.specs.Entries.{shown_entries, made_entry}
 use Rattle.rd_matrix.specs.declared.matrix.Entry.{Entry}
 use Rattle.rd_state.specs.Windows.{window_of}
 use Rattle.rd_state.specs.declared.window.WindowState.{WindowState}
 use Rattle.rd_tree.specs.declared.placed.Placed.{Placed}
 use Rattle.rd_window.specs.declared.layout.Layout.{Layout}
-use Rattle.rd_layout.specs.Copies.{fresh_at, fresh_by, fresh_layouts, made, redisplayed, uncopied, uncopied_entry, without_copies}
+use Rattle.rd_layout.specs.Copies.{fresh_at, fresh_by, fresh_layouts, redisplayed, uncopied, uncopied_entry, without_copies}
 use Rattle.rd_layout.specs.Redisplays.{AreLaidOut, IsLaidOutBy, IsSent}
 use Rattle.rd_layout.specs.Sessions.{SessionValue, layout_of}
 use Rattle.rd_layout.specs.Windows.{places}
 
-made-anew : (es : List Entry) → map uncopied_entry es ≡ map made (shown_entries es)
+made-anew : (es : List Entry) → map uncopied_entry es ≡ map made_entry (shown_entries es)
 made-anew [] = refl
-made-anew (e ∷ es) = ap (λ (xs : List Entry). made (record { start = e.start; number = e.number; row = e.row.shown }) ∷ xs) (made-anew es)
+made-anew (e ∷ es) = ap (λ (xs : List Entry). made_entry (record { start = e.start; number = e.number; row = e.row.shown }) ∷ xs) (made-anew es)
 
 -- the layout of one window, as it is from nothing
 one-fresh : (v : SessionValue) (last : Option Layout) (p : Placed) (o : Option WindowState) (number : ℕ) (l : Layout) (rest : List (ℕ × Layout)) → number ≡ p.number → IsLaidOutBy v.files v.state last p o l
     → (number, uncopied l) ∷ rest ≡ fresh_by v.files v.state p o ++ rest
 one-fresh v last p None number l rest is laid = absurd laid
 one-fresh v last p (Some w) number l rest is laid =
-    let matrix = made-anew l.matrix ∙ ap (map made) laid.rows in
+    let matrix = made-anew l.matrix ∙ ap (map made_entry) laid.rows in
     λ i. (
       is i,
       record {

@@ -1,5 +1,5 @@
 -- The items that begin in the rows of a last layout end at positions.
-use Rattle.std.proofs.Common.{◌≡◌, ℕ, suc, ◌+◌, ◌-◌, ◌^◌, ◌<◌, ◌≤◌, Some, List, [], ◌∷◌, refl, subst, arith}
+use Rattle.std.proofs.Common.{◌≡◌, ℕ, suc, ◌+◌, ◌-◌, ◌^◌, ◌<◌, Some, List, [], ◌∷◌, refl, subst, arith}
 use Rattle.std.proofs.lemmas.List.Elements.{All-from_recursion, All-map, recursion_from_All}
 use Rattle.std.proofs.lemmas.Option.{get_or_from_slice_get, slice_get_within}
 use Rattle.std.specs.List.{All, AllByRecursion}
@@ -10,7 +10,7 @@ use Rattle.rd_blocks.specs.Sources.{text_source}
 use Rattle.rd_matrix.proofs.HeldLemmas.{later-start}
 use Rattle.rd_matrix.specs.Blocks.{IsAmong, first_start}
 use Rattle.rd_matrix.specs.Entries.{EntryMeaning, all_rows, entries_of, numbered, shown_entries, shown_entry}
-use Rattle.rd_matrix.specs.Sources.{IsSource, SourceValues, rows_at}
+use Rattle.rd_matrix.specs.Sources.{IsSource, SourceValues, rows_at, IsInBlock}
 use Rattle.rd_matrix.specs.declared.block.Block.{Block}
 use Rattle.rd_matrix.specs.declared.matrix.Entry.{Entry}
 use Rattle.rd_objects.specs.Things.{ObjectLists}
@@ -49,16 +49,16 @@ module _ (views : ViewLaws) (s : props.BufferValue) (objects : ObjectLists) (fil
       let short = text.short in
       omega arith
 
-  begins-fit : (b : Block) → b.end < 2 ^ 32 → (xs : List Begin) → AllByRecursion (λ (x : Begin). (x.from ≤ x.to) × (b.start + x.to ≤ b.end)) xs → AllByRecursion (Fits b.start) xs
+  begins-fit : (b : Block) → b.end < 2 ^ 32 → (xs : List Begin) → AllByRecursion (IsInBlock b.start b.end) xs → AllByRecursion (Fits b.start) xs
   begins-fit b small [] h = tt
   begins-fit b small (x ∷ xs) h = let high = h.0.1 in (omega arith, begins-fit b small xs h.1)
 
-  numbered-fit : (b : Block) → b.end < 2 ^ 32 → (number : ℕ) (rows : List RowMeaning) → AllByRecursion (λ (x : Begin). (x.from ≤ x.to) × (b.start + x.to ≤ b.end)) (begins_of rows)
+  numbered-fit : (b : Block) → b.end < 2 ^ 32 → (number : ℕ) (rows : List RowMeaning) → AllByRecursion (IsInBlock b.start b.end) (begins_of rows)
       → AllByRecursion EntryFits (numbered b.start number rows)
   numbered-fit b small number [] h = tt
   numbered-fit b small number (r ∷ rs) h =
-      let here = each-front (λ (x : Begin). (x.from ≤ x.to) × (b.start + x.to ≤ b.end)) r.begins (begins_of rs) h in
-      let behind = each-back (λ (x : Begin). (x.from ≤ x.to) × (b.start + x.to ≤ b.end)) r.begins (begins_of rs) h in
+      let here = each-front (IsInBlock b.start b.end) r.begins (begins_of rs) h in
+      let behind = each-back (IsInBlock b.start b.end) r.begins (begins_of rs) h in
       (All-from_recursion (Fits b.start) r.begins (begins-fit b small r.begins here), numbered-fit b small (number + 1) rs behind)
 
   all-fit : (bs : List Block) → ((k : ℕ) (b : Block) → slice_get bs k ≡ Some b → IsAmong m.blocks b) → AllByRecursion EntryFits (all_rows (λ b. m.rows_of b shape) bs)
@@ -66,7 +66,7 @@ module _ (views : ViewLaws) (s : props.BufferValue) (objects : ObjectLists) (fil
   all-fit (b ∷ bs) among =
       let at = among 0 b refl in
       each-append EntryFits (entries_of (λ b. m.rows_of b shape) b) (all_rows (λ b. m.rows_of b shape) bs)
-      (numbered-fit b (block-end b at) 0 (m.rows_of b shape) (recursion_from_All (λ (x : Begin). (x.from ≤ x.to) × (b.start + x.to ≤ b.end)) (begins_of (m.rows_of b shape)) (source.rows b shape at is).inside))
+      (numbered-fit b (block-end b at) 0 (m.rows_of b shape) (recursion_from_All (IsInBlock b.start b.end) (begins_of (m.rows_of b shape)) (source.rows b shape at is).inside))
       (all-fit bs (λ k c h. among (suc k) c h))
 
   rows-fit : All EntryFits (rows_at m shape)

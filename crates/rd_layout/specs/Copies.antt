@@ -2,7 +2,7 @@
 use Rattle.std.specs.Prelude.{ℕ, List, [], ◌∷◌, map, Option, None, Some}
 use Rattle.std.specs.List.{flat_map}
 use Rattle.rd_ucd.specs.Data.{Data}
-use Rattle.rd_matrix.specs.Entries.{EntryMeaning}
+use Rattle.rd_matrix.specs.Entries.{made_entry}
 use Rattle.rd_matrix.specs.declared.matrix.Entry.{Entry}
 use Rattle.rd_reuse.specs.Changes.{none}
 use Rattle.rd_state.specs.States.{StateValue}
@@ -27,17 +27,13 @@ uncopied l = record l { matrix = map uncopied_entry l.matrix }
 abbrev pub without_copies : SessionValue → SessionValue
 without_copies v = record v { layouts = map (λ e. (e.0, uncopied e.1)) v.layouts }
 
--- a row as it is laid out
-abbrev pub made : EntryMeaning → Entry
-made e = record { start = e.start; number = e.number; row = record { shown = e.row; copies = 0 } }
-
 -- the layout of a window from nothing
 abbrev pub fresh_by : Data → StateValue → Placed → Option WindowState → List (ℕ × Layout)
 fresh_by files s place None = []
 fresh_by files s place (Some w) = (
   place.number,
   record {
-    matrix = map made (view_in files s w place).rows;
+    matrix = map made_entry (view_in files s w place).rows;
     shape = window_shape s w place;
     height = body_height place;
     margin = s.margin;

@@ -14,7 +14,7 @@ use Rattle.rd_base.proofs.Lists.{all-at}
 use Rattle.rd_matrix.specs.Blocks.{IsAmong, IsWithin, HoldsPosition, StandFrom, first_start, end_from, block_before}
 use Rattle.rd_matrix.specs.Columns.{covers}
 use Rattle.rd_matrix.specs.Held.{blocks_held, laid_at, laid_from, source_of, in_range, covers_each, are_inside, IsHeld, AreHeld}
-use Rattle.rd_matrix.specs.Sources.{IsSource, AreRowsOf}
+use Rattle.rd_matrix.specs.Sources.{IsSource, AreRowsOf, IsInBlock}
 use Rattle.rd_matrix.specs.declared.block.Block.{Block}
 use Rattle.rd_matrix.specs.declared.held.HeldBlock.{HeldBlock}
 use Rattle.rd_rows.specs.declared.begin.Begin.{Begin}
@@ -112,14 +112,14 @@ covered-at (suc n) k rs h below =
       | inr last ↦ let same : k ≡ n = omega (arith, last, below) in rw same (let one = both.0 in grind (arith, nat_tests))
     ]
 
-inside-all : (start end size : ℕ) (bs : List Begin) → start + size ≡ end → are_inside size (map range_of bs) ≡ true → All (λ b. (b.from ≤ b.to) × (start + b.to ≤ end)) bs
-inside-all start end size [] e h = All-nil (λ (b : Begin). (b.from ≤ b.to) × (start + b.to ≤ end))
+inside-all : (start end size : ℕ) (bs : List Begin) → start + size ≡ end → are_inside size (map range_of bs) ≡ true → All (IsInBlock start end) bs
+inside-all start end size [] e h = All-nil (IsInBlock start end)
 inside-all start end size (b ∷ bs) e h =
     let both = and_parts (nat_le b.from b.to && nat_le b.to size) (are_inside size (map range_of bs)) h in
     let parts = and_parts (nat_le b.from b.to) (nat_le b.to size) both.0 in
     let order : b.from ≤ b.to = let o = parts.0 in grind (arith, nat_tests) in
     let within : b.to ≤ size = let o = parts.1 in grind (arith, nat_tests) in
-    All-cons (λ (x : Begin). (x.from ≤ x.to) × (start + x.to ≤ end)) b bs (order, omega (arith, e, within)) (inside-all start end size bs e both.1)
+    All-cons (IsInBlock start end) b bs (order, omega (arith, e, within)) (inside-all start end size bs e both.1)
 
 pub rows-right : (h : HeldBlock) (shape : ShapeValues) → IsHeld h → IsTrue (ends_last (seen_rows (laid_at shape h))) → map range_of (begins_of (seen_rows (laid_at shape h))) ≡ ranges_of None h.elements
     → AreRowsOf h.block.start h.block.end (seen_rows (laid_at shape h))

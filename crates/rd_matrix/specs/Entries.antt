@@ -16,6 +16,10 @@ shown_entry e = record { start = e.start; number = e.number; row = e.row.shown }
 abbrev pub shown_entries : List Entry → List EntryMeaning
 shown_entries es = map shown_entry es
 
+-- a row as it is made, not copied yet
+abbrev pub made_entry : EntryMeaning → Entry
+made_entry e = record { start = e.start; number = e.number; row = record { shown = e.row; copies = 0 } }
+
 -- the rows of a block that starts at a position, numbered
 abbrev pub numbered : ℕ → ℕ → List RowMeaning → List EntryMeaning
 numbered start number [] = []

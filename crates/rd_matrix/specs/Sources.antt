@@ -7,6 +7,7 @@ use Rattle.rd_matrix.specs.declared.block.Block.{Block}
 pub use Rattle.rd_rows.specs.Laws.{ends_last, begins_of}
 use Rattle.rd_rows.specs.Rows.{RowMeaning}
 use Rattle.rd_rows.specs.Shapes.{ShapeValues, IsShape}
+use Rattle.rd_rows.specs.declared.begin.Begin.{Begin}
 
 -- what a source is: its blocks in order, the rows of a block at a shape, and by how much the making of these may raise the steps
 pub record SourceValues : Type 0 where
@@ -23,11 +24,15 @@ abbrev pub costs_of : (Block → ℕ) → List Block → ℕ
 costs_of cost [] = 0
 costs_of cost (b ∷ bs) = cost b + costs_of cost bs
 
+-- an item's range lies in the block from one position up to another
+abbrev pub IsInBlock : ℕ → ℕ → Begin → Type 0
+IsInBlock start end b = (b.from ≤ b.to) × (start + b.to ≤ end)
+
 -- the rows of a block from one position up to another: at least one, of which the last and no other ends the block; and the items
 -- that begin in them lie in the block, and exactly one of them covers each of its positions
 pub record AreRowsOf (start end : ℕ) (rows : List RowMeaning) : Type 0 where
   pub ends : IsTrue (ends_last rows)
-  pub inside : All (λ b. (b.from ≤ b.to) × (start + b.to ≤ end)) (begins_of rows)
+  pub inside : All (IsInBlock start end) (begins_of rows)
   pub once : (point : ℕ) → start ≤ point → point < end → count_by (covers start point) (begins_of rows) ≡ 1
 
 -- what holds of every source

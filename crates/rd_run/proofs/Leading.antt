@@ -3,7 +3,7 @@ use Rattle.std.proofs.Common.{◌≡◌, ℕ, Bool, List, [], ◌∷◌, ◌++�
 use Rattle.std.proofs.lemmas.List.Elements.{recursion_from_All}
 use Rattle.std.specs.List.{AllByRecursion, flat_map}
 use Rattle.std.specs.Prelude.{option_map}
-use Rattle.rd_matrix.specs.Entries.{EntryMeaning, shown_entries}
+use Rattle.rd_matrix.specs.Entries.{EntryMeaning, shown_entries, made_entry}
 use Rattle.rd_matrix.specs.declared.matrix.Entry.{Entry}
 use Rattle.rd_state.specs.States.{StateValue}
 use Rattle.rd_state.specs.Valid.{IsValid}
@@ -16,7 +16,7 @@ use Rattle.rd_tree.specs.declared.rect.Rect.{Rect}
 use Rattle.rd_ucd.specs.Data.{Data}
 use Rattle.rd_window.specs.Layouts.{IsLaidOut}
 use Rattle.rd_window.specs.declared.layout.Layout.{Layout}
-use Rattle.rd_layout.specs.Copies.{fresh_at, fresh_by, made, redisplayed}
+use Rattle.rd_layout.specs.Copies.{fresh_at, fresh_by, redisplayed}
 use Rattle.rd_layout.specs.Laws.{PlaceLaws}
 use Rattle.rd_layout.specs.Redisplays.{AreLaidOut, IsLaidOutBy, IsSent, update_of}
 use Rattle.rd_layout.specs.Sessions.{SessionValue}
@@ -37,7 +37,7 @@ pub record LeadLaws : Type 0 where
 
 -- ---- one window
 
-shown-made : (rows : List EntryMeaning) → shown_entries (map made rows) ≡ rows
+shown-made : (rows : List EntryMeaning) → shown_entries (map made_entry rows) ≡ rows
 shown-made [] = refl
 shown-made (row ∷ rows) = ap (λ es. row ∷ es) (shown-made rows)
 

@@ -12,7 +12,7 @@ use Rattle.rd_matrix.proofs.HeldLemmas.{later-start}
 use Rattle.rd_matrix.specs.Blocks.{IsAmong, StandFrom, end_from}
 use Rattle.rd_matrix.specs.Columns.{covers}
 use Rattle.rd_matrix.specs.Entries.{all_rows, entries_of, numbered}
-use Rattle.rd_matrix.specs.Sources.{AreRowsOf, begins_of}
+use Rattle.rd_matrix.specs.Sources.{AreRowsOf, begins_of, IsInBlock}
 use Rattle.rd_matrix.specs.declared.block.Block.{Block}
 use Rattle.rd_rows.specs.Rows.{RowMeaning}
 use Rattle.rd_rows.specs.declared.begin.Begin.{Begin}
@@ -59,7 +59,7 @@ any-numbered point start number (r ∷ rows) =
     ap (λ b. list_any (covers start point) r.begins || b) (any-numbered point start (number + 1) rows)
     ∙ sym (list_any-append (covers start point) r.begins (begins_of rows))
 
-none-covers : (start end point : ℕ) (bs : List Begin) → All (λ b. (b.from ≤ b.to) × (start + b.to ≤ end)) bs → (leb start point && ltb point end) ≡ false
+none-covers : (start end point : ℕ) (bs : List Begin) → All (IsInBlock start end) bs → (leb start point && ltb point end) ≡ false
     → list_any (covers start point) bs ≡ false
 none-covers start end point bs inside out = list_any_none (covers start point) bs (λ k d below.
     let h = inside k d below in

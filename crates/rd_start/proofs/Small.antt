@@ -6,7 +6,7 @@ use Rattle.std.specs.List.{AllByRecursion, flat_map, fold}
 use Rattle.std.proofs.lemmas.List.Elements.{recursion_from_All}
 use Rattle.rd_base.proofs.Lists.{each-append, each-back, each-front}
 use Rattle.rd_matrix.specs.Entries.{EntryMeaning, all_rows, entries_of, numbered}
-use Rattle.rd_matrix.specs.Sources.{SourceValues, begins_of}
+use Rattle.rd_matrix.specs.Sources.{SourceValues, begins_of, IsInBlock}
 use Rattle.rd_matrix.specs.declared.block.Block.{Block}
 use Rattle.rd_rows.specs.Rows.{RowMeaning}
 use Rattle.rd_rows.specs.declared.begin.Begin.{Begin}
@@ -19,16 +19,13 @@ use Rattle.rd_start.proofs.Lists.{each-drop, each-take}
 use Rattle.rd_start.proofs.Places.{Spans, rows-between}
 use Rattle.rd_start.proofs.Rows.{bounds, whole-rows}
 
-abbrev Inside : ℕ → ℕ → Begin → Type 0
-Inside start end b = (b.from ≤ b.to) × (start + b.to ≤ end)
-
 abbrev Below : ℕ → ℕ → Type 0
 Below n p = p < n
 
 abbrev SmallEntry : ℕ → EntryMeaning → Type 0
 SmallEntry n e = AllByRecursion (Below n) (positions_of e)
 
-one-covered : (start end n : ℕ) (b : Begin) → Inside start end b → end ≤ n → AllByRecursion (Below n) (first_covered start b)
+one-covered : (start end n : ℕ) (b : Begin) → IsInBlock start end b → end ≤ n → AllByRecursion (Below n) (first_covered start b)
 one-covered start end n b h high =
     elim (cases_Bool (ltb b.from b.to)) [
       | inl some ↦
@@ -38,16 +35,16 @@ one-covered start end n b h high =
       | inr none ↦ subst (λ t. AllByRecursion (Below n) (cond t ((start + b.from) ∷ []) [])) (sym none) tt
     ]
 
-small-entry : (start end n : ℕ) (bs : List Begin) → AllByRecursion (Inside start end) bs → end ≤ n → AllByRecursion (Below n) (flat_map (first_covered start) bs)
+small-entry : (start end n : ℕ) (bs : List Begin) → AllByRecursion (IsInBlock start end) bs → end ≤ n → AllByRecursion (Below n) (flat_map (first_covered start) bs)
 small-entry start end n [] h high = tt
 small-entry start end n (b ∷ bs) h high =
     each-append (Below n) (first_covered start b) (flat_map (first_covered start) bs) (one-covered start end n b h.0 high) (small-entry start end n bs h.1 high)
 
-small-rows : (start number end n : ℕ) (rows : List RowMeaning) → AllByRecursion (Inside start end) (begins_of rows) → end ≤ n → AllByRecursion (SmallEntry n) (numbered start number rows)
+small-rows : (start number end n : ℕ) (rows : List RowMeaning) → AllByRecursion (IsInBlock start end) (begins_of rows) → end ≤ n → AllByRecursion (SmallEntry n) (numbered start number rows)
 small-rows start number end n [] h high = tt
 small-rows start number end n (r ∷ rows) h high = (
-  small-entry start end n r.begins (each-front (Inside start end) r.begins (begins_of rows) h) high,
-  small-rows start (number + 1) end n rows (each-back (Inside start end) r.begins (begins_of rows) h) high,
+  small-entry start end n r.begins (each-front (IsInBlock start end) r.begins (begins_of rows) h) high,
+  small-rows start (number + 1) end n rows (each-back (IsInBlock start end) r.begins (begins_of rows) h) high,
 )
 
 small-blocks : (rows : Block → List RowMeaning) (from : ℕ) (bs : List Block) → Fit rows from bs → AllByRecursion (λ b. b.end < 2 ^ 32) bs → AllByRecursion (SmallEntry (2 ^ 32)) (all_rows rows bs)
@@ -55,7 +52,7 @@ small-blocks rows from [] h small = tt
 small-blocks rows from (b ∷ bs) h small =
     let end = small.0 in
     each-append (SmallEntry (2 ^ 32)) (entries_of rows b) (all_rows rows bs)
-    (small-rows b.start 0 b.end (2 ^ 32) (rows b) (recursion_from_All (Inside b.start b.end) (begins_of (rows b)) h.2.inside) (omega arith))
+    (small-rows b.start 0 b.end (2 ^ 32) (rows b) (recursion_from_All (IsInBlock b.start b.end) (begins_of (rows b)) h.2.inside) (omega arith))
     (small-blocks rows b.end bs h.3 small.1)
 
 small-positions : (n : ℕ) (es : List EntryMeaning) → AllByRecursion (SmallEntry n) es → AllByRecursion (Below n) (first_positions es)

@@ -10,7 +10,7 @@ use Rattle.rd_matrix.specs.Blocks.{IsAmong, StandFrom, first_start}
 use Rattle.rd_matrix.specs.Columns.{covers, shown_column}
 use Rattle.rd_matrix.specs.Cursors.{column_shown, cursor_in, or_below}
 use Rattle.rd_matrix.specs.Entries.{EntryMeaning, shown_entry, shown_entries, numbered, entries_of, all_rows}
-use Rattle.rd_matrix.specs.Sources.{SourceValues, IsSource, AreRowsOf, rows_at}
+use Rattle.rd_matrix.specs.Sources.{SourceValues, IsSource, AreRowsOf, rows_at, IsInBlock}
 use Rattle.rd_matrix.specs.declared.block.Block.{Block}
 use Rattle.rd_matrix.specs.declared.matrix.Entry.{Entry}
 use Rattle.rd_rows.specs.Laws.{begins_of}
@@ -36,9 +36,6 @@ count-numbered point start n (r ∷ rs) =
 
 -- an item of a block covers no position outside of it
 
-abbrev pub IsInside : ℕ → ℕ → Begin → Type 0
-IsInside start end b = (b.from ≤ b.to) × (start + b.to ≤ end)
-
 covers-parts : (start point : ℕ) (b : Begin) → covers start point b ≡ true → (start + b.from ≤ point) × (point < start + b.to)
 covers-parts start point b h =
     let both = and_parts (nat_le (start + b.from) point) (nat_lt point (start + b.to)) h in
@@ -61,11 +58,11 @@ none-below start point (b ∷ bs) low =
     let rest = none-below start point bs low in
     count-cons (covers start point) b bs ∙ rw (out, rest) refl
 
-none-above : (start end point : ℕ) (bs : List Begin) → All (IsInside start end) bs → end ≤ point → count_by (covers start point) bs ≡ 0
+none-above : (start end point : ℕ) (bs : List Begin) → All (IsInBlock start end) bs → end ≤ point → count_by (covers start point) bs ≡ 0
 none-above start end point [] inside high = refl
 none-above start end point (b ∷ bs) inside high =
-    let out = above-no start end point b _ refl (All-head (IsInside start end) b bs inside).1 high in
-    let rest = none-above start end point bs (All-tail (IsInside start end) b bs inside) high in
+    let out = above-no start end point b _ refl (All-head (IsInBlock start end) b bs inside).1 high in
+    let rest = none-above start end point bs (All-tail (IsInBlock start end) b bs inside) high in
     count-cons (covers start point) b bs ∙ rw (out, rest) refl
 
 count-block : (rows : Block → List RowMeaning) (b : Block) (point : ℕ) → count_at point (entries_of rows b) ≡ count_by (covers b.start point) (begins_of (rows b))

@@ -1,9 +1,8 @@
 -- Three lines and their layouts, for worked examples.
 use Rattle.std.specs.Prelude.{ℕ, ◌+◌, ◌-◌, true, if◌then◌else◌, List, [], ◌∷◌, ◌++◌, map}
-use Rattle.rd_matrix.specs.Entries.{EntryMeaning}
+use Rattle.rd_matrix.specs.Entries.{made_entry}
 use Rattle.rd_matrix.specs.Sources.{SourceValues, rows_at}
 use Rattle.rd_matrix.specs.declared.block.Block.{Block}
-use Rattle.rd_matrix.specs.declared.matrix.Entry.{Entry}
 use Rattle.rd_reuse.specs.Keeping.{copied_rows, is_kept, taken}
 use Rattle.rd_reuse.specs.declared.change.Change.{Change}
 use Rattle.rd_start.specs.Examples.{items_from, last_row, short_lines, twelve_columns}
@@ -17,14 +16,10 @@ three_lines count = record {
   cost_of = λ b shape. b.end - b.start;
 }
 
--- a row as it was laid out
-abbrev pub laid_before : EntryMeaning → Entry
-laid_before e = record { start = e.start; number = e.number; row = record { shown = e.row; copies = 0 } }
-
 -- the layout of a window of three rows that shows `a`, `b` and `c`, since which so much changed
 abbrev pub three_rows : Change → Layout
 three_rows change = record {
-  matrix = map laid_before (rows_at (three_lines 2) twelve_columns);
+  matrix = map made_entry (rows_at (three_lines 2) twelve_columns);
   shape = twelve_columns;
   height = 3;
   margin = 0;
