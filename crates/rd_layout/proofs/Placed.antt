@@ -20,26 +20,26 @@ use Rattle.rd_layout.specs.Windows.{place_of, places}
 
 -- ---- a window that is found was made
 
-here : (n : ℕ) (p : Placed) (ps : List Placed) → p.number ≡ n → of_number n (p ∷ ps) ≡ Some p
-here n p ps h = cond-true (p.number == n) (Some p) (of_number n ps) (eq-eqb p.number n h)
+pub placed-here : (n : ℕ) (p : Placed) (ps : List Placed) → p.number ≡ n → of_number n (p ∷ ps) ≡ Some p
+placed-here n p ps h = cond-true (p.number == n) (Some p) (of_number n ps) (eq-eqb p.number n h)
 
-there : (n : ℕ) (p : Placed) (ps : List Placed) → p.number ≢ n → of_number n (p ∷ ps) ≡ of_number n ps
-there n p ps h = cond-false (p.number == n) (Some p) (of_number n ps) (ne_eqb p.number n h)
+pub placed-there : (n : ℕ) (p : Placed) (ps : List Placed) → p.number ≢ n → of_number n (p ∷ ps) ≡ of_number n ps
+placed-there n p ps h = cond-false (p.number == n) (Some p) (of_number n ps) (ne_eqb p.number n h)
 
 pub number-of : (n : ℕ) (ps : List Placed) (p : Placed) → of_number n ps ≡ Some p → p.number ≡ n
 number-of n [] p h = absurd (cc)
 number-of n (q ∷ qs) p h = elim (cases_eq q.number n) [
-  | inl e ↦ let same : q ≡ p = cc (sym (here n q qs e) ∙ h) in sym (ap (λ (x : Placed). x.number) same) ∙ e
-  | inr e ↦ number-of n qs p (sym (there n q qs e) ∙ h)
+  | inl e ↦ let same : q ≡ p = cc (sym (placed-here n q qs e) ∙ h) in sym (ap (λ (x : Placed). x.number) same) ∙ e
+  | inr e ↦ number-of n qs p (sym (placed-there n q qs e) ∙ h)
 ]
 
 -- one of two lists has what both have together
 either : (n : ℕ) (ps qs : List Placed) (p : Placed) → of_number n (ps ++ qs) ≡ Some p → (of_number n ps ≡ Some p) ⊎ (of_number n qs ≡ Some p)
 either n [] qs p h = inr h
 either n (x ∷ xs) qs p h = elim (cases_eq x.number n) [
-  | inl e ↦ inl (here n x xs e ∙ (sym (here n x (xs ++ qs) e) ∙ h))
-  | inr e ↦ elim (either n xs qs p (sym (there n x (xs ++ qs) e) ∙ h)) [
-    | inl l ↦ inl (there n x xs e ∙ l)
+  | inl e ↦ inl (placed-here n x xs e ∙ (sym (placed-here n x (xs ++ qs) e) ∙ h))
+  | inr e ↦ elim (either n xs qs p (sym (placed-there n x (xs ++ qs) e) ∙ h)) [
+    | inl l ↦ inl (placed-there n x xs e ∙ l)
     | inr r ↦ inr r
   ]
 ]
@@ -54,7 +54,7 @@ some-is-none p h = absurd (cc)
 pub found-once : (n : ℕ) (windows : Windows) (rect : Rect) (p : Placed) → window_at n windows rect ≡ Some p → 1 ≤ times n windows
 found-once n (Window number mode margins) rect p h = elim (cases_eq number n) [
   | inl e ↦ once-by (number == n) (eq-eqb number n e)
-  | inr e ↦ absurd (some-is-none p (sym h ∙ there n (record { number = number; mode = mode; margins = margins; rect = rect }) [] e))
+  | inr e ↦ absurd (some-is-none p (sym h ∙ placed-there n (record { number = number; mode = mode; margins = margins; rect = rect }) [] e))
 ]
 found-once n (Split side size first second) rect p h = elim (either n (placed first (first_part side size rect)) (placed second (second_part side size rect)) p h) [
   | inl l ↦ let one = found-once n first (first_part side size rect) p l in omega arith

@@ -2,8 +2,8 @@
 use Rattle.std.proofs.Common.{◌≡◌, inl, inr, ℕ, suc, ◌<◌, ◌≤◌, Bool, false, Option, None, Some, List, [], ◌∷◌, length, map, replicate, take, drop, sym, ap, refl, subst, subst₂, ◌∙◌, arith}
 use Rattle.std.proofs.lemmas.Bool.{cases_eq}
 use Rattle.std.proofs.lemmas.List.{length-map, length-replicate}
-use Rattle.std.proofs.lemmas.List.Elements.{All-map, All-replicate}
-use Rattle.std.specs.Prelude.{IfSome, slice_get, slice_index_or, option_map}
+use Rattle.std.proofs.lemmas.List.Elements.{All-replicate}
+use Rattle.std.specs.Prelude.{IfSome, slice_get, option_map}
 use Rattle.rd_base.specs.Faces.{plain}
 use Rattle.rd_base.specs.declared.cell.Cell.{Cell}
 use Rattle.rd_blocks.specs.Kept.{AreRowsAt}
@@ -35,7 +35,7 @@ use Rattle.rd_state.proofs.Options.{mapped}
 use Rattle.rd_term.specs.Pictures.{IsGrid, IsOfSize, IsScreen, Picture, width_of}
 use Rattle.rd_term.specs.Terminals.{Tty, feed_bytes, known, unknown}
 use Rattle.rd_term.specs.declared.reading.Reading.TheVariants.{Between}
-use Rattle.rd_term.proofs.Shapes.{grid-width}
+use Rattle.rd_term.proofs.Shapes.{grid-width, grid-known}
 use Rattle.rd_tree.specs.declared.placed.Placed.{Placed}
 use Rattle.rd_ucd.specs.Data.{Data}
 use Rattle.rd_update.specs.Laws.{IsCurrent, IsReady, IsSound, IsUpdated}
@@ -75,10 +75,6 @@ abbrev pub shows : ℕ → ℕ → Option Picture → Tty
 shows width height None = unknown width height
 shows width height (Some screen) = record (unknown width height) { rows = known screen.rows; pen = Some plain }
 
-is-wide : (width : ℕ) (rows : List (List Cell)) → IsGrid width rows → IsGrid width (known rows)
-is-wide width rows each =
-    All-map (λ (row : List (Option Cell)). length row ≡ width) (map Some) rows (λ k d less. length-map (slice_index_or rows k d) Some ∙ each k d less)
-
 module _ (laws : SendLaws) (width height : ℕ) (target : Picture) (bands : List Band) (limit : Option ℕ) (wide : width ≤ 400) (tall : height ≤ 200) (some : 0 < height)
     (size : IsOfSize width height target) (sound : IsSound target) (within : AreWithin height bands) where
   abbrev pub Fits : Option Picture → Type 0
@@ -105,7 +101,7 @@ module _ (laws : SendLaws) (width height : ℕ) (target : Picture) (bands : List
       let row : List (Option Cell) = replicate width None in
       ready-by None (unknown width height) refl refl (length-replicate height row) (All-replicate (λ (r : List (Option Cell)). length r ≡ width) height row (length-replicate width None)) tt
   ready (Some screen) fits =
-      ready-by (Some screen) (shows width height (Some screen)) refl refl (length-map screen.rows (map Some) ∙ fits.0.rows) (is-wide width screen.rows fits.0.each) (fits.0, refl, refl)
+      ready-by (Some screen) (shows width height (Some screen)) refl refl (length-map screen.rows (map Some) ∙ fits.0.rows) (grid-known width screen.rows fits.0.each) (fits.0, refl, refl)
 
   wide-as : (rows : List (List Cell)) → length rows ≡ height → IsGrid width rows → width_of rows ≡ width
   wide-as rows h each = grid-width width rows (omega (arith, h, some)) each

@@ -4,7 +4,7 @@ use Rattle.std.specs.Prelude.{ℤ, pos, negsuc, unsigned_abs, IsSome}
 use Rattle.std.specs.List.{AllByRecursion, flat_map}
 use Rattle.std.proofs.lemmas.Bool.Decides.{nat_tests}
 use Rattle.std.proofs.lemmas.List.{length-map, length-take-le, length-drop, length-replicate}
-use Rattle.std.proofs.lemmas.List.Elements.{recursion_from_All, All-from_recursion, All-map, All-take, All-drop}
+use Rattle.std.proofs.lemmas.List.Elements.{recursion_from_All, All-from_recursion, All-take, All-drop}
 use Rattle.std.specs.Char.{is_ascii_digit}
 use Rattle.rd_base.proofs.Lists.{each-append}
 use Rattle.rd_base.specs.Faces.{Attributes, plain}
@@ -17,7 +17,7 @@ use Rattle.rd_term.specs.Terminals.{Tty, feed_bytes, perform, known, on_screen}
 use Rattle.rd_term.specs.declared.reading.Reading.TheVariants.{Between}
 use Rattle.rd_term.proofs.Cutting.{map-replicate}
 use Rattle.rd_term.proofs.Encoded.{Rows, standing}
-use Rattle.rd_term.proofs.Shapes.{grid-width, length-between, length-up, length-down}
+use Rattle.rd_term.proofs.Shapes.{grid-width, length-between, length-up, length-down, grid-known}
 use Rattle.rd_update.specs.Laws.{IsReady, IsUpdated}
 use Rattle.rd_update.specs.Updates.{differing, sequence, update, Update}
 use Rattle.rd_update.proofs.Sequences.{tty-same}
@@ -137,9 +137,6 @@ moved-same w (pos n) rows h le =
 moved-same w (negsuc n) rows h le =
     let kept = length rows - suc n in
     ap (λ xs. xs ++ take kept rows) (cleared-some w (suc n) (drop kept rows) (All-drop (λ row. length row ≡ w) kept rows h) (length-drop kept rows ∙ omega arith))
-
-grid-known : (w : ℕ) (rows : List (List Cell)) → IsGrid w rows → IsGrid w (known rows)
-grid-known w rows h = All-map (λ (row : List (Option Cell)). length row ≡ w) (map Some) rows (λ k d lt. length-map (get_or rows k d) Some ∙ h k d lt)
 
 pub shifted-known : (w : ℕ) (s : Shift) (rows : List (List Cell)) → IsGrid w rows → IsShift (length rows) s
     → changed_between s.top (s.top + s.height) (terminal_moved s.by) (known rows) ≡ known (shifted_rows s (blank_row w) rows)

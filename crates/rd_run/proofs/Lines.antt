@@ -1,7 +1,7 @@
 -- A session stands behind each line of a run, and the terminal shows its screen where that is known.
-use Rattle.std.proofs.Common.{◌≡◌, ℕ, ◌<◌, Bool, true, false, List, [], ◌∷◌, length, map, Option, None, Some, Ok, is_some, if◌then◌else◌, refl, sym, ap, ◌∙◌, subst, arith, true≢false}
-use Rattle.std.proofs.Common.{get_or, replicate}
-use Rattle.std.proofs.lemmas.List.{length-replicate, length-map, get_or-map}
+use Rattle.std.proofs.Common.{◌≡◌, ℕ, Bool, true, false, List, [], ◌∷◌, length, map, Option, None, Some, Ok, is_some, if◌then◌else◌, refl, sym, ap, ◌∙◌, subst, arith, true≢false}
+use Rattle.std.proofs.Common.{replicate}
+use Rattle.std.proofs.lemmas.List.{length-replicate, length-map}
 use Rattle.std.proofs.lemmas.List.Elements.{All-replicate}
 use Rattle.std.specs.Prelude.{IfSome}
 use Rattle.rd_base.specs.declared.cell.Cell.{Cell}
@@ -16,6 +16,7 @@ use Rattle.rd_term.specs.Pictures.{Picture, IsGrid, IsOfSize, IsScreen}
 use Rattle.rd_term.specs.Terminals.{Tty, unknown, feed_bytes, Shows, known}
 use Rattle.rd_term.specs.declared.reading.Reading.TheVariants.{Between}
 use Rattle.rd_ucd.specs.Data.{Data}
+use Rattle.rd_term.proofs.Shapes.{grid-known}
 use Rattle.rd_update.specs.Laws.{IsReady, IsUpdated, IsCurrent, IsSound}
 use Rattle.rd_update.specs.Plans.{HaveOneSize}
 use Rattle.rd_update.specs.Updates.{Update}
@@ -82,15 +83,6 @@ forgotten-at v t h =
 
 -- ---- a redisplay
 
--- known rows have the size of the rows
-length-known : (rows : List (List Cell)) → length (known rows) ≡ length rows
-length-known rows = length-map rows (map Some)
-
-grid-known : (w : ℕ) (rows : List (List Cell)) → IsGrid w rows → IsGrid w (known rows)
-grid-known w rows h k d p =
-    let within : k < length rows = omega (arith, length-known rows) in
-    ap length (get_or-map (map Some) rows k [] d within) ∙ length-map (get_or rows k []) Some ∙ h k [] within
-
 -- a redisplay leaves the frame
 same-frame : (files : Data) (s : StateValue) → AreOfOneSize s (laid_out files s).state
 unfolding laid_out
@@ -117,7 +109,7 @@ ready laws v t h =
 updated-at : (v next : SessionValue) (u : Update) (target : Picture) (t : Tty) → IsSession next → AreOfOneSize v.state next.state → next.current ≡ Some u.screen
     → IsUpdated v.state.width v.state.height u target t → IsAt next t
 updated-at v next u target t session same now h =
-    let rows : length t.rows ≡ v.state.height = ap length h.cells ∙ length-known u.screen.rows ∙ h.size.rows in
+    let rows : length t.rows ≡ v.state.height = ap length h.cells ∙ length-map u.screen.rows (map Some) ∙ h.size.rows in
     let each : IsGrid v.state.width t.rows = subst (IsGrid v.state.width) (sym h.cells) (grid-known v.state.width u.screen.rows h.size.each) in
     let Current : ℕ → ℕ → Option Picture → Type 0 = λ w n c. IsCurrent w n c t in
     let current : Current v.state.width v.state.height (Some u.screen) = (h.size, h.cells, h.pen) in

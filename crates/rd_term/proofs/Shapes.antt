@@ -5,7 +5,7 @@ use Rattle.std.proofs.lemmas.List.Elements.{All-append, All-take, All-drop, All-
 use Rattle.rd_base.specs.declared.cell.Cell.{Cell}
 use Rattle.rd_term.specs.Pictures.{blank, width_of, IsGrid}
 use Rattle.rd_term.specs.Shifts.{cleared, moved_down, moved_up, changed_between}
-use Rattle.rd_term.specs.Terminals.{IsTerminal, IsWithin, HasRegion}
+use Rattle.rd_term.specs.Terminals.{IsTerminal, IsWithin, HasRegion, known}
 
 abbrev pub Rows : Type 0
 Rows = List (List (Option Cell))
@@ -18,6 +18,10 @@ IsWhole rows cursor latest region = IsTerminal rows cursor × IsWithin rows late
 pub grid-width : {A : Type 0} (width : ℕ) (rows : List (List A)) → 0 < length rows → IsGrid width rows → width_of rows ≡ width
 grid-width width [] some h = absurd (omega arith)
 grid-width width (row ∷ rows) some h = h 0 [] (omega arith)
+
+-- rows that a screen shows, as a terminal knows them
+pub grid-known : (width : ℕ) (rows : List (List Cell)) → IsGrid width rows → IsGrid width (known rows)
+grid-known width rows h = All-map (λ (row : List (Option Cell)). length row ≡ width) (map Some) rows (λ k d lt. length-map (get_or rows k d) Some ∙ h k d lt)
 
 some-rows : (rows : Rows) → 0 < width_of rows → 0 < length rows
 some-rows [] some = absurd (omega arith)

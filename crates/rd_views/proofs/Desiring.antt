@@ -19,10 +19,10 @@ use Rattle.rd_layout.specs.Redisplays.{AreLaidOut, IsLaidOutBy, allowance_by, al
 use Rattle.rd_layout.specs.Sessions.{SessionValue, layout_of}
 use Rattle.rd_layout.specs.Windows.{place_of, places, views_at, views_by, wanted_of, window_shape, window_source}
 use Rattle.rd_layout.proofs.Known.{Last, layout-there}
-use Rattle.rd_layout.proofs.Placed.{number-of}
+use Rattle.rd_layout.proofs.Placed.{number-of, placed-here, placed-there}
 use Rattle.rd_views.specs.Layings.{AreDesired, AreOnce, IsDesiredAt, IsDesiredBy, layout_in, layout_taken, layouts_taken, no_layout, shown_by, views_taken, window_in}
 use Rattle.rd_views.specs.declared.desired.LaidWindow.{LaidWindow}
-use Rattle.rd_views.proofs.Placing.{AreApart, placed-here, placed-there}
+use Rattle.rd_views.proofs.Placing.{AreApart}
 
 -- ---- one window
 

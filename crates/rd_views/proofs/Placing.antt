@@ -1,17 +1,11 @@
 -- The numbers of the windows of a frame stand once.
-use Rattle.std.proofs.Common.{◌≡◌, ◌≢◌, inl, inr, ℕ, ◌≤◌, ◌==◌, Option, None, Some, List, [], ◌∷◌, ◌++◌, sym, refl, ◌∙◌, arith}
-use Rattle.std.proofs.lemmas.Bool.{cases_eq, cond-false, cond-true, eq-eqb, ne_eqb}
+use Rattle.std.proofs.Common.{◌≡◌, inl, inr, ℕ, ◌≤◌, Option, None, Some, List, [], ◌∷◌, ◌++◌, sym, refl, ◌∙◌, arith}
+use Rattle.std.proofs.lemmas.Bool.{cases_eq}
 use Rattle.std.proofs.lemmas.Option.{none-some}
 use Rattle.rd_tree.specs.Windows.{Windows, Window, Split, first_part, of_number, placed, second_part, times}
 use Rattle.rd_tree.specs.declared.placed.Placed.{Placed}
 use Rattle.rd_tree.specs.declared.rect.Rect.{Rect}
-use Rattle.rd_layout.proofs.Placed.{found-once}
-
-pub placed-here : (n : ℕ) (p : Placed) (ps : List Placed) → p.number ≡ n → of_number n (p ∷ ps) ≡ Some p
-placed-here n p ps h = cond-true (p.number == n) (Some p) (of_number n ps) (eq-eqb p.number n h)
-
-pub placed-there : (n : ℕ) (p : Placed) (ps : List Placed) → p.number ≢ n → of_number n (p ∷ ps) ≡ of_number n ps
-placed-there n p ps h = cond-false (p.number == n) (Some p) (of_number n ps) (ne_eqb p.number n h)
+use Rattle.rd_layout.proofs.Placed.{found-once, placed-here, placed-there}
 
 -- no window has the number of another
 abbrev pub AreApart : List Placed → Type 0

@@ -22,10 +22,9 @@ use Rattle.rd_layout.proofs.ByNumber.{window-became}
 use Rattle.rd_state.proofs.ByNumber.{NumberedWindow, window-here, window-other, window-same, window-there}
 use Rattle.rd_state.proofs.Options.{mapped}
 use Rattle.rd_layout.proofs.Known.{Last, layout-here, layout-there}
-use Rattle.rd_layout.proofs.Placed.{number-of}
+use Rattle.rd_layout.proofs.Placed.{number-of, placed-here, placed-there}
 use Rattle.rd_views.specs.Layings.{AreDesired, AreOnce, CanSettle, IsDesiredBy, all_settled}
 use Rattle.rd_views.specs.declared.desired.LaidWindow.{LaidWindow}
-use Rattle.rd_views.proofs.Placing.{placed-here, placed-there}
 
 -- ---- the windows alone
 
