@@ -33,7 +33,7 @@ use Rattle.rd_layout.specs.Changes.{change_by, if_shown, restyled}
 use Rattle.rd_layout.proofs.ByNumber.{window-became}
 use Rattle.rd_layout.proofs.Standing.{one-of}
 use Rattle.rd_state.proofs.ByNumber.{NumberedWindow, window-here, window-other, window-same, window-there, window-gone, window-left}
-use Rattle.rd_state.proofs.Options.{one-value}
+use Rattle.rd_state.proofs.Options.{one-value, get-set}
 use Rattle.rd_state.proofs.Tests.{if-ok}
 
 -- an effect tells no change of a window that shows a buffer
@@ -117,24 +117,13 @@ pushed (c ∷ cs) x (suc k) b h = pushed cs x k b h
 contents-pushed : (effect : Effect) (bs : List BufferValue) (x : BufferValue) → Contents effect bs (bs ++ x ∷ [])
 contents-pushed effect bs x number k b c hb hc quiet = same-content b c (one-value (slice_get (bs ++ x ∷ []) k) b c (pushed bs x k b hb) hc)
 
--- what stands at a place of a list after a write
-at-set : (bs : List BufferValue) (i k : ℕ) (x c : BufferValue) → slice_get (set bs i x) k ≡ Some c → ((k ≡ i) × (c ≡ x)) ⊎ ((k ≢ i) × (slice_get bs k ≡ Some c))
-at-set [] i k x c h = absurd (cc)
-at-set (b ∷ bs) zero zero x c h = inl (refl, cc)
-at-set (b ∷ bs) zero (suc k) x c h = inr (λ e. absurd (omega arith), h)
-at-set (b ∷ bs) (suc i) zero x c h = inr (λ e. absurd (omega arith), h)
-at-set (b ∷ bs) (suc i) (suc k) x c h = elim (at-set bs i k x c h) [
-  | inl p ↦ inl (ap suc p.0, p.1)
-  | inr p ↦ inr (λ e. p.0 (omega arith), p.1)
-]
-
 -- one buffer holds something else: the effect tells it, or the same is seen of it
 abbrev pub Kept : Effect → ℕ → ContentValue → ContentValue → Type 0
 Kept effect i old new = Loud effect i ⊎ (seen new ≡ seen old)
 
 contents-set : (effect : Effect) (bs : List BufferValue) (i : ℕ) (x : BufferValue) (content : ContentValue) → slice_get bs i ≡ Some x → Kept effect i x.content content
     → Contents effect bs (set bs i (record x { content = content }))
-contents-set effect bs i x content at kept number k b c hb hc quiet = elim (at-set bs i k (record x { content = content }) c hc) [
+contents-set effect bs i x content at kept number k b c hb hc quiet = elim (get-set bs i k (record x { content = content }) c hc) [
   | inl p ↦ elim kept [
     | inl loud ↦ absurd (loud number k p.0 quiet)
     | inr is ↦

@@ -48,6 +48,7 @@ use Rattle.rd_tree.specs.declared.placed.Placed.{Placed}
 use Rattle.rd_tree.specs.declared.rect.Rect.{Rect}
 use Rattle.rd_ucd.specs.Data.{Data}
 use Rattle.rd_window.specs.Views.{start_row}
+use Rattle.rd_state.proofs.Options.{mapped}
 use Rattle.rd_layout.specs.Laws.{FitLaws}
 use Rattle.rd_layout.specs.Panes.{cells_of_pieces, facts_of, margin_of, margin_text, mode_line, pane_of, text_of, widths_of}
 use Rattle.rd_layout.specs.Screens.{cursor_at, cursor_by, frame_in, pane_at, pane_by}
@@ -143,10 +144,6 @@ leaf-found n (Split side size first second) rect leaf h =
     split-found n (placed first (first_part side size rect)) (placed second (second_part side size rect)) (leaf_at n first) (leaf_at n second) leaf
     (λ x is. leaf-found n first (first_part side size rect) x is) (λ x is. leaf-found n second (second_part side size rect) x is) h
 
-some-leaf : (n : ℕ) (o : Option WindowState) (leaf : Bool × ℕ) → option_map leaf_of o ≡ Some leaf → (w : WindowState) × (o ≡ Some w) × (leaf_of w ≡ leaf)
-some-leaf n None leaf h = absurd (cc)
-some-leaf n (Some w) leaf h = (w, refl, cc)
-
 codes-of : (o : Option TextValue) → ((t : TextValue) → o ≡ Some t → AreCodes t.chars) → AreCodes (text_of o)
 codes-of None h = All-from_recursion (λ c. IsTrue (is_code c)) [] tt
 codes-of (Some t) h = h t refl
@@ -178,7 +175,7 @@ line-told t pos is =
 
 module _ (laws : FitLaws) (files : Data) (s : StateValue) (valid : IsValid s) where
   pub place-window : (p : Placed) → place_of p.number s ≡ Some p → (w : WindowState) × (window_of p.number s.windows ≡ Some w) × (leaf_of w ≡ (p.mode, p.margins))
-  place-window p at = some-leaf p.number (window_of p.number s.windows) (p.mode, p.margins) (sym (valid.windows.leaves p.number) ∙ laws.leaf p.number s.tree.windows (frame_of s.tree) p at)
+  place-window p at = mapped leaf_of (window_of p.number s.windows) (p.mode, p.margins) (sym (valid.windows.leaves p.number) ∙ laws.leaf p.number s.tree.windows (frame_of s.tree) p at)
 
   pub shown-right : (w : WindowState) → IsWindow s.buffers w → IsContent s.objects (shown_content s w)
   shown-right w window =

@@ -45,6 +45,7 @@ use Rattle.rd_ucd.specs.Data.{Data}
 use Rattle.rd_ucd.specs.declared.spans.Span.{Span}
 use Rattle.rd_update.specs.Laws.{IsSound}
 use Rattle.rd_window.specs.Views.{WindowView}
+use Rattle.rd_state.proofs.Tests.{text-codes}
 use Rattle.rd_layout.specs.Laws.{FitLaws}
 use Rattle.rd_layout.specs.Panes.{border_in, border_slot, cells_of_pieces, facts_of, margin_of, mode_line, pane_of, widths_of}
 use Rattle.rd_layout.specs.Screens.{frame_in, laid_out, pane_at, pane_by}
@@ -70,14 +71,8 @@ pub record SoundLaws : Type 0 where
 
 -- ---- characters
 
-codes-each : (text : List ℕ) → each is_scalar text ≡ true → AreCodes text
-codes-each [] h = All-nil (λ (c : ℕ). IsTrue (is_code c))
-codes-each (c ∷ cs) h =
-    let parts = and_parts (is_scalar c) (each is_scalar cs) h in
-    All-cons (λ (x : ℕ). IsTrue (is_code x)) c cs (or_left (is_scalar c) _ parts.0) (codes-each cs parts.1)
-
 plain-codes : (text : List ℕ) → IsTrue (is_plain_text text) → AreCodes text
-plain-codes text h = codes-each text (and_parts (each is_scalar text) _ h).0
+plain-codes text h = text-codes text (and_parts (each is_scalar text) _ h).0
 
 -- the characters of a buffer's name
 name-each : (cs : List ℕ) → list_all is_name_character cs ≡ true → AreCodes cs

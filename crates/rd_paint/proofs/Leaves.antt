@@ -17,24 +17,17 @@ use Rattle.rd_tree.specs.Windows.{leaves, window_at}
 use Rattle.rd_tree.specs.declared.placed.Placed.{Placed}
 use Rattle.rd_ucd.specs.Data.{Data}
 use Rattle.rd_window.specs.Views.{WindowView}
+use Rattle.rd_state.proofs.Options.{mapped}
 use Rattle.rd_layout.specs.Windows.{place_of, places, view_in, views_at, views_by, views_in}
 use Rattle.rd_layout.proofs.ByNumber.{buffer-there}
 use Rattle.rd_layout.proofs.Placed.{all-places, number-of}
 use Rattle.rd_paint.specs.Laws.{LeafLaws}
 use Rattle.rd_paint.specs.Shown.{IsLeaf, painted_of}
 
-some-window : (o : Option WindowState) (leaf : Bool × ℕ) → option_map leaf_of o ≡ Some leaf → (w : WindowState) × (o ≡ Some w)
-some-window None leaf h = absurd (cc)
-some-window (Some w) leaf h = (w, refl)
-
 -- an answer that is nothing
 pub nothing : {A : Type 0} (o : Option A) (P : Type 0) (Q : A → Type 0) → o ≡ None → P → MatchOption o P Q
 nothing None P Q h p = p
 nothing (Some x) P Q h p = absurd (cc)
-
-some-mapped : (o : Option BufferValue) (c : BufferValue) → Some c ≡ option_map painted_of o → (b : BufferValue) × (o ≡ Some b) × (c ≡ painted_of b)
-some-mapped None c h = absurd (cc)
-some-mapped (Some b) c h = (b, refl, ap (λ (x : Option BufferValue). unwrap_or x c) h)
 
 -- what is asked of a tree that is the state's
 pub leaf-of-tree : (s : StateValue) (t : Configuration) (i : ℕ) (o : Option ℕ) → t ≡ s.tree → o ≡ slice_get (leaves t.windows) i → slice_get (leaves s.tree.windows) i ≡ o
@@ -57,7 +50,8 @@ module _ (laws : LeafLaws) (s : StateValue) (valid : IsValid s) where
   -- a window of the frame lives
   pub window-there : (p : Placed) → place_of p.number s ≡ Some p → (w : WindowState) × (window_of p.number s.windows ≡ Some w)
   window-there p at =
-      some-window (window_of p.number s.windows) (p.mode, p.margins) (sym (valid.windows.leaves p.number) ∙ laws.leaf p.number s.tree.windows (frame_of s.tree) p at)
+      let w = mapped leaf_of (window_of p.number s.windows) (p.mode, p.margins) (sym (valid.windows.leaves p.number) ∙ laws.leaf p.number s.tree.windows (frame_of s.tree) p at) in
+      (w.0, w.1.0)
 
   -- the window at a leaf's place
   pub leaf-place : (i number : ℕ) (p : Placed) → slice_get (leaves s.tree.windows) i ≡ Some number → place_of number s ≡ Some p → slice_get (places s) i ≡ Some p
@@ -97,7 +91,7 @@ module _ (laws : LeafLaws) (s : StateValue) (valid : IsValid s) where
     listed = leaf-place i number p leaf at;
     placed = place-itself number p at;
     window = sym window;
-    buffer = some-mapped (slice_get s.buffers w.buffer) content buffer;
+    buffer = let b = mapped painted_of (slice_get s.buffers w.buffer) content (sym buffer) in (b.0, b.1.0, sym b.1.1);
   }
 
   -- what is shown at a place

@@ -18,7 +18,7 @@ use Rattle.rd_state.specs.declared.window.WindowState.{WindowState}
 use Rattle.rd_state.specs.States.{BufferValue, ContentValue, StateValue, opening, main_name, opening_window, new_buffer}
 use Rattle.rd_state.specs.Windows.{window_of, with_window, leaf_of}
 use Rattle.rd_state.proofs.ByNumber.{window-each}
-use Rattle.rd_state.proofs.Keeping.{holding, moved_by, get-set}
+use Rattle.rd_state.proofs.Keeping.{holding, moved_by}
 use Rattle.rd_state.specs.Valid.{IsContent, IsWindow, IsValid}
 use Rattle.rd_state.specs.Edits.{insertion, deletion, narrowing, widening, property_putting, overlay_making, overlay_moving, overlay_dropping, overlay_putting, mark_putting, setting_putting}
 use Rattle.rd_state.specs.Making.{table_of}
@@ -26,9 +26,11 @@ use Rattle.rd_state.specs.Moves.{moved, moved_in}
 use Rattle.rd_state.specs.Steps.{replaced, moving, changing, typing, raw_text, held, step, settled}
 use Rattle.rd_state.proofs.Below.{TextLaws, MadeLaws, ObjectLaws, GrowLaws, TreeLaws}
 use Rattle.rd_state.proofs.Naming.{setting-keeps, mark-keeps, string-valid, spec-valid, face-valid, table-valid, making-valid, new-valid}
+use Rattle.rd_state.proofs.Options.{get-set}
 use Rattle.rd_state.proofs.Showing.{set-valid, found-ok, buffer-ok, setting-valid, placing-valid, point-keeps, start-keeps, look-keeps, scroll-keeps, showing-valid, splitting-valid, removing-valid, resizing-valid, selecting-valid, mode_lining-valid, margining-valid}
 use Rattle.rd_state.proofs.Slots.{table-right}
-use Rattle.rd_state.proofs.Stepping.{text-codes, raw-codes, edited-valid, edited_moving-valid, moving-done, insertion-keeps, insertion-means, deletion-keeps, narrowing-keeps, widening-keeps, put-keeps, making-keeps, moving-keeps, dropping-keeps, giving-keeps}
+use Rattle.rd_state.proofs.Stepping.{raw-codes, edited-valid, edited_moving-valid, moving-done, insertion-keeps, insertion-means, deletion-keeps, narrowing-keeps, widening-keeps, put-keeps, making-keeps, moving-keeps, dropping-keeps, giving-keeps}
+use Rattle.rd_state.proofs.Tests.{text-codes}
 
 -- the laws of all layers below
 pub record Laws : Type 0 where

@@ -1,5 +1,5 @@
 -- What stays valid where one part of a state becomes another.
-use Rattle.std.proofs.Common.{◌≡◌, ◌≢◌, ℕ, zero, suc, ◌+◌, ◌<◌, ◌≤◌, ◌⊎◌, inl, inr, ◌==◌, Bool, true, false, is_some, if◌then◌else◌, Option, None, Some, List, [], ◌∷◌, ◌++◌, length, map, set, get_or, subst, sym, ap, refl, ◌∙◌, arith, length-append}
+use Rattle.std.proofs.Common.{◌≡◌, ◌≢◌, ℕ, ◌+◌, ◌<◌, ◌≤◌, ◌⊎◌, inl, inr, ◌==◌, Bool, true, false, is_some, if◌then◌else◌, Option, None, Some, List, [], ◌∷◌, ◌++◌, length, map, set, get_or, subst, sym, ap, refl, ◌∙◌, arith, length-append}
 use Rattle.std.proofs.lemmas.Bool.{eqb-true, eqb-false, cases_eq}
 use Rattle.std.proofs.lemmas.List.{length-set}
 use Rattle.std.proofs.lemmas.List.Sums.{fails_before_first}
@@ -19,21 +19,9 @@ use Rattle.rd_state.specs.Windows.{window_of, with_window, leaf_at, leaf_of}
 use Rattle.rd_state.specs.Valid.{most_buffers, AreToldByName, AreBuffers, IsContent, IsWindow, AreWindows}
 use Rattle.rd_state.specs.Moves.{place_after, moved, moved_in}
 use Rattle.rd_state.proofs.ByNumber.{NumberedWindow, window-each, apart-each, get-each, window-same, window-other, apart-with, get-with, get-end, window-at}
-use Rattle.rd_state.proofs.Options.{map-map}
+use Rattle.rd_state.proofs.Options.{map-map, get-set}
 
 -- ---- buffers
-
--- what stands at a place of a list after a write
-pub get-set : {X : Type 0} (xs : List X) (i k : ℕ) (c b : X) → slice_get (set xs i c) k ≡ Some b
-    → ((k ≡ i) × (b ≡ c)) ⊎ ((k ≢ i) × (slice_get xs k ≡ Some b))
-get-set [] i k c b h = absurd (cc)
-get-set (x ∷ xs) zero zero c b h = inl (refl, cc)
-get-set (x ∷ xs) zero (suc k) c b h = inr (λ e. absurd (omega arith), h)
-get-set (x ∷ xs) (suc i) zero c b h = inr (λ e. absurd (omega arith), h)
-get-set (x ∷ xs) (suc i) (suc k) c b h = elim (get-set xs i k c b h) [
-  | inl p ↦ inl (ap suc p.0, p.1)
-  | inr p ↦ inr (λ e. p.0 (omega arith), p.1)
-]
 
 -- a buffer that holds something else
 abbrev pub holding : BufferValue → ContentValue → BufferValue

@@ -22,10 +22,10 @@ use Rattle.rd_state.specs.Moves.{moved_in}
 use Rattle.rd_state.specs.Steps.{with_found, replaced, moving, edited, edited_moving}
 use Rattle.rd_state.proofs.Below.{LeaveLaws}
 use Rattle.rd_state.proofs.Contents.{grown-is, shrunk-is, put-is, overlays-are, with_property, with_overlays}
-use Rattle.rd_state.proofs.Keeping.{holding, get-set}
+use Rattle.rd_state.proofs.Keeping.{holding}
 use Rattle.rd_state.proofs.Stepping.{insertion-means, deletion-means}
 use Rattle.rd_state.proofs.Tests.{if-ok, if-not, is_accessible_range-means, is_range_of_all-means}
-use Rattle.rd_state.proofs.Options.{one-value}
+use Rattle.rd_state.proofs.Options.{one-value, get-set}
 
 -- ---- the same buffer
 

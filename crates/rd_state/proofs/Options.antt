@@ -1,6 +1,6 @@
 -- What an option holds, and choices of options.
-use Rattle.std.proofs.Common.{◌≡◌, ℕ, Bool, true, false, cond, is_some, Option, None, Some, ap, refl}
-use Rattle.std.specs.Prelude.{option_map}
+use Rattle.std.proofs.Common.{◌≡◌, ℕ, Bool, true, false, cond, is_some, Option, None, Some, ap, refl, ◌≢◌, ◌⊎◌, zero, suc, List, [], ◌∷◌, set, inl, inr, arith}
+use Rattle.std.specs.Prelude.{option_map, slice_get}
 use Rattle.std.specs.Option.{option_or}
 
 pub one-value : {X : Type 0} (o : Option X) (x y : X) → o ≡ Some x → o ≡ Some y → x ≡ y
@@ -25,3 +25,15 @@ map-map f g h (Some x) e = ap (λ z. Some z) (e x)
 pub mapped : {X Y : Type 0} (f : X → Y) (o : Option X) (y : Y) → option_map f o ≡ Some y → (x : X) × (o ≡ Some x) × (f x ≡ y)
 mapped f None y h = absurd (cc)
 mapped f (Some x) y h = (x, refl, cc)
+
+-- what stands at a place of a list after a write
+pub get-set : {X : Type 0} (xs : List X) (i k : ℕ) (c b : X) → slice_get (set xs i c) k ≡ Some b
+    → ((k ≡ i) × (b ≡ c)) ⊎ ((k ≢ i) × (slice_get xs k ≡ Some b))
+get-set [] i k c b h = absurd (cc)
+get-set (x ∷ xs) zero zero c b h = inl (refl, cc)
+get-set (x ∷ xs) zero (suc k) c b h = inr (λ e. absurd (omega arith), h)
+get-set (x ∷ xs) (suc i) zero c b h = inr (λ e. absurd (omega arith), h)
+get-set (x ∷ xs) (suc i) (suc k) c b h = elim (get-set xs i k c b h) [
+  | inl p ↦ inl (ap suc p.0, p.1)
+  | inr p ↦ inr (λ e. p.0 (omega arith), p.1)
+]

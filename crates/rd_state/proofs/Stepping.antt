@@ -1,10 +1,10 @@
 -- A step leads from a valid state to a valid one: the ops on buffers and on objects.
 use Rattle.std.proofs.Common.{◌≡◌, ◌≢◌, ℕ, ◌+◌, ◌-◌, ◌<◌, ◌≤◌, ◌==◌, ◌&&◌, ◌||◌, Bool, true, false, is_some, if◌then◌else◌, nat_lt, nat_le, ℤ, Option, None, Some, Result, Ok, Err, List, [], ◌∷◌, ◌++◌, length, map, min, max, subst, sym, ap, refl, ◌∙◌, arith, IsTrue}
-use Rattle.std.proofs.lemmas.Bool.{and_parts, ltb-true, ltb-false, leb-true, or_left, or_right}
+use Rattle.std.proofs.lemmas.Bool.{ltb-true, ltb-false, leb-true, or_right}
 use Rattle.std.proofs.lemmas.Bool.Decides.{nat_tests}
-use Rattle.std.proofs.lemmas.List.Elements.{All-nil, All-cons, All-map, All-weaker}
+use Rattle.std.proofs.lemmas.List.Elements.{All-map, All-weaker}
 use Rattle.std.specs.Prelude.{All, slice_get, slice_set}
-use Rattle.rd_base.specs.Chars.{is_scalar, is_code}
+use Rattle.rd_base.specs.Chars.{is_code, is_scalar}
 use Rattle.rd_text.specs.Texts.{TextValue, IsAccessible, most_characters}
 use Rattle.rd_text.specs.Answers.{IsAccessibleRange, IsRangeOfAll}
 use Rattle.rd_overlays.specs.declared.overlay.Kind.{Kind}
@@ -12,7 +12,7 @@ use Rattle.rd_overlays.specs.Overlays as overlays
 use Rattle.rd_overlays.specs.Overlays.{overlay_at, new_overlay, after_deletion}
 use Rattle.rd_objects.specs.Things.{ObjectLists}
 use Rattle.rd_objects.specs.Sound.{AreCodes}
-use Rattle.rd_script.specs.Forms.{each, is_text, is_text_kind, IsRawByte}
+use Rattle.rd_script.specs.Forms.{is_text_kind, IsRawByte}
 use Rattle.rd_state.specs.declared.moves.Move.{Move}
 use Rattle.rd_state.specs.declared.moves.Move.TheVariants.{Inserted, Deleted, Narrowed}
 use Rattle.rd_state.specs.declared.refused.Refused.{Refused}
@@ -29,12 +29,6 @@ use Rattle.rd_state.proofs.Keeping.{holding, buffers-replaced, windows-replaced,
 use Rattle.rd_state.proofs.Tests.{if-ok, if-not, is_accessible-means, is_accessible_range-means, is_range_of_all-means}
 
 -- ---- texts
-
-pub text-codes : (text : List ℕ) → is_text text ≡ true → AreCodes text
-text-codes [] h = All-nil (λ (c : ℕ). IsTrue (is_code c))
-text-codes (c ∷ cs) h =
-    let parts = and_parts (is_scalar c) (each is_scalar cs) h in
-    All-cons (λ (x : ℕ). IsTrue (is_code x)) c cs (or_left (is_scalar c) _ parts.0) (text-codes cs parts.1)
 
 raw-code : (byte : ℕ) → IsRawByte byte → is_code (1114112 + byte) ≡ true
 raw-code byte h =

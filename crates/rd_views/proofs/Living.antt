@@ -10,6 +10,7 @@ use Rattle.rd_tree.specs.Calls.{frame_of}
 use Rattle.rd_tree.specs.Windows.{Windows, Window, Split, times, window_at}
 use Rattle.rd_tree.specs.declared.placed.Placed.{Placed}
 use Rattle.rd_tree.specs.declared.rect.Rect.{Rect}
+use Rattle.rd_state.proofs.Options.{mapped}
 use Rattle.rd_layout.specs.Windows.{place_of}
 
 -- what the tree says of a window that is placed
@@ -44,10 +45,7 @@ far-window s number valid far = by (window_of number s.windows) refl where
 
 -- ---- a window that has a place lives
 
-some-leaf : (o : Option WindowState) (leaf : Bool × ℕ) → option_map leaf_of o ≡ Some leaf → (w : WindowState) × (o ≡ Some w)
-some-leaf None leaf h = absurd (cc)
-some-leaf (Some w) leaf h = (w, refl)
-
 pub placed-lives : LeafLaw → (s : StateValue) (number : ℕ) (p : Placed) → IsValid s → place_of number s ≡ Some p → (w : WindowState) × (window_of number s.windows ≡ Some w)
 placed-lives law s number p valid at =
-    some-leaf (window_of number s.windows) (p.mode, p.margins) (sym (valid.windows.leaves number) ∙ law number s.tree.windows (frame_of s.tree) p at)
+    let w = mapped leaf_of (window_of number s.windows) (p.mode, p.margins) (sym (valid.windows.leaves number) ∙ law number s.tree.windows (frame_of s.tree) p at) in
+    (w.0, w.1.0)
