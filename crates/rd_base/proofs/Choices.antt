@@ -1,6 +1,6 @@
 -- What follows from a test, from an option, and of the one of two that is chosen.
-use Rattle.std.proofs.Common.{◌≡◌, ◌≤◌, Bool, true, false, not, ◌||◌, cond, Option, None, Some, IfSome, is_some, refl, sym, ap, ◌∙◌, arith}
-use Rattle.std.specs.Option.{option_map}
+use Rattle.std.proofs.Common.{◌≡◌, ◌≤◌, ◌⊎◌, inl, inr, Bool, true, false, not, ◌||◌, cond, Option, None, Some, IfSome, is_some, refl, sym, ap, ◌∙◌, arith}
+use Rattle.std.specs.Option.{option_map, option_or}
 use Rattle.std.proofs.Math.Bool.{not-not}
 use Rattle.std.proofs.lemmas.Option.{none-some}
 
@@ -43,6 +43,10 @@ some-of (Some x) e = (x, refl)
 pub if-value : {X : Type 0} (P : X → Type 0) (o : Option X) → ((x : X) → o ≡ Some x → P x) → IfSome o P
 if-value P None all = tt
 if-value P (Some x) all = all x refl
+
+pub or-some : {X : Type 0} (o p : Option X) (x : X) → option_or o p ≡ Some x → (o ≡ Some x) ⊎ (p ≡ Some x)
+or-some None p x e = inr e
+or-some (Some y) p x e = inl e
 
 pub map-some : {X Y : Type 0} (f : X → Y) (o : Option X) (y : Y) → option_map f o ≡ Some y → (x : X) × (o ≡ Some x) × (f x ≡ y)
 map-some f None y e = absurd (none-some y e)

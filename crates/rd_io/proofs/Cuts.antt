@@ -1,10 +1,10 @@
 -- Texts without a newline, and the lines of a text.
-use Rattle.std.proofs.Common.{◌≡◌, ◌≢◌, ℕ, zero, suc, ◌+◌, ◌==◌, Bool, true, false, cond, List, [], ◌∷◌, ◌++◌, take, drop, Option, None, Some, refl, sym, ap, ◌∙◌, subst, append_assoc, arith, add-one, MatchOption}
+use Rattle.std.proofs.Common.{◌≡◌, ◌≢◌, ℕ, suc, ◌+◌, ◌==◌, Bool, true, false, cond, List, [], ◌∷◌, ◌++◌, take, drop, Option, None, Some, refl, sym, ap, ◌∙◌, subst, append_assoc, arith, add-one, MatchOption}
 use Rattle.std.specs.List.{AllByRecursion, position_from}
 use Rattle.std.specs.Prelude.{position}
 use Rattle.std.proofs.lemmas.Bool.{eqb-true, eqb-false, ne_eqb}
 use Rattle.std.proofs.lemmas.Iterator.Adapters.{position_from-zero}
-use Rattle.rd_base.proofs.Lists.{each-append}
+use Rattle.rd_base.proofs.Lists.{each-append, each-take}
 use Rattle.rd_io.specs.Lines.{IsUnbroken, lines_of, text_of_lines, last_of}
 use Rattle.rd_io.specs.Pieces.{BreaksAt}
 
@@ -12,9 +12,7 @@ pub unbroken-append : (xs ys : List ℕ) → IsUnbroken xs → IsUnbroken ys →
 unbroken-append = each-append (λ b. b ≢ 10)
 
 pub unbroken-take : (n : ℕ) (xs : List ℕ) → IsUnbroken xs → IsUnbroken (take n xs)
-unbroken-take zero xs p = tt
-unbroken-take (suc n) [] p = tt
-unbroken-take (suc n) (x ∷ xs) p = (p.0, unbroken-take n xs p.1)
+unbroken-take = each-take (λ b. b ≢ 10)
 
 -- where a search from an index on leads
 abbrev pub Leads : ℕ → List ℕ → Option ℕ → Type 0

@@ -7,6 +7,7 @@ use Rattle.std.specs.List.{All, AllByRecursion, find}
 use Rattle.std.specs.Option.{option_and_then, option_or}
 use Rattle.std.proofs.lemmas.Option.{get_or_from_slice_get, slice_get_within}
 use Rattle.std.specs.Prelude.{IfSome, IsTrue, option_map, slice_get, slice_index_or}
+use Rattle.rd_base.proofs.Choices.{map-some, some-of}
 use Rattle.rd_base.specs.Chars.{is_code}
 use Rattle.rd_base.specs.declared.element.Element.{Element}
 use Rattle.rd_base.proofs.Lists.{each-append}
@@ -48,7 +49,6 @@ use Rattle.rd_tree.specs.declared.placed.Placed.{Placed}
 use Rattle.rd_tree.specs.declared.rect.Rect.{Rect}
 use Rattle.rd_ucd.specs.Data.{Data}
 use Rattle.rd_window.specs.Views.{start_row}
-use Rattle.rd_state.proofs.Options.{mapped}
 use Rattle.rd_layout.specs.Laws.{FitLaws}
 use Rattle.rd_layout.specs.Panes.{cells_of_pieces, facts_of, margin_of, margin_text, mode_line, pane_of, text_of, widths_of}
 use Rattle.rd_layout.specs.Screens.{cursor_at, cursor_by, frame_in, pane_at, pane_by}
@@ -175,7 +175,7 @@ line-told t pos is =
 
 module _ (laws : FitLaws) (files : Data) (s : StateValue) (valid : IsValid s) where
   pub place-window : (p : Placed) → place_of p.number s ≡ Some p → (w : WindowState) × (window_of p.number s.windows ≡ Some w) × (leaf_of w ≡ (p.mode, p.margins))
-  place-window p at = mapped leaf_of (window_of p.number s.windows) (p.mode, p.margins) (sym (valid.windows.leaves p.number) ∙ laws.leaf p.number s.tree.windows (frame_of s.tree) p at)
+  place-window p at = map-some leaf_of (window_of p.number s.windows) (p.mode, p.margins) (sym (valid.windows.leaves p.number) ∙ laws.leaf p.number s.tree.windows (frame_of s.tree) p at)
 
   pub shown-right : (w : WindowState) → IsWindow s.buffers w → IsContent s.objects (shown_content s w)
   shown-right w window =
@@ -253,10 +253,6 @@ module _ (laws : FitLaws) (files : Data) (s : StateValue) (valid : IsValid s) wh
     by : (w : Option WindowState) → window_of s.selected s.windows ≡ w → IfSome (cursor_by files s w (Some p)) (IsInBody s.width p)
     by None is = tt
     by (Some w) is = cursor-fits w p (ap (λ (n : ℕ). place_of n s) number ∙ at) (laws.found s s.selected w valid is)
-
-  some-of : (o : Option WindowState) → is_some o ≡ true → (w : WindowState) × (o ≡ Some w)
-  some-of None h = absurd (true≢false (sym h))
-  some-of (Some w) h = (w, refl)
 
   selected-there : is_some (place_of s.selected s) ≡ true
   selected-there =

@@ -2,6 +2,7 @@
 use Rattle.std.proofs.Common.{◌≡◌, ◌≢◌, ◌⊎◌, inl, inr, ℕ, ◌<◌, ◌≤◌, ◌==◌, Bool, true, false, if◌then◌else◌, Option, None, Some, Result, Ok, Err, List, [], ◌∷◌, length, sym, ap, refl, subst, subst₂, ◌∙◌, unwrap_or, arith}
 use Rattle.std.proofs.lemmas.Bool.{cases_eq, cond-false, cond-true, eq-eqb, ne_eqb}
 use Rattle.std.specs.Prelude.{slice_get, option_map, IfOk}
+use Rattle.rd_base.proofs.Choices.{map-some}
 use Rattle.rd_blocks.specs.Leads.{LeadsTo}
 use Rattle.rd_objects.specs.Sound.{Extends}
 use Rattle.rd_objects.specs.Things.{ObjectLists}
@@ -28,7 +29,6 @@ use Rattle.rd_state.specs.declared.effect.Effect.TheVariants.{Nothing, Edit, Mov
 use Rattle.rd_state.specs.declared.refused.Refused.{Refused}
 use Rattle.rd_state.specs.declared.refused.Refused.TheVariants.{NoWindow, NotShown}
 use Rattle.rd_state.specs.declared.window.WindowState.{WindowState}
-use Rattle.rd_state.proofs.Options.{mapped}
 use Rattle.rd_frame.specs.Panes.{body_height}
 use Rattle.rd_tree.specs.declared.placed.Placed.{Placed}
 use Rattle.rd_visual.specs.Hits.{hit_in}
@@ -216,7 +216,7 @@ stays-session laws v op t session form is = record {
 
   earlier : (number : ℕ) (l : Layout) → layout_of number (layouts_after (effect_of v.state op) t v.layouts) ≡ Some l
       → (l0 : Layout) × (layout_of number v.layouts ≡ Some l0) × (changed (change_in (effect_of v.state op) number (window_of number t.windows)) l0 ≡ l)
-  earlier number l h = mapped (changed (change_in (effect_of v.state op) number (window_of number t.windows))) (layout_of number v.layouts) l
+  earlier number l h = map-some (changed (change_in (effect_of v.state op) number (window_of number t.windows))) (layout_of number v.layouts) l
       (sym (layout-later (effect_of v.state op) t number v.layouts) ∙ h)
 
 -- ---- the opening, and all ops

@@ -4,6 +4,7 @@ use Rattle.std.proofs.lemmas.Bool.{cases_eq}
 use Rattle.std.proofs.lemmas.List.{length-map, length-replicate}
 use Rattle.std.proofs.lemmas.List.Elements.{All-replicate}
 use Rattle.std.specs.Prelude.{IfSome, slice_get, option_map}
+use Rattle.rd_base.proofs.Choices.{map-some}
 use Rattle.rd_base.specs.Faces.{plain}
 use Rattle.rd_base.specs.declared.cell.Cell.{Cell}
 use Rattle.rd_blocks.specs.Kept.{AreRowsAt}
@@ -31,7 +32,6 @@ use Rattle.rd_state.specs.States.{ContentValue, StateValue, seen}
 use Rattle.rd_state.specs.Valid.{IsValid, IsWindow}
 use Rattle.rd_state.specs.Windows.{content_in, shown_content, window_of}
 use Rattle.rd_state.specs.declared.window.WindowState.{WindowState}
-use Rattle.rd_state.proofs.Options.{mapped}
 use Rattle.rd_term.specs.Pictures.{IsGrid, IsOfSize, IsScreen, Picture, width_of}
 use Rattle.rd_term.specs.Terminals.{Tty, feed_bytes, known, unknown}
 use Rattle.rd_term.specs.declared.reading.Reading.TheVariants.{Between}
@@ -216,7 +216,7 @@ module _ (laws : SendLaws) (rows : ℕ) (done : Bool) (stop : Option ℕ) (old n
       let found = found-layout old number (places s) new.layouts l sent.layouts at in
       let p = found.1 in
       let place = placed-at laws.views.places s session.state found.0 p found.2 in
-      let x = mapped (λ w. settled_by old.files s w (place_of number s)) (window_of number s.windows) w (sym (same-windows number) ∙ lives) in
+      let x = map-some (λ w. settled_by old.files s w (place_of number s)) (window_of number s.windows) w (sym (same-windows number) ∙ lives) in
       let there : window_of p.number s.windows ≡ Some x.0 = ap (λ (k : ℕ). window_of k s.windows) found.3 ∙ x.1 in
       let laid = laid-of old.files s (layout_of p.number old.layouts) p (window_of p.number s.windows) x.0 l there found.4 in
       let placed : place_of number s ≡ Some p = ap (λ (k : ℕ). place_of k s) (sym found.3) ∙ place in

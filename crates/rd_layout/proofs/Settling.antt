@@ -2,6 +2,7 @@
 use Rattle.std.proofs.Common.{◌≡◌, ℕ, ◌+◌, ◌-◌, ◌<◌, ◌≤◌, Bool, true, false, if◌then◌else◌, Option, None, Some, List, [], ◌∷◌, map, sym, ap, refl, subst, ◌∙◌, arith}
 use Rattle.std.proofs.lemmas.Option.{slice_get-map}
 use Rattle.std.specs.Prelude.{IsSome, slice_get, option_map}
+use Rattle.rd_base.proofs.Choices.{map-some}
 use Rattle.rd_blocks.specs.Bases.{block_in, blocks_in}
 use Rattle.rd_frame.specs.Panes.{has_border}
 use Rattle.rd_items.specs.Blocks.{Adjoin, blocks_of}
@@ -23,7 +24,6 @@ use Rattle.rd_layout.specs.Screens.{settled_at, settled_by, settled_state}
 use Rattle.rd_layout.specs.Windows.{place_of, view_in, wanted_of, window_shape, window_source}
 use Rattle.rd_layout.proofs.ByNumber.{buffer-there, window-became}
 use Rattle.rd_state.proofs.ByNumber.{NumberedWindow}
-use Rattle.rd_state.proofs.Options.{mapped}
 use Rattle.rd_layout.proofs.Chosen.{chosen-anchor, chosen-point}
 
 -- ---- positions of the blocks are accessible
@@ -153,7 +153,7 @@ module _ (laws : ViewLaws) (files : Data) (s : StateValue) (valid : IsValid s) w
     leaves = λ n. valid.windows.leaves n ∙ sym (ap (option_map leaf_of) (window-became settled n s.windows) ∙ same-leaves n (window_of n s.windows));
     apart = apart-stays s.windows valid.windows.apart;
     each = λ k e at.
-        let d = mapped (settled_at files s) (slice_get s.windows k) e (sym (slice_get-map (settled_at files s) s.windows k) ∙ at) in
+        let d = map-some (settled_at files s) (slice_get s.windows k) e (sym (slice_get-map (settled_at files s) s.windows k) ∙ at) in
         subst (λ (x : NumberedWindow). IsWindow s.buffers x.1) d.2 (settled-window d.0.0 d.0.1 (place_of d.0.0 s) refl (valid.windows.each k d.0 d.1));
     selected = subst IsSome (sym (window-became settled s.selected s.windows)) (some-stays s.selected (window_of s.selected s.windows) valid.windows.selected);
   }

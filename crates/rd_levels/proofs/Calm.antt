@@ -3,6 +3,7 @@ use Rattle.std.proofs.Common.{◌≡◌, ℕ, zero, suc, ◌-◌, Bool, true, fa
 use Rattle.std.specs.List.{AllByRecursion as Each}
 use Rattle.std.specs.Prelude.{if◌then◌else◌, unwrap_or}
 use Rattle.std.proofs.lemmas.List.{length-set}
+use Rattle.rd_base.proofs.Lists.{each-take, each-drop}
 use Rattle.rd_base.specs.declared.class.Class.{Class}
 use Rattle.rd_base.specs.declared.class.Class.TheVariants.{L, R, AL, EN, ES, ET, AN, CS, NSM, B, S, WS, ON, LRI, RLI, FSI, PDI}
 use Rattle.rd_ucd.specs.declared.spans.BracketEntry.{BracketEntry}
@@ -158,16 +159,6 @@ holds-absent : (ts : List Class) → Each IsCalm ts → sides.holds R ts ≡ fal
 holds-absent [] ps = refl
 holds-absent (t ∷ ts) ps = ap (λ b. b || sides.holds R ts) (right-absent t ps.0) ∙ holds-absent ts ps.1
 
-drop-calm : (n : ℕ) (ts : List Class) → Each IsCalm ts → Each IsCalm (drop n ts)
-drop-calm zero ts ps = ps
-drop-calm (suc n) [] ps = tt
-drop-calm (suc n) (t ∷ ts) ps = drop-calm n ts ps.1
-
-take-calm : (n : ℕ) (ts : List Class) → Each IsCalm ts → Each IsCalm (take n ts)
-take-calm zero ts ps = tt
-take-calm (suc n) [] ps = tt
-take-calm (suc n) (t ∷ ts) ps = (ps.0, take-calm n ts ps.1)
-
 set-calm : (n : ℕ) (ts : List Class) (t : Class) → IsCalm t → Each IsCalm ts → Each IsCalm (set ts n t)
 set-calm n [] t p ps = tt
 set-calm zero (u ∷ ts) t p ps = (p, ps.1)
@@ -197,7 +188,7 @@ n0_with_pairs-calm sos place (None ∷ cs) ts ps = n0_with_pairs-calm sos (suc p
 n0_with_pairs-calm sos place (Some closing ∷ cs) ts ps =
     n0_with_pairs-calm sos (suc place) cs (sides.n0_with_pair L sos place closing ts)
     (both-calm (sides.n0_pair_side L (sides.last_side sos (take place ts)) (sides.between place closing ts)) place closing ts
-    (n0_pair_side-calm (sides.last_side sos (take place ts)) (sides.between place closing ts) (take-calm (closing - suc place) (drop (suc place) ts) (drop-calm (suc place) ts ps))) ps)
+    (n0_pair_side-calm (sides.last_side sos (take place ts)) (sides.between place closing ts) (each-take IsCalm (closing - suc place) (drop (suc place) ts) (each-drop IsCalm (suc place) ts ps))) ps)
 
 followed-calm : (side : Option Class) (c t : Class) → IsCalmSide side → IsCalmSide (sides.followed side c t)
 followed-calm side NSM ON p = p

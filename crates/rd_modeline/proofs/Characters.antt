@@ -6,6 +6,7 @@ use Rattle.std.proofs.lemmas.Bool.Decides.{nat_tests}
 use Rattle.std.proofs.lemmas.Fmt.{decimal_by_steps}
 use Rattle.std.proofs.lemmas.List.Elements.{All-append, All-nil, All-cons, All-replicate, All-from_recursion, recursion_from_All}
 use Rattle.std.specs.Char.{is_ascii_digit}
+use Rattle.rd_base.proofs.Choices.{either}
 use Rattle.rd_base.specs.Chars.{is_code}
 use Rattle.rd_ucd.specs.declared.spans.Span.{Span}
 use Rattle.rd_glyphs.specs.Lines.{plain_columns}
@@ -105,19 +106,18 @@ piece-is digits width c is = by-field (field_of c) where
   by-field (Some field) = tt
   by-field None = by-sign (digits == 0) (c == 45) (c == 37)
 
-either : (b : Bool) (x y : Result (List Piece) ℕ) → IfOk x (λ ps. AllByRecursion IsPiece ps) → IfOk y (λ ps. AllByRecursion IsPiece ps) → IfOk (if b then x else y) (λ ps. AllByRecursion IsPiece ps)
-either true x y p q = p
-either false x y p q = q
+abbrev HasPieces : Result (List Piece) ℕ → Type 0
+HasPieces r = IfOk r (λ ps. AllByRecursion IsPiece ps)
 
-pieces : (behind : Behind) (place : ℕ) (text : List ℕ) → AllByRecursion IsCharacter text → IfOk (pieces_from behind place text) (λ ps. AllByRecursion IsPiece ps)
+pieces : (behind : Behind) (place : ℕ) (text : List ℕ) → AllByRecursion IsCharacter text → HasPieces (pieces_from behind place text)
 pieces Text place [] each = tt
 pieces (Percent start digits width) place [] each = tt
 pieces Text place (c ∷ cs) each =
-    either (c == 37) (pieces_from (Percent place 0 0) (place + 1) cs) (before (Literal c) (pieces_from Text (place + 1) cs))
+    either HasPieces (c == 37) (pieces_from (Percent place 0 0) (place + 1) cs) (before (Literal c) (pieces_from Text (place + 1) cs))
     (pieces (Percent place 0 0) (place + 1) cs each.1)
     (before-pieces (Literal c) (pieces_from Text (place + 1) cs) each.0 (pieces Text (place + 1) cs each.1))
 pieces (Percent start digits width) place (c ∷ cs) each =
-    either (is_ascii_digit c && nat_lt digits 3) (pieces_from (Percent start (digits + 1) (10 * width + (c - 48))) (place + 1) cs)
+    either HasPieces (is_ascii_digit c && nat_lt digits 3) (pieces_from (Percent start (digits + 1) (10 * width + (c - 48))) (place + 1) cs)
     (before_or (piece_of digits width c) start (pieces_from Text (place + 1) cs))
     (pieces (Percent start (digits + 1) (10 * width + (c - 48))) (place + 1) cs each.1)
     (before_or-pieces (piece_of digits width c) start (pieces_from Text (place + 1) cs) (piece-is digits width c each.0) (pieces Text (place + 1) cs each.1))

@@ -1,11 +1,12 @@
 -- The windows of a state in leaf order, and their views.
-use Rattle.std.proofs.Common.{◌≡◌, ℕ, ◌<◌, ◌≤◌, Bool, Option, None, Some, List, [], ◌∷◌, ◌++◌, length, map, sym, ap, refl, subst, ◌∙◌, unwrap_or, arith}
+use Rattle.std.proofs.Common.{◌≡◌, ℕ, ◌<◌, ◌≤◌, Option, None, Some, List, [], ◌∷◌, ◌++◌, length, map, sym, ap, refl, subst, ◌∙◌, unwrap_or, arith}
 use Rattle.std.proofs.lemmas.List.{length-map}
 use Rattle.std.proofs.lemmas.List.Elements.{recursion_from_All}
 use Rattle.std.proofs.lemmas.Option.{slice_get-map}
 use Rattle.std.specs.List.{AllByRecursion, flat_map}
 use Rattle.std.specs.Option.{MatchOption}
 use Rattle.std.specs.Prelude.{option_map, slice_get}
+use Rattle.rd_base.proofs.Choices.{map-some}
 use Rattle.rd_base.proofs.Lists.{ended}
 use Rattle.rd_state.specs.States.{BufferValue, StateValue, opening_window}
 use Rattle.rd_state.specs.Valid.{IsValid}
@@ -17,7 +18,6 @@ use Rattle.rd_tree.specs.Windows.{leaves, window_at}
 use Rattle.rd_tree.specs.declared.placed.Placed.{Placed}
 use Rattle.rd_ucd.specs.Data.{Data}
 use Rattle.rd_window.specs.Views.{WindowView}
-use Rattle.rd_state.proofs.Options.{mapped}
 use Rattle.rd_layout.specs.Windows.{place_of, places, view_in, views_at, views_by, views_in}
 use Rattle.rd_layout.proofs.ByNumber.{buffer-there}
 use Rattle.rd_layout.proofs.Placed.{all-places, number-of}
@@ -50,8 +50,8 @@ module _ (laws : LeafLaws) (s : StateValue) (valid : IsValid s) where
   -- a window of the frame lives
   pub window-there : (p : Placed) → place_of p.number s ≡ Some p → (w : WindowState) × (window_of p.number s.windows ≡ Some w)
   window-there p at =
-      let w = mapped leaf_of (window_of p.number s.windows) (p.mode, p.margins) (sym (valid.windows.leaves p.number) ∙ laws.leaf p.number s.tree.windows (frame_of s.tree) p at) in
-      (w.0, w.1.0)
+      let w = map-some leaf_of (window_of p.number s.windows) (p.mode, p.margins) (sym (valid.windows.leaves p.number) ∙ laws.leaf p.number s.tree.windows (frame_of s.tree) p at) in
+      (w.0, w.1)
 
   -- the window at a leaf's place
   pub leaf-place : (i number : ℕ) (p : Placed) → slice_get (leaves s.tree.windows) i ≡ Some number → place_of number s ≡ Some p → slice_get (places s) i ≡ Some p
@@ -91,7 +91,7 @@ module _ (laws : LeafLaws) (s : StateValue) (valid : IsValid s) where
     listed = leaf-place i number p leaf at;
     placed = place-itself number p at;
     window = sym window;
-    buffer = let b = mapped painted_of (slice_get s.buffers w.buffer) content (sym buffer) in (b.0, b.1.0, sym b.1.1);
+    buffer = let b = map-some painted_of (slice_get s.buffers w.buffer) content (sym buffer) in (b.0, b.1, sym b.2);
   }
 
   -- what is shown at a place

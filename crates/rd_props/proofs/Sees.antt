@@ -1,8 +1,9 @@
 -- What is seen at a position names made objects alone.
-use Rattle.std.proofs.Common.{◌≡◌, ◌⊎◌, inl, inr, ℕ, ◌<◌, Bool, true, false, if◌then◌else◌, List, [], ◌∷◌, ◌++◌, length, reverse, Option, None, Some, IfSome, refl}
+use Rattle.std.proofs.Common.{◌≡◌, inl, inr, ℕ, ◌<◌, Bool, true, false, if◌then◌else◌, List, [], ◌∷◌, ◌++◌, length, reverse, Option, None, Some, IfSome, refl}
 use Rattle.std.specs.Prelude.{nat_lt, All}
 use Rattle.std.specs.Option.{option_or, option_to_list}
 use Rattle.std.proofs.lemmas.List.Elements.{All-nil, All-cons, All-append}
+use Rattle.rd_base.proofs.Choices.{either, if-value, or-some}
 use Rattle.rd_overlays.specs.declared.overlay.Overlay.{Overlay}
 use Rattle.rd_overlays.specs.declared.overlay.Kind.{Kind}
 use Rattle.rd_overlays.specs.declared.overlay.Kind.TheVariants.{Display, LinePrefix, WrapPrefix, Before, After}
@@ -16,21 +17,9 @@ use Rattle.rd_props.specs.declared.strings.StringPlace.TheVariants.{Closing, Bet
 use Rattle.rd_props.specs.Seen.{seen_at}
 use Rattle.rd_props.specs.Made.{IsMade, AreMade, SeesMade}
 
-or-some : (a b : Option ℕ) (v : ℕ) → option_or a b ≡ Some v → (a ≡ Some v) ⊎ (b ≡ Some v)
-or-some None b v h = inr h
-or-some (Some x) b v h = inl h
-
-if-value : (P : ℕ → Type 0) (o : Option ℕ) → ((v : ℕ) → o ≡ Some v → P v) → IfSome o P
-if-value P None all = tt
-if-value P (Some v) all = all v refl
-
 listed : (P : ℕ → Type 0) (o : Option ℕ) → IfSome o P → All P (option_to_list o)
 listed P None all = All-nil P
 listed P (Some v) all = All-cons P v [] all (All-nil P)
-
-chosen : (P : ℕ → Type 0) (t : Bool) (xs ys : List ℕ) → All P xs → All P ys → All P (if t then xs else ys)
-chosen P true xs ys first last = first
-chosen P false xs ys first last = last
 
 module _ (s : BufferValue) (objects : ObjectLists) (made : AreMade s objects) where
   -- the value of an overlay that may live
@@ -67,10 +56,10 @@ module _ (s : BufferValue) (objects : ObjectLists) (made : AreMade s objects) wh
   after-made number o lives = listed IsString (value_of After (Some o)) (if-value IsString (value_of After (Some o)) (λ v h. made.overlays number v After o lives h))
 
   part-made : (part : StringPlace) (number : ℕ) (o : Overlay) → overlay_at s.overlays number ≡ Some o → All IsString (part_of part o)
-  part-made Closing number o lives = chosen IsString (is_empty o) [] (after_string o) (All-nil IsString) (after-made number o lives)
+  part-made Closing number o lives = either (All IsString) (is_empty o) [] (after_string o) (All-nil IsString) (after-made number o lives)
   part-made Between number o lives =
-      chosen IsString (is_empty o) (before_string o ++ after_string o) [] (All-append IsString (before_string o) (after_string o) (before-made number o lives) (after-made number o lives)) (All-nil IsString)
-  part-made Opening number o lives = chosen IsString (is_empty o) [] (before_string o) (All-nil IsString) (before-made number o lives)
+      either (All IsString) (is_empty o) (before_string o ++ after_string o) [] (All-append IsString (before_string o) (after_string o) (before-made number o lives) (after-made number o lives)) (All-nil IsString)
+  part-made Opening number o lives = either (All IsString) (is_empty o) [] (before_string o) (All-nil IsString) (before-made number o lives)
 
   in-made : (part : StringPlace) (number : ℕ) (slot : Option Overlay) → overlay_at s.overlays number ≡ slot → All IsString (part_in part slot)
   in-made part number None lives = All-nil IsString

@@ -1,6 +1,7 @@
 -- In the rows of elements whose colours are in their range each cell has such colours.
 use Rattle.std.proofs.Common.{ℕ, zero, suc, ◌+◌, ◌-◌, ◌&&◌, min, max, nat_le, nat_lt, Bool, true, false, List, [], ◌∷◌, ◌++◌, length, flat_map, replicate, All, arith, Option, None, Some}
 use Rattle.std.proofs.lemmas.List.Elements.{All-nil, All-cons, All-tail, All-append, All-replicate}
+use Rattle.rd_base.proofs.Choices.{either}
 use Rattle.rd_base.specs.Cells.{HasColours, IsColoured}
 use Rattle.rd_base.specs.Faces.{Attributes, plain}
 use Rattle.rd_base.specs.Glyphs.{is_space, blanks, glyph_cells}
@@ -18,7 +19,6 @@ use Rattle.rd_rows.specs.Placing.{glyph_in, line_start, next_row, placed_at, beh
 use Rattle.rd_rows.specs.Prefixes.{fitted}
 use Rattle.rd_rows.specs.Rows.{whole_cells, seen, seen_in, mark, front_mark, scrolled, filled, last_cell, from_edge, row_of, rows_within, rows_of, cutting_of}
 use Rattle.rd_rows.specs.Shapes.{ShapeValues, room, truncates}
-use Rattle.rd_rows.proofs.Choices.{either}
 use Rattle.rd_rows.proofs.Marks.{mark-coloured}
 use Rattle.rd_rows.proofs.Splits.{placed_in, at-row}
 

@@ -5,6 +5,7 @@ use Rattle.std.proofs.lemmas.Bool.{or_parts}
 use Rattle.std.proofs.lemmas.List.{append-nil}
 use Rattle.std.proofs.lemmas.Grind.{flat_map-append}
 use Rattle.std.proofs.Math.Seq.{take-append_seam}
+use Rattle.rd_base.proofs.Rows.{columns-append}
 use Rattle.rd_base.specs.Elements.{IsSound, AreSound, width_at_most, columns_at_most, is_line_end, ends_once}
 use Rattle.rd_base.specs.declared.element.Element.{Element}
 use Rattle.rd_base.specs.declared.element.Extent.{Extent}
@@ -161,10 +162,6 @@ reached-column shape spot (x ∷ xs) =
 pub reached-used : (shape : ShapeValues) (spot : Spot) (xs : List Element) → spot.used ≤ spot.column + 200 → (reached shape spot xs).used ≤ (reached shape spot xs).column + 200
 reached-used shape spot [] h = h
 reached-used shape spot (x ∷ xs) h = reached-used shape (behind spot (placed_at shape spot x)) xs (omega (arith, h))
-
-pub columns-append : (xs ys : List Element) → columns_at_most (xs ++ ys) ≡ columns_at_most xs + columns_at_most ys
-columns-append [] ys = omega arith
-columns-append (x ∷ xs) ys = let e = columns-append xs ys in omega (arith, e)
 
 -- what is left of a line behind elements that do not end it
 

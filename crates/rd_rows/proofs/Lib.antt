@@ -1,5 +1,4 @@
 mod All
-mod Choices
 mod Colours
 mod Ends
 mod Few

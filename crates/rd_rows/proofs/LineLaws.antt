@@ -2,6 +2,7 @@
 use Rattle.std.proofs.Common.{◌≡◌, ℕ, zero, suc, ◌+◌, ◌*◌, ◌≤◌, not, Bool, true, false, if◌then◌else◌, IsTrue, List, [], ◌∷◌, ◌++◌, length, flat_map, map, Option, Some, refl, ap, sym, ◌∙◌, subst, arith, length-append, append_assoc}
 use Rattle.std.proofs.lemmas.List.{map-append, append-nil}
 use Rattle.std.proofs.lemmas.Grind.{flat_map-append}
+use Rattle.rd_base.proofs.Choices.{either}
 use Rattle.rd_base.specs.Elements.{ends_once, is_line_end}
 use Rattle.rd_base.specs.declared.element.Element.{Element}
 use Rattle.rd_rows.specs.declared.begin.Begin.{Begin}
@@ -14,7 +15,6 @@ use Rattle.rd_rows.specs.Placing.{is_item, placed_at, behind, behind_all, next_r
 use Rattle.rd_rows.specs.Prefixes.{begins_none}
 use Rattle.rd_rows.specs.Rows.{RowMeaning, LaidRow, rows_within, rows_of, row_of, begin_of, laid, weight_of}
 use Rattle.rd_rows.specs.Laws.{seen_rows, ends_last, begins_of, range_of, ranges_of, lines_in, IsPlacedOnce}
-use Rattle.rd_rows.proofs.Choices.{either}
 use Rattle.rd_rows.proofs.Ends.{line_ends, line_end-ends, standing-ends, ends_once-parts, ends_once-all}
 use Rattle.rd_rows.proofs.Fitting.{begins-none}
 use Rattle.rd_rows.proofs.Splits.{placed_in, spot_behind, at-row, none-left}

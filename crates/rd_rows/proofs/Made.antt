@@ -1,5 +1,6 @@
 -- A maker of rows, as the layer above knows it.
 use Rattle.std.proofs.Common.{◌≡◌, ℕ, ◌+◌, ◌≤◌, Bool, true, false, List, [], ◌++◌, refl, sym, subst, arith}
+use Rattle.rd_base.proofs.Rows.{columns-append}
 use Rattle.rd_base.specs.Elements.{IsSound, AreSound}
 use Rattle.rd_base.specs.Glyphs.{AreMeasured}
 use Rattle.rd_base.specs.declared.cell.Glyph.{Glyph}
@@ -18,7 +19,7 @@ use Rattle.rd_rows.specs.Shapes.{ShapeValues}
 use Rattle.rd_rows.specs.Whole.{IsWhole, AreWhole, IsMark, IsMeasuredPrefix}
 use Rattle.rd_rows.proofs.Ends.{on-line_ends, once-before}
 use Rattle.std.proofs.lemmas.List.Elements.{All-append, All-nil}
-use Rattle.rd_rows.proofs.Fill.{columns-append, once-behind}
+use Rattle.rd_rows.proofs.Fill.{once-behind}
 use Rattle.rd_rows.proofs.Wholeness.{cutting-measured, whole-line}
 
 -- a maker that has made no row

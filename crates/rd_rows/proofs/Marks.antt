@@ -1,12 +1,12 @@
 -- A mark stands whole in its cell, and its colours are in their range.
 use Rattle.std.proofs.Common.{◌≡◌, Bool, true, false, [], ◌∷◌, refl}
+use Rattle.rd_base.proofs.Choices.{either}
 use Rattle.rd_base.specs.Cells.{IsColoured}
 use Rattle.rd_base.specs.Glyphs.{is_space, IsRowAfter}
 use Rattle.rd_base.specs.declared.cell.Glyph.{Glyph}
 use Rattle.rd_base.proofs.Colours.{plain-coloured}
 use Rattle.rd_rows.specs.Rows.{mark}
 use Rattle.rd_rows.specs.Whole.{IsMark}
-use Rattle.rd_rows.proofs.Choices.{either}
 
 mark-by : (space : Bool) (g : Glyph) → is_space g ≡ space → IsMark g → IsRowAfter 0 (mark g ∷ [])
 mark-by true g h m = rw h tt

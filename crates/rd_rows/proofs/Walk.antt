@@ -5,6 +5,8 @@ use Rattle.std.proofs.lemmas.Bool.{and_parts, or_parts}
 use Rattle.std.proofs.lemmas.List.{append-nil}
 use Rattle.std.proofs.lemmas.List.Elements.{All-append}
 use Rattle.std.proofs.Math.Seq.{drop-append_seam}
+use Rattle.rd_base.proofs.Choices.{either}
+use Rattle.rd_base.proofs.Rows.{columns-append}
 use Rattle.rd_base.specs.Elements.{IsSound, AreSound, width_at_most, columns_at_most, is_line_end, ends_once}
 use Rattle.rd_base.specs.declared.element.Element.{Element}
 use Rattle.rd_base.specs.declared.memory.Memory.{Memory}
@@ -24,10 +26,9 @@ use Rattle.rd_rows.specs.Placing.{ends_row, next_row, next_line, columns_of, has
 use Rattle.rd_rows.specs.Prefixes.{IsLead}
 use Rattle.rd_rows.specs.Rows.{RowMeaning, LaidRow, laid, row_of, rows_within, first_seen}
 use Rattle.rd_rows.specs.Shapes.{ShapeValues, room, is_word}
-use Rattle.rd_rows.proofs.Choices.{either}
 use Rattle.rd_rows.proofs.Ends.{line_ends, on-parts, on-append, on-line_ends, ends-append, standing-ends, ends_once-parts}
 use Rattle.rd_rows.proofs.Few.{IsFew, few-none, few-more, few-wait}
-use Rattle.rd_rows.proofs.Fill.{standing-length, reached-column, reached-used, columns-append, line-behind, once-behind, once-some, room-on, room-ended, room-full, unfit-ends, cells-room}
+use Rattle.rd_rows.proofs.Fill.{standing-length, reached-column, reached-used, line-behind, once-behind, once-some, room-on, room-ended, room-full, unfit-ends, cells-room}
 use Rattle.rd_rows.proofs.Splits.{IsFront, break-front, break-some, none-left, rows-same}
 
 -- where the next row begins behind its prefix

@@ -2,6 +2,7 @@
 use Rattle.std.proofs.Common.{◌≡◌, ℕ, zero, suc, ◌+◌, ◌-◌, ◌≤◌, ◌&&◌, min, max, nat_le, nat_lt, Bool, true, false, List, [], ◌∷◌, ◌++◌, length, flat_map, refl, ap, ◌∙◌, arith, length-append, replicate}
 use Rattle.std.proofs.lemmas.List.{length-replicate}
 use Rattle.std.proofs.lemmas.List.Elements.{All-tail}
+use Rattle.rd_base.proofs.Choices.{either}
 use Rattle.rd_base.specs.Elements.{IsSound, AreSound}
 use Rattle.rd_base.specs.Faces.{Attributes, plain}
 use Rattle.rd_base.specs.Glyphs.{blanks, IsMeasuredLook, AreMeasured, IsRowAfter}
@@ -22,7 +23,6 @@ use Rattle.rd_rows.specs.Prefixes.{FillsColumns, StandFrom, fitted}
 use Rattle.rd_rows.specs.Rows.{whole_cells, seen, seen_in, first_seen, front_mark, scrolled, filled, last_cell, from_edge, row_of, rows_within, rows_of, cutting_of}
 use Rattle.rd_rows.specs.Shapes.{ShapeValues, room, truncates}
 use Rattle.rd_rows.specs.Whole.{IsWhole, AreWhole, IsMark, IsMeasuredPrefix, ArePlacedMeasured, IsMeasuredCutting}
-use Rattle.rd_rows.proofs.Choices.{either}
 use Rattle.rd_rows.proofs.Fitting.{cutting-leads}
 use Rattle.rd_rows.proofs.Marks.{mark-whole}
 use Rattle.rd_rows.proofs.Mirroring.{mirror-length, front-length}

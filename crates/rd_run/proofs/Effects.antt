@@ -1,5 +1,6 @@
 -- What the effect of a line can be, by the kind of the line.
 use Rattle.std.proofs.Common.{◌≡◌, Bool, true, false, if◌then◌else◌, ℕ, Option, None, Some, Result, Ok, Err, refl}
+use Rattle.rd_base.proofs.Choices.{either}
 use Rattle.rd_script.proofs.InForm.{reading-in_form}
 use Rattle.rd_script.specs.Forms.{IsInForm}
 use Rattle.rd_script.specs.Reading.{reading}
@@ -22,10 +23,6 @@ pub record OfKinds (place : Standing) (t : Input) (P : Effect → Type 0) : Type
   pub accepted : (op : Op) (state : StateValue) → IsInForm op → IsStep op → session_step place.session op ≡ Ok state → P (stepped place op (Ok state))
   pub starved : P (unshown place)
   pub fed : (stop : Option ℕ) → P (redisplayed place stop)
-
-either : (P : Effect → Type 0) (b : Bool) (e f : Effect) → P e → P f → P (if b then e else f)
-either P true e f p q = p
-either P false e f p q = q
 
 stepped-is : (place : Standing) (t : Input) (P : Effect → Type 0) → OfKinds place t P → (op : Op) (r : Result StateValue Refused) → session_step place.session op ≡ r → IsInForm op → IsStep op
     → P (stepped place op r)

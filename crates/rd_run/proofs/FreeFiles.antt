@@ -1,5 +1,6 @@
 -- No fault of a data file, as the definitions tell it, is want of memory.
 use Rattle.std.proofs.Common.{◌≡◌, ◌≢◌, ℕ, Bool, true, false, if◌then◌else◌, List, [], ◌∷◌, length, nat_lt, option_to_list, slice_index_or, suc, Option, None, Some, Result, Ok, Err, ap, ◌∙◌}
+use Rattle.rd_base.proofs.Choices.{either}
 use Rattle.rd_base.specs.declared.limits.TheConstants.{FILE_BYTES}
 use Rattle.rd_files.specs.DataFiles.{bad, brackets_in, classes_in, data_of, judged, mirrors_in, or_bad, too_large, whole}
 use Rattle.rd_files.specs.declared.fault.BadFile.{BadFile}
@@ -44,16 +45,12 @@ abbrev pub AreFree : {E : Type 0} → List (ℕ × Result E UcdFault) → Type 0
 AreFree [] = Unit {0}
 AreFree (e ∷ es) = ReadsFree e.1 × AreFree es
 
-either-are : {E : Type 0} (b : Bool) (xs ys : List (ℕ × Result E UcdFault)) → AreFree xs → AreFree ys → AreFree (if b then xs else ys)
-either-are true xs ys p q = p
-either-are false xs ys p q = q
-
 entries-free : {E : Type 0} (passed_over : List ℕ → Bool) (entry : ℕ → List ℕ → Result E UcdFault) (lines : List (ℕ × List ℕ)) → ((n : ℕ) (line : List ℕ) → ReadsFree (entry n line))
     → AreFree (entries_in passed_over entry lines)
 entries-free passed_over entry [] h = tt
 entries-free passed_over entry ((n, line) ∷ lines) h =
     let more = entries-free passed_over entry lines h in
-    either-are (passed_over line) (entries_in passed_over entry lines) ((n, entry n line) ∷ entries_in passed_over entry lines) more (h n line, more)
+    either AreFree (passed_over line) (entries_in passed_over entry lines) ((n, entry n line) ∷ entries_in passed_over entry lines) more (h n line, more)
 
 -- ---- the class file
 
@@ -149,12 +146,8 @@ large-free file b e k =
     let kind : TooLarge ≡ Bad Memory = ap (λ (x : BadFile). x.kind) same ∙ k in
     cc
 
-judged-if : {T : Type 0} (b : Bool) (r s : Result T BadFile) → AnswersFree r → AnswersFree s → AnswersFree (if b then r else s)
-judged-if true r s p q = p
-judged-if false r s p q = q
-
 judged-free : {T : Type 0} (file : DataFile) (form : List ℕ → Result T UcdFault) (bytes : List ℕ) → ReadsFree (form bytes) → AnswersFree (judged file form bytes)
-judged-free file form bytes h = judged-if (nat_lt FILE_BYTES (length bytes)) (Err (too_large file)) (or_bad file (form bytes)) (large-free file) (or-free file (form bytes) h)
+judged-free file form bytes h = either AnswersFree (nat_lt FILE_BYTES (length bytes)) (Err (too_large file)) (or_bad file (form bytes)) (large-free file) (or-free file (form bytes) h)
 
 whole-free : (classes : Result (List Span) BadFile) (mirrors : Result (List Pair) BadFile) (brackets : Result (List BracketEntry) BadFile) → AnswersFree classes → AnswersFree mirrors → AnswersFree brackets
     → AnswersFree (whole classes mirrors brackets)

@@ -2,7 +2,7 @@
 use Rattle.std.proofs.Common.{◌≡◌, ℕ, Bool, List, [], ◌∷◌, ◌++◌, map, Option, None, Some, refl, sym, ap, ◌∙◌, subst}
 use Rattle.std.proofs.lemmas.List.Elements.{recursion_from_All}
 use Rattle.std.specs.List.{AllByRecursion, flat_map}
-use Rattle.std.specs.Prelude.{option_map}
+use Rattle.rd_base.proofs.Choices.{map-some}
 use Rattle.rd_matrix.specs.Entries.{EntryMeaning, shown_entries, made_entry}
 use Rattle.rd_matrix.specs.declared.matrix.Entry.{Entry}
 use Rattle.rd_state.specs.States.{StateValue}
@@ -76,16 +76,13 @@ bare-session v h = record { state = h.state; screen = h.screen; made = λ number
 abbrev pub Lives : StateValue → Placed → Type 0
 Lives s p = (w : WindowState) × (window_of p.number s.windows ≡ Some w)
 
-some-of : (o : Option WindowState) (leaf : Bool × ℕ) → option_map leaf_of o ≡ Some leaf → (w : WindowState) × (o ≡ Some w)
-some-of None leaf h = absurd (let k : None ≡ Some leaf = h in cc)
-some-of (Some w) leaf h = (w, refl)
-
 pub all-live : (laws : LiveLaws) (s : StateValue) → IsValid s → AllByRecursion (Lives s) (places s)
 all-live laws s valid = recursion_from_All (Lives s) (places s) (all-places laws.places s valid (Lives s) lives) where
   lives : (p : Placed) → place_of p.number s ≡ Some p → Lives s p
   lives p at =
       let leaf = laws.leaves p.number s.tree.windows (frame_of s.tree) p at in
-      some-of (window_of p.number s.windows) (p.mode, p.margins) (sym (valid.windows.leaves p.number) ∙ leaf)
+      let w = map-some leaf_of (window_of p.number s.windows) (p.mode, p.margins) (sym (valid.windows.leaves p.number) ∙ leaf) in
+      (w.0, w.1)
 
 laid-by : (files : Data) (s : StateValue) (p : Placed) (o : Option WindowState) (w : WindowState) (l : Layout) → o ≡ Some w
     → IsLaidOut None (window_source files s w) (window_shape s w p) (wanted_of s w p) l → IsLaidOutBy files s None p o l

@@ -5,6 +5,7 @@ use Rattle.std.proofs.lemmas.List.Elements.{All-nil, All-cons}
 use Rattle.std.specs.Prelude.{All}
 use Rattle.serde_json.specs.Data.{Data, Items, no_items, item, Members}
 use Rattle.serde_json.specs.Find.{get_member, as_number, as_u64, as_i64, as_bool, as_str, as_array}
+use Rattle.rd_base.proofs.Choices.{map-some}
 use Rattle.rd_base.specs.declared.limits.TheConstants.{ATOMS, HSCROLL_COLUMNS, INVISIBLE_ATOMS, NUMBER_COLUMNS, SCROLL_CONSERVATIVELY, SCROLL_MARGIN, SCROLL_ROWS, START_ROW, STRING_COLUMNS, FRAME_COLUMNS, FRAME_ROWS, LEAST_FRAME_COLUMNS, LEAST_FRAME_ROWS, PRIORITY, STRING_RUNS, TABLE_ENTRIES, SPACE_COLUMNS, TAB_COLUMNS}
 use Rattle.rd_base.specs.declared.settings.Invisible.{Invisible}
 use Rattle.rd_base.specs.declared.settings.Invisible.TheVariants.{Every, Listed}
@@ -170,10 +171,6 @@ range_field : (key : List ℕ) (least greatest : ℕ) → Gives (required key (w
 range_field key least greatest = required-gives key (within least greatest) _ (within-finds least greatest)
 
 -- ---- arrays
-
-map-some : {A B : Type 0} (f : A → B) (o : Option A) (x : B) → option_map f o ≡ Some x → (y : A) × (o ≡ Some y) × (f y ≡ x)
-map-some f None x e = absurd (none≢some x e)
-map-some f (Some y) x e = (y, refl, cc)
 
 mapped-finds : {A B : Type 0} (f : A → B) (kind : Data → Option A) (P : A → Type 0) (Q : B → Type 0) → Finds kind P → ((y : A) → P y → Q (f y))
     → Finds (λ d. option_map f (kind d)) Q

@@ -1,10 +1,11 @@
 -- Elements that are sound and measured, of so many columns at most.
-use Rattle.std.proofs.Common.{◌≡◌, ℕ, suc, ◌+◌, ◌*◌, ◌≤◌, List, [], ◌∷◌, ◌++◌, length, All, IfSome, arith}
+use Rattle.std.proofs.Common.{ℕ, suc, ◌+◌, ◌*◌, ◌≤◌, List, [], ◌∷◌, ◌++◌, length, All, IfSome, arith}
 use Rattle.std.specs.Prelude.{slice_get, zero}
 use Rattle.std.specs.List.{flat_map, AllByRecursion}
 use Rattle.std.proofs.Math.Nat.{suc-mul}
 use Rattle.std.proofs.lemmas.List.Elements.{All-cons, All-nil, All-append, recursion_from_All}
-use Rattle.rd_base.specs.Elements.{IsSound, AreSound, width_at_most, columns_at_most}
+use Rattle.rd_base.proofs.Rows.{columns-append}
+use Rattle.rd_base.specs.Elements.{IsSound, AreSound, width_at_most}
 use Rattle.rd_base.specs.Glyphs.{IsMeasuredLook, AreMeasured}
 use Rattle.rd_base.specs.declared.element.Element.{Element}
 use Rattle.rd_stack.specs.Shown.{IsRight, AreRight}
@@ -12,10 +13,6 @@ use Rattle.rd_stack.specs.Limits.{AreRightWithin}
 
 pub both-right : (es : List Element) → AreSound es → AreMeasured es → AreRight es
 both-right es sound measured = λ k d inside. record { sound = sound k d inside; measured = measured k d inside }
-
-pub columns-append : (xs ys : List Element) → columns_at_most (xs ++ ys) ≡ columns_at_most xs + columns_at_most ys
-columns-append [] ys = omega arith
-columns-append (x ∷ xs) ys = let rest = columns-append xs ys in omega (arith, rest)
 
 pub good-nil : (most : ℕ) → AreRightWithin most []
 good-nil most = record { right = All-nil IsRight; few = omega arith }

@@ -4,6 +4,7 @@ use Rattle.std.specs.Prelude.{map, slice_get, option_map, unwrap_or}
 use Rattle.std.specs.List.{flat_map, range_with_len}
 use Rattle.std.proofs.lemmas.Bool.{cond_both}
 use Rattle.std.proofs.lemmas.List.Elements.{All-nil, All-cons, All-append, All-head, All-tail}
+use Rattle.rd_base.proofs.Choices.{if-value}
 use Rattle.rd_base.specs.Faces.{Attributes, plain}
 use Rattle.rd_base.proofs.Lists.{all-at}
 use Rattle.rd_base.specs.Settings.{SettingValues}
@@ -38,10 +39,6 @@ use Rattle.rd_stack.specs.declared.part.Place.{Place}
 use Rattle.rd_stack.specs.declared.part.Shown.{Shown}
 
 -- ---- lists and options
-
-if-value : (P : ℕ → Type 0) (o : Option ℕ) → ((v : ℕ) → o ≡ Some v → P v) → IfSome o P
-if-value P None all = tt
-if-value P (Some v) all = all v refl
 
 one : {X : Type 0} (P : X → Type 0) (x : X) → P x → All P (x ∷ [])
 one P x is = All-cons P x [] is (All-nil P)

@@ -3,7 +3,7 @@ use Rattle.std.proofs.Common.{◌≡◌, ℕ, zero, suc, ◌+◌, ◌-◌, ◌<�
 use Rattle.std.proofs.Math.Nat.{add-suc, add-zero}
 use Rattle.std.proofs.Math.Numerals.{add-one}
 use Rattle.std.proofs.lemmas.Bool.{cases_Bool, le-ltb, leb-true, lt-ltb, or_parts}
-use Rattle.std.specs.List.{AllByRecursion, find, list_any, position, position_or_len, slice_get, count_by}
+use Rattle.std.specs.List.{find, list_any, position, position_or_len, slice_get, count_by}
 use Rattle.std.proofs.lemmas.List.{length-take-le, take-append-drop, take_all}
 use Rattle.std.proofs.lemmas.List.Folds.{find-append}
 use Rattle.std.specs.Option.{option_or}
@@ -145,14 +145,3 @@ position-none p xs k none all =
     let place = first-none p xs (ap (list_any p) (sym (take_all k xs all)) ∙ none) in
     let t = le-ltb (position_or_len p xs) (length xs) (omega (arith, place)) in
     ap (λ b. cond b (Some (position_or_len p xs)) None) t
-
--- what holds of each element
-pub each-take : {X : Type 0} (P : X → Type 0) (k : ℕ) (xs : List X) → AllByRecursion P xs → AllByRecursion P (take k xs)
-each-take P zero xs h = tt
-each-take P (suc k) [] h = tt
-each-take P (suc k) (x ∷ xs) h = (h.0, each-take P k xs h.1)
-
-pub each-drop : {X : Type 0} (P : X → Type 0) (k : ℕ) (xs : List X) → AllByRecursion P xs → AllByRecursion P (drop k xs)
-each-drop P zero xs h = h
-each-drop P (suc k) [] h = tt
-each-drop P (suc k) (x ∷ xs) h = each-drop P k xs h.1

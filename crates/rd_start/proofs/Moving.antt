@@ -1,8 +1,9 @@
 -- What is asked of the rows near a window, and what is chosen from them.
-use Rattle.std.proofs.Common.{◌≡◌, ℕ, ◌+◌, ◌-◌, ◌*◌, ◌/◌, ◌<◌, ◌≤◌, inl, inr, Bool, true, false, min, max, List, length, take, drop, Option, None, Some, Result, Ok, Err, refl, sym, ap, subst, ◌∙◌, arith}
+use Rattle.std.proofs.Common.{◌≡◌, ℕ, ◌+◌, ◌-◌, ◌*◌, ◌/◌, ◌<◌, ◌≤◌, inl, inr, Bool, true, false, min, max, List, length, take, drop, Option, None, Some, Result, Ok, Err, sym, ap, subst, ◌∙◌, arith}
 use Rattle.std.specs.List.{find}
 use Rattle.std.specs.Option.{option_map, unwrap_or}
 use Rattle.std.specs.Prelude.{IfOk, MatchResult, is_some}
+use Rattle.rd_base.proofs.Choices.{some-of}
 use Rattle.rd_base.specs.declared.memory.Memory.{Memory}
 use Rattle.rd_base.specs.declared.settings.Anchor.{Anchor}
 use Rattle.rd_matrix.specs.Entries.{EntryMeaning, all_rows}
@@ -150,13 +151,9 @@ value-centred m sweep s w chosen e free follows is =
     is ∙ (ap (λ (x : Sweep). centred_chosen m x.shape w) e ∙ chosen-free m sweep.shape w (centred w (places_of m sweep.shape w)) free follows)
 
 -- point's row in a strip that has it
-is-some : {X : Type 0} (o : Option X) → is_some o ≡ true → (x : X) × (o ≡ Some x)
-is-some None e = absurd cc
-is-some (Some x) e = (x, refl)
-
 pub has-found : (m : SourceValues) (s : Strip) → IsStrip m s → is_some (find_point s.lines.items) ≡ true → HasPoint m s
 has-found m s h some =
-    let o = is-some (find_point s.lines.items) some in
+    let o = some-of (find_point s.lines.items) some in
     let place = point-found m s o.0 h o.1 in
     let inside = place.0 in
     let here = place.1 in

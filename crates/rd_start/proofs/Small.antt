@@ -4,7 +4,7 @@ use Rattle.std.proofs.lemmas.Bool.{cases_Bool, ltb-true}
 use Rattle.std.proofs.lemmas.List.{length-map}
 use Rattle.std.specs.List.{AllByRecursion, flat_map, fold}
 use Rattle.std.proofs.lemmas.List.Elements.{recursion_from_All}
-use Rattle.rd_base.proofs.Lists.{each-append, each-back, each-front}
+use Rattle.rd_base.proofs.Lists.{each-append, each-back, each-front, each-take, each-drop}
 use Rattle.rd_matrix.specs.Entries.{EntryMeaning, all_rows, entries_of, numbered}
 use Rattle.rd_matrix.specs.Sources.{SourceValues, begins_of, IsInBlock}
 use Rattle.rd_matrix.specs.declared.block.Block.{Block}
@@ -15,7 +15,6 @@ use Rattle.rd_start.specs.Strips.{IsStrip, first_row, line_of, rows_in, span_of}
 use Rattle.rd_start.specs.declared.span.Span.{Span}
 use Rattle.rd_start.specs.declared.strip.Strip.{Strip}
 use Rattle.rd_start.proofs.Blocks.{Fit}
-use Rattle.rd_start.proofs.Lists.{each-drop, each-take}
 use Rattle.rd_start.proofs.Places.{Spans, rows-between}
 use Rattle.rd_start.proofs.Rows.{bounds, whole-rows}
 

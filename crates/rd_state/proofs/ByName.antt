@@ -10,11 +10,11 @@ use Rattle.std.specs.Map.{keys_of, values_of}
 use Rattle.std.specs.Str.{bytes_eq}
 use Rattle.indexmap.specs.IndexMap.{insert_entry}
 use Rattle.indexmap.specs.Layout.{set_value_at}
+use Rattle.rd_base.proofs.Choices.{none-chosen}
 use Rattle.rd_state.specs.declared.refused.Refused.{Refused}
 use Rattle.rd_state.specs.declared.refused.Refused.TheVariants.{Memory}
 use Rattle.rd_state.specs.States.{BufferValue, ContentValue, buffers_of, number_of}
 use Rattle.rd_state.specs.Answers.{Answers}
-use Rattle.rd_state.proofs.Options.{missed}
 
 -- ---- searching
 
@@ -48,7 +48,7 @@ number_of-found name es i h =
 pub number_of-missed : (name : List ℕ) (es : List (String Global × ContentValue)) → position (has_name name) (keys_of es) ≡ None → length es ≡ number_of name (buffers_of es)
 number_of-missed name es h =
     let n = position_or_len (has_name name) (keys_of es) in
-    let past = ltb-false n (length (keys_of es)) (missed (nat_lt n (length (keys_of es))) n h) in
+    let past = ltb-false n (length (keys_of es)) (none-chosen (nat_lt n (length (keys_of es))) n None h).0 in
     omega (arith, past, number_of-keys name es, length-keys_of es, length-buffers_of es, number_of-bound name es)
 
 -- what is said of a failure, where there was one

@@ -5,6 +5,7 @@ use Rattle.std.proofs.lemmas.List.Sums.{prefix_len-le-length}
 use Rattle.std.proofs.lemmas.Option.{slice_get-get_or}
 use Rattle.std.specs.List.{remove}
 use Rattle.std.specs.Prelude.{position}
+use Rattle.rd_base.proofs.Choices.{none-chosen}
 use Rattle.rd_state.specs.declared.refused.Refused.{Refused}
 use Rattle.rd_state.specs.declared.refused.Refused.TheVariants.{NoWindow}
 use Rattle.rd_state.specs.declared.window.WindowState.{WindowState}
@@ -12,12 +13,11 @@ use Rattle.rd_state.specs.States.{StateValue}
 use Rattle.rd_state.specs.Steps.{with_found, in_window, changing, setting}
 use Rattle.rd_state.specs.Windows.{window_of, place_in, with_window, without_window}
 use Rattle.rd_state.proofs.ByNumber.{NumberedWindow, IsPlace, found, absent}
-use Rattle.rd_state.proofs.Options.{missed}
 
 -- where no place is found the window does not live
 pub nowhere : (number : ℕ) (ws : List NumberedWindow) → position (λ e. e.0 == number) ws ≡ None → window_of number ws ≡ None
 nowhere number ws h =
-    let past = ltb-false (place_in number ws) (length ws) (missed (nat_lt (place_in number ws) (length ws)) (place_in number ws) h) in
+    let past = ltb-false (place_in number ws) (length ws) (none-chosen (nat_lt (place_in number ws) (length ws)) (place_in number ws) None h).0 in
     absent number ws (omega (arith, past, prefix_len-le-length (λ (e : NumberedWindow). not (e.0 == number)) ws))
 
 -- an entry that stands at the place of a number

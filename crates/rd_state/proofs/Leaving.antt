@@ -1,6 +1,7 @@
 -- What ops leave of what is seen.
 use Rattle.std.proofs.Common.{◌≡◌, ◌≢◌, ℕ, ◌+◌, ◌-◌, ◌<◌, ◌≤◌, inl, inr, ◌==◌, Bool, true, is_some, if◌then◌else◌, nat_le, min, max, ℤ, pos, Option, None, Some, Result, Ok, Err, List, [], ◌∷◌, ◌++◌, length, map, subst, sym, ap, refl, ◌∙◌}
 use Rattle.std.specs.Prelude.{slice_get, slice_set, ◌-ℤ◌}
+use Rattle.rd_base.proofs.Choices.{some-of}
 use Rattle.rd_overlays.specs.declared.overlay.Overlay.{Overlay}
 use Rattle.rd_overlays.specs.declared.overlay.Kind.{Kind}
 use Rattle.rd_overlays.specs.Overlays as overlays
@@ -93,10 +94,6 @@ stays-made laws o from to priority front rear c d v h =
       seen = laws.made (seen c) (seen new) o overlay range.ordered (overlays-are c (c.overlays ++ Some overlay ∷ []));
       settings = refl;
     })
-
-some-of : {X : Type 0} (o : Option X) → is_some o ≡ true → (x : X) × (o ≡ Some x)
-some-of None h = absurd (cc)
-some-of (Some x) h = (x, refl)
 
 -- what happens around an overlay that lives
 abbrev pub AroundOverlay : ObjectLists → ℕ → ContentValue → ContentValue → Type 0

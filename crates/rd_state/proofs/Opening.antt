@@ -4,6 +4,7 @@ use Rattle.std.proofs.lemmas.Bool.{cases_eq, cases_lt, cond-false, cond-true, le
 use Rattle.std.proofs.lemmas.Bool.Decides.{nat_tests}
 use Rattle.std.proofs.lemmas.List.{get_or-set_same, get_or-set_other, get_or_default, get_or_past, set-get_or}
 use Rattle.std.specs.Prelude.{is_err, OnOk, OnErr}
+use Rattle.rd_base.proofs.Choices.{either}
 use Rattle.rd_spans.specs.Values.{value_at, opened_at, closed_at}
 use Rattle.rd_props.specs.Buffers.{values_of}
 use Rattle.rd_props.specs.Edits.{opened, closed}
@@ -13,10 +14,6 @@ use Rattle.rd_props.specs.Edits.{opened, closed}
 pub branches : {X : Type 0} (t : Bool) (a b c d : X) → a ≡ c → b ≡ d → (if t then a else b) ≡ (if t then c else d)
 branches true a b c d e f = e
 branches false a b c d e f = f
-
-either : {X : Type 0} (t : Bool) (a b c : X) → a ≡ c → b ≡ c → (if t then a else b) ≡ c
-either true a b c e f = e
-either false a b c e f = f
 
 same-less : (j k : ℕ) → j ≢ k → nat_lt j (k + 1) ≡ nat_lt j k
 same-less j k h = grind (arith, nat_tests)
@@ -88,13 +85,13 @@ pub all-opened : (spans old : List (List (Option ℕ))) (pos n k : ℕ) → leng
     → ((kind p : ℕ) → values_of spans kind p ≡ changed_first (λ f. opened f pos n) (values_of old) k kind p)
     → (kind p : ℕ) → values_of spans kind p ≡ opened (values_of old) pos n kind p
 all-opened spans old pos n k all = all-changed (λ f. opened f pos n) spans old k all
-    (λ kind p none. either (nat_lt p pos) _ _ None (none p) (either (nat_lt p (pos + n)) None _ None (cc) (none (p - n))))
+    (λ kind p none. either (λ (v : Option ℕ). v ≡ None) (nat_lt p pos) _ _ (none p) (either (λ (v : Option ℕ). v ≡ None) (nat_lt p (pos + n)) None _ refl (none (p - n))))
 
 pub all-closed : (spans old : List (List (Option ℕ))) (from to k : ℕ) → length old ≤ k
     → ((kind p : ℕ) → values_of spans kind p ≡ changed_first (λ f. closed f from to) (values_of old) k kind p)
     → (kind p : ℕ) → values_of spans kind p ≡ closed (values_of old) from to kind p
 all-closed spans old from to k all = all-changed (λ f. closed f from to) spans old k all
-    (λ kind p none. either (nat_lt p from) _ _ None (none p) (none (p + (to - from))))
+    (λ kind p none. either (λ (v : Option ℕ). v ≡ None) (nat_lt p from) _ _ (none p) (none (p + (to - from))))
 
 -- ---- undoing
 

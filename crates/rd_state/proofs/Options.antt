@@ -1,14 +1,10 @@
 -- What an option holds, and choices of options.
-use Rattle.std.proofs.Common.{◌≡◌, ℕ, Bool, true, false, cond, is_some, Option, None, Some, ap, refl, ◌≢◌, ◌⊎◌, zero, suc, List, [], ◌∷◌, set, inl, inr, arith}
+use Rattle.std.proofs.Common.{◌≡◌, ℕ, true, is_some, Option, None, Some, ap, refl, ◌≢◌, ◌⊎◌, zero, suc, List, [], ◌∷◌, set, inl, inr, arith}
 use Rattle.std.specs.Prelude.{option_map, slice_get}
 use Rattle.std.specs.Option.{option_or}
 
 pub one-value : {X : Type 0} (o : Option X) (x y : X) → o ≡ Some x → o ≡ Some y → x ≡ y
 one-value o x y h k = cc
-
-pub missed : (b : Bool) (n : ℕ) → cond b (Some n) None ≡ None → b ≡ false
-missed true n h = absurd (cc)
-missed false n h = refl
 
 pub or-none : {X : Type 0} (o : Option X) → option_or o None ≡ o
 or-none None = refl
@@ -21,10 +17,6 @@ some-or (Some x) p h = refl
 pub map-map : {X Y Z : Type 0} (f : X → Y) (g : Y → Z) (h : X → Z) (o : Option X) → ((x : X) → g (f x) ≡ h x) → option_map g (option_map f o) ≡ option_map h o
 map-map f g h None e = refl
 map-map f g h (Some x) e = ap (λ z. Some z) (e x)
-
-pub mapped : {X Y : Type 0} (f : X → Y) (o : Option X) (y : Y) → option_map f o ≡ Some y → (x : X) × (o ≡ Some x) × (f x ≡ y)
-mapped f None y h = absurd (cc)
-mapped f (Some x) y h = (x, refl, cc)
 
 -- what stands at a place of a list after a write
 pub get-set : {X : Type 0} (xs : List X) (i k : ℕ) (c b : X) → slice_get (set xs i c) k ≡ Some b

@@ -3,6 +3,7 @@ use Rattle.std.proofs.Common.{◌≡◌, if◌then◌else◌, ℕ, ◌+◌, ◌<
 use Rattle.std.specs.List.{AllByRecursion}
 use Rattle.std.proofs.lemmas.List.Elements.{recursion_from_All, All-from_recursion}
 use Rattle.std.proofs.lemmas.List.{length-map, get_or-map, length-replicate}
+use Rattle.rd_base.proofs.Choices.{either}
 use Rattle.rd_base.specs.Faces.{plain}
 use Rattle.rd_base.specs.Glyphs.{IsRowAfter}
 use Rattle.rd_base.specs.declared.cell.Cell.{Cell}
@@ -98,10 +99,6 @@ ended region rows true row column cursor wait latest r c few narrow =
     let is = move_fed region (known rows) cursor wait (Some plain) latest row column n within few narrow in
     rw is (record { sure = refl; between = refl; cells = refl; pen = refl; cursor = λ e. refl })
 
-either : (done : Bool) (a b n : ℕ) → a < n → b < n → (if done then a else b) < n
-either true a b n p q = p
-either false a b n p q = q
-
 pub updated : (width height : ℕ) (current : Option Picture) (target : Picture) (limit : Option ℕ) (t : Tty) → IsReady width height current target t
     → IsUpdated width height (update current target limit) target (feed_bytes t (update current target limit).bytes)
 updated width height current target limit t h =
@@ -132,7 +129,7 @@ updated width height current target limit t h =
     rw is (record {
       sure = end.sure;
       between = end.between;
-      size = record { rows = n; each = each; row = either done target.row old.row height h.size.row size.row; column = either done target.column old.column width h.size.column size.column };
+      size = record { rows = n; each = each; row = either (λ k. k < height) done target.row old.row h.size.row size.row; column = either (λ k. k < width) done target.column old.column h.size.column size.column };
       cells = end.cells;
       pen = end.pen;
       cursor = end.cursor;

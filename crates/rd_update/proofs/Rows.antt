@@ -4,6 +4,7 @@ use Rattle.std.specs.List.{AllByRecursion}
 use Rattle.std.proofs.lemmas.Bool.{cases_lt}
 use Rattle.std.proofs.lemmas.Bool.Decides.{nat_tests}
 use Rattle.std.proofs.lemmas.List.{get_or_at, set_at, take-take, take_at, length-append, length-map, length-take-le, length-drop, map-append, drop-drop, length-replicate}
+use Rattle.rd_base.proofs.Lists.{each-take, each-drop}
 use Rattle.rd_base.proofs.Colours.{plain-coloured}
 use Rattle.rd_base.specs.Cells.{IsColoured}
 use Rattle.rd_base.specs.Faces.{plain}
@@ -38,16 +39,6 @@ stands-along region rows rows2 t u r e h = record {
 }
 
 -- ---- parts of a row of whole characters
-
-coloured-drop : (n : ℕ) (cells : List Cell) → AllByRecursion IsColoured cells → AllByRecursion IsColoured (drop n cells)
-coloured-drop zero cells h = h
-coloured-drop (suc n) [] h = tt
-coloured-drop (suc n) (c ∷ cells) h = coloured-drop n cells h.1
-
-coloured-take : (n : ℕ) (cells : List Cell) → AllByRecursion IsColoured cells → AllByRecursion IsColoured (take n cells)
-coloured-take zero cells h = tt
-coloured-take (suc n) [] h = tt
-coloured-take (suc n) (c ∷ cells) h = (h.0, coloured-take n cells h.1)
 
 -- a row that goes on with no later column owes none
 none-due : (due : ℕ) (cells : List Cell) → IsRowAfter due cells → later_columns (map Some cells) ≡ 0 → due ≡ 0
@@ -257,7 +248,7 @@ row_fed region above below old new cursor wait latest w few old_wide new_wide na
     let whole : IsRowAfter 0 cells = whole-take (m - a) 0 (drop a new) from_begin stops (omega (arith, length-drop a new)) in
     let fits : length cells ≤ length mid = omega (arith, cells_length, mid_length) in
     let enough : length cells ≤ length cells = omega arith in
-    let fed = text_fed region (length cells) above below front mid back cells plain None enough fits whole (coloured-take (m - a) (drop a new) (coloured-drop a new colours)) starts ends.0 in
+    let fed = text_fed region (length cells) above below front mid back cells plain None enough fits whole (each-take IsColoured (m - a) (drop a new) (each-drop IsColoured a new colours)) starts ends.0 in
     let gone : nat_lt k (end_of old new) ≡ true → (length cells < length mid) × (map Some (drop m new) ≡ replicate (length mid - length cells + length back) (Some blank)) = λ t.
     let less : k < end_of old new = grind (arith, nat_tests) in
     let n : length new - m ≡ length mid - length cells + length back = omega (arith, cells_length, mid_length, back_length) in

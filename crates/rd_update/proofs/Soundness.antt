@@ -4,6 +4,7 @@ use Rattle.std.specs.List.{AllByRecursion}
 use Rattle.std.specs.Prelude.{All, IfSome}
 use Rattle.std.proofs.lemmas.List.{length-replicate}
 use Rattle.std.proofs.lemmas.List.Elements.{recursion_from_All, All-from_recursion, All-replicate, All-map}
+use Rattle.rd_base.proofs.Choices.{either}
 use Rattle.rd_base.proofs.Colours.{blanks-coloured, plain-coloured}
 use Rattle.rd_base.proofs.Rows.{blanks-whole}
 use Rattle.rd_base.specs.Cells.{IsColoured}
@@ -92,10 +93,6 @@ start-sound None target h p t =
     }
 start-sound (Some screen) target h p t = p
 
-either : (done : Bool) (a b n : ℕ) → a < n → b < n → (if done then a else b) < n
-either true a b n p q = p
-either false a b n p q = q
-
 pub sound-kept : (current : Option Picture) (target : Picture) (limit : Option ℕ) → HaveOneSize current target → IfSome current (λ screen. IsSound screen) → IsSound target → IsSound (update current target limit).screen
 sound-kept current target limit h p t =
     let old = start current target in
@@ -109,8 +106,8 @@ sound-kept current target limit h p t =
     record {
       whole = record {
         glyphs = each-after (λ row. IsRowAfter 0 row) limit old.rows target.rows s.whole.glyphs t.whole.glyphs;
-        row = rw size.0 (either done target.row old.row (length target.rows) t.whole.row row);
-        column = rw size.1 (either done target.column old.column (width_of target.rows) t.whole.column column);
+        row = rw size.0 (either (λ n. n < length target.rows) done target.row old.row t.whole.row row);
+        column = rw size.1 (either (λ n. n < width_of target.rows) done target.column old.column t.whole.column column);
       };
       colours = each-after (λ row. All IsColoured row) limit old.rows target.rows s.colours t.colours;
     }

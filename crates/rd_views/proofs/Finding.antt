@@ -4,11 +4,11 @@ use Rattle.std.proofs.lemmas.Bool.{cases_eq, eqb-false, eqb-true, ltb-false}
 use Rattle.std.proofs.lemmas.List.Quantifiers.{position-Some}
 use Rattle.std.proofs.lemmas.List.Sums.{fails_before_first}
 use Rattle.std.specs.List.{position, position_or_len}
+use Rattle.rd_base.proofs.Choices.{none-chosen}
 use Rattle.rd_window.specs.declared.layout.Layout.{Layout}
 use Rattle.rd_layout.specs.Sessions.{layout_of}
 use Rattle.rd_layout.proofs.Known.{Last, layout-here, layout-there}
 use Rattle.rd_views.specs.Layings.{nobody}
-use Rattle.rd_state.proofs.Options.{missed}
 
 -- ---- finding
 
@@ -39,7 +39,7 @@ found n i es at =
 
 pub absent : (n : ℕ) (es : List Last) → position (is_of n) es ≡ None → layout_of n es ≡ None
 absent n es at =
-    let past = ltb-false (position_or_len (is_of n) es) (length es) (missed (nat_lt (position_or_len (is_of n) es) (length es)) (position_or_len (is_of n) es) at) in
+    let past = ltb-false (position_or_len (is_of n) es) (length es) (none-chosen (nat_lt (position_or_len (is_of n) es) (length es)) (position_or_len (is_of n) es) None at).0 in
     nowhere n es (λ k less. eqb-false (get_or es k nobody).0 n (fails_before_first (is_of n) es k nobody (omega (arith, past, less))))
 
 -- ---- exchanging

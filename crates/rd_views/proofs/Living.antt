@@ -2,6 +2,7 @@
 use Rattle.std.proofs.Common.{◌≡◌, ℕ, ◌+◌, ◌≤◌, ◌==◌, Bool, true, false, if◌then◌else◌, Option, None, Some, sym, ap, refl, ◌∙◌, arith}
 use Rattle.std.specs.Option.{option_or}
 use Rattle.std.specs.Prelude.{option_map}
+use Rattle.rd_base.proofs.Choices.{map-some}
 use Rattle.rd_state.specs.States.{StateValue}
 use Rattle.rd_state.specs.Valid.{IsValid}
 use Rattle.rd_state.specs.Windows.{leaf_at, leaf_of, window_of}
@@ -10,7 +11,6 @@ use Rattle.rd_tree.specs.Calls.{frame_of}
 use Rattle.rd_tree.specs.Windows.{Windows, Window, Split, times, window_at}
 use Rattle.rd_tree.specs.declared.placed.Placed.{Placed}
 use Rattle.rd_tree.specs.declared.rect.Rect.{Rect}
-use Rattle.rd_state.proofs.Options.{mapped}
 use Rattle.rd_layout.specs.Windows.{place_of}
 
 -- what the tree says of a window that is placed
@@ -47,5 +47,5 @@ far-window s number valid far = by (window_of number s.windows) refl where
 
 pub placed-lives : LeafLaw → (s : StateValue) (number : ℕ) (p : Placed) → IsValid s → place_of number s ≡ Some p → (w : WindowState) × (window_of number s.windows ≡ Some w)
 placed-lives law s number p valid at =
-    let w = mapped leaf_of (window_of number s.windows) (p.mode, p.margins) (sym (valid.windows.leaves number) ∙ law number s.tree.windows (frame_of s.tree) p at) in
-    (w.0, w.1.0)
+    let w = map-some leaf_of (window_of number s.windows) (p.mode, p.margins) (sym (valid.windows.leaves number) ∙ law number s.tree.windows (frame_of s.tree) p at) in
+    (w.0, w.1)

@@ -4,6 +4,7 @@ use Rattle.std.proofs.lemmas.Bool.{cases_eq, cond-false, cond-true, eq-eqb, ne_e
 use Rattle.std.proofs.lemmas.List.{drop_more}
 use Rattle.std.proofs.lemmas.Option.{none-some, same_Some}
 use Rattle.std.specs.Prelude.{IsSome, option_map, pos, slice_get}
+use Rattle.rd_base.proofs.Choices.{map-some}
 use Rattle.rd_start.specs.Chosen.{chosen_of}
 use Rattle.rd_start.specs.declared.wanted.Chosen.{Chosen}
 use Rattle.rd_state.specs.Shown.{IsShownAt}
@@ -20,7 +21,6 @@ use Rattle.rd_layout.specs.Sessions.{SessionValue, layout_of}
 use Rattle.rd_layout.specs.Windows.{place_of, places, view_in, wanted_of, window_shape, window_source}
 use Rattle.rd_layout.proofs.ByNumber.{window-became}
 use Rattle.rd_state.proofs.ByNumber.{NumberedWindow, window-here, window-other, window-same, window-there}
-use Rattle.rd_state.proofs.Options.{mapped}
 use Rattle.rd_layout.proofs.Known.{Last, layout-here, layout-there}
 use Rattle.rd_layout.proofs.Placed.{number-of, placed-here, placed-there}
 use Rattle.rd_views.specs.Layings.{AreDesired, AreOnce, CanSettle, IsDesiredBy, all_settled}
@@ -197,7 +197,7 @@ pub shown-before : (n m : ℕ) (c : Chosen) (ws : List NumberedWindow) (w : Wind
 shown-before n m c ws w at = elim (cases_eq n m) [
   | inl p ↦
       let here : window_of m (with_window m (settle_to c) ws) ≡ Some w = ap (λ (k : ℕ). window_of k (with_window m (settle_to c) ws)) (sym p) ∙ at in
-      let u = mapped (settle_to c) (window_of m ws) w (sym (window-same m (settle_to c) ws) ∙ here) in
+      let u = map-some (settle_to c) (window_of m ws) w (sym (window-same m (settle_to c) ws) ∙ here) in
       (u.0, ap (λ (k : ℕ). window_of k ws) p ∙ u.1, ap (λ (x : WindowState). x.buffer) u.2)
   | inr q ↦ (w, sym (window-other m n (settle_to c) ws q) ∙ at, refl)
 ]

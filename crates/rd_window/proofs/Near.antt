@@ -5,6 +5,7 @@ use Rattle.std.specs.Option.{option_or, unwrap_or}
 use Rattle.std.proofs.Math.Bool.{or-true}
 use Rattle.std.proofs.lemmas.Bool.{and_parts, cases_Bool, leb-true, ltb-true}
 use Rattle.std.proofs.lemmas.List.Folds.{find-append}
+use Rattle.rd_base.proofs.Choices.{or-some}
 use Rattle.rd_matrix.proofs.Counting.{costs-if}
 use Rattle.rd_matrix.specs.Rows.{blocks_with}
 use Rattle.rd_matrix.specs.Sources.{SourceValues, costs_of}
@@ -27,10 +28,6 @@ use Rattle.rd_window.specs.Views.{start_row}
 abbrev pub IsAround : ℕ → ℕ → ℕ → Type 0
 IsAround row far x = (row ≤ x + far) × (x ≤ row + far)
 
-either : (o r : Option ℕ) (x : ℕ) → option_or o r ≡ Some x → (o ≡ Some x) ⊎ (r ≡ Some x)
-either None r x e = inr e
-either (Some y) r x e = inl e
-
 one-found : (p : ℕ → Bool) (y x : ℕ) → find p (y ∷ []) ≡ Some x → y ≡ x
 one-found p y x e =
     elim (cases_Bool (p y)) [
@@ -44,7 +41,7 @@ both-found p row far x e =
       | inl there ↦
           let low = leb-true far row there in
           let pieces : find p (both_at row far) ≡ option_or (find p ((row - far) ∷ [])) (find p ((row + far) ∷ [])) = rw there (find-append p ((row - far) ∷ []) ((row + far) ∷ [])) in
-          elim (either (find p ((row - far) ∷ [])) (find p ((row + far) ∷ [])) x (sym pieces ∙ e)) as (λ _. IsAround row far x) [
+          elim (or-some (find p ((row - far) ∷ [])) (find p ((row + far) ∷ [])) x (sym pieces ∙ e)) as (λ _. IsAround row far x) [
             | inl above ↦ let same = one-found p (row - far) x above in (omega (arith, low, same), omega (arith, low, same))
             | inr below ↦ let same = one-found p (row + far) x below in (omega (arith, same), omega (arith, same))
           ]
@@ -58,7 +55,7 @@ both-found p row far x e =
 pub around-found : (p : ℕ → Bool) (row far x : ℕ) → find p (around row far) ≡ Some x → IsAround row far x
 around-found p row zero x e = let same = one-found p row x e in (omega (arith, same), omega (arith, same))
 around-found p row (suc far) x e =
-    elim (either (find p (around row far)) (find p (both_at row (suc far))) x (sym (find-append p (around row far) (both_at row (suc far))) ∙ e)) as (λ _. IsAround row (suc far) x) [
+    elim (or-some (find p (around row far)) (find p (both_at row (suc far))) x (sym (find-append p (around row far) (both_at row (suc far))) ∙ e)) as (λ _. IsAround row (suc far) x) [
       | inl nearer ↦
           let rest = around-found p row far x nearer in
           let low = rest.0 in
