@@ -20,24 +20,14 @@ use Rattle.rd_player.proofs.Telling.{broke-after}
 -- ---- each line
 
 -- each line counts, and keeps the mode
-effect-counts : (place : Standing) (t : Input) → (effect place t).now.lines ≡ place.lines + 1
-effect-counts place t = effect-is place t (λ e. e.now.lines ≡ place.lines + 1) (record {
-  blank = refl;
-  unread = λ fault no. refl;
-  refusal = λ op cause no. refl;
-  accepted = λ op state form step is. refl;
-  starved = refl;
-  fed = λ stop. refl;
-})
-
-effect-mode : (place : Standing) (t : Input) → (effect place t).now.mode ≡ place.mode
-effect-mode place t = effect-is place t (λ e. e.now.mode ≡ place.mode) (record {
-  blank = refl;
-  unread = λ fault no. refl;
-  refusal = λ op cause no. refl;
-  accepted = λ op state form step is. refl;
-  starved = refl;
-  fed = λ stop. refl;
+effect-goes : (place : Standing) (t : Input) → ((effect place t).now.lines ≡ place.lines + 1) × ((effect place t).now.mode ≡ place.mode)
+effect-goes place t = effect-is place t (λ e. (e.now.lines ≡ place.lines + 1) × (e.now.mode ≡ place.mode)) (record {
+  blank = (refl, refl);
+  unread = λ fault no. (refl, refl);
+  refusal = λ op cause no. (refl, refl);
+  accepted = λ op state form step is. (refl, refl);
+  starved = (refl, refl);
+  fed = λ stop. (refl, refl);
 })
 
 -- a redisplay may place as many elements whether it finds memory or not
@@ -101,8 +91,8 @@ has-run mode inputs line place next s0 s1 s2 p0 p1 p2 m0 m1 m2 n0 n1 n2 c0 c1 c2
     record {
       whole = ap (λ (x : World). x.fault) world ∙ a.1;
       stands = ap (λ (x : World). x.now) world ∙ sym a.2;
-      under = ap (λ (x : Standing). x.mode) a.2 ∙ effect-mode place t ∙ k.under;
-      counted = ap (λ (x : Standing). x.lines) a.2 ∙ effect-counts place t ∙ ap (λ n. n + 1) k.counted ∙ sym (length_push inputs t);
+      under = ap (λ (x : Standing). x.mode) a.2 ∙ (effect-goes place t).1 ∙ k.under;
+      counted = ap (λ (x : Standing). x.lines) a.2 ∙ (effect-goes place t).0 ∙ ap (λ n. n + 1) k.counted ∙ sym (length_push inputs t);
       sent = subst (Appends s0 s2) (sym (ap (λ (x : World). x.sent) world)) (Appends-trans s0 s1 s2 w.sent e.sent k.sent a.3);
       told = subst (Appends p0 p2) (sym (ap (λ (x : World). x.told) world)) (Appends-trans p0 p1 p2 w.told e.told k.told a.4);
       spent = let before = k.spent in omega (arith, effect-allows place line a.0);
@@ -193,7 +183,7 @@ halts-at given mode inputs line bytes left q0 q1 halts.ReportBroke place next s0
     let w = run (opened mode) inputs in
     let t = input_of line a.0 in
     let hand = in-hand given mode inputs place line bytes left begun k.whole k.stands lines a.1 in
-    let mode_is : (effect place t).now.mode ≡ mode = effect-mode place t ∙ k.under in (
+    let mode_is : (effect place t).now.mode ≡ mode = (effect-goes place t).1 ∙ k.under in (
       inputs,
       (
         t,

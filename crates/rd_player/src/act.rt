@@ -15,7 +15,7 @@ ghost use Rattle.rd_run.specs.Runs.{asked, dump_lines, effect, effect_of_op, is_
 ghost use Rattle.rd_script.specs.Forms.{IsInForm};
 
 use crate::halt::{Halt, Summary};
-use crate::report::{tell_no_memory, tell_shown, tell_stopped};
+use crate::report::{tell_no_memory, tell_rows};
 use crate::windows::Windows;
 use rd_base::limits::LINES;
 use rd_base::{Anchor, Memory, Steps};
@@ -202,7 +202,7 @@ impl Playing {
     {
         match self.generated {
             Some(_) => Ok(()),
-            None => tell_stopped(report, self.lines, rows),
+            None => tell_rows(report, self.lines, b": stopped ", rows),
         }
     }
 
@@ -253,7 +253,7 @@ fn tell_redisplay<R: Sink>(
     ensures never_falls { R.faults report.old ≤ R.faults report.new }
     ensures failed { OnErr result (Rose (R.faults report.old) (R.faults report.new)) }
 {
-    tell_shown(report, number, rows)?;
+    tell_rows(report, number, b": shown ", rows)?;
     tell_dump(report, session, windows, dumps)
 }
 

@@ -1,8 +1,9 @@
 //! The lines of the report. Each is one write where it has at most 20,480 bytes, and takes no memory.
-ghost use Rattle.std.specs.Prelude.{◌≡◌, ◌≤◌, OnErr, flat_map};
+ghost use Rattle.std.specs.Prelude.{◌≡◌, ◌≤◌, ◌++◌, OnErr, codes, flat_map};
+ghost use Rattle.std.specs.Fmt.{decimal};
 ghost use Rattle.rd_io.specs.Devices.{Rose, Writes};
 ghost use Rattle.rd_player.specs.Acts.{summary_of};
-ghost use Rattle.rd_run.specs.Reports.{last_line, no_memory_line, shown_line, stopped_line};
+ghost use Rattle.rd_run.specs.Reports.{last_line, no_memory_line};
 
 use crate::halt::Summary;
 use crate::last_line::put_last;
@@ -11,9 +12,14 @@ use itoa::Buffer;
 use rd_io::{Failed, Piece, Sink, write_whole};
 use rd_run::Status;
 
-/// Tells that a redisplay was shown, and how many rows were sent.
-pub fn tell_shown<R: Sink>(report: &mut R, number: u32, rows: u32) -> Result<(), Failed>
-    ensures bytes { Writes (R.written report.old) (R.written report.new) (shown_line number rows) result }
+/// Tells how a redisplay ended, and how many rows were sent.
+pub fn tell_rows<R: Sink>(
+    report: &mut R,
+    number: u32,
+    ended: &[u8],
+    rows: u32,
+) -> Result<(), Failed>
+    ensures bytes { Writes (R.written report.old) (R.written report.new) (decimal number ++ (ended.now ++ (decimal rows ++ codes " rows\n"))) result }
     ensures never_falls { R.faults report.old ≤ R.faults report.new }
     ensures failed { OnErr result (Rose (R.faults report.old) (R.faults report.new)) }
 {
@@ -21,20 +27,7 @@ pub fn tell_shown<R: Sink>(report: &mut R, number: u32, rows: u32) -> Result<(),
     let mut second = Buffer::new();
     let number = first.format(number).as_bytes();
     let rows = second.format(rows).as_bytes();
-    tell(report, &[number, b": shown ", rows, b" rows\n"])
-}
-
-/// Tells that a redisplay was stopped, and how many rows were sent.
-pub fn tell_stopped<R: Sink>(report: &mut R, number: u32, rows: u32) -> Result<(), Failed>
-    ensures bytes { Writes (R.written report.old) (R.written report.new) (stopped_line number rows) result }
-    ensures never_falls { R.faults report.old ≤ R.faults report.new }
-    ensures failed { OnErr result (Rose (R.faults report.old) (R.faults report.new)) }
-{
-    let mut first = Buffer::new();
-    let mut second = Buffer::new();
-    let number = first.format(number).as_bytes();
-    let rows = second.format(rows).as_bytes();
-    tell(report, &[number, b": stopped ", rows, b" rows\n"])
+    tell(report, &[number, ended, rows, b" rows\n"])
 }
 
 /// Tells that a redisplay found no memory.

@@ -13,7 +13,7 @@ mod Leaves
 mod Leaving
 mod Mapped
 mod Naming
-pub mod Opening
+mod Opening
 pub mod Options
 mod Outcomes
 mod Reaching

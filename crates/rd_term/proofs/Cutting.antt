@@ -21,7 +21,7 @@ first-here row (suc column) cell e f =
     let at = get_or_from_slice_get row (suc column) cell None e in
     rw (at, f) refl
 
-first-chosen : (later : Bool) (n column : ℕ) → n ≤ column → (if later then n else suc column) ≤ suc column
+pub first-chosen : (later : Bool) (n column : ℕ) → n ≤ column → (if later then n else suc column) ≤ suc column
 first-chosen true n column le = omega arith
 first-chosen false n column le = omega arith
 
@@ -142,7 +142,7 @@ length-overwritten row cells column to e le =
     ∙ length-append (front row column) (cells ++ behind row to)
     ∙ omega (arith, length-append cells (behind row to), length-append (replicate left None) (drop (to + left) row), length-replicate {A = Option Cell} left None, length-drop (to + later_columns (drop to row)) row)
 
-later-chosen : (later : Bool) (n m : ℕ) → n ≤ m → (if later then suc n else 0) ≤ suc m
+pub later-chosen : (later : Bool) (n m : ℕ) → n ≤ m → (if later then suc n else 0) ≤ suc m
 later-chosen true n m le = omega arith
 later-chosen false n m le = omega arith
 

@@ -8,6 +8,7 @@ use Rattle.rd_base.specs.declared.cell.Cell.TheVariants.{Blank, First, Rest}
 use Rattle.rd_term.specs.Pictures.{blank}
 use Rattle.rd_update.specs.Laws.{IsLeastInterval}
 use Rattle.rd_base.specs.Equals.{same_cell}
+use Rattle.rd_term.proofs.Cutting.{later-chosen}
 use Rattle.rd_update.specs.Updates.{first_difference, end_before, end_of_differences, is_rest, goes_on, begin_before, going_on, begin_of, end_of}
 use Rattle.rd_update.proofs.Spans.{first_before, end_within, begin-le, begin-is, going-stops}
 
@@ -92,10 +93,6 @@ begin-greatest : (old new : List Cell) (x column : ℕ) → goes_on old new x �
 begin-greatest old new x zero f le = le
 begin-greatest old new x (suc column) f le = begin-greatest-step old new x column (goes_on old new (suc column)) refl f (begin-greatest old new x column f) le
 
-going-least-step : (b : Bool) (n k : ℕ) → n ≤ k → (if b then suc n else 0) ≤ suc k
-going-least-step true n k le = omega arith
-going-least-step false n k le = omega arith
-
 going-least-here : (b : Bool) (n : ℕ) → b ≡ false → (if b then suc n else 0) ≤ 0
 going-least-here true n e = absurd (cc)
 going-least-here false n e = omega arith
@@ -105,7 +102,7 @@ going-least [] [] k e = omega arith
 going-least [] (y ∷ ys) k e = omega arith
 going-least (x ∷ xs) [] k e = omega arith
 going-least (x ∷ xs) (y ∷ ys) zero e = going-least-here (is_rest x || is_rest y) (going_on xs ys) e
-going-least (x ∷ xs) (y ∷ ys) (suc k) e = going-least-step (is_rest x || is_rest y) (going_on xs ys) k (going-least xs ys k e)
+going-least (x ∷ xs) (y ∷ ys) (suc k) e = later-chosen (is_rest x || is_rest y) (going_on xs ys) k (going-least xs ys k e)
 
 goes-drop : (old new : List Cell) (n k : ℕ) → goes_on (drop n old) (drop n new) k ≡ goes_on old new (n + k)
 goes-drop old new n k = ap₂ (λ a b. is_rest a || is_rest b) (get_or-drop n old k blank) (get_or-drop n new k blank)

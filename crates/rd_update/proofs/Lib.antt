@@ -7,7 +7,7 @@ pub mod Reaching
 pub mod Rows
 pub mod Sequences
 pub mod Showing
-pub mod Soundness
+mod Soundness
 pub mod Spans
 pub mod Telling
 pub mod Texts

@@ -9,7 +9,7 @@ use Rattle.rd_term.specs.Pictures.{blank, blank_row}
 use Rattle.rd_term.specs.Overwriting.{is_later, later_columns, first_column}
 use Rattle.rd_base.specs.Equals.{same_cell}
 use Rattle.rd_base.proofs.Equals.{cell-told}
-use Rattle.rd_term.proofs.Cutting.{two-parts}
+use Rattle.rd_term.proofs.Cutting.{two-parts, first-chosen, later-chosen}
 use Rattle.rd_update.specs.Updates.{first_difference, end_before, end_of_differences, used, differs, is_rest, goes_on, begin_before, going_on}
 
 -- ---- before the first difference and behind the last
@@ -95,13 +95,9 @@ begin-goes old new (suc column) p e =
     let back : suc column - 1 ≡ column = omega arith in
     rw (e, back) refl
 
-begin-le-chosen : (b : Bool) (n column : ℕ) → n ≤ column → (if b then n else suc column) ≤ suc column
-begin-le-chosen true n column le = omega arith
-begin-le-chosen false n column le = omega arith
-
 pub begin-le : (old new : List Cell) (column : ℕ) → begin_before old new column ≤ column
 begin-le old new zero = omega arith
-begin-le old new (suc column) = begin-le-chosen (goes_on old new (suc column)) (begin_before old new column) column (begin-le old new column)
+begin-le old new (suc column) = first-chosen (goes_on old new (suc column)) (begin_before old new column) column (begin-le old new column)
 
 begin-is-chosen : (old new : List Cell) (column : ℕ) (b : Bool) → goes_on old new (suc column) ≡ b
     → (begin_before old new column ≡ 0) ⊎ (goes_on old new (begin_before old new column) ≡ false)
@@ -114,15 +110,11 @@ pub begin-is : (old new : List Cell) (column : ℕ) → (begin_before old new co
 begin-is old new zero = inl refl
 begin-is old new (suc column) = begin-is-chosen old new column (goes_on old new (suc column)) refl (begin-is old new column)
 
-going-le-chosen : (b : Bool) (n m : ℕ) → n ≤ m → (if b then suc n else 0) ≤ suc m
-going-le-chosen true n m le = omega arith
-going-le-chosen false n m le = omega arith
-
 pub going-le : (xs ys : List Cell) → going_on xs ys ≤ length ys
 going-le [] [] = omega arith
 going-le [] (y ∷ ys) = omega arith
 going-le (x ∷ xs) [] = omega arith
-going-le (x ∷ xs) (y ∷ ys) = going-le-chosen (is_rest x || is_rest y) (going_on xs ys) (length ys) (going-le xs ys)
+going-le (x ∷ xs) (y ∷ ys) = later-chosen (is_rest x || is_rest y) (going_on xs ys) (length ys) (going-le xs ys)
 
 going-stops-chosen : (b : Bool) (n : ℕ) (x y : Cell) (xs ys : List Cell) → (is_rest x || is_rest y) ≡ b → going_on (drop n xs) (drop n ys) ≡ 0
     → going_on (drop (if b then suc n else 0) (x ∷ xs)) (drop (if b then suc n else 0) (y ∷ ys)) ≡ 0
