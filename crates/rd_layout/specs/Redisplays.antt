@@ -33,6 +33,10 @@ bands_of s = if s.shifting then flat_map (band_of s.width) (places s) else []
 abbrev pub update_of : SessionValue → Option ℕ → Update
 update_of v stop = shifted_update v.current (laid_out v.files v.state).picture (bands_of v.state) stop
 
+-- how a redisplay ends whose update was sent: all rows that differ, or as many as were asked for
+abbrev pub outcome_of : Bool → ℕ → Outcome
+outcome_of done rows = if done then Shown rows else Stopped rows
+
 -- ---- the layouts
 
 -- a window that lives was laid out anew, or its last layout stays

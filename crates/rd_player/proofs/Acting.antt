@@ -6,11 +6,11 @@ use Rattle.rd_io.specs.Devices.{AppendsFront, Rose, Writes}
 use Rattle.rd_io.specs.declared.traits.Failed.{Failed}
 use Rattle.rd_layout.specs.Copies.{redisplayed as redisplayed_session, without_copies}
 use Rattle.rd_layout.specs.Facts.{facts_of}
-use Rattle.rd_layout.specs.Redisplays.{update_of}
+use Rattle.rd_layout.specs.Redisplays.{update_of, outcome_of}
 use Rattle.rd_layout.specs.Sessions.{SessionValue, session_step}
 use Rattle.rd_run.specs.Ends.{Sunk, sunk}
 use Rattle.rd_run.specs.Reports.{no_memory_line, shown_line, stopped_line}
-use Rattle.rd_run.specs.Runs.{Effect, Standing, asked, dump_lines, effect_by, effect_of_op, is_sent, outcome_of, redisplayed, stepped, told_of, unshown}
+use Rattle.rd_run.specs.Runs.{Effect, Standing, asked, dump_lines, effect_by, effect_of_op, is_sent, redisplayed, stepped, told_of, unshown}
 use Rattle.rd_script.specs.declared.op.Op.{Op}
 use Rattle.rd_update.specs.Updates.{Update}
 use Rattle.rd_player.specs.Acts.{Acts, IsTold}
@@ -41,9 +41,9 @@ step-acts result place next op screen report answer p q h =
 
 -- ---- a redisplay
 
-is-sent : (u : Update) → is_sent (Some (outcome_of u)) ≡ true
+is-sent : (u : Update) → is_sent (Some (outcome_of u.done u.rows)) ≡ true
 is-sent u = by u.done where
-  by : (d : Bool) → is_sent (Some (outcome_of (record u { done = d }))) ≡ true
+  by : (d : Bool) → is_sent (Some (outcome_of d u.rows)) ≡ true
   by true = refl
   by false = refl
 

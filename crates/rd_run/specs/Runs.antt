@@ -15,7 +15,7 @@ use Rattle.rd_state.specs.States.{StateValue}
 use Rattle.rd_state.specs.declared.refused.Refused.{Refused}
 use Rattle.rd_layout.specs.Copies.{redisplayed as redisplayed_session}
 use Rattle.rd_layout.specs.Facts.{facts_of}
-use Rattle.rd_layout.specs.Redisplays.{allowed, update_of}
+use Rattle.rd_layout.specs.Redisplays.{allowed, update_of, outcome_of}
 use Rattle.rd_layout.specs.Screens.{laid_out}
 use Rattle.rd_layout.specs.Sessions.{SessionValue, behind, is_frame, opened as opened_session, session_step}
 use Rattle.rd_layout.specs.declared.outcome.Outcome.{Outcome}
@@ -97,9 +97,6 @@ told_of mode number u next =
     else if u.done then shown_line number u.rows ++ dump_lines mode.dumps next.current (facts_of next)
     else stopped_line number u.rows
 
-abbrev pub outcome_of : Update → Outcome
-outcome_of u = if u.done then Shown u.rows else Stopped u.rows
-
 -- a redisplay: what the rules give from nothing, by the update from the current screen
 abbrev pub redisplayed : Standing → Option ℕ → Effect
 redisplayed now stop =
@@ -109,7 +106,7 @@ redisplayed now stop =
       sent = u.bytes;
       told = told_of now.mode (now.lines + 1) u (redisplayed_session now.session stop);
       fresh = false;
-      outcome = Some (outcome_of u);
+      outcome = Some (outcome_of u.done u.rows);
       allowed = allowed now.session;
       fault = None;
     }

@@ -1,12 +1,12 @@
 //! Redisplay: the windows are laid out, the target is painted and the update is prepared; then it is sent, and what was laid out is kept.
 ghost use Rattle.std.specs.Prelude.{◌≡◌, ◌≤◌, ◌+◌, None, IfOk};
 ghost use Rattle.rd_io.specs.Devices.{Rose};
-ghost use Rattle.rd_layout.specs.Redisplays.{Redisplayed, allowed, bands_of};
+ghost use Rattle.rd_layout.specs.Redisplays.{Redisplayed, allowed, bands_of, outcome_of};
 ghost use Rattle.rd_layout.specs.Screens.{laid_out};
 ghost use Rattle.rd_layout.specs.Since.{FitsFrame};
 ghost use Rattle.rd_layout.specs.declared.outcome.Outcome.TheVariants.{NoMemory, WriteFault as Fault};
 ghost use Rattle.rd_lineshift.specs.Plans.{shifted_planned};
-ghost use Rattle.rd_session.specs.Screens.{outcome_of, with_screen};
+ghost use Rattle.rd_session.specs.Screens.{with_screen};
 ghost use Rattle.rd_term.specs.Pictures.{IsOfSize};
 ghost use Rattle.rd_update.specs.Laws.{IsSound};
 ghost use Rattle.rd_update.specs.Plans.{shown};
@@ -160,7 +160,7 @@ fn send<K: Sink>(
 
 /// How a redisplay ended whose update was sent as far as it goes.
 fn outcome_of(sent: Sent) -> Outcome
-    ensures { result ≡ outcome_of sent }
+    ensures { result ≡ outcome_of sent.done sent.rows }
 {
     if sent.done {
         Outcome::Shown(sent.rows)
