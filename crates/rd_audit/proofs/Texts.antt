@@ -1,6 +1,5 @@
 -- Texts that are UTF-8 or not.
-use Rattle.std.proofs.Common.{◌≡◌, ℕ, Bool, true, false, if◌then◌else◌, Option, None, List, [], refl, sym, ap, ◌∙◌, Result, Ok, Err}
-use Rattle.std.specs.Prelude.{IfOk}
+use Rattle.std.proofs.Common.{◌≡◌, ℕ, Bool, true, false, if◌then◌else◌, Option, None, List, [], refl, sym, ap, ◌∙◌}
 use Rattle.std.specs.Str.{IsUtf8, chars, is_utf8}
 use Rattle.std.proofs.lemmas.Str.{IsUtf8-from_is_utf8, is_utf8-from_IsUtf8}
 use Rattle.rd_base.specs.declared.cell.Cell.{Cell}
@@ -16,8 +15,3 @@ no-text bytes wrong = no-text_at bytes (is_utf8 bytes) refl wrong
 pub text-as : (bytes text codes : List ℕ) → IsUtf8 bytes → text ≡ bytes → codes ≡ chars text → cells_from [] None codes ≡ text_cells bytes
 text-as bytes text codes utf8 same is =
     ap (cells_from [] None) (is ∙ ap chars same) ∙ sym (ap (λ t. if t then cells_from [] None (chars bytes) else None) (is_utf8-from_IsUtf8 bytes utf8))
-
--- what an answer holds, where it is one of two equal things
-pub if-all : {T E : Type 0} (r : Result (Option T) E) (o p : Option T) → IfOk r (λ x. x ≡ o) → o ≡ p → IfOk r (λ x. x ≡ p)
-if-all (Ok x) o p h e = h ∙ e
-if-all (Err x) o p h e = h

@@ -65,6 +65,10 @@ range-split a (suc m) n =
     ap (range_with_len a) more
     ∙ ap (λ (ks : List ℕ). a ∷ ks) (range-split (a + 1) m n ∙ ap (λ (k : ℕ). range_with_len (a + 1) m ++ range_with_len k n) same)
 
+-- one number more
+pub range-more : (a n m : ℕ) → m ≡ a + n → range_with_len a n ++ m ∷ [] ≡ range_with_len a (n + 1)
+range-more a n m same = ap (λ (k : ℕ). range_with_len a n ++ k ∷ []) same ∙ sym (range-split a n 1)
+
 -- what holds of all holds of the one at a place
 pub all-at : {X : Type 0} (P : X → Type 0) (xs : List X) (i : ℕ) (x : X) → All P xs → slice_get xs i ≡ Some x → P x
 all-at P xs i x all found = subst P (get_or_from_slice_get xs i x x found) (all i x (slice_get_within xs i x found))

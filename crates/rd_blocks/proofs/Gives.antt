@@ -8,6 +8,7 @@ use Rattle.std.proofs.lemmas.List.{append_assoc, length-map}
 use Rattle.std.proofs.Math.Seq.{get_or-append_seam}
 use Rattle.std.proofs.lemmas.Grind.{flat_map-append}
 use Rattle.std.proofs.lemmas.List.Elements.{All-append, All-cons, All-head, All-nil, All-tail}
+use Rattle.rd_base.proofs.Choices.{second-holds}
 use Rattle.rd_base.specs.Faces.{Attributes}
 use Rattle.rd_base.specs.declared.cell.Glyph.{Glyph}
 use Rattle.rd_base.specs.declared.element.Element.{Element}
@@ -172,16 +173,12 @@ abbrev char_gives : Scene → TextValue → List ℕ → Bool
 char_gives s text [] = false
 char_gives s text (i ∷ is) = gives_element s.parts.table (get_or text.chars i 0) || char_gives s text is
 
-newline-not : (newline gives : Bool) → newline ≡ false → (newline || gives) ≡ true → gives ≡ true
-newline-not true gives e h = cc
-newline-not false gives e h = h
-
 go-by : (s : Scene) (xs : List Part) (text : TextValue) (under : Attributes) (i : ℕ) (is : List ℕ) → ends_row (bare_place text under i) ≡ false
     → (gives_element s.parts.table (get_or text.chars i 0) ≡ true) ⊎ (char_gives s text is ≡ true) → (some_gives s (xs ++ part_of s (bare_place text under i) ∷ []) ≡ true) ⊎ (char_gives s text is ≡ true)
 go-by s xs text under i is e (inr h) = inr h
 go-by s xs text under i is e (inl h) =
     inl (gives-append s xs (part_of s (bare_place text under i) ∷ []) (inr (or_left (not (is_empty_entry (entry_of s.parts.table (get_or text.chars i 0)))) false
-    (newline-not (is_newline (get_or text.chars i 0)) (not (is_empty_entry (entry_of s.parts.table (get_or text.chars i 0)))) e h))))
+    (second-holds (is_newline (get_or text.chars i 0)) (not (is_empty_entry (entry_of s.parts.table (get_or text.chars i 0)))) e h))))
 
 -- a place that ends no row goes to the parts
 go-on : (s : Scene) (xs : List Part) (text : TextValue) (under : Attributes) (i : ℕ) (is : List ℕ) → ends_row (bare_place text under i) ≡ false

@@ -4,6 +4,7 @@ use Rattle.std.specs.Prelude.{map, replicate, if◌then◌else◌, IfSome, is_so
 use Rattle.std.specs.List.{All, AllByRecursion}
 use Rattle.std.proofs.lemmas.List.{length-map, length-replicate}
 use Rattle.std.proofs.lemmas.List.Elements.{recursion_from_All, All-from_recursion, All-nil, All-cons, All-append, All-map, All-replicate, All-weaker}
+use Rattle.rd_base.proofs.Choices.{one-at-most}
 use Rattle.rd_base.specs.declared.cell.Cell.{Cell}
 use Rattle.rd_term.specs.Pictures.{blank, blank_row, width_of, IsOfSize}
 use Rattle.rd_term.proofs.Shapes.{grid-width}
@@ -17,10 +18,6 @@ use Rattle.rd_frame.specs.Frames.{FrameValues, rows_of, frame_rows, selected_win
 use Rattle.rd_frame.specs.Fits.{FitsRow, FitsWindow, IsInBody, FitsFrame, EachPart, EachPartOf}
 
 -- ---- a window
-
-one-at-most : (test : Bool) → (if test then 1 else 0) ≤ 1
-one-at-most true = omega arith
-one-at-most false = omega arith
 
 shared : (columns margins border : ℕ) → 11 + margins ≤ columns → border ≤ 1 → margins + (columns - margins - border) + border ≡ columns
 shared columns margins border room few = omega arith

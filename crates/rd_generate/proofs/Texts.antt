@@ -4,24 +4,14 @@ use Rattle.std.specs.Char.{encode_utf8}
 use Rattle.std.specs.List.{flat_map, range_with_len}
 use Rattle.std.proofs.lemmas.List.{flat_map_more, replicate_more}
 use Rattle.std.proofs.lemmas.List.Concat.{flat_map-cons}
+use Rattle.rd_base.proofs.Lists.{range-more}
 use Rattle.rd_generate.specs.Generated.{after, choice, templates, number, text_line, line_of, lines_from, spelled, spelling, hundred, insertion, hundreds, shown, redisplay}
-
--- one more number of a range
-range-more : (a n : ℕ) → range_with_len a n ++ (a + n) ∷ [] ≡ range_with_len a (n + 1)
-range-more a zero = let e : a + 0 ≡ a = omega arith in ap (λ k. k ∷ []) e
-range-more a (suc n) =
-    let e : a + suc n ≡ a + 1 + n = omega arith in
-    let s : suc n + 1 ≡ suc (n + 1) = omega arith in
-    ap (λ k. a ∷ (range_with_len (a + 1) n ++ k ∷ [])) e ∙ (ap (λ xs. a ∷ xs) (range-more (a + 1) n) ∙ ap (range_with_len a) (sym s))
-
-range-next : (n : ℕ) → range_with_len 0 n ++ n ∷ [] ≡ range_with_len 0 (n + 1)
-range-next n = let e : n ≡ 0 + n = omega arith in ap (λ k. range_with_len 0 n ++ k ∷ []) e ∙ range-more 0 n
 
 -- what was added for one more number
 pub more : {A : Type 0} (f : ℕ → List A) (old now new : List A) (n : ℕ) → now ≡ old ++ flat_map f (range_with_len 0 n) → new ≡ now ++ f n
     → new ≡ old ++ flat_map f (range_with_len 0 (n + 1))
 more f old now new n was is =
-    is ∙ (ap (λ l. l ++ f n) was ∙ (flat_map_more f old (range_with_len 0 n) n ∙ ap (λ xs. old ++ flat_map f xs) (range-next n)))
+    is ∙ (ap (λ l. l ++ f n) was ∙ (flat_map_more f old (range_with_len 0 n) n ∙ ap (λ xs. old ++ flat_map f xs) (range-more 0 n n (omega arith))))
 
 -- an op and a redisplay were added
 pub shown-more : (op : List ℕ) (old now between new : List (List ℕ)) (n : ℕ) → now ≡ old ++ shown n op → between ≡ now ++ op ∷ [] → new ≡ between ++ redisplay ∷ []
@@ -68,7 +58,7 @@ unfolding lines_from
 lines-more k x n old now new was is =
     let line = text_line (k + n) (number x (n + 1)) in
     let whole : lines_from k x n ++ line ≡ lines_from k x (n + 1) =
-    flat_map_more (λ i. text_line (k + i) (number x (i + 1))) [] (range_with_len 0 n) n ∙ ap (flat_map (λ i. text_line (k + i) (number x (i + 1)))) (range-next n) in
+    flat_map_more (λ i. text_line (k + i) (number x (i + 1))) [] (range_with_len 0 n) n ∙ ap (flat_map (λ i. text_line (k + i) (number x (i + 1)))) (range-more 0 n n (omega arith)) in
     is ∙ (ap (λ l. l ++ spelling line) was ∙ (append_assoc old (spelling (lines_from k x n)) (spelling line)
     ∙ ap (λ l. old ++ l) (sym (spelling-append (lines_from k x n) line) ∙ ap spelling whole)))
 

@@ -5,6 +5,7 @@ use Rattle.std.proofs.lemmas.List.Elements.{All-from_get_or, All-from_recursion,
 use Rattle.std.proofs.lemmas.Option.{slice_get-get_or, slice_get-map}
 use Rattle.std.specs.List.{All, AllByRecursion, flat_map}
 use Rattle.std.specs.Prelude.{slice_get, option_map}
+use Rattle.rd_base.proofs.Choices.{one-at-least}
 use Rattle.rd_frame.specs.Panes.{body_height}
 use Rattle.rd_lineshift.specs.Choices.{AreWithin}
 use Rattle.rd_lineshift.specs.declared.band.Band.{Band}
@@ -44,16 +45,12 @@ either n (x ∷ xs) qs p h = elim (cases_eq x.number n) [
   ]
 ]
 
-once-by : (t : Bool) → t ≡ true → 1 ≤ (if t then 1 else 0)
-once-by true h = omega arith
-once-by false h = absurd (cc)
-
 some-is-none : (p : Placed) → Some p ≡ None → ⊥
 some-is-none p h = absurd (cc)
 
 pub found-once : (n : ℕ) (windows : Windows) (rect : Rect) (p : Placed) → window_at n windows rect ≡ Some p → 1 ≤ times n windows
 found-once n (Window number mode margins) rect p h = elim (cases_eq number n) [
-  | inl e ↦ once-by (number == n) (eq-eqb number n e)
+  | inl e ↦ one-at-least (number == n) (eq-eqb number n e)
   | inr e ↦ absurd (some-is-none p (sym h ∙ placed-there n (record { number = number; mode = mode; margins = margins; rect = rect }) [] e))
 ]
 found-once n (Split side size first second) rect p h = elim (either n (placed first (first_part side size rect)) (placed second (second_part side size rect)) p h) [

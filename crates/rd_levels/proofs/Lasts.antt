@@ -6,7 +6,7 @@ use Rattle.std.specs.List.{range_with_len, AllByRecursion as Each}
 use Rattle.std.proofs.lemmas.List.Elements.{All-from_recursion}
 use Rattle.std.proofs.lemmas.Bool.{cond_both}
 use Rattle.std.proofs.lemmas.Bool.Decides.{nat_tests}
-use Rattle.rd_base.proofs.Lists.{each-append}
+use Rattle.rd_base.proofs.Lists.{each-append, range-more}
 use Rattle.rd_base.specs.declared.class.Class.{Class}
 use Rattle.rd_base.specs.declared.class.Class.TheVariants.{B}
 use Rattle.rd_order.specs.Order.{l2_reversed, l2_reversed_down, highest, l2_visual_order}
@@ -39,18 +39,11 @@ l2_reversed_down-last levels base (suc m) is n low =
     ap (l2_reversed_down levels base m) (l2_reversed-last levels (base + suc m) [] is n (omega arith))
     ∙ l2_reversed_down-last levels base m (l2_reversed levels (base + suc m) [] is) n low
 
-range-last : (a n : ℕ) → range_with_len a (suc n) ≡ range_with_len a n ++ (a + n) ∷ []
-range-last a zero = ap (λ k. k ∷ []) (omega arith)
-range-last a (suc n) =
-    let same : a + 1 + n ≡ a + suc n = omega arith in
-    ap (λ l. a ∷ l) (range-last (a + 1) n) ∙ ap (λ k. a ∷ range_with_len (a + 1) n ++ k ∷ []) same
-
 pub order-last : (base n : ℕ) (levels : List ℕ) → length levels ≡ suc n → slice_index levels n ≤ base → l2_visual_order base levels ≡ l2_reversed_down levels base (highest levels - base) (range_with_len 0 n) ++ n ∷ []
 order-last base n levels size low =
-    let same : 0 + n ≡ n = omega arith in
-    ap (λ k. l2_reversed_down levels base (highest levels - base) (range_with_len 0 k)) size
-    ∙ ap (l2_reversed_down levels base (highest levels - base)) (range-last 0 n)
-    ∙ ap (λ k. l2_reversed_down levels base (highest levels - base) (range_with_len 0 n ++ k ∷ [])) same
+    let more : length levels ≡ n + 1 = omega arith in
+    ap (λ k. l2_reversed_down levels base (highest levels - base) (range_with_len 0 k)) more
+    ∙ ap (l2_reversed_down levels base (highest levels - base)) (sym (range-more 0 n n (omega arith)))
     ∙ l2_reversed_down-last levels base (highest levels - base) (range_with_len 0 n) n low
 
 l2_reversed-below : (levels : List ℕ) (k n : ℕ) (run is : List ℕ) → Each (λ (i : ℕ). i < n) run → Each (λ (i : ℕ). i < n) is → Each (λ (i : ℕ). i < n) (l2_reversed levels k run is)

@@ -6,11 +6,11 @@ use Rattle.std.proofs.lemmas.Bool.{not-false}
 use Rattle.std.proofs.lemmas.Bool.Decides.{nat_tests}
 use Rattle.std.proofs.lemmas.List.Elements.{recursion_from_All, All-from_recursion, All-nil, All-push, All-weaker}
 use Rattle.std.proofs.lemmas.List.Sums.{AllPass-from_list_all}
+use Rattle.rd_base.proofs.Choices.{none-chosen}
 use Rattle.rd_base.specs.Faces.{Attributes, plain}
 use Rattle.rd_base.specs.Cells.{HasColours}
 use Rattle.rd_base.proofs.Colours.{plain-coloured}
 use Rattle.rd_base.proofs.Lists.{all-at, get-first}
-use Rattle.rd_objects.specs.declared.fault.ObjectFault.{ObjectFault}
 use Rattle.rd_objects.specs.declared.run.Run.{Run}
 use Rattle.rd_objects.specs.declared.run.RunKind.{RunKind}
 use Rattle.rd_objects.specs.declared.run.RunKind.TheVariants.{Face, Display}
@@ -24,10 +24,6 @@ use Rattle.rd_objects.specs.Things.{ObjectLists, nothing_made, is_numbered, is_m
 use Rattle.rd_objects.specs.Sound.{AreCodes, IsString, AreObjects, NamesMade, IsClosed, AreRight, GoesOn, Extends}
 
 -- what an answer without a fault tells
-no_fault : (wrong : Bool) (fault : ObjectFault) (rest : Option ObjectFault) → (if wrong then Some fault else rest) ≡ None → (wrong ≡ false) × (rest ≡ None)
-no_fault true fault rest e = absurd (cc)
-no_fault false fault rest e = (refl, e)
-
 record NoStringFault (o : ObjectLists) (chars : List ℕ) (runs : List Run) : Type 0 where
   made : list_all (is_made o) runs ≡ true
   short : length chars ≤ 4096
@@ -35,10 +31,10 @@ record NoStringFault (o : ObjectLists) (chars : List ℕ) (runs : List Run) : Ty
 
 no_string_fault : (o : ObjectLists) (chars : List ℕ) (runs : List Run) → string_fault o chars runs ≡ None → NoStringFault o chars runs
 no_string_fault o chars runs e =
-    let a = no_fault (not (list_all (is_made o) runs)) _ _ e in
-    let b = no_fault (not (list_all (is_inside (length chars)) runs)) _ _ a.1 in
-    let c = no_fault (nat_lt 4096 (length chars)) _ _ b.1 in
-    let d = no_fault (nat_le 4096 (length o.strings)) _ _ c.1 in
+    let a = none-chosen (not (list_all (is_made o) runs)) _ _ e in
+    let b = none-chosen (not (list_all (is_inside (length chars)) runs)) _ _ a.1 in
+    let c = none-chosen (nat_lt 4096 (length chars)) _ _ b.1 in
+    let d = none-chosen (nat_le 4096 (length o.strings)) _ _ c.1 in
     record {
       made = not-false (list_all (is_made o) runs) a.0;
       short = let p = c.0 in grind (arith, nat_tests);
@@ -46,12 +42,12 @@ no_string_fault o chars runs e =
     }
 
 not_full : (most made : ℕ) → full_fault most made ≡ None → made < most
-not_full most made e = let p = (no_fault (nat_le most made) _ _ e).0 in grind (arith, nat_tests)
+not_full most made e = let p = (none-chosen (nat_le most made) _ _ e).0 in grind (arith, nat_tests)
 
 no_spec_fault : (o : ObjectLists) (spec : Spec) → spec_fault o spec ≡ None → (is_spec_made o spec ≡ true) × (length o.specs < 4096)
 no_spec_fault o spec e =
-    let a = no_fault (not (is_spec_made o spec)) _ _ e in
-    let b = no_fault (nat_le 4096 (length o.specs)) _ _ a.1 in
+    let a = none-chosen (not (is_spec_made o spec)) _ _ e in
+    let b = none-chosen (nat_le 4096 (length o.specs)) _ _ a.1 in
     (not-false (is_spec_made o spec) a.0, let p = b.0 in grind (arith, nat_tests))
 
 pushed : {X : Type 0} (xs : List X) (x : X) (most : ℕ) → length xs < most → length (xs ++ x ∷ []) ≤ most

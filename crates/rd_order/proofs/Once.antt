@@ -46,10 +46,6 @@ none-before : (k from n : ℕ) → k < from → total (is_place k) (range_with_l
 none-before k from zero h = refl
 none-before k from (suc n) h = let a = is-not k from h in let b = none-before k (from + 1) n (omega (arith, h)) in omega (arith, a, b)
 
-at-most : (b : Bool) → cond b 1 0 ≤ 1
-at-most true = omega arith
-at-most false = omega arith
-
 most-by : (b : Bool) (k from n : ℕ) → nat_eq k from ≡ b → total (is_place k) (range_with_len (from + 1) n) ≤ 1 → cond b 1 0 + total (is_place k) (range_with_len (from + 1) n) ≤ 1
 most-by true k from n h later = let same : k ≡ from = grind (arith, nat_tests) in let none = none-before k (from + 1) n (omega (arith, same)) in omega (arith, none)
 most-by false k from n h later = omega (arith, later)

@@ -6,7 +6,7 @@ use Rattle.std.specs.List.Sorted.{IsPermutation}
 use Rattle.std.proofs.lemmas.List.FromFn.{length-range_with_len, get_or-range_with_len}
 use Rattle.std.proofs.lemmas.List.Sorted.{IsPermutation-append_left, IsPermutation-map, length_permutation}
 use Rattle.std.proofs.lemmas.Option.{slice_get-get_or}
-use Rattle.rd_base.proofs.Lists.{get-first, get-second}
+use Rattle.rd_base.proofs.Lists.{get-first, get-second, range-split, range-more}
 use Rattle.rd_overlays.specs.declared.overlay.Overlay.{Overlay}
 use Rattle.rd_overlays.specs.declared.bounds.Bounds.{Bounds}
 use Rattle.rd_overlays.specs.declared.way.Way.{Way}
@@ -35,23 +35,8 @@ passed-size order size p =
     let both = length-append order (range_with_len (length order) (size - length order)) in
     omega (arith, more, both, p)
 
-range-split : (a m k : ℕ) → range_with_len a (m + k) ≡ range_with_len a m ++ range_with_len (a + m) k
-range-split a zero k =
-    let e : a ≡ a + 0 = omega arith in
-    let n : 0 + k ≡ k = omega arith in
-    ap (range_with_len a) n ∙ ap (λ (b : ℕ). range_with_len b k) e
-range-split a (suc m) k =
-    let e : (a + 1) + m ≡ a + suc m = omega arith in
-    let n : suc m + k ≡ suc (m + k) = omega arith in
-    ap (range_with_len a) n
-    ∙ ap (λ (xs : List ℕ). a ∷ xs) (range-split (a + 1) m k ∙ ap (λ (b : ℕ). range_with_len (a + 1) m ++ range_with_len b k) e)
-
 pub range-pushed : (old new : List ℕ) (m : ℕ) → old ≡ range_with_len 0 m → new ≡ old ++ m ∷ [] → new ≡ range_with_len 0 (m + 1)
-range-pushed old new m is more =
-    let last : m ≡ 0 + m = omega arith in
-    more
-    ∙ (ap (λ (xs : List ℕ). xs ++ m ∷ []) is
-    ∙ (ap (λ (k : ℕ). range_with_len 0 m ++ k ∷ []) last ∙ sym (range-split 0 m 1)))
+range-pushed old new m is more = more ∙ (ap (λ (xs : List ℕ). xs ++ m ∷ []) is ∙ range-more 0 m m (omega arith))
 
 -- each number stands among them once
 pub passed-whole : (slots : List (Option Overlay)) (order : List ℕ) → length order ≤ length slots → IsPermutation (range_with_len 0 (length order)) order

@@ -4,6 +4,7 @@ use Rattle.std.specs.Prelude.{slice_get, is_some, IfSome}
 use Rattle.std.proofs.lemmas.Bool.{or_parts}
 use Rattle.std.proofs.lemmas.List.{append-nil}
 use Rattle.std.proofs.lemmas.List.Elements.{All-tail}
+use Rattle.rd_base.proofs.Choices.{opposite}
 use Rattle.rd_base.specs.Elements.{IsSound, AreSound}
 use Rattle.rd_base.specs.declared.element.Element.{Element}
 use Rattle.rd_base.proofs.Lists.{drop-at}
@@ -66,12 +67,6 @@ noted-break : (shape : ShapeValues) (lead : List Placed) (start : Spot) (xs : Li
 noted-break shape lead start xs None waiting h = sym h.0
 noted-break shape lead start xs (Some b) waiting h = sym h.0
 
-not-swap : (a b : Bool) → a ≡ not b → b ≡ not a
-not-swap true true h = cc
-not-swap true false h = refl
-not-swap false true h = refl
-not-swap false false h = cc
-
 pub leaves-by : (m p : MakerValues) (lead : List Placed) (start : Spot) (xs : List Element) (e : Element) (f : Filling) (d : Draft) (c : Cutting) (pushed held left : List Element) (none : Bool) (row : RowValues)
     → IsFilling m.cutting.shape lead start xs f → IsDraft m.cutting.shape lead start (kept_of m.cutting.shape xs) d → pushed ≡ f.waiting ++ e ∷ [] → held ≡ pushed ++ left → left ≡ m.held → is_some f.last_break ≡ not none
     → c ≡ m.cutting → row ≡ record { shown = finished_row c d.spot.used d.cells d.begins none false; copies = 0 }
@@ -82,7 +77,7 @@ leaves-by m p lead start xs e f d c pushed held left none row filling is push ex
     let noted = filling.noted in
     let held_is : p.held ≡ held = ap (λ (y : MakerValues). y.held) next in
     let all : held ≡ f.waiting ++ e ∷ m.held = rw (extend, push, rest) (append_assoc f.waiting (e ∷ []) m.held) in
-    let mark : none ≡ not (can_wrap shape xs) = not-swap (can_wrap shape xs) none (sym (noted-break shape lead start xs f.last_break f.waiting noted) ∙ none_is) in
+    let mark : none ≡ not (can_wrap shape xs) = opposite (can_wrap shape xs) none (sym (noted-break shape lead start xs f.last_break f.waiting noted) ∙ none_is) in
     record {
       row_is = row_is ∙ rw (same, is.spot, is.cells, is.begins, mark) refl;
       weight_is = is.placed;

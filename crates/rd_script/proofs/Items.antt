@@ -1,5 +1,5 @@
 -- The items of an array, one after the other.
-use Rattle.std.proofs.Common.{◌≡◌, ◌≢◌, ℕ, suc, ◌+◌, ◌<◌, ◌≤◌, Bool, true, false, nat_le, if◌then◌else◌, option_and_then, Option, None, Some, Result, Ok, Err, IfOk, List, [], ◌∷◌, ◌++◌, length, drop, get_or, refl, sym, ap, ◌∙◌, arith, append_assoc}
+use Rattle.std.proofs.Common.{◌≡◌, ◌≢◌, ℕ, suc, ◌+◌, ◌<◌, ◌≤◌, Bool, true, false, nat_le, if◌then◌else◌, option_and_then, Option, None, Some, List, [], ◌∷◌, ◌++◌, length, drop, get_or, refl, sym, ap, ◌∙◌, arith, append_assoc}
 use Rattle.std.proofs.Math.Seq.{drop-cons}
 use Rattle.std.proofs.lemmas.Bool.{le-leb, lt-leb}
 use Rattle.serde_json.specs.Data.{Data}
@@ -66,10 +66,6 @@ list-all most kind d vs e h =
     let yes : test ≡ true = le-leb (items_count (items_view vs)) most (omega (arith, counted vs)) in
     sym (ap (λ o. option_and_then (each_item kind) o) (kept (λ ds. nat_le (items_count ds) most) (items_view vs) true yes))
     ∙ ap (λ o. option_and_then (each_item kind) (option_and_then (kept_if (λ ds. nat_le (items_count ds) most)) o)) e
-
-pub if-all : {T E : Type 0} (r : Result (Option T) E) (o p : Option T) → IfOk r (λ x. x ≡ o) → o ≡ p → IfOk r (λ x. x ≡ p)
-if-all (Ok x) o p h e = h ∙ e
-if-all (Err x) o p h e = h
 
 -- ---- arrays of another length
 

@@ -1,9 +1,10 @@
 -- What is kept of a stretch, character by character and part by part.
-use Rattle.std.proofs.Common.{◌≡◌, ℕ, zero, suc, ◌+◌, ◌-◌, ◌<◌, ◌==◌, ltb, length, get_or, Some, None, arith, Bool, true, false, not, ◌&&◌, ◌||◌, cond, List, [], ◌∷◌, ◌++◌, refl, sym, ap, ◌∙◌}
+use Rattle.std.proofs.Common.{◌≡◌, ℕ, zero, suc, ◌+◌, ◌-◌, ◌<◌, ◌==◌, ltb, length, get_or, None, arith, Bool, true, false, not, ◌&&◌, ◌||◌, cond, List, [], ◌∷◌, ◌++◌, refl, sym, ap, ◌∙◌}
 use Rattle.std.specs.Prelude.{count_by}
 use Rattle.std.specs.List.{list_all, list_any, position, position_or_len, suffix_len}
 use Rattle.std.proofs.lemmas.List.Sums.{sum_by-cons, position_or_len_is, suffix_len_is, prefix_len-le-length, suffix_len-le-length}
 use Rattle.std.proofs.lemmas.Bool.{ltb-false, ne_eqb, or_parts}
+use Rattle.rd_base.proofs.Choices.{none-chosen}
 use Rattle.rd_lanes.specs.Kernels.{last_position}
 use Rattle.rd_text.specs.Texts.{is_newline, is_blank}
 use Rattle.rd_text.specs.Stretches.{opens, closes, separated, summary}
@@ -81,19 +82,15 @@ suffix_passes p xs fails =
     sym (e ∙ (let z : length xs - 0 ≡ length xs = omega arith in z))
 
 -- nor is there a place
-none_chosen : (b : Bool) (n : ℕ) → None ≡ cond b (Some n) None → b ≡ false
-none_chosen true n e = absurd (cc)
-none_chosen false n e = refl
-
 pub prefix_absent : (p : ℕ → Bool) (xs : List ℕ) → None ≡ position p xs → length xs ≡ position_or_len p xs
 prefix_absent p xs e =
-    let past = ltb-false (position_or_len p xs) (length xs) (none_chosen (ltb (position_or_len p xs) (length xs)) (position_or_len p xs) e) in
+    let past = ltb-false (position_or_len p xs) (length xs) (none-chosen (ltb (position_or_len p xs) (length xs)) (position_or_len p xs) None (sym e)).0 in
     let bound = prefix_len-le-length (λ x. not (p x)) xs in
     omega arith
 
 pub suffix_absent : (p : ℕ → Bool) (xs : List ℕ) → None ≡ last_position p xs → length xs ≡ suffix_len (λ c. not (p c)) xs
 suffix_absent p xs e =
     let s = suffix_len (λ c. not (p c)) xs in
-    let past = ltb-false s (length xs) (none_chosen (ltb s (length xs)) (length xs - s - 1) e) in
+    let past = ltb-false s (length xs) (none-chosen (ltb s (length xs)) (length xs - s - 1) None (sym e)).0 in
     let bound = suffix_len-le-length (λ c. not (p c)) xs in
     omega arith

@@ -5,6 +5,7 @@ use Rattle.std.proofs.lemmas.Bool.{and_parts, and_from, cases_Bool, false≢true
 use Rattle.std.proofs.Math.Bool.{and-true}
 use Rattle.std.proofs.lemmas.Bool.Decides.{nat_tests}
 use Rattle.std.specs.Option.{option_or}
+use Rattle.rd_base.proofs.Choices.{second-holds}
 use Rattle.rd_tree.specs.declared.rect.Rect.{Rect}
 use Rattle.rd_tree.specs.declared.side.Side.{Side}
 use Rattle.rd_tree.specs.declared.placed.Placed.{Placed}
@@ -87,16 +88,12 @@ replaced_found w other (Split side size first second) rect window e =
 abbrev pub IsSum : (Windows → ℕ) → Type 0
 IsSum f = (side : Side) (size : ℕ) (first second : Windows) → f (Split side size first second) ≡ f first + f second
 
-held_second : (a b : Bool) → a ≡ false → (a || b) ≡ true → b ≡ true
-held_second true b p e = absurd (cc)
-held_second false b p e = e
-
 pub replaced_more : (f : Windows → ℕ) (w d : ℕ) (other : Bool → ℕ → Windows) → IsSum f → ((n : ℕ) (mode : Bool) (margins : ℕ) → (n == w) ≡ true → f (other mode margins) ≡ f (Window n mode margins) + d) → (windows : Windows) → holds w windows ≡ true → f (replaced w other windows) ≡ f windows + d
 replaced_more f w d other sum leaf (Window n mode margins) e = rw e (leaf n mode margins e)
 replaced_more f w d other sum leaf (Split side size first second) e =
     elim (cases_Bool (holds w first)) [
       | inl p ↦ rw p (omega (arith, sum side size (replaced w other first) second, sum side size first second, replaced_more f w d other sum leaf first p))
-      | inr p ↦ rw p (omega (arith, sum side size first (replaced w other second), sum side size first second, replaced_more f w d other sum leaf second (held_second (holds w first) (holds w second) p e)))
+      | inr p ↦ rw p (omega (arith, sum side size first (replaced w other second), sum side size first second, replaced_more f w d other sum leaf second (second-holds (holds w first) (holds w second) p e)))
     ]
 
 pub resized_same : (f : Windows → ℕ) → IsSum f → (windows : Windows) (rect : Rect) → f (resized windows rect) ≡ f windows
@@ -125,7 +122,7 @@ removed_less f w d sum leaf (Split side size first second) rect e s =
         | inr q ↦ elim (cases_Bool (holds w first)) [
           | inl h ↦ rw (p, q, h) (omega (arith, sum side size first second, sum side size (removed w first (first_part side size rect)) second, removed_less f w d sum leaf first (first_part side size rect) h (not_single w first p h)))
           | inr h ↦
-              let k = held_second (holds w first) (holds w second) h e in
+              let k = second-holds (holds w first) (holds w second) h e in
               rw (p, q, h) (omega (arith, sum side size first second, sum side size first (removed w second (second_part side size rect)), removed_less f w d sum leaf second (second_part side size rect) k (not_single w second q k)))
         ]
       ]

@@ -6,6 +6,7 @@ use Rattle.std.proofs.Math.Bool.{or_assoc, or-false}
 use Rattle.std.proofs.lemmas.Bool.Decides.{nat_tests}
 use Rattle.std.proofs.lemmas.List.{map-append}
 use Rattle.std.specs.Option.{option_or}
+use Rattle.rd_base.proofs.Choices.{none-chosen}
 use Rattle.rd_base.specs.Cells.{bit_of}
 use Rattle.rd_tree.specs.declared.rect.Rect.{Rect}
 use Rattle.rd_tree.specs.declared.side.Side.{Side}
@@ -82,14 +83,10 @@ all_room (Split side size first second) rect h =
     all_room-append (placed first a) (placed second b) (all_room first a h.0) (all_room second b h.1)
 
 -- others in place of a window that stands among the first windows, or behind them
-skip_none : (b : Bool) (window : Placed) (o : Option Placed) → (if b then Some window else o) ≡ None → (b ≡ false) × (o ≡ None)
-skip_none true window o e = absurd (cc)
-skip_none false window o e = (refl, e)
-
 in_place-back : (w : ℕ) (others : Placed → List Placed) (xs ys : List Placed) → of_number w xs ≡ None → in_place_of w others (xs ++ ys) ≡ xs ++ in_place_of w others ys
 in_place-back w others [] ys e = refl
 in_place-back w others (window ∷ xs) ys e =
-    let s = skip_none (window.number == w) window (of_number w xs) e in
+    let s = none-chosen (window.number == w) window (of_number w xs) e in
     rw s.0 (ap (λ (zs : List Placed). window ∷ zs) (in_place-back w others xs ys s.1))
 
 in_place-front : (w : ℕ) (others : Placed → List Placed) (xs ys : List Placed) → is_some (of_number w xs) ≡ true → in_place_of w others (xs ++ ys) ≡ in_place_of w others xs ++ ys

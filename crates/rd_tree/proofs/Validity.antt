@@ -1,7 +1,8 @@
 -- Each call leaves a valid tree valid.
-use Rattle.std.proofs.Common.{◌≡◌, ℕ, suc, ◌+◌, ◌≤◌, ◌<◌, Bool, true, false, if◌then◌else◌, ◌==◌, nat_le, length, length-append, ◌⊎◌, inl, inr, refl, arith}
+use Rattle.std.proofs.Common.{◌≡◌, ℕ, suc, ◌+◌, ◌≤◌, ◌<◌, Bool, true, false, ◌==◌, nat_le, length, length-append, ◌⊎◌, inl, inr, refl, arith}
 use Rattle.std.proofs.lemmas.Bool.{cases_Bool, eqb-true, or_parts}
 use Rattle.std.proofs.lemmas.Bool.Decides.{nat_tests}
+use Rattle.rd_base.proofs.Choices.{one-at-most}
 use Rattle.rd_tree.specs.declared.side.Side.{Side}
 use Rattle.rd_tree.specs.Windows.{Windows, Window, fits, NeedsMet, resized, leaves, holds, halves, replaced, split_at, with_mode, with_margins, is_single, removed, times}
 use Rattle.rd_tree.specs.Calls.{Configuration, IsValid, frame, frame_of, opening, is_full}
@@ -18,12 +19,8 @@ count-sum side size first second = length-append (leaves first) (leaves second)
 times-sum : (v : ℕ) → IsSum (times v)
 times-sum v side size first second = refl
 
-one_test : (b : Bool) → (if b then 1 else 0) ≤ 1
-one_test true = omega arith
-one_test false = omega arith
-
 one : (v n : ℕ) (mode : Bool) (margins : ℕ) → times v (Window n mode margins) ≤ 1
-one v n mode margins = one_test (n == v)
+one v n mode margins = one-at-most (n == v)
 
 -- a window has its own number alone
 own : (v n : ℕ) (mode : Bool) (margins : ℕ) → (n ≡ v) ⊎ (times v (Window n mode margins) ≡ 0)

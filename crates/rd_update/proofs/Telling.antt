@@ -8,6 +8,7 @@ use Rattle.std.proofs.lemmas.Bool.Decides.{nat_tests, Decides-eqb}
 use Rattle.std.proofs.lemmas.List.{take_more}
 use Rattle.std.proofs.lemmas.List.Elements.{All-append, All-from_recursion, recursion_from_All}
 use Rattle.std.proofs.lemmas.List.Sums.{suffix_len_is}
+use Rattle.rd_base.proofs.Choices.{none-chosen}
 use Rattle.rd_lanes.specs.Kernels.{differs as words_differ, first_difference as first_word, last_difference as last_word}
 use Rattle.rd_base.specs.Cells.{words_of, IsSmall, AreOnlyOf}
 use Rattle.rd_base.specs.Equals.{same_cell}
@@ -168,10 +169,6 @@ some-chosen : (b : Bool) (n k : ℕ) → Some k ≡ (if b then Some n else None)
 some-chosen true n k e = (cc, refl)
 some-chosen false n k e = absurd (cc)
 
-none-chosen : (b : Bool) (n : ℕ) → None ≡ (if b then Some n else None) → b ≡ false
-none-chosen true n e = absurd (cc)
-none-chosen false n e = refl
-
 columns-same : (a b c d : ℕ) → a ≡ c → b ≡ d → let x : Columns = record { from = a; end = b } in let y : Columns = record { from = c; end = d } in x ≡ y
 columns-same a b c d p q = cc
 
@@ -200,7 +197,7 @@ columns-none-last : (xs ys : List Cell) → length xs ≡ length ys → AllByRec
     → None ≡ last_word (row_words xs) (row_words ys) → None ≡ differing_columns xs ys
 columns-none-last xs ys n p q l =
     let ps = zip (row_words xs) (row_words ys) in
-    let none = none-chosen (nat_lt (suffix_len (λ p. not (words_differ p)) ps) (length ps)) (length ps - suffix_len (λ p. not (words_differ p)) ps - 1) l in
+    let none = (none-chosen (nat_lt (suffix_len (λ p. not (words_differ p)) ps) (length ps)) (length ps - suffix_len (λ p. not (words_differ p)) ps - 1) None (sym l)).0 in
     let ge : length (zip (row_words xs) (row_words ys)) ≤ suffix_len (λ p. not (words_differ p)) (zip (row_words xs) (row_words ys)) = grind (arith, nat_tests) in
     none-differ xs ys (omega (arith, end-suffix ps, end-le ps, ge, end-words xs ys n p q))
 
@@ -208,7 +205,7 @@ columns-none-first : (xs ys : List Cell) → length xs ≡ length ys → AllByRe
     → None ≡ first_word (row_words xs) (row_words ys) → None ≡ differing_columns xs ys
 columns-none-first xs ys n p q f =
     let ps = zip (row_words xs) (row_words ys) in
-    let none = none-chosen (nat_lt (position_or_len words_differ ps) (length ps)) (position_or_len words_differ ps) f in
+    let none = (none-chosen (nat_lt (position_or_len words_differ ps) (length ps)) (position_or_len words_differ ps) None (sym f)).0 in
     let ge : length (zip (row_words xs) (row_words ys)) ≤ position_or_len words_differ (zip (row_words xs) (row_words ys)) = grind (arith, nat_tests) in
     let first : length ys ≤ first_difference xs ys = omega (arith, ge, length-words xs ys n, first-words xs ys n p q, n) in
     elim (cases_eq (end_of_differences xs ys) 0) [

@@ -1,5 +1,5 @@
 -- The first row of a source, and its last one.
-use Rattle.std.proofs.Common.{◌≡◌, ℕ, zero, suc, ◌+◌, ◌-◌, ◌<◌, Bool, true, false, not, ◌&&◌, ◌==◌, leb, List, [], ◌∷◌, ◌++◌, length, min, take, drop, slice_get, option_map, Option, Some, refl, sym, ap, ◌∙◌, subst, arith}
+use Rattle.std.proofs.Common.{◌≡◌, ℕ, zero, suc, ◌+◌, ◌-◌, ◌<◌, true, false, not, ◌&&◌, ◌==◌, leb, List, [], ◌∷◌, ◌++◌, length, min, take, drop, slice_get, option_map, Option, Some, refl, sym, ap, ◌∙◌, subst, arith}
 use Rattle.std.specs.Option.{is_none}
 use Rattle.std.proofs.lemmas.Bool.{and_parts, le-leb, lt-leb, ne_eqb}
 use Rattle.std.proofs.lemmas.List.{append_assoc, length-append, length-drop, length-map, length-take}
@@ -51,11 +51,6 @@ before-last (x ∷ y ∷ rows) zero r e at goes = omega arith
 before-last (x ∷ y ∷ rows) (suc k) r e at goes = let rest = before-last (y ∷ rows) k r ((and_parts (not x.ends_block) (ends_last (y ∷ rows)) e).1) at goes in omega (arith, rest)
 
 -- ---- places in lists
-
--- a test and its opposite
-pub opposite : (a b : Bool) → a ≡ not b → b ≡ not a
-opposite a true e = sym (ap not e)
-opposite a false e = sym (ap not e)
 
 some-here : {X : Type 0} (xs : List X) (k : ℕ) → k < length xs → is_none (slice_get xs k) ≡ false
 some-here [] k low = absurd (omega arith)

@@ -3,6 +3,7 @@ use Rattle.std.proofs.Common.{◌≡◌, ℕ, suc, ◌+◌, ◌-◌, ◌<◌, �
 use Rattle.std.specs.Option.{unwrap_or}
 use Rattle.std.proofs.lemmas.Bool.{and_parts, cases_Bool, eq-eqb, eqb-true, leb-true, lt-ltb, ltb-true}
 use Rattle.std.proofs.lemmas.Bool.Decides.{nat_tests}
+use Rattle.rd_base.proofs.Choices.{opposite}
 use Rattle.rd_base.specs.declared.settings.Anchor.{Anchor}
 use Rattle.rd_matrix.specs.Blocks.{IsAmong, StandFrom, first_start}
 use Rattle.rd_matrix.specs.Entries.{EntryMeaning, all_rows, numbered, shown_entries}
@@ -25,7 +26,7 @@ use Rattle.rd_start.specs.declared.wanted.Wanted.{Wanted}
 use Rattle.rd_window.specs.Layouts.{IsLaidOut, Stands, StandsUnchanged, is_current, rests}
 use Rattle.rd_window.specs.Views.{has_first_row, has_last_row, rows_in_view, start_row}
 use Rattle.rd_window.specs.declared.layout.Layout.{Layout}
-use Rattle.rd_window.proofs.Ends.{in-view, opposite}
+use Rattle.rd_window.proofs.Ends.{in-view}
 use Rattle.rd_window.proofs.Starting.{some-laid, start-named}
 
 -- ---- what a current layout is

@@ -1,9 +1,10 @@
 use Rattle.std.proofs.Common.{◌≡◌, ℕ, is_some, suc, ◌+◌, ◌-◌, leb, Some, slice_get, length, sym, ap, subst, ◌∙◌, arith}
 use Rattle.std.proofs.lemmas.Bool.{lt-leb}
+use Rattle.rd_base.proofs.Choices.{opposite}
 use Rattle.rd_matrix.specs.Entries.{shown_entry}
 use Rattle.rd_matrix.specs.Sources.{SourceValues, rows_at}
 use Rattle.rd_reuse.specs.Views.{anchor_of}
-use Rattle.rd_window.proofs.Ends.{entry-named, going-on, last-row, opposite, view-end, view-size}
+use Rattle.rd_window.proofs.Ends.{entry-named, going-on, last-row, view-end, view-size}
 use Rattle.rd_window.proofs.window.has_last_row.Goals as goal
 
 pub returns-then-not-ends_block-clause-value : goal.returns-then-not-ends_block-clause-value

@@ -1,7 +1,8 @@
 use Rattle.std.proofs.Common.{◌≡◌, ℕ, is_some, Some, slice_get, sym, subst, ◌∙◌, arith}
+use Rattle.rd_base.proofs.Choices.{opposite}
 use Rattle.rd_matrix.specs.Blocks.{block_before}
 use Rattle.rd_matrix.specs.Sources.{SourceValues}
-use Rattle.rd_window.proofs.Ends.{first-row, inner-row, opposite}
+use Rattle.rd_window.proofs.Ends.{first-row, inner-row}
 use Rattle.rd_window.proofs.window.is_first_row.Goals as goal
 
 pub returns-then-anchor-gt0-clause-value : goal.returns-then-anchor-gt0-clause-value

@@ -1,7 +1,7 @@
-use Rattle.std.proofs.Common.{arith, ap, ◌∙◌}
+use Rattle.std.proofs.Common.{◌≡◌, IfOk, arith, ap, subst, ◌∙◌}
 use Rattle.serde_json.specs.View.{view, items_view}
-use Rattle.rd_script.specs.Fields.{each_item, list_of}
-use Rattle.rd_script.proofs.Items.{list-none, list-long, list-all, if-all}
+use Rattle.rd_script.specs.Fields.{each_item}
+use Rattle.rd_script.proofs.Items.{list-none, list-long, list-all}
 use Rattle.rd_script.proofs.item.AtMostForm.read.Goals as goal
 
 pub returns-in-None : goal.returns-in-None
@@ -13,6 +13,7 @@ returns-then-self-len g c = list-long c.args.self.now.most (g.F.Form.kind c.args
 pub returns-else-self-len : goal.returns-else-self-len
 returns-else-self-len g c =
     let kind = (g.F.Form.kind c.args.self.now.of) in
-    if-all c.each.result (each_item kind (items_view c.as_slice.result.now)) (list_of c.args.self.now.most kind (view c.args.value.now)) c.each.ensures
+    subst (λ list. IfOk c.each.result (λ found. found ≡ list))
     (ap (λ xs. each_item kind (items_view xs)) c.as_slice.ensures.value
     ∙ list-all c.args.self.now.most kind (view c.args.value.now) c.in-Some.items.now.items c.in-Some.ensures (omega arith))
+    c.each.ensures
