@@ -1,5 +1,5 @@
 -- What follows from a test, from an option, and of the one of two that is chosen.
-use Rattle.std.proofs.Common.{◌≡◌, ◌≤◌, ◌⊎◌, inl, inr, Bool, true, false, not, ◌||◌, cond, Option, None, Some, IfSome, is_some, refl, sym, ap, ◌∙◌, arith}
+use Rattle.std.proofs.Common.{◌≡◌, ◌≤◌, ◌⊎◌, inl, inr, Bool, true, false, not, ◌||◌, if◌then◌else◌, Option, None, Some, IfSome, is_some, refl, sym, ap, ◌∙◌, arith}
 use Rattle.std.specs.Option.{option_map, option_or}
 use Rattle.std.proofs.Math.Bool.{not-not}
 use Rattle.std.proofs.lemmas.Option.{none-some}
@@ -14,23 +14,23 @@ pub second-holds : (a b : Bool) → a ≡ false → (a || b) ≡ true → b ≡ 
 second-holds a b fails holds = sym (ap (λ t. t || b) fails) ∙ holds
 
 -- a test as a number
-pub one-at-most : (b : Bool) → cond b 1 0 ≤ 1
+pub one-at-most : (b : Bool) → (if b then 1 else 0) ≤ 1
 one-at-most true = omega arith
 one-at-most false = omega arith
 
-pub one-at-least : (b : Bool) → b ≡ true → 1 ≤ cond b 1 0
+pub one-at-least : (b : Bool) → b ≡ true → 1 ≤ (if b then 1 else 0)
 one-at-least true e = omega arith
 one-at-least false e = absurd (cc)
 
 -- ---- choices
 
 -- what holds of two things holds of the one that is chosen
-pub either : {X : Type 0} (P : X → Type 0) (b : Bool) (x y : X) → P x → P y → P (cond b x y)
+pub either : {X : Type 0} (P : X → Type 0) (b : Bool) (x y : X) → P x → P y → P (if b then x else y)
 either P true x y h k = h
 either P false x y h k = k
 
 -- where nothing was chosen, the test failed and nothing was left
-pub none-chosen : {X : Type 0} (b : Bool) (x : X) (rest : Option X) → cond b (Some x) rest ≡ None → (b ≡ false) × (rest ≡ None)
+pub none-chosen : {X : Type 0} (b : Bool) (x : X) (rest : Option X) → (if b then Some x else rest) ≡ None → (b ≡ false) × (rest ≡ None)
 none-chosen true x rest none = absurd (none-some x (sym none))
 none-chosen false x rest none = (refl, none)
 

@@ -1,6 +1,7 @@
 -- What each op leaves of the frame's size, and that the windows that live behind it and were made before it lived before it.
 use Rattle.std.proofs.Common.{◌≡◌, ℕ, ◌+◌, ◌-◌, ◌<◌, ◌≤◌, ◌==◌, Bool, true, false, if◌then◌else◌, nat_lt, nat_le, pos, ◌+ℤ◌, Option, None, Some, Result, Ok, Err, List, [], ◌∷◌, ◌++◌, length, map, sym, refl, arith, is_some, subst, ◌&&◌}
 use Rattle.std.specs.Prelude.{slice_get, slice_set, IfOk}
+use Rattle.rd_base.proofs.Choices.{either}
 use Rattle.rd_objects.specs.Things.{ObjectLists}
 use Rattle.rd_script.specs.declared.op.Op.{Op}
 use Rattle.rd_script.specs.declared.op.Op.TheVariants as ops
@@ -39,8 +40,7 @@ found refusal None f P h = tt
 found refusal (Some a) f P h = h a
 
 pub one-of : {T E : Type 0} (t : Bool) (a b : Result T E) (P : T → Type 0) → IfOk a P → IfOk b P → IfOk (if t then a else b) P
-one-of true a b P h g = h
-one-of false a b P h g = g
+one-of t a b P h g = either (λ r. IfOk r P) t a b h g
 
 same-windows : (s t : StateValue) → t.width ≡ s.width → t.height ≡ s.height → t.tree ≡ s.tree → t.windows ≡ s.windows → (framed : Bool) → Goes framed s t
 same-windows s t w h r is framed = record {

@@ -1,5 +1,6 @@
 -- Answers that lack a certain fault.
 use Rattle.std.proofs.Common.{◌≢◌, Bool, true, false, if◌then◌else◌, Option, None, Some, Result, Ok, Err}
+use Rattle.rd_base.proofs.Choices.{either}
 
 abbrev pub Lacks : {T F : Type 0} → F → Result T F → Type 0
 Lacks bad r = r ≢ Err bad
@@ -11,8 +12,7 @@ pub other-lacks : {T F : Type 0} (bad fault : F) → fault ≢ bad → Lacks {T 
 other-lacks bad fault h = λ e. h (cc)
 
 pub either-lacks : {T F : Type 0} (bad : F) (b : Bool) (r s : Result T F) → Lacks bad r → Lacks bad s → Lacks bad (if b then r else s)
-either-lacks bad true r s p q = p
-either-lacks bad false r s p q = q
+either-lacks bad b r s p q = either (Lacks bad) b r s p q
 
 -- the same of a fault that there may be
 pub none-lacks : {F : Type 0} (bad : F) → None ≢ Some bad

@@ -4,6 +4,7 @@ use Rattle.std.specs.Prelude.{flat_map, drop, length, if◌then◌else◌, repli
 use Rattle.std.proofs.lemmas.List.{length-replicate}
 use Rattle.std.proofs.lemmas.List.Elements.{All-append, All-cons, All-nil}
 use Rattle.std.proofs.lemmas.Option.{get_or_from_slice_get, slice_get_within}
+use Rattle.rd_base.proofs.Choices.{either}
 use Rattle.rd_base.specs.Faces.{Attributes, plain}
 use Rattle.rd_base.specs.Glyphs.{blanks, is_space}
 use Rattle.rd_base.specs.declared.cell.Cell.{Cell}
@@ -78,8 +79,7 @@ leading-blanks zero f = refl
 leading-blanks (suc n) f = refl
 
 leading-either : (b : Bool) (xs ys : List Cell) → leading_rests xs ≡ 0 → leading_rests ys ≡ 0 → leading_rests (if b then xs else ys) ≡ 0
-leading-either true xs ys none more = none
-leading-either false xs ys none more = more
+leading-either b xs ys none more = either (λ cells. leading_rests cells ≡ 0) b xs ys none more
 
 leading-whole : (n : ℕ) (g : Option Glyph) (f : Attributes) → leading_rests (whole_cells n g f) ≡ 0
 leading-whole n None f = leading-blanks n f
