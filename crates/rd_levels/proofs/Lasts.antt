@@ -4,7 +4,7 @@ use Rattle.std.specs.Prelude.{nat_le, if◌then◌else◌, slice_index, map}
 use Rattle.std.proofs.lemmas.List.{map-append}
 use Rattle.std.specs.List.{range_with_len, AllByRecursion as Each}
 use Rattle.std.proofs.lemmas.List.Elements.{All-from_recursion}
-use Rattle.std.proofs.lemmas.Bool.{cond_both}
+use Rattle.std.proofs.lemmas.Bool.{cond_both, cond-false}
 use Rattle.std.proofs.lemmas.Bool.Decides.{nat_tests}
 use Rattle.rd_base.proofs.Lists.{each-append, range-more}
 use Rattle.rd_base.specs.declared.class.Class.{Class}
@@ -19,13 +19,10 @@ either-last : (b : Bool) (n : ℕ) (x y u v : List ℕ) → x ≡ u ++ n ∷ [] 
 either-last true n x y u v these those = these
 either-last false n x y u v these those = those
 
-low-last : (b : Bool) (run : List ℕ) (n : ℕ) (x : List ℕ) → b ≡ false → (if b then x else run ++ n ∷ []) ≡ run ++ n ∷ []
-low-last b run n x low = ap (λ t. if t then x else run ++ n ∷ []) low
-
 l2_reversed-last : (levels : List ℕ) (k : ℕ) (run is : List ℕ) (n : ℕ) → slice_index levels n < k → l2_reversed levels k run (is ++ n ∷ []) ≡ l2_reversed levels k run is ++ n ∷ []
 l2_reversed-last levels k run [] n low =
     let below : nat_le k (slice_index levels n) ≡ false = grind (arith, nat_tests) in
-    low-last (nat_le k (slice_index levels n)) run n (l2_reversed levels k (n ∷ run) []) below
+    cond-false (nat_le k (slice_index levels n)) (l2_reversed levels k (n ∷ run) []) (run ++ n ∷ []) below
 l2_reversed-last levels k run (i ∷ is) n low =
     either-last (nat_le k (slice_index levels i)) n
     (l2_reversed levels k (i ∷ run) (is ++ n ∷ [])) (run ++ i ∷ l2_reversed levels k [] (is ++ n ∷ []))

@@ -10,6 +10,7 @@ use Rattle.std.proofs.lemmas.List.Elements.{All-from_get_or}
 use Rattle.std.proofs.lemmas.List.FromFn.{length-range_with_len, get_or-range_with_len}
 use Rattle.std.proofs.lemmas.List.Sorted.{All-permutation}
 use Rattle.std.proofs.lemmas.Option.{slice_get_within, slice_get-get_or, get_or_from_slice_get}
+use Rattle.std.proofs.Math.Nat.{le-min}
 use Rattle.rd_base.proofs.Lists.{get-first}
 use Rattle.rd_overlays.specs.declared.overlay.Overlay.{Overlay}
 use Rattle.rd_overlays.specs.declared.overlay.Meeting.{Meeting}
@@ -30,9 +31,6 @@ high-after : (pos n high v : ℕ) (m : Bool) → pos < 4294967296 → v ≤ high
 high-after pos n high v true small p fits = grind (arith, nat_tests)
 high-after pos n high v false small p fits = grind (arith, nat_tests)
 
-le-min : (a b c : ℕ) → a ≤ b → a ≤ c → a ≤ min b c
-le-min a b c p q = grind arith
-
 min-le : (a b c : ℕ) → a ≤ c → min a b ≤ c
 min-le a b c p = grind arith
 
@@ -45,7 +43,7 @@ grown-holds pos n b (Some o) small fits h =
     let from_high = high-after pos n b.high o.from o.front small h.from_high fits.0 in
     let to_high = high-after pos n b.high o.to o.rear small h.to_high fits.1 in
     record {
-      low_from = le-min _ _ _ low_from low_to;
+      low_from = le-min low_from low_to;
       low_to = low_to;
       from_high = min-le _ _ _ from_high;
       to_high = to_high;

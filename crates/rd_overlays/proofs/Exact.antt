@@ -2,8 +2,9 @@
 use Rattle.std.proofs.Common.{◌≡◌, ℕ, zero, suc, ◌+◌, ◌-◌, ◌<◌, ◌≤◌, Bool, true, false, if◌then◌else◌, List, [], ◌∷◌, length, slice_index_or, Option, None, Some, refl, sym, ap, subst, ◌∙◌, arith, true≢false}
 use Rattle.std.specs.Prelude.{slice_index, ⊤, pos}
 use Rattle.std.specs.List.{Contains}
-use Rattle.std.specs.Option.{unwrap_or, is_none}
+use Rattle.std.specs.Option.{is_none}
 use Rattle.std.proofs.lemmas.List.{get_or-map, length-map}
+use Rattle.std.proofs.lemmas.Option.{same_Some}
 use Rattle.rd_overlays.specs.declared.overlay.Overlay.{Overlay}
 use Rattle.rd_overlays.specs.declared.listing.Rank.{Rank}
 use Rattle.rd_overlays.specs.Overlays.{overlay_at, precedes, placed, with_slot, ranked_from, number_of_rank, numbers_of}
@@ -112,9 +113,6 @@ IsNumbered n r = r.number ≡ n
 none_not_some : {Y : Type 0} (o : Overlay) → None ≡ Some o → Y
 none_not_some {Y} o e = absurd (true≢false (ap is_none e))
 
-value : (a b : Overlay) → Some a ≡ Some b → a ≡ b
-value a b e = ap (λ (slot : Option Overlay). unwrap_or slot a) e
-
 behind : (test : Overlay → Bool) (n : ℕ) (slot : Option Overlay) (rs : List Rank) (k : ℕ) → Some_one (IsNumbered k) rs
     → Some_one (IsNumbered k) (with_slot test n slot rs)
 behind test n None rs k one = one
@@ -125,7 +123,7 @@ complete : (test : Overlay → Bool) (n j : ℕ) (slots : List (Option Overlay))
 complete test n j [] o at passes = none_not_some o at
 complete test n zero (None ∷ slots) o at passes = none_not_some o at
 complete test n zero (Some other ∷ slots) o at passes =
-    let e : test other ≡ true = ap test (value other o at) ∙ passes in
+    let e : test other ≡ true = ap test (same_Some other o at) ∙ passes in
     let P = IsNumbered (n + 0) in
     let rs = ranked_from test (suc n) slots in
     let same : n ≡ n + 0 = omega arith in
@@ -196,7 +194,7 @@ rank-at test slots i d o inside at =
     let stands = each-at (Stands test 0 slots) rs i d inside (ranked-stand test 0 slots) in
     let same : r.number - 0 ≡ r.number = omega arith in
     let found : Some stands.overlay ≡ Some o = sym stands.at ∙ (ap (overlay_at slots) (same ∙ sym number) ∙ at) in
-    same_rank r (slice_index (numbers_of test slots) i) o number (stands.priority ∙ ap (λ (x : Overlay). x.priority) (value stands.overlay o found))
+    same_rank r (slice_index (numbers_of test slots) i) o number (stands.priority ∙ ap (λ (x : Overlay). x.priority) (same_Some stands.overlay o found))
 
 pub ascends : (test : Overlay → Bool) (slots : List (Option Overlay)) → Ascends slots (numbers_of test slots)
 ascends test slots = λ i j a b p inside at_i at_j.

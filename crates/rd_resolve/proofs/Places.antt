@@ -41,10 +41,6 @@ pub types-behind : (is : List ℕ) (k : ℕ) (ts : List Class) (js all : List �
     → types_at js us ≡ types_at (drop k is) ts
 types-behind is k ts js all us back whole here = ap₂ types_at (back ∙ ap (drop k) whole) here
 
--- the indexes behind lie within the line too
-pub behind-within : (is : List ℕ) (k n : ℕ) → All (λ i. i < n) is → All (λ i. i < n) (drop k is)
-behind-within is k n within = λ m d h. rw (get_or-drop k is m d) (within (k + m) d (omega (arith, length-drop k is)))
-
 -- at the end nothing is left
 pub put-end : (is : List ℕ) (k : ℕ) (vs ts : List Class) → length is ≤ k → put_at (drop k is) vs ts ≡ ts
 put-end is k vs ts past = rw (drop_all k is past) refl

@@ -1,9 +1,9 @@
 -- The edits at the gap.
-use Rattle.std.proofs.Common.{◌≡◌, ℕ, ◌+◌, ◌-◌, ◌<◌, ◌≤◌, min, true, false, List, [], ◌∷◌, ◌++◌, length, length-append, append-nil, replicate, take, Option, None, Some, inl, inr, refl, sym, ap, ◌∙◌, arith}
+use Rattle.std.proofs.Common.{◌≡◌, ℕ, ◌+◌, ◌-◌, ◌<◌, ◌≤◌, min, true, false, List, [], ◌++◌, length, length-append, append-nil, replicate, take, Option, None, Some, inl, inr, refl, sym, ap, ◌∙◌, arith}
 use Rattle.std.specs.Prelude.{nat_lt, nat_le, ◌==◌}
 use Rattle.std.proofs.lemmas.Bool.Decides.{nat_tests}
 use Rattle.std.proofs.lemmas.Bool.{cases_lt}
-use Rattle.std.proofs.lemmas.List.{length-replicate, get_or_append_left, get_or-append_right, get_or-replicate, get_or_past, get_or-take}
+use Rattle.std.proofs.lemmas.List.{length-replicate, get_or_append_left, get_or-append_right, get_or-replicate, get_or_past, get_or-take, nil_from_length}
 use Rattle.rd_spans.specs.declared.run.ValueRun.{ValueRun}
 use Rattle.rd_spans.specs.Values.{value_at, put_at, opened_at, closed_at, CanMove, IsTrimmed}
 use Rattle.rd_spans.specs.Sides.{values_of, Rises, size_of, top, meet, needs, values_of_both, GapMoved, AreSides}
@@ -206,16 +206,11 @@ open-nothing a b pos n g none p =
           ])
     ]
 
--- nothing is left of the back
-pub nothing-left : (b : List ValueRun) → Rises 0 b → length b ≡ 0 → b ≡ []
-nothing-left [] h e = refl
-nothing-left (r ∷ b) h e = absurd (omega arith)
-
 pub length-none : (b : List ValueRun) → Rises 0 b → size_of b ≡ 0 → length b ≡ 0
 length-none b h e = omega (arith, few-runs 0 b h)
 
 pub size-none : (b : List ValueRun) → Rises 0 b → length b ≡ 0 → size_of b ≡ 0
-size-none b h e = ap size_of (nothing-left b h e)
+size-none b h e = ap size_of (nil_from_length b e)
 
 pub values_of_both-none : (a b : List ValueRun) → b ≡ [] → values_of_both a b ≡ values_of a
 values_of_both-none a b e = ap (values_of_both a) e ∙ append-nil (values_of a)

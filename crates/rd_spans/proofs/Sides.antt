@@ -3,7 +3,7 @@ use Rattle.std.proofs.Common.{◌≡◌, ℕ, zero, suc, ◌+◌, ◌-◌, ◌<�
 use Rattle.std.specs.Prelude.{is_some, min, nat_lt, nat_eq, slice_get, slice_index_or, reverse}
 use Rattle.std.proofs.lemmas.Bool.Decides.{nat_tests}
 use Rattle.std.proofs.lemmas.Bool.{eqb-true, eq-eqb, lt-ltb, le-ltb, cases_lt}
-use Rattle.std.proofs.lemmas.List.{replicate-append-replicate, length-replicate, take_all, length-reverse, reverse-append, get_or_append_left, get_or-append_right, get_or-replicate, get_or_past, get_or-reverse, take-append-le}
+use Rattle.std.proofs.lemmas.List.{replicate-append-replicate, length-replicate, take_all, length-reverse, reverse-append, get_or_append_left, get_or-append_right, get_or-replicate, get_or_past, get_or-reverse, take-append-le, reverse-reverse, length_push}
 use Rattle.rd_spans.specs.declared.run.ValueRun.{ValueRun}
 use Rattle.rd_spans.specs.Values.{value_at, IsTrimmed}
 use Rattle.rd_spans.specs.Sides.{values_from, values_of, Rises, reach, size_of, value_in, top, same_value, has_value, meet, needs, values_of_both, AreMoved, GapMoved}
@@ -46,9 +46,6 @@ pub top-push : (rs : List ValueRun) (r : ValueRun) → top (rs ++ r ∷ []) ≡ 
 top-push [] r = refl
 top-push (q ∷ []) r = refl
 top-push (q ∷ (s ∷ rs)) r = top-push (s ∷ rs) r
-
-length-push : (rs : List ValueRun) (r : ValueRun) → length (rs ++ r ∷ []) ≡ length rs + 1
-length-push rs r = length-append rs (r ∷ [])
 
 pub length-values : (k : ℕ) (rs : List ValueRun) → Rises k rs → length (values_from k rs) + k ≡ reach k rs
 length-values k [] h = omega arith
@@ -218,7 +215,7 @@ pub popped-has : (old rs : List ValueRun) (r : ValueRun) (value : Option ℕ) �
 popped-has old rs r value e = ap (λ (x : List ValueRun). has_value (top x) value) e ∙ has-top rs r value
 
 pub popped-length : (old rs : List ValueRun) (r : ValueRun) → old ≡ rs ++ r ∷ [] → length old ≡ length rs + 1
-popped-length old rs r e = ap length e ∙ length-push rs r
+popped-length old rs r e = ap length e ∙ length_push rs r
 
 pub kept-count : (old rs : List ValueRun) (r : ValueRun) (value : Option ℕ) → old ≡ rs ++ r ∷ [] → same_value r.value value ≡ false → length (rs ++ r ∷ []) + (if has_value (top old) value then 1 else 0) ≡ length old
 kept-count old rs r value e f = rw (popped-has old rs r value e, f, ← e) (omega arith)
@@ -269,7 +266,7 @@ pub moved-needs : (old rs to from_new to_new : List ValueRun) (r : ValueRun) (re
     → needs from_new to_new ≤ needs old to
 moved-needs old rs to from_new to_new r rest moved e some none from_count from_top to_count to_top =
     let before : needs old to ≡ length rs + 1 + length to + (if has_value (top to) r.value then 0 else 1) =
-    rw (e, top-push rs r, meet-run r (top to), length-push rs r) refl in
+    rw (e, top-push rs r, meet-run r (top to), length_push rs r) refl in
     elim (cases_lt 0 rest) [
       | inl part ↦
           let both : meet (top from_new) (top to_new) ≡ true = meet-value (top from_new) (top to_new) r.value (to_top some) ∙ from_top part in
@@ -306,14 +303,9 @@ moved-values_of_both old rs to from_new to_new r rest moved e all from_values to
     ∙ (ap (λ (vs : List (Option ℕ)). a ++ vs) (sym (append_assoc (replicate rest r.value) (replicate moved r.value) b))
     ∙ (sym (append_assoc a (replicate rest r.value ++ replicate moved r.value) b) ∙ ap (λ (vs : List (Option ℕ)). vs ++ b) (sym whole)))))
 
-turn-turn : (xs : List (Option ℕ)) → reverse (reverse xs) ≡ xs
-turn-turn [] = refl
-turn-turn (x ∷ xs) =
-    ap reverse (reverse-append (x ∷ []) xs) ∙ (reverse-append (reverse xs) (x ∷ []) ∙ ap (λ (vs : List (Option ℕ)). x ∷ vs) (turn-turn xs))
-
 values_of_both-swap : (front back : List ValueRun) → values_of_both front back ≡ reverse (values_of_both back front)
 values_of_both-swap front back =
-    sym (reverse-append (values_of back) (reverse (values_of front)) ∙ ap (λ (vs : List (Option ℕ)). vs ++ reverse (values_of back)) (turn-turn (values_of front)))
+    sym (reverse-append (values_of back) (reverse (values_of front)) ∙ ap (λ (vs : List (Option ℕ)). vs ++ reverse (values_of back)) (reverse-reverse (values_of front)))
 
 pub moved-swap : (front back front_new back_new : List ValueRun) → AreMoved back front back_new front_new → AreMoved front back front_new back_new
 moved-swap front back front_new back_new m = record {
@@ -339,7 +331,7 @@ pub cut-lighter : (old rs new : List ValueRun) (r : ValueRun) (n : ℕ) → old 
     → (0 < n → has_value (top new) r.value ≡ true) → (other : List ValueRun) → needs other new ≤ needs other old
 cut-lighter old rs new r n e none count has other =
     let before : needs other old ≡ length other + (length rs + 1) + (if has_value (top other) r.value then 0 else 1) =
-    rw (e, top-push rs r, length-push rs r) refl in
+    rw (e, top-push rs r, length_push rs r) refl in
     elim (cases_lt 0 n) [
       | inl some ↦
           let after : needs other new ≡ length other + length new + (if has_value (top other) r.value then 0 else 1) =

@@ -2,6 +2,7 @@
 use Rattle.std.proofs.Common.{◌≡◌, ℕ, ◌+◌, ◌*◌, ◌<◌, ◌≤◌, Bool, true, false, if◌then◌else◌, List, [], ◌∷◌, None, Some, refl, sym, ap, ◌∙◌, length, get_or, drop, arith}
 use Rattle.std.proofs.lemmas.List.{drop_more}
 use Rattle.std.proofs.lemmas.Bool.Decides.{nat_tests}
+use Rattle.std.proofs.lemmas.Option.{cond_some}
 use Rattle.std.specs.Int.{is_in_range}
 use Rattle.rd_ucd.specs.Codes.{is_hex, hex_value, number_from, in_range, code_of}
 
@@ -25,10 +26,6 @@ code_of-too_large digits n i d v long short within at hex value large rest =
     ap (λ (t : Bool). if t then number_from (16 * n + hex_value d) (drop (i + 1) digits) else None) hex in
     whole ∙ sym rest ∙ ap (λ (xs : List ℕ). in_range (number_from n xs)) here ∙ ap in_range step ∙ too_large (16 * n + hex_value d) (drop (i + 1) digits) (omega arith)
 
-by_test : (t : Bool) (v w : ℕ) → Some v ≡ (if t then Some w else None) → (t ≡ true) × (w ≡ v)
-by_test true v w e = (refl, cc)
-by_test false v w e = absurd (cc)
-
 -- what a digit that was read is
 pub hex_told : (b v : ℕ) → Some v ≡ (if is_hex b then Some (hex_value b) else None) → (is_hex b ≡ true) × (hex_value b ≡ v)
-hex_told b v e = by_test (is_hex b) v (hex_value b) e
+hex_told b v e = cond_some (is_hex b) (hex_value b) v (sym e)

@@ -1,7 +1,8 @@
 use Rattle.std.proofs.Common.{◌≡◌, ◌-◌, List, ℕ, Option, arith, ap, subst, sym, ◌∙◌}
+use Rattle.std.proofs.lemmas.List.{nil_from_length}
 use Rattle.rd_spans.specs.Values.{value_at, closed_at, IsTrimmed}
 use Rattle.rd_spans.specs.Sides.{values_of_both}
-use Rattle.rd_spans.proofs.Edits.{AtGap, IsCut, at-gap, not-empty, is-empty, nothing-left, values_of_both-none, close-values, close-trimmed}
+use Rattle.rd_spans.proofs.Edits.{AtGap, IsCut, at-gap, not-empty, is-empty, values_of_both-none, close-values, close-trimmed}
 use Rattle.rd_spans.proofs.gap.close.Goals as goal
 use Rattle.rd_spans.proofs.gap.close.Goals.{After-cut}
 
@@ -20,7 +21,7 @@ closed c p =
 pub returns-then-is_empty-clause-values : goal.returns-then-is_empty-clause-values
 returns-then-is_empty-clause-values c = λ p.
     let d = c.cut.new.runs in
-    let nothing = nothing-left d.items c.cut.ensures.order (is-empty d.items d.len d.ok.0 (sym c.is_empty.ensures ∙ c.if-is_empty.true)) in
+    let nothing = nil_from_length d.items (is-empty d.items d.len d.ok.0 (sym c.is_empty.ensures ∙ c.if-is_empty.true)) in
     ap (λ (xs : List (Option ℕ)). value_at xs p) (values_of_both-none c.trim.new.runs.items d.items nothing)
     ∙ (c.trim.ensures.values p
     ∙ (ap (λ (xs : List (Option ℕ)). value_at xs p) (sym (values_of_both-none c.move_to.new.front.items d.items nothing))

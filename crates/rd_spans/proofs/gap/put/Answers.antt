@@ -1,7 +1,8 @@
 use Rattle.std.proofs.Common.{◌-◌, List, ℕ, Option, arith, ap, subst, sym, ◌∙◌}
+use Rattle.std.proofs.lemmas.List.{nil_from_length}
 use Rattle.rd_spans.specs.Values.{value_at, put_at, IsTrimmed}
 use Rattle.rd_spans.specs.Sides.{values_of_both}
-use Rattle.rd_spans.proofs.Edits.{IsCut, at-gap, nothing-left, length-none, size-none, values_of_both-none, put-filled, put-nothing, put-trimmed, needs-most, needs-least}
+use Rattle.rd_spans.proofs.Edits.{IsCut, at-gap, length-none, size-none, values_of_both-none, put-filled, put-nothing, put-trimmed, needs-most, needs-least}
 use Rattle.rd_spans.proofs.gap.put.Goals as goal
 
 pub returns-then-ends_there-clause-values : goal.returns-then-ends_there-clause-values
@@ -14,7 +15,7 @@ returns-then-ends_there-clause-values c =
     let k : IsCut b c.cut.new.runs.items (c.args.to - c.args.from) = record { rises = c.cut.ensures.order; values = c.cut.ensures.values; size = c.cut.ensures.size } in
     let ends = rw c.deref.ensures.value at c.ends_there.ensures.yes in
     let there = ends c.if-ends_there.true in
-    let nothing = nothing-left d c.cut.ensures.order there.1 in
+    let nothing = nil_from_length d there.1 in
     let none = size-none d c.cut.ensures.order there.1 in
     λ p.
     ap (λ (xs : List (Option ℕ)). value_at xs p) (values_of_both-none c.trim.new.runs.items d nothing)

@@ -1,10 +1,8 @@
-use Rattle.std.proofs.Common.{◌≡◌, Some, ap, sym, ◌∙◌}
+use Rattle.std.proofs.Common.{◌≡◌, ap, sym, ◌∙◌}
+use Rattle.std.proofs.lemmas.Option.{same_Some}
 use Rattle.rd_explicit.proofs.Joining.{link-leads, chain-step, end-step, chain-stop, end-stop}
 use Rattle.rd_explicit.specs.declared.links.Link.{Link}
 use Rattle.rd_explicit.proofs.links.Links.sequence.Goals as goal
-
-some_told : (a b : Link) → Some a ≡ Some b → a ≡ b
-some_told a b e = cc
 
 pub loop-at-preserved : goal.loop-at-preserved
 loop-at-preserved c =
@@ -26,5 +24,5 @@ pub returns-clause-eos : goal.returns-clause-eos
 returns-clause-eos c =
     let ks = c.args.self.now.links in
     let inv = c.loop-at.invariant in
-    let same : c.at.result ≡ c.at-2.result = some_told _ _ (sym c.at.ensures ∙ c.at-2.ensures) in
+    let same : c.at.result ≡ c.at-2.result = same_Some _ _ (sym c.at.ensures ∙ c.at-2.ensures) in
     end-stop ks c.loop-at.at c.at-2.result c.at-2.ensures c.requires.leads inv.within _ (ap (λ (k : Link). k.next) (sym same) ∙ c.in_default.is) inv.eos
