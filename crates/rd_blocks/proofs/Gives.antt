@@ -4,7 +4,7 @@ use Rattle.std.specs.Prelude.{is_some, if◌then◌else◌, slice_get, option_ma
 use Rattle.std.specs.Option.{unwrap_or}
 use Rattle.std.specs.List.{flat_map, range_with_len}
 use Rattle.std.proofs.lemmas.Bool.{cond-false, cond_both, eqb-true, not-true, or_cases, or_left, or_parts, or_right}
-use Rattle.std.proofs.lemmas.List.{append_assoc, length-map}
+use Rattle.std.proofs.lemmas.List.{append_assoc, length-map, length_push}
 use Rattle.std.proofs.Math.Seq.{get_or-append_seam}
 use Rattle.std.proofs.lemmas.Grind.{flat_map-append}
 use Rattle.std.proofs.lemmas.List.Elements.{All-append, All-cons, All-head, All-nil, All-tail}
@@ -200,15 +200,12 @@ rows-some law s base origin text under xs (i ∷ is) h =
 get-at : (front : List ℕ) (c : ℕ) (cs all : List ℕ) → all ≡ front ++ c ∷ cs → get_or all (length front) 0 ≡ c
 get-at front c cs all is = ap (λ xs. get_or xs (length front) 0) is ∙ get_or-append_seam front c cs 0
 
-size-more : (front : List ℕ) (c : ℕ) → length (front ++ c ∷ []) ≡ length front + 1
-size-more front c = length-append front (c ∷ [])
-
 -- the characters of a string by their places
 chars-are : (s : Scene) (text : TextValue) (chars front : List ℕ) → text.chars ≡ front ++ chars → char_gives s text (range_with_len (length front) (length chars)) ≡ give_elements s.parts.table chars
 chars-are s text [] front is = refl
 chars-are s text (c ∷ cs) front is =
     ap₂ ◌||◌ (ap (gives_element s.parts.table) (get-at front c cs text.chars is))
-    (subst (λ n. char_gives s text (range_with_len n (length cs)) ≡ give_elements s.parts.table cs) (size-more front c) (chars-are s text cs (front ++ c ∷ []) (is ∙ sym (append_assoc front (c ∷ []) cs))))
+    (subst (λ n. char_gives s text (range_with_len n (length cs)) ≡ give_elements s.parts.table cs) (length_push front c) (chars-are s text cs (front ++ c ∷ []) (is ∙ sym (append_assoc front (c ∷ []) cs))))
 
 parts-are : (s : Scene) (base : ℕ) (text : TextValue) (under : Attributes) → string_parts s base false text under ≡ rows_from s base [] (map (bare_place text under) (range_with_len 0 (length text.chars)))
 parts-are s base text under =

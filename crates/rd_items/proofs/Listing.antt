@@ -1,9 +1,9 @@
 -- The list of the blocks of a text.
-use Rattle.std.proofs.Common.{◌≡◌, ◌⊎◌, inl, inr, ℕ, ◌+◌, ◌-◌, ◌<◌, ◌≤◌, Bool, true, false, List, [], ◌∷◌, Option, Some, None, refl, sym, ap, subst, ◌∙◌, arith}
+use Rattle.std.proofs.Common.{◌≡◌, ◌⊎◌, inl, inr, ℕ, ◌+◌, ◌-◌, ◌<◌, ◌≤◌, Bool, true, false, List, [], ◌∷◌, Some, None, refl, sym, ap, subst, ◌∙◌, arith}
 use Rattle.std.specs.Prelude.{zero, suc, nat_lt, slice_get, if◌then◌else◌}
-use Rattle.std.specs.Option.{unwrap_or}
 use Rattle.std.proofs.lemmas.Bool.{both_ways}
 use Rattle.std.proofs.lemmas.Bool.Decides.{nat_tests}
+use Rattle.std.proofs.lemmas.Option.{same_Some}
 use Rattle.rd_props.specs.Buffers.{BufferValue}
 use Rattle.rd_items.specs.Readings.{ends_block}
 use Rattle.rd_items.specs.Blocks.{blocks_from, blocks_of, Adjoin, is_shown_newline, StartsBlock, EndsBlock, IsBlock}
@@ -14,9 +14,6 @@ use Rattle.rd_items.proofs.Newlines.{AreInside, both-inside, one-inside}
 order : (from to : ℕ) (bs : List (ℕ × ℕ)) → Adjoin from to bs → from ≤ to
 order from to [] all = omega arith
 order from to (b ∷ bs) all = (let rest = order b.1 to bs all.2 in omega (arith, all.0, all.1, rest))
-
-inside : (a b : ℕ × ℕ) → Some a ≡ Some b → a ≡ b
-inside a b e = ap (λ (x : Option (ℕ × ℕ)). unwrap_or x a) e
 
 -- what stands behind the block of a place, and before it
 abbrev Behind : ℕ → List (ℕ × ℕ) → ℕ → ℕ × ℕ → Type 0
@@ -36,12 +33,12 @@ Before from bs k x = ((k ≡ 0) × (x.0 ≡ from)) ⊎ IsBehind from bs k x
 behind : (from to : ℕ) (bs : List (ℕ × ℕ)) (k : ℕ) (x : ℕ × ℕ) → Adjoin from to bs → slice_get bs k ≡ Some x → Behind to bs k x
 behind from to [] k x all found = cc
 behind from to (b ∷ bs) (suc k) x all found = behind b.1 to bs k x all.2 found
-behind from to (b ∷ []) zero x all found = inl (ap (λ (y : ℕ × ℕ). y.1) (sym (inside b x found)) ∙ all.2, refl)
-behind from to (b ∷ c ∷ bs) zero x all found = inr (c, refl, all.2.0 ∙ ap (λ (y : ℕ × ℕ). y.1) (inside b x found))
+behind from to (b ∷ []) zero x all found = inl (ap (λ (y : ℕ × ℕ). y.1) (sym (same_Some b x found)) ∙ all.2, refl)
+behind from to (b ∷ c ∷ bs) zero x all found = inr (c, refl, all.2.0 ∙ ap (λ (y : ℕ × ℕ). y.1) (same_Some b x found))
 
 before : (from to : ℕ) (bs : List (ℕ × ℕ)) (k : ℕ) (x : ℕ × ℕ) → Adjoin from to bs → slice_get bs k ≡ Some x → Before from bs k x
 before from to [] k x all found = cc
-before from to (b ∷ bs) zero x all found = inl (refl, ap (λ (y : ℕ × ℕ). y.0) (sym (inside b x found)) ∙ all.0)
+before from to (b ∷ bs) zero x all found = inl (refl, ap (λ (y : ℕ × ℕ). y.0) (sym (same_Some b x found)) ∙ all.0)
 before from to (b ∷ bs) (suc k) x all found = by-place (before b.1 to bs k x all.2 found) where
   by-place : Before b.1 bs k x → Before from (b ∷ bs) (suc k) x
   by-place (inl here) = inr (record { place = 0; block = b; next = ap suc here.0; found = refl; ends = sym here.1; later = omega (arith, all.0, all.1, here.1) })
@@ -160,7 +157,7 @@ AreBlocks s bs = (k : ℕ) (b : ℕ × ℕ) → slice_get bs k ≡ Some b → Is
 blocks-cons : (s : BufferValue) (a : ℕ × ℕ) (bs : List (ℕ × ℕ)) → IsBlock s a.0 a.1 → AreBlocks s bs → AreBlocks s (a ∷ bs)
 blocks-cons s a bs first rest = by-place where
   by-place : (k : ℕ) (b : ℕ × ℕ) → slice_get (a ∷ bs) k ≡ Some b → IsBlock s b.0 b.1
-  by-place zero b found = subst (λ (x : ℕ × ℕ). IsBlock s x.0 x.1) (inside a b found) first
+  by-place zero b found = subst (λ (x : ℕ × ℕ). IsBlock s x.0 x.1) (same_Some a b found) first
   by-place (suc k) b found = rest k b found
 
 blocks-nil : (s : BufferValue) → AreBlocks s []

@@ -1,8 +1,7 @@
 -- What the items of a block cover, and how they end.
-use Rattle.std.proofs.Common.{◌≡◌, inl, inr, ℕ, ◌<◌, ◌≤◌, Bool, true, false, List, [], ◌∷◌, ◌++◌, length, Option, Some, None, refl, sym, ◌∙◌, arith}
+use Rattle.std.proofs.Common.{◌≡◌, inl, inr, ℕ, ◌≤◌, Bool, true, false, List, [], ◌∷◌, ◌++◌, length, Option, Some, None, refl, sym, ◌∙◌, arith, le_refl}
 use Rattle.std.specs.Prelude.{not, ◌&&◌, nat_lt}
-use Rattle.std.proofs.lemmas.Bool.{and_right, both_ways}
-use Rattle.std.proofs.lemmas.Bool.Decides.{nat_tests}
+use Rattle.std.proofs.lemmas.Bool.{and_right, both_ways, lt-ltb, le-ltb}
 use Rattle.std.proofs.lemmas.List.Elements.{All-cons, All-nil}
 use Rattle.rd_glyphs.specs.Marks.{marks_joined}
 use Rattle.rd_props.specs.Seen.{Seen}
@@ -45,21 +44,15 @@ reading-covered s es well = tile s 0 0 (length es) (marks_joined piece_joins (pi
 
 -- ---- what covers gives an element
 
-below : (a b : ℕ) → a < b → nat_lt a b ≡ true
-below a b less = grind (arith, nat_tests)
-
-itself : (a : ℕ) → nat_lt a a ≡ false
-itself a = grind (arith, nat_tests)
-
 give-by : (s : Scene) (since p : ℕ) (x : Piece) (items : List Item) → since ≤ p → IsLink s p x → CoverWhereTheyGive s items → (kind : Option ItemKind) (covers : Bool) → x.kind ≡ kind → x.covers ≡ covers → CoverWhereTheyGive s (items_by x.kind since x ++ items)
 give-by s since p x items within link rest None covers e f = rw e rest
 give-by s since p x items within link rest (Some k) true e f =
     let gives : x.covers ≡ (not x.overlay && kind_gives s k) = rw e at link.gives in
-    let here = below since x.to (omega (arith, link.some f)) in
+    let here = lt-ltb since x.to (omega (arith, link.some f)) in
     rw e (All-cons (λ (i : Item). nat_lt i.from i.to ≡ (not i.overlay && kind_gives s i.kind)) (item_of since x k) items (rw f (here ∙ sym f ∙ gives)) rest)
 give-by s since p x items within link rest (Some k) false e f =
     let gives : x.covers ≡ (not x.overlay && kind_gives s k) = rw e at link.gives in
-    rw e (All-cons (λ (i : Item). nat_lt i.from i.to ≡ (not i.overlay && kind_gives s i.kind)) (item_of since x k) items (rw f (itself x.at ∙ sym f ∙ gives)) rest)
+    rw e (All-cons (λ (i : Item). nat_lt i.from i.to ≡ (not i.overlay && kind_gives s i.kind)) (item_of since x k) items (rw f (le-ltb x.at x.at (le_refl x.at) ∙ sym f ∙ gives)) rest)
 
 give : (s : Scene) (since p to : ℕ) (xs : List Piece) → since ≤ p → Chain s p to xs → CoverWhereTheyGive s (covering since xs)
 give s since p to [] within chain = absurd chain

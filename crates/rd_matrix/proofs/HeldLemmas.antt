@@ -295,10 +295,6 @@ rows-at b shape hs n h held block there =
     let same : b ≡ h.block = cc in
     ap (λ (x : Block). laid_from shape x.start hs) same ∙ laid-there (first_start (blocks_held hs)) n hs h shape held.stand there
 
-pub above-zero : (n : ℕ) → (n ≡ 0 → ⊥) → 0 < n
-above-zero zero h = absurd (h refl)
-above-zero (suc n) h = omega arith
-
 pub rows-there : (b : Block) (shape : ShapeValues) (now items : List HeldBlock) (n : ℕ) (h : HeldBlock) → AreHeld now → items ≡ now → slice_get (blocks_held now) n ≡ Some b → n < length now → h ≡ get_or items n h
     → laid_from shape b.start now ≡ laid_at shape h
 rows-there b shape now items n h held same block below read =

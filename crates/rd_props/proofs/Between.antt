@@ -1,7 +1,7 @@
 -- Between a position and its next stop nothing changes, nor from the last stop up to a position.
-use Rattle.std.proofs.Common.{◌≡◌, ◌⊎◌, inl, inr, ℕ, ◌+◌, ◌<◌, ◌≤◌, Bool, true, false, if◌then◌else◌, List, [], Option, None, Some, refl, sym, ap, ◌∙◌, arith}
-use Rattle.std.specs.Prelude.{nat_lt}
+use Rattle.std.proofs.Common.{◌≡◌, ◌⊎◌, inl, inr, ℕ, ◌+◌, ◌<◌, ◌≤◌, Bool, false, if◌then◌else◌, List, [], Option, None, Some, refl, sym, ap, ◌∙◌, arith}
 use Rattle.std.proofs.lemmas.Bool.Decides.{nat_tests}
+use Rattle.std.proofs.lemmas.Bool.{lt-ltb}
 use Rattle.rd_overlays.specs.declared.overlay.Overlay.{Overlay}
 use Rattle.rd_overlays.specs.declared.overlay.Kind.{Kind}
 use Rattle.rd_overlays.specs.declared.overlay.Kind.TheVariants.{Face, Display, Invisible, LinePrefix, WrapPrefix}
@@ -38,9 +38,6 @@ starts-not q o differs = grind (arith, nat_tests)
 ends-not : (q : ℕ) (o : Overlay) → (o.to ≡ q → ⊥) → ends q o ≡ false
 ends-not q o differs = grind (arith, nat_tests)
 
-below : (a b : ℕ) → a < b → nat_lt a b ≡ true
-below a b less = grind (arith, nat_tests)
-
 -- behind a position and before another no text property has another value than there, and no overlay starts or ends; none of these
 -- is the end of the accessible text
 record IsQuiet (s : BufferValue) (p stop : ℕ) : Type 0 where
@@ -68,8 +65,8 @@ module _ (agree : ListingsAgree) (s : BufferValue) (p stop q : ℕ) (next : IsQu
       let same = covering-same in
       let property = next.same q later before (place_of kind) in
       let within = next.within in
-      let here = below q s.text.end (omega arith) in
-      let first = below p s.text.end (omega arith) in
+      let here = lt-ltb q s.text.end (omega arith) in
+      let first = lt-ltb p s.text.end (omega arith) in
       rw (here, first, same, property)
 
   face-same : (objects : ObjectLists) → face_at s objects q ≡ face_at s objects p
@@ -77,8 +74,8 @@ module _ (agree : ListingsAgree) (s : BufferValue) (p stop q : ℕ) (next : IsQu
       let same = covering-same in
       let property = next.same q later before (place_of Face) in
       let within = next.within in
-      let here = below q s.text.end (omega arith) in
-      let first = below p s.text.end (omega arith) in
+      let here = lt-ltb q s.text.end (omega arith) in
+      let first = lt-ltb p s.text.end (omega arith) in
       rw (here, first, same, property)
 
   appearance-same : (objects : ObjectLists) → appearance_in (seen_at s objects q) ≡ appearance_in (seen_at s objects p)

@@ -1,6 +1,6 @@
 -- The effective value is that of the greatest overlay: the last in a listing that has one.
 use Rattle.std.proofs.Common.{◌≡◌, inl, inr, ℕ, ℤ, zero, suc, ◌<◌, ◌≤◌, true, List, [], ◌∷◌, length, Option, None, Some, refl, sym, ap, subst, ◌∙◌, arith, true≢false}
-use Rattle.std.specs.Prelude.{int_lt, slice_index, slice_index_or}
+use Rattle.std.specs.Prelude.{int_lt, slice_index}
 use Rattle.std.specs.List.{Contains}
 use Rattle.std.specs.Option.{option_or}
 use Rattle.std.specs.Ordering.{is_lt, ordering_then, int_cmp, nat_cmp}
@@ -8,6 +8,7 @@ use Rattle.std.specs.declared.cmp.Ordering.{Ordering}
 use Rattle.std.specs.declared.cmp.Ordering.TheVariants.{Less, Equal, Greater}
 use Rattle.std.proofs.lemmas.Cmp.{ranked, int_ranked}
 use Rattle.std.proofs.lemmas.Int.{ints}
+use Rattle.std.proofs.lemmas.List.{get_or_default}
 use Rattle.rd_overlays.specs.declared.overlay.Overlay.{Overlay}
 use Rattle.rd_overlays.specs.declared.overlay.Kind.{Kind}
 use Rattle.rd_overlays.specs.Overlays.{overlay_at, covers}
@@ -32,13 +33,8 @@ not-earlier p q n m Equal e s l f = not-less n m (nat_cmp n m) refl l f
 not-earlier p q n m Greater e s l f = true≢false (sym f)
 
 -- elements by their places
-any-default : (ns : List ℕ) (k d e : ℕ) → k < length ns → slice_index_or ns k d ≡ slice_index_or ns k e
-any-default [] k d e p = absurd (omega arith)
-any-default (n ∷ ns) zero d e p = refl
-any-default (n ∷ ns) (suc k) d e p = any-default ns k d e (omega arith)
-
 contained : (ns : List ℕ) (k : ℕ) → k < length ns → Contains ns (slice_index ns k)
-contained ns k p = (k, p, any-default ns k (slice_index ns k) 0 p)
+contained ns k p = (k, p, get_or_default ns k (slice_index ns k) 0 p)
 
 module _ (slots : List (Option Overlay)) (kind : Kind) where
   abbrev value_at : List ℕ → ℕ → Option ℕ
@@ -100,7 +96,7 @@ module _ (slots : List (Option Overlay)) (kind : Kind) where
     pub greatest-value : (n v : ℕ) (o : Overlay) → Ascends slots ns → IsGreatest slots pos kind n o v → last_value slots kind ns ≡ Some v
     greatest-value n v o ascends most =
         let (k, inside, found) = (holds n).1 (subst (Passes (covers pos)) (sym most.gives.lives) most.gives.covers) in
-        let here : slice_index ns k ≡ n = any-default ns k 0 n inside ∙ found in
+        let here : slice_index ns k ≡ n = get_or_default ns k 0 n inside ∙ found in
         let lives : overlay_at slots (slice_index ns k) ≡ Some o = ap (overlay_at slots) here ∙ most.gives.lives in
         some-last ns k v inside (ap (value_of kind) lives ∙ most.gives.has) (λ j later p.
         let m = slice_index ns j in

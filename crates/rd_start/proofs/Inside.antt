@@ -1,6 +1,7 @@
 -- A start is a row.
 use Rattle.std.proofs.Common.{◌≡◌, ℕ, ◌<◌, inl, inr, Bool, true, false, cond, ltb, List, [], ◌∷◌, length, Option, None, Some, refl, sym, ap, subst, ◌∙◌, arith}
 use Rattle.std.proofs.lemmas.Bool.{and_parts, cases_Bool, ltb-true}
+use Rattle.std.proofs.lemmas.Option.{same_Some}
 use Rattle.std.specs.List.{find}
 use Rattle.std.specs.Option.{unwrap_or}
 use Rattle.rd_matrix.proofs.HeldLemmas.{end-any}
@@ -30,15 +31,12 @@ point-inside m shape w source is within =
     let some = any-fit rows start w.point m.blocks (whole-fit m sweep source is) ∙ in-range start (end_from start m.blocks) w.point within.0 high in
     first-inside (begins_item w.point) (all_rows rows m.blocks) some
 
-some-same : (x y : ℕ) → Some x ≡ Some y → x ≡ y
-some-same x y e = cc
-
 found-passes : (p : ℕ → Bool) (xs : List ℕ) (x : ℕ) → find p xs ≡ Some x → p x ≡ true
 found-passes p [] x e = absurd cc
 found-passes p (y ∷ xs) x e =
     elim (cases_Bool (p y)) [
       | inl here ↦
-          let same : y ≡ x = some-same y x (sym (ap (λ b. cond b (Some y) (find p xs)) here) ∙ e) in
+          let same : y ≡ x = same_Some y x (sym (ap (λ b. cond b (Some y) (find p xs)) here) ∙ e) in
           sym (ap p same) ∙ here
       | inr not_here ↦ found-passes p xs x (sym (ap (λ b. cond b (Some y) (find p xs)) not_here) ∙ e)
     ]

@@ -1,7 +1,7 @@
 -- The rows of a block, added to a strip one by one.
 use Rattle.std.proofs.Common.{◌≡◌, ℕ, zero, suc, ◌+◌, ◌<◌, ◌≤◌, List, [], ◌∷◌, ◌++◌, length, map, take, drop, get_or, Some, refl, sym, ap, ◌∙◌, arith}
 use Rattle.std.proofs.lemmas.List.{append_assoc, drop_all, drop_more, length-map, map-append, take_all, take_more}
-use Rattle.std.proofs.lemmas.Option.{slice_get-map, slice_get_read}
+use Rattle.std.proofs.lemmas.Option.{slice_get-map, slice_get_read, slice_get_within}
 use Rattle.std.specs.Option.{option_map}
 use Rattle.rd_rows.specs.Copies.{RowValues, shown_rows}
 use Rattle.std.specs.List.{slice_get}
@@ -25,11 +25,6 @@ numbered-at start number (suc k) (x ∷ rows) r d e =
 abbrev entry : ℕ → ℕ → RowMeaning → EntryMeaning
 entry start k r = record { start = start; number = k; row = r }
 
-within : (rows : List RowMeaning) (k : ℕ) (r : RowMeaning) → slice_get rows k ≡ Some r → k < length rows
-within [] k r e = absurd cc
-within (x ∷ rows) zero r e = omega arith
-within (x ∷ rows) (suc k) r e = let rest = within rows k r e in omega arith
-
 entry-at : (start k : ℕ) (rows : List RowMeaning) (r : RowMeaning) → slice_get rows k ≡ Some r → get_or (numbered start 0 rows) k (entry start k r) ≡ entry start k r
 entry-at start k rows r e =
     let same : 0 + k ≡ k = omega arith in
@@ -38,13 +33,13 @@ entry-at start k rows r e =
 take-entries : (start k : ℕ) (rows : List RowMeaning) (r : RowMeaning) → slice_get rows k ≡ Some r → take (k + 1) (numbered start 0 rows) ≡ take k (numbered start 0 rows) ++ entry start k r ∷ []
 take-entries start k rows r e =
     let size = length-numbered start 0 rows in
-    let low = within rows k r e in
+    let low = slice_get_within rows k r e in
     take_more (numbered start 0 rows) k (entry start k r) (omega arith) ∙ ap (λ x. take k (numbered start 0 rows) ++ x ∷ []) (entry-at start k rows r e)
 
 drop-entries : (start k : ℕ) (rows : List RowMeaning) (r : RowMeaning) → slice_get rows k ≡ Some r → drop k (numbered start 0 rows) ≡ entry start k r ∷ drop (k + 1) (numbered start 0 rows)
 drop-entries start k rows r e =
     let size = length-numbered start 0 rows in
-    let low = within rows k r e in
+    let low = slice_get_within rows k r e in
     drop_more (numbered start 0 rows) k (entry start k r) (omega arith) ∙ ap (λ x. x ∷ drop (k + 1) (numbered start 0 rows)) (entry-at start k rows r e)
 
 pub lines-below : (point start k : ℕ) (rows : List RowMeaning) (r : RowMeaning) (old lines new : List Line) (line : Line) → slice_get rows k ≡ Some r

@@ -3,6 +3,7 @@ use Rattle.std.proofs.Common.{◌≡◌, ℕ, ◌+◌, ◌<◌, ◌≤◌, Bool,
 use Rattle.std.specs.Prelude.{count_by}
 use Rattle.std.proofs.lemmas.Bool.Decides.{nat_tests}
 use Rattle.rd_base.proofs.Lists.{count-append}
+use Rattle.std.proofs.lemmas.Bool.{cond-false}
 use Rattle.rd_visual.specs.Motion.{before, behind, holds, first, last, least}
 use Rattle.rd_visual.specs.declared.range.Range.{Range}
 use Rattle.rd_visual.proofs.Items.{count-cons}
@@ -119,13 +120,9 @@ on-again pos q (r ∷ next ∷ rs) some once h =
 
 -- seams: the ranges of earlier blocks, of one block, and of later ones
 
-skip-by : (b : Bool) (next : Range) (found : Option ℕ) → b ≡ false → (if b then Some next.from else found) ≡ found
-skip-by true next found h = absurd (let q : true ≡ false = h in cc)
-skip-by false next found h = refl
-
 pub behind-skip : (pos : ℕ) (r : Range) (rs : List Range) → holds pos r ≡ false → behind pos (r ∷ rs) ≡ behind pos rs
 behind-skip pos r [] h = refl
-behind-skip pos r (next ∷ rs) h = skip-by (holds pos r) next (behind pos (next ∷ rs)) h
+behind-skip pos r (next ∷ rs) h = cond-false (holds pos r) (Some next.from) (behind pos (next ∷ rs)) h
 
 pub behind-front : (pos : ℕ) (front rs : List Range) → count_by (holds pos) front ≡ 0 → behind pos (front ++ rs) ≡ behind pos rs
 behind-front pos [] rs none = refl
@@ -173,7 +170,7 @@ covers_first pos (r ∷ rs) = holds pos r
 
 pub before-skip : (pos : ℕ) (r : Range) (rs : List Range) → covers_first pos rs ≡ false → before pos (r ∷ rs) ≡ before pos rs
 before-skip pos r [] h = refl
-before-skip pos r (next ∷ rs) h = skip-by (holds pos next) r (before pos (next ∷ rs)) h
+before-skip pos r (next ∷ rs) h = cond-false (holds pos next) (Some r.from) (before pos (next ∷ rs)) h
 
 first-front : (pos : ℕ) (front rs : List Range) → count_by (holds pos) front ≡ 0 → covers_first pos rs ≡ false → covers_first pos (front ++ rs) ≡ false
 first-front pos [] rs none h = h
@@ -203,7 +200,7 @@ before-none-behind : (pos : ℕ) (r : Range) (rs : List Range) → count_by (hol
 before-none-behind pos r [] none = refl
 before-none-behind pos r (next ∷ rs) none =
     let both = none-here pos next rs none in
-    skip-by (holds pos next) r (before pos (next ∷ rs)) both.0 ∙ before-none-behind pos next rs both.1
+    cond-false (holds pos next) (Some r.from) (before pos (next ∷ rs)) both.0 ∙ before-none-behind pos next rs both.1
 
 -- where none is before the one that covers a position it is the first
 first-by : (b : Bool) (r : Range) (c : Bool) (n : ℕ) (found : Option ℕ) → (if b then Some r.from else found) ≡ None → 1 ≤ cond c 1 0 + (cond b 1 0 + n)
@@ -227,7 +224,7 @@ last-before pos (f ∷ []) r rs none here behind = ap (λ (t : Bool). if t then 
 last-before pos (f ∷ g ∷ front) r rs none here behind =
     let both = none-here pos f (g ∷ front) none in
     let out = (none-here pos g front both.1).0 in
-    skip-by (holds pos g) f (before pos (g ∷ front ++ (r ∷ rs))) out ∙ last-before pos (g ∷ front) r rs both.1 here behind
+    cond-false (holds pos g) (Some f.from) (before pos (g ∷ front ++ (r ∷ rs))) out ∙ last-before pos (g ∷ front) r rs both.1 here behind
 
 only-by : (b : Bool) (n : ℕ) → b ≡ true → cond b 1 0 + n ≡ 1 → n ≡ 0
 only-by true n h one = omega (arith, one)

@@ -4,6 +4,7 @@ use Rattle.std.proofs.Math.Bool.{or-true}
 use Rattle.std.proofs.lemmas.Bool.{cases_Bool, cases_lt}
 use Rattle.std.proofs.lemmas.List.Folds.{list_any-append}
 use Rattle.std.proofs.lemmas.Option.{slice_get_within}
+use Rattle.std.proofs.lemmas.Map.Keys.{any_passes_from_place}
 use Rattle.std.specs.List.{count_by, list_any, position_or_len}
 use Rattle.rd_base.proofs.Lists.{count-append}
 use Rattle.rd_matrix.proofs.HeldLemmas.{end-any}
@@ -40,17 +41,12 @@ some-counted p (x ∷ xs) some =
           omega (arith, rest, count)
     ]
 
-passes-any : {X : Type 0} (p : X → Bool) (xs : List X) (k : ℕ) (x : X) → slice_get xs k ≡ Some x → p x ≡ true → list_any p xs ≡ true
-passes-any p [] k x at here = absurd cc
-passes-any p (y ∷ xs) zero x at here = let same : y ≡ x = cc in ap (λ b. b || list_any p xs) (ap p same ∙ here)
-passes-any p (y ∷ xs) (suc k) x at here = ap (λ b. p y || b) (passes-any p xs k x at here) ∙ or-true (p y)
-
 -- where at most one element passes, its place is that of the first
 one-position : {X : Type 0} (p : X → Bool) (xs : List X) (k : ℕ) (x : X) → count_by p xs ≤ 1 → slice_get xs k ≡ Some x → p x ≡ true → position_or_len p xs ≡ k
 one-position p [] k x one at here = absurd cc
 one-position p (y ∷ xs) zero x one at here = let same : y ≡ x = cc in let first : p y ≡ true = ap p same ∙ here in rw first refl
 one-position p (y ∷ xs) (suc k) x one at here =
-    let some = some-counted p xs (passes-any p xs k x at here) in
+    let some = some-counted p xs (any_passes_from_place p xs k x at here) in
     elim (cases_Bool (p y)) [
       | inl first ↦ let count = count-first p y xs true first in absurd (omega (arith, count, some, one))
       | inr other ↦
@@ -255,4 +251,4 @@ module _ {m : SourceValues} {shape : ShapeValues} (w : Wanted) (source : IsSourc
       let k : ℕ = row - i in
       let there : i + k ≡ row = omega (arith, low) in
       let shown = in-view rows i height k (omega (arith, low, high)) ∙ ap (slice_get rows) there ∙ found.1 in
-      sym (cursor-none w.point (take height (drop i rows)) at) ∙ passes-any (begins_item w.point) (take height (drop i rows)) k found.0 shown found.2
+      sym (cursor-none w.point (take height (drop i rows)) at) ∙ any_passes_from_place (begins_item w.point) (take height (drop i rows)) k found.0 shown found.2
