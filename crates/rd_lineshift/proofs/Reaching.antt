@@ -4,7 +4,7 @@ use Rattle.std.specs.Prelude.{ℤ, pos, negsuc, unsigned_abs, IsSome}
 use Rattle.std.specs.List.{AllByRecursion, flat_map}
 use Rattle.std.proofs.lemmas.Bool.Decides.{nat_tests}
 use Rattle.std.proofs.lemmas.List.{length-map, length-take-le, length-drop, length-replicate}
-use Rattle.std.proofs.lemmas.List.Elements.{recursion_from_All, All-from_recursion, All-take, All-drop}
+use Rattle.std.proofs.lemmas.List.Elements.{recursion_from_All, All-from_recursion, All-take, All-drop, All-nil}
 use Rattle.std.specs.Char.{is_ascii_digit}
 use Rattle.rd_base.proofs.Lists.{each-append}
 use Rattle.rd_base.specs.Faces.{Attributes, plain}
@@ -47,9 +47,6 @@ Cuts = (t : Tty) (xs ys : List ℕ) → feed_bytes t (xs ++ ys) ≡ feed_bytes (
 one-small : (n : ℕ) → n ≤ 65535 → All (λ k. k ≤ 65535) (n ∷ [])
 one-small n h = All-from_recursion (λ k. k ≤ 65535) (n ∷ []) (h, tt)
 
-none-small : All (λ k. k ≤ 65535) []
-none-small = All-from_recursion (λ (k : ℕ). k ≤ 65535) [] tt
-
 region-fed : Reads → (r : Place) (rows : Rows) (cursor : Place) (wait : Bool) (pen : Option Attributes) (latest : Place) (top bottom : ℕ)
     → top + 1 < bottom → bottom ≤ length rows → bottom ≤ 65535
     → feed_bytes (standing r rows cursor wait pen latest) (region (top + 1) bottom) ≡ standing (Some (top, bottom - 1)) rows None false pen None
@@ -79,12 +76,12 @@ moving-fed : Reads → (rows : Rows) (latest : Place) (top bottom : ℕ) (by : �
 moving-fed reads rows latest top bottom (pos n) some small order =
     let first : nat_lt 0 n ≡ true = grind (arith, nat_tests) in
     let inside : (nat_le top top && nat_le top bottom) ≡ true = grind (arith, nat_tests) in
-    reads (standing (Some (top, bottom)) rows (Some (top, 0)) false (Some plain) latest) 77 n [] refl refl refl refl small none-small (omega arith)
+    reads (standing (Some (top, bottom)) rows (Some (top, 0)) false (Some plain) latest) 77 n [] refl refl refl refl small (All-nil (λ (k : ℕ). k ≤ 65535)) (omega arith)
     ∙ rw (first, inside) refl
 moving-fed reads rows latest top bottom (negsuc n) some small order =
     let first : nat_lt 0 (suc n) ≡ true = grind (arith, nat_tests) in
     let inside : (nat_le top top && nat_le top bottom) ≡ true = grind (arith, nat_tests) in
-    reads (standing (Some (top, bottom)) rows (Some (top, 0)) false (Some plain) latest) 76 (suc n) [] refl refl refl refl small none-small (omega arith)
+    reads (standing (Some (top, bottom)) rows (Some (top, 0)) false (Some plain) latest) 76 (suc n) [] refl refl refl refl small (All-nil (λ (k : ℕ). k ≤ 65535)) (omega arith)
     ∙ rw (first, inside) refl
 
 length-moved : (by : ℤ) (rows : Rows) → length (terminal_moved by rows) ≡ length rows

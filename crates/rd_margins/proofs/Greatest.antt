@@ -1,5 +1,5 @@
 -- The last overlay of a listing that has a margin string.
-use Rattle.std.proofs.Common.{◌≡◌, ℕ, zero, suc, ◌<◌, true, List, [], ◌∷◌, length, get_or, Option, None, Some, inl, inr, refl, sym, ap, subst, ◌∙◌, arith, true≢false}
+use Rattle.std.proofs.Common.{◌≡◌, ℕ, zero, suc, ◌<◌, true, List, [], ◌∷◌, length, get_or, Option, None, Some, inl, inr, refl, sym, ap, subst, ◌∙◌, arith}
 use Rattle.std.specs.Prelude.{◌⊎◌}
 use Rattle.std.specs.FinMap.{get}
 use Rattle.std.specs.Ordering.{nat_cmp}
@@ -7,17 +7,15 @@ use Rattle.std.specs.declared.cmp.Ordering.{Ordering}
 use Rattle.std.specs.declared.cmp.Ordering.TheVariants.{Less, Equal, Greater}
 use Rattle.std.proofs.lemmas.Cmp.{ranked}
 use Rattle.std.specs.List.{Contains}
-use Rattle.std.specs.Option.{is_some, option_or}
+use Rattle.std.specs.Option.{option_or}
 use Rattle.std.proofs.lemmas.List.{get_or_default}
 use Rattle.std.proofs.lemmas.List.Elements.{Contains-get_or}
+use Rattle.std.proofs.lemmas.Option.{none-some}
 use Rattle.rd_overlays.specs.declared.overlay.Overlay.{Overlay}
 use Rattle.rd_overlays.specs.Listings.{Ascends, HoldsExactly, Passes, rank_of}
 use Rattle.rd_overlays.specs.Overlays.{covers, overlay_at, precedes}
 use Rattle.rd_margins.specs.Laws.{IsGreatest, ShowsMark}
 use Rattle.rd_margins.specs.Marks.{MarkValues, last_mark}
-
-none-some : (x : ℕ) → None ≡ Some x → ⊥
-none-some x e = true≢false (sym (ap (λ (o : Option ℕ). is_some o) e))
 
 none-or : (a b : Option ℕ) → option_or a b ≡ None → (a ≡ None) × (b ≡ None)
 none-or None b e = (refl, e)

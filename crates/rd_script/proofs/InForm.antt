@@ -1,7 +1,8 @@
 -- An op that a line says is in form.
-use Rattle.std.proofs.Common.{◌≡◌, ℕ, suc, ◌≤◌, ◌<◌, ◌-◌, ◌&&◌, Bool, true, false, ℤ, pos, List, [], ◌∷◌, length, Option, None, Some, Result, Ok, Err, IsTrue, refl, sym, ap, subst, ◌∙◌, arith, unwrap_or, option_and_then, option_map, if◌then◌else◌, nat_le, chars, is_some, true≢false, codes}
+use Rattle.std.proofs.Common.{◌≡◌, ℕ, suc, ◌≤◌, ◌<◌, ◌-◌, ◌&&◌, Bool, true, false, ℤ, pos, List, [], ◌∷◌, length, Option, None, Some, Result, Ok, Err, IsTrue, refl, sym, ap, subst, ◌∙◌, arith, unwrap_or, option_and_then, option_map, nat_le, chars, true≢false, codes}
 use Rattle.std.proofs.lemmas.Bool.Decides.{nat_tests}
 use Rattle.std.proofs.lemmas.List.Elements.{All-nil, All-cons}
+use Rattle.std.proofs.lemmas.Option.{none-some, cond_some}
 use Rattle.std.specs.Prelude.{All}
 use Rattle.serde_json.specs.Data.{Data, Items, no_items, item, Members}
 use Rattle.serde_json.specs.Find.{get_member, as_number, as_u64, as_i64, as_bool, as_str, as_array}
@@ -63,18 +64,11 @@ ok-same x y e = ap (value_of x) e
 err≢ok : {T : Type 0} (fault : OpFault) (x : T) → Err fault ≡ Ok x → ⊥
 err≢ok fault x e = true≢false (sym (ap is_good e))
 
-none≢some : {T : Type 0} (x : T) → None ≡ Some x → ⊥
-none≢some x e = true≢false (sym (ap is_some e))
-
 -- ---- kinds of values
 
-if_some : {T : Type 0} (b : Bool) (y x : T) → (if b then Some y else None) ≡ Some x → (b ≡ true) × (y ≡ x)
-if_some true y x e = (refl, ap (λ o. unwrap_or o y) e)
-if_some false y x e = absurd (none≢some x e)
-
 kept_if-found : {T : Type 0} (test : T → Bool) (o : Option T) (x : T) → option_and_then (kept_if test) o ≡ Some x → test x ≡ true
-kept_if-found test None x e = absurd (none≢some x e)
-kept_if-found test (Some y) x e = let h = if_some (test y) y x e in subst (λ z. test z ≡ true) h.1 h.0
+kept_if-found test None x e = absurd (none-some x e)
+kept_if-found test (Some y) x e = let h = cond_some (test y) y x e in subst (λ z. test z ≡ true) h.1 h.0
 
 within-finds : (least greatest : ℕ) → Finds (within least greatest) (λ n. (least ≤ n) × (n ≤ greatest))
 within-finds least greatest = record {
@@ -130,7 +124,7 @@ made-gives f fields P h so = made-as f fields P IsInForm h so
 
 some_found : {T : Type 0} (kind : Data → Option T) (P : T → Type 0) (Q : Option T → Type 0) → Finds kind P → ((y : T) → P y → Q (Some y))
     → (d : Data) (o : Option T) (x : Option T) → kind d ≡ o → option_map Some o ≡ Some x → Q x
-some_found kind P Q finds some d None x is e = absurd (none≢some x e)
+some_found kind P Q finds some d None x is e = absurd (none-some x e)
 some_found kind P Q finds some d (Some y) x is e = subst Q (ap (λ o. unwrap_or o None) e) (some y (finds.found d y is))
 
 optional-ok : {T : Type 0} (key : List ℕ) (kind : Data → Option T) (P : T → Type 0) (Q : Option T → Type 0) → Finds kind P → Q None → ((y : T) → P y → Q (Some y))
@@ -179,20 +173,20 @@ mapped-finds f kind P Q finds so = record {
 }
 
 pair-some : {A B : Type 0} (a : Option A) (b : Option B) (x : A × B) → pair_of a b ≡ Some x → (a ≡ Some x.0) × (b ≡ Some x.1)
-pair-some None b x e = absurd (none≢some x e)
-pair-some (Some a) None x e = absurd (none≢some x e)
+pair-some None b x e = absurd (none-some x e)
+pair-some (Some a) None x e = absurd (none-some x e)
 pair-some (Some a) (Some b) x e = let same : (a, b) ≡ x = cc in (ap (λ z. Some z.0) same, ap (λ z. Some z.1) same)
 
 bound : {A B : Type 0} (f : A → Option B) (o : Option A) (x : B) → option_and_then f o ≡ Some x → (y : A) × (o ≡ Some y) × (f y ≡ Some x)
-bound f None x e = absurd (none≢some x e)
+bound f None x e = absurd (none-some x e)
 bound f (Some y) x e = (y, refl, e)
 
 two-some : {A B : Type 0} (a : Data → Option A) (b : Data → Option B) (P : A → Type 0) (Q : B → Type 0) → Finds a P → Finds b Q
     → (ds : Items) (x : A × B) → two_items_of a b ds ≡ Some x → P x.0 × Q x.1
-two-some a b P Q fa fb no_items x e = absurd (none≢some x e)
-two-some a b P Q fa fb (item d no_items) x e = absurd (none≢some x e)
+two-some a b P Q fa fb no_items x e = absurd (none-some x e)
+two-some a b P Q fa fb (item d no_items) x e = absurd (none-some x e)
 two-some a b P Q fa fb (item d (item f no_items)) x e = let parts = pair-some (a d) (b f) x e in (fa.found d x.0 parts.0, fb.found f x.1 parts.1)
-two-some a b P Q fa fb (item d (item f (item g ds))) x e = absurd (none≢some x e)
+two-some a b P Q fa fb (item d (item f (item g ds))) x e = absurd (none-some x e)
 
 two-finds : {A B : Type 0} (a : Data → Option A) (b : Data → Option B) (P : A → Type 0) (Q : B → Type 0) → Finds a P → Finds b Q
     → Finds (two_items a b) (λ x. P x.0 × Q x.1)
@@ -201,16 +195,16 @@ two-finds a b P Q fa fb = record {
 }
 
 run-some : (ds : Items) (x : ℕ × (ℕ × (RunKind × ℕ))) → four_items_of whole whole (word run_kinds) whole ds ≡ Some x → IsWhole x.0 × IsWhole x.1.0 × IsWhole x.1.1.1
-run-some no_items x e = absurd (none≢some x e)
-run-some (item a no_items) x e = absurd (none≢some x e)
-run-some (item a (item b no_items)) x e = absurd (none≢some x e)
-run-some (item a (item b (item c no_items))) x e = absurd (none≢some x e)
+run-some no_items x e = absurd (none-some x e)
+run-some (item a no_items) x e = absurd (none-some x e)
+run-some (item a (item b no_items)) x e = absurd (none-some x e)
+run-some (item a (item b (item c no_items))) x e = absurd (none-some x e)
 run-some (item a (item b (item c (item d no_items)))) x e =
     let first = pair-some (whole a) (pair_of (whole b) (pair_of (word run_kinds c) (whole d))) x e in
     let second = pair-some (whole b) (pair_of (word run_kinds c) (whole d)) x.1 first.1 in
     let third = pair-some (word run_kinds c) (whole d) x.1.1 second.1 in
     (whole-finds.found a x.0 first.0, whole-finds.found b x.1.0 second.0, whole-finds.found d x.1.1.1 third.1)
-run-some (item a (item b (item c (item d (item f ds))))) x e = absurd (none≢some x e)
+run-some (item a (item b (item c (item d (item f ds))))) x e = absurd (none-some x e)
 
 run-finds : Finds run IsRunInForm
 run-finds = mapped-finds run_of (four_items whole whole (word run_kinds) whole) (λ x. IsWhole x.0 × IsWhole x.1.0 × IsWhole x.1.1.1) IsRunInForm
@@ -219,8 +213,8 @@ run-finds = mapped-finds run_of (four_items whole whole (word run_kinds) whole) 
 
 consed-some : {T : Type 0} (P : T → Type 0) (o : Option T) (os : Option (List T)) (n : ℕ) (xs : List T) → ((x : T) → o ≡ Some x → P x)
     → ((ys : List T) → os ≡ Some ys → (length ys ≡ n) × All P ys) → consed o os ≡ Some xs → (length xs ≡ suc n) × All P xs
-consed-some P None os n xs first rest e = absurd (none≢some xs e)
-consed-some P (Some x) None n xs first rest e = absurd (none≢some xs e)
+consed-some P None os n xs first rest e = absurd (none-some xs e)
+consed-some P (Some x) None n xs first rest e = absurd (none-some xs e)
 consed-some P (Some x) (Some ys) n xs first rest e =
     let same : (x ∷ ys) ≡ xs = cc in
     let behind = rest ys refl in
@@ -265,7 +259,7 @@ number-gives key = optional-gives key whole IsWhole IsNumber whole-finds tt (λ 
 invisible-some : (b : Option Bool) (o : Option (List (ℕ × Bool))) (x : Invisible) → ((pairs : List (ℕ × Bool)) → o ≡ Some pairs → IsInvisible (Listed pairs))
     → invisible_by b o ≡ Some x → IsInvisible x
 invisible-some (Some true) o x so e = let same : Every ≡ x = cc in subst IsInvisible same tt
-invisible-some (Some false) o x so e = absurd (none≢some x e)
+invisible-some (Some false) o x so e = absurd (none-some x e)
 invisible-some None o x so e = let y = map-some Listed o x e in subst IsInvisible y.2 (so y.0 y.1)
 
 pairs-finds : Finds (list_of INVISIBLE_ATOMS (two_items (within 0 ATOMS) as_bool)) (λ pairs. IsInvisible (Listed pairs))
@@ -336,7 +330,7 @@ AtMost most o = (n : ℕ) → o ≡ Some n → n ≤ most
 
 value-at_most : (most : ℕ) → Gives (optional (codes "value") (within 0 most)) (AtMost most)
 value-at_most most = optional-gives (codes "value") (within 0 most) (λ n. n ≤ most) (AtMost most)
-    (record { found = λ d n e. ((within-finds 0 most).found d n e).1 }) (λ n e. absurd (none≢some n e)) (λ y h n e. subst (λ z. z ≤ most) (ap (λ o. unwrap_or o y) e) h)
+    (record { found = λ d n e. ((within-finds 0 most).found d n e).1 }) (λ n e. absurd (none-some n e)) (λ y h n e. subst (λ z. z ≤ most) (ap (λ o. unwrap_or o y) e) h)
 
 -- a kind and its value
 property-gives : (of : Data → Option Kind) (P : Kind → Type 0) → Finds of P → Gives (property of) (λ x. P x.0 × IsPropertyValue x.0 x.1)

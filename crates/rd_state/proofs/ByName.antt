@@ -2,6 +2,7 @@
 use Rattle.std.proofs.Common.{◌≡◌, ◌≢◌, ℕ, zero, suc, ◌+◌, ◌≤◌, Bool, true, false, cond, not, if◌then◌else◌, None, Some, Result, Ok, Err, List, [], ◌∷◌, ◌++◌, length, sym, ap, refl, ◌∙◌, arith}
 use Rattle.std.proofs.lemmas.Bool.{ltb-false}
 use Rattle.std.proofs.lemmas.List.Sums.{prefix_len-le-length}
+use Rattle.std.proofs.lemmas.Map.Entries.{length-keys_of}
 use Rattle.std.specs.Prelude.{option_map, slice_get, slice_set, nat_lt, position, String, string_bytes, is_ok, OnErr}
 use Rattle.std.specs.String.{string_eq}
 use Rattle.std.specs.declared.alloc.Global.{Global}
@@ -24,10 +25,6 @@ has_name name key = bytes_eq name (string_bytes key)
 pub length-buffers_of : (es : List (String Global × ContentValue)) → length (buffers_of es) ≡ length es
 length-buffers_of [] = refl
 length-buffers_of (e ∷ es) = ap suc (length-buffers_of es)
-
-length-keys_of : (es : List (String Global × ContentValue)) → length (keys_of es) ≡ length es
-length-keys_of [] = refl
-length-keys_of (e ∷ es) = ap suc (length-keys_of es)
 
 number_of-keys : (name : List ℕ) (es : List (String Global × ContentValue)) → position_or_len (has_name name) (keys_of es) ≡ number_of name (buffers_of es)
 number_of-keys name [] = refl

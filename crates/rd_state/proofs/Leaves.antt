@@ -1,6 +1,7 @@
 -- What a window tree says of its windows, and how it changes.
 use Rattle.std.proofs.Common.{◌≡◌, ◌≢◌, ℕ, ◌<◌, ◌≤◌, ◌==◌, ◌||◌, Bool, true, false, is_some, if◌then◌else◌, Option, None, Some, sym, ap, refl, ◌∙◌, arith}
 use Rattle.std.proofs.lemmas.Bool.{eqb-true, false_from_ne_true, cond-false, cond-true, eq-eqb, ne_eqb}
+use Rattle.std.proofs.lemmas.Iterator.Adapters.{option_map_id}
 use Rattle.std.specs.Prelude.{option_map}
 use Rattle.std.specs.Option.{option_or}
 use Rattle.rd_tree.proofs.Keeping.{is_some-if, is_some-or, not_single}
@@ -17,10 +18,6 @@ abbrev pub Leaf : Type 0
 Leaf = Bool × ℕ
 
 -- ---- options
-
-map-same : {X : Type 0} (o : Option X) → option_map (λ x. x) o ≡ o
-map-same None = refl
-map-same (Some x) = refl
 
 or-some : {X : Type 0} (o p : Option X) → is_some o ≡ true → option_or o p ≡ o
 or-some None p h = absurd (cc)
@@ -139,7 +136,7 @@ pub split-same : (n : ℕ) (side : Side) (size new : ℕ) (ws : Windows) → lea
 split-same n side size new ws =
     leaf-same n (halves n side size new) (λ x. x) ws
     (λ mode margins. ap (λ (o : Option Leaf). option_or o (leaf_at n (Window new mode margins))) (leaf-here n n mode margins refl))
-    ∙ map-same (leaf_at n ws)
+    ∙ option_map_id (leaf_at n ws)
 
 new-half : (n : ℕ) (side : Side) (size new : ℕ) (mode : Bool) (margins : ℕ) → n ≢ new → leaf_at new (halves n side size new mode margins) ≡ Some (mode, margins)
 new-half n side size new mode margins ne =

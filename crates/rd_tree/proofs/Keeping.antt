@@ -6,6 +6,7 @@ use Rattle.std.proofs.Math.Bool.{and-true}
 use Rattle.std.proofs.lemmas.Bool.Decides.{nat_tests}
 use Rattle.std.specs.Option.{option_or}
 use Rattle.rd_base.proofs.Choices.{second-holds}
+use Rattle.std.proofs.lemmas.Option.{cond_some}
 use Rattle.rd_tree.specs.declared.rect.Rect.{Rect}
 use Rattle.rd_tree.specs.declared.side.Side.{Side}
 use Rattle.rd_tree.specs.declared.placed.Placed.{Placed}
@@ -47,10 +48,6 @@ pub found_in : (a b : Option Placed) (window : Placed) → option_or a b ≡ Som
 found_in None b window e = inr (refl, e)
 found_in (Some first) b window e = inl e
 
-at_leaf : (b : Bool) (leaf window : Placed) → (if b then Some leaf else None) ≡ Some window → (b ≡ true) × (leaf ≡ window)
-at_leaf true leaf window e = (refl, cc)
-at_leaf false leaf window e = absurd (cc)
-
 -- the part in which a window is found
 found_where : (w : ℕ) (side : Side) (size : ℕ) (first second : Windows) (rect : Rect) (window : Placed) → window_at w (Split side size first second) rect ≡ Some window
     → ((holds w first ≡ true) × (window_at w first (first_part side size rect) ≡ Some window)) ⊎ ((holds w first ≡ false) × (window_at w second (second_part side size rect) ≡ Some window))
@@ -65,7 +62,7 @@ found_where w side size first second rect window e =
 -- where something else stands for a window, there is room exactly where it has room in the window's rectangle
 pub replaced_fits : (w : ℕ) (other : Bool → ℕ → Windows) (windows : Windows) (rect : Rect) (window : Placed) → HasRoom windows rect → window_at w windows rect ≡ Some window → fits (replaced w other windows) rect ≡ fits (other window.mode window.margins) window.rect
 replaced_fits w other (Window n mode margins) rect window h e =
-    let leaf = at_leaf (n == w) (record { number = n; mode = mode; margins = margins; rect = rect }) window e in
+    let leaf = cond_some (n == w) (record { number = n; mode = mode; margins = margins; rect = rect }) window e in
     rw leaf.0 (ap (λ (p : Placed). fits (other p.mode p.margins) p.rect) leaf.1)
 replaced_fits w other (Split side size first second) rect window h e =
     elim (found_where w side size first second rect window e) [
@@ -76,7 +73,7 @@ replaced_fits w other (Split side size first second) rect window h e =
 -- what stands for a window is that by its own mode line and margins
 pub replaced_found : (w : ℕ) (other : Bool → ℕ → Windows) (windows : Windows) (rect : Rect) (window : Placed) → window_at w windows rect ≡ Some window → replaced w (λ _ _. other window.mode window.margins) windows ≡ replaced w other windows
 replaced_found w other (Window n mode margins) rect window e =
-    let leaf = at_leaf (n == w) (record { number = n; mode = mode; margins = margins; rect = rect }) window e in
+    let leaf = cond_some (n == w) (record { number = n; mode = mode; margins = margins; rect = rect }) window e in
     rw leaf.0 (ap (λ (p : Placed). other p.mode p.margins) (sym leaf.1))
 replaced_found w other (Split side size first second) rect window e =
     elim (found_where w side size first second rect window e) [

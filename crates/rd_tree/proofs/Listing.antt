@@ -2,7 +2,7 @@
 use Rattle.std.proofs.Common.{◌≡◌, ℕ, zero, suc, ◌≤◌, Bool, true, ◌==◌, List, [], ◌∷◌, ◌++◌, Option, None, Some, ◌⊎◌, inl, inr, refl, sym, ap, ◌∙◌, arith}
 use Rattle.std.specs.Prelude.{slice_get}
 use Rattle.std.specs.Option.{option_map, option_or}
-use Rattle.std.proofs.lemmas.Option.{slice_get-map}
+use Rattle.std.proofs.lemmas.Option.{slice_get-map, same_Some}
 use Rattle.std.proofs.lemmas.Bool.{eq-eqb, or_left, or_right}
 use Rattle.rd_tree.specs.declared.rect.Rect.{Rect}
 use Rattle.rd_tree.specs.declared.placed.Placed.{Placed}
@@ -16,12 +16,9 @@ in_one (x ∷ xs) ys zero window e = inl (0, e)
 in_one (x ∷ xs) ys (suc i) window e =
     elim (in_one xs ys i window e) [ inl p ↦ inl (suc p.0, p.1) | inr p ↦ inr p ]
 
-one_place : (leaf window : Placed) → Some leaf ≡ Some window → leaf ≡ window
-one_place leaf window e = cc
-
 number_of_leaf : (number : ℕ) (mode : Bool) (margins : ℕ) (rect : Rect) (window : Placed) → Some (record { number = number; mode = mode; margins = margins; rect = rect }) ≡ Some window → (number == window.number) ≡ true
 number_of_leaf number mode margins rect window e =
-    eq-eqb number window.number (ap (λ (p : Placed). p.number) (one_place (record { number = number; mode = mode; margins = margins; rect = rect }) window e))
+    eq-eqb number window.number (ap (λ (p : Placed). p.number) (same_Some (record { number = number; mode = mode; margins = margins; rect = rect }) window e))
 
 listed_held : (windows : Windows) (rect : Rect) (i : ℕ) (window : Placed) → slice_get (placed windows rect) i ≡ Some window → holds window.number windows ≡ true
 listed_held (Window number mode margins) rect zero window e = number_of_leaf number mode margins rect window e

@@ -3,7 +3,7 @@ use Rattle.std.proofs.Common.{◌≡◌, if◌then◌else◌, ◌⊎◌, inl, in
 use Rattle.std.specs.List.{AllByRecursion}
 use Rattle.std.proofs.lemmas.Bool.{cases_lt}
 use Rattle.std.proofs.lemmas.Bool.Decides.{nat_tests}
-use Rattle.std.proofs.lemmas.List.{get_or_at, set_at, take-take, take_at, length-append, length-map, length-take-le, length-drop, map-append, drop-drop, length-replicate}
+use Rattle.std.proofs.lemmas.List.{get_or_at, set_at, take-take, take_at, length-append, length-map, length-take-le, length-drop, map-append, drop-drop, length-replicate, nil_from_length}
 use Rattle.rd_base.proofs.Lists.{each-take, each-drop}
 use Rattle.rd_base.proofs.Colours.{plain-coloured}
 use Rattle.rd_base.specs.Cells.{IsColoured}
@@ -101,10 +101,6 @@ erase_fed region above below row column latest first le =
     ∙ ap (λ (r : Row). State (set (above ++ row ∷ below) (length above) r)) over
     ∙ ap State rows
 
-empty : {A : Type 0} (xs : List A) → length xs ≡ 0 → xs ≡ []
-empty [] e = refl
-empty (x ∷ xs) e = absurd (cc)
-
 -- behind the text: the pen becomes plain, and the rest is erased or is as it has to be
 row-end : (region : Option (ℕ × ℕ)) → (above below : Rows) (front back : Row) (many : ℕ) (cells rest : List Cell) (erases : Bool) (t : Tty)
     → TextFed region above below front many back cells (pen_behind plain cells) t
@@ -149,7 +145,7 @@ row-end region above below front back many cells rest false t fed gone kept =
     let all = kept refl in
     let row = front ++ (map Some cells ++ (fed.left ++ back)) in
     let dressed = dress_fed region (above ++ row ∷ below) fed.cursor fed.wait pen plain fed.latest plain-coloured in
-    let none : fed.left ≡ [] = empty fed.left (omega (arith, fed.long, all.0)) in
+    let none : fed.left ≡ [] = nil_from_length fed.left (omega (arith, fed.long, all.0)) in
     record {
       cursor = fed.cursor;
       wait = fed.wait;
