@@ -2,13 +2,11 @@
 use Rattle.std.proofs.Common.{◌≡◌, ℕ, ◌+◌, ◌<◌, ◌≤◌, ◌⊎◌, inl, inr, Bool, true, false, if◌then◌else◌, Option, None, Some, is_some, List, [], ◌∷◌, length, map, get_or, drop, refl, sym, ap, ap₂, ◌∙◌, arith, true≢false}
 use Rattle.std.proofs.lemmas.Bool.{cases_lt}
 use Rattle.std.proofs.lemmas.List.{drop_more, drop_all, get_or_past}
+use Rattle.std.proofs.lemmas.Option.{none-some}
 use Rattle.rd_base.proofs.Equals.{cell-told}
 use Rattle.rd_base.specs.declared.cell.Cell.{Cell}
 use Rattle.rd_term.specs.Terminals.{known}
 use Rattle.rd_audit.specs.Verdicts.{is_known, other_column, place_or, other_place}
-
-none≢some : {T : Type 0} (x : T) → Some x ≡ None → ⊥
-none≢some x e = true≢false (ap is_some e)
 
 -- ---- the walks
 
@@ -55,12 +53,12 @@ row-step : (column : ℕ) (cell : Cell) (o : Option Cell) (cells : List Cell) (o
     → (other_column (column + 1) cells os ≡ None → os ≡ map Some cells)
     → (if t then other_column (column + 1) cells os else Some column) ≡ None → o ∷ os ≡ Some cell ∷ map Some cells
 row-step column cell o cells os true test so e = ap₂ (λ x xs. x ∷ xs) (known-told cell o test) (so e)
-row-step column cell o cells os false test so e = absurd (none≢some column e)
+row-step column cell o cells os false test so e = absurd (none-some column (sym e))
 
 row-same : (column : ℕ) (cells : List Cell) (os : List (Option Cell)) → other_column column cells os ≡ None → os ≡ map Some cells
 row-same column [] [] e = refl
-row-same column [] (o ∷ os) e = absurd (none≢some column e)
-row-same column (cell ∷ cells) [] e = absurd (none≢some column e)
+row-same column [] (o ∷ os) e = absurd (none-some column (sym e))
+row-same column (cell ∷ cells) [] e = absurd (none-some column (sym e))
 row-same column (cell ∷ cells) (o ∷ os) e = row-step column cell o cells os (is_known cell o) refl (row-same (column + 1) cells os) e
 
 place-step : (row : ℕ) (cells : List Cell) (other : List (Option Cell)) (rows : List (List Cell)) (others : List (List (Option Cell))) (o : Option ℕ) → other_column 0 cells other ≡ o

@@ -1,22 +1,20 @@
 -- Rows of one width.
-use Rattle.std.proofs.Common.{◌≡◌, ℕ, ◌+◌, ◌<◌, ◌≤◌, nat_lt, Bool, true, false, if◌then◌else◌, Option, None, Some, option_and_then, option_map, is_some, unwrap_or, Result, Err, List, [], ◌∷◌, ◌++◌, length, refl, sym, ap, subst, ◌∙◌, arith, true≢false, length-append}
+use Rattle.std.proofs.Common.{◌≡◌, ℕ, ◌+◌, ◌<◌, ◌≤◌, nat_lt, Bool, true, false, if◌then◌else◌, Option, None, Some, option_and_then, option_map, unwrap_or, Result, Err, List, [], ◌∷◌, ◌++◌, length, refl, sym, ap, subst, ◌∙◌, arith, length-append}
 use Rattle.std.proofs.lemmas.Bool.Decides.{nat_tests}
 use Rattle.std.proofs.lemmas.List.Elements.{All-nil, All-cons, All-push}
+use Rattle.std.proofs.lemmas.Option.{none-some}
 use Rattle.rd_base.specs.declared.cell.Cell.{Cell}
 use Rattle.rd_term.specs.Pictures.{Picture}
 use Rattle.rd_audit.specs.Dumps.{picture_from, ended_by}
 use Rattle.rd_audit.specs.Results.{IsShape}
 use Rattle.rd_audit.specs.Rows.{is_row, is_as_wide, next_row, row_cells, cursor_place}
 
-none≢some : {T : Type 0} (x : T) → None ≡ Some x → ⊥
-none≢some x e = true≢false (sym (ap is_some e))
-
 if_some : {T : Type 0} (b : Bool) (o : Option T) (x : T) → (if b then o else None) ≡ Some x → (b ≡ true) × (o ≡ Some x)
 if_some true o x e = (refl, e)
-if_some false o x e = absurd (none≢some x e)
+if_some false o x e = absurd (none-some x e)
 
 kept : (rows : List (List Cell)) (o : Option (List Cell)) (cells : List Cell) → option_and_then (λ x. if is_as_wide rows x then Some x else None) o ≡ Some cells → is_as_wide rows cells ≡ true
-kept rows None cells e = absurd (none≢some cells e)
+kept rows None cells e = absurd (none-some cells e)
 kept rows (Some x) cells e =
     let h = if_some (is_as_wide rows x) (Some x) cells e in
     subst (λ y. is_as_wide rows y ≡ true) (ap (λ o. unwrap_or o x) h.1) h.0

@@ -1,8 +1,9 @@
 -- The last layouts of a session's windows stay known behind each op.
 use Rattle.std.proofs.Common.{◌≡◌, ◌≢◌, ◌⊎◌, inl, inr, ℕ, ◌<◌, ◌≤◌, ◌==◌, Bool, true, false, if◌then◌else◌, Option, None, Some, Result, Ok, Err, List, [], ◌∷◌, length, sym, ap, refl, subst, subst₂, ◌∙◌, unwrap_or, arith}
 use Rattle.std.proofs.lemmas.Bool.{cases_eq, cond-false, cond-true, eq-eqb, ne_eqb}
-use Rattle.std.specs.Prelude.{slice_get, option_map, IfOk}
+use Rattle.std.specs.Prelude.{slice_get, option_map}
 use Rattle.rd_base.proofs.Choices.{map-some}
+use Rattle.std.proofs.lemmas.Result.{IfOk-at_ok}
 use Rattle.rd_blocks.specs.Leads.{LeadsTo}
 use Rattle.rd_objects.specs.Sound.{Extends}
 use Rattle.rd_objects.specs.Things.{ObjectLists}
@@ -90,10 +91,6 @@ layout-later effect t n (e ∷ rest) = elim (cases_eq e.0 n) [
 
 -- ---- one window behind an op
 
-ok-of : {T E : Type 0} (r : Result T E) (P : T → Type 0) (t : T) → IfOk r P → r ≡ Ok t → P t
-ok-of (Ok x) P t h is = subst P (cc) h
-ok-of (Err e) P t h is = absurd (cc)
-
 -- whether an effect tells of a window itself
 tells : (effect : Effect) (number : ℕ) → (effect ≡ Window number) ⊎ (effect ≡ Window number → ⊥)
 tells (Window n) number = elim (cases_eq n number) [
@@ -138,7 +135,7 @@ module _ (laws : StepLaws) (s t : StateValue) (op : Op) (valid : IsValid s) (for
       absurd (omega (arith, heads))
 
   calm-here : Calm (effect_of s op) s t
-  calm-here = ok-of (step s op) (Calm (effect_of s op) s) t (calm-step s op valid.windows.apart) is
+  calm-here = IfOk-at_ok (Calm (effect_of s op) s) is (calm-step s op valid.windows.apart)
 
   -- a layout since which an effect tells none stands as it stood
   stands-by : (files : Data) (number : ℕ) (w v : WindowState) (l : Layout) → window_of number s.windows ≡ Some w → window_of number t.windows ≡ Some v → IsKnown files s w l
@@ -209,7 +206,7 @@ stays-session laws v op t session form is = record {
       (known-behind laws v.state t op session.state form is v.files number old.0 w e.0 old.1 hw (session.layouts number old.0 e.0 old.1 e.1));
 } where
   g : Goes (is_frame op) v.state t
-  g = ok-of (step v.state op) (Goes (is_frame op) v.state) t (goes v.state op) is
+  g = IfOk-at_ok (Goes (is_frame op) v.state) is (goes v.state op)
 
   le : {a b c : ℕ} → a < b → b ≤ c → a < c
   le h k = omega arith

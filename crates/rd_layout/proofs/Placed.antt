@@ -1,8 +1,8 @@
 -- The windows of a frame, in their order and by their numbers.
-use Rattle.std.proofs.Common.{◌≡◌, ◌≢◌, ◌⊎◌, inl, inr, ℕ, ◌+◌, ◌-◌, ◌<◌, ◌≤◌, ◌==◌, Bool, true, false, if◌then◌else◌, None, Some, List, [], ◌∷◌, ◌++◌, get_or, sym, ap, refl, ◌∙◌, arith, nat_le}
+use Rattle.std.proofs.Common.{◌≡◌, ◌≢◌, ◌⊎◌, inl, inr, ℕ, ◌+◌, ◌-◌, ◌<◌, ◌≤◌, ◌==◌, Bool, true, false, if◌then◌else◌, Some, List, [], ◌∷◌, ◌++◌, get_or, sym, ap, refl, ◌∙◌, arith, nat_le}
 use Rattle.std.proofs.lemmas.Bool.{cases_eq, leb-true, leb-false, cond-false, cond-true, eq-eqb, ne_eqb}
 use Rattle.std.proofs.lemmas.List.Elements.{All-from_get_or, All-from_recursion, recursion_from_All}
-use Rattle.std.proofs.lemmas.Option.{slice_get-get_or, slice_get-map}
+use Rattle.std.proofs.lemmas.Option.{slice_get-get_or, slice_get-map, none-some}
 use Rattle.std.specs.List.{All, AllByRecursion, flat_map}
 use Rattle.std.specs.Prelude.{slice_get, option_map}
 use Rattle.rd_base.proofs.Choices.{one-at-least}
@@ -45,13 +45,10 @@ either n (x ∷ xs) qs p h = elim (cases_eq x.number n) [
   ]
 ]
 
-some-is-none : (p : Placed) → Some p ≡ None → ⊥
-some-is-none p h = absurd (cc)
-
 pub found-once : (n : ℕ) (windows : Windows) (rect : Rect) (p : Placed) → window_at n windows rect ≡ Some p → 1 ≤ times n windows
 found-once n (Window number mode margins) rect p h = elim (cases_eq number n) [
   | inl e ↦ one-at-least (number == n) (eq-eqb number n e)
-  | inr e ↦ absurd (some-is-none p (sym h ∙ placed-there n (record { number = number; mode = mode; margins = margins; rect = rect }) [] e))
+  | inr e ↦ absurd (none-some p (sym (placed-there n (record { number = number; mode = mode; margins = margins; rect = rect }) [] e) ∙ h))
 ]
 found-once n (Split side size first second) rect p h = elim (either n (placed first (first_part side size rect)) (placed second (second_part side size rect)) p h) [
   | inl l ↦ let one = found-once n first (first_part side size rect) p l in omega arith

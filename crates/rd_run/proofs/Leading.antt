@@ -1,10 +1,10 @@
 -- A redisplay that is sent leads from a session to a session, whose layouts are those from nothing.
 use Rattle.std.proofs.Common.{◌≡◌, ℕ, Bool, List, [], ◌∷◌, ◌++◌, map, Option, None, Some, refl, sym, ap, ◌∙◌, subst}
 use Rattle.std.proofs.lemmas.List.Elements.{recursion_from_All}
+use Rattle.std.proofs.lemmas.Option.{none-some}
 use Rattle.std.specs.List.{AllByRecursion, flat_map}
 use Rattle.rd_base.proofs.Choices.{map-some}
 use Rattle.rd_matrix.specs.Entries.{EntryMeaning, shown_entries, made_entry}
-use Rattle.rd_matrix.specs.declared.matrix.Entry.{Entry}
 use Rattle.rd_state.specs.States.{StateValue}
 use Rattle.rd_state.specs.Valid.{IsValid}
 use Rattle.rd_state.specs.Windows.{leaf_at, leaf_of, window_of}
@@ -41,9 +41,6 @@ shown-made : (rows : List EntryMeaning) → shown_entries (map made_entry rows) 
 shown-made [] = refl
 shown-made (row ∷ rows) = ap (λ es. row ∷ es) (shown-made rows)
 
-nothing-under : (e : Entry) → None ≡ Some e → ⊥
-nothing-under e h = absurd (cc)
-
 -- its layout from nothing
 fresh-laid : (files : Data) (s : StateValue) (w : WindowState) (p : Placed)
     → AllByRecursion (λ (e : ℕ × Layout). IsLaidOut None (window_source files s w) (window_shape s w p) (wanted_of s w p) e.1) (fresh_by files s p (Some w))
@@ -58,7 +55,7 @@ fresh-laid files s w p = (
     bottom = refl;
     change = refl;
     stays = λ rests. absurd (cc);
-    copies = λ rests k d less b o among at kept under. absurd (nothing-under o under);
+    copies = λ rests k d less b o among at kept under. absurd (none-some o under);
   },
   tt,
 )

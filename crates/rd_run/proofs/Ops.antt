@@ -1,11 +1,10 @@
 -- What holds of each op that is no redisplay.
-use Rattle.std.proofs.Common.{◌≡◌, false, None, Some, Result, Ok, Err, refl, subst}
-use Rattle.std.specs.Prelude.{IfOk}
+use Rattle.std.proofs.Common.{◌≡◌, false, None, Some, Ok, refl}
+use Rattle.std.proofs.lemmas.Result.{IfOk-at_ok}
 use Rattle.rd_script.specs.declared.op.Op.{Op}
 use Rattle.rd_script.specs.declared.op.Op.TheVariants as ops
 use Rattle.rd_state.specs.States.{StateValue}
 use Rattle.rd_state.specs.Steps.{step}
-use Rattle.rd_state.specs.declared.refused.Refused.{Refused}
 use Rattle.rd_layout.specs.Pointing.{stepped_to}
 use Rattle.rd_layout.specs.Sessions.{IsStep, SessionValue, is_frame, layout_of, session_step}
 use Rattle.rd_layout.specs.Windows.{place_of}
@@ -54,12 +53,8 @@ step-of (ops.MarginPut name overlay string) e = tt
 
 -- ---- the size of the frame
 
-of-ok : (r : Result StateValue Refused) (P : StateValue → Type 0) (t : StateValue) → IfOk r P → r ≡ Ok t → P t
-of-ok (Err refusal) P t h e = absurd (let k : Err refusal ≡ Ok t = e in cc)
-of-ok (Ok s) P t h e = let same : s ≡ t = (let k : Ok s ≡ Ok t = e in cc) in subst P same h
-
 stays : (s t : StateValue) (op : Op) → step s op ≡ Ok t → is_frame op ≡ false → AreOfOneSize s t
-stays s t op e other = let g : Goes (is_frame op) s t = of-ok (step s op) (Goes (is_frame op) s) t (goes s op) e in g.size other
+stays s t op e other = let g : Goes (is_frame op) s t = IfOk-at_ok (Goes (is_frame op) s) e (goes s op) in g.size other
 
 -- an op that sets no frame leaves its size
 pub keeps-size : (v : SessionValue) (op : Op) (t : StateValue) → session_step v op ≡ Ok t → is_frame op ≡ false → AreOfOneSize v.state t

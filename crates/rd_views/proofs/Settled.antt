@@ -3,6 +3,7 @@ use Rattle.std.proofs.Common.{◌≡◌, ◌≢◌, inl, inr, ℕ, suc, ◌+◌,
 use Rattle.std.proofs.lemmas.Bool.{cases_eq, cond-false, cond-true, eq-eqb, ne_eqb}
 use Rattle.std.proofs.lemmas.List.{drop_more}
 use Rattle.std.proofs.lemmas.Option.{none-some, same_Some}
+use Rattle.std.proofs.lemmas.Iterator.Adapters.{option_map_id}
 use Rattle.std.specs.Prelude.{IsSome, option_map, pos, slice_get}
 use Rattle.rd_base.proofs.Choices.{map-some}
 use Rattle.rd_start.specs.Chosen.{chosen_of}
@@ -158,13 +159,9 @@ module _ (v : SessionValue) where
         | inr q ↦ subst₂ AreRight (sym (placed-there n p ps q)) (sym (chosen-there n x xs e es (λ r. q (sym one.0 ∙ r)))) (right-chosen n ps xs es h.1)
       ]
 
-  nothing-changes : (o : Option WindowState) → o ≡ option_map (λ w. w) o
-  nothing-changes None = refl
-  nothing-changes (Some w) = refl
-
   both-settle : (n : ℕ) (o : Option Placed) (c : Option Chosen) → place_of n v.state ≡ o → AreRight o c
       → settle_found c (window_of n v.state.windows) ≡ option_map (λ w. settled_by v.files v.state w o) (window_of n v.state.windows)
-  both-settle n None c at right = ap (λ (k : Option Chosen). settle_found k (window_of n v.state.windows)) right ∙ nothing-changes (window_of n v.state.windows)
+  both-settle n None c at right = ap (λ (k : Option Chosen). settle_found k (window_of n v.state.windows)) right ∙ sym (option_map_id (window_of n v.state.windows))
   both-settle n (Some p) c at right =
       let lives : window_of n v.state.windows ≡ Some right.window = ap (λ (k : ℕ). window_of k v.state.windows) (sym (number-of n (places v.state) p at)) ∙ right.lives in
       ap (λ (k : Option Chosen). settle_found k (window_of n v.state.windows)) right.is
