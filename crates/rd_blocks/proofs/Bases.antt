@@ -1,7 +1,7 @@
 -- The base level of a block is 0 or 1.
 use Rattle.std.proofs.Common.{ℕ, zero, suc, ◌+◌, ◌-◌, ◌≤◌, Bool, false, not, ◌||◌, List, [], ◌∷◌, length, map, replicate, All, inl, inr, Option, None, Some, subst, sym, arith}
 use Rattle.std.specs.Prelude.{slice_index}
-use Rattle.std.specs.Option.{unwrap_or}
+use Rattle.std.specs.Option.{unwrap_or, option_or}
 use Rattle.std.specs.List.{slice_split}
 use Rattle.std.proofs.lemmas.Bool.{cases_lt, cond_both}
 use Rattle.std.proofs.lemmas.List.{get_or_past}
@@ -14,7 +14,7 @@ use Rattle.rd_base.specs.declared.settings.Direction.TheVariants.{Auto, Left, Ri
 use Rattle.rd_ucd.specs.declared.spans.Span.{Span}
 use Rattle.rd_ucd.specs.Lookup.{class_of}
 use Rattle.rd_text.specs.Texts.{TextValue, between, is_newline, is_separator}
-use Rattle.rd_para.specs.Paragraphs.{line_level, first_of, decided, level_by, levels_of, text_level, base_at}
+use Rattle.rd_para.specs.Paragraphs.{line_level, decided, level_by, levels_of, text_level, base_at}
 use Rattle.rd_props.specs.Buffers.{BufferValue}
 use Rattle.rd_blocks.specs.Bases.{block_base}
 
@@ -71,14 +71,14 @@ strong-low (suc depth) (FSI ∷ cs) = strong-low (suc (suc depth)) cs
 strong-low zero (PDI ∷ cs) = strong-low zero cs
 strong-low (suc depth) (PDI ∷ cs) = strong-low depth cs
 
-first-low : (a b : Option ℕ) → IsLow a → IsLow b → IsLow (first_of a b)
+first-low : (a b : Option ℕ) → IsLow a → IsLow b → IsLow (option_or a b)
 first-low None b h k = k
 first-low (Some level) b h k = h
 
 decided-low : (classes : List Span) (lines : List (List ℕ)) → IsLow (decided classes lines)
 decided-low classes [] = tt
 decided-low classes (line ∷ lines) =
-    cond_both (is_separator line) None (first_of (line_level classes line) (decided classes lines)) IsLow (λ _. tt)
+    cond_both (is_separator line) None (option_or (line_level classes line) (decided classes lines)) IsLow (λ _. tt)
     (λ _. first-low (line_level classes line) (decided classes lines) (strong-low 0 (map (class_of classes) line)) (decided-low classes lines))
 
 else-low : (o : Option ℕ) → IsLow o → unwrap_or o 0 ≤ 1

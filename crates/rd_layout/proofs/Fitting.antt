@@ -211,9 +211,9 @@ module _ (laws : FitLaws) (files : Data) (s : StateValue) (valid : IsValid s) wh
   window-fits w p at window leaf = record {
     few =
         let rows = (view_in files s w p).rows in
-        let mapped = length-map rows (glyph_row (margin_of files s.objects (shown_content s w) (widths_of w))) in
+        let as_many = length-map rows (glyph_row (margin_of files s.objects (shown_content s w) (widths_of w))) in
         let taken = length-take (body_height p) (drop (start_row (window_source files s w) (window_shape s w p) (wanted_of s w p)) (rows_at (window_source files s w) (window_shape s w p))) in
-        omega (arith, mapped, taken);
+        omega (arith, as_many, taken);
     rows =
         let whole = view-whole w p at window in
         All-map (FitsRow s.width p) (glyph_row (margin_of files s.objects (shown_content s w) (widths_of w))) (view_in files s w p).rows
