@@ -4,6 +4,7 @@ use Rattle.std.proofs.lemmas.Bool.{cases_Bool, le-ltb, leb-false, leb-true, lt-l
 use Rattle.std.proofs.lemmas.List.{length-append, length-map}
 use Rattle.std.specs.List.{list_any, position, position_or_len, slice_get}
 use Rattle.rd_matrix.proofs.Counting.{all-append}
+use Rattle.rd_matrix.proofs.HeldLemmas.{end-any}
 use Rattle.rd_matrix.specs.Blocks.{end_from, first_start}
 use Rattle.rd_matrix.specs.Entries.{EntryMeaning, all_rows}
 use Rattle.rd_matrix.specs.Sources.{SourceValues, IsSource}
