@@ -1,5 +1,5 @@
 -- What a call of `play` promises: how the run ended, what the terminal shows, and what it cost.
-use Rattle.std.specs.Prelude.{◌≡◌, ℕ, ◌+◌, ◌≤◌, ◌⊎◌, Bool, false, List, [], ◌∷◌, ◌++◌, Option, None, Some}
+use Rattle.std.specs.Prelude.{◌≡◌, ℕ, ◌+◌, ◌≤◌, ◌⊎◌, false, List, [], ◌∷◌, ◌++◌, Option, None, Some}
 use Rattle.std.specs.Io.KnownBytes.{Consumes}
 use Rattle.rd_io.specs.Devices.{Rose}
 use Rattle.rd_run.specs.Ends.{Drawn, Ended, IsInHand, ShowsIn, Sunk, allowed_in}

@@ -1,6 +1,6 @@
 -- How bytes are read: what the next byte gives, by what was read of a sequence or of a character before it. Nothing here knows of
 -- what a terminal shows.
-use Rattle.std.specs.Prelude.{ℕ, ◌-◌, ◌==◌, nat_lt, nat_le, Bool, if◌then◌else◌, ◌||◌, List, Option, None, Some}
+use Rattle.std.specs.Prelude.{ℕ, ◌-◌, ◌==◌, nat_lt, nat_le, if◌then◌else◌, ◌||◌, List, Option, None, Some}
 use Rattle.std.specs.Char.{is_ascii_digit}
 use Rattle.rd_term.specs.Characters.{CharacterRead, begun, with_bits, continued}
 use Rattle.rd_term.specs.Controls.{control_of}
