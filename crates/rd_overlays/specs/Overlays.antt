@@ -182,7 +182,8 @@ grown pos n overlay = record overlay {
 abbrev pub slot_grown : ℕ → ℕ → Option Overlay → Option Overlay
 slot_grown pos n slot = slot_changed (grown pos n) slot
 
--- where a position, or a start or an end, stands after a deletion: what stands in the range goes to its start, and what stands behind it moves back
+-- where a position, or an overlay's start or end, stands after a deletion: what stands in the range goes to its start, and what stands
+-- behind it moves back
 abbrev pub after_deletion : ℕ → ℕ → ℕ → ℕ
 after_deletion from to place = if nat_lt place from then place else (if nat_lt place to then from else place - (to - from))
 
