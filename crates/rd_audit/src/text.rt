@@ -1,5 +1,5 @@
 //! The cells of a text.
-ghost use Rattle.std.specs.Prelude.{◌≡◌, ◌++◌, ◌≤◌, [], IfOk, OnOk, IfSome, None, option_map};
+ghost use Rattle.std.specs.Prelude.{◌≡◌, ◌++◌, [], IfOk, OnOk, None, option_map};
 ghost use Rattle.std.specs.Str.{chars};
 ghost use Rattle.rd_base.specs.Cells.{joined_glyph};
 ghost use Rattle.rd_term.specs.Characters.{columns_of};

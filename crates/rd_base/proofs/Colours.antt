@@ -1,5 +1,5 @@
 -- Faces and cells whose colours are in their range.
-use Rattle.std.proofs.Common.{ℕ, ◌≤◌, List, All, ◌==◌, arith}
+use Rattle.std.proofs.Common.{ℕ, ◌≤◌, All, ◌==◌, arith}
 use Rattle.std.proofs.lemmas.List.Elements.{All-replicate}
 use Rattle.rd_base.proofs.Choices.{either}
 use Rattle.rd_base.specs.Cells.{HasColours, IsColoured}

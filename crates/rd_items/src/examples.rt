@@ -1,5 +1,5 @@
 //! Worked examples. They have no body: what they promise is computed from the definitions.
-ghost use Rattle.std.specs.Prelude.{◌≡◌, ◌∷◌, [], true, false};
+ghost use Rattle.std.specs.Prelude.{◌≡◌, ◌∷◌, [], false};
 ghost use Rattle.rd_base.specs.Faces.{plain};
 ghost use Rattle.rd_base.specs.declared.class.Class.TheVariants.{L, S, ON, NSM};
 ghost use Rattle.rd_base.specs.declared.settings.Invisible.TheVariants.{Every, Listed};

@@ -1,7 +1,6 @@
 //! The screen after a shift.
 ghost use Rattle.std.specs.Prelude.{◌≡◌, ◌+◌, ◌<◌, ◌≤◌, IfOk, length, true, false};
 ghost use Rattle.rd_base.specs.Cells.{row_at};
-ghost use Rattle.rd_term.specs.Pictures.{blank_row, width_of};
 ghost use Rattle.rd_lineshift.specs.Laws.{IsShift, is_up as is_move_up};
 ghost use Rattle.rd_lineshift.specs.Shifts.{shifted as shifted_of, shifted_rows};
 

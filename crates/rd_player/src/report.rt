@@ -1,5 +1,5 @@
 //! The lines of the report. Each is one write where it has at most 20,480 bytes, and takes no memory.
-ghost use Rattle.std.specs.Prelude.{◌≡◌, ◌≤◌, ◌++◌, OnErr, codes, flat_map};
+ghost use Rattle.std.specs.Prelude.{◌≤◌, ◌++◌, OnErr, codes, flat_map};
 ghost use Rattle.std.specs.Fmt.{decimal};
 ghost use Rattle.rd_io.specs.Devices.{Rose, Writes};
 ghost use Rattle.rd_player.specs.Acts.{summary_of};

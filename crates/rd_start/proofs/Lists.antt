@@ -9,7 +9,6 @@ use Rattle.std.proofs.lemmas.List.Folds.{find-append}
 use Rattle.std.specs.Option.{option_or}
 use Rattle.rd_base.proofs.Lists.{drop-read}
 use Rattle.rd_start.specs.Starts.{around, both_at}
-pub use Rattle.rd_base.proofs.Lists.{each-append}
 
 -- a list round the element at a place
 pub record Split {X : Type 0} (xs : List X) (k : ℕ) (x : X) : Type 0 where

@@ -11,7 +11,6 @@ use Rattle.rd_text.specs.Texts.{IsAccessible}
 use Rattle.rd_objects.specs.Things.{ObjectLists}
 use Rattle.rd_script.specs.Forms.{is_buffer_name}
 use Rattle.rd_tree.specs.Calls as tree
-use Rattle.rd_tree.specs.Windows.{Windows}
 use Rattle.rd_state.specs.declared.moves.Move.{Move}
 use Rattle.rd_state.specs.declared.window.WindowState.{WindowState}
 use Rattle.rd_state.specs.States.{BufferValue, ContentValue, new_buffer, new_content, number_of}

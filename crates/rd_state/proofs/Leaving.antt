@@ -1,5 +1,5 @@
 -- What ops leave of what is seen.
-use Rattle.std.proofs.Common.{◌≡◌, ◌≢◌, ℕ, ◌+◌, ◌-◌, ◌<◌, ◌≤◌, inl, inr, ◌==◌, Bool, true, is_some, if◌then◌else◌, nat_le, min, max, ℤ, pos, Option, None, Some, Result, Ok, Err, List, [], ◌∷◌, ◌++◌, length, map, subst, sym, ap, refl, ◌∙◌}
+use Rattle.std.proofs.Common.{◌≡◌, ◌≢◌, ℕ, ◌+◌, ◌-◌, inl, inr, Bool, true, is_some, if◌then◌else◌, nat_le, min, max, ℤ, pos, Option, None, Some, Result, Ok, Err, List, [], ◌∷◌, ◌++◌, length, map, subst, sym, ap, refl, ◌∙◌}
 use Rattle.std.specs.Prelude.{slice_get, slice_set, ◌-ℤ◌}
 use Rattle.rd_base.proofs.Choices.{some-of}
 use Rattle.rd_overlays.specs.declared.overlay.Overlay.{Overlay}
@@ -11,7 +11,6 @@ use Rattle.rd_objects.specs.Things.{ObjectLists}
 use Rattle.rd_props.specs.Edits.{AreOrdered}
 use Rattle.rd_script.specs.Forms.{is_text_kind}
 use Rattle.rd_margins.specs.Marks as marks
-use Rattle.rd_state.specs.declared.effect.Effect.TheVariants.{Edit}
 use Rattle.rd_state.specs.declared.moves.Move.{Move}
 use Rattle.rd_state.specs.declared.refused.Refused.{Refused}
 use Rattle.rd_state.specs.declared.refused.Refused.TheVariants.{NoBuffer, NoObject, NoOverlay, OutOfRange, TooManyOverlays}

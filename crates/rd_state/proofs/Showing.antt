@@ -1,5 +1,5 @@
 -- A step leads from a valid state to a valid one: windows and the frame.
-use Rattle.std.proofs.Common.{◌≡◌, ◌≢◌, ℕ, zero, suc, ◌+◌, ◌-◌, ◌<◌, ◌≤◌, inl, inr, ◌==◌, ◌&&◌, ◌||◌, Bool, true, false, is_some, cond, if◌then◌else◌, nat_le, nat_lt, ℤ, pos, negsuc, Option, None, Some, Result, Ok, Err, List, [], ◌∷◌, ◌++◌, length, subst, sym, ap, refl, ◌∙◌, arith, IsTrue}
+use Rattle.std.proofs.Common.{◌≡◌, ◌≢◌, ℕ, suc, ◌+◌, ◌-◌, ◌<◌, ◌≤◌, inl, inr, ◌==◌, ◌&&◌, Bool, true, false, is_some, cond, if◌then◌else◌, nat_le, nat_lt, ℤ, pos, negsuc, Option, None, Some, Result, Ok, Err, List, [], ◌∷◌, ◌++◌, length, subst, sym, ap, refl, ◌∙◌, arith, IsTrue}
 use Rattle.std.proofs.lemmas.Bool.{cases_eq, eqb-false, ltb-true, ltb-false, cond-false, cond-true, eq-eqb, ne_eqb}
 use Rattle.std.proofs.lemmas.Bool.Decides.{nat_tests}
 use Rattle.std.specs.Int.{int_max}
@@ -13,7 +13,7 @@ use Rattle.rd_script.specs.Forms.{IsFormat}
 use Rattle.rd_script.specs.Numbers.{is_near_zero}
 use Rattle.rd_tree.specs.Calls as tree
 use Rattle.rd_tree.specs.Calls.{Configuration, frame_of, is_full, split_to, changed_to, split_tree, remove_tree, resize_tree, mode_tree, margins_tree}
-use Rattle.rd_tree.specs.Windows.{Windows, Window, fits, holds, is_single, split_at, removed, resized, with_mode, with_margins, columns_needed, rows_needed, first_leaf, sibling, times}
+use Rattle.rd_tree.specs.Windows.{Windows, Window, fits, holds, is_single, split_at, removed, resized, with_mode, with_margins, columns_needed, rows_needed, first_leaf, sibling}
 use Rattle.rd_tree.specs.declared.fault.TreeFault.{TreeFault}
 use Rattle.rd_tree.specs.declared.fault.TreeFault.TheVariants as tree_faults
 use Rattle.rd_tree.specs.declared.side.Side.{Side}

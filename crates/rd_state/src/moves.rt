@@ -1,6 +1,6 @@
 //! Where the points and the views of windows move when the text that they show changes.
 ghost use Rattle.std.specs.Prelude.{◌≡◌, ℕ, ◌+◌, ◌<◌, Some, map, slice_get};
-ghost use Rattle.rd_state.specs.Moves.{after_insertion, brought_into, place_after, moved, moved_in};
+ghost use Rattle.rd_state.specs.Moves.{after_insertion, place_after, moved, moved_in};
 ghost use Rattle.rd_state.specs.Movable.{IsMovable, NumberedWindow, CanMove};
 
 use crate::window::WindowState;
