@@ -1,16 +1,13 @@
 -- The groups of row lines, found line by line.
 use Rattle.std.proofs.Common.{◌≡◌, ℕ, ◌+◌, ◌-◌, ◌<◌, ◌≤◌, Bool, true, false, if◌then◌else◌, Option, None, Some, option_map, IfSome, List, ◌∷◌, length, drop, refl, sym, ap, ap₂, subst, ◌∙◌, arith}
 use Rattle.std.proofs.lemmas.List.{drop-drop}
+use Rattle.rd_base.proofs.Choices.{map-or}
 use Rattle.std.specs.Option.{option_or}
 use Rattle.rd_io.specs.Lines.{lines_of}
 use Rattle.rd_audit.specs.Dumps.{last_group}
 use Rattle.rd_audit.specs.Results.{marked}
 use Rattle.rd_audit.specs.Rows.{is_row, is_cursor}
 use Rattle.rd_audit.specs.declared.dump.Mark.{Mark}
-
-map-or : {A B : Type 0} (f : A → B) (a b : Option A) → option_map f (option_or a b) ≡ option_or (option_map f a) (option_map f b)
-map-or f None b = refl
-map-or f (Some x) b = refl
 
 -- what a line that is or is not a row's makes of the groups
 abbrev begun_by : Bool → Option Mark → Mark → Option Mark

@@ -3,7 +3,7 @@ use Rattle.std.proofs.Common.{◌≡◌, ◌==◌, ℕ, zero, suc, ◌+◌, ◌-
 use Rattle.std.specs.Char.{encode_utf8}
 use Rattle.std.specs.List.{flat_map}
 use Rattle.std.specs.Str.{all_scalars, encode_utf8_all, chars}
-use Rattle.std.proofs.lemmas.Bool.{cases_lt, cases_eq}
+use Rattle.std.proofs.lemmas.Bool.{cases_lt, cases_eq, cond-true}
 use Rattle.std.proofs.lemmas.Bool.Decides.{nat_tests}
 use Rattle.std.proofs.lemmas.Str.{chars-encodes, is_utf8-from_IsUtf8}
 use Rattle.std.proofs.Math.Seq.{set-append_seam, get_or-drop}
@@ -53,9 +53,6 @@ shown-append : (front back : List ℕ) → AreShown front → AreShown back → 
 shown-append [] back p q = q
 shown-append (code ∷ codes) back p q = (p.0, shown-append codes back p.1 q)
 
-encoded-as : (code : ℕ) → is_scalar code ≡ true → encoded code ≡ encode_utf8 code
-encoded-as code h = ap (λ t. if t then encode_utf8 code else []) h
-
 encodes-append : (front back : List ℕ) → encode_utf8_all (front ++ back) ≡ encode_utf8_all front ++ encode_utf8_all back
 encodes-append [] back = refl
 encodes-append (code ∷ codes) back =
@@ -63,7 +60,7 @@ encodes-append (code ∷ codes) back =
 
 encoded-all : (codes : List ℕ) → AreShown codes → flat_map encoded codes ≡ encode_utf8_all codes
 encoded-all [] h = refl
-encoded-all (code ∷ codes) h = ap₂ (λ x y. x ++ y) (encoded-as code h.0.0) (encoded-all codes h.1)
+encoded-all (code ∷ codes) h = ap₂ (λ x y. x ++ y) (cond-true (is_scalar code) (encode_utf8 code) [] h.0.0) (encoded-all codes h.1)
 
 all-scalar : (codes : List ℕ) → AreShown codes → all_scalars codes ≡ true
 all-scalar [] h = refl
@@ -142,7 +139,7 @@ row-shown (suc due) (Rest ∷ cells) h = row-shown due cells h
 
 -- the bytes of a row's text
 text-of_glyph : (g : Glyph) → IsMeasured g → glyph_bytes g ≡ encode_utf8 g.base ++ encode_utf8_all (marks_of g)
-text-of_glyph g h = ap₂ (λ x y. x ++ y) (encoded-as g.base h.scalar) (encoded-all (marks_of g) (marks-shown (marks_of g) (marks-are g h)))
+text-of_glyph g h = ap₂ (λ x y. x ++ y) (cond-true (is_scalar g.base) (encode_utf8 g.base) [] h.scalar) (encoded-all (marks_of g) (marks-shown (marks_of g) (marks-are g h)))
 
 pub text-is : (due : ℕ) (cells : List Cell) → IsRowAfter due cells → cells_text cells ≡ encode_utf8_all (codes_of cells)
 unfolding encode_utf8

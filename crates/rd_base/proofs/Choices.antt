@@ -1,5 +1,5 @@
 -- What follows from a test, from an option, and of the one of two that is chosen.
-use Rattle.std.proofs.Common.{◌≡◌, ◌≤◌, ◌⊎◌, inl, inr, Bool, true, false, not, ◌||◌, if◌then◌else◌, Option, None, Some, IfSome, is_some, refl, sym, ap, ◌∙◌, arith}
+use Rattle.std.proofs.Common.{◌≡◌, ◌≤◌, ◌⊎◌, inl, inr, Bool, true, false, not, ◌||◌, if◌then◌else◌, Option, None, Some, IfSome, is_some, refl, sym, ap, ◌∙◌, arith, IsSome}
 use Rattle.std.specs.Option.{option_map, option_or}
 use Rattle.std.proofs.Math.Bool.{not-not}
 use Rattle.std.proofs.lemmas.Option.{none-some}
@@ -51,3 +51,26 @@ or-some (Some y) p x e = inl e
 pub map-some : {X Y : Type 0} (f : X → Y) (o : Option X) (y : Y) → option_map f o ≡ Some y → (x : X) × (o ≡ Some x) × (f x ≡ y)
 map-some f None y e = absurd (none-some y e)
 map-some f (Some x) y e = (x, refl, cc)
+
+-- where there is none
+pub none-of : {X : Type 0} (o : Option X) → is_some o ≡ false → o ≡ None
+none-of None e = refl
+none-of (Some x) e = absurd (cc)
+
+pub none-both : {X : Type 0} (o p : Option X) → option_or o p ≡ None → (o ≡ None) × (p ≡ None)
+none-both None p e = (refl, e)
+none-both (Some x) p e = absurd (none-some x (sym e))
+
+-- where there is a first one
+pub or-first : {X : Type 0} (o p : Option X) → is_some o ≡ true → option_or o p ≡ o
+or-first None p e = absurd (cc)
+or-first (Some x) p e = refl
+
+-- what a function makes of an option
+pub is_some-map : {X Y : Type 0} (f : X → Y) (o : Option X) → IsSome o → IsSome (option_map f o)
+is_some-map f None h = h
+is_some-map f (Some x) h = h
+
+pub map-or : {X Y : Type 0} (f : X → Y) (o p : Option X) → option_map f (option_or o p) ≡ option_or (option_map f o) (option_map f p)
+map-or f None p = refl
+map-or f (Some x) p = refl

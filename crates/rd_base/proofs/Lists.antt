@@ -1,11 +1,11 @@
 -- What holds of each element of a list, and what a list is from one of its places.
-use Rattle.std.proofs.Common.{◌≡◌, ℕ, zero, suc, ◌+◌, ◌<◌, ◌≤◌, Bool, List, [], ◌∷◌, ◌++◌, length, length-append, take, drop, get_or, None, Some, inl, inr, All, refl, sym, subst, ap, cond, ◌∙◌, arith}
+use Rattle.std.proofs.Common.{◌≡◌, ℕ, zero, suc, ◌+◌, ◌<◌, ◌≤◌, Bool, List, [], ◌∷◌, ◌++◌, length, length-append, take, drop, get_or, None, Some, inl, inr, All, refl, sym, subst, ap, cond, ◌∙◌, arith, set}
 use Rattle.std.specs.Prelude.{slice_get}
 use Rattle.std.specs.List.{AllByRecursion, count_by, range_with_len}
-use Rattle.std.proofs.lemmas.List.{get_or_append_left, drop_more, drop_all}
-use Rattle.std.proofs.lemmas.List.Sums.{sum_by-append}
+use Rattle.std.proofs.lemmas.List.{get_or_append_left, drop_more, drop_all, drop-set-lt, drop-drop}
+use Rattle.std.proofs.lemmas.List.Sums.{sum_by-append, sum_by-cons}
 use Rattle.std.proofs.Math.Seq.{drop-append_seam}
-use Rattle.std.proofs.lemmas.List.Elements.{All-drop}
+use Rattle.std.proofs.lemmas.List.Elements.{All-drop, All-cons, All-nil}
 use Rattle.std.proofs.lemmas.Option.{slice_get_within, slice_get_cases, get_or_from_slice_get}
 
 -- what is read at a place heads what is left there
@@ -49,7 +49,25 @@ get-drop (suc n) [] i j e = refl
 get-drop (suc n) (x ∷ xs) zero j e = absurd (omega arith)
 get-drop (suc n) (x ∷ xs) (suc i) j e = get-drop n xs i j (omega arith)
 
--- how many elements of two joined lists pass a test
+-- the element at a place that lies within
+pub element-at : {X : Type 0} (xs : List X) (i : ℕ) → i < length xs → (x : X) × (slice_get xs i ≡ Some x)
+element-at [] i low = absurd (omega (arith, low))
+element-at (x ∷ xs) zero low = (x, refl)
+element-at (x ∷ xs) (suc i) low = element-at xs i (omega (arith, low))
+
+-- the first behind a seam
+pub at-seam : {X : Type 0} (xs : List X) (y : X) (ys : List X) → slice_get (xs ++ y ∷ ys) (length xs) ≡ Some y
+at-seam [] y ys = refl
+at-seam (x ∷ xs) y ys = at-seam xs y ys
+
+-- behind a place that is written all is as it was
+pub drop-next : {X : Type 0} (xs whole : List X) (i : ℕ) (x : X) → drop i xs ≡ drop i whole → drop (i + 1) (set xs i x) ≡ drop (i + 1) whole
+drop-next xs whole i x same = drop-set-lt (i + 1) xs i x (omega arith) ∙ sym (drop-drop 1 i xs) ∙ ap (drop 1) same ∙ drop-drop 1 i whole
+
+-- how many elements pass a test
+pub count-cons : {X : Type 0} (p : X → Bool) (x : X) (xs : List X) → count_by p (x ∷ xs) ≡ cond (p x) 1 0 + count_by p xs
+count-cons p x xs = sum_by-cons (λ y. cond (p y) 1 0) x xs
+
 pub count-append : {X : Type 0} (p : X → Bool) (xs ys : List X) → count_by p (xs ++ ys) ≡ count_by p xs + count_by p ys
 count-append p xs ys = sum_by-append (λ x. cond (p x) 1 0) xs ys
 
@@ -72,6 +90,9 @@ range-more a n m same = ap (λ (k : ℕ). range_with_len a n ++ k ∷ []) same �
 -- what holds of all holds of the one at a place
 pub all-at : {X : Type 0} (P : X → Type 0) (xs : List X) (i : ℕ) (x : X) → All P xs → slice_get xs i ≡ Some x → P x
 all-at P xs i x all found = subst P (get_or_from_slice_get xs i x x found) (all i x (slice_get_within xs i x found))
+
+pub all-one : {X : Type 0} (P : X → Type 0) (x : X) → P x → All P (x ∷ [])
+all-one P x holds = All-cons P x [] holds (All-nil P)
 
 pub all-front : {X : Type 0} (P : X → Type 0) (xs ys : List X) → All P (xs ++ ys) → All P xs
 all-front P xs ys all k d below =

@@ -5,6 +5,7 @@ use Rattle.std.proofs.lemmas.Bool.{cases_lt}
 use Rattle.std.proofs.lemmas.Bool.Decides.{nat_tests}
 use Rattle.std.proofs.lemmas.List.{get_or_default}
 use Rattle.std.proofs.lemmas.List.Elements.{All-head, All-tail, All-cons}
+use Rattle.std.proofs.Math.Logic.{⊎_swap}
 use Rattle.rd_base.specs.Cells.{IsColoured, IsSmall, IsSmallGlyph}
 use Rattle.rd_base.specs.Chars.{is_scalar}
 use Rattle.rd_base.specs.Glyphs.{IsMeasured, IsGood, IsRowAfter}
@@ -14,10 +15,6 @@ use Rattle.rd_base.specs.declared.cell.Cell.TheVariants.{Blank, First, Rest}
 
 scalar-small : (n : ℕ) → IsTrue (is_scalar n) → n < 2097152
 scalar-small n h = grind (arith, nat_tests)
-
-turned : {P Q : Type 0} → P ⊎ Q → Q ⊎ P
-turned (inl p) = inr p
-turned (inr q) = inl q
 
 mark-small : (g : Glyph) → IsMeasured g → (k : ℕ) (d : ℕ) → k < length g.marks → (g.count ≤ k) ⊎ (k < g.count) → get_or g.marks k d < 2097152
 mark-small g m k d p (inl q) =
@@ -35,7 +32,7 @@ good-small g good =
     let m = good.measured in
     record {
       base = scalar-small g.base m.scalar;
-      marks = λ k d p. mark-small g m k d p (turned (cases_lt k g.count));
+      marks = λ k d p. mark-small g m k d p (⊎_swap (cases_lt k g.count));
       places = m.places;
       count = m.count;
       width = m.few;

@@ -6,7 +6,6 @@ use Rattle.std.proofs.lemmas.Bool.Decides.{nat_tests}
 use Rattle.std.proofs.lemmas.Bool.{and_parts, cases_lt, lt-ltb, not-true}
 use Rattle.std.proofs.lemmas.List.{length-map}
 use Rattle.std.proofs.lemmas.List.Elements.{All-cons, All-nil, All-append, All-tail}
-use Rattle.std.proofs.lemmas.List.Sums.{sum_by-cons}
 use Rattle.rd_base.specs.declared.element.Element.{Element}
 use Rattle.rd_base.specs.declared.element.Origin.{Origin}
 use Rattle.rd_items.specs.Pieces.{Scene}
@@ -20,16 +19,13 @@ use Rattle.rd_order.proofs.Once.{total, is_place, once-at-most}
 use Rattle.rd_rows.specs.Laws.{ranges_of}
 use Rattle.rd_rows.specs.Placing.{is_item}
 use Rattle.rd_stack.specs.Lines.{item_elements_by, turn_elements, origin_of, item_elements, item_class, item_code, item_turns, line_of_items}
-use Rattle.rd_base.proofs.Lists.{all-at}
+use Rattle.rd_base.proofs.Lists.{all-at, count-cons}
 use Rattle.rd_base.specs.Cells.{bit_of}
 use Rattle.rd_blocks.proofs.Origins.{AreOf, item-of}
 use Rattle.rd_blocks.proofs.Gives.{ItemsGive}
 
 abbrev pub range_of_item : Item → ℕ × ℕ
 range_of_item x = (x.from, x.to)
-
-count-cons : {X : Type 0} (p : X → Bool) (x : X) (xs : List X) → count_by p (x ∷ xs) ≡ cond (p x) 1 0 + count_by p xs
-count-cons p x xs = sum_by-cons (λ y. cond (p y) 1 0) x xs
 
 same-item : (k : ℕ) → is_item (Some k) k ≡ true
 same-item k = grind (arith, nat_tests)

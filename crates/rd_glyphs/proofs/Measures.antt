@@ -6,7 +6,9 @@ use Rattle.std.proofs.lemmas.Bool.{and_parts}
 use Rattle.std.proofs.lemmas.Bool.Decides.{nat_tests}
 use Rattle.std.proofs.lemmas.List.{get_or-replicate}
 use Rattle.std.proofs.lemmas.List.Sums.{AllPass-from_list_all}
-use Rattle.std.proofs.lemmas.List.Elements.{All-map, All-cons, All-nil}
+use Rattle.std.proofs.lemmas.List.Elements.{All-map, All-cons}
+use Rattle.rd_base.proofs.Choices.{either}
+use Rattle.rd_base.proofs.Lists.{all-one}
 use Rattle.unicode_width.specs.Width.{char_width, alone}
 use Rattle.unicode_width.proofs.Rules.{width_or_zero, width_or_zero-le}
 use Rattle.rd_ucd.specs.declared.spans.Pair.{Pair}
@@ -119,14 +121,10 @@ caret-printable : (code : ℕ) → is_control code ≡ true → (32 ≤ caret co
 caret-printable code control = (grind (arith, nat_tests), grind (arith, nat_tests))
 
 itself-measured : (code : ℕ) → columns code ≢ 0 → ShowsMeasured (Itself code (columns code))
-itself-measured code some = (own (is_scalar code) (width_or_zero false code) some, own-columns code (columns code) refl (omega arith), omega arith, small (is_scalar code) (width_or_zero false code) (width_or_zero-le false code)) where
+itself-measured code some = (own (is_scalar code) (width_or_zero false code) some, own-columns code (columns code) refl (omega arith), omega arith, either (λ (k : ℕ). k ≤ 3) (is_scalar code) (width_or_zero false code) 0 (width_or_zero-le false code) (omega arith)) where
   own : (scalar : Bool) (n : ℕ) → (if scalar then n else 0) ≢ 0 → scalar ≡ true
   own true n some = refl
   own false n some = absurd (some refl)
-
-  small : (scalar : Bool) (n : ℕ) → n ≤ 3 → (if scalar then n else 0) ≤ 3
-  small true n few = few
-  small false n few = omega arith
 
 mirror-measured : (code width : ℕ) (other : Option ℕ) → ShowsMeasured (Itself code width) → ShowsMeasured (Itself (turned code width other) width)
 mirror-measured code width None s = s
@@ -174,21 +172,18 @@ shown_as-measured arrow class code is =
 digit-measured : (n : ℕ) → IsMeasuredLook (digit n)
 digit-measured n = printable-measured (48 + n % 8) (omega arith) (omega arith)
 
-measured-one : (l : Look) → IsMeasuredLook l → All IsMeasuredLook (l ∷ [])
-measured-one l own = All-cons IsMeasuredLook l [] own (All-nil IsMeasuredLook)
-
 -- what is put for a character
 pub looks-measured : (escape control : Glyph) (shown : Shown) → IsMeasured escape → IsMeasured control → ShowsMeasured shown → All IsMeasuredLook (looks_of escape control shown)
 looks-measured escape control (Caret letter) e c s =
-    All-cons IsMeasuredLook (look.Glyph control) (narrow letter ∷ []) c (measured-one (narrow letter) (printable-measured letter s.0 s.1))
+    All-cons IsMeasuredLook (look.Glyph control) (narrow letter ∷ []) c (all-one IsMeasuredLook (narrow letter) (printable-measured letter s.0 s.1))
 looks-measured escape control (Octal byte) e c s =
     All-cons IsMeasuredLook (look.Glyph escape) (digit (byte / 64) ∷ digit (byte / 8) ∷ digit byte ∷ []) e
     (All-cons IsMeasuredLook (digit (byte / 64)) (digit (byte / 8) ∷ digit byte ∷ []) (digit-measured (byte / 64))
-    (All-cons IsMeasuredLook (digit (byte / 8)) (digit byte ∷ []) (digit-measured (byte / 8)) (measured-one (digit byte) (digit-measured byte))))
-looks-measured escape control Space e c s = measured-one look.Blank tt
-looks-measured escape control (Mark code) e c s = measured-one (look.Glyph (on_blank code)) (on_blank-measured code s.0 s.1)
+    (All-cons IsMeasuredLook (digit (byte / 8)) (digit byte ∷ []) (digit-measured (byte / 8)) (all-one IsMeasuredLook (digit byte) (digit-measured byte))))
+looks-measured escape control Space e c s = all-one IsMeasuredLook look.Blank tt
+looks-measured escape control (Mark code) e c s = all-one IsMeasuredLook (look.Glyph (on_blank code)) (on_blank-measured code s.0 s.1)
 looks-measured escape control (Itself code width) e c s =
-    measured-one (look.Glyph (single code width)) (single-measured code width s.0 s.1 s.2 s.3)
+    all-one IsMeasuredLook (look.Glyph (single code width)) (single-measured code width s.0 s.1 s.2 s.3)
 
 pub elements-measured : (face : Attributes) (origin : Origin) (ls : List Look) → All IsMeasuredLook ls → AreMeasured (map (element_of face origin) ls)
 elements-measured face origin ls each = All-map (λ (e : Element). IsMeasuredLook e.look) (element_of face origin) ls each

@@ -4,6 +4,7 @@ use Rattle.std.proofs.lemmas.Bool.{eqb-true}
 use Rattle.std.proofs.lemmas.List.{take-append-le}
 use Rattle.std.specs.Io.KnownBytes.{Consumes, Keeps, IsAtEnd}
 use Rattle.std.proofs.KnownBytes.{Consumes-trans, Consumes-nil, Consumes-kept}
+use Rattle.std.proofs.Math.Logic.{⊎_swap}
 use Rattle.rd_io.specs.Lines.{IsUnbroken, Cause}
 use Rattle.rd_io.specs.Pieces.{IsLeft, TakesPiece, Gathers}
 use Rattle.rd_io.specs.declared.lines.Found.{Found}
@@ -86,10 +87,6 @@ gathering-goes_on held first left later line rest new more given g t taken = rec
   few = few-more line rest new given g.few t.0 t.2;
 }
 
-swapped : {A B : Type 0} → A ⊎ B → B ⊎ A
-swapped (inl a) = inr a
-swapped (inr b) = inl b
-
 -- the source failed behind what was there, which had no newline
 pub gathers-failed : (held : List ℕ) (first left later : Option (List ℕ)) (line rest new behind : List ℕ) (given : ℕ) → Gathering held first left line rest given
     → TakesPiece (Ok None) line new rest given → Keeps left later → Ends (Err Failed) held first later new behind given
@@ -98,7 +95,7 @@ gathers-failed held first left later line rest new behind given g t kept =
     let unbroken : IsUnbroken new = subst IsUnbroken (sym t.0) (unbroken-append line rest g.unbroken t.1) in
     let few = few-more line rest new given g.few t.0 t.2 in
     let P : List ℕ → Type 0 = λ l. Cause Failed given l in
-    (g.bytes, Consumes-kept first left later g.bytes g.taken kept, subst P (sym come) (unbroken, short-more line rest new given g.short t.0 t.2, swapped few))
+    (g.bytes, Consumes-kept first left later g.bytes g.taken kept, subst P (sym come) (unbroken, short-more line rest new given g.short t.0 t.2, ⊎_swap few))
 
 -- the source is at its end behind a line without a newline, or behind nothing
 pub gathers-end : (held : List ℕ) (first left : Option (List ℕ)) (line rest : List ℕ) (given : ℕ) (found : Found) → Gathering held first left line rest given

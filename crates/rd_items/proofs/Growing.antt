@@ -4,8 +4,8 @@ use Rattle.std.specs.Prelude.{zero, suc, slice_get, All}
 use Rattle.std.specs.Option.{unwrap_or, option_and_then}
 use Rattle.std.proofs.lemmas.List.Elements.{All-nil, All-cons, All-head, All-tail, All-get_or}
 use Rattle.std.proofs.lemmas.Option.{unwrap_or-slice_get}
+use Rattle.rd_objects.proofs.Soundness.{goes_kept}
 use Rattle.rd_base.proofs.Choices.{either}
-use Rattle.rd_base.proofs.Lists.{get-first}
 use Rattle.rd_base.specs.Faces.{Attributes}
 use Rattle.rd_base.specs.Settings.{SettingValues, without_flags}
 use Rattle.rd_base.specs.declared.settings.Invisible.{Invisible}
@@ -28,12 +28,9 @@ use Rattle.rd_items.specs.Growing.{ReadsMade, GoesOnFrom}
 
 -- ---- lists that go on
 
-same-element : {X : Type 0} (old new : List X) (i : ℕ) → GoesOn old new → i < length old → slice_get new i ≡ slice_get old i
-same-element old new i goes less = rw goes.1 (get-first old goes.0 i less)
-
 same-option : {X : Type 0} (old new : List X) (number : Option ℕ) → GoesOn old new → IfSome number (λ n. n < length old) → option_and_then (λ n. slice_get new n) number ≡ option_and_then (λ n. slice_get old n) number
 same-option old new None goes made = refl
-same-option old new (Some n) goes made = same-element old new n goes made
+same-option old new (Some n) goes made = goes_kept old new n goes made
 
 -- the table of settings
 pub same-table : (o n : ObjectLists) (settings : SettingValues) → Extends o n → SettingsMade o settings → table_in n settings.table ≡ table_in o settings.table
@@ -65,7 +62,7 @@ module _ (old new : Scene) (goes : GoesOnFrom old new) (closed : IsClosed old.ob
   setting = ap (λ (s : SettingValues). s.invisible) goes.settings
 
   same-spec : (spec : Spec) (face : Attributes) (p to : ℕ) → NamesMade (length old.objects.strings) spec → spec_piece new spec face p to ≡ spec_piece old spec face p to
-  same-spec (Text n) face p to made = rw (goes.table, same-element old.objects.strings new.objects.strings n goes.objects.strings made)
+  same-spec (Text n) face p to made = rw (goes.table, goes_kept old.objects.strings new.objects.strings n goes.objects.strings made)
   same-spec (Width n) face p to made = refl
   same-spec (Align n) face p to made = refl
 
@@ -78,7 +75,7 @@ module _ (old new : Scene) (goes : GoesOnFrom old new) (closed : IsClosed old.ob
 
   same-by : (display : Option ℕ) (hidden : Hidden) (face : Attributes) (ch : Option ℕ) (p to : ℕ) → IfSome display (λ n. n < length old.objects.specs) → piece_by new display hidden face ch p to ≡ piece_by old display hidden face ch p to
   same-by (Some n) hidden face ch p to made =
-      let number : spec_in new.objects n ≡ spec_in old.objects n = ap (λ (x : Option Spec). unwrap_or x (Width 0)) (same-element old.objects.specs new.objects.specs n goes.objects.specs made) in
+      let number : spec_in new.objects n ≡ spec_in old.objects n = ap (λ (x : Option Spec). unwrap_or x (Width 0)) (goes_kept old.objects.specs new.objects.specs n goes.objects.specs made) in
       ap (λ (x : Spec). spec_piece new x face p to) number ∙ same-spec (spec_in old.objects n) face p to (spec-named old.objects n closed made)
   same-by None No face ch p to made = same-open face ch p
   same-by None Plain face ch p to made = refl

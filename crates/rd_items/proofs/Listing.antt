@@ -11,10 +11,6 @@ use Rattle.rd_items.proofs.Newlines.{AreInside, both-inside, one-inside}
 
 -- ---- lists of blocks that adjoin
 
-order : (from to : ℕ) (bs : List (ℕ × ℕ)) → Adjoin from to bs → from ≤ to
-order from to [] all = omega arith
-order from to (b ∷ bs) all = (let rest = order b.1 to bs all.2 in omega (arith, all.0, all.1, rest))
-
 -- what stands behind the block of a place, and before it
 abbrev Behind : ℕ → List (ℕ × ℕ) → ℕ → ℕ × ℕ → Type 0
 Behind to bs k x = ((x.1 ≡ to) × (slice_get bs (suc k) ≡ None)) ⊎ ((y : ℕ × ℕ) × (slice_get bs (suc k) ≡ Some y) × (y.0 ≡ x.1))

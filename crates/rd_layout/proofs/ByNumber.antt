@@ -1,9 +1,7 @@
 -- Lists of windows by their numbers.
-use Rattle.std.proofs.Common.{◌≡◌, ◌≢◌, ℕ, inl, inr, Some, List, [], ◌∷◌, ◌++◌, ◌<◌, get_or, length, map, sym, ap, refl, ◌∙◌, subst}
+use Rattle.std.proofs.Common.{◌≡◌, ◌≢◌, ℕ, inl, inr, Some, List, [], ◌∷◌, ◌++◌, map, sym, ap, refl, ◌∙◌, subst}
 use Rattle.std.proofs.lemmas.Bool.{cases_eq}
-use Rattle.std.proofs.lemmas.Option.{slice_get-get_or}
-use Rattle.std.specs.Prelude.{option_map, slice_get}
-use Rattle.rd_state.specs.States.{BufferValue, new_buffer}
+use Rattle.std.specs.Prelude.{option_map}
 use Rattle.rd_state.specs.Moves.{moved_in}
 use Rattle.rd_state.specs.Windows.{window_of, with_window, without_window}
 use Rattle.rd_state.proofs.ByNumber.{NumberedWindow, window-here, window-there, with-here, with-there, without-here, without-there}
@@ -72,6 +70,3 @@ window-became f n (e ∷ rest) = elim (cases_eq e.0 n) [
 ]
 
 -- ---- buffers
-
-pub buffer-there : (bs : List BufferValue) (k : ℕ) → k < length bs → (b : BufferValue) × (slice_get bs k ≡ Some b)
-buffer-there bs k h = (get_or bs k (new_buffer []), slice_get-get_or bs k (new_buffer []) h)

@@ -10,7 +10,7 @@ use Rattle.std.specs.Prelude.{IfSome, IsTrue, option_map, slice_get, slice_index
 use Rattle.rd_base.proofs.Choices.{map-some, some-of}
 use Rattle.rd_base.specs.Chars.{is_code}
 use Rattle.rd_base.specs.declared.element.Element.{Element}
-use Rattle.rd_base.proofs.Lists.{each-append}
+use Rattle.rd_base.proofs.Lists.{each-append, element-at}
 use Rattle.rd_blocks.specs.Rows.{block_cutting}
 use Rattle.rd_blocks.specs.Sources.{rows_in, text_source}
 use Rattle.rd_items.specs.Pieces.{scene_in}
@@ -53,7 +53,6 @@ use Rattle.rd_layout.specs.Laws.{FitLaws}
 use Rattle.rd_layout.specs.Panes.{cells_of_pieces, facts_of, margin_of, margin_text, mode_line, pane_of, text_of, widths_of}
 use Rattle.rd_layout.specs.Screens.{cursor_at, cursor_by, frame_in, pane_at, pane_by}
 use Rattle.rd_layout.specs.Windows.{place_of, places, shown_buffer, view_in, wanted_of, window_shape, window_source}
-use Rattle.rd_layout.proofs.ByNumber.{buffer-there}
 use Rattle.rd_layout.proofs.Placed.{all-places, number-of}
 use Rattle.rd_layout.proofs.Settling.{is-shape, shown-is}
 
@@ -179,7 +178,7 @@ module _ (laws : FitLaws) (files : Data) (s : StateValue) (valid : IsValid s) wh
 
   pub shown-right : (w : WindowState) → IsWindow s.buffers w → IsContent s.objects (shown_content s w)
   shown-right w window =
-      let b = buffer-there s.buffers w.buffer window.made in
+      let b = element-at s.buffers w.buffer window.made in
       subst (IsContent s.objects) (sym (shown-is laws.views s valid w b.0 b.1)) (valid.buffers.contents w.buffer b.0 b.1)
 
   -- what holds of all rows of a window's text holds of those in view

@@ -1,5 +1,6 @@
 -- The rows of a known layout that the blocks of its window keep are the rows that they have now.
 use Rattle.std.proofs.Common.{◌≡◌, inl, inr, ℕ, Bool, true, false, if◌then◌else◌, Option, None, Some, List, [], sym, ap, refl, subst}
+use Rattle.rd_base.proofs.Lists.{element-at}
 use Rattle.rd_blocks.specs.Kept.{AreRowsAt, Follows}
 use Rattle.rd_blocks.specs.Sources.{text_source}
 use Rattle.rd_matrix.specs.Sources.{SourceValues}
@@ -22,7 +23,6 @@ use Rattle.rd_window.specs.declared.layout.Layout.{Layout}
 use Rattle.rd_layout.specs.Sessions.{SessionValue, layout_of}
 use Rattle.rd_layout.specs.Since.{IsKnown, IsSession}
 use Rattle.rd_layout.specs.Windows.{window_source}
-use Rattle.rd_layout.proofs.ByNumber.{buffer-there}
 
 -- what the layers below say
 pub record KeptLaws : Type 0 where
@@ -59,7 +59,7 @@ module _ (laws : KeptLaws) (files : Data) (s : StateValue) (w : WindowState) (te
 
 text-of : (s : StateValue) (w : WindowState) → IsValid s → IsWindow s.buffers w → IsText (shown_content s w).text
 text-of s w valid window =
-    let b = buffer-there s.buffers w.buffer window.made in
+    let b = element-at s.buffers w.buffer window.made in
     subst (λ (c : ContentValue). IsText c.text) (sym (ap content_in b.1)) (valid.buffers.contents w.buffer b.0 b.1).text
 
 pub kept-session : KeptLaws → ((s : StateValue) (number : ℕ) (w : WindowState) → IsValid s → window_of number s.windows ≡ Some w → IsWindow s.buffers w)

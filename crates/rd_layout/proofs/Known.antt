@@ -4,6 +4,7 @@ use Rattle.std.proofs.lemmas.Bool.{cases_eq, cond-false, cond-true, eq-eqb, ne_e
 use Rattle.std.specs.Prelude.{slice_get, option_map}
 use Rattle.rd_base.proofs.Choices.{map-some}
 use Rattle.std.proofs.lemmas.Result.{IfOk-at_ok}
+use Rattle.rd_base.proofs.Lists.{element-at}
 use Rattle.rd_blocks.specs.Leads.{LeadsTo}
 use Rattle.rd_objects.specs.Sound.{Extends}
 use Rattle.rd_objects.specs.Things.{ObjectLists}
@@ -42,7 +43,6 @@ use Rattle.rd_layout.specs.Pointing.{hitting_by, is_shown, pointed, stepped_to}
 use Rattle.rd_layout.specs.Sessions.{IsStep, SessionValue, behind, is_frame, layout_of, opened, session_step}
 use Rattle.rd_layout.specs.Since.{FitsFrame, IsKnown, IsSession}
 use Rattle.rd_layout.proofs.Calm.{Calm, Quiet, calm-step}
-use Rattle.rd_layout.proofs.ByNumber.{buffer-there}
 use Rattle.rd_layout.proofs.Leading.{effect-leads}
 use Rattle.rd_layout.specs.Windows.{place_of, window_shape, window_source}
 use Rattle.rd_layout.proofs.Over.{OverLaws, first-none, joined-change, joined-none, objects-over}
@@ -106,8 +106,8 @@ module _ (laws : StepLaws) (s t : StateValue) (op : Op) (valid : IsValid s) (for
   same-leads : (k number : ℕ) (w v : WindowState) → w.buffer ≡ k → v.buffer ≡ k → k < length s.buffers → k < length t.buffers
       → LeadsTo (seen (shown_content s w)) s.objects (seen (shown_content t v)) t.objects (change_by (effect_of s op) number k)
   same-leads k number w v here there old new =
-      let b = buffer-there s.buffers k old in
-      let c = buffer-there t.buffers k new in
+      let b = element-at s.buffers k old in
+      let c = element-at t.buffers k new in
       let content = valid.buffers.contents k b.0 b.1 in
       let first : shown_content s w ≡ b.0.content = ap (λ j. content_in (slice_get s.buffers j)) here ∙ ap content_in b.1 in
       let second : shown_content t v ≡ c.0.content = ap (λ j. content_in (slice_get t.buffers j)) there ∙ ap content_in c.1 in
@@ -143,8 +143,8 @@ module _ (laws : StepLaws) (s t : StateValue) (op : Op) (valid : IsValid s) (for
   stands-by files number w v l hw hv known same nothing before forced =
       let window = (laws.found s number w valid hw).made in
       let behind = (laws.found t number v (laws.valid s t op valid form is) hv).made in
-      let b = buffer-there s.buffers w.buffer window in
-      let c = buffer-there t.buffers v.buffer behind in
+      let b = element-at s.buffers w.buffer window in
+      let c = element-at t.buffers v.buffer behind in
       let content = valid.buffers.contents w.buffer b.0 b.1 in
       let quiet : Quiet (effect_of s op) number v.buffer = ap is_none nothing in
       let stay = calm-here.windows number w v hw hv (subst (Quiet (effect_of s op) number) same quiet) in

@@ -3,6 +3,7 @@ use Rattle.std.proofs.Common.{◌≡◌, inl, inr, ℕ, suc, ◌<◌, ◌≤◌,
 use Rattle.std.proofs.lemmas.Bool.{cases_eq}
 use Rattle.std.proofs.lemmas.List.{length-map, length-replicate}
 use Rattle.std.proofs.lemmas.List.Elements.{All-replicate}
+use Rattle.rd_base.proofs.Lists.{element-at}
 use Rattle.std.specs.Prelude.{IfSome, slice_get, option_map}
 use Rattle.rd_base.proofs.Choices.{map-some}
 use Rattle.rd_base.specs.Faces.{plain}
@@ -49,7 +50,7 @@ use Rattle.rd_layout.specs.Screens.{laid_out, settled_by, settled_state}
 use Rattle.rd_layout.specs.Sessions.{SessionValue, layout_of}
 use Rattle.rd_layout.specs.Since.{FitsFrame, IsKnown, IsSession}
 use Rattle.rd_layout.specs.Windows.{place_of, places, wanted_of, window_shape, window_source}
-use Rattle.rd_layout.proofs.ByNumber.{buffer-there, window-became}
+use Rattle.rd_layout.proofs.ByNumber.{window-became}
 use Rattle.rd_layout.proofs.Known.{Last, layout-here, layout-there}
 use Rattle.rd_layout.proofs.Over.{new-change}
 use Rattle.rd_layout.proofs.Placed.{bands-within, made-number, placed-at}
@@ -155,7 +156,7 @@ module _ (laws : SendLaws) (files : Data) (s : StateValue) (valid : IsValid s) w
       → IsLaidOut last (window_source files s x) (window_shape s x p) (wanted_of s x p) l → IsKnown files (settled_state files s) w l
   known-by p x w last l at window settled laid =
       let same : w.buffer ≡ x.buffer = ap (λ (y : WindowState). y.buffer) (sym settled) in
-      let b = buffer-there s.buffers x.buffer window.made in
+      let b = element-at s.buffers x.buffer window.made in
       let m = window_source files s x in
       let shape = window_shape s x p in
       let content = valid.buffers.contents x.buffer b.0 b.1 in

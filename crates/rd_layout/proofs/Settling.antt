@@ -1,8 +1,9 @@
 -- A redisplay leaves a valid state valid: the starts and the points that it chooses are accessible.
 use Rattle.std.proofs.Common.{◌≡◌, ℕ, ◌+◌, ◌-◌, ◌<◌, ◌≤◌, Bool, true, false, if◌then◌else◌, Option, None, Some, List, [], ◌∷◌, map, sym, ap, refl, subst, ◌∙◌, arith}
 use Rattle.std.proofs.lemmas.Option.{slice_get-map}
+use Rattle.rd_base.proofs.Lists.{element-at}
 use Rattle.std.specs.Prelude.{IsSome, slice_get, option_map}
-use Rattle.rd_base.proofs.Choices.{map-some}
+use Rattle.rd_base.proofs.Choices.{map-some, is_some-map}
 use Rattle.rd_blocks.specs.Bases.{block_in, blocks_in}
 use Rattle.rd_frame.specs.Panes.{has_border}
 use Rattle.rd_items.specs.Blocks.{Adjoin, blocks_of}
@@ -22,7 +23,7 @@ use Rattle.rd_ucd.specs.declared.spans.Span.{Span}
 use Rattle.rd_layout.specs.Laws.{ViewLaws}
 use Rattle.rd_layout.specs.Screens.{settled_at, settled_by, settled_state}
 use Rattle.rd_layout.specs.Windows.{place_of, view_in, wanted_of, window_shape, window_source}
-use Rattle.rd_layout.proofs.ByNumber.{buffer-there, window-became}
+use Rattle.rd_layout.proofs.ByNumber.{window-became}
 use Rattle.rd_state.proofs.ByNumber.{NumberedWindow}
 use Rattle.rd_layout.proofs.Chosen.{chosen-anchor, chosen-point}
 
@@ -102,7 +103,7 @@ module _ (laws : ViewLaws) (files : Data) (s : StateValue) (valid : IsValid s) w
   pub chosen-accessible : (number : ℕ) (w : WindowState) (place : Placed) → place_of number s ≡ Some place → IsWindow s.buffers w
       → IsAccessible (shown_content s w).text (view_in files s w place).anchor.pos × IsAccessible (shown_content s w).text (view_in files s w place).point
   chosen-accessible number w place there window =
-      let b = buffer-there s.buffers w.buffer window.made in
+      let b = element-at s.buffers w.buffer window.made in
       let both = view-accessible number w place b.0 there b.1 window in
       let same = sym (shown-is laws s valid w b.0 b.1) in (
         subst (λ (c : ContentValue). IsAccessible c.text (view_in files s w place).anchor.pos) same both.0,
@@ -139,10 +140,6 @@ module _ (laws : ViewLaws) (files : Data) (s : StateValue) (valid : IsValid s) w
   none-stays number None h = refl
   none-stays number (Some w) h = absurd (cc)
 
-  some-stays : (number : ℕ) (o : Option WindowState) → IsSome o → IsSome (option_map (settled number) o)
-  some-stays number None h = h
-  some-stays number (Some w) h = refl
-
   apart-stays : (ws : List NumberedWindow) → AreApart ws → AreApart (map (settled_at files s) ws)
   apart-stays [] h = tt
   apart-stays (e ∷ rest) h = (window-became settled e.0 rest ∙ none-stays e.0 (window_of e.0 rest) h.0, apart-stays rest h.1)
@@ -155,7 +152,7 @@ module _ (laws : ViewLaws) (files : Data) (s : StateValue) (valid : IsValid s) w
     each = λ k e at.
         let d = map-some (settled_at files s) (slice_get s.windows k) e (sym (slice_get-map (settled_at files s) s.windows k) ∙ at) in
         subst (λ (x : NumberedWindow). IsWindow s.buffers x.1) d.2 (settled-window d.0.0 d.0.1 (place_of d.0.0 s) refl (valid.windows.each k d.0 d.1));
-    selected = subst IsSome (sym (window-became settled s.selected s.windows)) (some-stays s.selected (window_of s.selected s.windows) valid.windows.selected);
+    selected = subst IsSome (sym (window-became settled s.selected s.windows)) (is_some-map (settled s.selected) (window_of s.selected s.windows) valid.windows.selected);
   }
 
   pub state-stays : IsValid (settled_state files s)

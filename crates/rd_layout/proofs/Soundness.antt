@@ -3,6 +3,7 @@ use Rattle.std.proofs.Common.{◌≡◌, ℕ, ◌+◌, ◌==◌, ◌&&◌, Bool,
 use Rattle.std.proofs.lemmas.Bool.{and_parts, eqb-true, or_left}
 use Rattle.std.proofs.lemmas.List.Elements.{All-cons, All-map, All-nil, recursion_from_All}
 use Rattle.std.proofs.lemmas.Option.{get_or_from_slice_get, slice_get_within}
+use Rattle.rd_base.proofs.Lists.{element-at}
 use Rattle.std.specs.List.{All, list_all}
 use Rattle.std.specs.Prelude.{IfSome, IsTrue, slice_index_or}
 use Rattle.std.specs.Str.{chars}
@@ -50,7 +51,6 @@ use Rattle.rd_layout.specs.Laws.{FitLaws}
 use Rattle.rd_layout.specs.Panes.{border_in, border_slot, cells_of_pieces, facts_of, margin_of, mode_line, pane_of, widths_of}
 use Rattle.rd_layout.specs.Screens.{frame_in, laid_out, pane_at, pane_by}
 use Rattle.rd_layout.specs.Windows.{place_of, shown_buffer, view_in, window_shape}
-use Rattle.rd_layout.proofs.ByNumber.{buffer-there}
 use Rattle.rd_layout.proofs.Fitting.{fits, in-view, line-small, margin-right, place-window, view-whole}
 use Rattle.rd_layout.proofs.Placed.{all-places}
 
@@ -113,7 +113,7 @@ module _ (laws : SoundLaws) (files : Data) (s : StateValue) (valid : IsValid s) 
 
   facts-right : (w : WindowState) (v : WindowView) → IsWindow s.buffers w → AreFacts (facts_of (shown_buffer s w) v)
   facts-right w v window =
-      let b = buffer-there s.buffers w.buffer window.made in
+      let b = element-at s.buffers w.buffer window.made in
       let is : b.0 ≡ shown_buffer s w = sym (ap (λ (o : Option BufferValue). unwrap_or o (new_buffer [])) b.1) in
       subst (λ (x : BufferValue). AreFacts (facts_of x v)) is
       (record { name = name-codes b.0.name (valid.buffers.names w.buffer b.0 b.1); line = line-small b.0.content.text v.point (valid.buffers.contents w.buffer b.0 b.1).text })

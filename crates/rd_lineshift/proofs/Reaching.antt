@@ -4,9 +4,9 @@ use Rattle.std.specs.Prelude.{ℤ, pos, negsuc, unsigned_abs, IsSome}
 use Rattle.std.specs.List.{AllByRecursion, flat_map}
 use Rattle.std.proofs.lemmas.Bool.Decides.{nat_tests}
 use Rattle.std.proofs.lemmas.List.{length-map, length-take-le, length-drop, length-replicate}
-use Rattle.std.proofs.lemmas.List.Elements.{recursion_from_All, All-from_recursion, All-take, All-drop, All-nil}
+use Rattle.std.proofs.lemmas.List.Elements.{recursion_from_All, All-take, All-drop, All-nil}
 use Rattle.std.specs.Char.{is_ascii_digit}
-use Rattle.rd_base.proofs.Lists.{each-append}
+use Rattle.rd_base.proofs.Lists.{each-append, all-one}
 use Rattle.rd_base.specs.Faces.{Attributes, plain}
 use Rattle.rd_base.specs.declared.cell.Cell.{Cell}
 use Rattle.rd_term.specs.Controls.{control_of}
@@ -44,16 +44,13 @@ Reads = (t : Tty) (last n : ℕ) (ns : List ℕ) → t.confused ≡ false → t.
 abbrev pub Cuts : Type 0
 Cuts = (t : Tty) (xs ys : List ℕ) → feed_bytes t (xs ++ ys) ≡ feed_bytes (feed_bytes t xs) ys
 
-one-small : (n : ℕ) → n ≤ 65535 → All (λ k. k ≤ 65535) (n ∷ [])
-one-small n h = All-from_recursion (λ k. k ≤ 65535) (n ∷ []) (h, tt)
-
 region-fed : Reads → (r : Place) (rows : Rows) (cursor : Place) (wait : Bool) (pen : Option Attributes) (latest : Place) (top bottom : ℕ)
     → top + 1 < bottom → bottom ≤ length rows → bottom ≤ 65535
     → feed_bytes (standing r rows cursor wait pen latest) (region (top + 1) bottom) ≡ standing (Some (top, bottom - 1)) rows None false pen None
 region-fed reads r rows cursor wait pen latest top bottom order within small =
     let test : (nat_lt 0 (top + 1) && nat_lt (top + 1) bottom && nat_le bottom (length rows)) ≡ true = grind (arith, nat_tests) in
     let e : top + 1 - 1 ≡ top = omega arith in
-    reads (standing r rows cursor wait pen latest) 114 (top + 1) (bottom ∷ []) refl refl refl refl (omega arith) (one-small bottom small) (omega arith)
+    reads (standing r rows cursor wait pen latest) 114 (top + 1) (bottom ∷ []) refl refl refl refl (omega arith) (all-one (λ (k : ℕ). k ≤ 65535) bottom small) (omega arith)
     ∙ rw (test, e) refl
 
 move-fed : Reads → (r : Place) (rows : Rows) (cursor : Place) (wait : Bool) (pen : Option Attributes) (latest : Place) (row : ℕ)
@@ -62,7 +59,7 @@ move-fed : Reads → (r : Place) (rows : Rows) (cursor : Place) (wait : Bool) (p
 move-fed reads r rows cursor wait pen latest row here some small =
     let e : row + 1 - 1 ≡ row = omega arith in
     let test : on_screen rows (row + 1) 1 ≡ true = rw e (grind (arith, nat_tests)) in
-    reads (standing r rows cursor wait pen latest) 72 (row + 1) (1 ∷ []) refl refl refl refl small (one-small 1 (omega arith)) (omega arith)
+    reads (standing r rows cursor wait pen latest) 72 (row + 1) (1 ∷ []) refl refl refl refl small (all-one (λ (k : ℕ). k ≤ 65535) 1 (omega arith)) (omega arith)
     ∙ rw (test, e) refl
 
 -- the rows as the terminal moves them

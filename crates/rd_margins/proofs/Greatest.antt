@@ -11,21 +11,18 @@ use Rattle.std.specs.Option.{option_or}
 use Rattle.std.proofs.lemmas.List.{get_or_default}
 use Rattle.std.proofs.lemmas.List.Elements.{Contains-get_or}
 use Rattle.std.proofs.lemmas.Option.{none-some}
+use Rattle.rd_base.proofs.Choices.{none-both}
 use Rattle.rd_overlays.specs.declared.overlay.Overlay.{Overlay}
 use Rattle.rd_overlays.specs.Listings.{Ascends, HoldsExactly, Passes, rank_of}
 use Rattle.rd_overlays.specs.Overlays.{covers, overlay_at, precedes}
 use Rattle.rd_margins.specs.Laws.{IsGreatest, ShowsMark}
 use Rattle.rd_margins.specs.Marks.{MarkValues, last_mark}
 
-none-or : (a b : Option ℕ) → option_or a b ≡ None → (a ≡ None) × (b ≡ None)
-none-or None b e = (refl, e)
-none-or (Some x) b e = absurd (none-some x (sym e))
-
 -- where there is no last one, none of them has one
 none-has : (m : MarkValues) (ns : List ℕ) (j : ℕ) → last_mark m ns ≡ None → j < length ns → get m (get_or ns j 0) ≡ None
 none-has m [] j e inside = absurd (omega arith)
-none-has m (n ∷ ns) zero e inside = (none-or (last_mark m ns) (get m n) e).1
-none-has m (n ∷ ns) (suc j) e inside = none-has m ns j (none-or (last_mark m ns) (get m n) e).0 (omega arith)
+none-has m (n ∷ ns) zero e inside = (none-both (last_mark m ns) (get m n) e).1
+none-has m (n ∷ ns) (suc j) e inside = none-has m ns j (none-both (last_mark m ns) (get m n) e).0 (omega arith)
 
 -- the place of the last one
 record LastAt (m : MarkValues) (ns : List ℕ) (string : ℕ) : Type 0 where

@@ -1,16 +1,15 @@
 -- Blocks with their lines, as a source.
-use Rattle.std.proofs.Common.{◌≡◌, ℕ, zero, suc, ◌+◌, ◌-◌, ◌<◌, ◌≤◌, ◌&&◌, nat_le, nat_lt, nat_eq, Bool, true, false, cond, IsTrue, List, [], ◌∷◌, ◌++◌, length, get_or, map, All, inl, inr, Option, None, Some, refl, ap, sym, ◌∙◌, subst, arith}
+use Rattle.std.proofs.Common.{◌≡◌, ℕ, zero, suc, ◌+◌, ◌-◌, ◌<◌, ◌≤◌, ◌&&◌, nat_le, nat_lt, nat_eq, Bool, true, false, IsTrue, List, [], ◌∷◌, ◌++◌, length, get_or, map, All, inl, inr, Option, None, Some, refl, ap, sym, ◌∙◌, subst, arith}
 use Rattle.std.specs.Prelude.{count_by, slice_get, option_map}
 use Rattle.std.proofs.lemmas.Bool.Decides.{nat_tests}
 use Rattle.std.proofs.lemmas.Bool.{and_parts, cases_lt}
 use Rattle.std.proofs.lemmas.Option.{slice_get-map, slice_get_within, slice_get_read}
 use Rattle.std.proofs.lemmas.List.Elements.{All-cons, All-nil, All-tail, All-append}
-use Rattle.std.proofs.lemmas.List.Sums.{sum_by-cons}
 use Rattle.std.proofs.lemmas.Simd.{map-map}
 use Rattle.rd_base.specs.Elements.{ends_once}
 use Rattle.rd_base.specs.declared.cell.Glyph.{Glyph}
 use Rattle.rd_base.specs.declared.element.Element.{Element}
-use Rattle.rd_base.proofs.Lists.{all-at}
+use Rattle.rd_base.proofs.Lists.{all-at, count-cons}
 use Rattle.rd_matrix.specs.Blocks.{IsAmong, IsWithin, HoldsPosition, StandFrom, first_start, end_from, block_before}
 use Rattle.rd_matrix.specs.Columns.{covers}
 use Rattle.rd_matrix.specs.Held.{blocks_held, laid_at, laid_from, source_of, in_range, covers_each, are_inside, IsHeld, AreHeld}
@@ -84,9 +83,6 @@ laid-there from (suc k) (g ∷ hs) h shape stand i =
     rw b (laid-there g.block.end k hs h shape stand.2 i)
 
 -- the items of a block
-
-count-cons : {X : Type 0} (p : X → Bool) (x : X) (xs : List X) → count_by p (x ∷ xs) ≡ cond (p x) 1 0 + count_by p xs
-count-cons p x xs = sum_by-cons (λ y. cond (p y) 1 0) x xs
 
 pub count-same : (p : Begin → Bool) (q : ℕ × ℕ → Bool) (bs : List Begin) → ((b : Begin) → p b ≡ q (range_of b)) → count_by p bs ≡ count_by q (map range_of bs)
 count-same p q [] h = refl

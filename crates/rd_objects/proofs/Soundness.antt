@@ -202,7 +202,7 @@ goes_one xs x = (x ∷ [], refl)
 goes_further : {X : Type 0} (xs ys zs : List X) → GoesOn xs ys → GoesOn ys zs → GoesOn xs zs
 goes_further xs ys zs a b = (a.0 ++ b.0, rw (b.1, a.1, append_assoc) refl)
 
-goes_kept : {X : Type 0} (xs ys : List X) (i : ℕ) → GoesOn xs ys → i < length xs → slice_get ys i ≡ slice_get xs i
+pub goes_kept : {X : Type 0} (xs ys : List X) (i : ℕ) → GoesOn xs ys → i < length xs → slice_get ys i ≡ slice_get xs i
 goes_kept xs ys i a p = rw a.1 (get-first xs a.0 i p)
 
 pub extends_itself : (o : ObjectLists) → Extends o o

@@ -7,7 +7,7 @@ use Rattle.std.specs.List.{AllByRecursion, flat_map}
 use Rattle.std.specs.Option.{MatchOption}
 use Rattle.std.specs.Prelude.{option_map, slice_get}
 use Rattle.rd_base.proofs.Choices.{map-some}
-use Rattle.rd_base.proofs.Lists.{ended}
+use Rattle.rd_base.proofs.Lists.{ended, element-at}
 use Rattle.rd_state.specs.States.{BufferValue, StateValue, opening_window}
 use Rattle.rd_state.specs.Valid.{IsValid}
 use Rattle.rd_state.specs.Windows.{leaf_of, window_of}
@@ -19,7 +19,6 @@ use Rattle.rd_tree.specs.declared.placed.Placed.{Placed}
 use Rattle.rd_ucd.specs.Data.{Data}
 use Rattle.rd_window.specs.Views.{WindowView}
 use Rattle.rd_layout.specs.Windows.{place_of, places, view_in, views_at, views_by, views_in}
-use Rattle.rd_layout.proofs.ByNumber.{buffer-there}
 use Rattle.rd_layout.proofs.Placed.{all-places, number-of}
 use Rattle.rd_paint.specs.Laws.{LeafLaws}
 use Rattle.rd_paint.specs.Shown.{IsLeaf, painted_of}
@@ -82,7 +81,7 @@ module _ (laws : LeafLaws) (s : StateValue) (valid : IsValid s) where
 
   pub shows-buffer : (number : ℕ) (w : WindowState) → window_of number s.windows ≡ Some w → None ≡ option_map painted_of (slice_get s.buffers w.buffer) → ⊥
   shows-buffer number w at none =
-      let b = buffer-there s.buffers w.buffer (laws.found s number w valid at).made in
+      let b = element-at s.buffers w.buffer (laws.found s number w valid at).made in
       some-none (painted_of b.0) (option_map painted_of (slice_get s.buffers w.buffer)) (ap (option_map painted_of) b.1) (sym none)
 
   pub is-leaf : (i number : ℕ) (p : Placed) (w : WindowState) (content : BufferValue) → slice_get (leaves s.tree.windows) i ≡ Some number → place_of number s ≡ Some p

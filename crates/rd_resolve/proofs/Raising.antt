@@ -1,6 +1,6 @@
 -- One step of the walk that raises a line's levels (I1, I2).
 use Rattle.std.proofs.Common.{◌≡◌, ℕ, ◌+◌, ◌<◌, ◌≤◌, true, false, if◌then◌else◌, List, [], ◌∷◌, ◌++◌, length, take, drop, set, get_or, slice_get, Some, All, refl, ap, sym, ◌∙◌, add-zero, arith}
-use Rattle.std.proofs.lemmas.List.{drop-set-lt, drop-drop, take_more_set, get_or-drop, append_assoc}
+use Rattle.std.proofs.lemmas.List.{take_more_set, get_or-drop, append_assoc}
 use Rattle.std.proofs.lemmas.Option.{get_or_from_slice_get}
 use Rattle.rd_base.proofs.Lists.{drop-at}
 use Rattle.rd_base.specs.Classes.{is_removed}
@@ -15,9 +15,6 @@ bounded xs ys i r all same within read =
     let low : get_or ys i 0 ≤ 125 = all i 0 within in
     let e : r ≡ get_or ys i 0 = sym (get_or_from_slice_get xs i r 0 read) ∙ sym (front xs i) ∙ ap (λ zs. get_or zs 0 0) same ∙ front ys i in
     omega arith
-
-pub left-on : (xs ys : List ℕ) (i v : ℕ) → drop i xs ≡ drop i ys → drop (i + 1) (set xs i v) ≡ drop (i + 1) ys
-left-on xs ys i v same = drop-set-lt (i + 1) xs i v (omega arith) ∙ sym (drop-drop 1 i xs) ∙ ap (drop 1) same ∙ drop-drop 1 i ys
 
 kept-step : (before own : ℕ) (c : Class) (cs : List Class) (ls : List ℕ) (v : ℕ) → v ≡ (if is_removed c then before else own)
     → kept before (c ∷ cs) (own ∷ ls) ≡ v ∷ kept v cs ls

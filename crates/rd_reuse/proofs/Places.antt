@@ -3,7 +3,7 @@ use Rattle.std.proofs.Common.{◌≡◌, ℕ, zero, suc, ◌+◌, ◌-◌, ◌<�
 use Rattle.std.proofs.lemmas.Bool.{cases_lt}
 use Rattle.std.proofs.lemmas.List.{length-append}
 use Rattle.std.specs.List.{slice_get}
-use Rattle.rd_base.proofs.Lists.{get-first, get-second}
+use Rattle.rd_base.proofs.Lists.{get-first, get-second, at-seam}
 use Rattle.rd_base.specs.declared.settings.Anchor.{Anchor}
 use Rattle.rd_matrix.proofs.HeldLemmas.{later-start}
 use Rattle.rd_matrix.proofs.Counting.{all-append, count-cons, length-numbered}
@@ -12,7 +12,6 @@ use Rattle.rd_matrix.specs.Entries.{EntryMeaning, all_rows, entries_of, numbered
 use Rattle.rd_matrix.specs.Sources.{SourceValues, IsSource, rows_at}
 use Rattle.rd_matrix.specs.declared.block.Block.{Block}
 use Rattle.rd_reuse.specs.Views.{Names, anchor_of}
-use Rattle.rd_reuse.proofs.Lists.{at-seam}
 use Rattle.rd_rows.specs.Laws.{ends_last}
 use Rattle.rd_rows.specs.Rows.{RowMeaning}
 use Rattle.rd_rows.specs.Shapes.{ShapeValues}

@@ -5,6 +5,7 @@ use Rattle.std.proofs.lemmas.Bool.Decides.{nat_tests}
 use Rattle.std.proofs.lemmas.List.{append-nil, append_assoc, drop-map, length-append, length-drop, length-map, length-take, map-append, take-map}
 use Rattle.std.proofs.lemmas.List.Elements.{All-append, All-drop, All-nil, All-take}
 use Rattle.std.proofs.lemmas.Option.{slice_get-map}
+use Rattle.rd_base.proofs.Lists.{at-seam, none-left}
 use Rattle.std.specs.List.{list_any, range_with_len}
 use Rattle.rd_base.specs.declared.settings.Anchor.{Anchor}
 use Rattle.rd_matrix.proofs.Counting.{all-append, any-range, costs-behind, costs-here, length-numbered}
@@ -18,7 +19,7 @@ use Rattle.rd_reuse.specs.Keeping.{copied_rows, entry_under, fresh_cost, is_kept
 use Rattle.rd_reuse.specs.Laying.{placed}
 use Rattle.rd_reuse.specs.Views.{IsCopied, Names, fresh_costs, is_in_view}
 use Rattle.rd_reuse.specs.declared.change.Change.{Change}
-use Rattle.rd_reuse.proofs.Lists.{at-seam, behind-seam, filled-more, filled-size}
+use Rattle.rd_reuse.proofs.Lists.{behind-seam, filled-more, filled-size}
 use Rattle.rd_matrix.proofs.HeldLemmas.{later-start}
 use Rattle.rd_reuse.proofs.Places.{anchor-found, count-last, holding, some-row}
 use Rattle.rd_reuse.proofs.Placing.{all-placed, none-left, shown-placed}
@@ -92,10 +93,6 @@ record First (bs : List Block) (b : Block) : Type 0 where
 first-of : (bs : List Block) (b : Block) → slice_get bs 0 ≡ Some b → First bs b
 first-of [] b h = absurd cc
 first-of (x ∷ bs) b h = let same : x ≡ b = cc in record { rest = bs; is = ap (λ y. y ∷ bs) same }
-
-none-of : (bs : List Block) → slice_get bs 0 ≡ None → bs ≡ []
-none-of [] h = refl
-none-of (x ∷ bs) h = absurd cc
 
 -- a row that is taken is that of the first entry with its number
 
@@ -268,7 +265,7 @@ module _ {m : SourceValues} {old : List Entry} {c : Change} {shape : ShapeValues
   ends laid new e is next =
       ap shown_entries is
       ∙ (none-left (most - length (shown_entries (grown laid))) 0 (shown_entries (grown laid))
-      ∙ (ap (λ bs. shown_entries (grown laid) ++ take (most - length (shown_entries (grown laid))) (all_rows (λ b. m.rows_of b shape) bs)) (sym (none-of w.after (next-first None next)))
+      ∙ (ap (λ bs. shown_entries (grown laid) ++ take (most - length (shown_entries (grown laid))) (all_rows (λ b. m.rows_of b shape) bs)) (sym (none-left w.after 0 (next-first None next)))
       ∙ left laid e))
 
   -- and with enough rows

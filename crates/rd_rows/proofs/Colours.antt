@@ -10,7 +10,7 @@ use Rattle.rd_base.specs.declared.cell.Cell.TheVariants.{Blank, First, Rest}
 use Rattle.rd_base.specs.declared.cell.Glyph.{Glyph}
 use Rattle.rd_base.specs.declared.element.Element.{Element}
 use Rattle.rd_base.proofs.Colours.{plain-coloured, blanks-coloured}
-use Rattle.rd_base.proofs.Lists.{all-front, all-back}
+use Rattle.rd_base.proofs.Lists.{all-front, all-back, all-one}
 use Rattle.rd_rows.specs.declared.cutting.Cutting.{Cutting}
 use Rattle.rd_rows.specs.declared.spot.Placed.{Placed}
 use Rattle.rd_rows.specs.declared.spot.Spot.{Spot}
@@ -29,9 +29,6 @@ HaveColours (p ∷ ps) = HasColours p.element.face × HaveColours ps
 
 with-rests : (cell : Cell) (n : ℕ) → IsColoured cell → All IsColoured (cell ∷ replicate n Rest)
 with-rests cell n h = All-cons IsColoured cell (replicate n Rest) h (All-replicate IsColoured n Rest tt)
-
-one-coloured : (cell : Cell) → IsColoured cell → All IsColoured (cell ∷ [])
-one-coloured cell h = All-cons IsColoured cell [] h (All-nil IsColoured)
 
 -- the cells of an element
 
@@ -57,7 +54,7 @@ all-coloured from to (p ∷ ps) h =
 
 front-coloured : (c : Cutting) (used : ℕ) → All IsColoured (front_mark c used)
 front-coloured c used =
-    either (All IsColoured) (nat_lt 0 c.shape.hscroll && nat_lt 0 used) _ _ (one-coloured (mark c.truncation) (mark-coloured c.truncation)) (All-nil IsColoured)
+    either (All IsColoured) (nat_lt 0 c.shape.hscroll && nat_lt 0 used) _ _ (all-one IsColoured (mark c.truncation) (mark-coloured c.truncation)) (All-nil IsColoured)
 
 last-coloured : (c : Cutting) (used : ℕ) (continued : Bool) → IsColoured (last_cell c used continued)
 last-coloured c used continued =
@@ -87,7 +84,7 @@ row-coloured c used continued ps h =
     let rest = blanks-coloured (room c.shape - length body) plain plain-coloured in
     edge-coloured c.reversed (filled (room c.shape) body ++ last)
     (All-append IsColoured (filled (room c.shape) body) last
-    (All-append IsColoured body (blanks (room c.shape - length body) plain) cells rest) (one-coloured _ (last-coloured c used continued)))
+    (All-append IsColoured body (blanks (room c.shape - length body) plain) cells rest) (all-one IsColoured _ (last-coloured c used continued)))
 
 -- the rows of a line
 

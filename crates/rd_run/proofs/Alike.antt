@@ -2,6 +2,7 @@
 use Rattle.std.proofs.Common.{◌≡◌, ℕ, suc, ◌+◌, ◌<◌, ◌≤◌, ◌⊎◌, inl, inr, List, [], ◌∷◌, ◌++◌, length, drop, Option, None, Some, refl, sym, ap, ◌∙◌, subst, append_assoc, append-nil, arith}
 use Rattle.std.specs.List.{AllByRecursion}
 use Rattle.std.proofs.lemmas.List.{take-append-drop, length_push}
+use Rattle.std.proofs.lemmas.Option.{same_Some, none-some}
 use Rattle.rd_generate.specs.Generated.{script as generated}
 use Rattle.rd_io.specs.Devices.{Rose}
 use Rattle.rd_io.specs.Lines.{lines_of}
@@ -79,12 +80,6 @@ not-further : (o : Option ℕ) (n : ℕ) (line : List ℕ) (more lines : List (L
 not-further o n line more lines s (inl a) e passes = no-line lines line more a.0 e
 not-further o n line more lines s (inr a) e passes = not-run o n a.0 line s (head-of a.0 line a.1 more (sym a.2 ∙ e)) a.3 passes
 
-same-fault : (o : Option ScriptFault) (a b : ScriptFault) → o ≡ Some a → o ≡ Some b → a ≡ b
-same-fault o a b p q = let e : Some a ≡ Some b = sym p ∙ q in cc
-
-no-fault : (o : Option ScriptFault) (a : ScriptFault) → o ≡ Some a → o ≡ None → ⊥
-no-fault o a p q = let e : Some a ≡ None = sym p ∙ q in cc
-
 -- as many lines were run, and the run stands at the same
 pub record AreRunAlike (w : World) (ts us : List Input) : Type 0 where
   pub same : run w ts ≡ run w us
@@ -95,9 +90,9 @@ behind-alike : (o : Option ℕ) (w : World) (n : ℕ) (ts us : List Input) (more
     → StopsAt w n ts s ⊎ ((w.fault ≡ None) × Stops o w (n + 1) ts more s) → StopsAt w n us r ⊎ ((w.fault ≡ None) × Stops o w (n + 1) us more r) → AreRunAlike w ts us × (s ≡ r)
 behind-alike o w n ts us more s r on (inl a) (inl b) =
     let none : ts ≡ us = a.2 ∙ sym b.2 in
-    (record { same = ap (run w) none; count = ap length none }, a.3 ∙ ap (λ fault. BadScript (n + 1) fault) (same-fault w.fault a.0 b.0 a.1 b.1) ∙ sym b.3)
-behind-alike o w n ts us more s r on (inl a) (inr b) = absurd (no-fault w.fault a.0 a.1 b.0)
-behind-alike o w n ts us more s r on (inr a) (inl b) = absurd (no-fault w.fault b.0 b.1 a.0)
+    (record { same = ap (run w) none; count = ap length none }, a.3 ∙ ap (λ fault. BadScript (n + 1) fault) (same_Some a.0 b.0 (sym a.1 ∙ b.1)) ∙ sym b.3)
+behind-alike o w n ts us more s r on (inl a) (inr b) = absurd (none-some a.0 (sym b.0 ∙ a.1))
+behind-alike o w n ts us more s r on (inr a) (inl b) = absurd (none-some b.0 (sym a.0 ∙ b.1))
 behind-alike o w n ts us more s r on (inr a) (inr b) = on a.1 b.1
 
 stops-alike : (o : Option ℕ) (w : World) (n : ℕ) (ts us : List Input) (lines : List (List ℕ)) (s r : Status) → AreStarvedAlike w ts us → Stops o w n ts lines s → Stops o w n us lines r

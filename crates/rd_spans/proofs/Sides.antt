@@ -417,10 +417,6 @@ pub some-value : (o : Option ℕ) → is_some o ≡ true → o ≡ None → ⊥
 some-value None h e = cc
 some-value (Some v) h e = cc
 
-pub no-value : (o : Option ℕ) → is_some o ≡ false → o ≡ None
-no-value None h = refl
-no-value (Some v) h = absurd (cc)
-
 pub not-same : (a b : Option ℕ) → same_value a b ≡ false → a ≡ b → ⊥
 not-same a b h e =
     let g : same_value b b ≡ false = subst (λ (x : Option ℕ). same_value x b ≡ false) e h in

@@ -3,11 +3,11 @@ use Rattle.std.proofs.Common.{ℕ, suc, zero, ◌+◌, ◌==◌, Bool, true, fal
 use Rattle.std.specs.Prelude.{if◌then◌else◌, slice_get}
 use Rattle.std.specs.List.{flat_map, range_with_len, AllByRecursion}
 use Rattle.std.proofs.lemmas.Bool.{cond_both}
-use Rattle.std.proofs.lemmas.List.Elements.{All-nil, All-cons, All-map, All-append, recursion_from_All}
+use Rattle.std.proofs.lemmas.List.Elements.{All-nil, All-map, All-append, recursion_from_All}
 use Rattle.rd_base.specs.Cells.{HasColours}
 use Rattle.rd_base.specs.Faces.{Attributes, plain}
 use Rattle.rd_base.proofs.Colours.{plain-coloured, over-coloured}
-use Rattle.rd_base.proofs.Lists.{each-append}
+use Rattle.rd_base.proofs.Lists.{each-append, all-one}
 use Rattle.rd_base.specs.declared.cell.Glyph.{Glyph}
 use Rattle.rd_base.specs.declared.element.Element.{Element}
 use Rattle.rd_base.specs.declared.element.Extent.TheVariants.{Fixed, Column}
@@ -47,7 +47,7 @@ abbrev IsColoured : Element → Type 0
 IsColoured e = HasColours e.face
 
 one : (e : Element) → HasColours e.face → AreColoured (e ∷ [])
-one e h = All-cons IsColoured e [] h (All-nil IsColoured)
+one e h = all-one IsColoured e h
 
 each : {X : Type 0} (f : X → List Element) (P : X → Type 0) → ((x : X) → P x → AreColoured (f x)) → (xs : List X) → AllByRecursion P xs → AreColoured (flat_map f xs)
 each f P own [] all = All-nil IsColoured

@@ -6,7 +6,7 @@ use Rattle.std.proofs.lemmas.Bool.{cond_both}
 use Rattle.std.proofs.lemmas.List.Elements.{All-nil, All-cons, All-append, All-head, All-tail}
 use Rattle.rd_base.proofs.Choices.{if-value}
 use Rattle.rd_base.specs.Faces.{Attributes, plain}
-use Rattle.rd_base.proofs.Lists.{all-at}
+use Rattle.rd_base.proofs.Lists.{all-at, all-one}
 use Rattle.rd_base.specs.Settings.{SettingValues}
 use Rattle.rd_base.specs.declared.cell.Glyph.{Glyph}
 use Rattle.rd_base.specs.declared.element.Element.{Element}
@@ -39,9 +39,6 @@ use Rattle.rd_stack.specs.declared.part.Place.{Place}
 use Rattle.rd_stack.specs.declared.part.Shown.{Shown}
 
 -- ---- lists and options
-
-one : {X : Type 0} (P : X → Type 0) (x : X) → P x → All P (x ∷ [])
-one P x is = All-cons P x [] is (All-nil P)
 
 found-by : {X : Type 0} (P : X → Type 0) (xs : List X) (i : ℕ) (found : Option X) → All P xs → slice_get xs i ≡ found → IfSome found P
 found-by P xs i None all e = tt
@@ -87,7 +84,7 @@ module _ (s : Scene) (closed : IsClosed s.objects) where
 
   shown-fine : (odd : Bool) (found : Option Part) → IfSome found IsFine → All IsFineShown (shown_by odd found)
   shown-fine odd None fine = All-nil IsFineShown
-  shown-fine odd (Some x) fine = one IsFineShown (record { kind = x.kind; face = x.face; odd = odd }) fine
+  shown-fine odd (Some x) fine = all-one IsFineShown (record { kind = x.kind; face = x.face; odd = odd }) fine
 
   turns-fine : (xs : List Part) (turns : List Turn) → All IsFine xs → All IsFineShown (flat_map (shown_at xs) turns)
   turns-fine xs [] all = All-nil IsFineShown
@@ -104,7 +101,7 @@ module _ (s : Scene) (closed : IsClosed s.objects) where
       cond_both (ends_row p) (row s base xs ++ row_end p.face ∷ rows_from s base [] ps) (rows_from s base (xs ++ part_of s p ∷ []) ps) (All IsFineShown)
       (λ ends. All-append IsFineShown (row s base xs) (row_end p.face ∷ rows_from s base [] ps) (row-fine base xs all)
       (All-cons IsFineShown (row_end p.face) (rows_from s base [] ps) tt (rows-fine base [] ps (All-nil IsFine))))
-      (λ goes. rows-fine base (xs ++ part_of s p ∷ []) ps (All-append IsFine xs (part_of s p ∷ []) all (one IsFine (part_of s p) (by-fine p.spec p))))
+      (λ goes. rows-fine base (xs ++ part_of s p ∷ []) ps (All-append IsFine xs (part_of s p ∷ []) all (all-one IsFine (part_of s p) (by-fine p.spec p))))
 
 -- ---- what stays
 
@@ -169,7 +166,7 @@ module _ (old new : Scene) (goes : GoesOnFrom old new) (closed : IsClosed old.ob
   heads-made before [] made = made
   heads-made before (p ∷ ps) made =
       All-append IsMade (if same_spec before p.spec then [] else p ∷ []) (run_heads p.spec ps)
-      (cond_both (same_spec before p.spec) [] (p ∷ []) (All IsMade) (λ goes. All-nil IsMade) (λ heads. one IsMade p (All-head IsMade p ps made)))
+      (cond_both (same_spec before p.spec) [] (p ∷ []) (All IsMade) (λ goes. All-nil IsMade) (λ heads. all-one IsMade p (All-head IsMade p ps made)))
       (heads-made p.spec ps (All-tail IsMade p ps made))
 
   -- a string that was made

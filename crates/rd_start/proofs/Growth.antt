@@ -65,10 +65,6 @@ pub head-of : (after : List Block) (b : Block) → slice_get after 0 ≡ Some b 
 head-of [] b e = absurd cc
 head-of (x ∷ after) b e = let here : x ≡ b = cc in (after, ap (λ z. z ∷ after) here)
 
-pub none-behind : (after : List Block) → slice_get after 0 ≡ None → after ≡ []
-none-behind [] e = refl
-none-behind (x ∷ after) e = absurd cc
-
 pub some-of : (m : SourceValues) (sweep : Sweep) (bs : List Block) (ls : List Line) (at : ℕ) (b : Block) → IsStripOf m sweep bs ls at → IsAmong m.blocks b → 0 < length (rows_in m sweep b)
 some-of m sweep bs ls at b h among = some-row b.start b.end (rows_in m sweep b) (h.source.rows b sweep.shape among h.shape)
 

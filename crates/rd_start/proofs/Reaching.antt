@@ -3,7 +3,7 @@ use Rattle.std.proofs.Common.{◌≡◌, ℕ, ◌+◌, ◌-◌, ◌<◌, ◌≤�
 use Rattle.std.proofs.lemmas.List.{append_assoc, length-append, length-map}
 use Rattle.std.specs.List.{slice_get}
 use Rattle.std.specs.Prelude.{IfOk, IsErr, MatchResult}
-use Rattle.rd_base.proofs.Lists.{get-second}
+use Rattle.rd_base.proofs.Lists.{get-second, none-left}
 use Rattle.rd_base.specs.declared.memory.Memory.{Memory}
 use Rattle.rd_matrix.proofs.Counting.{count-cons}
 use Rattle.rd_matrix.specs.Blocks.{IsAmong, block_before}
@@ -18,7 +18,7 @@ use Rattle.rd_start.specs.declared.strip.Line.{Line}
 use Rattle.rd_start.specs.declared.strip.Strip.{Strip}
 use Rattle.rd_start.specs.declared.strip.Sweep.{Sweep}
 use Rattle.rd_start.proofs.Blocks.{count-append}
-use Rattle.rd_start.proofs.Growth.{affords, affords-pieces, before-none, before-some, first-place, head-of, last-place, length-joined, length-lines, none-behind, paid-above, paid-below, pieces-above, pieces-below, some-of, strip-joined}
+use Rattle.rd_start.proofs.Growth.{affords, affords-pieces, before-none, before-some, first-place, head-of, last-place, length-joined, length-lines, paid-above, paid-below, pieces-above, pieces-below, some-of, strip-joined}
 use Rattle.rd_start.proofs.Results.{of-err}
 use Rattle.rd_start.proofs.Rows.{total-is}
 
@@ -65,7 +65,7 @@ no-next : (m : SourceValues) (s : Strip) (last : Block) → IsStrip m s → slic
     → first_row m s + length s.lines.items ≡ count_in m s.sweep m.blocks
 no-next m s last h at gives =
     let p = last-place m.blocks h.before s.blocks.items h.after last h.pieces h.some at in
-    let e = none-behind h.after (sym p.next ∙ sym (gives p.place p.here)) in
+    let e = none-left h.after 0 (sym p.next ∙ sym (gives p.place p.here)) in
     let none = ap (λ ys. length (all_rows (rows_in m s.sweep) ys)) e in
     let home = h.home in
     let total = total-is m s.sweep s.blocks.items s.lines.items s.home h in

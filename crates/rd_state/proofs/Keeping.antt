@@ -1,10 +1,11 @@
 -- What stays valid where one part of a state becomes another.
-use Rattle.std.proofs.Common.{◌≡◌, ◌≢◌, ℕ, ◌+◌, ◌<◌, ◌≤◌, inl, inr, ◌==◌, Bool, true, false, is_some, if◌then◌else◌, Option, None, Some, List, [], ◌∷◌, ◌++◌, length, map, set, get_or, subst, sym, ap, refl, ◌∙◌, arith, length-append}
+use Rattle.std.proofs.Common.{◌≡◌, ◌≢◌, ℕ, ◌+◌, ◌<◌, ◌≤◌, inl, inr, ◌==◌, Bool, true, false, if◌then◌else◌, Some, List, [], ◌∷◌, ◌++◌, length, map, set, get_or, subst, sym, ap, refl, ◌∙◌, arith, length-append}
 use Rattle.std.proofs.lemmas.Bool.{eqb-true, eqb-false, cases_eq}
 use Rattle.std.proofs.lemmas.List.{length-set}
 use Rattle.std.proofs.lemmas.List.Sums.{fails_before_first}
 use Rattle.std.proofs.lemmas.Option.{slice_get_within, get_or_from_slice_get}
 use Rattle.std.proofs.lemmas.Slice.Eq.{bytes_eq-Decides}
+use Rattle.rd_base.proofs.Choices.{is_some-map}
 use Rattle.std.specs.Prelude.{slice_get, slice_set, option_map, IsTrue, IsSome}
 use Rattle.std.specs.Str.{bytes_eq}
 use Rattle.rd_text.specs.Texts.{IsAccessible}
@@ -162,10 +163,6 @@ moved_by i how w = if w.buffer == i then moved how w else w
 leaf-moved : (t : Bool) (how : Move) (w : WindowState) → leaf_of (if t then moved how w else w) ≡ leaf_of w
 leaf-moved true how w = refl
 leaf-moved false how w = refl
-
-is_some-map : {X Y : Type 0} (f : X → Y) (o : Option X) → IsSome o → IsSome (option_map f o)
-is_some-map f None h = h
-is_some-map f (Some x) h = h
 
 pub windows-moved : (bs : List BufferValue) (i : ℕ) (b : BufferValue) (d : ContentValue) (how : Move) (c : tree.Configuration) (ws : List NumberedWindow) (n : ℕ) → slice_get bs i ≡ Some b
     → ((p : ℕ) → IsAccessible b.content.text p → IsAccessible d.text (place_after how p)) → AreWindows bs c ws n

@@ -2,11 +2,12 @@
 use Rattle.std.proofs.Common.{◌≡◌, ◌≢◌, ℕ, ◌≤◌, ◌==◌, ◌||◌, Bool, true, false, is_some, if◌then◌else◌, Option, None, Some, sym, ap, refl, ◌∙◌, arith}
 use Rattle.std.proofs.lemmas.Bool.{eqb-true, false_from_ne_true, cond-false, cond-true, eq-eqb, ne_eqb}
 use Rattle.std.proofs.lemmas.Iterator.Adapters.{option_map_id}
+use Rattle.rd_base.proofs.Choices.{none-both, or-first, map-or, second-holds, none-of}
 use Rattle.std.specs.Prelude.{option_map}
 use Rattle.std.specs.Option.{option_or}
 use Rattle.rd_tree.proofs.Keeping.{is_some-if, is_some-or, not_single}
 use Rattle.rd_tree.proofs.Rooms.{of_number-append}
-use Rattle.rd_tree.proofs.Standing.{held_times, none_of, once_in_first, window_held}
+use Rattle.rd_tree.proofs.Standing.{held_times, once_in_first, window_held}
 use Rattle.rd_tree.specs.declared.placed.Placed.{Placed}
 use Rattle.rd_tree.specs.declared.rect.Rect.{Rect}
 use Rattle.rd_tree.specs.declared.side.Side.{Side}
@@ -19,17 +20,9 @@ Leaf = Bool × ℕ
 
 -- ---- options
 
-or-some : {X : Type 0} (o p : Option X) → is_some o ≡ true → option_or o p ≡ o
-or-some None p h = absurd (cc)
-or-some (Some x) p h = refl
-
 map-or-some : {X Y : Type 0} (f : X → Y) (o p : Option X) (q : Option Y) → is_some o ≡ true → option_or (option_map f o) q ≡ option_map f (option_or o p)
 map-or-some f None p q h = absurd (cc)
 map-or-some f (Some x) p q h = refl
-
-none-both : {X : Type 0} (o p : Option X) → option_or o p ≡ None → (o ≡ None) × (p ≡ None)
-none-both None p h = (refl, h)
-none-both (Some x) p h = absurd (cc)
 
 -- ---- finding
 
@@ -40,7 +33,7 @@ is_some-leaf n (Split side size first second) =
     ∙ (ap (λ (t : Bool). t || is_some (leaf_at n second)) (is_some-leaf n first) ∙ ap (λ (t : Bool). holds n first || t) (is_some-leaf n second))
 
 pub leaf-none : (n : ℕ) (ws : Windows) → holds n ws ≡ false → leaf_at n ws ≡ None
-leaf-none n ws h = none_of (leaf_at n ws) (is_some-leaf n ws ∙ h)
+leaf-none n ws h = none-of (leaf_at n ws) (is_some-leaf n ws ∙ h)
 
 leaf-some : (n : ℕ) (ws : Windows) → holds n ws ≡ true → is_some (leaf_at n ws) ≡ true
 leaf-some n ws h = is_some-leaf n ws ∙ h
@@ -52,7 +45,7 @@ leaf-here : (n m : ℕ) (mode : Bool) (margins : ℕ) → m ≡ n → leaf_at n 
 leaf-here n m mode margins h = cond-true (m == n) (Some (mode, margins)) None (eq-eqb m n h)
 
 or-first : (n : ℕ) (first second : Windows) → holds n first ≡ true → option_or (leaf_at n first) (leaf_at n second) ≡ leaf_at n first
-or-first n first second h = or-some (leaf_at n first) (leaf_at n second) (leaf-some n first h)
+or-first n first second h = or-first (leaf_at n first) (leaf_at n second) (leaf-some n first h)
 
 or-second : (n : ℕ) (first second : Windows) → holds n first ≡ false → option_or (leaf_at n first) (leaf_at n second) ≡ leaf_at n second
 or-second n first second h = ap (λ (o : Option Leaf). option_or o (leaf_at n second)) (leaf-none n first h)
@@ -66,10 +59,6 @@ either-leaf k false a b x h g = g refl
 
 abbrev pub facts : Placed → Leaf
 facts p = (p.mode, p.margins)
-
-map-or : {X Y : Type 0} (f : X → Y) (o p : Option X) → option_map f (option_or o p) ≡ option_or (option_map f o) (option_map f p)
-map-or f None p = refl
-map-or f (Some x) p = refl
 
 map-if : (t : Bool) (x : Placed) → option_map facts (if t then Some x else None) ≡ (if t then Some (facts x) else None)
 map-if true x = refl
@@ -182,10 +171,6 @@ removed-other n k (Split side size first second) rect ne =
     (λ f. ap (λ (o : Option Leaf). option_or o (leaf_at k second)) (removed-other n k first (first_part side size rect) ne))
     (λ f. ap (option_or (leaf_at k first)) (removed-other n k second (second_part side size rect) ne))))
 
-held-second : (a b : Bool) → (a || b) ≡ true → a ≡ false → b ≡ true
-held-second true b h g = absurd (cc)
-held-second false b h g = h
-
 pub removed-same : (n : ℕ) (ws : Windows) (rect : Rect) → times n ws ≤ 1 → holds n ws ≡ true → is_single ws ≡ false → leaf_at n (removed n ws rect) ≡ None
 removed-same n (Window m mode margins) rect once held many = absurd (cc)
 removed-same n (Split side size first second) rect once held many =
@@ -202,7 +187,7 @@ removed-same n (Split side size first second) rect once held many =
     (λ g. either-leaf n (holds n first) in_first in_second None
     (λ f. ap (λ (o : Option Leaf). option_or o (leaf_at n second)) (removed-same n first (first_part side size rect) (omega arith) f (not_single n first h f)) ∙ not_second f)
     (λ f.
-    let other = held-second (holds n first) (holds n second) held f in
+    let other = second-holds (holds n first) (holds n second) f held in
     ap (λ (o : Option Leaf). option_or o (leaf_at n (removed n second (second_part side size rect)))) (not_first other)
     ∙ removed-same n second (second_part side size rect) (omega arith) other (not_single n second g other))))
 
@@ -211,7 +196,7 @@ removed-same n (Split side size first second) rect once held many =
 first-held : (ws : Windows) → is_some (leaf_at (first_leaf ws) ws) ≡ true
 first-held (Window m mode margins) = ap (λ (o : Option Leaf). is_some o) (leaf-here m m mode margins refl)
 first-held (Split side size first second) =
-    ap (λ (o : Option Leaf). is_some o) (or-some (leaf_at (first_leaf first) first) (leaf_at (first_leaf first) second) (first-held first)) ∙ first-held first
+    ap (λ (o : Option Leaf). is_some o) (or-first (leaf_at (first_leaf first) first) (leaf_at (first_leaf first) second) (first-held first)) ∙ first-held first
 
 resized-held : (ws : Windows) (rect : Rect) → is_some (leaf_at (first_leaf ws) (resized ws rect)) ≡ true
 resized-held ws rect = ap (λ (o : Option Leaf). is_some o) (leaf-resized (first_leaf ws) ws rect) ∙ first-held ws
@@ -241,6 +226,6 @@ heir-held n (Split side size first second) rect held many =
     (λ f. some-or (leaf_at (first_leaf (sibling n first)) (removed n first (first_part side size rect))) (leaf_at (first_leaf (sibling n first)) second)
     (heir-held n first (first_part side size rect) f (not_single n first h f)))
     (λ f.
-    let other = held-second (holds n first) (holds n second) held f in
+    let other = second-holds (holds n first) (holds n second) f held in
     or-held (leaf_at (first_leaf (sibling n second)) first) (leaf_at (first_leaf (sibling n second)) (removed n second (second_part side size rect)))
     (heir-held n second (second_part side size rect) other (not_single n second g other)))))

@@ -1,5 +1,5 @@
 -- A list whose elements become others one after the other.
-use Rattle.std.proofs.Common.{◌≡◌, ℕ, zero, suc, ◌+◌, ◌<◌, Some, List, [], ◌∷◌, ◌++◌, length, map, set, get_or, take, drop, ap, sym, refl, ◌∙◌, arith}
+use Rattle.std.proofs.Common.{◌≡◌, ℕ, zero, suc, ◌+◌, ◌<◌, Some, List, [], ◌∷◌, ◌++◌, length, map, set, get_or, take, drop, ap, sym, refl, ◌∙◌, arith, add-one}
 use Rattle.std.proofs.lemmas.Option.{slice_get-get_or}
 use Rattle.std.specs.Prelude.{slice_get}
 
@@ -24,9 +24,6 @@ mixed-length f [] (suc i) = refl
 mixed-length f (x ∷ xs) zero = refl
 mixed-length f (x ∷ xs) (suc i) = ap suc (mixed-length f xs i)
 
-next : (i : ℕ) → suc i ≡ i + 1
-next i = omega arith
-
 -- the next element is one of the old list
 pub next-is : {X : Type 0} (f : X → X) (xs now : List X) (i : ℕ) (x : X) → now ≡ mixed f i xs → i < length xs → x ≡ get_or now i x → slice_get xs i ≡ Some x
 next-is f xs now i x is less at =
@@ -36,4 +33,4 @@ next-is f xs now i x is less at =
 -- and becomes another
 pub next-becomes : {X : Type 0} (f : X → X) (xs now : List X) (i : ℕ) (x y : X) → now ≡ mixed f i xs → i < length xs → x ≡ get_or now i x → y ≡ f x → set now i y ≡ mixed f (i + 1) xs
 next-becomes f xs now i x y is less at new =
-    ap (λ ys. set ys i y) is ∙ (ap (set (mixed f i xs) i) new ∙ (mixed-set f xs i x (next-is f xs now i x is less at) ∙ ap (λ n. mixed f n xs) (next i)))
+    ap (λ ys. set ys i y) is ∙ (ap (set (mixed f i xs) i) new ∙ (mixed-set f xs i x (next-is f xs now i x is less at) ∙ ap (λ n. mixed f n xs) (sym (add-one i))))

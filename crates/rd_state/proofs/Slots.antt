@@ -1,9 +1,10 @@
 -- A display table of an op in form keeps what tables keep.
-use Rattle.std.proofs.Common.{◌≡◌, ℕ, ◌≤◌, ◌&&◌, ◌||◌, ◌==◌, not, Bool, true, false, if◌then◌else◌, nat_le, List, [], ◌∷◌, length, map, Option, None, Some, subst, ap, refl, ◌∙◌, arith, IsTrue}
+use Rattle.std.proofs.Common.{◌≡◌, ℕ, ◌≤◌, ◌&&◌, ◌||◌, ◌==◌, not, Bool, true, false, nat_le, List, [], ◌∷◌, length, map, Option, None, Some, subst, ap, refl, ◌∙◌, arith, IsTrue}
 use Rattle.std.proofs.lemmas.Bool.{and_parts, and_from}
 use Rattle.std.proofs.lemmas.Bool.Decides.{nat_tests}
 use Rattle.std.proofs.lemmas.List.{length-map}
 use Rattle.std.proofs.lemmas.List.Elements.{All-map, All-weaker}
+use Rattle.rd_base.proofs.Choices.{either}
 use Rattle.std.specs.List.{list_all}
 use Rattle.std.specs.Prelude.{All, option_map}
 use Rattle.unicode_width.proofs.Rules.{width_or_zero-le}
@@ -18,12 +19,8 @@ use Rattle.rd_script.specs.Forms.{is_glyph, is_glyph_text, is_slot, IsSlot, IsEl
 use Rattle.rd_script.specs.declared.object.OpEntry.{OpEntry}
 use Rattle.rd_state.specs.Making.{glyph_of, entry_of, table_of}
 
-few-if : (t : Bool) (n : ℕ) → n ≤ 3 → (if t then n else 0) ≤ 3
-few-if true n h = h
-few-if false n h = omega arith
-
 few-columns : (c : ℕ) → columns c ≤ 3
-few-columns c = few-if (is_scalar c) _ (width_or_zero-le false c)
+few-columns c = either (λ (k : ℕ). k ≤ 3) (is_scalar c) _ 0 (width_or_zero-le false c) (omega arith)
 
 neither : (a b : Bool) → not (a || b) ≡ true → (not a ≡ true) × (b ≡ false)
 neither true b h = absurd (cc)

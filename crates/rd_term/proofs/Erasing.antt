@@ -1,6 +1,7 @@
 -- What is erased, step by step, and that it keeps its size.
 use Rattle.std.proofs.Common.{◌≡◌, ℕ, ◌+◌, ◌-◌, ◌<◌, ◌≤◌, List, [], ◌∷◌, ◌++◌, length, get_or, set, take, drop, map, replicate, Option, Some, sym, ap, ◌∙◌, arith, append_assoc, drop_of_length-le, le_refl, append-nil}
-use Rattle.std.proofs.lemmas.List.{take_more_set, replicate_more, map_more, drop-set-lt, drop-drop, get_or-drop, length-replicate}
+use Rattle.std.proofs.lemmas.List.{take_more_set, replicate_more, map_more, get_or-drop, length-replicate}
+use Rattle.rd_base.proofs.Lists.{drop-next}
 use Rattle.rd_base.specs.declared.cell.Cell.{Cell}
 use Rattle.rd_term.specs.Pictures.{blank}
 use Rattle.rd_term.specs.Overwriting.{later_columns}
@@ -17,12 +18,6 @@ erased_more row whole column i y lt le e =
     ∙ ap (λ xs. xs ++ y ∷ []) e
     ∙ append_assoc (take column whole) (replicate (i - column) y) (y ∷ [])
     ∙ ap (λ xs. take column whole ++ xs) (replicate_more (i - column) y ∙ ap (λ k. replicate k y) n)
-
--- what stands from the next place on is as it was
-pub drop-next : {X : Type 0} (row whole : List X) (i : ℕ) (y : X) → drop i row ≡ drop i whole → drop (i + 1) (set row i y) ≡ drop (i + 1) whole
-drop-next row whole i y below =
-    let next : i < i + 1 = omega arith in
-    drop-set-lt (i + 1) row i y next ∙ sym (drop-drop 1 i row) ∙ ap (drop 1) below ∙ drop-drop 1 i whole
 
 -- a row in place of one of the same row made new, where those before it were and those from it on were not
 pub rows_more : {X : Type 0} (f : X → X) (rows whole : List X) (i : ℕ) (new d : X) → i < length rows → length rows ≡ length whole

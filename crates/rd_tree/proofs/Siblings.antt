@@ -1,7 +1,8 @@
 -- What a removal gives the sibling.
-use Rattle.std.proofs.Common.{◌≡◌, ℕ, ◌≤◌, true, false, Option, None, Some, inl, inr, refl, ap, ◌∙◌, arith}
+use Rattle.std.proofs.Common.{◌≡◌, ℕ, ◌≤◌, true, false, Option, inl, inr, refl, ap, ◌∙◌, arith}
 use Rattle.std.specs.Prelude.{is_some}
 use Rattle.std.proofs.lemmas.Bool.{cases_Bool, or_left, or_right}
+use Rattle.rd_base.proofs.Choices.{or-first}
 use Rattle.std.specs.Option.{option_or}
 use Rattle.rd_tree.specs.declared.rect.Rect.{Rect}
 use Rattle.rd_tree.specs.declared.placed.Placed.{Placed}
@@ -25,10 +26,6 @@ sibling_held v n (Split side size first second) e =
       ]
     ]
 
-or-some : (o other : Option Placed) → is_some o ≡ true → option_or o other ≡ o
-or-some None other e = absurd (cc)
-or-some (Some window) other e = refl
-
 -- the sibling shares the rectangle that it had with the removed window
 pub removed_sibling : (v n : ℕ) (windows : Windows) (rect : Rect) → times v windows ≤ 1 → holds v (sibling n windows) ≡ true → window_at v (removed n windows rect) rect ≡ window_at v (resized (sibling n windows) (shared_place n windows rect)) (shared_place n windows rect)
 removed_sibling v n (Window number mode margins) rect once e = refl
@@ -47,7 +44,7 @@ removed_sibling v n (Split side size first second) rect once e =
               rw (p, q, h)
               (two_lists v side size (removed n first a) second rect
               ∙ (ap (λ (o : Option Placed). option_or o (window_at v second b)) (removed_sibling v n first a (omega arith) held)
-              ∙ or-some (window_at v (resized (sibling n first) place) place) (window_at v second b) there))
+              ∙ or-first (window_at v (resized (sibling n first) place) place) (window_at v second b) there))
           | inr h ↦
               let held : holds v (sibling n second) ≡ true = rw (p, q, h) at e in
               let away : holds v first ≡ false = once_in_first v first second once (sibling_held v n second held) in

@@ -6,7 +6,7 @@ use Rattle.std.proofs.Math.Bool.{or_assoc, or-false}
 use Rattle.std.proofs.lemmas.Bool.Decides.{nat_tests}
 use Rattle.std.proofs.lemmas.List.{map-append}
 use Rattle.std.specs.Option.{option_or}
-use Rattle.rd_base.proofs.Choices.{none-chosen}
+use Rattle.rd_base.proofs.Choices.{none-chosen, none-of, second-holds}
 use Rattle.rd_base.specs.Cells.{bit_of}
 use Rattle.rd_tree.specs.declared.rect.Rect.{Rect}
 use Rattle.rd_tree.specs.declared.side.Side.{Side}
@@ -97,10 +97,6 @@ in_place-front w others (window ∷ xs) ys e =
       | inr p ↦ rw p (ap (λ (zs : List Placed). window ∷ zs) (in_place-front w others xs ys (rw p at e)))
     ]
 
-pub none_of : {X : Type 0} (o : Option X) → is_some o ≡ false → o ≡ None
-none_of None e = refl
-none_of (Some x) e = absurd (cc)
-
 at_place : (b : Bool) (others : Placed → List Placed) (other same : Windows) (rect : Rect) (window : Placed) → placed other rect ≡ others window → placed same rect ≡ window ∷ [] → placed (if b then other else same) rect ≡ (if b then others window ++ [] else window ∷ [])
 at_place true others other same rect window e s = rw e (sym (append-nil (others window)))
 at_place false others other same rect window e s = s
@@ -114,7 +110,7 @@ replaced_places w other (Split side size first second) rect =
     let b = second_part side size rect in
     elim (cases_Bool (holds w first)) [
       | inl p ↦ rw (p, in_place-front w (λ window. placed (other window.mode window.margins) window.rect) (placed first a) (placed second b) (found_held w first a ∙ p)) (ap (λ (zs : List Placed). zs ++ placed second b) (replaced_places w other first a))
-      | inr p ↦ rw (p, in_place-back w (λ window. placed (other window.mode window.margins) window.rect) (placed first a) (placed second b) (none_of (window_at w first a) (found_held w first a ∙ p))) (ap (λ (zs : List Placed). placed first a ++ zs) (replaced_places w other second b))
+      | inr p ↦ rw (p, in_place-back w (λ window. placed (other window.mode window.margins) window.rect) (placed first a) (placed second b) (none-of (window_at w first a) (found_held w first a ∙ p))) (ap (λ (zs : List Placed). placed first a ++ zs) (replaced_places w other second b))
     ]
 
 -- the windows of a rectangle that is shared anew are the same in the same order
@@ -192,9 +188,6 @@ once_in_first n first second once e =
       | inr p ↦ p
     ]
 
-held_behind : (n : ℕ) (first second : Windows) → (holds n first || holds n second) ≡ true → holds n first ≡ false → holds n second ≡ true
-held_behind n first second e p = rw p at e
-
 -- a removal takes one number away
 pub removed_leaves : (n : ℕ) (windows : Windows) (rect : Rect) → times n windows ≤ 1 → holds n windows ≡ true → is_single windows ≡ false → leaves (removed n windows rect) ≡ without n (leaves windows)
 removed_leaves n (Window number mode margins) rect once e s = absurd (cc)
@@ -212,7 +205,7 @@ removed_leaves n (Split side size first second) rect once e s =
               rw (p, q, h, without-front n (leaves first) (leaves second) among)
               (ap (λ (zs : List ℕ). zs ++ leaves second) (removed_leaves n first (first_part side size rect) (omega arith) h (not_single n first p h)))
           | inr h ↦
-              let k = held_behind n first second e h in
+              let k = second-holds (holds n first) (holds n second) h e in
               let away : is_among n (leaves first) ≡ false = sym (held_among n first) ∙ h in
               rw (p, q, h, without-back n (leaves first) (leaves second) away)
               (ap (λ (zs : List ℕ). leaves first ++ zs) (removed_leaves n second (second_part side size rect) (omega arith) k (not_single n second q k)))
@@ -221,7 +214,7 @@ removed_leaves n (Split side size first second) rect once e s =
     ]
 
 pub not_found : (v : ℕ) (windows : Windows) (rect : Rect) → holds v windows ≡ false → window_at v windows rect ≡ None
-not_found v windows rect e = none_of (window_at v windows rect) (found_held v windows rect ∙ e)
+not_found v windows rect e = none-of (window_at v windows rect) (found_held v windows rect ∙ e)
 
 other_window : (v n : ℕ) (windows : Windows) → is_leaf_of n windows ≡ true → (v == n) ≡ false → holds v windows ≡ false
 other_window v n (Window number mode margins) e d = grind (arith, nat_tests)

@@ -2,7 +2,7 @@
 use Rattle.std.proofs.Common.{◌≡◌, if◌then◌else◌, ℕ, zero, suc, ◌+◌, ◌-◌, ◌<◌, ◌≤◌, ◌==◌, ◌&&◌, Bool, true, false, nat_lt, nat_le, min, List, [], ◌∷◌, ◌++◌, length, get_or, set, take, drop, map, replicate, Option, None, Some, refl, sym, ap, ◌∙◌, arith, append_assoc, append-nil}
 use Rattle.std.specs.Char.{encode_utf8}
 use Rattle.std.specs.List.{flat_map}
-use Rattle.std.proofs.lemmas.Bool.{and_parts}
+use Rattle.std.proofs.lemmas.Bool.{and_parts, cond-true}
 use Rattle.std.proofs.lemmas.Bool.Decides.{nat_tests}
 use Rattle.std.proofs.lemmas.List.{get_or_at, set_at, take_at, drop_at, drop-drop, drop-append-le, length-append, length-replicate, length-take-le, length-drop, take_more, drop_more, take-append-drop}
 use Rattle.rd_base.specs.Cells.{single}
@@ -143,15 +143,12 @@ grow g k code f six lt at narrow =
     grow-chosen g k code f (is_space (upto g k)) refl six lt at narrow
     ∙ ap (λ (b : Bool). Some (if b then Blank f else First (upto g (suc k)) f)) (sym seen)
 
-encoded-is : (code : ℕ) → is_scalar code ≡ true → encoded code ≡ encode_utf8 code
-encoded-is code e = rw e refl
-
 -- a character is shown by its columns
 pub code_fed : (region : Option (ℕ × ℕ)) → (rows : Rows) (cursor : Option (ℕ × ℕ)) (wait : Bool) (pen : Option Attributes) (latest : Option (ℕ × ℕ)) (code w : ℕ)
     → is_scalar code ≡ true → columns_of code ≡ Some w
     → feed_bytes (standing region rows cursor wait pen latest) (encoded code) ≡ show code (Some w) (standing region rows cursor wait pen latest)
 code_fed region rows cursor wait pen latest code w s e =
-    ap (feed_bytes (standing region rows cursor wait pen latest)) (encoded-is code s) ∙ shown_fed region rows cursor wait pen latest code w s e
+    ap (feed_bytes (standing region rows cursor wait pen latest)) (cond-true (is_scalar code) (encode_utf8 code) [] s) ∙ shown_fed region rows cursor wait pen latest code w s e
 
 -- a row with a glyph as far as it has grown
 abbrev pub with_glyph : Rows → Rows → Row → Row → Cell → Rows

@@ -1,5 +1,6 @@
 -- What the layout of a window asks of its source and its last layout, and what it answers.
 use Rattle.std.proofs.Common.{◌≡◌, ℕ, ◌+◌, ◌≤◌, not, is_some, Option, Some, Result, Ok, Err, sym, ap, subst, subst₂, ◌∙◌}
+use Rattle.rd_base.proofs.Lists.{element-at}
 use Rattle.std.specs.Prelude.{IfOk, IfSome}
 use Rattle.rd_base.specs.declared.memory.Memory.{Memory}
 use Rattle.rd_blocks.specs.Sources.{source_of, text_source}
@@ -28,7 +29,6 @@ use Rattle.rd_layout.specs.Redisplays.{allowance_by}
 use Rattle.rd_layout.specs.Sessions.{SessionValue, layout_of}
 use Rattle.rd_layout.specs.Since.{IsSession}
 use Rattle.rd_layout.specs.Windows.{wanted_of, window_shape, window_source}
-use Rattle.rd_layout.proofs.ByNumber.{buffer-there}
 use Rattle.rd_views.specs.Layings.{IsDesiredAt, IsDesiredBy, layout_in, window_in}
 use Rattle.rd_views.proofs.Desiring.{desired-window}
 
@@ -53,17 +53,17 @@ module _ (laws : LookLaws) (v : SessionValue) (session : IsSession v) (n : ℕ) 
 
   text : IsText (shown_content v.state w).text
   text =
-      let b = buffer-there v.state.buffers w.buffer window.made in
+      let b = element-at v.state.buffers w.buffer window.made in
       subst (λ (c : ContentValue). IsText c.text) (sym (ap content_in b.1)) (session.state.buffers.contents w.buffer b.0 b.1).text
 
   point : IsAccessible (shown_content v.state w).text w.point
   point =
-      let b = buffer-there v.state.buffers w.buffer window.made in
+      let b = element-at v.state.buffers w.buffer window.made in
       subst (λ (c : ContentValue). IsAccessible c.text w.point) (sym (ap content_in b.1)) (window.point b.0 b.1)
 
   anchor : IsAccessible (shown_content v.state w).text w.anchor.pos
   anchor =
-      let b = buffer-there v.state.buffers w.buffer window.made in
+      let b = element-at v.state.buffers w.buffer window.made in
       subst (λ (c : ContentValue). IsAccessible c.text w.anchor.pos) (sym (ap content_in b.1)) (window.anchor b.0 b.1)
 
   pub is-source : IsSource m

@@ -5,7 +5,7 @@ use Rattle.std.proofs.lemmas.List.{drop_more}
 use Rattle.std.proofs.lemmas.Option.{none-some, same_Some}
 use Rattle.std.proofs.lemmas.Iterator.Adapters.{option_map_id}
 use Rattle.std.specs.Prelude.{IsSome, option_map, pos, slice_get}
-use Rattle.rd_base.proofs.Choices.{map-some}
+use Rattle.rd_base.proofs.Choices.{map-some, is_some-map}
 use Rattle.rd_start.specs.Chosen.{chosen_of}
 use Rattle.rd_start.specs.declared.wanted.Chosen.{Chosen}
 use Rattle.rd_state.specs.Shown.{IsShownAt}
@@ -199,15 +199,11 @@ shown-before n m c ws w at = elim (cases_eq n m) [
   | inr q ↦ (w, sym (window-other m n (settle_to c) ws q) ∙ at, refl)
 ]
 
-still-there : (c : Chosen) (o : Option WindowState) → IsSome o → IsSome (option_map (settle_to c) o)
-still-there c None h = h
-still-there c (Some w) h = refl
-
 still-lives : (n m : ℕ) (c : Chosen) (ws : List NumberedWindow) → IsSome (window_of n ws) → IsSome (window_of n (with_window m (settle_to c) ws))
 still-lives n m c ws h = elim (cases_eq n m) [
   | inl p ↦
       subst IsSome (sym (ap (λ (k : ℕ). window_of k (with_window m (settle_to c) ws)) p ∙ window-same m (settle_to c) ws))
-      (still-there c (window_of m ws) (subst (λ (k : ℕ). IsSome (window_of k ws)) p h))
+      (is_some-map (settle_to c) (window_of m ws) (subst (λ (k : ℕ). IsSome (window_of k ws)) p h))
   | inr q ↦ subst IsSome (sym (window-other m n (settle_to c) ws q)) h
 ]
 

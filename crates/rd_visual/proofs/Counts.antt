@@ -5,7 +5,7 @@ use Rattle.std.specs.List.{flat_map}
 use Rattle.std.proofs.lemmas.Bool.{cases_lt}
 use Rattle.std.proofs.lemmas.Bool.Decides.{nat_tests}
 use Rattle.std.proofs.lemmas.Option.{slice_get-map}
-use Rattle.rd_base.proofs.Lists.{count-append}
+use Rattle.rd_base.proofs.Lists.{count-append, count-cons}
 use Rattle.rd_ucd.specs.Data.{Data}
 use Rattle.rd_objects.specs.Things.{ObjectLists}
 use Rattle.rd_text.specs.Texts.{IsText, IsAccessible}
@@ -24,7 +24,6 @@ use Rattle.rd_visual.specs.Motion.{all_ranges, block_ranges, holds, range_by, ra
 use Rattle.rd_visual.specs.Order.{StandBetween, block_items, ordered_ranges}
 use Rattle.rd_visual.specs.Tiles.{AreTiled, IsTiled}
 use Rattle.rd_visual.specs.declared.range.Range.{Range}
-use Rattle.rd_visual.proofs.Items.{count-cons}
 use Rattle.rd_visual.proofs.Listing.{tile-fits}
 use Rattle.rd_visual.proofs.Neighbours.{AreSome}
 use Rattle.rd_visual.proofs.Reordered.{order-stands, turns-permute}

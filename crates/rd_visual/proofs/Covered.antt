@@ -1,11 +1,11 @@
 -- The items of rows that cover a position, and the hits of these rows.
-use Rattle.std.proofs.Common.{◌≡◌, ℕ, zero, suc, ◌+◌, ◌<◌, ◌≤◌, nat_le, nat_lt, Bool, true, false, cond, List, [], ◌∷◌, ◌++◌, length, inl, inr, Option, None, Some, All, refl, ap, sym, ◌∙◌, subst, arith}
+use Rattle.std.proofs.Common.{◌≡◌, ℕ, zero, suc, ◌+◌, ◌<◌, ◌≤◌, nat_le, nat_lt, Bool, true, false, cond, List, [], ◌∷◌, ◌++◌, length, inl, inr, Option, None, Some, All, refl, ap, sym, ◌∙◌, subst, arith, add-one}
 use Rattle.std.specs.Prelude.{count_by, slice_get}
 use Rattle.std.specs.Option.{option_map}
 use Rattle.std.proofs.lemmas.Bool.{and_parts, cases_lt}
 use Rattle.std.proofs.lemmas.Bool.Decides.{nat_tests}
 use Rattle.std.proofs.lemmas.List.Elements.{All-head, All-tail}
-use Rattle.rd_base.proofs.Lists.{count-append}
+use Rattle.rd_base.proofs.Lists.{count-append, count-cons}
 use Rattle.rd_matrix.specs.Blocks.{IsAmong, StandFrom, first_start}
 use Rattle.rd_matrix.specs.Columns.{covers, shown_column}
 use Rattle.rd_matrix.specs.Cursors.{column_shown, cursor_in, or_below}
@@ -18,7 +18,7 @@ use Rattle.rd_rows.specs.Rows.{RowMeaning}
 use Rattle.rd_rows.specs.Shapes.{ShapeValues, IsShape}
 use Rattle.rd_rows.specs.declared.begin.Begin.{Begin}
 use Rattle.rd_visual.specs.Hits.{AreInPositions, AreRowsAt, Fits, begins_at, covers_some, hit_in, item_at, item_of_cell, least_at, reading_column}
-use Rattle.rd_visual.proofs.Items.{count-cons, counted, found-one, found-none, item-again, item-alone, item-column, item-member}
+use Rattle.rd_visual.proofs.Items.{counted, found-one, found-none, item-again, item-alone, item-column, item-member}
 
 -- how many items of these rows cover a position
 abbrev pub count_at : ℕ → List EntryMeaning → ℕ
@@ -123,9 +123,6 @@ counted-row point zero (x ∷ xs) e there =
     subst (λ (y : EntryMeaning). count_by (covers y.start point) y.row.begins ≤ count_at point (x ∷ xs)) same (omega arith)
 counted-row point (suc r) (x ∷ xs) e there = let rest = counted-row point r xs e there in omega (arith, rest)
 
-add-one : (n : ℕ) → suc n ≡ n + 1
-add-one n = omega arith
-
 pub cursor-there : (point r : ℕ) (es : List EntryMeaning) (e : EntryMeaning) (k : ℕ) (b : Begin) → count_at point es ≤ 1 → slice_get es r ≡ Some e → slice_get e.row.begins k ≡ Some b → covers e.start point b ≡ true
     → cursor_in point es ≡ Some (r, shown_column e.row b.column)
 cursor-there point r [] e k b few there place covered = absurd cc
@@ -143,7 +140,7 @@ cursor-there point (suc r) (x ∷ xs) e k b few there place covered =
     let rest : count_at point xs ≤ 1 = omega (arith, few) in
     let found = found-none (covers x.start point) x.row.begins none in
     let column : column_shown point x ≡ None = rw found refl in
-    rw (column, cursor-there point r xs e k b rest there place covered) (ap (λ n. Some (n, shown_column e.row b.column)) (sym (add-one r)))
+    rw (column, cursor-there point r xs e k b rest there place covered) (ap (λ n. Some (n, shown_column e.row b.column)) (add-one r))
 
 -- hits
 

@@ -6,6 +6,7 @@ use Rattle.std.proofs.lemmas.Bool.Decides.{nat_tests}
 use Rattle.std.proofs.lemmas.Grind.{flat_map-append}
 use Rattle.std.proofs.lemmas.List.{map-append, length-map}
 use Rattle.std.proofs.lemmas.List.Elements.{All-nil, All-cons, All-append, All-head, All-tail}
+use Rattle.rd_base.proofs.Lists.{at-seam}
 use Rattle.rd_base.specs.declared.class.Class.{Class}
 use Rattle.rd_base.specs.declared.class.Class.TheVariants.{B}
 use Rattle.rd_objects.specs.Things.{ObjectLists}
@@ -82,10 +83,6 @@ ender-range start x less =
     let covers : nat_lt x.from x.to ≡ true = grind (arith, nat_tests) in
     ap (λ t. if t then range_of start x ∷ [] else []) covers
 
-ender-at : (others : List Item) (ender : Item) → slice_get (others ++ ender ∷ []) (length others) ≡ Some ender
-ender-at [] ender = refl
-ender-at (x ∷ xs) ender = ender-at xs ender
-
 abbrev pub LastLaw : Type 0
 LastLaw = (entries : List BracketEntry) (reorder : Bool) (base : ℕ) (classes : List Class) (codes : List ℕ) → ComesLast (turns_of entries reorder base (classes ++ B ∷ []) codes) (length classes)
 
@@ -139,5 +136,5 @@ module _ (s : BufferValue) (objects : ObjectLists) (files : Data) (b : Block) (t
       ends-by (ranges_in_turn b.start (e.others ++ e.ender ∷ []) comes.front) (ranges_in_turn b.start items (item_turns scene base items))
       (ap (λ l. ranges_in_turn b.start l (item_turns scene base items)) e.whole ∙ ap (flat_map f) comes.whole ∙ flat_map-append f comes.front (comes.last ∷ [])
       ∙ ap (λ l. flat_map f comes.front ++ l)
-      (append-nil (f comes.last) ∙ ap (λ k. range_by b.start (slice_get (e.others ++ e.ender ∷ []) k)) place ∙ ap (range_by b.start) (ender-at e.others e.ender) ∙ ender-range b.start e.ender e.is.some))
+      (append-nil (f comes.last) ∙ ap (λ k. range_by b.start (slice_get (e.others ++ e.ender ∷ []) k)) place ∙ ap (range_by b.start) (at-seam e.others e.ender []) ∙ ender-range b.start e.ender e.is.some))
       (turns-before b.start e.ender.from e.others e.ender comes.front cut.2 low)

@@ -3,7 +3,7 @@ use Rattle.std.proofs.Common.{◌≡◌, ℕ, zero, suc, ◌+◌, ◌≤◌, ◌
 use Rattle.std.specs.Prelude.{count_by, find, slice_get}
 use Rattle.std.proofs.lemmas.Bool.{and_parts}
 use Rattle.std.proofs.lemmas.Bool.Decides.{nat_tests}
-use Rattle.std.proofs.lemmas.List.Sums.{sum_by-cons}
+use Rattle.rd_base.proofs.Lists.{count-cons}
 use Rattle.rd_rows.specs.declared.begin.Begin.{Begin}
 use Rattle.rd_visual.specs.Hits.{covers_some, reaches, nearer, item_at, begins_at}
 
@@ -139,9 +139,6 @@ item-again column [] b found = absurd cc
 item-again column (x ∷ xs) b found = again-cases column x xs b _ _ refl refl (λ c e. item-again column xs c e) found
 
 -- counts
-
-pub count-cons : {X : Type 0} (p : X → Bool) (x : X) (xs : List X) → count_by p (x ∷ xs) ≡ cond (p x) 1 0 + count_by p xs
-count-cons p x xs = sum_by-cons (λ y. cond (p y) 1 0) x xs
 
 pub counted : (p : Begin → Bool) (bs : List Begin) (k : ℕ) (b : Begin) → slice_get bs k ≡ Some b → p b ≡ true → 1 ≤ count_by p bs
 counted p [] k b there passes = absurd cc

@@ -6,7 +6,7 @@ use Rattle.std.proofs.lemmas.Bool.Decides.{nat_tests}
 use Rattle.std.proofs.lemmas.List.{length-drop, length-map}
 use Rattle.std.proofs.lemmas.List.Elements.{All-cons, All-nil}
 use Rattle.std.proofs.lemmas.Option.{same_Some}
-use Rattle.rd_base.proofs.Lists.{drop-at}
+use Rattle.rd_base.proofs.Lists.{drop-at, element-at}
 use Rattle.rd_base.specs.declared.class.Class.{Class}
 use Rattle.rd_props.specs.Seen.{Seen}
 use Rattle.rd_items.specs.Covers.{Tile}
@@ -90,11 +90,6 @@ tile-fits start limit since to (x ∷ xs) (inr next) low =
 
 -- the range beside one, found by its place
 
-pub within-some : {X : Type 0} (xs : List X) (j : ℕ) → j < length xs → (x : X) × (slice_get xs j ≡ Some x)
-within-some [] j low = absurd (omega (arith, low))
-within-some (x ∷ xs) zero low = (x, refl)
-within-some (x ∷ xs) (suc j) low = within-some xs j (omega (arith, low))
-
 -- the one of two ranges from which a step leads to the other
 abbrev pub start_of : Way → Range → Range → Range
 start_of Forward r next = r
@@ -120,8 +115,8 @@ record Pair (place : ℕ) (rs : List Range) : Type 0 where
 
 pair-at : (place : ℕ) (rs : List Range) → 1 ≤ place → place < length rs → Pair place rs
 pair-at place rs some low =
-    let one = within-some rs (place - 1) (omega (arith, some, low)) in
-    let two = within-some rs place low in
+    let one = element-at rs (place - 1) (omega (arith, some, low)) in
+    let two = element-at rs place low in
     let rest = drop-at rs place two.0 two.1 in
     let on : (place - 1) + 1 ≡ place = omega (arith, some) in
     record {

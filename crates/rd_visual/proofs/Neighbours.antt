@@ -2,11 +2,10 @@
 use Rattle.std.proofs.Common.{◌≡◌, ℕ, ◌+◌, ◌<◌, ◌≤◌, Bool, true, false, cond, if◌then◌else◌, List, [], ◌∷◌, ◌++◌, Option, None, Some, refl, sym, ap, subst, ◌∙◌, arith}
 use Rattle.std.specs.Prelude.{count_by}
 use Rattle.std.proofs.lemmas.Bool.Decides.{nat_tests}
-use Rattle.rd_base.proofs.Lists.{count-append}
+use Rattle.rd_base.proofs.Lists.{count-append, count-cons}
 use Rattle.std.proofs.lemmas.Bool.{cond-false}
 use Rattle.rd_visual.specs.Motion.{before, behind, holds, first, last, least}
 use Rattle.rd_visual.specs.declared.range.Range.{Range}
-use Rattle.rd_visual.proofs.Items.{count-cons}
 
 -- each range has a position
 abbrev pub AreSome : List Range → Type 0

@@ -21,8 +21,7 @@ use Rattle.rd_visual.specs.declared.range.Range.{Range}
 use Rattle.rd_visual.specs.declared.way.Way.{Way}
 use Rattle.rd_visual.specs.declared.way.Way.TheVariants.{Forward, Backward}
 use Rattle.rd_visual.proofs.Counts.{block-some}
-use Rattle.rd_base.proofs.Lists.{drop-at, none-left, count-append}
-use Rattle.rd_visual.proofs.Listing.{within-some}
+use Rattle.rd_base.proofs.Lists.{drop-at, none-left, count-append, element-at}
 use Rattle.rd_visual.proofs.Neighbours.{AreSome, before-none, before-some, behind-front, behind-none, behind-some, first-append, last-append}
 
 -- blocks that stand one behind the other
@@ -116,7 +115,7 @@ module _ (f : Block → List Range) (bs : List Block) (pos k : ℕ) (b : Block) 
 
   none-by : (j : ℕ) → j ≤ length bs → block_before bs j ≡ None → last (flat_map f (take j bs)) ≡ None
   none-by zero low at = refl
-  none-by (suc j) low at = absurd (let q = within-some bs j (omega (arith, low)) in let x = q.1 in cc)
+  none-by (suc j) low at = absurd (let q = element-at bs j (omega (arith, low)) in let x = q.1 in cc)
 
   next-at : (o : Option Block) → slice_get bs (k + 1) ≡ o → slice_get bs (suc k) ≡ o
   next-at o at = let one : k + 1 ≡ suc k = omega arith in subst (λ (j : ℕ). slice_get bs j ≡ o) one at

@@ -4,7 +4,7 @@ use Rattle.std.specs.Option.{is_none}
 use Rattle.std.proofs.lemmas.Bool.{and_parts, le-leb, lt-leb, ne_eqb}
 use Rattle.std.proofs.lemmas.List.{append_assoc, length-append, length-drop, length-map, length-take}
 use Rattle.std.proofs.lemmas.Option.{slice_get-map}
-use Rattle.rd_base.proofs.Lists.{get-first, get-second, get-take, get-drop}
+use Rattle.rd_base.proofs.Lists.{get-first, get-second, get-take, get-drop, at-seam}
 use Rattle.rd_base.specs.declared.settings.Anchor.{Anchor}
 use Rattle.rd_matrix.proofs.Counting.{all-append, count-cons, length-numbered}
 use Rattle.rd_matrix.specs.Blocks.{HoldsPosition, StandFrom, block_before, first_start}
@@ -13,7 +13,7 @@ use Rattle.rd_matrix.specs.Sources.{SourceValues, IsSource, rows_at}
 use Rattle.rd_matrix.specs.declared.block.Block.{Block}
 use Rattle.rd_matrix.specs.declared.matrix.Entry.{Entry}
 use Rattle.rd_reuse.specs.Views.{Names, anchor_of}
-use Rattle.rd_reuse.proofs.Lists.{at-seam, behind-seam}
+use Rattle.rd_reuse.proofs.Lists.{behind-seam}
 use Rattle.rd_reuse.proofs.Places.{Found, anchor-found, holding, some-row}
 use Rattle.rd_rows.specs.Laws.{ends_last}
 use Rattle.rd_rows.specs.Rows.{RowMeaning}

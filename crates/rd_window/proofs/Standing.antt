@@ -3,6 +3,7 @@ use Rattle.std.proofs.Common.{◌≡◌, ℕ, suc, ◌+◌, ◌-◌, ◌<◌, �
 use Rattle.std.specs.Option.{unwrap_or}
 use Rattle.std.proofs.lemmas.Bool.{and_parts, cases_Bool, eq-eqb, eqb-true, leb-true, lt-ltb, ltb-true}
 use Rattle.std.proofs.lemmas.Bool.Decides.{nat_tests}
+use Rattle.rd_base.proofs.Lists.{at-seam}
 use Rattle.rd_base.proofs.Choices.{opposite}
 use Rattle.rd_base.specs.declared.settings.Anchor.{Anchor}
 use Rattle.rd_matrix.specs.Blocks.{IsAmong, StandFrom, first_start}
@@ -12,7 +13,6 @@ use Rattle.rd_matrix.specs.declared.block.Block.{Block}
 use Rattle.rd_reuse.specs.Changes.{is_none}
 use Rattle.rd_reuse.specs.Views.{Names}
 use Rattle.rd_reuse.proofs.Changes.{none-is}
-use Rattle.rd_reuse.proofs.Lists.{at-seam}
 use Rattle.rd_matrix.proofs.HeldLemmas.{later-start}
 use Rattle.rd_reuse.proofs.Places.{anchor-found}
 use Rattle.rd_rows.specs.Rows.{RowMeaning}

@@ -1,6 +1,7 @@
 use Rattle.std.proofs.Common.{arith, subst, sym, ◌∙◌}
+use Rattle.rd_base.proofs.Choices.{none-of}
 use Rattle.rd_spans.specs.Sides.{Rises}
-use Rattle.rd_spans.proofs.Sides.{popped-rises, popped-length, trim-values, trim-lighter, trimmed-last, some-value, no-value}
+use Rattle.rd_spans.proofs.Sides.{popped-rises, popped-length, trim-values, trim-lighter, trimmed-last, some-value}
 use Rattle.rd_spans.proofs.side.trim.Goals as goal
 
 pub returns-then-is_some-clause-trimmed : goal.returns-then-is_some-clause-trimmed
@@ -10,7 +11,7 @@ returns-then-is_some-clause-trimmed c =
 
 pub loop-run-preserved : goal.loop-run-preserved
 loop-run-preserved c =
-    let none = no-value c.in-Some.run'.value (sym c.is_some.ensures ∙ c.if-is_some.false) in
+    let none = none-of c.in-Some.run'.value (sym c.is_some.ensures ∙ c.if-is_some.false) in
     let e = c.in-Some.ensures.items in
     let p = popped-rises c.loop-run.runs.items c.pop.new.self.items c.in-Some.run' e c.loop-run.invariant.order in
     let v = c.loop-run.invariant in

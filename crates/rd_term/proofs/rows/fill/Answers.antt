@@ -1,6 +1,7 @@
 use Rattle.std.proofs.Common.{◌<◌, ◌≤◌, ◌+◌, ◌∙◌, length, arith}
 use Rattle.std.proofs.lemmas.List.{length-set}
-use Rattle.rd_term.proofs.Erasing.{erased_more, drop-next}
+use Rattle.rd_base.proofs.Lists.{drop-next}
+use Rattle.rd_term.proofs.Erasing.{erased_more}
 use Rattle.rd_term.proofs.rows.fill.Goals as goal
 
 pub loop-i-preserved : goal.loop-i-preserved
