@@ -38,10 +38,10 @@ one-more first most start old rows r now new number at is added =
     ∙ (ap (λ (n : ℕ). with_row first most (with_rows first most old (placed start 0 rows)) (record { start = start; number = n; row = r })) same
     ∙ (ap (λ es. with_row first most es (record { start = start; number = number; row = r })) is ∙ sym added)))
 
-pub none-left : {X : Type 0} (n k : ℕ) (rows : List X) → rows ≡ rows ++ take n (drop k [])
-none-left zero k rows = sym (append-nil rows)
-none-left (suc n) zero rows = sym (append-nil rows)
-none-left (suc n) (suc k) rows = sym (append-nil rows)
+pub none-added : {X : Type 0} (n k : ℕ) (rows : List X) → rows ≡ rows ++ take n (drop k [])
+none-added zero k rows = sym (append-nil rows)
+none-added (suc n) zero rows = sym (append-nil rows)
+none-added (suc n) (suc k) rows = sym (append-nil rows)
 
 with-wanted : (first most number : ℕ) (rows : List Entry) (e : Entry) → e.number ≡ number → (leb first number && ltb (length rows) most) ≡ true → with_row first most rows e ≡ rows ++ e ∷ []
 with-wanted first most number rows e is both =
@@ -63,7 +63,7 @@ row-room first most rows e low = row-if most rows e (leb first e.number) (ltb (l
 -- the rows that were added: those from `first` on, as far as there was room
 pub rows-added : (first most start number : ℕ) (old : List Entry) (rows : List RowValues) → length old ≤ most
     → with_rows first most old (placed start number rows) ≡ old ++ take (most - length old) (drop (first - number) (placed start number rows))
-rows-added first most start number old [] low = none-left (most - length old) (first - number) old
+rows-added first most start number old [] low = none-added (most - length old) (first - number) old
 rows-added first most start number old (r ∷ rows) low =
     let e : Entry = record { start = start; number = number; row = r } in
     let es = placed start (number + 1) rows in

@@ -22,7 +22,7 @@ use Rattle.rd_reuse.specs.declared.change.Change.{Change}
 use Rattle.rd_reuse.proofs.Lists.{behind-seam, filled-more, filled-size}
 use Rattle.rd_matrix.proofs.HeldLemmas.{later-start}
 use Rattle.rd_reuse.proofs.Places.{anchor-found, count-last, holding, some-row}
-use Rattle.rd_reuse.proofs.Placing.{all-placed, none-left, shown-placed}
+use Rattle.rd_reuse.proofs.Placing.{all-placed, none-added, shown-placed}
 use Rattle.rd_rows.specs.Copies.{RowValues, copied, shown_rows}
 use Rattle.rd_rows.specs.Shapes.{ShapeValues, IsShape}
 
@@ -264,7 +264,7 @@ module _ {m : SourceValues} {old : List Entry} {c : Change} {shape : ShapeValues
       → ((k : ℕ) → slice_get m.blocks k ≡ Some block → None ≡ slice_get m.blocks (k + 1)) → shown_entries new ≡ take most (drop place (rows_at m shape))
   ends laid new e is next =
       ap shown_entries is
-      ∙ (none-left (most - length (shown_entries (grown laid))) 0 (shown_entries (grown laid))
+      ∙ (none-added (most - length (shown_entries (grown laid))) 0 (shown_entries (grown laid))
       ∙ (ap (λ bs. shown_entries (grown laid) ++ take (most - length (shown_entries (grown laid))) (all_rows (λ b. m.rows_of b shape) bs)) (sym (none-left w.after 0 (next-first None next)))
       ∙ left laid e))
 
