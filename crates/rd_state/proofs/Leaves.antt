@@ -44,8 +44,8 @@ leaf-past n m mode margins h = cond-false (m == n) (Some (mode, margins)) None (
 leaf-here : (n m : ℕ) (mode : Bool) (margins : ℕ) → m ≡ n → leaf_at n (Window m mode margins) ≡ Some (mode, margins)
 leaf-here n m mode margins h = cond-true (m == n) (Some (mode, margins)) None (eq-eqb m n h)
 
-or-first : (n : ℕ) (first second : Windows) → holds n first ≡ true → option_or (leaf_at n first) (leaf_at n second) ≡ leaf_at n first
-or-first n first second h = or-first (leaf_at n first) (leaf_at n second) (leaf-some n first h)
+leaf-first : (n : ℕ) (first second : Windows) → holds n first ≡ true → option_or (leaf_at n first) (leaf_at n second) ≡ leaf_at n first
+leaf-first n first second h = or-first (leaf_at n first) (leaf_at n second) (leaf-some n first h)
 
 or-second : (n : ℕ) (first second : Windows) → holds n first ≡ false → option_or (leaf_at n first) (leaf_at n second) ≡ leaf_at n second
 or-second n first second h = ap (λ (o : Option Leaf). option_or o (leaf_at n second)) (leaf-none n first h)
@@ -141,7 +141,7 @@ split-new n side size new (Split s z first second) ne none =
     either-leaf new (holds n first) (Split s z (split_at n side size new first) second) (Split s z first (split_at n side size new second))
     (option_or (leaf_at n first) (leaf_at n second))
     (λ h. ap (λ (o : Option Leaf). option_or o (leaf_at new second)) (split-new n side size new first ne parts.0)
-    ∙ (ap (option_or (leaf_at n first)) parts.1 ∙ (or-none (leaf_at n first) ∙ sym (or-first n first second h))))
+    ∙ (ap (option_or (leaf_at n first)) parts.1 ∙ (or-none (leaf_at n first) ∙ sym (leaf-first n first second h))))
     (λ h. ap (option_or (leaf_at new first)) (split-new n side size new second ne parts.1)
     ∙ (ap (λ (o : Option Leaf). option_or o (leaf_at n second)) parts.0 ∙ sym (or-second n first second h)))
 
