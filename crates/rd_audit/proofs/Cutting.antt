@@ -111,16 +111,16 @@ abbrev back_of : List ℕ → Option (List ℕ × List ℕ) → List ℕ
 back_of b None = b
 back_of b (Some parts) = parts.1
 
-joined_glyph-as : (a b f k : List ℕ) (lines : List ℕ → List (List ℕ)) → ◌≡◌ {A = Option (List ℕ × List ℕ)} (Some (a, b)) (Some (f, k)) → a ∷ lines b ≡ f ∷ lines k
-joined_glyph-as a b f k lines e =
+parts-listed : (a b f k : List ℕ) (lines : List ℕ → List (List ℕ)) → ◌≡◌ {A = Option (List ℕ × List ℕ)} (Some (a, b)) (Some (f, k)) → a ∷ lines b ≡ f ∷ lines k
+parts-listed a b f k lines e =
     ap (λ l. l ∷ lines b) (ap (λ x. front_of a x) e) ∙ ap (λ l. f ∷ lines l) (ap (λ x. back_of b x) e)
 
 lines-cut_at : (b : ℕ) (bs f k : List ℕ) (t : Bool) (o : Option (List ℕ × List ℕ)) → ((f' k' : List ℕ) → o ≡ Some (f', k') → lines_of bs ≡ f' ∷ lines_of k')
     → (if t then cut_here bs else option_map (λ parts. (b ∷ parts.0, parts.1)) o) ≡ Some (f, k)
     → (if t then [] ∷ lines_of bs else in_front b (lines_of bs)) ≡ f ∷ lines_of k
-lines-cut_at b bs f k true o so e = joined_glyph-as [] bs f k lines_of e
+lines-cut_at b bs f k true o so e = parts-listed [] bs f k lines_of e
 lines-cut_at b bs f k false None so e = absurd (cc)
-lines-cut_at b bs f k false (Some parts) so e = ap (in_front b) (so parts.0 parts.1 refl) ∙ joined_glyph-as (b ∷ parts.0) parts.1 f k lines_of e
+lines-cut_at b bs f k false (Some parts) so e = ap (in_front b) (so parts.0 parts.1 refl) ∙ parts-listed (b ∷ parts.0) parts.1 f k lines_of e
 
 pub lines-cut : (bs f k : List ℕ) → cut 10 bs ≡ Some (f, k) → lines_of bs ≡ f ∷ lines_of k
 lines-cut [] f k e = absurd (cc)
@@ -141,9 +141,9 @@ lines-uncut (b ∷ bs) e some = lines-uncut_at b bs (b == 10) (cut 10 bs) (lines
 pieces-cut_at : (byte b : ℕ) (bs f k : List ℕ) (t : Bool) (o : Option (List ℕ × List ℕ)) → ((f' k' : List ℕ) → o ≡ Some (f', k') → pieces byte bs ≡ f' ∷ pieces byte k')
     → (if t then cut_here bs else option_map (λ parts. (b ∷ parts.0, parts.1)) o) ≡ Some (f, k)
     → (if t then [] ∷ pieces byte bs else in_front b (pieces byte bs)) ≡ f ∷ pieces byte k
-pieces-cut_at byte b bs f k true o so e = joined_glyph-as [] bs f k (pieces byte) e
+pieces-cut_at byte b bs f k true o so e = parts-listed [] bs f k (pieces byte) e
 pieces-cut_at byte b bs f k false None so e = absurd (cc)
-pieces-cut_at byte b bs f k false (Some parts) so e = ap (in_front b) (so parts.0 parts.1 refl) ∙ joined_glyph-as (b ∷ parts.0) parts.1 f k (pieces byte) e
+pieces-cut_at byte b bs f k false (Some parts) so e = ap (in_front b) (so parts.0 parts.1 refl) ∙ parts-listed (b ∷ parts.0) parts.1 f k (pieces byte) e
 
 pub pieces-cut : (byte : ℕ) (bs f k : List ℕ) → cut byte bs ≡ Some (f, k) → pieces byte bs ≡ f ∷ pieces byte k
 pieces-cut byte [] f k e = absurd (cc)
