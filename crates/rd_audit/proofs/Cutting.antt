@@ -1,9 +1,7 @@
 -- Pieces of bytes, as the code finds them.
-use Rattle.std.proofs.Common.{◌≡◌, ◌≢◌, ◌==◌, ℕ, zero, suc, ◌+◌, ◌-◌, ◌<◌, ◌≤◌, Bool, true, false, if◌then◌else◌, Option, None, Some, option_map, List, [], ◌∷◌, ◌++◌, length, get_or, take, drop, refl, sym, ap, ◌∙◌, arith, append_assoc, append-nil, Bor}
+use Rattle.std.proofs.Common.{◌≡◌, ◌≢◌, ◌==◌, ℕ, zero, suc, ◌+◌, ◌-◌, ◌<◌, Bool, true, false, if◌then◌else◌, Option, None, Some, option_map, List, [], ◌∷◌, ◌++◌, length, get_or, take, drop, refl, sym, ap, ◌∙◌, arith, Bor}
 use Rattle.std.specs.Prelude.{MatchOption}
-use Rattle.std.proofs.lemmas.Bool.{ne_eqb}
 use Rattle.std.proofs.lemmas.Bool.Decides.{Decides-eqb}
-use Rattle.std.proofs.lemmas.List.{drop_more, take_more, drop_all, drop-drop, length-drop}
 use Rattle.rd_io.specs.Lines.{lines_of, in_front}
 use Rattle.rd_audit.specs.Cuts.{stripped, cut, cut_last_or, cut_last, pieces}
 
@@ -41,48 +39,9 @@ abbrev pub behind : List ℕ → Option (List ℕ × List ℕ) → Option (List 
 behind front None = None
 behind front (Some parts) = Some (front ++ parts.0, parts.1)
 
-behind-step : (front : List ℕ) (b : ℕ) (o : Option (List ℕ × List ℕ)) → behind (front ++ b ∷ []) o ≡ behind front (option_map (λ parts. (b ∷ parts.0, parts.1)) o)
-behind-step front b None = refl
-behind-step front b (Some parts) = ap (λ l. Some (l, parts.1)) (append_assoc front (b ∷ []) parts.0)
-
 pub behind-none : (o : Option (List ℕ × List ℕ)) → behind [] o ≡ o
 behind-none None = refl
 behind-none (Some parts) = refl
-
-cut-yes : (byte b : ℕ) (bs : List ℕ) → b ≡ byte → cut byte (b ∷ bs) ≡ Some ([], bs)
-cut-yes byte b bs e = ap (λ t. if t then Some ([], bs) else option_map (λ parts. (b ∷ parts.0, parts.1)) (cut byte bs)) ((Decides-eqb b byte).1 e)
-
-cut-no : (byte b : ℕ) (bs : List ℕ) → b ≢ byte → cut byte (b ∷ bs) ≡ option_map (λ parts. (b ∷ parts.0, parts.1)) (cut byte bs)
-cut-no byte b bs e = ap (λ t. if t then Some ([], bs) else option_map (λ parts. (b ∷ parts.0, parts.1)) (cut byte bs)) (ne_eqb b byte e)
-
-pub cut-here : (byte i : ℕ) (bs : List ℕ) → i < length bs → get_or bs i 0 ≡ byte → behind (take i bs) (cut byte (drop i bs)) ≡ cut byte bs
-    → Some (take i bs, drop 1 (drop i bs)) ≡ cut byte bs
-cut-here byte i bs less found inv =
-    let head : drop i bs ≡ get_or bs i 0 ∷ drop (i + 1) bs = drop_more bs i 0 less in
-    let tail : drop 1 (drop i bs) ≡ drop (i + 1) bs = ap (drop 1) head in
-    ap (λ l. Some (take i bs, l)) tail
-    ∙ ap (λ l. Some (l, drop (i + 1) bs)) (sym (append-nil (take i bs)))
-    ∙ sym (ap (behind (take i bs)) (ap (cut byte) head ∙ cut-yes byte (get_or bs i 0) (drop (i + 1) bs) found))
-    ∙ inv
-
-pub cut-on : (byte i : ℕ) (bs : List ℕ) → i < length bs → get_or bs i 0 ≢ byte → behind (take i bs) (cut byte (drop i bs)) ≡ cut byte bs
-    → behind (take (i + 1) bs) (cut byte (drop (i + 1) bs)) ≡ cut byte bs
-cut-on byte i bs less other inv =
-    ap (λ l. behind l (cut byte (drop (i + 1) bs))) (take_more bs i 0 less)
-    ∙ behind-step (take i bs) (get_or bs i 0) (cut byte (drop (i + 1) bs))
-    ∙ sym (ap (behind (take i bs)) (ap (cut byte) (drop_more bs i 0 less) ∙ cut-no byte (get_or bs i 0) (drop (i + 1) bs) other))
-    ∙ inv
-
-pub cut-end : (byte i : ℕ) (bs : List ℕ) → length bs ≤ i → behind (take i bs) (cut byte (drop i bs)) ≡ cut byte bs → None ≡ cut byte bs
-cut-end byte i bs past inv = sym (ap (λ l. behind (take i bs) (cut byte l)) (drop_all i bs past)) ∙ inv
-
-pub rest-shorter : (i : ℕ) (bs : List ℕ) → i < length bs → length (drop 1 (drop i bs)) < length bs
-rest-shorter i bs less = omega (arith, length-drop 1 (drop i bs), length-drop i bs)
-
-pub rest-behind : (i : ℕ) (bs : List ℕ) → i < length bs → drop 1 (drop i bs) ≡ drop (length bs - length (drop 1 (drop i bs))) bs
-rest-behind i bs less =
-    let size : i + 1 ≡ length bs - length (drop 1 (drop i bs)) = omega (arith, length-drop 1 (drop i bs), length-drop i bs, less) in
-    drop-drop 1 i bs ∙ ap (λ k. drop k bs) size
 
 -- ---- the last of it
 
@@ -92,14 +51,6 @@ last-here byte i [] less found none = absurd (omega (arith, less))
 last-here byte zero (b ∷ bs) less found none =
     sym (ap (cut_last_or byte b bs) none ∙ ap (λ t. if t then Some ([], bs) else None) ((Decides-eqb b byte).1 found))
 last-here byte (suc i) (b ∷ bs) less found none = ap (cut_last_or byte b bs) (last-here byte i bs (omega (arith, less)) found none)
-
-last-no : (byte b : ℕ) (bs : List ℕ) → b ≢ byte → cut_last byte bs ≡ None → cut_last byte (b ∷ bs) ≡ None
-last-no byte b bs other none = ap (cut_last_or byte b bs) none ∙ ap (λ t. if t then Some ([], bs) else None) (ne_eqb b byte other)
-
-pub last-on : (byte i : ℕ) (bs : List ℕ) → i < length bs → get_or bs i 0 ≢ byte → cut_last byte (drop (suc i) bs) ≡ None → cut_last byte (drop i bs) ≡ None
-last-on byte i bs less other none =
-    let after : i + 1 ≡ suc i = omega arith in
-    ap (cut_last byte) (drop_more bs i 0 less ∙ ap (λ k. get_or bs i 0 ∷ drop k bs) after) ∙ last-no byte (get_or bs i 0) (drop (suc i) bs) other none
 
 -- ---- lines and pieces
 

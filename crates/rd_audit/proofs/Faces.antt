@@ -127,11 +127,6 @@ foreground place f colour other none none' behind range range' = elim (cases_eq 
       rw (t, a, b, c, d, e, g, j, k, behind, l) (background 30 (record f { fg = colour }) other none' refl range')
 ]
 
--- the colours behind flags
-coloured : (place : ℕ) (f g : Attributes) → g.fg ≡ 8 → g.bg ≡ 8 → nat_lt place 30 ≡ true → HasColours f → record g { fg = f.fg; bg = f.bg } ≡ f
-    → with_numbers place g (there (colour_number f.fg 30 ∷ colour_number f.bg 40 ∷ [])) ≡ Some f
-coloured place f g p q behind range e = foreground place g f.fg f.bg p q behind range.fg range.bg ∙ ap Some e
-
 abbrev face_by : Bool → Bool → Bool → ℕ → ℕ → Attributes
 face_by bold underline inverse fg bg = record { fg = fg; bg = bg; bold = bold; underline = underline; inverse = inverse }
 

@@ -3,7 +3,6 @@ mod Covering
 mod Cutting
 mod Decimals
 mod Faces
-mod Groups
 mod Judging
 mod Lacking
 mod Leaving

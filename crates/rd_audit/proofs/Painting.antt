@@ -2,7 +2,7 @@
 use Rattle.std.proofs.Common.{◌≡◌, ℕ, suc, ◌+◌, ◌-◌, ◌<◌, ◌≤◌, List, [], ◌∷◌, ◌++◌, Some, length, get_or, slice_get, take, drop, sym, ap, ◌∙◌, arith, append_assoc}
 use Rattle.std.proofs.lemmas.Option.{get_or_from_slice_get}
 use Rattle.std.specs.Prelude.{slice_set}
-use Rattle.std.proofs.lemmas.List.{drop_more, take_more_set, drop-set-lt, take-append-drop}
+use Rattle.std.proofs.lemmas.List.{drop_more, take_more_set, drop-set-lt}
 use Rattle.rd_base.specs.Faces.{Attributes}
 use Rattle.rd_base.specs.declared.cell.Cell.{Cell}
 use Rattle.rd_audit.specs.Runs.{with_face, faced}
@@ -28,10 +28,3 @@ paint-on k end face cell cells next whole less within at set inv =
     ∙ paint-step k (end - (k + 1)) face cell cells inside
     ∙ ap (λ n. take k cells ++ faced n face (drop k cells)) left
     ∙ inv
-
--- no column is left
-pub paint-end : (k end : ℕ) (face : Attributes) (cells whole : List Cell) → k ≤ end → end ≤ k
-    → take k cells ++ faced (end - k) face (drop k cells) ≡ whole → cells ≡ whole
-paint-end k end face cells whole to from inv =
-    let none : end - k ≡ 0 = omega (arith, to, from) in
-    sym (take-append-drop k cells) ∙ sym (ap (λ n. take k cells ++ faced n face (drop k cells)) none) ∙ inv
