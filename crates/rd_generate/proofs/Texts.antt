@@ -32,9 +32,6 @@ unfolding encode_utf8
 spelled-spaces zero = refl
 spelled-spaces (suc n) = ap (λ l. 32 ∷ l) (spelled-spaces n)
 
-spelled-newline : spelling (10 ∷ []) ≡ codes "\\n"
-spelled-newline = refl
-
 -- a piece was added to what was added
 glue : {A : Type 0} (old xs x now new : List A) → new ≡ now ++ x → now ≡ old ++ xs → new ≡ old ++ (xs ++ x)
 glue old xs x now new e is = e ∙ (ap (λ l. l ++ x) is ∙ append_assoc old xs x)

@@ -95,11 +95,6 @@ placing-leads s window place f =
 
 -- ---- the tree
 
-on-tree : (r : Result Configuration TreeFault) (f : Configuration → StateValue) (Q : Configuration → Type 0) (P : StateValue → Type 0)
-    → IfOk r Q → ((d : Configuration) → Q d → P (f d)) → IfOk (on_tree r f) P
-on-tree (Err fault) f Q P h g = tt
-on-tree (Ok d) f Q P h g = g d h
-
 split-grows : (c : Configuration) (window : ℕ) (side : Side) (size : ℕ) → IfOk (split_tree c window side size) (λ d. c.made ≤ d.made)
 unfolding split_tree
 split-grows c window side size =

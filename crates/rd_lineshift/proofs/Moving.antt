@@ -1,5 +1,5 @@
 -- Rows that are moved.
-use Rattle.std.proofs.Common.{◌≡◌, ℕ, zero, suc, ◌+◌, ◌-◌, ◌<◌, ◌≤◌, true, false, List, [], ◌++◌, length, get_or, map, take, drop, replicate, sym, ap, ap₂, ◌∙◌, arith, All}
+use Rattle.std.proofs.Common.{◌≡◌, ℕ, zero, suc, ◌+◌, ◌-◌, ◌<◌, ◌≤◌, false, List, [], ◌++◌, length, get_or, map, take, drop, replicate, sym, ap, ap₂, ◌∙◌, arith, All}
 use Rattle.std.specs.Prelude.{ℤ, pos, negsuc, neg_ℤ, unsigned_abs}
 use Rattle.std.proofs.lemmas.List.{get_or_append_left, get_or-append_right, get_or-take, get_or-drop, get_or-replicate, map-append, length-map, length-append, length-take-le, length-drop, length-replicate, take_all, take-map, drop-map, drop-take, drop-drop, take-take, take-append-drop}
 use Rattle.std.proofs.lemmas.List.Elements.{recursion_from_All, All-append, All-take, All-drop, All-replicate}
@@ -182,13 +182,6 @@ down-cost old new blank t h (suc k) a b c same le some fits ea eb ec =
 row-part : (s : Shift) (rows : List (List Cell)) → s.top + s.height ≤ length rows → length (take (s.top + s.height - s.top) (drop s.top rows)) ≡ s.height
 row-part s rows within = length-take-le (s.top + s.height - s.top) (drop s.top rows) (omega (arith, length-drop s.top rows)) ∙ omega arith
 
-pub row-above : (s : Shift) (free : List Cell) (rows : List (List Cell)) (row : ℕ) → s.top + s.height ≤ length rows → row < s.top
-    → get_or rows row [] ≡ get_or (shifted_rows s free rows) row []
-row-above s free rows row within lt =
-    let rest = moved s.by free (take (s.top + s.height - s.top) (drop s.top rows)) ++ drop (s.top + s.height) rows in
-    let n : length (take s.top rows) ≡ s.top = length-take-le s.top rows (omega arith) in
-    sym (get_or_append_left (take s.top rows) rest [] row (omega (arith, n)) ∙ get_or-take s.top rows row [] lt)
-
 row-behind : (s : Shift) (free : List Cell) (rows : List (List Cell)) (row : ℕ) → s.top + s.height ≤ length rows → s.top ≤ row
     → get_or (shifted_rows s free rows) row [] ≡ get_or (moved s.by free (take (s.top + s.height - s.top) (drop s.top rows)) ++ drop (s.top + s.height) rows) (row - s.top) []
 row-behind s free rows row within le =
@@ -222,16 +215,6 @@ row-within s free rows row h le lt =
 part-row : (rows : List (List Cell)) (t h k : ℕ) → k < h → get_or (take (t + h - t) (drop t rows)) k [] ≡ get_or rows (t + k) []
 part-row rows t h k lt = get_or-take (t + h - t) (drop t rows) k [] (omega arith) ∙ get_or-drop t rows k []
 
-up-kept : (by : ℤ) (free : List Cell) (P : List (List Cell)) (k : ℕ) → is_up by ≡ true → k + unsigned_abs by < length P → get_or (moved by free P) k [] ≡ get_or P (unsigned_abs by + k) []
-up-kept (pos n) free P k up lt = get_or_append_left (drop n P) (replicate n free) [] k (omega (arith, length-drop n P)) ∙ get_or-drop n P k []
-up-kept (negsuc n) free P k up lt = absurd (cc)
-
-up-free : (by : ℤ) (free : List Cell) (P : List (List Cell)) (k : ℕ) → is_up by ≡ true → unsigned_abs by ≤ length P → length P ≤ k + unsigned_abs by → k < length P → get_or (moved by free P) k [] ≡ free
-up-free (pos n) free P k up fits le lt =
-    get_or-append_right (drop n P) (replicate n free) (length P - n) k [] (length-drop n P) (omega arith)
-    ∙ get_or-replicate n (k - (length P - n)) free [] (omega arith)
-up-free (negsuc n) free P k up fits le lt = absurd (cc)
-
 down-kept : (by : ℤ) (free : List Cell) (P : List (List Cell)) (k : ℕ) → is_up by ≡ false → unsigned_abs by ≤ k → k < length P → get_or (moved by free P) k [] ≡ get_or P (k - unsigned_abs by) []
 down-kept (pos n) free P k up le lt = absurd (cc)
 down-kept (negsuc n) free P k up le lt =
@@ -243,25 +226,6 @@ down-free (pos n) free P k up lt = absurd (cc)
 down-free (negsuc n) free P k up lt =
     get_or_append_left (replicate (suc n) free) (take (length P - suc n) P) [] k (omega (arith, length-replicate (suc n) free))
     ∙ get_or-replicate (suc n) k free [] lt
-
-pub row-up : (s : Shift) (free : List Cell) (rows : List (List Cell)) (row : ℕ) → IsShift (length rows) s → is_up s.by ≡ true → s.top ≤ row → row + unsigned_abs s.by < s.top + s.height
-    → get_or rows (row + unsigned_abs s.by) [] ≡ get_or (shifted_rows s free rows) row []
-row-up s free rows row h up le lt =
-    let P = take (s.top + s.height - s.top) (drop s.top rows) in
-    let n = row-part s rows h.within in
-    let place : s.top + (unsigned_abs s.by + (row - s.top)) ≡ row + unsigned_abs s.by = omega arith in
-    sym (
-    row-within s free rows row h le (omega arith)
-    ∙ up-kept s.by free P (row - s.top) up (omega (arith, n))
-    ∙ part-row rows s.top s.height (unsigned_abs s.by + (row - s.top)) (omega arith)
-    ∙ ap (λ k. get_or rows k []) place)
-
-pub row-up-free : (s : Shift) (free : List Cell) (rows : List (List Cell)) (row : ℕ) → IsShift (length rows) s → is_up s.by ≡ true → s.top ≤ row → row < s.top + s.height → s.top + s.height ≤ row + unsigned_abs s.by
-    → free ≡ get_or (shifted_rows s free rows) row []
-row-up-free s free rows row h up le lt past =
-    let P = take (s.top + s.height - s.top) (drop s.top rows) in
-    let n = row-part s rows h.within in
-    sym (row-within s free rows row h le lt ∙ up-free s.by free P (row - s.top) up (omega (arith, n, h.left)) (omega (arith, n)) (omega (arith, n)))
 
 pub row-down : (s : Shift) (free : List Cell) (rows : List (List Cell)) (row : ℕ) → IsShift (length rows) s → is_up s.by ≡ false → s.top + unsigned_abs s.by ≤ row → row < s.top + s.height
     → get_or rows (row - unsigned_abs s.by) [] ≡ get_or (shifted_rows s free rows) row []

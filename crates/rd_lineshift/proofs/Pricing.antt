@@ -2,7 +2,7 @@
 use Rattle.std.proofs.Common.{◌≡◌, ℕ, suc, ◌+◌, ◌-◌, ◌<◌, ◌≤◌, nat_le, Bool, true, false, if◌then◌else◌, List, [], ◌∷◌, ◌++◌, length, get_or, drop, Option, None, Some, IfSome, refl, sym, ap, ap₂, ◌∙◌, arith}
 use Rattle.std.specs.List.{flat_map}
 use Rattle.std.proofs.lemmas.Bool.Decides.{nat_tests}
-use Rattle.std.proofs.lemmas.List.{drop_more, drop_all}
+use Rattle.std.proofs.lemmas.List.{drop_more}
 use Rattle.std.specs.Prelude.{pos, neg_ℤ}
 use Rattle.rd_lineshift.specs.Choices.{cheaper, cheapest, if_gains, shift_by, shifts_from, shifts_of}
 use Rattle.rd_lineshift.specs.Numbers.{gained, lesser, priced}
@@ -88,12 +88,6 @@ band-step f band by best u d whole lt e g h =
     ∙ ap (λ n. lesser best (priced f (cheapest f (shifts_from band by n)))) (sym more)
     ∙ h
 
-pub band-end : (f : Shift → ℕ) (band : Band) (by : ℕ) (best whole : Option Priced) → band.height ≤ by
-    → lesser best (priced f (cheapest f (shifts_from band by (band.height - by)))) ≡ whole → best ≡ whole
-band-end f band by best whole le h =
-    let none : band.height - by ≡ 0 = omega arith in
-    sym (lesser-none best) ∙ sym (ap (λ n. lesser best (priced f (cheapest f (shifts_from band by n)))) none) ∙ h
-
 -- one more band
 pub bands-step : (f : Shift → ℕ) (bands : List Band) (i : ℕ) (d : Band) (best more whole : Option Priced) → i < length bands
     → more ≡ priced f (cheapest f (shifts_of (get_or bands i d)))
@@ -107,11 +101,6 @@ bands-step f bands i d best more whole lt g h =
     ∙ ap (lesser best) (sym (appended f (shifts_of band) rest))
     ∙ ap (λ xs. lesser best (priced f (cheapest f (flat_map shifts_of xs)))) (sym (drop_more bands i d lt))
     ∙ h
-
-pub bands-end : (f : Shift → ℕ) (bands : List Band) (i : ℕ) (best whole : Option Priced) → length bands ≤ i
-    → lesser best (priced f (cheapest f (flat_map shifts_of (drop i bands)))) ≡ whole → best ≡ whole
-bands-end f bands i best whole le h =
-    sym (lesser-none best) ∙ sym (ap (λ xs. lesser best (priced f (cheapest f (flat_map shifts_of xs)))) (drop_all i bands le)) ∙ h
 
 -- ---- what is taken
 

@@ -1,6 +1,6 @@
 -- The margins beside the rows of a matrix, one after the other.
-use Rattle.std.proofs.Common.{◌≡◌, ℕ, ◌+◌, ◌≤◌, Some, List, ◌∷◌, [], ◌++◌, length, map, take, sym, ap, ◌∙◌, arith}
-use Rattle.std.proofs.lemmas.List.{length-map, map_push, take_all, take_more}
+use Rattle.std.proofs.Common.{◌≡◌, ℕ, ◌+◌, Some, List, ◌∷◌, [], ◌++◌, map, take, sym, ap, ◌∙◌}
+use Rattle.std.proofs.lemmas.List.{map_push, take_more}
 use Rattle.std.proofs.lemmas.Option.{get_or_from_slice_get, slice_get-map, slice_get_within}
 use Rattle.std.specs.Prelude.{option_map, slice_get}
 use Rattle.rd_matrix.specs.Entries.{EntryMeaning, shown_entries, shown_entry}
@@ -17,7 +17,3 @@ more f es k e xs x at before here =
     let there = entry-at es k e at in
     let one = take_more rows k (shown_entry e) (slice_get_within rows k (shown_entry e) there) ∙ ap (λ y. take k rows ++ y ∷ []) (get_or_from_slice_get rows k (shown_entry e) (shown_entry e) there) in
     ap (λ ys. ys ++ x ∷ []) before ∙ (ap (λ y. map f (take k rows) ++ y ∷ []) here ∙ sym (ap (map f) one ∙ map_push f (take k rows) (shown_entry e)))
-
--- all rows
-pub all-of : {A : Type 0} (f : EntryMeaning → A) (es : List Entry) (k : ℕ) (xs : List A) → length es ≤ k → xs ≡ map f (take k (shown_entries es)) → xs ≡ map f (shown_entries es)
-all-of f es k xs end h = let count = length-map es shown_entry in h ∙ ap (map f) (take_all k (shown_entries es) (omega arith))

@@ -10,26 +10,6 @@ use Rattle.rd_visual.specs.Hits.{covers_some, reaches, nearer, item_at, begins_a
 abbrev pub column_of : Begin → ℕ
 column_of b = b.column
 
-joined-cases : (a b c : Begin) (p q r : Bool) → nat_le c.column b.column ≡ p → nat_le b.column a.column ≡ q → nat_le c.column a.column ≡ r
-    → nearer (Some a) (nearer (Some b) (Some c)) ≡ nearer (nearer (Some a) (Some b)) (Some c)
-joined-cases a b c true true true cb ba ca = rw (cb, ba, ca) refl
-joined-cases a b c true true false cb ba ca = absurd grind (arith, nat_tests)
-joined-cases a b c true false r cb ba ca = rw (cb, ba, cb) refl
-joined-cases a b c false true true cb ba ca = rw (cb, ba, ca) refl
-joined-cases a b c false true false cb ba ca = rw (cb, ba, ca) refl
-joined-cases a b c false false true cb ba ca = absurd grind (arith, nat_tests)
-joined-cases a b c false false false cb ba ca = rw (cb, ba, ca, cb) refl
-
-last-none : (a b : Begin) (q : Bool) → nat_le b.column a.column ≡ q → nearer (Some a) (Some b) ≡ nearer (nearer (Some a) (Some b)) None
-last-none a b true ba = rw ba refl
-last-none a b false ba = rw ba refl
-
-pub nearer-joined : (a b c : Option Begin) → nearer a (nearer b c) ≡ nearer (nearer a b) c
-nearer-joined None b c = refl
-nearer-joined (Some a) None c = refl
-nearer-joined (Some a) (Some b) None = last-none a b (nat_le b.column a.column) refl
-nearer-joined (Some a) (Some b) (Some c) = joined-cases a b c _ _ _ refl refl refl
-
 -- an item of a list at some place, of which a test holds
 pub record IsOneOf (p : Begin → Bool) (bs : List Begin) (b : Begin) : Type 0 where
   pub place : ℕ
@@ -78,27 +58,6 @@ reaches-less low column b true some less out =
     let above : nat_le b.column column ≡ false = subst (λ (t : Bool). (t && nat_le b.column column) ≡ false) some out in
     let le : nat_le b.column low ≡ false = grind (arith, nat_tests) in
     rw (some, le) refl
-
-never : (a o : Begin) (q : Bool) → nat_le o.column a.column ≡ q → nearer (Some a) (Some o) ≡ None → ⊥
-never a o true le h = let e : Some a ≡ None = subst (λ (t : Bool). cond t (Some a) (Some o) ≡ None) le h in cc
-never a o false le h = let e : Some o ≡ None = subst (λ (t : Bool). cond t (Some a) (Some o) ≡ None) le h in cc
-
-nearer-none : (a o : Option Begin) → nearer a o ≡ None → (a ≡ None) × (o ≡ None)
-nearer-none None o h = (refl, h)
-nearer-none (Some a) None h = absurd cc
-nearer-none (Some a) (Some o) h = absurd (never a o _ refl h)
-
-none-here : (column : ℕ) (x : Begin) (r : Bool) → reaches column x ≡ r → cond r (Some x) None ≡ None → reaches column x ≡ false
-none-here column x false here h = here
-none-here column x true here h = absurd cc
-
-item-none : (low column : ℕ) (bs : List Begin) → low ≤ column → item_at column bs ≡ None → item_at low bs ≡ None
-item-none low column [] less none = refl
-item-none low column (x ∷ xs) less none =
-    let both = nearer-none (cond (reaches column x) (Some x) None) (item_at column xs) none in
-    let here = reaches-less low column x _ refl less (none-here column x _ refl both.0) in
-    let rest = item-none low column xs less both.1 in
-    rw (here, rest) refl
 
 nearer-first : (x : Begin) (o : Option Begin) → ((c : Begin) → o ≡ Some c → c.column ≤ x.column) → nearer (Some x) o ≡ Some x
 nearer-first x None low = refl

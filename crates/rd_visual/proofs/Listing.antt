@@ -18,7 +18,7 @@ use Rattle.rd_levels.specs.declared.turn.Turn.{Turn}
 use Rattle.rd_levels.proofs.Turns.{total_in, each-turn}
 use Rattle.rd_order.proofs.Once.{total}
 use Rattle.rd_stack.specs.Lines.{item_class, item_code, item_turns}
-use Rattle.rd_visual.specs.Motion.{holds, first, last, range_by, ranges_in_turn, ranges_of}
+use Rattle.rd_visual.specs.Motion.{holds, last, range_by, ranges_in_turn, ranges_of}
 use Rattle.rd_visual.specs.Ways.{beside, opposite, origin}
 use Rattle.rd_visual.specs.declared.range.Range.{Range}
 use Rattle.rd_visual.specs.declared.way.Way.{Way}
@@ -162,10 +162,6 @@ pub beside-past : (way : Way) (pos place : ℕ) (rs : List Range) (found : Optio
 beside-past way pos place rs found past all =
     let size = length-drop (place - 1) rs in
     sym (short-beside way pos (drop (place - 1) rs) (omega (arith, size, past))) ∙ all
-
-pub first-at : (rs : List Range) (r : Range) → slice_get rs 0 ≡ Some r → Some r.from ≡ first rs
-first-at [] r there = absurd cc
-first-at (x ∷ rs) r there = let same : x ≡ r = cc in ap (λ (y : Range). Some y.from) (sym same)
 
 pub last-at : (rs : List Range) (r : Range) (place : ℕ) → place + 1 ≡ length rs → slice_get rs place ≡ Some r → Some r.from ≡ last rs
 last-at [] r place size there = absurd cc

@@ -8,7 +8,7 @@ use Rattle.std.proofs.lemmas.List.{map-append, append-nil}
 use Rattle.clap.proofs.WalkLemmas.{find-map, list_any-map}
 use Rattle.clap.specs.Kinds.{or_else}
 use Rattle.clap.specs.Facts.{explicit_source}
-use Rattle.clap.specs.Walk.{Row, arg_by_long, at_row, default_rows, finished, first_of, has_long, has_row, is_empty, more_values, reading_by, takes_values, used, with_default}
+use Rattle.clap.specs.Walk.{Row, arg_by_long, at_row, default_rows, finished, first_of, has_long, has_row, is_empty, more_values, reading_by, used, with_default}
 use Rattle.clap.specs.Takes.{is_given}
 use Rattle.clap.specs.Faults.{check_fault, default_fault, defaults_fault, given_default_fault, use_fault}
 use Rattle.clap.specs.declared.error.kind.ErrorKind.{ErrorKind}
@@ -51,13 +51,6 @@ named_in (s ∷ ss) name = go (bytes_eq (name_of s) name) (named_in ss name)
 
 pub named-is : (name : Text) → arg_by_long shape.rules name ≡ option_map rule (named name)
 named-is name = named_in settings name
-
-pub takes_values-is : (s : Setting) → takes_values (rule s) ≡ has_value s
-takes_values-is class_file = refl
-takes_values-is mirror_file = refl
-takes_values-is bracket_file = refl
-takes_values-is generate = refl
-takes_values-is dump = refl
 
 -- ---- one use
 
