@@ -39,10 +39,6 @@ abbrev pub behind : List ℕ → Option (List ℕ × List ℕ) → Option (List 
 behind front None = None
 behind front (Some parts) = Some (front ++ parts.0, parts.1)
 
-pub behind-none : (o : Option (List ℕ × List ℕ)) → behind [] o ≡ o
-behind-none None = refl
-behind-none (Some parts) = refl
-
 -- ---- the last of it
 
 pub last-here : (byte i : ℕ) (bs : List ℕ) → i < length bs → get_or bs i 0 ≡ byte → cut_last byte (drop (suc i) bs) ≡ None

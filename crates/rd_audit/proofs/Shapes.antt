@@ -19,9 +19,6 @@ kept rows (Some x) cells e =
     let h = if_some (is_as_wide rows x) (Some x) cells e in
     subst (λ y. is_as_wide rows y ≡ true) (ap (λ o. unwrap_or o x) h.1) h.0
 
-pub no-rows : IsShape []
-no-rows = record { each = All-nil (λ r. length r ≡ 0); some = λ less. absurd (omega (arith, less)); wide = omega arith; tall = omega arith }
-
 push-by : (rows : List (List Cell)) (cells : List Cell) → IsShape rows → length rows < 200 → is_as_wide rows cells ≡ true → IsShape (rows ++ cells ∷ [])
 push-by [] cells shape few wide =
     let least : 12 ≤ length cells = grind (arith, nat_tests) in
