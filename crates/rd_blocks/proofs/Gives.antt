@@ -19,7 +19,7 @@ use Rattle.rd_objects.specs.Texts.{TextValue}
 use Rattle.rd_objects.specs.declared.run.Spec.TheVariants.{Text, Width, Align}
 use Rattle.rd_text.specs.Texts.{is_newline}
 use Rattle.rd_glyphs.specs.Characters.{PartValues, glyph_elements, entry_of, elements_by, elements_of, shown_as}
-use Rattle.rd_glyphs.specs.Joining.{is_empty_entry, base_of, joining_by}
+use Rattle.rd_glyphs.specs.MarkRoles.{is_empty_entry, base_of, mark_role_by}
 use Rattle.rd_glyphs.specs.Marks.{marked_glyph, marks_joined_from, marks_joined}
 use Rattle.rd_items.specs.Pieces.{Scene, gives_element, give_elements, string_gives, ellipsis_gives}
 use Rattle.rd_items.specs.Items.{kind_gives}
@@ -256,12 +256,12 @@ character-none parts ch odd face origin h = ap (λ entry. elements_by entry part
 -- a part without elements that no mark joins
 record IsEmptyPart (s : Scene) (x : Part) : Type 0 where
   none : (face : Attributes) (odd : Bool) (origin : Origin) → kind_elements s x.kind face odd origin ≡ []
-  alone : base_of x.joining ≡ None
+  alone : base_of x.role ≡ None
 
 char-empty : (s : Scene) (p : Place) → not (is_empty_entry (entry_of s.parts.table p.ch)) ≡ false → IsEmptyPart s (part_by s None p)
 char-empty s p h = record {
   none = λ face odd origin. character-none s.parts p.ch odd face origin h;
-  alone = ap (λ entry. base_of (joining_by entry (shown_as s.parts.settings.ctl_arrow (class_of s.parts.classes p.ch) p.ch))) (empty-entry (entry_of s.parts.table p.ch) h);
+  alone = ap (λ entry. base_of (mark_role_by entry (shown_as s.parts.settings.ctl_arrow (class_of s.parts.classes p.ch) p.ch))) (empty-entry (entry_of s.parts.table p.ch) h);
 }
 
 marks_joined_from-same : (s : Scene) (held : Part) (xs : List Part) → IsEmptyPart s held → All (IsEmptyPart s) xs → marks_joined_from part_joins held xs ≡ held ∷ xs

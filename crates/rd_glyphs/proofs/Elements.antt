@@ -29,7 +29,7 @@ use Rattle.rd_objects.specs.declared.table.TableEntry.{TableEntry}
 use Rattle.rd_glyphs.specs.declared.shown.Shown.{Shown}
 use Rattle.rd_glyphs.specs.declared.shown.Shown.TheVariants.{Caret, Octal, Space, Mark, Itself}
 use Rattle.rd_glyphs.specs.Characters.{PartValues, AreSoundParts, HasOrigin, TakesColumns, ShowsColumns, IsShortElement, is_control, is_formatting, caret, shown_as, mirrored, looks_of, element_of, glyph_elements, entry_of, slot_or, own_looks, elements_by, elements_of, tab_of}
-use Rattle.rd_glyphs.specs.Joining.{is_empty_entry}
+use Rattle.rd_glyphs.specs.MarkRoles.{is_empty_entry}
 use Rattle.rd_glyphs.proofs.Measures.{slot-measured, character-measured, shown_as-measured, mirrored-measured, looks-measured, elements-measured}
 use Rattle.rd_glyphs.proofs.Short.{short_elements, short_glyphs, glyph_count}
 

@@ -7,18 +7,18 @@ use Rattle.rd_base.specs.declared.element.Look.{Look}
 use Rattle.rd_base.specs.declared.element.Look.TheVariants as look
 use Rattle.rd_ucd.specs.declared.spans.Span.{Span}
 use Rattle.rd_ucd.specs.Lookup.{class_of}
-use Rattle.rd_glyphs.specs.declared.joining.Joining.TheVariants.{Base}
+use Rattle.rd_glyphs.specs.declared.mark_role.MarkRole.TheVariants.{Base}
 use Rattle.rd_glyphs.specs.declared.shown.Shown.{Shown}
 use Rattle.rd_glyphs.specs.declared.shown.Shown.TheVariants.{Caret, Octal, Space, Mark, Itself}
 use Rattle.rd_glyphs.specs.Characters.{shown_as, on_blank}
-use Rattle.rd_glyphs.specs.Joining.{base_of, mark_of}
+use Rattle.rd_glyphs.specs.MarkRoles.{base_of, mark_of}
 use Rattle.rd_glyphs.specs.Marks.{marked_glyph, marks_joined_from, marks_joined, with_held}
 use Rattle.rd_glyphs.specs.Lines.{PlainPart, part_of, plain_part, plain_joins, looks_of_parts, plain_looks}
 use Rattle.rd_glyphs.specs.Held.{given, held_after, looks_from}
 
 -- a glyph that is held, as a part
 abbrev pub held_part : Glyph → PlainPart
-held_part g = record { looks = look.Glyph g ∷ []; joining = Base g }
+held_part g = record { looks = look.Glyph g ∷ []; role = Base g }
 
 -- the parts behind a glyph that is held
 abbrev pub parts_behind : Option Glyph → List PlainPart → List PlainPart
@@ -31,13 +31,13 @@ same-by a b x xs None looks = ap (λ (ls : List Look). ls ++ looks_of_parts (mar
 same-by a b x xs (Some g) looks = refl
 
 -- of two parts with the same looks and the same glyph for marks the same comes out
-same-behind : (a b : PlainPart) (xs : List PlainPart) → a.looks ≡ b.looks → base_of a.joining ≡ base_of b.joining →
+same-behind : (a b : PlainPart) (xs : List PlainPart) → a.looks ≡ b.looks → base_of a.role ≡ base_of b.role →
     looks_of_parts (marks_joined_from plain_joins a xs) ≡ looks_of_parts (marks_joined_from plain_joins b xs)
 same-behind a b [] looks base = ap (λ (ls : List Look). ls ++ []) looks
-same-behind a b (x ∷ xs) looks base = rw base (same-by a b x xs (marked_glyph (base_of b.joining) (mark_of x.joining)) looks)
+same-behind a b (x ∷ xs) looks base = rw base (same-by a b x xs (marked_glyph (base_of b.role) (mark_of x.role)) looks)
 
 -- a part that no mark joins comes out by itself
-alone : (a : PlainPart) (xs : List PlainPart) → base_of a.joining ≡ None →
+alone : (a : PlainPart) (xs : List PlainPart) → base_of a.role ≡ None →
     looks_of_parts (marks_joined_from plain_joins a xs) ≡ a.looks ++ looks_of_parts (marks_joined plain_joins xs)
 alone a [] none = refl
 alone a (x ∷ xs) none = rw none refl

@@ -29,7 +29,7 @@ use Rattle.rd_base.specs.declared.element.Look.TheVariants as look
 use Rattle.rd_base.specs.Glyphs.{AreMeasured}
 use Rattle.rd_glyphs.specs.declared.shown.Shown.{Shown}
 use Rattle.rd_glyphs.specs.declared.shown.Shown.TheVariants.{Caret, Octal, Space, Mark, Itself}
-use Rattle.rd_glyphs.specs.Joining.{joining_by, IsMeasuredJoining}
+use Rattle.rd_glyphs.specs.MarkRoles.{mark_role_by, IsMeasuredRole}
 use Rattle.rd_glyphs.specs.Characters.{is_control, is_formatting, caret, shown_as, turned, mirrored, on_blank, narrow, digit, looks_of, element_of}
 
 -- what is put for a character has the columns that Unicode gives it: a letter is printable, a mark takes none, and a character
@@ -192,9 +192,9 @@ pub slot-measured : (g : Glyph) → IsTrue (is_slot_glyph g) → IsMeasured g
 slot-measured g is = character-measured g (and_parts (is_glyph_character g) (g.width == 1) is).0
 
 -- how a character that no table shows stands towards marks
-pub joining-measured : (shown : Shown) → ShowsMeasured shown → IsMeasuredJoining (joining_by None shown)
-joining-measured (Caret letter) s = tt
-joining-measured (Octal byte) s = tt
-joining-measured Space s = tt
-joining-measured (Mark code) s = s
-joining-measured (Itself code width) s = single-measured code width s.0 s.1 s.2 s.3
+pub role-measured : (shown : Shown) → ShowsMeasured shown → IsMeasuredRole (mark_role_by None shown)
+role-measured (Caret letter) s = tt
+role-measured (Octal byte) s = tt
+role-measured Space s = tt
+role-measured (Mark code) s = s
+role-measured (Itself code width) s = single-measured code width s.0 s.1 s.2 s.3

@@ -19,18 +19,18 @@ use Rattle.rd_base.specs.declared.element.Look.{Look}
 use Rattle.rd_base.specs.declared.element.Look.TheVariants as look
 use Rattle.rd_ucd.specs.declared.spans.Span.{Span}
 use Rattle.rd_ucd.specs.Lookup.{class_of}
-use Rattle.rd_glyphs.specs.declared.joining.Joining.{Joining}
-use Rattle.rd_glyphs.specs.declared.joining.Joining.TheVariants as joining
+use Rattle.rd_glyphs.specs.declared.mark_role.MarkRole.{MarkRole}
+use Rattle.rd_glyphs.specs.declared.mark_role.MarkRole.TheVariants as role
 use Rattle.rd_glyphs.specs.declared.shown.Shown.{Shown}
 use Rattle.rd_glyphs.specs.declared.shown.Shown.TheVariants.{Caret, Octal, Space, Mark, Itself}
 use Rattle.rd_glyphs.specs.Characters.{PartValues, TakesColumns, ShowsColumns, shown_as, look_columns, entry_of}
-use Rattle.rd_glyphs.specs.Joining.{joining_by, joining_of, base_of, mark_of, IsMark, IsMeasuredJoining}
+use Rattle.rd_glyphs.specs.MarkRoles.{mark_role_by, mark_role_of, base_of, mark_of, IsMark, IsMeasuredRole}
 use Rattle.rd_glyphs.specs.Marks.{marked_glyph, marks_joined}
 use Rattle.rd_glyphs.specs.Lines.{PlainPart, part_of, plain_part, plain_joins, looks_of_parts, plain_looks, cells_of, fitted, plain_cells}
 use Rattle.rd_glyphs.proofs.Columns.{cell_count}
 use Rattle.rd_glyphs.proofs.Elements.{shown_as-columns, looks-columns}
 use Rattle.rd_glyphs.proofs.Joined.{Grows, marks_joined-all}
-use Rattle.rd_glyphs.proofs.Measures.{ShowsMeasured, on_blank-measured, shown_as-measured, looks-measured, joining-measured}
+use Rattle.rd_glyphs.proofs.Measures.{ShowsMeasured, on_blank-measured, shown_as-measured, looks-measured, role-measured}
 
 -- ---- cells
 
@@ -95,23 +95,23 @@ marked_glyph-measured None mark b m = tt
 marked_glyph-measured (Some g) None b m = tt
 marked_glyph-measured (Some g) (Some code) b m = joined_glyph-measured g code b m
 
-pub base-measured : (j : Joining) → IsMeasuredJoining j → IfSome (base_of j) (λ g. IsMeasured g)
-base-measured joining.Empty is = tt
-base-measured joining.Alone is = tt
-base-measured (joining.Base g) is = is
-base-measured (joining.Mark code) is = on_blank-measured code is.0 is.1
+pub base-measured : (j : MarkRole) → IsMeasuredRole j → IfSome (base_of j) (λ g. IsMeasured g)
+base-measured role.Empty is = tt
+base-measured role.Alone is = tt
+base-measured (role.Base g) is = is
+base-measured (role.Mark code) is = on_blank-measured code is.0 is.1
 
-pub mark-measured : (j : Joining) → IsMeasuredJoining j → IfSome (mark_of j) (λ code. IsMark code)
-mark-measured joining.Empty is = tt
-mark-measured joining.Alone is = tt
-mark-measured (joining.Base g) is = tt
-mark-measured (joining.Mark code) is = is
+pub mark-measured : (j : MarkRole) → IsMeasuredRole j → IfSome (mark_of j) (λ code. IsMark code)
+mark-measured role.Empty is = tt
+mark-measured role.Alone is = tt
+mark-measured (role.Base g) is = tt
+mark-measured (role.Mark code) is = is
 
 -- how any character stands towards marks
-pub joining_of-measured : (parts : PartValues) (ch : ℕ) → IsTrue (is_code ch) → IsMeasuredJoining (joining_of parts ch)
-joining_of-measured parts ch code = by-entry (entry_of parts.table ch) where
-  by-entry : (entry : Option (List Glyph)) → IsMeasuredJoining (joining_by entry (shown_as parts.settings.ctl_arrow (class_of parts.classes ch) ch))
-  by-entry None = joining-measured _ (shown_as-measured parts.settings.ctl_arrow (class_of parts.classes ch) ch code)
+pub mark_role_of-measured : (parts : PartValues) (ch : ℕ) → IsTrue (is_code ch) → IsMeasuredRole (mark_role_of parts ch)
+mark_role_of-measured parts ch code = by-entry (entry_of parts.table ch) where
+  by-entry : (entry : Option (List Glyph)) → IsMeasuredRole (mark_role_by entry (shown_as parts.settings.ctl_arrow (class_of parts.classes ch) ch))
+  by-entry None = role-measured _ (shown_as-measured parts.settings.ctl_arrow (class_of parts.classes ch) ch code)
   by-entry (Some []) = tt
   by-entry (Some (g ∷ gs)) = tt
 
@@ -124,13 +124,13 @@ looks-all P (part ∷ parts) each =
 
 record IsMeasuredPart (part : PlainPart) : Type 0 where
   looks : AllByRecursion IsMeasuredLook part.looks
-  joining : IsMeasuredJoining part.joining
+  role : IsMeasuredRole part.role
 
 part-measured : (shown : Shown) → ShowsMeasured shown → IsMeasuredPart (part_of shown)
 part-measured shown is = record {
   looks = recursion_from_All IsMeasuredLook (part_of shown).looks
       (looks-measured (single 92 1) (single 94 1) shown (printable-measured 92 (omega arith) (omega arith)) (printable-measured 94 (omega arith) (omega arith)) is);
-  joining = joining-measured shown is;
+  role = role-measured shown is;
 }
 
 parts-measured : (classes : List Span) (text : List ℕ) → AllByRecursion (λ c. IsTrue (is_code c)) text → AllByRecursion IsMeasuredPart (map (plain_part classes) text)
@@ -140,8 +140,8 @@ parts-measured classes (c ∷ cs) codes =
 
 measured-grows : Grows plain_joins IsMeasuredPart
 measured-grows held next glyph h n e =
-    let found : IfSome (Some glyph) (λ (g : Glyph). IsMeasured g) = subst (λ (m : Option Glyph). IfSome m (λ (g : Glyph). IsMeasured g)) e (marked_glyph-measured (base_of held.joining) (mark_of next.joining) (base-measured held.joining h.joining) (mark-measured next.joining n.joining)) in
-    record { looks = (found, tt); joining = found }
+    let found : IfSome (Some glyph) (λ (g : Glyph). IsMeasured g) = subst (λ (m : Option Glyph). IfSome m (λ (g : Glyph). IsMeasured g)) e (marked_glyph-measured (base_of held.role) (mark_of next.role) (base-measured held.role h.role) (mark-measured next.role n.role)) in
+    record { looks = (found, tt); role = found }
 
 plain_looks-measured : (classes : List Span) (text : List ℕ) → AllByRecursion (λ c. IsTrue (is_code c)) text → All IsMeasuredLook (plain_looks classes text)
 plain_looks-measured classes text codes =
@@ -161,11 +161,11 @@ plain-whole classes face width text codes =
 
 record IsNarrowPart (part : PlainPart) : Type 0 where
   looks : AllByRecursion TakesColumns part.looks
-  base : IfSome (base_of part.joining) (λ g. TakesColumns (look.Glyph g))
+  base : IfSome (base_of part.role) (λ g. TakesColumns (look.Glyph g))
 
 part-narrow : (shown : Shown) → ShowsColumns shown → IsNarrowPart (part_of shown)
 part-narrow shown is = record { looks = looks-columns (single 92 1) (single 94 1) shown refl refl is; base = base shown is } where
-  base : (shown : Shown) → ShowsColumns shown → IfSome (base_of (part_of shown).joining) (λ g. TakesColumns (look.Glyph g))
+  base : (shown : Shown) → ShowsColumns shown → IfSome (base_of (part_of shown).role) (λ g. TakesColumns (look.Glyph g))
   base (Caret letter) is = tt
   base (Octal byte) is = tt
   base Space is = tt
@@ -186,7 +186,7 @@ marked-narrow (Some g) (Some code) b = by-room (nat_lt g.count 6) where
 
 narrow-grows : Grows plain_joins IsNarrowPart
 narrow-grows held next glyph h n e =
-    let found : IfSome (Some glyph) (λ (g : Glyph). TakesColumns (look.Glyph g)) = subst (λ (m : Option Glyph). IfSome m (λ (g : Glyph). TakesColumns (look.Glyph g))) e (marked-narrow (base_of held.joining) (mark_of next.joining) h.base) in
+    let found : IfSome (Some glyph) (λ (g : Glyph). TakesColumns (look.Glyph g)) = subst (λ (m : Option Glyph). IfSome m (λ (g : Glyph). TakesColumns (look.Glyph g))) e (marked-narrow (base_of held.role) (mark_of next.role) h.base) in
     record { looks = (found, tt); base = found }
 
 plain_looks-narrow : (classes : List Span) (text : List ℕ) → All TakesColumns (plain_looks classes text)

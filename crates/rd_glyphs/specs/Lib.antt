@@ -1,5 +1,5 @@
 pub mod Characters
-pub mod Joining
+pub mod MarkRoles
 pub mod Marks
 pub mod Lines
 pub mod Held

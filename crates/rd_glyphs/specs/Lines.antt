@@ -9,21 +9,21 @@ use Rattle.rd_base.specs.declared.element.Look.{Look}
 use Rattle.rd_base.specs.declared.element.Look.TheVariants as look
 use Rattle.rd_ucd.specs.declared.spans.Span.{Span}
 use Rattle.rd_ucd.specs.Lookup.{class_of}
-use Rattle.rd_glyphs.specs.declared.joining.Joining.{Joining}
-use Rattle.rd_glyphs.specs.declared.joining.Joining.TheVariants.{Base}
+use Rattle.rd_glyphs.specs.declared.mark_role.MarkRole.{MarkRole}
+use Rattle.rd_glyphs.specs.declared.mark_role.MarkRole.TheVariants.{Base}
 use Rattle.rd_glyphs.specs.declared.shown.Shown.{Shown}
 use Rattle.rd_glyphs.specs.Characters.{shown_as, looks_of, look_columns}
-use Rattle.rd_glyphs.specs.Joining.{joining_by, base_of, mark_of}
+use Rattle.rd_glyphs.specs.MarkRoles.{mark_role_by, base_of, mark_of}
 use Rattle.rd_glyphs.specs.Marks.{Joins, marks_joined}
 
 -- a part of a plain line: what is put for it, and how it stands towards marks
 pub record PlainPart : Type 0 where
   pub looks : List Look
-  pub joining : Joining
+  pub role : MarkRole
 
 -- what is put for a character that is shown so, with a backslash for escapes and a circumflex for controls
 abbrev pub part_of : Shown → PlainPart
-part_of s = record { looks = looks_of (single 92 1) (single 94 1) s; joining = joining_by None s }
+part_of s = record { looks = looks_of (single 92 1) (single 94 1) s; role = mark_role_by None s }
 
 -- a character: no table shows it, and a control character is a circumflex and a letter
 abbrev pub plain_part : List Span → ℕ → PlainPart
@@ -32,9 +32,9 @@ plain_part classes c = part_of (shown_as true (class_of classes c) c)
 -- a part that a mark joins becomes the longer glyph
 abbrev pub plain_joins : Joins PlainPart
 plain_joins = record {
-  base = λ part. base_of part.joining;
-  mark = λ part. mark_of part.joining;
-  grown = λ held glyph next. record { looks = look.Glyph glyph ∷ []; joining = Base glyph };
+  base = λ part. base_of part.role;
+  mark = λ part. mark_of part.role;
+  grown = λ held glyph next. record { looks = look.Glyph glyph ∷ []; role = Base glyph };
 }
 
 abbrev pub part_looks : PlainPart → List Look

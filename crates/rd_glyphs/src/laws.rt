@@ -10,9 +10,9 @@ ghost use Rattle.rd_base.specs.declared.cell.Glyph.{Glyph};
 ghost use Rattle.rd_base.specs.declared.element.Origin.{Origin};
 ghost use Rattle.rd_ucd.specs.declared.spans.Span.{Span};
 ghost use Rattle.rd_objects.specs.Tables.{is_glyph_text};
-ghost use Rattle.rd_glyphs.specs.declared.joining.Joining.{Joining};
+ghost use Rattle.rd_glyphs.specs.declared.mark_role.MarkRole.{MarkRole};
 ghost use Rattle.rd_glyphs.specs.Characters.{PartValues, AreSoundParts, HasOrigin, IsShort, elements_of, entry_of, glyph_elements, on_blank};
-ghost use Rattle.rd_glyphs.specs.Joining.{is_empty_entry, joining_of, base_of, mark_of, IsMark, IsMeasuredJoining};
+ghost use Rattle.rd_glyphs.specs.MarkRoles.{is_empty_entry, mark_role_of, base_of, mark_of, IsMark, IsMeasuredRole};
 ghost use Rattle.rd_glyphs.specs.Marks.{marked_glyph};
 ghost use Rattle.rd_glyphs.specs.Lines.{plain_cells};
 
@@ -40,9 +40,9 @@ pub fn glyph_texts_are_sound()
 
 /// The glyphs that marks join are measured before and after, and so is a mark on a blank. The call does nothing.
 pub fn marks_join_measured_glyphs()
-    ensures joining { (parts : PartValues) (ch : ℕ) → IsTrue (is_code ch) → IsMeasuredJoining (joining_of parts ch) }
-    ensures base { (joining : Joining) → IsMeasuredJoining joining → IfSome (base_of joining) (λ g. IsMeasured g) }
-    ensures mark { (joining : Joining) → IsMeasuredJoining joining → IfSome (mark_of joining) (λ code. IsMark code) }
+    ensures role { (parts : PartValues) (ch : ℕ) → IsTrue (is_code ch) → IsMeasuredRole (mark_role_of parts ch) }
+    ensures base { (role : MarkRole) → IsMeasuredRole role → IfSome (base_of role) (λ g. IsMeasured g) }
+    ensures mark { (role : MarkRole) → IsMeasuredRole role → IfSome (mark_of role) (λ code. IsMark code) }
     ensures blank { (code : ℕ) → IsMark code → IsMeasured (on_blank code) }
     ensures joined { (base : Option Glyph) (mark : Option ℕ) → IfSome base (λ g. IsMeasured g) → IfSome mark (λ code. IsMark code) → IfSome (marked_glyph base mark) (λ g. IsMeasured g) }
 {}

@@ -3,19 +3,19 @@
 
 mod counting;
 mod examples;
-mod joining;
 mod laws;
 mod looks;
+mod mark_role;
 mod only;
 mod parts;
 mod plain;
 mod shown;
 
 pub use counting::plain_columns;
-pub use joining::{Joining, joined_glyph};
 pub use laws::{
     elements_are_sound, glyph_texts_are_sound, marks_join_measured_glyphs, plain_lines_are_whole,
 };
 pub use looks::on_blank;
+pub use mark_role::{MarkRole, joined_glyph};
 pub use parts::{Parts, expand};
 pub use plain::plain_line;

@@ -4,7 +4,7 @@ ghost use Rattle.rd_base.specs.Cells.{single};
 ghost use Rattle.rd_base.specs.Glyphs.{IsMeasured};
 ghost use Rattle.rd_base.specs.declared.cell.Glyph.{Glyph};
 ghost use Rattle.rd_glyphs.specs.Characters.{narrow, digit, on_blank, looks_of, only, look_columns, TakesColumns, ShowsColumns};
-ghost use Rattle.rd_glyphs.specs.Joining.{IsMark};
+ghost use Rattle.rd_glyphs.specs.MarkRoles.{IsMark};
 
 use crate::shown::Shown;
 use rd_base::{Glyph, Look};

@@ -7,8 +7,8 @@ ghost use Rattle.rd_glyphs.specs.Characters.{looks_of, look_columns, TakesColumn
 ghost use Rattle.rd_glyphs.specs.Held.{HoldsColumns, has_room, joined_held, joined_to, held_looks, given, held_after};
 ghost use Rattle.rd_glyphs.specs.Lines.{plain_looks, cells_of, fitted, plain_cells};
 
-use crate::joining::joined_glyph;
 use crate::looks::{look_columns, looks_of, on_blank};
+use crate::mark_role::joined_glyph;
 use crate::shown::{Shown, shown_as};
 use rd_base::{Cell, Ch, Face, Glyph, ListOf, Look, Memory};
 use rd_ucd::Classes;

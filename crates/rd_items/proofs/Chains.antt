@@ -10,10 +10,10 @@ use Rattle.rd_text.specs.Texts.{is_newline}
 use Rattle.rd_objects.specs.declared.run.Spec.{Spec}
 use Rattle.rd_objects.specs.declared.run.Spec.TheVariants.{Text, Width, Align}
 use Rattle.rd_glyphs.specs.Characters.{entry_of, shown_as}
-use Rattle.rd_glyphs.specs.Joining.{joining_by, joining_of, base_of, is_empty_entry}
+use Rattle.rd_glyphs.specs.MarkRoles.{mark_role_by, mark_role_of, base_of, is_empty_entry}
 use Rattle.rd_glyphs.specs.Marks.{marked_glyph, marks_joined_from, marks_joined}
-use Rattle.rd_glyphs.specs.declared.joining.Joining.{Joining}
-use Rattle.rd_glyphs.specs.declared.joining.Joining.TheVariants as joining
+use Rattle.rd_glyphs.specs.declared.mark_role.MarkRole.{MarkRole}
+use Rattle.rd_glyphs.specs.declared.mark_role.MarkRole.TheVariants as role
 use Rattle.rd_glyphs.specs.declared.shown.Shown.{Shown}
 use Rattle.rd_glyphs.specs.declared.shown.Shown.TheVariants as shown
 use Rattle.rd_ucd.specs.Lookup.{class_of}
@@ -134,7 +134,7 @@ own-spec s (Width n) face p to some = record { own = record { link = record { at
 own-spec s (Align n) face p to some = record { own = record { link = record { at = refl; ordered = omega arith; some = λ e. some; gives = refl; based = λ e. cc }; inner = refl }; ends = refl }
 
 -- a character has an element exactly where its entry in the table is not empty
-element-by : (entry : Option (List Glyph)) (look : Shown) → has_element (joining_by entry look) ≡ not (is_empty_entry entry)
+element-by : (entry : Option (List Glyph)) (look : Shown) → has_element (mark_role_by entry look) ≡ not (is_empty_entry entry)
 element-by (Some []) look = refl
 element-by (Some (g ∷ gs)) look = refl
 element-by None (shown.Caret n) = refl
@@ -143,11 +143,11 @@ element-by None shown.Space = refl
 element-by None (shown.Mark n) = refl
 element-by None (shown.Itself n w) = refl
 
-base-element : (j : Joining) → is_some (base_of j) ≡ true → has_element j ≡ true
-base-element (joining.Base g) some = refl
-base-element (joining.Mark n) some = refl
-base-element joining.Empty some = cc
-base-element joining.Alone some = cc
+base-element : (j : MarkRole) → is_some (base_of j) ≡ true → has_element j ≡ true
+base-element (role.Base g) some = refl
+base-element (role.Mark n) some = refl
+base-element role.Empty some = cc
+base-element role.Alone some = cc
 
 own-char : (s : Scene) (face : Attributes) (c p : ℕ) → IsOwn s p (p + 1) (char_piece s face c p)
 own-char s face c p = record {
@@ -157,7 +157,7 @@ own-char s face c p = record {
       ordered = omega arith;
       some = λ e. omega arith;
       gives = element-by (entry_of s.parts.table c) (shown_as s.parts.settings.ctl_arrow (class_of s.parts.classes c) c);
-      based = λ some. (base-element (joining_of s.parts c) some, refl);
+      based = λ some. (base-element (mark_role_of s.parts c) some, refl);
     };
     inner = refl;
   };

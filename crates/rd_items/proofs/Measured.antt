@@ -9,11 +9,11 @@ use Rattle.rd_base.specs.declared.cell.Glyph.{Glyph}
 use Rattle.rd_text.specs.Texts.{is_newline}
 use Rattle.rd_objects.specs.declared.run.Spec.{Spec}
 use Rattle.rd_objects.specs.declared.run.Spec.TheVariants.{Text, Width, Align}
-use Rattle.rd_glyphs.specs.Joining.{joining_of, base_of, mark_of, IsMark, IsMeasuredJoining}
+use Rattle.rd_glyphs.specs.MarkRoles.{mark_role_of, base_of, mark_of, IsMark, IsMeasuredRole}
 use Rattle.rd_glyphs.specs.Marks.{marked_glyph, marks_joined}
 use Rattle.rd_glyphs.specs.Characters.{PartValues}
 use Rattle.rd_glyphs.proofs.Joined.{Grows, marks_joined-each}
-use Rattle.rd_glyphs.specs.declared.joining.Joining.{Joining}
+use Rattle.rd_glyphs.specs.declared.mark_role.MarkRole.{MarkRole}
 use Rattle.rd_props.specs.Seen.{Seen}
 use Rattle.rd_props.specs.declared.hiding.Hidden.{Hidden}
 use Rattle.rd_props.specs.declared.hiding.Hidden.TheVariants.{No, Plain, Ellipsis}
@@ -35,9 +35,9 @@ AreMeasuredPieces xs = All IsMeasuredPiece xs
 
 -- what is known of marks
 pub record MarkLaws : Type 0 where
-  pub joining : (parts : PartValues) (ch : ℕ) → IsTrue (is_code ch) → IsMeasuredJoining (joining_of parts ch)
-  pub base : (j : Joining) → IsMeasuredJoining j → IfSome (base_of j) (λ g. IsMeasured g)
-  pub mark : (j : Joining) → IsMeasuredJoining j → IfSome (mark_of j) (λ code. IsMark code)
+  pub role : (parts : PartValues) (ch : ℕ) → IsTrue (is_code ch) → IsMeasuredRole (mark_role_of parts ch)
+  pub base : (j : MarkRole) → IsMeasuredRole j → IfSome (base_of j) (λ g. IsMeasured g)
+  pub mark : (j : MarkRole) → IsMeasuredRole j → IfSome (mark_of j) (λ code. IsMark code)
   pub joined : (base : Option Glyph) (mark : Option ℕ) → IfSome base (λ g. IsMeasured g) → IfSome mark (λ code. IsMark code) → IfSome (marked_glyph base mark) (λ g. IsMeasured g)
 
 -- ---- the pieces of what is read
@@ -59,8 +59,8 @@ of-ender face p = record { kind = tt; base = tt; mark = tt }
 
 of-char : (laws : MarkLaws) → (s : Scene) (face : Attributes) (c p : ℕ) → IsTrue (is_code c) → IsMeasuredPiece (char_piece s face c p)
 of-char laws s face c p code =
-    let joining = laws.joining s.parts c code in
-    record { kind = tt; base = laws.base (joining_of s.parts c) joining; mark = laws.mark (joining_of s.parts c) joining }
+    let role = laws.role s.parts c code in
+    record { kind = tt; base = laws.base (mark_role_of s.parts c) role; mark = laws.mark (mark_role_of s.parts c) role }
 
 of-open : (laws : MarkLaws) → (s : Scene) (face : Attributes) (ch : Option ℕ) (p : ℕ) → IfSome ch (λ c. IsTrue (is_code c)) → IsMeasuredPiece (open_piece s face ch p)
 of-open laws s face None p code = of-ender face p

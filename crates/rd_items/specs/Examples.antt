@@ -14,7 +14,7 @@ use Rattle.rd_objects.specs.declared.run.Spec.TheVariants.{Text, Width}
 use Rattle.rd_objects.specs.Texts.{text_of}
 use Rattle.rd_objects.specs.Things.{ObjectLists, nothing_made}
 use Rattle.rd_glyphs.specs.Marks.{marks_joined}
-use Rattle.rd_glyphs.specs.declared.joining.Joining.TheVariants.{Base, Mark}
+use Rattle.rd_glyphs.specs.declared.mark_role.MarkRole.TheVariants.{Base, Mark}
 use Rattle.rd_props.specs.Buffers.{BufferValue, values_of}
 use Rattle.rd_props.specs.Examples.{three_characters, put_once}
 use Rattle.rd_items.specs.Readings.{reading}

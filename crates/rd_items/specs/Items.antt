@@ -2,7 +2,7 @@
 use Rattle.std.specs.Prelude.{ℕ, Bool, true, false, not, if◌then◌else◌, List, [], ◌∷◌, ◌++◌, slice_get, Option, None, Some, All}
 use Rattle.rd_objects.specs.declared.run.Spec.TheVariants.{Text}
 use Rattle.rd_glyphs.specs.Characters.{entry_of}
-use Rattle.rd_glyphs.specs.Joining.{is_empty_entry}
+use Rattle.rd_glyphs.specs.MarkRoles.{is_empty_entry}
 use Rattle.rd_glyphs.specs.Marks.{Joins, marks_joined}
 use Rattle.rd_props.specs.Seen.{Seen}
 use Rattle.rd_items.specs.Pieces.{Scene, string_gives, ellipsis_gives, pieces_from, IsMeasuredKind}

@@ -17,9 +17,9 @@ use Rattle.rd_objects.specs.Tables.{TableValue}
 use Rattle.rd_objects.specs.Texts.{TextValue}
 use Rattle.rd_objects.specs.Things.{ObjectLists}
 use Rattle.rd_glyphs.specs.Characters.{PartValues, entry_of}
-use Rattle.rd_glyphs.specs.Joining.{is_empty_entry, joining_of, base_of, mark_of}
-use Rattle.rd_glyphs.specs.declared.joining.Joining.{Joining}
-use Rattle.rd_glyphs.specs.declared.joining.Joining.TheVariants as joining
+use Rattle.rd_glyphs.specs.MarkRoles.{is_empty_entry, mark_role_of, base_of, mark_of}
+use Rattle.rd_glyphs.specs.declared.mark_role.MarkRole.{MarkRole}
+use Rattle.rd_glyphs.specs.declared.mark_role.MarkRole.TheVariants as role
 use Rattle.rd_props.specs.Buffers.{meaning}
 use Rattle.rd_props.specs.Seen.{Seen}
 use Rattle.rd_props.specs.declared.state.View.{View}
@@ -110,11 +110,11 @@ abbrev pub inner_class : Class → Class
 inner_class B = S
 inner_class c = c
 
-abbrev pub has_element : Joining → Bool
-has_element joining.Empty = false
+abbrev pub has_element : MarkRole → Bool
+has_element role.Empty = false
 has_element j = true
 
-abbrev pub char_by : Joining → Class → Attributes → ℕ → ℕ → Piece
+abbrev pub char_by : MarkRole → Class → Attributes → ℕ → ℕ → Piece
 char_by j class face c p = record {
   class = inner_class class;
   kind = Some (kind.Char c);
@@ -128,7 +128,7 @@ char_by j class face c p = record {
 }
 
 abbrev pub char_piece : Scene → Attributes → ℕ → ℕ → Piece
-char_piece s face c p = char_by (joining_of s.parts c) (class_of s.parts.classes c) face c p
+char_piece s face c p = char_by (mark_role_of s.parts c) (class_of s.parts.classes c) face c p
 
 abbrev pub ender_piece : Attributes → ℕ → Piece
 ender_piece face p = piece B (Some kind.Ender) face true p (p + 1)

@@ -1,12 +1,12 @@
 //! What positions give before marks join and ranges are handed on.
 ghost use Rattle.std.specs.Prelude.{◌≡◌, ◌<◌, option_map, slice_get};
 ghost use Rattle.rd_items.specs.Pieces.{scene_of, table_in, spec_in, gives_element, give_elements, string_gives, ellipsis_gives, inner_class, has_element, char_by, spec_piece, open_piece, piece_at};
-ghost use Rattle.rd_glyphs.specs.Joining.{base_of, mark_of};
+ghost use Rattle.rd_glyphs.specs.MarkRoles.{base_of, mark_of};
 
 use crate::item::ItemKind;
 use crate::showing::Showing;
 use rd_base::{Ch, Class, Face, Glyph};
-use rd_glyphs::{Joining, Parts, on_blank};
+use rd_glyphs::{MarkRole, Parts, on_blank};
 use rd_objects::{Objects, Spec, Table, Text};
 use rd_props::{Hidden, View};
 
@@ -188,51 +188,51 @@ fn inner_class(class: Class) -> Class
 }
 
 /// Whether a character has an element.
-fn has_element(joining: Joining) -> bool
-    ensures { result ≡ has_element joining }
+fn has_element(role: MarkRole) -> bool
+    ensures { result ≡ has_element role }
 {
-    match joining {
-        Joining::Empty => false,
+    match role {
+        MarkRole::Empty => false,
         _ => true,
     }
 }
 
 /// The glyph that marks may join.
-fn base_of(joining: Joining) -> Option<Glyph>
-    ensures { result ≡ base_of joining }
+fn base_of(role: MarkRole) -> Option<Glyph>
+    ensures { result ≡ base_of role }
 {
-    match joining {
-        Joining::Base(glyph) => Some(glyph),
-        Joining::Mark(code) => Some(on_blank(code)),
+    match role {
+        MarkRole::Base(glyph) => Some(glyph),
+        MarkRole::Mark(code) => Some(on_blank(code)),
         _ => None,
     }
 }
 
 /// The mark that a character is.
-fn mark_of(joining: Joining) -> Option<u32>
-    ensures { result ≡ mark_of joining }
+fn mark_of(role: MarkRole) -> Option<u32>
+    ensures { result ≡ mark_of role }
 {
-    match joining {
-        Joining::Mark(code) => Some(code),
+    match role {
+        MarkRole::Mark(code) => Some(code),
         _ => None,
     }
 }
 
 /// The piece of a character of this class.
-fn char_by(joining: Joining, class: Class, face: Face, ch: Ch, at: u32) -> Piece
+fn char_by(role: MarkRole, class: Class, face: Face, ch: Ch, at: u32) -> Piece
     requires { at < 4294967295 }
-    ensures { result ≡ char_by joining class face ch at }
+    ensures { result ≡ char_by role class face ch at }
 {
     Piece {
         class: inner_class(class),
         kind: Some(ItemKind::Char(ch)),
         face,
         overlay: false,
-        covers: has_element(joining),
+        covers: has_element(role),
         at,
         to: at + 1,
-        base: base_of(joining),
-        mark: mark_of(joining),
+        base: base_of(role),
+        mark: mark_of(role),
     }
 }
 
@@ -247,8 +247,8 @@ fn open_piece(view: &View, face: Face, ch: &Option<Ch>, at: u32) -> Piece
             if ch.code() == 10 {
                 return Piece::ender(face, at);
             }
-            let joining = parts_of(view).joining(*ch);
-            char_by(joining, view.classes.class(*ch), face, *ch, at)
+            let role = parts_of(view).mark_role(*ch);
+            char_by(role, view.classes.class(*ch), face, *ch, at)
         }
     }
 }

@@ -18,9 +18,9 @@ use Rattle.rd_objects.specs.Things.{ObjectLists, IsSmallSpec}
 use Rattle.rd_objects.specs.declared.run.Spec.{Spec}
 use Rattle.rd_objects.specs.declared.run.Spec.TheVariants.{Width}
 use Rattle.rd_glyphs.specs.Characters.{PartValues}
-use Rattle.rd_glyphs.specs.Joining.{joining_of, base_of, mark_of, IsMark, IsMeasuredJoining}
+use Rattle.rd_glyphs.specs.MarkRoles.{mark_role_of, base_of, mark_of, IsMark, IsMeasuredRole}
 use Rattle.rd_glyphs.specs.Marks.{marked_glyph, marks_joined}
-use Rattle.rd_glyphs.specs.declared.joining.Joining.{Joining}
+use Rattle.rd_glyphs.specs.declared.mark_role.MarkRole.{MarkRole}
 use Rattle.rd_glyphs.proofs.Joined.{Grows, marks_joined-all}
 use Rattle.rd_items.specs.Pieces.{Scene, spec_in, same_spec}
 use Rattle.rd_levels.specs.Turns.{turns_of}
@@ -37,9 +37,9 @@ use Rattle.rd_stack.proofs.TurnCounts.{LevelsLaw, turns-count}
 
 -- what is known of marks
 pub record MarkLaws : Type 0 where
-  pub joining : (parts : PartValues) (ch : ℕ) → IsTrue (is_code ch) → IsMeasuredJoining (joining_of parts ch)
-  pub base : (j : Joining) → IsMeasuredJoining j → IfSome (base_of j) (λ g. IsMeasured g)
-  pub mark : (j : Joining) → IsMeasuredJoining j → IfSome (mark_of j) (λ code. IsMark code)
+  pub role : (parts : PartValues) (ch : ℕ) → IsTrue (is_code ch) → IsMeasuredRole (mark_role_of parts ch)
+  pub base : (j : MarkRole) → IsMeasuredRole j → IfSome (base_of j) (λ g. IsMeasured g)
+  pub mark : (j : MarkRole) → IsMeasuredRole j → IfSome (mark_of j) (λ code. IsMark code)
   pub joined : (base : Option Glyph) (mark : Option ℕ) → IfSome base (λ g. IsMeasured g) → IfSome mark (λ code. IsMark code) → IfSome (marked_glyph base mark) (λ g. IsMeasured g)
 
 -- what a part of a sound string shows
@@ -53,7 +53,7 @@ abbrev pub IsFitShown : Shown → Type 0
 IsFitShown x = IsFitKind x.kind
 
 abbrev IsFitPart : Part → Type 0
-IsFitPart x = IsFitKind x.kind × IsMeasuredJoining x.joining
+IsFitPart x = IsFitKind x.kind × IsMeasuredRole x.role
 
 abbrev IsFitPlace : Place → Type 0
 IsFitPlace p = IsTrue (is_code p.ch)
@@ -85,7 +85,7 @@ spec-small o sound number = small-or (slice_get o.specs number) (found IsSmallSp
 module _ (laws : MarkLaws) (levels : LevelsLaw) (s : Scene) (base : ℕ) (sound : AreObjects s.objects) where
   part-by-fit : (spec : Option Spec) (p : Place) → IfSome spec IsSmallSpec → IsFitPlace p → IsFitPart (part_by s spec p)
   part-by-fit (Some spec) p small code = (small, tt)
-  part-by-fit None p small code = (code, laws.joining s.parts p.ch code)
+  part-by-fit None p small code = (code, laws.role s.parts p.ch code)
 
   named-small : (number : Option ℕ) → IfSome (option_map (spec_in s.objects) number) IsSmallSpec
   named-small None = tt
@@ -98,7 +98,7 @@ module _ (laws : MarkLaws) (levels : LevelsLaw) (s : Scene) (base : ℕ) (sound 
 
   grows : Grows part_joins IsFitPart
   grows held next glyph these those e =
-      let joins = laws.joined (base_of held.joining) (mark_of next.joining) (laws.base held.joining these.1) (laws.mark next.joining those.1) in
+      let joins = laws.joined (base_of held.role) (mark_of next.role) (laws.base held.role these.1) (laws.mark next.role those.1) in
       let measured : IsMeasured glyph = subst (λ (m : Option Glyph). IfSome m (λ (g : Glyph). IsMeasured g)) e joins in
       (measured, measured)
 

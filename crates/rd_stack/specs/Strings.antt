@@ -9,9 +9,9 @@ use Rattle.rd_ucd.specs.Lookup.{class_of}
 use Rattle.rd_objects.specs.Texts.{TextValue, face_of, spec_of}
 use Rattle.rd_objects.specs.declared.run.Spec.{Spec}
 use Rattle.rd_objects.specs.declared.run.Spec.TheVariants.{Text}
-use Rattle.rd_glyphs.specs.Joining.{joining_of, base_of, mark_of}
+use Rattle.rd_glyphs.specs.MarkRoles.{mark_role_of, base_of, mark_of}
 use Rattle.rd_glyphs.specs.Marks.{Joins, marks_joined}
-use Rattle.rd_glyphs.specs.declared.joining.Joining.TheVariants as joining
+use Rattle.rd_glyphs.specs.declared.mark_role.MarkRole.TheVariants as role
 use Rattle.rd_items.specs.Pieces.{Scene, spec_in, inner_class, same_spec}
 use Rattle.rd_items.specs.Items.{unlisted}
 use Rattle.rd_levels.specs.Turns.{turns_of}
@@ -51,12 +51,12 @@ spec_class (Text n) = ON
 spec_class space = S
 
 abbrev pub part_by : Scene → Option Spec → Place → Part
-part_by s (Some spec) p = record { class = spec_class spec; kind = kind.Replaced spec; face = p.face; joining = joining.Alone }
+part_by s (Some spec) p = record { class = spec_class spec; kind = kind.Replaced spec; face = p.face; role = role.Alone }
 part_by s None p = record {
   class = inner_class (class_of s.parts.classes p.ch);
   kind = kind.Char p.ch;
   face = p.face;
-  joining = joining_of s.parts p.ch;
+  role = mark_role_of s.parts p.ch;
 }
 
 abbrev pub part_of : Scene → Place → Part
@@ -65,9 +65,9 @@ part_of s p = part_by s (option_map (spec_in s.objects) p.spec) p
 -- how the parts of a row join marks
 abbrev pub part_joins : Joins Part
 part_joins = record {
-  base = λ x. base_of x.joining;
-  mark = λ x. mark_of x.joining;
-  grown = λ held glyph next. record held { kind = kind.Marked glyph; joining = joining.Base glyph };
+  base = λ x. base_of x.role;
+  mark = λ x. mark_of x.role;
+  grown = λ held glyph next. record held { kind = kind.Marked glyph; role = role.Base glyph };
 }
 
 -- the part at a place in its turn, if there is one

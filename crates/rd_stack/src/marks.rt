@@ -1,13 +1,13 @@
 //! Marks join the parts of a string.
 ghost use Rattle.std.specs.Prelude.{◌≡◌, ◌∷◌, ◌++◌, List, IfOk, Some};
-ghost use Rattle.rd_glyphs.specs.Joining.{base_of, mark_of};
+ghost use Rattle.rd_glyphs.specs.MarkRoles.{base_of, mark_of};
 ghost use Rattle.rd_glyphs.specs.Marks.{marked_glyph, marked, marks_joined, with_held};
 ghost use Rattle.rd_stack.specs.Strings.{part_joins};
 ghost use Rattle.rd_stack.specs.declared.part.Part.{Part};
 
 use crate::part::{Part, PartKind};
 use rd_base::{Glyph, ListOf, Memory};
-use rd_glyphs::{Joining, joined_glyph, on_blank};
+use rd_glyphs::{MarkRole, joined_glyph, on_blank};
 use std::alloc::Global;
 
 /// Parts in which each mark has joined the part directly before it, where it may.
@@ -39,12 +39,12 @@ fn hold(made: &mut ListOf<Part>, held: Option<Part>, next: &Part) -> Result<Part
 }
 
 /// The glyph that a mark joins, with the mark, where it joins it.
-fn glyph_with(held: Joining, next: Joining) -> Option<Glyph>
+fn glyph_with(held: MarkRole, next: MarkRole) -> Option<Glyph>
     ensures { result ≡ marked_glyph (base_of held) (mark_of next) }
 {
     match (held, next) {
-        (Joining::Base(glyph), Joining::Mark(code)) => joined_glyph(glyph, code),
-        (Joining::Mark(first), Joining::Mark(code)) => joined_glyph(on_blank(first), code),
+        (MarkRole::Base(glyph), MarkRole::Mark(code)) => joined_glyph(glyph, code),
+        (MarkRole::Mark(first), MarkRole::Mark(code)) => joined_glyph(on_blank(first), code),
         _ => None,
     }
 }
@@ -53,10 +53,10 @@ fn glyph_with(held: Joining, next: Joining) -> Option<Glyph>
 fn marked(held: &Part, next: &Part) -> Option<Part>
     ensures { result ≡ marked part_joins held.now next.now }
 {
-    match glyph_with(held.joining, next.joining) {
+    match glyph_with(held.role, next.role) {
         Some(glyph) => Some(Part {
             kind: PartKind::Marked(glyph),
-            joining: Joining::Base(glyph),
+            role: MarkRole::Base(glyph),
             class: held.class,
             face: held.face,
         }),

@@ -5,7 +5,7 @@ ghost use Rattle.rd_items.specs.Pieces.{scene_of, spec_in, inner_class, same_spe
 ghost use Rattle.rd_stack.specs.Strings.{place_of, ends_row, spec_class, part_of, kind_code};
 
 use rd_base::{Ch, Class, Face, Glyph};
-use rd_glyphs::Joining;
+use rd_glyphs::MarkRole;
 use rd_items::{UNLISTED, parts_of};
 use rd_objects::{Objects, Spec, Text};
 use rd_props::View;
@@ -38,7 +38,7 @@ pub struct Part {
     pub kind: PartKind,
     pub face: Face,
     /// How it stands towards the marks behind it.
-    pub joining: Joining,
+    pub role: MarkRole,
 }
 
 /// A part in its turn, at an odd embedding level or not.
@@ -118,7 +118,7 @@ pub fn part_of(view: &View, place: &Place) -> Part
             class: spec_class(spec),
             kind: PartKind::Replaced(spec),
             face: place.face,
-            joining: Joining::Alone,
+            role: MarkRole::Alone,
         };
     }
     let parts = parts_of(view);
@@ -126,7 +126,7 @@ pub fn part_of(view: &View, place: &Place) -> Part
         class: inner_class(parts.classes.class(place.ch)),
         kind: PartKind::Char(place.ch),
         face: place.face,
-        joining: parts.joining(place.ch),
+        role: parts.mark_role(place.ch),
     }
 }
 

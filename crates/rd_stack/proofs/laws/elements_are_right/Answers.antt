@@ -13,7 +13,7 @@ returns c =
       text_columns = c.glyph_texts_are_sound.ensures.columns;
     } in
     let marks : MarkLaws = record {
-      joining = c.marks_join_measured_glyphs.ensures.joining;
+      role = c.marks_join_measured_glyphs.ensures.role;
       base = c.marks_join_measured_glyphs.ensures.base;
       mark = c.marks_join_measured_glyphs.ensures.mark;
       joined = c.marks_join_measured_glyphs.ensures.joined;

@@ -6,8 +6,8 @@ use Rattle.rd_base.specs.Cells.{single}
 use Rattle.rd_base.specs.Glyphs.{IsMeasured}
 use Rattle.rd_base.specs.declared.cell.Glyph.{Glyph}
 use Rattle.rd_ucd.specs.Lookup.{class_of}
-use Rattle.rd_glyphs.specs.declared.joining.Joining.{Joining}
-use Rattle.rd_glyphs.specs.declared.joining.Joining.TheVariants as joining
+use Rattle.rd_glyphs.specs.declared.mark_role.MarkRole.{MarkRole}
+use Rattle.rd_glyphs.specs.declared.mark_role.MarkRole.TheVariants as role
 use Rattle.rd_glyphs.specs.declared.shown.Shown.{Shown}
 use Rattle.rd_glyphs.specs.declared.shown.Shown.TheVariants.{Mark, Itself}
 use Rattle.rd_glyphs.specs.Characters.{PartValues, shown_as, entry_of, on_blank}
@@ -18,26 +18,26 @@ is_empty_entry (Some []) = true
 is_empty_entry entry = false
 
 -- a character that a table shows joins no mark, nor is it one
-abbrev pub joining_by : Option (List Glyph) → Shown → Joining
-joining_by (Some []) shown = joining.Empty
-joining_by (Some (g ∷ gs)) shown = joining.Alone
-joining_by None (Itself code width) = joining.Base (single code width)
-joining_by None (Mark code) = joining.Mark code
-joining_by None shown = joining.Alone
+abbrev pub mark_role_by : Option (List Glyph) → Shown → MarkRole
+mark_role_by (Some []) shown = role.Empty
+mark_role_by (Some (g ∷ gs)) shown = role.Alone
+mark_role_by None (Itself code width) = role.Base (single code width)
+mark_role_by None (Mark code) = role.Mark code
+mark_role_by None shown = role.Alone
 
 -- how a character stands towards marks
-abbrev pub joining_of : PartValues → ℕ → Joining
-joining_of parts ch = joining_by (entry_of parts.table ch) (shown_as parts.settings.ctl_arrow (class_of parts.classes ch) ch)
+abbrev pub mark_role_of : PartValues → ℕ → MarkRole
+mark_role_of parts ch = mark_role_by (entry_of parts.table ch) (shown_as parts.settings.ctl_arrow (class_of parts.classes ch) ch)
 
 -- the glyph that marks may join: the character, or the blank that it stands on as a mark
-abbrev pub base_of : Joining → Option Glyph
-base_of (joining.Base g) = Some g
-base_of (joining.Mark code) = Some (on_blank code)
+abbrev pub base_of : MarkRole → Option Glyph
+base_of (role.Base g) = Some g
+base_of (role.Mark code) = Some (on_blank code)
 base_of j = None
 
 -- the mark that a character is
-abbrev pub mark_of : Joining → Option ℕ
-mark_of (joining.Mark code) = Some code
+abbrev pub mark_of : MarkRole → Option ℕ
+mark_of (role.Mark code) = Some code
 mark_of j = None
 
 -- a mark: a scalar value of no columns
@@ -45,7 +45,7 @@ abbrev pub IsMark : ℕ → Type 0
 IsMark code = IsTrue (is_scalar code) × (char_width false code ≡ Some 0)
 
 -- what joins has the columns that Unicode gives it
-abbrev pub IsMeasuredJoining : Joining → Type 0
-IsMeasuredJoining (joining.Base g) = IsMeasured g
-IsMeasuredJoining (joining.Mark code) = IsMark code
-IsMeasuredJoining j = Unit {0}
+abbrev pub IsMeasuredRole : MarkRole → Type 0
+IsMeasuredRole (role.Base g) = IsMeasured g
+IsMeasuredRole (role.Mark code) = IsMark code
+IsMeasuredRole j = Unit {0}

@@ -2,15 +2,15 @@
 ghost use Rattle.std.specs.Prelude.{◌≡◌, None, IfSome};
 ghost use Rattle.rd_base.specs.Cells.{joined_glyph};
 ghost use Rattle.rd_base.specs.Glyphs.{IsMeasured};
-ghost use Rattle.rd_glyphs.specs.Joining.{joining_by, IsMark};
+ghost use Rattle.rd_glyphs.specs.MarkRoles.{mark_role_by, IsMark};
 
 use crate::parts::Parts;
 use crate::shown::{Shown, shown_as};
 use rd_base::{Ch, Glyph};
 
-/// How a character stands towards marks. A character that a display table shows joins no mark, nor is it one.
+/// How a character stands towards marks that join glyphs. A character that a display table shows joins no mark, nor is it one.
 #[derive(Clone, Copy, Debug, PartialEq, Eq)]
-pub enum Joining {
+pub enum MarkRole {
     /// The table shows nothing for it, so it has no element.
     Empty,
     /// No mark joins it.
@@ -24,7 +24,7 @@ pub enum Joining {
 impl<'a> Parts<'a> {
     ghost use Rattle.std.specs.Prelude.{◌≡◌};
     ghost use Rattle.rd_glyphs.specs.Characters.{entry_of};
-    ghost use Rattle.rd_glyphs.specs.Joining.{is_empty_entry, joining_of, IsMeasuredJoining};
+    ghost use Rattle.rd_glyphs.specs.MarkRoles.{is_empty_entry, mark_role_of, IsMeasuredRole};
 
     /// Whether a table shows nothing for a character, so that it has no element. It costs a look at each entry of the table.
     pub fn is_empty(&self, ch: Ch) -> bool
@@ -38,30 +38,30 @@ impl<'a> Parts<'a> {
 
     /// How a character stands towards marks. It costs a look at each entry of the table and the logarithms of the lengths of the
     /// data.
-    pub fn joining(&self, ch: Ch) -> Joining
-        ensures value { result ≡ joining_of self.now ch }
-        ensures measured { IsMeasuredJoining result }
+    pub fn mark_role(&self, ch: Ch) -> MarkRole
+        ensures value { result ≡ mark_role_of self.now ch }
+        ensures measured { IsMeasuredRole result }
     {
         if let Some(text) = self.entry(ch.code()) {
             return if text.is_empty() {
-                Joining::Empty
+                MarkRole::Empty
             } else {
-                Joining::Alone
+                MarkRole::Alone
             };
         }
         let settings = self.settings;
-        joining_of_shown(shown_as(settings.ctl_arrow, self.classes.class(ch), ch.code()))
+        mark_role_of_shown(shown_as(settings.ctl_arrow, self.classes.class(ch), ch.code()))
     }
 }
 
 /// How a character that no table shows stands towards marks.
-fn joining_of_shown(shown: Shown) -> Joining
-    ensures { result ≡ joining_by None shown }
+fn mark_role_of_shown(shown: Shown) -> MarkRole
+    ensures { result ≡ mark_role_by None shown }
 {
     match shown {
-        Shown::Itself(code, width) => Joining::Base(Glyph::single(code, width)),
-        Shown::Mark(code) => Joining::Mark(code),
-        _ => Joining::Alone,
+        Shown::Itself(code, width) => MarkRole::Base(Glyph::single(code, width)),
+        Shown::Mark(code) => MarkRole::Mark(code),
+        _ => MarkRole::Alone,
     }
 }
 
