@@ -10,9 +10,9 @@ use Rattle.rd_matrix.specs.declared.block.Block.{Block}
 use Rattle.rd_rows.specs.Rows.{RowMeaning}
 use Rattle.rd_rows.specs.Shapes.{IsShape}
 use Rattle.rd_start.specs.Chosen.{anchor_row, begins_item, row_in_block}
-use Rattle.rd_start.specs.Strips.{HasPoint, IsAsked, IsPaid, IsPaidOf, IsPushed, IsStrip, IsStripOf, all_costs, cost_in, home_row, line_of, point_row, rows_in}
+use Rattle.rd_start.specs.Strips.{HasPoint, IsAsked, IsPaid, IsPaidOf, IsPushed, IsStrip, IsStripOf, all_costs, cost_in, home_row, strip_row_of, point_row, rows_in}
 use Rattle.rd_start.specs.declared.strip.Edge.TheVariants.{Bottom}
-use Rattle.rd_start.specs.declared.strip.Line.{Line}
+use Rattle.rd_start.specs.declared.strip.StripRow.{StripRow}
 use Rattle.rd_start.specs.declared.strip.Strip.{Strip}
 use Rattle.rd_start.specs.declared.strip.Sweep.{Sweep}
 use Rattle.rd_start.proofs.Blocks.{Fit, anchor-skips, any-block, any-fit, fit-back, fit-front, row-below, some-row}
@@ -47,11 +47,11 @@ around m sweep b source shape holds =
     }
 
 pub strip-around : (m : SourceValues) (sweep : Sweep) (b : Block) → IsSource m → IsShape sweep.shape → IsWithin sweep.point m.blocks → HoldsPosition sweep.anchor.pos m.blocks b → b.end < 2 ^ 32
-    → IsStripOf m sweep (b ∷ []) (map (line_of sweep.point) (entries_of (rows_in m sweep) b)) (row_in_block sweep.anchor b.start (rows_in m sweep b))
+    → IsStripOf m sweep (b ∷ []) (map (strip_row_of sweep.point) (entries_of (rows_in m sweep) b)) (row_in_block sweep.anchor b.start (rows_in m sweep b))
 strip-around m sweep b source shape point holds small =
     let rows = λ (x : Block). rows_in m sweep x in
     let a = around m sweep b source shape holds in
-    let size = length-map (entries_of rows b) (line_of sweep.point) ∙ length-numbered b.start 0 (rows b) in
+    let size = length-map (entries_of rows b) (strip_row_of sweep.point) ∙ length-numbered b.start 0 (rows b) in
     let low = row-below sweep.anchor b.start (rows b) a.some in
     record {
       source = source;
@@ -62,7 +62,7 @@ strip-around m sweep b source shape point holds small =
       pieces = a.pieces;
       some = omega arith;
       small = (small, tt);
-      lines = ap (map (line_of sweep.point)) (sym (append-nil (entries_of rows b)));
+      strip_rows = ap (map (strip_row_of sweep.point)) (sym (append-nil (entries_of rows b)));
       home = sym a.home;
       inside = omega arith;
     }
@@ -136,7 +136,7 @@ pub record Made (m : SourceValues) (sweep : Sweep) (b : Block) (empty new : Stri
   pub same : rows ≡ rows_in m sweep b
   pub sweep_is : empty.sweep ≡ sweep
   pub blocks : empty.blocks.items ≡ []
-  pub lines : empty.lines.items ≡ []
+  pub strip_rows : empty.strip_rows.items ≡ []
   pub home : empty.home ≡ row_in_block sweep.anchor b.start rows
   pub below : IsPushed Bottom empty new b rows
 
@@ -149,18 +149,18 @@ made-blocks m sweep b empty new rows h = h.below.blocks ∙ ap (λ ys. ys ++ b �
 made-home : (m : SourceValues) (sweep : Sweep) (b : Block) (empty new : Strip) (rows : List RowMeaning) → Made m sweep b empty new rows → new.home ≡ row_in_block sweep.anchor b.start (rows_in m sweep b)
 made-home m sweep b empty new rows h = h.below.home ∙ (h.home ∙ ap (row_in_block sweep.anchor b.start) h.same)
 
-made-lines : (m : SourceValues) (sweep : Sweep) (b : Block) (empty new : Strip) (rows : List RowMeaning) → Made m sweep b empty new rows
-    → new.lines.items ≡ map (line_of sweep.point) (entries_of (rows_in m sweep) b)
-made-lines m sweep b empty new rows h =
-    h.below.lines
-    ∙ (ap (λ (ys : List Line). ys ++ map (line_of empty.sweep.point) (numbered b.start 0 rows)) h.lines
-    ∙ (ap (λ (x : Sweep). map (line_of x.point) (numbered b.start 0 rows)) h.sweep_is
-    ∙ ap (λ (r : List RowMeaning). map (line_of sweep.point) (numbered b.start 0 r)) h.same))
+made-strip_rows : (m : SourceValues) (sweep : Sweep) (b : Block) (empty new : Strip) (rows : List RowMeaning) → Made m sweep b empty new rows
+    → new.strip_rows.items ≡ map (strip_row_of sweep.point) (entries_of (rows_in m sweep) b)
+made-strip_rows m sweep b empty new rows h =
+    h.below.strip_rows
+    ∙ (ap (λ (ys : List StripRow). ys ++ map (strip_row_of empty.sweep.point) (numbered b.start 0 rows)) h.strip_rows
+    ∙ (ap (λ (x : Sweep). map (strip_row_of x.point) (numbered b.start 0 rows)) h.sweep_is
+    ∙ ap (λ (r : List RowMeaning). map (strip_row_of sweep.point) (numbered b.start 0 r)) h.same))
 
 pub made-strip : (m : SourceValues) (sweep : Sweep) (b : Block) (empty new : Strip) (rows : List RowMeaning) → Made m sweep b empty new rows → IsStrip m new
 made-strip m sweep b empty new rows h =
-    strip-same m sweep new.sweep (b ∷ []) new.blocks.items (map (line_of sweep.point) (entries_of (rows_in m sweep) b)) new.lines.items (row_in_block sweep.anchor b.start (rows_in m sweep b)) new.home
-    (made-sweep m sweep b empty new rows h) (made-blocks m sweep b empty new rows h) (made-lines m sweep b empty new rows h) (made-home m sweep b empty new rows h)
+    strip-same m sweep new.sweep (b ∷ []) new.blocks.items (map (strip_row_of sweep.point) (entries_of (rows_in m sweep) b)) new.strip_rows.items (row_in_block sweep.anchor b.start (rows_in m sweep b)) new.home
+    (made-sweep m sweep b empty new rows h) (made-blocks m sweep b empty new rows h) (made-strip_rows m sweep b empty new rows h) (made-home m sweep b empty new rows h)
     (strip-around m sweep b h.source h.shape h.point h.holds h.below.small)
 
 pub made-paid : (kind : ℕ → Bool) (base : ℕ) (m : SourceValues) (sweep : Sweep) (b : Block) (empty new : Strip) (rows : List RowMeaning) (more : ℕ) → Made m sweep b empty new rows
@@ -185,5 +185,5 @@ made-point m sweep b empty new rows h same =
     let homes = ap (home_row m) e in
     let points = ap (point_row m) e in
     let at = made-home m sweep b empty new rows h in
-    let size = ap length (made-lines m sweep b empty new rows h) ∙ (length-map (entries_of (rows_in m sweep) b) (line_of sweep.point) ∙ length-numbered b.start 0 (rows_in m sweep b)) in
+    let size = ap length (made-strip_rows m sweep b empty new rows h) ∙ (length-map (entries_of (rows_in m sweep) b) (strip_row_of sweep.point) ∙ length-numbered b.start 0 (rows_in m sweep b)) in
     record { strip = made-strip m sweep b empty new rows h; from = omega arith; to = omega arith }

@@ -11,7 +11,7 @@ use Rattle.rd_start.specs.Chosen.{anchor_at, chosen_of, first_positions, forced_
 use Rattle.rd_start.specs.Starts.{Places, around, centred, following, is_in_view, scrolled, start_of, suits}
 use Rattle.rd_start.specs.Strips.{span_of}
 use Rattle.rd_start.specs.declared.span.Span.{Span}
-use Rattle.rd_start.specs.declared.strip.Side.TheVariants.{Above, Below, Within}
+use Rattle.rd_start.specs.declared.strip.PointSide.TheVariants.{Above, Below, Within}
 use Rattle.rd_start.specs.declared.wanted.Chosen.{Chosen}
 use Rattle.rd_start.specs.declared.wanted.Wanted.{Wanted}
 use Rattle.rd_start.proofs.Lists.{find-first}

@@ -9,10 +9,10 @@ use Rattle.rd_matrix.specs.Entries.{EntryMeaning, all_rows, entries_of}
 use Rattle.rd_matrix.specs.Sources.{SourceValues}
 use Rattle.rd_matrix.specs.declared.block.Block.{Block}
 use Rattle.rd_rows.specs.Rows.{RowMeaning}
-use Rattle.rd_start.specs.Strips.{HaveRows, IsPaidOf, IsStripOf, all_costs, cost_in, count_in, home_row, line_of, lists_joined_at, moved_at, rows_in}
+use Rattle.rd_start.specs.Strips.{HaveRows, IsPaidOf, IsStripOf, all_costs, cost_in, count_in, home_row, strip_row_of, lists_joined_at, moved_at, rows_in}
 use Rattle.rd_start.specs.declared.strip.Edge.{Edge}
 use Rattle.rd_start.specs.declared.strip.Edge.TheVariants.{Bottom, Top}
-use Rattle.rd_start.specs.declared.strip.Line.{Line}
+use Rattle.rd_start.specs.declared.strip.StripRow.{StripRow}
 use Rattle.rd_start.specs.declared.strip.Sweep.{Sweep}
 use Rattle.rd_start.proofs.Blocks.{some-row}
 use Rattle.rd_start.proofs.Costs.{costs-more, costs-piece, have-more}
@@ -65,7 +65,7 @@ pub head-of : (after : List Block) (b : Block) → slice_get after 0 ≡ Some b 
 head-of [] b e = absurd cc
 head-of (x ∷ after) b e = let here : x ≡ b = cc in (after, ap (λ z. z ∷ after) here)
 
-pub some-of : (m : SourceValues) (sweep : Sweep) (bs : List Block) (ls : List Line) (at : ℕ) (b : Block) → IsStripOf m sweep bs ls at → IsAmong m.blocks b → 0 < length (rows_in m sweep b)
+pub some-of : (m : SourceValues) (sweep : Sweep) (bs : List Block) (ls : List StripRow) (at : ℕ) (b : Block) → IsStripOf m sweep bs ls at → IsAmong m.blocks b → 0 < length (rows_in m sweep b)
 some-of m sweep bs ls at b h among = some-row b.start b.end (rows_in m sweep b) (h.source.rows b sweep.shape among h.shape)
 
 pub pieces-below : (all before bs after rest : List Block) (b : Block) → all ≡ before ++ (bs ++ after) → after ≡ b ∷ rest → all ≡ before ++ ((bs ++ (b ∷ [])) ++ rest)
@@ -85,28 +85,28 @@ each-joined : (P : Block → Type 0) (edge : Edge) (bs : List Block) (b : Block)
 each-joined P Top bs b all here = (here, all)
 each-joined P Bottom bs b all here = each-append P bs (b ∷ []) all (here, tt)
 
-lines-joined : (edge : Edge) (rows : Block → List RowMeaning) (line : EntryMeaning → Line) (bs : List Block) (ls : List Line) (b : Block) → ls ≡ map line (all_rows rows bs)
-    → lists_joined_at edge ls (map line (entries_of rows b)) ≡ map line (all_rows rows (lists_joined_at edge bs (b ∷ [])))
-lines-joined Top rows line bs ls b lines = ap (λ ys. map line (entries_of rows b) ++ ys) lines ∙ sym (map-append line (entries_of rows b) (all_rows rows bs))
-lines-joined Bottom rows line bs ls b lines =
-    ap (λ ys. ys ++ map line (entries_of rows b)) lines
-    ∙ (sym (map-append line (all_rows rows bs) (entries_of rows b))
-    ∙ ap (map line) (ap (λ ys. all_rows rows bs ++ ys) (sym (append-nil (entries_of rows b))) ∙ sym (all-append rows bs (b ∷ []))))
+strip_rows-joined : (edge : Edge) (rows : Block → List RowMeaning) (strip_row : EntryMeaning → StripRow) (bs : List Block) (ls : List StripRow) (b : Block) → ls ≡ map strip_row (all_rows rows bs)
+    → lists_joined_at edge ls (map strip_row (entries_of rows b)) ≡ map strip_row (all_rows rows (lists_joined_at edge bs (b ∷ [])))
+strip_rows-joined Top rows strip_row bs ls b strip_rows = ap (λ ys. map strip_row (entries_of rows b) ++ ys) strip_rows ∙ sym (map-append strip_row (entries_of rows b) (all_rows rows bs))
+strip_rows-joined Bottom rows strip_row bs ls b strip_rows =
+    ap (λ ys. ys ++ map strip_row (entries_of rows b)) strip_rows
+    ∙ (sym (map-append strip_row (all_rows rows bs) (entries_of rows b))
+    ∙ ap (map strip_row) (ap (λ ys. all_rows rows bs ++ ys) (sym (append-nil (entries_of rows b))) ∙ sym (all-append rows bs (b ∷ []))))
 
-inside-joined : (edge : Edge) (at count : ℕ) (ls more : List Line) → at < length ls → length more ≡ count → moved_at edge at count < length (lists_joined_at edge ls more)
+inside-joined : (edge : Edge) (at count : ℕ) (ls more : List StripRow) → at < length ls → length more ≡ count → moved_at edge at count < length (lists_joined_at edge ls more)
 inside-joined Top at count ls more inside size = omega (arith, length-append more ls)
 inside-joined Bottom at count ls more inside size = omega (arith, length-append ls more)
 
-pub length-lines : (rows : Block → List RowMeaning) (line : EntryMeaning → Line) (b : Block) → length (map line (entries_of rows b)) ≡ length (rows b)
-length-lines rows line b = length-map (entries_of rows b) line ∙ length-numbered b.start 0 (rows b)
+pub length-strip_rows : (rows : Block → List RowMeaning) (strip_row : EntryMeaning → StripRow) (b : Block) → length (map strip_row (entries_of rows b)) ≡ length (rows b)
+length-strip_rows rows strip_row b = length-map (entries_of rows b) strip_row ∙ length-numbered b.start 0 (rows b)
 
 -- one more block at an edge
-pub strip-joined : (edge : Edge) (m : SourceValues) (sweep : Sweep) (bs : List Block) (ls : List Line) (at : ℕ) (b : Block) (before after : List Block) → IsStripOf m sweep bs ls at
+pub strip-joined : (edge : Edge) (m : SourceValues) (sweep : Sweep) (bs : List Block) (ls : List StripRow) (at : ℕ) (b : Block) (before after : List Block) → IsStripOf m sweep bs ls at
     → m.blocks ≡ before ++ (lists_joined_at edge bs (b ∷ []) ++ after) → count_in m sweep before + moved_at edge at (length (rows_in m sweep b)) ≡ home_row m sweep → b.end < 2 ^ 32
-    → IsStripOf m sweep (lists_joined_at edge bs (b ∷ [])) (lists_joined_at edge ls (map (line_of sweep.point) (entries_of (rows_in m sweep) b))) (moved_at edge at (length (rows_in m sweep b)))
+    → IsStripOf m sweep (lists_joined_at edge bs (b ∷ [])) (lists_joined_at edge ls (map (strip_row_of sweep.point) (entries_of (rows_in m sweep) b))) (moved_at edge at (length (rows_in m sweep b)))
 strip-joined edge m sweep bs ls at b before after h pieces home small =
     let rows = λ (c : Block). rows_in m sweep c in
-    let line = line_of sweep.point in
+    let strip_row = strip_row_of sweep.point in
     let size = length-joined edge bs (b ∷ []) in
     record {
       source = h.source;
@@ -117,9 +117,9 @@ strip-joined edge m sweep bs ls at b before after h pieces home small =
       pieces = pieces;
       some = omega (arith, size);
       small = each-joined (λ (x : Block). x.end < 2 ^ 32) edge bs b h.small small;
-      lines = lines-joined edge rows line bs ls b h.lines;
+      strip_rows = strip_rows-joined edge rows strip_row bs ls b h.strip_rows;
       home = home;
-      inside = inside-joined edge at (length (rows b)) ls (map line (entries_of rows b)) h.inside (length-lines rows line b);
+      inside = inside-joined edge at (length (rows b)) ls (map strip_row (entries_of rows b)) h.inside (length-strip_rows rows strip_row b);
     }
 
 -- what was paid for a strip is not more than all blocks with such rows cost
@@ -130,17 +130,17 @@ affords-pieces kind base m sweep before bs after at steps pieces home paid =
     let bound = costs-piece kind (rows_in m sweep) (cost_in m sweep) m.blocks before bs after (home_row m sweep - at) pieces first paid.have in
     omega (arith, bound, paid.paid)
 
-pub affords : (kind : ℕ → Bool) (base : ℕ) (m : SourceValues) (sweep : Sweep) (bs : List Block) (ls : List Line) (at steps : ℕ) → IsStripOf m sweep bs ls at
+pub affords : (kind : ℕ → Bool) (base : ℕ) (m : SourceValues) (sweep : Sweep) (bs : List Block) (ls : List StripRow) (at steps : ℕ) → IsStripOf m sweep bs ls at
     → IsPaidOf kind base m sweep bs at steps → steps ≤ base + all_costs kind m sweep
 affords kind base m sweep bs ls at steps h paid = affords-pieces kind base m sweep h.before bs h.after at steps h.pieces h.home paid
 
 -- one more block, of which a row is of the kind
-pub paid-below : (kind : ℕ → Bool) (base : ℕ) (m : SourceValues) (sweep : Sweep) (bs : List Block) (ls : List Line) (at steps more : ℕ) (b : Block) → IsStripOf m sweep bs ls at
+pub paid-below : (kind : ℕ → Bool) (base : ℕ) (m : SourceValues) (sweep : Sweep) (bs : List Block) (ls : List StripRow) (at steps more : ℕ) (b : Block) → IsStripOf m sweep bs ls at
     → IsPaidOf kind base m sweep bs at steps → 0 < length (rows_in m sweep b) → kind (home_row m sweep - at + length ls) ≡ true → more ≤ steps + cost_in m sweep b
     → IsPaidOf kind base m sweep (bs ++ (b ∷ [])) at more
 paid-below kind base m sweep bs ls at steps more b h paid some here cost =
     let rows = λ (c : Block). rows_in m sweep c in
-    let size = ap length h.lines ∙ length-map (all_rows rows bs) (line_of sweep.point) in
+    let size = ap length h.strip_rows ∙ length-map (all_rows rows bs) (strip_row_of sweep.point) in
     let place = home_row m sweep - at + length (all_rows rows bs) in
     let passes : kind place ≡ true = ap (λ n. kind (home_row m sweep - at + n)) (sym size) ∙ here in
     let costs = costs-more (cost_in m sweep) bs b in

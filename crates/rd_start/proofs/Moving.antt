@@ -87,7 +87,7 @@ asks-scrolled m sweep w of forced some = λ k from to.
     let new = scrolled-is m sweep w of in
     forced-near w (places_of m sweep.shape w) k forced (omega arith) (omega arith)
 
-pub asks-forced : (m : SourceValues) (sweep : Sweep) (s : Strip) (w : Wanted) (start : ℕ) → IsStrip m s → s.sweep ≡ sweep → IsFor w sweep → w.forced ≡ true → start < length s.lines.items
+pub asks-forced : (m : SourceValues) (sweep : Sweep) (s : Strip) (w : Wanted) (start : ℕ) → IsStrip m s → s.sweep ≡ sweep → IsFor w sweep → w.forced ≡ true → start < length s.strip_rows.items
     → first_row m s + start ≡ moved_row m sweep w.pending → AsksAt Bottom (near_of m sweep w) m s (start + w.height)
 asks-forced m sweep s w start h e of forced inside place = λ k from to.
     let old = old-is m w sweep of in
@@ -151,21 +151,21 @@ value-centred m sweep s w chosen e free follows is =
     is ∙ (ap (λ (x : Sweep). centred_chosen m x.shape w) e ∙ chosen-free m sweep.shape w (centred w (places_of m sweep.shape w)) free follows)
 
 -- point's row in a strip that has it
-pub has-found : (m : SourceValues) (s : Strip) → IsStrip m s → is_some (find_point s.lines.items) ≡ true → HasPoint m s
+pub has-found : (m : SourceValues) (s : Strip) → IsStrip m s → is_some (find_point s.strip_rows.items) ≡ true → HasPoint m s
 has-found m s h some =
-    let o = some-of (find_point s.lines.items) some in
+    let o = some-of (find_point s.strip_rows.items) some in
     let place = point-found m s o.0 h o.1 in
     let inside = place.0 in
     let here = place.1 in
     record { strip = h; from = omega arith; to = omega arith }
 
-pub row-found : (m : SourceValues) (s : Strip) (d : ℕ) → HasPoint m s → (unwrap_or (find_point s.lines.items) d < length s.lines.items) × (first_row m s + unwrap_or (find_point s.lines.items) d ≡ point_row m s.sweep)
+pub row-found : (m : SourceValues) (s : Strip) (d : ℕ) → HasPoint m s → (unwrap_or (find_point s.strip_rows.items) d < length s.strip_rows.items) × (first_row m s + unwrap_or (find_point s.strip_rows.items) d ≡ point_row m s.sweep)
 row-found m s d h =
     let strip = h.strip in
     let from = h.from in
     let to = h.to in
     let home = strip.home in
-    elim (whereabouts m s.sweep s.blocks.items s.lines.items s.home strip) [
+    elim (whereabouts m s.sweep s.blocks.items s.strip_rows.items s.home strip) [
       | inl above ↦ let row = above.row in absurd (omega arith)
       | inr other ↦ elim other [
         | inl among ↦
@@ -185,16 +185,16 @@ pub costs-same : (kind : ℕ → Bool) (m : SourceValues) (a b : Sweep) → b.sh
 costs-same kind m a b f = ap (λ (x : ShapeValues). costs_of (λ c. m.cost_of c x) (blocks_with kind (λ c. m.rows_of c x) 0 m.blocks)) f
 
 -- the rows above point's
-pub asks-above : (kind : ℕ → Bool) (m : SourceValues) (old : Sweep) (s : Strip) (w : Wanted) (row half up : ℕ) → IsStrip m s → row < length s.lines.items → first_row m s + row ≡ point_row m s.sweep
+pub asks-above : (kind : ℕ → Bool) (m : SourceValues) (old : Sweep) (s : Strip) (w : Wanted) (row half up : ℕ) → IsStrip m s → row < length s.strip_rows.items → first_row m s + row ≡ point_row m s.sweep
     → half ≤ w.height → up ≡ s.home + half - row → s.sweep.point ≡ old.point → s.sweep.shape ≡ old.shape → Between kind (point_row m old - w.height) (point_row m old + 1) → AsksAt Top kind m s up
 asks-above kind m old s w row half up h inside place low is point shape asks = λ k from to.
     let home = h.home in
     let same = points-same m old s.sweep point shape in
     asks k (omega arith) (omega arith)
 
-pub centre-place : (m : SourceValues) (s new : Strip) (row half : ℕ) → IsStrip m s → IsStrip m new → new.sweep ≡ s.sweep → row < length s.lines.items → first_row m s + row ≡ point_row m s.sweep
-    → length new.lines.items + s.home ≡ length s.lines.items + new.home → s.home ≤ new.home → BeginsAbove m new (s.home + half - row)
-    → (row + (new.home - s.home) - half < length new.lines.items) × (first_row m new + (row + (new.home - s.home) - half) ≡ point_row m s.sweep - half)
+pub centre-place : (m : SourceValues) (s new : Strip) (row half : ℕ) → IsStrip m s → IsStrip m new → new.sweep ≡ s.sweep → row < length s.strip_rows.items → first_row m s + row ≡ point_row m s.sweep
+    → length new.strip_rows.items + s.home ≡ length s.strip_rows.items + new.home → s.home ≤ new.home → BeginsAbove m new (s.home + half - row)
+    → (row + (new.home - s.home) - half < length new.strip_rows.items) × (first_row m new + (row + (new.home - s.home) - half) ≡ point_row m s.sweep - half)
 centre-place m s new row half h i e inside place grows higher begins =
     let home = h.home in
     let now = i.home in
@@ -214,7 +214,7 @@ value-centre m shape s new w place chosen e f point row is =
 -- what was paid, where it may be as much again
 pub pays : (kind : ℕ → Bool) (base : ℕ) (m : SourceValues) (sweep : Sweep) (s : Strip) (steps : ℕ) → s.sweep ≡ sweep → IsPaid kind base m s steps → steps ≤ base + all_costs kind m sweep
 pays kind base m sweep s steps e paid =
-    let bound = affords kind base m s.sweep s.blocks.items s.lines.items s.home steps paid.0 paid.1 in
+    let bound = affords kind base m s.sweep s.blocks.items s.strip_rows.items s.home steps paid.0 paid.1 in
     omega (arith, bound, ap (λ (x : Sweep). all_costs kind m x) e)
 
 -- what was paid for a strip of a window, by the rows near it

@@ -8,8 +8,8 @@ use Rattle.std.specs.List.{slice_get}
 use Rattle.rd_matrix.proofs.Counting.{length-numbered}
 use Rattle.rd_matrix.specs.Entries.{EntryMeaning, numbered}
 use Rattle.rd_rows.specs.Rows.{RowMeaning}
-use Rattle.rd_start.specs.Strips.{line_of}
-use Rattle.rd_start.specs.declared.strip.Line.{Line}
+use Rattle.rd_start.specs.Strips.{strip_row_of}
+use Rattle.rd_start.specs.declared.strip.StripRow.{StripRow}
 
 numbered-at : (start number k : ℕ) (rows : List RowMeaning) (r : RowMeaning) (d : EntryMeaning) → slice_get rows k ≡ Some r
     → get_or (numbered start number rows) k d ≡ record { start = start; number = number + k; row = r }
@@ -42,40 +42,40 @@ drop-entries start k rows r e =
     let low = slice_get_within rows k r e in
     drop_more (numbered start 0 rows) k (entry start k r) (omega arith) ∙ ap (λ x. x ∷ drop (k + 1) (numbered start 0 rows)) (entry-at start k rows r e)
 
-pub lines-below : (point start k : ℕ) (rows : List RowMeaning) (r : RowMeaning) (old lines new : List Line) (line : Line) → slice_get rows k ≡ Some r
-    → line ≡ line_of point (record { start = start; number = k; row = r }) → lines ≡ old ++ map (line_of point) (take k (numbered start 0 rows)) → new ≡ lines ++ line ∷ []
-    → new ≡ old ++ map (line_of point) (take (k + 1) (numbered start 0 rows))
-lines-below point start k rows r old lines new line at is before now =
-    let f = line_of point in
+pub strip_rows-below : (point start k : ℕ) (rows : List RowMeaning) (r : RowMeaning) (old strip_rows new : List StripRow) (strip_row : StripRow) → slice_get rows k ≡ Some r
+    → strip_row ≡ strip_row_of point (record { start = start; number = k; row = r }) → strip_rows ≡ old ++ map (strip_row_of point) (take k (numbered start 0 rows)) → new ≡ strip_rows ++ strip_row ∷ []
+    → new ≡ old ++ map (strip_row_of point) (take (k + 1) (numbered start 0 rows))
+strip_rows-below point start k rows r old strip_rows new strip_row at is before now =
+    let f = strip_row_of point in
     let es = numbered start 0 rows in
-    now ∙ (ap (λ x. lines ++ x ∷ []) is ∙ (ap (λ ys. ys ++ f (entry start k r) ∷ []) before
+    now ∙ (ap (λ x. strip_rows ++ x ∷ []) is ∙ (ap (λ ys. ys ++ f (entry start k r) ∷ []) before
     ∙ (append_assoc old (map f (take k es)) (f (entry start k r) ∷ [])
     ∙ ap (λ ys. old ++ ys) (sym (map-append f (take k es) (entry start k r ∷ [])) ∙ ap (map f) (sym (take-entries start k rows r at))))))
 
-pub lines-above : (point start k : ℕ) (rows : List RowMeaning) (r : RowMeaning) (old lines new : List Line) (line : Line) → slice_get rows k ≡ Some r
-    → line ≡ line_of point (record { start = start; number = k; row = r }) → lines ≡ map (line_of point) (drop (k + 1) (numbered start 0 rows)) ++ old → new ≡ line ∷ lines
-    → new ≡ map (line_of point) (drop k (numbered start 0 rows)) ++ old
-lines-above point start k rows r old lines new line at is before now =
-    let f = line_of point in
+pub strip_rows-above : (point start k : ℕ) (rows : List RowMeaning) (r : RowMeaning) (old strip_rows new : List StripRow) (strip_row : StripRow) → slice_get rows k ≡ Some r
+    → strip_row ≡ strip_row_of point (record { start = start; number = k; row = r }) → strip_rows ≡ map (strip_row_of point) (drop (k + 1) (numbered start 0 rows)) ++ old → new ≡ strip_row ∷ strip_rows
+    → new ≡ map (strip_row_of point) (drop k (numbered start 0 rows)) ++ old
+strip_rows-above point start k rows r old strip_rows new strip_row at is before now =
+    let f = strip_row_of point in
     let es = numbered start 0 rows in
-    now ∙ (ap (λ x. x ∷ lines) is ∙ (ap (λ ys. f (entry start k r) ∷ ys) before
+    now ∙ (ap (λ x. x ∷ strip_rows) is ∙ (ap (λ ys. f (entry start k r) ∷ ys) before
     ∙ ap (λ ys. map f ys ++ old) (sym (drop-entries start k rows r at))))
 
-pub all-below : (point start k : ℕ) (rows : List RowMeaning) (old new : List Line) → length rows ≤ k → new ≡ old ++ map (line_of point) (take k (numbered start 0 rows))
-    → new ≡ old ++ map (line_of point) (numbered start 0 rows)
+pub all-below : (point start k : ℕ) (rows : List RowMeaning) (old new : List StripRow) → length rows ≤ k → new ≡ old ++ map (strip_row_of point) (take k (numbered start 0 rows))
+    → new ≡ old ++ map (strip_row_of point) (numbered start 0 rows)
 all-below point start k rows old new all e =
     let size = length-numbered start 0 rows in
-    e ∙ ap (λ ys. old ++ map (line_of point) ys) (take_all k (numbered start 0 rows) (omega arith))
+    e ∙ ap (λ ys. old ++ map (strip_row_of point) ys) (take_all k (numbered start 0 rows) (omega arith))
 
 -- the rows of a block, shown
 pub shown-at : (rows : List RowValues) (k : ℕ) (r : RowValues) → k < length rows → r ≡ get_or rows k r → slice_get (shown_rows rows) k ≡ Some r.shown
 shown-at rows k r inside at =
     slice_get-map (λ (x : RowValues). x.shown) rows k ∙ ap (option_map (λ (x : RowValues). x.shown)) (slice_get_read rows (length rows) k r refl inside at)
 
-pub none-above : (point start k : ℕ) (rows : List RowMeaning) (old : List Line) → length rows ≤ k → old ≡ map (line_of point) (drop k (numbered start 0 rows)) ++ old
+pub none-above : (point start k : ℕ) (rows : List RowMeaning) (old : List StripRow) → length rows ≤ k → old ≡ map (strip_row_of point) (drop k (numbered start 0 rows)) ++ old
 none-above point start k rows old all =
     let size = length-numbered start 0 rows in
-    sym (ap (λ ys. map (line_of point) ys ++ old) (drop_all k (numbered start 0 rows) (omega arith)))
+    sym (ap (λ ys. map (strip_row_of point) ys ++ old) (drop_all k (numbered start 0 rows) (omega arith)))
 
 pub count-shown : (rows : List RowValues) → length (shown_rows rows) ≡ length rows
 count-shown rows = length-map rows (λ (r : RowValues). r.shown)

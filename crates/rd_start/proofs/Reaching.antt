@@ -11,23 +11,23 @@ use Rattle.rd_matrix.specs.Entries.{all_rows, entries_of, numbered}
 use Rattle.rd_matrix.specs.Sources.{SourceValues}
 use Rattle.rd_matrix.specs.declared.block.Block.{Block}
 use Rattle.rd_rows.specs.Rows.{RowMeaning}
-use Rattle.rd_start.specs.Strips.{IsBeyond, IsPaid, IsPaidOf, IsPushed, IsStrip, IsStripOf, AsksAt, GrowsAt, StandsBeyond, all_costs, cost_in, count_in, extent, first_row, home_row, lists_joined_at, line_of, moved_at, rows_in}
+use Rattle.rd_start.specs.Strips.{IsBeyond, IsPaid, IsPaidOf, IsPushed, IsStrip, IsStripOf, AsksAt, GrowsAt, StandsBeyond, all_costs, cost_in, count_in, extent, first_row, home_row, lists_joined_at, strip_row_of, moved_at, rows_in}
 use Rattle.rd_start.specs.declared.strip.Edge.{Edge}
 use Rattle.rd_start.specs.declared.strip.Edge.TheVariants.{Bottom, Top}
-use Rattle.rd_start.specs.declared.strip.Line.{Line}
+use Rattle.rd_start.specs.declared.strip.StripRow.{StripRow}
 use Rattle.rd_start.specs.declared.strip.Strip.{Strip}
 use Rattle.rd_start.specs.declared.strip.Sweep.{Sweep}
 use Rattle.rd_start.proofs.Blocks.{count-append}
-use Rattle.rd_start.proofs.Growth.{affords, affords-pieces, before-none, before-some, first-place, head-of, last-place, length-joined, length-lines, paid-above, paid-below, pieces-above, pieces-below, some-of, strip-joined}
+use Rattle.rd_start.proofs.Growth.{affords, affords-pieces, before-none, before-some, first-place, head-of, last-place, length-joined, length-strip_rows, paid-above, paid-below, pieces-above, pieces-below, some-of, strip-joined}
 use Rattle.rd_start.proofs.Results.{of-err}
 use Rattle.rd_start.proofs.Rows.{total-is}
 
-pub strip-same : (m : SourceValues) (sweep sweep' : Sweep) (bs bs' : List Block) (ls ls' : List Line) (at at' : ℕ) → sweep' ≡ sweep → bs' ≡ bs → ls' ≡ ls → at' ≡ at
+pub strip-same : (m : SourceValues) (sweep sweep' : Sweep) (bs bs' : List Block) (ls ls' : List StripRow) (at at' : ℕ) → sweep' ≡ sweep → bs' ≡ bs → ls' ≡ ls → at' ≡ at
     → IsStripOf m sweep bs ls at → IsStripOf m sweep' bs' ls' at'
 strip-same m sweep sweep' bs bs' ls ls' at at' e f g i h =
     subst (λ (x : Sweep). IsStripOf m x bs' ls' at') (sym e)
     (subst (λ (x : List Block). IsStripOf m sweep x ls' at') (sym f)
-    (subst (λ (x : List Line). IsStripOf m sweep bs x at') (sym g)
+    (subst (λ (x : List StripRow). IsStripOf m sweep bs x at') (sym g)
     (subst (λ x. IsStripOf m sweep bs ls x) (sym i) h)))
 
 pub paid-same : (kind : ℕ → Bool) (base : ℕ) (m : SourceValues) (sweep sweep' : Sweep) (bs bs' : List Block) (at at' steps : ℕ) → sweep' ≡ sweep → bs' ≡ bs → at' ≡ at
@@ -62,13 +62,13 @@ next-of m s last b h at gives =
     record { before = h.before; after = e.0; pieces = pieces-below m.blocks h.before s.blocks.items h.after e.0 b h.pieces e.1; home = h.home; among = (p.place + 1, sym here) }
 
 no-next : (m : SourceValues) (s : Strip) (last : Block) → IsStrip m s → slice_get s.blocks.items (length s.blocks.items - 1) ≡ Some last → GivesNext m last None
-    → first_row m s + length s.lines.items ≡ count_in m s.sweep m.blocks
+    → first_row m s + length s.strip_rows.items ≡ count_in m s.sweep m.blocks
 no-next m s last h at gives =
     let p = last-place m.blocks h.before s.blocks.items h.after last h.pieces h.some at in
     let e = none-left h.after 0 (sym p.next ∙ sym (gives p.place p.here)) in
     let none = ap (λ ys. length (all_rows (rows_in m s.sweep) ys)) e in
     let home = h.home in
-    let total = total-is m s.sweep s.blocks.items s.lines.items s.home h in
+    let total = total-is m s.sweep s.blocks.items s.strip_rows.items s.home h in
     omega arith
 
 pub next-beyond : (r : Result (Option Block) Memory) (m : SourceValues) (s : Strip) (last : Block) → IsStrip m s → slice_get s.blocks.items (length s.blocks.items - 1) ≡ Some last
@@ -121,15 +121,15 @@ prev-beyond (Err x) m s first h at gives = tt
 -- the rows of the block beyond an edge stand there
 pub more-above : (m : SourceValues) (s : Strip) (b : Block) → IsStrip m s → StandsBeyond m s Top b → s.home < home_row m s.sweep
 more-above m s b h next =
-    let some = some-of m s.sweep s.blocks.items s.lines.items s.home b h next.among in
+    let some = some-of m s.sweep s.blocks.items s.strip_rows.items s.home b h next.among in
     let home = next.home in
     omega arith
 
-pub more-below : (m : SourceValues) (s : Strip) (b : Block) → IsStrip m s → StandsBeyond m s Bottom b → first_row m s + length s.lines.items < count_in m s.sweep m.blocks
+pub more-below : (m : SourceValues) (s : Strip) (b : Block) → IsStrip m s → StandsBeyond m s Bottom b → first_row m s + length s.strip_rows.items < count_in m s.sweep m.blocks
 more-below m s b h next =
     let rows = λ (c : Block). rows_in m s.sweep c in
-    let some = some-of m s.sweep s.blocks.items s.lines.items s.home b h next.among in
-    let own = ap length h.lines ∙ length-map (all_rows rows s.blocks.items) (line_of s.sweep.point) in
+    let some = some-of m s.sweep s.blocks.items s.strip_rows.items s.home b h next.among in
+    let own = ap length h.strip_rows ∙ length-map (all_rows rows s.blocks.items) (strip_row_of s.sweep.point) in
     let all = ap (λ ys. length (all_rows rows ys)) next.pieces ∙ count-append rows next.before ((s.blocks.items ++ (b ∷ [])) ++ next.after) in
     let from = count-append rows (s.blocks.items ++ (b ∷ [])) next.after in
     let pushed = count-append rows s.blocks.items (b ∷ []) in
@@ -155,7 +155,7 @@ grown-paid : (edge : Edge) (kind : ℕ → Bool) (base : ℕ) (m : SourceValues)
     → IsPaidOf kind base m s.sweep (lists_joined_at edge s.blocks.items (b ∷ [])) (moved_at edge s.home (length (rows_in m s.sweep b))) more
 grown-paid Top kind base m old s n steps more count b grown asked low paid asks =
     let next = asked.next in
-    let some = some-of m s.sweep s.blocks.items s.lines.items s.home b grown.strip next.among in
+    let some = some-of m s.sweep s.blocks.items s.strip_rows.items s.home b grown.strip next.among in
     let home = next.home in
     let same = ap (home_row m) grown.sweep in
     let grows = grown.grows in
@@ -163,27 +163,27 @@ grown-paid Top kind base m old s n steps more count b grown asked low paid asks 
     (asks (home_row m s.sweep - s.home - 1) (omega arith) (omega arith)) asked.cost
 grown-paid Bottom kind base m old s n steps more count b grown asked low paid asks =
     let next = asked.next in
-    let some = some-of m s.sweep s.blocks.items s.lines.items s.home b grown.strip next.among in
+    let some = some-of m s.sweep s.blocks.items s.strip_rows.items s.home b grown.strip next.among in
     let inside = more-below m s b grown.strip next in
     let grows = grown.grows in
     let first : first_row m s ≡ first_row m old = ap (λ (x : Sweep). home_row m x - s.home) grown.sweep ∙ ap (λ x. home_row m old.sweep - x) grows.0 in
     let all = ap (λ (x : Sweep). count_in m x m.blocks) grown.sweep in
-    paid-below kind base m s.sweep s.blocks.items s.lines.items s.home steps more b grown.strip (grown.paid kind base paid asks) some
-    (asks (first_row m s + length s.lines.items) (omega arith) (omega arith)) asked.cost
+    paid-below kind base m s.sweep s.blocks.items s.strip_rows.items s.home steps more b grown.strip (grown.paid kind base paid asks) some
+    (asks (first_row m s + length s.strip_rows.items) (omega arith) (omega arith)) asked.cost
 
 grows-none : (edge : Edge) (s : Strip) → GrowsAt edge s s
 grows-none Top s = (refl, omega arith)
 grows-none Bottom s = (refl, omega arith)
 
-grows-more : (edge : Edge) (old s new : Strip) (own : List Line) (count : ℕ) → GrowsAt edge old s → new.home ≡ moved_at edge s.home count → new.lines.items ≡ lists_joined_at edge s.lines.items own
+grows-more : (edge : Edge) (old s new : Strip) (own : List StripRow) (count : ℕ) → GrowsAt edge old s → new.home ≡ moved_at edge s.home count → new.strip_rows.items ≡ lists_joined_at edge s.strip_rows.items own
     → length own ≡ count → GrowsAt edge old new
-grows-more Top old s new own count grows home lines size =
-    let now = ap length lines in
-    let both = length-append own s.lines.items in
+grows-more Top old s new own count grows home strip_rows size =
+    let now = ap length strip_rows in
+    let both = length-append own s.strip_rows.items in
     (omega arith, omega arith)
-grows-more Bottom old s new own count grows home lines size =
-    let now = ap length lines in
-    let both = length-append s.lines.items own in
+grows-more Bottom old s new own count grows home strip_rows size =
+    let now = ap length strip_rows in
+    let both = length-append s.strip_rows.items own in
     (home ∙ grows.0, omega arith)
 
 pub grown-none : (edge : Edge) (m : SourceValues) (s : Strip) (n count : ℕ) → IsStrip m s → Grown edge m s s n n count
@@ -193,17 +193,17 @@ pub grown-more : (edge : Edge) (m : SourceValues) (old s new : Strip) (n steps m
     → extent edge s < count → rows ≡ rows_in m s.sweep b → IsPushed edge s new b rows → Grown edge m old new n more count
 grown-more edge m old s new n steps more count b rows grown asked low same pushed =
     let next = asked.next in
-    let line = line_of s.sweep.point in
-    let own = map line (entries_of (rows_in m s.sweep) b) in
+    let strip_row = strip_row_of s.sweep.point in
+    let own = map strip_row (entries_of (rows_in m s.sweep) b) in
     let added = length (rows_in m s.sweep b) in
-    let lines = pushed.lines ∙ ap (λ (r : List RowMeaning). lists_joined_at edge s.lines.items (map line (numbered b.start 0 r))) same in
+    let strip_rows = pushed.strip_rows ∙ ap (λ (r : List RowMeaning). lists_joined_at edge s.strip_rows.items (map strip_row (numbered b.start 0 r))) same in
     let home = pushed.home ∙ ap (λ (r : List RowMeaning). moved_at edge s.home (length r)) same in
     record {
-      strip = strip-same m s.sweep new.sweep (lists_joined_at edge s.blocks.items (b ∷ [])) new.blocks.items (lists_joined_at edge s.lines.items own) new.lines.items (moved_at edge s.home added) new.home
-          pushed.sweep pushed.blocks lines home
-          (strip-joined edge m s.sweep s.blocks.items s.lines.items s.home b next.before next.after grown.strip next.pieces next.home pushed.small);
+      strip = strip-same m s.sweep new.sweep (lists_joined_at edge s.blocks.items (b ∷ [])) new.blocks.items (lists_joined_at edge s.strip_rows.items own) new.strip_rows.items (moved_at edge s.home added) new.home
+          pushed.sweep pushed.blocks strip_rows home
+          (strip-joined edge m s.sweep s.blocks.items s.strip_rows.items s.home b next.before next.after grown.strip next.pieces next.home pushed.small);
       sweep = pushed.sweep ∙ grown.sweep;
-      grows = grows-more edge old s new own added grown.grows home lines (length-lines (rows_in m s.sweep) line b);
+      grows = grows-more edge old s new own added grown.grows home strip_rows (length-strip_rows (rows_in m s.sweep) strip_row b);
       paid = λ kind base paid asks. paid-same kind base m s.sweep new.sweep (lists_joined_at edge s.blocks.items (b ∷ [])) new.blocks.items (moved_at edge s.home added) new.home more
           pushed.sweep pushed.blocks home (grown-paid edge kind base m old s n steps more count b grown asked low paid asks);
     }
@@ -220,7 +220,7 @@ grown-pays edge m old s n steps count grown = λ kind base paid asks. (grown.str
 
 pub grown-stops : (edge : Edge) (m : SourceValues) (old s : Strip) (n steps count : ℕ) → Grown edge m old s n steps count → EdgeFails edge m old n steps count
 grown-stops edge m old s n steps count grown = λ kind base paid asks.
-    let bound = affords kind base m s.sweep s.blocks.items s.lines.items s.home steps grown.strip (grown.paid kind base paid asks) in
+    let bound = affords kind base m s.sweep s.blocks.items s.strip_rows.items s.home steps grown.strip (grown.paid kind base paid asks) in
     let same = ap (λ (x : Sweep). all_costs kind m x) grown.sweep in
     omega arith
 

@@ -12,8 +12,8 @@ use Rattle.rd_matrix.specs.declared.block.Block.{Block}
 use Rattle.rd_rows.specs.Rows.{RowMeaning}
 use Rattle.rd_rows.specs.Shapes.{IsShape}
 use Rattle.rd_start.specs.Chosen.{begins_item}
-use Rattle.rd_start.specs.Strips.{IsStrip, IsStripOf, count_in, first_row, home_row, line_of, point_row, rows_in}
-use Rattle.rd_start.specs.declared.strip.Line.{Line}
+use Rattle.rd_start.specs.Strips.{IsStrip, IsStripOf, count_in, first_row, home_row, strip_row_of, point_row, rows_in}
+use Rattle.rd_start.specs.declared.strip.StripRow.{StripRow}
 use Rattle.rd_start.specs.declared.strip.Strip.{Strip}
 use Rattle.rd_start.specs.declared.strip.Sweep.{Sweep}
 use Rattle.rd_start.proofs.Blocks.{Fit, any-fit, end-append, fit, fit-back, fit-front}
@@ -27,86 +27,86 @@ whole-rows m sweep bs before after pieces =
     ap (all_rows rows) pieces ∙ (all-append rows before (bs ++ after) ∙ ap (λ ys. all_rows rows before ++ ys) (all-append rows bs after))
 
 -- all rows are those before a strip, its own and those behind it
-pub record RowsAround (m : SourceValues) (sweep : Sweep) (bs : List Block) (ls : List Line) (at : ℕ) : Type 0 where
+pub record RowsAround (m : SourceValues) (sweep : Sweep) (bs : List Block) (ls : List StripRow) (at : ℕ) : Type 0 where
   pub front : List EntryMeaning
   pub middle : List EntryMeaning
   pub back : List EntryMeaning
   pub whole : all_rows (rows_in m sweep) m.blocks ≡ front ++ (middle ++ back)
   pub from : length front + at ≡ home_row m sweep
-  pub lines : ls ≡ map (line_of sweep.point) middle
+  pub strip_rows : ls ≡ map (strip_row_of sweep.point) middle
   pub count : length ls ≡ length middle
   pub total : length front + (length ls + length back) ≡ count_in m sweep m.blocks
 
-pub rows_around : (m : SourceValues) (sweep : Sweep) (bs : List Block) (ls : List Line) (at : ℕ) → IsStripOf m sweep bs ls at → RowsAround m sweep bs ls at
+pub rows_around : (m : SourceValues) (sweep : Sweep) (bs : List Block) (ls : List StripRow) (at : ℕ) → IsStripOf m sweep bs ls at → RowsAround m sweep bs ls at
 rows_around m sweep bs ls at h =
     let rows = λ (b : Block). rows_in m sweep b in
     let front = all_rows rows h.before in
     let middle = all_rows rows bs in
     let back = all_rows rows h.after in
     let whole = whole-rows m sweep bs h.before h.after h.pieces in
-    let count = ap length h.lines ∙ length-map middle (line_of sweep.point) in
+    let count = ap length h.strip_rows ∙ length-map middle (strip_row_of sweep.point) in
     record {
       front = front;
       middle = middle;
       back = back;
       whole = whole;
       from = h.home;
-      lines = h.lines;
+      strip_rows = h.strip_rows;
       count = count;
       total = omega (arith, count, ap length whole, length-append front (middle ++ back), length-append middle back);
     }
 
 -- and how many rows stand behind a strip's
-pub total-is : (m : SourceValues) (sweep : Sweep) (bs : List Block) (ls : List Line) (at : ℕ) → (h : IsStripOf m sweep bs ls at)
+pub total-is : (m : SourceValues) (sweep : Sweep) (bs : List Block) (ls : List StripRow) (at : ℕ) → (h : IsStripOf m sweep bs ls at)
     → home_row m sweep + (length ls + length (all_rows (rows_in m sweep) h.after)) ≡ count_in m sweep m.blocks + at
 total-is m sweep bs ls at h =
     let rows = λ (b : Block). rows_in m sweep b in
     let whole = whole-rows m sweep bs h.before h.after h.pieces in
-    let count = ap length h.lines ∙ length-map (all_rows rows bs) (line_of sweep.point) in
+    let count = ap length h.strip_rows ∙ length-map (all_rows rows bs) (strip_row_of sweep.point) in
     omega (arith, count, h.home, ap length whole, length-append (all_rows rows h.before) (all_rows rows bs ++ all_rows rows h.after), length-append (all_rows rows bs) (all_rows rows h.after))
 
 -- a strip's rows are rows of its source
-pub all-inside : (m : SourceValues) (s : Strip) → IsStrip m s → first_row m s + length s.lines.items ≤ count_in m s.sweep m.blocks
+pub all-inside : (m : SourceValues) (s : Strip) → IsStrip m s → first_row m s + length s.strip_rows.items ≤ count_in m s.sweep m.blocks
 all-inside m s h =
-    let z = rows_around m s.sweep s.blocks.items s.lines.items s.home h in
+    let z = rows_around m s.sweep s.blocks.items s.strip_rows.items s.home h in
     let from = z.from in
     let total = z.total in
     omega arith
 
-abbrev pub find_point : List Line → Option ℕ
-find_point ls = position (λ (line : Line). line.has_point) ls
+abbrev pub find_point : List StripRow → Option ℕ
+find_point ls = position (λ (r : StripRow). r.has_point) ls
 
-found : (point : ℕ) (es : List EntryMeaning) → list_any (begins_item point) es ≡ true → find_point (map (line_of point) es) ≡ Some (position_or_len (begins_item point) es)
+found : (point : ℕ) (es : List EntryMeaning) → list_any (begins_item point) es ≡ true → find_point (map (strip_row_of point) es) ≡ Some (position_or_len (begins_item point) es)
 found point es some =
     let inside = first-inside (begins_item point) es some in
-    let same = first-mapped (λ (line : Line). line.has_point) (line_of point) es in
-    let size = length-map es (line_of point) in
-    let t = lt-ltb (position_or_len (λ (line : Line). line.has_point) (map (line_of point) es)) (length (map (line_of point) es)) (omega (arith, inside, same, size)) in
-    ap (λ b. cond b (Some (position_or_len (λ (line : Line). line.has_point) (map (line_of point) es))) None) t ∙ ap Some same
+    let same = first-mapped (λ (r : StripRow). r.has_point) (strip_row_of point) es in
+    let size = length-map es (strip_row_of point) in
+    let t = lt-ltb (position_or_len (λ (r : StripRow). r.has_point) (map (strip_row_of point) es)) (length (map (strip_row_of point) es)) (omega (arith, inside, same, size)) in
+    ap (λ b. cond b (Some (position_or_len (λ (r : StripRow). r.has_point) (map (strip_row_of point) es))) None) t ∙ ap Some same
 
-not-found : (point : ℕ) (es : List EntryMeaning) → list_any (begins_item point) es ≡ false → find_point (map (line_of point) es) ≡ None
+not-found : (point : ℕ) (es : List EntryMeaning) → list_any (begins_item point) es ≡ false → find_point (map (strip_row_of point) es) ≡ None
 not-found point es none =
     let outside = first-none (begins_item point) es none in
-    let same = first-mapped (λ (line : Line). line.has_point) (line_of point) es in
-    let size = length-map es (line_of point) in
-    let t = le-ltb (position_or_len (λ (line : Line). line.has_point) (map (line_of point) es)) (length (map (line_of point) es)) (omega (arith, outside, same, size)) in
-    ap (λ b. cond b (Some (position_or_len (λ (line : Line). line.has_point) (map (line_of point) es))) None) t
+    let same = first-mapped (λ (r : StripRow). r.has_point) (strip_row_of point) es in
+    let size = length-map es (strip_row_of point) in
+    let t = le-ltb (position_or_len (λ (r : StripRow). r.has_point) (map (strip_row_of point) es)) (length (map (strip_row_of point) es)) (omega (arith, outside, same, size)) in
+    ap (λ b. cond b (Some (position_or_len (λ (r : StripRow). r.has_point) (map (strip_row_of point) es))) None) t
 
 -- point's row is above a strip's rows, among them or below them
-pub record PointAbove (m : SourceValues) (sweep : Sweep) (bs : List Block) (ls : List Line) (at : ℕ) : Type 0 where
+pub record PointAbove (m : SourceValues) (sweep : Sweep) (bs : List Block) (ls : List StripRow) (at : ℕ) : Type 0 where
   pub first : Block
   pub here : slice_get bs 0 ≡ Some first
   pub low : sweep.point < first.start
   pub none : find_point ls ≡ None
   pub row : point_row m sweep + at < home_row m sweep
 
-pub record PointAmong (m : SourceValues) (sweep : Sweep) (bs : List Block) (ls : List Line) (at : ℕ) : Type 0 where
+pub record PointAmong (m : SourceValues) (sweep : Sweep) (bs : List Block) (ls : List StripRow) (at : ℕ) : Type 0 where
   pub row : ℕ
   pub here : find_point ls ≡ Some row
   pub inside : row < length ls
   pub place : point_row m sweep + at ≡ home_row m sweep + row
 
-pub record PointBelow (m : SourceValues) (sweep : Sweep) (bs : List Block) (ls : List Line) (at : ℕ) : Type 0 where
+pub record PointBelow (m : SourceValues) (sweep : Sweep) (bs : List Block) (ls : List StripRow) (at : ℕ) : Type 0 where
   pub first : Block
   pub here : slice_get bs 0 ≡ Some first
   pub high : first.start ≤ sweep.point
@@ -141,7 +141,7 @@ pub record Bounds (m : SourceValues) (sweep : Sweep) (bs before after : List Blo
 pub whole-fit : (m : SourceValues) (sweep : Sweep) → IsSource m → IsShape sweep.shape → Fit (rows_in m sweep) (first_start m.blocks) m.blocks
 whole-fit m sweep source shape = fit (rows_in m sweep) (first_start m.blocks) m.blocks source.blocks.stand (λ b k. source.rows b sweep.shape k shape)
 
-pub bounds : (m : SourceValues) (sweep : Sweep) (bs : List Block) (ls : List Line) (at : ℕ) → (h : IsStripOf m sweep bs ls at) → Bounds m sweep bs h.before h.after
+pub bounds : (m : SourceValues) (sweep : Sweep) (bs : List Block) (ls : List StripRow) (at : ℕ) → (h : IsStripOf m sweep bs ls at) → Bounds m sweep bs h.before h.after
 bounds m sweep bs ls at h =
     let rows = λ (b : Block). rows_in m sweep b in
     let start = first_start m.blocks in
@@ -166,7 +166,7 @@ bounds m sweep bs ls at h =
       high = subst (λ n. sweep.point < n) (any_end ∙ last_end) h.point.1;
     }
 
-pub whereabouts : (m : SourceValues) (sweep : Sweep) (bs : List Block) (ls : List Line) (at : ℕ) → IsStripOf m sweep bs ls at
+pub whereabouts : (m : SourceValues) (sweep : Sweep) (bs : List Block) (ls : List StripRow) (at : ℕ) → IsStripOf m sweep bs ls at
     → PointAbove m sweep bs ls at ⊎ (PointAmong m sweep bs ls at ⊎ PointBelow m sweep bs ls at)
 whereabouts m sweep bs ls at h =
     let rows = λ (b : Block). rows_in m sweep b in
@@ -182,7 +182,7 @@ whereabouts m sweep bs ls at h =
     let in_front = any-fit rows w.start p h.before w.front in
     let in_middle = any-fit rows w.first p bs w.middle in
     let in_back = any-fit rows w.last p h.after w.back in
-    let size = ap length h.lines ∙ length-map middle (line_of p) in
+    let size = ap length h.strip_rows ∙ length-map middle (strip_row_of p) in
     let head = first-of rows w.first bs h.some w.middle in
     let start_low = w.low in
     let end_high = w.high in
@@ -202,7 +202,7 @@ whereabouts m sweep bs ls at h =
             first = head.first;
             here = head.here;
             low = omega (arith, low, start);
-            none = ap find_point h.lines ∙ not-found p middle (in_middle ∙ u);
+            none = ap find_point h.strip_rows ∙ not-found p middle (in_middle ∙ u);
             row = omega (arith, place, inside, h.home);
           })
       | inl from ↦ elim (cases_Bool (ltb p w.last)) [
@@ -216,7 +216,7 @@ whereabouts m sweep bs ls at h =
             let inside = first-inside begins middle some in
             inr (inl (record {
               row = position_or_len begins middle;
-              here = ap find_point h.lines ∙ found p middle some;
+              here = ap find_point h.strip_rows ∙ found p middle some;
               inside = omega (arith, inside, size);
               place = omega (arith, place, h.home);
             }))
@@ -233,7 +233,7 @@ whereabouts m sweep bs ls at h =
               first = head.first;
               here = head.here;
               high = omega (arith, high, start);
-              none = ap find_point h.lines ∙ not-found p middle (in_middle ∙ u);
+              none = ap find_point h.strip_rows ∙ not-found p middle (in_middle ∙ u);
               row = omega (arith, place, size, h.home);
               inside = omega (arith, place, inside, size, z.total, ap length whole, length-append front (middle ++ back), length-append middle back);
             }))

@@ -18,7 +18,7 @@ moved-down (pos n) row e = refl
 moved-down (negsuc n) row e = absurd (false≢true (sym e))
 
 pub placed-up : (m : SourceValues) (s : Strip) (z : ℤ) (rows : ℕ) → IsStrip m s → int_lt z (pos 0) ≡ true → rows ≡ unsigned_abs z → BeginsAbove m s rows
-    → (s.home - rows < length s.lines.items) × (first_row m s + (s.home - rows) ≡ moved_row m s.sweep z)
+    → (s.home - rows < length s.strip_rows.items) × (first_row m s + (s.home - rows) ≡ moved_row m s.sweep z)
 placed-up m s z rows h low is begins =
     let row = moved-up z (home_row m s.sweep) low in
     let inside = h.inside in
@@ -27,7 +27,7 @@ placed-up m s z rows h low is begins =
     (omega arith, elim begins [ inl far ↦ omega arith | inr text ↦ omega arith ])
 
 pub placed-down : (m : SourceValues) (s : Strip) (z : ℤ) (rows place : ℕ) → IsStrip m s → int_lt z (pos 0) ≡ false → rows ≡ unsigned_abs z → place ≡ s.home + rows → Reaches m s (place + 1)
-    → (min place (length s.lines.items - 1) < length s.lines.items) × (first_row m s + min place (length s.lines.items - 1) ≡ moved_row m s.sweep z)
+    → (min place (length s.strip_rows.items - 1) < length s.strip_rows.items) × (first_row m s + min place (length s.strip_rows.items - 1) ≡ moved_row m s.sweep z)
 placed-down m s z rows place h low is at reached =
     let row = moved-down z (home_row m s.sweep) low in
     let inside = h.inside in

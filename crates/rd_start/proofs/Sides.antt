@@ -4,13 +4,13 @@ use Rattle.std.proofs.lemmas.Bool.{cases_Bool, le-ltb, lt-ltb, ltb-false, ltb-tr
 use Rattle.std.specs.List.{slice_get}
 use Rattle.rd_matrix.specs.Sources.{SourceValues}
 use Rattle.rd_start.specs.Strips.{IsStrip, Reaches, count_in, first_row, point_row, seen_from, side_in, side_of, unseen_from}
-use Rattle.rd_start.specs.declared.strip.Side.{Side}
-use Rattle.rd_start.specs.declared.strip.Side.TheVariants.{Above, Below, Within}
+use Rattle.rd_start.specs.declared.strip.PointSide.{PointSide}
+use Rattle.rd_start.specs.declared.strip.PointSide.TheVariants.{Above, Below, Within}
 use Rattle.rd_start.specs.declared.strip.Strip.{Strip}
 use Rattle.rd_start.proofs.Rows.{find_point, whereabouts}
 
 -- what a side tells of a row, seen from the view of a height that starts with another
-abbrev pub Sees : Side → ℕ → ℕ → ℕ → Type 0
+abbrev pub Sees : PointSide → ℕ → ℕ → ℕ → Type 0
 Sees Above start height row = row < start
 Sees Within start height row = (start ≤ row) × (row < start + height)
 Sees Below start height row = start + height ≤ row
@@ -20,40 +20,40 @@ sees-place from to first height row p inside outside place =
     elim (cases_Bool (ltb row from)) [
       | inl above ↦
           let low = ltb-true row from above in
-          subst (λ (s : Side). Sees s (first + from) height p) (sym (ap (λ t. cond t Above (cond (ltb row to) Within Below)) above)) (omega arith)
+          subst (λ (s : PointSide). Sees s (first + from) height p) (sym (ap (λ t. cond t Above (cond (ltb row to) Within Below)) above)) (omega arith)
       | inr from_on ↦ elim (cases_Bool (ltb row to)) [
         | inl within ↦
             let low = ltb-false row from from_on in
             let high = ltb-true row to within in
             let end = inside high in
             let same = ap (λ t. cond t Above (cond (ltb row to) Within Below)) from_on ∙ ap (λ t. cond t Within Below) within in
-            subst (λ (s : Side). Sees s (first + from) height p) (sym same) (omega arith, omega arith)
+            subst (λ (s : PointSide). Sees s (first + from) height p) (sym same) (omega arith, omega arith)
         | inr below ↦
             let high = ltb-false row to below in
             let end = outside high in
             let same = ap (λ t. cond t Above (cond (ltb row to) Within Below)) from_on ∙ ap (λ t. cond t Within Below) below in
-            subst (λ (s : Side). Sees s (first + from) height p) (sym same) (omega arith)
+            subst (λ (s : PointSide). Sees s (first + from) height p) (sym same) (omega arith)
       ]
     ]
 
-sees : (m : SourceValues) (s : Strip) (from to height : ℕ) → IsStrip m s → Reaches m s (from + height) → from < length s.lines.items → to ≡ min (from + height) (length s.lines.items)
+sees : (m : SourceValues) (s : Strip) (from to height : ℕ) → IsStrip m s → Reaches m s (from + height) → from < length s.strip_rows.items → to ≡ min (from + height) (length s.strip_rows.items)
     → Sees (side_in s from to) (first_row m s + from) height (point_row m s.sweep)
 sees m s from to height h reached inside end =
     let p = point_row m s.sweep in
-    elim (whereabouts m s.sweep s.blocks.items s.lines.items s.home h) [
+    elim (whereabouts m s.sweep s.blocks.items s.strip_rows.items s.home h) [
       | inl above ↦
           let t = lt-ltb s.sweep.point above.first.start above.low in
           let same = ap (λ o. side_of from to (unseen_from s.sweep.point (slice_get s.blocks.items 0)) o) above.none
           ∙ (ap (unseen_from s.sweep.point) above.here ∙ ap (λ b. cond b Above Below) t) in
           let row = above.row in
-          subst (λ (x : Side). Sees x (first_row m s + from) height p) (sym same) (omega arith)
+          subst (λ (x : PointSide). Sees x (first_row m s + from) height p) (sym same) (omega arith)
       | inr other ↦ elim other [
         | inl among ↦
             let same = ap (λ o. side_of from to (unseen_from s.sweep.point (slice_get s.blocks.items 0)) o) among.here in
             let low = among.inside in
             let place = among.place in
             let home = h.home in
-            subst (λ (x : Side). Sees x (first_row m s + from) height p) (sym same)
+            subst (λ (x : PointSide). Sees x (first_row m s + from) height p) (sym same)
             (sees-place from to (first_row m s) height among.row p (λ e. omega arith) (λ e. omega arith) (omega arith))
         | inr below ↦
             let t = le-ltb s.sweep.point below.first.start below.high in
@@ -62,18 +62,18 @@ sees m s from to height h reached inside end =
             let row = below.row in
             let home = h.home in
             let last = below.inside in
-            subst (λ (x : Side). Sees x (first_row m s + from) height p) (sym same) (elim reached [ inl far ↦ omega arith | inr all ↦ omega arith ])
+            subst (λ (x : PointSide). Sees x (first_row m s + from) height p) (sym same) (elim reached [ inl far ↦ omega arith | inr all ↦ omega arith ])
       ]
     ]
 
-pub seen : (m : SourceValues) (s : Strip) (from to height : ℕ) (side : Side) → IsStrip m s → Reaches m s (from + height) → from < length s.lines.items → to ≡ min (from + height) (length s.lines.items)
+pub seen : (m : SourceValues) (s : Strip) (from to height : ℕ) (side : PointSide) → IsStrip m s → Reaches m s (from + height) → from < length s.strip_rows.items → to ≡ min (from + height) (length s.strip_rows.items)
     → side_in s from to ≡ side → Sees side (first_row m s + from) height (point_row m s.sweep)
-seen m s from to height side h reached inside end is = subst (λ (x : Side). Sees x (first_row m s + from) height (point_row m s.sweep)) is (sees m s from to height h reached inside end)
+seen m s from to height side h reached inside end is = subst (λ (x : PointSide). Sees x (first_row m s + from) height (point_row m s.sweep)) is (sees m s from to height h reached inside end)
 
 -- a strip that has point's row, or has not
-pub point-found : (m : SourceValues) (s : Strip) (row : ℕ) → IsStrip m s → find_point s.lines.items ≡ Some row → (row < length s.lines.items) × (first_row m s + row ≡ point_row m s.sweep)
+pub point-found : (m : SourceValues) (s : Strip) (row : ℕ) → IsStrip m s → find_point s.strip_rows.items ≡ Some row → (row < length s.strip_rows.items) × (first_row m s + row ≡ point_row m s.sweep)
 point-found m s row h found =
-    elim (whereabouts m s.sweep s.blocks.items s.lines.items s.home h) [
+    elim (whereabouts m s.sweep s.blocks.items s.strip_rows.items s.home h) [
       | inl above ↦ let none = above.none in absurd cc
       | inr other ↦ elim other [
         | inl among ↦
@@ -87,10 +87,10 @@ point-found m s row h found =
       ]
     ]
 
-pub point-lost : (m : SourceValues) (s : Strip) → IsStrip m s → find_point s.lines.items ≡ None
-    → (point_row m s.sweep < first_row m s) ⊎ ((first_row m s + length s.lines.items ≤ point_row m s.sweep) × (point_row m s.sweep < count_in m s.sweep m.blocks))
+pub point-lost : (m : SourceValues) (s : Strip) → IsStrip m s → find_point s.strip_rows.items ≡ None
+    → (point_row m s.sweep < first_row m s) ⊎ ((first_row m s + length s.strip_rows.items ≤ point_row m s.sweep) × (point_row m s.sweep < count_in m s.sweep m.blocks))
 point-lost m s h lost =
-    elim (whereabouts m s.sweep s.blocks.items s.lines.items s.home h) [
+    elim (whereabouts m s.sweep s.blocks.items s.strip_rows.items s.home h) [
       | inl above ↦ let row = above.row in inl (omega arith)
       | inr other ↦ elim other [
         | inl among ↦ let here = among.here in absurd cc

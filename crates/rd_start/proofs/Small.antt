@@ -11,7 +11,7 @@ use Rattle.rd_matrix.specs.declared.block.Block.{Block}
 use Rattle.rd_rows.specs.Rows.{RowMeaning}
 use Rattle.rd_rows.specs.declared.begin.Begin.{Begin}
 use Rattle.rd_start.specs.Chosen.{first_covered, first_positions, positions_of}
-use Rattle.rd_start.specs.Strips.{IsStrip, first_row, line_of, rows_in, span_of}
+use Rattle.rd_start.specs.Strips.{IsStrip, first_row, strip_row_of, rows_in, span_of}
 use Rattle.rd_start.specs.declared.span.Span.{Span}
 use Rattle.rd_start.specs.declared.strip.Strip.{Strip}
 use Rattle.rd_start.proofs.Blocks.{Fit}
@@ -75,16 +75,16 @@ span-below n (p ∷ ps) span all e =
     let last : span.last ≡ fold max p ps = cc in
     (omega (arith, first, least), omega (arith, last, greatest))
 
-pub span-small : (m : SourceValues) (s : Strip) (from to : ℕ) (span : Span) → IsStrip m s → from ≤ to → to ≤ length s.lines.items
+pub span-small : (m : SourceValues) (s : Strip) (from to : ℕ) (span : Span) → IsStrip m s → from ≤ to → to ≤ length s.strip_rows.items
     → Some span ≡ span_of (first_positions (take (to - from) (drop (first_row m s + from) (all_rows (rows_in m s.sweep) m.blocks)))) → (span.first < 2 ^ 32) × (span.last < 2 ^ 32)
 span-small m s from to span h low high e =
-    let w = bounds m s.sweep s.blocks.items s.lines.items s.home h in
+    let w = bounds m s.sweep s.blocks.items s.strip_rows.items s.home h in
     let rows = λ (b : Block). rows_in m s.sweep b in
     let front = all_rows rows h.before in
     let middle = all_rows rows s.blocks.items in
     let back = all_rows rows h.after in
     let whole = whole-rows m s.sweep s.blocks.items h.before h.after h.pieces in
-    let count = ap length h.lines ∙ length-map middle (line_of s.sweep.point) in
+    let count = ap length h.strip_rows ∙ length-map middle (strip_row_of s.sweep.point) in
     let home = h.home in
     let small = small-blocks rows w.first s.blocks.items w.middle h.small in
     let part = each-drop (SmallEntry (2 ^ 32)) from (take to middle) (each-take (SmallEntry (2 ^ 32)) to middle small) in
@@ -93,6 +93,6 @@ span-small m s from to span h low high e =
     span-below (2 ^ 32) (first_positions (drop from (take to middle))) span (small-positions (2 ^ 32) (drop from (take to middle)) part)
     (e ∙ ap (λ (ys : List EntryMeaning). span_of (first_positions ys)) (sym same))
 
-pub view-small : (m : SourceValues) (s : Strip) (start height end : ℕ) (span : Span) → IsStrip m s → start < length s.lines.items → end ≡ min (start + height) (length s.lines.items) → Spans s start end (Some span)
+pub view-small : (m : SourceValues) (s : Strip) (start height end : ℕ) (span : Span) → IsStrip m s → start < length s.strip_rows.items → end ≡ min (start + height) (length s.strip_rows.items) → Spans s start end (Some span)
     → (span.first < 2 ^ 32) × (span.last < 2 ^ 32)
 view-small m s start height end span h inside is spans = span-small m s start end span h (omega arith) (omega arith) (spans m h (omega arith))

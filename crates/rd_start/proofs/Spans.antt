@@ -6,9 +6,9 @@ use Rattle.std.specs.List.{fold, reduce}
 use Rattle.std.specs.Option.{option_map}
 use Rattle.rd_matrix.specs.Entries.{EntryMeaning}
 use Rattle.rd_start.specs.Chosen.{first_positions, positions_of}
-use Rattle.rd_start.specs.Strips.{joined_spans, line_of, span_of}
+use Rattle.rd_start.specs.Strips.{joined_spans, strip_row_of, span_of}
 use Rattle.rd_start.specs.declared.span.Span.{Span}
-use Rattle.rd_start.specs.declared.strip.Line.{Line}
+use Rattle.rd_start.specs.declared.strip.StripRow.{StripRow}
 
 pub joined_spans-none : (a : Option Span) → joined_spans a None ≡ a
 joined_spans-none None = refl
@@ -51,12 +51,12 @@ pub span_of-greatest : (ps : List ℕ) → reduce max ps ≡ option_map (λ (s :
 span_of-greatest [] = refl
 span_of-greatest (p ∷ ps) = refl
 
-abbrev pub spans : Option Span → List Line → Option Span
+abbrev pub spans : Option Span → List StripRow → Option Span
 spans a ls = fold (λ b l. joined_spans b l.span) a ls
 
-pub spans-lines : (point : ℕ) (a : Option Span) (es : List EntryMeaning) → spans a (map (line_of point) es) ≡ joined_spans a (span_of (first_positions es))
-spans-lines point a [] = sym (joined_spans-none a)
-spans-lines point a (e ∷ es) =
-    spans-lines point (joined_spans a (span_of (positions_of e))) es
+pub spans-strip_rows : (point : ℕ) (a : Option Span) (es : List EntryMeaning) → spans a (map (strip_row_of point) es) ≡ joined_spans a (span_of (first_positions es))
+spans-strip_rows point a [] = sym (joined_spans-none a)
+spans-strip_rows point a (e ∷ es) =
+    spans-strip_rows point (joined_spans a (span_of (positions_of e))) es
     ∙ (joined_spans-assoc a (span_of (positions_of e)) (span_of (first_positions es))
     ∙ ap (joined_spans a) (sym (span_of-append (positions_of e) (first_positions es))))

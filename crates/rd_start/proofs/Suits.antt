@@ -48,7 +48,7 @@ wanted-inside Top m s w start h hidden =
     let t = ne_eqb (first_row m s + start) 0 (λ e. omega (arith, e, low)) in
     sym (ap (λ b. cond b 0 (margin_of w)) t)
 wanted-inside Bottom m s w start h hidden =
-    let low = ltb-true (start + w.height) (length s.lines.items) hidden in
+    let low = ltb-true (start + w.height) (length s.strip_rows.items) hidden in
     let all = all-inside m s h in
     let t = lt-leb (count_in m s.sweep m.blocks) (first_row m s + start + w.height) (omega (arith, low, all)) in
     sym (ap (λ b. cond b 0 (margin_of w)) t)
@@ -60,7 +60,7 @@ wanted-none Top m s w start shown ends =
     let t = eq-eqb (first_row m s + start) 0 (omega (arith, low, ends)) in
     sym (ap (λ b. cond b 0 (margin_of w)) t)
 wanted-none Bottom m s w start shown ends =
-    let low = ltb-false (start + w.height) (length s.lines.items) shown in
+    let low = ltb-false (start + w.height) (length s.strip_rows.items) shown in
     let t = le-leb (count_in m s.sweep m.blocks) (first_row m s + start + w.height) (omega (arith, low, ends)) in
     sym (ap (λ b. cond b 0 (margin_of w)) t)
 
@@ -94,7 +94,7 @@ unseen w m sweep j same away =
     and_right (ltb j at.count) (is_inside w.height (wanted_above w j) (wanted_below w at.count j) j at.point) out
 
 -- where the strip has not point's row, no row suits from which it reaches the end of the view
-pub lost-suits : (m : SourceValues) (s : Strip) (w : Wanted) (start : ℕ) → IsStrip m s → IsFor w s.sweep → find_point s.lines.items ≡ None → Reaches m s (start + w.height)
+pub lost-suits : (m : SourceValues) (s : Strip) (w : Wanted) (start : ℕ) → IsStrip m s → IsFor w s.sweep → find_point s.strip_rows.items ≡ None → Reaches m s (start + w.height)
     → suits w (places_of m s.sweep.shape w) (first_row m s + start) ≡ false
 lost-suits m s w start h of lost reached =
     unseen w m s.sweep (first_row m s + start) of.point
@@ -109,7 +109,7 @@ lost-suits m s w start h of lost reached =
 reaches-less : (m : SourceValues) (s : Strip) (far near : ℕ) → Reaches m s far → near ≤ far → Reaches m s near
 reaches-less m s far near reached low = elim reached [ inl more ↦ inl (omega arith) | inr text ↦ inr text ]
 
-pub lost-nearest : (m : SourceValues) (s : Strip) (w : Wanted) → IsStrip m s → IsFor w s.sweep → find_point s.lines.items ≡ None → BeginsAbove m s w.conservatively
+pub lost-nearest : (m : SourceValues) (s : Strip) (w : Wanted) → IsStrip m s → IsFor w s.sweep → find_point s.strip_rows.items ≡ None → BeginsAbove m s w.conservatively
     → Reaches m s (s.home + w.conservatively + w.height + 1) → find (suits w (places_of m s.sweep.shape w)) (around (first_row m s + s.home) w.conservatively) ≡ None
 lost-nearest m s w h of lost begins reached =
     let home = h.home in

@@ -13,11 +13,11 @@ use Rattle.rd_start.specs.Chosen.{anchor_at, anchor_row, begins_item, places_of,
 use Rattle.rd_start.specs.Starts.{centred, moved, suits, wanted_above, wanted_below}
 use Rattle.rd_start.specs.declared.strip.Edge.{Edge}
 use Rattle.rd_start.specs.declared.strip.Edge.TheVariants.{Bottom, Top}
-use Rattle.rd_start.specs.declared.strip.Line.{Line}
+use Rattle.rd_start.specs.declared.strip.StripRow.{StripRow}
 use Rattle.rd_start.specs.declared.wanted.Chosen.{Chosen}
 use Rattle.rd_start.specs.declared.wanted.Wanted.{Wanted}
-use Rattle.rd_start.specs.declared.strip.Side.{Side}
-use Rattle.rd_start.specs.declared.strip.Side.TheVariants.{Above, Below, Within}
+use Rattle.rd_start.specs.declared.strip.PointSide.{PointSide}
+use Rattle.rd_start.specs.declared.strip.PointSide.TheVariants.{Above, Below, Within}
 use Rattle.rd_start.specs.declared.strip.Strip.{Strip}
 use Rattle.rd_start.specs.declared.strip.Sweep.{Sweep}
 use Rattle.rd_start.specs.declared.span.Span.{Span}
@@ -35,8 +35,8 @@ joined_spans (Some a) None = Some a
 joined_spans (Some a) (Some b) = Some (record { first = min a.first b.first; last = max a.last b.last })
 
 -- what is kept of a row
-abbrev pub line_of : ℕ → EntryMeaning → Line
-line_of point e = record { start = e.start; number = e.number; has_point = begins_item point e; span = span_of (positions_of e) }
+abbrev pub strip_row_of : ℕ → EntryMeaning → StripRow
+strip_row_of point e = record { start = e.start; number = e.number; has_point = begins_item point e; span = span_of (positions_of e) }
 
 -- the rows of a block, and their cost, as a sweep asks for them
 abbrev pub rows_in : SourceValues → Sweep → Block → List RowMeaning
@@ -56,8 +56,8 @@ home_row m sweep = anchor_row (rows_in m sweep) sweep.anchor m.blocks
 abbrev pub point_row : SourceValues → Sweep → ℕ
 point_row m sweep = row_of sweep.point (all_rows (rows_in m sweep) m.blocks)
 
--- these lines are the rows of blocks that stand one behind the other, and the row of a sweep's anchor is at a place among them
-pub record IsStripOf (m : SourceValues) (sweep : Sweep) (bs : List Block) (ls : List Line) (at : ℕ) : Type 0 where
+-- these are the rows of blocks that stand one behind the other, as a strip keeps them, and the row of a sweep's anchor is at a place among them
+pub record IsStripOf (m : SourceValues) (sweep : Sweep) (bs : List Block) (ls : List StripRow) (at : ℕ) : Type 0 where
   pub source : IsSource m
   pub shape : IsShape sweep.shape
   pub point : IsWithin sweep.point m.blocks
@@ -66,12 +66,12 @@ pub record IsStripOf (m : SourceValues) (sweep : Sweep) (bs : List Block) (ls : 
   pub pieces : m.blocks ≡ before ++ (bs ++ after)
   pub some : 0 < length bs
   pub small : AllByRecursion (λ b. b.end < 2 ^ 32) bs
-  pub lines : ls ≡ map (line_of sweep.point) (all_rows (rows_in m sweep) bs)
+  pub strip_rows : ls ≡ map (strip_row_of sweep.point) (all_rows (rows_in m sweep) bs)
   pub home : count_in m sweep before + at ≡ home_row m sweep
   pub inside : at < length ls
 
 abbrev pub IsStrip : SourceValues → Strip → Type 0
-IsStrip m s = IsStripOf m s.sweep s.blocks.items s.lines.items s.home
+IsStrip m s = IsStripOf m s.sweep s.blocks.items s.strip_rows.items s.home
 
 -- the number of a strip's first row
 abbrev pub first_row : SourceValues → Strip → ℕ
@@ -102,12 +102,12 @@ IsPaid kind base m s steps = IsStrip m s × IsPaidOf kind base m s.sweep s.block
 -- how far a strip reaches at an edge: at the top, how many rows stand above its anchor's; at the bottom, how many rows it has
 abbrev pub extent : Edge → Strip → ℕ
 extent Top s = s.home
-extent Bottom s = length s.lines.items
+extent Bottom s = length s.strip_rows.items
 
 -- the text ends at an edge of a strip
 abbrev pub EndsAt : Edge → SourceValues → Strip → Type 0
 EndsAt Top m s = s.home ≡ home_row m s.sweep
-EndsAt Bottom m s = first_row m s + length s.lines.items ≡ count_in m s.sweep m.blocks
+EndsAt Bottom m s = first_row m s + length s.strip_rows.items ≡ count_in m s.sweep m.blocks
 
 -- a strip reaches so far at an edge, or to the text's end there
 abbrev pub ReachesAt : Edge → SourceValues → Strip → ℕ → Type 0
@@ -133,7 +133,7 @@ IsAsked kind m sweep =
 -- the rows of the text that a strip lacks to reach so far at an edge are each of a kind
 abbrev pub AsksAt : Edge → (ℕ → Bool) → SourceValues → Strip → ℕ → Type 0
 AsksAt Top kind m s count = Between kind (home_row m s.sweep - count) (first_row m s)
-AsksAt Bottom kind m s count = Between kind (first_row m s + length s.lines.items) (min (first_row m s + count) (count_in m s.sweep m.blocks))
+AsksAt Bottom kind m s count = Between kind (first_row m s + length s.strip_rows.items) (min (first_row m s + count) (count_in m s.sweep m.blocks))
 
 -- a list to which more was added at an edge, and the place of one of its elements behind so many
 abbrev pub lists_joined_at : {X : Type 0} → Edge → List X → List X → List X
@@ -150,12 +150,12 @@ pub record IsPushed (edge : Edge) (old new : Strip) (b : Block) (rows : List Row
   pub sweep : new.sweep ≡ old.sweep
   pub home : new.home ≡ moved_at edge old.home (length rows)
   pub blocks : new.blocks.items ≡ lists_joined_at edge old.blocks.items (b ∷ [])
-  pub lines : new.lines.items ≡ lists_joined_at edge old.lines.items (map (line_of old.sweep.point) (numbered b.start 0 rows))
+  pub strip_rows : new.strip_rows.items ≡ lists_joined_at edge old.strip_rows.items (map (strip_row_of old.sweep.point) (numbered b.start 0 rows))
 
 -- a strip that rows were added to at an edge
 abbrev pub GrowsAt : Edge → Strip → Strip → Type 0
-GrowsAt Top old new = (length new.lines.items + old.home ≡ length old.lines.items + new.home) × (old.home ≤ new.home)
-GrowsAt Bottom old new = (new.home ≡ old.home) × (length old.lines.items ≤ length new.lines.items)
+GrowsAt Top old new = (length new.strip_rows.items + old.home ≡ length old.strip_rows.items + new.home) × (old.home ≤ new.home)
+GrowsAt Bottom old new = (new.home ≡ old.home) × (length old.strip_rows.items ≤ length new.strip_rows.items)
 
 -- a block stands beyond an edge of a strip, among a source's blocks
 pub record StandsBeyond (m : SourceValues) (s : Strip) (edge : Edge) (b : Block) : Type 0 where
@@ -173,7 +173,7 @@ IsBeyond m s edge (Some b) = StandsBeyond m s edge b
 -- whether the view that starts with a row of a strip does not have the strip's row at an edge
 abbrev pub hides_edge : Edge → Wanted → Strip → ℕ → Bool
 hides_edge Top w s start = nat_lt 0 start
-hides_edge Bottom w s start = nat_lt (start + w.height) (length s.lines.items)
+hides_edge Bottom w s start = nat_lt (start + w.height) (length s.strip_rows.items)
 
 -- the rows that are wanted between point's and an edge of the view that starts with a row, of so many
 abbrev pub wanted_at : Edge → Wanted → ℕ → ℕ → ℕ
@@ -181,19 +181,19 @@ wanted_at Top w count start = wanted_above w start
 wanted_at Bottom w count start = wanted_below w count start
 
 -- where point's row is, as seen from the rows from one place up to another
-abbrev pub seen_from : ℕ → ℕ → ℕ → Side
+abbrev pub seen_from : ℕ → ℕ → ℕ → PointSide
 seen_from from to row = if nat_lt row from then Above else if nat_lt row to then Within else Below
 
-abbrev pub unseen_from : ℕ → Option Block → Side
+abbrev pub unseen_from : ℕ → Option Block → PointSide
 unseen_from point None = Below
 unseen_from point (Some b) = if nat_lt point b.start then Above else Below
 
-abbrev pub side_of : ℕ → ℕ → Side → Option ℕ → Side
+abbrev pub side_of : ℕ → ℕ → PointSide → Option ℕ → PointSide
 side_of from to unseen None = unseen
 side_of from to unseen (Some row) = seen_from from to row
 
-abbrev pub side_in : Strip → ℕ → ℕ → Side
-side_in s from to = side_of from to (unseen_from s.sweep.point (slice_get s.blocks.items 0)) (position (λ (line : Line). line.has_point) s.lines.items)
+abbrev pub side_in : Strip → ℕ → ℕ → PointSide
+side_in s from to = side_of from to (unseen_from s.sweep.point (slice_get s.blocks.items 0)) (position (λ (r : StripRow). r.has_point) s.strip_rows.items)
 
 -- a sweep from a window's anchor
 pub record IsFor (w : Wanted) (sweep : Sweep) : Type 0 where
@@ -215,7 +215,7 @@ pub record IsUnsuited (m : SourceValues) (window : Window) : Type 0 where
 -- a window that follows point, and whose strip has point's row at a place
 pub record ShowsPoint (m : SourceValues) (window : Window) (row : ℕ) : Type 0 where
   pub laid : IsLaidOut m window false
-  pub inside : row < length window.strip.lines.items
+  pub inside : row < length window.strip.strip_rows.items
   pub point : first_row m window.strip + row ≡ point_row m window.strip.sweep
 
 -- the row at a place of a strip that starts with a row
@@ -227,7 +227,7 @@ row_at first (Some place) = (first + place) ∷ []
 pub record HasPoint (m : SourceValues) (s : Strip) : Type 0 where
   pub strip : IsStrip m s
   pub from : first_row m s ≤ point_row m s.sweep
-  pub to : point_row m s.sweep < first_row m s + length s.lines.items
+  pub to : point_row m s.sweep < first_row m s + length s.strip_rows.items
 
 -- the choice of the start that brings point's row to the middle
 abbrev pub centred_chosen : SourceValues → ShapeValues → Wanted → Chosen

@@ -7,7 +7,7 @@ ghost use Rattle.rd_start.specs.Chosen.{anchor_at, chosen_of, forced_point, plac
 ghost use Rattle.rd_start.specs.Near.{is_near, near_costs};
 ghost use Rattle.rd_start.specs.Strips.{IsStrip, IsLaidOut, IsUnsuited, IsPaid, Between, HasPoint, Reaches, all_costs, centred_chosen, first_row, point_row, rows_in};
 
-use crate::strip::{Edge, Side, Strip, Sweep};
+use crate::strip::{Edge, PointSide, Strip, Sweep};
 use crate::view::{home_suits, nearest};
 use crate::wanted::{Chosen, Wanted};
 use crate::window::Window;
@@ -85,7 +85,7 @@ fn forced<B: BlockSource, L: Ledger>(
 /// Point where a row of a strip is a forced start, and the strip reaches the end of the view from there.
 fn forced_point(window: &Window, start: usize) -> Pos
     requires strip { (m : SourceValues) × IsStrip m window.now.strip }
-    requires start { start < length window.now.strip.lines.items }
+    requires start { start < length window.now.strip.strip_rows.items }
     requires height { 1 ≤ window.now.wanted.height }
     ensures { (m : SourceValues) → IsStrip m window.now.strip → Reaches m window.now.strip (start + window.now.wanted.height)
         → result ≡ forced_point window.now.wanted (first_row m window.now.strip + start) (point_row m window.now.strip.sweep)
@@ -96,9 +96,9 @@ fn forced_point(window: &Window, start: usize) -> Pos
     match window.strip.span(start, end) {
         None => window.wanted.point,
         Some(span) => match side {
-            Side::Above => span.first as Pos,
-            Side::Within => window.wanted.point,
-            Side::Below => span.last as Pos,
+            PointSide::Above => span.first as Pos,
+            PointSide::Within => window.wanted.point,
+            PointSide::Below => span.last as Pos,
         },
     }
 }
@@ -180,7 +180,7 @@ fn centred<B: BlockSource, L: Ledger>(
 
 /// The place of point's row in a strip that has it.
 fn row_of_point(strip: &Strip) -> usize
-    ensures { (m : SourceValues) → HasPoint m strip.now → (result < length strip.now.lines.items) × (first_row m strip.now + result ≡ point_row m strip.now.sweep) }
+    ensures { (m : SourceValues) → HasPoint m strip.now → (result < length strip.now.strip_rows.items) × (first_row m strip.now + result ≡ point_row m strip.now.sweep) }
 {
     strip.point_row().unwrap_or(strip.home())
 }
@@ -213,7 +213,7 @@ fn with_point<B: BlockSource, L: Ledger>(
 
 /// The choice of the row at a place of a window's strip; point stays.
 fn starting_at(window: &Window, place: usize) -> Chosen
-    requires { place < length window.now.strip.lines.items }
+    requires { place < length window.now.strip.strip_rows.items }
     ensures { (m : SourceValues) → IsStrip m window.now.strip → result ≡ record { anchor = anchor_at (all_rows (rows_in m window.now.strip.sweep) m.blocks) (first_row m window.now.strip + place); point = window.now.wanted.point } }
 {
     Chosen {

@@ -2,7 +2,7 @@
 ghost use Rattle.std.specs.Prelude.{◌≡◌, ◌-◌, ◌==◌, if◌then◌else◌, min};
 ghost use Rattle.std.specs.List.{list_any};
 ghost use Rattle.rd_matrix.specs.Columns.{covers};
-ghost use Rattle.rd_start.specs.Strips.{line_of};
+ghost use Rattle.rd_start.specs.Strips.{strip_row_of};
 
 use crate::span::{Span, joined_spans, span_of};
 use crate::wanted::Wanted;
@@ -25,7 +25,7 @@ pub(crate) struct Sweep {
 /// What is kept of a row: the start of its block, its number there, whether an item that covers point begins in it, and the least
 /// and the greatest of the positions at which the items begin that begin in it and cover a position.
 #[derive(Clone, Copy)]
-pub(crate) struct Line {
+pub(crate) struct StripRow {
     start: Pos,
     number: u32,
     has_point: bool,
@@ -37,7 +37,7 @@ pub(crate) struct Line {
 pub(crate) struct Strip {
     sweep: Sweep,
     blocks: VecDeque<Block>,
-    lines: VecDeque<Line>,
+    strip_rows: VecDeque<StripRow>,
     home: usize,
 }
 
@@ -50,17 +50,17 @@ pub(crate) enum Edge {
 
 /// Where point's row is, as seen from rows in view.
 #[derive(Clone, Copy)]
-pub(crate) enum Side {
+pub(crate) enum PointSide {
     Above,
     Within,
     Below,
 }
 
 /// What is kept of a row of a block.
-fn line_of(point: Pos, start: Pos, number: u32, row: &Row) -> Line
-    ensures { result ≡ line_of point (record { start = start; number = number; row = row.now.shown }) }
+fn strip_row_of(point: Pos, start: Pos, number: u32, row: &Row) -> StripRow
+    ensures { result ≡ strip_row_of point (record { start = start; number = number; row = row.now.shown }) }
 {
-    Line {
+    StripRow {
         start,
         number,
         has_point: has_point(point, start, row.begins()),
@@ -95,7 +95,7 @@ impl Strip {
     ghost use Rattle.rd_start.specs.Chosen.{anchor_at, first_positions};
     ghost use Rattle.rd_start.specs.Strips.{IsStrip, IsPaid, IsAsked, HasPoint, IsPushed, IsBeyond, GrowsAt, ReachesAt, AsksAt, Between, extent, rows_in, count_in, home_row, first_row, moved_row, side_in, all_costs, span_of};
     ghost use Rattle.rd_start.specs.declared.strip.Edge.TheVariants.{Bottom, Top};
-    ghost use Rattle.rd_start.specs.declared.strip.Line.{Line};
+    ghost use Rattle.rd_start.specs.declared.strip.StripRow.{StripRow};
 
     /// What it was swept for.
     pub(crate) fn sweep(&self) -> Sweep
@@ -113,10 +113,10 @@ impl Strip {
 
     /// How many rows it has.
     pub(crate) fn count(&self) -> usize
-        ensures value { result ≡ length self.now.lines.items }
+        ensures value { result ≡ length self.now.strip_rows.items }
         ensures bound { result < 2 ^ 63 }
     {
-        self.lines.len()
+        self.strip_rows.len()
     }
 
     /// The first of its blocks.
@@ -157,7 +157,7 @@ impl Strip {
         let mut strip = Strip {
             sweep,
             blocks: VecDeque::new(alloc),
-            lines: VecDeque::new(alloc),
+            strip_rows: VecDeque::new(alloc),
             home: row_in_block(sweep.anchor, block.start, rows.len()),
         };
         strip.push_below(block, rows.as_slice())?;
@@ -170,8 +170,8 @@ impl Strip {
         ensures { OnOk result (IsPushed Bottom self.old self.new block (shown_rows rows.now)) }
     {
         for number in 0..rows.len() {
-            let line = line_of(self.sweep.point, block.start, number as u32, &rows[number]);
-            self.lines.push_back(line)?;
+            let row = strip_row_of(self.sweep.point, block.start, number as u32, &rows[number]);
+            self.strip_rows.push_back(row)?;
         }
         self.blocks.push_back(block)?;
         Ok(())
@@ -180,14 +180,14 @@ impl Strip {
     /// Adds a block above the others, and its rows.
     fn push_above(&mut self, block: Block, rows: &[Row]) -> Result<(), Memory>
         requires few { length rows.now < 2 ^ 32 }
-        requires home { self.old.home < length self.old.lines.items }
+        requires home { self.old.home < length self.old.strip_rows.items }
         ensures { OnOk result (IsPushed Top self.old self.new block (shown_rows rows.now)) }
     {
         let mut number = rows.len();
         while number > 0 {
             number -= 1;
-            let line = line_of(self.sweep.point, block.start, number as u32, &rows[number]);
-            self.lines.push_front(line)?;
+            let row = strip_row_of(self.sweep.point, block.start, number as u32, &rows[number]);
+            self.strip_rows.push_front(row)?;
         }
         self.home += rows.len();
         self.blocks.push_front(block)?;
@@ -197,7 +197,7 @@ impl Strip {
     /// Adds a block at an edge, and its rows.
     fn push(&mut self, edge: Edge, block: Block, rows: &[Row]) -> Result<(), Memory>
         requires few { length rows.now < 2 ^ 32 }
-        requires home { self.old.home < length self.old.lines.items }
+        requires home { self.old.home < length self.old.strip_rows.items }
         ensures { OnOk result (IsPushed edge self.old self.new block (shown_rows rows.now)) }
     {
         match edge {
@@ -212,7 +212,7 @@ impl Strip {
     {
         match edge {
             Edge::Top => self.home,
-            Edge::Bottom => self.lines.len(),
+            Edge::Bottom => self.strip_rows.len(),
         }
     }
 
@@ -276,7 +276,7 @@ impl Strip {
         ensures stays { B.meaning source.new ≡ B.meaning source.old }
         ensures strip { OnOk result (IsStrip (B.meaning source.old) self.new) }
         ensures sweep { OnOk result (self.new.sweep ≡ self.old.sweep) }
-        ensures place { IfOk result (λ place. (place < length self.new.lines.items) × (first_row (B.meaning source.old) self.new + place ≡ moved_row (B.meaning source.old) self.old.sweep wanted.pending)) }
+        ensures place { IfOk result (λ place. (place < length self.new.strip_rows.items) × (first_row (B.meaning source.old) self.new + place ≡ moved_row (B.meaning source.old) self.old.sweep wanted.pending)) }
         ensures paid { (kind : ℕ → Bool) (base : ℕ) → IsPaid kind base (B.meaning source.old) self.old steps.old
             → Between kind (min (home_row (B.meaning source.old) self.old.sweep) (moved_row (B.meaning source.old) self.old.sweep wanted.pending))
             (max (home_row (B.meaning source.old) self.old.sweep) (moved_row (B.meaning source.old) self.old.sweep wanted.pending) + 1)
@@ -290,15 +290,15 @@ impl Strip {
         }
         let place = self.home + rows;
         self.reach(alloc, source, Edge::Bottom, place + 1, steps)?;
-        Ok(place.min(self.lines.len() - 1))
+        Ok(place.min(self.strip_rows.len() - 1))
     }
 
     /// The place of point's row, where the strip has it.
     pub(crate) fn point_row(&self) -> Option<usize>
-        ensures { result ≡ position (λ (line : Line). line.has_point) self.now.lines.items }
+        ensures { result ≡ position (λ (r : StripRow). r.has_point) self.now.strip_rows.items }
     {
-        for row in 0..self.lines.len() {
-            if self.lines[row].has_point {
+        for row in 0..self.strip_rows.len() {
+            if self.strip_rows[row].has_point {
                 return Some(row);
             }
         }
@@ -306,25 +306,25 @@ impl Strip {
     }
 
     /// Where point's row is, as seen from the rows in view from one place up to another.
-    pub(crate) fn side_of_point(&self, from: usize, to: usize) -> Side
+    pub(crate) fn side_of_point(&self, from: usize, to: usize) -> PointSide
         requires { 0 < length self.now.blocks.items }
         ensures { result ≡ side_in self.now from to }
     {
         match self.point_row() {
             None => {
                 if self.sweep.point < self.first().start {
-                    Side::Above
+                    PointSide::Above
                 } else {
-                    Side::Below
+                    PointSide::Below
                 }
             }
             Some(row) => {
                 if row < from {
-                    Side::Above
+                    PointSide::Above
                 } else if row < to {
-                    Side::Within
+                    PointSide::Within
                 } else {
-                    Side::Below
+                    PointSide::Below
                 }
             }
         }
@@ -332,25 +332,25 @@ impl Strip {
 
     /// The block and the number of the row at a place.
     pub(crate) fn anchor(&self, place: usize) -> Anchor
-        requires { place < length self.now.lines.items }
+        requires { place < length self.now.strip_rows.items }
         ensures { (m : SourceValues) → IsStrip m self.now → result ≡ anchor_at (all_rows (rows_in m self.now.sweep) m.blocks) (first_row m self.now + place) }
     {
-        let line = self.lines[place];
+        let row = self.strip_rows[place];
         Anchor {
-            pos: line.start,
-            row: line.number,
+            pos: row.start,
+            row: row.number,
         }
     }
 
     /// The least and the greatest of the positions at which items begin in the rows from one place up to another.
     pub(crate) fn span(&self, from: usize, to: usize) -> Option<Span>
-        requires { to ≤ length self.now.lines.items }
+        requires { to ≤ length self.now.strip_rows.items }
         ensures { (m : SourceValues) → IsStrip m self.now → from ≤ to
             → result ≡ span_of (first_positions (take (to - from) (drop (first_row m self.now + from) (all_rows (rows_in m self.now.sweep) m.blocks)))) }
     {
         let mut span = None;
         for place in from..to {
-            span = joined_spans(span, self.lines[place].span);
+            span = joined_spans(span, self.strip_rows[place].span);
         }
         span
     }

@@ -32,7 +32,7 @@ fn is_inside(height: usize, above: usize, below: usize, start: usize, row: usize
 
 /// Whether the view that starts with a row of a window's strip does not have the strip's row at an edge: its first, or its last one.
 fn hides_edge(window: &Window, start: usize, edge: Edge) -> bool
-    requires { start < length window.now.strip.lines.items }
+    requires { start < length window.now.strip.strip_rows.items }
     ensures { result ≡ hides_edge edge window.now.wanted window.now.strip start }
 {
     match edge {
@@ -51,7 +51,7 @@ fn wanted_at<B: BlockSource>(
     edge: Edge,
 ) -> Result<usize, Memory>
     requires strip { IsStrip (B.meaning source.old) window.now.strip }
-    requires start { start < length window.now.strip.lines.items }
+    requires start { start < length window.now.strip.strip_rows.items }
     requires reached { Reaches (B.meaning source.old) window.now.strip (start + window.now.wanted.height) }
     ensures stays { B.meaning source.new ≡ B.meaning source.old }
     ensures value { IfOk result (λ rows. rows ≡ wanted_at edge window.now.wanted (count_in (B.meaning source.old) window.now.strip.sweep (B.meaning source.old).blocks) (first_row (B.meaning source.old) window.now.strip + start)) }
@@ -79,7 +79,7 @@ fn suits<B: BlockSource>(
     requires reached { Reaches (B.meaning source.old) window.now.strip (start + window.now.wanted.height) }
     ensures stays { B.meaning source.new ≡ B.meaning source.old }
     ensures value { IfOk result (λ fits. fits ≡ suits window.now.wanted (places_of (B.meaning source.old) window.now.strip.sweep.shape window.now.wanted) (first_row (B.meaning source.old) window.now.strip + start)) }
-    ensures inside { IfOk result (λ fits. fits ≡ true → start < length window.now.strip.lines.items) }
+    ensures inside { IfOk result (λ fits. fits ≡ true → start < length window.now.strip.strip_rows.items) }
 {
     if start >= window.strip.count() {
         return Ok(false);
@@ -119,7 +119,7 @@ fn suiting<B: BlockSource>(
     ensures stays { B.meaning source.new ≡ B.meaning source.old }
     ensures value { IfOk result (λ found. option_map (λ place. first_row (B.meaning source.old) window.now.strip + place) found
         ≡ find (suits window.now.wanted (places_of (B.meaning source.old) window.now.strip.sweep.shape window.now.wanted)) (row_at (first_row (B.meaning source.old) window.now.strip) place)) }
-    ensures inside { IfOk result (λ found. IfSome found (λ place. place < length window.now.strip.lines.items)) }
+    ensures inside { IfOk result (λ found. IfSome found (λ place. place < length window.now.strip.strip_rows.items)) }
 {
     let Some(start) = place else {
         return Ok(None);
@@ -145,7 +145,7 @@ fn suiting_at<B: BlockSource>(
     ensures stays { B.meaning source.new ≡ B.meaning source.old }
     ensures value { IfOk result (λ found. option_map (λ place. first_row (B.meaning source.old) window.now.strip + place) found
         ≡ find (suits window.now.wanted (places_of (B.meaning source.old) window.now.strip.sweep.shape window.now.wanted)) (both_at (first_row (B.meaning source.old) window.now.strip + window.now.strip.home) far)) }
-    ensures inside { IfOk result (λ found. IfSome found (λ place. place < length window.now.strip.lines.items)) }
+    ensures inside { IfOk result (λ found. IfSome found (λ place. place < length window.now.strip.strip_rows.items)) }
 {
     let home = window.strip.home();
     match suiting(alloc, source, window, row, home.checked_sub(far))? {
@@ -167,7 +167,7 @@ pub(crate) fn nearest<B: BlockSource>(
     ensures stays { B.meaning source.new ≡ B.meaning source.old }
     ensures value { IfOk result (λ start. option_map (λ place. first_row (B.meaning source.old) window.now.strip + place) start
         ≡ find (suits window.now.wanted (places_of (B.meaning source.old) window.now.strip.sweep.shape window.now.wanted)) (around (first_row (B.meaning source.old) window.now.strip + window.now.strip.home) window.now.wanted.conservatively)) }
-    ensures inside { IfOk result (λ start. IfSome start (λ place. place < length window.now.strip.lines.items)) }
+    ensures inside { IfOk result (λ start. IfSome start (λ place. place < length window.now.strip.strip_rows.items)) }
 {
     let Some(row) = window.strip.point_row() else {
         return Ok(None);

@@ -3,8 +3,8 @@ use Rattle.rd_matrix.specs.Sources.{SourceValues}
 use Rattle.rd_start.specs.Chosen.{first_positions}
 use Rattle.rd_start.specs.Strips.{IsStrip, Reaches, first_row, point_row, span_of}
 use Rattle.rd_start.specs.declared.span.Span.{Span}
-use Rattle.rd_start.specs.declared.strip.Side.{Side}
-use Rattle.rd_start.specs.declared.strip.Side.TheVariants.{Above, Below, Within}
+use Rattle.rd_start.specs.declared.strip.PointSide.{PointSide}
+use Rattle.rd_start.specs.declared.strip.PointSide.TheVariants.{Above, Below, Within}
 use Rattle.rd_start.proofs.Choosing.{point-above, point-below, point-kept, point-shown}
 use Rattle.rd_start.proofs.Places.{Spans, view_of, view-spans}
 use Rattle.rd_start.proofs.Sides.{Sees, seen}
@@ -13,11 +13,11 @@ use Rattle.rd_start.proofs.choice.forced_point.Goals as goal
 use Rattle.rd_start.proofs.choice.forced_point.Goals.{After-min-end, After-side_of_point-side}
 
 -- the place behind the view's last row
-end : (c : goal.After-min-end) → c.min-end.result ≡ min (c.args.start + c.args.window.now.wanted.height) (length c.args.window.now.strip.lines.items)
+end : (c : goal.After-min-end) → c.min-end.result ≡ min (c.args.start + c.args.window.now.wanted.height) (length c.args.window.now.strip.strip_rows.items)
 end c = omega (arith, c.min-end.ensures, c.count.ensures.value)
 
 -- where point's row is, and what its view spans
-side : (c : goal.After-side_of_point-side) (there : Side) → c.side_of_point-side.result ≡ there → (m : SourceValues) → IsStrip m c.args.window.now.strip
+side : (c : goal.After-side_of_point-side) (there : PointSide) → c.side_of_point-side.result ≡ there → (m : SourceValues) → IsStrip m c.args.window.now.strip
     → Reaches m c.args.window.now.strip (c.args.start + c.args.window.now.wanted.height)
     → Sees there (first_row m c.args.window.now.strip + c.args.start) c.args.window.now.wanted.height (point_row m c.args.window.now.strip.sweep)
 side c there is m h reached =

@@ -8,4 +8,4 @@ pub returns : goal.returns
 returns c = λ m h.
     let s = c.args.strip.now in
     let is = c.unwrap_or.ensures ∙ ap (λ o. unwrap_or o c.home.result) c.point_row.ensures in
-    subst (λ n. (n < length s.lines.items) × (first_row m s + n ≡ point_row m s.sweep)) (sym is) (row-found m s c.home.result h)
+    subst (λ n. (n < length s.strip_rows.items) × (first_row m s + n ≡ point_row m s.sweep)) (sym is) (row-found m s c.home.result h)

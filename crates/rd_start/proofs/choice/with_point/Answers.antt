@@ -23,7 +23,7 @@ returns-clause-paid g c = λ kind base paid here.
     let m = g.B.BlockSource.meaning c.args.source.now in
     let s = c.args.strip in
     let n = c.args.steps.now in
-    let low = affords kind base m s.sweep s.blocks.items s.lines.items s.home n paid.0 paid.1 in
+    let low = affords kind base m s.sweep s.blocks.items s.strip_rows.items s.home n paid.0 paid.1 in
     let asked = ap (λ (x : Sweep). kind (point_row m x)) c.sweep-sweep.ensures ∙ here in
     let costs = ap (λ (x : Sweep). all_costs kind m x) c.sweep-sweep.ensures in
     paid-again kind base n c.around.new.steps (all_costs kind m s.sweep) m c.around.result low

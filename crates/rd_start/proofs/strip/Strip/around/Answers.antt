@@ -34,7 +34,7 @@ returns-in_err-push_below-clause-paid g c =
     failed g (goal.at.returns-in_err-push_below-clause-paid g c).After-rows c.from_residual-in_err-push_below.result c.from_residual-in_err-push_below.ensures.0
 
 empty : (g : given.Over) → goal.After-drop-rows-2 g → Strip
-empty g c = record { sweep = c.args.sweep; blocks = c.new.result; lines = c.new-2.result; home = c.row_in_block.result }
+empty g c = record { sweep = c.args.sweep; blocks = c.new.result; strip_rows = c.new-2.result; home = c.row_in_block.result }
 
 made : (g : given.Over) → (c : goal.After-drop-rows-2 g) → Made (g.B.BlockSource.meaning c.args.source.now) c.args.sweep c.in_ok-block.block (empty g c) c.push_below.new.self (shown_rows c.as_slice.result.now)
 unfolding empty
@@ -51,7 +51,7 @@ made g c =
       same = rows-same m (g.B.BlockSource.meaning c.block_of.new.self) sweep b (shown_rows c.as_slice.result.now) c.block_of.ensures.stays (ap shown_rows c.as_slice.ensures.value ∙ c.in_ok-rows.ensures.rows);
       sweep_is = refl;
       blocks = c.new.ensures.items;
-      lines = c.new-2.ensures.items;
+      strip_rows = c.new-2.ensures.items;
       home = c.row_in_block.ensures ∙ ap (λ n. cond (sweep.anchor.pos == b.start) (min sweep.anchor.row (n - 1)) 0) count;
       below = c.in_ok-push_below.ensures;
     }

@@ -1,12 +1,12 @@
 use Rattle.std.proofs.Common.{arith, sym}
 use Rattle.rd_start.proofs.Lists.{position-here, position-none}
-use Rattle.rd_start.specs.declared.strip.Line.{Line}
+use Rattle.rd_start.specs.declared.strip.StripRow.{StripRow}
 use Rattle.rd_start.proofs.strip.Strip.point_row.Goals as goal
 
 pub returns-then-index : goal.returns-then-index
 returns-then-index c =
-    sym (position-here (λ (line : Line). line.has_point) c.args.self.now.lines.items c.loop-row.row c.index.result.now c.loop-row.invariant (omega arith) c.index.ensures c.if-index.true)
+    sym (position-here (λ (r : StripRow). r.has_point) c.args.self.now.strip_rows.items c.loop-row.row c.index.result.now c.loop-row.invariant (omega arith) c.index.ensures c.if-index.true)
 
 pub returns : goal.returns
 returns c =
-    sym (position-none (λ (line : Line). line.has_point) c.args.self.now.lines.items c.loop-row.row c.loop-row.invariant (omega arith))
+    sym (position-none (λ (r : StripRow). r.has_point) c.args.self.now.strip_rows.items c.loop-row.row c.loop-row.invariant (omega arith))

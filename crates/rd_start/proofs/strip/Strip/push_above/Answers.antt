@@ -1,9 +1,9 @@
 use Rattle.std.proofs.Common.{◌≡◌, ◌+◌, ◌-◌, ◌++◌, map, drop, ap, refl, ◌∙◌, arith}
 use Rattle.rd_matrix.specs.Entries.{numbered}
 use Rattle.rd_rows.specs.Copies.{shown_rows}
-use Rattle.rd_start.specs.Strips.{line_of}
+use Rattle.rd_start.specs.Strips.{strip_row_of}
 use Rattle.rd_start.specs.declared.strip.Sweep.{Sweep}
-use Rattle.rd_start.proofs.Pushing.{count-shown, lines-above, none-above, shown-at}
+use Rattle.rd_start.proofs.Pushing.{count-shown, strip_rows-above, none-above, shown-at}
 use Rattle.rd_start.proofs.strip.Strip.push_above.Goals as goal
 
 pub loop-number-init : goal.loop-number-init
@@ -15,7 +15,7 @@ loop-number-init c =
       sweep = refl;
       home = refl;
       blocks = refl;
-      lines = none-above old.sweep.point c.args.block.start _ (shown_rows c.args.rows.now) old.lines.items (omega arith);
+      strip_rows = none-above old.sweep.point c.args.block.start _ (shown_rows c.args.rows.now) old.strip_rows.items (omega arith);
     }
 
 pub loop-number-preserved : goal.loop-number-preserved
@@ -30,9 +30,9 @@ loop-number-preserved c =
       sweep = inv.sweep;
       home = inv.home;
       blocks = inv.blocks;
-      lines = lines-above old.sweep.point c.args.block.start k (shown_rows c.args.rows.now) r.shown old.lines.items c.loop-number.self.lines.items _ c.line_of-line.result
+      strip_rows = strip_rows-above old.sweep.point c.args.block.start k (shown_rows c.args.rows.now) r.shown old.strip_rows.items c.loop-number.self.strip_rows.items _ c.strip_row_of-row.result
           (shown-at c.args.rows.now k r (omega arith) c.index-rows-number.is)
-          (c.line_of-line.ensures ∙ ap (λ (x : Sweep). line_of x.point (record { start = c.args.block.start; number = k; row = r.shown })) inv.sweep)
-          (inv.lines ∙ ap (λ n. map (line_of old.sweep.point) (drop n (numbered c.args.block.start 0 (shown_rows c.args.rows.now))) ++ old.lines.items) next)
+          (c.strip_row_of-row.ensures ∙ ap (λ (x : Sweep). strip_row_of x.point (record { start = c.args.block.start; number = k; row = r.shown })) inv.sweep)
+          (inv.strip_rows ∙ ap (λ n. map (strip_row_of old.sweep.point) (drop n (numbered c.args.block.start 0 (shown_rows c.args.rows.now))) ++ old.strip_rows.items) next)
           c.in_ok-push_front.ensures.items;
     }

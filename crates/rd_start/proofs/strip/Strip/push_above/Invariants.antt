@@ -1,7 +1,7 @@
 use Rattle.std.proofs.Common.{◌≡◌, ◌≤◌, ◌++◌, length, map, drop}
 use Rattle.rd_matrix.specs.Entries.{numbered}
 use Rattle.rd_rows.specs.Copies.{shown_rows}
-use Rattle.rd_start.specs.Strips.{line_of}
+use Rattle.rd_start.specs.Strips.{strip_row_of}
 use Rattle.rd_start.proofs.strip.Strip.push_above.Given as goal
 
 abbrev pub invariant-loop-number : goal.invariant-loop-number
@@ -10,7 +10,7 @@ invariant-loop-number l = record {
   sweep : l.self.sweep ≡ l.fn.self.sweep;
   home : l.self.home ≡ l.fn.self.home;
   blocks : l.self.blocks.items ≡ l.fn.self.blocks.items;
-  lines : l.self.lines.items ≡ map (line_of l.fn.self.sweep.point) (drop l.number (numbered l.block.start 0 (shown_rows l.rows))) ++ l.fn.self.lines.items;
+  strip_rows : l.self.strip_rows.items ≡ map (strip_row_of l.fn.self.sweep.point) (drop l.number (numbered l.block.start 0 (shown_rows l.rows))) ++ l.fn.self.strip_rows.items;
 }
 
 abbrev pub decreases-loop-number : goal.decreases-loop-number

@@ -1,8 +1,8 @@
 use Rattle.std.proofs.Common.{◌++◌, ◌∷◌, [], ap, ◌∙◌, arith, rules}
 use Rattle.rd_rows.specs.Copies.{shown_rows}
-use Rattle.rd_start.specs.Strips.{line_of}
+use Rattle.rd_start.specs.Strips.{strip_row_of}
 use Rattle.rd_start.specs.declared.strip.Sweep.{Sweep}
-use Rattle.rd_start.proofs.Pushing.{all-below, count-shown, lines-below, shown-at}
+use Rattle.rd_start.proofs.Pushing.{all-below, count-shown, strip_rows-below, shown-at}
 use Rattle.rd_start.proofs.strip.Strip.push_below.Goals as goal
 
 pub loop-number-preserved : goal.loop-number-preserved
@@ -15,10 +15,10 @@ loop-number-preserved c =
       sweep = inv.sweep;
       home = inv.home;
       blocks = inv.blocks;
-      lines = lines-below old.sweep.point c.args.block.start k (shown_rows c.args.rows.now) r.shown old.lines.items c.loop-number.self.lines.items _ c.line_of-line.result
+      strip_rows = strip_rows-below old.sweep.point c.args.block.start k (shown_rows c.args.rows.now) r.shown old.strip_rows.items c.loop-number.self.strip_rows.items _ c.strip_row_of-row.result
           (shown-at c.args.rows.now k r (omega arith) c.index-rows-number.is)
-          (c.line_of-line.ensures ∙ ap (λ (x : Sweep). line_of x.point (record { start = c.args.block.start; number = k; row = r.shown })) inv.sweep)
-          inv.lines c.in_ok-push_back.ensures.items;
+          (c.strip_row_of-row.ensures ∙ ap (λ (x : Sweep). strip_row_of x.point (record { start = c.args.block.start; number = k; row = r.shown })) inv.sweep)
+          inv.strip_rows c.in_ok-push_back.ensures.items;
     }
 
 pub returns : goal.returns
@@ -31,5 +31,5 @@ returns c =
       sweep = inv.sweep;
       home = inv.home;
       blocks = c.in_ok-push_back-2.ensures.items ∙ ap (λ ys. ys ++ c.args.block ∷ []) inv.blocks;
-      lines = all-below old.sweep.point c.args.block.start c.loop-number.number (shown_rows c.args.rows.now) old.lines.items _ (omega arith) inv.lines;
+      strip_rows = all-below old.sweep.point c.args.block.start c.loop-number.number (shown_rows c.args.rows.now) old.strip_rows.items _ (omega arith) inv.strip_rows;
     }

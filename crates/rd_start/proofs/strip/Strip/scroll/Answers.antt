@@ -54,8 +54,8 @@ returns-clause-place g c =
     let rows = c.unsigned_abs-rows.result in
     let home = c.in_ok-reach-2.ensures.grows.0 in
     let place = placed-down m new c.args.wanted.pending rows (s.home + rows) c.in_ok-reach-2.ensures.strip (sym (ap is_negative whole) ∙ (sym c.is_negative.ensures ∙ c.if-is_negative.false)) (c.unsigned_abs-rows.ensures.value ∙ ap unsigned_abs whole) (omega (arith, home)) c.in_ok-reach-2.ensures.reached in
-    let size = new.lines.ok.0 in
-    let is : c.min.result ≡ min (s.home + rows) (length new.lines.items - 1) = omega (arith, c.min.ensures, c.len.ensures, size) in
+    let size = new.strip_rows.ok.0 in
+    let is : c.min.result ≡ min (s.home + rows) (length new.strip_rows.items - 1) = omega (arith, c.min.ensures, c.len.ensures, size) in
     let same = ap (λ (x : Sweep). moved_row m x c.args.wanted.pending) c.in_ok-reach-2.ensures.sweep in
     (omega (arith, place.0, is), ap (λ n. first_row m new + n) is ∙ (place.1 ∙ same))
 
