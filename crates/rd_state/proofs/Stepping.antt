@@ -21,7 +21,7 @@ use Rattle.rd_state.specs.declared.window.WindowState.{WindowState}
 use Rattle.rd_state.specs.States.{BufferValue, ContentValue, StateValue, number_of}
 use Rattle.rd_state.specs.Valid.{AreBuffers, AreWindows, IsContent, IsValid}
 use Rattle.rd_state.specs.Edits.{is_accessible, is_accessible_range, is_range_of_all, has_room, is_value_made, most_overlays, grown, shrunk, insertion, deletion, narrowing, widening, property_putting, overlay_making, overlay_moving, overlay_dropping, overlay_putting}
-use Rattle.rd_state.specs.Moves.{after_insertion, brought_into, place_after, moved_in}
+use Rattle.rd_state.specs.Moves.{point_after_insertion, brought_into, place_after, moved_in}
 use Rattle.rd_state.specs.Steps.{with_found, replaced, moving, edited, edited_moving, making, raw_text}
 use Rattle.rd_state.proofs.Below.{TextLaws, MadeLaws}
 use Rattle.rd_state.proofs.Contents.{grown-valid, shrunk-valid, narrowed-valid, widened-valid, put-valid, made-valid, moved-valid, dropped-valid, given-valid, with_property, with_overlays}
@@ -129,7 +129,7 @@ pub insertion-keeps : (texts : TextLaws) (made : MadeLaws) (o : ObjectLists) (po
 insertion-keeps texts made o pos new codes c d v h =
     let m = insertion-means pos new c d h in (
       subst (IsContent o) m.2 (grown-valid texts made o c pos new v codes m.0 m.1),
-      λ p a. subst (λ (x : ContentValue). IsAccessible x.text (after_insertion pos (length new) p)) m.2 (moved_by (nat_lt pos p) c.text.begin c.text.end p (length new) a.0 a.1),
+      λ p a. subst (λ (x : ContentValue). IsAccessible x.text (point_after_insertion pos (length new) p)) m.2 (moved_by (nat_lt pos p) c.text.begin c.text.end p (length new) a.0 a.1),
     )
 
 pub deletion-means : (from to : ℕ) (c d : ContentValue) → deletion from to c ≡ Ok d → IsAccessibleRange c.text from to × (shrunk c from to ≡ d)

@@ -6,15 +6,15 @@ use Rattle.rd_state.specs.declared.moves.Move.TheVariants.{Inserted, Deleted, Na
 use Rattle.rd_state.specs.declared.window.WindowState.{WindowState}
 
 -- what stands past the place of an insertion moves by its length, and what stands at the place stays
-abbrev pub after_insertion : ℕ → ℕ → ℕ → ℕ
-after_insertion pos count p = if nat_lt pos p then p + count else p
+abbrev pub point_after_insertion : ℕ → ℕ → ℕ → ℕ
+point_after_insertion pos count p = if nat_lt pos p then p + count else p
 
 -- the nearest position of a range, its end included
 abbrev pub brought_into : ℕ → ℕ → ℕ → ℕ
 brought_into from to p = max from (min p to)
 
 abbrev pub place_after : Move → ℕ → ℕ
-place_after (Inserted pos count) p = after_insertion pos count p
+place_after (Inserted pos count) p = point_after_insertion pos count p
 place_after (Deleted from to) p = after_deletion from to p
 place_after (Narrowed from to) p = brought_into from to p
 

@@ -1,6 +1,6 @@
 //! Where the points and the views of windows move when the text that they show changes.
 ghost use Rattle.std.specs.Prelude.{◌≡◌, ℕ, ◌+◌, ◌<◌, Some, map, slice_get};
-ghost use Rattle.rd_state.specs.Moves.{after_insertion, place_after, moved, moved_in};
+ghost use Rattle.rd_state.specs.Moves.{point_after_insertion, place_after, moved, moved_in};
 ghost use Rattle.rd_state.specs.Movable.{IsMovable, NumberedWindow, CanMove};
 
 use crate::window::WindowState;
@@ -52,16 +52,16 @@ fn place_after(how: Move, p: Pos) -> Pos
     ensures { result ≡ place_after how p }
 {
     match how {
-        Move::Inserted(pos, count) => after_insertion(pos, count, p),
+        Move::Inserted(pos, count) => point_after_insertion(pos, count, p),
         Move::Deleted(from, to) => after_deletion(from, to, p),
         Move::Narrowed(from, to) => from.max(p.min(to)),
     }
 }
 
-/// Where a position stands after an insertion of so many characters.
-fn after_insertion(pos: Pos, count: u32, p: Pos) -> Pos
+/// Where a point or an anchor stands after an insertion of so many characters.
+fn point_after_insertion(pos: Pos, count: u32, p: Pos) -> Pos
     requires { p + count < 4294967296 }
-    ensures { result ≡ after_insertion pos count p }
+    ensures { result ≡ point_after_insertion pos count p }
 {
     if pos < p { p + count } else { p }
 }
