@@ -1,5 +1,5 @@
 -- Texts that are written piece by piece.
-use Rattle.std.proofs.Common.{◌≡◌, ℕ, suc, ◌+◌, ◌≤◌, ◌<◌, List, [], ◌++◌, length, Option, Result, Ok, Err, true≢false, refl, sym, ap, ◌∙◌, subst, append_assoc, append-nil, arith, drop, get_or}
+use Rattle.std.proofs.Common.{◌≡◌, ℕ, suc, ◌+◌, ◌≤◌, ◌<◌, List, [], ◌++◌, length, Option, Result, Ok, Err, true≢false, sym, ap, ◌∙◌, subst, append_assoc, arith, drop, get_or}
 use Rattle.std.specs.Result.{IsErr}
 use Rattle.std.specs.Io.KnownBytes.{Appends}
 use Rattle.std.proofs.KnownBytes.{Appends-nil, Appends-trans}
@@ -34,9 +34,6 @@ pub record Going (a b : Option (List ℕ)) (f g : ℕ) (all rest : List ℕ) : T
   pub printed : Appends a b done
   pub never_falls : f ≤ g
 
-pub going-start : (a : Option (List ℕ)) (f : ℕ) (all : List ℕ) → Going a a f f all all
-going-start a f all = record { done = []; split = refl; printed = Appends-nil a; never_falls = omega arith }
-
 -- the next piece was written
 pub going-on : {T E : Type 0} (a b c : Option (List ℕ)) (f g h : ℕ) (all rest piece more : List ℕ) (t : T)
     → Going a b f g all rest → rest ≡ piece ++ more → Prints {T = T} {E = E} b c g h piece (Ok t) → Going a c f h all more
@@ -59,12 +56,6 @@ pub going-stop : {U F : Type 0} (a b c : Option (List ℕ)) (f g h : ℕ) (all r
     → Going a b f g all rest → rest ≡ piece ++ more → Prints b c g h piece s → IsErr s → Prints a c f h all s
 going-stop a b c f g h all rest piece more s going e p bad =
     going-last a b c f g h all rest s going (subst (λ l. Prints b c g h l s) (sym e) (prints-stop b c g h piece more s p bad))
-
--- nothing is left
-pub going-end : {U F : Type 0} (a b : Option (List ℕ)) (f g : ℕ) (all rest : List ℕ) (u : U) → Going a b f g all rest → rest ≡ [] → Prints {T = U} {E = F} a b f g all (Ok u)
-going-end a b f g all rest u going e =
-    let same : going.done ≡ all = sym (append-nil going.done) ∙ ap (λ l. going.done ++ l) (sym e) ∙ sym going.split in
-    record { whole = subst (Appends a b) same going.printed; front = tt; never_falls = going.never_falls; failed = tt }
 
 -- the text of what is left of a list, by its next element
 pub flat-step : {A : Type 0} (f : A → List ℕ) (xs : List A) (i : ℕ) (d : A) → i < length xs → flat_map f (drop i xs) ≡ f (get_or xs i d) ++ flat_map f (drop (i + 1) xs)

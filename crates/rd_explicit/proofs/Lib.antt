@@ -1,7 +1,7 @@
-pub mod Chains
-pub mod Groups
-pub mod Joining
-pub mod Nesting
-pub mod Stacks
-pub mod Steps
-pub mod Walks
+mod Chains
+mod Groups
+mod Joining
+mod Nesting
+mod Stacks
+mod Steps
+mod Walks

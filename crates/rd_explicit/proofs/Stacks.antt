@@ -8,11 +8,6 @@ x6a_below_isolate-short [] h = refl
 x6a_below_isolate-short (e ∷ []) h = refl
 x6a_below_isolate-short (e ∷ f ∷ es) h = absurd (omega arith)
 
-pub x6a_below_isolate-step : (e : DirectionalStatus) (es : List DirectionalStatus) → 0 < length es
-    → x6a_below_isolate (e ∷ es) ≡ (if e.isolate then es else x6a_below_isolate es)
-x6a_below_isolate-step e [] h = absurd (omega arith)
-x6a_below_isolate-step e (f ∷ es) h = refl
-
 pub x6a_below_isolate-rises : (es : List DirectionalStatus) → Rises es → Rises (x6a_below_isolate es)
 x6a_below_isolate-rises [] r = r
 x6a_below_isolate-rises (e ∷ []) r = r

@@ -53,11 +53,6 @@ front-written a b c bytes front rest back n e is p q =
     e ∙ ap (λ l. front ++ l) (sym (take-append-drop n rest) ∙ ap (λ l. take n rest ++ l) (sym is)) ∙ sym (append_assoc front (take n rest) back) in
     (front ++ take n rest, split, Appends-trans a b c front (take n rest) p q)
 
--- a read of a front of what is left
-pub source-read : (xs buffer : List ℕ) (at n : ℕ) → take n buffer ≡ take n (drop at xs) → drop at xs ≡ take n buffer ++ drop (at + n) xs
-source-read xs buffer at n e =
-    sym (take-append-drop n (drop at xs)) ∙ ap (λ l. l ++ drop n (drop at xs)) (sym e) ∙ ap (λ l. take n buffer ++ l) (drop-drop n at xs)
-
 -- a front of a file grows by what is fetched behind it
 pub front-grows : (told : Option (List ℕ)) (bytes new buffer : List ℕ) (from n : ℕ) → from ≡ length bytes → IfSome told (λ file. take n buffer ≡ take n (drop from file))
     → new ≡ bytes ++ take n buffer → IsFront bytes told → IsFront new told

@@ -1,11 +1,10 @@
 -- The reading of one line, step by step.
-use Rattle.std.proofs.Common.{◌≡◌, ℕ, ◌<◌, ◌≤◌, ◌⊎◌, inl, inr, List, [], ◌∷◌, ◌++◌, length, take, drop, Option, None, Some, Result, Ok, Err, refl, sym, ap, ◌∙◌, subst, append_assoc, append-nil, arith, length-append, Bool, true, ◌==◌}
+use Rattle.std.proofs.Common.{◌≡◌, ℕ, ◌<◌, ◌≤◌, ◌⊎◌, inl, inr, List, [], ◌∷◌, ◌++◌, length, take, Option, None, Result, Ok, Err, refl, sym, ap, ◌∙◌, subst, append_assoc, append-nil, arith, length-append, Bool, true, ◌==◌}
 use Rattle.std.proofs.lemmas.Bool.{eqb-true}
 use Rattle.std.proofs.lemmas.List.{take-append-le}
-use Rattle.std.specs.Io.KnownBytes.{Consumes, Keeps, IsAtEnd}
-use Rattle.std.proofs.KnownBytes.{Consumes-trans, Consumes-nil, Consumes-kept}
-use Rattle.std.proofs.Math.Logic.{⊎_swap}
-use Rattle.rd_io.specs.Lines.{IsUnbroken, Cause}
+use Rattle.std.specs.Io.KnownBytes.{Consumes, IsAtEnd}
+use Rattle.std.proofs.KnownBytes.{Consumes-trans}
+use Rattle.rd_io.specs.Lines.{IsUnbroken}
 use Rattle.rd_io.specs.Pieces.{IsLeft, TakesPiece, Gathers}
 use Rattle.rd_io.specs.declared.lines.Found.{Found}
 use Rattle.rd_io.specs.declared.lines.Found.TheVariants.{Whole, Last, Over}
@@ -25,26 +24,6 @@ pub record Gathering (held : List ℕ) (first left : Option (List ℕ)) (line re
 -- what came ends in this result
 abbrev pub Ends : Result Found LineFault → List ℕ → Option (List ℕ) → Option (List ℕ) → List ℕ → List ℕ → ℕ → Type 0
 Ends result held first left line rest given = (bytes : List ℕ) × Consumes first left bytes × Gathers result (held ++ bytes) line rest given left
-
-pub gathering-begins : (held : List ℕ) (left : Option (List ℕ)) (given : ℕ) → Gathering held left left [] held given
-gathering-begins held left given = record {
-  bytes = [];
-  taken = Consumes-nil left;
-  split = append-nil held;
-  unbroken = tt;
-  short = omega arith;
-  few = inl refl;
-}
-
--- a line and its newline are there
-pub gathers-whole : (held : List ℕ) (first left : Option (List ℕ)) (line rest new : List ℕ) (given n : ℕ) → Gathering held first left line rest given
-    → TakesPiece (Ok (Some n)) line new rest given → Ends (Ok Whole) held first left new (drop n rest) given
-gathers-whole held first left line rest new given n g t =
-    let piece = t.3.0 in
-    let unbroken : IsUnbroken new = subst IsUnbroken (sym t.3.3) (unbroken-append line piece g.unbroken t.3.2) in
-    let parts : line ++ rest ≡ new ++ 10 ∷ drop n rest =
-    ap (λ l. line ++ l) t.3.1 ∙ sym (append_assoc line piece (10 ∷ drop n rest)) ∙ ap (λ l. l ++ 10 ∷ drop n rest) (sym t.3.3) in
-    (g.bytes, g.taken, (record { unbroken = unbroken; short = t.2; few = t.0 }, g.split ∙ parts))
 
 -- no line may be given
 pub gathers-fault : (held : List ℕ) (first left : Option (List ℕ)) (line rest new behind : List ℕ) (given : ℕ) (fault : LineFault) → Gathering held first left line rest given
@@ -86,16 +65,6 @@ gathering-goes_on held first left later line rest new more given g t taken = rec
   short = short-more line rest new given g.short t.0 t.2;
   few = few-more line rest new given g.few t.0 t.2;
 }
-
--- the source failed behind what was there, which had no newline
-pub gathers-failed : (held : List ℕ) (first left later : Option (List ℕ)) (line rest new behind : List ℕ) (given : ℕ) → Gathering held first left line rest given
-    → TakesPiece (Ok None) line new rest given → Keeps left later → Ends (Err Failed) held first later new behind given
-gathers-failed held first left later line rest new behind given g t kept =
-    let come : held ++ g.bytes ≡ new = g.split ∙ sym t.0 in
-    let unbroken : IsUnbroken new = subst IsUnbroken (sym t.0) (unbroken-append line rest g.unbroken t.1) in
-    let few = few-more line rest new given g.few t.0 t.2 in
-    let P : List ℕ → Type 0 = λ l. Cause Failed given l in
-    (g.bytes, Consumes-kept first left later g.bytes g.taken kept, subst P (sym come) (unbroken, short-more line rest new given g.short t.0 t.2, ⊎_swap few))
 
 -- the source is at its end behind a line without a newline, or behind nothing
 pub gathers-end : (held : List ℕ) (first left : Option (List ℕ)) (line rest : List ℕ) (given : ℕ) (found : Found) → Gathering held first left line rest given

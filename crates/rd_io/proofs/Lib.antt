@@ -1,4 +1,4 @@
 pub mod Cuts
 pub mod Bytes
-pub mod Gathering
-pub mod Memory
+mod Gathering
+mod Memory

@@ -53,11 +53,6 @@ reading-step s o p before =
     let n : s.text.end - p ≡ suc (s.text.end - suc p) = omega arith in
     rw n
 
-pub reading-end : (s : BufferValue) (o : ObjectLists) (p : ℕ) → p ≡ s.text.end → reading s o p ≡ seen_at s o p ∷ []
-reading-end s o p end =
-    let n : s.text.end - p ≡ 0 = omega arith in
-    rw n
-
 -- a replaced or hidden position stands before the end, and what is read behind it is what is read at the next
 pub closed-before : (s : BufferValue) (o : ObjectLists) (p : ℕ) → p ≤ s.text.end → is_open (showing_at s o p) ≡ false → p < s.text.end
 closed-before s o p within closed =

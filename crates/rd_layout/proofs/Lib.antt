@@ -1,17 +1,17 @@
 pub mod ByNumber
-pub mod Calm
-pub mod Chosen
-pub mod Copying
-pub mod Determined
-pub mod Fitting
-pub mod Keeping
+mod Calm
+mod Chosen
+mod Copying
+mod Determined
+mod Fitting
+mod Keeping
 pub mod Known
-pub mod Leading
-pub mod Over
+mod Leading
+mod Over
 pub mod Placed
-pub mod Placing
-pub mod Positions
-pub mod Sending
-pub mod Settling
-pub mod Soundness
+mod Placing
+mod Positions
+mod Sending
+mod Settling
+mod Soundness
 pub mod Standing

@@ -79,10 +79,6 @@ module _ (laws : ViewLaws) (files : Data) (s : StateValue) (valid : IsValid s) w
   point-within w b at window =
       laws.within (seen (shown_content s w)) s.objects files w.point (subst (λ (c : ContentValue). IsAccessible c.text w.point) (sym (shown-is laws s valid w b at)) (window.point b at))
 
-  pub anchor-within : (w : WindowState) (b : BufferValue) → slice_get s.buffers w.buffer ≡ Some b → IsWindow s.buffers w → IsWithin w.anchor.pos (window_source files s w).blocks
-  anchor-within w b at window =
-      laws.within (seen (shown_content s w)) s.objects files w.anchor.pos (subst (λ (c : ContentValue). IsAccessible c.text w.anchor.pos) (sym (shown-is laws s valid w b at)) (window.anchor b at))
-
   view-accessible : (number : ℕ) (w : WindowState) (place : Placed) (b : BufferValue) → place_of number s ≡ Some place → slice_get s.buffers w.buffer ≡ Some b → IsWindow s.buffers w
       → IsAccessible b.content.text (view_in files s w place).anchor.pos × IsAccessible b.content.text (view_in files s w place).point
   view-accessible number w place b there at window =

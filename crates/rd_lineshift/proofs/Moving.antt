@@ -193,17 +193,6 @@ moved-long s free rows h =
     let n = row-part s rows h.within in
     moved-length s.by free (take (s.top + s.height - s.top) (drop s.top rows)) (omega (arith, n, h.left)) ∙ n
 
-pub row-below : (s : Shift) (free : List Cell) (rows : List (List Cell)) (row : ℕ) → IsShift (length rows) s → s.top + s.height ≤ row
-    → get_or rows row [] ≡ get_or (shifted_rows s free rows) row []
-row-below s free rows row h le =
-    let change = moved s.by free (take (s.top + s.height - s.top) (drop s.top rows)) in
-    let place : s.top + s.height + (row - s.top - s.height) ≡ row = omega arith in
-    sym (
-    row-behind s free rows row h.within (omega arith)
-    ∙ get_or-append_right change (drop (s.top + s.height) rows) s.height (row - s.top) [] (moved-long s free rows h) (omega arith)
-    ∙ get_or-drop (s.top + s.height) rows (row - s.top - s.height) []
-    ∙ ap (λ k. get_or rows k []) place)
-
 row-within : (s : Shift) (free : List Cell) (rows : List (List Cell)) (row : ℕ) → IsShift (length rows) s → s.top ≤ row → row < s.top + s.height
     → get_or (shifted_rows s free rows) row [] ≡ get_or (moved s.by free (take (s.top + s.height - s.top) (drop s.top rows))) (row - s.top) []
 row-within s free rows row h le lt =

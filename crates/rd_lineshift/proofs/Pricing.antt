@@ -122,9 +122,3 @@ gained-same f g rows same (Some s) = ap (λ n. if nat_le (n + 3) rows then Some 
 
 pub taken-is : (f g : Shift → ℕ) (rows : ℕ) (xs : List Shift) → ((s : Shift) → f s ≡ g s) → gained rows (priced f (cheapest f xs)) ≡ if_gains g rows (cheapest g xs)
 taken-is f g rows xs same = gained-same f g rows same (cheapest f xs) ∙ ap (if_gains g rows) (cheapest-same f g same xs)
-
-pub none-gains : (f : Shift → ℕ) (rows : ℕ) (s : Option Shift) → rows < 3 → None ≡ if_gains f rows s
-none-gains f rows None few = refl
-none-gains f rows (Some s) few =
-    let no : nat_le (f s + 3) rows ≡ false = grind (arith, nat_tests) in
-    sym (ap (λ b. if b then Some s else None) no)

@@ -1,3 +1,3 @@
-pub mod Finite
-pub mod Greatest
-pub mod Whole
+mod Finite
+mod Greatest
+mod Whole

@@ -173,9 +173,6 @@ first-more : (bs : List Block) (b : Block) → StandFrom (first_start bs) bs →
 first-more [] b h next some = (refl, some, tt)
 first-more (a ∷ bs) b h next some = stand-more a.start (a ∷ bs) b h next some
 
-pub held-none : AreHeld []
-held-none = record { stand = tt; lines = All-nil IsHeld }
-
 pub held-more : (hs all : List HeldBlock) (h : HeldBlock) → AreHeld hs → IsHeld h → h.block.start ≡ end_from h.block.start (blocks_held hs) → all ≡ hs ++ h ∷ [] → AreHeld all
 held-more hs all h held one next push = rw push (record {
   stand = rw (blocks-more hs h) (first-more (blocks_held hs) h.block held.stand next one.some);
@@ -236,9 +233,6 @@ place-found hs n g b held among there same =
 
 abbrev pub Passed : List HeldBlock → ℕ → ℕ → Type 0
 Passed hs pos n = (k : ℕ) (h : HeldBlock) → k < n → slice_get hs k ≡ Some h → h.block.end ≤ pos
-
-pub passed-first : (hs : List HeldBlock) (pos : ℕ) → Passed hs pos 0
-passed-first hs pos k h below there = absurd (omega (arith, below))
 
 pub passed-more : (hs : List HeldBlock) (pos n : ℕ) (g : HeldBlock) → Passed hs pos n → slice_get hs n ≡ Some g → g.block.end ≤ pos → Passed hs pos (n + 1)
 passed-more hs pos n g passed at past k h below there =

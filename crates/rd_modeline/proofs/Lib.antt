@@ -1,3 +1,2 @@
 mod Characters
-mod Digits
 mod Steps

@@ -158,10 +158,6 @@ spec_named o (Text number) e = grind (arith, nat_tests)
 spec_named o (Width n) e = tt
 spec_named o (Align n) e = tt
 
--- a text's runs name specs among so many
-NamesSpecs : ℕ → TextValue → Type 0
-NamesSpecs specs text = All (λ run. run.spec < specs) text.specs
-
 specs_more : (a b : ℕ) → a ≤ b → (text : TextValue) → All (λ run. run.spec < a) text.specs → All (λ run. run.spec < b) text.specs
 specs_more a b p text h = All-weaker (λ run. run.spec < a) (λ run. run.spec < b) (λ run q. omega arith) text.specs h
 
@@ -288,10 +284,6 @@ string_made o chars runs made inside short few =
 
 pub spec_made : (o : ObjectLists) (spec : Spec) → is_spec_made o spec ≡ true → length o.specs < 4096 → spec_fault o spec ≡ None
 spec_made o spec made few = let q : nat_le 4096 (length o.specs) ≡ false = grind (arith, nat_tests) in rw (made, q) refl
-
--- what all objects keep, where one more is made
-pub nothing_right : AreRight nothing_made
-nothing_right = record { sound = nothing_sound; closed = nothing_closed }
 
 pub string_right : (o : ObjectLists) (chars : List ℕ) (runs : List Run) → AreCodes chars → string_fault o chars runs ≡ None → AreRight o → AreRight (string_added o chars runs)
 string_right o chars runs codes e right = record { sound = string_keeps o chars runs codes e right.sound; closed = string_closed o chars runs e right.closed }

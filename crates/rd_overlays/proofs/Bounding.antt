@@ -5,7 +5,7 @@ use Rattle.std.specs.List.{All, range_with_len}
 use Rattle.std.specs.List.Sorted.{IsPermutation}
 use Rattle.std.specs.Option.{unwrap_or}
 use Rattle.std.proofs.lemmas.Bool.Decides.{nat_tests}
-use Rattle.std.proofs.lemmas.List.{length-map, length-set}
+use Rattle.std.proofs.lemmas.List.{length-map}
 use Rattle.std.proofs.lemmas.List.Elements.{All-from_get_or}
 use Rattle.std.proofs.lemmas.List.FromFn.{length-range_with_len, get_or-range_with_len}
 use Rattle.std.proofs.lemmas.List.Sorted.{All-permutation}
@@ -151,18 +151,6 @@ pub passed-holds : (slots : List (Option Overlay)) (order : List ℕ) (bounds : 
 passed-holds slots order bounds size block k number b h at low high inside here =
     block-holds slots order (range_with_len (length order) (size - length order)) bounds block k number b h at low high inside here
 
-pub more-bounds : (place : ℕ) (slots : List (Option Overlay)) (order : List ℕ) (bounds : List Bounds) (more : Bounds) → IsBoundedTo place slots order bounds
-    → IsBoundedTo place slots order (bounds ++ more ∷ [])
-more-bounds place slots order bounds more h =
-    let size = length-append bounds (more ∷ []) in
-    let room = h.room in
-    record {
-      room = omega (arith, size, room);
-      holds = λ k number b p at at_bounds.
-          let q : k / 256 < length bounds = omega (arith, room, p) in
-          h.holds k number b p at (sym (get-first bounds (more ∷ []) (k / 256) q) ∙ at_bounds);
-    }
-
 -- the bounds still hold what they held where some are wider
 pub wider : (old new : List Bounds) (place k : ℕ) (slot other : Option Overlay) (c : Bounds) → IsWidened old new place slot
     → ((b : Bounds) → slice_get old k ≡ Some b → SlotHolds b other) → slice_get new k ≡ Some c → SlotHolds c other
@@ -243,19 +231,6 @@ widened-bounded slots order old new number slot size kept holds h =
           (kept (place / 256) c (overlay_at slots k) (λ b at_old. h.holds place k b there at_old) at);
     }
 
-pub replaced-index : (slots : List (Option Overlay)) (old order : List ℕ) (before bounds : List Bounds) (number : ℕ) (slot : Option Overlay)
-    → IsIndex slots old before → order ≡ old → IsBounded (slice_set slots number slot) order bounds → IsIndex (slice_set slots number slot) order bounds
-replaced-index slots old order before bounds number slot h same bounded =
-    let P : List ℕ → Type 0 = λ xs. IsPermutation (range_with_len 0 (length xs)) xs in
-    let size = h.size in
-    let order_size = ap length same in
-    let slots_size = length-set slots number slot in
-    record {
-      size = omega (arith, size, order_size, slots_size);
-      whole = subst P (sym same) h.whole;
-      bounded = bounded;
-    }
-
 -- a number of the index is below the count of its numbers
 range-below : (m : ℕ) → All (λ k. k < m) (range_with_len 0 m)
 range-below m = All-from_get_or (λ k. k < m) (range_with_len 0 m) 0 (λ i p.
@@ -316,9 +291,3 @@ all-bounded place slots order bounds p h =
       room = omega (arith, room, p);
       holds = λ k n b at at_bounds. h.holds k n b (omega (arith, p, slice_get_within order k n at)) at at_bounds;
     }
-
-pub none-bounded : (slots : List (Option Overlay)) (order : List ℕ) → IsBoundedTo 0 slots order []
-none-bounded slots order = record {
-  room = omega arith;
-  holds = λ k n b p at at_bounds. absurd (omega (arith, p));
-}

@@ -1,7 +1,6 @@
 -- The nearest edge from a position, over blocks that are passed over.
-use Rattle.std.proofs.Common.{◌≡◌, ℕ, ◌+◌, ◌<◌, ◌≤◌, Bool, true, false, if◌then◌else◌, List, [], ◌∷◌, length, get_or, drop, Option, None, Some, refl, sym, ap, ◌∙◌, arith}
-use Rattle.std.specs.Prelude.{slice_get, nat_lt, nat_le}
-use Rattle.std.proofs.lemmas.Bool.Decides.{nat_tests}
+use Rattle.std.proofs.Common.{◌≡◌, ℕ, ◌+◌, ◌<◌, ◌≤◌, List, [], ◌∷◌, length, get_or, drop, Option, None, Some, refl, sym, ap, ◌∙◌, arith}
+use Rattle.std.specs.Prelude.{slice_get}
 use Rattle.std.specs.List.{All}
 use Rattle.std.specs.List.Sorted.{IsPermutation}
 use Rattle.std.proofs.lemmas.List.Elements.{All-nil, All-cons, All-head, All-tail, All-weaker}
@@ -9,11 +8,9 @@ use Rattle.std.proofs.lemmas.List.Sorted.{All-permutation, IsPermutation-sym}
 use Rattle.std.proofs.lemmas.Option.{slice_get-get_or}
 use Rattle.rd_base.proofs.Lists.{drop-at}
 use Rattle.rd_overlays.specs.declared.overlay.Overlay.{Overlay}
-use Rattle.rd_overlays.specs.declared.bounds.Bounds.{Bounds}
 use Rattle.rd_overlays.specs.declared.way.Way.{Way}
 use Rattle.rd_overlays.specs.declared.way.Way.TheVariants.{Next, Last}
-use Rattle.rd_overlays.specs.Overlays.{overlay_at, closer, nearer, is_on, reached, slot_edge, nearest_edge}
-use Rattle.rd_overlays.specs.Bounds.{SlotHolds}
+use Rattle.rd_overlays.specs.Overlays.{overlay_at, closer, nearer, slot_edge, nearest_edge}
 use Rattle.rd_overlays.specs.Listings.{edge_in}
 use Rattle.rd_overlays.proofs.Skipping.{unchanged}
 
@@ -47,55 +44,6 @@ nearer-comm way (Some x) (Some y) = ap Some (closer-comm way x y)
 nearer-same : (way : Way) (a : Option ℕ) → nearer way a a ≡ a
 nearer-same way None = refl
 nearer-same way (Some x) = ap Some (closer-same way x)
-
--- ---- what bounds tell
-
-off : (way : Way) (pos edge : ℕ) → is_on way pos edge ≡ false → reached way pos edge ≡ None
-off way pos edge e = ap (λ (b : Bool). if b then Some edge else None) e
-
-neither-on : (way : Way) (pos : ℕ) (nearest : Option ℕ) (o : Overlay) → is_on way pos o.from ≡ false → is_on way pos o.to ≡ false → nearer way nearest (slot_edge way pos (Some o)) ≡ nearest
-neither-on way pos nearest o from to =
-    ap (λ (e : Option ℕ). nearer way nearest (nearer way e (reached way pos o.to))) (off way pos o.from from)
-    ∙ (ap (λ (e : Option ℕ). nearer way nearest (nearer way None e)) (off way pos o.to to) ∙ nearer-none way nearest)
-
-pub none_ahead : (pos : ℕ) (b : Bounds) (least : Option ℕ) (slot : Option Overlay) → b.high ≤ pos → SlotHolds b slot → nearer Next least (slot_edge Next pos slot) ≡ least
-none_ahead pos b least None p h = nearer-none Next least
-none_ahead pos b least (Some o) p h =
-    let from_high = h.from_high in
-    let to_high = h.to_high in
-    let from : nat_lt pos o.from ≡ false = grind (arith, nat_tests) in
-    let to : nat_lt pos o.to ≡ false = grind (arith, nat_tests) in
-    neither-on Next pos least o from to
-
-pub none_back : (pos : ℕ) (b : Bounds) (greatest : Option ℕ) (slot : Option Overlay) → pos < b.low → SlotHolds b slot → nearer Last greatest (slot_edge Last pos slot) ≡ greatest
-none_back pos b greatest None p h = nearer-none Last greatest
-none_back pos b greatest (Some o) p h =
-    let low_from = h.low_from in
-    let low_to = h.low_to in
-    let from : nat_le o.from pos ≡ false = grind (arith, nat_tests) in
-    let to : nat_le o.to pos ≡ false = grind (arith, nat_tests) in
-    neither-on Last pos greatest o from to
-
--- two edges of which neither is closer than a place
-stays : (way : Way) (x from to : ℕ) (a b : Bool) → closer way x from ≡ x → closer way x to ≡ x → nearer way (Some x) (nearer way (if a then Some from else None) (if b then Some to else None)) ≡ Some x
-stays way x from to true true p q = ap Some (sym (closer-assoc way x from to) ∙ (ap (λ (k : ℕ). closer way k to) p ∙ q))
-stays way x from to true false p q = ap Some p
-stays way x from to false true p q = ap Some q
-stays way x from to false false p q = refl
-
-pub none_lesser : (pos x : ℕ) (b : Bounds) (slot : Option Overlay) → x ≤ b.low → SlotHolds b slot → nearer Next (Some x) (slot_edge Next pos slot) ≡ Some x
-none_lesser pos x b None p h = refl
-none_lesser pos x b (Some o) p h =
-    let low_from = h.low_from in
-    let low_to = h.low_to in
-    stays Next x o.from o.to (nat_lt pos o.from) (nat_lt pos o.to) (omega arith) (omega arith)
-
-pub none_greater : (pos x : ℕ) (b : Bounds) (slot : Option Overlay) → b.high ≤ x → SlotHolds b slot → nearer Last (Some x) (slot_edge Last pos slot) ≡ Some x
-none_greater pos x b None p h = refl
-none_greater pos x b (Some o) p h =
-    let from_high = h.from_high in
-    let to_high = h.to_high in
-    stays Last x o.from o.to (nat_le o.from pos) (nat_le o.to pos) (omega arith) (omega arith)
 
 -- ---- the order of the overlays says nothing for their nearest edge
 

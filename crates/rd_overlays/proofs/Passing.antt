@@ -6,7 +6,7 @@ use Rattle.std.specs.List.Sorted.{IsPermutation}
 use Rattle.std.proofs.lemmas.List.FromFn.{length-range_with_len, get_or-range_with_len}
 use Rattle.std.proofs.lemmas.List.Sorted.{IsPermutation-append_left, IsPermutation-map, length_permutation}
 use Rattle.std.proofs.lemmas.Option.{slice_get-get_or}
-use Rattle.rd_base.proofs.Lists.{get-first, get-second, range-split, range-more}
+use Rattle.rd_base.proofs.Lists.{get-second, range-split, range-more}
 use Rattle.rd_overlays.specs.declared.overlay.Overlay.{Overlay}
 use Rattle.rd_overlays.specs.declared.bounds.Bounds.{Bounds}
 use Rattle.rd_overlays.specs.declared.way.Way.{Way}
@@ -14,10 +14,6 @@ use Rattle.rd_overlays.specs.Overlays.{live, overlay_at, nearest_edge}
 use Rattle.rd_overlays.specs.Listings.{edge_in}
 use Rattle.rd_overlays.specs.Bounds.{passed, IsBounded, IsIndex}
 use Rattle.rd_overlays.proofs.Nearest.{same-edge}
-
-pub number-front : (order : List ℕ) (size place number : ℕ) → place < length order → slice_get order place ≡ Some number
-    → slice_get (passed order size) place ≡ Some number
-number-front order size place number p at = get-first order (range_with_len (length order) (size - length order)) place p ∙ at
 
 pub number-back : (order : List ℕ) (size place : ℕ) → length order ≤ place → place < size → slice_get (passed order size) place ≡ Some place
 number-back order size place low high =

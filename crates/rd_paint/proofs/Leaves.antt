@@ -69,8 +69,6 @@ module _ (laws : LeafLaws) (s : StateValue) (valid : IsValid s) where
   few = let leaves = leaves-count in let most = valid.windows.tree.few in omega arith
 
   -- there is no such leaf, or no place for it
-  pub no-leaf : (i : ℕ) → slice_get (leaves s.tree.windows) i ≡ None → length (places s) ≤ i
-  no-leaf i none = subst (λ (n : ℕ). n ≤ i) leaves-count (ended (leaves s.tree.windows) i none)
 
   pub no-place : (i number : ℕ) → slice_get (leaves s.tree.windows) i ≡ Some number → place_of number s ≡ None → length (places s) ≤ i
   no-place i number leaf none = ended (places s) i (sym (laws.places.in_order s.tree.windows (frame_of s.tree) i number valid.windows.tree.once leaf) ∙ none)

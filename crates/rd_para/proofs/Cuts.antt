@@ -1,6 +1,5 @@
 -- Lines of a text, as the code finds them.
-use Rattle.std.proofs.Common.{◌≡◌, ℕ, suc, ◌+◌, ◌-◌, ◌<◌, ◌≤◌, inl, inr, Bool, true, false, ◌||◌, not, cond, if◌then◌else◌, List, [], ◌∷◌, length, get_or, take, drop, replicate, Option, None, refl, sym, ap, subst, ◌∙◌, arith}
-use Rattle.std.specs.Prelude.{unwrap_or}
+use Rattle.std.proofs.Common.{◌≡◌, ℕ, suc, ◌+◌, ◌-◌, ◌<◌, ◌≤◌, inl, inr, Bool, true, false, not, cond, if◌then◌else◌, List, [], ◌∷◌, length, get_or, take, drop, replicate, Option, None, refl, sym, ap, subst, ◌∙◌, arith}
 use Rattle.std.specs.List.{slice_split, onto_first, position_or_len}
 use Rattle.std.proofs.lemmas.List.Sums.{prefix_len-le-length}
 use Rattle.std.proofs.lemmas.Bool.{cases_lt}
@@ -76,14 +75,6 @@ levels_next classes last inside line lines pieces n cut high =
     let b = level_by classes last inside line lines in
     ap (λ (p : List (List ℕ)). get_or (levels_of classes last inside p) n 0) cut
     ∙ get_or-append_right (replicate (length line + 1) b) (levels_of classes b (not (is_separator line)) lines) (length line + 1) n 0 (length-replicate (length line + 1) b) (omega arith)
-
--- the level of the next line, as the code finds it
-pub level_found : (classes : List Span) (last found : ℕ) (separates inside : Bool) (line : List ℕ) (lines pieces : List (List ℕ)) → pieces ≡ line ∷ lines
-    → separates ≡ is_separator line → found ≡ (if separates || inside then last else unwrap_or (decided classes pieces) 0)
-    → found ≡ level_by classes last inside line lines
-level_found classes last found separates inside line lines pieces cut is e =
-    e ∙ ap (λ (v : Bool). if v || inside then last else unwrap_or (decided classes pieces) 0) is
-    ∙ ap (λ (p : List (List ℕ)). if is_separator line || inside then last else unwrap_or (decided classes p) 0) cut
 
 -- what the first line says of the level of a paragraph
 pub decided_from : (classes : List Span) (line : List ℕ) (lines pieces : List (List ℕ)) (blank : Bool) (level : Option ℕ) → pieces ≡ line ∷ lines

@@ -1,9 +1,9 @@
-pub mod Acting
-pub mod Collecting
-pub mod Ending
-pub mod Making
-pub mod Opening
-pub mod Reading
-pub mod Running
-pub mod Taking
-pub mod Telling
+mod Acting
+mod Collecting
+mod Ending
+mod Making
+mod Opening
+mod Reading
+mod Running
+mod Taking
+mod Telling

@@ -1,5 +1,5 @@
 -- The first change of some properties behind a position, and the first place that has its values.
-use Rattle.std.proofs.Common.{◌≡◌, inl, inr, ℕ, zero, suc, ◌+◌, ◌-◌, ◌<◌, ◌≤◌, min, max, List, [], ◌∷◌, drop, length, get_or, Option, None, Some, refl, sym, ap, subst, ◌∙◌, arith}
+use Rattle.std.proofs.Common.{◌≡◌, inl, inr, ℕ, zero, suc, ◌+◌, ◌-◌, ◌<◌, ◌≤◌, min, max, List, ◌∷◌, drop, length, get_or, Option, None, Some, sym, ap, subst, ◌∙◌, arith}
 use Rattle.std.proofs.lemmas.Bool.{cases_lt}
 use Rattle.std.proofs.lemmas.List.{drop_more}
 use Rattle.rd_spans.specs.Values.{value_at, IsNextChange, IsFirstAlike}
@@ -12,9 +12,6 @@ same-cons values spans p q here rest (suc kind) = rest kind
 
 differs-cons : (values : List (Option ℕ)) (spans : List (List (Option ℕ))) (p q : ℕ) → ValuesDiffer spans p q → ValuesDiffer (values ∷ spans) p q
 differs-cons values spans p q (kind, other) = (suc kind, other)
-
-pub no-change : (end pos : ℕ) → pos < end → IsFirstChange [] end pos end
-no-change end pos p = record { later = p; within = omega arith; same = λ q l m kind. refl; reason = λ l. absurd (omega arith) }
 
 pub one-more : (values : List (Option ℕ)) (spans : List (List (Option ℕ))) (end pos stop : ℕ) (o : Option ℕ) → end < 4294967296 → IsFirstChange spans end pos stop
     → IsNextChange values pos o → IsFirstChange (values ∷ spans) end pos (sooner stop o)
@@ -73,9 +70,6 @@ from-back spans i j end pos stop new values o small next within at change first 
     subst P (from-one spans i j values next within at) (subst Q (sym is) (one-more values (drop i spans) end pos stop o small first change))
 
 -- ---- back to the first place with a position's values
-
-pub all-same : (begin pos : ℕ) → begin ≤ pos → IsFirstSame [] begin pos begin
-all-same begin pos p = record { within = omega arith; before = p; same = λ q l m kind. refl; reason = λ l. absurd (omega arith) }
 
 one-same : (values : List (Option ℕ)) (spans : List (List (Option ℕ))) (begin pos stop first : ℕ) → IsFirstSame spans begin pos stop → IsFirstAlike values pos first
     → IsFirstSame (values ∷ spans) begin pos (max stop first)

@@ -1,16 +1,16 @@
-pub mod Alike
-pub mod Edges
-pub mod Changes
+mod Alike
+mod Edges
+mod Changes
 mod Colours
 mod Few
-pub mod Lasts
-pub mod Greatest
-pub mod Newness
-pub mod Joining
-pub mod Moves
-pub mod Texts
-pub mod Editing
-pub mod Between
-pub mod Replacing
+mod Lasts
+mod Greatest
+mod Newness
+mod Joining
+mod Moves
+mod Texts
+mod Editing
+mod Between
+mod Replacing
 pub mod Names
-pub mod Sees
+mod Sees

@@ -17,9 +17,6 @@ use Rattle.rd_props.specs.Made.{IsMade, SettingsMade, AreMade}
 
 -- ---- values of properties
 
-abbrev AreValuesMade : ObjectLists → (ℕ → ℕ → Option ℕ) → Type 0
-AreValuesMade objects values = (kind : Kind) (p value : ℕ) → values (place_of kind) p ≡ Some value → IsMade objects kind value
-
 opened-by : (t u : Bool) (values : ℕ → ℕ → Option ℕ) (k n p v : ℕ) → (if t then values k p else (if u then None else values k (p - n))) ≡ Some v
     → (q : ℕ) × (values k q ≡ Some v)
 opened-by true u values k n p v h = (p, h)

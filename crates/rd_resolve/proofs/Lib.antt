@@ -1,4 +1,4 @@
 pub mod Places
-pub mod Raising
-pub mod Resetting
-pub mod WeakSteps
+mod Raising
+mod Resetting
+mod WeakSteps

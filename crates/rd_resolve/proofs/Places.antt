@@ -1,8 +1,7 @@
 -- One step of a walk over a sequence of a line.
-use Rattle.std.proofs.Common.{◌≡◌, ◌≢◌, ℕ, suc, ◌+◌, ◌<◌, ◌≤◌, List, [], ◌∷◌, length, drop, set, get_or, slice_get, Some, All, AllPairs, refl, ap, ap₂, ◌∙◌, arith}
-use Rattle.std.proofs.lemmas.List.{drop_all, get_or-drop, get_or-set_other, length-drop}
+use Rattle.std.proofs.Common.{◌≡◌, ◌≢◌, ℕ, suc, ◌+◌, ◌<◌, List, [], ◌∷◌, length, drop, set, get_or, slice_get, Some, All, AllPairs, refl, ap, ap₂, ◌∙◌, arith}
+use Rattle.std.proofs.lemmas.List.{get_or-drop, get_or-set_other, length-drop}
 use Rattle.std.proofs.lemmas.Option.{get_or_from_slice_get, slice_get_within}
-use Rattle.std.proofs.lemmas.List.Elements.{All-drop}
 use Rattle.rd_base.proofs.Lists.{drop-at}
 use Rattle.rd_base.specs.declared.class.Class.{Class}
 use Rattle.rd_base.specs.declared.class.Class.TheVariants.{L}
@@ -41,11 +40,3 @@ module _ (is : List ℕ) (k i : ℕ) (read : slice_get is k ≡ Some i) where
 pub types-behind : (is : List ℕ) (k : ℕ) (ts : List Class) (js all : List ℕ) (us : List Class) → js ≡ drop k all → all ≡ is → us ≡ ts
     → types_at js us ≡ types_at (drop k is) ts
 types-behind is k ts js all us back whole here = ap₂ types_at (back ∙ ap (drop k) whole) here
-
--- the indexes behind lie within the line too
-pub behind-within : (is : List ℕ) (k n : ℕ) → All (λ i. i < n) is → All (λ i. i < n) (drop k is)
-behind-within is k n within = All-drop (λ i. i < n) k is within
-
--- at the end nothing is left
-pub put-end : (is : List ℕ) (k : ℕ) (vs ts : List Class) → length is ≤ k → put_at (drop k is) vs ts ≡ ts
-put-end is k vs ts past = rw (drop_all k is past) refl

@@ -1,7 +1,7 @@
 -- The older rows of a block, one after the other.
-use Rattle.std.proofs.Common.{◌≡◌, ℕ, zero, suc, ◌+◌, ◌-◌, ◌<◌, ◌≤◌, ◌&&◌, Bool, true, false, if◌then◌else◌, List, [], ◌∷◌, ◌++◌, length, drop, find, slice_get, Option, None, Some, refl, sym, ap, ◌∙◌, arith}
+use Rattle.std.proofs.Common.{◌≡◌, ℕ, zero, suc, ◌+◌, ◌-◌, ◌<◌, ◌&&◌, Bool, true, false, if◌then◌else◌, List, [], ◌∷◌, ◌++◌, length, drop, find, slice_get, Option, None, Some, refl, sym, ap, ◌∙◌, arith}
 use Rattle.std.proofs.lemmas.Bool.{and_right}
-use Rattle.std.proofs.lemmas.List.{append-nil, append_assoc}
+use Rattle.std.proofs.lemmas.List.{append_assoc}
 use Rattle.std.specs.List.{list_all}
 use Rattle.rd_matrix.specs.declared.matrix.Entry.{Entry}
 use Rattle.rd_reuse.specs.Keeping.{are_whole, copied_rows, entry_under, has_base, taken_from, up_to_end}
@@ -68,26 +68,10 @@ whole-more base old c start number x low e h t =
     ∙ (ap (λ b. are_whole base (shown_rows (x.row ∷ (if b then [] else left old c start (number + 1))))) t
     ∙ goes-on base x.row.shown (shown_rows (left old c start (number + 1))) h t))
 
-pub whole-all : (base : ℕ) (old : List Entry) (c : Change) (start number : ℕ) → length old ≤ number → are_whole base (shown_rows (left old c start number)) ≡ false
-whole-all base old c start number high =
-    let none : length old - number ≡ 0 = omega arith in
-    ap (λ n. are_whole base (shown_rows (taken_from n old c start number))) none
-
 -- copies show the same
 pub shown-copied : (rows : List RowValues) → shown_rows (copied_rows rows) ≡ shown_rows rows
 shown-copied [] = refl
 shown-copied (r ∷ rows) = ap (λ rs. r.shown ∷ rs) (shown-copied rows)
-
--- copies of the rows that are left
-pub copies-none : (rows : List RowValues) (old : List Entry) (c : Change) (start number : ℕ) → number < length old → entry_under old c start number ≡ None
-    → rows ++ copied_rows (left old c start number) ≡ rows
-copies-none rows old c start number low e = ap (λ rs. rows ++ copied_rows rs) (step old c start number None low e) ∙ append-nil rows
-
-pub copies-ends : (rows : List RowValues) (old : List Entry) (c : Change) (start number : ℕ) (x : Entry) → number < length old → entry_under old c start number ≡ Some x
-    → x.row.shown.ends_block ≡ true → rows ++ copied_rows (left old c start number) ≡ rows ++ record { shown = x.row.shown; copies = copied x.row.copies } ∷ []
-copies-ends rows old c start number x low e t =
-    ap (λ rs. rows ++ copied_rows rs) (step old c start number (Some x) low e)
-    ∙ ap (λ b. rows ++ copied_rows (x.row ∷ (if b then [] else left old c start (number + 1)))) t
 
 pub copies-more : (rows new : List RowValues) (old : List Entry) (c : Change) (start number : ℕ) (x : Entry) (r : RowValues) → number < length old → entry_under old c start number ≡ Some x
     → x.row.shown.ends_block ≡ false → r ≡ record { shown = x.row.shown; copies = copied x.row.copies } → new ≡ rows ++ r ∷ []
@@ -97,11 +81,6 @@ copies-more rows new old c start number x r low e t is at =
     ∙ (append_assoc rows (record { shown = x.row.shown; copies = copied x.row.copies } ∷ []) (copied_rows (left old c start (number + 1)))
     ∙ sym (ap (λ rs. rows ++ copied_rows rs) (step old c start number (Some x) low e)
     ∙ ap (λ b. rows ++ copied_rows (x.row ∷ (if b then [] else left old c start (number + 1)))) t))
-
-pub copies-all : (rows : List RowValues) (old : List Entry) (c : Change) (start number : ℕ) → length old ≤ number → rows ++ copied_rows (left old c start number) ≡ rows
-copies-all rows old c start number high =
-    let none : length old - number ≡ 0 = omega arith in
-    ap (λ n. rows ++ copied_rows (taken_from n old c start number)) none ∙ append-nil rows
 
 -- the parts of a source with kept rows
 pub kept-parts : {S : Type 0} (s : S) (old : List Entry) (c : Change) (shape : ShapeValues) (k : S × List Entry × Change × ShapeValues) → (s, old, c, shape) ≡ k

@@ -79,11 +79,6 @@ pub ends_once-tail : (e : Element) (es : List Element) → is_line_end e.look �
 ends_once-tail e [] h end = cc
 ends_once-tail e (f ∷ es) h end = rw h at end
 
--- behind the line end is nothing
-pub ends_once-last : (e : Element) (es : List Element) → is_line_end e.look ≡ true → IsTrue (ends_once (e ∷ es)) → es ≡ []
-ends_once-last e [] h end = refl
-ends_once-last e (f ∷ es) h end = let g : false ≡ true = rw h at end in cc
-
 first-on : (e f : Element) (fs : List Element) → IsTrue (ends_once (e ∷ f ∷ fs)) → is_line_end e.look ≡ false
 first-on e f fs h = not-true (is_line_end e.look) (and_parts (not (is_line_end e.look)) (ends_once (f ∷ fs)) h).0
 

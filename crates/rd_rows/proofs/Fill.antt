@@ -1,5 +1,5 @@
 -- A row that is filled element by element, against the cut of its line.
-use Rattle.std.proofs.Common.{◌≡◌, ℕ, ◌+◌, ◌-◌, ◌<◌, ◌≤◌, ◌&&◌, ◌||◌, min, Bool, true, false, if◌then◌else◌, IsTrue, List, [], ◌∷◌, ◌++◌, length, take, flat_map, Option, None, Some, refl, ap, sym, ◌∙◌, subst, arith, length-append, append_assoc}
+use Rattle.std.proofs.Common.{◌≡◌, ℕ, ◌+◌, ◌-◌, ◌<◌, ◌≤◌, ◌&&◌, ◌||◌, min, Bool, true, false, if◌then◌else◌, IsTrue, List, [], ◌∷◌, ◌++◌, length, take, flat_map, None, Some, refl, ap, sym, ◌∙◌, subst, arith, length-append, append_assoc}
 use Rattle.std.proofs.Math.Bool.{or-false, or-true, or_assoc}
 use Rattle.std.proofs.lemmas.Bool.{or_parts}
 use Rattle.std.proofs.lemmas.List.{append-nil}
@@ -81,15 +81,6 @@ cut-draft shape lead start xs ys old new b d k cells begins spot placed = record
   placed = placed ∙ k.placed;
 }
 
-pub here-break : (shape : ShapeValues) (lead : List Placed) (start : Spot) (xs : List Element) (d : Draft) (b : Break) → IsDraft shape lead start xs d
-    → b.cells ≡ length d.cells → b.begins ≡ length d.begins → b.spot ≡ d.spot → b.placed ≡ d.placed → IsBreak shape lead start xs b
-here-break shape lead start xs d b is cells begins spot placed = record {
-  cells = cells ∙ ap length is.cells;
-  begins = begins ∙ ap length is.begins;
-  spot = spot ∙ is.spot;
-  placed = placed ∙ is.placed;
-}
-
 -- the last break
 
 kept-here : (a b : Bool) (x : Element) (ys zs : List Element) → ys ≡ zs → (if a || (b || true) then x ∷ ys else []) ≡ x ∷ zs
@@ -113,11 +104,6 @@ break-here (x ∷ xs) e h = rw (break-more xs e, h) (kept-here (is_break x.look)
 pub break-before : (xs : List Element) (e : Element) → is_break e.look ≡ false → up_to_break (xs ++ e ∷ []) ≡ up_to_break xs
 break-before [] e h = rw h refl
 break-before (x ∷ xs) e h = rw (break-more xs e, h) (kept-before (is_break x.look) (has_break xs) x (up_to_break (xs ++ e ∷ [])) (up_to_break xs) (break-before xs e h))
-
-pub noted-off : (shape : ShapeValues) (lead : List Placed) (start : Spot) (xs ys : List Element) (b : Option Break) (waiting : List Element) → is_word shape.wrap ≡ false
-    → IsNoted shape lead start xs b waiting → IsNoted shape lead start ys b waiting
-noted-off shape lead start xs ys None waiting off h = (rw off refl, h.1)
-noted-off shape lead start xs ys (Some b) waiting off h = absurd (let g : false ≡ true = rw off at h.0 in cc)
 
 pub noted-here : (shape : ShapeValues) (lead : List Placed) (start : Spot) (xs : List Element) (e : Element) (b : Break) (waiting : List Element) → is_word shape.wrap ≡ true → is_break e.look ≡ true
     → IsBreak shape lead start (xs ++ e ∷ []) b → waiting ≡ [] → IsNoted shape lead start (xs ++ e ∷ []) (Some b) waiting

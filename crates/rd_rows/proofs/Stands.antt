@@ -31,10 +31,6 @@ pub stand-columns : (from to : ℕ) (ps : List Placed) → StandFrom from ps to 
 stand-columns from to [] h = let e = h in omega (arith, e)
 stand-columns from to (p ∷ ps) h = let e = stand-columns (from + p.columns) to ps h.2 in omega (arith, e)
 
-pub columns-more : (ps : List Placed) (p : Placed) → columns_of (ps ++ p ∷ []) ≡ columns_of ps + p.columns
-columns-more [] p = omega arith
-columns-more (q ∷ ps) p = let e = columns-more ps p in omega (arith, e)
-
 -- a glyph fills its columns
 
 sound-look : (look : Look) (extent : Extent) (column : ℕ) → IsSoundLook look extent → FillsColumns look (width_at extent column)

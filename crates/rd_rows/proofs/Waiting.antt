@@ -1,6 +1,6 @@
 -- Elements that wait for the next row.
 use Rattle.std.proofs.Common.{◌≡◌, ℕ, ◌+◌, ◌-◌, ◌≤◌, not, Bool, true, false, List, [], ◌∷◌, ◌++◌, length, drop, Option, None, Some, refl, ap, sym, ◌∙◌, subst, arith, append_assoc}
-use Rattle.std.specs.Prelude.{slice_get, is_some, IfSome}
+use Rattle.std.specs.Prelude.{slice_get, is_some}
 use Rattle.std.proofs.lemmas.Bool.{or_parts}
 use Rattle.std.proofs.lemmas.List.{append-nil}
 use Rattle.std.proofs.lemmas.List.Elements.{All-tail}
@@ -14,10 +14,10 @@ use Rattle.rd_rows.specs.declared.draft.Draft.{Draft}
 use Rattle.rd_rows.specs.declared.filling.Filling.{Filling}
 use Rattle.rd_rows.specs.declared.spot.Placed.{Placed}
 use Rattle.rd_rows.specs.declared.spot.Spot.{Spot}
-use Rattle.rd_rows.specs.Cuts.{is_break, up_to_break, ends_some}
+use Rattle.rd_rows.specs.Cuts.{is_break, ends_some}
 use Rattle.rd_rows.specs.Copies.{RowValues}
 use Rattle.rd_rows.specs.Left.{MakerValues}
-use Rattle.rd_rows.specs.Makers.{IsMaking, IsDraft, IsBreak, IsNoted, IsFilling, Leaves, can_wrap, kept_of, finished_row}
+use Rattle.rd_rows.specs.Makers.{IsMaking, IsDraft, IsNoted, IsFilling, Leaves, can_wrap, kept_of, finished_row}
 use Rattle.rd_rows.specs.Placing.{ends_row}
 use Rattle.rd_rows.specs.Shapes.{ShapeValues, is_word}
 use Rattle.rd_rows.proofs.Fill.{noted-none, noted-behind}
@@ -51,13 +51,6 @@ noted-still shape lead start xs e None waiting none word break h = noted-none sh
 noted-still shape lead start xs e (Some b) waiting none word break h = cc
 
 -- the draft of a row that is left
-
-pub left-draft : (shape : ShapeValues) (lead : List Placed) (start : Spot) (xs : List Element) (b : Option Break) (waiting : List Element) (old new : Draft) → IsDraft shape lead start xs old
-    → IsNoted shape lead start xs b waiting → IfSome b (λ place. (s : ShapeValues) (ps : List Placed) (from : Spot) (ys zs : List Element) → IsDraft s ps from (ys ++ zs) old → IsBreak s ps from ys place → IsDraft s ps from ys new)
-    → (is_some b ≡ false → new ≡ old) → IsDraft shape lead start (kept_of shape xs) new
-left-draft shape lead start xs None waiting old new d h cut same = rw h.0 (rw (same refl) d)
-left-draft shape lead start xs (Some b) waiting old new d h cut same =
-    rw h.0 (cut shape lead start (up_to_break xs) waiting (subst (λ ys. IsDraft shape lead start ys old) h.2 d) h.1)
 
 noted-waits : (shape : ShapeValues) (lead : List Placed) (start : Spot) (xs : List Element) (b : Option Break) (waiting : List Element) → IsNoted shape lead start xs b waiting → kept_of shape xs ++ waiting ≡ xs
 noted-waits shape lead start xs None waiting h = rw h.0 (rw h.1 (append-nil xs))

@@ -1,18 +1,18 @@
-pub mod Alike
-pub mod Begun
+mod Alike
+mod Begun
 pub mod Effects
-pub mod Faults
-pub mod Free
-pub mod FreeFiles
-pub mod FreeSteps
-pub mod Headline
+mod Faults
+mod Free
+mod FreeFiles
+mod FreeSteps
+mod Headline
 pub mod Inputs
 pub mod Leading
-pub mod Lines
+mod Lines
 pub mod OnRuns
-pub mod Ops
-pub mod Scripts
+mod Ops
+mod Scripts
 pub mod Sizes
-pub mod Starved
-pub mod Validity
-pub mod Whole
+mod Starved
+mod Validity
+mod Whole

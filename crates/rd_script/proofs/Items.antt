@@ -17,10 +17,6 @@ joined-push : {T : Type 0} (xs : List T) (x : T) (o : Option (List T)) → joine
 joined-push xs x None = refl
 joined-push xs x (Some ys) = ap Some (append_assoc xs (x ∷ []) ys)
 
-joined-none : {T : Type 0} (o : Option (List T)) → joined [] o ≡ o
-joined-none None = refl
-joined-none (Some ys) = refl
-
 -- what is left of the items, by the next one
 each-step : {T : Type 0} (kind : Data → Option T) (vs : List Value) (i : ℕ) (v : Value) → i < length vs → v ≡ get_or vs i v
     → each_item kind (items_view (drop i vs)) ≡ consed (kind (view v)) (each_item kind (items_view (drop (i + 1) vs)))

@@ -1,5 +1,5 @@
 mod Free
 pub mod InForm
-pub mod Items
+mod Items
 mod Json
 mod Texts

@@ -6,7 +6,7 @@ use Rattle.std.proofs.lemmas.Bool.{cases_lt}
 use Rattle.std.proofs.lemmas.List.{length-replicate, get_or_append_left, get_or-append_right, get_or-replicate, get_or_past, get_or-take, nil_from_length}
 use Rattle.rd_spans.specs.declared.run.ValueRun.{ValueRun}
 use Rattle.rd_spans.specs.Values.{value_at, put_at, opened_at, closed_at, CanMove, IsTrimmed}
-use Rattle.rd_spans.specs.Sides.{values_of, Rises, size_of, top, meet, needs, values_of_both, GapMoved, AreSides}
+use Rattle.rd_spans.specs.Sides.{values_of, Rises, size_of, top, meet, needs, values_of_both, GapMoved}
 use Rattle.rd_spans.proofs.Sides.{size-values, few-runs, values_of_both-front, values_of_both-back, values_of_both-past, length-values_of_both, one-at-most}
 
 -- where a position stands to an edit
@@ -20,10 +20,6 @@ put-here values from to value p l m =
 put-high : (values : List (Option ℕ)) (from to : ℕ) (value : Option ℕ) (p : ℕ) → from ≤ p → to ≤ p → put_at values from to value p ≡ value_at values p
 put-high values from to value p l m =
     let t : nat_le from p ≡ true = grind (arith, nat_tests) in let u : nat_lt p to ≡ false = grind (arith, nat_tests) in rw (t, u) refl
-
-pub put-nowhere : (values : List (Option ℕ)) (from : ℕ) (value : Option ℕ) (p : ℕ) → put_at values from from value p ≡ value_at values p
-put-nowhere values from value p =
-    elim (cases_lt p from) [ inl l ↦ put-low values from from value p l | inr l ↦ put-high values from from value p l l ]
 
 open-low : (values : List (Option ℕ)) (pos n p : ℕ) → p < pos → opened_at values pos n p ≡ value_at values p
 open-low values pos n p l = let t : nat_lt p pos ≡ true = grind (arith, nat_tests) in rw t refl
@@ -263,16 +259,6 @@ needs-most a b = omega (arith, one-at-most (meet (top a) (top b)))
 
 pub needs-least : (a b : List ValueRun) → length a + length b ≤ needs a b
 needs-least a b = omega arith
-
-pub roomier : (front back : List ValueRun) (r s t u : ℕ) → r ≤ t → s ≤ u → AreSides front back r s → AreSides front back t u
-roomier front back r s t u p q sides = record {
-  front_rises = sides.front_rises;
-  back_rises = sides.back_rises;
-  few = sides.few;
-  trimmed = sides.trimmed;
-  front_holds = omega (arith, sides.front_holds);
-  back_holds = omega (arith, sides.back_holds);
-}
 
 -- whether a side is empty
 pub not-empty : (b : List ValueRun) (len : ℕ) → Rises 0 b → len ≡ length b → (len == 0) ≡ false → 0 < size_of b

@@ -315,17 +315,6 @@ moved-swap front back front_new back_new m = record {
   needs = rw (needs-swap front_new back_new, needs-swap front back) m.needs;
 }
 
-pub moved-further : (from to from_mid to_mid from_new to_new : List ValueRun) → AreMoved from to from_mid to_mid → AreMoved from_mid to_mid from_new to_new → AreMoved from to from_new to_new
-moved-further from to from_mid to_mid from_new to_new a b = record {
-  same = b.same ∙ a.same;
-  from_rises = b.from_rises;
-  to_rises = b.to_rises;
-  needs = omega (arith, a.needs, b.needs);
-}
-
-pub moved-nowhere : (from to : List ValueRun) → Rises 0 from → Rises 0 to → AreMoved from to from to
-moved-nowhere from to a b = record { same = refl; from_rises = a; to_rises = b; needs = omega arith }
-
 -- the last run is cut
 pub cut-lighter : (old rs new : List ValueRun) (r : ValueRun) (n : ℕ) → old ≡ rs ++ r ∷ [] → (n ≡ 0 → new ≡ rs) → length new ≤ length rs + (if has_value (top rs) r.value then 0 else 1)
     → (0 < n → has_value (top new) r.value ≡ true) → (other : List ValueRun) → needs other new ≤ needs other old
@@ -416,11 +405,6 @@ values_of_both-past front back p h k past = get_or_past (values_of_both front ba
 pub some-value : (o : Option ℕ) → is_some o ≡ true → o ≡ None → ⊥
 some-value None h e = cc
 some-value (Some v) h e = cc
-
-pub not-same : (a b : Option ℕ) → same_value a b ≡ false → a ≡ b → ⊥
-not-same a b h e =
-    let g : same_value b b ≡ false = subst (λ (x : Option ℕ). same_value x b ≡ false) e h in
-    let k : true ≡ false = sym (same_value-refl b) ∙ g in absurd (cc)
 
 -- the gap is where it was to be
 pub gap-moved : (front back a b : List ValueRun) (pos : ℕ) → AreMoved front back a b → size_of a + size_of b ≡ size_of front + size_of back → size_of a ≡ min pos (size_of front + size_of back) → GapMoved front back a b pos

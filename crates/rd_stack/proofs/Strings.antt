@@ -1,6 +1,6 @@
 -- The steps of a string, row by row.
 use Rattle.std.proofs.Common.{◌≡◌, ℕ, Bool, true, false, List, [], ◌∷◌, ◌++◌, refl, sym, ap, ◌∙◌, arith}
-use Rattle.std.specs.Prelude.{◌+◌, ◌<◌, length, nat_lt, if◌then◌else◌, map}
+use Rattle.std.specs.Prelude.{◌+◌, ◌<◌, length, nat_lt, if◌then◌else◌}
 use Rattle.std.proofs.lemmas.Bool.Decides.{nat_tests}
 use Rattle.std.specs.List.{flat_map}
 use Rattle.rd_base.specs.Faces.{Attributes}
@@ -9,25 +9,11 @@ use Rattle.rd_base.specs.declared.element.Origin.{Origin}
 use Rattle.rd_objects.specs.Texts.{TextValue}
 use Rattle.rd_base.specs.declared.element.Look.TheVariants as look
 use Rattle.rd_glyphs.specs.Characters.{element_of}
-use Rattle.rd_glyphs.specs.Marks.{marks_joined}
 use Rattle.rd_items.specs.Pieces.{Scene}
-use Rattle.rd_levels.specs.Turns.{turns_of}
 use Rattle.rd_levels.specs.declared.turn.Turn.{Turn}
-use Rattle.rd_stack.specs.Strings.{part_joins, part_class, part_code, place_of, in_order, row, row_end, shown_from, behind_row}
+use Rattle.rd_stack.specs.Strings.{place_of, row_end, shown_from}
 use Rattle.rd_stack.specs.Steps.{part_steps, string_left}
 use Rattle.rd_stack.specs.declared.part.Part.{Part}
-
--- a string of which a row was read
-pub string-starts : (s : Scene) (base : ℕ) (replaced : Bool) (origin : Origin) (under : Attributes) (text : TextValue) (read parts : List Part) (turns : List Turn) (end from : ℕ)
-    → parts ≡ marks_joined part_joins read → turns ≡ turns_of s.brackets s.parts.settings.reorder base (map part_class parts) (map part_code parts)
-    → row s base read ++ behind_row s base replaced text under end ≡ shown_from s base replaced text under from
-    → string_left s base replaced origin under text parts turns end ≡ flat_map (part_steps s base replaced origin) (shown_from s base replaced text under from)
-string-starts s base replaced origin under text read parts turns end from made order all =
-    let steps = flat_map (part_steps s base replaced origin) in
-    let behind = behind_row s base replaced text under end in
-    ap (λ ts. string_left s base replaced origin under text parts ts end) order
-    ∙ ap (λ xs. steps (in_order s base xs ++ behind)) made
-    ∙ ap steps all
 
 row-end-steps : (s : Scene) (base : ℕ) (replaced : Bool) (origin : Origin) (face : Attributes) → part_steps s base replaced origin (row_end face) ≡ (element_of face origin look.RowEnd ∷ []) ∷ []
 row-end-steps s base true origin face = refl

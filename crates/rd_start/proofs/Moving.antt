@@ -235,11 +235,6 @@ unsuited-on m win new moves strip same =
       home = ap (λ (x : Sweep). suits w (places_of m x.shape w) (first_row m new + new.home)) same ∙ (ap (suits w (places_of m win.strip.sweep.shape w)) place ∙ moves.home);
     }
 
-pub begins-on : (m : SourceValues) (s new : Strip) (rows : ℕ) → BeginsAbove m s rows → new.sweep ≡ s.sweep → new.home ≡ s.home → BeginsAbove m new rows
-begins-on m s new rows begins same home =
-    let row = ap (home_row m) same in
-    elim begins [ inl more ↦ inl (omega arith) | inr text ↦ inr (omega arith) ]
-
 -- as far above the old start as it may be moved, and then below it
 pub far-above : (m : SourceValues) (win : Window) (up : Strip) (n steps base : ℕ) → IsUnsuited m win → EdgePays Top m win.strip up n steps win.wanted.conservatively → NearPaid m win win.strip base n
     → NearPaid m win up base steps

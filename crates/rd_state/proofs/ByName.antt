@@ -3,7 +3,7 @@ use Rattle.std.proofs.Common.{◌≡◌, ◌≢◌, ℕ, zero, suc, ◌+◌, ◌
 use Rattle.std.proofs.lemmas.Bool.{ltb-false}
 use Rattle.std.proofs.lemmas.List.Sums.{prefix_len-le-length}
 use Rattle.std.proofs.lemmas.Map.Entries.{length-keys_of}
-use Rattle.std.specs.Prelude.{option_map, slice_get, slice_set, nat_lt, position, String, string_bytes, is_ok, OnErr}
+use Rattle.std.specs.Prelude.{option_map, slice_get, slice_set, nat_lt, position, String, string_bytes}
 use Rattle.std.specs.String.{string_eq}
 use Rattle.std.specs.declared.alloc.Global.{Global}
 use Rattle.std.specs.List.{position_or_len}
@@ -47,11 +47,6 @@ number_of-missed name es h =
     let n = position_or_len (has_name name) (keys_of es) in
     let past = ltb-false n (length (keys_of es)) (none-chosen (nat_lt n (length (keys_of es))) n None h).0 in
     omega (arith, past, number_of-keys name es, length-keys_of es, length-buffers_of es, number_of-bound name es)
-
--- what is said of a failure, where there was one
-pub if-err : {T E P : Type 0} (r : Result T E) → false ≡ is_ok r → OnErr r P → P
-if-err (Ok x) e h = absurd (cc)
-if-err (Err x) e h = h
 
 -- ---- adding
 

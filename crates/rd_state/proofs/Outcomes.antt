@@ -1,5 +1,5 @@
 -- What each op leaves: of buffers what its effect tells, objects that go on, and windows that show what they showed.
-use Rattle.std.proofs.Common.{◌≡◌, ◌≢◌, ℕ, ◌+◌, ◌-◌, ◌<◌, ◌≤◌, inl, inr, ◌==◌, true, false, is_some, if◌then◌else◌, nat_lt, nat_le, min, max, pos, ◌+ℤ◌, Option, None, Some, Result, Ok, Err, List, [], ◌∷◌, ◌++◌, length, map, subst, sym, ap, refl, ◌∙◌, arith, length-append, unwrap_or}
+use Rattle.std.proofs.Common.{◌≡◌, ℕ, ◌+◌, ◌-◌, ◌≤◌, inl, inr, ◌==◌, true, false, is_some, if◌then◌else◌, nat_lt, nat_le, min, max, pos, ◌+ℤ◌, Option, None, Some, Result, Ok, Err, List, [], ◌∷◌, ◌++◌, length, map, subst, sym, ap, refl, ◌∙◌, arith, length-append, unwrap_or}
 use Rattle.std.proofs.lemmas.Bool.{cases_eq}
 use Rattle.std.proofs.lemmas.List.{length-set}
 use Rattle.std.proofs.lemmas.Option.{slice_get_within}

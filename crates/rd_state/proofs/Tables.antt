@@ -1,5 +1,5 @@
 -- The values of text properties as lists, one value for each character, and what edits of a buffer make of what it holds.
-use Rattle.std.proofs.Common.{◌≡◌, ℕ, zero, suc, ◌+◌, ◌<◌, ◌≤◌, inl, inr, ◌&&◌, if◌then◌else◌, nat_lt, nat_le, ◌==◌, Option, None, Some, List, [], ◌∷◌, length, map, get_or, sym, ap, subst, refl, ◌∙◌, arith}
+use Rattle.std.proofs.Common.{◌≡◌, ℕ, zero, suc, ◌+◌, ◌<◌, ◌≤◌, inl, inr, ◌&&◌, nat_lt, nat_le, ◌==◌, Option, None, Some, List, length, map, get_or, sym, ap, subst, refl, ◌∙◌, arith}
 use Rattle.std.proofs.lemmas.Bool.{cases_lt}
 use Rattle.std.proofs.lemmas.List.{get_or_past}
 use Rattle.std.specs.FinMap as finite

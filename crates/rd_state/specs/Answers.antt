@@ -1,8 +1,7 @@
 -- What the calls of a state answer, and what they leave.
-use Rattle.std.specs.Prelude.{◌≡◌, ◌≢◌, ℕ, Bool, true, false, is_some, Result, Ok, Err}
+use Rattle.std.specs.Prelude.{◌≡◌, ◌≢◌, Bool, true, false, is_some, Result, Ok, Err}
 use Rattle.rd_text.specs.declared.fault.TextFault.{TextFault}
 use Rattle.rd_text.specs.declared.fault.TextFault.TheVariants as faults
-use Rattle.rd_objects.specs.Things.{ObjectLists}
 use Rattle.rd_overlays.specs.declared.fault.OverlayFault.{OverlayFault}
 use Rattle.rd_overlays.specs.declared.fault.OverlayFault.TheVariants as overlay_faults
 use Rattle.rd_modeline.specs.declared.fault.FormatFault.{FormatFault}

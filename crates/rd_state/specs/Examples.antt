@@ -1,10 +1,9 @@
 -- States on which the definitions are worked out.
-use Rattle.std.specs.Prelude.{ℕ, Result, Ok, Err, List, [], ◌∷◌, map, slice_get, codes}
+use Rattle.std.specs.Prelude.{Result, Ok, Err, List, [], ◌∷◌}
 use Rattle.rd_text.specs.Texts.{TextValue}
 use Rattle.rd_script.specs.declared.op.Op.{Op}
 use Rattle.rd_state.specs.declared.refused.Refused.{Refused}
-use Rattle.rd_state.specs.declared.window.WindowState.{WindowState}
-use Rattle.rd_state.specs.States.{StateValue, opening, main_name}
+use Rattle.rd_state.specs.States.{StateValue, opening}
 use Rattle.rd_state.specs.Steps.{step}
 use Rattle.rd_state.specs.Windows.{selected_window, shown_content}
 

@@ -1,5 +1,5 @@
 -- A state, as contracts see it: the buffers in order of making, the objects, the windows, and what belongs to the whole frame.
-use Rattle.std.specs.Prelude.{◌≡◌, ℕ, zero, suc, ◌+◌, Bool, false, ℤ, pos, get_or, Option, None, Some, List, [], ◌∷◌, length, map, slice_get, codes, String, string_bytes}
+use Rattle.std.specs.Prelude.{ℕ, zero, suc, ◌+◌, Bool, false, pos, get_or, Option, None, List, [], ◌∷◌, length, map, codes, String, string_bytes}
 use Rattle.std.specs.Coded.{Coded, coded_ℕ}
 use Rattle.std.specs.FinMap as map
 use Rattle.std.specs.List.{position_or_len}

@@ -1,5 +1,5 @@
 -- One op: the next state, or the first refusal.
-use Rattle.std.specs.Prelude.{ℕ, ◌+◌, ◌-◌, nat_lt, nat_le, ◌==◌, Bool, true, false, is_some, if◌then◌else◌, ℤ, pos, ◌+ℤ◌, neg_ℤ, Option, None, Some, Result, Ok, Err, List, [], ◌∷◌, ◌++◌, length, map, slice_get, slice_set}
+use Rattle.std.specs.Prelude.{ℕ, ◌+◌, ◌-◌, nat_lt, nat_le, ◌==◌, true, false, is_some, if◌then◌else◌, ℤ, pos, ◌+ℤ◌, neg_ℤ, Option, None, Some, Result, Ok, Err, List, [], ◌∷◌, ◌++◌, length, map, slice_get, slice_set}
 use Rattle.std.specs.Int.{int_min, int_max}
 use Rattle.rd_base.specs.declared.limits.TheConstants.{PENDING_ROWS}
 use Rattle.rd_base.specs.declared.settings.Anchor.{Anchor}

@@ -1,5 +1,5 @@
 -- What is true of each state that a session can reach.
-use Rattle.std.specs.Prelude.{◌≡◌, ℕ, ◌+◌, ◌<◌, ◌≤◌, pos, IsTrue, IsSome, IfSome, Option, None, Some, List, length, option_map, slice_get}
+use Rattle.std.specs.Prelude.{◌≡◌, ℕ, ◌+◌, ◌<◌, ◌≤◌, pos, IsTrue, IsSome, IfSome, None, Some, List, length, option_map, slice_get}
 use Rattle.std.specs.FinMap.{get}
 use Rattle.rd_base.specs.declared.limits.TheConstants.{BUFFERS, FRAME_COLUMNS, FRAME_ROWS, HSCROLL_COLUMNS, LEAST_FRAME_COLUMNS, LEAST_FRAME_ROWS, NUMBER_COLUMNS, OVERLAYS, PENDING_ROWS, SCROLL_CONSERVATIVELY, SCROLL_MARGIN, STRING_COLUMNS, TAB_COLUMNS}
 use Rattle.rd_text.specs.Texts.{IsText, IsAccessible}

@@ -1,7 +1,7 @@
 pub mod Cutting
 pub mod Encoded
-pub mod Erasing
+mod Erasing
 pub mod Feeding
 pub mod Measured
-pub mod Putting
+mod Putting
 pub mod Shapes

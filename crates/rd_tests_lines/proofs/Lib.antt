@@ -1,4 +1,4 @@
-pub mod Ends
-pub mod Owned
-pub mod Rounds
-pub mod Same
+mod Ends
+mod Owned
+mod Rounds
+mod Same

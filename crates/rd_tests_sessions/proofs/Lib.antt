@@ -1,1 +1,1 @@
-pub mod Costing
+mod Costing

@@ -7,24 +7,7 @@ use Rattle.std.proofs.lemmas.Bool.{ltb-false, ne_eqb, or_parts}
 use Rattle.rd_base.proofs.Choices.{none-chosen}
 use Rattle.rd_lanes.specs.Kernels.{last_position}
 use Rattle.rd_text.specs.Texts.{is_newline, is_blank}
-use Rattle.rd_text.specs.Stretches.{opens, closes, separated, summary}
-use Rattle.rd_text.specs.declared.stretch.Stretch.{Stretch}
-
--- with one more character in front, by whether it is a newline and whether it is blank
-abbrev pub with_one : Bool → Bool → Stretch → Stretch
-with_one nl blank s = record {
-  newlines = cond nl 1 0 + s.newlines;
-  inked = not (nl || blank) || s.inked;
-  blank = blank && s.blank;
-  opens = nl || (blank && s.opens);
-  closes = (nl && s.blank) || s.closes;
-  separated = (nl && s.opens) || s.separated;
-}
-
-pub summary-cons : (c : ℕ) (cs : List ℕ) (s : Stretch) → s ≡ summary cs → with_one (is_newline c) (is_blank c) s ≡ summary (c ∷ cs)
-summary-cons c cs s e =
-    ap (with_one (is_newline c) (is_blank c)) e
-    ∙ ap (λ (n : ℕ). let S : Stretch = record (summary (c ∷ cs)) { newlines = n } in S) (sym (sum_by-cons (λ x. cond (is_newline x) 1 0) c cs))
+use Rattle.rd_text.specs.Stretches.{opens, closes, separated}
 
 -- how lists that are joined begin
 joined_begin : (nl blank first all rest : Bool) → (nl || (blank && (first || (all && rest)))) ≡ ((nl || (blank && first)) || ((blank && all) && rest))

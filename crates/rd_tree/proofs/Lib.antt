@@ -1,9 +1,9 @@
-pub mod Answering
+mod Answering
 pub mod Composing
 pub mod Keeping
-pub mod Listing
+mod Listing
 pub mod Rooms
-pub mod Siblings
+mod Siblings
 pub mod Standing
-pub mod Steps
-pub mod Validity
+mod Steps
+mod Validity

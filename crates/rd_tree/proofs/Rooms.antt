@@ -103,10 +103,6 @@ pub shared : (side : Side) (size : ℕ) (first second : Windows) (rect : Rect) �
 shared Right size first second rect p n = ((omega arith, omega arith), (omega arith, omega arith), omega arith)
 shared Below size first second rect p n = ((omega arith, omega arith), (omega arith, omega arith), omega arith)
 
-pub whole_second_needs : (side : Side) (size : ℕ) (first second : Windows) (rect : Rect) → NeedsMet (Split side size first second) rect → NeedsMet second rect
-whole_second_needs Right size first second rect n = (omega arith, omega arith)
-whole_second_needs Below size first second rect n = (omega arith, omega arith)
-
 pub first_parts-first : (side : Side) (size : ℕ) (first second : Windows) → FirstPartsFit (Split side size first second) → FirstPartsFit first × FirstPartsFit second
 first_parts-first Right size first second p = (p.1, p.2)
 first_parts-first Below size first second p = (p.1, p.2)

@@ -1,11 +1,11 @@
 -- Pieces of bytes, as the code finds them.
-use Rattle.std.proofs.Common.{◌≡◌, ◌≢◌, ◌==◌, ℕ, zero, suc, ◌+◌, ◌-◌, ◌<◌, ◌≤◌, inl, inr, Bool, true, false, ◌&&◌, if◌then◌else◌, List, [], ◌∷◌, ◌++◌, length, get_or, take, drop, refl, sym, ap, ◌∙◌, arith}
-use Rattle.std.proofs.lemmas.Bool.{cases_lt, eq-eqb, ne_eqb}
+use Rattle.std.proofs.Common.{◌≡◌, ◌≢◌, ◌==◌, ℕ, zero, suc, ◌+◌, ◌-◌, ◌<◌, ◌≤◌, Bool, true, false, ◌&&◌, if◌then◌else◌, List, [], ◌∷◌, ◌++◌, length, get_or, take, drop, refl, sym, ap, ◌∙◌, arith}
+use Rattle.std.proofs.lemmas.Bool.{eq-eqb, ne_eqb}
 use Rattle.std.proofs.lemmas.Bool.Decides.{nat_tests}
 use Rattle.std.specs.List.{slice_split, onto_first}
-use Rattle.std.proofs.lemmas.List.{drop-drop, length-drop, get_or-drop, drop_more, drop_all, take_more, length-append}
+use Rattle.std.proofs.lemmas.List.{drop-drop, length-drop, take_more, length-append}
 use Rattle.std.proofs.lemmas.List.Splits.{slice_split-cons_yes, slice_split-cons_no}
-use Rattle.rd_ucd.specs.Pieces.{chomped, uncommented, is_blank, trimmed_front, trimmed_back}
+use Rattle.rd_ucd.specs.Pieces.{chomped, uncommented, is_blank, trimmed_back}
 
 pub first_of_pieces : (piece : List ℕ) (more all : List (List ℕ)) → all ≡ piece ∷ more → all ≡ piece ∷ drop 1 all
 first_of_pieces piece more all e = e ∙ ap (λ (rest : List (List ℕ)). piece ∷ rest) (sym (ap (drop 1) e))
@@ -69,19 +69,6 @@ field_last c i line rest piece before cut =
     let whole = length-drop i (slice_split (λ b. b == c) line) in
     omega arith
 
--- a piece stands at its index
-pub field_at : (c i : ℕ) (line rest piece : List ℕ) (more : List (List ℕ)) → slice_split (λ b. b == c) rest ≡ drop i (slice_split (λ b. b == c) line)
-    → slice_split (λ b. b == c) rest ≡ piece ∷ more
-    → (i < length (slice_split (λ b. b == c) line)) × (get_or (slice_split (λ b. b == c) line) i [] ≡ piece)
-field_at c i line rest piece more before cut =
-    let all = slice_split (λ b. b == c) line in
-    let here : drop i all ≡ piece ∷ more = sym before ∙ cut in
-    let size : length (drop i all) ≡ suc (length more) = ap length here in
-    let whole = length-drop i all in
-    let e : i + 0 ≡ i = omega arith in
-    let at = get_or-drop i all 0 [] in
-    (omega arith, ap (λ (j : ℕ). get_or all j []) (sym e) ∙ sym at ∙ ap (λ (xs : List (List ℕ)). get_or xs 0 []) here)
-
 pub nothing : (bs : List ℕ) → (length bs == 0) ≡ true → length bs ≡ 0
 nothing bs e = grind (arith, nat_tests)
 
@@ -97,19 +84,6 @@ uncommented-at zero (b ∷ bs) within none found = ap (λ (v : Bool). if v then 
 uncommented-at (suc i) (b ∷ bs) within none found =
     ap (λ (v : Bool). if v then [] else b ∷ uncommented bs) (ne_eqb b 35 (none 0 (omega arith)))
     ∙ ap (λ (xs : List ℕ). b ∷ xs) (uncommented-at i bs (omega arith) (λ k less. none (suc k) (omega arith)) (λ less. found (omega arith)))
-
--- blanks at the beginning go, one by one
-pub front_step : (i : ℕ) (bs : List ℕ) → i < length bs → is_blank (get_or bs i 0) ≡ true → trimmed_front (drop (i + 1) bs) ≡ trimmed_front (drop i bs)
-front_step i bs within blank =
-    sym (ap trimmed_front (drop_more bs i 0 within) ∙ ap (λ (v : Bool). if v then trimmed_front (drop (i + 1) bs) else get_or bs i 0 ∷ drop (i + 1) bs) blank)
-
-pub front_stop : (i : ℕ) (bs : List ℕ) → (i < length bs → is_blank (get_or bs i 0) ≡ false) → trimmed_front (drop i bs) ≡ drop i bs
-front_stop i bs other = elim (cases_lt i (length bs)) [
-  | inl within ↦
-      let here = drop_more bs i 0 within in
-      ap trimmed_front here ∙ ap (λ (v : Bool). if v then trimmed_front (drop (i + 1) bs) else get_or bs i 0 ∷ drop (i + 1) bs) (other within) ∙ sym here
-  | inr past ↦ let none = drop_all i bs past in ap trimmed_front none ∙ sym none
-]
 
 push_blank : (xs : List ℕ) (b : ℕ) → is_blank b ≡ true → trimmed_back (xs ++ (b ∷ [])) ≡ trimmed_back xs
 push_blank [] b blank = ap (λ (v : Bool). if v && true then [] else b ∷ []) blank

@@ -1,13 +1,13 @@
 pub mod Comparing
-pub mod Dressing
-pub mod Feeding
-pub mod Intervals
+mod Dressing
+mod Feeding
+mod Intervals
 pub mod Parts
-pub mod Reaching
-pub mod Rows
+mod Reaching
+mod Rows
 pub mod Sequences
-pub mod Showing
+mod Showing
 mod Soundness
 pub mod Spans
-pub mod Telling
-pub mod Texts
+mod Telling
+mod Texts

@@ -3,9 +3,9 @@ use Rattle.std.proofs.Common.{◌≡◌, if◌then◌else◌, ℕ, zero, suc, �
 use Rattle.std.specs.List.{AllByRecursion}
 use Rattle.std.proofs.lemmas.List.Elements.{recursion_from_All, All-from_recursion}
 use Rattle.std.proofs.lemmas.Bool.Decides.{nat_tests}
-use Rattle.std.proofs.lemmas.List.{drop_more, take_more, set_at, length-take-le, length-append, set-set, get_or-set_same, length-set, take_all, take_at, length-map, get_or-map, length-drop, get_or-replicate, drop-replicate, get_or-append_right, length-replicate}
+use Rattle.std.proofs.lemmas.List.{drop_more, take_more, set_at, length-take-le, length-append, take_all, take_at, length-map, get_or-map, length-drop, get_or-replicate, drop-replicate, get_or-append_right, length-replicate}
 use Rattle.rd_base.specs.declared.cell.Cell.{Cell}
-use Rattle.rd_term.specs.Pictures.{Picture, IsGrid, blank_row, width_of, with_cell}
+use Rattle.rd_term.specs.Pictures.{Picture, IsGrid, blank_row, width_of}
 use Rattle.rd_update.specs.Updates.{differs, row_bytes, rows_bytes, rows_after, allows, less_one, differing, within, is_done, blank_like, start, opening, update, move}
 use Rattle.rd_update.specs.Plans.{Prepared, parts_from, planned, sent_of, ArePartsOf, no_part, front_if, front_within, part_if, bytes_if, old_row, HaveOneSize}
 use Rattle.rd_update.specs.declared.plan.ChangedRow.{ChangedRow}
@@ -24,21 +24,6 @@ seam a b i d p q =
 
 pub length-seam : {X : Type 0} (a b : List X) (i : ℕ) → length a ≡ length b → i ≤ length a → length (take i a ++ drop i b) ≡ length a
 length-seam a b i same p = omega (arith, length-append (take i a) (drop i b), length-take-le i a p, length-drop i b)
-
--- a cell put into a row that is put into rows
-pub cell-step : (rows : List (List Cell)) (r c : ℕ) (cells old : List Cell) (v : Cell) → r < length rows → c < length cells → c < length old → v ≡ get_or cells c v
-    → with_cell (set rows r (take c cells ++ drop c old)) r c v ≡ set rows r (take (c + 1) cells ++ drop (c + 1) old)
-cell-step rows r c cells old v here p q e =
-    let x = take c cells ++ drop c old in
-    ap (λ y. set (set rows r x) r (set y c v)) (get_or-set_same rows r x [] here)
-    ∙ set-set rows r x (set x c v)
-    ∙ ap (λ w. set rows r (set x c w)) e
-    ∙ ap (set rows r) (seam cells old c v p q)
-
-pub width-cell : (rows : List (List Cell)) (r c : ℕ) (v : Cell) → width_of (with_cell rows r c v) ≡ width_of rows
-width-cell [] r c v = refl
-width-cell (row ∷ rows) zero c v = length-set row c v
-width-cell (row ∷ rows) (suc r) c v = refl
 
 -- ---- the parts
 

@@ -1,4 +1,4 @@
-use Rattle.std.proofs.Common.{◌≡◌, ◌++◌, ap, ◌∙◌}
+use Rattle.std.proofs.Common.{◌++◌, ap, ◌∙◌}
 use Rattle.rd_generate.proofs.Texts.{five-made}
 use Rattle.rd_generate.proofs.lines.push_insertion.Goals as goal
 

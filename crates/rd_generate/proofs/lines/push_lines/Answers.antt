@@ -1,4 +1,4 @@
-use Rattle.std.proofs.Common.{◌≡◌, ◌++◌, ◌+◌, ap, subst, sym, ◌∙◌, arith}
+use Rattle.std.proofs.Common.{◌≡◌, ◌++◌, ◌+◌, ap, ◌∙◌, arith}
 use Rattle.rd_generate.specs.Generated.{lines_from, number, spelling, text_line}
 use Rattle.rd_generate.proofs.Texts.{lines-more, none-from, number-zero, number-next}
 use Rattle.rd_generate.proofs.lines.push_lines.Goals as goal

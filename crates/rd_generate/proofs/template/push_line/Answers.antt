@@ -1,4 +1,4 @@
-use Rattle.std.proofs.Common.{◌∙◌, ap}
+use Rattle.std.proofs.Common.{◌∙◌}
 use Rattle.rd_generate.proofs.Texts.{line-pieces}
 use Rattle.rd_generate.proofs.template.push_line.Goals as goal
 

@@ -1,4 +1,4 @@
-use Rattle.std.proofs.Common.{◌≡◌, ap, sym, ◌∙◌}
+use Rattle.std.proofs.Common.{ap, sym, ◌∙◌}
 use Rattle.rd_state.specs.contracts.parts.StateParts.{the_view}
 use Rattle.rd_state.specs.States.{StateValue}
 use Rattle.rd_state.specs.Windows.{window_of}
