@@ -47,13 +47,13 @@ impl<'a> Parts<'a> {
     ghost use Rattle.rd_objects.specs.Tables.{is_glyph_text};
 
     /// The table holds glyph characters, and a tab has 1 to 32 columns. The call does nothing.
-    pub fn stays_valid(&self)
+    pub fn parts_are_sound(&self)
         ensures { AreSoundParts self.now }
     {
         let settings = self.settings;
         let _tab_width = settings.tab_width;
         if let Some(table) = self.table {
-            table.stays_valid();
+            table.tables_are_valid();
         }
     }
 

@@ -72,7 +72,7 @@ impl Objects {
         if self.strings.len() >= STRINGS as usize {
             return Err(ObjectFault::TooMany);
         }
-        have_codes(text);
+        characters_have_codes(text);
         let number = self.strings.len() as u32;
         let text = Text::new(self.alloc, text, runs, self.faces.as_slice())?;
         self.strings.push(text)?;
@@ -105,7 +105,7 @@ impl Objects {
         if self.faces.len() >= FACES as usize {
             return Err(ObjectFault::TooMany);
         }
-        keeps_colours(face);
+        faces_have_colours(face);
         let number = self.faces.len() as u32;
         self.faces.push(face)?;
         Ok(number)
@@ -119,7 +119,7 @@ impl Objects {
         if self.tables.len() >= TABLES as usize {
             return Err(ObjectFault::TooMany);
         }
-        table.stays_valid();
+        table.tables_are_valid();
         let number = self.tables.len() as u32;
         self.tables.push(table)?;
         Ok(number)
@@ -170,7 +170,7 @@ impl Objects {
     }
 
     /// All objects are sound, there are no more than there may be, and what they name was made. The call does nothing.
-    pub fn stays_right(&self)
+    pub fn objects_are_right(&self)
         ensures sound { AreObjects self.now }
         ensures closed { IsClosed self.now }
     {
@@ -189,14 +189,14 @@ impl Objects {
 }
 
 /// Each face has colours in their range. The call does nothing.
-fn keeps_colours(face: Face)
+fn faces_have_colours(face: Face)
     ensures { HasColours face }
 {
     let _colour = face.fg;
 }
 
 /// Each character is a scalar value or a raw byte. The call looks at each and does nothing.
-fn have_codes(text: &[Ch])
+fn characters_have_codes(text: &[Ch])
     ensures { AreCodes text.now }
 {
     for ch in text {

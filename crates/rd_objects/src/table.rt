@@ -145,7 +145,7 @@ impl Table {
 
     /// Each table holds glyph characters, at most 16 for a code and for hidden text, and in its slots such of one column.
     /// The call does nothing.
-    pub fn stays_valid(&self)
+    pub fn tables_are_valid(&self)
         ensures { IsTable self.now }
     {
         let _entries = &self.entries;

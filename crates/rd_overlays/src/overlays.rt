@@ -52,7 +52,7 @@ impl Overlays {
     }
 
     /// There are at most 65,536 overlays. The call does nothing.
-    pub fn stays_few(&self)
+    pub fn overlays_are_few(&self)
         ensures { length self.now ≤ OVERLAYS }
     {
         let _slots = &self.slots;

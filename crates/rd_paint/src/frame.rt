@@ -38,7 +38,7 @@ pub fn paint_frame(
     requires { (files : Data) × AreShown files classes.now state.now windows.now }
     ensures { IfOk result (λ screen. (files : Data) → AreShown files classes.now state.now windows.now → screen ≡ (laid_out files state.now).picture) }
 {
-    state.stays_valid();
+    state.states_are_valid();
     targets_fit_their_frames();
     windows_are_painted_in_order();
     let (width, height) = state.frame();
@@ -63,7 +63,7 @@ fn paint_windows(
     ensures size { OnOk result (HasSize state.now.tree.width (state.now.tree.height + 1) screen.new.rows) }
     ensures painted { OnOk result ((files : Data) → AreShown files classes.now state.now windows.now → screen.new ≡ record screen.old { rows = painted (rows_of (frame_in files state.now)) (places state.now) screen.old.rows }) }
 {
-    state.stays_valid();
+    state.states_are_valid();
     turn_laws();
     for (i, shown) in windows.iter().enumerate() {
         let leaf = leaf_at(state, i as u32);
@@ -79,7 +79,7 @@ fn place_selected(screen: &mut Screen, state: &State, windows: &[ShownWindow<'_>
     requires rows { length screen.old.rows ≡ state.now.tree.height + 1 }
     ensures { (files : Data) → windows.now ≡ views_in files state.now → let place = frame_cursor (selected_window (frame_in files state.now)) (cursor_at files state.now state.now.selected) in screen.new ≡ record screen.old { row = place.0; column = place.1 } }
 {
-    state.stays_valid();
+    state.states_are_valid();
     targets_fit_their_frames();
     let selected = state.selected();
     match state.tree().placed(selected) {
@@ -93,7 +93,7 @@ fn cursor_of(state: &State, windows: &[ShownWindow<'_>], number: u32) -> Option<
     requires { (files : Data) × (windows.now ≡ views_in files state.now) }
     ensures { (files : Data) → windows.now ≡ views_in files state.now → result ≡ cursor_at files state.now number }
 {
-    state.stays_valid();
+    state.states_are_valid();
     leaf_laws();
     for (i, shown) in windows.iter().enumerate() {
         if leaf_at(state, i as u32).place.number == number {

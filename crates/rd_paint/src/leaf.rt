@@ -31,7 +31,7 @@ pub(crate) fn leaf_at(state: &State, i: u32) -> Leaf<'_>
 fn found_leaf(state: &State, i: u32) -> Option<Leaf<'_>>
     ensures { MatchOption result (length (places state.now) ≤ i) (λ leaf. IsLeaf state.now i leaf.place leaf.window.now leaf.content) }
 {
-    state.stays_valid();
+    state.states_are_valid();
     leaf_laws();
     let tree = state.tree();
     let place = tree.placed(tree.leaf(i)?)?;

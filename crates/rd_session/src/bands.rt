@@ -58,7 +58,7 @@ fn place_at(tree: &Tree, i: u32) -> Option<Placed>
     ensures room { IfSome result (λ place. rows_for place.mode ≤ place.rect.height) }
 {
     windows_tile_their_rectangle();
-    tree.stays_valid();
+    tree.trees_are_valid();
     let number = tree.leaf(i)?;
     tree.placed(number)
 }

@@ -53,7 +53,7 @@ impl Session {
         ensures steps { steps.new ≤ steps.old + allowed self.old }
     {
         redisplays_lead_on();
-        self.views.stays_known();
+        self.views.views_are_known();
         match prepare(self.alloc, &self.views, self.screen.as_ref(), steps) {
             Ok(prepared) => send(&mut self.views, &mut self.screen, prepared, sink, stop),
             Err(Memory) => self.give_up(),
@@ -84,7 +84,7 @@ fn prepare<L: Ledger>(
     ensures steps { steps.new ≤ steps.old + allowed views.now }
 {
     targets_are_sound();
-    views.stays_known();
+    views.views_are_known();
     let desired = views.lay_out(steps)?;
     let target = paint(alloc, views, &desired)?;
     let update = plan(alloc, views.state(), current, &target)?;
@@ -117,7 +117,7 @@ fn plan(
     ensures { IfOk result (λ update. update ≡ shifted_planned (shown current.entry) target.now (bands_of state.now)) }
 {
     redisplays_keep_states();
-    state.stays_valid();
+    state.states_are_valid();
     let bands = bands_of(alloc, state)?;
     shifted_plan(alloc, current, target, bands.as_slice())
 }
@@ -141,7 +141,7 @@ fn send<K: Sink>(
 {
     redisplays_keep_states();
     targets_are_sound();
-    views.stays_known();
+    views.views_are_known();
     let Prepared {
         desired,
         target,

@@ -85,7 +85,7 @@ impl Session {
 
     /// Each session is known: its state is valid, a known screen has the frame's size and is sound, and the last layouts of its windows
     /// are still known. The call does nothing.
-    pub fn stays_known(&self)
+    pub fn sessions_are_known(&self)
         ensures { IsSession self.now }
     {
         let _views = &self.views;

@@ -105,7 +105,7 @@ impl Spans {
 
     /// Contracts see no more positions than up to the last with a value, so the values alone tell two of these apart. The call does
     /// nothing.
-    pub fn stays_trimmed(&self)
+    pub fn spans_are_trimmed(&self)
         ensures { IsTrimmed self.now }
     {
         let _front = &self.front;

@@ -17,8 +17,8 @@ pub fn view_stays_sound(view: &View)
     ensures objects { AreObjects (scene_of view.now).objects }
     ensures parts { AreSoundParts (scene_of view.now).parts }
 {
-    view.objects.stays_right();
-    parts_of(view).stays_valid();
+    view.objects.objects_are_right();
+    parts_of(view).parts_are_sound();
 }
 
 /// Each character that is read from a position on has a code, and no more is read than a text and its overlays have. The call does
@@ -31,6 +31,6 @@ pub fn reading_stays_sound(view: &View, start: Pos)
     readings_have_codes();
     readings_are_few();
     let state = view.state;
-    state.text.stays_valid();
-    state.overlays.stays_few();
+    state.text.buffers_are_valid();
+    state.overlays.overlays_are_few();
 }

@@ -19,7 +19,7 @@ impl Content {
     pub(crate) fn insert(&mut self, pos: Pos, new: &[Ch]) -> Result<(), Refused>
         ensures { Answers result (insertion pos new.now self.old) self.old self.new }
     {
-        self.state.text.stays_valid();
+        self.state.text.buffers_are_valid();
         put_in(&mut self.state.text, &mut self.state.spans, pos, new)?;
         self.state.overlays.inserted(pos, new.len() as u32);
         mark(&mut self.state.settings, !new.is_empty());
@@ -31,7 +31,7 @@ impl Content {
         ensures changes { Answers result (deletion from to self.old) self.old self.new }
         ensures free { result ≢ Err Refused.Memory }
     {
-        self.state.text.stays_valid();
+        self.state.text.buffers_are_valid();
         self.state.text.delete(from, to)?;
         close(&mut self.state.spans, from, to);
         self.state.overlays.deleted(from, to);

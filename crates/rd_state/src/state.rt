@@ -202,7 +202,7 @@ impl State {
 
     /// Each state is valid: what its windows show was made, their points and views are accessible there, and they are the leaves of the
     /// tree; each object that is named was made; and all numbers are in their ranges. The call does nothing.
-    pub fn stays_valid(&self)
+    pub fn states_are_valid(&self)
         ensures { IsValid self.now }
     {
         let _parts = &self.parts;

@@ -69,7 +69,7 @@ impl Buffer {
 
     /// The accessible range lies in the text, which isn't too long, and each character is a scalar value or a raw byte. The call does
     /// nothing.
-    pub fn stays_valid(&self)
+    pub fn buffers_are_valid(&self)
         ensures text { IsText self.now }
         ensures codes { All (λ c. IsTrue (is_code c)) self.now.text }
     {

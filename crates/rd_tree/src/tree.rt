@@ -185,7 +185,7 @@ impl Tree {
     }
 
     /// Each tree is valid: each window has the columns and rows that it needs, and its number stands once. The call does nothing.
-    pub fn stays_valid(&self)
+    pub fn trees_are_valid(&self)
         ensures { IsValid self.now }
     {
         let _root = &self.root;

@@ -18,7 +18,7 @@ impl Views {
         ensures told { result ≡ slice_get (facts_of self.now) i }
         ensures few { IsSome result → i < WINDOWS }
     {
-        self.state.stays_valid();
+        self.state.states_are_valid();
         windows_are_leaves();
         windows_are_placed();
         let place = self.place(i)?;

@@ -31,7 +31,7 @@ impl Views {
     {
         windows_tile_their_rectangle();
         let tree = self.state.tree();
-        tree.stays_valid();
+        tree.trees_are_valid();
         let number = tree.leaf(i)?;
         tree.placed(number)
     }
@@ -52,7 +52,7 @@ impl Views {
         buffers_are_sources();
         sessions_stay_known();
         windows_are_leaves();
-        self.stays_known();
+        self.views_are_known();
         let Some(window) = self.state.window(place.number) else {
             unreachable!()
         };

@@ -41,7 +41,7 @@ pub(crate) fn shape_of(state: &State, window: &WindowState, place: Placed) -> Sh
     requires { StandsIn place (frame_of state.now.tree) }
     ensures { result ≡ window_shape state.now window.now place }
 {
-    state.stays_valid();
+    state.states_are_valid();
     let (width, _height) = state.frame();
     Shape {
         width: body_width(width, place),

@@ -49,7 +49,7 @@ impl Views {
     fn beside(&self, window: u64, to_the_right: bool) -> Result<Pos, Refused>
         ensures { Points result window self.now.state (going self.now.files self.now.state window to_the_right) }
     {
-        self.state.stays_valid();
+        self.state.states_are_valid();
         windows_are_leaves();
         let number = number_of(&self.state, window)?;
         let Some(shown) = self.state.window(number) else {
@@ -104,7 +104,7 @@ fn number_of(state: &State, window: u64) -> Result<u32, Refused>
     ensures absent { OnErr result (window_of window state.now.windows ≡ None) }
     ensures refused { IfErr result (λ refused. refused ≡ NoWindow) }
 {
-    state.stays_valid();
+    state.states_are_valid();
     if window > u64::from(u32::MAX) {
         return Err(Refused::NoWindow);
     }

@@ -92,7 +92,7 @@ impl Views {
 
     /// The windows of each session stay known: its state is valid, and what changed since the last layouts is known. The call does
     /// nothing.
-    pub fn stays_known(&self)
+    pub fn views_are_known(&self)
         ensures { IsSession self.now }
     {
         let _state = &self.state;

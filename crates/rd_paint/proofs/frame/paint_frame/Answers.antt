@@ -16,7 +16,7 @@ use Rattle.rd_paint.proofs.frame.paint_frame.Goals as goal
 pub paint_echo-requires : goal.paint_echo-requires
 paint_echo-requires c =
     let s = c.args.state.now in
-    let frame = c.stays_valid.ensures.frame in
+    let frame = c.states_are_valid.ensures.frame in
     ap length c.as_slice.ensures
     ∙ (c.in_ok-echo.ensures.columns
     ∙ (c.frame-width.ensures.width ∙ (sym frame.columns ∙ sym (width-is s.tree.width s.tree.height c.paint_windows.new.screen.rows c.in_ok-paint_windows.ensures.size))))
@@ -26,7 +26,7 @@ unfolding laid_out
 returns c = λ files shown.
     let s = c.args.state.now in
     let f : FrameValues = frame_in files s in
-    let frame = c.stays_valid.ensures.frame in
+    let frame = c.states_are_valid.ensures.frame in
     let first : Picture = c.in_ok-screen.screen in
     let columns : ℕ = c.frame-width.result.0 in
     let classes : List Span = c.args.classes.now in
@@ -42,4 +42,4 @@ returns c = λ files shown.
     let place : ℕ × ℕ = frame_cursor (selected_window f) f.cursor in
     finished first c.paint_windows.new.screen c.paint_echo.new.screen c.place_selected.new.screen c.as_slice.result.now windows (frame_rows f) place.0 place.1
     (c.in_ok-paint_windows.ensures.painted files shown) c.paint_echo.ensures.painted (c.place_selected.ensures files shown.shown)
-    (ap (λ (cells : List Cell). with_echo cells windows) echo ∙ c.windows_are_painted_in_order.ensures.rows f first.rows (c.targets_fit_their_frames.ensures files s c.stays_valid.ensures) size)
+    (ap (λ (cells : List Cell). with_echo cells windows) echo ∙ c.windows_are_painted_in_order.ensures.rows f first.rows (c.targets_fit_their_frames.ensures files s c.states_are_valid.ensures) size)

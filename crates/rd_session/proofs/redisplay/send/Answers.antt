@@ -7,7 +7,7 @@ use Rattle.rd_session.proofs.redisplay.send.Goals as goal
 pub after-requires-clause-size : goal.after-requires-clause-size
 after-requires-clause-size g c =
     let v = c.args.views.now in
-    let valid = c.stays_known.ensures.state in
+    let valid = c.views_are_known.ensures.state in
     let size = c.targets_are_sound.ensures.size v.files v.state valid in
     let fits = one-size c.args.screen.now v.state (laid_out v.files v.state).picture valid.frame.high c.requires.current size in
     subst₂ HaveOneSize (sym c.take-current.ensures.value) (sym c.requires.target) fits

@@ -18,7 +18,7 @@ invariant_of-self-2 c =
     let b = c.self.inside.state in
     let left : BufferState = record { text = c.put_in.new.text; spans = c.put_in.new.spans; overlays = c.inserted.new.self; settings = c.mark.new.settings } in
     let inserts = c.in_ok-put_in.ensures.text in
-    grown-within (meaning b) (meaning left) c.args.pos c.args.new.now c.stays_valid.ensures.text c.self.invariant inserts.0 inserts.2 c.in_ok-put_in.ensures.values c.inserted.ensures
+    grown-within (meaning b) (meaning left) c.args.pos c.args.new.now c.buffers_are_valid.ensures.text c.self.invariant inserts.0 inserts.2 c.in_ok-put_in.ensures.values c.inserted.ensures
 
 pub returns : goal.returns
 returns c =

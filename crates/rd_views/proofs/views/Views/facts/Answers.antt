@@ -9,7 +9,7 @@ use Rattle.rd_views.proofs.views.Views.facts.Goals.{After-windows_are_placed}
 
 -- the state of the session is valid
 valid : (c : goal.After-windows_are_placed) → IsValid c.args.self.now.state
-valid c = subst (λ (v : SessionValue). IsValid v.state) c.self.view_is c.stays_valid.ensures
+valid c = subst (λ (v : SessionValue). IsValid v.state) c.self.view_is c.states_are_valid.ensures
 
 pub returns-in_err-place-clause-told : goal.returns-in_err-place-clause-told
 returns-in_err-place-clause-told c =

@@ -9,9 +9,9 @@ use Rattle.rd_views.proofs.Living.{placed-lives}
 use Rattle.rd_views.proofs.Premises.{LookLaws, allowed-steps, anchor-wanted, is-source, kept-right, laid-result, point-wanted, source-is}
 use Rattle.rd_views.proofs.views.Views.lay_out_window.Given as given
 use Rattle.rd_views.proofs.views.Views.lay_out_window.Goals as goal
-use Rattle.rd_views.proofs.views.Views.lay_out_window.Goals.{After-new-source, After-shape_of-shape, After-stays_known, After-wanted_of-wanted, In-Some}
+use Rattle.rd_views.proofs.views.Views.lay_out_window.Goals.{After-new-source, After-shape_of-shape, After-views_are_known, After-wanted_of-wanted, In-Some}
 
-laws : (g : given.Over) → goal.After-stays_known g → LookLaws
+laws : (g : given.Over) → goal.After-views_are_known g → LookLaws
 laws g c = record {
   source = c.buffers_are_sources.ensures;
   within = c.accessible_positions_lie_in_blocks.ensures;
@@ -41,34 +41,34 @@ pub unreachable-requires : goal.unreachable-requires
 unreachable-requires g c =
     let v = c.args.self.now in
     let n = c.args.place.number in
-    let there = placed-lives c.windows_are_leaves.ensures.placed v.state n c.args.place c.stays_known.ensures.state c.requires.found in
+    let there = placed-lives c.windows_are_leaves.ensures.placed v.state n c.args.place c.views_are_known.ensures.state c.requires.found in
     none-some there.0 (c.in_default.ensures ∙ (ap (λ (x : SessionValue). window_of n x.state.windows) c.self.view_is ∙ there.1))
 
 pub look_at-requires : goal.look_at-requires
 look_at-requires g c =
-    (c.windows_are_leaves.ensures.found c.args.self.now.state c.args.place.number c.in-Some.window.now c.stays_known.ensures.state (lives g (goal.at.look_at-requires g c).In-Some)).made
+    (c.windows_are_leaves.ensures.found c.args.self.now.state c.args.place.number c.in-Some.window.now c.views_are_known.ensures.state (lives g (goal.at.look_at-requires g c).In-Some)).made
 
 pub lay_out_again-requires-clause-source : goal.lay_out_again-requires-clause-source
 lay_out_again-requires-clause-source g c =
     let at = goal.at.lay_out_again-requires-clause-source g c in
-    is-source (laws g at.After-stays_known) c.args.self.now c.stays_known.ensures c.args.place.number c.in-Some.window.now (lives g at.In-Some) (source_of c.new-source.result) (source g at.After-new-source)
+    is-source (laws g at.After-views_are_known) c.args.self.now c.views_are_known.ensures c.args.place.number c.in-Some.window.now (lives g at.In-Some) (source_of c.new-source.result) (source g at.After-new-source)
 
 pub lay_out_again-requires-clause-right : goal.lay_out_again-requires-clause-right
 lay_out_again-requires-clause-right g c =
     let at = goal.at.lay_out_again-requires-clause-right g c in
-    kept-right (laws g at.After-stays_known) c.args.self.now c.stays_known.ensures c.args.place.number c.in-Some.window.now (lives g at.In-Some) (source_of c.new-source.result) (source g at.After-new-source)
+    kept-right (laws g at.After-views_are_known) c.args.self.now c.views_are_known.ensures c.args.place.number c.in-Some.window.now (lives g at.In-Some) (source_of c.new-source.result) (source g at.After-new-source)
     (option_map (λ l. l.now) c.layout-last.result) c.shape_of-shape.result c.layout-last.ensures
 
 pub lay_out_again-requires-clause-anchor : goal.lay_out_again-requires-clause-anchor
 lay_out_again-requires-clause-anchor g c =
     let at = goal.at.lay_out_again-requires-clause-anchor g c in
-    anchor-wanted (laws g at.After-stays_known) c.args.self.now c.stays_known.ensures c.args.place.number c.in-Some.window.now (lives g at.In-Some) (source_of c.new-source.result) (source g at.After-new-source)
+    anchor-wanted (laws g at.After-views_are_known) c.args.self.now c.views_are_known.ensures c.args.place.number c.in-Some.window.now (lives g at.In-Some) (source_of c.new-source.result) (source g at.After-new-source)
     c.self.inside.state c.args.place c.wanted_of-wanted.result c.wanted_of-wanted.ensures
 
 pub lay_out_again-requires-clause-point : goal.lay_out_again-requires-clause-point
 lay_out_again-requires-clause-point g c =
     let at = goal.at.lay_out_again-requires-clause-point g c in
-    point-wanted (laws g at.After-stays_known) c.args.self.now c.stays_known.ensures c.args.place.number c.in-Some.window.now (lives g at.In-Some) (source_of c.new-source.result) (source g at.After-new-source)
+    point-wanted (laws g at.After-views_are_known) c.args.self.now c.views_are_known.ensures c.args.place.number c.in-Some.window.now (lives g at.In-Some) (source_of c.new-source.result) (source g at.After-new-source)
     c.self.inside.state c.args.place c.wanted_of-wanted.result c.wanted_of-wanted.ensures
 
 pub returns-clause-laid : goal.returns-clause-laid

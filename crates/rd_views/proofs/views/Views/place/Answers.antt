@@ -17,5 +17,5 @@ returns-clause-found c =
 pub returns-clause-few : goal.returns-clause-few
 returns-clause-few c = λ _.
     let inside = slice_get_within (leaves c.tree-tree.result.now.windows) c.args.i c.in_ok-number.number (sym c.leaf.ensures ∙ c.in_ok-number.was) in
-    let few = c.stays_valid.ensures.few in
+    let few = c.trees_are_valid.ensures.few in
     omega (arith, inside, few)

@@ -2,7 +2,7 @@ use Rattle.std.proofs.Common.{arith, ◌≡◌, ◌<◌, ℕ, IsTrue, length, ta
 use Rattle.std.proofs.lemmas.Grind.{common_steps}
 use Rattle.std.proofs.lemmas.List.Elements.{All-more, at_read}
 use Rattle.rd_base.specs.Chars.{is_code}
-use Rattle.rd_objects.proofs.objects.have_codes.Goals as goal
+use Rattle.rd_objects.proofs.objects.characters_have_codes.Goals as goal
 
 pub loop-ch-preserved : goal.loop-ch-preserved
 loop-ch-preserved c =
