@@ -17,16 +17,17 @@ use rd_io::{FileFault, Files, Sink, Source, read_file};
 use rd_term::Terminal;
 use std::alloc::Global;
 
-/// Judges by the last dump of a report whether a recorded stream of a terminal shows it, and tells the verdict in a line.
+/// Judges by the last dump of a report whether a recorded stream of a terminal shows it, and writes the verdict as a line
+/// to `report`.
 ///
 /// `words` are those after the program's name: one, the name of the report's file. The file is read first, and then the stream to its
 /// end, which is that since the last accepted `frame`: the terminal has the dump's size, and nothing of it is known. A sequence or a
 /// character that the stream's end cuts counts as unread.
 ///
 /// `answers` says when each verdict comes and what was written then. ReadFault comes only where the count of `stream` or that of the
-/// file's name rose, WriteFault only where that of `report` did, and then a front of the line was written that would have come. Want
-/// of memory may come at any time. With one word, a file with a dump and a stream that is not too long, and where no count
-/// rose, nothing else comes besides yes and no (`complete`). The cost is linear in the bytes of the file and of the stream.
+/// file's name rose, WriteFault only where that of `report` did, and then a front of the line was written that would have come.
+/// NoMemory says that an allocation was refused. With one word, a file with a dump and a stream that is not too long, and where no
+/// count rose, nothing else comes besides yes and no (`complete`). The cost is linear in the bytes of the file and of the stream.
 pub fn audit<S: Source, F: Files, R: Sink>(
     alloc: Global,
     words: Vec<String>,

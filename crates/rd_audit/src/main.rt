@@ -1,5 +1,7 @@
 //! Judges a recorded terminal stream from standard input by the last dump of a report, FILE: whether the stream shows that dump. The
 //! answer is a line on standard error and the exit status.
+//!
+//! The rules are in docs/RULES.md, "The auditor".
 #![tactic(auto)]
 
 mod audit;

@@ -1,4 +1,7 @@
 //! The blocks of a buffer and their rows: the source from which windows are laid out, as definitions and the law that it is one.
+//!
+//! A block is what Emacs calls a visible line. `Blocks` finds where blocks begin and end (rd_items), their base levels (rd_para)
+//! and prefixes, and makes their rows (rd_stack, rd_rows). The rules are in docs/RULES.md, "Rows of a block".
 #![tactic(auto)]
 
 mod base;

@@ -4,8 +4,8 @@ ghost use Rattle.rd_brackets.specs.Sides.{counts_as, holds, opposite, last_side,
 
 use rd_base::{Class, ListOf};
 
-/// N0: takes each pair of a sequence, in the order of the opening brackets, where for each place it is told where the pair closes that
-/// opens there. Each pair whose content decides takes one direction.
+/// N0: takes each pair of a sequence, in the order of the opening brackets: `closings` has for each place of the sequence where the
+/// pair closes that opens there, and `types` the types, which change. Each pair whose content decides takes one direction.
 ///
 /// The content of a pair is looked through for it alone: as at most 63 brackets stand open at a time, the cost is linear in the
 /// sequence. What stands before an opening bracket is looked through back to the last strong type, and then the bracket is one itself.

@@ -1,4 +1,6 @@
 //! The dump of a screen and of the windows on it, as text.
+//!
+//! The rules are in docs/RULES.md, "The report".
 #![tactic(auto)]
 
 mod dump;

@@ -19,12 +19,12 @@ pub struct DataFiles {
 }
 
 /// Reads the class file, the mirror file and the bracket file, where there is one, by their names. Each is read whole and judged
-/// before the next one is read, so the first fault in this order is told, whatever the later files are.
+/// before the next one is read, so the first fault in this order is answered, whatever the later files are.
 ///
 /// `Bad` comes exactly at a file of more than 8,388,608 bytes, with line 0, and at one with a bad line, with the first such line.
 /// `Read` comes only where the count of faults of the file that was to be read rose in the call, as at a file that isn't there.
-/// Want of memory may come at any file. What `files` tells of contents stays the same. The cost is linear in the bytes that are
-/// read, and so is the memory.
+/// Want of memory may come at any file. The contents of the files that contracts know stay the same. The cost is linear in the
+/// bytes that are read, and so is the memory.
 pub fn read_data<F: Files>(
     alloc: Global,
     files: &mut F,

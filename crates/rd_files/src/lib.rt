@@ -1,4 +1,6 @@
 //! The reading of the data files: each read whole and judged, in order.
+//!
+//! The rules are in docs/RULES.md, "The program" and "Data files".
 #![tactic(auto)]
 
 mod examples;

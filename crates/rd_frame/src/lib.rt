@@ -1,4 +1,7 @@
 //! The screen of a frame, put together from what its windows show.
+//!
+//! In Emacs `build_frame_matrix` (dispnew.c) puts the windows' glyph matrices together in this way on a terminal. The rules are
+//! in docs/RULES.md, "The screen", and for borders "Windows".
 #![tactic(auto)]
 
 mod examples;

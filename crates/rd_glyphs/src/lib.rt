@@ -1,4 +1,7 @@
 //! How characters are shown: the elements of a character, the marks that join it, and plain lines of text.
+//!
+//! In Emacs `get_next_display_element` decides how a character is shown, and `append_composite_glyph` (term.c) joins marks to a
+//! base. The rules are in docs/RULES.md, "Elements of a character"; how marks join is part of "Items of a block".
 #![tactic(auto)]
 
 mod counting;

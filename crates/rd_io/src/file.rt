@@ -39,8 +39,8 @@ const LARGEST: usize = FILE_BYTES as usize;
 /// How many bytes are fetched at a time.
 const ROOM: usize = 65_536;
 
-/// Reads the file of a name whole, piece after piece until a fetch answers that there is no more. What `files` tells of
-/// contents stays the same.
+/// Reads the file of a name whole, piece after piece until a fetch answers that there is no more. The contents of the
+/// files that contracts know stay the same.
 ///
 /// `Failed` comes only where a fetch of this name failed, as for a file that is not there, and its count of faults rose in the
 /// call. `TooLarge` comes exactly where the file has more than 8,388,608 bytes; it is then read no further. The cost is linear in

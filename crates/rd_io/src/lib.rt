@@ -1,5 +1,8 @@
 //! Sources, files and sinks of bytes, in memory and of the system, each with a count of its faults; the lines of a source; and a piece
 //! of fixed size, in which a text is made.
+//!
+//! docs/RULES.md, "Scripts", says what the lines of a script are; the choices about devices are in docs/DECISIONS.md,
+//! "Devices".
 #![tactic(auto)]
 
 mod calls;

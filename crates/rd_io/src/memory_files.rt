@@ -5,8 +5,8 @@ ghost use Rattle.rd_io.specs.Memory.{place_in, bytes_at};
 use crate::copy::copy_front;
 use crate::traits::{Failed, Files};
 
-/// Files by name, which fail at the calls that they are told to fail at. A fetch from a name without a file fails too. One count is
-/// kept for each file, and one for all other names. Of several files of one name the first counts.
+/// Files by name, which fail at the calls that are set to fail. A fetch from a name without a file fails too. One count is kept for
+/// each file, and one for all other names. Of several files of one name the first counts.
 #[derive(Drop)]
 pub struct MemFiles {
     files: Vec<(String, Vec<u8>)>,

@@ -6,7 +6,7 @@ use crate::traits::{Failed, Sink};
 use rd_base::Memory;
 use std::alloc::Global;
 
-/// A sink with room for so many bytes, which fails where no room is left and at the calls that it is told to fail at.
+/// A sink with room for so many bytes, which fails where no room is left and at the calls that are set to fail.
 #[derive(Drop)]
 pub struct MemSink {
     room: Vec<u8>,

@@ -5,7 +5,7 @@ use crate::calls::Calls;
 use crate::copy::copy_front;
 use crate::traits::{Failed, Source};
 
-/// A source of given bytes, which fails at the calls that it is told to fail at.
+/// A source of given bytes, which fails at the calls that are set to fail.
 #[derive(Drop)]
 pub struct MemSource {
     bytes: Vec<u8>,

@@ -6,7 +6,7 @@ ghost use Rattle.rd_io.specs.Devices.{Rose, Fetches, Writes};
 
 use thiserror::Error;
 
-/// A device failed. Its count of faults tells that it did.
+/// A device failed. Its count of faults has risen, unless it stood at its last value.
 #[derive(Clone, Copy, Debug, PartialEq, Eq, Error)]
 #[error("the device failed")]
 pub struct Failed;
@@ -15,7 +15,7 @@ pub struct Failed;
 pub trait Source {
     ghost use Rattle.std.specs.Prelude.{ℕ, List, Option};
 
-    // the bytes that are left, where they are told
+    // the bytes that are left, where they are known
     ghost left: { Self → Option (List ℕ) };
 
     // how often the source has failed; a count at its last value stays there
@@ -34,7 +34,7 @@ pub trait Source {
 pub trait Files {
     ghost use Rattle.std.specs.Prelude.{ℕ, List, Option};
 
-    // the bytes of the file of a name, where they are told
+    // the bytes of the file of a name, where they are known
     ghost contents: { Self → List ℕ → Option (List ℕ) };
 
     // how often the file of a name has failed
@@ -54,7 +54,7 @@ pub trait Files {
 pub trait Sink {
     ghost use Rattle.std.specs.Prelude.{ℕ, List, Option};
 
-    // the bytes that were written, where they are told
+    // the bytes that were written, where they are known
     ghost written: { Self → Option (List ℕ) };
 
     // how often the sink has failed

@@ -18,7 +18,7 @@ use rd_glyphs::marks_join_measured_glyphs;
 use rd_props::made_objects_alone_are_seen;
 
 /// The blocks of a text are those of its list, which stand one behind the other from the beginning of the accessible text to its
-/// end, which counts as a position. It has no body: what it promises is proved of the definitions.
+/// end, which counts as a position. The call does nothing.
 pub fn blocks_are_listed()
     ensures blocks { (s : BufferValue) → s.text.begin ≤ s.text.end → (k : ℕ) (b : ℕ × ℕ) → slice_get (blocks_of s) k ≡ Some b → IsBlock s b.0 b.1 }
     ensures every { (s : BufferValue) (from to : ℕ) → IsBlock s from to → (k : ℕ) × (slice_get (blocks_of s) k ≡ Some (from, to)) }
@@ -26,8 +26,7 @@ pub fn blocks_are_listed()
 {}
 
 /// The block that starts where another ends stands behind it in the list, and the block that ends where another starts before
-/// it; none is behind the block that ends with the text, and none before the one that starts with it. It has no body: what it
-/// promises is proved of the definitions.
+/// it; none is behind the block that ends with the text, and none before the one that starts with it. The call does nothing.
 pub fn blocks_are_in_order()
     ensures next { (s : BufferValue) (k a b c : ℕ) → slice_get (blocks_of s) k ≡ Some (a, b) → IsBlock s b c → slice_get (blocks_of s) (k + 1) ≡ Some (b, c) }
     ensures last { (s : BufferValue) (k a : ℕ) → s.text.begin ≤ s.text.end → slice_get (blocks_of s) k ≡ Some (a, s.text.end + 1) → slice_get (blocks_of s) (k + 1) ≡ None }
@@ -36,7 +35,7 @@ pub fn blocks_are_in_order()
 {}
 
 /// What is read from an accessible position on, the end of the accessible text included, ends with its ender and has none before,
-/// and of a block it has one entry for each of its positions. It has no body: what it promises is proved of the definitions.
+/// and of a block it has one entry for each of its positions. The call does nothing.
 pub fn blocks_are_read_whole()
     ensures reading { (s : BufferValue) (objects : ObjectLists) (p : ℕ) → p ≤ s.text.end → IsReading s.settings.invisible (reading s objects p) }
     ensures length { (s : BufferValue) (objects : ObjectLists) (from to : ℕ) → IsBlock s from to → from + length (reading s objects from) ≡ to }
@@ -44,7 +43,7 @@ pub fn blocks_are_read_whole()
 
 /// The items of what is read of a block cover each of its positions once: each covers none, or goes on where the last that covers
 /// any ended, from the first position to the ender. An item covers any exactly where it is no overlay's string and gives an
-/// element. The last item is the ender, and no other is. It has no body: what it promises is proved of the definitions.
+/// element. The last item is the ender, and no other is. The call does nothing.
 pub fn items_cover_their_block()
     ensures tile { (scene : Scene) (es : List Seen) → IsReading scene.parts.settings.invisible es → Tile 0 (length es) (items_of scene es) }
     ensures give { (scene : Scene) (es : List Seen) → IsReading scene.parts.settings.invisible es → CoverWhereTheyGive scene (items_of scene es) }
@@ -58,8 +57,8 @@ pub fn items_are_measured()
     marks_join_measured_glyphs();
 }
 
-/// Objects that are made later change no item of what names none of them, nor do the flags of modified and of read-only text. It
-/// has no body: what it promises is proved of the definitions.
+/// Objects that are made later change no item of what names none of them, nor do the flags of modified and of read-only text.
+/// The call does nothing.
 pub fn objects_that_are_made_change_no_item()
     ensures items { (old new : Scene) (es : List Seen) → GoesOnFrom old new → IsClosed old.objects → ReadsMade old.objects es → items_of new es ≡ items_of old es }
     ensures table { (o n : ObjectLists) (settings : SettingValues) → Extends o n → SettingsMade o settings → table_in n settings.table ≡ table_in o settings.table }

@@ -112,7 +112,7 @@ pub fn copies_change_no_allowance()
     ensures { (v : SessionValue) → allowed (without_copies v) ≡ allowed v }
 {}
 
-/// How often rows were copied changes neither what an op leads to, nor what a dump tells; and a session behind an op is, but for that, the
+/// How often rows were copied changes neither what an op leads to, nor what a dump says; and a session behind an op is, but for that, the
 /// one behind the op where no row was copied. The call does nothing.
 pub fn copies_change_no_op()
     ensures step { (v : SessionValue) (op : Op) → session_step (without_copies v) op ≡ session_step v op }

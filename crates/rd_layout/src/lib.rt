@@ -1,6 +1,8 @@
 //! What a session shows, as definitions with laws: each window's start, point and rows, the screen of the frame, a session with the last
 //! layouts of its windows, and what an op and a redisplay make of it. The code has two types alone: how a redisplay ends (`outcome`), and
 //! what a window shows (`shown`).
+//!
+//! The rules are in docs/RULES.md, from "Where a window starts" to "The screen", and for ops "Scripts" and "Hits and motion".
 #![tactic(auto)]
 
 mod examples;

@@ -1,4 +1,6 @@
 //! Updates that may begin with a shift: one run of rows is moved by the terminal itself before the rows that differ are sent.
+//!
+//! In Emacs this is `scrolling` of dispnew.c, with the costs of scroll.c. The rules are in docs/RULES.md, "Line shifts".
 #![tactic(auto)]
 
 mod band;

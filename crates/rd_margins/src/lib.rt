@@ -1,4 +1,7 @@
 //! The margins of a window: line numbers, and strings of overlays.
+//!
+//! In Emacs these are `display-line-numbers` and strings that a `display` property puts in the left margin. The rules are in
+//! docs/RULES.md, "Margins".
 #![tactic(auto)]
 
 mod examples;

@@ -1,8 +1,8 @@
-//! What a mode line tells of.
+//! What a mode line can show.
 use rd_base::Ch;
 use std::marker::Model;
 
-/// What a mode line tells of: the buffer's name, the line of point from 1, whether the view holds the first row and the last one
+/// What a mode line can show: the buffer's name, the line of point from 1, whether the view holds the first row and the last one
 /// of the text, how many of the accessible characters stand before the view's block and how many there are, the two settings,
 /// and whether a part of the text is not accessible.
 #[derive(Drop)]

@@ -1,5 +1,7 @@
-//! Mode lines: the line below a window that tells its buffer's name, the line of point, how much of the text is in view and
+//! Mode lines: the line below a window that shows its buffer's name, the line of point, how much of the text is in view and
 //! whether it was changed, by a format (the Emacs Lisp manual's `%`-constructs).
+//!
+//! In Emacs this is `display_mode_line` and `decode_mode_spec` (xdisp.c). The rules are in docs/RULES.md, "Mode lines".
 #![tactic(auto)]
 
 mod examples;

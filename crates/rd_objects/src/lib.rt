@@ -1,4 +1,7 @@
 //! The numbered objects that properties name: faces, display specs, strings and display tables. An object never changes.
+//!
+//! In Emacs these are Lisp objects: faces, values of the `display` property, propertized strings and display tables. The rules
+//! are in docs/RULES.md, "Objects".
 #![tactic(auto)]
 
 mod fault;

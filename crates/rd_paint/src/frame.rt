@@ -21,11 +21,11 @@ use rd_term::Screen;
 use rd_ucd::Classes;
 use std::alloc::Global;
 
-/// Paints the target screen of a frame from what its windows show, which is told in leaf order: each window's rows behind their
-/// margins, its border and its mode line, the echo area, and the cursor where the selected window has it. It takes memory for the
-/// screen, and at one time for the margins of one window's rows and its mode line. It costs the screen's cells; where a window shows
-/// line numbers, also a count of lines for each block that it has the first row of, and where it shows margin strings a listing of
-/// the overlays there.
+/// Paints the target screen of a frame from what its windows show: each window's rows behind their margins, its border and its mode
+/// line, the echo area, and the cursor where the selected window has it. `windows` has what each window shows, in leaf order, and
+/// `classes` is for the plain lines (margins, mode lines, echo area). It takes memory for the screen, and at one time for the
+/// margins of one window's rows and its mode line. It costs the screen's cells; where a window shows line numbers, also a count of
+/// lines for each block that it has the first row of, and where it shows margin strings a listing of the overlays there.
 ///
 /// # Errors
 /// Want of memory alone.

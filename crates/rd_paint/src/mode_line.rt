@@ -50,7 +50,7 @@ fn formatted(
     }
 }
 
-/// What a mode line tells of a buffer with a name and of the view of it.
+/// What a mode line can show of a buffer with a name and of the view of it.
 fn facts<'a>(name: &'a [Ch], content: &Content<'_>, shown: &ShownWindow<'_>) -> Facts<'a>
     requires name { name.now ≡ chars content.now.name }
     requires view { IsViewOf content.now.content.text shown.now }

@@ -51,7 +51,8 @@ pub fn paragraph_at(text: &Buffer, classes: &Classes, pos: Pos) -> Paragraph
 /// The paragraph of the line behind one that is known: the same, further, unless a text line follows a separator. So whoever
 /// reads a text line by line asks for one paragraph, and then goes on from it.
 ///
-/// It reads what tells whether the two lines are separators, and a paragraph that begins here up to its first strong character.
+/// It reads as much of the two lines as decides whether they are separators, and a paragraph that begins here up to its first
+/// strong character.
 pub fn next_line(text: &Buffer, classes: &Classes, known: &Paragraph) -> Paragraph
     requires known { IsKnown classes.now text.now known.now }
     requires more { known.now.to < text.now.end }

@@ -1,5 +1,5 @@
-//! `Playing`, a run in progress, and `Playing::line`, which does what one line says: it reads an op, applies it, or redisplays and tells
-//! the report.
+//! `Playing`, a run in progress, and `Playing::line`, which does what one line says: it reads an op, applies it, or redisplays and
+//! writes the lines of the report.
 ghost use Rattle.std.specs.Prelude.{◌≡◌, ℕ, ◌≤◌, ◌<◌, ◌++◌, [], false, None, Some, List, Ok, IfOk, OnErr, Option, if◌then◌else◌, is_some, unwrap_or};
 ghost use Rattle.rd_io.specs.Devices.{Rose, Writes};
 ghost use Rattle.rd_layout.specs.Copies.{without_copies};
@@ -64,7 +64,7 @@ impl Playing {
         })
     }
 
-    /// Runs one line. A redisplay's bytes are sent before the report is told of it.
+    /// Runs one line. A redisplay's bytes are sent before its line is written to the report.
     #[tactic(auto, unfolding(rd_run::specs::Runs::effect))]
     pub fn line<K: Sink, R: Sink, L: Ledger>(
         &mut self,
@@ -139,7 +139,7 @@ impl Playing {
         }
     }
 
-    /// Redisplays, up to so many rows where a stop is given, and tells the report of it.
+    /// Redisplays, up to so many rows where a stop is given, and writes its lines to the report.
     fn show<K: Sink, R: Sink, L: Ledger>(
         &mut self,
         stop: Option<u32>,
@@ -171,7 +171,8 @@ impl Playing {
         }
     }
 
-    /// Tells that the redisplay of the last line was shown, with its dump where that is asked for; a generated script tells nothing.
+    /// Writes that the redisplay of the last line was shown, with its dump where that is asked for; of a generated script it writes
+    /// nothing.
     fn tell_shown<R: Sink>(&mut self, report: &mut R, rows: u32) -> Result<(), Failed>
         ensures bytes { Writes (R.written report.old) (R.written report.new) (if is_some self.old.generated then []
             else shown_line self.old.lines rows ++ dump_lines self.old.dumps self.old.session.current (facts_of self.old.session)) result }
@@ -193,7 +194,7 @@ impl Playing {
         }
     }
 
-    /// Tells that the redisplay of the last line was stopped; a generated script tells nothing.
+    /// Writes that the redisplay of the last line was stopped; of a generated script it writes nothing.
     fn tell_stopped<R: Sink>(&self, report: &mut R, rows: u32) -> Result<(), Failed>
         ensures bytes { Writes (R.written report.old) (R.written report.new) (if is_some self.now.generated then [] else stopped_line self.now.lines rows) result }
         ensures never_falls { R.faults report.old ≤ R.faults report.new }
@@ -206,7 +207,7 @@ impl Playing {
         }
     }
 
-    /// What is told at the end of a generated script.
+    /// What the report says at the end of a generated script.
     pub fn summary(&self) -> Summary
         ensures { summary_of result ≡ summary (standing self.now) }
     {

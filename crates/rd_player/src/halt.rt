@@ -1,5 +1,5 @@
-//! How a run ends: `Halt`, why a line was not run to its end; `Ending`, what ends the run; `Summary`, what a generated script tells at its
-//! end.
+//! How a run ends: `Halt`, why a line was not run to its end; `Ending`, what ends the run; `Summary`, what the report says at the end of a
+//! generated script.
 use rd_base::Anchor;
 use rd_run::{ScriptFault, Status};
 
@@ -12,11 +12,11 @@ pub enum Halt {
     NoMemory,
     /// The screen failed at the update.
     ScreenBroke,
-    /// The report failed at what the redisplay tells.
+    /// The report failed at the lines of the redisplay.
     ReportBroke,
 }
 
-/// What is told at the end of a generated script.
+/// What the report says at the end of a generated script.
 #[derive(Clone, Copy, Debug, Drop)]
 pub struct Summary {
     /// How many lines were run.
@@ -29,8 +29,8 @@ pub struct Summary {
     pub start: Anchor,
 }
 
-/// What ends a run: a status that the report is still to be told, with how many lines were run; the end of a generated script; or
-/// a sink that failed.
+/// What ends a run: a status whose line is still to be written to the report, with how many lines were run; the end of a
+/// generated script; or a sink that failed.
 #[derive(Debug, Drop)]
 pub enum Ending {
     Ends(Status, u32),

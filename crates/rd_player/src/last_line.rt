@@ -12,7 +12,7 @@ use rd_io::{Failed, Sink, write_whole};
 use rd_run::{ScriptFault, Status};
 use rd_state::Refused;
 
-/// What is told where the words are not those of the command.
+/// The last line where the words are not those of the command.
 const USAGE: &[u8] =
     b"usage: redisplay --data FILE --mirror FILE [--brackets FILE] [--generate N] [--dump]\n";
 

@@ -1,8 +1,8 @@
 //! A run of the program: from the words, the data files and the bytes of a script to the bytes of a terminal, the report and the status.
 //!
-//! `play` reads the words and the files, runs the lines of the script one after the other, and tells the last line of the report. A line is
-//! read as an op, which the session applies or, for `redisplay`, shows: the terminal's bytes are sent, and then the report tells of it, with
-//! a dump where one is asked for. What a run is stands in rd_run; that `play` does this, for every ending, is its clause `ran`.
+//! `play` reads the words and the files, runs the lines of the script one after the other, and writes the last line of the report. A line
+//! is read as an op, which the session applies or, for `redisplay`, shows: the terminal's bytes are sent, and then the report gets its
+//! line, with a dump where one is asked for. What a run is stands in rd_run; that `play` does this, for every ending, is its clause `ran`.
 //!
 //! The rules are in docs/RULES.md: "The program", "Scripts" and "The report".
 #![tactic(auto)]

@@ -96,7 +96,7 @@ fn ucd_kind(fault: UcdFault) -> &'static [u8]
     }
 }
 
-/// The key that a fault tells.
+/// The key that a fault names.
 pub fn op_key(fault: &OpFault) -> Option<&[Ch]>
     ensures { option_map (λ key. key.now) result ≡ op_key fault.now }
 {

@@ -12,7 +12,7 @@ use itoa::Buffer;
 use rd_io::{Failed, Piece, Sink, write_whole};
 use rd_run::Status;
 
-/// Tells how a redisplay ended, and how many rows were sent.
+/// Writes the line of a redisplay: its line's number in the script, from 1, how it ended, and how many rows were sent.
 pub fn tell_rows<R: Sink>(
     report: &mut R,
     number: u32,
@@ -30,7 +30,7 @@ pub fn tell_rows<R: Sink>(
     tell(report, &[number, ended, rows, b" rows\n"])
 }
 
-/// Tells that a redisplay found no memory.
+/// Writes that the redisplay of the line of a number found no memory.
 pub fn tell_no_memory<R: Sink>(report: &mut R, number: u32) -> Result<(), Failed>
     ensures bytes { Writes (R.written report.old) (R.written report.new) (no_memory_line number) result }
     ensures never_falls { R.faults report.old ≤ R.faults report.new }
@@ -43,7 +43,7 @@ pub fn tell_no_memory<R: Sink>(report: &mut R, number: u32) -> Result<(), Failed
     )
 }
 
-/// Tells what stands at the end of a generated script.
+/// Writes the four lines at the end of a generated script.
 pub fn tell_summary<R: Sink>(report: &mut R, summary: Summary) -> Result<(), Failed>
     ensures bytes { Writes (R.written report.old) (R.written report.new) (summary_of summary) result }
     ensures never_falls { R.faults report.old ≤ R.faults report.new }
@@ -70,7 +70,7 @@ pub fn tell_summary<R: Sink>(report: &mut R, summary: Summary) -> Result<(), Fai
     tell(report, &pieces)
 }
 
-/// Tells how the run ended, behind so many lines of the script.
+/// Writes how the run ended, behind so many lines of the script.
 pub fn tell_last<R: Sink>(report: &mut R, status: &Status, lines: u32) -> Result<(), Failed>
     ensures bytes { Writes (R.written report.old) (R.written report.new) (last_line status.now lines) result }
     ensures never_falls { R.faults report.old ≤ R.faults report.new }

@@ -2,7 +2,7 @@
 //! README.
 //!
 //! `begun` answers a run of no line, or the status that comes before the first line. `run_all` runs the lines (`run`), each of them by
-//! `Playing::line` (`act`), and `finish` tells the last line.
+//! `Playing::line` (`act`), and `finish` writes the last line.
 ghost use Rattle.std.specs.Prelude.{◌≡◌, ℕ, ◌≤◌, IsSome, Some, List};
 ghost use Rattle.std.specs.Io.KnownBytes.{Consumes};
 ghost use Rattle.rd_files.specs.DataFiles.{meaning as files_meaning};
@@ -37,24 +37,25 @@ use std::sync::ledger::Ledger;
 /// `--generate N` and `--dump`, by which each redisplay that is shown is followed by its dump in the report. Other words give Usage,
 /// and nothing is read. Then the files of these names are read from `files` in this order, each whole; the first bad line of one, or
 /// that it is too large, gives BadData. The lines of `script` are run in turn and count from 1. With `--generate N` those of the
-/// script that is made from N take their place, and `script` is not read; then the report tells of no redisplay but one without
-/// memory, and at the end how many lines were run, how many redisplays shown, how many characters `main` has and where the selected
-/// window starts. A line of only spaces, tabs and bytes 13 is passed over. The first line that is too long, one too many, no op, or
-/// refused gives BadScript.
+/// script that is made from N take their place, and `script` is not read; then the report has no line of a redisplay but of one
+/// without memory, and at the end says how many lines were run, how many redisplays shown, how many characters `main` has and where
+/// the selected window starts. A line of only spaces, tabs and bytes 13 is passed over. The first line that is too long, one too
+/// many, no op, or refused gives BadScript.
 ///
-/// A redisplay sends its bytes to `screen` before the report is told of it. One that finds no memory is reported, and the run goes
+/// A redisplay sends its bytes to `screen` before the report gets its line. One that finds no memory is reported, and the run goes
 /// on; want of memory anywhere else gives NoMemory, and nothing of the op in hand stands. ReadFault comes only where the count of
 /// `script` rose, or that of a file that the words name, and WriteFault only where that of `screen` or `report` did. After a fault
 /// of the screen the report still gets its last line, and after one of the report nothing more is written. No line of the report
 /// takes memory.
 ///
-/// `ran` says of the lines run and the bytes taken when each status comes, what was written then, that behind each redisplay that
-/// was shown the written terminal shows what the rules give from nothing, that behind each that was shown or stopped the current
-/// screen is what the terminal shows, and that the steps rise by no more than the redisplays that were begun may place. It says too
-/// that under valid words, over good files that are told, a script without a bad line ends Done or NoMemory, where no count rose. A
-/// script has no bad line if each op is accepted for some choice of redisplays without memory that is the run's own as far as it went:
-/// want of memory at a redisplay can make a later hit be refused. It is to be told unless it is generated. `free` says that want of
-/// memory is no kind of a bad data file, nor of a line that is no op, nor of an op that is refused.
+/// `ran` says, by the lines that were run and the bytes that were taken from `script`, when each status comes, what was written then,
+/// that behind each redisplay that was shown the written terminal shows what the rules give from nothing, that behind each that was
+/// shown or stopped the current screen is what the terminal shows, and that the steps rise by no more than the redisplays that were
+/// begun may place. It says too that under valid words, over good files whose bytes are known, a script without a bad line ends Done
+/// or NoMemory, where no count rose. A script has no bad line if each op is accepted for some choice of redisplays without memory that
+/// is the run's own as far as it went: want of memory at a redisplay can make a later hit be refused. Its bytes are to be known too,
+/// unless it is generated. `free` says that want of memory is no kind of a bad data file, nor of a line that is no op, nor of an op
+/// that is refused.
 ///
 /// Each file and each line is read once.
 pub fn play<S: Source, F: Files, K: Sink, R: Sink, L: Ledger>(
@@ -147,7 +148,7 @@ fn begun_with<F: Files>(alloc: Global, words: &Words, files: &mut F) -> Result<P
     }
 }
 
-/// The status that tells of a fault of the data files.
+/// The status that a fault of the data files gives.
 fn status_of(fault: DataFault) -> Status
     ensures { result ≡ status_of fault }
 {
@@ -168,7 +169,7 @@ fn new_run(alloc: Global, files: DataFiles, words: &Words) -> Result<Playing, St
     }
 }
 
-/// Runs the lines of the script that is read, or of a generated one in its place, and tells the last line.
+/// Runs the lines of the script that is read, or of a generated one in its place, and writes the last line.
 fn run_whole<S: Source, K: Sink, R: Sink, L: Ledger>(
     alloc: Global,
     run: &mut Playing,
@@ -228,7 +229,7 @@ fn finish<R: Sink>(report: &mut R, ending: Ending) -> Status
     }
 }
 
-/// Tells the last line, and answers its status, or the write fault where the report fails.
+/// Writes the last line, and answers its status, or the write fault where the report fails.
 pub fn tell_status<R: Sink>(report: &mut R, status: Status, lines: u32) -> Status
     ensures tells { Tells status (last_line status lines) result (sunk_by R.written R.faults report.old report.new) }
     ensures report { R.faults report.old ≤ R.faults report.new }

@@ -1,6 +1,7 @@
 //! What the text properties and the overlays of a buffer come to at a position: the effective value of a property, the merged
 //! face, whether the position is hidden, the strings of overlays there, and how far nothing changes. The rules are those of the
-//! Emacs Lisp Reference Manual (Text Properties, Overlay Properties, Invisible Text).
+//! Emacs Lisp Reference Manual (Text Properties, Overlay Properties, Invisible Text). In docs/RULES.md they are "Effective
+//! properties" and "What is seen, and what edits leave".
 #![tactic(auto)]
 
 mod appearance;

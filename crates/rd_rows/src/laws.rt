@@ -17,28 +17,28 @@ use rd_base::limits::FRAME_COLUMNS;
 
 /// The rows of a line whose last element and no other is the line end: there is at least one, and the last and no other ends
 /// the block; each element is placed once, and each element of a prefix once in each of its rows; and each item begins once, in
-/// the order of the first elements. It has no body: what it promises is proved of the definitions.
+/// the order of the first elements. The call does nothing.
 pub fn rows_of_every_line()
     ensures last { (c : Cutting) (es : List Element) → HasLeads c → IsTrue (ends_once es) → IsTrue (ends_last (seen_rows (rows_of c es))) }
     ensures placed { (c : Cutting) (es : List Element) → IsTrue (ends_once es) → IsPlacedOnce c es (rows_of c es) }
     ensures begun { (c : Cutting) (es : List Element) → HasLeads c → IsTrue (ends_once es) → map range_of (begins_of (seen_rows (rows_of c es))) ≡ ranges_of None es }
 {}
 
-/// The same of the last row and of where items begin, for all prefixes that end no line and begin no item of it, sound or not. It has
-/// no body: what it promises is proved of the definitions.
+/// The same of the last row and of where items begin, for all prefixes that end no line and begin no item of it, sound or not. The
+/// call does nothing.
 pub fn rows_behind_quiet_prefixes()
     ensures last { (c : Cutting) (es : List Element) → HasQuietLeads c → IsTrue (ends_once es) → IsTrue (ends_last (seen_rows (rows_of c es))) }
     ensures begun { (c : Cutting) (es : List Element) → HasQuietLeads c → IsTrue (ends_once es) → map range_of (begins_of (seen_rows (rows_of c es))) ≡ ranges_of None es }
 {}
 
-/// Prefixes that were cut to half of a window's columns can stand before a line's elements. It has no body.
+/// Prefixes that were cut to half of a window's columns can stand before a line's elements. The call does nothing.
 pub fn prefixes_stand_before_lines()
     ensures { (shape : ShapeValues) (base : ℕ) (first wrap : List Element) (truncation continuation : Glyph)
         → shape.width ≤ FRAME_COLUMNS → IsPrefix first → IsPrefix wrap → HasLeads (cutting_of shape base first wrap truncation continuation) }
 {}
 
 /// In the rows of sound and measured elements, with measured prefixes and marks of one column, each glyph stands whole, and each
-/// row has the window's columns, whichever edge it is read from. It has no body.
+/// row has the window's columns, whichever edge it is read from. The call does nothing.
 pub fn rows_are_whole()
     ensures cutting { (shape : ShapeValues) (base : ℕ) (first wrap : List Element) (truncation continuation : Glyph)
         → 2 ≤ shape.width → shape.width ≤ FRAME_COLUMNS → IsMeasuredPrefix first → IsMeasuredPrefix wrap → IsMark truncation → IsMark continuation
@@ -47,7 +47,7 @@ pub fn rows_are_whole()
 {}
 
 /// In the rows of elements whose faces have their colours in range, behind prefixes of such elements, each cell has its colours in
-/// range: marks, and what no element fills, are plain. It has no body.
+/// range: marks, and what no element fills, are plain. The call does nothing.
 pub fn rows_are_coloured()
     ensures { (shape : ShapeValues) (base : ℕ) (first wrap : List Element) (truncation continuation : Glyph) (es : List Element)
         → All (λ e. HasColours e.face) first → All (λ e. HasColours e.face) wrap → All (λ e. HasColours e.face) es

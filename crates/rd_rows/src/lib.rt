@@ -1,8 +1,8 @@
 //! The rows into which a line of elements is cut: Emacs's screen lines.
 //!
-//! A `Row` is what a glyph row (`struct glyph_row`) is in Emacs: its cells by column, each blank, the first column of a glyph, or a later one
-//! of it. It also tells which items begin in it and where (`Begin`), from which edge it is read (Emacs: `reversed_p`), whether the line
-//! ends in it, and how often it was copied.
+//! A `Row` is what a glyph row (`struct glyph_row`) is in Emacs: its cells by column, each blank, the first column of a glyph, or a later
+//! one of it. It also has the items that begin in it and where (`Begin`), from which edge it is read (Emacs: `reversed_p`), whether the
+//! line ends in it, and how often it was copied.
 //!
 //! What goes in: a `Shape`, which is a window's width, what becomes of long lines (truncate, continue or word) and by how many columns it
 //! is scrolled sideways; the line's base level; the elements of two prefixes, one for the first row and one for the rows that go on with

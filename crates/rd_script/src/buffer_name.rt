@@ -1,4 +1,4 @@
-//! The name by which a buffer is told.
+//! The name of a buffer, as ops have it.
 ghost use Rattle.std.specs.Prelude.{◌≡◌, IfOk, string_bytes};
 
 use rd_base::Memory;

@@ -1,4 +1,6 @@
 //! The ops of a script, one line an op in JSON. The dump of what is shown is named here again.
+//!
+//! The rules are in docs/RULES.md, "Scripts".
 #![tactic(auto)]
 
 mod buffer_name;

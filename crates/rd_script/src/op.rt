@@ -6,8 +6,8 @@ use rd_base::{Ch, Face, ListOf, Wrap};
 use rd_overlays::Kind;
 use rd_tree::Side;
 
-/// One op. Buffers are told by name; windows, overlays and objects by number; positions count from 1, and `to` is one past the last
-/// position.
+/// One op. A buffer is given by its name, a window, an overlay or an object by its number; positions count from 1, and `to` is one
+/// past the last position.
 #[derive(Drop)]
 pub enum Op {
     /// Resizes the frame.

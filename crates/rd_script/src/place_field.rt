@@ -11,7 +11,7 @@ use crate::form::Within;
 use crate::text_form::NameOfBuffer;
 use std::alloc::Global;
 
-/// The buffer that an op tells by name.
+/// The name of the buffer that an op is about.
 pub fn buffer(alloc: Global, members: &Members) -> Result<BufferName, OpFault>
     ensures { IsRead result (buffer_field.taken (members_view members.now.entries)) }
 {

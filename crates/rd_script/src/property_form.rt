@@ -11,7 +11,7 @@ use rd_overlays::Kind;
 use serde_json::Value;
 use std::alloc::Global;
 
-/// A property of a kind: an atom, or a number of 64 bits by which an object is told.
+/// A property of a kind: an atom, or a number of 64 bits by which an object is named.
 #[derive(Drop)]
 pub struct Property {
     pub kind: Kind,

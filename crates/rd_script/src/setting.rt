@@ -2,7 +2,7 @@
 use crate::word::{Named, beside};
 use rd_base::{Direction, Invisible};
 
-/// A setting and its new value. Tables and strings are told by number.
+/// A setting and its new value. Tables and strings are named by number.
 #[derive(Drop)]
 pub enum Setting {
     /// The columns between tab stops, 1 to 32.

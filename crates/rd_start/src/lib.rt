@@ -15,7 +15,8 @@
 //! 3. `choice::following`: else the old start stays if it suits (`view`): point's row is in view and as far from its first and last row as the
 //!    margin asks, which is at most a quarter of the height. No margin is asked where the text begins or ends.
 //! 4. `choice::moving`: else the nearest row that suits is the start, at most `conservatively` rows away; of two the lesser.
-//! 5. `choice::centred`: else point's row comes to the middle of the window.
+//! 5. `choice::centred`: else point's row comes to the middle of the window. Where the strip does not have that row, a
+//!    second strip begins at point's block; so a block is laid out at most twice.
 //!
 //! In Emacs this is `redisplay_window`: step 2 is its branch for `force_start`, step 3 is `try_cursor_movement` and `try_window`, step 4 is
 //! `try_scrolling`, and step 5 is recentring. Emacs measures in pixels and its start is a position; here both are in rows. Where point is not

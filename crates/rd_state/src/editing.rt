@@ -1,4 +1,5 @@
-//! The ops on the texts of buffers by name, as methods of `StateParts`. Each moves the windows' points with the text, and tells its effect.
+//! The ops on the texts of buffers by name, as methods of `StateParts`. Each moves the windows' points with the text, and answers its
+//! effect.
 ghost use Rattle.std.specs.Prelude.{◌≡◌, ◌≢◌, ◌+◌, ◌<◌, IfOk, IfErr, OnErr};
 ghost use Rattle.rd_base.specs.declared.limits.TheConstants.{TEXT_CHARACTERS};
 ghost use Rattle.rd_script.specs.Forms.{IsInForm};

@@ -43,9 +43,9 @@ pub fn settling_keeps_states()
     ensures { (s : StateValue) (number : ℕ) (anchor : Anchor) (point : ℕ) → IsValid s → ((w : WindowState) (b : BufferValue) → window_of number s.windows ≡ Some w → slice_get s.buffers w.buffer ≡ Some b → IsAccessible b.content.text anchor.pos × IsAccessible b.content.text point) → IsValid (settled s number anchor point) }
 {}
 
-/// What is seen of a buffer before and behind an op is the same outside the change that the op's effect tells, and so are its settings but
+/// What is seen of a buffer before and behind an op is the same outside the change that the op's effect names, and so are its settings but
 /// for `modified` and `read_only`; objects were only made, and no buffer was taken away. A window that lives before and behind the op
-/// shows the same buffer, unless the effect tells it. The call does nothing.
+/// shows the same buffer, unless the effect names it. The call does nothing.
 pub fn ops_leave_the_rest()
     ensures contents { (s t : StateValue) (op : Op) (k : ℕ) (b c : BufferValue) → IsValid s → IsInForm op → step s op ≡ Ok t → slice_get s.buffers k ≡ Some b → slice_get t.buffers k ≡ Some c → Leaves (effect_of s op) k b.content s.objects c.content t.objects }
     ensures objects { (s t : StateValue) (op : Op) → IsValid s → IsInForm op → step s op ≡ Ok t → Extends s.objects t.objects }

@@ -1,5 +1,7 @@
 //! The state of a session: buffers, the objects that they name, the windows that show them, and the frame's size; and what one op
 //! makes of it, or why it is refused; with laws of every op: states stay valid, and what an op leaves as it was.
+//!
+//! The rules are in docs/RULES.md, "Scripts" and "State".
 #![tactic(auto)]
 
 mod adding;

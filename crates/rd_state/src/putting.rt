@@ -1,4 +1,5 @@
-//! The ops on the properties, the overlays and the settings of buffers by name, as methods of `StateParts`. Each tells its effect.
+//! The ops on the properties, the overlays and the settings of buffers by name, as methods of `StateParts`. Each answers its
+//! effect.
 ghost use Rattle.std.specs.Prelude.{◌≡◌, ◌≢◌, IsSome, Some};
 ghost use Rattle.rd_script.specs.Forms.{IsInForm};
 ghost use Rattle.rd_script.specs.declared.op.Op.TheVariants.{Put, Overlay as MakeOverlay, OverlayMove, OverlayDrop, OverlayPut, Setting as SetSetting, MarginPut};

@@ -1,4 +1,4 @@
-//! `Refused`, why an op is refused, and how the refusals of the layers below are told.
+//! `Refused`, why an op is refused, and what the refusals of the layers below become here.
 use rd_base::Memory;
 use rd_modeline::FormatFault;
 use rd_objects::ObjectFault;

@@ -76,15 +76,15 @@ impl State {
         })
     }
 
-    /// Applies one op other than `redisplay`, `go` and `hit`, which the session has calls of its own for, and tells what the op can have
-    /// changed of what is shown. A refusal is the first that the op meets, and leaves the state as it was: NoBuffer, NoWindow, NoOverlay
-    /// and NoObject where the op names what is not there, OutOfRange for a position or a range that is not where the op asks it to be,
-    /// TextTooLarge, ObjectTooLong, NameTaken, LastWindow, TooSmall where a window would have fewer columns or rows than it needs,
-    /// BadFormat with the place of the first bad code, or that there are too many buffers, windows, overlays or objects. Memory comes
-    /// only from an op that puts in a text, changes a text property, makes a buffer, an overlay, an object or a window, gives an overlay
-    /// a margin string, or moves an overlay, which takes some now and then; every other op takes none. A buffer is found by one look-up
-    /// of its name, and an edit moves the rest of the text once, and goes over the values of each text property, over the overlays and
-    /// over the windows.
+    /// Applies one op other than `redisplay`, `go` and `hit`, which the session has calls of its own for, and answers what the op can
+    /// have changed of what is shown. A refusal is the first that the op meets, and leaves the state as it was: NoBuffer, NoWindow,
+    /// NoOverlay and NoObject where the op names what is not there, OutOfRange for a position or a range that is not where the op asks
+    /// it to be, TextTooLarge, ObjectTooLong, NameTaken, LastWindow, TooSmall where a window would have fewer columns or rows than it
+    /// needs, BadFormat with the place of the first bad code, or that there are too many buffers, windows, overlays or objects. Memory
+    /// comes only from an op that puts in a text, changes a text property, makes a buffer, an overlay, an object or a window, gives an
+    /// overlay a margin string, or moves an overlay, which takes some now and then; every other op takes none. A buffer is found by one
+    /// look-up of its name, and an edit moves the rest of the text once, and goes over the values of each text property, over the
+    /// overlays and over the windows.
     pub fn apply(&mut self, op: Op) -> Result<Effect, Refused>
         requires form { IsInForm op }
         requires applied { IsApplied op }

@@ -1,4 +1,7 @@
 //! A screen of cells, and the terminal that a program writes to: what it shows, by the bytes that it was fed.
+//!
+//! It is a small part of ECMA-48 and of the VT100, written down as a function of the bytes. The rules are in docs/RULES.md, "The
+//! terminal".
 #![tactic(auto)]
 
 mod cells;

@@ -43,7 +43,8 @@ impl Screen {
         })
     }
 
-    /// How many columns each row has. This also tells what a screen may be.
+    /// How many columns each row has. Its clause `screen` says which screens there are: at least one row and one
+    /// column, at most 200 and 400, and the cursor on them.
     pub fn width(&self) -> u32
         ensures value { result ≡ width_of self.now.rows }
         ensures screen { IsScreen self.now }

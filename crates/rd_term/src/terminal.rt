@@ -115,7 +115,8 @@ impl Terminal {
         self.confused
     }
 
-    /// How many columns each row has. This also tells what a terminal may be.
+    /// How many columns each row has. Its clause `terminal` says which terminals there are: at least one row and one
+    /// column, at most 200 and 400, and a known cursor on them.
     pub fn width(&self) -> u32
         ensures value { result ≡ width_of self.now.rows }
         ensures terminal { IsTerminal self.now.rows self.now.cursor }

@@ -3,6 +3,9 @@
 //!
 //! The characters stand as codes in one array with a gap, which moves to where the text is edited. For each stretch of 1,024
 //! places the newlines are counted, and it is kept how its first and last lines go on, so that searches pass over stretches.
+//!
+//! In Emacs this is the text of a buffer with its gap (`struct buffer_text`); the accessible range is BEGV to ZV. The rules are
+//! in docs/RULES.md, "State"; "Base level" says what a paragraph is.
 #![tactic(auto)]
 
 mod buffer;

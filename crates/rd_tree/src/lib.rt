@@ -1,4 +1,6 @@
 //! The windows of a frame, and the rectangles in which they stand.
+//!
+//! In Emacs these are the windows of window.c (`struct window`). The rules are in docs/RULES.md, "Windows".
 #![tactic(auto)]
 
 mod examples;

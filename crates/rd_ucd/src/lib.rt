@@ -1,5 +1,7 @@
 //! The Unicode data files that the redisplay reads: bidirectional classes in the form of `UnicodeData.txt`, mirrored
 //! characters in the form of `BidiMirroring.txt`, and brackets in the form of `BidiBrackets.txt`.
+//!
+//! The rules are in docs/RULES.md, "Data files".
 #![tactic(auto)]
 
 mod brackets;

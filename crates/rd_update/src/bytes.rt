@@ -54,7 +54,7 @@ pub(crate) fn push_row(
     Ok(())
 }
 
-/// Adds the text of cells, by a pen that is plain, and tells the face of the pen behind it.
+/// Adds the text of cells, by a pen that is plain, and answers the face of the pen behind it.
 fn push_text(bytes: &mut ListOf<u8>, cells: &[Cell]) -> Result<Face, Memory>
     ensures bytes { OnOk result (bytes.new ≡ bytes.old ++ text_by plain cells.now) }
     ensures pen { IfOk result (λ pen. pen ≡ pen_behind plain cells.now) }
@@ -66,7 +66,7 @@ fn push_text(bytes: &mut ListOf<u8>, cells: &[Cell]) -> Result<Face, Memory>
     Ok(pen)
 }
 
-/// Adds the text of a cell, by a pen of a face, and tells the face of the pen behind it.
+/// Adds the text of a cell, by a pen of a face, and answers the face of the pen behind it.
 fn push_cell(bytes: &mut ListOf<u8>, pen: Face, cell: &Cell) -> Result<Face, Memory>
     ensures bytes { OnOk result (bytes.new ≡ bytes.old ++ text_of_cell pen cell.now) }
     ensures pen { IfOk result (λ face. face ≡ face_after pen cell.now) }

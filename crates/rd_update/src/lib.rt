@@ -15,13 +15,13 @@
 //! 4. `bytes`: the cursor goes to the interval's first column; then come its cells, each behind its face's sequence where the face changes. Where
 //!    the target is blank and plain from some column to the row's end, the rest of the row is erased in one.
 //! 5. `plan`: behind the last row the cursor goes to the target's place.
-//! 6. `Plan::send`: under a limit the first rows go out and the cursor's move does not. The new current screen then has the target's cells in
-//!    these rows alone. All bytes were prepared before, so sending takes no memory.
+//! 6. `Plan::send`: where more rows differ than the limit allows, the first of them go out and the cursor's move does not. The new current
+//!    screen then has the target's cells in these rows alone. All bytes were prepared before, so sending takes no memory.
 //!
 //! In Emacs `update_frame_line` compares a row of both matrices and skips what is alike at its beginning and its end; `write_glyphs`,
-//! `clear_end_of_line` and `cursor_to` send what is left, in the terminal's own sequences, and may insert and delete characters
-//! within the row. Here one set of sequences of ECMA-48 is used and nothing is moved within a row. Emacs stops where input waits, here a
-//! redisplay is told after how many rows it stops. That Emacs first moves rows which are only elsewhere (`scrolling`) is rd_lineshift here.
+//! `clear_end_of_line` and `cursor_to` send what is left, in the terminal's own sequences, and may insert and delete characters within the
+//! row. Here one set of sequences of ECMA-48 is used and nothing is moved within a row. Emacs stops where input waits, here a redisplay is
+//! given the number of rows after which it stops. That Emacs first moves rows which are only elsewhere (`scrolling`) is rd_lineshift here.
 //!
 //! The rules are in docs/RULES.md: "Update bytes", and "The terminal" for what the bytes do. `update_law` says that they lead to the target.
 #![tactic(auto)]

@@ -128,7 +128,7 @@ impl Plan {
         self.parts.at(rows as usize).row
     }
 
-    /// How many bytes are sent under a limit of rows, and what is told then.
+    /// How many bytes are sent under a limit of rows, and what `send` answers then.
     fn front(&self, rows_at_most: Option<u32>) -> (usize, Sent)
         ensures value { result ≡ front_within self.now rows_at_most }
         ensures within { result.0 ≤ length self.now.bytes }
@@ -252,7 +252,7 @@ fn push_parts(
     Ok(())
 }
 
-/// Sends these bytes, and then tells this.
+/// Sends these bytes, and answers this where all were written.
 fn send_front<K: Sink>(sink: &mut K, bytes: &[u8], sent: Sent) -> Result<Sent, WriteFault>
     ensures bytes { Writes (K.written sink.old) (K.written sink.new) bytes.now result }
     ensures sent { IfOk result (λ told. told ≡ sent) }

@@ -13,7 +13,7 @@ use rd_state::Refused;
 impl Views {
     /// Applies one op other than redisplay: `go` and `hit` move a window's point by what is seen, and every other op is that of the
     /// state. What an accepted op can have changed is joined to what changed since the last layouts. A refusal is the first that the op
-    /// meets, as `State::apply` tells it; NotShown comes from `hit` alone, where what the window shows may have changed since its last
+    /// meets, as for `State::apply`; NotShown comes from `hit` alone, where what the window shows may have changed since its last
     /// layout. It leaves all as it was, and so does Memory, which comes only from `go` and from the ops of the state that take memory.
     pub fn apply(&mut self, op: Op) -> Result<(), Refused>
         requires form { IsInForm op }

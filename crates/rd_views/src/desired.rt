@@ -1,4 +1,4 @@
-//! `Desired`, what laying out all windows gives before anything of it is kept: `lay_out` makes it, `shown` tells what the windows then
+//! `Desired`, what laying out all windows gives before anything of it is kept: `lay_out` makes it, `shown` says what the windows then
 //! show.
 ghost use Rattle.std.specs.Prelude.{◌≡◌, ℕ, ◌+◌, ◌≤◌, ◌<◌, ◌++◌, ◌∷◌, [], length, slice_get, IfOk, OnOk, Some, unwrap_or};
 ghost use Rattle.rd_layout.specs.Redisplays.{allowed};

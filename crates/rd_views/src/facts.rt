@@ -1,4 +1,4 @@
-//! What a dump tells of the windows.
+//! What a dump says of the windows.
 ghost use Rattle.std.specs.Prelude.{◌≡◌, ◌<◌, IsSome, option_map, slice_get};
 ghost use Rattle.rd_base.specs.declared.limits.TheConstants.{WINDOWS};
 ghost use Rattle.rd_layout.specs.Facts.{cursor_since, facts_of};
@@ -11,7 +11,7 @@ use rd_state::windows_are_leaves;
 use rd_window::Layout;
 
 impl Views {
-    /// What a dump tells of the window at a place in leaf order, counted from 0: its place on the frame, its start, its point, and where
+    /// What a dump says of the window at a place in leaf order, counted from 0: its place on the frame, its start, its point, and where
     /// point's item begins among the rows of its last layout. None exactly past the last window, of which there are at most
     /// 64. It takes no memory.
     pub fn facts(&self, i: u32) -> Option<WindowFacts>

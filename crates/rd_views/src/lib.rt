@@ -4,11 +4,11 @@
 //!
 //! What goes in: ops (`Views::apply`), and the wish to lay out all windows (`Views::lay_out`). What comes out: what an op refuses; and a
 //! `Desired`, which has for each window the start and the point that were chosen, and its new layout if the last one does not stay.
-//! `shown` says what the windows then show, for the painting, `adopt` keeps it, and `facts` tells a dump of them.
+//! `shown` says what the windows then show, for the painting, `adopt` keeps it, and `facts` has what a dump says of them.
 //!
 //! An op:
 //!
-//! 1. `applying`: the state makes the op or refuses it, and tells its effect.
+//! 1. `applying`: the state makes the op or refuses it, and answers its effect.
 //! 2. `noting`: the effect is joined to what changed since the last layout of each window that shows the buffer. Emacs notes this for each buffer
 //!    (`BEG_UNCHANGED`, `END_UNCHANGED`), here it is noted for each window.
 //! 3. `pointing`: `go` is Emacs's `move-point-visually`, by the visual order of the text; `hit` asks the last layout which position a cell

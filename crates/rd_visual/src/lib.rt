@@ -1,4 +1,7 @@
 //! Which position a cell of a window shows, and in which cell a position is shown; and motion from item to item in visual order.
+//!
+//! In Emacs these are `buffer_posn_from_coords` and `pos_visible_p` (xdisp.c), and `move-point-visually`. The rules are in
+//! docs/RULES.md, "Hits and motion".
 #![tactic(auto)]
 
 mod examples;

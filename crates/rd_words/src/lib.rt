@@ -1,4 +1,6 @@
 //! The words of the command line.
+//!
+//! The rules are in docs/RULES.md, "The program".
 #![tactic(auto)]
 
 mod examples;
