@@ -11,8 +11,8 @@ use Rattle.rd_ucd.specs.declared.fault.UcdFault.TheVariants as ucd
 use Rattle.rd_ucd.specs.declared.spans.Span.{Span}
 use Rattle.rd_ucd.specs.declared.spans.Bracket.{Bracket}
 use Rattle.rd_ucd.specs.declared.listing.Codes.{Codes}
-use Rattle.rd_ucd.specs.declared.entries.Mark.{Mark}
-use Rattle.rd_ucd.specs.declared.entries.Mark.TheVariants.{Alone, First, Last}
+use Rattle.rd_ucd.specs.declared.entries.EntryKind.{EntryKind}
+use Rattle.rd_ucd.specs.declared.entries.EntryKind.TheVariants.{Alone, First, Last}
 use Rattle.rd_ucd.specs.declared.entries.DataEntry.{DataEntry}
 use Rattle.rd_ucd.specs.declared.entries.Opened.{Opened}
 use Rattle.rd_ucd.specs.Codes.{code_of}
@@ -20,7 +20,7 @@ use Rattle.rd_ucd.specs.Pieces.{chomped}
 use Rattle.rd_ucd.specs.Names.{named}
 use Rattle.rd_ucd.specs.Results.{Answers, behind}
 use Rattle.rd_ucd.specs.Lines.{entries_in, fields_of, numbered}
-use Rattle.rd_ucd.specs.ClassFile.{classes_of, closes, coded, ended, entry_of, is_empty_line, mark_of, opened_by, span_by, spans_from, unless}
+use Rattle.rd_ucd.specs.ClassFile.{classes_of, closes, coded, ended, entry_of, is_empty_line, kind_of_name, opened_by, span_by, spans_from, unless}
 use Rattle.rd_ucd.specs.ListFile.{ascending_from, both, codes_of, counting, is_blank_line, listed_in, trimmed_field}
 use Rattle.rd_ucd.specs.MirrorFile.{mirrors_of, pair_by, pair_of}
 use Rattle.rd_ucd.specs.BracketFile.{bracket_by, bracket_named, bracket_of, bracket_with, brackets_of}
@@ -68,10 +68,10 @@ module _ {T : Type 0} (most : ℕ) where
 
 -- ---- class files
 
-coded-within : (most n : ℕ) (code : Option ℕ) (mark : Mark) (class : Option Class) → n ≤ most → IsWithin most (coded n code mark class)
-coded-within most n None mark class h = h
-coded-within most n (Some code) mark None h = h
-coded-within most n (Some code) mark (Some class) h = tt
+coded-within : (most n : ℕ) (code : Option ℕ) (kind : EntryKind) (class : Option Class) → n ≤ most → IsWithin most (coded n code kind class)
+coded-within most n None kind class h = h
+coded-within most n (Some code) kind None h = h
+coded-within most n (Some code) kind (Some class) h = tt
 
 entry-within : (most n : ℕ) (line : List ℕ) → n ≤ most → IsWithin most (entry_of n line)
 entry-within most n line h = go (nat_lt 4 (length (fields_of (chomped line))))
@@ -80,15 +80,15 @@ entry-within most n line h = go (nat_lt 4 (length (fields_of (chomped line))))
     fields = fields_of (chomped line)
 
     go : (b : Bool)
-        → IsWithin most (if b then coded n (code_of (slice_index_or fields 0 [])) (mark_of (slice_index_or fields 1 [])) (named (slice_index_or fields 4 [])) else Err (ucd.BadLine n))
-    go true = coded-within most n (code_of (slice_index_or fields 0 [])) (mark_of (slice_index_or fields 1 [])) (named (slice_index_or fields 4 [])) h
+        → IsWithin most (if b then coded n (code_of (slice_index_or fields 0 [])) (kind_of_name (slice_index_or fields 1 [])) (named (slice_index_or fields 4 [])) else Err (ucd.BadLine n))
+    go true = coded-within most n (code_of (slice_index_or fields 0 [])) (kind_of_name (slice_index_or fields 1 [])) (named (slice_index_or fields 4 [])) h
     go false = h
 
 abbrev IsOpenWithin : ℕ → Option Opened → Type 0
 IsOpenWithin most None = Unit {0}
 IsOpenWithin most (Some o) = o.number ≤ most
 
-opened-within : (most n : ℕ) (e : DataEntry) (mark : Mark) → n ≤ most → IsOpenWithin most (opened_by mark n e)
+opened-within : (most n : ℕ) (e : DataEntry) (kind : EntryKind) → n ≤ most → IsOpenWithin most (opened_by kind n e)
 opened-within most n e Alone h = tt
 opened-within most n e First h = h
 opened-within most n e Last h = tt
@@ -108,9 +108,9 @@ spans-within : (most least : ℕ) (opened : Option Opened) (entries : List (ℕ 
 spans-within most least opened [] h o = ended-within most opened o
 spans-within most least opened ((n, Err fault) ∷ entries) h o = h.1
 spans-within most least opened ((n, Ok e) ∷ entries) h o =
-    unless-within most n (nat_lt e.code least) (closes opened e) (behind (option_to_list (span_by e.mark opened e)) (spans_from (suc e.code) (opened_by e.mark n e) entries)) h.0
-    (behind-within most (option_to_list (span_by e.mark opened e)) (spans_from (suc e.code) (opened_by e.mark n e) entries)
-    (spans-within most (suc e.code) (opened_by e.mark n e) entries h.2 (opened-within most n e e.mark h.0)))
+    unless-within most n (nat_lt e.code least) (closes opened e) (behind (option_to_list (span_by e.kind opened e)) (spans_from (suc e.code) (opened_by e.kind n e) entries)) h.0
+    (behind-within most (option_to_list (span_by e.kind opened e)) (spans_from (suc e.code) (opened_by e.kind n e) entries)
+    (spans-within most (suc e.code) (opened_by e.kind n e) entries h.2 (opened-within most n e e.kind h.0)))
 
 -- ---- mirror and bracket files
 

@@ -9,7 +9,7 @@ use Rattle.rd_files.specs.declared.fault.DataFile.TheVariants.{BracketFile, Clas
 use Rattle.rd_files.specs.declared.fault.DataKind.TheVariants.{Bad, TooLarge}
 use Rattle.rd_base.specs.declared.class.Class.{Class}
 use Rattle.rd_ucd.specs.BracketFile.{bracket_by, bracket_of, bracket_with, brackets_of}
-use Rattle.rd_ucd.specs.ClassFile.{classes_of, closes, coded, ended, entry_of, is_empty_line, mark_of, opened_by, span_by, spans_from, unless}
+use Rattle.rd_ucd.specs.ClassFile.{classes_of, closes, coded, ended, entry_of, is_empty_line, kind_of_name, opened_by, span_by, spans_from, unless}
 use Rattle.rd_ucd.specs.Codes.{code_of}
 use Rattle.rd_ucd.specs.Lines.{entries_in, fields_of, lines_of}
 use Rattle.rd_ucd.specs.ListFile.{ascending_from, both, codes_of, counting, is_blank_line, listed_in}
@@ -54,7 +54,7 @@ entries-free passed_over entry ((n, line) ∷ lines) h =
 
 -- ---- the class file
 
-coded-free : (n : ℕ) (code : Option ℕ) (name : List ℕ) (class : Option Class) → ReadsFree (coded n code (mark_of name) class)
+coded-free : (n : ℕ) (code : Option ℕ) (name : List ℕ) (class : Option Class) → ReadsFree (coded n code (kind_of_name name) class)
 coded-free n None name class = λ e. cc
 coded-free n (Some code) name None = λ e. cc
 coded-free n (Some code) name (Some class) = λ e. cc
@@ -76,9 +76,9 @@ spans-free : (least : ℕ) (opened : _) (entries : _) → AreFree entries → Re
 spans-free least opened [] h = ended-free opened
 spans-free least opened ((n, Err fault) ∷ entries) h = λ e. h.0 (cc)
 spans-free least opened ((n, Ok e) ∷ entries) h =
-    let front = option_to_list (span_by e.mark opened e) in
-    let rest = spans_from (suc e.code) (opened_by e.mark n e) entries in
-    let free : ReadsFree (behind front rest) = behind-free front rest (spans-free (suc e.code) (opened_by e.mark n e) entries h.1) in
+    let front = option_to_list (span_by e.kind opened e) in
+    let rest = spans_from (suc e.code) (opened_by e.kind n e) entries in
+    let free : ReadsFree (behind front rest) = behind-free front rest (spans-free (suc e.code) (opened_by e.kind n e) entries h.1) in
     unless-if (nat_lt e.code least) (Some (NotAscending n)) (if closes opened e then None else Some (BadRange n)) (behind front rest) (no-free (NotAscending n) (λ x. cc))
     (unless-if (closes opened e) None (Some (BadRange n)) (behind front rest) free (no-free (BadRange n) (λ x. cc)))
 

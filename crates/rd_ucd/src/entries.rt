@@ -1,7 +1,7 @@
 //! The entries of a class file.
 ghost use Rattle.std.specs.Prelude.{◌≡◌, ◌≤◌, IfOk};
 ghost use Rattle.rd_ucd.specs.Lines.{fields_of};
-ghost use Rattle.rd_ucd.specs.ClassFile.{entry_of_fields, mark_of};
+ghost use Rattle.rd_ucd.specs.ClassFile.{entry_of_fields, kind_of_name};
 
 use crate::codes::read_code;
 use crate::fault::UcdFault;
@@ -11,7 +11,7 @@ use rd_base::Class;
 
 /// Whether an entry stands for its own code, or is the first or the last of a range.
 #[derive(Clone, Copy, Debug, PartialEq, Eq)]
-pub enum Mark {
+pub enum EntryKind {
     Alone,
     First,
     Last,
@@ -21,7 +21,7 @@ pub enum Mark {
 #[derive(Clone, Copy, Debug)]
 pub struct DataEntry {
     pub code: u32,
-    pub mark: Mark,
+    pub kind: EntryKind,
     pub class: Class,
 }
 
@@ -55,20 +55,20 @@ pub fn read_entry(line: &[u8], number: u64) -> Result<DataEntry, UcdFault>
     };
     Ok(DataEntry {
         code,
-        mark: mark_in(name),
+        kind: kind_of_name(name),
         class,
     })
 }
 
 /// What the name of an entry says.
-fn mark_in(name: &[u8]) -> Mark
-    ensures { result ≡ mark_of name.now }
+fn kind_of_name(name: &[u8]) -> EntryKind
+    ensures { result ≡ kind_of_name name.now }
 {
     if name.ends_with(b", First>") {
-        Mark::First
+        EntryKind::First
     } else if name.ends_with(b", Last>") {
-        Mark::Last
+        EntryKind::Last
     } else {
-        Mark::Alone
+        EntryKind::Alone
     }
 }

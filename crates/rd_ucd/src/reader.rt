@@ -2,7 +2,7 @@
 ghost use Rattle.std.specs.Prelude.{◌≡◌, ◌++◌, OnOk, OnErr, option_to_list};
 ghost use Rattle.rd_ucd.specs.ClassFile.{fault_of, span_by, opened_by, closes};
 
-use crate::entries::{DataEntry, Mark, Opened, read_entry};
+use crate::entries::{DataEntry, EntryKind, Opened, read_entry};
 use crate::fault::UcdFault;
 use crate::lines::LineReader;
 use crate::names::same_class;
@@ -92,22 +92,22 @@ fn fault(least: u32, opened: Option<Opened>, number: u64, entry: DataEntry) -> O
 fn is_in_place(opened: Option<Opened>, entry: DataEntry) -> bool
     ensures { result ≡ closes opened entry }
 {
-    match (opened, entry.mark) {
-        (Some(first), Mark::Last) => same_class(first.class, entry.class),
+    match (opened, entry.kind) {
+        (Some(first), EntryKind::Last) => same_class(first.class, entry.class),
         (Some(_), _) => false,
-        (None, Mark::Last) => false,
+        (None, EntryKind::Last) => false,
         (None, _) => true,
     }
 }
 
 /// The range that an entry gives.
 fn span(opened: Option<Opened>, entry: DataEntry) -> Option<Span>
-    ensures { result ≡ span_by entry.mark opened entry }
+    ensures { result ≡ span_by entry.kind opened entry }
 {
-    let first = match entry.mark {
-        Mark::Alone => entry.code,
-        Mark::First => return None,
-        Mark::Last => opened?.code,
+    let first = match entry.kind {
+        EntryKind::Alone => entry.code,
+        EntryKind::First => return None,
+        EntryKind::Last => opened?.code,
     };
     Some(Span {
         first,
@@ -118,10 +118,10 @@ fn span(opened: Option<Opened>, entry: DataEntry) -> Option<Span>
 
 /// What an entry leaves to be closed.
 fn opened(number: u64, entry: DataEntry) -> Option<Opened>
-    ensures { result ≡ opened_by entry.mark number entry }
+    ensures { result ≡ opened_by entry.kind number entry }
 {
-    match entry.mark {
-        Mark::First => Some(Opened {
+    match entry.kind {
+        EntryKind::First => Some(Opened {
             number,
             code: entry.code,
             class: entry.class,
