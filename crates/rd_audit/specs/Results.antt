@@ -12,7 +12,7 @@ use Rattle.rd_audit.specs.declared.verdict.Verdict.TheVariants.{BadDump, ReadFau
 use Rattle.rd_audit.specs.declared.dump.Dump.{Dump}
 use Rattle.rd_audit.specs.declared.dump.DumpFault.{DumpFault}
 use Rattle.rd_audit.specs.declared.dump.DumpFault.TheVariants.{Bad, Memory}
-use Rattle.rd_audit.specs.declared.dump.Mark.{Mark}
+use Rattle.rd_audit.specs.declared.dump.LineStart.{LineStart}
 use Rattle.rd_audit.specs.declared.stream.StreamFault.{StreamFault}
 use Rattle.rd_audit.specs.declared.stream.StreamFault.TheVariants.{Failed, TooLong}
 use Rattle.rd_audit.specs.declared.stream.TheConstants.{STREAM_BYTES}
@@ -42,8 +42,8 @@ JudgesBytes NoMemory file bytes left = Unit {0}
 JudgesBytes verdict file bytes left = (dump : Picture) × (dump_in file ≡ Ok dump) × Judges verdict dump bytes left
 
 -- the number of a line of a file, and the lines from it on
-abbrev pub marked : List ℕ → Mark → ℕ × List (List ℕ)
-marked file mark = (mark.number, lines_of (drop mark.from file))
+abbrev pub lines_from : List ℕ → LineStart → ℕ × List (List ℕ)
+lines_from file start = (start.number, lines_of (drop start.from file))
 
 -- the terminal read these bytes, which are all of the stream, or too many, or the stream failed
 abbrev pub Feeds : Result Unit StreamFault → Tty → Tty → List ℕ → Option (List ℕ) → Type 0

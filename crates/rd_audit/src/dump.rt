@@ -4,7 +4,7 @@ ghost use Rattle.std.specs.Option.{option_or};
 ghost use Rattle.rd_base.specs.declared.limits.TheConstants.{FILE_BYTES};
 ghost use Rattle.rd_io.specs.Lines.{lines_of};
 ghost use Rattle.rd_audit.specs.Dumps.{last_group, picture_from, ended_by, dump_in};
-ghost use Rattle.rd_audit.specs.Results.{IsReadAs, IsShape, marked};
+ghost use Rattle.rd_audit.specs.Results.{IsReadAs, IsShape, lines_from};
 ghost use Rattle.rd_audit.specs.Rows.{cursor_place};
 
 use crate::cuts::next_line;
@@ -47,23 +47,23 @@ pub fn read_dump(alloc: Global, file: &[u8]) -> Result<Dump, DumpFault>
     ensures shape { IfOk result (λ dump. IsShape dump.rows × (2 ≤ length dump.rows)) }
 {
     match last_group(file) {
-        Some(mark) => read_group(alloc, mark.number, file.split_at(mark.from).1),
+        Some(start) => read_group(alloc, start.number, file.split_at(start.from).1),
         None => Err(DumpFault::Bad(0)),
     }
 }
 
 /// Where a line begins: its number, from 1, and how many bytes stand before it.
 #[derive(Clone, Copy)]
-pub struct Mark {
+pub struct LineStart {
     number: u32,
     from: usize,
 }
 
 /// Where the last group of row lines begins that the line of a cursor follows.
-fn last_group(file: &[u8]) -> Option<Mark>
+fn last_group(file: &[u8]) -> Option<LineStart>
     requires { length file.now ≤ FILE_BYTES }
-    ensures value { option_map (marked file.now) result ≡ last_group 1 None None (lines_of file.now) }
-    ensures within { IfSome result (λ mark. (mark.from ≤ length file.now) × (mark.number ≤ length file.now + 1)) }
+    ensures value { option_map (lines_from file.now) result ≡ last_group 1 None None (lines_of file.now) }
+    ensures within { IfSome result (λ start. (start.from ≤ length file.now) × (start.number ≤ length file.now + 1)) }
 {
     let mut groups = Groups {
         begun: None,
@@ -72,7 +72,7 @@ fn last_group(file: &[u8]) -> Option<Mark>
     let mut number = 1;
     let mut rest = file;
     while let Some((line, more)) = next_line(rest) {
-        let here = Mark {
+        let here = LineStart {
             number,
             from: file.len() - rest.len(),
         };
@@ -86,8 +86,8 @@ fn last_group(file: &[u8]) -> Option<Mark>
 /// Where the group begins that goes on at a line, and the last whole group before it.
 #[derive(Clone, Copy)]
 struct Groups {
-    begun: Option<Mark>,
-    found: Option<Mark>,
+    begun: Option<LineStart>,
+    found: Option<LineStart>,
 }
 
 impl Groups {
@@ -96,7 +96,7 @@ impl Groups {
     ghost use Rattle.rd_audit.specs.Rows.{is_row, is_cursor};
 
     /// The same behind a line that begins here.
-    fn after(self, here: Mark, line: &[u8]) -> Groups
+    fn after(self, here: LineStart, line: &[u8]) -> Groups
         ensures begun { result.begun ≡ (if is_row line.now then option_or self.begun (Some here) else None) }
         ensures found { result.found ≡ (if is_row line.now then self.found else if is_cursor line.now then option_or self.begun self.found else self.found) }
     {
@@ -119,12 +119,12 @@ impl Groups {
     }
 }
 
-/// A mark, or another where there is none.
-fn or_else(mark: Option<Mark>, other: Option<Mark>) -> Option<Mark>
-    ensures { result ≡ option_or mark other }
+/// The start of a line, or another where there is none.
+fn or_else(start: Option<LineStart>, other: Option<LineStart>) -> Option<LineStart>
+    ensures { result ≡ option_or start other }
 {
-    match mark {
-        Some(mark) => Some(mark),
+    match start {
+        Some(start) => Some(start),
         None => other,
     }
 }
