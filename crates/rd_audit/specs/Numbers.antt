@@ -14,8 +14,8 @@ abbrev pub longer : Option ℕ → Option ℕ → Option ℕ
 longer (Some n) (Some d) = Some (10 * n + d)
 longer n d = None
 
--- The number that bytes say in decimal, without leading zeros. One of more than three digits is told as none: no screen has such a
--- place, and no face such a number.
+-- The number that bytes say in decimal, without leading zeros. One of more than three digits is none: no screen has such a place,
+-- and no face such a number.
 abbrev pub number_of : List ℕ → Option ℕ
 number_of (a ∷ []) = digit a
 number_of (a ∷ b ∷ []) = longer (lead a) (digit b)

@@ -39,7 +39,7 @@ pub record EndsShown (w : World) (inputs : List Input) : Type 0 where
   pub leave : LeaveScreen (run_line (run w before) redisplay) behind
 
 -- A run with dumps, of a script that is read, ended with status 0 and a shown redisplay. The stream is what it sent since the last accepted
--- frame, and the file what its report has, which tells its bytes; neither is longer than the auditor takes.
+-- frame, and the file what its report has, whose bytes are known; neither is longer than the auditor takes.
 pub record IsRecording (e : End) (mode : Mode) (stream file : List ℕ) : Type 0 where
   pub begun : e.mode ≡ Some mode
   pub dumps : mode.dumps ≡ true

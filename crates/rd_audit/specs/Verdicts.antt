@@ -59,7 +59,7 @@ IsAnswer verdict dump t = ⊥
 abbrev pub terminal_after : Picture → List ℕ → Tty
 terminal_after dump bytes = feed_bytes (unknown (width_of dump.rows) (length dump.rows)) bytes
 
--- these are the contents of FILE, where they are told
+-- these are the contents of FILE, where they are known
 abbrev pub IsFile : Option (List ℕ) → List ℕ → Type 0
 IsFile told file = (length file ≤ FILE_BYTES) × IfSome told (λ bytes. file ≡ bytes)
 
@@ -90,7 +90,7 @@ JudgesFile ReadFault told bytes left = Unit {0}
 JudgesFile NoMemory told bytes left = Unit {0}
 JudgesFile verdict told bytes left = (dump : Picture) × ((file : List ℕ) × IsFile told file × (dump_in file ≡ Ok dump)) × Judges verdict dump bytes left
 
--- when it comes by the words and by what the files tell
+-- when it comes by the words and by what is known of the files
 abbrev pub Comes : Verdict → List (List ℕ) → (List ℕ → Option (List ℕ)) → List ℕ → Option (List ℕ) → Type 0
 Comes Usage words told bytes left = (length words ≢ 1) × (bytes ≡ [])
 Comes verdict words told bytes left = (name : List ℕ) × (words ≡ name ∷ []) × JudgesFile verdict (told name) bytes left

@@ -62,7 +62,7 @@ whole (Err fault) mirrors brackets = Err fault
 abbrev pub data_of : List ℕ → List ℕ → List ℕ → Result Data BadFile
 data_of classes mirrors brackets = whole (classes_in classes) (mirrors_in mirrors) (brackets_in brackets)
 
--- these are the bytes of a file, where they are told
+-- these are the bytes of a file, where they are known
 abbrev pub AreBytes : List ℕ → Option (List ℕ) → Type 0
 AreBytes bytes told = IfSome told (λ file. bytes ≡ file)
 
@@ -92,7 +92,7 @@ abbrev pub fault_of : DataFile → UcdFault → DataFault
 fault_of file ucd.Memory = Memory
 fault_of file fault = Bad (bad file fault)
 
--- the bytes of the bracket file, where they are told: without one they are those of an empty file
+-- the bytes of the bracket file, where they are known: without one they are those of an empty file
 abbrev pub told_or_empty : (List ℕ → Option (List ℕ)) → Option (List ℕ) → Option (List ℕ)
 told_or_empty told None = Some []
 told_or_empty told (Some name) = told name

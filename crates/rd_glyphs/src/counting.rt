@@ -9,8 +9,8 @@ use crate::shown::{Shown, shown_as};
 use rd_base::{Ch, Glyph};
 use rd_ucd::Classes;
 
-/// How many columns a text takes as a plain line that is not cut, counted up to `most`. It takes no memory.
-/// It costs the text's length, up to `most` columns, times the logarithm of that of the data.
+/// How many columns a text takes as a plain line that is not cut, or `most` where it takes more. It takes no memory. It
+/// costs the text's length, up to `most` columns, times the logarithm of that of the data.
 #[tactic(auto, using(crate::proofs::Holding::read_whole))]
 pub fn plain_columns(text: &[Ch], classes: &Classes, most: u32) -> u32
     ensures { result ≡ min (plain_columns classes.now text.now) most }

@@ -65,7 +65,7 @@ front-grows (Some file) bytes new buffer from n at fetched put front =
     ap (λ l. bytes ++ l) (sym (take-append-drop n rest) ∙ ap (λ l. l ++ drop n rest) (sym added)) ∙ sym (append_assoc bytes (take n buffer) (drop n rest)) ∙ ap (λ l. l ++ drop n rest) (sym put) in
     (drop n rest, front.1 ∙ whole)
 
--- what a fetch from a told file gave
+-- what a fetch from a file of known bytes gave
 pub fetched-told : (E : Type 0) (told : Option (List ℕ)) (from n : ℕ) (buffer : List ℕ) → Fetches {E = E} told from (Ok n) buffer → IfSome told (λ file. take n buffer ≡ take n (drop from file))
 fetched-told E None from n buffer h = tt
 fetched-told E (Some file) from n buffer h = h.0

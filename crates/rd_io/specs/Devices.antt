@@ -7,7 +7,7 @@ abbrev pub Rose : ℕ → ℕ → Type 0
 Rose before after = (before < after) ⊎ (2 ^ 64 - 1 ≤ after)
 
 -- A fetch from an offset on gives the bytes of the file that stand there, and none only at its end or with no room. Of a file
--- that is not told nothing is said.
+-- whose bytes are not known nothing is said.
 abbrev pub Fetches : {E : Type 0} → Option (List ℕ) → ℕ → Result ℕ E → List ℕ → Type 0
 Fetches None from result buffer = Unit {0}
 Fetches (Some file) from result buffer =

@@ -11,7 +11,7 @@ PutsBytes (Err TooLarge) old new piece = FILE_BYTES < length old + length piece
 PutsBytes (Err Memory) old new piece = Unit {0}
 PutsBytes (Err Failed) old new piece = ⊥
 
--- these bytes are a front of the file, where it is told
+-- these bytes are a front of the file, where its bytes are known
 abbrev pub IsFront : List ℕ → Option (List ℕ) → Type 0
 IsFront bytes told = IfSome told (λ file. (rest : List ℕ) × (file ≡ bytes ++ rest))
 

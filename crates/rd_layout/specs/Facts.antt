@@ -1,4 +1,4 @@
--- What a dump tells of the windows of a session.
+-- What a dump says of the windows of a session.
 use Rattle.std.specs.Prelude.{ℕ, Option, None, Some, List, [], ◌∷◌}
 use Rattle.std.specs.List.{flat_map}
 use Rattle.rd_dump.specs.declared.dump.WindowFacts.{WindowFacts}
@@ -21,7 +21,7 @@ rows_of (Some l) = l.matrix
 abbrev pub cursor_since : Option Layout → ℕ → Option (ℕ × ℕ)
 cursor_since last point = cursor_in point (shown_entries (rows_of last))
 
--- what is told of a window that lives: its place, its start, its point, and its cursor
+-- what a dump says of a window that lives: its place, its start, its point, and its cursor
 abbrev pub facts_by : Option Layout → Placed → Option WindowState → List WindowFacts
 facts_by last place None = []
 facts_by last place (Some w) =
@@ -30,6 +30,6 @@ facts_by last place (Some w) =
 abbrev pub facts_at : SessionValue → Placed → List WindowFacts
 facts_at v place = facts_by (layout_of place.number v.layouts) place (window_of place.number v.state.windows)
 
--- what is told of all windows, in leaf order
+-- what a dump says of all windows, in leaf order
 abbrev pub facts_of : SessionValue → List WindowFacts
 facts_of v = flat_map (facts_at v) (places v.state)

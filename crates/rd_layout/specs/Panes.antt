@@ -61,7 +61,7 @@ border_slot objects c = border_in (table_in objects c.settings.table)
 abbrev pub is_whole : text.TextValue → Bool
 is_whole t = (t.begin == 1) && (t.end == length t.text + 1)
 
--- what a mode line tells of a buffer and of the view of it, which was chosen before
+-- what a mode line can show of a buffer and of the view of it, which was chosen before
 abbrev pub facts_of : BufferValue → WindowView → FactValues
 facts_of b v = record {
   name = chars b.name;

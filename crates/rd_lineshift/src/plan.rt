@@ -35,8 +35,9 @@ impl Model for Shifted {
     ghost view = { λ s. record { opening = s.opening; screen = s.screen; plan = s.plan } };
 }
 
-/// Prepares the update from the current screen, or an unknown one, to the target. Where a shift of one of the bands spares
-/// three rows or more it begins with that shift.
+/// Prepares the update from the current screen, None where nobody knows it, to the target. Both have one size, in both
+/// each glyph stands whole, their colours are in range, and the bands lie on them. Its one error is want of memory. Where
+/// a shift of one of the bands spares three rows or more it begins with that shift.
 pub fn shifted_plan(
     alloc: Global,
     current: Option<&Screen>,
@@ -127,8 +128,9 @@ impl Shifted {
         self.plan.send(sink, rows_at_most)
     }
 
-    /// The new current screen: the target's cells in the rows that were sent, the cells after the shift elsewhere, and the
-    /// target's cursor where the update is done, else the old one. It takes no memory.
+    /// The new current screen, of the screens that were prepared and of what `send` answered: the target's cells in the
+    /// rows that were sent, the cells after the shift elsewhere, and the target's cursor where the update is done, else
+    /// the old one. It takes no memory.
     pub fn after(self, current: Option<Screen>, target: Screen, sent: Sent) -> Screen
         requires prepared { (bands : List Band) × (AreWithin (length target.rows) bands × (self ≡ shifted_planned current target bands)
             × ((limit : Option ℕ) × (sent ≡ sent_of (shifted_update current target bands limit)))) }

@@ -1,4 +1,4 @@
--- What a mode line tells of, as contracts see it.
+-- What a mode line can show, as contracts see it.
 use Rattle.std.specs.Prelude.{ℕ, ◌<◌, ◌^◌, ◌+◌, ◌-◌, ◌*◌, ◌/◌, ◌==◌, min, Bool, IsTrue, All, if◌then◌else◌, List, [], ◌++◌, codes, decimal}
 use Rattle.rd_base.specs.Chars.{is_code}
 use Rattle.rd_modeline.specs.declared.piece.Field.{Field}

@@ -53,9 +53,10 @@ impl Objects {
         })
     }
 
-    /// Makes a string of these characters and runs, and answers its number. The first of these faults counts: a run names a
-    /// face or a spec that was not made, a run doesn't lie in the string, the string has more than 4,096 characters, 4,096
-    /// strings were made. It costs a look at each character and a copy of the characters and the runs.
+    /// Makes a string of these characters and runs, and answers its number. The first of these faults counts, and each
+    /// changes nothing: NoObject, where a run names a face or a spec that was not made; OutOfRange, where a run does not
+    /// lie in the string; TooLong, where the string has more than 4,096 characters; TooMany, where 4,096 strings were made.
+    /// It costs a look at each character and a copy of the characters and the runs.
     pub fn add_string(&mut self, text: &[Ch], runs: &[Run]) -> Result<u32, ObjectFault>
         ensures adds { Adds result (string_fault self.old text.now runs.now) (length self.old.strings) self.old self.new (string_added self.old text.now runs.now) }
         ensures extends { Extends self.old self.new }
@@ -79,8 +80,8 @@ impl Objects {
         Ok(number)
     }
 
-    /// Makes a display spec, of at most 400 columns, and answers its number. The faults are that it names a string that was
-    /// not made, and that 4,096 specs were made. It costs one step.
+    /// Makes a display spec, of at most 400 columns, and answers its number. NoObject comes exactly where it names a string
+    /// that was not made, and else TooMany exactly where 4,096 specs were made. It costs one step.
     pub fn add_spec(&mut self, spec: Spec) -> Result<u32, ObjectFault>
         requires { IsSmallSpec spec }
         ensures adds { Adds result (spec_fault self.old spec) (length self.old.specs) self.old self.new (spec_added self.old spec) }
@@ -97,7 +98,7 @@ impl Objects {
         Ok(number)
     }
 
-    /// Makes a face, and answers its number. The fault is that 1,024 faces were made. It costs one step.
+    /// Makes a face, and answers its number. TooMany comes exactly where 1,024 faces were made. It costs one step.
     pub fn add_face(&mut self, face: Face) -> Result<u32, ObjectFault>
         ensures adds { Adds result (full_fault FACES (length self.old.faces)) (length self.old.faces) self.old self.new (face_added self.old face) }
         ensures extends { Extends self.old self.new }
@@ -111,7 +112,8 @@ impl Objects {
         Ok(number)
     }
 
-    /// Makes a display table, and answers its number. The fault is that 64 tables were made. It costs one step.
+    /// Makes a display table, and answers its number. TooMany comes exactly where 64 tables were made. It costs one
+    /// step.
     pub fn add_table(&mut self, table: Table) -> Result<u32, ObjectFault>
         ensures adds { Adds result (full_fault TABLES (length self.old.tables)) (length self.old.tables) self.old self.new (table_added self.old table) }
         ensures extends { Extends self.old self.new }

@@ -168,7 +168,8 @@ next_edge pos slots = nearest_edge Next pos slots
 abbrev pub last_edge : ℕ → List (Option Overlay) → Option ℕ
 last_edge pos slots = nearest_edge Last pos slots
 
--- where a start or an end stands after an insertion of n characters: one behind the position moves, and one at it where it is told to
+-- where a start or an end stands after an insertion of n characters: one behind the position moves, and one at it where `moves` is
+-- set
 abbrev pub after_insertion : ℕ → ℕ → Bool → ℕ → ℕ
 after_insertion pos n moves place = if nat_lt pos place || ((place == pos) && moves) then place + n else place
 

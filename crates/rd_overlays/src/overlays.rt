@@ -59,9 +59,9 @@ impl Overlays {
     }
 
     /// Makes an overlay without values from `from` to `to - 1`, and answers its number, which is the count of those made so far.
-    /// The first of these faults counts: the start stands behind the end, 65,536 overlays were made. Costs one step, and now and
-    /// then the making of the blocks: the number of the overlays times its logarithm, which comes to some hundred steps for each
-    /// that is made. It takes memory for this; where there is none nothing changes.
+    /// The first of these faults counts: OutOfRange, where the start stands behind the end; TooMany, where 65,536 overlays were
+    /// made. Costs one step, and now and then the making of the blocks: the number of the overlays times its logarithm, which
+    /// comes to some hundred steps for each that is made. It takes memory for this; where there is none nothing changes.
     pub fn make(
         &mut self,
         from: Pos,
@@ -92,9 +92,10 @@ impl Overlays {
         Ok(number)
     }
 
-    /// Moves an overlay to the range from `from` to `to - 1`. The first of these faults counts: no such overlay lives, the
-    /// start stands behind the end. Costs a pass over the order of the overlays where its range changes, and now and then, after
-    /// at least 17 such moves, the making of the blocks as in `make`.
+    /// Moves an overlay to the range from `from` to `to - 1`. The first of these faults counts, and each changes nothing:
+    /// NoOverlay, where no such overlay lives; OutOfRange, where the start stands behind the end; Memory. Costs a pass over the
+    /// order of the overlays where its range changes, and now and then, after at least 17 such moves, the making of the blocks
+    /// as in `make`.
     pub fn move_to(&mut self, number: u32, from: Pos, to: Pos) -> Result<(), OverlayFault>
         ensures { Moves result (move_fault self.old number from to) self.old self.new (moved self.old number from to) }
     {
@@ -116,7 +117,8 @@ impl Overlays {
         }
     }
 
-    /// Takes an overlay away; its number is never used again. The fault is that no such overlay lives. Costs one step.
+    /// Takes an overlay away; its number is never used again. NoOverlay comes exactly where no such overlay lives.
+    /// Costs one step.
     pub fn drop_one(&mut self, number: u32) -> Result<(), OverlayFault>
         ensures { Answers result (number_fault self.old number) self.old self.new (dropped self.old number) }
     {
@@ -129,7 +131,8 @@ impl Overlays {
         }
     }
 
-    /// Gives an overlay a value of a kind, or takes it away. The fault is that no such overlay lives. Costs one step.
+    /// Gives an overlay a value of a kind, or takes it away where `value` is None. NoOverlay comes exactly where no
+    /// such overlay lives. Costs one step.
     pub fn set(&mut self, number: u32, kind: Kind, value: Option<u32>) -> Result<(), OverlayFault>
         ensures { Answers result (number_fault self.old number) self.old self.new (given self.old number kind value) }
     {

@@ -18,7 +18,8 @@ pub fn is_blank_line(text: &Buffer, from: Pos, to: Pos) -> bool
     text.prev_ink(to) <= from
 }
 
-/// The level that rules P2 and P3 find in the characters from one position to another, that one not included.
+/// The level, 0 or 1, that rules P2 and P3 find in the characters from one position to another, that one not included;
+/// None where they find no strong character.
 pub fn level_of_line(text: &Buffer, classes: &Classes, from: Pos, to: Pos) -> Option<u8>
     requires first { 1 ≤ from }
     requires order { from ≤ to }

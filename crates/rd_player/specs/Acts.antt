@@ -41,7 +41,7 @@ abbrev pub Begins : Result Playing Status → Given → Type 0
 Begins (Ok r) given = IsMode given (mode_of r) × IsNew r
 Begins (Err status) given = (source : Drawn) → Comes given None status [] [] source
 
--- the status that tells of a fault of the data files
+-- the status that a fault of the data files gives
 abbrev pub status_of : DataFault → Status
 status_of (data_faults.Bad bad) = BadData bad.file bad.line bad.kind
 status_of data_faults.Read = ReadFault
@@ -59,7 +59,8 @@ abbrev pub IsTold : Result Unit Failed → Result Unit Halt → Type 0
 IsTold (Ok _) result = result ≡ Ok tt
 IsTold (Err _) result = result ≡ Err halts.ReportBroke
 
--- the report is told of a redisplay: each one of a script that is read, and one without memory of a generated script
+-- a line of a redisplay is written to the report: each one of a script that is read, and one without memory of a
+-- generated script
 abbrev pub IsToldOf : Option ℕ → Bool → Type 0
 IsToldOf generated starved = (generated ≡ None) ⊎ (starved ≡ true)
 
@@ -110,11 +111,11 @@ SpentBy (endings.Sums s) given mode inputs bytes left before after = after ≤ b
 SpentBy endings.ScreenBroke given mode inputs bytes left before after = SpentInHand given mode inputs bytes left before after
 SpentBy endings.ReportBroke given mode inputs bytes left before after = SpentInHand given mode inputs bytes left before after
 
--- a line was told, and this status is answered, or the report broke
+-- a line was written to the report, and this status is answered, or the report broke
 abbrev pub Tells : Status → List ℕ → Status → Sunk → Type 0
 Tells status line result report = ((result ≡ status) × Took report line) ⊎ ((result ≡ WriteFault) × Broke report [] line)
 
--- the last line was told, where that may be
+-- the last line was written, where that may be
 abbrev pub Finishes : Ending → Status → Sunk → Type 0
 Finishes (endings.Ends status lines) result report = Tells status (last_line status lines) result report
 Finishes (endings.Sums s) result report = Tells Done (summary_of s) result report

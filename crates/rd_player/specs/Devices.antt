@@ -1,4 +1,5 @@
--- What a run is given, and what it does to its devices: what is told of files, of a source and of a sink, before a call and behind it.
+-- What a run is given, and what it does to its devices: the bytes that are known of files, of a source and of a sink, and their counts
+-- of faults, before a call and behind it.
 use Rattle.std.specs.Prelude.{ℕ, List, Option}
 use Rattle.rd_run.specs.Ends.{Drawn, Sunk, drawn, sunk}
 use Rattle.rd_run.specs.Given.{Given}

@@ -26,8 +26,8 @@ abbrev pub Spent : Given → Option Mode → Status → List Input → List ℕ 
 Spent given mode status inputs bytes left before after =
     (after ≤ before + allowed_in mode inputs) ⊎ ((status ≡ WriteFault) × SpentInHand given mode inputs bytes left before after)
 
--- Under valid words, over good files that are told, a run of these inputs over a script without a bad line, which is told where it is
--- read, ended done or for want of memory, unless a count rose.
+-- Under valid words, over good files whose bytes are known, a run of these inputs over a script without a bad line, which is known
+-- where it is read, ended done or for want of memory, unless a count rose.
 abbrev pub Completes : Given → Status → List Input → Option (List ℕ) → Drawn → Sunk → Sunk → Type 0
 Completes given result inputs before source screen report =
     (mode : Mode) (script : List ℕ) → IsMode given mode → AreTold given → (ReadsScript given → before ≡ Some script) → IsValidScript mode inputs script → ¬ HasFailed given

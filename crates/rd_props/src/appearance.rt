@@ -28,7 +28,7 @@ impl Appearance {
     ghost use Rattle.std.specs.Prelude.{◌≡◌};
     ghost use Rattle.rd_props.specs.Appearance.{nothing_seen, hidden_by};
 
-    /// What is seen at the end of the accessible text: no value, and the plain face.
+    /// What is looked up at the end of the accessible text: no value, and the plain face.
     pub fn nothing() -> Appearance
         ensures { result ≡ nothing_seen }
     {

@@ -12,7 +12,7 @@ use rd_rows::{Row, Shape};
 use std::alloc::Global;
 use std::sync::ledger::Ledger;
 
-/// The rows of a block of a source at a shape: copies of its older rows where it keeps these.
+/// The rows of a block of a source at a shape: copies of its older rows where it keeps these, and else the source's.
 pub fn rows_of<B: BlockSource, L: Ledger>(
     alloc: Global,
     source: &mut B,

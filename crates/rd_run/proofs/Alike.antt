@@ -249,7 +249,7 @@ comes-stops mode script NoMemory inputs bytes source p read found c = absurd (fo
 
 -- ---- the law
 
--- where the script is read its bytes are told
+-- where the script is read its bytes are known
 pub taken-in : (given : Given) (mode : Mode) (script bytes : List ℕ) (left : Option (List ℕ)) → IsMode given mode → (ReadsScript given → IsTakenFrom script bytes left)
     → IsTakenIn mode.generated script bytes left
 taken-in given mode script bytes left m taken = λ read. taken (m.words, m.said, sym m.generated ∙ read)

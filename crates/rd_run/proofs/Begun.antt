@@ -1,4 +1,4 @@
--- How runs begin: the words, and the files that they name, where these are told, determine it.
+-- How runs begin: the words, and the files that they name, where their bytes are known, determine it.
 use Rattle.std.proofs.Common.{◌≡◌, ℕ, ◌⊎◌, inl, inr, Bool, true, false, List, [], Option, None, Some, is_some, IfSome, IsSome, Result, Ok, Err, is_ok, refl, sym, ap, ◌∙◌, subst}
 use Rattle.rd_files.specs.DataFiles.{AreBytes, FailedAt, FailedAtSome, GivesData, Named, StopsAtFailed, data_of, told_or_empty}
 use Rattle.rd_files.specs.declared.fault.BadFile.{BadFile}
@@ -21,7 +21,7 @@ flipped a b h = (sym h.0, λ w e. let told = h.1 w (h.0 ∙ e) in (sym told.0, s
 
 -- ---- the files
 
--- bytes that are told are the same
+-- bytes that are known are the same
 bytes-same : (one other : Option (List ℕ)) (x y : List ℕ) → one ≡ other → is_some one ≡ true → AreBytes x one → AreBytes y other → x ≡ y
 bytes-same None other x y e told p q = absurd (let k : false ≡ true = told in cc)
 bytes-same (Some f) None x y e told p q = absurd (let k : Some f ≡ None = e in cc)

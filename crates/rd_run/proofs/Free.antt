@@ -1,4 +1,4 @@
--- No status but its own tells of want of memory.
+-- No status but its own has want of memory in it.
 use Rattle.std.proofs.Common.{◌≡◌, ◌≢◌, ℕ, inl, inr, Bool, true, false, if◌then◌else◌, List, [], ◌∷◌, Option, None, Some, is_some, Result, Err, ap, ◌∙◌}
 use Rattle.rd_files.specs.declared.fault.BadFile.{BadFile}
 use Rattle.rd_files.specs.declared.fault.DataFile.{DataFile}

@@ -1,4 +1,4 @@
--- No fault of a data file, as the definitions tell it, is want of memory.
+-- No fault of a data file, by the definitions, is want of memory.
 use Rattle.std.proofs.Common.{◌≡◌, ◌≢◌, ℕ, Bool, true, false, if◌then◌else◌, List, [], ◌∷◌, length, nat_lt, option_to_list, slice_index_or, suc, Option, None, Some, Result, Ok, Err, ap, ◌∙◌}
 use Rattle.rd_base.proofs.Choices.{either}
 use Rattle.rd_base.specs.declared.limits.TheConstants.{FILE_BYTES}

@@ -1,4 +1,4 @@
--- No op is refused for want of memory, as the definitions tell it.
+-- No op is refused for want of memory, by the definitions.
 use Rattle.std.proofs.Common.{◌≢◌, ℕ, ◌+◌, ◌-◌, Bool, false, if◌then◌else◌, is_some, length, map, nat_le, slice_get, List, Option, None, Some, Result, Ok, Err, refl, ap}
 use Rattle.std.specs.Prelude.{ℤ, pos}
 use Rattle.rd_layout.specs.Pointing.{hitting_by, stepped_to}

@@ -10,12 +10,12 @@ use Rattle.rd_run.specs.declared.status.Status.{Status}
 use Rattle.rd_run.specs.declared.status.Status.TheVariants.{NoMemory}
 use Rattle.rd_words.specs.Words.{WordValues}
 
--- what is told of the files that are named is the same
+-- what is known of the files that are named is the same
 abbrev pub AreToldAlike : (List ℕ → Option (List ℕ)) → (List ℕ → Option (List ℕ)) → Named → Type 0
 AreToldAlike one other names = (one names.class_file ≡ other names.class_file) × (one names.mirror_file ≡ other names.mirror_file)
     × (told_or_empty one names.bracket_file ≡ told_or_empty other names.bracket_file)
 
--- the same words are given, and what is told of the files that they name is the same
+-- the same words are given, and what is known of the files that they name is the same
 abbrev pub AreGivenAlike : Given → Given → Type 0
 AreGivenAlike a b = (a.words ≡ b.words) × ((w : WordValues) → a.words ≡ Some w → AreToldAlike a.contents b.contents (names_of w))
 
@@ -30,8 +30,8 @@ pub record End : Type 0 where
   pub screen : Sunk
   pub report : Sunk
 
--- a run over the bytes of this script, which are told where it is read, ended so; the files that its words name are told, and no device
--- failed in it
+-- a run over the bytes of this script, which are known where it is read, ended so; the bytes of the files that its words name are
+-- known, and no device failed in it
 pub record IsFaultless (script : List ℕ) (e : End) : Type 0 where
   pub taken : ReadsScript e.given → Consumes (Some script) e.source.left e.bytes
   pub ended : Ended e.given e.mode e.status e.inputs e.bytes e.source e.screen e.report

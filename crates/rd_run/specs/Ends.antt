@@ -19,7 +19,7 @@ use Rattle.rd_run.specs.declared.status.Status.TheVariants.{Done, Usage, BadData
 
 -- ---- what calls did to the source and to a sink
 
--- the bytes that the source has left, where they are told, and how often it had and has failed
+-- the bytes that the source has left, where they are known, and how often it had and has failed
 pub record Drawn : Type 0 where
   pub left : Option (List ℕ)
   pub faults_before : ℕ
@@ -28,7 +28,7 @@ pub record Drawn : Type 0 where
 abbrev pub drawn : Option (List ℕ) → ℕ → ℕ → Drawn
 drawn left faults_before faults_after = record { left = left; faults_before = faults_before; faults_after = faults_after }
 
--- the bytes that a sink had and has, where they are told, and how often it had and has failed
+-- the bytes that a sink had and has, where they are known, and how often it had and has failed
 pub record Sunk : Type 0 where
   pub before : Option (List ℕ)
   pub after : Option (List ℕ)
@@ -152,7 +152,7 @@ Comes given (Some mode) status inputs bytes source = IsMode given mode × ComesI
 
 -- ---- what was written
 
--- what the lines that were run sent to the screen, and what they told the report
+-- what the lines that were run sent to the screen, and what they wrote to the report
 abbrev pub sent_in : Option Mode → List Input → List ℕ
 sent_in None inputs = []
 sent_in (Some mode) inputs = (run (opened mode) inputs).sent
@@ -166,7 +166,7 @@ abbrev pub allowed_in : Option Mode → List Input → ℕ
 allowed_in None inputs = 0
 allowed_in (Some mode) inputs = (run (opened mode) inputs).allowed
 
--- what is told at the end of a generated script
+-- what the report says at the end of a generated script
 abbrev pub summary : Standing → List ℕ
 summary now = summary_lines now.lines now.shown (unwrap_or (length_of main_name now.session.state.buffers) 0) (selected_window now.session.state).anchor
 
@@ -174,7 +174,7 @@ abbrev pub done_of : Option ℕ → Standing → List ℕ
 done_of None now = last_line Done now.lines
 done_of (Some number) now = summary now
 
--- the last line that a status tells
+-- the last line of the report that a status gives
 abbrev pub last_in : Option Mode → Status → List Input → List ℕ
 last_in (Some mode) Done inputs = done_of mode.generated (run (opened mode) inputs).now
 last_in mode status inputs = last_line status (length inputs)
@@ -203,8 +203,8 @@ pub record ScreenBroke (given : Given) (mode : Mode) (inputs : List Input) (line
   pub sent : Broke screen (run (opened mode) inputs).sent (effect (run (opened mode) inputs).now (record { line = line; starved = false })).sent
   pub told : TellsFault report (run (opened mode) inputs).told inputs
 
--- The report failed at what a redisplay tells, whose update, where it found memory, was sent whole: the terminal shows it, though
--- the report does not tell it whole. That of a generated script tells the want of memory alone.
+-- The report failed at the lines of a redisplay, whose update, where it found memory, was sent whole: the terminal shows it,
+-- though the report does not say so whole. That of a generated script has lines of want of memory alone.
 pub record ReportBroke (given : Given) (mode : Mode) (inputs : List Input) (t : Input) (bytes : List ℕ) (source : Drawn) (screen report : Sunk) : Type 0 where
   pub hand : IsInHand given mode inputs t.line bytes source.left
   pub sent : Took screen ((run (opened mode) inputs).sent ++ (effect (run (opened mode) inputs).now t).sent)

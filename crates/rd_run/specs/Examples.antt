@@ -6,7 +6,7 @@ use Rattle.rd_script.specs.declared.op.Op.{Op}
 use Rattle.rd_run.specs.Runs.{Standing, effect_of_op, opened}
 use Rattle.rd_run.specs.declared.status.ScriptFault.{ScriptFault}
 
--- what lines with these ops tell the report, each of whose redisplays finds memory
+-- what lines with these ops write to the report, each of whose redisplays finds memory
 abbrev pub told_from : Standing → List Op → List ℕ
 told_from now [] = []
 told_from now (op ∷ ops) = (effect_of_op false now op).told ++ told_from (effect_of_op false now op).now ops

@@ -6,8 +6,8 @@ use Rattle.rd_files.specs.declared.fault.DataKind.{DataKind}
 use Rattle.rd_words.specs.Words.{WordValues}
 use Rattle.rd_run.specs.Runs.{Mode}
 
--- what the words say, where they are those of the command; the bytes of files by their names, where they are told; and how often the
--- file of a name had and has failed
+-- what the words say, where they are those of the command; the bytes of files by their names, where they are known; and how often
+-- the file of a name had and has failed
 pub record Given : Type 0 where
   pub words : Option WordValues
   pub contents : List ℕ → Option (List ℕ)
@@ -46,7 +46,7 @@ abbrev pub HasFailed : Given → Type 0
 HasFailed given = (w : WordValues) × (given.words ≡ Some w) × (FailedAt given.faults_before given.faults_after w.class_file
     ⊎ (FailedAt given.faults_before given.faults_after w.mirror_file ⊎ FailedAtSome given.faults_before given.faults_after w.bracket_file))
 
--- the bytes of the files that the words name are told
+-- the bytes of the files that the words name are known
 abbrev pub AreTold : Given → Type 0
 AreTold given = (w : WordValues) → given.words ≡ Some w
     → IsSome (given.contents w.class_file) × IsSome (given.contents w.mirror_file) × IfSome w.bracket_file (λ name. IsSome (given.contents name))

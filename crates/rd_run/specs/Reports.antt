@@ -53,7 +53,7 @@ kind_of faults.TooMany = codes "TooMany"
 kind_of (faults.Op fault) = op_kind fault
 kind_of (faults.Refused refused) = refused_kind refused
 
--- the key that a fault tells
+-- the key that a fault names
 abbrev pub op_key : OpFault → Option (List ℕ)
 op_key (ops.Missing key) = Some key
 op_key (ops.BadField key) = Some key

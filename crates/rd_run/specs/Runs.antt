@@ -47,8 +47,8 @@ pub record Standing : Type 0 where
   pub lines : ℕ
   pub shown : ℕ
 
--- What one line does: where the run stands behind it, the bytes that it sends to the screen, what it tells the report, whether a
--- new terminal begins, how its redisplay ended where it is one, how many elements this may place, and the fault of a line that is refused.
+-- What one line does: where the run stands behind it, the bytes that it sends to the screen, what it writes to the report, whether a new
+-- terminal begins, how its redisplay ended where it is one, how many elements this may place, and the fault of a line that is refused.
 pub record Effect : Type 0 where
   pub now : Standing
   pub sent : List ℕ
@@ -90,7 +90,8 @@ dump_lines true (Some screen) facts = dump_text screen facts
 dump_lines true None facts = []
 dump_lines false screen facts = []
 
--- what the report is told of such a redisplay: that it was shown, with its dump, or that it was stopped; nothing of a generated script
+-- what is written to the report of such a redisplay: that it was shown, with its dump, or that it was stopped; nothing of a generated
+-- script
 abbrev pub told_of : Mode → ℕ → Update → SessionValue → List ℕ
 told_of mode number u next =
     if is_some mode.generated then []

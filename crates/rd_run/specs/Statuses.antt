@@ -1,4 +1,4 @@
--- The exit statuses, and what none of them tells.
+-- The exit statuses, and that none but its own has want of memory in it.
 use Rattle.std.specs.Prelude.{◌≢◌, ℕ}
 use Rattle.rd_files.specs.declared.fault.DataKind.TheVariants.{Bad}
 use Rattle.rd_script.specs.declared.fault.OpFault.TheVariants as op_faults

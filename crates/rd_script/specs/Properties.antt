@@ -25,7 +25,7 @@ overlay_kind = word kind_names
 abbrev pub text_kind : Data → Option Kind
 text_kind d = option_and_then (kept_if is_text_kind) (overlay_kind d)
 
--- the greatest value of a kind: an atom, or a number of 64 bits by which an object is told
+-- the greatest value of a kind: an atom, or a number of 64 bits by which an object is named
 abbrev pub greatest_value : Kind → ℕ
 greatest_value kinds.Invisible = ATOMS
 greatest_value kind = 18446744073709551615

@@ -32,7 +32,8 @@ abbrev pub text_elements : Scene → ℕ → Bool → Origin → Attributes → 
 text_elements s base overlay origin face text =
     if overlay then overlay_elements s base origin face text else display_elements s base origin face text
 
--- the elements of what an item shows, in this face, at an odd level or not; of a string it is told whether it is an overlay's
+-- the elements of what an item shows, in this face, at an odd level or not; for a string a flag says whether it is an
+-- overlay's
 abbrev pub item_elements_by : Scene → ℕ → ItemKind → Bool → Bool → Attributes → Origin → List Element
 item_elements_by s base (kind.Char c) overlay odd face origin = elements_of s.parts c odd face origin
 item_elements_by s base (kind.Marked g) overlay odd face origin = element_of face origin (look.Glyph g) ∷ []

@@ -17,8 +17,8 @@ use rd_rows::Shape;
 use std::alloc::Global;
 use std::sync::ledger::Ledger;
 
-/// Chooses the start of a window, and its point, by the rows of all blocks of a source. The anchor's row is that of its block, held to
-/// the block's last, and the block's first where the anchor is not its start.
+/// Chooses the start of a window, and its point, by the rows that the blocks of a source have at a shape. The anchor's row is that of
+/// its block, held to the block's last, and the block's first where the anchor is not its start.
 ///
 /// A forced start is the anchor's row, scrolled by the rows that are pending and held to the rows that there are. Point stays where
 /// its row is in view. Else it moves to the least position that the first item covers, in order of position, which begins in view
@@ -29,8 +29,9 @@ use std::sync::ledger::Ledger;
 /// the last one. If it does not suit it moves to the nearest row that does, the lesser one where two are equally near, and at most
 /// `conservatively` rows away. If there is none, point's row comes to the middle: the start is half the height above it.
 ///
-/// The anchor and point are positions of the source's blocks, and the height is at least 1. The steps that it takes, also where
-/// memory is wanting, are at most twice the costs of the blocks that have a row near the window; of other blocks it asks for no rows.
+/// The anchor and point are positions of the source's blocks, and the height is at least 1. The one error is want of memory, behind
+/// which the source is to be made anew. The steps that it takes, also where memory is wanting, are at most twice the costs of the
+/// blocks that have a row near the window; of other blocks it asks for no rows.
 pub fn choose<B: BlockSource, L: Ledger>(
     alloc: Global,
     source: &mut B,

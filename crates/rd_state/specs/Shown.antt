@@ -1,4 +1,4 @@
--- What the code asks and tells of views and formats.
+-- What the code asks and answers of views and formats.
 use Rattle.std.specs.Prelude.{◌≡◌, ℕ, Option, None, Some, Result, Ok, Err, slice_get}
 use Rattle.rd_text.specs.Texts.{IsAccessible}
 use Rattle.rd_state.specs.declared.refused.Refused.{Refused}

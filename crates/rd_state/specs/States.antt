@@ -46,7 +46,7 @@ pub record ContentValue : Type 0 where
   pub settings : settings.SettingValues
   pub marks : MarkValues
 
--- how margin strings are told apart
+-- the code by which margin strings are compared
 abbrev pub mark_code : Coded MarkValues
 mark_code = map.code coded_ℕ coded_ℕ
 

@@ -76,8 +76,9 @@ impl Buffer {
         let _chars = &self.chars;
     }
 
-    /// Puts characters in before a position from the accessible beginning to the accessible end, both included, and else
-    /// answers OutOfRange. TooLarge comes where the text would have more than 4,194,304 characters.
+    /// Puts characters in before `pos`; the accessible end moves by their number. The first of these faults counts, and
+    /// each leaves the text as it was: OutOfRange exactly unless `begin <= pos <= end`; TooLarge exactly where the text
+    /// would have more than 4,194,304 characters; Memory where an allocation was refused.
     pub fn insert(&mut self, pos: Pos, text: &[Ch]) -> Result<(), TextFault>
         ensures { Inserts result self.old pos text.now self.new }
     {
@@ -96,8 +97,8 @@ impl Buffer {
         }
     }
 
-    /// Takes the characters from `from` to `to - 1` away. OutOfRange comes exactly unless
-    /// `begin <= from <= to <= end`.
+    /// Takes the characters from `from` to `to - 1` away; the accessible end moves back by their number. OutOfRange
+    /// comes exactly unless `begin <= from <= to <= end`; there is no other fault, and it takes no memory.
     pub fn delete(&mut self, from: Pos, to: Pos) -> Result<(), TextFault>
         ensures { Deletes result self.old from to self.new }
     {
@@ -109,7 +110,8 @@ impl Buffer {
         Ok(())
     }
 
-    /// Makes `from` to `to - 1` the accessible range. OutOfRange comes exactly unless `1 <= from <= to <= length + 1`.
+    /// Makes `from` to `to - 1` the accessible range. OutOfRange comes exactly unless `1 <= from <= to <= length + 1`;
+    /// there is no other fault.
     pub fn narrow(&mut self, from: Pos, to: Pos) -> Result<(), TextFault>
         ensures { Narrows result self.old from to self.new }
     {
@@ -139,7 +141,8 @@ impl Buffer {
         Some(self.chars.fetch(pos as usize - 1))
     }
 
-    /// The first accessible newline at or after a position, and the accessible end where there is none.
+    /// The first accessible newline at or after `pos`, which is accessible or the accessible end; and that end where
+    /// there is none.
     pub fn next_newline(&self, pos: Pos) -> Pos
         requires { IsAccessible self.now pos }
         ensures { result ≡ next_newline self.now pos }
@@ -149,7 +152,8 @@ impl Buffer {
             .before_newline(pos as usize - 1, self.end as usize - 1) as u32
     }
 
-    /// One past the last accessible newline before a position, and the accessible beginning where there is none.
+    /// One past the last accessible newline before `pos`, which is accessible or the accessible end; and the accessible
+    /// beginning where there is none.
     pub fn prev_newline(&self, pos: Pos) -> Pos
         requires { IsAccessible self.now pos }
         ensures { result ≡ prev_newline self.now pos }

@@ -278,14 +278,14 @@ stands_in number (Split side size first second) rect window h e =
       | inr q ↦ stands_further window b rect (stands_in number second b window h.1 q.1) (second_within side size first second rect h)
     ]
 
--- a rectangle that is told of a valid tree lies in its frame
+-- a rectangle that is answered of a valid tree lies in its frame
 pub lies_in_frame : (c : Configuration) (found : Option Placed) (number : ℕ) → IsValid c → window_at number c.windows (frame_of c) ≡ found → LiesIn (rect_of_placed found) (frame_of c)
 lies_in_frame c None number valid e = tt
 lies_in_frame c (Some window) number valid e =
     let s = stands_in number c.windows (frame_of c) window valid.room e in
     (s.0, omega (arith, s.1), omega (arith, rows_for-some window.mode, s.2), valid.wide, valid.high)
 
--- a window that is told of a valid tree stands in its frame
+-- a window that is answered of a valid tree stands in its frame
 pub stands_in_frame : (c : Configuration) (found : Option Placed) (number : ℕ) → IsValid c → window_at number c.windows (frame_of c) ≡ found → IfSome found (λ window. StandsIn window (frame_of c))
 stands_in_frame c None number valid e = tt
 stands_in_frame c (Some window) number valid e = stands_in number c.windows (frame_of c) window valid.room e

@@ -32,7 +32,8 @@ IsWithin rect whole = (whole.x ≤ rect.x) × (rect.x + rect.width ≤ whole.x +
 abbrev pub StandsIn : Placed → Rect → Type 0
 StandsIn window rect = IsWithin window.rect rect × (columns_for window.margins ≤ window.rect.width) × (rows_for window.mode ≤ window.rect.height)
 
--- a rectangle that is told lies in another, which is at most 400 columns and 200 rows, and has 11 columns and 1 row at least
+-- a rectangle that is answered lies in another, which is at most 400 columns and 200 rows, and has 11 columns and 1 row at
+-- least
 abbrev pub LiesIn : Option Rect → Rect → Type 0
 LiesIn None whole = Unit {0}
 LiesIn (Some rect) whole = IsWithin rect whole × (LEAST_WINDOW_COLUMNS ≤ rect.width) × (1 ≤ rect.height) × (whole.width ≤ FRAME_COLUMNS) × (whole.height ≤ FRAME_ROWS)

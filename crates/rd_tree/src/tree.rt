@@ -66,10 +66,11 @@ impl Tree {
         })
     }
 
-    /// Splits a window: it keeps the first `size` rows or columns of its rectangle, on top or to the left, and a new window gets
-    /// the rest. Answers the new window's number, which is the count of windows made so far. The new window shows a mode line
-    /// where the old one does and has its margins. The first of these faults counts: the window does not live; one of the two would not have the
-    /// columns and rows that it needs; 64 windows live or 4,294,967,295 were made. A fault changes nothing.
+    /// Splits a window: it keeps the first `size` rows or columns of its rectangle, on top or to the left, and a new window gets the rest.
+    /// Answers the new window's number, which is the count of windows made so far. The new window shows a mode line where the old one does
+    /// and has its margins. The first of these faults counts: NoWindow, where the window does not live; TooSmall, where one of the two
+    /// would not have the columns and rows that it needs; TooMany, where 64 windows live or 4,294,967,295 were made. A fault changes
+    /// nothing, nor does want of memory.
     pub fn split(&mut self, window: u32, side: Side, size: u32) -> Result<u32, TreeFault>
         ensures { Splits result (split_tree self.old window side size) self.old self.new }
     {
@@ -89,7 +90,8 @@ impl Tree {
     }
 
     /// Takes a window away. Its sibling, the window or windows that share a split rectangle with it, takes the rectangle of both.
-    /// Answers the first leaf of the sibling. The first of these faults counts: the window does not live; it is the only one.
+    /// Answers the first leaf of the sibling. The first of these faults counts, and changes nothing: NoWindow, where the window
+    /// does not live; LastWindow, where it is the only one.
     #[tactic(auto, unfolding(crate::specs::Calls::remove_tree))]
     pub fn remove(&mut self, window: u32) -> Result<u32, TreeFault>
         ensures { Removes result window (remove_tree self.old window) self.old self.new }
@@ -106,10 +108,10 @@ impl Tree {
         Ok(heir)
     }
 
-    /// Lets the windows fill another rectangle. Where a rectangle was split, the second part gets what is behind the first part's
-    /// old size, but at least what its windows need, and the first part the rest. The fault is that a need would not be met: a window
-    /// needs 11 columns and those of its margins, and 1 row, 2 with a mode line, and a split rectangle the sum of its parts along the split and the greater
-    /// across it.
+    /// Lets the windows fill another rectangle. Where a rectangle was split, the second part gets what is behind the first part's old size,
+    /// but at least what its windows need, and the first part the rest. TooSmall comes exactly where a need would not be met, and changes
+    /// nothing: a window needs 11 columns and those of its margins, and 1 row, 2 with a mode line, and a split rectangle the sum of its
+    /// parts along the split and the greater across it.
     #[tactic(auto, unfolding(crate::specs::Calls::resize_tree))]
     pub fn resize(&mut self, width: u32, height: u32) -> Result<(), TreeFault>
         requires narrow { width ≤ FRAME_COLUMNS }
@@ -130,8 +132,8 @@ impl Tree {
         Ok(())
     }
 
-    /// Lets a window show a mode line or not. The first of these faults counts: the window does not live; it has not the 2 rows
-    /// that it needs with a mode line.
+    /// Lets a window show a mode line or not. The first of these faults counts, and changes nothing: NoWindow, where the window
+    /// does not live; TooSmall, where it has not the 2 rows that it needs with a mode line.
     pub fn mode(&mut self, window: u32, shown: bool) -> Result<(), TreeFault>
         ensures { Answers result (mode_tree self.old window shown) self.old self.new }
     {
@@ -145,8 +147,8 @@ impl Tree {
         Ok(())
     }
 
-    /// Lets the margins of a window take so many columns. The first of these faults counts: the window does not live; it has not the
-    /// 11 columns that it needs beside those of its margins.
+    /// Lets the margins of a window take so many columns. The first of these faults counts, and changes nothing: NoWindow, where the
+    /// window does not live; TooSmall, where it has not the 11 columns that it needs beside those of its margins.
     pub fn margins(&mut self, window: u32, columns: u32) -> Result<(), TreeFault>
         ensures { Answers result (margins_tree self.old window columns) self.old self.new }
     {
@@ -160,7 +162,8 @@ impl Tree {
         Ok(())
     }
 
-    /// The windows in order, those of a first part before those of the second; None exactly past the last.
+    /// The number of the window at a place in leaf order, counted from 0: those of a first part stand before those of
+    /// the second. None exactly past the last.
     pub fn leaf(&self, i: u32) -> Option<u32>
         ensures { result ≡ slice_get (leaves self.now.windows) i }
     {

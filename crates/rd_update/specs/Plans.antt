@@ -37,7 +37,7 @@ abbrev pub HaveOneSize : Option Picture → Picture → Type 0
 HaveOneSize None target = Unit {0}
 HaveOneSize (Some current) target = (length current.rows ≡ length target.rows) × (width_of current.rows ≡ width_of target.rows)
 
--- what an update tells
+-- what a sent update answers
 abbrev pub sent_of : Update → Sent
 sent_of u = record { rows = u.rows; done = u.done }
 
@@ -59,7 +59,7 @@ pub record ArePartsOf (bytes : List ℕ) (parts : List ChangedRow) : Type 0 wher
 abbrev pub no_part : ChangedRow
 no_part = record { row = 0; start = 0 }
 
--- how many bytes are sent under a limit, and what is told then
+-- how many bytes are sent under a limit, and what is answered then
 abbrev pub front_if : Bool → Prepared → ℕ → ℕ × Sent
 front_if true plan limit = ((slice_index_or plan.parts limit no_part).start, record { rows = limit; done = false })
 front_if false plan limit = (length plan.bytes, record { rows = length plan.parts; done = true })

@@ -56,8 +56,9 @@ impl Model for Plan {
 }
 
 impl Plan {
-    /// Prepares the update from the current screen, or an unknown one, to the target. It looks at each cell of both a fixed
-    /// number of times.
+    /// Prepares the update from the current screen, None where nobody knows it, to the target. Both have one size, in
+    /// both each glyph stands whole, and their colours are in range. Its one error is want of memory. It looks at each
+    /// cell of both a fixed number of times.
     pub fn prepare(alloc: Global, current: Option<&Screen>, target: &Screen) -> Result<Plan, Memory>
         requires size { HaveOneSize (shown current) target.now }
         requires current { IfSome (shown current) (λ screen. IsSound screen) }
@@ -80,7 +81,7 @@ impl Plan {
         Ok(Plan { bytes, parts })
     }
 
-    /// How many rows differ.
+    /// How many rows of the target differ from the current screen, which counts as blank where it is unknown.
     pub fn rows(&self) -> u32
         ensures { (current : Option Picture) (target : Picture) → self.now ≡ planned current target → result ≡ (update current target None).rows }
     {
@@ -102,8 +103,9 @@ impl Plan {
         send_front(sink, &self.bytes.as_slice()[..length], sent)
     }
 
-    /// The new current screen: the target's cells in the rows that were sent and the old cells elsewhere, and the target's cursor
-    /// where the update is done, else the old one.
+    /// The new current screen, of the screens that were prepared and of what `send` answered: the target's cells in the rows that
+    /// were sent and the old cells elsewhere, and the target's cursor where the update is done, else the old one. An unknown
+    /// screen counts as blank, with its cursor at row 0 and column 0.
     pub fn after(self, current: Option<Screen>, target: Screen, sent: Sent) -> Screen
         requires plan { self ≡ planned current target }
         requires size { HaveOneSize current target }

@@ -3,7 +3,7 @@ use Rattle.rd_files.specs.declared.fault.BadFile.{BadFile}
 use Rattle.rd_files.specs.DataFiles.{AreBytes, classes_in, data_of, told_or_empty}
 use Rattle.rd_files.proofs.law.data_files_are_determined.Goals as goal
 
--- bytes that may be a file's are its bytes, where they are told
+-- bytes that may be a file's are its bytes, where they are known
 told-bytes : (bytes file : List ℕ) (told : Option (List ℕ)) → told ≡ Some file → AreBytes bytes told → bytes ≡ file
 told-bytes bytes file told e h = rw e at h
 
