@@ -11,8 +11,8 @@ use Rattle.rd_props.specs.Buffers.{BufferValue}
 use Rattle.rd_props.specs.Seen.{accessible_char}
 use Rattle.rd_items.specs.Readings.{showing_at, is_open, ends_line}
 use Rattle.rd_items.specs.Blocks.{is_shown_newline}
-use Rattle.rd_items.specs.Stretches.{IsStretch}
-use Rattle.rd_items.specs.declared.stretch.Stretch.{Stretch}
+use Rattle.rd_items.specs.AlikeRanges.{IsAlikeRange}
+use Rattle.rd_items.specs.declared.alike_range.AlikeRange.{AlikeRange}
 
 -- no shown newline from one position up to another
 abbrev pub AreInside : BufferValue → ℕ → ℕ → Type 0
@@ -75,29 +75,29 @@ module _ (s : BufferValue) (right : IsText s.text) where
       let bound = prev_bound s.text right pos low high in
       ap ends_line (here (prev_newline s.text pos - 1) (omega arith) (omega arith)) ∙ prev_at s.text right pos low high some
 
--- a stretch that is replaced or hidden has no shown newline
-closed-inside : (s : BufferValue) (o : ObjectLists) (stretch : Stretch) → IsStretch s o stretch → is_open stretch.showing ≡ false → AreInside s stretch.from stretch.until
-closed-inside s o stretch is closed = λ q a b.
+-- a range that is replaced or hidden has no shown newline
+closed-inside : (s : BufferValue) (o : ObjectLists) (range : AlikeRange) → IsAlikeRange s o range → is_open range.showing ≡ false → AreInside s range.from range.until
+closed-inside s o range is closed = λ q a b.
     let here : is_open (showing_at s o q) ≡ false = ap is_open (is.alike q a b) ∙ closed in
     and_right _ _ (and_left _ _ here)
 
--- one step on, over a stretch that is replaced or hidden
-pub step-on : (s : BufferValue) (o : ObjectLists) (stretch : Stretch) (pos newline : ℕ) → IsText s.text → IsStretch s o stretch → stretch.from ≡ newline → newline < stretch.until → stretch.until ≤ s.text.end → s.text.begin ≤ pos → pos ≤ newline → is_open stretch.showing ≡ false → AreInside s pos newline → AreInside s pos (next_newline s.text stretch.until)
-step-on s o stretch pos newline right is from some within low order closed inside =
-    let over = rw from at (closed-inside s o stretch is closed) in
-    let there = next-inside s right stretch.until (omega arith) within in
-    both-inside s pos newline (next_newline s.text stretch.until) inside (both-inside s newline stretch.until (next_newline s.text stretch.until) over there)
+-- one step on, over a range that is replaced or hidden
+pub step-on : (s : BufferValue) (o : ObjectLists) (range : AlikeRange) (pos newline : ℕ) → IsText s.text → IsAlikeRange s o range → range.from ≡ newline → newline < range.until → range.until ≤ s.text.end → s.text.begin ≤ pos → pos ≤ newline → is_open range.showing ≡ false → AreInside s pos newline → AreInside s pos (next_newline s.text range.until)
+step-on s o range pos newline right is from some within low order closed inside =
+    let over = rw from at (closed-inside s o range is closed) in
+    let there = next-inside s right range.until (omega arith) within in
+    both-inside s pos newline (next_newline s.text range.until) inside (both-inside s newline range.until (next_newline s.text range.until) over there)
 
--- one step back, over such a stretch
-pub step-back : (s : BufferValue) (o : ObjectLists) (stretch : Stretch) (from pos : ℕ) → IsText s.text → IsStretch s o stretch → stretch.until ≡ from → s.text.begin ≤ stretch.from → stretch.from < from → from ≤ pos → pos ≤ s.text.end → is_open stretch.showing ≡ false → AreInside s from pos → AreInside s (prev_newline s.text stretch.from) pos
-step-back s o stretch from pos right is until low some order high closed inside =
-    let over = rw until at (closed-inside s o stretch is closed) in
-    let there = prev-inside s right stretch.from low (omega arith) in
-    both-inside s (prev_newline s.text stretch.from) stretch.from pos there (both-inside s stretch.from from pos over inside)
+-- one step back, over such a range
+pub step-back : (s : BufferValue) (o : ObjectLists) (range : AlikeRange) (from pos : ℕ) → IsText s.text → IsAlikeRange s o range → range.until ≡ from → s.text.begin ≤ range.from → range.from < from → from ≤ pos → pos ≤ s.text.end → is_open range.showing ≡ false → AreInside s from pos → AreInside s (prev_newline s.text range.from) pos
+step-back s o range from pos right is until low some order high closed inside =
+    let over = rw until at (closed-inside s o range is closed) in
+    let there = prev-inside s right range.from low (omega arith) in
+    both-inside s (prev_newline s.text range.from) range.from pos there (both-inside s range.from from pos over inside)
 
 -- a newline that is neither replaced nor hidden
-pub open-newline : (s : BufferValue) (o : ObjectLists) (stretch : Stretch) (newline : ℕ) → IsStretch s o stretch → stretch.from ≤ newline → newline < stretch.until → newline < s.text.end → is_open stretch.showing ≡ true → ends_line (accessible_char s.text newline) ≡ true → is_shown_newline s newline ≡ true
-open-newline s o stretch newline is from some inside shown ends =
+pub open-newline : (s : BufferValue) (o : ObjectLists) (range : AlikeRange) (newline : ℕ) → IsAlikeRange s o range → range.from ≤ newline → newline < range.until → newline < s.text.end → is_open range.showing ≡ true → ends_line (accessible_char s.text newline) ≡ true → is_shown_newline s newline ≡ true
+open-newline s o range newline is from some inside shown ends =
     let here : is_open (showing_at s o newline) ≡ true = ap is_open (is.alike newline from some) ∙ shown in
     let before : nat_lt newline s.text.end ≡ true = grind (arith, nat_tests) in
     and_from _ _ before (and_from _ _ here ends)

@@ -5,8 +5,8 @@ use Rattle.std.proofs.lemmas.Bool.{and_parts, and_left, and_right, or_from, not-
 use Rattle.std.proofs.lemmas.Bool.Decides.{nat_tests}
 use Rattle.rd_props.specs.Buffers.{BufferValue}
 use Rattle.rd_items.specs.declared.showing.Showing.{Showing}
-use Rattle.rd_items.specs.declared.stretch.Stretch.{Stretch}
-use Rattle.rd_items.specs.Stretches.{IsStretch}
+use Rattle.rd_items.specs.declared.alike_range.AlikeRange.{AlikeRange}
+use Rattle.rd_items.specs.AlikeRanges.{IsAlikeRange}
 use Rattle.rd_objects.specs.Things.{ObjectLists}
 use Rattle.rd_base.specs.declared.settings.Invisible.{Invisible}
 use Rattle.rd_props.specs.Seen.{Seen, seen_at, accessible_char}
@@ -95,19 +95,19 @@ run-jumps s o first showing (suc d) p within alike more =
     let place : p + suc d ≡ suc p + d = omega arith in
     rw place (omega arith)
 
-alike-at : (s : BufferValue) (o : ObjectLists) (stretch : Stretch) (p r : ℕ) → IsStretch s o stretch → stretch.from ≤ p → p ≤ r → r < stretch.until → showing_at s o r ≡ stretch.showing
-alike-at s o stretch p r is from first before = is.alike r (omega arith) before
+alike-at : (s : BufferValue) (o : ObjectLists) (range : AlikeRange) (p r : ℕ) → IsAlikeRange s o range → range.from ≤ p → p ≤ r → r < range.until → showing_at s o r ≡ range.showing
+alike-at s o range p r is from first before = is.alike r (omega arith) before
 
--- all positions of a stretch belong to a run, where its first does
-pub stretch-goes-on : (s : BufferValue) (o : ObjectLists) (first : Showing) (stretch : Stretch) (p n : ℕ) → IsStretch s o stretch → stretch.from ≤ p → p < stretch.until → stretch.until ≤ s.text.end → goes_on first stretch.showing ≡ true → p + run_length s.settings.invisible first (reading s o p) ≡ n → stretch.until + run_length s.settings.invisible first (reading s o stretch.until) ≡ n
-stretch-goes-on s o first stretch p n is from some within more so-far =
-    let place : p + (stretch.until - p) ≡ stretch.until = omega arith in
-    let jump = run-jumps s o first stretch.showing (stretch.until - p) p (omega arith) (λ r a b. alike-at s o stretch p r is from a (omega arith)) more in
+-- all positions of a range belong to a run, where its first does
+pub range-goes-on : (s : BufferValue) (o : ObjectLists) (first : Showing) (range : AlikeRange) (p n : ℕ) → IsAlikeRange s o range → range.from ≤ p → p < range.until → range.until ≤ s.text.end → goes_on first range.showing ≡ true → p + run_length s.settings.invisible first (reading s o p) ≡ n → range.until + run_length s.settings.invisible first (reading s o range.until) ≡ n
+range-goes-on s o first range p n is from some within more so-far =
+    let place : p + (range.until - p) ≡ range.until = omega arith in
+    let jump = run-jumps s o first range.showing (range.until - p) p (omega arith) (λ r a b. alike-at s o range p r is from a (omega arith)) more in
     rw place at jump ∙ so-far
 
 -- else the run ends before it
-pub stretch-stops : (s : BufferValue) (o : ObjectLists) (first : Showing) (stretch : Stretch) (p n : ℕ) → IsStretch s o stretch → stretch.from ≤ p → p < stretch.until → p < s.text.end → goes_on first stretch.showing ≡ false → p + run_length s.settings.invisible first (reading s o p) ≡ n → p ≡ n
-stretch-stops s o first stretch p n is from some before none so-far =
-    let here : goes_on first (showing_at s o p) ≡ false = ap (goes_on first) (alike-at s o stretch p p is from (omega arith) some) ∙ none in
+pub range-stops : (s : BufferValue) (o : ObjectLists) (first : Showing) (range : AlikeRange) (p n : ℕ) → IsAlikeRange s o range → range.from ≤ p → p < range.until → p < s.text.end → goes_on first range.showing ≡ false → p + run_length s.settings.invisible first (reading s o p) ≡ n → p ≡ n
+range-stops s o first range p n is from some before none so-far =
+    let here : goes_on first (showing_at s o p) ≡ false = ap (goes_on first) (alike-at s o range p p is from (omega arith) some) ∙ none in
     let length : run_length s.settings.invisible first (reading s o p) ≡ 0 = ap (run_length s.settings.invisible first) (reading-step s o p before) ∙ rw here in
     omega arith

@@ -1,6 +1,6 @@
 pub mod Blocks
 pub mod Readings
-pub mod Stretches
+pub mod AlikeRanges
 pub mod Pieces
 pub mod Items
 pub mod Covers

@@ -4,13 +4,13 @@ ghost use Rattle.rd_text.specs.Texts.{IsAccessible};
 ghost use Rattle.rd_props.specs.Buffers.{meaning};
 ghost use Rattle.rd_items.specs.Blocks.{is_shown_newline, StartsBlock, IsBlock, IsBlockAt, IsLastStart, IsFirstEnd};
 
-use crate::stretch::{stretch_at, stretch_before};
+use crate::alike_range::{alike_range_at, alike_range_before};
 use rd_base::{Memory, Pos};
 use rd_props::View;
 use std::alloc::Global;
 
 /// The first position of the block that holds a position. Properties are looked up for newlines alone, and once for all of a
-/// stretch that hides or replaces them.
+/// range that hides or replaces them.
 fn block_start(alloc: Global, view: &View, pos: Pos) -> Result<Pos, Memory>
     requires { IsAccessible view.now.state.now.text pos }
     ensures { IfOk result (λ from. IsLastStart (meaning view.now.state.now) pos from) }
@@ -19,7 +19,7 @@ fn block_start(alloc: Global, view: &View, pos: Pos) -> Result<Pos, Memory>
     let begin = state.text.begin();
     let mut from = state.text.prev_newline(pos);
     while begin < from {
-        let before = stretch_before(alloc, view, from)?;
+        let before = alike_range_before(alloc, view, from)?;
         if before.showing.is_open() {
             return Ok(from);
         }
@@ -29,7 +29,7 @@ fn block_start(alloc: Global, view: &View, pos: Pos) -> Result<Pos, Memory>
 }
 
 /// The position behind the ender of the block that holds a position. Properties are looked up for newlines alone, and once for
-/// all of a stretch that hides or replaces them.
+/// all of a range that hides or replaces them.
 fn block_end(alloc: Global, view: &View, pos: Pos) -> Result<Pos, Memory>
     requires { IsAccessible view.now.state.now.text pos }
     ensures { IfOk result (λ to. IsFirstEnd (meaning view.now.state.now) pos to) }
@@ -38,18 +38,18 @@ fn block_end(alloc: Global, view: &View, pos: Pos) -> Result<Pos, Memory>
     let end = state.text.end();
     let mut newline = state.text.next_newline(pos);
     while newline < end {
-        let stretch = stretch_at(alloc, view, newline)?;
-        if stretch.showing.is_open() {
+        let range = alike_range_at(alloc, view, newline)?;
+        if range.showing.is_open() {
             return Ok(newline + 1);
         }
-        newline = state.text.next_newline(stretch.until);
+        newline = state.text.next_newline(range.until);
     }
     Ok(newline + 1)
 }
 
 /// The block that holds an accessible position, or the end of the accessible text: its first position, and the position behind
 /// its ender. It costs a pass over the block's characters, and a look-up of the properties at its newlines, and once for all of a
-/// stretch that hides or replaces them.
+/// range that hides or replaces them.
 pub fn block_at(alloc: Global, view: &View, pos: Pos) -> Result<(Pos, Pos), Memory>
     requires { IsAccessible view.now.state.now.text pos }
     ensures { IfOk result (λ block. IsBlockAt (meaning view.now.state.now) pos block.0 block.1) }

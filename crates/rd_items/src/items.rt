@@ -8,8 +8,8 @@ ghost use Rattle.rd_items.specs.Readings.{reading};
 ghost use Rattle.rd_items.specs.Pieces.{scene_of};
 ghost use Rattle.rd_items.specs.Items.{items_of};
 
+use crate::alike_range::AlikeRange;
 use crate::item::Item;
-use crate::stretch::Stretch;
 use crate::walk::Walk;
 use rd_base::{ListOf, Memory, Pos};
 use rd_props::{Appearance, View, appearance_at};
@@ -105,9 +105,9 @@ fn walk_from(
 {
     let line = view.state.text.next_newline(start) - start;
     let mut walk = Walk::new(alloc, line.min(ROOM) as usize + 1)?;
-    let mut stretch = Stretch::of(view, start, appearance);
+    let mut range = AlikeRange::of(view, start, appearance);
     let mut pos = start;
-    while let Some(next) = walk.step(alloc, view, &mut stretch, start, pos)? {
+    while let Some(next) = walk.step(alloc, view, &mut range, start, pos)? {
         pos = next;
     }
     walk.finish()

@@ -7,8 +7,8 @@
 //! the block starts. What comes out: its items in order of position (`Items`), each with its bidirectional class, what it shows, its
 //! face, and the range of the block that it covers; and where blocks begin and end (`block_at`, `block_from`, `block_before`).
 //!
-//! 1. `stretch`: properties are looked up where one changes or an overlay starts or ends. They hold up to the next such stop, which is the
-//!    iterator's stop position in Emacs (`compute_stop_pos`, `handle_stop`).
+//! 1. `alike_range`: properties are looked up where one changes or an overlay starts or ends. They hold up to the next such stop, which is
+//!    the iterator's stop position in Emacs (`compute_stop_pos`, `handle_stop`).
 //! 2. `showing`: a position is replaced by a display spec, or hidden with an ellipsis or without, or neither. Positions with one spec make a
 //!    run, and so do hidden ones; a run is passed over at once.
 //! 3. `piece`: the overlays' strings come first (Emacs: `load_overlay_strings`). Then comes one piece for the run, or for the character. Its
@@ -29,6 +29,7 @@
 //! The rules are in docs/RULES.md: "Effective properties", "Blocks" and "Items of a block".
 #![tactic(auto)]
 
+mod alike_range;
 mod block;
 mod examples;
 mod item;
@@ -36,7 +37,6 @@ mod items;
 mod laws;
 mod piece;
 mod showing;
-mod stretch;
 mod walk;
 
 pub use block::{block_at, block_before, block_from};

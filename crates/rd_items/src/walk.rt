@@ -4,10 +4,10 @@ ghost use Rattle.rd_glyphs.specs.Marks.{marked_glyph};
 ghost use Rattle.rd_items.specs.Items.{item_of};
 ghost use Rattle.rd_items.specs.Walks.{TakesMark};
 
+use crate::alike_range::{AlikeRange, run_end};
 use crate::item::{Item, ItemKind};
 use crate::piece::{Piece, piece_at};
 use crate::showing::{Showing, char_at};
-use crate::stretch::{Stretch, run_end};
 use rd_base::{Face, Glyph, ListOf, Memory, Pos};
 use rd_glyphs::joined_glyph;
 use rd_props::{View, strings_at};
@@ -71,7 +71,7 @@ impl Walk {
     ghost use Rattle.rd_props.specs.Buffers.{meaning};
     ghost use Rattle.rd_props.specs.Strings.{strings_at};
     ghost use Rattle.rd_items.specs.Readings.{showing_at};
-    ghost use Rattle.rd_items.specs.Stretches.{IsStretch};
+    ghost use Rattle.rd_items.specs.AlikeRanges.{IsAlikeRange};
     ghost use Rattle.rd_items.specs.Items.{items_by, covered_to};
     ghost use Rattle.rd_items.specs.Walks.{whole, Steps, TakesMarkIn};
     ghost use Rattle.rd_items.specs.Pieces.{scene_of, string_pieces};
@@ -140,29 +140,29 @@ impl Walk {
         Ok(())
     }
 
-    /// Goes on to a position: moves to its stretch, adds the strings of overlays before it, and answers how it is shown.
+    /// Goes on to a position: moves to its range, adds the strings of overlays before it, and answers how it is shown.
     fn enter(
         &mut self,
         alloc: Global,
         view: &View,
-        stretch: &mut Stretch,
+        range: &mut AlikeRange,
         start: Pos,
         pos: Pos,
     ) -> Result<Showing, Memory>
         requires accessible { IsAccessible view.now.state.now.text pos }
         requires behind { start ≤ pos }
-        requires stretch { IsStretch (meaning view.now.state.now) view.now.objects.now stretch.old }
+        requires range { IsAlikeRange (meaning view.now.state.now) view.now.objects.now range.old }
         ensures showing { IfOk result (λ showing. showing ≡ showing_at (meaning view.now.state.now) view.now.objects.now pos) }
-        ensures stretch { IfOk result (λ showing. IsStretch (meaning view.now.state.now) view.now.objects.now stretch.new) }
+        ensures range { IfOk result (λ showing. IsAlikeRange (meaning view.now.state.now) view.now.objects.now range.new) }
         ensures whole { IfOk result (λ showing. (xs : List Piece) → whole self.new.items self.new.since self.new.held xs ≡ whole self.old.items self.old.since self.old.held (string_pieces (pos - start) showing.face (strings_at (meaning view.now.state.now) pos) ++ xs)) }
     {
-        stretch.reach(alloc, view, pos)?;
-        if stretch.from < pos {
-            return Ok(stretch.showing);
+        range.reach(alloc, view, pos)?;
+        if range.from < pos {
+            return Ok(range.showing);
         }
         let strings = strings_at(alloc, view, pos)?;
-        self.put_strings(pos - start, stretch.showing.face, strings.as_slice())?;
-        Ok(stretch.showing)
+        self.put_strings(pos - start, range.showing.face, strings.as_slice())?;
+        Ok(range.showing)
     }
 
     /// Adds what stands at a position that belongs to no earlier run, and answers the next such position, or None behind the
@@ -171,18 +171,18 @@ impl Walk {
         &mut self,
         alloc: Global,
         view: &View,
-        stretch: &mut Stretch,
+        range: &mut AlikeRange,
         start: Pos,
         pos: Pos,
     ) -> Result<Option<Pos>, Memory>
         requires accessible { IsAccessible view.now.state.now.text pos }
         requires behind { start ≤ pos }
-        requires stretch { IsStretch (meaning view.now.state.now) view.now.objects.now stretch.old }
-        ensures stretch { IfOk result (λ next. IsStretch (meaning view.now.state.now) view.now.objects.now stretch.new) }
+        requires range { IsAlikeRange (meaning view.now.state.now) view.now.objects.now range.old }
+        ensures range { IfOk result (λ next. IsAlikeRange (meaning view.now.state.now) view.now.objects.now range.new) }
         ensures steps { Steps result (meaning view.now.state.now) (scene_of view.now) start pos (whole self.old.items self.old.since self.old.held) (whole self.new.items self.new.since self.new.held) }
     {
-        let showing = self.enter(alloc, view, stretch, start, pos)?;
-        let to = run_end(alloc, view, stretch, pos, &showing)?;
+        let showing = self.enter(alloc, view, range, start, pos)?;
+        let to = run_end(alloc, view, range, pos, &showing)?;
         let ch = char_at(view, pos);
         self.put(piece_at(view, &showing, &ch, pos - start, to - start))?;
         if showing.ends_block(&ch) {

@@ -20,12 +20,12 @@ pub loop-newline-preserved : goal.loop-newline-preserved
 loop-newline-preserved c =
     let s = meaning c.args.view.now.state.now in
     let right = c.end-end.ensures.right in
-    let stretch = c.in_ok-stretch.ensures in
-    let within = stretch.within (omega arith) in
-    let bound = next_bound s.text right c.in_ok-stretch.stretch.until (omega (arith, stretch.some)) within in
+    let range = c.in_ok-range.ensures in
+    let within = range.within (omega arith) in
+    let bound = next_bound s.text right c.in_ok-range.range.until (omega (arith, range.some)) within in
     rw c.next_newline-newline-in-loop-newline.ensures (record {
-      ordered = omega (arith, bound.0, stretch.some);
+      ordered = omega (arith, bound.0, range.some);
       within = omega (arith, bound.1);
-      inside = step-on s c.args.view.now.objects.now c.in_ok-stretch.stretch c.args.pos c.loop-newline.newline right stretch.shown stretch.first stretch.some within c.requires.0 c.loop-newline.invariant.ordered (sym c.is_open.ensures ∙ c.if-is_open.false) c.loop-newline.invariant.inside;
-      ends = λ less. next-newline s right c.in_ok-stretch.stretch.until (omega (arith, stretch.some)) within (omega arith);
+      inside = step-on s c.args.view.now.objects.now c.in_ok-range.range c.args.pos c.loop-newline.newline right range.shown range.first range.some within c.requires.0 c.loop-newline.invariant.ordered (sym c.is_open.ensures ∙ c.if-is_open.false) c.loop-newline.invariant.inside;
+      ends = λ less. next-newline s right c.in_ok-range.range.until (omega (arith, range.some)) within (omega arith);
     })

@@ -1,8 +1,8 @@
-//! Stretches of text that is shown alike, so that properties are looked up once for all of it.
+//! Ranges of text that is shown alike, so that properties are looked up once for all of it.
 ghost use Rattle.std.specs.Prelude.{◌≡◌, ◌+◌, ◌<◌, ◌≤◌, suc, IfOk};
 ghost use Rattle.rd_text.specs.Texts.{IsAccessible};
 ghost use Rattle.rd_props.specs.Buffers.{meaning};
-ghost use Rattle.rd_items.specs.Stretches.{IsStretch, IsStopBehind};
+ghost use Rattle.rd_items.specs.AlikeRanges.{IsAlikeRange, IsStopBehind};
 ghost use Rattle.rd_items.specs.Readings.{showing_at, reading, behind};
 ghost use Rattle.rd_items.specs.Pieces.{run_length};
 
@@ -16,34 +16,34 @@ use std::alloc::Global;
 
 /// How the positions from `from` to `until - 1` are shown; no string stands before any of them but the first.
 #[derive(Clone, Copy, Debug, PartialEq, Eq)]
-pub struct Stretch {
+pub struct AlikeRange {
     pub from: Pos,
     pub until: Pos,
     pub showing: Showing,
 }
 
-impl Stretch {
+impl AlikeRange {
     ghost use Rattle.std.specs.Prelude.{◌≡◌, ◌<◌, ◌≤◌, OnOk};
     ghost use Rattle.rd_text.specs.Texts.{IsAccessible};
     ghost use Rattle.rd_props.specs.Buffers.{meaning};
     ghost use Rattle.rd_props.specs.Appearance.{appearance_in};
     ghost use Rattle.rd_props.specs.Seen.{seen_at};
-    ghost use Rattle.rd_items.specs.Stretches.{holds, IsStretch};
+    ghost use Rattle.rd_items.specs.AlikeRanges.{holds, IsAlikeRange};
 
-    /// The stretch from an accessible position, or from the end of the accessible text, that looks like this, up to where a property
+    /// The range from an accessible position, or from the end of the accessible text, that looks like this, up to where a property
     /// changes or an overlay starts or ends.
-    pub fn of(view: &View, pos: Pos, appearance: &Appearance) -> Stretch
+    pub fn of(view: &View, pos: Pos, appearance: &Appearance) -> AlikeRange
         requires place { IsAccessible view.now.state.now.text pos }
         requires appearance { appearance.now ≡ appearance_in (seen_at (meaning view.now.state.now) view.now.objects.now pos) }
         ensures first { result.from ≡ pos }
         ensures some { pos < result.until }
         ensures within { pos < view.now.state.now.text.end → result.until ≤ view.now.state.now.text.end }
-        ensures shown { IsStretch (meaning view.now.state.now) view.now.objects.now result }
+        ensures shown { IsAlikeRange (meaning view.now.state.now) view.now.objects.now result }
     {
         nothing_changes_before_the_next_stop();
         let state = view.state;
         let settings = &state.settings;
-        Stretch {
+        AlikeRange {
             from: pos,
             until: stop_behind(view, pos),
             showing: showing_by(&settings.invisible, appearance),
@@ -57,55 +57,55 @@ impl Stretch {
         self.from <= pos && pos < self.until
     }
 
-    /// Becomes the stretch from a position, unless that is one of its own.
+    /// Becomes the range from a position, unless that is one of its own.
     pub fn reach(&mut self, alloc: Global, view: &View, pos: Pos) -> Result<(), Memory>
         requires accessible { IsAccessible view.now.state.now.text pos }
-        requires stretch { IsStretch (meaning view.now.state.now) view.now.objects.now self.old }
+        requires range { IsAlikeRange (meaning view.now.state.now) view.now.objects.now self.old }
         ensures from { OnOk result (self.new.from ≤ pos) }
         ensures until { OnOk result (pos < self.new.until) }
-        ensures stretch { OnOk result (IsStretch (meaning view.now.state.now) view.now.objects.now self.new) }
+        ensures range { OnOk result (IsAlikeRange (meaning view.now.state.now) view.now.objects.now self.new) }
     {
         if self.holds(pos) {
             return Ok(());
         }
-        *self = stretch_at(alloc, view, pos)?;
+        *self = alike_range_at(alloc, view, pos)?;
         Ok(())
     }
 }
 
-/// The stretch from an accessible position, or from the end of the accessible text, up to where a property changes or an overlay
+/// The range from an accessible position, or from the end of the accessible text, up to where a property changes or an overlay
 /// starts or ends.
-pub fn stretch_at(alloc: Global, view: &View, pos: Pos) -> Result<Stretch, Memory>
+pub fn alike_range_at(alloc: Global, view: &View, pos: Pos) -> Result<AlikeRange, Memory>
     requires { IsAccessible view.now.state.now.text pos }
-    ensures first { IfOk result (λ stretch. stretch.from ≡ pos) }
-    ensures some { IfOk result (λ stretch. pos < stretch.until) }
-    ensures within { pos < view.now.state.now.text.end → IfOk result (λ stretch. stretch.until ≤ view.now.state.now.text.end) }
-    ensures shown { IfOk result (λ stretch. IsStretch (meaning view.now.state.now) view.now.objects.now stretch) }
+    ensures first { IfOk result (λ range. range.from ≡ pos) }
+    ensures some { IfOk result (λ range. pos < range.until) }
+    ensures within { pos < view.now.state.now.text.end → IfOk result (λ range. range.until ≤ view.now.state.now.text.end) }
+    ensures shown { IfOk result (λ range. IsAlikeRange (meaning view.now.state.now) view.now.objects.now range) }
 {
     let appearance = appearance_at(alloc, view, pos)?;
-    Ok(Stretch::of(view, pos, &appearance))
+    Ok(AlikeRange::of(view, pos, &appearance))
 }
 
-/// The stretch before a position behind the beginning of the accessible text, from where a property changes or an overlay starts or
+/// The range before a position behind the beginning of the accessible text, from where a property changes or an overlay starts or
 /// ends up to that position, which is not one of its own.
-pub fn stretch_before(alloc: Global, view: &View, until: Pos) -> Result<Stretch, Memory>
+pub fn alike_range_before(alloc: Global, view: &View, until: Pos) -> Result<AlikeRange, Memory>
     requires first { view.now.state.now.text.begin < until }
     requires last { until ≤ view.now.state.now.text.end }
-    ensures within { IfOk result (λ stretch. view.now.state.now.text.begin ≤ stretch.from) }
-    ensures some { IfOk result (λ stretch. stretch.from < until) }
-    ensures last { IfOk result (λ stretch. stretch.until ≡ until) }
-    ensures shown { IfOk result (λ stretch. IsStretch (meaning view.now.state.now) view.now.objects.now stretch) }
+    ensures within { IfOk result (λ range. view.now.state.now.text.begin ≤ range.from) }
+    ensures some { IfOk result (λ range. range.from < until) }
+    ensures last { IfOk result (λ range. range.until ≡ until) }
+    ensures shown { IfOk result (λ range. IsAlikeRange (meaning view.now.state.now) view.now.objects.now range) }
 {
     nothing_changes_behind_the_last_stop();
     let showing = showing_at(alloc, view, until - 1)?;
-    Ok(Stretch {
+    Ok(AlikeRange {
         from: last_stop(view, until - 1),
         until,
         showing,
     })
 }
 
-/// Where the stretch from a position ends.
+/// Where the range from a position ends.
 fn stop_behind(view: &View, pos: Pos) -> Pos
     requires { IsAccessible view.now.state.now.text pos }
     ensures { IsStopBehind (meaning view.now.state.now) pos result }
@@ -118,18 +118,18 @@ fn stop_behind(view: &View, pos: Pos) -> Pos
     }
 }
 
-/// The first position behind one that doesn't belong to its run. The stretch goes on to it, so that no stretch is looked up twice.
+/// The first position behind one that doesn't belong to its run. The range goes on to it, so that none is looked up twice.
 pub fn run_end(
     alloc: Global,
     view: &View,
-    stretch: &mut Stretch,
+    range: &mut AlikeRange,
     pos: Pos,
     showing: &Showing,
 ) -> Result<Pos, Memory>
     requires accessible { IsAccessible view.now.state.now.text pos }
     requires showing { showing.now ≡ showing_at (meaning view.now.state.now) view.now.objects.now pos }
-    requires stretch { IsStretch (meaning view.now.state.now) view.now.objects.now stretch.old }
-    ensures stretch { IfOk result (λ to. IsStretch (meaning view.now.state.now) view.now.objects.now stretch.new) }
+    requires range { IsAlikeRange (meaning view.now.state.now) view.now.objects.now range.old }
+    ensures range { IfOk result (λ to. IsAlikeRange (meaning view.now.state.now) view.now.objects.now range.new) }
     ensures end { IfOk result (λ to. to ≡ suc pos + run_length view.now.state.now.settings.invisible showing.now (behind (reading (meaning view.now.state.now) view.now.objects.now pos))) }
 {
     let state = view.state;
@@ -139,11 +139,11 @@ pub fn run_end(
         return Ok(to);
     }
     while to < end {
-        stretch.reach(alloc, view, to)?;
-        if !showing.goes_on(&stretch.showing) {
+        range.reach(alloc, view, to)?;
+        if !showing.goes_on(&range.showing) {
             return Ok(to);
         }
-        to = stretch.until;
+        to = range.until;
     }
     Ok(to)
 }

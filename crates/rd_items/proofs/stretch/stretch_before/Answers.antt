@@ -1,7 +1,0 @@
-use Rattle.rd_props.specs.Buffers.{meaning}
-use Rattle.rd_items.proofs.Alike.{stretch-before}
-use Rattle.rd_items.proofs.stretch.stretch_before.Goals as goal
-
-pub returns-clause-shown : goal.returns-clause-shown
-returns-clause-shown c =
-    stretch-before c.nothing_changes_behind_the_last_stop.ensures (meaning c.args.view.now.state.now) c.args.view.now.objects.now c.args.until c.last_stop.result c.requires.first c.requires.last c.last_stop.ensures c.in_ok-showing.showing c.in_ok-showing.ensures
