@@ -12,7 +12,7 @@ use Rattle.rd_reuse.specs.Changes.{all, change_of, edit, is_all, is_none, is_sma
 use Rattle.rd_reuse.specs.declared.change.Change.{Change}
 use Rattle.rd_script.specs.declared.op.Op.{Op}
 use Rattle.rd_script.specs.declared.op.Op.TheVariants as ops
-use Rattle.rd_state.specs.Edits.{insertion, deletion, narrowing, widening, property_putting, overlay_making, overlay_moving, overlay_dropping, overlay_putting, mark_putting, setting_putting, is_accessible, is_made}
+use Rattle.rd_state.specs.Edits.{insertion, deletion, narrowing, widening, property_putting, overlay_making, overlay_moving, overlay_dropping, overlay_putting, margin_putting, setting_putting, is_accessible, is_made}
 use Rattle.rd_state.specs.Effects.{covered_effect, effect_of, moved_effect, overlay_in}
 use Rattle.rd_state.specs.Making.{table_of, string_making, spec_making, face_making, table_making}
 use Rattle.rd_state.specs.Moves.{moved as moved_window, moved_in}
@@ -277,8 +277,8 @@ moved-loud : (i from to : ℕ) (o : Option Overlay) → is_some o ≡ true → L
 moved-loud i from to None h = absurd (cc)
 moved-loud i from to (Some o) h = loud-moved i (o.from, o.to) (from, to)
 
-marks-seen : (objects : ObjectLists) (number : ℕ) (string : Option ℕ) (c d : ContentValue) → mark_putting objects number string c ≡ Ok d → seen d ≡ seen c
-marks-seen objects number string c d h = by (is_some (overlay_at c.overlays number)) (is_made (length objects.strings) string) h where
+margins-seen : (objects : ObjectLists) (number : ℕ) (string : Option ℕ) (c d : ContentValue) → margin_putting objects number string c ≡ Ok d → seen d ≡ seen c
+margins-seen objects number string c d h = by (is_some (overlay_at c.overlays number)) (is_made (length objects.strings) string) h where
   by : (t u : Bool) → (if t then (if u then Ok (record c { marks = marks.marked c.marks number string }) else Err NoObject) else Err NoOverlay) ≡ Ok d → seen d ≡ seen c
   by true true h = let is : record c { marks = marks.marked c.marks number string } ≡ d = cc h in ap seen (sym is)
   by true false h = absurd (cc)
@@ -365,4 +365,4 @@ calm-step s (ops.Margin window numbers strings) apart =
     found _ (window_of window s.windows) _ (Calm Nothing s)
     (λ w lives. treed-calm Nothing s (margins_tree s.tree window (numbers + strings)) window (λ old. record old { numbers = numbers; strings = strings }) (λ x quiet. (refl, λ h. (h, refl))))
 calm-step s (ops.MarginPut name overlay string) apart =
-    edited-calm Nothing s name (mark_putting s.objects overlay string) (λ b c at is. inr (marks-seen s.objects overlay string b.content c is))
+    edited-calm Nothing s name (margin_putting s.objects overlay string) (λ b c at is. inr (margins-seen s.objects overlay string b.content c is))

@@ -9,7 +9,7 @@ use Rattle.rd_tree.specs.Windows.{first_leaf, sibling, fits, holds, split_at, is
 use Rattle.rd_tree.specs.Calls.{Configuration, frame_of, is_full, split_tree, remove_tree, resize_tree, mode_tree, margins_tree}
 use Rattle.rd_tree.specs.declared.fault.TreeFault.{TreeFault}
 use Rattle.rd_tree.specs.declared.side.Side.{Side}
-use Rattle.rd_state.specs.Edits.{insertion, deletion, narrowing, widening, property_putting, overlay_making, overlay_moving, overlay_dropping, overlay_putting, mark_putting, setting_putting, is_accessible}
+use Rattle.rd_state.specs.Edits.{insertion, deletion, narrowing, widening, property_putting, overlay_making, overlay_moving, overlay_dropping, overlay_putting, margin_putting, setting_putting, is_accessible}
 use Rattle.rd_state.specs.Making.{table_of, string_making, spec_making, face_making, table_making}
 use Rattle.rd_state.specs.Moves.{moved_in}
 use Rattle.rd_state.specs.States.{BufferValue, ContentValue, StateValue, new_buffer, number_of}
@@ -197,4 +197,4 @@ goes s (ops.Hit window row column) = same-windows s s refl refl refl refl false
 goes s (ops.Margin window numbers strings) =
     found _ (window_of window s.windows) _ (Goes false s)
     (λ w. treed-leads s (margins_tree s.tree window (numbers + strings)) window (λ old. record old { numbers = numbers; strings = strings }) (margins-grow s.tree window (numbers + strings)))
-goes s (ops.MarginPut name overlay string) = edited-leads s name (mark_putting s.objects overlay string)
+goes s (ops.MarginPut name overlay string) = edited-leads s name (margin_putting s.objects overlay string)

@@ -13,7 +13,7 @@ use Rattle.rd_objects.specs.declared.fault.ObjectFault.TheVariants as faults
 use Rattle.rd_script.specs.declared.op.Op.{Op}
 use Rattle.rd_script.specs.declared.op.Op.TheVariants as ops
 use Rattle.rd_script.specs.declared.setting.Setting.{Setting}
-use Rattle.rd_state.specs.Edits.{deletion, is_accessible, insertion, mark_putting, narrowing, overlay_dropping, overlay_making, overlay_moving, overlay_putting, property_putting, setting_putting, widening}
+use Rattle.rd_state.specs.Edits.{deletion, is_accessible, insertion, margin_putting, narrowing, overlay_dropping, overlay_making, overlay_moving, overlay_putting, property_putting, setting_putting, widening}
 use Rattle.rd_state.specs.Making.{refused_object, run_of, spec_of, unless_fault}
 use Rattle.rd_state.specs.States.{BufferValue, ContentValue, StateValue, number_of}
 use Rattle.rd_state.specs.Steps.{changing, edited, edited_moving, in_window, in_buffer, in_shown, making, moving, on_tree, placing, raw_text, refused_tree, replaced, setting, showing, step, typing, unless_bad, with_found, with_objects}
@@ -104,8 +104,8 @@ overlay_dropping-free number c = either-free _ _ _ (ok-free _) (no-free NoOverla
 overlay_putting-free : (objects : ObjectLists) (number : ℕ) (kind : _) (value : Option ℕ) (c : ContentValue) → AnswersFree (overlay_putting objects number kind value c)
 overlay_putting-free objects number kind value c = either-free _ _ _ (either-free _ _ _ (ok-free _) (no-free NoObject (λ e. cc))) (no-free NoOverlay (λ e. cc))
 
-mark_putting-free : (objects : ObjectLists) (number : ℕ) (string : Option ℕ) (c : ContentValue) → AnswersFree (mark_putting objects number string c)
-mark_putting-free objects number string c = either-free _ _ _ (either-free _ _ _ (ok-free _) (no-free NoObject (λ e. cc))) (no-free NoOverlay (λ e. cc))
+margin_putting-free : (objects : ObjectLists) (number : ℕ) (string : Option ℕ) (c : ContentValue) → AnswersFree (margin_putting objects number string c)
+margin_putting-free objects number string c = either-free _ _ _ (either-free _ _ _ (ok-free _) (no-free NoObject (λ e. cc))) (no-free NoOverlay (λ e. cc))
 
 setting_putting-free : (objects : ObjectLists) (value : Setting) (c : ContentValue) → AnswersFree (setting_putting objects value c)
 setting_putting-free objects value c = either-free _ _ _ (ok-free _) (no-free NoObject (λ e. cc))
@@ -257,4 +257,4 @@ session-free v (ops.Shift on) = λ e. cc
 session-free v (ops.Go window right) = lives-free v.state window _ (λ w. point-free v.state window (stepped_to v.files v.state w right))
 session-free v (ops.Hit window row column) = lives-free v.state window _ (λ w. hit-free v.state window w (layout_of window v.layouts) (place_of window v.state) row column)
 session-free v (ops.Margin window numbers strings) = lives-free v.state window _ (λ w. changing-free window _ _ (tree-free _ _ (margins-free v.state.tree window (numbers + strings))))
-session-free v (ops.MarginPut name overlay string) = edited-free v.state name (mark_putting v.state.objects overlay string) (mark_putting-free v.state.objects overlay string)
+session-free v (ops.MarginPut name overlay string) = edited-free v.state name (margin_putting v.state.objects overlay string) (margin_putting-free v.state.objects overlay string)

@@ -20,12 +20,12 @@ use Rattle.rd_state.specs.Windows.{window_of, with_window, leaf_of}
 use Rattle.rd_state.proofs.ByNumber.{window-each}
 use Rattle.rd_state.proofs.Keeping.{holding, moved_by}
 use Rattle.rd_state.specs.Valid.{IsContent, IsWindow, IsValid}
-use Rattle.rd_state.specs.Edits.{insertion, deletion, narrowing, widening, property_putting, overlay_making, overlay_moving, overlay_dropping, overlay_putting, mark_putting, setting_putting}
+use Rattle.rd_state.specs.Edits.{insertion, deletion, narrowing, widening, property_putting, overlay_making, overlay_moving, overlay_dropping, overlay_putting, margin_putting, setting_putting}
 use Rattle.rd_state.specs.Making.{table_of}
 use Rattle.rd_state.specs.Moves.{moved, moved_in}
 use Rattle.rd_state.specs.Steps.{replaced, moving, changing, typing, raw_text, held, step, settled}
 use Rattle.rd_state.proofs.Below.{TextLaws, MadeLaws, ObjectLaws, GrowLaws, TreeLaws}
-use Rattle.rd_state.proofs.Naming.{setting-keeps, mark-keeps, string-valid, spec-valid, face-valid, table-valid, making-valid, new-valid}
+use Rattle.rd_state.proofs.Naming.{setting-keeps, margin-keeps, string-valid, spec-valid, face-valid, table-valid, making-valid, new-valid}
 use Rattle.rd_state.proofs.Options.{get-set}
 use Rattle.rd_state.proofs.Showing.{set-valid, found-ok, buffer-ok, setting-valid, placing-valid, point-keeps, start-keeps, look-keeps, scroll-keeps, showing-valid, splitting-valid, removing-valid, resizing-valid, selecting-valid, mode_lining-valid, margining-valid}
 use Rattle.rd_state.proofs.Slots.{table-right}
@@ -160,7 +160,7 @@ step-valid laws s t (ops.Shift on) v form h = framed-valid s t s.margin s.conser
 step-valid laws s t (ops.Go window right) v form h = let same : s ≡ t = cc (h) in subst IsValid same v
 step-valid laws s t (ops.Hit window row column) v form h = let same : s ≡ t = cc (h) in subst IsValid same v
 step-valid laws s t (ops.Margin window numbers strings) v form h = margining-valid laws.trees s t window numbers strings v form.1 form.2 h
-step-valid laws s t (ops.MarginPut name overlay string) v form h = edited-valid s t name (mark_putting s.objects overlay string) v (mark-keeps s.objects overlay string) h
+step-valid laws s t (ops.MarginPut name overlay string) v form h = edited-valid s t name (margin_putting s.objects overlay string) v (margin-keeps s.objects overlay string) h
 
 -- ---- settling
 

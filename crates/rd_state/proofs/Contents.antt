@@ -20,7 +20,7 @@ use Rattle.rd_props.specs.Values.{value_of}
 use Rattle.rd_script.specs.Forms.{is_text_kind}
 use Rattle.rd_state.specs.States.{ContentValue, seen, values_on, value_in}
 use Rattle.rd_state.specs.Valid.{IsWithin, IsContent}
-use Rattle.rd_state.specs.Edits.{is_range_of_all, is_made, is_value_made, marked, grown, shrunk}
+use Rattle.rd_state.specs.Edits.{is_range_of_all, is_made, is_value_made, marked_modified, grown, shrunk}
 use Rattle.rd_state.proofs.Below.{TextLaws, MadeLaws}
 use Rattle.rd_state.proofs.Tables.{AreAlike, value-in-table}
 use Rattle.rd_state.proofs.Within.{grown-within, shrunk-within, same-within, made-within, put-within, moved-within, given-within}
@@ -46,7 +46,7 @@ opened_values c pos new = record {
   text = inserted c.text pos new;
   properties = opened (value_in c.properties) pos (length new);
   overlays = map (slot_grown pos (length new)) c.overlays;
-  settings = marked (nat_lt 0 (length new)) c.settings;
+  settings = marked_modified (nat_lt 0 (length new)) c.settings;
 }
 
 opened-within : (c : ContentValue) (pos : ℕ) (new : List ℕ) → IsText c.text → IsWithin (seen c) → IsAccessible c.text pos → IsWithin (opened_values c pos new)
@@ -77,7 +77,7 @@ grown-valid texts made o c pos new v codes at room =
       within = listed-within (opened_values c pos new) (opened-within c pos new v.text v.within at);
       least_tab = v.least_tab;
       most_tab = v.most_tab;
-      names = made.inserted (seen c) (seen (grown c pos new)) o pos new v.names (settings-kept o c.settings (marked (nat_lt 0 (length new)) c.settings) refl refl refl v.names.settings)
+      names = made.inserted (seen c) (seen (grown c pos new)) o pos new v.names (settings-kept o c.settings (marked_modified (nat_lt 0 (length new)) c.settings) refl refl refl v.names.settings)
           (grown-is c pos new v.text v.within at);
       marks = v.marks;
     }
@@ -89,7 +89,7 @@ closed_values c from to = record {
   text = deleted c.text from to;
   properties = closed (value_in c.properties) from to;
   overlays = map (slot_shrunk from to) c.overlays;
-  settings = marked (nat_lt from to) c.settings;
+  settings = marked_modified (nat_lt from to) c.settings;
 }
 
 closed-within : (c : ContentValue) (from to : ℕ) → IsText c.text → IsWithin (seen c) → IsAccessibleRange c.text from to → IsWithin (closed_values c from to)
@@ -111,7 +111,7 @@ shrunk-valid texts made o c from to v at =
       within = listed-within (closed_values c from to) (closed-within c from to v.text v.within at);
       least_tab = v.least_tab;
       most_tab = v.most_tab;
-      names = made.deleted (seen c) (seen (shrunk c from to)) o from to v.names (settings-kept o c.settings (marked (nat_lt from to) c.settings) refl refl refl v.names.settings)
+      names = made.deleted (seen c) (seen (shrunk c from to)) o from to v.names (settings-kept o c.settings (marked_modified (nat_lt from to) c.settings) refl refl refl v.names.settings)
           (shrunk-is c from to v.text v.within at);
       marks = v.marks;
     }

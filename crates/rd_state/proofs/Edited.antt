@@ -13,7 +13,7 @@ use Rattle.rd_props.specs.Edits.{opened, closed, put_on}
 use Rattle.rd_props.specs.declared.state.BufferState.{BufferState}
 use Rattle.rd_state.specs.Held.{content_of}
 use Rattle.rd_state.specs.Valid.{IsWithin}
-use Rattle.rd_state.specs.Edits.{is_accessible, is_accessible_range, is_value_made, has_room, marked, insertion, deletion, property_putting}
+use Rattle.rd_state.specs.Edits.{is_accessible, is_accessible_range, is_value_made, has_room, marked_modified, insertion, deletion, property_putting}
 use Rattle.rd_script.specs.Forms.{is_text_kind}
 use Rattle.rd_state.proofs.Contents.{put_on-within}
 use Rattle.rd_state.proofs.Tests.{is_accessible_range-means}
@@ -34,7 +34,7 @@ some-characters n t e = grind (arith, nat_tests)
 
 pub insertion-is : (b c : BufferState) (pos : ℕ) (new : List ℕ) → IsWithin (props.meaning b) → IsAccessible b.text pos → length b.text.text + length new ≤ most_characters
     → c.text ≡ inserted b.text pos new → AreAlike (props.values_of c.spans) (opened (props.values_of b.spans) pos (length new))
-    → c.overlays ≡ map (slot_grown pos (length new)) b.overlays → c.settings ≡ marked (nat_lt 0 (length new)) b.settings
+    → c.overlays ≡ map (slot_grown pos (length new)) b.overlays → c.settings ≡ marked_modified (nat_lt 0 (length new)) b.settings
     → (m : MarkValues) → insertion pos new (content_of b m) ≡ Ok (content_of c m)
 insertion-is b c pos new within at room same values overlays settings m =
     cond-true (is_accessible b.text pos) _ _ (accessible b.text pos at)
@@ -43,7 +43,7 @@ insertion-is b c pos new within at room same values overlays settings m =
 
 pub deletion-is : (b c : BufferState) (from to : ℕ) → IsWithin (props.meaning b) → IsAccessibleRange b.text from to
     → c.text ≡ deleted b.text from to → AreAlike (props.values_of c.spans) (closed (props.values_of b.spans) from to)
-    → c.overlays ≡ map (slot_shrunk from to) b.overlays → c.settings ≡ marked (nat_lt from to) b.settings
+    → c.overlays ≡ map (slot_shrunk from to) b.overlays → c.settings ≡ marked_modified (nat_lt from to) b.settings
     → (m : MarkValues) → deletion from to (content_of b m) ≡ Ok (content_of c m)
 deletion-is b c from to within at same values overlays settings m =
     cond-true (is_accessible_range b.text from to) _ _ (accessible-range b.text from to at)

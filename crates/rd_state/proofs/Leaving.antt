@@ -17,7 +17,7 @@ use Rattle.rd_state.specs.declared.refused.Refused.TheVariants.{NoBuffer, NoObje
 use Rattle.rd_state.specs.States.{BufferValue, ContentValue, StateValue, seen, number_of}
 use Rattle.rd_state.specs.Valid.{IsContent}
 use Rattle.rd_state.specs.Changes.{Stays, StaysWhole}
-use Rattle.rd_state.specs.Edits.{is_accessible_range, is_range_of_all, is_made, is_value_made, most_overlays, grown, shrunk, insertion, deletion, property_putting, overlay_making, overlay_moving, overlay_dropping, overlay_putting, mark_putting}
+use Rattle.rd_state.specs.Edits.{is_accessible_range, is_range_of_all, is_made, is_value_made, most_overlays, grown, shrunk, insertion, deletion, property_putting, overlay_making, overlay_moving, overlay_dropping, overlay_putting, margin_putting}
 use Rattle.rd_state.specs.Moves.{moved_in}
 use Rattle.rd_state.specs.Steps.{with_found, replaced, moving, edited, edited_moving}
 use Rattle.rd_state.proofs.Below.{LeaveLaws}
@@ -149,8 +149,8 @@ stays-moved laws o number from to c d v h =
       }),
     )
 
-pub stays-marked : (laws : LeaveLaws) (o : ObjectLists) (number : ℕ) (string : Option ℕ) (c d : ContentValue) → mark_putting o number string c ≡ Ok d → StaysWhole c o d o
-stays-marked laws o number string c d h =
+pub stays-margin : (laws : LeaveLaws) (o : ObjectLists) (number : ℕ) (string : Option ℕ) (c d : ContentValue) → margin_putting o number string c ≡ Ok d → StaysWhole c o d o
+stays-margin laws o number string c d h =
     let new : ContentValue = record c { marks = marks.marked c.marks number string } in
     let outer = if-ok (is_some (overlay_at c.overlays number)) (if is_made (length o.strings) string then Ok new else Err NoObject) NoOverlay d h in
     let inner = if-ok (is_made (length o.strings) string) (Ok new) NoObject d outer.1 in

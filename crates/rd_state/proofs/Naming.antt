@@ -31,7 +31,7 @@ use Rattle.rd_state.specs.declared.refused.Refused.{Refused}
 use Rattle.rd_state.specs.declared.refused.Refused.TheVariants.{NoObject, NoOverlay, NameTaken, TooManyBuffers}
 use Rattle.rd_state.specs.States.{ContentValue, StateValue, seen, value_in, values_on, new_buffer, new_content, number_of}
 use Rattle.rd_state.specs.Valid.{most_buffers, IsContent, IsValid}
-use Rattle.rd_state.specs.Edits.{is_made, is_setting_made, mark_putting, setting_putting, with_setting}
+use Rattle.rd_state.specs.Edits.{is_made, is_setting_made, margin_putting, setting_putting, with_setting}
 use Rattle.rd_state.specs.Making.{unless_fault, run_of, spec_of, string_making, spec_making, face_making, table_making}
 use Rattle.rd_state.specs.Steps.{with_objects, making}
 use Rattle.rd_state.proofs.Below.{MadeLaws, ObjectLaws, GrowLaws}
@@ -95,16 +95,16 @@ cond-some : (t : Bool) (w old : Option ℕ) (x : ℕ) (P : Type 0) → cond t w 
 cond-some true w old x P h f g = f h
 cond-some false w old x P h f g = g h
 
-mark-made : (count : ℕ) (m : MarkValues) (number : ℕ) (string : Option ℕ) → is_made count string ≡ true → ((k x : ℕ) → get m k ≡ Some x → x < count)
+margin-made : (count : ℕ) (m : MarkValues) (number : ℕ) (string : Option ℕ) → is_made count string ≡ true → ((k x : ℕ) → get m k ≡ Some x → x < count)
     → (k x : ℕ) → get (marked m number string) k ≡ Some x → x < count
-mark-made count m number None made old k x h =
+margin-made count m number None made old k x h =
     cond-some (eq_by_cmp nat_cmp k number) None (get m k) x (x < count) (sym (get-remove nat_cmp_total m number k) ∙ h) (λ e. absurd (cc)) (old k x)
-mark-made count m number (Some n) made old k x h =
+margin-made count m number (Some n) made old k x h =
     cond-some (eq_by_cmp nat_cmp k number) (Some n) (get m k) x (x < count) (sym (get-insert nat_cmp_total m number n k) ∙ h)
     (λ e. let same : n ≡ x = cc in subst (λ (y : ℕ). y < count) same (ltb-true n count made)) (old k x)
 
-pub mark-keeps : (o : ObjectLists) (number : ℕ) (string : Option ℕ) → Keeps o (λ p. p) (mark_putting o number string)
-mark-keeps o number string c d v h =
+pub margin-keeps : (o : ObjectLists) (number : ℕ) (string : Option ℕ) → Keeps o (λ p. p) (margin_putting o number string)
+margin-keeps o number string c d v h =
     let new : ContentValue = record c { marks = marked c.marks number string } in
     let outer = if-ok (is_some (overlay_at c.overlays number)) (if is_made (length o.strings) string then Ok new else Err NoObject) NoOverlay d h in
     let inner = if-ok (is_made (length o.strings) string) (Ok new) NoObject d outer.1 in
@@ -115,7 +115,7 @@ mark-keeps o number string c d v h =
       least_tab = v.least_tab;
       most_tab = v.most_tab;
       names = v.names;
-      marks = mark-made (length o.strings) c.marks number string inner.0 v.marks;
+      marks = margin-made (length o.strings) c.marks number string inner.0 v.marks;
     })
 
 -- ---- objects
@@ -199,8 +199,8 @@ table-valid made laws grow s t table v form h =
 no_text-is_text : IsText no_text
 no_text-is_text = record { first = omega arith; ordered = omega arith; last = omega arith; short = omega arith }
 
-no-mark : (k x : ℕ) → get (finite.empty {X = ℕ} {R = nat_cmp}) k ≡ Some x → ⊥
-no-mark k x h = let none = get-empty {X = ℕ} nat_cmp k in cc
+no-margin : (k x : ℕ) → get (finite.empty {X = ℕ} {R = nat_cmp}) k ≡ Some x → ⊥
+no-margin k x h = let none = get-empty {X = ℕ} nat_cmp k in cc
 
 -- lists of nothing have no value
 none-in : (kind p : ℕ) → value_in (values_on no_text props.no_values) kind p ≡ None
@@ -232,7 +232,7 @@ new-valid o = record {
     overlays = λ number value kind overlay h e. absurd (cc);
     settings = record { table = tt; line_prefix = tt; wrap_prefix = tt };
   };
-  marks = λ k x h. absurd (no-mark k x h);
+  marks = λ k x h. absurd (no-margin k x h);
 }
 
 pub making-valid : (s t : StateValue) (name : List ℕ) → IsValid s → IsTrue (is_buffer_name name) → making s name ≡ Ok t → IsValid t

@@ -26,7 +26,7 @@ use Rattle.rd_state.specs.States.{BufferValue, ContentValue, StateValue, opening
 use Rattle.rd_state.specs.Valid.{most_buffers, IsValid}
 use Rattle.rd_state.specs.Windows.{window_of, with_window, without_window, selected_window}
 use Rattle.rd_state.specs.Changes.{Stays, StaysWhole, Leaves}
-use Rattle.rd_state.specs.Edits.{is_accessible, insertion, deletion, narrowing, widening, property_putting, overlay_making, overlay_moving, overlay_dropping, overlay_putting, mark_putting, setting_putting}
+use Rattle.rd_state.specs.Edits.{is_accessible, insertion, deletion, narrowing, widening, property_putting, overlay_making, overlay_moving, overlay_dropping, overlay_putting, margin_putting, setting_putting}
 use Rattle.rd_state.specs.Effects.{overlay_in, inserted_effect, covered_effect, moved_effect, effect_of}
 use Rattle.rd_state.specs.Making.{run_of, spec_of, table_of, string_making, spec_making, face_making, table_making}
 use Rattle.rd_state.specs.Moves.{moved, moved_in}
@@ -35,7 +35,7 @@ use Rattle.rd_state.proofs.AllSteps.{moved-buffer}
 use Rattle.rd_state.proofs.Below.{LeaveLaws, GrowLaws}
 use Rattle.rd_state.proofs.ByNumber.{NumberedWindow, window-each, window-same, window-other, window-end, window-gone, window-left, get-end, some-none}
 use Rattle.rd_state.proofs.Keeping.{moved_by}
-use Rattle.rd_state.proofs.Leaving.{whole, whole-objects, stays-inserted, stays-deleted, StaysAround, stays-put, stays-made, AroundOverlay, stays-dropped, stays-given, stays-moved, stays-marked, IsEditOf, moving-is, edited-is, edited_moving-is, others-whole, here-stays}
+use Rattle.rd_state.proofs.Leaving.{whole, whole-objects, stays-inserted, stays-deleted, StaysAround, stays-put, stays-made, AroundOverlay, stays-dropped, stays-given, stays-moved, stays-margin, IsEditOf, moving-is, edited-is, edited_moving-is, others-whole, here-stays}
 use Rattle.rd_state.proofs.Naming.{made-none}
 use Rattle.rd_state.proofs.Showing.{found-ok, buffer-ok, on_tree-ok, changing-ok, unless-ok}
 use Rattle.rd_state.proofs.Tests.{if-ok, if-not}
@@ -214,12 +214,12 @@ moved-outcome laws grow s t name number from to v e =
     (show-same s t (Moved i (there.0.from, there.0.to) (from, to)) e.1))
 
 -- a margin string changes nothing that is seen
-marked-outcome : (laws : LeaveLaws) (grow : GrowLaws) (s t : StateValue) (i number : ℕ) (string : Option ℕ) → IsEditOf s t i (mark_putting s.objects number string) × (t.windows ≡ s.windows) → Outcome s t Nothing
-marked-outcome laws grow s t i number string e =
-    let edit = mark_putting s.objects number string in
+margin-outcome : (laws : LeaveLaws) (grow : GrowLaws) (s t : StateValue) (i number : ℕ) (string : Option ℕ) → IsEditOf s t i (margin_putting s.objects number string) × (t.windows ≡ s.windows) → Outcome s t Nothing
+margin-outcome laws grow s t i number string e =
+    let edit = margin_putting s.objects number string in
     edit-outcome laws grow s t i edit Nothing e.0
     (λ k b c hb hc. elim (cases_eq k i) [
-      | inl p ↦ here-stays s t i k edit b c (λ x y o. StaysWhole x s.objects y o) e.0 hb hc (λ x y at gives eq. stays-marked laws s.objects number string x y gives) p
+      | inl p ↦ here-stays s t i k edit b c (λ x y o. StaysWhole x s.objects y o) e.0 hb hc (λ x y at gives eq. stays-margin laws s.objects number string x y gives) p
       | inr q ↦ others-whole laws s t i k edit b c e.0 hb hc q
     ])
     (show-same s t Nothing e.1)
@@ -451,4 +451,4 @@ outcome laws grow s t (ops.Margin window numbers strings) v form h =
     let w = found-ok s t window _ h in
     tree-outcome laws grow s t window (λ old. record old { numbers = numbers; strings = strings }) (margins_tree s.tree window (numbers + strings)) (λ x. refl) w.2
 outcome laws grow s t (ops.MarginPut name overlay string) v form h =
-    marked-outcome laws grow s t (number_of name s.buffers) overlay string (edited-is s t name (mark_putting s.objects overlay string) h)
+    margin-outcome laws grow s t (number_of name s.buffers) overlay string (edited-is s t name (margin_putting s.objects overlay string) h)

@@ -13,7 +13,7 @@ use Rattle.rd_props.specs.declared.state.BufferState.{BufferState}
 use Rattle.rd_state.specs.States.{listed, table, values_on, value_in, new_content, seen}
 use Rattle.rd_state.specs.Held.{content_of}
 use Rattle.rd_state.specs.Valid.{IsWithin}
-use Rattle.rd_state.specs.Edits.{marked, grown, shrunk}
+use Rattle.rd_state.specs.Edits.{marked_modified, grown, shrunk}
 use Rattle.rd_state.proofs.Opening.{branches}
 
 -- ---- lists
@@ -109,7 +109,7 @@ new-content b m e f = λ i. record {
 -- what is left after a text was put in
 pub grown-content : (b c : BufferState) (m : MarkValues) (pos : ℕ) (new : List ℕ) → IsWithin (props.meaning b) → c.text ≡ inserted b.text pos new
     → AreAlike (props.values_of c.spans) (opened (props.values_of b.spans) pos (length new))
-    → c.overlays ≡ map (slot_grown pos (length new)) b.overlays → c.settings ≡ marked (nat_lt 0 (length new)) b.settings
+    → c.overlays ≡ map (slot_grown pos (length new)) b.overlays → c.settings ≡ marked_modified (nat_lt 0 (length new)) b.settings
     → grown (content_of b m) pos new ≡ content_of c m
 grown-content b c m pos new within same values overlays settings =
     let f = value_in (values_on b.text (props.values_of b.spans)) in
@@ -121,7 +121,7 @@ grown-content b c m pos new within same values overlays settings =
 -- what is left after a range was taken away
 pub shrunk-content : (b c : BufferState) (m : MarkValues) (from to : ℕ) → IsWithin (props.meaning b) → c.text ≡ deleted b.text from to
     → AreAlike (props.values_of c.spans) (closed (props.values_of b.spans) from to)
-    → c.overlays ≡ map (slot_shrunk from to) b.overlays → c.settings ≡ marked (nat_lt from to) b.settings
+    → c.overlays ≡ map (slot_shrunk from to) b.overlays → c.settings ≡ marked_modified (nat_lt from to) b.settings
     → shrunk (content_of b m) from to ≡ content_of c m
 shrunk-content b c m from to within same values overlays settings =
     let f = value_in (values_on b.text (props.values_of b.spans)) in

@@ -58,8 +58,8 @@ is_setting_made objects setting = true
 -- ---- the text
 
 -- the settings after an edit, which sets `modified` where it changed anything
-abbrev pub marked : Bool → SettingValues → SettingValues
-marked changed s = record s { modified = changed || s.modified }
+abbrev pub marked_modified : Bool → SettingValues → SettingValues
+marked_modified changed s = record s { modified = changed || s.modified }
 
 -- a buffer with a text put in before a position: the new characters have no properties, and what stands behind them moves
 abbrev pub grown : ContentValue → ℕ → List ℕ → ContentValue
@@ -67,7 +67,7 @@ grown c pos new = record c {
   text = inserted c.text pos new;
   properties = values_on (inserted c.text pos new) (opened (value_in c.properties) pos (length new));
   overlays = map (slot_grown pos (length new)) c.overlays;
-  settings = marked (nat_lt 0 (length new)) c.settings;
+  settings = marked_modified (nat_lt 0 (length new)) c.settings;
 }
 
 abbrev pub insertion : ℕ → List ℕ → ContentValue → Result ContentValue Refused
@@ -79,7 +79,7 @@ shrunk c from to = record c {
   text = deleted c.text from to;
   properties = values_on (deleted c.text from to) (closed (value_in c.properties) from to);
   overlays = map (slot_shrunk from to) c.overlays;
-  settings = marked (nat_lt from to) c.settings;
+  settings = marked_modified (nat_lt from to) c.settings;
 }
 
 abbrev pub deletion : ℕ → ℕ → ContentValue → Result ContentValue Refused
@@ -135,8 +135,8 @@ overlay_putting objects number kind value c =
     else Err NoOverlay
 
 -- an overlay with another margin string
-abbrev pub mark_putting : ObjectLists → ℕ → Option ℕ → ContentValue → Result ContentValue Refused
-mark_putting objects number string c =
+abbrev pub margin_putting : ObjectLists → ℕ → Option ℕ → ContentValue → Result ContentValue Refused
+margin_putting objects number string c =
     if is_some (overlay_at c.overlays number)
     then (if is_made (length objects.strings) string then Ok (record c { marks = marks.marked c.marks number string }) else Err NoObject)
     else Err NoOverlay

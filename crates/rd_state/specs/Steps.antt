@@ -21,7 +21,7 @@ use Rattle.rd_state.specs.States.{BufferValue, ContentValue, StateValue, new_buf
 use Rattle.rd_state.specs.Valid.{most_buffers}
 use Rattle.rd_state.specs.Windows.{window_of, with_window, without_window}
 use Rattle.rd_state.specs.Making.{string_making, spec_making, face_making, table_making, table_of}
-use Rattle.rd_state.specs.Edits.{is_accessible, insertion, deletion, narrowing, widening, property_putting, overlay_making, overlay_moving, overlay_dropping, overlay_putting, mark_putting, setting_putting}
+use Rattle.rd_state.specs.Edits.{is_accessible, insertion, deletion, narrowing, widening, property_putting, overlay_making, overlay_moving, overlay_dropping, overlay_putting, margin_putting, setting_putting}
 use Rattle.rd_state.specs.Moves.{moved_in}
 
 -- ---- what an op speaks of
@@ -207,7 +207,7 @@ step s (Shift on) = Ok (record s { shifting = on })
 step s (Go window right) = Ok s
 step s (Hit window row column) = Ok s
 step s (Margin window numbers strings) = margining s window numbers strings
-step s (MarginPut name overlay string) = edited s name (mark_putting s.objects overlay string)
+step s (MarginPut name overlay string) = edited s name (margin_putting s.objects overlay string)
 
 -- a window's view and its point as a layout settles them
 abbrev pub settled : StateValue → ℕ → Anchor → ℕ → StateValue

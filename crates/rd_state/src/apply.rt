@@ -108,7 +108,7 @@ impl StateParts {
                 buffer,
                 overlay,
                 string,
-            } => self.mark(buffer.as_str(), overlay, string),
+            } => self.put_margin_string(buffer.as_str(), overlay, string),
         }
     }
 }

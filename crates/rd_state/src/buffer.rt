@@ -4,7 +4,7 @@ ghost use Rattle.rd_text.specs.Texts.{IsText};
 ghost use Rattle.rd_text.specs.Answers.{Inserts};
 ghost use Rattle.rd_props.specs.Buffers.{values_of};
 ghost use Rattle.rd_props.specs.Edits.{opened};
-ghost use Rattle.rd_state.specs.Edits.{marked, insertion, deletion, narrowing, widening};
+ghost use Rattle.rd_state.specs.Edits.{marked_modified, insertion, deletion, narrowing, widening};
 ghost use Rattle.rd_state.specs.Answers.{Answers};
 
 use crate::content::Content;
@@ -22,7 +22,7 @@ impl Content {
         self.state.text.buffers_are_valid();
         put_in(&mut self.state.text, &mut self.state.spans, pos, new)?;
         self.state.overlays.inserted(pos, new.len() as u32);
-        mark(&mut self.state.settings, !new.is_empty());
+        mark_modified(&mut self.state.settings, !new.is_empty());
         Ok(())
     }
 
@@ -35,7 +35,7 @@ impl Content {
         self.state.text.delete(from, to)?;
         close(&mut self.state.spans, from, to);
         self.state.overlays.deleted(from, to);
-        mark(&mut self.state.settings, from < to);
+        mark_modified(&mut self.state.settings, from < to);
         Ok(())
     }
 
@@ -75,8 +75,8 @@ fn put_in(text: &mut Buffer, spans: &mut [Spans], pos: Pos, new: &[Ch]) -> Resul
 }
 
 /// Sets `modified` where an edit changed anything.
-fn mark(settings: &mut Settings, changed: bool)
-    ensures { settings.new ≡ marked changed settings.old }
+fn mark_modified(settings: &mut Settings, changed: bool)
+    ensures { settings.new ≡ marked_modified changed settings.old }
 {
     settings.modified = changed || settings.modified;
 }

@@ -3,7 +3,7 @@ ghost use Rattle.std.specs.Prelude.{◌≡◌, ◌≢◌, ◌+◌, ◌<◌, ◌�
 ghost use Rattle.rd_overlays.specs.Overlays.{overlay_at};
 ghost use Rattle.rd_objects.specs.Sound.{AreObjects};
 ghost use Rattle.rd_script.specs.Forms.{IsPropertyValue};
-ghost use Rattle.rd_state.specs.Edits.{is_range_of_all, overlay_making, overlay_moving, overlay_dropping, overlay_putting, mark_putting};
+ghost use Rattle.rd_state.specs.Edits.{is_range_of_all, overlay_making, overlay_moving, overlay_dropping, overlay_putting, margin_putting};
 ghost use Rattle.rd_state.specs.Answers.{Answers};
 ghost use Rattle.rd_state.specs.declared.refused.Refused.TheVariants.{NoOverlay};
 
@@ -91,14 +91,14 @@ impl Content {
     }
 
     /// Gives an overlay another margin string, or takes its string away.
-    pub(crate) fn mark(
+    pub(crate) fn put_margin_string(
         &mut self,
         objects: &Objects,
         number: u64,
         string: Option<u64>,
     ) -> Result<(), Refused>
         requires { AreObjects objects.now }
-        ensures changes { Answers result (mark_putting objects.now number string self.old) self.old self.new }
+        ensures changes { Answers result (margin_putting objects.now number string self.old) self.old self.new }
         ensures free { result ≡ Err Refused.Memory → IsSome string }
     {
         find_overlay(&self.state.overlays, number)?;

@@ -108,7 +108,7 @@ impl StateParts {
 
     /// Gives an overlay another margin string.
     #[tactic(auto, using(crate::proofs::ByName::in_place), unfolding(crate::specs::Steps::step, crate::specs::Effects::effect_of))]
-    pub(crate) fn mark(
+    pub(crate) fn put_margin_string(
         &mut self,
         name: &str,
         number: u64,
@@ -119,7 +119,7 @@ impl StateParts {
         ensures free { result ≡ Err Refused.Memory → IsSome string }
     {
         let i = find(&self.buffers, name)?;
-        self.buffers[i].mark(&self.objects, number, string)?;
+        self.buffers[i].put_margin_string(&self.objects, number, string)?;
         Ok(Effect::Nothing)
     }
 

@@ -1,7 +1,7 @@
 use Rattle.std.proofs.Common.{◌≡◌, ◌+◌, ◌<◌, nat_lt, length, ap, sym, ◌∙◌, arith}
 use Rattle.rd_props.specs.Buffers.{meaning}
 use Rattle.rd_props.specs.declared.state.BufferState.{BufferState}
-use Rattle.rd_state.specs.Edits.{insertion, marked}
+use Rattle.rd_state.specs.Edits.{insertion, marked_modified}
 use Rattle.rd_state.proofs.Edited.{insertion-is, some-characters}
 use Rattle.rd_state.proofs.Within.{all-fit, grown-within}
 use Rattle.rd_state.proofs.content.Content.insert.Goals as goal
@@ -16,16 +16,16 @@ inserted-requires c =
 pub invariant_of-self-2 : goal.invariant_of-self-2
 invariant_of-self-2 c =
     let b = c.self.inside.state in
-    let left : BufferState = record { text = c.put_in.new.text; spans = c.put_in.new.spans; overlays = c.inserted.new.self; settings = c.mark.new.settings } in
+    let left : BufferState = record { text = c.put_in.new.text; spans = c.put_in.new.spans; overlays = c.inserted.new.self; settings = c.mark_modified.new.settings } in
     let inserts = c.in_ok-put_in.ensures.text in
     grown-within (meaning b) (meaning left) c.args.pos c.args.new.now c.buffers_are_valid.ensures.text c.self.invariant inserts.0 inserts.2 c.in_ok-put_in.ensures.values c.inserted.ensures
 
 pub returns : goal.returns
 returns c =
     let b = c.self.inside.state in
-    let left : BufferState = record { text = c.put_in.new.text; spans = c.put_in.new.spans; overlays = c.inserted.new.self; settings = c.mark.new.settings } in
+    let left : BufferState = record { text = c.put_in.new.text; spans = c.put_in.new.spans; overlays = c.inserted.new.self; settings = c.mark_modified.new.settings } in
     let inserts = c.in_ok-put_in.ensures.text in
-    let settings : c.mark.new.settings ≡ marked (nat_lt 0 (length c.args.new.now)) b.settings
-    = c.mark.ensures ∙ ap (λ t. marked t b.settings) (some-characters (length c.args.new.now) c.is_empty.result c.is_empty.ensures) in
+    let settings : c.mark_modified.new.settings ≡ marked_modified (nat_lt 0 (length c.args.new.now)) b.settings
+    = c.mark_modified.ensures ∙ ap (λ t. marked_modified t b.settings) (some-characters (length c.args.new.now) c.is_empty.result c.is_empty.ensures) in
     ap (insertion c.args.pos c.args.new.now) (sym c.self.view_is)
     ∙ insertion-is b left c.args.pos c.args.new.now c.self.invariant inserts.0 inserts.1 inserts.2 c.in_ok-put_in.ensures.values c.inserted.ensures settings c.self.inside.marks
