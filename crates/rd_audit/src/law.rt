@@ -1,4 +1,4 @@
-//! What was printed is read back, and the streams of runs show their dumps.
+//! What was printed is read back, and the streams of runs show their dumps. The calls do nothing.
 ghost use Rattle.std.specs.Prelude.{◌≡◌, ◌≢◌, ℕ, ◌<◌, ◌++◌, ◌∷◌, [], List, Ok, Option, Some, length};
 ghost use Rattle.std.specs.Io.KnownBytes.{Consumes};
 ghost use Rattle.rd_io.specs.Lines.{lines_of};

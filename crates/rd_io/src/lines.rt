@@ -225,7 +225,7 @@ fn position_of_newline(bytes: &[u8]) -> Option<usize>
 }
 
 /// The law of lines: those of lines without a newline, each with one behind it, and of a rest without one, are these lines and
-/// the rest where it is not empty.
+/// the rest where it is not empty. The call does nothing.
 pub fn lines_are_cut_at_newlines()
     ensures { (lines : List (List ℕ)) (rest : List ℕ) → AllByRecursion IsUnbroken lines → IsUnbroken rest
         → lines_of (text_of_lines lines ++ rest) ≡ lines ++ last_of rest }

@@ -1,4 +1,5 @@
-//! What an update that may begin with a shift does to the terminal that reads its bytes, and where it leads.
+//! What an update that may begin with a shift does to the terminal that reads its bytes, and where it leads. The calls do
+//! nothing.
 ghost use Rattle.std.specs.Prelude.{◌≡◌, ℕ, ◌+◌, ◌<◌, ◌≤◌, All, List, length, Option, IfSome, None, Some, true};
 ghost use Rattle.std.specs.List.{flat_map};
 ghost use Rattle.rd_term.specs.Pictures.{Picture, IsScreen};

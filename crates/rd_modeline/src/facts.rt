@@ -3,8 +3,9 @@ use rd_base::Ch;
 use std::marker::Model;
 
 /// What a mode line can show: the buffer's name, the line of point from 1, whether the view holds the first row and the last one
-/// of the text, how many of the accessible characters stand before the view's block and how many there are, the two settings,
-/// and whether a part of the text is not accessible.
+/// of the text, how many of the accessible characters stand before the block in which the view begins (`above`) and how many
+/// there are (`total`), whether the buffer is modified and whether it is read-only, and whether a part of the text is not
+/// accessible (`narrowed`).
 #[derive(Drop)]
 pub struct Facts<'a> {
     pub name: &'a [Ch],

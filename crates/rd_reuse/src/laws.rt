@@ -1,4 +1,4 @@
-//! Laws of changes and of rows that are kept, over all changes and sources.
+//! Laws of changes and of rows that are kept, over all changes and sources. The calls do nothing.
 ghost use Rattle.std.specs.Prelude.{◌≡◌, ℕ, ◌^◌, ◌<◌, ◌≤◌, false, List};
 ghost use Rattle.rd_base.specs.declared.settings.Anchor.{Anchor};
 ghost use Rattle.rd_matrix.specs.Blocks.{IsAmong, IsWithin};

@@ -12,8 +12,9 @@
 //! 1. `prefix`: each prefix is cut to the elements that fit whole in half of the window's width.
 //! 2. `filling`: a row begins with its prefix. `spot` is where the next element comes: how many columns of the row are taken, and which
 //!    column of the line it is, from which tabs are measured.
-//! 3. `making`: elements are placed while they fit before the last column, which is kept for a mark. A blank stretch that is too long is cut
-//!    short. In a truncated line every element up to the row's end is placed, and `draft` makes cells of the columns that are seen.
+//! 3. `making`: elements are placed while they fit before the last column, which is kept for a mark. A blank stretch that is too long is
+//!    cut short, where a column is left for it. In a truncated line every element up to the row's end is placed, and `draft` makes cells of
+//!    the columns that are seen.
 //! 4. An element that does not fit ends the row. The row gets the continuation mark, and the element waits for the next row. Where lines
 //!    are wrapped between words the row ends behind its last break instead, without a mark, and all elements behind that break wait.
 //! 5. `draft`: blanks fill the row, and the truncation mark stands in the last column where the row goes on, in the first where it

@@ -10,7 +10,8 @@
 //! 1. `rd_views` lays out all windows (Emacs: `redisplay_windows`). That gives a `Desired`: a desired glyph matrix for each window
 //!    whose last one does not stay.
 //! 2. `rd_paint` paints the target, the frame's desired screen, with margins, borders, mode lines and echo area (Emacs: `build_frame_matrix`).
-//! 3. `bands` finds the rows that the terminal may shift: the text of each window that is as wide as the frame.
+//! 3. `bands` finds the rows that the terminal may shift: the text of each window that is as wide as the frame, and
+//!    none unless the op `shift` has allowed it.
 //! 4. `rd_lineshift` looks for a shift that saves rows (Emacs: `scrolling`), and `rd_update` prepares the bytes for all rows in which the
 //!    current screen still differs from the target.
 //! 5. The bytes are sent, all or up to the limit of rows. From here on no memory is taken.

@@ -1,4 +1,4 @@
-//! Laws of the start rule, over all sources.
+//! Laws of the start rule, over all sources. The calls do nothing.
 ghost use Rattle.std.specs.Prelude.{◌<◌, length};
 ghost use Rattle.rd_matrix.specs.Blocks.{IsWithin};
 ghost use Rattle.rd_matrix.specs.Sources.{SourceValues, IsSource, rows_at};

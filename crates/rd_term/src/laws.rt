@@ -1,4 +1,4 @@
-//! Laws of terminals.
+//! Laws of terminals. The calls do nothing.
 ghost use Rattle.std.specs.Prelude.{◌≡◌, ℕ, List, ◌++◌, true, false, ◌==◌, encode_utf8};
 ghost use Rattle.rd_base.specs.Chars.{is_scalar};
 ghost use Rattle.rd_term.specs.Characters.{columns_of};

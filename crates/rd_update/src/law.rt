@@ -1,4 +1,4 @@
-//! What an update does to the terminal that reads its bytes, and where it leads.
+//! What an update does to the terminal that reads its bytes, and where it leads. The calls do nothing.
 ghost use Rattle.std.specs.Prelude.{◌≡◌, ◌<◌, ◌≤◌, ◌==◌, ℕ, List, ◌∷◌, length, All, Option, IfSome, None, Some, false, true};
 ghost use Rattle.std.specs.Char.{is_ascii_digit};
 ghost use Rattle.rd_base.specs.Glyphs.{IsRowAfter};
