@@ -14,8 +14,8 @@ use Rattle.rd_modeline.specs.declared.piece.Field.{Field}
 use Rattle.rd_modeline.specs.declared.piece.Field.TheVariants.{Name, Line, Place, ReadOnly, Modified, Narrowing}
 use Rattle.rd_modeline.specs.declared.piece.Piece.{Piece}
 use Rattle.rd_modeline.specs.declared.piece.Piece.TheVariants.{Literal, Value, Dashes}
-use Rattle.rd_modeline.specs.declared.reading.Behind.{Behind}
-use Rattle.rd_modeline.specs.declared.reading.Behind.TheVariants.{Text, Percent}
+use Rattle.rd_modeline.specs.declared.reading.Begun.{Begun}
+use Rattle.rd_modeline.specs.declared.reading.Begun.TheVariants.{Text, Percent}
 use Rattle.rd_modeline.specs.Formats.{field_of, sign_of, value_or, piece_of, before, before_or, pieces_from, pieces_of}
 use Rattle.rd_modeline.specs.Values.{FactValues, AreFacts, share, place_text, value_text}
 use Rattle.rd_modeline.specs.Lines.{filled, value_in, line_text}
@@ -109,7 +109,7 @@ piece-is digits width c is = by-field (field_of c) where
 abbrev HasPieces : Result (List Piece) ℕ → Type 0
 HasPieces r = IfOk r (λ ps. AllByRecursion IsPiece ps)
 
-pieces : (behind : Behind) (place : ℕ) (text : List ℕ) → AllByRecursion IsCharacter text → HasPieces (pieces_from behind place text)
+pieces : (begun : Begun) (place : ℕ) (text : List ℕ) → AllByRecursion IsCharacter text → HasPieces (pieces_from begun place text)
 pieces Text place [] each = tt
 pieces (Percent start digits width) place [] each = tt
 pieces Text place (c ∷ cs) each =

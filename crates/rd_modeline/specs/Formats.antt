@@ -5,8 +5,8 @@ use Rattle.rd_modeline.specs.declared.piece.Field.{Field}
 use Rattle.rd_modeline.specs.declared.piece.Field.TheVariants.{Name, Line, Place, ReadOnly, Modified, Narrowing}
 use Rattle.rd_modeline.specs.declared.piece.Piece.{Piece}
 use Rattle.rd_modeline.specs.declared.piece.Piece.TheVariants.{Literal, Value, Dashes}
-use Rattle.rd_modeline.specs.declared.reading.Behind.{Behind}
-use Rattle.rd_modeline.specs.declared.reading.Behind.TheVariants.{Text, Percent}
+use Rattle.rd_modeline.specs.declared.reading.Begun.{Begun}
+use Rattle.rd_modeline.specs.declared.reading.Begun.TheVariants.{Text, Percent}
 
 -- the value that a letter asks for: b, l, p, *, + and n
 abbrev pub field_of : ℕ → Option Field
@@ -44,7 +44,7 @@ before_or (Some p) start rest = before p rest
 
 -- The pieces of a format from a place on, or the place of the first percent sign that no code follows. Behind a percent sign come
 -- up to three digits and then a letter or a sign.
-abbrev pub pieces_from : Behind → ℕ → List ℕ → Result (List Piece) ℕ
+abbrev pub pieces_from : Begun → ℕ → List ℕ → Result (List Piece) ℕ
 pieces_from Text place [] = Ok []
 pieces_from (Percent start digits width) place [] = Err start
 pieces_from Text place (c ∷ cs) =
@@ -76,17 +76,17 @@ pub record HasDigits (digits width : ℕ) : Type 0 where
   pub count : digits ≤ 3
 
 -- a width that was begun has at most three digits
-abbrev pub IsBegun : Behind → Type 0
+abbrev pub IsBegun : Begun → Type 0
 IsBegun Text = Unit {0}
 IsBegun (Percent start digits width) = HasDigits digits width
 
 -- the place of the percent sign that was read last
-abbrev pub start_of : Behind → ℕ
+abbrev pub start_of : Begun → ℕ
 start_of Text = 0
 start_of (Percent start digits width) = start
 
--- what the next character makes of the rest, where it leaves this behind and ends a piece or none, and where it is bad
-abbrev pub ReadsOn : Option (Behind × Option Piece) → Behind → ℕ → ℕ → Type 0
+-- what the next character makes of the rest, where it leaves this begun and ends a piece or none, and where it is bad
+abbrev pub ReadsOn : Option (Begun × Option Piece) → Begun → ℕ → ℕ → Type 0
 ReadsOn None b place c = (cs : List ℕ) → pieces_from b place (c ∷ cs) ≡ Err (start_of b)
 ReadsOn (Some (after, None)) b place c = (cs : List ℕ) → pieces_from b place (c ∷ cs) ≡ pieces_from after (place + 1) cs
 ReadsOn (Some (after, Some p)) b place c = (cs : List ℕ) → pieces_from b place (c ∷ cs) ≡ before p (pieces_from after (place + 1) cs)

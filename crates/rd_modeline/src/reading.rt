@@ -2,7 +2,7 @@
 ghost use Rattle.std.specs.Prelude.{◌≡◌, ◌≢◌, ◌<◌, ◌+◌, ◌-◌, ◌*◌, IfErr, IfOk, IfSome, Ok, Err, Some, None, ◌++◌, ℕ, OnOk, option_to_list};
 ghost use Rattle.rd_modeline.specs.declared.fault.FormatFault.TheVariants as fault;
 ghost use Rattle.rd_modeline.specs.Formats.{pieces_of, start_of, IsBegun, ReadsOn};
-ghost use Rattle.rd_modeline.specs.declared.reading.Behind.TheVariants.{Text, Percent};
+ghost use Rattle.rd_modeline.specs.declared.reading.Begun.TheVariants.{Text, Percent};
 ghost use Rattle.rd_modeline.specs.Lines.{Checks};
 
 use crate::fault::FormatFault;
@@ -10,9 +10,9 @@ use crate::piece::{Piece, piece_of};
 use rd_base::{Ch, ListOf, Memory};
 use std::alloc::Global;
 
-/// What stands before the next character: no begun code, or a percent sign at a place and so many digits that make a width.
+/// What is begun before the next character: no code, or a percent sign at a place and so many digits that make a width.
 #[derive(Clone, Copy, Debug, PartialEq, Eq)]
-pub enum Behind {
+pub enum Begun {
     Text,
     Percent(u64, u8, u32),
 }
@@ -26,16 +26,16 @@ pub fn check(text: &[Ch]) -> Result<(), FormatFault>
     ensures checks { Checks result (pieces_of text.now) }
     ensures named { IfErr result (λ f. f ≢ fault.Memory) }
 {
-    let mut behind = Behind::Text;
+    let mut begun = Begun::Text;
     for (place, ch) in text.iter().enumerate() {
-        match read_on(behind, place as u64, *ch) {
-            Some((after, _piece)) => behind = after,
-            None => return Err(FormatFault::BadFormat(start_of(behind))),
+        match read_on(begun, place as u64, *ch) {
+            Some((after, _piece)) => begun = after,
+            None => return Err(FormatFault::BadFormat(start_of(begun))),
         }
     }
-    match behind {
-        Behind::Text => Ok(()),
-        Behind::Percent(start, _digits, _width) => Err(FormatFault::BadFormat(start)),
+    match begun {
+        Begun::Text => Ok(()),
+        Begun::Percent(start, _digits, _width) => Err(FormatFault::BadFormat(start)),
     }
 }
 
@@ -45,19 +45,19 @@ pub(crate) fn read(alloc: Global, text: &[Ch]) -> Result<ListOf<Piece>, FormatFa
     ensures checks { Checks result (pieces_of text.now) }
 {
     let mut pieces = ListOf::new(alloc);
-    let mut behind = Behind::Text;
+    let mut begun = Begun::Text;
     for (place, ch) in text.iter().enumerate() {
-        match read_on(behind, place as u64, *ch) {
+        match read_on(begun, place as u64, *ch) {
             Some((after, piece)) => {
                 push_piece(&mut pieces, piece)?;
-                behind = after;
+                begun = after;
             }
-            None => return Err(FormatFault::BadFormat(start_of(behind))),
+            None => return Err(FormatFault::BadFormat(start_of(begun))),
         }
     }
-    match behind {
-        Behind::Text => Ok(pieces),
-        Behind::Percent(start, _digits, _width) => Err(FormatFault::BadFormat(start)),
+    match begun {
+        Begun::Text => Ok(pieces),
+        Begun::Percent(start, _digits, _width) => Err(FormatFault::BadFormat(start)),
     }
 }
 
@@ -72,49 +72,49 @@ fn push_piece(pieces: &mut ListOf<Piece>, piece: Option<Piece>) -> Result<(), Me
 }
 
 /// The place of the percent sign that was read last.
-fn start_of(behind: Behind) -> u64
-    ensures { result ≡ start_of behind }
+fn start_of(begun: Begun) -> u64
+    ensures { result ≡ start_of begun }
 {
-    match behind {
-        Behind::Text => 0,
-        Behind::Percent(start, _digits, _width) => start,
+    match begun {
+        Begun::Text => 0,
+        Begun::Percent(start, _digits, _width) => start,
     }
 }
 
-/// What stands behind a character, and the piece that it ends. None where no code is spelled so.
-fn read_on(behind: Behind, place: u64, ch: Ch) -> Option<(Behind, Option<Piece>)>
-    requires { IsBegun behind }
-    ensures reads { ReadsOn result behind place ch }
+/// What is begun behind a character, and the piece that it ends. None where no code is spelled so.
+fn read_on(begun: Begun, place: u64, ch: Ch) -> Option<(Begun, Option<Piece>)>
+    requires { IsBegun begun }
+    ensures reads { ReadsOn result begun place ch }
     ensures begun { IfSome result (λ r. IsBegun r.0) }
 {
-    match behind {
-        Behind::Text => Some(text_read(place, ch)),
-        Behind::Percent(start, digits, width) => code_read(start, digits, width, ch),
+    match begun {
+        Begun::Text => Some(text_read(place, ch)),
+        Begun::Percent(start, digits, width) => code_read(start, digits, width, ch),
     }
 }
 
 /// The same where no code is begun.
-fn text_read(place: u64, ch: Ch) -> (Behind, Option<Piece>)
+fn text_read(place: u64, ch: Ch) -> (Begun, Option<Piece>)
     ensures reads { ReadsOn (Some result) Text place ch }
     ensures begun { IsBegun result.0 }
 {
     if ch.code() == 37 {
-        return (Behind::Percent(place, 0, 0), None);
+        return (Begun::Percent(place, 0, 0), None);
     }
-    (Behind::Text, Some(Piece::Literal(ch)))
+    (Begun::Text, Some(Piece::Literal(ch)))
 }
 
 /// The same behind a percent sign.
-fn code_read(start: u64, digits: u8, width: u32, ch: Ch) -> Option<(Behind, Option<Piece>)>
+fn code_read(start: u64, digits: u8, width: u32, ch: Ch) -> Option<(Begun, Option<Piece>)>
     requires { IsBegun (Percent start digits width) }
     ensures reads { (place : ℕ) → ReadsOn result (Percent start digits width) place ch }
     ensures begun { IfSome result (λ r. IsBegun r.0) }
 {
     let code = ch.code();
     if 48 <= code && code <= 57 && digits < 3 {
-        let longer = Behind::Percent(start, digits + 1, 10 * width + (code - 48));
+        let longer = Begun::Percent(start, digits + 1, 10 * width + (code - 48));
         return Some((longer, None));
     }
     let piece = piece_of(digits, width, ch)?;
-    Some((Behind::Text, Some(piece)))
+    Some((Begun::Text, Some(piece)))
 }

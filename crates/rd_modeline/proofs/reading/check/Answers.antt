@@ -9,13 +9,13 @@ returns-in-None-clause-checks c =
     let rest = drop (c.loop-place.place + 1) c.args.text.now in
     let split : drop c.loop-place.place c.args.text.now ≡ c.index-text-place.result ∷ rest = grind (arith, common_steps) in
     rw c.start_of.ensures
-    (sym c.loop-place.invariant.0 ∙ ap (λ l. fault_in (pieces_from c.loop-place.behind c.loop-place.place l)) split ∙ step-bad c.loop-place.behind c.loop-place.place c.index-text-place.result rest c.in-None.ensures.reads)
+    (sym c.loop-place.invariant.0 ∙ ap (λ l. fault_in (pieces_from c.loop-place.begun c.loop-place.place l)) split ∙ step-bad c.loop-place.begun c.loop-place.place c.index-text-place.result rest c.in-None.ensures.reads)
 
 pub loop-place-preserved : goal.loop-place-preserved
 loop-place-preserved c =
     let rest = drop (c.loop-place.place + 1) c.args.text.now in
     let split : drop c.loop-place.place c.args.text.now ≡ c.index-text-place.result ∷ rest = grind (arith, common_steps) in (
-      sym (step-fault c.loop-place.behind c.in-Some.after c.in-Some._piece c.loop-place.place c.index-text-place.result rest c.in-Some.ensures.reads)
-          ∙ ap (λ l. fault_in (pieces_from c.loop-place.behind c.loop-place.place l)) (sym split) ∙ c.loop-place.invariant.0,
+      sym (step-fault c.loop-place.begun c.in-Some.after c.in-Some._piece c.loop-place.place c.index-text-place.result rest c.in-Some.ensures.reads)
+          ∙ ap (λ l. fault_in (pieces_from c.loop-place.begun c.loop-place.place l)) (sym split) ∙ c.loop-place.invariant.0,
       c.in-Some.ensures.begun,
     )
