@@ -37,7 +37,12 @@ impl Text {
     ghost use Rattle.rd_objects.specs.Texts.{text_of, face_of, spec_of};
 
     /// A string of these characters, with the faces that its runs name. It costs a copy of both.
-    pub fn new(alloc: Global, chars: &[Ch], runs: &[Run], faces: &[Face]) -> Result<Text, Memory>
+    pub(crate) fn new(
+        alloc: Global,
+        chars: &[Ch],
+        runs: &[Run],
+        faces: &[Face],
+    ) -> Result<Text, Memory>
         requires { length chars.now ≤ STRING_CHARACTERS }
         ensures { IfOk result (λ text. text ≡ text_of chars.now runs.now faces.now) }
     {

@@ -29,7 +29,7 @@ pub struct Placed {
 
 impl Shape {
     /// The columns before the last one, which is kept for a mark.
-    pub fn room(self) -> u64
+    pub(crate) fn room(self) -> u64
         ensures room { result ≡ room self }
         ensures least { 9 ≤ result }
         ensures bounds { result < FRAME_COLUMNS }
@@ -38,7 +38,7 @@ impl Shape {
     }
 
     /// The first column of a row that is seen: where it is scrolled sideways, a mark has the place of the one before.
-    pub fn first_seen(self) -> u64
+    pub(crate) fn first_seen(self) -> u64
         ensures { result ≡ first_seen self }
     {
         if self.hscroll > 0 {
@@ -48,14 +48,14 @@ impl Shape {
     }
 
     /// Whether longer lines are cut: a window that is scrolled sideways cuts them too.
-    pub fn truncates(self) -> bool
+    pub(crate) fn truncates(self) -> bool
         ensures { result ≡ truncates self }
     {
         self.wrap == Wrap::Truncate || self.hscroll > 0
     }
 
     /// Whether a line goes on in the next row behind a whole word.
-    pub fn wraps_words(self) -> bool
+    pub(crate) fn wraps_words(self) -> bool
         ensures { result ≡ is_word self.wrap }
     {
         self.wrap == Wrap::Word
