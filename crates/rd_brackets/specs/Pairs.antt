@@ -32,8 +32,8 @@ roles entries [] codes = []
 roles entries (t ∷ ts) [] = []
 roles entries (t ∷ ts) (code ∷ codes) = bd14_bd15_role entries t code ∷ roles entries ts codes
 
--- for BD16, where the opening bracket stands that a code closes: the entries are looked at from the top of the stack, which is the first of the
--- list
+-- for BD16, where the opening bracket stands that a code closes: the entries are looked at from the top of the stack, which is the first of
+-- the list
 abbrev pub opener : ℕ → List Opened → Option ℕ
 opener code [] = None
 opener code (o ∷ os) = if o.partner == code then Some o.place else opener code os

@@ -86,8 +86,8 @@ fn types_at(alloc: Global, line: &Line, seq: &Seq) -> Result<ListOf<Class>, Memo
     Ok(types)
 }
 
-/// The end of N0: gives the characters of a sequence the types that they have after the pairs, and the marks behind brackets that took a direction
-/// that one.
+/// The end of N0: gives the characters of a sequence the types that they have after the pairs, and the marks behind brackets that took a
+/// direction that one.
 fn n0_put_types(line: &mut Line, seq: &Seq, types: &[Class])
     requires within { All (λ i. i < length line.old.classes) seq.now.indexes }
     requires ascend { AllPairs (λ i j. i < j) seq.now.indexes }

@@ -128,8 +128,8 @@ fn opposite(side: Class) -> Class
     }
 }
 
-/// For the end of N0, the direction that a character took by the pairs, or takes as a mark behind one that did: by that of the character before it,
-/// its class, and its types before and after the pairs.
+/// For the end of N0, the direction that a character took by the pairs, or takes as a mark behind one that did: by that of the character
+/// before it, its class, and its types before and after the pairs.
 pub fn side_taken(side: Option<Class>, class: Class, before: Class, after: Class) -> Option<Class>
     ensures { result ≡ side_taken side class before after }
 {

@@ -191,8 +191,8 @@ fn bd13_follower(first: Option<First>, level: u8, partner: Option<u32>) -> Optio
     }
 }
 
-/// For X10, the level that the end of a sequence is compared with: that of the item after its last one, if there is one and the last one is no
-/// unmatched initiator, else the base.
+/// For X10, the level that the end of a sequence is compared with: that of the item after its last one, if there is one and the last one is
+/// no unmatched initiator, else the base.
 fn x10_level_behind(first: Option<First>, base: u8, unmatched: bool) -> u8
     ensures { result ≡ x10_level_behind first base unmatched }
 {

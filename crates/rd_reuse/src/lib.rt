@@ -4,16 +4,17 @@
 //! matrix. Emacs uses rows again in `try_window_id`, where text was put in or taken away, and on window systems in
 //! `try_window_reusing_current_matrix`, where only the start moved.
 //!
-//! What goes in: a source of blocks and their rows, the older rows (`rd_matrix::Matrix`) at one shape, and a `Change`, which says what stands
-//! as it did since then. What comes out: the same rows that the source would give. Those of a block that did not change are copies of the
-//! older ones and cost nothing; a copy counts how often it was copied.
+//! What goes in: a source of blocks and their rows, the older rows (`rd_matrix::Matrix`) at one shape, and a `Change`, which says what
+//! stands as it did since then. What comes out: the same rows that the source would give. Those of a block that did not change are copies
+//! of the older ones and cost nothing; a copy counts how often it was copied.
 //!
 //! 1. `change`: what ends before the head stands as it did, and what starts at the tail or later does too, moved by the positions that were
-//!    added. In Emacs these are `BEG_UNCHANGED` and `END_UNCHANGED` of the buffer. An edit makes such a change, and a later one is joined to it.
+//!    added. In Emacs these are `BEG_UNCHANGED` and `END_UNCHANGED` of the buffer. An edit makes such a change, and a later one is joined
+//!    to it.
 //! 2. `keeping`: a block keeps its rows if it lies before the head or starts at the tail or later, if the older layout has all of its
 //!    rows, from the first to the one that ends it, and if they are read from the edge that its base level asks for.
-//! 3. `kept`: `Kept` is a source over another one. Its blocks are the same; asked for the rows of a block that keeps them, at the older shape, it
-//!    copies them. So rd_start can choose a start without laying such blocks out again.
+//! 3. `kept`: `Kept` is a source over another one. Its blocks are the same; asked for the rows of a block that keeps them, at the older
+//!    shape, it copies them. So rd_start can choose a start without laying such blocks out again.
 //! 4. `layout`: `relay` gives the rows in view from a start on, block after block.
 //!
 //! Emacs keeps single rows, those above the first change and those below the last; here a block keeps all of its rows or none. Emacs

@@ -128,7 +128,8 @@ pub record IsPast (mode : Mode) (fault : ScriptFault) (number : ℕ) (inputs : L
 abbrev pub IsNothing : List Input → List ℕ → Type 0
 IsNothing inputs bytes = (inputs ≡ []) × (bytes ≡ [])
 
--- when a status comes that is no write fault, in a run that has begun, for the lines that were run before and the bytes taken from the source
+-- when a status comes that is no write fault, in a run that has begun, for the lines that were run before and the bytes taken from the
+-- source
 abbrev pub ComesIn : Mode → Status → List Input → List ℕ → Drawn → Type 0
 -- the script was run to its end, and each op was accepted
 ComesIn mode Done inputs bytes source = Ran mode inputs × AreAll mode.generated inputs bytes source.left

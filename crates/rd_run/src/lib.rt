@@ -1,4 +1,5 @@
-//! Runs of scripts, as definitions with laws: what each line does, how a run ends, and that each redisplay that is shown is on the terminal.
+//! Runs of scripts, as definitions with laws: what each line does, how a run ends, and that each redisplay that is shown is on the
+//! terminal.
 //!
 //! The rules are in docs/RULES.md, "The program", "Scripts", "The report" and "Generated scripts".
 #![tactic(auto)]

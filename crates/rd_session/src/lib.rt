@@ -1,15 +1,16 @@
 //! A session: the state of the editor with the last layouts of its windows and the screen, the ops, and the redisplay.
 //!
-//! What goes in: the Unicode data at the beginning, then one op after the other (`Session::apply`), and for a redisplay a sink and, where it is to
-//! stop early, the most rows that it may send (`Session::redisplay`). What comes out: the bytes in the sink, and an `Outcome`, which
-//! says whether the frame was shown or the redisplay stopped, and how many rows were sent. In between the session lends what it
-//! knows (`lending`): starts, points, rows and cursors of windows, and the current screen.
+//! What goes in: the Unicode data at the beginning, then one op after the other (`Session::apply`), and for a redisplay a sink and, where
+//! it is to stop early, the most rows that it may send (`Session::redisplay`). What comes out: the bytes in the sink, and an `Outcome`,
+//! which says whether the frame was shown or the redisplay stopped, and how many rows were sent. In between the session lends what it knows
+//! (`lending`): starts, points, rows and cursors of windows, and the current screen.
 //!
 //! A redisplay takes these steps, as Emacs's `redisplay_internal` and, from step 2 on, `update_frame` do:
 //!
 //! 1. `rd_views` lays out all windows (Emacs: `redisplay_windows`). That gives a `Desired`: a desired glyph matrix for each window
 //!    whose last one does not stay.
-//! 2. `rd_paint` paints the target, the frame's desired screen, with margins, borders, mode lines and echo area (Emacs: `build_frame_matrix`).
+//! 2. `rd_paint` paints the target, the frame's desired screen, with margins, borders, mode lines and echo area (Emacs:
+//!    `build_frame_matrix`).
 //! 3. `bands` finds the rows that the terminal may shift: the text of each window that is as wide as the frame, and
 //!    none unless the op `shift` has allowed it.
 //! 4. `rd_lineshift` looks for a shift that saves rows (Emacs: `scrolling`), and `rd_update` prepares the bytes for all rows in which the
@@ -25,8 +26,8 @@
 //! Here all is prepared, then sent, then kept. What an op can have changed is joined to the last layouts (`rd_views`), so that a
 //! redisplay after it costs what changed and not what is shown.
 //!
-//! The rules are in docs/RULES.md: "Scripts" and "State" for the ops, "The screen", "Line shifts" and "Update bytes" for the redisplay. `redisplay`
-//! says the whole in one contract, by the definitions of rd_layout.
+//! The rules are in docs/RULES.md: "Scripts" and "State" for the ops, "The screen", "Line shifts" and "Update bytes" for the redisplay.
+//! `redisplay` says the whole in one contract, by the definitions of rd_layout.
 #![tactic(auto)]
 
 mod bands;

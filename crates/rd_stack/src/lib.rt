@@ -1,16 +1,16 @@
 //! The elements of a line, and of a prefix: the items of a block in visual order, each replaced by its elements.
 //!
-//! `Walker` is what `struct it`, the iterator, is in Emacs's xdisp.c, and its frames are the iterator stack (`it->stack`, `push_it`, `pop_it`).
-//! An element is Emacs's display element: a glyph or a blank stretch, with its face, or the end of a row or of the line.
+//! `Walker` is what `struct it`, the iterator, is in Emacs's xdisp.c, and its frames are the iterator stack (`it->stack`, `push_it`,
+//! `pop_it`). An element is Emacs's display element: a glyph or a blank stretch, with its face, or the end of a row or of the line.
 //!
-//! What goes in: a `View`, the position at which a block starts, and the base level of its line, 0 or 1. What comes out: the elements of the
-//! line, one by one, from the edge at which reading begins; each names the item and the range of the block that it comes from. `string_line`
-//! gives the elements of a prefix, all at once.
+//! What goes in: a `View`, the position at which a block starts, and the base level of its line, 0 or 1. What comes out: the elements of
+//! the line, one by one, from the edge at which reading begins; each names the item and the range of the block that it comes from.
+//! `string_line` gives the elements of a prefix, all at once.
 //!
-//! 1. `rd_items::Items::new` lists the items of the block. `line` gathers their classes and codes, and `order` puts the whole line in visual
-//!    order by rd_levels, before any row is cut. Where the setting `reorder` is off every level is 0.
-//! 2. The walk takes one step after the other in the innermost frame (`step`, `line_steps`, `string_steps`). A step gives one element, or lists
-//!    the few of a character or of an ellipsis (`few`), or enters a string, or finds that the frame has ended, which then is left.
+//! 1. `rd_items::Items::new` lists the items of the block. `line` gathers their classes and codes, and `order` puts the whole line in
+//!    visual order by rd_levels, before any row is cut. Where the setting `reorder` is off every level is 0.
+//! 2. The walk takes one step after the other in the innermost frame (`step`, `line_steps`, `string_steps`). A step gives one element, or
+//!    lists the few of a character or of an ellipsis (`few`), or enters a string, or finds that the frame has ended, which then is left.
 //! 3. `showing` gives a character's elements as rd_glyphs has them: its entry in the display table, a tab's stretch, the `^A` of a control
 //!    character, the `\200` of a raw byte, or the character itself, at an odd level its mirror.
 //! 4. A string is cut at its newlines that show, and each ends a row. `row`, `part` and `marks` make such a row as a block is made: its

@@ -56,7 +56,8 @@ home_row m sweep = anchor_row (rows_in m sweep) sweep.anchor m.blocks
 abbrev pub point_row : SourceValues → Sweep → ℕ
 point_row m sweep = row_of sweep.point (all_rows (rows_in m sweep) m.blocks)
 
--- these are the rows of blocks that stand one behind the other, as a strip keeps them, and the row of a sweep's anchor is at a place among them
+-- these are the rows of blocks that stand one behind the other, as a strip keeps them, and the row of a sweep's anchor is at a place among
+-- them
 pub record IsStripOf (m : SourceValues) (sweep : Sweep) (bs : List Block) (ls : List StripRow) (at : ℕ) : Type 0 where
   pub source : IsSource m
   pub shape : IsShape sweep.shape

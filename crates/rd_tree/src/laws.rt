@@ -50,8 +50,8 @@ pub fn needs_are_exact()
     ensures order { (windows : Windows) (rect : Rect) → leaves (resized windows rect) ≡ leaves windows }
 {}
 
-/// A split, a mode line and margins leave each other window where it is. A removal takes one number away, leaves each window that is not in the
-/// sibling where it is, and lets the sibling share the rectangle that it had with the removed window. The call does nothing.
+/// A split, a mode line and margins leave each other window where it is. A removal takes one number away, leaves each window that is not in
+/// the sibling where it is, and lets the sibling share the rectangle that it had with the removed window. The call does nothing.
 pub fn other_windows_stay()
     ensures split { (number : ℕ) (side : Side) (size new : ℕ) (windows : Windows) (rect : Rect) → placed (split_at number side size new windows) rect ≡ in_place_of number (λ window. placed (halves number side size new window.mode window.margins) window.rect) (placed windows rect) }
     ensures mode { (number : ℕ) (shown : Bool) (windows : Windows) (rect : Rect) → placed (with_mode number shown windows) rect ≡ in_place_of number (λ window. placed (Window number shown window.margins) window.rect) (placed windows rect) }

@@ -1,6 +1,7 @@
 //! The windows of a state with their last layouts: what laying all of them out gives, and what an op makes of them.
 //!
-//! The last layout of a window is its current glyph matrix in Emacs (`w->current_matrix`); `Desired` has the desired ones (`w->desired_matrix`).
+//! The last layout of a window is its current glyph matrix in Emacs (`w->current_matrix`); `Desired` has the desired ones
+//! (`w->desired_matrix`).
 //!
 //! What goes in: ops (`Views::apply`), and the wish to lay out all windows (`Views::lay_out`). What comes out: what an op refuses; and a
 //! `Desired`, which has for each window the start and the point that were chosen, and its new layout if the last one does not stay.
@@ -9,8 +10,8 @@
 //! An op:
 //!
 //! 1. `applying`: the state makes the op or refuses it, and answers its effect.
-//! 2. `noting`: the effect is joined to what changed since the last layout of each window that shows the buffer. Emacs notes this for each buffer
-//!    (`BEG_UNCHANGED`, `END_UNCHANGED`), here it is noted for each window.
+//! 2. `noting`: the effect is joined to what changed since the last layout of each window that shows the buffer. Emacs notes this for each
+//!    buffer (`BEG_UNCHANGED`, `END_UNCHANGED`), here it is noted for each window.
 //! 3. `pointing`: `go` is Emacs's `move-point-visually`, by the visual order of the text; `hit` asks the last layout which position a cell
 //!    shows (Emacs: `buffer_posn_from_coords`), and is refused where that may be out of date.
 //!

@@ -1,11 +1,12 @@
 //! What a window shows of a source of blocks: where it starts, its rows in view, and what it can keep of its last layout.
 //!
-//! In Emacs this is `redisplay_window`. A `Layout` is the window's current glyph matrix (`w->current_matrix`) with all that it was made by, and the
-//! new one is the desired glyph matrix (`w->desired_matrix`). The rows of both are a `rd_matrix::Matrix`.
+//! In Emacs this is `redisplay_window`. A `Layout` is the window's current glyph matrix (`w->current_matrix`) with all that it was made by,
+//! and the new one is the desired glyph matrix (`w->desired_matrix`). The rows of both are a `rd_matrix::Matrix`.
 //!
-//! What goes in: a source of blocks (for a buffer `rd_blocks::Blocks`), the layout of the window's last redisplay, if there was one, what the
-//! window wants of its start (`rd_start::Wanted`), and its shape. What comes out: a `Laying`, which is the window start and the point that were
-//! chosen, whether the rows in view have the text's first row and its last one, and the new layout, or none where the last one stays.
+//! What goes in: a source of blocks (for a buffer `rd_blocks::Blocks`), the layout of the window's last redisplay, if there was one, what
+//! the window wants of its start (`rd_start::Wanted`), and its shape. What comes out: a `Laying`, which is the window start and the point
+//! that were chosen, whether the rows in view have the text's first row and its last one, and the new layout, or none where the last one
+//! stays.
 //!
 //! 1. `resting`: if nothing changed since the last layout, no start was set by command, the window has its old shape, height and ways of
 //!    scrolling, and point is in view as far from the edges as the scroll margin asks, then the cursor alone moves. No row is made or
@@ -17,9 +18,9 @@
 //! 5. `rd_reuse::relay` takes the rows in view from there on. They are the new layout, since which nothing changed.
 //! 6. `window`: whether the text's first row and its last one are in view is noted, for step 1 of the next redisplay and for the mode line.
 //!
-//! Emacs first measures with the iterator alone (`start_display`, `move_it_to`), and makes the rows afterwards (`try_window`), so that a line
-//! may be walked more than once. It changes the window as it goes. Here nothing is changed: the layer above keeps a new layout
-//! once its bytes were sent.
+//! Emacs first measures with the iterator alone (`start_display`, `move_it_to`), and makes the rows afterwards (`try_window`), so that a
+//! line may be walked more than once. It changes the window as it goes. Here nothing is changed: the layer above keeps a new layout once
+//! its bytes were sent.
 //!
 //! The rules are in docs/RULES.md: "Where a window starts" and "Rows that are used again".
 #![tactic(auto)]

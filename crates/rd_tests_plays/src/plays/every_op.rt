@@ -8,8 +8,8 @@ use std::alloc::Global;
 use std::process::Abort;
 use std::test::Fail;
 
-/// A script with every op, and what it does. A line that begins with a brace is one of the script. Behind it stands what it writes, a line for each
-/// write, in order: behind `>` what is sent to the screen, with `~` in the place of ESC, and else a line of the report.
+/// A script with every op, and what it does. A line that begins with a brace is one of the script. Behind it stands what it writes, a line
+/// for each write, in order: behind `>` what is sent to the screen, with `~` in the place of ESC, and else a line of the report.
 const TRANSCRIPT: &str = r#"{"op":"frame","width":12,"height":7}
 {"op":"shift","on":true}
 {"op":"scrolling","margin":0,"conservatively":0}
