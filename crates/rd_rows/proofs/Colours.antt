@@ -1,6 +1,7 @@
 -- In the rows of elements whose colours are in their range each cell has such colours.
 use Rattle.std.proofs.Common.{ℕ, zero, suc, ◌+◌, ◌-◌, ◌&&◌, min, max, nat_le, nat_lt, Bool, true, false, List, [], ◌∷◌, ◌++◌, length, flat_map, replicate, All, arith, Option, None, Some}
 use Rattle.std.proofs.lemmas.List.Elements.{All-nil, All-cons, All-tail, All-append, All-replicate}
+use Rattle.std.specs.List.{AllByRecursion}
 use Rattle.rd_base.proofs.Choices.{either}
 use Rattle.rd_base.specs.Cells.{HasColours, IsColoured}
 use Rattle.rd_base.specs.Faces.{Attributes, plain}
@@ -10,22 +11,21 @@ use Rattle.rd_base.specs.declared.cell.Cell.TheVariants.{Blank, First, Rest}
 use Rattle.rd_base.specs.declared.cell.Glyph.{Glyph}
 use Rattle.rd_base.specs.declared.element.Element.{Element}
 use Rattle.rd_base.proofs.Colours.{plain-coloured, blanks-coloured}
-use Rattle.rd_base.proofs.Lists.{all-front, all-back, all-one}
+use Rattle.rd_base.proofs.Lists.{all-front, all-back, all-one, each-append}
 use Rattle.rd_rows.specs.declared.cutting.Cutting.{Cutting}
 use Rattle.rd_rows.specs.declared.spot.Placed.{Placed}
 use Rattle.rd_rows.specs.declared.spot.Spot.{Spot}
 use Rattle.rd_rows.specs.Mirrors.{mirror_image, leading_rests}
-use Rattle.rd_rows.specs.Placing.{glyph_in, line_start, next_row, placed_at, behind, place_all, columns_of, width_at}
-use Rattle.rd_rows.specs.Prefixes.{fitted}
+use Rattle.rd_rows.specs.Placing.{glyph_in, line_start, next_row, columns_of}
 use Rattle.rd_rows.specs.Rows.{whole_cells, seen, seen_in, mark, front_mark, scrolled, filled, last_cell, from_edge, row_of, rows_within, rows_of, cutting_of}
 use Rattle.rd_rows.specs.Shapes.{ShapeValues, room, truncates}
 use Rattle.rd_rows.proofs.Marks.{mark-coloured}
+use Rattle.rd_rows.proofs.Placings.{fitted-each, placed-each}
 use Rattle.rd_rows.proofs.Splits.{placed_in, at-row}
 
 -- placed elements whose colours are in their range
 abbrev HaveColours : List Placed → Type 0
-HaveColours [] = Unit {0}
-HaveColours (p ∷ ps) = HasColours p.element.face × HaveColours ps
+HaveColours ps = AllByRecursion (λ (p : Placed). HasColours p.element.face) ps
 
 with-rests : (cell : Cell) (n : ℕ) → IsColoured cell → All IsColoured (cell ∷ replicate n Rest)
 with-rests cell n h = All-cons IsColoured cell (replicate n Rest) h (All-replicate IsColoured n Rest tt)
@@ -88,21 +88,6 @@ row-coloured c used continued ps h =
 
 -- the rows of a line
 
-placed-coloured : (shape : ShapeValues) (spot : Spot) (xs : List Element) → All (λ e. HasColours e.face) xs → HaveColours (place_all shape spot xs)
-placed-coloured shape spot [] h = tt
-placed-coloured shape spot (x ∷ xs) h =
-    (h zero x (omega arith), placed-coloured shape (behind spot (placed_at shape spot x)) xs (All-tail (λ e. HasColours e.face) x xs h))
-
-colours-append : (ps qs : List Placed) → HaveColours ps → HaveColours qs → HaveColours (ps ++ qs)
-colours-append [] qs h k = k
-colours-append (p ∷ ps) qs h k = (h.0, colours-append ps qs h.1 k)
-
-fitted-coloured : (limit column : ℕ) (es : List Element) → All (λ e. HasColours e.face) es → HaveColours (fitted limit column es)
-fitted-coloured limit column [] h = tt
-fitted-coloured limit column (e ∷ es) h =
-    either HaveColours (nat_le (column + width_at e.extent column) limit) _ []
-    (h zero e (omega arith), fitted-coloured limit (column + width_at e.extent column) es (All-tail (λ x. HasColours x.face) e es h)) tt
-
 rows-coloured : (n : ℕ) (c : Cutting) (lead : List Placed) (spot : Spot) (es : List Element) → HaveColours c.first → HaveColours c.wrap → HaveColours lead
     → All (λ e. HasColours e.face) es → All (λ r. All IsColoured r.row.cells) (rows_within n c lead spot es)
 rows-coloured zero c lead spot es first wrap one h = All-nil (λ r. All IsColoured r.row.cells)
@@ -111,7 +96,7 @@ rows-coloured (suc n) c lead spot (e ∷ es) first wrap one h =
     at-row n c lead spot e es (λ ys rows. All (λ x. HasColours x.face) ys → All (λ r. All IsColoured r.row.cells) rows) (λ xs rest marked ended lines less both.
     All-cons (λ r. All IsColoured r.row.cells) _ _
     (row-coloured c _ marked (lead ++ placed_in c lead spot xs)
-    (colours-append lead (placed_in c lead spot xs) one (placed-coloured c.shape (next_row (columns_of lead) spot) xs (all-front (λ x. HasColours x.face) xs rest both))))
+    (each-append _ lead (placed_in c lead spot xs) one (placed-each (λ x. HasColours x.face) c.shape (next_row (columns_of lead) spot) xs (all-front (λ x. HasColours x.face) xs rest both))))
     (rows-coloured n c _ _ rest first wrap (either HaveColours ended c.first c.wrap first wrap) (all-back (λ x. HasColours x.face) xs rest both)))
     h
 
@@ -120,5 +105,5 @@ pub line-coloured : (shape : ShapeValues) (base : ℕ) (first wrap : List Elemen
     → All (λ r. All IsColoured r.row.cells) (rows_of (cutting_of shape base first wrap truncation continuation) es)
 line-coloured shape base first wrap truncation continuation es h k all =
     let c : Cutting = cutting_of shape base first wrap truncation continuation in
-    let lead = fitted-coloured _ 0 first h in
-    rows-coloured (length es) c c.first line_start es lead (fitted-coloured _ 0 wrap k) lead all
+    let lead = fitted-each (λ e. HasColours e.face) _ 0 first h in
+    rows-coloured (length es) c c.first line_start es lead (fitted-each (λ e. HasColours e.face) _ 0 wrap k) lead all

@@ -8,6 +8,7 @@ mod LineLaws
 mod Made
 pub mod Marks
 pub mod Mirroring
+mod Placings
 pub mod SameShapes
 mod Splits
 mod Stands

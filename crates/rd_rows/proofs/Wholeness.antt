@@ -1,7 +1,6 @@
 -- In the rows of measured elements each glyph stands whole.
 use Rattle.std.proofs.Common.{◌≡◌, ℕ, zero, suc, ◌+◌, ◌-◌, ◌≤◌, ◌&&◌, min, max, nat_le, nat_lt, Bool, true, false, List, [], ◌∷◌, ◌++◌, length, flat_map, refl, ap, ◌∙◌, arith, length-append, replicate}
 use Rattle.std.proofs.lemmas.List.{length-replicate}
-use Rattle.std.proofs.lemmas.List.Elements.{All-tail}
 use Rattle.rd_base.proofs.Choices.{either}
 use Rattle.rd_base.specs.Elements.{IsSound, AreSound}
 use Rattle.rd_base.specs.Faces.{Attributes, plain}
@@ -12,20 +11,21 @@ use Rattle.rd_base.specs.declared.cell.Glyph.{Glyph}
 use Rattle.rd_base.specs.declared.element.Element.{Element}
 use Rattle.rd_base.specs.declared.element.Look.{Look}
 use Rattle.rd_base.specs.declared.element.Look.TheVariants.{Blank, Glyph as Shown, RowEnd, LineEnd}
-use Rattle.rd_base.proofs.Lists.{all-front, all-back}
+use Rattle.rd_base.proofs.Lists.{all-front, all-back, each-append}
 use Rattle.rd_base.proofs.Rows.{behind-whole, blanks-whole, rests-whole, glyph-whole}
 use Rattle.rd_rows.specs.declared.cutting.Cutting.{Cutting}
 use Rattle.rd_rows.specs.declared.spot.Placed.{Placed}
 use Rattle.rd_rows.specs.declared.spot.Spot.{Spot}
 use Rattle.rd_rows.specs.Mirrors.{mirror_image, leading_rests}
-use Rattle.rd_rows.specs.Placing.{glyph_in, placed_at, behind, next_row, line_start, place_all, columns_of, width_at}
-use Rattle.rd_rows.specs.Prefixes.{FillsColumns, StandFrom, fitted}
+use Rattle.rd_rows.specs.Placing.{glyph_in, next_row, line_start, columns_of}
+use Rattle.rd_rows.specs.Prefixes.{FillsColumns, StandFrom}
 use Rattle.rd_rows.specs.Rows.{whole_cells, seen, seen_in, first_seen, front_mark, scrolled, filled, last_cell, from_edge, row_of, rows_within, rows_of, cutting_of}
 use Rattle.rd_rows.specs.Shapes.{ShapeValues, room, truncates}
 use Rattle.rd_rows.specs.Whole.{IsWhole, AreWhole, IsMark, IsMeasuredPrefix, ArePlacedMeasured, IsMeasuredCutting}
 use Rattle.rd_rows.proofs.Fitting.{cutting-leads}
 use Rattle.rd_rows.proofs.Marks.{mark-whole}
 use Rattle.rd_rows.proofs.Mirroring.{mirror-length, front-length}
+use Rattle.rd_rows.proofs.Placings.{fitted-each, placed-each}
 use Rattle.rd_rows.proofs.Splits.{placed_in, at-row}
 use Rattle.rd_rows.proofs.Stands.{stand-append, stand-placed, room-length}
 
@@ -106,15 +106,6 @@ row-whole c used continued ps m stand measured =
     let same = edge.1 in
     record { wide = omega (arith, columns, size, more, same); whole = edge.0 }
 
-measured-placed : (shape : ShapeValues) (spot : Spot) (xs : List Element) → AreMeasured xs → ArePlacedMeasured (place_all shape spot xs)
-measured-placed shape spot [] h = tt
-measured-placed shape spot (x ∷ xs) h =
-    (h zero x (omega arith), measured-placed shape (behind spot (placed_at shape spot x)) xs (All-tail (λ y. IsMeasuredLook y.look) x xs h))
-
-measured-append : (ps qs : List Placed) → ArePlacedMeasured ps → ArePlacedMeasured qs → ArePlacedMeasured (ps ++ qs)
-measured-append [] qs h k = k
-measured-append (p ∷ ps) qs h k = (h.0, measured-append ps qs h.1 k)
-
 -- a prefix with which a measured row can begin
 record IsMeasuredLead (lead : List Placed) : Type 0 where
   stand : StandFrom 0 lead (columns_of lead)
@@ -130,7 +121,7 @@ whole-rows (suc n) c lead spot (e ∷ es) m one sound measured =
     let ps = placed_in c lead spot xs in (
       row-whole c _ marked (lead ++ ps) m
           (stand-append 0 (columns_of lead) _ lead ps one.stand (stand-placed c.shape start xs (all-front IsSound xs rest all_sound)))
-          (measured-append lead ps one.measured (measured-placed c.shape start xs (all-front (λ y. IsMeasuredLook y.look) xs rest all_measured))),
+          (each-append _ lead ps one.measured (placed-each (λ y. IsMeasuredLook y.look) c.shape start xs (all-front (λ y. IsMeasuredLook y.look) xs rest all_measured))),
       whole-rows n c _ _ rest m (either IsMeasuredLead ended c.first c.wrap (record { stand = m.leads.first.stand; measured = m.first }) (record { stand = m.leads.wrap.stand; measured = m.wrap })) (all-back IsSound xs rest all_sound) (all-back (λ y. IsMeasuredLook y.look) xs rest all_measured),
     ))
     sound measured
@@ -138,25 +129,13 @@ whole-rows (suc n) c lead spot (e ∷ es) m one sound measured =
 pub whole-line : (c : Cutting) (es : List Element) → IsMeasuredCutting c → AreSound es → AreMeasured es → AreWhole c.shape.width (rows_of c es)
 whole-line c es m sound measured = whole-rows (length es) c c.first line_start es m (record { stand = m.leads.first.stand; measured = m.first }) sound measured
 
--- measured prefixes
-
-placed-cons : (p : Placed) (ps : List Placed) → IsMeasuredLook p.element.look → ArePlacedMeasured ps → ArePlacedMeasured (p ∷ ps)
-placed-cons p ps h k = (h, k)
-
-fitted-measured : (limit column : ℕ) (es : List Element) → AreMeasured es → ArePlacedMeasured (fitted limit column es)
-fitted-measured limit column [] measured = tt
-fitted-measured limit column (e ∷ es) measured =
-    let p : Placed = record { element = e; start = column; columns = width_at e.extent column; first = false } in
-    either ArePlacedMeasured (nat_le (column + p.columns) limit) _ _
-    (placed-cons p (fitted limit (column + p.columns) es) (measured zero e (omega arith)) (fitted-measured limit (column + p.columns) es (All-tail (λ x. IsMeasuredLook x.look) e es measured))) tt
-
 pub cutting-measured : (shape : ShapeValues) (base : ℕ) (first wrap : List Element) (truncation continuation : Glyph) → 2 ≤ shape.width → shape.width ≤ 400
     → IsMeasuredPrefix first → IsMeasuredPrefix wrap → IsMark truncation → IsMark continuation → IsMeasuredCutting (cutting_of shape base first wrap truncation continuation)
 cutting-measured shape base first wrap truncation continuation least few h k a b = record {
   columns = least;
   leads = cutting-leads shape base first wrap truncation continuation few h.prefix k.prefix;
-  first = fitted-measured _ 0 first h.measured;
-  wrap = fitted-measured _ 0 wrap k.measured;
+  first = fitted-each (λ e. IsMeasuredLook e.look) _ 0 first h.measured;
+  wrap = fitted-each (λ e. IsMeasuredLook e.look) _ 0 wrap k.measured;
   truncation = a;
   continuation = b;
 }

@@ -1,5 +1,6 @@
 -- Rows in which each glyph stands whole.
 use Rattle.std.specs.Prelude.{◌≡◌, ℕ, ◌≤◌, List, [], ◌∷◌, length}
+use Rattle.std.specs.List.{AllByRecursion}
 use Rattle.rd_base.specs.Glyphs.{IsMeasured, IsMeasuredLook, AreMeasured, IsRowAfter}
 use Rattle.rd_base.specs.declared.cell.Glyph.{Glyph}
 use Rattle.rd_base.specs.declared.element.Element.{Element}
@@ -30,8 +31,7 @@ pub record IsMeasuredPrefix (es : List Element) : Type 0 where
 
 -- elements in their columns, whose glyphs are measured
 abbrev pub ArePlacedMeasured : List Placed → Type 0
-ArePlacedMeasured [] = Unit {0}
-ArePlacedMeasured (p ∷ ps) = IsMeasuredLook p.element.look × ArePlacedMeasured ps
+ArePlacedMeasured ps = AllByRecursion (λ (p : Placed). IsMeasuredLook p.element.look) ps
 
 -- a cutting of a window of at least two columns, whose prefixes and marks are measured
 pub record IsMeasuredCutting (c : Cutting) : Type 0 where
