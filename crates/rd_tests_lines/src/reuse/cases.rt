@@ -23,7 +23,7 @@ fn change_of(changed: Changed) -> Change {
     }
 }
 
-/// Older rows, what changed since, and later where that was not all, and the rows of a window that is laid out again. Texts are told by
+/// Older rows, what changed since, and later where that was not all, and the rows of a window that is laid out again. Texts are given by
 /// signs, one for each line (`line_of`); rows by lines of the block's start, the row's number in it, how often it was copied, and what it
 /// shows.
 #[derive(Clone, Copy)]
