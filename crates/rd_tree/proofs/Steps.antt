@@ -1,13 +1,13 @@
 -- What each call leaves is valid.
-use Rattle.std.proofs.Common.{◌≡◌, ℕ, ◌≤◌, Bool, true, ◌&&◌, nat_le, Result, Ok, Err, inl, inr, refl, subst, arith}
+use Rattle.std.proofs.Common.{◌≡◌, ℕ, ◌≤◌, Bool, true, if◌then◌else◌, ◌&&◌, nat_le, Result, Ok, Err, inl, inr, refl, subst, arith}
 use Rattle.std.proofs.lemmas.Bool.{and_parts, cases_Bool}
 use Rattle.std.proofs.lemmas.Bool.Decides.{nat_tests}
 use Rattle.rd_tree.specs.declared.side.Side.{Side}
 use Rattle.rd_tree.specs.declared.fault.TreeFault.{TreeFault}
 use Rattle.rd_tree.specs.declared.fault.TreeFault.TheVariants.{NoWindow, TooSmall, TooMany, LastWindow}
-use Rattle.rd_tree.specs.Windows.{columns_needed, rows_needed, NeedsMet, fits, holds, is_single, resized, removed, split_at, with_mode, with_margins}
-use Rattle.rd_tree.specs.Calls.{Configuration, IsValid, frame, frame_of, is_full, split_tree, remove_tree, resize_tree, mode_tree, margins_tree}
-use Rattle.rd_tree.proofs.Answering.{split_small, split_many, split_done, mode_small, mode_done, margins_small, margins_done}
+use Rattle.rd_tree.specs.Windows.{Windows, columns_needed, rows_needed, NeedsMet, fits, holds, is_single, resized, removed, split_at, with_mode, with_margins}
+use Rattle.rd_tree.specs.Calls.{Configuration, IsValid, frame, frame_of, is_full, changed_to, split_tree, remove_tree, resize_tree, mode_tree, margins_tree}
+use Rattle.rd_tree.proofs.Answering.{split_small, split_many, split_done}
 use Rattle.rd_tree.proofs.Validity.{split_valid, remove_valid, resize_valid, mode_valid, margins_valid}
 
 left_valid : (said : Result Configuration TreeFault) (a d : Configuration) → said ≡ Ok a → said ≡ Ok d → IsValid a → IsValid d
@@ -54,24 +54,26 @@ resize_keeps c d width height w h valid said =
       | inl n ↦ left_valid (resize_tree c width height) (record c { windows = resized c.windows (frame width height); width = width; height = height }) d (rw n refl) said (resize_valid c width height valid w h (met c width height n))
     ]
 
-pub mode_keeps : (c d : Configuration) (w : ℕ) (shown : Bool) → IsValid c → mode_tree c w shown ≡ Ok d → IsValid d
-unfolding mode_tree
-mode_keeps c d w shown valid said =
+-- other windows, where the tree holds a window
+abbrev changed_where : Configuration → ℕ → Windows → Result Configuration TreeFault
+changed_where c w windows = if holds w c.windows then changed_to c windows else Err NoWindow
+
+changed_keeps : (c d : Configuration) (w : ℕ) (windows : Windows)
+    → (holds w c.windows ≡ true → fits windows (frame_of c) ≡ true → IsValid (record c { windows = windows }))
+    → changed_where c w windows ≡ Ok d → IsValid d
+changed_keeps c d w windows valid said =
     elim (cases_Bool (holds w c.windows)) [
-      | inr h ↦ refused (mode_tree c w shown) NoWindow d (rw h refl) said
-      | inl h ↦ elim (cases_Bool (fits (with_mode w shown c.windows) (frame_of c))) [
-        | inr f ↦ refused (mode_tree c w shown) TooSmall d (mode_small c w shown h f) said
-        | inl f ↦ left_valid (mode_tree c w shown) _ d (mode_done c w shown h f) said (mode_valid c w shown valid h f)
+      | inr h ↦ refused (changed_where c w windows) NoWindow d (rw h refl) said
+      | inl h ↦ elim (cases_Bool (fits windows (frame_of c))) [
+        | inr f ↦ refused (changed_where c w windows) TooSmall d (rw (h, f) refl) said
+        | inl f ↦ left_valid (changed_where c w windows) (record c { windows = windows }) d (rw (h, f) refl) said (valid h f)
       ]
     ]
 
+pub mode_keeps : (c d : Configuration) (w : ℕ) (shown : Bool) → IsValid c → mode_tree c w shown ≡ Ok d → IsValid d
+unfolding mode_tree
+mode_keeps c d w shown valid said = changed_keeps c d w (with_mode w shown c.windows) (mode_valid c w shown valid) said
+
 pub margins_keeps : (c d : Configuration) (w columns : ℕ) → IsValid c → margins_tree c w columns ≡ Ok d → IsValid d
 unfolding margins_tree
-margins_keeps c d w columns valid said =
-    elim (cases_Bool (holds w c.windows)) [
-      | inr h ↦ refused (margins_tree c w columns) NoWindow d (rw h refl) said
-      | inl h ↦ elim (cases_Bool (fits (with_margins w columns c.windows) (frame_of c))) [
-        | inr f ↦ refused (margins_tree c w columns) TooSmall d (margins_small c w columns h f) said
-        | inl f ↦ left_valid (margins_tree c w columns) _ d (margins_done c w columns h f) said (margins_valid c w columns valid h f)
-      ]
-    ]
+margins_keeps c d w columns valid said = changed_keeps c d w (with_margins w columns c.windows) (margins_valid c w columns valid) said
