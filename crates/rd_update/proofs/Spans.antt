@@ -59,7 +59,7 @@ first_before [] (y ∷ ys) p = absurd (omega arith)
 first_before (x ∷ xs) [] p = absurd (omega arith)
 first_before (x ∷ xs) (y ∷ ys) p = first-step (same_cell x y) (first_difference xs ys) (end_of_differences xs ys) (first_before xs ys) p
 
-end-step : (same : Bool) (end n : ℕ) → end ≤ n → end_before same end ≤ suc n
+pub end-step : (same : Bool) (end n : ℕ) → end ≤ n → end_before same end ≤ suc n
 end-step true zero n h = omega arith
 end-step false zero n h = omega arith
 end-step true (suc end) n h = omega arith

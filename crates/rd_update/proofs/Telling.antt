@@ -18,7 +18,7 @@ use Rattle.rd_update.specs.Updates.{first_difference, end_before, end_of_differe
 use Rattle.rd_update.specs.Words.{row_words, AreTold, columns_from, columns_of_words, differing_columns}
 use Rattle.rd_update.specs.declared.span.Columns.{Columns}
 use Rattle.rd_base.proofs.Equals.{cell-told, cell-itself}
-use Rattle.rd_update.proofs.Spans.{first_before, end_within}
+use Rattle.rd_update.proofs.Spans.{first_before, end-step, end_within}
 
 -- ---- the words of two cells
 
@@ -110,15 +110,9 @@ end-words (x ∷ xs) (y ∷ ys) n p q =
     (end-words xs ys (omega arith) p.1 q.1)
     ∙ ap (λ b. end_before b (end_of_differences xs ys)) (words-same x y p.0 q.0)
 
-end-le-step : (same : Bool) (e n : ℕ) → e ≤ n → end_before same e ≤ suc n
-end-le-step true zero n h = omega arith
-end-le-step false zero n h = omega arith
-end-le-step true (suc e) n h = omega arith
-end-le-step false (suc e) n h = omega arith
-
 end-le : (ps : List (ℕ × ℕ)) → end_of_pairs ps ≤ length ps
 end-le [] = omega arith
-end-le (p ∷ ps) = end-le-step (p.0 == p.1) (end_of_pairs ps) (length ps) (end-le ps)
+end-le (p ∷ ps) = end-step (p.0 == p.1) (end_of_pairs ps) (length ps) (end-le ps)
 
 behind-here : (same : Bool) (e : ℕ) → end_before same e ≤ 0 → not (not same) ≡ true
 behind-here true e le = refl
