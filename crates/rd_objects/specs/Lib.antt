@@ -1,3 +1,4 @@
+pub mod Held
 pub mod Sound
 pub mod Tables
 pub mod Texts

@@ -33,25 +33,11 @@ impl Model for Table {
 
     ghost Value = { TableValue };
 
-    ghost view = { λ t. record {
-      entries = t.entries;
-      truncation = t.truncation;
-      continuation = t.continuation;
-      escape = t.escape;
-      control = t.control;
-      border = t.border;
-      ellipsis = t.ellipsis;
-    } };
+    ghost use Rattle.rd_objects.specs.Held.{table_value};
 
-    ghost invariant = { λ t. IsTable (record {
-      entries = t.entries;
-      truncation = t.truncation;
-      continuation = t.continuation;
-      escape = t.escape;
-      control = t.control;
-      border = t.border;
-      ellipsis = t.ellipsis;
-    }) };
+    ghost view = { table_value };
+
+    ghost invariant = { λ t. IsTable (table_value t) };
 }
 
 impl Table {
