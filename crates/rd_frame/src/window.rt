@@ -26,7 +26,7 @@ pub fn paint_window(screen: &mut Screen, window: Placed, pane: &Pane<'_>)
 {
     let _width = screen.width();
     paint_text(screen, window, &pane.border, pane.matrix, pane.margins);
-    paint_below(screen, window, &pane.border, pane.matrix.len() as u32);
+    paint_blanks(screen, window, &pane.border, pane.matrix.len() as u32);
     paint_mode_line(screen, window, pane.mode_line);
 }
 
@@ -62,8 +62,8 @@ fn cells_at(lists: &[ListOf<Cell>], i: usize) -> &[Cell]
     }
 }
 
-/// Paints blank rows of a window's text, from one on.
-fn paint_below(screen: &mut Screen, window: Placed, border: &Cell, from: u32)
+/// Paints blank rows of a window's text, from one on, out of as many blank cells as the widest row has.
+fn paint_blanks(screen: &mut Screen, window: Placed, border: &Cell, from: u32)
     requires stands { StandsOn window screen.old.rows }
     requires from { from ≤ body_height window }
     ensures painted { screen.new ≡ record screen.old { rows = laid_from (window.rect.y + from) window.rect.x (map (bordered (width_of screen.old.rows) window border.now) (replicate (body_height window - from) (blank_row (window.margins + body_width (width_of screen.old.rows) window)))) screen.old.rows } }
@@ -73,17 +73,6 @@ fn paint_below(screen: &mut Screen, window: Placed, border: &Cell, from: u32)
     if from == body_height(window) {
         return;
     }
-    paint_blanks(screen, window, border, from);
-}
-
-/// Paints blank rows of a window's text, from one on, out of as many blank cells as the widest row has.
-fn paint_blanks(screen: &mut Screen, window: Placed, border: &Cell, from: u32)
-    requires stands { StandsOn window screen.old.rows }
-    requires from { from ≤ body_height window }
-    ensures painted { screen.new ≡ record screen.old { rows = laid_from (window.rect.y + from) window.rect.x (map (bordered (width_of screen.old.rows) window border.now) (replicate (body_height window - from) (blank_row (window.margins + body_width (width_of screen.old.rows) window)))) screen.old.rows } }
-    ensures columns { width_of screen.new.rows ≡ width_of screen.old.rows }
-    ensures rows { length screen.new.rows ≡ length screen.old.rows }
-{
     let blanks = [Cell::Blank(Face::PLAIN); FRAME_COLUMNS as usize];
     let blank = first_blanks(&blanks, window.margins + body_width(screen.width(), window));
     for row in from..body_height(window) {
