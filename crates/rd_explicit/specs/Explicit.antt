@@ -1,5 +1,5 @@
 -- Explicit levels (UAX 9, rules X1 to X8). Each rule is a definition here; `after` and `given` say which rule a class takes.
-use Rattle.std.specs.Prelude.{ℕ, ◌+◌, ◌-◌, ◌%◌, ◌==◌, ◌≤◌, nat_le, nat_lt, Bool, true, false, ◌&&◌, if◌then◌else◌, List, [], ◌∷◌, length, map, Option, None, Some}
+use Rattle.std.specs.Prelude.{ℕ, ◌+◌, ◌-◌, ◌%◌, ◌==◌, ◌<◌, ◌≤◌, nat_le, nat_lt, Bool, true, false, ◌&&◌, if◌then◌else◌, List, [], ◌∷◌, length, map, Option, None, Some}
 use Rattle.rd_base.specs.Classes.{is_removed, strong_level}
 use Rattle.rd_base.specs.declared.class.Class.{Class}
 use Rattle.rd_base.specs.declared.class.Class.TheVariants.{L, R, B, LRE, LRO, RLE, RLO, PDF, LRI, RLI, FSI, PDI}
@@ -173,3 +173,15 @@ pub record CountsOn (old new : State) : Type 0 where
   pub overflow_isolates : new.overflow_isolates ≤ old.overflow_isolates + 1
   pub overflow_embeddings : new.overflow_embeddings ≤ old.overflow_embeddings + 1
   pub valid_isolates : new.valid_isolates ≤ old.valid_isolates + 1
+
+-- a state that a rule may be applied to: one entry or more, within their bounds, and each counter at most n
+pub record IsReady (n : ℕ) (s : State) : Type 0 where
+  pub rises : Rises s.stack
+  pub some : 0 < length s.stack
+  pub counted : IsCounted n s
+
+-- what every rule leaves: one entry or more, within their bounds, and counters that went on by at most one
+pub record GoesOn (old new : State) : Type 0 where
+  pub rises : Rises new.stack
+  pub some : 0 < length new.stack
+  pub counts : CountsOn old new

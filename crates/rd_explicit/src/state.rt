@@ -1,7 +1,7 @@
 //! Rules X1 to X8 of UAX 9, each a method of the state that the rules keep, a function, or an arm of the step that says which rule a
 //! class takes.
 ghost use Rattle.std.specs.Prelude.{◌≡◌, ◌<◌, ◌≤◌, ◌+◌, ◌^◌, ◌||◌, ◌&&◌, ◌==◌, length, if◌then◌else◌};
-ghost use Rattle.rd_explicit.specs.Explicit.{x1_start, top, odd_above, even_above, is_valid, embedded, isolated, x5c_starts_right, x5c_first_strong_isolate, x6_level_and_override, x6a_pop_directional_isolate, x7_pop_directional_format, x8_paragraph_separator, x9_removed, after, given, Rises, IsCounted, CountsOn};
+ghost use Rattle.rd_explicit.specs.Explicit.{x1_start, top, odd_above, even_above, is_valid, embedded, isolated, x5c_starts_right, x5c_first_strong_isolate, x6_level_and_override, x6a_pop_directional_isolate, x7_pop_directional_format, x8_paragraph_separator, x9_removed, after, given, Rises, IsReady, GoesOn};
 
 use crate::isolate::x5c_starts_right;
 use crate::stack::{DirectionalStatus, Stack};
@@ -53,13 +53,9 @@ impl State {
     /// overflowed, it overflows.
     fn embed(&mut self, level: u8, direction: Option<Class>)
         requires above { (top self.old.stack).level < level }
-        requires rises { Rises self.old.stack }
-        requires some { 0 < length self.old.stack }
-        requires counted { IsCounted 4294967294 self.old }
+        requires ready { IsReady 4294967294 self.old }
         ensures state { self.new ≡ embedded level direction self.old }
-        ensures rises { Rises self.new.stack }
-        ensures some { 0 < length self.new.stack }
-        ensures counts { CountsOn self.old self.new }
+        ensures leaves { GoesOn self.old self.new }
     {
         if self.is_valid(level) {
             self.stack.push(DirectionalStatus {
@@ -76,13 +72,9 @@ impl State {
     /// overflows.
     fn isolate(&mut self, level: u8)
         requires above { (top self.old.stack).level < level }
-        requires rises { Rises self.old.stack }
-        requires some { 0 < length self.old.stack }
-        requires counted { IsCounted 4294967294 self.old }
+        requires ready { IsReady 4294967294 self.old }
         ensures state { self.new ≡ isolated level self.old }
-        ensures rises { Rises self.new.stack }
-        ensures some { 0 < length self.new.stack }
-        ensures counts { CountsOn self.old self.new }
+        ensures leaves { GoesOn self.old self.new }
     {
         if self.is_valid(level) {
             self.stack.push(DirectionalStatus {
@@ -100,13 +92,9 @@ impl State {
     /// It looks at them only where nothing has overflowed, since the level that it wants counts only then.
     fn x5c_first_strong_isolate(&mut self, rest: &[Class])
         requires short { length rest.now < 2 ^ 32 }
-        requires rises { Rises self.old.stack }
-        requires some { 0 < length self.old.stack }
-        requires counted { IsCounted 4294967294 self.old }
+        requires ready { IsReady 4294967294 self.old }
         ensures state { self.new ≡ x5c_first_strong_isolate self.old rest.now }
-        ensures rises { Rises self.new.stack }
-        ensures some { 0 < length self.new.stack }
-        ensures counts { CountsOn self.old self.new }
+        ensures leaves { GoesOn self.old self.new }
     {
         let level = self.stack.top().level;
         if self.overflow_isolates == 0 && self.overflow_embeddings == 0 && x5c_starts_right(rest) {
@@ -119,12 +107,9 @@ impl State {
     /// X6a: a PDI closes the overflow isolate that was opened last, else the isolate that was opened last and all embeddings in it.
     /// Where no isolate is open nothing changes.
     fn x6a_pop_directional_isolate(&mut self)
-        requires rises { Rises self.old.stack }
-        requires some { 0 < length self.old.stack }
+        requires { IsReady 4294967294 self.old }
         ensures state { self.new ≡ x6a_pop_directional_isolate self.old }
-        ensures rises { Rises self.new.stack }
-        ensures some { 0 < length self.new.stack }
-        ensures counts { CountsOn self.old self.new }
+        ensures leaves { GoesOn self.old self.new }
     {
         if self.overflow_isolates > 0 {
             self.overflow_isolates -= 1;
@@ -138,12 +123,9 @@ impl State {
     /// X7: a PDF closes the overflow embedding that was opened last, else the embedding that was opened last, where it stands in the
     /// same isolate.
     fn x7_pop_directional_format(&mut self)
-        requires rises { Rises self.old.stack }
-        requires some { 0 < length self.old.stack }
+        requires { IsReady 4294967294 self.old }
         ensures state { self.new ≡ x7_pop_directional_format self.old }
-        ensures rises { Rises self.new.stack }
-        ensures some { 0 < length self.new.stack }
-        ensures counts { CountsOn self.old self.new }
+        ensures leaves { GoesOn self.old self.new }
     {
         if self.overflow_isolates > 0 {
             return;
@@ -158,15 +140,11 @@ impl State {
     /// Takes one character, with these classes after it, and says its level and type: by the rule of its class.
     pub fn step(&mut self, base: u8, class: Class, rest: &[Class]) -> Given
         requires short { length rest.now < 2 ^ 32 }
-        requires rises { Rises self.old.stack }
-        requires some { 0 < length self.old.stack }
-        requires counted { IsCounted 4294967294 self.old }
+        requires ready { IsReady 4294967294 self.old }
         ensures given { result ≡ given base self.old class rest.now }
         ensures low { base ≤ 1 → result.level ≤ 125 }
         ensures state { self.new ≡ after self.old class rest.now }
-        ensures rises { Rises self.new.stack }
-        ensures some { 0 < length self.new.stack }
-        ensures counts { CountsOn self.old self.new }
+        ensures leaves { GoesOn self.old self.new }
     {
         let entry = self.stack.top();
         match class {

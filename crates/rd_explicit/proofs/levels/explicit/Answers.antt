@@ -24,12 +24,14 @@ loop-i-preserved c =
           within c.at-class.ensures gives goes line.levels _ lengths_levels c.loop-i.invariant.levels);
       types = rw (classes, c.set_type.ensures.types, c.set_level.ensures.types) (types-step base c.loop-i.state _ line.classes i c.at-class.result c.step-given.result
           within c.at-class.ensures gives goes line.types _ lengths_types c.loop-i.invariant.types);
-      rises = c.step-given.ensures.rises;
-      some = c.step-given.ensures.some;
-      low = rw (c.set_type.ensures.levels, c.set_level.ensures.levels) (low-step line.levels i c.step-given.result.level (omega arith) c.loop-i.invariant.low (c.step-given.ensures.low c.args.line.now.base_is_level));
-      counted = record {
-        overflow_isolates = omega (arith, c.step-given.ensures.counts.overflow_isolates);
-        overflow_embeddings = omega (arith, c.step-given.ensures.counts.overflow_embeddings);
-        valid_isolates = omega (arith, c.step-given.ensures.counts.valid_isolates);
+      ready = record {
+        rises = c.step-given.ensures.leaves.rises;
+        some = c.step-given.ensures.leaves.some;
+        counted = record {
+          overflow_isolates = omega (arith, c.step-given.ensures.leaves.counts.overflow_isolates);
+          overflow_embeddings = omega (arith, c.step-given.ensures.leaves.counts.overflow_embeddings);
+          valid_isolates = omega (arith, c.step-given.ensures.leaves.counts.valid_isolates);
+        };
       };
+      low = rw (c.set_type.ensures.levels, c.set_level.ensures.levels) (low-step line.levels i c.step-given.result.level (omega arith) c.loop-i.invariant.low (c.step-given.ensures.low c.args.line.now.base_is_level));
     }

@@ -1,5 +1,5 @@
-use Rattle.std.proofs.Common.{◌≡◌, ◌<◌, ◌≤◌, ◌++◌, length, take, drop, All}
-use Rattle.rd_explicit.specs.Explicit.{explicit_from, explicit_of, levels_of, types_of, Rises, IsCounted}
+use Rattle.std.proofs.Common.{◌≡◌, ◌≤◌, ◌++◌, take, drop, All}
+use Rattle.rd_explicit.specs.Explicit.{explicit_from, explicit_of, levels_of, types_of, IsReady}
 use Rattle.rd_explicit.proofs.levels.explicit.Given as goal
 
 -- what is done and what is left, from the state, are the whole
@@ -9,8 +9,6 @@ invariant-loop-i l = record {
   base : l.line.base ≡ l.base;
   levels : take l.i l.line.levels ++ levels_of (explicit_from l.base l.state (drop l.i l.line.classes)) ≡ levels_of (explicit_of l.base l.fn.line.classes);
   types : take l.i l.line.types ++ types_of (explicit_from l.base l.state (drop l.i l.line.classes)) ≡ types_of (explicit_of l.base l.fn.line.classes);
-  rises : Rises l.state.stack;
-  some : 0 < length l.state.stack;
-  counted : IsCounted l.i l.state;
+  ready : IsReady l.i l.state;
   low : All (λ v. v ≤ 125) (take l.i l.line.levels);
 }
