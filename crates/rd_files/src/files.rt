@@ -61,10 +61,7 @@ fn read_classes<F: Files>(alloc: Global, files: &mut F, name: &str) -> Result<Cl
     ensures contents { (file : List ℕ) → F.contents files.new file ≡ F.contents files.old file }
     ensures never_falls { (file : List ℕ) → F.faults files.old file ≤ F.faults files.new file }
 {
-    let bytes = match read_bytes(alloc, files, name, DataFile::ClassFile) {
-        Ok(bytes) => bytes,
-        Err(unread) => return Err(unread),
-    };
+    let bytes = read_bytes(alloc, files, name, DataFile::ClassFile)?;
     match Classes::read(alloc, &bytes) {
         Ok(classes) => Ok(classes),
         Err(fault) => Err(fault_of(DataFile::ClassFile, fault)),
@@ -77,10 +74,7 @@ fn read_mirrors<F: Files>(alloc: Global, files: &mut F, name: &str) -> Result<Mi
     ensures contents { (file : List ℕ) → F.contents files.new file ≡ F.contents files.old file }
     ensures never_falls { (file : List ℕ) → F.faults files.old file ≤ F.faults files.new file }
 {
-    let bytes = match read_bytes(alloc, files, name, DataFile::MirrorFile) {
-        Ok(bytes) => bytes,
-        Err(unread) => return Err(unread),
-    };
+    let bytes = read_bytes(alloc, files, name, DataFile::MirrorFile)?;
     match Mirrors::read(alloc, &bytes) {
         Ok(mirrors) => Ok(mirrors),
         Err(fault) => Err(fault_of(DataFile::MirrorFile, fault)),
@@ -113,10 +107,7 @@ fn read_bracket_file<F: Files>(
     ensures contents { (file : List ℕ) → F.contents files.new file ≡ F.contents files.old file }
     ensures never_falls { (file : List ℕ) → F.faults files.old file ≤ F.faults files.new file }
 {
-    let bytes = match read_bytes(alloc, files, name, DataFile::BracketFile) {
-        Ok(bytes) => bytes,
-        Err(unread) => return Err(unread),
-    };
+    let bytes = read_bytes(alloc, files, name, DataFile::BracketFile)?;
     match Brackets::read(alloc, &bytes) {
         Ok(brackets) => Ok(brackets),
         Err(fault) => Err(fault_of(DataFile::BracketFile, fault)),
