@@ -28,12 +28,11 @@ letters-flat law entries letters codes n same =
 
 module _ (result : Result Ahead Memory) where
   -- the turns of a line by what its classes and codes are
-  pub if-turns : (entries : List BracketEntry) (a b : Bool) (base : ℕ) (xs ys : List Class) (us vs : List ℕ) → a ≡ b → xs ≡ ys → us ≡ vs
-      → IfOk result (λ order. order.turns ≡ turns_of entries a base xs us) → IfOk result (λ order. order.turns ≡ turns_of entries b base ys vs)
-  if-turns entries a b base xs ys us vs same classes codes known =
-      subst (λ (r : Bool). IfOk result (λ order. order.turns ≡ turns_of entries r base ys vs)) same
-      (subst (λ (cs : List Class). IfOk result (λ order. order.turns ≡ turns_of entries a base cs vs)) classes
-      (subst (λ (cs : List ℕ). IfOk result (λ order. order.turns ≡ turns_of entries a base xs cs)) codes known))
+  pub if-turns : (entries : List BracketEntry) (reorder : Bool) (base : ℕ) (xs ys : List Class) (us vs : List ℕ) → xs ≡ ys → us ≡ vs
+      → IfOk result (λ order. order.turns ≡ turns_of entries reorder base xs us) → IfOk result (λ order. order.turns ≡ turns_of entries reorder base ys vs)
+  if-turns entries reorder base xs ys us vs classes codes known =
+      subst (λ (cs : List Class). IfOk result (λ order. order.turns ≡ turns_of entries reorder base cs vs)) classes
+      (subst (λ (cs : List ℕ). IfOk result (λ order. order.turns ≡ turns_of entries reorder base xs cs)) codes known)
 
   pub if-places : (m n : ℕ) → m ≡ n → IfOk result (λ order. order.places ≡ m) → IfOk result (λ order. order.places ≡ n)
   if-places m n same known = subst (λ (k : ℕ). IfOk result (λ order. order.places ≡ k)) same known

@@ -67,16 +67,7 @@ fn order_of_items(alloc: Global, view: &View, base: u8, items: &Items) -> Result
 {
     let classes = classes_of(alloc, items)?;
     let codes = codes_of(alloc, items)?;
-    let state = view.state;
-    let settings = &state.settings;
-    Order::new(
-        alloc,
-        settings.reorder,
-        base,
-        classes.as_slice(),
-        codes.as_slice(),
-        view.brackets,
-    )
+    Order::new(alloc, view, base, classes.as_slice(), codes.as_slice())
 }
 
 /// The classes of items, by which a line of them is ordered.

@@ -5,6 +5,7 @@ ghost use Rattle.rd_levels.specs.Turns.{levels_with};
 use rd_base::{Class, ListOf, Memory};
 use rd_levels::{LevelCache, Turn, lines_have_a_level_each, lines_read_from_the_left};
 use rd_order::Visual;
+use rd_props::View;
 use rd_ucd::Brackets;
 use std::alloc::Global;
 use std::marker::Model;
@@ -32,24 +33,26 @@ impl Model for Order {
 
 impl Order {
     ghost use Rattle.std.specs.Prelude.{◌≡◌, ◌≤◌, ◌<◌, ◌∷◌, [], length, MatchOption, IfSome, IfOk};
+    ghost use Rattle.rd_items.specs.Pieces.{scene_of};
     ghost use Rattle.rd_levels.specs.Turns.{turns_of};
 
-    /// All turns of a line of these classes and codes, with a base level of 0 or 1. Where `reorder` is off the places stand in their own
-    /// order.
+    /// All turns of a line of these classes and codes, with a base level of 0 or 1. Where the setting `reorder` is off the places stand in
+    /// their own order.
     pub fn new(
         alloc: Global,
-        reorder: bool,
+        view: &View,
         base: u8,
         classes: &[Class],
         codes: &[u32],
-        brackets: &Brackets,
     ) -> Result<Order, Memory>
         requires base { base ≤ 1 }
         requires codes { length codes.now ≡ length classes.now }
-        ensures turns { IfOk result (λ order. order.turns ≡ turns_of brackets.now reorder base classes.now codes.now) }
+        ensures turns { IfOk result (λ order. order.turns ≡ turns_of (scene_of view.now).brackets (scene_of view.now).parts.settings.reorder base classes.now codes.now) }
         ensures places { IfOk result (λ order. order.places ≡ length classes.now) }
     {
-        let cache = levels_with(alloc, reorder, base, classes, codes, brackets)?;
+        let state = view.state;
+        let settings = &state.settings;
+        let cache = levels_with(alloc, settings.reorder, base, classes, codes, view.brackets)?;
         let walk = Visual::start(cache.levels(), base);
         Ok(Order { cache, walk })
     }

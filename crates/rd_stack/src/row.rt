@@ -64,16 +64,7 @@ pub fn order_of_parts(alloc: Global, view: &View, base: u8, parts: &[Part]) -> R
 {
     let classes = classes_of(alloc, parts)?;
     let codes = codes_of(alloc, parts)?;
-    let state = view.state;
-    let settings = &state.settings;
-    Order::new(
-        alloc,
-        settings.reorder,
-        base,
-        classes.as_slice(),
-        codes.as_slice(),
-        view.brackets,
-    )
+    Order::new(alloc, view, base, classes.as_slice(), codes.as_slice())
 }
 
 /// The classes of parts.

@@ -1,6 +1,5 @@
 use Rattle.std.proofs.Common.{length, sym, ap, ◌∙◌}
 use Rattle.std.proofs.lemmas.List.{length-map}
-use Rattle.rd_base.specs.Settings.{SettingValues}
 use Rattle.rd_stack.specs.Strings.{part_class, part_code}
 use Rattle.rd_stack.proofs.Orders.{if-turns, if-places}
 use Rattle.rd_stack.proofs.row.order_of_parts.Goals as goal
@@ -12,8 +11,7 @@ new-requires-clause-codes c =
 
 pub returns-clause-turns : goal.returns-clause-turns
 returns-clause-turns c =
-    if-turns c.new.result _ _ _ c.args.base _ _ _ _ (ap (λ (v : SettingValues). v.reorder) c.settings.view_is)
-    (c.as_slice.ensures ∙ c.in_ok-classes.ensures) (c.as_slice-2.ensures ∙ c.in_ok-codes.ensures) c.new.ensures.turns
+    if-turns c.new.result _ _ c.args.base _ _ _ _ (c.as_slice.ensures ∙ c.in_ok-classes.ensures) (c.as_slice-2.ensures ∙ c.in_ok-codes.ensures) c.new.ensures.turns
 
 pub returns-clause-places : goal.returns-clause-places
 returns-clause-places c =
