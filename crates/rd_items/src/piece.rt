@@ -107,7 +107,7 @@ pub fn parts_of<'a>(view: &View<'a>) -> Parts<'a>
 }
 
 /// The display spec of a number: no columns where none was made with it.
-fn spec_of(objects: &Objects, number: u32) -> Spec
+pub fn spec_in(objects: &Objects, number: u32) -> Spec
     ensures { result ≡ spec_in objects.now number }
 {
     match objects.spec(number) {
@@ -177,8 +177,8 @@ fn spec_piece(view: &View, spec: Spec, face: Face, at: u32, to: u32) -> Piece
     }
 }
 
-/// The class of a character inside a block.
-fn inner_class(class: Class) -> Class
+/// The class of a character inside a line.
+pub fn inner_class(class: Class) -> Class
     ensures { result ≡ inner_class class }
 {
     match class {
@@ -260,7 +260,7 @@ pub fn piece_at(view: &View, showing: &Showing, ch: &Option<Ch>, at: u32, to: u3
 {
     let face = showing.face;
     match (showing.display, showing.hidden) {
-        (Some(number), _) => spec_piece(view, spec_of(view.objects, number), face, at, to),
+        (Some(number), _) => spec_piece(view, spec_in(view.objects, number), face, at, to),
         (None, Hidden::No) => open_piece(view, face, ch, at),
         (None, Hidden::Plain) => Piece::new(Class::ON, None, face, false, at, to),
         (None, Hidden::Ellipsis) => Piece::new(

@@ -28,8 +28,8 @@ fn is_hidden(hidden: Hidden) -> bool
     }
 }
 
-/// Whether two positions are replaced by one spec.
-fn same_spec(a: Option<u32>, b: Option<u32>) -> bool
+/// Whether two positions, or two places of a string, are replaced by one spec.
+pub fn same_spec(a: Option<u32>, b: Option<u32>) -> bool
     ensures { result ≡ same_spec a b }
 {
     match (a, b) {

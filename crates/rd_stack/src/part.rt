@@ -1,13 +1,13 @@
 //! What strings are made of.
 ghost use Rattle.std.specs.Prelude.{◌≡◌, ◌<◌, length};
 ghost use Rattle.rd_objects.specs.Texts.{face_of, spec_of};
-ghost use Rattle.rd_items.specs.Pieces.{scene_of, spec_in, inner_class, same_spec};
+ghost use Rattle.rd_items.specs.Pieces.{scene_of};
 ghost use Rattle.rd_stack.specs.Strings.{place_of, ends_row, spec_class, part_of, kind_code};
 
 use rd_base::{Ch, Class, Face, Glyph};
 use rd_glyphs::MarkRole;
-use rd_items::{UNLISTED, parts_of};
-use rd_objects::{Objects, Spec, Text};
+use rd_items::{UNLISTED, inner_class, parts_of, spec_in};
+use rd_objects::{Spec, Text};
 use rd_props::View;
 
 /// A place of a string: its character, its face, and the number of the display spec that replaces it.
@@ -61,31 +61,11 @@ pub fn place_of(replaced: bool, text: &Text, under: Face, i: u32) -> Place
     }
 }
 
-/// Whether two places are replaced by one spec.
-pub fn same_spec(a: Option<u32>, b: Option<u32>) -> bool
-    ensures { result ≡ same_spec a b }
-{
-    match (a, b) {
-        (Some(a), Some(b)) => a == b,
-        _ => false,
-    }
-}
-
 /// Whether a place has a newline that no spec replaces.
 pub fn ends_row(place: &Place) -> bool
     ensures { result ≡ ends_row place.now }
 {
     place.spec.is_none() && place.ch.code() == 10
-}
-
-/// The display spec of a number: no columns where none was made with it.
-fn spec_named(objects: &Objects, number: u32) -> Spec
-    ensures { result ≡ spec_in objects.now number }
-{
-    match objects.spec(number) {
-        Some(spec) => spec,
-        None => Spec::Width(0),
-    }
 }
 
 /// The class of what a spec puts.
@@ -98,22 +78,12 @@ fn spec_class(spec: Spec) -> Class
     }
 }
 
-/// The class of a character inside a line.
-fn inner_class(class: Class) -> Class
-    ensures { result ≡ inner_class class }
-{
-    match class {
-        Class::B => Class::S,
-        other => other,
-    }
-}
-
 /// The part of a place.
 pub fn part_of(view: &View, place: &Place) -> Part
     ensures { result ≡ part_of (scene_of view.now) place.now }
 {
     if let Some(number) = place.spec {
-        let spec = spec_named(view.objects, number);
+        let spec = spec_in(view.objects, number);
         return Part {
             class: spec_class(spec),
             kind: PartKind::Replaced(spec),

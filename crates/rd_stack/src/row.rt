@@ -7,8 +7,9 @@ ghost use Rattle.rd_stack.specs.declared.part.Place.{Place};
 ghost use Rattle.rd_stack.specs.declared.part.Part.{Part};
 
 use crate::order::Order;
-use crate::part::{Part, Place, ends_row, kind_code, part_of, place_of, same_spec};
+use crate::part::{Part, Place, ends_row, kind_code, part_of, place_of};
 use rd_base::{Class, Face, ListOf, Memory};
+use rd_items::same_spec;
 use rd_objects::Text;
 use rd_props::View;
 use std::alloc::Global;
