@@ -7,6 +7,7 @@ use Rattle.std.proofs.lemmas.List.Elements.{All-map, All-cons, All-nil, All-appe
 use Rattle.rd_base.specs.Faces.{Attributes}
 use Rattle.rd_base.specs.Elements.{is_line_end}
 use Rattle.rd_base.specs.Cells.{single}
+use Rattle.rd_base.proofs.Lists.{all-one}
 use Rattle.rd_base.specs.declared.element.Extent.TheVariants.{Fixed, Column}
 use Rattle.rd_base.specs.declared.cell.Glyph.{Glyph}
 use Rattle.rd_base.specs.declared.element.Element.{Element}
@@ -35,24 +36,21 @@ abbrev IsOpenLook : Look → Type 0
 IsOpenLook l = is_line_end l ≡ false
 
 pub open-one : (e : Element) → IsOpen e → AreOpen (e ∷ [])
-open-one e is = All-cons IsOpen e [] is (All-nil IsOpen)
+open-one e is = all-one IsOpen e is
 
 pub open-each : {X : Type 0} (f : X → List Element) → ((x : X) → AreOpen (f x)) → (xs : List X) → AreOpen (flat_map f xs)
 open-each f each [] = All-nil IsOpen
 open-each f each (x ∷ xs) = All-append IsOpen (f x) (flat_map f xs) (each x) (open-each f each xs)
 
-one-look : (l : Look) → IsOpenLook l → All IsOpenLook (l ∷ [])
-one-look l is = All-cons IsOpenLook l [] is (All-nil IsOpenLook)
-
 looks-open : (escape control : Glyph) (shown : Shown) → All IsOpenLook (looks_of escape control shown)
-looks-open escape control (Caret letter) = All-cons IsOpenLook (look.Glyph control) (narrow letter ∷ []) refl (one-look (narrow letter) refl)
+looks-open escape control (Caret letter) = All-cons IsOpenLook (look.Glyph control) (narrow letter ∷ []) refl (all-one IsOpenLook (narrow letter) refl)
 looks-open escape control (Octal byte) =
     All-cons IsOpenLook (look.Glyph escape) (digit (byte / 64) ∷ digit (byte / 8) ∷ digit byte ∷ []) refl
     (All-cons IsOpenLook (digit (byte / 64)) (digit (byte / 8) ∷ digit byte ∷ []) refl
-    (All-cons IsOpenLook (digit (byte / 8)) (digit byte ∷ []) refl (one-look (digit byte) refl)))
-looks-open escape control Space = one-look look.Blank refl
-looks-open escape control (Mark code) = one-look (look.Glyph (on_blank code)) refl
-looks-open escape control (Itself code width) = one-look (look.Glyph (single code width)) refl
+    (All-cons IsOpenLook (digit (byte / 8)) (digit byte ∷ []) refl (all-one IsOpenLook (digit byte) refl)))
+looks-open escape control Space = all-one IsOpenLook look.Blank refl
+looks-open escape control (Mark code) = all-one IsOpenLook (look.Glyph (on_blank code)) refl
+looks-open escape control (Itself code width) = all-one IsOpenLook (look.Glyph (single code width)) refl
 
 pub glyphs-open : (face : Attributes) (origin : Origin) (text : List Glyph) → AreOpen (glyph_elements face origin text)
 glyphs-open face origin text = All-map IsOpen (λ (g : Glyph). element_of face origin (look.Glyph g)) text (λ k d inside. refl)

@@ -3,7 +3,8 @@ use Rattle.std.proofs.Common.{ℕ, suc, ◌+◌, ◌*◌, ◌≤◌, List, [], �
 use Rattle.std.specs.Prelude.{slice_get, zero}
 use Rattle.std.specs.List.{flat_map, AllByRecursion}
 use Rattle.std.proofs.Math.Nat.{suc-mul}
-use Rattle.std.proofs.lemmas.List.Elements.{All-cons, All-nil, All-append, recursion_from_All}
+use Rattle.std.proofs.lemmas.List.Elements.{All-nil, All-append, recursion_from_All}
+use Rattle.rd_base.proofs.Lists.{all-one}
 use Rattle.rd_base.proofs.Rows.{columns-append}
 use Rattle.rd_base.specs.Elements.{IsSound, AreSound, width_at_most}
 use Rattle.rd_base.specs.Glyphs.{IsMeasuredLook, AreMeasured}
@@ -19,7 +20,7 @@ good-nil most = record { right = All-nil IsRight; few = omega arith }
 
 pub good-one : (most : ℕ) (e : Element) → IsSound e → IsMeasuredLook e.look → width_at_most e.extent ≤ most → AreRightWithin most (e ∷ [])
 good-one most e sound measured few =
-    record { right = All-cons IsRight e [] (record { sound = sound; measured = measured }) (All-nil IsRight); few = omega (arith, few) }
+    record { right = all-one IsRight e (record { sound = sound; measured = measured }); few = omega (arith, few) }
 
 pub good-more : (few most : ℕ) (es : List Element) → few ≤ most → AreRightWithin few es → AreRightWithin most es
 good-more few most es less good = let own = good.few in record { right = good.right; few = omega (arith, less, own) }
