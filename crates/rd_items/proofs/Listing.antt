@@ -108,25 +108,21 @@ shown-behind s p less ends =
     let place : suc p - 1 ≡ p = omega arith in
     ap (is_shown_newline s) place ∙ shown-here s p less ∙ ends
 
-first-block : (s : BufferValue) (start p n : ℕ) → IsOpen s start p (suc n) → ends_block s p ≡ true → IsBlock s start (suc p)
-first-block s start p n is ends = record {
+block-here : (s : BufferValue) (start p n : ℕ) → IsOpen s start p n → EndsBlock s (suc p) → IsBlock s start (suc p)
+block-here s start p n is ends = record {
   first = is.low;
   some = omega (arith, is.order);
   last = omega (arith, is.far);
   begins = is.begins;
   inside = λ q a b. is.inside q a (omega arith);
-  ends = inr (shown-behind s p (omega (arith, is.far)) ends);
+  ends = ends;
 }
 
+first-block : (s : BufferValue) (start p n : ℕ) → IsOpen s start p (suc n) → ends_block s p ≡ true → IsBlock s start (suc p)
+first-block s start p n is ends = block-here s start p (suc n) is (inr (shown-behind s p (omega (arith, is.far)) ends))
+
 last-block : (s : BufferValue) (start p : ℕ) → IsOpen s start p 0 → IsBlock s start (suc p)
-last-block s start p is = record {
-  first = is.low;
-  some = omega (arith, is.order);
-  last = omega (arith, is.far);
-  begins = is.begins;
-  inside = λ q a b. is.inside q a (omega arith);
-  ends = inl (omega (arith, is.far));
-}
+last-block s start p is = block-here s start p 0 is (inl (omega (arith, is.far)))
 
 open-next : (s : BufferValue) (start p n : ℕ) → IsOpen s start p (suc n) → ends_block s p ≡ true → IsOpen s (suc p) (suc p) n
 open-next s start p n is ends = record {
