@@ -1,5 +1,5 @@
 -- Glyphs as Unicode measures them.
-use Rattle.std.proofs.Common.{rules, ◌≡◌, ℕ, ◌+◌, ◌<◌, ◌≤◌, Bool, true, false, IsTrue, List, [], ◌∷◌, length, get_or, Option, Some, None, All, refl, sym, subst, ap, map, ◌∙◌, ◌⊎◌, inl, inr, arith, tests, unwrap_or, replicate}
+use Rattle.std.proofs.Common.{rules, ◌≡◌, ℕ, ◌+◌, ◌<◌, ◌≤◌, Bool, true, false, IsTrue, List, [], ◌∷◌, length, get_or, Option, Some, None, All, IfSome, refl, sym, subst, ap, map, ◌∙◌, ◌⊎◌, inl, inr, arith, tests, unwrap_or, replicate}
 use Rattle.std.specs.Prelude.{zero, suc, ◌-◌, ◌/◌, ◌%◌, ◌≢◌, ◌==◌, nat_le, ◌&&◌, if◌then◌else◌}
 use Rattle.std.specs.List.{list_all}
 use Rattle.std.proofs.lemmas.Bool.{and_parts}
@@ -27,10 +27,12 @@ use Rattle.rd_base.specs.declared.element.Origin.{Origin}
 use Rattle.rd_base.specs.declared.element.Look.{Look}
 use Rattle.rd_base.specs.declared.element.Look.TheVariants as look
 use Rattle.rd_base.specs.Glyphs.{AreMeasured}
+use Rattle.rd_glyphs.specs.declared.mark_role.MarkRole.{MarkRole}
 use Rattle.rd_glyphs.specs.declared.shown.Shown.{Shown}
 use Rattle.rd_glyphs.specs.declared.shown.Shown.TheVariants.{Caret, Octal, Space, Mark, Itself}
-use Rattle.rd_glyphs.specs.MarkRoles.{mark_role_by, IsMeasuredRole}
-use Rattle.rd_glyphs.specs.Characters.{is_control, is_formatting, caret, shown_as, turned, mirrored, on_blank, narrow, digit, looks_of, element_of}
+use Rattle.rd_glyphs.specs.MarkRoles.{mark_role_by, mark_role_of, base_of, mark_of, IsMark, IsMeasuredRole}
+use Rattle.rd_glyphs.specs.Marks.{marked_glyph}
+use Rattle.rd_glyphs.specs.Characters.{PartValues, is_control, is_formatting, caret, shown_as, turned, mirrored, on_blank, narrow, digit, looks_of, element_of}
 
 -- what is put for a character has the columns that Unicode gives it: a letter is printable, a mark takes none, and a character
 -- that is shown itself takes 1 to 3
@@ -198,3 +200,10 @@ role-measured (Octal byte) s = tt
 role-measured Space s = tt
 role-measured (Mark code) s = s
 role-measured (Itself code width) s = single-measured code width s.0 s.1 s.2 s.3
+
+-- what is known of marks
+pub record MarkLaws : Type 0 where
+  pub role : (parts : PartValues) (ch : ℕ) → IsTrue (is_code ch) → IsMeasuredRole (mark_role_of parts ch)
+  pub base : (j : MarkRole) → IsMeasuredRole j → IfSome (base_of j) (λ g. IsMeasured g)
+  pub mark : (j : MarkRole) → IsMeasuredRole j → IfSome (mark_of j) (λ code. IsMark code)
+  pub joined : (base : Option Glyph) (mark : Option ℕ) → IfSome base (λ g. IsMeasured g) → IfSome mark (λ code. IsMark code) → IfSome (marked_glyph base mark) (λ g. IsMeasured g)

@@ -9,11 +9,10 @@ use Rattle.rd_base.specs.declared.cell.Glyph.{Glyph}
 use Rattle.rd_text.specs.Texts.{is_newline}
 use Rattle.rd_objects.specs.declared.run.Spec.{Spec}
 use Rattle.rd_objects.specs.declared.run.Spec.TheVariants.{Text, Width, Align}
-use Rattle.rd_glyphs.specs.MarkRoles.{mark_role_of, base_of, mark_of, IsMark, IsMeasuredRole}
-use Rattle.rd_glyphs.specs.Marks.{marked_glyph, marks_joined}
-use Rattle.rd_glyphs.specs.Characters.{PartValues}
+use Rattle.rd_glyphs.specs.MarkRoles.{mark_role_of, IsMark}
+use Rattle.rd_glyphs.specs.Marks.{marks_joined}
 use Rattle.rd_glyphs.proofs.Joined.{Grows, marks_joined-each}
-use Rattle.rd_glyphs.specs.declared.mark_role.MarkRole.{MarkRole}
+use Rattle.rd_glyphs.proofs.Measures.{MarkLaws}
 use Rattle.rd_props.specs.Seen.{Seen}
 use Rattle.rd_props.specs.declared.hiding.Hidden.{Hidden}
 use Rattle.rd_props.specs.declared.hiding.Hidden.TheVariants.{No, Plain, Ellipsis}
@@ -32,13 +31,6 @@ record IsMeasuredPiece (x : Piece) : Type 0 where
 
 abbrev AreMeasuredPieces : List Piece → Type 0
 AreMeasuredPieces xs = All IsMeasuredPiece xs
-
--- what is known of marks
-pub record MarkLaws : Type 0 where
-  pub role : (parts : PartValues) (ch : ℕ) → IsTrue (is_code ch) → IsMeasuredRole (mark_role_of parts ch)
-  pub base : (j : MarkRole) → IsMeasuredRole j → IfSome (base_of j) (λ g. IsMeasured g)
-  pub mark : (j : MarkRole) → IsMeasuredRole j → IfSome (mark_of j) (λ code. IsMark code)
-  pub joined : (base : Option Glyph) (mark : Option ℕ) → IfSome base (λ g. IsMeasured g) → IfSome mark (λ code. IsMark code) → IfSome (marked_glyph base mark) (λ g. IsMeasured g)
 
 -- ---- the pieces of what is read
 

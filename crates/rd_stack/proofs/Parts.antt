@@ -17,11 +17,10 @@ use Rattle.rd_objects.specs.Texts.{TextValue}
 use Rattle.rd_objects.specs.Things.{ObjectLists, IsSmallSpec}
 use Rattle.rd_objects.specs.declared.run.Spec.{Spec}
 use Rattle.rd_objects.specs.declared.run.Spec.TheVariants.{Width}
-use Rattle.rd_glyphs.specs.Characters.{PartValues}
-use Rattle.rd_glyphs.specs.MarkRoles.{mark_role_of, base_of, mark_of, IsMark, IsMeasuredRole}
-use Rattle.rd_glyphs.specs.Marks.{marked_glyph, marks_joined}
-use Rattle.rd_glyphs.specs.declared.mark_role.MarkRole.{MarkRole}
+use Rattle.rd_glyphs.specs.MarkRoles.{base_of, mark_of, IsMeasuredRole}
+use Rattle.rd_glyphs.specs.Marks.{marks_joined}
 use Rattle.rd_glyphs.proofs.Joined.{Grows, marks_joined-all}
+use Rattle.rd_glyphs.proofs.Measures.{MarkLaws}
 use Rattle.rd_items.specs.Pieces.{Scene, spec_in, same_spec}
 use Rattle.rd_levels.specs.Turns.{turns_of}
 use Rattle.rd_levels.specs.declared.turn.Turn.{Turn}
@@ -34,13 +33,6 @@ use Rattle.rd_stack.specs.declared.part.PartKind.TheVariants as kind
 use Rattle.rd_stack.proofs.Good.{found-by, found}
 use Rattle.rd_stack.proofs.Joined.{marks_joined-few}
 use Rattle.rd_stack.proofs.TurnCounts.{LevelsLaw, turns-count}
-
--- what is known of marks
-pub record MarkLaws : Type 0 where
-  pub role : (parts : PartValues) (ch : ℕ) → IsTrue (is_code ch) → IsMeasuredRole (mark_role_of parts ch)
-  pub base : (j : MarkRole) → IsMeasuredRole j → IfSome (base_of j) (λ g. IsMeasured g)
-  pub mark : (j : MarkRole) → IsMeasuredRole j → IfSome (mark_of j) (λ code. IsMark code)
-  pub joined : (base : Option Glyph) (mark : Option ℕ) → IfSome base (λ g. IsMeasured g) → IfSome mark (λ code. IsMark code) → IfSome (marked_glyph base mark) (λ g. IsMeasured g)
 
 -- what a part of a sound string shows
 abbrev pub IsFitKind : PartKind → Type 0

@@ -24,6 +24,7 @@ use Rattle.rd_objects.specs.Things.{ObjectLists, IsSmallSpec}
 use Rattle.rd_objects.specs.declared.run.Spec.{Spec}
 use Rattle.rd_objects.specs.declared.run.Spec.TheVariants.{Text, Width, Align}
 use Rattle.rd_glyphs.specs.Characters.{PartValues, AreSoundParts, element_of, elements_of, glyph_elements}
+use Rattle.rd_glyphs.proofs.Measures.{MarkLaws}
 use Rattle.rd_items.specs.Pieces.{Scene, table_in, IsMeasuredKind}
 use Rattle.rd_items.specs.Items.{items_of, AreMeasuredItems}
 use Rattle.rd_items.specs.Readings.{HaveCodes}
@@ -41,7 +42,7 @@ use Rattle.rd_stack.specs.declared.part.PartKind.TheVariants as kind
 use Rattle.rd_stack.proofs.Ends.{before-each}
 use Rattle.rd_stack.proofs.Good.{both-right, good-nil, good-one, good-more, good-each, found}
 use Rattle.rd_stack.proofs.Holds.{Gives, items-hold, all-read, items-few}
-use Rattle.rd_stack.proofs.Parts.{MarkLaws, IsFitKind, IsFitShown, spec-small, string-fit}
+use Rattle.rd_stack.proofs.Parts.{IsFitKind, IsFitShown, spec-small, string-fit}
 use Rattle.rd_stack.proofs.TurnCounts.{LevelsLaw, turns-count}
 
 -- what is known of the elements of characters and of glyph characters

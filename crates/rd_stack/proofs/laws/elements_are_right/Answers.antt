@@ -1,4 +1,4 @@
-use Rattle.rd_stack.proofs.Parts.{MarkLaws}
+use Rattle.rd_glyphs.proofs.Measures.{MarkLaws}
 use Rattle.rd_stack.proofs.Sound.{GlyphLaws, read-good, prefix-good}
 use Rattle.rd_stack.proofs.laws.elements_are_right.Goals as goal
 
