@@ -1,11 +1,10 @@
 -- Objects that are made change no item of what names none of them.
-use Rattle.std.proofs.Common.{◌≡◌, ℕ, ◌+◌, ◌-◌, ◌<◌, if◌then◌else◌, List, [], ◌∷◌, ◌++◌, length, Option, Some, None, IfSome, refl, ap, ◌∙◌}
+use Rattle.std.proofs.Common.{◌≡◌, ℕ, ◌+◌, ◌<◌, List, [], ◌∷◌, ◌++◌, length, Option, Some, None, IfSome, refl, ap, ◌∙◌}
 use Rattle.std.specs.Prelude.{zero, suc, slice_get, All}
 use Rattle.std.specs.Option.{unwrap_or, option_and_then}
-use Rattle.std.proofs.lemmas.List.Elements.{All-nil, All-cons, All-head, All-tail, All-get_or}
+use Rattle.std.proofs.lemmas.List.Elements.{All-head, All-tail, All-get_or}
 use Rattle.std.proofs.lemmas.Option.{unwrap_or-slice_get}
 use Rattle.rd_objects.proofs.Soundness.{goes_kept}
-use Rattle.rd_base.proofs.Choices.{either}
 use Rattle.rd_base.specs.Faces.{Attributes}
 use Rattle.rd_base.specs.Settings.{SettingValues, without_flags}
 use Rattle.rd_base.specs.declared.settings.Invisible.{Invisible}
@@ -15,13 +14,12 @@ use Rattle.rd_objects.specs.declared.run.Spec.TheVariants.{Text, Width, Align}
 use Rattle.rd_objects.specs.Sound.{NamesMade, IsClosed, GoesOn, Extends}
 use Rattle.rd_objects.specs.Things.{ObjectLists}
 use Rattle.rd_glyphs.specs.Marks.{marks_joined}
-use Rattle.rd_props.specs.Buffers.{BufferValue}
-use Rattle.rd_props.specs.Made.{AreMade, SettingsMade, SeesMade}
-use Rattle.rd_props.specs.Seen.{Seen, seen_at}
+use Rattle.rd_props.specs.Made.{SettingsMade, SeesMade}
+use Rattle.rd_props.specs.Seen.{Seen}
 use Rattle.rd_props.specs.declared.hiding.Hidden.{Hidden}
 use Rattle.rd_props.specs.declared.hiding.Hidden.TheVariants.{No, Plain, Ellipsis}
 use Rattle.rd_items.specs.declared.piece.Piece.{Piece}
-use Rattle.rd_items.specs.Readings.{ends_block, showing_of, reading_from, reading}
+use Rattle.rd_items.specs.Readings.{showing_of}
 use Rattle.rd_items.specs.Pieces.{Scene, table_in, scene_in, string_pieces, spec_in, spec_piece, open_piece, char_piece, piece_by, piece_at, run_in, pieces_from}
 use Rattle.rd_items.specs.Items.{piece_joins, covering, items_of}
 use Rattle.rd_items.specs.Growing.{ReadsMade, GoesOnFrom}
@@ -104,19 +102,3 @@ module _ (old new : Scene) (goes : GoesOnFrom old new) (closed : IsClosed old.ob
 -- the items of what is read
 pub same-items : (old new : Scene) (es : List Seen) → GoesOnFrom old new → IsClosed old.objects → ReadsMade old.objects es → items_of new es ≡ items_of old es
 same-items old new es goes closed made = ap (λ (xs : List Piece). covering 0 (marks_joined piece_joins xs)) (same-pieces old new goes closed 0 0 es made)
-
--- ---- what is read of a buffer
-
--- what is known of what is seen at a position
-abbrev AreSeen : Type 0
-AreSeen = (s : BufferValue) (objects : ObjectLists) (p : ℕ) → AreMade s objects → SeesMade objects (seen_at s objects p)
-
-from-made : AreSeen → (s : BufferValue) (objects : ObjectLists) (n p : ℕ) → AreMade s objects → ReadsMade objects (reading_from s objects n p)
-from-made seen s objects zero p made = All-cons (SeesMade objects) (seen_at s objects p) [] (seen s objects p made) (All-nil (SeesMade objects))
-from-made seen s objects (suc n) p made =
-    let rest = if ends_block s p then [] else reading_from s objects n (suc p) in
-    All-cons (SeesMade objects) (seen_at s objects p) rest (seen s objects p made)
-    (either (All (SeesMade objects)) (ends_block s p) [] (reading_from s objects n (suc p)) (All-nil (SeesMade objects)) (from-made seen s objects n (suc p) made))
-
-pub reads-made : AreSeen → (s : BufferValue) (objects : ObjectLists) (p : ℕ) → AreMade s objects → ReadsMade objects (reading s objects p)
-reads-made seen s objects p made = from-made seen s objects (s.text.end - p) p made

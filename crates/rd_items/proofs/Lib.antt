@@ -7,6 +7,7 @@ mod Measured
 mod Naming
 mod Newlines
 mod Reach
+pub mod Readings
 mod Runs
 mod Steps
 mod Strings

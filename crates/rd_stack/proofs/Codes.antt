@@ -1,14 +1,14 @@
 -- What is read of a text of codes has codes.
-use Rattle.std.proofs.Common.{ℕ, zero, suc, ◌-◌, nat_le, nat_lt, Bool, true, false, IsTrue, List, [], ◌∷◌, Option, None, IfSome}
+use Rattle.std.proofs.Common.{ℕ, ◌-◌, nat_le, nat_lt, Bool, true, false, IsTrue, Option, None, IfSome}
 use Rattle.std.specs.Prelude.{if◌then◌else◌, slice_get}
-use Rattle.std.proofs.lemmas.List.Elements.{All-nil, All-cons}
 use Rattle.rd_base.specs.Chars.{is_code}
 use Rattle.rd_text.specs.Texts.{char_at}
 use Rattle.rd_objects.specs.Sound.{AreCodes}
 use Rattle.rd_objects.specs.Things.{ObjectLists}
 use Rattle.rd_props.specs.Buffers.{BufferValue}
-use Rattle.rd_props.specs.Seen.{Seen, seen_at, accessible_char}
-use Rattle.rd_items.specs.Readings.{ends_block, reading_from, reading, HaveCodes}
+use Rattle.rd_props.specs.Seen.{Seen, accessible_char}
+use Rattle.rd_items.specs.Readings.{reading, HaveCodes}
+use Rattle.rd_items.proofs.Readings.{reading-each}
 use Rattle.rd_stack.proofs.Good.{found}
 
 code-if : (b : Bool) (c : Option ℕ) → IfSome c (λ n. IsTrue (is_code n)) → IfSome (if b then c else None) (λ n. IsTrue (is_code n))
@@ -23,13 +23,5 @@ code-seen s objects p codes =
 abbrev HasCode : Seen → Type 0
 HasCode e = IfSome e.character (λ c. IsTrue (is_code c))
 
-codes-either : (b : Bool) (e : Seen) (es : List Seen) → HasCode e → HaveCodes es → HaveCodes (e ∷ (if b then [] else es))
-codes-either true e es code codes = All-cons HasCode e [] code (All-nil HasCode)
-codes-either false e es code codes = All-cons HasCode e es code codes
-
-read-codes : (s : BufferValue) (objects : ObjectLists) (n p : ℕ) → AreCodes s.text.text → HaveCodes (reading_from s objects n p)
-read-codes s objects zero p codes = All-cons HasCode (seen_at s objects p) [] (code-seen s objects p codes) (All-nil HasCode)
-read-codes s objects (suc n) p codes = codes-either (ends_block s p) (seen_at s objects p) (reading_from s objects n (suc p)) (code-seen s objects p codes) (read-codes s objects n (suc p) codes)
-
 pub reading-codes : (s : BufferValue) (objects : ObjectLists) (p : ℕ) → AreCodes s.text.text → HaveCodes (reading s objects p)
-reading-codes s objects p codes = read-codes s objects (s.text.end - p) p codes
+reading-codes s objects p codes = reading-each HasCode s objects (λ q. code-seen s objects q codes) p

@@ -15,6 +15,5 @@ mod Holds
 mod Sound
 mod Codes
 mod ReadFew
-mod ReadColours
 mod Coloured
 mod Stays
