@@ -37,7 +37,7 @@ use Rattle.rd_state.proofs.ByNumber.{NumberedWindow, window-each, window-same, w
 use Rattle.rd_state.proofs.Keeping.{moved_by}
 use Rattle.rd_state.proofs.Leaving.{whole, whole-objects, stays-inserted, stays-deleted, StaysAround, stays-put, stays-made, AroundOverlay, stays-dropped, stays-given, stays-moved, stays-margin, IsEditOf, moving-is, edited-is, edited_moving-is, others-whole, here-stays}
 use Rattle.rd_state.proofs.Naming.{made-none}
-use Rattle.rd_state.proofs.Showing.{found-ok, buffer-ok, on_tree-ok, changing-ok, unless-ok}
+use Rattle.rd_state.proofs.Showing.{found-ok, buffer-ok, on_tree-ok, changing-ok, same-window, unless-ok}
 use Rattle.rd_state.proofs.Tests.{if-ok, if-not}
 use Rattle.rd_state.proofs.Options.{one-value}
 
@@ -53,12 +53,9 @@ pub record Outcome (s t : StateValue) (effect : Effect) : Type 0 where
 
 -- ---- windows
 
-one-window : (n : ℕ) (ws : List NumberedWindow) (w v : WindowState) → window_of n ws ≡ Some w → window_of n ws ≡ Some v → w ≡ v
-one-window n ws w v h k = cc
-
 show-same : (s t : StateValue) (effect : Effect) → t.windows ≡ s.windows → Show s t effect
 show-same s t effect is number w v hw hv ne =
-    ap (λ (x : WindowState). x.buffer) (one-window number s.windows v w (ap (window_of number) (sym is) ∙ hv) hw)
+    ap (λ (x : WindowState). x.buffer) (same-window number s.windows v w (ap (window_of number) (sym is) ∙ hv) hw)
 
 show-each : (s t : StateValue) (effect : Effect) (i : ℕ) (how : Move) → t.windows ≡ map (moved_in i how) s.windows → Show s t effect
 show-each s t effect i how is number w v hw hv ne =
@@ -74,7 +71,7 @@ with-buffer n number f ws w v hw hv keep = elim (cases_eq number n) [
       let after : option_map f (window_of n ws) ≡ Some v = sym (window-same n f ws) ∙ (ap (λ (k : ℕ). window_of k (with_window n f ws)) (sym p) ∙ hv) in
       let same : f w ≡ v = cc (sym (ap (option_map f) here) ∙ after) in
       ap (λ (x : WindowState). x.buffer) (sym same) ∙ keep p
-  | inr q ↦ ap (λ (x : WindowState). x.buffer) (one-window number ws v w (sym (window-other n number f ws q) ∙ hv) hw)
+  | inr q ↦ ap (λ (x : WindowState). x.buffer) (same-window number ws v w (sym (window-other n number f ws q) ∙ hv) hw)
 ]
 
 show-with : (s t : StateValue) (effect : Effect) (n : ℕ) (f : WindowState → WindowState) → t.windows ≡ with_window n f s.windows → ((w : WindowState) → (f w).buffer ≡ w.buffer) → Show s t effect
@@ -95,7 +92,7 @@ show-without : (s t : StateValue) (effect : Effect) (n : ℕ) → IsValid s → 
 show-without s t effect n valid is number w v hw hv ne = elim (cases_eq number n) [
   | inl p ↦ absurd (some-none v (window_of number t.windows) hv
       (ap (window_of number) is ∙ (ap (λ (k : ℕ). window_of k (without_window n s.windows)) p ∙ window-gone n s.windows valid.windows.apart)))
-  | inr q ↦ ap (λ (x : WindowState). x.buffer) (one-window number s.windows v w (sym (window-left n number s.windows q) ∙ (ap (window_of number) (sym is) ∙ hv)) hw)
+  | inr q ↦ ap (λ (x : WindowState). x.buffer) (same-window number s.windows v w (sym (window-left n number s.windows q) ∙ (ap (window_of number) (sym is) ∙ hv)) hw)
 ]
 
 -- the windows of a buffer, and the selected one once more

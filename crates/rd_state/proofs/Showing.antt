@@ -34,21 +34,21 @@ use Rattle.rd_state.proofs.Options.{map-map, one-value, or-none, some-or}
 
 -- ---- what the calls of the tree mean
 
+changed-means : (c d : Configuration) (n : ℕ) (windows : Windows) → (if holds n c.windows then changed_to c windows else Err tree_faults.NoWindow) ≡ Ok d
+    → record c { windows = windows } ≡ d
+changed-means c d n windows h =
+    let new : Configuration = record c { windows = windows } in
+    let outer = if-ok (holds n c.windows) (changed_to c windows) tree_faults.NoWindow d h in
+    let inner = if-ok (fits windows (frame_of c)) (Ok new) tree_faults.TooSmall d outer.1 in
+    cc (inner.1)
+
 pub mode-means : (c d : Configuration) (n : ℕ) (shown : Bool) → mode_tree c n shown ≡ Ok d → record c { windows = with_mode n shown c.windows } ≡ d
 unfolding mode_tree
-mode-means c d n shown h =
-    let new : Configuration = record c { windows = with_mode n shown c.windows } in
-    let outer = if-ok (holds n c.windows) (changed_to c (with_mode n shown c.windows)) tree_faults.NoWindow d h in
-    let inner = if-ok (fits (with_mode n shown c.windows) (frame_of c)) (Ok new) tree_faults.TooSmall d outer.1 in
-    cc (inner.1)
+mode-means c d n shown h = changed-means c d n (with_mode n shown c.windows) h
 
 pub margins-means : (c d : Configuration) (n columns : ℕ) → margins_tree c n columns ≡ Ok d → record c { windows = with_margins n columns c.windows } ≡ d
 unfolding margins_tree
-margins-means c d n columns h =
-    let new : Configuration = record c { windows = with_margins n columns c.windows } in
-    let outer = if-ok (holds n c.windows) (changed_to c (with_margins n columns c.windows)) tree_faults.NoWindow d h in
-    let inner = if-ok (fits (with_margins n columns c.windows) (frame_of c)) (Ok new) tree_faults.TooSmall d outer.1 in
-    cc (inner.1)
+margins-means c d n columns h = changed-means c d n (with_margins n columns c.windows) h
 
 pub split-means : (c d : Configuration) (n : ℕ) (side : Side) (size : ℕ) → split_tree c n side size ≡ Ok d
     → (holds n c.windows ≡ true) × (record c { windows = split_at n side size c.made c.windows; made = suc c.made } ≡ d)
@@ -133,7 +133,7 @@ setting-valid s t number f v same keep h = set-valid s t number f v same keep (f
 
 -- ---- points and views
 
-same-window : (n : ℕ) (ws : List NumberedWindow) (w v : WindowState) → window_of n ws ≡ Some w → window_of n ws ≡ Some v → w ≡ v
+pub same-window : (n : ℕ) (ws : List NumberedWindow) (w v : WindowState) → window_of n ws ≡ Some w → window_of n ws ≡ Some v → w ≡ v
 same-window n ws w v h k = cc
 
 pub placing-valid : (s t : StateValue) (number place : ℕ) (f : WindowState → WindowState) → IsValid s → ((w : WindowState) → leaf_of (f w) ≡ leaf_of w)

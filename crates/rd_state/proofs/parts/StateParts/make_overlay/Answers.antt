@@ -1,18 +1,18 @@
-use Rattle.std.proofs.Common.{subst, sym, arith}
+use Rattle.std.proofs.Common.{◌<◌, subst, sym, arith}
 use Rattle.rd_state.specs.Valid.{IsValid}
 use Rattle.rd_state.proofs.Small.{all-small}
 use Rattle.rd_state.proofs.parts.StateParts.make_overlay.Goals as goal
+use Rattle.rd_state.proofs.parts.StateParts.make_overlay.Goals.{In_ok-make_overlay}
+
+-- the range of an overlay that was made has positions of 32 bits
+small : (c : goal.In_ok-make_overlay) → (c.args.from < 4294967296) × (c.args.to < 4294967296)
+small c =
+    let valid = subst IsValid (sym c.self.view_is) c.requires in
+    all-small c.self.inside.objects c.self.inside.buffers.entries c.in_ok-i.i c.index_mut.result.now c.make_overlay.new.self valid.buffers c.index_mut.ensures.value
+    c.args.from c.args.to _ c.in_ok-make_overlay.ensures
 
 pub overflow_cast-from : goal.overflow_cast-from
-overflow_cast-from c =
-    let valid = subst IsValid (sym c.self.view_is) c.requires in
-    let small = all-small c.self.inside.objects c.self.inside.buffers.entries c.in_ok-i.i c.index_mut.result.now c.make_overlay.new.self valid.buffers c.index_mut.ensures.value
-    c.args.from c.args.to _ c.in_ok-make_overlay.ensures in
-    omega (arith, small.0)
+overflow_cast-from c = let fits = small (goal.at.overflow_cast-from c).In_ok-make_overlay in omega (arith, fits.0)
 
 pub overflow_cast-to : goal.overflow_cast-to
-overflow_cast-to c =
-    let valid = subst IsValid (sym c.self.view_is) c.requires in
-    let small = all-small c.self.inside.objects c.self.inside.buffers.entries c.in_ok-i.i c.index_mut.result.now c.make_overlay.new.self valid.buffers c.index_mut.ensures.value
-    c.args.from c.args.to _ c.in_ok-make_overlay.ensures in
-    omega (arith, small.1)
+overflow_cast-to c = let fits = small (goal.at.overflow_cast-to c).In_ok-make_overlay in omega (arith, fits.1)
