@@ -17,7 +17,7 @@ use Rattle.rd_state.specs.Effects.{covered_effect, effect_of, moved_effect, over
 use Rattle.rd_state.specs.Making.{table_of, string_making, spec_making, face_making, table_making}
 use Rattle.rd_state.specs.Moves.{moved as moved_window, moved_in}
 use Rattle.rd_state.specs.States.{BufferValue, ContentValue, StateValue, new_buffer, number_of, opening_window, seen}
-use Rattle.rd_state.specs.Steps.{with_found, edited, edited_moving, replaced, moving, changing, with_objects, on_tree, setting, placing, unless_bad, format_fault, held, raw_text, step}
+use Rattle.rd_state.specs.Steps.{with_found, edited, edited_moving, replaced, moving, changing, with_objects, on_tree, setting, placing, format_fault, held, raw_text, step}
 use Rattle.rd_state.specs.Valid.{most_buffers}
 use Rattle.rd_state.specs.Windows.{AreApart, selected_window, window_of, with_window, without_window}
 use Rattle.rd_state.specs.declared.effect.Effect.{Effect}
@@ -31,7 +31,7 @@ use Rattle.rd_tree.specs.Calls.{Configuration, split_tree, remove_tree, resize_t
 use Rattle.rd_tree.specs.declared.fault.TreeFault.{TreeFault}
 use Rattle.rd_layout.specs.Changes.{change_by, if_shown, restyled}
 use Rattle.rd_layout.proofs.ByNumber.{window-became}
-use Rattle.rd_layout.proofs.Standing.{one-of}
+use Rattle.rd_layout.proofs.Standing.{one-of, unless}
 use Rattle.rd_state.proofs.ByNumber.{NumberedWindow, window-here, window-other, window-same, window-there, window-gone, window-left}
 use Rattle.rd_state.proofs.Options.{one-value, get-set}
 use Rattle.rd_state.proofs.Tests.{if-ok}
@@ -197,10 +197,6 @@ windows-without effect ws n apart number old new h k quiet = elim (cases_eq numb
 found : {A : Type 0} (refusal : Refused) (o : Option A) (f : A → Result StateValue Refused) (P : StateValue → Type 0) → ((a : A) → o ≡ Some a → IfOk (f a) P) → IfOk (with_found refusal o f) P
 found refusal None f P h = tt
 found refusal (Some a) f P h = h a refl
-
-unless : (o : Option ℕ) (r : Result StateValue Refused) (P : StateValue → Type 0) → IfOk r P → IfOk (unless_bad o r) P
-unless None r P h = h
-unless (Some column) r P h = tt
 
 -- the buffers and the windows are the same
 calm : (effect : Effect) (s t : StateValue) → t.buffers ≡ s.buffers → t.windows ≡ s.windows → Calm effect s t

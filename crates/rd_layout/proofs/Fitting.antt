@@ -165,12 +165,7 @@ line-small t pos is =
     omega (arith, count, taken, dropped)
 
 line-told : (t : text.TextValue) (pos : ℕ) → text.IsText t → text.line_of t pos < 2 ^ 64
-line-told t pos is =
-    let short = is.short in
-    let count = count_by-le-length text.is_newline (text.between t t.begin pos) in
-    let taken = length-take ((pos - 1) - (t.begin - 1)) (drop (t.begin - 1) t.text) in
-    let dropped = length-drop (t.begin - 1) t.text in
-    omega (arith, count, taken, dropped)
+line-told t pos is = let small = line-small t pos is in omega (arith, small)
 
 module _ (laws : FitLaws) (files : Data) (s : StateValue) (valid : IsValid s) where
   pub place-window : (p : Placed) → place_of p.number s ≡ Some p → (w : WindowState) × (window_of p.number s.windows ≡ Some w) × (leaf_of w ≡ (p.mode, p.margins))

@@ -125,9 +125,9 @@ treed-leads : (s : StateValue) (r : Result Configuration TreeFault) (m : ℕ) (f
 treed-leads s (Err fault) m f h = tt
 treed-leads s (Ok d) m f h = record { size = λ _. (refl, refl); made = h; lives = λ n _ l. lives-with m f n s.windows l }
 
-unless-leads : (o : Option ℕ) (r : Result StateValue Refused) (P : StateValue → Type 0) → IfOk r P → IfOk (unless_bad o r) P
-unless-leads None r P h = h
-unless-leads (Some column) r P h = tt
+pub unless : (o : Option ℕ) (r : Result StateValue Refused) (P : StateValue → Type 0) → IfOk r P → IfOk (unless_bad o r) P
+unless None r P h = h
+unless (Some column) r P h = tt
 
 framed-leads : (s : StateValue) (r : Result Configuration TreeFault) (width height : ℕ) → IfOk r (λ d. s.tree.made ≤ d.made)
     → Leads true s (on_tree r (λ tree. record s { tree = tree; width = width; height = height }))
@@ -187,7 +187,7 @@ goes s (ops.Hscroll window columns) = setting-leads s window (λ old. record old
 goes s (ops.Wrap window mode) = setting-leads s window (λ old. record old { wrap = mode })
 goes s (ops.ModeLine window format) =
     found _ (window_of window s.windows) _ (Goes false s)
-    (λ w. unless-leads (format_fault format) _ (Goes false s) (treed-leads s (mode_tree s.tree window (is_some format)) window (λ old. record old { format = format }) (mode-grows s.tree window (is_some format))))
+    (λ w. unless (format_fault format) _ (Goes false s) (treed-leads s (mode_tree s.tree window (is_some format)) window (λ old. record old { format = format }) (mode-grows s.tree window (is_some format))))
 goes s (ops.Scrolling margin conservatively) = same-windows s (record s { margin = margin; conservatively = conservatively }) refl refl refl refl false
 goes s (ops.Echo text) = same-windows s (record s { echo = text }) refl refl refl refl false
 goes s (ops.Redisplay stop) = same-windows s s refl refl refl refl false
