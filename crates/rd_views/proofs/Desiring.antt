@@ -83,16 +83,23 @@ module _ (v : SessionValue) where
     subst (λ (n : ℕ). IsLaidOutBy v.files v.state (layout_of p.number v.layouts) p (Some w) (layout_taken (layout_of n v.layouts) x e.1)) (sym h.number) h.layout,
   )
 
+  -- what holds of no window, and of one more where it holds of the others, holds of all that are laid out
+  pub each-desired : (C : List Placed → List LaidWindow → List Last → Type 0) → C [] [] []
+      → ((p : Placed) (x : LaidWindow) (e : Last) (ps : List Placed) (xs : List LaidWindow) (es : List Last)
+      → IsDesiredBy v.files v.state (layout_of p.number v.layouts) p (window_of p.number v.state.windows) x e → AreDesired v ps xs es → C ps xs es → C (p ∷ ps) (x ∷ xs) (e ∷ es))
+      → (ps : List Placed) (xs : List LaidWindow) (es : List Last) → AreDesired v ps xs es → C ps xs es
+  each-desired C none more [] [] [] h = none
+  each-desired C none more [] [] (e ∷ es) h = absurd h
+  each-desired C none more [] (x ∷ xs) es h = absurd h
+  each-desired C none more (p ∷ ps) [] es h = absurd h
+  each-desired C none more (p ∷ ps) (x ∷ xs) [] h = absurd h
+  each-desired C none more (p ∷ ps) (x ∷ xs) (e ∷ es) h = more p x e ps xs es h.0 h.1 (each-desired C none more ps xs es h.1)
+
   -- the layouts that the windows then have are new ones
   pub laid-out : (ps : List Placed) (xs : List LaidWindow) (es : List Last) → AreDesired v ps xs es → AreLaidOut v ps (layouts_taken v.layouts xs es)
-  laid-out [] [] [] h = tt
-  laid-out [] [] (e ∷ es) h = absurd h
-  laid-out [] (x ∷ xs) es h = absurd h
-  laid-out (p ∷ ps) [] es h = absurd h
-  laid-out (p ∷ ps) (x ∷ xs) [] h = absurd h
-  laid-out (p ∷ ps) (x ∷ xs) (e ∷ es) h =
-      let one = laid-by p (window_of p.number v.state.windows) x e h.0 in
-      (one.0, one.1, laid-out ps xs es h.1)
+  laid-out = each-desired (λ ps xs es. AreLaidOut v ps (layouts_taken v.layouts xs es)) tt (λ p x e ps xs es own rest more.
+      let one = laid-by p (window_of p.number v.state.windows) x e own in
+      (one.0, one.1, more))
 
   view-by : (p : Placed) (o : Option WindowState) (x : LaidWindow) (e : Last) (rest more : List WindowView) → IsDesiredBy v.files v.state (layout_of p.number v.layouts) p o x e → rest ≡ more
       → shown_by x (layout_taken (layout_of e.0 v.layouts) x e.1) ∷ rest ≡ views_by v.files v.state p o ++ more
@@ -104,48 +111,28 @@ module _ (v : SessionValue) where
 
   -- the windows show what the rules give
   pub views-are : (ps : List Placed) (xs : List LaidWindow) (es : List Last) → AreDesired v ps xs es → views_taken v.layouts xs es ≡ flat_map (views_at v.files v.state) ps
-  views-are [] [] [] h = refl
-  views-are [] [] (e ∷ es) h = absurd h
-  views-are [] (x ∷ xs) es h = absurd h
-  views-are (p ∷ ps) [] es h = absurd h
-  views-are (p ∷ ps) (x ∷ xs) [] h = absurd h
-  views-are (p ∷ ps) (x ∷ xs) (e ∷ es) h =
-      view-by p (window_of p.number v.state.windows) x e (views_taken v.layouts xs es) (flat_map (views_at v.files v.state) ps) h.0 (views-are ps xs es h.1)
+  views-are = each-desired (λ ps xs es. views_taken v.layouts xs es ≡ flat_map (views_at v.files v.state) ps) refl (λ p x e ps xs es own rest same.
+      view-by p (window_of p.number v.state.windows) x e (views_taken v.layouts xs es) (flat_map (views_at v.files v.state) ps) own same)
 
   pub same-count : (ps : List Placed) (xs : List LaidWindow) (es : List Last) → AreDesired v ps xs es → length es ≡ length xs
-  same-count [] [] [] h = refl
-  same-count [] [] (e ∷ es) h = absurd h
-  same-count [] (x ∷ xs) es h = absurd h
-  same-count (p ∷ ps) [] es h = absurd h
-  same-count (p ∷ ps) (x ∷ xs) [] h = absurd h
-  same-count (p ∷ ps) (x ∷ xs) (e ∷ es) h = ap suc (same-count ps xs es h.1)
+  same-count = each-desired (λ ps xs es. length es ≡ length xs) refl (λ p x e ps xs es own rest same. ap suc same)
 
   number-by : (p : Placed) (o : Option WindowState) (x : LaidWindow) (e : Last) → IsDesiredBy v.files v.state (layout_of p.number v.layouts) p o x e → e.0 ≡ p.number
   number-by p o x e h = (laid-by p o x e h).0
 
   gone : (n : ℕ) (ps : List Placed) (xs : List LaidWindow) (es : List Last) → AreDesired v ps xs es → of_number n ps ≡ None → layout_of n es ≡ None
-  gone n [] [] [] h none = refl
-  gone n [] [] (e ∷ es) h none = absurd h
-  gone n [] (x ∷ xs) es h none = absurd h
-  gone n (p ∷ ps) [] es h none = absurd h
-  gone n (p ∷ ps) (x ∷ xs) [] h none = absurd h
-  gone n (p ∷ ps) (x ∷ xs) (e ∷ es) h none =
-      let same = number-by p (window_of p.number v.state.windows) x e h.0 in
+  gone n = each-desired (λ ps xs es. of_number n ps ≡ None → layout_of n es ≡ None) (λ none. refl) (λ p x e ps xs es own rest left none.
+      let same = number-by p (window_of p.number v.state.windows) x e own in
       elim (cases_eq p.number n) [
         | inl is ↦ absurd (cc (sym (placed-here n p ps is) ∙ none))
-        | inr other ↦ layout-there n e es (λ q. other (sym same ∙ q)) ∙ gone n ps xs es h.1 (sym (placed-there n p ps other) ∙ none)
-      ]
+        | inr other ↦ layout-there n e es (λ q. other (sym same ∙ q)) ∙ left (sym (placed-there n p ps other) ∙ none)
+      ])
 
   -- the numbers stand once
   pub once : (ps : List Placed) (xs : List LaidWindow) (es : List Last) → AreDesired v ps xs es → AreApart ps → AreOnce es
-  once [] [] [] h apart = tt
-  once [] [] (e ∷ es) h apart = absurd h
-  once [] (x ∷ xs) es h apart = absurd h
-  once (p ∷ ps) [] es h apart = absurd h
-  once (p ∷ ps) (x ∷ xs) [] h apart = absurd h
-  once (p ∷ ps) (x ∷ xs) (e ∷ es) h apart =
-      let same = number-by p (window_of p.number v.state.windows) x e h.0 in
-      (ap (λ (n : ℕ). layout_of n es) same ∙ gone p.number ps xs es h.1 apart.0, once ps xs es h.1 apart.1)
+  once = each-desired (λ ps xs es. AreApart ps → AreOnce es) (λ apart. tt) (λ p x e ps xs es own rest more apart.
+      let same = number-by p (window_of p.number v.state.windows) x e own in
+      (ap (λ (n : ℕ). layout_of n es) same ∙ gone p.number ps xs es rest apart.0, more apart.1))
 
 -- ---- a window is found by its number
 

@@ -26,6 +26,7 @@ use Rattle.rd_layout.proofs.Known.{Last, layout-here, layout-there}
 use Rattle.rd_layout.proofs.Placed.{number-of, placed-here, placed-there}
 use Rattle.rd_views.specs.Layings.{AreDesired, AreOnce, CanSettle, IsDesiredBy, all_settled}
 use Rattle.rd_views.specs.declared.desired.LaidWindow.{LaidWindow}
+use Rattle.rd_views.proofs.Desiring.{each-desired}
 
 -- ---- the windows alone
 
@@ -147,17 +148,12 @@ module _ (v : SessionValue) where
   right-by p (Some w) x e is h = (h.number, record { window = w; lives = is; is = ap (λ (c : Chosen). Some c) h.chosen })
 
   right-chosen : (n : ℕ) (ps : List Placed) (xs : List LaidWindow) (es : List Last) → AreDesired v ps xs es → AreRight (of_number n ps) (chosen_for n xs es)
-  right-chosen n [] [] [] h = refl
-  right-chosen n [] [] (e ∷ es) h = absurd h
-  right-chosen n [] (x ∷ xs) es h = absurd h
-  right-chosen n (p ∷ ps) [] es h = absurd h
-  right-chosen n (p ∷ ps) (x ∷ xs) [] h = absurd h
-  right-chosen n (p ∷ ps) (x ∷ xs) (e ∷ es) h =
-      let one = right-by p (window_of p.number v.state.windows) x e refl h.0 in
+  right-chosen n = each-desired v (λ ps xs es. AreRight (of_number n ps) (chosen_for n xs es)) refl (λ p x e ps xs es own rest more.
+      let one = right-by p (window_of p.number v.state.windows) x e refl own in
       elim (cases_eq p.number n) [
         | inl q ↦ subst₂ AreRight (sym (placed-here n p ps q)) (sym (chosen-here n x xs e es (one.0 ∙ q))) one.1
-        | inr q ↦ subst₂ AreRight (sym (placed-there n p ps q)) (sym (chosen-there n x xs e es (λ r. q (sym one.0 ∙ r)))) (right-chosen n ps xs es h.1)
-      ]
+        | inr q ↦ subst₂ AreRight (sym (placed-there n p ps q)) (sym (chosen-there n x xs e es (λ r. q (sym one.0 ∙ r)))) more
+      ])
 
   both-settle : (n : ℕ) (o : Option Placed) (c : Option Chosen) → place_of n v.state ≡ o → AreRight o c
       → settle_found c (window_of n v.state.windows) ≡ option_map (λ w. settled_by v.files v.state w o) (window_of n v.state.windows)
@@ -262,17 +258,11 @@ module _ (v : SessionValue) (accessible : Accessible v.files v.state) where
         one-shown v.state e.0 w x.chosen.point lives (subst (λ (c : Chosen). IsAccessible (shown_content v.state w).text c.point) (sym h.chosen) both.1),
       )
 
-  settles : (ps : List Placed) (xs : List LaidWindow) (es : List Last) → ((k : ℕ) (p : Placed) → slice_get ps k ≡ Some p → place_of p.number v.state ≡ Some p) → AreDesired v ps xs es
-      → CanSettle v.state xs es
-  settles [] [] [] at h = tt
-  settles [] [] (e ∷ es) at h = absurd h
-  settles [] (x ∷ xs) es at h = absurd h
-  settles (p ∷ ps) [] es at h = absurd h
-  settles (p ∷ ps) (x ∷ xs) [] at h = absurd h
-  settles (p ∷ ps) (x ∷ xs) (e ∷ es) at h =
-      let one = settles-by p (window_of p.number v.state.windows) x e refl (at 0 p refl) h.0 in
-      (one.0, one.1, one.2, settles ps xs es (λ k q there. at (suc k) q there) h.1)
-
   pub can-settle : (xs : List LaidWindow) (es : List Last) → ((k : ℕ) (p : Placed) → slice_get (places v.state) k ≡ Some p → place_of p.number v.state ≡ Some p)
       → AreDesired v (places v.state) xs es → CanSettle v.state xs es
-  can-settle xs es at h = settles (places v.state) xs es at h
+  can-settle xs es at h =
+      each-desired v (λ ps xs es. ((k : ℕ) (p : Placed) → slice_get ps k ≡ Some p → place_of p.number v.state ≡ Some p) → CanSettle v.state xs es) (λ at. tt)
+      (λ p x e ps xs es own rest more at.
+      let one = settles-by p (window_of p.number v.state.windows) x e refl (at 0 p refl) own in
+      (one.0, one.1, one.2, more (λ k q there. at (suc k) q there)))
+      (places v.state) xs es h at
