@@ -1,6 +1,7 @@
 -- The lines of a dump.
 use Rattle.std.proofs.Common.{◌≡◌, ℕ, ◌+◌, true, Option, None, Some, decimal, codes, List, [], ◌∷◌, ◌++◌, map, refl, sym, ap, ◌∙◌, append_assoc}
 use Rattle.std.specs.Prelude.{All}
+use Rattle.std.specs.List.{AllByRecursion}
 use Rattle.std.proofs.lemmas.List.Elements.{All-head, All-tail}
 use Rattle.rd_base.specs.Glyphs.{IsRowAfter}
 use Rattle.rd_base.specs.declared.cell.Cell.{Cell}
@@ -54,55 +55,36 @@ pieces-unbroken : (texts : List (List ℕ)) → AreUnbroken texts → lacks 10 (
 pieces-unbroken [] h = refl
 pieces-unbroken (text ∷ texts) h = lacks-append 10 text (dumps.pieces texts) h.0 (pieces-unbroken texts h.1)
 
-number-unbroken : (n : ℕ) → lacks 10 (decimal n) ≡ true
-number-unbroken n = lacks-decimal 10 n refl
+-- numbers, each behind a label, before other pieces
+abbrev labelled : List (List ℕ × ℕ) → List (List ℕ) → List (List ℕ)
+labelled [] texts = texts
+labelled (number ∷ numbers) texts = number.0 ∷ decimal number.1 ∷ labelled numbers texts
+
+labelled-unbroken : (numbers : List (List ℕ × ℕ)) (texts : List (List ℕ)) → AllByRecursion (λ (number : List ℕ × ℕ). lacks 10 number.0 ≡ true) numbers → AreUnbroken texts
+    → AreUnbroken (labelled numbers texts)
+labelled-unbroken [] texts labels h = h
+labelled-unbroken (number ∷ numbers) texts labels h = (labels.0, (lacks-decimal 10 number.1 refl, labelled-unbroken numbers texts labels.1 h))
 
 -- a window's line up to its cursor
+abbrev window_numbers : WindowFacts → List (List ℕ × ℕ)
+window_numbers w =
+    (codes "window ", w.window)
+    ∷ (codes " at ", w.rect.y) ∷ (codes ",", w.rect.x)
+    ∷ (codes " size ", w.rect.width) ∷ (codes "x", w.rect.height)
+    ∷ (codes " start ", w.start.pos) ∷ (codes ".", w.start.row)
+    ∷ (codes " point ", w.point)
+    ∷ []
+
 abbrev window_head : WindowFacts → List (List ℕ)
-window_head w =
-    codes "window " ∷ decimal w.window
-    ∷ codes " at " ∷ decimal w.rect.y ∷ codes "," ∷ decimal w.rect.x
-    ∷ codes " size " ∷ decimal w.rect.width ∷ codes "x" ∷ decimal w.rect.height
-    ∷ codes " start " ∷ decimal w.start.pos ∷ codes "." ∷ decimal w.start.row
-    ∷ codes " point " ∷ decimal w.point
-    ∷ codes " cursor " ∷ []
+window_head w = labelled (window_numbers w) (codes " cursor " ∷ [])
 
 abbrev pub window_body : WindowFacts → List ℕ
 window_body w = dumps.pieces (window_head w) ++ place_body w.cursor
 
 pub window-line : (w : WindowFacts) → IsLine (window_line w) (window_body w)
 window-line w =
-    let numbers : AreUnbroken (window_head w) = (
-      refl,
-      (
-        number-unbroken w.window,
-        (
-          refl,
-          (
-            number-unbroken w.rect.y,
-            (
-              refl,
-              (
-                number-unbroken w.rect.x,
-                (
-                  refl,
-                  (
-                    number-unbroken w.rect.width,
-                    (
-                      refl,
-                      (
-                        number-unbroken w.rect.height,
-                        (refl, (number-unbroken w.start.pos, (refl, (number-unbroken w.start.row, (refl, (number-unbroken w.point, (refl, tt))))))),
-                      ),
-                    ),
-                  ),
-                ),
-              ),
-            ),
-          ),
-        ),
-      ),
-    ) in
+    let labels : AllByRecursion (λ (number : List ℕ × ℕ). lacks 10 number.0 ≡ true) (window_numbers w) = (refl, (refl, (refl, (refl, (refl, (refl, (refl, (refl, tt)))))))) in
+    let numbers = labelled-unbroken (window_numbers w) (codes " cursor " ∷ []) labels (refl, tt) in
     line-behind (dumps.pieces (window_head w)) (place_text w.cursor) (place_body w.cursor) (pieces-unbroken (window_head w) numbers) (place-line w.cursor)
 
 -- ---- rows and the cursor
@@ -122,7 +104,7 @@ row-line row cells h =
     let runs = runs_of_row cells in
     record {
       whole = ap (λ l. l ++ 10 ∷ []) (append_assoc (row_front row ++ text) (124 ∷ []) runs ∙ append_assoc (row_front row) text (124 ∷ runs));
-      unbroken = lacks-append 10 (row_front row) (text ++ 124 ∷ runs) (pieces-unbroken (codes "row " ∷ decimal row ∷ codes " |" ∷ []) (refl, (number-unbroken row, (refl, tt))))
+      unbroken = lacks-append 10 (row_front row) (text ++ 124 ∷ runs) (pieces-unbroken (codes "row " ∷ decimal row ∷ codes " |" ∷ []) (refl, (lacks-decimal 10 row refl, (refl, tt))))
           (lacks-append 10 text (124 ∷ runs) (text-lacks cells h) (runs-unbroken cells));
     }
 
