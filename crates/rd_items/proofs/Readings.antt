@@ -1,5 +1,5 @@
 -- What is read of a buffer, by what is seen at its positions.
-use Rattle.std.proofs.Common.{ℕ, ◌-◌, if◌then◌else◌, List, [], All}
+use Rattle.std.proofs.Common.{ℕ, ◌-◌, if◌then◌else◌, [], All}
 use Rattle.std.specs.Prelude.{zero, suc}
 use Rattle.std.proofs.lemmas.List.Elements.{All-nil, All-cons}
 use Rattle.rd_base.proofs.Choices.{either}

@@ -8,10 +8,11 @@ use Rattle.rd_term.specs.Pictures.{Picture, IsGrid, blank, blank_row, width_of}
 use Rattle.rd_term.proofs.Cutting.{map-replicate}
 use Rattle.rd_update.specs.Updates.{differing}
 use Rattle.rd_update.proofs.Spans.{three-parts}
-use Rattle.rd_lineshift.specs.Choices.{cost}
+use Rattle.rd_lineshift.specs.Choices.{cost, shift_by}
 use Rattle.rd_lineshift.specs.Laws.{IsShift, is_up}
-use Rattle.rd_lineshift.specs.Numbers.{number_cost, number_in, unlike}
+use Rattle.rd_lineshift.specs.Numbers.{number_cost, number_in, unlike, unlike_moved}
 use Rattle.rd_lineshift.specs.Shifts.{moved, shifted_rows}
+use Rattle.rd_lineshift.specs.declared.band.Band.{Band}
 use Rattle.rd_lineshift.specs.declared.band.Shift.{Shift}
 use Rattle.rd_lineshift.proofs.Counting.{all-in, counted, unlike-append}
 
@@ -120,12 +121,15 @@ back-of xs t h a m le e =
     let n : length (drop a part) ≤ m = omega (arith, length-drop a part, part-length xs t h le) in
     sym (take_all m (drop a part) n) ∙ inner xs t (t + h - t) a m (omega arith)
 
--- a cost where rows move up, by the parts that are compared
-pub up-cost : (old new : List ℕ) (blank t h n : ℕ) (a b c : List ℕ) → length old ≡ length new → t + h ≤ length new → n ≤ h
-    → a ≡ take (h - n) (drop (t + n) old) → b ≡ take (h - n) (drop t new) → c ≡ take n (drop (t + (h - n)) new)
-    → unlike (take t old) (take t new) + (unlike a b + unlike (replicate (length c) blank) c + unlike (drop (t + h) old) (drop (t + h) new))
-    ≡ number_cost old new blank (record { top = t; height = h; by = pos n })
-up-cost old new blank t h n a b c same le fits ea eb ec =
+four-parts : (a b c d m n : ℕ) → n ≡ a + (m + d) → m ≡ b + c → a + b + c + d ≡ n
+four-parts a b c d m n whole split = omega arith
+
+-- a cost where rows move up
+pub up-cost : (old new : List ℕ) (blank : ℕ) (band : Band) (n : ℕ) → length old ≡ length new → band.top + band.height ≤ length new → n ≤ band.height
+    → unlike_moved old new blank band n (band.top + n) band.top (band.top + (band.height - n)) ≡ number_cost old new blank (shift_by band (pos n))
+up-cost old new blank band n same le fits =
+    let t = band.top in
+    let h = band.height in
     let P = take (t + h - t) (drop t old) in
     let Q = take (t + h - t) (drop t new) in
     let free = replicate n blank in
@@ -136,23 +140,22 @@ up-cost old new blank t h n a b c same le fits ea eb ec =
     let lp = part-length old t h inside in
     let lq = part-length new t h le in
     let long : length (drop n P) ≡ length (take (h - n) Q) = omega (arith, length-drop n P, lp, length-take-le (h - n) Q (omega (arith, lq))) in
-    let many : length c ≡ n = ap length ec ∙ ap length (sym rest) ∙ omega (arith, length-drop (h - n) Q, lq) in
     let change : length (drop n P ++ free) ≡ h = omega (arith, length-append (drop n P) free, length-drop n P, lp, length-replicate n blank) in
-    let split : unlike (drop n P ++ free) Q ≡ unlike a b + unlike (replicate (length c) blank) c =
+    let split : unlike (drop n P ++ free) Q ≡ unlike (take (h - n) (drop (t + n) old)) (take (h - n) (drop t new)) + unlike free (take n (drop (t + (h - n)) new)) =
     ap (unlike (drop n P ++ free)) (sym (take-append-drop (h - n) Q))
     ∙ unlike-append (drop n P) free (take (h - n) Q) (drop (h - n) Q) long
-    ∙ ap₂ (λ x y. x + y) (ap₂ unlike (kept ∙ sym ea) (first ∙ sym eb)) (ap₂ unlike (ap (λ k. replicate k blank) (sym many)) (rest ∙ sym ec)) in
-    sym (
-    in-parts old new (drop n P ++ free) t h same le change
-    ∙ ap (λ k. unlike (take t old) (take t new) + (k + unlike (drop (t + h) old) (drop (t + h) new))) split)
+    ∙ ap₂ (λ x y. x + y) (ap₂ unlike kept first) (ap (unlike free) rest) in
+    four-parts (unlike (take t old) (take t new)) (unlike (take (h - n) (drop (t + n) old)) (take (h - n) (drop t new))) (unlike free (take n (drop (t + (h - n)) new)))
+    (unlike (drop (t + h) old) (drop (t + h) new)) (unlike (drop n P ++ free) Q) (number_cost old new blank (shift_by band (pos n)))
+    (in-parts old new (drop n P ++ free) t h same le change) split
 
 -- and where they move down
-pub down-cost : (old new : List ℕ) (blank t h n : ℕ) (a b c : List ℕ) → length old ≡ length new → t + h ≤ length new → 1 ≤ n → n ≤ h
-    → a ≡ take (h - n) (drop t old) → b ≡ take (h - n) (drop (t + n) new) → c ≡ take n (drop t new)
-    → unlike (take t old) (take t new) + (unlike (replicate (length c) blank) c + unlike a b + unlike (drop (t + h) old) (drop (t + h) new))
-    ≡ number_cost old new blank (record { top = t; height = h; by = neg_ℤ (pos n) })
-down-cost old new blank t h zero a b c same le some fits ea eb ec = absurd (omega arith)
-down-cost old new blank t h (suc k) a b c same le some fits ea eb ec =
+pub down-cost : (old new : List ℕ) (blank : ℕ) (band : Band) (n : ℕ) → length old ≡ length new → band.top + band.height ≤ length new → 1 ≤ n → n ≤ band.height
+    → unlike_moved old new blank band n band.top (band.top + n) band.top ≡ number_cost old new blank (shift_by band (neg_ℤ (pos n)))
+down-cost old new blank band zero same le some fits = absurd (omega arith)
+down-cost old new blank band (suc k) same le some fits =
+    let t = band.top in
+    let h = band.height in
     let n = suc k in
     let P = take (t + h - t) (drop t old) in
     let Q = take (t + h - t) (drop t new) in
@@ -163,19 +166,18 @@ down-cost old new blank t h (suc k) a b c same le some fits ea eb ec =
     let kept = ap (λ j. take (j - n) P) lp ∙ front-of old t h (h - n) (omega arith) in
     let rest = back-of new t h n (h - n) le (omega arith) in
     let first = front-of new t h n fits in
-    let fl : length (take n Q) ≡ suc k = length-take-le n Q (omega (arith, lq)) in
-    let many : length c ≡ n = ap length ec ∙ ap length (sym first) ∙ fl in
     let moved_rows = take (length P - n) P in
     let ml : length (take (length P - suc k) P) ≡ h - suc k = length-take-le (length P - n) P (omega arith) ∙ omega (arith, lp) in
     let change : length (free ++ moved_rows) ≡ h = omega (arith, length-append free moved_rows, ml, length-replicate (suc k) blank) in
-    let long : length free ≡ length (take n Q) = length-replicate (suc k) blank ∙ sym fl in
-    let split : unlike (free ++ moved_rows) Q ≡ unlike (replicate (length c) blank) c + unlike a b =
+    let long : length free ≡ length (take n Q) = length-replicate (suc k) blank ∙ sym (length-take-le n Q (omega (arith, lq))) in
+    let split : unlike (free ++ moved_rows) Q ≡ unlike (take (h - n) (drop t old)) (take (h - n) (drop (t + n) new)) + unlike free (take n (drop t new)) =
     ap (unlike (free ++ moved_rows)) (sym (take-append-drop n Q))
     ∙ unlike-append free moved_rows (take n Q) (drop n Q) long
-    ∙ ap₂ (λ x y. x + y) (ap₂ unlike (ap (λ j. replicate j blank) (sym many)) (first ∙ sym ec)) (ap₂ unlike (kept ∙ sym ea) (rest ∙ sym eb)) in
-    sym (
-    in-parts old new (free ++ moved_rows) t h same le change
-    ∙ ap (λ j. unlike (take t old) (take t new) + (j + unlike (drop (t + h) old) (drop (t + h) new))) split)
+    ∙ ap₂ (λ x y. x + y) (ap (unlike free) first) (ap₂ unlike kept rest)
+    ∙ omega arith in
+    four-parts (unlike (take t old) (take t new)) (unlike (take (h - n) (drop t old)) (take (h - n) (drop (t + n) new))) (unlike free (take n (drop t new)))
+    (unlike (drop (t + h) old) (drop (t + h) new)) (unlike (free ++ moved_rows) Q) (number_cost old new blank (shift_by band (neg_ℤ (pos n))))
+    (in-parts old new (free ++ moved_rows) t h same le change) split
 
 -- ---- the rows after a shift, one by one
 
@@ -233,6 +235,3 @@ pub row-down-free : (s : Shift) (free : List Cell) (rows : List (List Cell)) (ro
 row-down-free s free rows row h up le lt near =
     let P = take (s.top + s.height - s.top) (drop s.top rows) in
     sym (row-within s free rows row h le lt ∙ down-free s.by free P (row - s.top) up (omega arith))
-
-pub sum-of : (p q r s a b c d n : ℕ) → p ≡ a → q ≡ b → r ≡ c → s ≡ d → a + (b + c + d) ≡ n → p + q + r + s ≡ n
-sum-of p q r s a b c d n e f g h k = omega arith

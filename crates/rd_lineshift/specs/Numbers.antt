@@ -1,10 +1,11 @@
 -- Rows that are numbered, so that equal rows have equal numbers.
-use Rattle.std.specs.Prelude.{ℕ, suc, ◌+◌, ◌*◌, ◌%◌, ◌^◌, ◌==◌, nat_le, if◌then◌else◌, List, [], ◌∷◌, Option, None, Some}
+use Rattle.std.specs.Prelude.{ℕ, suc, ◌+◌, ◌-◌, ◌*◌, ◌%◌, ◌^◌, ◌==◌, nat_le, if◌then◌else◌, List, [], ◌∷◌, take, drop, replicate, Option, None, Some}
 use Rattle.rd_base.specs.Faces.{Attributes}
 use Rattle.rd_base.specs.declared.cell.Cell.{Cell}
 use Rattle.rd_base.specs.declared.cell.Cell.TheVariants.{Blank, First, Rest}
 use Rattle.rd_update.specs.Updates.{differs}
 use Rattle.rd_lineshift.specs.Shifts.{shifted_rows}
+use Rattle.rd_lineshift.specs.declared.band.Band.{Band}
 use Rattle.rd_lineshift.specs.declared.band.Shift.{Shift}
 use Rattle.rd_lineshift.specs.declared.choice.Priced.{Priced}
 
@@ -39,6 +40,17 @@ unlike _ _ = 0
 -- the cost of a shift, by the numbers of the rows of both screens and the number of a blank row
 abbrev pub number_cost : List ℕ → List ℕ → ℕ → Shift → ℕ
 number_cost old new blank s = unlike (shifted_rows s blank old) new
+
+-- at how many rows two screens differ where all rows of a band but `by` stand from `into` on that stood from `from` on, and `by` blank
+-- ones from `free` on
+abbrev pub unlike_moved : List ℕ → List ℕ → ℕ → Band → ℕ → ℕ → ℕ → ℕ → ℕ
+unlike_moved old new blank band by from into free =
+    let end = band.top + band.height in
+    let kept = band.height - by in
+    unlike (take band.top old) (take band.top new)
+    + unlike (take kept (drop from old)) (take kept (drop into new))
+    + unlike (replicate by blank) (take by (drop free new))
+    + unlike (drop end old) (drop end new)
 
 -- a shift with its cost
 abbrev pub priced : (Shift → ℕ) → Option Shift → Option Priced

@@ -5,7 +5,7 @@ ghost use Rattle.rd_term.specs.Pictures.{blank_row, width_of};
 ghost use Rattle.rd_update.specs.Laws.{IsSound};
 ghost use Rattle.rd_update.specs.Plans.{HaveOneSize};
 ghost use Rattle.rd_lineshift.specs.Choices.{AreWithin, choice, cheapest, shift_by, shifts_of};
-ghost use Rattle.rd_lineshift.specs.Numbers.{gained, lesser, number_cost, number_in, priced};
+ghost use Rattle.rd_lineshift.specs.Numbers.{gained, lesser, number_cost, number_in, priced, unlike_moved};
 
 use crate::band::{Band, Shift};
 use crate::numbers::{Numbers, unlike, unlike_one};
@@ -127,7 +127,7 @@ fn cheaper(best: Option<Priced>, other: Option<Priced>) -> Option<Priced>
     }
 }
 
-/// The shift of a band up by so many rows.
+/// The shift of a band up by so many rows: the rows behind its first ones stand from its top on, and blank ones at its end.
 fn upward(numbers: &Numbered, band: Band, by: u32) -> Priced
     requires length { length numbers.now.old ≡ length numbers.now.new }
     requires few { length numbers.now.new ≤ FRAME_ROWS }
@@ -137,27 +137,14 @@ fn upward(numbers: &Numbered, band: Band, by: u32) -> Priced
     ensures cost { result.cost ≡ number_cost numbers.now.old numbers.now.new numbers.now.blank (shift_by band (pos by)) }
     ensures bound { result.cost ≤ FRAME_ROWS }
 {
-    let (old, new) = (numbers.old.as_slice(), numbers.new.as_slice());
-    let (top, end, by) = (
-        band.top as usize,
-        (band.top + band.height) as usize,
-        by as usize,
-    );
-    let above = unlike(&old[..top], &new[..top]);
-    let kept = unlike(&old[top + by..end], &new[top..end - by]);
-    let free = unlike_one(numbers.blank, &new[end - by..end]);
-    let below = unlike(&old[end..], &new[end..]);
+    let (top, free) = (band.top, band.top + (band.height - by));
     Priced {
-        shift: Shift {
-            top: band.top,
-            height: band.height,
-            by: by as i64,
-        },
-        cost: above + kept + free + below,
+        shift: shift_by(band, by as i64),
+        cost: unlike_moved(numbers, band, by, top + by, top, free),
     }
 }
 
-/// The shift of a band down by so many rows.
+/// The shift of a band down by so many rows: its first rows stand behind blank ones, which stand from its top on.
 fn downward(numbers: &Numbered, band: Band, by: u32) -> Priced
     requires length { length numbers.now.old ≡ length numbers.now.new }
     requires few { length numbers.now.new ≤ FRAME_ROWS }
@@ -168,22 +155,43 @@ fn downward(numbers: &Numbered, band: Band, by: u32) -> Priced
     ensures cost { result.cost ≡ number_cost numbers.now.old numbers.now.new numbers.now.blank (shift_by band (neg_ℤ (pos by))) }
     ensures bound { result.cost ≤ FRAME_ROWS }
 {
-    let (old, new) = (numbers.old.as_slice(), numbers.new.as_slice());
-    let (top, end, by) = (
-        band.top as usize,
-        (band.top + band.height) as usize,
-        by as usize,
-    );
-    let above = unlike(&old[..top], &new[..top]);
-    let free = unlike_one(numbers.blank, &new[top..top + by]);
-    let kept = unlike(&old[top..end - by], &new[top + by..end]);
-    let below = unlike(&old[end..], &new[end..]);
+    let top = band.top;
     Priced {
-        shift: Shift {
-            top: band.top,
-            height: band.height,
-            by: -(by as i64),
-        },
-        cost: above + free + kept + below,
+        shift: shift_by(band, -(by as i64)),
+        cost: unlike_moved(numbers, band, by, top, top + by, top),
     }
+}
+
+/// The shift of a band by so many rows, up where the number is above 0.
+fn shift_by(band: Band, by: i64) -> Shift
+    ensures { result ≡ shift_by band by }
+{
+    Shift {
+        top: band.top,
+        height: band.height,
+        by,
+    }
+}
+
+/// How many rows differ where all rows of a band but `by` stand from `into` on that stood from `from` on, and `by` blank ones from
+/// `free` on. All three are rows of the frame.
+fn unlike_moved(numbers: &Numbered, band: Band, by: u32, from: u32, into: u32, free: u32) -> u32
+    requires length { length numbers.now.old ≡ length numbers.now.new }
+    requires few { length numbers.now.new ≤ FRAME_ROWS }
+    requires band { band.top + band.height ≤ length numbers.now.new }
+    requires by { by ≤ band.height }
+    requires from { from ≤ band.top + by }
+    requires into { into ≤ band.top + by }
+    requires free { free ≤ band.top + (band.height - by) }
+    ensures value { result ≡ unlike_moved numbers.now.old numbers.now.new numbers.now.blank band by from into free }
+    ensures bound { result ≤ FRAME_ROWS }
+{
+    let (old, new) = (numbers.old.as_slice(), numbers.new.as_slice());
+    let (top, end) = (band.top as usize, (band.top + band.height) as usize);
+    let (kept, by) = ((band.height - by) as usize, by as usize);
+    let (from, into, free) = (from as usize, into as usize, free as usize);
+    unlike(&old[..top], &new[..top])
+        + unlike(&old[from..from + kept], &new[into..into + kept])
+        + unlike_one(numbers.blank, &new[free..free + by])
+        + unlike(&old[end..], &new[end..])
 }
