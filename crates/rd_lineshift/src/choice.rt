@@ -71,8 +71,8 @@ fn gaining(best: Option<Priced>, rows: u32) -> Option<Shift>
 /// The numbers of the rows of two screens of one size.
 fn number_rows(current: &Screen, target: &Screen) -> Numbered
     requires { HaveOneSize (Some current.now) target.now }
-    ensures old { result.old ≡ map (number_in target.now.rows) current.now.rows }
-    ensures new { result.new ≡ map (number_in target.now.rows) target.now.rows }
+    ensures old { result.old.items ≡ map (number_in target.now.rows) current.now.rows }
+    ensures new { result.new.items ≡ map (number_in target.now.rows) target.now.rows }
     ensures blank { result.blank ≡ number_in target.now.rows (blank_row (width_of target.now.rows)) }
     ensures few { length target.now.rows ≤ FRAME_ROWS }
 {
@@ -87,10 +87,10 @@ fn number_rows(current: &Screen, target: &Screen) -> Numbered
 
 /// The first of the shifts of these bands that cost the least.
 fn cheapest_of(numbers: &Numbered, bands: &[Band]) -> Option<Priced>
-    requires length { length numbers.now.old ≡ length numbers.now.new }
-    requires few { length numbers.now.new ≤ FRAME_ROWS }
-    requires bands { AreWithin (length numbers.now.new) bands.now }
-    ensures value { result ≡ priced (number_cost numbers.now.old numbers.now.new numbers.now.blank) (cheapest (number_cost numbers.now.old numbers.now.new numbers.now.blank) (flat_map shifts_of bands.now)) }
+    requires length { length numbers.now.old.items ≡ length numbers.now.new.items }
+    requires few { length numbers.now.new.items ≤ FRAME_ROWS }
+    requires bands { AreWithin (length numbers.now.new.items) bands.now }
+    ensures value { result ≡ priced (number_cost numbers.now.old.items numbers.now.new.items numbers.now.blank) (cheapest (number_cost numbers.now.old.items numbers.now.new.items numbers.now.blank) (flat_map shifts_of bands.now)) }
     ensures bound { IfSome result (λ p. p.cost ≤ FRAME_ROWS) }
 {
     let mut best = None;
@@ -102,10 +102,10 @@ fn cheapest_of(numbers: &Numbered, bands: &[Band]) -> Option<Priced>
 
 /// The first of the shifts of a band that cost the least.
 fn cheapest_in(numbers: &Numbered, band: Band) -> Option<Priced>
-    requires length { length numbers.now.old ≡ length numbers.now.new }
-    requires few { length numbers.now.new ≤ FRAME_ROWS }
-    requires band { band.top + band.height ≤ length numbers.now.new }
-    ensures value { result ≡ priced (number_cost numbers.now.old numbers.now.new numbers.now.blank) (cheapest (number_cost numbers.now.old numbers.now.new numbers.now.blank) (shifts_of band)) }
+    requires length { length numbers.now.old.items ≡ length numbers.now.new.items }
+    requires few { length numbers.now.new.items ≤ FRAME_ROWS }
+    requires band { band.top + band.height ≤ length numbers.now.new.items }
+    ensures value { result ≡ priced (number_cost numbers.now.old.items numbers.now.new.items numbers.now.blank) (cheapest (number_cost numbers.now.old.items numbers.now.new.items numbers.now.blank) (shifts_of band)) }
     ensures bound { IfSome result (λ p. p.cost ≤ FRAME_ROWS) }
 {
     let mut best = None;
@@ -129,12 +129,12 @@ fn cheaper(best: Option<Priced>, other: Option<Priced>) -> Option<Priced>
 
 /// The shift of a band up by so many rows: the rows behind its first ones stand from its top on, and blank ones at its end.
 fn upward(numbers: &Numbered, band: Band, by: u32) -> Priced
-    requires length { length numbers.now.old ≡ length numbers.now.new }
-    requires few { length numbers.now.new ≤ FRAME_ROWS }
-    requires band { band.top + band.height ≤ length numbers.now.new }
+    requires length { length numbers.now.old.items ≡ length numbers.now.new.items }
+    requires few { length numbers.now.new.items ≤ FRAME_ROWS }
+    requires band { band.top + band.height ≤ length numbers.now.new.items }
     requires by { by < band.height }
     ensures shift { result.shift ≡ shift_by band (pos by) }
-    ensures cost { result.cost ≡ number_cost numbers.now.old numbers.now.new numbers.now.blank (shift_by band (pos by)) }
+    ensures cost { result.cost ≡ number_cost numbers.now.old.items numbers.now.new.items numbers.now.blank (shift_by band (pos by)) }
     ensures bound { result.cost ≤ FRAME_ROWS }
 {
     let (top, free) = (band.top, band.top + (band.height - by));
@@ -146,13 +146,13 @@ fn upward(numbers: &Numbered, band: Band, by: u32) -> Priced
 
 /// The shift of a band down by so many rows: its first rows stand behind blank ones, which stand from its top on.
 fn downward(numbers: &Numbered, band: Band, by: u32) -> Priced
-    requires length { length numbers.now.old ≡ length numbers.now.new }
-    requires few { length numbers.now.new ≤ FRAME_ROWS }
-    requires band { band.top + band.height ≤ length numbers.now.new }
+    requires length { length numbers.now.old.items ≡ length numbers.now.new.items }
+    requires few { length numbers.now.new.items ≤ FRAME_ROWS }
+    requires band { band.top + band.height ≤ length numbers.now.new.items }
     requires some { 1 ≤ by }
     requires by { by < band.height }
     ensures shift { result.shift ≡ shift_by band (neg_ℤ (pos by)) }
-    ensures cost { result.cost ≡ number_cost numbers.now.old numbers.now.new numbers.now.blank (shift_by band (neg_ℤ (pos by))) }
+    ensures cost { result.cost ≡ number_cost numbers.now.old.items numbers.now.new.items numbers.now.blank (shift_by band (neg_ℤ (pos by))) }
     ensures bound { result.cost ≤ FRAME_ROWS }
 {
     let top = band.top;
@@ -176,14 +176,14 @@ fn shift_by(band: Band, by: i64) -> Shift
 /// How many rows differ where all rows of a band but `by` stand from `into` on that stood from `from` on, and `by` blank ones from
 /// `free` on. All three are rows of the frame.
 fn unlike_moved(numbers: &Numbered, band: Band, by: u32, from: u32, into: u32, free: u32) -> u32
-    requires length { length numbers.now.old ≡ length numbers.now.new }
-    requires few { length numbers.now.new ≤ FRAME_ROWS }
-    requires band { band.top + band.height ≤ length numbers.now.new }
+    requires length { length numbers.now.old.items ≡ length numbers.now.new.items }
+    requires few { length numbers.now.new.items ≤ FRAME_ROWS }
+    requires band { band.top + band.height ≤ length numbers.now.new.items }
     requires by { by ≤ band.height }
     requires from { from ≤ band.top + by }
     requires into { into ≤ band.top + by }
     requires free { free ≤ band.top + (band.height - by) }
-    ensures value { result ≡ unlike_moved numbers.now.old numbers.now.new numbers.now.blank band by from into free }
+    ensures value { result ≡ unlike_moved numbers.now.old.items numbers.now.new.items numbers.now.blank band by from into free }
     ensures bound { result ≤ FRAME_ROWS }
 {
     let (old, new) = (numbers.old.as_slice(), numbers.new.as_slice());

@@ -64,10 +64,10 @@ fn print_of(cells: &[Cell]) -> u64
 
 /// The prints of a screen's rows.
 pub(crate) fn prints_of(screen: &Screen) -> Numbers
-    ensures { result ≡ map (print_from 0) screen.now.rows }
+    ensures { result.items ≡ map (print_from 0) screen.now.rows }
 {
     let _width = screen.width();
-    let mut prints = Numbers::none();
+    let mut prints = Numbers::new();
     for row in 0..screen.height() {
         prints.push(print_of(screen.row(row)));
     }
@@ -90,7 +90,7 @@ fn same_row(old: &[Cell], old_print: u64, new: &[Cell], new_print: u64) -> bool
 /// The number of the first row of the target that is the same as a row of its width, which has a print, and the target's height where
 /// none is. The rows are compared where their prints are equal.
 fn number_of(target: &Screen, prints: &Numbers, row: &[Cell], print: u64) -> u64
-    requires prints { prints.now ≡ map (print_from 0) target.now.rows }
+    requires prints { prints.now.items ≡ map (print_from 0) target.now.rows }
     requires width { length row.now ≡ width_of target.now.rows }
     requires print { print ≡ print_from 0 row.now }
     ensures { result ≡ number_in target.now.rows row.now }
@@ -112,13 +112,13 @@ pub(crate) fn numbers_of(
     own_prints: &Numbers,
 ) -> Numbers
     requires size { HaveOneSize (Some screen.now) target.now }
-    requires prints { prints.now ≡ map (print_from 0) target.now.rows }
-    requires own_prints { own_prints.now ≡ map (print_from 0) screen.now.rows }
-    ensures { result ≡ map (number_in target.now.rows) screen.now.rows }
+    requires prints { prints.now.items ≡ map (print_from 0) target.now.rows }
+    requires own_prints { own_prints.now.items ≡ map (print_from 0) screen.now.rows }
+    ensures { result.items ≡ map (number_in target.now.rows) screen.now.rows }
 {
     let _width = screen.width();
     let own_prints = own_prints.as_slice();
-    let mut numbers = Numbers::none();
+    let mut numbers = Numbers::new();
     for row in 0..screen.height() {
         let print = own_prints[row as usize];
         numbers.push(number_of(target, prints, screen.row(row), print));
@@ -128,7 +128,7 @@ pub(crate) fn numbers_of(
 
 /// The number of a blank row by the target's.
 pub(crate) fn number_of_blank(target: &Screen, prints: &Numbers) -> u64
-    requires { prints.now ≡ map (print_from 0) target.now.rows }
+    requires { prints.now.items ≡ map (print_from 0) target.now.rows }
     ensures { result ≡ number_in target.now.rows (blank_row (width_of target.now.rows)) }
 {
     let blanks = [Cell::Blank(Face::PLAIN); FRAME_COLUMNS as usize];

@@ -7,7 +7,7 @@ use Rattle.rd_lineshift.proofs.choice.cheapest_in.Goals as goal
 
 pub loop-by-preserved : goal.loop-by-preserved
 loop-by-preserved c =
-    let f = number_cost c.args.numbers.now.old c.args.numbers.now.new c.args.numbers.now.blank in
+    let f = number_cost c.args.numbers.now.old.items c.args.numbers.now.new.items c.args.numbers.now.blank in
     let band = c.args.band in
     let by = c.loop-by.by in
     let best = c.loop-by.best in

@@ -7,7 +7,7 @@ use Rattle.rd_lineshift.proofs.choice.cheapest_of.Goals as goal
 
 pub loop-i-preserved : goal.loop-i-preserved
 loop-i-preserved c =
-    let f = number_cost c.args.numbers.now.old c.args.numbers.now.new c.args.numbers.now.blank in
+    let f = number_cost c.args.numbers.now.old.items c.args.numbers.now.new.items c.args.numbers.now.blank in
     let bands = c.args.bands.now in
     let none : Band = record { top = 0; height = 0 } in
     rw c.cheaper-best.ensures (

@@ -15,11 +15,11 @@ returns c =
     let target = c.args.target.now in
     let n = c.number_rows.result in
     let by = c.number_rows.ensures in
-    let f = number_cost n.old n.new n.blank in
+    let f = number_cost n.old.items n.new.items n.blank in
     let of = number_in target.rows in
     let wide = subst (λ k. IsGrid k current.rows) c.requires.size.1 c.width-old_width.ensures.screen.size.each in
     let same = λ (s : Shift).
-    ap (λ xs. number_cost xs n.new n.blank s) by.old
+    ap (λ xs. number_cost xs n.new.items n.blank s) by.old
     ∙ ap (λ xs. number_cost (map of current.rows) xs n.blank s) by.new
     ∙ ap (λ k. number_cost (map of current.rows) (map of target.rows) k s) by.blank
     ∙ cost-told current target (width_of target.rows) s wide c.width-new_width.ensures.screen.size.each c.requires.size.1 in
