@@ -2,4 +2,5 @@ mod Free
 pub mod InForm
 mod Items
 mod Json
+mod Taking
 mod Texts

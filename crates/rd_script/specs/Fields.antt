@@ -1,8 +1,11 @@
 -- Fields of an object: which keys are asked for, and what is read of their values.
-use Rattle.std.specs.Prelude.{ℕ, zero, suc, ◌≡◌, ◌&&◌, Bool, ℤ, nat_le, bytes_eq, if◌then◌else◌, List, [], ◌∷◌, ◌++◌, Option, None, Some, option_and_then, option_map, is_some, unwrap_or, Result, Ok, Err}
+use Rattle.std.specs.Prelude.{ℕ, zero, suc, ◌≡◌, ◌&&◌, Bool, ℤ, nat_le, bytes_eq, if◌then◌else◌, List, [], ◌∷◌, ◌++◌, Option, None, Some, option_and_then, option_map, is_some, unwrap_or, Result, Ok, Err, OnOk, String}
 use Rattle.std.specs.Str.{chars}
+use Rattle.std.specs.declared.alloc.Global.{Global}
 use Rattle.serde_json.specs.Data.{Data, Items, no_items, item, Members}
 use Rattle.serde_json.specs.Find.{get_member, as_null, as_number, as_u64, as_i64, as_str, as_array}
+use Rattle.serde_json.specs.View.{members_view}
+use Rattle.serde_json.specs.declared.value.Value.{Value}
 use Rattle.rd_script.specs.declared.fault.OpFault.{OpFault}
 use Rattle.rd_script.specs.declared.fault.OpFault.TheVariants.{Missing, BadField, Memory}
 use Rattle.rd_script.specs.Forms.{is_text, is_plain_text, is_buffer_name}
@@ -163,3 +166,18 @@ abbrev pub IsReadAs : {A T : Type 0} → (A → T) → Result A OpFault → Resu
 IsReadAs f (Ok x) said = said ≡ Ok (f x)
 IsReadAs f (Err Memory) said = Unit {0}
 IsReadAs f (Err fault) said = said ≡ Err fault
+
+-- ---- asking
+
+-- the members of an op's object, and the keys that were asked for so far
+pub record Asking : Type 0 where
+  pub members : List (String Global × Value)
+  pub keys : List (List ℕ)
+
+-- the same where these keys were asked for too
+abbrev pub asked_too : List (List ℕ) → Asking → Asking
+asked_too keys asking = record { members = asking.members; keys = asking.keys ++ keys }
+
+-- an answer is what fields say of the members, or want of memory; where there is one their keys were asked for
+abbrev pub IsTaken : {T : Type 0} → Result T OpFault → Fields T → Asking → Asking → Type 0
+IsTaken result fields before after = IsRead result (fields.taken (members_view before.members)) × OnOk result (after ≡ asked_too fields.keys before)

@@ -3,13 +3,13 @@
 //! The rules are in docs/RULES.md, "Scripts".
 #![tactic(auto)]
 
+mod asked;
 mod buffer_name;
 mod examples;
 mod fault;
 mod field;
 mod form;
 mod item;
-mod keys;
 mod law;
 mod name;
 mod object;

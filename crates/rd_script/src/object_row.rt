@@ -1,13 +1,15 @@
-//! The ops that make objects: their fields and keys.
-ghost use Rattle.std.specs.Prelude.{◌≡◌, ◌≤◌, [], IfOk, map};
+//! The ops that make objects: their fields.
+ghost use Rattle.std.specs.Prelude.{◌≡◌, ◌≤◌, ◌∷◌, [], IfOk, OnOk, codes, false};
+ghost use Rattle.serde_json.specs.Find.{as_bool};
 ghost use Rattle.serde_json.specs.View.{members_view};
-ghost use Rattle.rd_script.specs.Fields.{list_of, within, defaulted, IsRead};
+ghost use Rattle.rd_script.specs.Fields.{list_of, within, defaulted, asked_too, IsRead, IsTaken};
 ghost use Rattle.rd_script.specs.Objects.{run, spec, spec_value, face, entry, slot_field};
 ghost use Rattle.rd_script.specs.Table.{object_row};
 ghost use Rattle.rd_script.specs.declared.name.ObjectOp.TheVariants as objects;
 
+use crate::asked::Asked;
 use crate::fault::OpFault;
-use crate::field::{Members, named, number, optional, required};
+use crate::field::{named, number, optional, required};
 use crate::form::{Flag, Form, Within};
 use crate::item::AtMost;
 use crate::name::ObjectOp;
@@ -20,128 +22,119 @@ use rd_base::{Ch, Face, ListOf};
 use std::alloc::Global;
 
 /// Reads the fields of an op that makes an object.
-pub fn read_object(alloc: Global, members: &Members, op: ObjectOp) -> Result<Op, OpFault>
-    ensures { IsRead result ((object_row op).taken (members_view members.now.entries)) }
+pub fn read_object(alloc: Global, asked: &mut Asked, op: ObjectOp) -> Result<Op, OpFault>
+    ensures { IsTaken result (object_row op) asked.old asked.new }
 {
     match op {
         ObjectOp::String => Ok(Op::AddString {
-            text: required(alloc, members, "text", &Text)?,
-            runs: some_items(alloc, members, "runs", STRING_RUNS, RunForm)?,
+            text: required(alloc, asked, "text", &Text)?,
+            runs: some_items(alloc, asked, "runs", STRING_RUNS, RunForm)?,
         }),
         ObjectOp::Spec => Ok(Op::AddSpec {
-            spec: spec(alloc, members)?,
+            spec: spec(alloc, asked)?,
         }),
         ObjectOp::Face => Ok(Op::AddFace {
-            face: face(alloc, members)?,
+            face: face(alloc, asked)?,
         }),
-        ObjectOp::Table => read_table(alloc, members),
-    }
-}
-
-/// The keys of an op that makes an object, in the order of its fields.
-pub fn object_keys(op: ObjectOp) -> &'static [&'static str]
-    ensures { map (λ key. key.now) result.now ≡ (object_row op).keys }
-{
-    match op {
-        ObjectOp::String => &["text", "runs"],
-        ObjectOp::Spec => &["kind", "value"],
-        ObjectOp::Face => &["fg", "bg", "bold", "underline", "inverse"],
-        ObjectOp::Table => &[
-            "entries",
-            "truncation",
-            "continuation",
-            "escape",
-            "control",
-            "ellipsis",
-            "border",
-        ],
+        ObjectOp::Table => read_table(alloc, asked),
     }
 }
 
 /// Reads the fields of the op that makes a display table.
-fn read_table(alloc: Global, members: &Members) -> Result<Op, OpFault>
-    ensures { IsRead result ((object_row objects.Table).taken (members_view members.now.entries)) }
+fn read_table(alloc: Global, asked: &mut Asked) -> Result<Op, OpFault>
+    ensures { IsTaken result (object_row objects.Table) asked.old asked.new }
 {
     Ok(Op::AddTable {
-        entries: some_items(alloc, members, "entries", TABLE_ENTRIES, EntryForm)?,
-        truncation: slot(alloc, members, "truncation")?,
-        continuation: slot(alloc, members, "continuation")?,
-        escape: slot(alloc, members, "escape")?,
-        control: slot(alloc, members, "control")?,
-        ellipsis: optional(alloc, members, "ellipsis", &GlyphText)?,
-        border: slot(alloc, members, "border")?,
+        entries: some_items(alloc, asked, "entries", TABLE_ENTRIES, EntryForm)?,
+        truncation: slot(alloc, asked, "truncation")?,
+        continuation: slot(alloc, asked, "continuation")?,
+        escape: slot(alloc, asked, "escape")?,
+        control: slot(alloc, asked, "control")?,
+        ellipsis: optional(alloc, asked, "ellipsis", &GlyphText)?,
+        border: slot(alloc, asked, "border")?,
     })
 }
 
 /// A slot of a display table, and None where the member is absent or null.
-fn slot(alloc: Global, members: &Members, key: &str) -> Result<Option<Ch>, OpFault>
-    ensures { IsRead result ((slot_field key.now).taken (members_view members.now.entries)) }
+fn slot(alloc: Global, asked: &mut Asked, key: &'static str) -> Result<Option<Ch>, OpFault>
+    ensures { IsTaken result (slot_field key.now) asked.old asked.new }
 {
-    optional(alloc, members, key, &Slot)
+    optional(alloc, asked, key, &Slot)
 }
 
 /// At most so many items, none where the member is absent or null.
 fn some_items<F: Form + Drop>(
     alloc: Global,
-    members: &Members,
-    key: &str,
+    asked: &mut Asked,
+    key: &'static str,
     most: u32,
     of: F,
 ) -> Result<ListOf<F::Said>, OpFault>
-    ensures { IsRead result ((defaulted [] key.now (list_of most (F.kind of))).taken (members_view members.now.entries)) }
+    ensures { IsTaken result (defaulted [] key.now (list_of most (F.kind of))) asked.old asked.new }
 {
-    match optional(alloc, members, key, &AtMost { most, of })? {
+    match optional(alloc, asked, key, &AtMost { most, of })? {
         Some(items) => Ok(items),
         None => Ok(ListOf::new(alloc)),
     }
 }
 
 /// What a display spec is, and then its string or its columns.
-fn spec(alloc: Global, members: &Members) -> Result<OpSpec, OpFault>
-    ensures { IsRead result (spec.taken (members_view members.now.entries)) }
+fn spec(alloc: Global, asked: &mut Asked) -> Result<OpSpec, OpFault>
+    ensures { IsTaken result spec asked.old asked.new }
 {
-    let name = named(alloc, members, "kind")?;
-    spec_value(alloc, members, name)
+    let name = named(alloc, asked, "kind")?;
+    spec_value(alloc, asked, name)
 }
 
 /// The string or the columns of a display spec.
-fn spec_value(alloc: Global, members: &Members, name: SpecName) -> Result<OpSpec, OpFault>
-    ensures { IsRead result ((spec_value name).taken (members_view members.now.entries)) }
+fn spec_value(alloc: Global, asked: &mut Asked, name: SpecName) -> Result<OpSpec, OpFault>
+    ensures value { IsRead result ((spec_value name).taken (members_view asked.old.members)) }
+    ensures keys { OnOk result (asked.new ≡ asked_too (codes "value" ∷ []) asked.old) }
 {
     let columns = Within {
         least: 0,
         greatest: SPACE_COLUMNS,
     };
     match name {
-        SpecName::Text => Ok(OpSpec::Text(number(alloc, members, "value")?)),
-        SpecName::Width => Ok(OpSpec::Width(required(alloc, members, "value", &columns)?)),
-        SpecName::Align => Ok(OpSpec::Align(required(alloc, members, "value", &columns)?)),
+        SpecName::Text => Ok(OpSpec::Text(number(alloc, asked, "value")?)),
+        SpecName::Width => Ok(OpSpec::Width(required(alloc, asked, "value", &columns)?)),
+        SpecName::Align => Ok(OpSpec::Align(required(alloc, asked, "value", &columns)?)),
     }
 }
 
 /// A face. A colour is none where it is not said.
-fn face(alloc: Global, members: &Members) -> Result<Face, OpFault>
-    ensures { IsRead result (face.taken (members_view members.now.entries)) }
+fn face(alloc: Global, asked: &mut Asked) -> Result<Face, OpFault>
+    ensures { IsTaken result face asked.old asked.new }
 {
     Ok(Face {
-        fg: colour(alloc, members, "fg")?,
-        bg: colour(alloc, members, "bg")?,
-        bold: optional(alloc, members, "bold", &Flag)?.unwrap_or(false),
-        underline: optional(alloc, members, "underline", &Flag)?.unwrap_or(false),
-        inverse: optional(alloc, members, "inverse", &Flag)?.unwrap_or(false),
+        fg: colour(alloc, asked, "fg")?,
+        bg: colour(alloc, asked, "bg")?,
+        bold: flag(alloc, asked, "bold")?,
+        underline: flag(alloc, asked, "underline")?,
+        inverse: flag(alloc, asked, "inverse")?,
     })
 }
 
+/// A flag, which is not set where the member is absent or null.
+fn flag(alloc: Global, asked: &mut Asked, key: &'static str) -> Result<bool, OpFault>
+    ensures { IsTaken result (defaulted false key.now as_bool) asked.old asked.new }
+{
+    match optional(alloc, asked, key, &Flag)? {
+        Some(flag) => Ok(flag),
+        None => Ok(false),
+    }
+}
+
 /// A colour, and none, which is 8, where the member is absent or null.
-fn colour(alloc: Global, members: &Members, key: &str) -> Result<u8, OpFault>
-    ensures value { IsRead result ((defaulted 8 key.now (within 0 7)).taken (members_view members.now.entries)) }
+fn colour(alloc: Global, asked: &mut Asked, key: &'static str) -> Result<u8, OpFault>
+    ensures value { IsTaken result (defaulted 8 key.now (within 0 7)) asked.old asked.new }
     ensures bound { IfOk result (λ c. c ≤ 8) }
 {
     let colours = Within {
         least: 0,
         greatest: 7,
     };
-    match optional(alloc, members, key, &colours)? {
+    match optional(alloc, asked, key, &colours)? {
         Some(colour) => Ok(colour as u8),
         None => Ok(8),
     }

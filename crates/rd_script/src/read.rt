@@ -1,15 +1,15 @@
 //! From a line to an op.
-ghost use Rattle.std.specs.Prelude.{◌≡◌, ◌≢◌, ℕ, Ok, Err};
+ghost use Rattle.std.specs.Prelude.{◌≡◌, ◌≢◌, ◌∷◌, [], ℕ, OnOk, Ok, Err, codes};
 ghost use Rattle.serde_json.specs.View.{view, members_view};
 ghost use Rattle.rd_script.specs.declared.fault.OpFault.TheVariants as faults;
 ghost use Rattle.rd_script.specs.declared.op.Op.{Op};
-ghost use Rattle.rd_script.specs.Fields.{IsRead, IsReadAs};
+ghost use Rattle.rd_script.specs.Fields.{IsRead, IsReadAs, asked_too};
 ghost use Rattle.rd_script.specs.Forms.{IsInForm};
-ghost use Rattle.rd_script.specs.Reading.{reading, json_of, reading_name, reading_row, reading_members};
+ghost use Rattle.rd_script.specs.Reading.{reading, json_of, reading_name, reading_members};
 
+use crate::asked::{Asked, Members};
 use crate::fault::OpFault;
-use crate::field::{Members, text_of};
-use crate::keys::refuse_extra;
+use crate::field::text_of;
 use crate::name::Name;
 use crate::op::Op;
 use crate::row::read_fields;
@@ -49,28 +49,23 @@ fn read_json(alloc: Global, line: &[u8]) -> Result<Value, OpFault>
     }
 }
 
-/// Reads an object as an op.
+/// Reads an object as an op, and refuses a key that was not asked for.
 fn read_members(alloc: Global, members: &Members) -> Result<Op, OpFault>
     ensures { IsRead result (reading_members (members_view members.now.entries)) }
 {
-    let name = read_name(alloc, members)?;
-    read_row(alloc, members, name)
+    let mut asked = Asked::of(alloc, members);
+    let name = read_name(alloc, &mut asked)?;
+    let op = read_fields(alloc, &mut asked, name)?;
+    asked.refuse_extra(alloc, op)
 }
 
 /// Reads which op an object says.
-fn read_name(alloc: Global, members: &Members) -> Result<Name, OpFault>
-    ensures { IsRead result (reading_name (members_view members.now.entries)) }
+fn read_name(alloc: Global, asked: &mut Asked) -> Result<Name, OpFault>
+    ensures name { IsRead result (reading_name (members_view asked.old.members)) }
+    ensures keys { OnOk result (asked.new ≡ asked_too (codes "op" ∷ []) asked.old) }
 {
-    match Name::of(text_of(alloc, members, "op")?) {
+    match Name::of(text_of(alloc, asked, "op")?) {
         Some(name) => Ok(name),
         None => Err(OpFault::NoSuchOp),
     }
-}
-
-/// Reads the fields of an op, and refuses other keys.
-fn read_row(alloc: Global, members: &Members, name: Name) -> Result<Op, OpFault>
-    ensures { IsRead result (reading_row (members_view members.now.entries) name) }
-{
-    let op = read_fields(alloc, members, name)?;
-    refuse_extra(alloc, members, name, op)
 }

@@ -1,11 +1,10 @@
-//! The ops about the whole screen: their fields and keys.
-ghost use Rattle.std.specs.Prelude.{◌≡◌, map};
-ghost use Rattle.serde_json.specs.View.{members_view};
-ghost use Rattle.rd_script.specs.Fields.{IsRead};
+//! The ops about the whole screen: their fields.
+ghost use Rattle.rd_script.specs.Fields.{IsTaken};
 ghost use Rattle.rd_script.specs.Table.{screen_row};
 
+use crate::asked::Asked;
 use crate::fault::OpFault;
-use crate::field::{Members, optional, required};
+use crate::field::{optional, required};
 use crate::form::{Flag, Within};
 use crate::name::ScreenOp;
 use crate::op::Op;
@@ -18,8 +17,8 @@ use rd_base::limits::{
 use std::alloc::Global;
 
 /// Reads the fields of an op about the whole screen.
-pub fn read_screen(alloc: Global, members: &Members, op: ScreenOp) -> Result<Op, OpFault>
-    ensures { IsRead result ((screen_row op).taken (members_view members.now.entries)) }
+pub fn read_screen(alloc: Global, asked: &mut Asked, op: ScreenOp) -> Result<Op, OpFault>
+    ensures { IsTaken result (screen_row op) asked.old asked.new }
 {
     let stops = Within {
         least: 0,
@@ -27,34 +26,21 @@ pub fn read_screen(alloc: Global, members: &Members, op: ScreenOp) -> Result<Op,
     };
     match op {
         ScreenOp::Frame => Ok(Op::Frame {
-            width: within(alloc, members, "width", LEAST_FRAME_COLUMNS, FRAME_COLUMNS)?,
-            height: within(alloc, members, "height", LEAST_FRAME_ROWS, FRAME_ROWS)?,
+            width: within(alloc, asked, "width", LEAST_FRAME_COLUMNS, FRAME_COLUMNS)?,
+            height: within(alloc, asked, "height", LEAST_FRAME_ROWS, FRAME_ROWS)?,
         }),
         ScreenOp::Scrolling => Ok(Op::Scrolling {
-            margin: within(alloc, members, "margin", 0, SCROLL_MARGIN)?,
-            conservatively: within(alloc, members, "conservatively", 0, SCROLL_CONSERVATIVELY)?,
+            margin: within(alloc, asked, "margin", 0, SCROLL_MARGIN)?,
+            conservatively: within(alloc, asked, "conservatively", 0, SCROLL_CONSERVATIVELY)?,
         }),
         ScreenOp::Echo => Ok(Op::Echo {
-            text: required(alloc, members, "text", &PlainText)?,
+            text: required(alloc, asked, "text", &PlainText)?,
         }),
         ScreenOp::Redisplay => Ok(Op::Redisplay {
-            stop: optional(alloc, members, "stop", &stops)?,
+            stop: optional(alloc, asked, "stop", &stops)?,
         }),
         ScreenOp::Shift => Ok(Op::Shift {
-            on: required(alloc, members, "on", &Flag)?,
+            on: required(alloc, asked, "on", &Flag)?,
         }),
-    }
-}
-
-/// The keys of an op about the whole screen, in the order of its fields.
-pub fn screen_keys(op: ScreenOp) -> &'static [&'static str]
-    ensures { map (λ key. key.now) result.now ≡ (screen_row op).keys }
-{
-    match op {
-        ScreenOp::Frame => &["width", "height"],
-        ScreenOp::Scrolling => &["margin", "conservatively"],
-        ScreenOp::Echo => &["text"],
-        ScreenOp::Redisplay => &["stop"],
-        ScreenOp::Shift => &["on"],
     }
 }

@@ -1,13 +1,14 @@
 //! The fields that say a setting.
-ghost use Rattle.std.specs.Prelude.{◌≡◌};
+ghost use Rattle.std.specs.Prelude.{◌≡◌, ◌∷◌, [], OnOk, codes};
 ghost use Rattle.serde_json.specs.Find.{as_bool};
 ghost use Rattle.serde_json.specs.View.{items_view, members_view};
 ghost use Rattle.rd_base.specs.declared.limits.TheConstants.{ATOMS};
-ghost use Rattle.rd_script.specs.Fields.{within, two_items_of, required, IsRead};
+ghost use Rattle.rd_script.specs.Fields.{within, two_items_of, required, asked_too, IsRead, IsTaken};
 ghost use Rattle.rd_script.specs.Settings.{setting, value_of};
 
+use crate::asked::Asked;
 use crate::fault::OpFault;
-use crate::field::{Members, named, optional, required};
+use crate::field::{named, optional, required};
 use crate::form::{Flag, Form, Whole, Within, number_within};
 use crate::item::AtMost;
 use crate::setting::{Setting, SettingName};
@@ -17,46 +18,47 @@ use serde_json::Value;
 use std::alloc::Global;
 
 /// A setting's name, and then its value.
-pub fn setting(alloc: Global, members: &Members) -> Result<Setting, OpFault>
-    ensures { IsRead result (setting.taken (members_view members.now.entries)) }
+pub fn setting(alloc: Global, asked: &mut Asked) -> Result<Setting, OpFault>
+    ensures { IsTaken result setting asked.old asked.new }
 {
-    let name = named(alloc, members, "name")?;
-    value_of(alloc, members, name)
+    let name = named(alloc, asked, "name")?;
+    value_of(alloc, asked, name)
 }
 
 /// The value of a setting.
-fn value_of(alloc: Global, members: &Members, name: SettingName) -> Result<Setting, OpFault>
-    ensures { IsRead result ((value_of name).taken (members_view members.now.entries)) }
+fn value_of(alloc: Global, asked: &mut Asked, name: SettingName) -> Result<Setting, OpFault>
+    ensures value { IsRead result ((value_of name).taken (members_view asked.old.members)) }
+    ensures keys { OnOk result (asked.new ≡ asked_too (codes "value" ∷ []) asked.old) }
 {
     let key = "value";
     match name {
-        SettingName::TabWidth => Ok(Setting::TabWidth(tab_width(alloc, members, key)?)),
-        SettingName::CtlArrow => Ok(Setting::CtlArrow(required(alloc, members, key, &Flag)?)),
-        SettingName::Direction => Ok(Setting::Direction(named(alloc, members, key)?)),
-        SettingName::Reorder => Ok(Setting::Reorder(required(alloc, members, key, &Flag)?)),
-        SettingName::Table => Ok(Setting::Table(optional(alloc, members, key, &Whole)?)),
+        SettingName::TabWidth => Ok(Setting::TabWidth(tab_width(alloc, asked, key)?)),
+        SettingName::CtlArrow => Ok(Setting::CtlArrow(required(alloc, asked, key, &Flag)?)),
+        SettingName::Direction => Ok(Setting::Direction(named(alloc, asked, key)?)),
+        SettingName::Reorder => Ok(Setting::Reorder(required(alloc, asked, key, &Flag)?)),
+        SettingName::Table => Ok(Setting::Table(optional(alloc, asked, key, &Whole)?)),
         SettingName::Invisible => Ok(Setting::Invisible(required(
             alloc,
-            members,
+            asked,
             key,
             &InvisibleText,
         )?)),
-        SettingName::LinePrefix => Ok(Setting::LinePrefix(optional(alloc, members, key, &Whole)?)),
-        SettingName::WrapPrefix => Ok(Setting::WrapPrefix(optional(alloc, members, key, &Whole)?)),
-        SettingName::Modified => Ok(Setting::Modified(required(alloc, members, key, &Flag)?)),
-        SettingName::ReadOnly => Ok(Setting::ReadOnly(required(alloc, members, key, &Flag)?)),
+        SettingName::LinePrefix => Ok(Setting::LinePrefix(optional(alloc, asked, key, &Whole)?)),
+        SettingName::WrapPrefix => Ok(Setting::WrapPrefix(optional(alloc, asked, key, &Whole)?)),
+        SettingName::Modified => Ok(Setting::Modified(required(alloc, asked, key, &Flag)?)),
+        SettingName::ReadOnly => Ok(Setting::ReadOnly(required(alloc, asked, key, &Flag)?)),
     }
 }
 
 /// The columns between tab stops.
-fn tab_width(alloc: Global, members: &Members, key: &str) -> Result<u8, OpFault>
-    ensures { IsRead result ((required key.now (within 1 TAB_COLUMNS)).taken (members_view members.now.entries)) }
+fn tab_width(alloc: Global, asked: &mut Asked, key: &'static str) -> Result<u8, OpFault>
+    ensures { IsTaken result (required key.now (within 1 TAB_COLUMNS)) asked.old asked.new }
 {
     let columns = Within {
         least: 1,
         greatest: TAB_COLUMNS as u32,
     };
-    Ok(required(alloc, members, key, &columns)? as u8)
+    Ok(required(alloc, asked, key, &columns)? as u8)
 }
 
 /// Which invisible text is hidden: all of it where the value is true, or that of the atoms of pairs.

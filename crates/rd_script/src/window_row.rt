@@ -1,11 +1,10 @@
-//! The ops about windows: their fields and keys.
-ghost use Rattle.std.specs.Prelude.{◌≡◌, map};
-ghost use Rattle.serde_json.specs.View.{members_view};
-ghost use Rattle.rd_script.specs.Fields.{IsRead};
+//! The ops about windows: their fields.
+ghost use Rattle.rd_script.specs.Fields.{IsTaken};
 ghost use Rattle.rd_script.specs.Table.{window_field, window_row};
 
+use crate::asked::Asked;
 use crate::fault::OpFault;
-use crate::field::{Members, named, number, optional, required};
+use crate::field::{named, number, optional, required};
 use crate::form::ScrolledRows;
 use crate::name::WindowOp;
 use crate::op::Op;
@@ -18,49 +17,49 @@ use rd_base::limits::{
 use std::alloc::Global;
 
 /// Reads the fields of an op about a window.
-pub fn read_window(alloc: Global, members: &Members, op: WindowOp) -> Result<Op, OpFault>
-    ensures { IsRead result ((window_row op).taken (members_view members.now.entries)) }
+pub fn read_window(alloc: Global, asked: &mut Asked, op: WindowOp) -> Result<Op, OpFault>
+    ensures { IsTaken result (window_row op) asked.old asked.new }
 {
-    let window = number(alloc, members, "window")?;
+    let window = number(alloc, asked, "window")?;
     match op {
         WindowOp::Split => Ok(Op::Split {
             window,
-            side: named(alloc, members, "side")?,
-            size: number(alloc, members, "size")?,
+            side: named(alloc, asked, "side")?,
+            size: number(alloc, asked, "size")?,
         }),
         WindowOp::Remove => Ok(Op::Remove { window }),
         WindowOp::Select => Ok(Op::Select { window }),
         WindowOp::Show => Ok(Op::Show {
             window,
-            buffer: buffer(alloc, members)?,
+            buffer: buffer(alloc, asked)?,
         }),
         WindowOp::Point => Ok(Op::Point {
             window,
-            pos: number(alloc, members, "pos")?,
+            pos: number(alloc, asked, "pos")?,
         }),
         WindowOp::Start => Ok(Op::Start {
             window,
-            pos: number(alloc, members, "pos")?,
-            row: within(alloc, members, "row", 0, START_ROW)?,
+            pos: number(alloc, asked, "pos")?,
+            row: within(alloc, asked, "row", 0, START_ROW)?,
         }),
         WindowOp::Scroll => Ok(Op::Scroll {
             window,
-            rows: required(alloc, members, "rows", &ScrolledRows)?,
+            rows: required(alloc, asked, "rows", &ScrolledRows)?,
         }),
         WindowOp::Hscroll => Ok(Op::Hscroll {
             window,
-            columns: within(alloc, members, "columns", 0, HSCROLL_COLUMNS)?,
+            columns: within(alloc, asked, "columns", 0, HSCROLL_COLUMNS)?,
         }),
         WindowOp::Wrap => Ok(Op::Wrap {
             window,
-            mode: named(alloc, members, "mode")?,
+            mode: named(alloc, asked, "mode")?,
         }),
         WindowOp::ModeLine => Ok(Op::ModeLine {
             window,
-            format: optional(alloc, members, "format", &PlainText)?,
+            format: optional(alloc, asked, "format", &PlainText)?,
         }),
         WindowOp::Go => {
-            let way: Way = named(alloc, members, "side")?;
+            let way: Way = named(alloc, asked, "side")?;
             Ok(Op::Go {
                 window,
                 right: way.right,
@@ -68,33 +67,13 @@ pub fn read_window(alloc: Global, members: &Members, op: WindowOp) -> Result<Op,
         }
         WindowOp::Hit => Ok(Op::Hit {
             window,
-            row: within(alloc, members, "row", 0, FRAME_ROWS - 1)?,
-            column: within(alloc, members, "column", 0, FRAME_COLUMNS - 1)?,
+            row: within(alloc, asked, "row", 0, FRAME_ROWS - 1)?,
+            column: within(alloc, asked, "column", 0, FRAME_COLUMNS - 1)?,
         }),
         WindowOp::Margin => Ok(Op::Margin {
             window,
-            numbers: within(alloc, members, "numbers", 0, NUMBER_COLUMNS)?,
-            strings: within(alloc, members, "strings", 0, STRING_COLUMNS)?,
+            numbers: within(alloc, asked, "numbers", 0, NUMBER_COLUMNS)?,
+            strings: within(alloc, asked, "strings", 0, STRING_COLUMNS)?,
         }),
-    }
-}
-
-/// The keys of an op about a window, in the order of its fields.
-pub fn window_keys(op: WindowOp) -> &'static [&'static str]
-    ensures { map (λ key. key.now) result.now ≡ (window_row op).keys }
-{
-    match op {
-        WindowOp::Split => &["window", "side", "size"],
-        WindowOp::Remove | WindowOp::Select => &["window"],
-        WindowOp::Show => &["window", "buffer"],
-        WindowOp::Point => &["window", "pos"],
-        WindowOp::Start => &["window", "pos", "row"],
-        WindowOp::Scroll => &["window", "rows"],
-        WindowOp::Hscroll => &["window", "columns"],
-        WindowOp::Wrap => &["window", "mode"],
-        WindowOp::ModeLine => &["window", "format"],
-        WindowOp::Go => &["window", "side"],
-        WindowOp::Hit => &["window", "row", "column"],
-        WindowOp::Margin => &["window", "numbers", "strings"],
     }
 }
