@@ -13,7 +13,7 @@ use Rattle.rd_rows.specs.Shapes.{ShapeValues}
 use Rattle.rd_start.specs.Chosen.{anchor_at, chosen_of, forced_point, places_of, row_of}
 use Rattle.rd_start.specs.Near.{is_near, near_costs}
 use Rattle.rd_start.specs.Starts.{around, centred, following, moved, scrolled, suits}
-use Rattle.rd_start.specs.Strips.{HasPoint, IsFor, IsLaidOut, IsPaid, IsStrip, IsUnsuited, AsksAt, BeginsAbove, Between, all_costs, centred_chosen, count_in, first_row, home_row, moved_row, point_row, rows_in}
+use Rattle.rd_start.specs.Strips.{Affords, HasPoint, IsFor, IsLaidOut, IsPaid, IsStrip, IsUnsuited, AsksAt, BeginsAbove, Between, all_costs, centred_chosen, count_in, first_row, home_row, moved_row, point_row, rows_in}
 use Rattle.rd_start.specs.declared.strip.Edge.TheVariants.{Bottom, Top}
 use Rattle.rd_start.specs.declared.strip.Strip.{Strip}
 use Rattle.rd_start.specs.declared.strip.Sweep.{Sweep}
@@ -253,13 +253,10 @@ view-below m win home laid is =
     subst (λ n. AsksAt Bottom (near_of m win.strip.sweep win.wanted) m win.strip (n + win.wanted.height)) (sym is) (asks-view m win.strip win.wanted laid.strip laid.of laid.kind)
 
 -- the steps that are left to a window
-abbrev pub WindowPays : SourceValues → ShapeValues → Wanted → Strip → ℕ → ℕ → Type 0
-WindowPays m shape w s n steps = (base : ℕ) → IsPaid (is_near w (places_of m shape w)) base m s n → steps ≤ base + 2 * near_costs m shape w
-
-pub window-pays : (m : SourceValues) (sweep : Sweep) (w : Wanted) (s : Strip) (n steps base : ℕ) → s.sweep ≡ sweep → WindowPays m s.sweep.shape w s n steps
-    → IsPaid (near_of m sweep w) base m s n → steps ≤ base + 2 * near_costs m sweep.shape w
-window-pays m sweep w s n steps base e pays paid =
-    subst (λ (x : ShapeValues). WindowPays m x w s n steps) (ap (λ (x : Sweep). x.shape) e) pays base paid
+pub affords-same : (times : ℕ) (m : SourceValues) (sweep : Sweep) (w : Wanted) (s : Strip) (n steps base : ℕ) → s.sweep ≡ sweep → Affords times m s.sweep.shape w s n steps
+    → IsPaid (near_of m sweep w) base m s n → steps ≤ base + times * near_costs m sweep.shape w
+affords-same times m sweep w s n steps base e afforded paid =
+    subst (λ (x : ShapeValues). Affords times m x w s n steps) (ap (λ (x : Sweep). x.shape) e) afforded base paid
 
 pub first-same : (m : SourceValues) (s new : Strip) → new.sweep ≡ s.sweep → new.home ≡ s.home → first_row m new ≡ first_row m s
 first-same m s new e f = ap (λ (x : Sweep). home_row m x - new.home) e ∙ ap (λ n. home_row m s.sweep - n) f
@@ -285,11 +282,3 @@ pub result-centred : (r : Result Chosen Memory) (m : SourceValues) (sweep : Swee
     → following w (places_of m sweep.shape w) ≡ centred w (places_of m sweep.shape w) → IfOk r (λ chosen. chosen ≡ centred_chosen m s.sweep.shape w) → IfOk r (λ chosen. chosen ≡ chosen_of m sweep.shape w)
 result-centred (Ok chosen) m sweep s w e free follows is = value-centred m sweep s w chosen e free follows is
 result-centred (Err x) m sweep s w e free follows is = tt
-
-abbrev pub ForcedPays : SourceValues → ShapeValues → Wanted → Strip → ℕ → ℕ → Type 0
-ForcedPays m shape w s n steps = (base : ℕ) → IsPaid (is_near w (places_of m shape w)) base m s n → steps ≤ base + near_costs m shape w
-
-pub forced-pays : (m : SourceValues) (sweep : Sweep) (w : Wanted) (s : Strip) (n steps base : ℕ) → s.sweep ≡ sweep → ForcedPays m s.sweep.shape w s n steps
-    → IsPaid (near_of m sweep w) base m s n → steps ≤ base + near_costs m sweep.shape w
-forced-pays m sweep w s n steps base e pays paid =
-    subst (λ (x : ShapeValues). ForcedPays m x w s n steps) (ap (λ (x : Sweep). x.shape) e) pays base paid

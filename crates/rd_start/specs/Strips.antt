@@ -1,6 +1,6 @@
 -- Words for what the code holds while it chooses: a strip of rows that were laid out. The crate's public contract does not name
 -- them.
-use Rattle.std.specs.Prelude.{◌≡◌, ℕ, ◌+◌, ◌-◌, ◌^◌, ◌<◌, ◌≤◌, ◌⊎◌, min, max, nat_lt, Bool, true, false, if◌then◌else◌, List, [], ◌∷◌, ◌++◌, length, map, slice_get, ℤ, Option, None, Some}
+use Rattle.std.specs.Prelude.{◌≡◌, ℕ, ◌+◌, ◌-◌, ◌*◌, ◌^◌, ◌<◌, ◌≤◌, ◌⊎◌, min, max, nat_lt, Bool, true, false, if◌then◌else◌, List, [], ◌∷◌, ◌++◌, length, map, slice_get, ℤ, Option, None, Some}
 use Rattle.std.specs.List.{AllByRecursion, fold, list_any, position, range_with_len}
 use Rattle.rd_matrix.specs.Blocks.{IsAmong, IsWithin}
 use Rattle.rd_matrix.specs.Entries.{EntryMeaning, all_rows, numbered}
@@ -9,7 +9,8 @@ use Rattle.rd_matrix.specs.Sources.{SourceValues, IsSource, costs_of, rows_at}
 use Rattle.rd_matrix.specs.declared.block.Block.{Block}
 use Rattle.rd_rows.specs.Rows.{RowMeaning}
 use Rattle.rd_rows.specs.Shapes.{ShapeValues, IsShape}
-use Rattle.rd_start.specs.Chosen.{anchor_at, anchor_row, begins_item, places_of, positions_of, row_of}
+use Rattle.rd_start.specs.Chosen.{anchor_at, anchor_row, begins_item, chosen_of, places_of, positions_of, row_of}
+use Rattle.rd_start.specs.Near.{is_near, near_costs}
 use Rattle.rd_start.specs.Starts.{centred, moved, suits, wanted_above, wanted_below}
 use Rattle.rd_start.specs.declared.strip.Edge.{Edge}
 use Rattle.rd_start.specs.declared.strip.Edge.TheVariants.{Bottom, Top}
@@ -99,6 +100,11 @@ pub record IsPaidOf (kind : ℕ → Bool) (base : ℕ) (m : SourceValues) (sweep
 
 abbrev pub IsPaid : (ℕ → Bool) → ℕ → SourceValues → Strip → ℕ → Type 0
 IsPaid kind base m s steps = IsStrip m s × IsPaidOf kind base m s.sweep s.blocks.items s.home steps
+
+-- the steps from one count to another, and those that a strip was paid with, are at most so many times the costs of the blocks near a
+-- window
+abbrev pub Affords : ℕ → SourceValues → ShapeValues → Wanted → Strip → ℕ → ℕ → Type 0
+Affords times m shape w s old new = (base : ℕ) → IsPaid (is_near w (places_of m shape w)) base m s old → new ≤ base + times * near_costs m shape w
 
 -- how far a strip reaches at an edge: at the top, how many rows stand above its anchor's; at the bottom, how many rows it has
 abbrev pub extent : Edge → Strip → ℕ
@@ -207,6 +213,10 @@ pub record IsLaidOut (m : SourceValues) (window : Window) (forced : Bool) : Type
   pub of : IsFor window.wanted window.strip.sweep
   pub height : 1 ≤ window.wanted.height
   pub kind : window.wanted.forced ≡ forced
+
+-- what is chosen for a window by all rows of a source
+abbrev pub window_chosen : SourceValues → Window → Chosen
+window_chosen m window = chosen_of m window.strip.sweep.shape window.wanted
 
 -- a window that follows point, and whose old start does not suit
 pub record IsUnsuited (m : SourceValues) (window : Window) : Type 0 where

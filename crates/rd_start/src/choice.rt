@@ -3,9 +3,9 @@ ghost use Rattle.std.specs.Prelude.{◌≡◌, ℕ, ◌+◌, ◌-◌, ◌*◌, �
 ghost use Rattle.rd_matrix.specs.Blocks.{IsWithin};
 ghost use Rattle.rd_matrix.specs.Entries.{all_rows};
 ghost use Rattle.rd_matrix.specs.Sources.{SourceValues, IsSource};
-ghost use Rattle.rd_start.specs.Chosen.{anchor_at, chosen_of, forced_point, places_of};
-ghost use Rattle.rd_start.specs.Near.{is_near, near_costs};
-ghost use Rattle.rd_start.specs.Strips.{IsStrip, IsLaidOut, IsUnsuited, IsPaid, Between, HasPoint, Reaches, all_costs, centred_chosen, first_row, point_row, rows_in};
+ghost use Rattle.rd_start.specs.Chosen.{anchor_at, chosen_of, forced_point};
+ghost use Rattle.rd_start.specs.Near.{near_costs};
+ghost use Rattle.rd_start.specs.Strips.{Affords, IsStrip, IsLaidOut, IsUnsuited, IsPaid, Between, HasPoint, Reaches, all_costs, centred_chosen, first_row, point_row, rows_in, window_chosen};
 
 use crate::strip::{Edge, PointSide, Strip, Sweep};
 use crate::view::{home_suits, nearest};
@@ -68,9 +68,8 @@ fn forced<B: BlockSource, L: Ledger>(
     steps: &mut Steps<L>,
 ) -> Result<Chosen, Memory>
     requires { IsLaidOut (B.meaning source.old) window true }
-    ensures value { IfOk result (λ chosen. chosen ≡ chosen_of (B.meaning source.old) window.strip.sweep.shape window.wanted) }
-    ensures steps { (base : ℕ) → IsPaid (is_near window.wanted (places_of (B.meaning source.old) window.strip.sweep.shape window.wanted)) base (B.meaning source.old) window.strip steps.old
-        → steps.new ≤ base + near_costs (B.meaning source.old) window.strip.sweep.shape window.wanted }
+    ensures value { IfOk result (λ chosen. chosen ≡ window_chosen (B.meaning source.old) window) }
+    ensures steps { Affords 1 (B.meaning source.old) window.strip.sweep.shape window.wanted window.strip steps.old steps.new }
     ensures stays { B.meaning source.new ≡ B.meaning source.old }
 {
     let mut window = window;
@@ -112,9 +111,8 @@ fn following<B: BlockSource, L: Ledger>(
     steps: &mut Steps<L>,
 ) -> Result<Chosen, Memory>
     requires { IsLaidOut (B.meaning source.old) window false }
-    ensures value { IfOk result (λ chosen. chosen ≡ chosen_of (B.meaning source.old) window.strip.sweep.shape window.wanted) }
-    ensures steps { (base : ℕ) → IsPaid (is_near window.wanted (places_of (B.meaning source.old) window.strip.sweep.shape window.wanted)) base (B.meaning source.old) window.strip steps.old
-        → steps.new ≤ base + 2 * near_costs (B.meaning source.old) window.strip.sweep.shape window.wanted }
+    ensures value { IfOk result (λ chosen. chosen ≡ window_chosen (B.meaning source.old) window) }
+    ensures steps { Affords 2 (B.meaning source.old) window.strip.sweep.shape window.wanted window.strip steps.old steps.new }
     ensures stays { B.meaning source.new ≡ B.meaning source.old }
 {
     let mut window = window;
@@ -134,9 +132,8 @@ fn moving<B: BlockSource, L: Ledger>(
     steps: &mut Steps<L>,
 ) -> Result<Chosen, Memory>
     requires { IsUnsuited (B.meaning source.old) window }
-    ensures value { IfOk result (λ chosen. chosen ≡ chosen_of (B.meaning source.old) window.strip.sweep.shape window.wanted) }
-    ensures steps { (base : ℕ) → IsPaid (is_near window.wanted (places_of (B.meaning source.old) window.strip.sweep.shape window.wanted)) base (B.meaning source.old) window.strip steps.old
-        → steps.new ≤ base + 2 * near_costs (B.meaning source.old) window.strip.sweep.shape window.wanted }
+    ensures value { IfOk result (λ chosen. chosen ≡ window_chosen (B.meaning source.old) window) }
+    ensures steps { Affords 2 (B.meaning source.old) window.strip.sweep.shape window.wanted window.strip steps.old steps.new }
     ensures stays { B.meaning source.new ≡ B.meaning source.old }
 {
     let mut window = window;

@@ -5,12 +5,12 @@ use Rattle.rd_matrix.specs.Sources.{SourceValues}
 use Rattle.rd_start.specs.Chosen.{anchor_at, chosen_of, places_of}
 use Rattle.rd_start.specs.Near.{near_costs}
 use Rattle.rd_start.specs.Starts.{suits}
-use Rattle.rd_start.specs.Strips.{IsLaidOut, IsUnsuited, first_row, rows_in}
+use Rattle.rd_start.specs.Strips.{Affords, IsLaidOut, IsUnsuited, first_row, rows_in}
 use Rattle.rd_start.specs.declared.strip.Sweep.{Sweep}
 use Rattle.rd_start.specs.declared.wanted.Chosen.{Chosen}
 use Rattle.rd_start.specs.declared.window.Window.{Window}
 use Rattle.rd_start.proofs.Reaching.{at-source}
-use Rattle.rd_start.proofs.Moving.{NearPaid, WindowPays, follows-home, laid-on, near_of, pays, value-free, view-below, window-pays}
+use Rattle.rd_start.proofs.Moving.{NearPaid, affords-same, follows-home, laid-on, near_of, pays, value-free, view-below}
 use Rattle.rd_start.proofs.choice.following.Given as given
 use Rattle.rd_start.proofs.choice.following.Goals as goal
 use Rattle.rd_start.proofs.choice.following.Goals.{In_ok-home_suits, In_ok-reach}
@@ -101,5 +101,5 @@ returns-clause-steps g c = λ base paid.
     let new = c.reach.new.self in
     let had = viewed g (goal.at.returns-clause-steps g c).In_ok-reach base paid in
     let stays = c.home_suits.ensures.stays ∙ c.reach.ensures.stays in
-    let paying = at-source (λ (x : SourceValues). WindowPays x new.sweep.shape win.wanted new c.reach.new.steps c.moving.new.steps) m (g.B.BlockSource.meaning c.home_suits.new.source) stays c.moving.ensures.steps in
-    window-pays m win.strip.sweep win.wanted new c.reach.new.steps c.moving.new.steps base c.in_ok-reach.ensures.sweep paying had
+    let paying = at-source (λ (x : SourceValues). Affords 2 x new.sweep.shape win.wanted new c.reach.new.steps c.moving.new.steps) m (g.B.BlockSource.meaning c.home_suits.new.source) stays c.moving.ensures.steps in
+    affords-same 2 m win.strip.sweep win.wanted new c.reach.new.steps c.moving.new.steps base c.in_ok-reach.ensures.sweep paying had

@@ -13,7 +13,8 @@ pub returns-in_err-start-clause-steps : goal.returns-in_err-start-clause-steps
 returns-in_err-start-clause-steps g c = λ base paid.
     let m = g.B.BlockSource.meaning c.args.source.now in
     let win = c.args.window in
-    c.in_err-start.ensures.paid (near_of m win.strip.sweep win.wanted) base paid (asks-scrolled m win.strip.sweep win.wanted c.requires.of c.requires.kind c.requires.height)
+    let bound = c.in_err-start.ensures.paid (near_of m win.strip.sweep win.wanted) base paid (asks-scrolled m win.strip.sweep win.wanted c.requires.of c.requires.kind c.requires.height) in
+    omega (arith, bound)
 
 -- what was paid once the start is scrolled, and what is asked for below it
 scrolled : (g : given.Over) (c : goal.In_ok-start g) (base : ℕ) → NearPaid (g.B.BlockSource.meaning c.args.source.now) c.args.window c.args.window.strip base c.args.steps.now
@@ -64,5 +65,6 @@ returns-clause-steps g c = λ base paid.
     let start = goal.at.returns-clause-steps g c in
     let paying = at-source (λ (x : SourceValues). EdgePays Bottom x c.scroll.new.self new c.scroll.new.steps c.reach.new.steps (c.in_ok-start.start + win.wanted.height)) m (g.B.BlockSource.meaning c.scroll.new.source) c.scroll.ensures.stays
     c.in_ok-reach.ensures.paid in
-    pays (near_of m win.strip.sweep win.wanted) base m win.strip.sweep new c.reach.new.steps (c.in_ok-reach.ensures.sweep ∙ c.in_ok-start.ensures.sweep)
-    (paying (near_of m win.strip.sweep win.wanted) base (scrolled g start.In_ok-start base paid) (asks g start.In_ok-start))
+    let bound = pays (near_of m win.strip.sweep win.wanted) base m win.strip.sweep new c.reach.new.steps (c.in_ok-reach.ensures.sweep ∙ c.in_ok-start.ensures.sweep)
+    (paying (near_of m win.strip.sweep win.wanted) base (scrolled g start.In_ok-start base paid) (asks g start.In_ok-start)) in
+    omega (arith, bound)
