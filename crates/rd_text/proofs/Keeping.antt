@@ -22,32 +22,14 @@ length-shrunk xs i j p q =
 
 pub inserted-is_text : (t : TextValue) (pos : ℕ) (new : List ℕ) → IsText t → IsAccessible t pos → length t.text + length new ≤ most_characters → IsText (inserted t pos new)
 inserted-is_text t pos new s a room =
-    let first = s.first in
-    let ordered = s.ordered in
-    let last = s.last in
     let len = length-grown t.text new (pos - 1) (omega (arith, a.0, a.1)) in
-    record {
-      first = first;
-      ordered = omega arith;
-      last = omega (arith, len);
-      short = omega (arith, len);
-    }
+    record { first = s.first; ordered = omega (arith, s.ordered); last = omega (arith, s.last, len); short = omega (arith, len) }
 
 pub deleted-is_text : (t : TextValue) (from to : ℕ) → IsText t → IsAccessibleRange t from to → IsText (deleted t from to)
 deleted-is_text t from to s a =
-    let first = s.first in
-    let last = s.last in
-    let short = s.short in
-    let low = a.first in
-    let ordered = a.ordered in
-    let high = a.last in
-    let len = length-shrunk t.text (from - 1) (to - 1) (omega arith) (omega arith) in
-    record {
-      first = first;
-      ordered = omega arith;
-      last = omega (arith, len);
-      short = omega (arith, len);
-    }
+    let high : to ≤ length t.text + 1 = omega (arith, a.last, s.last) in
+    let len = length-shrunk t.text (from - 1) (to - 1) (omega (arith, a.ordered)) (omega arith) in
+    record { first = s.first; ordered = omega (arith, a.first, a.last); last = omega (arith, s.first, s.last, a.first, a.ordered, len); short = omega (arith, s.short, len) }
 
 pub narrowed-is_text : (t : TextValue) (from to : ℕ) → IsText t → IsRangeOfAll t from to → IsText (narrowed t from to)
 narrowed-is_text t from to s a = record { first = a.first; ordered = a.ordered; last = a.last; short = s.short }

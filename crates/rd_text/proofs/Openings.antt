@@ -2,7 +2,7 @@
 use Rattle.std.proofs.Common.{◌≡◌, ℕ, zero, suc, ◌+◌, ◌-◌, ◌<◌, ◌≤◌, Bool, true, false, ◌&&◌, ◌||◌, List, [], ◌∷◌, ◌++◌, length, get_or, take, drop, inl, inr, refl, sym, ap, ◌∙◌, arith}
 use Rattle.std.specs.Prelude.{slice_range}
 use Rattle.std.proofs.lemmas.Bool.{cases_eq, eq-eqb, ne_eqb, and_parts, or_right}
-use Rattle.std.proofs.lemmas.List.{append_cancel_left, drop-take, drop-drop}
+use Rattle.std.proofs.lemmas.List.{drop-take, drop-drop}
 use Rattle.std.proofs.lemmas.List.Edits.{get_or-between}
 use Rattle.rd_text.specs.Texts.{is_newline, is_blank}
 use Rattle.rd_text.specs.Stretches.{opens, closes, separated}
@@ -18,16 +18,9 @@ some_opening codes true some none =
 some_opening codes false some none =
     sym (none [] refl refl) ∙ separated-append codes [] ∙ ap (λ (b : Bool). b || separated []) some
 
--- the part that ends a range, as a range
-pub last_part : (xs : List ℕ) (from at : ℕ) (piece : List ℕ) → IsLastPiece xs from at piece → piece ≡ slice_range xs (at - length piece) at
-last_part xs from at piece is =
-    let fits = is.fits in
-    append_cancel_left (slice_range xs from (at - length piece)) piece (slice_range xs (at - length piece) at)
-    (sym is.same ∙ range_split xs from (at - length piece) at (omega arith) (omega arith))
-
 pub with_part : (xs : List ℕ) (from at to : ℕ) (piece : List ℕ) → IsLastPiece xs from at piece → at ≤ to → slice_range xs (at - length piece) to ≡ piece ++ slice_range xs at to
 with_part xs from at to piece is within =
-    range_split xs (at - length piece) at to (omega arith) within ∙ ap (λ (ys : List ℕ). ys ++ slice_range xs at to) (sym (last_part xs from at piece is))
+    range_split xs (at - length piece) at to (omega arith) within ∙ ap (λ (ys : List ℕ). ys ++ slice_range xs at to) (sym is.same)
 
 -- the range of a part that is cut
 cut_range : (xs : List ℕ) (a n b : ℕ) → a + n ≤ b → slice_range xs (a + n) b ≡ drop n (slice_range xs a b)
@@ -52,13 +45,13 @@ opening_found xs from at to n piece opened is within last some bound newline beg
     let start : ℕ = at - length piece in
     let part : slice_range xs (start + n) to ≡ drop n piece ++ slice_range xs at to
     = range_split xs (start + n) at to (omega arith) within
-    ∙ ap (λ (ys : List ℕ). ys ++ slice_range xs at to) (cut_range xs start n at (omega arith) ∙ ap (drop n) (sym (last_part xs from at piece is))) in
+    ∙ ap (λ (ys : List ℕ). ys ++ slice_range xs at to) (cut_range xs start n at (omega arith) ∙ ap (drop n) (sym is.same)) in
     record {
       first = omega arith;
       last = omega arith;
       clear = ap separated part ∙ stays (slice_range xs at to) begins clear;
       newline = λ _.
-          ap is_newline (sym (ap (λ (ys : List ℕ). get_or ys (n - 1) 0) (last_part xs from at piece is) ∙ get_or-between xs start at (n - 1) 0 (omega arith)
+          ap is_newline (sym (ap (λ (ys : List ℕ). get_or ys (n - 1) 0) is.same ∙ get_or-between xs start at (n - 1) 0 (omega arith)
           ∙ (let e : start + (n - 1) ≡ start + n - 1 = omega arith in ap (λ (k : ℕ). get_or xs k 0) e))) ∙ newline;
       begins = λ _. ap opens part ∙ goes (slice_range xs at to) begins;
     }

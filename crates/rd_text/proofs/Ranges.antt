@@ -1,13 +1,14 @@
 -- Parts of lists, and of lists with a gap.
 use Rattle.std.proofs.Common.{◌≡◌, ℕ, ◌+◌, ◌-◌, ◌<◌, ◌≤◌, Bool, List, [], ◌++◌, length, get_or, take, drop, refl, sym, ap, ◌∙◌, arith}
 use Rattle.std.specs.Prelude.{slice_range}
-use Rattle.std.specs.List.{prefix_len, suffix_len}
+use Rattle.std.specs.List.{count_by, prefix_len, suffix_len}
 use Rattle.std.proofs.Math.Seq.{take-add}
 use Rattle.std.proofs.lemmas.Bool.{eq-eqb, ne_eqb, cond-true, cond-false}
 use Rattle.std.proofs.lemmas.List.{drop-drop, length-take-le, length-drop, length-append, ext_get_or, get_or_append_left, get_or-append_right, get_or-take, get_or-drop, reverse-append, length-reverse}
 use Rattle.std.proofs.lemmas.List.Edits.{length-between, get_or-between}
 use Rattle.std.proofs.lemmas.List.Folds.{prefix_len-append}
 use Rattle.std.proofs.Common.{reverse}
+use Rattle.rd_base.proofs.Lists.{count-append}
 use Rattle.rd_text.specs.Pieces.{IsFirstPiece, IsLastPiece}
 
 pub range_split : (xs : List ℕ) (from mid to : ℕ) → from ≤ mid → mid ≤ to → slice_range xs from to ≡ slice_range xs from mid ++ slice_range xs mid to
@@ -60,79 +61,76 @@ module _ (xs : List ℕ) (front back : ℕ) (order : front ≤ back) (within : b
       range_same (take front xs ++ drop back xs) xs from to (from + (back - front)) (to + (back - front)) order' (omega arith) (omega arith) (omega arith) (omega arith)
       (λ k less. gap_back (from + k) 0 (omega arith) ∙ (let e : back + (from + k - front) ≡ from + (back - front) + k = omega arith in ap (λ (n : ℕ). get_or xs n 0) e))
 
--- searches that go on over a part, and that stop in it
-pub prefix_goes : (p : ℕ → Bool) (xs : List ℕ) (at to : ℕ) (piece : List ℕ) (n : ℕ) → n ≡ length piece → IsFirstPiece xs at to piece → prefix_len p piece ≡ length piece
+-- a range as the part that begins it and what follows, and as the part that ends it behind the rest
+pub first_range : (xs : List ℕ) (from to : ℕ) (piece : List ℕ) → IsFirstPiece xs from to piece → slice_range xs from to ≡ piece ++ slice_range xs (from + length piece) to
+first_range xs from to piece is =
+    let fits = is.fits in
+    range_split xs from (from + length piece) to (omega arith) fits ∙ ap (λ (ys : List ℕ). ys ++ slice_range xs (from + length piece) to) (sym is.same)
+
+pub last_range : (xs : List ℕ) (from to : ℕ) (piece : List ℕ) → IsLastPiece xs from to piece → slice_range xs from to ≡ slice_range xs from (to - length piece) ++ piece
+last_range xs from to piece is =
+    let fits = is.fits in
+    range_split xs from (to - length piece) to (omega arith) (omega arith) ∙ ap (λ (ys : List ℕ). slice_range xs from (to - length piece) ++ ys) (sym is.same)
+
+-- searches that go on over a part, and that stop in it, and a count that goes on over it
+pub prefix_goes : (p : ℕ → Bool) (xs : List ℕ) (at to : ℕ) (piece : List ℕ) (n : ℕ) → IsFirstPiece xs at to piece → n ≡ prefix_len p piece → n ≡ length piece
     → prefix_len p (slice_range xs at to) ≡ n + prefix_len p (slice_range xs (at + n) to)
-prefix_goes p xs at to piece n size is all =
-    rw size (ap (prefix_len p) is.same ∙ prefix_len-append p piece (slice_range xs (at + length piece) to) ∙ cond-true _ _ _ (eq-eqb _ _ all))
+prefix_goes p xs at to piece n is count size =
+    rw size (ap (prefix_len p) (first_range xs at to piece is) ∙ prefix_len-append p piece (slice_range xs (at + length piece) to) ∙ cond-true _ _ _ (eq-eqb _ _ (sym count ∙ size)))
 
-pub prefix_stops : (p : ℕ → Bool) (xs : List ℕ) (at to : ℕ) (piece : List ℕ) → IsFirstPiece xs at to piece → prefix_len p piece < length piece
-    → prefix_len p (slice_range xs at to) ≡ prefix_len p piece
-prefix_stops p xs at to piece is less =
+pub prefix_stops : (p : ℕ → Bool) (xs : List ℕ) (at to : ℕ) (piece : List ℕ) (n : ℕ) → IsFirstPiece xs at to piece → n ≡ prefix_len p piece → n < length piece
+    → prefix_len p (slice_range xs at to) ≡ n
+prefix_stops p xs at to piece n is count less =
     let apart : prefix_len p piece ≡ length piece → ⊥ = λ e. absurd (omega arith) in
-    ap (prefix_len p) is.same ∙ prefix_len-append p piece (slice_range xs (at + length piece) to) ∙ cond-false _ _ _ (ne_eqb _ _ apart)
+    ap (prefix_len p) (first_range xs at to piece is) ∙ prefix_len-append p piece (slice_range xs (at + length piece) to) ∙ cond-false _ _ _ (ne_eqb _ _ apart) ∙ sym count
 
-pub suffix_goes : (p : ℕ → Bool) (xs : List ℕ) (from at : ℕ) (piece : List ℕ) (n : ℕ) → n ≡ length piece → IsLastPiece xs from at piece → suffix_len p piece ≡ length piece
+pub suffix_goes : (p : ℕ → Bool) (xs : List ℕ) (from at : ℕ) (piece : List ℕ) (n : ℕ) → IsLastPiece xs from at piece → n ≡ suffix_len p piece → n ≡ length piece
     → suffix_len p (slice_range xs from at) ≡ n + suffix_len p (slice_range xs from (at - n))
-suffix_goes p xs from at piece n same is all =
+suffix_goes p xs from at piece n is count size =
     let rest = slice_range xs from (at - length piece) in
-    let size = length-reverse piece in
+    let turned = length-reverse piece in
     let whole : prefix_len p (reverse piece) ≡ length (reverse piece) = omega arith in
-    rw same (ap (suffix_len p) is.same ∙ ap (prefix_len p) (reverse-append rest piece) ∙ prefix_len-append p (reverse piece) (reverse rest) ∙ cond-true _ _ _ (eq-eqb _ _ whole)
-    ∙ ap (λ (n : ℕ). n + prefix_len p (reverse rest)) size)
+    rw size (ap (suffix_len p) (last_range xs from at piece is) ∙ ap (prefix_len p) (reverse-append rest piece) ∙ prefix_len-append p (reverse piece) (reverse rest)
+    ∙ cond-true _ _ _ (eq-eqb _ _ whole) ∙ ap (λ (n : ℕ). n + prefix_len p (reverse rest)) turned)
 
-pub suffix_stops : (p : ℕ → Bool) (xs : List ℕ) (from at : ℕ) (piece : List ℕ) → IsLastPiece xs from at piece → suffix_len p piece < length piece
-    → suffix_len p (slice_range xs from at) ≡ suffix_len p piece
-suffix_stops p xs from at piece is less =
+pub suffix_stops : (p : ℕ → Bool) (xs : List ℕ) (from at : ℕ) (piece : List ℕ) (n : ℕ) → IsLastPiece xs from at piece → n ≡ suffix_len p piece → n < length piece
+    → suffix_len p (slice_range xs from at) ≡ n
+suffix_stops p xs from at piece n is count less =
     let rest = slice_range xs from (at - length piece) in
-    let size = length-reverse piece in
+    let turned = length-reverse piece in
     let apart : prefix_len p (reverse piece) ≡ length (reverse piece) → ⊥ = λ e. absurd (omega arith) in
-    ap (suffix_len p) is.same ∙ ap (prefix_len p) (reverse-append rest piece) ∙ prefix_len-append p (reverse piece) (reverse rest)
-    ∙ cond-false _ _ _ (ne_eqb _ _ apart)
+    ap (suffix_len p) (last_range xs from at piece is) ∙ ap (prefix_len p) (reverse-append rest piece) ∙ prefix_len-append p (reverse piece) (reverse rest)
+    ∙ cond-false _ _ _ (ne_eqb _ _ apart) ∙ sym count
+
+pub count_goes : (p : ℕ → Bool) (xs : List ℕ) (at to : ℕ) (piece : List ℕ) (n : ℕ) → IsFirstPiece xs at to piece → n ≡ length piece
+    → count_by p (slice_range xs at to) ≡ count_by p piece + count_by p (slice_range xs (at + n) to)
+count_goes p xs at to piece n is size =
+    rw size (ap (count_by p) (first_range xs at to piece is) ∙ count-append p piece (slice_range xs (at + length piece) to))
 
 -- a part that lies together at places before the gap, and behind it
-module _ (xs : List ℕ) (front back from to : ℕ) (piece : List ℕ) (order : front ≤ back) (within : back ≤ length xs) (some : 0 < length piece)
+module _ (xs : List ℕ) (front back from to : ℕ) (piece : List ℕ) (order : front ≤ back) (within : back ≤ length xs)
     (last : to ≤ length (take front xs ++ drop back xs)) where
-  pub first_front : from + length piece ≤ to → from + length piece ≤ front → piece ≡ slice_range xs from (from + length piece) → IsFirstPiece (take front xs ++ drop back xs) from to piece
-  first_front fits before is = record {
-    some = some;
-    fits = fits;
-    same = range_split (take front xs ++ drop back xs) from (from + length piece) to (omega arith) fits
-        ∙ ap (λ (ys : List ℕ). ys ++ slice_range (take front xs ++ drop back xs) (from + length piece) to)
-        (range_front xs front back order within from (from + length piece) (omega arith) before ∙ sym is);
-  }
+  pub first_front : (stop : ℕ) → stop ≤ to → stop ≤ front → IsFirstPiece xs from stop piece → IsFirstPiece (take front xs ++ drop back xs) from to piece
+  first_front stop inside before is =
+      let fits = is.fits in
+      record { some = is.some; fits = omega arith; same = is.same ∙ sym (range_front xs front back order within from (from + length piece) (omega arith) (omega arith)) }
 
-  pub first_back : front ≤ from → from + length piece ≤ to → piece ≡ slice_range xs (from + (back - front)) (from + (back - front) + length piece) → IsFirstPiece (take front xs ++ drop back xs) from to piece
-  first_back behind fits is =
+  pub first_back : front ≤ from → IsFirstPiece xs (from + (back - front)) (to + (back - front)) piece → IsFirstPiece (take front xs ++ drop back xs) from to piece
+  first_back behind is =
       let size = length-gap xs front back order within in
-      let place : from + length piece + (back - front) ≡ from + (back - front) + length piece = omega arith in
-      record {
-        some = some;
-        fits = fits;
-        same = range_split (take front xs ++ drop back xs) from (from + length piece) to (omega arith) fits
-            ∙ ap (λ (ys : List ℕ). ys ++ slice_range (take front xs ++ drop back xs) (from + length piece) to)
-            (range_back xs front back order within from (from + length piece) behind (omega arith) (omega arith)
-            ∙ ap (slice_range xs (from + (back - front))) place ∙ sym is);
-      }
+      let fits = is.fits in
+      let place : from + (back - front) + length piece ≡ from + length piece + (back - front) = omega arith in
+      let part = range_back xs front back order within from (from + length piece) behind (omega arith) (omega arith) in
+      record { some = is.some; fits = omega arith; same = is.same ∙ ap (slice_range xs (from + (back - front))) place ∙ sym part }
 
-  pub last_front : from + length piece ≤ to → to ≤ front → piece ≡ slice_range xs (to - length piece) to → IsLastPiece (take front xs ++ drop back xs) from to piece
-  last_front fits before is = record {
-    some = some;
-    fits = fits;
-    same = range_split (take front xs ++ drop back xs) from (to - length piece) to (omega arith) (omega arith)
-        ∙ ap (λ (ys : List ℕ). slice_range (take front xs ++ drop back xs) from (to - length piece) ++ ys)
-        (range_front xs front back order within (to - length piece) to (omega arith) before ∙ sym is);
-  }
+  pub last_front : to ≤ front → IsLastPiece xs from to piece → IsLastPiece (take front xs ++ drop back xs) from to piece
+  last_front before is =
+      record { some = is.some; fits = is.fits; same = is.same ∙ sym (range_front xs front back order within (to - length piece) to (omega arith) before) }
 
-  pub last_back : front + length piece ≤ to → from + length piece ≤ to → piece ≡ slice_range xs (to + (back - front) - length piece) (to + (back - front)) → IsLastPiece (take front xs ++ drop back xs) from to piece
-  last_back behind fits is =
+  pub last_back : (start : ℕ) → from ≤ start → front ≤ start → IsLastPiece xs (start + (back - front)) (to + (back - front)) piece → IsLastPiece (take front xs ++ drop back xs) from to piece
+  last_back start inside behind is =
       let size = length-gap xs front back order within in
-      let place : to - length piece + (back - front) ≡ to + (back - front) - length piece = omega arith in
-      record {
-        some = some;
-        fits = fits;
-        same = range_split (take front xs ++ drop back xs) from (to - length piece) to (omega arith) (omega arith)
-            ∙ ap (λ (ys : List ℕ). slice_range (take front xs ++ drop back xs) from (to - length piece) ++ ys)
-            (range_back xs front back order within (to - length piece) to (omega arith) (omega arith) (omega arith)
-            ∙ ap (λ (n : ℕ). slice_range xs n (to + (back - front))) place ∙ sym is);
-      }
+      let fits = is.fits in
+      let place : to + (back - front) - length piece ≡ to - length piece + (back - front) = omega arith in
+      let part = range_back xs front back order within (to - length piece) to (omega arith) (omega arith) (omega arith) in
+      record { some = is.some; fits = omega arith; same = is.same ∙ ap (λ (n : ℕ). slice_range xs n (to + (back - front))) place ∙ sym part }

@@ -15,6 +15,13 @@ abbrev pub AreSummed : List ℕ → List Stretch → ℕ → ℕ → Type 0
 AreSummed codes stretches from to = (k : ℕ) (d : Stretch) → from ≤ k * 1024 → k * 1024 + 1024 ≤ to
     → slice_index_or stretches k d ≡ summary (slice_range codes (k * 1024) (k * 1024 + 1024))
 
+-- places of a text from one to another, with what is kept of the stretches there
+pub record AreStretches (codes : List ℕ) (stretches : List Stretch) (from to : ℕ) : Type 0 where
+  pub last : to ≤ length codes
+  pub short : length codes ≤ most_characters
+  pub covered : length codes ≤ length stretches * 1024
+  pub summed : AreSummed codes stretches from to
+
 -- places with a free part, and what is kept of their stretches
 pub record IsGapped (codes : List ℕ) (stretches : List Stretch) (front back : ℕ) : Type 0 where
   pub order : front ≤ back

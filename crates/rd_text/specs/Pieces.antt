@@ -1,5 +1,5 @@
 -- Parts of a text that lie together in memory, and what searches by them find.
-use Rattle.std.specs.Prelude.{◌≡◌, ℕ, ◌+◌, ◌-◌, ◌<◌, ◌≤◌, Bool, true, false, Option, IfSome, List, ◌++◌, length, slice_index, slice_range}
+use Rattle.std.specs.Prelude.{◌≡◌, ℕ, ◌+◌, ◌-◌, ◌<◌, ◌≤◌, Bool, true, false, Option, IfSome, List, length, slice_index, slice_range}
 use Rattle.rd_text.specs.Texts.{is_newline, is_ink}
 use Rattle.rd_text.specs.Stretches.{summary, opens, separated}
 use Rattle.rd_text.specs.declared.stretch.Stretch.{Stretch}
@@ -15,12 +15,12 @@ pub record IsPiece (codes : List ℕ) (known : Option Stretch) : Type 0 where
 pub record IsFirstPiece (text : List ℕ) (from to : ℕ) (piece : List ℕ) : Type 0 where
   pub some : 0 < length piece
   pub fits : from + length piece ≤ to
-  pub same : slice_range text from to ≡ piece ++ slice_range text (from + length piece) to
+  pub same : piece ≡ slice_range text from (from + length piece)
 
 pub record IsLastPiece (text : List ℕ) (from to : ℕ) (piece : List ℕ) : Type 0 where
   pub some : 0 < length piece
   pub fits : from + length piece ≤ to
-  pub same : slice_range text from to ≡ slice_range text from (to - length piece) ++ piece
+  pub same : piece ≡ slice_range text (to - length piece) to
 
 -- whether a character is what a search looks for
 abbrev pub is_sought : Sought → ℕ → Bool

@@ -2,7 +2,7 @@
 ghost use Rattle.std.specs.Prelude.{◌≡◌, ◌+◌, ◌*◌, ◌/◌, ◌-◌, ◌<◌, ◌≤◌, not, length, slice_range};
 ghost use Rattle.std.specs.List.{count_by, position_or_len, suffix_len};
 ghost use Rattle.rd_text.specs.Texts.{is_newline};
-ghost use Rattle.rd_text.specs.Gaps.{text_of, IsGapText, AreSummed};
+ghost use Rattle.rd_text.specs.Gaps.{text_of, IsGapText, AreStretches};
 ghost use Rattle.rd_text.specs.Pieces.{IsPiece, IsFirstPiece, IsLastPiece, IsOpening, is_sought};
 
 use crate::gap::{GapText, STRETCH};
@@ -10,7 +10,6 @@ use crate::lines::Sought;
 use crate::opening::last_opening;
 use crate::piece::Piece;
 use crate::stretch::Stretch;
-use rd_base::limits::TEXT_CHARACTERS;
 
 impl GapText {
     /// How many characters stand from one index on before the first newline, and all up to another index where there is none.
@@ -54,6 +53,7 @@ impl GapText {
     }
 
     /// How many newlines stand from one index to another, that one not included.
+    #[tactic(auto, using(crate::proofs::Ranges::count_goes))]
     pub(crate) fn newlines(&self, from: usize, to: usize) -> u32
         requires right { IsGapText self.now }
         requires order { from ≤ to }
@@ -130,14 +130,9 @@ impl GapText {
 /// The codes at the places from one on that lie in its stretch and before another place.
 fn first_of<'a>(codes: &'a [u32], stretches: &[Stretch], from: usize, to: usize) -> Piece<'a>
     requires order { from < to }
-    requires last { to ≤ length codes.now }
-    requires short { length codes.now ≤ TEXT_CHARACTERS }
-    requires covered { length codes.now ≤ length stretches.now * 1024 }
-    requires summed { AreSummed codes.now stretches.now from to }
+    requires right { AreStretches codes.now stretches.now from to }
+    ensures part { IsFirstPiece codes.now from to result.codes.now }
     ensures right { IsPiece result.codes.now result.known }
-    ensures some { 0 < length result.codes.now }
-    ensures fits { from + length result.codes.now ≤ to }
-    ensures same { result.codes.now ≡ slice_range codes.now from (from + length result.codes.now) }
 {
     let stop = to.min((from / STRETCH + 1) * STRETCH);
     part_of(codes, stretches, from, stop)
@@ -146,14 +141,9 @@ fn first_of<'a>(codes: &'a [u32], stretches: &[Stretch], from: usize, to: usize)
 /// The codes at the places before one that lie in the last one's stretch and from another place on.
 fn last_of<'a>(codes: &'a [u32], stretches: &[Stretch], from: usize, to: usize) -> Piece<'a>
     requires order { from < to }
-    requires last { to ≤ length codes.now }
-    requires short { length codes.now ≤ TEXT_CHARACTERS }
-    requires covered { length codes.now ≤ length stretches.now * 1024 }
-    requires summed { AreSummed codes.now stretches.now from to }
+    requires right { AreStretches codes.now stretches.now from to }
+    ensures part { IsLastPiece codes.now from to result.codes.now }
     ensures right { IsPiece result.codes.now result.known }
-    ensures some { 0 < length result.codes.now }
-    ensures fits { from + length result.codes.now ≤ to }
-    ensures same { result.codes.now ≡ slice_range codes.now (to - length result.codes.now) to }
 {
     let start = from.max((to - 1) / STRETCH * STRETCH);
     part_of(codes, stretches, start, to)
@@ -163,10 +153,7 @@ fn last_of<'a>(codes: &'a [u32], stretches: &[Stretch], from: usize, to: usize) 
 fn part_of<'a>(codes: &'a [u32], stretches: &[Stretch], from: usize, to: usize) -> Piece<'a>
     requires order { from ≤ to }
     requires stretch { to ≤ (from / 1024 + 1) * 1024 }
-    requires last { to ≤ length codes.now }
-    requires short { length codes.now ≤ TEXT_CHARACTERS }
-    requires covered { length codes.now ≤ length stretches.now * 1024 }
-    requires summed { AreSummed codes.now stretches.now from to }
+    requires right { AreStretches codes.now stretches.now from to }
     ensures right { IsPiece result.codes.now result.known }
     ensures value { result.codes.now ≡ slice_range codes.now from to }
     ensures len { length result.codes.now + from ≡ to }
