@@ -1,6 +1,7 @@
 -- Rows that are moved.
-use Rattle.std.proofs.Common.{◌≡◌, ℕ, zero, suc, ◌+◌, ◌-◌, ◌<◌, ◌≤◌, false, List, [], ◌++◌, length, get_or, map, take, drop, replicate, sym, ap, ap₂, ◌∙◌, arith, All}
-use Rattle.std.specs.Prelude.{ℤ, pos, negsuc, neg_ℤ, unsigned_abs}
+use Rattle.std.proofs.Common.{◌≡◌, ℕ, zero, suc, ◌+◌, ◌-◌, ◌<◌, ◌≤◌, ◌⊎◌, inl, inr, List, [], ◌++◌, length, get_or, map, take, drop, replicate, sym, ap, ap₂, ◌∙◌, arith, All}
+use Rattle.std.specs.Prelude.{ℤ, pos, negsuc, ◌+ℤ◌, ◌<ℤ◌, ◌≤ℤ◌, neg_ℤ, unsigned_abs}
+use Rattle.std.proofs.lemmas.Int.{ints}
 use Rattle.std.proofs.lemmas.List.{get_or_append_left, get_or-append_right, get_or-take, get_or-drop, get_or-replicate, map-append, length-map, length-append, length-take-le, length-drop, length-replicate, take_all, take-map, drop-map, drop-take, drop-drop, take-take, take-append-drop}
 use Rattle.std.proofs.lemmas.List.Elements.{recursion_from_All, All-append, All-take, All-drop, All-replicate}
 use Rattle.rd_base.specs.declared.cell.Cell.{Cell}
@@ -9,7 +10,7 @@ use Rattle.rd_term.proofs.Cutting.{map-replicate}
 use Rattle.rd_update.specs.Updates.{differing}
 use Rattle.rd_update.proofs.Spans.{three-parts}
 use Rattle.rd_lineshift.specs.Choices.{cost, shift_by}
-use Rattle.rd_lineshift.specs.Laws.{IsShift, is_up}
+use Rattle.rd_lineshift.specs.Laws.{IsShift}
 use Rattle.rd_lineshift.specs.Numbers.{number_cost, number_in, unlike, unlike_moved}
 use Rattle.rd_lineshift.specs.Shifts.{moved, shifted_rows}
 use Rattle.rd_lineshift.specs.declared.band.Band.{Band}
@@ -206,32 +207,52 @@ row-within s free rows row h le lt =
 part-row : (rows : List (List Cell)) (t h k : ℕ) → k < h → get_or (take (t + h - t) (drop t rows)) k [] ≡ get_or rows (t + k) []
 part-row rows t h k lt = get_or-take (t + h - t) (drop t rows) k [] (omega arith) ∙ get_or-drop t rows k []
 
-down-kept : (by : ℤ) (free : List Cell) (P : List (List Cell)) (k : ℕ) → is_up by ≡ false → unsigned_abs by ≤ k → k < length P → get_or (moved by free P) k [] ≡ get_or P (k - unsigned_abs by) []
-down-kept (pos n) free P k up le lt = absurd (cc)
-down-kept (negsuc n) free P k up le lt =
-    get_or-append_right (replicate (suc n) free) (take (length P - suc n) P) (suc n) k [] (length-replicate (suc n) free) le
-    ∙ get_or-take (length P - suc n) P (k - suc n) [] (omega arith)
+-- by the number of a row of the band after a move, and where it stood before, which is in the band or not
+moved-kept : (by : ℤ) (free : List Cell) (P : List (List Cell)) (k j : ℕ) → k < length P → j < length P → pos k +ℤ by ≡ pos j → get_or (moved by free P) k [] ≡ get_or P j []
+moved-kept (pos n) free P k j less within from =
+    let sum : n + k ≡ j = omega (arith, ints, from) in
+    get_or_append_left (drop n P) (replicate n free) [] k (omega (arith, length-drop n P))
+    ∙ get_or-drop n P k []
+    ∙ ap (λ i. get_or P i []) sum
+moved-kept (negsuc n) free P k j less within from =
+    let sum : j + suc n ≡ k = omega (arith, ints, from) in
+    let back : k - suc n ≡ j = omega (arith, sum) in
+    get_or-append_right (replicate (suc n) free) (take (length P - suc n) P) (suc n) k [] (length-replicate (suc n) free) (omega (arith, sum))
+    ∙ get_or-take (length P - suc n) P (k - suc n) [] (omega (arith, sum))
+    ∙ ap (λ i. get_or P i []) back
 
-down-free : (by : ℤ) (free : List Cell) (P : List (List Cell)) (k : ℕ) → is_up by ≡ false → k < unsigned_abs by → get_or (moved by free P) k [] ≡ free
-down-free (pos n) free P k up lt = absurd (cc)
-down-free (negsuc n) free P k up lt =
-    get_or_append_left (replicate (suc n) free) (take (length P - suc n) P) [] k (omega (arith, length-replicate (suc n) free))
-    ∙ get_or-replicate (suc n) k free [] lt
+moved-free : (by : ℤ) (free : List Cell) (P : List (List Cell)) (k : ℕ) → unsigned_abs by ≤ length P → k < length P → ((pos k +ℤ by) <ℤ pos 0) ⊎ (pos (length P) ≤ℤ (pos k +ℤ by))
+    → get_or (moved by free P) k [] ≡ free
+moved-free (pos n) free P k few less (inl above) = absurd (omega (arith, ints, above))
+moved-free (pos n) free P k few less (inr below) =
+    let past : length P ≤ k + n = omega (arith, ints, below) in
+    get_or-append_right (drop n P) (replicate n free) (length P - n) k [] (length-drop n P) (omega (arith, past))
+    ∙ get_or-replicate n (k - (length P - n)) free [] (omega (arith, past))
+moved-free (negsuc n) free P k few less (inl above) =
+    let short : k < suc n = omega (arith, ints, above) in
+    get_or_append_left (replicate (suc n) free) (take (length P - suc n) P) [] k (omega (arith, short, length-replicate (suc n) free))
+    ∙ get_or-replicate (suc n) k free [] short
+moved-free (negsuc n) free P k few less (inr below) = absurd (omega (arith, ints, below))
 
-pub row-down : (s : Shift) (free : List Cell) (rows : List (List Cell)) (row : ℕ) → IsShift (length rows) s → is_up s.by ≡ false → s.top + unsigned_abs s.by ≤ row → row < s.top + s.height
-    → get_or rows (row - unsigned_abs s.by) [] ≡ get_or (shifted_rows s free rows) row []
-row-down s free rows row h up le lt =
-    let P = take (s.top + s.height - s.top) (drop s.top rows) in
+pub row-kept : (s : Shift) (free : List Cell) (rows : List (List Cell)) (row j : ℕ) → IsShift (length rows) s → s.top ≤ row → row < s.top + s.height
+    → s.top ≤ j → j < s.top + s.height → pos row +ℤ s.by ≡ pos j → get_or rows j [] ≡ get_or (shifted_rows s free rows) row []
+row-kept s free rows row j h le lt from to origin =
     let n = row-part s rows h.within in
-    let place : s.top + (row - s.top - unsigned_abs s.by) ≡ row - unsigned_abs s.by = omega arith in
+    let same : pos (row - s.top) +ℤ s.by ≡ pos (j - s.top) = omega (arith, ints, origin) in
+    let place : s.top + (j - s.top) ≡ j = omega arith in
     sym (
-    row-within s free rows row h (omega arith) lt
-    ∙ down-kept s.by free P (row - s.top) up (omega arith) (omega (arith, n))
-    ∙ part-row rows s.top s.height (row - s.top - unsigned_abs s.by) (omega arith)
+    row-within s free rows row h le lt
+    ∙ moved-kept s.by free (take (s.top + s.height - s.top) (drop s.top rows)) (row - s.top) (j - s.top) (omega (arith, n)) (omega (arith, n)) same
+    ∙ part-row rows s.top s.height (j - s.top) (omega arith)
     ∙ ap (λ k. get_or rows k []) place)
 
-pub row-down-free : (s : Shift) (free : List Cell) (rows : List (List Cell)) (row : ℕ) → IsShift (length rows) s → is_up s.by ≡ false → s.top ≤ row → row < s.top + s.height → row < s.top + unsigned_abs s.by
-    → free ≡ get_or (shifted_rows s free rows) row []
-row-down-free s free rows row h up le lt near =
+pub row-free : (s : Shift) (free : List Cell) (rows : List (List Cell)) (row : ℕ) → IsShift (length rows) s → s.top ≤ row → row < s.top + s.height
+    → ((pos row +ℤ s.by) <ℤ pos s.top) ⊎ (pos (s.top + s.height) ≤ℤ (pos row +ℤ s.by)) → free ≡ get_or (shifted_rows s free rows) row []
+row-free s free rows row h le lt origin =
     let P = take (s.top + s.height - s.top) (drop s.top rows) in
-    sym (row-within s free rows row h le lt ∙ down-free s.by free P (row - s.top) up (omega arith))
+    let n = row-part s rows h.within in
+    let outside : ((pos (row - s.top) +ℤ s.by) <ℤ pos 0) ⊎ (pos (length P) ≤ℤ (pos (row - s.top) +ℤ s.by)) = elim origin [
+      | inl above ↦ inl (omega (arith, ints, above))
+      | inr below ↦ inr (omega (arith, ints, below, n))
+    ] in
+    sym (row-within s free rows row h le lt ∙ moved-free s.by free P (row - s.top) (omega (arith, n, h.left)) (omega (arith, n)) outside)
