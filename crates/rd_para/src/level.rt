@@ -41,11 +41,8 @@ pub fn paragraph_at(text: &Buffer, classes: &Classes, pos: Pos) -> Paragraph
     let to = text.next_newline(pos);
     let place = begin.max(text.prev_ink(to) - 1);
     let from = text.paragraph_start(place);
-    Paragraph {
-        from,
-        to,
-        base: paragraph_level(text, classes, from),
-    }
+    let base = paragraph_level(text, classes, from);
+    Paragraph { from, to, base }
 }
 
 /// The paragraph of the line behind one that is known: the same, further, unless a text line follows a separator. So whoever
@@ -70,11 +67,8 @@ pub fn next_line(text: &Buffer, classes: &Classes, known: &Paragraph) -> Paragra
             base: known.base,
         };
     }
-    Paragraph {
-        from,
-        to,
-        base: paragraph_level(text, classes, from),
-    }
+    let base = paragraph_level(text, classes, from);
+    Paragraph { from, to, base }
 }
 
 /// The level of a paragraph that begins at a position.

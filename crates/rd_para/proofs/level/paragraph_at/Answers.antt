@@ -53,9 +53,9 @@ overflow_sub-prev_ink c = omega (arith, (within (goal.at.overflow_sub-prev_ink c
 pub paragraph_start-from-requires : goal.paragraph_start-from-requires
 paragraph_start-from-requires c = let at = goal.at.paragraph_start-from-requires c in placed at.After-max-place (within at.After-next_newline-to)
 
-pub paragraph_level-requires : goal.paragraph_level-requires
-paragraph_level-requires c =
-    let at = goal.at.paragraph_level-requires c in
+pub paragraph_level-base-requires : goal.paragraph_level-base-requires
+paragraph_level-base-requires c =
+    let at = goal.at.paragraph_level-base-requires c in
     let (low, high) = placed at.After-max-place (within at.After-next_newline-to) in
     let start = c.paragraph_start-from.ensures in
     (start.first, omega (arith, start.order, high))
@@ -85,7 +85,7 @@ returns c =
         order = omega arith;
         last = omega arith;
         ends = is ∙ ends_itself t right c.args.pos c.requires.0 c.requires.1 ∙ ap (next_newline t) (sym is);
-        same = λ p low high. level p low (omega arith) ∙ sym c.paragraph_level.ensures;
+        same = λ p low high. level p low (omega arith) ∙ sym c.paragraph_level-base.ensures;
       };
       start = subst (λ (n : ℕ). IsParagraphStart t n from) whole start;
       low = before;
