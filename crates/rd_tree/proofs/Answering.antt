@@ -1,14 +1,16 @@
 -- What the calls say, from the window that was found.
-use Rattle.std.proofs.Common.{◌≡◌, ℕ, suc, ◌≤◌, ◌<◌, Bool, true, false, nat_le, length, None, Some, Ok, Err, refl, sym, ap, ◌∙◌, arith}
-use Rattle.std.specs.Prelude.{is_some}
-use Rattle.std.proofs.lemmas.Bool.{or_left, or_right, or_from}
+use Rattle.std.proofs.Common.{◌≡◌, ℕ, suc, ◌≤◌, ◌<◌, Bool, true, false, ◌==◌, nat_le, length, List, [], ◌∷◌, Option, None, Some, Result, Ok, Err, inl, inr, refl, sym, ap, ◌∙◌, arith}
+use Rattle.std.specs.Prelude.{is_some, ⊤}
+use Rattle.std.proofs.lemmas.Bool.{cases_Bool, eqb-true, or_left, or_right, or_from}
 use Rattle.std.proofs.lemmas.Bool.Decides.{nat_tests}
+use Rattle.rd_tree.specs.declared.rect.Rect.{Rect}
 use Rattle.rd_tree.specs.declared.side.Side.{Side}
 use Rattle.rd_tree.specs.declared.placed.Placed.{Placed}
+use Rattle.rd_tree.specs.declared.fault.TreeFault.{TreeFault}
 use Rattle.rd_tree.specs.declared.fault.TreeFault.TheVariants.{NoWindow, TooSmall, TooMany}
-use Rattle.rd_tree.specs.Windows.{Window, Split, HasRoom, fits, leaves, window_at, holds, halves, split_at, with_mode, with_margins}
-use Rattle.rd_tree.specs.Calls.{Configuration, frame_of, is_full, split_tree, mode_tree, margins_tree}
-use Rattle.rd_tree.proofs.Keeping.{found_held, replaced_fits}
+use Rattle.rd_tree.specs.Windows.{Windows, Window, Split, HasRoom, fits, leaves, placed, of_number, window_at, holds, halves, split_at, dressed}
+use Rattle.rd_tree.specs.Calls.{Configuration, frame_of, is_full, split_tree, changed_to, mode_tree, margins_tree, rect_of_placed, rect_of, Answers}
+use Rattle.rd_tree.proofs.Keeping.{found_held, replaced_fits, replaced_found}
 
 not_held : (c : Configuration) (w : ℕ) → window_at w c.windows (frame_of c) ≡ None → holds w c.windows ≡ false
 not_held c w e = sym (found_held w c.windows (frame_of c)) ∙ ap is_some e
@@ -46,34 +48,56 @@ full_of_numbers c p = or_right (nat_le 64 (length (leaves c.windows))) (nat_le 4
 pub not_full : (c : Configuration) → length (leaves c.windows) < 64 → c.made < 4294967295 → is_full c ≡ false
 not_full c p q = or_from (nat_le 64 (length (leaves c.windows))) (nat_le 4294967295 c.made) (grind (arith, nat_tests)) (grind (arith, nat_tests))
 
--- whether a mode line leaves room
-pub mode_room : (c : Configuration) (w : ℕ) (shown : Bool) (window : Placed) → HasRoom c.windows (frame_of c) → window_at w c.windows (frame_of c) ≡ Some window → fits (with_mode w shown c.windows) (frame_of c) ≡ fits (Window window.number shown window.margins) window.rect
-mode_room c w shown window room e = replaced_fits w (λ _ margins. Window w shown margins) c.windows (frame_of c) window room e
+found_number : (w : ℕ) (windows : List Placed) (window : Placed) → of_number w windows ≡ Some window → window.number ≡ w
+found_number w [] window e = absurd (cc)
+found_number w (p ∷ windows) window e =
+    elim (cases_Bool (p.number == w)) [
+      | inl q ↦ let same : Some p ≡ Some window = rw q at e in let p_is : p ≡ window = cc in ap (λ (p : Placed). p.number) (sym p_is) ∙ eqb-true p.number w q
+      | inr q ↦ found_number w windows window (rw q at e)
+    ]
 
-pub mode_unknown : (c : Configuration) (w : ℕ) (shown : Bool) → window_at w c.windows (frame_of c) ≡ None → mode_tree c w shown ≡ Err NoWindow
+-- a window that was found stands in its rectangle
+pub found_rect : (c : Configuration) (w : ℕ) (found : Option Placed) (window : Placed) → found ≡ window_at w c.windows (frame_of c) → found ≡ Some window → rect_of window.number c ≡ Some window.rect
+found_rect c w found window looked e = rw (found_number w (placed c.windows (frame_of c)) window (sym looked ∙ e)) (ap rect_of_placed (sym looked ∙ e))
+
+in_rect : (found : Option Placed) (rect : Rect) → rect_of_placed found ≡ Some rect → (window : Placed) × (found ≡ Some window) × (window.rect ≡ rect)
+in_rect None rect e = absurd (cc)
+in_rect (Some window) rect e = (window, refl, cc)
+
+-- a window that stands in its rectangle is among the windows, and its change leaves room where it has room then
+pub dressed_room : (c : Configuration) (window : Placed) → HasRoom c.windows (frame_of c) → rect_of window.number c ≡ Some window.rect
+    → (holds window.number c.windows ≡ true) × (fits (dressed window c.windows) (frame_of c) ≡ fits (Window window.number window.mode window.margins) window.rect)
+dressed_room c window room e =
+    let old = in_rect (window_at window.number c.windows (frame_of c)) window.rect e in
+    let as_said : Bool → ℕ → Windows = λ _ _. Window window.number window.mode window.margins in
+    (found_is_held c window.number old.0 old.1, replaced_fits window.number as_said c.windows (frame_of c) old.0 room old.1 ∙ ap (fits (Window window.number window.mode window.margins)) old.2)
+
+pub changed_small : (c : Configuration) (windows : Windows) → fits windows (frame_of c) ≡ false → changed_to c windows ≡ Err TooSmall
+changed_small c windows f = rw f refl
+
+pub changed_done : (c : Configuration) (windows : Windows) → fits windows (frame_of c) ≡ true → changed_to c windows ≡ Ok (record c { windows = windows })
+changed_done c windows f = rw f refl
+
+pub mode_unknown : (c : Configuration) (w : ℕ) (shown : Bool) (found : Option Placed) → found ≡ window_at w c.windows (frame_of c) → found ≡ None → mode_tree c w shown ≡ Err NoWindow
 unfolding mode_tree
-mode_unknown c w shown e = rw (not_held c w e) refl
+mode_unknown c w shown found looked e = rw (not_held c w (sym looked ∙ e)) refl
 
-pub mode_small : (c : Configuration) (w : ℕ) (shown : Bool) → holds w c.windows ≡ true → fits (with_mode w shown c.windows) (frame_of c) ≡ false → mode_tree c w shown ≡ Err TooSmall
+-- another mode line, by the window that was found
+pub mode_found : (result : Result ⊤ TreeFault) (c d : Configuration) (w : ℕ) (shown : Bool) (found : Option Placed) (window : Placed) → found ≡ window_at w c.windows (frame_of c) → found ≡ Some window
+    → Answers result (changed_to c (dressed (record window { mode = shown }) c.windows)) c d → Answers result (mode_tree c w shown) c d
 unfolding mode_tree
-mode_small c w shown h f = rw (h, f) refl
+mode_found result c d w shown found window looked e =
+    let here = sym looked ∙ e in
+    rw (found_is_held c w window here, found_number w (placed c.windows (frame_of c)) window here, replaced_found w (λ _ margins. Window w shown margins) c.windows (frame_of c) window here) (λ a. a)
 
-pub mode_done : (c : Configuration) (w : ℕ) (shown : Bool) → holds w c.windows ≡ true → fits (with_mode w shown c.windows) (frame_of c) ≡ true → mode_tree c w shown ≡ Ok (record c { windows = with_mode w shown c.windows })
-unfolding mode_tree
-mode_done c w shown h f = rw (h, f) refl
-
--- whether margins leave room
-pub margins_room : (c : Configuration) (w columns : ℕ) (window : Placed) → HasRoom c.windows (frame_of c) → window_at w c.windows (frame_of c) ≡ Some window → fits (with_margins w columns c.windows) (frame_of c) ≡ fits (Window window.number window.mode columns) window.rect
-margins_room c w columns window room e = replaced_fits w (λ mode _. Window w mode columns) c.windows (frame_of c) window room e
-
-pub margins_unknown : (c : Configuration) (w columns : ℕ) → window_at w c.windows (frame_of c) ≡ None → margins_tree c w columns ≡ Err NoWindow
+pub margins_unknown : (c : Configuration) (w columns : ℕ) (found : Option Placed) → found ≡ window_at w c.windows (frame_of c) → found ≡ None → margins_tree c w columns ≡ Err NoWindow
 unfolding margins_tree
-margins_unknown c w columns e = rw (not_held c w e) refl
+margins_unknown c w columns found looked e = rw (not_held c w (sym looked ∙ e)) refl
 
-pub margins_small : (c : Configuration) (w columns : ℕ) → holds w c.windows ≡ true → fits (with_margins w columns c.windows) (frame_of c) ≡ false → margins_tree c w columns ≡ Err TooSmall
+-- other margins, by the window that was found
+pub margins_found : (result : Result ⊤ TreeFault) (c d : Configuration) (w columns : ℕ) (found : Option Placed) (window : Placed) → found ≡ window_at w c.windows (frame_of c) → found ≡ Some window
+    → Answers result (changed_to c (dressed (record window { margins = columns }) c.windows)) c d → Answers result (margins_tree c w columns) c d
 unfolding margins_tree
-margins_small c w columns h f = rw (h, f) refl
-
-pub margins_done : (c : Configuration) (w columns : ℕ) → holds w c.windows ≡ true → fits (with_margins w columns c.windows) (frame_of c) ≡ true → margins_tree c w columns ≡ Ok (record c { windows = with_margins w columns c.windows })
-unfolding margins_tree
-margins_done c w columns h f = rw (h, f) refl
+margins_found result c d w columns found window looked e =
+    let here = sym looked ∙ e in
+    rw (found_is_held c w window here, found_number w (placed c.windows (frame_of c)) window here, replaced_found w (λ mode _. Window w mode columns) c.windows (frame_of c) window here) (λ a. a)

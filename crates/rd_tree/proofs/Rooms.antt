@@ -107,6 +107,21 @@ pub first_parts-first : (side : Side) (size : ℕ) (first second : Windows) → 
 first_parts-first Right size first second p = (p.1, p.2)
 first_parts-first Below size first second p = (p.1, p.2)
 
+-- each part of a rectangle that is shared anew has fewer windows, has what it needs, and lies in the frame
+pub first_shares : (side : Side) (size : ℕ) (first second : Windows) (rect part : Rect) (new n : ℕ) → new ≡ first_size side size second rect → part ≡ first_part side new rect
+    → FirstPartsFit (Split side size first second) → NeedsMet (Split side size first second) rect → InFrame rect → length (leaves first ++ leaves second) ≡ n
+    → (length (leaves first) < n) × (FirstPartsFit first × (NeedsMet first part × InFrame part))
+first_shares side size first second rect part new n anew is parts needs inside count =
+    let both = shared side size first second rect parts needs in
+    (fewer_first first second n count, ((first_parts-first side size first second parts).0, rw (is, anew) (both.0, first_in_frame side (first_size side size second rect) rect inside both.2)))
+
+pub second_shares : (side : Side) (size : ℕ) (first second : Windows) (rect part : Rect) (new n : ℕ) → new ≡ first_size side size second rect → part ≡ second_part side new rect
+    → FirstPartsFit (Split side size first second) → NeedsMet (Split side size first second) rect → InFrame rect → length (leaves first ++ leaves second) ≡ n
+    → (length (leaves second) < n) × (FirstPartsFit second × (NeedsMet second part × InFrame part))
+second_shares side size first second rect part new n anew is parts needs inside count =
+    let both = shared side size first second rect parts needs in
+    (fewer_second first second n count, ((first_parts-first side size first second parts).1, rw (is, anew) (both.1, second_in_frame side (first_size side size second rect) rect inside both.2)))
+
 -- windows that share a rectangle which meets their needs have room
 pub resized_room : (windows : Windows) (rect : Rect) → FirstPartsFit windows → NeedsMet windows rect → HasRoom (resized windows rect) rect
 resized_room (Window number mode margins) rect p n = n

@@ -69,7 +69,7 @@ split_valid c window side size valid held fit full =
     }
 
 -- a window that stays one window, with another mode line or other margins
-changed_valid : (c : Configuration) (window : ℕ) (mode_of : Bool → ℕ → Bool) (columns_of : Bool → ℕ → ℕ) → IsValid c → holds window c.windows ≡ true → fits (replaced window (λ mode margins. Window window (mode_of mode margins) (columns_of mode margins)) c.windows) (frame_of c) ≡ true → IsValid (record c { windows = replaced window (λ mode margins. Window window (mode_of mode margins) (columns_of mode margins)) c.windows })
+pub changed_valid : (c : Configuration) (window : ℕ) (mode_of : Bool → ℕ → Bool) (columns_of : Bool → ℕ → ℕ) → IsValid c → holds window c.windows ≡ true → fits (replaced window (λ mode margins. Window window (mode_of mode margins) (columns_of mode margins)) c.windows) (frame_of c) ≡ true → IsValid (record c { windows = replaced window (λ mode margins. Window window (mode_of mode margins) (columns_of mode margins)) c.windows })
 unfolding count
 changed_valid c window mode_of columns_of valid held fit =
     let other : Bool → ℕ → Windows = λ mode margins. Window window (mode_of mode margins) (columns_of mode margins) in

@@ -3,5 +3,5 @@ use Rattle.rd_tree.specs.declared.node.Node.{Node, Leaf, Split'}
 use Rattle.rd_tree.specs.Windows.{Windows, Window, Split}
 
 abbrev pub shape : Node → Windows
-shape (Leaf number mode margins) = Window number mode margins
+shape (Leaf leaf) = Window leaf.number leaf.mode leaf.margins
 shape (Split' side size _ first _ second) = Split side size (shape first) (shape second)

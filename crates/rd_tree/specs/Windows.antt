@@ -129,6 +129,10 @@ with_mode number shown windows = replaced number (λ _ margins. Window number sh
 abbrev pub with_margins : ℕ → ℕ → Windows → Windows
 with_margins number columns windows = replaced number (λ mode _. Window number mode columns) windows
 
+-- the windows where the one with the number of a window has its mode line and its margins
+abbrev pub dressed : Placed → Windows → Windows
+dressed window windows = replaced window.number (λ _ _. Window window.number window.mode window.margins) windows
+
 -- whether this is one window alone, with the number
 abbrev pub is_leaf_of : ℕ → Windows → Bool
 is_leaf_of number (Window n mode margins) = n == number

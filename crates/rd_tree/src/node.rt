@@ -1,6 +1,6 @@
 //! The nodes of a window tree.
-ghost use Rattle.std.specs.Prelude.{◌≡◌, ◌≤◌, length, slice_get, OnOk, OnErr};
-ghost use Rattle.rd_tree.specs.Windows.{HasRoom, InFrame, NeedsMet, FirstPartsFit, columns_needed, rows_needed, first_size, resized, leaves, window_at, holds, is_leaf_of, is_single, first_leaf, sibling, removed, split_at, replaced, Window};
+ghost use Rattle.std.specs.Prelude.{◌≡◌, ◌≤◌, false, length, slice_get, OnOk, OnErr};
+ghost use Rattle.rd_tree.specs.Windows.{HasRoom, InFrame, NeedsMet, FirstPartsFit, columns_needed, rows_needed, first_size, resized, leaves, window_at, holds, is_leaf_of, is_single, first_leaf, sibling, removed, split_at, dressed, Window};
 ghost use Rattle.rd_tree.specs.Shapes.{shape};
 
 use crate::placed::{Placed, rows_for};
@@ -11,14 +11,18 @@ use rd_base::limits::{FRAME_COLUMNS, FRAME_ROWS, LEAST_WINDOW_COLUMNS, WINDOWS};
 use std::alloc::Global;
 use std::mem;
 
+/// A window: its number, whether it shows a mode line, and the columns of its margins.
+#[derive(Clone, Copy)]
+pub(crate) struct Leaf {
+    number: u32,
+    mode: bool,
+    margins: u32,
+}
+
 /// A window, or a rectangle that is split: its first part, on top or to the left, has `size` rows or columns.
 #[derive(Drop)]
 pub(crate) enum Node {
-    Leaf {
-        number: u32,
-        mode: bool,
-        margins: u32,
-    },
+    Leaf(Leaf),
     Split {
         side: Side,
         size: u32,
@@ -46,14 +50,39 @@ fn first_size(side: Side, size: u32, second: &Node, rect: Rect) -> u32
     }
 }
 
+impl Leaf {
+    /// The window where it has a rectangle.
+    fn placed(&self, rect: Rect) -> Placed
+        ensures { result ≡ record { number = self.now.number; mode = self.now.mode; margins = self.now.margins; rect = rect } }
+    {
+        Placed {
+            number: self.number,
+            mode: self.mode,
+            margins: self.margins,
+            rect,
+        }
+    }
+}
+
 impl Node {
+    /// The window 0, without a mode line and margins.
+    pub(crate) fn opening() -> Node
+        ensures { shape result ≡ Window 0 false 0 }
+    {
+        Node::Leaf(Leaf {
+            number: 0,
+            mode: false,
+            margins: 0,
+        })
+    }
+
     /// How many columns its windows need.
     pub(crate) fn columns(&self) -> u32
         requires { columns_needed (shape self.now) ≤ FRAME_COLUMNS }
         ensures { result ≡ columns_needed (shape self.now) }
     {
         match self {
-            Node::Leaf { margins, .. } => LEAST_WINDOW_COLUMNS + *margins,
+            Node::Leaf(leaf) => LEAST_WINDOW_COLUMNS + leaf.margins,
             Node::Split {
                 side,
                 first,
@@ -72,7 +101,7 @@ impl Node {
         ensures { result ≡ rows_needed (shape self.now) }
     {
         match self {
-            Node::Leaf { mode, .. } => rows_for(*mode),
+            Node::Leaf(leaf) => rows_for(leaf.mode),
             Node::Split {
                 side,
                 first,
@@ -91,7 +120,7 @@ impl Node {
         ensures { result ≡ length (leaves (shape self.now)) }
     {
         match self {
-            Node::Leaf { .. } => 1,
+            Node::Leaf(_leaf) => 1,
             Node::Split { first, second, .. } => first.count() + second.count(),
         }
     }
@@ -102,7 +131,7 @@ impl Node {
         ensures { result ≡ slice_get (leaves (shape self.now)) i }
     {
         match self {
-            Node::Leaf { number, .. } => { if i == 0 { Some(*number) } else { None } }
+            Node::Leaf(leaf) => { if i == 0 { Some(leaf.number) } else { None } }
             Node::Split { first, second, .. } => {
                 let count = first.count();
                 if i < count {
@@ -119,7 +148,7 @@ impl Node {
         ensures { result ≡ first_leaf (shape self.now) }
     {
         match self {
-            Node::Leaf { number, .. } => *number,
+            Node::Leaf(leaf) => leaf.number,
             Node::Split { first, .. } => first.first_leaf(),
         }
     }
@@ -129,7 +158,7 @@ impl Node {
         ensures { result ≡ is_single (shape self.now) }
     {
         match self {
-            Node::Leaf { .. } => true,
+            Node::Leaf(_leaf) => true,
             Node::Split { .. } => false,
         }
     }
@@ -139,7 +168,7 @@ impl Node {
         ensures { result ≡ is_leaf_of window (shape self.now) }
     {
         match self {
-            Node::Leaf { number, .. } => *number == window,
+            Node::Leaf(leaf) => leaf.number == window,
             Node::Split { .. } => false,
         }
     }
@@ -149,7 +178,7 @@ impl Node {
         ensures { result ≡ holds window (shape self.now) }
     {
         match self {
-            Node::Leaf { number, .. } => *number == window,
+            Node::Leaf(leaf) => leaf.number == window,
             Node::Split { first, second, .. } => first.holds(window) || second.holds(window),
         }
     }
@@ -161,18 +190,9 @@ impl Node {
         ensures { result ≡ window_at window (shape self.now) rect }
     {
         match self {
-            Node::Leaf {
-                number,
-                mode,
-                margins,
-            } => {
-                if *number == window {
-                    Some(Placed {
-                        number: *number,
-                        mode: *mode,
-                        margins: *margins,
-                        rect,
-                    })
+            Node::Leaf(leaf) => {
+                if leaf.number == window {
+                    Some(leaf.placed(rect))
                 } else {
                     None
                 }
@@ -223,24 +243,14 @@ impl Node {
         ensures same { OnErr result (shape self.new ≡ shape self.old) }
     {
         match self {
-            Node::Leaf {
-                number,
-                mode,
-                margins,
-            } => {
-                if *number == window {
-                    let first = Node::Leaf {
-                        number: window,
-                        mode: *mode,
-                        margins: *margins,
-                    };
-                    let second = Node::Leaf {
+            Node::Leaf(leaf) => {
+                if leaf.number == window {
+                    let first = Box::new(alloc, Node::Leaf(*leaf))?;
+                    let other = Leaf {
                         number: new,
-                        mode: *mode,
-                        margins: *margins,
+                        ..*leaf
                     };
-                    let first = Box::new(alloc, first)?;
-                    let second = Box::new(alloc, second)?;
+                    let second = Box::new(alloc, Node::Leaf(other))?;
                     *self = Node::Split {
                         side,
                         size,
@@ -303,7 +313,7 @@ impl Node {
         ensures { result ≡ first_leaf (sibling window (shape self.now)) }
     {
         match self {
-            Node::Leaf { number, .. } => *number,
+            Node::Leaf(leaf) => leaf.number,
             Node::Split { first, second, .. } => {
                 if first.is_leaf_of(window) {
                     second.first_leaf()
@@ -318,26 +328,22 @@ impl Node {
         }
     }
 
-    /// Lets the window with a number show a mode line or not, and its margins take so many columns.
-    pub(crate) fn dress(&mut self, window: u32, shown: bool, columns: u32)
-        ensures { shape self.new ≡ replaced window (λ _ _. Window window shown columns) (shape self.old) }
+    /// Gives the window with the number of `window` its mode line and its margins.
+    pub(crate) fn dress(&mut self, window: Placed)
+        ensures { shape self.new ≡ dressed window (shape self.old) }
     {
         match self {
-            Node::Leaf {
-                number,
-                mode,
-                margins,
-            } => {
-                if *number == window {
-                    *mode = shown;
-                    *margins = columns;
+            Node::Leaf(leaf) => {
+                if leaf.number == window.number {
+                    leaf.mode = window.mode;
+                    leaf.margins = window.margins;
                 }
             }
             Node::Split { first, second, .. } => {
-                if first.holds(window) {
-                    first.dress(window, shown, columns);
+                if first.holds(window.number) {
+                    first.dress(window);
                 } else {
-                    second.dress(window, shown, columns);
+                    second.dress(window);
                 }
             }
         }
@@ -347,11 +353,6 @@ impl Node {
     fn take(&mut self) -> Node
         ensures { result ≡ self.old }
     {
-        let left = Node::Leaf {
-            number: 0,
-            mode: false,
-            margins: 0,
-        };
-        mem::replace(self, left)
+        mem::replace(self, Node::opening())
     }
 }

@@ -22,13 +22,6 @@ pub(crate) fn rows_for(mode: bool) -> u32
     if mode { 2 } else { 1 }
 }
 
-/// Whether so many columns and rows are enough for a window.
-fn is_enough(mode: bool, margins: u32, columns: u32, rows: u32) -> bool
-    ensures { result ≡ (nat_le (columns_for margins) columns && nat_le (rows_for mode) rows) }
-{
-    takes_margins(margins, columns) && rows_for(mode) <= rows
-}
-
 /// Whether so many columns are enough for a window and its margins.
 fn takes_margins(margins: u32, columns: u32) -> bool
     ensures { result ≡ nat_le (columns_for margins) columns }
@@ -41,21 +34,14 @@ impl Placed {
     fn is_enough(&self, columns: u32, rows: u32) -> bool
         ensures { result ≡ (nat_le (columns_for self.now.margins) columns && nat_le (rows_for self.now.mode) rows) }
     {
-        is_enough(self.mode, self.margins, columns, rows)
+        takes_margins(self.margins, columns) && rows_for(self.mode) <= rows
     }
 
-    /// Whether the window has room where it shows a mode line or does not.
-    pub(crate) fn takes_mode(&self, shown: bool) -> bool
-        ensures { result ≡ fits (Window self.now.number shown self.now.margins) self.now.rect }
+    /// Whether the window has room in its rectangle.
+    pub(crate) fn has_room(&self) -> bool
+        ensures { result ≡ fits (Window self.now.number self.now.mode self.now.margins) self.now.rect }
     {
-        is_enough(shown, self.margins, self.rect.width, self.rect.height)
-    }
-
-    /// Whether the window has room where its margins take so many columns.
-    pub(crate) fn takes_margins(&self, columns: u32) -> bool
-        ensures { result ≡ fits (Window self.now.number self.now.mode columns) self.now.rect }
-    {
-        is_enough(self.mode, columns, self.rect.width, self.rect.height)
+        self.is_enough(self.rect.width, self.rect.height)
     }
 
     /// Whether this window and a new one have room where it is split.

@@ -40,10 +40,10 @@ impl Model for Tree {
 }
 
 impl Tree {
-    ghost use Rattle.std.specs.Prelude.{◌≡◌, ◌≤◌, slice_get, IfOk, IfSome};
-    ghost use Rattle.rd_tree.specs.Windows.{window_at, leaves};
+    ghost use Rattle.std.specs.Prelude.{◌≡◌, ◌≤◌, slice_get, IfOk, IfSome, Some};
+    ghost use Rattle.rd_tree.specs.Windows.{window_at, leaves, dressed};
     ghost use Rattle.rd_tree.specs.Places.{LiesIn, StandsIn};
-    ghost use Rattle.rd_tree.specs.Calls.{opening, frame_of, split_tree, remove_tree, resize_tree, mode_tree, margins_tree, rect_of, Answers, Splits, Removes, IsValid};
+    ghost use Rattle.rd_tree.specs.Calls.{opening, frame_of, split_tree, remove_tree, resize_tree, mode_tree, margins_tree, changed_to, rect_of, Answers, Splits, Removes, IsValid};
 
     /// The window 0, without a mode line and margins, in so many columns and rows: 11 to 400 columns, and 1 to 200 rows.
     pub fn new(alloc: Global, width: u32, height: u32) -> Result<Tree, Memory>
@@ -55,11 +55,7 @@ impl Tree {
     {
         Ok(Tree {
             alloc,
-            root: Node::Leaf {
-                number: 0,
-                mode: false,
-                margins: 0,
-            },
+            root: Node::opening(),
             width,
             height,
             made: 1,
@@ -74,7 +70,7 @@ impl Tree {
     pub fn split(&mut self, window: u32, side: Side, size: u32) -> Result<u32, TreeFault>
         ensures { Splits result (split_tree self.old window side size) self.old self.new }
     {
-        let Some(old) = self.root.find(window, self.frame()) else {
+        let Some(old) = self.placed(window) else {
             return Err(TreeFault::NoWindow);
         };
         if !old.takes_split(side, size) {
@@ -134,31 +130,42 @@ impl Tree {
 
     /// Lets a window show a mode line or not. The first of these faults counts, and changes nothing: NoWindow, where the window
     /// does not live; TooSmall, where it has not the 2 rows that it needs with a mode line.
+    #[tactic(auto, using(crate::proofs::Answering::found_rect, crate::proofs::Answering::mode_unknown, crate::proofs::Answering::mode_found))]
     pub fn mode(&mut self, window: u32, shown: bool) -> Result<(), TreeFault>
         ensures { Answers result (mode_tree self.old window shown) self.old self.new }
     {
-        let Some(old) = self.root.find(window, self.frame()) else {
+        let Some(old) = self.placed(window) else {
             return Err(TreeFault::NoWindow);
         };
-        if !old.takes_mode(shown) {
-            return Err(TreeFault::TooSmall);
-        }
-        self.root.dress(window, shown, old.margins);
-        Ok(())
+        self.dress(Placed { mode: shown, ..old })
     }
 
     /// Lets the margins of a window take so many columns. The first of these faults counts, and changes nothing: NoWindow, where the
     /// window does not live; TooSmall, where it has not the 11 columns that it needs beside those of its margins.
+    #[tactic(auto, using(crate::proofs::Answering::found_rect, crate::proofs::Answering::margins_unknown, crate::proofs::Answering::margins_found))]
     pub fn margins(&mut self, window: u32, columns: u32) -> Result<(), TreeFault>
         ensures { Answers result (margins_tree self.old window columns) self.old self.new }
     {
-        let Some(old) = self.root.find(window, self.frame()) else {
+        let Some(old) = self.placed(window) else {
             return Err(TreeFault::NoWindow);
         };
-        if !old.takes_margins(columns) {
+        self.dress(Placed {
+            margins: columns,
+            ..old
+        })
+    }
+
+    /// Gives the window with the number and the rectangle of `window` its mode line and its margins. TooSmall, which changes nothing, comes
+    /// exactly where that needs more columns or rows than the rectangle has.
+    fn dress(&mut self, window: Placed) -> Result<(), TreeFault>
+        requires { rect_of window.number self.old ≡ Some window.rect }
+        ensures { Answers result (changed_to self.old (dressed window self.old.windows)) self.old self.new }
+    {
+        self.trees_are_valid();
+        if !window.has_room() {
             return Err(TreeFault::TooSmall);
         }
-        self.root.dress(window, old.mode, columns);
+        self.root.dress(window);
         Ok(())
     }
 

@@ -13,14 +13,12 @@ taken : (c : goal.After-takes_split)
     × (fits (split_at c.args.window c.args.side c.args.size (configuration_of c.self.inside).made (configuration_of c.self.inside).windows) (frame_of (configuration_of c.self.inside)) ≡ c.takes_split.result)
 taken c =
     let tree = configuration_of c.self.inside in
-    let frame = rw (← c.self.view_is) at c.frame.ensures in
-    let found = sym (rw frame at c.find.ensures) ∙ c.in-Some.is in
+    let found = sym (rw (← c.self.view_is) at c.placed.ensures.place) ∙ c.in-Some.is in
     (found_is_held tree c.args.window c.in-Some.old found, split_room tree c.args.window c.args.side c.args.size c.in-Some.old c.self.invariant.room found ∙ sym c.takes_split.ensures)
 
 pub returns-in_default : goal.returns-in_default
 returns-in_default c =
-    let frame = rw (← c.self.view_is) at c.frame.ensures in
-    let found = sym (rw frame at c.find.ensures) ∙ c.in_default.is in
+    let found = sym (rw (← c.self.view_is) at c.placed.ensures.place) ∙ c.in_default.is in
     (refl, rw (← c.self.view_is) (split_unknown (configuration_of c.self.inside) c.args.window c.args.side c.args.size found))
 
 pub returns-then-not-takes_split : goal.returns-then-not-takes_split
