@@ -75,11 +75,15 @@ pub record GapMoved (front back front_new back_new : List ValueRun) (pos : ℕ) 
   pub size : size_of front_new + size_of back_new ≡ size_of front + size_of back
   pub gap : size_of front_new ≡ min pos (size_of front + size_of back)
 
--- what both sides always keep, where they have so much room
-pub record AreSides (front back : List ValueRun) (front_room back_room : ℕ) : Type 0 where
+-- the runs of both sides, over no more places than there are positions
+pub record AreRuns (front back : List ValueRun) : Type 0 where
   pub front_rises : Rises 0 front
   pub back_rises : Rises 0 back
   pub few : size_of front + size_of back ≤ 4294967296
+
+-- what both sides always keep, where they have so much room
+pub record AreSides (front back : List ValueRun) (front_room back_room : ℕ) : Type 0 where
+  pub runs : AreRuns front back
   pub trimmed : IsTrimmed (values_of_both front back)
   pub front_holds : needs front back ≤ front_room
   pub back_holds : needs front back ≤ back_room

@@ -2,7 +2,7 @@
 ghost use Rattle.std.specs.Prelude.{◌≡◌, ℕ, ◌+◌, ◌-◌, ◌<◌, ◌≤◌, ◌++◌, true, false, length, replicate, None, OnOk};
 ghost use Rattle.std.specs.Vec.{vec_capacity};
 ghost use Rattle.rd_spans.specs.Values.{value_at, put_at, opened_at, closed_at, CanMove, IsNextChange, IsFirstAlike};
-ghost use Rattle.rd_spans.specs.Sides.{values_of, Rises, size_of, needs, values_of_both, GapMoved, AreSides};
+ghost use Rattle.rd_spans.specs.Sides.{values_of, Rises, size_of, needs, values_of_both, GapMoved, AreRuns, AreSides};
 
 use crate::run::ValueRun;
 use crate::side;
@@ -10,10 +10,8 @@ use rd_base::Memory;
 
 /// The value of a position.
 pub(crate) fn value_of(front: &[ValueRun], back: &[ValueRun], pos: u64) -> Option<u32>
-    requires front_order { Rises 0 front.now }
-    requires back_order { Rises 0 back.now }
+    requires runs { AreRuns front.now back.now }
     requires bound { pos < 4294967296 }
-    requires few { size_of front.now + size_of back.now ≤ 4294967296 }
     ensures { result ≡ value_at (values_of_both front.now back.now) pos }
 {
     let gap = side::size(front);
@@ -29,10 +27,8 @@ pub(crate) fn value_of(front: &[ValueRun], back: &[ValueRun], pos: u64) -> Optio
 
 /// The positions around one that no value differs from its own: the first, and one past the last.
 pub(crate) fn same_around(front: &[ValueRun], back: &[ValueRun], pos: u64) -> (u64, u64)
-    requires front_order { Rises 0 front.now }
-    requires back_order { Rises 0 back.now }
+    requires runs { AreRuns front.now back.now }
     requires bound { pos < 4294967296 }
-    requires few { size_of front.now + size_of back.now ≤ 4294967296 }
     ensures first { result.0 ≤ pos }
     ensures later { pos < result.1 }
     ensures few { result.1 ≤ 4294967296 }
@@ -52,10 +48,8 @@ pub(crate) fn same_around(front: &[ValueRun], back: &[ValueRun], pos: u64) -> (u
 
 /// The first position behind one whose value differs from that of the one.
 pub(crate) fn next_other(front: &[ValueRun], back: &[ValueRun], pos: u64) -> Option<u32>
-    requires front_order { Rises 0 front.now }
-    requires back_order { Rises 0 back.now }
+    requires runs { AreRuns front.now back.now }
     requires bound { pos < 4294967296 }
-    requires few { size_of front.now + size_of back.now ≤ 4294967296 }
     ensures { IsNextChange (values_of_both front.now back.now) pos result }
 {
     let value = value_of(front, back, pos);
@@ -71,10 +65,8 @@ pub(crate) fn next_other(front: &[ValueRun], back: &[ValueRun], pos: u64) -> Opt
 
 /// The first of the positions up to one that all have its value.
 pub(crate) fn first_alike(front: &[ValueRun], back: &[ValueRun], pos: u64) -> u32
-    requires front_order { Rises 0 front.now }
-    requires back_order { Rises 0 back.now }
+    requires runs { AreRuns front.now back.now }
     requires bound { pos < 4294967296 }
-    requires few { size_of front.now + size_of back.now ≤ 4294967296 }
     ensures { IsFirstAlike (values_of_both front.now back.now) pos result }
 {
     let value = value_of(front, back, pos);
@@ -105,9 +97,7 @@ pub(crate) fn make_room(front: &mut Vec<ValueRun>, back: &mut Vec<ValueRun>) -> 
 
 /// Moves the gap to a position, or to the end where that comes before.
 fn move_to(front: &mut Vec<ValueRun>, back: &mut Vec<ValueRun>, pos: u64)
-    requires front_order { Rises 0 front.old.items }
-    requires back_order { Rises 0 back.old.items }
-    requires few { size_of front.old.items + size_of back.old.items ≤ 4294967296 }
+    requires runs { AreRuns front.old.items back.old.items }
     requires front_room { needs front.old.items back.old.items ≤ vec_capacity front.old }
     requires back_room { needs front.old.items back.old.items ≤ vec_capacity back.old }
     ensures moved { GapMoved front.old.items back.old.items front.new.items back.new.items pos }

@@ -3,7 +3,7 @@ ghost use Rattle.std.specs.Prelude.{◌≡◌, ℕ, ◌+◌, ◌-◌, ◌<◌, �
 ghost use Rattle.std.specs.Vec.{vec_capacity};
 ghost use Rattle.rd_spans.specs.declared.run.ValueRun.{ValueRun};
 ghost use Rattle.rd_spans.specs.Values.{value_at, IsTrimmed};
-ghost use Rattle.rd_spans.specs.Sides.{values_of, Rises, size_of, top, same_value, has_value, needs, AreMoved};
+ghost use Rattle.rd_spans.specs.Sides.{values_of, Rises, size_of, top, same_value, has_value, needs, AreMoved, AreRuns};
 
 use crate::run::ValueRun;
 
@@ -115,12 +115,10 @@ pub(crate) fn push(runs: &mut Vec<ValueRun>, n: u64, value: Option<u32>)
 /// Moves at most `most` places, all of one run or a part of it, from the end of one side to the end of the other, and answers how
 /// many.
 fn move_run(from: &mut Vec<ValueRun>, to: &mut Vec<ValueRun>, most: u64) -> u64
-    requires from_order { Rises 0 from.old.items }
-    requires to_order { Rises 0 to.old.items }
+    requires runs { AreRuns from.old.items to.old.items }
     requires some { 0 < most }
     requires from_room { needs from.old.items to.old.items ≤ vec_capacity from.old }
     requires to_room { needs from.old.items to.old.items ≤ vec_capacity to.old }
-    requires few { size_of from.old.items + size_of to.old.items ≤ 4294967296 }
     ensures moved { AreMoved from.old.items to.old.items from.new.items to.new.items }
     ensures most { result ≤ most }
     ensures less { size_of from.new.items + result ≡ size_of from.old.items }
@@ -141,11 +139,9 @@ fn move_run(from: &mut Vec<ValueRun>, to: &mut Vec<ValueRun>, most: u64) -> u64
 
 /// Moves so many places, or all that there are, from the end of one side to the end of the other.
 pub(crate) fn shift(from: &mut Vec<ValueRun>, to: &mut Vec<ValueRun>, count: u64)
-    requires from_order { Rises 0 from.old.items }
-    requires to_order { Rises 0 to.old.items }
+    requires runs { AreRuns from.old.items to.old.items }
     requires from_room { needs from.old.items to.old.items ≤ vec_capacity from.old }
     requires to_room { needs from.old.items to.old.items ≤ vec_capacity to.old }
-    requires few { size_of from.old.items + size_of to.old.items ≤ 4294967296 }
     ensures moved { AreMoved from.old.items to.old.items from.new.items to.new.items }
     ensures less { size_of from.new.items + size_of to.new.items ≡ size_of from.old.items + size_of to.old.items }
     ensures more { size_of to.new.items ≡ size_of to.old.items + min count (size_of from.old.items) }

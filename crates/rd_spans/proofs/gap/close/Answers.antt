@@ -38,9 +38,7 @@ returns-else-is_empty-clause-sides c =
     let t = subst IsTrimmed (sym m.same) c.requires.sides.trimmed in
     let s = c.requires.sides in
     record {
-      front_rises = m.front_rises;
-      back_rises = c.cut.ensures.order;
-      few = omega (arith, m.size, s.few, c.cut.ensures.size);
+      runs = record { front_rises = m.front_rises; back_rises = c.cut.ensures.order; few = omega (arith, m.size, s.runs.few, c.cut.ensures.size) };
       trimmed = close-trimmed a b d.items c.args.from c.args.to (gap at) c.requires.ordered (cut at) more (close-values a b d.items c.args.from c.args.to (gap at) c.requires.ordered (cut at)) t;
       front_holds = omega (arith, c.cut.ensures.lighter a, m.needs, s.front_holds, c.move_to.ensures.front_room);
       back_holds = omega (arith, c.cut.ensures.lighter a, m.needs, s.back_holds, c.move_to.ensures.back_room, c.cut.ensures.room);

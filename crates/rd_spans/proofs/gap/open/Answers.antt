@@ -40,9 +40,7 @@ returns-then-not-is_empty-clause-sides c =
     let now = needs-most new.items b.items in
     let one = one-at-most (has_value (top a.items) None) in
     record {
-      front_rises = c.push.ensures.order;
-      back_rises = m.back_rises;
-      few = omega (arith, open-few a.items b.items c.args.n m.front_rises m.back_rises more t can, c.push.ensures.size);
+      runs = record { front_rises = c.push.ensures.order; back_rises = m.back_rises; few = omega (arith, open-few a.items b.items c.args.n m.front_rises m.back_rises more t can, c.push.ensures.size) };
       trimmed = open-trimmed a.items b.items new.items c.args.pos c.args.n g more c.push.ensures.order c.push.ensures.size values t;
       front_holds = omega (arith, now, one, c.push.ensures.count, least, m.needs, most, c.push.ensures.room, c.move_to.ensures.front_room, c.requires.front_more);
       back_holds = omega (arith, now, one, c.push.ensures.count, least, m.needs, most, c.move_to.ensures.back_room, c.requires.back_more);

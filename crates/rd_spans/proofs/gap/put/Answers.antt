@@ -52,9 +52,7 @@ returns-else-ends_there-clause-sides c =
     let least = needs-least a b in
     let now = needs-most new d in
     record {
-      front_rises = c.fill.ensures.order;
-      back_rises = c.cut.ensures.order;
-      few = omega (arith, g.gap, m.size, s.few, c.cut.ensures.size, c.fill.ensures.size, c.requires.bound, c.requires.some);
+      runs = record { front_rises = c.fill.ensures.order; back_rises = c.cut.ensures.order; few = omega (arith, g.gap, m.size, s.runs.few, c.cut.ensures.size, c.fill.ensures.size, c.requires.bound, c.requires.some) };
       trimmed = put-trimmed a b new d c.args.from c.args.to c.args.value g c.requires.some c.fill.ensures.order c.fill.ensures.size k values
           (λ none v. ends c.if-ends_there.false (length-none d c.cut.ensures.order none) v) t;
       front_holds = omega (arith, now, c.fill.ensures.count, c.cut.ensures.count, least, m.needs, most, c.fill.ensures.room, c.move_to.ensures.front_room, c.requires.front_more);

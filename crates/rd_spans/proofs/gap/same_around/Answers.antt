@@ -6,9 +6,9 @@ use Rattle.rd_spans.proofs.gap.same_around.Goals as goal
 
 pub returns-then-pos-gap-clause-same : goal.returns-then-pos-gap-clause-same
 returns-then-pos-gap-clause-same c = λ p low high.
-    values_of_both-front c.args.front.now c.args.back.now p c.requires.front_order (omega (arith, c.run_at.ensures.last, high))
+    values_of_both-front c.args.front.now c.args.back.now p c.requires.runs.front_rises (omega (arith, c.run_at.ensures.last, high))
     ∙ (c.run_at.ensures.same p low high
-    ∙ sym (values_of_both-front c.args.front.now c.args.back.now c.args.pos c.requires.front_order (omega (arith, c.size-gap.ensures, c.if-pos-gap.true))))
+    ∙ sym (values_of_both-front c.args.front.now c.args.back.now c.args.pos c.requires.runs.front_rises (omega (arith, c.size-gap.ensures, c.if-pos-gap.true))))
 
 pub returns-then-pos-end-clause-same : goal.returns-then-pos-end-clause-same
 returns-then-pos-end-clause-same c =
@@ -18,12 +18,12 @@ returns-then-pos-end-clause-same c =
     let last = c.run_at-first.ensures.last in
     let at : size_of front + size_of back - 1 - c.args.pos ≡ c.size-gap.result + c.size.result - 1 - c.args.pos = omega (arith, c.size-gap.ensures, c.size.ensures) in
     λ p low high.
-    values_of_both-back front back p c.requires.front_order c.requires.back_order (omega (arith, c.size-gap.ensures, c.size.ensures, last, low)) (omega (arith, c.size-gap.ensures, c.size.ensures, high))
+    values_of_both-back front back p c.requires.runs.front_rises c.requires.runs.back_rises (omega (arith, c.size-gap.ensures, c.size.ensures, last, low)) (omega (arith, c.size-gap.ensures, c.size.ensures, high))
     ∙ (c.run_at-first.ensures.same (size_of front + size_of back - 1 - p) (omega (arith, c.size-gap.ensures, c.size.ensures, first, last, high)) (omega (arith, c.size-gap.ensures, c.size.ensures, first, last, low))
     ∙ (ap (value_at (values_of back)) (sym at)
-    ∙ sym (values_of_both-back front back c.args.pos c.requires.front_order c.requires.back_order (omega (arith, c.size-gap.ensures, c.if-pos-gap.false)) (omega (arith, c.size-gap.ensures, c.size.ensures, c.if-pos-end.true)))))
+    ∙ sym (values_of_both-back front back c.args.pos c.requires.runs.front_rises c.requires.runs.back_rises (omega (arith, c.size-gap.ensures, c.if-pos-gap.false)) (omega (arith, c.size-gap.ensures, c.size.ensures, c.if-pos-end.true)))))
 
 pub returns-clause-same : goal.returns-clause-same
 returns-clause-same c = λ p low high.
-    values_of_both-past c.args.front.now c.args.back.now p c.requires.front_order c.requires.back_order (omega (arith, c.size-gap.ensures, c.size.ensures, low))
-    ∙ sym (values_of_both-past c.args.front.now c.args.back.now c.args.pos c.requires.front_order c.requires.back_order (omega (arith, c.size-gap.ensures, c.size.ensures, c.if-pos-end.false)))
+    values_of_both-past c.args.front.now c.args.back.now p c.requires.runs.front_rises c.requires.runs.back_rises (omega (arith, c.size-gap.ensures, c.size.ensures, low))
+    ∙ sym (values_of_both-past c.args.front.now c.args.back.now c.args.pos c.requires.runs.front_rises c.requires.runs.back_rises (omega (arith, c.size-gap.ensures, c.size.ensures, c.if-pos-end.false)))

@@ -4,5 +4,5 @@ use Rattle.rd_spans.proofs.spans.Spans.inserted.Goals as goal
 
 pub make_room-requires : goal.make_room-requires
 make_room-requires c =
-    let v = c.self.invariant in
-    record { few = omega (arith, few-runs 0 c.self.inside.front.items v.front_rises, few-runs 0 c.self.inside.back.items v.back_rises, v.few) }
+    let runs = c.self.invariant.runs in
+    record { few = omega (arith, few-runs 0 c.self.inside.front.items runs.front_rises, few-runs 0 c.self.inside.back.items runs.back_rises, runs.few) }
