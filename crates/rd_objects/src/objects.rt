@@ -131,44 +131,28 @@ impl Objects {
     pub fn string(&self, number: u32) -> Option<&Text>
         ensures { MatchOption result (length self.now.strings ≤ number) (λ text. slice_get self.now.strings number ≡ Some text.now) }
     {
-        if (number as usize) < self.strings.len() {
-            Some(self.strings.get(number as usize))
-        } else {
-            None
-        }
+        self.strings.as_slice().get(number as usize)
     }
 
     /// The spec of a number, and None exactly where it was not made. It costs one step.
     pub fn spec(&self, number: u32) -> Option<Spec>
         ensures { result ≡ slice_get self.now.specs number }
     {
-        if (number as usize) < self.specs.len() {
-            Some(self.specs.at(number as usize))
-        } else {
-            None
-        }
+        self.specs.as_slice().get(number as usize).copied()
     }
 
     /// The face of a number, and None exactly where it was not made. It costs one step.
     pub fn face(&self, number: u32) -> Option<Face>
         ensures { result ≡ slice_get self.now.faces number }
     {
-        if (number as usize) < self.faces.len() {
-            Some(self.faces.at(number as usize))
-        } else {
-            None
-        }
+        self.faces.as_slice().get(number as usize).copied()
     }
 
     /// The table of a number, and None exactly where it was not made. It costs one step.
     pub fn table(&self, number: u32) -> Option<&Table>
         ensures { MatchOption result (length self.now.tables ≤ number) (λ table. slice_get self.now.tables number ≡ Some table.now) }
     {
-        if (number as usize) < self.tables.len() {
-            Some(self.tables.get(number as usize))
-        } else {
-            None
-        }
+        self.tables.as_slice().get(number as usize)
     }
 
     /// All objects are sound, there are no more than there may be, and what they name was made. The call does nothing.
