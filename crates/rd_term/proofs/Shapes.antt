@@ -4,8 +4,10 @@ use Rattle.std.proofs.lemmas.List.{length-append, length-take, length-take-le, l
 use Rattle.std.proofs.lemmas.List.Elements.{All-append, All-take, All-drop, All-map, All-set}
 use Rattle.rd_base.specs.declared.cell.Cell.{Cell}
 use Rattle.rd_term.specs.Pictures.{blank, width_of, IsGrid}
-use Rattle.rd_term.specs.Shifts.{cleared, moved_down, moved_up, changed_between}
+use Rattle.rd_term.specs.Shifts.{cleared, moved, moved_down, moved_up, changed_between}
 use Rattle.rd_term.specs.Terminals.{IsTerminal, IsWithin, HasRegion, known}
+use Rattle.rd_term.specs.declared.shifting.Way.{Way}
+use Rattle.rd_term.specs.declared.shifting.Way.TheVariants.{Down, Up}
 
 abbrev pub Rows : Type 0
 Rows = List (List (Option Cell))
@@ -66,6 +68,14 @@ pub length-up : (n : ℕ) (rows : Rows) → length (moved_up n rows) ≡ length 
 length-up n rows =
     length-append (drop n rows) (map cleared (take n rows))
     ∙ omega (arith, length-map (take n rows) cleared, length-drop n rows, length-take n rows)
+
+pub grid-moved : (way : Way) (w n : ℕ) (rows : Rows) → IsGrid w rows → IsGrid w (moved way n rows)
+grid-moved Down w n rows h = grid-down w n rows h
+grid-moved Up w n rows h = grid-up w n rows h
+
+pub length-moved : (way : Way) (n : ℕ) (rows : Rows) → length (moved way n rows) ≡ length rows
+length-moved Down n rows = length-down n rows
+length-moved Up n rows = length-up n rows
 
 -- rows of which a part is changed
 pub grid-between : (w from end : ℕ) (change : Rows → Rows) (rows : Rows) → ((xs : Rows) → IsGrid w xs → IsGrid w (change xs)) → IsGrid w rows → IsGrid w (changed_between from end change rows)

@@ -2,6 +2,8 @@
 use Rattle.std.specs.Prelude.{ℕ, ◌+◌, ◌-◌, nat_le, if◌then◌else◌, ◌&&◌, List, ◌++◌, length, take, drop, map, replicate, Option, None, Some}
 use Rattle.rd_base.specs.declared.cell.Cell.{Cell}
 use Rattle.rd_term.specs.Pictures.{blank}
+use Rattle.rd_term.specs.declared.shifting.Way.{Way}
+use Rattle.rd_term.specs.declared.shifting.Way.TheVariants.{Down, Up}
 
 -- a row whose cells are all blank and plain
 abbrev pub cleared : List (Option Cell) → List (Option Cell)
@@ -17,6 +19,11 @@ moved_down n rows =
 -- rows moved up by so many: the first ones are lost, and as many blank ones come behind the others
 abbrev pub moved_up : ℕ → List (List (Option Cell)) → List (List (Option Cell))
 moved_up n rows = drop n rows ++ map cleared (take n rows)
+
+-- rows moved down or up by so many
+abbrev pub moved : Way → ℕ → List (List (Option Cell)) → List (List (Option Cell))
+moved Down n rows = moved_down n rows
+moved Up n rows = moved_up n rows
 
 -- rows of which those from one to before another are changed together
 abbrev pub changed_between : {A : Type 0} → ℕ → ℕ → (List A → List A) → List A → List A

@@ -11,10 +11,12 @@ use Rattle.rd_term.specs.Characters.{columns_of}
 use Rattle.rd_term.specs.Overwriting.{overwritten}
 use Rattle.rd_term.specs.Pens.{are_renditions, pen_by}
 use Rattle.rd_term.specs.Pictures.{Picture, blank, with_cell, width_of, IsGrid}
-use Rattle.rd_term.specs.Shifts.{cleared, moved_down, moved_up, changed_between, rows_moved}
+use Rattle.rd_term.specs.Shifts.{cleared, moved, changed_between, rows_moved}
 use Rattle.rd_term.specs.Steps.{read_byte}
 use Rattle.rd_term.specs.declared.control.Control.{Control}
 use Rattle.rd_term.specs.declared.control.Control.TheVariants.{MoveTo, ClearAll, EraseToEnd, InsertRows, DeleteRows, ChangePen, SetRegion}
+use Rattle.rd_term.specs.declared.shifting.Way.{Way}
+use Rattle.rd_term.specs.declared.shifting.Way.TheVariants.{Down, Up}
 use Rattle.rd_term.specs.declared.reading.Reading.{Reading}
 use Rattle.rd_term.specs.declared.reading.Reading.TheVariants.{Between, Escaped}
 use Rattle.rd_term.specs.declared.reading.Step.{Step}
@@ -107,21 +109,17 @@ move_rows move (Some part) t = record t { rows = changed_between part.0 part.1 m
 abbrev pub may_move : ℕ → Tty → Bool
 may_move n t = nat_lt 0 n && writes_plain t.pen && not t.wait
 
-abbrev pub insert_rows : List ℕ → Tty → Tty
-insert_rows (n ∷ []) t = if may_move n t then move_rows (moved_down n) (rows_moved t.region t.cursor) t else confuse t
-insert_rows numbers t = confuse t
-
-abbrev pub delete_rows : List ℕ → Tty → Tty
-delete_rows (n ∷ []) t = if may_move n t then move_rows (moved_up n) (rows_moved t.region t.cursor) t else confuse t
-delete_rows numbers t = confuse t
+abbrev pub shift_rows : Way → List ℕ → Tty → Tty
+shift_rows way (n ∷ []) t = if may_move n t then move_rows (moved way n) (rows_moved t.region t.cursor) t else confuse t
+shift_rows way numbers t = confuse t
 
 -- a whole sequence, by its control function and its numbers
 abbrev pub obey : Control → List ℕ → Tty → Tty
 obey MoveTo numbers t = move_to numbers t
 obey ClearAll numbers t = clear numbers t
 obey EraseToEnd numbers t = erase numbers t
-obey InsertRows numbers t = insert_rows numbers t
-obey DeleteRows numbers t = delete_rows numbers t
+obey InsertRows numbers t = shift_rows Down numbers t
+obey DeleteRows numbers t = shift_rows Up numbers t
 obey ChangePen numbers t = dress numbers t
 obey SetRegion numbers t = set_region numbers t
 

@@ -1,11 +1,11 @@
 //! What a terminal does by a control function.
 ghost use Rattle.std.specs.Prelude.{◌≡◌, ◌≤◌, ◌<◌, IfSome, length};
 ghost use Rattle.rd_term.specs.Shifts.{rows_moved};
-ghost use Rattle.rd_term.specs.Terminals.{move_to, on_screen, clear, erase, dress, set_region, insert_rows, delete_rows, may_move, writes_plain};
+ghost use Rattle.rd_term.specs.Terminals.{move_to, on_screen, clear, erase, dress, set_region, shift_rows, may_move, writes_plain};
 
 use crate::overwriting::erase_from;
 use crate::pen::{are_renditions, pen_by};
-use crate::shifting::{clear_all, move_down, move_up};
+use crate::shifting::{Way, clear_all, move_rows};
 use crate::terminal::Terminal;
 use rd_base::Face;
 
@@ -85,26 +85,19 @@ impl Terminal {
         }
     }
 
-    /// Moves the rows from the cursor's to the region's last down, and blank ones come before them.
-    pub(crate) fn insert_rows(&mut self, numbers: &[u32])
-        ensures { self.new ≡ insert_rows numbers.now self.old }
+    /// Moves the rows from the cursor's to the region's last, and blank ones come in their place.
+    pub(crate) fn shift_rows(&mut self, way: Way, numbers: &[u32])
+        ensures { self.new ≡ shift_rows way numbers.now self.old }
     {
         match (numbers, self.rows_moved()) {
             ([count], Some((from, end))) if self.may_move(*count) => {
-                move_down(&mut self.rows, from as usize, end as usize, *count as usize);
-                self.cursor = None;
-            }
-            _ => self.confused = true,
-        }
-    }
-
-    /// Moves the rows from the cursor's to the region's last up, and blank ones come behind them.
-    pub(crate) fn delete_rows(&mut self, numbers: &[u32])
-        ensures { self.new ≡ delete_rows numbers.now self.old }
-    {
-        match (numbers, self.rows_moved()) {
-            ([count], Some((from, end))) if self.may_move(*count) => {
-                move_up(&mut self.rows, from as usize, end as usize, *count as usize);
+                move_rows(
+                    &mut self.rows,
+                    from as usize,
+                    end as usize,
+                    way,
+                    *count as usize,
+                );
                 self.cursor = None;
             }
             _ => self.confused = true,

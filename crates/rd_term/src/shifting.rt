@@ -1,9 +1,16 @@
 //! Rows that are cleared, and rows that are moved within a part of the screen.
 ghost use Rattle.std.specs.Prelude.{◌≡◌, ◌≤◌, length, map};
-ghost use Rattle.rd_term.specs.Shifts.{cleared, moved_down, moved_up, changed_between};
+ghost use Rattle.rd_term.specs.Shifts.{cleared, moved, moved_down, moved_up, changed_between};
 
 use crate::rows::fill;
 use rd_base::{Cell, Face, ListOf};
+
+/// The way that rows are moved.
+#[derive(Clone, Copy)]
+pub(crate) enum Way {
+    Down,
+    Up,
+}
 
 /// Makes the cells of these rows blank and plain.
 fn clear_rows(rows: &mut [ListOf<Option<Cell>>])
@@ -23,22 +30,29 @@ pub(crate) fn clear_all(rows: &mut Vec<ListOf<Option<Cell>>>)
     clear_rows(&mut rows[..]);
 }
 
-/// Moves the rows from one to before another down by so many.
-pub(crate) fn move_down(rows: &mut Vec<ListOf<Option<Cell>>>, from: usize, end: usize, count: usize)
+/// Moves the rows from one to before another by so many.
+pub(crate) fn move_rows(
+    rows: &mut Vec<ListOf<Option<Cell>>>,
+    from: usize,
+    end: usize,
+    way: Way,
+    count: usize,
+)
     requires order { from ≤ end }
     requires end { end ≤ length rows.old.items }
-    ensures { rows.new.items ≡ changed_between from end (moved_down count) rows.old.items }
+    ensures { rows.new.items ≡ changed_between from end (moved way count) rows.old.items }
 {
-    push_down(&mut rows[from..end], count);
+    push(&mut rows[from..end], way, count);
 }
 
-/// Moves the rows from one to before another up by so many.
-pub(crate) fn move_up(rows: &mut Vec<ListOf<Option<Cell>>>, from: usize, end: usize, count: usize)
-    requires order { from ≤ end }
-    requires end { end ≤ length rows.old.items }
-    ensures { rows.new.items ≡ changed_between from end (moved_up count) rows.old.items }
+/// Moves rows by so many, and blank ones come in their place.
+fn push(rows: &mut [ListOf<Option<Cell>>], way: Way, count: usize)
+    ensures { rows.new ≡ moved way count rows.old }
 {
-    push_up(&mut rows[from..end], count);
+    match way {
+        Way::Down => push_down(rows, count),
+        Way::Up => push_up(rows, count),
+    }
 }
 
 /// Moves rows down by so many: the last ones are lost, and blank ones come before the others.
