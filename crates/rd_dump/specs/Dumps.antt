@@ -10,6 +10,8 @@ use Rattle.rd_base.specs.declared.cell.Cell.{Cell}
 use Rattle.rd_base.specs.declared.cell.Cell.TheVariants.{Blank, First, Rest}
 use Rattle.rd_term.specs.Pictures.{Picture}
 use Rattle.rd_dump.specs.declared.dump.WindowFacts.{WindowFacts}
+use Rattle.rd_dump.specs.declared.dump.Line.{Line}
+use Rattle.rd_dump.specs.declared.dump.Line.TheVariants.{Window, Row, Cursor}
 use Rattle.rd_dump.specs.declared.print.Token.{Token}
 use Rattle.rd_dump.specs.declared.print.Token.TheVariants.{Text, Number}
 
@@ -132,6 +134,12 @@ rows_text row (cells ∷ rows) = row_line row cells ++ rows_text (row + 1) rows
 
 abbrev pub cursor_line : Picture → List ℕ
 cursor_line picture = codes "cursor " ++ place_text (Some (picture.row, picture.column))
+
+-- a line, of whichever kind
+abbrev pub line_text : Line → List ℕ
+line_text (Window facts) = window_line facts.now
+line_text (Row row cells) = row_line row cells.now
+line_text (Cursor place) = codes "cursor " ++ place_text (Some place)
 
 -- a line for each window, a line for each row of the screen, and a line for its cursor
 abbrev pub dump_text : Picture → List WindowFacts → List ℕ

@@ -1,10 +1,10 @@
 //! The dump of a screen and of the windows on it.
-ghost use Rattle.std.specs.Prelude.{◌≡◌, ◌≤◌, OnErr, take};
+ghost use Rattle.std.specs.Prelude.{◌≡◌, ◌≤◌, ◌++◌, OnErr, Some, codes, take};
 ghost use Rattle.std.specs.List.{flat_map};
 ghost use Rattle.rd_base.specs.Chars.{encoded};
 ghost use Rattle.rd_base.specs.Glyphs.{glyph_bytes};
 ghost use Rattle.rd_io.specs.Devices.{Rose, Writes};
-ghost use Rattle.rd_dump.specs.Dumps.{dump_text, windows_text, window_line, place_text, cursor_line, rows_text, row_line, cells_text, cell_text};
+ghost use Rattle.rd_dump.specs.Dumps.{dump_text, windows_text, window_line, place_text, rows_text, row_line, line_text, cells_text, cell_text};
 ghost use Rattle.rd_dump.specs.Prints.{Prints};
 
 use crate::print::{Token, print_bytes, print_character, print_tokens};
@@ -25,6 +25,14 @@ pub struct WindowFacts {
     pub cursor: Option<(u32, u32)>,
 }
 
+/// A line of a dump: that of a window, of a row with its number and cells, or of the cursor with its row and column.
+#[derive(Clone, Copy)]
+enum Line<'a> {
+    Window(&'a WindowFacts),
+    Row(u32, &'a [Cell]),
+    Cursor((u32, u32)),
+}
+
 /// Writes the dump of a screen: a line for each window in the order given, a line for each row of the screen, and a line for its
 /// cursor. It takes no memory, and each line of a screen of at most 400 columns is one write. After a failure a front of the dump
 /// was written.
@@ -39,7 +47,29 @@ pub fn print_dump<K: Sink>(
 {
     print_windows(sink, windows)?;
     print_rows(sink, screen)?;
-    print_cursor(sink, screen)
+    print_line(sink, &Line::Cursor(screen.cursor()))
+}
+
+/// Writes a line, in one piece where a piece has room for it.
+fn print_line<K: Sink>(sink: &mut K, line: &Line) -> Result<(), Failed>
+    ensures { Prints (K.written sink.old) (K.written sink.new) (K.faults sink.old) (K.faults sink.new) (line_text line.now) result }
+{
+    let mut piece = Piece::new();
+    match print_line_tokens(&mut piece, line) {
+        Ok(()) => print_bytes(sink, piece.bytes()),
+        Err(_full) => print_line_tokens(sink, line),
+    }
+}
+
+/// Writes the tokens of a line.
+fn print_line_tokens<K: Sink>(sink: &mut K, line: &Line) -> Result<(), Failed>
+    ensures { Prints (K.written sink.old) (K.written sink.new) (K.faults sink.old) (K.faults sink.new) (line_text line.now) result }
+{
+    match line {
+        Line::Window(facts) => print_window_tokens(sink, facts),
+        Line::Row(row, cells) => print_row_tokens(sink, *row, cells),
+        Line::Cursor(place) => print_cursor_tokens(sink, *place),
+    }
 }
 
 /// Writes a line for each window.
@@ -47,20 +77,9 @@ fn print_windows<K: Sink>(sink: &mut K, windows: &[WindowFacts]) -> Result<(), F
     ensures { Prints (K.written sink.old) (K.written sink.new) (K.faults sink.old) (K.faults sink.new) (windows_text windows.now) result }
 {
     for facts in windows {
-        print_window(sink, facts)?;
+        print_line(sink, &Line::Window(facts))?;
     }
     Ok(())
-}
-
-/// Writes the line of a window, in one piece.
-fn print_window<K: Sink>(sink: &mut K, facts: &WindowFacts) -> Result<(), Failed>
-    ensures { Prints (K.written sink.old) (K.written sink.new) (K.faults sink.old) (K.faults sink.new) (window_line facts.now) result }
-{
-    let mut piece = Piece::new();
-    match print_window_tokens(&mut piece, facts) {
-        Ok(()) => print_bytes(sink, piece.bytes()),
-        Err(_full) => print_window_tokens(sink, facts),
-    }
 }
 
 /// Writes the tokens of a window's line.
@@ -108,23 +127,12 @@ fn print_place<K: Sink>(sink: &mut K, place: Option<(u32, u32)>) -> Result<(), F
     }
 }
 
-/// Writes the line of a screen's cursor, in one piece.
-fn print_cursor<K: Sink>(sink: &mut K, screen: &Screen) -> Result<(), Failed>
-    ensures { Prints (K.written sink.old) (K.written sink.new) (K.faults sink.old) (K.faults sink.new) (cursor_line screen.now) result }
-{
-    let mut piece = Piece::new();
-    match print_cursor_tokens(&mut piece, screen) {
-        Ok(()) => print_bytes(sink, piece.bytes()),
-        Err(_full) => print_cursor_tokens(sink, screen),
-    }
-}
-
 /// Writes the tokens of the cursor's line.
-fn print_cursor_tokens<K: Sink>(sink: &mut K, screen: &Screen) -> Result<(), Failed>
-    ensures { Prints (K.written sink.old) (K.written sink.new) (K.faults sink.old) (K.faults sink.new) (cursor_line screen.now) result }
+fn print_cursor_tokens<K: Sink>(sink: &mut K, place: (u32, u32)) -> Result<(), Failed>
+    ensures { Prints (K.written sink.old) (K.written sink.new) (K.faults sink.old) (K.faults sink.new) (codes "cursor " ++ place_text (Some place)) result }
 {
     print_tokens(sink, &[Token::Text("cursor ")])?;
-    print_place(sink, Some(screen.cursor()))
+    print_place(sink, Some(place))
 }
 
 /// Writes a line for each row of a screen.
@@ -132,20 +140,9 @@ fn print_rows<K: Sink>(sink: &mut K, screen: &Screen) -> Result<(), Failed>
     ensures { Prints (K.written sink.old) (K.written sink.new) (K.faults sink.old) (K.faults sink.new) (rows_text 0 screen.now.rows) result }
 {
     for row in 0..screen.height() {
-        print_row(sink, row, screen.row(row))?;
+        print_line(sink, &Line::Row(row, screen.row(row)))?;
     }
     Ok(())
-}
-
-/// Writes the line of a row, in one piece where it has at most 400 columns.
-fn print_row<K: Sink>(sink: &mut K, row: u32, cells: &[Cell]) -> Result<(), Failed>
-    ensures { Prints (K.written sink.old) (K.written sink.new) (K.faults sink.old) (K.faults sink.new) (row_line row cells.now) result }
-{
-    let mut piece = Piece::new();
-    match print_row_tokens(&mut piece, row, cells) {
-        Ok(()) => print_bytes(sink, piece.bytes()),
-        Err(_full) => print_row_tokens(sink, row, cells),
-    }
 }
 
 /// Writes the tokens of a row's line: its text between two bytes `|`, and the runs of its faces.

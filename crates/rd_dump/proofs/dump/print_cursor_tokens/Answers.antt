@@ -1,13 +1,8 @@
-use Rattle.std.proofs.Common.{ap}
-use Rattle.rd_dump.specs.Dumps.{place_text}
-use Rattle.std.proofs.Common.{codes, ◌++◌, Some}
-use Rattle.rd_dump.proofs.Writing.{prints-then, prints-stop, prints-fail, prints-as}
+use Rattle.rd_dump.proofs.Writing.{prints-then, prints-stop, prints-fail}
 use Rattle.rd_dump.proofs.dump.print_cursor_tokens.Goals as goal
 
 pub returns-in_err-print_tokens : goal.returns-in_err-print_tokens
 returns-in_err-print_tokens g c = prints-stop _ _ _ _ _ _ _ (prints-fail _ _ _ _ _ _ _ c.in_err-print_tokens.ensures c.from_residual.ensures.0) c.from_residual.ensures.0
 
 pub returns : goal.returns
-returns g c =
-    prints-as _ _ _ _ _ _ _ (ap (λ place. codes "cursor " ++ place_text (Some place)) c.cursor.ensures)
-    (prints-then _ _ _ _ _ _ _ _ _ _ c.in_ok-print_tokens.ensures c.print_place.ensures)
+returns g c = prints-then _ _ _ _ _ _ _ _ _ _ c.in_ok-print_tokens.ensures c.print_place.ensures
