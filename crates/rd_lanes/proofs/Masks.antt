@@ -1,21 +1,13 @@
 -- From the mask of a group to the numbers in it.
-use Rattle.std.proofs.Common.{◌≡◌, ℕ, ◌+◌, ◌-◌, ◌/◌, ◌%◌, ◌^◌, ◌<◌, ◌≤◌, eqb, leb, Bool, true, false, not, cond, List, map, length, get_or, take, replicate, inl, inr, refl, sym, ap, ◌∙◌, arith, w32, w64}
+use Rattle.std.proofs.Common.{◌≡◌, ℕ, ◌+◌, ◌-◌, ◌/◌, ◌%◌, ◌^◌, ◌<◌, ◌≤◌, eqb, leb, Bool, true, false, not, cond, List, map, length, get_or, take, replicate, refl, sym, ap, ◌∙◌, arith, w32, w64}
 use Rattle.std.proofs.Math.Seq.{take-add}
-use Rattle.std.proofs.lemmas.Bool.{cases_lt, eqb-true, not-false}
+use Rattle.std.proofs.lemmas.Bool.{eqb-true, not-false}
 use Rattle.std.proofs.lemmas.List.{length-map}
 use Rattle.std.proofs.lemmas.List.Sums.{sum_by-append, count_by-le-length}
 use Rattle.std.proofs.lemmas.Simd.{tops_compared, zip2_splat_left, mask_l-mod, length-chunk, get_or-chunk, get_or-zip2, length-zip2, bit_mask_l, none_from_empty_mask, ones-mask_l}
 use Rattle.std.specs.Int.RustNames.{count_ones}
 use Rattle.std.specs.List.{count_by}
 use Rattle.std.specs.Simd.Lanes.{chunk, zip2, mask_l, top}
-
-pub reaching_mask : (xs : List ℕ) (at limit : ℕ) → at + 8 ≤ length xs
-    → mask_l (map (top 31) (zip2 (λ a b. cond (leb a b) 4294967295 0) (replicate 8 limit) (chunk at 8 xs))) % 2 ^ 64 ≡ mask_l (map (λ y. leb limit y) (chunk at 8 xs))
-reaching_mask xs at limit room =
-    let v = chunk at 8 xs in
-    let long : length v ≡ 8 = length-chunk at 8 xs room in
-    ap (λ l. mask_l l % 2 ^ 64) (tops_compared w32 leb (replicate 8 limit) v ∙ zip2_splat_left leb limit 8 v long)
-    ∙ mask_l-mod (map (λ y. leb limit y) v) 64 (omega (arith, length-map v (λ y. leb limit y)))
 
 -- no lane is set in an empty mask
 unset : (b : Bool) → ◌≡◌ {A = ℕ} (cond b 1 0) 0 → b ≡ false
@@ -47,20 +39,17 @@ same_groups a b at k ra rb e from to =
     let xb : get_or v i 0 ≡ get_or b k 0 = get_or-chunk at 8 b i 0 (omega arith) ∙ ap (λ j. get_or b j 0) back in
     sym xa ∙ eqb-true (get_or u i 0) (get_or v i 0) (not-false _ lane) ∙ xb
 
--- one more group without a number that passes, in front and behind
-pub front_more : (p : ℕ → Bool) (xs : List ℕ) (at mask k : ℕ) → at + 8 ≤ length xs → mask ≡ mask_l (map p (chunk at 8 xs)) → mask ≡ 0
-    → ((i : ℕ) → i < at → p (get_or xs i 0) ≡ false) → k < at + 8 → p (get_or xs k 0) ≡ false
-front_more p xs at mask k room is empty before to = elim (cases_lt k at) [
-  | inl less ↦ before k less
-  | inr more ↦ none_from_empty_mask p xs at 8 0 room (sym is ∙ empty) k more to
-]
-
-pub back_more : (p : ℕ → Bool) (xs : List ℕ) (end mask k : ℕ) → 8 ≤ end → end ≤ length xs → mask ≡ mask_l (map p (chunk (end - 8) 8 xs)) → mask ≡ 0
-    → ((i : ℕ) → end ≤ i → i < length xs → p (get_or xs i 0) ≡ false) → end - 8 ≤ k → k < length xs → p (get_or xs k 0) ≡ false
-back_more p xs end mask k low high is empty behind from to = elim (cases_lt k end) [
-  | inl less ↦ none_from_empty_mask p xs (end - 8) 8 0 (omega arith) (sym is ∙ empty) k from (omega arith)
-  | inr more ↦ behind k more to
-]
+-- a group without a number that is at least a limit
+pub none_reaches : (xs : List ℕ) (at limit k : ℕ) → at + 8 ≤ length xs
+    → mask_l (map (top 31) (zip2 (λ a b. cond (leb a b) 4294967295 0) (replicate 8 limit) (chunk at 8 xs))) % 2 ^ 64 ≡ 0
+    → at ≤ k → k < at + 8 → leb limit (get_or xs k 0) ≡ false
+none_reaches xs at limit k room e from to =
+    let p = λ (y : ℕ). leb limit y in
+    let v = chunk at 8 xs in
+    let long : length v ≡ 8 = length-chunk at 8 xs room in
+    let mask : mask_l (map (top 31) (zip2 (λ a b. cond (leb a b) 4294967295 0) (replicate 8 limit) v)) % 2 ^ 64 ≡ mask_l (map p v) =
+    ap (λ l. mask_l l % 2 ^ 64) (tops_compared w32 leb (replicate 8 limit) v ∙ zip2_splat_left leb limit 8 v long) ∙ mask_l-mod (map p v) 64 (omega (arith, length-map v p)) in
+    none_from_empty_mask p xs at 8 0 room (sym mask ∙ e) k from to
 
 -- one more group is counted
 pub count_more : (p : ℕ → Bool) (xs : List ℕ) (at n mask : ℕ) → mask ≡ mask_l (map p (chunk at 8 xs)) → n ≡ count_by p (take at xs) → n + count_ones mask ≡ count_by p (take (at + 8) xs)

@@ -18,15 +18,25 @@ pub(crate) fn equal(list: &[u32], at: usize, x: u32) -> u64
         .to_bitmask()
 }
 
-/// Which numbers of the group at an index reach `limit`: a bit for each, the lowest for the first.
+/// Whether a number of the group at an index may equal `x`: where not, none does.
 #[inline(always)]
-pub(crate) fn reaching(list: &[u32], at: usize, limit: u32) -> u64
+pub(crate) fn may_equal(list: &[u32], at: usize, x: u32) -> bool
     requires { at + LANES ≤ length list.now }
-    ensures { result ≡ mask_l (map (λ y. nat_le limit y) (chunk at 8 list.now)) }
+    ensures { result ≡ false → (k : ℕ) → at ≤ k → k < at + 8 → (slice_index list.now k == x) ≡ false }
+{
+    equal(list, at, x) != 0
+}
+
+/// Whether a number of the group at an index may reach `limit`: where not, none does.
+#[inline(always)]
+pub(crate) fn may_reach(list: &[u32], at: usize, limit: u32) -> bool
+    requires { at + LANES ≤ length list.now }
+    ensures { result ≡ false → (k : ℕ) → at ≤ k → k < at + 8 → nat_le limit (slice_index list.now k) ≡ false }
 {
     u32x8::from_slice(&list[at..])
         .simd_ge(u32x8::splat(limit))
         .to_bitmask()
+        != 0
 }
 
 /// Whether the groups of two slices at an index may differ: where not, they are equal.

@@ -7,6 +7,7 @@ mod examples;
 mod groups;
 mod search;
 mod tally;
+mod walk;
 
 pub use difference::{first_diff, last_diff};
 pub use search::{find, rfind};

@@ -1,8 +1,9 @@
 //! How many numbers equal one, and whether all stay below one.
-ghost use Rattle.std.specs.Prelude.{◌≡◌, ℕ, ◌+◌, ◌<◌, ◌≤◌, ◌==◌, nat_le, nat_lt, false, length, take, drop, slice_index};
+ghost use Rattle.std.specs.Prelude.{◌≡◌, ◌+◌, ◌≤◌, ◌==◌, nat_lt, length, take, drop};
 ghost use Rattle.std.specs.List.{count_by, list_all};
 
-use crate::groups::{LANES, equal, reaching};
+use crate::groups::{LANES, equal, may_reach};
+use crate::walk::first_place;
 
 /// How often `x` stands in a slice.
 pub fn count(list: &[u32], x: u32) -> usize
@@ -37,25 +38,10 @@ fn count_plainly(list: &[u32], x: u32) -> usize
 pub fn all_below(list: &[u32], limit: u32) -> bool
     ensures { result ≡ list_all (λ y. nat_lt y limit) list.now }
 {
-    for i in below(list, limit)..list.len() {
-        if limit <= list[i] {
-            return false;
-        }
-    }
-    true
-}
-
-/// How many numbers stand in the whole groups before the first group in which one reaches `limit`.
-fn below(list: &[u32], limit: u32) -> usize
-    ensures bound { result ≤ length list.now }
-    ensures none { (k : ℕ) → k < result → nat_le limit (slice_index list.now k) ≡ false }
-{
-    let mut at = 0;
-    while LANES <= list.len() - at {
-        if reaching(list, at, limit) != 0 {
-            return at;
-        }
-        at += LANES;
-    }
-    at
+    first_place(
+        list.len(),
+        |at| may_reach(list, at, limit),
+        |i| limit <= list[i],
+    )
+    .is_none()
 }

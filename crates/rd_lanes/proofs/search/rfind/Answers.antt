@@ -1,13 +1,9 @@
-use Rattle.std.proofs.Common.{eqb, arith}
-use Rattle.std.proofs.lemmas.Bool.{eq-eqb}
-use Rattle.rd_lanes.proofs.Places.{last-found, last-absent}
+use Rattle.std.proofs.Common.{ℕ, rules, eqb, get_or}
+use Rattle.rd_lanes.proofs.Places.{is-last}
 use Rattle.rd_lanes.proofs.search.rfind.Goals as goal
-
-pub returns-then-list-end : goal.returns-then-list-end
-returns-then-list-end c =
-    last-found (λ y. eqb y c.args.x) c.args.list.now c.loop-end.end 0 c.loop-end-test.true c.loop-end.invariant.0 c.loop-end.invariant.1 (eq-eqb _ _ c.if-list-end.true)
 
 pub returns : goal.returns
 returns c =
-    let stop = c.loop-end-test.false in
-    last-absent (λ y. eqb y c.args.x) c.args.list.now c.loop-end.end 0 (omega arith) c.loop-end.invariant.1
+    let list = c.args.list.now in
+    let p = λ (y : ℕ). eqb y c.args.x in
+    is-last p list 0 c.last_place.result (c.last_place.ensures (λ k. p (get_or list k 0)) (λ k answer within told. search rules))
