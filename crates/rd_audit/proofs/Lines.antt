@@ -111,7 +111,7 @@ row-line row cells h =
 abbrev pub cursor_body : Picture → List ℕ
 cursor_body picture = codes "cursor " ++ place_body (Some (picture.row, picture.column))
 
-pub cursor-line : (picture : Picture) → IsLine (cursor_line picture) (cursor_body picture)
+pub cursor-line : (picture : Picture) → IsLine (cursor_line (picture.row, picture.column)) (cursor_body picture)
 cursor-line picture = line-behind (codes "cursor ") (place_text (Some (picture.row, picture.column))) (place_body (Some (picture.row, picture.column))) refl (place-line (Some (picture.row, picture.column)))
 
 -- ---- all lines

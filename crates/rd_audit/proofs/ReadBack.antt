@@ -179,11 +179,11 @@ dump-lines : (picture : Picture) (windows : List WindowFacts) (after : List ℕ)
     → lines_of (dump_text picture windows ++ after) ≡ map window_body windows ++ group_of picture (lines_of after)
 dump-lines picture windows after h =
     let rows = rows_text 0 picture.rows in
-    ap lines_of (append_assoc (windows_text windows ++ rows) (cursor_line picture) after ∙ append_assoc (windows_text windows) rows (cursor_line picture ++ after))
-    ∙ windows-lines windows (rows ++ (cursor_line picture ++ after))
+    ap lines_of (append_assoc (windows_text windows ++ rows) (cursor_line (picture.row, picture.column)) after ∙ append_assoc (windows_text windows) rows (cursor_line (picture.row, picture.column) ++ after))
+    ∙ windows-lines windows (rows ++ (cursor_line (picture.row, picture.column) ++ after))
     ∙ ap (λ l. map window_body windows ++ l)
-    (rows-lines 0 picture.rows (cursor_line picture ++ after) h
-    ∙ ap (λ l. row_bodies 0 picture.rows ++ l) (line-first (cursor_line picture) (cursor_body picture) after (cursor-line picture)))
+    (rows-lines 0 picture.rows (cursor_line (picture.row, picture.column) ++ after) h
+    ∙ ap (λ l. row_bodies 0 picture.rows ++ l) (line-first (cursor_line (picture.row, picture.column)) (cursor_body picture) after (cursor-line picture)))
 
 -- bytes that end with a newline are lines of their own
 abbrev IsCutAt : List ℕ → Type 0

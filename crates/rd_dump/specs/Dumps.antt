@@ -132,15 +132,15 @@ abbrev pub rows_text : ℕ → List (List Cell) → List ℕ
 rows_text row [] = []
 rows_text row (cells ∷ rows) = row_line row cells ++ rows_text (row + 1) rows
 
-abbrev pub cursor_line : Picture → List ℕ
-cursor_line picture = codes "cursor " ++ place_text (Some (picture.row, picture.column))
+abbrev pub cursor_line : ℕ × ℕ → List ℕ
+cursor_line place = codes "cursor " ++ place_text (Some place)
 
 -- a line, of whichever kind
 abbrev pub line_text : Line → List ℕ
 line_text (Window facts) = window_line facts.now
 line_text (Row row cells) = row_line row cells.now
-line_text (Cursor place) = codes "cursor " ++ place_text (Some place)
+line_text (Cursor place) = cursor_line place
 
 -- a line for each window, a line for each row of the screen, and a line for its cursor
 abbrev pub dump_text : Picture → List WindowFacts → List ℕ
-dump_text picture windows = windows_text windows ++ rows_text 0 picture.rows ++ cursor_line picture
+dump_text picture windows = windows_text windows ++ rows_text 0 picture.rows ++ cursor_line (picture.row, picture.column)

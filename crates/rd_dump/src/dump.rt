@@ -1,10 +1,10 @@
 //! The dump of a screen and of the windows on it.
-ghost use Rattle.std.specs.Prelude.{◌≡◌, ◌≤◌, ◌++◌, OnErr, Some, codes, take};
+ghost use Rattle.std.specs.Prelude.{◌≡◌, ◌≤◌, OnErr, take};
 ghost use Rattle.std.specs.List.{flat_map};
 ghost use Rattle.rd_base.specs.Chars.{encoded};
 ghost use Rattle.rd_base.specs.Glyphs.{glyph_bytes};
 ghost use Rattle.rd_io.specs.Devices.{Rose, Writes};
-ghost use Rattle.rd_dump.specs.Dumps.{dump_text, windows_text, window_line, place_text, rows_text, row_line, line_text, cells_text, cell_text};
+ghost use Rattle.rd_dump.specs.Dumps.{dump_text, windows_text, window_line, place_text, cursor_line, rows_text, row_line, line_text, cells_text, cell_text};
 ghost use Rattle.rd_dump.specs.Prints.{Prints};
 
 use crate::print::{Token, print_bytes, print_character, print_tokens};
@@ -129,7 +129,7 @@ fn print_place<K: Sink>(sink: &mut K, place: Option<(u32, u32)>) -> Result<(), F
 
 /// Writes the tokens of the cursor's line.
 fn print_cursor_tokens<K: Sink>(sink: &mut K, place: (u32, u32)) -> Result<(), Failed>
-    ensures { Prints (K.written sink.old) (K.written sink.new) (K.faults sink.old) (K.faults sink.new) (codes "cursor " ++ place_text (Some place)) result }
+    ensures { Prints (K.written sink.old) (K.written sink.new) (K.faults sink.old) (K.faults sink.new) (cursor_line place) result }
 {
     print_tokens(sink, &[Token::Text("cursor ")])?;
     print_place(sink, Some(place))

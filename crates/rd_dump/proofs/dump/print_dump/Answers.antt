@@ -1,5 +1,5 @@
-use Rattle.std.proofs.Common.{ap, codes, ◌++◌, Some}
-use Rattle.rd_dump.specs.Dumps.{place_text}
+use Rattle.std.proofs.Common.{ap}
+use Rattle.rd_dump.specs.Dumps.{cursor_line}
 use Rattle.rd_dump.proofs.Writing.{prints-then, prints-stop, prints-fail, prints-as, writes-of}
 use Rattle.rd_dump.proofs.dump.print_dump.Goals as goal
 
@@ -10,4 +10,4 @@ returns-in_err-print_rows-clause-bytes g c =
 
 pub returns-clause-bytes : goal.returns-clause-bytes
 returns-clause-bytes g c =
-    writes-of _ _ _ _ _ _ (prints-then _ _ _ _ _ _ _ _ _ _ (prints-then _ _ _ _ _ _ _ _ _ _ c.in_ok-print_windows.ensures c.in_ok-print_rows.ensures) (prints-as _ _ _ _ _ _ _ (ap (λ place. codes "cursor " ++ place_text (Some place)) c.cursor.ensures) c.print_line.ensures))
+    writes-of _ _ _ _ _ _ (prints-then _ _ _ _ _ _ _ _ _ _ (prints-then _ _ _ _ _ _ _ _ _ _ c.in_ok-print_windows.ensures c.in_ok-print_rows.ensures) (prints-as _ _ _ _ _ _ _ (ap cursor_line c.cursor.ensures) c.print_line.ensures))
