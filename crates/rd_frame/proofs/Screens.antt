@@ -2,7 +2,7 @@
 use Rattle.std.proofs.Common.{◌≡◌, ℕ, zero, suc, ◌+◌, ◌-◌, ◌<◌, ◌≤◌, Bool, true, false, Some, List, [], ◌∷◌, ◌++◌, length, take, get_or, refl, sym, ◌∙◌, ap, arith}
 use Rattle.std.specs.Prelude.{map, replicate, slice_get, if◌then◌else◌}
 use Rattle.std.specs.List.{AllByRecursion}
-use Rattle.std.proofs.lemmas.List.{append-nil, map-append, length-map, length-replicate, length-take-le, get_or-map, get_or-replicate, take_more}
+use Rattle.std.proofs.lemmas.List.{append-nil, map-append, length-map, length-replicate, length-take-le, take_all, get_or-map, get_or-replicate, take_more}
 use Rattle.rd_base.specs.Cells.{row_at}
 use Rattle.rd_base.specs.declared.cell.Cell.{Cell}
 use Rattle.rd_matrix.specs.declared.matrix.Entry.{Entry}
@@ -48,6 +48,13 @@ at-none (suc row) column (top ∷ rows) = ap (λ (xs : List (List Cell)). top �
 
 pub laid-none : (screen : Picture) (row column : ℕ) → screen ≡ laid_on screen row column []
 laid-none screen row column = ap (λ (rows : List (List Cell)). let p : Picture = record screen { rows = rows } in p) (sym (at-none row column screen.rows))
+
+-- all rows are painted
+pub laid-whole : (old new : Picture) (row column i : ℕ) (all : List (List Cell)) → length all ≤ i → new ≡ laid_on old row column (take i all) → new ≡ record old { rows = laid_from row column all old.rows }
+laid-whole old new row column i all whole painted =
+    painted
+    ∙ (ap (laid_on old row column) (take_all i all whole)
+    ∙ ap (λ (rows : List (List Cell)). let p : Picture = record old { rows = rows } in p) (sym (at-rectangle row column all old.rows)))
 
 pub laid-step : (old mid new : Picture) (row at column i : ℕ) (all : List (List Cell)) (cells : List Cell) → i < length all → at ≡ row + i → get_or all i [] ≡ cells
     → mid ≡ laid_on old row column (take i all) → new ≡ record mid { rows = with_cells mid.rows at column cells } → new ≡ laid_on old row column (take (i + 1) all)

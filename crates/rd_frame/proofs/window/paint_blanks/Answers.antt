@@ -1,11 +1,11 @@
 use Rattle.std.proofs.Common.{◌≡◌, ℕ, ◌+◌, ◌-◌, ◌<◌, [], length, List, take, get_or, map, replicate, refl, ap, sym, ◌∙◌, arith}
-use Rattle.std.proofs.lemmas.List.{length-map, length-replicate, take_all}
+use Rattle.std.proofs.lemmas.List.{length-map, length-replicate}
 use Rattle.rd_base.specs.declared.cell.Cell.{Cell}
 use Rattle.rd_term.specs.Pictures.{Picture, blank_row, width_of}
 use Rattle.rd_frame.specs.Panes.{body_height, body_width, bordered}
 use Rattle.rd_frame.specs.Paints.{laid_from}
 use Rattle.rd_frame.proofs.Painting.{at-rectangle}
-use Rattle.rd_frame.proofs.Screens.{laid_on, laid-none, laid-step, row-of-blanks}
+use Rattle.rd_frame.proofs.Screens.{laid_on, laid-none, laid-step, laid-whole, row-of-blanks}
 use Rattle.rd_frame.proofs.window.paint_blanks.Goals as goal
 
 -- no row is below
@@ -67,9 +67,8 @@ loop-row-preserved c =
 
 pub returns-clause-painted : goal.returns-clause-painted
 returns-clause-painted c =
-    let screen = c.args.screen.now in
     let window = c.args.window in
-    let width : ℕ = width_of screen.rows in
+    let width : ℕ = width_of c.args.screen.now.rows in
     let from : ℕ = c.args.from in
     let beside = bordered width window c.args.border.now in
     let blanks = replicate (body_height window - from) (blank_row (window.margins + body_width width window)) in
@@ -77,6 +76,4 @@ returns-clause-painted c =
     let over = c.loop-row-test.false in
     let end = c.body_height-row-end.ensures in
     let count : length all ≡ body_height window - from = length-map blanks beside ∙ length-replicate (body_height window - from) (blank_row (window.margins + body_width width window)) in
-    c.loop-row.invariant.painted
-    ∙ (ap (laid_on screen (window.rect.y + from) window.rect.x) (take_all (c.loop-row.row - from) all (omega arith))
-    ∙ ap (λ (rows : List (List Cell)). let p : Picture = record screen { rows = rows } in p) (sym (at-rectangle (window.rect.y + from) window.rect.x all screen.rows)))
+    laid-whole c.args.screen.now c.loop-row.screen (window.rect.y + from) window.rect.x (c.loop-row.row - from) all (omega arith) c.loop-row.invariant.painted

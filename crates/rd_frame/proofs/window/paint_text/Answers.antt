@@ -1,12 +1,11 @@
 use Rattle.std.proofs.Common.{◌≡◌, ℕ, ◌+◌, ◌<◌, ◌++◌, [], length, List, get_or, map, refl, ap, sym, subst, ◌∙◌, arith}
-use Rattle.std.proofs.lemmas.List.{length-map, take_all}
+use Rattle.std.proofs.lemmas.List.{length-map}
 use Rattle.rd_base.specs.declared.cell.Cell.{Cell}
-use Rattle.rd_term.specs.Pictures.{Picture, width_of}
+use Rattle.rd_term.specs.Pictures.{width_of}
 use Rattle.rd_frame.specs.Fits.{FitsRow}
 use Rattle.rd_frame.specs.Held.{glyph_rows}
 use Rattle.rd_frame.specs.Panes.{GlyphRow, body_width, bordered, row_cells}
-use Rattle.rd_frame.proofs.Painting.{at-rectangle}
-use Rattle.rd_frame.proofs.Screens.{laid_on, laid-none, laid-step, glyph-count, glyph-at, row-of-matrix}
+use Rattle.rd_frame.proofs.Screens.{laid-none, laid-step, laid-whole, glyph-count, glyph-at, row-of-matrix}
 use Rattle.rd_frame.proofs.window.paint_text.Goals as goal
 
 pub loop-row-init : goal.loop-row-init
@@ -60,14 +59,11 @@ loop-row-preserved c =
 
 pub returns-clause-painted : goal.returns-clause-painted
 returns-clause-painted c =
-    let screen = c.args.screen.now in
     let window = c.args.window in
-    let row : ℕ = c.loop-row.row in
+    let width : ℕ = width_of c.args.screen.now.rows in
     let glyphs = glyph_rows c.args.margins.now c.args.matrix.now in
-    let all = map (bordered (width_of screen.rows) window c.args.border.now) (map row_cells glyphs) in
+    let all = map (bordered width window c.args.border.now) (map row_cells glyphs) in
     let over = c.loop-row-test.false in
     let end = c.len-row-end.ensures in
-    let ended : length all ≡ length c.args.matrix.now = length-map (map row_cells glyphs) (bordered (width_of screen.rows) window c.args.border.now) ∙ (length-map glyphs row_cells ∙ glyph-count c.args.margins.now c.args.matrix.now) in
-    c.loop-row.invariant.painted
-    ∙ (ap (laid_on screen window.rect.y window.rect.x) (take_all row all (omega arith))
-    ∙ ap (λ (rows : List (List Cell)). let p : Picture = record screen { rows = rows } in p) (sym (at-rectangle window.rect.y window.rect.x all screen.rows)))
+    let ended : length all ≡ length c.args.matrix.now = length-map (map row_cells glyphs) (bordered width window c.args.border.now) ∙ (length-map glyphs row_cells ∙ glyph-count c.args.margins.now c.args.matrix.now) in
+    laid-whole c.args.screen.now c.loop-row.screen window.rect.y window.rect.x c.loop-row.row all (omega arith) c.loop-row.invariant.painted
