@@ -107,8 +107,9 @@ impl Entry {
     }
 }
 
-/// The column in which a reading column of a row is shown.
-fn shown_column(row: &Row, column: u32) -> u32
+/// The column in which a reading column of a row is shown, and the reading column of one that is shown, both counted from 0: the same
+/// column, and that as far from the right edge in a row that is read from there.
+pub fn shown_column(row: &Row, column: u32) -> u32
     ensures { result ≡ shown_column row.now.shown column }
 {
     if !row.reversed() {

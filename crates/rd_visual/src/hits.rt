@@ -1,12 +1,11 @@
 //! The position that a cell shows, and the cell in which a position is shown.
 ghost use Rattle.std.specs.Prelude.{◌≡◌, ◌<◌, length, All, Some};
-ghost use Rattle.rd_matrix.specs.Columns.{shown_column};
 ghost use Rattle.rd_matrix.specs.Cursors.{cursor_in};
 ghost use Rattle.rd_matrix.specs.Entries.{shown_entry, shown_entries};
-ghost use Rattle.rd_visual.specs.Hits.{Fits, AreInPositions, hit_in, item_at, item_of_cell, least_at, nearer, reaches, reading_column};
+ghost use Rattle.rd_visual.specs.Hits.{Fits, AreInPositions, hit_in, item_at, item_of_cell, least_at, nearer, reaches};
 
 use rd_base::Pos;
-use rd_matrix::{Entry, Matrix};
+use rd_matrix::{Entry, Matrix, shown_column};
 use rd_rows::{Begin, Row};
 
 /// The position that the cell in a row and a column shows, both counted from 0: the least that the cell's item covers. The cell's
@@ -49,17 +48,7 @@ fn item_of_cell(row: &Row, column: u32) -> Option<Begin>
     if column as usize >= row.cells().len() {
         return None;
     }
-    item_at(row.begins(), reading_column(row, column))
-}
-
-/// The reading column of a cell.
-fn reading_column(row: &Row, column: u32) -> u32
-    ensures { result ≡ reading_column row.now.shown column }
-{
-    if !row.reversed() {
-        return column;
-    }
-    row.last_column().saturating_sub(column)
+    item_at(row.begins(), shown_column(row, column))
 }
 
 /// The item of a reading column among those that begin in a row.
