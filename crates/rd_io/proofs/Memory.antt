@@ -1,20 +1,16 @@
 -- Counts of files in memory.
-use Rattle.std.proofs.Common.{◌≡◌, ℕ, ◌+◌, ◌-◌, ◌^◌, ◌<◌, ◌≤◌, ◌==◌, inl, min, cond, List, [], ◌∷◌, ◌++◌, Option, None, Some, refl, sym, ap, ◌∙◌, subst, arith}
+use Rattle.std.proofs.Common.{◌≡◌, ℕ, ◌+◌, ◌<◌, ◌≤◌, ◌==◌, inl, cond, List, [], ◌∷◌, ◌++◌, Option, None, Some, refl, sym, ap, ◌∙◌, subst, arith}
 use Rattle.std.proofs.lemmas.List.Sums.{sum_by_push}
 use Rattle.std.proofs.lemmas.Bool.{eq-eqb}
-use Rattle.std.proofs.lemmas.Bool.Decides.{nat_tests}
 use Rattle.std.specs.List.{count_by}
 use Rattle.rd_io.specs.Devices.{Rose, Fetches}
 use Rattle.std.proofs.Common.{length, take, drop, Ok, String, Vec, Global}
 use Rattle.rd_io.specs.Memory.{faults_at, bytes_at}
 
-counted : (m n : ℕ) → n ≡ min (m + 1) (2 ^ 64 - 1) → Rose m n
-counted m n e = grind (arith, nat_tests)
-
 -- a failure at a name without a file is counted
-pub rose-missing : (o : Option ℕ) (failed : List ℕ) (m n : ℕ) → o ≡ None → n ≡ min (m + 1) (2 ^ 64 - 1) → Rose (faults_at o failed m) (faults_at o failed n)
-rose-missing None failed m n none e = counted m n e
-rose-missing (Some place) failed m n none e = absurd (let no : Some place ≡ None = none in cc)
+pub rose-missing : (o : Option ℕ) (failed : List ℕ) (m n : ℕ) → o ≡ None → Rose m n → Rose (faults_at o failed m) (faults_at o failed n)
+rose-missing None failed m n none rose = rose
+rose-missing (Some place) failed m n none rose = absurd (let no : Some place ≡ None = none in cc)
 
 -- a failure at a file is noted
 pub rose-place : (o : Option ℕ) (failed new : List ℕ) (m place : ℕ) → o ≡ Some place → new ≡ failed ++ place ∷ [] → Rose (faults_at o failed m) (faults_at o new m)

@@ -55,13 +55,8 @@ pub fn read_file<F: Files>(alloc: Global, files: &mut F, name: &str) -> Result<V
 {
     let mut room = room(alloc)?;
     let mut bytes = Vec::new(alloc);
-    loop {
-        match fetch_more(files, name, &mut room, &mut bytes) {
-            Ok(true) => {}
-            Ok(false) => return Ok(bytes),
-            Err(fault) => return Err(fault),
-        }
-    }
+    while fetch_more(files, name, &mut room, &mut bytes)? {}
+    Ok(bytes)
 }
 
 /// Room for the bytes of one fetch.

@@ -1,7 +1,7 @@
 //! Thin adapters over the streams and files of the system. Contracts know no bytes of theirs.
 ghost use Rattle.std.specs.Prelude.{◌≡◌};
 
-use crate::traits::{Failed, Files, Sink, Source};
+use crate::traits::{Failed, Files, Sink, Source, failure};
 use std::fs::File;
 use std::io::{Read, Seek, SeekFrom, Write};
 use std::rt;
@@ -31,8 +31,7 @@ impl<R: Read> Source for StdSource<R> {
         if let Ok(n) = self.stream.read(buf) {
             return Ok(n);
         }
-        self.faults = self.faults.saturating_add(1);
-        Err(Failed)
+        Err(failure(&mut self.faults))
     }
 }
 
@@ -63,8 +62,7 @@ impl<W: Write> Sink for StdSink<W> {
                 return Ok(n);
             }
         }
-        self.faults = self.faults.saturating_add(1);
-        Err(Failed)
+        Err(failure(&mut self.faults))
     }
 }
 
@@ -97,7 +95,6 @@ impl<'a, R: rt::Files> Files for HostFiles<'a, R> {
                 }
             }
         }
-        self.faults = self.faults.saturating_add(1);
-        Err(Failed)
+        Err(failure(&mut self.faults))
     }
 }

@@ -3,7 +3,7 @@ ghost use Rattle.std.specs.Prelude.{ℕ, List, ◌≡◌, ◌≤◌, ◌<◌, �
 ghost use Rattle.rd_io.specs.Memory.{place_in, bytes_at};
 
 use crate::copy::copy_front;
-use crate::traits::{Failed, Files};
+use crate::traits::{Failed, Files, failure};
 
 /// Files by name, which fail at the calls that are set to fail. A fetch from a name without a file fails too. One count is kept for
 /// each file, and one for all other names. Of several files of one name the first counts.
@@ -57,8 +57,7 @@ impl Files for MemFiles {
     fn fetch(&mut self, name: &str, from: u64, buf: &mut [u8]) -> Result<usize, Failed> {
         self.made = self.made.saturating_add(1);
         let Some(place) = place_of(&self.files, name) else {
-            self.missing = self.missing.saturating_add(1);
-            return Err(Failed);
+            return Err(failure(&mut self.missing));
         };
         if self.log.fails(self.made, place as u64) {
             return Err(Failed);

@@ -2,7 +2,7 @@
 ghost use Rattle.std.specs.Prelude.{◌≡◌, ◌≤◌, [], Some, IfOk, length};
 
 use crate::calls::Calls;
-use crate::traits::{Failed, Sink};
+use crate::traits::{Failed, Sink, failure};
 use rd_base::Memory;
 use std::alloc::Global;
 
@@ -62,8 +62,7 @@ impl Sink for MemSink {
     fn write(&mut self, piece: &[u8]) -> Result<usize, Failed> {
         let left = self.room.len() - self.taken;
         if self.calls.next_fails() || left == 0 && !piece.is_empty() {
-            self.faults = self.faults.saturating_add(1);
-            return Err(Failed);
+            return Err(failure(&mut self.faults));
         }
         let n = left.min(piece.len());
         self.room[self.taken..self.taken + n].copy_from_slice(&piece[..n]);

@@ -3,7 +3,7 @@ ghost use Rattle.std.specs.Prelude.{◌≡◌, ◌≤◌, Some, length};
 
 use crate::calls::Calls;
 use crate::copy::copy_front;
-use crate::traits::{Failed, Source};
+use crate::traits::{Failed, Source, failure};
 
 /// A source of given bytes, which fails at the calls that are set to fail.
 #[derive(Drop)]
@@ -53,8 +53,7 @@ impl Source for MemSource {
 
     fn read(&mut self, buf: &mut [u8]) -> Result<usize, Failed> {
         if self.calls.next_fails() {
-            self.faults = self.faults.saturating_add(1);
-            return Err(Failed);
+            return Err(failure(&mut self.faults));
         }
         let n = copy_front(buf, &self.bytes[self.at..]);
         self.at += n;

@@ -1,7 +1,7 @@
 //! A piece of fixed size, in which a text is made that is then written at once.
 ghost use Rattle.std.specs.Prelude.{◌≡◌, [], Some};
 
-use crate::traits::{Failed, Sink};
+use crate::traits::{Failed, Sink, failure};
 use arrayvec::ArrayVec;
 
 /// The most bytes of a piece, which are more than the longest line of a dump has, that of a row of 400 columns: 28 bytes for each
@@ -44,10 +44,7 @@ impl Sink for Piece {
     fn write(&mut self, piece: &[u8]) -> Result<usize, Failed> {
         match self.bytes.try_extend_from_slice(piece) {
             Ok(()) => Ok(piece.len()),
-            Err(_full) => {
-                self.refused = self.refused.saturating_add(1);
-                Err(Failed)
-            }
+            Err(_full) => Err(failure(&mut self.refused)),
         }
     }
 }

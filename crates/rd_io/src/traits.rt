@@ -11,6 +11,15 @@ use thiserror::Error;
 #[error("the device failed")]
 pub struct Failed;
 
+/// Counts a fault.
+pub(crate) fn failure(faults: &mut u64) -> Failed
+    ensures rose { Rose faults.old faults.new }
+    ensures never_falls { faults.old ≤ faults.new }
+{
+    *faults = faults.saturating_add(1);
+    Failed
+}
+
 /// Where bytes come from, one after the other.
 pub trait Source {
     ghost use Rattle.std.specs.Prelude.{ℕ, List, Option};
@@ -78,9 +87,7 @@ pub fn write_whole<K: Sink>(sink: &mut K, bytes: &[u8]) -> Result<(), Failed>
 {
     let mut rest = bytes;
     while !rest.is_empty() {
-        let Ok(n) = sink.write(rest) else {
-            return Err(Failed);
-        };
+        let n = sink.write(rest)?;
         rest = rest.split_at(n).1;
     }
     Ok(())

@@ -6,7 +6,7 @@ use Rattle.rd_io.proofs.memory_files.MemFilesFiles.fetch.Goals as goal
 pub returns-in_default-clause-failed : goal.returns-in_default-clause-failed
 returns-in_default-clause-failed c =
     let place = sym (c.place_of.ensures.value ∙ ap (λ fs. place_in fs c.args.name.now) c.deref.ensures.value) ∙ c.in_default.is in
-    rose-missing (place_in c.args.self.now.files.items c.args.name.now) _ c.args.self.now.missing c.saturating_add-self-in_default.result place c.saturating_add-self-in_default.ensures
+    rose-missing (place_in c.args.self.now.files.items c.args.name.now) _ c.args.self.now.missing c.failure.new.faults place c.failure.ensures.rose
 
 pub returns-then-fails-clause-failed : goal.returns-then-fails-clause-failed
 returns-then-fails-clause-failed c =
