@@ -50,10 +50,8 @@ impl Brackets {
     pub fn read(alloc: Global, bytes: &[u8]) -> Result<Brackets, UcdFault>
         ensures { Answers result (brackets_of bytes.now) }
     {
-        match read_listing(alloc, bytes) {
-            Ok(entries) => Ok(Brackets { entries }),
-            Err(fault) => Err(fault),
-        }
+        let entries = read_listing(alloc, bytes)?;
+        Ok(Brackets { entries })
     }
 
     /// The bracket of a code, and None exactly for a code that the file doesn't list. It costs the logarithm of their number.
@@ -73,10 +71,7 @@ impl Listed for BracketEntry {
     ghost of_fields = { bracket_of };
 
     fn read(line: &[u8], number: u64) -> Result<BracketEntry, UcdFault> {
-        let both = match read_codes(line, 3, number) {
-            Ok(both) => both,
-            Err(fault) => return Err(fault),
-        };
+        let both = read_codes(line, 3, number)?;
         match bracket_named(both.other, trimmed_field(line, 2)) {
             Some(bracket) => Ok(BracketEntry {
                 code: both.code,

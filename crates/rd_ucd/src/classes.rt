@@ -47,10 +47,7 @@ impl Classes {
     pub fn read(alloc: Global, bytes: &[u8]) -> Result<Classes, UcdFault>
         ensures { Answers result (classes_of bytes.now) }
     {
-        match read_lines(Reader::new(alloc), bytes) {
-            Ok(reader) => finish(reader),
-            Err(fault) => Err(fault),
-        }
+        finish(read_lines(Reader::new(alloc), bytes)?)
     }
 
     /// The class of a character: L for a code that the file doesn't list, and for a raw byte. It costs the logarithm of the

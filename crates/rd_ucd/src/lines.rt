@@ -38,10 +38,7 @@ pub fn read_lines<R: LineReader>(reader: R, bytes: &[u8]) -> Result<R, UcdFault>
     let mut number = 1;
     'lines: loop {
         let (line, more) = split_first(rest, b'\n');
-        match reader.read_line(number, line) {
-            Ok(()) => {}
-            Err(fault) => return Err(fault),
-        }
+        reader.read_line(number, line)?;
         match more {
             None => return Ok(reader),
             Some(more) => rest = more,

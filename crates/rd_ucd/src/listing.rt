@@ -50,10 +50,7 @@ impl<E: Listed> LineReader for Listing<E> {
         if trim(line).is_empty() {
             return Ok(());
         }
-        let entry = match E::read(line, number) {
-            Ok(entry) => entry,
-            Err(fault) => return Err(fault),
-        };
+        let entry = E::read(line, number)?;
         let code = entry.key();
         if code < self.least {
             return Err(UcdFault::NotAscending(number));
@@ -74,10 +71,7 @@ pub fn read_listing<E: Listed>(alloc: Global, bytes: &[u8]) -> Result<ListOf<E>,
         entries: ListOf::new(alloc),
         least: 0,
     };
-    match read_lines(empty, bytes) {
-        Ok(listing) => Ok(listing.entries),
-        Err(fault) => Err(fault),
-    }
+    Ok(read_lines(empty, bytes)?.entries)
 }
 
 /// The two codes that a line begins with.

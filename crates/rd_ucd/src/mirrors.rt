@@ -41,10 +41,8 @@ impl Mirrors {
     pub fn read(alloc: Global, bytes: &[u8]) -> Result<Mirrors, UcdFault>
         ensures { Answers result (mirrors_of bytes.now) }
     {
-        match read_listing(alloc, bytes) {
-            Ok(pairs) => Ok(Mirrors { pairs }),
-            Err(fault) => Err(fault),
-        }
+        let pairs = read_listing(alloc, bytes)?;
+        Ok(Mirrors { pairs })
     }
 
     /// The code of the mirrored character, and None exactly for a code that the file doesn't list. It costs the logarithm of
@@ -65,12 +63,10 @@ impl Listed for Pair {
     ghost of_fields = { pair_of };
 
     fn read(line: &[u8], number: u64) -> Result<Pair, UcdFault> {
-        match read_codes(line, 2, number) {
-            Ok(both) => Ok(Pair {
-                code: both.code,
-                mirror: both.other,
-            }),
-            Err(fault) => Err(fault),
-        }
+        let both = read_codes(line, 2, number)?;
+        Ok(Pair {
+            code: both.code,
+            mirror: both.other,
+        })
     }
 }

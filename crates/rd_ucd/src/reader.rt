@@ -68,10 +68,7 @@ impl LineReader for Reader {
         if line.len() == 0 {
             return Ok(());
         }
-        match read_entry(line, number) {
-            Ok(entry) => self.take(number, entry),
-            Err(fault) => Err(fault),
-        }
+        self.take(number, read_entry(line, number)?)
     }
 }
 
