@@ -1,10 +1,11 @@
 -- What holds of all objects where one more is made.
-use Rattle.std.proofs.Common.{◌≡◌, ℕ, zero, suc, ◌<◌, ◌≤◌, Bool, true, false, if◌then◌else◌, not, List, [], ◌∷◌, ◌++◌, length, length-append, append_assoc, append-nil, get_or, Option, Some, None, refl, sym, arith}
-use Rattle.std.specs.Prelude.{nat_le, nat_lt, slice_get, IfSome, unwrap_or}
+use Rattle.std.proofs.Common.{◌≡◌, ℕ, zero, suc, ◌<◌, ◌≤◌, true, false, if◌then◌else◌, not, List, [], ◌∷◌, ◌++◌, length, length-append, append_assoc, append-nil, get_or, Option, Some, None, refl, sym, arith}
+use Rattle.std.specs.Prelude.{nat_le, nat_lt, slice_get, IfSome, unwrap_or, reverse, find, option_map}
 use Rattle.std.specs.List.{All, AllByRecursion, list_all}
 use Rattle.std.proofs.lemmas.Bool.{not-false}
 use Rattle.std.proofs.lemmas.Bool.Decides.{nat_tests}
 use Rattle.std.proofs.lemmas.List.Elements.{recursion_from_All, All-from_recursion, All-nil, All-push, All-weaker}
+use Rattle.std.proofs.lemmas.List.Sorted.{All-permutation, IsPermutation-reverse}
 use Rattle.std.proofs.lemmas.List.Sums.{AllPass-from_list_all}
 use Rattle.rd_base.proofs.Choices.{none-chosen}
 use Rattle.rd_base.specs.Faces.{Attributes, plain}
@@ -14,11 +15,10 @@ use Rattle.rd_base.proofs.Lists.{all-at, get-first}
 use Rattle.rd_objects.specs.declared.run.Run.{Run}
 use Rattle.rd_objects.specs.declared.run.RunKind.{RunKind}
 use Rattle.rd_objects.specs.declared.run.RunKind.TheVariants.{Face, Display}
-use Rattle.rd_objects.specs.declared.run.FaceRun.{FaceRun}
-use Rattle.rd_objects.specs.declared.run.SpecRun.{SpecRun}
+use Rattle.rd_objects.specs.declared.run.RunOf.{RunOf}
 use Rattle.rd_objects.specs.declared.run.Spec.{Spec}
 use Rattle.rd_objects.specs.declared.run.Spec.TheVariants.{Text, Width, Align}
-use Rattle.rd_objects.specs.Texts.{TextValue, with_face, with_spec, face_runs, spec_runs, text_of, later, covers, face_in, spec_in, face_of, spec_of}
+use Rattle.rd_objects.specs.Texts.{TextValue, with_face, with_spec, face_runs, spec_runs, text_of, covers, given_at, face_of, spec_of}
 use Rattle.rd_objects.specs.Tables.{TableValue, IsTable}
 use Rattle.rd_objects.specs.Things.{ObjectLists, nothing_made, is_numbered, is_made, is_inside, string_fault, is_spec_made, spec_fault, full_fault, string_added, spec_added, face_added, table_added, IsSmallSpec}
 use Rattle.rd_objects.specs.Sound.{AreCodes, IsString, AreObjects, NamesMade, IsClosed, AreRight, GoesOn, Extends}
@@ -62,11 +62,11 @@ named_coloured [] i h = plain-coloured
 named_coloured (f ∷ faces) zero h = h.0
 named_coloured (f ∷ faces) (suc i) h = named_coloured faces i h.1
 
-run_coloured : (kind : RunKind) (faces : List Attributes) (run : Run) (runs : List FaceRun) → AllByRecursion HasColours faces → AllByRecursion (λ run. HasColours run.face) runs → AllByRecursion (λ run. HasColours run.face) (with_face kind faces run runs)
+run_coloured : (kind : RunKind) (faces : List Attributes) (run : Run) (runs : List (RunOf Attributes)) → AllByRecursion HasColours faces → AllByRecursion (λ run. HasColours run.value) runs → AllByRecursion (λ run. HasColours run.value) (with_face kind faces run runs)
 run_coloured Face faces run runs h r = (named_coloured faces run.value h, r)
 run_coloured Display faces run runs h r = r
 
-runs_coloured : (faces : List Attributes) (runs : List Run) → AllByRecursion HasColours faces → AllByRecursion (λ run. HasColours run.face) (face_runs faces runs)
+runs_coloured : (faces : List Attributes) (runs : List Run) → AllByRecursion HasColours faces → AllByRecursion (λ run. HasColours run.value) (face_runs faces runs)
 runs_coloured faces [] h = tt
 runs_coloured faces (run ∷ runs) h = run_coloured run.kind faces run (face_runs faces runs) h (runs_coloured faces runs h)
 
@@ -74,7 +74,7 @@ string_sound : (o : ObjectLists) (chars : List ℕ) (runs : List Run) → AreCod
 string_sound o chars runs codes short sound = record {
   chars = codes;
   few = short;
-  faces = All-from_recursion (λ run. HasColours run.face) (face_runs o.faces runs) (runs_coloured o.faces runs (recursion_from_All HasColours o.faces sound.faces));
+  faces = All-from_recursion (λ run. HasColours run.value) (face_runs o.faces runs) (runs_coloured o.faces runs (recursion_from_All HasColours o.faces sound.faces));
 }
 
 pub nothing_sound : AreObjects nothing_made
@@ -140,11 +140,11 @@ table_keeps o table right e sound = record {
 }
 
 -- the specs that runs name were made
-run_closed : (kind : RunKind) (o : ObjectLists) (run : Run) (runs : List SpecRun) → is_numbered kind (length o.faces) (length o.specs) run.value ≡ true → AllByRecursion (λ run. run.spec < length o.specs) runs → AllByRecursion (λ run. run.spec < length o.specs) (with_spec kind run runs)
+run_closed : (kind : RunKind) (o : ObjectLists) (run : Run) (runs : List (RunOf ℕ)) → is_numbered kind (length o.faces) (length o.specs) run.value ≡ true → AllByRecursion (λ run. run.value < length o.specs) runs → AllByRecursion (λ run. run.value < length o.specs) (with_spec kind run runs)
 run_closed Face o run runs e r = r
 run_closed Display o run runs e r = (grind (arith, nat_tests), r)
 
-runs_closed : (o : ObjectLists) (runs : List Run) → AllByRecursion (λ run. is_made o run ≡ true) runs → AllByRecursion (λ run. run.spec < length o.specs) (spec_runs runs)
+runs_closed : (o : ObjectLists) (runs : List Run) → AllByRecursion (λ run. is_made o run ≡ true) runs → AllByRecursion (λ run. run.value < length o.specs) (spec_runs runs)
 runs_closed o [] h = tt
 runs_closed o (run ∷ runs) h = run_closed run.kind o run (spec_runs runs) h.0 (runs_closed o runs h.1)
 
@@ -158,26 +158,26 @@ spec_named o (Text number) e = grind (arith, nat_tests)
 spec_named o (Width n) e = tt
 spec_named o (Align n) e = tt
 
-specs_more : (a b : ℕ) → a ≤ b → (text : TextValue) → All (λ run. run.spec < a) text.specs → All (λ run. run.spec < b) text.specs
-specs_more a b p text h = All-weaker (λ run. run.spec < a) (λ run. run.spec < b) (λ run q. omega arith) text.specs h
+specs_more : (a b : ℕ) → a ≤ b → (text : TextValue) → All (λ run. run.value < a) text.specs → All (λ run. run.value < b) text.specs
+specs_more a b p text h = All-weaker (λ run. run.value < a) (λ run. run.value < b) (λ run q. omega arith) text.specs h
 
 pub nothing_closed : IsClosed nothing_made
-nothing_closed = record { strings = All-nil (λ text. All (λ run. run.spec < 0) text.specs); specs = All-nil (NamesMade 0) }
+nothing_closed = record { strings = All-nil (λ text. All (λ run. run.value < 0) text.specs); specs = All-nil (NamesMade 0) }
 
 pub string_closed : (o : ObjectLists) (chars : List ℕ) (runs : List Run) → string_fault o chars runs ≡ None → IsClosed o → IsClosed (string_added o chars runs)
 string_closed o chars runs e closed =
     let f = no_string_fault o chars runs e in
     let made = recursion_from_All (λ run. is_made o run ≡ true) runs (AllPass-from_list_all (is_made o) runs f.made) in
     record {
-      strings = All-push (λ text. All (λ run. run.spec < length o.specs) text.specs) o.strings (text_of chars runs o.faces) closed.strings
-          (All-from_recursion (λ run. run.spec < length o.specs) (spec_runs runs) (runs_closed o runs made));
+      strings = All-push (λ text. All (λ run. run.value < length o.specs) text.specs) o.strings (text_of chars runs o.faces) closed.strings
+          (All-from_recursion (λ run. run.value < length o.specs) (spec_runs runs) (runs_closed o runs made));
       specs = All-weaker (NamesMade (length o.strings)) (NamesMade (length (o.strings ++ text_of chars runs o.faces ∷ [])))
           (names_more (length o.strings) (length (o.strings ++ text_of chars runs o.faces ∷ [])) (pushed_one o.strings (text_of chars runs o.faces))) o.specs closed.specs;
     }
 
 pub spec_closed : (o : ObjectLists) (spec : Spec) → spec_fault o spec ≡ None → IsClosed o → IsClosed (spec_added o spec)
 spec_closed o spec e closed = record {
-  strings = All-weaker (λ text. All (λ run. run.spec < length o.specs) text.specs) (λ text. All (λ run. run.spec < length (o.specs ++ spec ∷ [])) text.specs)
+  strings = All-weaker (λ text. All (λ run. run.value < length o.specs) text.specs) (λ text. All (λ run. run.value < length (o.specs ++ spec ∷ [])) text.specs)
       (specs_more (length o.specs) (length (o.specs ++ spec ∷ [])) (pushed_one o.specs spec)) o.strings closed.strings;
   specs = All-push (NamesMade (length o.strings)) o.specs spec closed.specs (spec_named o spec (no_spec_fault o spec e).0);
 }
@@ -236,13 +236,15 @@ same_faces old new number e p = goes_kept old.faces new.faces number e.faces p
 pub same_tables : (old new : ObjectLists) (number : ℕ) → Extends old new → number < length old.tables → slice_get new.tables number ≡ slice_get old.tables number
 same_tables old new number e p = goes_kept old.tables new.tables number e.tables p
 
-spec_in-made : (specs : ℕ) (runs : List SpecRun) (i : ℕ) → AllByRecursion (λ run. run.spec < specs) runs → IfSome (spec_in runs i) (λ number. number < specs)
-spec_in-made specs [] i h = tt
-spec_in-made specs (run ∷ runs) i h = later-each (spec_in runs i) (covers run.from run.to i) run.spec (spec_in-made specs runs i h.1) h.0 where
-  later-each : (late : Option ℕ) (covered : Bool) (spec : ℕ) → IfSome late (λ number. number < specs) → spec < specs → IfSome (later late (if covered then Some spec else None)) (λ number. number < specs)
-  later-each (Some late) covered spec p q = p
-  later-each None true spec p q = q
-  later-each None false spec p q = tt
+-- what holds of all that runs give holds of what the last one over a place gives
+given_at-each : {T : Type 0} (P : T → Type 0) (runs : List (RunOf T)) (i : ℕ) → All (λ run. P run.value) runs → IfSome (given_at runs i) P
+given_at-each {T} P runs i all = found (reverse runs) (recursion_from_All (λ run. P run.value) (reverse runs) (All-permutation (λ run. P run.value) runs (reverse runs) (IsPermutation-reverse runs) all)) where
+  found : (runs : List (RunOf T)) → AllByRecursion (λ run. P run.value) runs → IfSome (option_map (λ run. run.value) (find (λ run. covers run.from run.to i) runs)) P
+  found [] h = tt
+  found (run ∷ runs) h = elim (covers run.from run.to i) as (λ b. IfSome (option_map (λ run. run.value) (if b then Some run else find (λ run. covers run.from run.to i) runs)) P) [
+    | true ↦ h.0
+    | false ↦ found runs h.1
+  ]
 
 some_made : (specs number : ℕ) (o : Option ℕ) → IfSome o (λ n. n < specs) → o ≡ Some number → number < specs
 some_made specs number (Some n) p e = let s : n ≡ number = cc in omega arith
@@ -250,27 +252,19 @@ some_made specs number None p e = absurd (cc)
 
 pub named_specs : (o : ObjectLists) (string i number : ℕ) (text : TextValue) → IsClosed o → slice_get o.strings string ≡ Some text → spec_of text i ≡ Some number → number < length o.specs
 named_specs o string i number text closed e f =
-    let all = all-at (λ text. All (λ run. run.spec < length o.specs) text.specs) o.strings string text closed.strings e in
-    some_made (length o.specs) number (spec_in text.specs i) (spec_in-made (length o.specs) text.specs i (recursion_from_All (λ run. run.spec < length o.specs) text.specs all)) f
+    let all = all-at (λ text. All (λ run. run.value < length o.specs) text.specs) o.strings string text closed.strings e in
+    some_made (length o.specs) number (given_at text.specs i) (given_at-each (λ number. number < length o.specs) text.specs i all) f
 
 pub named_strings : (o : ObjectLists) (spec number : ℕ) → IsClosed o → slice_get o.specs spec ≡ Some (Text number) → number < length o.strings
 named_strings o spec number closed e = all-at (NamesMade (length o.strings)) o.specs spec (Text number) closed.specs e
 
 -- the face at each place of a sound string
-face_in-coloured : (runs : List FaceRun) (i : ℕ) → AllByRecursion (λ run. HasColours run.face) runs → IfSome (face_in runs i) HasColours
-face_in-coloured [] i h = tt
-face_in-coloured (run ∷ runs) i h = later-each (face_in runs i) (covers run.from run.to i) run.face (face_in-coloured runs i h.1) h.0 where
-  later-each : (late : Option Attributes) (covered : Bool) (face : Attributes) → IfSome late HasColours → HasColours face → IfSome (later late (if covered then Some face else None)) HasColours
-  later-each (Some late) covered face p q = p
-  later-each None true face p q = q
-  later-each None false face p q = tt
-
 else_plain : (o : Option Attributes) → IfSome o HasColours → HasColours (unwrap_or o plain)
 else_plain (Some face) p = p
 else_plain None p = plain-coloured
 
 pub string_coloured : (text : TextValue) (i : ℕ) → IsString text → HasColours (face_of text i)
-string_coloured text i sound = else_plain (face_in text.faces i) (face_in-coloured text.faces i (recursion_from_All (λ run. HasColours run.face) text.faces sound.faces))
+string_coloured text i sound = else_plain (given_at text.faces i) (given_at-each HasColours text.faces i sound.faces)
 
 -- where there is no fault
 pub has_room : (most made : ℕ) → made < most → full_fault most made ≡ None

@@ -17,7 +17,7 @@ AreCodes chars = All (λ c. IsTrue (is_code c)) chars
 pub record IsString (text : TextValue) : Type 0 where
   pub chars : AreCodes text.chars
   pub few : length text.chars ≤ STRING_CHARACTERS
-  pub faces : All (λ run. HasColours run.face) text.faces
+  pub faces : All (λ run. HasColours run.value) text.faces
 
 -- each object is sound, and there are no more than there may be
 pub record AreObjects (o : ObjectLists) : Type 0 where
@@ -37,7 +37,7 @@ NamesMade strings spec = Unit {0}
 
 -- each string and each spec that an object names was made
 pub record IsClosed (o : ObjectLists) : Type 0 where
-  pub strings : All (λ text. All (λ run. run.spec < length o.specs) text.specs) o.strings
+  pub strings : All (λ text. All (λ run. run.value < length o.specs) text.specs) o.strings
   pub specs : All (NamesMade (length o.strings)) o.specs
 
 -- what all objects always keep: each is sound, and what it names was made

@@ -1,5 +1,4 @@
 //! The small types that objects are made of.
-use rd_base::Face;
 
 /// What a run gives the characters that it covers.
 #[derive(Clone, Copy, Debug, PartialEq, Eq)]
@@ -40,18 +39,10 @@ pub enum Slot {
     Border,
 }
 
-/// A run of a string that gives a face.
+/// A run of a string, and what it gives: a face, or a display spec's number.
 #[derive(Clone, Copy, Debug)]
-pub struct FaceRun {
+pub struct RunOf<T> {
     pub from: u32,
     pub to: u32,
-    pub face: Face,
-}
-
-/// A run of a string that gives a display spec's number.
-#[derive(Clone, Copy, Debug)]
-pub struct SpecRun {
-    pub from: u32,
-    pub to: u32,
-    pub spec: u32,
+    pub value: T,
 }

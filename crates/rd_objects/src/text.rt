@@ -1,9 +1,9 @@
 //! Strings with faces and display specs.
 ghost use Rattle.std.specs.Prelude.{◌≡◌, IfOk, slice_index_or};
 ghost use Rattle.rd_base.specs.Faces.{plain};
-ghost use Rattle.rd_objects.specs.Texts.{face_runs, spec_runs, face_in, spec_in, covers};
+ghost use Rattle.rd_objects.specs.Texts.{face_runs, spec_runs, given_at, covers};
 
-use crate::run::{FaceRun, Run, RunKind, SpecRun};
+use crate::run::{Run, RunKind, RunOf};
 use rd_base::limits::STRING_CHARACTERS;
 use rd_base::{Ch, Face, ListOf, Memory};
 use std::alloc::Global;
@@ -16,8 +16,8 @@ pub const LONGEST: usize = STRING_CHARACTERS as usize;
 #[derive(Drop)]
 pub struct Text {
     chars: ListOf<Ch>,
-    faces: ListOf<FaceRun>,
-    specs: ListOf<SpecRun>,
+    faces: ListOf<RunOf<Face>>,
+    specs: ListOf<RunOf<u32>>,
 }
 
 impl Model for Text {
@@ -77,10 +77,7 @@ impl Text {
         requires { i < length self.now.chars }
         ensures { result ≡ face_of self.now i }
     {
-        match last_face(self.faces.as_slice(), i) {
-            Some(face) => face,
-            None => Face::PLAIN,
-        }
+        last_over(self.faces.as_slice(), i).unwrap_or(Face::PLAIN)
     }
 
     /// The number of the display spec at a place, counted from 0: that of the last run of specs that covers it, and None
@@ -89,34 +86,18 @@ impl Text {
         requires { i < length self.now.chars }
         ensures { result ≡ spec_of self.now i }
     {
-        last_spec(self.specs.as_slice(), i)
+        last_over(self.specs.as_slice(), i)
     }
 }
 
-/// The face of the last run that covers a place.
-fn last_face(runs: &[FaceRun], i: u32) -> Option<Face>
-    ensures { result ≡ face_in runs.now i }
+/// What the last run that covers a place gives.
+fn last_over<T: Copy>(runs: &[RunOf<T>], i: u32) -> Option<T>
+    ensures { result ≡ given_at runs.now i }
 {
-    let mut last = None;
-    for run in runs {
-        if is_covered(run.from, run.to, i) {
-            last = Some(run.face);
-        }
-    }
-    last
-}
-
-/// The spec of the last run that covers a place.
-fn last_spec(runs: &[SpecRun], i: u32) -> Option<u32>
-    ensures { result ≡ spec_in runs.now i }
-{
-    let mut last = None;
-    for run in runs {
-        if is_covered(run.from, run.to, i) {
-            last = Some(run.spec);
-        }
-    }
-    last
+    runs.iter()
+        .rev()
+        .find(|run| is_covered(run.from, run.to, i))
+        .map(|run| run.value)
 }
 
 /// Whether a run covers a place.
@@ -127,16 +108,16 @@ fn is_covered(from: u32, to: u32, i: u32) -> bool
 }
 
 /// The runs of faces, with the faces that they name.
-fn face_runs_of(alloc: Global, runs: &[Run], faces: &[Face]) -> Result<ListOf<FaceRun>, Memory>
+fn face_runs_of(alloc: Global, runs: &[Run], faces: &[Face]) -> Result<ListOf<RunOf<Face>>, Memory>
     ensures { IfOk result (λ made. made ≡ face_runs faces.now runs.now) }
 {
     let mut made = ListOf::new(alloc);
     for run in runs {
         match run.kind {
-            RunKind::Face => made.push(FaceRun {
+            RunKind::Face => made.push(RunOf {
                 from: run.from,
                 to: run.to,
-                face: face_named(faces, run.value),
+                value: face_named(faces, run.value),
             })?,
             RunKind::Display => {}
         }
@@ -145,17 +126,17 @@ fn face_runs_of(alloc: Global, runs: &[Run], faces: &[Face]) -> Result<ListOf<Fa
 }
 
 /// The runs of display specs.
-fn spec_runs_of(alloc: Global, runs: &[Run]) -> Result<ListOf<SpecRun>, Memory>
+fn spec_runs_of(alloc: Global, runs: &[Run]) -> Result<ListOf<RunOf<u32>>, Memory>
     ensures { IfOk result (λ made. made ≡ spec_runs runs.now) }
 {
     let mut made = ListOf::new(alloc);
     for run in runs {
         match run.kind {
             RunKind::Face => {}
-            RunKind::Display => made.push(SpecRun {
+            RunKind::Display => made.push(RunOf {
                 from: run.from,
                 to: run.to,
-                spec: run.value,
+                value: run.value,
             })?,
         }
     }
@@ -166,9 +147,5 @@ fn spec_runs_of(alloc: Global, runs: &[Run]) -> Result<ListOf<SpecRun>, Memory>
 fn face_named(faces: &[Face], number: u32) -> Face
     ensures { result ≡ slice_index_or faces.now number plain }
 {
-    if (number as usize) < faces.len() {
-        faces[number as usize]
-    } else {
-        Face::PLAIN
-    }
+    faces.get(number as usize).copied().unwrap_or(Face::PLAIN)
 }
