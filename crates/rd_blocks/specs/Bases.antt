@@ -1,10 +1,19 @@
 -- The blocks of a buffer, each with the level from which its rows are read.
-use Rattle.std.specs.Prelude.{ℕ, if◌then◌else◌, List, map}
+use Rattle.std.specs.Prelude.{ℕ, ◌≤◌, if◌then◌else◌, List, map}
+use Rattle.rd_text.specs.Texts.{TextValue}
 use Rattle.rd_ucd.specs.declared.spans.Span.{Span}
+use Rattle.rd_para.specs.Known.{IsKnown}
 use Rattle.rd_para.specs.Paragraphs.{base_at}
+use Rattle.rd_para.specs.declared.paragraph.Paragraph.{Paragraph}
 use Rattle.rd_props.specs.Buffers.{BufferValue}
 use Rattle.rd_items.specs.Blocks.{blocks_of}
 use Rattle.rd_matrix.specs.declared.block.Block.{Block}
+
+-- a paragraph that is known, with a position in it
+pub record HoldsPosition (classes : List Span) (t : TextValue) (pos : ℕ) (p : Paragraph) : Type 0 where
+  pub known : IsKnown classes t p
+  pub from : p.from ≤ pos
+  pub to : pos ≤ p.to
 
 -- the base level of the block that starts at a position: that of its paragraph, and 0 where nothing is reordered
 abbrev pub block_base : List Span → BufferValue → ℕ → ℕ
