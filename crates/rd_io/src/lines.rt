@@ -146,13 +146,9 @@ fn gather<S: Source>(
 {
     line.clear();
     loop {
-        match take_piece(line, chunk.rest(), given) {
-            Ok(Some(n)) => {
-                chunk.skip(n);
-                return Ok(Found::Whole);
-            }
-            Ok(None) => {}
-            Err(fault) => return Err(fault),
+        if let Some(n) = take_piece(line, chunk.rest(), given)? {
+            chunk.skip(n);
+            return Ok(Found::Whole);
         }
         if let Err(_) = chunk.refill(source) {
             return Err(LineFault::Failed);

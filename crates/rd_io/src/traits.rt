@@ -11,7 +11,7 @@ use thiserror::Error;
 #[error("the device failed")]
 pub struct Failed;
 
-/// Counts a fault.
+/// Counts a fault, and answers that the device failed. A count at its last value stays there.
 pub(crate) fn failure(faults: &mut u64) -> Failed
     ensures rose { Rose faults.old faults.new }
     ensures never_falls { faults.old ≤ faults.new }

@@ -1,32 +1,33 @@
-use Rattle.std.proofs.Common.{◌≡◌, ℕ, List, Option, [], subst, arith, None, Ok, Err, inr}
+use Rattle.std.proofs.Common.{◌≡◌, ℕ, List, Option, [], subst, arith, rules, None, Ok, Err, inr}
 use Rattle.rd_io.specs.Pieces.{TakesPiece, IsLeft}
 use Rattle.rd_io.proofs.Gathering.{gathers-fault, gathering-goes_on, gathers-end, emptied, unbroken-first}
 use Rattle.rd_io.proofs.lines.gather.Goals as goal
 
-pub returns-in-Err-clause-gathers : goal.returns-in-Err-clause-gathers
-returns-in-Err-clause-gathers g c =
-    let Took : List ℕ → Type 0 = λ bytes. TakesPiece (Err c.in-Err.fault) c.loop-n.line.items c.take_piece.new.line.items bytes c.args.given in
-    gathers-fault c.args.chunk.now _ _ c.loop-n.line.items c.loop-n.chunk c.take_piece.new.line.items c.loop-n.chunk c.args.given c.in-Err.fault c.loop-n.invariant.come
-    (subst Took c.rest.ensures c.in-Err.ensures)
+pub returns-in_err-n-clause-gathers : goal.returns-in_err-n-clause-gathers
+returns-in_err-n-clause-gathers g c =
+    let Took : List ℕ → Type 0 = λ bytes. TakesPiece (Err c.in_err-n.field-0.0) c.loop-n.line.items c.take_piece.new.line.items bytes c.args.given in
+    let came = gathers-fault c.args.chunk.now _ _ c.loop-n.line.items c.loop-n.chunk c.take_piece.new.line.items c.loop-n.chunk c.args.given c.in_err-n.field-0.0 c.loop-n.invariant.come
+    (subst Took c.rest.ensures c.in_err-n.ensures) in
+    (came.0, came.1, search rules)
 
 pub returns-then-is_empty-clause-gathers : goal.returns-then-is_empty-clause-gathers
 returns-then-is_empty-clause-gathers g c =
     let Took : Option ℕ → List ℕ → Type 0 = λ o bytes. TakesPiece (Ok o) c.loop-n.line.items c.take_piece.new.line.items bytes c.args.given in
-    let took = subst (Took None) c.rest.ensures (subst (λ o. Took o c.rest.result.now) c.in-Ok-None.field-0-is c.in-Ok-None.ensures) in
+    let took = subst (Took None) c.rest.ensures (subst (λ o. Took o c.rest.result.now) c.in_default.is c.in_ok-n.ensures) in
     let goes_on = gathering-goes_on c.args.chunk.now (g.S.Source.left c.args.source.now) (g.S.Source.left c.loop-n.source) (g.S.Source.left c.refill.new.source)
-    c.loop-n.line.items c.loop-n.chunk c.take_piece.new.line.items c.refill.new.self c.args.given c.loop-n.invariant.come took c.in_default.ensures.ok in
+    c.loop-n.line.items c.loop-n.chunk c.take_piece.new.line.items c.refill.new.self c.args.given c.loop-n.invariant.come took c.in_default-refill.ensures.ok in
     let none : c.refill.new.self ≡ [] = emptied c.rest-in-loop-n.result.now c.refill.new.self c.is_empty.result c.rest-in-loop-n.ensures c.is_empty.ensures c.if-is_empty.true in
     let Left : List ℕ → Type 0 = λ line. IsLeft c.what_is_left.result line in
     gathers-end c.args.chunk.now (g.S.Source.left c.args.source.now) (g.S.Source.left c.refill.new.source) c.take_piece.new.line.items c.refill.new.self c.args.given c.what_is_left.result
-    goes_on none (c.in_default.ensures.end none) (subst Left c.deref.ensures.value c.what_is_left.ensures)
+    goes_on none (c.in_default-refill.ensures.end none) (subst Left c.deref.ensures.value c.what_is_left.ensures)
 
 pub loop-n-preserved : goal.loop-n-preserved
 loop-n-preserved g c =
     let Took : Option ℕ → List ℕ → Type 0 = λ o bytes. TakesPiece (Ok o) c.loop-n.line.items c.take_piece.new.line.items bytes c.args.given in
-    let took = subst (Took None) c.rest.ensures (subst (λ o. Took o c.rest.result.now) c.in-Ok-None.field-0-is c.in-Ok-None.ensures) in
+    let took = subst (Took None) c.rest.ensures (subst (λ o. Took o c.rest.result.now) c.in_default.is c.in_ok-n.ensures) in
     record {
       come = gathering-goes_on c.args.chunk.now (g.S.Source.left c.args.source.now) (g.S.Source.left c.loop-n.source) (g.S.Source.left c.refill.new.source)
-          c.loop-n.line.items c.loop-n.chunk c.take_piece.new.line.items c.refill.new.self c.args.given c.loop-n.invariant.come took c.in_default.ensures.ok;
+          c.loop-n.line.items c.loop-n.chunk c.take_piece.new.line.items c.refill.new.self c.args.given c.loop-n.invariant.come took c.in_default-refill.ensures.ok;
       unread = inr (unbroken-first c.args.chunk.now c.loop-n.chunk _ c.loop-n.invariant.unread took.1);
-      count = omega (arith, c.loop-n.invariant.count, c.in_default.ensures.never_falls);
+      count = omega (arith, c.loop-n.invariant.count, c.in_default-refill.ensures.never_falls);
     }
