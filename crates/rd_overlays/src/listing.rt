@@ -64,23 +64,6 @@ fn found(
     Ok(ranks)
 }
 
-/// The overlays that stand so to a position, in increasing order.
-fn ranked(
-    alloc: Global,
-    slots: &[Option<Overlay>],
-    index: &Index,
-    meeting: Meeting,
-    pos: Pos,
-) -> Result<Vec<Rank>, Memory>
-    requires size { length slots.now ≤ OVERLAYS }
-    requires index { IsIndex slots.now index.now.order index.now.bounds }
-    ensures { IfOk result (λ ranks. ranks.items ≡ ranked_from (meets meeting pos) 0 slots.now) }
-{
-    let mut ranks = found(alloc, slots, index, meeting, pos)?;
-    ranks.sort()?;
-    Ok(ranks)
-}
-
 /// The numbers alone.
 fn numbers(alloc: Global, ranks: &[Rank]) -> Result<ListOf<u32>, Memory>
     ensures { IfOk result (λ list. list ≡ map number_of_rank ranks.now) }
@@ -102,6 +85,7 @@ pub(crate) fn listed(
     requires { length store.now ≤ OVERLAYS }
     ensures { IfOk result (λ list. list ≡ map number_of_rank (ranked_from (meets meeting pos) 0 store.now)) }
 {
-    let ranks = ranked(alloc, store.as_slice(), store.index(), meeting, pos)?;
+    let mut ranks = found(alloc, store.as_slice(), store.index(), meeting, pos)?;
+    ranks.sort()?;
     numbers(alloc, ranks.as_slice())
 }
