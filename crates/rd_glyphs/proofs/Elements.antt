@@ -1,5 +1,6 @@
 -- What the elements of a character always are.
 use Rattle.std.proofs.Common.{rules, ◌≡◌, ℕ, ◌*◌, ◌<◌, ◌≤◌, Bool, true, false, IsTrue, List, [], ◌∷◌, length, Option, Some, None, IfSome, All, refl, map, arith, slice_index_or, unwrap_or}
+use Rattle.std.specs.Option.{option_or}
 use Rattle.std.specs.Prelude.{◌≢◌, ◌-◌, ◌==◌, nat_le, ◌&&◌, if◌then◌else◌}
 use Rattle.std.specs.List.{AllByRecursion, list_all}
 use Rattle.std.proofs.lemmas.Bool.Decides.{nat_tests}
@@ -22,7 +23,6 @@ use Rattle.rd_base.specs.declared.element.Origin.{Origin}
 use Rattle.rd_ucd.specs.Lookup.{class_of}
 use Rattle.rd_ucd.specs.declared.spans.Pair.{Pair}
 use Rattle.rd_objects.specs.Tables.{TableValue, IsTable, HoldsGlyph, entry_in, is_glyph_character, is_glyph_text, is_slot_glyph}
-use Rattle.rd_objects.specs.Texts.{later}
 use Rattle.rd_objects.specs.Widths.{columns}
 use Rattle.rd_objects.specs.declared.run.Slot.TheVariants.{Escape, Control}
 use Rattle.rd_objects.specs.declared.table.TableEntry.{TableEntry}
@@ -170,11 +170,11 @@ of-glyphs face origin text is =
 
 entry-text : (entries : List TableEntry) (code : ℕ) → AllByRecursion (λ e. IsTrue (is_glyph_text e.text)) entries → IfSome (entry_in entries code) (λ text. IsTrue (is_glyph_text text))
 entry-text [] code each = tt
-entry-text (e ∷ es) code each = by-later (entry_in es code) (e.code == code) (entry-text es code each.1) where
-  by-later : (rest : Option (List Glyph)) (same : Bool) → IfSome rest (λ text. IsTrue (is_glyph_text text)) → IfSome (later rest (if same then Some e.text else None)) (λ text. IsTrue (is_glyph_text text))
-  by-later (Some text) same is = is
-  by-later None true is = each.0
-  by-later None false is = tt
+entry-text (e ∷ es) code each = by-last (entry_in es code) (e.code == code) (entry-text es code each.1) where
+  by-last : (rest : Option (List Glyph)) (same : Bool) → IfSome rest (λ text. IsTrue (is_glyph_text text)) → IfSome (option_or rest (if same then Some e.text else None)) (λ text. IsTrue (is_glyph_text text))
+  by-last (Some text) same is = is
+  by-last None true is = each.0
+  by-last None false is = tt
 
 entry-sound : (table : Option TableValue) (code : ℕ) → IfSome table (λ t. IsTable t) → IfSome (entry_of table code) (λ text. IsTrue (is_glyph_text text))
 entry-sound None code is = tt

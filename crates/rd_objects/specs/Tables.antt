@@ -1,13 +1,13 @@
 -- Display tables.
 use Rattle.std.specs.Prelude.{◌≡◌, ℕ, nat_le, nat_lt, ◌==◌, Bool, not, ◌&&◌, ◌||◌, IsTrue, if◌then◌else◌, List, [], ◌∷◌, length, All, Option, None, Some}
 use Rattle.std.specs.List.{list_all}
+use Rattle.std.specs.Option.{option_or}
 use Rattle.rd_base.specs.declared.limits.TheConstants.{ENTRY_GLYPHS}
 use Rattle.rd_base.specs.Chars.{is_scalar}
 use Rattle.rd_base.specs.declared.cell.Glyph.{Glyph}
 use Rattle.rd_objects.specs.declared.run.Slot.{Slot}
 use Rattle.rd_objects.specs.declared.run.Slot.TheVariants.{Truncation, Continuation, Escape, Control, Border}
 use Rattle.rd_objects.specs.declared.table.TableEntry.{TableEntry}
-use Rattle.rd_objects.specs.Texts.{later}
 use Rattle.rd_objects.specs.Widths.{columns}
 
 -- a table, as contracts see it: its entries in the order in which they were put, and what its slots hold
@@ -48,7 +48,7 @@ is_slot_glyph g = is_glyph_character g && (g.width == 1)
 -- what the entry that was put last for a code shows
 abbrev pub entry_in : List TableEntry → ℕ → Option (List Glyph)
 entry_in [] code = None
-entry_in (e ∷ es) code = later (entry_in es code) (if e.code == code then Some e.text else None)
+entry_in (e ∷ es) code = option_or (entry_in es code) (if e.code == code then Some e.text else None)
 
 abbrev pub slot_of : Slot → TableValue → Option Glyph
 slot_of Truncation table = table.truncation

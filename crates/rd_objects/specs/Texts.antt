@@ -1,5 +1,5 @@
 -- Strings with runs of faces and display specs.
-use Rattle.std.specs.Prelude.{ℕ, nat_le, nat_lt, Bool, ◌&&◌, List, [], ◌∷◌, reverse, slice_index_or, Option, None, Some, option_map, unwrap_or}
+use Rattle.std.specs.Prelude.{ℕ, nat_le, nat_lt, Bool, ◌&&◌, List, [], ◌∷◌, reverse, slice_index_or, Option, option_map, unwrap_or}
 use Rattle.std.specs.List.{find}
 use Rattle.rd_base.specs.Faces.{Attributes, plain}
 use Rattle.rd_objects.specs.declared.run.Run.{Run}
@@ -37,11 +37,6 @@ text_of chars runs faces = record { chars = chars; faces = face_runs faces runs;
 -- whether the places from `from` to `to`, not included, hold i
 abbrev pub covers : ℕ → ℕ → ℕ → Bool
 covers from to i = nat_le from i && nat_lt i to
-
--- the later of two, where there is one
-abbrev pub later : {T : Type 0} → Option T → Option T → Option T
-later None early = early
-later (Some late) early = Some late
 
 -- what the last of the runs that covers the place gives
 abbrev pub given_at : {T : Type 0} → List (RunOf T) → ℕ → Option T
