@@ -30,7 +30,7 @@ impl<'a> Walker<'a> {
     ghost use Rattle.rd_props.specs.Seen.{seen_at};
     ghost use Rattle.rd_items.specs.Pieces.{scene_of};
     ghost use Rattle.rd_items.specs.Readings.{reading};
-    ghost use Rattle.rd_stack.specs.Lines.{line_elements};
+    ghost use Rattle.rd_stack.specs.Lines.{line_elements, line_of_items};
     ghost use Rattle.rd_stack.specs.Steps.{elements_in};
     ghost use Rattle.rd_stack.specs.Walks.{IsLine, StepsInnermost, frame_left, frames_left, walk_left, work};
 
@@ -65,7 +65,8 @@ impl<'a> Walker<'a> {
         lines_are_sound();
         view_stays_sound(&view);
         reading_stays_sound(&view, start);
-        Walker::of_block(alloc, view, start, base, appearance)
+        let items = Items::with_appearance(alloc, &view, start, appearance)?;
+        Walker::of_items(alloc, view, base, items)
     }
 
     /// How many frames stand: one in the line itself, one more in an overlay's string or a display string, and a third in a display string
@@ -76,20 +77,11 @@ impl<'a> Walker<'a> {
         self.frames.len()
     }
 
-    /// The elements of the line of the block that starts at a position that looks like this.
-    fn of_block(
-        alloc: Global,
-        view: View<'a>,
-        start: Pos,
-        base: u8,
-        appearance: &Appearance,
-    ) -> Result<Walker<'a>, Memory>
-        requires place { IsAccessible view.state.now.text start }
-        requires base { base ≤ 1 }
-        requires appearance { appearance.now ≡ appearance_in (seen_at (meaning view.state.now) view.objects.now start) }
-        ensures left { IfOk result (λ walker. walk_left walker.few walker.frames.items ≡ line_elements (scene_of view.entry) base (reading (meaning view.entry.state.now) view.entry.objects.now start)) }
+    /// The elements of the line of these items.
+    fn of_items(alloc: Global, view: View<'a>, base: u8, items: Items) -> Result<Walker<'a>, Memory>
+        requires { base ≤ 1 }
+        ensures { IfOk result (λ walker. walk_left walker.few walker.frames.items ≡ line_of_items (scene_of view.entry) base items) }
     {
-        let items = Items::with_appearance(alloc, &view, start, appearance)?;
         let line = LineFrame::new(alloc, view, base, items)?;
         Walker::from_frame(alloc, Frame::Line(line))
     }

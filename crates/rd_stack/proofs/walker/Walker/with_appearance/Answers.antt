@@ -1,9 +1,9 @@
-use Rattle.std.proofs.Common.{refl, sym, subst}
+use Rattle.std.proofs.Common.{refl, sym, ap, subst, ◌∙◌}
 use Rattle.std.proofs.lemmas.Result.{IfOk-weaker}
 use Rattle.rd_props.specs.Buffers.{meaning}
 use Rattle.rd_items.specs.Readings.{reading}
 use Rattle.rd_items.specs.Pieces.{scene_of}
-use Rattle.rd_stack.specs.Lines.{line_elements}
+use Rattle.rd_stack.specs.Lines.{line_elements, line_of_items}
 use Rattle.rd_stack.specs.Walks.{IsLine}
 use Rattle.rd_stack.proofs.walker.Walker.with_appearance.Goals as goal
 
@@ -23,4 +23,4 @@ returns c =
       columns = c.lines_are_sound.ensures.columns s c.args.base es objects parts codes c.reading_stays_sound.ensures.few;
       ends = c.lines_end_once.ensures s c.args.base es (c.blocks_are_read_whole.ensures.reading buffer c.args.view.objects.now c.args.start c.requires.place.1);
     } in
-    IfOk-weaker c.of_block.result _ _ (λ w made. subst (IsLine line) (sym made) whole) c.of_block.ensures.left
+    IfOk-weaker c.of_items.result _ _ (λ w made. subst (IsLine line) (sym (made ∙ ap (line_of_items s c.args.base) c.in_ok-items.ensures.value)) whole) c.of_items.ensures
