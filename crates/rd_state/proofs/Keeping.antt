@@ -8,6 +8,7 @@ use Rattle.std.proofs.lemmas.Slice.Eq.{bytes_eq-Decides}
 use Rattle.rd_base.proofs.Choices.{is_some-map}
 use Rattle.std.specs.Prelude.{slice_get, slice_set, option_map, IsTrue, IsSome}
 use Rattle.std.specs.Str.{bytes_eq}
+use Rattle.rd_base.specs.declared.settings.Anchor.{Anchor}
 use Rattle.rd_text.specs.Texts.{IsAccessible}
 use Rattle.rd_objects.specs.Things.{ObjectLists}
 use Rattle.rd_script.specs.Forms.{is_buffer_name}
@@ -91,20 +92,30 @@ buffers-appended o bs name v new form room free = record {
 
 -- ---- windows over other buffers
 
--- a window of buffers is one of others where each position that counts is accessible there
-pub window-over : (bs cs : List BufferValue) (w : WindowState) → length bs ≤ length cs
-    → ((c : BufferValue) → slice_get cs w.buffer ≡ Some c → (b : BufferValue) × (slice_get bs w.buffer ≡ Some b) × ((p : ℕ) → IsAccessible b.content.text p → IsAccessible c.content.text p))
-    → IsWindow bs w → IsWindow cs w
-window-over bs cs w more old v = record {
-  made = let made = v.made in omega arith;
-  point = λ c h. let o = old c h in o.2 w.point (v.point o.0 o.1);
-  anchor = λ c h. let o = old c h in o.2 w.anchor.pos (v.anchor o.0 o.1);
+-- a window of buffers is one of others, with its point and the beginning of its view at positions that are accessible there
+pub window-placed : (bs cs : List BufferValue) (w : WindowState) (place : ℕ) (anchor : Anchor) → IsWindow bs w → w.buffer < length cs
+    → ((c : BufferValue) → slice_get cs w.buffer ≡ Some c → IsAccessible c.content.text place)
+    → ((c : BufferValue) → slice_get cs w.buffer ≡ Some c → IsAccessible c.content.text anchor.pos) → IsWindow cs (record w { point = place; anchor = anchor })
+window-placed bs cs w place anchor v made point start = record {
+  made = made;
+  point = point;
+  anchor = start;
   pending = v.pending;
   hscroll = v.hscroll;
   format = v.format;
   numbers = v.numbers;
   strings = v.strings;
 }
+
+-- the same where each position that counts is accessible there
+pub window-over : (bs cs : List BufferValue) (w : WindowState) → length bs ≤ length cs
+    → ((c : BufferValue) → slice_get cs w.buffer ≡ Some c → (b : BufferValue) × (slice_get bs w.buffer ≡ Some b) × ((p : ℕ) → IsAccessible b.content.text p → IsAccessible c.content.text p))
+    → IsWindow bs w → IsWindow cs w
+window-over bs cs w more old v =
+    let made = v.made in
+    window-placed bs cs w w.point w.anchor v (omega arith)
+    (λ c h. let o = old c h in o.2 w.point (v.point o.0 o.1))
+    (λ c h. let o = old c h in o.2 w.anchor.pos (v.anchor o.0 o.1))
 
 windows-over : (bs cs : List BufferValue) (c : tree.Configuration) (ws : List NumberedWindow) (n : ℕ) → ((w : WindowState) → IsWindow bs w → IsWindow cs w) → AreWindows bs c ws n → AreWindows cs c ws n
 windows-over bs cs c ws n keep v = record {
@@ -139,18 +150,13 @@ moved-window : (bs : List BufferValue) (i : ℕ) (b : BufferValue) (d : ContentV
 moved-window bs i b d how w true e at keep v =
     let same = eqb-true w.buffer i e in
     let here : slice_get bs w.buffer ≡ Some b = ap (slice_get bs) same ∙ at in
-    let is : (x : BufferValue) → slice_get (slice_set bs i (holding b d)) w.buffer ≡ Some x → holding b d ≡ x
-    = λ x hx. elim (get-set bs i w.buffer (holding b d) x hx) [ inl p ↦ sym p.1 | inr p ↦ absurd (p.0 same) ] in
-    record {
-      made = rw length-set v.made;
-      point = λ x hx. subst (λ (z : BufferValue). IsAccessible z.content.text (place_after how w.point)) (is x hx) (keep w.point (v.point b here));
-      anchor = λ x hx. subst (λ (z : BufferValue). IsAccessible z.content.text (place_after how w.anchor.pos)) (is x hx) (keep w.anchor.pos (v.anchor b here));
-      pending = v.pending;
-      hscroll = v.hscroll;
-      format = v.format;
-      numbers = v.numbers;
-      strings = v.strings;
-    }
+    let at_new : (p : ℕ) → IsAccessible b.content.text p → (x : BufferValue) → slice_get (slice_set bs i (holding b d)) w.buffer ≡ Some x → IsAccessible x.content.text (place_after how p)
+    = λ p a x hx. elim (get-set bs i w.buffer (holding b d) x hx) [
+      | inl q ↦ subst (λ (z : BufferValue). IsAccessible z.content.text (place_after how p)) (sym q.1) (keep p a)
+      | inr q ↦ absurd (q.0 same)
+    ] in
+    window-placed bs (slice_set bs i (holding b d)) w (place_after how w.point) (record { pos = place_after how w.anchor.pos; row = w.anchor.row }) v (rw length-set v.made)
+    (at_new w.point (v.point b here)) (at_new w.anchor.pos (v.anchor b here))
 moved-window bs i b d how w false e at keep v =
     let other = eqb-false w.buffer i e in
     window-over bs (slice_set bs i (holding b d)) w (rw length-set (omega arith))

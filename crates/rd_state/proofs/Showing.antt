@@ -27,7 +27,7 @@ use Rattle.rd_state.specs.Edits.{is_accessible}
 use Rattle.rd_state.specs.Steps.{with_found, in_window, changing, on_tree, splitting, removing, showing, placing, setting, held, format_fault, unless_bad, mode_lining, margining}
 use Rattle.rd_state.proofs.Below.{TreeLaws}
 use Rattle.rd_state.proofs.ByNumber.{NumberedWindow, window-end, apart-end, get-end, window-gone, window-left, apart-without, get-without, get-window, some-none}
-use Rattle.rd_state.proofs.Keeping.{windows-changed}
+use Rattle.rd_state.proofs.Keeping.{window-placed, windows-changed}
 use Rattle.rd_state.proofs.Leaves.{Leaf, leaf-resized, leaf-same, leaf-other, split-same, split-other, split-new, removed-same, removed-other, heir-held, leaf-times}
 use Rattle.rd_state.proofs.Tests.{if-ok, if-not, is_accessible-means}
 use Rattle.rd_state.proofs.Options.{map-map, one-value, or-none, some-or}
@@ -156,29 +156,7 @@ none-pending = refl
 
 pub point-keeps : (bs : List BufferValue) (place : ℕ) (w : WindowState) → IsWindow bs w → ((b : BufferValue) → slice_get bs w.buffer ≡ Some b → IsAccessible b.content.text place)
     → IsWindow bs (record w { point = place })
-point-keeps bs place w v at = record {
-  made = v.made;
-  point = at;
-  anchor = v.anchor;
-  pending = v.pending;
-  hscroll = v.hscroll;
-  format = v.format;
-  numbers = v.numbers;
-  strings = v.strings;
-}
-
-pub start-keeps : (bs : List BufferValue) (place row : ℕ) (w : WindowState) → IsWindow bs w → ((b : BufferValue) → slice_get bs w.buffer ≡ Some b → IsAccessible b.content.text place)
-    → IsWindow bs (record w { anchor = record { pos = place; row = row }; forced = true; pending = pos 0 })
-start-keeps bs place row w v at = record {
-  made = v.made;
-  point = v.point;
-  anchor = at;
-  pending = none-pending;
-  hscroll = v.hscroll;
-  format = v.format;
-  numbers = v.numbers;
-  strings = v.strings;
-}
+point-keeps bs place w v at = window-placed bs bs w place w.anchor v v.made at v.anchor
 
 -- another window of the same buffer with the same positions
 pub look-keeps : (bs : List BufferValue) (w x : WindowState) → x.buffer ≡ w.buffer → x.point ≡ w.point → x.anchor ≡ w.anchor → IsTrue (is_near_zero (pos PENDING_ROWS) x.pending)
@@ -193,6 +171,13 @@ look-keeps bs w x buffer point anchor pending hscroll format numbers strings v =
   numbers = numbers;
   strings = strings;
 }
+
+pub start-keeps : (bs : List BufferValue) (place row : ℕ) (w : WindowState) → IsWindow bs w → ((b : BufferValue) → slice_get bs w.buffer ≡ Some b → IsAccessible b.content.text place)
+    → IsWindow bs (record w { anchor = record { pos = place; row = row }; forced = true; pending = pos 0 })
+start-keeps bs place row w v at =
+    let moved : WindowState = record w { anchor = record { pos = place; row = row } } in
+    look-keeps bs moved (record moved { forced = true; pending = pos 0 }) refl refl refl none-pending v.hscroll v.format v.numbers v.strings
+    (window-placed bs bs w w.point moved.anchor v v.made v.point at)
 
 held-above : (t : Bool) (n : ℕ) → nat_lt n 1000000000 ≡ t → IsTrue (is_near_zero (pos 1000000000) (int_max (negsuc 999999999) (cond t (pos n) (pos 1000000000))))
 held-above true n h = let less = ltb-true n 1000000000 h in grind (arith, ints, nat_tests)

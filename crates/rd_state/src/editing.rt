@@ -4,6 +4,7 @@ ghost use Rattle.std.specs.Prelude.{◌≡◌, ◌≢◌, ◌+◌, ◌<◌, IfOk
 ghost use Rattle.rd_base.specs.declared.limits.TheConstants.{TEXT_CHARACTERS};
 ghost use Rattle.rd_script.specs.Forms.{IsInForm};
 ghost use Rattle.rd_script.specs.declared.op.Op.TheVariants.{Buffer as MakeBuffer, Insert, InsertRaw, TypeText, Delete, Narrow, Widen};
+ghost use Rattle.rd_state.specs.declared.effect.Effect.TheVariants.{Edit};
 ghost use Rattle.rd_state.specs.declared.refused.Refused.TheVariants.{OutOfRange};
 ghost use Rattle.rd_state.specs.Answers.{Applies};
 ghost use Rattle.rd_state.specs.Valid.{IsValid};
@@ -50,12 +51,7 @@ impl StateParts {
         self.buffers[i].insert(from, text)?;
         let (buffer, added) = (i as u32, text.len() as u32);
         move_windows(&mut self.windows, buffer, Move::Inserted(from, added));
-        Ok(Effect::Edit {
-            buffer,
-            from,
-            removed: 0,
-            added,
-        })
+        Ok(inserted(buffer, from, added))
     }
 
     /// Puts raw bytes in.
@@ -87,12 +83,7 @@ impl StateParts {
         let added = text.len() as u32;
         move_windows(&mut self.windows, buffer, Move::Inserted(from, added));
         self.windows[w].1.point = from + added;
-        Ok(Effect::Edit {
-            buffer,
-            from,
-            removed: 0,
-            added,
-        })
+        Ok(inserted(buffer, from, added))
     }
 
     /// Takes a range away.
@@ -140,6 +131,18 @@ impl StateParts {
         let i = find(&self.buffers, name)?;
         self.buffers[i].widen();
         Ok(Effect::All { buffer: i as u32 })
+    }
+}
+
+/// The effect of a text that was put in.
+fn inserted(buffer: u32, from: Pos, added: u32) -> Effect
+    ensures { result ≡ Edit buffer from 0 added }
+{
+    Effect::Edit {
+        buffer,
+        from,
+        removed: 0,
+        added,
     }
 }
 

@@ -1,5 +1,5 @@
 //! Whether the objects that ops name were made.
-ghost use Rattle.std.specs.Prelude.{◌≡◌, ◌<◌, true, false, None, Some, IfOk, IfErr, OnErr, IfSome, length};
+ghost use Rattle.std.specs.Prelude.{◌≡◌, ◌<◌, true, false, None, Some, IfOk, IfErr, OnOk, OnErr, length};
 ghost use Rattle.rd_objects.specs.Sound.{AreObjects};
 ghost use Rattle.rd_script.specs.Forms.{IsPropertyValue};
 ghost use Rattle.rd_state.specs.declared.refused.Refused.TheVariants.{NoObject};
@@ -29,13 +29,7 @@ pub(crate) fn made_value(
     ensures refused { IfErr result (λ e. e ≡ NoObject) }
 {
     match value {
-        Some(number) => {
-            if is_value(objects, kind, number) {
-                Ok(Some(number as u32))
-            } else {
-                Err(Refused::NoObject)
-            }
-        }
+        Some(number) => number_if(is_value(objects, kind, number), number),
         None => Ok(None),
     }
 }
@@ -66,14 +60,23 @@ pub(crate) fn made_string(objects: &Objects, number: Option<u64>) -> Result<Opti
     ensures refused { IfErr result (λ e. e ≡ NoObject) }
 {
     match number {
-        Some(number) => {
-            if is_made_string(objects, number) {
-                Ok(Some(number as u32))
-            } else {
-                Err(Refused::NoObject)
-            }
-        }
+        Some(number) => number_if(is_made_string(objects, number), number),
         None => Ok(None),
+    }
+}
+
+/// A number in 32 bits, which is refused unless its object was made.
+fn number_if(is_made: bool, number: u64) -> Result<Option<u32>, Refused>
+    requires { is_made ≡ true → number < 4294967296 }
+    ensures same { IfOk result (λ n. n ≡ Some number) }
+    ensures made { OnOk result (is_made ≡ true) }
+    ensures absent { OnErr result (is_made ≡ false) }
+    ensures refused { IfErr result (λ e. e ≡ NoObject) }
+{
+    if is_made {
+        Ok(Some(number as u32))
+    } else {
+        Err(Refused::NoObject)
     }
 }
 
@@ -84,34 +87,10 @@ pub(crate) fn names_made(objects: &Objects, setting: &Setting) -> bool
     ensures small { result ≡ true → IsFitting setting.now }
 {
     match setting {
-        Setting::Table(number) => names_table(objects, *number),
-        Setting::LinePrefix(number) => names_string(objects, *number),
-        Setting::WrapPrefix(number) => names_string(objects, *number),
+        Setting::Table(Some(number)) => is_made_table(objects, *number),
+        Setting::LinePrefix(Some(number)) => is_made_string(objects, *number),
+        Setting::WrapPrefix(Some(number)) => is_made_string(objects, *number),
         _ => true,
-    }
-}
-
-/// Whether a table was made, or none is named.
-fn names_table(objects: &Objects, number: Option<u64>) -> bool
-    requires { AreObjects objects.now }
-    ensures value { result ≡ is_made (length objects.now.tables) number }
-    ensures small { result ≡ true → IfSome number (λ n. n < 4294967296) }
-{
-    match number {
-        Some(n) => n < MOST_NUMBERS && objects.table(n as u32).is_some(),
-        None => true,
-    }
-}
-
-/// Whether a string was made, or none is named.
-fn names_string(objects: &Objects, number: Option<u64>) -> bool
-    requires { AreObjects objects.now }
-    ensures value { result ≡ is_made (length objects.now.strings) number }
-    ensures small { result ≡ true → IfSome number (λ n. n < 4294967296) }
-{
-    match number {
-        Some(n) => is_made_string(objects, n),
-        None => true,
     }
 }
 
@@ -124,8 +103,17 @@ fn is_made_string(objects: &Objects, number: u64) -> bool
     number < MOST_NUMBERS && objects.string(number as u32).is_some()
 }
 
+/// Whether a table was made.
+fn is_made_table(objects: &Objects, number: u64) -> bool
+    requires { AreObjects objects.now }
+    ensures value { result ≡ is_made (length objects.now.tables) (Some number) }
+    ensures small { result ≡ true → number < 4294967296 }
+{
+    number < MOST_NUMBERS && objects.table(number as u32).is_some()
+}
+
 /// Whether a face was made.
-pub(crate) fn is_made_face(objects: &Objects, number: u64) -> bool
+fn is_made_face(objects: &Objects, number: u64) -> bool
     requires { AreObjects objects.now }
     ensures value { result ≡ is_made (length objects.now.faces) (Some number) }
     ensures small { result ≡ true → number < 4294967296 }
@@ -134,7 +122,7 @@ pub(crate) fn is_made_face(objects: &Objects, number: u64) -> bool
 }
 
 /// Whether a display spec was made.
-pub(crate) fn is_made_spec(objects: &Objects, number: u64) -> bool
+fn is_made_spec(objects: &Objects, number: u64) -> bool
     requires { AreObjects objects.now }
     ensures value { result ≡ is_made (length objects.now.specs) (Some number) }
     ensures small { result ≡ true → number < 4294967296 }

@@ -57,7 +57,7 @@ returns c =
     (c.in_ok-w.ensures.place ∙ ap (place_in t.selected) c.as_slice.ensures.value) inside c.index_mut-2.ensures.value in (
       typing-ok c.args.self.now t new c.in_ok-w.w e c.index_mut-2.result.now (buffers_of (set_value_at es e.1.buffer c.insert.new.self)) c.move_windows.new.windows.items c.self.view_is there
           inserts c.move_windows.ensures there_2,
-      typing-effect c.args.self.now t new c.in_ok-w.w e c.self.view_is there,
+      c.inserted.ensures ∙ typing-effect c.args.self.now t new c.in_ok-w.w e c.self.view_is there,
     )
 
 pub overflow_add-from : goal.overflow_add-from
