@@ -3,8 +3,6 @@ ghost use Rattle.std.specs.Prelude.{◌≡◌, ◌≤◌, ◌⊎◌, ◌∷◌, 
 ghost use Rattle.std.specs.Io.KnownBytes.{Consumes};
 ghost use Rattle.rd_io.specs.Devices.{Rose};
 ghost use Rattle.rd_base.specs.declared.limits.TheConstants.{FILE_BYTES};
-ghost use Rattle.rd_term.specs.Pictures.{width_of};
-ghost use Rattle.rd_term.specs.Terminals.{unknown};
 ghost use Rattle.rd_audit.specs.Results.{IsShape, JudgesBytes, picture_in};
 ghost use Rattle.rd_audit.specs.Verdicts.{Answers, Comes, JudgesFile, JudgesDump, IsSound, IsJudged, texts};
 
@@ -114,7 +112,7 @@ fn judge_bytes<S: Source>(alloc: Global, file: &[u8], stream: &mut S) -> Verdict
     }
 }
 
-/// The verdict by a dump.
+/// The verdict by a dump, on a terminal of its size.
 fn judge_stream<S: Source>(alloc: Global, dump: &Dump, stream: &mut S) -> Verdict
     requires shape { IsShape dump.now.rows }
     requires rows { 2 ≤ length dump.now.rows }
@@ -125,23 +123,9 @@ fn judge_stream<S: Source>(alloc: Global, dump: &Dump, stream: &mut S) -> Verdic
 {
     let width = dump.rows.get(0).len() as u32;
     let height = dump.rows.len() as u32;
-    match Terminal::new(alloc, width, height) {
-        Ok(terminal) => judge_terminal(dump, terminal, stream),
-        Err(_none) => Verdict::NoMemory,
-    }
-}
-
-/// The verdict by a dump and a terminal of its size.
-fn judge_terminal<S: Source>(dump: &Dump, terminal: Terminal, stream: &mut S) -> Verdict
-    requires shape { IsShape dump.now.rows }
-    requires unknown { terminal ≡ unknown (width_of dump.now.rows) (length dump.now.rows) }
-    requires rows { 2 ≤ length dump.now.rows }
-    ensures comes { (bytes : List ℕ) × Consumes (S.left stream.old) (S.left stream.new) bytes
-        × JudgesDump result (picture_in dump.now) bytes (S.left stream.new) }
-    ensures read { result ≡ Verdict.ReadFault → Rose (S.faults stream.old) (S.faults stream.new) }
-    ensures stream { S.faults stream.old ≤ S.faults stream.new }
-{
-    let mut terminal = terminal;
+    let Ok(mut terminal) = Terminal::new(alloc, width, height) else {
+        return Verdict::NoMemory;
+    };
     match feed_stream(&mut terminal, stream) {
         Ok(()) => answer(dump, &terminal),
         Err(StreamFault::TooLong) => Verdict::TooLong,
