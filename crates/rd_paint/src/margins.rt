@@ -23,91 +23,90 @@ use rd_text::Buffer;
 use rd_ucd::Classes;
 use std::alloc::Global;
 
-/// The margins beside the rows of a matrix, at each row's place, and an empty list where the margins take no columns. The number of a
-/// line is counted once for each block that the matrix has the first row of, and costs the stretches of the text before it, as
-/// `Buffer::line_of` does.
-pub(crate) fn margins(
-    alloc: Global,
-    classes: &Classes,
-    objects: &Objects,
-    content: &Content<'_>,
-    widths: Widths,
-    matrix: &Matrix,
-) -> Result<Vec<ListOf<Cell>>, Memory>
-    requires { All (λ (e : EntryMeaning). IsAccessible content.now.content.text e.start) (shown_entries matrix.now) }
-    ensures { IfOk result (λ lists. glyph_rows lists.items matrix.now ≡ map (glyph_row (margin_of (of_classes classes.now) objects.now content.now.content widths)) (shown_entries matrix.now)) }
-{
-    panes_show_their_matrix();
-    if widths.numbers == 0 && widths.strings == 0 {
-        plain_lines_are_whole();
-        return Ok(Vec::new(alloc));
-    }
-    margins_of_all(alloc, classes, objects, content, widths, matrix)
+/// The margins of a window: what they show, and how many columns they take.
+#[derive(Drop)]
+pub(crate) struct WindowMargins<'a> {
+    pub alloc: Global,
+    pub classes: &'a Classes,
+    pub objects: &'a Objects,
+    pub content: &'a Content<'a>,
+    pub widths: Widths,
 }
 
-/// The margins beside each row of a matrix.
-fn margins_of_all(
-    alloc: Global,
-    classes: &Classes,
-    objects: &Objects,
-    content: &Content<'_>,
-    widths: Widths,
-    matrix: &Matrix,
-) -> Result<Vec<ListOf<Cell>>, Memory>
-    requires { All (λ (e : EntryMeaning). IsAccessible content.now.content.text e.start) (shown_entries matrix.now) }
-    ensures { IfOk result (λ lists. lists.items ≡ map (margin_of (of_classes classes.now) objects.now content.now.content widths) (shown_entries matrix.now)) }
-{
-    let mut lists = Vec::with_capacity(alloc, matrix.len())?;
-    for row in 0..matrix.len() {
-        let entry = matrix.entry(row);
-        let cells = beside(
-            alloc,
-            classes,
-            objects,
-            content,
-            widths,
-            entry.start,
-            entry.number,
-        )?;
-        lists.push(cells)?;
+impl<'a> WindowMargins<'a> {
+    /// The margins beside the rows of a matrix, at each row's place, and an empty list where the margins take no columns. The number of a
+    /// line is counted once for each block that the matrix has the first row of, and costs the stretches of the text before it, as
+    /// `Buffer::line_of` does.
+    pub(crate) fn beside_rows(&self, matrix: &Matrix) -> Result<Vec<ListOf<Cell>>, Memory>
+        requires { All (λ (e : EntryMeaning). IsAccessible self.now.content.now.content.text e.start) (shown_entries matrix.now) }
+        ensures { IfOk result (λ lists. glyph_rows lists.items matrix.now ≡ map (glyph_row (margin_of (of_classes self.now.classes.now) self.now.objects.now self.now.content.now.content self.now.widths)) (shown_entries matrix.now)) }
+    {
+        panes_show_their_matrix();
+        if self.widths.numbers == 0 && self.widths.strings == 0 {
+            plain_lines_are_whole();
+            return Ok(Vec::new(self.alloc));
+        }
+        self.beside_each(matrix)
     }
-    Ok(lists)
-}
 
-/// The margins beside a row of the block that starts at a position; `number` is the row's number in the block, from 0.
-fn beside(
-    alloc: Global,
-    classes: &Classes,
-    objects: &Objects,
-    content: &Content<'_>,
-    widths: Widths,
-    start: Pos,
-    number: u32,
-) -> Result<ListOf<Cell>, Memory>
-    requires { IsAccessible content.now.content.text start }
-    ensures { IfOk result (λ cells. cells ≡ row_margin classes.now widths number (line_of content.now.content.text start) (margin_text objects.now content.now.content start)) }
-{
-    if number > 0 {
-        return row_margin(alloc, classes, widths, number, 1, &[]);
+    /// The margins beside each row of a matrix.
+    fn beside_each(&self, matrix: &Matrix) -> Result<Vec<ListOf<Cell>>, Memory>
+        requires { All (λ (e : EntryMeaning). IsAccessible self.now.content.now.content.text e.start) (shown_entries matrix.now) }
+        ensures { IfOk result (λ lists. lists.items ≡ map (margin_of (of_classes self.now.classes.now) self.now.objects.now self.now.content.now.content self.now.widths) (shown_entries matrix.now)) }
+    {
+        let mut lists = Vec::with_capacity(self.alloc, matrix.len())?;
+        for row in 0..matrix.len() {
+            let entry = matrix.entry(row);
+            let cells = self.beside(entry.start, entry.number)?;
+            lists.push(cells)?;
+        }
+        Ok(lists)
     }
-    beside_first(alloc, classes, objects, content, widths, start)
-}
 
-/// The margins beside the first row of the block that starts at a position.
-fn beside_first(
-    alloc: Global,
-    classes: &Classes,
-    objects: &Objects,
-    content: &Content<'_>,
-    widths: Widths,
-    start: Pos,
-) -> Result<ListOf<Cell>, Memory>
-    requires { IsAccessible content.now.content.text start }
-    ensures { IfOk result (λ cells. cells ≡ row_margin classes.now widths 0 (line_of content.now.content.text start) (margin_text objects.now content.now.content start)) }
-{
-    let line = line_beside(&content.buffer.text, widths.numbers, start);
-    let text = text_beside(alloc, objects, content, widths.strings, start)?;
-    row_margin(alloc, classes, widths, 0, line, text.as_slice())
+    /// The margins beside a row of the block that starts at a position; `number` is the row's number in the block, from 0.
+    fn beside(&self, start: Pos, number: u32) -> Result<ListOf<Cell>, Memory>
+        requires { IsAccessible self.now.content.now.content.text start }
+        ensures { IfOk result (λ cells. cells ≡ row_margin self.now.classes.now self.now.widths number (line_of self.now.content.now.content.text start) (margin_text self.now.objects.now self.now.content.now.content start)) }
+    {
+        if number > 0 {
+            return row_margin(self.alloc, self.classes, self.widths, number, 1, &[]);
+        }
+        self.beside_first(start)
+    }
+
+    /// The margins beside the first row of the block that starts at a position.
+    fn beside_first(&self, start: Pos) -> Result<ListOf<Cell>, Memory>
+        requires { IsAccessible self.now.content.now.content.text start }
+        ensures { IfOk result (λ cells. cells ≡ row_margin self.now.classes.now self.now.widths 0 (line_of self.now.content.now.content.text start) (margin_text self.now.objects.now self.now.content.now.content start)) }
+    {
+        let line = line_beside(&self.content.buffer.text, self.widths.numbers, start);
+        let text = self.text_beside(start)?;
+        row_margin(
+            self.alloc,
+            self.classes,
+            self.widths,
+            0,
+            line,
+            text.as_slice(),
+        )
+    }
+
+    /// The text of the margin string at a position, as its columns show it; where there are none it is not looked for.
+    fn text_beside(&self, pos: Pos) -> Result<ListOf<Ch>, Memory>
+        ensures { IfOk result (λ text. (classes : List Span) → plain_cells classes plain self.now.widths.strings text ≡ plain_cells classes plain self.now.widths.strings (margin_text self.now.objects.now self.now.content.now.content pos)) }
+    {
+        if self.widths.strings == 0 {
+            plain_lines_are_whole();
+            return Ok(ListOf::new(self.alloc));
+        }
+        string_at(
+            self.alloc,
+            self.objects,
+            self.content.marks,
+            &self.content.buffer.overlays,
+            pos,
+        )
+    }
 }
 
 /// The line of a position, as so many columns show it; where there are none it is not counted.
@@ -119,23 +118,6 @@ fn line_beside(text: &Buffer, columns: u32, pos: Pos) -> u32
         return 1;
     }
     text.line_of(pos)
-}
-
-/// The text of the margin string at a position, as so many columns show it; where there are none it is not looked for.
-fn text_beside(
-    alloc: Global,
-    objects: &Objects,
-    content: &Content<'_>,
-    columns: u32,
-    pos: Pos,
-) -> Result<ListOf<Ch>, Memory>
-    ensures { IfOk result (λ text. (classes : List Span) → plain_cells classes plain columns text ≡ plain_cells classes plain columns (margin_text objects.now content.now.content pos)) }
-{
-    if columns == 0 {
-        plain_lines_are_whole();
-        return Ok(ListOf::new(alloc));
-    }
-    string_at(alloc, objects, content.marks, &content.buffer.overlays, pos)
 }
 
 /// The text of the margin string at a position, empty where there is none.

@@ -8,7 +8,7 @@ ghost use Rattle.rd_paint.specs.Shown.{IsViewOf, of_classes, pane_in};
 
 use crate::border::border_slot;
 use crate::leaf::Leaf;
-use crate::margins::margins;
+use crate::margins::WindowMargins;
 use crate::mode_line::mode_line;
 use rd_base::Memory;
 use rd_frame::{Pane, border_cell, paint_window};
@@ -40,7 +40,14 @@ pub(crate) fn paint_leaf(
         numbers: window.numbers,
         strings: window.strings,
     };
-    let margins = margins(alloc, classes, objects, content, widths, shown.matrix)?;
+    let margins = WindowMargins {
+        alloc,
+        classes,
+        objects,
+        content,
+        widths,
+    };
+    let margins = margins.beside_rows(shown.matrix)?;
     let mode_line = mode_line(
         alloc,
         classes,

@@ -4,15 +4,15 @@ use Rattle.rd_layout.specs.Panes.{margin_of}
 use Rattle.rd_paint.specs.Shown.{of_classes}
 use Rattle.rd_paint.proofs.Beside.{entry-at, more}
 use Rattle.rd_paint.proofs.Starts.{StartsIn}
-use Rattle.rd_paint.proofs.margins.margins_of_all.Goals as goal
+use Rattle.rd_paint.proofs.margins.WindowMargins.beside_each.Goals as goal
 use Rattle.rd_matrix.specs.Entries.{shown_entries, shown_entry}
 
 pub beside-requires : goal.beside-requires
 beside-requires c =
-    all-at (StartsIn c.args.content.now.content.text) (shown_entries c.args.matrix.now) c.loop-row.row (shown_entry c.entry-entry.result.now) c.requires
+    all-at (StartsIn c.args.self.now.content.now.content.text) (shown_entries c.args.matrix.now) c.loop-row.row (shown_entry c.entry-entry.result.now) c.requires
     (entry-at c.args.matrix.now c.loop-row.row c.entry-entry.result.now c.entry-entry.ensures)
 
 pub loop-row-preserved : goal.loop-row-preserved
 loop-row-preserved c =
-    let f = margin_of (of_classes c.args.classes.now) c.args.objects.now c.args.content.now.content c.args.widths in
+    let f = margin_of (of_classes c.args.self.now.classes.now) c.args.self.now.objects.now c.args.self.now.content.now.content c.args.self.now.widths in
     c.in_ok-push.ensures.items ∙ more f c.args.matrix.now c.loop-row.row c.entry-entry.result.now c.loop-row.lists.items c.in_ok-cells.cells c.entry-entry.ensures c.loop-row.invariant c.in_ok-cells.ensures
