@@ -1,5 +1,5 @@
 //! Numbers in decimal.
-ghost use Rattle.std.specs.Prelude.{◌≡◌, ◌<◌, ◌≤◌, IfSome};
+ghost use Rattle.std.specs.Prelude.{◌≡◌, ◌<◌, IfSome};
 ghost use Rattle.rd_audit.specs.Numbers.{digit, lead, longer, number_of, both};
 
 /// The number that bytes say in decimal, without leading zeros; None also for one of more than three digits.

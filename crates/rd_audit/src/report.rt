@@ -1,5 +1,5 @@
 //! The line of a verdict, written without memory.
-ghost use Rattle.std.specs.Prelude.{◌≡◌, ◌++◌, codes, decimal};
+ghost use Rattle.std.specs.Prelude.{◌++◌, codes, decimal};
 ghost use Rattle.rd_dump.specs.Prints.{Prints};
 ghost use Rattle.rd_audit.specs.Verdicts.{line_of, difference_line, cell_line, bad_line};
 

@@ -1,5 +1,5 @@
 //! Characters of a text: Unicode scalar values and raw bytes.
-ghost use Rattle.std.specs.Prelude.{◌≡◌, ◌+◌, ◌<◌, ◌≤◌, IfNone, IfSome, ◌↔◌, IsNone, IsTrue};
+ghost use Rattle.std.specs.Prelude.{◌≡◌, ◌+◌, ◌<◌, IfSome, ◌↔◌, IsNone, IsTrue};
 ghost use Rattle.rd_base.specs.Chars.{is_code};
 
 use std::marker::Model;

@@ -1,6 +1,6 @@
 //! Faces: what a cell looks like besides its character.
 ghost use Rattle.std.specs.Prelude.{◌≡◌};
-ghost use Rattle.rd_base.specs.Faces.{plain, over};
+ghost use Rattle.rd_base.specs.Faces.{over};
 ghost use Rattle.rd_base.specs.Equals.{same_face};
 
 use std::marker::Model;
@@ -18,7 +18,7 @@ pub struct Face {
 }
 
 impl Model for Face {
-    ghost use Rattle.std.specs.Prelude.{ℕ, ◌≤◌};
+    ghost use Rattle.std.specs.Prelude.{◌≤◌};
     ghost use Rattle.rd_base.specs.Faces.{Attributes};
 
     ghost Value = { Attributes };

@@ -36,7 +36,7 @@ pub struct Settings {
 }
 
 impl Model for Settings {
-    ghost use Rattle.std.specs.Prelude.{ℕ, ◌≤◌};
+    ghost use Rattle.std.specs.Prelude.{◌≤◌};
     ghost use Rattle.rd_base.specs.Settings.{SettingValues};
     ghost use Rattle.rd_base.specs.declared.limits.TheConstants.{TAB_COLUMNS};
 

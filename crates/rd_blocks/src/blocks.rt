@@ -37,13 +37,11 @@ impl<'a> Model for Blocks<'a> {
 }
 
 impl<'a> Blocks<'a> {
-    ghost use Rattle.std.specs.Prelude.{◌≡◌, ◌+◌, ◌≤◌, IfOk, MatchOption, None, Some, slice_get};
-    ghost use Rattle.rd_text.specs.Texts.{IsAccessible};
+    ghost use Rattle.std.specs.Prelude.{◌≡◌, ◌+◌, ◌≤◌, IfOk, None, Some, slice_get};
     ghost use Rattle.rd_props.specs.Buffers.{meaning};
-    ghost use Rattle.rd_items.specs.Blocks.{IsBlock, IsBlockAt};
+    ghost use Rattle.rd_items.specs.Blocks.{IsBlock};
     ghost use Rattle.rd_matrix.specs.Blocks.{IsAmong, IsWithin, HoldsPosition, block_before};
     ghost use Rattle.rd_matrix.specs.Sources.{IsSource};
-    ghost use Rattle.rd_blocks.specs.Bases.{block_base};
     ghost use Rattle.rd_blocks.specs.Sources.{source_of};
 
     /// The blocks of the buffer that is looked at. It takes no memory.

@@ -1,10 +1,9 @@
 //! The definitions on worked examples. These functions have no body: what they promise is computed from the definitions.
-ghost use Rattle.std.specs.Prelude.{◌≡◌, ◌∷◌, ◌++◌, [], true, false, pos, Some, None};
+ghost use Rattle.std.specs.Prelude.{◌≡◌, ◌∷◌, ◌++◌, [], true, false};
 ghost use Rattle.rd_base.specs.Faces.{plain};
 ghost use Rattle.rd_base.specs.Glyphs.{blanks};
-ghost use Rattle.rd_base.specs.declared.settings.Direction.TheVariants.{Auto, Left, Right};
+ghost use Rattle.rd_base.specs.declared.settings.Direction.TheVariants.{Auto, Right};
 ghost use Rattle.rd_rows.specs.Examples.{text};
-ghost use Rattle.rd_rows.specs.Shapes.{ShapeValues};
 ghost use Rattle.rd_blocks.specs.Examples.{buffer, two_lines, hidden_at, narrowed_to, with_prefixes, prefixed, with_marks, arrows, no_objects, marks, cut_by, going_on, bases_of, cells_of};
 
 /// Two blocks of which the second has a letter that is read from the right, and the same with other settings of the direction.

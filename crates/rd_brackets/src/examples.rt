@@ -1,10 +1,8 @@
 //! The definitions on worked examples.
-ghost use Rattle.std.specs.Prelude.{◌≡◌, ℕ, [], ◌∷◌, ◌++◌, List, length, replicate};
+ghost use Rattle.std.specs.Prelude.{◌≡◌, [], ◌∷◌, ◌++◌, replicate};
 ghost use Rattle.rd_base.specs.declared.class.Class.TheVariants.{L, R, EN, AN, NSM, WS, ON};
-ghost use Rattle.rd_ucd.specs.declared.spans.Bracket.TheVariants.{Opens, Closes};
-ghost use Rattle.rd_ucd.specs.declared.spans.BracketEntry.{BracketEntry};
-ghost use Rattle.rd_brackets.specs.declared.role.Role.TheVariants.{Opening, Closing, Other};
-ghost use Rattle.rd_brackets.specs.Pairs.{roles, bd16_pairs_of, closings};
+ghost use Rattle.rd_brackets.specs.declared.role.Role.TheVariants.{Opening, Closing};
+ghost use Rattle.rd_brackets.specs.Pairs.{roles, bd16_pairs_of};
 ghost use Rattle.rd_brackets.specs.Sides.{n0_bracket_types};
 ghost use Rattle.rd_brackets.specs.Examples.{some_brackets, pair};
 

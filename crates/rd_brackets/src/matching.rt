@@ -63,7 +63,7 @@ pub fn bd16_pairs_of(
 }
 
 impl Matching {
-    ghost use Rattle.std.specs.Prelude.{◌≡◌, ◌<◌, ◌≤◌, ◌∷◌, ◌++◌, ℕ, suc, List, length, reverse, if◌then◌else◌, IfOk, OnOk, None};
+    ghost use Rattle.std.specs.Prelude.{◌≡◌, ◌<◌, ◌∷◌, ◌++◌, suc, List, length, reverse, if◌then◌else◌, IfOk, OnOk, None};
     ghost use Rattle.rd_brackets.specs.Pairs.{opener, closed, pair_at};
     ghost use Rattle.rd_brackets.specs.Matchings.{all_pairs, AreOpenedBefore, ArePairsBefore, Opens};
     ghost use Rattle.rd_brackets.specs.declared.role.Role.{Role};

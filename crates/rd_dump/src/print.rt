@@ -1,5 +1,4 @@
 //! Writing texts and numbers to a sink, without taking memory.
-ghost use Rattle.std.specs.Prelude.{◌≡◌};
 ghost use Rattle.rd_base.specs.Chars.{encoded};
 ghost use Rattle.rd_dump.specs.Dumps.{token_text, tokens_text};
 ghost use Rattle.rd_dump.specs.Prints.{Prints};

@@ -1,6 +1,6 @@
 //! The links of isolating run sequences, made in one walk from a line's end: which PDI matches an initiator (UAX 9 BD9), what comes after
 //! an item in its sequence (BD13), and the type at a sequence's end (X10).
-ghost use Rattle.std.specs.Prelude.{◌≡◌, ◌<◌, ◌≤◌, ◌+◌, ◌^◌, ◌∷◌, [], length, drop, reverse, max, OnOk, OnErr, IfOk, Some, None, if◌then◌else◌, slice_index_or, is_none, ◌&&◌};
+ghost use Rattle.std.specs.Prelude.{◌≡◌, ◌<◌, ◌+◌, ◌^◌, ◌∷◌, [], length, drop, reverse, max, OnOk, IfOk, Some, None, is_none, ◌&&◌};
 ghost use Rattle.rd_base.specs.Classes.{is_initiator};
 ghost use Rattle.rd_explicit.specs.Follow.{bd13_follower, x10_level_behind};
 
@@ -32,8 +32,8 @@ pub struct Links {
 }
 
 impl Links {
-    ghost use Rattle.std.specs.Prelude.{◌≡◌, ℕ, List, IfSome, ◌<◌, ◌≤◌, ◌+◌, ◌^◌, ◌∷◌, [], length, drop, reverse, max, OnOk, OnErr, IfOk, Some, None, if◌then◌else◌, slice_index_or, is_none, ◌&&◌};
-    ghost use Rattle.rd_base.specs.Classes.{direction_of, is_initiator};
+    ghost use Rattle.std.specs.Prelude.{◌≡◌, ℕ, List, IfSome, ◌<◌, ◌+◌, ◌^◌, ◌∷◌, [], length, drop, reverse, max, OnOk, IfOk, Some, None, is_none, ◌&&◌};
+    ghost use Rattle.rd_base.specs.Classes.{is_initiator};
     ghost use Rattle.rd_explicit.specs.Links.{IsLinkedFrom, LeadsOn, KeepsLinks, chain, chain_end, unmatched, link_at, beginning, without_beginning, gathered, sequences_from};
     ghost use Rattle.rd_explicit.specs.Sequences.{partner_of};
     ghost use Rattle.rd_base.specs.declared.class.Class.{Class};

@@ -1,5 +1,5 @@
 //! What holds of all frames.
-ghost use Rattle.std.specs.Prelude.{ℕ, ◌≡◌, ◌+◌, ◌≤◌, ◌++◌, ◌∷◌, [], List, All, Option, Some, None, length, map, slice_get};
+ghost use Rattle.std.specs.Prelude.{ℕ, ◌≡◌, ◌+◌, ◌≤◌, ◌∷◌, [], List, All, Option, Some, None, length, map, slice_get};
 ghost use Rattle.rd_base.specs.Cells.{AreColoured, IsColoured};
 ghost use Rattle.rd_base.specs.Glyphs.{IsRowAfter};
 ghost use Rattle.rd_base.specs.declared.cell.Cell.{Cell};

@@ -1,8 +1,7 @@
 //! A window, painted over its rectangle of a screen.
 ghost use Rattle.std.specs.Prelude.{◌≡◌, ◌+◌, ◌-◌, ◌<◌, ◌≤◌, ◌++◌, ◌∷◌, [], true, if◌then◌else◌, length, map, replicate, All, slice_index_or};
 ghost use Rattle.rd_term.specs.Pictures.{blank_row, width_of, with_cells};
-ghost use Rattle.rd_tree.specs.Windows.{rows_for};
-ghost use Rattle.rd_frame.specs.Panes.{has_border, body_width, body_height, body_rows, row_cells, bordered, window_rows};
+ghost use Rattle.rd_frame.specs.Panes.{has_border, body_width, body_height, row_cells, bordered, window_rows};
 ghost use Rattle.rd_frame.specs.Fits.{FitsRow, FitsWindow, StandsOn};
 ghost use Rattle.rd_frame.specs.Held.{glyph_rows};
 ghost use Rattle.rd_frame.specs.Paints.{laid_from, with_rectangle};

@@ -1,7 +1,7 @@
 //! The definition of the generated script, computed on worked numbers.
 ghost use Rattle.std.specs.Prelude.{◌≡◌, ◌∷◌, [], ◌++◌, codes, length, get_or, map};
 ghost use Rattle.std.specs.List.{range_with_len};
-ghost use Rattle.rd_generate.specs.Generated.{after, number, choice, templates, line_of, spelling, insertion, script};
+ghost use Rattle.rd_generate.specs.Generated.{number, choice, templates, line_of, spelling, insertion};
 
 /// The numbers of 7, and the templates that they choose.
 fn worked_numbers()

@@ -1,5 +1,5 @@
 //! The element of a character that has one alone.
-ghost use Rattle.std.specs.Prelude.{◌≡◌, map};
+ghost use Rattle.std.specs.Prelude.{◌≡◌};
 ghost use Rattle.rd_glyphs.specs.Characters.{glyph_elements, only};
 
 use crate::looks::only_look;

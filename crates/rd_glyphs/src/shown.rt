@@ -1,5 +1,5 @@
 //! How one character is shown.
-ghost use Rattle.std.specs.Prelude.{◌≡◌, ◌≤◌, ◌==◌, if◌then◌else◌, IsTrue};
+ghost use Rattle.std.specs.Prelude.{◌≡◌, ◌==◌, if◌then◌else◌, IsTrue};
 ghost use Rattle.rd_objects.specs.Widths.{columns};
 ghost use Rattle.rd_glyphs.specs.Characters.{is_control, caret, is_pop, is_formatting, shown_as, turned, mirrored, ShowsColumns};
 ghost use Rattle.rd_ucd.specs.Lookup.{mirror_in};

@@ -1,5 +1,4 @@
 //! Thin adapters over the streams and files of the system. Contracts know no bytes of theirs.
-ghost use Rattle.std.specs.Prelude.{◌≡◌};
 
 use crate::traits::{Failed, Files, Sink, Source, failure};
 use std::fs::File;

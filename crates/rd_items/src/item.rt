@@ -1,6 +1,5 @@
 //! What an item is.
 ghost use Rattle.std.specs.Prelude.{◌≡◌};
-ghost use Rattle.rd_items.specs.Items.{unlisted};
 
 use rd_base::{Ch, Class, Face, Glyph};
 use rd_objects::Spec;

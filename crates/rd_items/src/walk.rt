@@ -66,7 +66,7 @@ fn item_of(since: u32, piece: &Piece, kind: ItemKind) -> Item
 }
 
 impl Walk {
-    ghost use Rattle.std.specs.Prelude.{◌≡◌, ◌≤◌, ◌-◌, ◌∷◌, [], ◌++◌, List, None, OnOk, IfOk, MatchOption};
+    ghost use Rattle.std.specs.Prelude.{◌≡◌, ◌≤◌, ◌-◌, ◌∷◌, [], ◌++◌, List, None, OnOk, IfOk};
     ghost use Rattle.rd_text.specs.Texts.{IsAccessible};
     ghost use Rattle.rd_props.specs.Buffers.{meaning};
     ghost use Rattle.rd_props.specs.Strings.{strings_at};

@@ -1,5 +1,5 @@
 //! Worked examples of the definitions.
-ghost use Rattle.std.specs.Prelude.{◌≡◌, ◌==◌, None, Some, List, [], ◌∷◌};
+ghost use Rattle.std.specs.Prelude.{◌≡◌, ◌==◌, None, Some, [], ◌∷◌};
 ghost use Rattle.std.specs.List.{position};
 ghost use Rattle.rd_lanes.specs.Kernels.{last_position, first_difference, last_difference};
 

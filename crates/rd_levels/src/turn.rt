@@ -1,6 +1,6 @@
 //! The order in which the places of a line are shown.
 ghost use Rattle.std.specs.Prelude.{◌≡◌, ◌<◌, ◌≤◌, ◌^◌, length, IfOk};
-ghost use Rattle.rd_levels.specs.Turns.{levels_with, turns_by, turns_of};
+ghost use Rattle.rd_levels.specs.Turns.{turns_by, turns_of};
 
 use crate::cache::LevelCache;
 use rd_base::{Class, ListOf, Memory};

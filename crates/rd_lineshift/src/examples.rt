@@ -1,9 +1,9 @@
 //! Shifts, choices and updates in worked cases.
-ghost use Rattle.std.specs.Prelude.{◌≡◌, ℕ, List, [], ◌∷◌, ◌++◌, codes, None, Some, true, false, pos, negsuc};
+ghost use Rattle.std.specs.Prelude.{◌≡◌, ℕ, [], ◌∷◌, ◌++◌, codes, None, Some, true, false, pos, negsuc};
 ghost use Rattle.rd_term.specs.Pictures.{blank_row};
 ghost use Rattle.rd_update.specs.Laws.{plain_row};
 ghost use Rattle.rd_lineshift.specs.Shifts.{moved, shifted_rows, shift_bytes};
-ghost use Rattle.rd_lineshift.specs.Choices.{shift_by, shifts_of, choice, cost};
+ghost use Rattle.rd_lineshift.specs.Choices.{shifts_of, choice};
 ghost use Rattle.rd_lineshift.specs.Plans.{shifted_update};
 
 /// Five rows that scroll up by one, above a row that stays: with their band the terminal moves them and one row is sent.

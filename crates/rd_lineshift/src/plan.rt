@@ -4,7 +4,7 @@ ghost use Rattle.rd_io.specs.Devices.{Writes, Rose};
 ghost use Rattle.rd_term.specs.Pictures.{Picture};
 ghost use Rattle.rd_update.specs.Laws.{IsSound};
 ghost use Rattle.rd_update.specs.Plans.{HaveOneSize, sent_of, shown};
-ghost use Rattle.rd_lineshift.specs.Choices.{AreWithin, choice};
+ghost use Rattle.rd_lineshift.specs.Choices.{AreWithin};
 ghost use Rattle.rd_lineshift.specs.Laws.{IsShift};
 ghost use Rattle.rd_lineshift.specs.Plans.{shifted_planned, shifted_update, shifting};
 

@@ -1,5 +1,5 @@
 //! The definitions on worked examples.
-ghost use Rattle.std.specs.Prelude.{◌≡◌, ◌∷◌, [], codes, Option, None, Some, false, pos};
+ghost use Rattle.std.specs.Prelude.{◌≡◌, ◌∷◌, [], codes, None, Some, false, pos};
 ghost use Rattle.std.specs.FinMap.{get};
 ghost use Rattle.rd_base.specs.Faces.{plain};
 ghost use Rattle.rd_base.specs.Glyphs.{blanks};

@@ -1,9 +1,9 @@
 //! The definitions on worked examples.
-ghost use Rattle.std.specs.Prelude.{◌≡◌, ◌++◌, ◌∷◌, [], codes, true, false, Ok, Err};
-ghost use Rattle.rd_modeline.specs.declared.piece.Field.TheVariants.{Name, Line, Place};
+ghost use Rattle.std.specs.Prelude.{◌≡◌, ◌∷◌, [], codes, Ok, Err};
+ghost use Rattle.rd_modeline.specs.declared.piece.Field.TheVariants.{Name, Line};
 ghost use Rattle.rd_modeline.specs.declared.piece.Piece.TheVariants.{Literal, Value, Dashes};
-ghost use Rattle.rd_modeline.specs.Formats.{pieces_of, fault_in};
-ghost use Rattle.rd_modeline.specs.Values.{FactValues, share, value_text};
+ghost use Rattle.rd_modeline.specs.Formats.{pieces_of};
+ghost use Rattle.rd_modeline.specs.Values.{FactValues, share};
 ghost use Rattle.rd_modeline.specs.Lines.{line_text};
 
 /// A name, a line in five columns and dashes; and where a format is bad: a letter that is no code, four digits, a width before

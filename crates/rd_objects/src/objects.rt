@@ -36,7 +36,7 @@ impl Model for Objects {
 }
 
 impl Objects {
-    ghost use Rattle.std.specs.Prelude.{◌≡◌, ◌≤◌, length, Some, None, IfOk, MatchOption, slice_get};
+    ghost use Rattle.std.specs.Prelude.{◌≡◌, ◌≤◌, length, Some, IfOk, MatchOption, slice_get};
     ghost use Rattle.rd_objects.specs.Things.{nothing_made, is_spec_made, string_fault, spec_fault, full_fault, string_added, spec_added, face_added, table_added, IsSmallSpec, Adds};
     ghost use Rattle.rd_objects.specs.Sound.{AreObjects, IsClosed, Extends};
 

@@ -14,7 +14,7 @@ pub struct Visual {
 }
 
 impl Visual {
-    ghost use Rattle.std.specs.Prelude.{◌≡◌, ◌≤◌, ℕ, length, List, [], ◌∷◌, MatchOption};
+    ghost use Rattle.std.specs.Prelude.{◌≡◌, ◌≤◌, ℕ, length, [], ◌∷◌, MatchOption};
     ghost use Rattle.rd_order.specs.Order.{l2_visual_order};
     ghost use Rattle.rd_order.specs.Walks.{left, IsWalkOf};
 

@@ -1,5 +1,5 @@
 //! Laws of the definitions, for the layers above.
-ghost use Rattle.std.specs.Prelude.{ℕ, ◌≡◌, ◌≤◌, Bool, true, false, ℤ, pos, ◌∷◌, [], List, Option, Some, None};
+ghost use Rattle.std.specs.Prelude.{ℕ, ◌≡◌, ◌≤◌, Bool, true, false, pos, ◌∷◌, [], List, Option, Some, None};
 ghost use Rattle.rd_overlays.specs.declared.overlay.Overlay.{Overlay};
 ghost use Rattle.rd_overlays.specs.Overlays.{overlay_at, new_overlay, grown, shrunk, numbers_of, covering, starting, ending, next_edge, last_edge};
 ghost use Rattle.rd_overlays.specs.Listings.{HoldsExactly, Ascends, listed_priority};

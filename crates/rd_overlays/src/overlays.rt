@@ -37,7 +37,7 @@ impl Model for Overlays {
 }
 
 impl Overlays {
-    ghost use Rattle.std.specs.Prelude.{◌≡◌, ◌≤◌, ◌++◌, ◌∷◌, [], length, map, Some, None, IfOk, MatchOption};
+    ghost use Rattle.std.specs.Prelude.{◌≡◌, ◌≤◌, [], length, map, Some, None, IfOk, MatchOption};
     ghost use Rattle.rd_base.specs.declared.limits.TheConstants.{OVERLAYS};
     ghost use Rattle.rd_overlays.specs.Overlays.{overlay_at, new_overlay, make_fault, number_fault, move_fault, dropped, moved, given, Makes, Moves, Answers, covering, starting, ending, next_edge, last_edge, AllFit, slot_grown, slot_shrunk};
 

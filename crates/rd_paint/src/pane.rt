@@ -1,5 +1,5 @@
 //! One window over its rectangle: its rows behind their margins, its border and its mode line.
-ghost use Rattle.std.specs.Prelude.{◌≡◌, OnOk, length};
+ghost use Rattle.std.specs.Prelude.{◌≡◌, OnOk};
 ghost use Rattle.rd_frame.specs.Fits.{FitsWindow, StandsOn};
 ghost use Rattle.rd_frame.specs.Paints.{with_rectangle};
 ghost use Rattle.rd_frame.specs.Panes.{window_rows};

@@ -1,5 +1,5 @@
 //! The last line of a report, put piece by piece: `done`, the place and the kind of a fault, or the name of a fault that has no place.
-ghost use Rattle.std.specs.Prelude.{◌≡◌, ℕ, ◌≤◌, ◌++◌, OnErr, option_map, codes};
+ghost use Rattle.std.specs.Prelude.{ℕ, ◌≤◌, ◌++◌, OnErr, option_map, codes};
 ghost use Rattle.rd_io.specs.Devices.{Rose, Writes};
 ghost use Rattle.rd_run.specs.Reports.{key_part, last_line, located, part_of, refused_part};
 

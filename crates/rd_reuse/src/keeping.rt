@@ -1,5 +1,5 @@
 //! Blocks that keep their older rows.
-ghost use Rattle.std.specs.Prelude.{◌≡◌, ◌+◌, ◌^◌, ◌<◌, ◌≤◌, true, length, map, option_map, IfOk, slice_get};
+ghost use Rattle.std.specs.Prelude.{◌≡◌, ◌+◌, ◌^◌, ◌<◌, ◌≤◌, true, length, option_map, IfOk};
 ghost use Rattle.rd_matrix.specs.Blocks.{IsAmong};
 ghost use Rattle.rd_reuse.specs.Keeping.{AreRight, are_whole, copied_rows, entry_under, fresh_cost, has_base, is_kept, is_under, taken};
 ghost use Rattle.rd_rows.specs.Copies.{shown_rows};

@@ -1,13 +1,13 @@
 //! A row that is being made.
-ghost use Rattle.std.specs.Prelude.{◌≡◌, ◌+◌, ◌-◌, ◌^◌, ◌<◌, ◌≤◌, ◌++◌, ◌∷◌, [], List, length, replicate, min, OnOk, IfOk};
+ghost use Rattle.std.specs.Prelude.{◌≡◌, ◌+◌, ◌-◌, ◌^◌, ◌<◌, ◌≤◌, ◌++◌, [], List, length, min, OnOk, IfOk};
 ghost use Rattle.rd_base.specs.Elements.{width_at_most};
-ghost use Rattle.rd_base.specs.Glyphs.{blanks, glyph_cells};
+ghost use Rattle.rd_base.specs.Glyphs.{glyph_cells};
 ghost use Rattle.rd_base.specs.declared.element.Element.{Element};
 ghost use Rattle.rd_rows.specs.declared.spot.Placed.{Placed};
 ghost use Rattle.rd_rows.specs.declared.spot.Spot.{Spot};
 ghost use Rattle.rd_rows.specs.Placing.{placed_at, glyph_in, next_row, columns_of};
 ghost use Rattle.rd_rows.specs.Shapes.{room};
-ghost use Rattle.rd_rows.specs.Rows.{whole_cells, seen_in, first_seen, front_mark, from_edge, mark, filled, last_cell, begin_of};
+ghost use Rattle.rd_rows.specs.Rows.{whole_cells, seen_in, first_seen, front_mark, from_edge, mark, last_cell, begin_of};
 ghost use Rattle.rd_rows.specs.Makers.{Grows, IsDraft, IsBreak, IsNoted, kept_of, finished_row};
 
 use crate::begin::Begin;

@@ -25,7 +25,7 @@ impl RowMaker {
     ghost use Rattle.rd_rows.specs.declared.spot.Spot.{Spot};
     ghost use Rattle.rd_rows.specs.Left.{IsLine, lead_of};
     ghost use Rattle.rd_rows.specs.Makers.{IsFilling, IsMaking, Leaves, Ends, Cuts};
-    ghost use Rattle.rd_rows.specs.Placing.{next_row, line_start, columns_of};
+    ghost use Rattle.rd_rows.specs.Placing.{next_row, columns_of};
     ghost use Rattle.rd_rows.specs.Cuts.{ends_some};
     ghost use Rattle.rd_rows.specs.Rows.{first_seen};
     ghost use Rattle.rd_rows.specs.Shapes.{room};

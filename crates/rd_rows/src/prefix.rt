@@ -1,5 +1,5 @@
 //! What stands in a row before the elements of the line.
-ghost use Rattle.std.specs.Prelude.{◌≡◌, ◌≤◌, IfOk};
+ghost use Rattle.std.specs.Prelude.{◌≡◌, IfOk};
 ghost use Rattle.rd_rows.specs.Placing.{columns_of};
 ghost use Rattle.rd_rows.specs.Prefixes.{prefix_of, IsPrefix, IsLead};
 
@@ -30,7 +30,7 @@ impl Model for Prefix {
 }
 
 impl Prefix {
-    ghost use Rattle.std.specs.Prelude.{◌≡◌, ◌≤◌, IfOk};
+    ghost use Rattle.std.specs.Prelude.{◌≡◌, IfOk};
     ghost use Rattle.rd_rows.specs.Placing.{columns_of};
     ghost use Rattle.rd_rows.specs.Prefixes.{prefix_of, IsPrefix, IsLead};
 

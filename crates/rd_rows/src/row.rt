@@ -19,7 +19,7 @@ pub struct Row {
 }
 
 impl Model for Row {
-    ghost use Rattle.std.specs.Prelude.{ℕ, ◌≤◌, length};
+    ghost use Rattle.std.specs.Prelude.{◌≤◌, length};
     ghost use Rattle.rd_rows.specs.Copies.{RowValues};
     ghost use Rattle.rd_base.specs.declared.limits.TheConstants.{FRAME_COLUMNS};
 

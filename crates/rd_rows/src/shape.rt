@@ -14,7 +14,7 @@ pub struct Shape {
 }
 
 impl Model for Shape {
-    ghost use Rattle.std.specs.Prelude.{ℕ, ◌≤◌};
+    ghost use Rattle.std.specs.Prelude.{◌≤◌};
     ghost use Rattle.rd_rows.specs.Shapes.{ShapeValues};
     ghost use Rattle.rd_base.specs.declared.limits.TheConstants.{FRAME_COLUMNS, LEAST_TEXT_COLUMNS};
 

@@ -1,5 +1,5 @@
 //! Where elements come to stand in a row.
-ghost use Rattle.std.specs.Prelude.{◌≡◌, ◌+◌, ◌^◌, ◌<◌, ◌≤◌, IfSome};
+ghost use Rattle.std.specs.Prelude.{◌≡◌, ◌+◌, ◌^◌, ◌<◌, ◌≤◌};
 ghost use Rattle.rd_base.specs.Elements.{width_at_most, is_line_end};
 ghost use Rattle.rd_rows.specs.Placing.{width_at, is_blank, ends_row, fits, columns_in, placed_at, behind, next_row, next_line, line_start, is_item};
 ghost use Rattle.rd_rows.specs.Rows.{first_seen};

@@ -1,6 +1,6 @@
 //! Arrays in a value, item by item.
 ghost use Rattle.std.specs.Prelude.{◌≡◌, IfOk};
-ghost use Rattle.serde_json.specs.View.{view, items_view};
+ghost use Rattle.serde_json.specs.View.{items_view};
 ghost use Rattle.rd_script.specs.Fields.{each_item};
 
 use crate::form::{Form, number_within};

@@ -3,7 +3,7 @@ ghost use Rattle.std.specs.Prelude.{◌≡◌, ◌≤◌, ◌∷◌, [], IfOk, O
 ghost use Rattle.serde_json.specs.Find.{as_bool};
 ghost use Rattle.serde_json.specs.View.{members_view};
 ghost use Rattle.rd_script.specs.Fields.{list_of, within, defaulted, asked_too, IsRead, IsTaken};
-ghost use Rattle.rd_script.specs.Objects.{run, spec, spec_value, face, entry, slot_field};
+ghost use Rattle.rd_script.specs.Objects.{spec, spec_value, face, slot_field};
 ghost use Rattle.rd_script.specs.Table.{object_row};
 ghost use Rattle.rd_script.specs.declared.name.ObjectOp.TheVariants as objects;
 

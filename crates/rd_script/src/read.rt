@@ -1,5 +1,5 @@
 //! From a line to an op.
-ghost use Rattle.std.specs.Prelude.{◌≡◌, ◌≢◌, ◌∷◌, [], ℕ, OnOk, Ok, Err, codes};
+ghost use Rattle.std.specs.Prelude.{◌≡◌, ◌≢◌, ◌∷◌, [], OnOk, Ok, Err, codes};
 ghost use Rattle.serde_json.specs.View.{view, members_view};
 ghost use Rattle.rd_script.specs.declared.fault.OpFault.TheVariants as faults;
 ghost use Rattle.rd_script.specs.declared.op.Op.{Op};

@@ -1,6 +1,6 @@
 //! The ops about windows: their fields.
 ghost use Rattle.rd_script.specs.Fields.{IsTaken};
-ghost use Rattle.rd_script.specs.Table.{window_field, window_row};
+ghost use Rattle.rd_script.specs.Table.{window_row};
 
 use crate::asked::Asked;
 use crate::fault::OpFault;

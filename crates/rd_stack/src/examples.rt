@@ -1,5 +1,5 @@
 //! The definitions on worked examples.
-ghost use Rattle.std.specs.Prelude.{◌≡◌, ◌∷◌, [], true, false};
+ghost use Rattle.std.specs.Prelude.{◌≡◌, ◌∷◌, [], true};
 ghost use Rattle.rd_base.specs.declared.element.Extent.TheVariants.{Fixed, Column};
 ghost use Rattle.rd_base.specs.declared.element.Look.TheVariants.{RowEnd, LineEnd};
 ghost use Rattle.rd_base.specs.declared.settings.Invisible.TheVariants.{Every, Listed};

@@ -33,7 +33,7 @@ impl<'a> Model for LineFrame<'a> {
 }
 
 impl<'a> LineFrame<'a> {
-    ghost use Rattle.std.specs.Prelude.{◌≡◌, ◌≤◌, [], IfOk};
+    ghost use Rattle.std.specs.Prelude.{◌≡◌, ◌≤◌, IfOk};
     ghost use Rattle.rd_items.specs.Pieces.{scene_of};
     ghost use Rattle.rd_stack.specs.Lines.{item_turns};
     ghost use Rattle.rd_stack.specs.Steps.{line_left};

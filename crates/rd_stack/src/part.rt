@@ -1,6 +1,5 @@
 //! What strings are made of.
 ghost use Rattle.std.specs.Prelude.{◌≡◌, ◌<◌, length};
-ghost use Rattle.rd_objects.specs.Texts.{face_of, spec_of};
 ghost use Rattle.rd_items.specs.Pieces.{scene_of};
 ghost use Rattle.rd_stack.specs.Strings.{place_of, ends_row, spec_class, part_of, kind_code};
 

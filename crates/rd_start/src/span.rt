@@ -1,5 +1,5 @@
 //! The least and the greatest of positions.
-ghost use Rattle.std.specs.Prelude.{◌≡◌, ◌∷◌, []};
+ghost use Rattle.std.specs.Prelude.{◌≡◌};
 ghost use Rattle.std.specs.List.{flat_map};
 ghost use Rattle.rd_start.specs.Chosen.{first_covered};
 ghost use Rattle.rd_start.specs.Strips.{joined_spans, span_of};

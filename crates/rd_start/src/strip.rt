@@ -93,7 +93,7 @@ impl Strip {
     ghost use Rattle.rd_matrix.specs.Sources.{SourceValues, IsSource};
     ghost use Rattle.rd_rows.specs.Copies.{shown_rows};
     ghost use Rattle.rd_start.specs.Chosen.{anchor_at, first_positions};
-    ghost use Rattle.rd_start.specs.Strips.{IsStrip, IsPaid, IsAsked, HasPoint, IsPushed, IsBeyond, GrowsAt, ReachesAt, AsksAt, Between, extent, rows_in, count_in, home_row, first_row, moved_row, side_in, all_costs, span_of};
+    ghost use Rattle.rd_start.specs.Strips.{IsStrip, IsPaid, IsAsked, HasPoint, IsPushed, IsBeyond, GrowsAt, ReachesAt, AsksAt, Between, extent, rows_in, home_row, first_row, moved_row, side_in, all_costs, span_of};
     ghost use Rattle.rd_start.specs.declared.strip.Edge.TheVariants.{Bottom, Top};
     ghost use Rattle.rd_start.specs.declared.strip.StripRow.{StripRow};
 

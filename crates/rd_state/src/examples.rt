@@ -1,15 +1,13 @@
 //! The definitions on worked examples.
-ghost use Rattle.std.specs.Prelude.{◌≡◌, true, false, ◌∷◌, [], None, Some, Ok, Err, pos, negsuc, codes, map, slice_get};
-ghost use Rattle.rd_base.specs.declared.settings.Wrap.TheVariants.{Continue};
-ghost use Rattle.rd_overlays.specs.Overlays.{new_overlay, overlay_at};
+ghost use Rattle.std.specs.Prelude.{◌≡◌, true, false, ◌∷◌, [], None, Some, Ok, Err, pos, negsuc, codes, map};
 ghost use Rattle.rd_overlays.specs.declared.overlay.Kind.TheVariants.{Face};
-ghost use Rattle.rd_script.specs.declared.op.Op.TheVariants.{Frame, Buffer, Insert, InsertRaw, TypeText, Delete, Narrow, Widen, Put, Overlay as MakeOverlay, OverlayMove, OverlayDrop, OverlayPut, AddFace, Split, Remove, Select, Show, Point, Start, Scroll, Wrap, ModeLine, Echo, Margin, MarginPut};
+ghost use Rattle.rd_script.specs.declared.op.Op.TheVariants.{Frame, Buffer, Insert, InsertRaw, TypeText, Delete, Narrow, Widen, Put, Overlay as MakeOverlay, OverlayMove, OverlayDrop, OverlayPut, Split, Remove, Select, Show, Start, Scroll, ModeLine, Echo, Margin, MarginPut};
 ghost use Rattle.rd_tree.specs.declared.side.Side.TheVariants.{Below, Right};
 ghost use Rattle.rd_tree.specs.Windows.{leaves};
 ghost use Rattle.rd_state.specs.declared.effect.Effect.TheVariants.{Nothing, Edit, Moved, Window};
 ghost use Rattle.rd_state.specs.declared.refused.Refused.TheVariants.{NoBuffer, NoWindow, NoOverlay, NoObject, OutOfRange, NameTaken, TooSmall, LastWindow, BadFormat};
-ghost use Rattle.rd_state.specs.States.{opening, main_name, value_in};
-ghost use Rattle.rd_state.specs.Windows.{selected_window, shown_content, window_of};
+ghost use Rattle.rd_state.specs.States.{main_name};
+ghost use Rattle.rd_state.specs.Windows.{selected_window, shown_content};
 ghost use Rattle.rd_state.specs.Answers.{takes_memory};
 ghost use Rattle.rd_state.specs.Effects.{effect_of};
 ghost use Rattle.rd_state.specs.Steps.{step};

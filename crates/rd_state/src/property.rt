@@ -1,7 +1,6 @@
 //! One text property of a buffer: its values on a range.
 ghost use Rattle.std.specs.Prelude.{◌≡◌, ◌+◌, ◌≤◌, ◌<◌, ℕ, true, IsTrue, OnOk, OnErr, length};
-ghost use Rattle.rd_overlays.specs.Overlays.{place_of};
-ghost use Rattle.rd_props.specs.Buffers.{meaning, values_of};
+ghost use Rattle.rd_props.specs.Buffers.{values_of};
 ghost use Rattle.rd_props.specs.Edits.{put_on};
 ghost use Rattle.rd_script.specs.Forms.{is_text_kind};
 ghost use Rattle.rd_text.specs.Texts.{IsText};

@@ -2,7 +2,6 @@
 ghost use Rattle.std.specs.Prelude.{◌≡◌, nat_lt, if◌then◌else◌, IfOk, IsSome, IsTrue, None, Some, length, slice_get, option_map};
 ghost use Rattle.rd_props.specs.Buffers.{meaning};
 ghost use Rattle.rd_script.specs.Forms.{IsInForm};
-ghost use Rattle.rd_text.specs.Texts.{IsAccessible};
 ghost use Rattle.rd_state.specs.States.{opening, opening_window, number_of, seen};
 ghost use Rattle.rd_state.specs.Windows.{window_of};
 ghost use Rattle.rd_state.specs.Valid.{IsValid};

@@ -1,5 +1,5 @@
 //! The numbers that change a pen.
-ghost use Rattle.std.specs.Prelude.{◌≡◌, IsTrue, true};
+ghost use Rattle.std.specs.Prelude.{◌≡◌, true};
 ghost use Rattle.rd_term.specs.Pens.{is_rendition, are_renditions, dressed, pen_after, pen_by};
 
 use rd_base::Face;

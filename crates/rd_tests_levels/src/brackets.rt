@@ -1,5 +1,5 @@
 //! Paired brackets of one sequence.
-ghost use Rattle.std.specs.Prelude.{◌<◌, ◌≤◌, All, AllPairs, IfOk};
+ghost use Rattle.std.specs.Prelude.{◌<◌, All, AllPairs, IfOk};
 
 use rd_base::{Class, Line, ListOf, Memory, Seq};
 use rd_brackets::pair;

@@ -1,5 +1,5 @@
 //! A text that is edited in place.
-ghost use Rattle.std.specs.Prelude.{◌≡◌, ◌≤◌, ◌++◌, IfOk, OnOk, OnErr, length, take, drop, All, IsTrue};
+ghost use Rattle.std.specs.Prelude.{◌≡◌, ◌≤◌, IfOk, length, All, IsTrue};
 ghost use Rattle.rd_base.specs.Chars.{is_code};
 ghost use Rattle.rd_text.specs.Texts.{no_text, IsText, IsAccessible, IsParagraphStart, widened, char_at, next_newline, prev_newline, prev_ink, line_of};
 ghost use Rattle.rd_text.specs.Answers.{Inserts, Deletes, Narrows};

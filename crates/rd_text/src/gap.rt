@@ -1,9 +1,8 @@
 //! A text with a gap in it, where it is edited.
-ghost use Rattle.std.specs.Prelude.{◌≡◌, ℕ, ◌+◌, ◌-◌, ◌*◌, ◌<◌, ◌≤◌, ◌⊎◌, ◌++◌, IsTrue, OnOk, OnErr, [], length, take, drop, slice_index, slice_index_or, slice_range};
+ghost use Rattle.std.specs.Prelude.{◌≡◌, ℕ, ◌+◌, ◌-◌, ◌*◌, ◌<◌, ◌≤◌, ◌++◌, IsTrue, OnOk, OnErr, [], length, take, drop, slice_index};
 ghost use Rattle.rd_base.specs.Chars.{is_code};
 ghost use Rattle.rd_text.specs.Texts.{most_characters};
 ghost use Rattle.rd_text.specs.Gaps.{text_of, IsGapText, IsRecounted};
-ghost use Rattle.rd_text.specs.Stretches.{summary};
 ghost use Rattle.rd_text.specs.declared.stretch.Stretch.{Stretch};
 
 use crate::stretch::Stretch;

@@ -1,6 +1,6 @@
 //! Newlines and blanks in a run of codes.
 ghost use Rattle.std.specs.Prelude.{◌≡◌, ◌≤◌, not, length};
-ghost use Rattle.std.specs.List.{count_by, position_or_len, suffix_len};
+ghost use Rattle.std.specs.List.{position_or_len, suffix_len};
 ghost use Rattle.rd_text.specs.Texts.{is_newline, is_ink};
 ghost use Rattle.rd_text.specs.Pieces.{is_sought};
 

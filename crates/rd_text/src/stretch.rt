@@ -1,7 +1,7 @@
 //! What is kept of a stretch of a text.
 ghost use Rattle.std.specs.Prelude.{◌≡◌, ◌+◌, ◌<◌, ◌&&◌, ◌||◌, not, ◌∷◌, ◌++◌, List, ℕ, [], length};
 ghost use Rattle.std.specs.List.{list_any};
-ghost use Rattle.rd_text.specs.Texts.{is_newline, is_blank, is_ink};
+ghost use Rattle.rd_text.specs.Texts.{is_blank};
 ghost use Rattle.rd_text.specs.Stretches.{summary, opens};
 ghost use Rattle.rd_text.specs.Pieces.{is_sought};
 

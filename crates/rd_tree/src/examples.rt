@@ -1,7 +1,6 @@
 //! Worked examples of the definitions.
-ghost use Rattle.std.specs.Prelude.{◌≡◌, true, false, Some, Ok, Err, List, [], ◌∷◌, replicate};
+ghost use Rattle.std.specs.Prelude.{◌≡◌, true, false, Some, Ok, Err, [], ◌∷◌, replicate};
 ghost use Rattle.rd_tree.specs.declared.fault.TreeFault.TheVariants.{NoWindow, TooSmall, LastWindow};
-ghost use Rattle.rd_tree.specs.declared.placed.Placed.{Placed};
 ghost use Rattle.rd_tree.specs.declared.side.Side.TheVariants.{Below, Right};
 ghost use Rattle.rd_tree.specs.Windows.{Window, Split, first_leaf, sibling, resized};
 ghost use Rattle.rd_tree.specs.Calls.{opening, frame, split_tree, remove_tree, resize_tree, mode_tree, margins_tree, rect_of};

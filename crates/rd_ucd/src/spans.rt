@@ -1,5 +1,4 @@
 //! What the files stand for: ranges of codes with a class, codes with their mirrored characters, and codes with their brackets.
-ghost use Rattle.std.specs.Prelude.{◌≡◌};
 
 use crate::search::Keyed;
 use rd_base::Class;

@@ -3,7 +3,7 @@ ghost use Rattle.std.specs.Prelude.{◌≡◌, ◌+◌, ◌<◌, ◌≤◌, ◌|
 ghost use Rattle.rd_base.specs.Cells.{IsSmall};
 ghost use Rattle.rd_base.specs.Equals.{same_cell};
 ghost use Rattle.rd_term.specs.Pictures.{blank};
-ghost use Rattle.rd_update.specs.Updates.{first_difference as first_column, end_of_differences as end_column, used as used_of, differs, is_rest, goes_on, begin_before, going_on, begin_of, end_of};
+ghost use Rattle.rd_update.specs.Updates.{first_difference as first_column, end_of_differences as end_column, used as used_of, differs, is_rest, begin_before, going_on, begin_of, end_of};
 ghost use Rattle.rd_update.specs.Words.{columns_of_words, differing_columns};
 
 use crate::words::{PairWords, read};

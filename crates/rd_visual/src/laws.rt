@@ -1,5 +1,5 @@
 //! Laws of hits, over rows of every source, and of motion. The calls do nothing.
-ghost use Rattle.std.specs.Prelude.{◌≡◌, ℕ, ◌+◌, ◌<◌, ◌≤◌, Bool, true, List, length, All, count_by, slice_get, Some};
+ghost use Rattle.std.specs.Prelude.{◌≡◌, ℕ, ◌+◌, ◌<◌, ◌≤◌, Bool, true, List, All, count_by, slice_get, Some};
 ghost use Rattle.rd_base.specs.declared.element.Element.{Element};
 ghost use Rattle.rd_matrix.specs.Columns.{covers};
 ghost use Rattle.rd_matrix.specs.Cursors.{cursor_in};

@@ -8,7 +8,7 @@ ghost use Rattle.rd_reuse.specs.Views.{IsCopied, Names};
 ghost use Rattle.rd_rows.specs.Shapes.{ShapeValues, IsShape};
 ghost use Rattle.rd_start.specs.Chosen.{chosen_of};
 ghost use Rattle.rd_start.specs.Near.{near_costs};
-ghost use Rattle.rd_window.specs.Views.{has_first_row, has_last_row, rows_in_view, start_row};
+ghost use Rattle.rd_window.specs.Views.{has_first_row, has_last_row, rows_in_view};
 
 use crate::remembered::Remembered;
 use rd_base::{Anchor, Memory, Steps};
