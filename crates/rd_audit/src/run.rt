@@ -1,6 +1,6 @@
 //! The runs of faces of a row.
 ghost use Rattle.std.specs.Prelude.{◌≡◌, ◌<◌, ◌≤◌, IfSome, option_map, true, length};
-ghost use Rattle.rd_term.specs.Pens.{is_rendition, dressed};
+ghost use Rattle.rd_term.specs.Pens.{is_rendition};
 ghost use Rattle.rd_audit.specs.Cuts.{pieces};
 ghost use Rattle.rd_audit.specs.Runs.{painted, place_of, comes_behind, with_number, face_of, span_of, run_of, is_edge, fits, with_face, painted_by, with_run, runs_over};
 

@@ -37,7 +37,7 @@ impl<'a> Model for Blocks<'a> {
 }
 
 impl<'a> Blocks<'a> {
-    ghost use Rattle.std.specs.Prelude.{◌≡◌, ◌+◌, ◌≤◌, IfOk, None, Some, slice_get};
+    ghost use Rattle.std.specs.Prelude.{◌≡◌, ◌+◌, ◌≤◌, IfOk, Some, slice_get};
     ghost use Rattle.rd_props.specs.Buffers.{meaning};
     ghost use Rattle.rd_items.specs.Blocks.{IsBlock};
     ghost use Rattle.rd_matrix.specs.Blocks.{IsAmong, IsWithin, HoldsPosition, block_before};

@@ -1,9 +1,7 @@
 //! The rows of a block of a buffer.
 ghost use Rattle.std.specs.Prelude.{◌≡◌, ◌+◌, ◌^◌, ◌<◌, ◌≤◌, length, IfOk};
 ghost use Rattle.std.specs.Option.{option_or};
-ghost use Rattle.rd_base.specs.declared.element.Element.{Element};
 ghost use Rattle.rd_text.specs.Texts.{IsAccessible};
-ghost use Rattle.rd_objects.specs.declared.run.Slot.{Slot};
 ghost use Rattle.rd_glyphs.specs.Characters.{slot_or};
 ghost use Rattle.rd_props.specs.Buffers.{meaning};
 ghost use Rattle.rd_items.specs.Pieces.{scene_of};

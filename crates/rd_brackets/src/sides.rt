@@ -1,5 +1,5 @@
 //! The directions that the pairs of a sequence take (UAX 9 N0).
-ghost use Rattle.std.specs.Prelude.{◌≡◌, ◌<◌, take, length, None, Some, All, IfSome};
+ghost use Rattle.std.specs.Prelude.{◌≡◌, ◌<◌, take, length, All, IfSome};
 ghost use Rattle.rd_brackets.specs.Sides.{counts_as, holds, opposite, last_side, n0_pair_side, between, n0_with_pair, n0_with_pairs, became, followed, side_taken};
 
 use rd_base::{Class, ListOf};

@@ -1,6 +1,6 @@
 //! The links of isolating run sequences, made in one walk from a line's end: which PDI matches an initiator (UAX 9 BD9), what comes after
 //! an item in its sequence (BD13), and the type at a sequence's end (X10).
-ghost use Rattle.std.specs.Prelude.{◌≡◌, ◌<◌, ◌+◌, ◌^◌, ◌∷◌, [], length, drop, reverse, max, OnOk, IfOk, Some, None, is_none, ◌&&◌};
+ghost use Rattle.std.specs.Prelude.{◌≡◌, ◌<◌, ◌+◌, ◌^◌, ◌∷◌, [], length, drop, reverse, OnOk, IfOk, None, is_none, ◌&&◌};
 ghost use Rattle.rd_base.specs.Classes.{is_initiator};
 ghost use Rattle.rd_explicit.specs.Follow.{bd13_follower, x10_level_behind};
 
@@ -32,7 +32,7 @@ pub struct Links {
 }
 
 impl Links {
-    ghost use Rattle.std.specs.Prelude.{◌≡◌, ℕ, List, IfSome, ◌<◌, ◌+◌, ◌^◌, ◌∷◌, [], length, drop, reverse, max, OnOk, IfOk, Some, None, is_none, ◌&&◌};
+    ghost use Rattle.std.specs.Prelude.{◌≡◌, ℕ, List, IfSome, ◌<◌, ◌+◌, ◌^◌, ◌∷◌, [], length, drop, reverse, OnOk, IfOk, None, is_none, ◌&&◌};
     ghost use Rattle.rd_base.specs.Classes.{is_initiator};
     ghost use Rattle.rd_explicit.specs.Links.{IsLinkedFrom, LeadsOn, KeepsLinks, chain, chain_end, unmatched, link_at, beginning, without_beginning, gathered, sequences_from};
     ghost use Rattle.rd_explicit.specs.Sequences.{partner_of};

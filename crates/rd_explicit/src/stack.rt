@@ -1,5 +1,5 @@
 //! The directional status stack of UAX 9, section 3.3.2.
-ghost use Rattle.std.specs.Prelude.{◌≡◌, ◌<◌, ◌≤◌, ◌+◌, ◌∷◌, [], length};
+ghost use Rattle.std.specs.Prelude.{◌≡◌, ◌<◌, ◌≤◌, ◌∷◌, [], length};
 ghost use Rattle.rd_explicit.specs.Explicit.{top, x6a_below_isolate, x7_below_embedding};
 
 use rd_base::Class;

@@ -1,7 +1,7 @@
 //! Rules X1 to X8 of UAX 9, each a method of the state that the rules keep, a function, or an arm of the step that says which rule a
 //! class takes.
-ghost use Rattle.std.specs.Prelude.{◌≡◌, ◌<◌, ◌≤◌, ◌+◌, ◌^◌, ◌&&◌, ◌==◌, length};
-ghost use Rattle.rd_explicit.specs.Explicit.{x1_start, top, odd_above, even_above, is_valid, embedded, isolated, x5c_starts_right, x5c_first_strong_isolate, x6_level_and_override, x6a_pop_directional_isolate, x7_pop_directional_format, x8_paragraph_separator, x9_removed, after, given, Rises, IsReady, GoesOn};
+ghost use Rattle.std.specs.Prelude.{◌≡◌, ◌<◌, ◌≤◌, ◌^◌, length};
+ghost use Rattle.rd_explicit.specs.Explicit.{x1_start, top, odd_above, even_above, is_valid, embedded, isolated, x5c_first_strong_isolate, x6_level_and_override, x6a_pop_directional_isolate, x7_pop_directional_format, x8_paragraph_separator, x9_removed, after, given, Rises, IsReady, GoesOn};
 
 use crate::isolate::x5c_starts_right;
 use crate::stack::{DirectionalStatus, Stack};

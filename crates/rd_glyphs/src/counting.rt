@@ -1,5 +1,5 @@
 //! How many columns a plain line takes.
-ghost use Rattle.std.specs.Prelude.{◌≡◌, ◌≤◌, ◌+◌, min, if◌then◌else◌, []};
+ghost use Rattle.std.specs.Prelude.{◌≡◌, ◌≤◌, min, if◌then◌else◌, []};
 ghost use Rattle.rd_glyphs.specs.Held.{HoldsColumns, has_room, held_looks, held_columns, given};
 ghost use Rattle.rd_glyphs.specs.Lines.{columns_of_looks, plain_columns};
 

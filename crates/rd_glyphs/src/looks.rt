@@ -1,6 +1,5 @@
 //! What is put for one character: at most four looks.
 ghost use Rattle.std.specs.Prelude.{◌≡◌, ◌≤◌, All, length};
-ghost use Rattle.rd_base.specs.Cells.{single};
 ghost use Rattle.rd_base.specs.Glyphs.{IsMeasured};
 ghost use Rattle.rd_base.specs.declared.cell.Glyph.{Glyph};
 ghost use Rattle.rd_glyphs.specs.Characters.{narrow, digit, on_blank, looks_of, only, look_columns, TakesColumns, ShowsColumns};

@@ -1,5 +1,5 @@
 //! Plain lines of text, such as mode lines.
-ghost use Rattle.std.specs.Prelude.{◌≡◌, ◌≤◌, ◌<◌, ◌+◌, ◌++◌, length, All, None, IfOk, OnOk, IsTrue};
+ghost use Rattle.std.specs.Prelude.{◌≡◌, ◌≤◌, ◌+◌, ◌++◌, length, All, IfOk, OnOk, IsTrue};
 ghost use Rattle.rd_base.specs.Chars.{is_code};
 ghost use Rattle.rd_base.specs.Cells.{single};
 ghost use Rattle.rd_base.specs.Glyphs.{glyph_cells, IsRowAfter};

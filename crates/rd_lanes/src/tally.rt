@@ -1,5 +1,5 @@
 //! How many numbers equal one, and whether all stay below one.
-ghost use Rattle.std.specs.Prelude.{◌≡◌, ◌+◌, ◌≤◌, ◌==◌, nat_lt, length};
+ghost use Rattle.std.specs.Prelude.{◌≡◌, ◌≤◌, ◌==◌, nat_lt, length};
 ghost use Rattle.std.specs.List.{count_by, list_all};
 
 use crate::groups::{LANES, equal, may_reach};

@@ -1,5 +1,5 @@
 //! Rows of screens that are compared and numbered.
-ghost use Rattle.std.specs.Prelude.{◌≡◌, ◌+◌, ◌*◌, ◌≤◌, length, map, not};
+ghost use Rattle.std.specs.Prelude.{◌≡◌, ◌≤◌, length, map, not};
 ghost use Rattle.rd_term.specs.Pictures.{width_of, blank_row};
 ghost use Rattle.rd_update.specs.Plans.{HaveOneSize};
 ghost use Rattle.rd_update.specs.Updates.{differs, differing as differing_rows};

@@ -1,5 +1,5 @@
 //! The cells of a mode line.
-ghost use Rattle.std.specs.Prelude.{◌≡◌, ◌<◌, ◌+◌, ◌-◌, ◌++◌, IfOk, OnOk, Ok, length, decimal, List};
+ghost use Rattle.std.specs.Prelude.{◌≡◌, ◌+◌, ◌++◌, IfOk, OnOk, Ok, length, decimal, List};
 ghost use Rattle.rd_modeline.specs.declared.piece.Field.TheVariants.{ReadOnly, Modified, Narrowing};
 ghost use Rattle.rd_modeline.specs.declared.piece.Piece.{Piece};
 ghost use Rattle.rd_base.specs.Glyphs.{IsRowAfter};

@@ -1,5 +1,5 @@
 //! The pieces of which a format consists.
-ghost use Rattle.std.specs.Prelude.{◌≡◌, ◌<◌};
+ghost use Rattle.std.specs.Prelude.{◌≡◌};
 ghost use Rattle.rd_modeline.specs.Formats.{field_of, sign_of, piece_of};
 
 use rd_base::Ch;

@@ -1,5 +1,5 @@
 //! Reading a format, character by character.
-ghost use Rattle.std.specs.Prelude.{◌≡◌, ◌≢◌, ◌<◌, ◌+◌, ◌-◌, ◌*◌, IfErr, IfOk, IfSome, Ok, Err, Some, None, ◌++◌, ℕ, OnOk, option_to_list};
+ghost use Rattle.std.specs.Prelude.{◌≡◌, ◌≢◌, ◌+◌, IfErr, IfOk, IfSome, Ok, Some, ◌++◌, ℕ, OnOk, option_to_list};
 ghost use Rattle.rd_modeline.specs.declared.fault.FormatFault.TheVariants as fault;
 ghost use Rattle.rd_modeline.specs.Formats.{pieces_of, start_of, IsBegun, ReadsOn};
 ghost use Rattle.rd_modeline.specs.declared.reading.Begun.TheVariants.{Text, Percent};

@@ -1,5 +1,5 @@
 //! The run over the lines of a source, and over those of a generated script, up to what stops it.
-ghost use Rattle.std.specs.Prelude.{◌≡◌, ℕ, ◌≤◌, ◌<◌, [], length, List, None, Option, Some};
+ghost use Rattle.std.specs.Prelude.{◌≡◌, ℕ, ◌≤◌, [], length, List, None, Option, Some};
 ghost use Rattle.std.specs.Io.KnownBytes.{Consumes};
 ghost use Rattle.rd_generate.specs.Generated.{script};
 ghost use Rattle.rd_player.specs.Acts.{ComesTo, IsNew, SpentBy, ended_by, halted_by, mode_of};

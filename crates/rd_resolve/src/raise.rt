@@ -1,5 +1,5 @@
 //! Rules I1 and I2 of UAX 9 over a line, and the levels of what rule X9 took out.
-ghost use Rattle.std.specs.Prelude.{◌≡◌, ◌≤◌, ◌+◌, All, if◌then◌else◌};
+ghost use Rattle.std.specs.Prelude.{◌≡◌, ◌≤◌, All, if◌then◌else◌};
 ghost use Rattle.rd_base.specs.Classes.{is_removed};
 ghost use Rattle.rd_base.specs.Lines.{KeepsClasses};
 ghost use Rattle.rd_resolve.specs.Implicit.{raised, i1_i2, kept, implicit_levels, i1_even_levels, i2_odd_levels};

@@ -13,7 +13,7 @@ pub struct Change {
 }
 
 impl Change {
-    ghost use Rattle.std.specs.Prelude.{◌≡◌, min, max};
+    ghost use Rattle.std.specs.Prelude.{◌≡◌};
     ghost use Rattle.rd_reuse.specs.Changes.{none, all, is_none, is_all, change_of, edit, join, moved};
     ghost use Rattle.rd_reuse.specs.Keeping.{is_outside, started_at};
 

@@ -3,7 +3,6 @@ ghost use Rattle.std.specs.Prelude.{◌≡◌, ◌+◌, ◌^◌, ◌<◌, ◌≤
 ghost use Rattle.rd_matrix.specs.Blocks.{IsAmong};
 ghost use Rattle.rd_reuse.specs.Keeping.{AreRight, are_whole, copied_rows, entry_under, fresh_cost, has_base, is_kept, is_under, taken};
 ghost use Rattle.rd_rows.specs.Copies.{shown_rows};
-ghost use Rattle.rd_matrix.specs.declared.matrix.Entry.{Entry};
 
 use crate::change::Change;
 use rd_base::{Memory, Pos, Steps};

@@ -1,5 +1,5 @@
 //! A row that is being made.
-ghost use Rattle.std.specs.Prelude.{◌≡◌, ◌+◌, ◌-◌, ◌^◌, ◌<◌, ◌≤◌, ◌++◌, [], List, length, min, OnOk, IfOk};
+ghost use Rattle.std.specs.Prelude.{◌≡◌, ◌+◌, ◌-◌, ◌^◌, ◌<◌, ◌≤◌, ◌++◌, [], List, length, OnOk, IfOk};
 ghost use Rattle.rd_base.specs.Elements.{width_at_most};
 ghost use Rattle.rd_base.specs.Glyphs.{glyph_cells};
 ghost use Rattle.rd_base.specs.declared.element.Element.{Element};

@@ -4,7 +4,6 @@ ghost use Rattle.rd_items.specs.Pieces.{scene_of};
 ghost use Rattle.rd_levels.specs.Turns.{turns_of};
 ghost use Rattle.rd_stack.specs.Strings.{ends_row, part_class, part_code, run_heads, row, rows_from, shown_from, behind_row};
 ghost use Rattle.rd_stack.specs.declared.part.Place.{Place};
-ghost use Rattle.rd_stack.specs.declared.part.Part.{Part};
 
 use crate::order::Order;
 use crate::part::{Part, Place, ends_row, kind_code, part_of, place_of};

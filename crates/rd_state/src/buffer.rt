@@ -1,5 +1,5 @@
 //! The edits of a buffer's text, as methods of `Content`: the values of its text properties and its overlays change with it.
-ghost use Rattle.std.specs.Prelude.{◌≡◌, ◌≢◌, ◌+◌, ◌≤◌, ℕ, Some, Ok, OnOk, OnErr, length};
+ghost use Rattle.std.specs.Prelude.{◌≡◌, ◌≢◌, ◌≤◌, ℕ, Some, Ok, OnOk, OnErr, length};
 ghost use Rattle.rd_text.specs.Texts.{IsText};
 ghost use Rattle.rd_text.specs.Answers.{Inserts};
 ghost use Rattle.rd_props.specs.Buffers.{values_of};

@@ -10,7 +10,6 @@ ghost use Rattle.rd_state.specs.States.{main_name};
 ghost use Rattle.rd_state.specs.Windows.{selected_window, shown_content};
 ghost use Rattle.rd_state.specs.Answers.{takes_memory};
 ghost use Rattle.rd_state.specs.Effects.{effect_of};
-ghost use Rattle.rd_state.specs.Steps.{step};
 ghost use Rattle.rd_state.specs.Examples.{after, told, shown_text};
 
 /// A text is put in and narrowed: the point is brought into the range, and stays there when the whole text is accessible again.

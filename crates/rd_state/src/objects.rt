@@ -1,5 +1,5 @@
 //! Strings, display specs, faces and display tables, made as ops say them, with the refusals of each in order.
-ghost use Rattle.std.specs.Prelude.{◌≡◌, ◌<◌, All, IfOk, map};
+ghost use Rattle.std.specs.Prelude.{◌≡◌, All, IfOk, map};
 ghost use Rattle.std.specs.List.{list_all};
 ghost use Rattle.rd_objects.specs.Things.{is_made, is_inside};
 ghost use Rattle.rd_script.specs.Forms.{IsSpecInForm};

@@ -1,5 +1,5 @@
 //! One text property of a buffer: its values on a range.
-ghost use Rattle.std.specs.Prelude.{◌≡◌, ◌+◌, ◌≤◌, ◌<◌, ℕ, true, IsTrue, OnOk, OnErr, length};
+ghost use Rattle.std.specs.Prelude.{◌≡◌, ◌+◌, ◌≤◌, ℕ, true, IsTrue, OnOk, OnErr, length};
 ghost use Rattle.rd_props.specs.Buffers.{values_of};
 ghost use Rattle.rd_props.specs.Edits.{put_on};
 ghost use Rattle.rd_script.specs.Forms.{is_text_kind};

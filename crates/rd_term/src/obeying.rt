@@ -1,5 +1,5 @@
 //! What a terminal does by a control function.
-ghost use Rattle.std.specs.Prelude.{◌≡◌, ◌≤◌, ◌<◌, IfSome, length};
+ghost use Rattle.std.specs.Prelude.{◌≡◌, ◌≤◌, IfSome, length};
 ghost use Rattle.rd_term.specs.Shifts.{rows_moved};
 ghost use Rattle.rd_term.specs.Terminals.{move_to, on_screen, clear, erase, dress, set_region, shift_rows, may_move, writes_plain};
 

@@ -1,5 +1,5 @@
 //! Blocks in memory, with ample memory: how they are made for tests of what reads them, and their rows and order.
-ghost use Rattle.std.specs.Prelude.{◌≡◌, ◌+◌, ◌*◌, ◌^◌, ◌<◌, ◌≤◌, ℕ, None, IsTrue, IfOk, OnOk};
+ghost use Rattle.std.specs.Prelude.{◌≡◌, ◌+◌, ◌^◌, ◌<◌, ◌≤◌, ℕ, None, IsTrue, IfOk, OnOk};
 ghost use Rattle.rd_base.specs.Elements.{AreSound, columns_at_most, ends_once};
 ghost use Rattle.rd_matrix.specs.Blocks.{end_from, first_start};
 ghost use Rattle.rd_matrix.specs.Held.{IsHeld, are_inside, blocks_held, covers_each};

@@ -1,9 +1,8 @@
 //! A text with a gap in it, where it is edited.
-ghost use Rattle.std.specs.Prelude.{◌≡◌, ℕ, ◌+◌, ◌-◌, ◌*◌, ◌<◌, ◌≤◌, ◌++◌, IsTrue, OnOk, OnErr, [], length, take, drop, slice_index};
+ghost use Rattle.std.specs.Prelude.{◌≡◌, ℕ, ◌+◌, ◌*◌, ◌<◌, ◌≤◌, ◌++◌, IsTrue, OnOk, OnErr, [], length, take, drop, slice_index};
 ghost use Rattle.rd_base.specs.Chars.{is_code};
 ghost use Rattle.rd_text.specs.Texts.{most_characters};
 ghost use Rattle.rd_text.specs.Gaps.{text_of, IsGapText, IsRecounted};
-ghost use Rattle.rd_text.specs.declared.stretch.Stretch.{Stretch};
 
 use crate::stretch::Stretch;
 use rd_base::limits::TEXT_CHARACTERS;

@@ -1,5 +1,5 @@
 //! Searches in a text that pass over its stretches.
-ghost use Rattle.std.specs.Prelude.{◌≡◌, ◌+◌, ◌*◌, ◌/◌, ◌-◌, ◌<◌, ◌≤◌, not, length, slice_range};
+ghost use Rattle.std.specs.Prelude.{◌≡◌, ◌+◌, ◌*◌, ◌/◌, ◌<◌, ◌≤◌, not, length, slice_range};
 ghost use Rattle.std.specs.List.{count_by, position_or_len, suffix_len};
 ghost use Rattle.rd_text.specs.Texts.{is_newline};
 ghost use Rattle.rd_text.specs.Gaps.{text_of, IsGapText, AreStretches};

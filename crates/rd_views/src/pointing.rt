@@ -1,5 +1,5 @@
 //! The ops that move a window's point by what is seen.
-ghost use Rattle.std.specs.Prelude.{◌≡◌, ◌≢◌, ◌&&◌, ◌<◌, IfErr, IfOk, OnErr, None};
+ghost use Rattle.std.specs.Prelude.{◌≡◌, ◌≢◌, IfErr, IfOk, OnErr, None};
 ghost use Rattle.rd_layout.specs.Pointing.{going, hitting, is_shown, stepped_to};
 ghost use Rattle.rd_layout.specs.Sessions.{Applied, layout_of};
 ghost use Rattle.rd_script.specs.declared.op.Op.TheVariants.{Go, Hit};

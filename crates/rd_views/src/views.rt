@@ -26,7 +26,6 @@ pub struct Views {
 }
 
 impl Model for Views {
-    ghost use Rattle.std.specs.Prelude.{None};
     ghost use Rattle.std.specs.Coded.{codes};
     ghost use Rattle.rd_tree.specs.Codes.{configuration_code};
     ghost use Rattle.rd_state.specs.States.{mark_code};

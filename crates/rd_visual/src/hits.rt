@@ -1,5 +1,5 @@
 //! The position that a cell shows, and the cell in which a position is shown.
-ghost use Rattle.std.specs.Prelude.{◌≡◌, ◌<◌, All, Some};
+ghost use Rattle.std.specs.Prelude.{◌≡◌, All, Some};
 ghost use Rattle.rd_matrix.specs.Cursors.{cursor_in};
 ghost use Rattle.rd_matrix.specs.Entries.{shown_entry, shown_entries};
 ghost use Rattle.rd_visual.specs.Hits.{Fits, AreInPositions, hit_in, item_at, item_of_cell, least_at, nearer, reaches};
