@@ -1,5 +1,5 @@
 -- A step leads from a valid state to a valid one, op by op.
-use Rattle.std.proofs.Common.{◌≡◌, ℕ, zero, suc, ◌+◌, ◌-◌, ◌≤◌, inl, inr, ◌==◌, Bool, true, false, if◌then◌else◌, pos, ◌+ℤ◌, map, IsTrue, None, Some, Result, Ok, Err, List, [], ◌∷◌, length, subst, sym, ap, refl, ◌∙◌, arith}
+use Rattle.std.proofs.Common.{◌≡◌, ℕ, zero, suc, ◌+◌, ◌≤◌, inl, inr, ◌==◌, Bool, true, false, if◌then◌else◌, pos, ◌+ℤ◌, map, IsTrue, None, Some, Result, Ok, Err, List, [], ◌∷◌, length, subst, sym, ap, refl, ◌∙◌, arith}
 use Rattle.std.specs.Prelude.{slice_get, slice_set, option_map}
 use Rattle.std.specs.Str.{chars}
 use Rattle.rd_base.specs.declared.limits.TheConstants.{SCROLL_CONSERVATIVELY, SCROLL_MARGIN}
