@@ -1,5 +1,5 @@
 -- What an op that tells no change of a window leaves: the window's start, and what is seen of its buffer.
-use Rattle.std.proofs.Common.{◌≡◌, ◌≢◌, ◌⊎◌, inl, inr, ℕ, zero, suc, ◌+◌, ◌-◌, ◌<◌, ◌==◌, ◌&&◌, ◌||◌, Bool, true, false, if◌then◌else◌, nat_lt, nat_le, min, max, pos, ◌+ℤ◌, is_some, Option, None, Some, Result, Ok, Err, List, [], ◌∷◌, ◌++◌, length, map, set, sym, ap, refl, subst, ◌∙◌, arith, unwrap_or, true≢false}
+use Rattle.std.proofs.Common.{◌≡◌, ◌⊎◌, inl, inr, ℕ, zero, suc, ◌+◌, ◌-◌, ◌<◌, ◌==◌, ◌&&◌, ◌||◌, Bool, true, false, if◌then◌else◌, nat_lt, nat_le, min, max, pos, ◌+ℤ◌, is_some, Option, None, Some, Result, Ok, Err, List, [], ◌∷◌, ◌++◌, length, map, set, sym, ap, refl, subst, ◌∙◌, arith, unwrap_or, true≢false}
 use Rattle.std.proofs.lemmas.Bool.{cases_eq, eqb-true, cond-false, cond-true, eq-eqb, ne_eqb, and_parts}
 use Rattle.std.specs.Option.{option_and_then}
 use Rattle.std.specs.Ordering.{int_eq}

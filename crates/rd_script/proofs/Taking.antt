@@ -1,5 +1,5 @@
 -- Fields that are taken one behind the other.
-use Rattle.std.proofs.Common.{◌≡◌, ◌++◌, Result, Ok, Err, refl, sym, ap, subst, ◌∙◌, append_assoc}
+use Rattle.std.proofs.Common.{◌≡◌, Result, Ok, Err, sym, ap, subst, ◌∙◌, append_assoc}
 use Rattle.std.specs.Result.{IsErrAnd}
 use Rattle.serde_json.specs.View.{members_view}
 use Rattle.rd_script.specs.declared.fault.OpFault.{OpFault}
