@@ -10,8 +10,8 @@ use Rattle.rd_base.specs.declared.cell.Cell.{Cell}
 use Rattle.rd_base.specs.declared.cell.Cell.TheVariants.{Blank, First, Rest}
 use Rattle.rd_term.specs.Pictures.{Picture}
 use Rattle.rd_dump.specs.declared.dump.WindowFacts.{WindowFacts}
-use Rattle.rd_dump.specs.declared.dump.Line.{Line}
-use Rattle.rd_dump.specs.declared.dump.Line.TheVariants.{Window, Row, Cursor}
+use Rattle.rd_dump.specs.declared.dump.DumpLine.{DumpLine}
+use Rattle.rd_dump.specs.declared.dump.DumpLine.TheVariants.{Window, Row, Cursor}
 use Rattle.rd_dump.specs.declared.print.Token.{Token}
 use Rattle.rd_dump.specs.declared.print.Token.TheVariants.{Text, Number}
 
@@ -136,7 +136,7 @@ abbrev pub cursor_line : ℕ × ℕ → List ℕ
 cursor_line place = codes "cursor " ++ place_text (Some place)
 
 -- a line, of whichever kind
-abbrev pub line_text : Line → List ℕ
+abbrev pub line_text : DumpLine → List ℕ
 line_text (Window facts) = window_line facts.now
 line_text (Row row cells) = row_line row cells.now
 line_text (Cursor place) = cursor_line place

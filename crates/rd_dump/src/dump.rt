@@ -27,7 +27,7 @@ pub struct WindowFacts {
 
 /// A line of a dump: that of a window, of a row with its number and cells, or of the cursor with its row and column.
 #[derive(Clone, Copy)]
-enum Line<'a> {
+enum DumpLine<'a> {
     Window(&'a WindowFacts),
     Row(u32, &'a [Cell]),
     Cursor((u32, u32)),
@@ -47,11 +47,11 @@ pub fn print_dump<K: Sink>(
 {
     print_windows(sink, windows)?;
     print_rows(sink, screen)?;
-    print_line(sink, &Line::Cursor(screen.cursor()))
+    print_line(sink, &DumpLine::Cursor(screen.cursor()))
 }
 
 /// Writes a line, in one piece where a piece has room for it.
-fn print_line<K: Sink>(sink: &mut K, line: &Line) -> Result<(), Failed>
+fn print_line<K: Sink>(sink: &mut K, line: &DumpLine) -> Result<(), Failed>
     ensures { Prints (K.written sink.old) (K.written sink.new) (K.faults sink.old) (K.faults sink.new) (line_text line.now) result }
 {
     let mut piece = Piece::new();
@@ -62,13 +62,13 @@ fn print_line<K: Sink>(sink: &mut K, line: &Line) -> Result<(), Failed>
 }
 
 /// Writes the tokens of a line.
-fn print_line_tokens<K: Sink>(sink: &mut K, line: &Line) -> Result<(), Failed>
+fn print_line_tokens<K: Sink>(sink: &mut K, line: &DumpLine) -> Result<(), Failed>
     ensures { Prints (K.written sink.old) (K.written sink.new) (K.faults sink.old) (K.faults sink.new) (line_text line.now) result }
 {
     match line {
-        Line::Window(facts) => print_window_tokens(sink, facts),
-        Line::Row(row, cells) => print_row_tokens(sink, *row, cells),
-        Line::Cursor(place) => print_cursor_tokens(sink, *place),
+        DumpLine::Window(facts) => print_window_tokens(sink, facts),
+        DumpLine::Row(row, cells) => print_row_tokens(sink, *row, cells),
+        DumpLine::Cursor(place) => print_cursor_tokens(sink, *place),
     }
 }
 
@@ -77,7 +77,7 @@ fn print_windows<K: Sink>(sink: &mut K, windows: &[WindowFacts]) -> Result<(), F
     ensures { Prints (K.written sink.old) (K.written sink.new) (K.faults sink.old) (K.faults sink.new) (windows_text windows.now) result }
 {
     for facts in windows {
-        print_line(sink, &Line::Window(facts))?;
+        print_line(sink, &DumpLine::Window(facts))?;
     }
     Ok(())
 }
@@ -140,7 +140,7 @@ fn print_rows<K: Sink>(sink: &mut K, screen: &Screen) -> Result<(), Failed>
     ensures { Prints (K.written sink.old) (K.written sink.new) (K.faults sink.old) (K.faults sink.new) (rows_text 0 screen.now.rows) result }
 {
     for row in 0..screen.height() {
-        print_line(sink, &Line::Row(row, screen.row(row)))?;
+        print_line(sink, &DumpLine::Row(row, screen.row(row)))?;
     }
     Ok(())
 }

@@ -6,8 +6,8 @@ use Rattle.rd_base.specs.declared.cell.Cell.{Cell}
 use Rattle.rd_term.specs.Pictures.{blank, width_of, IsGrid}
 use Rattle.rd_term.specs.Shifts.{cleared, moved, moved_down, moved_up, changed_between}
 use Rattle.rd_term.specs.Terminals.{IsTerminal, IsWithin, HasRegion, known}
-use Rattle.rd_term.specs.declared.shifting.Way.{Way}
-use Rattle.rd_term.specs.declared.shifting.Way.TheVariants.{Down, Up}
+use Rattle.rd_term.specs.declared.shifting.RowMove.{RowMove}
+use Rattle.rd_term.specs.declared.shifting.RowMove.TheVariants.{Down, Up}
 
 abbrev pub Rows : Type 0
 Rows = List (List (Option Cell))
@@ -69,11 +69,11 @@ length-up n rows =
     length-append (drop n rows) (map cleared (take n rows))
     ∙ omega (arith, length-map (take n rows) cleared, length-drop n rows, length-take n rows)
 
-pub grid-moved : (way : Way) (w n : ℕ) (rows : Rows) → IsGrid w rows → IsGrid w (moved way n rows)
+pub grid-moved : (way : RowMove) (w n : ℕ) (rows : Rows) → IsGrid w rows → IsGrid w (moved way n rows)
 grid-moved Down w n rows h = grid-down w n rows h
 grid-moved Up w n rows h = grid-up w n rows h
 
-pub length-moved : (way : Way) (n : ℕ) (rows : Rows) → length (moved way n rows) ≡ length rows
+pub length-moved : (way : RowMove) (n : ℕ) (rows : Rows) → length (moved way n rows) ≡ length rows
 length-moved Down n rows = length-down n rows
 length-moved Up n rows = length-up n rows
 

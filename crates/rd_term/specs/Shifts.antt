@@ -2,8 +2,8 @@
 use Rattle.std.specs.Prelude.{ℕ, ◌+◌, ◌-◌, nat_le, if◌then◌else◌, ◌&&◌, List, ◌++◌, length, take, drop, map, replicate, Option, None, Some}
 use Rattle.rd_base.specs.declared.cell.Cell.{Cell}
 use Rattle.rd_term.specs.Pictures.{blank}
-use Rattle.rd_term.specs.declared.shifting.Way.{Way}
-use Rattle.rd_term.specs.declared.shifting.Way.TheVariants.{Down, Up}
+use Rattle.rd_term.specs.declared.shifting.RowMove.{RowMove}
+use Rattle.rd_term.specs.declared.shifting.RowMove.TheVariants.{Down, Up}
 
 -- a row whose cells are all blank and plain
 abbrev pub cleared : List (Option Cell) → List (Option Cell)
@@ -21,7 +21,7 @@ abbrev pub moved_up : ℕ → List (List (Option Cell)) → List (List (Option C
 moved_up n rows = drop n rows ++ map cleared (take n rows)
 
 -- rows moved down or up by so many
-abbrev pub moved : Way → ℕ → List (List (Option Cell)) → List (List (Option Cell))
+abbrev pub moved : RowMove → ℕ → List (List (Option Cell)) → List (List (Option Cell))
 moved Down n rows = moved_down n rows
 moved Up n rows = moved_up n rows
 

@@ -15,8 +15,8 @@ use Rattle.rd_term.specs.Shifts.{cleared, moved, changed_between, rows_moved}
 use Rattle.rd_term.specs.Steps.{read_byte}
 use Rattle.rd_term.specs.declared.control.Control.{Control}
 use Rattle.rd_term.specs.declared.control.Control.TheVariants.{MoveTo, ClearAll, EraseToEnd, InsertRows, DeleteRows, ChangePen, SetRegion}
-use Rattle.rd_term.specs.declared.shifting.Way.{Way}
-use Rattle.rd_term.specs.declared.shifting.Way.TheVariants.{Down, Up}
+use Rattle.rd_term.specs.declared.shifting.RowMove.{RowMove}
+use Rattle.rd_term.specs.declared.shifting.RowMove.TheVariants.{Down, Up}
 use Rattle.rd_term.specs.declared.reading.Reading.{Reading}
 use Rattle.rd_term.specs.declared.reading.Reading.TheVariants.{Between, Escaped}
 use Rattle.rd_term.specs.declared.reading.Step.{Step}
@@ -109,7 +109,8 @@ move_rows move (Some part) t = record t { rows = changed_between part.0 part.1 m
 abbrev pub may_move : ℕ → Tty → Bool
 may_move n t = nat_lt 0 n && writes_plain t.pen && not t.wait
 
-abbrev pub shift_rows : Way → List ℕ → Tty → Tty
+-- rows that are inserted move the others down, rows that are deleted move them up
+abbrev pub shift_rows : RowMove → List ℕ → Tty → Tty
 shift_rows way (n ∷ []) t = if may_move n t then move_rows (moved way n) (rows_moved t.region t.cursor) t else confuse t
 shift_rows way numbers t = confuse t
 

@@ -5,7 +5,7 @@ ghost use Rattle.rd_term.specs.Terminals.{move_to, on_screen, clear, erase, dres
 
 use crate::overwriting::erase_from;
 use crate::pen::{are_renditions, pen_by};
-use crate::shifting::{Way, clear_all, move_rows};
+use crate::shifting::{RowMove, clear_all, move_rows};
 use crate::terminal::Terminal;
 use rd_base::Face;
 
@@ -85,8 +85,9 @@ impl Terminal {
         }
     }
 
-    /// Moves the rows from the cursor's to the region's last, and blank ones come in their place.
-    pub(crate) fn shift_rows(&mut self, way: Way, numbers: &[u32])
+    /// Moves the rows from the cursor's to the region's last down, as rows that are inserted do, or up, as deleted ones do. Blank ones come in
+    /// their place.
+    pub(crate) fn shift_rows(&mut self, way: RowMove, numbers: &[u32])
         ensures { self.new ≡ shift_rows way numbers.now self.old }
     {
         match (numbers, self.rows_moved()) {

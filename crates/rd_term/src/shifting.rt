@@ -7,7 +7,7 @@ use rd_base::{Cell, Face, ListOf};
 
 /// The way that rows are moved.
 #[derive(Clone, Copy)]
-pub(crate) enum Way {
+pub(crate) enum RowMove {
     Down,
     Up,
 }
@@ -30,12 +30,12 @@ pub(crate) fn clear_all(rows: &mut Vec<ListOf<Option<Cell>>>)
     clear_rows(&mut rows[..]);
 }
 
-/// Moves the rows from one to before another by so many.
+/// Moves the rows from one to before another down or up by so many.
 pub(crate) fn move_rows(
     rows: &mut Vec<ListOf<Option<Cell>>>,
     from: usize,
     end: usize,
-    way: Way,
+    way: RowMove,
     count: usize,
 )
     requires order { from ≤ end }
@@ -45,13 +45,13 @@ pub(crate) fn move_rows(
     push(&mut rows[from..end], way, count);
 }
 
-/// Moves rows by so many, and blank ones come in their place.
-fn push(rows: &mut [ListOf<Option<Cell>>], way: Way, count: usize)
+/// Moves rows down or up by so many, and blank ones come in their place.
+fn push(rows: &mut [ListOf<Option<Cell>>], way: RowMove, count: usize)
     ensures { rows.new ≡ moved way count rows.old }
 {
     match way {
-        Way::Down => push_down(rows, count),
-        Way::Up => push_up(rows, count),
+        RowMove::Down => push_down(rows, count),
+        RowMove::Up => push_up(rows, count),
     }
 }
 

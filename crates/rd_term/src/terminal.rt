@@ -7,7 +7,7 @@ ghost use Rattle.rd_term.specs.Terminals.{IsTerminal, unknown, feed_byte, feed_b
 use crate::control::Control;
 use crate::reading::{Reading, Step};
 use crate::rows::filled;
-use crate::shifting::Way;
+use crate::shifting::RowMove;
 use rd_base::limits::{FRAME_COLUMNS, FRAME_ROWS};
 use rd_base::{Cell, Face, ListOf, Memory};
 use std::alloc::Global;
@@ -167,8 +167,8 @@ impl Terminal {
             Control::MoveTo => self.move_to(numbers),
             Control::ClearAll => self.clear(numbers),
             Control::EraseToEnd => self.erase(numbers),
-            Control::InsertRows => self.shift_rows(Way::Down, numbers),
-            Control::DeleteRows => self.shift_rows(Way::Up, numbers),
+            Control::InsertRows => self.shift_rows(RowMove::Down, numbers),
+            Control::DeleteRows => self.shift_rows(RowMove::Up, numbers),
             Control::ChangePen => self.dress(numbers),
             Control::SetRegion => self.set_region(numbers),
         }
