@@ -79,7 +79,8 @@ impl<'a> WindowMargins<'a> {
         requires { IsAccessible self.now.content.now.content.text start }
         ensures { IfOk result (λ cells. cells ≡ row_margin self.now.classes.now self.now.widths 0 (line_of self.now.content.now.content.text start) (margin_text self.now.objects.now self.now.content.now.content start)) }
     {
-        let line = line_beside(&self.content.buffer.text, self.widths.numbers, start);
+        let content = self.content;
+        let line = line_beside(&content.buffer.text, self.widths.numbers, start);
         let text = self.text_beside(start)?;
         row_margin(
             self.alloc,
@@ -99,11 +100,12 @@ impl<'a> WindowMargins<'a> {
             plain_lines_are_whole();
             return Ok(ListOf::new(self.alloc));
         }
+        let content = self.content;
         string_at(
             self.alloc,
             self.objects,
-            self.content.marks,
-            &self.content.buffer.overlays,
+            content.marks,
+            &content.buffer.overlays,
             pos,
         )
     }
