@@ -6,7 +6,7 @@ use Rattle.rd_io.specs.declared.lines.LineFault.{LineFault}
 use Rattle.rd_io.specs.declared.lines.LineFault.TheVariants as reader
 use Rattle.rd_io.specs.declared.traits.Failed.{Failed}
 use Rattle.rd_layout.specs.Copies.{without_copies}
-use Rattle.rd_run.specs.Ends.{Broke, Comes, Drawn, IsInHand, Sunk, Took, allowed_in, last_in, sent_in, told_in}
+use Rattle.rd_run.specs.Ends.{Broke, Comes, Drawn, IsInHand, Sunk, Took, allowed_in, drawn, last_in, sent_in, told_in}
 use Rattle.rd_run.specs.Given.{Given, IsMode}
 use Rattle.rd_run.specs.Reports.{last_line, summary_lines}
 use Rattle.rd_run.specs.Runs.{Effect, Input, Mode, Standing, effect, is_sent, opened, run, input_of}
@@ -110,6 +110,11 @@ SpentBy (endings.Ends status lines) given mode inputs bytes left before after = 
 SpentBy (endings.Sums s) given mode inputs bytes left before after = after ≤ before + allowed_in mode inputs
 SpentBy endings.ScreenBroke given mode inputs bytes left before after = SpentInHand given mode inputs bytes left before after
 SpentBy endings.ReportBroke given mode inputs bytes left before after = SpentInHand given mode inputs bytes left before after
+
+-- the lines of a generated script came to this ending: nothing was read for them
+abbrev pub MadeComeTo : Ending → Given → Mode → Option (List ℕ) → ℕ → Sunk → Sunk → ℕ → ℕ → Type 0
+MadeComeTo ending given mode left faults screen report before after = (inputs : List Input)
+    × ComesTo ending given (Some mode) inputs [] (drawn left faults faults) screen report × SpentBy ending given (Some mode) inputs [] left before after
 
 -- a line was written to the report, and this status is answered, or the report broke
 abbrev pub Tells : Status → List ℕ → Status → Sunk → Type 0

@@ -1,10 +1,9 @@
 //! The run over the lines of a source, and over those of a generated script, up to what stops it.
-ghost use Rattle.std.specs.Prelude.{◌≡◌, ℕ, ◌≤◌, [], length, List, None, Option, Some};
+ghost use Rattle.std.specs.Prelude.{◌≡◌, ℕ, ◌≤◌, length, List, None, Option, Some};
 ghost use Rattle.std.specs.Io.KnownBytes.{Consumes};
 ghost use Rattle.rd_generate.specs.Generated.{script};
-ghost use Rattle.rd_player.specs.Acts.{ComesTo, IsNew, SpentBy, ended_by, halted_by, mode_of};
+ghost use Rattle.rd_player.specs.Acts.{ComesTo, IsNew, MadeComeTo, SpentBy, ended_by, halted_by, mode_of};
 ghost use Rattle.rd_player.specs.Devices.{drawn_by, sunk_by};
-ghost use Rattle.rd_run.specs.Ends.{drawn};
 ghost use Rattle.rd_run.specs.Given.{Given, IsMode};
 ghost use Rattle.rd_run.specs.Runs.{Input};
 
@@ -64,10 +63,8 @@ pub fn run_generated<K: Sink, R: Sink, L: Ledger>(
 ) -> Ending
     requires generated { run.old.generated ≡ Some number }
     requires begun { IsNew run.old }
-    ensures comes { (given : Given) (left : Option (List ℕ)) (faults : ℕ) → IsMode given (mode_of run.old) → (inputs : List Input)
-        × ComesTo result given (Some (mode_of run.old)) inputs [] (drawn left faults faults)
-        (sunk_by K.written K.faults screen.old screen.new) (sunk_by R.written R.faults report.old report.new)
-        × SpentBy result given (Some (mode_of run.old)) inputs [] left steps.old steps.new }
+    ensures comes { (given : Given) (left : Option (List ℕ)) (faults : ℕ) → IsMode given (mode_of run.old)
+        → MadeComeTo result given (mode_of run.old) left faults (sunk_by K.written K.faults screen.old screen.new) (sunk_by R.written R.faults report.old report.new) steps.old steps.new }
     ensures screen { K.faults screen.old ≤ K.faults screen.new }
     ensures report { R.faults report.old ≤ R.faults report.new }
 {
@@ -88,10 +85,8 @@ fn run_lines<K: Sink, R: Sink, L: Ledger>(
 ) -> Ending
     requires few { length lines.now ≤ LINES }
     requires begun { IsNew run.old }
-    ensures comes { (given : Given) (number : ℕ) (left : Option (List ℕ)) (faults : ℕ) → IsMode given (mode_of run.old) → run.old.generated ≡ Some number → lines.now ≡ script number → (inputs : List Input)
-        × ComesTo result given (Some (mode_of run.old)) inputs [] (drawn left faults faults)
-        (sunk_by K.written K.faults screen.old screen.new) (sunk_by R.written R.faults report.old report.new)
-        × SpentBy result given (Some (mode_of run.old)) inputs [] left steps.old steps.new }
+    ensures comes { (given : Given) (number : ℕ) (left : Option (List ℕ)) (faults : ℕ) → IsMode given (mode_of run.old) → run.old.generated ≡ Some number → lines.now ≡ script number
+        → MadeComeTo result given (mode_of run.old) left faults (sunk_by K.written K.faults screen.old screen.new) (sunk_by R.written R.faults report.old report.new) steps.old steps.new }
     ensures screen { K.faults screen.old ≤ K.faults screen.new }
     ensures report { R.faults report.old ≤ R.faults report.new }
 {

@@ -79,36 +79,6 @@ pub fn play<S: Source, F: Files, K: Sink, R: Sink, L: Ledger>(
     ensures report { R.faults report.old ≤ R.faults report.new }
 {
     no_kind_is_want_of_memory();
-    play_words(
-        alloc,
-        words.as_slice(),
-        script,
-        files,
-        screen,
-        report,
-        steps,
-    )
-}
-
-/// Does what `play` does, over words that are lent.
-fn play_words<S: Source, F: Files, K: Sink, R: Sink, L: Ledger>(
-    alloc: Global,
-    words: &[String],
-    script: &mut S,
-    files: &mut F,
-    screen: &mut K,
-    report: &mut R,
-    steps: &mut Steps<L>,
-) -> Status
-    ensures ran { Played (given_by (values_of (texts words.now)) F.contents F.faults files.old files.new) result (S.left script.old)
-        (drawn_by S.left S.faults script.old script.new) (sunk_by K.written K.faults screen.old screen.new) (sunk_by R.written R.faults report.old report.new) steps.old steps.new }
-    ensures unread { (w : WordValues) → values_of (texts words.now) ≡ Some w → IsSome w.generate → script.new ≡ script.old }
-    ensures script { S.faults script.old ≤ S.faults script.new }
-    ensures contents { (file : List ℕ) → F.contents files.new file ≡ F.contents files.old file }
-    ensures files { (file : List ℕ) → F.faults files.old file ≤ F.faults files.new file }
-    ensures screen { K.faults screen.old ≤ K.faults screen.new }
-    ensures report { R.faults report.old ≤ R.faults report.new }
-{
     each_redisplay_is_shown();
     valid_scripts_end_well();
     match begun(alloc, words, files) {
@@ -118,12 +88,12 @@ fn play_words<S: Source, F: Files, K: Sink, R: Sink, L: Ledger>(
 }
 
 /// Reads the words and the files that they name, and answers a run of no line, or the status that comes before the first line.
-fn begun<F: Files>(alloc: Global, words: &[String], files: &mut F) -> Result<Playing, Status>
-    ensures begins { Begins result (given_by (values_of (texts words.now)) F.contents F.faults files.old files.new) }
+fn begun<F: Files>(alloc: Global, words: Vec<String>, files: &mut F) -> Result<Playing, Status>
+    ensures begins { Begins result (given_by (values_of (texts words.items)) F.contents F.faults files.old files.new) }
     ensures contents { (file : List ℕ) → F.contents files.new file ≡ F.contents files.old file }
     ensures never_falls { (file : List ℕ) → F.faults files.old file ≤ F.faults files.new file }
 {
-    match read_words(alloc, words) {
+    match read_words(alloc, words.as_slice()) {
         Ok(words) => begun_with(alloc, &words, files),
         Err(WordsFault::Usage) => Err(Status::Usage),
         Err(WordsFault::Memory) => Err(Status::NoMemory),
