@@ -1,19 +1,19 @@
 -- The end of a run: its last line.
-use Rattle.std.proofs.Common.{◌≡◌, ℕ, ◌+◌, ◌≤◌, inl, inr, List, [], ◌∷◌, ◌++◌, length, take, Option, None, Some, refl, sym, subst, append-nil, arith}
+use Rattle.std.proofs.Common.{◌≡◌, ℕ, ◌+◌, ◌≤◌, ◌⊎◌, inl, inr, List, [], ◌∷◌, ◌++◌, length, take, Option, None, Some, refl, sym, subst, ◌∙◌, append-nil, arith}
 use Rattle.std.specs.Io.KnownBytes.{Appends, Consumes}
 use Rattle.std.proofs.KnownBytes.{Appends-nil, Appends-trans, Consumes-nil}
 use Rattle.rd_io.specs.Devices.{Rose}
 use Rattle.rd_run.specs.Alike.{End, IsFaultless}
 use Rattle.rd_run.specs.Ends.{Broke, Comes, Drawn, Ended, IsBroken, IsWhole, LastBroke, ReportBroke, ScreenBroke, Sunk, Took, last_in, sent_in, sunk, told_in}
-use Rattle.rd_run.specs.Given.{Given, IsMode}
+use Rattle.rd_run.specs.Given.{Given, HasFailed, IsMode}
 use Rattle.rd_run.specs.Reports.{last_line}
 use Rattle.rd_run.specs.Runs.{Input, KnowsEach, Mode, ShowsEach, opened, run}
 use Rattle.rd_run.specs.Statuses.{TellsNoMemory}
 use Rattle.rd_run.specs.Validity.{EndsWell, IsValidScript}
 use Rattle.rd_run.specs.declared.status.Status.{Status}
-use Rattle.rd_run.specs.declared.status.Status.TheVariants.{Done, WriteFault}
+use Rattle.rd_run.specs.declared.status.Status.TheVariants.{Done, ReadFault, WriteFault}
 use Rattle.rd_player.specs.Acts.{ComesTo, Finishes, SpentBy, Tells, summary_of}
-use Rattle.rd_player.specs.Played.{Completes, Played, Spent}
+use Rattle.rd_player.specs.Played.{Completes, HasReadFault, Played, Spent}
 use Rattle.rd_player.specs.declared.halt.Ending.{Ending}
 use Rattle.rd_player.specs.declared.halt.Ending.TheVariants as endings
 use Rattle.rd_player.proofs.Telling.{broke-after}
@@ -190,3 +190,19 @@ ended-free law given mode result inputs bytes source screen report (inr (same, b
 pub played-free : (law : KindLaw) (given : Given) (result : Status) (l0 : Option (List ℕ)) (source : Drawn) (screen report : Sunk) (c0 c1 : ℕ) → Played given result l0 source screen report c0 c1
     → TellsNoMemory result
 played-free law given result l0 source screen report c0 c1 p = ended-free law given p.0 result p.1 p.2 source screen report p.4
+
+-- a read fault comes where the source failed, or a file before the first line
+come-read : (given : Given) (mode : Option Mode) (inputs : List Input) (bytes : List ℕ) (source : Drawn) → Comes given mode ReadFault inputs bytes source
+    → Rose source.faults_before source.faults_after ⊎ HasFailed given
+come-read given None inputs bytes source (file, nothing) =
+    inr (file.words, file.said, elim file.failed [ inl a ↦ inl a | inr q ↦ elim q [ inl b ↦ inr (inl b.1) | inr c ↦ inr (inr c.2) ] ])
+come-read given (Some mode) inputs bytes source (begun, comes) = inl comes.2
+
+ended-read : (given : Given) (mode : Option Mode) (result : Status) (inputs : List Input) (bytes : List ℕ) (source : Drawn) (screen report : Sunk)
+    → Ended given mode result inputs bytes source screen report → HasReadFault given result source
+ended-read given mode result inputs bytes source screen report (inl whole) e = come-read given mode inputs bytes source (subst (λ status. Comes given mode status inputs bytes source) e whole.comes)
+ended-read given mode result inputs bytes source screen report (inr (same, broken)) e = absurd (let both : ReadFault ≡ WriteFault = sym e ∙ same in cc)
+
+pub played-read : (given : Given) (result : Status) (l0 : Option (List ℕ)) (source : Drawn) (screen report : Sunk) (c0 c1 : ℕ) → Played given result l0 source screen report c0 c1
+    → HasReadFault given result source
+played-read given result l0 source screen report c0 c1 p = ended-read given p.0 result p.1 p.2 source screen report p.4
