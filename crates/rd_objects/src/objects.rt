@@ -1,9 +1,10 @@
 //! All objects of a session.
-ghost use Rattle.std.specs.Prelude.{◌≡◌, length};
+ghost use Rattle.std.specs.Prelude.{◌≡◌, ◌<◌, ◌≤◌, length, IfOk, IfErr, OnErr};
 ghost use Rattle.std.specs.List.{list_all};
 ghost use Rattle.rd_base.specs.Cells.{HasColours};
 ghost use Rattle.rd_objects.specs.Things.{is_numbered, is_inside};
 ghost use Rattle.rd_objects.specs.Sound.{AreCodes};
+ghost use Rattle.rd_objects.specs.declared.fault.ObjectFault.TheVariants.{TooMany};
 
 use crate::fault::ObjectFault;
 use crate::run::{Run, RunKind, Spec};
@@ -70,11 +71,8 @@ impl Objects {
         if text.len() > LONGEST {
             return Err(ObjectFault::TooLong);
         }
-        if self.strings.len() >= STRINGS as usize {
-            return Err(ObjectFault::TooMany);
-        }
+        let number = next_number(&self.strings, STRINGS)?;
         characters_have_codes(text);
-        let number = self.strings.len() as u32;
         let text = Text::new(self.alloc, text, runs, self.faces.as_slice())?;
         self.strings.push(text)?;
         Ok(number)
@@ -90,10 +88,7 @@ impl Objects {
         if !self.names_made(spec) {
             return Err(ObjectFault::NoObject);
         }
-        if self.specs.len() >= SPECS as usize {
-            return Err(ObjectFault::TooMany);
-        }
-        let number = self.specs.len() as u32;
+        let number = next_number(&self.specs, SPECS)?;
         self.specs.push(spec)?;
         Ok(number)
     }
@@ -103,11 +98,8 @@ impl Objects {
         ensures adds { Adds result (full_fault FACES (length self.old.faces)) (length self.old.faces) self.old self.new (face_added self.old face) }
         ensures extends { Extends self.old self.new }
     {
-        if self.faces.len() >= FACES as usize {
-            return Err(ObjectFault::TooMany);
-        }
+        let number = next_number(&self.faces, FACES)?;
         faces_have_colours(face);
-        let number = self.faces.len() as u32;
         self.faces.push(face)?;
         Ok(number)
     }
@@ -118,11 +110,8 @@ impl Objects {
         ensures adds { Adds result (full_fault TABLES (length self.old.tables)) (length self.old.tables) self.old self.new (table_added self.old table) }
         ensures extends { Extends self.old self.new }
     {
-        if self.tables.len() >= TABLES as usize {
-            return Err(ObjectFault::TooMany);
-        }
+        let number = next_number(&self.tables, TABLES)?;
         table.tables_are_valid();
-        let number = self.tables.len() as u32;
         self.tables.push(table)?;
         Ok(number)
     }
@@ -216,4 +205,17 @@ fn are_inside(runs: &[Run], size: usize) -> bool
         }
     }
     true
+}
+
+/// The number of the next object of a list that has at most so many. TooMany comes exactly where it has them.
+fn next_number<T>(list: &ListOf<T>, most: u32) -> Result<u32, ObjectFault>
+    ensures number { IfOk result (λ number. number ≡ length list.now) }
+    ensures few { IfOk result (λ number. number < most) }
+    ensures full { OnErr result (most ≤ length list.now) }
+    ensures fault { IfErr result (λ fault. fault ≡ TooMany) }
+{
+    if list.len() >= most as usize {
+        return Err(ObjectFault::TooMany);
+    }
+    Ok(list.len() as u32)
 }

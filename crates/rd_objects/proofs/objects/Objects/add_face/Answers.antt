@@ -6,7 +6,7 @@ use Rattle.rd_objects.proofs.objects.Objects.add_face.Goals as goal
 pub invariant_of-self-2 : goal.invariant_of-self-2
 invariant_of-self-2 c =
     rw c.in_ok-push.ensures.ok
-    (face_right (the_view c.self.inside) c.args.face c.faces_have_colours.ensures (has_room _ _ (omega (arith, c.len.ensures, c.if-len.false))) c.self.invariant)
+    (face_right (the_view c.self.inside) c.args.face c.faces_have_colours.ensures (has_room _ _ (omega (arith, c.in_ok-number.ensures.number, c.in_ok-number.ensures.few))) c.self.invariant)
 
 pub returns-clause-extends : goal.returns-clause-extends
 returns-clause-extends c = rw (← c.self.view_is, c.in_ok-push.ensures.ok) (face_extends (the_view c.self.inside) c.args.face)

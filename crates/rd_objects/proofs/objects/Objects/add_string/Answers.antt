@@ -9,7 +9,7 @@ invariant_of-self-2 c =
     let inside = sym c.are_inside.ensures ∙ c.if-not-are_inside.false in
     rw (c.in_ok-push.ensures.ok, c.in_ok-text.ensures, c.as_slice.ensures)
     (string_right (the_view c.self.inside) c.args.text.now c.args.runs.now c.characters_have_codes.ensures
-    (string_made (the_view c.self.inside) c.args.text.now c.args.runs.now made inside (omega (arith, c.if-text-gt-LONGEST.false)) (omega (arith, c.len-3.ensures, c.if-len.false))) c.self.invariant)
+    (string_made (the_view c.self.inside) c.args.text.now c.args.runs.now made inside (omega (arith, c.if-text-gt-LONGEST.false)) (omega (arith, c.in_ok-number.ensures.number, c.in_ok-number.ensures.few))) c.self.invariant)
 
 pub returns-clause-extends : goal.returns-clause-extends
 returns-clause-extends c =
