@@ -18,7 +18,7 @@ use Rattle.rd_objects.specs.declared.run.RunKind.TheVariants.{Face, Display}
 use Rattle.rd_objects.specs.declared.run.RunOf.{RunOf}
 use Rattle.rd_objects.specs.declared.run.Spec.{Spec}
 use Rattle.rd_objects.specs.declared.run.Spec.TheVariants.{Text, Width, Align}
-use Rattle.rd_objects.specs.Texts.{TextValue, with_face, with_spec, face_runs, spec_runs, text_of, covers, given_at, face_of, spec_of}
+use Rattle.rd_objects.specs.Texts.{TextValue, with_run, face_by, spec_by, face_runs, spec_runs, text_of, covers, given_at, face_of, spec_of}
 use Rattle.rd_objects.specs.Tables.{TableValue, IsTable}
 use Rattle.rd_objects.specs.Things.{ObjectLists, nothing_made, is_numbered, is_made, is_inside, string_fault, is_spec_made, spec_fault, full_fault, string_added, spec_added, face_added, table_added, IsSmallSpec}
 use Rattle.rd_objects.specs.Sound.{AreCodes, IsString, AreObjects, NamesMade, IsClosed, AreRight, GoesOn, Extends}
@@ -62,7 +62,7 @@ named_coloured [] i h = plain-coloured
 named_coloured (f ∷ faces) zero h = h.0
 named_coloured (f ∷ faces) (suc i) h = named_coloured faces i h.1
 
-run_coloured : (kind : RunKind) (faces : List Attributes) (run : Run) (runs : List (RunOf Attributes)) → AllByRecursion HasColours faces → AllByRecursion (λ run. HasColours run.value) runs → AllByRecursion (λ run. HasColours run.value) (with_face kind faces run runs)
+run_coloured : (kind : RunKind) (faces : List Attributes) (run : Run) (runs : List (RunOf Attributes)) → AllByRecursion HasColours faces → AllByRecursion (λ run. HasColours run.value) runs → AllByRecursion (λ run. HasColours run.value) (with_run run (face_by kind faces run.value) runs)
 run_coloured Face faces run runs h r = (named_coloured faces run.value h, r)
 run_coloured Display faces run runs h r = r
 
@@ -140,7 +140,7 @@ table_keeps o table right e sound = record {
 }
 
 -- the specs that runs name were made
-run_closed : (kind : RunKind) (o : ObjectLists) (run : Run) (runs : List (RunOf ℕ)) → is_numbered kind (length o.faces) (length o.specs) run.value ≡ true → AllByRecursion (λ run. run.value < length o.specs) runs → AllByRecursion (λ run. run.value < length o.specs) (with_spec kind run runs)
+run_closed : (kind : RunKind) (o : ObjectLists) (run : Run) (runs : List (RunOf ℕ)) → is_numbered kind (length o.faces) (length o.specs) run.value ≡ true → AllByRecursion (λ run. run.value < length o.specs) runs → AllByRecursion (λ run. run.value < length o.specs) (with_run run (spec_by kind run.value) runs)
 run_closed Face o run runs e r = r
 run_closed Display o run runs e r = (grind (arith, nat_tests), r)
 

@@ -1,5 +1,5 @@
 -- Strings with runs of faces and display specs.
-use Rattle.std.specs.Prelude.{ℕ, nat_le, nat_lt, Bool, ◌&&◌, List, [], ◌∷◌, reverse, slice_index_or, Option, option_map, unwrap_or}
+use Rattle.std.specs.Prelude.{ℕ, nat_le, nat_lt, Bool, ◌&&◌, List, [], ◌∷◌, reverse, slice_index_or, Option, None, Some, option_map, unwrap_or}
 use Rattle.std.specs.List.{find}
 use Rattle.rd_base.specs.Faces.{Attributes, plain}
 use Rattle.rd_objects.specs.declared.run.Run.{Run}
@@ -13,23 +13,29 @@ pub record TextValue : Type 0 where
   pub faces : List (RunOf Attributes)
   pub specs : List (RunOf ℕ)
 
--- a run of faces before others, with the face that it names
-abbrev pub with_face : RunKind → List Attributes → Run → List (RunOf Attributes) → List (RunOf Attributes)
-with_face Face faces run runs = record { from = run.from; to = run.to; value = slice_index_or faces run.value plain } ∷ runs
-with_face Display faces run runs = runs
+-- what a run gives, where it gives something, before others
+abbrev pub with_run : {T : Type 0} → Run → Option T → List (RunOf T) → List (RunOf T)
+with_run run None runs = runs
+with_run run (Some value) runs = record { from = run.from; to = run.to; value = value } ∷ runs
+
+abbrev pub runs_by : {T : Type 0} → (Run → Option T) → List Run → List (RunOf T)
+runs_by gives [] = []
+runs_by gives (run ∷ runs) = with_run run (gives run) (runs_by gives runs)
+
+-- the face that a run names by its number, and the display spec
+abbrev pub face_by : RunKind → List Attributes → ℕ → Option Attributes
+face_by Face faces value = Some (slice_index_or faces value plain)
+face_by Display faces value = None
+
+abbrev pub spec_by : RunKind → ℕ → Option ℕ
+spec_by Face value = None
+spec_by Display value = Some value
 
 abbrev pub face_runs : List Attributes → List Run → List (RunOf Attributes)
-face_runs faces [] = []
-face_runs faces (run ∷ runs) = with_face run.kind faces run (face_runs faces runs)
-
--- a run of display specs before others
-abbrev pub with_spec : RunKind → Run → List (RunOf ℕ) → List (RunOf ℕ)
-with_spec Face run runs = runs
-with_spec Display run runs = record { from = run.from; to = run.to; value = run.value } ∷ runs
+face_runs faces runs = runs_by (λ run. face_by run.kind faces run.value) runs
 
 abbrev pub spec_runs : List Run → List (RunOf ℕ)
-spec_runs [] = []
-spec_runs (run ∷ runs) = with_spec run.kind run (spec_runs runs)
+spec_runs runs = runs_by (λ run. spec_by run.kind run.value) runs
 
 abbrev pub text_of : List ℕ → List Run → List Attributes → TextValue
 text_of chars runs faces = record { chars = chars; faces = face_runs faces runs; specs = spec_runs runs }

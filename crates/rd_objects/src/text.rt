@@ -1,7 +1,8 @@
 //! Strings with faces and display specs.
-ghost use Rattle.std.specs.Prelude.{◌≡◌, IfOk, slice_index_or};
+ghost use Rattle.std.specs.Prelude.{◌≡◌, IfOk, Option, slice_index_or};
 ghost use Rattle.rd_base.specs.Faces.{plain};
-ghost use Rattle.rd_objects.specs.Texts.{face_runs, spec_runs, given_at, covers};
+ghost use Rattle.rd_objects.specs.Texts.{runs_by, face_by, spec_by, given_at, covers};
+ghost use Rattle.rd_objects.specs.declared.run.Run.{Run};
 
 use crate::run::{Run, RunKind, RunOf};
 use rd_base::limits::STRING_CHARACTERS;
@@ -47,8 +48,8 @@ impl Text {
         ensures { IfOk result (λ text. text ≡ text_of chars.now runs.now faces.now) }
     {
         let chars = ListOf::from_slice(alloc, chars)?;
-        let faces = face_runs_of(alloc, runs, faces)?;
-        let specs = spec_runs_of(alloc, runs)?;
+        let faces = runs_of(alloc, runs, |run| face_given(run, faces))?;
+        let specs = runs_of(alloc, runs, |run| spec_given(run))?;
         Ok(Text {
             chars,
             faces,
@@ -107,40 +108,46 @@ fn is_covered(from: u32, to: u32, i: u32) -> bool
     from <= i && i < to
 }
 
-/// The runs of faces, with the faces that they name.
-fn face_runs_of(alloc: Global, runs: &[Run], faces: &[Face]) -> Result<ListOf<RunOf<Face>>, Memory>
-    ensures { IfOk result (λ made. made ≡ face_runs faces.now runs.now) }
+/// What runs give, each over its places; a run that gives nothing is left out.
+fn runs_of<T: Copy, G: Fn(Run) -> Option<T>>(
+    alloc: Global,
+    runs: &[Run],
+    given: G,
+) -> Result<ListOf<RunOf<T>>, Memory>
+    requires { G.IsAlwaysCallable given }
+    ensures { (gives : Run → Option T) → ((run : Run) (value : Option T) → G.post given run value → value ≡ gives run) → IfOk result (λ made. made ≡ runs_by gives runs.now) }
 {
     let mut made = ListOf::new(alloc);
     for run in runs {
-        match run.kind {
-            RunKind::Face => made.push(RunOf {
+        if let Some(value) = given(*run) {
+            made.push(RunOf {
                 from: run.from,
                 to: run.to,
-                value: face_named(faces, run.value),
-            })?,
-            RunKind::Display => {}
+                value,
+            })?;
         }
     }
     Ok(made)
 }
 
-/// The runs of display specs.
-fn spec_runs_of(alloc: Global, runs: &[Run]) -> Result<ListOf<RunOf<u32>>, Memory>
-    ensures { IfOk result (λ made. made ≡ spec_runs runs.now) }
+/// The face that a run gives, where it is a run of a face.
+fn face_given(run: Run, faces: &[Face]) -> Option<Face>
+    ensures { result ≡ face_by run.kind faces.now run.value }
 {
-    let mut made = ListOf::new(alloc);
-    for run in runs {
-        match run.kind {
-            RunKind::Face => {}
-            RunKind::Display => made.push(RunOf {
-                from: run.from,
-                to: run.to,
-                value: run.value,
-            })?,
-        }
+    match run.kind {
+        RunKind::Face => Some(face_named(faces, run.value)),
+        RunKind::Display => None,
     }
-    Ok(made)
+}
+
+/// The number of the display spec that a run gives, where it is a run of one.
+fn spec_given(run: Run) -> Option<u32>
+    ensures { result ≡ spec_by run.kind run.value }
+{
+    match run.kind {
+        RunKind::Face => None,
+        RunKind::Display => Some(run.value),
+    }
 }
 
 /// The face of a number, and the plain face where there is none.
