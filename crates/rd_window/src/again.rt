@@ -1,5 +1,5 @@
 //! The layout of a window over its last one.
-ghost use Rattle.std.specs.Prelude.{◌≡◌, ◌+◌, ◌<◌, ◌≤◌, [], true, false, None, Some, is_some, length, not, option_map, IfOk, IfSome};
+ghost use Rattle.std.specs.Prelude.{◌≡◌, ◌+◌, ◌<◌, ◌≤◌, [], None, Some, is_some, length, not, option_map, IfOk, IfSome};
 ghost use Rattle.rd_matrix.specs.Blocks.{IsWithin};
 ghost use Rattle.rd_matrix.specs.Entries.{shown_entries};
 ghost use Rattle.rd_matrix.specs.Sources.{IsSource};
@@ -62,7 +62,11 @@ pub fn lay_out_again<B: BlockSource + Drop, L: Ledger>(
             return Ok(resting(layout, wanted));
         }
     }
-    lay_out_anew(alloc, source, last, wanted, shape, steps)
+    let none = Matrix::new(alloc)?;
+    let older = older_rows(last, &none, shape);
+    let change = change_since(last);
+    let view = lay_out(alloc, source, older, change, wanted, shape, steps)?;
+    Ok(laid_out(view, wanted, shape))
 }
 
 /// What a window shows that rests on its last layout.
@@ -81,34 +85,6 @@ fn resting(layout: &Layout, wanted: Wanted) -> Laying
         bottom: layout.bottom,
         anew: None,
     }
-}
-
-/// A window laid out anew, where it does not rest on its last layout.
-fn lay_out_anew<B: BlockSource + Drop, L: Ledger>(
-    alloc: Global,
-    source: B,
-    last: Option<&Layout>,
-    wanted: Wanted,
-    shape: Shape,
-    steps: &mut Steps<L>,
-) -> Result<Laying, Memory>
-    requires right { AreRight (B.meaning source) (older_rows (option_map (λ l. l.now) last) shape) (change_since (option_map (λ l. l.now) last)) shape }
-    requires anchor { IsWithin wanted.anchor.pos (B.meaning source).blocks }
-    requires point { IsWithin wanted.point (B.meaning source).blocks }
-    requires height { 1 ≤ wanted.height }
-    requires moves { rests (option_map (λ l. l.now) last) (B.meaning source) shape wanted ≡ false }
-    ensures chosen { IfOk result (λ laying. laying.chosen ≡ chosen_of (B.meaning source) shape wanted) }
-    ensures top { IfOk result (λ laying. laying.top ≡ has_first_row (B.meaning source) shape wanted) }
-    ensures bottom { IfOk result (λ laying. laying.bottom ≡ has_last_row (B.meaning source) shape wanted) }
-    ensures layout { IfOk result (λ laying. IfSome laying.anew (λ new. IsLaidOut (option_map (λ l. l.now) last.entry) (B.meaning source) shape wanted new)) }
-    ensures anew { IfOk result (λ laying. is_some laying.anew ≡ true) }
-    ensures steps { steps.new ≤ steps.old + allowance (option_map (λ l. l.now) last.entry) (B.meaning source) shape wanted }
-{
-    let none = Matrix::new(alloc)?;
-    let older = older_rows(last, &none, shape);
-    let change = change_since(last);
-    let view = lay_out(alloc, source, older, change, wanted, shape, steps)?;
-    Ok(laid_out(view, wanted, shape))
 }
 
 /// The rows of a last layout that can be kept at a shape, and else those of another matrix, which has none.
