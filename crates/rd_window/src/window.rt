@@ -68,39 +68,15 @@ pub fn lay_out<B: BlockSource + Drop, L: Ledger>(
     ensures copies { IfOk result (λ view. All (IsCopied old.now change (B.meaning source).blocks) view.matrix) }
     ensures steps { steps.new ≤ steps.old + 3 * near_costs (kept_source (B.meaning source) old.now change shape) shape wanted }
 {
-    let kept = Kept::new(source, old, change, shape);
-    let mut remembered = Remembered::new(alloc, kept);
-    view_of(alloc, &mut remembered, old, change, wanted, shape, steps)
-}
-
-/// What a window shows of a source, whose blocks cost what they cost where they do not keep their older rows.
-fn view_of<B: BlockSource, L: Ledger>(
-    alloc: Global,
-    source: &mut Remembered<B>,
-    old: &Matrix,
-    change: Change,
-    wanted: Wanted,
-    shape: Shape,
-    steps: &mut Steps<L>,
-) -> Result<InView, Memory>
-    requires right { AreRight (B.meaning source.old) old.now change shape }
-    requires anchor { IsWithin wanted.anchor.pos (B.meaning source.old).blocks }
-    requires point { IsWithin wanted.point (B.meaning source.old).blocks }
-    requires height { 1 ≤ wanted.height }
-    ensures chosen { IfOk result (λ view. view.chosen ≡ chosen_of (B.meaning source.old) shape wanted) }
-    ensures rows { IfOk result (λ view. shown_entries view.matrix ≡ rows_in_view (B.meaning source.old) shape wanted) }
-    ensures top { IfOk result (λ view. view.top ≡ has_first_row (B.meaning source.old) shape wanted) }
-    ensures bottom { IfOk result (λ view. view.bottom ≡ has_last_row (B.meaning source.old) shape wanted) }
-    ensures copies { IfOk result (λ view. All (IsCopied old.now change (B.meaning source.old).blocks) view.matrix) }
-    ensures steps { steps.new ≤ steps.old + 3 * near_costs (B.meaning source.old) shape wanted }
-{
     a_start_is_a_row();
     an_anchor_of_a_row_is_within();
-    let chosen = choose(alloc, source, wanted, shape, steps)?;
-    source.hand_out();
+    let kept = Kept::new(source, old, change, shape);
+    let mut remembered = Remembered::new(alloc, kept);
+    let chosen = choose(alloc, &mut remembered, wanted, shape, steps)?;
+    remembered.hand_out();
     let matrix = relay(
         alloc,
-        source,
+        &mut remembered,
         old,
         change,
         chosen.anchor,
@@ -108,8 +84,8 @@ fn view_of<B: BlockSource, L: Ledger>(
         shape,
         steps,
     )?;
-    let top = is_first_row(alloc, source, chosen.anchor)?;
-    let bottom = has_last_row(alloc, source, &matrix, wanted.height)?;
+    let top = is_first_row(alloc, &mut remembered, chosen.anchor)?;
+    let bottom = has_last_row(alloc, &mut remembered, &matrix, wanted.height)?;
     Ok(InView {
         chosen,
         matrix,

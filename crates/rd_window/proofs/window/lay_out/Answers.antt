@@ -1,18 +1,17 @@
-use Rattle.std.proofs.Common.{◌≡◌, ◌+◌, ◌*◌, ◌≤◌, All, ap, ◌∙◌}
-use Rattle.std.specs.Prelude.{IfOk}
+use Rattle.std.proofs.Common.{◌≡◌, ℕ, ◌+◌, ◌*◌, ◌≤◌, leb, All, length, take, drop, ap, ◌∙◌, arith}
 use Rattle.rd_matrix.specs.Blocks.{IsWithin}
 use Rattle.rd_matrix.specs.Entries.{shown_entries}
-use Rattle.rd_matrix.specs.Sources.{SourceValues}
+use Rattle.rd_matrix.specs.Sources.{IsSource, SourceValues, rows_at}
 use Rattle.rd_reuse.specs.Keeping.{AreRight, kept_source}
-use Rattle.rd_reuse.specs.Views.{IsCopied}
+use Rattle.rd_reuse.specs.Views.{IsCopied, Names}
+use Rattle.rd_rows.specs.Shapes.{IsShape, ShapeValues}
 use Rattle.rd_start.specs.Chosen.{chosen_of}
 use Rattle.rd_start.specs.Near.{near_costs}
-use Rattle.rd_window.specs.Views.{has_first_row, has_last_row, rows_in_view}
-use Rattle.rd_window.specs.declared.window.InView.{InView}
-use Rattle.rd_window.proofs.Starting.{at-source, back-at-source}
+use Rattle.rd_window.specs.Views.{rows_in_view, start_row}
+use Rattle.rd_window.proofs.Starting.{IsStart, at-source, back-at-source, chosen-named, rows-laid, some-laid, spent}
 use Rattle.rd_window.proofs.window.lay_out.Given as given
 use Rattle.rd_window.proofs.window.lay_out.Goals as goal
-use Rattle.rd_window.proofs.window.lay_out.Goals.{After-new-remembered}
+use Rattle.rd_window.proofs.window.lay_out.Goals.{After-hand_out, After-new-remembered, After-relay, In_ok-matrix}
 
 -- the source that remembers is the one whose blocks keep their older rows
 same : (g : given.Over) (c : goal.After-new-remembered g)
@@ -20,47 +19,127 @@ same : (g : given.Over) (c : goal.After-new-remembered g)
     ≡ kept_source (g.B.BlockSource.meaning c.args.source) c.args.old.now c.args.change c.args.shape
 same g c = ap (λ k. kept_source (g.B.BlockSource.meaning k.0) k.1 k.2 k.3) (c.new-remembered.ensures ∙ c.new-kept.ensures)
 
-pub view_of-requires-clause-right : goal.view_of-requires-clause-right
-view_of-requires-clause-right g c =
-    back-at-source (λ (x : SourceValues). AreRight x c.args.old.now c.args.change c.args.shape) _ _ (same g (goal.at.view_of-requires-clause-right g c).After-new-remembered)
-    c.requires.right
+-- the start that was chosen
+start : (g : given.Over) (c : goal.After-hand_out g) → IsStart (kept_source (g.B.BlockSource.meaning c.args.source) c.args.old.now c.args.change c.args.shape) (kept_source (g.B.BlockSource.meaning c.hand_out.new.self.0) c.hand_out.new.self.1 c.hand_out.new.self.2 c.hand_out.new.self.3) c.args.shape c.args.wanted c.in_ok-chosen.chosen
+start g c =
+    let m = kept_source (g.B.BlockSource.meaning c.args.source) c.args.old.now c.args.change c.args.shape in
+    let w = c.args.wanted in
+    let shaped : IsShape c.args.shape = record { least = omega arith; most = omega arith } in
+    let is = ap (λ k. kept_source (g.B.BlockSource.meaning k.0) k.1 k.2 k.3) (c.new-remembered.ensures ∙ c.new-kept.ensures) in
+    let source = at-source IsSource m _ is c.choose.ensures.source in
+    let chosen = at-source (λ (x : SourceValues). c.in_ok-chosen.chosen ≡ chosen_of x c.args.shape w) m _ is c.in_ok-chosen.ensures.value in
+    let low = c.a_start_is_a_row.ensures m c.args.shape w source shaped c.requires.point in
+    let named = chosen-named m c.args.shape w c.in_ok-chosen.chosen low chosen in
+    record {
+      same = ap (λ k. kept_source (g.B.BlockSource.meaning k.0) k.1 k.2 k.3) c.hand_out.ensures ∙ (c.choose.ensures.stays ∙ is);
+      shaped = shaped;
+      low = low;
+      named = named;
+      within = c.an_anchor_of_a_row_is_within.ensures m c.args.shape c.in_ok-chosen.chosen.anchor (start_row m c.args.shape w) source named;
+    }
 
-pub view_of-requires-clause-anchor : goal.view_of-requires-clause-anchor
-view_of-requires-clause-anchor g c =
-    back-at-source (λ (x : SourceValues). IsWithin c.args.wanted.anchor.pos x.blocks) _ _ (same g (goal.at.view_of-requires-clause-anchor g c).After-new-remembered)
-    c.requires.anchor
+-- the steps until the rows are laid out
+steps : (g : given.Over) (c : goal.After-relay g) → IsStart (kept_source (g.B.BlockSource.meaning c.args.source) c.args.old.now c.args.change c.args.shape) (kept_source (g.B.BlockSource.meaning c.hand_out.new.self.0) c.hand_out.new.self.1 c.hand_out.new.self.2 c.hand_out.new.self.3) c.args.shape c.args.wanted c.in_ok-chosen.chosen
+    → c.relay.new.steps ≤ c.args.steps.now + 3 * near_costs (kept_source (g.B.BlockSource.meaning c.args.source) c.args.old.now c.args.change c.args.shape) c.args.shape c.args.wanted
+steps g c begun =
+    let is = ap (λ k. kept_source (g.B.BlockSource.meaning k.0) k.1 k.2 k.3) (c.new-remembered.ensures ∙ c.new-kept.ensures) in
+    let chose = at-source (λ (x : SourceValues). c.choose.new.steps ≤ c.args.steps.now + 2 * near_costs x c.args.shape c.args.wanted) (kept_source (g.B.BlockSource.meaning c.args.source) c.args.old.now c.args.change c.args.shape) _ is c.choose.ensures.steps in
+    spent _ _ c.args.old.now c.args.change c.args.shape c.args.wanted c.in_ok-chosen.chosen c.args.steps.now c.choose.new.steps c.relay.new.steps begun chose c.relay.ensures.steps
 
-pub view_of-requires-clause-point : goal.view_of-requires-clause-point
-view_of-requires-clause-point g c =
-    back-at-source (λ (x : SourceValues). IsWithin c.args.wanted.point x.blocks) _ _ (same g (goal.at.view_of-requires-clause-point g c).After-new-remembered)
-    c.requires.point
+-- the rows that were laid out
+rows : (g : given.Over) (c : goal.In_ok-matrix g) → IsStart (kept_source (g.B.BlockSource.meaning c.args.source) c.args.old.now c.args.change c.args.shape) (kept_source (g.B.BlockSource.meaning c.hand_out.new.self.0) c.hand_out.new.self.1 c.hand_out.new.self.2 c.hand_out.new.self.3) c.args.shape c.args.wanted c.in_ok-chosen.chosen
+    → shown_entries c.in_ok-matrix.matrix ≡ rows_in_view (kept_source (g.B.BlockSource.meaning c.args.source) c.args.old.now c.args.change c.args.shape) c.args.shape c.args.wanted
+rows g c begun = rows-laid _ _ c.args.shape c.args.wanted c.in_ok-chosen.chosen c.in_ok-matrix.matrix begun c.in_ok-matrix.ensures.rows
+
+pub choose-requires-clause-anchor : goal.choose-requires-clause-anchor
+choose-requires-clause-anchor g c =
+    back-at-source (λ (x : SourceValues). IsWithin c.args.wanted.anchor.pos x.blocks) _ _ (same g (goal.at.choose-requires-clause-anchor g c).After-new-remembered) c.requires.anchor
+
+pub choose-requires-clause-point : goal.choose-requires-clause-point
+choose-requires-clause-point g c =
+    back-at-source (λ (x : SourceValues). IsWithin c.args.wanted.point x.blocks) _ _ (same g (goal.at.choose-requires-clause-point g c).After-new-remembered) c.requires.point
+
+pub returns-in_err-chosen-clause-steps : goal.returns-in_err-chosen-clause-steps
+returns-in_err-chosen-clause-steps g c =
+    let steps = at-source (λ (x : SourceValues). c.choose.new.steps ≤ c.args.steps.now + 2 * near_costs x c.args.shape c.args.wanted) (kept_source (g.B.BlockSource.meaning c.args.source) c.args.old.now c.args.change c.args.shape) _ (same g (goal.at.returns-in_err-chosen-clause-steps g c).After-new-remembered) c.choose.ensures.steps in
+    omega (arith, steps)
+
+pub relay-requires-clause-right : goal.relay-requires-clause-right
+relay-requires-clause-right g c =
+    let begun = start g (goal.at.relay-requires-clause-right g c).After-hand_out in
+    back-at-source (λ (x : SourceValues). AreRight x c.args.old.now c.args.change c.args.shape) _ _ begun.same c.requires.right
+
+pub relay-requires-clause-within : goal.relay-requires-clause-within
+relay-requires-clause-within g c =
+    let begun = start g (goal.at.relay-requires-clause-within g c).After-hand_out in
+    back-at-source (λ (x : SourceValues). IsWithin c.in_ok-chosen.chosen.anchor.pos x.blocks) _ _ begun.same begun.within
+
+pub relay-requires-clause-row : goal.relay-requires-clause-row
+relay-requires-clause-row g c =
+    let begun = start g (goal.at.relay-requires-clause-row g c).After-hand_out in
+    back-at-source (λ (x : SourceValues). (place : ℕ) × Names c.in_ok-chosen.chosen.anchor (rows_at x c.args.shape) place) _ _ begun.same
+    (start_row (kept_source (g.B.BlockSource.meaning c.args.source) c.args.old.now c.args.change c.args.shape) c.args.shape c.args.wanted, begun.named)
+
+pub returns-in_err-matrix-clause-steps : goal.returns-in_err-matrix-clause-steps
+returns-in_err-matrix-clause-steps g c = let at = goal.at.returns-in_err-matrix-clause-steps g c in steps g at.After-relay (start g at.After-hand_out)
+
+pub is_first_row-requires : goal.is_first_row-requires
+is_first_row-requires g c =
+    let begun = start g (goal.at.is_first_row-requires g c).After-hand_out in
+    back-at-source (λ (x : SourceValues). IsWithin c.in_ok-chosen.chosen.anchor.pos x.blocks) _ _ (c.relay.ensures.stays ∙ begun.same) begun.within
+
+pub returns-in_err-top-clause-steps : goal.returns-in_err-top-clause-steps
+returns-in_err-top-clause-steps g c = let at = goal.at.returns-in_err-top-clause-steps g c in steps g at.After-relay (start g at.After-hand_out)
+
+pub has_last_row-requires-clause-source : goal.has_last_row-requires-clause-source
+has_last_row-requires-clause-source g c =
+    let begun = start g (goal.at.has_last_row-requires-clause-source g c).After-hand_out in
+    back-at-source IsSource _ _ (c.is_first_row.ensures.stays ∙ (c.relay.ensures.stays ∙ begun.same)) (at-source IsSource (kept_source (g.B.BlockSource.meaning c.args.source) c.args.old.now c.args.change c.args.shape) _ (same g (goal.at.has_last_row-requires-clause-source g c).After-new-remembered) c.choose.ensures.source)
+
+pub has_last_row-requires-clause-some : goal.has_last_row-requires-clause-some
+has_last_row-requires-clause-some g c =
+    let at = goal.at.has_last_row-requires-clause-some g c in
+    let begun = start g at.After-hand_out in
+    some-laid (kept_source (g.B.BlockSource.meaning c.args.source) c.args.old.now c.args.change c.args.shape) c.args.shape c.args.wanted c.in_ok-matrix.matrix c.requires.height begun.low (rows g at.In_ok-matrix begun)
+
+pub has_last_row-requires-clause-rows : goal.has_last_row-requires-clause-rows
+has_last_row-requires-clause-rows g c =
+    let w = c.args.wanted in
+    let at = goal.at.has_last_row-requires-clause-rows g c in
+    let begun = start g at.After-hand_out in
+    back-at-source (λ (x : SourceValues). (shape : ShapeValues) × IsShape shape × ((place : ℕ) × (shown_entries c.in_ok-matrix.matrix ≡ take w.height (drop place (rows_at x shape))))) _ _
+    (c.is_first_row.ensures.stays ∙ (c.relay.ensures.stays ∙ begun.same)) (c.args.shape, begun.shaped, (start_row (kept_source (g.B.BlockSource.meaning c.args.source) c.args.old.now c.args.change c.args.shape) c.args.shape w, rows g at.In_ok-matrix begun))
+
+pub returns-in_err-bottom-clause-steps : goal.returns-in_err-bottom-clause-steps
+returns-in_err-bottom-clause-steps g c = let at = goal.at.returns-in_err-bottom-clause-steps g c in steps g at.After-relay (start g at.After-hand_out)
 
 pub returns-clause-chosen : goal.returns-clause-chosen
 returns-clause-chosen g c =
-    at-source (λ (x : SourceValues). IfOk c.view_of.result (λ (view : InView). view.chosen ≡ chosen_of x c.args.shape c.args.wanted)) _ _ (same g (goal.at.returns-clause-chosen g c).After-new-remembered)
-    c.view_of.ensures.chosen
+    at-source (λ (x : SourceValues). c.in_ok-chosen.chosen ≡ chosen_of x c.args.shape c.args.wanted) (kept_source (g.B.BlockSource.meaning c.args.source) c.args.old.now c.args.change c.args.shape) _ (same g (goal.at.returns-clause-chosen g c).After-new-remembered) c.in_ok-chosen.ensures.value
 
 pub returns-clause-rows : goal.returns-clause-rows
-returns-clause-rows g c =
-    at-source (λ (x : SourceValues). IfOk c.view_of.result (λ (view : InView). shown_entries view.matrix ≡ rows_in_view x c.args.shape c.args.wanted)) _ _ (same g (goal.at.returns-clause-rows g c).After-new-remembered)
-    c.view_of.ensures.rows
+returns-clause-rows g c = let at = goal.at.returns-clause-rows g c in rows g at.In_ok-matrix (start g at.After-hand_out)
 
 pub returns-clause-top : goal.returns-clause-top
 returns-clause-top g c =
-    at-source (λ (x : SourceValues). IfOk c.view_of.result (λ (view : InView). view.top ≡ has_first_row x c.args.shape c.args.wanted)) _ _ (same g (goal.at.returns-clause-top g c).After-new-remembered)
-    c.view_of.ensures.top
+    let place = start_row (kept_source (g.B.BlockSource.meaning c.args.source) c.args.old.now c.args.change c.args.shape) c.args.shape c.args.wanted in
+    let begun = start g (goal.at.returns-clause-top g c).After-hand_out in
+    c.in_ok-top.ensures.value c.args.shape place begun.shaped
+    (back-at-source (λ (x : SourceValues). Names c.in_ok-chosen.chosen.anchor (rows_at x c.args.shape) place) _ _ (c.relay.ensures.stays ∙ begun.same) begun.named)
 
 pub returns-clause-bottom : goal.returns-clause-bottom
 returns-clause-bottom g c =
-    at-source (λ (x : SourceValues). IfOk c.view_of.result (λ (view : InView). view.bottom ≡ has_last_row x c.args.shape c.args.wanted)) _ _ (same g (goal.at.returns-clause-bottom g c).After-new-remembered)
-    c.view_of.ensures.bottom
+    let w = c.args.wanted in
+    let at = goal.at.returns-clause-bottom g c in
+    let begun = start g at.After-hand_out in
+    at-source (λ (x : SourceValues). (shape : ShapeValues) (place : ℕ) → IsShape shape → shown_entries c.in_ok-matrix.matrix ≡ take w.height (drop place (rows_at x shape))
+    → c.in_ok-bottom.bottom ≡ leb (length (rows_at x shape)) (place + w.height)) _ _ (c.is_first_row.ensures.stays ∙ (c.relay.ensures.stays ∙ begun.same)) c.in_ok-bottom.ensures.value
+    c.args.shape (start_row (kept_source (g.B.BlockSource.meaning c.args.source) c.args.old.now c.args.change c.args.shape) c.args.shape w) begun.shaped (rows g at.In_ok-matrix begun)
 
 pub returns-clause-copies : goal.returns-clause-copies
 returns-clause-copies g c =
-    at-source (λ (x : SourceValues). IfOk c.view_of.result (λ (view : InView). All (IsCopied c.args.old.now c.args.change x.blocks) view.matrix)) _ _ (same g (goal.at.returns-clause-copies g c).After-new-remembered)
-    c.view_of.ensures.copies
+    let begun = start g (goal.at.returns-clause-copies g c).After-hand_out in
+    at-source (λ (x : SourceValues). All (IsCopied c.args.old.now c.args.change x.blocks) c.in_ok-matrix.matrix) _ _ begun.same c.in_ok-matrix.ensures.copies
 
 pub returns-clause-steps : goal.returns-clause-steps
-returns-clause-steps g c =
-    at-source (λ (x : SourceValues). c.view_of.new.steps ≤ c.args.steps.now + 3 * near_costs x c.args.shape c.args.wanted) _ _ (same g (goal.at.returns-clause-steps g c).After-new-remembered)
-    c.view_of.ensures.steps
+returns-clause-steps g c = let at = goal.at.returns-clause-steps g c in steps g at.After-relay (start g at.After-hand_out)
