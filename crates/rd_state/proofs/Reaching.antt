@@ -1,9 +1,9 @@
 -- An edit of a text at a position that no text reaches is refused.
-use Rattle.std.proofs.Common.{◌≡◌, ℕ, ◌+◌, ◌<◌, false, Some, Result, Err, List, length, get_or, subst, sym, ap, refl, ◌∙◌, arith}
+use Rattle.std.proofs.Common.{◌≡◌, ℕ, ◌+◌, ◌<◌, false, Some, Result, Err, List, length, get_or, max, subst, sym, ap, refl, ◌∙◌, arith}
 use Rattle.std.proofs.lemmas.Bool.{cond-false}
 use Rattle.std.proofs.lemmas.Bool.Decides.{nat_tests}
 use Rattle.std.proofs.lemmas.Option.{slice_get-get_or}
-use Rattle.std.specs.Prelude.{IsErr, slice_get}
+use Rattle.std.specs.Prelude.{IsErr, IfErr, slice_get}
 use Rattle.std.specs.Result.{IsErrAnd}
 use Rattle.rd_text.specs.Texts.{TextValue, IsText, most_characters}
 use Rattle.rd_script.specs.declared.op.Op.{Op}
@@ -16,7 +16,7 @@ use Rattle.rd_state.specs.Edits.{is_accessible, is_accessible_range, is_range_of
 use Rattle.rd_state.specs.States.{BufferValue, ContentValue, StateValue, new_buffer, number_of}
 use Rattle.rd_state.specs.Steps.{edited_moving, moving, replaced, step, with_found}
 use Rattle.rd_state.specs.Valid.{IsValid}
-use Rattle.rd_state.proofs.Sharing.{refuses}
+use Rattle.rd_state.proofs.Sharing.{if-refused, refuses}
 
 -- ---- texts
 
@@ -26,25 +26,14 @@ behind t pos text far =
     let short = text.short in
     grind (arith, nat_tests)
 
-from-behind : (t : TextValue) (from to : ℕ) → IsText t → most_characters + 1 < from → is_accessible_range t from to ≡ false
-from-behind t from to text far =
+range-behind : (t : TextValue) (from to : ℕ) → IsText t → most_characters + 1 < max from to → is_accessible_range t from to ≡ false
+range-behind t from to text far =
     let last = text.last in
     let short = text.short in
     grind (arith, nat_tests)
 
-to-behind : (t : TextValue) (from to : ℕ) → IsText t → most_characters + 1 < to → is_accessible_range t from to ≡ false
-to-behind t from to text far =
-    let last = text.last in
-    let short = text.short in
-    grind (arith, nat_tests)
-
-all-from-behind : (t : TextValue) (from to : ℕ) → IsText t → most_characters + 1 < from → is_range_of_all t from to ≡ false
-all-from-behind t from to text far =
-    let short = text.short in
-    grind (arith, nat_tests)
-
-all-to-behind : (t : TextValue) (from to : ℕ) → IsText t → most_characters + 1 < to → is_range_of_all t from to ≡ false
-all-to-behind t from to text far =
+all-behind : (t : TextValue) (from to : ℕ) → IsText t → most_characters + 1 < max from to → is_range_of_all t from to ≡ false
+all-behind t from to text far =
     let short = text.short in
     grind (arith, nat_tests)
 
@@ -53,17 +42,11 @@ all-to-behind t from to text far =
 pub insertion-behind : (pos : ℕ) (new : List ℕ) → most_characters + 1 < pos → (c : ContentValue) → IsText c.text → insertion pos new c ≡ Err OutOfRange
 insertion-behind pos new far c text = cond-false (is_accessible c.text pos) _ _ (behind c.text pos text far)
 
-pub deletion-from-behind : (from to : ℕ) → most_characters + 1 < from → (c : ContentValue) → IsText c.text → deletion from to c ≡ Err OutOfRange
-deletion-from-behind from to far c text = cond-false (is_accessible_range c.text from to) _ _ (from-behind c.text from to text far)
+pub deletion-behind : (from to : ℕ) → most_characters + 1 < max from to → (c : ContentValue) → IsText c.text → deletion from to c ≡ Err OutOfRange
+deletion-behind from to far c text = cond-false (is_accessible_range c.text from to) _ _ (range-behind c.text from to text far)
 
-pub deletion-to-behind : (from to : ℕ) → most_characters + 1 < to → (c : ContentValue) → IsText c.text → deletion from to c ≡ Err OutOfRange
-deletion-to-behind from to far c text = cond-false (is_accessible_range c.text from to) _ _ (to-behind c.text from to text far)
-
-pub narrowing-from-behind : (from to : ℕ) → most_characters + 1 < from → (c : ContentValue) → IsText c.text → narrowing from to c ≡ Err OutOfRange
-narrowing-from-behind from to far c text = cond-false (is_range_of_all c.text from to) _ _ (all-from-behind c.text from to text far)
-
-pub narrowing-to-behind : (from to : ℕ) → most_characters + 1 < to → (c : ContentValue) → IsText c.text → narrowing from to c ≡ Err OutOfRange
-narrowing-to-behind from to far c text = cond-false (is_range_of_all c.text from to) _ _ (all-to-behind c.text from to text far)
+pub narrowing-behind : (from to : ℕ) → most_characters + 1 < max from to → (c : ContentValue) → IsText c.text → narrowing from to c ≡ Err OutOfRange
+narrowing-behind from to far c text = cond-false (is_range_of_all c.text from to) _ _ (all-behind c.text from to text far)
 
 -- ---- states
 
@@ -77,11 +60,25 @@ refused-there s name how edit valid less refuses =
     let done : BufferValue → Result StateValue Refused = λ x. moving i how (replaced s i x (edit x.content)) in
     ap (λ o. with_found NoBuffer o done) at ∙ ap (λ r. moving i how (replaced s i b r)) (refuses b.content (valid.buffers.contents i b at).text)
 
--- so an op answers that asks for such an edit of a buffer that was found
+-- so it is refused of the buffer that was found
+refused-found : (s t : StateValue) (e : Refused) (name : List ℕ) (i : ℕ) (how : Move) (edit : ContentValue → Result ContentValue Refused)
+    → e ≡ OutOfRange → t ≡ s → IsValid s → i ≡ number_of name t.buffers → i < length t.buffers
+    → ((c : ContentValue) → IsText c.text → edit c ≡ Err OutOfRange) → edited_moving s name how edit ≡ Err e
+refused-found s t e name i how edit out same valid found within every =
+    let less = subst (λ k. k < length t.buffers) found within in
+    let refused = refused-there t name how edit (subst IsValid (sym same) valid) less every in
+    ap (λ x. edited_moving x name how edit) (sym same) ∙ (refused ∙ ap (λ x. Err x) (sym out))
+
+-- a call answers so that looks for what the edit needs
+pub finds-none : {A : Type 0} (r : Result A Refused) (s t : StateValue) (e : Refused) (name : List ℕ) (i : ℕ) (how : Move) (edit : ContentValue → Result ContentValue Refused)
+    → IsErrAnd r (λ x. x ≡ e) → e ≡ OutOfRange → t ≡ s → IsValid s → i ≡ number_of name t.buffers → i < length t.buffers
+    → ((c : ContentValue) → IsText c.text → edit c ≡ Err OutOfRange) → IfErr r (λ x. edited_moving s name how edit ≡ Err x)
+finds-none r s t e name i how edit and out same valid found within every =
+    if-refused r e (λ x. edited_moving s name how edit ≡ Err x) and (refused-found s t e name i how edit out same valid found within every)
+
+-- and an op that asks for the edit
 pub refuses-behind : (r : Result Effect Refused) (op : Op) (s t : StateValue) (e : Refused) (name : List ℕ) (i : ℕ) (how : Move) (edit : ContentValue → Result ContentValue Refused)
     → IsErr r → IsErrAnd r (λ x. x ≡ e) → e ≡ OutOfRange → t ≡ s → IsValid s → i ≡ number_of name t.buffers → i < length t.buffers
     → ((c : ContentValue) → IsText c.text → edit c ≡ Err OutOfRange) → step s op ≡ edited_moving s name how edit → Applies r op s s
 refuses-behind r op s t e name i how edit is and out same valid found within every asks =
-    let less = subst (λ k. k < length t.buffers) found within in
-    let refused = refused-there t name how edit (subst IsValid (sym same) valid) less every in
-    refuses r op s s e is and refl (asks ∙ (ap (λ x. edited_moving x name how edit) (sym same) ∙ (refused ∙ ap (λ x. Err x) (sym out))))
+    refuses r op s s e is and refl (asks ∙ refused-found s t e name i how edit out same valid found within every)
