@@ -1,17 +1,15 @@
 //! `play`: the words, the data files, the lines of the script, and the last line of the report. Its clause `ran` is the promise of the
 //! README.
 //!
-//! `begun` answers a run of no line, or the status that comes before the first line. `run_all` runs the lines (`run`), each of them by
+//! `begun` answers a run of no line, or the status that comes before the first line. `run_whole` runs the lines (`run`), each of them by
 //! `Playing::line` (`act`), and `finish` writes the last line.
 ghost use Rattle.std.specs.Prelude.{◌≡◌, ℕ, ◌≤◌, IsSome, Some, List};
-ghost use Rattle.std.specs.Io.KnownBytes.{Consumes};
 ghost use Rattle.rd_files.specs.DataFiles.{meaning as files_meaning};
-ghost use Rattle.rd_player.specs.Acts.{Begins, Finishes, IsOpened, IsNew, SpentBy, ComesTo, Tells, mode_of, status_of, summary_of};
+ghost use Rattle.rd_player.specs.Acts.{Begins, Finishes, IsOpened, IsNew, Tells, mode_of, status_of, summary_of};
 ghost use Rattle.rd_player.specs.Devices.{drawn_by, given_by, sunk_by};
 ghost use Rattle.rd_player.specs.Played.{HasReadFault, Played};
 ghost use Rattle.rd_run.specs.Given.{Given, IsMode};
 ghost use Rattle.rd_run.specs.Reports.{last_line};
-ghost use Rattle.rd_run.specs.Runs.{Input};
 ghost use Rattle.rd_run.specs.Statuses.{TellsNoMemory};
 ghost use Rattle.rd_words.specs.Command.{meaning, texts};
 ghost use Rattle.rd_words.specs.Words.{WordValues, values_of};
@@ -158,31 +156,15 @@ fn run_whole<S: Source, K: Sink, R: Sink, L: Ledger>(
     each_redisplay_is_shown();
     each_slice_is_known();
     valid_scripts_end_well();
-    let ending = run_all(alloc, run, script, screen, report, steps);
-    finish(report, ending)
-}
-
-/// Runs the lines of the script that is read, or of a generated one in its place.
-fn run_all<S: Source, K: Sink, R: Sink, L: Ledger>(
-    alloc: Global,
-    run: &mut Playing,
-    script: &mut S,
-    screen: &mut K,
-    report: &mut R,
-    steps: &mut Steps<L>,
-) -> Ending
-    requires { IsNew run.old }
-    ensures comes { (given : Given) → IsMode given (mode_of run.old) → (inputs : List Input) × (bytes : List ℕ) × Consumes (S.left script.old) (S.left script.new) bytes
-        × ComesTo result given (Some (mode_of run.old)) inputs bytes (drawn_by S.left S.faults script.old script.new) (sunk_by K.written K.faults screen.old screen.new) (sunk_by R.written R.faults report.old report.new)
-        × SpentBy result given (Some (mode_of run.old)) inputs bytes (S.left script.new) steps.old steps.new }
-    ensures unread { IsSome run.old.generated → script.new ≡ script.old }
-    ensures script { S.faults script.old ≤ S.faults script.new }
-    ensures screen { K.faults screen.old ≤ K.faults screen.new }
-    ensures report { R.faults report.old ≤ R.faults report.new }
-{
     match run.generated {
-        Some(number) => run_generated(alloc, number, run, screen, report, steps),
-        None => run_script(alloc, run, script, screen, report, steps),
+        Some(number) => {
+            let ending = run_generated(alloc, number, run, screen, report, steps);
+            finish(report, ending)
+        }
+        None => {
+            let ending = run_script(alloc, run, script, screen, report, steps);
+            finish(report, ending)
+        }
     }
 }
 
