@@ -1,5 +1,5 @@
 -- From what holds at each place to the first and the last place.
-use Rattle.std.proofs.Common.{◌≡◌, ℕ, zero, suc, ◌+◌, ◌-◌, ◌<◌, eqb, leb, ltb, Bool, true, false, not, cond, List, [], ◌∷◌, length, get_or, Option, Some, None, refl, sym, ap, ◌∙◌, arith}
+use Rattle.std.proofs.Common.{◌≡◌, ℕ, zero, suc, ◌+◌, ◌-◌, ◌<◌, eqb, leb, ltb, Bool, true, false, not, cond, List, [], ◌∷◌, length, get_or, Option, Some, None, refl, sym, subst, ap, ◌∙◌, arith}
 use Rattle.std.specs.Prelude.{zip}
 use Rattle.std.specs.List.{position, position_or_len, suffix_len, list_all}
 use Rattle.std.specs.Option.{is_some}
@@ -8,7 +8,7 @@ use Rattle.std.proofs.lemmas.Bool.Decides.{nat_tests}
 use Rattle.std.proofs.lemmas.List.Elements.{All-from_get_or}
 use Rattle.std.proofs.lemmas.List.Folds.{list_all_at}
 use Rattle.std.proofs.lemmas.List.Sums.{position_or_len_is, suffix_len_is, list_all-from_AllPass}
-use Rattle.rd_lanes.specs.Kernels.{last_position, differs}
+use Rattle.rd_lanes.specs.Kernels.{last_position, differs, first_difference, last_difference}
 use Rattle.rd_lanes.specs.Walks.{IsFirst, IsLast}
 
 lt_itself : (n : ℕ) → ltb n n ≡ false
@@ -54,13 +54,23 @@ none-reaches limit xs None false none e = cc
 none-reaches limit xs (Some i) true first e = cc
 
 -- two lists side by side
-pub length-zip : (a b : List ℕ) → length a ≡ length b → length (zip a b) ≡ length a
+length-zip : (a b : List ℕ) → length a ≡ length b → length (zip a b) ≡ length a
 length-zip [] b e = refl
 length-zip (x ∷ a) [] e = absurd (omega arith)
 length-zip (x ∷ a) (y ∷ b) e = ap (λ (n : ℕ). suc n) (length-zip a b (omega arith))
 
-pub differs_at : (a b : List ℕ) (k : ℕ) → length a ≡ length b → k < length a → differs (get_or (zip a b) k (0, 0)) ≡ not (eqb (get_or a k 0) (get_or b k 0))
+-- whether two lists differ at a place
+abbrev pub differ : List ℕ → List ℕ → ℕ → Bool
+differ a b k = differs (get_or (zip a b) k (0, 0))
+
+pub differs_at : (a b : List ℕ) (k : ℕ) → length a ≡ length b → k < length a → differ a b k ≡ not (eqb (get_or a k 0) (get_or b k 0))
 differs_at [] b k e h = absurd (omega arith)
 differs_at (x ∷ a) [] k e h = absurd (omega arith)
 differs_at (x ∷ a) (y ∷ b) zero e h = refl
 differs_at (x ∷ a) (y ∷ b) (suc k) e h = differs_at a b k (omega arith) (omega arith)
+
+pub first-differs : (a b : List ℕ) (place : Option ℕ) → length a ≡ length b → IsFirst (length a) (differ a b) place → place ≡ first_difference a b
+first-differs a b place e first = is-first differs (zip a b) (0, 0) place (subst (λ (size : ℕ). IsFirst size (differ a b) place) (sym (length-zip a b e)) first)
+
+pub last-differs : (a b : List ℕ) (place : Option ℕ) → length a ≡ length b → IsLast (length a) (differ a b) place → place ≡ last_difference a b
+last-differs a b place e last = is-last differs (zip a b) (0, 0) place (subst (λ (size : ℕ). IsLast size (differ a b) place) (sym (length-zip a b e)) last)

@@ -1,6 +1,6 @@
 //! The first and the last place at which a test passes, with a test of eight places at once.
-ghost use Rattle.std.specs.Prelude.{ℕ, ◌+◌, ◌<◌, ◌≤◌, Bool};
-ghost use Rattle.rd_lanes.specs.Walks.{Agree, Tells, IsFirst, IsLast};
+ghost use Rattle.std.specs.Prelude.{ℕ, Bool};
+ghost use Rattle.rd_lanes.specs.Walks.{AreTests, Tells, IsFirst, IsLast};
 
 use crate::groups::LANES;
 
@@ -12,9 +12,7 @@ pub(crate) fn first_place<G: Fn(usize) -> bool, P: Fn(usize) -> bool>(
     may_pass: G,
     passes: P,
 ) -> Option<usize>
-    requires groups { (at : ℕ) → at + LANES ≤ len → G.pre may_pass at }
-    requires places { (k : ℕ) → k < len → P.pre passes k }
-    requires agree { Agree len (G.post may_pass) (P.post passes) }
+    requires { AreTests len (G.pre may_pass) (G.post may_pass) (P.pre passes) (P.post passes) }
     ensures { (test : ℕ → Bool) → Tells len (P.post passes) test → IsFirst len test result }
 {
     let mut at = 0;
@@ -36,9 +34,7 @@ pub(crate) fn last_place<G: Fn(usize) -> bool, P: Fn(usize) -> bool>(
     may_pass: G,
     passes: P,
 ) -> Option<usize>
-    requires groups { (at : ℕ) → at + LANES ≤ len → G.pre may_pass at }
-    requires places { (k : ℕ) → k < len → P.pre passes k }
-    requires agree { Agree len (G.post may_pass) (P.post passes) }
+    requires { AreTests len (G.pre may_pass) (G.post may_pass) (P.pre passes) (P.post passes) }
     ensures { (test : ℕ → Bool) → Tells len (P.post passes) test → IsLast len test result }
 {
     let mut end = len;
