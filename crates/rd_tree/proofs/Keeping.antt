@@ -11,7 +11,7 @@ use Rattle.rd_tree.specs.declared.rect.Rect.{Rect}
 use Rattle.rd_tree.specs.declared.side.Side.{Side}
 use Rattle.rd_tree.specs.declared.placed.Placed.{Placed}
 use Rattle.rd_tree.specs.Windows.{Windows, Window, Split, columns_for, rows_for, first_part, second_part, HasRoom, fits, first_size, resized, placed, window_at, holds, replaced, is_leaf_of, is_single, removed}
-use Rattle.rd_tree.proofs.Rooms.{of_number-append, first_needs, second_needs, first_parts-first, room_first_parts, resized_room}
+use Rattle.rd_tree.proofs.Rooms.{of_number-append, parts_fill, resized_room}
 
 -- the test of room is true where each window has room
 pub fits-room : (windows : Windows) (rect : Rect) → HasRoom windows rect → fits windows rect ≡ true
@@ -129,11 +129,11 @@ removed_less f w d sum leaf (Split side size first second) rect e s =
 pub removed_room : (w : ℕ) (windows : Windows) (rect : Rect) → HasRoom windows rect → HasRoom (removed w windows rect) rect
 removed_room w (Window n mode margins) rect h = h
 removed_room w (Split side size first second) rect h =
-    let parts = first_parts-first side size first second (room_first_parts (Split side size first second) rect h) in
+    let parts = parts_fill {windows = Split side size first second} rect refl h in
     elim (cases_Bool (is_leaf_of w first)) [
-      | inl p ↦ rw p (resized_room second rect parts.1 (second_needs side size first second rect h))
+      | inl p ↦ rw p (resized_room second rect parts.1.0 parts.1.1)
       | inr p ↦ elim (cases_Bool (is_leaf_of w second)) [
-        | inl q ↦ rw (p, q) (resized_room first rect parts.0 (first_needs side size first second rect h))
+        | inl q ↦ rw (p, q) (resized_room first rect parts.0.0 parts.0.1)
         | inr q ↦ elim (cases_Bool (holds w first)) [
           | inl k ↦ rw (p, q, k) (removed_room w first (first_part side size rect) h.0, h.1)
           | inr k ↦ rw (p, q, k) (h.0, removed_room w second (second_part side size rect) h.1)

@@ -26,11 +26,10 @@ leaves-some (Window number mode margins) = omega arith
 leaves-some (Split side size first second) = omega (arith, leaves-some first, length-append (leaves first) (leaves second))
 
 -- both parts have fewer windows than the whole
-pub fewer_first : (first second : Windows) (n : ℕ) → length (leaves first ++ leaves second) ≡ n → length (leaves first) < n
-fewer_first first second n e = omega (arith, leaves-some second, length-append (leaves first) (leaves second))
-
-pub fewer_second : (first second : Windows) (n : ℕ) → length (leaves first ++ leaves second) ≡ n → length (leaves second) < n
-fewer_second first second n e = omega (arith, leaves-some first, length-append (leaves first) (leaves second))
+parts-fewer : (first second : Windows) (n : ℕ) → length (leaves first ++ leaves second) ≡ n → (length (leaves first) < n) × (length (leaves second) < n)
+parts-fewer first second n e =
+    let whole = length-append (leaves first) (leaves second) in
+    (omega (arith, whole, leaves-some second), omega (arith, whole, leaves-some first))
 
 -- where each window has room, the needs of all are met
 pub room_needs : (windows : Windows) (rect : Rect) → HasRoom windows rect → NeedsMet windows rect
@@ -64,70 +63,74 @@ room_within Below size first second rect h =
     let c = rows-some second in
     omega arith
 
-pub first_in_frame : (side : Side) (size : ℕ) (rect : Rect) → InFrame rect → size ≤ along side rect → InFrame (first_part side size rect)
-first_in_frame Right size rect h w = (omega arith, h.1)
-first_in_frame Below size rect h w = (h.0, omega arith)
+parts-in_frame : (side : Side) (size : ℕ) (rect : Rect) → InFrame rect → size ≤ along side rect → InFrame (first_part side size rect) × InFrame (second_part side size rect)
+parts-in_frame Right size rect h w = ((omega arith, h.1), (omega arith, h.1))
+parts-in_frame Below size rect h w = ((h.0, omega arith), (h.0, omega arith))
 
-pub second_in_frame : (side : Side) (size : ℕ) (rect : Rect) → InFrame rect → size ≤ along side rect → InFrame (second_part side size rect)
-second_in_frame Right size rect h w = (omega arith, h.1)
-second_in_frame Below size rect h w = (h.0, omega arith)
+-- each part of a split rectangle that has room has fewer windows, has room, and lies in the frame
+abbrev pub Lies : Windows → Rect → ℕ → Type 0
+Lies windows part n = (length (leaves windows) < n) × (HasRoom windows part × InFrame part)
 
--- a part of a split rectangle that has room has fewer windows, has room, and lies in the frame
-pub first_lies : (side : Side) (size : ℕ) (first second : Windows) (rect part : Rect) (n : ℕ) → part ≡ first_part side size rect → HasRoom (Split side size first second) rect → InFrame rect
-    → length (leaves first ++ leaves second) ≡ n → (length (leaves first) < n) × (HasRoom first part × InFrame part)
-first_lies side size first second rect part n is room inside count =
-    (fewer_first first second n count, rw is (room.0, first_in_frame side size rect inside (room_within side size first second rect room)))
-
-pub second_lies : (side : Side) (size : ℕ) (first second : Windows) (rect part : Rect) (n : ℕ) → part ≡ second_part side size rect → HasRoom (Split side size first second) rect → InFrame rect
-    → length (leaves first ++ leaves second) ≡ n → (length (leaves second) < n) × (HasRoom second part × InFrame part)
-second_lies side size first second rect part n is room inside count =
-    (fewer_second first second n count, rw is (room.1, second_in_frame side size rect inside (room_within side size first second rect room)))
+pub parts_lie : {windows : Windows} {side : Side} {size : ℕ} {first second : Windows} {n : ℕ} (rect : Rect) → windows ≡ Split side size first second
+    → HasRoom windows rect → InFrame rect → length (leaves windows) ≡ n → Lies first (first_part side size rect) n × Lies second (second_part side size rect) n
+parts_lie {windows} {side} {size} {first} {second} {n} rect is room inside count =
+    let h = rw is at room in
+    let fewer = parts-fewer first second n (rw is at count) in
+    let framed = parts-in_frame side size rect inside (room_within side size first second rect h) in
+    ((fewer.0, (h.0, framed.0)), (fewer.1, (h.1, framed.1)))
 
 -- what each part of a split rectangle that has room needs is met in the whole rectangle
-pub second_needs : (side : Side) (size : ℕ) (first second : Windows) (rect : Rect) → HasRoom (Split side size first second) rect → NeedsMet second rect
-second_needs Right size first second rect h = let b = room_needs second (second_part Right size rect) h.1 in (omega arith, b.1)
-second_needs Below size first second rect h = let b = room_needs second (second_part Below size rect) h.1 in (b.0, omega arith)
-
-pub first_needs : (side : Side) (size : ℕ) (first second : Windows) (rect : Rect) → HasRoom (Split side size first second) rect → NeedsMet first rect
-first_needs Right size first second rect h =
+parts-needs : (side : Side) (size : ℕ) (first second : Windows) (rect : Rect) → HasRoom (Split side size first second) rect → NeedsMet first rect × NeedsMet second rect
+parts-needs Right size first second rect h =
     let a = room_needs first (first_part Right size rect) h.0 in
+    let b = room_needs second (second_part Right size rect) h.1 in
     let w = room_within Right size first second rect h in
-    (omega arith, a.1)
-first_needs Below size first second rect h =
+    ((omega arith, a.1), (omega arith, b.1))
+parts-needs Below size first second rect h =
     let a = room_needs first (first_part Below size rect) h.0 in
+    let b = room_needs second (second_part Below size rect) h.1 in
     let w = room_within Below size first second rect h in
-    (a.0, omega arith)
+    ((a.0, omega arith), (b.0, omega arith))
 
 -- where a rectangle is shared anew, both parts have what they need, and lie in it
 pub shared : (side : Side) (size : ℕ) (first second : Windows) (rect : Rect) → FirstPartsFit (Split side size first second) → NeedsMet (Split side size first second) rect → NeedsMet first (first_part side (first_size side size second rect) rect) × NeedsMet second (second_part side (first_size side size second rect) rect) × (first_size side size second rect ≤ along side rect)
 shared Right size first second rect p n = ((omega arith, omega arith), (omega arith, omega arith), omega arith)
 shared Below size first second rect p n = ((omega arith, omega arith), (omega arith, omega arith), omega arith)
 
-pub first_parts-first : (side : Side) (size : ℕ) (first second : Windows) → FirstPartsFit (Split side size first second) → FirstPartsFit first × FirstPartsFit second
-first_parts-first Right size first second p = (p.1, p.2)
-first_parts-first Below size first second p = (p.1, p.2)
+first_parts-split : (side : Side) (size : ℕ) (first second : Windows) → FirstPartsFit (Split side size first second) → FirstPartsFit first × FirstPartsFit second
+first_parts-split Right size first second p = (p.1, p.2)
+first_parts-split Below size first second p = (p.1, p.2)
+
+-- each part of a split rectangle that has room can share the whole rectangle
+pub parts_fill : {windows : Windows} {side : Side} {size : ℕ} {first second : Windows} (rect : Rect) → windows ≡ Split side size first second
+    → HasRoom windows rect → (FirstPartsFit first × NeedsMet first rect) × (FirstPartsFit second × NeedsMet second rect)
+parts_fill {windows} {side} {size} {first} {second} rect is room =
+    let h = rw is at room in
+    let fit = first_parts-split side size first second (room_first_parts (Split side size first second) rect h) in
+    let needs = parts-needs side size first second rect h in
+    ((fit.0, needs.0), (fit.1, needs.1))
 
 -- each part of a rectangle that is shared anew has fewer windows, has what it needs, and lies in the frame
-pub first_shares : (side : Side) (size : ℕ) (first second : Windows) (rect part : Rect) (new n : ℕ) → new ≡ first_size side size second rect → part ≡ first_part side new rect
-    → FirstPartsFit (Split side size first second) → NeedsMet (Split side size first second) rect → InFrame rect → length (leaves first ++ leaves second) ≡ n
-    → (length (leaves first) < n) × (FirstPartsFit first × (NeedsMet first part × InFrame part))
-first_shares side size first second rect part new n anew is parts needs inside count =
-    let both = shared side size first second rect parts needs in
-    (fewer_first first second n count, ((first_parts-first side size first second parts).0, rw (is, anew) (both.0, first_in_frame side (first_size side size second rect) rect inside both.2)))
+abbrev pub Shares : Windows → Rect → ℕ → Type 0
+Shares windows part n = (length (leaves windows) < n) × (FirstPartsFit windows × (NeedsMet windows part × InFrame part))
 
-pub second_shares : (side : Side) (size : ℕ) (first second : Windows) (rect part : Rect) (new n : ℕ) → new ≡ first_size side size second rect → part ≡ second_part side new rect
-    → FirstPartsFit (Split side size first second) → NeedsMet (Split side size first second) rect → InFrame rect → length (leaves first ++ leaves second) ≡ n
-    → (length (leaves second) < n) × (FirstPartsFit second × (NeedsMet second part × InFrame part))
-second_shares side size first second rect part new n anew is parts needs inside count =
-    let both = shared side size first second rect parts needs in
-    (fewer_second first second n count, ((first_parts-first side size first second parts).1, rw (is, anew) (both.1, second_in_frame side (first_size side size second rect) rect inside both.2)))
+pub parts_share : {windows : Windows} {side : Side} {size : ℕ} {first second : Windows} {n : ℕ} (rect : Rect) → windows ≡ Split side size first second
+    → FirstPartsFit windows → NeedsMet windows rect → InFrame rect → length (leaves windows) ≡ n
+    → let new = first_size side size second rect in Shares first (first_part side new rect) n × Shares second (second_part side new rect) n
+parts_share {windows} {side} {size} {first} {second} {n} rect is parts needs inside count =
+    let p = rw is at parts in
+    let both = shared side size first second rect p (rw is at needs) in
+    let fit = first_parts-split side size first second p in
+    let fewer = parts-fewer first second n (rw is at count) in
+    let framed = parts-in_frame side (first_size side size second rect) rect inside both.2 in
+    ((fewer.0, (fit.0, (both.0, framed.0))), (fewer.1, (fit.1, (both.1, framed.1))))
 
 -- windows that share a rectangle which meets their needs have room
 pub resized_room : (windows : Windows) (rect : Rect) → FirstPartsFit windows → NeedsMet windows rect → HasRoom (resized windows rect) rect
 resized_room (Window number mode margins) rect p n = n
 resized_room (Split side size first second) rect p n =
     let s = shared side size first second rect p n in
-    let q = first_parts-first side size first second p in
+    let q = first_parts-split side size first second p in
     let new = first_size side size second rect in
     (resized_room first (first_part side new rect) q.0 s.0, resized_room second (second_part side new rect) q.1 s.1)
 

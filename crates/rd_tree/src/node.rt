@@ -272,8 +272,7 @@ impl Node {
 
     /// Gives way to one of its parts, which takes the whole rectangle.
     fn give_way(&mut self, rest: Node, rect: Rect)
-        requires parts { FirstPartsFit (shape rest) }
-        requires needs { NeedsMet (shape rest) rect }
+        requires fills { FirstPartsFit (shape rest) × NeedsMet (shape rest) rect }
         requires inside { InFrame rect }
         ensures { shape self.new ≡ resized (shape rest) rect }
     {

@@ -1,24 +1,18 @@
-use Rattle.std.proofs.Common.{sym, ◌∙◌}
+use Rattle.std.proofs.Common.{sym, ap, ◌∙◌}
 use Rattle.rd_tree.specs.Shapes.{shape}
-use Rattle.rd_tree.proofs.Rooms.{room_within, first_lies, second_lies, first_found, second_found}
+use Rattle.rd_tree.proofs.Rooms.{room_within, parts_lie, first_found, second_found}
 use Rattle.rd_tree.proofs.node.Node.+find.Goals as goal
 
 pub find-requires : goal.find-requires
 find-requires t c =
-    let s = c.in-Split in
-    rw c.deref.ensures
-    (first_lies s.side s.size (shape s.first.value) (shape s.second.value) c.args.rect c.first_part.result t c.first_part.ensures (rw c.in-Split.is at c.requires.room) c.requires.inside (rw c.in-Split.is at c.decreases))
+    rw (c.deref.ensures, c.first_part.ensures) (parts_lie c.args.rect (ap shape c.in-Split.is) c.requires.room c.requires.inside c.decreases).0
 
 pub second_part-requires-clause-within : goal.second_part-requires-clause-within
-second_part-requires-clause-within t c =
-    let s = c.in-Split in
-    room_within s.side s.size (shape s.first.value) (shape s.second.value) c.args.rect (rw c.in-Split.is at c.requires.room)
+second_part-requires-clause-within t c = room_within _ _ _ _ c.args.rect (rw c.in-Split.is at c.requires.room)
 
 pub find-requires-in-None : goal.find-requires-in-None
 find-requires-in-None t c =
-    let s = c.in-Split in
-    rw c.deref-in-None.ensures
-    (second_lies s.side s.size (shape s.first.value) (shape s.second.value) c.args.rect c.second_part.result t c.second_part.ensures (rw c.in-Split.is at c.requires.room) c.requires.inside (rw c.in-Split.is at c.decreases))
+    rw (c.deref-in-None.ensures, c.second_part.ensures) (parts_lie c.args.rect (ap shape c.in-Split.is) c.requires.room c.requires.inside c.decreases).1
 
 pub returns-in-None : goal.returns-in-None
 returns-in-None t c =

@@ -1,15 +1,14 @@
+use Rattle.std.proofs.Common.{ap}
 use Rattle.rd_tree.specs.Shapes.{shape}
-use Rattle.rd_tree.proofs.Rooms.{first_shares, second_shares}
+use Rattle.rd_tree.proofs.Rooms.{parts_share}
 use Rattle.rd_tree.proofs.node.Node.+resize.Goals as goal
 
 pub resize-requires : goal.resize-requires
 resize-requires t c =
-    let s = c.in-Split in
-    rw c.deref_mut.ensures.value
-    (first_shares s.side s.size (shape s.first.value) (shape s.second.value) c.args.rect c.first_part.result c.first_size.result t (rw c.deref.ensures at c.first_size.ensures) c.first_part.ensures (rw c.in-Split.is at c.requires.parts) (rw c.in-Split.is at c.requires.needs) c.requires.inside (rw c.in-Split.is at c.decreases))
+    rw (c.deref_mut.ensures.value, c.first_part.ensures, c.first_size.ensures, c.deref.ensures)
+    (parts_share c.args.rect (ap shape c.in-Split.is) c.requires.parts c.requires.needs c.requires.inside c.decreases).0
 
 pub resize-requires-in-Split : goal.resize-requires-in-Split
 resize-requires-in-Split t c =
-    let s = c.in-Split in
-    rw c.deref_mut-in-Split.ensures.value
-    (second_shares s.side s.size (shape s.first.value) (shape s.second.value) c.args.rect c.second_part.result c.first_size.result t (rw c.deref.ensures at c.first_size.ensures) c.second_part.ensures (rw c.in-Split.is at c.requires.parts) (rw c.in-Split.is at c.requires.needs) c.requires.inside (rw c.in-Split.is at c.decreases))
+    rw (c.deref_mut-in-Split.ensures.value, c.second_part.ensures, c.first_size.ensures, c.deref.ensures)
+    (parts_share c.args.rect (ap shape c.in-Split.is) c.requires.parts c.requires.needs c.requires.inside c.decreases).1
