@@ -32,21 +32,21 @@ moved-back {X} f old now new i x y p at same back gives is =
     let q : i - 1 < i = omega arith in
     ap (drop (i - 1)) (is ∙ ap (set now (i - 1)) gives) ∙ back-at f old now (i - 1) i x e at (sym (same (i - 1) q) ∙ at) back
 
--- those from a place on have changed, and those before it stand as they stood
-pub record IsMoved {X : Type 0} (f : X → X) (old now : List X) (i : ℕ) : Type 0 where
+-- those from a place on have changed as calls answered, and those before it stand as they stood
+pub record IsMoved {X : Type 0} (answers : X → X → Type 0) (old now : List X) (i : ℕ) : Type 0 where
   pub within : i ≤ length now
   pub size : length now ≡ length old
   pub front : (k : ℕ) → k < i → slice_get now k ≡ slice_get old k
-  pub back : drop i now ≡ map f (drop i old)
+  pub back : (f : X → X) → ((x y : X) → answers x y → y ≡ f x) → drop i now ≡ map f (drop i old)
 
-pub one-moved : {X : Type 0} (f : X → X) (old now new : List X) (i : ℕ) (x y : X) → 0 < i → slice_get now (i - 1) ≡ Some x → y ≡ f x → new ≡ set now (i - 1) y
-    → IsMoved f old now i → IsMoved f old new (i - 1)
-one-moved f old now new i x y p at gives is so-far =
+pub one-moved : {X : Type 0} (answers : X → X → Type 0) (old now new : List X) (i : ℕ) (x y : X) → 0 < i → slice_get now (i - 1) ≡ Some x → answers x y
+    → new ≡ set now (i - 1) y → IsMoved answers old now i → IsMoved answers old new (i - 1)
+one-moved answers old now new i x y p at answered is so-far =
     let kept : length new ≡ length now = ap length is ∙ length-set now (i - 1) y in
     let within = so-far.within in
     record {
       within = omega (arith, kept);
       size = kept ∙ so-far.size;
       front = λ k q. moved-front old now new i k y so-far.front is q;
-      back = moved-back f old now new i x y p at so-far.front so-far.back gives is;
+      back = λ f told. moved-back f old now new i x y p at so-far.front (so-far.back f told) (told x y answered) is;
     }

@@ -1,6 +1,6 @@
 //! All overlays, and all bounds, as they move with the text.
-ghost use Rattle.std.specs.Prelude.{◌≡◌, Some, map};
-ghost use Rattle.rd_overlays.specs.Moves.{overlay_moved, slot_moved, bounds_moved, IsEdit, SlotFollows, AllFollow};
+ghost use Rattle.std.specs.Prelude.{◌≡◌, ℕ, Some, map, slice_get};
+ghost use Rattle.rd_overlays.specs.Moves.{overlay_moved, slot_moved, bounds_moved, IsEdit, SlotFollows};
 
 use crate::bounds::{Bounds, bounds_grown, bounds_shrunk};
 use crate::overlay::{Overlay, grown, shrunk};
@@ -28,7 +28,7 @@ fn overlay_moved(edit: Edit, overlay: Overlay) -> Overlay
 }
 
 /// What stands at a number after an edit.
-fn slot_moved(edit: Edit, slot: Option<Overlay>) -> Option<Overlay>
+pub(crate) fn slot_moved(edit: Edit, slot: Option<Overlay>) -> Option<Overlay>
     requires edit { IsEdit edit }
     requires follows { SlotFollows edit slot }
     ensures { result ≡ slot_moved edit slot }
@@ -40,7 +40,7 @@ fn slot_moved(edit: Edit, slot: Option<Overlay>) -> Option<Overlay>
 }
 
 /// Bounds after an edit.
-fn bounds_moved(edit: Edit, bounds: Bounds) -> Bounds
+pub(crate) fn bounds_moved(edit: Edit, bounds: Bounds) -> Bounds
     requires { IsEdit edit }
     ensures { result ≡ bounds_moved edit bounds }
 {
@@ -50,29 +50,15 @@ fn bounds_moved(edit: Edit, bounds: Bounds) -> Bounds
     }
 }
 
-/// Moves all overlays with an edit.
-pub(crate) fn move_slots(slots: &mut ListOf<Option<Overlay>>, edit: Edit)
-    requires edit { IsEdit edit }
-    requires follow { AllFollow edit slots.old }
-    ensures { slots.new ≡ map (slot_moved edit) slots.old }
+/// Puts in place of each element of a list what is made of it.
+pub(crate) fn change_each<T: Copy, F: Fn(T) -> T>(list: &mut ListOf<T>, change: F)
+    requires { (k : ℕ) (x : T) → slice_get list.old k ≡ Some x → F.pre change x }
+    ensures { (changed : T → T) → ((x y : T) → F.post change x y → y ≡ changed x) → list.new ≡ map changed list.old }
 {
-    let mut i = slots.len();
+    let mut i = list.len();
     while 0 < i {
         i -= 1;
-        let slot = slots.at(i);
-        slots.set(i, slot_moved(edit, slot));
-    }
-}
-
-/// Moves all bounds with an edit.
-pub(crate) fn move_bounds(bounds: &mut ListOf<Bounds>, edit: Edit)
-    requires { IsEdit edit }
-    ensures { bounds.new ≡ map (bounds_moved edit) bounds.old }
-{
-    let mut i = bounds.len();
-    while 0 < i {
-        i -= 1;
-        let each = bounds.at(i);
-        bounds.set(i, bounds_moved(edit, each));
+        let each = list.at(i);
+        list.set(i, change(each));
     }
 }

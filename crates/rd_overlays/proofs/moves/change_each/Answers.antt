@@ -1,0 +1,8 @@
+use Rattle.rd_overlays.proofs.Moving.{one-moved}
+use Rattle.rd_overlays.proofs.moves.change_each.Goals as goal
+
+pub loop-i-preserved : goal.loop-i-preserved
+loop-i-preserved g c = record {
+  moved = one-moved _ c.args.list.now c.loop-i.list c.set.new.self c.loop-i.i c.at-each.result c.change.result c.loop-i-test.true
+      c.at-each.ensures c.change.ensures c.set.ensures c.loop-i.invariant.moved;
+}

@@ -1,9 +1,0 @@
-use Rattle.rd_overlays.specs.Moves.{slot_moved}
-use Rattle.rd_overlays.proofs.Moving.{IsMoved}
-use Rattle.rd_overlays.proofs.moves.move_slots.Given as goal
-
-abbrev pub invariant-loop-i : goal.invariant-loop-i
-invariant-loop-i l = record { moved : IsMoved (slot_moved l.edit) l.initial.slots l.slots l.i }
-
-abbrev pub decreases-loop-i : goal.decreases-loop-i
-decreases-loop-i l = l.i
