@@ -1,5 +1,6 @@
 -- What the data files stand for, and the first of their faults.
-use Rattle.std.specs.Prelude.{◌≡◌, ◌<◌, ◌≤◌, ℕ, ◌⊎◌, Vec, List, [], length, nat_lt, if◌then◌else◌, Option, None, Some, IfSome, Result, Ok, Err}
+use Rattle.std.specs.Prelude.{◌≡◌, ◌<◌, ◌≤◌, ◌^◌, ℕ, ◌⊎◌, Vec, List, [], length, nat_lt, if◌then◌else◌, Option, None, Some, IfSome, Result, Ok, Err}
+use Rattle.std.specs.Borrow.{Bor}
 use Rattle.std.specs.Global.{Global}
 use Rattle.rd_base.specs.declared.limits.TheConstants.{FILE_BYTES}
 use Rattle.rd_io.specs.Devices.{Rose}
@@ -12,6 +13,7 @@ use Rattle.rd_ucd.specs.ClassFile.{classes_of}
 use Rattle.rd_ucd.specs.MirrorFile.{mirrors_of}
 use Rattle.rd_ucd.specs.BracketFile.{brackets_of}
 use Rattle.rd_ucd.specs.Data.{Data}
+use Rattle.rd_ucd.specs.Results.{Answers}
 use Rattle.rd_files.specs.declared.fault.BadFile.{BadFile}
 use Rattle.rd_files.specs.declared.fault.DataFile.{DataFile}
 use Rattle.rd_files.specs.declared.fault.DataFile.TheVariants.{ClassFile, MirrorFile, BracketFile}
@@ -91,6 +93,14 @@ ReadsBytes file told Failed (Err Memory) = Unit {0}
 abbrev pub fault_of : DataFile → UcdFault → DataFault
 fault_of file ucd.Memory = Memory
 fault_of file fault = Bad (bad file fault)
+
+-- what is answered of bytes that are lent is what their form says of them
+abbrev pub Judges : {T : Type 0} → (List ℕ → Result T UcdFault) → (Bor (List ℕ) → Result T UcdFault → Type 0) → Type 0
+Judges {T} form answers = (bytes : Bor (List ℕ)) (answer : Result T UcdFault) → answers bytes answer → Answers answer (form bytes.now)
+
+-- the number of a bad line of a file is below 2 ^ 32
+abbrev pub LinesFit : {T : Type 0} → (Bor (List ℕ) → Result T UcdFault → Type 0) → Type 0
+LinesFit answers = (bytes : Bor (List ℕ)) (fault : UcdFault) → length bytes.now ≤ FILE_BYTES → answers bytes (Err fault) → line_of fault < 2 ^ 32
 
 -- the bytes of the bracket file, where they are known: without one they are those of an empty file
 abbrev pub told_or_empty : (List ℕ → Option (List ℕ)) → Option (List ℕ) → Option (List ℕ)

@@ -1,6 +1,7 @@
 //! The reading of the data files.
-ghost use Rattle.std.specs.Prelude.{◌≡◌, ◌≤◌, ◌<◌, ◌^◌, ℕ, List, option_map};
-ghost use Rattle.rd_files.specs.DataFiles.{FailedAt, FailedAtSome, ReadsBytes, ReadsData, ReadsFile, brackets_in, classes_in, fault_of, line_of, mirrors_in, told_or_empty};
+ghost use Rattle.std.specs.Prelude.{◌≡◌, ◌≤◌, ◌<◌, ◌^◌, ℕ, List, Result, option_map};
+ghost use Rattle.rd_ucd.specs.declared.fault.UcdFault.{UcdFault};
+ghost use Rattle.rd_files.specs.DataFiles.{FailedAt, FailedAtSome, Judges, LinesFit, ReadsBytes, ReadsData, ReadsFile, brackets_in, fault_of, judged, line_of, told_or_empty};
 
 use crate::fault::{BadFile, DataFault, DataFile, DataKind};
 use rd_io::{FileFault, Files, read_file};
@@ -36,49 +37,20 @@ pub fn read_data<F: Files>(
     ensures contents { (file : List ℕ) → F.contents files.new file ≡ F.contents files.old file }
     ensures never_falls { (file : List ℕ) → F.faults files.old file ≤ F.faults files.new file }
 {
-    let classes = match read_classes(alloc, files, class_file) {
-        Ok(classes) => classes,
-        Err(fault) => return Err(fault),
-    };
-    let mirrors = match read_mirrors(alloc, files, mirror_file) {
-        Ok(mirrors) => mirrors,
-        Err(fault) => return Err(fault),
-    };
-    let brackets = match read_brackets(alloc, files, bracket_file) {
-        Ok(brackets) => brackets,
-        Err(fault) => return Err(fault),
-    };
+    let classes = read_judged(alloc, files, class_file, DataFile::ClassFile, Classes::read)?;
+    let mirrors = read_judged(
+        alloc,
+        files,
+        mirror_file,
+        DataFile::MirrorFile,
+        Mirrors::read,
+    )?;
+    let brackets = read_brackets(alloc, files, bracket_file)?;
     Ok(DataFiles {
         classes,
         mirrors,
         brackets,
     })
-}
-
-/// Reads and judges the class file.
-fn read_classes<F: Files>(alloc: Global, files: &mut F, name: &str) -> Result<Classes, DataFault>
-    ensures read { ReadsFile classes_in (F.contents files.old name.now) (FailedAt (F.faults files.old) (F.faults files.new) name.now) result }
-    ensures contents { (file : List ℕ) → F.contents files.new file ≡ F.contents files.old file }
-    ensures never_falls { (file : List ℕ) → F.faults files.old file ≤ F.faults files.new file }
-{
-    let bytes = read_bytes(alloc, files, name, DataFile::ClassFile)?;
-    match Classes::read(alloc, &bytes) {
-        Ok(classes) => Ok(classes),
-        Err(fault) => Err(fault_of(DataFile::ClassFile, fault)),
-    }
-}
-
-/// Reads and judges the mirror file.
-fn read_mirrors<F: Files>(alloc: Global, files: &mut F, name: &str) -> Result<Mirrors, DataFault>
-    ensures read { ReadsFile mirrors_in (F.contents files.old name.now) (FailedAt (F.faults files.old) (F.faults files.new) name.now) result }
-    ensures contents { (file : List ℕ) → F.contents files.new file ≡ F.contents files.old file }
-    ensures never_falls { (file : List ℕ) → F.faults files.old file ≤ F.faults files.new file }
-{
-    let bytes = read_bytes(alloc, files, name, DataFile::MirrorFile)?;
-    match Mirrors::read(alloc, &bytes) {
-        Ok(mirrors) => Ok(mirrors),
-        Err(fault) => Err(fault_of(DataFile::MirrorFile, fault)),
-    }
 }
 
 /// Reads and judges the bracket file, where there is one.
@@ -92,25 +64,29 @@ fn read_brackets<F: Files>(
     ensures never_falls { (file : List ℕ) → F.faults files.old file ≤ F.faults files.new file }
 {
     match name {
-        Some(name) => read_bracket_file(alloc, files, name),
+        Some(name) => read_judged(alloc, files, name, DataFile::BracketFile, Brackets::read),
         None => Ok(Brackets::none(alloc)),
     }
 }
 
-/// Reads and judges the bracket file of a name.
-fn read_bracket_file<F: Files>(
+/// Reads a file, and judges its bytes by their form.
+fn read_judged<F: Files, T: Drop, J: FnOnce(Global, &[u8]) -> Result<T, UcdFault>>(
     alloc: Global,
     files: &mut F,
     name: &str,
-) -> Result<Brackets, DataFault>
-    ensures read { ReadsFile brackets_in (F.contents files.old name.now) (FailedAt (F.faults files.old) (F.faults files.new) name.now) result }
+    file: DataFile,
+    judge: J,
+) -> Result<T, DataFault>
+    requires callable { J.IsAlwaysCallable judge }
+    requires lines { LinesFit (J.post judge alloc) }
+    ensures read { (form : List ℕ → Result T UcdFault) → Judges form (J.post judge alloc) → ReadsFile (judged file form) (F.contents files.old name.now) (FailedAt (F.faults files.old) (F.faults files.new) name.now) result }
     ensures contents { (file : List ℕ) → F.contents files.new file ≡ F.contents files.old file }
     ensures never_falls { (file : List ℕ) → F.faults files.old file ≤ F.faults files.new file }
 {
-    let bytes = read_bytes(alloc, files, name, DataFile::BracketFile)?;
-    match Brackets::read(alloc, &bytes) {
-        Ok(brackets) => Ok(brackets),
-        Err(fault) => Err(fault_of(DataFile::BracketFile, fault)),
+    let bytes = read_bytes(alloc, files, name, file)?;
+    match judge(alloc, &bytes) {
+        Ok(values) => Ok(values),
+        Err(fault) => Err(fault_of(file, fault)),
     }
 }
 
