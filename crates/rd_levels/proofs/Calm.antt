@@ -5,58 +5,35 @@ use Rattle.std.specs.Prelude.{if◌then◌else◌, unwrap_or}
 use Rattle.std.proofs.lemmas.List.{length-set}
 use Rattle.rd_base.proofs.Lists.{each-take, each-drop}
 use Rattle.rd_base.specs.declared.class.Class.{Class}
-use Rattle.rd_base.specs.declared.class.Class.TheVariants.{L, R, AL, EN, ES, ET, AN, CS, NSM, B, S, WS, ON, LRI, RLI, FSI, PDI}
+use Rattle.rd_base.specs.declared.class.Class.TheVariants.{L, R, AL, BN, EN, ES, ET, AN, CS, NSM, B, S, WS, ON, LRI, RLI, FSI, PDI}
 use Rattle.rd_ucd.specs.declared.spans.BracketEntry.{BracketEntry}
 use Rattle.rd_resolve.specs.Weak.{w1_nonspacing_marks, w1, strong_after, w2, w3_arabic_letters, w3, w4_separators, first_type, w4, is_en, w5_comes_en, w5_terminators, w5, w6_remaining_separators, w6, w7_latin_numbers, w7, weak_types}
 use Rattle.rd_resolve.specs.Neutral.{n1_following, n1_surrounding_direction, n1, n2, neutral_types}
 use Rattle.rd_brackets.specs.Pairs.{roles, bd16_pairs_of, closings}
 use Rattle.rd_brackets.specs.Sides as sides
+use Rattle.rd_levels.specs.Levels.{is_leveled}
 
--- what such a sequence begins with
+-- what such a sequence begins with: X9 took out what has no place in a sequence
 abbrev pub is_item : Class → Bool
-is_item L = true
-is_item EN = true
-is_item ES = true
-is_item ET = true
-is_item CS = true
-is_item NSM = true
-is_item B = true
-is_item S = true
-is_item WS = true
-is_item ON = true
-is_item c = false
+is_item BN = false
+is_item c = is_leveled c
 
 -- what it has after W1
 abbrev pub is_plain : Class → Bool
-is_plain L = true
-is_plain EN = true
-is_plain ES = true
-is_plain ET = true
-is_plain CS = true
-is_plain B = true
-is_plain S = true
-is_plain WS = true
-is_plain ON = true
-is_plain c = false
+is_plain NSM = false
+is_plain c = is_item c
 
 -- after W6
 abbrev pub is_few : Class → Bool
-is_few L = true
-is_few EN = true
-is_few B = true
-is_few S = true
-is_few WS = true
-is_few ON = true
-is_few c = false
+is_few ES = false
+is_few ET = false
+is_few CS = false
+is_few c = is_plain c
 
 -- and after W7
 abbrev pub is_calm : Class → Bool
-is_calm L = true
-is_calm B = true
-is_calm S = true
-is_calm WS = true
-is_calm ON = true
-is_calm c = false
+is_calm EN = false
+is_calm c = is_few c
 
 abbrev pub IsItem : Class → Type 0
 IsItem c = is_item c ≡ true

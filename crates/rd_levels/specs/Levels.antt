@@ -1,5 +1,5 @@
 -- The embedding levels of a line (UAX 9, rules X1 to L1 in turn).
-use Rattle.std.specs.Prelude.{ℕ, Bool, true, false, ◌&&◌, List, [], ◌∷◌}
+use Rattle.std.specs.Prelude.{◌≡◌, ℕ, ◌<◌, ◌≤◌, ◌^◌, Bool, true, false, ◌&&◌, List, [], ◌∷◌, length}
 use Rattle.rd_base.specs.declared.class.Class.{Class}
 use Rattle.rd_base.specs.declared.class.Class.TheVariants.{L, EN, ES, ET, CS, NSM, BN, B, S, WS, ON}
 use Rattle.rd_base.specs.declared.line.Seq.{Seq}
@@ -37,6 +37,12 @@ levels_from entries base cs codes ts levels =
 -- the level of each character of a line with a base level, by the brackets and the classes and codes of the characters
 abbrev pub line_levels : List BracketEntry → ℕ → List Class → List ℕ → List ℕ
 line_levels entries base cs codes = levels_from entries base cs codes (types_of (explicit_of base cs)) (levels_of (explicit_of base cs))
+
+-- the classes and codes of a line and its base level: fewer than 2^32 characters, a code for each, and a base of 0 or 1
+pub record IsLine (classes : List Class) (characters : List ℕ) (level : ℕ) : Type 0 where
+  pub short : length classes < 2 ^ 32
+  pub codes : length characters ≡ length classes
+  pub base : level ≤ 1
 
 -- whether a class can't bring about a level above the base 0: it is no letter or number that is read from the right, and opens and closes
 -- no embedding, override or isolate

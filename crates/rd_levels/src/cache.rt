@@ -1,6 +1,6 @@
 //! The levels of the last line that was filled.
-ghost use Rattle.std.specs.Prelude.{◌≡◌, ◌<◌, ◌≤◌, ◌^◌, [], length, slice_get, Some, IfOk, OnOk, OnErr};
-ghost use Rattle.rd_levels.specs.Levels.{line_levels};
+ghost use Rattle.std.specs.Prelude.{◌≡◌, ◌<◌, [], length, slice_get, Some, IfOk, OnOk, OnErr};
+ghost use Rattle.rd_levels.specs.Levels.{IsLine, line_levels};
 
 use crate::fill::fill_line;
 use rd_base::{Class, Line, Memory};
@@ -52,13 +52,11 @@ impl LevelCache {
         brackets: &Brackets,
         base: u8,
     ) -> Result<(), Memory>
-        requires short { length classes.now < 2 ^ 32 }
-        requires codes { length codes.now ≡ length classes.now }
-        requires base { base ≤ 1 }
+        requires { IsLine classes.now codes.now base }
         ensures ok { OnOk result (self.new ≡ line_levels brackets.now base classes.now codes.now) }
         ensures err { OnErr result (self.new ≡ self.old) }
     {
-        fill_line(self.alloc, &mut self.spare, classes, codes, brackets, base)?;
+        fill_line(self.alloc, &mut self.spare, brackets, base, classes, codes)?;
         mem::swap(&mut self.shown, &mut self.spare);
         Ok(())
     }

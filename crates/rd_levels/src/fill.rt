@@ -1,7 +1,7 @@
 //! The rules of UAX 9 over a line, in turn: X1 to X10, W1 to W7, N0 to N2, I1, I2 and L1.
-ghost use Rattle.std.specs.Prelude.{◌≡◌, ◌<◌, ◌≤◌, ◌^◌, length, All, AllPairs, OnOk};
+ghost use Rattle.std.specs.Prelude.{◌≡◌, ◌<◌, length, All, AllPairs, OnOk};
 ghost use Rattle.rd_base.specs.Lines.{KeepsClasses};
-ghost use Rattle.rd_levels.specs.Levels.{x10_resolved, line_levels, is_leveled, are_leveled};
+ghost use Rattle.rd_levels.specs.Levels.{IsLine, x10_resolved, line_levels, is_leveled, are_leveled};
 
 use rd_base::{Class, Line, ListOf, Memory, Seq};
 use rd_brackets::pair;
@@ -14,14 +14,12 @@ use std::alloc::Global;
 pub fn fill_line(
     alloc: Global,
     line: &mut Line,
-    classes: &[Class],
-    codes: &[u32],
     brackets: &Brackets,
     base: u8,
+    classes: &[Class],
+    codes: &[u32],
 ) -> Result<(), Memory>
-    requires short { length classes.now < 2 ^ 32 }
-    requires codes { length codes.now ≡ length classes.now }
-    requires base { base ≤ 1 }
+    requires { IsLine classes.now codes.now base }
     ensures { OnOk result (line.new.levels ≡ line_levels brackets.now base classes.now codes.now) }
 {
     line.refill(classes, base)?;

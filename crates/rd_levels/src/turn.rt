@@ -1,5 +1,6 @@
 //! The order in which the places of a line are shown.
-ghost use Rattle.std.specs.Prelude.{◌≡◌, ◌<◌, ◌≤◌, ◌^◌, length, IfOk};
+ghost use Rattle.std.specs.Prelude.{◌≡◌, ◌≤◌, IfOk};
+ghost use Rattle.rd_levels.specs.Levels.{IsLine};
 ghost use Rattle.rd_levels.specs.Turns.{turns_by, turns_of};
 
 use crate::cache::LevelCache;
@@ -26,9 +27,7 @@ pub fn turns_of(
     codes: &[u32],
     brackets: &Brackets,
 ) -> Result<ListOf<Turn>, Memory>
-    requires short { length classes.now < 2 ^ 32 }
-    requires codes { length codes.now ≡ length classes.now }
-    requires base { base ≤ 1 }
+    requires { IsLine classes.now codes.now base }
     ensures { IfOk result (λ turns. turns ≡ turns_of brackets.now reorder base classes.now codes.now) }
 {
     if reorder {

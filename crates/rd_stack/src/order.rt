@@ -52,7 +52,7 @@ impl Order {
     {
         let state = view.state;
         let settings = &state.settings;
-        let cache = levels_with(alloc, settings.reorder, base, classes, codes, view.brackets)?;
+        let cache = levels_with(alloc, view.brackets, settings.reorder, base, classes, codes)?;
         let walk = Visual::start(cache.levels(), base);
         Ok(Order { cache, walk })
     }
@@ -74,11 +74,11 @@ impl Order {
 /// The levels of a line of these classes and codes: 0 where `reorder` is off.
 fn levels_with(
     alloc: Global,
+    brackets: &Brackets,
     reorder: bool,
     base: u8,
     classes: &[Class],
     codes: &[u32],
-    brackets: &Brackets,
 ) -> Result<LevelCache, Memory>
     requires base { base ≤ 1 }
     requires codes { length codes.now ≡ length classes.now }
