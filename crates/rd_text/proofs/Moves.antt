@@ -19,37 +19,45 @@ stays old new k size within same =
     ap summary (sym (range_same new old (k * 1024) (k * 1024 + 1024) (k * 1024) (k * 1024 + 1024) (omega arith) (omega arith) (omega arith) (omega arith) within
     (λ i less. same (k * 1024 + i) (omega arith) (omega arith))))
 
+-- codes of which some were copied to another place
+pub record IsCopied (old new : List ℕ) (src dest n : ℕ) : Type 0 where
+  pub size : length new ≡ length old
+  pub copied : CopiedTo old new src dest n
+  pub below : SameBelow old new dest
+  pub from : SameFrom old new (dest + n)
+
 -- codes that were copied are codes
-copied_codes : (old new : List ℕ) (src dest n : ℕ) → CopiedTo old new src dest n → SameBelow old new dest → SameFrom old new (dest + n)
+copied_codes : (old new : List ℕ) (src dest n : ℕ) → IsCopied old new src dest n
     → ((k : ℕ) → IsTrue (is_code (get_or old k 0))) → (k : ℕ) → IsTrue (is_code (get_or new k 0))
-copied_codes old new src dest n copied below from codes k =
+copied_codes old new src dest n is codes k =
     let C : ℕ → Type 0 = λ x. IsTrue (is_code x) in
     elim (cases_lt k dest) [
-      | inl less ↦ subst C (sym (below k 0 less)) (codes k)
+      | inl less ↦ subst C (sym (is.below k 0 less)) (codes k)
       | inr more ↦ elim (cases_lt k (dest + n)) [
-        | inl inside ↦ subst C (sym (copied k 0 more inside)) (codes (src + (k - dest)))
-        | inr past ↦ subst C (sym (from k 0 past)) (codes k)
+        | inl inside ↦ subst C (sym (is.copied k 0 more inside)) (codes (src + (k - dest)))
+        | inr past ↦ subst C (sym (is.from k 0 past)) (codes k)
       ]
     ]
 
 -- to the left: what stood between goes behind the gap
-module _ (old new : List ℕ) (olds news : List Stretch) (front back at first last : ℕ) (right : IsGapped old olds front back) (place : at < front) (size : length new ≡ length old)
-    (copied : CopiedTo old new at (back - (front - at)) (front - at)) (below : SameBelow old new (back - (front - at))) (from : SameFrom old new (back - (front - at) + (front - at))) where
+module _ (old new : List ℕ) (olds news : List Stretch) (front back at first last : ℕ) (right : IsGapped old olds front back) (place : at < front)
+    (is : IsCopied old new at (back - (front - at)) (front - at)) where
   pub left_text : take at new ++ drop (back - (front - at)) new ≡ take front old ++ drop back old
   left_text =
       let order = right.order in
       let within = right.within in
+      let size = is.size in
       let dest : ℕ = back - (front - at) in
       let ln = length-gap new at dest (omega arith) (omega arith) in
       let lo = length-gap old front back order within in
       ext_get_or 0 (take at new ++ drop dest new) (take front old ++ drop back old) (omega arith)
       (λ k less. elim (cases_lt k at) [
-        | inl near ↦ gap_front new at dest (omega arith) (omega arith) k 0 near ∙ below k 0 (omega arith) ∙ sym (gap_front old front back order within k 0 (omega arith))
+        | inl near ↦ gap_front new at dest (omega arith) (omega arith) k 0 near ∙ is.below k 0 (omega arith) ∙ sym (gap_front old front back order within k 0 (omega arith))
         | inr far ↦ gap_back new at dest (omega arith) (omega arith) k 0 far ∙ elim (cases_lt k front) [
-          | inl inside ↦ copied (dest + (k - at)) 0 (omega arith) (omega arith)
+          | inl inside ↦ is.copied (dest + (k - at)) 0 (omega arith) (omega arith)
               ∙ (let e : at + (dest + (k - at) - dest) ≡ k = omega arith in ap (λ (n : ℕ). get_or old n 0) e)
               ∙ sym (gap_front old front back order within k 0 inside)
-          | inr past ↦ from (dest + (k - at)) 0 (omega arith)
+          | inr past ↦ is.from (dest + (k - at)) 0 (omega arith)
               ∙ (let e : dest + (k - at) ≡ back + (k - front) = omega arith in ap (λ (n : ℕ). get_or old n 0) e)
               ∙ sym (gap_back old front back order within k 0 past)
         ]
@@ -61,6 +69,7 @@ module _ (old new : List ℕ) (olds news : List Stretch) (front back at first la
   left_right again low high reach past =
       let order = right.order in
       let within = right.within in
+      let size = is.size in
       let short = right.short in
       let covered = right.covered in
       let many = again.size in
@@ -69,13 +78,13 @@ module _ (old new : List ℕ) (olds news : List Stretch) (front back at first la
         within = omega arith;
         short = omega arith;
         covered = omega arith;
-        are_codes = copied_codes old new at (back - (front - at)) (front - at) copied below from right.are_codes;
+        are_codes = copied_codes old new at (back - (front - at)) (front - at) is right.are_codes;
         before = λ k d l h. again.below k d (omega arith) ∙ right.before k d l (omega arith)
-            ∙ stays old new k size (omega arith) (λ i low' high'. below i 0 (omega arith));
+            ∙ stays old new k size (omega arith) (λ i low' high'. is.below i 0 (omega arith));
         behind = λ k d l h. elim (cases_lt (k * 1024) back) [
           | inl near ↦ again.counted k d (omega arith) (reach k near (omega arith))
           | inr far ↦ again.above k d (past k far) ∙ right.behind k d far (omega arith)
-              ∙ stays old new k size (omega arith) (λ i low' high'. from i 0 (omega arith))
+              ∙ stays old new k size (omega arith) (λ i low' high'. is.from i 0 (omega arith))
         ];
       }
 
@@ -104,21 +113,22 @@ gapped-on old new olds news front back at behind first last right on off order w
 
 -- to the right: what stood between goes before the gap
 module _ (old new : List ℕ) (olds news : List Stretch) (front back at first last : ℕ) (right : IsGapped old olds front back) (place : front ≤ at) (room : at ≤ front + (length old - back))
-    (size : length new ≡ length old) (copied : CopiedTo old new back front (at - front)) (below : SameBelow old new front) (from : SameFrom old new (front + (at - front))) where
+    (is : IsCopied old new back front (at - front)) where
   pub right_text : take at new ++ drop (back + (at - front)) new ≡ take front old ++ drop back old
   right_text =
       let order = right.order in
       let within = right.within in
+      let size = is.size in
       let dest : ℕ = back + (at - front) in
       let ln = length-gap new at dest (omega arith) (omega arith) in
       let lo = length-gap old front back order within in
       ext_get_or 0 (take at new ++ drop dest new) (take front old ++ drop back old) (omega arith)
       (λ k less. elim (cases_lt k at) [
         | inl near ↦ gap_front new at dest (omega arith) (omega arith) k 0 near ∙ elim (cases_lt k front) [
-          | inl inside ↦ below k 0 inside ∙ sym (gap_front old front back order within k 0 inside)
-          | inr past ↦ copied k 0 past (omega arith) ∙ sym (gap_back old front back order within k 0 past)
+          | inl inside ↦ is.below k 0 inside ∙ sym (gap_front old front back order within k 0 inside)
+          | inr past ↦ is.copied k 0 past (omega arith) ∙ sym (gap_back old front back order within k 0 past)
         ]
-        | inr far ↦ gap_back new at dest (omega arith) (omega arith) k 0 far ∙ from (dest + (k - at)) 0 (omega arith)
+        | inr far ↦ gap_back new at dest (omega arith) (omega arith) k 0 far ∙ is.from (dest + (k - at)) 0 (omega arith)
             ∙ (let e : dest + (k - at) ≡ back + (k - front) = omega arith in ap (λ (n : ℕ). get_or old n 0) e)
             ∙ sym (gap_back old front back order within k 0 (omega arith))
       ])
@@ -128,8 +138,9 @@ module _ (old new : List ℕ) (olds news : List Stretch) (front back at first la
   right_right again fl fh ll lh =
       let order = right.order in
       let within = right.within in
+      let size = is.size in
       gapped-on old new olds news front back at (back + (at - front)) first last right place (omega arith) (omega arith) (omega arith) size
-      (copied_codes old new back front (at - front) copied below from right.are_codes) (λ k less. below k 0 less) (λ k more. from k 0 (omega arith)) again fl fh ll lh
+      (copied_codes old new back front (at - front) is right.are_codes) (λ k less. is.below k 0 less) (λ k more. is.from k 0 (omega arith)) again fl fh ll lh
 
 -- a code is written
 pub code_written : (xs : List ℕ) (i x : ℕ) → i < length xs → IsTrue (is_code x) → ((k : ℕ) → IsTrue (is_code (get_or xs k 0))) → (k : ℕ) → IsTrue (is_code (get_or (set xs i x) k 0))

@@ -6,9 +6,9 @@ use Rattle.std.proofs.lemmas.List.{drop-take, drop-drop}
 use Rattle.std.proofs.lemmas.List.Edits.{get_or-between}
 use Rattle.rd_text.specs.Texts.{is_newline, is_blank}
 use Rattle.rd_text.specs.Stretches.{opens, closes, separated}
-use Rattle.rd_text.specs.Pieces.{IsLastPiece, IsOpening}
+use Rattle.rd_text.specs.Pieces.{IsOpening}
 use Rattle.rd_text.proofs.Summaries.{separated-append}
-use Rattle.rd_text.proofs.Ranges.{range_split}
+use Rattle.rd_text.proofs.Ranges.{IsLastPiece, range_split}
 
 -- it does stop where there is such a place
 pub some_opening : (codes : List ℕ) (opened : Bool) → (separated codes || (closes codes && opened)) ≡ true

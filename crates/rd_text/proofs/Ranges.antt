@@ -9,7 +9,7 @@ use Rattle.std.proofs.lemmas.List.Edits.{length-between, get_or-between}
 use Rattle.std.proofs.lemmas.List.Folds.{prefix_len-append}
 use Rattle.std.proofs.Common.{reverse}
 use Rattle.rd_base.proofs.Lists.{count-append}
-use Rattle.rd_text.specs.Pieces.{IsFirstPiece, IsLastPiece}
+use Rattle.rd_text.specs.Pieces.{IsPart}
 
 pub range_split : (xs : List ℕ) (from mid to : ℕ) → from ≤ mid → mid ≤ to → slice_range xs from to ≡ slice_range xs from mid ++ slice_range xs mid to
 range_split xs from mid to low high =
@@ -61,6 +61,27 @@ module _ (xs : List ℕ) (front back : ℕ) (order : front ≤ back) (within : b
       range_same (take front xs ++ drop back xs) xs from to (from + (back - front)) (to + (back - front)) order' (omega arith) (omega arith) (omega arith) (omega arith)
       (λ k less. gap_back (from + k) 0 (omega arith) ∙ (let e : back + (from + k - front) ≡ from + (back - front) + k = omega arith in ap (λ (n : ℕ). get_or xs n 0) e))
 
+-- a part that begins a range of the text, and one that ends it
+pub record IsFirstPiece (text : List ℕ) (from to : ℕ) (piece : List ℕ) : Type 0 where
+  pub fits : from + length piece ≤ to
+  pub same : piece ≡ slice_range text from (from + length piece)
+
+pub record IsLastPiece (text : List ℕ) (from to : ℕ) (piece : List ℕ) : Type 0 where
+  pub fits : from + length piece ≤ to
+  pub same : piece ≡ slice_range text (to - length piece) to
+
+-- the part around the first place of a range begins it, and the one around the last place ends it
+pub first_part : {text : List ℕ} {from to : ℕ} {piece : List ℕ} → IsPart text from from to piece → IsFirstPiece text from to piece
+first_part {text} {from} {to} {piece} is =
+    let begin : is.start ≡ from = omega (arith, is.first, is.before) in
+    record { fits = omega (arith, begin, is.last); same = is.same ∙ ap (λ (n : ℕ). slice_range text n (n + length piece)) begin }
+
+pub last_part : {text : List ℕ} {from to : ℕ} {piece : List ℕ} → IsPart text (to - 1) from to piece → IsLastPiece text from to piece
+last_part {text} {from} {to} {piece} is =
+    let end : is.start + length piece ≡ to = omega (arith, is.before, is.behind, is.last) in
+    let begin : is.start ≡ to - length piece = omega (arith, end) in
+    record { fits = omega (arith, end, is.first); same = is.same ∙ (ap (slice_range text is.start) end ∙ ap (λ (n : ℕ). slice_range text n to) begin) }
+
 -- a range as the part that begins it and what follows, and as the part that ends it behind the rest
 pub first_range : (xs : List ℕ) (from to : ℕ) (piece : List ℕ) → IsFirstPiece xs from to piece → slice_range xs from to ≡ piece ++ slice_range xs (from + length piece) to
 first_range xs from to piece is =
@@ -102,35 +123,35 @@ suffix_stops p xs from at piece n is count less =
     ap (suffix_len p) (last_range xs from at piece is) ∙ ap (prefix_len p) (reverse-append rest piece) ∙ prefix_len-append p (reverse piece) (reverse rest)
     ∙ cond-false _ _ _ (ne_eqb _ _ apart) ∙ sym count
 
-pub count_goes : (p : ℕ → Bool) (xs : List ℕ) (at to : ℕ) (piece : List ℕ) (n : ℕ) → IsFirstPiece xs at to piece → n ≡ length piece
+pub count_goes : (p : ℕ → Bool) (xs : List ℕ) (at to : ℕ) (piece : List ℕ) (n : ℕ) → IsPart xs at at to piece → n ≡ length piece
     → count_by p (slice_range xs at to) ≡ count_by p piece + count_by p (slice_range xs (at + n) to)
 count_goes p xs at to piece n is size =
-    rw size (ap (count_by p) (first_range xs at to piece is) ∙ count-append p piece (slice_range xs (at + length piece) to))
+    rw size (ap (count_by p) (first_range xs at to piece (first_part is)) ∙ count-append p piece (slice_range xs (at + length piece) to))
 
 -- a part that lies together at places before the gap, and behind it
-module _ (xs : List ℕ) (front back from to : ℕ) (piece : List ℕ) (order : front ≤ back) (within : back ≤ length xs)
+module _ (xs : List ℕ) (front back at from to : ℕ) (piece : List ℕ) (order : front ≤ back) (within : back ≤ length xs)
     (last : to ≤ length (take front xs ++ drop back xs)) where
-  pub first_front : (stop : ℕ) → stop ≤ to → stop ≤ front → IsFirstPiece xs from stop piece → IsFirstPiece (take front xs ++ drop back xs) from to piece
-  first_front stop inside before is =
-      let fits = is.fits in
-      record { some = is.some; fits = omega arith; same = is.same ∙ sym (range_front xs front back order within from (from + length piece) (omega arith) (omega arith)) }
+  pub part_front : (stop : ℕ) → stop ≤ to → stop ≤ front → IsPart xs at from stop piece → IsPart (take front xs ++ drop back xs) at from to piece
+  part_front stop inside before is =
+      let end = is.last in
+      let part = range_front xs front back order within is.start (is.start + length piece) (omega arith) (omega arith) in
+      record { start = is.start; first = is.first; before = is.before; behind = is.behind; last = omega arith; same = is.same ∙ sym part }
 
-  pub first_back : front ≤ from → IsFirstPiece xs (from + (back - front)) (to + (back - front)) piece → IsFirstPiece (take front xs ++ drop back xs) from to piece
-  first_back behind is =
+  pub part_back : (begin : ℕ) → from ≤ begin → front ≤ begin → IsPart xs (at + (back - front)) (begin + (back - front)) (to + (back - front)) piece
+      → IsPart (take front xs ++ drop back xs) at from to piece
+  part_back begin inside behind is =
       let size = length-gap xs front back order within in
-      let fits = is.fits in
-      let place : from + (back - front) + length piece ≡ from + length piece + (back - front) = omega arith in
-      let part = range_back xs front back order within from (from + length piece) behind (omega arith) (omega arith) in
-      record { some = is.some; fits = omega arith; same = is.same ∙ ap (slice_range xs (from + (back - front))) place ∙ sym part }
-
-  pub last_front : to ≤ front → IsLastPiece xs from to piece → IsLastPiece (take front xs ++ drop back xs) from to piece
-  last_front before is =
-      record { some = is.some; fits = is.fits; same = is.same ∙ sym (range_front xs front back order within (to - length piece) to (omega arith) before) }
-
-  pub last_back : (start : ℕ) → from ≤ start → front ≤ start → IsLastPiece xs (start + (back - front)) (to + (back - front)) piece → IsLastPiece (take front xs ++ drop back xs) from to piece
-  last_back start inside behind is =
-      let size = length-gap xs front back order within in
-      let fits = is.fits in
-      let place : to + (back - front) - length piece ≡ to - length piece + (back - front) = omega arith in
-      let part = range_back xs front back order within (to - length piece) to (omega arith) (omega arith) (omega arith) in
-      record { some = is.some; fits = omega arith; same = is.same ∙ ap (λ (n : ℕ). slice_range xs n (to + (back - front))) place ∙ sym part }
+      let start : ℕ = is.start - (back - front) in
+      let low : start + (back - front) ≡ is.start = omega (arith, is.first) in
+      let high : start + length piece + (back - front) ≡ is.start + length piece = omega (arith, low) in
+      let first : begin ≤ start = omega (arith, is.first) in
+      let end : start + length piece ≤ to = omega (arith, high, is.last) in
+      let part = range_back xs front back order within start (start + length piece) (omega arith) (omega arith) (omega arith) in
+      record {
+        start = start;
+        first = omega arith;
+        before = omega (arith, low, is.before);
+        behind = omega (arith, low, is.behind);
+        last = end;
+        same = is.same ∙ sym (part ∙ (ap (λ (n : ℕ). slice_range xs n (start + length piece + (back - front))) low ∙ ap (slice_range xs is.start) high));
+      }

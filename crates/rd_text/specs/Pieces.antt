@@ -11,16 +11,14 @@ pub record IsPiece (codes : List ℕ) (known : Option Stretch) : Type 0 where
   pub known_right : IfSome known (λ s. s ≡ summary codes)
   pub short : length codes ≤ 1024
 
--- a part that begins a range of the text, and one that ends it
-pub record IsFirstPiece (text : List ℕ) (from to : ℕ) (piece : List ℕ) : Type 0 where
-  pub some : 0 < length piece
-  pub fits : from + length piece ≤ to
-  pub same : piece ≡ slice_range text from (from + length piece)
-
-pub record IsLastPiece (text : List ℕ) (from to : ℕ) (piece : List ℕ) : Type 0 where
-  pub some : 0 < length piece
-  pub fits : from + length piece ≤ to
-  pub same : piece ≡ slice_range text (to - length piece) to
+-- a part of the text around a place, within a range
+pub record IsPart (text : List ℕ) (at from to : ℕ) (piece : List ℕ) : Type 0 where
+  pub start : ℕ
+  pub first : from ≤ start
+  pub before : start ≤ at
+  pub behind : at < start + length piece
+  pub last : start + length piece ≤ to
+  pub same : piece ≡ slice_range text start (start + length piece)
 
 -- whether a character is what a search looks for
 abbrev pub is_sought : Sought → ℕ → Bool

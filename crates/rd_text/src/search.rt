@@ -3,7 +3,7 @@ ghost use Rattle.std.specs.Prelude.{◌≡◌, ◌+◌, ◌*◌, ◌/◌, ◌<�
 ghost use Rattle.std.specs.List.{count_by, position_or_len, suffix_len};
 ghost use Rattle.rd_text.specs.Texts.{is_newline};
 ghost use Rattle.rd_text.specs.Gaps.{text_of, IsGapText, AreStretches};
-ghost use Rattle.rd_text.specs.Pieces.{IsPiece, IsFirstPiece, IsLastPiece, IsOpening, is_sought};
+ghost use Rattle.rd_text.specs.Pieces.{IsPiece, IsPart, IsOpening, is_sought};
 
 use crate::gap::{GapText, STRETCH};
 use crate::lines::Sought;
@@ -22,7 +22,7 @@ impl GapText {
     {
         let mut at = from;
         'pieces: while at < to {
-            let piece = self.first_piece(at, to);
+            let piece = self.piece_at(at, at, to);
             let before = piece.before_newline();
             if before < piece.len() {
                 return at + before - from;
@@ -42,7 +42,7 @@ impl GapText {
     {
         let mut at = to;
         'pieces: while from < at {
-            let piece = self.last_piece(from, at);
+            let piece = self.piece_at(at - 1, from, at);
             let after = piece.after_last(sought);
             if after < piece.len() {
                 return to - at + after;
@@ -64,7 +64,7 @@ impl GapText {
         let mut at = from;
         let mut count = 0;
         'pieces: while at < to {
-            let piece = self.first_piece(at, to);
+            let piece = self.piece_at(at, at, to);
             count += piece.newlines();
             at += piece.len();
         }
@@ -81,7 +81,7 @@ impl GapText {
         let mut at = to;
         let mut opened = false;
         'pieces: while from < at {
-            let piece = self.last_piece(from, at);
+            let piece = self.piece_at(at - 1, from, at);
             let stretch = piece.stretch();
             if stretch.separates(opened) {
                 return at - piece.len() + last_opening(piece.codes, opened);
@@ -92,61 +92,49 @@ impl GapText {
         at
     }
 
-    /// A part of the text that begins at one index and ends at another one at most.
-    fn first_piece(&self, from: usize, to: usize) -> Piece<'_>
+    /// The part of the text around an index that lies together in memory, from another index on and up to a third one at most.
+    fn piece_at(&self, at: usize, from: usize, to: usize) -> Piece<'_>
         requires right { IsGapText self.now }
-        requires order { from < to }
+        requires first { from ≤ at }
+        requires order { at < to }
         requires last { to ≤ length (text_of self.now) }
-        ensures part { IsFirstPiece (text_of self.now) from to result.codes.now }
+        ensures part { IsPart (text_of self.now) at from to result.codes.now }
         ensures right { IsPiece result.codes.now result.known }
     {
         let codes = self.codes.as_slice();
         let stretches = self.stretches.as_slice();
-        if from < self.front {
-            return first_of(codes, stretches, from, to.min(self.front));
+        if at < self.front {
+            return around(codes, stretches, at, from, to.min(self.front));
         }
         let gap = self.back - self.front;
-        first_of(codes, stretches, from + gap, to + gap)
-    }
-
-    /// A part of the text that ends at one index and begins at another one at least.
-    fn last_piece(&self, from: usize, to: usize) -> Piece<'_>
-        requires right { IsGapText self.now }
-        requires order { from < to }
-        requires last { to ≤ length (text_of self.now) }
-        ensures part { IsLastPiece (text_of self.now) from to result.codes.now }
-        ensures right { IsPiece result.codes.now result.known }
-    {
-        let codes = self.codes.as_slice();
-        let stretches = self.stretches.as_slice();
-        if to <= self.front {
-            return last_of(codes, stretches, from, to);
-        }
-        let gap = self.back - self.front;
-        last_of(codes, stretches, from.max(self.front) + gap, to + gap)
+        around(
+            codes,
+            stretches,
+            at + gap,
+            from.max(self.front) + gap,
+            to + gap,
+        )
     }
 }
 
-/// The codes at the places from one on that lie in its stretch and before another place.
-fn first_of<'a>(codes: &'a [u32], stretches: &[Stretch], from: usize, to: usize) -> Piece<'a>
-    requires order { from < to }
+/// The codes in the stretch of a place, from another place on and before a third one.
+fn around<'a>(
+    codes: &'a [u32],
+    stretches: &[Stretch],
+    at: usize,
+    from: usize,
+    to: usize,
+) -> Piece<'a>
+    requires first { from ≤ at }
+    requires order { at < to }
     requires right { AreStretches codes.now stretches.now from to }
-    ensures part { IsFirstPiece codes.now from to result.codes.now }
+    ensures part { IsPart codes.now at from to result.codes.now }
     ensures right { IsPiece result.codes.now result.known }
 {
-    let stop = to.min((from / STRETCH + 1) * STRETCH);
-    part_of(codes, stretches, from, stop)
-}
-
-/// The codes at the places before one that lie in the last one's stretch and from another place on.
-fn last_of<'a>(codes: &'a [u32], stretches: &[Stretch], from: usize, to: usize) -> Piece<'a>
-    requires order { from < to }
-    requires right { AreStretches codes.now stretches.now from to }
-    ensures part { IsLastPiece codes.now from to result.codes.now }
-    ensures right { IsPiece result.codes.now result.known }
-{
-    let start = from.max((to - 1) / STRETCH * STRETCH);
-    part_of(codes, stretches, start, to)
+    let stretch = at / STRETCH;
+    let start = from.max(stretch * STRETCH);
+    let stop = to.min((stretch + 1) * STRETCH);
+    part_of(codes, stretches, start, stop)
 }
 
 /// The codes at places of one stretch.

@@ -5,14 +5,15 @@ use Rattle.rd_text.specs.Stretches.{opens, closes, separated}
 use Rattle.rd_text.specs.Pieces.{IsOpening}
 use Rattle.rd_text.specs.declared.stretch.Stretch.{Stretch}
 use Rattle.rd_text.proofs.Openings.{opening_goes, opening_found, with_part}
+use Rattle.rd_text.proofs.Ranges.{last_part}
 use Rattle.rd_text.proofs.gap.GapText.opening.Goals as goal
 
 pub returns-then-separates : goal.returns-then-separates
 returns-then-separates c =
     let inv = c.pieces.invariant in
     let text = text_of c.args.self.now in
-    let piece = c.last_piece-piece.result.codes.now in
-    let part = c.last_piece-piece.ensures.part in
+    let piece = c.piece_at-piece.result.codes.now in
+    let part = last_part c.piece_at-piece.ensures.part in
     let o = c.last_opening.ensures in
     let C : ℕ → Type 0 = λ n. IsOpening text c.args.from c.args.to (c.pieces.at - n + c.last_opening.result) in
     subst C (sym c.len.ensures)
@@ -22,8 +23,8 @@ pub pieces-preserved : goal.pieces-preserved
 pieces-preserved c =
     let inv = c.pieces.invariant in
     let text = text_of c.args.self.now in
-    let piece = c.last_piece-piece.result.codes.now in
-    let part = c.last_piece-piece.ensures.part in
+    let piece = c.piece_at-piece.result.codes.now in
+    let part = last_part c.piece_at-piece.ensures.part in
     let fits = part.fits in
     let size = c.len-at.ensures in
     let high = inv.high in
