@@ -4,7 +4,7 @@ use Rattle.std.proofs.lemmas.Bool.{cases_Bool, eqb-true, or_parts}
 use Rattle.std.proofs.lemmas.Bool.Decides.{nat_tests}
 use Rattle.rd_base.proofs.Choices.{one-at-most}
 use Rattle.rd_tree.specs.declared.side.Side.{Side}
-use Rattle.rd_tree.specs.Windows.{Windows, Window, fits, NeedsMet, resized, leaves, holds, halves, replaced, split_at, with_mode, with_margins, is_single, removed, times}
+use Rattle.rd_tree.specs.Windows.{Windows, Window, fits, HasRoom, NeedsMet, resized, leaves, holds, halves, replaced, split_at, with_mode, with_margins, is_single, removed, times}
 use Rattle.rd_tree.specs.Calls.{Configuration, IsValid, frame, frame_of, opening, is_full}
 use Rattle.rd_tree.proofs.Rooms.{room_first_parts, resized_room}
 use Rattle.rd_tree.proofs.Keeping.{room-fits, IsSum, replaced_more, resized_same, removed_less, removed_room}
@@ -68,6 +68,20 @@ split_valid c window side size valid held fit full =
       known = λ v p. omega (arith, more v, none_above v c.made false 0 (omega (arith, p)), valid.known v (omega (arith, p)));
     }
 
+-- other windows that have room, and none of another number or more often
+with_windows : (c : Configuration) (windows : Windows) → IsValid c → HasRoom windows (frame_of c) → count windows ≤ count c.windows
+    → ((v : ℕ) → times v windows ≤ times v c.windows) → IsValid (record c { windows = windows })
+unfolding count
+with_windows c windows valid room fewer less = record {
+  room = room;
+  wide = valid.wide;
+  high = valid.high;
+  few = omega (arith, fewer, valid.few);
+  made = valid.made;
+  once = λ v. omega (arith, less v, valid.once v);
+  known = λ v p. omega (arith, less v, valid.known v p);
+}
+
 -- a window that stays one window, with another mode line or other margins
 pub changed_valid : (c : Configuration) (window : ℕ) (mode_of : Bool → ℕ → Bool) (columns_of : Bool → ℕ → ℕ) → IsValid c → holds window c.windows ≡ true → fits (replaced window (λ mode margins. Window window (mode_of mode margins) (columns_of mode margins)) c.windows) (frame_of c) ≡ true → IsValid (record c { windows = replaced window (λ mode margins. Window window (mode_of mode margins) (columns_of mode margins)) c.windows })
 unfolding count
@@ -77,15 +91,7 @@ changed_valid c window mode_of columns_of valid held fit =
     λ v. replaced_more (times v) window 0 other (times-sum v) (λ n mode _ e. rw (eqb-true n window e) (omega arith)) c.windows held in
     let kept : count (replaced window other c.windows) ≡ count c.windows + 0 =
     replaced_more count window 0 other count-sum (λ n mode _ e. refl) c.windows held in
-    record {
-      room = room-fits (replaced window other c.windows) (frame_of c) fit;
-      wide = valid.wide;
-      high = valid.high;
-      few = omega (arith, valid.few);
-      made = valid.made;
-      once = λ v. omega (arith, same v, valid.once v);
-      known = λ v p. omega (arith, same v, valid.known v p);
-    }
+    with_windows c (replaced window other c.windows) valid (room-fits (replaced window other c.windows) (frame_of c) fit) (omega (arith, kept)) (λ v. omega (arith, same v))
 
 pub mode_valid : (c : Configuration) (window : ℕ) (shown : Bool) → IsValid c → holds window c.windows ≡ true → fits (with_mode window shown c.windows) (frame_of c) ≡ true → IsValid (record c { windows = with_mode window shown c.windows })
 mode_valid c window shown = changed_valid c window (λ _ _. shown) (λ _ margins. margins)
@@ -100,15 +106,7 @@ remove_valid c window valid held more =
     λ v. removed_less (times v) window (times v (Window window false 0)) (times-sum v) (λ n mode _ e. rw (eqb-true n window e) refl) c.windows (frame_of c) held more in
     let fewer : count (removed window c.windows (frame_of c)) + 1 ≡ count c.windows =
     removed_less count window 1 count-sum (λ n mode _ e. refl) c.windows (frame_of c) held more in
-    record {
-      room = removed_room window c.windows (frame_of c) valid.room;
-      wide = valid.wide;
-      high = valid.high;
-      few = omega (arith, valid.few);
-      made = valid.made;
-      once = λ v. omega (arith, less v, valid.once v);
-      known = λ v p. omega (arith, less v, valid.known v p);
-    }
+    with_windows c (removed window c.windows (frame_of c)) valid (removed_room window c.windows (frame_of c) valid.room) (omega (arith, fewer)) (λ v. omega (arith, less v))
 
 pub resize_valid : (c : Configuration) (width height : ℕ) → IsValid c → width ≤ 400 → height ≤ 200 → NeedsMet c.windows (frame width height) → IsValid (record c { windows = resized c.windows (frame width height); width = width; height = height })
 unfolding count
