@@ -1,5 +1,5 @@
 -- What renditions do to the pen.
-use Rattle.std.proofs.Common.{◌≡◌, if◌then◌else◌, ℕ, ◌+◌, ◌-◌, ◌<◌, ◌≤◌, ◌==◌, ◌&&◌, Bool, true, false, not, nat_lt, nat_le, List, [], ◌++◌, length, Option, None, Some, inl, inr, refl, ap, ◌∙◌, arith}
+use Rattle.std.proofs.Common.{◌≡◌, if◌then◌else◌, ℕ, ◌+◌, ◌-◌, ◌<◌, ◌≤◌, ◌==◌, ◌&&◌, Bool, true, false, not, nat_lt, List, [], ◌++◌, length, Option, None, Some, inl, inr, refl, sym, ap, ◌∙◌, arith, append-nil}
 use Rattle.std.specs.List.{AllByRecursion}
 use Rattle.std.proofs.lemmas.Bool.{cases_eq}
 use Rattle.std.proofs.lemmas.Bool.Decides.{nat_tests}
@@ -28,102 +28,66 @@ flags-pen true false true rest = refl
 flags-pen true true false rest = refl
 flags-pen true true true rest = refl
 
-flags-right : (b u i : Bool) (rest : List ℕ) → are_renditions (number_if b 1 ++ (number_if u 4 ++ (number_if i 7 ++ rest))) ≡ are_renditions rest
-flags-right false false false rest = refl
-flags-right false false true rest = refl
-flags-right false true false rest = refl
-flags-right false true true rest = refl
-flags-right true false false rest = refl
-flags-right true false true rest = refl
-flags-right true true false rest = refl
-flags-right true true true rest = refl
+-- a number behind those of the flags
+dressed-colour : (k : ℕ) (f : Attributes) → 8 ≤ k → dressed k f ≡ (if nat_lt k 40 then record f { fg = k - 30 } else record f { bg = k - 40 })
+dressed-colour k f le =
+    let reset : (k == 0) ≡ false = grind (arith, nat_tests) in
+    let bold : (k == 1) ≡ false = grind (arith, nat_tests) in
+    let underline : (k == 4) ≡ false = grind (arith, nat_tests) in
+    let inverse : (k == 7) ≡ false = grind (arith, nat_tests) in
+    rw (reset, bold, underline, inverse) refl
 
 front-dressed : (n : ℕ) (f : Attributes) → n < 8 → dressed (30 + n) f ≡ record f { fg = n }
 front-dressed n f lt =
-    let a : (30 + n == 0) ≡ false = grind (arith, nat_tests) in
-    let b : (30 + n == 1) ≡ false = grind (arith, nat_tests) in
-    let c : (30 + n == 4) ≡ false = grind (arith, nat_tests) in
-    let d : (30 + n == 7) ≡ false = grind (arith, nat_tests) in
-    let e : nat_lt (30 + n) 40 ≡ true = grind (arith, nat_tests) in
-    let g : 30 + n - 30 ≡ n = omega arith in
-    rw (a, b, c, d, e, g) refl
+    let front : nat_lt (30 + n) 40 ≡ true = grind (arith, nat_tests) in
+    let colour : 30 + n - 30 ≡ n = omega arith in
+    dressed-colour (30 + n) f (omega arith) ∙ rw (front, colour) refl
 
 back-dressed : (n : ℕ) (f : Attributes) → n < 8 → dressed (40 + n) f ≡ record f { bg = n }
 back-dressed n f lt =
-    let a : (40 + n == 0) ≡ false = grind (arith, nat_tests) in
-    let b : (40 + n == 1) ≡ false = grind (arith, nat_tests) in
-    let c : (40 + n == 4) ≡ false = grind (arith, nat_tests) in
-    let d : (40 + n == 7) ≡ false = grind (arith, nat_tests) in
-    let e : nat_lt (40 + n) 40 ≡ false = grind (arith, nat_tests) in
-    let g : 40 + n - 40 ≡ n = omega arith in
-    rw (a, b, c, d, e, g) refl
+    let back : nat_lt (40 + n) 40 ≡ false = grind (arith, nat_tests) in
+    let colour : 40 + n - 40 ≡ n = omega arith in
+    dressed-colour (40 + n) f (omega arith) ∙ rw (back, colour) refl
 
-front-right : (n : ℕ) → n < 8 → is_rendition (30 + n) ≡ true
-front-right n lt =
-    let a : (30 + n == 0) ≡ false = grind (arith, nat_tests) in
-    let b : (30 + n == 1) ≡ false = grind (arith, nat_tests) in
-    let c : (30 + n == 4) ≡ false = grind (arith, nat_tests) in
-    let d : (30 + n == 7) ≡ false = grind (arith, nat_tests) in
-    let e : nat_le 30 (30 + n) ≡ true = grind (arith, nat_tests) in
-    let g : nat_le (30 + n) 37 ≡ true = grind (arith, nat_tests) in
-    rw (a, b, c, d, e, g) refl
-
-back-right : (n : ℕ) → n < 8 → is_rendition (40 + n) ≡ true
-back-right n lt =
-    let a : (40 + n == 0) ≡ false = grind (arith, nat_tests) in
-    let b : (40 + n == 1) ≡ false = grind (arith, nat_tests) in
-    let c : (40 + n == 4) ≡ false = grind (arith, nat_tests) in
-    let d : (40 + n == 7) ≡ false = grind (arith, nat_tests) in
-    let e : nat_le 30 (40 + n) ≡ true = grind (arith, nat_tests) in
-    let g : nat_le (40 + n) 37 ≡ false = grind (arith, nat_tests) in
-    let h : nat_le 40 (40 + n) ≡ true = grind (arith, nat_tests) in
-    let i : nat_le (40 + n) 47 ≡ true = grind (arith, nat_tests) in
-    rw (a, b, c, d, e, g, h, i) refl
-
-front-pen : (n : ℕ) (f : Attributes) (rest : List ℕ) → n ≤ 8 → f.fg ≡ 8 → pen_by (number_if (not (n == 8)) (30 + n) ++ rest) (Some f) ≡ pen_by rest (Some (record f { fg = n }))
-front-pen n f rest le e = elim (cases_eq n 8) [
-  | inl same ↦ rw same (ap (λ k. pen_by rest (Some (record f { fg = k }))) e)
+-- a colour's number changes the pen unless the colour is the terminal's own
+colour-pen : (base n : ℕ) (rest : List ℕ) (f : Attributes) (with_colour : ℕ → Attributes) → n ≤ 8 → f ≡ with_colour 8 → ((k : ℕ) → k < 8 → dressed (base + k) f ≡ with_colour k)
+    → pen_by (number_if (not (n == 8)) (base + n) ++ rest) (Some f) ≡ pen_by rest (Some (with_colour n))
+colour-pen base n rest f with_colour le own changes = elim (cases_eq n 8) [
+  | inl same ↦ rw same (ap (λ g. pen_by rest (Some g)) own)
   | inr other ↦
       let differ : (n == 8) ≡ false = grind (arith, nat_tests) in
-      rw differ (ap (λ g. pen_by rest (Some g)) (front-dressed n f (omega (arith, le, other))))
+      rw differ (ap (λ g. pen_by rest (Some g)) (changes n (omega (arith, le, other))))
 ]
 
-back-pen : (n : ℕ) (f : Attributes) → n ≤ 8 → f.bg ≡ 8 → pen_by (number_if (not (n == 8)) (40 + n)) (Some f) ≡ Some (record f { bg = n })
-back-pen n f le e = elim (cases_eq n 8) [
-  | inl same ↦ rw same (ap (λ k. Some (record f { bg = k })) e)
-  | inr other ↦
-      let differ : (n == 8) ≡ false = grind (arith, nat_tests) in
-      rw differ (ap (λ g. Some g) (back-dressed n f (omega (arith, le, other))))
-]
+number-right : (b : Bool) (n : ℕ) (rest : List ℕ) → (b ≡ true → is_rendition n ≡ true) → are_renditions (number_if b n ++ rest) ≡ are_renditions rest
+number-right true n rest right = ap (λ c. c && are_renditions rest) (right refl)
+number-right false n rest right = refl
 
-front-all : (n : ℕ) (rest : List ℕ) → n ≤ 8 → are_renditions (number_if (not (n == 8)) (30 + n) ++ rest) ≡ are_renditions rest
-front-all n rest le = elim (cases_eq n 8) [
-  | inl same ↦ rw same refl
-  | inr other ↦
-      let differ : (n == 8) ≡ false = grind (arith, nat_tests) in
-      rw differ (ap (λ b. b && are_renditions rest) (front-right n (omega (arith, le, other))))
-]
+front-right : (n : ℕ) → n ≤ 8 → not (n == 8) ≡ true → is_rendition (30 + n) ≡ true
+front-right n le other = grind (arith, nat_tests)
 
-back-all : (n : ℕ) → n ≤ 8 → are_renditions (number_if (not (n == 8)) (40 + n)) ≡ true
-back-all n le = elim (cases_eq n 8) [
-  | inl same ↦ rw same refl
-  | inr other ↦
-      let differ : (n == 8) ≡ false = grind (arith, nat_tests) in
-      rw differ (ap (λ b. b && true) (back-right n (omega (arith, le, other))))
-]
+back-right : (n : ℕ) → n ≤ 8 → not (n == 8) ≡ true → is_rendition (40 + n) ≡ true
+back-right n le other = grind (arith, nat_tests)
 
 pen-is : (f : Attributes) → HasColours f → pen_by (renditions f) (Some plain) ≡ Some f
 pen-is f h =
-    let rest = number_if (not (f.fg == 8)) (30 + f.fg) ++ number_if (not (f.bg == 8)) (40 + f.bg) in
-    flags-pen f.bold f.underline f.inverse rest
-    ∙ front-pen f.fg (record { fg = 8; bg = 8; bold = f.bold; underline = f.underline; inverse = f.inverse }) (number_if (not (f.bg == 8)) (40 + f.bg)) h.fg refl
-    ∙ back-pen f.bg (record { fg = f.fg; bg = 8; bold = f.bold; underline = f.underline; inverse = f.inverse }) h.bg refl
+    let back = number_if (not (f.bg == 8)) (40 + f.bg) in
+    let flags : ℕ → ℕ → Attributes = λ fg bg. record { fg = fg; bg = bg; bold = f.bold; underline = f.underline; inverse = f.inverse } in
+    flags-pen f.bold f.underline f.inverse (number_if (not (f.fg == 8)) (30 + f.fg) ++ back)
+    ∙ colour-pen 30 f.fg back (flags 8 8) (λ k. flags k 8) h.fg refl (λ k lt. front-dressed k (flags 8 8) lt)
+    ∙ ap (λ (ns : List ℕ). pen_by ns (Some (flags f.fg 8))) (sym (append-nil back))
+    ∙ colour-pen 40 f.bg [] (flags f.fg 8) (λ k. flags f.fg k) h.bg refl (λ k lt. back-dressed k (flags f.fg 8) lt)
 
 all-right : (f : Attributes) → HasColours f → are_renditions (renditions f) ≡ true
 all-right f h =
-    flags-right f.bold f.underline f.inverse (number_if (not (f.fg == 8)) (30 + f.fg) ++ number_if (not (f.bg == 8)) (40 + f.bg))
-    ∙ front-all f.fg (number_if (not (f.bg == 8)) (40 + f.bg)) h.fg
-    ∙ back-all f.bg h.bg
+    let back = number_if (not (f.bg == 8)) (40 + f.bg) in
+    let colours = number_if (not (f.fg == 8)) (30 + f.fg) ++ back in
+    number-right f.bold 1 (number_if f.underline 4 ++ (number_if f.inverse 7 ++ colours)) (λ _. refl)
+    ∙ number-right f.underline 4 (number_if f.inverse 7 ++ colours) (λ _. refl)
+    ∙ number-right f.inverse 7 colours (λ _. refl)
+    ∙ number-right (not (f.fg == 8)) (30 + f.fg) back (front-right f.fg h.fg)
+    ∙ ap are_renditions (sym (append-nil back))
+    ∙ number-right (not (f.bg == 8)) (40 + f.bg) [] (back-right f.bg h.bg)
 
 -- ---- few and small numbers
 

@@ -61,12 +61,8 @@ first-chosen : (a b c : Bool) (r f : ℕ) → r / 3 ≡ f
     → cond (not (not a)) (1 + cond (not (not b)) (1 + cond (not (not c)) (1 + r) 0) 0) 0 / 3 ≡ (if a && b && c then suc f else 0)
 first-chosen true true true r f e = omega (arith, e)
 first-chosen true true false r f e = omega arith
-first-chosen true false true r f e = omega arith
-first-chosen true false false r f e = omega arith
-first-chosen false true true r f e = omega arith
-first-chosen false true false r f e = omega arith
-first-chosen false false true r f e = omega arith
-first-chosen false false false r f e = omega arith
+first-chosen true false c r f e = omega arith
+first-chosen false b c r f e = omega arith
 
 first-words : (xs ys : List Cell) → length xs ≡ length ys → AllByRecursion IsTold xs → AllByRecursion IsSmall ys
     → position_or_len words_differ (zip (row_words xs) (row_words ys)) / 3 ≡ first_difference xs ys
