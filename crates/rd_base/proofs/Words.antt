@@ -1,5 +1,7 @@
 -- Small cells with the same words are the same.
-use Rattle.std.proofs.Common.{◌≡◌, ℕ, zero, suc, ◌+◌, ◌*◌, ◌%◌, ◌<◌, Bool, true, false, get_or, refl, ap, sym, ◌∙◌, arith}
+use Rattle.std.proofs.Common.{◌≡◌, ℕ, zero, suc, ◌+◌, ◌*◌, ◌/◌, ◌%◌, ◌<◌, Bool, true, false, get_or, refl, ap, sym, ◌∙◌, arith}
+use Rattle.std.proofs.Math.Nat.{add_comm, mul_comm}
+use Rattle.std.proofs.lemmas.Nat.{div-mul-add, mod-mul-add}
 use Rattle.std.proofs.lemmas.List.{ext_get_or}
 use Rattle.std.specs.Prelude.{slice_index}
 use Rattle.rd_base.specs.Faces.{Attributes}
@@ -19,31 +21,19 @@ bit_of-told true false e = absurd (omega arith)
 bit_of-told false true e = absurd (omega arith)
 bit_of-told false false e = refl
 
--- a number's lowest digit and the rest, for the bases that the words have
-in_base_2 : (a b c d : ℕ) → a < 2 → c < 2 → a + 2 * b ≡ c + 2 * d → (a ≡ c) × (b ≡ d)
-in_base_2 a b c d p q e = (omega arith, omega arith)
-
-in_base_4 : (a b c d : ℕ) → a < 4 → c < 4 → a + 4 * b ≡ c + 4 * d → (a ≡ c) × (b ≡ d)
-in_base_4 a b c d p q e = (omega arith, omega arith)
-
-in_base_8 : (a b c d : ℕ) → a < 8 → c < 8 → a + 8 * b ≡ c + 8 * d → (a ≡ c) × (b ≡ d)
-in_base_8 a b c d p q e = (omega arith, omega arith)
-
-in_base_16 : (a b c d : ℕ) → a < 16 → c < 16 → a + 16 * b ≡ c + 16 * d → (a ≡ c) × (b ≡ d)
-in_base_16 a b c d p q e = (omega arith, omega arith)
-
-in_base_2048 : (a b c d : ℕ) → a < 2048 → c < 2048 → a + 2048 * b ≡ c + 2048 * d → (a ≡ c) × (b ≡ d)
-in_base_2048 a b c d p q e = (omega arith, omega arith)
-
-in_base_codes : (a b c d : ℕ) → a < 2097152 → c < 2097152 → a + 2097152 * b ≡ c + 2097152 * d → (a ≡ c) × (b ≡ d)
-in_base_codes a b c d p q e = (omega arith, omega arith)
+-- a number's lowest digit and the rest, in some base
+in_base : (n a b c d : ℕ) → a < n → c < n → a + n * b ≡ c + n * d → (a ≡ c) × (b ≡ d)
+in_base n a b c d p q e =
+    let turned : (x y : ℕ) → y * n + x ≡ x + n * y = λ x y. add_comm (y * n) x ∙ ap (λ m. x + m) (mul_comm y n) in
+    let same : b * n + a ≡ d * n + c = turned a b ∙ e ∙ sym (turned c d) in
+    (sym (mod-mul-add b n a p) ∙ ap (λ m. m % n) same ∙ mod-mul-add d n c q, sym (div-mul-add b n a p) ∙ ap (λ m. m / n) same ∙ div-mul-add d n c q)
 
 -- three small codes are told by their packed number
 packed-told : (a b c d e f : ℕ) → packed a b c ≡ packed d e f
     → (a % 2097152 ≡ d % 2097152) × (b % 2097152 ≡ e % 2097152) × (c % 2097152 ≡ f % 2097152)
 packed-told a b c d e f same =
-    let first = in_base_codes (a % 2097152) _ (d % 2097152) _ (omega arith) (omega arith) same in
-    let second = in_base_codes (b % 2097152) (c % 2097152) (e % 2097152) (f % 2097152) (omega arith) (omega arith) first.1 in
+    let first = in_base 2097152 (a % 2097152) _ (d % 2097152) _ (omega arith) (omega arith) same in
+    let second = in_base 2097152 (b % 2097152) (c % 2097152) (e % 2097152) (f % 2097152) (omega arith) (omega arith) first.1 in
     (first.0, second.0, second.1)
 
 face_number-small : (f : Attributes) → HasColours f → face_number f < 2048
@@ -55,10 +45,10 @@ face_number-small f h =
 
 face_number-told : (f g : Attributes) → HasColours f → HasColours g → face_number f ≡ face_number g → f ≡ g
 face_number-told f g hf hg same =
-    let fg = in_base_16 (f.fg % 16) _ (g.fg % 16) _ (omega arith) (omega arith) same in
-    let bg = in_base_16 (f.bg % 16) _ (g.bg % 16) _ (omega arith) (omega arith) fg.1 in
-    let bold = in_base_2 _ _ _ _ (bit_of-small f.bold) (bit_of-small g.bold) bg.1 in
-    let flags = in_base_2 _ _ _ _ (bit_of-small f.underline) (bit_of-small g.underline) bold.1 in
+    let fg = in_base 16 (f.fg % 16) _ (g.fg % 16) _ (omega arith) (omega arith) same in
+    let bg = in_base 16 (f.bg % 16) _ (g.bg % 16) _ (omega arith) (omega arith) fg.1 in
+    let bold = in_base 2 _ _ _ _ (bit_of-small f.bold) (bit_of-small g.bold) bg.1 in
+    let flags = in_base 2 _ _ _ _ (bit_of-small f.underline) (bit_of-small g.underline) bold.1 in
     let fg_same : f.fg ≡ g.fg = omega arith in
     let bg_same : f.bg ≡ g.bg = omega arith in
     attributes-same f.fg f.bg g.fg g.bg f.bold f.underline f.inverse g.bold g.underline g.inverse fg_same bg_same
@@ -85,8 +75,8 @@ glyph_number-told : (g h : Glyph) → IsSmallGlyph g → IsSmallGlyph h → glyp
     → packed (slice_index g.marks 4) (slice_index g.marks 5) 0 ≡ packed (slice_index h.marks 4) (slice_index h.marks 5) 0
     → g ≡ h
 glyph_number-told g h sg sh first second third =
-    let count = in_base_8 (g.count % 8) _ (h.count % 8) _ (omega arith) (omega arith) first in
-    let width = in_base_4 (g.width % 4) _ (h.width % 4) _ (omega arith) (omega arith) count.1 in
+    let count = in_base 8 (g.count % 8) _ (h.count % 8) _ (omega arith) (omega arith) first in
+    let width = in_base 4 (g.width % 4) _ (h.width % 4) _ (omega arith) (omega arith) count.1 in
     let low = packed-told g.base (get_or g.marks 0 0) 0 h.base (get_or h.marks 0 0) 0 width.1 in
     let middle = packed-told (get_or g.marks 1 0) (get_or g.marks 2 0) (get_or g.marks 3 0) (get_or h.marks 1 0) (get_or h.marks 2 0) (get_or h.marks 3 0) second in
     let high = packed-told (get_or g.marks 4 0) (get_or g.marks 5 0) 0 (get_or h.marks 4 0) (get_or h.marks 5 0) 0 third in
@@ -117,7 +107,7 @@ words_of-told (First g f) Rest sa sb e = let first = ap (λ ws. get_or ws 0 0) e
 words_of-told (First g f) (Blank f') sa sb e = let first = ap (λ ws. get_or ws 0 0) e in absurd (omega arith)
 words_of-told (First g f) (First g' f') sa sb e =
     let first = ap (λ ws. get_or ws 0 0) e in
-    let digits = in_base_2048 (face_number f) (glyph_number g) (face_number f') (glyph_number g')
+    let digits = in_base 2048 (face_number f) (glyph_number g) (face_number f') (glyph_number g')
     (face_number-small f sa.1) (face_number-small f' sb.1) (omega arith) in
     let glyph = glyph_number-told g g' sa.0 sb.0 digits.1 (ap (λ ws. get_or ws 1 0) e) (ap (λ ws. get_or ws 2 0) e) in
     let face = face_number-told f f' sa.1 sb.1 digits.0 in

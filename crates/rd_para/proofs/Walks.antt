@@ -318,6 +318,15 @@ ends_itself t right pos low high =
       | inl past ↦ clash _ (next_at t right pos low high (omega arith)) (next_before t right to to (omega arith) within (omega arith) past (omega arith))
     ]
 
+-- the end of a position's line, and the place behind the last character before it that is no blank
+pub line_bounds : (t : TextValue) (right : IsText t) (pos : ℕ) → t.begin ≤ pos → pos ≤ t.end → let to = next_newline t pos in
+    (pos ≤ to) × (to ≤ t.end) × (t.begin ≤ prev_ink t to) × (prev_ink t to ≤ to)
+line_bounds t right pos low high =
+    let c = line_cut t pos right low high in
+    let order = c.order in
+    let ink = prev_ink_bound t right (next_newline t pos) (omega arith) c.within in
+    (order, c.within, ink.0, ink.1)
+
 -- the start of a paragraph, by the places that the code finds, stands before the position
 pub start_before : (t : TextValue) (right : IsText t) (pos ink place start : ℕ) → t.begin ≤ pos → pos ≤ t.end → ink ≡ prev_ink t (next_newline t pos) → place ≡ max t.begin (ink - 1)
     → IsParagraphStart t place start → start ≤ pos
@@ -325,11 +334,7 @@ start_before t right pos ink place start low high ink_is place_is begins = elim 
   | inr fine ↦ fine
   | inl past ↦
       let to = next_newline t pos in
-      let c = line_cut t pos right low high in
-      let order = c.order in
-      let within = c.within in
-      let bound = prev_ink_bound t right to (omega arith) within in
-      let ink_high = bound.1 in
+      let (order, within, ink_low, ink_high) = line_bounds t right pos low high in
       let b_order = begins.order in
       elim begins.begins [
         | inl is ↦ absurd (omega arith)
@@ -343,12 +348,7 @@ pub paragraph_is : (classes : List Span) (t : TextValue) (right : IsText t) (pos
 paragraph_is classes t right pos ink place start low high ink_is place_is begins p at p_high =
     let first = right.first in
     let to = next_newline t pos in
-    let c = line_cut t pos right low high in
-    let order = c.order in
-    let within = c.within in
-    let bound = prev_ink_bound t right to (omega arith) within in
-    let ink_low = bound.0 in
-    let ink_high = bound.1 in
+    let (order, within, ink_low, ink_high) = line_bounds t right pos low high in
     level_is classes t right pos place start low high (omega arith) (omega arith) begins
     (λ k past before. ink_after t right to k (omega arith) within (omega arith) (omega arith) before)
     (elim (cases_lt t.begin (prev_ink t to)) [

@@ -1,6 +1,6 @@
 use Rattle.std.proofs.Common.{◌≡◌, ◌<◌, ◌+◌, length, drop, ap, ◌∙◌, arith}
 use Rattle.rd_explicit.specs.Explicit.{given, after}
-use Rattle.rd_explicit.proofs.Steps.{levels-step, types-step, low-step}
+use Rattle.rd_explicit.proofs.Steps.{column-step, low-step}
 use Rattle.rd_explicit.proofs.levels.explicit.Goals as goal
 
 pub loop-i-preserved : goal.loop-i-preserved
@@ -20,10 +20,10 @@ loop-i-preserved c =
     record {
       classes = classes ∙ c.loop-i.invariant.classes;
       base = c.set_type.ensures.rest.base ∙ c.set_level.ensures.rest.base ∙ c.loop-i.invariant.base;
-      levels = rw (classes, c.set_type.ensures.levels, c.set_level.ensures.levels) (levels-step base c.loop-i.state _ line.classes i c.at-class.result c.step-given.result
-          within c.at-class.ensures gives goes line.levels _ lengths_levels c.loop-i.invariant.levels);
-      types = rw (classes, c.set_type.ensures.types, c.set_level.ensures.types) (types-step base c.loop-i.state _ line.classes i c.at-class.result c.step-given.result
-          within c.at-class.ensures gives goes line.types _ lengths_types c.loop-i.invariant.types);
+      levels = rw (classes, c.set_type.ensures.levels, c.set_level.ensures.levels) (column-step base c.loop-i.state _ line.classes i c.at-class.result c.step-given.result
+          within c.at-class.ensures gives goes (λ x. x.level) line.levels _ lengths_levels c.loop-i.invariant.levels);
+      types = rw (classes, c.set_type.ensures.types, c.set_level.ensures.types) (column-step base c.loop-i.state _ line.classes i c.at-class.result c.step-given.result
+          within c.at-class.ensures gives goes (λ x. x.class) line.types _ lengths_types c.loop-i.invariant.types);
       ready = record {
         rises = c.step-given.ensures.leaves.rises;
         some = c.step-given.ensures.leaves.some;

@@ -1,9 +1,7 @@
 use Rattle.std.proofs.Common.{◌≤◌, ◌-◌, ℕ, sym, ap, subst, ◌∙◌, arith}
 use Rattle.std.specs.Prelude.{max}
 use Rattle.rd_text.specs.Texts.{TextValue, IsAccessible, IsParagraphStart, next_newline, prev_ink}
-use Rattle.rd_para.proofs.Cuts.{line_cut}
-use Rattle.rd_text.proofs.Searches.{prev_ink_bound}
-use Rattle.rd_para.proofs.Walks.{paragraph_is, start_before, ends_itself}
+use Rattle.rd_para.proofs.Walks.{paragraph_is, start_before, ends_itself, line_bounds}
 use Rattle.rd_para.proofs.level.paragraph_at.Goals as goal
 use Rattle.rd_para.proofs.level.paragraph_at.Goals.{After-next_newline-to, After-max-place}
 
@@ -21,11 +19,8 @@ within c =
     let right = c.begin-begin.ensures.right in
     let is = c.next_newline-to.ensures in
     let first = right.first in
-    let cut = line_cut t c.args.pos right c.requires.0 c.requires.1 in
-    let order = cut.order in
-    let last = cut.within in
     let low = c.requires.0 in
-    let (ink_low, ink_high) = prev_ink_bound t right c.next_newline-to.result (omega arith) (omega arith) in
+    let (order, last, ink_low, ink_high) = line_bounds t right c.args.pos low c.requires.1 in
     record {
       order = omega arith;
       low = omega arith;

@@ -4,7 +4,7 @@ use Rattle.rd_resolve.specs.Weak.{strong_after, w2_european_numbers_after_arabic
 use Rattle.rd_resolve.specs.Walks.{w5_run_ends, w5_run_of}
 use Rattle.rd_resolve.proofs.WeakSteps.{w1_type, strong_type, w3_type, w4_type, w5_type, weak-step, w5-run-known, w5-run-is, w1_type-et, w3_type-et, strong_type-et, assembled}
 use Rattle.rd_resolve.proofs.weak_walk.Before.step.Goals as goal
-use Rattle.rd_resolve.proofs.weak_walk.Before.step.Goals.{After-w4_separators-after_w4}
+use Rattle.rd_resolve.proofs.weak_walk.Before.step.Goals.{After-w4_separators-after_w4, After-w5_run_ends-run}
 
 -- the types that the first four rules give
 known : (c : goal.After-w4_separators-after_w4) → let b = c.args.self.now in let cs = types_at c.args.rest.now c.args.types.now in
@@ -21,6 +21,13 @@ known c =
     let after_w4 : c.w4_separators-after_w4.result ≡ w4_type b c.args.class cs = c.w4_separators-after_w4.ensures ∙ ap₂ (λ o n. w4_separators b.w4_before o n) after_w3 next in
     (after_w1, strong, after_w3, after_w4)
 
+-- for W5, what is known of the run of terminators to which the type belongs, or None
+run : (c : goal.After-w5_run_ends-run) → let b = c.args.self.now in let cs = types_at c.args.rest.now c.args.types.now in
+    c.w4_separators-after_w4.result ≡ w4_type b c.args.class cs → c.w5_run_ends-run.result ≡ w5_run_of (w4_type b c.args.class cs) (w5_run_ends b.w2_strong cs)
+run c after_w4 =
+    let ends = w5_run_ends c.args.self.now.w2_strong (types_at c.args.rest.now c.args.types.now) in
+    c.w5_run_ends-run.ensures ∙ ap (λ n. w5_run_of n ends) after_w4
+
 pub w5_run_ends-run-requires-clause-run : goal.w5_run_ends-run-requires-clause-run
 w5_run_ends-run-requires-clause-run c =
     let b = c.args.self.now in
@@ -33,10 +40,8 @@ returns-clause-left c =
     let b = c.args.self.now in
     let cs = types_at c.args.rest.now c.args.types.now in
     let (after_w1, strong, after_w3, after_w4) = known (goal.at.returns-clause-left c).After-w4_separators-after_w4 in
-    let run : c.w5_run_ends-run.result ≡ w5_run_of (w4_type b c.args.class cs) (w5_run_ends b.w2_strong cs) =
-    c.w5_run_ends-run.ensures ∙ ap (λ n. w5_run_of n (w5_run_ends b.w2_strong cs)) after_w4 in
     let after_w5 : c.w5_terminators-after_w5.result ≡ w5_type b c.args.class cs =
-    c.w5_terminators-after_w5.ensures ∙ ap₂ (λ r n. w5_terminators r n) (c.w5_beside.ensures ∙ ap (λ r. b.w5_number || unwrap_or r false) run) after_w4 in
+    c.w5_terminators-after_w5.ensures ∙ ap₂ (λ r n. w5_terminators r n) (c.w5_beside.ensures ∙ ap (λ r. b.w5_number || unwrap_or r false) (run (goal.at.returns-clause-left c).After-w5_run_ends-run after_w4)) after_w4 in
     let after_w6 : c.w6_remaining_separators-after_w6.result ≡ w6_remaining_separators (w5_type b c.args.class cs) = c.w6_remaining_separators-after_w6.ensures ∙ ap w6_remaining_separators after_w5 in
     assembled _ _ _ _ _ _ _ _ _ _ _ _ cs _ (weak-step b c.args.class cs c.w5_run_ends-run.result)
     (c.w7_latin_numbers-given.ensures ∙ ap (w7_latin_numbers b.w7_strong) after_w6)
@@ -48,7 +53,5 @@ returns-clause-run c =
     let b = c.args.self.now in
     let cs = types_at c.args.rest.now c.args.types.now in
     let (after_w1, strong, after_w3, after_w4) = known (goal.at.returns-clause-run c).After-w4_separators-after_w4 in
-    let run : c.w5_run_ends-run.result ≡ w5_run_of (w4_type b c.args.class cs) (w5_run_ends b.w2_strong cs) =
-    c.w5_run_ends-run.ensures ∙ ap (λ n. w5_run_of n (w5_run_ends b.w2_strong cs)) after_w4 in
-    w5-run-is c.w5_run_ends-run.result (w4_type b c.args.class cs) (w5_run_ends b.w2_strong cs) _ cs run
+    w5-run-is c.w5_run_ends-run.result (w4_type b c.args.class cs) (w5_run_ends b.w2_strong cs) _ cs (run (goal.at.returns-clause-run c).After-w5_run_ends-run after_w4)
     (λ e. (after_w1 ∙ w1_type-et b c.args.class cs e, after_w3 ∙ w3_type-et b c.args.class cs e, ap (λ s. w5_run_ends s cs) (sym (strong ∙ strong_type-et b c.args.class cs e))))
