@@ -138,7 +138,3 @@ script-made l0 l1 l2 l3 l4 l5 l6 l7 l8 m n o p q a b c e0 e1 e2 e3 e4 e5 e6 e7 e
     let first : l3 ≡ a ∷ b ∷ c ∷ [] = e3 ∙ ap (λ l. l ++ c ∷ []) (e2 ∙ ap (λ l. l ++ b ∷ []) (e1 ∙ ap (λ l. l ++ a ∷ []) e0)) in
     let fourth : l4 ≡ (a ∷ b ∷ c ∷ []) ++ m = e4 ∙ ap (λ l. l ++ m) first in
     glue l4 ((n ++ o) ++ p) q l7 l8 e8 (glue l4 (n ++ o) p l6 l7 e7 (glue l4 n o l5 l6 e6 e5)) ∙ ap (λ l. l ++ (((n ++ o) ++ p) ++ q)) fourth
-
--- a template that is told by its number
-pub template-as : (bytes : List ℕ) (n k : ℕ) → n ≡ k → bytes ≡ spelling (get_or templates k []) → bytes ≡ spelling (get_or templates n [])
-template-as bytes n k is e = e ∙ ap (λ i. spelling (get_or templates i [])) (sym is)

@@ -1,8 +1,10 @@
 -- The generated script: a text of 3,000 lines put in piece by piece, then keys, scrolling, and keys in one of two windows.
 use Rattle.std.specs.Prelude.{ℕ, zero, suc, ◌+◌, ◌*◌, ◌/◌, ◌%◌, ◌==◌, if◌then◌else◌, List, [], ◌∷◌, ◌++◌, replicate, get_or, codes}
-use Rattle.std.specs.Char.{encode_utf8}
 use Rattle.std.specs.Fmt.{decimal}
 use Rattle.std.specs.List.{flat_map, range_with_len}
+-- what functions name, for their proofs to compute it
+pub use Rattle.std.specs.Char.{encode_utf8}
+pub use Rattle.std.specs.Fmt.{digits}
 
 -- ---- the numbers
 

@@ -4,6 +4,7 @@ ghost use Rattle.std.specs.List.{range_with_len};
 ghost use Rattle.rd_generate.specs.Generated.{number, choice, templates, line_of, spelling, insertion};
 
 /// The numbers of 7, and the templates that they choose.
+#[tactic(auto, unfolding(crate::specs::Generated::number))]
 fn worked_numbers()
     ensures first { number 7 1 ≡ 1282168116 }
     ensures second { number 7 2 ≡ 642666333 }
@@ -12,6 +13,7 @@ fn worked_numbers()
 {}
 
 /// The lines of a text, and an op that puts one in.
+#[tactic(auto, unfolding(crate::specs::Generated::encode_utf8, crate::specs::Generated::digits, crate::specs::Generated::number))]
 fn worked_lines()
     ensures templates { map length templates ≡ 20 ∷ 20 ∷ 20 ∷ 20 ∷ 20 ∷ 20 ∷ 20 ∷ 20 ∷ [] }
     ensures hebrew { get_or templates 3 [] ≡ 47 ∷ 47 ∷ 32 ∷ range_with_len 1488 17 }

@@ -37,6 +37,7 @@ fn choice(x: u32) -> u32
 }
 
 /// A template, as a text of JSON has it.
+#[tactic(auto, unfolding(crate::specs::Generated::encode_utf8))]
 fn template(choice: u32) -> &'static str
     requires { choice < 8 }
     ensures { result.now ≡ spelling (get_or templates choice []) }

@@ -1,5 +1,5 @@
 use Rattle.std.proofs.Common.{◌≡◌, ◌++◌, ◌*◌, ap, ◌∙◌, arith}
-use Rattle.rd_generate.specs.Generated.{hundreds, insertion, lines_from, number}
+use Rattle.rd_generate.specs.Generated.{hundreds, insertion, lines_from}
 use Rattle.rd_generate.proofs.Texts.{insertions-more, number-hundred, number-zero, none-hundred}
 use Rattle.rd_generate.proofs.lines.push_insertions.Goals as goal
 
