@@ -1,5 +1,5 @@
 -- Fields that are taken one behind the other.
-use Rattle.std.proofs.Common.{◌≡◌, Result, Ok, Err, sym, ap, subst, ◌∙◌, append_assoc}
+use Rattle.std.proofs.Common.{◌≡◌, Result, Ok, Err, refl, sym, ap, subst, ◌∙◌, append_assoc}
 use Rattle.std.specs.Result.{IsErrAnd}
 use Rattle.serde_json.specs.View.{members_view}
 use Rattle.rd_script.specs.declared.fault.OpFault.{OpFault}
@@ -16,57 +16,49 @@ fault-stays f NoSuchOp said h = ap (and_then f) h
 fault-stays f (BadField key) said h = ap (and_then f) h
 fault-stays f (Extra key) said h = ap (and_then f) h
 
--- what readers answer, where the fields and what was asked for are told by the type
-pub record Takes {T : Type 0} (result : Result T OpFault) (fields : Fields T) (before after : Asking) : Type 0 where
-  pub told : IsTaken result fields before after
+-- what is made of a pair, where its first part was read
+made-pair : {A B C : Type 0} (a : A) (make : A × B → C) (said : Result B OpFault) → and_then (λ x. Ok (make x)) (and_then (λ b. Ok (a, b)) said) ≡ and_then (λ b. Ok (make (a, b))) said
+made-pair a make (Ok b) = refl
+made-pair a make (Err e) = refl
 
--- a reader that took its fields
-pub taken : {T : Type 0} {x : T} (fields : Fields T) (before after : Asking) → IsTaken (Ok x) fields before after → Takes (Ok x) fields before after
-taken fields before after h = record { told = h }
+-- the fields that are left of some, of which the first were taken, and what is made of what they say
+pub record Left {A B : Type 0} (fields : Fields A) (before now : Asking) (left : Fields B) (make : B → A) : Type 0 where
+  pub said : fields.taken (members_view before.members) ≡ and_then (λ b. Ok (make b)) (left.taken (members_view now.members))
+  pub asked : asked_too fields.keys before ≡ asked_too left.keys now
 
--- a reader that refused
-pub refused : {T : Type 0} (e : OpFault) (fields : Fields T) (before after : Asking) → IsTaken {T = T} (Err e) fields before after → Takes {T = T} (Err e) fields before after
-refused e fields before after h = record { told = h }
+-- before the first is taken all are left
+pub all-left : {A B : Type 0} (fields : Fields A) (r : Asking) (make : B → A) (left : Fields B) → fields ≡ made make left → Left fields r r left make
+all-left fields r make left e = record { said = ap (λ x. x.taken (members_view r.members)) e; asked = ap (λ x. asked_too x.keys r) e }
 
--- both are taken
-pub both-taken : {A B : Type 0} {a : A} {b : B} {f : Fields A} {g : Fields B} {r s t : Asking} → Takes (Ok a) f r s → Takes (Ok b) g s t → Takes (Ok (a, b)) (both f g) r t
-both-taken {A} {B} {a} {b} {f} {g} {r} {s} {t} h k =
-    let behind = subst (λ x. (g.taken (members_view x.members) ≡ Ok b) × (t ≡ asked_too g.keys x)) h.told.1 k.told in
-    record {
-      told = (
-        ap (and_then (λ x. and_then (λ y. Ok (x, y)) (g.taken (members_view r.members)))) h.told.0 ∙ ap (and_then (λ y. Ok (a, y))) behind.0,
-        behind.1 ∙ ap (λ keys. record { members = r.members; keys = keys }) (append_assoc r.keys f.keys g.keys),
-      );
-    }
+-- the first of those that are left is taken
+pub taken : {A B C : Type 0} {fields : Fields C} {r s t : Asking} {make : A × B → C} {a : A} (f : Fields A) (g : Fields B) → Left fields r s (both f g) make → IsTaken (Ok a) f s t
+    → Left fields r t g (λ b. make (a, b))
+taken {A} {B} {C} {fields} {r} {s} {t} {make} {a} f g h k = record {
+  said = h.said ∙ ap (λ x. and_then (λ y. Ok (make y)) (and_then (λ x. and_then (λ y. Ok (x, y)) (g.taken (members_view s.members))) x)) k.0
+      ∙ made-pair a make (g.taken (members_view s.members)) ∙ ap (λ x. and_then (λ b. Ok (make (a, b))) (g.taken (members_view x.members))) (sym k.1);
+  asked = h.asked ∙ ap (λ keys. record { members = s.members; keys = keys }) (sym (append_assoc s.keys f.keys g.keys)) ∙ ap (asked_too g.keys) (sym k.1);
+}
 
--- the first is refused
-pub first-refused : {A B : Type 0} {e : OpFault} {f : Fields A} {r t : Asking} (g : Fields B) → Takes {T = A} (Err e) f r t → Takes {T = A × B} (Err e) (both f g) r t
-first-refused {A} {B} {e} {f} {r} g h =
-    record { told = (fault-stays (λ x. and_then (λ y. Ok (x, y)) (g.taken (members_view r.members))) e (f.taken (members_view r.members)) h.told.0, tt) }
+-- the last one is taken
+pub last-taken : {A B : Type 0} {fields : Fields B} {r s t : Asking} {f : Fields A} {make : A → B} {a : A} → Left fields r s f make → IsTaken (Ok a) f s t → IsTaken (Ok (make a)) fields r t
+last-taken {make = make} h k = (h.said ∙ ap (and_then (λ x. Ok (make x))) k.0, k.1 ∙ sym h.asked)
 
--- the first is taken, and the second is refused
-pub second-refused : {A B : Type 0} {a : A} {e : OpFault} {f : Fields A} {g : Fields B} {r s t : Asking} → Takes (Ok a) f r s → Takes {T = B} (Err e) g s t
-    → Takes {T = A × B} (Err e) (both f g) r t
-second-refused {A} {B} {a} {e} {f} {g} {r} h k =
-    let behind = subst (λ x. IsRead {T = B} (Err e) (g.taken (members_view x.members))) h.told.1 k.told.0 in
-    record {
-      told = (
-        subst (λ said. IsRead {T = A × B} (Err e) said) (sym (ap (and_then (λ x. and_then (λ y. Ok (x, y)) (g.taken (members_view r.members)))) h.told.0))
-            (fault-stays (λ y. Ok (a, y)) e (g.taken (members_view r.members)) behind),
-        tt,
-      );
-    }
-
--- what is made of what was taken
-pub made-taken : {A B : Type 0} {a : A} {f : Fields A} {r s : Asking} → Takes (Ok a) f r s → (make : A → B) → IsTaken (Ok (make a)) (made make f) r s
-made-taken h make = (ap (and_then (λ x. Ok (make x))) h.told.0, h.told.1)
-
--- nothing is made of what was refused
-pub made-refused : {A B : Type 0} {e : OpFault} {f : Fields A} {r s : Asking} (result : Result B OpFault) → IsErrAnd result (λ y. y ≡ e) → Takes {T = A} (Err e) f r s → (make : A → B)
-    → IsTaken result (made make f) r s
-made-refused (Ok x) is h make = absurd is
-made-refused {A} {B} {e} {f} {r} (Err y) is h make = (
-  subst (λ x. IsRead {T = B} (Err x) (and_then (λ x. Ok (make x)) (f.taken (members_view r.members)))) (sym is)
-      (fault-stays (λ x. Ok (make x)) e (f.taken (members_view r.members)) h.told.0),
+-- all are refused where those that are left are
+left-refused : {A B : Type 0} {fields : Fields B} {r s : Asking} {f : Fields A} {make : A → B} (t : Asking) (e : OpFault) (result : Result B OpFault) → IsErrAnd result (λ y. y ≡ e)
+    → Left fields r s f make → IsRead {T = A} (Err e) (f.taken (members_view s.members)) → IsTaken result fields r t
+left-refused t e (Ok x) is h k = absurd is
+left-refused {A} {B} {fields} {r} {s} {f} {make} t e (Err y) is h k = (
+  subst (λ x. IsRead {T = B} (Err x) (fields.taken (members_view r.members))) (sym is)
+      (subst (λ x. IsRead {T = B} (Err e) x) (sym h.said) (fault-stays (λ x. Ok (make x)) e (f.taken (members_view s.members)) k)),
   tt,
 )
+
+-- the first of them is refused
+pub first-refused : {A B C : Type 0} {fields : Fields C} {r s : Asking} {make : A × B → C} (f : Fields A) (g : Fields B) (t : Asking) (e : OpFault) (result : Result C OpFault) → IsErrAnd result (λ y. y ≡ e)
+    → Left fields r s (both f g) make → IsTaken {T = A} (Err e) f s t → IsTaken result fields r t
+first-refused {s = s} f g t e result is h k = left-refused t e result is h (fault-stays (λ x. and_then (λ y. Ok (x, y)) (g.taken (members_view s.members))) e (f.taken (members_view s.members)) k.0)
+
+-- the last one is refused
+pub last-refused : {A B : Type 0} {fields : Fields B} {r s : Asking} {f : Fields A} {make : A → B} (t : Asking) (e : OpFault) (result : Result B OpFault) → IsErrAnd result (λ y. y ≡ e)
+    → Left fields r s f make → IsTaken {T = A} (Err e) f s t → IsTaken result fields r t
+last-refused t e result is h k = left-refused t e result is h k.0
