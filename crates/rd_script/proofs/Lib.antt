@@ -2,5 +2,6 @@ mod Free
 pub mod InForm
 mod Items
 mod Json
+mod OnLines
 mod Taking
 mod Texts

@@ -8,14 +8,9 @@ use Rattle.rd_script.specs.Fields.{Fields, kept_if, within, word, required, opti
 use Rattle.rd_script.specs.Forms.{is_text_kind}
 
 abbrev pub kind_names : List (List ℕ × Kind)
-kind_names = (codes "face", kinds.Face)
-    ∷ (codes "display", kinds.Display)
-    ∷ (codes "invisible", kinds.Invisible)
-    ∷ (codes "line_prefix", kinds.LinePrefix)
-    ∷ (codes "wrap_prefix", kinds.WrapPrefix)
-    ∷ (codes "before", kinds.Before)
-    ∷ (codes "after", kinds.After)
-    ∷ []
+kind_names = (codes "face", kinds.Face) ∷ (codes "display", kinds.Display) ∷ (codes "invisible", kinds.Invisible)
+    ∷ (codes "line_prefix", kinds.LinePrefix) ∷ (codes "wrap_prefix", kinds.WrapPrefix)
+    ∷ (codes "before", kinds.Before) ∷ (codes "after", kinds.After) ∷ []
 
 -- a kind of properties that overlays have
 abbrev pub overlay_kind : Data → Option Kind

@@ -1,4 +1,6 @@
 //! The definition of reading, computed on worked lines.
+#![tactic(auto, unfolding(crate::proofs::OnLines::on_lines))]
+
 ghost use Rattle.std.specs.Prelude.{◌≡◌, ◌∷◌, [], codes, negsuc, Ok, Err, None, Some, true, false};
 ghost use Rattle.rd_script.specs.declared.fault.OpFault.TheVariants as faults;
 ghost use Rattle.rd_script.specs.declared.object.OpSpec.TheVariants as specs;
